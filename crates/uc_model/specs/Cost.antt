@@ -1,0 +1,24 @@
+-- What a schedule costs: its weighted point costs and the costs of its start categories. Renewable
+-- units cost nothing. Source: the objective of the reference model by Knueven, Ostrowski and Watson.
+use Rattle.std.specs.Prelude.{ℕ, ℤ, pos, ◌+ℤ◌, ◌*ℤ◌}
+use Rattle.uc_model.specs.Sums.{sum_below}
+use Rattle.uc_model.specs.StartCategory.{category_cost}
+use Rattle.uc_model.specs.Schedule.{Row, Schedule, thermal_unit, thermal_count, point, point_count}
+use Rattle.uc_model.specs.declared.instance.Thermal.{Thermal}
+use Rattle.uc_model.specs.declared.instance.Instance.{Instance}
+
+-- the weighted point costs in period t, q times micro-dollars
+abbrev pub production_cost : Thermal → Row → ℕ → ℤ
+production_cost unit row t = sum_below (point_count unit) (λ l. (point unit l).cost *ℤ pos (row.weight t l))
+
+-- what the unit costs in period t, q times micro-dollars
+abbrev pub cell_cost : ℕ → Thermal → Row → ℕ → ℤ
+cell_cost q unit row t = production_cost unit row t +ℤ pos q *ℤ category_cost unit (row.category t)
+
+abbrev pub unit_cost : ℕ → ℕ → Thermal → Row → ℤ
+unit_cost periods q unit row = sum_below periods (cell_cost q unit row)
+
+-- the cost of the schedule, q times micro-dollars
+abbrev pub cost : Instance → ℕ → Schedule → ℤ
+cost instance q x =
+    sum_below (thermal_count instance) (λ g. unit_cost instance.periods q (thermal_unit instance g) (x.thermal g))

@@ -1,0 +1,164 @@
+-- Small instances and schedules on which the rules, the start categories and the caps are computed: for
+-- each rule a schedule that breaks this rule and no other, and one that obeys them all. One thermal unit
+-- of 10 to 50 MW and one renewable unit of at most 5 MW.
+use Rattle.std.specs.Prelude.{ℕ, zero, suc, ◌*◌, Bool, true, false, not, List, [], ◌∷◌, ℤ, pos, negsuc, ◌+ℤ◌, ◌*ℤ◌, length, slice_index_or, filter}
+use Rattle.uc_model.specs.Commitment.{Commitment}
+use Rattle.uc_model.specs.Rules.{Rule, MustRun, InitialUp, InitialDown, MinimumUp, MinimumDown, Category, InitialStop, Production, StartCap, StopCap, RampUp, RampDown, RenewableRange, Demand, Reserve, holds}
+use Rattle.uc_model.specs.PrintedSchedule.{printed_schedule, printed_denominator}
+use Rattle.uc_model.specs.declared.instance.Thermal.{Thermal}
+use Rattle.uc_model.specs.declared.instance.Instance.{Instance}
+use Rattle.uc_model.specs.declared.instance.StartRow.{StartRow}
+use Rattle.uc_model.specs.declared.schedule.Cell.{Cell}
+use Rattle.uc_model.specs.declared.schedule.Printed.{Printed}
+
+-- whole megawatts in watts, and whole dollars in micro-dollars
+abbrev pub mw : ℕ → ℤ
+mw n = pos (n * 1000000)
+
+abbrev pub dollars : ℕ → ℤ
+dollars n = pos (n * 1000000)
+
+-- on initially at 20 MW, 100 dollars an hour at 10 MW and 500 at 50 MW, its start-up and shut-down limits
+-- and ramps as wide as its range, and all times 1
+abbrev pub base_unit : Thermal
+base_unit = record {
+  name = [];
+  must_run = false;
+  pmin = mw 10;
+  pmax = mw 50;
+  ru = mw 40;
+  rd = mw 40;
+  su = mw 50;
+  sd = mw 50;
+  ut = 1;
+  dt = 1;
+  p0 = mw 20;
+  on0 = true;
+  ut0 = 1;
+  dt0 = 0;
+  startup = record { lag = 1; cost = pos 0 } ∷ [];
+  points = (record { mw = mw 10; cost = dollars 100 }) ∷ (record { mw = mw 50; cost = dollars 500 }) ∷ [];
+}
+
+-- the same, off initially
+abbrev pub cold_unit : Thermal
+cold_unit = record base_unit { p0 = pos 0; on0 = false; ut0 = 0; dt0 = 1 }
+
+-- the unit and the renewable one over as many periods as there are demands
+abbrev pub system : Thermal → List ℤ → List ℤ → Instance
+system unit demand reserves = record {
+  periods = length demand;
+  demand = demand;
+  reserves = reserves;
+  thermal = unit ∷ [];
+  renewable = (record { name = []; minimum = []; maximum = mw 5 ∷ mw 5 ∷ [] }) ∷ [];
+}
+
+-- an instance and a printed schedule of it
+pub record Example : Type 0 where
+  pub instance : Instance
+  pub printed : Printed
+
+abbrev pub off : Cell
+off = record { on = false; p = pos 0; r = pos 0; category = 0 }
+
+-- on at p MW above the minimum, with reserve r MW and start category c
+abbrev pub on : ℕ → ℕ → ℕ → Cell
+on p r c = record { on = true; p = mw p; r = mw r; category = c }
+
+-- the cells of the thermal unit, and an idle renewable one
+abbrev pub cells : List Cell → Printed
+cells row = record { thermal = row ∷ []; renewable = [] ∷ [] }
+
+-- a schedule that obeys every rule: 30 MW and 5 MW of reserve
+abbrev pub obeying : Example
+obeying = record { instance = system base_unit (mw 30 ∷ []) (mw 5 ∷ []); printed = cells (on 20 5 0 ∷ []) }
+
+-- a schedule that breaks the rule and no other
+abbrev pub breaking : Rule → Example
+-- off, though it must run
+breaking MustRun = record {
+  instance = system (record base_unit { must_run = true }) (mw 0 ∷ []) (mw 0 ∷ []);
+  printed = cells (off ∷ []);
+}
+-- off after one of three hours up
+breaking InitialUp = record {
+  instance = system (record base_unit { ut = 3 }) (mw 0 ∷ []) (mw 0 ∷ []);
+  printed = cells (off ∷ []);
+}
+-- on after one of three hours down
+breaking InitialDown = record {
+  instance = system (record cold_unit { must_run = true; dt = 3 }) (mw 30 ∷ []) (mw 0 ∷ []);
+  printed = cells (on 20 0 1 ∷ []);
+}
+-- up for one of two hours
+breaking MinimumUp = record {
+  instance = system (record cold_unit { ut = 2 }) (mw 30 ∷ mw 0 ∷ []) (mw 0 ∷ mw 0 ∷ []);
+  printed = cells (on 20 0 1 ∷ off ∷ []);
+}
+-- down for one of two hours
+breaking MinimumDown = record {
+  instance = system (record base_unit { dt = 2 }) (mw 0 ∷ mw 30 ∷ []) (mw 0 ∷ mw 0 ∷ []);
+  printed = cells (off ∷ on 20 0 1 ∷ []);
+}
+-- a start without a category
+breaking Category = record {
+  instance = system cold_unit (mw 30 ∷ []) (mw 0 ∷ []);
+  printed = cells (on 20 0 0 ∷ []);
+}
+-- a stop from 20 MW above the minimum, where 10 MW are allowed
+breaking InitialStop = record {
+  instance = system (record base_unit { p0 = mw 30; sd = mw 20 }) (mw 0 ∷ []) (mw 0 ∷ []);
+  printed = cells (off ∷ []);
+}
+-- a reserve below 0
+breaking Production = record {
+  instance = system base_unit (mw 30 ∷ []) (negsuc 0 ∷ []);
+  printed = cells ((record { on = true; p = mw 20; r = negsuc 0; category = 0 }) ∷ []);
+}
+-- a start at 20 MW above the minimum, where 10 MW are allowed
+breaking StartCap = record {
+  instance = system (record cold_unit { su = mw 20 }) (mw 30 ∷ []) (mw 0 ∷ []);
+  printed = cells (on 20 0 1 ∷ []);
+}
+-- 20 MW above the minimum before a stop, where 10 MW are allowed
+breaking StopCap = record {
+  instance = system (record base_unit { sd = mw 20 }) (mw 30 ∷ mw 0 ∷ []) (mw 0 ∷ mw 0 ∷ []);
+  printed = cells (on 20 0 0 ∷ off ∷ []);
+}
+-- 10 MW up in an hour, where 5 MW are allowed
+breaking RampUp = record {
+  instance = system (record base_unit { ru = mw 5 }) (mw 30 ∷ []) (mw 0 ∷ []);
+  printed = cells (on 20 0 0 ∷ []);
+}
+-- 10 MW down in the hour of a stop, where 5 MW are allowed
+breaking RampDown = record {
+  instance = system (record base_unit { rd = mw 5 }) (mw 20 ∷ mw 0 ∷ []) (mw 0 ∷ mw 0 ∷ []);
+  printed = cells (on 10 0 0 ∷ off ∷ []);
+}
+-- 6 MW of the renewable unit's 5 MW
+breaking RenewableRange = record {
+  instance = system base_unit (mw 36 ∷ []) (mw 0 ∷ []);
+  printed = record { thermal = (on 20 0 0 ∷ []) ∷ []; renewable = (mw 6 ∷ []) ∷ [] };
+}
+-- 30 MW for a demand of 31 MW
+breaking Demand = record {
+  instance = system base_unit (mw 31 ∷ []) (mw 0 ∷ []);
+  printed = cells (on 20 0 0 ∷ []);
+}
+-- 20 MW of reserve where 21 MW are needed
+breaking Reserve = record {
+  instance = system base_unit (mw 30 ∷ []) (mw 21 ∷ []);
+  printed = cells (on 20 20 0 ∷ []);
+}
+
+abbrev pub all_rules : List Rule
+all_rules =
+    MustRun ∷ InitialUp ∷ InitialDown ∷ MinimumUp ∷ MinimumDown ∷ Category ∷ InitialStop ∷ Production
+    ∷ StartCap ∷ StopCap ∷ RampUp ∷ RampDown ∷ RenewableRange ∷ Demand ∷ Reserve ∷ []
+
+-- the rules that the schedule which an example stands for breaks
+abbrev pub broken_rules : Example → List Rule
+broken_rules e =
+    let q = printed_denominator e.instance e.printed in
+    filter (λ rule. not (holds rule e.instance q (printed_schedule e.instance e.printed q))) all_rules

@@ -1,0 +1,10 @@
+pub mod Sums
+pub mod Commitment
+pub mod StartCategory
+pub mod Schedule
+pub mod Rules
+pub mod Cost
+pub mod Hull
+pub mod PrintedSchedule
+pub mod Limits
+pub mod Examples

@@ -1,0 +1,15 @@
+//! The unit commitment model: instances, schedules, the rules M1 to M15, costs and the lower hull,
+//! and the arithmetic on whole numbers that every crate above uses.
+//!
+//! Power is whole watts and money whole micro-dollars.
+#![tactic(auto)]
+
+pub mod instance;
+pub mod list;
+pub mod schedule;
+
+pub use instance::{Instance, Point, Renewable, StartRow, Thermal};
+pub use list::{List, Name};
+pub use schedule::{Cell, Pattern, Printed};
+
+pub mod examples;
