@@ -1,0 +1,2 @@
+// The numbers of the unit commitment problem.
+#![tactic(auto)]
