@@ -1,0 +1,5 @@
+pub mod Prices
+pub mod Fixings
+pub mod Term
+pub mod UnitValue
+pub mod NodeValue
