@@ -1,3 +1,4 @@
 pub mod Ring
 pub mod Sums
 pub mod Tests
+pub mod Obeyed
