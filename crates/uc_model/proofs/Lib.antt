@@ -1,2 +1,5 @@
 pub mod Ring
 pub mod Sums
+pub mod Tests
+pub mod Obeyed
+pub mod StartCosts

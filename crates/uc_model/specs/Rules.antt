@@ -6,6 +6,7 @@
 -- and M7 one period.
 use Rattle.std.specs.Prelude.{ℕ, suc, ◌≤◌, Bool, not, ◌&&◌, ◌||◌, ◌==◌, nat_lt, nat_le, ℤ, pos, ◌+ℤ◌, ◌-ℤ◌, ◌*ℤ◌, int_le, IsTrue, if◌then◌else◌}
 use Rattle.std.specs.Int.{int_max}
+use Rattle.std.specs.Ordering.{int_eq}
 use Rattle.uc_model.specs.Sums.{sum_below, all_below, bit}
 use Rattle.uc_model.specs.Commitment.{must_run_at, initial_up_at, initial_down_at, minimum_up_at, minimum_down_at, initial_stop_holds, start_cap, stop_cap}
 use Rattle.uc_model.specs.StartCategory.{category_holds_at}
@@ -30,9 +31,6 @@ pub data Rule : Type 0 where
   RenewableRange : Rule
   Demand : Rule
   Reserve : Rule
-
-abbrev pub int_eq : ℤ → ℤ → Bool
-int_eq a b = int_le a b && int_le b a
 
 -- M8: weights from 0 to q with sum q*u, and r >= 0; off means p = r = 0
 abbrev pub production_at : ℕ → Thermal → Row → ℕ → Bool

@@ -10,12 +10,12 @@ sum_below (suc n) f = sum_below n f +ℤ f n
 -- the test holds of each index below n
 abbrev pub all_below : ℕ → (ℕ → Bool) → Bool
 all_below zero test = true
-all_below (suc n) test = all_below n test && test n
+all_below (suc n) test = test n && all_below n test
 
 -- the test holds of some index below n
 abbrev pub any_below : ℕ → (ℕ → Bool) → Bool
 any_below zero test = false
-any_below (suc n) test = any_below n test || test n
+any_below (suc n) test = test n || any_below n test
 
 -- the least of `other` and of the values f i at the indexes i below n that pass the test
 abbrev pub least_below : ℕ → (ℕ → Bool) → (ℕ → ℤ) → ℤ → ℤ

@@ -4,12 +4,13 @@
 //! Power is whole watts and money whole micro-dollars.
 #![tactic(auto)]
 
+pub mod examples;
 pub mod instance;
 pub mod list;
+pub mod memory;
 pub mod schedule;
 
 pub use instance::{Instance, Point, Renewable, StartRow, Thermal};
 pub use list::{List, Name};
+pub use memory::NoMemory;
 pub use schedule::{Cell, Pattern, Printed};
-
-pub mod examples;

@@ -1,0 +1,92 @@
+-- The least start cost is never above the cost of a category that M6 allows.
+-- Cite from a crate above by `use Rattle.uc_model.proofs.StartCosts.{sigma-le-allowed}`.
+use Rattle.std.proofs.Common.{◌≡◌, ℕ, zero, suc, ◌+◌, ◌-◌, ◌<◌, ◌≤◌, ◌≢◌, ◌⊎◌, inl, inr, ⊎_elim, Bool, true, false, not, ◌&&◌, ◌||◌, cond, refl, sym, ap, subst, ◌∙◌, arith, ℤ, pos, ◌≤ℤ◌, length}
+use Rattle.std.specs.Prelude.{IsTrue, nat_lt, nat_le, ◌==◌, Option, Some, None, if◌then◌else◌}
+use Rattle.std.proofs.lemmas.Bool.{and_parts, and_from, or_cases, cases_Bool, cases_eq, cond-true, cond-false, cond_both, not-true, true≢false, leb-true, ltb-true, eqb-true, le-leb, lt-ltb}
+use Rattle.uc_model.specs.Sums.{any_below, least_below}
+use Rattle.uc_model.specs.Commitment.{Commitment, was_on, starts, stops}
+use Rattle.uc_model.specs.StartCategory.{category_count, category_lag, category_cost, has_stop_within, is_barred, is_category_allowed, last_stop, stopped_within, may_cost_as, sigma}
+use Rattle.uc_model.specs.declared.instance.Thermal.{Thermal}
+use Rattle.uc_model.proofs.Tests.{any_below-at, least_below-le, least_below-le-other}
+
+below_or_last : (n k : ℕ) → k < suc n → (k < n) ⊎ (k ≡ n)
+below_or_last n k l = grind arith
+
+-- where there is a stop before t, the last one is no earlier
+pub last_stop-after : (unit : Thermal) (on : Commitment) (t k : ℕ) → k < t → IsTrue (stops unit on k)
+    → (l : ℕ) × (last_stop unit on t ≡ Some l) × (k ≤ l)
+last_stop-after unit on zero k h s = absurd (omega arith)
+last_stop-after unit on (suc t) k h s =
+    ⊎_elim
+    (λ (here : IsTrue (stops unit on t)). (t, cond-true _ (Some t) (last_stop unit on t) here, omega arith))
+    (λ (other : stops unit on t ≡ false).
+      let earlier : k < t =
+          ⊎_elim
+          (λ (less : k < t). less)
+          (λ (same : k ≡ t). absurd (true≢false (sym s ∙ ap (λ i. stops unit on i) same ∙ other)))
+          (below_or_last t k h)
+      in
+      let found = last_stop-after unit on t k earlier s in
+      (found.0, cond-false _ (Some t) (last_stop unit on t) other ∙ found.1, found.2))
+    (cases_Bool (stops unit on t))
+
+-- a unit doesn't start and stop in one period
+pub not_start_and_stop : (unit : Thermal) (on : Commitment) (t : ℕ) → IsTrue (starts unit on t) → IsTrue (stops unit on t) → ⊥
+not_start_and_stop unit on t a b =
+    let started = and_parts (not (was_on unit on t)) (on t) a in
+    let stopped = and_parts (was_on unit on t) (not (on t)) b in
+    true≢false (sym stopped.0 ∙ not-true (was_on unit on t) started.0)
+
+-- a stop within a category's lags is one that the last stop shows
+after_stop : (unit : Thermal) (on : Commitment) (from lag t : ℕ) → IsTrue (starts unit on t) → lag ≤ suc t
+    → IsTrue (has_stop_within unit on from lag t)
+    → IsTrue (nat_lt from lag && stopped_within (last_stop unit on t) (lag - 1) t)
+after_stop unit on from lag t start reached h =
+    let found = any_below-at lag (λ i. nat_le from i && stops unit on (t - i)) h in
+    let i = found.0 in
+    let parts = and_parts _ _ found.2 in
+    let since : from ≤ i = leb-true _ _ parts.0 in
+    let below : i < lag = found.1 in
+    let later : i ≢ 0 = λ e. let now : t - i ≡ t = omega arith in not_start_and_stop unit on t start (subst (λ k. IsTrue (stops unit on k)) now parts.1) in
+    let last = last_stop-after unit on t (t - i) (omega arith) parts.1 in
+    let near : t - last.0 ≤ lag - 1 = omega (arith, last.2) in
+    and_from _ _
+    (lt-ltb _ _ (omega arith))
+    (subst (λ o. IsTrue (stopped_within o (lag - 1) t)) (sym last.1) (le-leb _ _ near))
+
+-- a category that M6 allows, and that isn't the last one, is one that the last stop allows
+may_cost-allowed : (unit : Thermal) (on : Commitment) (s t : ℕ) → IsTrue (starts unit on t)
+    → IsTrue (cond (nat_le (category_lag unit (suc (suc s))) (suc t))
+        (has_stop_within unit on (category_lag unit (suc s)) (category_lag unit (suc (suc s))) t)
+        (not (is_barred unit.dt0 (category_lag unit (suc (suc s))) t)))
+    → IsTrue (may_cost_as unit (last_stop unit on t) t s)
+may_cost-allowed unit on s t start h =
+    let lag = category_lag unit (suc (suc s)) in
+    let from = category_lag unit (suc s) in
+    ⊎_elim
+    (λ (reached : IsTrue (nat_le lag (suc t))).
+      cond-true _ _ _ reached
+      ∙ after_stop unit on from lag t start (leb-true _ _ reached) (sym (cond-true _ _ _ reached) ∙ h))
+    (λ (before : nat_le lag (suc t) ≡ false). cond-false _ _ _ before ∙ sym (cond-false _ _ _ before) ∙ h)
+    (cases_Bool (nat_le lag (suc t)))
+
+pub sigma-le-allowed : (unit : Thermal) (on : Commitment) (s t : ℕ) → IsTrue (starts unit on t)
+    → IsTrue (is_category_allowed unit on s t)
+    → sigma unit (last_stop unit on t) t ≤ℤ category_cost unit s
+sigma-le-allowed unit on zero t start h = absurd (true≢false (sym h))
+sigma-le-allowed unit on (suc s) t start h =
+    let last = last_stop unit on t in
+    let costs = λ (k : ℕ). category_cost unit (suc k) in
+    ⊎_elim
+    (λ (final : IsTrue (suc s == category_count unit)).
+      subst (λ k. sigma unit last t ≤ℤ category_cost unit k) (sym (eqb-true _ _ final))
+      (least_below-le-other (category_count unit - 1) (may_cost_as unit last t) costs (category_cost unit (category_count unit))))
+    (λ (rest : IsTrue (nat_lt (suc s) (category_count unit)
+        && cond (nat_le (category_lag unit (suc (suc s))) (suc t))
+            (has_stop_within unit on (category_lag unit (suc s)) (category_lag unit (suc (suc s))) t)
+            (not (is_barred unit.dt0 (category_lag unit (suc (suc s))) t)))).
+      let parts = and_parts _ _ rest in
+      let below : suc s < category_count unit = ltb-true _ _ parts.0 in
+      least_below-le (category_count unit - 1) (may_cost_as unit last t) costs (category_cost unit (category_count unit)) s
+      (omega arith) (may_cost-allowed unit on s t start parts.1))
+    (or_cases _ _ h)
