@@ -36,7 +36,7 @@ pub record IsCellBound (points : List Point) (k a b cap m : ℤ) : Type 0 where
 
 -- the term: the greatest whole bound. There is none where cap < 0
 pub record IsTerm (points : List Point) (k a b cap m : ℤ) : Type 0 where
-  pub cap : pos 0 ≤ℤ cap
+  pub reachable : pos 0 ≤ℤ cap
   pub bound : IsCellBound points k a b cap m
   pub greatest : (n : ℤ) → IsCellBound points k a b cap n → n ≤ℤ m
 
