@@ -3,3 +3,4 @@ pub mod Multipliers
 pub mod PricedRules
 pub mod Agreement
 pub mod Bound
+pub mod CellBounds
