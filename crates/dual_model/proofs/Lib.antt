@@ -4,3 +4,4 @@ pub mod PricedRules
 pub mod Agreement
 pub mod Bound
 pub mod CellBounds
+pub mod Terms
