@@ -5,3 +5,6 @@ pub mod Agreement
 pub mod Bound
 pub mod CellBounds
 pub mod Terms
+pub mod Locality
+pub mod Patterns
+pub mod UnitValues
