@@ -8,3 +8,5 @@ pub mod Terms
 pub mod Locality
 pub mod Patterns
 pub mod UnitValues
+pub mod NodeValues
+pub mod Covers

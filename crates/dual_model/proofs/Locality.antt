@@ -1,9 +1,9 @@
 -- A unit's rules and costs depend on its commitment in the periods of the instance alone.
-use Rattle.std.proofs.Common.{◌≡◌, ℕ, zero, suc, ◌+◌, ◌-◌, ◌<◌, ◌≤◌, Bool, true, false, not, ◌&&◌, ◌||◌, cond, refl, sym, ap, subst, ◌∙◌, arith, ⊎_elim, List, [], ◌∷◌, ℤ, pos, ◌+ℤ◌, ◌-ℤ◌, ◌*ℤ◌}
-use Rattle.std.specs.Prelude.{IsTrue, nat_lt, int_le, min, max, Option, Some, None, ◌==◌}
+use Rattle.std.proofs.Common.{◌≡◌, ℕ, zero, suc, ◌+◌, ◌-◌, ◌<◌, ◌≤◌, Bool, true, false, not, ◌&&◌, ◌||◌, cond, refl, ap, arith, List, [], ◌∷◌, pos, ◌-ℤ◌, ◌*ℤ◌}
+use Rattle.std.specs.Prelude.{nat_lt, int_le, min, max, Some, ◌==◌}
 use Rattle.std.specs.List.{list_all}
 use Rattle.std.specs.Int.{int_min}
-use Rattle.std.proofs.lemmas.Bool.{ltb-true, ltb-false, cases_Bool}
+use Rattle.std.proofs.lemmas.Bool.{ltb-true, ltb-false}
 use Rattle.uc_model.specs.Sums.{sum_below, all_below, bit}
 use Rattle.uc_model.specs.Commitment.{Commitment, was_on, starts, stops, keeps_minimum_at, start_cap, stop_cap, cap, is_allowed_at, is_allowed, initial_stop_holds, stop_reduction, start_reduction}
 use Rattle.uc_model.specs.StartCategory.{last_stop, sigma}
@@ -42,22 +42,22 @@ keeps_minimum-same : (n window : ℕ) (changes changes' state state' : Commitmen
     → keeps_minimum_at window changes state t ≡ keeps_minimum_at window changes' state' t
 keeps_minimum-same n window changes changes' state state' hc hs t l =
     or_same (nat_lt (suc t) window) _ _ (λ inside.
-      let whole : window ≤ suc t = ltb-false (suc t) window inside in
-      let sums : sum_below window (λ i. bit (changes (suc t - window + i))) ≡ sum_below window (λ i. bit (changes' (suc t - window + i))) =
-          sum_below-same window _ _ (λ i hi. ap bit (hc.same (suc t - window + i) (omega arith))) in
-      λ i. int_le (sums i) (bit (hs.same t l i)))
+    let whole : window ≤ suc t = ltb-false (suc t) window inside in
+    let sums : sum_below window (λ i. bit (changes (suc t - window + i))) ≡ sum_below window (λ i. bit (changes' (suc t - window + i))) =
+    sum_below-same window _ _ (λ i hi. ap bit (hc.same (suc t - window + i) (omega arith))) in
+    λ i. int_le (sums i) (bit (hs.same t l i)))
 
 pub cap-same : (periods : ℕ) (unit : Thermal) (on other : Commitment) → SameBelow periods on other → (t : ℕ) → t < periods
     → cap periods unit on t ≡ cap periods unit other t
 cap-same periods unit on other h t l =
     let start : start_cap unit on t ≡ start_cap unit other t =
-        λ i. (unit.pmax -ℤ unit.pmin) *ℤ bit (h.same t l i) -ℤ start_reduction unit *ℤ bit (starts-same periods unit on other h t l i) in
+    λ i. (unit.pmax -ℤ unit.pmin) *ℤ bit (h.same t l i) -ℤ start_reduction unit *ℤ bit (starts-same periods unit on other h t l i) in
     cond_same (nat_lt (suc t) periods) _ _ _ _
     (λ inside.
-      let before : suc t < periods = ltb-true (suc t) periods inside in
-      let stop : stop_cap unit on t ≡ stop_cap unit other t =
-          λ i. (unit.pmax -ℤ unit.pmin) *ℤ bit (h.same t l i) -ℤ stop_reduction unit *ℤ bit (stops-same periods unit on other h (suc t) before i) in
-      λ i. int_min (start i) (stop i))
+    let before : suc t < periods = ltb-true (suc t) periods inside in
+    let stop : stop_cap unit on t ≡ stop_cap unit other t =
+    λ i. (unit.pmax -ℤ unit.pmin) *ℤ bit (h.same t l i) -ℤ stop_reduction unit *ℤ bit (stops-same periods unit on other h (suc t) before i) in
+    λ i. int_min (start i) (stop i))
     (λ last. start)
 
 allowed_at-same : (periods : ℕ) (unit : Thermal) (on other : Commitment) → SameBelow periods on other → (t : ℕ) → t < periods
@@ -65,13 +65,13 @@ allowed_at-same : (periods : ℕ) (unit : Thermal) (on other : Commitment) → S
 allowed_at-same periods unit on other h t l =
     let here = h.same t l in
     let started = keeps_minimum-same periods (min unit.ut periods) (starts unit on) (starts unit other) on other
-        (record { same = starts-same periods unit on other h }) h t l in
+    (record { same = starts-same periods unit on other h }) h t l in
     let stopped = keeps_minimum-same periods (min unit.dt periods) (stops unit on) (stops unit other) (λ k. not (on k)) (λ k. not (other k))
-        (record { same = stops-same periods unit on other h }) (record { same = λ k m. ap not (h.same k m) }) t l in
+    (record { same = stops-same periods unit on other h }) (record { same = λ k m. ap not (h.same k m) }) t l in
     let room = cap-same periods unit on other h t l in
     λ i. (not unit.must_run || here i) && (not (unit.on0 && nat_lt t (unit.ut - unit.ut0)) || here i)
-      && (not (not unit.on0 && nat_lt t (unit.dt - unit.dt0)) || not (here i))
-      && started i && stopped i && (not (here i) || int_le (pos 0) (room i))
+    && (not (not unit.on0 && nat_lt t (unit.dt - unit.dt0)) || not (here i))
+    && started i && stopped i && (not (here i) || int_le (pos 0) (room i))
 
 initial_stop-same : (periods : ℕ) (unit : Thermal) (on other : Commitment) → SameBelow periods on other → 0 < periods
     → initial_stop_holds unit on ≡ initial_stop_holds unit other
@@ -84,7 +84,7 @@ pub is_allowed-same : (periods : ℕ) (unit : Thermal) (on other : Commitment) �
     → is_allowed periods unit on ≡ is_allowed periods unit other
 is_allowed-same periods unit on other some h =
     λ i. initial_stop-same periods unit on other h some i
-      && all_below-same periods _ _ (allowed_at-same periods unit on other h) i
+    && all_below-same periods _ _ (allowed_at-same periods unit on other h) i
 
 last_stop-same : (n : ℕ) (unit : Thermal) (on other : Commitment) → SameBelow n on other → (t : ℕ) → t ≤ n → last_stop unit on t ≡ last_stop unit other t
 last_stop-same n unit on other h zero l = refl

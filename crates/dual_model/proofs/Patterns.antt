@@ -1,5 +1,5 @@
 -- Of finitely many patterns that pass a test one has the least value, or none passes.
-use Rattle.std.proofs.Common.{◌≡◌, ℕ, zero, suc, ◌<◌, ◌≤◌, ◌≢◌, ◌⊎◌, inl, inr, Bool, true, false, ◌==◌, cond, refl, sym, ap, subst, ◌∙◌, arith, ⊎_elim, ℤ, pos, ◌≤ℤ◌, ◌<ℤ◌, eq-eqb}
+use Rattle.std.proofs.Common.{◌≡◌, ℕ, zero, suc, ◌<◌, ◌⊎◌, inl, inr, Bool, true, false, ◌==◌, sym, ap, ◌∙◌, arith, ⊎_elim, ℤ, ◌≤ℤ◌, ◌<ℤ◌, eq-eqb}
 use Rattle.std.specs.Prelude.{IsTrue, if◌then◌else◌}
 use Rattle.std.proofs.lemmas.Bool.{cases_Bool, true≢false, cond-true, cond-false, eqb-true}
 use Rattle.uc_model.specs.Commitment.{Commitment}
@@ -37,7 +37,7 @@ with_bit-same n b on other h = record {
   same = λ t l. ⊎_elim
       (λ (here : IsTrue (t == n)). cond-true (t == n) b (on t) here ∙ sym (cond-true (t == n) b (other t) here))
       (λ (apart : (t == n) ≡ false).
-        cond-false (t == n) b (on t) apart ∙ h.same t (below t n l apart) ∙ sym (cond-false (t == n) b (other t) apart))
+      cond-false (t == n) b (on t) apart ∙ h.same t (below t n l apart) ∙ sym (cond-false (t == n) b (other t) apart))
       (cases_Bool (t == n));
 }
 
@@ -86,35 +86,47 @@ join : (n : ℕ) (test : Commitment → Bool) (value : Commitment → ℤ) → I
     → ((on : Commitment) × IsLeastOf test value on) ⊎ PassesNone test
 join n test value h (inl first) (inl second) = ⊎_elim
     (λ (le : value (with_bit n true first.0) ≤ℤ value (with_bit n false second.0)).
-      inl (with_bit n true first.0, record {
+    inl (
+      with_bit n true first.0,
+      record {
         passes = first.1.passes;
         least = λ other passes. by_bit (other n)
             (λ own. below_half n test value true first.0 other h first.1 own passes)
             (λ own. le_trans _ _ _ le (below_half n test value false second.0 other h second.1 own passes));
-      }))
+      },
+    ))
     (λ (lt : value (with_bit n false second.0) <ℤ value (with_bit n true first.0)).
-      inl (with_bit n false second.0, record {
+    inl (
+      with_bit n false second.0,
+      record {
         passes = second.1.passes;
         least = λ other passes. by_bit (other n)
             (λ own. le_trans _ _ _ (weaken _ _ lt) (below_half n test value true first.0 other h first.1 own passes))
             (λ own. below_half n test value false second.0 other h second.1 own passes);
-      }))
+      },
+    ))
     (le_or_lt (value (with_bit n true first.0)) (value (with_bit n false second.0)))
   where
     weaken : (a b : ℤ) → a <ℤ b → a ≤ℤ b
     weaken a b l = omega (arith, linear)
-join n test value h (inl first) (inr second) = inl (with_bit n true first.0, record {
-  passes = first.1.passes;
-  least = λ other passes. by_bit (other n)
-      (λ own. below_half n test value true first.0 other h first.1 own passes)
-      (λ own. absurd (none_of_half n test value false other h second own passes));
-})
-join n test value h (inr first) (inl second) = inl (with_bit n false second.0, record {
-  passes = second.1.passes;
-  least = λ other passes. by_bit (other n)
-      (λ own. absurd (none_of_half n test value true other h first own passes))
-      (λ own. below_half n test value false second.0 other h second.1 own passes);
-})
+join n test value h (inl first) (inr second) = inl (
+  with_bit n true first.0,
+  record {
+    passes = first.1.passes;
+    least = λ other passes. by_bit (other n)
+        (λ own. below_half n test value true first.0 other h first.1 own passes)
+        (λ own. absurd (none_of_half n test value false other h second own passes));
+  },
+)
+join n test value h (inr first) (inl second) = inl (
+  with_bit n false second.0,
+  record {
+    passes = second.1.passes;
+    least = λ other passes. by_bit (other n)
+        (λ own. absurd (none_of_half n test value true other h first own passes))
+        (λ own. below_half n test value false second.0 other h second.1 own passes);
+  },
+)
 join n test value h (inr first) (inr second) = inr (record {
   none = λ other passes. by_bit (other n)
       (λ own. none_of_half n test value true other h first own passes)
@@ -127,12 +139,15 @@ least_pattern zero test value h =
     let all_off : Commitment = λ t. false in
     ⊎_elim
     (λ (passes : IsTrue (test all_off)).
-      inl (all_off, record {
+    inl (
+      all_off,
+      record {
         passes = passes;
         least = λ other pass. le_of_eq _ _ (h.values all_off other (record { same = λ t l. absurd (omega arith) }));
-      }))
+      },
+    ))
     (λ (fails : test all_off ≡ false).
-      inr (record { none = λ other pass. true≢false (sym pass ∙ h.tests other all_off (record { same = λ t l. absurd (omega arith) }) ∙ fails) }))
+    inr (record { none = λ other pass. true≢false (sym pass ∙ h.tests other all_off (record { same = λ t l. absurd (omega arith) }) ∙ fails) }))
     (cases_Bool (test all_off))
 least_pattern (suc n) test value h =
     join n test value h

@@ -1,12 +1,11 @@
 -- The term of a cell exists where its cap is at least 0: a number bounds a cell exactly where it bounds the corners,
 -- which is a test, and the greatest number that passes it is found between a least one and a corner's cost.
-use Rattle.std.proofs.Common.{◌≡◌, ℕ, zero, suc, ◌+◌, ◌<◌, ◌≤◌, ◌≢◌, List, length, Bool, true, false, not, ◌&&◌, ◌||◌, ◌==◌, cond, refl, sym, ap, subst, ◌∙◌, arith, ⊎_elim, ◌⊎◌, inl, inr, ℤ, pos, ◌+ℤ◌, ◌-ℤ◌, ◌*ℤ◌, neg_ℤ, ◌≤ℤ◌, ◌<ℤ◌, eq-eqb}
+use Rattle.std.proofs.Common.{◌≡◌, ℕ, zero, suc, ◌+◌, ◌<◌, ◌≢◌, List, length, Bool, true, false, not, ◌&&◌, ◌||◌, ◌==◌, refl, sym, ap, ◌∙◌, arith, ⊎_elim, ℤ, pos, ◌+ℤ◌, ◌-ℤ◌, ◌*ℤ◌, neg_ℤ, ◌≤ℤ◌, ◌<ℤ◌, eq-eqb}
 use Rattle.std.specs.Prelude.{IsTrue, int_le, int_lt, if◌then◌else◌}
-use Rattle.std.proofs.lemmas.Int.{ints}
 use Rattle.std.proofs.lemmas.Bool.{and_parts, and_from, or_cases, or_left, or_right, cases_Bool, cond-true, cond-false, not_from_true, true≢false, eqb-true}
 use Rattle.uc_model.specs.Sums.{sum_below, all_below, least_below}
 use Rattle.uc_model.specs.declared.instance.Point.{Point}
-use Rattle.uc_model.proofs.Ring.{linear, spread, le_refl, le_trans, le_or_lt, mul_comm, mul_left_comm, mul_assoc, mul-zero, zero-mul, mul-one, one-mul, neg-mul, mul_nonneg, mul-le-mul_left, pos_of_nonneg, pos_nonneg, sub-mul, add-mul, mul-add}
+use Rattle.uc_model.proofs.Ring.{linear, spread, le_refl, le_trans, le_or_lt, mul_comm, mul_assoc, mul-zero, mul-one, one-mul, neg-mul, mul-le-mul_left, pos_of_nonneg, sub-mul, add-mul, mul-add}
 use Rattle.uc_model.proofs.Sums.{sum_below-same, sum_below-add, sum_below-sub, sum_below-mul_left, sum_below-single}
 use Rattle.uc_model.proofs.Tests.{int_le-true, le-int_le, int_lt-true, lt-int_lt, all_below-at, all_below-from, least_below-le, least_below-le-other}
 use Rattle.dual_model.specs.Term.{IsCellBound, IsTerm, point_of, output_of, weighted_total, weighted_output, weighted_cost}
@@ -54,11 +53,11 @@ to_test : (n : ℕ) (f d : ℕ → ℤ) (b m : ℤ) → BoundsCorners n f d b m 
 to_test n f d b m corners =
     all_below-from n (corner_holds n f d b m) (λ l hl.
     under (int_le (pos 0) (d l)) _ (λ near.
-      let is_near = int_le-true _ _ near in
-      and_from _ _
-      (and_from _ _ (le-int_le _ _ (corners.point l hl is_near)) (le-int_le _ _ (corners.reserve l hl is_near)))
-      (all_below-from n (pair_holds f d m l) (λ j hj.
-        under (int_lt (d j) (pos 0)) _ (λ far. le-int_le _ _ (corners.pair l j hl hj is_near (int_lt-true _ _ far)))))))
+    let is_near = int_le-true _ _ near in
+    and_from _ _
+    (and_from _ _ (le-int_le _ _ (corners.point l hl is_near)) (le-int_le _ _ (corners.reserve l hl is_near)))
+    (all_below-from n (pair_holds f d m l) (λ j hj.
+    under (int_lt (d j) (pos 0)) _ (λ far. le-int_le _ _ (corners.pair l j hl hj is_near (int_lt-true _ _ far)))))))
 
 -- ---- a number low enough, and the greatest one that passes
 low_bound : (n : ℕ) (f d : ℕ → ℤ) (b : ℤ) → (m : ℤ) × BoundsCorners n f d b m
@@ -67,15 +66,17 @@ low_bound n f d b =
     let costs = least_below n always f (pos 0) in
     let held = λ (l : ℕ). f l +ℤ b *ℤ d l in
     let m = least_below n always held costs in
-    let below_costs = least_below-le-other n always held costs in
-    (m, record {
-      point = λ l hl near. le_trans _ _ _ below_costs (least_below-le n always f (pos 0) l hl refl);
-      reserve = λ l hl near. least_below-le n always held costs l hl refl;
-      pair = λ l j hl hj near far.
-          mixed (d l) (d j) (f l) (f j) m near far
-          (le_trans _ _ _ below_costs (least_below-le n always f (pos 0) l hl refl))
-          (le_trans _ _ _ below_costs (least_below-le n always f (pos 0) j hj refl));
-    })
+    let below_costs = least_below-le-other n always held costs in (
+      m,
+      record {
+        point = λ l hl near. le_trans _ _ _ below_costs (least_below-le n always f (pos 0) l hl refl);
+        reserve = λ l hl near. least_below-le n always held costs l hl refl;
+        pair = λ l j hl hj near far.
+            mixed (d l) (d j) (f l) (f j) m near far
+            (le_trans _ _ _ below_costs (least_below-le n always f (pos 0) l hl refl))
+            (le_trans _ _ _ below_costs (least_below-le n always f (pos 0) j hj refl));
+      },
+    )
   where
     mixed : (dl dj fl fj m : ℤ) → pos 0 ≤ℤ dl → dj <ℤ pos 0 → m ≤ℤ fl → m ≤ℤ fj
         → ((dl -ℤ dj) *ℤ m) ≤ℤ (neg_ℤ dj *ℤ fl +ℤ dl *ℤ fj)
@@ -92,8 +93,8 @@ greatest_up_to test low passes zero = (low, passes, λ k h pass. omega (arith, l
 greatest_up_to test low passes (suc n) = ⊎_elim
     (λ (last : IsTrue (test (low +ℤ pos (suc n)))). (low +ℤ pos (suc n), last, λ k h pass. h))
     (λ (fails : test (low +ℤ pos (suc n)) ≡ false).
-      let earlier = greatest_up_to test low passes n in
-      (earlier.0, earlier.1, λ k h pass. earlier.2 k (lower k h (λ same. true≢false (sym pass ∙ ap test same ∙ fails))) pass))
+    let earlier = greatest_up_to test low passes n in
+    (earlier.0, earlier.1, λ k h pass. earlier.2 k (lower k h (λ same. true≢false (sym pass ∙ ap test same ∙ fails))) pass))
     (cases_Bool (test (low +ℤ pos (suc n))))
   where
     lower : (k : ℤ) → k ≤ℤ (low +ℤ pos (suc n)) → (k ≡ low +ℤ pos (suc n) → ⊥) → k ≤ℤ (low +ℤ pos n)
@@ -109,11 +110,14 @@ greatest_bound n f d b some near =
     let low = low_bound n f d b in
     let below : low.0 ≤ℤ f 0 = low.1.point 0 some near in
     let height = pos_of_nonneg (f 0 -ℤ low.0) (omega (arith, linear)) in
-    let found = greatest_up_to (corners_hold n f d b) low.0 (to_test n f d b low.0 low.1) height.0 in
-    (found.0, from_test n f d b found.0 found.1, λ k corners.
-      let most = corners.point 0 some near in
-      let is_height = height.1 in
-      found.2 k (omega (arith, linear)) (to_test n f d b k corners))
+    let found = greatest_up_to (corners_hold n f d b) low.0 (to_test n f d b low.0 low.1) height.0 in (
+      found.0,
+      from_test n f d b found.0 found.1,
+      λ k corners.
+          let most = corners.point 0 some near in
+          let is_height = height.1 in
+          found.2 k (omega (arith, linear)) (to_test n f d b k corners),
+    )
 
 -- ---- the corners of a cell's points
 abbrev reduced_cost : List Point → ℤ → ℤ → ℕ → ℤ
@@ -124,19 +128,19 @@ distance points cap l = cap -ℤ output_of points l
 
 reduced_sum : (points : List Point) (k a : ℤ) (weight : ℕ → ℕ)
     → sum_below (length points) (λ l. reduced_cost points k a l *ℤ pos (weight l))
-      ≡ k *ℤ weighted_cost points weight +ℤ a *ℤ weighted_output points weight
+    ≡ k *ℤ weighted_cost points weight +ℤ a *ℤ weighted_output points weight
 reduced_sum points k a weight =
     sum_below-same (length points) _ (λ l. k *ℤ ((point_of points l).cost *ℤ pos (weight l)) +ℤ a *ℤ (output_of points l *ℤ pos (weight l)))
     (λ l h.
-      add-mul (k *ℤ (point_of points l).cost) (a *ℤ output_of points l) (pos (weight l))
-      ∙ (λ i. mul_assoc k (point_of points l).cost (pos (weight l)) i +ℤ mul_assoc a (output_of points l) (pos (weight l)) i))
+    add-mul (k *ℤ (point_of points l).cost) (a *ℤ output_of points l) (pos (weight l))
+    ∙ (λ i. mul_assoc k (point_of points l).cost (pos (weight l)) i +ℤ mul_assoc a (output_of points l) (pos (weight l)) i))
     ∙ sum_below-add (length points) (λ l. k *ℤ ((point_of points l).cost *ℤ pos (weight l))) (λ l. a *ℤ (output_of points l *ℤ pos (weight l)))
     ∙ (λ i. sum_below-mul_left (length points) k (λ l. (point_of points l).cost *ℤ pos (weight l)) i
-      +ℤ sum_below-mul_left (length points) a (λ l. output_of points l *ℤ pos (weight l)) i)
+    +ℤ sum_below-mul_left (length points) a (λ l. output_of points l *ℤ pos (weight l)) i)
 
 distance_sum : (points : List Point) (cap : ℤ) (weight : ℕ → ℕ)
     → sum_below (length points) (λ l. distance points cap l *ℤ pos (weight l))
-      ≡ cap *ℤ weighted_total points weight -ℤ weighted_output points weight
+    ≡ cap *ℤ weighted_total points weight -ℤ weighted_output points weight
 distance_sum points cap weight =
     sum_below-same (length points) _ (λ l. cap *ℤ pos (weight l) -ℤ output_of points l *ℤ pos (weight l))
     (λ l h. sub-mul cap (output_of points l) (pos (weight l)))
@@ -199,12 +203,12 @@ at_two points k a b cap m bound l u j v r hl hj sign room =
     let total : weighted_total points weight ≡ pos (u + v) = two_total (length points) l u j v hl hj in
     let output = two_weights (length points) (output_of points) l u j v hl hj in
     let spent : (weighted_output points weight +ℤ r) ≤ℤ (pos (u + v) *ℤ cap) =
-        let left = sub-mul cap (output_of points l) (pos u) in
-        let right = sub-mul cap (output_of points j) (pos v) in
-        let parts = add-mul (pos u) (pos v) cap in
-        let first = mul_comm (pos u) cap in
-        let second = mul_comm (pos v) cap in
-        omega (arith, linear) in
+    let left = sub-mul cap (output_of points l) (pos u) in
+    let right = sub-mul cap (output_of points j) (pos v) in
+    let parts = add-mul (pos u) (pos v) cap in
+    let first = mul_comm (pos u) cap in
+    let second = mul_comm (pos v) cap in
+    omega (arith, linear) in
     let below = bound.below (u + v) weight r total sign spent in
     let costs = reduced_sum points k a weight in
     let corner = two_weights (length points) (reduced_cost points k a) l u j v hl hj in
@@ -259,7 +263,7 @@ corners-cell_bound points k a b cap m bound = record {
       let v = pos_of_nonneg (distance points cap l) near in
       pair_bound (distance points cap l) (distance points cap j) (reduced_cost points k a l) (reduced_cost points k a j) b m u.0 v.0 u.1 v.1
       (at_two points k a b cap m bound l u.0 j v.0 (pos 0) hl hj (le_refl (pos 0))
-        (pair_room (distance points cap l) (distance points cap j) u.0 v.0 u.1 v.1));
+      (pair_room (distance points cap l) (distance points cap j) u.0 v.0 u.1 v.1));
 }
   where
     negated : (d : ℤ) → d <ℤ pos 0 → pos 0 ≤ℤ neg_ℤ d
@@ -269,9 +273,11 @@ corners-cell_bound points k a b cap m bound = record {
 pub term_exists : (points : List Point) (k a b cap : ℤ) → 0 < length points → pos 0 ≤ℤ cap → (m : ℤ) × IsTerm points k a b cap m
 term_exists points k a b cap some sign =
     let first : pos 0 ≤ℤ distance points cap 0 = omega (arith, linear) in
-    let found = greatest_bound (length points) (reduced_cost points k a) (distance points cap) b some first in
-    (found.0, record {
-      reachable = sign;
-      bound = cell_bound-corners points k a b cap found.0 found.1;
-      greatest = λ n bound. found.2 n (corners-cell_bound points k a b cap n bound);
-    })
+    let found = greatest_bound (length points) (reduced_cost points k a) (distance points cap) b some first in (
+      found.0,
+      record {
+        reachable = sign;
+        bound = cell_bound-corners points k a b cap found.0 found.1;
+        greatest = λ n bound. found.2 n (corners-cell_bound points k a b cap n bound);
+      },
+    )

@@ -1,9 +1,9 @@
 -- The value of a unit exists where it has a pattern at the node, and whether it has one is decided.
-use Rattle.std.proofs.Common.{◌≡◌, ℕ, zero, suc, ◌<◌, ◌≤◌, ◌⊎◌, inl, inr, List, [], ◌∷◌, length, Bool, true, false, not, ◌&&◌, ◌||◌, cond, refl, sym, ap, subst, ◌∙◌, arith, ⊎_elim, ℤ, pos, ◌+ℤ◌, ◌-ℤ◌, ◌*ℤ◌, ◌≤ℤ◌, ◌<ℤ◌}
+use Rattle.std.proofs.Common.{◌≡◌, ℕ, ◌<◌, ◌⊎◌, inl, inr, List, [], ◌∷◌, length, Bool, true, false, not, ◌&&◌, cond, refl, sym, ap, subst, ◌∙◌, arith, ⊎_elim, ℤ, pos, ◌+ℤ◌, ◌-ℤ◌, ◌*ℤ◌, ◌≤ℤ◌, ◌<ℤ◌}
 use Rattle.std.specs.Prelude.{IsTrue, int_le, max}
-use Rattle.std.proofs.lemmas.Bool.{and_parts, and_from, or_cases, cases_Bool, not_from_true, true≢false}
-use Rattle.uc_model.specs.Sums.{sum_below, all_below}
-use Rattle.uc_model.specs.Commitment.{Commitment, starts, cap, is_allowed, is_allowed_at, initial_stop_holds}
+use Rattle.std.proofs.lemmas.Bool.{and_parts, and_from, or_cases, not_from_true, true≢false}
+use Rattle.uc_model.specs.Sums.{sum_below}
+use Rattle.uc_model.specs.Commitment.{Commitment, starts, cap, is_allowed, is_allowed_at}
 use Rattle.uc_model.specs.StartCategory.{last_stop, sigma}
 use Rattle.uc_model.specs.Schedule.{thermal_unit}
 use Rattle.uc_model.specs.declared.instance.Point.{Point}
@@ -13,9 +13,9 @@ use Rattle.uc_model.proofs.Ring.{linear, le_or_lt, le_antisymm}
 use Rattle.uc_model.proofs.Sums.{sum_below-same}
 use Rattle.uc_model.proofs.Tests.{int_le-true, all_below-at}
 use Rattle.dual_model.specs.Prices.{pi_at}
-use Rattle.dual_model.specs.Fixings.{unit_agrees, IsPatternAt, HasNoPattern}
+use Rattle.dual_model.specs.Fixings.{unit_agrees, HasNoPattern}
 use Rattle.dual_model.specs.Term.{IsTerm, IsTermAt, output_price, reserve_price}
-use Rattle.dual_model.specs.UnitValue.{period_value, IsPatternValue, IsBestPattern, IsUnitValue}
+use Rattle.dual_model.specs.UnitValue.{period_value, IsPatternValue, IsUnitValue}
 use Rattle.dual_model.specs.declared.node.Node.{Node}
 use Rattle.dual_model.specs.declared.table.Table.{Table}
 use Rattle.dual_model.proofs.Terms.{term_exists}
@@ -93,13 +93,14 @@ pattern_value_unique instance table g on v w first second =
   where
     start : ℕ → ℤ
     start t = cond (starts (thermal_unit instance g) on t) (table.k *ℤ sigma (thermal_unit instance g) (last_stop (thermal_unit instance g) on t) t) (pos 0)
+
     each : (t : ℕ) → t < instance.periods
         → cond (on t) (first.term t -ℤ pi_at table t *ℤ (thermal_unit instance g).pmin) (pos 0)
-          ≡ cond (on t) (second.term t -ℤ pi_at table t *ℤ (thermal_unit instance g).pmin) (pos 0)
+        ≡ cond (on t) (second.term t -ℤ pi_at table t *ℤ (thermal_unit instance g).pmin) (pos 0)
     each t l = cond_on (on t) _ _ (λ here.
         let unit = thermal_unit instance g in
         ap (λ m. m -ℤ pi_at table t *ℤ unit.pmin) (term_unique unit.points table.k (output_price table g t) (reserve_price table g t)
-          (cap instance.periods unit on t) _ _ (first.terms t l here) (second.terms t l here)))
+        (cap instance.periods unit on t) _ _ (first.terms t l here) (second.terms t l here)))
 
 -- the value depends on the instance's periods alone
 term_of-same : (instance : Instance) (table : Table) (g : ℕ) (on other : Commitment) → SameBelow instance.periods on other → (t : ℕ)
@@ -147,8 +148,10 @@ pub unit_value_decided : (instance : Instance) (node : Node) (table : Table) (g 
     → ((v : ℤ) × IsUnitValue instance node table g v) ⊎ HasNoPattern instance node g
 unit_value_decided instance node table g some points = ⊎_elim
     (λ (found : (on : Commitment) × IsLeastOf (is_pattern_at instance node g) (value_of instance table g) on).
-      let parts = and_parts _ _ found.1.passes in
-      inl (value_of instance table g found.0, record {
+    let parts = and_parts _ _ found.1.passes in
+    inl (
+      value_of instance table g found.0,
+      record {
         on = found.0;
         best = record {
           pattern = record { allowed = parts.0; agrees = parts.1 };
@@ -158,8 +161,14 @@ unit_value_decided instance node table g some points = ⊎_elim
               (pattern_value_unique instance table g other _ w (is_value_of instance table g other points pattern.allowed) value)
               (found.1.least other (and_from _ _ pattern.allowed pattern.agrees));
         };
-      }))
+      },
+    ))
     (λ (none : PassesNone (is_pattern_at instance node g)).
-      inr (λ on pattern. none.none on (and_from _ _ pattern.allowed pattern.agrees)))
+    inr (λ on pattern. none.none on (and_from _ _ pattern.allowed pattern.agrees)))
     (least_pattern (last_period instance node) (is_pattern_at instance node g) (value_of instance table g)
-      (pattern_local instance node table g some))
+    (pattern_local instance node table g some))
+
+-- each allowed pattern has a value
+pub allowed_value : (instance : Instance) (table : Table) (g : ℕ) (on : Commitment) → 0 < length (thermal_unit instance g).points
+    → IsTrue (is_allowed instance.periods (thermal_unit instance g) on) → (w : ℤ) × IsPatternValue instance table g on w
+allowed_value instance table g on some allowed = (value_of instance table g on, is_value_of instance table g on some allowed)

@@ -9,7 +9,6 @@ use Rattle.uc_model.specs.Schedule.{Schedule, thermal_count}
 use Rattle.uc_model.specs.declared.instance.Instance.{Instance}
 use Rattle.dual_model.specs.Fixings.{HasNoPattern, HasEmptyUnit, IsCell, agrees}
 use Rattle.dual_model.specs.NodeValue.{IsNodeValue}
-use Rattle.dual_model.specs.declared.node.Fixing.{Fixing}
 use Rattle.dual_model.specs.declared.node.Node.{Node}
 use Rattle.dual_model.specs.declared.table.Table.{Table}
 

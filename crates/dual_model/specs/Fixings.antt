@@ -3,7 +3,7 @@
 -- reference model by Knueven, Ostrowski and Watson.
 --
 -- Units and periods count from 0 here.
-use Rattle.std.specs.Prelude.{ℕ, ◌<◌, Bool, not, ◌||◌, ◌==◌, List, IsTrue, All, if◌then◌else◌}
+use Rattle.std.specs.Prelude.{ℕ, ◌<◌, Bool, not, ◌||◌, ◌==◌, IsTrue, All, if◌then◌else◌}
 use Rattle.std.specs.List.{list_all}
 use Rattle.uc_model.specs.Commitment.{Commitment, is_allowed}
 use Rattle.uc_model.specs.Schedule.{Schedule, thermal_unit, thermal_count}

@@ -5,3 +5,4 @@ pub mod UnitValue
 pub mod NodeValue
 pub mod Cover
 pub mod Certificate
+pub mod Laws

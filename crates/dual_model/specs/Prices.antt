@@ -3,7 +3,7 @@
 -- reserve (M15) and the ramps (M11, M12); the limits in size are this project's.
 --
 -- Units and periods count from 0 here.
-use Rattle.std.specs.Prelude.{◌≡◌, ℕ, suc, ◌*◌, ◌^◌, ◌<◌, ◌≤◌, ◌⊎◌, ◌≢◌, Bool, ◌&&◌, ◌==◌, List, [], ◌∷◌, ℤ, pos, ◌≤ℤ◌, unsigned_abs, length, slice_index_or, All, if◌then◌else◌}
+use Rattle.std.specs.Prelude.{◌≡◌, ℕ, suc, ◌^◌, ◌<◌, ◌≤◌, ◌⊎◌, ◌≢◌, ◌&&◌, ◌==◌, List, [], ◌∷◌, ℤ, pos, ◌≤ℤ◌, unsigned_abs, length, slice_index_or, All, if◌then◌else◌}
 use Rattle.uc_model.specs.Schedule.{thermal_count}
 use Rattle.uc_model.specs.declared.instance.Instance.{Instance}
 use Rattle.dual_model.specs.declared.table.Table.{Table}
