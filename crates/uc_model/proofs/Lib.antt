@@ -3,3 +3,5 @@ pub mod Sums
 pub mod Tests
 pub mod Obeyed
 pub mod StartCosts
+pub mod MinimumTimes
+pub mod CostBound
