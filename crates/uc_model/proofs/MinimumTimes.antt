@@ -169,3 +169,46 @@ not_both initial on up down periods time_up time_down hu hd keeps t ht start sto
     after_stop =
         one_change (min time_down periods) down (λ k. not (on k)) t end_down (omega arith) (omega arith) (omega arith) stop
         (keeps.minimum_down end_down (omega arith))
+
+-- and both follow from the state
+start_is : (now before up down : Bool) → bit now -ℤ bit before ≡ bit up -ℤ bit down → (IsTrue up → IsTrue down → ⊥)
+    → up ≡ (not before && now)
+start_is true true true true e apart = absurd (apart refl refl)
+start_is true true true false e apart = absurd (omega (arith, linear))
+start_is true true false down e apart = refl
+start_is true false true down e apart = refl
+start_is true false false true e apart = absurd (omega (arith, linear))
+start_is true false false false e apart = absurd (omega (arith, linear))
+start_is false true true true e apart = absurd (apart refl refl)
+start_is false true true false e apart = absurd (omega (arith, linear))
+start_is false true false down e apart = refl
+start_is false false true true e apart = absurd (apart refl refl)
+start_is false false true false e apart = absurd (omega (arith, linear))
+start_is false false false down e apart = refl
+
+stop_is : (now before up down : Bool) → bit now -ℤ bit before ≡ bit up -ℤ bit down → (IsTrue up → IsTrue down → ⊥)
+    → down ≡ (before && not now)
+stop_is now before up down e apart =
+    start_is before now down up (turned now before up down e) (λ d u. apart u d) ∙ both_orders now before
+  where
+    turned : (n b u d : Bool) → bit n -ℤ bit b ≡ bit u -ℤ bit d → bit b -ℤ bit n ≡ bit d -ℤ bit u
+    turned n b u d h = omega (arith, linear)
+    both_orders : (n b : Bool) → (not n && b) ≡ (b && not n)
+    both_orders true true = refl
+    both_orders true false = refl
+    both_orders false true = refl
+    both_orders false false = refl
+
+pub starts-follow : (initial : Bool) (on up down : Commitment) (periods time_up time_down : ℕ) → 1 ≤ time_up → 1 ≤ time_down
+    → KeepsMinimumTimes initial on up down periods time_up time_down
+    → (t : ℕ) → t < periods → up t ≡ (not (state_before initial on t) && on t)
+starts-follow initial on up down periods time_up time_down hu hd keeps t ht =
+    start_is (on t) (state_before initial on t) (up t) (down t) (keeps.state t ht)
+    (not_both initial on up down periods time_up time_down hu hd keeps t ht)
+
+pub stops-follow : (initial : Bool) (on up down : Commitment) (periods time_up time_down : ℕ) → 1 ≤ time_up → 1 ≤ time_down
+    → KeepsMinimumTimes initial on up down periods time_up time_down
+    → (t : ℕ) → t < periods → down t ≡ (state_before initial on t && not (on t))
+stops-follow initial on up down periods time_up time_down hu hd keeps t ht =
+    stop_is (on t) (state_before initial on t) (up t) (down t) (keeps.state t ht)
+    (not_both initial on up down periods time_up time_down hu hd keeps t ht)

@@ -6,6 +6,7 @@
 
 pub mod examples;
 pub mod instance;
+pub mod laws;
 pub mod list;
 pub mod memory;
 pub mod schedule;
