@@ -1,2 +1,5 @@
+pub mod DecimalText
+pub mod MoneyText
+pub mod Quotients
 pub mod Ring
 pub mod Sums

@@ -1,1 +1,5 @@
+pub mod Decimal
+pub mod Division
+pub mod Money
 pub mod Sums
+pub mod Tolerance
