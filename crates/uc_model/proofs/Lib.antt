@@ -1,3 +1,6 @@
+pub mod DecimalText
+pub mod MoneyText
+pub mod Quotients
 pub mod Ring
 pub mod Sums
 pub mod Tests

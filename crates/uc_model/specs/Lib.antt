@@ -1,3 +1,6 @@
+pub mod Decimal
+pub mod Division
+pub mod Money
 pub mod Sums
 pub mod Commitment
 pub mod StartCategory
@@ -8,3 +11,4 @@ pub mod Hull
 pub mod PrintedSchedule
 pub mod Limits
 pub mod Examples
+pub mod Tolerance
