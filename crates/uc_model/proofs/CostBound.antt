@@ -70,17 +70,17 @@ production_cost_fits : (q : ℕ) (unit : Thermal) (row : Row) (t : ℕ) → IsLa
     → IsWithin (pos q *ℤ pos MAX_COST) (production_cost unit row t)
 production_cost_fits q unit row t lawful made =
     let bounds = within_sum (point_count unit) (λ l. (point unit l).cost *ℤ pos (row.weight t l)) (λ l. pos MAX_COST *ℤ pos (row.weight t l))
-        (λ l h. weighted (row.weight t l) (pos MAX_COST) (point unit l).cost (within_of_abs _ _ (lawful.costs l h)))
+    (λ l h. weighted (row.weight t l) (pos MAX_COST) (point unit l).cost (within_of_abs _ _ (lawful.costs l h)))
     in
     let factored = sum_below-mul_left (point_count unit) (pos MAX_COST) (λ l. pos (row.weight t l)) in
     let total : sum_below (point_count unit) (λ l. pos MAX_COST *ℤ pos (row.weight t l)) ≡ pos MAX_COST *ℤ (pos q *ℤ bit (row.on t)) =
-        factored ∙ ap (λ z. pos MAX_COST *ℤ z) made.total
+    factored ∙ ap (λ z. pos MAX_COST *ℤ z) made.total
     in
     let capped : (pos q *ℤ bit (row.on t)) ≤ℤ (pos q *ℤ pos 1) = scale-le-scale q _ _ (bit-le-one (row.on t)) in
     let whole : (pos MAX_COST *ℤ (pos q *ℤ bit (row.on t))) ≤ℤ (pos q *ℤ pos MAX_COST) =
-        subst (λ z. (pos MAX_COST *ℤ (pos q *ℤ bit (row.on t))) ≤ℤ z)
-        (ap (λ z. pos MAX_COST *ℤ z) (mul-one (pos q)) ∙ mul_comm (pos MAX_COST) (pos q))
-        (scale-le-scale MAX_COST _ _ capped)
+    subst (λ z. (pos MAX_COST *ℤ (pos q *ℤ bit (row.on t))) ≤ℤ z)
+    (ap (λ z. pos MAX_COST *ℤ z) (mul-one (pos q)) ∙ mul_comm (pos MAX_COST) (pos q))
+    (scale-le-scale MAX_COST _ _ capped)
     in
     within_more _ _ _ (subst (λ b. IsWithin b (production_cost unit row t)) total bounds) whole
 
@@ -93,20 +93,20 @@ allowed_cost_fits : (unit : Thermal) (on : Commitment) (s t : ℕ) → IsLawfulT
 allowed_cost_fits unit on zero t lawful h = absurd (true≢false (sym h))
 allowed_cost_fits unit on (suc s) t lawful h =
     within_of_abs _ _ (lawful.start_costs s
-      (⊎_elim
-        (λ (last : IsTrue (suc s == category_count unit)). let e = eqb-true (suc s) (category_count unit) last in omega arith)
-        (λ rest. let l = ltb-true (suc s) (category_count unit) (and_parts (nat_lt (suc s) (category_count unit)) _ rest).0 in omega arith)
-        (or_cases (suc s == category_count unit) _ h)))
+    (⊎_elim
+    (λ (last : IsTrue (suc s == category_count unit)). let e = eqb-true (suc s) (category_count unit) last in omega arith)
+    (λ rest. let l = ltb-true (suc s) (category_count unit) (and_parts (nat_lt (suc s) (category_count unit)) _ rest).0 in omega arith)
+    (or_cases (suc s == category_count unit) _ h)))
 
 category_cost_fits : (unit : Thermal) (row : Row) (t : ℕ) → IsLawfulThermal unit
     → IsTrue (category_holds_at unit row.on row.category t) → IsWithin (pos MAX_COST) (category_cost unit (row.category t))
 category_cost_fits unit row t lawful h =
     ⊎_elim
     (λ (start : IsTrue (starts unit row.on t)).
-      allowed_cost_fits unit row.on (row.category t) t lawful (sym (cond-true _ _ _ start) ∙ h))
+    allowed_cost_fits unit row.on (row.category t) t lawful (sym (cond-true _ _ _ start) ∙ h))
     (λ (none : starts unit row.on t ≡ false).
-      let zero_category : row.category t ≡ 0 = eqb-true (row.category t) 0 (sym (cond-false _ _ _ none) ∙ h) in
-      subst (λ c. IsWithin (pos MAX_COST) (category_cost unit c)) (sym zero_category) (zero_within MAX_COST))
+    let zero_category : row.category t ≡ 0 = eqb-true (row.category t) 0 (sym (cond-false _ _ _ none) ∙ h) in
+    subst (λ c. IsWithin (pos MAX_COST) (category_cost unit c)) (sym zero_category) (zero_within MAX_COST))
     (cases_Bool (starts unit row.on t))
 
 cell_cost_fits : (instance : Instance) (q : ℕ) (x : Schedule) (g t : ℕ) → Obeys instance q x
@@ -126,12 +126,12 @@ pub cost_fits : (instance : Instance) (q : ℕ) (x : Schedule) → IsLawfulInsta
 cost_fits instance q x lawful obeys =
     let cell = pos q *ℤ pos (2 * MAX_COST) in
     let units = λ (g : ℕ) (hg : g < thermal_count instance).
-        within_const_sum instance.periods (cell_cost q (thermal_unit instance g) (x.thermal g)) cell
-        (λ t ht. cell_cost_fits instance q x g t obeys hg ht (lawful.thermal g hg))
+    within_const_sum instance.periods (cell_cost q (thermal_unit instance g) (x.thermal g)) cell
+    (λ t ht. cell_cost_fits instance q x g t obeys hg ht (lawful.thermal g hg))
     in
     let all = within_const_sum (thermal_count instance) (λ g. unit_cost instance.periods q (thermal_unit instance g) (x.thermal g)) (pos instance.periods *ℤ cell) units in
     abs_of_within _ _ (within_more _ _ _ all
-      (pos-le-pos _ _ (counted (thermal_count instance) instance.periods q lawful.thermal_units lawful.periods.1)))
+    (pos-le-pos _ _ (counted (thermal_count instance) instance.periods q lawful.thermal_units lawful.periods.1)))
   where
     counted : (g t n : ℕ) → g ≤ 4096 → t ≤ 168 → g * (t * (n * 10000000000000)) ≤ n * 6881280000000000000
     counted g t n hg ht = grind arith

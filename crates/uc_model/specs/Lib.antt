@@ -3,6 +3,7 @@ pub mod Division
 pub mod Money
 pub mod Sums
 pub mod Commitment
+pub mod PatternBits
 pub mod StartCategory
 pub mod Schedule
 pub mod Rules
