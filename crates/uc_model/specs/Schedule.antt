@@ -1,9 +1,9 @@
 -- Schedules: rational dispatch as whole numerators over one denominator q >= 1. Source: the variables
 -- of the reference model by Knueven, Ostrowski and Watson, with the piecewise production cost as
 -- weights on a unit's points.
-use Rattle.std.specs.Prelude.{ℕ, zero, suc, Bool, false, [], ℤ, pos, ◌+ℤ◌, ◌-ℤ◌, ◌*ℤ◌, length, slice_index_or}
+use Rattle.std.specs.Prelude.{ℕ, zero, suc, Bool, false, [], ℤ, pos, ◌-ℤ◌, ◌*ℤ◌, length, slice_index_or}
 use Rattle.uc_model.specs.Sums.{sum_below}
-use Rattle.uc_model.specs.Commitment.{Commitment, initial_p}
+use Rattle.uc_model.specs.Commitment.{initial_p}
 use Rattle.uc_model.specs.declared.instance.Thermal.{Thermal}
 use Rattle.uc_model.specs.declared.instance.Point.{Point}
 use Rattle.uc_model.specs.declared.instance.Instance.{Instance}
