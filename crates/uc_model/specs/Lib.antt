@@ -1,6 +1,11 @@
+pub mod Decimal
+pub mod Division
+pub mod Money
 pub mod Sums
 pub mod Commitment
+pub mod PatternBits
 pub mod StartCategory
+pub mod Points
 pub mod Schedule
 pub mod Rules
 pub mod Cost
@@ -8,3 +13,4 @@ pub mod Hull
 pub mod PrintedSchedule
 pub mod Limits
 pub mod Examples
+pub mod Tolerance
