@@ -6,6 +6,7 @@
 #![tactic(auto)]
 
 pub mod laws;
+pub mod limits;
 pub mod node;
 pub mod table;
 
