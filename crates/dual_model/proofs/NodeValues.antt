@@ -1,6 +1,6 @@
 -- The value of a node: it is unique, it exists where each unit has a pattern, it bounds the cost of each of the node's
 -- schedules, and a child's is at least its parent's.
-use Rattle.std.proofs.Common.{◌≡◌, ℕ, zero, suc, ◌<◌, ◌≤◌, ◌⊎◌, inl, inr, [], ◌∷◌, Bool, refl, sym, ap, subst, ◌∙◌, arith, ⊎_elim, ℤ, pos, ◌+ℤ◌, ◌*ℤ◌, ◌≤ℤ◌}
+use Rattle.std.proofs.Common.{◌≡◌, ℕ, zero, suc, ◌<◌, ◌≤◌, ◌⊎◌, inl, inr, [], ◌∷◌, length, Bool, refl, sym, ap, subst, ◌∙◌, arith, ⊎_elim, ℤ, pos, ◌+ℤ◌, ◌*ℤ◌, ◌≤ℤ◌}
 use Rattle.std.specs.Prelude.{IsTrue, Option, Some, None, option_map, unwrap_or}
 use Rattle.std.proofs.lemmas.Bool.{and_parts}
 use Rattle.std.proofs.lemmas.List.Folds.{list_all-append}
@@ -65,6 +65,14 @@ node_value_of instance node table =
 abbrev unit_value_or_zero : Instance → Node → Table → ℕ → ℤ
 unit_value_or_zero instance node table g = unwrap_or (unit_value_of instance node table g) (pos 0)
 
+-- there is a period, and each unit has a point: what a value needs of the instance
+pub record HasPoints (instance : Instance) : Type 0 where
+  pub some : 0 < instance.periods
+  pub each : (g : ℕ) → g < thermal_count instance → 0 < length (thermal_unit instance g).points
+
+has_points : (instance : Instance) → IsLawfulInstance instance → HasPoints instance
+has_points instance lawful = record { some = lawful.periods.0; each = λ g l. (lawful.thermal g l).points.0 }
+
 -- the first n units have values, whose sum with their constants is s
 record HaveValues (instance : Instance) (node : Node) (table : Table) (n : ℕ) (s : ℤ) : Type 0 where
   each : (g : ℕ) → g < n → IsUnitValue instance node table g (unit_value_or_zero instance node table g)
@@ -95,14 +103,14 @@ one_more instance node table n within (Some s) (Some v) values value same =
       total = λ i. values.total i +ℤ unit_part instance table n (sym is_own i);
     }
 
-units_value_is : (instance : Instance) (node : Node) (table : Table) → IsLawfulInstance instance → (n : ℕ) → n ≤ thermal_count instance
+units_value_is : (instance : Instance) (node : Node) (table : Table) → HasPoints instance → (n : ℕ) → n ≤ thermal_count instance
     → AreUnitsAnswer instance node table n (units_value_of instance node table n)
 unfolding units_value_of
-units_value_is instance node table lawful zero most = record { each = λ g l. absurd (omega arith); total = refl }
-units_value_is instance node table lawful (suc n) most =
+units_value_is instance node table points zero most = record { each = λ g l. absurd (omega arith); total = refl }
+units_value_is instance node table points (suc n) most =
     one_more instance node table n (omega arith) _ _
-    (units_value_is instance node table lawful n (omega arith))
-    (unit_value_is instance node table n lawful.periods.0 (lawful.thermal n (omega arith)).points.0)
+    (units_value_is instance node table points n (omega arith))
+    (unit_value_is instance node table n points.some (points.each n (omega arith)))
     refl
 
 -- the answer is the node's value, or some unit has no pattern there
@@ -120,11 +128,11 @@ whole_value instance node table (Some s) values = record {
   total = ap (λ z. system_value instance table +ℤ z +ℤ renewables_value instance table) values.total;
 }
 
-pub node_value_is : (instance : Instance) (node : Node) (table : Table) → IsLawfulInstance instance
+pub node_value_is : (instance : Instance) (node : Node) (table : Table) → HasPoints instance
     → IsNodeAnswer instance node table (node_value_of instance node table)
 unfolding node_value_of
-node_value_is instance node table lawful =
-    whole_value instance node table _ (units_value_is instance node table lawful (thermal_count instance) (omega arith))
+node_value_is instance node table points =
+    whole_value instance node table _ (units_value_is instance node table points (thermal_count instance) (omega arith))
 
 answered : (instance : Instance) (node : Node) (table : Table) (answer : Option ℤ) → IsNodeAnswer instance node table answer
     → ((v : ℤ) × IsNodeValue instance node table v) ⊎ HasEmptyUnit instance node
@@ -132,7 +140,7 @@ answered instance node table None empty = inr empty
 answered instance node table (Some v) is_value = inl (v, is_value)
 
 pub values_exist : ValuesExist
-values_exist instance node table lawful = answered instance node table _ (node_value_is instance node table lawful)
+values_exist instance node table lawful = answered instance node table _ (node_value_is instance node table (has_points instance lawful))
 
 -- where a schedule obeys and agrees, no unit is without a pattern
 pub not_empty : (instance : Instance) (node : Node) (q : ℕ) (x : Schedule) → IsLawfulInstance instance → IsScheduleAt instance node q x

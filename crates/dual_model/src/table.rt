@@ -77,3 +77,30 @@ fn copied<T: Copy>(alloc: Global, items: &[T]) -> Result<List<T>, NoMemory>
         Err(_) => Err(NoMemory),
     }
 }
+
+#[cfg(test)]
+mod tests {
+    use super::*;
+    use std::test::Fail;
+
+    /// Both calls succeed where there is memory.
+    #[test]
+    fn makes_and_copies(rt: HostRuntime) -> Result<(), Fail> {
+        let alloc = rt.alloc();
+        let row = RampRow {
+            g: 1,
+            t: 0,
+            up: 5,
+            down: 0,
+        };
+        let made = Table::new(alloc, 2, 1_000_000, &[10_000_000, -4], &[0, 7], &[row])?;
+        let table = made.copy(alloc)?;
+        assert_eq!(rt; (table.units, table.k), (2, 1_000_000));
+        assert_eq!(rt; table.pi.as_slice(), [10_000_000, -4].as_slice());
+        assert_eq!(rt; table.mu.as_slice(), [0, 7].as_slice());
+        assert_eq!(rt; table.ramps.as_slice().len(), 1);
+        let kept = table.ramps.as_slice()[0];
+        assert_eq!(rt; (kept.g, kept.t, kept.up, kept.down), (1, 0, 5, 0));
+        Ok(())
+    }
+}
