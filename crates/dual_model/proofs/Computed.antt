@@ -1,6 +1,6 @@
 -- Values of nodes by computing them.
-use Rattle.std.proofs.Common.{◌≡◌, ℕ, ◌<◌, length, subst, ℤ, Bool, ◌&&◌}
-use Rattle.std.specs.Prelude.{IsTrue, nat_lt, Option, Some, None}
+use Rattle.std.proofs.Common.{◌≡◌, length, subst, ℤ, Bool, ◌&&◌}
+use Rattle.std.specs.Prelude.{IsTrue, nat_lt, Some, None}
 use Rattle.std.proofs.lemmas.Bool.{and_parts, ltb-true}
 use Rattle.uc_model.specs.Sums.{all_below}
 use Rattle.uc_model.specs.Schedule.{thermal_unit, thermal_count}

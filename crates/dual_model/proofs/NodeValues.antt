@@ -97,8 +97,8 @@ one_more instance node table n within (Some s) (Some v) values value same =
       each = λ g l. ⊎_elim
           (λ (less : g < n). values.each g less)
           (λ (last : n ≡ g).
-            subst (λ k. IsUnitValue instance node table k (unit_value_or_zero instance node table k)) last
-            (subst (λ z. IsUnitValue instance node table n z) (sym is_own) value))
+          subst (λ k. IsUnitValue instance node table k (unit_value_or_zero instance node table k)) last
+          (subst (λ z. IsUnitValue instance node table n z) (sym is_own) value))
           (below_or_last g n l);
       total = λ i. values.total i +ℤ unit_part instance table n (sym is_own i);
     }

@@ -60,13 +60,14 @@ bounds_corners n f d b = record {
   reserve = λ l hl near. le_trans _ _ _ (greatest-le-corner n f d b l hl near) (min_right _ _);
   pair = λ l j hl hj near far.
       let below : greatest_bound n f d b ≤ℤ pair_cost l j =
-          le_trans _ _ _ (greatest-le-corner n f d b l hl near)
-          (le_trans _ _ _ (min_left _ _) (least_below-le n (λ i. int_lt (d i) (pos 0)) (pair_cost l) (f l) j hj (lt-int_lt _ _ far))) in
+      le_trans _ _ _ (greatest-le-corner n f d b l hl near)
+      (le_trans _ _ _ (min_left _ _) (least_below-le n (λ i. int_lt (d i) (pos 0)) (pair_cost l) (f l) j hj (lt-int_lt _ _ far))) in
       scaled (d l) (d j) (f l) (f j) (greatest_bound n f d b) near far below;
 }
   where
     pair_cost : ℕ → ℕ → ℤ
     pair_cost l j = int_div_euclid (neg_ℤ (d j) *ℤ f l +ℤ d l *ℤ f j) (d l -ℤ d j)
+
     scaled : (dl dj fl fj m : ℤ) → pos 0 ≤ℤ dl → dj <ℤ pos 0 → m ≤ℤ int_div_euclid (neg_ℤ dj *ℤ fl +ℤ dl *ℤ fj) (dl -ℤ dj)
         → ((dl -ℤ dj) *ℤ m) ≤ℤ (neg_ℤ dj *ℤ fl +ℤ dl *ℤ fj)
     scaled dl dj fl fj m near far below =
@@ -84,9 +85,9 @@ greatest_of_bounds n f d b k some near corners =
     le-least_below n (λ l. int_le (pos 0) (d l)) (corner_least n f d b) (f 0) k (corners.point 0 some near) (λ l hl left.
     above_min k (pair_least n f d l) (f l +ℤ b *ℤ d l)
     (le-least_below n (λ j. int_lt (d j) (pos 0)) (λ j. int_div_euclid (neg_ℤ (d j) *ℤ f l +ℤ d l *ℤ f j) (d l -ℤ d j)) (f l) k
-      (corners.point l hl (int_le-true _ _ left)) (λ j hj right.
-      divided (d l) (d j) (f l) (f j) (int_le-true _ _ left) (int_lt-true _ _ right)
-      (corners.pair l j hl hj (int_le-true _ _ left) (int_lt-true _ _ right))))
+    (corners.point l hl (int_le-true _ _ left)) (λ j hj right.
+    divided (d l) (d j) (f l) (f j) (int_le-true _ _ left) (int_lt-true _ _ right)
+    (corners.pair l j hl hj (int_le-true _ _ left) (int_lt-true _ _ right))))
     (corners.reserve l hl (int_le-true _ _ left)))
   where
     divided : (dl dj fl fj : ℤ) → pos 0 ≤ℤ dl → dj <ℤ pos 0 → ((dl -ℤ dj) *ℤ k) ≤ℤ (neg_ℤ dj *ℤ fl +ℤ dl *ℤ fj)

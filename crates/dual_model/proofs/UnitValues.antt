@@ -166,7 +166,7 @@ unfolding unit_value_of
 unit_value_is instance node table g some points =
     best_value instance node table g points _
     (best_pattern_is (last_period instance node) (is_pattern_at instance node g) (value_of instance table g)
-      (pattern_local instance node table g some))
+    (pattern_local instance node table g some))
 
 -- each allowed pattern has a value
 pub allowed_value : (instance : Instance) (table : Table) (g : ℕ) (on : Commitment) → 0 < length (thermal_unit instance g).points

@@ -1,6 +1,6 @@
 -- Each example is computed.
 use Rattle.std.proofs.Common.{refl}
-use Rattle.dual_model.proofs.Computed.{computed_value, computed_empty}
+use Rattle.dual_model.proofs.Computed.{computed_value}
 use Rattle.dual_model.proofs.NodeValues.{node_value_of, units_value_of}
 use Rattle.dual_model.proofs.UnitValues.{unit_value_of, value_of, term_of}
 use Rattle.dual_model.proofs.Patterns.{best_pattern, better}
