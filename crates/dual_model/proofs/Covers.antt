@@ -98,7 +98,7 @@ bounded_leaf instance tables b q x lawful obeys node (Bound number) kept tabled 
     ⊎_elim
     (λ (has : HasBoundOf instance node holds.table b).
     let own = has.is_bound in
-    divided q holds.table.k own.value has.bound b (cost instance q x) holds.scale own.below has.enough
+    divided q holds.table.k own.value has.bound b (cost instance q x) holds.scale own.quotient.below has.enough
     (weak_duality instance node holds.table own.value q x lawful
     (lawful_bounds instance holds.table (tabled holds.table holds.is_table)) own.is_value schedule))
     (λ (empty : HasEmptyUnit instance node). absurd (not_empty instance node q x lawful schedule empty))
