@@ -78,6 +78,6 @@ tree_text (Ends leaf) = leaf_line leaf
 tree_text (Splits g t off on) =
     line (codes "split") (whole_text (suc g) ∷ whole_text (suc t) ∷ []) ++ (tree_text off ++ tree_text on)
 
-abbrev pub certificate_text : Certificate → List ℕ
+unfoldable pub certificate_text : Certificate → List ℕ
 certificate_text c =
     heading c ++ (schedule_text c.schedule ++ (flat_map table_text c.tables ++ (tree_text c.tree ++ line (codes "end") [])))

@@ -5,7 +5,7 @@ use Rattle.outside.specs.Sinks.{WritesFront}
 use Rattle.outside.proofs.Appending.{at_error, fault-in-pieces}
 use Rattle.branch_tree.specs.Claims.{table_at, no_table}
 use Rattle.cert_text.specs.CertificateText.{table_text}
-use Rattle.cert_text.proofs.write.write_tables.Goals as goal
+use Rattle.cert_text.proofs.certificate.write_tables.Goals as goal
 
 pub returns-in_err-write_table-clause-failed : goal.returns-in_err-write_table-clause-failed
 returns-in_err-write_table-clause-failed g c =

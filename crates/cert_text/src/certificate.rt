@@ -84,6 +84,7 @@ fn write_heading<W: Writer>(out: &mut W, found: &Found, instance: &Instance) -> 
 /// Writes the certificate of what was found for the instance. It takes no memory.
 ///
 /// `Failed` comes only where the writer's count of faults rose, and a front of the text is written then.
+#[tactic(auto, using(crate::proofs::Writing::then_ok, crate::proofs::Writing::then_failed, crate::proofs::Writing::front_at_error), unfolding(crate::specs::CertificateText::certificate_text))]
 pub fn write<W: Writer>(found: &Found, instance: &Instance, out: &mut W) -> Result<(), Failed>
     requires { HasLayout found.now }
     ensures ok { OnOk result (WriterWrites (certificate_text (certificate_of instance.now found.now)) (W.state out.old) (W.state out.new)) }

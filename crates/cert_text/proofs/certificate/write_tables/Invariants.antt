@@ -1,7 +1,7 @@
 use Rattle.std.proofs.Common.{take}
 use Rattle.outside.specs.Sinks.{WriterWrites}
 use Rattle.cert_text.specs.FoundText.{tables_text}
-use Rattle.cert_text.proofs.write.write_tables.Given as goal
+use Rattle.cert_text.proofs.certificate.write_tables.Given as goal
 
 abbrev pub invariant-loop-number : goal.invariant-loop-number
 invariant-loop-number g l = let state = g.W.Writer.state in record {

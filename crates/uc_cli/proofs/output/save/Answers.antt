@@ -1,0 +1,23 @@
+-- At a fault of `finish` the whole text was written to the slot.
+use Rattle.std.proofs.Common.{arith}
+use Rattle.std.proofs.lemmas.Grind.{common_steps}
+use Rattle.std.proofs.lemmas.Result.{on_err_weaker}
+use Rattle.outside.specs.declared.slot.Slot.TheVariants.{CertOut}
+use Rattle.outside.specs.Known.{Appends}
+use Rattle.outside.proofs.Appending.{all-appended, appended-since-nothing}
+use Rattle.branch_tree.specs.Claims.{certificate_of}
+use Rattle.cert_text.specs.CertificateText.{certificate_text}
+use Rattle.uc_cli.proofs.output.save.Goals as goal
+
+pub returns-clause-front : goal.returns-clause-front
+returns-clause-front g c =
+    let state = g.F.Files.state in
+    let text = certificate_text (certificate_of c.args.instance.now c.args.found.now) in
+    let unopened = state c.args.files.now CertOut in
+    let end = state c.finish.new.self CertOut in
+    on_err_weaker c.finish.result (λ fault.
+    let grown : Appends text unopened.written end.written = grind (arith, common_steps, fault) in
+    all-appended _ _ _
+    (appended-since-nothing text unopened.written end.written
+    (g.met.F.Files.unopened_is_unwritten c.args.files.now CertOut c.requires.unopened) grown))
+    c.finish.ensures.failed

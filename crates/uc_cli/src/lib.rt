@@ -1,0 +1,6 @@
+//! The program `uc` as a function of its words and of the outside.
+#![tactic(auto)]
+
+mod input;
+mod output;
+mod words;
