@@ -1,6 +1,6 @@
 -- What a tree of the search says as a cover, and the certificate that a found answer stands for. This
 -- project's own form.
-use Rattle.std.specs.Prelude.{ℕ, List, [], ◌∷◌, ℤ, pos, Option, Some, None, slice_index_or, map}
+use Rattle.std.specs.Prelude.{◌≡◌, ℕ, ◌<◌, List, [], ◌∷◌, ℤ, pos, Option, Some, None, All, length, slice_index_or, map}
 use Rattle.uc_model.specs.Schedule.{thermal_count, renewable_count}
 use Rattle.uc_model.specs.declared.instance.Instance.{Instance}
 use Rattle.uc_model.specs.declared.schedule.Printed.{Printed}
@@ -47,9 +47,19 @@ priced_of (Some pair) = Some (record { printed = pair.0; cost = pair.1 })
 abbrev pub no_table : Table
 no_table = record { units = 0; k = pos 0; pi = []; mu = []; ramps = [] }
 
+-- the table of that number
+abbrev pub table_at : List Table → ℕ → Table
+table_at tables i = slice_index_or tables i no_table
+
 -- the tables that the tree uses, in order of first use
 abbrev pub used_tables : Found → List Table
-used_tables found = map (λ i. slice_index_or found.tables i no_table) (leaf_tables found.tree.leaf)
+used_tables found = map (table_at found.tables) (leaf_tables found.tree.leaf)
+
+-- the layout is that of the tree: its nodes in preorder, and the numbers of the tables that its leaves use
+pub record HasLayout (found : Found) : Type 0 where
+  pub nodes : found.layout.nodes ≡ 0 ∷ []
+  pub tables : found.layout.tables ≡ leaf_tables found.tree.leaf
+  pub within : All (λ i. i < length found.tables) (leaf_tables found.tree.leaf)
 
 -- the certificate that the found answer stands for
 abbrev pub certificate_of : Instance → Found → Certificate
@@ -60,4 +70,5 @@ certificate_of instance found = record {
   bound = tree_bound found.tree;
   schedule = priced_of found.schedule;
   tables = used_tables found;
-  tree = Ends (leaf_claim found.tree.leaf) }
+  tree = Ends (leaf_claim found.tree.leaf);
+}

@@ -1,6 +1,7 @@
 ghost use Rattle.std.specs.Prelude.{◌≡◌};
 ghost use Rattle.outside.specs.declared.slot.Slot.{Slot};
 ghost use Rattle.outside.specs.declared.slot.Stage.TheVariants.{Unopened as UnopenedStage};
+ghost use Rattle.outside.specs.Slots.{AllUnopened};
 ghost use Rattle.outside.specs.System.{untold_slot};
 
 use crate::count::{counted, counted_write};
@@ -111,7 +112,8 @@ pub type SystemFiles<'a, R> = Devices<SystemFile<'a, R>>;
 
 /// The files of a run on the system, all of them unopened.
 pub fn system_files<'a, R: std::rt::Files>(rt: &'a R) -> SystemFiles<'a, R>
-    ensures { (slot : Slot) → ⟦<Devices<SystemFile<'a, R>> as Files>⟧.state result slot ≡ untold_slot UnopenedStage 0 }
+    ensures unopened { AllUnopened (⟦<Devices<SystemFile<'a, R>> as Files>⟧.state result) }
+    ensures faults { (slot : Slot) → (⟦<Devices<SystemFile<'a, R>> as Files>⟧.state result slot).faults ≡ 0 }
 {
     Devices::new(
         SystemFile::new(rt, Access::Read),
