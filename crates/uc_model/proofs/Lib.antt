@@ -1,5 +1,11 @@
+pub mod DecimalText
+pub mod MoneyText
+pub mod Quotients
 pub mod Ring
 pub mod Sums
 pub mod Tests
+pub mod PatternBits
 pub mod Obeyed
 pub mod StartCosts
+pub mod MinimumTimes
+pub mod CostBound

@@ -45,8 +45,8 @@ production_parts q unit row t h =
           ⊎_elim
           (λ (on : IsTrue (row.on t)). absurd (true≢false (sym on ∙ off)))
           (λ (both : IsTrue (int_eq (p_at unit row t) (pos 0) && int_eq (row.reserve t) (pos 0))).
-            let parts = and_parts _ _ both in
-            (int_eq-true _ _ parts.0, int_eq-true _ _ parts.1))
+          let parts = and_parts _ _ both in
+          (int_eq-true _ _ parts.0, int_eq-true _ _ parts.1))
           (or_cases (row.on t) _ p3.1);
     }
 
@@ -87,16 +87,16 @@ cap-obeying instance q x g t obeys hg ht lawful =
     let made = production_parts q unit row t (rule_at instance q x obeys Production g t hg ht) in
     let p_low = p_at_nonneg unit lawful row t in
     let started : pos 0 ≤ℤ start_cap unit row.on t =
-        cap_nonneg q _ _ _ obeys.denominator p_low made.reserve (int_le-true _ _ (rule_at instance q x obeys StartCap g t hg ht))
+    cap_nonneg q _ _ _ obeys.denominator p_low made.reserve (int_le-true _ _ (rule_at instance q x obeys StartCap g t hg ht))
     in
     cond_both (nat_lt (suc t) instance.periods) _ _ (λ c. pos 0 ≤ℤ c)
     (λ before.
-      ⊎_elim
-      (λ (last : IsTrue (not (nat_lt (suc t) instance.periods))).
-        absurd (true≢false (sym last ∙ not_from_true _ before)))
-      (λ (below : IsTrue (int_le (p_at unit row t +ℤ row.reserve t) (pos q *ℤ stop_cap unit row.on t))).
-        min_nonneg _ _ started (cap_nonneg q _ _ _ obeys.denominator p_low made.reserve (int_le-true _ _ below)))
-      (or_cases _ _ (rule_at instance q x obeys StopCap g t hg ht)))
+    ⊎_elim
+    (λ (last : IsTrue (not (nat_lt (suc t) instance.periods))).
+    absurd (true≢false (sym last ∙ not_from_true _ before)))
+    (λ (below : IsTrue (int_le (p_at unit row t +ℤ row.reserve t) (pos q *ℤ stop_cap unit row.on t))).
+    min_nonneg _ _ started (cap_nonneg q _ _ _ obeys.denominator p_low made.reserve (int_le-true _ _ below)))
+    (or_cases _ _ (rule_at instance q x obeys StopCap g t hg ht)))
     (λ last. started)
 
 -- the commitment of a unit in a schedule that obeys is an allowed pattern
@@ -112,10 +112,10 @@ is_allowed-obeying instance q x g some obeys hg lawful =
     each t ht =
         and_from _ _
         (and_from _ _
-          (and_from _ _
-            (and_from _ _
-              (and_from _ _ (rule_at instance q x obeys MustRun g t hg ht) (rule_at instance q x obeys InitialUp g t hg ht))
-              (rule_at instance q x obeys InitialDown g t hg ht))
-            (rule_at instance q x obeys MinimumUp g t hg ht))
-          (rule_at instance q x obeys MinimumDown g t hg ht))
+        (and_from _ _
+        (and_from _ _
+        (and_from _ _ (rule_at instance q x obeys MustRun g t hg ht) (rule_at instance q x obeys InitialUp g t hg ht))
+        (rule_at instance q x obeys InitialDown g t hg ht))
+        (rule_at instance q x obeys MinimumUp g t hg ht))
+        (rule_at instance q x obeys MinimumDown g t hg ht))
         (or_right _ _ (le-int_le _ _ (cap-obeying instance q x g t obeys hg ht lawful)))

@@ -20,14 +20,14 @@ last_stop-after unit on (suc t) k h s =
     ⊎_elim
     (λ (here : IsTrue (stops unit on t)). (t, cond-true _ (Some t) (last_stop unit on t) here, omega arith))
     (λ (other : stops unit on t ≡ false).
-      let earlier : k < t =
-          ⊎_elim
-          (λ (less : k < t). less)
-          (λ (same : k ≡ t). absurd (true≢false (sym s ∙ ap (λ i. stops unit on i) same ∙ other)))
-          (below_or_last t k h)
-      in
-      let found = last_stop-after unit on t k earlier s in
-      (found.0, cond-false _ (Some t) (last_stop unit on t) other ∙ found.1, found.2))
+    let earlier : k < t =
+    ⊎_elim
+    (λ (less : k < t). less)
+    (λ (same : k ≡ t). absurd (true≢false (sym s ∙ ap (λ i. stops unit on i) same ∙ other)))
+    (below_or_last t k h)
+    in
+    let found = last_stop-after unit on t k earlier s in
+    (found.0, cond-false _ (Some t) (last_stop unit on t) other ∙ found.1, found.2))
     (cases_Bool (stops unit on t))
 
 -- a unit doesn't start and stop in one period
@@ -57,16 +57,16 @@ after_stop unit on from lag t start reached h =
 -- a category that M6 allows, and that isn't the last one, is one that the last stop allows
 may_cost-allowed : (unit : Thermal) (on : Commitment) (s t : ℕ) → IsTrue (starts unit on t)
     → IsTrue (cond (nat_le (category_lag unit (suc (suc s))) (suc t))
-        (has_stop_within unit on (category_lag unit (suc s)) (category_lag unit (suc (suc s))) t)
-        (not (is_barred unit.dt0 (category_lag unit (suc (suc s))) t)))
+    (has_stop_within unit on (category_lag unit (suc s)) (category_lag unit (suc (suc s))) t)
+    (not (is_barred unit.dt0 (category_lag unit (suc (suc s))) t)))
     → IsTrue (may_cost_as unit (last_stop unit on t) t s)
 may_cost-allowed unit on s t start h =
     let lag = category_lag unit (suc (suc s)) in
     let from = category_lag unit (suc s) in
     ⊎_elim
     (λ (reached : IsTrue (nat_le lag (suc t))).
-      cond-true _ _ _ reached
-      ∙ after_stop unit on from lag t start (leb-true _ _ reached) (sym (cond-true _ _ _ reached) ∙ h))
+    cond-true _ _ _ reached
+    ∙ after_stop unit on from lag t start (leb-true _ _ reached) (sym (cond-true _ _ _ reached) ∙ h))
     (λ (before : nat_le lag (suc t) ≡ false). cond-false _ _ _ before ∙ sym (cond-false _ _ _ before) ∙ h)
     (cases_Bool (nat_le lag (suc t)))
 
@@ -79,14 +79,14 @@ sigma-le-allowed unit on (suc s) t start h =
     let costs = λ (k : ℕ). category_cost unit (suc k) in
     ⊎_elim
     (λ (final : IsTrue (suc s == category_count unit)).
-      subst (λ k. sigma unit last t ≤ℤ category_cost unit k) (sym (eqb-true _ _ final))
-      (least_below-le-other (category_count unit - 1) (may_cost_as unit last t) costs (category_cost unit (category_count unit))))
+    subst (λ k. sigma unit last t ≤ℤ category_cost unit k) (sym (eqb-true _ _ final))
+    (least_below-le-other (category_count unit - 1) (may_cost_as unit last t) costs (category_cost unit (category_count unit))))
     (λ (rest : IsTrue (nat_lt (suc s) (category_count unit)
-        && cond (nat_le (category_lag unit (suc (suc s))) (suc t))
-            (has_stop_within unit on (category_lag unit (suc s)) (category_lag unit (suc (suc s))) t)
-            (not (is_barred unit.dt0 (category_lag unit (suc (suc s))) t)))).
-      let parts = and_parts _ _ rest in
-      let below : suc s < category_count unit = ltb-true _ _ parts.0 in
-      least_below-le (category_count unit - 1) (may_cost_as unit last t) costs (category_cost unit (category_count unit)) s
-      (omega arith) (may_cost-allowed unit on s t start parts.1))
+    && cond (nat_le (category_lag unit (suc (suc s))) (suc t))
+    (has_stop_within unit on (category_lag unit (suc s)) (category_lag unit (suc (suc s))) t)
+    (not (is_barred unit.dt0 (category_lag unit (suc (suc s))) t)))).
+    let parts = and_parts _ _ rest in
+    let below : suc s < category_count unit = ltb-true _ _ parts.0 in
+    least_below-le (category_count unit - 1) (may_cost_as unit last t) costs (category_cost unit (category_count unit)) s
+    (omega arith) (may_cost-allowed unit on s t start parts.1))
     (or_cases _ _ h)

@@ -90,10 +90,10 @@ least_below-le zero test f other k l h = absurd (omega arith)
 least_below-le (suc n) test f other k l h =
     ⊎_elim
     (λ (less : k < n).
-      le_through _ _ _
-      (step_right (test n) (f n) (least_below n test f other))
-      (least_below-le n test f other k less h))
+    le_through _ _ _
+    (step_right (test n) (f n) (least_below n test f other))
+    (least_below-le n test f other k less h))
     (λ (last : k ≡ n).
-      subst (λ i. least_below (suc n) test f other ≤ℤ f i) (sym last)
-      (step_left (test n) (f n) (least_below n test f other) (subst (λ i. IsTrue (test i)) last h)))
+    subst (λ i. least_below (suc n) test f other ≤ℤ f i) (sym last)
+    (step_left (test n) (f n) (least_below n test f other) (subst (λ i. IsTrue (test i)) last h)))
     (below_or_last n k l)

@@ -4,7 +4,7 @@
 -- and down times, and start-up and shut-down limits), in whole watts.
 --
 -- Periods count from 0 here: the index t is period t + 1 of the model.
-use Rattle.std.specs.Prelude.{ℕ, zero, suc, ◌+◌, ◌-◌, min, Bool, not, ◌&&◌, ◌||◌, nat_lt, ℤ, pos, ◌+ℤ◌, ◌-ℤ◌, ◌*ℤ◌, int_le, if◌then◌else◌}
+use Rattle.std.specs.Prelude.{◌≡◌, ℕ, zero, suc, ◌+◌, ◌-◌, ◌<◌, min, IsTrue, Bool, not, ◌&&◌, ◌||◌, nat_lt, ℤ, pos, ◌+ℤ◌, ◌-ℤ◌, ◌*ℤ◌, int_le, if◌then◌else◌}
 use Rattle.std.specs.Int.{int_min, int_max}
 use Rattle.uc_model.specs.Sums.{sum_below, all_below, bit}
 use Rattle.uc_model.specs.declared.instance.Thermal.{Thermal}
@@ -13,10 +13,14 @@ use Rattle.uc_model.specs.declared.instance.Thermal.{Thermal}
 abbrev pub Commitment : Type 0
 Commitment = ℕ → Bool
 
--- the state in the period before t, u(t-1), which is the initial one before the first
+-- the state in the period before t, which is the initial one before the first
+abbrev pub state_before : Bool → Commitment → ℕ → Bool
+state_before initial on zero = initial
+state_before initial on (suc t) = on t
+
+-- u(t-1)
 abbrev pub was_on : Thermal → Commitment → ℕ → Bool
-was_on unit on zero = unit.on0
-was_on unit on (suc t) = on t
+was_on unit = state_before unit.on0
 
 -- a start in period t, v(t)
 abbrev pub starts : Thermal → Commitment → ℕ → Bool
@@ -92,3 +96,10 @@ is_allowed_at periods unit on t =
 -- an allowed pattern: M1 to M5 and M7 hold, and the cap of each on cell is at least 0
 abbrev pub is_allowed : ℕ → Thermal → Commitment → Bool
 is_allowed periods unit on = initial_stop_holds unit on && all_below periods (is_allowed_at periods unit on)
+
+-- starts and stops as variables of their own, as in the reference model: tied to the state by
+-- u(t) - u(t-1) = v(t) - w(t), with M4 and M5 over them
+pub record KeepsMinimumTimes (initial : Bool) (on up down : Commitment) (periods time_up time_down : ℕ) : Type 0 where
+  pub state : (t : ℕ) → t < periods → bit (on t) -ℤ bit (state_before initial on t) ≡ bit (up t) -ℤ bit (down t)
+  pub minimum_up : (t : ℕ) → t < periods → IsTrue (keeps_minimum_at (min time_up periods) up on t)
+  pub minimum_down : (t : ℕ) → t < periods → IsTrue (keeps_minimum_at (min time_down periods) down (λ k. not (on k)) t)

@@ -1,13 +1,16 @@
 -- Small instances and schedules on which the rules, the start categories and the caps are computed: for
 -- each rule a schedule that breaks this rule and no other, and one that obeys them all. One thermal unit
 -- of 10 to 50 MW and one renewable unit of at most 5 MW.
-use Rattle.std.specs.Prelude.{ℕ, zero, suc, ◌*◌, Bool, true, false, not, List, [], ◌∷◌, ℤ, pos, negsuc, ◌+ℤ◌, ◌*ℤ◌, length, slice_index_or, filter}
-use Rattle.uc_model.specs.Commitment.{Commitment}
-use Rattle.uc_model.specs.Rules.{Rule, MustRun, InitialUp, InitialDown, MinimumUp, MinimumDown, Category, InitialStop, Production, StartCap, StopCap, RampUp, RampDown, RenewableRange, Demand, Reserve, holds}
-use Rattle.uc_model.specs.PrintedSchedule.{printed_schedule, printed_denominator}
+use Rattle.std.specs.Prelude.{ℕ, zero, suc, ◌*◌, Bool, true, false, not, ◌&&◌, ◌||◌, List, [], ◌∷◌, ℤ, pos, negsuc, ◌+ℤ◌, ◌-ℤ◌, ◌*ℤ◌, int_le, length, slice_index_or, filter}
+use Rattle.uc_model.specs.Sums.{bit}
+use Rattle.uc_model.specs.Commitment.{Commitment, was_on, stops, stop_reduction}
+use Rattle.uc_model.specs.Rules.{Rule, MustRun, InitialUp, InitialDown, MinimumUp, MinimumDown, Category, InitialStop, Production, StartCap, StopCap, RampUp, RampDown, RenewableRange, Demand, Reserve, holds, holds_at}
+use Rattle.uc_model.specs.Schedule.{thermal_unit}
+use Rattle.uc_model.specs.PrintedSchedule.{printed_schedule, printed_denominator, printed_cost, cell_at}
 use Rattle.uc_model.specs.declared.instance.Thermal.{Thermal}
 use Rattle.uc_model.specs.declared.instance.Instance.{Instance}
 use Rattle.uc_model.specs.declared.instance.StartRow.{StartRow}
+use Rattle.uc_model.specs.declared.instance.Point.{Point}
 use Rattle.uc_model.specs.declared.schedule.Cell.{Cell}
 use Rattle.uc_model.specs.declared.schedule.Printed.{Printed}
 
@@ -162,3 +165,88 @@ abbrev pub broken_rules : Example → List Rule
 broken_rules e =
     let q = printed_denominator e.instance e.printed in
     filter (λ rule. not (holds rule e.instance q (printed_schedule e.instance e.printed q))) all_rules
+
+-- ---- start categories, caps and costs
+
+-- the commitment whose first periods are these
+abbrev pub pattern : List Bool → Commitment
+pattern bits t = slice_index_or bits t false
+
+-- start rows of these lags and dollars
+abbrev pub start_rows : List (ℕ × ℕ) → List StartRow
+start_rows [] = []
+start_rows (row ∷ rows) = (record { lag = row.0; cost = dollars row.1 }) ∷ start_rows rows
+
+-- off for two hours initially, with a hot start below 4 hours off
+abbrev pub two_category_unit : Thermal
+two_category_unit = record cold_unit { dt0 = 2; startup = start_rows ((1, 50) ∷ (4, 200) ∷ []) }
+
+abbrev pub on_off_on : Commitment
+on_off_on = pattern (true ∷ false ∷ true ∷ [])
+
+-- on initially, with a second category that is cheaper than the first
+abbrev pub uneven_unit : Thermal
+uneven_unit = record base_unit { startup = start_rows ((1, 50) ∷ (3, 10) ∷ (5, 100) ∷ []) }
+
+-- a stop in the fifth period alone, and stops in the third and in the fifth
+abbrev pub one_stop : Commitment
+one_stop = pattern (true ∷ true ∷ true ∷ true ∷ false ∷ true ∷ [])
+
+abbrev pub two_stops : Commitment
+two_stops = pattern (true ∷ true ∷ false ∷ true ∷ false ∷ true ∷ [])
+
+-- off initially, and too weak a start for its minimum: a start-up limit of 5 MW
+abbrev pub weak_start_unit : Thermal
+weak_start_unit = record cold_unit { su = mw 5 }
+
+-- 5 MW above the minimum and a stop, where the shut-down limit allows 10 MW
+abbrev pub stopping : Example
+stopping = record {
+  instance = system (record base_unit { sd = mw 20 }) (mw 15 ∷ mw 0 ∷ []) (mw 0 ∷ mw 0 ∷ []);
+  printed = cells (on 5 0 0 ∷ off ∷ []);
+}
+
+abbrev pub printed_cost_of : Example → ℤ
+printed_cost_of e = printed_cost e.instance e.printed
+
+-- points of these outputs and dollars
+abbrev pub points : List (ℕ × ℤ) → List Point
+points [] = []
+points (pair ∷ pairs) = (record { mw = pos pair.0; cost = pair.1 }) ∷ points pairs
+
+-- its middle point lies above the line between the others
+abbrev pub bent_unit : Thermal
+bent_unit = record base_unit {
+  points = points ((0, dollars 0) ∷ (10000000, dollars 100) ∷ (20000000, dollars 120) ∷ []);
+}
+
+-- 3 W at a micro-dollar more, and at one less
+abbrev pub rising_unit : Thermal
+rising_unit = record base_unit { points = points ((0, pos 0) ∷ (3, pos 1) ∷ []) }
+
+abbrev pub falling_unit : Thermal
+falling_unit = record base_unit { points = points ((0, pos 0) ∷ (3, negsuc 0) ∷ []) }
+
+-- ---- rules that are often written otherwise
+
+-- what an example's rule says of its thermal unit in a period
+abbrev pub rule_at_period : Example → Rule → ℕ → Bool
+rule_at_period e rule =
+    let q = printed_denominator e.instance e.printed in
+    holds_at rule e.instance q (printed_schedule e.instance e.printed q) 0
+
+-- M12 only between two on periods
+abbrev pub ramp_down_between_on_periods : Example → ℕ → Bool
+ramp_down_between_on_periods e t =
+    let unit = thermal_unit e.instance 0 in
+    let commitment = λ (k : ℕ). (cell_at e.printed 0 k).on in
+    not (was_on unit commitment t && commitment t) || rule_at_period e RampDown t
+
+-- M10's right side with the stop of the same period in place of the next one's
+abbrev pub stop_cap_in_stop_period : Example → ℕ → Bool
+stop_cap_in_stop_period e t =
+    let unit = thermal_unit e.instance 0 in
+    let commitment = λ (k : ℕ). (cell_at e.printed 0 k).on in
+    let cell = cell_at e.printed 0 t in
+    int_le (cell.p +ℤ cell.r)
+    ((unit.pmax -ℤ unit.pmin) *ℤ bit (commitment t) -ℤ stop_reduction unit *ℤ bit (stops unit commitment t))

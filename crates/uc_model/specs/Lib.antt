@@ -1,5 +1,9 @@
+pub mod Decimal
+pub mod Division
+pub mod Money
 pub mod Sums
 pub mod Commitment
+pub mod PatternBits
 pub mod StartCategory
 pub mod Schedule
 pub mod Rules
@@ -8,3 +12,4 @@ pub mod Hull
 pub mod PrintedSchedule
 pub mod Limits
 pub mod Examples
+pub mod Tolerance

@@ -1,11 +1,53 @@
 //! Worked examples of the definitions, as contracts: the check computes each of them.
 
-ghost use Rattle.std.specs.Prelude.{◌≡◌, List, [], ◌∷◌};
-ghost use Rattle.uc_model.specs.Rules.{Rule};
-ghost use Rattle.uc_model.specs.Examples.{obeying, breaking, broken_rules};
+ghost use Rattle.std.specs.Prelude.{◌≡◌, List, [], ◌∷◌, true, false, Some, pos, neg_ℤ};
+ghost use Rattle.uc_model.specs.Sums.{all_below};
+ghost use Rattle.uc_model.specs.Commitment.{cap};
+ghost use Rattle.uc_model.specs.StartCategory.{is_category_allowed, sigma};
+ghost use Rattle.uc_model.specs.Rules.{Rule, RampDown, StopCap};
+ghost use Rattle.uc_model.specs.Hull.{segment_at, hull_cost};
+ghost use Rattle.uc_model.specs.Examples.{mw, dollars, obeying, breaking, broken_rules, two_category_unit, on_off_on, uneven_unit, one_stop, two_stops, weak_start_unit, pattern, stopping, printed_cost_of, bent_unit, rising_unit, falling_unit, rule_at_period, ramp_down_between_on_periods, stop_cap_in_stop_period};
 
 /// For each rule there is a schedule that breaks it and no other rule, and there is one that obeys all.
 pub fn each_rule_is_told_apart()
     ensures obeying { broken_rules obeying ≡ [] }
     ensures breaking { (rule : Rule) → broken_rules (breaking rule) ≡ rule ∷ [] }
+{}
+
+/// Start categories by the stops and by the initial time off, and the least start cost by the last stop.
+pub fn start_categories_by_example()
+    // off for two hours initially: a start in the first period may be hot, one in the third is barred from it
+    ensures hot { is_category_allowed two_category_unit on_off_on 1 0 ≡ true }
+    ensures barred { is_category_allowed two_category_unit on_off_on 1 2 ≡ false }
+    ensures cold { is_category_allowed two_category_unit on_off_on 2 2 ≡ true }
+    ensures cold_cost { sigma two_category_unit (Some 1) 2 ≡ dollars 200 }
+
+    // a start in the sixth period: the cheap second category wants a stop in the second or third
+    ensures without_stop { is_category_allowed uneven_unit one_stop 2 5 ≡ false }
+    ensures with_stop { is_category_allowed uneven_unit two_stops 2 5 ≡ true }
+    ensures first { is_category_allowed uneven_unit one_stop 1 5 ≡ true }
+    ensures least { sigma uneven_unit (Some 4) 5 ≡ dollars 10 }
+{}
+
+/// A cap below 0, and the hull's value and segment where the points aren't convex or the value isn't whole.
+pub fn caps_and_hulls_by_example()
+    ensures cap { cap 1 weak_start_unit (pattern (true ∷ [])) 0 ≡ neg_ℤ (mw 5) }
+    ensures bent { hull_cost bent_unit (mw 10) ≡ dollars 60 }
+    ensures segment { segment_at bent_unit (mw 10) ≡ Some (record { left = 0; right = 2 }) }
+    ensures rounded_up { hull_cost rising_unit (pos 1) ≡ pos 1 }
+    ensures rounded_to_zero { hull_cost falling_unit (pos 2) ≡ pos 0 }
+{}
+
+/// Ramps hold in the hour of a stop too, and the shut-down limit counts in the hour before it.
+pub fn stops_by_example()
+    ensures obeys { broken_rules stopping ≡ [] }
+    ensures cost { printed_cost_of stopping ≡ dollars 150 }
+    ensures stop_hour { rule_at_period (breaking RampDown) RampDown 1 ≡ false }
+    ensures hour_before { rule_at_period (breaking RampDown) RampDown 0 ≡ true }
+
+    // a test of ramps between on periods alone would pass the first of these schedules, and a shut-down
+    // limit in the hour of the stop would refuse the second
+    ensures between_on_periods { all_below 2 (ramp_down_between_on_periods (breaking RampDown)) ≡ true }
+    ensures in_stop_period { stop_cap_in_stop_period stopping 1 ≡ false }
+    ensures before_stop { rule_at_period stopping StopCap 0 ≡ true }
 {}

@@ -1,16 +1,33 @@
 //! The unit commitment model: instances, schedules, the rules M1 to M15, costs and the lower hull,
-//! and the arithmetic on whole numbers that every crate above uses.
+//! and the arithmetic on whole numbers and the texts of money that every crate above uses.
 //!
 //! Power is whole watts and money whole micro-dollars.
 #![tactic(auto)]
 
+pub mod division;
 pub mod examples;
+pub mod field;
 pub mod instance;
+pub mod laws;
+pub mod limits;
 pub mod list;
 pub mod memory;
+pub mod money;
+pub mod pattern;
+pub mod refusal;
 pub mod schedule;
+pub mod stuck;
+pub mod terms;
+pub mod tolerance;
 
+pub use division::{ceil_div, floor_div};
+pub use field::Field;
 pub use instance::{Instance, Point, Renewable, StartRow, Thermal};
 pub use list::{List, Name};
 pub use memory::NoMemory;
-pub use schedule::{Cell, Pattern, Printed};
+pub use money::{write_money, write_mw};
+pub use pattern::Pattern;
+pub use refusal::Refusal;
+pub use schedule::{Cell, Printed};
+pub use stuck::{Stuck, Why};
+pub use terms::Terms;
