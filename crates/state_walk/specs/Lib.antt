@@ -1,0 +1,4 @@
+pub mod UnitTerms
+pub mod PatternValue
+pub mod Moves
+pub mod Onward
