@@ -1,9 +1,8 @@
 -- What agreement with a node says of each unit.
-use Rattle.std.proofs.Common.{◌≡◌, ℕ, ◌<◌, List, [], ◌∷◌, Bool, true, false, not, ◌||◌, ◌&&◌, ◌==◌, refl, sym, ap, subst, ◌∙◌, ⊎_elim, ◌≤◌}
+use Rattle.std.proofs.Common.{◌≡◌, ℕ, ◌<◌, List, [], ◌∷◌, false, not, ◌==◌, refl, ap, subst, ⊎_elim, ◌≤◌}
 use Rattle.std.specs.Prelude.{IsTrue}
 use Rattle.std.specs.List.{list_all}
 use Rattle.std.proofs.lemmas.Bool.{and_parts, and_from, or_left, or_right, cases_Bool, eqb-true}
-use Rattle.uc_model.specs.Commitment.{Commitment}
 use Rattle.uc_model.specs.Schedule.{Schedule, thermal_unit, thermal_count}
 use Rattle.uc_model.specs.Rules.{Obeys}
 use Rattle.uc_model.specs.Limits.{IsLawfulThermal}
@@ -17,8 +16,8 @@ kept_by_unit : (x : Schedule) (g : ℕ) (fixing : Fixing) → IsTrue (keeps fixi
     → IsTrue (keeps_of g (x.thermal g).on fixing)
 kept_by_unit x g fixing kept = ⊎_elim
     (λ (own : IsTrue (fixing.g == g)).
-      or_right (not (fixing.g == g)) (keeps fixing (x.thermal g).on)
-      (subst (λ k. IsTrue (keeps fixing (x.thermal k).on)) (eqb-true fixing.g g own) kept))
+    or_right (not (fixing.g == g)) (keeps fixing (x.thermal g).on)
+    (subst (λ k. IsTrue (keeps fixing (x.thermal k).on)) (eqb-true fixing.g g own) kept))
     (λ (other : (fixing.g == g) ≡ false). or_left (not (fixing.g == g)) (keeps fixing (x.thermal g).on) (ap not other))
     (cases_Bool (fixing.g == g))
 

@@ -1,9 +1,8 @@
 -- Weak duality: q times the value of a node is at most K times the cost, for each schedule that obeys over q and agrees
 -- with the node.
-use Rattle.std.proofs.Common.{◌≡◌, ℕ, zero, suc, ◌<◌, ◌≤◌, length, refl, sym, ap, subst, ◌∙◌, arith, ℤ, pos, ◌+ℤ◌, ◌-ℤ◌, ◌*ℤ◌, neg_ℤ, ◌≤ℤ◌}
-use Rattle.std.specs.Prelude.{IsTrue}
+use Rattle.std.proofs.Common.{ℕ, ◌<◌, ◌≤◌, length, refl, ap, arith, ℤ, pos, ◌+ℤ◌, ◌-ℤ◌, ◌*ℤ◌, ◌≤ℤ◌}
 use Rattle.uc_model.specs.Sums.{sum_below, bit}
-use Rattle.uc_model.specs.Commitment.{Commitment, initial_p}
+use Rattle.uc_model.specs.Commitment.{initial_p}
 use Rattle.uc_model.specs.Schedule.{Schedule, thermal_unit, thermal_count, renewable_count, demand_at, reserve_at, p_at, p_before}
 use Rattle.uc_model.specs.Cost.{cell_cost, unit_cost, cost}
 use Rattle.uc_model.specs.Rules.{RampUp, RampDown, RenewableRange, Demand, Reserve, Obeys, thermal_output}
@@ -13,7 +12,7 @@ use Rattle.uc_model.proofs.Tests.{int_le-true, int_eq-true}
 use Rattle.uc_model.proofs.Obeyed.{rule_at}
 use Rattle.dual_model.specs.Prices.{pi_at, mu_at, up_at, down_at, HasSizeOf, HasLawfulSigns}
 use Rattle.dual_model.specs.Fixings.{IsPatternAt}
-use Rattle.dual_model.specs.UnitValue.{period_value, IsPatternValue, IsUnitValue}
+use Rattle.dual_model.specs.UnitValue.{period_value, IsPatternValue}
 use Rattle.dual_model.specs.NodeValue.{unit_constant, renewable_value, IsNodeValue}
 use Rattle.dual_model.specs.declared.node.Node.{Node}
 use Rattle.dual_model.specs.declared.table.Table.{Table}
@@ -25,15 +24,15 @@ use Rattle.dual_model.proofs.PricedRules.{period_priced, renewable_priced}
 unit_bound : (instance : Instance) (q : ℕ) (x : Schedule) (table : Table) (g : ℕ) (w : ℤ) → Obeys instance q x → HasSizeOf instance table
     → HasLawfulSigns table → g < thermal_count instance → IsPatternValue instance table g (x.thermal g).on w
     → (pos q *ℤ (w +ℤ unit_constant instance.periods table (thermal_unit instance g) g))
-      ≤ℤ (table.k *ℤ unit_cost instance.periods q (thermal_unit instance g) (x.thermal g)
-        -ℤ sum_below instance.periods (λ t. pi_at table t *ℤ thermal_output instance q x g t +ℤ mu_at table t *ℤ (x.thermal g).reserve t))
+    ≤ℤ (table.k *ℤ unit_cost instance.periods q (thermal_unit instance g) (x.thermal g)
+    -ℤ sum_below instance.periods (λ t. pi_at table t *ℤ thermal_output instance q x g t +ℤ mu_at table t *ℤ (x.thermal g).reserve t))
 unit_bound instance q x table g w obeys size signs hg value =
     let unit = thermal_unit instance g in
     let row = x.thermal g in
     let ends : length table.pi ≤ instance.periods = omega (arith, size.periods) in
     let bound = unit_priced instance.periods (pos q) unit.ru unit.rd (initial_p unit) table.k (up_at table g) (down_at table g)
-        (pi_at table) (mu_at table) (p_at unit row) row.reserve (p_before q unit row) (λ t. pos q *ℤ unit.pmin *ℤ bit (row.on t))
-        (cell_cost q unit row) (period_value table unit row.on value.term) (record {
+    (pi_at table) (mu_at table) (p_at unit row) row.reserve (p_before q unit row) (λ t. pos q *ℤ unit.pmin *ℤ bit (row.on t))
+    (cell_cost q unit row) (period_value table unit row.on value.term) (record {
       up_sign = λ t. (signed_at table signs g t).up;
       down_sign = λ t. (signed_at table signs g t).down;
       up_end = up_at_past table table.units (length table.pi) g instance.periods size.form.rows ends;
@@ -56,8 +55,8 @@ pub bound_from : (instance : Instance) (node : Node) (q : ℕ) (x : Schedule) (t
 bound_from instance node q x table v obeys size signs is_value patterns values =
     let constant = λ (g : ℕ). unit_constant instance.periods table (thermal_unit instance g) g in
     let bound = bound_priced instance.periods (thermal_count instance) (renewable_count instance) (pos q) table.k (pi_at table) (mu_at table)
-        (demand_at instance) (reserve_at instance) (thermal_output instance q x) (λ g. (x.thermal g).reserve) x.output (renewable_value instance table)
-        (λ g. is_value.unit_value g +ℤ constant g) (λ g. unit_cost instance.periods q (thermal_unit instance g) (x.thermal g)) (record {
+    (demand_at instance) (reserve_at instance) (thermal_output instance q x) (λ g. (x.thermal g).reserve) x.output (renewable_value instance table)
+    (λ g. is_value.unit_value g +ℤ constant g) (λ g. unit_cost instance.periods q (thermal_unit instance g) (x.thermal g)) (record {
       mu_sign = mu_at_nonneg table signs;
       demand_met = λ t ht. int_eq-true _ _ (rule_at instance q x obeys Demand 0 t (omega arith) ht);
       reserve_met = λ t ht. int_le-true _ _ (rule_at instance q x obeys Reserve 0 t (omega arith) ht);
@@ -69,13 +68,13 @@ bound_from instance node q x table v obeys size signs is_value patterns values =
   where
     each : (g : ℕ) → g < thermal_count instance
         → (pos q *ℤ (is_value.unit_value g +ℤ unit_constant instance.periods table (thermal_unit instance g) g))
-          ≤ℤ (table.k *ℤ unit_cost instance.periods q (thermal_unit instance g) (x.thermal g)
-            -ℤ sum_below instance.periods (λ t. pi_at table t *ℤ thermal_output instance q x g t +ℤ mu_at table t *ℤ (x.thermal g).reserve t))
+        ≤ℤ (table.k *ℤ unit_cost instance.periods q (thermal_unit instance g) (x.thermal g)
+        -ℤ sum_below instance.periods (λ t. pi_at table t *ℤ thermal_output instance q x g t +ℤ mu_at table t *ℤ (x.thermal g).reserve t))
     each g hg =
         let own = values g hg in
         let least = (is_value.units g hg).best.least (x.thermal g).on own.0 (patterns g hg) own.1 in
         let shifted : (is_value.unit_value g +ℤ unit_constant instance.periods table (thermal_unit instance g) g)
-            ≤ℤ (own.0 +ℤ unit_constant instance.periods table (thermal_unit instance g) g) = omega (arith, linear) in
+        ≤ℤ (own.0 +ℤ unit_constant instance.periods table (thermal_unit instance g) g) = omega (arith, linear) in
         let below = scale-le-scale q _ _ shifted in
         let bound = unit_bound instance q x table g own.0 obeys size signs hg own.1 in
         omega (arith, linear)

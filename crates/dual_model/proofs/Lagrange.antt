@@ -1,8 +1,8 @@
 -- The Lagrangian bound over plain functions of periods, units and renewable units: each priced rule, times its
 -- multiplier, is added to the cost, and the sums are regrouped by unit and period.
-use Rattle.std.proofs.Common.{◌≡◌, ℕ, zero, suc, ◌<◌, refl, sym, ap, subst, ◌∙◌, arith, ℤ, pos, ◌+ℤ◌, ◌-ℤ◌, ◌*ℤ◌, neg_ℤ, ◌≤ℤ◌}
+use Rattle.std.proofs.Common.{◌≡◌, ℕ, zero, suc, ◌<◌, sym, ap, ◌∙◌, arith, ℤ, pos, ◌+ℤ◌, ◌-ℤ◌, ◌*ℤ◌, neg_ℤ, ◌≤ℤ◌}
 use Rattle.uc_model.specs.Sums.{sum_below}
-use Rattle.uc_model.proofs.Ring.{linear, spread, le_trans, le_of_eq, mul-le-mul_left, mul_left_comm, mul_comm, mul-add, mul-neg, zero-mul}
+use Rattle.uc_model.proofs.Ring.{linear, spread, mul-le-mul_left, mul_left_comm, mul-add, mul-neg, zero-mul}
 use Rattle.uc_model.proofs.Sums.{sum_below-le, sum_below-add, sum_below-sub, sum_below-neg, sum_below-mul_left, sum_below-same, sum_below-swap}
 
 -- ---- one unit
@@ -46,14 +46,14 @@ pub record Priced (n : ℕ) (q ru rd p0 k : ℤ) (up down pi mu p r before least
 constant_priced : (n : ℕ) (q ru rd p0 k : ℤ) (up down pi mu p r before least cost value : ℕ → ℤ)
     → Priced n q ru rd p0 k up down pi mu p r before least cost value
     → (q *ℤ (sum_below n (λ t. neg_ℤ (up t *ℤ ru) -ℤ down t *ℤ rd) +ℤ (down 0 -ℤ up 0) *ℤ p0))
-      ≤ℤ sum_below n (λ t. (up (suc t) -ℤ down (suc t)) *ℤ p t +ℤ (down t *ℤ p t -ℤ up t *ℤ p t -ℤ up t *ℤ r t))
+    ≤ℤ sum_below n (λ t. (up (suc t) -ℤ down (suc t)) *ℤ p t +ℤ (down t *ℤ p t -ℤ up t *ℤ p t -ℤ up t *ℤ r t))
 constant_priced n q ru rd p0 k up down pi mu p r before least cost value h =
     let rules = λ (t : ℕ). neg_ℤ (up t *ℤ ru) -ℤ down t *ℤ rd in
     let rest = λ (t : ℕ). down t *ℤ p t -ℤ up t *ℤ p t -ℤ up t *ℤ r t in
     let turned = λ (t : ℕ). (up t -ℤ down t) *ℤ before t +ℤ rest t in
     let each : sum_below n (λ t. q *ℤ rules t) ≤ℤ sum_below n turned =
-        sum_below-le n (λ t. q *ℤ rules t) turned
-        (λ t l. regrouped t (ramp_priced q (up t) (down t) ru rd (p t) (r t) (before t) (h.up_sign t) (h.down_sign t) (h.rise t l) (h.fall t l))) in
+    sum_below-le n (λ t. q *ℤ rules t) turned
+    (λ t l. regrouped t (ramp_priced q (up t) (down t) ru rd (p t) (r t) (before t) (h.up_sign t) (h.down_sign t) (h.rise t l) (h.fall t l))) in
     let scaled = sum_below-mul_left n q rules in
     let parted = sum_below-add n (λ t. (up t -ℤ down t) *ℤ before t) rest in
     let moved = shifted n (λ t. up t -ℤ down t) p before h.next in
@@ -66,10 +66,12 @@ constant_priced n q ru rd p0 k up down pi mu p r before least cost value h =
     regrouped : (t : ℕ)
         → (q *ℤ (neg_ℤ (up t *ℤ ru) -ℤ down t *ℤ rd)) ≤ℤ ((up t -ℤ down t) *ℤ before t -ℤ up t *ℤ p t -ℤ up t *ℤ r t +ℤ down t *ℤ p t)
         → (q *ℤ (neg_ℤ (up t *ℤ ru) -ℤ down t *ℤ rd))
-          ≤ℤ ((up t -ℤ down t) *ℤ before t +ℤ (down t *ℤ p t -ℤ up t *ℤ p t -ℤ up t *ℤ r t))
+        ≤ℤ ((up t -ℤ down t) *ℤ before t +ℤ (down t *ℤ p t -ℤ up t *ℤ p t -ℤ up t *ℤ r t))
     regrouped t g = omega (arith, linear)
+
     ends : (u d b : ℤ) → u ≡ pos 0 → d ≡ pos 0 → (u -ℤ d) *ℤ b ≡ pos 0
     ends u d b eu ed = let none : u -ℤ d ≡ pos 0 = omega (arith, linear) in ap (λ x. x *ℤ b) none ∙ zero-mul b
+
     begins : (u d b q p0 : ℤ) → b ≡ q *ℤ p0 → (u -ℤ d) *ℤ b ≡ neg_ℤ (q *ℤ ((d -ℤ u) *ℤ p0))
     begins u d b q p0 e =
         ap (λ x. (u -ℤ d) *ℤ x) e ∙ mul_left_comm (u -ℤ d) q p0
@@ -80,14 +82,14 @@ constant_priced n q ru rd p0 k up down pi mu p r before least cost value h =
 pub unit_priced : (n : ℕ) (q ru rd p0 k : ℤ) (up down pi mu p r before least cost value : ℕ → ℤ)
     → Priced n q ru rd p0 k up down pi mu p r before least cost value
     → (q *ℤ (sum_below n value +ℤ (sum_below n (λ t. neg_ℤ (up t *ℤ ru) -ℤ down t *ℤ rd) +ℤ (down 0 -ℤ up 0) *ℤ p0)))
-      ≤ℤ (k *ℤ sum_below n cost -ℤ sum_below n (λ t. pi t *ℤ (p t +ℤ least t) +ℤ mu t *ℤ r t))
+    ≤ℤ (k *ℤ sum_below n cost -ℤ sum_below n (λ t. pi t *ℤ (p t +ℤ least t) +ℤ mu t *ℤ r t))
 unit_priced n q ru rd p0 k up down pi mu p r before least cost value h =
     let own = λ (t : ℕ). (up (suc t) -ℤ down (suc t)) *ℤ p t +ℤ (down t *ℤ p t -ℤ up t *ℤ p t -ℤ up t *ℤ r t) in
     let paid = λ (t : ℕ). pi t *ℤ (p t +ℤ least t) +ℤ mu t *ℤ r t in
     let constant = constant_priced n q ru rd p0 k up down pi mu p r before least cost value h in
     let each : sum_below n (λ t. q *ℤ value t +ℤ own t) ≤ℤ sum_below n (λ t. k *ℤ cost t -ℤ paid t) =
-        sum_below-le n (λ t. q *ℤ value t +ℤ own t) (λ t. k *ℤ cost t -ℤ paid t)
-        (λ t l. regrouped (up t) (up (suc t)) (down t) (down (suc t)) (pi t) (mu t) (p t) (r t) (least t) (q *ℤ value t) (k *ℤ cost t) (h.period t l)) in
+    sum_below-le n (λ t. q *ℤ value t +ℤ own t) (λ t. k *ℤ cost t -ℤ paid t)
+    (λ t l. regrouped (up t) (up (suc t)) (down t) (down (suc t)) (pi t) (mu t) (p t) (r t) (least t) (q *ℤ value t) (k *ℤ cost t) (h.period t l)) in
     let left = sum_below-add n (λ t. q *ℤ value t) own in
     let scaled = sum_below-mul_left n q value in
     let right = sum_below-sub n (λ t. k *ℤ cost t) paid in
@@ -125,16 +127,16 @@ factored n units pi f =
 system_priced : (n units renewables : ℕ) (q k : ℤ) (pi mu demand reserve : ℕ → ℤ) (thermal held output worth : ℕ → ℕ → ℤ) (value cost : ℕ → ℤ)
     → Balanced n units renewables q k pi mu demand reserve thermal held output worth value cost
     → (q *ℤ sum_below n (λ t. pi t *ℤ demand t +ℤ mu t *ℤ reserve t))
-      ≤ℤ (sum_below units (λ g. sum_below n (λ t. pi t *ℤ thermal g t +ℤ mu t *ℤ held g t))
-        +ℤ sum_below renewables (λ w. sum_below n (λ t. pi t *ℤ output w t)))
+    ≤ℤ (sum_below units (λ g. sum_below n (λ t. pi t *ℤ thermal g t +ℤ mu t *ℤ held g t))
+    +ℤ sum_below renewables (λ w. sum_below n (λ t. pi t *ℤ output w t)))
 system_priced n units renewables q k pi mu demand reserve thermal held output worth value cost h =
     let needed = λ (t : ℕ). pi t *ℤ demand t +ℤ mu t *ℤ reserve t in
     let from_units = λ (t : ℕ). pi t *ℤ sum_below units (λ g. thermal g t) in
     let from_held = λ (t : ℕ). mu t *ℤ sum_below units (λ g. held g t) in
     let from_renewables = λ (t : ℕ). pi t *ℤ sum_below renewables (λ w. output w t) in
     let each : sum_below n (λ t. q *ℤ needed t) ≤ℤ sum_below n (λ t. from_units t +ℤ from_held t +ℤ from_renewables t) =
-        sum_below-le n (λ t. q *ℤ needed t) (λ t. from_units t +ℤ from_held t +ℤ from_renewables t)
-        (λ t l. period (pi t) (mu t) (demand t) (reserve t) _ _ _ (h.mu_sign t) (h.demand_met t l) (h.reserve_met t l)) in
+    sum_below-le n (λ t. q *ℤ needed t) (λ t. from_units t +ℤ from_held t +ℤ from_renewables t)
+    (λ t l. period (pi t) (mu t) (demand t) (reserve t) _ _ _ (h.mu_sign t) (h.demand_met t l) (h.reserve_met t l)) in
     let scaled = sum_below-mul_left n q needed in
     let outer = sum_below-add n (λ t. from_units t +ℤ from_held t) from_renewables in
     let inner = sum_below-add n from_units from_held in
@@ -143,15 +145,15 @@ system_priced n units renewables q k pi mu demand reserve thermal held output wo
     let renewables_first = factored n renewables pi output in
     let joined = sum_below-add units (λ g. sum_below n (λ t. pi t *ℤ thermal g t)) (λ g. sum_below n (λ t. mu t *ℤ held g t)) in
     let inside : sum_below units (λ g. sum_below n (λ t. pi t *ℤ thermal g t +ℤ mu t *ℤ held g t))
-        ≡ sum_below units (λ g. sum_below n (λ t. pi t *ℤ thermal g t) +ℤ sum_below n (λ t. mu t *ℤ held g t)) =
-        sum_below-same units _ _ (λ g l. sum_below-add n (λ t. pi t *ℤ thermal g t) (λ t. mu t *ℤ held g t)) in
+    ≡ sum_below units (λ g. sum_below n (λ t. pi t *ℤ thermal g t) +ℤ sum_below n (λ t. mu t *ℤ held g t)) =
+    sum_below-same units _ _ (λ g l. sum_below-add n (λ t. pi t *ℤ thermal g t) (λ t. mu t *ℤ held g t)) in
     omega (arith, linear)
   where
     period : (pi mu d r s held o : ℤ) → pos 0 ≤ℤ mu → s +ℤ o ≡ q *ℤ d → (q *ℤ r) ≤ℤ held
         → (q *ℤ (pi *ℤ d +ℤ mu *ℤ r)) ≤ℤ (pi *ℤ s +ℤ mu *ℤ held +ℤ pi *ℤ o)
     period pi mu d r s held o sign met enough =
         let priced_demand : pi *ℤ s +ℤ pi *ℤ o ≡ q *ℤ (pi *ℤ d) =
-            sym (mul-add pi s o) ∙ ap (λ x. pi *ℤ x) met ∙ mul_left_comm pi q d in
+        sym (mul-add pi s o) ∙ ap (λ x. pi *ℤ x) met ∙ mul_left_comm pi q d in
         let priced_reserve = mul-le-mul_left mu _ _ sign enough in
         let order = mul_left_comm mu q r in
         let spread_out = mul-add q (pi *ℤ d) (mu *ℤ r) in
@@ -161,20 +163,20 @@ system_priced n units renewables q k pi mu demand reserve thermal held output wo
 pub bound_priced : (n units renewables : ℕ) (q k : ℤ) (pi mu demand reserve : ℕ → ℤ) (thermal held output worth : ℕ → ℕ → ℤ) (value cost : ℕ → ℤ)
     → Balanced n units renewables q k pi mu demand reserve thermal held output worth value cost
     → (q *ℤ (sum_below n (λ t. pi t *ℤ demand t +ℤ mu t *ℤ reserve t) +ℤ sum_below units value
-        +ℤ sum_below renewables (λ w. sum_below n (worth w))))
-      ≤ℤ (k *ℤ sum_below units cost)
+    +ℤ sum_below renewables (λ w. sum_below n (worth w))))
+    ≤ℤ (k *ℤ sum_below units cost)
 bound_priced n units renewables q k pi mu demand reserve thermal held output worth value cost h =
     let paid = λ (g : ℕ). sum_below n (λ t. pi t *ℤ thermal g t +ℤ mu t *ℤ held g t) in
     let sold = λ (w : ℕ). sum_below n (λ t. pi t *ℤ output w t) in
     let needed = sum_below n (λ t. pi t *ℤ demand t +ℤ mu t *ℤ reserve t) in
     let system = system_priced n units renewables q k pi mu demand reserve thermal held output worth value cost h in
     let each_unit : sum_below units (λ g. q *ℤ value g) ≤ℤ sum_below units (λ g. k *ℤ cost g -ℤ paid g) =
-        sum_below-le units (λ g. q *ℤ value g) (λ g. k *ℤ cost g -ℤ paid g) h.unit in
+    sum_below-le units (λ g. q *ℤ value g) (λ g. k *ℤ cost g -ℤ paid g) h.unit in
     let units_scaled = sum_below-mul_left units q value in
     let units_parted = sum_below-sub units (λ g. k *ℤ cost g) paid in
     let costs = sum_below-mul_left units k cost in
     let each_renewable : sum_below renewables (λ w. q *ℤ sum_below n (worth w)) ≤ℤ sum_below renewables (λ w. neg_ℤ (sold w)) =
-        sum_below-le renewables (λ w. q *ℤ sum_below n (worth w)) (λ w. neg_ℤ (sold w)) (λ w l. row w l) in
+    sum_below-le renewables (λ w. q *ℤ sum_below n (worth w)) (λ w. neg_ℤ (sold w)) (λ w l. row w l) in
     let renewables_scaled = sum_below-mul_left renewables q (λ w. sum_below n (worth w)) in
     let renewables_parted = sum_below-neg renewables sold in
     let outer = mul-add q (needed +ℤ sum_below units value) (sum_below renewables (λ w. sum_below n (worth w))) in
@@ -184,7 +186,7 @@ bound_priced n units renewables q k pi mu demand reserve thermal held output wor
     row : (w : ℕ) → w < renewables → (q *ℤ sum_below n (worth w)) ≤ℤ neg_ℤ (sum_below n (λ t. pi t *ℤ output w t))
     row w l =
         let each : sum_below n (λ t. q *ℤ worth w t) ≤ℤ sum_below n (λ t. neg_ℤ (pi t *ℤ output w t)) =
-            sum_below-le n (λ t. q *ℤ worth w t) (λ t. neg_ℤ (pi t *ℤ output w t)) (λ t m. h.renewable w t l m) in
+        sum_below-le n (λ t. q *ℤ worth w t) (λ t. neg_ℤ (pi t *ℤ output w t)) (λ t m. h.renewable w t l m) in
         let scaled = sum_below-mul_left n q (worth w) in
         let parted = sum_below-neg n (λ t. pi t *ℤ output w t) in
         omega (arith, linear)

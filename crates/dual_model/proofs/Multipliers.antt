@@ -1,9 +1,9 @@
 -- The look-ups of a table: its multipliers keep the signs of its lists, and are 0 past the last period.
-use Rattle.std.proofs.Common.{◌≡◌, ℕ, zero, suc, ◌<◌, ◌≤◌, List, [], ◌∷◌, length, Bool, refl, sym, ap, subst, ◌∙◌, arith, ⊎_elim, ◌⊎◌, ℤ, pos, ◌≤ℤ◌, ◌&&◌, ◌==◌}
-use Rattle.std.specs.Prelude.{IsTrue, All, slice_index_or}
+use Rattle.std.proofs.Common.{◌≡◌, ℕ, suc, ◌<◌, ◌≤◌, List, [], ◌∷◌, length, refl, sym, ap, subst, arith, ⊎_elim, ◌⊎◌, ℤ, pos, ◌≤ℤ◌, ◌&&◌, ◌==◌}
+use Rattle.std.specs.Prelude.{All, slice_index_or}
 use Rattle.std.proofs.lemmas.Bool.{and_parts, cond_both, eqb-true}
 use Rattle.std.proofs.lemmas.List.{get_or_past}
-use Rattle.uc_model.proofs.Ring.{linear, le_refl}
+use Rattle.uc_model.proofs.Ring.{le_refl}
 use Rattle.dual_model.specs.Prices.{mu_at, up_at, down_at, row_of, IsRowSigned, IsRowWithin, HasLawfulSigns}
 use Rattle.dual_model.specs.declared.table.Table.{Table}
 use Rattle.dual_model.specs.declared.table.RampRow.{RampRow}
@@ -34,6 +34,9 @@ pub signed_at : (table : Table) → HasLawfulSigns table → (g t : ℕ) → IsR
 signed_at table signs g t =
     row_of_each IsRowSigned table.ramps g t signs.ramps (record { up = le_refl (pos 0); down = le_refl (pos 0) })
 
+not_within : (s t periods : ℕ) → s < periods → s ≡ t → periods ≤ t → ⊥
+not_within s t periods inside same past = omega arith
+
 -- there is no row past the last period
 absent : (units periods : ℕ) (rows : List RampRow) (g t : ℕ) → ((k : ℕ) (d : RampRow) → k < length rows → IsRowWithin units periods (slice_index_or rows k d))
     → periods ≤ t → row_of rows g t ≡ record { g = g; t = t; up = pos 0; down = pos 0 }
@@ -42,9 +45,7 @@ absent units periods (row ∷ rows) g t each past =
     let none : RampRow = record { g = g; t = t; up = pos 0; down = pos 0 } in
     cond_both ((row.g == g) && (row.t == t)) row (row_of rows g t) (λ r. r ≡ none)
     (λ here.
-      let inside : row.t < periods = (each 0 row (omega arith)).period in
-      let same : row.t ≡ t = eqb-true row.t t (and_parts _ _ here).1 in
-      absurd (omega arith))
+    absurd (not_within row.t t periods (each 0 row (omega arith)).period (eqb-true row.t t (and_parts _ _ here).1) past))
     (λ later. absent units periods rows g t (λ k d l. each (suc k) d (omega arith)) past)
 
 pub up_at_past : (table : Table) (units periods g t : ℕ) → All (IsRowWithin units periods) table.ramps → periods ≤ t → up_at table g t ≡ pos 0

@@ -5,3 +5,5 @@ pub mod UnitValue
 pub mod NodeValue
 pub mod Cover
 pub mod Certificate
+pub mod Laws
+pub mod Examples

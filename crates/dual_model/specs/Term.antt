@@ -2,31 +2,14 @@
 -- Lagrangian relaxation of the reference model by Knueven, Ostrowski and Watson, whose production cost is
 -- the least cost of weights on the unit's points. A schedule is rational, so the weights are whole over any
 -- denominator q; the term is the greatest whole number that bounds all of them.
-use Rattle.std.specs.Prelude.{◌≡◌, ℕ, suc, List, ℤ, pos, ◌+ℤ◌, ◌-ℤ◌, ◌*ℤ◌, ◌≤ℤ◌, length, slice_index_or}
-use Rattle.uc_model.specs.Sums.{sum_below}
+use Rattle.std.specs.Prelude.{◌≡◌, ℕ, suc, List, ℤ, pos, ◌+ℤ◌, ◌-ℤ◌, ◌*ℤ◌, ◌≤ℤ◌}
+pub use Rattle.uc_model.specs.Points.{point_of, output_of, weighted_total, weighted_output, weighted_cost}
 use Rattle.uc_model.specs.Commitment.{Commitment, cap}
 use Rattle.uc_model.specs.Schedule.{thermal_unit}
 use Rattle.uc_model.specs.declared.instance.Point.{Point}
 use Rattle.uc_model.specs.declared.instance.Instance.{Instance}
 use Rattle.dual_model.specs.Prices.{pi_at, mu_at, up_at, down_at}
 use Rattle.dual_model.specs.declared.table.Table.{Table}
-
--- point l, from 0, and its output above the first point's
-abbrev pub point_of : List Point → ℕ → Point
-point_of points l = slice_index_or points l (record { mw = pos 0; cost = pos 0 })
-
-abbrev pub output_of : List Point → ℕ → ℤ
-output_of points l = (point_of points l).mw -ℤ (point_of points 0).mw
-
--- the sum of weights on the points, the output above the minimum that they give, and its cost
-abbrev pub weighted_total : List Point → (ℕ → ℕ) → ℤ
-weighted_total points weight = sum_below (length points) (λ l. pos (weight l))
-
-abbrev pub weighted_output : List Point → (ℕ → ℕ) → ℤ
-weighted_output points weight = sum_below (length points) (λ l. output_of points l *ℤ pos (weight l))
-
-abbrev pub weighted_cost : List Point → (ℕ → ℕ) → ℤ
-weighted_cost points weight = sum_below (length points) (λ l. (point_of points l).cost *ℤ pos (weight l))
 
 -- m bounds the reduced cost K*cost + A*p + B*r of each output p and reserve r >= 0 with p + r <= cap
 pub record IsCellBound (points : List Point) (k a b cap m : ℤ) : Type 0 where

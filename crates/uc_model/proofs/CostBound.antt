@@ -1,21 +1,21 @@
 -- The cost of a schedule that obeys is at most q * COST_MAX in size.
 -- Cite from a crate above by `use Rattle.uc_model.proofs.CostBound.{cost_fits}`.
-use Rattle.std.proofs.Common.{◌≡◌, ℕ, zero, suc, ◌+◌, ◌*◌, ◌<◌, ◌≤◌, ◌⊎◌, ⊎_elim, Bool, true, false, not, refl, sym, ap, subst, ◌∙◌, arith, ℤ, pos, negsuc, ◌+ℤ◌, ◌-ℤ◌, ◌*ℤ◌, neg_ℤ, ◌≤ℤ◌, length}
-use Rattle.std.specs.Prelude.{IsTrue, unsigned_abs, ◌==◌, ◌&&◌, nat_lt}
+use Rattle.std.proofs.Common.{◌≡◌, ℕ, zero, suc, ◌*◌, ◌<◌, ◌≤◌, ⊎_elim, false, sym, ap, subst, ◌∙◌, arith, ℤ, pos, negsuc, ◌+ℤ◌, ◌*ℤ◌, neg_ℤ, ◌≤ℤ◌}
+use Rattle.std.specs.Prelude.{IsTrue, unsigned_abs, ◌==◌, nat_lt}
 use Rattle.std.proofs.lemmas.Bool.{and_parts, or_cases, cases_Bool, eqb-true, ltb-true, true≢false, cond-true, cond-false}
 use Rattle.uc_model.specs.Sums.{sum_below, bit}
 use Rattle.uc_model.specs.Commitment.{Commitment, starts}
-use Rattle.uc_model.specs.StartCategory.{start_row, category_count, category_cost, is_category_allowed, category_holds_at}
-use Rattle.uc_model.specs.Schedule.{Row, Schedule, thermal_unit, thermal_count, point, point_count, weight_sum}
-use Rattle.uc_model.specs.Rules.{Rule, Category, Production, Obeys}
+use Rattle.uc_model.specs.StartCategory.{category_count, category_cost, is_category_allowed, category_holds_at}
+use Rattle.uc_model.specs.Schedule.{Row, Schedule, thermal_unit, thermal_count, point, point_count}
+use Rattle.uc_model.specs.Rules.{Category, Production, Obeys}
 use Rattle.uc_model.specs.Cost.{production_cost, cell_cost, unit_cost, cost}
 use Rattle.uc_model.specs.Limits.{IsLawfulThermal, IsLawfulInstance, MAX_COST, COST_MAX}
 use Rattle.uc_model.specs.declared.instance.Thermal.{Thermal}
 use Rattle.uc_model.specs.declared.instance.Instance.{Instance}
-use Rattle.uc_model.proofs.Ring.{linear, mul-le-mul_right, mul-le-mul_left, scale-le-scale, pos_nonneg, mul-neg, neg-mul, mul_comm, mul-add, mul-one, mul-zero, pos-le-pos}
+use Rattle.uc_model.proofs.Ring.{linear, scale-le-scale, mul-neg, mul_comm, mul-add, mul-one, pos-le-pos}
 use Rattle.uc_model.proofs.Sums.{sum_below-le, sum_below-mul_left, sum_below-const}
 use Rattle.uc_model.proofs.Obeyed.{rule_at, Produces, production_parts}
-use Rattle.uc_model.proofs.MinimumTimes.{bit-le-one, bit_nonneg}
+use Rattle.uc_model.proofs.MinimumTimes.{bit-le-one}
 
 -- z is at most m in size
 pub record IsWithin (m z : ℤ) : Type 0 where

@@ -1,13 +1,13 @@
 -- Minimum up and down times of at least 1 exclude a start and a stop in one period, even where starts and
 -- stops are variables of their own, as in the reference model, tied to the state only by
 -- u(t) - u(t-1) = v(t) - w(t).
-use Rattle.std.proofs.Common.{◌≡◌, ℕ, zero, suc, ◌+◌, ◌-◌, ◌<◌, ◌≤◌, ◌≢◌, ◌⊎◌, inl, inr, ⊎_elim, min, max, Bool, true, false, not, ◌&&◌, ◌||◌, refl, sym, ap, subst, ◌∙◌, arith, ℤ, pos, ◌+ℤ◌, ◌-ℤ◌, ◌≤ℤ◌}
+use Rattle.std.proofs.Common.{◌≡◌, ℕ, zero, suc, ◌+◌, ◌-◌, ◌<◌, ◌≤◌, ◌≢◌, ◌⊎◌, ⊎_elim, min, max, Bool, true, false, not, ◌&&◌, refl, sym, ap, ◌∙◌, arith, ℤ, pos, ◌+ℤ◌, ◌-ℤ◌, ◌≤ℤ◌}
 use Rattle.std.specs.Prelude.{IsTrue, int_le, nat_lt}
-use Rattle.std.proofs.lemmas.Bool.{or_cases, cases_Bool, cases_order, ltb-true, true≢false, false≢true, not-true, not-false, not_from_true, not_from_false}
+use Rattle.std.proofs.lemmas.Bool.{or_cases, cases_Bool, cases_order, ltb-true, true≢false, not-true, not-false, not_from_true}
 use Rattle.uc_model.specs.Sums.{sum_below, bit}
 use Rattle.uc_model.specs.Commitment.{Commitment, state_before, keeps_minimum_at, KeepsMinimumTimes}
 use Rattle.uc_model.proofs.Ring.{linear}
-use Rattle.uc_model.proofs.Sums.{sum_below_nonneg, term-le-sum_below}
+use Rattle.uc_model.proofs.Sums.{term-le-sum_below}
 use Rattle.uc_model.proofs.Tests.{int_le-true}
 
 pub bit_nonneg : (b : Bool) → pos 0 ≤ℤ bit b

@@ -1,9 +1,8 @@
 -- The least start cost is never above the cost of a category that M6 allows.
 -- Cite from a crate above by `use Rattle.uc_model.proofs.StartCosts.{sigma-le-allowed}`.
-use Rattle.std.proofs.Common.{◌≡◌, ℕ, zero, suc, ◌+◌, ◌-◌, ◌<◌, ◌≤◌, ◌≢◌, ◌⊎◌, inl, inr, ⊎_elim, Bool, true, false, not, ◌&&◌, ◌||◌, cond, refl, sym, ap, subst, ◌∙◌, arith, ℤ, pos, ◌≤ℤ◌, length}
-use Rattle.std.specs.Prelude.{IsTrue, nat_lt, nat_le, ◌==◌, Option, Some, None, if◌then◌else◌}
-use Rattle.std.proofs.lemmas.Bool.{and_parts, and_from, or_cases, cases_Bool, cases_eq, cond-true, cond-false, cond_both, not-true, true≢false, leb-true, ltb-true, eqb-true, le-leb, lt-ltb}
-use Rattle.uc_model.specs.Sums.{any_below, least_below}
+use Rattle.std.proofs.Common.{◌≡◌, ℕ, zero, suc, ◌-◌, ◌<◌, ◌≤◌, ◌≢◌, ◌⊎◌, ⊎_elim, false, not, ◌&&◌, cond, sym, ap, subst, ◌∙◌, arith, ◌≤ℤ◌}
+use Rattle.std.specs.Prelude.{IsTrue, nat_lt, nat_le, ◌==◌, Option, Some}
+use Rattle.std.proofs.lemmas.Bool.{and_parts, and_from, or_cases, cases_Bool, cond-true, cond-false, not-true, true≢false, leb-true, ltb-true, eqb-true, le-leb, lt-ltb}
 use Rattle.uc_model.specs.Commitment.{Commitment, was_on, starts, stops}
 use Rattle.uc_model.specs.StartCategory.{category_count, category_lag, category_cost, has_stop_within, is_barred, is_category_allowed, last_stop, stopped_within, may_cost_as, sigma}
 use Rattle.uc_model.specs.declared.instance.Thermal.{Thermal}
@@ -37,6 +36,9 @@ not_start_and_stop unit on t a b =
     let stopped = and_parts (was_on unit on t) (not (on t)) b in
     true≢false (sym stopped.0 ∙ not-true (was_on unit on t) started.0)
 
+stopped_within-at : (last : Option ℕ) (l most t : ℕ) → last ≡ Some l → t - l ≤ most → IsTrue (stopped_within last most t)
+stopped_within-at last l most t e near = subst (λ o. IsTrue (stopped_within o most t)) (sym e) (le-leb (t - l) most near)
+
 -- a stop within a category's lags is one that the last stop shows
 after_stop : (unit : Thermal) (on : Commitment) (from lag t : ℕ) → IsTrue (starts unit on t) → lag ≤ suc t
     → IsTrue (has_stop_within unit on from lag t)
@@ -52,7 +54,7 @@ after_stop unit on from lag t start reached h =
     let near : t - last.0 ≤ lag - 1 = omega (arith, last.2) in
     and_from _ _
     (lt-ltb _ _ (omega arith))
-    (subst (λ o. IsTrue (stopped_within o (lag - 1) t)) (sym last.1) (le-leb _ _ near))
+    (stopped_within-at (last_stop unit on t) last.0 (lag - 1) t last.1 near)
 
 -- a category that M6 allows, and that isn't the last one, is one that the last stop allows
 may_cost-allowed : (unit : Thermal) (on : Commitment) (s t : ℕ) → IsTrue (starts unit on t)

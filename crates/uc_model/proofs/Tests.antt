@@ -1,11 +1,11 @@
 -- What the tests over indexes say, as facts, and laws of the least value.
 -- Cite from a crate above by `use Rattle.uc_model.proofs.Tests.{all_below-at}`.
-use Rattle.std.proofs.Common.{◌≡◌, ℕ, zero, suc, ◌+◌, ◌<◌, ◌≤◌, ◌⊎◌, inl, inr, ⊎_elim, Bool, true, false, not, ◌&&◌, ◌||◌, cond, refl, sym, ap, subst, ◌∙◌, arith, ℤ, pos, negsuc, ◌≤ℤ◌, ◌<ℤ◌}
-use Rattle.std.specs.Prelude.{IsTrue, int_le, int_lt, if◌then◌else◌}
+use Rattle.std.proofs.Common.{◌≡◌, ℕ, zero, suc, ◌<◌, ◌⊎◌, ⊎_elim, Bool, cond, refl, sym, subst, arith, ℤ, ◌≤ℤ◌, ◌<ℤ◌}
+use Rattle.std.specs.Prelude.{IsTrue, int_le, int_lt}
 use Rattle.std.specs.Int.{int_min}
 use Rattle.std.specs.Ordering.{int_eq}
 use Rattle.std.proofs.lemmas.Int.{ints}
-use Rattle.std.proofs.lemmas.Bool.{and_parts, and_from, or_cases, or_left, or_right, cases_Bool, cond-true, cond-false, cond_both}
+use Rattle.std.proofs.lemmas.Bool.{and_parts, and_from, or_cases, or_left, or_right, cond-true, cond_both}
 use Rattle.std.proofs.lemmas.Bool.Decides.{Decides-int_eq}
 use Rattle.uc_model.specs.Sums.{all_below, any_below, least_below}
 

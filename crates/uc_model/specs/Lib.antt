@@ -5,6 +5,7 @@ pub mod Sums
 pub mod Commitment
 pub mod PatternBits
 pub mod StartCategory
+pub mod Points
 pub mod Schedule
 pub mod Rules
 pub mod Cost

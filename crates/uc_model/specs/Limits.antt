@@ -1,6 +1,6 @@
 -- The limits on an instance's numbers, and its shape. Source: the fields of the pglib-uc format, with
 -- this project's limits in size.
-use Rattle.std.specs.Prelude.{◌≡◌, ℕ, suc, ◌*◌, ◌^◌, ◌<◌, ◌≤◌, ℤ, pos, ◌≤ℤ◌, ◌<ℤ◌, unsigned_abs, length, slice_index_or, List, All}
+use Rattle.std.specs.Prelude.{◌≡◌, ℕ, suc, ◌<◌, ◌≤◌, ℤ, pos, ◌≤ℤ◌, unsigned_abs, length, All}
 use Rattle.std.specs.Int.{int_max}
 use Rattle.uc_model.specs.Schedule.{point, point_count, thermal_unit, thermal_count, renewable_unit, renewable_count, renewable_minimum, renewable_maximum}
 use Rattle.uc_model.specs.StartCategory.{start_row, category_count}

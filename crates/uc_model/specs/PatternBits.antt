@@ -1,5 +1,5 @@
 -- The commitment that a pattern's bits say.
-use Rattle.std.specs.Prelude.{ℕ, ◌-◌, Bool, ◌==◌, nat_lt, if◌then◌else◌}
+use Rattle.std.specs.Prelude.{◌-◌, ◌==◌, nat_lt, if◌then◌else◌}
 use Rattle.std.specs.Int.{bit_at}
 use Rattle.uc_model.specs.Commitment.{Commitment}
 use Rattle.uc_model.specs.declared.pattern.Pattern.{Pattern}

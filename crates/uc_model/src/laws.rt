@@ -1,6 +1,7 @@
 //! Laws of the model, each the contract of a function with an empty body.
 
-ghost use Rattle.std.specs.Prelude.{◌≡◌, ℕ, ◌*◌, ◌<◌, ◌≤◌, pos, ◌≤ℤ◌, Bool, IsTrue, not, ◌&&◌, unsigned_abs};
+ghost use Rattle.std.specs.Prelude.{◌≡◌, ℕ, ◌*◌, ◌<◌, ◌≤◌, pos, ◌≤ℤ◌, ◌<ℤ◌, ℤ, Bool, IsTrue, not, ◌&&◌, unsigned_abs};
+ghost use Rattle.uc_model.specs.Division.{IsCeiling, quotient_up};
 ghost use Rattle.uc_model.specs.Commitment.{Commitment, state_before, starts, is_allowed, cap, KeepsMinimumTimes};
 ghost use Rattle.uc_model.specs.StartCategory.{is_category_allowed, category_cost, last_stop, sigma};
 ghost use Rattle.uc_model.specs.Schedule.{Schedule, thermal_unit, thermal_count};
@@ -45,4 +46,9 @@ pub fn costs_fit()
 pub fn least_start_costs_are_lower_bounds()
     ensures { (unit : Thermal) (on : Commitment) (s t : ℕ) → IsTrue (starts unit on t)
         → IsTrue (is_category_allowed unit on s t) → sigma unit (last_stop unit on t) t ≤ℤ category_cost unit s }
+{}
+
+/// A quotient rounded up, as the hull's value is, is the ceiling.
+pub fn quotients_up_are_ceilings()
+    ensures { (a b : ℤ) → pos 0 <ℤ b → IsCeiling a b (quotient_up a b) }
 {}

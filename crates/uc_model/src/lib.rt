@@ -18,6 +18,7 @@ pub mod refusal;
 pub mod schedule;
 pub mod stuck;
 pub mod terms;
+pub mod texts;
 pub mod tolerance;
 
 pub use division::{ceil_div, floor_div};
@@ -31,3 +32,4 @@ pub use refusal::Refusal;
 pub use schedule::{Cell, Printed};
 pub use stuck::{Stuck, Why};
 pub use terms::Terms;
+pub use texts::{money_digits, signed_digits, whole_digits};

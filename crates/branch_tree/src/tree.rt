@@ -1,0 +1,20 @@
+//! The tree of commitments.
+
+/// A leaf of the tree. Tables are numbers of `Found`'s list, from 0; values are micro-dollars.
+#[derive(Clone, Copy, Debug, PartialEq, Eq)]
+pub enum Leaf {
+    /// An open leaf: the bound of the table is `value`.
+    Live { table: u32, value: i128 },
+    /// A closed leaf: the bound of the table is `value`.
+    Bound { table: u32, value: i128 },
+    /// The table is a ray that excludes every schedule of the leaf.
+    Ray { table: u32 },
+    /// Thermal unit `g`, from 0, has no allowed pattern at the leaf.
+    Empty { g: u32 },
+}
+
+/// A tree of one leaf, at which nothing is decided.
+#[derive(Debug, Drop)]
+pub struct Tree {
+    pub leaf: Leaf,
+}

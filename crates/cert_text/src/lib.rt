@@ -1,0 +1,11 @@
+//! The text of certificates.
+#![tactic(auto)]
+
+mod heading;
+
+
+
+
+
+
+
