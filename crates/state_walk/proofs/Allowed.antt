@@ -1,9 +1,9 @@
 -- A commitment is a pattern, allowed and as decided, exactly where each move of its way may be made.
-use Rattle.std.proofs.Common.{◌≡◌, ℕ, zero, suc, ◌+◌, ◌-◌, ◌<◌, ◌≤◌, ◌≢◌, ◌⊎◌, inl, inr, ⊎_elim, min, Bool, true, false, not, ◌&&◌, ◌||◌, cond, refl, sym, ap, subst, ◌∙◌, arith, ℤ, pos, ◌≤ℤ◌, ◌<ℤ◌}
-use Rattle.std.specs.Prelude.{IsTrue, Option, Some, None, nat_lt, nat_le, int_le, ◌==◌, if◌then◌else◌}
-use Rattle.std.proofs.lemmas.Bool.{cases_Bool, and_parts, and_from, or_cases, or_left, or_right, true≢false, not-true, not_from_true, not_from_false, ltb-true, lt-ltb, cond-true, cond-false}
-use Rattle.uc_model.specs.Sums.{sum_below, bit, all_below}
-use Rattle.uc_model.specs.Commitment.{Commitment, state_before, was_on, starts, stops, keeps_minimum_at, must_run_at, initial_up_at, initial_down_at, minimum_up_at, minimum_down_at, cap, is_allowed_at, is_allowed, initial_stop_holds}
+use Rattle.std.proofs.Common.{◌≡◌, ℕ, zero, suc, ◌+◌, ◌-◌, ◌<◌, ◌≤◌, ⊎_elim, min, Bool, true, false, not, ◌&&◌, ◌||◌, refl, sym, ap, subst, ◌∙◌, arith, ℤ, pos, ◌≤ℤ◌}
+use Rattle.std.specs.Prelude.{IsTrue, Option, Some, None, nat_lt, int_le, if◌then◌else◌}
+use Rattle.std.proofs.lemmas.Bool.{and_parts, and_from, or_cases, or_left, or_right, true≢false, not-true, not_from_false, ltb-true, lt-ltb, cond-true, cond-false}
+use Rattle.uc_model.specs.Sums.{bit, all_below}
+use Rattle.uc_model.specs.Commitment.{Commitment, state_before, was_on, starts, stops, keeps_minimum_at, must_run_at, initial_up_at, initial_down_at, minimum_up_at, minimum_down_at, cap, is_allowed_at, initial_stop_holds}
 use Rattle.uc_model.specs.PatternBits.{commitment_of}
 use Rattle.uc_model.specs.Limits.{IsLawfulThermal}
 use Rattle.uc_model.specs.declared.instance.Thermal.{Thermal}
@@ -12,9 +12,9 @@ use Rattle.uc_model.proofs.Ring.{linear}
 use Rattle.uc_model.proofs.Sums.{sum_below-same}
 use Rattle.uc_model.proofs.Tests.{int_le-true, le-int_le, all_below-at, all_below-from}
 use Rattle.dual_model.specs.declared.node.Fix.{Fix}
-use Rattle.state_walk.specs.UnitTerms.{AreSizedTerms, IsSized, period_count, term_at, cell_cap}
+use Rattle.state_walk.specs.UnitTerms.{AreSizedTerms, IsSized, period_count, term_at}
 use Rattle.state_walk.specs.PatternValue.{IsPattern, is_followed}
-use Rattle.state_walk.specs.Moves.{may_be_on, may_be_off, holds_initially, initial_limit, may_stop, may_start, has_lasted, hour_cost}
+use Rattle.state_walk.specs.Moves.{holds_initially, initial_limit, has_lasted, hour_cost}
 use Rattle.state_walk.specs.Onward.{since_after}
 use Rattle.state_walk.proofs.Switches.{since}
 use Rattle.state_walk.proofs.Lasting.{enters, leaves, LeavesInTime, window-from_lasting, initial-from_lasting, lasting-from_windows}
@@ -65,6 +65,16 @@ decided_bits must true b true h k e = sym (h refl)
 decided_bits must true b false h k e = sym (not-true b (and_parts (not must) (not b) (k refl)).1)
 decided_bits must false b now h k e = absurd (true≢false (sym e))
 
+decided_at : (known bit_is now : Bool) → IsTrue (not known || (if bit_is then now else not now)) → IsTrue known → now ≡ bit_is
+decided_at true true now h k = h
+decided_at true false now h k = not-true now h
+decided_at false b now h k = absurd (true≢false (sym k))
+
+decided_to : (known bit_is now : Bool) → (IsTrue known → now ≡ bit_is) → IsTrue (not known || (if bit_is then now else not now))
+decided_to true true now h = h refl
+decided_to true false now h = not_from_false now (h refl)
+decided_to false b now h = refl
+
 -- ---- initial times, over plain bits
 guard_from : (initial short state : Bool) → IsTrue (not (initial && short) || state) → IsTrue initial → IsTrue short → IsTrue state
 guard_from true true state h a b = h
@@ -84,13 +94,13 @@ stops_in_time periods unit on allowed =
     (λ first t within soon. guard_from _ _ _ (allowed t within).up first (lt-ltb _ _ soon))
     (λ t within. (allowed t within).minimum_up)
 
-
 up_from : (periods : ℕ) (unit : Thermal) (on : Commitment) → 1 ≤ unit.ut → LeavesInTime unit.on0 on periods (unit.ut - unit.ut0) unit.ut
     → (t : ℕ) → t < periods → IsTrue (initial_up_at unit on t) × IsTrue (minimum_up_at periods unit on t)
-up_from periods unit on some leave t within =
-    (guard_to _ _ _ (λ first soon.
+up_from periods unit on some leave t within = (
+  guard_to _ _ _ (λ first soon.
       initial-from_lasting unit.on0 on periods (unit.ut - unit.ut0) unit.ut leave first t within (ltb-true _ _ soon)),
-      window-from_lasting unit.on0 on periods (unit.ut - unit.ut0) unit.ut some leave t within)
+  window-from_lasting unit.on0 on periods (unit.ut - unit.ut0) unit.ut some leave t within,
+)
 
 -- ---- M3 and M5, which are the same of a unit that is off
 abbrev off_state : Commitment → Commitment
@@ -127,7 +137,7 @@ keeps-same : (window : ℕ) (changes others state : Commitment) (t : ℕ) → ((
 keeps-same window changes others state t same =
     ap (λ z. nat_lt (suc t) window || int_le z (bit (state t)))
     (sum_below-same window (λ i. bit (changes (suc t - window + i))) (λ i. bit (others (suc t - window + i)))
-      (λ k h. ap bit (same (suc t - window + k))))
+    (λ k h. ap bit (same (suc t - window + k))))
 
 starts_in_time : (periods : ℕ) (unit : Thermal) (on : Commitment) → ((t : ℕ) → t < periods → AllowedAt periods unit on t)
     → LeavesInTime (not unit.on0) (off_state on) periods (unit.dt - unit.dt0) unit.dt
@@ -135,17 +145,18 @@ starts_in_time periods unit on allowed =
     lasting-from_windows (not unit.on0) (off_state on) periods (unit.dt - unit.dt0) unit.dt
     (λ first t within soon. guard_from _ _ _ (allowed t within).down first (lt-ltb _ _ soon))
     (λ t within.
-      keeps-same (min unit.dt periods) (enters (not unit.on0) (off_state on)) (stops unit on) (off_state on) t (enters-off unit on)
-      ∙ (allowed t within).minimum_down)
+    keeps-same (min unit.dt periods) (enters (not unit.on0) (off_state on)) (stops unit on) (off_state on) t (enters-off unit on)
+    ∙ (allowed t within).minimum_down)
 
 down_from : (periods : ℕ) (unit : Thermal) (on : Commitment) → 1 ≤ unit.dt
     → LeavesInTime (not unit.on0) (off_state on) periods (unit.dt - unit.dt0) unit.dt
     → (t : ℕ) → t < periods → IsTrue (initial_down_at unit on t) × IsTrue (minimum_down_at periods unit on t)
-down_from periods unit on some leave t within =
-    (guard_to _ _ _ (λ first soon.
+down_from periods unit on some leave t within = (
+  guard_to _ _ _ (λ first soon.
       initial-from_lasting (not unit.on0) (off_state on) periods (unit.dt - unit.dt0) unit.dt leave first t within (ltb-true _ _ soon)),
-      sym (keeps-same (min unit.dt periods) (enters (not unit.on0) (off_state on)) (stops unit on) (off_state on) t (enters-off unit on))
-      ∙ window-from_lasting (not unit.on0) (off_state on) periods (unit.dt - unit.dt0) unit.dt some leave t within)
+  sym (keeps-same (min unit.dt periods) (enters (not unit.on0) (off_state on)) (stops unit on) (off_state on) t (enters-off unit on))
+      ∙ window-from_lasting (not unit.on0) (off_state on) periods (unit.dt - unit.dt0) unit.dt some leave t within,
+)
 
 -- ---- the terms of the cells
 -- the cell of an on period has a term exactly where its cap is at least 0
@@ -176,12 +187,12 @@ hour-there terms unit on sized t within capped = by_bit (on t) refl
     by_bit : (b : Bool) → on t ≡ b → IsThere (hour terms unit on (suc t))
     by_bit true e =
         let low : pos 0 ≤ℤ cap (period_count terms) unit on t =
-            ⊎_elim
-            (λ (off : IsTrue (not (on t))). absurd (true≢false (sym e ∙ not-true (on t) off)))
-            (λ (le : IsTrue (int_le (pos 0) (cap (period_count terms) unit on t))). int_le-true _ _ le)
-            (or_cases (not (on t)) (int_le (pos 0) (cap (period_count terms) unit on t)) capped) in
+        ⊎_elim
+        (λ (off : IsTrue (not (on t))). absurd (true≢false (sym e ∙ not-true (on t) off)))
+        (λ (le : IsTrue (int_le (pos 0) (cap (period_count terms) unit on t))). int_le-true _ _ le)
+        (or_cases (not (on t)) (int_le (pos 0) (cap (period_count terms) unit on t)) capped) in
         let there = sized-there _ term (sized.term t (starts unit on t) (is_followed (period_count terms) unit on t) within)
-            (subst (λ z. pos 0 ≤ℤ z) (sym (cell_cap-cap (period_count terms) unit on t e)) low) in
+        (subst (λ z. pos 0 ≤ℤ z) (sym (cell_cap-cap (period_count terms) unit on t e)) low) in
         let cost = hour_cost-there terms unit t term there in
         (cost.0, cond-true (on t) (hour_cost terms unit t term) (Some (pos 0)) e ∙ cost.1)
     by_bit false e = (pos 0, cond-false (on t) (hour_cost terms unit t term) (Some (pos 0)) e)
@@ -212,14 +223,19 @@ all_right-pattern terms unit fix on sized pattern = record { right = right; ther
     each : (t : ℕ) → t < period_count terms → AllowedAt (period_count terms) unit on t
     each t within = allowed_parts (period_count terms) unit on t (all_below-at _ _ parts.1 t within)
 
+    decided : (t : ℕ) → t < period_count terms → IsTrue (commitment_of fix.known t) → on t ≡ commitment_of fix.on t
+    decided t within = decided_at _ _ (on t)
+        (all_below-at (period_count terms)
+        (λ k. not (commitment_of fix.known k) || (if commitment_of fix.on k then on k else not (on k))) pattern.agrees t within)
+
     initially : (t : ℕ) → was_on unit on t ≡ true → IsTrue (holds_initially unit t (not (on t)))
     initially zero e = initial_stop-limit unit on parts.0 e
     initially (suc t) e = or_left (nat_lt 0 (suc t)) _ (lt-ltb 0 (suc t) (omega arith))
 
     right : (t : ℕ) → 0 ≤ t → t < period_count terms → IsRight unit fix on t
     right t low within = record {
-      on_may = on_bits _ _ (on t) (pattern.agrees t within);
-      off_may = off_bits unit.must_run _ _ (on t) (each t within).must_run (pattern.agrees t within);
+      on_may = on_bits _ _ (on t) (decided t within);
+      off_may = off_bits unit.must_run _ _ (on t) (each t within).must_run (decided t within);
       initially = initially t;
       stop_may = λ w n. stops_in_time (period_count terms) unit on each t within (and_from _ _ w (not_from_false _ n));
       start_may = λ w n.
@@ -236,7 +252,9 @@ pub pattern-all_right : (terms : Terms) (unit : Thermal) (fix : Fix) (on : Commi
 pattern-all_right terms unit fix on lawful sized all =
     record {
       allowed = and_from _ _ (initial_stop-from unit on first) (all_below-from _ _ (λ t within. allowed_from (period_count terms) unit on t (each t within)));
-      agrees = λ t within. decided_bits unit.must_run _ _ (on t) (right t within).on_may (right t within).off_may;
+      agrees = all_below-from (period_count terms)
+          (λ k. not (commitment_of fix.known k) || (if commitment_of fix.on k then on k else not (on k)))
+          (λ t within. decided_to _ _ (on t) (decided_bits unit.must_run _ _ (on t) (right t within).on_may (right t within).off_may));
     }
   where
     right : (t : ℕ) → t < period_count terms → IsRight unit fix on t

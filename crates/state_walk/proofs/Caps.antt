@@ -1,11 +1,11 @@
 -- The caps of an allowed pattern's cells are those that the terms are of, and M7 by the greatest initial output.
-use Rattle.std.proofs.Common.{◌≡◌, ℕ, zero, suc, ◌+◌, ◌<◌, ◌≤◌, ◌⊎◌, inl, inr, ⊎_elim, Bool, true, false, not, ◌&&◌, ◌||◌, cond, refl, sym, ap, subst, ◌∙◌, arith, ℤ, pos, ◌+ℤ◌, ◌-ℤ◌, ◌*ℤ◌, ◌≤ℤ◌}
+use Rattle.std.proofs.Common.{◌≡◌, ℕ, zero, suc, Bool, true, false, not, ◌&&◌, refl, sym, ap, subst, ◌∙◌, arith, ℤ, pos, ◌-ℤ◌, ◌*ℤ◌, ◌≤ℤ◌}
 use Rattle.std.specs.Prelude.{IsTrue, ◌==◌, nat_lt, int_le, if◌then◌else◌}
 use Rattle.std.specs.Int.{int_min, int_max}
 use Rattle.std.proofs.lemmas.Int.{ints, clamps}
 use Rattle.std.proofs.lemmas.Bool.{ne_eqb}
 use Rattle.uc_model.specs.Sums.{bit}
-use Rattle.uc_model.specs.Commitment.{Commitment, was_on, starts, stops, start_reduction, stop_reduction, start_cap, stop_cap, cap, initial_stop_holds}
+use Rattle.uc_model.specs.Commitment.{Commitment, starts, stops, start_reduction, stop_reduction, cap, initial_stop_holds}
 use Rattle.uc_model.specs.declared.instance.Thermal.{Thermal}
 use Rattle.uc_model.proofs.Ring.{linear, mul-one, mul-zero, one-mul, zero-mul, mul_nonneg}
 use Rattle.uc_model.proofs.Tests.{int_le-true, le-int_le}
@@ -56,14 +56,14 @@ pub cell_cap-cap : (periods : ℕ) (unit : Thermal) (on : Commitment) (t : ℕ) 
     → cell_cap periods unit t (starts unit on t) (is_followed periods unit on t) ≡ cap periods unit on t
 cell_cap-cap periods unit on t e =
     (λ i. int_min
-      (full -ℤ start_reduction unit *ℤ bit (start_counts unit on t i))
-      (full -ℤ stop_reduction unit *ℤ bit (followed_counts (stops unit on (suc t)) (nat_lt (suc t) periods) i)))
+    (full -ℤ start_reduction unit *ℤ bit (start_counts unit on t i))
+    (full -ℤ stop_reduction unit *ℤ bit (followed_counts (stops unit on (suc t)) (nat_lt (suc t) periods) i)))
     ∙ both_caps full (start_reduction unit *ℤ bit (starts unit on t)) (stop_reduction unit) (nat_lt (suc t) periods) (stops unit on (suc t))
     (mul_nonneg (start_reduction unit) (bit (starts unit on t)) (max_nonneg (unit.pmax -ℤ unit.su)) (bit_nonneg (starts unit on t)))
     (max_nonneg (unit.pmax -ℤ unit.sd))
     ∙ (λ i. if nat_lt (suc t) periods
-      then int_min (whole (sym full_is i) (starts unit on t)) (rest (sym full_is i) (stops unit on (suc t)))
-      else whole (sym full_is i) (starts unit on t))
+    then int_min (whole (sym full_is i) (starts unit on t)) (rest (sym full_is i) (stops unit on (suc t)))
+    else whole (sym full_is i) (starts unit on t))
   where
     full : ℤ
     full = unit.pmax -ℤ unit.pmin
@@ -130,4 +130,4 @@ pub initial_stop-from : (unit : Thermal) (on : Commitment) → (unit.on0 ≡ tru
 initial_stop-from unit on h =
     le-int_le _ _
     (limit_to unit.p0 unit.pmin unit.pmax unit.sd unit.on0 (on 0)
-      (λ e. subst (λ z. unit.p0 ≤ℤ z) (sym (limit_is unit (on 0))) (int_le-true _ _ (h e))))
+    (λ e. subst (λ z. unit.p0 ≤ℤ z) (sym (limit_is unit (on 0))) (int_le-true _ _ (h e))))

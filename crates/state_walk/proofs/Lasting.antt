@@ -1,8 +1,8 @@
 -- Minimum times by the last change of state: the windows of M4 and M5 with the initial times of M2 and M3 say the same as
 -- that no state is left before it has lasted long enough. Said of any state; M4 takes it for on, M5 for off.
-use Rattle.std.proofs.Common.{◌≡◌, ℕ, zero, suc, ◌+◌, ◌-◌, ◌<◌, ◌≤◌, ◌≢◌, ◌⊎◌, inl, inr, ⊎_elim, min, max, Bool, true, false, not, ◌&&◌, ◌||◌, refl, sym, ap, subst, ◌∙◌, arith, ℤ, pos, ◌+ℤ◌, ◌≤ℤ◌}
-use Rattle.std.specs.Prelude.{IsTrue, int_le, nat_lt, nat_le}
-use Rattle.std.proofs.lemmas.Bool.{cases_Bool, cases_lt, cases_order, or_cases, or_left, or_right, and_parts, and_from, true≢false, not-true, not_from_false, not_from_true, ltb-true, lt-ltb, leb-true, le-leb, leb-false, ltb-false}
+use Rattle.std.proofs.Common.{◌≡◌, ℕ, zero, suc, ◌+◌, ◌-◌, ◌<◌, ◌≤◌, ⊎_elim, min, Bool, true, false, not, ◌&&◌, refl, sym, ap, subst, ◌∙◌, arith, ℤ, pos, ◌+ℤ◌, ◌≤ℤ◌}
+use Rattle.std.specs.Prelude.{IsTrue, int_le, nat_lt}
+use Rattle.std.proofs.lemmas.Bool.{cases_Bool, cases_lt, or_cases, or_left, or_right, and_parts, and_from, true≢false, not-true, not_from_false, ltb-true, lt-ltb, leb-true, le-leb}
 use Rattle.uc_model.specs.Sums.{sum_below, any_below, bit}
 use Rattle.uc_model.specs.Commitment.{Commitment, state_before, keeps_minimum_at}
 use Rattle.uc_model.proofs.Ring.{linear}
@@ -10,7 +10,6 @@ use Rattle.uc_model.proofs.Sums.{sum_below-zero, sum_below-single, term-le-sum_b
 use Rattle.uc_model.proofs.Tests.{int_le-true, le-int_le, any_below-at, any_below-from}
 use Rattle.uc_model.proofs.MinimumTimes.{bit_nonneg, bit-le-one}
 use Rattle.state_walk.specs.Moves.{has_lasted}
-use Rattle.state_walk.specs.Onward.{since_after}
 use Rattle.state_walk.proofs.Switches.{since, since-zero, since-suc, since_after-same, since_after-other}
 
 -- the state is entered in period t, or left
@@ -39,27 +38,29 @@ lasts : (initial : Bool) (state : Commitment) (periods left most : ℕ) → Leav
     → IsTrue (state (k + d)) × (since initial state (suc (k + d)) ≡ suc k)
 lasts initial state periods left most leave k zero enter h within =
     let parts = and_parts (not (state_before initial state k)) (state k) enter in
-    let same : k + 0 ≡ k = omega arith in
-    (ap state same ∙ parts.1,
+    let same : k + 0 ≡ k = omega arith in (
+      ap state same ∙ parts.1,
       ap (λ i. since initial state (suc i)) same
-      ∙ since_after-other (state_before initial state k) (since initial state k) (state k) k
-        (not-true _ parts.0 ∙ ap not (sym parts.1)))
+          ∙ since_after-other (state_before initial state k) (since initial state k) (state k) k
+          (not-true _ parts.0 ∙ ap not (sym parts.1)),
+    )
 lasts initial state periods left most leave k (suc d) enter h within =
     let before = lasts initial state periods left most leave k d enter (omega arith) (omega arith) in
     let same : k + suc d ≡ suc (k + d) = omega arith in
     let there : IsTrue (state (suc (k + d))) =
-        ⊎_elim
-        (λ (yes_it_is : IsTrue (state (suc (k + d)))). yes_it_is)
-        (λ (gone : state (suc (k + d)) ≡ false).
-        let lasted = leave (suc (k + d)) (omega arith) (and_from _ _ before.0 (not_from_false _ gone)) in
-        let long : k + most ≤ suc (k + d) =
-        leb-true _ _ (subst (λ i. IsTrue (has_lasted left most i (suc (k + d)))) before.1 lasted) in
-        absurd (omega arith))
-        (cases_Bool (state (suc (k + d)))) in
-    (ap state same ∙ there,
+    ⊎_elim
+    (λ (yes_it_is : IsTrue (state (suc (k + d)))). yes_it_is)
+    (λ (gone : state (suc (k + d)) ≡ false).
+    let lasted = leave (suc (k + d)) (omega arith) (and_from _ _ before.0 (not_from_false _ gone)) in
+    let long : k + most ≤ suc (k + d) =
+    leb-true _ _ (subst (λ i. IsTrue (has_lasted left most i (suc (k + d)))) before.1 lasted) in
+    absurd (omega arith))
+    (cases_Bool (state (suc (k + d)))) in (
+      ap state same ∙ there,
       ap (λ i. since initial state (suc i)) same
-      ∙ since_after-same (state (k + d)) (since initial state (suc (k + d))) (state (suc (k + d))) (suc (k + d)) (before.0 ∙ sym there)
-      ∙ before.1)
+          ∙ since_after-same (state (k + d)) (since initial state (suc (k + d))) (state (suc (k + d))) (suc (k + d)) (before.0 ∙ sym there)
+          ∙ before.1,
+    )
 
 -- so in a window there is at most one entry, and with it the state at the end
 lasts_to : (initial : Bool) (state : Commitment) (periods left most : ℕ) → LeavesInTime initial state periods left most
@@ -97,12 +98,12 @@ window-from_lasting initial state periods left most some leave t within =
         let single : sum_below window entry_bit ≡ entry_bit entry.0 =
         sum_below-single window entry_bit entry.0 entry.1
         (λ j h other. ⊎_elim
-          (λ (again : IsTrue (enters initial state (suc t - window + j))).
-          let there = found whole j h again in
-          let same : suc (suc t - window + j) ≡ suc (suc t - window + entry.0) = sym there.1 ∙ here.1 in
-          absurd (other (omega arith)))
-          (λ (none : enters initial state (suc t - window + j) ≡ false). bit-is _ _ none)
-          (cases_Bool (enters initial state (suc t - window + j)))) in
+        (λ (again : IsTrue (enters initial state (suc t - window + j))).
+        let there = found whole j h again in
+        let same : suc (suc t - window + j) ≡ suc (suc t - window + entry.0) = sym there.1 ∙ here.1 in
+        absurd (other (omega arith)))
+        (λ (none : enters initial state (suc t - window + j) ≡ false). bit-is _ _ none)
+        (cases_Bool (enters initial state (suc t - window + j)))) in
         let one : entry_bit entry.0 ≡ pos 1 = bit-is _ _ entry.2 in
         let there : bit (state t) ≡ pos 1 = bit-is _ _ here.0 in
         omega (arith, linear)
@@ -111,10 +112,10 @@ window-from_lasting initial state periods left most some leave t within =
     no_entry none =
         let zero_sum : sum_below window entry_bit ≡ pos 0 =
         sum_below-zero window entry_bit (λ k h. ⊎_elim
-          (λ (one : IsTrue (enters initial state (suc t - window + k))).
-          absurd (true≢false (sym (any_below-from window (λ i. enters initial state (suc t - window + i)) k h one) ∙ none)))
-          (λ (zero_bit : enters initial state (suc t - window + k) ≡ false). bit-is _ _ zero_bit)
-          (cases_Bool (enters initial state (suc t - window + k)))) in
+        (λ (one : IsTrue (enters initial state (suc t - window + k))).
+        absurd (true≢false (sym (any_below-from window (λ i. enters initial state (suc t - window + i)) k h one) ∙ none)))
+        (λ (zero_bit : enters initial state (suc t - window + k) ≡ false). bit-is _ _ zero_bit)
+        (cases_Bool (enters initial state (suc t - window + k)))) in
         let low = bit_nonneg (state t) in
         omega (arith, linear)
 
@@ -133,11 +134,11 @@ lasts_initially initial state periods left most leave first (suc t) h within =
     let before = lasts_initially initial state periods left most leave first t (omega arith) (omega arith) in
     ⊎_elim
     (λ (there : IsTrue (state t)).
-      (there, since_after-same (state_before initial state t) (since initial state t) (state t) t (before.0 ∙ sym there) ∙ before.1))
+    (there, since_after-same (state_before initial state t) (since initial state t) (state t) t (before.0 ∙ sym there) ∙ before.1))
     (λ (gone : state t ≡ false).
-      let lasted = leave t (omega arith) (and_from _ _ before.0 (not_from_false _ gone)) in
-      let long : left ≤ t = leb-true _ _ (subst (λ i. IsTrue (has_lasted left most i t)) before.1 lasted) in
-      absurd (omega arith))
+    let lasted = leave t (omega arith) (and_from _ _ before.0 (not_from_false _ gone)) in
+    let long : left ≤ t = leb-true _ _ (subst (λ i. IsTrue (has_lasted left most i t)) before.1 lasted) in
+    absurd (omega arith))
     (cases_Bool (state t))
 
 pub initial-from_lasting : (initial : Bool) (state : Commitment) (periods left most : ℕ) → LeavesInTime initial state periods left most
@@ -154,13 +155,13 @@ two_terms-le-sum_below (suc n) f j k l h nonneg =
     let more : pos 0 ≤ℤ f n = nonneg n (omega arith) in
     ⊎_elim
     (λ (less : k < n).
-      let earlier = two_terms-le-sum_below n f j k l less (λ i m. nonneg i (omega arith)) in
-      omega (arith, linear))
+    let earlier = two_terms-le-sum_below n f j k l less (λ i m. nonneg i (omega arith)) in
+    omega (arith, linear))
     (λ (past : n ≤ k).
-      let last : k ≡ n = omega arith in
-      let first = term-le-sum_below n f j (omega arith) (λ i m. nonneg i (omega arith)) in
-      let same = ap f last in
-      omega (arith, linear))
+    let last : k ≡ n = omega arith in
+    let first = term-le-sum_below n f j (omega arith) (λ i m. nonneg i (omega arith)) in
+    let same = ap f last in
+    omega (arith, linear))
     (cases_lt k n)
 
 -- a state that is back by a later period was entered in between
@@ -171,11 +172,14 @@ back_again initial state t (suc d) gone there =
     let next : t + suc d ≡ suc (t + d) = omega arith in
     ⊎_elim
     (λ (already : IsTrue (state (t + d))).
-      let found = back_again initial state t d gone already in
-      (found.0, found.1, omega (arith, found.2), found.3))
-    (λ (later : state (t + d) ≡ false).
-      (suc (t + d), omega arith, omega arith,
-        and_from _ _ (not_from_false _ later) (sym (ap state next) ∙ there)))
+    let found = back_again initial state t d gone already in
+    (found.0, found.1, omega (arith, found.2), found.3))
+    (λ (later : state (t + d) ≡ false). (
+      suc (t + d),
+      omega arith,
+      omega arith,
+      and_from _ _ (not_from_false _ later) (sym (ap state next) ∙ there),
+    ))
     (cases_Bool (state (t + d)))
 
 pub lasting-from_windows : (initial : Bool) (state : Commitment) (periods left most : ℕ)
@@ -233,9 +237,9 @@ lasting-from_windows initial state periods left most first keeps t within leave 
         let again = back_again initial state t (window - 1 - t) gone (ap state same ∙ at_end) in
         let another = entry_at (window - 1) again.0 (omega (arith, again.1)) again.3 in
         let both =
-            two_terms-le-sum_below window (λ i. bit (enters initial state (suc (window - 1) - window + i)))
-            (k - (suc (window - 1) - window)) (again.0 - (suc (window - 1) - window)) (omega (arith, again.1)) (omega (arith, again.2))
-            (nonneg (window - 1)) in
+        two_terms-le-sum_below window (λ i. bit (enters initial state (suc (window - 1) - window + i)))
+        (k - (suc (window - 1) - window)) (again.0 - (suc (window - 1) - window)) (omega (arith, again.1)) (omega (arith, again.2))
+        (nonneg (window - 1)) in
         omega (arith, linear)
 
     by_origin : (s : ℕ) → since initial state t ≡ s → IsTrue (has_lasted left most s t)

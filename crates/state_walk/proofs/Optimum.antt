@@ -1,9 +1,9 @@
 -- The recursion of the walk gives the least cost of a way: one that each commitment reaches at least, and that one attains.
-use Rattle.std.proofs.Common.{◌≡◌, ℕ, zero, suc, ◌+◌, ◌<◌, ◌≤◌, ◌≢◌, ◌⊎◌, inl, inr, ⊎_elim, Bool, true, false, cond, refl, sym, ap, subst, ◌∙◌, arith, ℤ, pos, ◌+ℤ◌, ◌≤ℤ◌}
+use Rattle.std.proofs.Common.{◌≡◌, ℕ, zero, suc, ◌≤◌, ◌⊎◌, inl, inr, ⊎_elim, Bool, true, false, refl, sym, ap, ◌∙◌, arith, ℤ, ◌+ℤ◌, ◌≤ℤ◌}
 use Rattle.std.specs.Prelude.{Option, Some, None, ◌==◌, if◌then◌else◌}
 use Rattle.std.specs.Int.{int_min}
 use Rattle.std.proofs.lemmas.Int.{ints}
-use Rattle.std.proofs.lemmas.Bool.{cond_both, cond-true, cond-false, cases_Bool, eq-eqb, ne_eqb}
+use Rattle.std.proofs.lemmas.Bool.{cond_both, cond-true, cond-false, eq-eqb, ne_eqb}
 use Rattle.uc_model.specs.Commitment.{Commitment}
 use Rattle.uc_model.specs.declared.instance.Thermal.{Thermal}
 use Rattle.uc_model.specs.declared.terms.Terms.{Terms}
@@ -77,11 +77,11 @@ onward-le-way terms unit fix on (suc n) t was since v e =
     let total = parts.total in
     let below = rest.below in
     let here : AtMost (one (on t)) v =
-        record {
-          cost = parts.first +ℤ rest.cost;
-          is = λ i. plus (parts.first_is i) (rest.is i);
-          below = omega (arith, linear);
-        }
+    record {
+      cost = parts.first +ℤ rest.cost;
+      is = λ i. plus (parts.first_is i) (rest.is i);
+      below = omega (arith, linear);
+    }
     in
     choose (on t) here
   where
@@ -103,7 +103,7 @@ way-same : (terms : Terms) (unit : Thermal) (fix : Fix) (on other : Commitment) 
 way-same terms unit fix on other zero t was since same = refl
 way-same terms unit fix on other (suc n) t was since same =
     (λ i. plus (move terms unit fix t was since (same t (omega arith) i))
-      (way terms unit fix on n (suc t) (same t (omega arith) i) (since_after was since (same t (omega arith) i) t)))
+    (way terms unit fix on n (suc t) (same t (omega arith) i) (since_after was since (same t (omega arith) i) t)))
     ∙ ap (plus (move terms unit fix t was since (other t)))
     (way-same terms unit fix on other n (suc t) (other t) (since_after was since (other t) t) (λ k h. same k (omega arith)))
 
@@ -129,7 +129,7 @@ extended terms unit fix n t was since now v a b moved rest total =
     whole : way terms unit fix (with_bit rest.on t now) (suc n) t was since ≡ Some v
     whole =
         (λ i. plus (move terms unit fix t was since (here i))
-          (way terms unit fix (with_bit rest.on t now) n (suc t) (here i) (since_after was since (here i) t)))
+        (way terms unit fix (with_bit rest.on t now) n (suc t) (here i) (since_after was since (here i) t)))
         ∙ (λ i. plus (moved i) (way-same terms unit fix (with_bit rest.on t now) rest.on n (suc t) now (since_after was since now t) later i))
         ∙ (λ i. plus (Some a) (rest.is i))
         ∙ ap Some (sym total)
@@ -140,11 +140,11 @@ onward-attained terms unit fix zero t was since v e = record { on = λ k. false;
 onward-attained terms unit fix (suc n) t was since v e =
     ⊎_elim
     (λ (h : plus (move terms unit fix t was since true) (onward terms unit fix n (suc t) true (since_after was since true t)) ≡ Some v).
-      let parts = plus-parts _ _ v h in
-      extended terms unit fix n t was since true v parts.first parts.second parts.first_is
-      (onward-attained terms unit fix n (suc t) true (since_after was since true t) parts.second parts.second_is) parts.total)
+    let parts = plus-parts _ _ v h in
+    extended terms unit fix n t was since true v parts.first parts.second parts.first_is
+    (onward-attained terms unit fix n (suc t) true (since_after was since true t) parts.second parts.second_is) parts.total)
     (λ (h : plus (move terms unit fix t was since false) (onward terms unit fix n (suc t) false (since_after was since false t)) ≡ Some v).
-      let parts = plus-parts _ _ v h in
-      extended terms unit fix n t was since false v parts.first parts.second parts.first_is
-      (onward-attained terms unit fix n (suc t) false (since_after was since false t) parts.second parts.second_is) parts.total)
+    let parts = plus-parts _ _ v h in
+    extended terms unit fix n t was since false v parts.first parts.second parts.first_is
+    (onward-attained terms unit fix n (suc t) false (since_after was since false t) parts.second parts.second_is) parts.total)
     (lesser_one _ _ v e)

@@ -12,7 +12,8 @@ use Rattle.uc_model.specs.declared.limits.TheConstants.{MAX_COST, MAX_POWER}
 use Rattle.uc_model.specs.declared.instance.Thermal.{Thermal}
 use Rattle.uc_model.specs.declared.terms.Terms.{Terms}
 use Rattle.dual_model.specs.declared.node.Fix.{Fix}
-use Rattle.state_walk.specs.UnitTerms.{AreSizedTerms, IsSized, period_count, price_at, MAX_TERM, MAX_UNIT_PRICE}
+use Rattle.state_walk.specs.declared.limits.TheConstants.{MAX_UNIT_PRICE, MAX_TERM}
+use Rattle.state_walk.specs.UnitTerms.{AreSizedTerms, IsSized, period_count, price_at}
 use Rattle.state_walk.specs.Moves.{stop_since, hour_cost, hour_before, move}
 use Rattle.state_walk.specs.Onward.{plus, lesser, end_cost, since_after, onward, IsWithin, MAX_MOVE, MAX_ONWARD}
 

@@ -1,8 +1,8 @@
 -- Since when a commitment's state before a period lasts, and what that says of starts and stops.
-use Rattle.std.proofs.Common.{◌≡◌, ℕ, zero, suc, ◌+◌, ◌<◌, ◌≤◌, ◌≢◌, ◌⊎◌, inl, inr, ⊎_elim, Bool, true, false, not, ◌&&◌, cond, refl, sym, ap, subst, ◌∙◌, arith}
-use Rattle.std.specs.Prelude.{IsTrue, Option, Some, None, ◌==◌, if◌then◌else◌}
+use Rattle.std.proofs.Common.{◌≡◌, ℕ, zero, suc, ◌<◌, ◌≤◌, ◌⊎◌, inl, inr, ⊎_elim, Bool, true, false, not, ◌&&◌, refl, sym, ap, subst, ◌∙◌, arith}
+use Rattle.std.specs.Prelude.{Some, ◌==◌, if◌then◌else◌}
 use Rattle.std.proofs.lemmas.Bool.{cases_lt, eq-eqb, ne_eqb}
-use Rattle.uc_model.specs.Commitment.{Commitment, state_before, was_on, starts, stops}
+use Rattle.uc_model.specs.Commitment.{Commitment, state_before, was_on, starts}
 use Rattle.uc_model.specs.StartCategory.{last_stop}
 use Rattle.uc_model.specs.declared.instance.Thermal.{Thermal}
 use Rattle.state_walk.specs.Moves.{stop_since}
@@ -76,10 +76,10 @@ since-zero initial state zero e = refl
 since-zero initial state (suc t) e =
     ⊎_elim
     (λ (same : state_before initial state t ≡ state t).
-      sym same ∙ since-zero initial state t (sym (since_after-same _ (since initial state t) _ t same) ∙ e))
+    sym same ∙ since-zero initial state t (sym (since_after-same _ (since initial state t) _ t same) ∙ e))
     (λ (other : state_before initial state t ≡ not (state t)).
-      let later : since initial state (suc t) ≡ suc t = since_after-other _ (since initial state t) _ t other in
-      absurd (omega arith))
+    let later : since initial state (suc t) ≡ suc t = since_after-other _ (since initial state t) _ t other in
+    absurd (omega arith))
     (cases_same (state_before initial state t) (state t))
 
 -- the period in which the state before period t was entered
@@ -93,22 +93,22 @@ since-suc initial state zero k e = absurd (omega arith)
 since-suc initial state (suc t) k e =
     ⊎_elim
     (λ (same : state_before initial state t ≡ state t).
-      let earlier = since-suc initial state t k (sym (since_after-same _ (since initial state t) _ t same) ∙ e) in
-      let before : k < t = earlier.before in
-      record {
-        before = omega arith;
-        kept = λ j h l. ⊎_elim
-            (λ (less : j < t). earlier.kept j h less ∙ same)
-            (λ (past : t ≤ j). let last : j ≡ t = omega arith in ap state last)
-            (cases_lt j t);
-        switched = earlier.switched;
-      })
+    let earlier = since-suc initial state t k (sym (since_after-same _ (since initial state t) _ t same) ∙ e) in
+    let before : k < t = earlier.before in
+    record {
+      before = omega arith;
+      kept = λ j h l. ⊎_elim
+          (λ (less : j < t). earlier.kept j h less ∙ same)
+          (λ (past : t ≤ j). let last : j ≡ t = omega arith in ap state last)
+          (cases_lt j t);
+      switched = earlier.switched;
+    })
     (λ (other : state_before initial state t ≡ not (state t)).
-      let now : since initial state (suc t) ≡ suc t = since_after-other _ (since initial state t) _ t other in
-      let here : k ≡ t = omega arith in
-      record {
-        before = omega arith;
-        kept = λ j h l. let last : j ≡ t = omega arith in ap state last;
-        switched = subst (λ i. state_before initial state i ≡ not (state i)) (sym here) other;
-      })
+    let now : since initial state (suc t) ≡ suc t = since_after-other _ (since initial state t) _ t other in
+    let here : k ≡ t = omega arith in
+    record {
+      before = omega arith;
+      kept = λ j h l. let last : j ≡ t = omega arith in ap state last;
+      switched = subst (λ i. state_before initial state i ≡ not (state i)) (sym here) other;
+    })
     (cases_same (state_before initial state t) (state t))

@@ -1,7 +1,7 @@
 -- The way that a commitment takes from the initial state: in which case there is one, and that its cost is the pattern's value.
-use Rattle.std.proofs.Common.{◌≡◌, ℕ, zero, suc, ◌+◌, ◌<◌, ◌≤◌, ◌≢◌, ◌⊎◌, inl, inr, ⊎_elim, Bool, true, false, not, ◌&&◌, ◌||◌, cond, refl, sym, ap, subst, ◌∙◌, arith, ℤ, pos, ◌+ℤ◌, ◌-ℤ◌, ◌*ℤ◌}
-use Rattle.std.specs.Prelude.{IsTrue, Option, Some, None, unwrap_or, ◌==◌, nat_lt, if◌then◌else◌}
-use Rattle.std.proofs.lemmas.Bool.{cond-true, cond-false, cases_Bool, cases_lt, and_parts, and_from, true≢false, not_from_true, not_from_false, lt-ltb, le-ltb}
+use Rattle.std.proofs.Common.{◌≡◌, ℕ, zero, suc, ◌+◌, ◌<◌, ◌≤◌, ◌⊎◌, ⊎_elim, Bool, true, false, not, ◌&&◌, refl, sym, ap, subst, ◌∙◌, arith, ℤ, pos, ◌+ℤ◌, ◌-ℤ◌, ◌*ℤ◌}
+use Rattle.std.specs.Prelude.{IsTrue, Option, Some, None, unwrap_or, ◌==◌, if◌then◌else◌}
+use Rattle.std.proofs.lemmas.Bool.{cond-true, cond-false, and_parts, and_from, true≢false, lt-ltb, le-ltb}
 use Rattle.uc_model.specs.Sums.{sum_below}
 use Rattle.uc_model.specs.Commitment.{Commitment, was_on, starts, stops}
 use Rattle.uc_model.specs.StartCategory.{last_stop, sigma}
@@ -13,8 +13,8 @@ use Rattle.dual_model.specs.declared.node.Fix.{Fix}
 use Rattle.state_walk.specs.UnitTerms.{period_count, term_at, price_at}
 use Rattle.state_walk.specs.PatternValue.{is_followed, term_of, period_value, pattern_value}
 use Rattle.state_walk.specs.Moves.{may_be_on, may_be_off, holds_initially, may_stop, may_start, stop_since, hour_cost, hour_before, move}
-use Rattle.state_walk.specs.Onward.{plus, end_cost, since_after}
-use Rattle.state_walk.proofs.Optimum.{way, Parts, plus-parts}
+use Rattle.state_walk.specs.Onward.{plus, end_cost}
+use Rattle.state_walk.proofs.Optimum.{way, plus-parts}
 use Rattle.state_walk.proofs.Switches.{since, since-start, last_stop-since}
 
 -- ---- the hour before a period
@@ -30,10 +30,10 @@ pub hour-on : (terms : Terms) (unit : Thermal) (on : Commitment) (t : ℕ) → t
 hour-on terms unit on zero h e = refl
 hour-on terms unit on (suc t) h e =
     let followed : not (on (suc t)) ≡ is_followed (period_count terms) unit on t =
-        sym (
-          (λ i. (e i && not (on (suc t))) && lt-ltb (suc t) (period_count terms) h i)
-          ∙ and_true (not (on (suc t)))
-        ) in
+    sym (
+    (λ i. (e i && not (on (suc t))) && lt-ltb (suc t) (period_count terms) h i)
+    ∙ and_true (not (on (suc t)))
+    ) in
     (λ i. hour_cost terms unit t (term_at terms t (since-start unit on t e i) (followed i)))
     ∙ sym (cond-true (on t) _ _ e)
   where
@@ -46,10 +46,10 @@ pub hour-end : (terms : Terms) (unit : Thermal) (on : Commitment) (t : ℕ) → 
 hour-end terms unit on zero h e = refl
 hour-end terms unit on (suc t) h e =
     let followed : false ≡ is_followed (period_count terms) unit on t =
-        sym (
-          (λ i. stops unit on (suc t) && le-ltb (suc t) (period_count terms) (let le : period_count terms ≤ suc t = omega arith in le) i)
-          ∙ and_false (stops unit on (suc t))
-        ) in
+    sym (
+    (λ i. stops unit on (suc t) && le-ltb (suc t) (period_count terms) (let le : period_count terms ≤ suc t = omega arith in le) i)
+    ∙ and_false (stops unit on (suc t))
+    ) in
     (λ i. hour_cost terms unit t (term_at terms t (since-start unit on t e i) (followed i)))
     ∙ sym (cond-true (on t) _ _ e)
   where
@@ -96,48 +96,52 @@ step-right terms unit fix on t x h e = by_bits (was_on unit on t) (on t) refl re
     by_bits : (was now : Bool) → was_on unit on t ≡ was → on t ≡ now → IsRight unit fix on t × IsThere (hour terms unit on t)
     by_bits true true w n =
         let found = through _ _ x (moved true true w n) in
-        let tests = and_parts _ _ found.0 in
-        (record {
-          on_may = λ o. tests.0;
-          off_may = λ o. absurd (true≢false (sym n ∙ o));
-          initially = λ o. ap (λ b. holds_initially unit t (not b)) n ∙ tests.1;
-          stop_may = λ o p. absurd (true≢false (sym n ∙ p));
-          start_may = λ o p. absurd (true≢false (sym w ∙ o));
-        },
-          (x, sym (hour-on terms unit on t h w) ∙ ap (λ b. hour_before terms unit t (since unit.on0 on t == t) (not b)) n ∙ found.1))
+        let tests = and_parts _ _ found.0 in (
+          record {
+            on_may = λ o. tests.0;
+            off_may = λ o. absurd (true≢false (sym n ∙ o));
+            initially = λ o. ap (λ b. holds_initially unit t (not b)) n ∙ tests.1;
+            stop_may = λ o p. absurd (true≢false (sym n ∙ p));
+            start_may = λ o p. absurd (true≢false (sym w ∙ o));
+          },
+          (x, sym (hour-on terms unit on t h w) ∙ ap (λ b. hour_before terms unit t (since unit.on0 on t == t) (not b)) n ∙ found.1),
+        )
     by_bits true false w n =
         let found = through _ _ x (moved true false w n) in
         let tests = and_parts _ _ found.0 in
-        let more = and_parts _ _ tests.0 in
-        (record {
-          on_may = λ o. absurd (true≢false (sym o ∙ n));
-          off_may = λ o. more.0;
-          initially = λ o. ap (λ b. holds_initially unit t (not b)) n ∙ more.1;
-          stop_may = λ o p. tests.1;
-          start_may = λ o p. absurd (true≢false (sym w ∙ o));
-        },
-          (x, sym (hour-on terms unit on t h w) ∙ ap (λ b. hour_before terms unit t (since unit.on0 on t == t) (not b)) n ∙ found.1))
+        let more = and_parts _ _ tests.0 in (
+          record {
+            on_may = λ o. absurd (true≢false (sym o ∙ n));
+            off_may = λ o. more.0;
+            initially = λ o. ap (λ b. holds_initially unit t (not b)) n ∙ more.1;
+            stop_may = λ o p. tests.1;
+            start_may = λ o p. absurd (true≢false (sym w ∙ o));
+          },
+          (x, sym (hour-on terms unit on t h w) ∙ ap (λ b. hour_before terms unit t (since unit.on0 on t == t) (not b)) n ∙ found.1),
+        )
     by_bits false true w n =
         let found = through _ _ x (moved false true w n) in
-        let tests = and_parts _ _ found.0 in
-        (record {
-          on_may = λ o. tests.0;
-          off_may = λ o. absurd (true≢false (sym n ∙ o));
-          initially = λ o. absurd (true≢false (sym o ∙ w));
-          stop_may = λ o p. absurd (true≢false (sym o ∙ w));
-          start_may = λ o p. tests.1;
-        },
-          (pos 0, hour-off terms unit on t w))
+        let tests = and_parts _ _ found.0 in (
+          record {
+            on_may = λ o. tests.0;
+            off_may = λ o. absurd (true≢false (sym n ∙ o));
+            initially = λ o. absurd (true≢false (sym o ∙ w));
+            stop_may = λ o p. absurd (true≢false (sym o ∙ w));
+            start_may = λ o p. tests.1;
+          },
+          (pos 0, hour-off terms unit on t w),
+        )
     by_bits false false w n =
-        let found = through _ _ x (moved false false w n) in
-        (record {
-          on_may = λ o. absurd (true≢false (sym o ∙ n));
-          off_may = λ o. found.0;
-          initially = λ o. absurd (true≢false (sym o ∙ w));
-          stop_may = λ o p. absurd (true≢false (sym o ∙ w));
-          start_may = λ o p. absurd (true≢false (sym p ∙ n));
-        },
-          (pos 0, hour-off terms unit on t w))
+        let found = through _ _ x (moved false false w n) in (
+          record {
+            on_may = λ o. absurd (true≢false (sym o ∙ n));
+            off_may = λ o. found.0;
+            initially = λ o. absurd (true≢false (sym o ∙ w));
+            stop_may = λ o p. absurd (true≢false (sym o ∙ w));
+            start_may = λ o p. absurd (true≢false (sym p ∙ n));
+          },
+          (pos 0, hour-off terms unit on t w),
+        )
 
 pub step-from : (terms : Terms) (unit : Thermal) (fix : Fix) (on : Commitment) (t : ℕ) (x : ℤ) → t < period_count terms
     → IsRight unit fix on t → hour terms unit on t ≡ Some x
@@ -155,13 +159,13 @@ step-from terms unit fix on t x h right there = by_bits (was_on unit on t) (on t
     by_bits : (was now : Bool) → was_on unit on t ≡ was → on t ≡ now → step terms unit fix on t ≡ Some (x +ℤ start_value terms unit on t)
     by_bits true true w n =
         let cost : hour_before terms unit t (since unit.on0 on t == t) false ≡ Some x =
-            ap (λ b. hour_before terms unit t (since unit.on0 on t == t) (not b)) (sym n) ∙ hour-on terms unit on t h w ∙ there in
+        ap (λ b. hour_before terms unit t (since unit.on0 on t == t) (not b)) (sym n) ∙ hour-on terms unit on t h w ∙ there in
         now_is true true x w n
         (cond-true _ _ _ (and_from _ _ (right.on_may n) (ap (λ b. holds_initially unit t (not b)) (sym n) ∙ right.initially w)) ∙ cost)
         (no_start (λ i. not (w i) && on t))
     by_bits true false w n =
         let cost : hour_before terms unit t (since unit.on0 on t == t) true ≡ Some x =
-            ap (λ b. hour_before terms unit t (since unit.on0 on t == t) (not b)) (sym n) ∙ hour-on terms unit on t h w ∙ there in
+        ap (λ b. hour_before terms unit t (since unit.on0 on t == t) (not b)) (sym n) ∙ hour-on terms unit on t h w ∙ there in
         now_is true false x w n
         (cond-true _ _ _ (and_from _ _ (and_from _ _ (right.off_may n) (ap (λ b. holds_initially unit t (not b)) (sym n) ∙ right.initially w)) (right.stop_may w n)) ∙ cost)
         (no_start (λ i. not (w i) && on t))
@@ -169,7 +173,7 @@ step-from terms unit fix on t x h right there = by_bits (was_on unit on t) (on t
         let free : x ≡ pos 0 = (let e = hour-off terms unit on t w in cc) in
         let started : starts unit on t ≡ true = λ i. not (w i) && n i in
         let cost : start_value terms unit on t ≡ terms.k *ℤ sigma unit (stop_since (since unit.on0 on t)) t =
-            cond-true (starts unit on t) _ _ started ∙ ap (λ l. terms.k *ℤ sigma unit l t) (last_stop-since unit on t w) in
+        cond-true (starts unit on t) _ _ started ∙ ap (λ l. terms.k *ℤ sigma unit l t) (last_stop-since unit on t w) in
         now_is false true (terms.k *ℤ sigma unit (stop_since (since unit.on0 on t)) t) w n
         (cond-true _ _ _ (and_from _ _ (right.on_may n) (right.start_may w n)))
         (omega (arith, linear))
@@ -263,14 +267,14 @@ period_value-is terms unit on t there = by_bit (on t) refl
         let found : here ≡ Some there.0 = sym (cond-true (on t) here (Some (pos 0)) e) ∙ value in
         let cost = hour_cost-term terms unit t _ there.0 found in
         let counted : (if on t then term_of terms unit on t -ℤ price_at terms t *ℤ unit.pmin else pos 0) ≡ there.0 =
-            cond-true (on t) _ (pos 0) e ∙ sym cost in
+        cond-true (on t) _ (pos 0) e ∙ sym cost in
         let same : hour_value terms unit on (suc t) ≡ there.0 = ap (λ o. unwrap_or o (pos 0)) value in
         ap (λ x. x +ℤ start_value terms unit on t) (counted ∙ sym same)
     by_bit false e =
         let none : hour_value terms unit on (suc t) ≡ pos 0 =
-            ap (λ o. unwrap_or o (pos 0)) (cond-false (on t) here (Some (pos 0)) e) in
+        ap (λ o. unwrap_or o (pos 0)) (cond-false (on t) here (Some (pos 0)) e) in
         let counted : (if on t then term_of terms unit on t -ℤ price_at terms t *ℤ unit.pmin else pos 0) ≡ pos 0 =
-            cond-false (on t) _ (pos 0) e in
+        cond-false (on t) _ (pos 0) e in
         ap (λ x. x +ℤ start_value terms unit on t) (counted ∙ sym none)
 
 pub own_way-from : (terms : Terms) (unit : Thermal) (fix : Fix) (on : Commitment) (n t : ℕ) → n + t ≡ period_count terms
@@ -284,13 +288,13 @@ own_way-from terms unit fix on (suc n) t h all =
     let here = hour_value-is terms unit on t (all.there t (omega arith) (omega arith)) in
     let moved = step-from terms unit fix on t (hour_value terms unit on t) (omega arith) (all.right t (omega arith) (omega arith)) here in
     let rest = own_way-from terms unit fix on n (suc t) (omega arith)
-        (record { right = λ k a b. all.right k (omega arith) b; there = λ k a b. all.there k (omega arith) b }) in
+    (record { right = λ k a b. all.right k (omega arith) b; there = λ k a b. all.there k (omega arith) b }) in
     let first = sum_below-first n (λ k. period_value terms unit on (k + t)) in
     let at : 0 + t ≡ t = omega arith in
     let this : period_value terms unit on (0 + t) ≡ hour_value terms unit on (suc t) +ℤ start_value terms unit on t =
-        ap (λ i. period_value terms unit on i) at ∙ period_value-is terms unit on t (all.there (suc t) (omega arith) (omega arith)) in
+    ap (λ i. period_value terms unit on i) at ∙ period_value-is terms unit on t (all.there (suc t) (omega arith) (omega arith)) in
     let later : sum_below n (λ k. period_value terms unit on (suc k + t)) ≡ sum_below n (λ k. period_value terms unit on (k + suc t)) =
-        sum_below-same n _ _ (λ k l. let e : suc k + t ≡ k + suc t = omega arith in ap (λ i. period_value terms unit on i) e) in
+    sum_below-same n _ _ (λ k l. let e : suc k + t ≡ k + suc t = omega arith in ap (λ i. period_value terms unit on i) e) in
     (λ i. plus (moved i) (rest i)) ∙ ap Some (omega (arith, linear))
 
 -- from the beginning
@@ -299,8 +303,8 @@ pub whole_way-from : (terms : Terms) (unit : Thermal) (fix : Fix) (on : Commitme
 whole_way-from terms unit fix on all =
     own_way-from terms unit fix on (period_count terms) 0 (omega arith) all
     ∙ ap Some (
-      let start : hour_value terms unit on 0 ≡ pos 0 = refl in
-      let same : sum_below (period_count terms) (λ k. period_value terms unit on (k + 0)) ≡ pattern_value terms unit on =
-      sum_below-same (period_count terms) _ _ (λ k l. let e : k + 0 ≡ k = omega arith in ap (λ i. period_value terms unit on i) e) in
-      omega (arith, linear)
+    let start : hour_value terms unit on 0 ≡ pos 0 = refl in
+    let same : sum_below (period_count terms) (λ k. period_value terms unit on (k + 0)) ≡ pattern_value terms unit on =
+    sum_below-same (period_count terms) _ _ (λ k l. let e : k + 0 ≡ k = omega arith in ap (λ i. period_value terms unit on i) e) in
+    omega (arith, linear)
     )

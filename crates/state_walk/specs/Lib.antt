@@ -2,3 +2,4 @@ pub mod UnitTerms
 pub mod PatternValue
 pub mod Moves
 pub mod Onward
+pub mod TableValue

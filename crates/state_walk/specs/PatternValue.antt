@@ -1,25 +1,20 @@
 -- The value of one unit by its terms: the least over its patterns. Source: the single-unit problems of the
 -- Lagrangian relaxation of the reference model by Knueven, Ostrowski and Watson, with the start cost that
 -- the last stop alone allows in place of the category's.
-use Rattle.std.specs.Prelude.{◌≡◌, ℕ, suc, ◌<◌, Bool, ◌&&◌, nat_lt, ℤ, pos, ◌+ℤ◌, ◌-ℤ◌, ◌*ℤ◌, ◌≤ℤ◌, IsTrue, unwrap_or, if◌then◌else◌}
+use Rattle.std.specs.Prelude.{◌≡◌, ℕ, suc, Bool, ◌&&◌, nat_lt, ℤ, pos, ◌+ℤ◌, ◌-ℤ◌, ◌*ℤ◌, ◌≤ℤ◌, IsTrue, unwrap_or, if◌then◌else◌}
 use Rattle.uc_model.specs.Sums.{sum_below}
 use Rattle.uc_model.specs.Commitment.{Commitment, starts, stops, is_allowed}
-use Rattle.uc_model.specs.PatternBits.{commitment_of}
 use Rattle.uc_model.specs.StartCategory.{last_stop, sigma}
 use Rattle.uc_model.specs.declared.instance.Thermal.{Thermal}
 use Rattle.uc_model.specs.declared.terms.Terms.{Terms}
+use Rattle.dual_model.specs.Fixings.{fix_agrees}
 use Rattle.dual_model.specs.declared.node.Fix.{Fix}
 use Rattle.state_walk.specs.UnitTerms.{period_count, term_at, price_at}
 
--- the commitment is as decided in each period that is
-abbrev pub AgreesWith : Fix → ℕ → Commitment → Type 0
-AgreesWith fix periods on =
-    (t : ℕ) → t < periods → IsTrue (commitment_of fix.known t) → on t ≡ commitment_of fix.on t
-
--- a pattern of the unit: allowed, and as decided
+-- a pattern of the unit: allowed, and as the fix decides
 pub record IsPattern (periods : ℕ) (unit : Thermal) (fix : Fix) (on : Commitment) : Type 0 where
   pub allowed : IsTrue (is_allowed periods unit on)
-  pub agrees : AgreesWith fix periods on
+  pub agrees : IsTrue (fix_agrees periods fix on)
 
 -- a stop follows the period t
 abbrev pub is_followed : ℕ → Thermal → Commitment → ℕ → Bool

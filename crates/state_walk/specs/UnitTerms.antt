@@ -3,14 +3,15 @@
 -- whose caps (M9, M10) depend on the starts and stops beside a cell. The limits in size are this project's.
 --
 -- Periods count from 0 here.
-use Rattle.std.specs.Prelude.{◌≡◌, ℕ, suc, ◌*◌, ◌^◌, ◌<◌, ◌≤◌, Bool, true, false, not, ◌&&◌, ◌==◌, nat_lt, [], ℤ, pos, ◌-ℤ◌, ◌*ℤ◌, ◌≤ℤ◌, ◌<ℤ◌, unsigned_abs, length, slice_index_or, Option, None, MatchOption}
+use Rattle.std.specs.Prelude.{◌≡◌, ℕ, suc, ◌<◌, ◌≤◌, Bool, true, false, not, ◌&&◌, ◌==◌, nat_lt, [], ℤ, pos, ◌-ℤ◌, ◌*ℤ◌, ◌≤ℤ◌, ◌<ℤ◌, unsigned_abs, length, slice_index_or, Option, None, MatchOption}
 use Rattle.std.specs.Int.{int_min}
 use Rattle.uc_model.specs.Sums.{bit}
 use Rattle.uc_model.specs.Commitment.{start_reduction, stop_reduction}
 use Rattle.uc_model.specs.declared.limits.TheConstants.{MAX_PERIODS}
 use Rattle.uc_model.specs.declared.instance.Thermal.{Thermal}
 use Rattle.uc_model.specs.declared.terms.Terms.{Terms}
-use Rattle.dual_model.specs.Prices.{MAX_SCALE}
+use Rattle.dual_model.specs.declared.limits.TheConstants.{MAX_SCALE}
+use Rattle.state_walk.specs.declared.limits.TheConstants.{MAX_UNIT_PRICE, MAX_TERM}
 
 -- the number of periods
 abbrev pub period_count : Terms → ℕ
@@ -39,12 +40,6 @@ cell_cap periods unit t start stop =
     let started = start && not (unit.on0 && (t == 0)) in
     let followed = stop && nat_lt (suc t) periods in
     int_min (full -ℤ start_reduction unit *ℤ bit started) (full -ℤ stop_reduction unit *ℤ bit followed)
-
-abbrev pub MAX_UNIT_PRICE : ℕ
-MAX_UNIT_PRICE = 5 * 10 ^ 14
-
-abbrev pub MAX_TERM : ℕ
-MAX_TERM = 10 ^ 29
 
 -- a term is there exactly where the cap is at least 0, and is within the limit
 abbrev pub IsSized : ℤ → Option ℤ → Type 0

@@ -2,9 +2,11 @@
 //! states "on since" and "off since", with the terms and the least start costs that it adds up.
 #![tactic(auto)]
 
+pub mod limits;
 mod moves;
 mod rules;
 pub mod start_cost;
 pub mod walk;
 
 pub use start_cost::sigma;
+pub use walk::{Walk, least};

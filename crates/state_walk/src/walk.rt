@@ -2,7 +2,14 @@
 
 ghost use Rattle.std.specs.Prelude.{◌≡◌, ℕ, zero, suc, ◌+◌, ◌-◌, ◌<◌, ◌≤◌, IfSome, IfOk, IfNone, length};
 ghost use Rattle.uc_model.specs.Limits.{IsLawfulThermal};
+ghost use Rattle.uc_model.specs.Schedule.{thermal_unit};
+ghost use Rattle.uc_model.specs.declared.instance.Instance.{Instance};
+ghost use Rattle.dual_model.specs.Fixings.{IsFixOf};
+ghost use Rattle.dual_model.specs.declared.node.Node.{Node};
+ghost use Rattle.dual_model.specs.declared.table.Table.{Table};
 ghost use Rattle.state_walk.specs.UnitTerms.{AreSizedTerms, period_count};
+ghost use Rattle.state_walk.specs.PatternValue.{HasNoPattern, IsLeastValue};
+ghost use Rattle.state_walk.specs.TableValue.{AreTermsOf, IsUnitValueOf};
 ghost use Rattle.state_walk.specs.Onward.{plus as plus_of, lesser as lesser_of, entry, onward, IsTable, IsWithin, MAX_ONWARD};
 
 use crate::moves::{hour_before, start, stay_off, stay_on, stop};
@@ -53,6 +60,25 @@ impl Walk {
             Err(_) => Err(NoMemory),
         }
     }
+}
+
+/// The value of one unit, exact: the least value of a pattern that is allowed and as `fix` decides, by the
+/// unit's `terms`; `None` exactly where there is no such pattern. Where the terms are those of a unit of an
+/// instance at a price table, this is the unit's value there. Takes no memory, and a time that grows as the
+/// square of the number of periods.
+pub fn least(walk: &mut Walk, terms: &Terms, unit: &Thermal, fix: &Fix) -> Option<i128>
+    requires lawful { IsLawfulThermal unit.now }
+    requires sized { AreSizedTerms unit.now terms.now }
+    requires room { walk.old ≡ period_count terms.now }
+    ensures kept { walk.new ≡ walk.old }
+
+    ensures value { IfSome result (IsLeastValue terms.now unit.now fix.now) }
+    ensures none { IfNone result (HasNoPattern terms.now unit.now fix.now) }
+    ensures unit_value { (instance : Instance) (node : Node) (table : Table) (g : ℕ)
+        → thermal_unit instance g ≡ unit.now → AreTermsOf instance table g terms.now
+        → IsFixOf instance.periods node g fix.now → IsUnitValueOf instance node table g result }
+{
+    least_onward(walk.values.as_mut_slice(), terms, unit, fix)
 }
 
 // The least cost of a unit from the beginning on, by the table `values`, which it fills.

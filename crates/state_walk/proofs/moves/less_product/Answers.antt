@@ -5,7 +5,7 @@ use Rattle.std.specs.Int.{w128}
 use Rattle.std.proofs.lemmas.Int.{ints, to_z-of_z, fits_signed_mul, fits_signed_from_abs, unsigned_abs-mul}
 use Rattle.std.proofs.lemmas.Nat.{mul-le}
 use Rattle.uc_model.specs.declared.limits.TheConstants.{MAX_POWER}
-use Rattle.state_walk.specs.UnitTerms.{MAX_UNIT_PRICE}
+use Rattle.state_walk.specs.declared.limits.TheConstants.{MAX_UNIT_PRICE}
 use Rattle.state_walk.proofs.moves.less_product.Goals as goal
 
 -- the product fits
