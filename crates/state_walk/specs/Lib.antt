@@ -1,0 +1,5 @@
+pub mod UnitTerms
+pub mod PatternValue
+pub mod Moves
+pub mod Onward
+pub mod TableValue

@@ -1,0 +1,12 @@
+//! The value of one thermal unit at a price table, the checker's way: a walk over the periods and the
+//! states "on since" and "off since", with the terms and the least start costs that it adds up.
+#![tactic(auto)]
+
+pub mod limits;
+mod moves;
+mod rules;
+pub mod start_cost;
+pub mod walk;
+
+pub use start_cost::sigma;
+pub use walk::{Walk, least};
