@@ -1,4 +1,4 @@
-ghost use Rattle.std.specs.Prelude.{◌≡◌, ◌+◌, ◌<◌, ◌≤◌, length, vec_len, IfOk, IfSome};
+ghost use Rattle.std.specs.Prelude.{◌≡◌, ◌+◌, ◌<◌, ◌≤◌, length, vec_len, Some, IfOk, IfSome};
 ghost use Rattle.outside.specs.declared.slot.Stage.TheVariants.{Unopened};
 ghost use Rattle.outside.specs.declared.reading.SlurpFault.TheVariants.{Failed as ReadFailed, NoMemory};
 ghost use Rattle.outside.specs.Known.{Tells};
@@ -26,6 +26,10 @@ pub enum SlurpFault {
 }
 
 impl fmt::Display for SlurpFault {
+    ghost use Rattle.outside.specs.SlurpFault.{text_of};
+
+    ghost output = { λ fault. Some (text_of fault) };
+
     fn fmt<W: fmt::Write>(&self, f: &mut fmt::Formatter<W>) -> fmt::Result {
         f.write_str(match self {
             SlurpFault::Failed => "reading failed",
