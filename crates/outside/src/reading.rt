@@ -5,8 +5,9 @@ ghost use Rattle.outside.specs.Known.{Tells};
 ghost use Rattle.outside.specs.Slots.{SameBut};
 ghost use Rattle.outside.specs.Reading.{ReadsAll, ReadsBeyond, ReadsSome, FailsToRead};
 
+use crate::fault::Failed;
 use crate::files::Files;
-use crate::slot::{Failed, Slot};
+use crate::slot::Slot;
 use std::alloc::{AllocError, Global};
 use std::error::Error;
 use std::fmt;

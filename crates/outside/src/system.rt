@@ -7,8 +7,9 @@ ghost use Rattle.outside.specs.System.{untold_slot};
 use crate::count::{counted, counted_write};
 use crate::device::Device;
 use crate::devices::Devices;
+use crate::fault::Failed;
 use crate::files::Files;
-use crate::slot::{Failed, Slot};
+use crate::slot::Slot;
 use std::fs;
 use std::io::{Read, Write};
 
