@@ -3,8 +3,9 @@ ghost use Rattle.outside.specs.Slots.{AllUnopened};
 
 use super::*;
 use crate::caller::{End, copy};
-use std::alloc::{AllocError, Global};
+use std::alloc::Global;
 use std::fs;
+use std::sync::Wait;
 use std::test::Fail;
 
 const NAMES: [&str; 3] = ["in.json", "old.cert", "new.cert"];
@@ -22,31 +23,16 @@ fn files(
     slot: Slot,
     failing: &[FailingCall],
     pace: Pace,
-) -> Result<Devices<FaultyFile>, AllocError>
+) -> Result<Devices<FaultyFile>, NoMemory>
     ensures { IfOk result (λ files. AllUnopened (⟦<Devices<FaultyFile> as Files>⟧.state files)) }
 {
+    let instance = failing_on(Slot::Instance, slot, failing);
+    let cert_in = failing_on(Slot::CertIn, slot, failing);
+    let cert_out = failing_on(Slot::CertOut, slot, failing);
     Ok(Devices::new(
-        FaultyFile::new(
-            alloc,
-            NAMES[0],
-            input,
-            failing_on(Slot::Instance, slot, failing),
-            pace,
-        )?,
-        FaultyFile::new(
-            alloc,
-            NAMES[1],
-            b"",
-            failing_on(Slot::CertIn, slot, failing),
-            pace,
-        )?,
-        FaultyFile::new(
-            alloc,
-            NAMES[2],
-            b"",
-            failing_on(Slot::CertOut, slot, failing),
-            pace,
-        )?,
+        FaultyFile::new(alloc, NAMES[0], input, instance, pace)?,
+        FaultyFile::new(alloc, NAMES[1], b"", cert_in, pace)?,
+        FaultyFile::new(alloc, NAMES[2], b"", cert_out, pace)?,
     ))
 }
 
@@ -74,48 +60,24 @@ fn slurps_up_to_the_limit(rt: HostRuntime) -> Result<(), Fail> {
     Ok(())
 }
 
-/// A call of a kind that fails at its first time.
-fn first(call: Call) -> FailingCall {
-    FailingCall { call, number: 0 }
+/// The call of a kind before which so many of its kind were made.
+fn nth(call: Call, number: u64) -> FailingCall {
+    FailingCall { call, number }
 }
 
 #[test]
 fn ends_by_the_fault_of_a_slot(rt: HostRuntime) -> Result<(), Fail> {
     let alloc = rt.alloc();
     let calls = [
-        (Slot::Instance, first(Call::Open), End::ReadFailed, 0),
-        (Slot::Instance, first(Call::Read), End::ReadFailed, 0),
-        (
-            Slot::Instance,
-            FailingCall {
-                call: Call::Read,
-                number: 8,
-            },
-            End::ReadFailed,
-            0,
-        ),
-        (Slot::CertOut, first(Call::Open), End::WriteFailed, 0),
-        (Slot::CertOut, first(Call::Write), End::WriteFailed, 0),
-        (
-            Slot::CertOut,
-            FailingCall {
-                call: Call::Write,
-                number: 5,
-            },
-            End::WriteFailed,
-            5,
-        ),
-        (Slot::CertOut, first(Call::Finish), End::WriteFailed, 8),
-        (
-            Slot::CertOut,
-            FailingCall {
-                call: Call::Write,
-                number: 8,
-            },
-            End::Copied,
-            8,
-        ),
-        (Slot::CertIn, first(Call::Open), End::Copied, 8),
+        (Slot::Instance, nth(Call::Open, 0), End::ReadFailed, 0),
+        (Slot::Instance, nth(Call::Read, 0), End::ReadFailed, 0),
+        (Slot::Instance, nth(Call::Read, 8), End::ReadFailed, 0),
+        (Slot::CertOut, nth(Call::Open, 0), End::WriteFailed, 0),
+        (Slot::CertOut, nth(Call::Write, 0), End::WriteFailed, 0),
+        (Slot::CertOut, nth(Call::Write, 5), End::WriteFailed, 5),
+        (Slot::CertOut, nth(Call::Finish, 0), End::WriteFailed, 8),
+        (Slot::CertOut, nth(Call::Write, 8), End::Copied, 8),
+        (Slot::CertIn, nth(Call::Open, 0), End::Copied, 8),
     ];
     for (slot, failing, want, written) in calls {
         let mut files = files(alloc, b"12345678", slot, &[failing], Pace::ByteByByte)?;
@@ -136,6 +98,11 @@ fn ends_by_the_fault_of_a_slot(rt: HostRuntime) -> Result<(), Fail> {
     Ok(())
 }
 
+/// Enters a gate that threads may share.
+fn pass<R: Wait, G: Gate + Sync>(rt: &R, gate: &G) {
+    gate.enter(rt, 0, 1);
+}
+
 #[test]
 fn copies_in_memory(rt: HostRuntime) -> Result<(), Fail> {
     let alloc = rt.alloc();
@@ -144,13 +111,13 @@ fn copies_in_memory(rt: HostRuntime) -> Result<(), Fail> {
         MemoryFile::new(alloc, NAMES[1], b"")?,
         MemoryFile::new(alloc, NAMES[2], b"")?,
     );
-    let mut out = FaultySink::new(alloc, &[first(Call::Flush)], Pace::ByteByByte)?;
+    let mut out = FaultySink::new(alloc, &[nth(Call::Flush, 0)], Pace::ByteByByte)?;
     let end = copy(alloc, &mut files, &mut out, NAMES[0], NAMES[2], 2);
     assert_eq!(rt; end, End::WriteFailed);
     assert_eq!(rt; files.cert_out.written(), Some(b"{}".as_slice()));
     assert_eq!(rt; out.memory.written(), Some(b"new.cert\n".as_slice()));
     assert_eq!(rt; out.memory.flushed(), Some(b"".as_slice()));
-    OpenGate.enter(&rt, 0, 1);
+    pass(&rt, &OpenGate);
     Ok(())
 }
 
