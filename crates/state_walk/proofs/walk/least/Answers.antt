@@ -41,4 +41,4 @@ pub returns-clause-size : goal.returns-clause-size
 returns-clause-size c =
     subst (IsWithin MAX_ONWARD) (sym c.least_onward.ensures)
     (onward-fits c.args.unit.now c.args.terms.now c.args.fix.now c.requires.lawful c.requires.sized (period_count c.args.terms.now) 0
-      (omega arith) c.args.unit.now.on0 0)
+    (omega arith) c.args.unit.now.on0 0)
