@@ -21,7 +21,7 @@ use uc_model::Instance;
 fn write_end<W: Writer>(out: &mut W) -> Result<(), Failed>
     ensures ok { OnOk result (WriterWrites (line (codes "end") []) (W.state out.old) (W.state out.new)) }
     ensures failed { OnErr result (WritesFront (line (codes "end") []) (W.state out.old) (W.state out.new)) }
-    ensures rest { W.SameElse out.old out.new }
+    ensures rest { W.same_else out.old out.new }
 {
     write_all(out, b"end\n")
 }
@@ -31,7 +31,7 @@ fn write_tables<W: Writer>(out: &mut W, tables: &[Table], numbers: &[u32]) -> Re
     requires { All (λ i. i < length tables.now) numbers.now }
     ensures ok { OnOk result (WriterWrites (tables_text tables.now numbers.now) (W.state out.old) (W.state out.new)) }
     ensures failed { OnErr result (WritesFront (tables_text tables.now numbers.now) (W.state out.old) (W.state out.new)) }
-    ensures rest { W.SameElse out.old out.new }
+    ensures rest { W.same_else out.old out.new }
 {
     for number in numbers {
         write_table(out, &tables[*number as usize])?;
@@ -42,7 +42,7 @@ fn write_tables<W: Writer>(out: &mut W, tables: &[Table], numbers: &[u32]) -> Re
 fn write_tree<W: Writer>(out: &mut W, leaf: &Leaf) -> Result<(), Failed>
     ensures ok { OnOk result (WriterWrites (leaf_line (leaf_claim leaf.now) ++ line (codes "end") []) (W.state out.old) (W.state out.new)) }
     ensures failed { OnErr result (WritesFront (leaf_line (leaf_claim leaf.now) ++ line (codes "end") []) (W.state out.old) (W.state out.new)) }
-    ensures rest { W.SameElse out.old out.new }
+    ensures rest { W.same_else out.old out.new }
 {
     write_leaf(out, leaf)?;
     write_end(out)
@@ -52,7 +52,7 @@ fn write_tables_and_tree<W: Writer>(out: &mut W, found: &Found) -> Result<(), Fa
     requires { HasLayout found.now }
     ensures ok { OnOk result (WriterWrites (lower_text found.now) (W.state out.old) (W.state out.new)) }
     ensures failed { OnErr result (WritesFront (lower_text found.now) (W.state out.old) (W.state out.new)) }
-    ensures rest { W.SameElse out.old out.new }
+    ensures rest { W.same_else out.old out.new }
 {
     write_tables(out, found.tables.as_slice(), found.layout.tables.as_slice())?;
     write_tree(out, &found.tree.leaf)
@@ -62,7 +62,7 @@ fn write_body<W: Writer>(out: &mut W, found: &Found) -> Result<(), Failed>
     requires { HasLayout found.now }
     ensures ok { OnOk result (WriterWrites (body_text found.now) (W.state out.old) (W.state out.new)) }
     ensures failed { OnErr result (WritesFront (body_text found.now) (W.state out.old) (W.state out.new)) }
-    ensures rest { W.SameElse out.old out.new }
+    ensures rest { W.same_else out.old out.new }
 {
     write_schedule(out, &found.schedule)?;
     write_tables_and_tree(out, found)
@@ -72,7 +72,7 @@ fn write_heading<W: Writer>(out: &mut W, found: &Found, instance: &Instance) -> 
     requires { HasLayout found.now }
     ensures ok { OnOk result (WriterWrites (heading (certificate_of instance.now found.now)) (W.state out.old) (W.state out.new)) }
     ensures failed { OnErr result (WritesFront (heading (certificate_of instance.now found.now)) (W.state out.old) (W.state out.new)) }
-    ensures rest { W.SameElse out.old out.new }
+    ensures rest { W.same_else out.old out.new }
 {
     let thermal = instance.thermal.as_slice().len();
     let renewable = instance.renewable.as_slice().len();
@@ -89,7 +89,7 @@ pub fn write<W: Writer>(found: &Found, instance: &Instance, out: &mut W) -> Resu
     requires { HasLayout found.now }
     ensures ok { OnOk result (WriterWrites (certificate_text (certificate_of instance.now found.now)) (W.state out.old) (W.state out.new)) }
     ensures failed { OnErr result (WritesFront (certificate_text (certificate_of instance.now found.now)) (W.state out.old) (W.state out.new)) }
-    ensures rest { W.SameElse out.old out.new }
+    ensures rest { W.same_else out.old out.new }
 {
     write_heading(out, found, instance)?;
     write_body(out, found)

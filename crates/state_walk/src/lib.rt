@@ -6,7 +6,9 @@ pub mod limits;
 mod moves;
 mod rules;
 pub mod start_cost;
+pub mod terms;
 pub mod walk;
 
 pub use start_cost::sigma;
+pub use terms::terms as unit_terms;
 pub use walk::{Walk, least};
