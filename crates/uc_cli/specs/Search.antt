@@ -20,7 +20,8 @@ zero_table instance = record {
   ramps = [] }
 
 -- the sum of the values of the first n units
-pub data IsUnitSum (instance : Instance) (node : Node) (table : Table) : ℕ → ℤ → Type 0 where
-  none : IsUnitSum instance node table zero (pos 0)
-  more : {n : ℕ} {total v : ℤ} → IsUnitSum instance node table n total → IsUnitValue instance node table n v
-      → IsUnitSum instance node table (suc n) (total +ℤ v)
+abbrev pub IsUnitSum : Instance → Node → Table → ℕ → ℤ → Type 0
+IsUnitSum instance node table zero total = total ≡ pos 0
+IsUnitSum instance node table (suc n) total =
+    (before : ℤ) × (v : ℤ) × IsUnitSum instance node table n before × IsUnitValue instance node table n v
+    × (total ≡ (before +ℤ v))

@@ -1,0 +1,27 @@
+-- The unit is the instance's, its terms are those at the table of no prices, and nothing is decided.
+use Rattle.std.proofs.Common.{◌≡◌, ◌<◌, ℕ, ℤ, List, length, get_or, pos, replicate, subst, sym, ap, ◌∙◌, refl}
+use Rattle.std.proofs.lemmas.List.{get_or_default, get_or-replicate}
+use Rattle.uc_model.specs.Limits.{IsLawfulThermal}
+use Rattle.uc_model.specs.Schedule.{thermal_unit, no_unit}
+use Rattle.uc_model.specs.declared.instance.Instance.{Instance}
+use Rattle.uc_model.specs.declared.instance.Thermal.{Thermal}
+use Rattle.dual_model.specs.Cover.{root}
+use Rattle.uc_cli.specs.Search.{zero_table}
+use Rattle.uc_cli.proofs.ZeroTable.{root_fix, zero_terms}
+use Rattle.uc_cli.proofs.search.unit_value.Goals as goal
+
+is_unit : (units : List Thermal) (g : ℕ) (unit : Thermal) → g < length units → unit ≡ get_or units g unit → get_or units g no_unit ≡ unit
+is_unit units g unit within read = get_or_default units g no_unit unit within ∙ sym read
+
+pub least-requires-clause-lawful : goal.least-requires-clause-lawful
+least-requires-clause-lawful c =
+    let same = is_unit c.args.instance.now.thermal c.args.g c.index-as_slice-g.result c.requires.unit (rw (← c.as_slice.ensures) c.index-as_slice-g.is) in
+    subst IsLawfulThermal same (c.requires.lawful.thermal c.args.g c.requires.unit)
+
+pub returns-clause-value : goal.returns-clause-value
+returns-clause-value c =
+    let same = is_unit c.args.instance.now.thermal c.args.g c.index-as_slice-g.result c.requires.unit (rw (← c.as_slice.ensures) c.index-as_slice-g.is) in
+    c.least.ensures.unit_value c.args.instance.now root (zero_table c.args.instance.now) c.args.g same
+    (zero_terms c.args.instance.now c.args.g c.index-as_slice-g.result c.args.prices.now c.in_ok-terms.terms same c.requires.prices
+      c.in_ok-terms.ensures.scale c.in_ok-terms.ensures.periods c.in_ok-terms.ensures.price c.in_ok-terms.ensures.term)
+    (root_fix c.args.instance.now.periods c.args.g c.nothing_fixed.result c.nothing_fixed.ensures)
