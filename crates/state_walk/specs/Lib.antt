@@ -3,3 +3,4 @@ pub mod PatternValue
 pub mod Moves
 pub mod Onward
 pub mod TableValue
+pub mod Corners
