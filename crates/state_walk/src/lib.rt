@@ -8,8 +8,10 @@ mod moves;
 mod products;
 mod rules;
 pub mod start_cost;
+pub mod unit_terms;
 pub mod walk;
 
 pub use corners::term;
 pub use start_cost::sigma;
+pub use unit_terms::terms;
 pub use walk::{Walk, least};
