@@ -27,7 +27,7 @@ abs_sub a b m n h k = omega (arith, ints)
 abs_mul : (a b : ℤ) (m n : ℕ) → unsigned_abs a ≤ m → unsigned_abs b ≤ n → unsigned_abs (a *ℤ b) ≤ m * n
 abs_mul a b m n h k = subst (λ x. x ≤ m * n) (sym (unsigned_abs-mul a b)) (mul-le (unsigned_abs a) (unsigned_abs b) m n h k)
 
-abs_min : (a b : ℤ) (m : ℕ) → unsigned_abs a ≤ m → unsigned_abs b ≤ m → unsigned_abs (int_min a b) ≤ m
+pub abs_min : (a b : ℤ) (m : ℕ) → unsigned_abs a ≤ m → unsigned_abs b ≤ m → unsigned_abs (int_min a b) ≤ m
 abs_min a b m h k = cond_both _ b a (λ x. unsigned_abs x ≤ m) (λ e. k) (λ e. h)
 
 -- ---- the least start cost is one of the costs

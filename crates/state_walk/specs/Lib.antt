@@ -3,4 +3,4 @@ pub mod PatternValue
 pub mod Moves
 pub mod Onward
 pub mod TableValue
-pub mod CellPrices
+pub mod Corners

@@ -2,13 +2,16 @@
 //! states "on since" and "off since", with the terms and the least start costs that it adds up.
 #![tactic(auto)]
 
+pub mod corners;
 pub mod limits;
 mod moves;
+mod products;
 mod rules;
 pub mod start_cost;
-pub mod terms;
+pub mod unit_terms;
 pub mod walk;
 
+pub use corners::term;
 pub use start_cost::sigma;
-pub use terms::terms as unit_terms;
+pub use unit_terms::terms;
 pub use walk::{Walk, least};
