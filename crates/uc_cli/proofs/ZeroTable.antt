@@ -30,10 +30,8 @@ use Rattle.dual_model.specs.declared.node.Node.{Node}
 use Rattle.dual_model.specs.declared.table.Table.{Table}
 use Rattle.branch_tree.specs.SearchResult.{IsFirstEmpty}
 use Rattle.state_walk.specs.Onward.{MAX_ONWARD}
-use Rattle.state_walk.specs.CellPrices.{prices_at}
-use Rattle.state_walk.specs.UnitTerms.{period_count, price_at, term_at, cell_cap}
-use Rattle.state_walk.specs.TableValue.{IsCellTerm, AreTermsOf}
-use Rattle.uc_cli.specs.Search.{ZERO_SCALE, zero_table, IsUnitSum}
+use Rattle.state_walk.specs.TableValue.{row_at, IsLawfulRow, AreRowsOf}
+use Rattle.uc_cli.specs.Search.{zero_table, IsUnitSum}
 
 -- a list of zeros is 0 everywhere
 zeros_at : (n t : ℕ) → get_or (replicate n (pos 0)) t (pos 0) ≡ pos 0
@@ -116,10 +114,10 @@ family instance node table (suc n) total s =
       units = λ g h.
           ⊎_elim
           (λ (below : g < n).
-            subst (IsUnitValue instance node table g) (sym (extended-below one.value n v g below)) (one.units g below))
+          subst (IsUnitValue instance node table g) (sym (extended-below one.value n v g below)) (one.units g below))
           (λ (last : g ≡ n).
-            subst (λ k. IsUnitValue instance node table k (all k)) (sym last)
-            (subst (IsUnitValue instance node table n) (sym (extended-same one.value n v)) s.3))
+          subst (λ k. IsUnitValue instance node table k (all k)) (sym last)
+          (subst (IsUnitValue instance node table n) (sym (extended-same one.value n v)) s.3))
           (below_or_last n g h);
       sum =
           s.4
@@ -139,7 +137,7 @@ system_value-zero : (instance : Instance) → system_value instance (zero_table 
 system_value-zero instance =
     sum_below-zero instance.periods _
     (λ t h. unpriced (pi_at (zero_table instance) t) (mu_at (zero_table instance) t) (demand_at instance t) (reserve_at instance t)
-      (pi_at-zero instance t) (mu_at-zero instance t))
+    (pi_at-zero instance t) (mu_at-zero instance t))
 
 unit_constant-zero : (instance : Instance) (unit : Thermal) (g : ℕ) → unit_constant instance.periods (zero_table instance) unit g ≡ pos 0
 unit_constant-zero instance unit g =
@@ -164,8 +162,8 @@ zero_node_value instance node total sum =
     let none_system = system_value-zero instance in
     let none_renewable = renewables_value-zero instance in
     let units = sum_below-same (thermal_count instance) one.value
-        (λ g. one.value g +ℤ unit_constant instance.periods (zero_table instance) (thermal_unit instance g) g)
-        (λ g h. let none_constant = unit_constant-zero instance (thermal_unit instance g) g in omega (arith, linear))
+    (λ g. one.value g +ℤ unit_constant instance.periods (zero_table instance) (thermal_unit instance g) g)
+    (λ g h. let none_constant = unit_constant-zero instance (thermal_unit instance g) g in omega (arith, linear))
     in
     record {
       unit_value = one.value;
@@ -174,44 +172,26 @@ zero_node_value instance node total sum =
     }
 
 -- ---- the terms of a unit
--- terms at prices that are all 0 are those at the table of no prices
-pub zero_terms : (instance : Instance) (g : ℕ) (unit : Thermal) (rows : List (ℤ × ℤ × ℤ)) (terms : Terms)
-    → thermal_unit instance g ≡ unit → rows ≡ replicate instance.periods (pos 0, pos 0, pos 0)
-    → terms.k ≡ ZERO_SCALE → period_count terms ≡ length rows
-    → ((t : ℕ) → t < length rows → price_at terms t ≡ (prices_at rows t).2)
-    → ((t : ℕ) (start stop : Bool) → t < length rows →
-        IsCellTerm unit.points ZERO_SCALE (prices_at rows t).0 (prices_at rows t).1 (cell_cap (length rows) unit t start stop) (term_at terms t start stop))
-    → AreTermsOf instance (zero_table instance) g terms
-zero_terms instance g unit rows terms same zeros scale periods price term = record {
-  scale = scale;
-  periods = periods ∙ long;
-  price = λ t h. price t (within t h) ∙ ap (λ p. p.2) (none t h) ∙ sym (pi_at-zero instance t);
-  term = λ t start stop h. at_unit t start stop (at_zero t start stop h);
+-- rows that are all 0 are the prices of a unit at the table of no prices
+row-zero : (n t : ℕ) (rows : List (ℤ × ℤ × ℤ)) → rows ≡ replicate n (pos 0, pos 0, pos 0) → t < n → row_at rows t ≡ (pos 0, pos 0, pos 0)
+row-zero n t rows zeros h =
+    ap (λ xs. row_at xs t) zeros ∙ get_or-replicate n t (pos 0, pos 0, pos 0) (pos 0, pos 0, pos 0) h
+
+pub zero_rows : (instance : Instance) (g : ℕ) (rows : List (ℤ × ℤ × ℤ)) → rows ≡ replicate instance.periods (pos 0, pos 0, pos 0)
+    → AreRowsOf instance (zero_table instance) g rows
+zero_rows instance g rows zeros = record {
+  periods = ap length zeros ∙ length-replicate instance.periods (pos 0, pos 0, pos 0);
+  output = λ t h. ap (λ (p : ℤ × ℤ × ℤ). p.0) (row-zero instance.periods t rows zeros h) ∙ sym (output_price-zero instance g t);
+  reserve = λ t h. ap (λ (p : ℤ × ℤ × ℤ). p.1) (row-zero instance.periods t rows zeros h) ∙ sym (reserve_price-zero instance g t);
+  demand = λ t h. ap (λ (p : ℤ × ℤ × ℤ). p.2) (row-zero instance.periods t rows zeros h) ∙ sym (pi_at-zero instance t);
 }
-  where
-    long : length rows ≡ instance.periods
-    long = ap length zeros ∙ length-replicate instance.periods (pos 0, pos 0, pos 0)
-    within : (t : ℕ) → t < instance.periods → t < length rows
-    within t h = omega (arith, long)
-    none : (t : ℕ) → t < instance.periods → prices_at rows t ≡ (pos 0, pos 0, pos 0)
-    none t h = ap (λ xs. prices_at xs t) zeros ∙ get_or-replicate instance.periods t (pos 0, pos 0, pos 0) (pos 0, pos 0, pos 0) h
-    at_zero : (t : ℕ) (start stop : Bool) → t < instance.periods →
-        IsCellTerm unit.points ZERO_SCALE (pos 0) (pos 0) (cell_cap instance.periods unit t start stop) (term_at terms t start stop)
-    at_zero t start stop h =
-        subst (λ n. IsCellTerm unit.points ZERO_SCALE (pos 0) (pos 0) (cell_cap n unit t start stop) (term_at terms t start stop)) long
-        (subst (λ (p : ℤ × ℤ × ℤ). IsCellTerm unit.points ZERO_SCALE p.0 p.1 (cell_cap (length rows) unit t start stop) (term_at terms t start stop))
-          (none t h) (term t start stop (within t h)))
-    at_unit : (t : ℕ) (start stop : Bool)
-        → IsCellTerm unit.points ZERO_SCALE (pos 0) (pos 0) (cell_cap instance.periods unit t start stop) (term_at terms t start stop)
-        → IsCellTerm (thermal_unit instance g).points ZERO_SCALE (output_price (zero_table instance) g t) (reserve_price (zero_table instance) g t)
-            (cell_cap instance.periods (thermal_unit instance g) t start stop) (term_at terms t start stop)
-    at_unit t start stop known =
-        subst (λ (u : Thermal). IsCellTerm u.points ZERO_SCALE (output_price (zero_table instance) g t) (reserve_price (zero_table instance) g t)
-            (cell_cap instance.periods u t start stop) (term_at terms t start stop)) (sym same)
-        (subst (λ a. IsCellTerm unit.points ZERO_SCALE a (reserve_price (zero_table instance) g t) (cell_cap instance.periods unit t start stop) (term_at terms t start stop))
-          (sym (output_price-zero instance g t))
-          (subst (λ b. IsCellTerm unit.points ZERO_SCALE (pos 0) b (cell_cap instance.periods unit t start stop) (term_at terms t start stop))
-            (sym (reserve_price-zero instance g t)) known))
+
+pub zero_row_lawful : (n : ℕ) (rows : List (ℤ × ℤ × ℤ)) → rows ≡ replicate n (pos 0, pos 0, pos 0)
+    → (t : ℕ) → t < length rows → IsLawfulRow (row_at rows t)
+zero_row_lawful n rows zeros t h =
+    let long = ap length zeros ∙ length-replicate n (pos 0, pos 0, pos 0) in
+    subst IsLawfulRow (sym (row-zero n t rows zeros (omega (arith, long))))
+    (record { output = omega arith; reserve = omega arith; demand = omega arith })
 
 -- ---- the sum as it grows
 pub unit_sum-more : (instance : Instance) (node : Node) (table : Table) (n : ℕ) (before v : ℤ)

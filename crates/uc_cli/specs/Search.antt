@@ -17,7 +17,8 @@ zero_table instance = record {
   k = ZERO_SCALE;
   pi = replicate instance.periods (pos 0);
   mu = replicate instance.periods (pos 0);
-  ramps = [] }
+  ramps = [];
+}
 
 -- the sum of the values of the first n units
 abbrev pub IsUnitSum : Instance → Node → Table → ℕ → ℤ → Type 0

@@ -51,10 +51,9 @@ fn is_solve_of_seven(words: &[String]) -> bool
 /// The words after the program's name, where they are `solve FILE --cert CERT --units 1`.
 #[tactic(auto, unfolding(crate::specs::Words::is_solve))]
 pub(crate) fn solve_words(words: &[String]) -> Option<Solve<'_>>
-    ensures {
-        MatchOption result (solve_of (map string_bytes words.now) ≡ None)
-            (λ solve. solve_of (map string_bytes words.now)
-                ≡ Some (record { instance = solve.instance.now; certificate = solve.certificate.now })) }
+    ensures { MatchOption result (solve_of (map string_bytes words.now) ≡ None)
+        (λ solve. solve_of (map string_bytes words.now)
+        ≡ Some (record { instance = solve.instance.now; certificate = solve.certificate.now })) }
 {
     if words.len() != 7 || !is_solve_of_seven(words) {
         return None;
