@@ -4,7 +4,7 @@ use Rattle.std.specs.Prelude.{unsigned_abs}
 use Rattle.std.specs.Int.{w64, w128}
 use Rattle.std.proofs.lemmas.Int.{to_z-of_z, fits_signed_from_abs}
 use Rattle.std.proofs.lemmas.Nat.{mul-le}
-use Rattle.state_walk.proofs.CornerCosts.{abs_add, abs_sub}
+use Rattle.state_walk.proofs.Magnitudes.{abs_add, abs_sub}
 
 pub wide : (z : ℤ) (m : ℕ) → unsigned_abs z ≤ m → m < 2 ^ 127 → to_z w128 (of_z w128 z) ≡ z
 wide z m h k = to_z-of_z w128 z (fits_signed_from_abs w128 z (omega arith))

@@ -1,28 +1,19 @@
 -- The numbers of a cell's corners: their sizes, and the cost of a pair with the output's price taken out of the quotient.
-use Rattle.std.proofs.Common.{◌≡◌, ℕ, ◌+◌, ◌*◌, ◌<◌, ◌≤◌, ◌^◌, List, length, sym, ap, subst, arith, ℤ, pos, ◌+ℤ◌, ◌-ℤ◌, ◌*ℤ◌, neg_ℤ, ◌≤ℤ◌, ◌<ℤ◌}
+use Rattle.std.proofs.Common.{◌≡◌, ℕ, ◌*◌, ◌<◌, ◌≤◌, ◌^◌, List, length, sym, ap, subst, arith, ℤ, pos, ◌+ℤ◌, ◌-ℤ◌, ◌*ℤ◌, neg_ℤ, ◌≤ℤ◌, ◌<ℤ◌}
 use Rattle.std.specs.Prelude.{unsigned_abs}
 use Rattle.std.specs.Int.{int_div_euclid}
-use Rattle.std.proofs.lemmas.Int.{ints, by_lt_z, unsigned_abs-mul}
-use Rattle.std.proofs.lemmas.Nat.{mul-le}
+use Rattle.std.proofs.lemmas.Int.{ints, by_lt_z}
 use Rattle.uc_model.specs.Division.{IsFloor}
 use Rattle.uc_model.specs.Points.{point_of, output_of}
 use Rattle.uc_model.specs.declared.instance.Point.{Point}
 use Rattle.uc_model.specs.declared.limits.TheConstants.{MAX_POWER, MAX_COST}
 use Rattle.uc_model.proofs.Ring.{linear, spread, mul_comm, mul_assoc, mul_left_comm, mul-one, one-mul, add-mul, mul-le-mul_left, mul-le-mul_turned}
 use Rattle.uc_model.proofs.Quotients.{IsFloor-int_div_euclid, IsFloor-add, IsFloor_unique}
+use Rattle.state_walk.proofs.Magnitudes.{abs_add, abs_sub, abs_mul}
 use Rattle.state_walk.specs.declared.limits.TheConstants.{MAX_UNIT_PRICE, MAX_CAP}
 use Rattle.state_walk.specs.Corners.{IsLawfulCell, point_cost, room, weighted_cost, pair_cost, MAX_ROOM, MAX_POINT_COST, MAX_WEIGHTED}
 
 -- ---- sizes
-pub abs_add : (a b : ℤ) (m n : ℕ) → unsigned_abs a ≤ m → unsigned_abs b ≤ n → unsigned_abs (a +ℤ b) ≤ m + n
-abs_add a b m n h k = omega (arith, ints)
-
-pub abs_sub : (a b : ℤ) (m n : ℕ) → unsigned_abs a ≤ m → unsigned_abs b ≤ n → unsigned_abs (a -ℤ b) ≤ m + n
-abs_sub a b m n h k = omega (arith, ints)
-
-pub abs_mul : (a b : ℤ) (m n : ℕ) → unsigned_abs a ≤ m → unsigned_abs b ≤ n → unsigned_abs (a *ℤ b) ≤ m * n
-abs_mul a b m n h k = subst (λ x. x ≤ m * n) (sym (unsigned_abs-mul a b)) (mul-le (unsigned_abs a) (unsigned_abs b) m n h k)
-
 pub scale-size : (points : List Point) (k a b cap : ℤ) → IsLawfulCell points k a b cap → unsigned_abs k ≤ 10 ^ 9
 scale-size points k a b cap lawful = omega (arith, ints, lawful.scale.0, lawful.scale.1)
 

@@ -1,9 +1,7 @@
 -- The costs of the walk are far below the ends of 128 bits.
-use Rattle.std.proofs.Common.{ℕ, zero, suc, ◌+◌, ◌*◌, ◌^◌, ◌<◌, ◌≤◌, ◌-◌, Bool, true, false, sym, subst, arith, ℤ, pos, ◌+ℤ◌, ◌-ℤ◌, ◌*ℤ◌}
+use Rattle.std.proofs.Common.{ℕ, zero, suc, ◌+◌, ◌*◌, ◌^◌, ◌<◌, ◌≤◌, ◌-◌, Bool, true, false, arith, ℤ, pos, ◌*ℤ◌}
 use Rattle.std.specs.Prelude.{Option, Some, None, unsigned_abs, ◌==◌, if◌then◌else◌}
-use Rattle.std.specs.Int.{int_min}
-use Rattle.std.proofs.lemmas.Int.{ints, unsigned_abs-mul}
-use Rattle.std.proofs.lemmas.Nat.{mul-le}
+use Rattle.std.proofs.lemmas.Int.{ints}
 use Rattle.std.proofs.lemmas.Bool.{cond_both}
 use Rattle.uc_model.specs.Sums.{least_below}
 use Rattle.uc_model.specs.StartCategory.{category_count, category_cost, may_cost_as, sigma}
@@ -12,23 +10,11 @@ use Rattle.uc_model.specs.declared.limits.TheConstants.{MAX_COST, MAX_POWER}
 use Rattle.uc_model.specs.declared.instance.Thermal.{Thermal}
 use Rattle.uc_model.specs.declared.terms.Terms.{Terms}
 use Rattle.dual_model.specs.declared.node.Fix.{Fix}
+use Rattle.state_walk.proofs.Magnitudes.{abs_add, abs_sub, abs_mul, abs_min}
 use Rattle.state_walk.specs.declared.limits.TheConstants.{MAX_UNIT_PRICE, MAX_TERM}
 use Rattle.state_walk.specs.UnitTerms.{AreSizedTerms, IsSized, period_count, price_at}
 use Rattle.state_walk.specs.Moves.{stop_since, hour_cost, hour_before, move}
 use Rattle.state_walk.specs.Onward.{plus, lesser, end_cost, since_after, onward, IsWithin, MAX_MOVE, MAX_ONWARD}
-
--- ---- sums and products
-abs_add : (a b : ℤ) (m n : ℕ) → unsigned_abs a ≤ m → unsigned_abs b ≤ n → unsigned_abs (a +ℤ b) ≤ m + n
-abs_add a b m n h k = omega (arith, ints)
-
-abs_sub : (a b : ℤ) (m n : ℕ) → unsigned_abs a ≤ m → unsigned_abs b ≤ n → unsigned_abs (a -ℤ b) ≤ m + n
-abs_sub a b m n h k = omega (arith, ints)
-
-abs_mul : (a b : ℤ) (m n : ℕ) → unsigned_abs a ≤ m → unsigned_abs b ≤ n → unsigned_abs (a *ℤ b) ≤ m * n
-abs_mul a b m n h k = subst (λ x. x ≤ m * n) (sym (unsigned_abs-mul a b)) (mul-le (unsigned_abs a) (unsigned_abs b) m n h k)
-
-pub abs_min : (a b : ℤ) (m : ℕ) → unsigned_abs a ≤ m → unsigned_abs b ≤ m → unsigned_abs (int_min a b) ≤ m
-abs_min a b m h k = cond_both _ b a (λ x. unsigned_abs x ≤ m) (λ e. k) (λ e. h)
 
 -- ---- the least start cost is one of the costs
 least_below-size : (n : ℕ) (test : ℕ → Bool) (f : ℕ → ℤ) (other : ℤ) (m : ℕ) → unsigned_abs other ≤ m

@@ -6,7 +6,7 @@ ghost use Rattle.state_walk.specs.UnitTerms.{AreSizedTerms, period_count, place 
 ghost use Rattle.state_walk.specs.Moves.{hour_before as hour_of, move, stop_since as stop_of};
 
 use crate::limits::{MAX_TERM, MAX_UNIT_PRICE};
-use crate::products::scaled;
+use crate::products::{product, scaled};
 use crate::rules::{holds_initially, may_be_off, may_be_on, may_start, may_stop};
 use crate::start_cost::sigma;
 use dual_model::Fix;
@@ -125,7 +125,7 @@ fn less_product(term: i128, price: i128, minimum: i64) -> i128
     requires minimum { unsigned_abs minimum ≤ MAX_POWER }
     ensures { result ≡ term -ℤ price *ℤ minimum }
 {
-    term - price * i128::from(minimum)
+    term - product(price, i128::from(minimum))
 }
 
 // The term of a cell of period t, by whether it is a start and whether a stop follows.

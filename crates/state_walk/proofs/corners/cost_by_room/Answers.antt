@@ -6,7 +6,8 @@ use Rattle.uc_model.specs.Points.{point_of}
 use Rattle.uc_model.specs.declared.limits.TheConstants.{MAX_COST}
 use Rattle.state_walk.specs.Corners.{room, MAX_ROOM}
 use Rattle.state_walk.proofs.Bits.{wide, narrow, product_fits}
-use Rattle.state_walk.proofs.CornerCosts.{room-size, abs_mul}
+use Rattle.state_walk.proofs.CornerCosts.{room-size}
+use Rattle.state_walk.proofs.Magnitudes.{abs_mul}
 use Rattle.state_walk.proofs.corners.cost_by_room.Goals as goal
 
 cost_is : (c : goal.After-from) → c.from.result ≡ (point_of c.args.points.now c.args.j).cost

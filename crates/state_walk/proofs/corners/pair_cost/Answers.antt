@@ -7,7 +7,8 @@ use Rattle.uc_model.proofs.Ring.{linear}
 use Rattle.state_walk.specs.declared.limits.TheConstants.{MAX_UNIT_PRICE, MAX_CAP}
 use Rattle.state_walk.specs.Corners.{room, weighted_cost, MAX_ROOM, MAX_WEIGHTED}
 use Rattle.state_walk.proofs.Bits.{wide, narrow, product_fits, sum_fits, sum_is, difference_is}
-use Rattle.state_walk.proofs.CornerCosts.{scale-size, abs_mul, floor-size, pair_cost-from}
+use Rattle.state_walk.proofs.CornerCosts.{scale-size, floor-size, pair_cost-from}
+use Rattle.state_walk.proofs.Magnitudes.{abs_mul}
 use Rattle.state_walk.proofs.corners.pair_cost.Goals as goal
 
 -- a number of 64 bits that was widened

@@ -6,7 +6,8 @@ use Rattle.uc_model.specs.declared.limits.TheConstants.{MAX_POWER, MAX_COST}
 use Rattle.state_walk.specs.declared.limits.TheConstants.{MAX_UNIT_PRICE}
 use Rattle.state_walk.specs.Corners.{MAX_POINT_COST}
 use Rattle.state_walk.proofs.Bits.{wide, narrow, product_fits, sum_fits, sum_is}
-use Rattle.state_walk.proofs.CornerCosts.{point_cost-size, scale-size, abs_mul}
+use Rattle.state_walk.proofs.CornerCosts.{point_cost-size, scale-size}
+use Rattle.state_walk.proofs.Magnitudes.{abs_mul}
 use Rattle.state_walk.proofs.corners.point_cost.Goals as goal
 
 pub product-requires : goal.product-requires

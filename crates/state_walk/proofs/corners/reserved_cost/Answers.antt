@@ -4,7 +4,8 @@ use Rattle.std.specs.Prelude.{unsigned_abs}
 use Rattle.state_walk.specs.declared.limits.TheConstants.{MAX_UNIT_PRICE}
 use Rattle.state_walk.specs.Corners.{room, MAX_ROOM, MAX_POINT_COST}
 use Rattle.state_walk.proofs.Bits.{wide, product_fits, sum_fits, sum_is}
-use Rattle.state_walk.proofs.CornerCosts.{abs_mul, room-size}
+use Rattle.state_walk.proofs.CornerCosts.{room-size}
+use Rattle.state_walk.proofs.Magnitudes.{abs_mul}
 use Rattle.state_walk.proofs.corners.reserved_cost.Goals as goal
 
 pub product-requires : goal.product-requires

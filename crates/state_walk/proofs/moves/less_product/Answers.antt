@@ -1,47 +1,37 @@
--- The numbers are far below the ends of 128 bits.
-use Rattle.std.proofs.Common.{◌≡◌, arith, ◌*◌, ◌^◌, ◌≤◌, lit<, FitsSigned, to_z, of_z, ℤ, ◌*ℤ◌, ◌-ℤ◌}
+-- The product fits, and so does the difference.
+use Rattle.std.proofs.Common.{◌≡◌, ◌≤◌, ◌*◌, ◌∙◌, sym, ap, subst, lit<, to_z, of_z, ◌*ℤ◌, ◌-ℤ◌}
 use Rattle.std.specs.Prelude.{unsigned_abs}
 use Rattle.std.specs.Int.{w128}
-use Rattle.std.proofs.lemmas.Int.{ints, to_z-of_z, fits_signed_mul, fits_signed_from_abs, unsigned_abs-mul}
-use Rattle.std.proofs.lemmas.Nat.{mul-le}
 use Rattle.uc_model.specs.declared.limits.TheConstants.{MAX_POWER}
-use Rattle.state_walk.specs.declared.limits.TheConstants.{MAX_UNIT_PRICE}
+use Rattle.state_walk.specs.declared.limits.TheConstants.{MAX_UNIT_PRICE, MAX_TERM}
+use Rattle.state_walk.proofs.Magnitudes.{abs_mul}
+use Rattle.state_walk.proofs.Bits.{wide, narrow, product_fits, difference_fits, difference_is}
 use Rattle.state_walk.proofs.moves.less_product.Goals as goal
 
--- the product fits
-product_fits : (price minimum : ℤ) → unsigned_abs price ≤ MAX_UNIT_PRICE → unsigned_abs minimum ≤ MAX_POWER
-    → FitsSigned w128 (price *ℤ minimum)
-product_fits price minimum p m = fits_signed_mul w128 price minimum MAX_UNIT_PRICE MAX_POWER p m (lit< tt)
+pub product-requires : goal.product-requires
+product-requires c =
+    product_fits c.args.price c.from.result MAX_UNIT_PRICE MAX_POWER c.requires.price
+    (subst (λ z. unsigned_abs z ≤ MAX_POWER) (sym (c.from.ensures ∙ narrow c.args.minimum MAX_POWER c.requires.minimum (lit< tt))) c.requires.minimum)
+    (lit< tt) (lit< tt) (lit< tt)
 
--- and so does the difference
-difference_fits : (term price minimum : ℤ) → unsigned_abs term ≤ 10 ^ 29 → unsigned_abs price ≤ MAX_UNIT_PRICE → unsigned_abs minimum ≤ MAX_POWER
-    → FitsSigned w128 (term -ℤ price *ℤ minimum)
-difference_fits term price minimum t p m =
-    let product : unsigned_abs (price *ℤ minimum) ≤ MAX_UNIT_PRICE * MAX_POWER =
-    rw (unsigned_abs-mul price minimum) (mul-le (unsigned_abs price) (unsigned_abs minimum) MAX_UNIT_PRICE MAX_POWER p m) in
-    fits_signed_from_abs w128 (term -ℤ price *ℤ minimum) (omega (arith, ints))
+-- what the product is
+product_is : (c : goal.After-product) → c.product.result ≡ c.args.price *ℤ c.args.minimum
+product_is c =
+    let price = wide c.args.price MAX_UNIT_PRICE c.requires.price (lit< tt) in
+    let minimum = ap (λ z. to_z w128 (of_z w128 z)) (c.from.ensures ∙ narrow c.args.minimum MAX_POWER c.requires.minimum (lit< tt))
+    ∙ wide c.args.minimum MAX_POWER c.requires.minimum (lit< tt) in
+    c.product.ensures ∙ (λ i. price i *ℤ minimum i)
 
-pub overflow_mul-result : goal.overflow_mul-result
-overflow_mul-result c =
-    let wide : to_z w128 (of_z w128 c.args.price) ≡ c.args.price = to_z-of_z w128 c.args.price c.ranges.price in
-    let narrow : to_z w128 (of_z w128 c.from.result) ≡ c.args.minimum = omega (arith, ints) in
-    rw (wide, narrow) (product_fits c.args.price c.args.minimum c.requires.price c.requires.minimum)
+product_size : (c : goal.After-product) → unsigned_abs c.product.result ≤ MAX_UNIT_PRICE * MAX_POWER
+product_size c =
+    subst (λ z. unsigned_abs z ≤ MAX_UNIT_PRICE * MAX_POWER) (sym (product_is c))
+    (abs_mul c.args.price c.args.minimum MAX_UNIT_PRICE MAX_POWER c.requires.price c.requires.minimum)
 
 pub overflow_sub-result : goal.overflow_sub-result
 overflow_sub-result c =
-    let wide : to_z w128 (of_z w128 c.args.price) ≡ c.args.price = to_z-of_z w128 c.args.price c.ranges.price in
-    let narrow : to_z w128 (of_z w128 c.from.result) ≡ c.args.minimum = omega (arith, ints) in
-    let whole : to_z w128 (of_z w128 (c.args.price *ℤ c.args.minimum)) ≡ c.args.price *ℤ c.args.minimum =
-    to_z-of_z w128 _ (product_fits c.args.price c.args.minimum c.requires.price c.requires.minimum) in
-    let term : to_z w128 (of_z w128 c.args.term) ≡ c.args.term = to_z-of_z w128 c.args.term c.ranges.term in
-    rw (wide, narrow, whole, term) (difference_fits c.args.term c.args.price c.args.minimum c.requires.term c.requires.price c.requires.minimum)
+    difference_fits c.args.term c.product.result MAX_TERM (MAX_UNIT_PRICE * MAX_POWER) c.requires.term (product_size c) (lit< tt)
 
 pub returns : goal.returns
 returns c =
-    let wide : to_z w128 (of_z w128 c.args.price) ≡ c.args.price = to_z-of_z w128 c.args.price c.ranges.price in
-    let narrow : to_z w128 (of_z w128 c.from.result) ≡ c.args.minimum = omega (arith, ints) in
-    let whole : to_z w128 (of_z w128 (c.args.price *ℤ c.args.minimum)) ≡ c.args.price *ℤ c.args.minimum =
-    to_z-of_z w128 _ (product_fits c.args.price c.args.minimum c.requires.price c.requires.minimum) in
-    let term : to_z w128 (of_z w128 c.args.term) ≡ c.args.term = to_z-of_z w128 c.args.term c.ranges.term in
-    rw (wide, narrow, whole, term)
-    (to_z-of_z w128 _ (difference_fits c.args.term c.args.price c.args.minimum c.requires.term c.requires.price c.requires.minimum))
+    difference_is c.args.term c.product.result MAX_TERM (MAX_UNIT_PRICE * MAX_POWER) c.requires.term (product_size c) (lit< tt)
+    ∙ ap (λ z. c.args.term -ℤ z) (product_is c)
