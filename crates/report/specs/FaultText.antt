@@ -1,6 +1,6 @@
 -- The line on standard error for a fault that ends the program, and the exit status. This project's own form. Units and periods
 -- count from 1 in the text, and from 0 in the types.
-use Rattle.std.specs.Prelude.{ℕ, zero, suc, Bool, true, false, ◌||◌, List, [], ◌∷◌, ◌++◌, codes, ◌==◌, if◌then◌else◌}
+use Rattle.std.specs.Prelude.{ℕ, zero, suc, Bool, true, false, ◌||◌, List, [], ◌∷◌, ◌++◌, ℤ, codes, ◌==◌, if◌then◌else◌}
 use Rattle.uc_model.specs.Decimal.{whole_text}
 use Rattle.uc_model.specs.Money.{money_text}
 use Rattle.uc_model.specs.declared.field.Field.{Field}
@@ -57,7 +57,7 @@ json_text kind =
     else (if kind == 5 then codes "unpaired surrogate" else []))))
 
 -- bytes count from 0
-abbrev pub json_line : ℕ → ℕ → List ℕ
+unfoldable pub json_line : ℕ → ℕ → List ℕ
 json_line byte kind = codes "instance: byte " ++ (whole_text byte ++ (codes ": " ++ (json_text kind ++ 10 ∷ [])))
 
 -- the field's name in the file, after a space
@@ -91,20 +91,23 @@ field_text field.PiecewiseProductionCost = codes " piecewise_production.cost"
 -- the unit, by its kind (1 thermal, 2 renewable, else none) and name, after a space
 abbrev pub owner_text : ℕ → List ℕ → List ℕ
 owner_text kind name =
-    if kind == 1 then 32 ∷ unit_words (codes "thermal") name
-    else (if kind == 2 then 32 ∷ unit_words (codes "renewable") name else [])
+    if kind == 1 then unit_words (codes " thermal") name
+    else (if kind == 2 then unit_words (codes " renewable") name else [])
 
 -- the entry of an array, from 1, after a space; 0 is none
 abbrev pub entry_text : ℕ → List ℕ
 entry_text zero = []
 entry_text (suc entry) = 32 ∷ whole_text (suc entry)
 
--- the field and the entry of a unit or of the whole instance
-abbrev pub place_text : ℕ → List ℕ → Field → ℕ → List ℕ
-place_text kind unit field entry = owner_text kind unit ++ (field_text field ++ (entry_text entry ++ 10 ∷ []))
+unfoldable pub code_text : ℕ → List ℕ
+code_text code = codes "instance: I" ++ whole_text code
 
+unfoldable pub field_and_entry : Field → ℕ → List ℕ
+field_and_entry field entry = field_text field ++ (entry_text entry ++ 10 ∷ [])
+
+-- the code, and the field and the entry of a unit or of the whole instance
 abbrev pub instance_line : ℕ → ℕ → List ℕ → Field → ℕ → List ℕ
-instance_line code kind unit field entry = (codes "instance: I" ++ whole_text code) ++ place_text kind unit field entry
+instance_line code kind unit field entry = code_text code ++ (owner_text kind unit ++ field_and_entry field entry)
 
 -- what is wrong at a line, by its kind from 1 to 3; another kind has no text
 abbrev pub line_fault_text : ℕ → List ℕ
@@ -113,26 +116,36 @@ line_fault_text kind =
     else (if kind == 3 then codes "bytes after the end" else []))
 
 -- lines count from 1 here and in the type
-abbrev pub certificate_line : ℕ → ℕ → List ℕ
+unfoldable pub certificate_line : ℕ → ℕ → List ℕ
 certificate_line number kind =
     codes "certificate: line " ++ (whole_text number ++ (codes ": " ++ (line_fault_text kind ++ 10 ∷ [])))
 
--- The rule that the schedule breaks, and where. Rule 13 speaks of a renewable unit, 14 and 15 of a whole period, the others of a
--- thermal unit.
+-- a rule that the schedule breaks, for a unit of a kind or for a whole period
+unfoldable pub unit_rule_line : ℕ → List ℕ → ℕ → ℕ → List ℕ
+unit_rule_line rule kind unit period =
+    codes "certificate: C2 M" ++ (whole_text rule ++ (32 ∷ (kind ++ (32 ∷ (whole_text (suc unit) ++ (codes " period "
+    ++ (whole_text (suc period) ++ 10 ∷ [])))))))
+
+unfoldable pub period_rule_line : ℕ → ℕ → List ℕ
+period_rule_line rule period =
+    codes "certificate: C2 M" ++ (whole_text rule ++ (codes " period " ++ (whole_text (suc period) ++ 10 ∷ [])))
+
+-- rule 13 speaks of a renewable unit, 14 and 15 of a whole period, the others of a thermal unit
 abbrev pub rule_line : ℕ → ℕ → ℕ → List ℕ
 rule_line rule unit period =
-    if rule == 13 then
-    line (codes "certificate: C2") ((77 ∷ whole_text rule) ∷ codes "renewable" ∷ whole_text (suc unit) ∷ codes "period" ∷ whole_text (suc period) ∷ [])
-    else (if (rule == 14) || (rule == 15) then
-    line (codes "certificate: C2") ((77 ∷ whole_text rule) ∷ codes "period" ∷ whole_text (suc period) ∷ [])
-    else line (codes "certificate: C2") ((77 ∷ whole_text rule) ∷ codes "thermal" ∷ whole_text (suc unit) ∷ codes "period" ∷ whole_text (suc period) ∷ []))
+    if rule == 13 then unit_rule_line rule (codes "renewable") unit period
+    else (if (rule == 14) || (rule == 15) then period_rule_line rule period
+    else unit_rule_line rule (codes "thermal") unit period)
+
+unfoldable pub costs_line : ℤ → ℤ → List ℕ
+costs_line written computed =
+    codes "certificate: C3 written " ++ (money_text written ++ (codes " computed " ++ (money_text computed ++ 10 ∷ [])))
 
 -- why the certificate is refused; tables and nodes count from 1 here and in the type
 abbrev pub refusal_line : Refusal → List ℕ
 refusal_line (C1 table) = line (codes "certificate: C1 table") (whole_text table ∷ [])
 refusal_line (C2 rule unit period) = rule_line rule unit period
-refusal_line (C3 written computed) =
-    line (codes "certificate: C3 written") (money_text written ∷ codes "computed" ∷ money_text computed ∷ [])
+refusal_line (C3 written computed) = costs_line written computed
 refusal_line (C4 node) = line (codes "certificate: C4 node") (whole_text node ∷ [])
 refusal_line (C5 node) = line (codes "certificate: C5 node") (whole_text node ∷ [])
 refusal_line (C6 node) = line (codes "certificate: C6 node") (whole_text node ∷ [])

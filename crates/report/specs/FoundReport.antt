@@ -58,11 +58,13 @@ abbrev pub start_text : ℕ → List ℕ
 start_text zero = []
 start_text (suc s) = 42 ∷ whole_text (suc s)
 
+-- total output and reserve
+abbrev pub power_text : Thermal → Cell → List ℕ
+power_text unit cell = money_text (cell.p +ℤ unit.pmin) ++ (43 ∷ money_text cell.r)
+
 -- a cell: `-`, or total output, reserve and the category of a start
 abbrev pub cell_text : Thermal → Cell → List ℕ
-cell_text unit cell =
-    if cell.on then money_text (cell.p +ℤ unit.pmin) ++ (43 ∷ (money_text cell.r ++ start_text cell.category))
-    else codes "-"
+cell_text unit cell = if cell.on then power_text unit cell ++ start_text cell.category else codes "-"
 
 abbrev pub thermal_line : Thermal → List Cell → List ℕ
 thermal_line unit row = list_line (unit_words (codes "thermal") unit.name) (cell_text unit) row
@@ -70,50 +72,76 @@ thermal_line unit row = list_line (unit_words (codes "thermal") unit.name) (cell
 abbrev pub renewable_line : Renewable → List ℤ → List ℕ
 renewable_line unit row = list_line (unit_words (codes "renewable") unit.name) money_text row
 
+-- the line of a unit and its row
+abbrev pub paired_thermal_line : Thermal × List Cell → List ℕ
+paired_thermal_line pair = thermal_line pair.0 pair.1
+
+abbrev pub paired_renewable_line : Renewable × List ℤ → List ℕ
+paired_renewable_line pair = renewable_line pair.0 pair.1
+
 -- a line for each unit that has a row, in the order of the file
 abbrev pub thermal_lines : List Thermal → List (List Cell) → List ℕ
-thermal_lines units rows = flat_map (λ (u : Thermal × List Cell). thermal_line u.0 u.1) (zip units rows)
+thermal_lines units rows = flat_map paired_thermal_line (zip units rows)
 
 abbrev pub renewable_lines : List Renewable → List (List ℤ) → List ℕ
-renewable_lines units rows = flat_map (λ (u : Renewable × List ℤ). renewable_line u.0 u.1) (zip units rows)
+renewable_lines units rows = flat_map paired_renewable_line (zip units rows)
 
 abbrev pub schedule_lines : Instance → Printed → List ℕ
 schedule_lines instance printed =
     thermal_lines instance.thermal printed.thermal ++ renewable_lines instance.renewable printed.renewable
 
+-- a thermal unit by its name
+abbrev pub thermal_words : Instance → ℕ → List ℕ
+thermal_words instance unit = unit_words (codes "thermal") (thermal_unit instance unit).name
+
+-- the range that a unit needs above its minimum
+unfoldable pub range_text : ℤ → ℤ → List ℕ
+range_text low high =
+    codes " needs at least " ++ (money_text low ++ (codes " and at most " ++ (money_text high ++ (codes " above its minimum" ++ 10 ∷ []))))
+
 -- why a commitment could not be dispatched
-abbrev pub why_text : Instance → Why → List ℕ
-why_text instance (Rule rule unit) =
-    unit_words (codes "thermal") (thermal_unit instance unit).name ++ (codes " breaks M" ++ whole_text rule)
-why_text instance (Box unit low high) =
-    unit_words (codes "thermal") (thermal_unit instance unit).name ++ (codes " needs at least " ++ (money_text low
-    ++ (codes " and at most " ++ (money_text high ++ codes " above its minimum"))))
-why_text instance (Over least demand) =
-    codes "least output " ++ (money_text least ++ (codes " above demand " ++ money_text demand))
-why_text instance (Under most demand) =
-    codes "most output " ++ (money_text most ++ (codes " below demand " ++ money_text demand))
-why_text instance (Reserve room need) =
-    codes "reserve " ++ (money_text room ++ (codes " below need " ++ money_text need))
+abbrev pub why_line : Instance → Why → List ℕ
+why_line instance (Rule rule unit) = line (thermal_words instance unit) (codes "breaks" ∷ (77 ∷ whole_text rule) ∷ [])
+why_line instance (Box unit low high) = thermal_words instance unit ++ range_text low high
+why_line instance (Over least demand) =
+    line (codes "least output") (money_text least ∷ codes "above demand" ∷ money_text demand ∷ [])
+why_line instance (Under most demand) =
+    line (codes "most output") (money_text most ∷ codes "below demand" ∷ money_text demand ∷ [])
+why_line instance (Reserve room need) =
+    line (codes "reserve") (money_text room ∷ codes "below need" ∷ money_text need ∷ [])
+
+-- the period in which it got stuck
+unfoldable pub stuck_period : ℕ → List ℕ
+stuck_period period = codes "most-on commitment stuck in period " ++ (whole_text (suc period) ++ codes ": ")
 
 -- where and why the commitment with the most on periods could not be dispatched, where this is known
 abbrev pub stuck_line : Instance → Option Stuck → List ℕ
 stuck_line instance None = []
-stuck_line instance (Some stuck) =
-    (codes "most-on commitment stuck in period " ++ (whole_text (suc stuck.period) ++ codes ": "))
-    ++ (why_text instance stuck.why ++ 10 ∷ [])
+stuck_line instance (Some stuck) = stuck_period stuck.period ++ why_line instance stuck.why
 
--- with a schedule: whether the search is closed, the cost, the bound and the schedule
+-- the bound and the count of evaluations
+abbrev pub bound_lines : Found → List ℕ
+bound_lines found = bound_line (tree_bound found.tree) ++ evaluations_line found
+
+abbrev pub cost_lines : Found → ℤ → List ℕ
+cost_lines found cost = cost_line cost ++ bound_lines found
+
+-- whether the search is closed, the cost, the bound and the count of evaluations
+abbrev pub result_lines : Found → ℕ → ℤ → List ℕ
+result_lines found gap cost = state_line (is_within_gap cost (tree_bound found.tree) gap) ++ cost_lines found cost
+
+-- a schedule with its cost
 abbrev pub schedule_report : Instance → Found → ℕ → Printed → ℤ → List ℕ
-schedule_report instance found gap printed cost =
-    state_line (is_within_gap cost (tree_bound found.tree) gap) ++ (cost_line cost ++ (bound_line (tree_bound found.tree)
-    ++ (evaluations_line found ++ schedule_lines instance printed)))
+schedule_report instance found gap printed cost = result_lines found gap cost ++ schedule_lines instance printed
 
--- without one: a bound where there may be a schedule, and else that there is none
+abbrev pub open_lines : Instance → Found → List ℕ
+open_lines instance found = bound_lines found ++ stuck_line instance found.most_on
+
+-- without a schedule: with no bound there is none, and else there may be one
 abbrev pub no_schedule_report : Instance → Found → Option ℤ → List ℕ
 no_schedule_report instance found None = line (codes "infeasible") [] ++ evaluations_line found
 no_schedule_report instance found (Some bound) =
-    line (codes "budget spent, no schedule found") [] ++ (bound_line (Some bound)
-    ++ (evaluations_line found ++ stuck_line instance found.most_on))
+    line (codes "budget spent, no schedule found") [] ++ open_lines instance found
 
 abbrev pub outcome_report : Instance → Found → ℕ → Option (Printed × ℤ) → List ℕ
 outcome_report instance found gap None = no_schedule_report instance found (tree_bound found.tree)

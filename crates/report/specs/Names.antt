@@ -14,9 +14,6 @@ escaped byte =
     else (if nat_lt byte 32 then 92 ∷ (codes "u00" ++ hex_digit (byte / 16) ∷ hex_digit (byte % 16) ∷ [])
     else byte ∷ []))
 
-abbrev pub quoted : List ℕ → List ℕ
-quoted name = 34 ∷ (flat_map escaped name ++ 34 ∷ [])
-
--- a unit by its kind, `thermal` or `renewable`, and its name
-abbrev pub unit_words : List ℕ → List ℕ → List ℕ
-unit_words kind name = kind ++ (32 ∷ quoted name)
+-- a unit by its kind, `thermal` or `renewable`, and its name in double quotes
+unfoldable pub unit_words : List ℕ → List ℕ → List ℕ
+unit_words kind name = (kind ++ 32 ∷ 34 ∷ []) ++ (flat_map escaped name ++ 34 ∷ [])

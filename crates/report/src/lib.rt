@@ -3,5 +3,13 @@
 #![tactic(auto, using(cert_text::proofs::Writing::then_ok, cert_text::proofs::Writing::then_failed, cert_text::proofs::Writing::front_at_error))]
 
 pub mod fault;
+mod fault_text;
+mod found;
+mod names;
+mod numbers;
+mod schedule;
+mod stuck;
 
 pub use fault::Fault;
+pub use fault_text::write_fault;
+pub use found::{is_closed, write_found};
