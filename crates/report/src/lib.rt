@@ -9,6 +9,8 @@ mod names;
 mod numbers;
 mod schedule;
 mod stuck;
+#[cfg(test)]
+mod tests;
 
 pub use fault::Fault;
 pub use fault_text::write_fault;
