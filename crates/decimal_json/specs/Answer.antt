@@ -1,0 +1,86 @@
+-- What a part of the reader answers, beside the machine of `specs/Scan.antt`.
+use Rattle.std.specs.Prelude.{◌≡◌, ℕ, ◌+◌, ◌==◌, ⊤, Bool, true, false, List, [], ◌∷◌, ◌++◌, length, drop, min}
+use Rattle.decimal_json.specs.declared.types.JsonFault.{JsonFault}
+use Rattle.decimal_json.specs.declared.types.JsonFault.TheVariants.{At, NoMemory}
+use Rattle.decimal_json.specs.Number.{is_mark}
+use Rattle.decimal_json.specs.Scan.{Frame, Spot, wanted, first_item, first_key, key_wanted, colon_wanted, ended, literal, numeral, quoted, minus, whole, point, fraction, mark, exponent, so_far, Step, Outcome, fault, after, scan}
+
+-- The outcome is this fault. Want of memory may come in place of any outcome.
+abbrev pub Leads : JsonFault → Outcome → Type 0
+Leads (At at kind) o = o ≡ fault at kind
+Leads NoMemory o = ⊤
+
+-- what comes of the bytes after a step
+abbrev pub resumed : List ℕ → ℕ → Step → Outcome
+resumed bytes at s = after s (λ outer spot. scan bytes at outer spot)
+
+-- White space may stand here.
+abbrev pub MaySpace : Spot → Type 0
+MaySpace wanted = ⊤
+MaySpace first_item = ⊤
+MaySpace first_key = ⊤
+MaySpace (key_wanted ms) = ⊤
+MaySpace (colon_wanted ms k) = ⊤
+MaySpace (ended v) = ⊤
+MaySpace (literal v ls) = ⊥
+MaySpace (numeral n) = ⊥
+MaySpace (quoted p q) = ⊥
+
+-- The byte at a place, if there is one, passes no such test.
+abbrev pub FailsAt : (ℕ → Bool) → List ℕ → ℕ → Type 0
+FailsAt test bytes at = (c : ℕ) (cs : List ℕ) → drop at bytes ≡ c ∷ cs → test c ≡ false
+
+-- This byte stands at a place.
+abbrev pub StandsAt : List ℕ → ℕ → ℕ → Type 0
+StandsAt bytes at c = drop at bytes ≡ c ∷ drop (at + 1) bytes
+
+-- A number may end at a place, with these digits before and after the point.
+pub record MayEnd (bytes : List ℕ) (at : ℕ) (outer : List Frame) (spot : Spot) (negative : Bool) (ds fs : List ℕ) : Type 0 where
+  pub marked : (c : ℕ) → StandsAt bytes at c → is_mark c ≡ true → scan bytes at outer spot ≡ scan bytes (at + 1) outer (numeral (mark negative ds fs))
+  pub unmarked : FailsAt is_mark bytes at → scan bytes at outer spot ≡ scan bytes at outer (ended (so_far negative ds fs false 0))
+
+-- A number may end at a place, or go on with a point.
+pub record AfterWhole (bytes : List ℕ) (at : ℕ) (outer : List Frame) (spot : Spot) (negative : Bool) (ds : List ℕ) : Type 0 where
+  pub pointed : StandsAt bytes at 46 → scan bytes at outer spot ≡ scan bytes (at + 1) outer (numeral (point negative ds))
+  pub unpointed : FailsAt (λ c. c == 46) bytes at → MayEnd bytes at outer spot negative ds []
+
+-- From one place to another there are digits alone, and these are added to a list.
+pub record AddsDigits (bytes : List ℕ) (start at : ℕ) (old new : List ℕ) : Type 0 where
+  pub digits : List ℕ
+  pub added : new ≡ old ++ digits
+  pub count : start + length digits ≡ at
+  pub before_point : (outer : List Frame) (n : Bool) (ds : List ℕ) → scan bytes start outer (numeral (whole n ds)) ≡ scan bytes at outer (numeral (whole n (ds ++ digits)))
+  pub after_point : (outer : List Frame) (n : Bool) (ds fs : List ℕ) → scan bytes start outer (numeral (fraction n ds fs)) ≡ scan bytes at outer (numeral (fraction n ds (fs ++ digits)))
+
+-- where the digits of a number begin, behind its sign
+abbrev pub begun : Bool → Spot
+begun true = numeral minus
+begun false = wanted
+
+-- From one place to another stand the digits before the point.
+pub record ReadsWhole (bytes : List ℕ) (start at : ℕ) (outer : List Frame) (negative : Bool) (ds : List ℕ) : Type 0 where
+  pub spot : Spot
+  pub same : scan bytes start outer (begun negative) ≡ scan bytes at outer spot
+  pub then : AfterWhole bytes at outer spot negative ds
+
+-- From one place to another stand a point and digits, or nothing.
+pub record ReadsFraction (bytes : List ℕ) (start at places : ℕ) (old new : List ℕ) : Type 0 where
+  pub digits : List ℕ
+  pub added : new ≡ old ++ digits
+  pub count : length digits ≡ places
+  pub read : (outer : List Frame) (spot : Spot) (n : Bool) → AfterWhole bytes start outer spot n old
+    → (later : Spot) × (scan bytes start outer spot ≡ scan bytes at outer later) × MayEnd bytes at outer later n old digits
+
+-- An exponent's digits, as one whole, are kept up to this.
+abbrev pub kept : ℕ → ℕ
+kept w = min w 10_000_000_000_000_000_000
+
+-- From one place to another stand the digits of an exponent behind its first, and as one whole they are this.
+abbrev pub AddsExponent : List ℕ → ℕ → ℕ → ℕ → ℕ → Type 0
+AddsExponent bytes start at first written = (w : ℕ) × (written ≡ kept w) × ((outer : List Frame) (n : Bool) (ds fs : List ℕ) (down : Bool)
+    → scan bytes start outer (numeral (exponent n ds fs down first)) ≡ scan bytes at outer (numeral (exponent n ds fs down w)))
+
+-- From one place to another stands an exponent, or nothing, and the number ends.
+abbrev pub ReadsExponent : List ℕ → ℕ → ℕ → Bool → ℕ → Type 0
+ReadsExponent bytes start at down written = (w : ℕ) × (written ≡ kept w) × ((outer : List Frame) (spot : Spot) (n : Bool) (ds fs : List ℕ)
+    → MayEnd bytes start outer spot n ds fs → scan bytes start outer spot ≡ scan bytes at outer (ended (so_far n ds fs down w)))

@@ -1,0 +1,6 @@
+pub mod Value
+pub mod Number
+pub mod Escape
+pub mod Scan
+pub mod View
+pub mod Answer

@@ -1,0 +1,8 @@
+//! A reader of JSON (RFC 8259) that keeps every digit of a number.
+#![tactic(auto)]
+
+mod bytes;
+mod number;
+mod types;
+
+pub use types::{Json, JsonFault, Number, Pair};
