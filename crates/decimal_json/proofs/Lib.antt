@@ -1,3 +1,4 @@
 pub mod Moves
 pub mod Numerals
 pub mod Exits
+pub mod Escapes

@@ -1,9 +1,10 @@
 -- What a part of the reader answers, beside the machine of `specs/Scan.antt`.
-use Rattle.std.specs.Prelude.{◌≡◌, ℕ, ◌+◌, ◌==◌, ⊤, Bool, true, false, List, [], ◌∷◌, ◌++◌, length, drop, min}
+use Rattle.std.specs.Prelude.{◌≡◌, ℕ, ◌+◌, ◌==◌, ⊤, Bool, true, false, List, [], ◌∷◌, ◌++◌, length, drop, min, encode_utf8}
 use Rattle.decimal_json.specs.declared.types.JsonFault.{JsonFault}
 use Rattle.decimal_json.specs.declared.types.JsonFault.TheVariants.{At, NoMemory}
 use Rattle.decimal_json.specs.Number.{is_mark}
-use Rattle.decimal_json.specs.Scan.{Frame, Spot, wanted, first_item, first_key, key_wanted, colon_wanted, ended, literal, numeral, quoted, minus, whole, point, fraction, mark, exponent, so_far, Step, Outcome, fault, after, scan}
+use Rattle.decimal_json.specs.Escape.{is_hex, hex_of}
+use Rattle.decimal_json.specs.Scan.{Frame, Purpose, plain, no_digit, unit, high_unit, unit_step, pair_step, Spot, wanted, first_item, first_key, key_wanted, colon_wanted, ended, literal, numeral, quoted, minus, whole, point, fraction, mark, exponent, so_far, Step, Outcome, fault, after, scan}
 
 -- The outcome is this fault. Want of memory may come in place of any outcome.
 abbrev pub Leads : JsonFault → Outcome → Type 0
@@ -84,3 +85,28 @@ AddsExponent bytes start at first written = (w : ℕ) × (written ≡ kept w) ×
 abbrev pub ReadsExponent : List ℕ → ℕ → ℕ → Bool → ℕ → Type 0
 ReadsExponent bytes start at down written = (w : ℕ) × (written ≡ kept w) × ((outer : List Frame) (spot : Spot) (n : Bool) (ds fs : List ℕ)
     → MayEnd bytes start outer spot n ds fs → scan bytes start outer spot ≡ scan bytes at outer (ended (so_far n ds fs down w)))
+
+-- A hexadecimal digit stands at a place, and this is what it stands for.
+abbrev pub HexAt : List ℕ → ℕ → ℕ → Type 0
+HexAt bytes at d = (c : ℕ) × StandsAt bytes at c × (is_hex c ≡ true) × (d ≡ hex_of c)
+
+-- Four hexadecimal digits spell a unit, alone or as the second of a pair.
+pub record ReadsUnit (bytes : List ℕ) (start u : ℕ) : Type 0 where
+  pub alone : (outer : List Frame) (p : Purpose) (t : List ℕ) (back : ℕ)
+    → scan bytes start outer (quoted p (unit t back no_digit)) ≡ resumed bytes (start + 4) (unit_step outer p t back u)
+  pub second : (outer : List Frame) (p : Purpose) (t : List ℕ) (back h : ℕ)
+    → scan bytes start outer (quoted p (high_unit t back h no_digit)) ≡ resumed bytes (start + 4) (pair_step outer p t back h u)
+
+-- Where four hexadecimal digits have to stand, this is the fault.
+pub record BreaksUnit (bytes : List ℕ) (start : ℕ) (e : JsonFault) : Type 0 where
+  pub alone : (outer : List Frame) (p : Purpose) (t : List ℕ) (back : ℕ) → Leads e (scan bytes start outer (quoted p (unit t back no_digit)))
+  pub second : (outer : List Frame) (p : Purpose) (t : List ℕ) (back h : ℕ) → scan bytes start outer (quoted p (high_unit t back h no_digit)) ≡ fault back 5
+
+-- From a backslash to another place stands the escape of a character.
+abbrev pub ReadsEscape : List ℕ → ℕ → ℕ → ℕ → Type 0
+ReadsEscape bytes back at character = (outer : List Frame) (p : Purpose) (t : List ℕ)
+    → scan bytes back outer (quoted p (plain t)) ≡ scan bytes at outer (quoted p (plain (t ++ encode_utf8 character)))
+
+-- At a backslash, this is the fault.
+abbrev pub BreaksEscape : List ℕ → ℕ → JsonFault → Type 0
+BreaksEscape bytes back e = (outer : List Frame) (p : Purpose) (t : List ℕ) → Leads e (scan bytes back outer (quoted p (plain t)))

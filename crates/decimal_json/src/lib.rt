@@ -2,6 +2,7 @@
 #![tactic(auto)]
 
 mod bytes;
+mod escape;
 mod number;
 mod types;
 
