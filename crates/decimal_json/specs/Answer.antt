@@ -4,7 +4,7 @@ use Rattle.decimal_json.specs.declared.types.JsonFault.{JsonFault}
 use Rattle.decimal_json.specs.declared.types.JsonFault.TheVariants.{At, NoMemory}
 use Rattle.decimal_json.specs.Number.{is_mark}
 use Rattle.decimal_json.specs.Escape.{is_hex, hex_of}
-use Rattle.decimal_json.specs.Scan.{Frame, Purpose, plain, no_digit, unit, high_unit, unit_step, pair_step, Spot, wanted, first_item, first_key, key_wanted, colon_wanted, ended, literal, numeral, quoted, minus, whole, point, fraction, mark, exponent, so_far, Step, Outcome, fault, after, scan}
+use Rattle.decimal_json.specs.Scan.{Frame, Purpose, plain, no_digit, unit, high_unit, unit_step, pair_step, quote_step, Spot, wanted, first_item, first_key, key_wanted, colon_wanted, ended, literal, numeral, quoted, minus, whole, point, fraction, mark, exponent, so_far, Step, Outcome, fault, after, scan}
 
 -- The outcome is this fault. Want of memory may come in place of any outcome.
 abbrev pub Leads : JsonFault → Outcome → Type 0
@@ -110,3 +110,16 @@ ReadsEscape bytes back at character = (outer : List Frame) (p : Purpose) (t : Li
 -- At a backslash, this is the fault.
 abbrev pub BreaksEscape : List ℕ → ℕ → JsonFault → Type 0
 BreaksEscape bytes back e = (outer : List Frame) (p : Purpose) (t : List ℕ) → Leads e (scan bytes back outer (quoted p (plain t)))
+
+-- From one place in a string to another stand bytes that add this to its text.
+abbrev pub ReadsPlain : List ℕ → ℕ → ℕ → List ℕ → Type 0
+ReadsPlain bytes start at more = (outer : List Frame) (p : Purpose) (t : List ℕ)
+    → scan bytes start outer (quoted p (plain t)) ≡ scan bytes at outer (quoted p (plain (t ++ more)))
+
+-- From behind a string's first quote to behind its last it says this text.
+abbrev pub ReadsText : List ℕ → ℕ → ℕ → List ℕ → Type 0
+ReadsText bytes start at t = (outer : List Frame) (p : Purpose) → scan bytes start outer (quoted p (plain [])) ≡ resumed bytes at (quote_step outer p t)
+
+-- Behind a string's first quote, this is the fault.
+abbrev pub BreaksText : List ℕ → ℕ → JsonFault → Type 0
+BreaksText bytes start e = (outer : List Frame) (p : Purpose) → Leads e (scan bytes start outer (quoted p (plain [])))

@@ -1,6 +1,6 @@
 -- A reader's way through a JSON text, byte by byte, with what it has read so far: the grammar of RFC 8259 as a machine
 -- with a stack. `specs/Grammar.antt` has the grammar by itself, and the clauses of `read` say that both agree.
-use Rattle.std.specs.Prelude.{ℕ, suc, ◌+◌, ◌*◌, Bool, true, false, ◌||◌, ◌==◌, nat_lt, List, [], ◌∷◌, ◌++◌, length, drop, Option, Some, None, encode_utf8, if◌then◌else◌}
+use Rattle.std.specs.Prelude.{ℕ, suc, ◌+◌, ◌*◌, Bool, true, false, not, ◌&&◌, ◌||◌, ◌==◌, nat_lt, nat_le, List, [], ◌∷◌, ◌++◌, length, drop, Option, Some, None, encode_utf8, if◌then◌else◌}
 use Rattle.std.specs.Char.Utf16.{is_low_surrogate, is_high_surrogate, surrogate_pair_char}
 use Rattle.decimal_json.specs.Value.{Value, null, boolean, number, text, array, object, no_items, no_members, items_of, members_of, has_key}
 use Rattle.decimal_json.specs.Number.{is_digit, digit_of, is_mark, decimal_from}
@@ -76,6 +76,10 @@ depth_limit = 64
 -- white space of section 2
 abbrev pub is_space : ℕ → Bool
 is_space c = (c == 32) || (c == 9) || (c == 10) || (c == 13)
+
+-- a byte of a string that stands for itself, as each byte of a character beyond ASCII does (section 7: unescaped)
+abbrev pub is_plain : ℕ → Bool
+is_plain c = not (c == 34) && not (c == 92) && nat_le 32 c
 
 -- the letters after the first of a literal of section 3
 abbrev pub rue : List ℕ
@@ -179,8 +183,7 @@ escape_step at outer p t back (Some b) c = next outer (quoted p (plain (t ++ b �
 unfoldable pub quoted_step : ℕ → List Frame → Purpose → Quoted → ℕ → Step
 quoted_step at outer p (plain t) c = if c == 34 then quote_step outer p t
     else if c == 92 then next outer (quoted p (escaped t at))
-    else if nat_lt c 32 then stop at 2
-    else next outer (quoted p (plain (t ++ c ∷ [])))
+    else if nat_le 32 c then next outer (quoted p (plain (t ++ c ∷ []))) else stop at 2
 quoted_step at outer p (escaped t back) c = escape_step at outer p t back (short_escape c) c
 quoted_step at outer p (unit t back h) c = if is_hex c
     then more_hex h c (λ more. next outer (quoted p (unit t back more))) (λ u. unit_step outer p t back u)

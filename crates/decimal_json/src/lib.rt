@@ -4,6 +4,7 @@
 mod bytes;
 mod escape;
 mod number;
+mod text;
 mod types;
 
 pub use types::{Json, JsonFault, Number, Pair};
