@@ -3,3 +3,7 @@ pub mod Numerals
 pub mod Exits
 pub mod Escapes
 pub mod Texts
+pub mod Values
+pub mod Views
+pub mod Inside
+pub mod Keys

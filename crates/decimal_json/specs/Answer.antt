@@ -1,10 +1,14 @@
 -- What a part of the reader answers, beside the machine of `specs/Scan.antt`.
-use Rattle.std.specs.Prelude.{◌≡◌, ℕ, ◌+◌, ◌==◌, ⊤, Bool, true, false, List, [], ◌∷◌, ◌++◌, length, drop, min, encode_utf8}
+use Rattle.std.specs.Prelude.{◌≡◌, ℕ, ◌+◌, ◌<◌, ◌==◌, ◌||◌, ⊤, Bool, true, false, List, [], ◌∷◌, ◌++◌, length, drop, min, encode_utf8, is_some, String}
+use Rattle.std.specs.Global.{Global}
+use Rattle.std.specs.Str.{bytes_eq}
+use Rattle.indexmap.specs.IndexMap.{IndexMap, get_by_text}
 use Rattle.decimal_json.specs.declared.types.JsonFault.{JsonFault}
 use Rattle.decimal_json.specs.declared.types.JsonFault.TheVariants.{At, NoMemory}
+use Rattle.decimal_json.specs.Value.{Value, members_of, has_key}
 use Rattle.decimal_json.specs.Number.{is_mark}
 use Rattle.decimal_json.specs.Escape.{is_hex, hex_of}
-use Rattle.decimal_json.specs.Scan.{Frame, Purpose, plain, no_digit, unit, high_unit, unit_step, pair_step, quote_step, Spot, wanted, first_item, first_key, key_wanted, colon_wanted, ended, literal, numeral, quoted, minus, whole, point, fraction, mark, exponent, so_far, Step, Outcome, fault, after, scan}
+use Rattle.decimal_json.specs.Scan.{Frame, in_object, Member, depth_limit, Purpose, plain, no_digit, unit, high_unit, unit_step, pair_step, quote_step, Spot, wanted, first_item, first_key, key_wanted, colon_wanted, ended, literal, numeral, quoted, minus, whole, point, fraction, mark, exponent, so_far, Step, Outcome, fault, after, is_space, scan}
 
 -- The outcome is this fault. Want of memory may come in place of any outcome.
 abbrev pub Leads : JsonFault → Outcome → Type 0
@@ -26,6 +30,10 @@ MaySpace (ended v) = ⊤
 MaySpace (literal v ls) = ⊥
 MaySpace (numeral n) = ⊥
 MaySpace (quoted p q) = ⊥
+
+-- From one place to another stands white space alone.
+abbrev pub SkipsSpace : List ℕ → ℕ → ℕ → Type 0
+SkipsSpace bytes start at = (outer : List Frame) (spot : Spot) → MaySpace spot → scan bytes start outer spot ≡ scan bytes at outer spot
 
 -- The byte at a place, if there is one, passes no such test.
 abbrev pub FailsAt : (ℕ → Bool) → List ℕ → ℕ → Type 0
@@ -123,3 +131,51 @@ ReadsText bytes start at t = (outer : List Frame) (p : Purpose) → scan bytes s
 -- Behind a string's first quote, this is the fault.
 abbrev pub BreaksText : List ℕ → ℕ → JsonFault → Type 0
 BreaksText bytes start e = (outer : List Frame) (p : Purpose) → Leads e (scan bytes start outer (quoted p (plain [])))
+
+-- From one place, where the machine is at a spot, to another place this value comes to its end.
+abbrev pub Reads : List ℕ → ℕ → Spot → ℕ → Value → Type 0
+Reads bytes start spot at v = (outer : List Frame) → scan bytes start outer spot ≡ scan bytes at outer (ended v)
+
+-- From one place, where the machine is at a spot, this is the fault.
+abbrev pub Breaks : List ℕ → ℕ → Spot → JsonFault → Type 0
+Breaks bytes start spot e = (outer : List Frame) → Leads e (scan bytes start outer spot)
+
+-- From one place to another stands a value, where so many levels more may open.
+abbrev pub ReadsValue : List ℕ → ℕ → ℕ → ℕ → Value → Type 0
+ReadsValue bytes start at room v = (outer : List Frame) → length outer + room ≡ depth_limit → scan bytes start outer wanted ≡ scan bytes at outer (ended v)
+
+-- Where a value has to stand, this is the fault.
+abbrev pub BreaksValue : List ℕ → ℕ → ℕ → JsonFault → Type 0
+BreaksValue bytes start room e = (outer : List Frame) → length outer + room ≡ depth_limit → Leads e (scan bytes start outer wanted)
+
+-- The same of what stands behind the bracket that opens an array or an object.
+abbrev pub ReadsInside : List ℕ → ℕ → Spot → ℕ → ℕ → Value → Type 0
+ReadsInside bytes start spot at room v = (outer : List Frame) → length outer + (room + 1) ≡ depth_limit → scan bytes start outer spot ≡ scan bytes at outer (ended v)
+
+abbrev pub BreaksInside : List ℕ → ℕ → Spot → ℕ → JsonFault → Type 0
+BreaksInside bytes start spot room e = (outer : List Frame) → length outer + (room + 1) ≡ depth_limit → Leads e (scan bytes start outer spot)
+
+-- A test of keys says which keys these members have.
+abbrev pub HasKeys : (List ℕ → Bool) → List Member → Type 0
+HasKeys test ms = (k : List ℕ) → test k ≡ has_key (members_of ms) k
+
+-- From one place to another stand a key that is none of these, and a colon.
+abbrev pub ReadsKey : (List ℕ → Bool) → List ℕ → ℕ → ℕ → List ℕ → Type 0
+ReadsKey test bytes start at k = (outer : List Frame) (ms : List Member) → HasKeys test ms
+  → scan bytes start outer (key_wanted ms) ≡ scan bytes at (in_object ms k ∷ outer) wanted
+
+-- Where a key has to stand, this is the fault.
+abbrev pub BreaksKey : (List ℕ → Bool) → List ℕ → ℕ → JsonFault → Type 0
+BreaksKey test bytes start e = (outer : List Frame) (ms : List Member) → HasKeys test ms → Leads e (scan bytes start outer (key_wanted ms))
+
+-- This byte stands at a place of the input, and is no white space.
+abbrev pub IsToken : List ℕ → ℕ → ℕ → Type 0
+IsToken bytes at c = StandsAt bytes at c × (at < length bytes) × (is_space c ≡ false)
+
+-- the keys that a map has
+abbrev pub knows : {X S : Type 0} → IndexMap (String Global) X S → List ℕ → Bool
+knows m k = is_some (get_by_text m k)
+
+-- A map has one key more.
+abbrev pub AddsKey : (List ℕ → Bool) → (List ℕ → Bool) → List ℕ → Type 0
+AddsKey old new key = (k : List ℕ) → new k ≡ (old k || bytes_eq key k)

@@ -121,10 +121,14 @@ close_step at (in_object ms k ∷ outer) v c = if c == 44 then next outer (key_w
 unfoldable pub ended_step : ℕ → List Frame → Value → ℕ → Step
 ended_step at outer v c = if is_space c then next outer (ended v) else close_step at outer v c
 
+-- a literal whose letters from here on must come
+abbrev pub awaited : Value → List ℕ → Spot
+awaited v [] = ended v
+awaited v (l ∷ ls) = literal v (l ∷ ls)
+
 unfoldable pub literal_step : ℕ → List Frame → Value → List ℕ → ℕ → Step
 literal_step at outer v [] c = ended_step at outer v c
-literal_step at outer v (l ∷ []) c = if c == l then next outer (ended v) else stop at 2
-literal_step at outer v (l ∷ m ∷ ls) c = if c == l then next outer (literal v (m ∷ ls)) else stop at 2
+literal_step at outer v (l ∷ ls) c = if c == l then next outer (awaited v ls) else stop at 2
 
 -- what stands where a number may end
 abbrev pub so_far : Bool → List ℕ → List ℕ → Bool → ℕ → Value

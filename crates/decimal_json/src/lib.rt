@@ -3,8 +3,10 @@
 
 mod bytes;
 mod escape;
+mod key;
 mod number;
 mod text;
 mod types;
+mod value;
 
 pub use types::{Json, JsonFault, Number, Pair};

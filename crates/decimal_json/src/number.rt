@@ -4,7 +4,7 @@ ghost use Rattle.std.specs.Prelude.{◌≡◌, ℕ, ◌+◌, ◌*◌, ◌-◌, �
 ghost use Rattle.decimal_json.specs.Value.{number as number_value};
 ghost use Rattle.decimal_json.specs.Number.{is_digit, digit_of, is_mark, exponent_of};
 ghost use Rattle.decimal_json.specs.Scan.{Frame, Spot, wanted, numeral, minus, point, fraction, mark, signed, exponent as in_exponent, ended, so_far, scan};
-ghost use Rattle.decimal_json.specs.Answer.{Leads, AfterWhole, MayEnd, AddsDigits, ReadsWhole, ReadsFraction, AddsExponent, ReadsExponent, begun, FailsAt, StandsAt, kept};
+ghost use Rattle.decimal_json.specs.Answer.{Leads, Reads, Breaks, AfterWhole, MayEnd, AddsDigits, ReadsWhole, ReadsFraction, AddsExponent, ReadsExponent, begun, FailsAt, StandsAt, kept};
 ghost use Rattle.decimal_json.specs.View.{decimal_of};
 
 use crate::bytes::{byte_at, has_byte};
@@ -16,7 +16,7 @@ const EXPONENT_LIMIT: u64 = 1_000_000_000;
 // A greater exponent has the same effect: no input has as many digits.
 const WRITTEN_LIMIT: u64 = 10_000_000_000_000_000_000;
 
-fn is_digit_byte(byte: u8) -> bool
+pub fn is_digit_byte(byte: u8) -> bool
     ensures { result ≡ is_digit byte }
 {
     48 <= byte && byte <= 57
@@ -201,11 +201,8 @@ pub fn number(
 ) -> Result<(Number, usize), JsonFault>
     requires begins { negative ≡ false → FailsAt is_digit bytes.now start → ⊥ }
     ensures within { IfOk result (λ r. (start < r.1) × (r.1 ≤ length bytes.now)) }
-    ensures read { IfOk result (λ r. (outer : List Frame) →
-        scan bytes.now start outer (begun negative)
-        ≡ scan bytes.now r.1 outer (ended (number_value (decimal_of r.0)))) }
-    ensures fault { IfErr result (λ e. (outer : List Frame) →
-        Leads e (scan bytes.now start outer (begun negative))) }
+    ensures read { IfOk result (λ r. Reads bytes.now start (begun negative) r.1 (number_value (decimal_of r.0))) }
+    ensures fault { IfErr result (Breaks bytes.now start (begun negative)) }
 {
     let mut digits = Vec::new(alloc);
     let at = add_whole(bytes, start, negative, &mut digits)?;
