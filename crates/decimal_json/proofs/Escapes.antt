@@ -28,18 +28,30 @@ module _ (bytes : List ℕ) (start : ℕ) (outer : List Frame) (p : Purpose) (in
 
   then : {b : ℕ} → HexAt bytes (start + 1) b → (a : ℕ) → (c : ℕ) × (b ≡ hex_of c) × (from (start + 1) (one_digit a) ≡ from (start + 2) (two_digits a c))
   unfolding more_hex
-  then h a = (h.0, h.3, moved bytes (start + 1) h.0 outer (quoted p (inside (one_digit a))) outer (quoted p (inside (two_digits a h.0))) h.1 (each (start + 1) h.0 (one_digit a) h.2)
-      ∙ placed bytes (start + 1 + 1) (start + 2) outer (quoted p (inside (two_digits a h.0))) (omega arith))
+  then h a = (
+    h.0,
+    h.3,
+    moved bytes (start + 1) h.0 outer (quoted p (inside (one_digit a))) outer (quoted p (inside (two_digits a h.0))) h.1 (each (start + 1) h.0 (one_digit a) h.2)
+        ∙ placed bytes (start + 1 + 1) (start + 2) outer (quoted p (inside (two_digits a h.0))) (omega arith),
+  )
 
   third : {d : ℕ} → HexAt bytes (start + 2) d → (a b : ℕ) → (c : ℕ) × (d ≡ hex_of c) × (from (start + 2) (two_digits a b) ≡ from (start + 3) (three_digits a b c))
   unfolding more_hex
-  third h a b = (h.0, h.3, moved bytes (start + 2) h.0 outer (quoted p (inside (two_digits a b))) outer (quoted p (inside (three_digits a b h.0))) h.1 (each (start + 2) h.0 (two_digits a b) h.2)
-      ∙ placed bytes (start + 2 + 1) (start + 3) outer (quoted p (inside (three_digits a b h.0))) (omega arith))
+  third h a b = (
+    h.0,
+    h.3,
+    moved bytes (start + 2) h.0 outer (quoted p (inside (two_digits a b))) outer (quoted p (inside (three_digits a b h.0))) h.1 (each (start + 2) h.0 (two_digits a b) h.2)
+        ∙ placed bytes (start + 2 + 1) (start + 3) outer (quoted p (inside (three_digits a b h.0))) (omega arith),
+  )
 
   last : {f : ℕ} → HexAt bytes (start + 3) f → (a b d : ℕ) → (c : ℕ) × (f ≡ hex_of c) × (from (start + 3) (three_digits a b d) ≡ resumed bytes (start + 4) (full (unit_of a b d c)))
   unfolding more_hex
-  last h a b d = (h.0, h.3, stepped bytes (start + 3) h.0 outer (quoted p (inside (three_digits a b d))) h.1
-      ∙ (ap (resumed bytes (start + 3 + 1)) (each (start + 3) h.0 (three_digits a b d) h.2) ∙ ap (λ k. resumed bytes k (full (unit_of a b d h.0))) (omega arith)))
+  last h a b d = (
+    h.0,
+    h.3,
+    stepped bytes (start + 3) h.0 outer (quoted p (inside (three_digits a b d))) h.1
+        ∙ (ap (resumed bytes (start + 3 + 1)) (each (start + 3) h.0 (three_digits a b d) h.2) ∙ ap (λ k. resumed bytes k (full (unit_of a b d h.0))) (omega arith)),
+  )
 
   reads : {a b d f : ℕ} → HexAt bytes start a → HexAt bytes (start + 1) b → HexAt bytes (start + 2) d → HexAt bytes (start + 3) f
       → from start no_digit ≡ resumed bytes (start + 4) (full (((a * 16 + b) * 16 + d) * 16 + f))
@@ -166,7 +178,7 @@ second_begins : (bytes : List ℕ) (at : ℕ) (outer : List Frame) (p : Purpose)
     → scan bytes at outer (quoted p (high t back u)) ≡ scan bytes (at + 2) outer (quoted p (high_unit t back u no_digit))
 second_begins bytes at outer p t back u e f = high_backslash bytes at outer p t back u e
     ∙ (moved bytes (at + 1) 117 outer (quoted p (high_escaped t back u)) outer (quoted p (high_unit t back u no_digit)) f (high_escaped_leads (at + 1) outer p t back u)
-      ∙ placed bytes (at + 1 + 1) (at + 2) outer (quoted p (high_unit t back u no_digit)) (omega arith))
+    ∙ placed bytes (at + 1 + 1) (at + 2) outer (quoted p (high_unit t back u no_digit)) (omega arith))
 
 pub second_broken : (bytes : List ℕ) (at : ℕ) (e : JsonFault) (outer : List Frame) (p : Purpose) (t : List ℕ) (back u : ℕ) → StandsAt bytes at 92 → StandsAt bytes (at + 1) 117
     → BreaksUnit bytes (at + 2) e → scan bytes at outer (quoted p (high t back u)) ≡ fault back 5
@@ -184,8 +196,8 @@ pub second_read : (bytes : List ℕ) (at v : ℕ) (outer : List Frame) (p : Purp
 unfolding pair_step
 second_read bytes at v outer p t back u f g r low =
     second_begins bytes at outer p t back u f g ∙ (r.second outer p t back u
-      ∙ (ap (λ b. resumed bytes (at + 2 + 4) (cond b (next outer (quoted p (plain (t ++ encode_utf8 (surrogate_pair_char u v))))) (stop back 5))) low
-        ∙ placed bytes (at + 2 + 4) (at + 6) outer (quoted p (plain (t ++ encode_utf8 (surrogate_pair_char u v)))) (omega arith)))
+    ∙ (ap (λ b. resumed bytes (at + 2 + 4) (cond b (next outer (quoted p (plain (t ++ encode_utf8 (surrogate_pair_char u v))))) (stop back 5))) low
+    ∙ placed bytes (at + 2 + 4) (at + 6) outer (quoted p (plain (t ++ encode_utf8 (surrogate_pair_char u v)))) (omega arith)))
 
 -- a unit is the first of a pair, the second, or neither
 pub low_not_high : (u : ℕ) → is_low_surrogate u ≡ true → is_high_surrogate u ≡ false
@@ -217,7 +229,7 @@ unicode_begins : (bytes : List ℕ) (back : ℕ) (outer : List Frame) (p : Purpo
     → scan bytes back outer (quoted p (plain t)) ≡ scan bytes (back + 2) outer (quoted p (unit t back no_digit))
 unicode_begins bytes back outer p t e f = escape_begins bytes back outer p t e
     ∙ (moved bytes (back + 1) 117 outer (quoted p (escaped t back)) outer (quoted p (unit t back no_digit)) f (escaped_u (back + 1) outer p t back)
-      ∙ placed bytes (back + 1 + 1) (back + 2) outer (quoted p (unit t back no_digit)) (omega arith))
+    ∙ placed bytes (back + 1 + 1) (back + 2) outer (quoted p (unit t back no_digit)) (omega arith))
 
 pub unicode_broken : (bytes : List ℕ) (back : ℕ) (e : JsonFault) → StandsAt bytes back 92 → StandsAt bytes (back + 1) 117 → BreaksUnit bytes (back + 2) e → BreaksEscape bytes back e
 unicode_broken bytes back e f g r = λ outer p t. subst (λ (o : Outcome). Leads e o) (sym (unicode_begins bytes back outer p t f g)) (r.alone outer p t back)
@@ -227,7 +239,7 @@ pub unicode_alone : (bytes : List ℕ) (back u : ℕ) → StandsAt bytes back 92
 unfolding unit_step
 unicode_alone bytes back u f g r s = λ outer p t. let apart = scalar_no_surrogate u s in
     unicode_begins bytes back outer p t f g ∙ (r.alone outer p t back
-      ∙ (rw (apart.0, apart.1) refl ∙ placed bytes (back + 2 + 4) (back + 6) outer (quoted p (plain (t ++ encode_utf8 u))) (omega arith)))
+    ∙ (rw (apart.0, apart.1) refl ∙ placed bytes (back + 2 + 4) (back + 6) outer (quoted p (plain (t ++ encode_utf8 u))) (omega arith)))
 
 pub unicode_low : (bytes : List ℕ) (back u : ℕ) (e : JsonFault) → e ≡ At back 5 → StandsAt bytes back 92 → StandsAt bytes (back + 1) 117 → ReadsUnit bytes (back + 2) u
     → is_low_surrogate u ≡ true → BreaksEscape bytes back e
@@ -271,10 +283,10 @@ letter_ends bytes back e is f none = λ outer p t. subst (λ (e : JsonFault). Le
 pub letter_read : (bytes : List ℕ) (back c b : ℕ) → StandsAt bytes back 92 → StandsAt bytes (back + 1) c → Some b ≡ short_escape c → b < 128 → ReadsEscape bytes back (back + 2) b
 letter_read bytes back c b f g is low = λ outer p t. escape_begins bytes back outer p t f
     ∙ (moved bytes (back + 1) c outer (quoted p (escaped t back)) outer (quoted p (plain (t ++ b ∷ []))) g (leads outer p t)
-      ∙ (placed bytes (back + 1 + 1) (back + 2) outer (quoted p (plain (t ++ b ∷ []))) (omega arith)
-        ∙ ap (λ xs. scan bytes (back + 2) outer (quoted p (plain (t ++ xs)))) (sym (encode_ascii b low)))) where
-  leads : (outer : List Frame) (p : Purpose) (t : List ℕ) → step (back + 1) outer (quoted p (escaped t back)) c ≡ next outer (quoted p (plain (t ++ b ∷ [])))
-  leads outer p t = escaped_some (back + 1) outer p t back c b (sym is)
+    ∙ (placed bytes (back + 1 + 1) (back + 2) outer (quoted p (plain (t ++ b ∷ []))) (omega arith)
+    ∙ ap (λ xs. scan bytes (back + 2) outer (quoted p (plain (t ++ xs)))) (sym (encode_ascii b low)))) where
+      leads : (outer : List Frame) (p : Purpose) (t : List ℕ) → step (back + 1) outer (quoted p (escaped t back)) c ≡ next outer (quoted p (plain (t ++ b ∷ [])))
+      leads outer p t = escaped_some (back + 1) outer p t back c b (sym is)
 
 pub letter_unknown : (bytes : List ℕ) (back c : ℕ) (e : JsonFault) → e ≡ At (back + 1) 2 → StandsAt bytes back 92 → StandsAt bytes (back + 1) c → None ≡ short_escape c → (c ≡ 117 → ⊥)
     → BreaksEscape bytes back e

@@ -7,3 +7,4 @@ pub mod Values
 pub mod Views
 pub mod Inside
 pub mod Keys
+pub mod Documents

@@ -42,6 +42,7 @@ adds_more bytes start at old new r h e = record {
 } where
   c : ℕ
   c = get_or bytes at 0
+
   d : ℕ
   d = digit_of (get_or bytes at 0)
 
@@ -59,9 +60,21 @@ whole_starts at c outer true h ne = rw (ne_eqb c 48 ne, h) refl
 whole_starts at c outer false h ne =
     let low : 48 ≤ c = digit_low c h in
     let high : c ≤ 57 = digit_high c h in
-    rw (ne_eqb c 32 (λ e. omega arith), ne_eqb c 9 (λ e. omega arith), ne_eqb c 10 (λ e. omega arith), ne_eqb c 13 (λ e. omega arith),
-      ne_eqb c 34 (λ e. omega arith), ne_eqb c 91 (λ e. omega arith), ne_eqb c 123 (λ e. omega arith), ne_eqb c 116 (λ e. omega arith),
-      ne_eqb c 102 (λ e. omega arith), ne_eqb c 110 (λ e. omega arith), ne_eqb c 45 (λ e. omega arith), ne_eqb c 48 ne, h) refl
+    rw (
+      ne_eqb c 32 (λ e. omega arith),
+      ne_eqb c 9 (λ e. omega arith),
+      ne_eqb c 10 (λ e. omega arith),
+      ne_eqb c 13 (λ e. omega arith),
+      ne_eqb c 34 (λ e. omega arith),
+      ne_eqb c 91 (λ e. omega arith),
+      ne_eqb c 123 (λ e. omega arith),
+      ne_eqb c 116 (λ e. omega arith),
+      ne_eqb c 102 (λ e. omega arith),
+      ne_eqb c 110 (λ e. omega arith),
+      ne_eqb c 45 (λ e. omega arith),
+      ne_eqb c 48 ne,
+      h,
+    ) refl
 
 zero_starts : (at : ℕ) (outer : List Frame) (n : Bool) → step at outer (begun n) 48 ≡ next outer (numeral (zero_first n))
 unfolding step numeral_step begin_step
@@ -95,10 +108,13 @@ after_zero bytes at outer n = record {
 } where
   at_point : step at outer (numeral (zero_first n)) 46 ≡ next outer (numeral (point n (0 ∷ [])))
   at_point = refl
+
   at_mark : (c : ℕ) → is_mark c ≡ true → step at outer (numeral (zero_first n)) c ≡ next outer (numeral (mark n (0 ∷ []) []))
   at_mark c m = mark_is c (λ c. step at outer (numeral (zero_first n)) c ≡ next outer (numeral (mark n (0 ∷ []) []))) m refl refl
+
   other : (c : ℕ) → (c == 46) ≡ false → is_mark c ≡ false → step at outer (numeral (zero_first n)) c ≡ step at outer (ended (so_far n (0 ∷ []) [] false 0)) c
   other c p m = rw (p, m) refl
+
   last : finish at outer (numeral (zero_first n)) ≡ finish at outer (ended (so_far n (0 ∷ []) [] false 0))
   last = refl
 
@@ -114,10 +130,13 @@ after_digits bytes at outer n ds no_digit = record {
 } where
   at_point : step at outer (numeral (whole n ds)) 46 ≡ next outer (numeral (point n ds))
   at_point = refl
+
   at_mark : (c : ℕ) → is_mark c ≡ true → step at outer (numeral (whole n ds)) c ≡ next outer (numeral (mark n ds []))
   at_mark c m = mark_is c (λ c. step at outer (numeral (whole n ds)) c ≡ next outer (numeral (mark n ds []))) m refl refl
+
   other : (c : ℕ) → is_digit c ≡ false → (c == 46) ≡ false → is_mark c ≡ false → step at outer (numeral (whole n ds)) c ≡ step at outer (ended (so_far n ds [] false 0)) c
   other c d p m = rw (d, p, m) refl
+
   last : finish at outer (numeral (whole n ds)) ≡ finish at outer (ended (so_far n ds [] false 0))
   last = refl
 
@@ -130,8 +149,10 @@ after_fraction bytes at outer n ds fs no_digit = record {
 } where
   at_mark : (c : ℕ) → is_mark c ≡ true → step at outer (numeral (fraction n ds fs)) c ≡ next outer (numeral (mark n ds fs))
   at_mark c m = mark_is c (λ c. step at outer (numeral (fraction n ds fs)) c ≡ next outer (numeral (mark n ds fs))) m refl refl
+
   other : (c : ℕ) → is_digit c ≡ false → is_mark c ≡ false → step at outer (numeral (fraction n ds fs)) c ≡ step at outer (ended (so_far n ds fs false 0)) c
   other c d m = rw (d, m) refl
+
   last : finish at outer (numeral (fraction n ds fs)) ≡ finish at outer (ended (so_far n ds fs false 0))
   last = refl
 
@@ -195,10 +216,12 @@ reads_fraction bytes start at c places old new e f h r fails count = record {
   digits = digit_of c ∷ r.digits;
   added = r.added ∙ append_assoc old (digit_of c ∷ []) r.digits;
   count = omega (arith, r.count);
-  read = λ outer spot n behind. (numeral (fraction n old (digit_of c ∷ r.digits)),
-      behind.pointed e ∙ (moved bytes (start + 1) c outer (numeral (point n old)) outer (numeral (fraction n old (digit_of c ∷ []))) f (point_starts (start + 1) c outer n old h)
+  read = λ outer spot n behind. (
+    numeral (fraction n old (digit_of c ∷ r.digits)),
+    behind.pointed e ∙ (moved bytes (start + 1) c outer (numeral (point n old)) outer (numeral (fraction n old (digit_of c ∷ []))) f (point_starts (start + 1) c outer n old h)
         ∙ subst (λ (k : ℕ). scan bytes k outer (numeral (fraction n old (digit_of c ∷ []))) ≡ scan bytes at outer (numeral (fraction n old (digit_of c ∷ r.digits)))) (omega arith) (r.after_point outer n old (digit_of c ∷ []))),
-      after_fraction bytes at outer n old (digit_of c ∷ r.digits) fails);
+    after_fraction bytes at outer n old (digit_of c ∷ r.digits) fails,
+  );
 }
 
 -- the sign of an exponent, or none
@@ -251,27 +274,33 @@ exponent_ends bytes at outer n ds fs down w fails =
 pub adds_exponent : (bytes : List ℕ) (start at first written new : ℕ) → AddsExponent bytes start at first written → at < length bytes
     → is_digit (get_or bytes at 0) ≡ true → ((w : ℕ) → written ≡ kept w → new ≡ kept (w * 10 + digit_of (get_or bytes at 0)))
     → AddsExponent bytes start (at + 1) first new
-adds_exponent bytes start at first written new r h e more = (r.0 * 10 + digit_of (get_or bytes at 0), more r.0 r.1,
-    λ outer n ds fs down. r.2 outer n ds fs down
+adds_exponent bytes start at first written new r h e more = (
+  r.0 * 10 + digit_of (get_or bytes at 0),
+  more r.0 r.1,
+  λ outer n ds fs down. r.2 outer n ds fs down
       ∙ moved bytes at (get_or bytes at 0) outer (numeral (exponent n ds fs down r.0)) outer (numeral (exponent n ds fs down (r.0 * 10 + digit_of (get_or bytes at 0)))) (byte_and_rest bytes at h)
-        (exponent_more at (get_or bytes at 0) outer n ds fs down r.0 e))
+      (exponent_more at (get_or bytes at 0) outer n ds fs down r.0 e),
+)
 
 -- an exponent from its mark on
 pub reads_exponent : (bytes : List ℕ) (start at end m c written : ℕ) (down : Bool) → StandsAt bytes start m → is_mark m ≡ true
     → ((outer : List Frame) (n : Bool) (ds fs : List ℕ) → scan bytes (start + 1) outer (numeral (mark n ds fs)) ≡ scan bytes at outer (numeral (signed n ds fs down)))
     → StandsAt bytes at c → is_digit c ≡ true → AddsExponent bytes (at + 1) end (digit_of c) written → FailsAt is_digit bytes end
     → ReadsExponent bytes start end down written
-reads_exponent bytes start at end m c written down e is_m sign f h r fails = (r.0, r.1,
-    λ outer spot n ds fs behind. behind.marked m e is_m ∙ (sign outer n ds fs
+reads_exponent bytes start at end m c written down e is_m sign f h r fails = (
+  r.0,
+  r.1,
+  λ outer spot n ds fs behind. behind.marked m e is_m ∙ (sign outer n ds fs
       ∙ (moved bytes at c outer (numeral (signed n ds fs down)) outer (numeral (exponent n ds fs down (digit_of c))) f (signed_starts at c outer n ds fs down h)
-        ∙ (r.2 outer n ds fs down ∙ exponent_ends bytes end outer n ds fs down r.0 fails))))
+      ∙ (r.2 outer n ds fs down ∙ exponent_ends bytes end outer n ds fs down r.0 fails))),
+)
 
 pub no_digit_after_sign : (bytes : List ℕ) (start at m : ℕ) (down : Bool) → StandsAt bytes start m → is_mark m ≡ true
     → ((outer : List Frame) (n : Bool) (ds fs : List ℕ) → scan bytes (start + 1) outer (numeral (mark n ds fs)) ≡ scan bytes at outer (numeral (signed n ds fs down)))
     → FailsAt is_digit bytes at → (outer : List Frame) (spot : Spot) (n : Bool) (ds fs : List ℕ) → MayEnd bytes start outer spot n ds fs → scan bytes start outer spot ≡ fault at 2
 no_digit_after_sign bytes start at m down e is_m sign fails outer spot n ds fs behind =
     behind.marked m e is_m ∙ (sign outer n ds fs
-      ∙ no_digit_here bytes at outer (numeral (signed n ds fs down)) (λ c h. signed_fails at c outer n ds fs down h) (signed_ends at outer n ds fs down) fails)
+    ∙ no_digit_here bytes at outer (numeral (signed n ds fs down)) (λ c h. signed_fails at c outer n ds fs down h) (signed_ends at outer n ds fs down) fails)
 
 pub no_exponent : (bytes : List ℕ) (start : ℕ) → FailsAt is_mark bytes start → ReadsExponent bytes start start false 0
 no_exponent bytes start fails = (0, refl, λ outer spot n ds fs behind. behind.unmarked fails)
@@ -284,6 +313,6 @@ pub reads_number : (bytes : List ℕ) (start whole_end point_end end places writ
 reads_number bytes start whole_end point_end end places written outer n down ds new held_to a b d is =
     let later = b.read outer a.spot n a.then in
     let same : decimal_from n ds b.digits down d.0 ≡ record { negative = n; digits = new; exponent = held_to } =
-      ap (λ (e : ℤ). record { negative = n; digits = ds ++ b.digits; exponent = e }) (ap (λ k. exponent_of down d.0 k) b.count ∙ sym (is d.0 d.1))
-        ∙ ap (λ (xs : List ℕ). record { negative = n; digits = xs; exponent = held_to }) (sym b.added) in
+    ap (λ (e : ℤ). record { negative = n; digits = ds ++ b.digits; exponent = e }) (ap (λ k. exponent_of down d.0 k) b.count ∙ sym (is d.0 d.1))
+    ∙ ap (λ (xs : List ℕ). record { negative = n; digits = xs; exponent = held_to }) (sym b.added) in
     a.same ∙ (later.1 ∙ (d.2 outer later.0 n ds b.digits later.2 ∙ ap (λ (v : Decimal). scan bytes end outer (ended (number v))) same))

@@ -28,8 +28,8 @@ pub reads_more : (bytes : List ℕ) (start at : ℕ) → start ≤ at → at < l
     → ReadsPlain bytes start (at + 1) (slice_range bytes start (at + 1))
 reads_more bytes start at le lt e r = λ outer p t. r outer p t
     ∙ (moved bytes at (get_or bytes at 0) outer (quoted p (plain (t ++ slice_range bytes start at))) outer (quoted p (plain ((t ++ slice_range bytes start at) ++ get_or bytes at 0 ∷ [])))
-        (byte_and_rest bytes at lt) (plain_leads at (get_or bytes at 0) outer p (t ++ slice_range bytes start at) e)
-      ∙ ap (λ xs. scan bytes (at + 1) outer (quoted p (plain xs))) (append_assoc t (slice_range bytes start at) (get_or bytes at 0 ∷ []) ∙ ap (λ xs. t ++ xs) (sym (between_more bytes start at 0 le lt))))
+    (byte_and_rest bytes at lt) (plain_leads at (get_or bytes at 0) outer p (t ++ slice_range bytes start at) e)
+    ∙ ap (λ xs. scan bytes (at + 1) outer (quoted p (plain xs))) (append_assoc t (slice_range bytes start at) (get_or bytes at 0 ∷ []) ∙ ap (λ xs. t ++ xs) (sym (between_more bytes start at 0 le lt))))
 
 -- the ends of a string
 plain_quote : (at : ℕ) (outer : List Frame) (p : Purpose) (t : List ℕ) → step at outer (quoted p (plain t)) 34 ≡ quote_step outer p t

@@ -28,7 +28,7 @@ pub letter_read : (bytes : List ℕ) (at i : ℕ) (letters : List ℕ) (outer : 
     → scan bytes at outer (awaited v (drop i letters)) ≡ scan bytes (at + 1) outer (awaited v (drop (i + 1) letters))
 letter_read bytes at i letters outer v lt e =
     ap (λ ls. scan bytes at outer (awaited v ls)) (byte_and_rest letters i lt)
-      ∙ moved bytes at (get_or letters i 0) outer (literal v (get_or letters i 0 ∷ drop (i + 1) letters)) outer (awaited v (drop (i + 1) letters)) e (letter_comes at (get_or letters i 0) outer v (drop (i + 1) letters))
+    ∙ moved bytes at (get_or letters i 0) outer (literal v (get_or letters i 0 ∷ drop (i + 1) letters)) outer (awaited v (drop (i + 1) letters)) e (letter_comes at (get_or letters i 0) outer v (drop (i + 1) letters))
 
 misses : (bytes : List ℕ) (at l : ℕ) (outer : List Frame) (v : Value) (ls : List ℕ) → FailsAt (λ c. c == l) bytes at → scan bytes at outer (literal v (l ∷ ls)) ≡ fault at 2
 unfolding scan outcome finish
@@ -113,8 +113,8 @@ pub no_value : (source : List ℕ) (start c : ℕ) (e : JsonFault) → e ≡ At 
     → (c ≡ 110 → ⊥) → (c ≡ 45 → ⊥) → is_digit c ≡ false → Breaks source start wanted e
 no_value source start c e is stands space q b o t f n m d = λ outer. subst (λ (e : JsonFault). Leads e (scan source start outer wanted)) (sym is)
     (stopped source start c outer wanted start 2 stands (stops outer)) where
-  stops : (outer : List Frame) → step start outer wanted c ≡ stop start 2
-  stops outer = fails_to_begin start c outer space q b o t f n m d
+      stops : (outer : List Frame) → step start outer wanted c ≡ stop start 2
+      stops outer = fails_to_begin start c outer space q b o t f n m d
 
 pub no_value_at_end : (source : List ℕ) (start : ℕ) (e : JsonFault) → e ≡ At start 2 → drop start source ≡ [] → Breaks source start wanted e
 unfolding finish

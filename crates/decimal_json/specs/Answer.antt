@@ -1,14 +1,16 @@
 -- What a part of the reader answers, beside the machine of `specs/Scan.antt`.
-use Rattle.std.specs.Prelude.{◌≡◌, ℕ, ◌+◌, ◌<◌, ◌==◌, ◌||◌, ⊤, Bool, true, false, List, [], ◌∷◌, ◌++◌, length, drop, min, encode_utf8, is_some, String}
+use Rattle.std.specs.Prelude.{◌≡◌, ℕ, ◌+◌, ◌<◌, ◌==◌, ◌||◌, ⊤, Bool, true, false, List, [], ◌∷◌, ◌++◌, length, drop, min, encode_utf8, is_some, String, Result, Ok, Err}
 use Rattle.std.specs.Global.{Global}
 use Rattle.std.specs.Str.{bytes_eq}
 use Rattle.indexmap.specs.IndexMap.{IndexMap, get_by_text}
 use Rattle.decimal_json.specs.declared.types.JsonFault.{JsonFault}
+use Rattle.decimal_json.specs.declared.types.Json.{Json}
+use Rattle.decimal_json.specs.View.{view}
 use Rattle.decimal_json.specs.declared.types.JsonFault.TheVariants.{At, NoMemory}
 use Rattle.decimal_json.specs.Value.{Value, members_of, has_key}
 use Rattle.decimal_json.specs.Number.{is_mark}
 use Rattle.decimal_json.specs.Escape.{is_hex, hex_of}
-use Rattle.decimal_json.specs.Scan.{Frame, in_object, Member, depth_limit, Purpose, plain, no_digit, unit, high_unit, unit_step, pair_step, quote_step, Spot, wanted, first_item, first_key, key_wanted, colon_wanted, ended, literal, numeral, quoted, minus, whole, point, fraction, mark, exponent, so_far, Step, Outcome, fault, after, is_space, scan}
+use Rattle.decimal_json.specs.Scan.{Frame, in_object, Member, depth_limit, Purpose, plain, no_digit, unit, high_unit, unit_step, pair_step, quote_step, Spot, wanted, first_item, first_key, key_wanted, colon_wanted, ended, literal, numeral, quoted, minus, whole, point, fraction, mark, exponent, so_far, Step, Outcome, done, fault, after, is_space, scan}
 
 -- The outcome is this fault. Want of memory may come in place of any outcome.
 abbrev pub Leads : JsonFault → Outcome → Type 0
@@ -78,7 +80,7 @@ pub record ReadsFraction (bytes : List ℕ) (start at places : ℕ) (old new : L
   pub added : new ≡ old ++ digits
   pub count : length digits ≡ places
   pub read : (outer : List Frame) (spot : Spot) (n : Bool) → AfterWhole bytes start outer spot n old
-    → (later : Spot) × (scan bytes start outer spot ≡ scan bytes at outer later) × MayEnd bytes at outer later n old digits
+      → (later : Spot) × (scan bytes start outer spot ≡ scan bytes at outer later) × MayEnd bytes at outer later n old digits
 
 -- An exponent's digits, as one whole, are kept up to this.
 abbrev pub kept : ℕ → ℕ
@@ -101,9 +103,9 @@ HexAt bytes at d = (c : ℕ) × StandsAt bytes at c × (is_hex c ≡ true) × (d
 -- Four hexadecimal digits spell a unit, alone or as the second of a pair.
 pub record ReadsUnit (bytes : List ℕ) (start u : ℕ) : Type 0 where
   pub alone : (outer : List Frame) (p : Purpose) (t : List ℕ) (back : ℕ)
-    → scan bytes start outer (quoted p (unit t back no_digit)) ≡ resumed bytes (start + 4) (unit_step outer p t back u)
+      → scan bytes start outer (quoted p (unit t back no_digit)) ≡ resumed bytes (start + 4) (unit_step outer p t back u)
   pub second : (outer : List Frame) (p : Purpose) (t : List ℕ) (back h : ℕ)
-    → scan bytes start outer (quoted p (high_unit t back h no_digit)) ≡ resumed bytes (start + 4) (pair_step outer p t back h u)
+      → scan bytes start outer (quoted p (high_unit t back h no_digit)) ≡ resumed bytes (start + 4) (pair_step outer p t back h u)
 
 -- Where four hexadecimal digits have to stand, this is the fault.
 pub record BreaksUnit (bytes : List ℕ) (start : ℕ) (e : JsonFault) : Type 0 where
@@ -162,7 +164,7 @@ HasKeys test ms = (k : List ℕ) → test k ≡ has_key (members_of ms) k
 -- From one place to another stand a key that is none of these, and a colon.
 abbrev pub ReadsKey : (List ℕ → Bool) → List ℕ → ℕ → ℕ → List ℕ → Type 0
 ReadsKey test bytes start at k = (outer : List Frame) (ms : List Member) → HasKeys test ms
-  → scan bytes start outer (key_wanted ms) ≡ scan bytes at (in_object ms k ∷ outer) wanted
+    → scan bytes start outer (key_wanted ms) ≡ scan bytes at (in_object ms k ∷ outer) wanted
 
 -- Where a key has to stand, this is the fault.
 abbrev pub BreaksKey : (List ℕ → Bool) → List ℕ → ℕ → JsonFault → Type 0
@@ -179,3 +181,8 @@ knows m k = is_some (get_by_text m k)
 -- A map has one key more.
 abbrev pub AddsKey : (List ℕ → Bool) → (List ℕ → Bool) → List ℕ → Type 0
 AddsKey old new key = (k : List ℕ) → new k ≡ (old k || bytes_eq key k)
+
+-- The result is the outcome. Want of memory may come in place of any outcome.
+abbrev pub Gives : Result Json JsonFault → Outcome → Type 0
+Gives (Ok j) o = o ≡ done (view j)
+Gives (Err e) o = Leads e o

@@ -255,3 +255,7 @@ outcome at outer spot (c ∷ cs) = after (step at outer spot c) (λ o s. outcome
 -- what comes of the bytes of a whole input from a place in it on
 unfoldable pub scan : List ℕ → ℕ → List Frame → Spot → Outcome
 scan bytes at outer spot = outcome at outer spot (drop at bytes)
+
+-- what comes of a whole input
+unfoldable pub whole_outcome : List ℕ → Outcome
+whole_outcome bytes = outcome 0 [] wanted bytes

@@ -10,7 +10,11 @@ pub fn byte_at(bytes: &[u8], at: usize) -> Option<u8>
     ensures within { IfSome result (λ _. at < length bytes.now) }
     ensures end { IfNone result (drop at bytes.now ≡ []) }
 {
-    if at < bytes.len() { Some(bytes[at]) } else { None }
+    if at < bytes.len() {
+        Some(bytes[at])
+    } else {
+        None
+    }
 }
 
 /// White space of RFC 8259, section 2.

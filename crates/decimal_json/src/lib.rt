@@ -5,8 +5,10 @@ mod bytes;
 mod escape;
 mod key;
 mod number;
+mod reader;
 mod text;
 mod types;
 mod value;
 
+pub use reader::read;
 pub use types::{Json, JsonFault, Number, Pair};

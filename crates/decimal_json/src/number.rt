@@ -169,7 +169,6 @@ fn exponent_sign(bytes: &[u8], start: usize) -> (bool, usize)
     }
 }
 
-
 /// An exponent of that size, up to the limit.
 fn limited(size: u64) -> i64
     ensures { result ≡ pos (min size 1_000_000_000) }
@@ -209,6 +208,10 @@ pub fn number(
     let (places, at) = add_fraction(bytes, at, &mut digits)?;
     let (down, written, at) = exponent(bytes, at)?;
     let exponent = held_exponent(down, written, places);
-    let number = Number { negative, digits, exponent };
+    let number = Number {
+        negative,
+        digits,
+        exponent,
+    };
     Ok((number, at))
 }

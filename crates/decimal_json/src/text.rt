@@ -33,11 +33,7 @@ fn skip_plain(bytes: &[u8], start: usize) -> usize
 }
 
 /// The text of a string behind its first quote, and the place behind the last.
-pub fn text(
-    alloc: Global,
-    source: &str,
-    start: usize,
-) -> Result<(String, usize), JsonFault>
+pub fn text(alloc: Global, source: &str, start: usize) -> Result<(String, usize), JsonFault>
     requires { IsCharBoundary source.now start }
     ensures within { IfOk result (λ r. (start < r.1) × (r.1 ≤ length source.now)) }
     ensures read { IfOk result (λ r. ReadsText source.now start r.1 (string_bytes r.0)) }

@@ -7,8 +7,8 @@ ghost use Rattle.decimal_json.specs.Answer.{Leads, StandsAt, Reads, Breaks, Read
 ghost use Rattle.decimal_json.specs.View.{view, pair_view};
 
 use crate::bytes::{has_byte, token_at};
-use crate::number::{is_digit_byte, number};
 use crate::key::key;
+use crate::number::{is_digit_byte, number};
 use crate::text::text;
 use crate::types::{Json, JsonFault, Pair, no_json};
 use indexmap::IndexMap;
@@ -34,12 +34,7 @@ fn literal(bytes: &[u8], start: usize, letters: &[u8]) -> Result<usize, JsonFaul
 }
 
 /// A value that is no array and no object, from its first byte on.
-fn scalar(
-    alloc: Global,
-    source: &str,
-    start: usize,
-    first: u8,
-) -> Result<(Json, usize), JsonFault>
+fn scalar(alloc: Global, source: &str, start: usize, first: u8) -> Result<(Json, usize), JsonFault>
     requires stands { StandsAt source.now start first }
     requires within { start < length source.now }
     requires no_space { is_space first ≡ false }
@@ -69,6 +64,17 @@ fn scalar(
     }
 }
 
+/// How many levels may open inside a bracket at a place.
+fn less_room(room: usize, at: usize) -> Result<usize, JsonFault>
+    ensures less { IfOk result (λ less. less + 1 ≡ room) }
+    ensures fault { IfErr result (λ e. (e ≡ JsonFault.At at 3) × (room ≡ 0)) }
+{
+    if room == 0 {
+        return Err(JsonFault::At { at, kind: 3 });
+    }
+    Ok(room - 1)
+}
+
 /// A value, where so many levels more may open, and the place behind it. White space may stand before it.
 #[cycle(value)]
 pub fn value(
@@ -86,18 +92,19 @@ pub fn value(
     let Some(first) = first else {
         return Err(no_json(at));
     };
-    if first != b'[' && first != b'{' {
-        return scalar(alloc, source, at, first);
+    match first {
+        b'[' => {
+            let less = less_room(room, at)?;
+            let (items, end) = array(alloc, source, at + 1, less)?;
+            Ok((Json::Array(items), end))
+        }
+        b'{' => {
+            let less = less_room(room, at)?;
+            let (pairs, end) = object(alloc, source, at + 1, less)?;
+            Ok((Json::Object(pairs), end))
+        }
+        _ => scalar(alloc, source, at, first),
     }
-    if room == 0 {
-        return Err(JsonFault::At { at, kind: 3 });
-    }
-    if first == b'[' {
-        let (items, end) = array(alloc, source, at + 1, room - 1)?;
-        return Ok((Json::Array(items), end));
-    }
-    let (pairs, end) = object(alloc, source, at + 1, room - 1)?;
-    Ok((Json::Object(pairs), end))
 }
 
 /// The items of an array behind its first bracket, and the place behind the last.

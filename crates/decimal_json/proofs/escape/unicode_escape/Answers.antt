@@ -19,7 +19,7 @@ pub returns-in-Some-clause-read : goal.returns-in-Some-clause-read
 returns-in-Some-clause-read c =
     let range : (c.in_ok-first.first < 0xD800) ⊎ (0xE000 ≤ c.in_ok-first.first) = ⊎_elim (λ lt. inl lt) (λ r. inr r.0) c.in-Some.ensures.cases in
     subst (λ (b : ℕ). ReadsEscape c.args.bytes.now c.args.back (c.args.back + 6) b) (sym c.in-Some.ensures.value.1)
-      (unicode_alone c.args.bytes.now c.args.back c.in_ok-first.first c.requires.backslash c.requires.letter c.in_ok-first.ensures.read range)
+    (unicode_alone c.args.bytes.now c.args.back c.in_ok-first.first c.requires.backslash c.requires.letter c.in_ok-first.ensures.read range)
 
 pub returns-then-is_low-clause-fault : goal.returns-then-is_low-clause-fault
 returns-then-is_low-clause-fault c =
@@ -29,11 +29,11 @@ pub returns-in-Some-second_unit-clause-read : goal.returns-in-Some-second_unit-c
 returns-in-Some-second_unit-clause-read c =
     let is_high : is_high_surrogate c.in_ok-first.first ≡ true = is_first c.in_ok-first.first c.in_ok-first.ensures.small c.in_default.ensures.cases (sym c.if-is_low.ensures) in
     subst (λ (b : ℕ). ReadsEscape c.args.bytes.now c.args.back (c.args.back + 12) b) (sym c.pair_character.ensures)
-      (unicode_pair c.args.bytes.now c.args.back c.in_ok-first.first c.in-Some-second_unit.second c.requires.backslash c.requires.letter c.in_ok-first.ensures.read is_high
-        c.in-Some-second_unit.ensures.read)
+    (unicode_pair c.args.bytes.now c.args.back c.in_ok-first.first c.in-Some-second_unit.second c.requires.backslash c.requires.letter c.in_ok-first.ensures.read is_high
+    c.in-Some-second_unit.ensures.read)
 
 pub returns-in-None-clause-fault : goal.returns-in-None-clause-fault
 returns-in-None-clause-fault c =
     let is_high : is_high_surrogate c.in_ok-first.first ≡ true = is_first c.in_ok-first.first c.in_ok-first.ensures.small c.in_default.ensures.cases (sym c.if-is_low.ensures) in
     unicode_unpaired c.args.bytes.now c.args.back c.in_ok-first.first c.unpaired-in-None.result c.unpaired-in-None.ensures c.requires.backslash c.requires.letter c.in_ok-first.ensures.read is_high
-      c.in-None.ensures.missing
+    c.in-None.ensures.missing
