@@ -8,3 +8,5 @@ pub mod Views
 pub mod Inside
 pub mod Keys
 pub mod Documents
+pub mod Runs
+pub mod RunNumbers

@@ -8,12 +8,12 @@ use Rattle.decimal_json.specs.Answer.{AddsDigits, ReadsWhole, ReadsFraction, Add
 use Rattle.std.proofs.lemmas.Bool.{and_parts, leb-true, ne_eqb, eqb-true, false≢true, or_cases}
 use Rattle.decimal_json.proofs.Moves.{same_scan, moved, stopped, stepped, finished, byte_and_rest}
 
-digit_whole : (at c : ℕ) (outer : List Frame) (n : Bool) (ds : List ℕ) → is_digit c ≡ true
+pub digit_whole : (at c : ℕ) (outer : List Frame) (n : Bool) (ds : List ℕ) → is_digit c ≡ true
     → step at outer (numeral (whole n ds)) c ≡ next outer (numeral (whole n (ds ++ digit_of c ∷ [])))
 unfolding step numeral_step
 digit_whole at c outer n ds e = rw e refl
 
-digit_fraction : (at c : ℕ) (outer : List Frame) (n : Bool) (ds fs : List ℕ) → is_digit c ≡ true
+pub digit_fraction : (at c : ℕ) (outer : List Frame) (n : Bool) (ds fs : List ℕ) → is_digit c ≡ true
     → step at outer (numeral (fraction n ds fs)) c ≡ next outer (numeral (fraction n ds (fs ++ digit_of c ∷ [])))
 unfolding step numeral_step
 digit_fraction at c outer n ds fs e = rw e refl
@@ -53,7 +53,7 @@ digit_high : (c : ℕ) → is_digit c ≡ true → c ≤ 57
 digit_high c e = leb-true c 57 (and_parts (nat_le 48 c) (nat_le c 57) e).1
 
 -- the first digit of a number
-whole_starts : (at c : ℕ) (outer : List Frame) (n : Bool) → is_digit c ≡ true → (c ≡ 48 → ⊥)
+pub whole_starts : (at c : ℕ) (outer : List Frame) (n : Bool) → is_digit c ≡ true → (c ≡ 48 → ⊥)
     → step at outer (begun n) c ≡ next outer (numeral (whole n (digit_of c ∷ [])))
 unfolding step numeral_step begin_step
 whole_starts at c outer true h ne = rw (ne_eqb c 48 ne, h) refl
@@ -76,7 +76,7 @@ whole_starts at c outer false h ne =
       h,
     ) refl
 
-zero_starts : (at : ℕ) (outer : List Frame) (n : Bool) → step at outer (begun n) 48 ≡ next outer (numeral (zero_first n))
+pub zero_starts : (at : ℕ) (outer : List Frame) (n : Bool) → step at outer (begun n) 48 ≡ next outer (numeral (zero_first n))
 unfolding step numeral_step begin_step
 zero_starts at outer true = refl
 zero_starts at outer false = refl
@@ -93,7 +93,7 @@ no_whole bytes at outer fails = go (drop at bytes) (λ c cs e. fails c cs e) whe
   go [] same = refl
   go (c ∷ cs) same = ap (λ s. after s (λ o t. outcome (suc at) o t cs)) (minus_fails at c outer (same c cs refl))
 
-mark_is : (c : ℕ) (P : ℕ → Type 0) → is_mark c ≡ true → P 101 → P 69 → P c
+pub mark_is : (c : ℕ) (P : ℕ → Type 0) → is_mark c ≡ true → P 101 → P 69 → P c
 mark_is c P h small large = ⊎_elim (λ e. subst P (sym (eqb-true c 101 e)) small) (λ e. subst P (sym (eqb-true c 69 e)) large) (or_cases (c == 101) (c == 69) h)
 
 -- a number that begins with 0
@@ -225,11 +225,11 @@ reads_fraction bytes start at c places old new e f h r fails count = record {
 }
 
 -- the sign of an exponent, or none
-mark_plus : (at : ℕ) (outer : List Frame) (n : Bool) (ds fs : List ℕ) → step at outer (numeral (mark n ds fs)) 43 ≡ next outer (numeral (signed n ds fs false))
+pub mark_plus : (at : ℕ) (outer : List Frame) (n : Bool) (ds fs : List ℕ) → step at outer (numeral (mark n ds fs)) 43 ≡ next outer (numeral (signed n ds fs false))
 unfolding step numeral_step
 mark_plus at outer n ds fs = refl
 
-mark_minus : (at : ℕ) (outer : List Frame) (n : Bool) (ds fs : List ℕ) → step at outer (numeral (mark n ds fs)) 45 ≡ next outer (numeral (signed n ds fs true))
+pub mark_minus : (at : ℕ) (outer : List Frame) (n : Bool) (ds fs : List ℕ) → step at outer (numeral (mark n ds fs)) 45 ≡ next outer (numeral (signed n ds fs true))
 unfolding step numeral_step
 mark_minus at outer n ds fs = refl
 
@@ -246,7 +246,7 @@ pub no_sign : (bytes : List ℕ) (at : ℕ) (outer : List Frame) (n : Bool) (ds 
 unfolding step numeral_step finish
 no_sign bytes at outer n ds fs no_plus no_minus = same_scan bytes at outer (numeral (mark n ds fs)) (numeral (signed n ds fs false)) (λ c cs e. rw (no_plus c cs e, no_minus c cs e) refl) refl
 
-signed_starts : (at c : ℕ) (outer : List Frame) (n : Bool) (ds fs : List ℕ) (down : Bool) → is_digit c ≡ true
+pub signed_starts : (at c : ℕ) (outer : List Frame) (n : Bool) (ds fs : List ℕ) (down : Bool) → is_digit c ≡ true
     → step at outer (numeral (signed n ds fs down)) c ≡ next outer (numeral (exponent n ds fs down (digit_of c)))
 unfolding step numeral_step
 signed_starts at c outer n ds fs down h = rw h refl
@@ -260,7 +260,7 @@ signed_ends : (at : ℕ) (outer : List Frame) (n : Bool) (ds fs : List ℕ) (dow
 unfolding finish
 signed_ends at outer n ds fs down = refl
 
-exponent_more : (at c : ℕ) (outer : List Frame) (n : Bool) (ds fs : List ℕ) (down : Bool) (w : ℕ) → is_digit c ≡ true
+pub exponent_more : (at c : ℕ) (outer : List Frame) (n : Bool) (ds fs : List ℕ) (down : Bool) (w : ℕ) → is_digit c ≡ true
     → step at outer (numeral (exponent n ds fs down w)) c ≡ next outer (numeral (exponent n ds fs down (w * 10 + digit_of c)))
 unfolding step numeral_step
 exponent_more at c outer n ds fs down w h = rw h refl

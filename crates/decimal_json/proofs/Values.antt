@@ -16,7 +16,7 @@ use Rattle.decimal_json.proofs.Exits.{passed_on, some_of, none_of}
 use Rattle.decimal_json.proofs.Moves.{moved, stopped, stepped, finished, byte_and_rest}
 
 -- the letters of a literal
-letter_comes : (at l : ℕ) (outer : List Frame) (v : Value) (ls : List ℕ) → step at outer (literal v (l ∷ ls)) l ≡ next outer (awaited v ls)
+pub letter_comes : (at l : ℕ) (outer : List Frame) (v : Value) (ls : List ℕ) → step at outer (literal v (l ∷ ls)) l ≡ next outer (awaited v ls)
 unfolding step literal_step
 letter_comes at l outer v ls = rw (eq-eqb l l refl) refl
 
@@ -45,23 +45,23 @@ letter_missing bytes at i letters outer v lt fails = ap (λ ls. scan bytes at ou
 abbrev pub Led : List ℕ → ℕ → ℕ → Spot → Type 0
 Led bytes start at spot = (outer : List Frame) → scan bytes start outer wanted ≡ scan bytes at outer spot
 
-quote_leads : (at : ℕ) (outer : List Frame) → step at outer wanted 34 ≡ next outer (quoted for_value (plain []))
+pub quote_leads : (at : ℕ) (outer : List Frame) → step at outer wanted 34 ≡ next outer (quoted for_value (plain []))
 unfolding step begin_step
 quote_leads at outer = refl
 
-true_leads : (at : ℕ) (outer : List Frame) → step at outer wanted 116 ≡ next outer (literal (boolean true) rue)
+pub true_leads : (at : ℕ) (outer : List Frame) → step at outer wanted 116 ≡ next outer (literal (boolean true) rue)
 unfolding step begin_step
 true_leads at outer = refl
 
-false_leads : (at : ℕ) (outer : List Frame) → step at outer wanted 102 ≡ next outer (literal (boolean false) alse)
+pub false_leads : (at : ℕ) (outer : List Frame) → step at outer wanted 102 ≡ next outer (literal (boolean false) alse)
 unfolding step begin_step
 false_leads at outer = refl
 
-null_leads : (at : ℕ) (outer : List Frame) → step at outer wanted 110 ≡ next outer (literal null ull)
+pub null_leads : (at : ℕ) (outer : List Frame) → step at outer wanted 110 ≡ next outer (literal null ull)
 unfolding step begin_step
 null_leads at outer = refl
 
-minus_leads : (at : ℕ) (outer : List Frame) → step at outer wanted 45 ≡ next outer (numeral minus)
+pub minus_leads : (at : ℕ) (outer : List Frame) → step at outer wanted 45 ≡ next outer (numeral minus)
 unfolding step begin_step
 minus_leads at outer = refl
 

@@ -2,5 +2,6 @@ pub mod Value
 pub mod Number
 pub mod Escape
 pub mod Scan
+pub mod Grammar
 pub mod View
 pub mod Answer

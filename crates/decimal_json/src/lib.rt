@@ -12,3 +12,4 @@ mod value;
 
 pub use reader::read;
 pub use types::{Json, JsonFault, Number, Pair};
+
