@@ -76,12 +76,12 @@ module _ (bytes : List ℕ) (start : ℕ) (outer : List Frame) (p : Purpose) (in
   breaks_3 h i j k = let r = first h in let s = then i r.0 in let t = third j r.0 s.0 in r.2 ∙ (s.2 ∙ (t.2 ∙ fails (start + 3) (three_digits r.0 s.0 t.0) k))
 
 -- the two places where such digits stand
-unit_each : (outer : List Frame) (p : Purpose) (t : List ℕ) (back at c : ℕ) (h : Hex) → is_hex c ≡ true
+pub unit_each : (outer : List Frame) (p : Purpose) (t : List ℕ) (back at c : ℕ) (h : Hex) → is_hex c ≡ true
     → step at outer (quoted p (unit t back h)) c ≡ more_hex h c (λ m. next outer (quoted p (unit t back m))) (λ u. unit_step outer p t back u)
 unfolding step quoted_step
 unit_each outer p t back at c h e = rw e refl
 
-second_each : (outer : List Frame) (p : Purpose) (t : List ℕ) (back u at c : ℕ) (h : Hex) → is_hex c ≡ true
+pub second_each : (outer : List Frame) (p : Purpose) (t : List ℕ) (back u at c : ℕ) (h : Hex) → is_hex c ≡ true
     → step at outer (quoted p (high_unit t back u h)) c ≡ more_hex h c (λ m. next outer (quoted p (high_unit t back u m))) (λ v. pair_step outer p t back u v)
 unfolding step quoted_step
 second_each outer p t back u at c h e = rw e refl
@@ -141,11 +141,11 @@ breaks_after_3 bytes start a b d e is h i j k = breaks_unit bytes start (start +
     (λ outer p t back u. breaks_3 bytes start outer p (high_unit t back u) (λ v. pair_step outer p t back u v) (λ at. fault back 5) (second_each outer p t back u) (second_fails bytes outer p t back u) h i j k)
 
 -- the second escape of a pair
-high_leads : (at : ℕ) (outer : List Frame) (p : Purpose) (t : List ℕ) (back u : ℕ) → step at outer (quoted p (high t back u)) 92 ≡ next outer (quoted p (high_escaped t back u))
+pub high_leads : (at : ℕ) (outer : List Frame) (p : Purpose) (t : List ℕ) (back u : ℕ) → step at outer (quoted p (high t back u)) 92 ≡ next outer (quoted p (high_escaped t back u))
 unfolding step quoted_step
 high_leads at outer p t back u = refl
 
-high_escaped_leads : (at : ℕ) (outer : List Frame) (p : Purpose) (t : List ℕ) (back u : ℕ)
+pub high_escaped_leads : (at : ℕ) (outer : List Frame) (p : Purpose) (t : List ℕ) (back u : ℕ)
     → step at outer (quoted p (high_escaped t back u)) 117 ≡ next outer (quoted p (high_unit t back u no_digit))
 unfolding step quoted_step
 high_escaped_leads at outer p t back u = refl
@@ -213,11 +213,11 @@ scalar_no_surrogate u s = ⊎_elim
     (λ (lt : u < 0xD800). (and_left (nat_le 0xD800 u) (nat_lt u 0xDC00) (lt-leb 0xD800 u lt), and_left (nat_le 0xDC00 u) (nat_lt u 0xE000) (lt-leb 0xDC00 u (omega arith))))
     (λ (le : 0xE000 ≤ u). (and_right (nat_le 0xD800 u) (nat_lt u 0xDC00) (le-ltb u 0xDC00 (omega arith)), and_right (nat_le 0xDC00 u) (nat_lt u 0xE000) (le-ltb u 0xE000 le))) s
 
-plain_backslash : (at : ℕ) (outer : List Frame) (p : Purpose) (t : List ℕ) → step at outer (quoted p (plain t)) 92 ≡ next outer (quoted p (escaped t at))
+pub plain_backslash : (at : ℕ) (outer : List Frame) (p : Purpose) (t : List ℕ) → step at outer (quoted p (plain t)) 92 ≡ next outer (quoted p (escaped t at))
 unfolding step quoted_step
 plain_backslash at outer p t = refl
 
-escaped_u : (at : ℕ) (outer : List Frame) (p : Purpose) (t : List ℕ) (back : ℕ) → step at outer (quoted p (escaped t back)) 117 ≡ next outer (quoted p (unit t back no_digit))
+pub escaped_u : (at : ℕ) (outer : List Frame) (p : Purpose) (t : List ℕ) (back : ℕ) → step at outer (quoted p (escaped t back)) 117 ≡ next outer (quoted p (unit t back no_digit))
 unfolding step quoted_step escape_step
 escaped_u at outer p t back = refl
 
@@ -264,7 +264,7 @@ pub unicode_unpaired : (bytes : List ℕ) (back u : ℕ) (e : JsonFault) → e �
 unicode_unpaired bytes back u e is f g r is_high behind = λ outer p t. subst (λ (e : JsonFault). Leads e (scan bytes back outer (quoted p (plain t)))) (sym is)
     (high_begins bytes back u outer p t f g r is_high ∙ behind outer p t back u)
 
-escaped_some : (at : ℕ) (outer : List Frame) (p : Purpose) (t : List ℕ) (back c b : ℕ) → short_escape c ≡ Some b
+pub escaped_some : (at : ℕ) (outer : List Frame) (p : Purpose) (t : List ℕ) (back c b : ℕ) → short_escape c ≡ Some b
     → step at outer (quoted p (escaped t back)) c ≡ next outer (quoted p (plain (t ++ b ∷ [])))
 unfolding step quoted_step escape_step
 escaped_some at outer p t back c b e = ap (λ o. escape_step at outer p t back o c) e

@@ -10,3 +10,4 @@ pub mod Keys
 pub mod Documents
 pub mod Runs
 pub mod RunNumbers
+pub mod RunStrings

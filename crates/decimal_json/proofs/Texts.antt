@@ -11,13 +11,13 @@ use Rattle.decimal_json.specs.Scan.{Frame, Spot, Purpose, quoted, plain, is_plai
 use Rattle.decimal_json.specs.Answer.{Leads, FailsAt, StandsAt, ReadsPlain, ReadsText, BreaksText, ReadsEscape, BreaksEscape, resumed}
 use Rattle.decimal_json.proofs.Moves.{moved, stopped, stepped, finished, byte_and_rest}
 
-plain_parts : (c : ℕ) → is_plain c ≡ true → ((c == 34) ≡ false) × ((c == 92) ≡ false) × (nat_le 32 c ≡ true)
+pub plain_parts : (c : ℕ) → is_plain c ≡ true → ((c == 34) ≡ false) × ((c == 92) ≡ false) × (nat_le 32 c ≡ true)
 plain_parts c e =
     let both = and_parts (not (c == 34) && not (c == 92)) (nat_le 32 c) e in
     let two = and_parts (not (c == 34)) (not (c == 92)) both.0 in
     (not-true (c == 34) two.0, not-true (c == 92) two.1, both.1)
 
-plain_leads : (at c : ℕ) (outer : List Frame) (p : Purpose) (t : List ℕ) → is_plain c ≡ true → step at outer (quoted p (plain t)) c ≡ next outer (quoted p (plain (t ++ c ∷ [])))
+pub plain_leads : (at c : ℕ) (outer : List Frame) (p : Purpose) (t : List ℕ) → is_plain c ≡ true → step at outer (quoted p (plain t)) c ≡ next outer (quoted p (plain (t ++ c ∷ [])))
 unfolding step quoted_step
 plain_leads at c outer p t e = let parts = plain_parts c e in rw (parts.0, parts.1, parts.2) refl
 
@@ -32,7 +32,7 @@ reads_more bytes start at le lt e r = λ outer p t. r outer p t
     ∙ ap (λ xs. scan bytes (at + 1) outer (quoted p (plain xs))) (append_assoc t (slice_range bytes start at) (get_or bytes at 0 ∷ []) ∙ ap (λ xs. t ++ xs) (sym (between_more bytes start at 0 le lt))))
 
 -- the ends of a string
-plain_quote : (at : ℕ) (outer : List Frame) (p : Purpose) (t : List ℕ) → step at outer (quoted p (plain t)) 34 ≡ quote_step outer p t
+pub plain_quote : (at : ℕ) (outer : List Frame) (p : Purpose) (t : List ℕ) → step at outer (quoted p (plain t)) 34 ≡ quote_step outer p t
 unfolding step quoted_step
 plain_quote at outer p t = refl
 
