@@ -34,19 +34,19 @@ token_as : (bytes : List ℕ) (at c k : ℕ) → IsToken bytes at c → c ≡ k 
 token_as bytes at c k token is = subst (λ (b : ℕ). StandsAt bytes at b) is token.0
 
 -- arrays
-first_item_other : (at c : ℕ) (outer : List Frame) → is_space c ≡ false → (c ≡ 93 → ⊥) → step at outer first_item c ≡ step at (in_array [] ∷ outer) wanted c
+pub first_item_other : (at c : ℕ) (outer : List Frame) → is_space c ≡ false → (c ≡ 93 → ⊥) → step at outer first_item c ≡ step at (in_array [] ∷ outer) wanted c
 unfolding step
 first_item_other at c outer space ne = rw (space, ne_eqb c 93 ne) refl
 
-first_item_close : (at : ℕ) (outer : List Frame) → step at outer first_item 93 ≡ next outer (ended (array no_items))
+pub first_item_close : (at : ℕ) (outer : List Frame) → step at outer first_item 93 ≡ next outer (ended (array no_items))
 unfolding step
 first_item_close at outer = refl
 
-item_comma : (at : ℕ) (outer : List Frame) (vs : List Value) (v : Value) → step at (in_array vs ∷ outer) (ended v) 44 ≡ next (in_array (vs ++ v ∷ []) ∷ outer) wanted
+pub item_comma : (at : ℕ) (outer : List Frame) (vs : List Value) (v : Value) → step at (in_array vs ∷ outer) (ended v) 44 ≡ next (in_array (vs ++ v ∷ []) ∷ outer) wanted
 unfolding step ended_step close_step
 item_comma at outer vs v = refl
 
-item_close : (at : ℕ) (outer : List Frame) (vs : List Value) (v : Value) → step at (in_array vs ∷ outer) (ended v) 93 ≡ next outer (ended (array (items_of (vs ++ v ∷ []))))
+pub item_close : (at : ℕ) (outer : List Frame) (vs : List Value) (v : Value) → step at (in_array vs ∷ outer) (ended v) 93 ≡ next outer (ended (array (items_of (vs ++ v ∷ []))))
 unfolding step ended_step close_step
 item_close at outer vs v = refl
 
@@ -117,7 +117,7 @@ key_other : (at c : ℕ) (outer : List Frame) (ms : List Member) → is_space c 
 unfolding step
 key_other at c outer ms space ne = rw (space, ne_eqb c 34 ne) refl
 
-key_quote : (at : ℕ) (outer : List Frame) (ms : List Member) → step at outer (key_wanted ms) 34 ≡ next outer (quoted (for_key ms at) (plain []))
+pub key_quote : (at : ℕ) (outer : List Frame) (ms : List Member) → step at outer (key_wanted ms) 34 ≡ next outer (quoted (for_key ms at) (plain []))
 unfolding step
 key_quote at outer ms = refl
 
@@ -129,7 +129,7 @@ colon_other : (at c : ℕ) (outer : List Frame) (ms : List Member) (k : List ℕ
 unfolding step
 colon_other at c outer ms k space ne = rw (space, ne_eqb c 58 ne) refl
 
-colon_comes : (at : ℕ) (outer : List Frame) (ms : List Member) (k : List ℕ) → step at outer (colon_wanted ms k) 58 ≡ next (in_object ms k ∷ outer) wanted
+pub colon_comes : (at : ℕ) (outer : List Frame) (ms : List Member) (k : List ℕ) → step at outer (colon_wanted ms k) 58 ≡ next (in_object ms k ∷ outer) wanted
 unfolding step
 colon_comes at outer ms k = refl
 
@@ -153,11 +153,11 @@ key_begins bytes start at c skips token is outer ms = skips outer (key_wanted ms
 pub key_breaks : (bytes : List ℕ) (start at c : ℕ) (test : List ℕ → Bool) (e : JsonFault) → SkipsSpace bytes start at → IsToken bytes at c → c ≡ 34 → BreaksText bytes (at + 1) e → BreaksKey test bytes start e
 key_breaks bytes start at c test e skips token is broken = λ outer ms keys. subst (λ (o : Outcome). Leads e o) (sym (key_begins bytes start at c skips token is outer ms)) (broken outer (for_key ms at))
 
-quote_known : (outer : List Frame) (ms : List Member) (at : ℕ) (t : List ℕ) → has_key (members_of ms) t ≡ true → quote_step outer (for_key ms at) t ≡ stop at 4
+pub quote_known : (outer : List Frame) (ms : List Member) (at : ℕ) (t : List ℕ) → has_key (members_of ms) t ≡ true → quote_step outer (for_key ms at) t ≡ stop at 4
 unfolding quote_step
 quote_known outer ms at t e = rw e refl
 
-quote_new : (outer : List Frame) (ms : List Member) (at : ℕ) (t : List ℕ) → has_key (members_of ms) t ≡ false → quote_step outer (for_key ms at) t ≡ next outer (colon_wanted ms t)
+pub quote_new : (outer : List Frame) (ms : List Member) (at : ℕ) (t : List ℕ) → has_key (members_of ms) t ≡ false → quote_step outer (for_key ms at) t ≡ next outer (colon_wanted ms t)
 unfolding quote_step
 quote_new outer ms at t e = rw e refl
 
@@ -189,19 +189,19 @@ key_read bytes start at c end colon d test t skips token is r new again second c
     ∙ moved bytes colon 58 outer (colon_wanted ms t) (in_object ms t ∷ outer) wanted (token_as bytes colon d 58 second colon_is) (colon_comes colon outer ms t)
 
 -- objects
-first_key_other : (at c : ℕ) (outer : List Frame) → is_space c ≡ false → (c ≡ 125 → ⊥) → step at outer first_key c ≡ step at outer (key_wanted []) c
+pub first_key_other : (at c : ℕ) (outer : List Frame) → is_space c ≡ false → (c ≡ 125 → ⊥) → step at outer first_key c ≡ step at outer (key_wanted []) c
 unfolding step
 first_key_other at c outer space ne = rw (space, ne_eqb c 125 ne) refl
 
-first_key_close : (at : ℕ) (outer : List Frame) → step at outer first_key 125 ≡ next outer (ended (object no_members))
+pub first_key_close : (at : ℕ) (outer : List Frame) → step at outer first_key 125 ≡ next outer (ended (object no_members))
 unfolding step
 first_key_close at outer = refl
 
-member_comma : (at : ℕ) (outer : List Frame) (ms : List Member) (k : List ℕ) (v : Value) → step at (in_object ms k ∷ outer) (ended v) 44 ≡ next outer (key_wanted (ms ++ (k, v) ∷ []))
+pub member_comma : (at : ℕ) (outer : List Frame) (ms : List Member) (k : List ℕ) (v : Value) → step at (in_object ms k ∷ outer) (ended v) 44 ≡ next outer (key_wanted (ms ++ (k, v) ∷ []))
 unfolding step ended_step close_step
 member_comma at outer ms k v = refl
 
-member_close : (at : ℕ) (outer : List Frame) (ms : List Member) (k : List ℕ) (v : Value) → step at (in_object ms k ∷ outer) (ended v) 125 ≡ next outer (ended (object (members_of (ms ++ (k, v) ∷ []))))
+pub member_close : (at : ℕ) (outer : List Frame) (ms : List Member) (k : List ℕ) (v : Value) → step at (in_object ms k ∷ outer) (ended v) 125 ≡ next outer (ended (object (members_of (ms ++ (k, v) ∷ []))))
 unfolding step ended_step close_step
 member_close at outer ms k v = refl
 
@@ -294,11 +294,11 @@ members_go_on bytes start next_at room c ms k v test more r keys adds token is l
 }
 
 -- a bracket that opens a level
-open_array : (at : ℕ) (outer : List Frame) → step at outer wanted 91 ≡ opened at outer first_item
+pub open_array : (at : ℕ) (outer : List Frame) → step at outer wanted 91 ≡ opened at outer first_item
 unfolding step begin_step
 open_array at outer = refl
 
-open_object : (at : ℕ) (outer : List Frame) → step at outer wanted 123 ≡ opened at outer first_key
+pub open_object : (at : ℕ) (outer : List Frame) → step at outer wanted 123 ≡ opened at outer first_key
 unfolding step begin_step
 open_object at outer = refl
 

@@ -11,3 +11,5 @@ pub mod Documents
 pub mod Runs
 pub mod RunNumbers
 pub mod RunStrings
+pub mod Uniques
+pub mod RunValues
