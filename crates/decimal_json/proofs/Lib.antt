@@ -13,3 +13,6 @@ pub mod RunNumbers
 pub mod RunStrings
 pub mod Uniques
 pub mod RunValues
+pub mod Growth
+pub mod Stands
+pub mod SoundValues

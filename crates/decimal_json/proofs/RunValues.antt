@@ -198,10 +198,10 @@ first_key_is limited at outer k key x o s rest is a =
     ⊎_elim (λ e. inl (same ∙ e)) (λ r. inr (refuses_along limited (outcome at outer first_key ((key ++ x) ++ rest)) (outcome at outer (key_wanted []) ((key ++ x) ++ rest)) same r)) a
 
 -- lists under other brackets
-four : (a b c d e : List ℕ) → a ++ (b ++ (c ++ (d ++ e))) ≡ (a ++ (b ++ (c ++ d))) ++ e
+pub four : (a b c d e : List ℕ) → a ++ (b ++ (c ++ (d ++ e))) ≡ (a ++ (b ++ (c ++ d))) ++ e
 four a b c d e = sym (append_assoc a (b ++ (c ++ d)) e ∙ ap (λ x. a ++ x) (append_assoc b (c ++ d) e ∙ ap (λ x. b ++ x) (append_assoc c d e)))
 
-seven : (a b c d f g h e : List ℕ) → a ++ (b ++ (c ++ (58 ∷ d ++ (f ++ (g ++ (h ++ e)))))) ≡ (a ++ (b ++ (c ++ (58 ∷ d ++ (f ++ (g ++ h)))))) ++ e
+pub seven : (a b c d f g h e : List ℕ) → a ++ (b ++ (c ++ (58 ∷ d ++ (f ++ (g ++ (h ++ e)))))) ≡ (a ++ (b ++ (c ++ (58 ∷ d ++ (f ++ (g ++ h)))))) ++ e
 seven a b c d f g h e = sym (append_assoc a (b ++ (c ++ (58 ∷ d ++ (f ++ (g ++ h))))) e ∙ ap (λ x. a ++ x) (append_assoc b (c ++ (58 ∷ d ++ (f ++ (g ++ h)))) e
     ∙ ap (λ x. b ++ x) (append_assoc c (58 ∷ d ++ (f ++ (g ++ h))) e ∙ ap (λ x. c ++ (58 ∷ x)) (sym (four d f g h e)))))
 
