@@ -16,3 +16,4 @@ pub mod RunValues
 pub mod Growth
 pub mod Stands
 pub mod SoundValues
+pub mod SoundNumbers

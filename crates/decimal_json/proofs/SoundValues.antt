@@ -50,7 +50,7 @@ literal_begins outer bs c k v ls f e s = record { front = bs; begun = k ∷ []; 
 string_begins : (outer : List Frame) (p : Purpose) (bs : List ℕ) (c : ℕ) → IsStringFront outer p bs → (c == 34) ≡ true → InString outer p [] (bs ++ c ∷ [])
 string_begins outer p bs c f e = record { front = bs; cs = []; is_front = f; are = tt; text = refl; is = named bs c 34 e; }
 
-digit_small : (c : ℕ) → is_digit c ≡ true → digit_of c < 10
+pub digit_small : (c : ℕ) → is_digit c ≡ true → digit_of c < 10
 digit_small c e = let parts = and_parts (nat_le 48 c) (nat_le c 57) e in omega (arith, leb-true 48 c parts.0, leb-true c 57 parts.1)
 
 pub digit_again : (c : ℕ) → is_digit c ≡ true → c ≡ 48 + digit_of c
