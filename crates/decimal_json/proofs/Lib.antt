@@ -17,3 +17,4 @@ pub mod Growth
 pub mod Stands
 pub mod SoundValues
 pub mod SoundNumbers
+pub mod SoundStrings
