@@ -18,3 +18,4 @@ pub mod Stands
 pub mod SoundValues
 pub mod SoundNumbers
 pub mod SoundStrings
+pub mod Sound

@@ -18,7 +18,7 @@ digits_more : (ds : List ℕ) (d : ℕ) → AreDigits ds → d < 10 → AreDigit
 digits_more [] d are lt = (lt, tt)
 digits_more (e ∷ ds) d are lt = (are.0, digits_more ds d are.1 lt)
 
-open_whole : (ds : List ℕ) → IsOpenWhole ds → IsWhole ds
+pub open_whole : (ds : List ℕ) → IsOpenWhole ds → IsWhole ds
 open_whole [] w = absurd w
 open_whole (d ∷ []) w = w.1.0
 open_whole (d ∷ e ∷ ds) w = w
@@ -31,7 +31,7 @@ some_more : (fs : List ℕ) (d : ℕ) → IsSomeDigits fs → d < 10 → IsSomeD
 some_more [] d s lt = absurd s
 some_more (f ∷ fs) d s lt = digits_more (f ∷ fs) d s lt
 
-some_digits : (fs : List ℕ) → IsSomeDigits fs → AreDigits fs
+pub some_digits : (fs : List ℕ) → IsSomeDigits fs → AreDigits fs
 some_digits [] s = absurd s
 some_digits (f ∷ fs) s = s
 
@@ -51,7 +51,7 @@ digit_behind x ds c e = append_assoc x (numerals ds) (c ∷ []) ∙ (ap (λ b. x
 grows : (outer : List Frame) (n : Numeral) (front begun bs text : List ℕ) (c : ℕ) → IsFront outer front → bs ≡ front ++ begun → begun ++ c ∷ [] ≡ text → NumeralText n text → Stands outer (numeral n) (bs ++ c ∷ [])
 grows outer n front begun bs text c f e g t = (front, text, f, t, one_more bs front begun c e ∙ ap (λ x. front ++ x) g)
 
-ends : (outer : List Frame) (n : Bool) (ds fs : List ℕ) (p : Power) (front begun bs : List ℕ) → IsFront outer front → bs ≡ front ++ begun → IsWhole ds → AreDigits fs → IsPower p
+pub ends : (outer : List Frame) (n : Bool) (ds fs : List ℕ) (p : Power) (front begun bs : List ℕ) → IsFront outer front → bs ≡ front ++ begun → IsWhole ds → AreDigits fs → IsPower p
     → begun ≡ negative_text n ++ (numerals ds ++ (fraction_text fs ++ power_text p)) → Stands outer (ended (so_far n ds fs (is_down p) (written p))) bs
 ends outer n ds fs p front begun bs f e w d q g = spaced_none (BehindValue outer (so_far n ds fs (is_down p) (written p))) bs
     (front, begun, f, record { negative = n; ds = ds; fs = fs; exponent = p; is_whole = w; are_digits = d; is_power = q; value = refl; spelled = g; }, e)
@@ -59,14 +59,14 @@ ends outer n ds fs p front begun bs f e w d q g = spaced_none (BehindValue outer
 above : (c : ℕ) → is_digit c ≡ true → (c == 48) ≡ false → 0 < digit_of c
 above c e z = let parts = and_parts (nat_le 48 c) (nat_le c 57) e in let ne : c ≡ 48 → ⊥ = eqb-false c 48 z in omega (arith, leb-true 48 c parts.0)
 
-whole_text : (n : Bool) (ds : List ℕ) → negative_text n ++ numerals ds ≡ negative_text n ++ (numerals ds ++ ([] ++ []))
+pub whole_text : (n : Bool) (ds : List ℕ) → negative_text n ++ numerals ds ≡ negative_text n ++ (numerals ds ++ ([] ++ []))
 whole_text n ds = ap (λ x. negative_text n ++ x) (sym (append-nil (numerals ds)))
 
-fraction_end : (n : Bool) (ds fs : List ℕ) → IsSomeDigits fs → (negative_text n ++ numerals ds) ++ (46 ∷ numerals fs) ≡ negative_text n ++ (numerals ds ++ (fraction_text fs ++ []))
+pub fraction_end : (n : Bool) (ds fs : List ℕ) → IsSomeDigits fs → (negative_text n ++ numerals ds) ++ (46 ∷ numerals fs) ≡ negative_text n ++ (numerals ds ++ (fraction_text fs ++ []))
 fraction_end n ds fs s = append_assoc (negative_text n) (numerals ds) (46 ∷ numerals fs)
     ∙ ap (λ x. negative_text n ++ (numerals ds ++ x)) (some_text fs s ∙ sym (append-nil (fraction_text fs)))
 
-power_end : (n : Bool) (ds fs : List ℕ) (m : ℕ) (s : Sign) (d : ℕ) (es : List ℕ)
+pub power_end : (n : Bool) (ds fs : List ℕ) (m : ℕ) (s : Sign) (d : ℕ) (es : List ℕ)
     → ((negative_text n ++ numerals ds) ++ fraction_text fs) ++ ((m ∷ sign_text s) ++ numerals (d ∷ es)) ≡ negative_text n ++ (numerals ds ++ (fraction_text fs ++ power_text (power m s d es)))
 power_end n ds fs m s d es = append_assoc (negative_text n ++ numerals ds) (fraction_text fs) ((m ∷ sign_text s) ++ numerals (d ∷ es))
     ∙ append_assoc (negative_text n) (numerals ds) (fraction_text fs ++ ((m ∷ sign_text s) ++ numerals (d ∷ es)))

@@ -41,7 +41,7 @@ add_character outer p t base bs c r is e = record {
 }
 
 -- an escape of one unit of a pair
-lacks : (outer : List Frame) (p : Purpose) (t base bytes : List ℕ) (here back a b c d : ℕ) (more : List ℕ) → InString outer p t base → back ≡ length base → AreHex a b c d
+pub lacks : (outer : List Frame) (p : Purpose) (t base bytes : List ℕ) (here back a b c d : ℕ) (more : List ℕ) → InString outer p t base → back ≡ length base → AreHex a b c d
     → (is_low_surrogate (unit_of a b c d) ≡ true) ⊎ ((is_high_surrogate (unit_of a b c d) ≡ true) × LacksSecond more) → bytes ≡ base ++ (92 ∷ 117 ∷ a ∷ b ∷ c ∷ d ∷ more) → Caught bytes here back 5
 lacks outer p t base bytes here back a b c d more r e hex which f =
     inr (inr (inr (refl, (outer, p, r.front, r.cs, a, b, c, d, more, r.is_front, r.are, hex, which, e ∙ ap length r.is, f ∙ ap (λ x. x ++ 92 ∷ 117 ∷ a ∷ b ∷ c ∷ d ∷ more) r.is))))
@@ -133,7 +133,7 @@ lacks_low a b d f cs e = λ i j k l rest hex low g.
     let same : unit_of a b d f ≡ unit_of i j k l = ap (λ n. unit_of n b d f) ai ∙ (ap (λ n. unit_of i n d f) bj ∙ (ap (λ n. unit_of i j n f) dk ∙ ap (λ n. unit_of i j k n) fl)) in
     false≢true (sym e ∙ (ap is_low_surrogate same ∙ low))
 
-high_of : (u a b c d : ℕ) → u ≡ unit_of a b c d → is_high_surrogate u ≡ true → is_high_surrogate (unit_of a b c d) ≡ true
+pub high_of : (u a b c d : ℕ) → u ≡ unit_of a b c d → is_high_surrogate u ≡ true → is_high_surrogate (unit_of a b c d) ≡ true
 high_of u a b c d e h = ap is_high_surrogate (sym e) ∙ h
 
 good_high : (outer : List Frame) (p : Purpose) (t bs : List ℕ) (back u c : ℕ) → QuotedText outer p (high t back u) bs → Good (quoted_step (length bs) outer p (high t back u) c) bs c
