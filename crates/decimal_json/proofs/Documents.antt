@@ -1,12 +1,12 @@
 -- The machine over a whole input.
-use Rattle.std.proofs.Common.{◌≡◌, ℕ, ◌+◌, List, [], ◌∷◌, drop, length, refl, sym, ap, subst, ◌∙◌, arith, Bool, false}
+use Rattle.std.proofs.Common.{◌≡◌, ℕ, List, [], drop, refl, sym, subst, ◌∙◌, false}
 use Rattle.std.specs.Prelude.{Result, Ok, Err}
 use Rattle.std.specs.Result.{IsErrAnd}
 use Rattle.decimal_json.specs.declared.types.Json.{Json}
 use Rattle.decimal_json.specs.declared.types.JsonFault.{JsonFault}
 use Rattle.decimal_json.specs.declared.types.JsonFault.TheVariants.{At}
 use Rattle.decimal_json.specs.Value.{Value}
-use Rattle.decimal_json.specs.Scan.{Frame, wanted, ended, is_space, Step, stop, Outcome, done, fault, step, ended_step, close_step, finish, finish_value, outcome, scan, whole_outcome}
+use Rattle.decimal_json.specs.Scan.{wanted, ended, is_space, stop, Outcome, done, step, ended_step, close_step, finish, finish_value, scan, whole_outcome}
 use Rattle.decimal_json.specs.Answer.{Gives, Leads, SkipsSpace, IsToken, ReadsValue, BreaksValue}
 use Rattle.decimal_json.proofs.Moves.{stopped, finished}
 

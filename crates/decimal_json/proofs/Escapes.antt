@@ -1,13 +1,13 @@
 -- The machine inside an escape.
-use Rattle.std.proofs.Common.{◌≡◌, ℕ, ◌+◌, ◌*◌, ◌==◌, ◌<◌, ◌≤◌, ⊎_elim, suc, cond, List, [], ◌∷◌, ◌++◌, drop, length, refl, sym, ap, subst, ◌∙◌, arith, Bool, true, false}
+use Rattle.std.proofs.Common.{◌≡◌, ℕ, ◌+◌, ◌*◌, ◌==◌, ◌<◌, ◌≤◌, ⊎_elim, cond, List, [], ◌∷◌, ◌++◌, drop, refl, sym, ap, subst, ◌∙◌, arith, true, false}
 use Rattle.decimal_json.specs.declared.types.JsonFault.{JsonFault}
 use Rattle.decimal_json.specs.declared.types.JsonFault.TheVariants.{At}
-use Rattle.std.specs.Prelude.{encode_utf8, nat_le, nat_lt, Option, Some, None, ◌⊎◌}
+use Rattle.std.specs.Prelude.{encode_utf8, nat_le, nat_lt, Some, None, ◌⊎◌}
 use Rattle.std.proofs.lemmas.Bool.{and_parts, and_cases, and_left, and_right, and_from, leb-true, leb-false, le-leb, lt-leb, le-ltb, lt-ltb, ne_eqb, false≢true}
 use Rattle.std.proofs.lemmas.Str.{encode_ascii}
 use Rattle.std.specs.Char.Utf16.{is_low_surrogate, is_high_surrogate, surrogate_pair_char}
 use Rattle.decimal_json.specs.Escape.{is_hex, hex_of, unit_of, short_escape}
-use Rattle.decimal_json.specs.Scan.{Frame, Spot, Purpose, Hex, no_digit, one_digit, two_digits, three_digits, Quoted, quoted, plain, escaped, unit, high, high_escaped, high_unit, Step, next, stop, Outcome, fault, step, quoted_step, more_hex, unit_step, pair_step, escape_step, after, outcome, scan, finish}
+use Rattle.decimal_json.specs.Scan.{Frame, Spot, Purpose, Hex, no_digit, one_digit, two_digits, three_digits, Quoted, quoted, plain, escaped, unit, high, high_escaped, high_unit, Step, next, stop, Outcome, fault, step, quoted_step, more_hex, unit_step, pair_step, escape_step, outcome, scan, finish}
 use Rattle.decimal_json.specs.Answer.{Leads, FailsAt, StandsAt, HexAt, ReadsUnit, BreaksUnit, ReadsEscape, BreaksEscape, resumed}
 use Rattle.decimal_json.proofs.Moves.{moved, stopped, stepped, finished}
 

@@ -1,5 +1,5 @@
 -- Fronts that grow by one item or member, or close.
-use Rattle.std.proofs.Common.{◌≡◌, ℕ, ◌+◌, ◌<◌, ◌≤◌, suc, List, [], ◌∷◌, ◌++◌, length, refl, sym, ap, subst, ◌∙◌, arith, Bool, true, false, append_assoc}
+use Rattle.std.proofs.Common.{◌≡◌, ℕ, ◌≤◌, List, [], ◌∷◌, ◌++◌, length, refl, sym, ap, ◌∙◌, arith, true, append_assoc}
 use Rattle.std.proofs.lemmas.List.{append-nil}
 use Rattle.decimal_json.specs.Value.{Value, items_of, members_of}
 use Rattle.decimal_json.specs.Scan.{Member, Frame, in_array, in_object, is_space}
@@ -54,30 +54,100 @@ pub front_members-push : (level : ℕ) (ms : List Member) (inside : List ℕ) (k
     → IsSpace first → IsString true k key → IsSpace second → IsSpace third → Spells true level v core → IsSpace behind
     → FrontMembers level (ms ++ (k, v) ∷ []) (inside ++ (first ++ (key ++ (second ++ (58 ∷ third ++ (core ++ (behind ++ 44 ∷ [])))))))
 front_members-push level [] inside k v first key second third core behind f s1 sk s2 s3 s s4 =
-    (first, key, second, third, core, behind, [], s1, sk, s2, s3, s, s4, refl, ap (λ i. i ++ (first ++ (key ++ (second ++ (58 ∷ third ++ (core ++ (behind ++ 44 ∷ [])))))))  f)
+    (first, key, second, third, core, behind, [], s1, sk, s2, s3, s, s4, refl, ap (λ i. i ++ (first ++ (key ++ (second ++ (58 ∷ third ++ (core ++ (behind ++ 44 ∷ []))))))) f)
 front_members-push level (m ∷ ms) inside k v first key second third core behind f s1 sk s2 s3 s s4 =
-    let x : List ℕ = first ++ (key ++ (second ++ (58 ∷ third ++ (core ++ (behind ++ 44 ∷ []))))) in
-    (f.0, f.1, f.2, f.3, f.4, f.5, f.6 ++ x, f.7, f.8, f.9, f.10, f.11, f.12, front_members-push level ms f.6 k v first key second third core behind f.13 s1 sk s2 s3 s s4,
-      ap (λ i. i ++ x) f.14 ∙ sym (seven f.0 f.1 f.2 f.3 f.4 f.5 (44 ∷ f.6) x))
+    let x : List ℕ = first ++ (key ++ (second ++ (58 ∷ third ++ (core ++ (behind ++ 44 ∷ []))))) in (
+      f.0,
+      f.1,
+      f.2,
+      f.3,
+      f.4,
+      f.5,
+      f.6 ++ x,
+      f.7,
+      f.8,
+      f.9,
+      f.10,
+      f.11,
+      f.12,
+      front_members-push level ms f.6 k v first key second third core behind f.13 s1 sk s2 s3 s s4,
+      ap (λ i. i ++ x) f.14 ∙ sym (seven f.0 f.1 f.2 f.3 f.4 f.5 (44 ∷ f.6) x),
+    )
 
 more_members_close : (level : ℕ) (ms : List Member) (inside : List ℕ) (k : List ℕ) (v : Value) (first key second third core behind : List ℕ) → FrontMembers level ms inside
     → IsSpace first → IsString true k key → IsSpace second → IsSpace third → Spells true level v core → IsSpace behind
     → SpellsMoreMembers true level (members_of (ms ++ (k, v) ∷ [])) (44 ∷ inside ++ (first ++ (key ++ (second ++ (58 ∷ third ++ (core ++ behind))))))
-more_members_close level [] inside k v first key second third core behind f s1 sk s2 s3 s s4 =
-    (first, key, second, third, core, behind, [], s1, sk, s2, s3, s, s4, refl,
-      ap (λ i. 44 ∷ i ++ (first ++ (key ++ (second ++ (58 ∷ third ++ (core ++ behind)))))) f ∙ ap (λ b. 44 ∷ first ++ (key ++ (second ++ (58 ∷ third ++ (core ++ b))))) (sym (append-nil behind)))
+more_members_close level [] inside k v first key second third core behind f s1 sk s2 s3 s s4 = (
+  first,
+  key,
+  second,
+  third,
+  core,
+  behind,
+  [],
+  s1,
+  sk,
+  s2,
+  s3,
+  s,
+  s4,
+  refl,
+  ap (λ i. 44 ∷ i ++ (first ++ (key ++ (second ++ (58 ∷ third ++ (core ++ behind)))))) f ∙ ap (λ b. 44 ∷ first ++ (key ++ (second ++ (58 ∷ third ++ (core ++ b))))) (sym (append-nil behind)),
+)
 more_members_close level (m ∷ ms) inside k v first key second third core behind f s1 sk s2 s3 s s4 =
-    let x : List ℕ = first ++ (key ++ (second ++ (58 ∷ third ++ (core ++ behind)))) in
-    (f.0, f.1, f.2, f.3, f.4, f.5, 44 ∷ f.6 ++ x, f.7, f.8, f.9, f.10, f.11, f.12, more_members_close level ms f.6 k v first key second third core behind f.13 s1 sk s2 s3 s s4,
-      ap (λ i. 44 ∷ i ++ x) f.14 ∙ ap (λ b. 44 ∷ b) (sym (seven f.0 f.1 f.2 f.3 f.4 f.5 (44 ∷ f.6) x)))
+    let x : List ℕ = first ++ (key ++ (second ++ (58 ∷ third ++ (core ++ behind)))) in (
+      f.0,
+      f.1,
+      f.2,
+      f.3,
+      f.4,
+      f.5,
+      44 ∷ f.6 ++ x,
+      f.7,
+      f.8,
+      f.9,
+      f.10,
+      f.11,
+      f.12,
+      more_members_close level ms f.6 k v first key second third core behind f.13 s1 sk s2 s3 s s4,
+      ap (λ i. 44 ∷ i ++ x) f.14 ∙ ap (λ b. 44 ∷ b) (sym (seven f.0 f.1 f.2 f.3 f.4 f.5 (44 ∷ f.6) x)),
+    )
 
 pub members_close : (level : ℕ) (ms : List Member) (inside : List ℕ) (k : List ℕ) (v : Value) (first key second third core behind : List ℕ) → FrontMembers level ms inside
     → IsSpace first → IsString true k key → IsSpace second → IsSpace third → Spells true level v core → IsSpace behind
     → SpellsMembers true level (members_of (ms ++ (k, v) ∷ [])) (inside ++ (first ++ (key ++ (second ++ (58 ∷ third ++ (core ++ behind))))))
-members_close level [] inside k v first key second third core behind f s1 sk s2 s3 s s4 =
-    (first, key, second, third, core, behind, [], s1, sk, s2, s3, s, s4, refl,
-      ap (λ i. i ++ (first ++ (key ++ (second ++ (58 ∷ third ++ (core ++ behind)))))) f ∙ ap (λ b. first ++ (key ++ (second ++ (58 ∷ third ++ (core ++ b))))) (sym (append-nil behind)))
+members_close level [] inside k v first key second third core behind f s1 sk s2 s3 s s4 = (
+  first,
+  key,
+  second,
+  third,
+  core,
+  behind,
+  [],
+  s1,
+  sk,
+  s2,
+  s3,
+  s,
+  s4,
+  refl,
+  ap (λ i. i ++ (first ++ (key ++ (second ++ (58 ∷ third ++ (core ++ behind)))))) f ∙ ap (λ b. first ++ (key ++ (second ++ (58 ∷ third ++ (core ++ b))))) (sym (append-nil behind)),
+)
 members_close level (m ∷ ms) inside k v first key second third core behind f s1 sk s2 s3 s s4 =
-    let x : List ℕ = first ++ (key ++ (second ++ (58 ∷ third ++ (core ++ behind)))) in
-    (f.0, f.1, f.2, f.3, f.4, f.5, 44 ∷ f.6 ++ x, f.7, f.8, f.9, f.10, f.11, f.12, more_members_close level ms f.6 k v first key second third core behind f.13 s1 sk s2 s3 s s4,
-      ap (λ i. i ++ x) f.14 ∙ sym (seven f.0 f.1 f.2 f.3 f.4 f.5 (44 ∷ f.6) x))
+    let x : List ℕ = first ++ (key ++ (second ++ (58 ∷ third ++ (core ++ behind)))) in (
+      f.0,
+      f.1,
+      f.2,
+      f.3,
+      f.4,
+      f.5,
+      44 ∷ f.6 ++ x,
+      f.7,
+      f.8,
+      f.9,
+      f.10,
+      f.11,
+      f.12,
+      more_members_close level ms f.6 k v first key second third core behind f.13 s1 sk s2 s3 s s4,
+      ap (λ i. i ++ x) f.14 ∙ sym (seven f.0 f.1 f.2 f.3 f.4 f.5 (44 ∷ f.6) x),
+    )

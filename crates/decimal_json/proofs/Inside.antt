@@ -1,12 +1,12 @@
 -- The machine inside arrays and objects.
-use Rattle.std.proofs.Common.{◌≡◌, ℕ, ◌+◌, ◌-◌, ◌==◌, ◌<◌, ◌≤◌, ◌||◌, suc, cond, List, [], ◌∷◌, ◌++◌, drop, length, ⊎_elim, refl, sym, ap, subst, ◌∙◌, arith, Bool, true, false}
-use Rattle.std.proofs.lemmas.Bool.{ne_eqb, eq-eqb, false≢true, lt-ltb, le-ltb}
-use Rattle.std.specs.Prelude.{nat_lt, not, ◌⊎◌}
+use Rattle.std.proofs.Common.{◌≡◌, ℕ, ◌+◌, ◌≤◌, ◌||◌, List, [], ◌∷◌, ◌++◌, drop, length, ⊎_elim, refl, sym, ap, subst, ◌∙◌, arith, Bool, true, false}
+use Rattle.std.proofs.lemmas.Bool.{ne_eqb, lt-ltb, le-ltb}
+use Rattle.std.specs.Prelude.{◌⊎◌}
 use Rattle.std.specs.Str.{bytes_eq}
 use Rattle.decimal_json.specs.declared.types.JsonFault.{JsonFault}
 use Rattle.decimal_json.specs.declared.types.JsonFault.TheVariants.{At}
 use Rattle.decimal_json.specs.Value.{Value, array, object, no_items, no_members, items_of, members_of, has_key}
-use Rattle.decimal_json.specs.Scan.{Member, Frame, in_array, in_object, Spot, Purpose, wanted, first_item, first_key, key_wanted, colon_wanted, ended, quoted, for_key, plain, is_space, depth_limit, Step, next, stop, Outcome, fault, step, begin_step, opened, ended_step, close_step, quote_step, after, outcome, scan, finish, finish_value}
+use Rattle.decimal_json.specs.Scan.{Member, Frame, in_array, in_object, Spot, wanted, first_item, first_key, key_wanted, colon_wanted, ended, quoted, for_key, plain, is_space, depth_limit, next, stop, Outcome, fault, step, begin_step, opened, ended_step, close_step, quote_step, scan, finish, finish_value}
 use Rattle.decimal_json.specs.Answer.{Leads, Reads, Breaks, SkipsSpace, StandsAt, IsToken, HasKeys, AddsKey, ReadsKey, BreaksKey, ReadsText, BreaksText, ReadsValue, BreaksValue, ReadsInside, BreaksInside, resumed}
 use Rattle.decimal_json.proofs.Moves.{moved, stopped, stepped, finished}
 

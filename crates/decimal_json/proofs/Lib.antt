@@ -19,3 +19,5 @@ pub mod SoundValues
 pub mod SoundNumbers
 pub mod SoundStrings
 pub mod Sound
+pub mod Longest
+pub mod Readings

@@ -1,6 +1,6 @@
 -- One byte more: what the machine of `specs/Scan.antt` does at the bytes of an input from a place on.
-use Rattle.std.proofs.Common.{◌≡◌, ℕ, ◌+◌, ◌<◌, suc, List, [], ◌∷◌, drop, length, get_or, refl, sym, ap, subst, ◌∙◌, add-one, drop-cons, Bool, true, false}
-use Rattle.decimal_json.specs.Scan.{Frame, Spot, wanted, first_item, first_key, key_wanted, colon_wanted, ended, literal, numeral, quoted, Step, next, stop, Outcome, fault, step, ended_step, begin_step, numeral_step, minus, whole, point, fraction, mark, signed, exponent, finish, after, outcome, scan, is_space}
+use Rattle.std.proofs.Common.{◌≡◌, ℕ, ◌+◌, ◌<◌, suc, List, [], ◌∷◌, drop, length, get_or, refl, sym, ap, ◌∙◌, add-one, drop-cons, true}
+use Rattle.decimal_json.specs.Scan.{Frame, Spot, wanted, first_item, first_key, key_wanted, colon_wanted, ended, literal, numeral, quoted, next, stop, fault, step, ended_step, begin_step, minus, finish, after, outcome, scan, is_space}
 use Rattle.decimal_json.specs.Answer.{resumed, MaySpace}
 
 -- a step at the next byte

@@ -1,12 +1,12 @@
 -- The machine inside a number.
-use Rattle.std.proofs.Common.{◌≡◌, ◌≢◌, ℕ, ◌+◌, ◌-◌, ◌*◌, ◌<◌, ◌≤◌, ◌==◌, suc, List, [], ◌∷◌, ◌++◌, drop, length, get_or, refl, sym, ap, subst, ◌∙◌, ⊎_elim, nat_le, arith, Bool, true, false, append_assoc, append-nil, length-append}
+use Rattle.std.proofs.Common.{◌≡◌, ℕ, ◌+◌, ◌*◌, ◌<◌, ◌≤◌, ◌==◌, suc, List, [], ◌∷◌, ◌++◌, drop, length, get_or, refl, sym, ap, subst, ◌∙◌, ⊎_elim, nat_le, arith, Bool, true, false, append_assoc, append-nil, length-append}
 use Rattle.std.specs.Prelude.{ℤ}
 use Rattle.decimal_json.specs.Value.{Decimal, number}
 use Rattle.decimal_json.specs.Number.{is_digit, digit_of, is_mark, exponent_of, decimal_from}
-use Rattle.decimal_json.specs.Scan.{Frame, Spot, wanted, numeral, minus, zero_first, whole, point, fraction, mark, signed, exponent, ended, so_far, Step, next, stop, step, numeral_step, ended_step, begin_step, is_space, scan, finish, outcome, after, fault}
+use Rattle.decimal_json.specs.Scan.{Frame, Spot, numeral, minus, zero_first, whole, point, fraction, mark, signed, exponent, ended, so_far, next, stop, step, numeral_step, begin_step, scan, finish, outcome, after, fault}
 use Rattle.decimal_json.specs.Answer.{AddsDigits, ReadsWhole, ReadsFraction, AddsExponent, ReadsExponent, kept, begun, AfterWhole, MayEnd, FailsAt, StandsAt}
 use Rattle.std.proofs.lemmas.Bool.{and_parts, leb-true, ne_eqb, eqb-true, false≢true, or_cases}
-use Rattle.decimal_json.proofs.Moves.{same_scan, moved, stopped, stepped, finished, byte_and_rest}
+use Rattle.decimal_json.proofs.Moves.{same_scan, moved, byte_and_rest}
 
 pub digit_whole : (at c : ℕ) (outer : List Frame) (n : Bool) (ds : List ℕ) → is_digit c ≡ true
     → step at outer (numeral (whole n ds)) c ≡ next outer (numeral (whole n (ds ++ digit_of c ∷ [])))

@@ -1,8 +1,8 @@
 -- What the machine does at bytes of the grammar, whatever follows them.
-use Rattle.std.proofs.Common.{◌≡◌, ℕ, ◌+◌, ◌==◌, ◌<◌, ◌||◌, suc, List, [], ◌∷◌, ◌++◌, length, refl, sym, ap, subst, ◌∙◌, arith, Bool, true, false, append_assoc, length-append, add-one, add-zero, ⊎_elim, inl, inr}
+use Rattle.std.proofs.Common.{◌≡◌, ℕ, ◌+◌, ◌==◌, ◌<◌, ◌||◌, suc, List, [], ◌∷◌, ◌++◌, length, sym, ap, subst, ◌∙◌, arith, Bool, true, append_assoc, length-append, ⊎_elim, inl, inr}
 use Rattle.std.specs.Prelude.{◌⊎◌}
 use Rattle.std.proofs.lemmas.Bool.{or_cases, eqb-true}
-use Rattle.decimal_json.specs.Scan.{Frame, Spot, Step, next, Outcome, fault, step, is_space, after, outcome}
+use Rattle.decimal_json.specs.Scan.{Frame, Spot, next, Outcome, fault, step, is_space, after, outcome}
 use Rattle.decimal_json.specs.Answer.{MaySpace}
 use Rattle.decimal_json.specs.Grammar.{IsSpace}
 use Rattle.decimal_json.proofs.Moves.{spaced}
@@ -53,10 +53,10 @@ pub arrives_then : (limited : Bool) (at : ℕ) (outer : List Frame) (spot : Spot
 arrives_then limited at outer spot xs o s ys p t rest m n =
     let assoc : outcome at outer spot ((xs ++ ys) ++ rest) ≡ outcome at outer spot (xs ++ (ys ++ rest)) = ap (outcome at outer spot) (append_assoc xs ys rest) in
     ⊎_elim (λ (e : outcome at outer spot (xs ++ (ys ++ rest)) ≡ outcome (at + length xs) o s (ys ++ rest)).
-        ⊎_elim (λ (f : outcome (at + length xs) o s (ys ++ rest) ≡ outcome (at + length xs + length ys) p t rest).
-            inl (assoc ∙ (e ∙ (f ∙ placed_at (at + length xs + length ys) (at + length (xs ++ ys)) p t rest (omega (arith, length-append xs ys))))))
-          (λ (r : Refuses limited (outcome (at + length xs) o s (ys ++ rest))). inr (refuses_along limited (outcome at outer spot ((xs ++ ys) ++ rest)) (outcome (at + length xs) o s (ys ++ rest)) (assoc ∙ e) r)) n)
-      (λ (r : Refuses limited (outcome at outer spot (xs ++ (ys ++ rest)))). inr (refuses_along limited (outcome at outer spot ((xs ++ ys) ++ rest)) (outcome at outer spot (xs ++ (ys ++ rest))) assoc r)) m
+    ⊎_elim (λ (f : outcome (at + length xs) o s (ys ++ rest) ≡ outcome (at + length xs + length ys) p t rest).
+    inl (assoc ∙ (e ∙ (f ∙ placed_at (at + length xs + length ys) (at + length (xs ++ ys)) p t rest (omega (arith, length-append xs ys))))))
+    (λ (r : Refuses limited (outcome (at + length xs) o s (ys ++ rest))). inr (refuses_along limited (outcome at outer spot ((xs ++ ys) ++ rest)) (outcome (at + length xs) o s (ys ++ rest)) (assoc ∙ e) r)) n)
+    (λ (r : Refuses limited (outcome at outer spot (xs ++ (ys ++ rest)))). inr (refuses_along limited (outcome at outer spot ((xs ++ ys) ++ rest)) (outcome at outer spot (xs ++ (ys ++ rest))) assoc r)) m
 
 pub arrives_by : (limited : Bool) (at : ℕ) (outer : List Frame) (spot : Spot) (bs : List ℕ) (o : List Frame) (s : Spot) (rest : List ℕ) → Moves at outer spot bs o s
     → Arrives limited at outer spot bs o s rest
@@ -74,6 +74,6 @@ pub delimiter_is : (c : ℕ) (P : ℕ → Type 0) → ends_value c ≡ true → 
 delimiter_is c P e space tab line return comma bracket brace =
     let at_k : (k : ℕ) → P k → (c == k) ≡ true → P c = λ k p f. subst P (sym (eqb-true c k f)) p in
     ⊎_elim (λ s. ⊎_elim (λ t. ⊎_elim (λ u. ⊎_elim (at_k 32 space) (at_k 9 tab) (or_cases (c == 32) (c == 9) u)) (at_k 10 line) (or_cases ((c == 32) || (c == 9)) (c == 10) t))
-          (at_k 13 return) (or_cases ((c == 32) || (c == 9) || (c == 10)) (c == 13) s))
-      (λ s. ⊎_elim (at_k 44 comma) (λ t. ⊎_elim (at_k 93 bracket) (at_k 125 brace) (or_cases (c == 93) (c == 125) t)) (or_cases (c == 44) ((c == 93) || (c == 125)) s))
-      (or_cases (is_space c) ((c == 44) || ((c == 93) || (c == 125))) e)
+    (at_k 13 return) (or_cases ((c == 32) || (c == 9) || (c == 10)) (c == 13) s))
+    (λ s. ⊎_elim (at_k 44 comma) (λ t. ⊎_elim (at_k 93 bracket) (at_k 125 brace) (or_cases (c == 93) (c == 125) t)) (or_cases (c == 44) ((c == 93) || (c == 125)) s))
+    (or_cases (is_space c) ((c == 44) || ((c == 93) || (c == 125))) e)

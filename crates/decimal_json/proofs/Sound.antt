@@ -1,13 +1,13 @@
 -- What the machine answers is true of the bytes.
-use Rattle.std.proofs.Common.{◌≡◌, ℕ, ◌+◌, ◌==◌, ◌<◌, ◌≤◌, suc, List, [], ◌∷◌, ◌++◌, length, refl, sym, ap, subst, ◌∙◌, arith, Bool, true, false, append_assoc, length-append, inl, inr, ⊎_elim}
+use Rattle.std.proofs.Common.{◌≡◌, ℕ, suc, List, [], ◌∷◌, ◌++◌, length, refl, sym, ap, subst, ◌∙◌, arith, Bool, true, false, append_assoc, length-append, inl, inr}
 use Rattle.std.specs.Prelude.{◌⊎◌}
 use Rattle.std.proofs.lemmas.List.{append-nil}
 use Rattle.decimal_json.specs.Value.{Value}
 use Rattle.decimal_json.specs.Number.{whole_of}
-use Rattle.decimal_json.specs.Scan.{Frame, Spot, wanted, first_item, first_key, key_wanted, colon_wanted, ended, literal, numeral, quoted, Numeral, minus, zero_first, whole, point, fraction, mark, signed, exponent, so_far, Quoted, plain, escaped, unit, high, high_escaped, high_unit, Hex, no_digit, one_digit, two_digits, three_digits, Step, next, stop, Outcome, done, fault, step, finish, finish_value, after, outcome, whole_outcome}
+use Rattle.decimal_json.specs.Scan.{Frame, Spot, wanted, first_item, first_key, key_wanted, colon_wanted, ended, literal, numeral, quoted, minus, zero_first, whole, point, fraction, mark, signed, exponent, so_far, plain, escaped, unit, high, high_escaped, high_unit, Hex, no_digit, one_digit, two_digits, three_digits, Step, next, stop, Outcome, done, fault, step, finish, finish_value, after, outcome, whole_outcome}
 use Rattle.decimal_json.specs.Grammar.{SpellsText, no_power, power}
-use Rattle.decimal_json.specs.Fronts.{Spaced, IsFront, OpensTooDeep, RepeatsKey, LacksPartner, LacksSecond}
-use Rattle.decimal_json.proofs.Stands.{BehindValue, Stands, QuotedText, hex_text, Caught, Good}
+use Rattle.decimal_json.specs.Fronts.{OpensTooDeep, RepeatsKey, LacksPartner, LacksSecond}
+use Rattle.decimal_json.proofs.Stands.{Stands, hex_text, Caught, Good}
 use Rattle.decimal_json.proofs.SoundValues.{good_wanted, good_first_item, good_first_key, good_key_wanted, good_colon, good_ended, good_literal}
 use Rattle.decimal_json.proofs.SoundNumbers.{good_numeral, ends, open_whole, whole_text, fraction_end, power_end, some_digits}
 use Rattle.decimal_json.proofs.SoundStrings.{good_quoted, lacks, high_of}
@@ -43,7 +43,7 @@ abbrev Runs : List ℕ → List Frame → Spot → Type 0
 Runs bs outer spot = (xs : List ℕ) → whole_outcome (bs ++ xs) ≡ outcome (length bs) outer spot xs
 
 cut : (outer : List Frame) (spot : Spot) (bs : List ℕ) → Stands outer spot bs → Runs bs outer spot → IsSound (bs ++ []) (fault (length bs) 2)
-cut outer spot bs s r = inl (refl, record { front = bs; outer = outer; spot = spot; stands = s; place = refl; runs = r; ends = inl (append-nil bs); })
+cut outer spot bs s r = inl (refl, record { front = bs; outer = outer; spot = spot; stands = s; place = refl; runs = r; ends = inl (append-nil bs) })
 
 value_ends : (outer : List Frame) (spot : Spot) (v : Value) (bs : List ℕ) → Stands outer spot bs → Stands outer (ended v) bs → Runs bs outer spot → IsSound (bs ++ []) (finish_value (length bs) outer v)
 unfolding finish_value
@@ -89,8 +89,8 @@ sound_end outer (numeral (signed n ds fs down)) bs s r = cut outer (numeral (sig
 sound_end outer (numeral (exponent n ds fs down w)) bs s r =
     let t = s.3 in
     value_ends outer (numeral (exponent n ds fs down w)) (so_far n ds fs down w) bs s
-      (subst (λ (v : Value). Stands outer (ended v) bs) (ap (λ (b : Bool). so_far n ds fs b (whole_of (t.2 ∷ t.3))) (sym t.7) ∙ ap (λ k. so_far n ds fs down k) (sym t.9))
-        (ends outer n ds fs (power t.0 t.1 t.2 t.3) s.0 s.1 bs s.2 s.4 t.4 t.5 (t.6, t.8) (t.10 ∙ power_end n ds fs t.0 t.1 t.2 t.3))) r
+    (subst (λ (v : Value). Stands outer (ended v) bs) (ap (λ (b : Bool). so_far n ds fs b (whole_of (t.2 ∷ t.3))) (sym t.7) ∙ ap (λ k. so_far n ds fs down k) (sym t.9))
+    (ends outer n ds fs (power t.0 t.1 t.2 t.3) s.0 s.1 bs s.2 s.4 t.4 t.5 (t.6, t.8) (t.10 ∙ power_end n ds fs t.0 t.1 t.2 t.3))) r
 sound_end outer (quoted p (plain t)) bs s r = cut outer (quoted p (plain t)) bs s r
 sound_end outer (quoted p (escaped t back)) bs s r = cut outer (quoted p (escaped t back)) bs s r
 sound_end outer (quoted p (unit t back h)) bs s r = cut outer (quoted p (unit t back h)) bs s r
@@ -104,7 +104,7 @@ sound_end outer (quoted p (high_unit t back u h)) bs s r =
 caught : (bytes bs : List ℕ) (outer : List Frame) (spot : Spot) (c : ℕ) (cs : List ℕ) (k kind : ℕ) → Stands outer spot bs → Runs bs outer spot → bytes ≡ bs ++ c ∷ cs → step (length bs) outer spot c ≡ stop k kind
     → Caught bytes (length bs) k kind → IsSound bytes (fault k kind)
 caught bytes bs outer spot c cs k kind s r e f (inl g) =
-    inl (g.0, record { front = bs; outer = outer; spot = spot; stands = s; place = g.1; runs = r; ends = inr (c, cs, e, f ∙ ap (stop k) g.0); })
+    inl (g.0, record { front = bs; outer = outer; spot = spot; stands = s; place = g.1; runs = r; ends = inr (c, cs, e, f ∙ ap (stop k) g.0) })
 caught bytes bs outer spot c cs k kind s r e f (inr g) = inr g
 
 -- one byte, and what comes behind it
@@ -116,7 +116,7 @@ sound_step bs outer spot c cs (next o t) e stands runs good later =
     let size : length (bs ++ c ∷ []) ≡ suc (length bs) = omega (arith, length-append bs (c ∷ [])) in
     let runs' : Runs (bs ++ c ∷ []) o t = λ xs. ap whole_outcome (append_assoc bs (c ∷ []) xs) ∙ (runs (c ∷ xs) ∙ (ap (λ s. after s (λ o t. outcome (suc (length bs)) o t xs)) e ∙ ap (λ k. outcome k o t xs) (sym size))) in
     subst (λ (xs : List ℕ). IsSound xs (outcome (suc (length bs)) o t cs)) (append_assoc bs (c ∷ []) cs)
-      (subst (λ (k : ℕ). IsSound ((bs ++ c ∷ []) ++ cs) (outcome k o t cs)) size (later o t good runs'))
+    (subst (λ (k : ℕ). IsSound ((bs ++ c ∷ []) ++ cs) (outcome k o t cs)) size (later o t good runs'))
 sound_step bs outer spot c cs (stop k kind) e stands runs good later = caught (bs ++ c ∷ cs) bs outer spot c cs k kind stands runs refl e (good cs)
 
 sound : (rest bs : List ℕ) (outer : List Frame) (spot : Spot) → Stands outer spot bs → Runs bs outer spot → IsSound (bs ++ rest) (outcome (length bs) outer spot rest)

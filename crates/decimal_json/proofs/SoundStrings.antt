@@ -1,17 +1,17 @@
 -- Each step of the machine inside a string is sound.
-use Rattle.std.proofs.Common.{◌≡◌, ℕ, ◌+◌, ◌==◌, ◌<◌, ◌≤◌, ◌&&◌, ◌||◌, suc, cond, List, [], ◌∷◌, ◌++◌, length, refl, sym, ap, subst, ◌∙◌, arith, Bool, true, false, append_assoc, inl, inr, Option, Some, None}
-use Rattle.std.specs.Prelude.{◌⊎◌, nat_lt, nat_le, not, encode_utf8}
+use Rattle.std.proofs.Common.{◌≡◌, ℕ, ◌==◌, ◌&&◌, List, [], ◌∷◌, ◌++◌, length, refl, sym, ap, subst, ◌∙◌, true, false, append_assoc, inl, inr, Option, Some, None}
+use Rattle.std.specs.Prelude.{◌⊎◌, nat_le, not, encode_utf8}
 use Rattle.std.specs.List.{flat_map}
 use Rattle.std.specs.Char.Utf16.{is_low_surrogate, is_high_surrogate, surrogate_pair_char}
 use Rattle.std.proofs.lemmas.List.{append-nil}
-use Rattle.std.proofs.lemmas.Bool.{cond_both, eqb-true, eqb-false, and_from, and_left, or_from, or_parts, not_from_false, false≢true}
-use Rattle.decimal_json.specs.Value.{Value, text, members_of, has_key}
+use Rattle.std.proofs.lemmas.Bool.{cond_both, eqb-false, and_from, and_left, or_from, or_parts, not_from_false, false≢true}
+use Rattle.decimal_json.specs.Value.{text, members_of, has_key}
 use Rattle.decimal_json.specs.Escape.{short_escape, is_hex, unit_of}
-use Rattle.decimal_json.specs.Scan.{Member, Frame, Spot, Purpose, for_value, for_key, ended, colon_wanted, quoted, Quoted, plain, escaped, unit, high, high_escaped, high_unit, Hex, no_digit, one_digit, two_digits, three_digits, is_plain, Step, next, stop, quoted_step, quote_step, escape_step, more_hex, unit_step, pair_step}
-use Rattle.decimal_json.specs.Grammar.{Character, itself, short, alone, pair, character_text, meaning, AreHex, is_surrogate, IsCharacter, is_first_alone, begins_with_second, AreCharacters, IsString}
-use Rattle.decimal_json.specs.Fronts.{Spaced, IsFront, IsKeyFront, IsStringFront, BehindKey, LacksSecond, LacksPartner}
+use Rattle.decimal_json.specs.Scan.{Frame, Purpose, for_value, for_key, quoted, Quoted, plain, escaped, unit, high, high_escaped, high_unit, Hex, no_digit, one_digit, two_digits, three_digits, is_plain, next, quoted_step, quote_step, escape_step, more_hex, unit_step, pair_step}
+use Rattle.decimal_json.specs.Grammar.{Character, itself, short, alone, pair, character_text, meaning, AreHex, IsCharacter, is_first_alone, begins_with_second, AreCharacters}
+use Rattle.decimal_json.specs.Fronts.{IsFront, BehindKey, LacksSecond}
 use Rattle.decimal_json.proofs.Growth.{one_more, spaced_none}
-use Rattle.decimal_json.proofs.Stands.{BehindValue, InString, QuotedText, hex_text, AreHexSoFar, Stands, Caught, Good}
+use Rattle.decimal_json.proofs.Stands.{BehindValue, InString, QuotedText, hex_text, Caught, Good}
 use Rattle.decimal_json.proofs.SoundValues.{stuck, named}
 
 pub flat_map-push : {X Y : Type 0} (f : X → List Y) (xs : List X) (x : X) → flat_map f (xs ++ x ∷ []) ≡ flat_map f xs ++ f x
@@ -54,14 +54,28 @@ good_quote : (outer : List Frame) (p : Purpose) (t bs : List ℕ) (c : ℕ) → 
 unfolding quote_step
 good_quote outer for_value t bs c r q =
     spaced_none (BehindValue outer (text t)) (bs ++ c ∷ [])
-      (r.front, 34 ∷ flat_map character_text r.cs ++ 34 ∷ [], r.is_front, (r.cs, r.are, r.text, refl), closed r.front (flat_map character_text r.cs) bs c r.is q)
+    (r.front, 34 ∷ flat_map character_text r.cs ++ 34 ∷ [], r.is_front, (r.cs, r.are, r.text, refl), closed r.front (flat_map character_text r.cs) bs c r.is q)
 good_quote outer (for_key ms at) t bs c r q =
     let key : List ℕ = 34 ∷ flat_map character_text r.cs ++ 34 ∷ [] in
     cond_both (has_key (members_of ms) t) _ _ (λ s. Good s bs c)
-      (λ e. λ cs. inr (inr (inl (refl, (outer, ms, r.front, key, t, cs, r.is_front.0, (r.cs, r.are, r.text, refl), e, r.is_front.1,
-        sym (append_assoc bs (c ∷ []) cs) ∙ (ap (λ x. x ++ cs) (closed r.front (flat_map character_text r.cs) bs c r.is q) ∙ append_assoc r.front key cs))))))
-      (λ e. spaced_none (BehindKey (IsFront outer) (length outer) ms t) (bs ++ c ∷ [])
-        (r.front, key, r.is_front.0, (r.cs, r.are, r.text, refl), e, closed r.front (flat_map character_text r.cs) bs c r.is q))
+    (λ e. λ cs. inr (inr (inl (
+      refl,
+      (
+        outer,
+        ms,
+        r.front,
+        key,
+        t,
+        cs,
+        r.is_front.0,
+        (r.cs, r.are, r.text, refl),
+        e,
+        r.is_front.1,
+        sym (append_assoc bs (c ∷ []) cs) ∙ (ap (λ x. x ++ cs) (closed r.front (flat_map character_text r.cs) bs c r.is q) ∙ append_assoc r.front key cs),
+      ),
+    ))))
+    (λ e. spaced_none (BehindKey (IsFront outer) (length outer) ms t) (bs ++ c ∷ [])
+    (r.front, key, r.is_front.0, (r.cs, r.are, r.text, refl), e, closed r.front (flat_map character_text r.cs) bs c r.is q))
 
 plain_by : (c : ℕ) → (c == 34) ≡ false → (c == 92) ≡ false → nat_le 32 c ≡ true → is_plain c ≡ true
 plain_by c q b l = and_from (not (c == 34) && not (c == 92)) (nat_le 32 c) (and_from (not (c == 34)) (not (c == 92)) (not_from_false (c == 34) q) (not_from_false (c == 92) b)) l
@@ -95,10 +109,10 @@ unfolding unit_step
 good_unit outer p t bs base back a b d c r e hex f =
     let u : ℕ = unit_of a b d c in
     cond_both (is_high_surrogate u) _ _ (λ s. Good s bs c)
-      (λ h. (base, a, b, d, c, r, e, hex, refl, h, longer bs base (92 ∷ 117 ∷ a ∷ b ∷ d ∷ []) c f))
-      (λ h. cond_both (is_low_surrogate u) _ _ (λ s. Good s bs c)
-        (λ l. λ cs. lacks outer p t base (bs ++ c ∷ cs) (length bs) back a b d c cs r e hex (inl l) (and_then bs base (92 ∷ 117 ∷ a ∷ b ∷ d ∷ []) c cs f))
-        (λ l. add_character outer p t base (bs ++ c ∷ []) (alone a b d c) r (hex, λ _. or_from (is_high_surrogate u) (is_low_surrogate u) h l) (longer bs base (92 ∷ 117 ∷ a ∷ b ∷ d ∷ []) c f)))
+    (λ h. (base, a, b, d, c, r, e, hex, refl, h, longer bs base (92 ∷ 117 ∷ a ∷ b ∷ d ∷ []) c f))
+    (λ h. cond_both (is_low_surrogate u) _ _ (λ s. Good s bs c)
+    (λ l. λ cs. lacks outer p t base (bs ++ c ∷ cs) (length bs) back a b d c cs r e hex (inl l) (and_then bs base (92 ∷ 117 ∷ a ∷ b ∷ d ∷ []) c cs f))
+    (λ l. add_character outer p t base (bs ++ c ∷ []) (alone a b d c) r (hex, λ _. or_from (is_high_surrogate u) (is_low_surrogate u) h l) (longer bs base (92 ∷ 117 ∷ a ∷ b ∷ d ∷ []) c f)))
 
 good_hex : (outer : List Frame) (p : Purpose) (t bs : List ℕ) (back : ℕ) (h : Hex) (c : ℕ) → QuotedText outer p (unit t back h) bs → is_hex c ≡ true
     → Good (more_hex h c (λ m. next outer (quoted p (unit t back m))) (λ u. unit_step outer p t back u)) bs c
@@ -140,17 +154,17 @@ good_high : (outer : List Frame) (p : Purpose) (t bs : List ℕ) (back u c : ℕ
 unfolding quoted_step
 good_high outer p t bs back u c r =
     cond_both (c == 92) _ _ (λ s. Good s bs c)
-      (λ e. (r.0, r.1, r.2, r.3, r.4, r.5, r.6, r.7, r.8, r.9, longer_by bs r.0 (92 ∷ 117 ∷ r.1 ∷ r.2 ∷ r.3 ∷ r.4 ∷ []) c 92 r.10 e))
-      (λ e. λ cs. lacks outer p t r.0 (bs ++ c ∷ cs) (length bs) back r.1 r.2 r.3 r.4 (c ∷ cs) r.5 r.6 r.7 (inr (high_of u r.1 r.2 r.3 r.4 r.8 r.9, lacks_backslash c cs e))
-        (and_then bs r.0 (92 ∷ 117 ∷ r.1 ∷ r.2 ∷ r.3 ∷ r.4 ∷ []) c cs r.10))
+    (λ e. (r.0, r.1, r.2, r.3, r.4, r.5, r.6, r.7, r.8, r.9, longer_by bs r.0 (92 ∷ 117 ∷ r.1 ∷ r.2 ∷ r.3 ∷ r.4 ∷ []) c 92 r.10 e))
+    (λ e. λ cs. lacks outer p t r.0 (bs ++ c ∷ cs) (length bs) back r.1 r.2 r.3 r.4 (c ∷ cs) r.5 r.6 r.7 (inr (high_of u r.1 r.2 r.3 r.4 r.8 r.9, lacks_backslash c cs e))
+    (and_then bs r.0 (92 ∷ 117 ∷ r.1 ∷ r.2 ∷ r.3 ∷ r.4 ∷ []) c cs r.10))
 
 good_high_escaped : (outer : List Frame) (p : Purpose) (t bs : List ℕ) (back u c : ℕ) → QuotedText outer p (high_escaped t back u) bs → Good (quoted_step (length bs) outer p (high_escaped t back u) c) bs c
 unfolding quoted_step
 good_high_escaped outer p t bs back u c r =
     cond_both (c == 117) _ _ (λ s. Good s bs c)
-      (λ e. (r.0, r.1, r.2, r.3, r.4, r.5, r.6, r.7, r.8, r.9, tt, longer_by bs r.0 (92 ∷ 117 ∷ r.1 ∷ r.2 ∷ r.3 ∷ r.4 ∷ 92 ∷ []) c 117 r.10 e))
-      (λ e. λ cs. lacks outer p t r.0 (bs ++ c ∷ cs) (length bs) back r.1 r.2 r.3 r.4 (92 ∷ c ∷ cs) r.5 r.6 r.7 (inr (high_of u r.1 r.2 r.3 r.4 r.8 r.9, lacks_letter c cs e))
-        (and_then bs r.0 (92 ∷ 117 ∷ r.1 ∷ r.2 ∷ r.3 ∷ r.4 ∷ 92 ∷ []) c cs r.10))
+    (λ e. (r.0, r.1, r.2, r.3, r.4, r.5, r.6, r.7, r.8, r.9, tt, longer_by bs r.0 (92 ∷ 117 ∷ r.1 ∷ r.2 ∷ r.3 ∷ r.4 ∷ 92 ∷ []) c 117 r.10 e))
+    (λ e. λ cs. lacks outer p t r.0 (bs ++ c ∷ cs) (length bs) back r.1 r.2 r.3 r.4 (92 ∷ c ∷ cs) r.5 r.6 r.7 (inr (high_of u r.1 r.2 r.3 r.4 r.8 r.9, lacks_letter c cs e))
+    (and_then bs r.0 (92 ∷ 117 ∷ r.1 ∷ r.2 ∷ r.3 ∷ r.4 ∷ 92 ∷ []) c cs r.10))
 
 good_pair : (outer : List Frame) (p : Purpose) (t bs base : List ℕ) (back u a b d e f g h c : ℕ) → InString outer p t base → back ≡ length base → AreHex a b d e → u ≡ unit_of a b d e → is_high_surrogate u ≡ true
     → AreHex f g h c → bs ≡ base ++ (92 ∷ 117 ∷ a ∷ b ∷ d ∷ e ∷ 92 ∷ 117 ∷ f ∷ g ∷ h ∷ []) → Good (pair_step outer p t back u (unit_of f g h c)) bs c
@@ -159,10 +173,10 @@ good_pair outer p t bs base back u a b d e f g h c r at hex is is_high second te
     let v : ℕ = unit_of f g h c in
     let so_far : List ℕ = 92 ∷ 117 ∷ a ∷ b ∷ d ∷ e ∷ 92 ∷ 117 ∷ f ∷ g ∷ h ∷ [] in
     cond_both (is_low_surrogate v) _ _ (λ s. Good s bs c)
-      (λ l. subst (λ (w : ℕ). InString outer p (t ++ encode_utf8 (surrogate_pair_char w v)) (bs ++ c ∷ [])) (sym is)
-        (add_character outer p t base (bs ++ c ∷ []) (pair a b d e f g h c) r (hex, second, high_of u a b d e is is_high, l) (longer bs base so_far c text_is)))
-      (λ l. λ cs. lacks outer p t base (bs ++ c ∷ cs) (length bs) back a b d e (92 ∷ 117 ∷ f ∷ g ∷ h ∷ c ∷ cs) r at hex (inr (high_of u a b d e is is_high, lacks_low f g h c cs l))
-        (and_then bs base so_far c cs text_is))
+    (λ l. subst (λ (w : ℕ). InString outer p (t ++ encode_utf8 (surrogate_pair_char w v)) (bs ++ c ∷ [])) (sym is)
+    (add_character outer p t base (bs ++ c ∷ []) (pair a b d e f g h c) r (hex, second, high_of u a b d e is is_high, l) (longer bs base so_far c text_is)))
+    (λ l. λ cs. lacks outer p t base (bs ++ c ∷ cs) (length bs) back a b d e (92 ∷ 117 ∷ f ∷ g ∷ h ∷ c ∷ cs) r at hex (inr (high_of u a b d e is is_high, lacks_low f g h c cs l))
+    (and_then bs base so_far c cs text_is))
 
 good_second : (outer : List Frame) (p : Purpose) (t bs : List ℕ) (back u : ℕ) (h : Hex) (c : ℕ) → QuotedText outer p (high_unit t back u h) bs → is_hex c ≡ true
     → Good (more_hex h c (λ m. next outer (quoted p (high_unit t back u m))) (λ v. pair_step outer p t back u v)) bs c
@@ -185,4 +199,4 @@ good_quoted outer p (high t back u) bs c r = good_high outer p t bs back u c r
 good_quoted outer p (high_escaped t back u) bs c r = good_high_escaped outer p t bs back u c r
 good_quoted outer p (high_unit t back u h) bs c r = cond_both (is_hex c) _ _ (λ s. Good s bs c) (λ e. good_second outer p t bs back u h c r e)
     (λ e. λ cs. lacks outer p t r.0 (bs ++ c ∷ cs) (length bs) back r.1 r.2 r.3 r.4 (92 ∷ 117 ∷ hex_text h ++ c ∷ cs) r.5 r.6 r.7 (inr (high_of u r.1 r.2 r.3 r.4 r.8 r.9, lacks_digit h c cs e))
-      (and_then bs r.0 (92 ∷ 117 ∷ r.1 ∷ r.2 ∷ r.3 ∷ r.4 ∷ 92 ∷ 117 ∷ hex_text h) c cs r.11))
+    (and_then bs r.0 (92 ∷ 117 ∷ r.1 ∷ r.2 ∷ r.3 ∷ r.4 ∷ 92 ∷ 117 ∷ hex_text h) c cs r.11))

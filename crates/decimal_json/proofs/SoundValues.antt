@@ -1,17 +1,17 @@
 -- Each step of the machine between tokens is sound.
-use Rattle.std.proofs.Common.{◌≡◌, ℕ, ◌+◌, ◌-◌, ◌==◌, ◌<◌, ◌≤◌, ◌||◌, suc, cond, List, [], ◌∷◌, ◌++◌, length, refl, sym, ap, subst, ◌∙◌, arith, Bool, true, false, append_assoc, ⊎_elim, inl, inr}
+use Rattle.std.proofs.Common.{◌≡◌, ℕ, ◌+◌, ◌==◌, ◌<◌, ◌≤◌, suc, cond, List, [], ◌∷◌, ◌++◌, length, refl, sym, ap, subst, ◌∙◌, arith, true, false, append_assoc, inl, inr}
 use Rattle.std.specs.Prelude.{◌⊎◌, nat_lt, nat_le}
 use Rattle.std.proofs.lemmas.List.{append-nil}
 use Rattle.std.proofs.lemmas.Bool.{cond_both, eqb-true, ltb-true, ltb-false, and_parts, leb-true, eqb-false}
-use Rattle.decimal_json.specs.Value.{Value, null, boolean, number, text, array, object, no_items, no_members, items_of, members_of, has_key}
+use Rattle.decimal_json.specs.Value.{Value, null, boolean, array, object, no_items, no_members, items_of, members_of}
 use Rattle.decimal_json.specs.Number.{is_digit, digit_of}
-use Rattle.decimal_json.specs.Scan.{Member, Frame, in_array, in_object, Spot, Purpose, for_value, for_key, wanted, first_item, first_key, key_wanted, colon_wanted, ended, literal, numeral, quoted, minus, zero_first, whole, plain, awaited, rue, alse, ull, is_space, depth_limit, Step, next, stop, step, begin_step, opened, ended_step, close_step, literal_step}
-use Rattle.decimal_json.specs.Grammar.{IsSpace, IsString, Spells, HasUniqueKeys}
-use Rattle.decimal_json.specs.Fronts.{Spaced, InArray, InObject, BehindKey, BehindColon, IsFront, IsKeyFront, IsStringFront}
+use Rattle.decimal_json.specs.Scan.{Member, Frame, in_array, in_object, Spot, Purpose, for_value, for_key, wanted, first_item, first_key, key_wanted, colon_wanted, ended, quoted, plain, awaited, rue, alse, ull, is_space, next, stop, begin_step, opened, ended_step, close_step, literal_step}
+use Rattle.decimal_json.specs.Grammar.{Spells}
+use Rattle.decimal_json.specs.Fronts.{InArray, InObject, BehindKey, BehindColon, IsFront, IsKeyFront, IsStringFront}
 use Rattle.decimal_json.proofs.Uniques.{unique_more}
-use Rattle.decimal_json.proofs.RunValues.{four, seven}
+use Rattle.decimal_json.proofs.RunValues.{four}
 use Rattle.decimal_json.proofs.Growth.{one_more, space_more, spaced_more, spaced_none, front_depth, front_items-push, items_close, front_members-push, members_close}
-use Rattle.decimal_json.proofs.Stands.{BehindValue, InString, LiteralText, Stands, Caught, Good}
+use Rattle.decimal_json.proofs.Stands.{BehindValue, InString, LiteralText, Stands, Good}
 
 pub stuck : (bs : List ℕ) (c : ℕ) → Good (stop (length bs) 2) bs c
 stuck bs c = λ cs. inl (refl, refl)
@@ -45,10 +45,10 @@ good_opened outer bs c spot f then which = cond_both (nat_lt (length outer) 64) 
 
 -- a literal begins
 literal_begins : (outer : List Frame) (bs : List ℕ) (c k : ℕ) (v : Value) (ls : List ℕ) → IsFront outer bs → (c == k) ≡ true → Spells true (length outer) v (k ∷ ls) → LiteralText outer v ls (bs ++ c ∷ [])
-literal_begins outer bs c k v ls f e s = record { front = bs; begun = k ∷ []; is_front = f; spells = s; is = named bs c k e; }
+literal_begins outer bs c k v ls f e s = record { front = bs; begun = k ∷ []; is_front = f; spells = s; is = named bs c k e }
 
 string_begins : (outer : List Frame) (p : Purpose) (bs : List ℕ) (c : ℕ) → IsStringFront outer p bs → (c == 34) ≡ true → InString outer p [] (bs ++ c ∷ [])
-string_begins outer p bs c f e = record { front = bs; cs = []; is_front = f; are = tt; text = refl; is = named bs c 34 e; }
+string_begins outer p bs c f e = record { front = bs; cs = []; is_front = f; are = tt; text = refl; is = named bs c 34 e }
 
 pub digit_small : (c : ℕ) → is_digit c ≡ true → digit_of c < 10
 digit_small c e = let parts = and_parts (nat_le 48 c) (nat_le c 57) e in omega (arith, leb-true 48 c parts.0, leb-true c 57 parts.1)
@@ -68,11 +68,11 @@ good_begin outer bs c f =
     cond_both (c == 45) _ _ (λ s. Good s bs c) (λ e. (bs, 45 ∷ [], f, refl, named bs c 45 e)) (λ _.
     cond_both (c == 48) _ _ (λ s. Good s bs c) (λ e. (bs, 48 ∷ [], f, refl, named bs c 48 e)) (λ zero.
     cond_both (is_digit c) _ _ (λ s. Good s bs c)
-      (λ e. (bs, (48 + digit_of c) ∷ [], f, ((above c e zero, (digit_small c e, tt)), refl), ap (λ b. bs ++ b ∷ []) (digit_again c e)))
-      (λ _. stuck bs c)))))))))
+    (λ e. (bs, (48 + digit_of c) ∷ [], f, ((above c e zero, (digit_small c e, tt)), refl), ap (λ b. bs ++ b ∷ []) (digit_again c e)))
+    (λ _. stuck bs c)))))))))
   where
-  above : (c : ℕ) → is_digit c ≡ true → (c == 48) ≡ false → 0 < digit_of c
-  above c e z = let parts = and_parts (nat_le 48 c) (nat_le c 57) e in let ne : c ≡ 48 → ⊥ = eqb-false c 48 z in omega (arith, leb-true 48 c parts.0)
+    above : (c : ℕ) → is_digit c ≡ true → (c == 48) ≡ false → 0 < digit_of c
+    above c e z = let parts = and_parts (nat_le 48 c) (nat_le c 57) e in let ne : c ≡ 48 → ⊥ = eqb-false c 48 z in omega (arith, leb-true 48 c parts.0)
 
 -- behind a value: the bytes so far, regrouped
 array_so_far : (bs base front base2 front3 space core space2 inside : List ℕ) → bs ≡ base ++ space → base ≡ front ++ core → front ≡ base2 ++ space2 → base2 ≡ front3 ++ 91 ∷ inside
@@ -121,15 +121,23 @@ good_close (in_array vs ∷ outer) bs v c s =
     let a = b.2.2 in
     let so_far = array_so_far bs s.0 b.0 b.2.0 a.0 s.1 b.1 b.2.1 a.1 s.4 b.4 b.2.4 a.5 in
     cond_both (c == 44) _ _ (λ st. Good st bs c)
-      (λ e. spaced_none (InArray (IsFront outer) (length outer) (vs ++ v ∷ [])) (bs ++ c ∷ [])
-        (a.0, a.1 ++ (b.2.1 ++ (b.1 ++ (s.1 ++ 44 ∷ []))), a.2, a.3, front_items-push (length outer + 1) vs a.1 v b.2.1 b.1 s.1 a.4 b.2.3 (at_level (length outer) v b.1 b.3) s.3,
-          named bs c 44 e ∙ (ap (λ x. x ++ 44 ∷ []) so_far ∙ array_with a.0 a.1 b.2.1 b.1 s.1 (44 ∷ []))))
-      (λ _. cond_both (c == 93) _ _ (λ st. Good st bs c)
-        (λ e. spaced_none (BehindValue outer (array (items_of (vs ++ v ∷ [])))) (bs ++ c ∷ [])
-          (a.0, 91 ∷ (a.1 ++ (b.2.1 ++ (b.1 ++ s.1))) ++ 93 ∷ [], a.2,
-            (a.1 ++ (b.2.1 ++ (b.1 ++ s.1)), (λ _. a.3), items_close (length outer + 1) vs a.1 v b.2.1 b.1 s.1 a.4 b.2.3 (at_level (length outer) v b.1 b.3) s.3, refl),
-            named bs c 93 e ∙ (ap (λ x. x ++ 93 ∷ []) so_far ∙ array_closed a.0 a.1 b.2.1 b.1 s.1)))
-        (λ _. stuck bs c))
+    (λ e. spaced_none (InArray (IsFront outer) (length outer) (vs ++ v ∷ [])) (bs ++ c ∷ []) (
+      a.0,
+      a.1 ++ (b.2.1 ++ (b.1 ++ (s.1 ++ 44 ∷ []))),
+      a.2,
+      a.3,
+      front_items-push (length outer + 1) vs a.1 v b.2.1 b.1 s.1 a.4 b.2.3 (at_level (length outer) v b.1 b.3) s.3,
+      named bs c 44 e ∙ (ap (λ x. x ++ 44 ∷ []) so_far ∙ array_with a.0 a.1 b.2.1 b.1 s.1 (44 ∷ [])),
+    ))
+    (λ _. cond_both (c == 93) _ _ (λ st. Good st bs c)
+    (λ e. spaced_none (BehindValue outer (array (items_of (vs ++ v ∷ [])))) (bs ++ c ∷ []) (
+      a.0,
+      91 ∷ (a.1 ++ (b.2.1 ++ (b.1 ++ s.1))) ++ 93 ∷ [],
+      a.2,
+      (a.1 ++ (b.2.1 ++ (b.1 ++ s.1)), (λ _. a.3), items_close (length outer + 1) vs a.1 v b.2.1 b.1 s.1 a.4 b.2.3 (at_level (length outer) v b.1 b.3) s.3, refl),
+      named bs c 93 e ∙ (ap (λ x. x ++ 93 ∷ []) so_far ∙ array_closed a.0 a.1 b.2.1 b.1 s.1),
+    ))
+    (λ _. stuck bs c))
 good_close (in_object ms k ∷ outer) bs v c s =
     let b = s.2 in
     let colon = b.2.2 in
@@ -137,18 +145,30 @@ good_close (in_object ms k ∷ outer) bs v c s =
     let o = keyed.2.2 in
     let so_far = object_so_far bs s.0 b.0 b.2.0 colon.0 colon.1.0 keyed.0 keyed.2.0 o.0 s.1 b.1 b.2.1 colon.1.1 keyed.1 keyed.2.1 o.1 s.4 b.4 b.2.4 colon.2 colon.1.4 keyed.5 keyed.2.4 o.6 in
     cond_both (c == 44) _ _ (λ st. Good st bs c)
-      (λ e. spaced_none (InObject (IsFront outer) (length outer) (ms ++ (k, v) ∷ [])) (bs ++ c ∷ [])
-        (o.0, o.1 ++ (keyed.2.1 ++ (keyed.1 ++ (colon.1.1 ++ (58 ∷ b.2.1 ++ (b.1 ++ (s.1 ++ 44 ∷ [])))))), o.2, o.3,
-          front_members-push (length outer + 1) ms o.1 k v keyed.2.1 keyed.1 colon.1.1 b.2.1 b.1 s.1 o.4 keyed.2.3 keyed.3 colon.1.3 b.2.3 (at_level (length outer) v b.1 b.3) s.3,
-          unique_more ms k v o.5 keyed.4,
-          named bs c 44 e ∙ (ap (λ x. x ++ 44 ∷ []) so_far ∙ object_with o.0 o.1 keyed.2.1 keyed.1 colon.1.1 b.2.1 b.1 s.1 (44 ∷ []))))
-      (λ _. cond_both (c == 125) _ _ (λ st. Good st bs c)
-        (λ e. spaced_none (BehindValue outer (object (members_of (ms ++ (k, v) ∷ [])))) (bs ++ c ∷ [])
-          (o.0, 123 ∷ (o.1 ++ (keyed.2.1 ++ (keyed.1 ++ (colon.1.1 ++ (58 ∷ b.2.1 ++ (b.1 ++ s.1)))))) ++ 125 ∷ [], o.2,
-            (o.1 ++ (keyed.2.1 ++ (keyed.1 ++ (colon.1.1 ++ (58 ∷ b.2.1 ++ (b.1 ++ s.1))))), (λ _. o.3), (λ _. unique_more ms k v o.5 keyed.4),
-              members_close (length outer + 1) ms o.1 k v keyed.2.1 keyed.1 colon.1.1 b.2.1 b.1 s.1 o.4 keyed.2.3 keyed.3 colon.1.3 b.2.3 (at_level (length outer) v b.1 b.3) s.3, refl),
-            named bs c 125 e ∙ (ap (λ x. x ++ 125 ∷ []) so_far ∙ object_closed o.0 o.1 keyed.2.1 keyed.1 colon.1.1 b.2.1 b.1 s.1)))
-        (λ _. stuck bs c))
+    (λ e. spaced_none (InObject (IsFront outer) (length outer) (ms ++ (k, v) ∷ [])) (bs ++ c ∷ []) (
+      o.0,
+      o.1 ++ (keyed.2.1 ++ (keyed.1 ++ (colon.1.1 ++ (58 ∷ b.2.1 ++ (b.1 ++ (s.1 ++ 44 ∷ [])))))),
+      o.2,
+      o.3,
+      front_members-push (length outer + 1) ms o.1 k v keyed.2.1 keyed.1 colon.1.1 b.2.1 b.1 s.1 o.4 keyed.2.3 keyed.3 colon.1.3 b.2.3 (at_level (length outer) v b.1 b.3) s.3,
+      unique_more ms k v o.5 keyed.4,
+      named bs c 44 e ∙ (ap (λ x. x ++ 44 ∷ []) so_far ∙ object_with o.0 o.1 keyed.2.1 keyed.1 colon.1.1 b.2.1 b.1 s.1 (44 ∷ [])),
+    ))
+    (λ _. cond_both (c == 125) _ _ (λ st. Good st bs c)
+    (λ e. spaced_none (BehindValue outer (object (members_of (ms ++ (k, v) ∷ [])))) (bs ++ c ∷ []) (
+      o.0,
+      123 ∷ (o.1 ++ (keyed.2.1 ++ (keyed.1 ++ (colon.1.1 ++ (58 ∷ b.2.1 ++ (b.1 ++ s.1)))))) ++ 125 ∷ [],
+      o.2,
+      (
+        o.1 ++ (keyed.2.1 ++ (keyed.1 ++ (colon.1.1 ++ (58 ∷ b.2.1 ++ (b.1 ++ s.1))))),
+        (λ _. o.3),
+        (λ _. unique_more ms k v o.5 keyed.4),
+        members_close (length outer + 1) ms o.1 k v keyed.2.1 keyed.1 colon.1.1 b.2.1 b.1 s.1 o.4 keyed.2.3 keyed.3 colon.1.3 b.2.3 (at_level (length outer) v b.1 b.3) s.3,
+        refl,
+      ),
+      named bs c 125 e ∙ (ap (λ x. x ++ 125 ∷ []) so_far ∙ object_closed o.0 o.1 keyed.2.1 keyed.1 colon.1.1 b.2.1 b.1 s.1),
+    ))
+    (λ _. stuck bs c))
 
 pub good_ended : (outer : List Frame) (bs : List ℕ) (v : Value) (c : ℕ) → Stands outer (ended v) bs → Good (ended_step (length bs) outer v c) bs c
 unfolding ended_step
@@ -190,9 +210,9 @@ pub good_first_item : (outer : List Frame) (bs : List ℕ) (c : ℕ) → IsFront
     → Good (cond (is_space c) (next outer first_item) (cond (c == 93) (next outer (ended (array no_items))) (begin_step (length bs) (in_array [] ∷ outer) c))) bs c
 good_first_item outer bs c f = cond_both (is_space c) _ _ (λ st. Good st bs c) (λ e. front_space (in_array [] ∷ outer) bs c f e)
     (λ _. cond_both (c == 93) _ _ (λ st. Good st bs c)
-      (λ e. spaced_none (BehindValue outer (array no_items)) (bs ++ c ∷ [])
-        (f.2.0, 91 ∷ f.1 ++ 93 ∷ [], f.2.2, (f.1, (λ _. f.2.3), f.3, refl), named bs c 93 e ∙ empty_array bs f.0 f.2.0 f.1 f.2.1 f.4 f.2.5 f.2.4))
-      (λ _. good_begin (in_array [] ∷ outer) bs c f))
+    (λ e. spaced_none (BehindValue outer (array no_items)) (bs ++ c ∷ [])
+    (f.2.0, 91 ∷ f.1 ++ 93 ∷ [], f.2.2, (f.1, (λ _. f.2.3), f.3, refl), named bs c 93 e ∙ empty_array bs f.0 f.2.0 f.1 f.2.1 f.4 f.2.5 f.2.4))
+    (λ _. good_begin (in_array [] ∷ outer) bs c f))
 
 pub good_key : (outer : List Frame) (ms : List Member) (bs : List ℕ) (c : ℕ) → IsKeyFront outer ms bs → Good (cond (c == 34) (next outer (quoted (for_key ms (length bs)) (plain []))) (stop (length bs) 2)) bs c
 good_key outer ms bs c f = cond_both (c == 34) _ _ (λ st. Good st bs c) (λ e. string_begins outer (for_key ms (length bs)) bs c (f, refl) e) (λ _. stuck bs c)
@@ -201,9 +221,9 @@ pub good_first_key : (outer : List Frame) (bs : List ℕ) (c : ℕ) → IsKeyFro
     → Good (cond (is_space c) (next outer first_key) (cond (c == 125) (next outer (ended (object no_members))) (cond (c == 34) (next outer (quoted (for_key [] (length bs)) (plain []))) (stop (length bs) 2)))) bs c
 good_first_key outer bs c f = cond_both (is_space c) _ _ (λ st. Good st bs c) (λ e. spaced_more (InObject (IsFront outer) (length outer) []) bs c f e)
     (λ _. cond_both (c == 125) _ _ (λ st. Good st bs c)
-      (λ e. spaced_none (BehindValue outer (object no_members)) (bs ++ c ∷ [])
-        (f.2.0, 123 ∷ f.1 ++ 125 ∷ [], f.2.2, (f.1, (λ _. f.2.3), (λ _. tt), f.3, refl), named bs c 125 e ∙ empty_object bs f.0 f.2.0 f.1 f.2.1 f.4 f.2.6 f.2.4))
-      (λ _. good_key outer [] bs c f))
+    (λ e. spaced_none (BehindValue outer (object no_members)) (bs ++ c ∷ [])
+    (f.2.0, 123 ∷ f.1 ++ 125 ∷ [], f.2.2, (f.1, (λ _. f.2.3), (λ _. tt), f.3, refl), named bs c 125 e ∙ empty_object bs f.0 f.2.0 f.1 f.2.1 f.4 f.2.6 f.2.4))
+    (λ _. good_key outer [] bs c f))
 
 pub good_key_wanted : (outer : List Frame) (ms : List Member) (bs : List ℕ) (c : ℕ) → IsKeyFront outer ms bs
     → Good (cond (is_space c) (next outer (key_wanted ms)) (cond (c == 34) (next outer (quoted (for_key ms (length bs)) (plain []))) (stop (length bs) 2))) bs c
@@ -213,4 +233,4 @@ pub good_colon : (outer : List Frame) (ms : List Member) (k bs : List ℕ) (c : 
     → Good (cond (is_space c) (next outer (colon_wanted ms k)) (cond (c == 58) (next (in_object ms k ∷ outer) wanted) (stop (length bs) 2))) bs c
 good_colon outer ms k bs c s = cond_both (is_space c) _ _ (λ st. Good st bs c) (λ e. spaced_more (BehindKey (IsFront outer) (length outer) ms k) bs c s e)
     (λ _. cond_both (c == 58) _ _ (λ st. Good st bs c)
-      (λ e. spaced_none (BehindColon (IsFront outer) (length outer) ms k) (bs ++ c ∷ []) (bs, s, named bs c 58 e)) (λ _. stuck bs c))
+    (λ e. spaced_none (BehindColon (IsFront outer) (length outer) ms k) (bs ++ c ∷ []) (bs, s, named bs c 58 e)) (λ _. stuck bs c))

@@ -1,13 +1,13 @@
 -- What the bytes so far are, at each spot of the machine.
-use Rattle.std.proofs.Common.{◌≡◌, ℕ, ◌+◌, ◌<◌, ◌≤◌, suc, List, [], ◌∷◌, ◌++◌, length, refl, sym, ap, subst, ◌∙◌, Bool, true, false}
+use Rattle.std.proofs.Common.{◌≡◌, ℕ, ◌<◌, List, [], ◌∷◌, ◌++◌, length, true}
 use Rattle.std.specs.Prelude.{◌⊎◌}
 use Rattle.std.specs.List.{flat_map}
-use Rattle.std.specs.Char.Utf16.{is_low_surrogate, is_high_surrogate}
-use Rattle.decimal_json.specs.Value.{Value, members_of, has_key}
+use Rattle.std.specs.Char.Utf16.{is_high_surrogate}
+use Rattle.decimal_json.specs.Value.{Value}
 use Rattle.decimal_json.specs.Number.{is_mark, whole_of}
 use Rattle.decimal_json.specs.Escape.{is_hex, unit_of}
-use Rattle.decimal_json.specs.Scan.{Member, Frame, in_array, in_object, Spot, Purpose, for_value, for_key, wanted, first_item, first_key, key_wanted, colon_wanted, ended, literal, numeral, quoted, Numeral, minus, zero_first, whole, point, fraction, mark, signed, exponent, Quoted, plain, escaped, unit, high, high_escaped, high_unit, Hex, no_digit, one_digit, two_digits, three_digits, Step, next, stop}
-use Rattle.decimal_json.specs.Grammar.{IsSpace, Spells, IsString, Character, character_text, meaning, AreCharacters, AreHex, AreDigits, IsWhole, numerals, negative_text, fraction_text, Sign, sign_text, is_minus}
+use Rattle.decimal_json.specs.Scan.{Frame, in_array, Spot, Purpose, wanted, first_item, first_key, key_wanted, colon_wanted, ended, literal, numeral, quoted, Numeral, minus, zero_first, whole, point, fraction, mark, signed, exponent, Quoted, plain, escaped, unit, high, high_escaped, high_unit, Hex, no_digit, one_digit, two_digits, three_digits, Step, next, stop}
+use Rattle.decimal_json.specs.Grammar.{Spells, Character, character_text, meaning, AreCharacters, AreHex, AreDigits, IsWhole, numerals, negative_text, fraction_text, Sign, sign_text, is_minus}
 use Rattle.decimal_json.specs.Fronts.{Spaced, IsFront, IsKeyFront, IsStringFront, BehindKey, OpensTooDeep, RepeatsKey, LacksPartner}
 
 -- a front, and a value behind it

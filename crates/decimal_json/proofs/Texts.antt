@@ -1,13 +1,13 @@
 -- The machine inside a string.
-use Rattle.std.proofs.Common.{◌≡◌, ℕ, ◌+◌, ◌-◌, ◌==◌, ◌<◌, ◌≤◌, suc, cond, List, [], ◌∷◌, ◌++◌, drop, take, length, get_or, ⊎_elim, refl, sym, ap, subst, ◌∙◌, arith, Bool, true, false, append_assoc}
+use Rattle.std.proofs.Common.{◌≡◌, ℕ, ◌+◌, ◌==◌, ◌<◌, ◌≤◌, List, [], ◌∷◌, ◌++◌, drop, length, get_or, ⊎_elim, refl, sym, ap, subst, ◌∙◌, arith, true, false, append_assoc}
 use Rattle.std.proofs.lemmas.List.{append-nil}
 use Rattle.std.proofs.lemmas.List.Edits.{between_more, between_none}
-use Rattle.std.proofs.lemmas.Bool.{and_parts, ne_eqb, eqb-true, and_from, or_cases, false≢true, not-true, cases_lt, le-leb}
+use Rattle.std.proofs.lemmas.Bool.{and_parts, ne_eqb, false≢true, not-true, cases_lt, le-leb}
 use Rattle.std.specs.Prelude.{nat_le, not, ◌&&◌, slice_range, encode_utf8}
 use Rattle.std.specs.Str.{IsCharBoundary}
 use Rattle.decimal_json.specs.declared.types.JsonFault.{JsonFault}
 use Rattle.decimal_json.specs.declared.types.JsonFault.TheVariants.{At}
-use Rattle.decimal_json.specs.Scan.{Frame, Spot, Purpose, quoted, plain, is_plain, Step, next, stop, Outcome, fault, step, quoted_step, quote_step, after, outcome, scan, finish}
+use Rattle.decimal_json.specs.Scan.{Frame, Purpose, quoted, plain, is_plain, next, stop, Outcome, fault, step, quoted_step, quote_step, scan, finish}
 use Rattle.decimal_json.specs.Answer.{Leads, FailsAt, StandsAt, ReadsPlain, ReadsText, BreaksText, ReadsEscape, BreaksEscape, resumed}
 use Rattle.decimal_json.proofs.Moves.{moved, stopped, stepped, finished, byte_and_rest}
 

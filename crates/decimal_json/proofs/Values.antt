@@ -1,19 +1,19 @@
 -- The machine round values.
-use Rattle.std.proofs.Common.{◌≡◌, ℕ, ◌+◌, ◌-◌, ◌==◌, ◌<◌, ◌≤◌, suc, cond, List, [], ◌∷◌, ◌++◌, drop, take, length, get_or, ⊎_elim, refl, sym, ap, subst, ◌∙◌, arith, Bool, true, false, append_assoc}
-use Rattle.std.proofs.lemmas.Bool.{and_parts, eq-eqb, ne_eqb, eqb-true, and_from, or_cases, false≢true, not-true, cases_lt, le-leb}
-use Rattle.std.specs.Prelude.{nat_le, not, ◌&&◌, Result, Err, Option, Some, None}
+use Rattle.std.proofs.Common.{◌≡◌, ℕ, ◌+◌, ◌==◌, ◌<◌, suc, List, [], ◌∷◌, drop, length, get_or, refl, sym, ap, subst, ◌∙◌, arith, true, false}
+use Rattle.std.proofs.lemmas.Bool.{eq-eqb, ne_eqb, false≢true}
+use Rattle.std.specs.Prelude.{Result, Option, Some, None}
 use Rattle.std.specs.Option.{IfSome, IfNone}
 use Rattle.std.specs.Result.{IfErr, IsErrAnd}
 use Rattle.std.specs.Str.{IsUtf8, IsCharBoundary}
 use Rattle.std.proofs.lemmas.Str.{IsCharBoundary-after_ascii}
 use Rattle.decimal_json.specs.declared.types.JsonFault.{JsonFault}
 use Rattle.decimal_json.specs.declared.types.JsonFault.TheVariants.{At}
-use Rattle.decimal_json.specs.Value.{Value, null, boolean, text, array, object}
+use Rattle.decimal_json.specs.Value.{Value, null, boolean, text}
 use Rattle.decimal_json.specs.Number.{is_digit}
-use Rattle.decimal_json.specs.Scan.{Frame, Spot, wanted, literal, awaited, ended, numeral, minus, quoted, for_value, plain, rue, alse, ull, is_space, Step, next, stop, Outcome, fault, step, begin_step, literal_step, quote_step, after, outcome, scan, finish}
-use Rattle.decimal_json.specs.Answer.{Leads, FailsAt, StandsAt, IsToken, Reads, Breaks, ReadsText, BreaksText, resumed}
+use Rattle.decimal_json.specs.Scan.{Frame, Spot, wanted, literal, awaited, numeral, minus, quoted, for_value, plain, rue, alse, ull, is_space, next, stop, Outcome, fault, step, begin_step, literal_step, quote_step, after, outcome, scan, finish}
+use Rattle.decimal_json.specs.Answer.{Leads, FailsAt, StandsAt, IsToken, Reads, Breaks, ReadsText, BreaksText}
 use Rattle.decimal_json.proofs.Exits.{passed_on, some_of, none_of}
-use Rattle.decimal_json.proofs.Moves.{moved, stopped, stepped, finished, byte_and_rest}
+use Rattle.decimal_json.proofs.Moves.{moved, stopped, finished, byte_and_rest}
 
 -- the letters of a literal
 pub letter_comes : (at l : ℕ) (outer : List Frame) (v : Value) (ls : List ℕ) → step at outer (literal v (l ∷ ls)) l ≡ next outer (awaited v ls)

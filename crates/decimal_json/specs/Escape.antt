@@ -1,5 +1,5 @@
 -- What an escape in a JSON string stands for (RFC 8259, section 7).
-use Rattle.std.specs.Prelude.{ℕ, ◌+◌, ◌-◌, ◌*◌, Bool, ◌&&◌, ◌||◌, ◌==◌, nat_le, nat_lt, Option, Some, None, if◌then◌else◌}
+use Rattle.std.specs.Prelude.{ℕ, ◌+◌, ◌-◌, ◌*◌, Bool, ◌&&◌, ◌||◌, ◌==◌, nat_le, Option, Some, None, if◌then◌else◌}
 
 -- the character that an escape of one letter stands for
 abbrev pub short_escape : ℕ → Option ℕ

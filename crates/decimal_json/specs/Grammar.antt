@@ -1,7 +1,7 @@
 -- The grammar of JSON (RFC 8259), as a relation between bytes and the value that they spell. With limits, an array or an
 -- object stands at a level of at most 64, no object has a key twice, and no surrogate stands without its partner: the
 -- limits that section 9 lets a reader set, and that sections 4 and 8.2 advise. Without them it is the grammar as it is.
-use Rattle.std.specs.Prelude.{◌≡◌, ℕ, ◌+◌, ◌<◌, ⊤, Bool, true, false, not, ◌&&◌, ◌||◌, List, [], ◌∷◌, ◌++◌, map, Some, encode_utf8, if◌then◌else◌}
+use Rattle.std.specs.Prelude.{◌≡◌, ℕ, ◌+◌, ◌<◌, ⊤, Bool, true, false, ◌&&◌, ◌||◌, List, [], ◌∷◌, ◌++◌, map, Some, encode_utf8, if◌then◌else◌}
 use Rattle.std.specs.List.{AllByRecursion, flat_map}
 use Rattle.std.specs.Char.Utf16.{is_low_surrogate, is_high_surrogate, surrogate_pair_char}
 use Rattle.decimal_json.specs.Value.{Decimal, Value, null, boolean, number, text, array, object, Items, no_items, item, Members, no_members, member, has_key}
@@ -151,31 +151,31 @@ abbrev mutual
   Spells limited level (text t) bs = IsString limited t bs
   Spells limited level (array vs) bs = (inside : List ℕ) × (limited ≡ true → level < depth_limit) × SpellsItems limited (level + 1) vs inside × (bs ≡ 91 ∷ inside ++ 93 ∷ [])
   Spells limited level (object ms) bs = (inside : List ℕ) × (limited ≡ true → level < depth_limit) × (limited ≡ true → HasUniqueKeys ms)
-    × SpellsMembers limited (level + 1) ms inside × (bs ≡ 123 ∷ inside ++ 125 ∷ [])
+      × SpellsMembers limited (level + 1) ms inside × (bs ≡ 123 ∷ inside ++ 125 ∷ [])
 
   -- section 5: the items of an array, with white space round each, and a comma between two
   pub SpellsItems : Bool → ℕ → Items → List ℕ → Type 0
   SpellsItems limited level no_items bs = IsSpace bs
   SpellsItems limited level (item v vs) bs = (before core behind more : List ℕ) × IsSpace before × Spells limited level v core × IsSpace behind
-    × SpellsMoreItems limited level vs more × (bs ≡ before ++ (core ++ (behind ++ more)))
+      × SpellsMoreItems limited level vs more × (bs ≡ before ++ (core ++ (behind ++ more)))
 
   pub SpellsMoreItems : Bool → ℕ → Items → List ℕ → Type 0
   SpellsMoreItems limited level no_items bs = bs ≡ []
   SpellsMoreItems limited level (item v vs) bs = (before core behind more : List ℕ) × IsSpace before × Spells limited level v core × IsSpace behind
-    × SpellsMoreItems limited level vs more × (bs ≡ 44 ∷ before ++ (core ++ (behind ++ more)))
+      × SpellsMoreItems limited level vs more × (bs ≡ 44 ∷ before ++ (core ++ (behind ++ more)))
 
   -- section 4: the members of an object, with white space round each part, and a comma between two
   pub SpellsMembers : Bool → ℕ → Members → List ℕ → Type 0
   SpellsMembers limited level no_members bs = IsSpace bs
   SpellsMembers limited level (member k v ms) bs = (first key second third core behind more : List ℕ) × IsSpace first × IsString limited k key × IsSpace second × IsSpace third
-    × Spells limited level v core × IsSpace behind × SpellsMoreMembers limited level ms more
-    × (bs ≡ first ++ (key ++ (second ++ (58 ∷ third ++ (core ++ (behind ++ more))))))
+      × Spells limited level v core × IsSpace behind × SpellsMoreMembers limited level ms more
+      × (bs ≡ first ++ (key ++ (second ++ (58 ∷ third ++ (core ++ (behind ++ more))))))
 
   pub SpellsMoreMembers : Bool → ℕ → Members → List ℕ → Type 0
   SpellsMoreMembers limited level no_members bs = bs ≡ []
   SpellsMoreMembers limited level (member k v ms) bs = (first key second third core behind more : List ℕ) × IsSpace first × IsString limited k key × IsSpace second × IsSpace third
-    × Spells limited level v core × IsSpace behind × SpellsMoreMembers limited level ms more
-    × (bs ≡ 44 ∷ first ++ (key ++ (second ++ (58 ∷ third ++ (core ++ (behind ++ more))))))
+      × Spells limited level v core × IsSpace behind × SpellsMoreMembers limited level ms more
+      × (bs ≡ 44 ∷ first ++ (key ++ (second ++ (58 ∷ third ++ (core ++ (behind ++ more))))))
 
 -- section 2: JSON-text = ws value ws
 abbrev pub SpellsText : Bool → Value → List ℕ → Type 0

@@ -4,5 +4,6 @@ pub mod Escape
 pub mod Scan
 pub mod Grammar
 pub mod Fronts
+pub mod Reading
 pub mod View
 pub mod Answer

@@ -1,5 +1,5 @@
 -- The value that a `Json` in memory is.
-use Rattle.std.specs.Prelude.{ℕ, List, map, length}
+use Rattle.std.specs.Prelude.{ℕ, List}
 use Rattle.std.specs.String.{string_bytes}
 use Rattle.decimal_json.specs.declared.types.Number.{Number}
 use Rattle.decimal_json.specs.declared.types.Json.{Json, fold-Json}

@@ -12,4 +12,3 @@ mod value;
 
 pub use reader::read;
 pub use types::{Json, JsonFault, Number, Pair};
-

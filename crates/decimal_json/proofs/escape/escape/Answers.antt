@@ -1,4 +1,3 @@
-use Rattle.std.proofs.Common.{sym, ap, ◌∙◌}
 use Rattle.decimal_json.proofs.Escapes.{letter_ends, letter_read, letter_unknown}
 use Rattle.decimal_json.proofs.escape.escape.Goals as goal
 

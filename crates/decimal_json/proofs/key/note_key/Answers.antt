@@ -1,4 +1,4 @@
-use Rattle.std.proofs.Common.{◌≡◌, List, ℕ, sym, subst}
+use Rattle.std.proofs.Common.{List, ℕ, subst}
 use Rattle.std.specs.String.{string_bytes}
 use Rattle.decimal_json.specs.Answer.{knows, AddsKey}
 use Rattle.decimal_json.proofs.Keys.{adds_key}

@@ -1,8 +1,6 @@
-use Rattle.std.proofs.Common.{◌≡◌, ℕ, ◌-◌, ◌≤◌, List, ◌∷◌, [], ◌++◌, ◌+◌, sym, ap, subst, ◌∙◌, arith, Bool, refl}
+use Rattle.std.proofs.Common.{◌≡◌, ℕ, ◌-◌, List, ◌∷◌, [], ◌++◌, ◌+◌, sym, ap, subst, ◌∙◌, arith, Bool, refl}
 use Rattle.decimal_json.specs.declared.types.JsonFault.{JsonFault}
-use Rattle.decimal_json.specs.declared.types.JsonFault.TheVariants.{At}
-use Rattle.decimal_json.specs.Number.{is_digit}
-use Rattle.decimal_json.specs.Answer.{Leads, AfterWhole, AddsDigits, FailsAt, StandsAt}
+use Rattle.decimal_json.specs.Answer.{Leads, AfterWhole, AddsDigits}
 use Rattle.decimal_json.specs.Scan.{Frame, Spot, scan}
 use Rattle.decimal_json.proofs.Exits.{passed_on}
 use Rattle.decimal_json.proofs.Numerals.{no_fraction, reads_fraction, no_digit_after_point}

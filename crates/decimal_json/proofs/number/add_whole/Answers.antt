@@ -1,4 +1,4 @@
-use Rattle.std.proofs.Common.{◌≡◌, ◌≤◌, ℕ, ◌-◌, List, ◌∷◌, [], ◌++◌, ◌+◌, sym, ap, subst, ◌∙◌, arith, IfErr, IfOk, Bool, true, false, refl}
+use Rattle.std.proofs.Common.{◌≡◌, ◌≤◌, ℕ, ◌-◌, List, ◌∷◌, [], ◌++◌, ◌+◌, sym, ap, subst, ◌∙◌, arith, Bool, true, false, refl}
 use Rattle.decimal_json.specs.declared.types.JsonFault.TheVariants.{At}
 use Rattle.decimal_json.specs.declared.types.JsonFault.{JsonFault}
 use Rattle.decimal_json.specs.Number.{is_digit}

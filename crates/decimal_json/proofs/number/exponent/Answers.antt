@@ -1,4 +1,4 @@
-use Rattle.std.proofs.Common.{◌≡◌, ◌≤◌, ℕ, ◌-◌, ◌+◌, List, sym, subst, refl, Bool}
+use Rattle.std.proofs.Common.{ℕ, ◌+◌, List, sym, subst, Bool}
 use Rattle.decimal_json.specs.declared.types.JsonFault.{JsonFault}
 use Rattle.decimal_json.specs.Scan.{Frame, Spot, scan}
 use Rattle.decimal_json.specs.Answer.{Leads, MayEnd, AddsExponent}

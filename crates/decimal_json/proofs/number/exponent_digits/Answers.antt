@@ -1,5 +1,4 @@
-use Rattle.std.proofs.Common.{arith, sym, refl, ◌≡◌, min, ℕ}
-use Rattle.decimal_json.specs.Answer.{kept}
+use Rattle.std.proofs.Common.{arith, sym, refl}
 use Rattle.decimal_json.proofs.Numerals.{adds_exponent}
 use Rattle.decimal_json.proofs.number.exponent_digits.Goals as goal
 

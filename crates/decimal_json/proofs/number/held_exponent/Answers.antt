@@ -1,5 +1,4 @@
-use Rattle.std.proofs.Common.{◌≡◌, ℕ, arith, min, sym}
-use Rattle.std.specs.Prelude.{pos}
+use Rattle.std.proofs.Common.{arith}
 use Rattle.std.proofs.lemmas.Int.{ints, clamps}
 use Rattle.decimal_json.proofs.number.held_exponent.Goals as goal
 

@@ -1,9 +1,8 @@
 use mir.Val.{SFits, of_z, to_z}
 use mir.Syntax.{w64}
-use Rattle.std.proofs.Common.{rules, ◌≡◌, ℕ, List, sym, subst, ap, ◌∙◌, Bool}
+use Rattle.std.proofs.Common.{rules, List, sym, subst, ◌∙◌}
 use Rattle.std.proofs.lemmas.Int.{to_z-of_z}
-use Rattle.decimal_json.specs.declared.types.JsonFault.{JsonFault}
-use Rattle.decimal_json.specs.Scan.{Frame, Spot, Outcome, scan}
+use Rattle.decimal_json.specs.Scan.{Frame, Outcome, scan}
 use Rattle.decimal_json.specs.Answer.{Leads, begun}
 use Rattle.decimal_json.proofs.Exits.{passed_on}
 use Rattle.decimal_json.proofs.Numerals.{reads_number}

@@ -1,4 +1,3 @@
-use Rattle.std.proofs.Common.{◌≡◌}
 use Rattle.decimal_json.specs.View.{view}
 use Rattle.decimal_json.proofs.Values.{token_of, end_of}
 use Rattle.decimal_json.proofs.Documents.{document_breaks, document_ends, document_goes_on, gives_fault}

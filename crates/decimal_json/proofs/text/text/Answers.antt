@@ -1,10 +1,10 @@
-use Rattle.std.proofs.Common.{◌≡◌, ◌+◌, ◌-◌, ◌<◌, ℕ, List, length, sym, ap, subst, ◌∙◌, arith, refl}
+use Rattle.std.proofs.Common.{◌≡◌, ◌+◌, ◌-◌, ℕ, List, sym, subst, arith}
 use Rattle.std.specs.Str.{IsCharBoundary}
 use Rattle.std.specs.String.{string_bytes}
 use Rattle.std.proofs.lemmas.Str.{IsCharBoundary-after_ascii}
 use Rattle.decimal_json.proofs.Exits.{passed_on}
 use Rattle.decimal_json.specs.Answer.{BreaksText}
-use Rattle.decimal_json.proofs.Texts.{Reaches, HasRead, reaches, ends_early, ends_well, ends_badly, escape_ends, goes_on, boundary_at_end}
+use Rattle.decimal_json.proofs.Texts.{Reaches, reaches, ends_early, ends_well, ends_badly, escape_ends, goes_on, boundary_at_end}
 use Rattle.decimal_json.proofs.text.text.Goals as goal
 
 pub range-requires-clause-end_boundary : goal.range-requires-clause-end_boundary

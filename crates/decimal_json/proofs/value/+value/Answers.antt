@@ -1,14 +1,14 @@
-use Rattle.std.proofs.Common.{◌≡◌, ◌+◌, List, [], ◌∷◌, ◌++◌, map, ℕ, sym, ap, subst, ◌∙◌, arith, refl, inl, inr, true, false, Bool}
+use Rattle.std.proofs.Common.{◌+◌, List, [], ◌∷◌, ◌++◌, map, sym, ap, subst, ◌∙◌, arith, inl, inr}
 use Rattle.std.specs.String.{string_bytes}
 use Rattle.decimal_json.specs.Value.{Value, array, object, items_of, members_of}
-use Rattle.decimal_json.specs.Scan.{Member, wanted, first_item, first_key}
-use Rattle.decimal_json.specs.Answer.{knows, IsToken, BreaksInside, BreaksValue, ReadsInside, ReadsValue}
+use Rattle.decimal_json.specs.Scan.{Member, first_item, first_key}
+use Rattle.decimal_json.specs.Answer.{knows, BreaksValue, ReadsInside, ReadsValue}
 use Rattle.decimal_json.specs.View.{view, pair_view}
 use Rattle.decimal_json.proofs.Exits.{passed_on}
 use Rattle.decimal_json.proofs.Values.{token_of, end_of}
 use Rattle.decimal_json.proofs.Views.{view-array, view-object, view-pair, map-push}
 use Rattle.decimal_json.proofs.Keys.{knows_nothing}
-use Rattle.decimal_json.proofs.Inside.{HasItems, HasMembers, array_cut, array_empty, items_begin, item_breaks, array_cut_behind, array_closes, array_no_comma, items_go_on, object_cut, object_empty, members_begin, key_at_breaks, member_breaks, member_read, object_cut_behind, object_closes, object_no_comma, members_go_on, value_cut, too_deep, array_value_read, array_value_breaks, object_value_read, object_value_breaks, scalar_read, scalar_breaks}
+use Rattle.decimal_json.proofs.Inside.{HasItems, HasMembers, array_cut, array_empty, items_begin, array_cut_behind, array_closes, array_no_comma, items_go_on, object_cut, object_empty, members_begin, member_read, object_cut_behind, object_closes, object_no_comma, members_go_on, value_cut, too_deep, array_value_read, array_value_breaks, object_value_read, object_value_breaks}
 use Rattle.decimal_json.proofs.value.+value.Goals as goal
 
 pub array-returns-in_default-clause-fault : goal.array-returns-in_default-clause-fault

@@ -1,7 +1,5 @@
-use Rattle.std.proofs.Common.{◌≡◌, ◌≤◌, ◌+◌, ◌-◌, ◌*◌, List, ◌∷◌, map, length}
-use Rattle.std.specs.String.{string_bytes}
-use Rattle.decimal_json.specs.Scan.{Frame, depth_limit, first_item, first_key, wanted, key_wanted, in_array, scan}
-use Rattle.decimal_json.specs.Answer.{knows, HasKeys}
+use Rattle.std.proofs.Common.{◌+◌, ◌-◌, ◌*◌, map, length}
+use Rattle.decimal_json.specs.Answer.{knows}
 use Rattle.decimal_json.specs.View.{view, pair_view}
 use Rattle.decimal_json.proofs.Inside.{HasItems, HasMembers}
 use Rattle.decimal_json.proofs.value.+value.Given as goal

@@ -1,4 +1,4 @@
-use Rattle.std.proofs.Common.{◌≡◌, sym, ap, subst, ◌∙◌, arith, refl}
+use Rattle.std.proofs.Common.{sym, subst, ◌∙◌, arith, refl}
 use Rattle.decimal_json.specs.declared.types.JsonFault.{JsonFault}
 use Rattle.decimal_json.specs.Scan.{awaited, scan}
 use Rattle.decimal_json.specs.Answer.{Leads}

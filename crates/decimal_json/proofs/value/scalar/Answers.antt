@@ -1,4 +1,4 @@
-use Rattle.std.proofs.Common.{◌≡◌, ◌+◌, ◌∷◌, [], List, ℕ, sym, ap, subst, ◌∙◌, arith, refl, true, false}
+use Rattle.std.proofs.Common.{◌+◌, [], sym, arith, refl, true, false}
 use Rattle.std.specs.String.{string_bytes}
 use Rattle.decimal_json.specs.Value.{null, boolean, number}
 use Rattle.decimal_json.specs.View.{decimal_of}
