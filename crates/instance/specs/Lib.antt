@@ -5,3 +5,4 @@ pub mod Points
 pub mod Rounded
 pub mod FirstFault
 pub mod Answer
+pub mod InstanceOf

@@ -5,6 +5,7 @@ mod arrays;
 mod fault;
 mod field;
 mod fields;
+mod laws;
 mod numbers;
 mod object;
 mod read;
@@ -19,4 +20,5 @@ mod units;
 
 pub use fault::InstanceFault;
 pub use field::Field;
+pub use laws::{a_value_has_an_instance_or_a_fault, instances_of_values_are_lawful};
 pub use read::from_json;
