@@ -22,3 +22,6 @@ pub use fault::InstanceFault;
 pub use field::Field;
 pub use laws::{a_value_has_an_instance_or_a_fault, instances_of_values_are_lawful};
 pub use read::from_json;
+
+#[cfg(test)]
+mod tests;
