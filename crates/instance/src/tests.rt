@@ -2,7 +2,7 @@
 
 mod kazarlis;
 
-use crate::{Field, InstanceFault, from_json};
+use crate::{Field, InstanceFault, ReadFault, from_json, read_instance};
 use std::alloc::Global;
 use std::test::Fail;
 use uc_model::{Instance, Point};
@@ -163,6 +163,14 @@ fn units(alloc: Global, count: u32) -> Result<String, Fail> {
 }
 
 #[test]
+fn bytes_that_are_no_text_are_refused(rt: HostRuntime) {
+    let cut = read_instance(rt.alloc(), b"{\"time_periods\":1", false);
+    assert!(rt; matches!(&cut, Err(ReadFault::Json { at: 17, kind: 2 })));
+    let empty = read_instance(rt.alloc(), b"{}", false);
+    assert!(rt; matches!(&empty, Err(ReadFault::Refused { code: 1, field: Field::TimePeriods, .. })));
+}
+
+#[test]
 fn lists_of_rows_have_a_limit(rt: HostRuntime) -> Result<(), Fail> {
     let startup = r#"[{"lag":1,"cost":0}]"#;
     let production = r#"[{"mw":10,"cost":100},{"mw":50,"cost":500}]"#;
@@ -265,7 +273,10 @@ fn last_unit(instance: &Instance) -> Option<(&str, i64, i64, u32, u32, Point)> {
 
 #[test]
 fn the_ten_unit_system_is_read(rt: HostRuntime) -> Result<(), Fail> {
-    let (instance, rounded) = accepted(rt.alloc(), kazarlis::KAZARLIS)?;
+    let Ok((instance, rounded)) = read_instance(rt.alloc(), kazarlis::KAZARLIS.as_bytes(), true)
+    else {
+        return Err("refused")?;
+    };
     assert_eq!(rt; rounded, 0);
     assert_eq!(rt; instance.demand.as_slice().first().copied(), Some(700_000_000));
     assert_eq!(rt; instance.reserves.as_slice().last().copied(), Some(80_000_000));
