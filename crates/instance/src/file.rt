@@ -16,7 +16,10 @@ use uc_model::{Instance, Name};
 #[derive(Debug, Drop)]
 pub enum ReadFault {
     /// The bytes are no JSON text: the place and the kind of a [`JsonFault`].
-    Json { at: usize, kind: u8 },
+    Json {
+        at: usize,
+        kind: u8,
+    },
     /// They are one, and its value has no instance: the parts of an [`InstanceFault`].
     Refused {
         code: u8,
@@ -30,11 +33,7 @@ pub enum ReadFault {
 
 /// The instance that bytes stand for, and how many of the numbers that were read are rounded. With `exact`
 /// bytes with a rounded number stand for none. `NoMemory` may come in place of any answer.
-pub fn read_instance(
-    alloc: Global,
-    bytes: &[u8],
-    exact: bool,
-) -> Result<(Instance, u64), ReadFault>
+pub fn read_instance(alloc: Global, bytes: &[u8], exact: bool) -> Result<(Instance, u64), ReadFault>
     ensures found { IfOk result (λ r. StandForCounted exact bytes.now r.0 r.1) }
     ensures none_if_exact { IfOk result (λ r. IsTrue exact → r.1 ≡ 0) }
     ensures lawful { IfOk result (λ r. IsLawfulInstance r.0) }
@@ -50,8 +49,22 @@ pub fn read_instance(
     };
     match from_json(alloc, json, exact) {
         Ok(found) => Ok(found),
-        Err(InstanceFault::Refused { code, kind_of_unit, unit, field, entry }) => {
-            Err(ReadFault::Refused { code, kind_of_unit, unit, field, entry })
+        Err(
+            InstanceFault::Refused {
+                code,
+                kind_of_unit,
+                unit,
+                field,
+                entry,
+            },
+        ) => {
+            Err(ReadFault::Refused {
+                code,
+                kind_of_unit,
+                unit,
+                field,
+                entry,
+            })
         }
         Err(InstanceFault::NoMemory) => Err(ReadFault::NoMemory),
     }

@@ -4,8 +4,8 @@
 mod arrays;
 mod fault;
 mod field;
-mod file;
 mod fields;
+mod file;
 mod laws;
 mod numbers;
 mod object;
