@@ -1,21 +1,21 @@
 -- The cost of a schedule that obeys is at most q * COST_MAX in size.
 -- Cite from a crate above by `use Rattle.uc_model.proofs.CostBound.{cost_fits}`.
-use Rattle.std.proofs.Common.{◌≡◌, ℕ, zero, suc, ◌+◌, ◌*◌, ◌<◌, ◌≤◌, ◌⊎◌, ⊎_elim, Bool, true, false, not, refl, sym, ap, subst, ◌∙◌, arith, ℤ, pos, negsuc, ◌+ℤ◌, ◌-ℤ◌, ◌*ℤ◌, neg_ℤ, ◌≤ℤ◌, length}
-use Rattle.std.specs.Prelude.{IsTrue, unsigned_abs, ◌==◌, ◌&&◌, nat_lt}
+use Rattle.std.proofs.Common.{◌≡◌, ℕ, zero, suc, ◌*◌, ◌<◌, ◌≤◌, ⊎_elim, false, sym, ap, subst, ◌∙◌, arith, ℤ, pos, negsuc, ◌+ℤ◌, ◌*ℤ◌, neg_ℤ, ◌≤ℤ◌}
+use Rattle.std.specs.Prelude.{IsTrue, unsigned_abs, ◌==◌, nat_lt}
 use Rattle.std.proofs.lemmas.Bool.{and_parts, or_cases, cases_Bool, eqb-true, ltb-true, true≢false, cond-true, cond-false}
 use Rattle.uc_model.specs.Sums.{sum_below, bit}
 use Rattle.uc_model.specs.Commitment.{Commitment, starts}
-use Rattle.uc_model.specs.StartCategory.{start_row, category_count, category_cost, is_category_allowed, category_holds_at}
-use Rattle.uc_model.specs.Schedule.{Row, Schedule, thermal_unit, thermal_count, point, point_count, weight_sum}
-use Rattle.uc_model.specs.Rules.{Rule, Category, Production, Obeys}
+use Rattle.uc_model.specs.StartCategory.{category_count, category_cost, is_category_allowed, category_holds_at}
+use Rattle.uc_model.specs.Schedule.{Row, Schedule, thermal_unit, thermal_count, point, point_count}
+use Rattle.uc_model.specs.Rules.{Category, Production, Obeys}
 use Rattle.uc_model.specs.Cost.{production_cost, cell_cost, unit_cost, cost}
 use Rattle.uc_model.specs.Limits.{IsLawfulThermal, IsLawfulInstance, MAX_COST, COST_MAX}
 use Rattle.uc_model.specs.declared.instance.Thermal.{Thermal}
 use Rattle.uc_model.specs.declared.instance.Instance.{Instance}
-use Rattle.uc_model.proofs.Ring.{linear, mul-le-mul_right, mul-le-mul_left, scale-le-scale, pos_nonneg, mul-neg, neg-mul, mul_comm, mul-add, mul-one, mul-zero, pos-le-pos}
+use Rattle.uc_model.proofs.Ring.{linear, scale-le-scale, mul-neg, mul_comm, mul-add, mul-one, pos-le-pos}
 use Rattle.uc_model.proofs.Sums.{sum_below-le, sum_below-mul_left, sum_below-const}
 use Rattle.uc_model.proofs.Obeyed.{rule_at, Produces, production_parts}
-use Rattle.uc_model.proofs.MinimumTimes.{bit-le-one, bit_nonneg}
+use Rattle.uc_model.proofs.MinimumTimes.{bit-le-one}
 
 -- z is at most m in size
 pub record IsWithin (m z : ℤ) : Type 0 where
@@ -70,17 +70,17 @@ production_cost_fits : (q : ℕ) (unit : Thermal) (row : Row) (t : ℕ) → IsLa
     → IsWithin (pos q *ℤ pos MAX_COST) (production_cost unit row t)
 production_cost_fits q unit row t lawful made =
     let bounds = within_sum (point_count unit) (λ l. (point unit l).cost *ℤ pos (row.weight t l)) (λ l. pos MAX_COST *ℤ pos (row.weight t l))
-        (λ l h. weighted (row.weight t l) (pos MAX_COST) (point unit l).cost (within_of_abs _ _ (lawful.costs l h)))
+    (λ l h. weighted (row.weight t l) (pos MAX_COST) (point unit l).cost (within_of_abs _ _ (lawful.costs l h)))
     in
     let factored = sum_below-mul_left (point_count unit) (pos MAX_COST) (λ l. pos (row.weight t l)) in
     let total : sum_below (point_count unit) (λ l. pos MAX_COST *ℤ pos (row.weight t l)) ≡ pos MAX_COST *ℤ (pos q *ℤ bit (row.on t)) =
-        factored ∙ ap (λ z. pos MAX_COST *ℤ z) made.total
+    factored ∙ ap (λ z. pos MAX_COST *ℤ z) made.total
     in
     let capped : (pos q *ℤ bit (row.on t)) ≤ℤ (pos q *ℤ pos 1) = scale-le-scale q _ _ (bit-le-one (row.on t)) in
     let whole : (pos MAX_COST *ℤ (pos q *ℤ bit (row.on t))) ≤ℤ (pos q *ℤ pos MAX_COST) =
-        subst (λ z. (pos MAX_COST *ℤ (pos q *ℤ bit (row.on t))) ≤ℤ z)
-        (ap (λ z. pos MAX_COST *ℤ z) (mul-one (pos q)) ∙ mul_comm (pos MAX_COST) (pos q))
-        (scale-le-scale MAX_COST _ _ capped)
+    subst (λ z. (pos MAX_COST *ℤ (pos q *ℤ bit (row.on t))) ≤ℤ z)
+    (ap (λ z. pos MAX_COST *ℤ z) (mul-one (pos q)) ∙ mul_comm (pos MAX_COST) (pos q))
+    (scale-le-scale MAX_COST _ _ capped)
     in
     within_more _ _ _ (subst (λ b. IsWithin b (production_cost unit row t)) total bounds) whole
 
@@ -93,20 +93,20 @@ allowed_cost_fits : (unit : Thermal) (on : Commitment) (s t : ℕ) → IsLawfulT
 allowed_cost_fits unit on zero t lawful h = absurd (true≢false (sym h))
 allowed_cost_fits unit on (suc s) t lawful h =
     within_of_abs _ _ (lawful.start_costs s
-      (⊎_elim
-        (λ (last : IsTrue (suc s == category_count unit)). let e = eqb-true (suc s) (category_count unit) last in omega arith)
-        (λ rest. let l = ltb-true (suc s) (category_count unit) (and_parts (nat_lt (suc s) (category_count unit)) _ rest).0 in omega arith)
-        (or_cases (suc s == category_count unit) _ h)))
+    (⊎_elim
+    (λ (last : IsTrue (suc s == category_count unit)). let e = eqb-true (suc s) (category_count unit) last in omega arith)
+    (λ rest. let l = ltb-true (suc s) (category_count unit) (and_parts (nat_lt (suc s) (category_count unit)) _ rest).0 in omega arith)
+    (or_cases (suc s == category_count unit) _ h)))
 
 category_cost_fits : (unit : Thermal) (row : Row) (t : ℕ) → IsLawfulThermal unit
     → IsTrue (category_holds_at unit row.on row.category t) → IsWithin (pos MAX_COST) (category_cost unit (row.category t))
 category_cost_fits unit row t lawful h =
     ⊎_elim
     (λ (start : IsTrue (starts unit row.on t)).
-      allowed_cost_fits unit row.on (row.category t) t lawful (sym (cond-true _ _ _ start) ∙ h))
+    allowed_cost_fits unit row.on (row.category t) t lawful (sym (cond-true _ _ _ start) ∙ h))
     (λ (none : starts unit row.on t ≡ false).
-      let zero_category : row.category t ≡ 0 = eqb-true (row.category t) 0 (sym (cond-false _ _ _ none) ∙ h) in
-      subst (λ c. IsWithin (pos MAX_COST) (category_cost unit c)) (sym zero_category) (zero_within MAX_COST))
+    let zero_category : row.category t ≡ 0 = eqb-true (row.category t) 0 (sym (cond-false _ _ _ none) ∙ h) in
+    subst (λ c. IsWithin (pos MAX_COST) (category_cost unit c)) (sym zero_category) (zero_within MAX_COST))
     (cases_Bool (starts unit row.on t))
 
 cell_cost_fits : (instance : Instance) (q : ℕ) (x : Schedule) (g t : ℕ) → Obeys instance q x
@@ -126,12 +126,12 @@ pub cost_fits : (instance : Instance) (q : ℕ) (x : Schedule) → IsLawfulInsta
 cost_fits instance q x lawful obeys =
     let cell = pos q *ℤ pos (2 * MAX_COST) in
     let units = λ (g : ℕ) (hg : g < thermal_count instance).
-        within_const_sum instance.periods (cell_cost q (thermal_unit instance g) (x.thermal g)) cell
-        (λ t ht. cell_cost_fits instance q x g t obeys hg ht (lawful.thermal g hg))
+    within_const_sum instance.periods (cell_cost q (thermal_unit instance g) (x.thermal g)) cell
+    (λ t ht. cell_cost_fits instance q x g t obeys hg ht (lawful.thermal g hg))
     in
     let all = within_const_sum (thermal_count instance) (λ g. unit_cost instance.periods q (thermal_unit instance g) (x.thermal g)) (pos instance.periods *ℤ cell) units in
     abs_of_within _ _ (within_more _ _ _ all
-      (pos-le-pos _ _ (counted (thermal_count instance) instance.periods q lawful.thermal_units lawful.periods.1)))
+    (pos-le-pos _ _ (counted (thermal_count instance) instance.periods q lawful.thermal_units lawful.periods.1)))
   where
     counted : (g t n : ℕ) → g ≤ 4096 → t ≤ 168 → g * (t * (n * 10000000000000)) ≤ n * 6881280000000000000
     counted g t n hg ht = grind arith

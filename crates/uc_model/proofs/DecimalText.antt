@@ -1,16 +1,17 @@
 -- The text of a whole number: `whole_text n` of a natural number, `signed_text z` of any.
 -- Cite from a crate above by `use Rattle.uc_model.proofs.DecimalText.{whole_text_injective}`.
-use Rattle.std.proofs.Common.{◌≡◌, ℕ, zero, suc, ◌+◌, ◌*◌, ◌/◌, ◌%◌, ◌^◌, ◌<◌, ◌≤◌, List, [], ◌∷◌, ◌++◌, map, length, get_or, drop, decimal, ⊎_elim, refl, sym, ap, subst, ◌∙◌, arith, ℤ, pos, negsuc, unsigned_abs, append_assoc}
+use Rattle.std.proofs.Common.{◌≡◌, ℕ, zero, suc, ◌+◌, ◌*◌, ◌/◌, ◌%◌, ◌^◌, ◌<◌, ◌≤◌, List, [], ◌∷◌, ◌++◌, map, length, get_or, drop, decimal, All, ⊎_elim, refl, sym, ap, subst, ◌∙◌, arith, ℤ, pos, negsuc, unsigned_abs, append_assoc}
 use Rattle.std.specs.Int.Digits.{digits_of}
 use Rattle.std.specs.Char.{digit_value}
 use Rattle.std.specs.Fmt.{signed_decimal}
 use Rattle.std.specs.Str.Parse.{AllDigits, digits_value, digits_value_after}
 use Rattle.std.proofs.lemmas.Int.Digits.{digits_of_step, digits_value_push, digits_push}
 use Rattle.std.proofs.lemmas.List.{map-append, append-nil, length-append, get_or_append_left, nil_from_length}
+use Rattle.std.proofs.lemmas.List.Elements.{All-nil, All-cons, All-append, All-replicate, All-weaker}
 use Rattle.std.proofs.lemmas.Bool.{cases_lt}
 use Rattle.std.proofs.Math.Nat.{pow-suc}
 use Rattle.std.proofs.lemmas.Fmt.{decimal_by_steps_wide}
-use Rattle.uc_model.specs.Decimal.{digit_byte, whole_text, signed_text}
+use Rattle.uc_model.specs.Decimal.{digit_byte, minus_text, whole_text, signed_text}
 
 places_from_power : (k n : ℕ) → 0 < n → n < 10 ^ k → 0 < k
 places_from_power zero n positive small = absurd (omega arith)
@@ -106,13 +107,12 @@ length-whole_text-le (suc k) n some small = ⊎_elim
 digit_from_value : (c : ℕ) → digit_value c < 10 → (48 ≤ c) × (c ≤ 57)
 digit_from_value c small = grind arith
 
-pub digit_bytes : (ds : List ℕ) (k : ℕ) → k < length ds → AllDigits 10 ds → (48 ≤ get_or ds k 0) × (get_or ds k 0 ≤ 57)
-digit_bytes [] k below all = absurd (omega arith)
-digit_bytes (c ∷ cs) zero below all = digit_from_value c all.0
-digit_bytes (c ∷ cs) (suc k) below all = digit_bytes cs k (omega arith) all.1
+pub digit_bytes : (ds : List ℕ) → AllDigits 10 ds → All (λ c. (48 ≤ c) × (c ≤ 57)) ds
+digit_bytes [] all = All-nil (λ c. (48 ≤ c) × (c ≤ 57))
+digit_bytes (c ∷ cs) all = All-cons (λ c. (48 ≤ c) × (c ≤ 57)) c cs (digit_from_value c all.0) (digit_bytes cs all.1)
 
-pub whole_text_bytes : (n k : ℕ) → k < length (whole_text n) → (48 ≤ get_or (whole_text n) k 0) × (get_or (whole_text n) k 0 ≤ 57)
-whole_text_bytes n k below = digit_bytes (whole_text n) k below (whole_text_digits n)
+pub whole_text_bytes : (n : ℕ) → All (λ c. (48 ≤ c) × (c ≤ 57)) (whole_text n)
+whole_text_bytes n = digit_bytes (whole_text n) (whole_text_digits n)
 
 -- ---- from digits to the number and back
 -- digits behind those of a number that is not nought
@@ -163,7 +163,7 @@ signed_text_nonempty (negsuc n) = omega arith
 -- a minus is no digit: the text of digits, and more behind it, tells itself from a text behind a minus
 pub whole_text_no_minus : (n : ℕ) (rest other : List ℕ) → whole_text n ++ rest ≡ 45 ∷ other → ⊥
 whole_text_no_minus n rest other e =
-    let first = whole_text_bytes n 0 (whole_text_nonempty n) in
+    let first = whole_text_bytes n 0 0 (whole_text_nonempty n) in
     let same = get_or_append_left (whole_text n) rest 0 0 (whole_text_nonempty n) in
     let byte = ap (λ bs. get_or bs 0 0) e in
     omega arith
@@ -177,3 +177,14 @@ signed_text_injective (negsuc m) (negsuc n) e = ap negsuc (suc_injective m n (wh
   where
     suc_injective : (m n : ℕ) → suc m ≡ suc n → m ≡ n
     suc_injective m n e = omega arith
+
+-- each byte is a minus or a digit, so no space and no line feed
+pub minus_text_bytes : (z : ℤ) → All (λ c. (45 ≤ c) × (c ≤ 57)) (minus_text z)
+minus_text_bytes (pos n) = All-nil (λ c. (45 ≤ c) × (c ≤ 57))
+minus_text_bytes (negsuc n) = All-replicate (λ c. (45 ≤ c) × (c ≤ 57)) 1 45 (omega arith)
+
+pub signed_text_bytes : (z : ℤ) → All (λ c. (45 ≤ c) × (c ≤ 57)) (signed_text z)
+unfolding signed_text
+signed_text_bytes z =
+    All-append (λ c. (45 ≤ c) × (c ≤ 57)) (minus_text z) (whole_text (unsigned_abs z)) (minus_text_bytes z)
+    (All-weaker (λ c. (48 ≤ c) × (c ≤ 57)) (λ c. (45 ≤ c) × (c ≤ 57)) (λ c h. omega arith) (whole_text (unsigned_abs z)) (whole_text_bytes (unsigned_abs z)))

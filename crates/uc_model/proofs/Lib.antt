@@ -4,6 +4,7 @@ pub mod Quotients
 pub mod Ring
 pub mod Sums
 pub mod Tests
+pub mod PatternBits
 pub mod Obeyed
 pub mod StartCosts
 pub mod MinimumTimes

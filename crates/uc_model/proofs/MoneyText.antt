@@ -1,17 +1,22 @@
 -- The text of money and of power, `money_text n`.
 -- Cite from a crate above by `use Rattle.uc_model.proofs.MoneyText.{money_text_injective}`.
-use Rattle.std.proofs.Common.{◌≡◌, ℕ, suc, ◌+◌, ◌*◌, ◌/◌, ◌%◌, ◌^◌, ◌<◌, ◌≤◌, List, [], ◌∷◌, ◌++◌, length, get_or, take, drop, refl, sym, ap, ◌∙◌, arith, ℤ, pos, negsuc, unsigned_abs}
+use Rattle.std.proofs.Common.{◌≡◌, ℕ, suc, ◌+◌, ◌*◌, ◌/◌, ◌%◌, ◌^◌, ◌<◌, ◌≤◌, List, [], ◌∷◌, ◌++◌, length, All, get_or, take, drop, refl, sym, ap, ◌∙◌, arith, ℤ, pos, negsuc, unsigned_abs}
 use Rattle.std.proofs.lemmas.List.{length-append, take_at, drop_at}
+use Rattle.std.proofs.lemmas.List.Elements.{All-append, All-cons, All-weaker, All-from_recursion}
 use Rattle.std.specs.Str.Parse.{AllDigits, digits_value}
 use Rattle.std.proofs.lemmas.Int.Digits.{digits_value-lt}
 use Rattle.uc_model.specs.Decimal.{digit_byte, minus_text, whole_text}
 use Rattle.uc_model.specs.Money.{digit_at, millionths_text, money_text, six_digits}
-use Rattle.uc_model.proofs.DecimalText.{digit_byte-digit_value, length-whole_text-le, whole_text-digits_value, whole_text_injective, whole_text_no_minus}
+use Rattle.uc_model.proofs.DecimalText.{digit_byte-digit_value, length-whole_text-le, minus_text_bytes, whole_text_bytes, whole_text-digits_value, whole_text_injective, whole_text_no_minus}
 
 -- ---- the six decimals
 pub length-six_digits : (n : ℕ) → length (six_digits n) ≡ 6
 unfolding six_digits
 length-six_digits n = refl
+
+six_digits_bytes : (n : ℕ) → All (λ c. (45 ≤ c) × (c ≤ 57)) (six_digits n)
+unfolding six_digits
+six_digits_bytes n = All-from_recursion (λ c. (45 ≤ c) × (c ≤ 57)) (six_digits n) (omega arith)
 
 -- the digits of n, of which there are at most six
 sum_of_digits : (n : ℕ) → n < 1000000
@@ -108,3 +113,14 @@ money_text_injective (negsuc m) (negsuc n) e = ap negsuc (suc_injective m n (mil
   where
     suc_injective : (m n : ℕ) → suc m ≡ suc n → m ≡ n
     suc_injective m n e = omega arith
+
+-- each byte is a minus, a point or a digit, so no space and no line feed
+pub money_text_bytes : (n : ℤ) → All (λ c. (45 ≤ c) × (c ≤ 57)) (money_text n)
+unfolding money_text millionths_text
+money_text_bytes n =
+    let P : ℕ → Type 0 = λ c. (45 ≤ c) × (c ≤ 57) in
+    let whole = whole_text (unsigned_abs n / 1000000) in
+    let decimals = six_digits (unsigned_abs n % 1000000) in
+    All-append P (minus_text n) (whole ++ 46 ∷ decimals) (minus_text_bytes n)
+    (All-append P whole (46 ∷ decimals) (All-weaker (λ c. (48 ≤ c) × (c ≤ 57)) P (λ c h. omega arith) whole (whole_text_bytes (unsigned_abs n / 1000000)))
+    (All-cons P 46 decimals (omega arith) (six_digits_bytes (unsigned_abs n % 1000000))))

@@ -1,19 +1,19 @@
 -- What a schedule that obeys keeps at each unit and period, and that its commitment is an allowed pattern.
 -- Cite from a crate above by `use Rattle.uc_model.proofs.Obeyed.{rule_at, is_allowed-obeying}`.
-use Rattle.std.proofs.Common.{◌≡◌, ℕ, zero, suc, ◌+◌, ◌<◌, ◌≤◌, Bool, true, false, not, ◌&&◌, ◌||◌, refl, sym, ap, subst, ◌∙◌, arith, ℤ, pos, ◌+ℤ◌, ◌-ℤ◌, ◌*ℤ◌, ◌≤ℤ◌, ◌<ℤ◌, ⊎_elim, lt-ltb}
-use Rattle.std.specs.Prelude.{IsTrue, int_le, nat_lt, nat_le}
+use Rattle.std.proofs.Common.{◌≡◌, ℕ, zero, suc, ◌<◌, ◌≤◌, false, not, ◌&&◌, sym, ◌∙◌, arith, ℤ, pos, ◌+ℤ◌, ◌*ℤ◌, ◌≤ℤ◌, ◌<ℤ◌, ⊎_elim}
+use Rattle.std.specs.Prelude.{IsTrue, int_le, nat_lt}
 use Rattle.std.specs.Int.{int_min}
 use Rattle.std.specs.Ordering.{int_eq}
 use Rattle.std.proofs.lemmas.Int.{ints}
-use Rattle.std.proofs.lemmas.Bool.{and_parts, and_from, or_cases, or_left, or_right, cases_Bool, cond_both, not_from_true, true≢false, leb-true}
-use Rattle.uc_model.specs.Sums.{sum_below, all_below, bit}
-use Rattle.uc_model.specs.Commitment.{Commitment, must_run_at, initial_up_at, initial_down_at, minimum_up_at, minimum_down_at, start_cap, stop_cap, cap, is_allowed_at, is_allowed, initial_stop_holds}
+use Rattle.std.proofs.lemmas.Bool.{and_parts, and_from, or_cases, or_right, cond_both, not_from_true, true≢false, leb-true}
+use Rattle.uc_model.specs.Sums.{all_below, bit}
+use Rattle.uc_model.specs.Commitment.{start_cap, stop_cap, cap, is_allowed_at, is_allowed}
 use Rattle.uc_model.specs.Schedule.{Row, Schedule, thermal_unit, thermal_count, point, point_count, point_p, p_at, weight_sum}
-use Rattle.uc_model.specs.Rules.{Rule, MustRun, InitialUp, InitialDown, MinimumUp, MinimumDown, InitialStop, Production, StartCap, StopCap, holds, holds_at, rule_units, rule_periods, production_at, Obeys}
+use Rattle.uc_model.specs.Rules.{Rule, MustRun, InitialUp, InitialDown, MinimumUp, MinimumDown, InitialStop, Production, StartCap, StopCap, holds_at, rule_units, rule_periods, production_at, Obeys}
 use Rattle.uc_model.specs.Limits.{IsLawfulThermal}
 use Rattle.uc_model.specs.declared.instance.Thermal.{Thermal}
 use Rattle.uc_model.specs.declared.instance.Instance.{Instance}
-use Rattle.uc_model.proofs.Ring.{linear, le_trans, mul_nonneg, pos_nonneg, le_from_mul, mul-zero, sub_nonneg, add-le-add}
+use Rattle.uc_model.proofs.Ring.{linear, le_trans, mul_nonneg, pos_nonneg, le_from_mul, mul-zero, sub_nonneg}
 use Rattle.uc_model.proofs.Sums.{sum_below_nonneg}
 use Rattle.uc_model.proofs.Tests.{int_le-true, le-int_le, int_eq-true, all_below-at, all_below-from}
 
@@ -45,8 +45,8 @@ production_parts q unit row t h =
           ⊎_elim
           (λ (on : IsTrue (row.on t)). absurd (true≢false (sym on ∙ off)))
           (λ (both : IsTrue (int_eq (p_at unit row t) (pos 0) && int_eq (row.reserve t) (pos 0))).
-            let parts = and_parts _ _ both in
-            (int_eq-true _ _ parts.0, int_eq-true _ _ parts.1))
+          let parts = and_parts _ _ both in
+          (int_eq-true _ _ parts.0, int_eq-true _ _ parts.1))
           (or_cases (row.on t) _ p3.1);
     }
 
@@ -87,16 +87,16 @@ cap-obeying instance q x g t obeys hg ht lawful =
     let made = production_parts q unit row t (rule_at instance q x obeys Production g t hg ht) in
     let p_low = p_at_nonneg unit lawful row t in
     let started : pos 0 ≤ℤ start_cap unit row.on t =
-        cap_nonneg q _ _ _ obeys.denominator p_low made.reserve (int_le-true _ _ (rule_at instance q x obeys StartCap g t hg ht))
+    cap_nonneg q _ _ _ obeys.denominator p_low made.reserve (int_le-true _ _ (rule_at instance q x obeys StartCap g t hg ht))
     in
     cond_both (nat_lt (suc t) instance.periods) _ _ (λ c. pos 0 ≤ℤ c)
     (λ before.
-      ⊎_elim
-      (λ (last : IsTrue (not (nat_lt (suc t) instance.periods))).
-        absurd (true≢false (sym last ∙ not_from_true _ before)))
-      (λ (below : IsTrue (int_le (p_at unit row t +ℤ row.reserve t) (pos q *ℤ stop_cap unit row.on t))).
-        min_nonneg _ _ started (cap_nonneg q _ _ _ obeys.denominator p_low made.reserve (int_le-true _ _ below)))
-      (or_cases _ _ (rule_at instance q x obeys StopCap g t hg ht)))
+    ⊎_elim
+    (λ (last : IsTrue (not (nat_lt (suc t) instance.periods))).
+    absurd (true≢false (sym last ∙ not_from_true _ before)))
+    (λ (below : IsTrue (int_le (p_at unit row t +ℤ row.reserve t) (pos q *ℤ stop_cap unit row.on t))).
+    min_nonneg _ _ started (cap_nonneg q _ _ _ obeys.denominator p_low made.reserve (int_le-true _ _ below)))
+    (or_cases _ _ (rule_at instance q x obeys StopCap g t hg ht)))
     (λ last. started)
 
 -- the commitment of a unit in a schedule that obeys is an allowed pattern
@@ -112,10 +112,10 @@ is_allowed-obeying instance q x g some obeys hg lawful =
     each t ht =
         and_from _ _
         (and_from _ _
-          (and_from _ _
-            (and_from _ _
-              (and_from _ _ (rule_at instance q x obeys MustRun g t hg ht) (rule_at instance q x obeys InitialUp g t hg ht))
-              (rule_at instance q x obeys InitialDown g t hg ht))
-            (rule_at instance q x obeys MinimumUp g t hg ht))
-          (rule_at instance q x obeys MinimumDown g t hg ht))
+        (and_from _ _
+        (and_from _ _
+        (and_from _ _ (rule_at instance q x obeys MustRun g t hg ht) (rule_at instance q x obeys InitialUp g t hg ht))
+        (rule_at instance q x obeys InitialDown g t hg ht))
+        (rule_at instance q x obeys MinimumUp g t hg ht))
+        (rule_at instance q x obeys MinimumDown g t hg ht))
         (or_right _ _ (le-int_le _ _ (cap-obeying instance q x g t obeys hg ht lawful)))

@@ -3,7 +3,7 @@
 use Rattle.std.proofs.Common.{◌≡◌, ℕ, ◌/◌, ◌%◌, ◌<◌, ◌≢◌, ◌-◌, unsigned_abs, subst, arith, ℤ, pos, negsuc, ◌+ℤ◌, ◌*ℤ◌, neg_ℤ, ◌≤ℤ◌, ◌<ℤ◌}
 use Rattle.std.specs.Int.{int_div_euclid, int_rem_euclid}
 use Rattle.std.proofs.lemmas.Int.{ints, by_lt_z}
-use Rattle.uc_model.specs.Division.{IsFloor, IsCeiling}
+use Rattle.uc_model.specs.Division.{IsFloor, IsCeiling, quotient_up}
 use Rattle.uc_model.proofs.Ring.{linear, add-mul, neg-mul, one-mul, mul-le-mul_right, le_antisymm, pos_nonneg}
 
 -- ---- a bound by a multiple
@@ -141,3 +141,12 @@ IsCeiling-int_div_euclid_next a b positive some =
     let nonneg = int_rem_euclid_nonneg a b in
     let more : pos 0 <ℤ int_rem_euclid a b = by_lt_z (pos 0) (int_rem_euclid a b) (λ h. h) (λ h. absurd (some (le_antisymm _ _ h nonneg))) in
     IsCeiling-next a b (int_div_euclid a b) (IsFloor-int_div_euclid a b positive) (omega (arith, linear))
+
+-- ---- the quotient rounded up, as a number
+neg_neg : (a : ℤ) → neg_ℤ (neg_ℤ a) ≡ a
+neg_neg a = omega (arith, linear)
+
+pub quotient_up-is : (a b : ℤ) → pos 0 <ℤ b → IsCeiling a b (quotient_up a b)
+quotient_up-is a b positive =
+    subst (λ z. IsCeiling z b (quotient_up a b)) (neg_neg a)
+    (IsCeiling-neg (neg_ℤ a) b (int_div_euclid (neg_ℤ a) b) (IsFloor-int_div_euclid (neg_ℤ a) b positive))

@@ -146,6 +146,10 @@ mul-le-mul_left q a b h k =
 pub mul-le-mul_right : (q a b : ℤ) → pos 0 ≤ℤ q → a ≤ℤ b → (a *ℤ q) ≤ℤ (b *ℤ q)
 mul-le-mul_right q a b h k = rw (mul_comm a q, mul_comm b q) (mul-le-mul_left q a b h k)
 
+pub mul-le-mul : (a b c d : ℤ) → pos 0 ≤ℤ a → pos 0 ≤ℤ c → a ≤ℤ b → c ≤ℤ d → (a *ℤ c) ≤ℤ (b *ℤ d)
+mul-le-mul a b c d h k le other =
+    le_trans (a *ℤ c) (b *ℤ c) (b *ℤ d) (mul-le-mul_right c a b k le) (mul-le-mul_left b c d (omega (arith, linear)) other)
+
 -- the same at a factor of ℕ
 pub scale-le-scale : (q : ℕ) (a b : ℤ) → a ≤ℤ b → (pos q *ℤ a) ≤ℤ (pos q *ℤ b)
 scale-le-scale q a b k = mul-le-mul_left (pos q) a b (pos_nonneg q) k
@@ -179,6 +183,9 @@ pub suc-mul : (n : ℕ) (a : ℤ) → pos (suc n) *ℤ a ≡ pos n *ℤ a +ℤ a
 suc-mul n a =
     let next : pos (suc n) ≡ pos n +ℤ pos 1 = omega (arith, linear) in
     ap (λ x. x *ℤ a) next ∙ add-mul (pos n) (pos 1) a ∙ ap (λ x. pos n *ℤ a +ℤ x) (one-mul a)
+
+pub mul_positive : (a b : ℤ) → pos 0 <ℤ a → pos 0 <ℤ b → pos 0 <ℤ (a *ℤ b)
+mul_positive a b h k = subst (λ x. x <ℤ (a *ℤ b)) (mul-zero a) (mul-lt-mul_left a (pos 0) b h k)
 
 -- two numbers of ℕ, as numbers of ℤ
 pub pos-mul : (m n : ℕ) → pos (m * n) ≡ pos m *ℤ pos n

@@ -1,9 +1,8 @@
 -- The least start cost is never above the cost of a category that M6 allows.
 -- Cite from a crate above by `use Rattle.uc_model.proofs.StartCosts.{sigma-le-allowed}`.
-use Rattle.std.proofs.Common.{◌≡◌, ℕ, zero, suc, ◌+◌, ◌-◌, ◌<◌, ◌≤◌, ◌≢◌, ◌⊎◌, inl, inr, ⊎_elim, Bool, true, false, not, ◌&&◌, ◌||◌, cond, refl, sym, ap, subst, ◌∙◌, arith, ℤ, pos, ◌≤ℤ◌, length}
-use Rattle.std.specs.Prelude.{IsTrue, nat_lt, nat_le, ◌==◌, Option, Some, None, if◌then◌else◌}
-use Rattle.std.proofs.lemmas.Bool.{and_parts, and_from, or_cases, cases_Bool, cases_eq, cond-true, cond-false, cond_both, not-true, true≢false, leb-true, ltb-true, eqb-true, le-leb, lt-ltb}
-use Rattle.uc_model.specs.Sums.{any_below, least_below}
+use Rattle.std.proofs.Common.{◌≡◌, ℕ, zero, suc, ◌-◌, ◌<◌, ◌≤◌, ◌≢◌, ◌⊎◌, ⊎_elim, false, not, ◌&&◌, cond, sym, ap, subst, ◌∙◌, arith, ◌≤ℤ◌}
+use Rattle.std.specs.Prelude.{IsTrue, nat_lt, nat_le, ◌==◌, Option, Some}
+use Rattle.std.proofs.lemmas.Bool.{and_parts, and_from, or_cases, cases_Bool, cond-true, cond-false, not-true, true≢false, leb-true, ltb-true, eqb-true, le-leb, lt-ltb}
 use Rattle.uc_model.specs.Commitment.{Commitment, was_on, starts, stops}
 use Rattle.uc_model.specs.StartCategory.{category_count, category_lag, category_cost, has_stop_within, is_barred, is_category_allowed, last_stop, stopped_within, may_cost_as, sigma}
 use Rattle.uc_model.specs.declared.instance.Thermal.{Thermal}
@@ -20,14 +19,14 @@ last_stop-after unit on (suc t) k h s =
     ⊎_elim
     (λ (here : IsTrue (stops unit on t)). (t, cond-true _ (Some t) (last_stop unit on t) here, omega arith))
     (λ (other : stops unit on t ≡ false).
-      let earlier : k < t =
-          ⊎_elim
-          (λ (less : k < t). less)
-          (λ (same : k ≡ t). absurd (true≢false (sym s ∙ ap (λ i. stops unit on i) same ∙ other)))
-          (below_or_last t k h)
-      in
-      let found = last_stop-after unit on t k earlier s in
-      (found.0, cond-false _ (Some t) (last_stop unit on t) other ∙ found.1, found.2))
+    let earlier : k < t =
+    ⊎_elim
+    (λ (less : k < t). less)
+    (λ (same : k ≡ t). absurd (true≢false (sym s ∙ ap (λ i. stops unit on i) same ∙ other)))
+    (below_or_last t k h)
+    in
+    let found = last_stop-after unit on t k earlier s in
+    (found.0, cond-false _ (Some t) (last_stop unit on t) other ∙ found.1, found.2))
     (cases_Bool (stops unit on t))
 
 -- a unit doesn't start and stop in one period
@@ -36,6 +35,9 @@ not_start_and_stop unit on t a b =
     let started = and_parts (not (was_on unit on t)) (on t) a in
     let stopped = and_parts (was_on unit on t) (not (on t)) b in
     true≢false (sym stopped.0 ∙ not-true (was_on unit on t) started.0)
+
+stopped_within-at : (last : Option ℕ) (l most t : ℕ) → last ≡ Some l → t - l ≤ most → IsTrue (stopped_within last most t)
+stopped_within-at last l most t e near = subst (λ o. IsTrue (stopped_within o most t)) (sym e) (le-leb (t - l) most near)
 
 -- a stop within a category's lags is one that the last stop shows
 after_stop : (unit : Thermal) (on : Commitment) (from lag t : ℕ) → IsTrue (starts unit on t) → lag ≤ suc t
@@ -52,21 +54,21 @@ after_stop unit on from lag t start reached h =
     let near : t - last.0 ≤ lag - 1 = omega (arith, last.2) in
     and_from _ _
     (lt-ltb _ _ (omega arith))
-    (subst (λ o. IsTrue (stopped_within o (lag - 1) t)) (sym last.1) (le-leb _ _ near))
+    (stopped_within-at (last_stop unit on t) last.0 (lag - 1) t last.1 near)
 
 -- a category that M6 allows, and that isn't the last one, is one that the last stop allows
 may_cost-allowed : (unit : Thermal) (on : Commitment) (s t : ℕ) → IsTrue (starts unit on t)
     → IsTrue (cond (nat_le (category_lag unit (suc (suc s))) (suc t))
-        (has_stop_within unit on (category_lag unit (suc s)) (category_lag unit (suc (suc s))) t)
-        (not (is_barred unit.dt0 (category_lag unit (suc (suc s))) t)))
+    (has_stop_within unit on (category_lag unit (suc s)) (category_lag unit (suc (suc s))) t)
+    (not (is_barred unit.dt0 (category_lag unit (suc (suc s))) t)))
     → IsTrue (may_cost_as unit (last_stop unit on t) t s)
 may_cost-allowed unit on s t start h =
     let lag = category_lag unit (suc (suc s)) in
     let from = category_lag unit (suc s) in
     ⊎_elim
     (λ (reached : IsTrue (nat_le lag (suc t))).
-      cond-true _ _ _ reached
-      ∙ after_stop unit on from lag t start (leb-true _ _ reached) (sym (cond-true _ _ _ reached) ∙ h))
+    cond-true _ _ _ reached
+    ∙ after_stop unit on from lag t start (leb-true _ _ reached) (sym (cond-true _ _ _ reached) ∙ h))
     (λ (before : nat_le lag (suc t) ≡ false). cond-false _ _ _ before ∙ sym (cond-false _ _ _ before) ∙ h)
     (cases_Bool (nat_le lag (suc t)))
 
@@ -79,14 +81,14 @@ sigma-le-allowed unit on (suc s) t start h =
     let costs = λ (k : ℕ). category_cost unit (suc k) in
     ⊎_elim
     (λ (final : IsTrue (suc s == category_count unit)).
-      subst (λ k. sigma unit last t ≤ℤ category_cost unit k) (sym (eqb-true _ _ final))
-      (least_below-le-other (category_count unit - 1) (may_cost_as unit last t) costs (category_cost unit (category_count unit))))
+    subst (λ k. sigma unit last t ≤ℤ category_cost unit k) (sym (eqb-true _ _ final))
+    (least_below-le-other (category_count unit - 1) (may_cost_as unit last t) costs (category_cost unit (category_count unit))))
     (λ (rest : IsTrue (nat_lt (suc s) (category_count unit)
-        && cond (nat_le (category_lag unit (suc (suc s))) (suc t))
-            (has_stop_within unit on (category_lag unit (suc s)) (category_lag unit (suc (suc s))) t)
-            (not (is_barred unit.dt0 (category_lag unit (suc (suc s))) t)))).
-      let parts = and_parts _ _ rest in
-      let below : suc s < category_count unit = ltb-true _ _ parts.0 in
-      least_below-le (category_count unit - 1) (may_cost_as unit last t) costs (category_cost unit (category_count unit)) s
-      (omega arith) (may_cost-allowed unit on s t start parts.1))
+    && cond (nat_le (category_lag unit (suc (suc s))) (suc t))
+    (has_stop_within unit on (category_lag unit (suc s)) (category_lag unit (suc (suc s))) t)
+    (not (is_barred unit.dt0 (category_lag unit (suc (suc s))) t)))).
+    let parts = and_parts _ _ rest in
+    let below : suc s < category_count unit = ltb-true _ _ parts.0 in
+    least_below-le (category_count unit - 1) (may_cost_as unit last t) costs (category_cost unit (category_count unit)) s
+    (omega arith) (may_cost-allowed unit on s t start parts.1))
     (or_cases _ _ h)

@@ -1,11 +1,11 @@
 -- What the tests over indexes say, as facts, and laws of the least value.
 -- Cite from a crate above by `use Rattle.uc_model.proofs.Tests.{all_below-at}`.
-use Rattle.std.proofs.Common.{◌≡◌, ℕ, zero, suc, ◌+◌, ◌<◌, ◌≤◌, ◌⊎◌, inl, inr, ⊎_elim, Bool, true, false, not, ◌&&◌, ◌||◌, cond, refl, sym, ap, subst, ◌∙◌, arith, ℤ, pos, negsuc, ◌≤ℤ◌, ◌<ℤ◌}
-use Rattle.std.specs.Prelude.{IsTrue, int_le, int_lt, if◌then◌else◌}
+use Rattle.std.proofs.Common.{◌≡◌, ℕ, zero, suc, ◌<◌, ◌⊎◌, ⊎_elim, Bool, cond, refl, sym, subst, arith, ℤ, ◌≤ℤ◌, ◌<ℤ◌}
+use Rattle.std.specs.Prelude.{IsTrue, int_le, int_lt}
 use Rattle.std.specs.Int.{int_min}
 use Rattle.std.specs.Ordering.{int_eq}
 use Rattle.std.proofs.lemmas.Int.{ints}
-use Rattle.std.proofs.lemmas.Bool.{and_parts, and_from, or_cases, or_left, or_right, cases_Bool, cond-true, cond-false, cond_both}
+use Rattle.std.proofs.lemmas.Bool.{and_parts, and_from, or_cases, or_left, or_right, cond-true, cond_both}
 use Rattle.std.proofs.lemmas.Bool.Decides.{Decides-int_eq}
 use Rattle.uc_model.specs.Sums.{all_below, any_below, least_below}
 
@@ -90,10 +90,10 @@ least_below-le zero test f other k l h = absurd (omega arith)
 least_below-le (suc n) test f other k l h =
     ⊎_elim
     (λ (less : k < n).
-      le_through _ _ _
-      (step_right (test n) (f n) (least_below n test f other))
-      (least_below-le n test f other k less h))
+    le_through _ _ _
+    (step_right (test n) (f n) (least_below n test f other))
+    (least_below-le n test f other k less h))
     (λ (last : k ≡ n).
-      subst (λ i. least_below (suc n) test f other ≤ℤ f i) (sym last)
-      (step_left (test n) (f n) (least_below n test f other) (subst (λ i. IsTrue (test i)) last h)))
+    subst (λ i. least_below (suc n) test f other ≤ℤ f i) (sym last)
+    (step_left (test n) (f n) (least_below n test f other) (subst (λ i. IsTrue (test i)) last h)))
     (below_or_last n k l)

@@ -4,7 +4,7 @@
 -- and down times, and start-up and shut-down limits), in whole watts.
 --
 -- Periods count from 0 here: the index t is period t + 1 of the model.
-use Rattle.std.specs.Prelude.{◌≡◌, ℕ, zero, suc, ◌+◌, ◌-◌, ◌<◌, min, IsTrue, Bool, not, ◌&&◌, ◌||◌, nat_lt, ℤ, pos, ◌+ℤ◌, ◌-ℤ◌, ◌*ℤ◌, int_le, if◌then◌else◌}
+use Rattle.std.specs.Prelude.{◌≡◌, ℕ, zero, suc, ◌+◌, ◌-◌, ◌<◌, min, IsTrue, Bool, not, ◌&&◌, ◌||◌, nat_lt, ℤ, pos, ◌-ℤ◌, ◌*ℤ◌, int_le, if◌then◌else◌}
 use Rattle.std.specs.Int.{int_min, int_max}
 use Rattle.uc_model.specs.Sums.{sum_below, all_below, bit}
 use Rattle.uc_model.specs.declared.instance.Thermal.{Thermal}

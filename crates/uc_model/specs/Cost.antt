@@ -2,14 +2,15 @@
 -- units cost nothing. Source: the objective of the reference model by Knueven, Ostrowski and Watson.
 use Rattle.std.specs.Prelude.{ℕ, ℤ, pos, ◌+ℤ◌, ◌*ℤ◌}
 use Rattle.uc_model.specs.Sums.{sum_below}
+use Rattle.uc_model.specs.Points.{weighted_cost}
 use Rattle.uc_model.specs.StartCategory.{category_cost}
-use Rattle.uc_model.specs.Schedule.{Row, Schedule, thermal_unit, thermal_count, point, point_count}
+use Rattle.uc_model.specs.Schedule.{Row, Schedule, thermal_unit, thermal_count}
 use Rattle.uc_model.specs.declared.instance.Thermal.{Thermal}
 use Rattle.uc_model.specs.declared.instance.Instance.{Instance}
 
 -- the weighted point costs in period t, q times micro-dollars
 abbrev pub production_cost : Thermal → Row → ℕ → ℤ
-production_cost unit row t = sum_below (point_count unit) (λ l. (point unit l).cost *ℤ pos (row.weight t l))
+production_cost unit row t = weighted_cost unit.points (row.weight t)
 
 -- what the unit costs in period t, q times micro-dollars
 abbrev pub cell_cost : ℕ → Thermal → Row → ℕ → ℤ

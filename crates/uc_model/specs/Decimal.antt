@@ -1,6 +1,6 @@
 -- How a whole number is written in decimal, as bytes: `0`, or digits of which the first is no zero, with a minus before them for
 -- a number below nought. This is the grammar of a number without fraction and exponent in RFC 8259, but for `-0`.
-use Rattle.std.specs.Prelude.{ℕ, zero, suc, ◌+◌, List, [], ◌∷◌, ◌++◌, map, ℤ, pos, negsuc, unsigned_abs}
+use Rattle.std.specs.Prelude.{ℕ, zero, suc, ◌+◌, List, [], ◌∷◌, ◌++◌, map, ℤ, pos, negsuc, unsigned_abs, codes}
 use Rattle.std.specs.Int.Digits.{digits_of}
 
 -- the byte of a digit, from 48 for `0` to 57 for `9`
@@ -15,7 +15,7 @@ whole_text (suc n) = map digit_byte (digits_of 10 (suc n))
 -- `-` for a number below nought, and else nothing
 abbrev pub minus_text : ℤ → List ℕ
 minus_text (pos n) = []
-minus_text (negsuc n) = 45 ∷ []
+minus_text (negsuc n) = codes "-"
 
 -- a number of any sign
 unfoldable pub signed_text : ℤ → List ℕ

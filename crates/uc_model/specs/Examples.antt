@@ -1,7 +1,7 @@
 -- Small instances and schedules on which the rules, the start categories and the caps are computed: for
 -- each rule a schedule that breaks this rule and no other, and one that obeys them all. One thermal unit
 -- of 10 to 50 MW and one renewable unit of at most 5 MW.
-use Rattle.std.specs.Prelude.{ℕ, zero, suc, ◌*◌, Bool, true, false, not, ◌&&◌, ◌||◌, List, [], ◌∷◌, ℤ, pos, negsuc, ◌+ℤ◌, ◌-ℤ◌, ◌*ℤ◌, int_le, length, slice_index_or, filter}
+use Rattle.std.specs.Prelude.{ℕ, ◌*◌, Bool, true, false, not, ◌&&◌, ◌||◌, List, [], ◌∷◌, ℤ, pos, negsuc, ◌+ℤ◌, ◌-ℤ◌, ◌*ℤ◌, int_le, length, slice_index_or, filter}
 use Rattle.uc_model.specs.Sums.{bit}
 use Rattle.uc_model.specs.Commitment.{Commitment, was_on, stops, stop_reduction}
 use Rattle.uc_model.specs.Rules.{Rule, MustRun, InitialUp, InitialDown, MinimumUp, MinimumDown, Category, InitialStop, Production, StartCap, StopCap, RampUp, RampDown, RenewableRange, Demand, Reserve, holds, holds_at}
@@ -203,7 +203,8 @@ weak_start_unit = record cold_unit { su = mw 5 }
 abbrev pub stopping : Example
 stopping = record {
   instance = system (record base_unit { sd = mw 20 }) (mw 15 ∷ mw 0 ∷ []) (mw 0 ∷ mw 0 ∷ []);
-  printed = cells (on 5 0 0 ∷ off ∷ []) }
+  printed = cells (on 5 0 0 ∷ off ∷ []);
+}
 
 abbrev pub printed_cost_of : Example → ℤ
 printed_cost_of e = printed_cost e.instance e.printed
@@ -216,7 +217,8 @@ points (pair ∷ pairs) = (record { mw = pos pair.0; cost = pair.1 }) ∷ points
 -- its middle point lies above the line between the others
 abbrev pub bent_unit : Thermal
 bent_unit = record base_unit {
-  points = points ((0, dollars 0) ∷ (10000000, dollars 100) ∷ (20000000, dollars 120) ∷ []) }
+  points = points ((0, dollars 0) ∷ (10000000, dollars 100) ∷ (20000000, dollars 120) ∷ []);
+}
 
 -- 3 W at a micro-dollar more, and at one less
 abbrev pub rising_unit : Thermal
@@ -247,4 +249,4 @@ stop_cap_in_stop_period e t =
     let commitment = λ (k : ℕ). (cell_at e.printed 0 k).on in
     let cell = cell_at e.printed 0 t in
     int_le (cell.p +ℤ cell.r)
-        ((unit.pmax -ℤ unit.pmin) *ℤ bit (commitment t) -ℤ stop_reduction unit *ℤ bit (stops unit commitment t))
+    ((unit.pmax -ℤ unit.pmin) *ℤ bit (commitment t) -ℤ stop_reduction unit *ℤ bit (stops unit commitment t))

@@ -1,8 +1,8 @@
 -- The lower convex hull of a unit's points: the least production cost at an output above the minimum.
 -- Source: the piecewise production cost of the pglib-uc format, which the reference model by Knueven,
 -- Ostrowski and Watson takes as weights on the points; the least cost of weights is the lower hull.
-use Rattle.std.specs.Prelude.{ℕ, zero, suc, ◌/◌, max, Bool, ◌&&◌, ◌||◌, ◌==◌, ℤ, pos, negsuc, ◌+ℤ◌, ◌-ℤ◌, ◌*ℤ◌, neg_ℤ, unsigned_abs, int_lt, int_le, Option, Some, None, if◌then◌else◌}
-use Rattle.std.specs.Int.{div_ceil}
+use Rattle.std.specs.Prelude.{ℕ, zero, suc, max, Bool, ◌&&◌, ◌||◌, ◌==◌, ℤ, pos, ◌+ℤ◌, ◌-ℤ◌, ◌*ℤ◌, unsigned_abs, int_lt, int_le, Option, Some, None, if◌then◌else◌}
+use Rattle.uc_model.specs.Division.{quotient_up}
 use Rattle.uc_model.specs.Sums.{all_below}
 use Rattle.uc_model.specs.Schedule.{point, point_count, point_p}
 use Rattle.uc_model.specs.declared.instance.Thermal.{Thermal}
@@ -68,17 +68,12 @@ segment_at unit p = first_segment unit p (point_count unit)
 abbrev pub segment_width : Thermal → Segment → ℕ
 segment_width unit s = max 1 (unsigned_abs (run unit s.left s.right))
 
--- n / d, rounded up to a whole number
-abbrev pub quotient_up : ℤ → ℕ → ℤ
-quotient_up (pos n) d = pos (div_ceil n d)
-quotient_up (negsuc n) d = neg_ℤ (pos (suc n / d))
-
 -- the hull's value at p on a segment, rounded up to a micro-dollar
 abbrev pub segment_cost : Thermal → ℤ → Option Segment → ℤ
 segment_cost unit p None = pos 0
 segment_cost unit p (Some s) =
     (point unit s.left).cost
-    +ℤ quotient_up (rise unit s.left s.right *ℤ (p -ℤ point_p unit s.left)) (segment_width unit s)
+    +ℤ quotient_up (rise unit s.left s.right *ℤ (p -ℤ point_p unit s.left)) (pos (segment_width unit s))
 
 -- the hull's value at p, rounded up to a micro-dollar; 0 where no segment holds p
 abbrev pub hull_cost : Thermal → ℤ → ℤ

@@ -3,7 +3,9 @@ pub mod Division
 pub mod Money
 pub mod Sums
 pub mod Commitment
+pub mod PatternBits
 pub mod StartCategory
+pub mod Points
 pub mod Schedule
 pub mod Rules
 pub mod Cost

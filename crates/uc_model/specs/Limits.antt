@@ -1,39 +1,12 @@
 -- The limits on an instance's numbers, and its shape. Source: the fields of the pglib-uc format, with
 -- this project's limits in size.
-use Rattle.std.specs.Prelude.{◌≡◌, ℕ, suc, ◌*◌, ◌^◌, ◌<◌, ◌≤◌, ℤ, pos, ◌≤ℤ◌, ◌<ℤ◌, unsigned_abs, length, slice_index_or, List, All}
+use Rattle.std.specs.Prelude.{◌≡◌, ℕ, suc, ◌<◌, ◌≤◌, ℤ, pos, ◌≤ℤ◌, unsigned_abs, length, All}
 use Rattle.std.specs.Int.{int_max}
 use Rattle.uc_model.specs.Schedule.{point, point_count, thermal_unit, thermal_count, renewable_unit, renewable_count, renewable_minimum, renewable_maximum}
 use Rattle.uc_model.specs.StartCategory.{start_row, category_count}
+pub use Rattle.uc_model.specs.declared.limits.TheConstants.{MAX_PERIODS, MAX_UNITS, MAX_POINTS, MAX_START_ROWS, MAX_POWER, MAX_COST, MAX_TIME, COST_MAX}
 use Rattle.uc_model.specs.declared.instance.Thermal.{Thermal}
 use Rattle.uc_model.specs.declared.instance.Instance.{Instance}
-
-abbrev pub MAX_PERIODS : ℕ
-MAX_PERIODS = 168
-
-abbrev pub MAX_UNITS : ℕ
-MAX_UNITS = 4096
-
-abbrev pub MAX_POINTS : ℕ
-MAX_POINTS = 64
-
-abbrev pub MAX_START_ROWS : ℕ
-MAX_START_ROWS = 16
-
--- watts
-abbrev pub MAX_POWER : ℕ
-MAX_POWER = 10 ^ 13
-
--- micro-dollars
-abbrev pub MAX_COST : ℕ
-MAX_COST = 5 * 10 ^ 12
-
--- hours
-abbrev pub MAX_TIME : ℕ
-MAX_TIME = 10 ^ 6
-
--- the greatest size of a schedule's cost: a point cost and a start cost in each unit and period
-abbrev pub COST_MAX : ℕ
-COST_MAX = 6881280000000000000
 
 abbrev pub IsPower : ℤ → Type 0
 IsPower z = unsigned_abs z ≤ MAX_POWER

@@ -1,7 +1,7 @@
 -- How money and power are written. A whole number of micro-dollars, or of watts, stands as dollars, or as megawatts, with exactly
 -- six decimals: a minus where it is below nought, the whole part with no leading zero, a point and six digits. Nought is
 -- `0.000000`.
-use Rattle.std.specs.Prelude.{ℕ, ◌/◌, ◌%◌, ◌^◌, List, [], ◌∷◌, ◌++◌, ℤ, unsigned_abs}
+use Rattle.std.specs.Prelude.{ℕ, ◌/◌, ◌%◌, ◌^◌, List, [], ◌∷◌, ◌++◌, ℤ, unsigned_abs, codes}
 use Rattle.uc_model.specs.Decimal.{digit_byte, minus_text, whole_text}
 
 -- the digit of a number at a power of ten: `digit_at 0` is its last digit
@@ -14,7 +14,7 @@ six_digits n = digit_at 5 n ∷ digit_at 4 n ∷ digit_at 3 n ∷ digit_at 2 n �
 
 -- a number of millionths: the whole part, the point and the decimals
 unfoldable pub millionths_text : ℕ → List ℕ
-millionths_text n = whole_text (n / 1000000) ++ 46 ∷ six_digits (n % 1000000)
+millionths_text n = whole_text (n / 1000000) ++ (codes "." ++ six_digits (n % 1000000))
 
 -- the same of any sign
 unfoldable pub money_text : ℤ → List ℕ

@@ -1,11 +1,11 @@
 -- What a printed schedule stands for: the schedule whose weights lie on the ends of the hull segments
 -- that hold its outputs. It is in whole watts, so each cell's weights are whole over the width of its
 -- segment, and all of them over the product of the widths.
-use Rattle.std.specs.Prelude.{ℕ, zero, suc, ◌*◌, ◌/◌, Bool, false, ◌&&◌, ◌==◌, not, [], ℤ, pos, ◌+ℤ◌, ◌-ℤ◌, ◌*ℤ◌, unsigned_abs, slice_index_or, Option, Some, None, if◌then◌else◌}
+use Rattle.std.specs.Prelude.{ℕ, zero, suc, ◌*◌, ◌/◌, false, ◌==◌, [], ℤ, pos, ◌+ℤ◌, ◌-ℤ◌, ◌*ℤ◌, unsigned_abs, slice_index_or, Option, Some, None, if◌then◌else◌}
 use Rattle.std.specs.Ordering.{int_eq}
 use Rattle.uc_model.specs.Sums.{sum_below}
 use Rattle.uc_model.specs.StartCategory.{category_cost}
-use Rattle.uc_model.specs.Schedule.{Row, Schedule, thermal_unit, thermal_count, point_p}
+use Rattle.uc_model.specs.Schedule.{Schedule, thermal_unit, thermal_count, point_p}
 use Rattle.uc_model.specs.Hull.{Segment, segment_at, segment_width, hull_cost}
 use Rattle.uc_model.specs.declared.instance.Thermal.{Thermal}
 use Rattle.uc_model.specs.declared.instance.Instance.{Instance}

@@ -1,9 +1,9 @@
 -- Schedules: rational dispatch as whole numerators over one denominator q >= 1. Source: the variables
 -- of the reference model by Knueven, Ostrowski and Watson, with the piecewise production cost as
 -- weights on a unit's points.
-use Rattle.std.specs.Prelude.{ℕ, zero, suc, Bool, false, [], ℤ, pos, ◌+ℤ◌, ◌-ℤ◌, ◌*ℤ◌, length, slice_index_or}
-use Rattle.uc_model.specs.Sums.{sum_below}
-use Rattle.uc_model.specs.Commitment.{Commitment, initial_p}
+use Rattle.std.specs.Prelude.{ℕ, zero, suc, Bool, false, [], ℤ, pos, ◌-ℤ◌, ◌*ℤ◌, length, slice_index_or}
+use Rattle.uc_model.specs.Points.{point_of, output_of, weighted_total, weighted_output}
+use Rattle.uc_model.specs.Commitment.{initial_p}
 use Rattle.uc_model.specs.declared.instance.Thermal.{Thermal}
 use Rattle.uc_model.specs.declared.instance.Point.{Point}
 use Rattle.uc_model.specs.declared.instance.Instance.{Instance}
@@ -71,18 +71,18 @@ reserve_at instance t = slice_index_or instance.reserves t (pos 0)
 
 -- point l of a unit, from 0
 abbrev pub point : Thermal → ℕ → Point
-point unit l = slice_index_or unit.points l (record { mw = pos 0; cost = pos 0 })
+point unit = point_of unit.points
 
 abbrev pub point_count : Thermal → ℕ
 point_count unit = length unit.points
 
 -- point l's output above the first point's
 abbrev pub point_p : Thermal → ℕ → ℤ
-point_p unit l = (point unit l).mw -ℤ (point unit 0).mw
+point_p unit = output_of unit.points
 
 -- output above the minimum in period t, p(t), over q
 abbrev pub p_at : Thermal → Row → ℕ → ℤ
-p_at unit row t = sum_below (point_count unit) (λ l. point_p unit l *ℤ pos (row.weight t l))
+p_at unit row t = weighted_output unit.points (row.weight t)
 
 -- the same in the period before, p(t-1), over q; before the first one it is given
 abbrev pub p_before : ℕ → Thermal → Row → ℕ → ℤ
@@ -91,4 +91,4 @@ p_before q unit row (suc t) = p_at unit row t
 
 -- the sum of the weights in period t
 abbrev pub weight_sum : Thermal → Row → ℕ → ℤ
-weight_sum unit row t = sum_below (point_count unit) (λ l. pos (row.weight t l))
+weight_sum unit row t = weighted_total unit.points (row.weight t)

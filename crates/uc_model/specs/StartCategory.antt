@@ -2,7 +2,7 @@
 -- hottest to the coldest. Source: the start-up cost rows of the pglib-uc format and the constraints of
 -- the reference model by Knueven, Ostrowski and Watson on which category a start may use. That a
 -- category is barred near the initial time even after a later stop is this model's own choice.
-use Rattle.std.specs.Prelude.{ℕ, zero, suc, ◌-◌, max, Bool, true, false, not, ◌&&◌, ◌||◌, ◌==◌, nat_lt, nat_le, ℤ, pos, length, slice_index_or, Option, Some, None, if◌then◌else◌}
+use Rattle.std.specs.Prelude.{ℕ, zero, suc, ◌-◌, max, Bool, false, not, ◌&&◌, ◌||◌, ◌==◌, nat_lt, nat_le, ℤ, pos, length, slice_index_or, Option, Some, None, if◌then◌else◌}
 use Rattle.uc_model.specs.Sums.{any_below, least_below}
 use Rattle.uc_model.specs.Commitment.{Commitment, starts, stops}
 use Rattle.uc_model.specs.declared.instance.Thermal.{Thermal}

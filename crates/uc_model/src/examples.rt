@@ -12,8 +12,7 @@ ghost use Rattle.uc_model.specs.Examples.{mw, dollars, obeying, breaking, broken
 pub fn each_rule_is_told_apart()
     ensures obeying { broken_rules obeying ≡ [] }
     ensures breaking { (rule : Rule) → broken_rules (breaking rule) ≡ rule ∷ [] }
-{
-}
+{}
 
 /// Start categories by the stops and by the initial time off, and the least start cost by the last stop.
 pub fn start_categories_by_example()
@@ -28,8 +27,7 @@ pub fn start_categories_by_example()
     ensures with_stop { is_category_allowed uneven_unit two_stops 2 5 ≡ true }
     ensures first { is_category_allowed uneven_unit one_stop 1 5 ≡ true }
     ensures least { sigma uneven_unit (Some 4) 5 ≡ dollars 10 }
-{
-}
+{}
 
 /// A cap below 0, and the hull's value and segment where the points aren't convex or the value isn't whole.
 pub fn caps_and_hulls_by_example()
@@ -38,8 +36,7 @@ pub fn caps_and_hulls_by_example()
     ensures segment { segment_at bent_unit (mw 10) ≡ Some (record { left = 0; right = 2 }) }
     ensures rounded_up { hull_cost rising_unit (pos 1) ≡ pos 1 }
     ensures rounded_to_zero { hull_cost falling_unit (pos 2) ≡ pos 0 }
-{
-}
+{}
 
 /// Ramps hold in the hour of a stop too, and the shut-down limit counts in the hour before it.
 pub fn stops_by_example()
@@ -53,5 +50,4 @@ pub fn stops_by_example()
     ensures between_on_periods { all_below 2 (ramp_down_between_on_periods (breaking RampDown)) ≡ true }
     ensures in_stop_period { stop_cap_in_stop_period stopping 1 ≡ false }
     ensures before_stop { rule_at_period stopping StopCap 0 ≡ true }
-{
-}
+{}

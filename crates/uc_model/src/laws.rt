@@ -1,6 +1,7 @@
 //! Laws of the model, each the contract of a function with an empty body.
 
-ghost use Rattle.std.specs.Prelude.{◌≡◌, ℕ, ◌*◌, ◌<◌, ◌≤◌, pos, ◌≤ℤ◌, Bool, IsTrue, not, ◌&&◌, unsigned_abs};
+ghost use Rattle.std.specs.Prelude.{◌≡◌, ℕ, ◌*◌, ◌<◌, ◌≤◌, pos, ◌≤ℤ◌, ◌<ℤ◌, ℤ, Bool, IsTrue, not, ◌&&◌, unsigned_abs};
+ghost use Rattle.uc_model.specs.Division.{IsCeiling, quotient_up};
 ghost use Rattle.uc_model.specs.Commitment.{Commitment, state_before, starts, is_allowed, cap, KeepsMinimumTimes};
 ghost use Rattle.uc_model.specs.StartCategory.{is_category_allowed, category_cost, last_stop, sigma};
 ghost use Rattle.uc_model.specs.Schedule.{Schedule, thermal_unit, thermal_count};
@@ -22,8 +23,7 @@ pub fn starts_and_stops_follow_from_the_state()
     ensures stops { (initial : Bool) (on up down : Commitment) (periods time_up time_down : ℕ)
         → 1 ≤ time_up → 1 ≤ time_down → KeepsMinimumTimes initial on up down periods time_up time_down
         → (t : ℕ) → t < periods → down t ≡ (state_before initial on t && not (on t)) }
-{
-}
+{}
 
 /// A schedule that obeys has a cap of at least 0 in each period of each unit, so its commitments are
 /// allowed patterns.
@@ -34,19 +34,21 @@ pub fn obeying_commitments_are_allowed()
     ensures allowed { (instance : Instance) (q : ℕ) (x : Schedule) (g : ℕ) → IsLawfulInstance instance
         → Obeys instance q x → g < thermal_count instance
         → IsTrue (is_allowed instance.periods (thermal_unit instance g) (x.thermal g).on) }
-{
-}
+{}
 
 /// The cost of a schedule that obeys is at most `COST_MAX` micro-dollars in size.
 pub fn costs_fit()
     ensures { (instance : Instance) (q : ℕ) (x : Schedule) → IsLawfulInstance instance
         → Obeys instance q x → unsigned_abs (cost instance q x) ≤ q * COST_MAX }
-{
-}
+{}
 
 /// The least start cost by the last stop is never above the cost of a category that M6 allows at a start.
 pub fn least_start_costs_are_lower_bounds()
     ensures { (unit : Thermal) (on : Commitment) (s t : ℕ) → IsTrue (starts unit on t)
         → IsTrue (is_category_allowed unit on s t) → sigma unit (last_stop unit on t) t ≤ℤ category_cost unit s }
-{
-}
+{}
+
+/// A quotient rounded up, as the hull's value is, is the ceiling.
+pub fn quotients_up_are_ceilings()
+    ensures { (a b : ℤ) → pos 0 <ℤ b → IsCeiling a b (quotient_up a b) }
+{}

@@ -6,17 +6,30 @@
 
 pub mod division;
 pub mod examples;
+pub mod field;
 pub mod instance;
 pub mod laws;
+pub mod limits;
 pub mod list;
 pub mod memory;
 pub mod money;
+pub mod pattern;
+pub mod refusal;
 pub mod schedule;
+pub mod stuck;
+pub mod terms;
+pub mod texts;
 pub mod tolerance;
 
 pub use division::{ceil_div, floor_div};
+pub use field::Field;
 pub use instance::{Instance, Point, Renewable, StartRow, Thermal};
 pub use list::{List, Name};
 pub use memory::NoMemory;
 pub use money::{write_money, write_mw};
-pub use schedule::{Cell, Pattern, Printed};
+pub use pattern::Pattern;
+pub use refusal::Refusal;
+pub use schedule::{Cell, Printed};
+pub use stuck::{Stuck, Why};
+pub use terms::Terms;
+pub use texts::{money_digits, signed_digits, whole_digits};

@@ -5,11 +5,11 @@ ghost use Rattle.uc_model.specs.Money.{millionths_text, money_text, six_digits};
 
 use itoa::Buffer;
 
-/// A dollar in micro-dollars, and a megawatt in watts.
+// A dollar in micro-dollars, and a megawatt in watts.
 const MILLION: u32 = 1_000_000;
 
-/// Writes `n` micro-dollars as dollars into the front of the buffer, and returns the length of the text. What the buffer holds past
-/// it is free.
+/// Writes `n` micro-dollars as dollars with six decimals into the front of the buffer, and returns
+/// the length of the text, at most 41. What the buffer holds past the text is free.
 pub fn write_money(n: i128, out: &mut [u8; 48]) -> usize
     ensures length { result ≡ length (money_text n) }
     ensures text { take result out.new ≡ money_text n }
@@ -19,8 +19,8 @@ pub fn write_money(n: i128, out: &mut [u8; 48]) -> usize
     write_millionths(n.unsigned_abs(), out, start)
 }
 
-/// Writes `n` watts as megawatts into the front of the buffer, and returns the length of the text. What the buffer holds past it is
-/// free.
+/// Writes `n` watts as megawatts with six decimals into the front of the buffer, and returns the
+/// length of the text, at most 21. What the buffer holds past the text is free.
 pub fn write_mw(n: i64, out: &mut [u8; 48]) -> usize
     ensures length { result ≡ length (money_text n) }
     ensures text { take result out.new ≡ money_text n }
@@ -71,4 +71,43 @@ fn decimals(n: u32) -> [u8; 6]
         digit(10),
         digit(1),
     ]
+}
+
+#[cfg(test)]
+mod tests {
+    use super::*;
+
+    // The texts of both ends, and of numbers that a lost zero or a lost minus would change.
+    #[test]
+    fn writes_money(rt: HostRuntime) {
+        let cases: [(i128, &[u8]); 8] = [
+            (0, b"0.000000"),
+            (300_000_000, b"300.000000"),
+            (1, b"0.000001"),
+            (-1, b"-0.000001"),
+            (-1_500_000, b"-1.500000"),
+            (999_999, b"0.999999"),
+            (i128::MIN, b"-170141183460469231731687303715884.105728"),
+            (i128::MAX, b"170141183460469231731687303715884.105727"),
+        ];
+        for (number, text) in cases {
+            let mut out = [b'#'; 48];
+            let length = write_money(number, &mut out);
+            assert_eq!(rt; &out[..length], text);
+        }
+    }
+
+    #[test]
+    fn writes_power(rt: HostRuntime) {
+        let cases: [(i64, &[u8]); 3] = [
+            (30_000_000, b"30.000000"),
+            (i64::MIN, b"-9223372036854.775808"),
+            (i64::MAX, b"9223372036854.775807"),
+        ];
+        for (number, text) in cases {
+            let mut out = [b'#'; 48];
+            let length = write_mw(number, &mut out);
+            assert_eq!(rt; &out[..length], text);
+        }
+    }
 }

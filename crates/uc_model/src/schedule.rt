@@ -1,14 +1,6 @@
-//! Commitment patterns and printed schedules.
+//! Printed schedules.
 
 use crate::list::List;
-
-/// The commitment of one unit over up to 168 periods, without heap: period t, from 0, is bit t of
-/// `low`, or bit t - 128 of `high`.
-#[derive(Clone, Copy, Debug)]
-pub struct Pattern {
-    pub low: u128,
-    pub high: u64,
-}
 
 /// A thermal unit's hour in a printed schedule: whether it is on, output above its minimum and
 /// reserve in watts, and the category of the start in this hour (from 1; 0 is no start).

@@ -1,0 +1,10 @@
+//! What a search found: its tree of commitments, the log of its evaluations and its schedule.
+//!
+//! The tree has one leaf for now.
+#![tactic(auto)]
+
+pub mod found;
+pub mod tree;
+
+pub use found::{Entry, Found, Layout, Outcome};
+pub use tree::{Leaf, Tree};

@@ -1,0 +1,13 @@
+pub mod Lagrange
+pub mod Multipliers
+pub mod PricedRules
+pub mod Agreement
+pub mod Bound
+pub mod CellBounds
+pub mod Terms
+pub mod Locality
+pub mod Patterns
+pub mod UnitValues
+pub mod NodeValues
+pub mod Covers
+pub mod Computed

@@ -1,0 +1,166 @@
+-- What the rules give at their prices, for a schedule that obeys: each unit's periods are `Priced`, and the whole is
+-- `Balanced`.
+use Rattle.std.proofs.Common.{◌≡◌, ℕ, suc, ◌<◌, true, false, not, ◌&&◌, cond, sym, ap, ◌∙◌, arith, ⊎_elim, ℤ, pos, ◌+ℤ◌, ◌-ℤ◌, ◌*ℤ◌, neg_ℤ, ◌≤ℤ◌}
+use Rattle.std.specs.Prelude.{IsTrue, nat_lt, int_lt, int_le}
+use Rattle.std.specs.Int.{int_min, int_max}
+use Rattle.std.proofs.lemmas.Int.{ints}
+use Rattle.std.proofs.lemmas.Bool.{and_parts, or_cases, cases_Bool, cond_both, cond-true, cond-false, not_from_true, true≢false, eqb-true}
+use Rattle.uc_model.specs.Sums.{bit}
+use Rattle.uc_model.specs.Commitment.{starts, cap, start_cap, stop_cap}
+use Rattle.uc_model.specs.StartCategory.{sigma, last_stop, category_cost, is_category_allowed, category_holds_at}
+use Rattle.uc_model.specs.Schedule.{Row, Schedule, thermal_unit, thermal_count, point, point_count, p_at, weight_sum, renewable_minimum, renewable_maximum}
+use Rattle.uc_model.specs.Cost.{production_cost, cell_cost}
+use Rattle.uc_model.specs.Rules.{Category, Production, StartCap, StopCap, Obeys, stop_cap_at}
+use Rattle.uc_model.specs.declared.instance.Thermal.{Thermal}
+use Rattle.uc_model.specs.declared.instance.Instance.{Instance}
+use Rattle.uc_model.proofs.Ring.{linear, spread, scale-le-scale, mul-le-mul_left, mul-le-mul_turned, mul_left_comm, mul-one, mul-zero, mul-neg, pos_nonneg}
+use Rattle.uc_model.proofs.Sums.{sum_below-zero, term-le-sum_below}
+use Rattle.uc_model.proofs.Tests.{int_le-true}
+use Rattle.uc_model.proofs.Obeyed.{rule_at, Produces, production_parts}
+use Rattle.uc_model.proofs.StartCosts.{sigma-le-allowed}
+use Rattle.dual_model.specs.Prices.{pi_at}
+use Rattle.dual_model.specs.Term.{IsCellBound, output_price, reserve_price}
+use Rattle.dual_model.specs.UnitValue.{period_value}
+use Rattle.dual_model.specs.NodeValue.{renewable_value}
+use Rattle.dual_model.specs.declared.table.Table.{Table}
+
+-- ---- start costs
+-- K times the least start cost of a start is at most that of its category, and a cell without a start has none
+start_priced : (k : ℤ) (q : ℕ) (unit : Thermal) (row : Row) (t : ℕ) → pos 0 ≤ℤ k
+    → IsTrue (category_holds_at unit row.on row.category t)
+    → (pos q *ℤ cond (starts unit row.on t) (k *ℤ sigma unit (last_stop unit row.on t) t) (pos 0))
+    ≤ℤ (k *ℤ (pos q *ℤ category_cost unit (row.category t)))
+start_priced k q unit row t sign holds =
+    cond_both (starts unit row.on t) (k *ℤ sigma unit (last_stop unit row.on t) t) (pos 0)
+    (λ s. (pos q *ℤ s) ≤ℤ (k *ℤ (pos q *ℤ category_cost unit (row.category t))))
+    (λ start.
+    let allowed : IsTrue (is_category_allowed unit row.on (row.category t) t) = sym (cond-true _ _ _ start) ∙ holds in
+    let below = scale-le-scale q _ _ (sigma-le-allowed unit row.on (row.category t) t start allowed) in
+    let times = mul-le-mul_left k _ _ sign below in
+    let order = mul_left_comm (pos q) k (sigma unit (last_stop unit row.on t) t) in
+    omega (arith, linear))
+    (λ none.
+    let zero_category = eqb-true _ _ (sym (cond-false _ _ _ none) ∙ holds) in
+    let free : k *ℤ (pos q *ℤ category_cost unit (row.category t)) ≡ pos 0 =
+    ap (λ c. k *ℤ (pos q *ℤ category_cost unit c)) zero_category ∙ ap (λ z. k *ℤ z) (mul-zero (pos q)) ∙ mul-zero k in
+    let nothing = mul-zero (pos q) in
+    omega (arith, linear))
+
+-- ---- an on cell
+-- output and reserve stay within the cap
+within_cap : (periods q : ℕ) (unit : Thermal) (row : Row) (t : ℕ)
+    → (p_at unit row t +ℤ row.reserve t) ≤ℤ (pos q *ℤ start_cap unit row.on t)
+    → IsTrue (stop_cap_at periods q unit row t)
+    → (p_at unit row t +ℤ row.reserve t) ≤ℤ (pos q *ℤ cap periods unit row.on t)
+within_cap periods q unit row t started stopped =
+    cond_both (nat_lt (suc t) periods) _ _ (λ c. (p_at unit row t +ℤ row.reserve t) ≤ℤ (pos q *ℤ c))
+    (λ before.
+    ⊎_elim
+    (λ (last : IsTrue (not (nat_lt (suc t) periods))). absurd (true≢false (sym last ∙ not_from_true _ before)))
+    (λ below. either (start_cap unit row.on t) (stop_cap unit row.on t) started (int_le-true _ _ below))
+    (or_cases _ _ stopped))
+    (λ last. started)
+  where
+    either : (a b : ℤ) → (p_at unit row t +ℤ row.reserve t) ≤ℤ (pos q *ℤ a)
+        → (p_at unit row t +ℤ row.reserve t) ≤ℤ (pos q *ℤ b)
+        → (p_at unit row t +ℤ row.reserve t) ≤ℤ (pos q *ℤ int_min a b)
+    either a b h k = cond_both (int_lt b a) b a (λ c. (p_at unit row t +ℤ row.reserve t) ≤ℤ (pos q *ℤ c)) (λ e. k)
+        (λ e. h)
+
+on_parts : (q term pi pmin start k made category a p b r value u : ℤ) → value ≡ term -ℤ pi *ℤ pmin → u ≡ pos 1
+    → (q *ℤ term) ≤ℤ (k *ℤ made +ℤ a *ℤ p +ℤ b *ℤ r) → (q *ℤ start) ≤ℤ (k *ℤ (q *ℤ category))
+    → (q *ℤ (value +ℤ start)) ≤ℤ (k *ℤ (made +ℤ q *ℤ category) +ℤ a *ℤ p +ℤ b *ℤ r -ℤ pi *ℤ (q *ℤ pmin *ℤ u))
+on_parts q term pi pmin start k made category a p b r value u is_value is_on bound begun =
+    let order = mul_left_comm q pi pmin in
+    rw (is_value, is_on, mul-one (q *ℤ pmin)) (simp spread (omega (arith, linear)))
+
+off_parts : (q pmin start pi k made category a p b r value u : ℤ) → value ≡ pos 0 → u ≡ pos 0 → made ≡ pos 0
+    → p ≡ pos 0 → r ≡ pos 0
+    → (q *ℤ start) ≤ℤ (k *ℤ (q *ℤ category))
+    → (q *ℤ (value +ℤ start)) ≤ℤ (k *ℤ (made +ℤ q *ℤ category) +ℤ a *ℤ p +ℤ b *ℤ r -ℤ pi *ℤ (q *ℤ pmin *ℤ u))
+off_parts q pmin start pi k made category a p b r value u is_value is_off none p_none r_none begun =
+    rw (is_value, is_off, none, p_none, r_none, mul-zero (q *ℤ pmin), mul-zero pi, mul-zero a, mul-zero b)
+    (simp (spread, mul-zero) (omega (arith, linear)))
+
+-- ---- an off cell has no weights, so it costs nothing
+made_off : (q : ℕ) (unit : Thermal) (row : Row) (t : ℕ) → weight_sum unit row t ≡ pos 0
+    → production_cost unit row t ≡ pos 0
+made_off q unit row t none =
+    sum_below-zero (point_count unit) (λ l. (point unit l).cost *ℤ pos (row.weight t l))
+    (λ l h. ap (λ w. (point unit l).cost *ℤ w) (weight_none l h) ∙ mul-zero (point unit l).cost)
+  where
+    weight_none : (l : ℕ) → l < point_count unit → pos (row.weight t l) ≡ pos 0
+    weight_none l h =
+        let most = term-le-sum_below (point_count unit) (λ k. pos (row.weight t k)) l h
+        (λ k m. pos_nonneg (row.weight t k)) in
+        let least = pos_nonneg (row.weight t l) in
+        omega (arith, linear)
+
+-- q times the value of a period is at most K times its cost and the prices of its output and reserve
+pub period_priced : (instance : Instance) (q : ℕ) (x : Schedule) (table : Table) (g t : ℕ) (term : ℕ → ℤ)
+    → Obeys instance q x
+    → g < thermal_count instance → t < instance.periods → pos 0 ≤ℤ table.k
+    → (IsTrue ((x.thermal g).on t)
+    → IsCellBound (thermal_unit instance g).points table.k (output_price table g t) (reserve_price table g t)
+    (cap instance.periods (thermal_unit instance g) (x.thermal g).on t) (term t))
+    → (pos q *ℤ period_value table (thermal_unit instance g) (x.thermal g).on term t)
+    ≤ℤ (table.k *ℤ cell_cost q (thermal_unit instance g) (x.thermal g) t
+    +ℤ output_price table g t *ℤ p_at (thermal_unit instance g) (x.thermal g) t
+    +ℤ reserve_price table g t *ℤ (x.thermal g).reserve t
+    -ℤ pi_at table t *ℤ (pos q *ℤ (thermal_unit instance g).pmin *ℤ bit ((x.thermal g).on t)))
+period_priced instance q x table g t term obeys hg ht sign bound =
+    let unit = thermal_unit instance g in
+    let row = x.thermal g in
+    let made : Produces q unit row t = production_parts q unit row t
+    (rule_at instance q x obeys Production g t hg ht) in
+    let begun = start_priced table.k q unit row t sign (rule_at instance q x obeys Category g t hg ht) in
+    ⊎_elim
+    (λ (on : IsTrue (row.on t)).
+    let is_on : bit (row.on t) ≡ pos 1 = ap bit on in
+    let whole : weight_sum unit row t ≡ pos q = made.total ∙ ap (λ u. pos q *ℤ u) is_on ∙ mul-one (pos q) in
+    let started = int_le-true _ _ (rule_at instance q x obeys StartCap g t hg ht) in
+    let fits = within_cap instance.periods q unit row t started (rule_at instance q x obeys StopCap g t hg ht) in
+    on_parts (pos q) (term t) (pi_at table t) unit.pmin _ table.k (production_cost unit row t)
+    (category_cost unit (row.category t))
+    (output_price table g t) (p_at unit row t) (reserve_price table g t) (row.reserve t) _ _
+    (cond-true (row.on t) _ _ on) is_on ((bound on).below q (row.weight t) (row.reserve t) whole made.reserve fits)
+    begun)
+    (λ (off : row.on t ≡ false).
+    let is_off : bit (row.on t) ≡ pos 0 = ap bit off in
+    let none : weight_sum unit row t ≡ pos 0 = made.total ∙ ap (λ u. pos q *ℤ u) is_off ∙ mul-zero (pos q) in
+    let idle = made.idle off in
+    off_parts (pos q) unit.pmin _ (pi_at table t) table.k (production_cost unit row t)
+    (category_cost unit (row.category t))
+    (output_price table g t) (p_at unit row t) (reserve_price table g t) (row.reserve t) _ _
+    (cond-false (row.on t) _ _ off) is_off (made_off q unit row t none) idle.0 idle.1 begun)
+    (cases_Bool (row.on t))
+
+-- ---- a renewable cell
+not_positive : (a : ℤ) → int_lt (pos 0) a ≡ false → a ≤ℤ pos 0
+not_positive a h = grind (arith, ints)
+
+positive : (a : ℤ) → int_lt (pos 0) a ≡ true → pos 0 ≤ℤ a
+positive a h = grind (arith, ints)
+
+renewable_bounds : (q pi low high output : ℤ) → (q *ℤ low) ≤ℤ output → output ≤ℤ (q *ℤ high)
+    → (q *ℤ cond (int_lt (pos 0) pi) (neg_ℤ (pi *ℤ high)) (neg_ℤ (pi *ℤ low))) ≤ℤ neg_ℤ (pi *ℤ output)
+renewable_bounds q pi low high output above below =
+    cond_both (int_lt (pos 0) pi) (neg_ℤ (pi *ℤ high)) (neg_ℤ (pi *ℤ low)) (λ v. (q *ℤ v) ≤ℤ neg_ℤ (pi *ℤ output))
+    (λ up.
+    let most = mul-le-mul_left pi _ _ (positive pi up) below in
+    let order = mul_left_comm pi q high in
+    let turned = mul-neg q (pi *ℤ high) in
+    omega (arith, linear))
+    (λ down.
+    let least = mul-le-mul_turned pi _ _ (not_positive pi down) above in
+    let order = mul_left_comm pi q low in
+    let turned = mul-neg q (pi *ℤ low) in
+    omega (arith, linear))
+
+pub renewable_priced : (instance : Instance) (q : ℕ) (x : Schedule) (table : Table) (w t : ℕ) → Obeys instance q x
+    → IsTrue (int_le (pos q *ℤ int_max (renewable_minimum instance w t) (pos 0)) (x.output w t)
+    && int_le (x.output w t) (pos q *ℤ renewable_maximum instance w t))
+    → (pos q *ℤ renewable_value instance table w t) ≤ℤ neg_ℤ (pi_at table t *ℤ x.output w t)
+renewable_priced instance q x table w t obeys holds =
+    let parts = and_parts _ _ holds in
+    renewable_bounds (pos q) (pi_at table t) _ _ (x.output w t) (int_le-true _ _ parts.0) (int_le-true _ _ parts.1)

@@ -1,0 +1,46 @@
+-- The value V of a node at a table: the Lagrangian bound. Source: the Lagrangian dual function of the
+-- reference model by Knueven, Ostrowski and Watson, with demand (M14), reserve (M15) and the ramps (M11,
+-- M12) priced; every number is K times micro-dollars.
+use Rattle.std.specs.Prelude.{◌≡◌, ℕ, zero, ◌<◌, ℤ, pos, ◌+ℤ◌, ◌-ℤ◌, ◌*ℤ◌, neg_ℤ, int_lt, if◌then◌else◌}
+use Rattle.std.specs.Int.{int_max}
+use Rattle.uc_model.specs.Sums.{sum_below}
+use Rattle.uc_model.specs.Commitment.{initial_p}
+use Rattle.uc_model.specs.Schedule.{thermal_unit, thermal_count, renewable_count, renewable_minimum, renewable_maximum, demand_at, reserve_at}
+use Rattle.uc_model.specs.declared.instance.Thermal.{Thermal}
+use Rattle.uc_model.specs.declared.instance.Instance.{Instance}
+use Rattle.dual_model.specs.Prices.{pi_at, mu_at, up_at, down_at}
+use Rattle.dual_model.specs.UnitValue.{IsUnitValue}
+use Rattle.dual_model.specs.declared.node.Node.{Node}
+use Rattle.dual_model.specs.declared.table.Table.{Table}
+
+-- pi(t)*D(t) + mu(t)*R(t) over the periods
+abbrev pub system_value : Instance → Table → ℤ
+system_value instance table =
+    sum_below instance.periods (λ t. pi_at table t *ℤ demand_at instance t +ℤ mu_at table t *ℤ reserve_at instance t)
+
+-- unit g's constant: -up(t)*RU - down(t)*RD over the periods, and (down(1) - up(1))*p(0)
+abbrev pub unit_constant : ℕ → Table → Thermal → ℕ → ℤ
+unit_constant periods table unit g =
+    sum_below periods (λ t. neg_ℤ (up_at table g t *ℤ unit.ru) -ℤ down_at table g t *ℤ unit.rd)
+    +ℤ (down_at table g zero -ℤ up_at table g zero) *ℤ initial_p unit
+
+abbrev pub constant_at : Instance → Table → ℕ → ℤ
+constant_at instance table g = unit_constant instance.periods table (thermal_unit instance g) g
+
+-- what a renewable cell adds: minus pi(t) times the greatest output where pi(t) > 0, else times the least one
+abbrev pub renewable_value : Instance → Table → ℕ → ℕ → ℤ
+renewable_value instance table w t =
+    if int_lt (pos 0) (pi_at table t) then neg_ℤ (pi_at table t *ℤ renewable_maximum instance w t)
+    else neg_ℤ (pi_at table t *ℤ int_max (renewable_minimum instance w t) (pos 0))
+
+abbrev pub renewables_value : Instance → Table → ℤ
+renewables_value instance table =
+    sum_below (renewable_count instance) (λ w. sum_below instance.periods (renewable_value instance table w))
+
+-- v is the value of the node at the table; there is none where some unit has no pattern there
+pub record IsNodeValue (instance : Instance) (node : Node) (table : Table) (v : ℤ) : Type 0 where
+  pub unit_value : ℕ → ℤ
+  pub units : (g : ℕ) → g < thermal_count instance → IsUnitValue instance node table g (unit_value g)
+  pub total : v ≡ (system_value instance table
+      +ℤ sum_below (thermal_count instance) (λ g. unit_value g +ℤ constant_at instance table g)
+      +ℤ renewables_value instance table)

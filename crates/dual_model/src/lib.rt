@@ -1,0 +1,15 @@
+//! The Lagrangian bound on a unit commitment problem: price tables, nodes of the branch tree, the value of
+//! a node at a table, and the laws that make it a bound.
+//!
+//! The model's coupling rules (ramps, demand, reserve) are priced, and each thermal unit is then a problem
+//! of its own. The definitions stand in `specs/`, and the laws are the contracts of the module `laws`.
+#![tactic(auto)]
+
+pub mod examples;
+pub mod laws;
+pub mod limits;
+pub mod node;
+pub mod table;
+
+pub use node::{Fix, Fixing, Node};
+pub use table::{RampRow, Table};

@@ -1,0 +1,12 @@
+pub mod Counts
+pub mod Known
+pub mod Slots
+pub mod Sinks
+pub mod Devices
+pub mod Reading
+pub mod Memory
+pub mod Schedule
+pub mod Faulty
+pub mod System
+pub mod Pace
+pub mod SlurpFault

@@ -1,0 +1,53 @@
+//! The outside of a run: the files that it reads and writes, its standard output and error, and the
+//! gate that its workers pass.
+//!
+//! A run reaches all of these through the traits [`Files`], [`Sink`] and [`Gate`] alone, so what it
+//! read and wrote, and where a fault came from, is said in terms of their states. There are files
+//! and sinks in memory without faults, in memory with a list of the calls that fail, and of the
+//! system. The last are the trusted edge: they tell no content.
+#![tactic(auto)]
+
+#[cfg(test)]
+mod caller;
+mod count;
+mod device;
+mod devices;
+mod fault;
+mod faulty_file;
+mod faulty_sink;
+mod files;
+mod gate;
+mod memory_file;
+mod memory_sink;
+mod pace;
+mod reading;
+mod schedule;
+mod sink;
+mod sink_writer;
+mod slot;
+mod slot_writer;
+mod stream_sink;
+mod system;
+#[cfg(test)]
+mod tests;
+mod writer;
+
+pub use device::Device;
+pub use devices::Devices;
+pub use fault::{Failed, NoMemory};
+pub use faulty_file::FaultyFile;
+pub use faulty_sink::FaultySink;
+pub use files::Files;
+pub use gate::{Gate, OpenGate};
+pub use memory_file::MemoryFile;
+pub use memory_sink::MemorySink;
+pub use pace::Pace;
+pub use reading::{SlurpFault, slurp};
+pub use schedule::{Call, CallCounts, FailingCall, Schedule};
+pub use sink::Sink;
+pub use sink_writer::SinkWriter;
+pub use slot::{Slot, Stage};
+pub use slot_writer::SlotWriter;
+pub use stream_sink::StreamSink;
+pub use system::{Access, SystemFile, SystemFiles, system_files};
+pub use writer::{Writer, write_all, write_pieces};

@@ -1,0 +1,26 @@
+//! The limits on an instance's numbers.
+
+/// The most periods.
+pub const MAX_PERIODS: u32 = 168;
+
+/// The most thermal units, and the most renewable ones.
+pub const MAX_UNITS: usize = 4096;
+
+/// The most points of a unit's production cost.
+pub const MAX_POINTS: usize = 64;
+
+/// The most start categories of a unit.
+pub const MAX_START_ROWS: usize = 16;
+
+/// The greatest size of a power, in watts.
+pub const MAX_POWER: u64 = 10_000_000_000_000;
+
+/// The greatest size of the cost of an hour or of a start, in micro-dollars.
+pub const MAX_COST: u64 = 5_000_000_000_000;
+
+/// The greatest time or lag, in hours.
+pub const MAX_TIME: u32 = 1_000_000;
+
+/// The greatest size of a schedule's cost, in micro-dollars: that of an hour and a start in each period of
+/// each unit. It fits an `i64`.
+pub const COST_MAX: u64 = 6_881_280_000_000_000_000;
