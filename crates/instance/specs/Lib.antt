@@ -6,3 +6,4 @@ pub mod Rounded
 pub mod FirstFault
 pub mod Answer
 pub mod InstanceOf
+pub mod Bytes

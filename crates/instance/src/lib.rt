@@ -1,10 +1,11 @@
-//! The instance that a JSON value in the pglib-uc format stands for.
+//! The instance that a file in the pglib-uc format stands for.
 #![tactic(auto)]
 
 mod arrays;
 mod fault;
 mod field;
 mod fields;
+mod file;
 mod laws;
 mod numbers;
 mod object;
@@ -20,6 +21,7 @@ mod units;
 
 pub use fault::InstanceFault;
 pub use field::Field;
+pub use file::{ReadFault, read_instance};
 pub use laws::{a_value_has_an_instance_or_a_fault, instances_of_values_are_lawful};
 pub use read::from_json;
 

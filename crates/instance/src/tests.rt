@@ -2,13 +2,14 @@
 
 mod kazarlis;
 
-use crate::{Field, InstanceFault, from_json};
+use crate::{Field, InstanceFault, ReadFault, from_json, read_instance};
 use std::alloc::Global;
 use std::test::Fail;
 use uc_model::{Instance, Point};
 
 /// A system of one period with a thermal unit and a renewable one.
-const SYSTEM: &str = r#"{"time_periods":1,"demand":[30],"reserves":[5],"thermal_generators":{"g1":{"must_run":0,"power_output_minimum":10,"power_output_maximum":50,"ramp_up_limit":40,"ramp_down_limit":40,"ramp_startup_limit":50,"ramp_shutdown_limit":50,"time_up_minimum":1,"time_down_minimum":1,"power_output_t0":20,"unit_on_t0":1,"time_up_t0":1,"time_down_t0":0,"startup":[{"lag":1,"cost":0}],"piecewise_production":[{"mw":10,"cost":100},{"mw":50,"cost":500}]}},"renewable_generators":{"w1":{"power_output_minimum":[0],"power_output_maximum":[5]}}}"#;
+const SYSTEM: &str =
+    r#"{"time_periods":1,"demand":[30],"reserves":[5],"thermal_generators":{"g1":{"must_run":0,"power_output_minimum":10,"power_output_maximum":50,"ramp_up_limit":40,"ramp_down_limit":40,"ramp_startup_limit":50,"ramp_shutdown_limit":50,"time_up_minimum":1,"time_down_minimum":1,"power_output_t0":20,"unit_on_t0":1,"time_up_t0":1,"time_down_t0":0,"startup":[{"lag":1,"cost":0}],"piecewise_production":[{"mw":10,"cost":100},{"mw":50,"cost":500}]}},"renewable_generators":{"w1":{"power_output_minimum":[0],"power_output_maximum":[5]}}}"#;
 
 /// A part of the system with what stands in its place, and the code, kind of unit, unit, field and entry
 /// of the refusal.
@@ -19,55 +20,279 @@ const MISSING: [Case; 7] = [
     (r#""reserves":[5],"#, "", 1, 0, "", Field::Reserves, 0),
     (r#""must_run":0,"#, "", 1, 1, "g1", Field::MustRun, 0),
     (r#""lag":1,"#, "", 1, 1, "g1", Field::StartupLag, 1),
-    (r#""mw":50,"#, "", 1, 1, "g1", Field::PiecewiseProductionMw, 2),
-    (r#","cost":500"#, "", 1, 1, "g1", Field::PiecewiseProductionCost, 2),
-    (r#""power_output_minimum":[0],"#, "", 1, 2, "w1", Field::PowerOutputMinimum, 0),
+    (
+        r#""mw":50,"#,
+        "",
+        1,
+        1,
+        "g1",
+        Field::PiecewiseProductionMw,
+        2,
+    ),
+    (
+        r#","cost":500"#,
+        "",
+        1,
+        1,
+        "g1",
+        Field::PiecewiseProductionCost,
+        2,
+    ),
+    (
+        r#""power_output_minimum":[0],"#,
+        "",
+        1,
+        2,
+        "w1",
+        Field::PowerOutputMinimum,
+        0,
+    ),
 ];
 
 const OTHER_KIND: [Case; 9] = [
-    (r#""demand":[30]"#, r#""demand":30"#, 2, 0, "", Field::Demand, 0),
+    (
+        r#""demand":[30]"#,
+        r#""demand":30"#,
+        2,
+        0,
+        "",
+        Field::Demand,
+        0,
+    ),
     ("[30]", r#"["30"]"#, 2, 0, "", Field::Demand, 1),
-    (r#"{"g1""#, r#"null,"x":{"g1""#, 2, 0, "", Field::ThermalGenerators, 0),
+    (
+        r#"{"g1""#,
+        r#"null,"x":{"g1""#,
+        2,
+        0,
+        "",
+        Field::ThermalGenerators,
+        0,
+    ),
     (r#"{"g1""#, r#"{"g0":7,"g1""#, 2, 1, "g0", Field::NoField, 0),
-    (r#"{"w1""#, r#"{"w0":[],"w1""#, 2, 2, "w0", Field::NoField, 0),
-    (r#""startup":"#, r#""startup":{},"x":"#, 2, 1, "g1", Field::Startup, 0),
-    (r#"{"lag":1,"cost":0}"#, "[1]", 2, 1, "g1", Field::Startup, 1),
-    (r#"{"mw":50,"cost":500}"#, "null", 2, 1, "g1", Field::PiecewiseProduction, 2),
+    (
+        r#"{"w1""#,
+        r#"{"w0":[],"w1""#,
+        2,
+        2,
+        "w0",
+        Field::NoField,
+        0,
+    ),
+    (
+        r#""startup":"#,
+        r#""startup":{},"x":"#,
+        2,
+        1,
+        "g1",
+        Field::Startup,
+        0,
+    ),
+    (
+        r#"{"lag":1,"cost":0}"#,
+        "[1]",
+        2,
+        1,
+        "g1",
+        Field::Startup,
+        1,
+    ),
+    (
+        r#"{"mw":50,"cost":500}"#,
+        "null",
+        2,
+        1,
+        "g1",
+        Field::PiecewiseProduction,
+        2,
+    ),
     ("[0]", "[false]", 2, 2, "w1", Field::PowerOutputMinimum, 1),
 ];
 
 const NUMBERS: [Case; 17] = [
-    (r#""time_periods":1"#, r#""time_periods":1.5"#, 3, 0, "", Field::TimePeriods, 0),
-    (r#""must_run":0"#, r#""must_run":0.5"#, 3, 1, "g1", Field::MustRun, 0),
-    (r#""lag":1"#, r#""lag":2000000.5"#, 3, 1, "g1", Field::StartupLag, 1),
+    (
+        r#""time_periods":1"#,
+        r#""time_periods":1.5"#,
+        3,
+        0,
+        "",
+        Field::TimePeriods,
+        0,
+    ),
+    (
+        r#""must_run":0"#,
+        r#""must_run":0.5"#,
+        3,
+        1,
+        "g1",
+        Field::MustRun,
+        0,
+    ),
+    (
+        r#""lag":1"#,
+        r#""lag":2000000.5"#,
+        3,
+        1,
+        "g1",
+        Field::StartupLag,
+        1,
+    ),
     ("[30]", "[1e99999999999]", 4, 0, "", Field::Demand, 1),
-    (r#""power_output_maximum":50"#, r#""power_output_maximum":10000000.000001"#, 4, 1, "g1", Field::PowerOutputMaximum, 0),
-    (r#""cost":100"#, r#""cost":5000000.000001"#, 4, 1, "g1", Field::PiecewiseProductionCost, 1),
-    (r#""time_up_t0":1"#, r#""time_up_t0":1000001"#, 4, 1, "g1", Field::TimeUpT0, 0),
-    (r#""lag":1"#, r#""lag":-1"#, 4, 1, "g1", Field::StartupLag, 1),
+    (
+        r#""power_output_maximum":50"#,
+        r#""power_output_maximum":10000000.000001"#,
+        4,
+        1,
+        "g1",
+        Field::PowerOutputMaximum,
+        0,
+    ),
+    (
+        r#""cost":100"#,
+        r#""cost":5000000.000001"#,
+        4,
+        1,
+        "g1",
+        Field::PiecewiseProductionCost,
+        1,
+    ),
+    (
+        r#""time_up_t0":1"#,
+        r#""time_up_t0":1000001"#,
+        4,
+        1,
+        "g1",
+        Field::TimeUpT0,
+        0,
+    ),
+    (
+        r#""lag":1"#,
+        r#""lag":-1"#,
+        4,
+        1,
+        "g1",
+        Field::StartupLag,
+        1,
+    ),
     ("[5]}", "[1e13]}", 4, 2, "w1", Field::PowerOutputMaximum, 1),
-    (r#""time_periods":1"#, r#""time_periods":0"#, 5, 0, "", Field::TimePeriods, 0),
-    (r#""time_periods":1"#, r#""time_periods":-1"#, 5, 0, "", Field::TimePeriods, 0),
-    (r#""unit_on_t0":1"#, r#""unit_on_t0":2"#, 5, 1, "g1", Field::UnitOnT0, 0),
-    (r#""power_output_maximum":50"#, r#""power_output_maximum":9"#, 5, 1, "g1", Field::PowerOutputMaximum, 0),
-    (r#""ramp_up_limit":40"#, r#""ramp_up_limit":-1"#, 5, 1, "g1", Field::RampUpLimit, 0),
-    (r#""mw":50"#, r#""mw":9"#, 5, 1, "g1", Field::PiecewiseProductionMw, 2),
+    (
+        r#""time_periods":1"#,
+        r#""time_periods":0"#,
+        5,
+        0,
+        "",
+        Field::TimePeriods,
+        0,
+    ),
+    (
+        r#""time_periods":1"#,
+        r#""time_periods":-1"#,
+        5,
+        0,
+        "",
+        Field::TimePeriods,
+        0,
+    ),
+    (
+        r#""unit_on_t0":1"#,
+        r#""unit_on_t0":2"#,
+        5,
+        1,
+        "g1",
+        Field::UnitOnT0,
+        0,
+    ),
+    (
+        r#""power_output_maximum":50"#,
+        r#""power_output_maximum":9"#,
+        5,
+        1,
+        "g1",
+        Field::PowerOutputMaximum,
+        0,
+    ),
+    (
+        r#""ramp_up_limit":40"#,
+        r#""ramp_up_limit":-1"#,
+        5,
+        1,
+        "g1",
+        Field::RampUpLimit,
+        0,
+    ),
+    (
+        r#""mw":50"#,
+        r#""mw":9"#,
+        5,
+        1,
+        "g1",
+        Field::PiecewiseProductionMw,
+        2,
+    ),
     ("[5]}", "[-1]}", 5, 2, "w1", Field::PowerOutputMaximum, 1),
-    (r#""time_periods":1"#, r#""time_periods":169"#, 7, 0, "", Field::TimePeriods, 0),
+    (
+        r#""time_periods":1"#,
+        r#""time_periods":169"#,
+        7,
+        0,
+        "",
+        Field::TimePeriods,
+        0,
+    ),
 ];
 
 const LENGTHS: [Case; 4] = [
-    (r#"1,"demand":[30],"reserves":[5]"#, r#"2,"demand":[30],"reserves":[5,5]"#, 6, 0, "", Field::Demand, 0),
+    (
+        r#"1,"demand":[30],"reserves":[5]"#,
+        r#"2,"demand":[30],"reserves":[5,5]"#,
+        6,
+        0,
+        "",
+        Field::Demand,
+        0,
+    ),
     ("[0]", "[]", 6, 2, "w1", Field::PowerOutputMinimum, 0),
-    (r#"[{"lag":1,"cost":0}]"#, "[]", 5, 1, "g1", Field::Startup, 0),
-    (r#"[{"mw":10,"cost":100},{"mw":50,"cost":500}]"#, "[]", 5, 1, "g1", Field::PiecewiseProduction, 0),
+    (
+        r#"[{"lag":1,"cost":0}]"#,
+        "[]",
+        5,
+        1,
+        "g1",
+        Field::Startup,
+        0,
+    ),
+    (
+        r#"[{"mw":10,"cost":100},{"mw":50,"cost":500}]"#,
+        "[]",
+        5,
+        1,
+        "g1",
+        Field::PiecewiseProduction,
+        0,
+    ),
 ];
 
 /// Refused where only exact numbers are taken.
 const INEXACT: [Case; 3] = [
     ("[30]", "[30.0000005]", 8, 0, "", Field::Demand, 1),
-    (r#""must_run":0"#, r#""must_run":0.50000001"#, 8, 1, "g1", Field::MustRun, 0),
-    (r#""cost":500"#, r#""cost":1e-99999999999"#, 8, 1, "g1", Field::PiecewiseProductionCost, 2),
+    (
+        r#""must_run":0"#,
+        r#""must_run":0.50000001"#,
+        8,
+        1,
+        "g1",
+        Field::MustRun,
+        0,
+    ),
+    (
+        r#""cost":500"#,
+        r#""cost":1e-99999999999"#,
+        8,
+        1,
+        "g1",
+        Field::PiecewiseProductionCost,
+        2,
+    ),
 ];
 
 /// A text with another one in place of a part.
@@ -100,17 +325,21 @@ fn is_refused(alloc: Global, case: &Case, exact: bool) -> Result<bool, Fail> {
 
 fn is_refused_at(alloc: Global, text: &str, case: &Case, exact: bool) -> Result<bool, Fail> {
     match read(alloc, text, exact)? {
-        Err(InstanceFault::Refused {
-            code,
-            kind_of_unit,
-            unit,
-            field,
-            entry,
-        }) => Ok(code == case.2
-            && kind_of_unit == case.3
-            && unit.as_str() == case.4
-            && field == case.5
-            && entry == case.6),
+        Err(
+            InstanceFault::Refused {
+                code,
+                kind_of_unit,
+                unit,
+                field,
+                entry,
+            },
+        ) => Ok(
+            code == case.2
+                && kind_of_unit == case.3
+                && unit.as_str() == case.4
+                && field == case.5
+                && entry == case.6,
+        ),
         _ => Ok(false),
     }
 }
@@ -163,12 +392,34 @@ fn units(alloc: Global, count: u32) -> Result<String, Fail> {
 }
 
 #[test]
+fn bytes_that_are_no_text_are_refused(rt: HostRuntime) {
+    let cut = read_instance(rt.alloc(), b"{\"time_periods\":1", false);
+    assert!(rt; matches!(&cut, Err(ReadFault::Json { at: 17, kind: 2 })));
+    let empty = read_instance(rt.alloc(), b"{}", false);
+    assert!(rt;
+        matches!(
+            &empty,
+            Err(ReadFault::Refused {
+                code: 1,
+                field: Field::TimePeriods,
+                ..
+            })
+        )
+    );
+}
+
+#[test]
 fn lists_of_rows_have_a_limit(rt: HostRuntime) -> Result<(), Fail> {
     let startup = r#"[{"lag":1,"cost":0}]"#;
     let production = r#"[{"mw":10,"cost":100},{"mw":50,"cost":500}]"#;
     for (list, row, most, field) in [
         (startup, r#"{"lag":1,"cost":0}"#, 16, Field::Startup),
-        (production, r#"{"mw":10,"cost":100}"#, 64, Field::PiecewiseProduction),
+        (
+            production,
+            r#"{"mw":10,"cost":100}"#,
+            64,
+            Field::PiecewiseProduction,
+        ),
     ] {
         let full = rows(rt.alloc(), list, row, most)?;
         assert_eq!(rt; accepted(rt.alloc(), full.as_str())?.1, 0);
@@ -201,7 +452,8 @@ fn over(alloc: Global, totals: &str) -> Result<String, Fail> {
 #[test]
 fn numbers_are_scaled_and_counted(rt: HostRuntime) -> Result<(), Fail> {
     let alloc = rt.alloc();
-    let totals = r#""time_periods":8,"demand":[0.0000005,-0.0000005,1e-7,1E2,-0.0,1.0000000,0e99999999999,1e-99999999999],"reserves":[0,0,0,0,0,0,0,0]"#;
+    let totals =
+        r#""time_periods":8,"demand":[0.0000005,-0.0000005,1e-7,1E2,-0.0,1.0000000,0e99999999999,1e-99999999999],"reserves":[0,0,0,0,0,0,0,0]"#;
     let (instance, rounded) = accepted(alloc, over(alloc, totals)?.as_str())?;
     let watts = [1, -1, 0, 100_000_000, 0, 1_000_000, 0, 0];
     assert_eq!(rt; instance.demand.as_slice(), watts.as_slice());
@@ -215,9 +467,27 @@ fn numbers_are_scaled_and_counted(rt: HostRuntime) -> Result<(), Fail> {
 fn times_are_whole_after_rounding(rt: HostRuntime) -> Result<(), Fail> {
     let alloc = rt.alloc();
     for (part, other, up, down, count) in [
-        (r#""time_up_minimum":1"#, r#""time_up_minimum":2.0"#, 2, 1, 0),
-        (r#""time_up_minimum":1"#, r#""time_up_minimum":1.9999999"#, 2, 1, 1),
-        (r#""time_down_minimum":1"#, r#""time_down_minimum":0"#, 1, 1, 0),
+        (
+            r#""time_up_minimum":1"#,
+            r#""time_up_minimum":2.0"#,
+            2,
+            1,
+            0,
+        ),
+        (
+            r#""time_up_minimum":1"#,
+            r#""time_up_minimum":1.9999999"#,
+            2,
+            1,
+            1,
+        ),
+        (
+            r#""time_down_minimum":1"#,
+            r#""time_down_minimum":0"#,
+            1,
+            1,
+            0,
+        ),
     ] {
         let text = changed(alloc, SYSTEM, part, other)?;
         let (instance, rounded) = accepted(alloc, text.as_str())?;
@@ -235,8 +505,14 @@ fn entries_past_the_last_period_are_not_read(rt: HostRuntime) -> Result<(), Fail
     let alloc = rt.alloc();
     let totals = r#""time_periods":2,"demand":[30,31,null],"reserves":[5,6,"seven"]"#;
     let (instance, _) = accepted(alloc, over(alloc, totals)?.as_str())?;
-    assert_eq!(rt; instance.demand.as_slice(), [30_000_000, 31_000_000].as_slice());
-    assert_eq!(rt; instance.reserves.as_slice(), [5_000_000, 6_000_000].as_slice());
+    assert_eq!(rt;
+        instance.demand.as_slice(),
+        [30_000_000, 31_000_000].as_slice()
+    );
+    assert_eq!(rt;
+        instance.reserves.as_slice(),
+        [5_000_000, 6_000_000].as_slice()
+    );
     Ok(())
 }
 
@@ -244,7 +520,10 @@ fn entries_past_the_last_period_are_not_read(rt: HostRuntime) -> Result<(), Fail
 fn limits_themselves_are_taken(rt: HostRuntime) -> Result<(), Fail> {
     let alloc = rt.alloc();
     for (part, other) in [
-        (r#""power_output_maximum":50"#, r#""power_output_maximum":10000000"#),
+        (
+            r#""power_output_maximum":50"#,
+            r#""power_output_maximum":10000000"#,
+        ),
         (r#""cost":100"#, r#""cost":5000000"#),
         (r#""cost":100"#, r#""cost":-5000000"#),
         (r#""time_up_t0":1"#, r#""time_up_t0":1000000"#),
@@ -260,19 +539,38 @@ fn limits_themselves_are_taken(rt: HostRuntime) -> Result<(), Fail> {
 fn last_unit(instance: &Instance) -> Option<(&str, i64, i64, u32, u32, Point)> {
     let unit = instance.thermal.as_slice().last()?;
     let point = *unit.points.as_slice().last()?;
-    Some((unit.name.as_str(), unit.pmin, unit.pmax, unit.ut0, unit.dt0, point))
+    Some((
+        unit.name.as_str(),
+        unit.pmin,
+        unit.pmax,
+        unit.ut0,
+        unit.dt0,
+        point,
+    ))
 }
 
 #[test]
 fn the_ten_unit_system_is_read(rt: HostRuntime) -> Result<(), Fail> {
-    let (instance, rounded) = accepted(rt.alloc(), kazarlis::KAZARLIS)?;
+    let Ok((instance, rounded)) = read_instance(rt.alloc(), kazarlis::KAZARLIS.as_bytes(), true)
+    else {
+        return Err("refused")?;
+    };
     assert_eq!(rt; rounded, 0);
-    assert_eq!(rt; instance.demand.as_slice().first().copied(), Some(700_000_000));
-    assert_eq!(rt; instance.reserves.as_slice().last().copied(), Some(80_000_000));
+    assert_eq!(rt;
+        instance.demand.as_slice().first().copied(),
+        Some(700_000_000)
+    );
+    assert_eq!(rt;
+        instance.reserves.as_slice().last().copied(),
+        Some(80_000_000)
+    );
     assert_eq!(rt; instance.thermal.as_slice().len(), 10);
     let unit = last_unit(&instance).ok_or("no unit")?;
     assert_eq!(rt; unit.0, "u10_1");
-    assert_eq!(rt; (unit.1, unit.2, unit.3, unit.4), (10_000_000, 55_000_000, 0, 1));
+    assert_eq!(rt;
+        (unit.1, unit.2, unit.3, unit.4),
+        (10_000_000, 55_000_000, 0, 1)
+    );
     assert_eq!(rt; (unit.5.mw, unit.5.cost), (55_000_000, 2_203_683_250));
     Ok(())
 }
