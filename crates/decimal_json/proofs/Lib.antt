@@ -21,3 +21,5 @@ pub mod SoundStrings
 pub mod Sound
 pub mod Longest
 pub mod Readings
+pub mod Weaker
+pub mod Completions

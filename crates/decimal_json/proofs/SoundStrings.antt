@@ -18,7 +18,7 @@ pub flat_map-push : {X Y : Type 0} (f : X → List Y) (xs : List X) (x : X) → 
 flat_map-push f [] x = append-nil (f x)
 flat_map-push f (y ∷ xs) x = ap (λ zs. f y ++ zs) (flat_map-push f xs x) ∙ sym (append_assoc (f y) (flat_map f xs) (f x))
 
-none_alone : (c : Character) → IsCharacter true c → is_first_alone c ≡ false
+pub none_alone : (c : Character) → IsCharacter true c → is_first_alone c ≡ false
 none_alone (itself c) is = refl
 none_alone (short l b) is = refl
 none_alone (alone a b c d) is = (or_parts (is_high_surrogate (unit_of a b c d)) (is_low_surrogate (unit_of a b c d)) (is.1 refl)).0

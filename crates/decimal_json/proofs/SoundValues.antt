@@ -126,7 +126,7 @@ good_close (in_array vs ∷ outer) bs v c s =
       a.1 ++ (b.2.1 ++ (b.1 ++ (s.1 ++ 44 ∷ []))),
       a.2,
       a.3,
-      front_items-push (length outer + 1) vs a.1 v b.2.1 b.1 s.1 a.4 b.2.3 (at_level (length outer) v b.1 b.3) s.3,
+      front_items-push true (length outer + 1) vs a.1 v b.2.1 b.1 s.1 a.4 b.2.3 (at_level (length outer) v b.1 b.3) s.3,
       named bs c 44 e ∙ (ap (λ x. x ++ 44 ∷ []) so_far ∙ array_with a.0 a.1 b.2.1 b.1 s.1 (44 ∷ [])),
     ))
     (λ _. cond_both (c == 93) _ _ (λ st. Good st bs c)
@@ -134,7 +134,7 @@ good_close (in_array vs ∷ outer) bs v c s =
       a.0,
       91 ∷ (a.1 ++ (b.2.1 ++ (b.1 ++ s.1))) ++ 93 ∷ [],
       a.2,
-      (a.1 ++ (b.2.1 ++ (b.1 ++ s.1)), (λ _. a.3), items_close (length outer + 1) vs a.1 v b.2.1 b.1 s.1 a.4 b.2.3 (at_level (length outer) v b.1 b.3) s.3, refl),
+      (a.1 ++ (b.2.1 ++ (b.1 ++ s.1)), (λ _. a.3), items_close true (length outer + 1) vs a.1 v b.2.1 b.1 s.1 a.4 b.2.3 (at_level (length outer) v b.1 b.3) s.3, refl),
       named bs c 93 e ∙ (ap (λ x. x ++ 93 ∷ []) so_far ∙ array_closed a.0 a.1 b.2.1 b.1 s.1),
     ))
     (λ _. stuck bs c))
@@ -150,7 +150,7 @@ good_close (in_object ms k ∷ outer) bs v c s =
       o.1 ++ (keyed.2.1 ++ (keyed.1 ++ (colon.1.1 ++ (58 ∷ b.2.1 ++ (b.1 ++ (s.1 ++ 44 ∷ [])))))),
       o.2,
       o.3,
-      front_members-push (length outer + 1) ms o.1 k v keyed.2.1 keyed.1 colon.1.1 b.2.1 b.1 s.1 o.4 keyed.2.3 keyed.3 colon.1.3 b.2.3 (at_level (length outer) v b.1 b.3) s.3,
+      front_members-push true (length outer + 1) ms o.1 k v keyed.2.1 keyed.1 colon.1.1 b.2.1 b.1 s.1 o.4 keyed.2.3 keyed.3 colon.1.3 b.2.3 (at_level (length outer) v b.1 b.3) s.3,
       unique_more ms k v o.5 keyed.4,
       named bs c 44 e ∙ (ap (λ x. x ++ 44 ∷ []) so_far ∙ object_with o.0 o.1 keyed.2.1 keyed.1 colon.1.1 b.2.1 b.1 s.1 (44 ∷ [])),
     ))
@@ -163,7 +163,7 @@ good_close (in_object ms k ∷ outer) bs v c s =
         o.1 ++ (keyed.2.1 ++ (keyed.1 ++ (colon.1.1 ++ (58 ∷ b.2.1 ++ (b.1 ++ s.1))))),
         (λ _. o.3),
         (λ _. unique_more ms k v o.5 keyed.4),
-        members_close (length outer + 1) ms o.1 k v keyed.2.1 keyed.1 colon.1.1 b.2.1 b.1 s.1 o.4 keyed.2.3 keyed.3 colon.1.3 b.2.3 (at_level (length outer) v b.1 b.3) s.3,
+        members_close true (length outer + 1) ms o.1 k v keyed.2.1 keyed.1 colon.1.1 b.2.1 b.1 s.1 o.4 keyed.2.3 keyed.3 colon.1.3 b.2.3 (at_level (length outer) v b.1 b.3) s.3,
         refl,
       ),
       named bs c 125 e ∙ (ap (λ x. x ++ 125 ∷ []) so_far ∙ object_closed o.0 o.1 keyed.2.1 keyed.1 colon.1.1 b.2.1 b.1 s.1),

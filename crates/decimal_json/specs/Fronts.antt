@@ -1,5 +1,5 @@
 -- Fronts of JSON texts, within the limits: the bytes up to a place, by what is open there.
-use Rattle.std.specs.Prelude.{◌≡◌, ℕ, ◌+◌, ◌<◌, true, false, List, [], ◌∷◌, ◌++◌, length, ◌⊎◌}
+use Rattle.std.specs.Prelude.{Bool, ◌≡◌, ℕ, ◌+◌, ◌<◌, true, false, List, [], ◌∷◌, ◌++◌, length, ◌⊎◌}
 use Rattle.std.specs.List.{flat_map}
 use Rattle.std.specs.Char.Utf16.{is_low_surrogate, is_high_surrogate}
 use Rattle.decimal_json.specs.Value.{Value, members_of, has_key}
@@ -8,16 +8,16 @@ use Rattle.decimal_json.specs.Scan.{Member, Frame, in_array, in_object, Purpose,
 use Rattle.decimal_json.specs.Grammar.{IsSpace, Spells, IsString, HasUniqueKeys, Character, character_text, AreCharacters, AreHex}
 
 -- items, with a comma behind each
-abbrev pub FrontItems : ℕ → List Value → List ℕ → Type 0
-FrontItems level [] bs = bs ≡ []
-FrontItems level (v ∷ vs) bs = (before core behind more : List ℕ) × IsSpace before × Spells true level v core × IsSpace behind × FrontItems level vs more
+abbrev pub FrontItems : Bool → ℕ → List Value → List ℕ → Type 0
+FrontItems limited level [] bs = bs ≡ []
+FrontItems limited level (v ∷ vs) bs = (before core behind more : List ℕ) × IsSpace before × Spells limited level v core × IsSpace behind × FrontItems limited level vs more
     × (bs ≡ before ++ (core ++ (behind ++ 44 ∷ more)))
 
 -- members, with a comma behind each
-abbrev pub FrontMembers : ℕ → List Member → List ℕ → Type 0
-FrontMembers level [] bs = bs ≡ []
-FrontMembers level (m ∷ ms) bs = (first key second third core behind more : List ℕ) × IsSpace first × IsString true m.0 key × IsSpace second × IsSpace third
-    × Spells true level m.1 core × IsSpace behind × FrontMembers level ms more × (bs ≡ first ++ (key ++ (second ++ (58 ∷ third ++ (core ++ (behind ++ 44 ∷ more))))))
+abbrev pub FrontMembers : Bool → ℕ → List Member → List ℕ → Type 0
+FrontMembers limited level [] bs = bs ≡ []
+FrontMembers limited level (m ∷ ms) bs = (first key second third core behind more : List ℕ) × IsSpace first × IsString limited m.0 key × IsSpace second × IsSpace third
+    × Spells limited level m.1 core × IsSpace behind × FrontMembers limited level ms more × (bs ≡ first ++ (key ++ (second ++ (58 ∷ third ++ (core ++ (behind ++ 44 ∷ more))))))
 
 -- a front, and white space
 abbrev pub Spaced : (List ℕ → Type 0) → List ℕ → Type 0
@@ -25,11 +25,11 @@ Spaced P bs = (base space : List ℕ) × P base × IsSpace space × (bs ≡ base
 
 -- the front up to an array's bracket, and the items that came, each with its comma
 abbrev pub InArray : (List ℕ → Type 0) → ℕ → List Value → List ℕ → Type 0
-InArray Front level vs bs = (front inside : List ℕ) × Front front × (level < depth_limit) × FrontItems (level + 1) vs inside × (bs ≡ front ++ 91 ∷ inside)
+InArray Front level vs bs = (front inside : List ℕ) × Front front × (level < depth_limit) × FrontItems true (level + 1) vs inside × (bs ≡ front ++ 91 ∷ inside)
 
 -- the front up to an object's bracket, and the members that came, each with its comma; their keys differ
 abbrev pub InObject : (List ℕ → Type 0) → ℕ → List Member → List ℕ → Type 0
-InObject Front level ms bs = (front inside : List ℕ) × Front front × (level < depth_limit) × FrontMembers (level + 1) ms inside × HasUniqueKeys (members_of ms)
+InObject Front level ms bs = (front inside : List ℕ) × Front front × (level < depth_limit) × FrontMembers true (level + 1) ms inside × HasUniqueKeys (members_of ms)
     × (bs ≡ front ++ 123 ∷ inside)
 
 -- and a key that is none of theirs

@@ -20,9 +20,10 @@ pub record IsLongestUtf8 (bytes : List ℕ) (at : ℕ) : Type 0 where
   pub utf8 : IsUtf8 (take at bytes)
   pub longest : (k : ℕ) → at < k → k ≤ length bytes → IsUtf8 (take k bytes) → ⊥
 
--- The bytes are no JSON text, and up to no later place are they the front of one.
+-- The bytes are no JSON text. Up to a place they are the front of one, and up to no later place.
 pub record IsNoJson (bytes : List ℕ) (at : ℕ) : Type 0 where
   pub within : at ≤ length bytes
+  pub begins : BeginsText (take at bytes)
   pub longest : (k : ℕ) → at < k → k ≤ length bytes → BeginsText (take k bytes) → ⊥
   pub no_text : (v : Value) → SpellsText false v bytes → ⊥
 
