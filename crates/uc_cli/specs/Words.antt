@@ -1,11 +1,12 @@
 -- The words of the command line. This project's own commands.
-use Rattle.std.specs.Prelude.{ℕ, Bool, false, not, ◌&&◌, ◌==◌, List, [], ◌∷◌, Option, Some, None, codes, length, slice_index_or, if◌then◌else◌}
+use Rattle.std.specs.Prelude.{ℕ, Bool, false, not, ◌&&◌, ◌||◌, ◌==◌, List, [], ◌∷◌, Option, Some, None, codes, length, slice_index_or, if◌then◌else◌}
 use Rattle.std.specs.Str.{bytes_eq}
 
--- the files that `solve` names: the instance's and the certificate's
+-- what `solve` is asked: the instance's file, the certificate's, and whether a rounded number is refused
 pub record Solve : Type 0 where
   pub instance : List ℕ
   pub certificate : List ℕ
+  pub exact : Bool
 
 -- a word that names a file: not empty, and no option
 abbrev pub is_name : List ℕ → Bool
@@ -19,14 +20,18 @@ word_at words i = slice_index_or words i []
 abbrev pub is_word : List (List ℕ) → ℕ → List ℕ → Bool
 is_word words i text = bytes_eq (word_at words i) text
 
--- the words after the program's name are `solve FILE --cert CERT --units 1`
+-- the words from the second to the seventh are `solve FILE --cert CERT --units 1`
 unfoldable pub is_solve : List (List ℕ) → Bool
 is_solve words =
-    (length words == 7)
-    && (is_word words 1 (codes "solve") && is_name (word_at words 2)
+    is_word words 1 (codes "solve") && is_name (word_at words 2)
     && is_word words 3 (codes "--cert") && is_name (word_at words 4)
-    && is_word words 5 (codes "--units") && is_word words 6 (codes "1"))
+    && is_word words 5 (codes "--units") && is_word words 6 (codes "1")
+
+-- these are all, or `--exact` follows as the eighth
+unfoldable pub is_complete : List (List ℕ) → Bool
+is_complete words = (length words == 7) || ((length words == 8) && is_word words 7 (codes "--exact"))
 
 abbrev pub solve_of : List (List ℕ) → Option Solve
 solve_of words =
-    if is_solve words then Some (record { instance = word_at words 2; certificate = word_at words 4 }) else None
+    if is_complete words && is_solve words
+    then Some (record { instance = word_at words 2; certificate = word_at words 4; exact = length words == 8 }) else None

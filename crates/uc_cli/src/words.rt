@@ -1,12 +1,14 @@
 //! The words of the command line.
 
-ghost use Rattle.std.specs.Prelude.{◌≡◌, ◌&&◌, ◌<◌, map, length, string_bytes, MatchOption, Some};
-ghost use Rattle.uc_cli.specs.Words.{word_at, is_word, is_name, is_solve, solve_of};
+ghost use Rattle.std.specs.Prelude.{◌≡◌, ◌<◌, ◌≤◌, map, length, string_bytes, IsTrue, MatchOption, Some};
+ghost use Rattle.uc_cli.specs.Words.{word_at, is_word, is_name, is_solve as is_solve_words, is_complete as is_complete_words, solve_of};
 
-/// What `solve` is asked: the file of the instance and that of the certificate.
+/// What `solve` is asked: the file of the instance, that of the certificate, and whether a rounded number
+/// is refused.
 pub(crate) struct Solve<'a> {
     pub instance: &'a str,
     pub certificate: &'a str,
+    pub exact: bool,
 }
 
 fn word(words: &[String], place: usize) -> &str
@@ -35,9 +37,9 @@ fn has_name(words: &[String], place: usize) -> bool
 }
 
 #[tactic(auto, unfolding(crate::specs::Words::is_solve))]
-fn is_solve_of_seven(words: &[String]) -> bool
-    requires { length words.now ≡ 7 }
-    ensures { result ≡ is_solve (map string_bytes words.now) }
+fn is_solve(words: &[String]) -> bool
+    requires { 7 ≤ length words.now }
+    ensures { result ≡ is_solve_words (map string_bytes words.now) }
 {
     let command = has_word(words, 1, "solve");
     let instance = has_name(words, 2);
@@ -48,18 +50,31 @@ fn is_solve_of_seven(words: &[String]) -> bool
     command && instance && option && certificate && units && number
 }
 
-/// The words after the program's name, where they are `solve FILE --cert CERT --units 1`.
-#[tactic(auto, unfolding(crate::specs::Words::is_solve))]
+#[tactic(auto, unfolding(crate::specs::Words::is_complete))]
+fn is_complete(words: &[String]) -> bool
+    ensures value { result ≡ is_complete_words (map string_bytes words.now) }
+    ensures long { IsTrue result → 7 ≤ length words.now }
+{
+    match words.len() {
+        7 => true,
+        8 => has_word(words, 7, "--exact"),
+        _ => false,
+    }
+}
+
+/// The words after the program's name, where they are `solve FILE --cert CERT --units 1` or these with
+/// `--exact` behind them.
 pub(crate) fn solve_words(words: &[String]) -> Option<Solve<'_>>
     ensures { MatchOption result (solve_of (map string_bytes words.now) ≡ None)
         (λ solve. solve_of (map string_bytes words.now)
-        ≡ Some (record { instance = solve.instance.now; certificate = solve.certificate.now })) }
+            ≡ Some (record { instance = solve.instance.now; certificate = solve.certificate.now; exact = solve.exact })) }
 {
-    if words.len() != 7 || !is_solve_of_seven(words) {
+    if !is_complete(words) || !is_solve(words) {
         return None;
     }
     Some(Solve {
         instance: word(words, 2),
         certificate: word(words, 4),
+        exact: words.len() == 8,
     })
 }
