@@ -6,7 +6,8 @@ use Rattle.std.specs.List.{AllZip}
 use Rattle.std.proofs.lemmas.Int.{ints}
 use Rattle.std.proofs.lemmas.List.{append-nil, length-append, length-drop, nil_from_length}
 use Rattle.std.proofs.Math.Seq.{get_or-append_seam, drop-cons}
-use Rattle.uc_model.specs.Limits.{MAX_POWER, IsPower}
+use Rattle.uc_model.specs.Limits.{IsPower}
+use Rattle.uc_model.specs.declared.limits.TheConstants.{MAX_POWER}
 use Rattle.uc_model.specs.declared.instance.Point.{Point}
 use Rattle.instance.specs.FirstFault.{each_at}
 use Rattle.instance.specs.Points.{last_output}

@@ -4,7 +4,8 @@ use Rattle.std.specs.Prelude.{Bool, ℤ, pos, ◌≤ℤ◌}
 use Rattle.std.specs.List.{All, AllZip}
 use Rattle.std.proofs.lemmas.Int.{ints}
 use Rattle.std.proofs.lemmas.List.{length-take}
-use Rattle.uc_model.specs.Limits.{MAX_UNITS, MAX_POINTS, MAX_START_ROWS, MAX_TIME, IsPower, IsCost, IsLimit, IsLawfulThermal, IsLawfulRenewable, IsLawfulInstance}
+use Rattle.uc_model.specs.Limits.{IsPower, IsCost, IsLimit, IsLawfulThermal, IsLawfulRenewable, IsLawfulInstance}
+use Rattle.uc_model.specs.declared.limits.TheConstants.{MAX_UNITS, MAX_POINTS, MAX_START_ROWS, MAX_TIME}
 use Rattle.uc_model.specs.Schedule.{thermal_unit, renewable_unit, no_unit, point, point_count}
 use Rattle.uc_model.specs.StartCategory.{start_row, category_count}
 use Rattle.uc_model.specs.declared.instance.Point.{Point}
@@ -14,8 +15,8 @@ use Rattle.uc_model.specs.declared.instance.Instance.{Instance}
 use Rattle.decimal_json.specs.Value.{Value}
 use Rattle.instance.specs.Fields.{key_of, entries_in, pairs_in, field_of}
 use Rattle.instance.specs.Scaled.{MILLION, scaled}
-use Rattle.instance.specs.declared.field.Field.{Field}
-use Rattle.instance.specs.declared.field.Field.TheVariants.{TimePeriods, Demand, Reserves, ThermalGenerators, RenewableGenerators, PowerOutputMinimum, PowerOutputMaximum, RampUpLimit, RampDownLimit, RampStartupLimit, RampShutdownLimit, TimeUpMinimum, TimeDownMinimum, PowerOutputT0, TimeUpT0, TimeDownT0, Startup, StartupLag, StartupCost, PiecewiseProduction, PiecewiseProductionMw, PiecewiseProductionCost}
+use Rattle.uc_model.specs.declared.field.Field.{Field}
+use Rattle.uc_model.specs.declared.field.Field.TheVariants.{TimePeriods, Demand, Reserves, ThermalGenerators, RenewableGenerators, PowerOutputMinimum, PowerOutputMaximum, RampUpLimit, RampDownLimit, RampStartupLimit, RampShutdownLimit, TimeUpMinimum, TimeDownMinimum, PowerOutputT0, TimeUpT0, TimeDownT0, Startup, StartupLag, StartupCost, PiecewiseProduction, PiecewiseProductionMw, PiecewiseProductionCost}
 use Rattle.instance.specs.InstanceOf.{Pairs, Has, IsObject, IsPowerOf, IsCostOf, IsTimeOf, IsPeriodsOf, IsPowersOf, AreRowsOf, IsStartRowOf, IsPointOf, IsRising, IsLimitOf, IsMinimumTimeOf, IsThermalOf, IsRenewableOf, AreUnitsOf, HasFields, IsInstanceOf}
 use Rattle.instance.proofs.Steps.{some_is}
 use Rattle.instance.proofs.NumberLaws.{stood}

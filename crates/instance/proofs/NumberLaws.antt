@@ -4,7 +4,8 @@ use Rattle.std.specs.Prelude.{◌&&◌, ◌||◌, ◌==◌, nat_lt, IsTrue, ℤ,
 use Rattle.std.proofs.lemmas.Bool.{ltb-false, le-ltb}
 use Rattle.std.proofs.lemmas.Bool.Decides.{nat_tests}
 use Rattle.std.proofs.lemmas.Int.{ints}
-use Rattle.uc_model.specs.Limits.{MAX_PERIODS, MAX_POWER, MAX_COST, MAX_TIME, IsPower, IsCost}
+use Rattle.uc_model.specs.Limits.{IsPower, IsCost}
+use Rattle.uc_model.specs.declared.limits.TheConstants.{MAX_PERIODS, MAX_POWER, MAX_COST, MAX_TIME}
 use Rattle.decimal_json.specs.Value.{Decimal, Value}
 use Rattle.instance.specs.Fields.{number_in}
 use Rattle.instance.specs.Scaled.{MILLION, size_of, signed, scaled, is_rounded, wholes_of, is_below_zero}

@@ -6,14 +6,15 @@ use Rattle.std.specs.Option.{IsSomeAnd}
 use Rattle.std.proofs.lemmas.Bool.{ltb-false, le-ltb}
 use Rattle.std.proofs.lemmas.Bool.Decides.{nat_tests}
 use Rattle.std.proofs.lemmas.List.{length-take}
-use Rattle.uc_model.specs.Limits.{MAX_POINTS, MAX_START_ROWS, IsPower}
+use Rattle.uc_model.specs.Limits.{IsPower}
+use Rattle.uc_model.specs.declared.limits.TheConstants.{MAX_POINTS, MAX_START_ROWS}
 use Rattle.uc_model.specs.declared.instance.Point.{Point}
 use Rattle.uc_model.specs.declared.instance.StartRow.{StartRow}
 use Rattle.decimal_json.specs.Value.{Value}
 use Rattle.instance.specs.Fields.{key_of, entries_in, pairs_in, field_of}
 use Rattle.instance.specs.Scaled.{scaled}
-use Rattle.instance.specs.declared.field.Field.{Field}
-use Rattle.instance.specs.declared.field.Field.TheVariants.{PowerOutputMaximum, Startup, StartupLag, StartupCost, PiecewiseProduction, PiecewiseProductionMw, PiecewiseProductionCost}
+use Rattle.uc_model.specs.declared.field.Field.{Field}
+use Rattle.uc_model.specs.declared.field.Field.TheVariants.{PowerOutputMaximum, Startup, StartupLag, StartupCost, PiecewiseProduction, PiecewiseProductionMw, PiecewiseProductionCost}
 use Rattle.instance.specs.declared.fault.Place.{Place}
 use Rattle.instance.specs.declared.fault.Refusal.{Refusal}
 use Rattle.instance.specs.FirstFault.{◌>>=◌, whole, next_entry, wanted, refused_if, field_at, object_at, array_at, entries_at, rows_at, each_at, power_entry, powers_at, maximum_entry, maxima_at, start_row, point_row, startup_at, points_at, time_at, cost_at, power_from}

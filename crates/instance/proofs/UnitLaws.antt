@@ -4,7 +4,7 @@ use Rattle.std.specs.Prelude.{nat_lt, ℤ, pos, ◌≤ℤ◌}
 use Rattle.std.specs.List.{AllZip}
 use Rattle.std.specs.Option.{IsSomeAnd}
 use Rattle.std.proofs.lemmas.Bool.{ltb-false, le-ltb}
-use Rattle.uc_model.specs.Limits.{MAX_UNITS}
+use Rattle.uc_model.specs.declared.limits.TheConstants.{MAX_UNITS}
 use Rattle.uc_model.specs.declared.instance.Point.{Point}
 use Rattle.uc_model.specs.declared.instance.StartRow.{StartRow}
 use Rattle.uc_model.specs.declared.instance.Thermal.{Thermal}
@@ -12,8 +12,8 @@ use Rattle.uc_model.specs.declared.instance.Renewable.{Renewable}
 use Rattle.uc_model.specs.declared.instance.Instance.{Instance}
 use Rattle.decimal_json.specs.Value.{Value}
 use Rattle.instance.specs.Fields.{key_of, pairs_in, field_of}
-use Rattle.instance.specs.declared.field.Field.{Field}
-use Rattle.instance.specs.declared.field.Field.TheVariants.{NoField, TimePeriods, Demand, Reserves, ThermalGenerators, RenewableGenerators, MustRun, PowerOutputMinimum, PowerOutputMaximum, RampUpLimit, RampDownLimit, RampStartupLimit, RampShutdownLimit, TimeUpMinimum, TimeDownMinimum, PowerOutputT0, UnitOnT0, TimeUpT0, TimeDownT0}
+use Rattle.uc_model.specs.declared.field.Field.{Field}
+use Rattle.uc_model.specs.declared.field.Field.TheVariants.{NoField, TimePeriods, Demand, Reserves, ThermalGenerators, RenewableGenerators, MustRun, PowerOutputMinimum, PowerOutputMaximum, RampUpLimit, RampDownLimit, RampStartupLimit, RampShutdownLimit, TimeUpMinimum, TimeDownMinimum, PowerOutputT0, UnitOnT0, TimeUpT0, TimeDownT0}
 use Rattle.instance.specs.declared.fault.Place.{Place}
 use Rattle.instance.specs.declared.fault.Refusal.{Refusal}
 use Rattle.instance.specs.declared.totals.Totals.{Totals}

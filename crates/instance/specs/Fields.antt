@@ -3,44 +3,36 @@
 use Rattle.std.specs.Prelude.{ℕ, List, [], ◌∷◌, Option, Some, None, codes, if◌then◌else◌}
 use Rattle.std.specs.Str.{bytes_eq}
 use Rattle.decimal_json.specs.Value.{Decimal, Value, null, boolean, number, text, array, object, Items, no_items, item, Members, no_members, member}
-use Rattle.instance.specs.declared.field.Field.{Field}
-use Rattle.instance.specs.declared.field.Field.TheVariants.{NoField, TimePeriods, Demand, Reserves, ThermalGenerators, RenewableGenerators, MustRun, PowerOutputMinimum, PowerOutputMaximum, RampUpLimit, RampDownLimit, RampStartupLimit, RampShutdownLimit, TimeUpMinimum, TimeDownMinimum, PowerOutputT0, UnitOnT0, TimeUpT0, TimeDownT0, Startup, StartupLag, StartupCost, PiecewiseProduction, PiecewiseProductionMw, PiecewiseProductionCost}
-
--- the text of a field in a message
-unfoldable pub text_of : Field → List ℕ
-text_of NoField = []
-text_of TimePeriods = codes "time_periods"
-text_of Demand = codes "demand"
-text_of Reserves = codes "reserves"
-text_of ThermalGenerators = codes "thermal_generators"
-text_of RenewableGenerators = codes "renewable_generators"
-text_of MustRun = codes "must_run"
-text_of PowerOutputMinimum = codes "power_output_minimum"
-text_of PowerOutputMaximum = codes "power_output_maximum"
-text_of RampUpLimit = codes "ramp_up_limit"
-text_of RampDownLimit = codes "ramp_down_limit"
-text_of RampStartupLimit = codes "ramp_startup_limit"
-text_of RampShutdownLimit = codes "ramp_shutdown_limit"
-text_of TimeUpMinimum = codes "time_up_minimum"
-text_of TimeDownMinimum = codes "time_down_minimum"
-text_of PowerOutputT0 = codes "power_output_t0"
-text_of UnitOnT0 = codes "unit_on_t0"
-text_of TimeUpT0 = codes "time_up_t0"
-text_of TimeDownT0 = codes "time_down_t0"
-text_of Startup = codes "startup"
-text_of StartupLag = codes "startup.lag"
-text_of StartupCost = codes "startup.cost"
-text_of PiecewiseProduction = codes "piecewise_production"
-text_of PiecewiseProductionMw = codes "piecewise_production.mw"
-text_of PiecewiseProductionCost = codes "piecewise_production.cost"
+use Rattle.uc_model.specs.declared.field.Field.{Field}
+use Rattle.uc_model.specs.declared.field.Field.TheVariants.{NoField, TimePeriods, Demand, Reserves, ThermalGenerators, RenewableGenerators, MustRun, PowerOutputMinimum, PowerOutputMaximum, RampUpLimit, RampDownLimit, RampStartupLimit, RampShutdownLimit, TimeUpMinimum, TimeDownMinimum, PowerOutputT0, UnitOnT0, TimeUpT0, TimeDownT0, Startup, StartupLag, StartupCost, PiecewiseProduction, PiecewiseProductionMw, PiecewiseProductionCost}
 
 -- the name of a field in the object that has it
 unfoldable pub key_of : Field → List ℕ
+key_of NoField = []
+key_of TimePeriods = codes "time_periods"
+key_of Demand = codes "demand"
+key_of Reserves = codes "reserves"
+key_of ThermalGenerators = codes "thermal_generators"
+key_of RenewableGenerators = codes "renewable_generators"
+key_of MustRun = codes "must_run"
+key_of PowerOutputMinimum = codes "power_output_minimum"
+key_of PowerOutputMaximum = codes "power_output_maximum"
+key_of RampUpLimit = codes "ramp_up_limit"
+key_of RampDownLimit = codes "ramp_down_limit"
+key_of RampStartupLimit = codes "ramp_startup_limit"
+key_of RampShutdownLimit = codes "ramp_shutdown_limit"
+key_of TimeUpMinimum = codes "time_up_minimum"
+key_of TimeDownMinimum = codes "time_down_minimum"
+key_of PowerOutputT0 = codes "power_output_t0"
+key_of UnitOnT0 = codes "unit_on_t0"
+key_of TimeUpT0 = codes "time_up_t0"
+key_of TimeDownT0 = codes "time_down_t0"
+key_of Startup = codes "startup"
 key_of StartupLag = codes "lag"
 key_of StartupCost = codes "cost"
+key_of PiecewiseProduction = codes "piecewise_production"
 key_of PiecewiseProductionMw = codes "mw"
 key_of PiecewiseProductionCost = codes "cost"
-key_of field = text_of field
 
 -- the entries of an array, and the members of an object as keys and values, in the order of the file
 abbrev pub entries_of : Items → List Value

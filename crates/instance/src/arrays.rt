@@ -3,17 +3,17 @@
 ghost use Rattle.std.specs.Prelude.{◌≡◌, ◌+◌, ◌<◌, ◌≤◌, ◌^◌, [], length, map, sum_by, OnOk, IfOk, pos, vec_len};
 ghost use Rattle.std.specs.Int.{int_max};
 ghost use Rattle.decimal_json.specs.View.{view, pair_view};
-ghost use Rattle.instance.specs.declared.field.Field.TheVariants.{PowerOutputMaximum};
+ghost use Rattle.uc_model.specs.declared.field.Field.TheVariants.{PowerOutputMaximum};
 ghost use Rattle.instance.specs.FirstFault.{each_at, power_entry, powers_at, maximum_entry, maxima_at};
 ghost use Rattle.instance.specs.Rounded.{rounded_value, rounded_array};
 ghost use Rattle.instance.specs.Answer.{Gives, Counts};
 
 use crate::fault::{Fault, Place};
-use crate::field::Field;
 use crate::reader::Reader;
 use crate::spot::{self, Spot};
 use decimal_json::{Json, Pair};
 use std::alloc::Global;
+use uc_model::Field;
 
 impl Reader {
     /// The powers that entries are.

@@ -3,9 +3,8 @@
 ghost use Rattle.std.specs.Prelude.{◌≡◌, ◌+◌, ◌<◌};
 ghost use Rattle.instance.specs.FirstFault.{whole, entry_of, refusal};
 
-use crate::field::Field;
 use std::alloc::{AllocError, AllocFailed};
-use uc_model::Name;
+use uc_model::{Field, Name};
 
 /// The codes of a refusal.
 pub(crate) const MISSING: u8 = 1;

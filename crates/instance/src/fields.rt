@@ -7,10 +7,10 @@ ghost use Rattle.instance.specs.Rounded.{rounded_field};
 ghost use Rattle.instance.specs.Answer.{Gives, Counts};
 
 use crate::fault::{Fault, Place};
-use crate::field::Field;
 use crate::reader::Reader;
 use crate::spot::field_at;
 use decimal_json::Pair;
+use uc_model::Field;
 
 impl Reader {
     #[tactic(auto, unfolding(crate::specs::Rounded::rounded_field))]

@@ -6,11 +6,10 @@ ghost use Rattle.uc_model.specs.declared.instance.Instance.{Instance};
 ghost use Rattle.instance.specs.Bytes.{StandFor, StandForCounted, HasCause};
 
 use crate::fault::InstanceFault;
-use crate::field::Field;
 use crate::read::from_json;
 use decimal_json::JsonFault;
 use std::alloc::Global;
-use uc_model::{Instance, Name};
+use uc_model::{Field, Instance, Name};
 
 /// Why bytes stand for no instance, or none was made.
 #[derive(Debug, Drop)]

@@ -3,9 +3,9 @@
 
 mod arrays;
 mod fault;
-mod field;
 mod fields;
 mod file;
+mod key;
 mod laws;
 mod numbers;
 mod object;
@@ -20,7 +20,6 @@ mod totals;
 mod units;
 
 pub use fault::InstanceFault;
-pub use field::Field;
 pub use file::{ReadFault, read_instance};
 pub use laws::{a_value_has_an_instance_or_a_fault, instances_of_values_are_lawful};
 pub use read::from_json;

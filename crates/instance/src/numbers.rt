@@ -13,15 +13,7 @@ use crate::reader::Reader;
 use crate::scaled::{MILLION, rounds, scaled_size};
 use crate::spot::Spot;
 use decimal_json::Number;
-
-/// Watts.
-pub(crate) const MAX_POWER: u64 = 10_000_000_000_000;
-/// Micro-dollars.
-const MAX_COST: u64 = 5_000_000_000_000;
-/// Hours.
-const MAX_TIME: u64 = 1_000_000;
-
-const MAX_PERIODS: u64 = 168;
+use uc_model::limits::{MAX_COST, MAX_PERIODS, MAX_POWER, MAX_TIME};
 
 impl Reader {
     /// A number of any size.
@@ -95,7 +87,7 @@ impl Reader {
         ensures counted { OnOk result (Counts self.old self.new (rounded_value (view spot.entry.value.now)) 1) }
     {
         let (negative, hours) = self.whole(spot)?;
-        if is_below_zero(negative, hours) || hours > MAX_TIME {
+        if is_below_zero(negative, hours) || hours > u64::from(MAX_TIME) {
             return Err(spot.place.refused(PAST_LIMIT));
         }
         Ok(hours as u32)
@@ -127,7 +119,7 @@ impl Reader {
         if negative || periods == 0 {
             return Err(spot.place.refused(OUT_OF_RANGE));
         }
-        if periods > MAX_PERIODS {
+        if periods > u64::from(MAX_PERIODS) {
             return Err(spot.place.refused(TOO_MANY));
         }
         Ok(periods as u32)

@@ -10,13 +10,12 @@ ghost use Rattle.instance.specs.Rounded.{rounded_instance};
 ghost use Rattle.instance.specs.Answer.{GivesWhole};
 
 use crate::fault::{InstanceFault, Place};
-use crate::field::Field;
 use crate::reader::Reader;
 use crate::spot::Spot;
 use crate::units::outside;
 use decimal_json::Json;
 use std::alloc::Global;
-use uc_model::{Instance, List};
+use uc_model::{Field, Instance, List};
 
 /// The instance that a value in the pglib-uc format stands for, and how many of the numbers that were
 /// read are rounded. With `exact` a value with a rounded number stands for none.

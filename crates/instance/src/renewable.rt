@@ -7,12 +7,11 @@ ghost use Rattle.instance.specs.Rounded.{rounded_renewable};
 ghost use Rattle.instance.specs.Answer.{Gives, Counts};
 
 use crate::fault::{Fault, Place};
-use crate::field::Field;
 use crate::reader::Reader;
 use crate::spot::Spot;
 use decimal_json::Json;
 use std::alloc::Global;
-use uc_model::{List, Name, Renewable};
+use uc_model::{Field, List, Name, Renewable};
 
 impl Reader {
     /// The unit that a value is.

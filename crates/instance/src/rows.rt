@@ -10,17 +10,12 @@ ghost use Rattle.instance.specs.Rounded.{rounded_start_row, rounded_point, round
 ghost use Rattle.instance.specs.Answer.{Gives, Counts};
 
 use crate::fault::{Fault, Place};
-use crate::field::Field;
-use crate::numbers::MAX_POWER;
 use crate::reader::Reader;
 use crate::spot::{self, Spot};
 use decimal_json::{Json, Pair};
 use std::alloc::Global;
-use uc_model::{Point, StartRow};
-
-const MAX_START_ROWS: usize = 16;
-
-const MAX_POINTS: usize = 64;
+use uc_model::limits::{MAX_POINTS, MAX_POWER, MAX_START_ROWS};
+use uc_model::{Field, Point, StartRow};
 
 impl Reader {
     /// The start categories of a unit.

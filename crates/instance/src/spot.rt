@@ -7,11 +7,11 @@ ghost use Rattle.instance.specs.Rounded.{entries_field, members_field};
 ghost use Rattle.instance.specs.Answer.{Gives};
 
 use crate::fault::{Fault, MISSING, OTHER_KIND, OUT_OF_RANGE, Place, TOO_MANY, TOO_SHORT};
-use crate::field::Field;
+use crate::key::key;
 use crate::object;
 use decimal_json::{Json, Pair};
-
-const MAX_UNITS: usize = 4096;
+use uc_model::Field;
+use uc_model::limits::MAX_UNITS;
 
 /// A value with its place.
 #[derive(Clone, Copy)]
@@ -25,7 +25,7 @@ pub(crate) fn field_at(members: &[Pair], place: Place) -> Result<Spot<'_>, Fault
     ensures read { Gives (λ spot. view spot.value.now) result (field_at place (map pair_view members.now)) }
     ensures place { IfOk result (λ spot. spot.place ≡ place) }
 {
-    match object::member(members, place.field.key()) {
+    match object::member(members, key(place.field)) {
         Some(value) => Ok(Spot { value, place }),
         None => Err(place.refused(MISSING)),
     }

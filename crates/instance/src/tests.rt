@@ -2,10 +2,10 @@
 
 mod kazarlis;
 
-use crate::{Field, InstanceFault, ReadFault, from_json, read_instance};
+use crate::{InstanceFault, ReadFault, from_json, read_instance};
 use std::alloc::Global;
 use std::test::Fail;
-use uc_model::{Instance, Point};
+use uc_model::{Field, Instance, Point};
 
 /// A system of one period with a thermal unit and a renewable one.
 const SYSTEM: &str =

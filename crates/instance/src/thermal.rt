@@ -7,12 +7,11 @@ ghost use Rattle.instance.specs.Rounded.{rounded_outputs, rounded_ramps, rounded
 ghost use Rattle.instance.specs.Answer.{Gives, Counts};
 
 use crate::fault::{Fault, Place};
-use crate::field::Field;
 use crate::reader::Reader;
 use crate::spot::Spot;
 use decimal_json::{Json, Pair};
 use std::alloc::Global;
-use uc_model::{List, Name, Thermal};
+use uc_model::{Field, List, Name, Thermal};
 
 /// Whether a unit must run, and its least and greatest output in watts.
 #[derive(Drop)]

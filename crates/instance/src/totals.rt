@@ -7,12 +7,11 @@ ghost use Rattle.instance.specs.Rounded.{rounded_totals};
 ghost use Rattle.instance.specs.Answer.{Gives, Counts};
 
 use crate::fault::{Fault, Place};
-use crate::field::Field;
 use crate::reader::Reader;
 use crate::spot::field_at;
 use decimal_json::Pair;
 use std::alloc::Global;
-use uc_model::List;
+use uc_model::{Field, List};
 
 /// The number of periods, and demand and reserves in each, in watts.
 #[derive(Drop)]

@@ -8,12 +8,11 @@ ghost use Rattle.instance.specs.Rounded.{rounded_thermal, rounded_renewable, rou
 ghost use Rattle.instance.specs.Answer.{GivesWhole, IsInUnit, Counts};
 
 use crate::fault::{Fault, InstanceFault, NO_UNIT, RENEWABLE, Refusal, THERMAL};
-use crate::field::Field;
 use crate::reader::Reader;
 use crate::spot;
 use decimal_json::Pair;
 use std::alloc::Global;
-use uc_model::{Name, Renewable, Thermal};
+use uc_model::{Field, Name, Renewable, Thermal};
 
 impl Reader {
     #[tactic(auto, unfolding(crate::specs::FirstFault::thermal_units_at, crate::specs::Rounded::rounded_thermal_units))]

@@ -1,8 +1,6 @@
 use Rattle.std.proofs.Common.{◌≡◌, sym, subst}
-use Rattle.uc_model.specs.declared.instance.Instance.{Instance}
 use Rattle.decimal_json.specs.Value.{Value}
 use Rattle.decimal_json.specs.declared.types.JsonFault.TheVariants as json
-use Rattle.instance.specs.Bytes.{StandFor}
 use Rattle.instance.specs.InstanceOf.{IsInstanceOf}
 use Rattle.instance.proofs.Steps.{ok_is}
 use Rattle.instance.proofs.file.read_instance.Goals as goal
