@@ -1,2 +1,3 @@
 pub mod ZeroTable
 pub mod SearchResults
+pub mod Endings

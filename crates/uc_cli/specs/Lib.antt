@@ -1,2 +1,4 @@
 pub mod Words
 pub mod Search
+pub mod Run
+pub mod Ends

@@ -5,6 +5,7 @@ ghost use Rattle.uc_cli.specs.Words.{word_at, is_word, is_name, is_solve as is_s
 
 /// What `solve` is asked: the file of the instance, that of the certificate, and whether a rounded number
 /// is refused.
+#[derive(Clone, Copy, Debug)]
 pub(crate) struct Solve<'a> {
     pub instance: &'a str,
     pub certificate: &'a str,

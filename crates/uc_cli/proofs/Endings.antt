@@ -1,0 +1,80 @@
+-- How the ends of a run follow from its steps: reading and searching (from the files f to g), writing the
+-- certificate (from g to h) and the report.
+use Rattle.std.proofs.Common.{◌≡◌, ◌≢◌, ℕ, Bool, true, false, subst, sym, ap, ◌∙◌, refl}
+use Rattle.std.specs.Prelude.{Result, Ok, Err, OnOk, OnErr, is_err}
+use Rattle.uc_model.specs.declared.instance.Instance.{Instance}
+use Rattle.outside.specs.declared.slot.Slot.{Slot}
+use Rattle.outside.specs.declared.slot.Slot.TheVariants as slot
+use Rattle.outside.specs.Slots.{SlotState, SameBut}
+use Rattle.outside.specs.Sinks.{SinkState}
+use Rattle.branch_tree.specs.declared.found.Found.{Found}
+use Rattle.uc_cli.specs.Run.{IsAnswer, IsSaved, FailsToSave, IsTold, FailsToTell, IsDone, IsUnsaved, IsUntold, text_of_certificate, text_of_report}
+
+-- what holds of a result, by its test
+pub at_err : {T E P : Type 0} (result : Result T E) → is_err result ≡ true → OnErr result P → P
+at_err (Ok x) e h = absurd (cc)
+at_err (Err x) e h = h
+
+pub at_ok : {T E P : Type 0} (result : Result T E) → is_err result ≡ false → OnOk result P → P
+at_ok (Ok x) e h = h
+at_ok (Err x) e h = absurd (cc)
+
+-- the certificate's slot is as it was before the instance was read
+certificate_same : (f g : Slot → SlotState) → SameBut slot.Instance f g → g slot.CertOut ≡ f slot.CertOut
+certificate_same f g same = same slot.CertOut (λ e. cc)
+
+pub unsaved : (exact : Bool) (f g h : Slot → SlotState) (out : SinkState) (instance : Instance) (rounded : ℕ) (found : Found)
+    → IsAnswer exact (f slot.Instance) instance rounded found → SameBut slot.Instance f g
+    → FailsToSave (text_of_certificate instance found) (g slot.CertOut) (h slot.CertOut)
+    → IsUnsaved exact f h out out found
+unsaved exact f g h out instance rounded found answer same fails = record {
+  instance = instance;
+  rounded = rounded;
+  answer = answer;
+  certificate =
+      subst (λ s. FailsToSave (text_of_certificate instance found) s (h slot.CertOut)) (certificate_same f g same) fails;
+  out = refl;
+}
+
+saved_since : (f g h : Slot → SlotState) (instance : Instance) (found : Found) → SameBut slot.Instance f g
+    → IsSaved (text_of_certificate instance found) (g slot.CertOut) (h slot.CertOut)
+    → IsSaved (text_of_certificate instance found) (f slot.CertOut) (h slot.CertOut)
+saved_since f g h instance found same saved =
+    subst (λ s. IsSaved (text_of_certificate instance found) s (h slot.CertOut)) (certificate_same f g same) saved
+
+pub untold : (exact : Bool) (f g h : Slot → SlotState) (before after : SinkState) (instance : Instance) (rounded : ℕ) (found : Found)
+    → IsAnswer exact (f slot.Instance) instance rounded found → SameBut slot.Instance f g
+    → IsSaved (text_of_certificate instance found) (g slot.CertOut) (h slot.CertOut)
+    → FailsToTell (text_of_report instance found rounded) before after
+    → IsUntold exact f h before after found
+untold exact f g h before after instance rounded found answer same saved fails = record {
+  instance = instance;
+  rounded = rounded;
+  answer = answer;
+  saved = saved_since f g h instance found same saved;
+  report = fails;
+}
+
+calm_each : (f g h : Slot → SlotState) → SameBut slot.Instance f g → SameBut slot.CertOut g h
+    → (g slot.Instance).faults ≡ (f slot.Instance).faults → (h slot.CertOut).faults ≡ (g slot.CertOut).faults
+    → (s : Slot) → (h s).faults ≡ (f s).faults
+calm_each f g h first second read written slot.Instance = ap (λ (s : SlotState). s.faults) (second slot.Instance (λ e. cc)) ∙ read
+calm_each f g h first second read written slot.CertIn =
+    ap (λ (s : SlotState). s.faults) (second slot.CertIn (λ e. cc) ∙ first slot.CertIn (λ e. cc))
+calm_each f g h first second read written slot.CertOut =
+    written ∙ ap (λ (s : SlotState). s.faults) (first slot.CertOut (λ e. cc))
+
+pub done : (exact : Bool) (f g h : Slot → SlotState) (before after : SinkState) (instance : Instance) (rounded : ℕ) (found : Found)
+    → IsAnswer exact (f slot.Instance) instance rounded found → SameBut slot.Instance f g → SameBut slot.CertOut g h
+    → (g slot.Instance).faults ≡ (f slot.Instance).faults
+    → IsSaved (text_of_certificate instance found) (g slot.CertOut) (h slot.CertOut)
+    → IsTold (text_of_report instance found rounded) before after
+    → IsDone exact f h before after found
+done exact f g h before after instance rounded found answer first second calm saved told = record {
+  instance = instance;
+  rounded = rounded;
+  answer = answer;
+  saved = saved_since f g h instance found first saved;
+  told = told;
+  calm = calm_each f g h first second calm saved.calm;
+}

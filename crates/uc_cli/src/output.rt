@@ -1,0 +1,41 @@
+//! Writing the certificate and the report.
+
+ghost use Rattle.std.specs.Prelude.{◌≡◌, OnOk, OnErr};
+ghost use Rattle.uc_model.specs.declared.instance.Instance.{Instance};
+ghost use Rattle.outside.specs.declared.slot.Slot.TheVariants.{CertOut};
+ghost use Rattle.outside.specs.declared.slot.Stage.TheVariants.{Unopened};
+ghost use Rattle.outside.specs.Slots.{SameBut};
+ghost use Rattle.branch_tree.specs.Claims.{HasLayout};
+ghost use Rattle.uc_cli.specs.Run.{IsOpenedByNoOther, IsSaved, FailsToSave, IsTold, FailsToTell, text_of_certificate, text_of_report};
+
+use branch_tree::Found;
+use outside::{Failed, Files, Sink, Slot, SlotWriter};
+use report::write_found;
+use uc_model::Instance;
+
+/// The gap in parts per million where the words give none.
+const DEFAULT_GAP: u32 = 1000;
+
+/// Writes the certificate to its slot, and finishes it.
+pub(crate) fn save<F: Files>(files: &mut F, name: &str, found: &Found, instance: &Instance) -> Result<(), Failed>
+    requires unopened { (F.state files.old Slot.CertOut).stage ≡ Unopened }
+    requires layout { HasLayout found.now }
+    ensures saved { OnOk result (IsSaved (text_of_certificate instance.now found.now) (F.state files.old Slot.CertOut) (F.state files.new Slot.CertOut)) }
+    ensures failed { OnErr result (FailsToSave (text_of_certificate instance.now found.now) (F.state files.old Slot.CertOut) (F.state files.new Slot.CertOut)) }
+    ensures named { IsOpenedByNoOther name.now (F.state files.old Slot.CertOut) (F.state files.new Slot.CertOut) }
+    ensures others { SameBut CertOut (F.state files.old) (F.state files.new) }
+{
+    files.open_slot(Slot::CertOut, name)?;
+    let mut writer = SlotWriter::new(files, Slot::CertOut);
+    cert_text::write(found, instance, &mut writer)?;
+    files.finish(Slot::CertOut)
+}
+
+/// Writes the report, and flushes it.
+pub(crate) fn tell<O: Sink>(out: &mut O, found: &Found, instance: &Instance, rounded: u64) -> Result<(), Failed>
+    ensures told { OnOk result (IsTold (text_of_report instance.now found.now rounded) (O.state out.old) (O.state out.new)) }
+    ensures failed { OnErr result (FailsToTell (text_of_report instance.now found.now rounded) (O.state out.old) (O.state out.new)) }
+{
+    write_found(out, found, instance, rounded, DEFAULT_GAP)?;
+    out.flush()
+}
