@@ -23,3 +23,5 @@ pub mod Longest
 pub mod Readings
 pub mod Weaker
 pub mod Completions
+pub mod RunFronts
+pub mod RunFaults

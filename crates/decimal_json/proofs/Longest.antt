@@ -1,5 +1,5 @@
 -- The machine's place of a fault of the second kind: no text goes on beyond it.
-use Rattle.std.proofs.Common.{subst, ◌≡◌, ℕ, ◌<◌, suc, zero, List, [], ◌∷◌, ◌++◌, length, take, refl, sym, ap, ◌∙◌, arith, false, append_assoc, length-append, ⊎_elim}
+use Rattle.std.proofs.Common.{subst, lit<, ◌≡◌, ℕ, ◌<◌, suc, zero, List, [], ◌∷◌, ◌++◌, length, take, refl, sym, ap, ◌∙◌, arith, false, append_assoc, length-append, ⊎_elim}
 use Rattle.decimal_json.specs.Value.{Value}
 use Rattle.decimal_json.specs.Scan.{stop, done, fault, step, after, outcome, whole_outcome}
 use Rattle.decimal_json.specs.Grammar.{SpellsText}
@@ -8,6 +8,8 @@ use Rattle.decimal_json.proofs.Runs.{Refuses}
 use Rattle.decimal_json.proofs.RunValues.{text_arrives}
 use Rattle.std.proofs.lemmas.List.{append-nil, take_at}
 use Rattle.decimal_json.proofs.Completions.{begins}
+use Rattle.decimal_json.proofs.RunFronts.{deep_fault}
+use Rattle.decimal_json.proofs.RunFaults.{repeated_fault, lacks_fault}
 use Rattle.decimal_json.proofs.Sound.{Stops}
 
 -- a text is no fault of the second kind
@@ -37,6 +39,9 @@ front_of bytes k s = ⊎_elim
     (λ (f : bytes ≡ s.front). ap (λ x. take k x) (f ∙ sym (append-nil s.front)) ∙ take_at s.front [] k (sym s.place))
     (λ (r : (c : ℕ) × (cs : List ℕ) × (bytes ≡ s.front ++ c ∷ cs) × (step (length s.front) s.outer s.spot c ≡ stop k 2)). ap (λ x. take k x) r.2 ∙ take_at s.front (r.0 ∷ r.1) k (sym s.place)) s.ends
 
+apart : (k j kind : ℕ) → fault k 2 ≡ fault j kind → 2 < kind → ⊥
+apart k j kind e lt = let f : 2 ≡ kind = cc in omega arith
+
 pub is_no_json : (bytes : List ℕ) (k : ℕ) → whole_outcome bytes ≡ fault k 2 → Stops bytes k → IsNoJson bytes k
 is_no_json bytes k e s = record {
   within = ⊎_elim (λ (f : bytes ≡ s.front). omega (arith, s.place, ap length f))
@@ -48,4 +53,7 @@ is_no_json bytes k e s = record {
       let same : take j bytes ++ begins.1 ≡ s.front ++ r.0 ∷ (past.0 ++ begins.1) = ap (λ x. take j x ++ begins.1) r.2 ∙ (ap (λ x. x ++ begins.1) past.1 ∙ append_assoc s.front (r.0 ∷ past.0) begins.1) in
       no_second (take j bytes ++ begins.1) k begins.0 (ap whole_outcome same ∙ stopped_there bytes k s r.0 r.3 (past.0 ++ begins.1)) begins.2) s.ends;
   no_text = λ v t. no_second bytes k v e t;
+  shallow = λ j d. apart k j 3 (sym e ∙ deep_fault bytes j d) (lit< tt);
+  no_repeat = λ j d. apart k j 4 (sym e ∙ repeated_fault bytes j d) (lit< tt);
+  no_half = λ j d. apart k j 5 (sym e ∙ lacks_fault bytes j d) (lit< tt);
 }

@@ -47,31 +47,31 @@ second_run at outer p t back u a b c d rest h =
     ∙ (byte_run (suc at) 117 outer (quoted p (high_escaped t back u)) (a ∷ b ∷ c ∷ d ∷ rest) (next outer (quoted p (high_unit t back u no_digit))) (high_escaped_leads (suc at) outer p t back u)
     ∙ hex_run (suc (suc at)) outer p (high_unit t back u) (λ v. pair_step outer p t back u v) a b c d rest (second_each outer p t back u) h)
 
-unit_scalar : (outer : List Frame) (p : Purpose) (t : List ℕ) (back u : ℕ) → is_surrogate u ≡ false → unit_step outer p t back u ≡ next outer (quoted p (plain (t ++ encode_utf8 u)))
+pub unit_scalar : (outer : List Frame) (p : Purpose) (t : List ℕ) (back u : ℕ) → is_surrogate u ≡ false → unit_step outer p t back u ≡ next outer (quoted p (plain (t ++ encode_utf8 u)))
 unfolding unit_step
 unit_scalar outer p t back u e = let parts = or_parts (is_high_surrogate u) (is_low_surrogate u) e in rw (parts.0, parts.1) refl
 
-unit_low : (outer : List Frame) (p : Purpose) (t : List ℕ) (back u : ℕ) → is_low_surrogate u ≡ true → unit_step outer p t back u ≡ stop back 5
+pub unit_low : (outer : List Frame) (p : Purpose) (t : List ℕ) (back u : ℕ) → is_low_surrogate u ≡ true → unit_step outer p t back u ≡ stop back 5
 unfolding unit_step
 unit_low outer p t back u e = rw (low_not_high u e, e) refl
 
-unit_high : (outer : List Frame) (p : Purpose) (t : List ℕ) (back u : ℕ) → is_high_surrogate u ≡ true → unit_step outer p t back u ≡ next outer (quoted p (high t back u))
+pub unit_high : (outer : List Frame) (p : Purpose) (t : List ℕ) (back u : ℕ) → is_high_surrogate u ≡ true → unit_step outer p t back u ≡ next outer (quoted p (high t back u))
 unfolding unit_step
 unit_high outer p t back u e = rw e refl
 
-pair_low : (outer : List Frame) (p : Purpose) (t : List ℕ) (back u v : ℕ) → is_low_surrogate v ≡ true → pair_step outer p t back u v ≡ next outer (quoted p (plain (t ++ encode_utf8 (surrogate_pair_char u v))))
+pub pair_low : (outer : List Frame) (p : Purpose) (t : List ℕ) (back u v : ℕ) → is_low_surrogate v ≡ true → pair_step outer p t back u v ≡ next outer (quoted p (plain (t ++ encode_utf8 (surrogate_pair_char u v))))
 unfolding pair_step
 pair_low outer p t back u v e = rw e refl
 
-pair_other : (outer : List Frame) (p : Purpose) (t : List ℕ) (back u v : ℕ) → is_low_surrogate v ≡ false → pair_step outer p t back u v ≡ stop back 5
+pub pair_other : (outer : List Frame) (p : Purpose) (t : List ℕ) (back u v : ℕ) → is_low_surrogate v ≡ false → pair_step outer p t back u v ≡ stop back 5
 unfolding pair_step
 pair_other outer p t back u v e = rw e refl
 
-high_other : (at c : ℕ) (outer : List Frame) (p : Purpose) (t : List ℕ) (back u : ℕ) → (c == 92) ≡ false → step at outer (quoted p (high t back u)) c ≡ stop back 5
+pub high_other : (at c : ℕ) (outer : List Frame) (p : Purpose) (t : List ℕ) (back u : ℕ) → (c == 92) ≡ false → step at outer (quoted p (high t back u)) c ≡ stop back 5
 unfolding step quoted_step
 high_other at c outer p t back u e = rw e refl
 
-high_letter : (at c : ℕ) (outer : List Frame) (p : Purpose) (t : List ℕ) (back u : ℕ) → (c == 117) ≡ false → step at outer (quoted p (high_escaped t back u)) c ≡ stop back 5
+pub high_letter : (at c : ℕ) (outer : List Frame) (p : Purpose) (t : List ℕ) (back u : ℕ) → (c == 117) ≡ false → step at outer (quoted p (high_escaped t back u)) c ≡ stop back 5
 unfolding step quoted_step
 high_letter at c outer p t back u e = rw e refl
 

@@ -39,7 +39,7 @@ boolean_moves true at outer = true_moves at outer
 boolean_moves false at outer = false_moves at outer
 
 -- the same bytes under another name
-arrives_as : (limited : Bool) (at : ℕ) (outer : List Frame) (spot : Spot) (xs ys : List ℕ) (o : List Frame) (s : Spot) (rest : List ℕ) → xs ≡ ys
+pub arrives_as : (limited : Bool) (at : ℕ) (outer : List Frame) (spot : Spot) (xs ys : List ℕ) (o : List Frame) (s : Spot) (rest : List ℕ) → xs ≡ ys
     → Arrives limited at outer spot xs o s rest → Arrives limited at outer spot ys o s rest
 arrives_as limited at outer spot xs ys o s rest e a = subst (λ (bs : List ℕ). Arrives limited at outer spot bs o s rest) e a
 
@@ -55,7 +55,7 @@ string_value limited at outer t bs rest is =
     (λ r. inr (refuses_along limited (outcome at outer wanted (34 ∷ tail_text is.0 ++ rest)) (outcome (suc at) outer (quoted for_value (plain [])) (tail_text is.0 ++ rest)) led r))
     (string_run limited (suc at) outer for_value [] is.0 rest is.1))
 
-string_key : (limited : Bool) (at : ℕ) (outer : List Frame) (ms : List Member) (k bs rest : List ℕ) → IsString limited k bs → (limited ≡ true → has_key (members_of ms) k ≡ false)
+pub string_key : (limited : Bool) (at : ℕ) (outer : List Frame) (ms : List Member) (k bs rest : List ℕ) → IsString limited k bs → (limited ≡ true → has_key (members_of ms) k ≡ false)
     → Arrives limited at outer (key_wanted ms) bs outer (colon_wanted ms k) rest
 string_key limited at outer ms k bs rest is new =
     let cs : List Character = is.0 in
@@ -75,7 +75,7 @@ string_key limited at outer ms k bs rest is new =
     (string_run limited (suc at) outer (for_key ms at) [] cs rest is.1))
 
 -- what stands behind a value
-delimits_behind : (ws tail : List ℕ) → IsSpace ws → Delimits tail → Delimits (ws ++ tail)
+pub delimits_behind : (ws tail : List ℕ) → IsSpace ws → Delimits tail → Delimits (ws ++ tail)
 delimits_behind [] tail space d = d
 delimits_behind (w ∷ ws) tail space d = or_left (is_space w) ((w == 44) || ((w == 93) || (w == 125))) space.0
 
@@ -88,7 +88,7 @@ delimits_members limited level no_members more rest s = subst (λ (bs : List ℕ
 delimits_members limited level (member k v ms) more rest s = subst (λ (bs : List ℕ). Delimits ((bs ++ 125 ∷ []) ++ rest)) (sym s.14) refl
 
 -- a value with white space round it, and what follows
-padded : (limited : Bool) (at : ℕ) (frames : List Frame) (v : Value) (before core behind tail : List ℕ) (o : List Frame) (s : Spot) (rest : List ℕ) → IsSpace before → IsSpace behind
+pub padded : (limited : Bool) (at : ℕ) (frames : List Frame) (v : Value) (before core behind tail : List ℕ) (o : List Frame) (s : Spot) (rest : List ℕ) → IsSpace before → IsSpace behind
     → ((k : ℕ) → Arrives limited k frames wanted core frames (ended v) ((behind ++ tail) ++ rest)) → ((k : ℕ) → Arrives limited k frames (ended v) tail o s rest)
     → Arrives limited at frames wanted (before ++ (core ++ (behind ++ tail))) o s rest
 padded limited at frames v before core behind tail o s rest sb sh value follow =
@@ -100,7 +100,7 @@ padded limited at frames v before core behind tail o s rest sb sh value follow =
     (follow (at + length before + length core + length behind))))
 
 -- a key, its colon and its value
-keyed : (limited : Bool) (at : ℕ) (outer : List Frame) (ms : List Member) (k : List ℕ) (v : Value) (first key second third core behind tail : List ℕ) (o : List Frame) (s : Spot) (rest : List ℕ)
+pub keyed : (limited : Bool) (at : ℕ) (outer : List Frame) (ms : List Member) (k : List ℕ) (v : Value) (first key second third core behind tail : List ℕ) (o : List Frame) (s : Spot) (rest : List ℕ)
     → IsSpace first → IsString limited k key → IsSpace second → IsSpace third → IsSpace behind → (limited ≡ true → has_key (members_of ms) k ≡ false)
     → ((j : ℕ) → Arrives limited j (in_object ms k ∷ outer) wanted core (in_object ms k ∷ outer) (ended v) ((behind ++ tail) ++ rest))
     → ((j : ℕ) → Arrives limited j (in_object ms k ∷ outer) (ended v) tail o s rest)
@@ -121,11 +121,11 @@ keyed limited at outer ms k v first key second third core behind tail o s rest s
     (padded limited (at3 + 1) frames v third core behind tail o s rest s3 s4 value follow))))
 
 -- a bracket opens a level, or there may be none more
-opened_next : (at : ℕ) (outer : List Frame) (spot : Spot) → length outer < 64 → opened at outer spot ≡ next outer spot
+pub opened_next : (at : ℕ) (outer : List Frame) (spot : Spot) → length outer < 64 → opened at outer spot ≡ next outer spot
 unfolding opened
 opened_next at outer spot lt = rw (lt-ltb (length outer) 64 lt) refl
 
-opened_stop : (at : ℕ) (outer : List Frame) (spot : Spot) → nat_lt (length outer) 64 ≡ false → opened at outer spot ≡ stop at 3
+pub opened_stop : (at : ℕ) (outer : List Frame) (spot : Spot) → nat_lt (length outer) 64 ≡ false → opened at outer spot ≡ stop at 3
 unfolding opened
 opened_stop at outer spot e = rw e refl
 
@@ -147,20 +147,20 @@ brackets limited at level c d outer spot inside v rest opens size limits within 
     (cases_Bool (nat_lt (length outer) 64))
 
 -- the front of an array or an object, where its first item or key comes
-first_item_as : (at c : ℕ) (outer : List Frame) (cs : List ℕ) → is_space c ≡ false → (c ≡ 93 → ⊥) → outcome at outer first_item (c ∷ cs) ≡ outcome at (in_array [] ∷ outer) wanted (c ∷ cs)
+pub first_item_as : (at c : ℕ) (outer : List Frame) (cs : List ℕ) → is_space c ≡ false → (c ≡ 93 → ⊥) → outcome at outer first_item (c ∷ cs) ≡ outcome at (in_array [] ∷ outer) wanted (c ∷ cs)
 first_item_as at c outer cs space ne =
     byte_run at c outer first_item cs (step at (in_array [] ∷ outer) wanted c) (first_item_other at c outer space ne) ∙ sym (byte_run at c (in_array [] ∷ outer) wanted cs (step at (in_array [] ∷ outer) wanted c) refl)
 
-first_key_as : (at : ℕ) (outer : List Frame) (cs : List ℕ) → outcome at outer first_key (34 ∷ cs) ≡ outcome at outer (key_wanted []) (34 ∷ cs)
+pub first_key_as : (at : ℕ) (outer : List Frame) (cs : List ℕ) → outcome at outer first_key (34 ∷ cs) ≡ outcome at outer (key_wanted []) (34 ∷ cs)
 first_key_as at outer cs = byte_run at 34 outer first_key cs (step at outer (key_wanted []) 34) (first_key_other at 34 outer refl (λ e. absurd (omega arith))) ∙ sym (byte_run at 34 outer (key_wanted []) cs (step at outer (key_wanted []) 34) refl)
 
 -- how a value begins
-record Begins (bs : List ℕ) : Type 0 where
-  c : ℕ
-  cs : List ℕ
-  is : bs ≡ c ∷ cs
-  no_space : is_space c ≡ false
-  no_bracket : c ≡ 93 → ⊥
+pub record Begins (bs : List ℕ) : Type 0 where
+  pub c : ℕ
+  pub cs : List ℕ
+  pub is : bs ≡ c ∷ cs
+  pub no_space : is_space c ≡ false
+  pub no_bracket : c ≡ 93 → ⊥
 
 begins_as : (bs : List ℕ) (c : ℕ) (cs : List ℕ) → bs ≡ c ∷ cs → is_space c ≡ false → (c ≡ 93 → ⊥) → Begins bs
 begins_as bs c cs e s b = record { c = c; cs = cs; is = e; no_space = s; no_bracket = b }
@@ -176,7 +176,7 @@ number_begins n bs is = go is.negative is.ds is.is_whole (fraction_text is.fs ++
   go false (d ∷ []) w more e = begins_as bs (48 + d) more e (digit_no_space d w) (λ f. absurd (omega arith))
   go false (d ∷ x ∷ ds) w more e = begins_as bs (48 + d) (numerals (x ∷ ds) ++ more) e (digit_no_space d w.1.0) (λ f. absurd (omega (arith, w.1.0)))
 
-value_begins : (limited : Bool) (level : ℕ) (v : Value) (bs : List ℕ) → Spells limited level v bs → Begins bs
+pub value_begins : (limited : Bool) (level : ℕ) (v : Value) (bs : List ℕ) → Spells limited level v bs → Begins bs
 value_begins limited level null bs s = begins_as bs 110 ull s refl (λ e. absurd (omega arith))
 value_begins limited level (boolean true) bs s = begins_as bs 116 rue s refl (λ e. absurd (omega arith))
 value_begins limited level (boolean false) bs s = begins_as bs 102 alse s refl (λ e. absurd (omega arith))
@@ -186,7 +186,7 @@ value_begins limited level (array vs) bs s = begins_as bs 91 (s.0 ++ 93 ∷ []) 
 value_begins limited level (object ms) bs s = begins_as bs 123 (s.0 ++ 125 ∷ []) s.4 refl (λ e. absurd (omega arith))
 
 -- the first item stands where the bracket may close, too
-first_as : (limited : Bool) (at : ℕ) (outer : List Frame) (core x : List ℕ) (o : List Frame) (s : Spot) (rest : List ℕ) → Begins core
+pub first_as : (limited : Bool) (at : ℕ) (outer : List Frame) (core x : List ℕ) (o : List Frame) (s : Spot) (rest : List ℕ) → Begins core
     → Arrives limited at (in_array [] ∷ outer) wanted (core ++ x) o s rest → Arrives limited at outer first_item (core ++ x) o s rest
 first_as limited at outer core x o s rest b a =
     let same : outcome at outer first_item ((core ++ x) ++ rest) ≡ outcome at (in_array [] ∷ outer) wanted ((core ++ x) ++ rest) =
@@ -194,7 +194,7 @@ first_as limited at outer core x o s rest b a =
     (first_item_as at b.c outer ((b.cs ++ x) ++ rest) b.no_space b.no_bracket) in
     ⊎_elim (λ e. inl (same ∙ e)) (λ r. inr (refuses_along limited (outcome at outer first_item ((core ++ x) ++ rest)) (outcome at (in_array [] ∷ outer) wanted ((core ++ x) ++ rest)) same r)) a
 
-first_key_is : (limited : Bool) (at : ℕ) (outer : List Frame) (k key x : List ℕ) (o : List Frame) (s : Spot) (rest : List ℕ) → IsString limited k key
+pub first_key_is : (limited : Bool) (at : ℕ) (outer : List Frame) (k key x : List ℕ) (o : List Frame) (s : Spot) (rest : List ℕ) → IsString limited k key
     → Arrives limited at outer (key_wanted []) (key ++ x) o s rest → Arrives limited at outer first_key (key ++ x) o s rest
 first_key_is limited at outer k key x o s rest is a =
     let same : outcome at outer first_key ((key ++ x) ++ rest) ≡ outcome at outer (key_wanted []) ((key ++ x) ++ rest) =

@@ -3,7 +3,7 @@ use Rattle.std.proofs.Common.{ℕ, List, [], ◌∷◌, true, false}
 use Rattle.std.proofs.lemmas.Bool.{false≢true}
 use Rattle.decimal_json.specs.Value.{Value, null, boolean, number, text, array, object, Items, no_items, item, Members, no_members, member}
 use Rattle.decimal_json.specs.Scan.{Member}
-use Rattle.decimal_json.specs.Grammar.{Character, itself, short, alone, pair, IsCharacter, AreCharacters, IsString, Spells, SpellsItems, SpellsMoreItems, SpellsMembers, SpellsMoreMembers}
+use Rattle.decimal_json.specs.Grammar.{Character, itself, short, alone, pair, IsCharacter, AreCharacters, IsString, Spells, SpellsItems, SpellsMoreItems, SpellsMembers, SpellsMoreMembers, SpellsText}
 use Rattle.decimal_json.specs.Fronts.{FrontItems, FrontMembers}
 
 weaker_character : (c : Character) → IsCharacter true c → IsCharacter false c
@@ -54,3 +54,6 @@ pub weaker_front_members : (level : ℕ) (ms : List Member) (bs : List ℕ) → 
 weaker_front_members level [] bs f = f
 weaker_front_members level (m ∷ ms) bs f =
     (f.0, f.1, f.2, f.3, f.4, f.5, f.6, f.7, weaker_string m.0 f.1 f.8, f.9, f.10, weaker level m.1 f.4 f.11, f.12, weaker_front_members level ms f.6 f.13, f.14)
+
+pub weaker_text : (v : Value) (bs : List ℕ) → SpellsText true v bs → SpellsText false v bs
+weaker_text v bs s = (s.0, s.1, s.2, s.3, weaker 0 v s.1 s.4, s.5, s.6)

@@ -20,17 +20,23 @@ pub record IsLongestUtf8 (bytes : List ℕ) (at : ℕ) : Type 0 where
   pub utf8 : IsUtf8 (take at bytes)
   pub longest : (k : ℕ) → at < k → k ≤ length bytes → IsUtf8 (take k bytes) → ⊥
 
--- The bytes are no JSON text. Up to a place they are the front of one, and up to no later place.
+-- The bytes are no JSON text. Up to a place they are the front of one, and up to no later place; and no limit is broken.
 pub record IsNoJson (bytes : List ℕ) (at : ℕ) : Type 0 where
   pub within : at ≤ length bytes
   pub begins : BeginsText (take at bytes)
   pub longest : (k : ℕ) → at < k → k ≤ length bytes → BeginsText (take k bytes) → ⊥
   pub no_text : (v : Value) → SpellsText false v bytes → ⊥
+  pub shallow : (k : ℕ) → OpensTooDeep bytes k → ⊥
+  pub no_repeat : (k : ℕ) → RepeatsKey bytes k → ⊥
+  pub no_half : (k : ℕ) → LacksPartner bytes k → ⊥
+
+-- why a text in UTF-8 is refused at a place
+abbrev pub IsTextFault : List ℕ → ℕ → ℕ → Type 0
+IsTextFault bytes at kind = ((kind ≡ 2) × IsNoJson bytes at) ⊎ (((kind ≡ 3) × OpensTooDeep bytes at) ⊎ (((kind ≡ 4) × RepeatsKey bytes at) ⊎ ((kind ≡ 5) × LacksPartner bytes at)))
 
 -- why the bytes are refused at a place
 abbrev pub IsFault : List ℕ → ℕ → ℕ → Type 0
-IsFault bytes at kind = ((kind ≡ 1) × ¬ (IsUtf8 bytes) × IsLongestUtf8 bytes at) ⊎ ((kind ≡ 2) × IsNoJson bytes at) ⊎ ((kind ≡ 3) × OpensTooDeep bytes at)
-    ⊎ ((kind ≡ 4) × RepeatsKey bytes at) ⊎ ((kind ≡ 5) × LacksPartner bytes at)
+IsFault bytes at kind = ((kind ≡ 1) × ¬ (IsUtf8 bytes) × IsLongestUtf8 bytes at) ⊎ (IsUtf8 bytes × IsTextFault bytes at kind)
 
 -- Each answer but want of memory has its cause.
 abbrev pub HasCause : List ℕ → JsonFault → Type 0

@@ -1,7 +1,7 @@
 //! Single bytes of the input, and white space.
 
-ghost use Rattle.std.specs.Prelude.{◌≡◌, ℕ, ◌+◌, ◌<◌, ◌≤◌, Bool, true, false, ◌==◌, List, ◌∷◌, [], length, drop, IfSome, IfNone};
-ghost use Rattle.decimal_json.specs.Scan.{Frame, Spot, is_space, scan};
+ghost use Rattle.std.specs.Prelude.{◌≡◌, ℕ, ◌+◌, ◌<◌, ◌≤◌, true, false, ◌==◌, List, ◌∷◌, [], length, drop, IfSome, IfNone};
+ghost use Rattle.decimal_json.specs.Scan.{is_space};
 ghost use Rattle.decimal_json.specs.Answer.{SkipsSpace, StandsAt, FailsAt, IsToken};
 
 /// The byte at a place, if there is one.

@@ -1,9 +1,9 @@
 //! Numbers of RFC 8259, section 6.
 
-ghost use Rattle.std.specs.Prelude.{◌≡◌, ℕ, ◌+◌, ◌*◌, ◌-◌, ◌<◌, ◌≤◌, ◌^◌, ◌⊎◌, Bool, true, false, List, ◌∷◌, [], ◌++◌, length, IfOk, IfErr, OnOk, if◌then◌else◌, pos, min};
+ghost use Rattle.std.specs.Prelude.{◌≡◌, ℕ, ◌+◌, ◌*◌, ◌-◌, ◌<◌, ◌≤◌, ◌^◌, Bool, true, false, List, [], length, IfOk, IfErr, pos, min};
 ghost use Rattle.decimal_json.specs.Value.{number as number_value};
 ghost use Rattle.decimal_json.specs.Number.{is_digit, digit_of, is_mark, exponent_of};
-ghost use Rattle.decimal_json.specs.Scan.{Frame, Spot, wanted, numeral, minus, point, fraction, mark, signed, exponent as in_exponent, ended, so_far, scan};
+ghost use Rattle.decimal_json.specs.Scan.{Frame, Spot, numeral, point, mark, signed, scan};
 ghost use Rattle.decimal_json.specs.Answer.{Leads, Reads, Breaks, AfterWhole, MayEnd, AddsDigits, ReadsWhole, ReadsFraction, AddsExponent, ReadsExponent, begun, FailsAt, StandsAt, kept};
 ghost use Rattle.decimal_json.specs.View.{decimal_of};
 

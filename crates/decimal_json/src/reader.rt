@@ -1,11 +1,11 @@
 //! A whole text.
 
-ghost use Rattle.std.specs.Prelude.{◌≡◌, MatchResult, IfOk, IfErr};
+ghost use Rattle.std.specs.Prelude.{◌≡◌, ◌⊎◌, ℕ, MatchResult, IfOk, IfErr};
 ghost use Rattle.decimal_json.specs.Value.{Value};
 ghost use Rattle.decimal_json.specs.Scan.{whole_outcome};
 ghost use Rattle.decimal_json.specs.Answer.{Gives};
 ghost use Rattle.decimal_json.specs.View.{view};
-ghost use Rattle.decimal_json.specs.Reading.{IsText, HasCause};
+ghost use Rattle.decimal_json.specs.Reading.{IsText, IsFault, HasCause};
 
 use crate::bytes::token_at;
 use crate::types::{Json, JsonFault, no_json};
@@ -39,6 +39,9 @@ pub fn read(alloc: Global, bytes: &[u8]) -> Result<Json, JsonFault>
         MatchResult result (λ json. view json ≡ v) (λ e. e ≡ JsonFault.NoMemory) }
     // Each fault has its cause at its place.
     ensures fault { IfErr result (HasCause bytes.now) }
+    // Where such a cause stands, it is the answer, and no other is.
+    ensures exact { (at kind : ℕ) → IsFault bytes.now at kind →
+        MatchResult result (λ _. ⊥) (λ e. (e ≡ JsonFault.At at kind) ⊎ (e ≡ JsonFault.NoMemory)) }
 {
     match str::from_utf8(bytes) {
         Ok(source) => document(alloc, source),

@@ -1,10 +1,10 @@
 //! Strings of RFC 8259, section 7.
 
-ghost use Rattle.std.specs.Prelude.{◌≡◌, ℕ, ◌+◌, ◌-◌, ◌<◌, ◌≤◌, List, ◌++◌, length, slice_range, IfOk, IfErr};
+ghost use Rattle.std.specs.Prelude.{◌≡◌, ◌+◌, ◌-◌, ◌<◌, ◌≤◌, length, slice_range, IfOk, IfErr};
 ghost use Rattle.std.specs.Str.{IsCharBoundary};
 ghost use Rattle.std.specs.String.{string_bytes};
-ghost use Rattle.decimal_json.specs.Scan.{Frame, Purpose, quoted, plain, is_plain, quote_step, scan};
-ghost use Rattle.decimal_json.specs.Answer.{Leads, FailsAt, resumed, ReadsPlain, ReadsText, BreaksText};
+ghost use Rattle.decimal_json.specs.Scan.{is_plain};
+ghost use Rattle.decimal_json.specs.Answer.{FailsAt, ReadsPlain, ReadsText, BreaksText};
 
 use crate::bytes::byte_at;
 use crate::escape::escape;

@@ -1,9 +1,9 @@
 //! Values of RFC 8259, section 3, and white space round them.
 
-ghost use Rattle.std.specs.Prelude.{◌≡◌, ◌≢◌, ℕ, ◌+◌, ◌<◌, ◌≤◌, ◌⊎◌, ⊤, Bool, true, false, List, [], ◌∷◌, length, map, IfOk, IfErr};
+ghost use Rattle.std.specs.Prelude.{◌≡◌, ◌≢◌, ◌+◌, ◌<◌, ◌≤◌, Bool, true, false, length, map, IfOk, IfErr};
 ghost use Rattle.decimal_json.specs.Value.{Value, items_of, members_of, array as array_value, object as object_value};
-ghost use Rattle.decimal_json.specs.Scan.{Frame, wanted, literal as literal_spot, awaited, first_item, first_key, ended, is_space, scan};
-ghost use Rattle.decimal_json.specs.Answer.{Leads, StandsAt, Reads, Breaks, ReadsValue, BreaksValue, ReadsInside, BreaksInside};
+ghost use Rattle.decimal_json.specs.Scan.{wanted, awaited, first_item, first_key, is_space};
+ghost use Rattle.decimal_json.specs.Answer.{StandsAt, Reads, Breaks, ReadsValue, BreaksValue, ReadsInside, BreaksInside};
 ghost use Rattle.decimal_json.specs.View.{view, pair_view};
 
 use crate::bytes::{has_byte, token_at};
