@@ -1,12 +1,12 @@
 -- What a tree of the search says as a cover, and the certificate that a found answer stands for. This
 -- project's own form.
-use Rattle.std.specs.Prelude.{ℕ, List, [], ◌∷◌, ℤ, pos, Option, Some, None, slice_index_or, map}
+use Rattle.std.specs.Prelude.{◌≡◌, ℕ, ◌<◌, List, [], ◌∷◌, ℤ, pos, Option, Some, None, All, length, slice_index_or, map}
 use Rattle.uc_model.specs.Schedule.{thermal_count, renewable_count}
 use Rattle.uc_model.specs.declared.instance.Instance.{Instance}
 use Rattle.uc_model.specs.declared.schedule.Printed.{Printed}
 use Rattle.dual_model.specs.Cover.{Ends, Bound, Ray, Empty}
 use Rattle.dual_model.specs.Cover as cover
-use Rattle.dual_model.specs.Certificate.{Certificate, Priced}
+use Rattle.dual_model.specs.Certificate.{Certificate, WrittenSchedule}
 use Rattle.dual_model.specs.declared.table.Table.{Table}
 use Rattle.branch_tree.specs.declared.tree.Leaf.{Leaf}
 use Rattle.branch_tree.specs.declared.tree.Leaf.TheVariants as leaf
@@ -39,17 +39,27 @@ abbrev pub tree_bound : Tree → Option ℤ
 tree_bound tree = leaf_bound tree.leaf
 
 -- a schedule and its cost
-abbrev pub priced_of : Option (Printed × ℤ) → Option Priced
-priced_of None = None
-priced_of (Some pair) = Some (record { printed = pair.0; cost = pair.1 })
+abbrev pub written_of : Option (Printed × ℤ) → Option WrittenSchedule
+written_of None = None
+written_of (Some pair) = Some (record { printed = pair.0; cost = pair.1 })
 
 -- a table where there is none: no prices
 abbrev pub no_table : Table
 no_table = record { units = 0; k = pos 0; pi = []; mu = []; ramps = [] }
 
+-- the table of that number
+abbrev pub table_at : List Table → ℕ → Table
+table_at tables i = slice_index_or tables i no_table
+
 -- the tables that the tree uses, in order of first use
 abbrev pub used_tables : Found → List Table
-used_tables found = map (λ i. slice_index_or found.tables i no_table) (leaf_tables found.tree.leaf)
+used_tables found = map (table_at found.tables) (leaf_tables found.tree.leaf)
+
+-- the layout is that of the tree: its nodes in preorder, and the numbers of the tables that its leaves use
+pub record HasLayout (found : Found) : Type 0 where
+  pub nodes : found.layout.nodes ≡ 0 ∷ []
+  pub tables : found.layout.tables ≡ leaf_tables found.tree.leaf
+  pub within : All (λ i. i < length found.tables) (leaf_tables found.tree.leaf)
 
 -- the certificate that the found answer stands for
 abbrev pub certificate_of : Instance → Found → Certificate
@@ -58,6 +68,7 @@ certificate_of instance found = record {
   thermal = thermal_count instance;
   renewable = renewable_count instance;
   bound = tree_bound found.tree;
-  schedule = priced_of found.schedule;
+  schedule = written_of found.schedule;
   tables = used_tables found;
-  tree = Ends (leaf_claim found.tree.leaf) }
+  tree = Ends (leaf_claim found.tree.leaf);
+}

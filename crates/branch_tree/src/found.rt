@@ -1,9 +1,8 @@
 //! The answer of a search.
 
+use crate::tree::Tree;
 use dual_model::Table;
 use uc_model::{List, Printed, Stuck};
-
-use crate::tree::Tree;
 
 /// What the evaluation of a node at a table gave.
 #[derive(Clone, Copy, Debug, PartialEq, Eq)]

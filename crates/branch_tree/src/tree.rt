@@ -1,5 +1,7 @@
 //! The tree of commitments.
 
+ghost use Rattle.std.specs.Prelude.{◌≡◌};
+
 /// A leaf of the tree. Tables are numbers of `Found`'s list, from 0; values are micro-dollars.
 #[derive(Clone, Copy, Debug, PartialEq, Eq)]
 pub enum Leaf {
@@ -17,4 +19,18 @@ pub enum Leaf {
 #[derive(Debug, Drop)]
 pub struct Tree {
     pub leaf: Leaf,
+}
+
+impl Tree {
+    ghost use Rattle.branch_tree.specs.Claims.{tree_bound};
+
+    /// The least bound stored at a leaf that isn't excluded, in micro-dollars; none where each leaf is.
+    pub fn bound(&self) -> Option<i128>
+        ensures { result ≡ tree_bound self.now }
+    {
+        match self.leaf {
+            Leaf::Live { value, .. } | Leaf::Bound { value, .. } => Some(value),
+            Leaf::Ray { .. } | Leaf::Empty { .. } => None,
+        }
+    }
 }

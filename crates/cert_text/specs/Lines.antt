@@ -1,5 +1,5 @@
 -- Lines of words. This project's own form.
-use Rattle.std.specs.Prelude.{ℕ, List, [], ◌∷◌, ◌++◌}
+use Rattle.std.specs.Prelude.{ℕ, List, [], ◌∷◌, ◌++◌, flat_map}
 
 -- each word after a space, and then what follows
 abbrev pub spaced : List (List ℕ) → List ℕ → List ℕ
@@ -7,5 +7,13 @@ spaced [] rest = rest
 spaced (word ∷ words) rest = 32 ∷ (word ++ spaced words rest)
 
 -- a line: its first word, the others, each after a space, and the line feed
-abbrev pub line : List ℕ → List (List ℕ) → List ℕ
+unfoldable pub line : List ℕ → List (List ℕ) → List ℕ
 line first words = first ++ spaced words (10 ∷ [])
+
+-- a word for each element, each after a space
+abbrev pub words_of : {X : Type 0} → (X → List ℕ) → List X → List ℕ
+words_of word xs = flat_map (λ x. 32 ∷ word x) xs
+
+-- a line of a word for each element, after its first word
+unfoldable pub list_line : {X : Type 0} → List ℕ → (X → List ℕ) → List X → List ℕ
+list_line first word xs = first ++ (words_of word xs ++ 10 ∷ [])

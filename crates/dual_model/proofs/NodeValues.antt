@@ -14,7 +14,7 @@ use Rattle.uc_model.proofs.Ring.{linear, le_antisymm, zero-mul, mul-lt-mul_left,
 use Rattle.uc_model.proofs.Sums.{sum_below-same, sum_below-le}
 use Rattle.dual_model.specs.Fixings.{keeps_of, unit_agrees, HasEmptyUnit}
 use Rattle.dual_model.specs.UnitValue.{IsUnitValue}
-use Rattle.dual_model.specs.NodeValue.{unit_constant, system_value, renewables_value, IsNodeValue}
+use Rattle.dual_model.specs.NodeValue.{constant_at, system_value, renewables_value, IsNodeValue}
 use Rattle.dual_model.specs.Cover.{child}
 use Rattle.dual_model.specs.Laws.{IsScheduleAt, WeakDuality, RaysExclude, ValuesAreUnique, ValuesExist, ValuesExistAtSchedules, ChildBound}
 use Rattle.dual_model.specs.declared.node.Node.{Node}
@@ -24,7 +24,8 @@ use Rattle.dual_model.proofs.Bound.{bound_from}
 use Rattle.dual_model.proofs.UnitValues.{unit_value_of, IsUnitAnswer, unit_value_is, allowed_value}
 
 -- ---- it is unique
-pub unit_value_unique : (instance : Instance) (node : Node) (table : Table) (g : ℕ) (v w : ℤ) → IsUnitValue instance node table g v
+pub unit_value_unique : (instance : Instance) (node : Node) (table : Table) (g : ℕ) (v w : ℤ)
+    → IsUnitValue instance node table g v
     → IsUnitValue instance node table g w → v ≡ w
 unit_value_unique instance node table g v w first second =
     le_antisymm v w
@@ -33,7 +34,7 @@ unit_value_unique instance node table g v w first second =
 
 pub values_are_unique : ValuesAreUnique
 values_are_unique instance node table v w first second =
-    let constant = λ (g : ℕ). unit_constant instance.periods table (thermal_unit instance g) g in
+    let constant = constant_at instance table in
     let units : sum_below (thermal_count instance) (λ g. first.unit_value g +ℤ constant g)
     ≡ sum_below (thermal_count instance) (λ g. second.unit_value g +ℤ constant g) =
     sum_below-same (thermal_count instance) _ _ (λ g l.
@@ -42,7 +43,7 @@ values_are_unique instance node table v w first second =
 
 -- ---- it exists
 abbrev pub unit_part : Instance → Table → ℕ → ℤ → ℤ
-unit_part instance table g v = v +ℤ unit_constant instance.periods table (thermal_unit instance g) g
+unit_part instance table g v = v +ℤ constant_at instance table g
 
 -- the sum of two numbers, where both are there
 abbrev pub both_sum : Option ℤ → Option ℤ → Option ℤ
@@ -54,7 +55,8 @@ both_sum (Some a) (Some b) = Some (a +ℤ b)
 unfoldable pub units_value_of : Instance → Node → Table → ℕ → Option ℤ
 units_value_of instance node table zero = Some (pos 0)
 units_value_of instance node table (suc n) =
-    both_sum (units_value_of instance node table n) (option_map (unit_part instance table n) (unit_value_of instance node table n))
+    both_sum (units_value_of instance node table n)
+    (option_map (unit_part instance table n) (unit_value_of instance node table n))
 
 -- the value of the node at the table, if it has one
 unfoldable pub node_value_of : Instance → Node → Table → Option ℤ
@@ -86,11 +88,14 @@ AreUnitsAnswer instance node table n (Some s) = HaveValues instance node table n
 below_or_last : (g n : ℕ) → g < suc n → (g < n) ⊎ (n ≡ g)
 below_or_last g n l = grind arith
 
-one_more : (instance : Instance) (node : Node) (table : Table) (n : ℕ) → n < thermal_count instance → (before own : Option ℤ)
-    → AreUnitsAnswer instance node table n before → IsUnitAnswer instance node table n own → unit_value_of instance node table n ≡ own
+one_more : (instance : Instance) (node : Node) (table : Table) (n : ℕ) → n < thermal_count instance
+    → (before own : Option ℤ)
+    → AreUnitsAnswer instance node table n before → IsUnitAnswer instance node table n own
+    → unit_value_of instance node table n ≡ own
     → AreUnitsAnswer instance node table (suc n) (both_sum before (option_map (unit_part instance table n) own))
 one_more instance node table n within None own empty answer same = empty
-one_more instance node table n within (Some s) None values none same = record { unit = n; within = within; empty = none }
+one_more instance node table n within (Some s) None values none same =
+    record { unit = n; within = within; empty = none }
 one_more instance node table n within (Some s) (Some v) values value same =
     let is_own : unit_value_or_zero instance node table n ≡ v = ap (λ o. unwrap_or o (pos 0)) same in
     record {
@@ -103,7 +108,8 @@ one_more instance node table n within (Some s) (Some v) values value same =
       total = λ i. values.total i +ℤ unit_part instance table n (sym is_own i);
     }
 
-units_value_is : (instance : Instance) (node : Node) (table : Table) → HasPoints instance → (n : ℕ) → n ≤ thermal_count instance
+units_value_is : (instance : Instance) (node : Node) (table : Table) → HasPoints instance → (n : ℕ)
+    → n ≤ thermal_count instance
     → AreUnitsAnswer instance node table n (units_value_of instance node table n)
 unfolding units_value_of
 units_value_is instance node table points zero most = record { each = λ g l. absurd (omega arith); total = refl }
@@ -120,7 +126,8 @@ IsNodeAnswer instance node table (Some v) = IsNodeValue instance node table v
 
 whole_value : (instance : Instance) (node : Node) (table : Table) (units : Option ℤ)
     → AreUnitsAnswer instance node table (thermal_count instance) units
-    → IsNodeAnswer instance node table (option_map (λ s. system_value instance table +ℤ s +ℤ renewables_value instance table) units)
+    → IsNodeAnswer instance node table
+    (option_map (λ s. system_value instance table +ℤ s +ℤ renewables_value instance table) units)
 whole_value instance node table None empty = empty
 whole_value instance node table (Some s) values = record {
   unit_value = unit_value_or_zero instance node table;
@@ -134,16 +141,19 @@ unfolding node_value_of
 node_value_is instance node table points =
     whole_value instance node table _ (units_value_is instance node table points (thermal_count instance) (omega arith))
 
-answered : (instance : Instance) (node : Node) (table : Table) (answer : Option ℤ) → IsNodeAnswer instance node table answer
+answered : (instance : Instance) (node : Node) (table : Table) (answer : Option ℤ)
+    → IsNodeAnswer instance node table answer
     → ((v : ℤ) × IsNodeValue instance node table v) ⊎ HasEmptyUnit instance node
 answered instance node table None empty = inr empty
 answered instance node table (Some v) is_value = inl (v, is_value)
 
 pub values_exist : ValuesExist
-values_exist instance node table lawful = answered instance node table _ (node_value_is instance node table (has_points instance lawful))
+values_exist instance node table lawful =
+    answered instance node table _ (node_value_is instance node table (has_points instance lawful))
 
 -- where a schedule obeys and agrees, no unit is without a pattern
-pub not_empty : (instance : Instance) (node : Node) (q : ℕ) (x : Schedule) → IsLawfulInstance instance → IsScheduleAt instance node q x
+pub not_empty : (instance : Instance) (node : Node) (q : ℕ) (x : Schedule) → IsLawfulInstance instance
+    → IsScheduleAt instance node q x
     → ¬ HasEmptyUnit instance node
 not_empty instance node q x lawful schedule empty =
     empty.empty (x.thermal empty.unit).on
@@ -161,7 +171,7 @@ pub weak_duality : WeakDuality
 weak_duality instance node table v q x lawful bounds is_value schedule =
     let pattern = λ (g : ℕ) (l : g < thermal_count instance).
     pattern-obeying instance node q x g lawful.periods.0 schedule.obeys schedule.agrees l (lawful.thermal g l) in
-    bound_from instance node q x table v schedule.obeys bounds.size bounds.signs is_value pattern
+    bound_from instance q x table schedule.obeys bounds.size bounds.signs node v is_value pattern
     (λ g l. allowed_value instance table g (x.thermal g).on (lawful.thermal g l).points.0 (pattern g l).allowed)
 
 pub rays_exclude : RaysExclude
@@ -175,7 +185,8 @@ rays_exclude instance node table v q x lawful bounds is_value is_ray positive sc
 
 -- ---- children
 -- what agrees with a child agrees with its parent
-pub parent_agrees : (node : Node) (g t : ℕ) (on : Bool) (k : ℕ) (pattern : Commitment) → IsTrue (unit_agrees (child node g t on) k pattern)
+pub parent_agrees : (node : Node) (g t : ℕ) (on : Bool) (k : ℕ) (pattern : Commitment)
+    → IsTrue (unit_agrees (child node g t on) k pattern)
     → IsTrue (unit_agrees node k pattern)
 parent_agrees node g t on k pattern kept =
     let both = list_all-append (keeps_of k pattern) node.fixings ((record { g = g; t = t; on = on }) ∷ []) in
@@ -191,7 +202,7 @@ child_unit_bound instance node g t on table k v w parent own =
 child_value_bound : (instance : Instance) (node : Node) (g t : ℕ) (on : Bool) (table : Table) (v w : ℤ)
     → IsNodeValue instance node table v → IsNodeValue instance (child node g t on) table w → v ≤ℤ w
 child_value_bound instance node g t on table v w parent own =
-    let constant = λ (k : ℕ). unit_constant instance.periods table (thermal_unit instance k) k in
+    let constant = constant_at instance table in
     let units : sum_below (thermal_count instance) (λ k. parent.unit_value k +ℤ constant k)
     ≤ℤ sum_below (thermal_count instance) (λ k. own.unit_value k +ℤ constant k) =
     sum_below-le (thermal_count instance) (λ k. parent.unit_value k +ℤ constant k) (λ k. own.unit_value k +ℤ constant k)

@@ -34,7 +34,8 @@ below t n l apart = ⊎_elim
     (λ (same : t ≡ n). absurd (true≢false (sym (eq-eqb t n same) ∙ apart)))
     (below_or_last t n l)
 
-with_bit-same : (n : ℕ) (b : Bool) (on other : Commitment) → SameBelow n on other → SameBelow (suc n) (with_bit n b on) (with_bit n b other)
+with_bit-same : (n : ℕ) (b : Bool) (on other : Commitment) → SameBelow n on other
+    → SameBelow (suc n) (with_bit n b on) (with_bit n b other)
 with_bit-same n b on other h = record {
   same = λ t l. ⊎_elim
       (λ (here : IsTrue (t == n)). cond-true (t == n) b (on t) here ∙ sym (cond-true (t == n) b (other t) here))
@@ -67,14 +68,16 @@ abbrev HalfNone : ℕ → (Commitment → Bool) → Bool → Type 0
 HalfNone n test b = PassesNone (λ c. test (with_bit n b c))
 
 -- a pattern of a half, as one of that half's choices
-below_half : (n : ℕ) (test : Commitment → Bool) (value : Commitment → ℤ) (b : Bool) (on other : Commitment) → IsLocal (suc n) test value
+below_half : (n : ℕ) (test : Commitment → Bool) (value : Commitment → ℤ) (b : Bool) (on other : Commitment)
+    → IsLocal (suc n) test value
     → Half n test value b on → other n ≡ b → IsTrue (test other) → value (with_bit n b on) ≤ℤ value other
 below_half n test value b on other h half own passes =
     let same = own_bit n other b own in
     le_trans _ _ _ (half.least other (sym (h.tests other (with_bit n b other) same) ∙ passes))
     (le_of_eq _ _ (sym (h.values other (with_bit n b other) same)))
 
-none_of_half : (n : ℕ) (test : Commitment → Bool) (value : Commitment → ℤ) (b : Bool) (other : Commitment) → IsLocal (suc n) test value
+none_of_half : (n : ℕ) (test : Commitment → Bool) (value : Commitment → ℤ) (b : Bool) (other : Commitment)
+    → IsLocal (suc n) test value
     → HalfNone n test b → other n ≡ b → ¬ IsTrue (test other)
 none_of_half n test value b other h half own passes =
     half.none other (sym (h.tests other (with_bit n b other) (own_bit n other b own)) ∙ passes)
@@ -108,7 +111,8 @@ abbrev pub IsBestOf : (Commitment → Bool) → (Commitment → ℤ) → Option 
 IsBestOf test value None = PassesNone test
 IsBestOf test value (Some on) = IsLeastOf test value on
 
-better_is : (n : ℕ) (test : Commitment → Bool) (value : Commitment → ℤ) → IsLocal (suc n) test value → (first second : Option Commitment)
+better_is : (n : ℕ) (test : Commitment → Bool) (value : Commitment → ℤ) → IsLocal (suc n) test value
+    → (first second : Option Commitment)
     → IsBestOf (λ on. test (with_bit n true on)) (λ on. value (with_bit n true on)) first
     → IsBestOf (λ on. test (with_bit n false on)) (λ on. value (with_bit n false on)) second
     → IsBestOf test value (better n value first second)
@@ -131,7 +135,8 @@ better_is n test value h None (Some second) none least = record {
       (λ own. below_half n test value false second other h least own passes);
 }
 better_is n test value h (Some first) (Some second) left right =
-    cond_both (int_le (value (with_bit n true first)) (value (with_bit n false second))) (Some (with_bit n true first)) (Some (with_bit n false second))
+    cond_both (int_le (value (with_bit n true first)) (value (with_bit n false second)))
+    (Some (with_bit n true first)) (Some (with_bit n false second))
     (IsBestOf test value)
     (λ le. record {
       passes = left.passes;
@@ -158,8 +163,14 @@ best_pattern_is zero test value h =
       passes = passes;
       least = λ other pass. le_of_eq _ _ (h.values all_off other (record { same = λ t l. absurd (omega arith) }));
     })
-    (λ fails. record { none = λ other pass. true≢false (sym pass ∙ h.tests other all_off (record { same = λ t l. absurd (omega arith) }) ∙ fails) })
+    (λ fails. record {
+      none = λ other pass.
+          let same = h.tests other all_off (record { same = λ t l. absurd (omega arith) }) in
+          true≢false (sym pass ∙ same ∙ fails);
+    })
 best_pattern_is (suc n) test value h =
     better_is n test value h _ _
-    (best_pattern_is n (λ on. test (with_bit n true on)) (λ on. value (with_bit n true on)) (half_local n test value true h))
-    (best_pattern_is n (λ on. test (with_bit n false on)) (λ on. value (with_bit n false on)) (half_local n test value false h))
+    (best_pattern_is n (λ on. test (with_bit n true on)) (λ on. value (with_bit n true on))
+    (half_local n test value true h))
+    (best_pattern_is n (λ on. test (with_bit n false on)) (λ on. value (with_bit n false on))
+    (half_local n test value false h))

@@ -18,7 +18,8 @@ use Rattle.dual_model.proofs.CellBounds.{BoundsCorners, corners_bound}
 -- the least cost, rounded down, of the pairs whose left point is l, and of l alone
 unfoldable pub pair_least : ℕ → (ℕ → ℤ) → (ℕ → ℤ) → ℕ → ℤ
 pair_least n f d l =
-    least_below n (λ j. int_lt (d j) (pos 0)) (λ j. int_div_euclid (neg_ℤ (d j) *ℤ f l +ℤ d l *ℤ f j) (d l -ℤ d j)) (f l)
+    least_below n (λ j. int_lt (d j) (pos 0)) (λ j. int_div_euclid (neg_ℤ (d j) *ℤ f l +ℤ d l *ℤ f j) (d l -ℤ d j))
+    (f l)
 
 -- the same, and with all the reserve that is left
 unfoldable pub corner_least : ℕ → (ℕ → ℤ) → (ℕ → ℤ) → ℤ → ℕ → ℤ
@@ -46,7 +47,8 @@ le-least_below (suc n) test f other k last each =
     (λ here. above_min k (f n) (least_below n test f other) (each n (omega arith) here) rest)
     (λ away. rest)
 
-greatest-le-corner : (n : ℕ) (f d : ℕ → ℤ) (b : ℤ) (l : ℕ) → l < n → pos 0 ≤ℤ d l → greatest_bound n f d b ≤ℤ corner_least n f d b l
+greatest-le-corner : (n : ℕ) (f d : ℕ → ℤ) (b : ℤ) (l : ℕ) → l < n → pos 0 ≤ℤ d l
+    → greatest_bound n f d b ≤ℤ corner_least n f d b l
 unfolding greatest_bound
 greatest-le-corner n f d b l hl near =
     least_below-le n (λ i. int_le (pos 0) (d i)) (corner_least n f d b) (f 0) l hl (le-int_le _ _ near)
@@ -61,14 +63,16 @@ bounds_corners n f d b = record {
   pair = λ l j hl hj near far.
       let below : greatest_bound n f d b ≤ℤ pair_cost l j =
       le_trans _ _ _ (greatest-le-corner n f d b l hl near)
-      (le_trans _ _ _ (min_left _ _) (least_below-le n (λ i. int_lt (d i) (pos 0)) (pair_cost l) (f l) j hj (lt-int_lt _ _ far))) in
+      (le_trans _ _ _ (min_left _ _)
+      (least_below-le n (λ i. int_lt (d i) (pos 0)) (pair_cost l) (f l) j hj (lt-int_lt _ _ far))) in
       scaled (d l) (d j) (f l) (f j) (greatest_bound n f d b) near far below;
 }
   where
     pair_cost : ℕ → ℕ → ℤ
     pair_cost l j = int_div_euclid (neg_ℤ (d j) *ℤ f l +ℤ d l *ℤ f j) (d l -ℤ d j)
 
-    scaled : (dl dj fl fj m : ℤ) → pos 0 ≤ℤ dl → dj <ℤ pos 0 → m ≤ℤ int_div_euclid (neg_ℤ dj *ℤ fl +ℤ dl *ℤ fj) (dl -ℤ dj)
+    scaled : (dl dj fl fj m : ℤ) → pos 0 ≤ℤ dl → dj <ℤ pos 0
+        → m ≤ℤ int_div_euclid (neg_ℤ dj *ℤ fl +ℤ dl *ℤ fj) (dl -ℤ dj)
         → ((dl -ℤ dj) *ℤ m) ≤ℤ (neg_ℤ dj *ℤ fl +ℤ dl *ℤ fj)
     scaled dl dj fl fj m near far below =
         let cost = neg_ℤ dj *ℤ fl +ℤ dl *ℤ fj in
@@ -79,12 +83,15 @@ bounds_corners n f d b = record {
         (subst (λ z. z ≤ℤ cost) (mul_comm (int_div_euclid cost (dl -ℤ dj)) (dl -ℤ dj)) floor.below)
 
 -- no greater number bounds the corners, where the first point lies at or left of the cap
-greatest_of_bounds : (n : ℕ) (f d : ℕ → ℤ) (b k : ℤ) → 0 < n → pos 0 ≤ℤ d 0 → BoundsCorners n f d b k → k ≤ℤ greatest_bound n f d b
+greatest_of_bounds : (n : ℕ) (f d : ℕ → ℤ) (b k : ℤ) → 0 < n → pos 0 ≤ℤ d 0 → BoundsCorners n f d b k
+    → k ≤ℤ greatest_bound n f d b
 unfolding greatest_bound corner_least pair_least
 greatest_of_bounds n f d b k some near corners =
-    le-least_below n (λ l. int_le (pos 0) (d l)) (corner_least n f d b) (f 0) k (corners.point 0 some near) (λ l hl left.
+    le-least_below n (λ l. int_le (pos 0) (d l)) (corner_least n f d b) (f 0) k (corners.point 0 some near)
+    (λ l hl left.
     above_min k (pair_least n f d l) (f l +ℤ b *ℤ d l)
-    (le-least_below n (λ j. int_lt (d j) (pos 0)) (λ j. int_div_euclid (neg_ℤ (d j) *ℤ f l +ℤ d l *ℤ f j) (d l -ℤ d j)) (f l) k
+    (le-least_below n (λ j. int_lt (d j) (pos 0))
+    (λ j. int_div_euclid (neg_ℤ (d j) *ℤ f l +ℤ d l *ℤ f j) (d l -ℤ d j)) (f l) k
     (corners.point l hl (int_le-true _ _ left)) (λ j hj right.
     divided (d l) (d j) (f l) (f j) (int_le-true _ _ left) (int_lt-true _ _ right)
     (corners.pair l j hl hj (int_le-true _ _ left) (int_lt-true _ _ right))))
@@ -95,7 +102,8 @@ greatest_of_bounds n f d b k some near corners =
     divided dl dj fl fj near far below =
         let cost = neg_ℤ dj *ℤ fl +ℤ dl *ℤ fj in
         let width : pos 0 <ℤ (dl -ℤ dj) = omega (arith, linear) in
-        IsFloor-greatest cost (dl -ℤ dj) (int_div_euclid cost (dl -ℤ dj)) k width (IsFloor-int_div_euclid cost (dl -ℤ dj) width)
+        IsFloor-greatest cost (dl -ℤ dj) (int_div_euclid cost (dl -ℤ dj)) k width
+        (IsFloor-int_div_euclid cost (dl -ℤ dj) width)
         (subst (λ z. z ≤ℤ cost) (mul_comm (dl -ℤ dj) k) below)
 
 -- ---- the corners of a cell's points
@@ -109,11 +117,14 @@ reduced_sum : (points : List Point) (k a : ℤ) (weight : ℕ → ℕ)
     → sum_below (length points) (λ l. reduced_cost points k a l *ℤ pos (weight l))
     ≡ k *ℤ weighted_cost points weight +ℤ a *ℤ weighted_output points weight
 reduced_sum points k a weight =
-    sum_below-same (length points) _ (λ l. k *ℤ ((point_of points l).cost *ℤ pos (weight l)) +ℤ a *ℤ (output_of points l *ℤ pos (weight l)))
+    sum_below-same (length points) _
+    (λ l. k *ℤ ((point_of points l).cost *ℤ pos (weight l)) +ℤ a *ℤ (output_of points l *ℤ pos (weight l)))
     (λ l h.
     add-mul (k *ℤ (point_of points l).cost) (a *ℤ output_of points l) (pos (weight l))
-    ∙ (λ i. mul_assoc k (point_of points l).cost (pos (weight l)) i +ℤ mul_assoc a (output_of points l) (pos (weight l)) i))
-    ∙ sum_below-add (length points) (λ l. k *ℤ ((point_of points l).cost *ℤ pos (weight l))) (λ l. a *ℤ (output_of points l *ℤ pos (weight l)))
+    ∙ (λ i. mul_assoc k (point_of points l).cost (pos (weight l)) i
+    +ℤ mul_assoc a (output_of points l) (pos (weight l)) i))
+    ∙ sum_below-add (length points) (λ l. k *ℤ ((point_of points l).cost *ℤ pos (weight l)))
+    (λ l. a *ℤ (output_of points l *ℤ pos (weight l)))
     ∙ (λ i. sum_below-mul_left (length points) k (λ l. (point_of points l).cost *ℤ pos (weight l)) i
     +ℤ sum_below-mul_left (length points) a (λ l. output_of points l *ℤ pos (weight l)) i)
 
@@ -138,8 +149,11 @@ cell_bound-corners points k a b cap m corners = record { below = below }
         let spent = distance_sum points cap weight in
         let same_total = ap (λ z. cap *ℤ z) total in
         let order = mul_comm cap (pos q) in
-        let room : r ≤ℤ sum_below (length points) (λ l. distance points cap l *ℤ pos (weight l)) = omega (arith, linear) in
-        let bound = corners_bound (length points) (reduced_cost points k a) (distance points cap) b m corners weight (pos q) r total sign room in
+        let room : r ≤ℤ sum_below (length points) (λ l. distance points cap l *ℤ pos (weight l)) =
+        omega (arith, linear) in
+        let bound =
+        corners_bound (length points) (reduced_cost points k a) (distance points cap) b m corners weight (pos q) r
+        total sign room in
         let costs = reduced_sum points k a weight in
         omega (arith, linear)
 
@@ -174,7 +188,8 @@ two_total n l u j v hl hj =
     ∙ (λ i. one-mul (pos u) i +ℤ one-mul (pos v) i)
 
 -- what bounds a cell does so at weights on two points
-at_two : (points : List Point) (k a b cap m : ℤ) → IsCellBound points k a b cap m → (l u j v : ℕ) (r : ℤ) → l < length points
+at_two : (points : List Point) (k a b cap m : ℤ) → IsCellBound points k a b cap m → (l u j v : ℕ) (r : ℤ)
+    → l < length points
     → j < length points → pos 0 ≤ℤ r → r ≤ℤ (distance points cap l *ℤ pos u +ℤ distance points cap j *ℤ pos v)
     → (pos (u + v) *ℤ m) ≤ℤ (reduced_cost points k a l *ℤ pos u +ℤ reduced_cost points k a j *ℤ pos v +ℤ b *ℤ r)
 at_two points k a b cap m bound l u j v r hl hj sign room =
@@ -194,7 +209,8 @@ at_two points k a b cap m bound l u j v r hl hj sign room =
     omega (arith, linear)
 
 -- at one point
-at_one : (points : List Point) (k a b cap m : ℤ) → IsCellBound points k a b cap m → (l : ℕ) (r : ℤ) → l < length points → pos 0 ≤ℤ r
+at_one : (points : List Point) (k a b cap m : ℤ) → IsCellBound points k a b cap m → (l : ℕ) (r : ℤ)
+    → l < length points → pos 0 ≤ℤ r
     → r ≤ℤ distance points cap l → m ≤ℤ (reduced_cost points k a l +ℤ b *ℤ r)
 at_one points k a b cap m bound l r hl sign room =
     let full = mul-one (distance points cap l) in
@@ -240,7 +256,8 @@ corners-cell_bound points k a b cap m bound = record {
   pair = λ l j hl hj near far.
       let u = pos_of_nonneg (neg_ℤ (distance points cap j)) (negated (distance points cap j) far) in
       let v = pos_of_nonneg (distance points cap l) near in
-      pair_bound (distance points cap l) (distance points cap j) (reduced_cost points k a l) (reduced_cost points k a j) b m u.0 v.0 u.1 v.1
+      pair_bound (distance points cap l) (distance points cap j) (reduced_cost points k a l)
+      (reduced_cost points k a j) b m u.0 v.0 u.1 v.1
       (at_two points k a b cap m bound l u.0 j v.0 (pos 0) hl hj (le_refl (pos 0))
       (pair_room (distance points cap l) (distance points cap j) u.0 v.0 u.1 v.1));
 }
@@ -260,7 +277,9 @@ is_term points k a b cap some sign =
     let first : pos 0 ≤ℤ distance points cap 0 = omega (arith, linear) in
     record {
       reachable = sign;
-      bound = cell_bound-corners points k a b cap _ (bounds_corners (length points) (reduced_cost points k a) (distance points cap) b);
+      bound =
+          cell_bound-corners points k a b cap _
+          (bounds_corners (length points) (reduced_cost points k a) (distance points cap) b);
       greatest = λ n bound.
           greatest_of_bounds (length points) (reduced_cost points k a) (distance points cap) b n some first
           (corners-cell_bound points k a b cap n bound);

@@ -1,13 +1,17 @@
-// A library with one function.
-#![tactic(auto)]
+//! What the program prints: the report of a found answer on its output, and the line of a fault on its
+//! error output. No call takes memory.
+#![tactic(auto, using(cert_text::proofs::Writing::then_ok, cert_text::proofs::Writing::then_failed, cert_text::proofs::Writing::front_at_error))]
 
-ghost use Rattle.std.specs.Prelude.{◌≡◌};
-ghost use Rattle.report.specs.Echo.{echo_of};
+pub mod fault;
+mod fault_text;
+mod found;
+mod names;
+mod numbers;
+mod schedule;
+mod stuck;
+#[cfg(test)]
+mod tests;
 
-// The `ensures` clause is the contract: what `echo` returns is `echo_of` of its argument, a definition
-// in `specs/Echo.antt`, which a caller's clause can cite too.
-pub fn echo(x: usize) -> usize
-    ensures { result ≡ echo_of x }
-{
-    x
-}
+pub use fault::Fault;
+pub use fault_text::write_fault;
+pub use found::{is_closed, write_found};

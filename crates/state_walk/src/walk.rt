@@ -74,6 +74,7 @@ pub fn least(walk: &mut Walk, terms: &Terms, unit: &Thermal, fix: &Fix) -> Optio
 
     ensures value { IfSome result (IsLeastValue terms.now unit.now fix.now) }
     ensures none { IfNone result (HasNoPattern terms.now unit.now fix.now) }
+    ensures size { IsWithin MAX_ONWARD result }
     ensures unit_value { (instance : Instance) (node : Node) (table : Table) (g : ℕ)
         → thermal_unit instance g ≡ unit.now → AreTermsOf instance table g terms.now
         → IsFixOf instance.periods node g fix.now → IsUnitValueOf instance node table g result }

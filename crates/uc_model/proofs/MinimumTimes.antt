@@ -26,7 +26,7 @@ one-le-bit true h = refl
 one-le-bit false h = absurd (omega (arith, linear))
 
 -- two terms at different places are at most the sum
-two_terms-le-sum_below : (n : ℕ) (f : ℕ → ℤ) (j k : ℕ) → j < k → k < n → ((i : ℕ) → i < n → pos 0 ≤ℤ f i)
+pub two_terms-le-sum_below : (n : ℕ) (f : ℕ → ℤ) (j k : ℕ) → j < k → k < n → ((i : ℕ) → i < n → pos 0 ≤ℤ f i)
     → (f j +ℤ f k) ≤ℤ sum_below n f
 two_terms-le-sum_below zero f j k l h nonneg = absurd (omega arith)
 two_terms-le-sum_below (suc n) f j k l h nonneg =
@@ -44,11 +44,11 @@ two_terms-le-sum_below (suc n) f j k l h nonneg =
     below_or_last m i b = grind arith
 
 -- what a whole window says of a change within it: the state is there at its end, and there is no other change
-record OneChange (window : ℕ) (changes state : Commitment) (k end : ℕ) : Type 0 where
-  state_at : IsTrue (state end)
-  only : (j : ℕ) → suc end - window ≤ j → j ≤ end → IsTrue (changes j) → j ≡ k
+pub record OneChange (window : ℕ) (changes state : Commitment) (k end : ℕ) : Type 0 where
+  pub state_at : IsTrue (state end)
+  pub only : (j : ℕ) → suc end - window ≤ j → j ≤ end → IsTrue (changes j) → j ≡ k
 
-one_change : (window : ℕ) (changes state : Commitment) (k end : ℕ) → window ≤ suc end → suc end - window ≤ k → k ≤ end
+pub one_change : (window : ℕ) (changes state : Commitment) (k end : ℕ) → window ≤ suc end → suc end - window ≤ k → k ≤ end
     → IsTrue (changes k) → IsTrue (keeps_minimum_at window changes state end) → OneChange window changes state k end
 one_change window changes state k end whole since until change keeps =
     record { state_at = there; only = only_one }
@@ -99,7 +99,7 @@ one_change window changes state k end whole since until change keeps =
         (cases_order j k)
 
 -- between a period with the state and a later one without it there is a fall
-fall : (initial : Bool) (on : Commitment) (a b : ℕ) → a < b → IsTrue (on a) → on b ≡ false
+pub fall : (initial : Bool) (on : Commitment) (a b : ℕ) → a < b → IsTrue (on a) → on b ≡ false
     → (k : ℕ) × (a < k) × (k ≤ b) × IsTrue (state_before initial on k) × (on k ≡ false)
 fall initial on a zero h there gone = absurd (omega arith)
 fall initial on a (suc b) h there gone =

@@ -15,9 +15,9 @@ pub returns-clause-hull : goal.returns-clause-hull
 unfolding node_value_of units_value_of unit_value_of best_pattern better value_of term_of least_reduced_cost greatest_bound corner_least pair_least
 returns-clause-hull c = computed_value _ _ _ _ refl refl
 
-pub returns-clause-two_units : goal.returns-clause-two_units
+pub returns-clause-two : goal.returns-clause-two
 unfolding node_value_of units_value_of unit_value_of best_pattern better value_of term_of least_reduced_cost greatest_bound corner_least pair_least
-returns-clause-two_units c = computed_value _ _ _ _ refl refl
+returns-clause-two c = computed_value _ _ _ _ refl refl
 
 pub returns-clause-mixed : goal.returns-clause-mixed
 unfolding node_value_of units_value_of unit_value_of best_pattern better value_of term_of least_reduced_cost greatest_bound corner_least pair_least

@@ -1,11 +1,13 @@
 -- The table's answer is the recursion's from the beginning.
-use Rattle.std.proofs.Common.{◌≡◌, ℤ, sym, ◌∙◌}
+use Rattle.std.proofs.Common.{◌≡◌, ◌+◌, ◌≤◌, ℤ, subst, sym, ◌∙◌, arith}
 use Rattle.std.specs.Prelude.{Option, Some, None, IfSome, IfNone}
 use Rattle.uc_model.specs.Limits.{IsLawfulThermal}
 use Rattle.uc_model.specs.declared.instance.Thermal.{Thermal}
 use Rattle.uc_model.specs.declared.terms.Terms.{Terms}
 use Rattle.dual_model.specs.declared.node.Fix.{Fix}
-use Rattle.state_walk.specs.UnitTerms.{AreSizedTerms}
+use Rattle.state_walk.specs.UnitTerms.{AreSizedTerms, period_count}
+use Rattle.state_walk.specs.Onward.{IsWithin, MAX_ONWARD}
+use Rattle.state_walk.proofs.Sizes.{onward-fits}
 use Rattle.state_walk.specs.PatternValue.{HasNoPattern, IsLeastValue}
 use Rattle.state_walk.proofs.LeastValues.{from_start, least-from_start, none-from_start}
 use Rattle.state_walk.proofs.TableValues.{unit_value-of}
@@ -34,3 +36,9 @@ returns-clause-unit_value c = λ instance node table g same are decided.
     unit_value-of instance node table g c.args.unit.now c.args.terms.now c.args.fix.now c.least_onward.result same are decided
     (λ w e. least-from_start c.args.terms.now c.args.unit.now c.args.fix.now w c.requires.lawful c.requires.sized (sym c.least_onward.ensures ∙ e))
     (λ e. none-from_start c.args.terms.now c.args.unit.now c.args.fix.now c.requires.sized (sym c.least_onward.ensures ∙ e))
+
+pub returns-clause-size : goal.returns-clause-size
+returns-clause-size c =
+    subst (IsWithin MAX_ONWARD) (sym c.least_onward.ensures)
+    (onward-fits c.args.unit.now c.args.terms.now c.args.fix.now c.requires.lawful c.requires.sized (period_count c.args.terms.now) 0
+    (omega arith) c.args.unit.now.on0 0)

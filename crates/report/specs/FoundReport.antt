@@ -1,0 +1,152 @@
+-- The report of what a search found, as it is printed. This project's own form. Money and power have six decimals; units and
+-- periods count from 1 here, and from 0 in the types.
+use Rattle.std.specs.Prelude.{ℕ, zero, suc, Bool, false, List, [], ◌∷◌, ◌++◌, ℤ, pos, ◌+ℤ◌, ◌-ℤ◌, int_le, Option, Some, None, length, flat_map, codes, if◌then◌else◌}
+use Rattle.std.specs.List.{zip}
+use Rattle.uc_model.specs.Decimal.{whole_text}
+use Rattle.uc_model.specs.Money.{money_text}
+use Rattle.uc_model.specs.Tolerance.{tolerance_of}
+use Rattle.uc_model.specs.Schedule.{thermal_unit, thermal_count, renewable_count}
+use Rattle.uc_model.specs.declared.instance.Thermal.{Thermal}
+use Rattle.uc_model.specs.declared.instance.Renewable.{Renewable}
+use Rattle.uc_model.specs.declared.instance.Instance.{Instance}
+use Rattle.uc_model.specs.declared.schedule.Cell.{Cell}
+use Rattle.uc_model.specs.declared.schedule.Printed.{Printed}
+use Rattle.uc_model.specs.declared.stuck.Why.{Why}
+use Rattle.uc_model.specs.declared.stuck.Why.TheVariants.{Rule, Box, Over, Under, Reserve}
+use Rattle.uc_model.specs.declared.stuck.Stuck.{Stuck}
+use Rattle.branch_tree.specs.declared.found.Found.{Found}
+use Rattle.branch_tree.specs.Claims.{tree_bound}
+use Rattle.cert_text.specs.Lines.{line, list_line}
+use Rattle.report.specs.Names.{unit_words}
+
+-- the numbers of periods, of units, and of the file's numbers that were rounded
+abbrev pub size_line : Instance → ℕ → List ℕ
+size_line instance rounded =
+    line (codes "periods") (whole_text instance.periods ∷ codes "thermal" ∷ whole_text (thermal_count instance)
+    ∷ codes "renewable" ∷ whole_text (renewable_count instance) ∷ codes "rounded" ∷ whole_text rounded ∷ [])
+
+-- Whether a cost is proved to be within the gap, in parts per million of its size, of the least one. With no bound it isn't.
+abbrev pub is_within_gap : ℤ → Option ℤ → ℕ → Bool
+is_within_gap cost None gap = false
+is_within_gap cost (Some bound) gap = int_le (cost -ℤ bound) (pos (tolerance_of cost gap))
+
+-- the same of what was found; with no schedule it isn't
+abbrev pub is_priced_within : Option (Printed × ℤ) → Option ℤ → ℕ → Bool
+is_priced_within None bound gap = false
+is_priced_within (Some priced) bound gap = is_within_gap priced.1 bound gap
+
+-- whether the search is closed: it found a schedule whose cost is within the gap
+abbrev pub is_closed : Found → ℕ → Bool
+is_closed found gap = is_priced_within found.schedule (tree_bound found.tree) gap
+
+abbrev pub state_line : Bool → List ℕ
+state_line closed = line (if closed then codes "closed" else codes "budget spent") []
+
+abbrev pub cost_line : ℤ → List ℕ
+cost_line cost = line (codes "cost") (money_text cost ∷ [])
+
+-- no line where there is no bound
+abbrev pub bound_line : Option ℤ → List ℕ
+bound_line None = []
+bound_line (Some bound) = line (codes "bound") (money_text bound ∷ [])
+
+abbrev pub evaluations_line : Found → List ℕ
+evaluations_line found = line (codes "evaluations") (whole_text (length found.log) ∷ [])
+
+-- the category of a start; 0 is no start
+abbrev pub start_text : ℕ → List ℕ
+start_text zero = []
+start_text (suc s) = 42 ∷ whole_text (suc s)
+
+-- total output and reserve
+abbrev pub power_text : Thermal → Cell → List ℕ
+power_text unit cell = money_text (cell.p +ℤ unit.pmin) ++ (43 ∷ money_text cell.r)
+
+-- a cell: `-`, or total output, reserve and the category of a start
+abbrev pub cell_text : Thermal → Cell → List ℕ
+cell_text unit cell = if cell.on then power_text unit cell ++ start_text cell.category else codes "-"
+
+abbrev pub thermal_line : Thermal → List Cell → List ℕ
+thermal_line unit row = list_line (unit_words (codes "thermal") unit.name) (cell_text unit) row
+
+abbrev pub renewable_line : Renewable → List ℤ → List ℕ
+renewable_line unit row = list_line (unit_words (codes "renewable") unit.name) money_text row
+
+-- the line of a unit and its row
+abbrev pub paired_thermal_line : Thermal × List Cell → List ℕ
+paired_thermal_line pair = thermal_line pair.0 pair.1
+
+abbrev pub paired_renewable_line : Renewable × List ℤ → List ℕ
+paired_renewable_line pair = renewable_line pair.0 pair.1
+
+-- a line for each unit that has a row, in the order of the file
+abbrev pub thermal_lines : List Thermal → List (List Cell) → List ℕ
+thermal_lines units rows = flat_map paired_thermal_line (zip units rows)
+
+abbrev pub renewable_lines : List Renewable → List (List ℤ) → List ℕ
+renewable_lines units rows = flat_map paired_renewable_line (zip units rows)
+
+abbrev pub schedule_lines : Instance → Printed → List ℕ
+schedule_lines instance printed =
+    thermal_lines instance.thermal printed.thermal ++ renewable_lines instance.renewable printed.renewable
+
+-- a thermal unit by its name
+abbrev pub thermal_words : Instance → ℕ → List ℕ
+thermal_words instance unit = unit_words (codes "thermal") (thermal_unit instance unit).name
+
+-- the range that a unit needs above its minimum
+unfoldable pub range_text : ℤ → ℤ → List ℕ
+range_text low high =
+    codes " needs at least " ++ (money_text low ++ (codes " and at most " ++ (money_text high ++ (codes " above its minimum" ++ 10 ∷ []))))
+
+-- why a commitment could not be dispatched
+abbrev pub why_line : Instance → Why → List ℕ
+why_line instance (Rule rule unit) = line (thermal_words instance unit) (codes "breaks" ∷ (77 ∷ whole_text rule) ∷ [])
+why_line instance (Box unit low high) = thermal_words instance unit ++ range_text low high
+why_line instance (Over least demand) =
+    line (codes "least output") (money_text least ∷ codes "above demand" ∷ money_text demand ∷ [])
+why_line instance (Under most demand) =
+    line (codes "most output") (money_text most ∷ codes "below demand" ∷ money_text demand ∷ [])
+why_line instance (Reserve room need) =
+    line (codes "reserve") (money_text room ∷ codes "below need" ∷ money_text need ∷ [])
+
+-- the period in which it got stuck
+unfoldable pub stuck_period : ℕ → List ℕ
+stuck_period period = codes "most-on commitment stuck in period " ++ (whole_text (suc period) ++ codes ": ")
+
+-- where and why the commitment with the most on periods could not be dispatched, where this is known
+abbrev pub stuck_line : Instance → Option Stuck → List ℕ
+stuck_line instance None = []
+stuck_line instance (Some stuck) = stuck_period stuck.period ++ why_line instance stuck.why
+
+-- the bound and the count of evaluations
+abbrev pub bound_lines : Found → List ℕ
+bound_lines found = bound_line (tree_bound found.tree) ++ evaluations_line found
+
+abbrev pub cost_lines : Found → ℤ → List ℕ
+cost_lines found cost = cost_line cost ++ bound_lines found
+
+-- whether the search is closed, the cost, the bound and the count of evaluations
+abbrev pub result_lines : Found → ℕ → ℤ → List ℕ
+result_lines found gap cost = state_line (is_within_gap cost (tree_bound found.tree) gap) ++ cost_lines found cost
+
+-- a schedule with its cost
+abbrev pub schedule_report : Instance → Found → ℕ → Printed → ℤ → List ℕ
+schedule_report instance found gap printed cost = result_lines found gap cost ++ schedule_lines instance printed
+
+abbrev pub open_lines : Instance → Found → List ℕ
+open_lines instance found = bound_lines found ++ stuck_line instance found.most_on
+
+-- without a schedule: with no bound there is none, and else there may be one
+abbrev pub no_schedule_report : Instance → Found → Option ℤ → List ℕ
+no_schedule_report instance found None = line (codes "infeasible") [] ++ evaluations_line found
+no_schedule_report instance found (Some bound) =
+    line (codes "budget spent, no schedule found") [] ++ open_lines instance found
+
+abbrev pub outcome_report : Instance → Found → ℕ → Option (Printed × ℤ) → List ℕ
+outcome_report instance found gap None = no_schedule_report instance found (tree_bound found.tree)
+outcome_report instance found gap (Some priced) = schedule_report instance found gap priced.0 priced.1
+
+-- the whole report, by how many numbers were rounded and by the gap in parts per million
+abbrev pub found_report : Instance → Found → ℕ → ℕ → List ℕ
+found_report instance found rounded gap = size_line instance rounded ++ outcome_report instance found gap found.schedule
