@@ -6,7 +6,7 @@ use Rattle.uc_model.specs.declared.instance.Instance.{Instance}
 use Rattle.uc_model.specs.declared.schedule.Printed.{Printed}
 use Rattle.dual_model.specs.Cover.{Ends, Bound, Ray, Empty}
 use Rattle.dual_model.specs.Cover as cover
-use Rattle.dual_model.specs.Certificate.{Certificate, Priced}
+use Rattle.dual_model.specs.Certificate.{Certificate, WrittenSchedule}
 use Rattle.dual_model.specs.declared.table.Table.{Table}
 use Rattle.branch_tree.specs.declared.tree.Leaf.{Leaf}
 use Rattle.branch_tree.specs.declared.tree.Leaf.TheVariants as leaf
@@ -39,9 +39,9 @@ abbrev pub tree_bound : Tree → Option ℤ
 tree_bound tree = leaf_bound tree.leaf
 
 -- a schedule and its cost
-abbrev pub priced_of : Option (Printed × ℤ) → Option Priced
-priced_of None = None
-priced_of (Some pair) = Some (record { printed = pair.0; cost = pair.1 })
+abbrev pub written_of : Option (Printed × ℤ) → Option WrittenSchedule
+written_of None = None
+written_of (Some pair) = Some (record { printed = pair.0; cost = pair.1 })
 
 -- a table where there is none: no prices
 abbrev pub no_table : Table
@@ -68,7 +68,7 @@ certificate_of instance found = record {
   thermal = thermal_count instance;
   renewable = renewable_count instance;
   bound = tree_bound found.tree;
-  schedule = priced_of found.schedule;
+  schedule = written_of found.schedule;
   tables = used_tables found;
   tree = Ends (leaf_claim found.tree.leaf);
 }

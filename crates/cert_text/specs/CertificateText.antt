@@ -5,7 +5,7 @@ use Rattle.uc_model.specs.Decimal.{whole_text, signed_text}
 use Rattle.uc_model.specs.Money.{money_text}
 use Rattle.uc_model.specs.declared.schedule.Cell.{Cell}
 use Rattle.uc_model.specs.declared.schedule.Printed.{Printed}
-use Rattle.dual_model.specs.Certificate.{Certificate, Priced}
+use Rattle.dual_model.specs.Certificate.{Certificate, WrittenSchedule}
 use Rattle.dual_model.specs.Cover.{Tree, Leaf, Ends, Splits, Bound, Ray, Empty}
 use Rattle.dual_model.specs.declared.table.Table.{Table}
 use Rattle.dual_model.specs.declared.table.RampRow.{RampRow}
@@ -44,9 +44,9 @@ rows_text printed = flat_map thermal_line printed.thermal ++ flat_map renewable_
 abbrev pub cost_line : ℤ → List ℕ
 cost_line cost = line (codes "schedule") (money_text cost ∷ [])
 
-abbrev pub schedule_text : Option Priced → List ℕ
+abbrev pub schedule_text : Option WrittenSchedule → List ℕ
 schedule_text None = line (codes "schedule none") []
-schedule_text (Some priced) = cost_line priced.cost ++ rows_text priced.printed
+schedule_text (Some written) = cost_line written.cost ++ rows_text written.printed
 
 abbrev pub ramp_line : RampRow → List ℕ
 ramp_line row =
@@ -78,6 +78,6 @@ tree_text (Ends leaf) = leaf_line leaf
 tree_text (Splits g t off on) =
     line (codes "split") (whole_text (suc g) ∷ whole_text (suc t) ∷ []) ++ (tree_text off ++ tree_text on)
 
-abbrev pub certificate_text : Certificate → List ℕ
+unfoldable pub certificate_text : Certificate → List ℕ
 certificate_text c =
     heading c ++ (schedule_text c.schedule ++ (flat_map table_text c.tables ++ (tree_text c.tree ++ line (codes "end") [])))

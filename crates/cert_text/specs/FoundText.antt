@@ -2,7 +2,7 @@
 use Rattle.std.specs.Prelude.{ℕ, List, [], ◌++◌, flat_map, codes}
 use Rattle.dual_model.specs.declared.table.Table.{Table}
 use Rattle.branch_tree.specs.declared.found.Found.{Found}
-use Rattle.branch_tree.specs.Claims.{table_at, leaf_tables, leaf_claim, priced_of}
+use Rattle.branch_tree.specs.Claims.{table_at, leaf_tables, leaf_claim, written_of}
 use Rattle.cert_text.specs.Lines.{line}
 use Rattle.cert_text.specs.CertificateText.{table_text, leaf_line, schedule_text}
 
@@ -18,4 +18,4 @@ lower_text found =
 
 -- all but the heading
 abbrev pub body_text : Found → List ℕ
-body_text found = schedule_text (priced_of found.schedule) ++ lower_text found
+body_text found = schedule_text (written_of found.schedule) ++ lower_text found

@@ -19,7 +19,7 @@ pub(crate) fn write_size<W: Writer>(
 ) -> Result<(), Failed>
     ensures ok { OnOk result (WriterWrites (version_line ++ size_line periods thermal renewable tables) (W.state out.old) (W.state out.new)) }
     ensures failed { OnErr result (WritesFront (version_line ++ size_line periods thermal renewable tables) (W.state out.old) (W.state out.new)) }
-    ensures rest { W.SameElse out.old out.new }
+    ensures rest { W.same_else out.old out.new }
 {
     let mut first = Buffer::new();
     let mut second = Buffer::new();
@@ -46,7 +46,7 @@ pub(crate) fn write_size<W: Writer>(
 pub(crate) fn write_claim<W: Writer>(out: &mut W, bound: Option<i128>) -> Result<(), Failed>
     ensures ok { OnOk result (WriterWrites (claim_line bound) (W.state out.old) (W.state out.new)) }
     ensures failed { OnErr result (WritesFront (claim_line bound) (W.state out.old) (W.state out.new)) }
-    ensures rest { W.SameElse out.old out.new }
+    ensures rest { W.same_else out.old out.new }
 {
     match bound {
         Some(bound) => {

@@ -13,7 +13,7 @@ use uc_model::{signed_digits, whole_digits};
 fn write_number<W: Writer>(out: &mut W, number: &i64) -> Result<(), Failed>
     ensures ok { OnOk result (WriterWrites (32 ∷ signed_text number.now) (W.state out.old) (W.state out.new)) }
     ensures failed { OnErr result (WritesFront (32 ∷ signed_text number.now) (W.state out.old) (W.state out.new)) }
-    ensures rest { W.SameElse out.old out.new }
+    ensures rest { W.same_else out.old out.new }
 {
     let mut buffer = Buffer::new();
     write_pieces(out, &[b" ", signed_digits(&mut buffer, *number)])
@@ -23,7 +23,7 @@ fn write_number<W: Writer>(out: &mut W, number: &i64) -> Result<(), Failed>
 fn write_numbers<W: Writer>(out: &mut W, numbers: &[i64]) -> Result<(), Failed>
     ensures ok { OnOk result (WriterWrites (words_of signed_text numbers.now) (W.state out.old) (W.state out.new)) }
     ensures failed { OnErr result (WritesFront (words_of signed_text numbers.now) (W.state out.old) (W.state out.new)) }
-    ensures rest { W.SameElse out.old out.new }
+    ensures rest { W.same_else out.old out.new }
 {
     for number in numbers {
         write_number(out, number)?;
@@ -35,7 +35,7 @@ fn write_numbers<W: Writer>(out: &mut W, numbers: &[i64]) -> Result<(), Failed>
 fn write_numbers_and_end<W: Writer>(out: &mut W, numbers: &[i64]) -> Result<(), Failed>
     ensures ok { OnOk result (WriterWrites (words_of signed_text numbers.now ++ 10 ∷ []) (W.state out.old) (W.state out.new)) }
     ensures failed { OnErr result (WritesFront (words_of signed_text numbers.now ++ 10 ∷ []) (W.state out.old) (W.state out.new)) }
-    ensures rest { W.SameElse out.old out.new }
+    ensures rest { W.same_else out.old out.new }
 {
     write_numbers(out, numbers)?;
     write_all(out, b"\n")
@@ -50,7 +50,7 @@ pub(crate) fn write_number_line<W: Writer>(
 ) -> Result<(), Failed>
     ensures ok { OnOk result (WriterWrites (list_line first.now signed_text numbers.now) (W.state out.old) (W.state out.new)) }
     ensures failed { OnErr result (WritesFront (list_line first.now signed_text numbers.now) (W.state out.old) (W.state out.new)) }
-    ensures rest { W.SameElse out.old out.new }
+    ensures rest { W.same_else out.old out.new }
 {
     write_all(out, first)?;
     write_numbers_and_end(out, numbers)
@@ -65,7 +65,7 @@ pub(crate) fn write_whole_line<W: Writer>(
 ) -> Result<(), Failed>
     ensures ok { OnOk result (WriterWrites (line first.now (whole_text number ∷ [])) (W.state out.old) (W.state out.new)) }
     ensures failed { OnErr result (WritesFront (line first.now (whole_text number ∷ [])) (W.state out.old) (W.state out.new)) }
-    ensures rest { W.SameElse out.old out.new }
+    ensures rest { W.same_else out.old out.new }
 {
     let mut buffer = Buffer::new();
     write_pieces(

@@ -2,7 +2,7 @@
 
 ghost use Rattle.std.specs.Prelude.{◌≡◌, ◌∷◌, ◌++◌, [], OnOk, OnErr, codes, flat_map};
 ghost use Rattle.outside.specs.Sinks.{WriterWrites, WritesFront};
-ghost use Rattle.branch_tree.specs.Claims.{priced_of};
+ghost use Rattle.branch_tree.specs.Claims.{written_of};
 ghost use Rattle.cert_text.specs.Lines.{line, list_line, words_of};
 ghost use Rattle.cert_text.specs.CertificateText.{cell_text, thermal_line, renewable_line, rows_text, cost_line, schedule_text};
 
@@ -15,7 +15,7 @@ use uc_model::{Cell, List, Printed, money_digits, signed_digits, whole_digits};
 fn write_cell<W: Writer>(out: &mut W, cell: &Cell) -> Result<(), Failed>
     ensures ok { OnOk result (WriterWrites (32 ∷ cell_text cell.now) (W.state out.old) (W.state out.new)) }
     ensures failed { OnErr result (WritesFront (32 ∷ cell_text cell.now) (W.state out.old) (W.state out.new)) }
-    ensures rest { W.SameElse out.old out.new }
+    ensures rest { W.same_else out.old out.new }
 {
     if cell.on {
         let mut output = Buffer::new();
@@ -40,7 +40,7 @@ fn write_cell<W: Writer>(out: &mut W, cell: &Cell) -> Result<(), Failed>
 fn write_cells<W: Writer>(out: &mut W, cells: &[Cell]) -> Result<(), Failed>
     ensures ok { OnOk result (WriterWrites (words_of cell_text cells.now) (W.state out.old) (W.state out.new)) }
     ensures failed { OnErr result (WritesFront (words_of cell_text cells.now) (W.state out.old) (W.state out.new)) }
-    ensures rest { W.SameElse out.old out.new }
+    ensures rest { W.same_else out.old out.new }
 {
     for cell in cells {
         write_cell(out, cell)?;
@@ -51,7 +51,7 @@ fn write_cells<W: Writer>(out: &mut W, cells: &[Cell]) -> Result<(), Failed>
 fn write_cells_and_end<W: Writer>(out: &mut W, cells: &[Cell]) -> Result<(), Failed>
     ensures ok { OnOk result (WriterWrites (words_of cell_text cells.now ++ 10 ∷ []) (W.state out.old) (W.state out.new)) }
     ensures failed { OnErr result (WritesFront (words_of cell_text cells.now ++ 10 ∷ []) (W.state out.old) (W.state out.new)) }
-    ensures rest { W.SameElse out.old out.new }
+    ensures rest { W.same_else out.old out.new }
 {
     write_cells(out, cells)?;
     write_all(out, b"\n")
@@ -62,7 +62,7 @@ fn write_cells_and_end<W: Writer>(out: &mut W, cells: &[Cell]) -> Result<(), Fai
 fn write_cell_line<W: Writer>(out: &mut W, first: &[u8], cells: &[Cell]) -> Result<(), Failed>
     ensures ok { OnOk result (WriterWrites (list_line first.now cell_text cells.now) (W.state out.old) (W.state out.new)) }
     ensures failed { OnErr result (WritesFront (list_line first.now cell_text cells.now) (W.state out.old) (W.state out.new)) }
-    ensures rest { W.SameElse out.old out.new }
+    ensures rest { W.same_else out.old out.new }
 {
     write_all(out, first)?;
     write_cells_and_end(out, cells)
@@ -71,7 +71,7 @@ fn write_cell_line<W: Writer>(out: &mut W, first: &[u8], cells: &[Cell]) -> Resu
 fn write_thermal_rows<W: Writer>(out: &mut W, rows: &[List<Cell>]) -> Result<(), Failed>
     ensures ok { OnOk result (WriterWrites (flat_map thermal_line rows.now) (W.state out.old) (W.state out.new)) }
     ensures failed { OnErr result (WritesFront (flat_map thermal_line rows.now) (W.state out.old) (W.state out.new)) }
-    ensures rest { W.SameElse out.old out.new }
+    ensures rest { W.same_else out.old out.new }
 {
     for row in rows {
         write_cell_line(out, b"t", row.as_slice())?;
@@ -82,7 +82,7 @@ fn write_thermal_rows<W: Writer>(out: &mut W, rows: &[List<Cell>]) -> Result<(),
 fn write_renewable_rows<W: Writer>(out: &mut W, rows: &[List<i64>]) -> Result<(), Failed>
     ensures ok { OnOk result (WriterWrites (flat_map renewable_line rows.now) (W.state out.old) (W.state out.new)) }
     ensures failed { OnErr result (WritesFront (flat_map renewable_line rows.now) (W.state out.old) (W.state out.new)) }
-    ensures rest { W.SameElse out.old out.new }
+    ensures rest { W.same_else out.old out.new }
 {
     for row in rows {
         write_number_line(out, b"w", row.as_slice())?;
@@ -93,7 +93,7 @@ fn write_renewable_rows<W: Writer>(out: &mut W, rows: &[List<i64>]) -> Result<()
 fn write_rows<W: Writer>(out: &mut W, printed: &Printed) -> Result<(), Failed>
     ensures ok { OnOk result (WriterWrites (rows_text printed.now) (W.state out.old) (W.state out.new)) }
     ensures failed { OnErr result (WritesFront (rows_text printed.now) (W.state out.old) (W.state out.new)) }
-    ensures rest { W.SameElse out.old out.new }
+    ensures rest { W.same_else out.old out.new }
 {
     write_thermal_rows(out, printed.thermal.as_slice())?;
     write_renewable_rows(out, printed.renewable.as_slice())
@@ -103,7 +103,7 @@ fn write_rows<W: Writer>(out: &mut W, printed: &Printed) -> Result<(), Failed>
 fn write_cost<W: Writer>(out: &mut W, cost: &i64) -> Result<(), Failed>
     ensures ok { OnOk result (WriterWrites (cost_line cost.now) (W.state out.old) (W.state out.new)) }
     ensures failed { OnErr result (WritesFront (cost_line cost.now) (W.state out.old) (W.state out.new)) }
-    ensures rest { W.SameElse out.old out.new }
+    ensures rest { W.same_else out.old out.new }
 {
     let mut buffer = [0; 48];
     write_pieces(
@@ -120,7 +120,7 @@ fn write_cost<W: Writer>(out: &mut W, cost: &i64) -> Result<(), Failed>
 fn write_no_schedule<W: Writer>(out: &mut W) -> Result<(), Failed>
     ensures ok { OnOk result (WriterWrites (line (codes "schedule none") []) (W.state out.old) (W.state out.new)) }
     ensures failed { OnErr result (WritesFront (line (codes "schedule none") []) (W.state out.old) (W.state out.new)) }
-    ensures rest { W.SameElse out.old out.new }
+    ensures rest { W.same_else out.old out.new }
 {
     write_all(out, b"schedule none\n")
 }
@@ -130,9 +130,9 @@ pub(crate) fn write_schedule<W: Writer>(
     out: &mut W,
     schedule: &Option<(Printed, i64)>,
 ) -> Result<(), Failed>
-    ensures ok { OnOk result (WriterWrites (schedule_text (priced_of schedule.now)) (W.state out.old) (W.state out.new)) }
-    ensures failed { OnErr result (WritesFront (schedule_text (priced_of schedule.now)) (W.state out.old) (W.state out.new)) }
-    ensures rest { W.SameElse out.old out.new }
+    ensures ok { OnOk result (WriterWrites (schedule_text (written_of schedule.now)) (W.state out.old) (W.state out.new)) }
+    ensures failed { OnErr result (WritesFront (schedule_text (written_of schedule.now)) (W.state out.old) (W.state out.new)) }
+    ensures rest { W.same_else out.old out.new }
 {
     match schedule {
         Some((printed, cost)) => {

@@ -15,7 +15,7 @@ use uc_model::{signed_digits, whole_digits};
 fn write_ramp<W: Writer>(out: &mut W, row: &RampRow) -> Result<(), Failed>
     ensures ok { OnOk result (WriterWrites (ramp_line row.now) (W.state out.old) (W.state out.new)) }
     ensures failed { OnErr result (WritesFront (ramp_line row.now) (W.state out.old) (W.state out.new)) }
-    ensures rest { W.SameElse out.old out.new }
+    ensures rest { W.same_else out.old out.new }
 {
     let mut unit = Buffer::new();
     let mut period = Buffer::new();
@@ -40,7 +40,7 @@ fn write_ramp<W: Writer>(out: &mut W, row: &RampRow) -> Result<(), Failed>
 fn write_ramp_rows<W: Writer>(out: &mut W, rows: &[RampRow]) -> Result<(), Failed>
     ensures ok { OnOk result (WriterWrites (flat_map ramp_line rows.now) (W.state out.old) (W.state out.new)) }
     ensures failed { OnErr result (WritesFront (flat_map ramp_line rows.now) (W.state out.old) (W.state out.new)) }
-    ensures rest { W.SameElse out.old out.new }
+    ensures rest { W.same_else out.old out.new }
 {
     for row in rows {
         write_ramp(out, row)?;
@@ -52,7 +52,7 @@ fn write_ramp_rows<W: Writer>(out: &mut W, rows: &[RampRow]) -> Result<(), Faile
 fn write_ramps<W: Writer>(out: &mut W, rows: &[RampRow]) -> Result<(), Failed>
     ensures ok { OnOk result (WriterWrites (ramp_lines rows.now) (W.state out.old) (W.state out.new)) }
     ensures failed { OnErr result (WritesFront (ramp_lines rows.now) (W.state out.old) (W.state out.new)) }
-    ensures rest { W.SameElse out.old out.new }
+    ensures rest { W.same_else out.old out.new }
 {
     write_whole_line(out, b"ramps", rows.len() as u64)?;
     write_ramp_rows(out, rows)
@@ -61,7 +61,7 @@ fn write_ramps<W: Writer>(out: &mut W, rows: &[RampRow]) -> Result<(), Failed>
 fn write_reserve_prices<W: Writer>(out: &mut W, table: &Table) -> Result<(), Failed>
     ensures ok { OnOk result (WriterWrites (reserve_lines table.now) (W.state out.old) (W.state out.new)) }
     ensures failed { OnErr result (WritesFront (reserve_lines table.now) (W.state out.old) (W.state out.new)) }
-    ensures rest { W.SameElse out.old out.new }
+    ensures rest { W.same_else out.old out.new }
 {
     write_number_line(out, b"mu", table.mu.as_slice())?;
     write_ramps(out, table.ramps.as_slice())
@@ -70,7 +70,7 @@ fn write_reserve_prices<W: Writer>(out: &mut W, table: &Table) -> Result<(), Fai
 fn write_prices<W: Writer>(out: &mut W, table: &Table) -> Result<(), Failed>
     ensures ok { OnOk result (WriterWrites (price_lines table.now) (W.state out.old) (W.state out.new)) }
     ensures failed { OnErr result (WritesFront (price_lines table.now) (W.state out.old) (W.state out.new)) }
-    ensures rest { W.SameElse out.old out.new }
+    ensures rest { W.same_else out.old out.new }
 {
     write_number_line(out, b"pi", table.pi.as_slice())?;
     write_reserve_prices(out, table)
@@ -80,7 +80,7 @@ fn write_prices<W: Writer>(out: &mut W, table: &Table) -> Result<(), Failed>
 fn write_scale<W: Writer>(out: &mut W, k: &i64) -> Result<(), Failed>
     ensures ok { OnOk result (WriterWrites (scale_line k.now) (W.state out.old) (W.state out.new)) }
     ensures failed { OnErr result (WritesFront (scale_line k.now) (W.state out.old) (W.state out.new)) }
-    ensures rest { W.SameElse out.old out.new }
+    ensures rest { W.same_else out.old out.new }
 {
     let mut scale = Buffer::new();
     write_pieces(out, &[b"table ", signed_digits(&mut scale, *k), b"\n"])
@@ -90,7 +90,7 @@ fn write_scale<W: Writer>(out: &mut W, k: &i64) -> Result<(), Failed>
 pub(crate) fn write_table<W: Writer>(out: &mut W, table: &Table) -> Result<(), Failed>
     ensures ok { OnOk result (WriterWrites (table_text table.now) (W.state out.old) (W.state out.new)) }
     ensures failed { OnErr result (WritesFront (table_text table.now) (W.state out.old) (W.state out.new)) }
-    ensures rest { W.SameElse out.old out.new }
+    ensures rest { W.same_else out.old out.new }
 {
     write_scale(out, &table.k)?;
     write_prices(out, table)

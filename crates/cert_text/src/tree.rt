@@ -13,7 +13,7 @@ use outside::{Failed, Writer};
 pub(crate) fn write_leaf<W: Writer>(out: &mut W, leaf: &Leaf) -> Result<(), Failed>
     ensures ok { OnOk result (WriterWrites (leaf_line (leaf_claim leaf.now)) (W.state out.old) (W.state out.new)) }
     ensures failed { OnErr result (WritesFront (leaf_line (leaf_claim leaf.now)) (W.state out.old) (W.state out.new)) }
-    ensures rest { W.SameElse out.old out.new }
+    ensures rest { W.same_else out.old out.new }
 {
     match leaf {
         Leaf::Live { .. } | Leaf::Bound { .. } => write_whole_line(out, b"bound", 1),

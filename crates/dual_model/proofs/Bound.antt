@@ -6,6 +6,7 @@ use Rattle.uc_model.specs.Commitment.{initial_p}
 use Rattle.uc_model.specs.Schedule.{Schedule, thermal_unit, thermal_count, renewable_count, demand_at, reserve_at, p_at, p_before}
 use Rattle.uc_model.specs.Cost.{cell_cost, unit_cost, cost}
 use Rattle.uc_model.specs.Rules.{RampUp, RampDown, RenewableRange, Demand, Reserve, Obeys, thermal_output}
+use Rattle.uc_model.specs.declared.instance.Thermal.{Thermal}
 use Rattle.uc_model.specs.declared.instance.Instance.{Instance}
 use Rattle.uc_model.proofs.Ring.{linear, scale-le-scale}
 use Rattle.uc_model.proofs.Tests.{int_le-true, int_eq-true}
@@ -13,68 +14,84 @@ use Rattle.uc_model.proofs.Obeyed.{rule_at}
 use Rattle.dual_model.specs.Prices.{pi_at, mu_at, up_at, down_at, HasSizeOf, HasLawfulSigns}
 use Rattle.dual_model.specs.Fixings.{IsPatternAt}
 use Rattle.dual_model.specs.UnitValue.{period_value, IsPatternValue}
-use Rattle.dual_model.specs.NodeValue.{unit_constant, renewable_value, IsNodeValue}
+use Rattle.dual_model.specs.NodeValue.{constant_at, renewable_value, IsNodeValue}
 use Rattle.dual_model.specs.declared.node.Node.{Node}
 use Rattle.dual_model.specs.declared.table.Table.{Table}
 use Rattle.dual_model.proofs.Lagrange.{unit_priced, bound_priced}
 use Rattle.dual_model.proofs.Multipliers.{mu_at_nonneg, signed_at, up_at_past, down_at_past}
 use Rattle.dual_model.proofs.PricedRules.{period_priced, renewable_priced}
 
--- a unit's pattern in the schedule: its value with the unit's constant is at most what it costs, less what it is paid
-unit_bound : (instance : Instance) (q : ℕ) (x : Schedule) (table : Table) (g : ℕ) (w : ℤ) → Obeys instance q x → HasSizeOf instance table
-    → HasLawfulSigns table → g < thermal_count instance → IsPatternValue instance table g (x.thermal g).on w
-    → (pos q *ℤ (w +ℤ unit_constant instance.periods table (thermal_unit instance g) g))
-    ≤ℤ (table.k *ℤ unit_cost instance.periods q (thermal_unit instance g) (x.thermal g)
-    -ℤ sum_below instance.periods (λ t. pi_at table t *ℤ thermal_output instance q x g t +ℤ mu_at table t *ℤ (x.thermal g).reserve t))
-unit_bound instance q x table g w obeys size signs hg value =
-    let unit = thermal_unit instance g in
-    let row = x.thermal g in
-    let ends : length table.pi ≤ instance.periods = omega (arith, size.periods) in
-    let bound = unit_priced instance.periods (pos q) unit.ru unit.rd (initial_p unit) table.k (up_at table g) (down_at table g)
-    (pi_at table) (mu_at table) (p_at unit row) row.reserve (p_before q unit row) (λ t. pos q *ℤ unit.pmin *ℤ bit (row.on t))
-    (cell_cost q unit row) (period_value table unit row.on value.term) (record {
-      up_sign = λ t. (signed_at table signs g t).up;
-      down_sign = λ t. (signed_at table signs g t).down;
-      up_end = up_at_past table table.units (length table.pi) g instance.periods size.form.rows ends;
-      down_end = down_at_past table table.units (length table.pi) g instance.periods size.form.rows ends;
-      first = refl;
-      next = λ t. refl;
-      rise = λ t ht. int_le-true _ _ (rule_at instance q x obeys RampUp g t hg ht);
-      fall = λ t ht. int_le-true _ _ (rule_at instance q x obeys RampDown g t hg ht);
-      period = λ t ht. period_priced instance q x table g t value.term obeys hg ht size.form.scale (λ on. (value.terms t ht on).bound);
-    }) in
-    let same = ap (λ v. pos q *ℤ (v +ℤ unit_constant instance.periods table unit g)) value.total in
-    omega (arith, linear)
+-- ---- a schedule that obeys, and a table of the instance's size with the signs of a bound
+module _ (instance : Instance) (q : ℕ) (x : Schedule) (table : Table) (obeys : Obeys instance q x)
+    (size : HasSizeOf instance table) (signs : HasLawfulSigns table) where
+  abbrev unit_at : ℕ → Thermal
+  unit_at g = thermal_unit instance g
 
--- the value of the node, where each unit's pattern in the schedule has a value
-pub bound_from : (instance : Instance) (node : Node) (q : ℕ) (x : Schedule) (table : Table) (v : ℤ) → Obeys instance q x
-    → HasSizeOf instance table → HasLawfulSigns table → IsNodeValue instance node table v
-    → ((g : ℕ) → g < thermal_count instance → IsPatternAt instance node g (x.thermal g).on)
-    → ((g : ℕ) → g < thermal_count instance → (w : ℤ) × IsPatternValue instance table g (x.thermal g).on w)
-    → (pos q *ℤ v) ≤ℤ (table.k *ℤ cost instance q x)
-bound_from instance node q x table v obeys size signs is_value patterns values =
-    let constant = λ (g : ℕ). unit_constant instance.periods table (thermal_unit instance g) g in
-    let bound = bound_priced instance.periods (thermal_count instance) (renewable_count instance) (pos q) table.k (pi_at table) (mu_at table)
-    (demand_at instance) (reserve_at instance) (thermal_output instance q x) (λ g. (x.thermal g).reserve) x.output (renewable_value instance table)
-    (λ g. is_value.unit_value g +ℤ constant g) (λ g. unit_cost instance.periods q (thermal_unit instance g) (x.thermal g)) (record {
-      mu_sign = mu_at_nonneg table signs;
-      demand_met = λ t ht. int_eq-true _ _ (rule_at instance q x obeys Demand 0 t (omega arith) ht);
-      reserve_met = λ t ht. int_le-true _ _ (rule_at instance q x obeys Reserve 0 t (omega arith) ht);
-      unit = each;
-      renewable = λ w t hw ht. renewable_priced instance q x table w t obeys (rule_at instance q x obeys RenewableRange w t hw ht);
-    }) in
-    let same = ap (λ n. pos q *ℤ n) is_value.total in
-    omega (arith, linear)
-  where
-    each : (g : ℕ) → g < thermal_count instance
-        → (pos q *ℤ (is_value.unit_value g +ℤ unit_constant instance.periods table (thermal_unit instance g) g))
-        ≤ℤ (table.k *ℤ unit_cost instance.periods q (thermal_unit instance g) (x.thermal g)
-        -ℤ sum_below instance.periods (λ t. pi_at table t *ℤ thermal_output instance q x g t +ℤ mu_at table t *ℤ (x.thermal g).reserve t))
-    each g hg =
-        let own = values g hg in
-        let least = (is_value.units g hg).best.least (x.thermal g).on own.0 (patterns g hg) own.1 in
-        let shifted : (is_value.unit_value g +ℤ unit_constant instance.periods table (thermal_unit instance g) g)
-        ≤ℤ (own.0 +ℤ unit_constant instance.periods table (thermal_unit instance g) g) = omega (arith, linear) in
-        let below = scale-le-scale q _ _ shifted in
-        let bound = unit_bound instance q x table g own.0 obeys size signs hg own.1 in
-        omega (arith, linear)
+  abbrev constant : ℕ → ℤ
+  constant g = constant_at instance table g
+
+  -- what unit g costs, and what its output and reserve are paid
+  abbrev cost_of : ℕ → ℤ
+  cost_of g = unit_cost instance.periods q (unit_at g) (x.thermal g)
+
+  abbrev paid : ℕ → ℤ
+  paid g =
+      sum_below instance.periods (λ t.
+      pi_at table t *ℤ thermal_output instance q x g t +ℤ mu_at table t *ℤ (x.thermal g).reserve t)
+
+  -- the value of a unit's pattern in the schedule, with the unit's constant, is at most what it costs, less what it is paid
+  unit_bound : (g : ℕ) (w : ℤ) → g < thermal_count instance → IsPatternValue instance table g (x.thermal g).on w
+      → (pos q *ℤ (w +ℤ constant g)) ≤ℤ (table.k *ℤ cost_of g -ℤ paid g)
+  unit_bound g w hg value =
+      let unit = unit_at g in
+      let row = x.thermal g in
+      let ends : length table.pi ≤ instance.periods = omega (arith, size.periods) in
+      let bound =
+      unit_priced instance.periods (pos q) unit.ru unit.rd (initial_p unit) table.k (up_at table g) (down_at table g)
+      (pi_at table) (mu_at table) (p_at unit row) row.reserve (p_before q unit row)
+      (λ t. pos q *ℤ unit.pmin *ℤ bit (row.on t)) (cell_cost q unit row) (period_value table unit row.on value.term)
+      (record {
+        up_sign = λ t. (signed_at table signs g t).up;
+        down_sign = λ t. (signed_at table signs g t).down;
+        up_end = up_at_past table table.units (length table.pi) g instance.periods size.form.rows ends;
+        down_end = down_at_past table table.units (length table.pi) g instance.periods size.form.rows ends;
+        first = refl;
+        next = λ t. refl;
+        rise = λ t ht. int_le-true _ _ (rule_at instance q x obeys RampUp g t hg ht);
+        fall = λ t ht. int_le-true _ _ (rule_at instance q x obeys RampDown g t hg ht);
+        period = λ t ht.
+            period_priced instance q x table g t value.term obeys hg ht size.form.scale (λ on. (value.terms t ht on).bound);
+      }) in
+      let same = ap (λ v. pos q *ℤ (v +ℤ constant g)) value.total in
+      omega (arith, linear)
+
+  -- the value of the node, where each unit's commitment is a pattern there and has a value
+  pub bound_from : (node : Node) (v : ℤ) → IsNodeValue instance node table v
+      → ((g : ℕ) → g < thermal_count instance → IsPatternAt instance node g (x.thermal g).on)
+      → ((g : ℕ) → g < thermal_count instance → (w : ℤ) × IsPatternValue instance table g (x.thermal g).on w)
+      → (pos q *ℤ v) ≤ℤ (table.k *ℤ cost instance q x)
+  bound_from node v is_value patterns values =
+      let bound =
+      bound_priced instance.periods (thermal_count instance) (renewable_count instance) (pos q) table.k (pi_at table)
+      (mu_at table) (demand_at instance) (reserve_at instance) (thermal_output instance q x) (λ g. (x.thermal g).reserve)
+      x.output (renewable_value instance table) (λ g. is_value.unit_value g +ℤ constant g) cost_of
+      (record {
+        mu_sign = mu_at_nonneg table signs;
+        demand_met = λ t ht. int_eq-true _ _ (rule_at instance q x obeys Demand 0 t (omega arith) ht);
+        reserve_met = λ t ht. int_le-true _ _ (rule_at instance q x obeys Reserve 0 t (omega arith) ht);
+        unit = each;
+        renewable = λ w t hw ht.
+            renewable_priced instance q x table w t obeys (rule_at instance q x obeys RenewableRange w t hw ht);
+      }) in
+      let same = ap (λ n. pos q *ℤ n) is_value.total in
+      omega (arith, linear)
+    where
+      each : (g : ℕ) → g < thermal_count instance
+          → (pos q *ℤ (is_value.unit_value g +ℤ constant g)) ≤ℤ (table.k *ℤ cost_of g -ℤ paid g)
+      each g hg =
+          let own = values g hg in
+          let least = (is_value.units g hg).best.least (x.thermal g).on own.0 (patterns g hg) own.1 in
+          let shifted : (is_value.unit_value g +ℤ constant g) ≤ℤ (own.0 +ℤ constant g) = omega (arith, linear) in
+          let below = scale-le-scale q _ _ shifted in
+          let bound = unit_bound g own.0 hg own.1 in
+          omega (arith, linear)

@@ -7,7 +7,7 @@ use Rattle.std.proofs.Common.{◌≡◌, ℕ, ◌<◌, true, false, cond, refl, 
 use Rattle.std.specs.Prelude.{int_le}
 use Rattle.std.proofs.lemmas.Int.{ints, by_lt_z}
 use Rattle.uc_model.specs.Sums.{sum_below}
-use Rattle.uc_model.proofs.Ring.{linear, spread, mul_comm, mul_assoc, mul_left_comm, mul_nonneg, mul-zero, zero-mul, mul-le-mul_left, mul-le-mul_turned, le_from_mul, pos_nonneg, mul-add, add-mul, neg-mul, one-mul, sub-mul}
+use Rattle.uc_model.proofs.Ring.{linear, spread, mul_comm, mul_assoc, mul_nonneg, sub_nonneg, mul-zero, zero-mul, mul-le-mul_left, mul-le-mul_turned, le_from_mul, pos_nonneg, mul-add, add-mul, neg-mul, one-mul, sub-mul}
 use Rattle.uc_model.proofs.Sums.{sum_below-same, sum_below-zero, sum_below-add, sum_below-sub, sum_below-neg, sum_below_nonneg, sum_below-mul_left, sum_below-mul_right, term-le-sum_below}
 
 -- m bounds the reduced cost at each corner, b being the price of reserve
@@ -31,7 +31,8 @@ is_left : (d : ℤ) → int_le (pos 0) d ≡ true → pos 0 ≤ℤ d
 is_left d h = grind (arith, ints)
 
 -- what holds of a point on either side
-sides : (d w : ℤ) (P : ℤ → ℤ → Type 0) → (pos 0 ≤ℤ d → P w (pos 0)) → (d <ℤ pos 0 → P (pos 0) w) → P (left d w) (right d w)
+sides : (d w : ℤ) (P : ℤ → ℤ → Type 0) → (pos 0 ≤ℤ d → P w (pos 0)) → (d <ℤ pos 0 → P (pos 0) w)
+    → P (left d w) (right d w)
 unfolding left right
 sides d w P here there =
     elim (int_le (pos 0) d) as (λ v. (int_le (pos 0) d ≡ v) → P (cond v w (pos 0)) (cond v (pos 0) w)) [
@@ -45,7 +46,8 @@ parted x d w = sides d w (λ u v. x *ℤ w ≡ x *ℤ u +ℤ x *ℤ v)
     (λ h. rw (mul-zero x) (omega (arith, linear)))
 
 sum_parted : (n : ℕ) (x d w : ℕ → ℤ)
-    → sum_below n (λ l. x l *ℤ w l) ≡ sum_below n (λ l. x l *ℤ left (d l) (w l)) +ℤ sum_below n (λ l. x l *ℤ right (d l) (w l))
+    → sum_below n (λ l. x l *ℤ w l)
+    ≡ sum_below n (λ l. x l *ℤ left (d l) (w l)) +ℤ sum_below n (λ l. x l *ℤ right (d l) (w l))
 sum_parted n x d w =
     sum_below-same n _ (λ l. x l *ℤ left (d l) (w l) +ℤ x l *ℤ right (d l) (w l)) (λ l h. parted (x l) (d l) (w l))
     ∙ sum_below-add n (λ l. x l *ℤ left (d l) (w l)) (λ l. x l *ℤ right (d l) (w l))
@@ -69,7 +71,8 @@ pairs_nonneg n x y z u each =
 -- the sums on both sides of the cap: how far the weights lie left of it (`near`) and right of it (`far`), what they
 -- cost above the bound, and the reserve
 weighed : (near far cost_left cost_right b r : ℤ) → pos 0 ≤ℤ near → pos 0 ≤ℤ r → r ≤ℤ (near -ℤ far) → pos 0 ≤ℤ cost_left
-    → pos 0 ≤ℤ (cost_left +ℤ b *ℤ near) → pos 0 ≤ℤ (near *ℤ cost_right +ℤ far *ℤ cost_left) → (near ≡ pos 0 → cost_right ≡ pos 0)
+    → pos 0 ≤ℤ (cost_left +ℤ b *ℤ near) → pos 0 ≤ℤ (near *ℤ cost_right +ℤ far *ℤ cost_left)
+    → (near ≡ pos 0 → cost_right ≡ pos 0)
     → pos 0 ≤ℤ far
     → pos 0 ≤ℤ (cost_left +ℤ cost_right +ℤ b *ℤ r)
 weighed near far cost_left cost_right b r hn hr most hl held both none hf = by_lt_z (pos 0) near some nothing
@@ -93,7 +96,9 @@ weighed near far cost_left cost_right b r hn hr most hl held both none hf = by_l
         let whole = mul_nonneg (near -ℤ far) (cost_left +ℤ b *ℤ near) room held in
         let left_part = mul-add (near -ℤ far) cost_left (b *ℤ near) in
         let order : (near -ℤ far) *ℤ (b *ℤ near) ≡ near *ℤ (b *ℤ (near -ℤ far)) =
-        mul_comm (near -ℤ far) (b *ℤ near) ∙ ap (λ z. z *ℤ (near -ℤ far)) (mul_comm b near) ∙ mul_assoc near b (near -ℤ far) in
+        mul_comm (near -ℤ far) (b *ℤ near)
+        ∙ ap (λ z. z *ℤ (near -ℤ far)) (mul_comm b near)
+        ∙ mul_assoc near b (near -ℤ far) in
         omega (arith, linear))
         (λ positive.
         let paid = mul_nonneg near (b *ℤ r) hn (mul_nonneg b r positive hr) in
@@ -140,6 +145,14 @@ excess_sum n f w m q total =
     ∙ sum_below-sub n (λ l. f l *ℤ w l) (λ l. m *ℤ w l)
     ∙ ap (λ z. sum_below n (λ l. f l *ℤ w l) -ℤ z) (sum_below-mul_left n m w ∙ ap (λ z. m *ℤ z) total ∙ mul_comm m q)
 
+-- four factors change places
+crossed : (a b c e : ℤ) → (a *ℤ b) *ℤ (c *ℤ e) ≡ (b *ℤ e) *ℤ (a *ℤ c)
+crossed a b c e =
+    ap (λ z. z *ℤ (c *ℤ e)) (mul_comm a b)
+    ∙ mul_assoc b a (c *ℤ e)
+    ∙ ap (λ z. b *ℤ z) (sym (mul_assoc a c e) ∙ mul_comm (a *ℤ c) e)
+    ∙ sym (mul_assoc b e (a *ℤ c))
+
 -- a pair of points, one on each side, with its weights
 pair_nonneg : (dl dj gl gj wl wj : ℤ) → pos 0 ≤ℤ wl → pos 0 ≤ℤ wj
     → (pos 0 ≤ℤ dl → dj <ℤ pos 0 → pos 0 ≤ℤ (neg_ℤ dj *ℤ gl +ℤ dl *ℤ gj))
@@ -156,80 +169,114 @@ pair_nonneg dl dj gl gj wl wj hl hj both =
     crossed gl wl (neg_ℤ dj) wj ∙ ap (λ z. (wl *ℤ wj) *ℤ z) (mul_comm gl (neg_ℤ dj)) in
     omega (arith, linear)))
     (λ far. rw (mul-zero dl, mul-zero gl, zero-mul (gj *ℤ right dj wj), zero-mul (neg_ℤ dj *ℤ right dj wj)) (pos_nonneg 0))
-  where
-    crossed : (a b c e : ℤ) → (a *ℤ b) *ℤ (c *ℤ e) ≡ (b *ℤ e) *ℤ (a *ℤ c)
-    crossed a b c e =
-        ap (λ z. z *ℤ (c *ℤ e)) (mul_comm a b) ∙ mul_assoc b a (c *ℤ e) ∙ ap (λ z. b *ℤ z) (mul_left_comm a c e ∙ mul_left_comm c a e ∙ sym (mul_assoc a c e) ∙ mul_comm (a *ℤ c) e)
-        ∙ sym (mul_assoc b e (a *ℤ c))
 
--- a number that bounds the corners bounds the reduced cost of all weights and reserves
-pub corners_bound : (n : ℕ) (f d : ℕ → ℤ) (b m : ℤ) → BoundsCorners n f d b m → (weight : ℕ → ℕ) (q r : ℤ)
-    → sum_below n (λ l. pos (weight l)) ≡ q → pos 0 ≤ℤ r → r ≤ℤ sum_below n (λ l. d l *ℤ pos (weight l))
-    → (q *ℤ m) ≤ℤ (sum_below n (λ l. f l *ℤ pos (weight l)) +ℤ b *ℤ r)
-corners_bound n f d b m corners weight q r total hr most =
-    let w = λ (l : ℕ). pos (weight l) in
-    let g = λ (l : ℕ). f l -ℤ m in
-    let near = sum_below n (λ l. d l *ℤ left (d l) (w l)) in
-    let far = sum_below n (λ l. neg_ℤ (d l) *ℤ right (d l) (w l)) in
-    let cost_left = sum_below n (λ l. g l *ℤ left (d l) (w l)) in
-    let cost_right = sum_below n (λ l. g l *ℤ right (d l) (w l)) in
-    let whole = excess_sum n f w m q total in
-    let cost_parts = sum_parted n g d w in
-    let distance_parts = sum_parted n d d w in
-    let turned : sum_below n (λ l. neg_ℤ (d l) *ℤ right (d l) (w l)) ≡ neg_ℤ (sum_below n (λ l. d l *ℤ right (d l) (w l))) =
-    sum_below-same n _ (λ l. neg_ℤ (d l *ℤ right (d l) (w l))) (λ l h. neg-mul (d l) (right (d l) (w l)))
-    ∙ sum_below-neg n (λ l. d l *ℤ right (d l) (w l)) in
-    let near_sign : pos 0 ≤ℤ near = sum_below_nonneg n (λ l. d l *ℤ left (d l) (w l)) (λ l h. nonneg_left (d l) (w l) (pos_nonneg (weight l))) in
-    let far_sign : pos 0 ≤ℤ far = sum_below_nonneg n (λ l. neg_ℤ (d l) *ℤ right (d l) (w l)) (λ l h. nonneg_right (d l) (w l) (pos_nonneg (weight l))) in
-    let left_sign : pos 0 ≤ℤ cost_left = sum_below_nonneg n (λ l. g l *ℤ left (d l) (w l)) left_point in
-    let held : pos 0 ≤ℤ (cost_left +ℤ b *ℤ near) =
-    subst (λ z. pos 0 ≤ℤ z) held_sum
-    (sum_below_nonneg n (λ l. g l *ℤ left (d l) (w l) +ℤ b *ℤ (d l *ℤ left (d l) (w l))) held_point) in
-    let both = pairs_nonneg n (λ l. d l *ℤ left (d l) (w l)) (λ j. g j *ℤ right (d j) (w j))
-    (λ l. g l *ℤ left (d l) (w l)) (λ j. neg_ℤ (d j) *ℤ right (d j) (w j)) each_pair in
-    let order = mul_comm cost_left far in
-    let room : r ≤ℤ (near -ℤ far) = omega (arith, linear) in
-    let weighed_up : pos 0 ≤ℤ (cost_left +ℤ cost_right +ℤ b *ℤ r) =
-    weighed near far cost_left cost_right b r near_sign hr room left_sign held (omega (arith, linear))
-    (λ none. no_right (omega (arith, linear))) far_sign in
-    omega (arith, linear)
-  where
-    left_point : (l : ℕ) → l < n → pos 0 ≤ℤ ((f l -ℤ m) *ℤ left (d l) (pos (weight l)))
-    left_point l h = sides (d l) (pos (weight l)) (λ u v. pos 0 ≤ℤ ((f l -ℤ m) *ℤ u))
-        (λ near. let below = corners.point l h near in mul_nonneg (f l -ℤ m) (pos (weight l)) (omega (arith, linear)) (pos_nonneg (weight l)))
-        (λ far. rw (mul-zero (f l -ℤ m)) (pos_nonneg 0))
+-- ---- weights on the points, where a number bounds the corners
+module _ (n : ℕ) (f d : ℕ → ℤ) (b m : ℤ) (corners : BoundsCorners n f d b m) (weight : ℕ → ℕ) where
+  -- what a point costs above the bound
+  abbrev excess : ℕ → ℤ
+  excess l = f l -ℤ m
 
-    held_point : (l : ℕ) → l < n
-        → pos 0 ≤ℤ ((f l -ℤ m) *ℤ left (d l) (pos (weight l)) +ℤ b *ℤ (d l *ℤ left (d l) (pos (weight l))))
-    held_point l h = sides (d l) (pos (weight l)) (λ u v. pos 0 ≤ℤ ((f l -ℤ m) *ℤ u +ℤ b *ℤ (d l *ℤ u)))
-        (λ near.
-        let below = corners.reserve l h near in
-        let times = mul_nonneg ((f l -ℤ m) +ℤ b *ℤ d l) (pos (weight l)) (omega (arith, linear)) (pos_nonneg (weight l)) in
-        let parts = add-mul (f l -ℤ m) (b *ℤ d l) (pos (weight l)) in
-        let order = mul_assoc b (d l) (pos (weight l)) in
-        omega (arith, linear))
-        (λ far. rw (mul-zero (f l -ℤ m), mul-zero (d l), mul-zero b) (pos_nonneg 0))
+  abbrev near_weight : ℕ → ℤ
+  near_weight l = left (d l) (pos (weight l))
 
-    held_sum : sum_below n (λ l. (f l -ℤ m) *ℤ left (d l) (pos (weight l)) +ℤ b *ℤ (d l *ℤ left (d l) (pos (weight l))))
-        ≡ sum_below n (λ l. (f l -ℤ m) *ℤ left (d l) (pos (weight l))) +ℤ b *ℤ sum_below n (λ l. d l *ℤ left (d l) (pos (weight l)))
-    held_sum =
-        sum_below-add n (λ l. (f l -ℤ m) *ℤ left (d l) (pos (weight l))) (λ l. b *ℤ (d l *ℤ left (d l) (pos (weight l))))
-        ∙ ap (λ z. sum_below n (λ l. (f l -ℤ m) *ℤ left (d l) (pos (weight l))) +ℤ z)
-        (sum_below-mul_left n b (λ l. d l *ℤ left (d l) (pos (weight l))))
+  abbrev far_weight : ℕ → ℤ
+  far_weight l = right (d l) (pos (weight l))
 
-    each_pair : (l j : ℕ) → l < n → j < n
-        → pos 0 ≤ℤ ((d l *ℤ left (d l) (pos (weight l))) *ℤ ((f j -ℤ m) *ℤ right (d j) (pos (weight j)))
-        +ℤ ((f l -ℤ m) *ℤ left (d l) (pos (weight l))) *ℤ (neg_ℤ (d j) *ℤ right (d j) (pos (weight j))))
-    each_pair l j hl hj =
-        pair_nonneg (d l) (d j) (f l -ℤ m) (f j -ℤ m) (pos (weight l)) (pos (weight j)) (pos_nonneg (weight l)) (pos_nonneg (weight j))
-        (λ near far. let below = simp spread at (corners.pair l j hl hj near far) in simp spread (omega (arith, linear)))
+  abbrev near : ℤ
+  near = sum_below n (λ l. d l *ℤ near_weight l)
 
-    no_right : sum_below n (λ l. neg_ℤ (d l) *ℤ right (d l) (pos (weight l))) ≡ pos 0
-        → sum_below n (λ l. (f l -ℤ m) *ℤ right (d l) (pos (weight l))) ≡ pos 0
-    no_right none = sum_below-zero n (λ l. (f l -ℤ m) *ℤ right (d l) (pos (weight l))) (λ l h.
-        let most = term-le-sum_below n (λ k. neg_ℤ (d k) *ℤ right (d k) (pos (weight k))) l h
-        (λ k i. nonneg_right (d k) (pos (weight k)) (pos_nonneg (weight k))) in
-        let little = weight-le-far (d l) (pos (weight l)) (pos_nonneg (weight l)) in
-        let sign = right_nonneg (d l) (pos (weight l)) (pos_nonneg (weight l)) in
-        let no_weight : right (d l) (pos (weight l)) ≡ pos 0 = omega (arith, linear) in
-        ap (λ z. (f l -ℤ m) *ℤ z) no_weight ∙ mul-zero (f l -ℤ m))
+  abbrev far : ℤ
+  far = sum_below n (λ l. neg_ℤ (d l) *ℤ far_weight l)
+
+  abbrev near_excess : ℤ
+  near_excess = sum_below n (λ l. excess l *ℤ near_weight l)
+
+  abbrev far_excess : ℤ
+  far_excess = sum_below n (λ l. excess l *ℤ far_weight l)
+
+  near_sign : pos 0 ≤ℤ near
+  near_sign =
+      sum_below_nonneg n (λ l. d l *ℤ near_weight l)
+      (λ l h. nonneg_left (d l) (pos (weight l)) (pos_nonneg (weight l)))
+
+  far_each : (l : ℕ) → pos 0 ≤ℤ (neg_ℤ (d l) *ℤ far_weight l)
+  far_each l = nonneg_right (d l) (pos (weight l)) (pos_nonneg (weight l))
+
+  far_sign : pos 0 ≤ℤ far
+  far_sign = sum_below_nonneg n (λ l. neg_ℤ (d l) *ℤ far_weight l) (λ l h. far_each l)
+
+  far_turned : far ≡ neg_ℤ (sum_below n (λ l. d l *ℤ far_weight l))
+  far_turned =
+      sum_below-same n (λ l. neg_ℤ (d l) *ℤ far_weight l) (λ l. neg_ℤ (d l *ℤ far_weight l))
+      (λ l h. neg-mul (d l) (far_weight l))
+      ∙ sum_below-neg n (λ l. d l *ℤ far_weight l)
+
+  -- by the corners of a point alone
+  near_point : (l : ℕ) → l < n → pos 0 ≤ℤ (excess l *ℤ near_weight l)
+  near_point l h = sides (d l) (pos (weight l)) (λ u v. pos 0 ≤ℤ (excess l *ℤ u))
+      (λ at_left.
+      mul_nonneg (excess l) (pos (weight l)) (sub_nonneg m (f l) (corners.point l h at_left)) (pos_nonneg (weight l)))
+      (λ at_right. rw (mul-zero (excess l)) (pos_nonneg 0))
+
+  near_excess_sign : pos 0 ≤ℤ near_excess
+  near_excess_sign = sum_below_nonneg n (λ l. excess l *ℤ near_weight l) near_point
+
+  -- by the corners of a point with all the reserve that is left
+  held_point : (l : ℕ) → l < n → pos 0 ≤ℤ (excess l *ℤ near_weight l +ℤ b *ℤ (d l *ℤ near_weight l))
+  held_point l h = sides (d l) (pos (weight l)) (λ u v. pos 0 ≤ℤ (excess l *ℤ u +ℤ b *ℤ (d l *ℤ u)))
+      (λ at_left.
+      let below = corners.reserve l h at_left in
+      let sign : pos 0 ≤ℤ (excess l +ℤ b *ℤ d l) = omega (arith, linear) in
+      let times = mul_nonneg (excess l +ℤ b *ℤ d l) (pos (weight l)) sign (pos_nonneg (weight l)) in
+      let parts = add-mul (excess l) (b *ℤ d l) (pos (weight l)) in
+      let order = mul_assoc b (d l) (pos (weight l)) in
+      omega (arith, linear))
+      (λ at_right. rw (mul-zero (excess l), mul-zero (d l), mul-zero b) (pos_nonneg 0))
+
+  held_sign : pos 0 ≤ℤ (near_excess +ℤ b *ℤ near)
+  held_sign =
+      subst (λ z. pos 0 ≤ℤ z)
+      (sum_below-add n (λ l. excess l *ℤ near_weight l) (λ l. b *ℤ (d l *ℤ near_weight l))
+      ∙ ap (λ z. near_excess +ℤ z) (sum_below-mul_left n b (λ l. d l *ℤ near_weight l)))
+      (sum_below_nonneg n (λ l. excess l *ℤ near_weight l +ℤ b *ℤ (d l *ℤ near_weight l)) held_point)
+
+  -- by the corners of pairs
+  each_pair : (l j : ℕ) → l < n → j < n
+      → pos 0 ≤ℤ ((d l *ℤ near_weight l) *ℤ (excess j *ℤ far_weight j)
+      +ℤ (excess l *ℤ near_weight l) *ℤ (neg_ℤ (d j) *ℤ far_weight j))
+  each_pair l j hl hj =
+      pair_nonneg (d l) (d j) (excess l) (excess j) (pos (weight l)) (pos (weight j)) (pos_nonneg (weight l))
+      (pos_nonneg (weight j)) (λ at_left at_right.
+      let below = simp spread at (corners.pair l j hl hj at_left at_right) in
+      simp spread (omega (arith, linear)))
+
+  -- no weight right of the cap costs nothing
+  no_far_excess : far ≡ pos 0 → far_excess ≡ pos 0
+  no_far_excess none =
+      sum_below-zero n (λ l. excess l *ℤ far_weight l) (λ l h.
+      let most = term-le-sum_below n (λ k. neg_ℤ (d k) *ℤ far_weight k) l h (λ k i. far_each k) in
+      let little = weight-le-far (d l) (pos (weight l)) (pos_nonneg (weight l)) in
+      let sign = right_nonneg (d l) (pos (weight l)) (pos_nonneg (weight l)) in
+      let no_weight : far_weight l ≡ pos 0 = omega (arith, linear) in
+      ap (λ z. excess l *ℤ z) no_weight ∙ mul-zero (excess l))
+
+  -- a number that bounds the corners bounds the reduced cost of all weights and reserves
+  pub corners_bound : (q r : ℤ) → sum_below n (λ l. pos (weight l)) ≡ q → pos 0 ≤ℤ r
+      → r ≤ℤ sum_below n (λ l. d l *ℤ pos (weight l))
+      → (q *ℤ m) ≤ℤ (sum_below n (λ l. f l *ℤ pos (weight l)) +ℤ b *ℤ r)
+  corners_bound q r total sign most =
+      let whole = excess_sum n f (λ l. pos (weight l)) m q total in
+      let cost_parts = sum_parted n excess d (λ l. pos (weight l)) in
+      let distance_parts = sum_parted n d d (λ l. pos (weight l)) in
+      let turned = far_turned in
+      let pairs =
+      pairs_nonneg n (λ l. d l *ℤ near_weight l) (λ j. excess j *ℤ far_weight j) (λ l. excess l *ℤ near_weight l)
+      (λ j. neg_ℤ (d j) *ℤ far_weight j) each_pair in
+      let order = mul_comm near_excess far in
+      let room : r ≤ℤ (near -ℤ far) = omega (arith, linear) in
+      let positive = near_sign in
+      let weighed_up : pos 0 ≤ℤ (near_excess +ℤ far_excess +ℤ b *ℤ r) =
+      weighed near far near_excess far_excess b r near_sign sign room near_excess_sign held_sign (omega (arith, linear))
+      (λ none. let beyond = far_sign in no_far_excess (omega (arith, linear)))
+      far_sign in
+      omega (arith, linear)

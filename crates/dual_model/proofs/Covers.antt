@@ -24,7 +24,8 @@ use Rattle.dual_model.proofs.NodeValues.{weak_duality, rays_exclude, not_empty}
 child_agrees : (x : Schedule) (node : Node) (g t : ℕ) (on : Bool)
     → agrees (child node g t on) x ≡ (agrees node x && (keeps (record { g = g; t = t; on = on }) (x.thermal g).on && true))
 child_agrees x node g t on =
-    list_all-append (λ (fixing : Fixing). keeps fixing (x.thermal fixing.g).on) node.fixings ((record { g = g; t = t; on = on }) ∷ [])
+    list_all-append (λ (fixing : Fixing). keeps fixing (x.thermal fixing.g).on) node.fixings
+    ((record { g = g; t = t; on = on }) ∷ [])
 
 one_of_two : (a b : Bool) → cond (a && (not b && true)) 1 0 + cond (a && (b && true)) 1 0 ≡ cond a 1 0
 one_of_two true true = refl
@@ -43,7 +44,8 @@ leaves_part x tree = agreeing_below x root tree
 
 -- ---- what holds at the leaf that the schedule agrees with
 -- a claim that each leaf makes of its own schedules holds of each schedule
-at_own_leaf : (P : Node → Leaf → Type 0) (Q : Type 0) (x : Schedule) → ((node : Node) (leaf : Leaf) → IsTrue (agrees node x) → P node leaf → Q)
+at_own_leaf : (P : Node → Leaf → Type 0) (Q : Type 0) (x : Schedule)
+    → ((node : Node) (leaf : Leaf) → IsTrue (agrees node x) → P node leaf → Q)
     → (node : Node) (tree : Tree) → IsTrue (agrees node x) → EachLeaf P node tree → Q
 at_own_leaf P Q x claim node (Ends leaf) kept each = claim node leaf kept each
 at_own_leaf P Q x claim node (Splits g t off on) kept each = ⊎_elim
@@ -59,21 +61,25 @@ at_own_leaf P Q x claim node (Splits g t off on) kept each = ⊎_elim
 both_claims : (P R : Node → Leaf → Type 0) (node : Node) (tree : Tree) → EachLeaf P node tree → EachLeaf R node tree
     → EachLeaf (λ n l. P n l × R n l) node tree
 both_claims P R node (Ends leaf) first second = (first, second)
-both_claims P R node (Splits g t off on) first second =
-    (both_claims P R (child node g t false) off first.0 second.0, both_claims P R (child node g t true) on first.1 second.1)
+both_claims P R node (Splits g t off on) first second = (
+  both_claims P R (child node g t false) off first.0 second.0,
+  both_claims P R (child node g t true) on first.1 second.1,
+)
 
 lawful_bounds : (instance : Instance) (table : Table) → IsLawfulTable instance table → IsBoundTable instance table
 lawful_bounds instance table lawful = record { size = lawful.size; signs = lawful.signs }
 
 -- an excluded leaf has no schedule
-excluded_leaf : (instance : Instance) (tables : List Table) (q : ℕ) (x : Schedule) → IsLawfulInstance instance → Obeys instance q x
-    → (node : Node) (leaf : Leaf) → IsTrue (agrees node x) → HasLawfulTable instance tables node leaf → IsExcluded instance tables node leaf → ⊥
+excluded_leaf : (instance : Instance) (tables : List Table) (q : ℕ) (x : Schedule) → IsLawfulInstance instance
+    → Obeys instance q x → (node : Node) (leaf : Leaf) → IsTrue (agrees node x) → HasLawfulTable instance tables node leaf
+    → IsExcluded instance tables node leaf → ⊥
 excluded_leaf instance tables q x lawful obeys node (Bound number) kept tabled none = none
 excluded_leaf instance tables q x lawful obeys node (Ray number) kept tabled ray =
     let schedule : IsScheduleAt instance node q x = record { obeys = obeys; agrees = kept } in
     ⊎_elim
     (λ (positive : HasPositiveValue instance node ray.table).
-    rays_exclude instance node ray.table positive.value q x lawful (lawful_bounds instance ray.table (tabled ray.table ray.is_table))
+    rays_exclude instance node ray.table positive.value q x lawful
+    (lawful_bounds instance ray.table (tabled ray.table ray.is_table))
     positive.is_value ray.scale positive.positive schedule)
     (λ (empty : HasEmptyUnit instance node). not_empty instance node q x lawful schedule empty)
     ray.excludes
@@ -82,23 +88,27 @@ excluded_leaf instance tables q x lawful obeys node (Empty g) kept tabled empty 
     (record { unit = g; within = empty.0; empty = empty.1 })
 
 -- a bound on V over K bounds the cost
-divided : (q : ℕ) (k v bound b c : ℤ) → pos 0 <ℤ k → (bound *ℤ k) ≤ℤ v → b ≤ℤ bound → (pos q *ℤ v) ≤ℤ (k *ℤ c) → (pos q *ℤ b) ≤ℤ c
+divided : (q : ℕ) (k v bound b c : ℤ) → pos 0 <ℤ k → (bound *ℤ k) ≤ℤ v → b ≤ℤ bound → (pos q *ℤ v) ≤ℤ (k *ℤ c)
+    → (pos q *ℤ b) ≤ℤ c
 divided q k v bound b c positive below enough dual =
     let wider = mul-le-mul_right k b bound (omega (arith, linear)) enough in
     let scaled : (pos q *ℤ (b *ℤ k)) ≤ℤ (pos q *ℤ v) = scale-le-scale q (b *ℤ k) v (omega (arith, linear)) in
-    let order : k *ℤ (pos q *ℤ b) ≡ pos q *ℤ (b *ℤ k) = mul_left_comm k (pos q) b ∙ ap (λ z. pos q *ℤ z) (mul_comm k b) in
+    let order : k *ℤ (pos q *ℤ b) ≡ pos q *ℤ (b *ℤ k) =
+    mul_left_comm k (pos q) b ∙ ap (λ z. pos q *ℤ z) (mul_comm k b) in
     le_from_mul k (pos q *ℤ b) c positive (omega (arith, linear))
 
 -- a leaf that holds for b bounds the cost of its schedules
-bounded_leaf : (instance : Instance) (tables : List Table) (b : ℤ) (q : ℕ) (x : Schedule) → IsLawfulInstance instance → Obeys instance q x
-    → (node : Node) (leaf : Leaf) → IsTrue (agrees node x) → HasLawfulTable instance tables node leaf → LeafHolds instance tables b node leaf
+bounded_leaf : (instance : Instance) (tables : List Table) (b : ℤ) (q : ℕ) (x : Schedule)
+    → IsLawfulInstance instance → Obeys instance q x
+    → (node : Node) (leaf : Leaf) → IsTrue (agrees node x) → HasLawfulTable instance tables node leaf
+    → LeafHolds instance tables b node leaf
     → (pos q *ℤ b) ≤ℤ cost instance q x
 bounded_leaf instance tables b q x lawful obeys node (Bound number) kept tabled holds =
     let schedule : IsScheduleAt instance node q x = record { obeys = obeys; agrees = kept } in
     ⊎_elim
     (λ (has : HasBoundOf instance node holds.table b).
     let own = has.is_bound in
-    divided q holds.table.k own.value has.bound b (cost instance q x) holds.scale own.below has.enough
+    divided q holds.table.k own.value has.bound b (cost instance q x) holds.scale own.quotient.below has.enough
     (weak_duality instance node holds.table own.value q x lawful
     (lawful_bounds instance holds.table (tabled holds.table holds.is_table)) own.is_value schedule))
     (λ (empty : HasEmptyUnit instance node). absurd (not_empty instance node q x lawful schedule empty))
@@ -123,20 +133,24 @@ covers_exclude instance tables tree lawful tabled excluded q x obeys =
 
 -- ---- certificates
 -- a table of a list of lawful ones is lawful
-listed : (instance : Instance) (tables : List Table) → All (IsLawfulTable instance) tables → (number : ℕ) (table : Table)
+listed : (instance : Instance) (tables : List Table) → All (IsLawfulTable instance) tables
+    → (number : ℕ) (table : Table)
     → slice_get tables number ≡ Some table → IsLawfulTable instance table
 listed instance tables each number table is_table =
     subst (λ t. IsLawfulTable instance t) (get_or_from_slice_get tables number table table is_table)
     (each number table (slice_get_within tables number table is_table))
 
 -- where all tables are lawful, those of the leaves are
-tables_lawful : (instance : Instance) (tables : List Table) → All (IsLawfulTable instance) tables → (node : Node) (tree : Tree)
+tables_lawful : (instance : Instance) (tables : List Table) → All (IsLawfulTable instance) tables
+    → (node : Node) (tree : Tree)
     → EachLeaf (HasLawfulTable instance tables) node tree
-tables_lawful instance tables each node (Ends (Bound number)) = λ table is_table. listed instance tables each number table is_table
-tables_lawful instance tables each node (Ends (Ray number)) = λ table is_table. listed instance tables each number table is_table
+tables_lawful instance tables each node (Ends (Bound number)) = listed instance tables each number
+tables_lawful instance tables each node (Ends (Ray number)) = listed instance tables each number
 tables_lawful instance tables each node (Ends (Empty g)) = tt
-tables_lawful instance tables each node (Splits g t off on) =
-    (tables_lawful instance tables each (child node g t false) off, tables_lawful instance tables each (child node g t true) on)
+tables_lawful instance tables each node (Splits g t off on) = (
+  tables_lawful instance tables each (child node g t false) off,
+  tables_lawful instance tables each (child node g t true) on,
+)
 
 pub certificates_claim_truly : CertificatesClaimTruly
 certificates_claim_truly instance certificate lawful holds = claimed certificate.bound holds.claim

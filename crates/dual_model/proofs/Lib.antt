@@ -10,3 +10,4 @@ pub mod Patterns
 pub mod UnitValues
 pub mod NodeValues
 pub mod Covers
+pub mod Computed

@@ -16,7 +16,8 @@ use Rattle.dual_model.specs.declared.node.Fixing.{Fixing}
 pub record SameBelow (n : ℕ) (first second : Commitment) : Type 0 where
   pub same : (t : ℕ) → t < n → first t ≡ second t
 
-cond_same : {A : Type 0} (b : Bool) (x x' y y' : A) → (b ≡ true → x ≡ x') → (b ≡ false → y ≡ y') → cond b x y ≡ cond b x' y'
+cond_same : {A : Type 0} (b : Bool) (x x' y y' : A) → (b ≡ true → x ≡ x') → (b ≡ false → y ≡ y')
+    → cond b x y ≡ cond b x' y'
 cond_same true x x' y y' h k = h refl
 cond_same false x x' y y' h k = k refl
 
@@ -28,45 +29,55 @@ all_below-same : (n : ℕ) (f g : ℕ → Bool) → ((k : ℕ) → k < n → f k
 all_below-same zero f g e = refl
 all_below-same (suc n) f g e = λ i. e n (omega arith) i && all_below-same n f g (λ k h. e k (omega arith)) i
 
-was_on-same : (n : ℕ) (unit : Thermal) (on other : Commitment) → SameBelow n on other → (t : ℕ) → t ≤ n → was_on unit on t ≡ was_on unit other t
+was_on-same : (n : ℕ) (unit : Thermal) (on other : Commitment) → SameBelow n on other → (t : ℕ) → t ≤ n
+    → was_on unit on t ≡ was_on unit other t
 was_on-same n unit on other h zero l = refl
 was_on-same n unit on other h (suc t) l = h.same t (omega arith)
 
-pub starts-same : (n : ℕ) (unit : Thermal) (on other : Commitment) → SameBelow n on other → (t : ℕ) → t < n → starts unit on t ≡ starts unit other t
+pub starts-same : (n : ℕ) (unit : Thermal) (on other : Commitment) → SameBelow n on other → (t : ℕ) → t < n
+    → starts unit on t ≡ starts unit other t
 starts-same n unit on other h t l = λ i. not (was_on-same n unit on other h t (omega arith) i) && h.same t l i
 
-pub stops-same : (n : ℕ) (unit : Thermal) (on other : Commitment) → SameBelow n on other → (t : ℕ) → t < n → stops unit on t ≡ stops unit other t
+pub stops-same : (n : ℕ) (unit : Thermal) (on other : Commitment) → SameBelow n on other → (t : ℕ) → t < n
+    → stops unit on t ≡ stops unit other t
 stops-same n unit on other h t l = λ i. was_on-same n unit on other h t (omega arith) i && not (h.same t l i)
 
-keeps_minimum-same : (n window : ℕ) (changes changes' state state' : Commitment) → SameBelow n changes changes' → SameBelow n state state' → (t : ℕ) → t < n
+keeps_minimum-same : (n window : ℕ) (changes changes' state state' : Commitment) → SameBelow n changes changes'
+    → SameBelow n state state' → (t : ℕ) → t < n
     → keeps_minimum_at window changes state t ≡ keeps_minimum_at window changes' state' t
 keeps_minimum-same n window changes changes' state state' hc hs t l =
     or_same (nat_lt (suc t) window) _ _ (λ inside.
     let whole : window ≤ suc t = ltb-false (suc t) window inside in
-    let sums : sum_below window (λ i. bit (changes (suc t - window + i))) ≡ sum_below window (λ i. bit (changes' (suc t - window + i))) =
+    let sums : sum_below window (λ i. bit (changes (suc t - window + i)))
+    ≡ sum_below window (λ i. bit (changes' (suc t - window + i))) =
     sum_below-same window _ _ (λ i hi. ap bit (hc.same (suc t - window + i) (omega arith))) in
     λ i. int_le (sums i) (bit (hs.same t l i)))
 
-pub cap-same : (periods : ℕ) (unit : Thermal) (on other : Commitment) → SameBelow periods on other → (t : ℕ) → t < periods
+pub cap-same : (periods : ℕ) (unit : Thermal) (on other : Commitment) → SameBelow periods on other → (t : ℕ)
+    → t < periods
     → cap periods unit on t ≡ cap periods unit other t
 cap-same periods unit on other h t l =
     let start : start_cap unit on t ≡ start_cap unit other t =
-    λ i. (unit.pmax -ℤ unit.pmin) *ℤ bit (h.same t l i) -ℤ start_reduction unit *ℤ bit (starts-same periods unit on other h t l i) in
+    λ i. (unit.pmax -ℤ unit.pmin) *ℤ bit (h.same t l i)
+    -ℤ start_reduction unit *ℤ bit (starts-same periods unit on other h t l i) in
     cond_same (nat_lt (suc t) periods) _ _ _ _
     (λ inside.
     let before : suc t < periods = ltb-true (suc t) periods inside in
     let stop : stop_cap unit on t ≡ stop_cap unit other t =
-    λ i. (unit.pmax -ℤ unit.pmin) *ℤ bit (h.same t l i) -ℤ stop_reduction unit *ℤ bit (stops-same periods unit on other h (suc t) before i) in
+    λ i. (unit.pmax -ℤ unit.pmin) *ℤ bit (h.same t l i)
+    -ℤ stop_reduction unit *ℤ bit (stops-same periods unit on other h (suc t) before i) in
     λ i. int_min (start i) (stop i))
     (λ last. start)
 
-allowed_at-same : (periods : ℕ) (unit : Thermal) (on other : Commitment) → SameBelow periods on other → (t : ℕ) → t < periods
+allowed_at-same : (periods : ℕ) (unit : Thermal) (on other : Commitment) → SameBelow periods on other → (t : ℕ)
+    → t < periods
     → is_allowed_at periods unit on t ≡ is_allowed_at periods unit other t
 allowed_at-same periods unit on other h t l =
     let here = h.same t l in
     let started = keeps_minimum-same periods (min unit.ut periods) (starts unit on) (starts unit other) on other
     (record { same = starts-same periods unit on other h }) h t l in
-    let stopped = keeps_minimum-same periods (min unit.dt periods) (stops unit on) (stops unit other) (λ k. not (on k)) (λ k. not (other k))
+    let stopped = keeps_minimum-same periods (min unit.dt periods) (stops unit on) (stops unit other)
+    (λ k. not (on k)) (λ k. not (other k))
     (record { same = stops-same periods unit on other h }) (record { same = λ k m. ap not (h.same k m) }) t l in
     let room = cap-same periods unit on other h t l in
     λ i. (not unit.must_run || here i) && (not (unit.on0 && nat_lt t (unit.ut - unit.ut0)) || here i)
@@ -76,7 +87,8 @@ allowed_at-same periods unit on other h t l =
 initial_stop-same : (periods : ℕ) (unit : Thermal) (on other : Commitment) → SameBelow periods on other → 0 < periods
     → initial_stop_holds unit on ≡ initial_stop_holds unit other
 initial_stop-same periods unit on other h some =
-    ap (λ b. int_le (bit unit.on0 *ℤ (unit.p0 -ℤ unit.pmin)) (bit unit.on0 *ℤ (unit.pmax -ℤ unit.pmin) -ℤ stop_reduction unit *ℤ bit b))
+    ap (λ b. int_le (bit unit.on0 *ℤ (unit.p0 -ℤ unit.pmin))
+    (bit unit.on0 *ℤ (unit.pmax -ℤ unit.pmin) -ℤ stop_reduction unit *ℤ bit b))
     (stops-same periods unit on other h 0 some)
 
 -- the same patterns are allowed
@@ -86,10 +98,12 @@ is_allowed-same periods unit on other some h =
     λ i. initial_stop-same periods unit on other h some i
     && all_below-same periods _ _ (allowed_at-same periods unit on other h) i
 
-last_stop-same : (n : ℕ) (unit : Thermal) (on other : Commitment) → SameBelow n on other → (t : ℕ) → t ≤ n → last_stop unit on t ≡ last_stop unit other t
+last_stop-same : (n : ℕ) (unit : Thermal) (on other : Commitment) → SameBelow n on other → (t : ℕ) → t ≤ n
+    → last_stop unit on t ≡ last_stop unit other t
 last_stop-same n unit on other h zero l = refl
 last_stop-same n unit on other h (suc t) l =
-    λ i. cond (stops-same n unit on other h t (omega arith) i) (Some t) (last_stop-same n unit on other h t (omega arith) i)
+    λ i.
+    cond (stops-same n unit on other h t (omega arith) i) (Some t) (last_stop-same n unit on other h t (omega arith) i)
 
 -- a start costs the same by the last stop
 pub sigma-same : (n : ℕ) (unit : Thermal) (on other : Commitment) → SameBelow n on other → (t : ℕ) → t ≤ n
@@ -102,12 +116,15 @@ abbrev pub fixed_below : List Fixing → ℕ
 fixed_below [] = 0
 fixed_below (fixing ∷ fixings) = max (suc fixing.t) (fixed_below fixings)
 
-keeps-same : (n : ℕ) (on other : Commitment) (fixing : Fixing) → SameBelow n on other → fixing.t < n → keeps fixing on ≡ keeps fixing other
+keeps-same : (n : ℕ) (on other : Commitment) (fixing : Fixing) → SameBelow n on other → fixing.t < n
+    → keeps fixing on ≡ keeps fixing other
 keeps-same n on other fixing h l = λ i. cond fixing.on (h.same fixing.t l i) (not (h.same fixing.t l i))
 
 -- the same fixings are kept
-pub kept-same : (n g : ℕ) (on other : Commitment) → SameBelow n on other → (fixings : List Fixing) → fixed_below fixings ≤ n
+pub kept-same : (n g : ℕ) (on other : Commitment) → SameBelow n on other → (fixings : List Fixing)
+    → fixed_below fixings ≤ n
     → list_all (keeps_of g on) fixings ≡ list_all (keeps_of g other) fixings
 kept-same n g on other h [] l = refl
 kept-same n g on other h (fixing ∷ fixings) l =
-    λ i. (not (fixing.g == g) || keeps-same n on other fixing h (omega arith) i) && kept-same n g on other h fixings (omega arith) i
+    λ i. (not (fixing.g == g) || keeps-same n on other fixing h (omega arith) i)
+    && kept-same n g on other h fixings (omega arith) i

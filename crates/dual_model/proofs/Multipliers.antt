@@ -22,7 +22,8 @@ pub mu_at_nonneg : (table : Table) → HasLawfulSigns table → (t : ℕ) → po
 mu_at_nonneg table signs t = look_up (λ n. pos 0 ≤ℤ n) table.mu (pos 0) t signs.mu (le_refl (pos 0))
 
 -- what holds of each row, and of one that is all 0, holds of the row that is looked up
-row_of_each : (P : RampRow → Type 0) (rows : List RampRow) (g t : ℕ) → ((k : ℕ) (d : RampRow) → k < length rows → P (slice_index_or rows k d))
+row_of_each : (P : RampRow → Type 0) (rows : List RampRow) (g t : ℕ)
+    → ((k : ℕ) (d : RampRow) → k < length rows → P (slice_index_or rows k d))
     → P (record { g = g; t = t; up = pos 0; down = pos 0 }) → P (row_of rows g t)
 row_of_each P [] g t each other = other
 row_of_each P (row ∷ rows) g t each other =
@@ -38,18 +39,24 @@ not_within : (s t periods : ℕ) → s < periods → s ≡ t → periods ≤ t �
 not_within s t periods inside same past = omega arith
 
 -- there is no row past the last period
-absent : (units periods : ℕ) (rows : List RampRow) (g t : ℕ) → ((k : ℕ) (d : RampRow) → k < length rows → IsRowWithin units periods (slice_index_or rows k d))
+absent : (units periods : ℕ) (rows : List RampRow) (g t : ℕ)
+    → ((k : ℕ) (d : RampRow) → k < length rows → IsRowWithin units periods (slice_index_or rows k d))
     → periods ≤ t → row_of rows g t ≡ record { g = g; t = t; up = pos 0; down = pos 0 }
 absent units periods [] g t each past = refl
 absent units periods (row ∷ rows) g t each past =
     let none : RampRow = record { g = g; t = t; up = pos 0; down = pos 0 } in
     cond_both ((row.g == g) && (row.t == t)) row (row_of rows g t) (λ r. r ≡ none)
     (λ here.
-    absurd (not_within row.t t periods (each 0 row (omega arith)).period (eqb-true row.t t (and_parts _ _ here).1) past))
+    absurd (not_within row.t t periods (each 0 row (omega arith)).period (eqb-true row.t t (and_parts _ _ here).1)
+    past))
     (λ later. absent units periods rows g t (λ k d l. each (suc k) d (omega arith)) past)
 
-pub up_at_past : (table : Table) (units periods g t : ℕ) → All (IsRowWithin units periods) table.ramps → periods ≤ t → up_at table g t ≡ pos 0
-up_at_past table units periods g t each past = ap (λ (row : RampRow). row.up) (absent units periods table.ramps g t each past)
+pub up_at_past : (table : Table) (units periods g t : ℕ) → All (IsRowWithin units periods) table.ramps
+    → periods ≤ t → up_at table g t ≡ pos 0
+up_at_past table units periods g t each past = ap (λ (row : RampRow). row.up)
+    (absent units periods table.ramps g t each past)
 
-pub down_at_past : (table : Table) (units periods g t : ℕ) → All (IsRowWithin units periods) table.ramps → periods ≤ t → down_at table g t ≡ pos 0
-down_at_past table units periods g t each past = ap (λ (row : RampRow). row.down) (absent units periods table.ramps g t each past)
+pub down_at_past : (table : Table) (units periods g t : ℕ) → All (IsRowWithin units periods) table.ramps
+    → periods ≤ t → down_at table g t ≡ pos 0
+down_at_past table units periods g t each past = ap (λ (row : RampRow). row.down)
+    (absent units periods table.ramps g t each past)

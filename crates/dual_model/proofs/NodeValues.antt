@@ -1,7 +1,7 @@
 -- The value of a node: it is unique, it exists where each unit has a pattern, it bounds the cost of each of the node's
 -- schedules, and a child's is at least its parent's.
-use Rattle.std.proofs.Common.{◌≡◌, ℕ, zero, suc, ◌<◌, ◌≤◌, ◌⊎◌, inl, inr, [], ◌∷◌, Bool, refl, sym, ap, subst, ◌∙◌, arith, ⊎_elim, ℤ, pos, ◌+ℤ◌, ◌*ℤ◌, ◌≤ℤ◌}
-use Rattle.std.specs.Prelude.{IsTrue}
+use Rattle.std.proofs.Common.{◌≡◌, ℕ, zero, suc, ◌<◌, ◌≤◌, ◌⊎◌, inl, inr, [], ◌∷◌, length, Bool, refl, sym, ap, subst, ◌∙◌, arith, ⊎_elim, ℤ, pos, ◌+ℤ◌, ◌*ℤ◌, ◌≤ℤ◌}
+use Rattle.std.specs.Prelude.{IsTrue, Option, Some, None, option_map, unwrap_or}
 use Rattle.std.proofs.lemmas.Bool.{and_parts}
 use Rattle.std.proofs.lemmas.List.Folds.{list_all-append}
 use Rattle.uc_model.specs.Sums.{sum_below}
@@ -12,19 +12,20 @@ use Rattle.uc_model.specs.Limits.{IsLawfulInstance}
 use Rattle.uc_model.specs.declared.instance.Instance.{Instance}
 use Rattle.uc_model.proofs.Ring.{linear, le_antisymm, zero-mul, mul-lt-mul_left, mul-zero}
 use Rattle.uc_model.proofs.Sums.{sum_below-same, sum_below-le}
-use Rattle.dual_model.specs.Fixings.{keeps_of, unit_agrees, HasNoPattern, HasEmptyUnit}
+use Rattle.dual_model.specs.Fixings.{keeps_of, unit_agrees, HasEmptyUnit}
 use Rattle.dual_model.specs.UnitValue.{IsUnitValue}
-use Rattle.dual_model.specs.NodeValue.{unit_constant, system_value, renewables_value, IsNodeValue}
+use Rattle.dual_model.specs.NodeValue.{constant_at, system_value, renewables_value, IsNodeValue}
 use Rattle.dual_model.specs.Cover.{child}
 use Rattle.dual_model.specs.Laws.{IsScheduleAt, WeakDuality, RaysExclude, ValuesAreUnique, ValuesExist, ValuesExistAtSchedules, ChildBound}
 use Rattle.dual_model.specs.declared.node.Node.{Node}
 use Rattle.dual_model.specs.declared.table.Table.{Table}
 use Rattle.dual_model.proofs.Agreement.{pattern-obeying}
 use Rattle.dual_model.proofs.Bound.{bound_from}
-use Rattle.dual_model.proofs.UnitValues.{unit_value_decided, allowed_value}
+use Rattle.dual_model.proofs.UnitValues.{unit_value_of, IsUnitAnswer, unit_value_is, allowed_value}
 
 -- ---- it is unique
-pub unit_value_unique : (instance : Instance) (node : Node) (table : Table) (g : ℕ) (v w : ℤ) → IsUnitValue instance node table g v
+pub unit_value_unique : (instance : Instance) (node : Node) (table : Table) (g : ℕ) (v w : ℤ)
+    → IsUnitValue instance node table g v
     → IsUnitValue instance node table g w → v ≡ w
 unit_value_unique instance node table g v w first second =
     le_antisymm v w
@@ -33,7 +34,7 @@ unit_value_unique instance node table g v w first second =
 
 pub values_are_unique : ValuesAreUnique
 values_are_unique instance node table v w first second =
-    let constant = λ (g : ℕ). unit_constant instance.periods table (thermal_unit instance g) g in
+    let constant = constant_at instance table in
     let units : sum_below (thermal_count instance) (λ g. first.unit_value g +ℤ constant g)
     ≡ sum_below (thermal_count instance) (λ g. second.unit_value g +ℤ constant g) =
     sum_below-same (thermal_count instance) _ _ (λ g l.
@@ -41,51 +42,118 @@ values_are_unique instance node table v w first second =
     first.total ∙ ap (λ z. system_value instance table +ℤ z +ℤ renewables_value instance table) units ∙ sym second.total
 
 -- ---- it exists
--- each of the first n units has a value, or one of them has no pattern
-first_values : (instance : Instance) (node : Node) (table : Table) → IsLawfulInstance instance → (n : ℕ) → n ≤ thermal_count instance
-    → ((g : ℕ) → g < n → (v : ℤ) × IsUnitValue instance node table g v) ⊎ HasEmptyUnit instance node
-first_values instance node table lawful zero most = inl (λ g l. absurd (omega arith))
-first_values instance node table lawful (suc n) most = ⊎_elim
-    (λ (before : (g : ℕ) → g < n → (v : ℤ) × IsUnitValue instance node table g v).
-    ⊎_elim
-    (λ (own : (v : ℤ) × IsUnitValue instance node table n v). inl (λ g l. one_more before own g l))
-    (λ (none : HasNoPattern instance node n). inr (record { unit = n; within = omega arith; empty = none }))
-    (unit_value_decided instance node table n (lawful.periods.0) ((lawful.thermal n (omega arith)).points.0)))
-    (λ (empty : HasEmptyUnit instance node). inr empty)
-    (first_values instance node table lawful n (omega arith))
-  where
-    below_or_last : (g : ℕ) → g < suc n → (g < n) ⊎ (n ≡ g)
-    below_or_last g l = grind arith
+abbrev pub unit_part : Instance → Table → ℕ → ℤ → ℤ
+unit_part instance table g v = v +ℤ constant_at instance table g
 
-    one_more : ((g : ℕ) → g < n → (v : ℤ) × IsUnitValue instance node table g v) → (v : ℤ) × IsUnitValue instance node table n v
-        → (g : ℕ) → g < suc n → (v : ℤ) × IsUnitValue instance node table g v
-    one_more before own g l = ⊎_elim
-        (λ (less : g < n). before g less)
-        (λ (last : n ≡ g). subst (λ k. (v : ℤ) × IsUnitValue instance node table k v) last own)
-        (below_or_last g l)
+-- the sum of two numbers, where both are there
+abbrev pub both_sum : Option ℤ → Option ℤ → Option ℤ
+both_sum None other = None
+both_sum (Some a) None = None
+both_sum (Some a) (Some b) = Some (a +ℤ b)
 
--- a node each of whose units has a value has one
-value_from : (instance : Instance) (node : Node) (table : Table)
-    → ((g : ℕ) → g < thermal_count instance → (v : ℤ) × IsUnitValue instance node table g v) → (v : ℤ) × IsNodeValue instance node table v
-value_from instance node table each = (_, record { unit_value = λ g. (total g).0; units = λ g l. (total g).1 l; total = refl })
-  where
-    within : (g : ℕ) → (g < thermal_count instance) ⊎ (thermal_count instance ≤ g)
-    within g = grind arith
+-- what the first n units add to the bound, where each has a value
+unfoldable pub units_value_of : Instance → Node → Table → ℕ → Option ℤ
+units_value_of instance node table zero = Some (pos 0)
+units_value_of instance node table (suc n) =
+    both_sum (units_value_of instance node table n)
+    (option_map (unit_part instance table n) (unit_value_of instance node table n))
 
-    total : (g : ℕ) → (v : ℤ) × (g < thermal_count instance → IsUnitValue instance node table g v)
-    total g = ⊎_elim
-        (λ (l : g < thermal_count instance). let found = each g l in (found.0, λ same. found.1))
-        (λ (past : thermal_count instance ≤ g). (pos 0, λ l. absurd (omega arith)))
-        (within g)
+-- the value of the node at the table, if it has one
+unfoldable pub node_value_of : Instance → Node → Table → Option ℤ
+node_value_of instance node table =
+    option_map (λ units. system_value instance table +ℤ units +ℤ renewables_value instance table)
+    (units_value_of instance node table (thermal_count instance))
+
+abbrev unit_value_or_zero : Instance → Node → Table → ℕ → ℤ
+unit_value_or_zero instance node table g = unwrap_or (unit_value_of instance node table g) (pos 0)
+
+-- there is a period, and each unit has a point: what a value needs of the instance
+pub record HasPoints (instance : Instance) : Type 0 where
+  pub some : 0 < instance.periods
+  pub each : (g : ℕ) → g < thermal_count instance → 0 < length (thermal_unit instance g).points
+
+has_points : (instance : Instance) → IsLawfulInstance instance → HasPoints instance
+has_points instance lawful = record { some = lawful.periods.0; each = λ g l. (lawful.thermal g l).points.0 }
+
+-- the first n units have values, whose sum with their constants is s
+record HaveValues (instance : Instance) (node : Node) (table : Table) (n : ℕ) (s : ℤ) : Type 0 where
+  each : (g : ℕ) → g < n → IsUnitValue instance node table g (unit_value_or_zero instance node table g)
+  total : s ≡ sum_below n (λ g. unit_part instance table g (unit_value_or_zero instance node table g))
+
+-- the answer is the sum of the first n units' values, or some unit has no pattern
+abbrev AreUnitsAnswer : Instance → Node → Table → ℕ → Option ℤ → Type 0
+AreUnitsAnswer instance node table n None = HasEmptyUnit instance node
+AreUnitsAnswer instance node table n (Some s) = HaveValues instance node table n s
+
+below_or_last : (g n : ℕ) → g < suc n → (g < n) ⊎ (n ≡ g)
+below_or_last g n l = grind arith
+
+one_more : (instance : Instance) (node : Node) (table : Table) (n : ℕ) → n < thermal_count instance
+    → (before own : Option ℤ)
+    → AreUnitsAnswer instance node table n before → IsUnitAnswer instance node table n own
+    → unit_value_of instance node table n ≡ own
+    → AreUnitsAnswer instance node table (suc n) (both_sum before (option_map (unit_part instance table n) own))
+one_more instance node table n within None own empty answer same = empty
+one_more instance node table n within (Some s) None values none same =
+    record { unit = n; within = within; empty = none }
+one_more instance node table n within (Some s) (Some v) values value same =
+    let is_own : unit_value_or_zero instance node table n ≡ v = ap (λ o. unwrap_or o (pos 0)) same in
+    record {
+      each = λ g l. ⊎_elim
+          (λ (less : g < n). values.each g less)
+          (λ (last : n ≡ g).
+          subst (λ k. IsUnitValue instance node table k (unit_value_or_zero instance node table k)) last
+          (subst (λ z. IsUnitValue instance node table n z) (sym is_own) value))
+          (below_or_last g n l);
+      total = λ i. values.total i +ℤ unit_part instance table n (sym is_own i);
+    }
+
+units_value_is : (instance : Instance) (node : Node) (table : Table) → HasPoints instance → (n : ℕ)
+    → n ≤ thermal_count instance
+    → AreUnitsAnswer instance node table n (units_value_of instance node table n)
+unfolding units_value_of
+units_value_is instance node table points zero most = record { each = λ g l. absurd (omega arith); total = refl }
+units_value_is instance node table points (suc n) most =
+    one_more instance node table n (omega arith) _ _
+    (units_value_is instance node table points n (omega arith))
+    (unit_value_is instance node table n points.some (points.each n (omega arith)))
+    refl
+
+-- the answer is the node's value, or some unit has no pattern there
+abbrev pub IsNodeAnswer : Instance → Node → Table → Option ℤ → Type 0
+IsNodeAnswer instance node table None = HasEmptyUnit instance node
+IsNodeAnswer instance node table (Some v) = IsNodeValue instance node table v
+
+whole_value : (instance : Instance) (node : Node) (table : Table) (units : Option ℤ)
+    → AreUnitsAnswer instance node table (thermal_count instance) units
+    → IsNodeAnswer instance node table
+    (option_map (λ s. system_value instance table +ℤ s +ℤ renewables_value instance table) units)
+whole_value instance node table None empty = empty
+whole_value instance node table (Some s) values = record {
+  unit_value = unit_value_or_zero instance node table;
+  units = values.each;
+  total = ap (λ z. system_value instance table +ℤ z +ℤ renewables_value instance table) values.total;
+}
+
+pub node_value_is : (instance : Instance) (node : Node) (table : Table) → HasPoints instance
+    → IsNodeAnswer instance node table (node_value_of instance node table)
+unfolding node_value_of
+node_value_is instance node table points =
+    whole_value instance node table _ (units_value_is instance node table points (thermal_count instance) (omega arith))
+
+answered : (instance : Instance) (node : Node) (table : Table) (answer : Option ℤ)
+    → IsNodeAnswer instance node table answer
+    → ((v : ℤ) × IsNodeValue instance node table v) ⊎ HasEmptyUnit instance node
+answered instance node table None empty = inr empty
+answered instance node table (Some v) is_value = inl (v, is_value)
 
 pub values_exist : ValuesExist
-values_exist instance node table lawful = ⊎_elim
-    (λ (each : (g : ℕ) → g < thermal_count instance → (v : ℤ) × IsUnitValue instance node table g v). inl (value_from instance node table each))
-    (λ (empty : HasEmptyUnit instance node). inr empty)
-    (first_values instance node table lawful (thermal_count instance) (omega arith))
+values_exist instance node table lawful =
+    answered instance node table _ (node_value_is instance node table (has_points instance lawful))
 
 -- where a schedule obeys and agrees, no unit is without a pattern
-pub not_empty : (instance : Instance) (node : Node) (q : ℕ) (x : Schedule) → IsLawfulInstance instance → IsScheduleAt instance node q x
+pub not_empty : (instance : Instance) (node : Node) (q : ℕ) (x : Schedule) → IsLawfulInstance instance
+    → IsScheduleAt instance node q x
     → ¬ HasEmptyUnit instance node
 not_empty instance node q x lawful schedule empty =
     empty.empty (x.thermal empty.unit).on
@@ -103,7 +171,7 @@ pub weak_duality : WeakDuality
 weak_duality instance node table v q x lawful bounds is_value schedule =
     let pattern = λ (g : ℕ) (l : g < thermal_count instance).
     pattern-obeying instance node q x g lawful.periods.0 schedule.obeys schedule.agrees l (lawful.thermal g l) in
-    bound_from instance node q x table v schedule.obeys bounds.size bounds.signs is_value pattern
+    bound_from instance q x table schedule.obeys bounds.size bounds.signs node v is_value pattern
     (λ g l. allowed_value instance table g (x.thermal g).on (lawful.thermal g l).points.0 (pattern g l).allowed)
 
 pub rays_exclude : RaysExclude
@@ -117,7 +185,8 @@ rays_exclude instance node table v q x lawful bounds is_value is_ray positive sc
 
 -- ---- children
 -- what agrees with a child agrees with its parent
-pub parent_agrees : (node : Node) (g t : ℕ) (on : Bool) (k : ℕ) (pattern : Commitment) → IsTrue (unit_agrees (child node g t on) k pattern)
+pub parent_agrees : (node : Node) (g t : ℕ) (on : Bool) (k : ℕ) (pattern : Commitment)
+    → IsTrue (unit_agrees (child node g t on) k pattern)
     → IsTrue (unit_agrees node k pattern)
 parent_agrees node g t on k pattern kept =
     let both = list_all-append (keeps_of k pattern) node.fixings ((record { g = g; t = t; on = on }) ∷ []) in
@@ -133,7 +202,7 @@ child_unit_bound instance node g t on table k v w parent own =
 child_value_bound : (instance : Instance) (node : Node) (g t : ℕ) (on : Bool) (table : Table) (v w : ℤ)
     → IsNodeValue instance node table v → IsNodeValue instance (child node g t on) table w → v ≤ℤ w
 child_value_bound instance node g t on table v w parent own =
-    let constant = λ (k : ℕ). unit_constant instance.periods table (thermal_unit instance k) k in
+    let constant = constant_at instance table in
     let units : sum_below (thermal_count instance) (λ k. parent.unit_value k +ℤ constant k)
     ≤ℤ sum_below (thermal_count instance) (λ k. own.unit_value k +ℤ constant k) =
     sum_below-le (thermal_count instance) (λ k. parent.unit_value k +ℤ constant k) (λ k. own.unit_value k +ℤ constant k)

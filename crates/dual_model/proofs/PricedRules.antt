@@ -61,9 +61,11 @@ within_cap periods q unit row t started stopped =
     (or_cases _ _ stopped))
     (λ last. started)
   where
-    either : (a b : ℤ) → (p_at unit row t +ℤ row.reserve t) ≤ℤ (pos q *ℤ a) → (p_at unit row t +ℤ row.reserve t) ≤ℤ (pos q *ℤ b)
+    either : (a b : ℤ) → (p_at unit row t +ℤ row.reserve t) ≤ℤ (pos q *ℤ a)
+        → (p_at unit row t +ℤ row.reserve t) ≤ℤ (pos q *ℤ b)
         → (p_at unit row t +ℤ row.reserve t) ≤ℤ (pos q *ℤ int_min a b)
-    either a b h k = cond_both (int_lt b a) b a (λ c. (p_at unit row t +ℤ row.reserve t) ≤ℤ (pos q *ℤ c)) (λ e. k) (λ e. h)
+    either a b h k = cond_both (int_lt b a) b a (λ c. (p_at unit row t +ℤ row.reserve t) ≤ℤ (pos q *ℤ c)) (λ e. k)
+        (λ e. h)
 
 on_parts : (q term pi pmin start k made category a p b r value u : ℤ) → value ≡ term -ℤ pi *ℤ pmin → u ≡ pos 1
     → (q *ℤ term) ≤ℤ (k *ℤ made +ℤ a *ℤ p +ℤ b *ℤ r) → (q *ℤ start) ≤ℤ (k *ℤ (q *ℤ category))
@@ -72,7 +74,8 @@ on_parts q term pi pmin start k made category a p b r value u is_value is_on bou
     let order = mul_left_comm q pi pmin in
     rw (is_value, is_on, mul-one (q *ℤ pmin)) (simp spread (omega (arith, linear)))
 
-off_parts : (q pmin start pi k made category a p b r value u : ℤ) → value ≡ pos 0 → u ≡ pos 0 → made ≡ pos 0 → p ≡ pos 0 → r ≡ pos 0
+off_parts : (q pmin start pi k made category a p b r value u : ℤ) → value ≡ pos 0 → u ≡ pos 0 → made ≡ pos 0
+    → p ≡ pos 0 → r ≡ pos 0
     → (q *ℤ start) ≤ℤ (k *ℤ (q *ℤ category))
     → (q *ℤ (value +ℤ start)) ≤ℤ (k *ℤ (made +ℤ q *ℤ category) +ℤ a *ℤ p +ℤ b *ℤ r -ℤ pi *ℤ (q *ℤ pmin *ℤ u))
 off_parts q pmin start pi k made category a p b r value u is_value is_off none p_none r_none begun =
@@ -80,19 +83,22 @@ off_parts q pmin start pi k made category a p b r value u is_value is_off none p
     (simp (spread, mul-zero) (omega (arith, linear)))
 
 -- ---- an off cell has no weights, so it costs nothing
-made_off : (q : ℕ) (unit : Thermal) (row : Row) (t : ℕ) → weight_sum unit row t ≡ pos 0 → production_cost unit row t ≡ pos 0
+made_off : (q : ℕ) (unit : Thermal) (row : Row) (t : ℕ) → weight_sum unit row t ≡ pos 0
+    → production_cost unit row t ≡ pos 0
 made_off q unit row t none =
     sum_below-zero (point_count unit) (λ l. (point unit l).cost *ℤ pos (row.weight t l))
     (λ l h. ap (λ w. (point unit l).cost *ℤ w) (weight_none l h) ∙ mul-zero (point unit l).cost)
   where
     weight_none : (l : ℕ) → l < point_count unit → pos (row.weight t l) ≡ pos 0
     weight_none l h =
-        let most = term-le-sum_below (point_count unit) (λ k. pos (row.weight t k)) l h (λ k m. pos_nonneg (row.weight t k)) in
+        let most = term-le-sum_below (point_count unit) (λ k. pos (row.weight t k)) l h
+        (λ k m. pos_nonneg (row.weight t k)) in
         let least = pos_nonneg (row.weight t l) in
         omega (arith, linear)
 
 -- q times the value of a period is at most K times its cost and the prices of its output and reserve
-pub period_priced : (instance : Instance) (q : ℕ) (x : Schedule) (table : Table) (g t : ℕ) (term : ℕ → ℤ) → Obeys instance q x
+pub period_priced : (instance : Instance) (q : ℕ) (x : Schedule) (table : Table) (g t : ℕ) (term : ℕ → ℤ)
+    → Obeys instance q x
     → g < thermal_count instance → t < instance.periods → pos 0 ≤ℤ table.k
     → (IsTrue ((x.thermal g).on t)
     → IsCellBound (thermal_unit instance g).points table.k (output_price table g t) (reserve_price table g t)
@@ -105,7 +111,8 @@ pub period_priced : (instance : Instance) (q : ℕ) (x : Schedule) (table : Tabl
 period_priced instance q x table g t term obeys hg ht sign bound =
     let unit = thermal_unit instance g in
     let row = x.thermal g in
-    let made : Produces q unit row t = production_parts q unit row t (rule_at instance q x obeys Production g t hg ht) in
+    let made : Produces q unit row t = production_parts q unit row t
+    (rule_at instance q x obeys Production g t hg ht) in
     let begun = start_priced table.k q unit row t sign (rule_at instance q x obeys Category g t hg ht) in
     ⊎_elim
     (λ (on : IsTrue (row.on t)).
@@ -113,14 +120,17 @@ period_priced instance q x table g t term obeys hg ht sign bound =
     let whole : weight_sum unit row t ≡ pos q = made.total ∙ ap (λ u. pos q *ℤ u) is_on ∙ mul-one (pos q) in
     let started = int_le-true _ _ (rule_at instance q x obeys StartCap g t hg ht) in
     let fits = within_cap instance.periods q unit row t started (rule_at instance q x obeys StopCap g t hg ht) in
-    on_parts (pos q) (term t) (pi_at table t) unit.pmin _ table.k (production_cost unit row t) (category_cost unit (row.category t))
+    on_parts (pos q) (term t) (pi_at table t) unit.pmin _ table.k (production_cost unit row t)
+    (category_cost unit (row.category t))
     (output_price table g t) (p_at unit row t) (reserve_price table g t) (row.reserve t) _ _
-    (cond-true (row.on t) _ _ on) is_on ((bound on).below q (row.weight t) (row.reserve t) whole made.reserve fits) begun)
+    (cond-true (row.on t) _ _ on) is_on ((bound on).below q (row.weight t) (row.reserve t) whole made.reserve fits)
+    begun)
     (λ (off : row.on t ≡ false).
     let is_off : bit (row.on t) ≡ pos 0 = ap bit off in
     let none : weight_sum unit row t ≡ pos 0 = made.total ∙ ap (λ u. pos q *ℤ u) is_off ∙ mul-zero (pos q) in
     let idle = made.idle off in
-    off_parts (pos q) unit.pmin _ (pi_at table t) table.k (production_cost unit row t) (category_cost unit (row.category t))
+    off_parts (pos q) unit.pmin _ (pi_at table t) table.k (production_cost unit row t)
+    (category_cost unit (row.category t))
     (output_price table g t) (p_at unit row t) (reserve_price table g t) (row.reserve t) _ _
     (cond-false (row.on t) _ _ off) is_off (made_off q unit row t none) idle.0 idle.1 begun)
     (cases_Bool (row.on t))

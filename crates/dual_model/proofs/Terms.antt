@@ -1,123 +1,110 @@
 -- The term of a cell exists where its cap is at least 0: a number bounds a cell exactly where it bounds the corners,
--- which is a test, and the greatest number that passes it is found between a least one and a corner's cost.
-use Rattle.std.proofs.Common.{◌≡◌, ℕ, zero, suc, ◌+◌, ◌<◌, ◌≢◌, List, length, Bool, true, false, not, ◌&&◌, ◌||◌, ◌==◌, refl, sym, ap, ◌∙◌, arith, ⊎_elim, ℤ, pos, ◌+ℤ◌, ◌-ℤ◌, ◌*ℤ◌, neg_ℤ, ◌≤ℤ◌, ◌<ℤ◌, eq-eqb}
+-- and the greatest one that does is the least of the corners' costs, rounded down.
+use Rattle.std.proofs.Common.{◌≡◌, ℕ, zero, suc, ◌+◌, ◌<◌, ◌≢◌, List, length, Bool, false, ◌==◌, refl, sym, ap, subst, ◌∙◌, arith, ⊎_elim, ℤ, pos, ◌+ℤ◌, ◌-ℤ◌, ◌*ℤ◌, neg_ℤ, ◌≤ℤ◌, ◌<ℤ◌, eq-eqb}
 use Rattle.std.specs.Prelude.{IsTrue, int_le, int_lt, if◌then◌else◌}
-use Rattle.std.proofs.lemmas.Bool.{and_parts, and_from, or_cases, or_left, or_right, cases_Bool, cond-true, cond-false, not_from_true, true≢false, eqb-true}
-use Rattle.uc_model.specs.Sums.{sum_below, all_below, least_below}
+use Rattle.std.specs.Int.{int_min, int_div_euclid}
+use Rattle.std.proofs.lemmas.Int.{ints}
+use Rattle.std.proofs.lemmas.Bool.{cases_Bool, cond_both, cond-true, cond-false, eqb-true}
+use Rattle.uc_model.specs.Sums.{sum_below, least_below}
 use Rattle.uc_model.specs.declared.instance.Point.{Point}
-use Rattle.uc_model.proofs.Ring.{linear, spread, le_refl, le_trans, le_or_lt, mul_comm, mul_assoc, mul-zero, mul-one, one-mul, neg-mul, mul-le-mul_left, pos_of_nonneg, sub-mul, add-mul, mul-add}
+use Rattle.uc_model.proofs.Ring.{linear, le_refl, le_trans, mul_comm, mul_assoc, mul-zero, mul-one, one-mul, neg-mul, mul-le-mul_left, pos_of_nonneg, sub-mul, add-mul, mul-add}
 use Rattle.uc_model.proofs.Sums.{sum_below-same, sum_below-add, sum_below-sub, sum_below-mul_left, sum_below-single}
-use Rattle.uc_model.proofs.Tests.{int_le-true, le-int_le, int_lt-true, lt-int_lt, all_below-at, all_below-from, least_below-le, least_below-le-other}
+use Rattle.uc_model.proofs.Quotients.{IsFloor-int_div_euclid, IsFloor-greatest}
+use Rattle.uc_model.proofs.Tests.{int_le-true, le-int_le, int_lt-true, lt-int_lt, least_below-le, least_below-le-other}
 use Rattle.dual_model.specs.Term.{IsCellBound, IsTerm, point_of, output_of, weighted_total, weighted_output, weighted_cost}
 use Rattle.dual_model.proofs.CellBounds.{BoundsCorners, corners_bound}
 
--- ---- corners as a test
-abbrev pair_holds : (ℕ → ℤ) → (ℕ → ℤ) → ℤ → ℕ → ℕ → Bool
-pair_holds f d m l j =
-    not (int_lt (d j) (pos 0)) || int_le ((d l -ℤ d j) *ℤ m) (neg_ℤ (d j) *ℤ f l +ℤ d l *ℤ f j)
+-- ---- the greatest number that bounds the corners
+-- the least cost, rounded down, of the pairs whose left point is l, and of l alone
+unfoldable pub pair_least : ℕ → (ℕ → ℤ) → (ℕ → ℤ) → ℕ → ℤ
+pair_least n f d l =
+    least_below n (λ j. int_lt (d j) (pos 0)) (λ j. int_div_euclid (neg_ℤ (d j) *ℤ f l +ℤ d l *ℤ f j) (d l -ℤ d j))
+    (f l)
 
-abbrev corner_holds : ℕ → (ℕ → ℤ) → (ℕ → ℤ) → ℤ → ℤ → ℕ → Bool
-corner_holds n f d b m l =
-    not (int_le (pos 0) (d l))
-    || (int_le m (f l) && int_le m (f l +ℤ b *ℤ d l) && all_below n (pair_holds f d m l))
+-- the same, and with all the reserve that is left
+unfoldable pub corner_least : ℕ → (ℕ → ℤ) → (ℕ → ℤ) → ℤ → ℕ → ℤ
+corner_least n f d b l = int_min (pair_least n f d l) (f l +ℤ b *ℤ d l)
 
-abbrev corners_hold : ℕ → (ℕ → ℤ) → (ℕ → ℤ) → ℤ → ℤ → Bool
-corners_hold n f d b m = all_below n (corner_holds n f d b m)
+unfoldable pub greatest_bound : ℕ → (ℕ → ℤ) → (ℕ → ℤ) → ℤ → ℤ
+greatest_bound n f d b = least_below n (λ l. int_le (pos 0) (d l)) (corner_least n f d b) (f 0)
 
--- a test that is behind another one
-behind : (a b : Bool) → IsTrue (not a || b) → IsTrue a → IsTrue b
-behind a b h first = ⊎_elim
-    (λ (none : IsTrue (not a)). absurd (true≢false (sym none ∙ not_from_true a first)))
-    (λ (second : IsTrue b). second)
-    (or_cases (not a) b h)
+min_left : (a b : ℤ) → int_min a b ≤ℤ a
+min_left a b = grind (arith, ints)
 
-under : (a b : Bool) → (IsTrue a → IsTrue b) → IsTrue (not a || b)
-under a b h = ⊎_elim
-    (λ (first : IsTrue a). or_right (not a) b (h first))
-    (λ (none : a ≡ false). or_left (not a) b (ap not none))
-    (cases_Bool a)
+min_right : (a b : ℤ) → int_min a b ≤ℤ b
+min_right a b = grind (arith, ints)
 
-from_test : (n : ℕ) (f d : ℕ → ℤ) (b m : ℤ) → IsTrue (corners_hold n f d b m) → BoundsCorners n f d b m
-from_test n f d b m h = record {
-  point = λ l hl near. int_le-true _ _ (and_parts _ _ (and_parts _ _ (at_left l hl near)).0).0;
-  reserve = λ l hl near. int_le-true _ _ (and_parts _ _ (and_parts _ _ (at_left l hl near)).0).1;
+above_min : (k a b : ℤ) → k ≤ℤ a → k ≤ℤ b → k ≤ℤ int_min a b
+above_min k a b h l = grind (arith, ints)
+
+-- a number at most each value is at most the least of them
+le-least_below : (n : ℕ) (test : ℕ → Bool) (f : ℕ → ℤ) (other k : ℤ) → k ≤ℤ other
+    → ((i : ℕ) → i < n → IsTrue (test i) → k ≤ℤ f i) → k ≤ℤ least_below n test f other
+le-least_below zero test f other k last each = last
+le-least_below (suc n) test f other k last each =
+    let rest = le-least_below n test f other k last (λ i l. each i (omega arith)) in
+    cond_both (test n) (int_min (f n) (least_below n test f other)) (least_below n test f other) (λ z. k ≤ℤ z)
+    (λ here. above_min k (f n) (least_below n test f other) (each n (omega arith) here) rest)
+    (λ away. rest)
+
+greatest-le-corner : (n : ℕ) (f d : ℕ → ℤ) (b : ℤ) (l : ℕ) → l < n → pos 0 ≤ℤ d l
+    → greatest_bound n f d b ≤ℤ corner_least n f d b l
+unfolding greatest_bound
+greatest-le-corner n f d b l hl near =
+    least_below-le n (λ i. int_le (pos 0) (d i)) (corner_least n f d b) (f 0) l hl (le-int_le _ _ near)
+
+bounds_corners : (n : ℕ) (f d : ℕ → ℤ) (b : ℤ) → BoundsCorners n f d b (greatest_bound n f d b)
+unfolding corner_least pair_least
+bounds_corners n f d b = record {
+  point = λ l hl near.
+      le_trans _ _ _ (greatest-le-corner n f d b l hl near)
+      (le_trans _ _ _ (min_left _ _) (least_below-le-other n (λ j. int_lt (d j) (pos 0)) (pair_cost l) (f l)));
+  reserve = λ l hl near. le_trans _ _ _ (greatest-le-corner n f d b l hl near) (min_right _ _);
   pair = λ l j hl hj near far.
-      int_le-true _ _ (behind _ _ (all_below-at n (pair_holds f d m l) (and_parts _ _ (at_left l hl near)).1 j hj) (lt-int_lt _ _ far));
+      let below : greatest_bound n f d b ≤ℤ pair_cost l j =
+      le_trans _ _ _ (greatest-le-corner n f d b l hl near)
+      (le_trans _ _ _ (min_left _ _)
+      (least_below-le n (λ i. int_lt (d i) (pos 0)) (pair_cost l) (f l) j hj (lt-int_lt _ _ far))) in
+      scaled (d l) (d j) (f l) (f j) (greatest_bound n f d b) near far below;
 }
   where
-    at_left : (l : ℕ) → l < n → pos 0 ≤ℤ d l
-        → IsTrue (int_le m (f l) && int_le m (f l +ℤ b *ℤ d l) && all_below n (pair_holds f d m l))
-    at_left l hl near = behind _ _ (all_below-at n (corner_holds n f d b m) h l hl) (le-int_le _ _ near)
+    pair_cost : ℕ → ℕ → ℤ
+    pair_cost l j = int_div_euclid (neg_ℤ (d j) *ℤ f l +ℤ d l *ℤ f j) (d l -ℤ d j)
 
-to_test : (n : ℕ) (f d : ℕ → ℤ) (b m : ℤ) → BoundsCorners n f d b m → IsTrue (corners_hold n f d b m)
-to_test n f d b m corners =
-    all_below-from n (corner_holds n f d b m) (λ l hl.
-    under (int_le (pos 0) (d l)) _ (λ near.
-    let is_near = int_le-true _ _ near in
-    and_from _ _
-    (and_from _ _ (le-int_le _ _ (corners.point l hl is_near)) (le-int_le _ _ (corners.reserve l hl is_near)))
-    (all_below-from n (pair_holds f d m l) (λ j hj.
-    under (int_lt (d j) (pos 0)) _ (λ far. le-int_le _ _ (corners.pair l j hl hj is_near (int_lt-true _ _ far)))))))
-
--- ---- a number low enough, and the greatest one that passes
-low_bound : (n : ℕ) (f d : ℕ → ℤ) (b : ℤ) → (m : ℤ) × BoundsCorners n f d b m
-low_bound n f d b =
-    let always = λ (l : ℕ). true in
-    let costs = least_below n always f (pos 0) in
-    let held = λ (l : ℕ). f l +ℤ b *ℤ d l in
-    let m = least_below n always held costs in
-    let below_costs = least_below-le-other n always held costs in (
-      m,
-      record {
-        point = λ l hl near. le_trans _ _ _ below_costs (least_below-le n always f (pos 0) l hl refl);
-        reserve = λ l hl near. least_below-le n always held costs l hl refl;
-        pair = λ l j hl hj near far.
-            mixed (d l) (d j) (f l) (f j) m near far
-            (le_trans _ _ _ below_costs (least_below-le n always f (pos 0) l hl refl))
-            (le_trans _ _ _ below_costs (least_below-le n always f (pos 0) j hj refl));
-      },
-    )
-  where
-    mixed : (dl dj fl fj m : ℤ) → pos 0 ≤ℤ dl → dj <ℤ pos 0 → m ≤ℤ fl → m ≤ℤ fj
+    scaled : (dl dj fl fj m : ℤ) → pos 0 ≤ℤ dl → dj <ℤ pos 0
+        → m ≤ℤ int_div_euclid (neg_ℤ dj *ℤ fl +ℤ dl *ℤ fj) (dl -ℤ dj)
         → ((dl -ℤ dj) *ℤ m) ≤ℤ (neg_ℤ dj *ℤ fl +ℤ dl *ℤ fj)
-    mixed dl dj fl fj m near far below_left below_right =
-        let first = mul-le-mul_left (neg_ℤ dj) m fl (omega (arith, linear)) below_left in
-        let second = mul-le-mul_left dl m fj near below_right in
-        let parts = simp spread at first in
-        simp spread (omega (arith, linear))
+    scaled dl dj fl fj m near far below =
+        let cost = neg_ℤ dj *ℤ fl +ℤ dl *ℤ fj in
+        let width : pos 0 <ℤ (dl -ℤ dj) = omega (arith, linear) in
+        let floor = IsFloor-int_div_euclid cost (dl -ℤ dj) width in
+        let times = mul-le-mul_left (dl -ℤ dj) m (int_div_euclid cost (dl -ℤ dj)) (omega (arith, linear)) below in
+        le_trans _ _ _ times
+        (subst (λ z. z ≤ℤ cost) (mul_comm (int_div_euclid cost (dl -ℤ dj)) (dl -ℤ dj)) floor.below)
 
--- the greatest number up to low + n that passes
-greatest_up_to : (test : ℤ → Bool) (low : ℤ) → IsTrue (test low) → (n : ℕ)
-    → (m : ℤ) × IsTrue (test m) × ((k : ℤ) → k ≤ℤ (low +ℤ pos n) → IsTrue (test k) → k ≤ℤ m)
-greatest_up_to test low passes zero = (low, passes, λ k h pass. omega (arith, linear))
-greatest_up_to test low passes (suc n) = ⊎_elim
-    (λ (last : IsTrue (test (low +ℤ pos (suc n)))). (low +ℤ pos (suc n), last, λ k h pass. h))
-    (λ (fails : test (low +ℤ pos (suc n)) ≡ false).
-    let earlier = greatest_up_to test low passes n in
-    (earlier.0, earlier.1, λ k h pass. earlier.2 k (lower k h (λ same. true≢false (sym pass ∙ ap test same ∙ fails))) pass))
-    (cases_Bool (test (low +ℤ pos (suc n))))
+-- no greater number bounds the corners, where the first point lies at or left of the cap
+greatest_of_bounds : (n : ℕ) (f d : ℕ → ℤ) (b k : ℤ) → 0 < n → pos 0 ≤ℤ d 0 → BoundsCorners n f d b k
+    → k ≤ℤ greatest_bound n f d b
+unfolding greatest_bound corner_least pair_least
+greatest_of_bounds n f d b k some near corners =
+    le-least_below n (λ l. int_le (pos 0) (d l)) (corner_least n f d b) (f 0) k (corners.point 0 some near)
+    (λ l hl left.
+    above_min k (pair_least n f d l) (f l +ℤ b *ℤ d l)
+    (le-least_below n (λ j. int_lt (d j) (pos 0))
+    (λ j. int_div_euclid (neg_ℤ (d j) *ℤ f l +ℤ d l *ℤ f j) (d l -ℤ d j)) (f l) k
+    (corners.point l hl (int_le-true _ _ left)) (λ j hj right.
+    divided (d l) (d j) (f l) (f j) (int_le-true _ _ left) (int_lt-true _ _ right)
+    (corners.pair l j hl hj (int_le-true _ _ left) (int_lt-true _ _ right))))
+    (corners.reserve l hl (int_le-true _ _ left)))
   where
-    lower : (k : ℤ) → k ≤ℤ (low +ℤ pos (suc n)) → (k ≡ low +ℤ pos (suc n) → ⊥) → k ≤ℤ (low +ℤ pos n)
-    lower k h other = ⊎_elim
-        (λ (le : k ≤ℤ (low +ℤ pos n)). le)
-        (λ (more : (low +ℤ pos n) <ℤ k). absurd (other (omega (arith, linear))))
-        (le_or_lt k (low +ℤ pos n))
-
--- the greatest number that bounds the corners, where some point lies at or left of the cap
-greatest_bound : (n : ℕ) (f d : ℕ → ℤ) (b : ℤ) → 0 < n → pos 0 ≤ℤ d 0
-    → (m : ℤ) × BoundsCorners n f d b m × ((k : ℤ) → BoundsCorners n f d b k → k ≤ℤ m)
-greatest_bound n f d b some near =
-    let low = low_bound n f d b in
-    let below : low.0 ≤ℤ f 0 = low.1.point 0 some near in
-    let height = pos_of_nonneg (f 0 -ℤ low.0) (omega (arith, linear)) in
-    let found = greatest_up_to (corners_hold n f d b) low.0 (to_test n f d b low.0 low.1) height.0 in (
-      found.0,
-      from_test n f d b found.0 found.1,
-      λ k corners.
-          let most = corners.point 0 some near in
-          let is_height = height.1 in
-          found.2 k (omega (arith, linear)) (to_test n f d b k corners),
-    )
+    divided : (dl dj fl fj : ℤ) → pos 0 ≤ℤ dl → dj <ℤ pos 0 → ((dl -ℤ dj) *ℤ k) ≤ℤ (neg_ℤ dj *ℤ fl +ℤ dl *ℤ fj)
+        → k ≤ℤ int_div_euclid (neg_ℤ dj *ℤ fl +ℤ dl *ℤ fj) (dl -ℤ dj)
+    divided dl dj fl fj near far below =
+        let cost = neg_ℤ dj *ℤ fl +ℤ dl *ℤ fj in
+        let width : pos 0 <ℤ (dl -ℤ dj) = omega (arith, linear) in
+        IsFloor-greatest cost (dl -ℤ dj) (int_div_euclid cost (dl -ℤ dj)) k width
+        (IsFloor-int_div_euclid cost (dl -ℤ dj) width)
+        (subst (λ z. z ≤ℤ cost) (mul_comm (dl -ℤ dj) k) below)
 
 -- ---- the corners of a cell's points
 abbrev reduced_cost : List Point → ℤ → ℤ → ℕ → ℤ
@@ -130,11 +117,14 @@ reduced_sum : (points : List Point) (k a : ℤ) (weight : ℕ → ℕ)
     → sum_below (length points) (λ l. reduced_cost points k a l *ℤ pos (weight l))
     ≡ k *ℤ weighted_cost points weight +ℤ a *ℤ weighted_output points weight
 reduced_sum points k a weight =
-    sum_below-same (length points) _ (λ l. k *ℤ ((point_of points l).cost *ℤ pos (weight l)) +ℤ a *ℤ (output_of points l *ℤ pos (weight l)))
+    sum_below-same (length points) _
+    (λ l. k *ℤ ((point_of points l).cost *ℤ pos (weight l)) +ℤ a *ℤ (output_of points l *ℤ pos (weight l)))
     (λ l h.
     add-mul (k *ℤ (point_of points l).cost) (a *ℤ output_of points l) (pos (weight l))
-    ∙ (λ i. mul_assoc k (point_of points l).cost (pos (weight l)) i +ℤ mul_assoc a (output_of points l) (pos (weight l)) i))
-    ∙ sum_below-add (length points) (λ l. k *ℤ ((point_of points l).cost *ℤ pos (weight l))) (λ l. a *ℤ (output_of points l *ℤ pos (weight l)))
+    ∙ (λ i. mul_assoc k (point_of points l).cost (pos (weight l)) i
+    +ℤ mul_assoc a (output_of points l) (pos (weight l)) i))
+    ∙ sum_below-add (length points) (λ l. k *ℤ ((point_of points l).cost *ℤ pos (weight l)))
+    (λ l. a *ℤ (output_of points l *ℤ pos (weight l)))
     ∙ (λ i. sum_below-mul_left (length points) k (λ l. (point_of points l).cost *ℤ pos (weight l)) i
     +ℤ sum_below-mul_left (length points) a (λ l. output_of points l *ℤ pos (weight l)) i)
 
@@ -159,8 +149,11 @@ cell_bound-corners points k a b cap m corners = record { below = below }
         let spent = distance_sum points cap weight in
         let same_total = ap (λ z. cap *ℤ z) total in
         let order = mul_comm cap (pos q) in
-        let room : r ≤ℤ sum_below (length points) (λ l. distance points cap l *ℤ pos (weight l)) = omega (arith, linear) in
-        let bound = corners_bound (length points) (reduced_cost points k a) (distance points cap) b m corners weight (pos q) r total sign room in
+        let room : r ≤ℤ sum_below (length points) (λ l. distance points cap l *ℤ pos (weight l)) =
+        omega (arith, linear) in
+        let bound =
+        corners_bound (length points) (reduced_cost points k a) (distance points cap) b m corners weight (pos q) r
+        total sign room in
         let costs = reduced_sum points k a weight in
         omega (arith, linear)
 
@@ -195,7 +188,8 @@ two_total n l u j v hl hj =
     ∙ (λ i. one-mul (pos u) i +ℤ one-mul (pos v) i)
 
 -- what bounds a cell does so at weights on two points
-at_two : (points : List Point) (k a b cap m : ℤ) → IsCellBound points k a b cap m → (l u j v : ℕ) (r : ℤ) → l < length points
+at_two : (points : List Point) (k a b cap m : ℤ) → IsCellBound points k a b cap m → (l u j v : ℕ) (r : ℤ)
+    → l < length points
     → j < length points → pos 0 ≤ℤ r → r ≤ℤ (distance points cap l *ℤ pos u +ℤ distance points cap j *ℤ pos v)
     → (pos (u + v) *ℤ m) ≤ℤ (reduced_cost points k a l *ℤ pos u +ℤ reduced_cost points k a j *ℤ pos v +ℤ b *ℤ r)
 at_two points k a b cap m bound l u j v r hl hj sign room =
@@ -215,7 +209,8 @@ at_two points k a b cap m bound l u j v r hl hj sign room =
     omega (arith, linear)
 
 -- at one point
-at_one : (points : List Point) (k a b cap m : ℤ) → IsCellBound points k a b cap m → (l : ℕ) (r : ℤ) → l < length points → pos 0 ≤ℤ r
+at_one : (points : List Point) (k a b cap m : ℤ) → IsCellBound points k a b cap m → (l : ℕ) (r : ℤ)
+    → l < length points → pos 0 ≤ℤ r
     → r ≤ℤ distance points cap l → m ≤ℤ (reduced_cost points k a l +ℤ b *ℤ r)
 at_one points k a b cap m bound l r hl sign room =
     let full = mul-one (distance points cap l) in
@@ -261,7 +256,8 @@ corners-cell_bound points k a b cap m bound = record {
   pair = λ l j hl hj near far.
       let u = pos_of_nonneg (neg_ℤ (distance points cap j)) (negated (distance points cap j) far) in
       let v = pos_of_nonneg (distance points cap l) near in
-      pair_bound (distance points cap l) (distance points cap j) (reduced_cost points k a l) (reduced_cost points k a j) b m u.0 v.0 u.1 v.1
+      pair_bound (distance points cap l) (distance points cap j) (reduced_cost points k a l)
+      (reduced_cost points k a j) b m u.0 v.0 u.1 v.1
       (at_two points k a b cap m bound l u.0 j v.0 (pos 0) hl hj (le_refl (pos 0))
       (pair_room (distance points cap l) (distance points cap j) u.0 v.0 u.1 v.1));
 }
@@ -269,15 +265,22 @@ corners-cell_bound points k a b cap m bound = record {
     negated : (d : ℤ) → d <ℤ pos 0 → pos 0 ≤ℤ neg_ℤ d
     negated d h = omega (arith, linear)
 
--- the term of a cell whose cap is at least 0
-pub term_exists : (points : List Point) (k a b cap : ℤ) → 0 < length points → pos 0 ≤ℤ cap → (m : ℤ) × IsTerm points k a b cap m
-term_exists points k a b cap some sign =
+-- the term of a cell, computed at the corners
+unfoldable pub least_reduced_cost : List Point → ℤ → ℤ → ℤ → ℤ → ℤ
+least_reduced_cost points k a b cap = greatest_bound (length points) (reduced_cost points k a) (distance points cap) b
+
+-- it is the term where the cap is at least 0
+pub is_term : (points : List Point) (k a b cap : ℤ) → 0 < length points → pos 0 ≤ℤ cap
+    → IsTerm points k a b cap (least_reduced_cost points k a b cap)
+unfolding least_reduced_cost
+is_term points k a b cap some sign =
     let first : pos 0 ≤ℤ distance points cap 0 = omega (arith, linear) in
-    let found = greatest_bound (length points) (reduced_cost points k a) (distance points cap) b some first in (
-      found.0,
-      record {
-        reachable = sign;
-        bound = cell_bound-corners points k a b cap found.0 found.1;
-        greatest = λ n bound. found.2 n (corners-cell_bound points k a b cap n bound);
-      },
-    )
+    record {
+      reachable = sign;
+      bound =
+          cell_bound-corners points k a b cap _
+          (bounds_corners (length points) (reduced_cost points k a) (distance points cap) b);
+      greatest = λ n bound.
+          greatest_of_bounds (length points) (reduced_cost points k a) (distance points cap) b n some first
+          (corners-cell_bound points k a b cap n bound);
+    }

@@ -1,6 +1,6 @@
--- The value of a unit exists where it has a pattern at the node, and whether it has one is decided.
-use Rattle.std.proofs.Common.{◌≡◌, ℕ, ◌<◌, ◌⊎◌, inl, inr, List, [], ◌∷◌, length, Bool, true, false, not, ◌&&◌, cond, refl, sym, ap, subst, ◌∙◌, arith, ⊎_elim, ℤ, pos, ◌+ℤ◌, ◌-ℤ◌, ◌*ℤ◌, ◌≤ℤ◌, ◌<ℤ◌}
-use Rattle.std.specs.Prelude.{IsTrue, int_le, max}
+-- The value of a unit, computed over all its patterns: it is there exactly where the unit has a pattern at the node.
+use Rattle.std.proofs.Common.{◌≡◌, ℕ, ◌<◌, List, length, Bool, true, false, not, ◌&&◌, cond, refl, sym, ap, subst, ◌∙◌, arith, ⊎_elim, ℤ, pos, ◌+ℤ◌, ◌-ℤ◌, ◌*ℤ◌, ◌≤ℤ◌}
+use Rattle.std.specs.Prelude.{IsTrue, int_le, max, Option, Some, None, option_map}
 use Rattle.std.proofs.lemmas.Bool.{and_parts, and_from, or_cases, not_from_true, true≢false}
 use Rattle.uc_model.specs.Sums.{sum_below}
 use Rattle.uc_model.specs.Commitment.{Commitment, starts, cap, is_allowed, is_allowed_at}
@@ -9,7 +9,7 @@ use Rattle.uc_model.specs.Schedule.{thermal_unit}
 use Rattle.uc_model.specs.declared.instance.Point.{Point}
 use Rattle.uc_model.specs.declared.instance.Thermal.{Thermal}
 use Rattle.uc_model.specs.declared.instance.Instance.{Instance}
-use Rattle.uc_model.proofs.Ring.{linear, le_or_lt, le_antisymm}
+use Rattle.uc_model.proofs.Ring.{le_antisymm}
 use Rattle.uc_model.proofs.Sums.{sum_below-same}
 use Rattle.uc_model.proofs.Tests.{int_le-true, all_below-at}
 use Rattle.dual_model.specs.Prices.{pi_at}
@@ -18,35 +18,27 @@ use Rattle.dual_model.specs.Term.{IsTerm, IsTermAt, output_price, reserve_price}
 use Rattle.dual_model.specs.UnitValue.{period_value, IsPatternValue, IsUnitValue}
 use Rattle.dual_model.specs.declared.node.Node.{Node}
 use Rattle.dual_model.specs.declared.table.Table.{Table}
-use Rattle.dual_model.proofs.Terms.{term_exists}
+use Rattle.dual_model.proofs.Terms.{least_reduced_cost, is_term}
 use Rattle.dual_model.proofs.Locality.{SameBelow, starts-same, cap-same, sigma-same, is_allowed-same, fixed_below, kept-same}
-use Rattle.dual_model.proofs.Patterns.{IsLocal, IsLeastOf, PassesNone, least_pattern}
+use Rattle.dual_model.proofs.Patterns.{IsLocal, IsBestOf, best_pattern, best_pattern_is}
 
 -- ---- terms
--- the term of a cell, where it has one
-chosen : (points : List Point) (k a b room : ℤ) → (m : ℤ) × (0 < length points → pos 0 ≤ℤ room → IsTerm points k a b room m)
-chosen [] k a b room = (pos 0, λ some sign. absurd (omega arith))
-chosen (point ∷ points) k a b room = ⊎_elim
-    (λ (sign : pos 0 ≤ℤ room). let found = term_exists (point ∷ points) k a b room (omega arith) sign in (found.0, λ some same. found.1))
-    (λ (below : room <ℤ pos 0). (pos 0, λ some sign. absurd (not_both room sign below)))
-    (le_or_lt (pos 0) room)
-  where
-    not_both : (z : ℤ) → pos 0 ≤ℤ z → z <ℤ pos 0 → ⊥
-    not_both z h l = omega (arith, linear)
-
 -- there is one term at most
-pub term_unique : (points : List Point) (k a b room m n : ℤ) → IsTerm points k a b room m → IsTerm points k a b room n → m ≡ n
+pub term_unique : (points : List Point) (k a b room m n : ℤ) → IsTerm points k a b room m
+    → IsTerm points k a b room n → m ≡ n
 term_unique points k a b room m n first second =
     le_antisymm m n (second.greatest m first.bound) (first.greatest n second.bound)
 
 -- the term of unit g in period t under the commitment
-term_of : Instance → Table → ℕ → Commitment → ℕ → ℤ
+unfoldable pub term_of : Instance → Table → ℕ → Commitment → ℕ → ℤ
 term_of instance table g on t =
     let unit = thermal_unit instance g in
-    (chosen unit.points table.k (output_price table g t) (reserve_price table g t) (cap instance.periods unit on t)).0
+    least_reduced_cost unit.points table.k (output_price table g t) (reserve_price table g t)
+    (cap instance.periods unit on t)
 
 -- an allowed pattern's on cells have caps of at least 0
-cap-allowed : (periods : ℕ) (unit : Thermal) (on : Commitment) → IsTrue (is_allowed periods unit on) → (t : ℕ) → t < periods → IsTrue (on t)
+cap-allowed : (periods : ℕ) (unit : Thermal) (on : Commitment) → IsTrue (is_allowed periods unit on) → (t : ℕ)
+    → t < periods → IsTrue (on t)
     → pos 0 ≤ℤ cap periods unit on t
 cap-allowed periods unit on allowed t l here =
     let each = all_below-at periods (is_allowed_at periods unit on) (and_parts _ _ allowed).1 t l in
@@ -55,23 +47,26 @@ cap-allowed periods unit on allowed t l here =
     (λ (room : IsTrue (int_le (pos 0) (cap periods unit on t))). int_le-true _ _ room)
     (or_cases (not (on t)) (int_le (pos 0) (cap periods unit on t)) (and_parts _ _ each).1)
 
-is_term_of : (instance : Instance) (table : Table) (g : ℕ) (on : Commitment) → 0 < length (thermal_unit instance g).points
+is_term_of : (instance : Instance) (table : Table) (g : ℕ) (on : Commitment)
+    → 0 < length (thermal_unit instance g).points
     → IsTrue (is_allowed instance.periods (thermal_unit instance g) on) → (t : ℕ) → t < instance.periods → IsTrue (on t)
     → IsTermAt instance table g on t (term_of instance table g on t)
 unfolding term_of
 is_term_of instance table g on some allowed t l here =
     let unit = thermal_unit instance g in
-    (chosen unit.points table.k (output_price table g t) (reserve_price table g t) (cap instance.periods unit on t)).1 some
+    is_term unit.points table.k (output_price table g t) (reserve_price table g t) (cap instance.periods unit on t) some
     (cap-allowed instance.periods unit on allowed t l here)
 
 -- ---- values of patterns
-value_of : Instance → Table → ℕ → Commitment → ℤ
+unfoldable pub value_of : Instance → Table → ℕ → Commitment → ℤ
 value_of instance table g on =
     sum_below instance.periods (period_value table (thermal_unit instance g) on (term_of instance table g on))
 
 -- an allowed pattern has a value
-is_value_of : (instance : Instance) (table : Table) (g : ℕ) (on : Commitment) → 0 < length (thermal_unit instance g).points
-    → IsTrue (is_allowed instance.periods (thermal_unit instance g) on) → IsPatternValue instance table g on (value_of instance table g on)
+is_value_of : (instance : Instance) (table : Table) (g : ℕ) (on : Commitment)
+    → 0 < length (thermal_unit instance g).points
+    → IsTrue (is_allowed instance.periods (thermal_unit instance g) on)
+    → IsPatternValue instance table g on (value_of instance table g on)
 unfolding value_of
 is_value_of instance table g on some allowed = record {
   term = term_of instance table g on;
@@ -84,7 +79,8 @@ cond_on true x y h = h refl
 cond_on false x y h = refl
 
 -- and one at most
-pub pattern_value_unique : (instance : Instance) (table : Table) (g : ℕ) (on : Commitment) (v w : ℤ) → IsPatternValue instance table g on v
+pub pattern_value_unique : (instance : Instance) (table : Table) (g : ℕ) (on : Commitment) (v w : ℤ)
+    → IsPatternValue instance table g on v
     → IsPatternValue instance table g on w → v ≡ w
 pattern_value_unique instance table g on v w first second =
     first.total
@@ -92,26 +88,31 @@ pattern_value_unique instance table g on v w first second =
     ∙ sym second.total
   where
     start : ℕ → ℤ
-    start t = cond (starts (thermal_unit instance g) on t) (table.k *ℤ sigma (thermal_unit instance g) (last_stop (thermal_unit instance g) on t) t) (pos 0)
+    start t =
+        cond (starts (thermal_unit instance g) on t)
+        (table.k *ℤ sigma (thermal_unit instance g) (last_stop (thermal_unit instance g) on t) t) (pos 0)
 
     each : (t : ℕ) → t < instance.periods
         → cond (on t) (first.term t -ℤ pi_at table t *ℤ (thermal_unit instance g).pmin) (pos 0)
         ≡ cond (on t) (second.term t -ℤ pi_at table t *ℤ (thermal_unit instance g).pmin) (pos 0)
     each t l = cond_on (on t) _ _ (λ here.
         let unit = thermal_unit instance g in
-        ap (λ m. m -ℤ pi_at table t *ℤ unit.pmin) (term_unique unit.points table.k (output_price table g t) (reserve_price table g t)
+        ap (λ m. m -ℤ pi_at table t *ℤ unit.pmin)
+        (term_unique unit.points table.k (output_price table g t) (reserve_price table g t)
         (cap instance.periods unit on t) _ _ (first.terms t l here) (second.terms t l here)))
 
 -- the value depends on the instance's periods alone
-term_of-same : (instance : Instance) (table : Table) (g : ℕ) (on other : Commitment) → SameBelow instance.periods on other → (t : ℕ)
+term_of-same : (instance : Instance) (table : Table) (g : ℕ) (on other : Commitment)
+    → SameBelow instance.periods on other → (t : ℕ)
     → t < instance.periods → term_of instance table g on t ≡ term_of instance table g other t
 unfolding term_of
 term_of-same instance table g on other h t l =
     let unit = thermal_unit instance g in
-    ap (λ room. (chosen unit.points table.k (output_price table g t) (reserve_price table g t) room).0)
+    ap (λ room. least_reduced_cost unit.points table.k (output_price table g t) (reserve_price table g t) room)
     (cap-same instance.periods unit on other h t l)
 
-value_of-same : (instance : Instance) (table : Table) (g : ℕ) (on other : Commitment) → SameBelow instance.periods on other
+value_of-same : (instance : Instance) (table : Table) (g : ℕ) (on other : Commitment)
+    → SameBelow instance.periods on other
     → value_of instance table g on ≡ value_of instance table g other
 unfolding value_of
 value_of-same instance table g on other h =
@@ -124,10 +125,10 @@ value_of-same instance table g on other h =
     λ i. cond (here i) (term i -ℤ pi_at table t *ℤ unit.pmin) (pos 0) +ℤ cond (start i) (table.k *ℤ cost i) (pos 0))
 
 -- ---- the least one
-abbrev is_pattern_at : Instance → Node → ℕ → Commitment → Bool
+abbrev pub is_pattern_at : Instance → Node → ℕ → Commitment → Bool
 is_pattern_at instance node g on = is_allowed instance.periods (thermal_unit instance g) on && unit_agrees node g on
 
-abbrev last_period : Instance → Node → ℕ
+abbrev pub last_period : Instance → Node → ℕ
 last_period instance node = max instance.periods (fixed_below node.fixings)
 
 pattern_local : (instance : Instance) (node : Node) (table : Table) (g : ℕ) → 0 < instance.periods
@@ -139,36 +140,54 @@ pattern_local instance node table g some = record {
   values = λ on other h. value_of-same instance table g on other (narrowed on other h);
 }
   where
-    narrowed : (on other : Commitment) → SameBelow (last_period instance node) on other → SameBelow instance.periods on other
+    narrowed : (on other : Commitment) → SameBelow (last_period instance node) on other
+        → SameBelow instance.periods on other
     narrowed on other h = record { same = λ t l. h.same t (omega arith) }
 
--- the unit has a value at the node and the table, or it has no pattern there
-pub unit_value_decided : (instance : Instance) (node : Node) (table : Table) (g : ℕ) → 0 < instance.periods
+-- the value of unit g at the node and the table, if it has one
+unfoldable pub unit_value_of : Instance → Node → Table → ℕ → Option ℤ
+unit_value_of instance node table g =
+    option_map (value_of instance table g)
+    (best_pattern (last_period instance node) (is_pattern_at instance node g) (value_of instance table g))
+
+-- the answer is the unit's value, or the unit has no pattern
+abbrev pub IsUnitAnswer : Instance → Node → Table → ℕ → Option ℤ → Type 0
+IsUnitAnswer instance node table g None = HasNoPattern instance node g
+IsUnitAnswer instance node table g (Some v) = IsUnitValue instance node table g v
+
+best_value : (instance : Instance) (node : Node) (table : Table) (g : ℕ)
+    → 0 < length (thermal_unit instance g).points → (best : Option Commitment)
+    → IsBestOf (is_pattern_at instance node g) (value_of instance table g) best
+    → IsUnitAnswer instance node table g (option_map (value_of instance table g) best)
+best_value instance node table g points None none =
+    λ on pattern. none.none on (and_from _ _ pattern.allowed pattern.agrees)
+best_value instance node table g points (Some on) found =
+    let parts = and_parts _ _ found.passes in
+    record {
+      on = on;
+      best = record {
+        pattern = record { allowed = parts.0; agrees = parts.1 };
+        value = is_value_of instance table g on points parts.0;
+        least = λ other w pattern value.
+            subst (λ z. value_of instance table g on ≤ℤ z)
+            (pattern_value_unique instance table g other _ w
+            (is_value_of instance table g other points pattern.allowed) value)
+            (found.least other (and_from _ _ pattern.allowed pattern.agrees));
+      };
+    }
+
+pub unit_value_is : (instance : Instance) (node : Node) (table : Table) (g : ℕ) → 0 < instance.periods
     → 0 < length (thermal_unit instance g).points
-    → ((v : ℤ) × IsUnitValue instance node table g v) ⊎ HasNoPattern instance node g
-unit_value_decided instance node table g some points = ⊎_elim
-    (λ (found : (on : Commitment) × IsLeastOf (is_pattern_at instance node g) (value_of instance table g) on).
-    let parts = and_parts _ _ found.1.passes in
-    inl (
-      value_of instance table g found.0,
-      record {
-        on = found.0;
-        best = record {
-          pattern = record { allowed = parts.0; agrees = parts.1 };
-          value = is_value_of instance table g found.0 points parts.0;
-          least = λ other w pattern value.
-              subst (λ z. value_of instance table g found.0 ≤ℤ z)
-              (pattern_value_unique instance table g other _ w (is_value_of instance table g other points pattern.allowed) value)
-              (found.1.least other (and_from _ _ pattern.allowed pattern.agrees));
-        };
-      },
-    ))
-    (λ (none : PassesNone (is_pattern_at instance node g)).
-    inr (λ on pattern. none.none on (and_from _ _ pattern.allowed pattern.agrees)))
-    (least_pattern (last_period instance node) (is_pattern_at instance node g) (value_of instance table g)
+    → IsUnitAnswer instance node table g (unit_value_of instance node table g)
+unfolding unit_value_of
+unit_value_is instance node table g some points =
+    best_value instance node table g points _
+    (best_pattern_is (last_period instance node) (is_pattern_at instance node g) (value_of instance table g)
     (pattern_local instance node table g some))
 
 -- each allowed pattern has a value
-pub allowed_value : (instance : Instance) (table : Table) (g : ℕ) (on : Commitment) → 0 < length (thermal_unit instance g).points
+pub allowed_value : (instance : Instance) (table : Table) (g : ℕ) (on : Commitment)
+    → 0 < length (thermal_unit instance g).points
     → IsTrue (is_allowed instance.periods (thermal_unit instance g) on) → (w : ℤ) × IsPatternValue instance table g on w
-allowed_value instance table g on some allowed = (value_of instance table g on, is_value_of instance table g on some allowed)
+allowed_value instance table g on some allowed =
+    (value_of instance table g on, is_value_of instance table g on some allowed)

@@ -11,7 +11,7 @@ use Rattle.dual_model.specs.Cover.{Tree, Holds, AllExcluded, IsCover, has_bound}
 use Rattle.dual_model.specs.declared.table.Table.{Table}
 
 -- a schedule with its cost in micro-dollars, as written
-pub record Priced : Type 0 where
+pub record WrittenSchedule : Type 0 where
   pub printed : Printed
   pub cost : ℤ
 
@@ -22,7 +22,7 @@ pub record Certificate : Type 0 where
   pub renewable : ℕ
   -- the bound that is claimed, or nothing where infeasibility is
   pub bound : Option ℤ
-  pub schedule : Option Priced
+  pub schedule : Option WrittenSchedule
   pub tables : List Table
   pub tree : Tree
 
@@ -34,12 +34,12 @@ pub record HasShapeOf (instance : Instance) (printed : Printed) : Type 0 where
   pub outputs : All (λ row. length row ≡ instance.periods) printed.renewable
 
 -- the printed schedule obeys, and the cost written is its printed cost
-pub record IsPriced (instance : Instance) (priced : Priced) : Type 0 where
-  pub shape : HasShapeOf instance priced.printed
+pub record ScheduleHolds (instance : Instance) (written : WrittenSchedule) : Type 0 where
+  pub shape : HasShapeOf instance written.printed
   pub obeys :
-      let q = printed_denominator instance priced.printed in
-      Obeys instance q (printed_schedule instance priced.printed q)
-  pub cost : priced.cost ≡ printed_cost instance priced.printed
+      let q = printed_denominator instance written.printed in
+      Obeys instance q (printed_schedule instance written.printed q)
+  pub cost : written.cost ≡ printed_cost instance written.printed
 
 -- the claim holds: a bound, with some leaf that is one; or infeasibility, with no schedule
 abbrev pub ClaimHolds : Instance → Certificate → Option ℤ → Type 0
@@ -55,5 +55,5 @@ pub record CertificateHolds (instance : Instance) (certificate : Certificate) : 
   pub renewable : certificate.renewable ≡ renewable_count instance
   pub tables : All (IsLawfulTable instance) certificate.tables
   pub tree : IsCover instance certificate.tree
-  pub schedule : (priced : Priced) → certificate.schedule ≡ Some priced → IsPriced instance priced
+  pub schedule : (written : WrittenSchedule) → certificate.schedule ≡ Some written → ScheduleHolds instance written
   pub claim : ClaimHolds instance certificate certificate.bound

@@ -3,8 +3,9 @@
 -- Knueven, Ostrowski and Watson.
 --
 -- Units, periods and tables count from 0 here.
-use Rattle.std.specs.Prelude.{◌≡◌, ℕ, ◌+◌, ◌<◌, ◌⊎◌, Bool, true, false, not, ◌&&◌, ◌==◌, List, [], ◌∷◌, ◌++◌, ℤ, pos, ◌+ℤ◌, ◌*ℤ◌, ◌≤ℤ◌, ◌<ℤ◌, slice_get, Some, IsTrue, ◌||◌, if◌then◌else◌}
+use Rattle.std.specs.Prelude.{◌≡◌, ℕ, ◌+◌, ◌<◌, ◌⊎◌, Bool, true, false, not, ◌&&◌, ◌==◌, List, [], ◌∷◌, ◌++◌, ℤ, pos, ◌≤ℤ◌, ◌<ℤ◌, slice_get, Some, IsTrue, ◌||◌, if◌then◌else◌}
 use Rattle.std.specs.List.{list_any}
+use Rattle.uc_model.specs.Division.{IsFloor}
 use Rattle.uc_model.specs.Schedule.{Schedule, thermal_count}
 use Rattle.uc_model.specs.declared.instance.Instance.{Instance}
 use Rattle.dual_model.specs.Fixings.{HasNoPattern, HasEmptyUnit, IsCell, agrees}
@@ -62,8 +63,7 @@ pub record HasPositiveValue (instance : Instance) (node : Node) (table : Table) 
 pub record IsTableBound (instance : Instance) (node : Node) (table : Table) (bound : ℤ) : Type 0 where
   pub value : ℤ
   pub is_value : IsNodeValue instance node table value
-  pub below : (bound *ℤ table.k) ≤ℤ value
-  pub next : value <ℤ (bound *ℤ table.k +ℤ table.k)
+  pub quotient : IsFloor value table.k bound
 
 -- the bound of the table at the node is at least b
 pub record HasBoundOf (instance : Instance) (node : Node) (table : Table) (b : ℤ) : Type 0 where

@@ -3,11 +3,14 @@
 -- reference model by Knueven, Ostrowski and Watson.
 --
 -- Units and periods count from 0 here.
-use Rattle.std.specs.Prelude.{ℕ, ◌<◌, Bool, not, ◌||◌, ◌==◌, IsTrue, All, if◌then◌else◌}
+use Rattle.std.specs.Prelude.{◌≡◌, ℕ, ◌<◌, Bool, not, ◌||◌, ◌==◌, IsTrue, All, if◌then◌else◌}
 use Rattle.std.specs.List.{list_all}
+use Rattle.uc_model.specs.Sums.{all_below}
 use Rattle.uc_model.specs.Commitment.{Commitment, is_allowed}
+use Rattle.uc_model.specs.PatternBits.{commitment_of}
 use Rattle.uc_model.specs.Schedule.{Schedule, thermal_unit, thermal_count}
 use Rattle.uc_model.specs.declared.instance.Instance.{Instance}
+use Rattle.dual_model.specs.declared.node.Fix.{Fix}
 use Rattle.dual_model.specs.declared.node.Fixing.{Fixing}
 use Rattle.dual_model.specs.declared.node.Node.{Node}
 
@@ -41,6 +44,16 @@ pub record HasEmptyUnit (instance : Instance) (node : Node) : Type 0 where
   pub unit : ℕ
   pub within : unit < thermal_count instance
   pub empty : HasNoPattern instance node unit
+
+-- a pattern agrees with what is decided of its unit
+abbrev pub fix_agrees : ℕ → Fix → Commitment → Bool
+fix_agrees periods fix on =
+    all_below periods (λ t. not (commitment_of fix.known t) || (if commitment_of fix.on t then on t else not (on t)))
+
+-- the fix says what the node decides of unit g: the same commitments agree with both. A node with two bits
+-- for one cell of the unit has none
+pub record IsFixOf (periods : ℕ) (node : Node) (g : ℕ) (fix : Fix) : Type 0 where
+  pub same : (on : Commitment) → unit_agrees node g on ≡ fix_agrees periods fix on
 
 -- a decision on a cell of the instance
 pub record IsCell (instance : Instance) (g t : ℕ) : Type 0 where

@@ -67,10 +67,15 @@ ChildBound =
 abbrev pub LeavesPart : Type 0
 LeavesPart = (x : Schedule) (tree : Tree) → agreeing_leaves x root tree ≡ 1
 
+-- the table of that number, if there is one, is lawful
+abbrev pub IsLawfulAt : Instance → List Table → ℕ → Type 0
+IsLawfulAt instance tables number =
+    (table : Table) → slice_get tables number ≡ Some table → IsLawfulTable instance table
+
 -- the table that the leaf names is lawful
 abbrev pub HasLawfulTable : Instance → List Table → Node → Leaf → Type 0
-HasLawfulTable instance tables node (Bound number) = (table : Table) → slice_get tables number ≡ Some table → IsLawfulTable instance table
-HasLawfulTable instance tables node (Ray number) = (table : Table) → slice_get tables number ≡ Some table → IsLawfulTable instance table
+HasLawfulTable instance tables node (Bound number) = IsLawfulAt instance tables number
+HasLawfulTable instance tables node (Ray number) = IsLawfulAt instance tables number
 HasLawfulTable instance tables node (Empty g) = Unit {0}
 
 -- the tables of the leaves are lawful

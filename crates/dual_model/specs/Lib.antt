@@ -6,3 +6,4 @@ pub mod NodeValue
 pub mod Cover
 pub mod Certificate
 pub mod Laws
+pub mod Examples

@@ -24,6 +24,9 @@ unit_constant periods table unit g =
     sum_below periods (λ t. neg_ℤ (up_at table g t *ℤ unit.ru) -ℤ down_at table g t *ℤ unit.rd)
     +ℤ (down_at table g zero -ℤ up_at table g zero) *ℤ initial_p unit
 
+abbrev pub constant_at : Instance → Table → ℕ → ℤ
+constant_at instance table g = unit_constant instance.periods table (thermal_unit instance g) g
+
 -- what a renewable cell adds: minus pi(t) times the greatest output where pi(t) > 0, else times the least one
 abbrev pub renewable_value : Instance → Table → ℕ → ℕ → ℤ
 renewable_value instance table w t =
@@ -39,5 +42,5 @@ pub record IsNodeValue (instance : Instance) (node : Node) (table : Table) (v : 
   pub unit_value : ℕ → ℤ
   pub units : (g : ℕ) → g < thermal_count instance → IsUnitValue instance node table g (unit_value g)
   pub total : v ≡ (system_value instance table
-      +ℤ sum_below (thermal_count instance) (λ g. unit_value g +ℤ unit_constant instance.periods table (thermal_unit instance g) g)
+      +ℤ sum_below (thermal_count instance) (λ g. unit_value g +ℤ constant_at instance table g)
       +ℤ renewables_value instance table)

@@ -3,9 +3,10 @@
 -- reserve (M15) and the ramps (M11, M12); the limits in size are this project's.
 --
 -- Units and periods count from 0 here.
-use Rattle.std.specs.Prelude.{◌≡◌, ℕ, suc, ◌^◌, ◌<◌, ◌≤◌, ◌⊎◌, ◌≢◌, ◌&&◌, ◌==◌, List, [], ◌∷◌, ℤ, pos, ◌≤ℤ◌, unsigned_abs, length, slice_index_or, All, if◌then◌else◌}
+use Rattle.std.specs.Prelude.{◌≡◌, ℕ, suc, ◌<◌, ◌≤◌, ◌⊎◌, ◌≢◌, ◌&&◌, ◌==◌, List, [], ◌∷◌, ℤ, pos, ◌≤ℤ◌, unsigned_abs, length, slice_index_or, All, if◌then◌else◌}
 use Rattle.uc_model.specs.Schedule.{thermal_count}
 use Rattle.uc_model.specs.declared.instance.Instance.{Instance}
+pub use Rattle.dual_model.specs.declared.limits.TheConstants.{MAX_SCALE, MAX_PRICE}
 use Rattle.dual_model.specs.declared.table.Table.{Table}
 use Rattle.dual_model.specs.declared.table.RampRow.{RampRow}
 
@@ -63,12 +64,6 @@ pub record IsRowSigned (row : RampRow) : Type 0 where
 pub record HasLawfulSigns (table : Table) : Type 0 where
   pub mu : All (λ n. pos 0 ≤ℤ n) table.mu
   pub ramps : All IsRowSigned table.ramps
-
-abbrev pub MAX_SCALE : ℤ
-MAX_SCALE = pos (10 ^ 9)
-
-abbrev pub MAX_PRICE : ℕ
-MAX_PRICE = 10 ^ 14
 
 abbrev pub IsPrice : ℤ → Type 0
 IsPrice n = unsigned_abs n ≤ MAX_PRICE

@@ -2,7 +2,7 @@
 -- Lagrangian relaxation of the reference model by Knueven, Ostrowski and Watson, whose production cost is
 -- the least cost of weights on the unit's points. A schedule is rational, so the weights are whole over any
 -- denominator q; the term is the greatest whole number that bounds all of them.
-use Rattle.std.specs.Prelude.{◌≡◌, ℕ, suc, List, ℤ, pos, ◌+ℤ◌, ◌-ℤ◌, ◌*ℤ◌, ◌≤ℤ◌, length, slice_index_or}
+use Rattle.std.specs.Prelude.{◌≡◌, ℕ, suc, List, ℤ, pos, ◌+ℤ◌, ◌-ℤ◌, ◌*ℤ◌, ◌≤ℤ◌}
 pub use Rattle.uc_model.specs.Points.{point_of, output_of, weighted_total, weighted_output, weighted_cost}
 use Rattle.uc_model.specs.Commitment.{Commitment, cap}
 use Rattle.uc_model.specs.Schedule.{thermal_unit}

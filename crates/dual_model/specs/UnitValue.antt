@@ -31,7 +31,8 @@ pub record IsPatternValue (instance : Instance) (table : Table) (g : ℕ) (on : 
 pub record IsBestPattern (instance : Instance) (node : Node) (table : Table) (g : ℕ) (on : Commitment) (v : ℤ) : Type 0 where
   pub pattern : IsPatternAt instance node g on
   pub value : IsPatternValue instance table g on v
-  pub least : (other : Commitment) (w : ℤ) → IsPatternAt instance node g other → IsPatternValue instance table g other w → v ≤ℤ w
+  pub least : (other : Commitment) (w : ℤ) → IsPatternAt instance node g other →
+      IsPatternValue instance table g other w → v ≤ℤ w
 
 -- v is the value of unit g at the node and the table; there is none where the unit has no pattern there
 pub record IsUnitValue (instance : Instance) (node : Node) (table : Table) (g : ℕ) (v : ℤ) : Type 0 where

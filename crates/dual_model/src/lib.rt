@@ -5,7 +5,9 @@
 //! of its own. The definitions stand in `specs/`, and the laws are the contracts of the module `laws`.
 #![tactic(auto)]
 
+pub mod examples;
 pub mod laws;
+pub mod limits;
 pub mod node;
 pub mod table;
 

@@ -1,7 +1,7 @@
--- How appended bytes add up.
-use Rattle.std.proofs.Common.{◌≡◌, ℕ, ◌+◌, ◌-◌, ◌<◌, ◌≤◌, List, [], ◌++◌, length, take, drop, refl, subst, sym, ◌∙◌, ap, append_assoc, append-nil, get_or, arith, Option, None, Some}
+-- How appended bytes add up, here and for what writes by these calls.
+use Rattle.std.proofs.Common.{◌≡◌, ℕ, ◌+◌, ◌<◌, List, [], ◌++◌, length, take, drop, subst, sym, ◌∙◌, ap, append_assoc, append-nil, get_or, arith, Option, None, Some}
 use Rattle.std.specs.List.{flat_map}
-use Rattle.std.specs.Prelude.{Result, Ok, Err, OnOk, OnErr}
+use Rattle.std.specs.Prelude.{Result, Ok, Err, OnErr}
 use Rattle.std.proofs.Math.Seq.{take-add}
 use Rattle.std.proofs.lemmas.List.{take-append-drop, drop_more}
 use Rattle.std.proofs.lemmas.List.Concat.{flat_map-append}
@@ -75,13 +75,7 @@ fault-in-pieces f xs i d a b c l h k =
 pub all-appended : (bytes : List ℕ) (old new : Option (List ℕ)) → Appends bytes old new → AppendsFront bytes old new
 all-appended bytes old new h = record { front = bytes; rest = []; parts = sym (append-nil bytes); grown = h }
 
--- where no byte was told before, what is told after an append is what was appended
-pub told-since-nothing : (bytes : List ℕ) (old new : Option (List ℕ)) → Tells old [] → Appends bytes old new → Tells new bytes
-told-since-nothing bytes old None h k = tt
-told-since-nothing bytes None (Some new) h k = absurd k
-told-since-nothing bytes (Some old) (Some new) h k = k ∙ ap (λ told. told ++ bytes) h
-
--- the same, as an append to nothing
+-- where no byte was told before, an append is one to nothing
 pub appended-since-nothing : (bytes : List ℕ) (old new : Option (List ℕ)) → Tells old [] → Appends bytes old new → Appends bytes (Some []) new
 appended-since-nothing bytes old None h k = tt
 appended-since-nothing bytes None (Some new) h k = absurd k

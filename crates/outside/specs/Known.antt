@@ -1,5 +1,5 @@
 -- Bytes that an implementation may tell (`Some`) or not tell (`None`).
-use Rattle.std.specs.Prelude.{◌≡◌, ℕ, List, [], ◌++◌, ⊤, Option, None, Some}
+use Rattle.std.specs.Prelude.{◌≡◌, ℕ, List, ◌++◌, ⊤, Option, None, Some}
 
 -- where they are told, they are these
 abbrev pub Tells : Option (List ℕ) → List ℕ → Type 0

@@ -8,3 +8,5 @@ pub mod Memory
 pub mod Schedule
 pub mod Faulty
 pub mod System
+pub mod Pace
+pub mod SlurpFault

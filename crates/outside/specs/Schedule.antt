@@ -1,8 +1,10 @@
 -- Which call of its kind a call is.
-use Rattle.std.specs.Prelude.{ℕ}
+use Rattle.std.specs.Prelude.{◌≡◌, ℕ, List}
 use Rattle.outside.specs.declared.schedule.Call.{Call}
 use Rattle.outside.specs.declared.schedule.Call.TheVariants.{Open, Read, Write, Finish, Flush}
 use Rattle.outside.specs.declared.schedule.CallCounts.{CallCounts}
+use Rattle.outside.specs.declared.schedule.FailingCall.{FailingCall}
+use Rattle.outside.specs.declared.schedule.Schedule.{Schedule}
 use Rattle.outside.specs.Counts.{one_more}
 
 -- how many calls of a kind were made
@@ -24,3 +26,13 @@ with_count made Flush count = record made { flushes = count }
 -- the counts after one more call of a kind
 abbrev pub counted : CallCounts → Call → CallCounts
 counted made call = with_count made call (one_more (count_of made call))
+
+-- before any call was made
+abbrev pub no_calls : CallCounts
+no_calls = record { opens = 0; reads = 0; writes = 0; finishes = 0; flushes = 0 }
+
+-- a schedule by which these calls fail, before any was made
+pub record IsFresh (failing : List FailingCall) (schedule : Schedule) : Type 0 where
+  pub calls : schedule.failing.items ≡ failing
+  pub made : schedule.made ≡ no_calls
+  pub faults : schedule.faults ≡ 0

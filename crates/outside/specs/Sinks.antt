@@ -1,5 +1,5 @@
 -- What a caller may know of a sink or a writer, and what each call does to it.
-use Rattle.std.specs.Prelude.{◌≡◌, ℕ, List, Option, None, Some}
+use Rattle.std.specs.Prelude.{◌≡◌, ℕ, List, Option}
 use Rattle.outside.specs.Counts.{HasRisen}
 use Rattle.outside.specs.Known.{Appends, AppendsFront}
 

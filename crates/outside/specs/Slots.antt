@@ -1,5 +1,5 @@
 -- What a caller may know of a slot, and what each call does to it.
-use Rattle.std.specs.Prelude.{◌≡◌, ◌≢◌, ℕ, Bool, List, [], ◌++◌, Option, None, Some, refl}
+use Rattle.std.specs.Prelude.{◌≡◌, ◌≢◌, ℕ, Bool, true, IfSome, List, [], ◌++◌, Option, refl}
 use Rattle.std.specs.Option.{option_map}
 use Rattle.std.proofs.Common.{◌∙◌}
 use Rattle.std.specs.Str.{bytes_eq}
@@ -83,6 +83,14 @@ same_beside-through slot a b c h k = record {
   left = k.left ∙ h.left;
   others = λ other ne. k.others other ne ∙ h.others other ne;
 }
+
+-- the slot expects this name, where it tells what it expects
+abbrev pub Expects : List ℕ → SlotState → Type 0
+Expects name slot = IfSome slot.naming (λ naming. naming.expected ≡ name)
+
+-- the slot was opened by the name that it expects, where it tells that
+abbrev pub IsMatched : SlotState → Type 0
+IsMatched slot = IfSome slot.naming (λ naming. naming.is_matched ≡ true)
 
 -- no slot was opened yet
 abbrev pub AllUnopened : (Slot → SlotState) → Type 0

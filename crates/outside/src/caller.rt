@@ -6,13 +6,14 @@ ghost use Rattle.outside.specs.declared.slot.Slot.TheVariants.{CertOut};
 ghost use Rattle.outside.specs.declared.slot.Stage.TheVariants.{Unopened, Finished};
 ghost use Rattle.outside.specs.Counts.{HasRisen};
 ghost use Rattle.outside.specs.Known.{Tells, Appends, AppendsFront};
-ghost use Rattle.outside.specs.Slots.{AllUnopened, SameBut};
+ghost use Rattle.outside.specs.Slots.{AllUnopened, SameBut, Expects, IsMatched};
 
+use crate::fault::Failed;
 use crate::files::Files;
 use crate::reading::{SlurpFault, slurp};
 use crate::sink::Sink;
 use crate::sink_writer::SinkWriter;
-use crate::slot::{Failed, Slot};
+use crate::slot::Slot;
 use crate::slot_writer::SlotWriter;
 use crate::writer::{write_all, write_pieces};
 use std::alloc::Global;
@@ -34,6 +35,7 @@ fn save<F: Files>(files: &mut F, name: &str, bytes: &[u8]) -> Result<(), Failed>
     ensures written { OnOk result (Tells (F.state files.new Slot.CertOut).written bytes.now) }
     ensures ok { OnOk result ((F.state files.new Slot.CertOut).faults ≡ (F.state files.old Slot.CertOut).faults) }
     ensures rose { OnErr result (HasRisen (F.state files.old Slot.CertOut).faults (F.state files.new Slot.CertOut).faults) }
+    ensures named { Expects name.now (F.state files.old Slot.CertOut) → (F.state files.new Slot.CertOut).stage ≢ Unopened → IsMatched (F.state files.new Slot.CertOut) }
     ensures front { OnErr result (AppendsFront bytes.now (Some []) (F.state files.new Slot.CertOut).written) }
     ensures others { SameBut CertOut (F.state files.old) (F.state files.new) }
 {
@@ -75,7 +77,13 @@ pub fn copy<F: Files, S: Sink>(
     ensures calm_files { result ≢ End.ReadFailed → result ≢ End.WriteFailed → (slot : Slot) → (F.state files.new slot).faults ≡ (F.state files.old slot).faults }
     ensures calm_out { result ≢ End.WriteFailed → (S.state out.new).faults ≡ (S.state out.old).faults }
 
+    // What was opened, by which name.
+    ensures from { Expects from.now (F.state files.old Slot.Instance) → (F.state files.new Slot.Instance).stage ≢ Unopened → IsMatched (F.state files.new Slot.Instance) }
+    ensures to { Expects to.now (F.state files.old Slot.CertOut) → (F.state files.new Slot.CertOut).stage ≢ Unopened → IsMatched (F.state files.new Slot.CertOut) }
+    ensures untouched { (F.state files.new Slot.CertIn) ≡ (F.state files.old Slot.CertIn) }
+
     // What was written.
+    ensures front { result ≡ End.WriteFailed → IfSome (F.state files.old Slot.Instance).left (λ bytes. AppendsFront bytes (Some []) (F.state files.new Slot.CertOut).written) }
     ensures copied { result ≡ End.Copied → IfSome (F.state files.old Slot.Instance).left (Tells (F.state files.new Slot.CertOut).written) }
     ensures finished { result ≡ End.Copied → (F.state files.new Slot.CertOut).stage ≡ Finished }
     ensures told { result ≡ End.Copied → Appends (to.now ++ codes "\n") (S.state out.old).written (S.state out.new).written }

@@ -1,7 +1,7 @@
 ghost use Rattle.std.specs.Prelude.{◌≡◌, ◌<◌, ◌≤◌, Ok, length, IfOk, OnErr};
 ghost use Rattle.outside.specs.Counts.{HasRisen, one_more};
 
-use crate::slot::Failed;
+use crate::fault::Failed;
 use std::io;
 
 /// The count after one more fault: one more, or the last value, at which it stays.

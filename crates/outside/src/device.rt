@@ -2,7 +2,7 @@ ghost use Rattle.std.specs.Prelude.{◌≡◌, ◌<◌, ◌≤◌, length, take,
 ghost use Rattle.outside.specs.declared.slot.Stage.TheVariants.{Unopened, Open};
 ghost use Rattle.outside.specs.Slots.{SlotState, opened, unread, finished, IsAtEnd, HasNothingWritten, Writes, CountsFault};
 
-use crate::slot::Failed;
+use crate::fault::Failed;
 
 /// What stands behind one slot. [`Devices`](crate::Devices) makes [`Files`](crate::Files) of three.
 ///

@@ -6,8 +6,9 @@ ghost use Rattle.outside.specs.contracts.devices.Devices.{the_row};
 ghost use Rattle.outside.specs.Devices.{device_of, with_device, all_unwritten};
 
 use crate::device::Device;
+use crate::fault::Failed;
 use crate::files::Files;
-use crate::slot::{Failed, Slot};
+use crate::slot::Slot;
 
 /// A device behind each slot, which are files together.
 #[derive(Drop)]

@@ -1,9 +1,9 @@
 use crate::device::Device;
+use crate::fault::{Failed, NoMemory};
 use crate::memory_file::MemoryFile;
 use crate::pace::Pace;
 use crate::schedule::{Call, FailingCall, Schedule};
-use crate::slot::Failed;
-use std::alloc::{AllocError, Global};
+use std::alloc::Global;
 
 /// A file in memory on which the calls of a schedule fail, and no others.
 #[derive(Drop)]
@@ -17,6 +17,7 @@ impl FaultyFile {
     ghost use Rattle.std.specs.Prelude.{◌≡◌, IfOk};
     ghost use Rattle.outside.specs.Memory.{fresh_file};
     ghost use Rattle.outside.specs.Faulty.{faulty_file_state};
+    ghost use Rattle.outside.specs.Schedule.{IsFresh};
 
     /// An unopened file that expects this name and has these bytes to read, and on which these calls
     /// fail.
@@ -26,8 +27,10 @@ impl FaultyFile {
         input: &[u8],
         failing: &[FailingCall],
         pace: Pace,
-    ) -> Result<Self, AllocError>
-        ensures { IfOk result (λ file. faulty_file_state file ≡ fresh_file expected.now input.now) }
+    ) -> Result<Self, NoMemory>
+        ensures state { IfOk result (λ file. faulty_file_state file ≡ fresh_file expected.now input.now) }
+        ensures schedule { IfOk result (λ file. IsFresh failing.now file.schedule) }
+        ensures pace { IfOk result (λ file. file.pace ≡ pace) }
     {
         Ok(FaultyFile {
             memory: MemoryFile::new(alloc, expected, input)?,

@@ -1,9 +1,9 @@
+use crate::fault::{Failed, NoMemory};
 use crate::memory_sink::MemorySink;
 use crate::pace::Pace;
 use crate::schedule::{Call, FailingCall, Schedule};
 use crate::sink::Sink;
-use crate::slot::Failed;
-use std::alloc::{AllocError, Global};
+use std::alloc::Global;
 
 /// A sink in memory on which the calls of a schedule fail, and no others.
 #[derive(Drop)]
@@ -17,10 +17,13 @@ impl FaultySink {
     ghost use Rattle.std.specs.Prelude.{◌≡◌, IfOk};
     ghost use Rattle.outside.specs.Memory.{fresh_sink};
     ghost use Rattle.outside.specs.Faulty.{faulty_sink_state};
+    ghost use Rattle.outside.specs.Schedule.{IsFresh};
 
     /// A sink to which nothing was written, and on which these calls fail.
-    pub fn new(alloc: Global, failing: &[FailingCall], pace: Pace) -> Result<Self, AllocError>
-        ensures { IfOk result (λ sink. faulty_sink_state sink ≡ fresh_sink) }
+    pub fn new(alloc: Global, failing: &[FailingCall], pace: Pace) -> Result<Self, NoMemory>
+        ensures state { IfOk result (λ sink. faulty_sink_state sink ≡ fresh_sink) }
+        ensures schedule { IfOk result (λ sink. IsFresh failing.now sink.schedule) }
+        ensures pace { IfOk result (λ sink. sink.pace ≡ pace) }
     {
         Ok(FaultySink {
             memory: MemorySink::new(alloc),

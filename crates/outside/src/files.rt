@@ -3,7 +3,8 @@ ghost use Rattle.outside.specs.declared.slot.Slot.{Slot};
 ghost use Rattle.outside.specs.declared.slot.Stage.TheVariants.{Unopened, Open};
 ghost use Rattle.outside.specs.Slots.{SlotState, opened, unread, finished, IsAtEnd, HasNothingWritten, Writes, CountsFault, SameBut};
 
-use crate::slot::{Failed, Slot};
+use crate::fault::Failed;
+use crate::slot::Slot;
 
 /// The files of a run, one behind each [`Slot`].
 ///

@@ -1,8 +1,8 @@
 ghost use Rattle.std.specs.Prelude.{◌≤◌, vec_len};
 ghost use Rattle.std.specs.Option.{ForSome};
 
+use crate::fault::Failed;
 use crate::sink::Sink;
-use crate::slot::Failed;
 use std::alloc::Global;
 
 /// A sink in memory. No call on it fails, so its count of faults is always 0.

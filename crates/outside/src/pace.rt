@@ -1,4 +1,5 @@
-ghost use Rattle.std.specs.Prelude.{◌<◌, ◌≤◌};
+ghost use Rattle.std.specs.Prelude.{◌≡◌, ◌<◌, ◌≤◌};
+ghost use Rattle.outside.specs.Pace.{portion_of};
 
 /// How much a read or a write takes at once.
 #[derive(Clone, Copy, Debug, PartialEq, Eq)]
@@ -12,6 +13,7 @@ pub enum Pace {
 impl Pace {
     /// How many of so many bytes are taken at once.
     pub fn portion(self, length: usize) -> usize
+        ensures portion { result ≡ portion_of self length }
         ensures bound { result ≤ length }
         ensures some { 0 < length → 0 < result }
     {

@@ -1,12 +1,13 @@
-ghost use Rattle.std.specs.Prelude.{◌≡◌, ◌+◌, ◌<◌, ◌≤◌, length, vec_len, IfOk, IfSome};
+ghost use Rattle.std.specs.Prelude.{◌≡◌, ◌+◌, ◌<◌, ◌≤◌, length, vec_len, Some, IfOk, IfSome};
 ghost use Rattle.outside.specs.declared.slot.Stage.TheVariants.{Unopened};
 ghost use Rattle.outside.specs.declared.reading.SlurpFault.TheVariants.{Failed as ReadFailed, NoMemory};
 ghost use Rattle.outside.specs.Known.{Tells};
 ghost use Rattle.outside.specs.Slots.{SameBut};
 ghost use Rattle.outside.specs.Reading.{ReadsAll, ReadsBeyond, ReadsSome, FailsToRead};
 
+use crate::fault::Failed;
 use crate::files::Files;
-use crate::slot::{Failed, Slot};
+use crate::slot::Slot;
 use std::alloc::{AllocError, Global};
 use std::error::Error;
 use std::fmt;
@@ -26,6 +27,10 @@ pub enum SlurpFault {
 }
 
 impl fmt::Display for SlurpFault {
+    ghost use Rattle.outside.specs.SlurpFault.{text_of};
+
+    ghost output = { λ fault. Some (text_of fault) };
+
     fn fmt<W: fmt::Write>(&self, f: &mut fmt::Formatter<W>) -> fmt::Result {
         f.write_str(match self {
             SlurpFault::Failed => "reading failed",

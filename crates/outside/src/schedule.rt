@@ -1,12 +1,12 @@
 ghost use Rattle.std.specs.Prelude.{◌≡◌, ◌↔◌, ◌<◌, ◌≤◌, min, Contains, IfOk, IsErr, OnOk, OnErr};
 ghost use Rattle.outside.specs.Counts.{HasRisen};
-ghost use Rattle.outside.specs.Schedule.{count_of, with_count, counted};
+ghost use Rattle.outside.specs.Schedule.{count_of, with_count, counted, IsFresh};
 ghost use Rattle.outside.specs.contracts.schedule.CallCounts.{the_row as counts-row};
 ghost use Rattle.std.specs.Borrow.{sem, Lends, u64};
 
 use crate::count::next_count;
-use crate::slot::Failed;
-use std::alloc::{AllocError, Global};
+use crate::fault::{Failed, NoMemory};
+use std::alloc::Global;
 
 /// A kind of call to the outside.
 #[derive(Clone, Copy, Debug, PartialEq, Eq)]
@@ -72,9 +72,8 @@ pub struct Schedule {
 
 impl Schedule {
     /// A schedule by which these calls fail.
-    pub fn new(alloc: Global, failing: &[FailingCall]) -> Result<Self, AllocError>
-        ensures failing { IfOk result (λ schedule. schedule.failing.items ≡ failing.now) }
-        ensures faults { IfOk result (λ schedule. schedule.faults ≡ 0) }
+    pub fn new(alloc: Global, failing: &[FailingCall]) -> Result<Self, NoMemory>
+        ensures { IfOk result (IsFresh failing.now) }
     {
         Ok(Schedule {
             failing: Vec::from_slice(alloc, failing)?,

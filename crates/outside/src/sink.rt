@@ -1,7 +1,7 @@
 ghost use Rattle.std.specs.Prelude.{◌≡◌, ◌<◌, ◌≤◌, length, take, IfOk, OnOk, OnErr};
 ghost use Rattle.outside.specs.Sinks.{SinkState, SinkWrites, SinkCountsFault, flushed};
 
-use crate::slot::Failed;
+use crate::fault::Failed;
 
 /// What takes bytes, as standard output does.
 ///

@@ -1,6 +1,3 @@
-use std::error::Error;
-use std::fmt;
-
 /// The files of a run, each of which is opened once at most.
 #[derive(Clone, Copy, Debug, PartialEq, Eq)]
 pub enum Slot {
@@ -19,15 +16,3 @@ pub enum Stage {
     Open,
     Finished,
 }
-
-/// A call to the outside that failed. The object that it was made on has counted it.
-#[derive(Clone, Copy, Debug, PartialEq, Eq)]
-pub struct Failed;
-
-impl fmt::Display for Failed {
-    fn fmt<W: fmt::Write>(&self, f: &mut fmt::Formatter<W>) -> fmt::Result {
-        f.write_str("a call to the outside failed")
-    }
-}
-
-impl Error for Failed {}

@@ -3,8 +3,9 @@ ghost use Rattle.std.proofs.Common.{◌∙◌, subst};
 ghost use Rattle.outside.specs.declared.slot.Stage.TheVariants.{Open};
 ghost use Rattle.outside.specs.Slots.{SameBeside, same_beside-itself, same_beside-through, slot_view};
 
+use crate::fault::Failed;
 use crate::files::Files;
-use crate::slot::{Failed, Slot};
+use crate::slot::Slot;
 use crate::writer::Writer;
 
 /// A writer into an open slot of files that were lent. When it is let go, the files are as the
@@ -31,12 +32,12 @@ impl<'a, F: Files> SlotWriter<'a, F> {
 impl<'a, F: Files> Writer for SlotWriter<'a, F> {
     ghost state = { λ w. slot_view (F.state w.files.now w.slot) };
 
-    ghost SameElse = { λ a b. (b.files.ghost_name ≡ a.files.ghost_name) × (b.slot ≡ a.slot)
+    ghost same_else = { λ a b. (b.files.ghost_name ≡ a.files.ghost_name) × (b.slot ≡ a.slot)
         × SameBeside a.slot (F.state a.files.now) (F.state b.files.now) };
 
-    ghost same_as_itself = { λ w. (refl, refl, same_beside-itself w.slot (F.state w.files.now)) };
+    ghost same_else_itself = { λ w. (refl, refl, same_beside-itself w.slot (F.state w.files.now)) };
 
-    ghost same_through = { λ a b c h k. (
+    ghost same_else_through = { λ a b c h k. (
       k.0 ∙ h.0,
       k.1 ∙ h.1,
       same_beside-through a.slot (F.state a.files.now) (F.state b.files.now) (F.state c.files.now) h.2

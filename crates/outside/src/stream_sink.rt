@@ -2,8 +2,8 @@ ghost use Rattle.std.specs.Prelude.{◌≡◌};
 ghost use Rattle.outside.specs.System.{untold_sink};
 
 use crate::count::{counted, counted_write};
+use crate::fault::Failed;
 use crate::sink::Sink;
-use crate::slot::Failed;
 use std::io::Write;
 
 /// A writer of std as a sink, as standard output (`rt.stdout()`) and standard error (`rt.stderr()`).

@@ -1,13 +1,15 @@
 ghost use Rattle.std.specs.Prelude.{◌≡◌};
 ghost use Rattle.outside.specs.declared.slot.Slot.{Slot};
 ghost use Rattle.outside.specs.declared.slot.Stage.TheVariants.{Unopened as UnopenedStage};
+ghost use Rattle.outside.specs.Slots.{AllUnopened};
 ghost use Rattle.outside.specs.System.{untold_slot};
 
 use crate::count::{counted, counted_write};
 use crate::device::Device;
 use crate::devices::Devices;
+use crate::fault::Failed;
 use crate::files::Files;
-use crate::slot::{Failed, Slot};
+use crate::slot::Slot;
 use std::fs;
 use std::io::{Read, Write};
 
@@ -36,7 +38,7 @@ enum Handle<H> {
 #[derive(Drop)]
 pub struct SystemFile<'a, R: std::rt::Files> {
     rt: &'a R,
-    access: Access,
+    pub access: Access,
     handle: Handle<R::File>,
     faults: u64,
 }
@@ -44,7 +46,8 @@ pub struct SystemFile<'a, R: std::rt::Files> {
 impl<'a, R: std::rt::Files> SystemFile<'a, R> {
     /// An unopened file, which will be opened for this.
     pub fn new(rt: &'a R, access: Access) -> Self
-        ensures { ⟦<SystemFile<'a, R> as Device>⟧.state result ≡ untold_slot UnopenedStage 0 }
+        ensures state { ⟦<SystemFile<'a, R> as Device>⟧.state result ≡ untold_slot UnopenedStage 0 }
+        ensures access { result.access ≡ access }
     {
         SystemFile {
             rt,
@@ -111,7 +114,9 @@ pub type SystemFiles<'a, R> = Devices<SystemFile<'a, R>>;
 
 /// The files of a run on the system, all of them unopened.
 pub fn system_files<'a, R: std::rt::Files>(rt: &'a R) -> SystemFiles<'a, R>
-    ensures { (slot : Slot) → ⟦<Devices<SystemFile<'a, R>> as Files>⟧.state result slot ≡ untold_slot UnopenedStage 0 }
+    ensures unopened { AllUnopened (⟦<Devices<SystemFile<'a, R>> as Files>⟧.state result) }
+    ensures access { (result.instance.access ≡ Access.Read) × (result.cert_in.access ≡ Access.Read) × (result.cert_out.access ≡ Access.Write) }
+    ensures faults { (slot : Slot) → (⟦<Devices<SystemFile<'a, R>> as Files>⟧.state result slot).faults ≡ 0 }
 {
     Devices::new(
         SystemFile::new(rt, Access::Read),

@@ -19,7 +19,7 @@ use uc_model::{Field, Refusal, money_digits, whole_digits};
 fn write_usage<W: Writer>(out: &mut W) -> Result<(), Failed>
     ensures ok { OnOk result (WriterWrites usage_text (W.state out.old) (W.state out.new)) }
     ensures failed { OnErr result (WritesFront usage_text (W.state out.old) (W.state out.new)) }
-    ensures rest { W.SameElse out.old out.new }
+    ensures rest { W.same_else out.old out.new }
 {
     write_pieces(
         out,
@@ -94,7 +94,7 @@ fn json_fault(kind: u8) -> &'static [u8]
 fn write_json<W: Writer>(out: &mut W, at: usize, kind: u8) -> Result<(), Failed>
     ensures ok { OnOk result (WriterWrites (json_line at kind) (W.state out.old) (W.state out.new)) }
     ensures failed { OnErr result (WritesFront (json_line at kind) (W.state out.old) (W.state out.new)) }
-    ensures rest { W.SameElse out.old out.new }
+    ensures rest { W.same_else out.old out.new }
 {
     let mut buffer = Buffer::new();
     write_pieces(
@@ -146,7 +146,7 @@ fn field_name(field: &Field) -> &'static [u8]
 fn write_code<W: Writer>(out: &mut W, code: u8) -> Result<(), Failed>
     ensures ok { OnOk result (WriterWrites (code_text code) (W.state out.old) (W.state out.new)) }
     ensures failed { OnErr result (WritesFront (code_text code) (W.state out.old) (W.state out.new)) }
-    ensures rest { W.SameElse out.old out.new }
+    ensures rest { W.same_else out.old out.new }
 {
     let mut buffer = Buffer::new();
     write_pieces(
@@ -159,7 +159,7 @@ fn write_code<W: Writer>(out: &mut W, code: u8) -> Result<(), Failed>
 fn write_owner<W: Writer>(out: &mut W, kind: u8, name: &str) -> Result<(), Failed>
     ensures ok { OnOk result (WriterWrites (owner_text kind name.now) (W.state out.old) (W.state out.new)) }
     ensures failed { OnErr result (WritesFront (owner_text kind name.now) (W.state out.old) (W.state out.new)) }
-    ensures rest { W.SameElse out.old out.new }
+    ensures rest { W.same_else out.old out.new }
 {
     if kind == 1 {
         write_unit(out, b" thermal", name)
@@ -174,7 +174,7 @@ fn write_owner<W: Writer>(out: &mut W, kind: u8, name: &str) -> Result<(), Faile
 fn write_field_and_entry<W: Writer>(out: &mut W, field: &Field, entry: u32) -> Result<(), Failed>
     ensures ok { OnOk result (WriterWrites (field_and_entry field.now entry) (W.state out.old) (W.state out.new)) }
     ensures failed { OnErr result (WritesFront (field_and_entry field.now entry) (W.state out.old) (W.state out.new)) }
-    ensures rest { W.SameElse out.old out.new }
+    ensures rest { W.same_else out.old out.new }
 {
     if entry == 0 {
         return write_pieces(out, &[field_name(field), b"\n"]);
@@ -200,7 +200,7 @@ fn write_place<W: Writer>(
 ) -> Result<(), Failed>
     ensures ok { OnOk result (WriterWrites (owner_text kind name.now ++ field_and_entry field.now entry) (W.state out.old) (W.state out.new)) }
     ensures failed { OnErr result (WritesFront (owner_text kind name.now ++ field_and_entry field.now entry) (W.state out.old) (W.state out.new)) }
-    ensures rest { W.SameElse out.old out.new }
+    ensures rest { W.same_else out.old out.new }
 {
     write_owner(out, kind, name)?;
     write_field_and_entry(out, field, entry)
@@ -217,7 +217,7 @@ fn write_instance<W: Writer>(
 ) -> Result<(), Failed>
     ensures ok { OnOk result (WriterWrites (instance_line code kind name.now field.now entry) (W.state out.old) (W.state out.new)) }
     ensures failed { OnErr result (WritesFront (instance_line code kind name.now field.now entry) (W.state out.old) (W.state out.new)) }
-    ensures rest { W.SameElse out.old out.new }
+    ensures rest { W.same_else out.old out.new }
 {
     write_code(out, code)?;
     write_place(out, kind, name, field, entry)
@@ -239,7 +239,7 @@ fn line_fault(kind: u8) -> &'static [u8]
 fn write_certificate_line<W: Writer>(out: &mut W, number: u64, kind: u8) -> Result<(), Failed>
     ensures ok { OnOk result (WriterWrites (certificate_line number kind) (W.state out.old) (W.state out.new)) }
     ensures failed { OnErr result (WritesFront (certificate_line number kind) (W.state out.old) (W.state out.new)) }
-    ensures rest { W.SameElse out.old out.new }
+    ensures rest { W.same_else out.old out.new }
 {
     let mut buffer = Buffer::new();
     write_pieces(
@@ -259,7 +259,7 @@ fn write_certificate_line<W: Writer>(out: &mut W, number: u64, kind: u8) -> Resu
 fn write_numbered<W: Writer>(out: &mut W, words: &[u8], number: u64) -> Result<(), Failed>
     ensures ok { OnOk result (WriterWrites (line words.now (whole_text number ∷ [])) (W.state out.old) (W.state out.new)) }
     ensures failed { OnErr result (WritesFront (line words.now (whole_text number ∷ [])) (W.state out.old) (W.state out.new)) }
-    ensures rest { W.SameElse out.old out.new }
+    ensures rest { W.same_else out.old out.new }
 {
     let mut buffer = Buffer::new();
     write_pieces(
@@ -279,7 +279,7 @@ fn write_unit_rule<W: Writer>(
 ) -> Result<(), Failed>
     ensures ok { OnOk result (WriterWrites (unit_rule_line rule kind.now unit period) (W.state out.old) (W.state out.new)) }
     ensures failed { OnErr result (WritesFront (unit_rule_line rule kind.now unit period) (W.state out.old) (W.state out.new)) }
-    ensures rest { W.SameElse out.old out.new }
+    ensures rest { W.same_else out.old out.new }
 {
     let mut first = Buffer::new();
     let mut second = Buffer::new();
@@ -305,7 +305,7 @@ fn write_unit_rule<W: Writer>(
 fn write_period_rule<W: Writer>(out: &mut W, rule: u8, period: usize) -> Result<(), Failed>
     ensures ok { OnOk result (WriterWrites (period_rule_line rule period) (W.state out.old) (W.state out.new)) }
     ensures failed { OnErr result (WritesFront (period_rule_line rule period) (W.state out.old) (W.state out.new)) }
-    ensures rest { W.SameElse out.old out.new }
+    ensures rest { W.same_else out.old out.new }
 {
     let mut first = Buffer::new();
     let mut second = Buffer::new();
@@ -324,7 +324,7 @@ fn write_period_rule<W: Writer>(out: &mut W, rule: u8, period: usize) -> Result<
 fn write_rule<W: Writer>(out: &mut W, rule: u8, unit: usize, period: usize) -> Result<(), Failed>
     ensures ok { OnOk result (WriterWrites (rule_line rule unit period) (W.state out.old) (W.state out.new)) }
     ensures failed { OnErr result (WritesFront (rule_line rule unit period) (W.state out.old) (W.state out.new)) }
-    ensures rest { W.SameElse out.old out.new }
+    ensures rest { W.same_else out.old out.new }
 {
     if rule == 13 {
         write_unit_rule(out, rule, b"renewable", unit, period)
@@ -339,7 +339,7 @@ fn write_rule<W: Writer>(out: &mut W, rule: u8, unit: usize, period: usize) -> R
 fn write_costs<W: Writer>(out: &mut W, written: &i128, computed: &i64) -> Result<(), Failed>
     ensures ok { OnOk result (WriterWrites (costs_line written.now computed.now) (W.state out.old) (W.state out.new)) }
     ensures failed { OnErr result (WritesFront (costs_line written.now computed.now) (W.state out.old) (W.state out.new)) }
-    ensures rest { W.SameElse out.old out.new }
+    ensures rest { W.same_else out.old out.new }
 {
     let mut first = [0; 48];
     let mut second = [0; 48];
@@ -373,7 +373,7 @@ fn wrong_size() -> &'static [u8]
 fn write_refusal<W: Writer>(out: &mut W, refusal: &Refusal) -> Result<(), Failed>
     ensures ok { OnOk result (WriterWrites (refusal_line refusal.now) (W.state out.old) (W.state out.new)) }
     ensures failed { OnErr result (WritesFront (refusal_line refusal.now) (W.state out.old) (W.state out.new)) }
-    ensures rest { W.SameElse out.old out.new }
+    ensures rest { W.same_else out.old out.new }
 {
     match refusal {
         Refusal::C1 { table } => write_numbered(out, b"certificate: C1 table", u64::from(*table)),
@@ -391,7 +391,7 @@ fn write_refusal<W: Writer>(out: &mut W, refusal: &Refusal) -> Result<(), Failed
 fn write_text<W: Writer>(out: &mut W, fault: &Fault) -> Result<(), Failed>
     ensures ok { OnOk result (WriterWrites (fault_text fault.now) (W.state out.old) (W.state out.new)) }
     ensures failed { OnErr result (WritesFront (fault_text fault.now) (W.state out.old) (W.state out.new)) }
-    ensures rest { W.SameElse out.old out.new }
+    ensures rest { W.same_else out.old out.new }
 {
     match fault {
         Fault::Words => write_usage(out),

@@ -21,7 +21,7 @@ use uc_model::{Instance, Printed, money_digits, whole_digits};
 fn write_size<W: Writer>(out: &mut W, instance: &Instance, rounded: u64) -> Result<(), Failed>
     ensures ok { OnOk result (WriterWrites (size_line instance.now rounded) (W.state out.old) (W.state out.new)) }
     ensures failed { OnErr result (WritesFront (size_line instance.now rounded) (W.state out.old) (W.state out.new)) }
-    ensures rest { W.SameElse out.old out.new }
+    ensures rest { W.same_else out.old out.new }
 {
     let thermal = instance.thermal.as_slice().len();
     let renewable = instance.renewable.as_slice().len();
@@ -72,7 +72,7 @@ pub fn is_closed(found: &Found, gap: u32) -> bool
 fn write_state<W: Writer>(out: &mut W, closed: bool) -> Result<(), Failed>
     ensures ok { OnOk result (WriterWrites (state_line closed) (W.state out.old) (W.state out.new)) }
     ensures failed { OnErr result (WritesFront (state_line closed) (W.state out.old) (W.state out.new)) }
-    ensures rest { W.SameElse out.old out.new }
+    ensures rest { W.same_else out.old out.new }
 {
     if closed {
         write_all(out, b"closed\n")
@@ -85,7 +85,7 @@ fn write_state<W: Writer>(out: &mut W, closed: bool) -> Result<(), Failed>
 fn write_cost<W: Writer>(out: &mut W, cost: &i64) -> Result<(), Failed>
     ensures ok { OnOk result (WriterWrites (cost_line cost.now) (W.state out.old) (W.state out.new)) }
     ensures failed { OnErr result (WritesFront (cost_line cost.now) (W.state out.old) (W.state out.new)) }
-    ensures rest { W.SameElse out.old out.new }
+    ensures rest { W.same_else out.old out.new }
 {
     let mut buffer = [0; 48];
     write_pieces(out, &[b"cost ", amount_digits(&mut buffer, cost), b"\n"])
@@ -95,7 +95,7 @@ fn write_cost<W: Writer>(out: &mut W, cost: &i64) -> Result<(), Failed>
 fn write_bound<W: Writer>(out: &mut W, bound: &Option<i128>) -> Result<(), Failed>
     ensures ok { OnOk result (WriterWrites (bound_line bound.now) (W.state out.old) (W.state out.new)) }
     ensures failed { OnErr result (WritesFront (bound_line bound.now) (W.state out.old) (W.state out.new)) }
-    ensures rest { W.SameElse out.old out.new }
+    ensures rest { W.same_else out.old out.new }
 {
     match bound {
         Some(bound) => {
@@ -111,7 +111,7 @@ fn write_bound<W: Writer>(out: &mut W, bound: &Option<i128>) -> Result<(), Faile
 fn write_evaluations<W: Writer>(out: &mut W, found: &Found) -> Result<(), Failed>
     ensures ok { OnOk result (WriterWrites (evaluations_line found.now) (W.state out.old) (W.state out.new)) }
     ensures failed { OnErr result (WritesFront (evaluations_line found.now) (W.state out.old) (W.state out.new)) }
-    ensures rest { W.SameElse out.old out.new }
+    ensures rest { W.same_else out.old out.new }
 {
     let count = found.log.as_slice().len();
     let mut buffer = Buffer::new();
@@ -128,7 +128,7 @@ fn write_evaluations<W: Writer>(out: &mut W, found: &Found) -> Result<(), Failed
 fn write_bound_lines<W: Writer>(out: &mut W, found: &Found) -> Result<(), Failed>
     ensures ok { OnOk result (WriterWrites (bound_lines found.now) (W.state out.old) (W.state out.new)) }
     ensures failed { OnErr result (WritesFront (bound_lines found.now) (W.state out.old) (W.state out.new)) }
-    ensures rest { W.SameElse out.old out.new }
+    ensures rest { W.same_else out.old out.new }
 {
     write_bound(out, &found.tree.bound())?;
     write_evaluations(out, found)
@@ -137,7 +137,7 @@ fn write_bound_lines<W: Writer>(out: &mut W, found: &Found) -> Result<(), Failed
 fn write_cost_lines<W: Writer>(out: &mut W, found: &Found, cost: &i64) -> Result<(), Failed>
     ensures ok { OnOk result (WriterWrites (cost_lines found.now cost.now) (W.state out.old) (W.state out.new)) }
     ensures failed { OnErr result (WritesFront (cost_lines found.now cost.now) (W.state out.old) (W.state out.new)) }
-    ensures rest { W.SameElse out.old out.new }
+    ensures rest { W.same_else out.old out.new }
 {
     write_cost(out, cost)?;
     write_bound_lines(out, found)
@@ -152,7 +152,7 @@ fn write_result_lines<W: Writer>(
     requires { gap ≤ WHOLE_GAP }
     ensures ok { OnOk result (WriterWrites (result_lines found.now gap cost.now) (W.state out.old) (W.state out.new)) }
     ensures failed { OnErr result (WritesFront (result_lines found.now gap cost.now) (W.state out.old) (W.state out.new)) }
-    ensures rest { W.SameElse out.old out.new }
+    ensures rest { W.same_else out.old out.new }
 {
     write_state(out, is_within(cost, &found.tree.bound(), gap))?;
     write_cost_lines(out, found, cost)
@@ -169,7 +169,7 @@ fn write_schedule_report<W: Writer>(
     requires { gap ≤ WHOLE_GAP }
     ensures ok { OnOk result (WriterWrites (schedule_report instance.now found.now gap printed.now cost.now) (W.state out.old) (W.state out.new)) }
     ensures failed { OnErr result (WritesFront (schedule_report instance.now found.now gap printed.now cost.now) (W.state out.old) (W.state out.new)) }
-    ensures rest { W.SameElse out.old out.new }
+    ensures rest { W.same_else out.old out.new }
 {
     write_result_lines(out, found, cost, gap)?;
     write_schedule(out, instance, printed)
@@ -182,7 +182,7 @@ fn write_open_lines<W: Writer>(
 ) -> Result<(), Failed>
     ensures ok { OnOk result (WriterWrites (open_lines instance.now found.now) (W.state out.old) (W.state out.new)) }
     ensures failed { OnErr result (WritesFront (open_lines instance.now found.now) (W.state out.old) (W.state out.new)) }
-    ensures rest { W.SameElse out.old out.new }
+    ensures rest { W.same_else out.old out.new }
 {
     write_bound_lines(out, found)?;
     write_stuck(out, instance, &found.most_on)
@@ -192,7 +192,7 @@ fn write_open_lines<W: Writer>(
 fn write_no_schedule<W: Writer>(out: &mut W) -> Result<(), Failed>
     ensures ok { OnOk result (WriterWrites (line (codes "budget spent, no schedule found") []) (W.state out.old) (W.state out.new)) }
     ensures failed { OnErr result (WritesFront (line (codes "budget spent, no schedule found") []) (W.state out.old) (W.state out.new)) }
-    ensures rest { W.SameElse out.old out.new }
+    ensures rest { W.same_else out.old out.new }
 {
     write_all(out, b"budget spent, no schedule found\n")
 }
@@ -201,7 +201,7 @@ fn write_no_schedule<W: Writer>(out: &mut W) -> Result<(), Failed>
 fn write_infeasible<W: Writer>(out: &mut W) -> Result<(), Failed>
     ensures ok { OnOk result (WriterWrites (line (codes "infeasible") []) (W.state out.old) (W.state out.new)) }
     ensures failed { OnErr result (WritesFront (line (codes "infeasible") []) (W.state out.old) (W.state out.new)) }
-    ensures rest { W.SameElse out.old out.new }
+    ensures rest { W.same_else out.old out.new }
 {
     write_all(out, b"infeasible\n")
 }
@@ -213,7 +213,7 @@ fn write_no_schedule_report<W: Writer>(
 ) -> Result<(), Failed>
     ensures ok { OnOk result (WriterWrites (no_schedule_report instance.now found.now (tree_bound found.now.tree)) (W.state out.old) (W.state out.new)) }
     ensures failed { OnErr result (WritesFront (no_schedule_report instance.now found.now (tree_bound found.now.tree)) (W.state out.old) (W.state out.new)) }
-    ensures rest { W.SameElse out.old out.new }
+    ensures rest { W.same_else out.old out.new }
 {
     match found.tree.bound() {
         Some(_) => {
@@ -236,7 +236,7 @@ fn write_outcome<W: Writer>(
     requires { gap ≤ WHOLE_GAP }
     ensures ok { OnOk result (WriterWrites (outcome_report instance.now found.now gap found.now.schedule) (W.state out.old) (W.state out.new)) }
     ensures failed { OnErr result (WritesFront (outcome_report instance.now found.now gap found.now.schedule) (W.state out.old) (W.state out.new)) }
-    ensures rest { W.SameElse out.old out.new }
+    ensures rest { W.same_else out.old out.new }
 {
     match &found.schedule {
         Some((printed, cost)) => write_schedule_report(out, found, instance, gap, printed, cost),
@@ -254,7 +254,7 @@ fn write_report<W: Writer>(
     requires { gap ≤ WHOLE_GAP }
     ensures ok { OnOk result (WriterWrites (found_report instance.now found.now rounded gap) (W.state out.old) (W.state out.new)) }
     ensures failed { OnErr result (WritesFront (found_report instance.now found.now rounded gap) (W.state out.old) (W.state out.new)) }
-    ensures rest { W.SameElse out.old out.new }
+    ensures rest { W.same_else out.old out.new }
 {
     write_size(out, instance, rounded)?;
     write_outcome(out, found, instance, gap)

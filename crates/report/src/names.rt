@@ -22,7 +22,7 @@ fn hex_byte(digit: u8) -> u8
 fn write_escaped<W: Writer>(out: &mut W, byte: u8) -> Result<(), Failed>
     ensures ok { OnOk result (WriterWrites (escaped byte) (W.state out.old) (W.state out.new)) }
     ensures failed { OnErr result (WritesFront (escaped byte) (W.state out.old) (W.state out.new)) }
-    ensures rest { W.SameElse out.old out.new }
+    ensures rest { W.same_else out.old out.new }
 {
     if byte == b'"' {
         write_all(out, b"\\\"")
@@ -48,7 +48,7 @@ fn write_escaped<W: Writer>(out: &mut W, byte: u8) -> Result<(), Failed>
 fn write_letters<W: Writer>(out: &mut W, name: &[u8]) -> Result<(), Failed>
     ensures ok { OnOk result (WriterWrites (flat_map escaped name.now) (W.state out.old) (W.state out.new)) }
     ensures failed { OnErr result (WritesFront (flat_map escaped name.now) (W.state out.old) (W.state out.new)) }
-    ensures rest { W.SameElse out.old out.new }
+    ensures rest { W.same_else out.old out.new }
 {
     for byte in name {
         write_escaped(out, *byte)?;
@@ -59,7 +59,7 @@ fn write_letters<W: Writer>(out: &mut W, name: &[u8]) -> Result<(), Failed>
 fn write_letters_and_quote<W: Writer>(out: &mut W, name: &[u8]) -> Result<(), Failed>
     ensures ok { OnOk result (WriterWrites (flat_map escaped name.now ++ 34 ∷ []) (W.state out.old) (W.state out.new)) }
     ensures failed { OnErr result (WritesFront (flat_map escaped name.now ++ 34 ∷ []) (W.state out.old) (W.state out.new)) }
-    ensures rest { W.SameElse out.old out.new }
+    ensures rest { W.same_else out.old out.new }
 {
     write_letters(out, name)?;
     write_all(out, b"\"")
@@ -70,7 +70,7 @@ fn write_letters_and_quote<W: Writer>(out: &mut W, name: &[u8]) -> Result<(), Fa
 pub(crate) fn write_unit<W: Writer>(out: &mut W, kind: &[u8], name: &str) -> Result<(), Failed>
     ensures ok { OnOk result (WriterWrites (unit_words kind.now name.now) (W.state out.old) (W.state out.new)) }
     ensures failed { OnErr result (WritesFront (unit_words kind.now name.now) (W.state out.old) (W.state out.new)) }
-    ensures rest { W.SameElse out.old out.new }
+    ensures rest { W.same_else out.old out.new }
 {
     write_pieces(out, &[kind, b" \""])?;
     write_letters_and_quote(out, name.as_bytes())

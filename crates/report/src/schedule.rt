@@ -16,7 +16,7 @@ use uc_model::{Cell, Instance, List, Printed, Renewable, Thermal, money_digits, 
 fn write_start<W: Writer>(out: &mut W, category: u8) -> Result<(), Failed>
     ensures ok { OnOk result (WriterWrites (start_text category) (W.state out.old) (W.state out.new)) }
     ensures failed { OnErr result (WritesFront (start_text category) (W.state out.old) (W.state out.new)) }
-    ensures rest { W.SameElse out.old out.new }
+    ensures rest { W.same_else out.old out.new }
 {
     if category == 0 {
         return write_all(out, b"");
@@ -36,7 +36,7 @@ fn total_output(unit: &Thermal, cell: &Cell) -> i128
 fn write_power<W: Writer>(out: &mut W, unit: &Thermal, cell: &Cell) -> Result<(), Failed>
     ensures ok { OnOk result (WriterWrites (32 ∷ power_text unit.now cell.now) (W.state out.old) (W.state out.new)) }
     ensures failed { OnErr result (WritesFront (32 ∷ power_text unit.now cell.now) (W.state out.old) (W.state out.new)) }
-    ensures rest { W.SameElse out.old out.new }
+    ensures rest { W.same_else out.old out.new }
 {
     let mut output = [0; 48];
     let mut reserve = [0; 48];
@@ -55,7 +55,7 @@ fn write_power<W: Writer>(out: &mut W, unit: &Thermal, cell: &Cell) -> Result<()
 fn write_cell<W: Writer>(out: &mut W, unit: &Thermal, cell: &Cell) -> Result<(), Failed>
     ensures ok { OnOk result (WriterWrites (32 ∷ cell_text unit.now cell.now) (W.state out.old) (W.state out.new)) }
     ensures failed { OnErr result (WritesFront (32 ∷ cell_text unit.now cell.now) (W.state out.old) (W.state out.new)) }
-    ensures rest { W.SameElse out.old out.new }
+    ensures rest { W.same_else out.old out.new }
 {
     if cell.on {
         write_power(out, unit, cell)?;
@@ -68,7 +68,7 @@ fn write_cell<W: Writer>(out: &mut W, unit: &Thermal, cell: &Cell) -> Result<(),
 fn write_cells<W: Writer>(out: &mut W, unit: &Thermal, cells: &[Cell]) -> Result<(), Failed>
     ensures ok { OnOk result (WriterWrites (words_of (cell_text unit.now) cells.now) (W.state out.old) (W.state out.new)) }
     ensures failed { OnErr result (WritesFront (words_of (cell_text unit.now) cells.now) (W.state out.old) (W.state out.new)) }
-    ensures rest { W.SameElse out.old out.new }
+    ensures rest { W.same_else out.old out.new }
 {
     for cell in cells {
         write_cell(out, unit, cell)?;
@@ -79,7 +79,7 @@ fn write_cells<W: Writer>(out: &mut W, unit: &Thermal, cells: &[Cell]) -> Result
 fn write_cells_and_end<W: Writer>(out: &mut W, unit: &Thermal, cells: &[Cell]) -> Result<(), Failed>
     ensures ok { OnOk result (WriterWrites (words_of (cell_text unit.now) cells.now ++ 10 ∷ []) (W.state out.old) (W.state out.new)) }
     ensures failed { OnErr result (WritesFront (words_of (cell_text unit.now) cells.now ++ 10 ∷ []) (W.state out.old) (W.state out.new)) }
-    ensures rest { W.SameElse out.old out.new }
+    ensures rest { W.same_else out.old out.new }
 {
     write_cells(out, unit, cells)?;
     write_all(out, b"\n")
@@ -89,7 +89,7 @@ fn write_cells_and_end<W: Writer>(out: &mut W, unit: &Thermal, cells: &[Cell]) -
 fn write_thermal_line<W: Writer>(out: &mut W, unit: &Thermal, cells: &[Cell]) -> Result<(), Failed>
     ensures ok { OnOk result (WriterWrites (thermal_line unit.now cells.now) (W.state out.old) (W.state out.new)) }
     ensures failed { OnErr result (WritesFront (thermal_line unit.now cells.now) (W.state out.old) (W.state out.new)) }
-    ensures rest { W.SameElse out.old out.new }
+    ensures rest { W.same_else out.old out.new }
 {
     write_unit(out, b"thermal", unit.name.as_str())?;
     write_cells_and_end(out, unit, cells)
@@ -99,7 +99,7 @@ fn write_thermal_line<W: Writer>(out: &mut W, unit: &Thermal, cells: &[Cell]) ->
 fn write_output<W: Writer>(out: &mut W, output: &i64) -> Result<(), Failed>
     ensures ok { OnOk result (WriterWrites (32 ∷ money_text output.now) (W.state out.old) (W.state out.new)) }
     ensures failed { OnErr result (WritesFront (32 ∷ money_text output.now) (W.state out.old) (W.state out.new)) }
-    ensures rest { W.SameElse out.old out.new }
+    ensures rest { W.same_else out.old out.new }
 {
     let mut buffer = [0; 48];
     write_pieces(out, &[b" ", amount_digits(&mut buffer, output)])
@@ -108,7 +108,7 @@ fn write_output<W: Writer>(out: &mut W, output: &i64) -> Result<(), Failed>
 fn write_outputs<W: Writer>(out: &mut W, outputs: &[i64]) -> Result<(), Failed>
     ensures ok { OnOk result (WriterWrites (words_of money_text outputs.now) (W.state out.old) (W.state out.new)) }
     ensures failed { OnErr result (WritesFront (words_of money_text outputs.now) (W.state out.old) (W.state out.new)) }
-    ensures rest { W.SameElse out.old out.new }
+    ensures rest { W.same_else out.old out.new }
 {
     for output in outputs {
         write_output(out, output)?;
@@ -119,7 +119,7 @@ fn write_outputs<W: Writer>(out: &mut W, outputs: &[i64]) -> Result<(), Failed>
 fn write_outputs_and_end<W: Writer>(out: &mut W, outputs: &[i64]) -> Result<(), Failed>
     ensures ok { OnOk result (WriterWrites (words_of money_text outputs.now ++ 10 ∷ []) (W.state out.old) (W.state out.new)) }
     ensures failed { OnErr result (WritesFront (words_of money_text outputs.now ++ 10 ∷ []) (W.state out.old) (W.state out.new)) }
-    ensures rest { W.SameElse out.old out.new }
+    ensures rest { W.same_else out.old out.new }
 {
     write_outputs(out, outputs)?;
     write_all(out, b"\n")
@@ -133,7 +133,7 @@ fn write_renewable_line<W: Writer>(
 ) -> Result<(), Failed>
     ensures ok { OnOk result (WriterWrites (renewable_line unit.now outputs.now) (W.state out.old) (W.state out.new)) }
     ensures failed { OnErr result (WritesFront (renewable_line unit.now outputs.now) (W.state out.old) (W.state out.new)) }
-    ensures rest { W.SameElse out.old out.new }
+    ensures rest { W.same_else out.old out.new }
 {
     write_unit(out, b"renewable", unit.name.as_str())?;
     write_outputs_and_end(out, outputs)
@@ -146,7 +146,7 @@ fn write_thermal_lines<W: Writer>(
 ) -> Result<(), Failed>
     ensures ok { OnOk result (WriterWrites (thermal_lines units.now rows.now) (W.state out.old) (W.state out.new)) }
     ensures failed { OnErr result (WritesFront (thermal_lines units.now rows.now) (W.state out.old) (W.state out.new)) }
-    ensures rest { W.SameElse out.old out.new }
+    ensures rest { W.same_else out.old out.new }
 {
     for (unit, row) in units.iter().zip(rows) {
         write_thermal_line(out, unit, row.as_slice())?;
@@ -161,7 +161,7 @@ fn write_renewable_lines<W: Writer>(
 ) -> Result<(), Failed>
     ensures ok { OnOk result (WriterWrites (renewable_lines units.now rows.now) (W.state out.old) (W.state out.new)) }
     ensures failed { OnErr result (WritesFront (renewable_lines units.now rows.now) (W.state out.old) (W.state out.new)) }
-    ensures rest { W.SameElse out.old out.new }
+    ensures rest { W.same_else out.old out.new }
 {
     for (unit, row) in units.iter().zip(rows) {
         write_renewable_line(out, unit, row.as_slice())?;
@@ -177,7 +177,7 @@ pub(crate) fn write_schedule<W: Writer>(
 ) -> Result<(), Failed>
     ensures ok { OnOk result (WriterWrites (schedule_lines instance.now printed.now) (W.state out.old) (W.state out.new)) }
     ensures failed { OnErr result (WritesFront (schedule_lines instance.now printed.now) (W.state out.old) (W.state out.new)) }
-    ensures rest { W.SameElse out.old out.new }
+    ensures rest { W.same_else out.old out.new }
 {
     write_thermal_lines(out, instance.thermal.as_slice(), printed.thermal.as_slice())?;
     write_renewable_lines(

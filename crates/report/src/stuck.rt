@@ -27,7 +27,7 @@ fn thermal_name(instance: &Instance, unit: usize) -> &str
 fn write_thermal<W: Writer>(out: &mut W, instance: &Instance, unit: usize) -> Result<(), Failed>
     ensures ok { OnOk result (WriterWrites (thermal_words instance.now unit) (W.state out.old) (W.state out.new)) }
     ensures failed { OnErr result (WritesFront (thermal_words instance.now unit) (W.state out.old) (W.state out.new)) }
-    ensures rest { W.SameElse out.old out.new }
+    ensures rest { W.same_else out.old out.new }
 {
     write_unit(out, b"thermal", thermal_name(instance, unit))
 }
@@ -41,7 +41,7 @@ fn write_rule<W: Writer>(
 ) -> Result<(), Failed>
     ensures ok { OnOk result (WriterWrites (line (thermal_words instance.now unit) (codes "breaks" ∷ (codes "M" ++ whole_text rule) ∷ [])) (W.state out.old) (W.state out.new)) }
     ensures failed { OnErr result (WritesFront (line (thermal_words instance.now unit) (codes "breaks" ∷ (codes "M" ++ whole_text rule) ∷ [])) (W.state out.old) (W.state out.new)) }
-    ensures rest { W.SameElse out.old out.new }
+    ensures rest { W.same_else out.old out.new }
 {
     write_thermal(out, instance, unit)?;
     let mut buffer = Buffer::new();
@@ -60,7 +60,7 @@ fn write_rule<W: Writer>(
 fn write_range<W: Writer>(out: &mut W, low: &i64, high: &i64) -> Result<(), Failed>
     ensures ok { OnOk result (WriterWrites (range_text low.now high.now) (W.state out.old) (W.state out.new)) }
     ensures failed { OnErr result (WritesFront (range_text low.now high.now) (W.state out.old) (W.state out.new)) }
-    ensures rest { W.SameElse out.old out.new }
+    ensures rest { W.same_else out.old out.new }
 {
     let mut first = [0; 48];
     let mut second = [0; 48];
@@ -85,7 +85,7 @@ fn write_box<W: Writer>(
 ) -> Result<(), Failed>
     ensures ok { OnOk result (WriterWrites (thermal_words instance.now unit ++ range_text low.now high.now) (W.state out.old) (W.state out.new)) }
     ensures failed { OnErr result (WritesFront (thermal_words instance.now unit ++ range_text low.now high.now) (W.state out.old) (W.state out.new)) }
-    ensures rest { W.SameElse out.old out.new }
+    ensures rest { W.same_else out.old out.new }
 {
     write_thermal(out, instance, unit)?;
     write_range(out, low, high)
@@ -102,7 +102,7 @@ fn write_misfit<W: Writer>(
 ) -> Result<(), Failed>
     ensures ok { OnOk result (WriterWrites (line what.now (money_text power.now ∷ relation.now ∷ money_text other.now ∷ [])) (W.state out.old) (W.state out.new)) }
     ensures failed { OnErr result (WritesFront (line what.now (money_text power.now ∷ relation.now ∷ money_text other.now ∷ [])) (W.state out.old) (W.state out.new)) }
-    ensures rest { W.SameElse out.old out.new }
+    ensures rest { W.same_else out.old out.new }
 {
     let mut first = [0; 48];
     let mut second = [0; 48];
@@ -124,7 +124,7 @@ fn write_misfit<W: Writer>(
 fn write_why<W: Writer>(out: &mut W, instance: &Instance, why: &Why) -> Result<(), Failed>
     ensures ok { OnOk result (WriterWrites (why_line instance.now why.now) (W.state out.old) (W.state out.new)) }
     ensures failed { OnErr result (WritesFront (why_line instance.now why.now) (W.state out.old) (W.state out.new)) }
-    ensures rest { W.SameElse out.old out.new }
+    ensures rest { W.same_else out.old out.new }
 {
     match why {
         Why::Rule { rule, unit } => write_rule(out, instance, *rule, *unit),
@@ -144,7 +144,7 @@ fn write_why<W: Writer>(out: &mut W, instance: &Instance, why: &Why) -> Result<(
 fn write_period<W: Writer>(out: &mut W, period: usize) -> Result<(), Failed>
     ensures ok { OnOk result (WriterWrites (stuck_period period) (W.state out.old) (W.state out.new)) }
     ensures failed { OnErr result (WritesFront (stuck_period period) (W.state out.old) (W.state out.new)) }
-    ensures rest { W.SameElse out.old out.new }
+    ensures rest { W.same_else out.old out.new }
 {
     let mut buffer = Buffer::new();
     write_pieces(
@@ -165,7 +165,7 @@ pub(crate) fn write_stuck<W: Writer>(
 ) -> Result<(), Failed>
     ensures ok { OnOk result (WriterWrites (stuck_line instance.now stuck.now) (W.state out.old) (W.state out.new)) }
     ensures failed { OnErr result (WritesFront (stuck_line instance.now stuck.now) (W.state out.old) (W.state out.new)) }
-    ensures rest { W.SameElse out.old out.new }
+    ensures rest { W.same_else out.old out.new }
 {
     match stuck {
         Some(stuck) => {

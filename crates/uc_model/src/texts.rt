@@ -4,9 +4,8 @@ ghost use Rattle.std.specs.Prelude.{◌≡◌};
 ghost use Rattle.uc_model.specs.Decimal.{whole_text, signed_text};
 ghost use Rattle.uc_model.specs.Money.{money_text};
 
-use itoa::Buffer;
-
 use crate::money::write_money;
+use itoa::Buffer;
 
 /// The digits of a number, without leading zeros.
 pub fn whole_digits(buffer: &mut Buffer, n: u64) -> &[u8]

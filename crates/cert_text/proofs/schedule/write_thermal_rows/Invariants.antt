@@ -7,5 +7,5 @@ use Rattle.cert_text.proofs.schedule.write_thermal_rows.Given as goal
 abbrev pub invariant-loop-row : goal.invariant-loop-row
 invariant-loop-row g l = let state = g.W.Writer.state in record {
   written : WriterWrites (flat_map thermal_line (take l.row-index l.rows)) (state l.initial.out) (state l.out);
-  same : g.W.Writer.SameElse l.initial.out l.out;
+  same : g.W.Writer.same_else l.initial.out l.out;
 }

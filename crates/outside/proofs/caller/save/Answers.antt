@@ -1,10 +1,8 @@
-use Rattle.std.proofs.Common.{ap, sym}
 use Rattle.std.proofs.lemmas.Grind.{common_steps}
 use Rattle.std.proofs.Common.{arith}
 use Rattle.std.proofs.lemmas.Result.{on_err_weaker}
 use Rattle.outside.specs.declared.slot.Slot.TheVariants.{CertOut}
 use Rattle.outside.specs.Known.{Appends}
-use Rattle.outside.specs.Slots.{CountsFault}
 use Rattle.outside.proofs.Appending.{all-appended, appended-since-nothing}
 use Rattle.outside.proofs.caller.save.Goals as goal
 

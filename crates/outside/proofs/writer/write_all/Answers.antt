@@ -10,5 +10,5 @@ pub loop-done-preserved : goal.loop-done-preserved
 loop-done-preserved g c = record {
   within = omega (arith, length-drop {A = ℕ}, length-take {A = ℕ}, c.in_ok-done.ensures.bound);
   written = writes-more _ _ _ _ _ _ _ (take_rest c.args.piece.now c.loop-done.done) c.loop-done.invariant.written c.in_ok-done.ensures.ok;
-  same = g.met.W.Writer.same_through _ _ _ c.loop-done.invariant.same c.in_ok-done.ensures.rest;
+  same = g.met.W.Writer.same_else_through _ _ _ c.loop-done.invariant.same c.in_ok-done.ensures.rest;
 }

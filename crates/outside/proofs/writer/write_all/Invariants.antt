@@ -6,7 +6,7 @@ abbrev pub invariant-loop-done : goal.invariant-loop-done
 invariant-loop-done g l = let state = g.W.Writer.state in record {
   within : l.done ≤ length l.piece;
   written : WriterWrites (take l.done l.piece) (state l.initial.writer) (state l.writer);
-  same : g.W.Writer.SameElse l.initial.writer l.writer;
+  same : g.W.Writer.same_else l.initial.writer l.writer;
 }
 
 abbrev pub decreases-loop-done : goal.decreases-loop-done

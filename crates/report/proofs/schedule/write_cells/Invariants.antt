@@ -7,5 +7,5 @@ use Rattle.report.proofs.schedule.write_cells.Given as goal
 abbrev pub invariant-loop-cell : goal.invariant-loop-cell
 invariant-loop-cell g l = let state = g.W.Writer.state in record {
   written : WriterWrites (flat_map (λ x. 32 ∷ cell_text l.unit x) (take l.cell-index l.cells)) (state l.initial.out) (state l.out);
-  same : g.W.Writer.SameElse l.initial.out l.out;
+  same : g.W.Writer.same_else l.initial.out l.out;
 }

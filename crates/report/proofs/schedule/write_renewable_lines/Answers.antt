@@ -27,7 +27,7 @@ loop-unit-preserved g c =
       written = writes-next_pair paired_renewable_line c.args.units.now c.args.rows.now (length c.loop-unit.yielded) _ c.in-Some.unit.now
           c.in-Some.row.now _ _ _ (length_push c.loop-unit.yielded _) turn.0 turn.1 (turn.2 c.in-Some.unit.now)
           (turn.3 c.in-Some.row.now) c.loop-unit.invariant.written one;
-      same = g.met.W.Writer.same_through _ _ _ c.loop-unit.invariant.same c.in_ok-write_renewable_line.ensures.rest;
+      same = g.met.W.Writer.same_else_through _ _ _ c.loop-unit.invariant.same c.in_ok-write_renewable_line.ensures.rest;
     }
 
 pub returns-in_err-write_renewable_line-clause-failed : goal.returns-in_err-write_renewable_line-clause-failed

@@ -1,0 +1,61 @@
+-- What a search answers: a tree that holds, a true log, and how much of the budget was spent. This project's
+-- own statement.
+use Rattle.std.specs.Prelude.{◌≡◌, ◌≢◌, ℕ, ◌<◌, List, [], Option, Some, None, All, AllPairs, length, slice_get}
+use Rattle.uc_model.specs.Schedule.{thermal_count}
+use Rattle.uc_model.specs.declared.instance.Instance.{Instance}
+use Rattle.dual_model.specs.Prices.{IsLawfulTable}
+use Rattle.dual_model.specs.Fixings.{HasNoPattern}
+use Rattle.dual_model.specs.NodeValue.{IsNodeValue}
+use Rattle.dual_model.specs.Cover.{root}
+use Rattle.dual_model.specs.Certificate.{CertificateHolds}
+use Rattle.dual_model.specs.declared.node.Node.{Node}
+use Rattle.dual_model.specs.declared.table.Table.{Table}
+use Rattle.branch_tree.specs.declared.found.Entry.{Entry}
+use Rattle.branch_tree.specs.declared.found.Found.{Found}
+use Rattle.branch_tree.specs.declared.found.Outcome.{Outcome}
+use Rattle.branch_tree.specs.declared.found.Outcome.TheVariants.{Value, Empty}
+use Rattle.branch_tree.specs.declared.tree.Leaf.TheVariants as leaf
+use Rattle.branch_tree.specs.Claims.{HasLayout, tree_bound, certificate_of}
+
+-- unit g is the first of the instance that has no pattern at the node
+pub record IsFirstEmpty (instance : Instance) (node : Node) (g : ℕ) : Type 0 where
+  pub within : g < thermal_count instance
+  pub empty : HasNoPattern instance node g
+  pub first : (earlier : ℕ) → earlier < g → ¬ HasNoPattern instance node earlier
+
+-- the outcome is that of the node at the table
+abbrev pub IsOutcome : Instance → Node → Table → Outcome → Type 0
+IsOutcome instance node table (Value v) = IsNodeValue instance node table v
+IsOutcome instance node table (Empty g) = IsFirstEmpty instance node g
+
+-- an entry of the log is true: its node is the root, its table is lawful, and its outcome is theirs
+pub record IsTrueEntry (instance : Instance) (tables : List Table) (entry : Entry) : Type 0 where
+  pub node : entry.node ≡ 0
+  pub table : Table
+  pub is_table : slice_get tables entry.table ≡ Some table
+  pub lawful : IsLawfulTable instance table
+  pub outcome : IsOutcome instance root table entry.outcome
+
+-- two entries have different claims, and differ in node or table
+pub record AreApart (first second : Entry) : Type 0 where
+  pub unit : first.unit ≢ second.unit
+  pub pair : first.node ≡ second.node → first.table ≢ second.table
+
+-- each entry of the log is true, and no two share a claim, or node and table
+pub record IsTrueLog (instance : Instance) (tables : List Table) (log : List Entry) : Type 0 where
+  pub entries : All (IsTrueEntry instance tables) log
+  pub apart : AllPairs AreApart log
+
+-- the answer of a search with this budget of evaluations
+pub record IsSearchResult (instance : Instance) (budget : ℕ) (found : Found) : Type 0 where
+  pub layout : HasLayout found
+  pub certificate : CertificateHolds instance (certificate_of instance found)
+  pub log : IsTrueLog instance found.tables found.log
+  -- no schedule is looked for yet
+  pub schedule : found.schedule ≡ None
+  pub most_on : found.most_on ≡ None
+  -- where the tree isn't excluded the whole budget was spent
+  pub spent : tree_bound found.tree ≢ None → length found.log ≡ budget
+  -- a unit without an allowed pattern excludes the root before any evaluation
+  pub excluded : (g : ℕ) → IsFirstEmpty instance root g →
+      (found.tree.leaf ≡ leaf.Empty g) × (found.log ≡ [])

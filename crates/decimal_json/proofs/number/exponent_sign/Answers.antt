@@ -1,0 +1,13 @@
+use Rattle.std.proofs.Common.{refl}
+use Rattle.decimal_json.proofs.Numerals.{plus_sign, minus_sign, no_sign}
+use Rattle.decimal_json.proofs.number.exponent_sign.Goals as goal
+
+pub returns-then-has_byte-clause-same : goal.returns-then-has_byte-clause-same
+returns-then-has_byte-clause-same c = λ outer n ds fs. plus_sign c.args.bytes.now c.args.start outer n ds fs (c.if-has_byte.ensures.stands refl)
+
+pub returns-then-has_byte-2-clause-same : goal.returns-then-has_byte-2-clause-same
+returns-then-has_byte-2-clause-same c = λ outer n ds fs. minus_sign c.args.bytes.now c.args.start outer n ds fs (c.if-has_byte-2.ensures.stands refl)
+
+pub returns-else-has_byte-2-clause-same : goal.returns-else-has_byte-2-clause-same
+returns-else-has_byte-2-clause-same c = λ outer n ds fs.
+    no_sign c.args.bytes.now c.args.start outer n ds fs (c.if-has_byte.ensures.fails refl) (c.if-has_byte-2.ensures.fails refl)

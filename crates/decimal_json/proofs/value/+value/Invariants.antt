@@ -1,0 +1,26 @@
+use Rattle.std.proofs.Common.{◌+◌, ◌-◌, ◌*◌, map, length}
+use Rattle.decimal_json.specs.Answer.{knows}
+use Rattle.decimal_json.specs.View.{view, pair_view}
+use Rattle.decimal_json.proofs.Inside.{HasItems, HasMembers}
+use Rattle.decimal_json.proofs.value.+value.Given as goal
+
+abbrev pub decreases-value : goal.decreases-value
+decreases-value l = 2 * l.room
+
+abbrev pub decreases-array : goal.decreases-array
+decreases-array l = 2 * l.room + 1
+
+abbrev pub decreases-object : goal.decreases-object
+decreases-object l = 2 * l.room + 1
+
+abbrev pub invariant-array-loop-items : goal.invariant-array-loop-items
+invariant-array-loop-items l = HasItems l.source l.start l.at l.room (map view l.items.items)
+
+abbrev pub decreases-array-loop-items : goal.decreases-array-loop-items
+decreases-array-loop-items l = length l.source - l.at
+
+abbrev pub invariant-object-loop-places : goal.invariant-object-loop-places
+invariant-object-loop-places l = HasMembers l.source l.start l.at l.room (map pair_view l.pairs.items) (knows l.places)
+
+abbrev pub decreases-object-loop-places : goal.decreases-object-loop-places
+decreases-object-loop-places l = length l.source - l.at

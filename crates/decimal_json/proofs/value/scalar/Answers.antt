@@ -1,0 +1,71 @@
+use Rattle.std.proofs.Common.{◌+◌, [], sym, arith, refl, true, false}
+use Rattle.std.specs.String.{string_bytes}
+use Rattle.decimal_json.specs.Value.{null, boolean, number}
+use Rattle.decimal_json.specs.View.{decimal_of}
+use Rattle.decimal_json.specs.Scan.{literal, numeral, minus, quoted, for_value, plain, rue, alse, ull}
+use Rattle.decimal_json.proofs.Values.{boundary_behind, quote_led, true_led, false_led, null_led, minus_led, read_behind, breaks_behind, text_behind, text_breaks, no_value, as_viewed}
+use Rattle.decimal_json.proofs.Views.{view-null, view-bool, view-number, view-text}
+use Rattle.decimal_json.proofs.value.scalar.Goals as goal
+
+pub text-requires : goal.text-requires
+text-requires c = boundary_behind c.args.source.now c.args.start c.args.first c.utf8.source c.requires.within c.requires.stands (omega (arith, c.in-34.is))
+
+pub returns-in_err-text-in-34-clause-fault : goal.returns-in_err-text-in-34-clause-fault
+returns-in_err-text-in-34-clause-fault c =
+    breaks_behind c.args.source.now c.args.source.now c.args.start (c.args.start + 1) (quoted for_value (plain [])) c.in_err-text-in-34.field-0.0 c.from_residual-in_err-text-in-34.result
+    refl (quote_led c.args.source.now c.args.start c.args.first c.requires.stands c.in-34.is) (text_breaks c.args.source.now c.args.start c.in_err-text-in-34.field-0.0 c.in_err-text-in-34.ensures.fault)
+    c.from_residual-in_err-text-in-34.ensures.1
+
+pub returns-in_ok-text-in-34-clause-read : goal.returns-in_ok-text-in-34-clause-read
+returns-in_ok-text-in-34-clause-read c =
+    as_viewed c.args.source.now c.args.start _ _ _ (view-text c.in_ok-text-in-34.text)
+    (text_behind c.args.source.now c.args.start c.in_ok-text-in-34.end (string_bytes c.in_ok-text-in-34.text) (quote_led c.args.source.now c.args.start c.args.first c.requires.stands c.in-34.is) c.in_ok-text-in-34.ensures.read)
+
+pub returns-in_err-literal-in-116-clause-fault : goal.returns-in_err-literal-in-116-clause-fault
+returns-in_err-literal-in-116-clause-fault c =
+    breaks_behind c.as_bytes-bytes.result.now c.args.source.now c.args.start (c.args.start + 1) (literal (boolean true) rue) c.in_err-literal-in-116.field-0.0 c.from_residual-in_err-literal-in-116.result
+    c.as_bytes-bytes.ensures.value (true_led c.args.source.now c.args.start c.args.first c.requires.stands c.in-116.is) (c.in_err-literal-in-116.ensures.fault (boolean true)) c.from_residual-in_err-literal-in-116.ensures.1
+
+pub returns-in_ok-literal-in-116-clause-read : goal.returns-in_ok-literal-in-116-clause-read
+returns-in_ok-literal-in-116-clause-read c =
+    as_viewed c.args.source.now c.args.start _ _ _ (view-bool true)
+    (read_behind c.as_bytes-bytes.result.now c.args.source.now c.args.start (c.args.start + 1) c.in_ok-literal-in-116.field-0 (literal (boolean true) rue) (boolean true) c.as_bytes-bytes.ensures.value
+    (true_led c.args.source.now c.args.start c.args.first c.requires.stands c.in-116.is) (c.in_ok-literal-in-116.ensures.read (boolean true)))
+
+pub returns-in_err-literal-in-102-clause-fault : goal.returns-in_err-literal-in-102-clause-fault
+returns-in_err-literal-in-102-clause-fault c =
+    breaks_behind c.as_bytes-bytes.result.now c.args.source.now c.args.start (c.args.start + 1) (literal (boolean false) alse) c.in_err-literal-in-102.field-0.0 c.from_residual-in_err-literal-in-102.result
+    c.as_bytes-bytes.ensures.value (false_led c.args.source.now c.args.start c.args.first c.requires.stands c.in-102.is) (c.in_err-literal-in-102.ensures.fault (boolean false)) c.from_residual-in_err-literal-in-102.ensures.1
+
+pub returns-in_ok-literal-in-102-clause-read : goal.returns-in_ok-literal-in-102-clause-read
+returns-in_ok-literal-in-102-clause-read c =
+    as_viewed c.args.source.now c.args.start _ _ _ (view-bool false)
+    (read_behind c.as_bytes-bytes.result.now c.args.source.now c.args.start (c.args.start + 1) c.in_ok-literal-in-102.field-0 (literal (boolean false) alse) (boolean false) c.as_bytes-bytes.ensures.value
+    (false_led c.args.source.now c.args.start c.args.first c.requires.stands c.in-102.is) (c.in_ok-literal-in-102.ensures.read (boolean false)))
+
+pub returns-in_err-literal-in-110-clause-fault : goal.returns-in_err-literal-in-110-clause-fault
+returns-in_err-literal-in-110-clause-fault c =
+    breaks_behind c.as_bytes-bytes.result.now c.args.source.now c.args.start (c.args.start + 1) (literal null ull) c.in_err-literal-in-110.field-0.0 c.from_residual-in_err-literal-in-110.result
+    c.as_bytes-bytes.ensures.value (null_led c.args.source.now c.args.start c.args.first c.requires.stands c.in-110.is) (c.in_err-literal-in-110.ensures.fault null) c.from_residual-in_err-literal-in-110.ensures.1
+
+pub returns-in_ok-literal-in-110-clause-read : goal.returns-in_ok-literal-in-110-clause-read
+returns-in_ok-literal-in-110-clause-read c =
+    as_viewed c.args.source.now c.args.start _ _ _ (view-null)
+    (read_behind c.as_bytes-bytes.result.now c.args.source.now c.args.start (c.args.start + 1) c.in_ok-literal-in-110.field-0 (literal null ull) null c.as_bytes-bytes.ensures.value
+    (null_led c.args.source.now c.args.start c.args.first c.requires.stands c.in-110.is) (c.in_ok-literal-in-110.ensures.read null))
+
+pub returns-in_err-number-in-45-clause-fault : goal.returns-in_err-number-in-45-clause-fault
+returns-in_err-number-in-45-clause-fault c =
+    breaks_behind c.as_bytes-bytes.result.now c.args.source.now c.args.start (c.args.start + 1) (numeral minus) c.in_err-number-in-45.field-0.0 c.from_residual-in_err-number-in-45.result
+    c.as_bytes-bytes.ensures.value (minus_led c.args.source.now c.args.start c.args.first c.requires.stands c.in-45.is) c.in_err-number-in-45.ensures.fault c.from_residual-in_err-number-in-45.ensures.1
+
+pub returns-in_ok-number-in-45-clause-read : goal.returns-in_ok-number-in-45-clause-read
+returns-in_ok-number-in-45-clause-read c =
+    as_viewed c.args.source.now c.args.start _ _ _ (view-number c.in_ok-number-in-45.number)
+    (read_behind c.as_bytes-bytes.result.now c.args.source.now c.args.start (c.args.start + 1) c.in_ok-number-in-45.end (numeral minus) (number (decimal_of c.in_ok-number-in-45.number)) c.as_bytes-bytes.ensures.value
+    (minus_led c.args.source.now c.args.start c.args.first c.requires.stands c.in-45.is) c.in_ok-number-in-45.ensures.read)
+
+pub returns-in_default-clause-fault : goal.returns-in_default-clause-fault
+returns-in_default-clause-fault c =
+    no_value c.args.source.now c.args.start c.args.first c.no_json.result c.no_json.ensures c.requires.stands c.requires.no_space (λ e. omega arith) c.requires.no_bracket.0 c.requires.no_bracket.1
+    (λ e. omega arith) (λ e. omega arith) (λ e. omega arith) (λ e. omega arith) (sym c.if-is_digit_byte.ensures)

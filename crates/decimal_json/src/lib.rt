@@ -1,0 +1,16 @@
+//! A reader of JSON (RFC 8259) that keeps every digit of a number.
+#![tactic(auto)]
+
+mod bytes;
+mod escape;
+mod key;
+mod number;
+mod reader;
+#[cfg(test)]
+mod tests;
+mod text;
+mod types;
+mod value;
+
+pub use reader::read;
+pub use types::{Json, JsonFault, Number, Pair};

@@ -1,0 +1,37 @@
+-- Values of nodes by computing them.
+use Rattle.std.proofs.Common.{◌≡◌, length, subst, ℤ, Bool, ◌&&◌}
+use Rattle.std.specs.Prelude.{IsTrue, nat_lt, Some, None}
+use Rattle.std.proofs.lemmas.Bool.{and_parts, ltb-true}
+use Rattle.uc_model.specs.Sums.{all_below}
+use Rattle.uc_model.specs.Schedule.{thermal_unit, thermal_count}
+use Rattle.uc_model.specs.declared.instance.Instance.{Instance}
+use Rattle.uc_model.proofs.Tests.{all_below-at}
+use Rattle.dual_model.specs.Fixings.{HasEmptyUnit}
+use Rattle.dual_model.specs.NodeValue.{IsNodeValue}
+use Rattle.dual_model.specs.declared.node.Node.{Node}
+use Rattle.dual_model.specs.declared.table.Table.{Table}
+use Rattle.dual_model.proofs.NodeValues.{HasPoints, IsNodeAnswer, node_value_of, node_value_is}
+
+-- what a value needs of the instance, as a test
+abbrev pub has_points : Instance → Bool
+has_points instance =
+    nat_lt 0 instance.periods
+    && all_below (thermal_count instance) (λ g. nat_lt 0 (length (thermal_unit instance g).points))
+
+points_from : (instance : Instance) → IsTrue (has_points instance) → HasPoints instance
+points_from instance h =
+    let parts = and_parts _ _ h in
+    record {
+      some = ltb-true _ _ parts.0;
+      each = λ g l. ltb-true _ _ (all_below-at _ (λ k. nat_lt 0 (length (thermal_unit instance k).points)) parts.1 g l);
+    }
+
+pub computed_value : (instance : Instance) (node : Node) (table : Table) (v : ℤ) → IsTrue (has_points instance)
+    → node_value_of instance node table ≡ Some v → IsNodeValue instance node table v
+computed_value instance node table v points same =
+    subst (IsNodeAnswer instance node table) same (node_value_is instance node table (points_from instance points))
+
+pub computed_empty : (instance : Instance) (node : Node) (table : Table) → IsTrue (has_points instance)
+    → node_value_of instance node table ≡ None → HasEmptyUnit instance node
+computed_empty instance node table points same =
+    subst (IsNodeAnswer instance node table) same (node_value_is instance node table (points_from instance points))

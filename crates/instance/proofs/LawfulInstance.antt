@@ -1,0 +1,185 @@
+-- An instance that a value stands for is within the limits.
+use Rattle.std.proofs.Common.{◌≡◌, ℕ, zero, suc, ◌*◌, ◌<◌, ◌≤◌, List, [], ◌∷◌, length, get_or, take, arith}
+use Rattle.std.specs.Prelude.{Bool, ℤ, pos, ◌≤ℤ◌}
+use Rattle.std.specs.List.{All, AllZip}
+use Rattle.std.proofs.lemmas.Int.{ints}
+use Rattle.std.proofs.lemmas.List.{length-take}
+use Rattle.uc_model.specs.Limits.{MAX_UNITS, MAX_POINTS, MAX_START_ROWS, MAX_TIME, IsPower, IsCost, IsLimit, IsLawfulThermal, IsLawfulRenewable, IsLawfulInstance}
+use Rattle.uc_model.specs.Schedule.{thermal_unit, renewable_unit, no_unit, point, point_count}
+use Rattle.uc_model.specs.StartCategory.{start_row, category_count}
+use Rattle.uc_model.specs.declared.instance.Point.{Point}
+use Rattle.uc_model.specs.declared.instance.Thermal.{Thermal}
+use Rattle.uc_model.specs.declared.instance.Renewable.{Renewable}
+use Rattle.uc_model.specs.declared.instance.Instance.{Instance}
+use Rattle.decimal_json.specs.Value.{Value}
+use Rattle.instance.specs.Fields.{key_of, entries_in, pairs_in, field_of}
+use Rattle.instance.specs.Scaled.{MILLION, scaled}
+use Rattle.instance.specs.declared.field.Field.{Field}
+use Rattle.instance.specs.declared.field.Field.TheVariants.{TimePeriods, Demand, Reserves, ThermalGenerators, RenewableGenerators, PowerOutputMinimum, PowerOutputMaximum, RampUpLimit, RampDownLimit, RampStartupLimit, RampShutdownLimit, TimeUpMinimum, TimeDownMinimum, PowerOutputT0, TimeUpT0, TimeDownT0, Startup, StartupLag, StartupCost, PiecewiseProduction, PiecewiseProductionMw, PiecewiseProductionCost}
+use Rattle.instance.specs.InstanceOf.{Pairs, Has, IsObject, IsPowerOf, IsCostOf, IsTimeOf, IsPeriodsOf, IsPowersOf, AreRowsOf, IsStartRowOf, IsPointOf, IsRising, IsLimitOf, IsMinimumTimeOf, IsThermalOf, IsRenewableOf, AreUnitsOf, HasFields, IsInstanceOf}
+use Rattle.instance.proofs.Steps.{some_is}
+use Rattle.instance.proofs.NumberLaws.{stood}
+use Rattle.instance.proofs.EachLaws.{zip_length, Above}
+
+-- ---- one number
+
+power_of : (exact : Bool) (z : ℤ) (v : Value) → IsPowerOf exact z v → IsPower z
+power_of exact z v h = (stood exact v (λ d. (scaled d ≡ z) × IsPower z) h).2.1
+
+cost_of : (exact : Bool) (z : ℤ) (v : Value) → IsCostOf exact z v → IsCost z
+cost_of exact z v h = (stood exact v (λ d. (scaled d ≡ z) × IsCost z) h).2.1
+
+time_of : (exact : Bool) (h : ℕ) (v : Value) → IsTimeOf exact h v → h ≤ MAX_TIME
+time_of exact h v is = (stood exact v (λ d. (scaled d ≡ pos (h * MILLION)) × (h ≤ MAX_TIME)) is).2.1
+
+has_power : (exact : Bool) (field : Field) (ms : Pairs) (z : ℤ) → Has field ms (IsPowerOf exact z) → IsPower z
+has_power exact field ms z h = let a = some_is (IsPowerOf exact z) (field_of (key_of field) ms) h in power_of exact z a.0 a.2
+
+has_cost : (exact : Bool) (field : Field) (ms : Pairs) (z : ℤ) → Has field ms (IsCostOf exact z) → IsCost z
+has_cost exact field ms z h = let a = some_is (IsCostOf exact z) (field_of (key_of field) ms) h in cost_of exact z a.0 a.2
+
+has_time : (exact : Bool) (field : Field) (ms : Pairs) (t : ℕ) → Has field ms (IsTimeOf exact t) → t ≤ MAX_TIME
+has_time exact field ms t h = let a = some_is (IsTimeOf exact t) (field_of (key_of field) ms) h in time_of exact t a.0 a.2
+
+has_limit : (exact : Bool) (field : Field) (ms : Pairs) (z : ℤ) → Has field ms (IsLimitOf exact z) → IsLimit z
+has_limit exact field ms z h = let a = some_is (IsLimitOf exact z) (field_of (key_of field) ms) h in record { low = a.2.1; power = power_of exact z a.0 a.2.0 }
+
+has_minimum_time : (exact : Bool) (field : Field) (ms : Pairs) (t : ℕ) → Has field ms (IsMinimumTimeOf exact t) → (1 ≤ t) × (t ≤ MAX_TIME)
+has_minimum_time exact field ms t h =
+    let a = some_is (IsMinimumTimeOf exact t) (field_of (key_of field) ms) h in
+    let small = time_of exact a.2.0 a.0 a.2.1 in
+    (omega (arith, a.2.2), omega (arith, a.2.2, small))
+
+not_below : (a b : ℤ) → pos 0 ≤ℤ a → a ≤ℤ b → pos 0 ≤ℤ b
+not_below a b p q = omega (arith, ints)
+
+-- ---- lists
+
+zip_at : {A B : Type 0} (R : A → B → Type 0) (xs : List A) (ys : List B) → AllZip R xs ys → (k : ℕ) (e : B) → k < length ys → (x : A) × R x (get_or ys k e)
+zip_at R [] [] h k e lt = absurd (omega arith)
+zip_at R [] (y ∷ ys) h k e lt = absurd h
+zip_at R (x ∷ xs) [] h k e lt = absurd h
+zip_at R (x ∷ xs) (y ∷ ys) h zero e lt = (x, h.0)
+zip_at R (x ∷ xs) (y ∷ ys) h (suc k) e lt = zip_at R xs ys h.1 k e (omega arith)
+
+zip_both : {A B : Type 0} (R : A → B → Type 0) (xs : List A) (ys : List B) → AllZip R xs ys → (k : ℕ) (d : A) (e : B) → k < length ys → R (get_or xs k d) (get_or ys k e)
+zip_both R [] [] h k d e lt = absurd (omega arith)
+zip_both R [] (y ∷ ys) h k d e lt = absurd h
+zip_both R (x ∷ xs) [] h k d e lt = absurd h
+zip_both R (x ∷ xs) (y ∷ ys) h zero d e lt = h.0
+zip_both R (x ∷ xs) (y ∷ ys) h (suc k) d e lt = zip_both R xs ys h.1 k d e (omega arith)
+
+-- a power for each period
+record ArePowers (periods : ℕ) (zs : List ℤ) : Type 0 where
+  length : length zs ≡ periods
+  all : All IsPower zs
+
+has_powers : (exact : Bool) (field : Field) (periods : ℕ) (ms : Pairs) (zs : List ℤ) → Has field ms (IsPowersOf exact periods zs) → ArePowers periods zs
+has_powers exact field periods ms zs h =
+    let a = some_is (IsPowersOf exact periods zs) (field_of (key_of field) ms) h in
+    let R : Value → ℤ → Type 0 = λ v z. IsPowerOf exact z v in
+    let b = some_is (λ vs. (periods ≤ length vs) × AllZip R (take periods vs) zs) (entries_in a.0) a.2 in
+    let same = zip_length R (take periods b.0) zs b.2.1 in
+    record {
+      length = omega (arith, same, length-take periods b.0, b.2.0);
+      all = λ k d lt. let w = zip_at R (take periods b.0) zs b.2.1 k d lt in power_of exact (get_or zs k d) w.0 w.1;
+    }
+
+-- at least one row and at most so many, each with a value that it is of
+has_rows : {A : Type 0} (most : ℕ) (IsRow : A → Value → Type 0) (field : Field) (ms : Pairs) (rows : List A) → Has field ms (AreRowsOf most IsRow rows)
+    → (1 ≤ length rows) × (length rows ≤ most) × ((k : ℕ) (e : A) → k < length rows → (v : Value) × IsRow (get_or rows k e) v)
+has_rows most IsRow field ms rows h =
+    let a = some_is (AreRowsOf most IsRow rows) (field_of (key_of field) ms) h in
+    let b = some_is (λ vs. (1 ≤ length vs) × (length vs ≤ most) × AllZip (λ w row. IsRow row w) vs rows) (entries_in a.0) a.2 in
+    let same = zip_length (λ w row. IsRow row w) b.0 rows b.2.2 in
+    (omega (arith, same, b.2.0), omega (arith, same, b.2.1), zip_at (λ w row. IsRow row w) b.0 rows b.2.2)
+
+rising_at : (ps : List Point) → IsRising ps → (l : ℕ) (d : Point) → suc l < length ps → (get_or ps l d).mw ≤ℤ (get_or ps (suc l) d).mw
+rising_at [] r l d lt = absurd (omega arith)
+rising_at (p ∷ []) r l d lt = absurd (omega arith)
+rising_at (p ∷ q ∷ ps) r zero d lt = r.0
+rising_at (p ∷ q ∷ ps) r (suc l) d lt = rising_at (q ∷ ps) r.1 l d (omega arith)
+
+has_units : {A : Type 0} (name : A → List ℕ) (IsUnit : A → Pairs → Type 0) (field : Field) (ms : Pairs) (units : List A) → Has field ms (AreUnitsOf name IsUnit units)
+    → (length units ≤ MAX_UNITS) × ((k : ℕ) (e : A) → k < length units → (xs : Pairs) × IsUnit (get_or units k e) xs)
+has_units name IsUnit field ms units h =
+    let a = some_is (AreUnitsOf name IsUnit units) (field_of (key_of field) ms) h in
+    let R : List ℕ × Value → _ → Type 0 = λ m unit. (name unit ≡ m.0) × IsObject m.1 (IsUnit unit) in
+    let b = some_is (λ xs. (length xs ≤ MAX_UNITS) × AllZip R xs units) (pairs_in a.0) a.2 in
+    let same = zip_length R b.0 units b.2.1 in (
+      omega (arith, same, b.2.0),
+      λ k e lt.
+          let w = zip_at R b.0 units b.2.1 k e lt in
+          let x = some_is (IsUnit (get_or units k e)) (pairs_in w.0.1) w.1.1 in
+          (x.0, x.2),
+    )
+
+-- ---- units and the instance
+
+thermal_lawful : (exact : Bool) (unit : Thermal) (ms : Pairs) → IsThermalOf exact unit ms → IsLawfulThermal unit
+thermal_lawful exact unit ms h =
+    let rows = has_rows MAX_START_ROWS (IsStartRowOf exact) Startup ms unit.startup h.startup in
+    let points = has_rows MAX_POINTS (IsPointOf exact) PiecewiseProduction ms unit.points h.points in
+    let row_is = λ (s : ℕ) (lt : s < category_count unit).
+    (let a = rows.2 s (record { lag = 0; cost = pos 0 }) lt in
+    some_is (λ xs. Has StartupLag xs (IsTimeOf exact (start_row unit s).lag) × Has StartupCost xs (IsCostOf exact (start_row unit s).cost)) (pairs_in a.0) a.1) in
+    let point_is = λ (l : ℕ) (lt : l < point_count unit).
+    (let a = points.2 l (record { mw = pos 0; cost = pos 0 }) lt in
+    some_is (λ xs. Has PiecewiseProductionMw xs (IsPowerOf exact (point unit l).mw) × Has PiecewiseProductionCost xs (IsCostOf exact (point unit l).cost)) (pairs_in a.0) a.1) in
+    record {
+      minimum = has_limit exact PowerOutputMinimum ms unit.pmin h.minimum;
+      maximum = record { low = not_below unit.pmin unit.pmax (has_limit exact PowerOutputMinimum ms unit.pmin h.minimum).low h.range; power = has_power exact PowerOutputMaximum ms unit.pmax h.maximum };
+      range = h.range;
+      ramp_up = has_limit exact RampUpLimit ms unit.ru h.ramp_up;
+      ramp_down = has_limit exact RampDownLimit ms unit.rd h.ramp_down;
+      start_limit = has_limit exact RampStartupLimit ms unit.su h.start_limit;
+      stop_limit = has_limit exact RampShutdownLimit ms unit.sd h.stop_limit;
+      time_up = has_minimum_time exact TimeUpMinimum ms unit.ut h.time_up;
+      time_down = has_minimum_time exact TimeDownMinimum ms unit.dt h.time_down;
+      initial_output = has_power exact PowerOutputT0 ms unit.p0 h.initial_output;
+      initial_time_up = has_time exact TimeUpT0 ms unit.ut0 h.initial_time_up;
+      initial_time_down = has_time exact TimeDownT0 ms unit.dt0 h.initial_time_down;
+      categories = (rows.0, rows.1);
+      lags = λ s lt. has_time exact StartupLag (row_is s lt).0 (start_row unit s).lag (row_is s lt).2.0;
+      start_costs = λ s lt. has_cost exact StartupCost (row_is s lt).0 (start_row unit s).cost (row_is s lt).2.1;
+      points = (points.0, points.1);
+      outputs = λ l lt. has_power exact PiecewiseProductionMw (point_is l lt).0 (point unit l).mw (point_is l lt).2.0;
+      costs = λ l lt. has_cost exact PiecewiseProductionCost (point_is l lt).0 (point unit l).cost (point_is l lt).2.1;
+      rising = λ l lt. rising_at unit.points h.rising l (record { mw = pos 0; cost = pos 0 }) lt;
+    }
+
+renewable_lawful : (exact : Bool) (i : Instance) (w : ℕ) (ms : Pairs) → IsRenewableOf exact i.periods (renewable_unit i w) ms → IsLawfulRenewable i w
+renewable_lawful exact i w ms h =
+    let unit = renewable_unit i w in
+    let low = has_powers exact PowerOutputMinimum i.periods ms unit.minimum h.minimum in
+    let high = has_powers exact PowerOutputMaximum i.periods ms unit.maximum h.maximum in
+    record {
+      minimum_length = low.length;
+      maximum_length = high.length;
+      minimum = λ t lt. low.all t (pos 0) (omega (arith, low.length, lt));
+      maximum = λ t lt. high.all t (pos 0) (omega (arith, high.length, lt));
+      range = λ t lt. zip_both Above unit.minimum unit.maximum h.range t (pos 0) (pos 0) (omega (arith, high.length, lt));
+    }
+
+fields_lawful : (exact : Bool) (i : Instance) (ms : Pairs) → HasFields exact i ms → IsLawfulInstance i
+fields_lawful exact i ms h =
+    let t = some_is (IsPeriodsOf exact i.periods) (field_of (key_of TimePeriods) ms) h.periods in
+    let count = (stood exact t.0 (λ d. (scaled d ≡ pos (i.periods * MILLION)) × (1 ≤ i.periods) × (i.periods ≤ 168)) t.2).2 in
+    let demand = has_powers exact Demand i.periods ms i.demand h.demand in
+    let reserves = has_powers exact Reserves i.periods ms i.reserves h.reserves in
+    let thermal = has_units (λ (u : Thermal). u.name) (IsThermalOf exact) ThermalGenerators ms i.thermal h.thermal in
+    let renewable = has_units (λ (u : Renewable). u.name) (IsRenewableOf exact i.periods) RenewableGenerators ms i.renewable h.renewable in
+    record {
+      periods = (count.1, count.2);
+      demand_length = demand.length;
+      reserves_length = reserves.length;
+      demand = demand.all;
+      reserves = reserves.all;
+      thermal_units = thermal.0;
+      thermal = λ g lt. let a = thermal.1 g no_unit lt in thermal_lawful exact (thermal_unit i g) a.0 a.1;
+      renewable_units = renewable.0;
+      renewable = λ w lt. let a = renewable.1 w (record { name = []; minimum = []; maximum = [] }) lt in renewable_lawful exact i w a.0 a.1;
+    }
+
+pub instance_lawful : (exact : Bool) (v : Value) (i : Instance) → IsInstanceOf exact v i → IsLawfulInstance i
+instance_lawful exact v i h = let a = some_is (HasFields exact i) (pairs_in v) h in fields_lawful exact i a.0 a.2

@@ -1,0 +1,10 @@
+pub mod Views
+pub mod Sizes
+pub mod Lists
+pub mod Steps
+pub mod NumberLaws
+pub mod EachLaws
+pub mod RowLaws
+pub mod UnitLaws
+pub mod LawfulInstance
+pub mod Whole

@@ -1,0 +1,5 @@
+-- Lemmas on lists under the names that a tactic's list can have.
+use Rattle.std.proofs.lemmas.List.{take-map}
+use Rattle.std.proofs.lemmas.List.{length-map}
+
+pub ruleset taking = (take-map, length-map)

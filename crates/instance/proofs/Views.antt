@@ -1,0 +1,29 @@
+-- What a `Json` of each kind that an instance has is seen as.
+use Rattle.std.proofs.Common.{◌≡◌, map, ℕ, List, [], ◌∷◌, refl, sym, ap, ◌∙◌}
+use Rattle.std.specs.Global.{Vec}
+use Rattle.decimal_json.specs.Value.{Value, number, array, object, items_of, members_of}
+use Rattle.decimal_json.specs.View.{view, pair_view, decimal_of, view_step, pair_step}
+use Rattle.decimal_json.specs.declared.types.Number.{Number}
+use Rattle.decimal_json.specs.declared.types.Json.{Json}
+use Rattle.decimal_json.specs.declared.types.Json.TheOpen.{Json-F}
+use Rattle.decimal_json.specs.declared.types.Json.TheVariants as json
+use Rattle.decimal_json.specs.declared.types.Json.TheFolds.{fold-roll-Json}
+use Rattle.decimal_json.specs.declared.types.Pair.{Pair}
+use Rattle.instance.specs.Fields.{entries_of, pairs_of}
+
+pub view-Array : (js : Vec Json) → view (json.Array js) ≡ array (items_of (map view js.items))
+view-Array js = ap view (sym (json.rolls-Array js)) ∙ fold-roll-Json Value (List ℕ × Value) view_step pair_step (Json-F.Array js)
+
+pub view-Object : (ps : Vec Pair) → view (json.Object ps) ≡ object (members_of (map pair_view ps.items))
+view-Object ps = ap view (sym (json.rolls-Object ps)) ∙ fold-roll-Json Value (List ℕ × Value) view_step pair_step (Json-F.Object ps)
+
+pub entries_of-items_of : (vs : List Value) → entries_of (items_of vs) ≡ vs
+entries_of-items_of [] = refl
+entries_of-items_of (v ∷ vs) = ap (λ (ws : List Value). v ∷ ws) (entries_of-items_of vs)
+
+pub pairs_of-members_of : (ms : List (List ℕ × Value)) → pairs_of (members_of ms) ≡ ms
+pairs_of-members_of [] = refl
+pairs_of-members_of (m ∷ ms) = ap (λ (ns : List (List ℕ × Value)). m ∷ ns) (pairs_of-members_of ms)
+
+pub view-Number : (n : Number) → view (json.Number n) ≡ number (decimal_of n)
+view-Number n = ap view (sym (json.rolls-Number n)) ∙ fold-roll-Json Value (List ℕ × Value) view_step pair_step (Json-F.Number n)

@@ -1,0 +1,306 @@
+-- The order in which the fields of an instance file are looked at, and the first fault that is met in that
+-- order. What an instance is stands in specs/InstanceOf.antt, without any order.
+use Rattle.std.specs.Prelude.{ℕ, ◌+◌, ◌%◌, Bool, ◌&&◌, ◌||◌, ◌==◌, nat_lt, List, [], ◌∷◌, ◌++◌, length, take, max, Option, Some, None, Result, Ok, Err, ℤ, pos, int_lt, slice_index_or, if◌then◌else◌}
+use Rattle.std.specs.Int.{int_max}
+use Rattle.uc_model.specs.Limits.{MAX_PERIODS, MAX_UNITS, MAX_POINTS, MAX_START_ROWS, MAX_POWER, MAX_COST, MAX_TIME}
+use Rattle.uc_model.specs.declared.instance.Point.{Point}
+use Rattle.uc_model.specs.declared.instance.StartRow.{StartRow}
+use Rattle.uc_model.specs.declared.instance.Thermal.{Thermal}
+use Rattle.uc_model.specs.declared.instance.Renewable.{Renewable}
+use Rattle.uc_model.specs.declared.instance.Instance.{Instance}
+use Rattle.decimal_json.specs.Value.{Decimal, Value}
+use Rattle.instance.specs.Fields.{key_of, number_in, entries_in, pairs_in, field_of}
+use Rattle.instance.specs.Scaled.{MILLION, size_of, scaled, is_rounded, wholes_of, is_below_zero}
+use Rattle.instance.specs.Points.{last_output}
+use Rattle.instance.specs.declared.field.Field.{Field}
+use Rattle.instance.specs.declared.field.Field.TheVariants.{NoField, TimePeriods, Demand, Reserves, ThermalGenerators, RenewableGenerators, MustRun, PowerOutputMinimum, PowerOutputMaximum, RampUpLimit, RampDownLimit, RampStartupLimit, RampShutdownLimit, TimeUpMinimum, TimeDownMinimum, PowerOutputT0, UnitOnT0, TimeUpT0, TimeDownT0, Startup, StartupLag, StartupCost, PiecewiseProduction, PiecewiseProductionMw, PiecewiseProductionCost}
+use Rattle.instance.specs.declared.fault.TheConstants.{MISSING, OTHER_KIND, NOT_WHOLE, PAST_LIMIT, OUT_OF_RANGE, TOO_SHORT, TOO_MANY, ROUNDED, NO_UNIT, THERMAL, RENEWABLE}
+use Rattle.instance.specs.declared.fault.Place.{Place}
+use Rattle.instance.specs.declared.fault.Refusal.{Refusal}
+use Rattle.instance.specs.declared.totals.Totals.{Totals}
+use Rattle.instance.specs.declared.thermal.Outputs.{Outputs}
+use Rattle.instance.specs.declared.thermal.Ramps.{Ramps}
+use Rattle.instance.specs.declared.thermal.Times.{Times}
+use Rattle.instance.specs.declared.thermal.Initial.{Initial}
+
+-- one step after another, up to the first fault
+infixl 10 ◌>>=◌
+abbrev pub ◌>>=◌ : {A B E : Type 0} → Result A E → (A → Result B E) → Result B E
+(Ok x) >>= f = f x
+(Err e) >>= f = Err e
+
+abbrev pub refusal : ℕ → Place → Refusal
+refusal code place = record { code = code; place = place }
+
+-- a field itself, and an entry of it
+abbrev pub whole : Field → Place
+whole field = record { field = field; entry = 0 }
+
+abbrev pub entry_of : Field → ℕ → Place
+entry_of field entry = record { field = field; entry = entry }
+
+-- a value that is there, and one that passes a test
+abbrev pub wanted : {A : Type 0} → ℕ → Place → Option A → Result A Refusal
+wanted code place None = Err (refusal code place)
+wanted code place (Some x) = Ok x
+
+abbrev pub refused_if : {A : Type 0} → Bool → ℕ → Place → A → Result A Refusal
+refused_if test code place x = if test then Err (refusal code place) else Ok x
+
+-- ---- one number
+
+unfoldable pub number_at : Bool → Place → Value → Result Decimal Refusal
+number_at exact place v = do
+  d ← wanted OTHER_KIND place (number_in v)
+  refused_if (exact && is_rounded d) ROUNDED place d
+
+unfoldable pub power_at : Bool → Place → Value → Result ℤ Refusal
+power_at exact place v = do
+  d ← number_at exact place v
+  refused_if (nat_lt MAX_POWER (size_of d)) PAST_LIMIT place (scaled d)
+
+-- a power with a least one
+unfoldable pub power_from : Bool → Place → ℤ → Value → Result ℤ Refusal
+power_from exact place least v = do
+  z ← power_at exact place v
+  refused_if (int_lt z least) OUT_OF_RANGE place z
+
+unfoldable pub cost_at : Bool → Place → Value → Result ℤ Refusal
+cost_at exact place v = do
+  d ← number_at exact place v
+  refused_if (nat_lt MAX_COST (size_of d)) PAST_LIMIT place (scaled d)
+
+unfoldable pub whole_at : Bool → Place → Value → Result Decimal Refusal
+whole_at exact place v = do
+  d ← number_at exact place v
+  refused_if (nat_lt 0 (size_of d % MILLION)) NOT_WHOLE place d
+
+unfoldable pub time_at : Bool → Place → Value → Result ℕ Refusal
+time_at exact place v = do
+  d ← whole_at exact place v
+  refused_if (is_below_zero d || nat_lt MAX_TIME (wholes_of d)) PAST_LIMIT place (wholes_of d)
+
+unfoldable pub flag_at : Bool → Place → Value → Result Bool Refusal
+flag_at exact place v = do
+  d ← whole_at exact place v
+  refused_if (is_below_zero d || nat_lt 1 (wholes_of d)) OUT_OF_RANGE place (wholes_of d == 1)
+
+unfoldable pub periods_at : Bool → Place → Value → Result ℕ Refusal
+periods_at exact place v = do
+  d ← whole_at exact place v
+  t ← refused_if (d.negative || wholes_of d == 0) OUT_OF_RANGE place (wholes_of d)
+  refused_if (nat_lt MAX_PERIODS t) TOO_MANY place t
+
+-- ---- fields, arrays and rows
+
+abbrev pub field_at : Place → List (List ℕ × Value) → Result Value Refusal
+field_at place ms = wanted MISSING place (field_of (key_of place.field) ms)
+
+abbrev pub object_at : Place → Value → Result (List (List ℕ × Value)) Refusal
+object_at place v = wanted OTHER_KIND place (pairs_in v)
+
+abbrev pub array_at : Place → Value → Result (List Value) Refusal
+array_at place v = wanted OTHER_KIND place (entries_in v)
+
+-- the entries of an array up to the last period
+unfoldable pub entries_at : Field → ℕ → List (List ℕ × Value) → Result (List Value) Refusal
+entries_at field periods ms = do
+  v ← field_at (whole field) ms
+  vs ← array_at (whole field) v
+  refused_if (nat_lt (length vs) periods) TOO_SHORT (whole field) (take periods vs)
+
+-- the rows of a list of at least one and at most so many
+unfoldable pub rows_at : Field → ℕ → List (List ℕ × Value) → Result (List Value) Refusal
+rows_at field most ms = do
+  v ← field_at (whole field) ms
+  vs ← array_at (whole field) v
+  rows ← refused_if (length vs == 0) OUT_OF_RANGE (whole field) vs
+  refused_if (nat_lt most (length rows)) TOO_MANY (whole field) rows
+
+-- One entry after another, each beside those before it: what is read stands at the end of a list.
+unfoldable pub each_at : {A B E : Type 0} → (List A → B → Result A E) → List A → List B → Result (List A) E
+each_at read front [] = Ok front
+each_at read front (v ∷ vs) = do
+  x ← read front v
+  each_at read (front ++ x ∷ []) vs
+
+-- the place of the entry behind those that were read
+abbrev pub next_entry : {A : Type 0} → Field → List A → Place
+next_entry field front = entry_of field (length front + 1)
+
+abbrev pub power_entry : Bool → Field → List ℤ → Value → Result ℤ Refusal
+power_entry exact field front v = power_at exact (next_entry field front) v
+
+unfoldable pub powers_at : Bool → Field → ℕ → List (List ℕ × Value) → Result (List ℤ) Refusal
+powers_at exact field periods ms = do
+  vs ← entries_at field periods ms
+  each_at (power_entry exact field) [] vs
+
+-- an entry of a renewable unit's maximum, beside its minimum
+abbrev pub maximum_entry : Bool → List ℤ → List ℤ → Value → Result ℤ Refusal
+maximum_entry exact minimum front v =
+    power_from exact (next_entry PowerOutputMaximum front) (int_max (slice_index_or minimum (length front) (pos 0)) (pos 0)) v
+
+unfoldable pub start_row : Bool → List StartRow → Value → Result StartRow Refusal
+start_row exact front v = do
+  ms ← object_at (next_entry Startup front) v
+  lag ← field_at (next_entry StartupLag front) ms >>= time_at exact (next_entry StartupLag front)
+  cost ← field_at (next_entry StartupCost front) ms >>= cost_at exact (next_entry StartupCost front)
+  Ok (record { lag = lag; cost = cost })
+
+-- a point is not below the one before it
+unfoldable pub point_row : Bool → List Point → Value → Result Point Refusal
+point_row exact front v = do
+  ms ← object_at (next_entry PiecewiseProduction front) v
+  mw ← field_at (next_entry PiecewiseProductionMw front) ms >>= power_from exact (next_entry PiecewiseProductionMw front) (last_output front)
+  cost ← field_at (next_entry PiecewiseProductionCost front) ms >>= cost_at exact (next_entry PiecewiseProductionCost front)
+  Ok (record { mw = mw; cost = cost })
+
+-- ---- a thermal unit
+
+abbrev pub flag_field : Bool → Field → List (List ℕ × Value) → Result Bool Refusal
+flag_field exact field ms = field_at (whole field) ms >>= flag_at exact (whole field)
+
+abbrev pub time_field : Bool → Field → List (List ℕ × Value) → Result ℕ Refusal
+time_field exact field ms = field_at (whole field) ms >>= time_at exact (whole field)
+
+abbrev pub power_field : Bool → Field → ℤ → List (List ℕ × Value) → Result ℤ Refusal
+power_field exact field least ms = field_at (whole field) ms >>= power_from exact (whole field) least
+
+-- a power of any sign
+abbrev pub output_field : Bool → Field → List (List ℕ × Value) → Result ℤ Refusal
+output_field exact field ms = field_at (whole field) ms >>= power_at exact (whole field)
+
+unfoldable pub outputs_at : Bool → List (List ℕ × Value) → Result Outputs Refusal
+outputs_at exact ms = do
+  must_run ← flag_field exact MustRun ms
+  pmin ← power_field exact PowerOutputMinimum (pos 0) ms
+  pmax ← power_field exact PowerOutputMaximum pmin ms
+  Ok (record { must_run = must_run; pmin = pmin; pmax = pmax })
+
+unfoldable pub ramps_at : Bool → List (List ℕ × Value) → Result Ramps Refusal
+ramps_at exact ms = do
+  ru ← power_field exact RampUpLimit (pos 0) ms
+  rd ← power_field exact RampDownLimit (pos 0) ms
+  su ← power_field exact RampStartupLimit (pos 0) ms
+  sd ← power_field exact RampShutdownLimit (pos 0) ms
+  Ok (record { ru = ru; rd = rd; su = su; sd = sd })
+
+-- a minimum time of 0 is read as 1
+unfoldable pub times_at : Bool → List (List ℕ × Value) → Result Times Refusal
+times_at exact ms = do
+  up ← time_field exact TimeUpMinimum ms
+  down ← time_field exact TimeDownMinimum ms
+  Ok (record { up = max up 1; down = max down 1 })
+
+unfoldable pub initial_at : Bool → List (List ℕ × Value) → Result Initial Refusal
+initial_at exact ms = do
+  output ← output_field exact PowerOutputT0 ms
+  on ← flag_field exact UnitOnT0 ms
+  up ← time_field exact TimeUpT0 ms
+  down ← time_field exact TimeDownT0 ms
+  Ok (record { output = output; on = on; up = up; down = down })
+
+unfoldable pub startup_at : Bool → List (List ℕ × Value) → Result (List StartRow) Refusal
+startup_at exact ms = do
+  rows ← rows_at Startup MAX_START_ROWS ms
+  each_at (start_row exact) [] rows
+
+unfoldable pub points_at : Bool → List (List ℕ × Value) → Result (List Point) Refusal
+points_at exact ms = do
+  rows ← rows_at PiecewiseProduction MAX_POINTS ms
+  each_at (point_row exact) [] rows
+
+unfoldable pub thermal_at : Bool → List ℕ → Value → Result Thermal Refusal
+thermal_at exact name v = do
+  ms ← object_at (whole NoField) v
+  outputs ← outputs_at exact ms
+  ramps ← ramps_at exact ms
+  times ← times_at exact ms
+  initial ← initial_at exact ms
+  startup ← startup_at exact ms
+  points ← points_at exact ms
+  Ok (record {
+    name = name;
+    must_run = outputs.must_run;
+    pmin = outputs.pmin;
+    pmax = outputs.pmax;
+    ru = ramps.ru;
+    rd = ramps.rd;
+    su = ramps.su;
+    sd = ramps.sd;
+    ut = times.up;
+    dt = times.down;
+    p0 = initial.output;
+    on0 = initial.on;
+    ut0 = initial.up;
+    dt0 = initial.down;
+    startup = startup;
+    points = points;
+  })
+
+-- ---- a renewable unit
+
+unfoldable pub maxima_at : Bool → ℕ → List ℤ → List (List ℕ × Value) → Result (List ℤ) Refusal
+maxima_at exact periods minimum ms = do
+  vs ← entries_at PowerOutputMaximum periods ms
+  each_at (maximum_entry exact minimum) [] vs
+
+unfoldable pub renewable_at : Bool → ℕ → List ℕ → Value → Result Renewable Refusal
+renewable_at exact periods name v = do
+  ms ← object_at (whole NoField) v
+  minimum ← powers_at exact PowerOutputMinimum periods ms
+  maximum ← maxima_at exact periods minimum ms
+  Ok (record { name = name; minimum = minimum; maximum = maximum })
+
+-- ---- the instance
+
+-- a fault with the unit that it is in
+pub record UnitRefusal : Type 0 where
+  pub kind : ℕ
+  pub unit : List ℕ
+  pub refused : Refusal
+
+abbrev pub in_unit : {A : Type 0} → ℕ → List ℕ → Result A Refusal → Result A UnitRefusal
+in_unit kind unit (Ok x) = Ok x
+in_unit kind unit (Err e) = Err (record { kind = kind; unit = unit; refused = e })
+
+abbrev pub outside : {A : Type 0} → Result A Refusal → Result A UnitRefusal
+outside read = in_unit NO_UNIT [] read
+
+unfoldable pub units_at : Field → List (List ℕ × Value) → Result (List (List ℕ × Value)) Refusal
+units_at field ms = do
+  v ← field_at (whole field) ms
+  units ← object_at (whole field) v
+  refused_if (nat_lt MAX_UNITS (length units)) TOO_MANY (whole field) units
+
+abbrev pub thermal_member : Bool → List Thermal → List ℕ × Value → Result Thermal UnitRefusal
+thermal_member exact front m = in_unit THERMAL m.0 (thermal_at exact m.0 m.1)
+
+abbrev pub renewable_member : Bool → ℕ → List Renewable → List ℕ × Value → Result Renewable UnitRefusal
+renewable_member exact periods front m = in_unit RENEWABLE m.0 (renewable_at exact periods m.0 m.1)
+
+unfoldable pub thermal_units_at : Bool → List (List ℕ × Value) → Result (List Thermal) UnitRefusal
+thermal_units_at exact ms = do
+  units ← outside (units_at ThermalGenerators ms)
+  each_at (thermal_member exact) [] units
+
+unfoldable pub renewable_units_at : Bool → ℕ → List (List ℕ × Value) → Result (List Renewable) UnitRefusal
+renewable_units_at exact periods ms = do
+  units ← outside (units_at RenewableGenerators ms)
+  each_at (renewable_member exact periods) [] units
+
+unfoldable pub totals_at : Bool → List (List ℕ × Value) → Result Totals Refusal
+totals_at exact ms = do
+  periods ← field_at (whole TimePeriods) ms >>= periods_at exact (whole TimePeriods)
+  demand ← powers_at exact Demand periods ms
+  reserves ← powers_at exact Reserves periods ms
+  Ok (record { periods = periods; demand = demand; reserves = reserves })
+
+unfoldable pub instance_at : Bool → Value → Result Instance UnitRefusal
+instance_at exact v = do
+  ms ← outside (object_at (whole NoField) v)
+  totals ← outside (totals_at exact ms)
+  thermal ← thermal_units_at exact ms
+  renewable ← renewable_units_at exact totals.periods ms
+  Ok (record { periods = totals.periods; demand = totals.demand; reserves = totals.reserves; thermal = thermal; renewable = renewable })

@@ -1,0 +1,105 @@
+//! Arrays of powers, with an entry for each period.
+
+ghost use Rattle.std.specs.Prelude.{◌≡◌, ◌+◌, ◌<◌, ◌≤◌, ◌^◌, [], length, map, sum_by, OnOk, IfOk, pos, vec_len};
+ghost use Rattle.std.specs.Int.{int_max};
+ghost use Rattle.decimal_json.specs.View.{view, pair_view};
+ghost use Rattle.instance.specs.declared.field.Field.TheVariants.{PowerOutputMaximum};
+ghost use Rattle.instance.specs.FirstFault.{each_at, power_entry, powers_at, maximum_entry, maxima_at};
+ghost use Rattle.instance.specs.Rounded.{rounded_value, rounded_array};
+ghost use Rattle.instance.specs.Answer.{Gives, Counts};
+
+use crate::fault::{Fault, Place};
+use crate::field::Field;
+use crate::reader::Reader;
+use crate::spot::{self, Spot};
+use decimal_json::{Json, Pair};
+use std::alloc::Global;
+
+impl Reader {
+    /// The powers that entries are.
+    #[tactic(auto, unfolding(crate::specs::FirstFault::each_at))]
+    fn power_entries(
+        &mut self,
+        alloc: Global,
+        entries: &[Json],
+        field: Field,
+    ) -> Result<Vec<i64>, Fault>
+        requires few { length entries.now ≤ 168 }
+        requires room { self.old.rounded + length entries.now < 2 ^ 64 }
+        ensures read { Gives (λ zs. zs.items) result (each_at (power_entry self.old.exact field) [] (map view entries.now)) }
+        ensures counted { OnOk result (Counts self.old self.new (sum_by rounded_value (map view entries.now)) (length entries.now)) }
+        ensures length { IfOk result (λ zs. vec_len zs ≡ length entries.now) }
+    {
+        let mut powers = Vec::new(alloc);
+        for (index, value) in entries.iter().enumerate() {
+            let place = Place::entry(field, index);
+            powers.push(self.power(Spot { value, place })?)?;
+        }
+        Ok(powers)
+    }
+
+    /// The powers of a field that is an array, up to the last period.
+    #[tactic(auto, unfolding(crate::specs::FirstFault::powers_at, crate::specs::Rounded::rounded_array))]
+    pub(crate) fn powers(
+        &mut self,
+        alloc: Global,
+        members: &[Pair],
+        field: Field,
+        periods: u32,
+    ) -> Result<Vec<i64>, Fault>
+        requires few { periods ≤ 168 }
+        requires room { self.old.rounded + periods < 2 ^ 64 }
+        ensures read { Gives (λ zs. zs.items) result (powers_at self.old.exact field periods (map pair_view members.now)) }
+        ensures counted { OnOk result (Counts self.old self.new (rounded_array field periods (map pair_view members.now)) periods) }
+        ensures length { IfOk result (λ zs. vec_len zs ≡ periods) }
+    {
+        let entries = spot::entries(members, field, periods)?;
+        self.power_entries(alloc, entries, field)
+    }
+
+    /// The powers that entries are, each no less than the minimum of its period and than 0.
+    #[tactic(auto, unfolding(crate::specs::FirstFault::each_at))]
+    fn maximum_entries(
+        &mut self,
+        alloc: Global,
+        entries: &[Json],
+        minimum: &[i64],
+    ) -> Result<Vec<i64>, Fault>
+        requires few { length entries.now ≤ 168 }
+        requires all { length minimum.now ≡ length entries.now }
+        requires room { self.old.rounded + length entries.now < 2 ^ 64 }
+        ensures read { Gives (λ zs. zs.items) result (each_at (maximum_entry self.old.exact minimum.now) [] (map view entries.now)) }
+        ensures counted { OnOk result (Counts self.old self.new (sum_by rounded_value (map view entries.now)) (length entries.now)) }
+    {
+        let mut powers = Vec::new(alloc);
+        for (index, value) in entries.iter().enumerate() {
+            let place = Place::entry(Field::PowerOutputMaximum, index);
+            let least = at_least_zero(minimum[index]);
+            powers.push(self.power_from(Spot { value, place }, least)?)?;
+        }
+        Ok(powers)
+    }
+
+    /// A renewable unit's maximum, beside its minimum.
+    #[tactic(auto, unfolding(crate::specs::FirstFault::maxima_at, crate::specs::Rounded::rounded_array))]
+    pub(crate) fn maxima(
+        &mut self,
+        alloc: Global,
+        members: &[Pair],
+        minimum: &[i64],
+    ) -> Result<Vec<i64>, Fault>
+        requires few { length minimum.now ≤ 168 }
+        requires room { self.old.rounded + length minimum.now < 2 ^ 64 }
+        ensures read { Gives (λ zs. zs.items) result (maxima_at self.old.exact (length minimum.now) minimum.now (map pair_view members.now)) }
+        ensures counted { OnOk result (Counts self.old self.new (rounded_array PowerOutputMaximum (length minimum.now) (map pair_view members.now)) (length minimum.now)) }
+    {
+        let entries = spot::entries(members, Field::PowerOutputMaximum, minimum.len() as u32)?;
+        self.maximum_entries(alloc, entries, minimum)
+    }
+}
+
+fn at_least_zero(power: i64) -> i64
+    ensures { result ≡ int_max power (pos 0) }
+{
+    if power < 0 { 0 } else { power }
+}

@@ -1,0 +1,29 @@
+//! The instance that a file in the pglib-uc format stands for.
+#![tactic(auto)]
+
+mod arrays;
+mod fault;
+mod field;
+mod fields;
+mod file;
+mod laws;
+mod numbers;
+mod object;
+mod read;
+mod reader;
+mod renewable;
+mod rows;
+mod scaled;
+mod spot;
+mod thermal;
+mod totals;
+mod units;
+
+pub use fault::InstanceFault;
+pub use field::Field;
+pub use file::{ReadFault, read_instance};
+pub use laws::{a_value_has_an_instance_or_a_fault, instances_of_values_are_lawful};
+pub use read::from_json;
+
+#[cfg(test)]
+mod tests;

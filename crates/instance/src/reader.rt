@@ -1,0 +1,13 @@
+//! What the reader of an instance knows while it reads.
+
+ghost use Rattle.std.specs.Prelude.{◌≡◌, IsTrue};
+
+/// A reader of numbers, which counts those that are rounded.
+#[derive(Drop)]
+pub(crate) struct Reader {
+    /// A rounded number is refused.
+    pub(crate) exact: bool,
+    /// How many of the numbers that were read are rounded.
+    pub(crate) rounded: u64,
+    ghost none_if_exact: { IsTrue exact → rounded ≡ 0 },
+}

@@ -1,0 +1,103 @@
+//! A value with its place, so that a fault in it can be told.
+
+ghost use Rattle.std.specs.Prelude.{◌≡◌, ◌≤◌, length, take, map, IfOk};
+ghost use Rattle.decimal_json.specs.View.{view, pair_view};
+ghost use Rattle.instance.specs.FirstFault.{field_at, object_at, array_at, entries_at, rows_at, units_at};
+ghost use Rattle.instance.specs.Rounded.{entries_field, members_field};
+ghost use Rattle.instance.specs.Answer.{Gives};
+
+use crate::fault::{Fault, MISSING, OTHER_KIND, OUT_OF_RANGE, Place, TOO_MANY, TOO_SHORT};
+use crate::field::Field;
+use crate::object;
+use decimal_json::{Json, Pair};
+
+const MAX_UNITS: usize = 4096;
+
+/// A value with its place.
+#[derive(Clone, Copy)]
+pub(crate) struct Spot<'a> {
+    pub(crate) value: &'a Json,
+    pub(crate) place: Place,
+}
+
+/// The value of a field of an object.
+pub(crate) fn field_at(members: &[Pair], place: Place) -> Result<Spot<'_>, Fault>
+    ensures read { Gives (λ spot. view spot.value.now) result (field_at place (map pair_view members.now)) }
+    ensures place { IfOk result (λ spot. spot.place ≡ place) }
+{
+    match object::member(members, place.field.key()) {
+        Some(value) => Ok(Spot { value, place }),
+        None => Err(place.refused(MISSING)),
+    }
+}
+
+impl<'a> Spot<'a> {
+    /// The members, where the value is to be an object.
+    pub(crate) fn object(self) -> Result<&'a [Pair], Fault>
+        ensures { Gives (λ ms. map pair_view ms.now) result (object_at self.entry.place (view self.entry.value.now)) }
+    {
+        match object::members(self.value) {
+            Some(members) => Ok(members),
+            None => Err(self.place.refused(OTHER_KIND)),
+        }
+    }
+
+    /// The entries, where the value is to be an array.
+    fn array(self) -> Result<&'a [Json], Fault>
+        ensures { Gives (λ vs. map view vs.now) result (array_at self.entry.place (view self.entry.value.now)) }
+    {
+        match object::entries(self.value) {
+            Some(entries) => Ok(entries),
+            None => Err(self.place.refused(OTHER_KIND)),
+        }
+    }
+}
+
+/// The entries of a field that is an array, up to the last period.
+#[tactic(auto, using(crate::proofs::Lists::taking), unfolding(crate::specs::FirstFault::entries_at))]
+pub(crate) fn entries(members: &[Pair], field: Field, periods: u32) -> Result<&[Json], Fault>
+    ensures read { Gives (λ vs. map view vs.now) result (entries_at field periods (map pair_view members.now)) }
+    ensures listed { IfOk result (λ vs. map view vs.now ≡ take periods (entries_field field (map pair_view members.now))) }
+    ensures length { IfOk result (λ vs. length vs.now ≡ periods) }
+{
+    let place = Place::whole(field);
+    let entries = field_at(members, place)?.array()?;
+    let periods = periods as usize;
+    if entries.len() < periods {
+        return Err(place.refused(TOO_SHORT));
+    }
+    Ok(&entries[..periods])
+}
+
+/// The rows of a list of at least one and at most so many.
+#[tactic(auto, unfolding(crate::specs::FirstFault::rows_at))]
+pub(crate) fn rows(members: &[Pair], field: Field, most: usize) -> Result<&[Json], Fault>
+    ensures read { Gives (λ vs. map view vs.now) result (rows_at field most (map pair_view members.now)) }
+    ensures listed { IfOk result (λ vs. map view vs.now ≡ entries_field field (map pair_view members.now)) }
+    ensures length { IfOk result (λ vs. length vs.now ≤ most) }
+{
+    let place = Place::whole(field);
+    let rows = field_at(members, place)?.array()?;
+    if rows.is_empty() {
+        return Err(place.refused(OUT_OF_RANGE));
+    }
+    if rows.len() > most {
+        return Err(place.refused(TOO_MANY));
+    }
+    Ok(rows)
+}
+
+/// The units of a field, as names with records.
+#[tactic(auto, unfolding(crate::specs::FirstFault::units_at))]
+pub(crate) fn units(members: &[Pair], field: Field) -> Result<&[Pair], Fault>
+    ensures read { Gives (λ ms. map pair_view ms.now) result (units_at field (map pair_view members.now)) }
+    ensures listed { IfOk result (λ ms. map pair_view ms.now ≡ members_field field (map pair_view members.now)) }
+    ensures length { IfOk result (λ ms. length ms.now ≤ 4096) }
+{
+    let place = Place::whole(field);
+    let units = field_at(members, place)?.object()?;
+    if units.len() > MAX_UNITS {
+        return Err(place.refused(TOO_MANY));
+    }
+    Ok(units)
+}

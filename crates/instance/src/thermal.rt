@@ -1,0 +1,151 @@
+//! Thermal units.
+
+ghost use Rattle.std.specs.Prelude.{◌≡◌, ◌+◌, ◌<◌, ◌^◌, map, max, OnOk};
+ghost use Rattle.decimal_json.specs.View.{view, pair_view};
+ghost use Rattle.instance.specs.FirstFault.{outputs_at, ramps_at, times_at, initial_at, thermal_at};
+ghost use Rattle.instance.specs.Rounded.{rounded_outputs, rounded_ramps, rounded_times, rounded_initial, rounded_thermal};
+ghost use Rattle.instance.specs.Answer.{Gives, Counts};
+
+use crate::fault::{Fault, Place};
+use crate::field::Field;
+use crate::reader::Reader;
+use crate::spot::Spot;
+use decimal_json::{Json, Pair};
+use std::alloc::Global;
+use uc_model::{List, Name, Thermal};
+
+/// Whether a unit must run, and its least and greatest output in watts.
+#[derive(Drop)]
+struct Outputs {
+    must_run: bool,
+    pmin: i64,
+    pmax: i64,
+}
+
+/// Ramp limits in watts.
+#[derive(Drop)]
+struct Ramps {
+    ru: i64,
+    rd: i64,
+    su: i64,
+    sd: i64,
+}
+
+/// Minimum times in hours, at least 1.
+#[derive(Drop)]
+struct Times {
+    up: u32,
+    down: u32,
+}
+
+/// The state at the initial time: total output in watts, whether the unit is on, and hours.
+#[derive(Drop)]
+struct Initial {
+    output: i64,
+    on: bool,
+    up: u32,
+    down: u32,
+}
+
+impl Reader {
+    /// The unit that a value is.
+    #[tactic(auto, unfolding(crate::specs::FirstFault::thermal_at, crate::specs::Rounded::rounded_thermal))]
+    pub(crate) fn thermal(
+        &mut self,
+        alloc: Global,
+        name: &str,
+        value: &Json,
+    ) -> Result<Thermal, Fault>
+        requires { self.old.rounded + 173 < 2 ^ 64 }
+        ensures read { Gives (λ unit. unit) result (thermal_at self.old.exact name.now (view value.now)) }
+        ensures counted { OnOk result (Counts self.old self.new (rounded_thermal (view value.now)) 173) }
+    {
+        let place = Place::whole(Field::NoField);
+        let members = Spot { value, place }.object()?;
+        let outputs = self.outputs(members)?;
+        let ramps = self.ramps(members)?;
+        let times = self.times(members)?;
+        let initial = self.initial(members)?;
+        let startup = self.startup(alloc, members)?;
+        let points = self.points(alloc, members)?;
+        Ok(Thermal {
+            name: Name::from_string(String::from_str(alloc, name)?),
+            must_run: outputs.must_run,
+            pmin: outputs.pmin,
+            pmax: outputs.pmax,
+            ru: ramps.ru,
+            rd: ramps.rd,
+            su: ramps.su,
+            sd: ramps.sd,
+            ut: times.up,
+            dt: times.down,
+            p0: initial.output,
+            on0: initial.on,
+            ut0: initial.up,
+            dt0: initial.down,
+            startup: List::from_vec(startup),
+            points: List::from_vec(points),
+        })
+    }
+
+    #[tactic(auto, unfolding(crate::specs::FirstFault::outputs_at, crate::specs::Rounded::rounded_outputs))]
+    fn outputs(&mut self, members: &[Pair]) -> Result<Outputs, Fault>
+        requires { self.old.rounded + 3 < 2 ^ 64 }
+        ensures read { Gives (λ x. x) result (outputs_at self.old.exact (map pair_view members.now)) }
+        ensures counted { OnOk result (Counts self.old self.new (rounded_outputs (map pair_view members.now)) 3) }
+    {
+        let must_run = self.flag_field(members, Field::MustRun)?;
+        let pmin = self.power_field(members, Field::PowerOutputMinimum, 0)?;
+        let pmax = self.power_field(members, Field::PowerOutputMaximum, pmin)?;
+        Ok(Outputs {
+            must_run,
+            pmin,
+            pmax,
+        })
+    }
+
+    #[tactic(auto, unfolding(crate::specs::FirstFault::ramps_at, crate::specs::Rounded::rounded_ramps))]
+    fn ramps(&mut self, members: &[Pair]) -> Result<Ramps, Fault>
+        requires { self.old.rounded + 4 < 2 ^ 64 }
+        ensures read { Gives (λ x. x) result (ramps_at self.old.exact (map pair_view members.now)) }
+        ensures counted { OnOk result (Counts self.old self.new (rounded_ramps (map pair_view members.now)) 4) }
+    {
+        let ru = self.power_field(members, Field::RampUpLimit, 0)?;
+        let rd = self.power_field(members, Field::RampDownLimit, 0)?;
+        let su = self.power_field(members, Field::RampStartupLimit, 0)?;
+        let sd = self.power_field(members, Field::RampShutdownLimit, 0)?;
+        Ok(Ramps { ru, rd, su, sd })
+    }
+
+    #[tactic(auto, unfolding(crate::specs::FirstFault::times_at, crate::specs::Rounded::rounded_times))]
+    fn times(&mut self, members: &[Pair]) -> Result<Times, Fault>
+        requires { self.old.rounded + 2 < 2 ^ 64 }
+        ensures read { Gives (λ x. x) result (times_at self.old.exact (map pair_view members.now)) }
+        ensures counted { OnOk result (Counts self.old self.new (rounded_times (map pair_view members.now)) 2) }
+    {
+        let up = self.time_field(members, Field::TimeUpMinimum)?;
+        let down = self.time_field(members, Field::TimeDownMinimum)?;
+        Ok(Times {
+            up: up.max(1),
+            down: down.max(1),
+        })
+    }
+
+    #[tactic(auto, unfolding(crate::specs::FirstFault::initial_at, crate::specs::Rounded::rounded_initial))]
+    fn initial(&mut self, members: &[Pair]) -> Result<Initial, Fault>
+        requires { self.old.rounded + 4 < 2 ^ 64 }
+        ensures read { Gives (λ x. x) result (initial_at self.old.exact (map pair_view members.now)) }
+        ensures counted { OnOk result (Counts self.old self.new (rounded_initial (map pair_view members.now)) 4) }
+    {
+        let output = self.output_field(members, Field::PowerOutputT0)?;
+        let on = self.flag_field(members, Field::UnitOnT0)?;
+        let up = self.time_field(members, Field::TimeUpT0)?;
+        let down = self.time_field(members, Field::TimeDownT0)?;
+        Ok(Initial {
+            output,
+            on,
+            up,
+            down,
+        })
+    }
+}

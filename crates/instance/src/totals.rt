@@ -1,0 +1,42 @@
+//! The fields of the whole system: its periods, demand and reserves.
+
+ghost use Rattle.std.specs.Prelude.{◌≡◌, ◌+◌, ◌<◌, ◌≤◌, ◌^◌, map, OnOk, IfOk};
+ghost use Rattle.decimal_json.specs.View.{pair_view};
+ghost use Rattle.instance.specs.FirstFault.{totals_at};
+ghost use Rattle.instance.specs.Rounded.{rounded_totals};
+ghost use Rattle.instance.specs.Answer.{Gives, Counts};
+
+use crate::fault::{Fault, Place};
+use crate::field::Field;
+use crate::reader::Reader;
+use crate::spot::field_at;
+use decimal_json::Pair;
+use std::alloc::Global;
+use uc_model::List;
+
+/// The number of periods, and demand and reserves in each, in watts.
+#[derive(Drop)]
+pub(crate) struct Totals {
+    pub(crate) periods: u32,
+    pub(crate) demand: List<i64>,
+    pub(crate) reserves: List<i64>,
+}
+
+impl Reader {
+    #[tactic(auto, unfolding(crate::specs::FirstFault::totals_at, crate::specs::Rounded::rounded_totals, crate::specs::Rounded::rounded_field))]
+    pub(crate) fn totals(&mut self, alloc: Global, members: &[Pair]) -> Result<Totals, Fault>
+        requires { self.old.rounded + 337 < 2 ^ 64 }
+        ensures read { Gives (λ x. x) result (totals_at self.old.exact (map pair_view members.now)) }
+        ensures counted { IfOk result (λ x. Counts self.old self.new (rounded_totals x.periods (map pair_view members.now)) 337) }
+        ensures few { IfOk result (λ x. x.periods ≤ 168) }
+    {
+        let periods = self.periods(field_at(members, Place::whole(Field::TimePeriods))?)?;
+        let demand = self.powers(alloc, members, Field::Demand, periods)?;
+        let reserves = self.powers(alloc, members, Field::Reserves, periods)?;
+        Ok(Totals {
+            periods,
+            demand: List::from_vec(demand),
+            reserves: List::from_vec(reserves),
+        })
+    }
+}

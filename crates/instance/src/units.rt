@@ -1,0 +1,146 @@
+//! The units of an instance, in the order of the file.
+
+ghost use Rattle.std.specs.Prelude.{◌≡◌, ◌+◌, ◌*◌, ◌<◌, ◌≤◌, ◌^◌, ℕ, List, [], length, map, sum_by, OnOk};
+ghost use Rattle.decimal_json.specs.Value.{Value};
+ghost use Rattle.decimal_json.specs.View.{pair_view};
+ghost use Rattle.instance.specs.FirstFault.{each_at, thermal_member, renewable_member, thermal_units_at, renewable_units_at};
+ghost use Rattle.instance.specs.Rounded.{rounded_thermal, rounded_renewable, rounded_thermal_units, rounded_renewable_units};
+ghost use Rattle.instance.specs.Answer.{GivesWhole, IsInUnit, Counts};
+
+use crate::fault::{Fault, InstanceFault, NO_UNIT, RENEWABLE, Refusal, THERMAL};
+use crate::field::Field;
+use crate::reader::Reader;
+use crate::spot;
+use decimal_json::Pair;
+use std::alloc::Global;
+use uc_model::{Name, Renewable, Thermal};
+
+impl Reader {
+    #[tactic(auto, unfolding(crate::specs::FirstFault::thermal_units_at, crate::specs::Rounded::rounded_thermal_units))]
+    pub(crate) fn thermal_units(
+        &mut self,
+        alloc: Global,
+        members: &[Pair],
+    ) -> Result<Vec<Thermal>, InstanceFault>
+        requires { self.old.rounded + 173 * 4096 < 2 ^ 64 }
+        ensures read { GivesWhole (λ us. us.items) result (thermal_units_at self.old.exact (map pair_view members.now)) }
+        ensures counted { OnOk result (Counts self.old self.new (rounded_thermal_units (map pair_view members.now)) (173 * 4096)) }
+    {
+        match spot::units(members, Field::ThermalGenerators) {
+            Ok(units) => self.thermal_list(alloc, units),
+            Err(fault) => Err(outside(alloc, fault)),
+        }
+    }
+
+    #[tactic(auto, unfolding(crate::specs::FirstFault::renewable_units_at, crate::specs::Rounded::rounded_renewable_units))]
+    pub(crate) fn renewable_units(
+        &mut self,
+        alloc: Global,
+        members: &[Pair],
+        periods: u32,
+    ) -> Result<Vec<Renewable>, InstanceFault>
+        requires few { periods ≤ 168 }
+        requires room { self.old.rounded + 336 * 4096 < 2 ^ 64 }
+        ensures read { GivesWhole (λ us. us.items) result (renewable_units_at self.old.exact periods (map pair_view members.now)) }
+        ensures counted { OnOk result (Counts self.old self.new (rounded_renewable_units periods (map pair_view members.now)) (336 * 4096)) }
+    {
+        match spot::units(members, Field::RenewableGenerators) {
+            Ok(units) => self.renewable_list(alloc, units, periods),
+            Err(fault) => Err(outside(alloc, fault)),
+        }
+    }
+
+    #[tactic(auto, unfolding(crate::specs::FirstFault::each_at))]
+    fn thermal_list(
+        &mut self,
+        alloc: Global,
+        members: &[Pair],
+    ) -> Result<Vec<Thermal>, InstanceFault>
+        requires few { length members.now ≤ 4096 }
+        requires room { self.old.rounded + 173 * length members.now < 2 ^ 64 }
+        ensures read { GivesWhole (λ us. us.items) result (each_at (thermal_member self.old.exact) [] (map pair_view members.now)) }
+        ensures counted { OnOk result (Counts self.old self.new (sum_by (λ (m : List ℕ × Value). rounded_thermal m.1) (map pair_view members.now)) (173 * length members.now)) }
+    {
+        let mut units = Vec::new(alloc);
+        for member in members {
+            units.push(self.thermal_unit(alloc, member)?)?;
+        }
+        Ok(units)
+    }
+
+    #[tactic(auto, unfolding(crate::specs::FirstFault::each_at))]
+    fn renewable_list(
+        &mut self,
+        alloc: Global,
+        members: &[Pair],
+        periods: u32,
+    ) -> Result<Vec<Renewable>, InstanceFault>
+        requires short { periods ≤ 168 }
+        requires few { length members.now ≤ 4096 }
+        requires room { self.old.rounded + 336 * length members.now < 2 ^ 64 }
+        ensures read { GivesWhole (λ us. us.items) result (each_at (renewable_member self.old.exact periods) [] (map pair_view members.now)) }
+        ensures counted { OnOk result (Counts self.old self.new (sum_by (λ (m : List ℕ × Value). rounded_renewable periods m.1) (map pair_view members.now)) (336 * length members.now)) }
+    {
+        let mut units = Vec::new(alloc);
+        for member in members {
+            units.push(self.renewable_unit(alloc, member, periods)?)?;
+        }
+        Ok(units)
+    }
+
+    fn thermal_unit(&mut self, alloc: Global, member: &Pair) -> Result<Thermal, InstanceFault>
+        requires { self.old.rounded + 173 < 2 ^ 64 }
+        ensures read { GivesWhole (λ unit. unit) result (thermal_member self.old.exact [] (pair_view member.now)) }
+        ensures counted { OnOk result (Counts self.old self.new (rounded_thermal (pair_view member.now).1) 173) }
+    {
+        let name = member.key.as_str();
+        match self.thermal(alloc, name, &member.value) {
+            Ok(unit) => Ok(unit),
+            Err(fault) => Err(in_unit(alloc, THERMAL, name, fault)),
+        }
+    }
+
+    fn renewable_unit(
+        &mut self,
+        alloc: Global,
+        member: &Pair,
+        periods: u32,
+    ) -> Result<Renewable, InstanceFault>
+        requires few { periods ≤ 168 }
+        requires room { self.old.rounded + 336 < 2 ^ 64 }
+        ensures read { GivesWhole (λ unit. unit) result (renewable_member self.old.exact periods [] (pair_view member.now)) }
+        ensures counted { OnOk result (Counts self.old self.new (rounded_renewable periods (pair_view member.now).1) 336) }
+    {
+        let name = member.key.as_str();
+        match self.renewable(alloc, periods, name, &member.value) {
+            Ok(unit) => Ok(unit),
+            Err(fault) => Err(in_unit(alloc, RENEWABLE, name, fault)),
+        }
+    }
+}
+
+/// A fault with the unit that it is in.
+fn in_unit(alloc: Global, kind_of_unit: u8, name: &str, fault: Fault) -> InstanceFault
+    ensures { IsInUnit kind_of_unit name.now fault result }
+{
+    let Fault::Refused(Refusal { code, place }) = fault else {
+        return InstanceFault::NoMemory;
+    };
+    match String::from_str(alloc, name) {
+        Ok(unit) => InstanceFault::Refused {
+            code,
+            kind_of_unit,
+            unit: Name::from_string(unit),
+            field: place.field,
+            entry: place.entry,
+        },
+        Err(_) => InstanceFault::NoMemory,
+    }
+}
+
+/// A fault in no unit.
+pub(crate) fn outside(alloc: Global, fault: Fault) -> InstanceFault
+    ensures { IsInUnit 0 [] fault result }
+{
+    in_unit(alloc, NO_UNIT, "", fault)
+}

@@ -1,0 +1,119 @@
+-- The costs of the walk are far below the ends of 128 bits.
+use Rattle.std.proofs.Common.{ℕ, zero, suc, ◌+◌, ◌*◌, ◌^◌, ◌<◌, ◌≤◌, ◌-◌, Bool, true, false, arith, ℤ, pos, ◌*ℤ◌}
+use Rattle.std.specs.Prelude.{Option, Some, None, unsigned_abs, ◌==◌, if◌then◌else◌}
+use Rattle.std.proofs.lemmas.Int.{ints}
+use Rattle.std.proofs.lemmas.Bool.{cond_both}
+use Rattle.uc_model.specs.Sums.{least_below}
+use Rattle.uc_model.specs.StartCategory.{category_count, category_cost, may_cost_as, sigma}
+use Rattle.uc_model.specs.Limits.{IsLawfulThermal}
+use Rattle.uc_model.specs.declared.limits.TheConstants.{MAX_COST, MAX_POWER}
+use Rattle.uc_model.specs.declared.instance.Thermal.{Thermal}
+use Rattle.uc_model.specs.declared.terms.Terms.{Terms}
+use Rattle.dual_model.specs.declared.node.Fix.{Fix}
+use Rattle.state_walk.proofs.Magnitudes.{abs_add, abs_sub, abs_mul, abs_min}
+use Rattle.state_walk.specs.declared.limits.TheConstants.{MAX_UNIT_PRICE, MAX_TERM}
+use Rattle.state_walk.specs.UnitTerms.{AreSizedTerms, IsSized, period_count, price_at}
+use Rattle.state_walk.specs.Moves.{stop_since, hour_cost, hour_before, move}
+use Rattle.state_walk.specs.Onward.{plus, lesser, end_cost, since_after, onward, IsWithin, MAX_MOVE, MAX_ONWARD}
+
+-- ---- the least start cost is one of the costs
+least_below-size : (n : ℕ) (test : ℕ → Bool) (f : ℕ → ℤ) (other : ℤ) (m : ℕ) → unsigned_abs other ≤ m
+    → ((k : ℕ) → k < n → unsigned_abs (f k) ≤ m) → unsigned_abs (least_below n test f other) ≤ m
+least_below-size zero test f other m h k = h
+least_below-size (suc n) test f other m h k =
+    let before = least_below-size n test f other m h (λ i l. k i (omega arith)) in
+    cond_both (test n) _ _ (λ x. unsigned_abs x ≤ m) (λ e. abs_min (f n) (least_below n test f other) m (k n (omega arith)) before) (λ e. before)
+
+category_cost-size : (unit : Thermal) → IsLawfulThermal unit → (s : ℕ) → 1 ≤ s → s ≤ category_count unit
+    → unsigned_abs (category_cost unit s) ≤ MAX_COST
+category_cost-size unit lawful zero h k = absurd (omega arith)
+category_cost-size unit lawful (suc s) h k = lawful.start_costs s (omega arith)
+
+pub sigma-size : (unit : Thermal) → IsLawfulThermal unit → (last : Option ℕ) (t : ℕ) → unsigned_abs (sigma unit last t) ≤ MAX_COST
+sigma-size unit lawful last t =
+    least_below-size (category_count unit - 1) (may_cost_as unit last t) (λ s. category_cost unit (suc s))
+    (category_cost unit (category_count unit)) MAX_COST
+    (category_cost-size unit lawful (category_count unit) lawful.categories.0 (omega arith))
+    (λ s l. category_cost-size unit lawful (suc s) (omega arith) (omega (arith, lawful.categories.0)))
+
+-- ---- moves
+hour_cost-size : (unit : Thermal) (terms : Terms) → IsLawfulThermal unit → AreSizedTerms unit terms → (t : ℕ) → t < period_count terms
+    → (cap : ℤ) (term : Option ℤ) → IsSized cap term → IsWithin MAX_MOVE (hour_cost terms unit t term)
+hour_cost-size unit terms lawful sized t h cap None size = tt
+hour_cost-size unit terms lawful sized t h cap (Some m) size =
+    let price = abs_mul (price_at terms t) unit.pmin MAX_UNIT_PRICE MAX_POWER (sized.price t h) lawful.minimum.power in
+    let whole = abs_sub m (price_at terms t *ℤ unit.pmin) MAX_TERM (MAX_UNIT_PRICE * MAX_POWER) size.1 price in
+    omega arith
+
+pub hour_before-size : (unit : Thermal) (terms : Terms) → IsLawfulThermal unit → AreSizedTerms unit terms → (t : ℕ) → t ≤ period_count terms
+    → (start stop : Bool) → IsWithin MAX_MOVE (hour_before terms unit t start stop)
+hour_before-size unit terms lawful sized zero h start stop = omega arith
+hour_before-size unit terms lawful sized (suc t) h start stop =
+    hour_cost-size unit terms lawful sized t (omega arith) _ _ (sized.term t start stop (omega arith))
+
+-- what is there only where a test holds
+only_where : (b : Bool) (o : Option ℤ) (m : ℕ) → IsWithin m o → IsWithin m (if b then o else None)
+only_where b o m h = cond_both b o None (λ x. IsWithin m x) (λ e. h) (λ e. tt)
+
+pub move-size : (unit : Thermal) (terms : Terms) (fix : Fix) → IsLawfulThermal unit → AreSizedTerms unit terms → (t : ℕ) → t < period_count terms
+    → (was : Bool) (since : ℕ) (now : Bool) → IsWithin MAX_MOVE (move terms unit fix t was since now)
+move-size unit terms fix lawful sized t h true since true =
+    only_where _ _ MAX_MOVE (hour_before-size unit terms lawful sized t (omega arith) (since == t) false)
+move-size unit terms fix lawful sized t h true since false =
+    only_where _ _ MAX_MOVE (hour_before-size unit terms lawful sized t (omega arith) (since == t) true)
+move-size unit terms fix lawful sized t h false since true =
+    only_where _ (Some (terms.k *ℤ sigma unit (stop_since since) t)) MAX_MOVE start
+  where
+    start : unsigned_abs (terms.k *ℤ sigma unit (stop_since since) t) ≤ MAX_MOVE
+    start =
+        let scale : unsigned_abs terms.k ≤ 10 ^ 9 = omega (arith, ints, sized.scale.0, sized.scale.1) in
+        let whole = abs_mul terms.k (sigma unit (stop_since since) t) (10 ^ 9) MAX_COST scale (sigma-size unit lawful (stop_since since) t) in
+        omega arith
+move-size unit terms fix lawful sized t h false since false = only_where _ (Some (pos 0)) MAX_MOVE (omega arith)
+
+-- ---- the way to the end
+plus-size : (a b : Option ℤ) (m n : ℕ) → IsWithin m a → IsWithin n b → IsWithin (m + n) (plus a b)
+plus-size None b m n h k = tt
+plus-size (Some a) None m n h k = tt
+plus-size (Some a) (Some b) m n h k = abs_add a b m n h k
+
+lesser-size : (a b : Option ℤ) (m : ℕ) → IsWithin m a → IsWithin m b → IsWithin m (lesser a b)
+lesser-size None b m h k = k
+lesser-size (Some a) None m h k = h
+lesser-size (Some a) (Some b) m h k = abs_min a b m h k
+
+pub more_room : (m n : ℕ) (o : Option ℤ) → m ≤ n → IsWithin m o → IsWithin n o
+more_room m n None h k = tt
+more_room m n (Some a) h k = omega arith
+
+end_cost-size : (unit : Thermal) (terms : Terms) → IsLawfulThermal unit → AreSizedTerms unit terms → (t : ℕ) → t ≤ period_count terms
+    → (was : Bool) (since : ℕ) → IsWithin MAX_MOVE (end_cost terms unit t was since)
+end_cost-size unit terms lawful sized t h true since = hour_before-size unit terms lawful sized t h (since == t) false
+end_cost-size unit terms lawful sized t h false since = omega arith
+
+pub onward-size : (unit : Thermal) (terms : Terms) (fix : Fix) → IsLawfulThermal unit → AreSizedTerms unit terms → (n t : ℕ) → n + t ≤ period_count terms
+    → (was : Bool) (since : ℕ) → IsWithin (MAX_MOVE * n + MAX_MOVE) (onward terms unit fix n t was since)
+onward-size unit terms fix lawful sized zero t h was since =
+    more_room _ _ _ (omega arith) (end_cost-size unit terms lawful sized t (omega arith) was since)
+onward-size unit terms fix lawful sized (suc n) t h was since =
+    let rest = λ (state : Bool) (from : ℕ). onward-size unit terms fix lawful sized n (suc t) (omega arith) state from in
+    more_room (MAX_MOVE + (MAX_MOVE * n + MAX_MOVE)) _ _ (omega arith)
+    (lesser-size _ _ (MAX_MOVE + (MAX_MOVE * n + MAX_MOVE)) (way rest true) (way rest false))
+  where
+    way : ((state : Bool) (from : ℕ) → IsWithin (MAX_MOVE * n + MAX_MOVE) (onward terms unit fix n (suc t) state from)) → (now : Bool) → IsWithin (MAX_MOVE + (MAX_MOVE * n + MAX_MOVE))
+        (plus (move terms unit fix t was since now) (onward terms unit fix n (suc t) now (since_after was since now t)))
+    way rest now =
+        plus-size _ _ MAX_MOVE (MAX_MOVE * n + MAX_MOVE)
+        (move-size unit terms fix lawful sized t (omega arith) was since now)
+        (rest now (since_after was since now t))
+
+-- so each cost of the walk is within one limit
+pub move-fits : (unit : Thermal) (terms : Terms) (fix : Fix) → IsLawfulThermal unit → AreSizedTerms unit terms → (t : ℕ) → t < period_count terms
+    → (was : Bool) (since : ℕ) (now : Bool) → IsWithin MAX_ONWARD (move terms unit fix t was since now)
+move-fits unit terms fix lawful sized t h was since now =
+    more_room MAX_MOVE MAX_ONWARD _ (omega arith) (move-size unit terms fix lawful sized t h was since now)
+
+pub onward-fits : (unit : Thermal) (terms : Terms) (fix : Fix) → IsLawfulThermal unit → AreSizedTerms unit terms → (n t : ℕ) → n + t ≤ period_count terms
+    → (was : Bool) (since : ℕ) → IsWithin MAX_ONWARD (onward terms unit fix n t was since)
+onward-fits unit terms fix lawful sized n t h was since =
+    more_room (MAX_MOVE * n + MAX_MOVE) MAX_ONWARD _ (omega (arith, sized.periods.1)) (onward-size unit terms fix lawful sized n t h was since)

@@ -1,0 +1,46 @@
+-- The hour's cost, of a term that is there.
+use Rattle.std.proofs.Common.{◌≡◌, arith, rules, sym, ap, ◌∙◌, ℕ, suc, zero, ◌<◌, ◌-◌, ◌≤◌, ◌-ℤ◌, ◌*ℤ◌, ℤ, pos, to_z, of_z, FitsSigned}
+use Rattle.std.specs.Prelude.{Some, Bool, unsigned_abs, slice_index_or}
+use Rattle.std.specs.Int.{w64, w128}
+use Rattle.std.proofs.lemmas.Int.{to_z-of_z, fits_signed_from_abs}
+use Rattle.std.proofs.lemmas.Option.{MatchOption-at_some}
+use Rattle.uc_model.specs.declared.instance.Thermal.{Thermal}
+use Rattle.uc_model.specs.declared.terms.Terms.{Terms}
+use Rattle.state_walk.specs.declared.limits.TheConstants.{MAX_UNIT_PRICE, MAX_TERM}
+use Rattle.state_walk.specs.UnitTerms.{term_at, price_at, period_count}
+use Rattle.state_walk.specs.Moves.{hour_before, hour_cost}
+use Rattle.state_walk.proofs.moves.hour_before.Goals as goal
+
+made : (terms : Terms) (unit : Thermal) (t : ℕ) (start stop : Bool) (m : ℤ) → 0 < t
+    → term_at terms (t - 1) start stop ≡ Some m
+    → Some (m -ℤ price_at terms (t - 1) *ℤ unit.pmin) ≡ hour_before terms unit t start stop
+made terms unit zero start stop m h e = absurd (omega arith)
+made terms unit (suc t) start stop m h e =
+    let same : suc t - 1 ≡ t = omega arith in
+    (λ i. Some (m -ℤ price_at terms (same i) *ℤ unit.pmin))
+    ∙ ap (hour_cost terms unit t) (sym (ap (λ k. term_at terms k start stop) (sym same) ∙ e))
+
+pub returns-in-Some : goal.returns-in-Some
+returns-in-Some c =
+    let found : term_at c.args.terms.now (c.args.t - 1) c.args.start c.args.stop ≡ Some c.in-Some.term =
+    sym c.term_at.ensures ∙ c.in-Some.is in
+    let within : c.args.t - 1 < period_count c.args.terms.now = omega (arith, c.requires.period, c.if-t-eq0.false) in
+    let size : unsigned_abs c.in-Some.term ≤ MAX_TERM =
+    (MatchOption-at_some _ _ c.in-Some.term found (c.requires.sized.term (c.args.t - 1) c.args.start c.args.stop within)).1 in
+    let price_size : unsigned_abs (price_at c.args.terms.now (c.args.t - 1)) ≤ MAX_UNIT_PRICE =
+    c.requires.sized.price (c.args.t - 1) within in
+    let fits : FitsSigned w128 c.in-Some.term = fits_signed_from_abs w128 _ (omega arith) in
+    let price_fits : FitsSigned w128 (price_at c.args.terms.now (c.args.t - 1)) = fits_signed_from_abs w128 _ (omega arith) in
+    let term_is : to_z w128 (of_z w128 c.in-Some.term) ≡ c.in-Some.term = to_z-of_z w128 _ fits in
+    let pi_is : slice_index_or c.as_slice.result.now (c.args.t - 1) (pos 0) ≡ price_at c.args.terms.now (c.args.t - 1) =
+    ap (λ l. slice_index_or l (c.args.t - 1) (pos 0)) c.as_slice.ensures in
+    let price_is : to_z w128 (of_z w128 (slice_index_or c.as_slice.result.now (c.args.t - 1) (pos 0))) ≡ price_at c.args.terms.now (c.args.t - 1) =
+    ap (λ z. to_z w128 (of_z w128 z)) pi_is ∙ to_z-of_z w128 _ price_fits in
+    let minimum_fits : FitsSigned w64 c.args.unit.now.pmin = fits_signed_from_abs w64 _ (omega (arith, c.requires.lawful.minimum.power)) in
+    let minimum_is : to_z w64 (of_z w64 c.args.unit.now.pmin) ≡ c.args.unit.now.pmin = to_z-of_z w64 _ minimum_fits in
+    let result_is : c.less_product.result ≡ c.in-Some.term -ℤ price_at c.args.terms.now (c.args.t - 1) *ℤ c.args.unit.now.pmin =
+    c.less_product.ensures ∙ (λ i. term_is i -ℤ price_is i *ℤ minimum_is i) in
+    let result_fits : FitsSigned w128 c.less_product.result = search rules in
+    let whole : to_z w128 (of_z w128 c.less_product.result) ≡ c.less_product.result = to_z-of_z w128 _ result_fits in
+    ap Some (whole ∙ result_is)
+    ∙ made c.args.terms.now c.args.unit.now c.args.t c.args.start c.args.stop c.in-Some.term (omega (arith, c.if-t-eq0.false)) found

@@ -1,0 +1,8 @@
+-- The entries before the place are those of the end.
+use Rattle.std.proofs.Common.{◌≡◌, ℕ, ◌<◌}
+use Rattle.state_walk.specs.UnitTerms.{period_count}
+use Rattle.state_walk.specs.Onward.{entry, entry_at}
+use Rattle.state_walk.proofs.walk.end.Given as goal
+
+abbrev pub invariant-loop-since : goal.invariant-loop-since
+invariant-loop-since l = (k : ℕ) → k < l.since → entry_at l.values k ≡ entry l.terms l.unit l.fix 0 (period_count l.terms) k

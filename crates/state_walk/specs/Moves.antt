@@ -1,0 +1,67 @@
+-- What one unit may do in a period, by its state before it, and what that costs. A state is whether the unit
+-- is on, and since when: 0 stands for a time before the first period, and suc s for the period s in which it
+-- was switched. Source: the rules M1 to M5 and M7 of the reference model by Knueven, Ostrowski and Watson,
+-- each said of the one period in which it decides.
+use Rattle.std.specs.Prelude.{ℕ, zero, suc, ◌+◌, ◌-◌, Bool, true, false, not, ◌&&◌, ◌||◌, ◌==◌, nat_lt, nat_le, ℤ, pos, ◌-ℤ◌, ◌*ℤ◌, int_le, Option, Some, None, if◌then◌else◌}
+use Rattle.std.specs.Int.{int_min}
+use Rattle.uc_model.specs.PatternBits.{commitment_of}
+use Rattle.uc_model.specs.StartCategory.{sigma}
+use Rattle.uc_model.specs.declared.instance.Thermal.{Thermal}
+use Rattle.uc_model.specs.declared.terms.Terms.{Terms}
+use Rattle.dual_model.specs.declared.node.Fix.{Fix}
+use Rattle.state_walk.specs.UnitTerms.{term_at, price_at}
+
+-- nothing that is decided wants the unit off in period t
+abbrev pub may_be_on : Fix → ℕ → Bool
+may_be_on fix t = not (commitment_of fix.known t) || commitment_of fix.on t
+
+-- neither M1 nor anything that is decided wants it on
+abbrev pub may_be_off : Thermal → Fix → ℕ → Bool
+may_be_off unit fix t = not unit.must_run && (not (commitment_of fix.known t) || not (commitment_of fix.on t))
+
+-- M7, of a unit that is on initially: the greatest initial output, with a stop in the first period and without
+abbrev pub initial_limit : Thermal → Bool → ℤ
+initial_limit unit true = int_min unit.pmax unit.sd
+initial_limit unit false = unit.pmax
+
+abbrev pub holds_initially : Thermal → ℕ → Bool → Bool
+holds_initially unit t stop = nat_lt 0 t || int_le unit.p0 (initial_limit unit stop)
+
+-- the state has lasted long enough to be left in period t: initially `left` periods remain, and a state that
+-- was entered in the horizon lasts `most`
+abbrev pub has_lasted : ℕ → ℕ → ℕ → ℕ → Bool
+has_lasted left most zero t = nat_le left t
+has_lasted left most (suc s) t = nat_le (s + most) t
+
+-- M2 and M4, and M3 and M5
+abbrev pub may_stop : Thermal → ℕ → ℕ → Bool
+may_stop unit since t = has_lasted (unit.ut - unit.ut0) unit.ut since t
+
+abbrev pub may_start : Thermal → ℕ → ℕ → Bool
+may_start unit since t = has_lasted (unit.dt - unit.dt0) unit.dt since t
+
+-- the last stop of a unit that is off since then
+abbrev pub stop_since : ℕ → Option ℕ
+stop_since zero = None
+stop_since (suc s) = Some s
+
+-- what the hour before period t costs a unit that was on in it, without the start
+abbrev pub hour_cost : Terms → Thermal → ℕ → Option ℤ → Option ℤ
+hour_cost terms unit t None = None
+hour_cost terms unit t (Some m) = Some (m -ℤ price_at terms t *ℤ unit.pmin)
+
+abbrev pub hour_before : Terms → Thermal → ℕ → Bool → Bool → Option ℤ
+hour_before terms unit zero start stop = Some (pos 0)
+hour_before terms unit (suc t) start stop = hour_cost terms unit t (term_at terms t start stop)
+
+-- what it costs to go on from a state before period t, the unit being on in the period or not; None where it
+-- may not
+abbrev pub move : Terms → Thermal → Fix → ℕ → Bool → ℕ → Bool → Option ℤ
+move terms unit fix t true since true =
+    if may_be_on fix t && holds_initially unit t false then hour_before terms unit t (since == t) false else None
+move terms unit fix t true since false =
+    if may_be_off unit fix t && holds_initially unit t true && may_stop unit since t
+    then hour_before terms unit t (since == t) true else None
+move terms unit fix t false since true =
+    if may_be_on fix t && may_start unit since t then Some (terms.k *ℤ sigma unit (stop_since since) t) else None
+move terms unit fix t false since false = if may_be_off unit fix t then Some (pos 0) else None

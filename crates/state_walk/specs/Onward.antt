@@ -1,0 +1,62 @@
+-- The least cost of going on from a state to the end of the horizon: the recursion of the walk, over the
+-- number of periods that are left. Source: Bellman's principle of optimality (Dynamic Programming, 1957).
+use Rattle.std.specs.Prelude.{◌≡◌, ℕ, zero, suc, ◌*◌, ◌^◌, ◌≤◌, Bool, true, false, ◌==◌, List, ℤ, pos, ◌+ℤ◌, unsigned_abs, slice_index_or, Option, Some, None, IfSome}
+use Rattle.std.specs.Int.{int_min}
+use Rattle.uc_model.specs.declared.instance.Thermal.{Thermal}
+use Rattle.uc_model.specs.declared.terms.Terms.{Terms}
+use Rattle.dual_model.specs.declared.node.Fix.{Fix}
+use Rattle.state_walk.specs.Moves.{hour_before, move}
+use Rattle.state_walk.specs.declared.walk.Onward.{Onward}
+
+-- the sum of two costs, and the lesser of two; None is what may not be
+abbrev pub plus : Option ℤ → Option ℤ → Option ℤ
+plus None b = None
+plus (Some a) None = None
+plus (Some a) (Some b) = Some (a +ℤ b)
+
+abbrev pub lesser : Option ℤ → Option ℤ → Option ℤ
+lesser None b = b
+lesser (Some a) None = Some a
+lesser (Some a) (Some b) = Some (int_min a b)
+
+-- after the last period, t, the cost of its hour
+abbrev pub end_cost : Terms → Thermal → ℕ → Bool → ℕ → Option ℤ
+end_cost terms unit t true since = hour_before terms unit t (since == t) false
+end_cost terms unit t false since = Some (pos 0)
+
+-- since when the state lasts after period t
+abbrev pub since_after : Bool → ℕ → Bool → ℕ → ℕ
+since_after true since true t = since
+since_after true since false t = suc t
+since_after false since true t = suc t
+since_after false since false t = since
+
+-- the least cost from a state before period t on, with n periods left
+abbrev pub onward : Terms → Thermal → Fix → ℕ → ℕ → Bool → ℕ → Option ℤ
+onward terms unit fix zero t was since = end_cost terms unit t was since
+onward terms unit fix (suc n) t was since =
+    lesser
+    (plus (move terms unit fix t was since true) (onward terms unit fix n (suc t) true (since_after was since true t)))
+    (plus (move terms unit fix t was since false) (onward terms unit fix n (suc t) false (since_after was since false t)))
+
+-- the size of a cost
+abbrev pub IsWithin : ℕ → Option ℤ → Type 0
+IsWithin most cost = IfSome cost (λ v. unsigned_abs v ≤ most)
+
+-- a move costs at most this in size, and a way to the end this
+abbrev pub MAX_MOVE : ℕ
+MAX_MOVE = 2 * 10 ^ 29
+
+abbrev pub MAX_ONWARD : ℕ
+MAX_ONWARD = 10 ^ 32
+
+-- the table of the walk before period t, with n periods left: an entry for each time since which a state may last
+abbrev pub entry : Terms → Thermal → Fix → ℕ → ℕ → ℕ → Onward
+entry terms unit fix n t since =
+    record { on = onward terms unit fix n t true since; off = onward terms unit fix n t false since }
+
+abbrev pub entry_at : List Onward → ℕ → Onward
+entry_at values since = slice_index_or values since (record { on = None; off = None })
+
+abbrev pub IsTable : Terms → Thermal → Fix → ℕ → ℕ → List Onward → Type 0
+IsTable terms unit fix n t values = (since : ℕ) → since ≤ t → entry_at values since ≡ entry terms unit fix n t since

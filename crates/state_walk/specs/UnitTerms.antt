@@ -1,0 +1,55 @@
+-- The terms of one unit: what its `Terms` say of the cells of a period, and how large they are. Source: the
+-- single-unit problems of the Lagrangian relaxation of the reference model by Knueven, Ostrowski and Watson,
+-- whose caps (M9, M10) depend on the starts and stops beside a cell. The limits in size are this project's.
+--
+-- Periods count from 0 here.
+use Rattle.std.specs.Prelude.{◌≡◌, ℕ, suc, ◌<◌, ◌≤◌, Bool, true, false, not, ◌&&◌, ◌==◌, nat_lt, [], ℤ, pos, ◌-ℤ◌, ◌*ℤ◌, ◌≤ℤ◌, ◌<ℤ◌, unsigned_abs, length, slice_index_or, Option, None, MatchOption}
+use Rattle.std.specs.Int.{int_min}
+use Rattle.uc_model.specs.Sums.{bit}
+use Rattle.uc_model.specs.Commitment.{start_reduction, stop_reduction}
+use Rattle.uc_model.specs.declared.limits.TheConstants.{MAX_PERIODS}
+use Rattle.uc_model.specs.declared.instance.Thermal.{Thermal}
+use Rattle.uc_model.specs.declared.terms.Terms.{Terms}
+use Rattle.dual_model.specs.declared.limits.TheConstants.{MAX_SCALE}
+use Rattle.state_walk.specs.declared.limits.TheConstants.{MAX_UNIT_PRICE, MAX_TERM}
+
+-- the number of periods
+abbrev pub period_count : Terms → ℕ
+period_count terms = length terms.terms
+
+-- the place of a cell's term in its period's row, by whether the cell is a start and whether a stop follows
+abbrev pub place : Bool → Bool → ℕ
+place false false = 0
+place true false = 1
+place false true = 2
+place true true = 3
+
+-- the term of such a cell in period t
+abbrev pub term_at : Terms → ℕ → Bool → Bool → Option ℤ
+term_at terms t start stop = slice_index_or (slice_index_or terms.terms t []) (place start stop) None
+
+-- the price of demand in period t
+abbrev pub price_at : Terms → ℕ → ℤ
+price_at terms t = slice_index_or terms.pi t (pos 0)
+
+-- the cap of such a cell: a unit that is on initially has no start in the first period, and after the last
+-- period there is no stop
+abbrev pub cell_cap : ℕ → Thermal → ℕ → Bool → Bool → ℤ
+cell_cap periods unit t start stop =
+    let full = unit.pmax -ℤ unit.pmin in
+    let started = start && not (unit.on0 && (t == 0)) in
+    let followed = stop && nat_lt (suc t) periods in
+    int_min (full -ℤ start_reduction unit *ℤ bit started) (full -ℤ stop_reduction unit *ℤ bit followed)
+
+-- a term is there exactly where the cap is at least 0, and is within the limit
+abbrev pub IsSized : ℤ → Option ℤ → Type 0
+IsSized cap term = MatchOption term (cap <ℤ pos 0) (λ m. (pos 0 ≤ℤ cap) × (unsigned_abs m ≤ MAX_TERM))
+
+-- terms of the unit in shape and size: a price and a row of four for each period
+pub record AreSizedTerms (unit : Thermal) (terms : Terms) : Type 0 where
+  pub scale : (pos 0 ≤ℤ terms.k) × (terms.k ≤ℤ MAX_SCALE)
+  pub periods : (1 ≤ period_count terms) × (period_count terms ≤ MAX_PERIODS)
+  pub prices : length terms.pi ≡ period_count terms
+  pub price : (t : ℕ) → t < period_count terms → unsigned_abs (price_at terms t) ≤ MAX_UNIT_PRICE
+  pub term : (t : ℕ) (start stop : Bool) → t < period_count terms →
+      IsSized (cell_cap (period_count terms) unit t start stop) (term_at terms t start stop)

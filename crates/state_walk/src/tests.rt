@@ -1,0 +1,187 @@
+//! Worked rows, whose values come from outside.
+
+ghost use Rattle.std.specs.Prelude.{◌≡◌, ◌≤◌, ◌&&◌, nat_le, [], ◌∷◌, pos, ◌≤ℤ◌, int_le, IsTrue, IfOk, length};
+ghost use Rattle.std.specs.List.{list_all};
+ghost use Rattle.uc_model.specs.Limits.{IsLawfulThermal};
+
+use crate::{Walk, least, sigma, term, terms};
+use dual_model::Fix;
+use std::alloc::Global;
+use std::process::Abort;
+use std::test::Fail;
+use uc_model::{List, Name, Pattern, Point, StartRow, Thermal};
+
+/// Dollars in micro-dollars, and megawatts in watts.
+const MILLION: i64 = 1_000_000;
+
+/// What a row changes of the unit of 10 to 50 MW.
+#[derive(Clone, Copy)]
+struct Change {
+    must_run: bool,
+    on0: bool,
+    start_limit: u16,
+    down: u16,
+    down0: u16,
+}
+
+// A unit of 10 to 50 MW at 100 and 500 dollars, on initially at 20 MW or off, with these start categories.
+fn unit(alloc: Global, change: Change, startup: Vec<StartRow>) -> Result<Thermal, Fail>
+    requires rows { IsTrue (list_all (λ row. nat_le row.lag 1000 && (int_le (pos 0) row.cost && int_le row.cost (pos 1000))) startup.items) }
+    requires count { (1 ≤ length startup.items) × (length startup.items ≤ 16) }
+    requires down { 1 ≤ change.down }
+    ensures lawful { IfOk result IsLawfulThermal }
+    ensures points { IfOk result (λ unit. unit.points ≡ record { mw = pos 10000000; cost = pos 100000000 } ∷ record { mw = pos 50000000; cost = pos 500000000 } ∷ []) }
+{
+    let points = Vec::from_array(
+        alloc,
+        [
+            Point {
+                mw: 10 * MILLION,
+                cost: 100 * MILLION,
+            },
+            Point {
+                mw: 50 * MILLION,
+                cost: 500 * MILLION,
+            },
+        ],
+    )?;
+    Ok(Thermal {
+        name: Name::from_string(String::new(alloc)),
+        must_run: change.must_run,
+        pmin: 10 * MILLION,
+        pmax: 50 * MILLION,
+        ru: 40 * MILLION,
+        rd: 40 * MILLION,
+        su: i64::from(change.start_limit) * MILLION,
+        sd: 50 * MILLION,
+        ut: 1,
+        dt: u32::from(change.down),
+        p0: if change.on0 { 20 * MILLION } else { 0 },
+        on0: change.on0,
+        ut0: 1,
+        dt0: u32::from(change.down0),
+        startup: List::from_vec(startup),
+        points: List::from_vec(points),
+    })
+}
+
+// Off at first for two hours, a start after an hour or four: the start in period 1 may use the first category; the one in period 3
+// is barred from it, and not by the stop in period 2.
+#[test]
+fn the_initial_time_off_bars_a_category(rt: HostRuntime) -> Result<(), Fail> {
+    let alloc = rt.alloc();
+    let rows = Vec::from_array(
+        alloc,
+        [
+            StartRow { lag: 1, cost: 50 },
+            StartRow { lag: 4, cost: 200 },
+        ],
+    )?;
+    let off = Change {
+        must_run: false,
+        on0: false,
+        start_limit: 50,
+        down: 1,
+        down0: 2,
+    };
+    let unit = unit(alloc, off, rows)?;
+    assert_eq!(rt; sigma(&unit, None, 0), 50);
+    assert_eq!(rt; sigma(&unit, Some(1), 2), 200);
+    Ok(())
+}
+
+// The start in period 6 after the stop in period 5 may cost as the second category by its last stop.
+#[test]
+fn the_last_stop_allows_a_category(rt: HostRuntime) -> Result<(), Fail> {
+    let alloc = rt.alloc();
+    let rows = [
+        StartRow { lag: 1, cost: 50 },
+        StartRow { lag: 3, cost: 10 },
+        StartRow { lag: 5, cost: 100 },
+    ];
+    let on = Change {
+        must_run: false,
+        on0: true,
+        start_limit: 50,
+        down: 1,
+        down0: 0,
+    };
+    let unit = unit(alloc, on, Vec::from_array(alloc, rows)?)?;
+    assert_eq!(rt; sigma(&unit, Some(4), 5), 10);
+    Ok(())
+}
+
+// A term on the line between two points, and terms that are rounded down.
+#[test]
+fn terms_are_rounded_down(rt: HostRuntime) {
+    let line = [
+        Point {
+            mw: 10 * MILLION,
+            cost: 100 * MILLION,
+        },
+        Point {
+            mw: 50 * MILLION,
+            cost: 500 * MILLION,
+        },
+    ];
+    assert_eq!(rt;
+        term(&line, MILLION, -20_000_000, 0, 15 * MILLION),
+        Some(-50_000_000_000_000)
+    );
+    let rising = [Point { mw: 0, cost: 0 }, Point { mw: 3, cost: 1 }];
+    assert_eq!(rt; term(&rising, 1, -1, 0, 2), Some(-2));
+    assert_eq!(rt; term(&rising, 1, -1, 0, -1), None);
+    let falling = [Point { mw: 0, cost: 0 }, Point { mw: 3, cost: -1 }];
+    assert_eq!(rt; term(&falling, 1, 0, 0, 2), Some(-1));
+}
+
+// The value of a unit over one period at these prices, with nothing decided.
+fn value(alloc: Global, unit: &Thermal, k: i64, row: (i16, i16, i16)) -> Result<Option<i128>, Fail>
+    requires lawful { IsLawfulThermal unit.now }
+    requires scale { (pos 0 ≤ℤ k) × (k ≤ℤ pos 1000) }
+{
+    let rows = [(i128::from(row.0), i128::from(row.1), i128::from(row.2))];
+    let terms = terms(alloc, unit, k, &rows).map_err(|_| "no memory")?;
+    let mut walk = Walk::new(alloc, 1).map_err(|_| "no memory")?;
+    let nothing = Fix {
+        known: Pattern::all_off(),
+        on: Pattern::all_off(),
+    };
+    Ok(least(&mut walk, &terms, unit, &nothing))
+}
+
+// A must-run unit that has to stay off has no pattern. At the ray that prices demand alone a unit gives its greatest
+// output, unless its limit at a start is below its least output.
+#[test]
+fn rays_find_the_greatest_output(rt: HostRuntime) -> Result<(), Fail> {
+    let alloc = rt.alloc();
+    let rows = [StartRow { lag: 1, cost: 0 }];
+    let stuck = Change {
+        must_run: true,
+        on0: false,
+        start_limit: 50,
+        down: 3,
+        down0: 1,
+    };
+    let stuck = unit(alloc, stuck, Vec::from_array(alloc, rows)?)?;
+    assert_eq!(rt; value(alloc, &stuck, 0, (0, 0, 0))?, None);
+    let running = Change {
+        must_run: false,
+        on0: true,
+        start_limit: 50,
+        down: 1,
+        down0: 0,
+    };
+    let running = unit(alloc, running, Vec::from_array(alloc, rows)?)?;
+    assert_eq!(rt; value(alloc, &running, 0, (-1, 0, 1))?, Some(-50_000_000));
+    let slow = Change {
+        must_run: false,
+        on0: false,
+        start_limit: 5,
+        down: 1,
+        down0: 1,
+    };
+    let slow = unit(alloc, slow, Vec::from_array(alloc, rows)?)?;
+    assert_eq!(rt; value(alloc, &slow, 0, (-1, 0, 1))?, Some(0));
+    Ok(())
+}

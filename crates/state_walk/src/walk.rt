@@ -1,0 +1,182 @@
+//! The walk: the least value of one unit's patterns, period by period from the last to the first.
+
+ghost use Rattle.std.specs.Prelude.{◌≡◌, ℕ, zero, suc, ◌+◌, ◌-◌, ◌<◌, ◌≤◌, IfSome, IfOk, IfNone, length};
+ghost use Rattle.uc_model.specs.Limits.{IsLawfulThermal};
+ghost use Rattle.uc_model.specs.Schedule.{thermal_unit};
+ghost use Rattle.uc_model.specs.declared.instance.Instance.{Instance};
+ghost use Rattle.dual_model.specs.Fixings.{IsFixOf};
+ghost use Rattle.dual_model.specs.declared.node.Node.{Node};
+ghost use Rattle.dual_model.specs.declared.table.Table.{Table};
+ghost use Rattle.state_walk.specs.UnitTerms.{AreSizedTerms, period_count};
+ghost use Rattle.state_walk.specs.PatternValue.{HasNoPattern, IsLeastValue};
+ghost use Rattle.state_walk.specs.TableValue.{AreTermsOf, IsUnitValueOf};
+ghost use Rattle.state_walk.specs.Onward.{plus as plus_of, lesser as lesser_of, entry, onward, IsTable, IsWithin, MAX_ONWARD};
+
+use crate::moves::{hour_before, start, stay_off, stay_on, stop};
+use dual_model::Fix;
+use std::alloc::Global;
+use std::marker::Model;
+use uc_model::{NoMemory, Terms, Thermal};
+
+/// The least cost from a state before a period to the end of the horizon, where the unit is on, and where it
+/// is off; `None` where no pattern goes on from there.
+#[derive(Clone, Copy, Debug)]
+pub(crate) struct Onward {
+    on: Option<i128>,
+    off: Option<i128>,
+}
+
+/// The memory of walks over a number of periods, which contracts see as that number: an entry for each time
+/// since which a state may last.
+#[derive(Debug, Drop)]
+pub struct Walk {
+    values: Vec<Onward>,
+}
+
+impl Model for Walk {
+    ghost use Rattle.std.specs.Prelude.{ℕ, ◌-◌, ◌≤◌, length};
+
+    ghost Value = { ℕ };
+
+    ghost view = { λ walk. length walk.values.items - 1 };
+
+    ghost invariant = { λ walk. 1 ≤ length walk.values.items };
+}
+
+impl Walk {
+    /// The memory of walks over `periods` periods. The only error is `NoMemory`.
+    pub fn new(alloc: Global, periods: usize) -> Result<Walk, NoMemory>
+        ensures { IfOk result (λ walk. walk ≡ periods) }
+    {
+        let Some(times) = periods.checked_add(1) else {
+            return Err(NoMemory);
+        };
+        let none = Onward {
+            on: None,
+            off: None,
+        };
+        match vec![in alloc; none; times] {
+            Ok(values) => Ok(Walk { values }),
+            Err(_) => Err(NoMemory),
+        }
+    }
+}
+
+/// The value of one unit, exact: the least value of a pattern that is allowed and as `fix` decides, by the
+/// unit's `terms`; `None` exactly where there is no such pattern. Where the terms are those of a unit of an
+/// instance at a price table, this is the unit's value there. Takes no memory, and a time that grows as the
+/// square of the number of periods.
+pub fn least(walk: &mut Walk, terms: &Terms, unit: &Thermal, fix: &Fix) -> Option<i128>
+    requires lawful { IsLawfulThermal unit.now }
+    requires sized { AreSizedTerms unit.now terms.now }
+    requires room { walk.old ≡ period_count terms.now }
+    ensures kept { walk.new ≡ walk.old }
+
+    ensures value { IfSome result (IsLeastValue terms.now unit.now fix.now) }
+    ensures none { IfNone result (HasNoPattern terms.now unit.now fix.now) }
+    ensures size { IsWithin MAX_ONWARD result }
+    ensures unit_value { (instance : Instance) (node : Node) (table : Table) (g : ℕ)
+        → thermal_unit instance g ≡ unit.now → AreTermsOf instance table g terms.now
+        → IsFixOf instance.periods node g fix.now → IsUnitValueOf instance node table g result }
+{
+    least_onward(walk.values.as_mut_slice(), terms, unit, fix)
+}
+
+// The least cost of a unit from the beginning on, by the table `values`, which it fills.
+fn least_onward(values: &mut [Onward], terms: &Terms, unit: &Thermal, fix: &Fix) -> Option<i128>
+    requires lawful { IsLawfulThermal unit.now }
+    requires sized { AreSizedTerms unit.now terms.now }
+    requires room { length values.old ≡ period_count terms.now + 1 }
+    ensures { result ≡ onward terms.now unit.now fix.now (period_count terms.now) 0 unit.now.on0 0 }
+{
+    let periods = terms.terms.as_slice().len();
+    end(values, terms, unit, fix);
+    for back in 0..periods {
+        step(values, terms, unit, fix, periods - 1 - back);
+    }
+    let first = values[0];
+    if unit.on0 { first.on } else { first.off }
+}
+
+// The table after the last period.
+fn end(values: &mut [Onward], terms: &Terms, unit: &Thermal, fix: &Fix)
+    requires lawful { IsLawfulThermal unit.now }
+    requires sized { AreSizedTerms unit.now terms.now }
+    requires room { length values.old ≡ period_count terms.now + 1 }
+    ensures { IsTable terms.now unit.now fix.now 0 (period_count terms.now) values.new }
+{
+    let periods = terms.terms.as_slice().len();
+    for since in 0..periods + 1 {
+        let on = hour_before(terms, unit, periods, since == periods, false);
+        values[since] = Onward { on, off: Some(0) };
+    }
+}
+
+// The table before period t, from the one after it.
+fn step(values: &mut [Onward], terms: &Terms, unit: &Thermal, fix: &Fix, t: usize)
+    requires lawful { IsLawfulThermal unit.now }
+    requires sized { AreSizedTerms unit.now terms.now }
+    requires room { length values.old ≡ period_count terms.now + 1 }
+    requires period { t < period_count terms.now }
+    requires later { IsTable terms.now unit.now fix.now (period_count terms.now - suc t) (suc t) values.old }
+    ensures { IsTable terms.now unit.now fix.now (period_count terms.now - t) t values.new }
+{
+    let switched = values[t + 1];
+    for since in 0..t + 1 {
+        values[since] = earlier(terms, unit, fix, t, since, values[since], switched);
+    }
+}
+
+// The sum of two costs; `None` is what may not be.
+fn plus(a: Option<i128>, b: Option<i128>) -> Option<i128>
+    requires left { IsWithin MAX_ONWARD a }
+    requires right { IsWithin MAX_ONWARD b }
+    ensures { result ≡ plus_of a b }
+{
+    match (a, b) {
+        (Some(a), Some(b)) => Some(a + b),
+        _ => None,
+    }
+}
+
+// The lesser of two costs.
+fn lesser(a: Option<i128>, b: Option<i128>) -> Option<i128>
+    ensures { result ≡ lesser_of a b }
+{
+    match (a, b) {
+        (Some(a), Some(b)) => Some(a.min(b)),
+        (Some(a), None) => Some(a),
+        (None, b) => b,
+    }
+}
+
+// The entry before period t for a time since which the state lasts, from the one after it and the entry of a
+// unit that is switched in the period.
+fn earlier(
+    terms: &Terms,
+    unit: &Thermal,
+    fix: &Fix,
+    t: usize,
+    since: usize,
+    later: Onward,
+    switched: Onward,
+) -> Onward
+    requires lawful { IsLawfulThermal unit.now }
+    requires sized { AreSizedTerms unit.now terms.now }
+    requires period { t < period_count terms.now }
+    requires past { since ≤ t }
+    requires after { later ≡ entry terms.now unit.now fix.now (period_count terms.now - suc t) (suc t) since }
+    requires entered { switched ≡ entry terms.now unit.now fix.now (period_count terms.now - suc t) (suc t) (suc t) }
+    ensures { result ≡ entry terms.now unit.now fix.now (period_count terms.now - t) t since }
+{
+    Onward {
+        on: lesser(
+            plus(stay_on(terms, unit, fix, t, since), later.on),
+            plus(stop(terms, unit, fix, t, since), switched.off),
+        ),
+        off: lesser(
+            plus(start(terms, unit, fix, t, since), switched.on),
+            plus(stay_off(terms, unit, fix, t, since), later.off),
+        ),
+    }
+}

@@ -1,0 +1,2 @@
+pub mod ZeroTable
+pub mod SearchResults

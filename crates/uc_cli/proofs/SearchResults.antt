@@ -1,0 +1,91 @@
+-- What the search answers for a root with a value, and for one with a unit that has no pattern.
+use Rattle.std.proofs.Common.{◌≡◌, ◌≢◌, inl, ℕ, ◌<◌, List, [], ◌∷◌, length, get_or, refl, sym, ap, subst, ◌∙◌, arith, ℤ, pos, rules}
+use Rattle.std.specs.Prelude.{Option, Some, None, Result, Ok, Err, IfOk, All}
+use Rattle.std.proofs.lemmas.List.Elements.{All-nil, All-cons}
+use Rattle.uc_model.specs.Division.{IsFloor}
+use Rattle.uc_model.specs.Limits.{IsLawfulInstance}
+use Rattle.uc_model.specs.declared.instance.Instance.{Instance}
+use Rattle.uc_model.proofs.Ring.{linear, le_refl}
+use Rattle.dual_model.specs.Prices.{IsLawfulTable}
+use Rattle.dual_model.specs.Fixings.{HasNoPattern}
+use Rattle.dual_model.specs.Cover.{root}
+use Rattle.dual_model.specs.NodeValue.{IsNodeValue}
+use Rattle.dual_model.specs.Certificate.{CertificateHolds}
+use Rattle.dual_model.specs.Laws.{IsClaimTrue}
+use Rattle.dual_model.proofs.Covers.{certificates_claim_truly}
+use Rattle.branch_tree.specs.Claims.{certificate_of, tree_bound}
+use Rattle.branch_tree.specs.SearchResult.{IsFirstEmpty, IsTrueEntry, IsTrueLog, IsSearchResult}
+use Rattle.branch_tree.specs.declared.found.Entry.{Entry}
+use Rattle.branch_tree.specs.declared.found.Found.{Found}
+use Rattle.branch_tree.specs.declared.found.Outcome.TheVariants.{Value}
+use Rattle.branch_tree.specs.declared.tree.Leaf.TheVariants as leaf
+use Rattle.uc_cli.specs.Search.{ZERO_SCALE, zero_table}
+use Rattle.uc_cli.proofs.ZeroTable.{zero_lawful}
+
+-- the one entry of the log
+abbrev pub the_claim : ℤ → Entry
+the_claim v = record { unit = 1; worker = 0; node = 0; table = 0; outcome = Value v }
+
+-- what is answered where the root has the value v, whose bound is b
+abbrev pub bounded_found : Instance → ℤ → ℤ → Found
+bounded_found instance v b = record {
+  schedule = None;
+  tree = record { leaf = leaf.Bound 0 b };
+  tables = zero_table instance ∷ [];
+  log = the_claim v ∷ [];
+  most_on = None;
+  layout = record { nodes = 0 ∷ []; tables = 0 ∷ [] };
+}
+
+bounded_certificate : (instance : Instance) (v b : ℤ) → IsNodeValue instance root (zero_table instance) v → IsFloor v ZERO_SCALE b
+    → CertificateHolds instance (certificate_of instance (bounded_found instance v b))
+bounded_certificate instance v b value floor = record {
+  periods = refl;
+  thermal = refl;
+  renewable = refl;
+  tables = All-cons (IsLawfulTable instance) (zero_table instance) [] (zero_lawful instance) (All-nil (IsLawfulTable instance));
+  tree = tt;
+  schedule = λ written e. absurd (cc);
+  claim = (
+    refl,
+    record {
+      table = zero_table instance;
+      is_table = refl;
+      scale = omega (arith, linear);
+      bounds = inl (record { bound = b; is_bound = record { value = v; is_value = value; quotient = floor }; enough = le_refl b });
+    },
+  );
+}
+
+-- a root with a value has no unit without a pattern
+not_first_empty : (instance : Instance) (v : ℤ) → IsNodeValue instance root (zero_table instance) v → (g : ℕ) → IsFirstEmpty instance root g → ⊥
+not_first_empty instance v value g empty =
+    let unit = value.units g empty.within in
+    empty.empty unit.on unit.best.pattern
+
+pub bounded_is : (instance : Instance) (v b : ℤ) → IsNodeValue instance root (zero_table instance) v → IsFloor v ZERO_SCALE b
+    → IsSearchResult instance 1 (bounded_found instance v b)
+bounded_is instance v b value floor = record {
+  layout = record { nodes = refl; tables = refl; within = All-cons (λ i. i < 1) 0 [] (omega arith) (All-nil (λ i. i < 1)) };
+  certificate = bounded_certificate instance v b value floor;
+  log = record {
+    entries = All-cons (IsTrueEntry instance (zero_table instance ∷ [])) (the_claim v) []
+        (record { node = refl; table = zero_table instance; is_table = refl; lawful = zero_lawful instance; outcome = value })
+        (All-nil (IsTrueEntry instance (zero_table instance ∷ [])));
+    apart = λ i j d h k. absurd (omega arith);
+  };
+  schedule = refl;
+  most_on = refl;
+  spent = λ some. refl;
+  excluded = λ g empty. absurd (not_first_empty instance v value g empty);
+}
+
+-- what a search answers claims truly
+pub claims_truly : (instance : Instance) (found : Found) → IsLawfulInstance instance → IsSearchResult instance 1 found
+    → IsClaimTrue instance (tree_bound found.tree)
+claims_truly instance found lawful answer = certificates_claim_truly instance (certificate_of instance found) lawful answer.certificate
+
+pub claims_if_ok : {E : Type 0} (instance : Instance) (result : Result Found E) → IsLawfulInstance instance
+    → IfOk result (IsSearchResult instance 1) → IfOk result (λ found. IsClaimTrue instance (tree_bound found.tree))
+claims_if_ok instance (Ok found) lawful answer = claims_truly instance found lawful answer
+claims_if_ok instance (Err e) lawful answer = tt

@@ -1,0 +1,43 @@
+-- Each turn adds a unit's value to the sum, or finds the first unit without a pattern.
+use Rattle.std.proofs.Common.{◌≡◌, ◌<◌, ◌≤◌, ℤ, ◌+ℤ◌, FitsSigned, unsigned_abs, to_z, length, ap, subst, ◌∙◌, arith, rules}
+use Rattle.std.specs.Int.{w128}
+use Rattle.std.proofs.lemmas.Int.{to_z-of_z}
+use Rattle.uc_model.specs.Schedule.{thermal_count}
+use Rattle.uc_model.specs.declared.limits.TheConstants.{MAX_UNITS}
+use Rattle.dual_model.specs.Cover.{root}
+use Rattle.state_walk.specs.Onward.{IsWithin, MAX_ONWARD}
+use Rattle.state_walk.specs.TableValue.{IsUnitValueOf}
+use Rattle.uc_cli.specs.Search.{zero_table, IsUnitSum}
+use Rattle.uc_cli.proofs.ZeroTable.{zero_node_value, unit_sum-more, first_empty, sum_fits, sum_size}
+use Rattle.uc_cli.proofs.search.evaluate.Goals as goal
+
+pub returns-in-None : goal.returns-in-None
+returns-in-None c =
+    let instance = c.args.instance.now in
+    let count : length c.as_slice-g-end.result.now ≡ thermal_count instance = ap length c.as_slice-g-end.ensures in
+    first_empty instance root (zero_table instance) c.loop-g.g (to_z w128 c.loop-g.total-bits) c.loop-g.invariant.sum (omega arith)
+    (subst (IsUnitValueOf instance root (zero_table instance) c.loop-g.g) c.in-None.is c.in_ok-value.ensures.value)
+
+pub loop-g-preserved : goal.loop-g-preserved
+loop-g-preserved c =
+    let instance = c.args.instance.now in
+    let count : length c.as_slice-g-end.result.now ≡ thermal_count instance = ap length c.as_slice-g-end.ensures in
+    let g = c.loop-g.g in
+    let within : g < MAX_UNITS = omega (arith, c.requires.thermal_units) in
+    let size = subst (IsWithin MAX_ONWARD) c.in-Some.is c.in_ok-value.ensures.size in
+    let value = subst (IsUnitValueOf instance root (zero_table instance) g) c.in-Some.is c.in_ok-value.ensures.value in
+    let fits_value : FitsSigned w128 c.in-Some.value = search rules in
+    let fits = sum_fits g (to_z w128 c.loop-g.total-bits) c.in-Some.value within c.loop-g.invariant.size size in
+    simp to_z-of_z (record {
+      sum = unit_sum-more instance root (zero_table instance) g (to_z w128 c.loop-g.total-bits) c.in-Some.value c.loop-g.invariant.sum value;
+      size = sum_size g (to_z w128 c.loop-g.total-bits) c.in-Some.value c.loop-g.invariant.size size;
+      room = c.in_ok-value.ensures.kept ∙ c.loop-g.invariant.room;
+    })
+
+pub returns : goal.returns
+returns c =
+    let instance = c.args.instance.now in
+    let count : length c.as_slice-g-end.result.now ≡ thermal_count instance = ap length c.as_slice-g-end.ensures in
+    let whole : c.loop-g.g ≡ thermal_count instance = omega arith in
+    zero_node_value instance root (to_z w128 c.loop-g.total-bits)
+    (subst (λ n. IsUnitSum instance root (zero_table instance) n (to_z w128 c.loop-g.total-bits)) whole c.loop-g.invariant.sum)

@@ -1,0 +1,12 @@
+use Rattle.std.proofs.Common.{◌≡◌, ◌*◌, ◌≤◌, unsigned_abs}
+use Rattle.dual_model.specs.Cover.{root}
+use Rattle.state_walk.specs.Onward.{MAX_ONWARD}
+use Rattle.uc_cli.specs.Search.{zero_table, IsUnitSum}
+use Rattle.uc_cli.proofs.search.evaluate.Given as goal
+
+abbrev pub invariant-loop-g : goal.invariant-loop-g
+invariant-loop-g l = record {
+  sum : IsUnitSum l.instance root (zero_table l.instance) l.g l.total;
+  size : unsigned_abs l.total ≤ l.g * MAX_ONWARD;
+  room : l.walk ≡ l.instance.periods;
+}

@@ -1,0 +1,174 @@
+//! The search: the value of the root at the table of no prices.
+
+ghost use Rattle.std.specs.Prelude.{◌≡◌, ℕ, ◌<◌, ◌*◌, ◌≤◌, unsigned_abs, length, replicate, pos, false, [], ◌∷◌, IfOk, ⊤};
+ghost use Rattle.uc_model.specs.Limits.{IsLawfulInstance};
+ghost use Rattle.uc_model.specs.PatternBits.{commitment_of};
+ghost use Rattle.uc_model.specs.Schedule.{thermal_count};
+ghost use Rattle.uc_model.specs.declared.instance.Instance.{Instance};
+ghost use Rattle.dual_model.specs.Cover.{root};
+ghost use Rattle.dual_model.specs.Laws.{IsClaimTrue};
+ghost use Rattle.branch_tree.specs.Claims.{tree_bound};
+ghost use Rattle.dual_model.specs.NodeValue.{IsNodeValue};
+ghost use Rattle.branch_tree.specs.SearchResult.{IsFirstEmpty, IsOutcome, IsSearchResult};
+ghost use Rattle.state_walk.specs.Onward.{IsWithin, MAX_ONWARD};
+ghost use Rattle.state_walk.specs.TableValue.{IsUnitValueOf};
+ghost use Rattle.uc_cli.specs.Search.{zero_table};
+
+use branch_tree::{Entry, Found, Layout, Leaf, Outcome, Tree};
+use dual_model::{Fix, Table};
+use outside::Gate;
+use state_walk::{Walk, least, terms};
+use std::alloc::Global;
+use std::sync::Wait;
+use uc_model::{Instance, List, NoMemory, Pattern, floor_div};
+
+/// The scale of the table of no prices: a micro-dollar per watt.
+const SCALE: i64 = 1_000_000;
+
+// The table of no prices.
+fn no_prices(alloc: Global, instance: &Instance) -> Result<Table, NoMemory>
+    requires { IsLawfulInstance instance.now }
+    ensures { IfOk result (λ table. table ≡ zero_table instance.now) }
+{
+    let Ok(zeros) = vec![in alloc; 0_i64; instance.periods as usize] else {
+        return Err(NoMemory);
+    };
+    let units = instance.thermal.as_slice().len() as u32;
+    Table::new(alloc, units, SCALE, &zeros, &zeros, &[])
+}
+
+// Nothing is decided at the root.
+fn nothing_fixed() -> Fix
+    ensures { (t : ℕ) → commitment_of result.known t ≡ false }
+{
+    Fix {
+        known: Pattern::all_off(),
+        on: Pattern::all_off(),
+    }
+}
+
+// The value of thermal unit `g` at the table of no prices, or nothing where it has no allowed pattern.
+fn unit_value(
+    alloc: Global,
+    walk: &mut Walk,
+    instance: &Instance,
+    prices: &[(i128, i128, i128)],
+    g: usize,
+) -> Result<Option<i128>, NoMemory>
+    requires lawful { IsLawfulInstance instance.now }
+    requires unit { g < thermal_count instance.now }
+    requires room { walk.old ≡ instance.now.periods }
+    requires prices { prices.now ≡ replicate instance.now.periods (pos 0, pos 0, pos 0) }
+    ensures value { IfOk result (IsUnitValueOf instance.now root (zero_table instance.now) g) }
+    ensures size { IfOk result (IsWithin MAX_ONWARD) }
+    ensures kept { walk.new ≡ walk.old }
+{
+    let unit = &instance.thermal.as_slice()[g];
+    let unit_terms = terms(alloc, unit, SCALE, prices)?;
+    Ok(least(walk, &unit_terms, unit, &nothing_fixed()))
+}
+
+// The value of the root at the table of no prices, or the first unit without an allowed pattern.
+fn evaluate(alloc: Global, instance: &Instance) -> Result<Outcome, NoMemory>
+    requires { IsLawfulInstance instance.now }
+    ensures { IfOk result (IsOutcome instance.now root (zero_table instance.now)) }
+{
+    let periods = instance.periods as usize;
+    let Ok(prices) = vec![in alloc; (0_i128, 0_i128, 0_i128); periods] else {
+        return Err(NoMemory);
+    };
+    let mut walk = Walk::new(alloc, periods)?;
+    let mut total = 0;
+    for g in 0..instance.thermal.as_slice().len() {
+        match unit_value(alloc, &mut walk, instance, &prices, g)? {
+            Some(value) => total += value,
+            None => return Ok(Outcome::Empty(g as u32)),
+        }
+    }
+    Ok(Outcome::Value(total))
+}
+
+// A list of one element.
+fn single<T: Drop>(alloc: Global, item: T) -> Result<List<T>, NoMemory>
+    ensures { IfOk result (λ list. list ≡ item ∷ []) }
+{
+    let mut items = Vec::new(alloc);
+    match items.push(item) {
+        Ok(()) => Ok(List::from_vec(items)),
+        Err(_) => Err(NoMemory),
+    }
+}
+
+// The root is excluded, since this unit has no allowed pattern.
+fn excluded(alloc: Global, instance: &Instance, g: u32) -> Result<Found, NoMemory>
+    requires { IsFirstEmpty instance.now root g }
+    ensures { IfOk result (IsSearchResult instance.now 1) }
+{
+    Ok(Found {
+        schedule: None,
+        tree: Tree {
+            leaf: Leaf::Empty { g },
+        },
+        tables: List::from_vec(Vec::new(alloc)),
+        log: List::from_vec(Vec::new(alloc)),
+        most_on: None,
+        layout: Layout {
+            nodes: single(alloc, 0)?,
+            tables: List::from_vec(Vec::new(alloc)),
+        },
+    })
+}
+
+// The root is bounded by its value at the table of no prices, which the one claim gave.
+fn bounded(alloc: Global, instance: &Instance, value: &i128) -> Result<Found, NoMemory>
+    requires lawful { IsLawfulInstance instance.now }
+    requires value { IsNodeValue instance.now root (zero_table instance.now) value.now }
+    ensures { IfOk result (IsSearchResult instance.now 1) }
+{
+    let claim = Entry {
+        unit: 1,
+        worker: 0,
+        node: 0,
+        table: 0,
+        outcome: Outcome::Value(*value),
+    };
+    let bound = floor_div(*value, i128::from(SCALE));
+    Ok(Found {
+        schedule: None,
+        tree: Tree {
+            leaf: Leaf::Bound {
+                table: 0,
+                value: bound,
+            },
+        },
+        tables: single(alloc, no_prices(alloc, instance)?)?,
+        log: single(alloc, claim)?,
+        most_on: None,
+        layout: Layout {
+            nodes: single(alloc, 0)?,
+            tables: single(alloc, 0)?,
+        },
+    })
+}
+
+/// What the search finds: a leaf for the first unit without an allowed pattern, without any claim, or the
+/// bound of the one claim, which enters the gate as unit 1 of worker 0.
+pub(crate) fn search<R: Wait, G: Gate>(
+    rt: &R,
+    alloc: Global,
+    instance: &Instance,
+    gate: &G,
+) -> Result<Found, NoMemory>
+    requires { IsLawfulInstance instance.now }
+    ensures search { IfOk result (IsSearchResult instance.now 1) }
+    ensures claim { IfOk result (λ found. IsClaimTrue instance.now (tree_bound found.tree)) }
+{
+    if let Outcome::Empty(g) = evaluate(alloc, instance)? {
+        return excluded(alloc, instance, g);
+    }
+    gate.enter(rt, 0, 1);
+    match evaluate(alloc, instance)? {
+        Outcome::Value(value) => bounded(alloc, instance, &value),
+        Outcome::Empty(g) => excluded(alloc, instance, g),
+    }
+}
