@@ -56,11 +56,11 @@ evaluations_line found = line (codes "evaluations") (whole_text (length found.lo
 -- the category of a start; 0 is no start
 abbrev pub start_text : ℕ → List ℕ
 start_text zero = []
-start_text (suc s) = 42 ∷ whole_text (suc s)
+start_text (suc s) = codes "*" ++ whole_text (suc s)
 
 -- total output and reserve
 abbrev pub power_text : Thermal → Cell → List ℕ
-power_text unit cell = money_text (cell.p +ℤ unit.pmin) ++ (43 ∷ money_text cell.r)
+power_text unit cell = money_text (cell.p +ℤ unit.pmin) ++ (codes "+" ++ money_text cell.r)
 
 -- a cell: `-`, or total output, reserve and the category of a start
 abbrev pub cell_text : Thermal → Cell → List ℕ
@@ -101,7 +101,7 @@ range_text low high =
 
 -- why a commitment could not be dispatched
 abbrev pub why_line : Instance → Why → List ℕ
-why_line instance (Rule rule unit) = line (thermal_words instance unit) (codes "breaks" ∷ (77 ∷ whole_text rule) ∷ [])
+why_line instance (Rule rule unit) = line (thermal_words instance unit) (codes "breaks" ∷ (codes "M" ++ whole_text rule) ∷ [])
 why_line instance (Box unit low high) = thermal_words instance unit ++ range_text low high
 why_line instance (Over least demand) =
     line (codes "least output") (money_text least ∷ codes "above demand" ∷ money_text demand ∷ [])

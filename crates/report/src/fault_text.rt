@@ -1,9 +1,8 @@
 //! The line of a fault.
 
-ghost use Rattle.std.specs.Prelude.{◌≡◌, ◌∷◌, ◌++◌, [], suc, OnOk, OnErr, codes};
+ghost use Rattle.std.specs.Prelude.{◌≡◌, ◌∷◌, ◌++◌, [], OnOk, OnErr, codes};
 ghost use Rattle.outside.specs.Sinks.{SinkWrites, WriterWrites, WritesFront};
 ghost use Rattle.uc_model.specs.Decimal.{whole_text};
-ghost use Rattle.uc_model.specs.Money.{money_text};
 ghost use Rattle.cert_text.specs.Lines.{line};
 ghost use Rattle.report.specs.Sinks.{SinkWritesFront};
 ghost use Rattle.report.specs.FaultText.{usage_text, read_line, write_line, long_line, json_text, json_line, field_text, owner_text, code_text, field_and_entry, instance_line, line_fault_text, certificate_line, unit_rule_line, period_rule_line, rule_line, costs_line, refusal_line, fault_text};

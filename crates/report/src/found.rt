@@ -1,9 +1,7 @@
 //! The report of what a search found.
 
-ghost use Rattle.std.specs.Prelude.{◌≡◌, ◌∷◌, ◌++◌, [], ◌≤◌, length, OnOk, OnErr, codes};
+ghost use Rattle.std.specs.Prelude.{◌≡◌, [], ◌≤◌, OnOk, OnErr, codes};
 ghost use Rattle.outside.specs.Sinks.{SinkWrites, WriterWrites, WritesFront};
-ghost use Rattle.uc_model.specs.Decimal.{whole_text};
-ghost use Rattle.uc_model.specs.Money.{money_text};
 ghost use Rattle.branch_tree.specs.Claims.{tree_bound};
 ghost use Rattle.cert_text.specs.Lines.{line};
 ghost use Rattle.report.specs.Sinks.{SinkWritesFront};

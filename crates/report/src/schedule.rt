@@ -1,6 +1,6 @@
 //! The lines of a schedule.
 
-ghost use Rattle.std.specs.Prelude.{◌≡◌, ◌∷◌, ◌++◌, [], ◌+ℤ◌, OnOk, OnErr, codes};
+ghost use Rattle.std.specs.Prelude.{◌≡◌, ◌∷◌, ◌++◌, [], ◌+ℤ◌, OnOk, OnErr};
 ghost use Rattle.outside.specs.Sinks.{WriterWrites, WritesFront};
 ghost use Rattle.uc_model.specs.Money.{money_text};
 ghost use Rattle.cert_text.specs.Lines.{words_of};

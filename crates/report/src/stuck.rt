@@ -39,8 +39,8 @@ fn write_rule<W: Writer>(
     rule: u8,
     unit: usize,
 ) -> Result<(), Failed>
-    ensures ok { OnOk result (WriterWrites (line (thermal_words instance.now unit) (codes "breaks" ∷ (77 ∷ whole_text rule) ∷ [])) (W.state out.old) (W.state out.new)) }
-    ensures failed { OnErr result (WritesFront (line (thermal_words instance.now unit) (codes "breaks" ∷ (77 ∷ whole_text rule) ∷ [])) (W.state out.old) (W.state out.new)) }
+    ensures ok { OnOk result (WriterWrites (line (thermal_words instance.now unit) (codes "breaks" ∷ (codes "M" ++ whole_text rule) ∷ [])) (W.state out.old) (W.state out.new)) }
+    ensures failed { OnErr result (WritesFront (line (thermal_words instance.now unit) (codes "breaks" ∷ (codes "M" ++ whole_text rule) ∷ [])) (W.state out.old) (W.state out.new)) }
     ensures rest { W.same_else out.old out.new }
 {
     write_thermal(out, instance, unit)?;

@@ -1,7 +1,10 @@
+ghost use Rattle.std.specs.Prelude.{◌≤◌};
+
 use super::*;
 use branch_tree::{Entry, Found, Layout, Leaf, Outcome, Tree};
 use outside::{Call, FailingCall, FaultySink, MemorySink, Pace, Slot};
 use std::alloc::{AllocError, Global};
+use std::process::Abort;
 use std::test::Fail;
 use uc_model::{
     Cell, Field, Instance, List, Name, Printed, Refusal, Renewable, Stuck, Thermal, Why,
@@ -54,32 +57,34 @@ fn thermal(alloc: Global, text: &str) -> Result<Thermal, AllocError> {
     })
 }
 
-// A renewable unit `w1`.
-fn renewable(alloc: Global) -> Result<Renewable, AllocError> {
-    Ok(Renewable {
+// An instance of one thermal unit `g1` over a period.
+fn small_instance(alloc: Global) -> Result<Instance, AllocError> {
+    Ok(Instance {
+        periods: 1,
+        demand: List::from_vec(Vec::new(alloc)),
+        reserves: List::from_vec(Vec::new(alloc)),
+        thermal: List::from_vec(vec![in alloc; thermal(alloc, "g1")?]?),
+        renewable: List::from_vec(Vec::new(alloc)),
+    })
+}
+
+// An instance of a thermal unit, of which the name has to be escaped, and a renewable unit `w1`.
+fn large_instance(alloc: Global) -> Result<Instance, AllocError> {
+    let wind = Renewable {
         name: name(alloc, "w1")?,
         minimum: List::from_vec(Vec::new(alloc)),
         maximum: List::from_vec(Vec::new(alloc)),
-    })
-}
-
-// An instance of one thermal unit of this name.
-fn instance(
-    alloc: Global,
-    periods: u32,
-    thermal_name: &str,
-    renewable: Vec<Renewable>,
-) -> Result<Instance, AllocError> {
+    };
     Ok(Instance {
-        periods,
+        periods: 2,
         demand: List::from_vec(Vec::new(alloc)),
         reserves: List::from_vec(Vec::new(alloc)),
-        thermal: List::from_vec(vec![in alloc; thermal(alloc, thermal_name)?]?),
-        renewable: List::from_vec(renewable),
+        thermal: List::from_vec(vec![in alloc; thermal(alloc, "a\"\\\n")?]?),
+        renewable: List::from_vec(vec![in alloc; wind]?),
     })
 }
 
-// A schedule of these cells of one thermal unit.
+// A schedule of these cells of one thermal unit, and outputs of none or one renewable unit.
 fn printed(
     alloc: Global,
     cells: &[Cell],
@@ -95,20 +100,60 @@ fn found(
     alloc: Global,
     schedule: Option<(Printed, i64)>,
     leaf: Leaf,
-    log: &[Entry],
+    log: Vec<Entry>,
     most_on: Option<Stuck>,
-) -> Result<Found, AllocError> {
-    Ok(Found {
+) -> Found {
+    Found {
         schedule,
         tree: Tree { leaf },
         tables: List::from_vec(Vec::new(alloc)),
-        log: List::from_vec(Vec::from_slice(alloc, log)?),
+        log: List::from_vec(log),
         most_on,
         layout: Layout {
             nodes: List::from_vec(Vec::new(alloc)),
             tables: List::from_vec(Vec::new(alloc)),
         },
-    })
+    }
+}
+
+// A schedule of cost 300, and this bound.
+fn small_found(alloc: Global, value: i128) -> Result<Found, AllocError> {
+    let schedule = printed(alloc, &[ON], Vec::new(alloc))?;
+    let leaf = Leaf::Bound { table: 0, value };
+    Ok(found(
+        alloc,
+        Some((schedule, 300_000_000)),
+        leaf,
+        Vec::new(alloc),
+        None,
+    ))
+}
+
+// A schedule of two units over two periods, after one evaluation.
+fn large_found(alloc: Global) -> Result<Found, AllocError> {
+    let outputs = List::from_vec(vec![in alloc; 0, 2_500_000]?);
+    let schedule = printed(alloc, &[OFF, STARTED], vec![in alloc; outputs]?)?;
+    let leaf = Leaf::Live {
+        table: 0,
+        value: -500_000,
+    };
+    let log = vec![in alloc; ENTRY]?;
+    Ok(found(alloc, Some((schedule, 400_000_001)), leaf, log, None))
+}
+
+// No schedule, since the most-on commitment got stuck.
+fn stuck_found(alloc: Global, why: Why) -> Result<Found, AllocError> {
+    let prefix = printed(alloc, &[], Vec::new(alloc))?;
+    let stuck = Stuck {
+        period: 0,
+        prefix,
+        why,
+    };
+    let leaf = Leaf::Bound {
+        table: 0,
+        value: 300_000_000,
+    };
+    Ok(found(alloc, None, leaf, vec![in alloc; ENTRY]?, Some(stuck)))
 }
 
 const ENTRY: Entry = Entry {
@@ -119,15 +164,41 @@ const ENTRY: Entry = Entry {
     outcome: Outcome::Empty(0),
 };
 
+// The report is this first line, with its line feed, and then this.
+fn assert_report(
+    rt: &impl Abort,
+    alloc: Global,
+    instance: &Instance,
+    found: &Found,
+    rounded: u64,
+    gap: u32,
+    first: &[u8],
+    rest: &[u8],
+)
+    requires { gap ≤ 1000000 }
+{
+    let mut out = MemorySink::new(alloc);
+    assert!(rt; write_found(&mut out, found, instance, rounded, gap).is_ok());
+    let written = out.written().unwrap_or(b"");
+    assert!(rt; written.starts_with(first));
+    assert_eq!(rt; &written[first.len()..], rest);
+}
+
+// The fault has this exit status and this text.
+fn assert_fault(rt: &impl Abort, alloc: Global, fault: &Fault, code: u8, text: &[u8]) {
+    let mut err = MemorySink::new(alloc);
+    assert!(rt; write_fault(&mut err, fault).is_ok());
+    assert_eq!(rt; err.written().unwrap_or(b""), text);
+    assert_eq!(rt; fault.code(), code);
+}
+
 #[test]
-fn writes_schedules(rt: HostRuntime) -> Result<(), Fail> {
-    let alloc = rt.alloc();
-    let small = instance(alloc, 1, "g1", Vec::new(alloc))?;
-    let bounds: [(i128, &[u8]); 3] = [
+fn writes_whether_the_search_is_closed(rt: HostRuntime) -> Result<(), Fail> {
+    let start: &[u8] = b"periods 1 thermal 1 renewable 0 rounded 0\n";
+    let ends: [(i128, &[u8]); 3] = [
         (
             300_000_000,
-            b"periods 1 thermal 1 renewable 0 rounded 0\n\
-closed\n\
+            b"closed\n\
 cost 300.000000\n\
 bound 300.000000\n\
 evaluations 0\n\
@@ -135,8 +206,7 @@ thermal \"g1\" 30.000000+5.000000\n",
         ),
         (
             299_700_000,
-            b"periods 1 thermal 1 renewable 0 rounded 0\n\
-closed\n\
+            b"closed\n\
 cost 300.000000\n\
 bound 299.700000\n\
 evaluations 0\n\
@@ -144,49 +214,51 @@ thermal \"g1\" 30.000000+5.000000\n",
         ),
         (
             299_699_999,
-            b"periods 1 thermal 1 renewable 0 rounded 0\n\
-budget spent\n\
+            b"budget spent\n\
 cost 300.000000\n\
 bound 299.699999\n\
 evaluations 0\n\
 thermal \"g1\" 30.000000+5.000000\n",
         ),
     ];
-    for (value, text) in bounds {
-        let schedule = printed(alloc, &[ON], Vec::new(alloc))?;
-        let leaf = Leaf::Bound { table: 0, value };
-        let found = found(alloc, Some((schedule, 300_000_000)), leaf, &[], None)?;
-        let mut out = MemorySink::new(alloc);
-        assert!(rt; write_found(&mut out, &found, &small, 0, 1_000).is_ok());
-        assert_eq!(rt; out.written().unwrap_or(b""), text);
+    let instance = small_instance(rt.alloc())?;
+    for (value, end) in ends {
+        let found = small_found(rt.alloc(), value)?;
+        assert_report(&rt, rt.alloc(), &instance, &found, 0, 1_000, start, end);
     }
-
-    let large = instance(alloc, 2, "a\"\\\n", vec![in alloc; renewable(alloc)?]?)?;
-    let outputs = List::from_vec(vec![in alloc; 0, 2_500_000]?);
-    let schedule = printed(alloc, &[OFF, STARTED], vec![in alloc; outputs]?)?;
-    let leaf = Leaf::Live {
-        table: 0,
-        value: -500_000,
-    };
-    let found = found(alloc, Some((schedule, 400_000_001)), leaf, &[ENTRY], None)?;
-    let mut out = MemorySink::new(alloc);
-    assert!(rt; write_found(&mut out, &found, &large, 3, 0).is_ok());
-    let text: &[u8] = b"periods 2 thermal 1 renewable 1 rounded 3\n\
-budget spent\n\
-cost 400.000001\n\
-bound -0.500000\n\
-evaluations 1\n\
-thermal \"a\\\"\\\\\\u000a\" - 30.000000+5.000000*2\n\
-renewable \"w1\" 0.000000 2.500000\n";
-    assert_eq!(rt; out.written().unwrap_or(b""), text);
     Ok(())
 }
 
 #[test]
-fn writes_that_no_schedule_was_found(rt: HostRuntime) -> Result<(), Fail> {
-    let alloc = rt.alloc();
-    let small = instance(alloc, 1, "g1", Vec::new(alloc))?;
-    let whys: [(Why, &[u8]); 5] = [
+fn writes_names_and_cells(rt: HostRuntime) -> Result<(), Fail> {
+    let instance = large_instance(rt.alloc())?;
+    let found = large_found(rt.alloc())?;
+    assert_report(
+        &rt,
+        rt.alloc(),
+        &instance,
+        &found,
+        3,
+        0,
+        b"periods 2 thermal 1 renewable 1 rounded 3\n",
+        b"budget spent\n\
+cost 400.000001\n\
+bound -0.500000\n\
+evaluations 1\n\
+thermal \"a\\\"\\\\\\u000a\" - 30.000000+5.000000*2\n\
+renewable \"w1\" 0.000000 2.500000\n",
+    );
+    Ok(())
+}
+
+#[test]
+fn writes_why_no_schedule_was_found(rt: HostRuntime) -> Result<(), Fail> {
+    let start: &[u8] = b"periods 1 thermal 1 renewable 0 rounded 0\n\
+budget spent, no schedule found\n\
+bound 300.000000\n\
+evaluations 1\n\
+most-on commitment stuck in period 1: ";
+    let ends: [(Why, &[u8]); 5] = [
         (
             Why::Rule { rule: 7, unit: 0 },
             b"thermal \"g1\" breaks M7\n",
@@ -221,36 +293,30 @@ fn writes_that_no_schedule_was_found(rt: HostRuntime) -> Result<(), Fail> {
             b"reserve 0.000000 below need 5.000000\n",
         ),
     ];
-    let start: &[u8] = b"periods 1 thermal 1 renewable 0 rounded 0\n\
-budget spent, no schedule found\n\
-bound 300.000000\n\
-evaluations 1\n\
-most-on commitment stuck in period 1: ";
-    for (why, text) in whys {
-        let prefix = printed(alloc, &[], Vec::new(alloc))?;
-        let stuck = Stuck {
-            period: 0,
-            prefix,
-            why,
-        };
-        let leaf = Leaf::Bound {
-            table: 0,
-            value: 300_000_000,
-        };
-        let found = found(alloc, None, leaf, &[ENTRY], Some(stuck))?;
-        let mut out = MemorySink::new(alloc);
-        assert!(rt; write_found(&mut out, &found, &small, 0, 0).is_ok());
-        let written = out.written().unwrap_or(b"");
-        assert_eq!(rt; written.strip_prefix(start).unwrap_or(b""), text);
+    let instance = small_instance(rt.alloc())?;
+    for (why, end) in ends {
+        let found = stuck_found(rt.alloc(), why)?;
+        assert_report(&rt, rt.alloc(), &instance, &found, 0, 0, start, end);
     }
+    Ok(())
+}
 
-    let found = found(alloc, None, Leaf::Empty { g: 0 }, &[], None)?;
-    let mut out = MemorySink::new(alloc);
-    assert!(rt; write_found(&mut out, &found, &small, 0, 0).is_ok());
-    let text: &[u8] = b"periods 1 thermal 1 renewable 0 rounded 0\n\
-infeasible\n\
-evaluations 0\n";
-    assert_eq!(rt; out.written().unwrap_or(b""), text);
+#[test]
+fn writes_that_no_schedule_exists(rt: HostRuntime) -> Result<(), Fail> {
+    let alloc = rt.alloc();
+    let instance = small_instance(alloc)?;
+    let found = found(alloc, None, Leaf::Empty { g: 0 }, Vec::new(alloc), None);
+    let start = b"periods 1 thermal 1 renewable 0 rounded 0\n";
+    assert_report(
+        &rt,
+        alloc,
+        &instance,
+        &found,
+        0,
+        0,
+        start,
+        b"infeasible\nevaluations 0\n",
+    );
     Ok(())
 }
 
@@ -320,10 +386,7 @@ fn writes_faults_of_files(rt: HostRuntime) {
         (Fault::FirstForm, 4, b"instance: not in the first form\n"),
     ];
     for (fault, code, text) in cases {
-        let mut err = MemorySink::new(rt.alloc());
-        assert!(rt; write_fault(&mut err, &fault).is_ok());
-        assert_eq!(rt; err.written().unwrap_or(b""), text);
-        assert_eq!(rt; fault.code(), code);
+        assert_fault(&rt, rt.alloc(), &fault, code, text);
     }
 }
 
@@ -358,10 +421,7 @@ fn writes_refusals_of_instances(rt: HostRuntime) -> Result<(), Fail> {
             field,
             entry,
         };
-        let mut err = MemorySink::new(alloc);
-        assert!(rt; write_fault(&mut err, &fault).is_ok());
-        assert_eq!(rt; err.written().unwrap_or(b""), text);
-        assert_eq!(rt; fault.code(), 4);
+        assert_fault(&rt, rt.alloc(), &fault, 4, text);
     }
     Ok(())
 }
@@ -395,10 +455,7 @@ fn writes_refusals_of_certificates(rt: HostRuntime) {
     ];
     for (refusal, text) in cases {
         let fault = Fault::Code(refusal);
-        let mut err = MemorySink::new(rt.alloc());
-        assert!(rt; write_fault(&mut err, &fault).is_ok());
-        assert_eq!(rt; err.written().unwrap_or(b""), text);
-        assert_eq!(rt; fault.code(), 9);
+        assert_fault(&rt, rt.alloc(), &fault, 9, text);
     }
 }
 
