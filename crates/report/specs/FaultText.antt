@@ -12,7 +12,7 @@ use Rattle.outside.specs.declared.slot.Slot.TheVariants as slot
 use Rattle.cert_text.specs.Lines.{line}
 use Rattle.report.specs.Names.{unit_words}
 use Rattle.report.specs.declared.fault.Fault.{Fault}
-use Rattle.report.specs.declared.fault.Fault.TheVariants.{Words, Read, Write, Memory, Long, Json, Instance, FirstForm, Line, Code}
+use Rattle.report.specs.declared.fault.Fault.TheVariants.{Words, Read, Write, Memory, Long, Json, Instance, Line, Code}
 
 -- the exit status: 4 a faulty instance, 5 faulty words, 6 a read, 7 a write, 8 memory, 9 a certificate that is refused
 abbrev pub status_of : Fault → ℕ
@@ -25,7 +25,6 @@ status_of (Long slot.CertIn) = 9
 status_of (Long slot.CertOut) = 9
 status_of (Json byte kind) = 4
 status_of (Instance code kind unit field entry) = 4
-status_of FirstForm = 4
 status_of (Line number kind) = 9
 status_of (Code refusal) = 9
 
@@ -162,6 +161,5 @@ fault_text Memory = line (codes "out of memory") []
 fault_text (Long slot) = long_line slot
 fault_text (Json byte kind) = json_line byte kind
 fault_text (Instance code kind unit field entry) = instance_line code kind unit field entry
-fault_text FirstForm = line (codes "instance: not in the first form") []
 fault_text (Line number kind) = certificate_line number kind
 fault_text (Code refusal) = refusal_line refusal

@@ -37,8 +37,6 @@ pub enum Fault {
         field: Field,
         entry: u32,
     },
-    /// The instance isn't in the first form that the program reads.
-    FirstForm,
     /// The certificate's line, from 1, is at fault: 1 its form, 2 it is cut short, 3 bytes follow the end.
     Line {
         line: u64,
@@ -59,10 +57,7 @@ impl Fault {
             Fault::Read(_) => 6,
             Fault::Write { .. } => 7,
             Fault::Memory => 8,
-            Fault::Long(Slot::Instance)
-            | Fault::Json { .. }
-            | Fault::Instance { .. }
-            | Fault::FirstForm => 4,
+            Fault::Long(Slot::Instance) | Fault::Json { .. } | Fault::Instance { .. } => 4,
             Fault::Long(_) | Fault::Line { .. } | Fault::Code(_) => 9,
         }
     }

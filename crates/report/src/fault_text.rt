@@ -69,13 +69,6 @@ fn out_of_memory() -> &'static [u8]
     b"out of memory\n"
 }
 
-#[tactic(auto, unfolding(cert_text::specs::Lines::line))]
-fn not_in_first_form() -> &'static [u8]
-    ensures { result.now ≡ line (codes "instance: not in the first form") [] }
-{
-    b"instance: not in the first form\n"
-}
-
 // What is wrong at a byte of the instance.
 fn json_fault(kind: u8) -> &'static [u8]
     ensures { result.now ≡ json_text kind }
@@ -407,7 +400,6 @@ fn write_text<W: Writer>(out: &mut W, fault: &Fault) -> Result<(), Failed>
             field,
             entry,
         } => write_instance(out, *code, *kind_of_unit, unit.as_str(), field, *entry),
-        Fault::FirstForm => write_all(out, not_in_first_form()),
         Fault::Line { line, kind } => write_certificate_line(out, *line, *kind),
         Fault::Code(refusal) => write_refusal(out, refusal),
     }

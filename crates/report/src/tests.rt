@@ -383,7 +383,6 @@ fn writes_faults_of_files(rt: HostRuntime) {
             9,
             b"certificate: line 12: bytes after the end\n",
         ),
-        (Fault::FirstForm, 4, b"instance: not in the first form\n"),
     ];
     for (fault, code, text) in cases {
         assert_fault(&rt, rt.alloc(), &fault, code, text);

@@ -9,17 +9,21 @@ ghost use Rattle.uc_model.specs.Limits.{IsLawfulInstance};
 ghost use Rattle.instance.specs.Bytes.{StandForCounted};
 ghost use Rattle.uc_cli.specs.Run.{HasInstance, HasCause, IsRefusal, IsOpenedByNoOther};
 
-use std::alloc::Global;
-
 use instance::ReadFault;
 use outside::{Files, Slot, SlurpFault, slurp};
 use report::Fault;
+use std::alloc::Global;
 use uc_model::Instance;
 
 /// The most bytes of an instance file.
 const INSTANCE_LIMIT: u64 = 1 << 26;
 
-fn instance_bytes<F: Files>(alloc: Global, files: &mut F, name: &str, exact: bool) -> Result<Vec<u8>, Fault>
+fn instance_bytes<F: Files>(
+    alloc: Global,
+    files: &mut F,
+    name: &str,
+    exact: bool,
+) -> Result<Vec<u8>, Fault>
     requires { (F.state files.old Slot.Instance).stage ≡ Unopened }
     ensures whole { IfOk result (λ bytes. Tells (F.state files.old Slot.Instance).left bytes.items) }
     ensures cause { IfErr result (HasCause exact (F.state files.old Slot.Instance) (F.state files.new Slot.Instance)) }
@@ -43,13 +47,15 @@ fn instance_of(alloc: Global, bytes: &[u8], exact: bool) -> Result<(Instance, u6
     match instance::read_instance(alloc, bytes, exact) {
         Ok(read) => Ok(read),
         Err(ReadFault::Json { at, kind }) => Err(Fault::Json { at, kind }),
-        Err(ReadFault::Refused {
-            code,
-            kind_of_unit,
-            unit,
-            field,
-            entry,
-        }) => Err(Fault::Instance {
+        Err(
+            ReadFault::Refused {
+                code,
+                kind_of_unit,
+                unit,
+                field,
+                entry,
+            },
+        ) => Err(Fault::Instance {
             code,
             kind_of_unit,
             unit,

@@ -17,7 +17,12 @@ use uc_model::Instance;
 const DEFAULT_GAP: u32 = 1000;
 
 /// Writes the certificate to its slot, and finishes it.
-pub(crate) fn save<F: Files>(files: &mut F, name: &str, found: &Found, instance: &Instance) -> Result<(), Failed>
+pub(crate) fn save<F: Files>(
+    files: &mut F,
+    name: &str,
+    found: &Found,
+    instance: &Instance,
+) -> Result<(), Failed>
     requires unopened { (F.state files.old Slot.CertOut).stage ≡ Unopened }
     requires layout { HasLayout found.now }
     ensures saved { OnOk result (IsSaved (text_of_certificate instance.now found.now) (F.state files.old Slot.CertOut) (F.state files.new Slot.CertOut)) }
@@ -32,7 +37,12 @@ pub(crate) fn save<F: Files>(files: &mut F, name: &str, found: &Found, instance:
 }
 
 /// Writes the report, and flushes it.
-pub(crate) fn tell<O: Sink>(out: &mut O, found: &Found, instance: &Instance, rounded: u64) -> Result<(), Failed>
+pub(crate) fn tell<O: Sink>(
+    out: &mut O,
+    found: &Found,
+    instance: &Instance,
+    rounded: u64,
+) -> Result<(), Failed>
     ensures told { OnOk result (IsTold (text_of_report instance.now found.now rounded) (O.state out.old) (O.state out.new)) }
     ensures failed { OnErr result (FailsToTell (text_of_report instance.now found.now rounded) (O.state out.old) (O.state out.new)) }
 {

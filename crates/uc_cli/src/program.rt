@@ -8,16 +8,14 @@ ghost use Rattle.uc_cli.specs.Run.{TellsFault};
 ghost use Rattle.uc_cli.specs.Words.{Solve, solve_of};
 ghost use Rattle.uc_cli.specs.Ends.{status_of_bound, IsRun, IsUsage};
 
-use std::alloc::Global;
-use std::sync::Wait;
-use std::thread::Threads;
-
+use crate::run::solve;
+use crate::words::solve_words;
 use branch_tree::Found;
 use outside::{Files, Gate, Sink};
 use report::{Fault, write_fault};
-
-use crate::run::solve;
-use crate::words::solve_words;
+use std::alloc::Global;
+use std::sync::Wait;
+use std::thread::Threads;
 
 /// How a run ended: its exit status, and what was found where the status is 2, 3 or 7.
 #[derive(Drop)]

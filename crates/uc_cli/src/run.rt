@@ -8,18 +8,16 @@ ghost use Rattle.outside.specs.Slots.{AllUnopened, SameBut};
 ghost use Rattle.branch_tree.specs.SearchResult.{IsSearchResult};
 ghost use Rattle.uc_cli.specs.Run.{HasCause, IsAnswer, IsOpenedByNoOther, IsDone, IsFailure, IsNamed};
 
-use std::alloc::Global;
-use std::sync::Wait;
-
-use branch_tree::Found;
-use outside::{Files, Gate, Sink, Slot};
-use report::Fault;
-use uc_model::{Instance, NoMemory};
-
 use crate::input::read_instance;
 use crate::output::{save, tell};
 use crate::search::search;
 use crate::words::Solve;
+use branch_tree::Found;
+use outside::{Files, Gate, Sink, Slot};
+use report::Fault;
+use std::alloc::Global;
+use std::sync::Wait;
+use uc_model::{Instance, NoMemory};
 
 /// What was found for the instance of a file.
 #[derive(Drop)]

@@ -68,7 +68,7 @@ fn is_complete(words: &[String]) -> bool
 pub(crate) fn solve_words(words: &[String]) -> Option<Solve<'_>>
     ensures { MatchOption result (solve_of (map string_bytes words.now) ≡ None)
         (λ solve. solve_of (map string_bytes words.now)
-            ≡ Some (record { instance = solve.instance.now; certificate = solve.certificate.now; exact = solve.exact })) }
+        ≡ Some (record { instance = solve.instance.now; certificate = solve.certificate.now; exact = solve.exact })) }
 {
     if !is_complete(words) || !is_solve(words) {
         return None;

@@ -16,7 +16,7 @@ pub returns-in-Err-Refused-clause-refused : goal.returns-in-Err-Refused-clause-r
 returns-in-Err-Refused-clause-refused c = record {
   none = λ instance stand.
       let e : Refused c.in-Err-Refused.code c.in-Err-Refused.kind_of_unit c.in-Err-Refused.unit c.in-Err-Refused.field c.in-Err-Refused.entry ≡ NoMemory =
-          sym c.in-Err-Refused.field-0-is ∙ c.in-Err-Refused.ensures.only instance stand
+      sym c.in-Err-Refused.field-0-is ∙ c.in-Err-Refused.ensures.only instance stand
       in
       cc;
   cause = subst (HasCause c.args.exact c.args.bytes.now) c.in-Err-Refused.field-0-is c.in-Err-Refused.ensures.cause;
