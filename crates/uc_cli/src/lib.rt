@@ -10,3 +10,6 @@ mod words;
 
 pub use outside::{SlurpFault, slurp};
 pub use program::{End, uc};
+
+#[cfg(test)]
+mod tests;
