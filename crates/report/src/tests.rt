@@ -323,7 +323,7 @@ fn writes_that_no_schedule_exists(rt: HostRuntime) -> Result<(), Fail> {
 // Each text of a fault that a file of bytes may bring.
 #[test]
 fn writes_faults_of_files(rt: HostRuntime) {
-    let cases: [(Fault, u8, &[u8]); 16] = [
+    let cases: [(Fault, u8, &[u8]); 15] = [
         (Fault::Read(Slot::Instance), 6, b"read failed: instance\n"),
         (Fault::Read(Slot::CertIn), 6, b"read failed: certificate\n"),
         (
