@@ -1,6 +1,6 @@
 -- How the ends of a run follow from its steps: reading and searching (from the files f to g), writing the
 -- certificate (from g to h) and the report.
-use Rattle.std.proofs.Common.{◌≡◌, ◌≢◌, ℕ, Bool, true, false, subst, sym, ap, ◌∙◌, refl}
+use Rattle.std.proofs.Common.{◌≡◌, ℕ, Bool, true, false, subst, ap, ◌∙◌, refl}
 use Rattle.std.specs.Prelude.{Result, Ok, Err, OnOk, OnErr, is_err}
 use Rattle.uc_model.specs.declared.instance.Instance.{Instance}
 use Rattle.outside.specs.declared.slot.Slot.{Slot}

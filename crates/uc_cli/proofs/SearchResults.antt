@@ -1,20 +1,19 @@
 -- What the search answers for a root with a value, and for one with a unit that has no pattern.
-use Rattle.std.proofs.Common.{◌≡◌, ◌≢◌, inl, ℕ, ◌<◌, List, [], ◌∷◌, length, get_or, refl, sym, ap, subst, ◌∙◌, arith, ℤ, pos, rules}
-use Rattle.std.specs.Prelude.{Option, Some, None, Result, Ok, Err, IfOk, All}
+use Rattle.std.proofs.Common.{inl, ℕ, ◌<◌, [], ◌∷◌, refl, arith, ℤ}
+use Rattle.std.specs.Prelude.{None, Result, Ok, Err, IfOk}
 use Rattle.std.proofs.lemmas.List.Elements.{All-nil, All-cons}
 use Rattle.uc_model.specs.Division.{IsFloor}
 use Rattle.uc_model.specs.Limits.{IsLawfulInstance}
 use Rattle.uc_model.specs.declared.instance.Instance.{Instance}
 use Rattle.uc_model.proofs.Ring.{linear, le_refl}
 use Rattle.dual_model.specs.Prices.{IsLawfulTable}
-use Rattle.dual_model.specs.Fixings.{HasNoPattern}
 use Rattle.dual_model.specs.Cover.{root}
 use Rattle.dual_model.specs.NodeValue.{IsNodeValue}
 use Rattle.dual_model.specs.Certificate.{CertificateHolds}
 use Rattle.dual_model.specs.Laws.{IsClaimTrue}
 use Rattle.dual_model.proofs.Covers.{certificates_claim_truly}
 use Rattle.branch_tree.specs.Claims.{certificate_of, tree_bound}
-use Rattle.branch_tree.specs.SearchResult.{IsFirstEmpty, IsTrueEntry, IsTrueLog, IsSearchResult}
+use Rattle.branch_tree.specs.SearchResult.{IsFirstEmpty, IsTrueEntry, IsSearchResult}
 use Rattle.branch_tree.specs.declared.found.Entry.{Entry}
 use Rattle.branch_tree.specs.declared.found.Found.{Found}
 use Rattle.branch_tree.specs.declared.found.Outcome.TheVariants.{Value}

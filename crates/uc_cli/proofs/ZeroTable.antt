@@ -1,26 +1,24 @@
 -- The table of no prices: it is lawful, its prices are 0, and the value of a node there is the sum of the unit
 -- values.
-use Rattle.std.proofs.Common.{◌≡◌, ℕ, zero, suc, ◌+◌, ◌*◌, ◌<◌, ◌≤◌, ◌⊎◌, ⊎_elim, Bool, true, false, List, [], length, get_or, replicate, refl, sym, ap, subst, ◌∙◌, arith, add-one, ℤ, pos, ◌+ℤ◌, ◌-ℤ◌, ◌*ℤ◌, neg_ℤ, ◌≤ℤ◌, rules}
-use Rattle.std.specs.Prelude.{All, FitsSigned, unsigned_abs, IsTrue, ◌==◌, if◌then◌else◌, int_lt}
+use Rattle.std.proofs.Common.{◌≡◌, ℕ, zero, suc, ◌+◌, ◌*◌, ◌<◌, ◌≤◌, ◌⊎◌, ⊎_elim, false, List, length, get_or, replicate, refl, sym, ap, subst, ◌∙◌, arith, add-one, ℤ, pos, ◌+ℤ◌, ◌-ℤ◌, ◌*ℤ◌, neg_ℤ, ◌≤ℤ◌}
+use Rattle.std.specs.Prelude.{FitsSigned, unsigned_abs, ◌==◌, if◌then◌else◌, int_lt}
 use Rattle.std.specs.Int.{int_max, w128}
 use Rattle.std.proofs.lemmas.Int.{ints, fits_signed_from_abs}
 use Rattle.std.proofs.lemmas.Bool.{cases_lt, or_left, not_from_false}
 use Rattle.std.proofs.lemmas.List.{get_or-replicate, get_or_past, length-replicate}
 use Rattle.std.proofs.lemmas.List.Elements.{All-replicate}
 use Rattle.uc_model.specs.Sums.{sum_below}
-use Rattle.uc_model.specs.Commitment.{Commitment, initial_p}
+use Rattle.uc_model.specs.Commitment.{initial_p}
 use Rattle.uc_model.specs.PatternBits.{commitment_of}
-use Rattle.uc_model.specs.Limits.{IsLawfulInstance}
 use Rattle.uc_model.specs.declared.limits.TheConstants.{MAX_UNITS}
 use Rattle.uc_model.specs.Schedule.{thermal_unit, thermal_count, renewable_count, renewable_minimum, renewable_maximum, demand_at, reserve_at}
 use Rattle.uc_model.specs.declared.instance.Instance.{Instance}
 use Rattle.uc_model.specs.declared.instance.Thermal.{Thermal}
-use Rattle.uc_model.specs.declared.terms.Terms.{Terms}
 use Rattle.uc_model.proofs.Ring.{linear, zero-mul}
 use Rattle.uc_model.proofs.Sums.{sum_below-zero, sum_below-same}
 use Rattle.uc_model.proofs.Tests.{all_below-from}
-use Rattle.dual_model.specs.Prices.{pi_at, mu_at, up_at, down_at, IsPrice, IsWellFormed, IsLawfulTable}
-use Rattle.dual_model.specs.Fixings.{IsFixOf, IsPatternAt, HasNoPattern, fix_agrees}
+use Rattle.dual_model.specs.Prices.{pi_at, mu_at, IsPrice, IsWellFormed, IsLawfulTable}
+use Rattle.dual_model.specs.Fixings.{IsFixOf, IsPatternAt, HasNoPattern}
 use Rattle.dual_model.specs.Cover.{root}
 use Rattle.dual_model.specs.Term.{output_price, reserve_price}
 use Rattle.dual_model.specs.UnitValue.{IsUnitValue}

@@ -1,6 +1,6 @@
 -- What a run of the program did, by how it ended. Sources: RFC 8259 and the pglib-uc format for the instance;
 -- the rest is this project's own.
-use Rattle.std.specs.Prelude.{◌≡◌, ◌≢◌, ℕ, ◌^◌, ◌<◌, ◌⊎◌, ⊤, Bool, true, false, List, [], ◌++◌, Option, Some, None, IfSome, length}
+use Rattle.std.specs.Prelude.{◌≡◌, ℕ, ◌<◌, ◌⊎◌, ⊤, Bool, true, false, List, [], Option, Some, None, IfSome, length}
 use Rattle.std.specs.Option.{option_map}
 use Rattle.uc_model.specs.Limits.{IsLawfulInstance}
 use Rattle.uc_model.specs.declared.instance.Instance.{Instance}
@@ -11,7 +11,7 @@ use Rattle.outside.specs.declared.slot.Stage.TheVariants.{Unopened, Finished}
 use Rattle.outside.specs.Counts.{HasRisen}
 use Rattle.outside.specs.Known.{Tells, Appends, AppendsFront}
 use Rattle.outside.specs.Slots.{SlotState, matched}
-use Rattle.outside.specs.Sinks.{SinkState, SinkWrites}
+use Rattle.outside.specs.Sinks.{SinkState}
 use Rattle.instance.specs.Bytes.{StandFor, StandForCounted}
 use Rattle.instance.specs.Bytes as read
 use Rattle.instance.specs.declared.file.ReadFault.{ReadFault}
@@ -21,9 +21,9 @@ use Rattle.branch_tree.specs.SearchResult.{IsSearchResult}
 use Rattle.branch_tree.specs.declared.found.Found.{Found}
 use Rattle.cert_text.specs.CertificateText.{certificate_text}
 use Rattle.report.specs.FoundReport.{found_report}
-use Rattle.report.specs.FaultText.{fault_text, status_of}
+use Rattle.report.specs.FaultText.{fault_text}
 use Rattle.report.specs.declared.fault.Fault.{Fault}
-use Rattle.report.specs.declared.fault.Fault.TheVariants.{Words, Read, Write, Memory, Long, Json, Instance as Refused, Line, Code}
+use Rattle.report.specs.declared.fault.Fault.TheVariants.{Read, Write, Memory, Long, Json, Instance as Refused}
 use Rattle.uc_cli.specs.declared.input.TheConstants.{INSTANCE_LIMIT}
 use Rattle.uc_cli.specs.declared.output.TheConstants.{DEFAULT_GAP}
 use Rattle.uc_cli.specs.Words.{Solve}

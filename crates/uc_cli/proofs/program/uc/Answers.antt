@@ -1,5 +1,5 @@
 -- The run is that of the words' one reading.
-use Rattle.std.proofs.Common.{◌≡◌, sym, subst, inl, inr, refl}
+use Rattle.std.proofs.Common.{◌≡◌, subst, inl, inr, refl}
 use Rattle.std.specs.Prelude.{Option, Some}
 use Rattle.uc_cli.specs.Words.{Solve}
 use Rattle.uc_cli.specs.Ends.{IsRun}

@@ -1,9 +1,8 @@
 -- The unit is the instance's, its terms are those at the table of no prices, and nothing is decided.
-use Rattle.std.proofs.Common.{◌≡◌, ◌<◌, ℕ, ℤ, List, length, get_or, pos, replicate, subst, sym, ap, ◌∙◌, refl}
-use Rattle.std.proofs.lemmas.List.{get_or_default, get_or-replicate}
+use Rattle.std.proofs.Common.{◌≡◌, ◌<◌, ℕ, List, length, get_or, subst, sym, ◌∙◌, refl}
+use Rattle.std.proofs.lemmas.List.{get_or_default}
 use Rattle.uc_model.specs.Limits.{IsLawfulThermal}
-use Rattle.uc_model.specs.Schedule.{thermal_unit, no_unit}
-use Rattle.uc_model.specs.declared.instance.Instance.{Instance}
+use Rattle.uc_model.specs.Schedule.{no_unit}
 use Rattle.uc_model.specs.declared.instance.Thermal.{Thermal}
 use Rattle.dual_model.specs.Cover.{root}
 use Rattle.uc_cli.specs.Search.{zero_table}
