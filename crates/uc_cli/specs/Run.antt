@@ -40,23 +40,25 @@ pub record IsRefused (exact : Bool) (bytes : List ℕ) (fault : ReadFault) : Typ
   pub none : (instance : Instance) → ¬ StandFor exact bytes instance
   pub cause : read.HasCause exact bytes fault
 
--- the same of the bytes of the file, where they are told
-pub record HasNoInstance (exact : Bool) (file : SlotState) (fault : ReadFault) : Type 0 where
+-- the same of the bytes of the file, where they are told, and reading them met no fault
+pub record HasNoInstance (exact : Bool) (old new : SlotState) (fault : ReadFault) : Type 0 where
   pub bytes : List ℕ
-  pub told : Tells file.left bytes
+  pub told : Tells old.left bytes
   pub refused : IsRefused exact bytes fault
+  pub calm : new.faults ≡ old.faults
 
--- the instance's file is longer than the limit, where its bytes are told
-abbrev pub IsLong : SlotState → Type 0
-IsLong file = IfSome file.left (λ bytes. INSTANCE_LIMIT < length bytes)
+-- the instance's file is longer than the limit, where its bytes are told, and reading it met no fault
+pub record IsLong (old new : SlotState) : Type 0 where
+  pub long : IfSome old.left (λ bytes. INSTANCE_LIMIT < length bytes)
+  pub calm : new.faults ≡ old.faults
 
 -- the cause of a fault that comes before anything is written, by the instance's file before and after
 abbrev pub HasCause : Bool → SlotState → SlotState → Fault → Type 0
 HasCause exact old new (Read slot.Instance) = HasRisen old.faults new.faults
 HasCause exact old new Memory = ⊤
-HasCause exact old new (Long slot.Instance) = IsLong old
-HasCause exact old new (Json at kind) = HasNoInstance exact old (read_fault.Json at kind)
-HasCause exact old new (Refused code kind unit field entry) = HasNoInstance exact old (read_fault.Refused code kind unit field entry)
+HasCause exact old new (Long slot.Instance) = IsLong old new
+HasCause exact old new (Json at kind) = HasNoInstance exact old new (read_fault.Json at kind)
+HasCause exact old new (Refused code kind unit field entry) = HasNoInstance exact old new (read_fault.Refused code kind unit field entry)
 HasCause exact old new _ = ⊥
 
 -- the same of bytes that were read
