@@ -9,7 +9,7 @@ use Rattle.dual_model.specs.Certificate.{Certificate, WrittenSchedule}
 use Rattle.dual_model.specs.Cover.{Tree, Leaf, Ends, Splits, Bound, Ray, Empty}
 use Rattle.dual_model.specs.declared.table.Table.{Table}
 use Rattle.dual_model.specs.declared.table.RampRow.{RampRow}
-use Rattle.cert_text.specs.Lines.{line, list_line}
+use Rattle.outside.specs.Lines.{line, list_line}
 
 abbrev pub version_line : List ℕ
 version_line = line (codes "uc-certificate 1") []

@@ -3,7 +3,7 @@ use Rattle.std.specs.Prelude.{ℕ, List, [], ◌++◌, flat_map, codes}
 use Rattle.dual_model.specs.declared.table.Table.{Table}
 use Rattle.branch_tree.specs.declared.found.Found.{Found}
 use Rattle.branch_tree.specs.Claims.{table_at, leaf_tables, leaf_claim, written_of}
-use Rattle.cert_text.specs.Lines.{line}
+use Rattle.outside.specs.Lines.{line}
 use Rattle.cert_text.specs.CertificateText.{table_text, leaf_line, schedule_text}
 
 -- the tables of these numbers

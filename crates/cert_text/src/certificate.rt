@@ -4,7 +4,7 @@ ghost use Rattle.std.specs.Prelude.{◌≡◌, ◌<◌, ◌++◌, [], All, OnOk,
 ghost use Rattle.uc_model.specs.declared.instance.Instance.{Instance};
 ghost use Rattle.outside.specs.Sinks.{WriterWrites, WritesFront};
 ghost use Rattle.branch_tree.specs.Claims.{HasLayout, leaf_claim, certificate_of};
-ghost use Rattle.cert_text.specs.Lines.{line};
+ghost use Rattle.outside.specs.Lines.{line};
 ghost use Rattle.cert_text.specs.FoundText.{tables_text, lower_text, body_text};
 ghost use Rattle.cert_text.specs.CertificateText.{leaf_line, heading, certificate_text};
 
@@ -17,7 +17,7 @@ use dual_model::Table;
 use outside::{Failed, Writer, write_all};
 use uc_model::Instance;
 
-#[tactic(auto, unfolding(crate::specs::Lines::line))]
+#[tactic(auto, unfolding(outside::specs::Lines::line))]
 fn write_end<W: Writer>(out: &mut W) -> Result<(), Failed>
     ensures ok { OnOk result (WriterWrites (line (codes "end") []) (W.state out.old) (W.state out.new)) }
     ensures failed { OnErr result (WritesFront (line (codes "end") []) (W.state out.old) (W.state out.new)) }
@@ -84,7 +84,7 @@ fn write_heading<W: Writer>(out: &mut W, found: &Found, instance: &Instance) -> 
 /// Writes the certificate of what was found for the instance. It takes no memory.
 ///
 /// `Failed` comes only where the writer's count of faults rose, and a front of the text is written then.
-#[tactic(auto, using(crate::proofs::Writing::then_ok, crate::proofs::Writing::then_failed, crate::proofs::Writing::front_at_error), unfolding(crate::specs::CertificateText::certificate_text))]
+#[tactic(auto, using(outside::proofs::Writing::then_ok, outside::proofs::Writing::then_failed, outside::proofs::Writing::front_at_error), unfolding(crate::specs::CertificateText::certificate_text))]
 pub fn write<W: Writer>(found: &Found, instance: &Instance, out: &mut W) -> Result<(), Failed>
     requires { HasLayout found.now }
     ensures ok { OnOk result (WriterWrites (certificate_text (certificate_of instance.now found.now)) (W.state out.old) (W.state out.new)) }

@@ -9,7 +9,7 @@ use outside::{Failed, Writer, write_pieces};
 use uc_model::{money_digits, whole_digits};
 
 // The version, and the number of periods, thermal units, renewable units and tables.
-#[tactic(auto, unfolding(crate::specs::Lines::line))]
+#[tactic(auto, unfolding(outside::specs::Lines::line))]
 pub(crate) fn write_size<W: Writer>(
     out: &mut W,
     periods: u32,
@@ -42,7 +42,7 @@ pub(crate) fn write_size<W: Writer>(
 }
 
 // The bound that is claimed, or that no schedule exists.
-#[tactic(auto, unfolding(crate::specs::Lines::line))]
+#[tactic(auto, unfolding(outside::specs::Lines::line))]
 pub(crate) fn write_claim<W: Writer>(out: &mut W, bound: Option<i128>) -> Result<(), Failed>
     ensures ok { OnOk result (WriterWrites (claim_line bound) (W.state out.old) (W.state out.new)) }
     ensures failed { OnErr result (WritesFront (claim_line bound) (W.state out.old) (W.state out.new)) }

@@ -1,5 +1,5 @@
 //! The text of certificates.
-#![tactic(auto, using(crate::proofs::Writing::then_ok, crate::proofs::Writing::then_failed, crate::proofs::Writing::front_at_error))]
+#![tactic(auto, using(outside::proofs::Writing::then_ok, outside::proofs::Writing::then_failed, outside::proofs::Writing::front_at_error))]
 
 mod certificate;
 mod heading;

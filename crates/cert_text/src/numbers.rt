@@ -3,7 +3,7 @@
 ghost use Rattle.std.specs.Prelude.{◌≡◌, ◌∷◌, ◌++◌, [], OnOk, OnErr};
 ghost use Rattle.outside.specs.Sinks.{WriterWrites, WritesFront};
 ghost use Rattle.uc_model.specs.Decimal.{signed_text, whole_text};
-ghost use Rattle.cert_text.specs.Lines.{line, list_line, words_of};
+ghost use Rattle.outside.specs.Lines.{line, list_line, words_of};
 
 use itoa::Buffer;
 use outside::{Failed, Writer, write_all, write_pieces};
@@ -42,7 +42,7 @@ fn write_numbers_and_end<W: Writer>(out: &mut W, numbers: &[i64]) -> Result<(), 
 }
 
 // A line of numbers after its first word.
-#[tactic(auto, using(crate::proofs::Writing::then_ok, crate::proofs::Writing::then_failed, crate::proofs::Writing::front_at_error), unfolding(crate::specs::Lines::list_line))]
+#[tactic(auto, using(outside::proofs::Writing::then_ok, outside::proofs::Writing::then_failed, outside::proofs::Writing::front_at_error), unfolding(outside::specs::Lines::list_line))]
 pub(crate) fn write_number_line<W: Writer>(
     out: &mut W,
     first: &[u8],
@@ -57,7 +57,7 @@ pub(crate) fn write_number_line<W: Writer>(
 }
 
 // A line of one number, of which its first word says the meaning.
-#[tactic(auto, unfolding(crate::specs::Lines::line))]
+#[tactic(auto, unfolding(outside::specs::Lines::line))]
 pub(crate) fn write_whole_line<W: Writer>(
     out: &mut W,
     first: &[u8],

@@ -3,7 +3,7 @@
 ghost use Rattle.std.specs.Prelude.{◌≡◌, ◌∷◌, ◌++◌, [], OnOk, OnErr, codes, flat_map};
 ghost use Rattle.outside.specs.Sinks.{WriterWrites, WritesFront};
 ghost use Rattle.branch_tree.specs.Claims.{written_of};
-ghost use Rattle.cert_text.specs.Lines.{line, list_line, words_of};
+ghost use Rattle.outside.specs.Lines.{line, list_line, words_of};
 ghost use Rattle.cert_text.specs.CertificateText.{cell_text, thermal_line, renewable_line, rows_text, cost_line, schedule_text};
 
 use crate::numbers::write_number_line;
@@ -58,7 +58,7 @@ fn write_cells_and_end<W: Writer>(out: &mut W, cells: &[Cell]) -> Result<(), Fai
 }
 
 // A line of cells after its first word.
-#[tactic(auto, using(crate::proofs::Writing::then_ok, crate::proofs::Writing::then_failed, crate::proofs::Writing::front_at_error), unfolding(crate::specs::Lines::list_line))]
+#[tactic(auto, using(outside::proofs::Writing::then_ok, outside::proofs::Writing::then_failed, outside::proofs::Writing::front_at_error), unfolding(outside::specs::Lines::list_line))]
 fn write_cell_line<W: Writer>(out: &mut W, first: &[u8], cells: &[Cell]) -> Result<(), Failed>
     ensures ok { OnOk result (WriterWrites (list_line first.now cell_text cells.now) (W.state out.old) (W.state out.new)) }
     ensures failed { OnErr result (WritesFront (list_line first.now cell_text cells.now) (W.state out.old) (W.state out.new)) }
@@ -99,7 +99,7 @@ fn write_rows<W: Writer>(out: &mut W, printed: &Printed) -> Result<(), Failed>
     write_renewable_rows(out, printed.renewable.as_slice())
 }
 
-#[tactic(auto, unfolding(crate::specs::Lines::line))]
+#[tactic(auto, unfolding(outside::specs::Lines::line))]
 fn write_cost<W: Writer>(out: &mut W, cost: &i64) -> Result<(), Failed>
     ensures ok { OnOk result (WriterWrites (cost_line cost.now) (W.state out.old) (W.state out.new)) }
     ensures failed { OnErr result (WritesFront (cost_line cost.now) (W.state out.old) (W.state out.new)) }
@@ -116,7 +116,7 @@ fn write_cost<W: Writer>(out: &mut W, cost: &i64) -> Result<(), Failed>
     )
 }
 
-#[tactic(auto, unfolding(crate::specs::Lines::line))]
+#[tactic(auto, unfolding(outside::specs::Lines::line))]
 fn write_no_schedule<W: Writer>(out: &mut W) -> Result<(), Failed>
     ensures ok { OnOk result (WriterWrites (line (codes "schedule none") []) (W.state out.old) (W.state out.new)) }
     ensures failed { OnErr result (WritesFront (line (codes "schedule none") []) (W.state out.old) (W.state out.new)) }

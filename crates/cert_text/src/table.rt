@@ -11,7 +11,7 @@ use outside::{Failed, Writer, write_pieces};
 use uc_model::{signed_digits, whole_digits};
 
 // A row of ramp multipliers; unit and period count from 1 in the text.
-#[tactic(auto, unfolding(crate::specs::Lines::line))]
+#[tactic(auto, unfolding(outside::specs::Lines::line))]
 fn write_ramp<W: Writer>(out: &mut W, row: &RampRow) -> Result<(), Failed>
     ensures ok { OnOk result (WriterWrites (ramp_line row.now) (W.state out.old) (W.state out.new)) }
     ensures failed { OnErr result (WritesFront (ramp_line row.now) (W.state out.old) (W.state out.new)) }
@@ -76,7 +76,7 @@ fn write_prices<W: Writer>(out: &mut W, table: &Table) -> Result<(), Failed>
     write_reserve_prices(out, table)
 }
 
-#[tactic(auto, unfolding(crate::specs::Lines::line))]
+#[tactic(auto, unfolding(outside::specs::Lines::line))]
 fn write_scale<W: Writer>(out: &mut W, k: &i64) -> Result<(), Failed>
     ensures ok { OnOk result (WriterWrites (scale_line k.now) (W.state out.old) (W.state out.new)) }
     ensures failed { OnErr result (WritesFront (scale_line k.now) (W.state out.old) (W.state out.new)) }

@@ -2,6 +2,7 @@ pub mod Counts
 pub mod Known
 pub mod Slots
 pub mod Sinks
+pub mod Lines
 pub mod Devices
 pub mod Reading
 pub mod Memory

@@ -43,6 +43,12 @@ pub record WritesFront (bytes : List ℕ) (old new : WriterState) : Type 0 where
   pub rose : HasRisen old.faults new.faults
   pub grown : AppendsFront bytes old.written new.written
 
+-- the same of a sink, of which nothing else changed
+pub record SinkWritesFront (bytes : List ℕ) (old new : SinkState) : Type 0 where
+  pub rose : HasRisen old.faults new.faults
+  pub grown : AppendsFront bytes old.written new.written
+  pub flushed : new.flushed ≡ old.flushed
+
 -- a sink as a writer into it
 abbrev pub sink_view : SinkState → WriterState
 sink_view sink = record { faults = sink.faults; written = sink.written }

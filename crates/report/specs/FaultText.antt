@@ -9,7 +9,7 @@ use Rattle.uc_model.specs.declared.refusal.Refusal.{Refusal}
 use Rattle.uc_model.specs.declared.refusal.Refusal.TheVariants.{C1, C2, C3, C4, C5, C6, C7, C8, C9}
 use Rattle.outside.specs.declared.slot.Slot.{Slot}
 use Rattle.outside.specs.declared.slot.Slot.TheVariants as slot
-use Rattle.cert_text.specs.Lines.{line}
+use Rattle.outside.specs.Lines.{line}
 use Rattle.report.specs.Names.{unit_words}
 use Rattle.report.specs.declared.fault.Fault.{Fault}
 use Rattle.report.specs.declared.fault.Fault.TheVariants.{Words, Read, Write, Memory, Long, Json, Instance, Line, Code}

@@ -16,7 +16,7 @@ use Rattle.uc_model.specs.declared.stuck.Why.TheVariants.{Rule, Box, Over, Under
 use Rattle.uc_model.specs.declared.stuck.Stuck.{Stuck}
 use Rattle.branch_tree.specs.declared.found.Found.{Found}
 use Rattle.branch_tree.specs.Claims.{tree_bound}
-use Rattle.cert_text.specs.Lines.{line, list_line}
+use Rattle.outside.specs.Lines.{line, list_line}
 use Rattle.report.specs.Names.{unit_words}
 
 -- the numbers of periods, of units, and of the file's numbers that were rounded

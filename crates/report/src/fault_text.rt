@@ -1,10 +1,9 @@
 //! The line of a fault.
 
 ghost use Rattle.std.specs.Prelude.{◌≡◌, ◌∷◌, ◌++◌, [], OnOk, OnErr, codes};
-ghost use Rattle.outside.specs.Sinks.{SinkWrites, WriterWrites, WritesFront};
+ghost use Rattle.outside.specs.Sinks.{SinkWrites, SinkWritesFront, WriterWrites, WritesFront};
 ghost use Rattle.uc_model.specs.Decimal.{whole_text};
-ghost use Rattle.cert_text.specs.Lines.{line};
-ghost use Rattle.report.specs.Sinks.{SinkWritesFront};
+ghost use Rattle.outside.specs.Lines.{line};
 ghost use Rattle.report.specs.FaultText.{usage_text, read_line, write_line, long_line, json_text, json_line, field_text, owner_text, code_text, field_and_entry, instance_line, line_fault_text, certificate_line, unit_rule_line, period_rule_line, rule_line, costs_line, refusal_line, fault_text};
 
 use crate::fault::Fault;
@@ -15,7 +14,7 @@ use outside::{Failed, Sink, SinkWriter, Slot, Writer, write_all, write_pieces};
 use uc_model::{Field, Refusal, money_digits, whole_digits};
 
 // How the program is called.
-#[tactic(auto, unfolding(cert_text::specs::Lines::line))]
+#[tactic(auto, unfolding(outside::specs::Lines::line))]
 fn write_usage<W: Writer>(out: &mut W) -> Result<(), Failed>
     ensures ok { OnOk result (WriterWrites usage_text (W.state out.old) (W.state out.new)) }
     ensures failed { OnErr result (WritesFront usage_text (W.state out.old) (W.state out.new)) }
@@ -31,7 +30,7 @@ fn write_usage<W: Writer>(out: &mut W) -> Result<(), Failed>
     )
 }
 
-#[tactic(auto, unfolding(cert_text::specs::Lines::line))]
+#[tactic(auto, unfolding(outside::specs::Lines::line))]
 fn read_failed(slot: &Slot) -> &'static [u8]
     ensures { result.now ≡ read_line slot.now }
 {
@@ -41,7 +40,7 @@ fn read_failed(slot: &Slot) -> &'static [u8]
     }
 }
 
-#[tactic(auto, unfolding(cert_text::specs::Lines::line))]
+#[tactic(auto, unfolding(outside::specs::Lines::line))]
 fn write_failed(output: bool) -> &'static [u8]
     ensures { result.now ≡ write_line output }
 {
@@ -52,7 +51,7 @@ fn write_failed(output: bool) -> &'static [u8]
     }
 }
 
-#[tactic(auto, unfolding(cert_text::specs::Lines::line))]
+#[tactic(auto, unfolding(outside::specs::Lines::line))]
 fn too_long(slot: &Slot) -> &'static [u8]
     ensures { result.now ≡ long_line slot.now }
 {
@@ -62,7 +61,7 @@ fn too_long(slot: &Slot) -> &'static [u8]
     }
 }
 
-#[tactic(auto, unfolding(cert_text::specs::Lines::line))]
+#[tactic(auto, unfolding(outside::specs::Lines::line))]
 fn out_of_memory() -> &'static [u8]
     ensures { result.now ≡ line (codes "out of memory") [] }
 {
@@ -248,7 +247,7 @@ fn write_certificate_line<W: Writer>(out: &mut W, number: u64, kind: u8) -> Resu
 }
 
 // A line of one number, of which its words say the meaning.
-#[tactic(auto, unfolding(cert_text::specs::Lines::line))]
+#[tactic(auto, unfolding(outside::specs::Lines::line))]
 fn write_numbered<W: Writer>(out: &mut W, words: &[u8], number: u64) -> Result<(), Failed>
     ensures ok { OnOk result (WriterWrites (line words.now (whole_text number ∷ [])) (W.state out.old) (W.state out.new)) }
     ensures failed { OnErr result (WritesFront (line words.now (whole_text number ∷ [])) (W.state out.old) (W.state out.new)) }
@@ -348,14 +347,14 @@ fn write_costs<W: Writer>(out: &mut W, written: &i128, computed: &i64) -> Result
     )
 }
 
-#[tactic(auto, unfolding(cert_text::specs::Lines::line))]
+#[tactic(auto, unfolding(outside::specs::Lines::line))]
 fn wrong_claim() -> &'static [u8]
     ensures { result.now ≡ line (codes "certificate: C8") [] }
 {
     b"certificate: C8\n"
 }
 
-#[tactic(auto, unfolding(cert_text::specs::Lines::line))]
+#[tactic(auto, unfolding(outside::specs::Lines::line))]
 fn wrong_size() -> &'static [u8]
     ensures { result.now ≡ line (codes "certificate: C9") [] }
 {

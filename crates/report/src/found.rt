@@ -1,10 +1,9 @@
 //! The report of what a search found.
 
 ghost use Rattle.std.specs.Prelude.{◌≡◌, [], ◌≤◌, OnOk, OnErr, codes};
-ghost use Rattle.outside.specs.Sinks.{SinkWrites, WriterWrites, WritesFront};
+ghost use Rattle.outside.specs.Sinks.{SinkWrites, SinkWritesFront, WriterWrites, WritesFront};
 ghost use Rattle.branch_tree.specs.Claims.{tree_bound};
-ghost use Rattle.cert_text.specs.Lines.{line};
-ghost use Rattle.report.specs.Sinks.{SinkWritesFront};
+ghost use Rattle.outside.specs.Lines.{line};
 ghost use Rattle.report.specs.FoundReport.{size_line, is_within_gap, is_closed, state_line, cost_line, bound_line, evaluations_line, bound_lines, cost_lines, result_lines, schedule_report, open_lines, no_schedule_report, outcome_report, found_report};
 
 use crate::numbers::amount_digits;
@@ -17,7 +16,7 @@ use uc_model::tolerance::{WHOLE_GAP, tolerance};
 use uc_model::{Instance, Printed, money_digits, whole_digits};
 
 // The numbers of periods, units and rounded numbers.
-#[tactic(auto, unfolding(cert_text::specs::Lines::line))]
+#[tactic(auto, unfolding(outside::specs::Lines::line))]
 fn write_size<W: Writer>(out: &mut W, instance: &Instance, rounded: u64) -> Result<(), Failed>
     ensures ok { OnOk result (WriterWrites (size_line instance.now rounded) (W.state out.old) (W.state out.new)) }
     ensures failed { OnErr result (WritesFront (size_line instance.now rounded) (W.state out.old) (W.state out.new)) }
@@ -68,7 +67,7 @@ pub fn is_closed(found: &Found, gap: u32) -> bool
     }
 }
 
-#[tactic(auto, unfolding(cert_text::specs::Lines::line))]
+#[tactic(auto, unfolding(outside::specs::Lines::line))]
 fn write_state<W: Writer>(out: &mut W, closed: bool) -> Result<(), Failed>
     ensures ok { OnOk result (WriterWrites (state_line closed) (W.state out.old) (W.state out.new)) }
     ensures failed { OnErr result (WritesFront (state_line closed) (W.state out.old) (W.state out.new)) }
@@ -81,7 +80,7 @@ fn write_state<W: Writer>(out: &mut W, closed: bool) -> Result<(), Failed>
     }
 }
 
-#[tactic(auto, unfolding(cert_text::specs::Lines::line))]
+#[tactic(auto, unfolding(outside::specs::Lines::line))]
 fn write_cost<W: Writer>(out: &mut W, cost: &i64) -> Result<(), Failed>
     ensures ok { OnOk result (WriterWrites (cost_line cost.now) (W.state out.old) (W.state out.new)) }
     ensures failed { OnErr result (WritesFront (cost_line cost.now) (W.state out.old) (W.state out.new)) }
@@ -91,7 +90,7 @@ fn write_cost<W: Writer>(out: &mut W, cost: &i64) -> Result<(), Failed>
     write_pieces(out, &[b"cost ", amount_digits(&mut buffer, cost), b"\n"])
 }
 
-#[tactic(auto, unfolding(cert_text::specs::Lines::line))]
+#[tactic(auto, unfolding(outside::specs::Lines::line))]
 fn write_bound<W: Writer>(out: &mut W, bound: &Option<i128>) -> Result<(), Failed>
     ensures ok { OnOk result (WriterWrites (bound_line bound.now) (W.state out.old) (W.state out.new)) }
     ensures failed { OnErr result (WritesFront (bound_line bound.now) (W.state out.old) (W.state out.new)) }
@@ -107,7 +106,7 @@ fn write_bound<W: Writer>(out: &mut W, bound: &Option<i128>) -> Result<(), Faile
 }
 
 // How many entries the log has.
-#[tactic(auto, unfolding(cert_text::specs::Lines::line))]
+#[tactic(auto, unfolding(outside::specs::Lines::line))]
 fn write_evaluations<W: Writer>(out: &mut W, found: &Found) -> Result<(), Failed>
     ensures ok { OnOk result (WriterWrites (evaluations_line found.now) (W.state out.old) (W.state out.new)) }
     ensures failed { OnErr result (WritesFront (evaluations_line found.now) (W.state out.old) (W.state out.new)) }
@@ -188,7 +187,7 @@ fn write_open_lines<W: Writer>(
     write_stuck(out, instance, &found.most_on)
 }
 
-#[tactic(auto, unfolding(cert_text::specs::Lines::line))]
+#[tactic(auto, unfolding(outside::specs::Lines::line))]
 fn write_no_schedule<W: Writer>(out: &mut W) -> Result<(), Failed>
     ensures ok { OnOk result (WriterWrites (line (codes "budget spent, no schedule found") []) (W.state out.old) (W.state out.new)) }
     ensures failed { OnErr result (WritesFront (line (codes "budget spent, no schedule found") []) (W.state out.old) (W.state out.new)) }
@@ -197,7 +196,7 @@ fn write_no_schedule<W: Writer>(out: &mut W) -> Result<(), Failed>
     write_all(out, b"budget spent, no schedule found\n")
 }
 
-#[tactic(auto, unfolding(cert_text::specs::Lines::line))]
+#[tactic(auto, unfolding(outside::specs::Lines::line))]
 fn write_infeasible<W: Writer>(out: &mut W) -> Result<(), Failed>
     ensures ok { OnOk result (WriterWrites (line (codes "infeasible") []) (W.state out.old) (W.state out.new)) }
     ensures failed { OnErr result (WritesFront (line (codes "infeasible") []) (W.state out.old) (W.state out.new)) }

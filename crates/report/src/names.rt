@@ -66,7 +66,7 @@ fn write_letters_and_quote<W: Writer>(out: &mut W, name: &[u8]) -> Result<(), Fa
 }
 
 // The name of a unit in double quotes, after the unit's kind.
-#[tactic(auto, using(cert_text::proofs::Writing::then_ok, cert_text::proofs::Writing::then_failed, cert_text::proofs::Writing::front_at_error), unfolding(crate::specs::Names::unit_words))]
+#[tactic(auto, using(outside::proofs::Writing::then_ok, outside::proofs::Writing::then_failed, outside::proofs::Writing::front_at_error), unfolding(crate::specs::Names::unit_words))]
 pub(crate) fn write_unit<W: Writer>(out: &mut W, kind: &[u8], name: &str) -> Result<(), Failed>
     ensures ok { OnOk result (WriterWrites (unit_words kind.now name.now) (W.state out.old) (W.state out.new)) }
     ensures failed { OnErr result (WritesFront (unit_words kind.now name.now) (W.state out.old) (W.state out.new)) }

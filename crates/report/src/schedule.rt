@@ -3,7 +3,7 @@
 ghost use Rattle.std.specs.Prelude.{◌≡◌, ◌∷◌, ◌++◌, [], ◌+ℤ◌, OnOk, OnErr};
 ghost use Rattle.outside.specs.Sinks.{WriterWrites, WritesFront};
 ghost use Rattle.uc_model.specs.Money.{money_text};
-ghost use Rattle.cert_text.specs.Lines.{words_of};
+ghost use Rattle.outside.specs.Lines.{words_of};
 ghost use Rattle.report.specs.FoundReport.{start_text, power_text, cell_text, thermal_line, renewable_line, thermal_lines, renewable_lines, schedule_lines};
 
 use crate::names::write_unit;
@@ -85,7 +85,7 @@ fn write_cells_and_end<W: Writer>(out: &mut W, unit: &Thermal, cells: &[Cell]) -
     write_all(out, b"\n")
 }
 
-#[tactic(auto, using(cert_text::proofs::Writing::then_ok, cert_text::proofs::Writing::then_failed, cert_text::proofs::Writing::front_at_error), unfolding(cert_text::specs::Lines::list_line))]
+#[tactic(auto, using(outside::proofs::Writing::then_ok, outside::proofs::Writing::then_failed, outside::proofs::Writing::front_at_error), unfolding(outside::specs::Lines::list_line))]
 fn write_thermal_line<W: Writer>(out: &mut W, unit: &Thermal, cells: &[Cell]) -> Result<(), Failed>
     ensures ok { OnOk result (WriterWrites (thermal_line unit.now cells.now) (W.state out.old) (W.state out.new)) }
     ensures failed { OnErr result (WritesFront (thermal_line unit.now cells.now) (W.state out.old) (W.state out.new)) }
@@ -125,7 +125,7 @@ fn write_outputs_and_end<W: Writer>(out: &mut W, outputs: &[i64]) -> Result<(), 
     write_all(out, b"\n")
 }
 
-#[tactic(auto, using(cert_text::proofs::Writing::then_ok, cert_text::proofs::Writing::then_failed, cert_text::proofs::Writing::front_at_error), unfolding(cert_text::specs::Lines::list_line))]
+#[tactic(auto, using(outside::proofs::Writing::then_ok, outside::proofs::Writing::then_failed, outside::proofs::Writing::front_at_error), unfolding(outside::specs::Lines::list_line))]
 fn write_renewable_line<W: Writer>(
     out: &mut W,
     unit: &Renewable,

@@ -5,7 +5,7 @@ ghost use Rattle.outside.specs.Sinks.{WriterWrites, WritesFront};
 ghost use Rattle.uc_model.specs.Decimal.{whole_text};
 ghost use Rattle.uc_model.specs.Money.{money_text};
 ghost use Rattle.uc_model.specs.Schedule.{thermal_unit};
-ghost use Rattle.cert_text.specs.Lines.{line};
+ghost use Rattle.outside.specs.Lines.{line};
 ghost use Rattle.report.specs.FoundReport.{thermal_words, range_text, why_line, stuck_period, stuck_line};
 
 use crate::names::write_unit;
@@ -32,7 +32,7 @@ fn write_thermal<W: Writer>(out: &mut W, instance: &Instance, unit: usize) -> Re
     write_unit(out, b"thermal", thermal_name(instance, unit))
 }
 
-#[tactic(auto, using(cert_text::proofs::Writing::then_ok, cert_text::proofs::Writing::then_failed, cert_text::proofs::Writing::front_at_error), unfolding(cert_text::specs::Lines::line))]
+#[tactic(auto, using(outside::proofs::Writing::then_ok, outside::proofs::Writing::then_failed, outside::proofs::Writing::front_at_error), unfolding(outside::specs::Lines::line))]
 fn write_rule<W: Writer>(
     out: &mut W,
     instance: &Instance,
@@ -92,7 +92,7 @@ fn write_box<W: Writer>(
 }
 
 // A power that doesn't fit another one.
-#[tactic(auto, unfolding(cert_text::specs::Lines::line))]
+#[tactic(auto, unfolding(outside::specs::Lines::line))]
 fn write_misfit<W: Writer>(
     out: &mut W,
     what: &[u8],

@@ -1,7 +1,7 @@
 use Rattle.std.proofs.Common.{FitsSigned, rules}
 use Rattle.std.specs.Int.{w128}
 use Rattle.std.proofs.lemmas.Int.{to_z-of_z}
-use Rattle.cert_text.specs.Lines.{line}
+use Rattle.outside.specs.Lines.{line}
 use Rattle.cert_text.proofs.heading.write_claim.Goals as goal
 
 pub returns-in-Some-clause-ok : goal.returns-in-Some-clause-ok

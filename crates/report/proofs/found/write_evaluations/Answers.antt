@@ -1,4 +1,4 @@
-use Rattle.cert_text.specs.Lines.{line}
+use Rattle.outside.specs.Lines.{line}
 use Rattle.report.proofs.found.write_evaluations.Goals as goal
 
 pub returns-clause-ok : goal.returns-clause-ok

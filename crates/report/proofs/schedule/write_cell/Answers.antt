@@ -1,6 +1,6 @@
 use Rattle.std.proofs.Common.{◌∷◌}
 use Rattle.report.specs.FoundReport.{start_text, power_text}
-use Rattle.cert_text.proofs.Writing.{then_failed, front_at_error}
+use Rattle.outside.proofs.Writing.{then_failed, front_at_error}
 use Rattle.report.proofs.schedule.write_cell.Goals as goal
 
 pub returns-in_err-write_power-clause-failed : goal.returns-in_err-write_power-clause-failed
