@@ -1,7 +1,6 @@
 -- How the texts that calls write one after another add up.
-use Rattle.std.proofs.Common.{◌≡◌, ℕ, List, [], ◌∷◌, ◌++◌, refl, sym, ap, subst, ◌∙◌, append_assoc, append-nil}
+use Rattle.std.proofs.Common.{ℕ, List, [], ◌++◌, sym, ap, ◌∙◌, append_assoc, append-nil}
 use Rattle.std.specs.Prelude.{Result, Ok, Err, OnOk, OnErr}
-use Rattle.outside.specs.Counts.{HasRisen}
 use Rattle.outside.specs.Sinks.{WriterState, WriterWrites, WritesFront}
 use Rattle.outside.proofs.Appending.{writes-then, fault-within, at_error}
 

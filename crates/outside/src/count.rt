@@ -1,4 +1,4 @@
-ghost use Rattle.std.specs.Prelude.{◌≡◌, ◌<◌, ◌≤◌, Ok, length, IfOk, OnErr};
+ghost use Rattle.std.specs.Prelude.{◌≡◌, ◌<◌, ◌≤◌, Ok, length, IfOk, IsErr, OnErr};
 ghost use Rattle.outside.specs.Counts.{HasRisen, one_more};
 
 use crate::fault::Failed;
@@ -16,6 +16,8 @@ pub fn next_count(count: u64) -> u64
 pub fn counted<T: Drop>(outcome: io::Result<T>, faults: &mut u64) -> Result<T, Failed>
     ensures ok { IfOk result (λ value. (outcome ≡ Ok value) × (faults.new ≡ faults.old)) }
     ensures failed { OnErr result (HasRisen faults.old faults.new) }
+    ensures one { OnErr result (faults.new ≡ one_more faults.old) }
+    ensures cause { OnErr result (IsErr outcome) }
 {
     match outcome {
         Ok(value) => Ok(value),
@@ -36,6 +38,8 @@ pub fn counted_write(
     ensures ok { IfOk result (λ n. (outcome ≡ Ok n) × (faults.new ≡ faults.old)) }
     ensures some { IfOk result (λ n. 0 < length piece.now → 0 < n) }
     ensures failed { OnErr result (HasRisen faults.old faults.new) }
+    ensures one { OnErr result (faults.new ≡ one_more faults.old) }
+    ensures cause { OnErr result (IfOk outcome (λ n. (n ≡ 0) × (0 < length piece.now))) }
 {
     let taken = counted(outcome, faults)?;
     if taken == 0 && !piece.is_empty() {

@@ -1,5 +1,5 @@
 ghost use Rattle.std.specs.Prelude.{◌≡◌, ◌↔◌, ◌<◌, ◌≤◌, min, Contains, IfOk, IsErr, OnOk, OnErr};
-ghost use Rattle.outside.specs.Counts.{HasRisen};
+ghost use Rattle.outside.specs.Counts.{HasRisen, one_more};
 ghost use Rattle.outside.specs.Schedule.{count_of, with_count, counted, IsFresh};
 ghost use Rattle.outside.specs.contracts.schedule.CallCounts.{the_row as counts-row};
 ghost use Rattle.std.specs.Borrow.{sem, Lends, u64};
@@ -95,6 +95,7 @@ impl Schedule {
         ensures fails { IsErr result ↔ Contains self.old.failing.items (record { call = call; number = count_of self.old.made call }) }
         ensures ok { OnOk result (self.new.faults ≡ self.old.faults) }
         ensures failed { OnErr result (HasRisen self.old.faults self.new.faults) }
+        ensures one { OnErr result (self.new.faults ≡ one_more self.old.faults) }
     {
         let number = self.made.count(call);
         if self.failing.contains(&FailingCall { call, number }) {
