@@ -6,6 +6,8 @@ mod heading;
 mod numbers;
 mod schedule;
 mod table;
+#[cfg(test)]
+mod tests;
 mod tree;
 
 pub use certificate::write;
