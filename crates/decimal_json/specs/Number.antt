@@ -22,11 +22,22 @@ whole_of ds = fold (λ n d. n * 10 + d) 0 ds
 abbrev pub held : ℤ → ℤ
 held z = int_max (negsuc 999_999_999) (int_min z (pos 1_000_000_000))
 
--- the exponent of the last digit: what is written after the mark, less the digits after the point
-abbrev pub exponent_of : Bool → ℕ → ℕ → ℤ
-exponent_of down written places = held (if down then pos 0 -ℤ pos (written + places) else pos written -ℤ pos places)
+-- the exponent of the last digit as it is written: what is after the mark, less the digits after the point
+abbrev pub written_exponent : Bool → ℕ → ℕ → ℤ
+written_exponent down written places = if down then pos 0 -ℤ pos (written + places) else pos written -ℤ pos places
 
--- the number of a sign, of the digits before and after the point, and of an exponent
+-- the same, as a value keeps it
+abbrev pub exponent_of : Bool → ℕ → ℕ → ℤ
+exponent_of down written places = held (written_exponent down written places)
+
+-- the number of a sign, of the digits before and after the point, and of an exponent, as it is written
+abbrev pub written_decimal : Bool → List ℕ → List ℕ → Bool → ℕ → Decimal
+written_decimal negative ds fs down written =
+    record { negative = negative; digits = ds ++ fs; exponent = written_exponent down written (length fs) }
+
+-- a number as a value keeps it
+abbrev pub held_decimal : Decimal → Decimal
+held_decimal d = record { negative = d.negative; digits = d.digits; exponent = held d.exponent }
+
 abbrev pub decimal_from : Bool → List ℕ → List ℕ → Bool → ℕ → Decimal
-decimal_from negative ds fs down written =
-    record { negative = negative; digits = ds ++ fs; exponent = exponent_of down written (length fs) }
+decimal_from negative ds fs down written = held_decimal (written_decimal negative ds fs down written)

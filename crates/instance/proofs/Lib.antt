@@ -8,3 +8,4 @@ pub mod RowLaws
 pub mod UnitLaws
 pub mod LawfulInstance
 pub mod Whole
+pub mod Exponents

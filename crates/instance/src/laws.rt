@@ -1,11 +1,15 @@
 //! Laws on what a JSON value stands for.
 
-ghost use Rattle.std.specs.Prelude.{◌≡◌, Bool, Ok};
+ghost use Rattle.std.specs.Prelude.{◌≡◌, ℕ, ◌≤◌, Bool, List, ◌++◌, length, Ok};
 ghost use Rattle.uc_model.specs.Limits.{IsLawfulInstance};
 ghost use Rattle.uc_model.specs.declared.instance.Instance.{Instance};
-ghost use Rattle.decimal_json.specs.Value.{Value};
+ghost use Rattle.decimal_json.specs.Value.{Decimal, Value};
+ghost use Rattle.decimal_json.specs.Number.{decimal_from, written_decimal};
 ghost use Rattle.instance.specs.FirstFault.{instance_at};
 ghost use Rattle.instance.specs.InstanceOf.{IsInstanceOf};
+ghost use Rattle.instance.specs.Scaled.{size_of, wholes_of};
+ghost use Rattle.instance.specs.Held.{held, held_wholes};
+ghost use Rattle.instance.specs.SameNumber.{SaySame, MOST_DIGITS};
 
 /// A value has no fault exactly where it stands for an instance, and it stands for one at most.
 #[tactic(auto, using(crate::proofs::UnitLaws::instance_is, crate::proofs::UnitLaws::instance_again, crate::proofs::UnitLaws::one_instance))]
@@ -19,4 +23,17 @@ pub fn a_value_has_an_instance_or_a_fault()
 #[tactic(auto, using(crate::proofs::LawfulInstance::instance_lawful))]
 pub fn instances_of_values_are_lawful()
     ensures { (exact : Bool) (v : Value) (i : Instance) → IsInstanceOf exact v i → IsLawfulInstance i }
+{}
+
+/// A number as a value keeps it, with its exponent held, says the same as the number as it is written.
+pub fn held_exponents_say_the_same()
+    ensures { (negative : Bool) (ds fs : List ℕ) (down : Bool) (written : ℕ) → length (ds ++ fs) ≤ MOST_DIGITS →
+        SaySame (decimal_from negative ds fs down written) (written_decimal negative ds fs down written) }
+{}
+
+/// Numbers that say the same have the same size and the same wholes, as the reader holds them.
+#[tactic(auto, using(crate::proofs::Exponents::same_held_size, crate::proofs::Exponents::same_held_wholes))]
+pub fn numbers_that_say_the_same_are_held_the_same()
+    ensures size { (a b : Decimal) → SaySame a b → held (size_of a) ≡ held (size_of b) }
+    ensures wholes { (a b : Decimal) → SaySame a b → held_wholes (wholes_of a) ≡ held_wholes (wholes_of b) }
 {}
