@@ -64,7 +64,7 @@ same_below negative digits j k p q =
 
 -- ---- within
 
-itself : (d : Decimal) → SaySame d d
+pub itself : (d : Decimal) → SaySame d d
 itself d = record { sign = refl; rounded = refl; rest = refl; size = inl refl }
 
 for_exponent : (negative : Bool) (digits : List ℕ) (y z : ℤ) → held_exponent z ≡ y → SaySame (at negative digits y) (at negative digits z) → SaySame (held_decimal (at negative digits z)) (at negative digits z)

@@ -9,3 +9,6 @@ pub mod UnitLaws
 pub mod LawfulInstance
 pub mod Whole
 pub mod Exponents
+pub mod HeldValues
+pub mod HeldRounded
+pub mod HeldInstance

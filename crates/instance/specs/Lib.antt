@@ -2,6 +2,7 @@ pub mod Fields
 pub mod Scaled
 pub mod Held
 pub mod SameNumber
+pub mod Numbers
 pub mod Points
 pub mod Rounded
 pub mod FirstFault

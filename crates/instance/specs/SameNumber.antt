@@ -1,5 +1,5 @@
 -- What it is for two numbers of JSON to say the same wherever a field of an instance has one.
-use Rattle.std.specs.Prelude.{◌≡◌, ◌⊎◌, ℕ, ◌%◌, ◌^◌, ◌≤◌}
+use Rattle.std.specs.Prelude.{◌≡◌, ◌⊎◌, ℕ, ◌%◌, ◌^◌, ◌≤◌, length}
 use Rattle.decimal_json.specs.Value.{Decimal}
 use Rattle.instance.specs.Scaled.{MILLION, size_of, is_rounded}
 use Rattle.instance.specs.Held.{PAST_LIMITS}
@@ -15,3 +15,7 @@ pub record SaySame (a b : Decimal) : Type 0 where
 -- The text of a number with more digits has more bytes than an instance file may have.
 abbrev pub MOST_DIGITS : ℕ
 MOST_DIGITS = 2 ^ 26
+
+-- of so many digits at most
+abbrev pub IsShort : Decimal → Type 0
+IsShort d = length d.digits ≤ MOST_DIGITS

@@ -4,12 +4,14 @@ ghost use Rattle.std.specs.Prelude.{◌≡◌, ℕ, ◌≤◌, Bool, List, ◌++
 ghost use Rattle.uc_model.specs.Limits.{IsLawfulInstance};
 ghost use Rattle.uc_model.specs.declared.instance.Instance.{Instance};
 ghost use Rattle.decimal_json.specs.Value.{Decimal, Value};
-ghost use Rattle.decimal_json.specs.Number.{decimal_from, written_decimal};
+ghost use Rattle.decimal_json.specs.Number.{decimal_from, held_decimal, written_decimal};
 ghost use Rattle.instance.specs.FirstFault.{instance_at};
 ghost use Rattle.instance.specs.InstanceOf.{IsInstanceOf};
+ghost use Rattle.instance.specs.Rounded.{rounded_instance};
 ghost use Rattle.instance.specs.Scaled.{size_of, wholes_of};
 ghost use Rattle.instance.specs.Held.{held, held_wholes};
-ghost use Rattle.instance.specs.SameNumber.{SaySame, MOST_DIGITS};
+ghost use Rattle.instance.specs.SameNumber.{SaySame, MOST_DIGITS, IsShort};
+ghost use Rattle.instance.specs.Numbers.{with_numbers, AllNumbers};
 
 /// A value has no fault exactly where it stands for an instance, and it stands for one at most.
 #[tactic(auto, using(crate::proofs::UnitLaws::instance_is, crate::proofs::UnitLaws::instance_again, crate::proofs::UnitLaws::one_instance))]
@@ -36,4 +38,17 @@ pub fn held_exponents_say_the_same()
 pub fn numbers_that_say_the_same_are_held_the_same()
     ensures size { (a b : Decimal) → SaySame a b → held (size_of a) ≡ held (size_of b) }
     ensures wholes { (a b : Decimal) → SaySame a b → held_wholes (wholes_of a) ≡ held_wholes (wholes_of b) }
+{}
+
+/// A value with the exponents of its numbers held has the instance of the value as it is written, or its
+/// first fault, and as many rounded numbers.
+pub fn held_exponents_change_no_instance()
+    ensures first { (exact : Bool) (v : Value) → AllNumbers IsShort v →
+        instance_at exact (with_numbers held_decimal v) ≡ instance_at exact v }
+    ensures rounded { (periods : ℕ) (v : Value) → AllNumbers IsShort v →
+        rounded_instance periods (with_numbers held_decimal v) ≡ rounded_instance periods v }
+    ensures found { (exact : Bool) (v : Value) (i : Instance) → AllNumbers IsShort v →
+        IsInstanceOf exact (with_numbers held_decimal v) i → IsInstanceOf exact v i }
+    ensures kept { (exact : Bool) (v : Value) (i : Instance) → AllNumbers IsShort v →
+        IsInstanceOf exact v i → IsInstanceOf exact (with_numbers held_decimal v) i }
 {}

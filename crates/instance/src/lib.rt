@@ -22,8 +22,9 @@ mod units;
 pub use fault::InstanceFault;
 pub use file::{ReadFault, read_instance};
 pub use laws::{
-    a_value_has_an_instance_or_a_fault, held_exponents_say_the_same,
-    instances_of_values_are_lawful, numbers_that_say_the_same_are_held_the_same,
+    a_value_has_an_instance_or_a_fault, held_exponents_change_no_instance,
+    held_exponents_say_the_same, instances_of_values_are_lawful,
+    numbers_that_say_the_same_are_held_the_same,
 };
 pub use read::from_json;
 
