@@ -9,6 +9,8 @@ pub mod UnitLaws
 pub mod LawfulInstance
 pub mod Whole
 pub mod Exponents
+pub mod NearestSizes
+pub mod ExactLaws
 pub mod HeldValues
 pub mod HeldRounded
 pub mod HeldInstance

@@ -1,5 +1,6 @@
 pub mod Fields
 pub mod Scaled
+pub mod Nearest
 pub mod Held
 pub mod SameNumber
 pub mod Numbers

@@ -12,6 +12,7 @@ mod object;
 mod read;
 mod reader;
 mod renewable;
+mod rounding;
 mod rows;
 mod scaled;
 mod spot;
@@ -27,6 +28,7 @@ pub use laws::{
     numbers_that_say_the_same_are_held_the_same,
 };
 pub use read::from_json;
+pub use rounding::{exact_instances_have_no_rounded_number, scaled_numbers_are_the_nearest};
 
 #[cfg(test)]
 mod tests;
