@@ -1,6 +1,6 @@
 -- Minimum times by the last change of state: the windows of M4 and M5 with the initial times of M2 and M3 say the same as
 -- that no state is left before it has lasted long enough. Said of any state; M4 takes it for on, M5 for off.
-use Rattle.std.proofs.Common.{◌≡◌, ℕ, zero, suc, ◌+◌, ◌-◌, ◌<◌, ◌≤◌, ⊎_elim, min, Bool, true, false, not, ◌&&◌, refl, sym, ap, subst, ◌∙◌, arith, ℤ, pos, ◌+ℤ◌, ◌≤ℤ◌}
+use Rattle.std.proofs.Common.{◌≡◌, ℕ, zero, suc, ◌+◌, ◌-◌, ◌<◌, ◌≤◌, ⊎_elim, min, Bool, true, false, not, ◌&&◌, refl, sym, ap, subst, ◌∙◌, arith, ℤ, pos, ◌≤ℤ◌}
 use Rattle.std.specs.Prelude.{IsTrue, int_le, nat_lt}
 use Rattle.std.proofs.lemmas.Bool.{cases_Bool, cases_lt, or_cases, or_left, or_right, and_parts, and_from, true≢false, not-true, not_from_false, ltb-true, lt-ltb, leb-true, le-leb}
 use Rattle.uc_model.specs.Sums.{sum_below, any_below, bit}
@@ -8,7 +8,7 @@ use Rattle.uc_model.specs.Commitment.{Commitment, state_before, keeps_minimum_at
 use Rattle.uc_model.proofs.Ring.{linear}
 use Rattle.uc_model.proofs.Sums.{sum_below-zero, sum_below-single, term-le-sum_below}
 use Rattle.uc_model.proofs.Tests.{int_le-true, le-int_le, any_below-at, any_below-from}
-use Rattle.uc_model.proofs.MinimumTimes.{bit_nonneg, bit-le-one}
+use Rattle.uc_model.proofs.MinimumTimes.{bit_nonneg, bit-le-one, two_terms-le-sum_below}
 use Rattle.state_walk.specs.Moves.{has_lasted}
 use Rattle.state_walk.proofs.Switches.{since, since-zero, since-suc, since_after-same, since_after-other}
 
@@ -147,23 +147,6 @@ initial-from_lasting initial state periods left most leave first t within h =
     (lasts_initially initial state periods left most leave first (suc t) h within).0
 
 -- ---- from windows to lasting
--- two terms of a sum
-two_terms-le-sum_below : (n : ℕ) (f : ℕ → ℤ) (j k : ℕ) → j < k → k < n → ((i : ℕ) → i < n → pos 0 ≤ℤ f i)
-    → (f j +ℤ f k) ≤ℤ sum_below n f
-two_terms-le-sum_below zero f j k l h nonneg = absurd (omega arith)
-two_terms-le-sum_below (suc n) f j k l h nonneg =
-    let more : pos 0 ≤ℤ f n = nonneg n (omega arith) in
-    ⊎_elim
-    (λ (less : k < n).
-    let earlier = two_terms-le-sum_below n f j k l less (λ i m. nonneg i (omega arith)) in
-    omega (arith, linear))
-    (λ (past : n ≤ k).
-    let last : k ≡ n = omega arith in
-    let first = term-le-sum_below n f j (omega arith) (λ i m. nonneg i (omega arith)) in
-    let same = ap f last in
-    omega (arith, linear))
-    (cases_lt k n)
-
 -- a state that is back by a later period was entered in between
 back_again : (initial : Bool) (state : Commitment) (t d : ℕ) → state t ≡ false → IsTrue (state (t + d))
     → (j : ℕ) × (t < j) × (j ≤ t + d) × IsTrue (enters initial state j)
