@@ -4,6 +4,8 @@ ghost use Rattle.std.specs.Prelude.{◌≡◌, ◌≤◌, ◌&&◌, nat_le, [], 
 ghost use Rattle.std.specs.List.{list_all};
 ghost use Rattle.uc_model.specs.Limits.{IsLawfulThermal};
 
+mod enumeration;
+
 use crate::{Walk, least, sigma, term, terms};
 use dual_model::Fix;
 use std::alloc::Global;

@@ -1,0 +1,9 @@
+use Rattle.std.proofs.Common.{◌≡◌, All, length}
+use Rattle.state_walk.specs.TableValue.{IsLawfulRow}
+use Rattle.state_walk.proofs.tests.enumeration.rows.Given as goal
+
+abbrev pub invariant-loop-price : goal.invariant-loop-price
+invariant-loop-price l = record {
+  count : length l.rows.items ≡ l.price-index;
+  lawful : All IsLawfulRow l.rows.items;
+}
