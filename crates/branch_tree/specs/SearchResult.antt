@@ -1,13 +1,14 @@
 -- What a search answers: a tree that holds, a true log, and how much of the budget was spent. This project's
 -- own statement.
-use Rattle.std.specs.Prelude.{◌≡◌, ◌≢◌, ℕ, ◌<◌, List, [], Option, Some, None, All, AllPairs, length, slice_get}
+use Rattle.std.specs.Prelude.{◌≡◌, ◌≢◌, ℕ, ◌<◌, List, [], ◌∷◌, ℤ, Some, None, IfSome, All, AllPairs, length, slice_get}
 use Rattle.uc_model.specs.Schedule.{thermal_count}
 use Rattle.uc_model.specs.declared.instance.Instance.{Instance}
 use Rattle.dual_model.specs.Prices.{IsLawfulTable}
 use Rattle.dual_model.specs.Fixings.{HasNoPattern}
 use Rattle.dual_model.specs.NodeValue.{IsNodeValue}
-use Rattle.dual_model.specs.Cover.{root}
+use Rattle.dual_model.specs.Cover.{root, ReachesBoundOf}
 use Rattle.dual_model.specs.Certificate.{CertificateHolds}
+use Rattle.dual_model.specs.Opening.{zero_table}
 use Rattle.dual_model.specs.declared.node.Node.{Node}
 use Rattle.dual_model.specs.declared.table.Table.{Table}
 use Rattle.branch_tree.specs.declared.found.Entry.{Entry}
@@ -15,7 +16,7 @@ use Rattle.branch_tree.specs.declared.found.Found.{Found}
 use Rattle.branch_tree.specs.declared.found.Outcome.{Outcome}
 use Rattle.branch_tree.specs.declared.found.Outcome.TheVariants.{Value, Empty}
 use Rattle.branch_tree.specs.declared.tree.Leaf.TheVariants as leaf
-use Rattle.branch_tree.specs.Claims.{HasLayout, tree_bound, certificate_of}
+use Rattle.branch_tree.specs.Claims.{HasLayout, tree_bound, used_tables, certificate_of}
 
 -- unit g is the first of the instance that has no pattern at the node
 pub record IsFirstEmpty (instance : Instance) (node : Node) (g : ℕ) : Type 0 where
@@ -46,6 +47,17 @@ pub record IsTrueLog (instance : Instance) (tables : List Table) (log : List Ent
   pub entries : All (IsTrueEntry instance tables) log
   pub apart : AllPairs AreApart log
 
+-- the entry is the claim of the root by worker 0, at the table of no prices
+pub record IsFirstClaim (instance : Instance) (tables : List Table) (entry : Entry) : Type 0 where
+  pub unit : entry.unit ≡ 1
+  pub worker : entry.worker ≡ 0
+  pub table : slice_get tables entry.table ≡ Some (zero_table instance)
+
+-- a root that isn't excluded holds the table of no prices, and its bound is at least the one of this table
+pub record IsOpened (instance : Instance) (found : Found) (bound : ℤ) : Type 0 where
+  pub stored : used_tables found ≡ zero_table instance ∷ []
+  pub reached : ReachesBoundOf instance root (zero_table instance) bound
+
 -- the answer of a search with this budget of evaluations
 pub record IsSearchResult (instance : Instance) (budget : ℕ) (found : Found) : Type 0 where
   pub layout : HasLayout found
@@ -56,6 +68,9 @@ pub record IsSearchResult (instance : Instance) (budget : ℕ) (found : Found) :
   pub most_on : found.most_on ≡ None
   -- where the tree isn't excluded the whole budget was spent
   pub spent : tree_bound found.tree ≢ None → length found.log ≡ budget
+  -- the table of no prices is the only one that is tried yet
+  pub claims : All (IsFirstClaim instance found.tables) found.log
+  pub opened : IfSome (tree_bound found.tree) (IsOpened instance found)
   -- a unit without an allowed pattern excludes the root before any evaluation
   pub excluded : (g : ℕ) → IsFirstEmpty instance root g →
       (found.tree.leaf ≡ leaf.Empty g) × (found.log ≡ [])

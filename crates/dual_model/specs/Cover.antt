@@ -71,6 +71,12 @@ pub record HasBoundOf (instance : Instance) (node : Node) (table : Table) (b : �
   pub is_bound : IsTableBound instance node table bound
   pub enough : b ≤ℤ bound
 
+-- b is at least the bound of the table at the node
+pub record ReachesBoundOf (instance : Instance) (node : Node) (table : Table) (b : ℤ) : Type 0 where
+  pub bound : ℤ
+  pub is_bound : IsTableBound instance node table bound
+  pub reached : bound ≤ℤ b
+
 -- the table of that number is a ray that leaves no schedule at the node
 pub record IsExcludedByRay (instance : Instance) (tables : List Table) (node : Node) (number : ℕ) : Type 0 where
   pub table : Table

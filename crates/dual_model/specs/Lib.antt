@@ -5,5 +5,6 @@ pub mod UnitValue
 pub mod NodeValue
 pub mod Cover
 pub mod Certificate
+pub mod Opening
 pub mod Laws
 pub mod Examples

@@ -13,12 +13,12 @@ use Rattle.dual_model.specs.Certificate.{CertificateHolds}
 use Rattle.dual_model.specs.Laws.{IsClaimTrue}
 use Rattle.dual_model.proofs.Covers.{certificates_claim_truly}
 use Rattle.branch_tree.specs.Claims.{certificate_of, tree_bound}
-use Rattle.branch_tree.specs.SearchResult.{IsFirstEmpty, IsTrueEntry, IsSearchResult}
+use Rattle.branch_tree.specs.SearchResult.{IsFirstEmpty, IsTrueEntry, IsFirstClaim, IsSearchResult}
 use Rattle.branch_tree.specs.declared.found.Entry.{Entry}
 use Rattle.branch_tree.specs.declared.found.Found.{Found}
 use Rattle.branch_tree.specs.declared.found.Outcome.TheVariants.{Value}
 use Rattle.branch_tree.specs.declared.tree.Leaf.TheVariants as leaf
-use Rattle.uc_cli.specs.Search.{ZERO_SCALE, zero_table}
+use Rattle.dual_model.specs.Opening.{ZERO_SCALE, zero_table}
 use Rattle.uc_cli.proofs.ZeroTable.{zero_lawful}
 
 -- the one entry of the log
@@ -76,6 +76,13 @@ bounded_is instance v b value floor = record {
   schedule = refl;
   most_on = refl;
   spent = λ some. refl;
+  claims = All-cons (IsFirstClaim instance (zero_table instance ∷ [])) (the_claim v) []
+      (record { unit = refl; worker = refl; table = refl })
+      (All-nil (IsFirstClaim instance (zero_table instance ∷ [])));
+  opened = record {
+    stored = refl;
+    reached = record { bound = b; is_bound = record { value = v; is_value = value; quotient = floor }; reached = le_refl b };
+  };
   excluded = λ g empty. absurd (not_first_empty instance v value g empty);
 }
 

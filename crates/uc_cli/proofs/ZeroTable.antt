@@ -29,7 +29,8 @@ use Rattle.dual_model.specs.declared.table.Table.{Table}
 use Rattle.branch_tree.specs.SearchResult.{IsFirstEmpty}
 use Rattle.state_walk.specs.Onward.{MAX_ONWARD}
 use Rattle.state_walk.specs.TableValue.{row_at, IsLawfulRow, AreRowsOf}
-use Rattle.uc_cli.specs.Search.{zero_table, IsUnitSum}
+use Rattle.dual_model.specs.Opening.{zero_table}
+use Rattle.uc_cli.specs.Search.{IsUnitSum}
 
 -- a list of zeros is 0 everywhere
 zeros_at : (n t : ℕ) → get_or (replicate n (pos 0)) t (pos 0) ≡ pos 0

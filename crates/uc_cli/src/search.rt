@@ -9,10 +9,10 @@ ghost use Rattle.dual_model.specs.Cover.{root};
 ghost use Rattle.dual_model.specs.Laws.{IsClaimTrue};
 ghost use Rattle.branch_tree.specs.Claims.{tree_bound};
 ghost use Rattle.dual_model.specs.NodeValue.{IsNodeValue};
+ghost use Rattle.dual_model.specs.Opening.{zero_table};
 ghost use Rattle.branch_tree.specs.SearchResult.{IsFirstEmpty, IsOutcome, IsSearchResult};
 ghost use Rattle.state_walk.specs.Onward.{IsWithin, MAX_ONWARD};
 ghost use Rattle.state_walk.specs.TableValue.{IsUnitValueOf};
-ghost use Rattle.uc_cli.specs.Search.{zero_table};
 
 use branch_tree::{Entry, Found, Layout, Leaf, Outcome, Tree};
 use dual_model::{Fix, Table};
@@ -22,7 +22,7 @@ use std::alloc::Global;
 use std::sync::Wait;
 use uc_model::{Instance, List, NoMemory, Pattern, floor_div};
 
-/// The scale of the table of no prices: a micro-dollar per watt.
+/// The scale of the table of no prices, at which a price is in micro-dollars for a megawatt.
 const SCALE: i64 = 1_000_000;
 
 // The table of no prices.

@@ -7,7 +7,8 @@ use Rattle.uc_model.specs.declared.limits.TheConstants.{MAX_UNITS}
 use Rattle.dual_model.specs.Cover.{root}
 use Rattle.state_walk.specs.Onward.{IsWithin, MAX_ONWARD}
 use Rattle.state_walk.specs.TableValue.{IsUnitValueOf}
-use Rattle.uc_cli.specs.Search.{zero_table, IsUnitSum}
+use Rattle.dual_model.specs.Opening.{zero_table}
+use Rattle.uc_cli.specs.Search.{IsUnitSum}
 use Rattle.uc_cli.proofs.ZeroTable.{zero_node_value, unit_sum-more, first_empty, sum_fits, sum_size}
 use Rattle.uc_cli.proofs.search.evaluate.Goals as goal
 

@@ -5,7 +5,7 @@ use Rattle.uc_model.specs.Limits.{IsLawfulThermal}
 use Rattle.uc_model.specs.Schedule.{no_unit}
 use Rattle.uc_model.specs.declared.instance.Thermal.{Thermal}
 use Rattle.dual_model.specs.Cover.{root}
-use Rattle.uc_cli.specs.Search.{zero_table}
+use Rattle.dual_model.specs.Opening.{zero_table}
 use Rattle.uc_cli.proofs.ZeroTable.{root_fix, zero_rows, zero_row_lawful}
 use Rattle.uc_cli.proofs.search.unit_value.Goals as goal
 
