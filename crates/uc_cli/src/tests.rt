@@ -1,13 +1,16 @@
+//! Runs of the program on the worked rows, on devices in memory.
+
 use super::*;
-use outside::{Devices, MemoryFile, MemorySink, NoMemory, OpenGate};
+use outside::{Call, Devices, FailingCall, FaultyFile, FaultySink, NoMemory, OpenGate, Pace};
 use std::alloc::{AllocError, Global};
 use std::process::Abort;
 use std::sync::Wait;
 use std::test::Fail;
 use std::thread::Threads;
 
-const BASE: &[u8] =
-    b"{\"time_periods\":1,\"demand\":[30],\"reserves\":[5],\"thermal_generators\":{\"g1\":{\"must_run\":0,\"power_output_minimum\":10,\"power_output_maximum\":50,\"ramp_up_limit\":40,\"ramp_down_limit\":40,\"ramp_startup_limit\":50,\"ramp_shutdown_limit\":50,\"time_up_minimum\":1,\"time_down_minimum\":1,\"power_output_t0\":20,\"unit_on_t0\":1,\"time_up_t0\":1,\"time_down_t0\":0,\"startup\":[{\"lag\":1,\"cost\":0}],\"piecewise_production\":[{\"mw\":10,\"cost\":100},{\"mw\":50,\"cost\":500}]}},\"renewable_generators\":{}}";
+/// A unit of 10 to 50 MW for one hour, which is on at 20 MW before it.
+const BASE: &str =
+    "{\"time_periods\":1,\"demand\":[30],\"reserves\":[5],\"thermal_generators\":{\"g1\":{\"must_run\":0,\"power_output_minimum\":10,\"power_output_maximum\":50,\"ramp_up_limit\":40,\"ramp_down_limit\":40,\"ramp_startup_limit\":50,\"ramp_shutdown_limit\":50,\"time_up_minimum\":1,\"time_down_minimum\":1,\"power_output_t0\":20,\"unit_on_t0\":1,\"time_up_t0\":1,\"time_down_t0\":0,\"startup\":[{\"lag\":1,\"cost\":0}],\"piecewise_production\":[{\"mw\":10,\"cost\":100},{\"mw\":50,\"cost\":500}]}},\"renewable_generators\":{}}";
 
 const BASE_CERTIFICATE: &[u8] =
     b"uc-certificate 1\nsize 1 1 0 1\nclaim bound 0.000000\nschedule none\ntable 1000000\npi 0\nmu 0\nramps 0\nbound 1\nend\n";
@@ -18,16 +21,43 @@ const BASE_REPORT: &[u8] =
 const USAGE: &[u8] =
     b"usage: uc solve FILE --cert FILE [--units N] [--workers N] [--gap PPM] [--exact]\n       uc check FILE CERT\n       uc demo SEED\n";
 
-/// A run on an instance in memory: its bytes, the words behind `--cert CERT`, and what is expected of the
-/// status, the certificate, the output and the error output.
+/// The words behind `--cert FILE` of a run with one evaluation, and with exact numbers besides.
+const ONE: &[&str] = &["--units", "1"];
+
+const ONE_EXACT: &[&str] = &["--units", "1", "--exact"];
+
+/// The calls that fail on each device.
 #[derive(Clone, Copy)]
-struct Case {
-    input: &'static [u8],
-    words: &'static [&'static str],
+struct Failing<'a> {
+    instance: &'a [FailingCall],
+    certificate: &'a [FailingCall],
+    output: &'a [FailingCall],
+}
+
+const NONE_FAILS: Failing<'static> = Failing {
+    instance: &[],
+    certificate: &[],
+    output: &[],
+};
+
+/// How a run ends: its status, and the bytes of the certificate, those flushed on the output, and those on the
+/// error output.
+#[derive(Clone, Copy)]
+struct Ending<'a> {
     code: u8,
-    certificate: &'static [u8],
-    report: &'static [u8],
-    told: &'static [u8],
+    certificate: &'a [u8],
+    report: &'a [u8],
+    told: &'a [u8],
+}
+
+/// An ending with a fault before anything is written.
+fn fault(code: u8, told: &[u8]) -> Ending<'_> {
+    Ending {
+        code,
+        certificate: b"",
+        report: b"",
+        told,
+    }
 }
 
 fn words(alloc: Global, more: &[&str]) -> Result<Vec<String>, AllocError> {
@@ -44,120 +74,252 @@ fn words(alloc: Global, more: &[&str]) -> Result<Vec<String>, AllocError> {
 fn assert_run<R: Threads + Wait + Sync + Abort>(
     rt: &R,
     alloc: Global,
-    case: &Case,
+    input: &[u8],
+    more: &[&str],
+    failing: &Failing<'_>,
+    ending: &Ending<'_>,
 ) -> Result<(), NoMemory> {
-    let Ok(words) = words(alloc, case.words) else {
+    let Ok(words) = words(alloc, more) else {
         return Err(NoMemory);
     };
+    let pace = Pace::Full;
     let mut files = Devices::new(
-        MemoryFile::new(alloc, "in.json", case.input)?,
-        MemoryFile::new(alloc, "old.cert", b"")?,
-        MemoryFile::new(alloc, "new.cert", b"")?,
+        FaultyFile::new(alloc, "in.json", input, failing.instance, pace)?,
+        FaultyFile::new(alloc, "old.cert", b"", &[], pace)?,
+        FaultyFile::new(alloc, "new.cert", b"", failing.certificate, pace)?,
     );
-    let mut out = MemorySink::new(alloc);
-    let mut err = MemorySink::new(alloc);
+    let mut out = FaultySink::new(alloc, failing.output, pace)?;
+    let mut err = FaultySink::new(alloc, &[], pace)?;
     let end = uc(rt, alloc, &words, &mut files, &mut out, &mut err, &OpenGate);
-    assert_eq!(rt; end.code, case.code);
-    assert!(rt; files.cert_out.written() == Some(case.certificate));
-    assert!(rt; out.flushed() == Some(case.report));
-    assert!(rt; err.written() == Some(case.told));
+    assert_eq!(rt; end.code, ending.code);
+    assert!(rt; files.cert_out.memory.written() == Some(ending.certificate));
+    assert!(rt; out.memory.flushed() == Some(ending.report));
+    assert!(rt; err.memory.written() == Some(ending.told));
     Ok(())
+}
+
+/// A worked row: what it changes of the first instance, the words behind `--cert FILE`, and how the run ends.
+#[derive(Clone, Copy)]
+struct Row {
+    changes: &'static [(&'static str, &'static str)],
+    words: &'static [&'static str],
+    ending: Ending<'static>,
+}
+
+fn changed(alloc: Global, changes: &[(&str, &str)]) -> Result<String, AllocError> {
+    let mut text = String::from_str(alloc, BASE)?;
+    for (from, to) in changes {
+        text = text.replace(alloc, *from, to)?;
+    }
+    Ok(text)
 }
 
 #[test]
 fn runs_end_as_the_worked_rows_say(rt: HostRuntime) -> Result<(), Fail> {
-    let cases = [
-        Case {
-            input: BASE,
-            words: &["--units", "1"],
-            code: 2,
-            certificate: BASE_CERTIFICATE,
-            report: BASE_REPORT,
-            told: b"",
+    let base = Ending {
+        code: 2,
+        certificate: BASE_CERTIFICATE,
+        report: BASE_REPORT,
+        told: b"",
+    };
+    let rows = [
+        Row {
+            changes: &[],
+            words: ONE,
+            ending: base,
         },
-        Case {
-            input: BASE,
-            words: &["--units", "1", "--exact"],
-            code: 2,
-            certificate: BASE_CERTIFICATE,
-            report: BASE_REPORT,
-            told: b"",
+        Row {
+            changes: &[],
+            words: ONE_EXACT,
+            ending: base,
         },
-        Case {
-            input: b"{\"time_periods\":1,\"demand\":[30],\"reserves\":[5],\"thermal_generators\":{\"g1\":{\"must_run\":1,\"power_output_minimum\":10,\"power_output_maximum\":50,\"ramp_up_limit\":40,\"ramp_down_limit\":40,\"ramp_startup_limit\":50,\"ramp_shutdown_limit\":50,\"time_up_minimum\":1,\"time_down_minimum\":1,\"power_output_t0\":20,\"unit_on_t0\":1,\"time_up_t0\":1,\"time_down_t0\":0,\"startup\":[{\"lag\":1,\"cost\":0}],\"piecewise_production\":[{\"mw\":10,\"cost\":100},{\"mw\":50,\"cost\":500}]}},\"renewable_generators\":{}}",
-            words: &["--units", "1"],
-            code: 2,
-            certificate: b"uc-certificate 1\nsize 1 1 0 1\nclaim bound 100.000000\nschedule none\ntable 1000000\npi 0\nmu 0\nramps 0\nbound 1\nend\n",
-            report: b"periods 1 thermal 1 renewable 0 rounded 0\nbudget spent, no schedule found\nbound 100.000000\nevaluations 1\n",
-            told: b"",
+        Row {
+            changes: &[("\"must_run\":0", "\"must_run\":1")],
+            words: ONE,
+            ending: Ending {
+                code: 2,
+                certificate: b"uc-certificate 1\nsize 1 1 0 1\nclaim bound 100.000000\nschedule none\ntable 1000000\npi 0\nmu 0\nramps 0\nbound 1\nend\n",
+                report: b"periods 1 thermal 1 renewable 0 rounded 0\nbudget spent, no schedule found\nbound 100.000000\nevaluations 1\n",
+                told: b"",
+            },
         },
-        Case {
-            input: b"{\"time_periods\":1,\"demand\":[30],\"reserves\":[5],\"thermal_generators\":{\"g1\":{\"must_run\":1,\"power_output_minimum\":10,\"power_output_maximum\":50,\"ramp_up_limit\":40,\"ramp_down_limit\":40,\"ramp_startup_limit\":50,\"ramp_shutdown_limit\":50,\"time_up_minimum\":1,\"time_down_minimum\":3,\"power_output_t0\":0,\"unit_on_t0\":0,\"time_up_t0\":0,\"time_down_t0\":1,\"startup\":[{\"lag\":1,\"cost\":0}],\"piecewise_production\":[{\"mw\":10,\"cost\":100},{\"mw\":50,\"cost\":500}]}},\"renewable_generators\":{}}",
-            words: &["--units", "1"],
-            code: 3,
-            certificate: b"uc-certificate 1\nsize 1 1 0 0\nclaim infeasible\nschedule none\nempty 1\nend\n",
-            report: b"periods 1 thermal 1 renewable 0 rounded 0\ninfeasible\nevaluations 0\n",
-            told: b"",
+        Row {
+            changes: &[
+                ("\"must_run\":0", "\"must_run\":1"),
+                ("\"time_down_minimum\":1", "\"time_down_minimum\":3"),
+                ("\"power_output_t0\":20", "\"power_output_t0\":0"),
+                ("\"unit_on_t0\":1", "\"unit_on_t0\":0"),
+                ("\"time_up_t0\":1", "\"time_up_t0\":0"),
+                ("\"time_down_t0\":0", "\"time_down_t0\":1"),
+            ],
+            words: ONE,
+            ending: Ending {
+                code: 3,
+                certificate: b"uc-certificate 1\nsize 1 1 0 0\nclaim infeasible\nschedule none\nempty 1\nend\n",
+                report: b"periods 1 thermal 1 renewable 0 rounded 0\ninfeasible\nevaluations 0\n",
+                told: b"",
+            },
         },
-        Case {
-            input: b"{\"time_periods\":1,\"demand\":[30.0000005],\"reserves\":[5],\"thermal_generators\":{\"g1\":{\"must_run\":0,\"power_output_minimum\":10,\"power_output_maximum\":50,\"ramp_up_limit\":40,\"ramp_down_limit\":40,\"ramp_startup_limit\":50,\"ramp_shutdown_limit\":50,\"time_up_minimum\":1,\"time_down_minimum\":1,\"power_output_t0\":20,\"unit_on_t0\":1,\"time_up_t0\":1,\"time_down_t0\":0,\"startup\":[{\"lag\":1,\"cost\":0}],\"piecewise_production\":[{\"mw\":10,\"cost\":100},{\"mw\":50,\"cost\":500}]}},\"renewable_generators\":{}}",
-            words: &["--units", "1"],
-            code: 2,
-            certificate: BASE_CERTIFICATE,
-            report: b"periods 1 thermal 1 renewable 0 rounded 1\nbudget spent, no schedule found\nbound 0.000000\nevaluations 1\n",
-            told: b"",
+        Row {
+            changes: &[("\"demand\":[30]", "\"demand\":[30.0000005]")],
+            words: ONE,
+            ending: Ending {
+                code: 2,
+                certificate: BASE_CERTIFICATE,
+                report: b"periods 1 thermal 1 renewable 0 rounded 1\nbudget spent, no schedule found\nbound 0.000000\nevaluations 1\n",
+                told: b"",
+            },
         },
-        Case {
-            input: b"{\"time_periods\":1,\"demand\":[30.0000005],\"reserves\":[5],\"thermal_generators\":{\"g1\":{\"must_run\":0,\"power_output_minimum\":10,\"power_output_maximum\":50,\"ramp_up_limit\":40,\"ramp_down_limit\":40,\"ramp_startup_limit\":50,\"ramp_shutdown_limit\":50,\"time_up_minimum\":1,\"time_down_minimum\":1,\"power_output_t0\":20,\"unit_on_t0\":1,\"time_up_t0\":1,\"time_down_t0\":0,\"startup\":[{\"lag\":1,\"cost\":0}],\"piecewise_production\":[{\"mw\":10,\"cost\":100},{\"mw\":50,\"cost\":500}]}},\"renewable_generators\":{}}",
-            words: &["--units", "1", "--exact"],
-            code: 4,
-            certificate: b"",
-            report: b"",
-            told: b"instance: I8 demand 1\n",
+        Row {
+            changes: &[("\"demand\":[30]", "\"demand\":[30.0000005]")],
+            words: ONE_EXACT,
+            ending: fault(4, b"instance: I8 demand 1\n"),
         },
-        Case {
-            input: b"{\"time_periods\":2,\"demand\":[30],\"reserves\":[5,5],\"thermal_generators\":{\"g1\":{\"must_run\":0,\"power_output_minimum\":10,\"power_output_maximum\":50,\"ramp_up_limit\":40,\"ramp_down_limit\":40,\"ramp_startup_limit\":50,\"ramp_shutdown_limit\":50,\"time_up_minimum\":1,\"time_down_minimum\":1,\"power_output_t0\":20,\"unit_on_t0\":1,\"time_up_t0\":1,\"time_down_t0\":0,\"startup\":[{\"lag\":1,\"cost\":0}],\"piecewise_production\":[{\"mw\":10,\"cost\":100},{\"mw\":50,\"cost\":500}]}},\"renewable_generators\":{}}",
-            words: &["--units", "1"],
-            code: 4,
-            certificate: b"",
-            report: b"",
-            told: b"instance: I6 demand\n",
+        Row {
+            changes: &[
+                ("\"time_periods\":1", "\"time_periods\":2"),
+                ("\"reserves\":[5]", "\"reserves\":[5,5]"),
+            ],
+            words: ONE,
+            ending: fault(4, b"instance: I6 demand\n"),
         },
-        Case {
-            input: b"{\"time_periods\":1,\"demand\":[30],\"reserves\":[5],\"thermal_generators\":{\"g1\":{\"must_run\":0,\"power_output_minimum\":10,\"power_output_maximum\":10000000.000001,\"ramp_up_limit\":40,\"ramp_down_limit\":40,\"ramp_startup_limit\":50,\"ramp_shutdown_limit\":50,\"time_up_minimum\":1,\"time_down_minimum\":1,\"power_output_t0\":20,\"unit_on_t0\":1,\"time_up_t0\":1,\"time_down_t0\":0,\"startup\":[{\"lag\":1,\"cost\":0}],\"piecewise_production\":[{\"mw\":10,\"cost\":100},{\"mw\":50,\"cost\":500}]}},\"renewable_generators\":{}}",
-            words: &["--units", "1"],
-            code: 4,
-            certificate: b"",
-            report: b"",
-            told: b"instance: I4 thermal \"g1\" power_output_maximum\n",
+        Row {
+            changes: &[
+                ("\"time_periods\":1", "\"time_periods\":2"),
+                ("\"demand\":[30]", "\"demand\":[30,30,null]"),
+                ("\"reserves\":[5]", "\"reserves\":[5,5,\"\"]"),
+            ],
+            words: ONE,
+            ending: Ending {
+                code: 2,
+                certificate: b"uc-certificate 1\nsize 2 1 0 1\nclaim bound 0.000000\nschedule none\ntable 1000000\npi 0 0\nmu 0 0\nramps 0\nbound 1\nend\n",
+                report: b"periods 2 thermal 1 renewable 0 rounded 0\nbudget spent, no schedule found\nbound 0.000000\nevaluations 1\n",
+                told: b"",
+            },
         },
-        Case {
-            input: b"{\"time_periods\":1,\"demand\":[30],\"reserves\":[5],\"thermal_generators\":{\"g1\":{\"must_run\":0,\"power_outpu",
-            words: &["--units", "1"],
-            code: 4,
-            certificate: b"",
-            report: b"",
-            told: b"instance: byte 100: no JSON\n",
+        Row {
+            changes: &[(
+                "\"power_output_maximum\":50",
+                "\"power_output_maximum\":10000000",
+            )],
+            words: ONE,
+            ending: base,
         },
-        Case {
-            input: BASE,
+        Row {
+            changes: &[(
+                "\"power_output_maximum\":50",
+                "\"power_output_maximum\":10000000.000001",
+            )],
+            words: ONE,
+            ending: fault(4, b"instance: I4 thermal \"g1\" power_output_maximum\n"),
+        },
+        Row {
+            changes: &[("\"cost\":500", "\"cost\":5000000")],
+            words: ONE,
+            ending: base,
+        },
+        Row {
+            changes: &[("\"cost\":500", "\"cost\":5000000.000001")],
+            words: ONE,
+            ending: fault(
+                4,
+                b"instance: I4 thermal \"g1\" piecewise_production.cost 2\n",
+            ),
+        },
+        Row {
+            changes: &[("\"time_periods\":1", "\"time_periods\":169")],
+            words: ONE,
+            ending: fault(4, b"instance: I7 time_periods\n"),
+        },
+        Row {
+            changes: &[("\"time_periods\":1", "\"time_periods\":0")],
+            words: ONE,
+            ending: fault(4, b"instance: I5 time_periods\n"),
+        },
+        Row {
+            changes: &[],
             words: &["--units", "2"],
-            code: 5,
-            certificate: b"",
-            report: b"",
-            told: USAGE,
+            ending: fault(5, USAGE),
         },
-        Case {
-            input: BASE,
+        Row {
+            changes: &[],
             words: &["--units"],
-            code: 5,
-            certificate: b"",
-            report: b"",
-            told: USAGE,
+            ending: fault(5, USAGE),
         },
     ];
-    for case in &cases {
-        assert_run(&rt, rt.alloc(), case)?;
+    for row in &rows {
+        let input = changed(rt.alloc(), row.changes)?;
+        assert_run(
+            &rt,
+            rt.alloc(),
+            input.as_bytes(),
+            row.words,
+            &NONE_FAILS,
+            &row.ending,
+        )?;
+    }
+    Ok(())
+}
+
+// The text of an instance stops being one at its end, wherever it is cut.
+#[test]
+fn a_cut_instance_is_refused_at_its_end(rt: HostRuntime) -> Result<(), Fail> {
+    let base = BASE.as_bytes();
+    for length in 0..base.len() {
+        let told = format!(in rt.alloc(); "instance: byte {length}: no JSON\n")?;
+        assert_run(
+            &rt,
+            rt.alloc(),
+            &base[..length],
+            ONE,
+            &NONE_FAILS,
+            &fault(4, told.as_bytes()),
+        )?;
+    }
+    Ok(())
+}
+
+/// The first call of its kind.
+fn first(call: Call) -> FailingCall {
+    FailingCall { call, number: 0 }
+}
+
+// A fault of the certificate leaves the output empty, and one of the output leaves a certificate.
+#[test]
+fn a_fault_of_the_outside_ends_the_run(rt: HostRuntime) -> Result<(), Fail> {
+    for call in [Call::Open, Call::Read] {
+        let failing = Failing {
+            instance: &[first(call)],
+            ..NONE_FAILS
+        };
+        let ending = fault(6, b"read failed: instance\n");
+        assert_run(&rt, rt.alloc(), BASE.as_bytes(), ONE, &failing, &ending)?;
+    }
+    for (call, certificate) in [
+        (Call::Open, b"".as_slice()),
+        (Call::Write, b""),
+        (Call::Finish, BASE_CERTIFICATE),
+    ] {
+        let failing = Failing {
+            certificate: &[first(call)],
+            ..NONE_FAILS
+        };
+        let ending = Ending {
+            certificate,
+            ..fault(7, b"write failed: certificate\n")
+        };
+        assert_run(&rt, rt.alloc(), BASE.as_bytes(), ONE, &failing, &ending)?;
+    }
+    for call in [Call::Write, Call::Flush] {
+        let failing = Failing {
+            output: &[first(call)],
+            ..NONE_FAILS
+        };
+        let ending = Ending {
+            certificate: BASE_CERTIFICATE,
+            ..fault(7, b"write failed: output\n")
+        };
+        assert_run(&rt, rt.alloc(), BASE.as_bytes(), ONE, &failing, &ending)?;
     }
     Ok(())
 }
