@@ -19,6 +19,7 @@ pub mod SoundValues
 pub mod SoundNumbers
 pub mod SoundStrings
 pub mod Sound
+pub mod Boundaries
 pub mod Longest
 pub mod Readings
 pub mod Weaker

@@ -1,13 +1,17 @@
 -- The machine's place of a fault of the second kind: no text goes on beyond it.
-use Rattle.std.proofs.Common.{subst, lit<, ◌≡◌, ℕ, ◌<◌, suc, zero, List, [], ◌∷◌, ◌++◌, length, take, refl, sym, ap, ◌∙◌, arith, false, append_assoc, length-append, ⊎_elim}
+use Rattle.std.proofs.Common.{subst, lit<, ◌≡◌, ℕ, ◌<◌, ◌≤◌, get_or, suc, zero, List, [], ◌∷◌, ◌++◌, length, take, refl, sym, ap, ◌∙◌, arith, false, append_assoc, length-append, ⊎_elim}
 use Rattle.decimal_json.specs.Value.{Value}
 use Rattle.decimal_json.specs.Scan.{stop, done, fault, step, after, outcome, whole_outcome}
 use Rattle.decimal_json.specs.Grammar.{SpellsText}
 use Rattle.decimal_json.specs.Reading.{BeginsText, IsNoJson}
 use Rattle.decimal_json.proofs.Runs.{Refuses}
 use Rattle.decimal_json.proofs.RunValues.{text_arrives}
-use Rattle.std.proofs.lemmas.List.{append-nil, take_at}
-use Rattle.decimal_json.proofs.Completions.{begins}
+use Rattle.std.specs.Str.{IsUtf8, IsAscii}
+use Rattle.std.proofs.lemmas.List.{append-nil, take_at, get_or_at}
+use Rattle.std.proofs.lemmas.Str.{IsUtf8-append, IsUtf8-take, IsUtf8-from_ascii}
+use Rattle.decimal_json.proofs.Stands.{AreAscii}
+use Rattle.decimal_json.proofs.Completions.{Begins, begins}
+use Rattle.decimal_json.proofs.Boundaries.{stops_between}
 use Rattle.decimal_json.proofs.RunFronts.{deep_fault}
 use Rattle.decimal_json.proofs.RunFaults.{repeated_fault, lacks_fault}
 use Rattle.decimal_json.proofs.Sound.{Stops}
@@ -42,11 +46,32 @@ front_of bytes k s = ⊎_elim
 apart : (k j kind : ℕ) → fault k 2 ≡ fault j kind → 2 < kind → ⊥
 apart k j kind e lt = let f : 2 ≡ kind = cc in omega arith
 
-pub is_no_json : (bytes : List ℕ) (k : ℕ) → whole_outcome bytes ≡ fault k 2 → Stops bytes k → IsNoJson bytes k
-is_no_json bytes k e s = record {
-  within = ⊎_elim (λ (f : bytes ≡ s.front). omega (arith, s.place, ap length f))
-      (λ (r : (c : ℕ) × (cs : List ℕ) × (bytes ≡ s.front ++ c ∷ cs) × (step (length s.front) s.outer s.spot c ≡ stop k 2)). omega (arith, s.place, ap length r.2, length-append s.front (r.0 ∷ r.1))) s.ends;
-  begins = subst (λ (x : List ℕ). BeginsText x) (sym (front_of bytes k s)) (begins s.outer s.spot s.front s.stands);
+within : (bytes : List ℕ) (k : ℕ) → Stops bytes k → k ≤ length bytes
+within bytes k s = ⊎_elim (λ (f : bytes ≡ s.front). omega (arith, s.place, ap length f))
+    (λ (r : (c : ℕ) × (cs : List ℕ) × (bytes ≡ s.front ++ c ∷ cs) × (step (length s.front) s.outer s.spot c ≡ stop k 2)). omega (arith, s.place, ap length r.2, length-append s.front (r.0 ∷ r.1))) s.ends
+
+-- the byte there is a fault, whatever follows it
+stuck : (bytes : List ℕ) (k : ℕ) → Stops bytes k → k < length bytes → (xs : List ℕ) → whole_outcome (take k bytes ++ get_or bytes k 0 ∷ xs) ≡ fault k 2
+stuck bytes k s l xs = ⊎_elim (λ (f : bytes ≡ s.front). absurd (omega (arith, s.place, ap length f, l)))
+    (λ (r : (c : ℕ) × (cs : List ℕ) × (bytes ≡ s.front ++ c ∷ cs) × (step (length s.front) s.outer s.spot c ≡ stop k 2)).
+    let here : get_or bytes k 0 ≡ r.0 = ap (λ x. get_or x k 0) r.2 ∙ get_or_at s.front r.0 r.1 0 k (sym s.place) in
+    ap (λ x. whole_outcome (x ++ get_or bytes k 0 ∷ xs)) (front_of bytes k s) ∙ (ap (λ c. whole_outcome (s.front ++ c ∷ xs)) here ∙ stopped_there bytes k s r.0 r.3 xs)) s.ends
+
+front_utf8 : (bytes : List ℕ) (k : ℕ) → IsUtf8 bytes → Stops bytes k → IsUtf8 (take k bytes)
+front_utf8 bytes k utf8 s = IsUtf8-take bytes k utf8 (stops_between bytes k utf8 (within bytes k s) (stuck bytes k s))
+
+ascii_at : (bs : List ℕ) → AreAscii bs → IsAscii bs
+ascii_at [] a i = lit< tt
+ascii_at (c ∷ cs) a zero = a.0
+ascii_at (c ∷ cs) a (suc i) = ascii_at cs a.1 i
+
+text_begins : (bs : List ℕ) → IsUtf8 bs → Begins bs → BeginsText bs
+text_begins bs utf8 t = (t.0, t.1, t.2, IsUtf8-append bs t.1 utf8 (IsUtf8-from_ascii t.1 (ascii_at t.1 t.3)))
+
+pub is_no_json : (bytes : List ℕ) (k : ℕ) → IsUtf8 bytes → whole_outcome bytes ≡ fault k 2 → Stops bytes k → IsNoJson bytes k
+is_no_json bytes k utf8 e s = record {
+  within = within bytes k s;
+  begins = text_begins (take k bytes) (front_utf8 bytes k utf8 s) (subst Begins (sym (front_of bytes k s)) (begins s.outer s.spot s.front s.stands));
   longest = λ j lt le begins. ⊎_elim (λ (f : bytes ≡ s.front). omega (arith, s.place, ap length f, lt, le))
       (λ (r : (c : ℕ) × (cs : List ℕ) × (bytes ≡ s.front ++ c ∷ cs) × (step (length s.front) s.outer s.spot c ≡ stop k 2)).
       let past = take-past s.front r.0 r.1 j (omega (arith, s.place, lt)) in

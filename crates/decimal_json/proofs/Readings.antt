@@ -38,13 +38,13 @@ only_clause (Ok j) bytes g v t = one_value (view j) v (sym g ∙ arrives bytes v
 only_clause (Err (At k kind)) bytes g v t = absurd (no_value k kind v (sym g ∙ arrives bytes v t))
 only_clause (Err NoMemory) bytes g v t = refl
 
-text_fault : (bytes : List ℕ) (k kind : ℕ) → whole_outcome bytes ≡ fault k kind → IsSound bytes (fault k kind) → IsTextFault bytes k kind
-text_fault bytes k kind e (inl s) = inl (s.0, is_no_json bytes k (e ∙ ap (fault k) s.0) s.1)
-text_fault bytes k kind e (inr s) = inr s
+text_fault : (bytes : List ℕ) (k kind : ℕ) → IsUtf8 bytes → whole_outcome bytes ≡ fault k kind → IsSound bytes (fault k kind) → IsTextFault bytes k kind
+text_fault bytes k kind utf8 e (inl s) = inl (s.0, is_no_json bytes k utf8 (e ∙ ap (fault k) s.0) s.1)
+text_fault bytes k kind utf8 e (inr s) = inr s
 
 pub fault_clause : (r : Result Json JsonFault) (bytes : List ℕ) → IsUtf8 bytes → Gives r (whole_outcome bytes) → IfErr r (HasCause bytes)
 fault_clause (Ok j) bytes utf8 g = tt
-fault_clause (Err (At k kind)) bytes utf8 g = inr (utf8, text_fault bytes k kind g (subst (λ (o : Outcome). IsSound bytes o) g (is_sound bytes)))
+fault_clause (Err (At k kind)) bytes utf8 g = inr (utf8, text_fault bytes k kind utf8 g (subst (λ (o : Outcome). IsSound bytes o) g (is_sound bytes)))
 fault_clause (Err NoMemory) bytes utf8 g = tt
 
 pub not_utf8 : (bytes : List ℕ) (at : ℕ) → (IsUtf8 bytes → ⊥) → IsValidUpTo bytes at → HasCause bytes (At at 1)
@@ -58,19 +58,19 @@ same_no_json : (bytes : List ℕ) (at k : ℕ) → IsNoJson bytes at → IsNoJso
 same_no_json bytes at k a b = one_place at k (λ lt. a.longest k lt b.within b.begins) (λ lt. b.longest at lt a.within a.begins)
 
 -- what the machine answers where the bytes are no JSON
-no_json_outcome : (bytes : List ℕ) (at : ℕ) (o : Outcome) → IsNoJson bytes at → whole_outcome bytes ≡ o → IsSound bytes o → whole_outcome bytes ≡ fault at 2
-no_json_outcome bytes at (done v) a e s = absurd (a.no_text v (weaker_text v bytes s))
-no_json_outcome bytes at (fault k kind) a e (inl s) =
-    let two : whole_outcome bytes ≡ fault k 2 = e ∙ ap (fault k) s.0 in two ∙ ap (λ j. fault j 2) (sym (same_no_json bytes at k a (is_no_json bytes k two s.1)))
-no_json_outcome bytes at (fault k kind) a e (inr (inl s)) = absurd (a.shallow k s.1)
-no_json_outcome bytes at (fault k kind) a e (inr (inr (inl s))) = absurd (a.no_repeat k s.1)
-no_json_outcome bytes at (fault k kind) a e (inr (inr (inr s))) = absurd (a.no_half k s.1)
+no_json_outcome : (bytes : List ℕ) (at : ℕ) (o : Outcome) → IsUtf8 bytes → IsNoJson bytes at → whole_outcome bytes ≡ o → IsSound bytes o → whole_outcome bytes ≡ fault at 2
+no_json_outcome bytes at (done v) utf8 a e s = absurd (a.no_text v (weaker_text v bytes s))
+no_json_outcome bytes at (fault k kind) utf8 a e (inl s) =
+    let two : whole_outcome bytes ≡ fault k 2 = e ∙ ap (fault k) s.0 in two ∙ ap (λ j. fault j 2) (sym (same_no_json bytes at k a (is_no_json bytes k utf8 two s.1)))
+no_json_outcome bytes at (fault k kind) utf8 a e (inr (inl s)) = absurd (a.shallow k s.1)
+no_json_outcome bytes at (fault k kind) utf8 a e (inr (inr (inl s))) = absurd (a.no_repeat k s.1)
+no_json_outcome bytes at (fault k kind) utf8 a e (inr (inr (inr s))) = absurd (a.no_half k s.1)
 
-fault_outcome : (bytes : List ℕ) (at kind : ℕ) → IsTextFault bytes at kind → whole_outcome bytes ≡ fault at kind
-fault_outcome bytes at kind (inl s) = no_json_outcome bytes at (whole_outcome bytes) s.1 refl (is_sound bytes) ∙ ap (fault at) (sym s.0)
-fault_outcome bytes at kind (inr (inl s)) = deep_fault bytes at s.1 ∙ ap (fault at) (sym s.0)
-fault_outcome bytes at kind (inr (inr (inl s))) = repeated_fault bytes at s.1 ∙ ap (fault at) (sym s.0)
-fault_outcome bytes at kind (inr (inr (inr s))) = lacks_fault bytes at s.1 ∙ ap (fault at) (sym s.0)
+fault_outcome : (bytes : List ℕ) (at kind : ℕ) → IsUtf8 bytes → IsTextFault bytes at kind → whole_outcome bytes ≡ fault at kind
+fault_outcome bytes at kind utf8 (inl s) = no_json_outcome bytes at (whole_outcome bytes) utf8 s.1 refl (is_sound bytes) ∙ ap (fault at) (sym s.0)
+fault_outcome bytes at kind utf8 (inr (inl s)) = deep_fault bytes at s.1 ∙ ap (fault at) (sym s.0)
+fault_outcome bytes at kind utf8 (inr (inr (inl s))) = repeated_fault bytes at s.1 ∙ ap (fault at) (sym s.0)
+fault_outcome bytes at kind utf8 (inr (inr (inr s))) = lacks_fault bytes at s.1 ∙ ap (fault at) (sym s.0)
 
 one_fault : (a b k kind : ℕ) → fault a b ≡ fault k kind → At a b ≡ At k kind
 one_fault a b k kind e = let f : a ≡ k = cc in let g : b ≡ kind = cc in ap (λ x. At x b) f ∙ ap (At k) g
@@ -82,7 +82,7 @@ exact_text (Err NoMemory) bytes at kind g e = inr refl
 
 pub exact_clause : (r : Result Json JsonFault) (bytes : List ℕ) → IsUtf8 bytes → Gives r (whole_outcome bytes) → (at kind : ℕ) → IsFault bytes at kind → MatchResult r (λ _. ⊥) (λ e. (e ≡ At at kind) ⊎ (e ≡ NoMemory))
 exact_clause r bytes utf8 g at kind (inl s) = absurd (s.1 utf8)
-exact_clause r bytes utf8 g at kind (inr s) = exact_text r bytes at kind g (fault_outcome bytes at kind s.1)
+exact_clause r bytes utf8 g at kind (inr s) = exact_text r bytes at kind g (fault_outcome bytes at kind s.0 s.1)
 
 pub exact_utf8 : (bytes : List ℕ) (up : ℕ) → (IsUtf8 bytes → ⊥) → IsValidUpTo bytes up → (at kind : ℕ) → IsFault bytes at kind → (At up 1 ≡ At at kind) ⊎ (At up 1 ≡ NoMemory)
 exact_utf8 bytes up no_text valid at kind (inl s) =

@@ -12,7 +12,7 @@ use Rattle.decimal_json.proofs.SoundValues.{good_wanted, good_first_item, good_f
 use Rattle.decimal_json.proofs.SoundNumbers.{good_numeral, ends, open_whole, whole_text, fraction_end, power_end, some_digits}
 use Rattle.decimal_json.proofs.SoundStrings.{good_quoted, lacks, high_of}
 
-good_step : (outer : List Frame) (spot : Spot) (bs : List ℕ) (c : ℕ) → Stands outer spot bs → Good (step (length bs) outer spot c) bs c
+pub good_step : (outer : List Frame) (spot : Spot) (bs : List ℕ) (c : ℕ) → Stands outer spot bs → Good (step (length bs) outer spot c) bs c
 unfolding step
 good_step outer wanted bs c s = good_wanted outer bs c s
 good_step outer first_item bs c s = good_first_item outer bs c s

@@ -1,5 +1,5 @@
 -- Each step of the machine between tokens is sound.
-use Rattle.std.proofs.Common.{◌≡◌, ℕ, ◌+◌, ◌==◌, ◌<◌, ◌≤◌, suc, cond, List, [], ◌∷◌, ◌++◌, length, refl, sym, ap, subst, ◌∙◌, arith, true, false, append_assoc, inl, inr}
+use Rattle.std.proofs.Common.{lit<, ◌≡◌, ℕ, ◌+◌, ◌==◌, ◌<◌, ◌≤◌, suc, cond, List, [], ◌∷◌, ◌++◌, length, refl, sym, ap, subst, ◌∙◌, arith, true, false, append_assoc, inl, inr}
 use Rattle.std.specs.Prelude.{◌⊎◌, nat_lt, nat_le}
 use Rattle.std.proofs.lemmas.List.{append-nil}
 use Rattle.std.proofs.lemmas.Bool.{cond_both, eqb-true, ltb-true, ltb-false, and_parts, leb-true, eqb-false}
@@ -11,7 +11,7 @@ use Rattle.decimal_json.specs.Fronts.{InArray, InObject, BehindKey, BehindColon,
 use Rattle.decimal_json.proofs.Uniques.{unique_more}
 use Rattle.decimal_json.proofs.RunValues.{four}
 use Rattle.decimal_json.proofs.Growth.{one_more, space_more, spaced_more, spaced_none, front_depth, front_items-push, items_close, front_members-push, members_close}
-use Rattle.decimal_json.proofs.Stands.{BehindValue, InString, LiteralText, Stands, Good}
+use Rattle.decimal_json.proofs.Stands.{BehindValue, InString, AreAscii, LiteralText, Stands, Good}
 
 pub stuck : (bs : List ℕ) (c : ℕ) → Good (stop (length bs) 2) bs c
 stuck bs c = λ cs. inl (refl, refl)
@@ -44,8 +44,8 @@ good_opened outer bs c spot f then which = cond_both (nat_lt (length outer) 64) 
     (λ e. then (ltb-true (length outer) 64 e)) (λ e. too_deep outer bs c f e which)
 
 -- a literal begins
-literal_begins : (outer : List Frame) (bs : List ℕ) (c k : ℕ) (v : Value) (ls : List ℕ) → IsFront outer bs → (c == k) ≡ true → Spells true (length outer) v (k ∷ ls) → LiteralText outer v ls (bs ++ c ∷ [])
-literal_begins outer bs c k v ls f e s = record { front = bs; begun = k ∷ []; is_front = f; spells = s; is = named bs c k e }
+literal_begins : (outer : List Frame) (bs : List ℕ) (c k : ℕ) (v : Value) (ls : List ℕ) → IsFront outer bs → (c == k) ≡ true → Spells true (length outer) v (k ∷ ls) → AreAscii ls → LiteralText outer v ls (bs ++ c ∷ [])
+literal_begins outer bs c k v ls f e s a = record { front = bs; begun = k ∷ []; is_front = f; spells = s; ascii = a; is = named bs c k e }
 
 string_begins : (outer : List Frame) (p : Purpose) (bs : List ℕ) (c : ℕ) → IsStringFront outer p bs → (c == 34) ≡ true → InString outer p [] (bs ++ c ∷ [])
 string_begins outer p bs c f e = record { front = bs; cs = []; is_front = f; are = tt; text = refl; is = named bs c 34 e }
@@ -62,9 +62,9 @@ good_begin outer bs c f =
     cond_both (c == 34) _ _ (λ s. Good s bs c) (λ e. string_begins outer for_value bs c f e) (λ _.
     cond_both (c == 91) _ _ (λ s. Good s bs c) (λ e. good_opened outer bs c first_item f (λ lt. array_opens outer bs c f lt e) (inl (eqb-true c 91 e))) (λ _.
     cond_both (c == 123) _ _ (λ s. Good s bs c) (λ e. good_opened outer bs c first_key f (λ lt. object_opens outer bs c f lt e) (inr (eqb-true c 123 e))) (λ _.
-    cond_both (c == 116) _ _ (λ s. Good s bs c) (λ e. literal_begins outer bs c 116 (boolean true) rue f e refl) (λ _.
-    cond_both (c == 102) _ _ (λ s. Good s bs c) (λ e. literal_begins outer bs c 102 (boolean false) alse f e refl) (λ _.
-    cond_both (c == 110) _ _ (λ s. Good s bs c) (λ e. literal_begins outer bs c 110 null ull f e refl) (λ _.
+    cond_both (c == 116) _ _ (λ s. Good s bs c) (λ e. literal_begins outer bs c 116 (boolean true) rue f e refl (lit< tt, (lit< tt, (lit< tt, tt)))) (λ _.
+    cond_both (c == 102) _ _ (λ s. Good s bs c) (λ e. literal_begins outer bs c 102 (boolean false) alse f e refl (lit< tt, (lit< tt, (lit< tt, (lit< tt, tt))))) (λ _.
+    cond_both (c == 110) _ _ (λ s. Good s bs c) (λ e. literal_begins outer bs c 110 null ull f e refl (lit< tt, (lit< tt, (lit< tt, tt)))) (λ _.
     cond_both (c == 45) _ _ (λ s. Good s bs c) (λ e. (bs, 45 ∷ [], f, refl, named bs c 45 e)) (λ _.
     cond_both (c == 48) _ _ (λ s. Good s bs c) (λ e. (bs, 48 ∷ [], f, refl, named bs c 48 e)) (λ zero.
     cond_both (is_digit c) _ _ (λ s. Good s bs c)
@@ -183,6 +183,7 @@ good_letter outer bs v (m ∷ ls) c l t e = record {
   begun = t.begun ++ l ∷ [];
   is_front = t.is_front;
   spells = subst (λ (x : List ℕ). Spells true (length outer) v x) (sym (append_assoc t.begun (l ∷ []) (m ∷ ls))) t.spells;
+  ascii = t.ascii.1;
   is = named bs c l e ∙ one_more bs t.front t.begun l t.is;
 }
 

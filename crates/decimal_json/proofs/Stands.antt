@@ -69,12 +69,18 @@ QuotedText outer p (high_escaped t back u) bs = (base : List ℕ) × (a b c d : 
 QuotedText outer p (high_unit t back u h) bs = (base : List ℕ) × (a b c d : ℕ) × InString outer p t base × (back ≡ length base) × AreHex a b c d × (u ≡ unit_of a b c d) × (is_high_surrogate u ≡ true)
     × AreHexSoFar h × (bs ≡ base ++ (92 ∷ 117 ∷ a ∷ b ∷ c ∷ d ∷ 92 ∷ 117 ∷ hex_text h))
 
+-- bytes that are ASCII
+abbrev pub AreAscii : List ℕ → Type 0
+AreAscii [] = Unit {0}
+AreAscii (c ∷ cs) = (c < 128) × AreAscii cs
+
 -- a literal so far, and the letters that must come
 pub record LiteralText (outer : List Frame) (v : Value) (ls bs : List ℕ) : Type 0 where
   pub front : List ℕ
   pub begun : List ℕ
   pub is_front : IsFront outer front
   pub spells : Spells true (length outer) v (begun ++ ls)
+  pub ascii : AreAscii ls
   pub is : bs ≡ front ++ begun
 
 abbrev pub Stands : List Frame → Spot → List ℕ → Type 0

@@ -11,9 +11,9 @@ use Rattle.decimal_json.specs.Fronts.{OpensTooDeep, RepeatsKey, LacksPartner}
 abbrev pub IsText : List ℕ → Value → Type 0
 IsText bytes v = IsUtf8 bytes × SpellsText true v bytes
 
--- Some JSON text begins with these bytes, whatever its limits.
+-- Some JSON text begins with these bytes, whatever its limits; section 8.1 wants it in UTF-8.
 abbrev pub BeginsText : List ℕ → Type 0
-BeginsText bs = (v : Value) × (rest : List ℕ) × SpellsText false v (bs ++ rest)
+BeginsText bs = (v : Value) × (rest : List ℕ) × SpellsText false v (bs ++ rest) × IsUtf8 (bs ++ rest)
 
 -- The bytes are UTF-8 up to a place, and up to no later one.
 pub record IsLongestUtf8 (bytes : List ℕ) (at : ℕ) : Type 0 where
