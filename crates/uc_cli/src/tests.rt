@@ -98,13 +98,162 @@ fn assert_run<R: Threads + Wait + Sync + Abort>(
     Ok(())
 }
 
-/// A worked row: what it changes of the first instance, the words behind `--cert FILE`, and how the run ends.
+/// A run on an instance that is told by its changes of the first one: the words behind `--cert FILE`, and how it
+/// ends.
 #[derive(Clone, Copy)]
-struct Row {
+struct Answer {
     changes: &'static [(&'static str, &'static str)],
     words: &'static [&'static str],
     ending: Ending<'static>,
 }
+
+/// The same of a run that ends with a fault before anything is written: its status and its line.
+#[derive(Clone, Copy)]
+struct Refusal {
+    changes: &'static [(&'static str, &'static str)],
+    words: &'static [&'static str],
+    code: u8,
+    told: &'static [u8],
+}
+
+const BASE_ANSWER: Ending<'static> = Ending {
+    code: 2,
+    certificate: BASE_CERTIFICATE,
+    report: BASE_REPORT,
+    told: b"",
+};
+
+const ANSWERS: [Answer; 8] = [
+    Answer {
+        changes: &[],
+        words: ONE,
+        ending: BASE_ANSWER,
+    },
+    Answer {
+        changes: &[],
+        words: ONE_EXACT,
+        ending: BASE_ANSWER,
+    },
+    Answer {
+        changes: &[(
+            "\"power_output_maximum\":50",
+            "\"power_output_maximum\":10000000",
+        )],
+        words: ONE,
+        ending: BASE_ANSWER,
+    },
+    Answer {
+        changes: &[("\"cost\":500", "\"cost\":5000000")],
+        words: ONE,
+        ending: BASE_ANSWER,
+    },
+    Answer {
+        changes: &[("\"must_run\":0", "\"must_run\":1")],
+        words: ONE,
+        ending: Ending {
+            code: 2,
+            certificate: b"uc-certificate 1\nsize 1 1 0 1\nclaim bound 100.000000\nschedule none\ntable 1000000\npi 0\nmu 0\nramps 0\nbound 1\nend\n",
+            report: b"periods 1 thermal 1 renewable 0 rounded 0\nbudget spent, no schedule found\nbound 100.000000\nevaluations 1\n",
+            told: b"",
+        },
+    },
+    Answer {
+        changes: &[
+            ("\"must_run\":0", "\"must_run\":1"),
+            ("\"time_down_minimum\":1", "\"time_down_minimum\":3"),
+            ("\"power_output_t0\":20", "\"power_output_t0\":0"),
+            ("\"unit_on_t0\":1", "\"unit_on_t0\":0"),
+            ("\"time_up_t0\":1", "\"time_up_t0\":0"),
+            ("\"time_down_t0\":0", "\"time_down_t0\":1"),
+        ],
+        words: ONE,
+        ending: Ending {
+            code: 3,
+            certificate: b"uc-certificate 1\nsize 1 1 0 0\nclaim infeasible\nschedule none\nempty 1\nend\n",
+            report: b"periods 1 thermal 1 renewable 0 rounded 0\ninfeasible\nevaluations 0\n",
+            told: b"",
+        },
+    },
+    Answer {
+        changes: &[("\"demand\":[30]", "\"demand\":[30.0000005]")],
+        words: ONE,
+        ending: Ending {
+            report: b"periods 1 thermal 1 renewable 0 rounded 1\nbudget spent, no schedule found\nbound 0.000000\nevaluations 1\n",
+            ..BASE_ANSWER
+        },
+    },
+    Answer {
+        changes: &[
+            ("\"time_periods\":1", "\"time_periods\":2"),
+            ("\"demand\":[30]", "\"demand\":[30,30,null]"),
+            ("\"reserves\":[5]", "\"reserves\":[5,5,\"\"]"),
+        ],
+        words: ONE,
+        ending: Ending {
+            code: 2,
+            certificate: b"uc-certificate 1\nsize 2 1 0 1\nclaim bound 0.000000\nschedule none\ntable 1000000\npi 0 0\nmu 0 0\nramps 0\nbound 1\nend\n",
+            report: b"periods 2 thermal 1 renewable 0 rounded 0\nbudget spent, no schedule found\nbound 0.000000\nevaluations 1\n",
+            told: b"",
+        },
+    },
+];
+
+const REFUSALS: [Refusal; 8] = [
+    Refusal {
+        changes: &[("\"demand\":[30]", "\"demand\":[30.0000005]")],
+        words: ONE_EXACT,
+        code: 4,
+        told: b"instance: I8 demand 1\n",
+    },
+    Refusal {
+        changes: &[
+            ("\"time_periods\":1", "\"time_periods\":2"),
+            ("\"reserves\":[5]", "\"reserves\":[5,5]"),
+        ],
+        words: ONE,
+        code: 4,
+        told: b"instance: I6 demand\n",
+    },
+    Refusal {
+        changes: &[(
+            "\"power_output_maximum\":50",
+            "\"power_output_maximum\":10000000.000001",
+        )],
+        words: ONE,
+        code: 4,
+        told: b"instance: I4 thermal \"g1\" power_output_maximum\n",
+    },
+    Refusal {
+        changes: &[("\"cost\":500", "\"cost\":5000000.000001")],
+        words: ONE,
+        code: 4,
+        told: b"instance: I4 thermal \"g1\" piecewise_production.cost 2\n",
+    },
+    Refusal {
+        changes: &[("\"time_periods\":1", "\"time_periods\":169")],
+        words: ONE,
+        code: 4,
+        told: b"instance: I7 time_periods\n",
+    },
+    Refusal {
+        changes: &[("\"time_periods\":1", "\"time_periods\":0")],
+        words: ONE,
+        code: 4,
+        told: b"instance: I5 time_periods\n",
+    },
+    Refusal {
+        changes: &[],
+        words: &["--units", "2"],
+        code: 5,
+        told: USAGE,
+    },
+    Refusal {
+        changes: &[],
+        words: &["--units"],
+        code: 5,
+        told: USAGE,
+    },
+];
 
 fn changed(alloc: Global, changes: &[(&str, &str)]) -> Result<String, AllocError> {
     let mut text = String::from_str(alloc, BASE)?;
@@ -116,147 +265,16 @@ fn changed(alloc: Global, changes: &[(&str, &str)]) -> Result<String, AllocError
 
 #[test]
 fn runs_end_as_the_worked_rows_say(rt: HostRuntime) -> Result<(), Fail> {
-    let base = Ending {
-        code: 2,
-        certificate: BASE_CERTIFICATE,
-        report: BASE_REPORT,
-        told: b"",
-    };
-    let rows = [
-        Row {
-            changes: &[],
-            words: ONE,
-            ending: base,
-        },
-        Row {
-            changes: &[],
-            words: ONE_EXACT,
-            ending: base,
-        },
-        Row {
-            changes: &[("\"must_run\":0", "\"must_run\":1")],
-            words: ONE,
-            ending: Ending {
-                code: 2,
-                certificate: b"uc-certificate 1\nsize 1 1 0 1\nclaim bound 100.000000\nschedule none\ntable 1000000\npi 0\nmu 0\nramps 0\nbound 1\nend\n",
-                report: b"periods 1 thermal 1 renewable 0 rounded 0\nbudget spent, no schedule found\nbound 100.000000\nevaluations 1\n",
-                told: b"",
-            },
-        },
-        Row {
-            changes: &[
-                ("\"must_run\":0", "\"must_run\":1"),
-                ("\"time_down_minimum\":1", "\"time_down_minimum\":3"),
-                ("\"power_output_t0\":20", "\"power_output_t0\":0"),
-                ("\"unit_on_t0\":1", "\"unit_on_t0\":0"),
-                ("\"time_up_t0\":1", "\"time_up_t0\":0"),
-                ("\"time_down_t0\":0", "\"time_down_t0\":1"),
-            ],
-            words: ONE,
-            ending: Ending {
-                code: 3,
-                certificate: b"uc-certificate 1\nsize 1 1 0 0\nclaim infeasible\nschedule none\nempty 1\nend\n",
-                report: b"periods 1 thermal 1 renewable 0 rounded 0\ninfeasible\nevaluations 0\n",
-                told: b"",
-            },
-        },
-        Row {
-            changes: &[("\"demand\":[30]", "\"demand\":[30.0000005]")],
-            words: ONE,
-            ending: Ending {
-                code: 2,
-                certificate: BASE_CERTIFICATE,
-                report: b"periods 1 thermal 1 renewable 0 rounded 1\nbudget spent, no schedule found\nbound 0.000000\nevaluations 1\n",
-                told: b"",
-            },
-        },
-        Row {
-            changes: &[("\"demand\":[30]", "\"demand\":[30.0000005]")],
-            words: ONE_EXACT,
-            ending: fault(4, b"instance: I8 demand 1\n"),
-        },
-        Row {
-            changes: &[
-                ("\"time_periods\":1", "\"time_periods\":2"),
-                ("\"reserves\":[5]", "\"reserves\":[5,5]"),
-            ],
-            words: ONE,
-            ending: fault(4, b"instance: I6 demand\n"),
-        },
-        Row {
-            changes: &[
-                ("\"time_periods\":1", "\"time_periods\":2"),
-                ("\"demand\":[30]", "\"demand\":[30,30,null]"),
-                ("\"reserves\":[5]", "\"reserves\":[5,5,\"\"]"),
-            ],
-            words: ONE,
-            ending: Ending {
-                code: 2,
-                certificate: b"uc-certificate 1\nsize 2 1 0 1\nclaim bound 0.000000\nschedule none\ntable 1000000\npi 0 0\nmu 0 0\nramps 0\nbound 1\nend\n",
-                report: b"periods 2 thermal 1 renewable 0 rounded 0\nbudget spent, no schedule found\nbound 0.000000\nevaluations 1\n",
-                told: b"",
-            },
-        },
-        Row {
-            changes: &[(
-                "\"power_output_maximum\":50",
-                "\"power_output_maximum\":10000000",
-            )],
-            words: ONE,
-            ending: base,
-        },
-        Row {
-            changes: &[(
-                "\"power_output_maximum\":50",
-                "\"power_output_maximum\":10000000.000001",
-            )],
-            words: ONE,
-            ending: fault(4, b"instance: I4 thermal \"g1\" power_output_maximum\n"),
-        },
-        Row {
-            changes: &[("\"cost\":500", "\"cost\":5000000")],
-            words: ONE,
-            ending: base,
-        },
-        Row {
-            changes: &[("\"cost\":500", "\"cost\":5000000.000001")],
-            words: ONE,
-            ending: fault(
-                4,
-                b"instance: I4 thermal \"g1\" piecewise_production.cost 2\n",
-            ),
-        },
-        Row {
-            changes: &[("\"time_periods\":1", "\"time_periods\":169")],
-            words: ONE,
-            ending: fault(4, b"instance: I7 time_periods\n"),
-        },
-        Row {
-            changes: &[("\"time_periods\":1", "\"time_periods\":0")],
-            words: ONE,
-            ending: fault(4, b"instance: I5 time_periods\n"),
-        },
-        Row {
-            changes: &[],
-            words: &["--units", "2"],
-            ending: fault(5, USAGE),
-        },
-        Row {
-            changes: &[],
-            words: &["--units"],
-            ending: fault(5, USAGE),
-        },
-    ];
-    for row in &rows {
-        let input = changed(rt.alloc(), row.changes)?;
-        assert_run(
-            &rt,
-            rt.alloc(),
-            input.as_bytes(),
-            row.words,
-            &NONE_FAILS,
-            &row.ending,
-        )?;
+    let alloc = rt.alloc();
+    for run in &ANSWERS {
+        let input = changed(alloc, run.changes)?;
+        let ending = &run.ending;
+        assert_run(&rt, alloc, input.as_bytes(), run.words, &NONE_FAILS, ending)?;
+    }
+    for run in &REFUSALS {
+        let input = changed(alloc, run.changes)?;
+        let ending = &fault(run.code, run.told);
+        assert_run(&rt, alloc, input.as_bytes(), run.words, &NONE_FAILS, ending)?;
     }
     Ok(())
 }
