@@ -12,7 +12,8 @@ use Rattle.uc_model.specs.declared.instance.Instance.{Instance}
 use Rattle.uc_model.proofs.Ring.{linear, le_from_mul, mul-le-mul_right, mul_left_comm, mul_comm, scale-le-scale}
 use Rattle.dual_model.specs.Prices.{IsLawfulTable}
 use Rattle.dual_model.specs.Fixings.{keeps, agrees, HasEmptyUnit}
-use Rattle.dual_model.specs.Cover.{Leaf, Bound, Ray, Empty, Tree, Ends, Splits, root, child, agreeing_leaves, EachLeaf, IsExcluded, LeafHolds, HasBoundOf, HasPositiveValue}
+use Rattle.dual_model.specs.Tree.{Tree, Ends, Splits, root, child, agreeing_leaves, EachLeaf}
+use Rattle.dual_model.specs.Cover.{Leaf, Bound, Ray, Empty, IsExcluded, LeafHolds, HasBoundOf, HasPositiveValue}
 use Rattle.dual_model.specs.Certificate.{ClaimHolds}
 use Rattle.dual_model.specs.Laws.{IsBoundTable, IsScheduleAt, LeavesPart, HasLawfulTable, CoversBound, CoversExclude, CertificatesClaimTruly, IsClaimTrue, AreTablesLawful}
 use Rattle.dual_model.specs.declared.node.Fixing.{Fixing}
@@ -32,7 +33,7 @@ one_of_two true true = refl
 one_of_two true false = refl
 one_of_two false b = refl
 
-agreeing_below : (x : Schedule) (node : Node) (tree : Tree) → agreeing_leaves x node tree ≡ cond (agrees node x) 1 0
+pub agreeing_below : {A : Type 0} (x : Schedule) (node : Node) (tree : Tree A) → agreeing_leaves x node tree ≡ cond (agrees node x) 1 0
 agreeing_below x node (Ends leaf) = refl
 agreeing_below x node (Splits g t off on) =
     (λ i. agreeing_below x (child node g t false) off i + agreeing_below x (child node g t true) on i)
@@ -44,9 +45,9 @@ leaves_part x tree = agreeing_below x root tree
 
 -- ---- what holds at the leaf that the schedule agrees with
 -- a claim that each leaf makes of its own schedules holds of each schedule
-at_own_leaf : (P : Node → Leaf → Type 0) (Q : Type 0) (x : Schedule)
-    → ((node : Node) (leaf : Leaf) → IsTrue (agrees node x) → P node leaf → Q)
-    → (node : Node) (tree : Tree) → IsTrue (agrees node x) → EachLeaf P node tree → Q
+pub at_own_leaf : {A : Type 0} (P : Node → A → Type 0) (Q : Type 0) (x : Schedule)
+    → ((node : Node) (leaf : A) → IsTrue (agrees node x) → P node leaf → Q)
+    → (node : Node) (tree : Tree A) → IsTrue (agrees node x) → EachLeaf P node tree → Q
 at_own_leaf P Q x claim node (Ends leaf) kept each = claim node leaf kept each
 at_own_leaf P Q x claim node (Splits g t off on) kept each = ⊎_elim
     (λ (here : IsTrue ((x.thermal g).on t)).
@@ -58,7 +59,7 @@ at_own_leaf P Q x claim node (Splits g t off on) kept each = ⊎_elim
     (cases_Bool ((x.thermal g).on t))
 
 -- two claims of each leaf, as one
-both_claims : (P R : Node → Leaf → Type 0) (node : Node) (tree : Tree) → EachLeaf P node tree → EachLeaf R node tree
+pub both_claims : {A : Type 0} (P R : Node → A → Type 0) (node : Node) (tree : Tree A) → EachLeaf P node tree → EachLeaf R node tree
     → EachLeaf (λ n l. P n l × R n l) node tree
 both_claims P R node (Ends leaf) first second = (first, second)
 both_claims P R node (Splits g t off on) first second = (
@@ -142,7 +143,7 @@ listed instance tables each number table is_table =
 
 -- where all tables are lawful, those of the leaves are
 tables_lawful : (instance : Instance) (tables : List Table) → All (IsLawfulTable instance) tables
-    → (node : Node) (tree : Tree)
+    → (node : Node) (tree : Tree Leaf)
     → EachLeaf (HasLawfulTable instance tables) node tree
 tables_lawful instance tables each node (Ends (Bound number)) = listed instance tables each number
 tables_lawful instance tables each node (Ends (Ray number)) = listed instance tables each number

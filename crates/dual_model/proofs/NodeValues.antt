@@ -15,7 +15,7 @@ use Rattle.uc_model.proofs.Sums.{sum_below-same, sum_below-le}
 use Rattle.dual_model.specs.Fixings.{keeps_of, unit_agrees, HasEmptyUnit}
 use Rattle.dual_model.specs.UnitValue.{IsUnitValue}
 use Rattle.dual_model.specs.NodeValue.{constant_at, system_value, renewables_value, IsNodeValue}
-use Rattle.dual_model.specs.Cover.{child}
+use Rattle.dual_model.specs.Tree.{child}
 use Rattle.dual_model.specs.Laws.{IsScheduleAt, WeakDuality, RaysExclude, ValuesAreUnique, ValuesExist, ValuesExistAtSchedules, ChildBound}
 use Rattle.dual_model.specs.declared.node.Node.{Node}
 use Rattle.dual_model.specs.declared.table.Table.{Table}

@@ -7,7 +7,8 @@ use Rattle.uc_model.specs.PrintedSchedule.{printed_schedule, printed_denominator
 use Rattle.uc_model.specs.declared.instance.Instance.{Instance}
 use Rattle.uc_model.specs.declared.schedule.Printed.{Printed}
 use Rattle.dual_model.specs.Prices.{IsLawfulTable}
-use Rattle.dual_model.specs.Cover.{Tree, Holds, AllExcluded, IsCover, has_bound}
+use Rattle.dual_model.specs.Tree.{Tree, IsCover}
+use Rattle.dual_model.specs.Cover.{Leaf, Holds, AllExcluded, has_bound}
 use Rattle.dual_model.specs.declared.table.Table.{Table}
 
 -- a schedule with its cost in micro-dollars, as written
@@ -24,7 +25,7 @@ pub record Certificate : Type 0 where
   pub bound : Option ℤ
   pub schedule : Option WrittenSchedule
   pub tables : List Table
-  pub tree : Tree
+  pub tree : Tree Leaf
 
 -- the schedule has a row for each unit, with a cell for each period
 pub record HasShapeOf (instance : Instance) (printed : Printed) : Type 0 where

@@ -9,7 +9,8 @@ use Rattle.uc_model.specs.declared.instance.Instance.{Instance}
 use Rattle.dual_model.specs.Prices.{HasSizeOf, HasLawfulSigns, IsLawfulTable}
 use Rattle.dual_model.specs.Fixings.{HasEmptyUnit, agrees}
 use Rattle.dual_model.specs.NodeValue.{IsNodeValue}
-use Rattle.dual_model.specs.Cover.{Leaf, Bound, Ray, Empty, Tree, root, child, agreeing_leaves, EachLeaf, Holds, AllExcluded}
+use Rattle.dual_model.specs.Tree.{Tree, root, child, agreeing_leaves, EachLeaf}
+use Rattle.dual_model.specs.Cover.{Leaf, Bound, Ray, Empty, Holds, AllExcluded}
 use Rattle.dual_model.specs.Certificate.{Certificate, CertificateHolds}
 use Rattle.dual_model.specs.declared.node.Node.{Node}
 use Rattle.dual_model.specs.declared.table.Table.{Table}
@@ -65,7 +66,7 @@ ChildBound =
 
 -- every schedule agrees with exactly one leaf of a tree
 abbrev pub LeavesPart : Type 0
-LeavesPart = (x : Schedule) (tree : Tree) → agreeing_leaves x root tree ≡ 1
+LeavesPart = (x : Schedule) (tree : Tree Leaf) → agreeing_leaves x root tree ≡ 1
 
 -- the table of that number, if there is one, is lawful
 abbrev pub IsLawfulAt : Instance → List Table → ℕ → Type 0
@@ -79,7 +80,7 @@ HasLawfulTable instance tables node (Ray number) = IsLawfulAt instance tables nu
 HasLawfulTable instance tables node (Empty g) = Unit {0}
 
 -- the tables of the leaves are lawful
-abbrev pub AreTablesLawful : Instance → List Table → Tree → Type 0
+abbrev pub AreTablesLawful : Instance → List Table → Tree Leaf → Type 0
 AreTablesLawful instance tables tree = EachLeaf (HasLawfulTable instance tables) root tree
 
 -- no schedule costs less than b micro-dollars
@@ -93,13 +94,13 @@ IsInfeasible instance = (q : ℕ) (x : Schedule) → ¬ Obeys instance q x
 -- a tree that holds for b bounds the cost of every schedule by b
 abbrev pub CoversBound : Type 0
 CoversBound =
-    (instance : Instance) (tables : List Table) (tree : Tree) (b : ℤ) → IsLawfulInstance instance
+    (instance : Instance) (tables : List Table) (tree : Tree Leaf) (b : ℤ) → IsLawfulInstance instance
     → AreTablesLawful instance tables tree → Holds instance tables tree b → IsLowerBound instance b
 
 -- a tree whose leaves are all excluded leaves no schedule
 abbrev pub CoversExclude : Type 0
 CoversExclude =
-    (instance : Instance) (tables : List Table) (tree : Tree) → IsLawfulInstance instance
+    (instance : Instance) (tables : List Table) (tree : Tree Leaf) → IsLawfulInstance instance
     → AreTablesLawful instance tables tree → AllExcluded instance tables tree → IsInfeasible instance
 
 -- what a certificate claims is true: its bound, or that there is no schedule

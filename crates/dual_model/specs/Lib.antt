@@ -3,6 +3,7 @@ pub mod Fixings
 pub mod Term
 pub mod UnitValue
 pub mod NodeValue
+pub mod Tree
 pub mod Cover
 pub mod Certificate
 pub mod Opening

@@ -4,7 +4,7 @@ ghost use Rattle.std.specs.Prelude.{[], pos, neg_ℤ, ◌∷◌, true, false};
 ghost use Rattle.uc_model.specs.Examples.{base_unit, mw};
 ghost use Rattle.dual_model.specs.Fixings.{HasEmptyUnit};
 ghost use Rattle.dual_model.specs.Term.{IsTerm};
-ghost use Rattle.dual_model.specs.Cover.{root};
+ghost use Rattle.dual_model.specs.Tree.{root};
 ghost use Rattle.dual_model.specs.Examples.{alone, windy, idle, two_units, mixed, energy, ray, ramp_ray, zero_prices, mixed_prices, decided, IsRootValue, IsValueAt, slow_unit, concave_unit, stuck_unit, unstartable_unit, cooling_unit, warm_unit, three_watts, scaled_dollars, MILLION};
 
 /// Bounds on cost: a table's value is K times micro-dollars.
