@@ -1,17 +1,17 @@
--- What a tree of the search says as a cover, and the certificate that a found answer stands for. This
--- project's own form.
+-- What the leaves of a search's tree claim, and the certificate that a found answer stands for. This project's own form.
 use Rattle.std.specs.Prelude.{◌≡◌, ℕ, ◌<◌, List, [], ◌∷◌, ℤ, pos, Option, Some, None, All, length, slice_index_or, map}
 use Rattle.uc_model.specs.Schedule.{thermal_count, renewable_count}
 use Rattle.uc_model.specs.declared.instance.Instance.{Instance}
 use Rattle.uc_model.specs.declared.schedule.Printed.{Printed}
-use Rattle.dual_model.specs.Cover.{Ends, Bound, Ray, Empty}
+use Rattle.dual_model.specs.Tree.{map_leaves}
+use Rattle.dual_model.specs.Cover.{Bound, Ray, Empty}
 use Rattle.dual_model.specs.Cover as cover
 use Rattle.dual_model.specs.Certificate.{Certificate, WrittenSchedule}
 use Rattle.dual_model.specs.declared.table.Table.{Table}
 use Rattle.branch_tree.specs.declared.tree.Leaf.{Leaf}
 use Rattle.branch_tree.specs.declared.tree.Leaf.TheVariants as leaf
-use Rattle.branch_tree.specs.declared.tree.Tree.{Tree}
 use Rattle.branch_tree.specs.declared.found.Found.{Found}
+use Rattle.branch_tree.specs.StoredTree.{tree_of, tree_bound}
 
 -- the tables that a leaf uses
 abbrev pub leaf_tables : Leaf → List ℕ
@@ -26,17 +26,6 @@ leaf_claim (leaf.Live table value) = Bound 0
 leaf_claim (leaf.Bound table value) = Bound 0
 leaf_claim (leaf.Ray table) = Ray 0
 leaf_claim (leaf.Empty g) = Empty g
-
--- the bound that a leaf stores, where it isn't excluded
-abbrev pub leaf_bound : Leaf → Option ℤ
-leaf_bound (leaf.Live table value) = Some value
-leaf_bound (leaf.Bound table value) = Some value
-leaf_bound (leaf.Ray table) = None
-leaf_bound (leaf.Empty g) = None
-
--- the least stored bound over the leaves that aren't excluded, and none where each of them is
-abbrev pub tree_bound : Tree → Option ℤ
-tree_bound tree = leaf_bound tree.leaf
 
 -- a schedule and its cost
 abbrev pub written_of : Option (Printed × ℤ) → Option WrittenSchedule
@@ -70,5 +59,5 @@ certificate_of instance found = record {
   bound = tree_bound found.tree;
   schedule = written_of found.schedule;
   tables = used_tables found;
-  tree = Ends (leaf_claim found.tree.leaf);
+  tree = map_leaves leaf_claim (tree_of found.tree);
 }

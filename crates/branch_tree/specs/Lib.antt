@@ -1,2 +1,4 @@
+pub mod StoredTree
+pub mod Closing
 pub mod Claims
 pub mod SearchResult

@@ -6,7 +6,8 @@ use Rattle.uc_model.specs.declared.instance.Instance.{Instance}
 use Rattle.dual_model.specs.Prices.{IsLawfulTable}
 use Rattle.dual_model.specs.Fixings.{HasNoPattern}
 use Rattle.dual_model.specs.NodeValue.{IsNodeValue}
-use Rattle.dual_model.specs.Cover.{root, ReachesBoundOf}
+use Rattle.dual_model.specs.Tree.{root}
+use Rattle.dual_model.specs.Cover.{ReachesBoundOf}
 use Rattle.dual_model.specs.Certificate.{CertificateHolds}
 use Rattle.dual_model.specs.Opening.{zero_table}
 use Rattle.dual_model.specs.declared.node.Node.{Node}
@@ -16,7 +17,9 @@ use Rattle.branch_tree.specs.declared.found.Found.{Found}
 use Rattle.branch_tree.specs.declared.found.Outcome.{Outcome}
 use Rattle.branch_tree.specs.declared.found.Outcome.TheVariants.{Value, Empty}
 use Rattle.branch_tree.specs.declared.tree.Leaf.TheVariants as leaf
-use Rattle.branch_tree.specs.Claims.{HasLayout, tree_bound, used_tables, certificate_of}
+use Rattle.branch_tree.specs.declared.tree.Tree.{Tree}
+use Rattle.branch_tree.specs.StoredTree.{IsNodeAt, tree_bound}
+use Rattle.branch_tree.specs.Claims.{HasLayout, used_tables, certificate_of}
 
 -- unit g is the first of the instance that has no pattern at the node
 pub record IsFirstEmpty (instance : Instance) (node : Node) (g : ℕ) : Type 0 where
@@ -29,28 +32,36 @@ abbrev pub IsOutcome : Instance → Node → Table → Outcome → Type 0
 IsOutcome instance node table (Value v) = IsNodeValue instance node table v
 IsOutcome instance node table (Empty g) = IsFirstEmpty instance node g
 
--- an entry of the log is true: its node is the root, its table is lawful, and its outcome is theirs
-pub record IsTrueEntry (instance : Instance) (tables : List Table) (entry : Entry) : Type 0 where
-  pub node : entry.node ≡ 0
+-- an entry of the log is true: its table is lawful, and its outcome is that of its node there
+pub record IsTrueEntry (instance : Instance) (tree : Tree) (tables : List Table) (entry : Entry) : Type 0 where
+  pub node : Node
+  pub is_node : IsNodeAt tree entry.node node
   pub table : Table
   pub is_table : slice_get tables entry.table ≡ Some table
   pub lawful : IsLawfulTable instance table
-  pub outcome : IsOutcome instance root table entry.outcome
+  pub outcome : IsOutcome instance node table entry.outcome
 
--- two entries have different claims, and differ in node or table
-pub record AreApart (first second : Entry) : Type 0 where
+-- two entries have different claims, and differ in the node or in the table, under whichever numbers it stands
+pub record AreApart (tables : List Table) (first second : Entry) : Type 0 where
   pub unit : first.unit ≢ second.unit
-  pub pair : first.node ≡ second.node → first.table ≢ second.table
+  pub pair : first.node ≡ second.node → slice_get tables first.table ≢ slice_get tables second.table
 
--- each entry of the log is true, and no two share a claim, or node and table
-pub record IsTrueLog (instance : Instance) (tables : List Table) (log : List Entry) : Type 0 where
-  pub entries : All (IsTrueEntry instance tables) log
-  pub apart : AllPairs AreApart log
+-- each entry of the log is true, and no two share a claim, or a node and a table
+pub record IsTrueLog (instance : Instance) (tree : Tree) (tables : List Table) (log : List Entry) : Type 0 where
+  pub entries : All (IsTrueEntry instance tree tables) log
+  pub apart : AllPairs (AreApart tables) log
+
+-- what was found is true: it stands for a certificate that holds, and its log is true
+pub record IsTrueFound (instance : Instance) (found : Found) : Type 0 where
+  pub layout : HasLayout found
+  pub certificate : CertificateHolds instance (certificate_of instance found)
+  pub log : IsTrueLog instance found.tree found.tables found.log
 
 -- the entry is the claim of the root by worker 0, at the table of no prices
-pub record IsFirstClaim (instance : Instance) (tables : List Table) (entry : Entry) : Type 0 where
+pub record IsFirstClaim (tree : Tree) (instance : Instance) (tables : List Table) (entry : Entry) : Type 0 where
   pub unit : entry.unit ≡ 1
   pub worker : entry.worker ≡ 0
+  pub node : IsNodeAt tree entry.node root
   pub table : slice_get tables entry.table ≡ Some (zero_table instance)
 
 -- a root that isn't excluded holds the table of no prices, and its bound is at least the one of this table
@@ -58,19 +69,19 @@ pub record IsOpened (instance : Instance) (found : Found) (bound : ℤ) : Type 0
   pub stored : used_tables found ≡ zero_table instance ∷ []
   pub reached : ReachesBoundOf instance root (zero_table instance) bound
 
--- the answer of a search with this budget of evaluations
-pub record IsSearchResult (instance : Instance) (budget : ℕ) (found : Found) : Type 0 where
-  pub layout : HasLayout found
-  pub certificate : CertificateHolds instance (certificate_of instance found)
-  pub log : IsTrueLog instance found.tables found.log
-  -- no schedule is looked for yet
+-- what a search does that has one table and looks for no schedule
+pub record IsFirstStage (instance : Instance) (found : Found) : Type 0 where
   pub schedule : found.schedule ≡ None
   pub most_on : found.most_on ≡ None
+  pub claims : All (IsFirstClaim found.tree instance found.tables) found.log
+  pub opened : IfSome (tree_bound found.tree) (IsOpened instance found)
+
+-- the answer of a search with this budget of evaluations
+pub record IsSearchResult (instance : Instance) (budget : ℕ) (found : Found) : Type 0 where
+  pub truth : IsTrueFound instance found
   -- where the tree isn't excluded the whole budget was spent
   pub spent : tree_bound found.tree ≢ None → length found.log ≡ budget
-  -- the table of no prices is the only one that is tried yet
-  pub claims : All (IsFirstClaim instance found.tables) found.log
-  pub opened : IfSome (tree_bound found.tree) (IsOpened instance found)
   -- a unit without an allowed pattern excludes the root before any evaluation
   pub excluded : (g : ℕ) → IsFirstEmpty instance root g →
       (found.tree.leaf ≡ leaf.Empty g) × (found.log ≡ [])
+  pub stage : IsFirstStage instance found

@@ -6,5 +6,5 @@
 pub mod found;
 pub mod tree;
 
-pub use found::{Entry, Found, Layout, Outcome};
+pub use found::{Entry, Found, Layout, Outcome, is_within_gap};
 pub use tree::{Leaf, Tree};

@@ -22,7 +22,15 @@ pub struct Tree {
 }
 
 impl Tree {
-    ghost use Rattle.branch_tree.specs.Claims.{tree_bound};
+    ghost use Rattle.dual_model.specs.Tree.{Ends};
+    ghost use Rattle.branch_tree.specs.StoredTree.{tree_of, tree_bound};
+
+    /// The tree of this leaf alone, which is its root.
+    pub fn of_leaf(leaf: Leaf) -> Tree
+        ensures { tree_of result ≡ Ends leaf }
+    {
+        Tree { leaf }
+    }
 
     /// The least bound stored at a leaf that isn't excluded, in micro-dollars; none where each leaf is.
     pub fn bound(&self) -> Option<i128>
