@@ -7,6 +7,7 @@
 pub mod division;
 pub mod examples;
 pub mod field;
+pub mod field_refusal;
 pub mod instance;
 pub mod laws;
 pub mod limits;
@@ -23,6 +24,7 @@ pub mod tolerance;
 
 pub use division::{ceil_div, floor_div};
 pub use field::Field;
+pub use field_refusal::FieldRefusal;
 pub use instance::{Instance, Point, Renewable, StartRow, Thermal};
 pub use list::{List, Name};
 pub use memory::NoMemory;
