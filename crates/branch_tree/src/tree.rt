@@ -22,12 +22,11 @@ pub struct Tree {
 }
 
 impl Tree {
-    ghost use Rattle.dual_model.specs.Tree.{Ends};
-    ghost use Rattle.branch_tree.specs.StoredTree.{tree_of, tree_bound};
+    ghost use Rattle.branch_tree.specs.StoredTree.{tree_bound};
 
     /// The tree of this leaf alone, which is its root.
     pub fn of_leaf(leaf: Leaf) -> Tree
-        ensures { tree_of result ≡ Ends leaf }
+        ensures { result ≡ record { leaf = leaf } }
     {
         Tree { leaf }
     }

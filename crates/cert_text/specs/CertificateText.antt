@@ -6,7 +6,8 @@ use Rattle.uc_model.specs.Money.{money_text}
 use Rattle.uc_model.specs.declared.schedule.Cell.{Cell}
 use Rattle.uc_model.specs.declared.schedule.Printed.{Printed}
 use Rattle.dual_model.specs.Certificate.{Certificate, WrittenSchedule}
-use Rattle.dual_model.specs.Cover.{Tree, Leaf, Ends, Splits, Bound, Ray, Empty}
+use Rattle.dual_model.specs.Tree.{Tree, Ends, Splits}
+use Rattle.dual_model.specs.Cover.{Leaf, Bound, Ray, Empty}
 use Rattle.dual_model.specs.declared.table.Table.{Table}
 use Rattle.dual_model.specs.declared.table.RampRow.{RampRow}
 use Rattle.outside.specs.Lines.{line, list_line}
@@ -73,7 +74,7 @@ leaf_line (Ray number) = line (codes "ray") (whole_text (suc number) ∷ [])
 leaf_line (Empty g) = line (codes "empty") (whole_text (suc g) ∷ [])
 
 -- the nodes in preorder, the off-child first
-abbrev pub tree_text : Tree → List ℕ
+abbrev pub tree_text : Tree Leaf → List ℕ
 tree_text (Ends leaf) = leaf_line leaf
 tree_text (Splits g t off on) =
     line (codes "split") (whole_text (suc g) ∷ whole_text (suc t) ∷ []) ++ (tree_text off ++ tree_text on)

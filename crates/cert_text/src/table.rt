@@ -63,8 +63,8 @@ fn write_reserve_prices<W: Writer>(out: &mut W, table: &Table) -> Result<(), Fai
     ensures failed { OnErr result (WritesFront (reserve_lines table.now) (W.state out.old) (W.state out.new)) }
     ensures rest { W.same_else out.old out.new }
 {
-    write_number_line(out, b"mu", table.mu.as_slice())?;
-    write_ramps(out, table.ramps.as_slice())
+    write_number_line(out, b"mu", table.mu())?;
+    write_ramps(out, table.ramps())
 }
 
 fn write_prices<W: Writer>(out: &mut W, table: &Table) -> Result<(), Failed>
@@ -72,7 +72,7 @@ fn write_prices<W: Writer>(out: &mut W, table: &Table) -> Result<(), Failed>
     ensures failed { OnErr result (WritesFront (price_lines table.now) (W.state out.old) (W.state out.new)) }
     ensures rest { W.same_else out.old out.new }
 {
-    write_number_line(out, b"pi", table.pi.as_slice())?;
+    write_number_line(out, b"pi", table.pi())?;
     write_reserve_prices(out, table)
 }
 
@@ -92,6 +92,6 @@ pub(crate) fn write_table<W: Writer>(out: &mut W, table: &Table) -> Result<(), F
     ensures failed { OnErr result (WritesFront (table_text table.now) (W.state out.old) (W.state out.new)) }
     ensures rest { W.same_else out.old out.new }
 {
-    write_scale(out, &table.k)?;
+    write_scale(out, &table.k())?;
     write_prices(out, table)
 }

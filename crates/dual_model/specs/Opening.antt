@@ -8,12 +8,16 @@ use Rattle.dual_model.specs.declared.table.Table.{Table}
 abbrev pub ZERO_SCALE : ℤ
 ZERO_SCALE = pos 1000000
 
--- every price is 0
-abbrev pub zero_table : Instance → Table
-zero_table instance = record {
+-- every price is 0, at any scale
+abbrev pub unpriced_table : Instance → ℤ → Table
+unpriced_table instance k = record {
   units = thermal_count instance;
-  k = ZERO_SCALE;
+  k = k;
   pi = replicate instance.periods (pos 0);
   mu = replicate instance.periods (pos 0);
   ramps = [];
 }
+
+-- the table of no prices
+abbrev pub zero_table : Instance → Table
+zero_table instance = unpriced_table instance ZERO_SCALE

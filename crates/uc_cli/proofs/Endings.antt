@@ -8,7 +8,8 @@ use Rattle.outside.specs.declared.slot.Slot.TheVariants as slot
 use Rattle.outside.specs.Slots.{SlotState, SameBut}
 use Rattle.outside.specs.Sinks.{SinkState}
 use Rattle.branch_tree.specs.declared.found.Found.{Found}
-use Rattle.uc_cli.specs.Run.{IsAnswer, IsSaved, FailsToSave, IsTold, FailsToTell, IsDone, IsUnsaved, IsUntold, text_of_certificate, text_of_report}
+use Rattle.uc_cli.specs.Writing.{IsSaved, FailsToSave, IsTold, FailsToTell, text_of_certificate, text_of_report}
+use Rattle.uc_cli.specs.Run.{outside_of, IsAnswer, IsDone, IsUnsaved, IsUntold}
 
 -- what holds of a result, by its test
 pub at_err : {T E P : Type 0} (result : Result T E) → is_err result ≡ true → OnErr result P → P
@@ -23,14 +24,12 @@ at_ok (Err x) e h = absurd (cc)
 certificate_same : (f g : Slot → SlotState) → SameBut slot.Instance f g → g slot.CertOut ≡ f slot.CertOut
 certificate_same f g same = same slot.CertOut (λ e. cc)
 
-pub unsaved : (exact : Bool) (f g h : Slot → SlotState) (out : SinkState) (instance : Instance) (rounded : ℕ) (found : Found)
+pub unsaved : (exact : Bool) (f g h : Slot → SlotState) (out err_old err_new : SinkState) (instance : Instance) (rounded : ℕ) (found : Found)
     → IsAnswer exact (f slot.Instance) instance rounded found → SameBut slot.Instance f g
     → FailsToSave (text_of_certificate instance found) (g slot.CertOut) (h slot.CertOut)
-    → IsUnsaved exact f h out out found
-unsaved exact f g h out instance rounded found answer same fails = record {
-  instance = instance;
-  rounded = rounded;
-  answer = answer;
+    → IsUnsaved exact (outside_of f out err_old) (outside_of h out err_new) found
+unsaved exact f g h out err_old err_new instance rounded found answer same fails = record {
+  has = record { instance = instance; rounded = rounded; answer = answer };
   certificate =
       subst (λ s. FailsToSave (text_of_certificate instance found) s (h slot.CertOut)) (certificate_same f g same) fails;
   out = refl;
@@ -42,15 +41,13 @@ saved_since : (f g h : Slot → SlotState) (instance : Instance) (found : Found)
 saved_since f g h instance found same saved =
     subst (λ s. IsSaved (text_of_certificate instance found) s (h slot.CertOut)) (certificate_same f g same) saved
 
-pub untold : (exact : Bool) (f g h : Slot → SlotState) (before after : SinkState) (instance : Instance) (rounded : ℕ) (found : Found)
+pub untold : (exact : Bool) (f g h : Slot → SlotState) (before after err_old err_new : SinkState) (instance : Instance) (rounded : ℕ) (found : Found)
     → IsAnswer exact (f slot.Instance) instance rounded found → SameBut slot.Instance f g
     → IsSaved (text_of_certificate instance found) (g slot.CertOut) (h slot.CertOut)
     → FailsToTell (text_of_report instance found rounded) before after
-    → IsUntold exact f h before after found
-untold exact f g h before after instance rounded found answer same saved fails = record {
-  instance = instance;
-  rounded = rounded;
-  answer = answer;
+    → IsUntold exact (outside_of f before err_old) (outside_of h after err_new) found
+untold exact f g h before after err_old err_new instance rounded found answer same saved fails = record {
+  has = record { instance = instance; rounded = rounded; answer = answer };
   saved = saved_since f g h instance found same saved;
   report = fails;
 }
@@ -64,16 +61,14 @@ calm_each f g h first second read written slot.CertIn =
 calm_each f g h first second read written slot.CertOut =
     written ∙ ap (λ (s : SlotState). s.faults) (first slot.CertOut (λ e. cc))
 
-pub done : (exact : Bool) (f g h : Slot → SlotState) (before after : SinkState) (instance : Instance) (rounded : ℕ) (found : Found)
+pub done : (exact : Bool) (f g h : Slot → SlotState) (before after err_old err_new : SinkState) (instance : Instance) (rounded : ℕ) (found : Found)
     → IsAnswer exact (f slot.Instance) instance rounded found → SameBut slot.Instance f g → SameBut slot.CertOut g h
     → (g slot.Instance).faults ≡ (f slot.Instance).faults
     → IsSaved (text_of_certificate instance found) (g slot.CertOut) (h slot.CertOut)
     → IsTold (text_of_report instance found rounded) before after
-    → IsDone exact f h before after found
-done exact f g h before after instance rounded found answer first second calm saved told = record {
-  instance = instance;
-  rounded = rounded;
-  answer = answer;
+    → IsDone exact (outside_of f before err_old) (outside_of h after err_new) found
+done exact f g h before after err_old err_new instance rounded found answer first second calm saved told = record {
+  has = record { instance = instance; rounded = rounded; answer = answer };
   saved = saved_since f g h instance found first saved;
   told = told;
   calm = calm_each f g h first second calm saved.calm;

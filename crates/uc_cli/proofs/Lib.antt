@@ -1,3 +1,4 @@
-pub mod ZeroTable
+pub mod UnpricedTables
 pub mod SearchResults
 pub mod Endings
+pub mod OnlyRead

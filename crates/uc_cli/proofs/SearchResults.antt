@@ -7,19 +7,20 @@ use Rattle.uc_model.specs.Limits.{IsLawfulInstance}
 use Rattle.uc_model.specs.declared.instance.Instance.{Instance}
 use Rattle.uc_model.proofs.Ring.{linear, le_refl}
 use Rattle.dual_model.specs.Prices.{IsLawfulTable}
-use Rattle.dual_model.specs.Cover.{root}
+use Rattle.dual_model.specs.Tree.{root}
 use Rattle.dual_model.specs.NodeValue.{IsNodeValue}
 use Rattle.dual_model.specs.Certificate.{CertificateHolds}
 use Rattle.dual_model.specs.Laws.{IsClaimTrue}
 use Rattle.dual_model.proofs.Covers.{certificates_claim_truly}
-use Rattle.branch_tree.specs.Claims.{certificate_of, tree_bound}
+use Rattle.branch_tree.specs.StoredTree.{IsNodeAt, tree_bound}
+use Rattle.branch_tree.specs.Claims.{certificate_of}
 use Rattle.branch_tree.specs.SearchResult.{IsFirstEmpty, IsTrueEntry, IsFirstClaim, IsSearchResult}
 use Rattle.branch_tree.specs.declared.found.Entry.{Entry}
 use Rattle.branch_tree.specs.declared.found.Found.{Found}
 use Rattle.branch_tree.specs.declared.found.Outcome.TheVariants.{Value}
 use Rattle.branch_tree.specs.declared.tree.Leaf.TheVariants as leaf
 use Rattle.dual_model.specs.Opening.{ZERO_SCALE, zero_table}
-use Rattle.uc_cli.proofs.ZeroTable.{zero_lawful}
+use Rattle.uc_cli.proofs.UnpricedTables.{zero_lawful}
 
 -- the one entry of the log
 abbrev pub the_claim : ℤ → Entry
@@ -62,34 +63,44 @@ not_first_empty instance v value g empty =
     let unit = value.units g empty.within in
     empty.empty unit.on unit.best.pattern
 
+-- the root has the number 0
+at_root : (instance : Instance) (v b : ℤ) → IsNodeAt (bounded_found instance v b).tree 0 root
+at_root instance v b = record { at_root = refl; is_root = refl }
+
 pub bounded_is : (instance : Instance) (v b : ℤ) → IsNodeValue instance root (zero_table instance) v → IsFloor v ZERO_SCALE b
     → IsSearchResult instance 1 (bounded_found instance v b)
-bounded_is instance v b value floor = record {
-  layout = record { nodes = refl; tables = refl; within = All-cons (λ i. i < 1) 0 [] (omega arith) (All-nil (λ i. i < 1)) };
-  certificate = bounded_certificate instance v b value floor;
-  log = record {
-    entries = All-cons (IsTrueEntry instance (zero_table instance ∷ [])) (the_claim v) []
-        (record { node = refl; table = zero_table instance; is_table = refl; lawful = zero_lawful instance; outcome = value })
-        (All-nil (IsTrueEntry instance (zero_table instance ∷ [])));
-    apart = λ i j d h k. absurd (omega arith);
-  };
-  schedule = refl;
-  most_on = refl;
-  spent = λ some. refl;
-  claims = All-cons (IsFirstClaim instance (zero_table instance ∷ [])) (the_claim v) []
-      (record { unit = refl; worker = refl; table = refl })
-      (All-nil (IsFirstClaim instance (zero_table instance ∷ [])));
-  opened = record {
-    stored = refl;
-    reached = record { bound = b; is_bound = record { value = v; is_value = value; quotient = floor }; reached = le_refl b };
-  };
-  excluded = λ g empty. absurd (not_first_empty instance v value g empty);
-}
+bounded_is instance v b value floor =
+    let found = bounded_found instance v b in
+    record {
+      truth = record {
+        layout = record { nodes = refl; tables = refl; within = All-cons (λ i. i < 1) 0 [] (omega arith) (All-nil (λ i. i < 1)) };
+        certificate = bounded_certificate instance v b value floor;
+        log = record {
+          entries = All-cons (IsTrueEntry instance found.tree found.tables) (the_claim v) []
+              (record { node = root; is_node = at_root instance v b; table = zero_table instance; is_table = refl; lawful = zero_lawful instance; outcome = value })
+              (All-nil (IsTrueEntry instance found.tree found.tables));
+          apart = λ i j d h k. absurd (omega arith);
+        };
+      };
+      spent = λ some. refl;
+      excluded = λ g empty. absurd (not_first_empty instance v value g empty);
+      stage = record {
+        schedule = refl;
+        most_on = refl;
+        claims = All-cons (IsFirstClaim found.tree instance found.tables) (the_claim v) []
+            (record { unit = refl; worker = refl; node = at_root instance v b; table = refl })
+            (All-nil (IsFirstClaim found.tree instance found.tables));
+        opened = record {
+          stored = refl;
+          reached = record { bound = b; is_bound = record { value = v; is_value = value; quotient = floor }; reached = le_refl b };
+        };
+      };
+    }
 
 -- what a search answers claims truly
 pub claims_truly : (instance : Instance) (found : Found) → IsLawfulInstance instance → IsSearchResult instance 1 found
     → IsClaimTrue instance (tree_bound found.tree)
-claims_truly instance found lawful answer = certificates_claim_truly instance (certificate_of instance found) lawful answer.certificate
+claims_truly instance found lawful answer = certificates_claim_truly instance (certificate_of instance found) lawful answer.truth.certificate
 
 pub claims_if_ok : {E : Type 0} (instance : Instance) (result : Result Found E) → IsLawfulInstance instance
     → IfOk result (IsSearchResult instance 1) → IfOk result (λ found. IsClaimTrue instance (tree_bound found.tree))

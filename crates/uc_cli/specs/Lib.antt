@@ -1,4 +1,5 @@
-pub mod Words
-pub mod Search
+pub mod Command
+pub mod Reading
+pub mod Writing
 pub mod Run
-pub mod Ends
+pub mod inside

@@ -1,13 +1,13 @@
 //! Reading the instance.
 
-ghost use Rattle.std.specs.Prelude.{◌≡◌, IfOk, IfErr};
+ghost use Rattle.std.specs.Prelude.{◌≡◌, ◌≤◌, length, IfOk, IfErr};
 ghost use Rattle.outside.specs.declared.slot.Slot.TheVariants.{Instance as InstanceSlot};
 ghost use Rattle.outside.specs.declared.slot.Stage.TheVariants.{Unopened};
 ghost use Rattle.outside.specs.Known.{Tells};
 ghost use Rattle.outside.specs.Slots.{SameBut};
 ghost use Rattle.uc_model.specs.Limits.{IsLawfulInstance};
 ghost use Rattle.instance.specs.Bytes.{StandForCounted};
-ghost use Rattle.uc_cli.specs.Run.{HasInstance, HasCause, IsRefusal, IsOpenedByNoOther};
+ghost use Rattle.uc_cli.specs.Reading.{most_bytes, HasInstance, HasCause, IsRefusal, IsOpenedByNoOther, IsOnlyRead};
 
 use instance::ReadFault;
 use outside::{Files, Slot, SlurpFault, slurp};
@@ -26,9 +26,11 @@ fn instance_bytes<F: Files>(
 ) -> Result<Vec<u8>, Fault>
     requires { (F.state files.old Slot.Instance).stage ≡ Unopened }
     ensures whole { IfOk result (λ bytes. Tells (F.state files.old Slot.Instance).left bytes.items) }
+    ensures few { IfOk result (λ bytes. length bytes.items ≤ most_bytes) }
     ensures cause { IfErr result (HasCause exact (F.state files.old Slot.Instance) (F.state files.new Slot.Instance)) }
     ensures calm { IfOk result (λ _. (F.state files.new Slot.Instance).faults ≡ (F.state files.old Slot.Instance).faults) }
     ensures named { IsOpenedByNoOther name.now (F.state files.old Slot.Instance) (F.state files.new Slot.Instance) }
+    ensures only_read { IsOnlyRead (F.state files.old Slot.Instance) (F.state files.new Slot.Instance) }
     ensures others { SameBut InstanceSlot (F.state files.old) (F.state files.new) }
 {
     slurp(alloc, files, Slot::Instance, name, INSTANCE_LIMIT).map_err(|fault| match fault {
@@ -78,6 +80,7 @@ pub(crate) fn read_instance<F: Files>(
     ensures cause { IfErr result (HasCause exact (F.state files.old Slot.Instance) (F.state files.new Slot.Instance)) }
     ensures calm { IfOk result (λ _. (F.state files.new Slot.Instance).faults ≡ (F.state files.old Slot.Instance).faults) }
     ensures named { IsOpenedByNoOther name.now (F.state files.old Slot.Instance) (F.state files.new Slot.Instance) }
+    ensures only_read { IsOnlyRead (F.state files.old Slot.Instance) (F.state files.new Slot.Instance) }
     ensures others { SameBut InstanceSlot (F.state files.old) (F.state files.new) }
 {
     let bytes = instance_bytes(alloc, files, name, exact)?;

@@ -1,12 +1,12 @@
 //! The program `uc` as a function of its words and of the outside.
 #![tactic(auto)]
 
+mod command;
 mod input;
 mod output;
 mod program;
-mod run;
 mod search;
-mod words;
+mod solve;
 
 pub use outside::{SlurpFault, slurp};
 pub use program::{End, uc};

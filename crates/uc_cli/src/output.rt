@@ -1,4 +1,4 @@
-//! Writing the certificate and the report.
+//! Writing the certificate, the report and the line of a fault.
 
 ghost use Rattle.std.specs.Prelude.{◌≡◌, OnOk, OnErr};
 ghost use Rattle.uc_model.specs.declared.instance.Instance.{Instance};
@@ -6,15 +6,16 @@ ghost use Rattle.outside.specs.declared.slot.Slot.TheVariants.{CertOut};
 ghost use Rattle.outside.specs.declared.slot.Stage.TheVariants.{Unopened};
 ghost use Rattle.outside.specs.Slots.{SameBut};
 ghost use Rattle.branch_tree.specs.Claims.{HasLayout};
-ghost use Rattle.uc_cli.specs.Run.{IsOpenedByNoOther, IsSaved, FailsToSave, IsTold, FailsToTell, text_of_certificate, text_of_report};
+ghost use Rattle.uc_cli.specs.Reading.{IsOpenedByNoOther};
+ghost use Rattle.uc_cli.specs.Writing.{IsSaved, FailsToSave, IsTold, FailsToTell, TellsFault, text_of_certificate, text_of_report};
 
 use branch_tree::Found;
 use outside::{Failed, Files, Sink, Slot, SlotWriter};
-use report::write_found;
+use report::{Fault, write_fault, write_found};
 use uc_model::Instance;
 
 /// The gap in parts per million where the words give none.
-const DEFAULT_GAP: u32 = 1000;
+pub(crate) const DEFAULT_GAP: u32 = 1000;
 
 /// Writes the certificate to its slot, and finishes it.
 pub(crate) fn save<F: Files>(
@@ -48,4 +49,11 @@ pub(crate) fn tell<O: Sink>(
 {
     write_found(out, found, instance, rounded, DEFAULT_GAP)?;
     out.flush()
+}
+
+/// Tells a fault on the error output; that this may fail too changes nothing.
+pub(crate) fn tell_fault<E: Sink>(err: &mut E, fault: &Fault)
+    ensures { TellsFault fault.now (E.state err.old) (E.state err.new) }
+{
+    let _ = write_fault(err, fault);
 }

@@ -1,18 +1,19 @@
 //! The search: the value of the root at the table of no prices.
 
-ghost use Rattle.std.specs.Prelude.{◌≡◌, ℕ, ◌<◌, ◌*◌, ◌≤◌, unsigned_abs, length, replicate, pos, false, [], ◌∷◌, IfOk, ⊤};
+ghost use Rattle.std.specs.Prelude.{◌≡◌, ℕ, ◌<◌, ◌*◌, ◌≤◌, unsigned_abs, length, replicate, pos, false, [], ◌∷◌, IfOk, MatchOption, ⊤};
 ghost use Rattle.uc_model.specs.Limits.{IsLawfulInstance};
 ghost use Rattle.uc_model.specs.PatternBits.{commitment_of};
 ghost use Rattle.uc_model.specs.Schedule.{thermal_count};
 ghost use Rattle.uc_model.specs.declared.instance.Instance.{Instance};
-ghost use Rattle.dual_model.specs.Cover.{root};
 ghost use Rattle.dual_model.specs.Laws.{IsClaimTrue};
-ghost use Rattle.branch_tree.specs.Claims.{tree_bound};
 ghost use Rattle.dual_model.specs.NodeValue.{IsNodeValue};
-ghost use Rattle.dual_model.specs.Opening.{zero_table};
-ghost use Rattle.branch_tree.specs.SearchResult.{IsFirstEmpty, IsOutcome, IsSearchResult};
+ghost use Rattle.dual_model.specs.Opening.{unpriced_table, zero_table};
+ghost use Rattle.dual_model.specs.Tree.{root};
+ghost use Rattle.branch_tree.specs.StoredTree.{tree_bound};
+ghost use Rattle.branch_tree.specs.SearchResult.{IsFirstEmpty, IsSearchResult};
 ghost use Rattle.state_walk.specs.Onward.{IsWithin, MAX_ONWARD};
-ghost use Rattle.state_walk.specs.TableValue.{IsUnitValueOf};
+ghost use Rattle.state_walk.specs.TableValue.{IsLawfulScale, IsUnitValueOf};
+ghost use Rattle.uc_cli.specs.inside.Search.{HasEachPattern};
 
 use branch_tree::{Entry, Found, Layout, Leaf, Outcome, Tree};
 use dual_model::{Fix, Table};
@@ -30,9 +31,7 @@ fn no_prices(alloc: Global, instance: &Instance) -> Result<Table, NoMemory>
     requires { IsLawfulInstance instance.now }
     ensures { IfOk result (λ table. table ≡ zero_table instance.now) }
 {
-    let Ok(zeros) = vec![in alloc; 0_i64; instance.periods as usize] else {
-        return Err(NoMemory);
-    };
+    let zeros = vec![in alloc; 0_i64; instance.periods as usize]?;
     let units = instance.thermal.as_slice().len() as u32;
     Table::new(alloc, units, SCALE, &zeros, &zeros, &[])
 }
@@ -47,45 +46,65 @@ fn nothing_fixed() -> Fix
     }
 }
 
-// The value of thermal unit `g` at the table of no prices, or nothing where it has no allowed pattern.
+// The value of thermal unit `g` where every price is 0, at the scale `k`, or nothing where it has no allowed pattern.
 fn unit_value(
     alloc: Global,
     walk: &mut Walk,
     instance: &Instance,
+    k: i64,
     prices: &[(i128, i128, i128)],
     g: usize,
 ) -> Result<Option<i128>, NoMemory>
     requires lawful { IsLawfulInstance instance.now }
+    requires scale { IsLawfulScale k }
+    requires prices { prices.now ≡ replicate instance.now.periods (pos 0, pos 0, pos 0) }
     requires unit { g < thermal_count instance.now }
     requires room { walk.old ≡ instance.now.periods }
-    requires prices { prices.now ≡ replicate instance.now.periods (pos 0, pos 0, pos 0) }
-    ensures value { IfOk result (IsUnitValueOf instance.now root (zero_table instance.now) g) }
+    ensures value { IfOk result (IsUnitValueOf instance.now root (unpriced_table instance.now k) g) }
     ensures size { IfOk result (IsWithin MAX_ONWARD) }
     ensures kept { walk.new ≡ walk.old }
 {
     let unit = &instance.thermal.as_slice()[g];
-    let unit_terms = terms(alloc, unit, SCALE, prices)?;
+    let unit_terms = terms(alloc, unit, k, prices)?;
     Ok(least(walk, &unit_terms, unit, &nothing_fixed()))
 }
 
-// The value of the root at the table of no prices, or the first unit without an allowed pattern.
-fn evaluate(alloc: Global, instance: &Instance) -> Result<Outcome, NoMemory>
+// The first thermal unit without an allowed pattern. Prices play no part in it, so nothing is evaluated: the walk
+// is at the scale 0, at which each pattern costs nothing.
+fn first_empty(alloc: Global, instance: &Instance) -> Result<Option<u32>, NoMemory>
     requires { IsLawfulInstance instance.now }
-    ensures { IfOk result (IsOutcome instance.now root (zero_table instance.now)) }
+    ensures { IfOk result (λ empty. MatchOption empty (HasEachPattern instance.now (thermal_count instance.now))
+        (IsFirstEmpty instance.now root)) }
 {
     let periods = instance.periods as usize;
-    let Ok(prices) = vec![in alloc; (0_i128, 0_i128, 0_i128); periods] else {
-        return Err(NoMemory);
-    };
+    let prices = vec![in alloc; (0_i128, 0_i128, 0_i128); periods]?;
+    let mut walk = Walk::new(alloc, periods)?;
+    for g in 0..instance.thermal.as_slice().len() {
+        match unit_value(alloc, &mut walk, instance, 0, &prices, g)? {
+            Some(_) => {}
+            None => return Ok(Some(g as u32)),
+        }
+    }
+    Ok(None)
+}
+
+// The value of the root at the table of no prices.
+fn evaluate(alloc: Global, instance: &Instance) -> Result<i128, NoMemory>
+    requires lawful { IsLawfulInstance instance.now }
+    requires patterns { HasEachPattern instance.now (thermal_count instance.now) }
+    ensures { IfOk result (IsNodeValue instance.now root (zero_table instance.now)) }
+{
+    let periods = instance.periods as usize;
+    let prices = vec![in alloc; (0_i128, 0_i128, 0_i128); periods]?;
     let mut walk = Walk::new(alloc, periods)?;
     let mut total = 0;
     for g in 0..instance.thermal.as_slice().len() {
-        match unit_value(alloc, &mut walk, instance, &prices, g)? {
+        match unit_value(alloc, &mut walk, instance, SCALE, &prices, g)? {
             Some(value) => total += value,
-            None => return Ok(Outcome::Empty(g as u32)),
+            None => unreachable!(),
         }
     }
-    Ok(Outcome::Value(total))
+    Ok(total)
 }
 
 // A list of one element.
@@ -93,10 +112,8 @@ fn single<T: Drop>(alloc: Global, item: T) -> Result<List<T>, NoMemory>
     ensures { IfOk result (λ list. list ≡ item ∷ []) }
 {
     let mut items = Vec::new(alloc);
-    match items.push(item) {
-        Ok(()) => Ok(List::from_vec(items)),
-        Err(_) => Err(NoMemory),
-    }
+    items.push(item)?;
+    Ok(List::from_vec(items))
 }
 
 // The root is excluded, since this unit has no allowed pattern.
@@ -106,9 +123,7 @@ fn excluded(alloc: Global, instance: &Instance, g: u32) -> Result<Found, NoMemor
 {
     Ok(Found {
         schedule: None,
-        tree: Tree {
-            leaf: Leaf::Empty { g },
-        },
+        tree: Tree::of_leaf(Leaf::Empty { g }),
         tables: List::from_vec(Vec::new(alloc)),
         log: List::from_vec(Vec::new(alloc)),
         most_on: None,
@@ -135,12 +150,10 @@ fn bounded(alloc: Global, instance: &Instance, value: &i128) -> Result<Found, No
     let bound = floor_div(*value, i128::from(SCALE));
     Ok(Found {
         schedule: None,
-        tree: Tree {
-            leaf: Leaf::Bound {
-                table: 0,
-                value: bound,
-            },
-        },
+        tree: Tree::of_leaf(Leaf::Bound {
+            table: 0,
+            value: bound,
+        }),
         tables: single(alloc, no_prices(alloc, instance)?)?,
         log: single(alloc, claim)?,
         most_on: None,
@@ -163,12 +176,10 @@ pub(crate) fn search<R: Wait, G: Gate>(
     ensures search { IfOk result (IsSearchResult instance.now 1) }
     ensures claim { IfOk result (λ found. IsClaimTrue instance.now (tree_bound found.tree)) }
 {
-    if let Outcome::Empty(g) = evaluate(alloc, instance)? {
+    if let Some(g) = first_empty(alloc, instance)? {
         return excluded(alloc, instance, g);
     }
     gate.enter(rt, 0, 1);
-    match evaluate(alloc, instance)? {
-        Outcome::Value(value) => bounded(alloc, instance, &value),
-        Outcome::Empty(g) => excluded(alloc, instance, g),
-    }
+    let value = evaluate(alloc, instance)?;
+    bounded(alloc, instance, &value)
 }

@@ -6,7 +6,7 @@ use Rattle.outside.specs.declared.slot.Slot.TheVariants.{CertOut}
 use Rattle.outside.specs.Counts.{HasRisen}
 use Rattle.outside.specs.Known.{Appends}
 use Rattle.outside.proofs.Appending.{all-appended, appended-since-nothing}
-use Rattle.uc_cli.specs.Run.{text_of_certificate}
+use Rattle.uc_cli.specs.Writing.{text_of_certificate}
 use Rattle.uc_cli.proofs.output.save.Goals as goal
 
 pub returns-clause-failed : goal.returns-clause-failed

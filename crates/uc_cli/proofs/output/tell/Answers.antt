@@ -5,7 +5,7 @@ use Rattle.std.proofs.lemmas.Result.{on_err_weaker}
 use Rattle.outside.specs.Counts.{HasRisen}
 use Rattle.outside.specs.Known.{Appends}
 use Rattle.outside.proofs.Appending.{all-appended}
-use Rattle.uc_cli.specs.Run.{text_of_report}
+use Rattle.uc_cli.specs.Writing.{text_of_report}
 use Rattle.uc_cli.proofs.output.tell.Goals as goal
 
 pub returns-clause-failed : goal.returns-clause-failed

@@ -1,30 +1,23 @@
--- Each turn adds a unit's value to the sum, or finds the first unit without a pattern.
+-- Each turn adds a unit's value to the sum; each unit has one.
 use Rattle.std.proofs.Common.{◌≡◌, ◌<◌, FitsSigned, to_z, length, ap, subst, ◌∙◌, arith, rules}
 use Rattle.std.specs.Int.{w128}
 use Rattle.std.proofs.lemmas.Int.{to_z-of_z}
 use Rattle.uc_model.specs.Schedule.{thermal_count}
 use Rattle.uc_model.specs.declared.limits.TheConstants.{MAX_UNITS}
-use Rattle.dual_model.specs.Cover.{root}
+use Rattle.dual_model.specs.Tree.{root}
 use Rattle.state_walk.specs.Onward.{IsWithin, MAX_ONWARD}
 use Rattle.state_walk.specs.TableValue.{IsUnitValueOf}
 use Rattle.dual_model.specs.Opening.{zero_table}
-use Rattle.uc_cli.specs.Search.{IsUnitSum}
-use Rattle.uc_cli.proofs.ZeroTable.{zero_node_value, unit_sum-more, first_empty, sum_fits, sum_size}
+use Rattle.uc_cli.specs.inside.Search.{IsUnitSum}
+use Rattle.uc_cli.proofs.UnpricedTables.{zero_node_value, unit_sum-more, sum_fits, sum_size}
 use Rattle.uc_cli.proofs.search.evaluate.Goals as goal
-
-pub returns-in-None : goal.returns-in-None
-returns-in-None c =
-    let instance = c.args.instance.now in
-    let count : length c.as_slice-g-end.result.now ≡ thermal_count instance = ap length c.as_slice-g-end.ensures in
-    first_empty instance root (zero_table instance) c.loop-g.g (to_z w128 c.loop-g.total-bits) c.loop-g.invariant.sum (omega arith)
-    (subst (IsUnitValueOf instance root (zero_table instance) c.loop-g.g) c.in-None.is c.in_ok-value.ensures.value)
 
 pub loop-g-preserved : goal.loop-g-preserved
 loop-g-preserved c =
     let instance = c.args.instance.now in
     let count : length c.as_slice-g-end.result.now ≡ thermal_count instance = ap length c.as_slice-g-end.ensures in
     let g = c.loop-g.g in
-    let within : g < MAX_UNITS = omega (arith, c.requires.thermal_units) in
+    let within : g < MAX_UNITS = omega (arith, c.requires.lawful.thermal_units) in
     let size = subst (IsWithin MAX_ONWARD) c.in-Some.is c.in_ok-value.ensures.size in
     let value = subst (IsUnitValueOf instance root (zero_table instance) g) c.in-Some.is c.in_ok-value.ensures.value in
     let fits_value : FitsSigned w128 c.in-Some.value = search rules in

@@ -1,8 +1,8 @@
 use Rattle.std.proofs.Common.{◌≡◌, ◌*◌, ◌≤◌, unsigned_abs}
-use Rattle.dual_model.specs.Cover.{root}
+use Rattle.dual_model.specs.Tree.{root}
 use Rattle.state_walk.specs.Onward.{MAX_ONWARD}
 use Rattle.dual_model.specs.Opening.{zero_table}
-use Rattle.uc_cli.specs.Search.{IsUnitSum}
+use Rattle.uc_cli.specs.inside.Search.{IsUnitSum}
 use Rattle.uc_cli.proofs.search.evaluate.Given as goal
 
 abbrev pub invariant-loop-g : goal.invariant-loop-g

@@ -1,12 +1,14 @@
 -- The unit is the instance's, its terms are those at the table of no prices, and nothing is decided.
-use Rattle.std.proofs.Common.{◌≡◌, ◌<◌, ℕ, List, length, get_or, subst, sym, ◌∙◌, refl}
+use Rattle.std.proofs.Common.{◌≡◌, ◌<◌, ℕ, List, length, get_or, subst, sym, ◌∙◌, rules}
+use Rattle.std.specs.Int.{w64}
+use Rattle.std.proofs.lemmas.Int.{to_z-of_z}
 use Rattle.std.proofs.lemmas.List.{get_or_default}
 use Rattle.uc_model.specs.Limits.{IsLawfulThermal}
 use Rattle.uc_model.specs.Schedule.{no_unit}
 use Rattle.uc_model.specs.declared.instance.Thermal.{Thermal}
-use Rattle.dual_model.specs.Cover.{root}
-use Rattle.dual_model.specs.Opening.{zero_table}
-use Rattle.uc_cli.proofs.ZeroTable.{root_fix, zero_rows, zero_row_lawful}
+use Rattle.dual_model.specs.Tree.{root}
+use Rattle.dual_model.specs.Opening.{unpriced_table}
+use Rattle.uc_cli.proofs.UnpricedTables.{root_fix, zero_rows, zero_row_lawful}
 use Rattle.uc_cli.proofs.search.unit_value.Goals as goal
 
 is_unit : (units : List Thermal) (g : ℕ) (unit : Thermal) → g < length units → unit ≡ get_or units g unit → get_or units g no_unit ≡ unit
@@ -17,6 +19,11 @@ least-requires-clause-lawful c =
     let same = is_unit c.args.instance.now.thermal c.args.g c.index-as_slice-g.result c.requires.unit (rw (← c.as_slice.ensures) c.index-as_slice-g.is) in
     subst IsLawfulThermal same (c.requires.lawful.thermal c.args.g c.requires.unit)
 
+pub terms-requires-clause-lawful : goal.terms-requires-clause-lawful
+terms-requires-clause-lawful c =
+    let same = is_unit c.args.instance.now.thermal c.args.g c.index-as_slice-g.result c.requires.unit (rw (← c.as_slice.ensures) c.index-as_slice-g.is) in
+    subst IsLawfulThermal same (c.requires.lawful.thermal c.args.g c.requires.unit)
+
 pub terms-requires-clause-rows : goal.terms-requires-clause-rows
 terms-requires-clause-rows c = zero_row_lawful c.args.instance.now.periods c.args.prices.now c.requires.prices
 
@@ -24,7 +31,7 @@ pub returns-clause-value : goal.returns-clause-value
 returns-clause-value c =
     let instance = c.args.instance.now in
     let same = is_unit instance.thermal c.args.g c.index-as_slice-g.result c.requires.unit (rw (← c.as_slice.ensures) c.index-as_slice-g.is) in
-    c.least.ensures.unit_value instance root (zero_table instance) c.args.g same
-    (c.in_ok-unit_terms.ensures.at_table instance (zero_table instance) c.args.g same refl
-    (zero_rows instance c.args.g c.args.prices.now c.requires.prices))
+    c.least.ensures.unit_value instance root (unpriced_table instance c.args.k) c.args.g same
+    (c.in_ok-unit_terms.ensures.at_table instance (unpriced_table instance c.args.k) c.args.g same (to_z-of_z w64 c.args.k (search rules))
+    (zero_rows instance c.args.k c.args.g c.args.prices.now c.requires.prices))
     (root_fix instance.periods c.args.g c.nothing_fixed.result c.nothing_fixed.ensures)

@@ -1,17 +1,20 @@
-//! A run of `solve`, and the top call.
+//! A run of `solve`.
 
-ghost use Rattle.std.specs.Prelude.{◌≡◌, ◌≢◌, None, Some, IfOk, IfErr};
+ghost use Rattle.std.specs.Prelude.{◌≡◌, None, Some, IfOk, IfErr};
 ghost use Rattle.outside.specs.declared.slot.Slot.{Slot};
 ghost use Rattle.outside.specs.declared.slot.Slot.TheVariants as slot;
 ghost use Rattle.outside.specs.declared.slot.Stage.TheVariants.{Unopened};
 ghost use Rattle.outside.specs.Slots.{AllUnopened, SameBut};
-ghost use Rattle.branch_tree.specs.SearchResult.{IsSearchResult};
-ghost use Rattle.uc_cli.specs.Run.{HasCause, IsAnswer, IsOpenedByNoOther, IsDone, IsFailure, IsNamed};
+ghost use Rattle.outside.specs.Sinks.{SinkState};
+ghost use Rattle.uc_cli.specs.Reading.{HasCause, IsOpenedByNoOther, IsOnlyRead};
+ghost use Rattle.uc_cli.specs.Run.{outside_of, IsAnswer, IsDone, IsFailure, KeepsToFiles, IsSolveRun};
+ghost use Rattle.uc_cli.specs.inside.Asked.{solve_asked};
 
+use crate::command::Solve;
 use crate::input::read_instance;
-use crate::output::{save, tell};
+use crate::output::{DEFAULT_GAP, save, tell, tell_fault};
+use crate::program::End;
 use crate::search::search;
-use crate::words::Solve;
 use branch_tree::Found;
 use outside::{Files, Gate, Sink, Slot};
 use report::Fault;
@@ -21,17 +24,17 @@ use uc_model::{Instance, NoMemory};
 
 /// What was found for the instance of a file.
 #[derive(Drop)]
-pub(crate) struct Answer {
-    pub instance: Instance,
-    pub rounded: u64,
-    pub found: Found,
+struct Answer {
+    instance: Instance,
+    rounded: u64,
+    found: Found,
 }
 
 /// A fault that ends a run, and what was found before it.
 #[derive(Drop)]
-pub(crate) struct Failure {
-    pub fault: Fault,
-    pub found: Option<Found>,
+struct Failure {
+    fault: Fault,
+    found: Option<Found>,
 }
 
 // Reads the instance and searches.
@@ -47,6 +50,7 @@ fn find<R: Wait, F: Files, G: Gate>(
     ensures cause { IfErr result (HasCause asked.now.exact (F.state files.old slot.Instance) (F.state files.new slot.Instance)) }
     ensures calm { IfOk result (λ _. (F.state files.new slot.Instance).faults ≡ (F.state files.old slot.Instance).faults) }
     ensures named { IsOpenedByNoOther asked.now.instance.now (F.state files.old slot.Instance) (F.state files.new slot.Instance) }
+    ensures read { IsOnlyRead (F.state files.old slot.Instance) (F.state files.new slot.Instance) }
     ensures others { SameBut slot.Instance (F.state files.old) (F.state files.new) }
 {
     let (instance, rounded) = read_instance(alloc, files, asked.instance, asked.exact)?;
@@ -60,8 +64,8 @@ fn find<R: Wait, F: Files, G: Gate>(
     }
 }
 
-/// A run of `solve`: reads, searches, writes the certificate and then the report.
-pub(crate) fn solve<R: Wait, F: Files, O: Sink, G: Gate>(
+// Reads, searches, writes the certificate and then the report; the error output is as it may be.
+fn find_and_write<R: Wait, F: Files, O: Sink, G: Gate>(
     rt: &R,
     alloc: Global,
     asked: &Solve,
@@ -70,9 +74,12 @@ pub(crate) fn solve<R: Wait, F: Files, O: Sink, G: Gate>(
     gate: &G,
 ) -> Result<Found, Failure>
     requires { AllUnopened (F.state files.old) }
-    ensures done { IfOk result (IsDone asked.now.exact (F.state files.old) (F.state files.new) (O.state out.old) (O.state out.new)) }
-    ensures failed { IfErr result (λ f. IsFailure asked.now.exact (F.state files.old) (F.state files.new) (O.state out.old) (O.state out.new) f.fault f.found) }
-    ensures named { IsNamed (record { instance = asked.now.instance.now; certificate = asked.now.certificate.now; exact = asked.now.exact }) (F.state files.old) (F.state files.new) }
+    ensures done { (err_old err_new : SinkState) → IfOk result (IsDone asked.now.exact
+        (outside_of (F.state files.old) (O.state out.old) err_old) (outside_of (F.state files.new) (O.state out.new) err_new)) }
+    ensures failed { (err_old err_new : SinkState) → IfErr result (λ f. IsFailure asked.now.exact
+        (outside_of (F.state files.old) (O.state out.old) err_old) (outside_of (F.state files.new) (O.state out.new) err_new) f.fault f.found) }
+    ensures files { (err_old err_new : SinkState) → KeepsToFiles (solve_asked asked.now)
+        (outside_of (F.state files.old) (O.state out.old) err_old) (outside_of (F.state files.new) (O.state out.new) err_new) }
 {
     let answer = match find(rt, alloc, asked, files, gate) {
         Ok(answer) => answer,
@@ -91,4 +98,33 @@ pub(crate) fn solve<R: Wait, F: Files, O: Sink, G: Gate>(
         });
     }
     Ok(answer.found)
+}
+
+/// A run of `solve`: reads, searches, writes the certificate and then the report, or tells a fault.
+pub(crate) fn solve<R: Wait, F: Files, O: Sink, E: Sink, G: Gate>(
+    rt: &R,
+    alloc: Global,
+    asked: &Solve,
+    files: &mut F,
+    out: &mut O,
+    err: &mut E,
+    gate: &G,
+) -> End
+    requires { AllUnopened (F.state files.old) }
+    ensures { IsSolveRun (solve_asked asked.now) (outside_of (F.state files.old) (O.state out.old) (E.state err.old))
+        (outside_of (F.state files.new) (O.state out.new) (E.state err.new)) result }
+{
+    match find_and_write(rt, alloc, asked, files, out, gate) {
+        Ok(found) => End {
+            code: found.status(DEFAULT_GAP),
+            found: Some(found),
+        },
+        Err(failure) => {
+            tell_fault(err, &failure.fault);
+            End {
+                code: failure.fault.code(),
+                found: failure.found,
+            }
+        }
+    }
 }

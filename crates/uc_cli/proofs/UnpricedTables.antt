@@ -1,5 +1,5 @@
--- The table of no prices: it is lawful, its prices are 0, and the value of a node there is the sum of the unit
--- values.
+-- Tables at which every price is 0: the one of no prices is lawful, and the value of a node there is the sum of the
+-- unit values.
 use Rattle.std.proofs.Common.{◌≡◌, ℕ, zero, suc, ◌+◌, ◌*◌, ◌<◌, ◌≤◌, ◌⊎◌, ⊎_elim, false, List, length, get_or, replicate, refl, sym, ap, subst, ◌∙◌, arith, add-one, ℤ, pos, ◌+ℤ◌, ◌-ℤ◌, ◌*ℤ◌, neg_ℤ, ◌≤ℤ◌}
 use Rattle.std.specs.Prelude.{FitsSigned, unsigned_abs, ◌==◌, if◌then◌else◌, int_lt}
 use Rattle.std.specs.Int.{int_max, w128}
@@ -19,18 +19,17 @@ use Rattle.uc_model.proofs.Sums.{sum_below-zero, sum_below-same}
 use Rattle.uc_model.proofs.Tests.{all_below-from}
 use Rattle.dual_model.specs.Prices.{pi_at, mu_at, IsPrice, IsWellFormed, IsLawfulTable}
 use Rattle.dual_model.specs.Fixings.{IsFixOf, IsPatternAt, HasNoPattern}
-use Rattle.dual_model.specs.Cover.{root}
+use Rattle.dual_model.specs.Tree.{root}
 use Rattle.dual_model.specs.Term.{output_price, reserve_price}
 use Rattle.dual_model.specs.UnitValue.{IsUnitValue}
 use Rattle.dual_model.specs.NodeValue.{system_value, unit_constant, renewable_value, renewables_value, IsNodeValue}
 use Rattle.dual_model.specs.declared.node.Fix.{Fix}
 use Rattle.dual_model.specs.declared.node.Node.{Node}
 use Rattle.dual_model.specs.declared.table.Table.{Table}
-use Rattle.branch_tree.specs.SearchResult.{IsFirstEmpty}
 use Rattle.state_walk.specs.Onward.{MAX_ONWARD}
 use Rattle.state_walk.specs.TableValue.{row_at, IsLawfulRow, AreRowsOf}
-use Rattle.dual_model.specs.Opening.{zero_table}
-use Rattle.uc_cli.specs.Search.{IsUnitSum}
+use Rattle.dual_model.specs.Opening.{ZERO_SCALE, unpriced_table, zero_table}
+use Rattle.uc_cli.specs.inside.Search.{HasEachPattern, IsUnitSum}
 
 -- a list of zeros is 0 everywhere
 zeros_at : (n t : ℕ) → get_or (replicate n (pos 0)) t (pos 0) ≡ pos 0
@@ -40,17 +39,17 @@ zeros_at n t =
     (λ (past : n ≤ t). get_or_past (replicate n (pos 0)) t (pos 0) (omega (arith, length-replicate {A = ℤ} n (pos 0))))
     (cases_lt t n)
 
-pub pi_at-zero : (instance : Instance) (t : ℕ) → pi_at (zero_table instance) t ≡ pos 0
-pi_at-zero instance t = zeros_at instance.periods t
+pub pi_at-zero : (instance : Instance) (k : ℤ) (t : ℕ) → pi_at (unpriced_table instance k) t ≡ pos 0
+pi_at-zero instance k t = zeros_at instance.periods t
 
-pub mu_at-zero : (instance : Instance) (t : ℕ) → mu_at (zero_table instance) t ≡ pos 0
-mu_at-zero instance t = zeros_at instance.periods t
+pub mu_at-zero : (instance : Instance) (k : ℤ) (t : ℕ) → mu_at (unpriced_table instance k) t ≡ pos 0
+mu_at-zero instance k t = zeros_at instance.periods t
 
-pub output_price-zero : (instance : Instance) (g t : ℕ) → output_price (zero_table instance) g t ≡ pos 0
-output_price-zero instance g t = let none = pi_at-zero instance t in omega (arith, linear)
+pub output_price-zero : (instance : Instance) (k : ℤ) (g t : ℕ) → output_price (unpriced_table instance k) g t ≡ pos 0
+output_price-zero instance k g t = let none = pi_at-zero instance k t in omega (arith, linear)
 
-pub reserve_price-zero : (instance : Instance) (g t : ℕ) → reserve_price (zero_table instance) g t ≡ pos 0
-reserve_price-zero instance g t = let none = mu_at-zero instance t in omega (arith, linear)
+pub reserve_price-zero : (instance : Instance) (k : ℤ) (g t : ℕ) → reserve_price (unpriced_table instance k) g t ≡ pos 0
+reserve_price-zero instance k g t = let none = mu_at-zero instance k t in omega (arith, linear)
 
 pub zero_form : (instance : Instance) → IsWellFormed (zero_table instance)
 zero_form instance = record {
@@ -136,7 +135,7 @@ system_value-zero : (instance : Instance) → system_value instance (zero_table 
 system_value-zero instance =
     sum_below-zero instance.periods _
     (λ t h. unpriced (pi_at (zero_table instance) t) (mu_at (zero_table instance) t) (demand_at instance t) (reserve_at instance t)
-    (pi_at-zero instance t) (mu_at-zero instance t))
+    (pi_at-zero instance ZERO_SCALE t) (mu_at-zero instance ZERO_SCALE t))
 
 unit_constant-zero : (instance : Instance) (unit : Thermal) (g : ℕ) → unit_constant instance.periods (zero_table instance) unit g ≡ pos 0
 unit_constant-zero instance unit g =
@@ -146,7 +145,7 @@ unit_constant-zero instance unit g =
 renewable_value-zero : (instance : Instance) (w t : ℕ) → renewable_value instance (zero_table instance) w t ≡ pos 0
 renewable_value-zero instance w t =
     unpriced_renewable (pi_at (zero_table instance) t) (int_max (renewable_minimum instance w t) (pos 0))
-    (renewable_maximum instance w t) (pi_at-zero instance t)
+    (renewable_maximum instance w t) (pi_at-zero instance ZERO_SCALE t)
 
 renewables_value-zero : (instance : Instance) → renewables_value instance (zero_table instance) ≡ pos 0
 renewables_value-zero instance =
@@ -176,13 +175,13 @@ row-zero : (n t : ℕ) (rows : List (ℤ × ℤ × ℤ)) → rows ≡ replicate 
 row-zero n t rows zeros h =
     ap (λ xs. row_at xs t) zeros ∙ get_or-replicate n t (pos 0, pos 0, pos 0) (pos 0, pos 0, pos 0) h
 
-pub zero_rows : (instance : Instance) (g : ℕ) (rows : List (ℤ × ℤ × ℤ)) → rows ≡ replicate instance.periods (pos 0, pos 0, pos 0)
-    → AreRowsOf instance (zero_table instance) g rows
-zero_rows instance g rows zeros = record {
+pub zero_rows : (instance : Instance) (k : ℤ) (g : ℕ) (rows : List (ℤ × ℤ × ℤ)) → rows ≡ replicate instance.periods (pos 0, pos 0, pos 0)
+    → AreRowsOf instance (unpriced_table instance k) g rows
+zero_rows instance k g rows zeros = record {
   periods = ap length zeros ∙ length-replicate instance.periods (pos 0, pos 0, pos 0);
-  output = λ t h. ap (λ (p : ℤ × ℤ × ℤ). p.0) (row-zero instance.periods t rows zeros h) ∙ sym (output_price-zero instance g t);
-  reserve = λ t h. ap (λ (p : ℤ × ℤ × ℤ). p.1) (row-zero instance.periods t rows zeros h) ∙ sym (reserve_price-zero instance g t);
-  demand = λ t h. ap (λ (p : ℤ × ℤ × ℤ). p.2) (row-zero instance.periods t rows zeros h) ∙ sym (pi_at-zero instance t);
+  output = λ t h. ap (λ (p : ℤ × ℤ × ℤ). p.0) (row-zero instance.periods t rows zeros h) ∙ sym (output_price-zero instance k g t);
+  reserve = λ t h. ap (λ (p : ℤ × ℤ × ℤ). p.1) (row-zero instance.periods t rows zeros h) ∙ sym (reserve_price-zero instance k g t);
+  demand = λ t h. ap (λ (p : ℤ × ℤ × ℤ). p.2) (row-zero instance.periods t rows zeros h) ∙ sym (pi_at-zero instance k t);
 }
 
 pub zero_row_lawful : (n : ℕ) (rows : List (ℤ × ℤ × ℤ)) → rows ≡ replicate n (pos 0, pos 0, pos 0)
@@ -199,20 +198,18 @@ pub unit_sum-more : (instance : Instance) (node : Node) (table : Table) (n : ℕ
 unit_sum-more instance node table n before v earlier unit =
     rw add-one (before, v, earlier, unit, refl)
 
--- a unit whose value is in the sum has a pattern
-has_pattern : (instance : Instance) (node : Node) (table : Table) (n : ℕ) (total : ℤ) → IsUnitSum instance node table n total
-    → (g : ℕ) → g < n → ¬ HasNoPattern instance node g
-has_pattern instance node table zero total s g h = absurd (omega arith)
-has_pattern instance node table (suc n) total s g h = λ empty.
-    ⊎_elim
-    (λ (below : g < n). has_pattern instance node table n s.0 s.2 g below empty)
-    (λ (last : g ≡ n). empty s.3.on (subst (λ k. IsPatternAt instance node k s.3.on) (sym last) s.3.best.pattern))
-    (below_or_last n g h)
+-- ---- the patterns as they are found
+-- a unit with a value has a pattern
+has_pattern : (instance : Instance) (table : Table) (g : ℕ) (v : ℤ) → IsUnitValue instance root table g v → ¬ HasNoPattern instance root g
+has_pattern instance table g v value = λ none. none value.on value.best.pattern
 
-pub first_empty : (instance : Instance) (node : Node) (table : Table) (n : ℕ) (total : ℤ) → IsUnitSum instance node table n total
-    → n < thermal_count instance → HasNoPattern instance node n → IsFirstEmpty instance node n
-first_empty instance node table n total s within empty =
-    record { within = within; empty = empty; first = has_pattern instance node table n total s }
+pub patterns-more : (instance : Instance) (table : Table) (n : ℕ) (v : ℤ) → HasEachPattern instance n
+    → IsUnitValue instance root table n v → HasEachPattern instance (n + 1)
+patterns-more instance table n v each value g h =
+    ⊎_elim
+    (λ (below : g < n). each g below)
+    (λ (last : g ≡ n). subst (λ k. ¬ HasNoPattern instance root k) (sym last) (has_pattern instance table n v value))
+    (below_or_last n g (omega arith))
 
 -- the sum of at most 4096 unit values stays far below the ends of 128 bits
 pub sum_fits : (g : ℕ) (total v : ℤ) → g < MAX_UNITS → unsigned_abs total ≤ g * MAX_ONWARD → unsigned_abs v ≤ MAX_ONWARD

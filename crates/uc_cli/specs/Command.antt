@@ -1,5 +1,6 @@
--- The words of the command line. This project's own commands.
+-- What the words of the command line ask for. This project's own commands.
 use Rattle.std.specs.Prelude.{ℕ, Bool, false, not, ◌&&◌, ◌||◌, ◌==◌, List, [], ◌∷◌, Option, Some, None, codes, length, slice_index_or, if◌then◌else◌}
+use Rattle.std.specs.Option.{option_map}
 use Rattle.std.specs.Str.{bytes_eq}
 
 -- what `solve` is asked: the instance's file, the certificate's, and whether a rounded number is refused
@@ -7,6 +8,10 @@ pub record Solve : Type 0 where
   pub instance : List ℕ
   pub certificate : List ℕ
   pub exact : Bool
+
+-- what the program does
+pub data Command : Type 0 where
+  Solves : Solve → Command
 
 -- a word that names a file: not empty, and no option
 abbrev pub is_name : List ℕ → Bool
@@ -35,3 +40,7 @@ abbrev pub solve_of : List (List ℕ) → Option Solve
 solve_of words =
     if is_complete words && is_solve words
     then Some (record { instance = word_at words 2; certificate = word_at words 4; exact = length words == 8 }) else None
+
+-- the command that the words ask for, and none where they ask for nothing that the program does
+abbrev pub command_of : List (List ℕ) → Option Command
+command_of words = option_map Solves (solve_of words)

@@ -1,7 +1,8 @@
-//! The words of the command line.
+//! What the words of the command line ask for.
 
 ghost use Rattle.std.specs.Prelude.{◌≡◌, ◌<◌, ◌≤◌, map, length, string_bytes, IsTrue, MatchOption, Some};
-ghost use Rattle.uc_cli.specs.Words.{word_at, is_word, is_name, is_solve as is_solve_words, is_complete as is_complete_words, solve_of};
+ghost use Rattle.uc_cli.specs.Command.{word_at, is_word, is_name, is_solve as is_solve_words, is_complete as is_complete_words, command_of, Solves};
+ghost use Rattle.uc_cli.specs.inside.Asked.{solve_asked};
 
 /// What `solve` is asked: the file of the instance, that of the certificate, and whether a rounded number
 /// is refused.
@@ -37,7 +38,7 @@ fn has_name(words: &[String], place: usize) -> bool
     }
 }
 
-#[tactic(auto, unfolding(crate::specs::Words::is_solve))]
+#[tactic(auto, unfolding(crate::specs::Command::is_solve))]
 fn is_solve(words: &[String]) -> bool
     requires { 7 ≤ length words.now }
     ensures { result ≡ is_solve_words (map string_bytes words.now) }
@@ -51,7 +52,7 @@ fn is_solve(words: &[String]) -> bool
     command && instance && option && certificate && units && number
 }
 
-#[tactic(auto, unfolding(crate::specs::Words::is_complete))]
+#[tactic(auto, unfolding(crate::specs::Command::is_complete))]
 fn is_complete(words: &[String]) -> bool
     ensures value { result ≡ is_complete_words (map string_bytes words.now) }
     ensures long { IsTrue result → 7 ≤ length words.now }
@@ -63,12 +64,11 @@ fn is_complete(words: &[String]) -> bool
     }
 }
 
-/// The words after the program's name, where they are `solve FILE --cert CERT --units 1` or these with
-/// `--exact` behind them.
-pub(crate) fn solve_words(words: &[String]) -> Option<Solve<'_>>
-    ensures { MatchOption result (solve_of (map string_bytes words.now) ≡ None)
-        (λ solve. solve_of (map string_bytes words.now)
-        ≡ Some (record { instance = solve.instance.now; certificate = solve.certificate.now; exact = solve.exact })) }
+/// What `solve` is asked, where the words are `solve FILE --cert CERT --units 1` or these with `--exact`
+/// behind them. No other words are a command yet.
+pub(crate) fn solve_of(words: &[String]) -> Option<Solve<'_>>
+    ensures { MatchOption result (command_of (map string_bytes words.now) ≡ None)
+        (λ solve. command_of (map string_bytes words.now) ≡ Some (Solves (solve_asked solve))) }
 {
     if !is_complete(words) || !is_solve(words) {
         return None;

@@ -1,0 +1,3 @@
+-- Definitions that only private calls cite.
+pub mod Asked
+pub mod Search
