@@ -10,6 +10,3 @@ mod solve;
 
 pub use outside::{SlurpFault, slurp};
 pub use program::{End, uc};
-
-#[cfg(test)]
-mod tests;
