@@ -98,7 +98,7 @@ allowed_cost_fits unit on (suc s) t lawful h =
     (λ rest. let l = ltb-true (suc s) (category_count unit) (and_parts (nat_lt (suc s) (category_count unit)) _ rest).0 in omega arith)
     (or_cases (suc s == category_count unit) _ h)))
 
-category_cost_fits : (unit : Thermal) (row : Row) (t : ℕ) → IsLawfulThermal unit
+pub category_cost_fits : (unit : Thermal) (row : Row) (t : ℕ) → IsLawfulThermal unit
     → IsTrue (category_holds_at unit row.on row.category t) → IsWithin (pos MAX_COST) (category_cost unit (row.category t))
 category_cost_fits unit row t lawful h =
     ⊎_elim

@@ -9,3 +9,5 @@ pub mod Obeyed
 pub mod StartCosts
 pub mod MinimumTimes
 pub mod CostBound
+pub mod HullPoints
+pub mod PrintedCosts

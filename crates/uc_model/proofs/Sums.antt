@@ -94,6 +94,28 @@ sum_below-single (suc n) f k l e = ⊎_elim
     omega (arith, linear))
     (below_or_last n k l)
 
+-- two terms that are not 0
+pub sum_below-pair : (n : ℕ) (f : ℕ → ℤ) (i j : ℕ) → i < n → j < n → i ≢ j
+    → ((k : ℕ) → k < n → k ≢ i → k ≢ j → f k ≡ pos 0) → sum_below n f ≡ f i +ℤ f j
+sum_below-pair zero f i j h l apart none = absurd (omega arith)
+sum_below-pair (suc n) f i j h l apart none = ⊎_elim
+    (λ (before : i < n).
+    ⊎_elim
+    (λ (less : j < n).
+    let earlier = sum_below-pair n f i j before less apart (λ k m. none k (omega arith)) in
+    let rest : f n ≡ pos 0 = none n (omega arith) (omega arith) (omega arith) in
+    omega (arith, linear))
+    (λ (last : j ≡ n).
+    let first = sum_below-single n f i before (λ k m other. none k (omega arith) other (omega arith)) in
+    let same = ap f last in
+    omega (arith, linear))
+    (below_or_last n j l))
+    (λ (end : i ≡ n).
+    let second = sum_below-single n f j (omega arith) (λ k m other. none k (omega arith) (omega arith) other) in
+    let same = ap f end in
+    omega (arith, linear))
+    (below_or_last n i h)
+
 -- differences of neighbours telescope
 pub sum_below-telescope : (n : ℕ) (f : ℕ → ℤ) → sum_below n (λ k. f (suc k) -ℤ f k) ≡ f n -ℤ f 0
 sum_below-telescope zero f = omega (arith, linear)

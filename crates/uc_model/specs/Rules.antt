@@ -99,16 +99,58 @@ holds_at Demand instance q x _ t = int_eq (supply_at instance q x t) (pos q *ℤ
 -- M15: the sum of r is at least R(t)
 holds_at Reserve instance q x _ t = int_le (pos q *ℤ reserve_at instance t) (reserve_supply_at instance x t)
 
+-- the number n of the rule's name Mn
+abbrev pub rule_number : Rule → ℕ
+rule_number MustRun = 1
+rule_number InitialUp = 2
+rule_number InitialDown = 3
+rule_number MinimumUp = 4
+rule_number MinimumDown = 5
+rule_number Category = 6
+rule_number InitialStop = 7
+rule_number Production = 8
+rule_number StartCap = 9
+rule_number StopCap = 10
+rule_number RampUp = 11
+rule_number RampDown = 12
+rule_number RenewableRange = 13
+rule_number Demand = 14
+rule_number Reserve = 15
+
 -- how many units and periods a rule speaks of
 abbrev pub rule_units : Rule → Instance → ℕ
+rule_units MustRun instance = thermal_count instance
+rule_units InitialUp instance = thermal_count instance
+rule_units InitialDown instance = thermal_count instance
+rule_units MinimumUp instance = thermal_count instance
+rule_units MinimumDown instance = thermal_count instance
+rule_units Category instance = thermal_count instance
+rule_units InitialStop instance = thermal_count instance
+rule_units Production instance = thermal_count instance
+rule_units StartCap instance = thermal_count instance
+rule_units StopCap instance = thermal_count instance
+rule_units RampUp instance = thermal_count instance
+rule_units RampDown instance = thermal_count instance
 rule_units RenewableRange instance = renewable_count instance
 rule_units Demand instance = 1
 rule_units Reserve instance = 1
-rule_units _ instance = thermal_count instance
 
 abbrev pub rule_periods : Rule → Instance → ℕ
+rule_periods MustRun instance = instance.periods
+rule_periods InitialUp instance = instance.periods
+rule_periods InitialDown instance = instance.periods
+rule_periods MinimumUp instance = instance.periods
+rule_periods MinimumDown instance = instance.periods
+rule_periods Category instance = instance.periods
 rule_periods InitialStop instance = 1
-rule_periods _ instance = instance.periods
+rule_periods Production instance = instance.periods
+rule_periods StartCap instance = instance.periods
+rule_periods StopCap instance = instance.periods
+rule_periods RampUp instance = instance.periods
+rule_periods RampDown instance = instance.periods
+rule_periods RenewableRange instance = instance.periods
+rule_periods Demand instance = instance.periods
+rule_periods Reserve instance = instance.periods
 
 -- the rule holds everywhere
 abbrev pub holds : Rule → Instance → ℕ → Schedule → Bool

@@ -1,7 +1,7 @@
 -- Schedules: rational dispatch as whole numerators over one denominator q >= 1. Source: the variables
 -- of the reference model by Knueven, Ostrowski and Watson, with the piecewise production cost as
 -- weights on a unit's points.
-use Rattle.std.specs.Prelude.{ℕ, zero, suc, Bool, false, [], ℤ, pos, ◌-ℤ◌, ◌*ℤ◌, length, slice_index_or}
+use Rattle.std.specs.Prelude.{ℕ, zero, suc, Bool, false, [], ℤ, pos, ◌*ℤ◌, length, slice_index_or}
 use Rattle.uc_model.specs.Points.{point_of, output_of, weighted_total, weighted_output}
 use Rattle.uc_model.specs.Commitment.{initial_p}
 use Rattle.uc_model.specs.declared.instance.Thermal.{Thermal}

@@ -1,15 +1,16 @@
 //! Worked examples of the definitions, as contracts: the check computes each of them.
 
-ghost use Rattle.std.specs.Prelude.{◌≡◌, List, [], ◌∷◌, true, false, Some, pos, neg_ℤ};
+ghost use Rattle.std.specs.Prelude.{◌≡◌, List, [], ◌∷◌, true, false, Some, map, pos, neg_ℤ};
 ghost use Rattle.uc_model.specs.Sums.{all_below};
 ghost use Rattle.uc_model.specs.Commitment.{cap};
 ghost use Rattle.uc_model.specs.StartCategory.{is_category_allowed, sigma};
-ghost use Rattle.uc_model.specs.Rules.{Rule, RampDown, StopCap};
+ghost use Rattle.uc_model.specs.Rules.{Rule, RampDown, StopCap, rule_number};
 ghost use Rattle.uc_model.specs.Hull.{segment_at, hull_cost};
-ghost use Rattle.uc_model.specs.Examples.{mw, dollars, obeying, breaking, broken_rules, two_category_unit, on_off_on, uneven_unit, one_stop, two_stops, weak_start_unit, pattern, stopping, printed_cost_of, bent_unit, rising_unit, falling_unit, rule_at_period, ramp_down_between_on_periods, stop_cap_in_stop_period};
+ghost use Rattle.uc_model.specs.Examples.{mw, dollars, obeying, breaking, all_rules, broken_rules, two_category_unit, on_off_on, uneven_unit, one_stop, two_stops, weak_start_unit, pattern, stopping, printed_cost_of, bent_unit, rising_unit, falling_unit, rule_at_period, ramp_down_between_on_periods, stop_cap_in_stop_period};
 
 /// For each rule there is a schedule that breaks it and no other rule, and there is one that obeys all.
 pub fn each_rule_is_told_apart()
+    ensures numbers { map rule_number all_rules ≡ 1 ∷ 2 ∷ 3 ∷ 4 ∷ 5 ∷ 6 ∷ 7 ∷ 8 ∷ 9 ∷ 10 ∷ 11 ∷ 12 ∷ 13 ∷ 14 ∷ 15 ∷ [] }
     ensures obeying { broken_rules obeying ≡ [] }
     ensures breaking { (rule : Rule) → broken_rules (breaking rule) ≡ rule ∷ [] }
 {}
@@ -32,10 +33,11 @@ pub fn start_categories_by_example()
 /// A cap below 0, and the hull's value and segment where the points aren't convex or the value isn't whole.
 pub fn caps_and_hulls_by_example()
     ensures cap { cap 1 weak_start_unit (pattern (true ∷ [])) 0 ≡ neg_ℤ (mw 5) }
-    ensures bent { hull_cost bent_unit (mw 10) ≡ dollars 60 }
-    ensures segment { segment_at bent_unit (mw 10) ≡ Some (record { left = 0; right = 2 }) }
-    ensures rounded_up { hull_cost rising_unit (pos 1) ≡ pos 1 }
-    ensures rounded_to_zero { hull_cost falling_unit (pos 2) ≡ pos 0 }
+    ensures bent { hull_cost bent_unit.points 1 (mw 10) ≡ dollars 60 }
+    ensures segment { segment_at bent_unit.points 1 (mw 10) ≡ Some (record { left = 0; right = 2 }) }
+    ensures halves { hull_cost bent_unit.points 2 (mw 15) ≡ dollars 45 }
+    ensures rounded_up { hull_cost rising_unit.points 1 (pos 1) ≡ pos 1 }
+    ensures rounded_to_zero { hull_cost falling_unit.points 1 (pos 2) ≡ pos 0 }
 {}
 
 /// Ramps hold in the hour of a stop too, and the shut-down limit counts in the hour before it.

@@ -1,15 +1,19 @@
 //! Laws of the model, each the contract of a function with an empty body.
 
-ghost use Rattle.std.specs.Prelude.{◌≡◌, ℕ, ◌*◌, ◌<◌, ◌≤◌, pos, ◌≤ℤ◌, ◌<ℤ◌, ℤ, Bool, IsTrue, not, ◌&&◌, unsigned_abs};
+ghost use Rattle.std.specs.Prelude.{◌≡◌, ℕ, ◌*◌, ◌^◌, ◌<◌, ◌≤◌, pos, ◌*ℤ◌, ◌≤ℤ◌, ◌<ℤ◌, ℤ, Bool, IsTrue, not, ◌&&◌, unsigned_abs};
 ghost use Rattle.uc_model.specs.Division.{IsCeiling, quotient_up};
 ghost use Rattle.uc_model.specs.Commitment.{Commitment, state_before, starts, is_allowed, cap, KeepsMinimumTimes};
+ghost use Rattle.uc_model.specs.PatternBits.{commitment_of};
 ghost use Rattle.uc_model.specs.StartCategory.{is_category_allowed, category_cost, last_stop, sigma};
 ghost use Rattle.uc_model.specs.Schedule.{Schedule, thermal_unit, thermal_count};
 ghost use Rattle.uc_model.specs.Rules.{Obeys};
 ghost use Rattle.uc_model.specs.Cost.{cost};
+ghost use Rattle.uc_model.specs.PrintedSchedule.{printed_denominator, printed_schedule, printed_cost};
 ghost use Rattle.uc_model.specs.Limits.{IsLawfulInstance, COST_MAX};
 ghost use Rattle.uc_model.specs.declared.instance.Instance.{Instance};
 ghost use Rattle.uc_model.specs.declared.instance.Thermal.{Thermal};
+ghost use Rattle.uc_model.specs.declared.pattern.Pattern.{Pattern};
+ghost use Rattle.uc_model.specs.declared.schedule.Printed.{Printed};
 
 /// With minimum times of at least 1, M4 and M5 exclude a start and a stop in one period, also where starts
 /// `up` and stops `down` are variables of their own as in the reference model; so both follow from the state.
@@ -23,6 +27,12 @@ pub fn starts_and_stops_follow_from_the_state()
     ensures stops { (initial : Bool) (on up down : Commitment) (periods time_up time_down : ℕ)
         → 1 ≤ time_up → 1 ≤ time_down → KeepsMinimumTimes initial on up down periods time_up time_down
         → (t : ℕ) → t < periods → down t ≡ (state_before initial on t && not (on t)) }
+{}
+
+/// A pattern is told by its periods: two that are on in the same ones are equal, bits past the periods included.
+pub fn patterns_are_told_by_their_periods()
+    ensures { (a b : Pattern) → a.low < 2 ^ 128 → b.low < 2 ^ 128 → a.high < 2 ^ 64 → b.high < 2 ^ 64
+        → ((t : ℕ) → commitment_of a t ≡ commitment_of b t) → a ≡ b }
 {}
 
 /// A schedule that obeys has a cap of at least 0 in each period of each unit, so its commitments are
@@ -40,6 +50,16 @@ pub fn obeying_commitments_are_allowed()
 pub fn costs_fit()
     ensures { (instance : Instance) (q : ℕ) (x : Schedule) → IsLawfulInstance instance
         → Obeys instance q x → unsigned_abs (cost instance q x) ≤ q * COST_MAX }
+{}
+
+/// A printed schedule that obeys costs at most its printed cost, which is at most `COST_MAX` micro-dollars in size.
+pub fn printed_costs_are_upper_bounds()
+    ensures bound { (instance : Instance) (printed : Printed) → IsLawfulInstance instance
+        → (let q = printed_denominator instance printed in let x = printed_schedule instance printed q in
+        Obeys instance q x → cost instance q x ≤ℤ (pos q *ℤ printed_cost instance printed)) }
+    ensures fits { (instance : Instance) (printed : Printed) → IsLawfulInstance instance
+        → (let q = printed_denominator instance printed in Obeys instance q (printed_schedule instance printed q))
+        → unsigned_abs (printed_cost instance printed) ≤ COST_MAX }
 {}
 
 /// The least start cost by the last stop is never above the cost of a category that M6 allows at a start.

@@ -1,5 +1,7 @@
 //! The limits on an instance's numbers.
 
+ghost use Rattle.std.specs.Prelude.{◌≡◌, ◌*◌, ◌^◌};
+
 /// The most periods.
 pub const MAX_PERIODS: u32 = 168;
 
@@ -24,3 +26,15 @@ pub const MAX_TIME: u32 = 1_000_000;
 /// The greatest size of a schedule's cost, in micro-dollars: that of an hour and a start in each period of
 /// each unit. It fits an `i64`.
 pub const COST_MAX: u64 = 6_881_280_000_000_000_000;
+
+/// A law, with nothing to run: the limits as numbers.
+pub fn limits_are_these()
+    ensures periods { MAX_PERIODS ≡ 168 }
+    ensures units { MAX_UNITS ≡ 4096 }
+    ensures points { MAX_POINTS ≡ 64 }
+    ensures start_rows { MAX_START_ROWS ≡ 16 }
+    ensures power { MAX_POWER ≡ 10 ^ 13 }
+    ensures cost { MAX_COST ≡ 5 * 10 ^ 12 }
+    ensures time { MAX_TIME ≡ 10 ^ 6 }
+    ensures schedule { COST_MAX ≡ 4096 * 168 * (10 ^ 13) }
+{}

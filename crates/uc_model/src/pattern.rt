@@ -40,7 +40,7 @@ impl Pattern {
     pub fn switch_on(&mut self, period: u32)
         requires { period < MAX_PERIODS }
         ensures switched { commitment_of self.new period ≡ true }
-        ensures others { (t : ℕ) → t ≢ period → t < MAX_PERIODS → commitment_of self.new t ≡ commitment_of self.old t }
+        ensures others { (t : ℕ) → t ≢ period → commitment_of self.new t ≡ commitment_of self.old t }
     {
         if period < LOW_PERIODS {
             self.low |= 1 << period;

@@ -13,7 +13,7 @@ returns-then-period-lt-LOW_PERIODS-clause-switched c =
     ∙ eq-eqb _ 1 (bit_at_set_same w128 c.args.self.now.low c.args.period c.if-period-lt-LOW_PERIODS.true)
 
 pub returns-then-period-lt-LOW_PERIODS-clause-others : goal.returns-then-period-lt-LOW_PERIODS-clause-others
-returns-then-period-lt-LOW_PERIODS-clause-others c = λ t apart within.
+returns-then-period-lt-LOW_PERIODS-clause-others c = λ t apart.
     ⊎_elim
     (λ (low : t < 128).
     commitment-low _ t low
@@ -28,7 +28,7 @@ returns-else-period-lt-LOW_PERIODS-clause-switched c =
     ∙ eq-eqb _ 1 (bit_at_set_same w64 c.args.self.now.high (c.args.period - 128) (omega arith))
 
 pub returns-else-period-lt-LOW_PERIODS-clause-others : goal.returns-else-period-lt-LOW_PERIODS-clause-others
-returns-else-period-lt-LOW_PERIODS-clause-others c = λ t apart within.
+returns-else-period-lt-LOW_PERIODS-clause-others c = λ t apart.
     ⊎_elim
     (λ (low : t < 128). commitment-low _ t low ∙ sym (commitment-low _ t low))
     (λ (high : 128 ≤ t).
