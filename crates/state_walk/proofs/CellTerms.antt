@@ -10,7 +10,7 @@ use Rattle.dual_model.proofs.Terms.{pair_least, corner_least, greatest_bound, le
 use Rattle.state_walk.specs.declared.limits.TheConstants.{MAX_UNIT_PRICE, MAX_TERM}
 use Rattle.state_walk.specs.Corners.{IsLawfulCell, point_cost, room, least_corner, MAX_ROOM, MAX_POINT_COST}
 use Rattle.state_walk.proofs.CornerCosts.{room-size, point_cost-size}
-use Rattle.state_walk.proofs.Magnitudes.{abs_add, abs_mul}
+use Rattle.uc_model.proofs.Sizes.{abs_add, abs_mul}
 
 pub least_corner-term : (points : List Point) (k a b cap : ℤ) → 0 < length points → pos 0 ≤ℤ cap
     → IsTerm points k a b cap (least_corner points k a b cap)

@@ -1,7 +1,7 @@
 -- The numbers of a cell's corners: their sizes, and the cost of a pair with the output's price taken out of the quotient.
-use Rattle.std.proofs.Common.{◌≡◌, ℕ, ◌*◌, ◌<◌, ◌≤◌, ◌^◌, List, length, sym, ap, subst, arith, ℤ, pos, ◌+ℤ◌, ◌-ℤ◌, ◌*ℤ◌, neg_ℤ, ◌≤ℤ◌, ◌<ℤ◌}
+use Rattle.std.proofs.Common.{◌≡◌, ℕ, ◌+◌, ◌*◌, ◌<◌, ◌≤◌, ◌^◌, List, length, sym, ap, subst, ◌∙◌, arith, lit<, to_z, of_z, ℤ, pos, ◌+ℤ◌, ◌-ℤ◌, ◌*ℤ◌, neg_ℤ, ◌≤ℤ◌, ◌<ℤ◌}
 use Rattle.std.specs.Prelude.{unsigned_abs}
-use Rattle.std.specs.Int.{int_div_euclid}
+use Rattle.std.specs.Int.{w64, w128, int_div_euclid}
 use Rattle.std.proofs.lemmas.Int.{ints, by_lt_z}
 use Rattle.uc_model.specs.Division.{IsFloor}
 use Rattle.uc_model.specs.Points.{point_of, output_of}
@@ -9,7 +9,7 @@ use Rattle.uc_model.specs.declared.instance.Point.{Point}
 use Rattle.uc_model.specs.declared.limits.TheConstants.{MAX_POWER, MAX_COST}
 use Rattle.uc_model.proofs.Ring.{linear, spread, mul_comm, mul_assoc, mul_left_comm, mul-one, one-mul, add-mul, mul-le-mul_left, mul-le-mul_turned}
 use Rattle.uc_model.proofs.Quotients.{IsFloor-int_div_euclid, IsFloor-add, IsFloor_unique}
-use Rattle.state_walk.proofs.Magnitudes.{abs_add, abs_sub, abs_mul}
+use Rattle.uc_model.proofs.Sizes.{abs_add, abs_sub, abs_mul, wide, narrow, from-size, product-size, product-is, difference-size, difference-is, scaled-size, floor-size}
 use Rattle.state_walk.specs.declared.limits.TheConstants.{MAX_UNIT_PRICE, MAX_CAP}
 use Rattle.state_walk.specs.Corners.{IsLawfulCell, point_cost, room, weighted_cost, pair_cost, MAX_ROOM, MAX_POINT_COST, MAX_WEIGHTED}
 
@@ -78,31 +78,50 @@ pair_cost-from points k a cap l j q positive floor =
     IsFloor_unique whole width (q +ℤ a *ℤ cap) (int_div_euclid whole width) positive
     (subst (λ z. IsFloor z width (q +ℤ a *ℤ cap)) (sym spread_out) more) (IsFloor-int_div_euclid whole width positive)
 
--- a floor is no greater in size than the number
-pub floor-size : (n d q : ℤ) (m : ℕ) → pos 0 <ℤ d → IsFloor n d q → unsigned_abs n ≤ m → unsigned_abs q ≤ m
-floor-size n d q m positive floor h = by_lt_z q (pos 0) below above
+-- ---- what the calls give
+-- the width of a pair
+pub width-is : (points : List Point) (cap : ℤ) (l j : ℕ) (left right width : ℤ) → width ≡ to_z w128 (of_z w128 left) -ℤ to_z w128 (of_z w128 right)
+    → left ≡ room points cap l → right ≡ room points cap j → unsigned_abs left ≤ MAX_ROOM → unsigned_abs right ≤ MAX_ROOM
+    → to_z w128 (of_z w128 width) ≡ room points cap l -ℤ room points cap j
+width-is points cap l j left right width e first second h k =
+    wide width (MAX_ROOM + MAX_ROOM) (difference-size left right width MAX_ROOM MAX_ROOM e h k) (lit< tt)
+    ∙ difference-is left right width MAX_ROOM MAX_ROOM e h k (lit< tt) ∙ (λ i. first i -ℤ second i)
+
+pub width-positive : (points : List Point) (cap : ℤ) (l j : ℕ) → pos 0 ≤ℤ room points cap l → room points cap j <ℤ pos 0
+    → pos 0 <ℤ (room points cap l -ℤ room points cap j)
+width-positive points cap l j h k = apart (room points cap l) (room points cap j) h k
   where
-    one_or_more : pos 1 ≤ℤ d
-    one_or_more = omega (arith, linear)
+    apart : (a b : ℤ) → pos 0 ≤ℤ a → b <ℤ pos 0 → pos 0 <ℤ (a -ℤ b)
+    apart a b h k = omega (arith, linear)
 
-    low : (q *ℤ d) ≤ℤ n
-    low = floor.below
+-- the number that is divided by it
+pub weighted-is : (points : List Point) (k cap : ℤ) (l j : ℕ) (scale weighted number : ℤ)
+    → number ≡ to_z w128 (of_z w128 scale) *ℤ to_z w128 (of_z w128 weighted) → scale ≡ to_z w64 (of_z w64 k) → unsigned_abs k ≤ 10 ^ 9
+    → weighted ≡ weighted_cost points cap l j → unsigned_abs weighted ≤ MAX_WEIGHTED
+    → (to_z w128 (of_z w128 number) ≡ k *ℤ weighted_cost points cap l j) × (unsigned_abs (k *ℤ weighted_cost points cap l j) ≤ 10 ^ 9 * MAX_WEIGHTED)
+weighted-is points k cap l j scale weighted number e from h value size =
+    let small = from-size k scale (10 ^ 9) from h in
+    let same = product-is scale weighted number (10 ^ 9) MAX_WEIGHTED e small size (lit< tt) (lit< tt)
+    ∙ (λ i. (from ∙ narrow k (10 ^ 9) h (lit< tt)) i *ℤ value i) in
+    let within = product-size scale weighted number (10 ^ 9) MAX_WEIGHTED e small size in
+    (wide number (10 ^ 9 * MAX_WEIGHTED) within (lit< tt) ∙ same, subst (λ z. unsigned_abs z ≤ 10 ^ 9 * MAX_WEIGHTED) same within)
 
-    high : n <ℤ (q *ℤ d +ℤ d)
-    high = floor.next
+-- the quotient, and what a caller sees of it
+pub quotient-is : (n d number width q : ℤ) → to_z w128 (of_z w128 number) ≡ n → to_z w128 (of_z w128 width) ≡ d → pos 0 <ℤ d
+    → unsigned_abs n ≤ 10 ^ 9 * MAX_WEIGHTED → IsFloor (to_z w128 (of_z w128 number)) (to_z w128 (of_z w128 width)) q
+    → IsFloor n d (to_z w128 (of_z w128 q)) × (unsigned_abs (to_z w128 (of_z w128 q)) ≤ 10 ^ 9 * MAX_WEIGHTED)
+quotient-is n d number width q is wide_is positive size floor =
+    let found = subst (λ z. IsFloor z d q) is (subst (λ z. IsFloor (to_z w128 (of_z w128 number)) z q) wide_is floor) in
+    let small = floor-size n d q (10 ^ 9 * MAX_WEIGHTED) positive found size in
+    let same = wide q (10 ^ 9 * MAX_WEIGHTED) small (lit< tt) in
+    (subst (λ z. IsFloor n d z) (sym same) found, subst (λ z. unsigned_abs z ≤ 10 ^ 9 * MAX_WEIGHTED) (sym same) small)
 
-    above : pos 0 ≤ℤ q → unsigned_abs q ≤ m
-    above sign =
-        let times : (q *ℤ pos 1) ≤ℤ (q *ℤ d) = mul-le-mul_left q (pos 1) d sign one_or_more in
-        let same = mul-one q in
-        let between : q ≤ℤ n = omega (arith, linear) in
-        omega (arith, ints)
-
-    below : q <ℤ pos 0 → unsigned_abs q ≤ m
-    below sign =
-        let times : ((q +ℤ pos 1) *ℤ d) ≤ℤ ((q +ℤ pos 1) *ℤ pos 1) = mul-le-mul_turned (q +ℤ pos 1) (pos 1) d (omega (arith, linear)) one_or_more in
-        let same = mul-one (q +ℤ pos 1) in
-        let spread_out = add-mul q (pos 1) d in
-        let one = one-mul d in
-        let between : n ≤ℤ q = omega (arith, linear) in
-        omega (arith, ints)
+-- both parts of a point's cost
+pub point_cost-parts : (points : List Point) (k a b cap : ℤ) → IsLawfulCell points k a b cap → (l : ℕ) → l < length points
+    → (cost output price : ℤ) → cost ≡ to_z w64 (of_z w64 k) *ℤ to_z w64 (of_z w64 (point_of points l).cost)
+    → price ≡ to_z w128 (of_z w128 a) *ℤ to_z w128 (of_z w128 output) → unsigned_abs output ≤ 2 * MAX_POWER
+    → (unsigned_abs cost ≤ 10 ^ 9 * MAX_COST) × (unsigned_abs price ≤ MAX_UNIT_PRICE * (2 * MAX_POWER))
+point_cost-parts points k a b cap lawful l h cost output price is priced size = (
+  scaled-size k (point_of points l).cost cost (10 ^ 9) MAX_COST is (scale-size points k a b cap lawful) (lawful.costs l h),
+  product-size a output price MAX_UNIT_PRICE (2 * MAX_POWER) priced lawful.output_price size,
+)

@@ -10,7 +10,7 @@ use Rattle.uc_model.specs.declared.limits.TheConstants.{MAX_COST, MAX_POWER}
 use Rattle.uc_model.specs.declared.instance.Thermal.{Thermal}
 use Rattle.uc_model.specs.declared.terms.Terms.{Terms}
 use Rattle.dual_model.specs.declared.node.Fix.{Fix}
-use Rattle.state_walk.proofs.Magnitudes.{abs_add, abs_sub, abs_mul, abs_min}
+use Rattle.uc_model.proofs.Sizes.{abs_add, abs_sub, abs_mul, abs_min}
 use Rattle.state_walk.specs.declared.limits.TheConstants.{MAX_UNIT_PRICE, MAX_TERM}
 use Rattle.state_walk.specs.UnitTerms.{AreSizedTerms, IsSized, period_count, price_at}
 use Rattle.state_walk.specs.Moves.{stop_since, hour_cost, hour_before, move}

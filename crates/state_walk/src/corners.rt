@@ -1,15 +1,15 @@
 //! The term of a cell: the least reduced cost of an on hour, found at the corners of its choices, each a
 //! point or a pair of points.
 
-ghost use Rattle.std.specs.Prelude.{◌≡◌, ◌+◌, ◌*◌, ◌<◌, ◌≤◌, IfSome, length, pos, ◌+ℤ◌, ◌*ℤ◌, ◌≤ℤ◌, ◌<ℤ◌, int_le, int_lt, unsigned_abs};
+ghost use Rattle.std.specs.Prelude.{◌≡◌, ◌+◌, ◌*◌, ◌^◌, ◌<◌, ◌≤◌, IfSome, length, pos, ◌+ℤ◌, ◌-ℤ◌, ◌*ℤ◌, ◌≤ℤ◌, ◌<ℤ◌, int_le, int_lt, unsigned_abs};
+ghost use Rattle.uc_model.specs.Division.{IsFloor};
 ghost use Rattle.uc_model.specs.Points.{output_of, point_of};
 ghost use Rattle.state_walk.specs.Corners.{corner_cost as corner_cost_of, IsLawfulCell, least_corner as least_corner_of, least_pair as least_pair_of, pair_cost as pair_cost_of, point_cost as point_cost_of, room as room_of, weighted_cost as weighted_cost_of, MAX_POINT_COST, MAX_ROOM, MAX_WEIGHTED};
 ghost use Rattle.state_walk.specs.TableValue.{IsCellTerm};
 
 use crate::limits::MAX_TERM;
-use crate::products::{product, scaled};
 use uc_model::limits::{MAX_COST, MAX_POWER};
-use uc_model::{Point, floor_div};
+use uc_model::{Point, difference, floor_div, product, scaled, sum};
 
 /// A cell's cap, and what its output and reserve are priced at: the scale K, and A and B.
 #[derive(Clone, Copy, Debug)]
@@ -65,7 +65,8 @@ fn reserved_cost(points: &[Point], cell: &Cell, l: usize) -> i128
     requires point { l < length points.now }
     ensures { result ≡ point_cost_of points.now cell.now.k cell.now.a l +ℤ cell.now.b *ℤ room_of points.now cell.now.cap l }
 {
-    point_cost(points, cell, l) + product(cell.b, room(points, cell, l))
+    let reserve = product(cell.b, room(points, cell, l));
+    sum(point_cost(points, cell, l), reserve)
 }
 
 // The least cost of point l, and of the pairs of it with a point right of the cap.
@@ -94,9 +95,23 @@ fn pair_cost(points: &[Point], cell: &Cell, l: usize, j: usize) -> i128
     requires right { room_of points.now cell.now.cap j <ℤ pos 0 }
     ensures { result ≡ pair_cost_of points.now cell.now.k cell.now.a cell.now.cap l j }
 {
+    let price = product(cell.a, i128::from(cell.cap));
+    sum(unpriced_pair_cost(points, cell, l, j), price)
+}
+
+// The same without the price of the output.
+fn unpriced_pair_cost(points: &[Point], cell: &Cell, l: usize, j: usize) -> i128
+    requires lawful { IsLawfulCell points.now cell.now.k cell.now.a cell.now.b cell.now.cap }
+    requires left_point { l < length points.now }
+    requires right_point { j < length points.now }
+    requires left { pos 0 ≤ℤ room_of points.now cell.now.cap l }
+    requires right { room_of points.now cell.now.cap j <ℤ pos 0 }
+    ensures floor { IsFloor (cell.now.k *ℤ weighted_cost_of points.now cell.now.cap l j) (room_of points.now cell.now.cap l -ℤ room_of points.now cell.now.cap j) result }
+    ensures size { unsigned_abs result ≤ 10 ^ 9 * MAX_WEIGHTED }
+{
     let weighted = product(i128::from(cell.k), weighted_cost(points, cell, l, j));
-    let width = room(points, cell, l) - room(points, cell, j);
-    floor_div(weighted, width) + product(cell.a, i128::from(cell.cap))
+    let width = difference(room(points, cell, l), room(points, cell, j));
+    floor_div(weighted, width)
 }
 
 // The costs of the points l and j by the weights that meet the cap, over the width between the points.
@@ -107,7 +122,10 @@ fn weighted_cost(points: &[Point], cell: &Cell, l: usize, j: usize) -> i128
     ensures value { result ≡ weighted_cost_of points.now cell.now.cap l j }
     ensures size { unsigned_abs result ≤ MAX_WEIGHTED }
 {
-    cost_by_room(points, cell, l, j) - cost_by_room(points, cell, j, l)
+    difference(
+        cost_by_room(points, cell, l, j),
+        cost_by_room(points, cell, j, l),
+    )
 }
 
 // The cost of point j, times how far point l lies left of the cap.
@@ -128,7 +146,8 @@ fn point_cost(points: &[Point], cell: &Cell, l: usize) -> i128
     ensures value { result ≡ point_cost_of points.now cell.now.k cell.now.a l }
     ensures size { unsigned_abs result ≤ MAX_POINT_COST }
 {
-    scaled(cell.k, points[l].cost) + product(cell.a, output(points, cell, l))
+    let price = product(cell.a, output(points, cell, l));
+    sum(scaled(cell.k, points[l].cost), price)
 }
 
 // How far point l lies left of the cap.
@@ -138,7 +157,7 @@ fn room(points: &[Point], cell: &Cell, l: usize) -> i128
     ensures value { result ≡ room_of points.now cell.now.cap l }
     ensures size { unsigned_abs result ≤ MAX_ROOM }
 {
-    i128::from(cell.cap) - output(points, cell, l)
+    difference(i128::from(cell.cap), output(points, cell, l))
 }
 
 // Whether point l lies at or left of the cap.
@@ -166,5 +185,5 @@ fn output(points: &[Point], cell: &Cell, l: usize) -> i128
     ensures value { result ≡ output_of points.now l }
     ensures size { unsigned_abs result ≤ 2 * MAX_POWER }
 {
-    i128::from(points[l].mw) - i128::from(points[0].mw)
+    difference(i128::from(points[l].mw), i128::from(points[0].mw))
 }

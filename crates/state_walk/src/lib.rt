@@ -5,7 +5,6 @@
 pub mod corners;
 pub mod limits;
 mod moves;
-mod products;
 mod rules;
 pub mod start_cost;
 pub mod unit_terms;

@@ -6,12 +6,11 @@ ghost use Rattle.state_walk.specs.UnitTerms.{AreSizedTerms, period_count, place 
 ghost use Rattle.state_walk.specs.Moves.{hour_before as hour_of, move, stop_since as stop_of};
 
 use crate::limits::{MAX_TERM, MAX_UNIT_PRICE};
-use crate::products::{product, scaled};
 use crate::rules::{holds_initially, may_be_off, may_be_on, may_start, may_stop};
 use crate::start_cost::sigma;
 use dual_model::Fix;
 use uc_model::limits::MAX_POWER;
-use uc_model::{Terms, Thermal};
+use uc_model::{Terms, Thermal, difference, product, scaled};
 
 /// A unit that is on stays on in period `t`: the cost of the hour before.
 pub(crate) fn stay_on(
@@ -125,7 +124,7 @@ fn less_product(term: i128, price: i128, minimum: i64) -> i128
     requires minimum { unsigned_abs minimum ≤ MAX_POWER }
     ensures { result ≡ term -ℤ price *ℤ minimum }
 {
-    term - product(price, i128::from(minimum))
+    difference(term, product(price, i128::from(minimum)))
 }
 
 // The term of a cell of period t, by whether it is a start and whether a stop follows.

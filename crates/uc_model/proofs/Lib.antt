@@ -11,3 +11,4 @@ pub mod MinimumTimes
 pub mod CostBound
 pub mod HullPoints
 pub mod PrintedCosts
+pub mod Sizes

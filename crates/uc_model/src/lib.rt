@@ -4,6 +4,7 @@
 //! Power is whole watts and money whole micro-dollars.
 #![tactic(auto)]
 
+pub mod arithmetic;
 pub mod division;
 pub mod examples;
 pub mod field;
@@ -22,6 +23,7 @@ pub mod terms;
 pub mod texts;
 pub mod tolerance;
 
+pub use arithmetic::{difference, product, scaled, sum};
 pub use division::{ceil_div, floor_div};
 pub use field::Field;
 pub use field_refusal::FieldRefusal;

@@ -6,8 +6,8 @@ use Rattle.uc_model.specs.Sums.{bit}
 use Rattle.uc_model.specs.declared.limits.TheConstants.{MAX_POWER}
 use Rattle.state_walk.specs.declared.limits.TheConstants.{MAX_CAP}
 use Rattle.state_walk.specs.UnitTerms.{cell_cap}
-use Rattle.state_walk.proofs.Magnitudes.{abs_min}
-use Rattle.state_walk.proofs.Bits.{narrow}
+use Rattle.uc_model.proofs.Sizes.{abs_min}
+use Rattle.uc_model.proofs.Sizes.{narrow}
 use Rattle.state_walk.proofs.unit_terms.cell_cap.Goals as goal
 
 -- the lesser of both caps by the calls

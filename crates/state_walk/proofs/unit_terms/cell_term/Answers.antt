@@ -9,7 +9,7 @@ use Rattle.uc_model.specs.declared.instance.Point.{Point}
 use Rattle.state_walk.specs.declared.limits.TheConstants.{MAX_UNIT_PRICE, MAX_CAP}
 use Rattle.state_walk.specs.Corners.{IsLawfulCell}
 use Rattle.state_walk.specs.TableValue.{IsLawfulRow, IsLawfulScale}
-use Rattle.state_walk.proofs.Bits.{wide, narrow}
+use Rattle.uc_model.proofs.Sizes.{wide, narrow}
 use Rattle.state_walk.proofs.unit_terms.cell_term.Goals as goal
 
 lawful_cell : (unit : Thermal) (k : ℤ) (row : ℤ × ℤ × ℤ) (cap : ℤ) → IsLawfulThermal unit → IsLawfulScale k → IsLawfulRow row

@@ -7,7 +7,7 @@ use Rattle.uc_model.specs.declared.instance.Thermal.{Thermal}
 use Rattle.state_walk.specs.declared.limits.TheConstants.{MAX_UNIT_PRICE}
 use Rattle.state_walk.specs.UnitTerms.{place}
 use Rattle.state_walk.specs.TableValue.{row_at, ArePricesOf, AreTermsOfRows, IsTermOfRow}
-use Rattle.state_walk.proofs.Bits.{wide}
+use Rattle.uc_model.proofs.Sizes.{wide}
 use Rattle.state_walk.proofs.unit_terms.fill.Goals as goal
 
 here_or_before : (i t : ℕ) → i < t + 1 → (i < t) ⊎ (i ≡ t)

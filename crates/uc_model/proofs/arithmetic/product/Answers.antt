@@ -3,7 +3,7 @@ use Rattle.std.proofs.Common.{◌≡◌, arith, to_z, of_z}
 use Rattle.std.specs.Prelude.{unsigned_abs}
 use Rattle.std.specs.Int.{w128}
 use Rattle.std.proofs.lemmas.Int.{to_z-of_z, fits_signed_mul}
-use Rattle.state_walk.proofs.products.product.Goals as goal
+use Rattle.uc_model.proofs.arithmetic.product.Goals as goal
 
 pub overflow_mul-result : goal.overflow_mul-result
 overflow_mul-result c =
