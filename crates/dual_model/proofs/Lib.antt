@@ -11,3 +11,6 @@ pub mod UnitValues
 pub mod NodeValues
 pub mod Covers
 pub mod Computed
+pub mod TableValues
+pub mod TermLists
+pub mod CellCaps

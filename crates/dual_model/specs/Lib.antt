@@ -10,3 +10,6 @@ pub mod Certificate
 pub mod Opening
 pub mod Laws
 pub mod Examples
+pub mod UnitTerms
+pub mod PatternValue
+pub mod TableValue

@@ -12,13 +12,14 @@ use Rattle.uc_model.proofs.Ring.{linear}
 use Rattle.uc_model.proofs.Sums.{sum_below-same}
 use Rattle.uc_model.proofs.Tests.{int_le-true, le-int_le, all_below-at, all_below-from}
 use Rattle.dual_model.specs.declared.node.Fix.{Fix}
-use Rattle.state_walk.specs.UnitTerms.{AreSizedTerms, IsSized, period_count, term_at}
-use Rattle.state_walk.specs.PatternValue.{IsPattern, is_followed}
+use Rattle.dual_model.specs.UnitTerms.{AreSizedTerms, IsSized, period_count, term_at}
+use Rattle.dual_model.specs.PatternValue.{IsPattern, is_followed}
 use Rattle.state_walk.specs.Moves.{holds_initially, initial_limit, has_lasted, hour_cost}
-use Rattle.state_walk.specs.Onward.{since_after}
+use Rattle.state_walk.specs.CostToGo.{since_after}
 use Rattle.state_walk.proofs.Switches.{since}
 use Rattle.state_walk.proofs.Lasting.{enters, leaves, LeavesInTime, window-from_lasting, initial-from_lasting, lasting-from_windows}
-use Rattle.state_walk.proofs.Caps.{cell_cap-cap, initial_stop-limit, initial_stop-from}
+use Rattle.dual_model.proofs.CellCaps.{cell_cap-cap}
+use Rattle.state_walk.proofs.InitialLimits.{initial_stop-limit, initial_stop-from}
 use Rattle.state_walk.proofs.Ways.{hour, IsRight, IsThere, AllRight}
 
 -- ---- the parts of what is allowed in a period

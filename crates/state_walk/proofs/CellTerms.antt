@@ -7,7 +7,7 @@ use Rattle.uc_model.proofs.Ring.{linear, sub-mul, neg-mul, mul-le-mul_left}
 use Rattle.dual_model.specs.Term.{IsTerm}
 use Rattle.dual_model.proofs.CellBounds.{BoundsCorners}
 use Rattle.dual_model.proofs.Terms.{pair_least, corner_least, greatest_bound, least_reduced_cost, is_term, cell_bound-corners, corners-cell_bound}
-use Rattle.state_walk.specs.declared.limits.TheConstants.{MAX_UNIT_PRICE, MAX_TERM}
+use Rattle.dual_model.specs.declared.limits.TheConstants.{MAX_UNIT_PRICE, MAX_TERM}
 use Rattle.state_walk.specs.Corners.{IsLawfulCell, point_cost, room, least_corner, MAX_ROOM, MAX_POINT_COST}
 use Rattle.state_walk.proofs.CornerCosts.{room-size, point_cost-size}
 use Rattle.uc_model.proofs.Sizes.{abs_add, abs_mul}

@@ -2,15 +2,15 @@
 use Rattle.std.proofs.Common.{◌≡◌, ℕ, ◌+◌, ◌*◌, ◌<◌, ◌≤◌, ◌^◌, List, length, sym, ap, subst, ◌∙◌, arith, lit<, to_z, of_z, ℤ, pos, ◌+ℤ◌, ◌-ℤ◌, ◌*ℤ◌, neg_ℤ, ◌≤ℤ◌, ◌<ℤ◌}
 use Rattle.std.specs.Prelude.{unsigned_abs}
 use Rattle.std.specs.Int.{w64, w128, int_div_euclid}
-use Rattle.std.proofs.lemmas.Int.{ints, by_lt_z}
+use Rattle.std.proofs.lemmas.Int.{ints}
 use Rattle.uc_model.specs.Division.{IsFloor}
 use Rattle.uc_model.specs.Points.{point_of, output_of}
 use Rattle.uc_model.specs.declared.instance.Point.{Point}
 use Rattle.uc_model.specs.declared.limits.TheConstants.{MAX_POWER, MAX_COST}
-use Rattle.uc_model.proofs.Ring.{linear, spread, mul_comm, mul_assoc, mul_left_comm, mul-one, one-mul, add-mul, mul-le-mul_left, mul-le-mul_turned}
+use Rattle.uc_model.proofs.Ring.{linear, spread, mul_comm, mul_assoc, mul_left_comm}
 use Rattle.uc_model.proofs.Quotients.{IsFloor-int_div_euclid, IsFloor-add, IsFloor_unique}
 use Rattle.uc_model.proofs.Sizes.{abs_add, abs_sub, abs_mul, wide, narrow, from-size, product-size, product-is, difference-size, difference-is, scaled-size, floor-size}
-use Rattle.state_walk.specs.declared.limits.TheConstants.{MAX_UNIT_PRICE, MAX_CAP}
+use Rattle.dual_model.specs.declared.limits.TheConstants.{MAX_UNIT_PRICE, MAX_CAP}
 use Rattle.state_walk.specs.Corners.{IsLawfulCell, point_cost, room, weighted_cost, pair_cost, MAX_ROOM, MAX_POINT_COST, MAX_WEIGHTED}
 
 -- ---- sizes

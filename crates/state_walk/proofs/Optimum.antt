@@ -10,13 +10,13 @@ use Rattle.uc_model.specs.declared.terms.Terms.{Terms}
 use Rattle.uc_model.proofs.Ring.{linear}
 use Rattle.dual_model.specs.declared.node.Fix.{Fix}
 use Rattle.state_walk.specs.Moves.{move}
-use Rattle.state_walk.specs.Onward.{plus, lesser, end_cost, since_after, onward}
+use Rattle.state_walk.specs.CostToGo.{total_of, lesser_of, end_cost, since_after, cost_to_go}
 
 -- the cost of the way that a commitment takes from a state before period t, with n periods left
 abbrev pub way : Terms → Thermal → Fix → Commitment → ℕ → ℕ → Bool → ℕ → Option ℤ
 way terms unit fix on zero t was since = end_cost terms unit t was since
 way terms unit fix on (suc n) t was since =
-    plus (move terms unit fix t was since (on t)) (way terms unit fix on n (suc t) (on t) (since_after was since (on t) t))
+    total_of (move terms unit fix t was since (on t)) (way terms unit fix on n (suc t) (on t) (since_after was since (on t) t))
 
 -- ---- costs that may not be there
 pub record Parts (a b : Option ℤ) (v : ℤ) : Type 0 where
@@ -26,10 +26,10 @@ pub record Parts (a b : Option ℤ) (v : ℤ) : Type 0 where
   pub second_is : b ≡ Some second
   pub total : v ≡ first +ℤ second
 
-pub plus-parts : (a b : Option ℤ) (v : ℤ) → plus a b ≡ Some v → Parts a b v
-plus-parts None b v e = cc
-plus-parts (Some a) None v e = cc
-plus-parts (Some a) (Some b) v e = record { first = a; second = b; first_is = refl; second_is = refl; total = cc }
+pub total_of-parts : (a b : Option ℤ) (v : ℤ) → total_of a b ≡ Some v → Parts a b v
+total_of-parts None b v e = cc
+total_of-parts (Some a) None v e = cc
+total_of-parts (Some a) (Some b) v e = record { first = a; second = b; first_is = refl; second_is = refl; total = cc }
 
 -- a cost that is there and at most v
 pub record AtMost (a : Option ℤ) (v : ℤ) : Type 0 where
@@ -43,7 +43,7 @@ min_left a b = grind (arith, ints)
 min_right : (a b : ℤ) → int_min a b ≤ℤ b
 min_right a b = grind (arith, ints)
 
-lesser_left : (a b : Option ℤ) (v : ℤ) → AtMost a v → AtMost (lesser a b) v
+lesser_left : (a b : Option ℤ) (v : ℤ) → AtMost a v → AtMost (lesser_of a b) v
 lesser_left None b v h = absurd (let e = h.is in cc)
 lesser_left (Some a) None v h = h
 lesser_left (Some a) (Some b) v h =
@@ -52,7 +52,7 @@ lesser_left (Some a) (Some b) v h =
     let below = h.below in
     record { cost = int_min a b; is = refl; below = omega (arith, linear) }
 
-lesser_right : (a b : Option ℤ) (v : ℤ) → AtMost b v → AtMost (lesser a b) v
+lesser_right : (a b : Option ℤ) (v : ℤ) → AtMost b v → AtMost (lesser_of a b) v
 lesser_right None b v h = h
 lesser_right (Some a) None v h = absurd (let e = h.is in cc)
 lesser_right (Some a) (Some b) v h =
@@ -61,34 +61,34 @@ lesser_right (Some a) (Some b) v h =
     let below = h.below in
     record { cost = int_min a b; is = refl; below = omega (arith, linear) }
 
-lesser_one : (a b : Option ℤ) (v : ℤ) → lesser a b ≡ Some v → (a ≡ Some v) ⊎ (b ≡ Some v)
+lesser_one : (a b : Option ℤ) (v : ℤ) → lesser_of a b ≡ Some v → (a ≡ Some v) ⊎ (b ≡ Some v)
 lesser_one None b v e = inr e
 lesser_one (Some a) None v e = inl e
 lesser_one (Some a) (Some b) v e =
     cond_both _ b a (λ (x : ℤ). Some x ≡ Some v → (◌≡◌ {A = Option ℤ} (Some a) (Some v)) ⊎ (◌≡◌ {A = Option ℤ} (Some b) (Some v))) (λ c h. inr h) (λ c h. inl h) e
 
 -- ---- each way costs at least the recursion's
-pub onward-le-way : (terms : Terms) (unit : Thermal) (fix : Fix) (on : Commitment) (n t : ℕ) (was : Bool) (since : ℕ) (v : ℤ)
-    → way terms unit fix on n t was since ≡ Some v → AtMost (onward terms unit fix n t was since) v
-onward-le-way terms unit fix on zero t was since v e = record { cost = v; is = e; below = omega (arith, linear) }
-onward-le-way terms unit fix on (suc n) t was since v e =
-    let parts = plus-parts _ _ v e in
-    let rest = onward-le-way terms unit fix on n (suc t) (on t) (since_after was since (on t) t) parts.second parts.second_is in
+pub cost_to_go-le-way : (terms : Terms) (unit : Thermal) (fix : Fix) (on : Commitment) (n t : ℕ) (was : Bool) (since : ℕ) (v : ℤ)
+    → way terms unit fix on n t was since ≡ Some v → AtMost (cost_to_go terms unit fix n t was since) v
+cost_to_go-le-way terms unit fix on zero t was since v e = record { cost = v; is = e; below = omega (arith, linear) }
+cost_to_go-le-way terms unit fix on (suc n) t was since v e =
+    let parts = total_of-parts _ _ v e in
+    let rest = cost_to_go-le-way terms unit fix on n (suc t) (on t) (since_after was since (on t) t) parts.second parts.second_is in
     let total = parts.total in
     let below = rest.below in
     let here : AtMost (one (on t)) v =
     record {
       cost = parts.first +ℤ rest.cost;
-      is = λ i. plus (parts.first_is i) (rest.is i);
+      is = λ i. total_of (parts.first_is i) (rest.is i);
       below = omega (arith, linear);
     }
     in
     choose (on t) here
   where
     one : Bool → Option ℤ
-    one now = plus (move terms unit fix t was since now) (onward terms unit fix n (suc t) now (since_after was since now t))
+    one now = total_of (move terms unit fix t was since now) (cost_to_go terms unit fix n (suc t) now (since_after was since now t))
 
-    choose : (now : Bool) → AtMost (one now) v → AtMost (lesser (one true) (one false)) v
+    choose : (now : Bool) → AtMost (one now) v → AtMost (lesser_of (one true) (one false)) v
     choose true h = lesser_left (one true) (one false) v h
     choose false h = lesser_right (one true) (one false) v h
 
@@ -102,9 +102,9 @@ way-same : (terms : Terms) (unit : Thermal) (fix : Fix) (on other : Commitment) 
     → way terms unit fix on n t was since ≡ way terms unit fix other n t was since
 way-same terms unit fix on other zero t was since same = refl
 way-same terms unit fix on other (suc n) t was since same =
-    (λ i. plus (move terms unit fix t was since (same t (omega arith) i))
+    (λ i. total_of (move terms unit fix t was since (same t (omega arith) i))
     (way terms unit fix on n (suc t) (same t (omega arith) i) (since_after was since (same t (omega arith) i) t)))
-    ∙ ap (plus (move terms unit fix t was since (other t)))
+    ∙ ap (total_of (move terms unit fix t was since (other t)))
     (way-same terms unit fix on other n (suc t) (other t) (since_after was since (other t) t) (λ k h. same k (omega arith)))
 
 -- a way of this cost
@@ -128,23 +128,23 @@ extended terms unit fix n t was since now v a b moved rest total =
 
     whole : way terms unit fix (with_bit rest.on t now) (suc n) t was since ≡ Some v
     whole =
-        (λ i. plus (move terms unit fix t was since (here i))
+        (λ i. total_of (move terms unit fix t was since (here i))
         (way terms unit fix (with_bit rest.on t now) n (suc t) (here i) (since_after was since (here i) t)))
-        ∙ (λ i. plus (moved i) (way-same terms unit fix (with_bit rest.on t now) rest.on n (suc t) now (since_after was since now t) later i))
-        ∙ (λ i. plus (Some a) (rest.is i))
+        ∙ (λ i. total_of (moved i) (way-same terms unit fix (with_bit rest.on t now) rest.on n (suc t) now (since_after was since now t) later i))
+        ∙ (λ i. total_of (Some a) (rest.is i))
         ∙ ap Some (sym total)
 
-pub onward-attained : (terms : Terms) (unit : Thermal) (fix : Fix) (n t : ℕ) (was : Bool) (since : ℕ) (v : ℤ)
-    → onward terms unit fix n t was since ≡ Some v → WayOf terms unit fix n t was since v
-onward-attained terms unit fix zero t was since v e = record { on = λ k. false; is = e }
-onward-attained terms unit fix (suc n) t was since v e =
+pub cost_to_go-attained : (terms : Terms) (unit : Thermal) (fix : Fix) (n t : ℕ) (was : Bool) (since : ℕ) (v : ℤ)
+    → cost_to_go terms unit fix n t was since ≡ Some v → WayOf terms unit fix n t was since v
+cost_to_go-attained terms unit fix zero t was since v e = record { on = λ k. false; is = e }
+cost_to_go-attained terms unit fix (suc n) t was since v e =
     ⊎_elim
-    (λ (h : plus (move terms unit fix t was since true) (onward terms unit fix n (suc t) true (since_after was since true t)) ≡ Some v).
-    let parts = plus-parts _ _ v h in
+    (λ (h : total_of (move terms unit fix t was since true) (cost_to_go terms unit fix n (suc t) true (since_after was since true t)) ≡ Some v).
+    let parts = total_of-parts _ _ v h in
     extended terms unit fix n t was since true v parts.first parts.second parts.first_is
-    (onward-attained terms unit fix n (suc t) true (since_after was since true t) parts.second parts.second_is) parts.total)
-    (λ (h : plus (move terms unit fix t was since false) (onward terms unit fix n (suc t) false (since_after was since false t)) ≡ Some v).
-    let parts = plus-parts _ _ v h in
+    (cost_to_go-attained terms unit fix n (suc t) true (since_after was since true t) parts.second parts.second_is) parts.total)
+    (λ (h : total_of (move terms unit fix t was since false) (cost_to_go terms unit fix n (suc t) false (since_after was since false t)) ≡ Some v).
+    let parts = total_of-parts _ _ v h in
     extended terms unit fix n t was since false v parts.first parts.second parts.first_is
-    (onward-attained terms unit fix n (suc t) false (since_after was since false t) parts.second parts.second_is) parts.total)
+    (cost_to_go-attained terms unit fix n (suc t) false (since_after was since false t) parts.second parts.second_is) parts.total)
     (lesser_one _ _ v e)

@@ -10,11 +10,11 @@ use Rattle.uc_model.specs.declared.terms.Terms.{Terms}
 use Rattle.uc_model.proofs.Ring.{linear}
 use Rattle.uc_model.proofs.Sums.{sum_below-first, sum_below-same}
 use Rattle.dual_model.specs.declared.node.Fix.{Fix}
-use Rattle.state_walk.specs.UnitTerms.{period_count, term_at, price_at}
-use Rattle.state_walk.specs.PatternValue.{is_followed, term_of, period_value, pattern_value}
+use Rattle.dual_model.specs.UnitTerms.{period_count, term_at, price_at}
+use Rattle.dual_model.specs.PatternValue.{is_followed, term_of, period_value, pattern_value}
 use Rattle.state_walk.specs.Moves.{may_be_on, may_be_off, holds_initially, may_stop, may_start, stop_since, hour_cost, hour_before, move}
-use Rattle.state_walk.specs.Onward.{plus, end_cost}
-use Rattle.state_walk.proofs.Optimum.{way, plus-parts}
+use Rattle.state_walk.specs.CostToGo.{total_of, end_cost}
+use Rattle.state_walk.proofs.Optimum.{way, total_of-parts}
 use Rattle.state_walk.proofs.Switches.{since, since-start, last_stop-since}
 
 -- ---- the hour before a period
@@ -221,7 +221,7 @@ own_way-right terms unit fix on zero t v h e =
           subst (λ i. IsThere (hour terms unit on i)) same (end-right terms unit fix on t v last e);
     }
 own_way-right terms unit fix on (suc n) t v h e =
-    let parts = plus-parts (step terms unit fix on t) (own_way terms unit fix on n (suc t)) v e in
+    let parts = total_of-parts (step terms unit fix on t) (own_way terms unit fix on n (suc t)) v e in
     let here = step-right terms unit fix on t parts.first (omega arith) parts.first_is in
     let rest = own_way-right terms unit fix on n (suc t) parts.second (omega arith) parts.second_is in
     record {
@@ -295,7 +295,7 @@ own_way-from terms unit fix on (suc n) t h all =
     ap (λ i. period_value terms unit on i) at ∙ period_value-is terms unit on t (all.there (suc t) (omega arith) (omega arith)) in
     let later : sum_below n (λ k. period_value terms unit on (suc k + t)) ≡ sum_below n (λ k. period_value terms unit on (k + suc t)) =
     sum_below-same n _ _ (λ k l. let e : suc k + t ≡ k + suc t = omega arith in ap (λ i. period_value terms unit on i) e) in
-    (λ i. plus (moved i) (rest i)) ∙ ap Some (omega (arith, linear))
+    (λ i. total_of (moved i) (rest i)) ∙ ap Some (omega (arith, linear))
 
 -- from the beginning
 pub whole_way-from : (terms : Terms) (unit : Thermal) (fix : Fix) (on : Commitment) → AllRight terms unit fix on 0

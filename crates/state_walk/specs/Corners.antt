@@ -9,7 +9,7 @@ use Rattle.uc_model.specs.Points.{point_of, output_of}
 use Rattle.uc_model.specs.declared.instance.Point.{Point}
 use Rattle.uc_model.specs.declared.limits.TheConstants.{MAX_POINTS, MAX_POWER, MAX_COST}
 use Rattle.dual_model.specs.declared.limits.TheConstants.{MAX_SCALE}
-use Rattle.state_walk.specs.declared.limits.TheConstants.{MAX_UNIT_PRICE, MAX_CAP}
+use Rattle.dual_model.specs.declared.limits.TheConstants.{MAX_UNIT_PRICE, MAX_CAP}
 
 -- the reduced cost of point l without reserve
 abbrev pub point_cost : List Point → ℤ → ℤ → ℕ → ℤ

@@ -1,6 +1,3 @@
-pub mod UnitTerms
-pub mod PatternValue
 pub mod Moves
-pub mod Onward
-pub mod TableValue
+pub mod CostToGo
 pub mod Corners

@@ -5,15 +5,15 @@ ghost use Rattle.std.specs.Prelude.{◌≡◌, ◌+◌, ◌*◌, ◌^◌, ◌<�
 ghost use Rattle.uc_model.specs.Division.{IsFloor};
 ghost use Rattle.uc_model.specs.Points.{output_of, point_of};
 ghost use Rattle.state_walk.specs.Corners.{corner_cost as corner_cost_of, IsLawfulCell, least_corner as least_corner_of, least_pair as least_pair_of, pair_cost as pair_cost_of, point_cost as point_cost_of, room as room_of, weighted_cost as weighted_cost_of, MAX_POINT_COST, MAX_ROOM, MAX_WEIGHTED};
-ghost use Rattle.state_walk.specs.TableValue.{IsCellTerm};
+ghost use Rattle.dual_model.specs.TableValue.{IsCellTerm};
 
-use crate::limits::MAX_TERM;
+use dual_model::limits::MAX_TERM;
 use uc_model::limits::{MAX_COST, MAX_POWER};
 use uc_model::{Point, difference, floor_div, product, scaled, sum};
 
 /// A cell's cap, and what its output and reserve are priced at: the scale K, and A and B.
 #[derive(Clone, Copy, Debug)]
-struct Cell {
+struct PricedCell {
     k: i64,
     a: i128,
     b: i128,
@@ -32,11 +32,11 @@ pub fn term(points: &[Point], k: i64, a: i128, b: i128, cap: i64) -> Option<i128
     if cap < 0 {
         return None;
     }
-    Some(least_corner(points, &Cell { k, a, b, cap }))
+    Some(least_corner(points, &PricedCell { k, a, b, cap }))
 }
 
 // The least cost of a corner.
-fn least_corner(points: &[Point], cell: &Cell) -> i128
+fn least_corner(points: &[Point], cell: &PricedCell) -> i128
     requires { IsLawfulCell points.now cell.now.k cell.now.a cell.now.b cell.now.cap }
     ensures { result ≡ least_corner_of points.now cell.now.k cell.now.a cell.now.b cell.now.cap }
 {
@@ -50,7 +50,7 @@ fn least_corner(points: &[Point], cell: &Cell) -> i128
 }
 
 // The least cost of a corner at point l, which lies at or left of the cap.
-fn corner_cost(points: &[Point], cell: &Cell, l: usize) -> i128
+fn corner_cost(points: &[Point], cell: &PricedCell, l: usize) -> i128
     requires lawful { IsLawfulCell points.now cell.now.k cell.now.a cell.now.b cell.now.cap }
     requires point { l < length points.now }
     requires left { pos 0 ≤ℤ room_of points.now cell.now.cap l }
@@ -60,7 +60,7 @@ fn corner_cost(points: &[Point], cell: &Cell, l: usize) -> i128
 }
 
 // The cost of point l with all the reserve that is left.
-fn reserved_cost(points: &[Point], cell: &Cell, l: usize) -> i128
+fn reserved_cost(points: &[Point], cell: &PricedCell, l: usize) -> i128
     requires lawful { IsLawfulCell points.now cell.now.k cell.now.a cell.now.b cell.now.cap }
     requires point { l < length points.now }
     ensures { result ≡ point_cost_of points.now cell.now.k cell.now.a l +ℤ cell.now.b *ℤ room_of points.now cell.now.cap l }
@@ -70,7 +70,7 @@ fn reserved_cost(points: &[Point], cell: &Cell, l: usize) -> i128
 }
 
 // The least cost of point l, and of the pairs of it with a point right of the cap.
-fn least_pair(points: &[Point], cell: &Cell, l: usize) -> i128
+fn least_pair(points: &[Point], cell: &PricedCell, l: usize) -> i128
     requires lawful { IsLawfulCell points.now cell.now.k cell.now.a cell.now.b cell.now.cap }
     requires point { l < length points.now }
     requires left { pos 0 ≤ℤ room_of points.now cell.now.cap l }
@@ -87,7 +87,7 @@ fn least_pair(points: &[Point], cell: &Cell, l: usize) -> i128
 
 // The cost of the weights on the points l and j that meet the cap, rounded down. The price of the output is
 // the cap's in any case, and stands outside the quotient, where the numbers would not fit.
-fn pair_cost(points: &[Point], cell: &Cell, l: usize, j: usize) -> i128
+fn pair_cost(points: &[Point], cell: &PricedCell, l: usize, j: usize) -> i128
     requires lawful { IsLawfulCell points.now cell.now.k cell.now.a cell.now.b cell.now.cap }
     requires left_point { l < length points.now }
     requires right_point { j < length points.now }
@@ -100,7 +100,7 @@ fn pair_cost(points: &[Point], cell: &Cell, l: usize, j: usize) -> i128
 }
 
 // The same without the price of the output.
-fn unpriced_pair_cost(points: &[Point], cell: &Cell, l: usize, j: usize) -> i128
+fn unpriced_pair_cost(points: &[Point], cell: &PricedCell, l: usize, j: usize) -> i128
     requires lawful { IsLawfulCell points.now cell.now.k cell.now.a cell.now.b cell.now.cap }
     requires left_point { l < length points.now }
     requires right_point { j < length points.now }
@@ -115,7 +115,7 @@ fn unpriced_pair_cost(points: &[Point], cell: &Cell, l: usize, j: usize) -> i128
 }
 
 // The costs of the points l and j by the weights that meet the cap, over the width between the points.
-fn weighted_cost(points: &[Point], cell: &Cell, l: usize, j: usize) -> i128
+fn weighted_cost(points: &[Point], cell: &PricedCell, l: usize, j: usize) -> i128
     requires lawful { IsLawfulCell points.now cell.now.k cell.now.a cell.now.b cell.now.cap }
     requires left_point { l < length points.now }
     requires right_point { j < length points.now }
@@ -129,7 +129,7 @@ fn weighted_cost(points: &[Point], cell: &Cell, l: usize, j: usize) -> i128
 }
 
 // The cost of point j, times how far point l lies left of the cap.
-fn cost_by_room(points: &[Point], cell: &Cell, l: usize, j: usize) -> i128
+fn cost_by_room(points: &[Point], cell: &PricedCell, l: usize, j: usize) -> i128
     requires lawful { IsLawfulCell points.now cell.now.k cell.now.a cell.now.b cell.now.cap }
     requires left_point { l < length points.now }
     requires right_point { j < length points.now }
@@ -140,7 +140,7 @@ fn cost_by_room(points: &[Point], cell: &Cell, l: usize, j: usize) -> i128
 }
 
 // The reduced cost of point l without reserve.
-fn point_cost(points: &[Point], cell: &Cell, l: usize) -> i128
+fn point_cost(points: &[Point], cell: &PricedCell, l: usize) -> i128
     requires lawful { IsLawfulCell points.now cell.now.k cell.now.a cell.now.b cell.now.cap }
     requires point { l < length points.now }
     ensures value { result ≡ point_cost_of points.now cell.now.k cell.now.a l }
@@ -151,7 +151,7 @@ fn point_cost(points: &[Point], cell: &Cell, l: usize) -> i128
 }
 
 // How far point l lies left of the cap.
-fn room(points: &[Point], cell: &Cell, l: usize) -> i128
+fn room(points: &[Point], cell: &PricedCell, l: usize) -> i128
     requires lawful { IsLawfulCell points.now cell.now.k cell.now.a cell.now.b cell.now.cap }
     requires point { l < length points.now }
     ensures value { result ≡ room_of points.now cell.now.cap l }
@@ -161,7 +161,7 @@ fn room(points: &[Point], cell: &Cell, l: usize) -> i128
 }
 
 // Whether point l lies at or left of the cap.
-fn is_left(points: &[Point], cell: &Cell, l: usize) -> bool
+fn is_left(points: &[Point], cell: &PricedCell, l: usize) -> bool
     requires lawful { IsLawfulCell points.now cell.now.k cell.now.a cell.now.b cell.now.cap }
     requires point { l < length points.now }
     ensures { result ≡ int_le (pos 0) (room_of points.now cell.now.cap l) }
@@ -170,7 +170,7 @@ fn is_left(points: &[Point], cell: &Cell, l: usize) -> bool
 }
 
 // Whether it lies right of the cap.
-fn is_right(points: &[Point], cell: &Cell, l: usize) -> bool
+fn is_right(points: &[Point], cell: &PricedCell, l: usize) -> bool
     requires lawful { IsLawfulCell points.now cell.now.k cell.now.a cell.now.b cell.now.cap }
     requires point { l < length points.now }
     ensures { result ≡ int_lt (room_of points.now cell.now.cap l) (pos 0) }
@@ -179,7 +179,7 @@ fn is_right(points: &[Point], cell: &Cell, l: usize) -> bool
 }
 
 // The output of point l above the first one's.
-fn output(points: &[Point], cell: &Cell, l: usize) -> i128
+fn output(points: &[Point], cell: &PricedCell, l: usize) -> i128
     requires lawful { IsLawfulCell points.now cell.now.k cell.now.a cell.now.b cell.now.cap }
     requires point { l < length points.now }
     ensures value { result ≡ output_of points.now l }

@@ -3,7 +3,6 @@
 #![tactic(auto)]
 
 pub mod corners;
-pub mod limits;
 mod moves;
 mod rules;
 pub mod start_cost;

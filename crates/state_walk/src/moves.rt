@@ -2,13 +2,13 @@
 
 ghost use Rattle.std.specs.Prelude.{◌≡◌, ◌<◌, ◌≤◌, true, false, ◌-ℤ◌, ◌*ℤ◌, unsigned_abs};
 ghost use Rattle.uc_model.specs.Limits.{IsLawfulThermal};
-ghost use Rattle.state_walk.specs.UnitTerms.{AreSizedTerms, period_count, place as place_of, term_at as term_of};
+ghost use Rattle.dual_model.specs.UnitTerms.{AreSizedTerms, period_count, place as place_of, term_at as term_of};
 ghost use Rattle.state_walk.specs.Moves.{hour_before as hour_of, move, stop_since as stop_of};
 
-use crate::limits::{MAX_TERM, MAX_UNIT_PRICE};
 use crate::rules::{holds_initially, may_be_off, may_be_on, may_start, may_stop};
 use crate::start_cost::sigma;
 use dual_model::Fix;
+use dual_model::limits::{MAX_TERM, MAX_UNIT_PRICE};
 use uc_model::limits::MAX_POWER;
 use uc_model::{Terms, Thermal, difference, product, scaled};
 

@@ -7,11 +7,11 @@ ghost use Rattle.uc_model.specs.Limits.{IsLawfulThermal};
 ghost use Rattle.uc_model.specs.Schedule.{thermal_unit};
 ghost use Rattle.uc_model.specs.declared.instance.Instance.{Instance};
 ghost use Rattle.dual_model.specs.declared.table.Table.{Table};
-ghost use Rattle.state_walk.specs.UnitTerms.{AreSizedTerms, cell_cap as cap_of, place};
-ghost use Rattle.state_walk.specs.TableValue.{ArePricesOf, AreRowsOf, AreTermsFor, AreTermsOf, AreTermsOfRows, IsLawfulRow, IsLawfulScale, IsTermOfRow, row_at};
+ghost use Rattle.dual_model.specs.UnitTerms.{AreSizedTerms, cell_cap as cap_of, place};
+ghost use Rattle.dual_model.specs.TableValue.{ArePricesOf, AreRowsOf, AreTermsFor, AreTermsOf, AreTermsOfRows, IsLawfulRow, IsLawfulScale, IsTermOfRow, row_at};
 
 use crate::corners::term;
-use crate::limits::MAX_CAP;
+use dual_model::limits::MAX_CAP;
 use std::alloc::Global;
 use uc_model::limits::{MAX_PERIODS, MAX_POWER};
 use uc_model::{List, NoMemory, Terms, Thermal};

@@ -7,10 +7,10 @@ ghost use Rattle.uc_model.specs.declared.instance.Instance.{Instance};
 ghost use Rattle.dual_model.specs.Fixings.{IsFixOf};
 ghost use Rattle.dual_model.specs.declared.node.Node.{Node};
 ghost use Rattle.dual_model.specs.declared.table.Table.{Table};
-ghost use Rattle.state_walk.specs.UnitTerms.{AreSizedTerms, period_count};
-ghost use Rattle.state_walk.specs.PatternValue.{HasNoPattern, IsLeastValue};
-ghost use Rattle.state_walk.specs.TableValue.{AreTermsOf, IsUnitValueOf};
-ghost use Rattle.state_walk.specs.Onward.{plus as plus_of, lesser as lesser_of, entry, onward, IsTable, IsWithin, MAX_ONWARD};
+ghost use Rattle.dual_model.specs.UnitTerms.{AreSizedTerms, period_count};
+ghost use Rattle.dual_model.specs.PatternValue.{HasNoPattern, IsLeastValue};
+ghost use Rattle.dual_model.specs.TableValue.{AreTermsOf, IsUnitValueOf};
+ghost use Rattle.state_walk.specs.CostToGo.{total_of, lesser_of, entry, cost_to_go, IsTable, IsWithin, MAX_COST_TO_GO};
 
 use crate::moves::{hour_before, start, stay_off, stay_on, stop};
 use dual_model::Fix;
@@ -21,7 +21,7 @@ use uc_model::{NoMemory, Terms, Thermal};
 /// The least cost from a state before a period to the end of the horizon, where the unit is on, and where it
 /// is off; `None` where no pattern goes on from there.
 #[derive(Clone, Copy, Debug)]
-pub(crate) struct Onward {
+pub(crate) struct CostToGo {
     on: Option<i128>,
     off: Option<i128>,
 }
@@ -30,7 +30,7 @@ pub(crate) struct Onward {
 /// since which a state may last.
 #[derive(Debug, Drop)]
 pub struct Walk {
-    values: Vec<Onward>,
+    values: Vec<CostToGo>,
 }
 
 impl Model for Walk {
@@ -51,7 +51,7 @@ impl Walk {
         let Some(times) = periods.checked_add(1) else {
             return Err(NoMemory);
         };
-        let none = Onward {
+        let none = CostToGo {
             on: None,
             off: None,
         };
@@ -74,20 +74,25 @@ pub fn least(walk: &mut Walk, terms: &Terms, unit: &Thermal, fix: &Fix) -> Optio
 
     ensures value { IfSome result (IsLeastValue terms.now unit.now fix.now) }
     ensures none { IfNone result (HasNoPattern terms.now unit.now fix.now) }
-    ensures size { IsWithin MAX_ONWARD result }
+    ensures size { IsWithin MAX_COST_TO_GO result }
     ensures unit_value { (instance : Instance) (node : Node) (table : Table) (g : ℕ)
         → thermal_unit instance g ≡ unit.now → AreTermsOf instance table g terms.now
         → IsFixOf instance.periods node g fix.now → IsUnitValueOf instance node table g result }
 {
-    least_onward(walk.values.as_mut_slice(), terms, unit, fix)
+    least_cost_to_go(walk.values.as_mut_slice(), terms, unit, fix)
 }
 
 // The least cost of a unit from the beginning on, by the table `values`, which it fills.
-fn least_onward(values: &mut [Onward], terms: &Terms, unit: &Thermal, fix: &Fix) -> Option<i128>
+fn least_cost_to_go(
+    values: &mut [CostToGo],
+    terms: &Terms,
+    unit: &Thermal,
+    fix: &Fix,
+) -> Option<i128>
     requires lawful { IsLawfulThermal unit.now }
     requires sized { AreSizedTerms unit.now terms.now }
     requires room { length values.old ≡ period_count terms.now + 1 }
-    ensures { result ≡ onward terms.now unit.now fix.now (period_count terms.now) 0 unit.now.on0 0 }
+    ensures { result ≡ cost_to_go terms.now unit.now fix.now (period_count terms.now) 0 unit.now.on0 0 }
 {
     let periods = terms.terms.as_slice().len();
     end(values, terms, unit, fix);
@@ -99,7 +104,7 @@ fn least_onward(values: &mut [Onward], terms: &Terms, unit: &Thermal, fix: &Fix)
 }
 
 // The table after the last period.
-fn end(values: &mut [Onward], terms: &Terms, unit: &Thermal, fix: &Fix)
+fn end(values: &mut [CostToGo], terms: &Terms, unit: &Thermal, fix: &Fix)
     requires lawful { IsLawfulThermal unit.now }
     requires sized { AreSizedTerms unit.now terms.now }
     requires room { length values.old ≡ period_count terms.now + 1 }
@@ -108,12 +113,12 @@ fn end(values: &mut [Onward], terms: &Terms, unit: &Thermal, fix: &Fix)
     let periods = terms.terms.as_slice().len();
     for since in 0..periods + 1 {
         let on = hour_before(terms, unit, periods, since == periods, false);
-        values[since] = Onward { on, off: Some(0) };
+        values[since] = CostToGo { on, off: Some(0) };
     }
 }
 
 // The table before period t, from the one after it.
-fn step(values: &mut [Onward], terms: &Terms, unit: &Thermal, fix: &Fix, t: usize)
+fn step(values: &mut [CostToGo], terms: &Terms, unit: &Thermal, fix: &Fix, t: usize)
     requires lawful { IsLawfulThermal unit.now }
     requires sized { AreSizedTerms unit.now terms.now }
     requires room { length values.old ≡ period_count terms.now + 1 }
@@ -123,15 +128,15 @@ fn step(values: &mut [Onward], terms: &Terms, unit: &Thermal, fix: &Fix, t: usiz
 {
     let switched = values[t + 1];
     for since in 0..t + 1 {
-        values[since] = earlier(terms, unit, fix, t, since, values[since], switched);
+        values[since] = entry_before(terms, unit, fix, t, since, values[since], switched);
     }
 }
 
-// The sum of two costs; `None` is what may not be.
-fn plus(a: Option<i128>, b: Option<i128>) -> Option<i128>
-    requires left { IsWithin MAX_ONWARD a }
-    requires right { IsWithin MAX_ONWARD b }
-    ensures { result ≡ plus_of a b }
+// The total of two costs; `None` is what may not be.
+fn total(a: Option<i128>, b: Option<i128>) -> Option<i128>
+    requires left { IsWithin MAX_COST_TO_GO a }
+    requires right { IsWithin MAX_COST_TO_GO b }
+    ensures { result ≡ total_of a b }
 {
     match (a, b) {
         (Some(a), Some(b)) => Some(a + b),
@@ -152,15 +157,15 @@ fn lesser(a: Option<i128>, b: Option<i128>) -> Option<i128>
 
 // The entry before period t for a time since which the state lasts, from the one after it and the entry of a
 // unit that is switched in the period.
-fn earlier(
+fn entry_before(
     terms: &Terms,
     unit: &Thermal,
     fix: &Fix,
     t: usize,
     since: usize,
-    later: Onward,
-    switched: Onward,
-) -> Onward
+    later: CostToGo,
+    switched: CostToGo,
+) -> CostToGo
     requires lawful { IsLawfulThermal unit.now }
     requires sized { AreSizedTerms unit.now terms.now }
     requires period { t < period_count terms.now }
@@ -169,14 +174,14 @@ fn earlier(
     requires entered { switched ≡ entry terms.now unit.now fix.now (period_count terms.now - suc t) (suc t) (suc t) }
     ensures { result ≡ entry terms.now unit.now fix.now (period_count terms.now - t) t since }
 {
-    Onward {
+    CostToGo {
         on: lesser(
-            plus(stay_on(terms, unit, fix, t, since), later.on),
-            plus(stop(terms, unit, fix, t, since), switched.off),
+            total(stay_on(terms, unit, fix, t, since), later.on),
+            total(stop(terms, unit, fix, t, since), switched.off),
         ),
         off: lesser(
-            plus(start(terms, unit, fix, t, since), switched.on),
-            plus(stay_off(terms, unit, fix, t, since), later.off),
+            total(start(terms, unit, fix, t, since), switched.on),
+            total(stay_off(terms, unit, fix, t, since), later.off),
         ),
     }
 }

@@ -1,11 +1,14 @@
--- The least start cost is never above the cost of a category that M6 allows.
--- Cite from a crate above by `use Rattle.uc_model.proofs.StartCosts.{sigma-le-allowed}`.
-use Rattle.std.proofs.Common.{◌≡◌, ℕ, zero, suc, ◌-◌, ◌<◌, ◌≤◌, ◌≢◌, ◌⊎◌, ⊎_elim, false, not, ◌&&◌, cond, sym, ap, subst, ◌∙◌, arith, ◌≤ℤ◌}
-use Rattle.std.specs.Prelude.{IsTrue, nat_lt, nat_le, ◌==◌, Option, Some}
-use Rattle.std.proofs.lemmas.Bool.{and_parts, and_from, or_cases, cases_Bool, cond-true, cond-false, not-true, true≢false, leb-true, ltb-true, eqb-true, le-leb, lt-ltb}
+-- The least start cost is never above the cost of a category that M6 allows, and its size.
+-- Cite from a crate above by `use Rattle.uc_model.proofs.StartCosts.{sigma-le-allowed, sigma-size}`.
+use Rattle.std.proofs.Common.{◌≡◌, ℕ, zero, suc, ◌-◌, ◌<◌, ◌≤◌, ◌≢◌, ◌⊎◌, ⊎_elim, false, not, ◌&&◌, cond, sym, ap, subst, ◌∙◌, arith, ℤ, ◌≤ℤ◌, Bool}
+use Rattle.std.specs.Prelude.{IsTrue, nat_lt, nat_le, ◌==◌, Option, Some, unsigned_abs}
+use Rattle.std.proofs.lemmas.Bool.{and_parts, and_from, or_cases, cases_Bool, cond_both, cond-true, cond-false, not-true, true≢false, leb-true, ltb-true, eqb-true, le-leb, lt-ltb}
+use Rattle.uc_model.specs.Sums.{least_below}
 use Rattle.uc_model.specs.Commitment.{Commitment, was_on, starts, stops}
 use Rattle.uc_model.specs.StartCategory.{category_count, category_lag, category_cost, has_stop_within, is_barred, is_category_allowed, last_stop, stopped_within, may_cost_as, sigma}
+use Rattle.uc_model.specs.Limits.{IsLawfulThermal, MAX_COST}
 use Rattle.uc_model.specs.declared.instance.Thermal.{Thermal}
+use Rattle.uc_model.proofs.Sizes.{abs_min}
 use Rattle.uc_model.proofs.Tests.{any_below-at, least_below-le, least_below-le-other}
 
 below_or_last : (n k : ℕ) → k < suc n → (k < n) ⊎ (k ≡ n)
@@ -92,3 +95,23 @@ sigma-le-allowed unit on (suc s) t start h =
     least_below-le (category_count unit - 1) (may_cost_as unit last t) costs (category_cost unit (category_count unit)) s
     (omega arith) (may_cost-allowed unit on s t start parts.1))
     (or_cases _ _ h)
+
+-- ---- it is one of the costs
+least_below-size : (n : ℕ) (test : ℕ → Bool) (f : ℕ → ℤ) (other : ℤ) (m : ℕ) → unsigned_abs other ≤ m
+    → ((k : ℕ) → k < n → unsigned_abs (f k) ≤ m) → unsigned_abs (least_below n test f other) ≤ m
+least_below-size zero test f other m h k = h
+least_below-size (suc n) test f other m h k =
+    let before = least_below-size n test f other m h (λ i l. k i (omega arith)) in
+    cond_both (test n) _ _ (λ x. unsigned_abs x ≤ m) (λ e. abs_min (f n) (least_below n test f other) m (k n (omega arith)) before) (λ e. before)
+
+category_cost-size : (unit : Thermal) → IsLawfulThermal unit → (s : ℕ) → 1 ≤ s → s ≤ category_count unit
+    → unsigned_abs (category_cost unit s) ≤ MAX_COST
+category_cost-size unit lawful zero h k = absurd (omega arith)
+category_cost-size unit lawful (suc s) h k = lawful.start_costs s (omega arith)
+
+pub sigma-size : (unit : Thermal) → IsLawfulThermal unit → (last : Option ℕ) (t : ℕ) → unsigned_abs (sigma unit last t) ≤ MAX_COST
+sigma-size unit lawful last t =
+    least_below-size (category_count unit - 1) (may_cost_as unit last t) (λ s. category_cost unit (suc s))
+    (category_cost unit (category_count unit)) MAX_COST
+    (category_cost-size unit lawful (category_count unit) lawful.categories.0 (omega arith))
+    (λ s l. category_cost-size unit lawful (suc s) (omega arith) (omega (arith, lawful.categories.0)))

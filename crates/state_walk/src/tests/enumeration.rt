@@ -5,7 +5,7 @@
 ghost use Rattle.std.specs.Prelude.{◌≡◌, ◌≤◌, ◌&&◌, nat_le, int_le, pos, IfOk, IsTrue, All, length};
 ghost use Rattle.std.specs.List.{list_all};
 ghost use Rattle.uc_model.specs.Limits.{IsLawfulThermal};
-ghost use Rattle.state_walk.specs.TableValue.{IsLawfulRow};
+ghost use Rattle.dual_model.specs.TableValue.{IsLawfulRow};
 
 use crate::{Walk, least, terms};
 use dual_model::Fix;

@@ -1,7 +1,7 @@
 -- The size of the sum.
 use Rattle.std.proofs.Common.{◌*◌, lit<}
 use Rattle.uc_model.proofs.Sizes.{product-size, sum-fits}
-use Rattle.state_walk.specs.declared.limits.TheConstants.{MAX_UNIT_PRICE}
+use Rattle.dual_model.specs.declared.limits.TheConstants.{MAX_UNIT_PRICE}
 use Rattle.state_walk.specs.Corners.{MAX_ROOM, MAX_POINT_COST}
 use Rattle.state_walk.proofs.corners.reserved_cost.Goals as goal
 

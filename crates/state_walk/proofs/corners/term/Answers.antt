@@ -4,7 +4,7 @@ use Rattle.std.specs.Prelude.{unsigned_abs}
 use Rattle.std.specs.Int.{w64, w128}
 use Rattle.std.proofs.lemmas.Int.{ints, to_z-of_z}
 use Rattle.dual_model.specs.Term.{IsTerm}
-use Rattle.state_walk.specs.declared.limits.TheConstants.{MAX_TERM}
+use Rattle.dual_model.specs.declared.limits.TheConstants.{MAX_TERM}
 use Rattle.state_walk.specs.Corners.{least_corner}
 use Rattle.uc_model.proofs.Sizes.{wide}
 use Rattle.state_walk.proofs.CellTerms.{least_corner-term, term-size}

@@ -6,8 +6,8 @@ use Rattle.std.proofs.lemmas.Int.{to_z-of_z, fits_signed_from_abs}
 use Rattle.std.proofs.lemmas.Option.{MatchOption-at_some}
 use Rattle.uc_model.specs.declared.instance.Thermal.{Thermal}
 use Rattle.uc_model.specs.declared.terms.Terms.{Terms}
-use Rattle.state_walk.specs.declared.limits.TheConstants.{MAX_UNIT_PRICE, MAX_TERM}
-use Rattle.state_walk.specs.UnitTerms.{term_at, price_at, period_count}
+use Rattle.dual_model.specs.declared.limits.TheConstants.{MAX_UNIT_PRICE, MAX_TERM}
+use Rattle.dual_model.specs.UnitTerms.{term_at, price_at, period_count}
 use Rattle.state_walk.specs.Moves.{hour_before, hour_cost}
 use Rattle.state_walk.proofs.moves.hour_before.Goals as goal
 

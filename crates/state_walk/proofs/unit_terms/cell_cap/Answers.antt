@@ -4,8 +4,8 @@ use Rattle.std.specs.Prelude.{unsigned_abs}
 use Rattle.std.specs.Int.{w64, int_min}
 use Rattle.uc_model.specs.Sums.{bit}
 use Rattle.uc_model.specs.declared.limits.TheConstants.{MAX_POWER}
-use Rattle.state_walk.specs.declared.limits.TheConstants.{MAX_CAP}
-use Rattle.state_walk.specs.UnitTerms.{cell_cap}
+use Rattle.dual_model.specs.declared.limits.TheConstants.{MAX_CAP}
+use Rattle.dual_model.specs.UnitTerms.{cell_cap}
 use Rattle.uc_model.proofs.Sizes.{abs_min}
 use Rattle.uc_model.proofs.Sizes.{narrow}
 use Rattle.state_walk.proofs.unit_terms.cell_cap.Goals as goal

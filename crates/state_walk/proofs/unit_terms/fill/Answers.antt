@@ -4,9 +4,9 @@ use Rattle.std.specs.Prelude.{None, slice_index_or, slice_set, Option}
 use Rattle.std.specs.Int.{w64}
 use Rattle.std.proofs.lemmas.Int.{to_z-of_z}
 use Rattle.uc_model.specs.declared.instance.Thermal.{Thermal}
-use Rattle.state_walk.specs.declared.limits.TheConstants.{MAX_UNIT_PRICE}
-use Rattle.state_walk.specs.UnitTerms.{place}
-use Rattle.state_walk.specs.TableValue.{row_at, ArePricesOf, AreTermsOfRows, IsTermOfRow}
+use Rattle.dual_model.specs.declared.limits.TheConstants.{MAX_UNIT_PRICE}
+use Rattle.dual_model.specs.UnitTerms.{place}
+use Rattle.dual_model.specs.TableValue.{row_at, ArePricesOf, AreTermsOfRows, IsTermOfRow}
 use Rattle.uc_model.proofs.Sizes.{wide}
 use Rattle.state_walk.proofs.unit_terms.fill.Goals as goal
 

@@ -4,8 +4,8 @@ use Rattle.std.specs.Prelude.{Option, None, slice_index_or}
 use Rattle.std.specs.Int.{w64}
 use Rattle.std.proofs.lemmas.Int.{to_z-of_z}
 use Rattle.uc_model.specs.declared.instance.Thermal.{Thermal}
-use Rattle.state_walk.specs.UnitTerms.{place}
-use Rattle.state_walk.specs.TableValue.{IsTermOfRow}
+use Rattle.dual_model.specs.UnitTerms.{place}
+use Rattle.dual_model.specs.TableValue.{IsTermOfRow}
 use Rattle.state_walk.proofs.unit_terms.row_terms.Goals as goal
 
 in_places : (periods : ℕ) (unit : Thermal) (k : ℤ) (row : ℤ × ℤ × ℤ) (t : ℕ) (neither start stop both : Option ℤ)

@@ -3,9 +3,9 @@ use Rattle.std.proofs.Common.{◌≡◌, sym, subst, to_z, of_z, length, arith}
 use Rattle.std.specs.Int.{w64}
 use Rattle.std.proofs.lemmas.Int.{to_z-of_z}
 use Rattle.std.proofs.lemmas.Grind.{common_steps}
-use Rattle.state_walk.specs.UnitTerms.{AreSizedTerms}
-use Rattle.state_walk.specs.TableValue.{AreTermsFor, AreTermsOfRows}
-use Rattle.state_walk.proofs.TermLists.{made, terms_for, sized_for, terms_of}
+use Rattle.dual_model.specs.UnitTerms.{AreSizedTerms}
+use Rattle.dual_model.specs.TableValue.{AreTermsFor, AreTermsOfRows}
+use Rattle.dual_model.proofs.TermLists.{made, terms_for, sized_for, terms_of}
 use Rattle.state_walk.proofs.unit_terms.terms.Goals as goal
 
 prices_is : (c : goal.After-from_vec-2) → c.from_vec.result ≡ c.fill.new.pi

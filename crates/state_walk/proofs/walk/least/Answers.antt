@@ -5,12 +5,12 @@ use Rattle.uc_model.specs.Limits.{IsLawfulThermal}
 use Rattle.uc_model.specs.declared.instance.Thermal.{Thermal}
 use Rattle.uc_model.specs.declared.terms.Terms.{Terms}
 use Rattle.dual_model.specs.declared.node.Fix.{Fix}
-use Rattle.state_walk.specs.UnitTerms.{AreSizedTerms, period_count}
-use Rattle.state_walk.specs.Onward.{IsWithin, MAX_ONWARD}
-use Rattle.state_walk.proofs.Sizes.{onward-fits}
-use Rattle.state_walk.specs.PatternValue.{HasNoPattern, IsLeastValue}
+use Rattle.dual_model.specs.UnitTerms.{AreSizedTerms, period_count}
+use Rattle.state_walk.specs.CostToGo.{IsWithin, MAX_COST_TO_GO}
+use Rattle.state_walk.proofs.CostSizes.{cost_to_go-fits}
+use Rattle.dual_model.specs.PatternValue.{HasNoPattern, IsLeastValue}
 use Rattle.state_walk.proofs.LeastValues.{from_start, least-from_start, none-from_start}
-use Rattle.state_walk.proofs.TableValues.{unit_value-of}
+use Rattle.dual_model.proofs.TableValues.{unit_value-of}
 use Rattle.state_walk.proofs.walk.least.Goals as goal
 
 value : (terms : Terms) (unit : Thermal) (fix : Fix) (v : Option ℤ) → IsLawfulThermal unit → AreSizedTerms unit terms
@@ -25,20 +25,20 @@ none terms unit fix (Some v) sized e = tt
 
 pub returns-clause-value : goal.returns-clause-value
 returns-clause-value c =
-    value c.args.terms.now c.args.unit.now c.args.fix.now c.least_onward.result c.requires.lawful c.requires.sized c.least_onward.ensures
+    value c.args.terms.now c.args.unit.now c.args.fix.now c.least_cost_to_go.result c.requires.lawful c.requires.sized c.least_cost_to_go.ensures
 
 pub returns-clause-none : goal.returns-clause-none
 returns-clause-none c =
-    none c.args.terms.now c.args.unit.now c.args.fix.now c.least_onward.result c.requires.sized c.least_onward.ensures
+    none c.args.terms.now c.args.unit.now c.args.fix.now c.least_cost_to_go.result c.requires.sized c.least_cost_to_go.ensures
 
 pub returns-clause-unit_value : goal.returns-clause-unit_value
 returns-clause-unit_value c = λ instance node table g same are decided.
-    unit_value-of instance node table g c.args.unit.now c.args.terms.now c.args.fix.now c.least_onward.result same are decided
-    (λ w e. least-from_start c.args.terms.now c.args.unit.now c.args.fix.now w c.requires.lawful c.requires.sized (sym c.least_onward.ensures ∙ e))
-    (λ e. none-from_start c.args.terms.now c.args.unit.now c.args.fix.now c.requires.sized (sym c.least_onward.ensures ∙ e))
+    unit_value-of instance node table g c.args.unit.now c.args.terms.now c.args.fix.now c.least_cost_to_go.result same are decided
+    (λ w e. least-from_start c.args.terms.now c.args.unit.now c.args.fix.now w c.requires.lawful c.requires.sized (sym c.least_cost_to_go.ensures ∙ e))
+    (λ e. none-from_start c.args.terms.now c.args.unit.now c.args.fix.now c.requires.sized (sym c.least_cost_to_go.ensures ∙ e))
 
 pub returns-clause-size : goal.returns-clause-size
 returns-clause-size c =
-    subst (IsWithin MAX_ONWARD) (sym c.least_onward.ensures)
-    (onward-fits c.args.unit.now c.args.terms.now c.args.fix.now c.requires.lawful c.requires.sized (period_count c.args.terms.now) 0
+    subst (IsWithin MAX_COST_TO_GO) (sym c.least_cost_to_go.ensures)
+    (cost_to_go-fits c.args.unit.now c.args.terms.now c.args.fix.now c.requires.lawful c.requires.sized (period_count c.args.terms.now) 0
     (omega arith) c.args.unit.now.on0 0)

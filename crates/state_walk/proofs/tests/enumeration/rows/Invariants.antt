@@ -1,5 +1,5 @@
 use Rattle.std.proofs.Common.{◌≡◌, All, length}
-use Rattle.state_walk.specs.TableValue.{IsLawfulRow}
+use Rattle.dual_model.specs.TableValue.{IsLawfulRow}
 use Rattle.state_walk.proofs.tests.enumeration.rows.Given as goal
 
 abbrev pub invariant-loop-price : goal.invariant-loop-price

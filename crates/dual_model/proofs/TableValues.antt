@@ -22,11 +22,11 @@ use Rattle.dual_model.specs.declared.node.Fix.{Fix}
 use Rattle.dual_model.specs.declared.node.Node.{Node}
 use Rattle.dual_model.specs.declared.table.Table.{Table}
 use Rattle.dual_model.proofs.UnitValues.{term_unique}
-use Rattle.state_walk.specs.UnitTerms.{term_at, price_at}
-use Rattle.state_walk.specs.PatternValue.{IsPattern, IsLeastValue, is_followed, term_of, pattern_value}
-use Rattle.state_walk.specs.PatternValue as by_terms
-use Rattle.state_walk.specs.TableValue.{IsCellTerm, AreTermsOf, IsUnitValueOf}
-use Rattle.state_walk.proofs.Caps.{cell_cap-cap}
+use Rattle.dual_model.specs.UnitTerms.{term_at, price_at}
+use Rattle.dual_model.specs.PatternValue.{IsPattern, IsLeastValue, is_followed, term_of, pattern_value}
+use Rattle.dual_model.specs.PatternValue as by_terms
+use Rattle.dual_model.specs.TableValue.{IsCellTerm, AreTermsOf, IsUnitValueOf}
+use Rattle.dual_model.proofs.CellCaps.{cell_cap-cap}
 
 -- ---- patterns
 to_node : (instance : Instance) (node : Node) (g : ℕ) (fix : Fix) → IsFixOf instance.periods node g fix → (on : Commitment)

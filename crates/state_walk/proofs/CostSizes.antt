@@ -3,38 +3,18 @@ use Rattle.std.proofs.Common.{ℕ, zero, suc, ◌+◌, ◌*◌, ◌^◌, ◌<◌
 use Rattle.std.specs.Prelude.{Option, Some, None, unsigned_abs, ◌==◌, if◌then◌else◌}
 use Rattle.std.proofs.lemmas.Int.{ints}
 use Rattle.std.proofs.lemmas.Bool.{cond_both}
-use Rattle.uc_model.specs.Sums.{least_below}
-use Rattle.uc_model.specs.StartCategory.{category_count, category_cost, may_cost_as, sigma}
+use Rattle.uc_model.specs.StartCategory.{sigma}
 use Rattle.uc_model.specs.Limits.{IsLawfulThermal}
 use Rattle.uc_model.specs.declared.limits.TheConstants.{MAX_COST, MAX_POWER}
 use Rattle.uc_model.specs.declared.instance.Thermal.{Thermal}
 use Rattle.uc_model.specs.declared.terms.Terms.{Terms}
 use Rattle.dual_model.specs.declared.node.Fix.{Fix}
 use Rattle.uc_model.proofs.Sizes.{abs_add, abs_sub, abs_mul, abs_min}
-use Rattle.state_walk.specs.declared.limits.TheConstants.{MAX_UNIT_PRICE, MAX_TERM}
-use Rattle.state_walk.specs.UnitTerms.{AreSizedTerms, IsSized, period_count, price_at}
+use Rattle.uc_model.proofs.StartCosts.{sigma-size}
+use Rattle.dual_model.specs.declared.limits.TheConstants.{MAX_UNIT_PRICE, MAX_TERM}
+use Rattle.dual_model.specs.UnitTerms.{AreSizedTerms, IsSized, period_count, price_at}
 use Rattle.state_walk.specs.Moves.{stop_since, hour_cost, hour_before, move}
-use Rattle.state_walk.specs.Onward.{plus, lesser, end_cost, since_after, onward, IsWithin, MAX_MOVE, MAX_ONWARD}
-
--- ---- the least start cost is one of the costs
-least_below-size : (n : ℕ) (test : ℕ → Bool) (f : ℕ → ℤ) (other : ℤ) (m : ℕ) → unsigned_abs other ≤ m
-    → ((k : ℕ) → k < n → unsigned_abs (f k) ≤ m) → unsigned_abs (least_below n test f other) ≤ m
-least_below-size zero test f other m h k = h
-least_below-size (suc n) test f other m h k =
-    let before = least_below-size n test f other m h (λ i l. k i (omega arith)) in
-    cond_both (test n) _ _ (λ x. unsigned_abs x ≤ m) (λ e. abs_min (f n) (least_below n test f other) m (k n (omega arith)) before) (λ e. before)
-
-category_cost-size : (unit : Thermal) → IsLawfulThermal unit → (s : ℕ) → 1 ≤ s → s ≤ category_count unit
-    → unsigned_abs (category_cost unit s) ≤ MAX_COST
-category_cost-size unit lawful zero h k = absurd (omega arith)
-category_cost-size unit lawful (suc s) h k = lawful.start_costs s (omega arith)
-
-pub sigma-size : (unit : Thermal) → IsLawfulThermal unit → (last : Option ℕ) (t : ℕ) → unsigned_abs (sigma unit last t) ≤ MAX_COST
-sigma-size unit lawful last t =
-    least_below-size (category_count unit - 1) (may_cost_as unit last t) (λ s. category_cost unit (suc s))
-    (category_cost unit (category_count unit)) MAX_COST
-    (category_cost-size unit lawful (category_count unit) lawful.categories.0 (omega arith))
-    (λ s l. category_cost-size unit lawful (suc s) (omega arith) (omega (arith, lawful.categories.0)))
+use Rattle.state_walk.specs.CostToGo.{total_of, lesser_of, end_cost, since_after, cost_to_go, IsWithin, MAX_MOVE, MAX_COST_TO_GO}
 
 -- ---- moves
 hour_cost-size : (unit : Thermal) (terms : Terms) → IsLawfulThermal unit → AreSizedTerms unit terms → (t : ℕ) → t < period_count terms
@@ -72,15 +52,15 @@ move-size unit terms fix lawful sized t h false since true =
 move-size unit terms fix lawful sized t h false since false = only_where _ (Some (pos 0)) MAX_MOVE (omega arith)
 
 -- ---- the way to the end
-plus-size : (a b : Option ℤ) (m n : ℕ) → IsWithin m a → IsWithin n b → IsWithin (m + n) (plus a b)
-plus-size None b m n h k = tt
-plus-size (Some a) None m n h k = tt
-plus-size (Some a) (Some b) m n h k = abs_add a b m n h k
+total_of-size : (a b : Option ℤ) (m n : ℕ) → IsWithin m a → IsWithin n b → IsWithin (m + n) (total_of a b)
+total_of-size None b m n h k = tt
+total_of-size (Some a) None m n h k = tt
+total_of-size (Some a) (Some b) m n h k = abs_add a b m n h k
 
-lesser-size : (a b : Option ℤ) (m : ℕ) → IsWithin m a → IsWithin m b → IsWithin m (lesser a b)
-lesser-size None b m h k = k
-lesser-size (Some a) None m h k = h
-lesser-size (Some a) (Some b) m h k = abs_min a b m h k
+lesser_of-size : (a b : Option ℤ) (m : ℕ) → IsWithin m a → IsWithin m b → IsWithin m (lesser_of a b)
+lesser_of-size None b m h k = k
+lesser_of-size (Some a) None m h k = h
+lesser_of-size (Some a) (Some b) m h k = abs_min a b m h k
 
 pub more_room : (m n : ℕ) (o : Option ℤ) → m ≤ n → IsWithin m o → IsWithin n o
 more_room m n None h k = tt
@@ -91,29 +71,29 @@ end_cost-size : (unit : Thermal) (terms : Terms) → IsLawfulThermal unit → Ar
 end_cost-size unit terms lawful sized t h true since = hour_before-size unit terms lawful sized t h (since == t) false
 end_cost-size unit terms lawful sized t h false since = omega arith
 
-pub onward-size : (unit : Thermal) (terms : Terms) (fix : Fix) → IsLawfulThermal unit → AreSizedTerms unit terms → (n t : ℕ) → n + t ≤ period_count terms
-    → (was : Bool) (since : ℕ) → IsWithin (MAX_MOVE * n + MAX_MOVE) (onward terms unit fix n t was since)
-onward-size unit terms fix lawful sized zero t h was since =
+pub cost_to_go-size : (unit : Thermal) (terms : Terms) (fix : Fix) → IsLawfulThermal unit → AreSizedTerms unit terms → (n t : ℕ) → n + t ≤ period_count terms
+    → (was : Bool) (since : ℕ) → IsWithin (MAX_MOVE * n + MAX_MOVE) (cost_to_go terms unit fix n t was since)
+cost_to_go-size unit terms fix lawful sized zero t h was since =
     more_room _ _ _ (omega arith) (end_cost-size unit terms lawful sized t (omega arith) was since)
-onward-size unit terms fix lawful sized (suc n) t h was since =
-    let rest = λ (state : Bool) (from : ℕ). onward-size unit terms fix lawful sized n (suc t) (omega arith) state from in
+cost_to_go-size unit terms fix lawful sized (suc n) t h was since =
+    let rest = λ (state : Bool) (from : ℕ). cost_to_go-size unit terms fix lawful sized n (suc t) (omega arith) state from in
     more_room (MAX_MOVE + (MAX_MOVE * n + MAX_MOVE)) _ _ (omega arith)
-    (lesser-size _ _ (MAX_MOVE + (MAX_MOVE * n + MAX_MOVE)) (way rest true) (way rest false))
+    (lesser_of-size _ _ (MAX_MOVE + (MAX_MOVE * n + MAX_MOVE)) (way rest true) (way rest false))
   where
-    way : ((state : Bool) (from : ℕ) → IsWithin (MAX_MOVE * n + MAX_MOVE) (onward terms unit fix n (suc t) state from)) → (now : Bool) → IsWithin (MAX_MOVE + (MAX_MOVE * n + MAX_MOVE))
-        (plus (move terms unit fix t was since now) (onward terms unit fix n (suc t) now (since_after was since now t)))
+    way : ((state : Bool) (from : ℕ) → IsWithin (MAX_MOVE * n + MAX_MOVE) (cost_to_go terms unit fix n (suc t) state from)) → (now : Bool) → IsWithin (MAX_MOVE + (MAX_MOVE * n + MAX_MOVE))
+        (total_of (move terms unit fix t was since now) (cost_to_go terms unit fix n (suc t) now (since_after was since now t)))
     way rest now =
-        plus-size _ _ MAX_MOVE (MAX_MOVE * n + MAX_MOVE)
+        total_of-size _ _ MAX_MOVE (MAX_MOVE * n + MAX_MOVE)
         (move-size unit terms fix lawful sized t (omega arith) was since now)
         (rest now (since_after was since now t))
 
 -- so each cost of the walk is within one limit
 pub move-fits : (unit : Thermal) (terms : Terms) (fix : Fix) → IsLawfulThermal unit → AreSizedTerms unit terms → (t : ℕ) → t < period_count terms
-    → (was : Bool) (since : ℕ) (now : Bool) → IsWithin MAX_ONWARD (move terms unit fix t was since now)
+    → (was : Bool) (since : ℕ) (now : Bool) → IsWithin MAX_COST_TO_GO (move terms unit fix t was since now)
 move-fits unit terms fix lawful sized t h was since now =
-    more_room MAX_MOVE MAX_ONWARD _ (omega arith) (move-size unit terms fix lawful sized t h was since now)
+    more_room MAX_MOVE MAX_COST_TO_GO _ (omega arith) (move-size unit terms fix lawful sized t h was since now)
 
-pub onward-fits : (unit : Thermal) (terms : Terms) (fix : Fix) → IsLawfulThermal unit → AreSizedTerms unit terms → (n t : ℕ) → n + t ≤ period_count terms
-    → (was : Bool) (since : ℕ) → IsWithin MAX_ONWARD (onward terms unit fix n t was since)
-onward-fits unit terms fix lawful sized n t h was since =
-    more_room (MAX_MOVE * n + MAX_MOVE) MAX_ONWARD _ (omega (arith, sized.periods.1)) (onward-size unit terms fix lawful sized n t h was since)
+pub cost_to_go-fits : (unit : Thermal) (terms : Terms) (fix : Fix) → IsLawfulThermal unit → AreSizedTerms unit terms → (n t : ℕ) → n + t ≤ period_count terms
+    → (was : Bool) (since : ℕ) → IsWithin MAX_COST_TO_GO (cost_to_go terms unit fix n t was since)
+cost_to_go-fits unit terms fix lawful sized n t h was since =
+    more_room (MAX_MOVE * n + MAX_MOVE) MAX_COST_TO_GO _ (omega (arith, sized.periods.1)) (cost_to_go-size unit terms fix lawful sized n t h was since)

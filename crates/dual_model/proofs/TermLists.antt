@@ -9,9 +9,9 @@ use Rattle.uc_model.specs.declared.terms.Terms.{Terms}
 use Rattle.uc_model.specs.declared.limits.TheConstants.{MAX_PERIODS}
 use Rattle.dual_model.specs.Term.{output_price, reserve_price}
 use Rattle.dual_model.specs.declared.table.Table.{Table}
-use Rattle.state_walk.specs.declared.limits.TheConstants.{MAX_TERM, MAX_UNIT_PRICE}
-use Rattle.state_walk.specs.UnitTerms.{AreSizedTerms, IsSized, term_at, cell_cap}
-use Rattle.state_walk.specs.TableValue.{row_at, ArePricesOf, AreTermsOfRows, AreTermsFor, AreRowsOf, AreTermsOf, IsCellTerm, IsLawfulRow, IsLawfulScale}
+use Rattle.dual_model.specs.declared.limits.TheConstants.{MAX_TERM, MAX_UNIT_PRICE}
+use Rattle.dual_model.specs.UnitTerms.{AreSizedTerms, IsSized, term_at, cell_cap}
+use Rattle.dual_model.specs.TableValue.{row_at, ArePricesOf, AreTermsOfRows, AreTermsFor, AreRowsOf, AreTermsOf, IsCellTerm, IsLawfulRow, IsLawfulScale}
 
 abbrev pub made : ℤ → List ℤ → List (List (Option ℤ)) → Terms
 made k pi terms = record { k = k; pi = pi; terms = terms }

@@ -6,18 +6,18 @@ use Rattle.uc_model.specs.declared.instance.Thermal.{Thermal}
 use Rattle.uc_model.specs.declared.terms.Terms.{Terms}
 use Rattle.dual_model.specs.declared.node.Fix.{Fix}
 use Rattle.state_walk.specs.Moves.{hour_before, move}
-use Rattle.state_walk.specs.declared.walk.Onward.{Onward}
+use Rattle.state_walk.specs.declared.walk.CostToGo.{CostToGo}
 
--- the sum of two costs, and the lesser of two; None is what may not be
-abbrev pub plus : Option ℤ → Option ℤ → Option ℤ
-plus None b = None
-plus (Some a) None = None
-plus (Some a) (Some b) = Some (a +ℤ b)
+-- the total of two costs, and the lesser of them; None is what may not be
+abbrev pub total_of : Option ℤ → Option ℤ → Option ℤ
+total_of None b = None
+total_of (Some a) None = None
+total_of (Some a) (Some b) = Some (a +ℤ b)
 
-abbrev pub lesser : Option ℤ → Option ℤ → Option ℤ
-lesser None b = b
-lesser (Some a) None = Some a
-lesser (Some a) (Some b) = Some (int_min a b)
+abbrev pub lesser_of : Option ℤ → Option ℤ → Option ℤ
+lesser_of None b = b
+lesser_of (Some a) None = Some a
+lesser_of (Some a) (Some b) = Some (int_min a b)
 
 -- after the last period, t, the cost of its hour
 abbrev pub end_cost : Terms → Thermal → ℕ → Bool → ℕ → Option ℤ
@@ -32,12 +32,12 @@ since_after false since true t = suc t
 since_after false since false t = since
 
 -- the least cost from a state before period t on, with n periods left
-abbrev pub onward : Terms → Thermal → Fix → ℕ → ℕ → Bool → ℕ → Option ℤ
-onward terms unit fix zero t was since = end_cost terms unit t was since
-onward terms unit fix (suc n) t was since =
-    lesser
-    (plus (move terms unit fix t was since true) (onward terms unit fix n (suc t) true (since_after was since true t)))
-    (plus (move terms unit fix t was since false) (onward terms unit fix n (suc t) false (since_after was since false t)))
+abbrev pub cost_to_go : Terms → Thermal → Fix → ℕ → ℕ → Bool → ℕ → Option ℤ
+cost_to_go terms unit fix zero t was since = end_cost terms unit t was since
+cost_to_go terms unit fix (suc n) t was since =
+    lesser_of
+    (total_of (move terms unit fix t was since true) (cost_to_go terms unit fix n (suc t) true (since_after was since true t)))
+    (total_of (move terms unit fix t was since false) (cost_to_go terms unit fix n (suc t) false (since_after was since false t)))
 
 -- the size of a cost
 abbrev pub IsWithin : ℕ → Option ℤ → Type 0
@@ -47,16 +47,16 @@ IsWithin most cost = IfSome cost (λ v. unsigned_abs v ≤ most)
 abbrev pub MAX_MOVE : ℕ
 MAX_MOVE = 2 * 10 ^ 29
 
-abbrev pub MAX_ONWARD : ℕ
-MAX_ONWARD = 10 ^ 32
+abbrev pub MAX_COST_TO_GO : ℕ
+MAX_COST_TO_GO = 10 ^ 32
 
 -- the table of the walk before period t, with n periods left: an entry for each time since which a state may last
-abbrev pub entry : Terms → Thermal → Fix → ℕ → ℕ → ℕ → Onward
+abbrev pub entry : Terms → Thermal → Fix → ℕ → ℕ → ℕ → CostToGo
 entry terms unit fix n t since =
-    record { on = onward terms unit fix n t true since; off = onward terms unit fix n t false since }
+    record { on = cost_to_go terms unit fix n t true since; off = cost_to_go terms unit fix n t false since }
 
-abbrev pub entry_at : List Onward → ℕ → Onward
+abbrev pub entry_at : List CostToGo → ℕ → CostToGo
 entry_at values since = slice_index_or values since (record { on = None; off = None })
 
-abbrev pub IsTable : Terms → Thermal → Fix → ℕ → ℕ → List Onward → Type 0
+abbrev pub IsTable : Terms → Thermal → Fix → ℕ → ℕ → List CostToGo → Type 0
 IsTable terms unit fix n t values = (since : ℕ) → since ≤ t → entry_at values since ≡ entry terms unit fix n t since

@@ -13,8 +13,8 @@ use Rattle.dual_model.specs.UnitValue.{IsUnitValue}
 use Rattle.dual_model.specs.declared.limits.TheConstants.{MAX_SCALE}
 use Rattle.dual_model.specs.declared.node.Node.{Node}
 use Rattle.dual_model.specs.declared.table.Table.{Table}
-use Rattle.state_walk.specs.declared.limits.TheConstants.{MAX_UNIT_PRICE, MAX_TERM}
-use Rattle.state_walk.specs.UnitTerms.{period_count, term_at, price_at, cell_cap, place}
+use Rattle.dual_model.specs.declared.limits.TheConstants.{MAX_UNIT_PRICE, MAX_TERM}
+use Rattle.dual_model.specs.UnitTerms.{period_count, term_at, price_at, cell_cap, place}
 
 -- the term of a cell of this cap, or nothing where the cap is below 0
 abbrev pub IsCellTerm : List Point → ℤ → ℤ → ℤ → ℤ → Option ℤ → Type 0
