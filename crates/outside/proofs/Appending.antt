@@ -9,18 +9,7 @@ use Rattle.std.proofs.lemmas.Grind.{common_steps}
 use Rattle.outside.specs.Counts.{HasRisen}
 use Rattle.outside.specs.Known.{Tells, Appends, AppendsFront}
 use Rattle.outside.specs.Sinks.{WriterState, WriterWrites, WriterCountsFault, WritesFront}
-
--- nothing was appended
-pub appends-nothing : (known : Option (List ℕ)) → Appends [] known known
-appends-nothing None = tt
-appends-nothing (Some told) = grind (arith, common_steps)
-
--- one append after another
-pub appends-more : (xs ys : List ℕ) (old middle new : Option (List ℕ)) → Appends xs old middle → Appends ys middle new → Appends (xs ++ ys) old new
-appends-more xs ys old middle None h k = tt
-appends-more xs ys old None (Some new) h k = absurd k
-appends-more xs ys None (Some middle) (Some new) h k = absurd h
-appends-more xs ys (Some old) (Some middle) (Some new) h k = k ∙ ap (λ told. told ++ ys) h ∙ append_assoc old xs ys
+use Rattle.outside.specs.Emitting.{appends-more, writes-then}
 
 -- the first i bytes of a piece, and then n of the rest
 pub writes-more : (piece rest : List ℕ) (i n : ℕ) (a b c : WriterState) → rest ≡ drop i piece → WriterWrites (take i piece) a b → WriterWrites (take n rest) b c → WriterWrites (take (i + n) piece) a c
@@ -40,13 +29,6 @@ fault-after piece i a b c h k = record {
 pub at_error : {T E P : Type 0} (result : Result T E) → P → OnErr result P
 at_error (Ok x) p = tt
 at_error (Err e) p = p
-
--- one list of bytes after another
-pub writes-then : (before piece : List ℕ) (a b c : WriterState) → WriterWrites before a b → WriterWrites piece b c → WriterWrites (before ++ piece) a c
-writes-then before piece a b c h k = record {
-  same = k.same ∙ h.same;
-  grown = appends-more before piece a.written b.written c.written h.grown k.grown;
-}
 
 -- some bytes, and then a front of more
 pub fault-within : (before piece after bytes : List ℕ) (a b c : WriterState) → bytes ≡ before ++ (piece ++ after) → WriterWrites before a b → WritesFront piece b c → WritesFront bytes a c

@@ -11,3 +11,5 @@ pub mod Faulty
 pub mod System
 pub mod Pace
 pub mod SlurpFault
+pub mod Latching
+pub mod Emitting

@@ -1,0 +1,42 @@
+//! How the values of a list are put, one after another.
+
+ghost use Rattle.std.specs.Prelude.{ℕ, List, flat_map};
+ghost use Rattle.std.specs.List.{zip};
+
+use crate::out::Out;
+
+/// A form in which values are put.
+pub trait Form<T> {
+    ghost text: { Self → T → List ℕ };
+
+    /// Puts a value in this form.
+    fn put_value<O: Out>(&self, value: &T, out: &mut O)
+        ensures { O.emits (text self.now value.now) out.old out.new };
+}
+
+/// Puts each value in this form.
+pub fn put_each<T, F: Form<T>, O: Out>(out: &mut O, form: &F, values: &[T])
+    ensures { O.emits (flat_map (F.text form.now) values.now) out.old out.new }
+{
+    for value in values {
+        form.put_value(value, out);
+    }
+}
+
+/// A form in which pairs are put.
+pub trait PairForm<A, B> {
+    ghost text: { Self → A × B → List ℕ };
+
+    /// Puts a pair in this form.
+    fn put_pair<O: Out>(&self, first: &A, second: &B, out: &mut O)
+        ensures { O.emits (text self.now (first.now, second.now)) out.old out.new };
+}
+
+/// Puts each first value with the second one at its place in this form, up to the end of the shorter list.
+pub fn put_pairs<A, B, F: PairForm<A, B>, O: Out>(out: &mut O, form: &F, firsts: &[A], seconds: &[B])
+    ensures { O.emits (flat_map (F.text form.now) (zip firsts.now seconds.now)) out.old out.new }
+{
+    for index in 0..firsts.len().min(seconds.len()) {
+        form.put_pair(&firsts[index], &seconds[index], out);
+    }
+}
