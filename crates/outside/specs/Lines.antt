@@ -1,5 +1,11 @@
--- Lines of words. This project's own form.
+-- Texts in their order, and lines of words. This project's own form.
 use Rattle.std.specs.Prelude.{ℕ, List, [], ◌∷◌, ◌++◌, flat_map}
+
+-- texts one after another
+abbrev pub joined : List (List ℕ) → List ℕ
+joined [] = []
+joined (text ∷ []) = text
+joined (text ∷ (next ∷ texts)) = text ++ joined (next ∷ texts)
 
 -- each word after a space, and then what follows
 abbrev pub spaced : List (List ℕ) → List ℕ → List ℕ

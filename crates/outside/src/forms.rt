@@ -2,6 +2,7 @@
 
 ghost use Rattle.std.specs.Prelude.{ℕ, List, flat_map};
 ghost use Rattle.std.specs.List.{zip};
+ghost use Rattle.outside.specs.Lines.{words_of, list_line};
 
 use crate::out::Out;
 
@@ -23,6 +24,25 @@ pub fn put_each<T, F: Form<T>, O: Out>(out: &mut O, form: &F, values: &[T])
     }
 }
 
+/// Puts each value in this form, after a space.
+fn put_words<T, F: Form<T>, O: Out>(out: &mut O, form: &F, values: &[T])
+    ensures { O.emits (words_of (F.text form.now) values.now) out.old out.new }
+{
+    for value in values {
+        out.put(b" ");
+        form.put_value(value, out);
+    }
+}
+
+/// Puts a line of these values in this form, after its first word.
+pub fn put_list_line<T, F: Form<T>, O: Out>(out: &mut O, first: &[u8], form: &F, values: &[T])
+    ensures { O.emits (list_line first.now (F.text form.now) values.now) out.old out.new }
+{
+    out.put(first);
+    put_words(out, form, values);
+    out.put(b"\n");
+}
+
 /// A form in which pairs are put.
 pub trait PairForm<A, B> {
     ghost text: { Self → A × B → List ℕ };
@@ -33,7 +53,12 @@ pub trait PairForm<A, B> {
 }
 
 /// Puts each first value with the second one at its place in this form, up to the end of the shorter list.
-pub fn put_pairs<A, B, F: PairForm<A, B>, O: Out>(out: &mut O, form: &F, firsts: &[A], seconds: &[B])
+pub fn put_pairs<A, B, F: PairForm<A, B>, O: Out>(
+    out: &mut O,
+    form: &F,
+    firsts: &[A],
+    seconds: &[B],
+)
     ensures { O.emits (flat_map (F.text form.now) (zip firsts.now seconds.now)) out.old out.new }
 {
     for index in 0..firsts.len().min(seconds.len()) {

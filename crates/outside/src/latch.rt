@@ -36,7 +36,6 @@ impl<W: Writer> Latch<W> {
 
 impl<W: Writer> Out for Latch<W> {
     ghost use Rattle.outside.specs.Latching.{Emits};
-
     ghost use Rattle.outside.specs.Emitting.{emits-nothing, emits-two};
 
     ghost emits = { λ text a b. Emits W.state W.same_else text a.failed b.failed a.writer b.writer };

@@ -1,10 +1,10 @@
 //! A writer that was lent.
 
-use crate::fault::Failed;
-use crate::writer::Writer;
-
 ghost use Rattle.std.specs.Prelude.{◌≡◌, refl};
 ghost use Rattle.std.proofs.Common.{◌∙◌};
+
+use crate::fault::Failed;
+use crate::writer::Writer;
 
 /// A writer into one that was lent. When it is let go, that one is as the last write left it.
 #[derive(Drop)]

@@ -5,7 +5,7 @@
 //! read and wrote, and where a fault came from, is said in terms of their states. There are files
 //! and sinks in memory without faults, in memory with a list of the calls that fail, and of the
 //! system. The last are the trusted edge: they tell no content.
-#![tactic(auto)]
+#![tactic(auto, unfolding(crate::specs::Lines::line, crate::specs::Lines::list_line))]
 
 #[cfg(test)]
 mod caller;
@@ -22,6 +22,7 @@ mod latch;
 mod lent;
 mod memory_file;
 mod memory_sink;
+mod numbers;
 mod out;
 mod pace;
 mod reading;
@@ -42,12 +43,15 @@ pub use fault::{Failed, NoMemory};
 pub use faulty_file::FaultyFile;
 pub use faulty_sink::FaultySink;
 pub use files::Files;
-pub use forms::{Form, PairForm, put_each, put_pairs};
+pub use forms::{Form, PairForm, put_each, put_list_line, put_pairs};
 pub use gate::{Gate, OpenGate};
 pub use latch::Latch;
 pub use lent::Lent;
 pub use memory_file::MemoryFile;
 pub use memory_sink::MemorySink;
+pub use numbers::{
+    put_amount, put_money, put_money_line, put_place, put_signed, put_whole, put_whole_line,
+};
 pub use out::Out;
 pub use pace::Pace;
 pub use reading::{SlurpFault, slurp};

@@ -9,7 +9,7 @@ use Rattle.uc_model.specs.declared.refusal.Refusal.{Refusal}
 use Rattle.uc_model.specs.declared.refusal.Refusal.TheVariants.{C1, C2, C3, C4, C5, C6, C7, C8, C9}
 use Rattle.outside.specs.declared.slot.Slot.{Slot}
 use Rattle.outside.specs.declared.slot.Slot.TheVariants as slot
-use Rattle.outside.specs.Lines.{line}
+use Rattle.outside.specs.Lines.{joined, line}
 use Rattle.report.specs.Names.{unit_words}
 use Rattle.report.specs.declared.fault.Fault.{Fault}
 use Rattle.report.specs.declared.fault.Fault.TheVariants.{Words, Read, Write, Memory, Long, Json, Instance, Line, Code}
@@ -31,8 +31,8 @@ status_of (Code refusal) = 9
 -- how the program is called, in three lines
 abbrev pub usage_text : List ℕ
 usage_text =
-    line (codes "usage: uc solve FILE --cert FILE [--units N] [--workers N] [--gap PPM] [--exact]") []
-    ++ (line (codes "       uc check FILE CERT") [] ++ line (codes "       uc demo SEED") [])
+    joined (line (codes "usage: uc solve FILE --cert FILE [--units N] [--workers N] [--gap PPM] [--exact]") []
+    ∷ line (codes "       uc check FILE CERT") [] ∷ line (codes "       uc demo SEED") [] ∷ [])
 
 abbrev pub read_line : Slot → List ℕ
 read_line slot.Instance = line (codes "read failed: instance") []
@@ -56,8 +56,8 @@ json_text kind =
     else (if kind == 5 then codes "unpaired surrogate" else []))))
 
 -- bytes count from 0
-unfoldable pub json_line : ℕ → ℕ → List ℕ
-json_line byte kind = codes "instance: byte " ++ (whole_text byte ++ (codes ": " ++ (json_text kind ++ 10 ∷ [])))
+abbrev pub json_line : ℕ → ℕ → List ℕ
+json_line byte kind = joined (codes "instance: byte " ∷ whole_text byte ∷ codes ": " ∷ json_text kind ∷ codes "\n" ∷ [])
 
 -- the field's name in the file, after a space
 abbrev pub field_text : Field → List ℕ
@@ -98,15 +98,10 @@ abbrev pub entry_text : ℕ → List ℕ
 entry_text zero = []
 entry_text (suc entry) = 32 ∷ whole_text (suc entry)
 
-unfoldable pub code_text : ℕ → List ℕ
-code_text code = codes "instance: I" ++ whole_text code
-
-unfoldable pub field_and_entry : Field → ℕ → List ℕ
-field_and_entry field entry = field_text field ++ (entry_text entry ++ 10 ∷ [])
-
 -- the code, and the field and the entry of a unit or of the whole instance
 abbrev pub instance_line : ℕ → ℕ → List ℕ → Field → ℕ → List ℕ
-instance_line code kind unit field entry = code_text code ++ (owner_text kind unit ++ field_and_entry field entry)
+instance_line code kind unit field entry =
+    joined (codes "instance: I" ∷ whole_text code ∷ owner_text kind unit ∷ field_text field ∷ entry_text entry ∷ codes "\n" ∷ [])
 
 -- what is wrong at a line, by its kind from 1 to 3; another kind has no text
 abbrev pub line_fault_text : ℕ → List ℕ
@@ -115,30 +110,30 @@ line_fault_text kind =
     else (if kind == 3 then codes "bytes after the end" else []))
 
 -- lines count from 1 here and in the type
-unfoldable pub certificate_line : ℕ → ℕ → List ℕ
+abbrev pub certificate_line : ℕ → ℕ → List ℕ
 certificate_line number kind =
-    codes "certificate: line " ++ (whole_text number ++ (codes ": " ++ (line_fault_text kind ++ 10 ∷ [])))
+    joined (codes "certificate: line " ∷ whole_text number ∷ codes ": " ∷ line_fault_text kind ∷ codes "\n" ∷ [])
 
 -- a rule that the schedule breaks, for a unit of a kind or for a whole period
-unfoldable pub unit_rule_line : ℕ → List ℕ → ℕ → ℕ → List ℕ
+abbrev pub unit_rule_line : ℕ → List ℕ → ℕ → ℕ → List ℕ
 unit_rule_line rule kind unit period =
-    codes "certificate: C2 M" ++ (whole_text rule ++ (32 ∷ (kind ++ (32 ∷ (whole_text (suc unit) ++ (codes " period "
-    ++ (whole_text (suc period) ++ 10 ∷ [])))))))
+    joined (codes "certificate: C2 M" ∷ whole_text rule ∷ kind ∷ whole_text (suc unit) ∷ codes " period "
+    ∷ whole_text (suc period) ∷ codes "\n" ∷ [])
 
-unfoldable pub period_rule_line : ℕ → ℕ → List ℕ
+abbrev pub period_rule_line : ℕ → ℕ → List ℕ
 period_rule_line rule period =
-    codes "certificate: C2 M" ++ (whole_text rule ++ (codes " period " ++ (whole_text (suc period) ++ 10 ∷ [])))
+    joined (codes "certificate: C2 M" ∷ whole_text rule ∷ codes " period " ∷ whole_text (suc period) ∷ codes "\n" ∷ [])
 
 -- rule 13 speaks of a renewable unit, 14 and 15 of a whole period, the others of a thermal unit
 abbrev pub rule_line : ℕ → ℕ → ℕ → List ℕ
 rule_line rule unit period =
-    if rule == 13 then unit_rule_line rule (codes "renewable") unit period
+    if rule == 13 then unit_rule_line rule (codes " renewable ") unit period
     else (if (rule == 14) || (rule == 15) then period_rule_line rule period
-    else unit_rule_line rule (codes "thermal") unit period)
+    else unit_rule_line rule (codes " thermal ") unit period)
 
-unfoldable pub costs_line : ℤ → ℤ → List ℕ
+abbrev pub costs_line : ℤ → ℤ → List ℕ
 costs_line written computed =
-    codes "certificate: C3 written " ++ (money_text written ++ (codes " computed " ++ (money_text computed ++ 10 ∷ [])))
+    joined (codes "certificate: C3 written " ∷ money_text written ∷ codes " computed " ∷ money_text computed ∷ codes "\n" ∷ [])
 
 -- why the certificate is refused; tables and nodes count from 1 here and in the type
 abbrev pub refusal_line : Refusal → List ℕ

@@ -16,7 +16,7 @@ use Rattle.uc_model.specs.declared.stuck.Why.TheVariants.{Rule, Box, Over, Under
 use Rattle.uc_model.specs.declared.stuck.Stuck.{Stuck}
 use Rattle.branch_tree.specs.declared.found.Found.{Found}
 use Rattle.branch_tree.specs.Claims.{tree_bound}
-use Rattle.outside.specs.Lines.{line, list_line}
+use Rattle.outside.specs.Lines.{joined, line, list_line}
 use Rattle.report.specs.Names.{unit_words}
 
 -- the numbers of periods, of units, and of the file's numbers that were rounded
@@ -58,13 +58,11 @@ abbrev pub start_text : ℕ → List ℕ
 start_text zero = []
 start_text (suc s) = codes "*" ++ whole_text (suc s)
 
--- total output and reserve
-abbrev pub power_text : Thermal → Cell → List ℕ
-power_text unit cell = money_text (cell.p +ℤ unit.pmin) ++ (codes "+" ++ money_text cell.r)
-
 -- a cell: `-`, or total output, reserve and the category of a start
 abbrev pub cell_text : Thermal → Cell → List ℕ
-cell_text unit cell = if cell.on then power_text unit cell ++ start_text cell.category else codes "-"
+cell_text unit cell =
+    if cell.on then joined (money_text (cell.p +ℤ unit.pmin) ∷ codes "+" ∷ money_text cell.r ∷ start_text cell.category ∷ [])
+    else codes "-"
 
 abbrev pub thermal_line : Thermal → List Cell → List ℕ
 thermal_line unit row = list_line (unit_words (codes "thermal") unit.name) (cell_text unit) row
@@ -86,23 +84,16 @@ thermal_lines units rows = flat_map paired_thermal_line (zip units rows)
 abbrev pub renewable_lines : List Renewable → List (List ℤ) → List ℕ
 renewable_lines units rows = flat_map paired_renewable_line (zip units rows)
 
-abbrev pub schedule_lines : Instance → Printed → List ℕ
-schedule_lines instance printed =
-    thermal_lines instance.thermal printed.thermal ++ renewable_lines instance.renewable printed.renewable
-
 -- a thermal unit by its name
 abbrev pub thermal_words : Instance → ℕ → List ℕ
 thermal_words instance unit = unit_words (codes "thermal") (thermal_unit instance unit).name
 
--- the range that a unit needs above its minimum
-unfoldable pub range_text : ℤ → ℤ → List ℕ
-range_text low high =
-    codes " needs at least " ++ (money_text low ++ (codes " and at most " ++ (money_text high ++ (codes " above its minimum" ++ 10 ∷ []))))
-
 -- why a commitment could not be dispatched
 abbrev pub why_line : Instance → Why → List ℕ
 why_line instance (Rule rule unit) = line (thermal_words instance unit) (codes "breaks" ∷ (codes "M" ++ whole_text rule) ∷ [])
-why_line instance (Box unit low high) = thermal_words instance unit ++ range_text low high
+why_line instance (Box unit low high) =
+    joined (thermal_words instance unit ∷ codes " needs at least " ∷ money_text low ∷ codes " and at most " ∷ money_text high
+    ∷ codes " above its minimum\n" ∷ [])
 why_line instance (Over least demand) =
     line (codes "least output") (money_text least ∷ codes "above demand" ∷ money_text demand ∷ [])
 why_line instance (Under most demand) =
@@ -110,38 +101,25 @@ why_line instance (Under most demand) =
 why_line instance (Reserve room need) =
     line (codes "reserve") (money_text room ∷ codes "below need" ∷ money_text need ∷ [])
 
--- the period in which it got stuck
-unfoldable pub stuck_period : ℕ → List ℕ
-stuck_period period = codes "most-on commitment stuck in period " ++ (whole_text (suc period) ++ codes ": ")
-
 -- where and why the commitment with the most on periods could not be dispatched, where this is known
 abbrev pub stuck_line : Instance → Option Stuck → List ℕ
 stuck_line instance None = []
-stuck_line instance (Some stuck) = stuck_period stuck.period ++ why_line instance stuck.why
-
--- the bound and the count of evaluations
-abbrev pub bound_lines : Found → List ℕ
-bound_lines found = bound_line (tree_bound found.tree) ++ evaluations_line found
-
-abbrev pub cost_lines : Found → ℤ → List ℕ
-cost_lines found cost = cost_line cost ++ bound_lines found
-
--- whether the search is closed, the cost, the bound and the count of evaluations
-abbrev pub result_lines : Found → ℕ → ℤ → List ℕ
-result_lines found gap cost = state_line (is_within_gap cost (tree_bound found.tree) gap) ++ cost_lines found cost
+stuck_line instance (Some stuck) =
+    joined (codes "most-on commitment stuck in period " ∷ whole_text (suc stuck.period) ∷ codes ": " ∷ why_line instance stuck.why ∷ [])
 
 -- a schedule with its cost
 abbrev pub schedule_report : Instance → Found → ℕ → Printed → ℤ → List ℕ
-schedule_report instance found gap printed cost = result_lines found gap cost ++ schedule_lines instance printed
-
-abbrev pub open_lines : Instance → Found → List ℕ
-open_lines instance found = bound_lines found ++ stuck_line instance found.most_on
+schedule_report instance found gap printed cost =
+    joined (state_line (is_within_gap cost (tree_bound found.tree) gap) ∷ cost_line cost ∷ bound_line (tree_bound found.tree)
+    ∷ evaluations_line found ∷ thermal_lines instance.thermal printed.thermal
+    ∷ renewable_lines instance.renewable printed.renewable ∷ [])
 
 -- without a schedule: with no bound there is none, and else there may be one
 abbrev pub no_schedule_report : Instance → Found → Option ℤ → List ℕ
-no_schedule_report instance found None = line (codes "infeasible") [] ++ evaluations_line found
+no_schedule_report instance found None = joined (line (codes "infeasible") [] ∷ evaluations_line found ∷ [])
 no_schedule_report instance found (Some bound) =
-    line (codes "budget spent, no schedule found") [] ++ open_lines instance found
+    joined (line (codes "budget spent, no schedule found") [] ∷ bound_line (Some bound) ∷ evaluations_line found
+    ∷ stuck_line instance found.most_on ∷ [])
 
 abbrev pub outcome_report : Instance → Found → ℕ → Option (Printed × ℤ) → List ℕ
 outcome_report instance found gap None = no_schedule_report instance found (tree_bound found.tree)
@@ -149,4 +127,5 @@ outcome_report instance found gap (Some priced) = schedule_report instance found
 
 -- the whole report, by how many numbers were rounded and by the gap in parts per million
 abbrev pub found_report : Instance → Found → ℕ → ℕ → List ℕ
-found_report instance found rounded gap = size_line instance rounded ++ outcome_report instance found gap found.schedule
+found_report instance found rounded gap =
+    joined (size_line instance rounded ∷ outcome_report instance found gap found.schedule ∷ [])

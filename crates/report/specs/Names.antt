@@ -1,6 +1,7 @@
 -- How the name of a unit is written: between double quotes, with the escapes of a JSON string (RFC 8259) for what a string can't
 -- hold as it is. Any other byte stands as it is.
 use Rattle.std.specs.Prelude.{ℕ, ◌+◌, ◌/◌, ◌%◌, List, [], ◌∷◌, ◌++◌, flat_map, codes, nat_lt, ◌==◌, if◌then◌else◌}
+use Rattle.outside.specs.Lines.{joined}
 
 -- the byte of a hexadecimal digit, in lower case
 abbrev pub hex_digit : ℕ → ℕ
@@ -16,4 +17,4 @@ escaped byte =
 
 -- a unit by its kind, `thermal` or `renewable`, and its name in double quotes
 unfoldable pub unit_words : List ℕ → List ℕ → List ℕ
-unit_words kind name = (kind ++ 32 ∷ 34 ∷ []) ++ (flat_map escaped name ++ 34 ∷ [])
+unit_words kind name = joined (kind ∷ (32 ∷ 34 ∷ []) ∷ flat_map escaped name ∷ (34 ∷ []) ∷ [])

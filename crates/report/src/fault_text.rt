@@ -1,36 +1,28 @@
 //! The line of a fault.
 
-ghost use Rattle.std.specs.Prelude.{◌≡◌, ◌∷◌, ◌++◌, [], OnOk, OnErr, codes};
-ghost use Rattle.outside.specs.Sinks.{SinkWrites, SinkWritesFront, WriterWrites, WritesFront};
+ghost use Rattle.std.specs.Prelude.{◌≡◌, ◌∷◌, [], OnOk, OnErr, codes};
+ghost use Rattle.outside.specs.Sinks.{SinkWrites, SinkWritesFront};
+ghost use Rattle.outside.specs.Lines.{joined};
 ghost use Rattle.uc_model.specs.Decimal.{whole_text};
-ghost use Rattle.outside.specs.Lines.{line};
-ghost use Rattle.report.specs.FaultText.{usage_text, read_line, write_line, long_line, json_text, json_line, field_text, owner_text, code_text, field_and_entry, instance_line, line_fault_text, certificate_line, unit_rule_line, period_rule_line, rule_line, costs_line, refusal_line, fault_text};
+ghost use Rattle.report.specs.FaultText.{usage_text, read_line, write_line, long_line, json_text, field_text, owner_text, entry_text, instance_line, line_fault_text, unit_rule_line, period_rule_line, rule_line, costs_line, refusal_line, fault_text};
 
 use crate::fault::Fault;
-use crate::names::write_unit;
-use crate::numbers::{amount_digits, from_one_digits};
-use itoa::Buffer;
-use outside::{Failed, Sink, SinkWriter, Slot, Writer, write_all, write_pieces};
-use uc_model::{Field, Refusal, money_digits, whole_digits};
+use crate::names::put_unit;
+use outside::{
+    Failed, Latch, Out, Sink, SinkWriter, Slot, put_amount, put_money, put_place, put_whole,
+    put_whole_line,
+};
+use uc_model::{Field, Refusal};
 
 // How the program is called.
-#[tactic(auto, unfolding(outside::specs::Lines::line))]
-fn write_usage<W: Writer>(out: &mut W) -> Result<(), Failed>
-    ensures ok { OnOk result (WriterWrites usage_text (W.state out.old) (W.state out.new)) }
-    ensures failed { OnErr result (WritesFront usage_text (W.state out.old) (W.state out.new)) }
-    ensures rest { W.same_else out.old out.new }
+fn put_usage<O: Out>(out: &mut O)
+    ensures { O.emits usage_text out.old out.new }
 {
-    write_pieces(
-        out,
-        &[
-            b"usage: uc solve FILE --cert FILE [--units N] [--workers N] [--gap PPM] [--exact]\n",
-            b"       uc check FILE CERT\n",
-            b"       uc demo SEED\n",
-        ],
-    )
+    out.put(b"usage: uc solve FILE --cert FILE [--units N] [--workers N] [--gap PPM] [--exact]\n");
+    out.put(b"       uc check FILE CERT\n");
+    out.put(b"       uc demo SEED\n");
 }
 
-#[tactic(auto, unfolding(outside::specs::Lines::line))]
 fn read_failed(slot: &Slot) -> &'static [u8]
     ensures { result.now ≡ read_line slot.now }
 {
@@ -40,7 +32,6 @@ fn read_failed(slot: &Slot) -> &'static [u8]
     }
 }
 
-#[tactic(auto, unfolding(outside::specs::Lines::line))]
 fn write_failed(output: bool) -> &'static [u8]
     ensures { result.now ≡ write_line output }
 {
@@ -51,7 +42,6 @@ fn write_failed(output: bool) -> &'static [u8]
     }
 }
 
-#[tactic(auto, unfolding(outside::specs::Lines::line))]
 fn too_long(slot: &Slot) -> &'static [u8]
     ensures { result.now ≡ long_line slot.now }
 {
@@ -59,13 +49,6 @@ fn too_long(slot: &Slot) -> &'static [u8]
         Slot::Instance => b"instance: more than 67108864 bytes\n",
         Slot::CertIn | Slot::CertOut => b"certificate: more than 70368744177664 bytes\n",
     }
-}
-
-#[tactic(auto, unfolding(outside::specs::Lines::line))]
-fn out_of_memory() -> &'static [u8]
-    ensures { result.now ≡ line (codes "out of memory") [] }
-{
-    b"out of memory\n"
 }
 
 // What is wrong at a byte of the instance.
@@ -80,25 +63,6 @@ fn json_fault(kind: u8) -> &'static [u8]
         5 => b"unpaired surrogate",
         _ => b"",
     }
-}
-
-#[tactic(auto, unfolding(crate::specs::FaultText::json_line))]
-fn write_json<W: Writer>(out: &mut W, at: usize, kind: u8) -> Result<(), Failed>
-    ensures ok { OnOk result (WriterWrites (json_line at kind) (W.state out.old) (W.state out.new)) }
-    ensures failed { OnErr result (WritesFront (json_line at kind) (W.state out.old) (W.state out.new)) }
-    ensures rest { W.same_else out.old out.new }
-{
-    let mut buffer = Buffer::new();
-    write_pieces(
-        out,
-        &[
-            b"instance: byte ",
-            whole_digits(&mut buffer, at as u64),
-            b": ",
-            json_fault(kind),
-            b"\n",
-        ],
-    )
 }
 
 // A field's name after a space, and nothing for the whole value.
@@ -134,85 +98,37 @@ fn field_name(field: &Field) -> &'static [u8]
     }
 }
 
-#[tactic(auto, unfolding(crate::specs::FaultText::code_text))]
-fn write_code<W: Writer>(out: &mut W, code: u8) -> Result<(), Failed>
-    ensures ok { OnOk result (WriterWrites (code_text code) (W.state out.old) (W.state out.new)) }
-    ensures failed { OnErr result (WritesFront (code_text code) (W.state out.old) (W.state out.new)) }
-    ensures rest { W.same_else out.old out.new }
-{
-    let mut buffer = Buffer::new();
-    write_pieces(
-        out,
-        &[b"instance: I", whole_digits(&mut buffer, u64::from(code))],
-    )
-}
-
 // The unit whose field is refused, after a space.
-fn write_owner<W: Writer>(out: &mut W, kind: u8, name: &str) -> Result<(), Failed>
-    ensures ok { OnOk result (WriterWrites (owner_text kind name.now) (W.state out.old) (W.state out.new)) }
-    ensures failed { OnErr result (WritesFront (owner_text kind name.now) (W.state out.old) (W.state out.new)) }
-    ensures rest { W.same_else out.old out.new }
+fn put_owner<O: Out>(out: &mut O, kind: u8, name: &str)
+    ensures { O.emits (owner_text kind name.now) out.old out.new }
 {
     if kind == 1 {
-        write_unit(out, b" thermal", name)
+        put_unit(out, b" thermal", name);
     } else if kind == 2 {
-        write_unit(out, b" renewable", name)
-    } else {
-        write_all(out, b"")
+        put_unit(out, b" renewable", name);
     }
 }
 
-#[tactic(auto, unfolding(crate::specs::FaultText::field_and_entry))]
-fn write_field_and_entry<W: Writer>(out: &mut W, field: &Field, entry: u32) -> Result<(), Failed>
-    ensures ok { OnOk result (WriterWrites (field_and_entry field.now entry) (W.state out.old) (W.state out.new)) }
-    ensures failed { OnErr result (WritesFront (field_and_entry field.now entry) (W.state out.old) (W.state out.new)) }
-    ensures rest { W.same_else out.old out.new }
+// The entry of an array after a space; 0 is none.
+fn put_entry<O: Out>(out: &mut O, entry: u32)
+    ensures { O.emits (entry_text entry) out.old out.new }
 {
-    if entry == 0 {
-        return write_pieces(out, &[field_name(field), b"\n"]);
+    if entry > 0 {
+        out.put(b" ");
+        put_whole(out, u64::from(entry));
     }
-    let mut buffer = Buffer::new();
-    write_pieces(
-        out,
-        &[
-            field_name(field),
-            b" ",
-            whole_digits(&mut buffer, u64::from(entry)),
-            b"\n",
-        ],
-    )
-}
-
-fn write_place<W: Writer>(
-    out: &mut W,
-    kind: u8,
-    name: &str,
-    field: &Field,
-    entry: u32,
-) -> Result<(), Failed>
-    ensures ok { OnOk result (WriterWrites (owner_text kind name.now ++ field_and_entry field.now entry) (W.state out.old) (W.state out.new)) }
-    ensures failed { OnErr result (WritesFront (owner_text kind name.now ++ field_and_entry field.now entry) (W.state out.old) (W.state out.new)) }
-    ensures rest { W.same_else out.old out.new }
-{
-    write_owner(out, kind, name)?;
-    write_field_and_entry(out, field, entry)
 }
 
 // The refusal of a field of the instance.
-fn write_instance<W: Writer>(
-    out: &mut W,
-    code: u8,
-    kind: u8,
-    name: &str,
-    field: &Field,
-    entry: u32,
-) -> Result<(), Failed>
-    ensures ok { OnOk result (WriterWrites (instance_line code kind name.now field.now entry) (W.state out.old) (W.state out.new)) }
-    ensures failed { OnErr result (WritesFront (instance_line code kind name.now field.now entry) (W.state out.old) (W.state out.new)) }
-    ensures rest { W.same_else out.old out.new }
+fn put_instance<O: Out>(out: &mut O, code: u8, kind: u8, name: &str, field: &Field, entry: u32)
+    ensures { O.emits (instance_line code kind name.now field.now entry) out.old out.new }
 {
-    write_code(out, code)?;
-    write_place(out, kind, name, field, entry)
+    out.put(b"instance: I");
+    put_whole(out, u64::from(code));
+    put_owner(out, kind, name);
+    out.put(field_name(field));
+    put_entry(out, entry);
+    out.put(b"\n");
 }
 
 // What is wrong at a line of the certificate.
@@ -227,180 +143,101 @@ fn line_fault(kind: u8) -> &'static [u8]
     }
 }
 
-#[tactic(auto, unfolding(crate::specs::FaultText::certificate_line))]
-fn write_certificate_line<W: Writer>(out: &mut W, number: u64, kind: u8) -> Result<(), Failed>
-    ensures ok { OnOk result (WriterWrites (certificate_line number kind) (W.state out.old) (W.state out.new)) }
-    ensures failed { OnErr result (WritesFront (certificate_line number kind) (W.state out.old) (W.state out.new)) }
-    ensures rest { W.same_else out.old out.new }
+// What is wrong at a number of a file: a byte of the instance, or a line of the certificate.
+fn put_at<O: Out>(out: &mut O, words: &[u8], number: u64, what: &[u8])
+    ensures { O.emits (joined (words.now ∷ whole_text number ∷ codes ": " ∷ what.now ∷ codes "\n" ∷ [])) out.old out.new }
 {
-    let mut buffer = Buffer::new();
-    write_pieces(
-        out,
-        &[
-            b"certificate: line ",
-            whole_digits(&mut buffer, number),
-            b": ",
-            line_fault(kind),
-            b"\n",
-        ],
-    )
-}
-
-// A line of one number, of which its words say the meaning.
-#[tactic(auto, unfolding(outside::specs::Lines::line))]
-fn write_numbered<W: Writer>(out: &mut W, words: &[u8], number: u64) -> Result<(), Failed>
-    ensures ok { OnOk result (WriterWrites (line words.now (whole_text number ∷ [])) (W.state out.old) (W.state out.new)) }
-    ensures failed { OnErr result (WritesFront (line words.now (whole_text number ∷ [])) (W.state out.old) (W.state out.new)) }
-    ensures rest { W.same_else out.old out.new }
-{
-    let mut buffer = Buffer::new();
-    write_pieces(
-        out,
-        &[words, b" ", whole_digits(&mut buffer, number), b"\n"],
-    )
+    out.put(words);
+    put_whole(out, number);
+    out.put(b": ");
+    out.put(what);
+    out.put(b"\n");
 }
 
 // A rule that the schedule breaks for a unit of a kind.
-#[tactic(auto, unfolding(crate::specs::FaultText::unit_rule_line))]
-fn write_unit_rule<W: Writer>(
-    out: &mut W,
-    rule: u8,
-    kind: &[u8],
-    unit: usize,
-    period: usize,
-) -> Result<(), Failed>
-    ensures ok { OnOk result (WriterWrites (unit_rule_line rule kind.now unit period) (W.state out.old) (W.state out.new)) }
-    ensures failed { OnErr result (WritesFront (unit_rule_line rule kind.now unit period) (W.state out.old) (W.state out.new)) }
-    ensures rest { W.same_else out.old out.new }
+fn put_unit_rule<O: Out>(out: &mut O, rule: u8, kind: &[u8], unit: usize, period: usize)
+    ensures { O.emits (unit_rule_line rule kind.now unit period) out.old out.new }
 {
-    let mut first = Buffer::new();
-    let mut second = Buffer::new();
-    let mut third = Buffer::new();
-    write_pieces(
-        out,
-        &[
-            b"certificate: C2 M",
-            whole_digits(&mut first, u64::from(rule)),
-            b" ",
-            kind,
-            b" ",
-            from_one_digits(&mut second, unit),
-            b" period ",
-            from_one_digits(&mut third, period),
-            b"\n",
-        ],
-    )
+    out.put(b"certificate: C2 M");
+    put_whole(out, u64::from(rule));
+    out.put(kind);
+    put_place(out, unit);
+    out.put(b" period ");
+    put_place(out, period);
+    out.put(b"\n");
 }
 
 // A rule that the schedule breaks in a whole period.
-#[tactic(auto, unfolding(crate::specs::FaultText::period_rule_line))]
-fn write_period_rule<W: Writer>(out: &mut W, rule: u8, period: usize) -> Result<(), Failed>
-    ensures ok { OnOk result (WriterWrites (period_rule_line rule period) (W.state out.old) (W.state out.new)) }
-    ensures failed { OnErr result (WritesFront (period_rule_line rule period) (W.state out.old) (W.state out.new)) }
-    ensures rest { W.same_else out.old out.new }
+fn put_period_rule<O: Out>(out: &mut O, rule: u8, period: usize)
+    ensures { O.emits (period_rule_line rule period) out.old out.new }
 {
-    let mut first = Buffer::new();
-    let mut second = Buffer::new();
-    write_pieces(
-        out,
-        &[
-            b"certificate: C2 M",
-            whole_digits(&mut first, u64::from(rule)),
-            b" period ",
-            from_one_digits(&mut second, period),
-            b"\n",
-        ],
-    )
+    out.put(b"certificate: C2 M");
+    put_whole(out, u64::from(rule));
+    out.put(b" period ");
+    put_place(out, period);
+    out.put(b"\n");
 }
 
-fn write_rule<W: Writer>(out: &mut W, rule: u8, unit: usize, period: usize) -> Result<(), Failed>
-    ensures ok { OnOk result (WriterWrites (rule_line rule unit period) (W.state out.old) (W.state out.new)) }
-    ensures failed { OnErr result (WritesFront (rule_line rule unit period) (W.state out.old) (W.state out.new)) }
-    ensures rest { W.same_else out.old out.new }
+fn put_rule<O: Out>(out: &mut O, rule: u8, unit: usize, period: usize)
+    ensures { O.emits (rule_line rule unit period) out.old out.new }
 {
     if rule == 13 {
-        write_unit_rule(out, rule, b"renewable", unit, period)
+        put_unit_rule(out, rule, b" renewable ", unit, period);
     } else if rule == 14 || rule == 15 {
-        write_period_rule(out, rule, period)
+        put_period_rule(out, rule, period);
     } else {
-        write_unit_rule(out, rule, b"thermal", unit, period)
+        put_unit_rule(out, rule, b" thermal ", unit, period);
     }
 }
 
-#[tactic(auto, unfolding(crate::specs::FaultText::costs_line))]
-fn write_costs<W: Writer>(out: &mut W, written: &i128, computed: &i64) -> Result<(), Failed>
-    ensures ok { OnOk result (WriterWrites (costs_line written.now computed.now) (W.state out.old) (W.state out.new)) }
-    ensures failed { OnErr result (WritesFront (costs_line written.now computed.now) (W.state out.old) (W.state out.new)) }
-    ensures rest { W.same_else out.old out.new }
+fn put_costs<O: Out>(out: &mut O, written: &i128, computed: &i64)
+    ensures { O.emits (costs_line written.now computed.now) out.old out.new }
 {
-    let mut first = [0; 48];
-    let mut second = [0; 48];
-    write_pieces(
-        out,
-        &[
-            b"certificate: C3 written ",
-            money_digits(&mut first, *written),
-            b" computed ",
-            amount_digits(&mut second, computed),
-            b"\n",
-        ],
-    )
-}
-
-#[tactic(auto, unfolding(outside::specs::Lines::line))]
-fn wrong_claim() -> &'static [u8]
-    ensures { result.now ≡ line (codes "certificate: C8") [] }
-{
-    b"certificate: C8\n"
-}
-
-#[tactic(auto, unfolding(outside::specs::Lines::line))]
-fn wrong_size() -> &'static [u8]
-    ensures { result.now ≡ line (codes "certificate: C9") [] }
-{
-    b"certificate: C9\n"
+    out.put(b"certificate: C3 written ");
+    put_money(out, written);
+    out.put(b" computed ");
+    put_amount(out, computed);
+    out.put(b"\n");
 }
 
 // Why a certificate is refused.
-fn write_refusal<W: Writer>(out: &mut W, refusal: &Refusal) -> Result<(), Failed>
-    ensures ok { OnOk result (WriterWrites (refusal_line refusal.now) (W.state out.old) (W.state out.new)) }
-    ensures failed { OnErr result (WritesFront (refusal_line refusal.now) (W.state out.old) (W.state out.new)) }
-    ensures rest { W.same_else out.old out.new }
+fn put_refusal<O: Out>(out: &mut O, refusal: &Refusal)
+    ensures { O.emits (refusal_line refusal.now) out.old out.new }
 {
     match refusal {
-        Refusal::C1 { table } => write_numbered(out, b"certificate: C1 table", u64::from(*table)),
-        Refusal::C2 { rule, unit, period } => write_rule(out, *rule, *unit, *period),
-        Refusal::C3 { written, computed } => write_costs(out, written, computed),
-        Refusal::C4 { node } => write_numbered(out, b"certificate: C4 node", *node),
-        Refusal::C5 { node } => write_numbered(out, b"certificate: C5 node", *node),
-        Refusal::C6 { node } => write_numbered(out, b"certificate: C6 node", *node),
-        Refusal::C7 { node } => write_numbered(out, b"certificate: C7 node", *node),
-        Refusal::C8 => write_all(out, wrong_claim()),
-        Refusal::C9 => write_all(out, wrong_size()),
+        Refusal::C1 { table } => put_whole_line(out, b"certificate: C1 table", u64::from(*table)),
+        Refusal::C2 { rule, unit, period } => put_rule(out, *rule, *unit, *period),
+        Refusal::C3 { written, computed } => put_costs(out, written, computed),
+        Refusal::C4 { node } => put_whole_line(out, b"certificate: C4 node", *node),
+        Refusal::C5 { node } => put_whole_line(out, b"certificate: C5 node", *node),
+        Refusal::C6 { node } => put_whole_line(out, b"certificate: C6 node", *node),
+        Refusal::C7 { node } => put_whole_line(out, b"certificate: C7 node", *node),
+        Refusal::C8 => out.put(b"certificate: C8\n"),
+        Refusal::C9 => out.put(b"certificate: C9\n"),
     }
 }
 
-fn write_text<W: Writer>(out: &mut W, fault: &Fault) -> Result<(), Failed>
-    ensures ok { OnOk result (WriterWrites (fault_text fault.now) (W.state out.old) (W.state out.new)) }
-    ensures failed { OnErr result (WritesFront (fault_text fault.now) (W.state out.old) (W.state out.new)) }
-    ensures rest { W.same_else out.old out.new }
+fn put_fault<O: Out>(out: &mut O, fault: &Fault)
+    ensures { O.emits (fault_text fault.now) out.old out.new }
 {
     match fault {
-        Fault::Words => write_usage(out),
-        Fault::Read(slot) => write_all(out, read_failed(slot)),
-        Fault::Write { output } => write_all(out, write_failed(*output)),
-        Fault::Memory => write_all(out, out_of_memory()),
-        Fault::Long(slot) => write_all(out, too_long(slot)),
-        Fault::Json { at, kind } => write_json(out, *at, *kind),
+        Fault::Words => put_usage(out),
+        Fault::Read(slot) => out.put(read_failed(slot)),
+        Fault::Write { output } => out.put(write_failed(*output)),
+        Fault::Memory => out.put(b"out of memory\n"),
+        Fault::Long(slot) => out.put(too_long(slot)),
+        Fault::Json { at, kind } => put_at(out, b"instance: byte ", *at as u64, json_fault(*kind)),
         Fault::Instance {
             code,
             kind_of_unit,
             unit,
             field,
             entry,
-        } => write_instance(out, *code, *kind_of_unit, unit.as_str(), field, *entry),
-        Fault::Line { line, kind } => write_certificate_line(out, *line, *kind),
-        Fault::Code(refusal) => write_refusal(out, refusal),
+        } => put_instance(out, *code, *kind_of_unit, unit.as_str(), field, *entry),
+        Fault::Line { line, kind } => {
+            put_at(out, b"certificate: line ", *line, line_fault(*kind));
+        }
+        Fault::Code(refusal) => put_refusal(out, refusal),
     }
 }
 
@@ -413,6 +250,7 @@ pub fn write_fault<E: Sink>(err: &mut E, fault: &Fault) -> Result<(), Failed>
     ensures ok { OnOk result (SinkWrites (fault_text fault.now) (E.state err.old) (E.state err.new)) }
     ensures failed { OnErr result (SinkWritesFront (fault_text fault.now) (E.state err.old) (E.state err.new)) }
 {
-    let mut writer = SinkWriter::new(err);
-    write_text(&mut writer, fault)
+    let mut latch = Latch::new(SinkWriter::new(err));
+    put_fault(&mut latch, fault);
+    latch.outcome()
 }

@@ -1,18 +1,14 @@
 //! The line on a commitment that could not be dispatched.
 
-ghost use Rattle.std.specs.Prelude.{◌≡◌, ◌∷◌, ◌++◌, [], OnOk, OnErr, codes};
-ghost use Rattle.outside.specs.Sinks.{WriterWrites, WritesFront};
-ghost use Rattle.uc_model.specs.Decimal.{whole_text};
+ghost use Rattle.std.specs.Prelude.{◌≡◌, ◌∷◌, [], codes};
 ghost use Rattle.uc_model.specs.Money.{money_text};
 ghost use Rattle.uc_model.specs.Schedule.{thermal_unit};
 ghost use Rattle.outside.specs.Lines.{line};
-ghost use Rattle.report.specs.FoundReport.{thermal_words, range_text, why_line, stuck_period, stuck_line};
+ghost use Rattle.report.specs.FoundReport.{thermal_words, why_line, stuck_line};
 
-use crate::names::write_unit;
-use crate::numbers::{amount_digits, from_one_digits};
-use itoa::Buffer;
-use outside::{Failed, Writer, write_all, write_pieces};
-use uc_model::{Instance, Stuck, Why, whole_digits};
+use crate::names::put_unit;
+use outside::{Out, put_amount, put_place, put_whole};
+use uc_model::{Instance, Stuck, Why};
 
 // The name of a thermal unit, and of none past the last one.
 fn thermal_name(instance: &Instance, unit: usize) -> &str
@@ -24,154 +20,62 @@ fn thermal_name(instance: &Instance, unit: usize) -> &str
     }
 }
 
-fn write_thermal<W: Writer>(out: &mut W, instance: &Instance, unit: usize) -> Result<(), Failed>
-    ensures ok { OnOk result (WriterWrites (thermal_words instance.now unit) (W.state out.old) (W.state out.new)) }
-    ensures failed { OnErr result (WritesFront (thermal_words instance.now unit) (W.state out.old) (W.state out.new)) }
-    ensures rest { W.same_else out.old out.new }
+fn put_thermal<O: Out>(out: &mut O, instance: &Instance, unit: usize)
+    ensures { O.emits (thermal_words instance.now unit) out.old out.new }
 {
-    write_unit(out, b"thermal", thermal_name(instance, unit))
-}
-
-#[tactic(auto, using(outside::proofs::Writing::then_ok, outside::proofs::Writing::then_failed, outside::proofs::Writing::front_at_error), unfolding(outside::specs::Lines::line))]
-fn write_rule<W: Writer>(
-    out: &mut W,
-    instance: &Instance,
-    rule: u8,
-    unit: usize,
-) -> Result<(), Failed>
-    ensures ok { OnOk result (WriterWrites (line (thermal_words instance.now unit) (codes "breaks" ∷ (codes "M" ++ whole_text rule) ∷ [])) (W.state out.old) (W.state out.new)) }
-    ensures failed { OnErr result (WritesFront (line (thermal_words instance.now unit) (codes "breaks" ∷ (codes "M" ++ whole_text rule) ∷ [])) (W.state out.old) (W.state out.new)) }
-    ensures rest { W.same_else out.old out.new }
-{
-    write_thermal(out, instance, unit)?;
-    let mut buffer = Buffer::new();
-    write_pieces(
-        out,
-        &[
-            b" breaks M",
-            whole_digits(&mut buffer, u64::from(rule)),
-            b"\n",
-        ],
-    )
-}
-
-// The range that a unit needs, of which the low end is above the high one.
-#[tactic(auto, unfolding(crate::specs::FoundReport::range_text))]
-fn write_range<W: Writer>(out: &mut W, low: &i64, high: &i64) -> Result<(), Failed>
-    ensures ok { OnOk result (WriterWrites (range_text low.now high.now) (W.state out.old) (W.state out.new)) }
-    ensures failed { OnErr result (WritesFront (range_text low.now high.now) (W.state out.old) (W.state out.new)) }
-    ensures rest { W.same_else out.old out.new }
-{
-    let mut first = [0; 48];
-    let mut second = [0; 48];
-    write_pieces(
-        out,
-        &[
-            b" needs at least ",
-            amount_digits(&mut first, low),
-            b" and at most ",
-            amount_digits(&mut second, high),
-            b" above its minimum\n",
-        ],
-    )
-}
-
-fn write_box<W: Writer>(
-    out: &mut W,
-    instance: &Instance,
-    unit: usize,
-    low: &i64,
-    high: &i64,
-) -> Result<(), Failed>
-    ensures ok { OnOk result (WriterWrites (thermal_words instance.now unit ++ range_text low.now high.now) (W.state out.old) (W.state out.new)) }
-    ensures failed { OnErr result (WritesFront (thermal_words instance.now unit ++ range_text low.now high.now) (W.state out.old) (W.state out.new)) }
-    ensures rest { W.same_else out.old out.new }
-{
-    write_thermal(out, instance, unit)?;
-    write_range(out, low, high)
+    put_unit(out, b"thermal", thermal_name(instance, unit));
 }
 
 // A power that doesn't fit another one.
-#[tactic(auto, unfolding(outside::specs::Lines::line))]
-fn write_misfit<W: Writer>(
-    out: &mut W,
-    what: &[u8],
-    power: &i64,
-    relation: &[u8],
-    other: &i64,
-) -> Result<(), Failed>
-    ensures ok { OnOk result (WriterWrites (line what.now (money_text power.now ∷ relation.now ∷ money_text other.now ∷ [])) (W.state out.old) (W.state out.new)) }
-    ensures failed { OnErr result (WritesFront (line what.now (money_text power.now ∷ relation.now ∷ money_text other.now ∷ [])) (W.state out.old) (W.state out.new)) }
-    ensures rest { W.same_else out.old out.new }
+fn put_misfit<O: Out>(out: &mut O, what: &[u8], power: &i64, relation: &[u8], other: &i64)
+    ensures { O.emits (line what.now (money_text power.now ∷ relation.now ∷ money_text other.now ∷ [])) out.old out.new }
 {
-    let mut first = [0; 48];
-    let mut second = [0; 48];
-    write_pieces(
-        out,
-        &[
-            what,
-            b" ",
-            amount_digits(&mut first, power),
-            b" ",
-            relation,
-            b" ",
-            amount_digits(&mut second, other),
-            b"\n",
-        ],
-    )
+    out.put(what);
+    out.put(b" ");
+    put_amount(out, power);
+    out.put(b" ");
+    out.put(relation);
+    out.put(b" ");
+    put_amount(out, other);
+    out.put(b"\n");
 }
 
-fn write_why<W: Writer>(out: &mut W, instance: &Instance, why: &Why) -> Result<(), Failed>
-    ensures ok { OnOk result (WriterWrites (why_line instance.now why.now) (W.state out.old) (W.state out.new)) }
-    ensures failed { OnErr result (WritesFront (why_line instance.now why.now) (W.state out.old) (W.state out.new)) }
-    ensures rest { W.same_else out.old out.new }
+fn put_why<O: Out>(out: &mut O, instance: &Instance, why: &Why)
+    ensures { O.emits (why_line instance.now why.now) out.old out.new }
 {
     match why {
-        Why::Rule { rule, unit } => write_rule(out, instance, *rule, *unit),
-        Why::Box { unit, low, high } => write_box(out, instance, *unit, low, high),
+        Why::Rule { rule, unit } => {
+            put_thermal(out, instance, *unit);
+            out.put(b" breaks M");
+            put_whole(out, u64::from(*rule));
+            out.put(b"\n");
+        }
+        Why::Box { unit, low, high } => {
+            put_thermal(out, instance, *unit);
+            out.put(b" needs at least ");
+            put_amount(out, low);
+            out.put(b" and at most ");
+            put_amount(out, high);
+            out.put(b" above its minimum\n");
+        }
         Why::Over { least, demand } => {
-            write_misfit(out, b"least output", least, b"above demand", demand)
+            put_misfit(out, b"least output", least, b"above demand", demand);
         }
         Why::Under { most, demand } => {
-            write_misfit(out, b"most output", most, b"below demand", demand)
+            put_misfit(out, b"most output", most, b"below demand", demand);
         }
-        Why::Reserve { room, need } => write_misfit(out, b"reserve", room, b"below need", need),
+        Why::Reserve { room, need } => put_misfit(out, b"reserve", room, b"below need", need),
     }
 }
 
-// The period counts from 1 in the text.
-#[tactic(auto, unfolding(crate::specs::FoundReport::stuck_period))]
-fn write_period<W: Writer>(out: &mut W, period: usize) -> Result<(), Failed>
-    ensures ok { OnOk result (WriterWrites (stuck_period period) (W.state out.old) (W.state out.new)) }
-    ensures failed { OnErr result (WritesFront (stuck_period period) (W.state out.old) (W.state out.new)) }
-    ensures rest { W.same_else out.old out.new }
+// Where and why the most-on commitment got stuck, if it is known. The period counts from 1 in the text.
+pub(crate) fn put_stuck<O: Out>(out: &mut O, instance: &Instance, stuck: &Option<Stuck>)
+    ensures { O.emits (stuck_line instance.now stuck.now) out.old out.new }
 {
-    let mut buffer = Buffer::new();
-    write_pieces(
-        out,
-        &[
-            b"most-on commitment stuck in period ",
-            from_one_digits(&mut buffer, period),
-            b": ",
-        ],
-    )
-}
-
-// Where and why the most-on commitment got stuck, if it is known.
-pub(crate) fn write_stuck<W: Writer>(
-    out: &mut W,
-    instance: &Instance,
-    stuck: &Option<Stuck>,
-) -> Result<(), Failed>
-    ensures ok { OnOk result (WriterWrites (stuck_line instance.now stuck.now) (W.state out.old) (W.state out.new)) }
-    ensures failed { OnErr result (WritesFront (stuck_line instance.now stuck.now) (W.state out.old) (W.state out.new)) }
-    ensures rest { W.same_else out.old out.new }
-{
-    match stuck {
-        Some(stuck) => {
-            write_period(out, stuck.period)?;
-            write_why(out, instance, &stuck.why)
-        }
-        None => write_all(out, b""),
+    if let Some(stuck) = stuck {
+        out.put(b"most-on commitment stuck in period ");
+        put_place(out, stuck.period);
+        out.put(b": ");
+        put_why(out, instance, &stuck.why);
     }
 }

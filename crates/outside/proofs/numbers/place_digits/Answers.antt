@@ -1,7 +1,7 @@
 use Rattle.std.proofs.Common.{◌∙◌, ◌+◌, ap, add-one, arith}
 use Rattle.uc_model.specs.Decimal.{whole_text}
 use Rattle.uc_model.proofs.DecimalText.{decimal-whole_text}
-use Rattle.report.proofs.numbers.from_one_digits.Goals as goal
+use Rattle.outside.proofs.numbers.place_digits.Goals as goal
 
 pub returns : goal.returns
 returns c =
