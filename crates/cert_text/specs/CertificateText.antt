@@ -1,19 +1,38 @@
--- How a certificate is written, version 1: one spelling for each certificate. This project's own format.
+-- How a certificate is written: its lines in their order, one spelling for each certificate. This project's own format.
 -- Units, periods and tables count from 0 here, and from 1 in the text.
-use Rattle.std.specs.Prelude.{ℕ, suc, List, [], ◌∷◌, ◌++◌, ℤ, Option, Some, None, length, flat_map, codes, if◌then◌else◌}
+use Rattle.std.specs.Prelude.{ℕ, suc, List, [], ◌∷◌, ◌++◌, ℤ, Option, Some, None, length, map, flat_map, codes, if◌then◌else◌}
 use Rattle.uc_model.specs.Decimal.{whole_text, signed_text}
 use Rattle.uc_model.specs.Money.{money_text}
 use Rattle.uc_model.specs.declared.schedule.Cell.{Cell}
-use Rattle.uc_model.specs.declared.schedule.Printed.{Printed}
 use Rattle.dual_model.specs.Certificate.{Certificate, WrittenSchedule}
-use Rattle.dual_model.specs.Tree.{Tree, Ends, Splits}
-use Rattle.dual_model.specs.Cover.{Leaf, Bound, Ray, Empty}
 use Rattle.dual_model.specs.declared.table.Table.{Table}
 use Rattle.dual_model.specs.declared.table.RampRow.{RampRow}
-use Rattle.outside.specs.Lines.{line, list_line}
+use Rattle.outside.specs.Lines.{joined, line, list_line}
+use Rattle.cert_text.specs.Nodes.{TreeNode, preorder, node_line}
 
-abbrev pub version_line : List ℕ
-version_line = line (codes "uc-certificate 1") []
+-- what a certificate says, with its tree as the nodes in preorder
+pub record Listing : Type 0 where
+  pub periods : ℕ
+  pub thermal : ℕ
+  pub renewable : ℕ
+  pub bound : Option ℤ
+  pub schedule : Option WrittenSchedule
+  pub tables : List Table
+  pub nodes : List TreeNode
+
+abbrev pub listing_of : Certificate → Listing
+listing_of c = record {
+  periods = c.periods;
+  thermal = c.thermal;
+  renewable = c.renewable;
+  bound = c.bound;
+  schedule = c.schedule;
+  tables = c.tables;
+  nodes = preorder c.tree;
+}
+
+abbrev pub version_line : ℕ → List ℕ
+version_line version = line (codes "uc-certificate") (whole_text version ∷ [])
 
 -- the numbers of periods, of thermal and renewable units, and of tables
 abbrev pub size_line : ℕ → ℕ → ℕ → ℕ → List ℕ
@@ -24,14 +43,11 @@ abbrev pub claim_line : Option ℤ → List ℕ
 claim_line (Some bound) = line (codes "claim bound") (money_text bound ∷ [])
 claim_line None = line (codes "claim infeasible") []
 
-abbrev pub heading : Certificate → List ℕ
-heading c =
-    (version_line ++ size_line c.periods c.thermal c.renewable (length c.tables)) ++ claim_line c.bound
-
 -- a cell: `-`, or output above the minimum, reserve and start category
 abbrev pub cell_text : Cell → List ℕ
 cell_text cell =
-    if cell.on then signed_text cell.p ++ (58 ∷ signed_text cell.r ++ (58 ∷ whole_text cell.category)) else codes "-"
+    if cell.on then joined (signed_text cell.p ∷ codes ":" ∷ signed_text cell.r ∷ codes ":" ∷ whole_text cell.category ∷ [])
+    else codes "-"
 
 abbrev pub thermal_line : List Cell → List ℕ
 thermal_line row = list_line (codes "t") cell_text row
@@ -39,46 +55,44 @@ thermal_line row = list_line (codes "t") cell_text row
 abbrev pub renewable_line : List ℤ → List ℕ
 renewable_line row = list_line (codes "w") signed_text row
 
-abbrev pub rows_text : Printed → List ℕ
-rows_text printed = flat_map thermal_line printed.thermal ++ flat_map renewable_line printed.renewable
-
 abbrev pub cost_line : ℤ → List ℕ
 cost_line cost = line (codes "schedule") (money_text cost ∷ [])
 
-abbrev pub schedule_text : Option WrittenSchedule → List ℕ
-schedule_text None = line (codes "schedule none") []
-schedule_text (Some written) = cost_line written.cost ++ rows_text written.printed
+abbrev pub no_schedule_line : List ℕ
+no_schedule_line = line (codes "schedule none") []
+
+abbrev pub schedule_lines : Option WrittenSchedule → List (List ℕ)
+schedule_lines None = no_schedule_line ∷ []
+schedule_lines (Some written) =
+    cost_line written.cost ∷ (map thermal_line written.printed.thermal ++ map renewable_line written.printed.renewable)
+
+abbrev pub scale_line : ℤ → List ℕ
+scale_line k = line (codes "table") (signed_text k ∷ [])
+
+abbrev pub prices_line : List ℕ → List ℤ → List ℕ
+prices_line first prices = list_line first signed_text prices
+
+abbrev pub ramps_line : List RampRow → List ℕ
+ramps_line rows = line (codes "ramps") (whole_text (length rows) ∷ [])
 
 abbrev pub ramp_line : RampRow → List ℕ
 ramp_line row =
     line (codes "ramp") (whole_text (suc row.g) ∷ whole_text (suc row.t) ∷ signed_text row.up ∷ signed_text row.down ∷ [])
 
-abbrev pub scale_line : ℤ → List ℕ
-scale_line k = line (codes "table") (signed_text k ∷ [])
+abbrev pub table_lines : Table → List (List ℕ)
+table_lines table =
+    scale_line table.k ∷ prices_line (codes "pi") table.pi ∷ prices_line (codes "mu") table.mu ∷ ramps_line table.ramps
+    ∷ map ramp_line table.ramps
 
-abbrev pub ramp_lines : List RampRow → List ℕ
-ramp_lines rows = line (codes "ramps") (whole_text (length rows) ∷ []) ++ flat_map ramp_line rows
+abbrev pub end_line : List ℕ
+end_line = line (codes "end") []
 
-abbrev pub reserve_lines : Table → List ℕ
-reserve_lines table = list_line (codes "mu") signed_text table.mu ++ ramp_lines table.ramps
+-- the lines in this version of the format
+unfoldable pub certificate_lines : ℕ → Listing → List (List ℕ)
+certificate_lines version c =
+    version_line version ∷ size_line c.periods c.thermal c.renewable (length c.tables) ∷ claim_line c.bound
+    ∷ (schedule_lines c.schedule ++ (flat_map table_lines c.tables ++ (map node_line c.nodes ++ end_line ∷ [])))
 
-abbrev pub price_lines : Table → List ℕ
-price_lines table = list_line (codes "pi") signed_text table.pi ++ reserve_lines table
-
-abbrev pub table_text : Table → List ℕ
-table_text table = scale_line table.k ++ price_lines table
-
-abbrev pub leaf_line : Leaf → List ℕ
-leaf_line (Bound number) = line (codes "bound") (whole_text (suc number) ∷ [])
-leaf_line (Ray number) = line (codes "ray") (whole_text (suc number) ∷ [])
-leaf_line (Empty g) = line (codes "empty") (whole_text (suc g) ∷ [])
-
--- the nodes in preorder, the off-child first
-abbrev pub tree_text : Tree Leaf → List ℕ
-tree_text (Ends leaf) = leaf_line leaf
-tree_text (Splits g t off on) =
-    line (codes "split") (whole_text (suc g) ∷ whole_text (suc t) ∷ []) ++ (tree_text off ++ tree_text on)
-
+-- the text is these lines one after another; version 1 is written
 unfoldable pub certificate_text : Certificate → List ℕ
-certificate_text c =
-    heading c ++ (schedule_text c.schedule ++ (flat_map table_text c.tables ++ (tree_text c.tree ++ line (codes "end") [])))
+certificate_text c = joined (certificate_lines 1 (listing_of c))

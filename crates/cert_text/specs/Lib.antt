@@ -1,2 +1,4 @@
+pub mod Nodes
 pub mod CertificateText
-pub mod FoundText
+pub mod TextConditions
+pub mod WrittenParts

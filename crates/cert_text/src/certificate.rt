@@ -1,96 +1,96 @@
 //! A whole certificate.
 
-ghost use Rattle.std.specs.Prelude.{◌≡◌, ◌<◌, ◌++◌, [], All, OnOk, OnErr, codes, length};
-ghost use Rattle.uc_model.specs.declared.instance.Instance.{Instance};
+ghost use Rattle.std.specs.Prelude.{◌≡◌, ◌<◌, All, OnOk, OnErr, length};
 ghost use Rattle.outside.specs.Sinks.{WriterWrites, WritesFront};
 ghost use Rattle.branch_tree.specs.Claims.{HasLayout, leaf_claim, certificate_of};
-ghost use Rattle.outside.specs.Lines.{line};
-ghost use Rattle.cert_text.specs.FoundText.{tables_text, lower_text, body_text};
-ghost use Rattle.cert_text.specs.CertificateText.{leaf_line, heading, certificate_text};
+ghost use Rattle.cert_text.specs.Nodes.{leaf_line};
+ghost use Rattle.cert_text.specs.CertificateText.{size_line, claim_line, certificate_text};
+ghost use Rattle.cert_text.specs.WrittenParts.{tables_part, heading_part, certificate_parts};
 
-use crate::heading::{write_claim, write_size};
-use crate::schedule::write_schedule;
-use crate::table::write_table;
-use crate::tree::write_leaf;
+use crate::schedule::put_schedule;
+use crate::table::put_table;
 use branch_tree::{Found, Leaf};
 use dual_model::Table;
-use outside::{Failed, Writer, write_all};
+use outside::{Failed, Latch, Lent, Out, Writer, put_count, put_money_line, put_whole_line};
 use uc_model::Instance;
 
-#[tactic(auto, unfolding(outside::specs::Lines::line))]
-fn write_end<W: Writer>(out: &mut W) -> Result<(), Failed>
-    ensures ok { OnOk result (WriterWrites (line (codes "end") []) (W.state out.old) (W.state out.new)) }
-    ensures failed { OnErr result (WritesFront (line (codes "end") []) (W.state out.old) (W.state out.new)) }
-    ensures rest { W.same_else out.old out.new }
+// The numbers of periods, thermal units, renewable units and tables.
+fn put_size<O: Out>(out: &mut O, periods: u32, thermal: usize, renewable: usize, tables: usize)
+    ensures { O.emits (size_line periods thermal renewable tables) out.old out.new }
 {
-    write_all(out, b"end\n")
+    put_count(out, b"size ", u64::from(periods));
+    put_count(out, b" ", thermal as u64);
+    put_count(out, b" ", renewable as u64);
+    put_count(out, b" ", tables as u64);
+    out.put(b"\n");
 }
 
-// The tables of these numbers.
-fn write_tables<W: Writer>(out: &mut W, tables: &[Table], numbers: &[u32]) -> Result<(), Failed>
-    requires { All (λ i. i < length tables.now) numbers.now }
-    ensures ok { OnOk result (WriterWrites (tables_text tables.now numbers.now) (W.state out.old) (W.state out.new)) }
-    ensures failed { OnErr result (WritesFront (tables_text tables.now numbers.now) (W.state out.old) (W.state out.new)) }
-    ensures rest { W.same_else out.old out.new }
+// The bound that is claimed, or that no schedule exists.
+fn put_claim<O: Out>(out: &mut O, bound: &Option<i128>)
+    ensures { O.emits (claim_line bound.now) out.old out.new }
 {
-    for number in numbers {
-        write_table(out, &tables[*number as usize])?;
+    match bound {
+        Some(bound) => put_money_line(out, b"claim bound", bound),
+        None => out.put(b"claim infeasible\n"),
     }
-    Ok(())
 }
 
-fn write_tree<W: Writer>(out: &mut W, leaf: &Leaf) -> Result<(), Failed>
-    ensures ok { OnOk result (WriterWrites (leaf_line (leaf_claim leaf.now) ++ line (codes "end") []) (W.state out.old) (W.state out.new)) }
-    ensures failed { OnErr result (WritesFront (leaf_line (leaf_claim leaf.now) ++ line (codes "end") []) (W.state out.old) (W.state out.new)) }
-    ensures rest { W.same_else out.old out.new }
-{
-    write_leaf(out, leaf)?;
-    write_end(out)
-}
-
-fn write_tables_and_tree<W: Writer>(out: &mut W, found: &Found) -> Result<(), Failed>
+fn put_heading<O: Out>(out: &mut O, found: &Found, instance: &Instance)
     requires { HasLayout found.now }
-    ensures ok { OnOk result (WriterWrites (lower_text found.now) (W.state out.old) (W.state out.new)) }
-    ensures failed { OnErr result (WritesFront (lower_text found.now) (W.state out.old) (W.state out.new)) }
-    ensures rest { W.same_else out.old out.new }
-{
-    write_tables(out, found.tables.as_slice(), found.layout.tables.as_slice())?;
-    write_tree(out, &found.tree.leaf)
-}
-
-fn write_body<W: Writer>(out: &mut W, found: &Found) -> Result<(), Failed>
-    requires { HasLayout found.now }
-    ensures ok { OnOk result (WriterWrites (body_text found.now) (W.state out.old) (W.state out.new)) }
-    ensures failed { OnErr result (WritesFront (body_text found.now) (W.state out.old) (W.state out.new)) }
-    ensures rest { W.same_else out.old out.new }
-{
-    write_schedule(out, &found.schedule)?;
-    write_tables_and_tree(out, found)
-}
-
-fn write_heading<W: Writer>(out: &mut W, found: &Found, instance: &Instance) -> Result<(), Failed>
-    requires { HasLayout found.now }
-    ensures ok { OnOk result (WriterWrites (heading (certificate_of instance.now found.now)) (W.state out.old) (W.state out.new)) }
-    ensures failed { OnErr result (WritesFront (heading (certificate_of instance.now found.now)) (W.state out.old) (W.state out.new)) }
-    ensures rest { W.same_else out.old out.new }
+    ensures { O.emits (heading_part (certificate_of instance.now found.now)) out.old out.new }
 {
     let thermal = instance.thermal.as_slice().len();
     let renewable = instance.renewable.as_slice().len();
     let tables = found.layout.tables.as_slice().len();
-    write_size(out, instance.periods, thermal, renewable, tables)?;
-    write_claim(out, found.tree.bound())
+    put_whole_line(out, b"uc-certificate", 1);
+    put_size(out, instance.periods, thermal, renewable, tables);
+    put_claim(out, &found.tree.bound());
+}
+
+// The tables of these numbers.
+fn put_tables<O: Out>(out: &mut O, tables: &[Table], numbers: &[u32])
+    requires { All (λ i. i < length tables.now) numbers.now }
+    ensures { O.emits (tables_part tables.now numbers.now) out.old out.new }
+{
+    for number in numbers {
+        put_table(out, &tables[*number as usize]);
+    }
+}
+
+// A leaf; its table is the only one, with the number 1, and units count from 1 in the text.
+fn put_leaf<O: Out>(out: &mut O, leaf: &Leaf)
+    ensures { O.emits (leaf_line (leaf_claim leaf.now)) out.old out.new }
+{
+    match leaf {
+        Leaf::Live { .. } | Leaf::Bound { .. } => put_whole_line(out, b"bound", 1),
+        Leaf::Ray { .. } => put_whole_line(out, b"ray", 1),
+        Leaf::Empty { g } => put_whole_line(out, b"empty", u64::from(*g) + 1),
+    }
+}
+
+#[tactic(auto, unfolding(crate::specs::WrittenParts::certificate_parts, outside::specs::Lines::line))]
+fn put_certificate<O: Out>(out: &mut O, found: &Found, instance: &Instance)
+    requires { HasLayout found.now }
+    ensures { O.emits (certificate_parts instance.now found.now) out.old out.new }
+{
+    put_heading(out, found, instance);
+    put_schedule(out, &found.schedule);
+    put_tables(out, found.tables.as_slice(), found.layout.tables.as_slice());
+    put_leaf(out, &found.tree.leaf);
+    out.put(b"end\n");
 }
 
 /// Writes the certificate of what was found for the instance. It takes no memory.
 ///
 /// `Failed` comes only where the writer's count of faults rose, and a front of the text is written then.
-#[tactic(auto, using(outside::proofs::Writing::then_ok, outside::proofs::Writing::then_failed, outside::proofs::Writing::front_at_error), unfolding(crate::specs::CertificateText::certificate_text))]
+#[tactic(auto, using(crate::proofs::Parts::parts_are_text))]
 pub fn write<W: Writer>(found: &Found, instance: &Instance, out: &mut W) -> Result<(), Failed>
     requires { HasLayout found.now }
     ensures ok { OnOk result (WriterWrites (certificate_text (certificate_of instance.now found.now)) (W.state out.old) (W.state out.new)) }
     ensures failed { OnErr result (WritesFront (certificate_text (certificate_of instance.now found.now)) (W.state out.old) (W.state out.new)) }
     ensures rest { W.same_else out.old out.new }
 {
-    write_heading(out, found, instance)?;
-    write_body(out, found)
+    let mut latch = Latch::new(Lent::new(out));
+    put_certificate(&mut latch, found, instance);
+    latch.outcome()
 }

@@ -1,97 +1,47 @@
 //! The lines of a price table.
 
-ghost use Rattle.std.specs.Prelude.{◌≡◌, OnOk, OnErr, flat_map};
-ghost use Rattle.outside.specs.Sinks.{WriterWrites, WritesFront};
-ghost use Rattle.cert_text.specs.CertificateText.{scale_line, ramp_line, ramp_lines, reserve_lines, price_lines, table_text};
+ghost use Rattle.std.specs.Prelude.{◌≡◌};
+ghost use Rattle.cert_text.specs.CertificateText.{scale_line, ramp_line};
+ghost use Rattle.cert_text.specs.WrittenParts.{table_part};
 
-use crate::numbers::{write_number_line, write_whole_line};
+use crate::schedule::Signed;
 use dual_model::{RampRow, Table};
-use itoa::Buffer;
-use outside::{Failed, Writer, write_pieces};
-use uc_model::{signed_digits, whole_digits};
+use outside::{Form, Out, put_count, put_each, put_list_line, put_signed, put_whole_line};
 
 // A row of ramp multipliers; unit and period count from 1 in the text.
-#[tactic(auto, unfolding(outside::specs::Lines::line))]
-fn write_ramp<W: Writer>(out: &mut W, row: &RampRow) -> Result<(), Failed>
-    ensures ok { OnOk result (WriterWrites (ramp_line row.now) (W.state out.old) (W.state out.new)) }
-    ensures failed { OnErr result (WritesFront (ramp_line row.now) (W.state out.old) (W.state out.new)) }
-    ensures rest { W.same_else out.old out.new }
-{
-    let mut unit = Buffer::new();
-    let mut period = Buffer::new();
-    let mut up = Buffer::new();
-    let mut down = Buffer::new();
-    write_pieces(
-        out,
-        &[
-            b"ramp ",
-            whole_digits(&mut unit, u64::from(row.g) + 1),
-            b" ",
-            whole_digits(&mut period, u64::from(row.t) + 1),
-            b" ",
-            signed_digits(&mut up, row.up),
-            b" ",
-            signed_digits(&mut down, row.down),
-            b"\n",
-        ],
-    )
-}
+#[derive(Clone, Copy)]
+struct Ramp;
 
-fn write_ramp_rows<W: Writer>(out: &mut W, rows: &[RampRow]) -> Result<(), Failed>
-    ensures ok { OnOk result (WriterWrites (flat_map ramp_line rows.now) (W.state out.old) (W.state out.new)) }
-    ensures failed { OnErr result (WritesFront (flat_map ramp_line rows.now) (W.state out.old) (W.state out.new)) }
-    ensures rest { W.same_else out.old out.new }
-{
-    for row in rows {
-        write_ramp(out, row)?;
+impl Form<RampRow> for Ramp {
+    ghost text = { λ _ row. ramp_line row };
+
+    fn put_value<O: Out>(&self, row: &RampRow, out: &mut O) {
+        put_count(out, b"ramp ", u64::from(row.g) + 1);
+        put_count(out, b" ", u64::from(row.t) + 1);
+        out.put(b" ");
+        put_signed(out, &row.up);
+        out.put(b" ");
+        put_signed(out, &row.down);
+        out.put(b"\n");
     }
-    Ok(())
 }
 
-// How many rows of ramp multipliers there are, and then the rows.
-fn write_ramps<W: Writer>(out: &mut W, rows: &[RampRow]) -> Result<(), Failed>
-    ensures ok { OnOk result (WriterWrites (ramp_lines rows.now) (W.state out.old) (W.state out.new)) }
-    ensures failed { OnErr result (WritesFront (ramp_lines rows.now) (W.state out.old) (W.state out.new)) }
-    ensures rest { W.same_else out.old out.new }
+fn put_scale<O: Out>(out: &mut O, k: &i64)
+    ensures { O.emits (scale_line k.now) out.old out.new }
 {
-    write_whole_line(out, b"ramps", rows.len() as u64)?;
-    write_ramp_rows(out, rows)
-}
-
-fn write_reserve_prices<W: Writer>(out: &mut W, table: &Table) -> Result<(), Failed>
-    ensures ok { OnOk result (WriterWrites (reserve_lines table.now) (W.state out.old) (W.state out.new)) }
-    ensures failed { OnErr result (WritesFront (reserve_lines table.now) (W.state out.old) (W.state out.new)) }
-    ensures rest { W.same_else out.old out.new }
-{
-    write_number_line(out, b"mu", table.mu())?;
-    write_ramps(out, table.ramps())
-}
-
-fn write_prices<W: Writer>(out: &mut W, table: &Table) -> Result<(), Failed>
-    ensures ok { OnOk result (WriterWrites (price_lines table.now) (W.state out.old) (W.state out.new)) }
-    ensures failed { OnErr result (WritesFront (price_lines table.now) (W.state out.old) (W.state out.new)) }
-    ensures rest { W.same_else out.old out.new }
-{
-    write_number_line(out, b"pi", table.pi())?;
-    write_reserve_prices(out, table)
-}
-
-#[tactic(auto, unfolding(outside::specs::Lines::line))]
-fn write_scale<W: Writer>(out: &mut W, k: &i64) -> Result<(), Failed>
-    ensures ok { OnOk result (WriterWrites (scale_line k.now) (W.state out.old) (W.state out.new)) }
-    ensures failed { OnErr result (WritesFront (scale_line k.now) (W.state out.old) (W.state out.new)) }
-    ensures rest { W.same_else out.old out.new }
-{
-    let mut scale = Buffer::new();
-    write_pieces(out, &[b"table ", signed_digits(&mut scale, *k), b"\n"])
+    out.put(b"table ");
+    put_signed(out, k);
+    out.put(b"\n");
 }
 
 // A whole table.
-pub(crate) fn write_table<W: Writer>(out: &mut W, table: &Table) -> Result<(), Failed>
-    ensures ok { OnOk result (WriterWrites (table_text table.now) (W.state out.old) (W.state out.new)) }
-    ensures failed { OnErr result (WritesFront (table_text table.now) (W.state out.old) (W.state out.new)) }
-    ensures rest { W.same_else out.old out.new }
+pub(crate) fn put_table<O: Out>(out: &mut O, table: &Table)
+    ensures { O.emits (table_part table.now) out.old out.new }
 {
-    write_scale(out, &table.k())?;
-    write_prices(out, table)
+    let rows = table.ramps();
+    put_scale(out, &table.k());
+    put_list_line(out, b"pi", &Signed, table.pi());
+    put_list_line(out, b"mu", &Signed, table.mu());
+    put_whole_line(out, b"ramps", rows.len() as u64);
+    put_each(out, &Ramp, rows);
 }

@@ -50,7 +50,8 @@ pub use lent::Lent;
 pub use memory_file::MemoryFile;
 pub use memory_sink::MemorySink;
 pub use numbers::{
-    put_amount, put_money, put_money_line, put_place, put_signed, put_whole, put_whole_line,
+    put_amount, put_count, put_money, put_money_line, put_place, put_signed, put_whole,
+    put_whole_line,
 };
 pub use out::Out;
 pub use pace::Pace;

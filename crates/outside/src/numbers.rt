@@ -1,6 +1,6 @@
 //! Texts of numbers.
 
-ghost use Rattle.std.specs.Prelude.{◌≡◌, ◌∷◌, [], suc};
+ghost use Rattle.std.specs.Prelude.{◌≡◌, ◌∷◌, ◌++◌, [], suc};
 ghost use Rattle.uc_model.specs.Decimal.{whole_text, signed_text};
 ghost use Rattle.uc_model.specs.Money.{money_text};
 ghost use Rattle.outside.specs.Lines.{line};
@@ -21,6 +21,14 @@ fn place_digits(buffer: &mut Buffer, index: usize) -> &[u8]
     ensures { result.now ≡ whole_text (suc index) }
 {
     buffer.format(index as u128 + 1).as_bytes()
+}
+
+/// Puts a number after the words that say its meaning.
+pub fn put_count<O: Out>(out: &mut O, words: &[u8], number: u64)
+    ensures { O.emits (words.now ++ whole_text number) out.old out.new }
+{
+    out.put(words);
+    put_whole(out, number);
 }
 
 /// Puts the place, from 1, of what stands at `index`, from 0.

@@ -1,8 +1,7 @@
 //! The report of what a search found.
 
-ghost use Rattle.std.specs.Prelude.{◌≡◌, ◌++◌, ◌≤◌, OnOk, OnErr};
+ghost use Rattle.std.specs.Prelude.{◌≡◌, ◌≤◌, OnOk, OnErr};
 ghost use Rattle.outside.specs.Sinks.{SinkWrites, SinkWritesFront};
-ghost use Rattle.uc_model.specs.Decimal.{whole_text};
 ghost use Rattle.branch_tree.specs.Claims.{tree_bound};
 ghost use Rattle.report.specs.FoundReport.{size_line, is_within_gap, is_closed, state_line, cost_line, bound_line, evaluations_line, schedule_report, no_schedule_report, found_report};
 
@@ -10,18 +9,10 @@ use crate::schedule::{RenewableLine, ThermalLine};
 use crate::stuck::put_stuck;
 use branch_tree::Found;
 use outside::{
-    Failed, Latch, Out, Sink, SinkWriter, put_money_line, put_pairs, put_whole, put_whole_line,
+    Failed, Latch, Out, Sink, SinkWriter, put_count, put_money_line, put_pairs, put_whole_line,
 };
 use uc_model::tolerance::{WHOLE_GAP, tolerance};
 use uc_model::{Instance, Printed};
-
-// A number after the words that say its meaning.
-fn put_count<O: Out>(out: &mut O, words: &[u8], number: u64)
-    ensures { O.emits (words.now ++ whole_text number) out.old out.new }
-{
-    out.put(words);
-    put_whole(out, number);
-}
 
 // The numbers of periods, units and rounded numbers.
 fn put_size<O: Out>(out: &mut O, instance: &Instance, rounded: u64)

@@ -1,0 +1,67 @@
+-- What a certificate has to meet to have a text of the grammar: its size, the shapes of its lists, and how many digits its
+-- numbers have. This project's own format.
+use Rattle.std.specs.Prelude.{◌≡◌, ℕ, ◌^◌, ◌<◌, ◌≤◌, List, ℤ, unsigned_abs, IfSome, IsTrue, All, length}
+use Rattle.uc_model.specs.declared.schedule.Cell.{Cell}
+use Rattle.dual_model.specs.Certificate.{WrittenSchedule}
+use Rattle.dual_model.specs.Prices.{IsWellFormed}
+use Rattle.dual_model.specs.declared.table.Table.{Table}
+use Rattle.dual_model.specs.declared.table.RampRow.{RampRow}
+use Rattle.cert_text.specs.Nodes.{IsNodeWithin}
+use Rattle.cert_text.specs.CertificateText.{Listing}
+
+-- a number of at most so many digits, whatever its sign
+abbrev pub HasDigits : ℕ → ℤ → Type 0
+HasDigits digits z = unsigned_abs z < 10 ^ digits
+
+-- money has at most 38 digits, those of the decimals among them
+abbrev pub IsMoney : ℤ → Type 0
+IsMoney cost = HasDigits 38 cost
+
+-- an on cell: watts of at most 15 digits, and a category of a byte
+pub record IsOnCell (cell : Cell) : Type 0 where
+  pub output : HasDigits 15 cell.p
+  pub reserve : HasDigits 15 cell.r
+  pub category : cell.category ≤ 255
+
+-- a row for each unit, of a cell, or an output in watts, for each period
+pub record IsThermalRow (periods : ℕ) (row : List Cell) : Type 0 where
+  pub cells : length row ≡ periods
+  pub written : All (λ cell. IsTrue cell.on → IsOnCell cell) row
+
+pub record IsRenewableRow (periods : ℕ) (row : List ℤ) : Type 0 where
+  pub outputs : length row ≡ periods
+  pub written : All (HasDigits 15) row
+
+pub record IsScheduleText (periods thermal renewable : ℕ) (written : WrittenSchedule) : Type 0 where
+  pub cost : IsMoney written.cost
+  pub thermal_rows : length written.printed.thermal ≡ thermal
+  pub cells : All (IsThermalRow periods) written.printed.thermal
+  pub renewable_rows : length written.printed.renewable ≡ renewable
+  pub outputs : All (IsRenewableRow periods) written.printed.renewable
+
+pub record IsRampText (row : RampRow) : Type 0 where
+  pub up : HasDigits 18 row.up
+  pub down : HasDigits 18 row.down
+
+-- a well-formed table of the size, whose numbers have at most 18 digits
+pub record IsTableText (periods thermal : ℕ) (table : Table) : Type 0 where
+  pub form : IsWellFormed table
+  pub units : table.units ≡ thermal
+  pub periods_priced : length table.pi ≡ periods
+  pub scale : HasDigits 18 table.k
+  pub pi : All (HasDigits 18) table.pi
+  pub mu : All (HasDigits 18) table.mu
+  pub rows : length table.ramps < 10 ^ 18
+  pub ramps : All IsRampText table.ramps
+
+-- the listed certificate has a text of the grammar
+pub record HasText (c : Listing) : Type 0 where
+  pub some_period : 1 ≤ c.periods
+  pub periods : c.periods ≤ 168
+  pub thermal : c.thermal ≤ 4096
+  pub renewable : c.renewable ≤ 4096
+  pub table_count : length c.tables < 2 ^ 32
+  pub bound : IfSome c.bound IsMoney
+  pub schedule : IfSome c.schedule (IsScheduleText c.periods c.thermal c.renewable)
+  pub tables : All (IsTableText c.periods c.thermal) c.tables
+  pub nodes : All (IsNodeWithin c.periods c.thermal (length c.tables)) c.nodes

@@ -1,0 +1,35 @@
+-- The text of a found answer's certificate in the parts in which it is written.
+use Rattle.std.specs.Prelude.{ℕ, List, [], ◌∷◌, Option, Some, None, length, flat_map, codes}
+use Rattle.uc_model.specs.declared.instance.Instance.{Instance}
+use Rattle.dual_model.specs.Certificate.{WrittenSchedule, Certificate}
+use Rattle.dual_model.specs.declared.table.Table.{Table}
+use Rattle.branch_tree.specs.declared.found.Found.{Found}
+use Rattle.branch_tree.specs.Claims.{table_at, leaf_tables, leaf_claim, certificate_of}
+use Rattle.outside.specs.Lines.{joined}
+use Rattle.cert_text.specs.Nodes.{leaf_line}
+use Rattle.cert_text.specs.CertificateText.{version_line, size_line, claim_line, cost_line, no_schedule_line, thermal_line, renewable_line, scale_line, prices_line, ramps_line, ramp_line, end_line}
+
+abbrev pub schedule_part : Option WrittenSchedule → List ℕ
+schedule_part None = no_schedule_line
+schedule_part (Some written) =
+    joined (cost_line written.cost ∷ flat_map thermal_line written.printed.thermal
+    ∷ flat_map renewable_line written.printed.renewable ∷ [])
+
+abbrev pub table_part : Table → List ℕ
+table_part table =
+    joined (scale_line table.k ∷ prices_line (codes "pi") table.pi ∷ prices_line (codes "mu") table.mu ∷ ramps_line table.ramps
+    ∷ flat_map ramp_line table.ramps ∷ [])
+
+-- the tables of these numbers
+abbrev pub tables_part : List Table → List ℕ → List ℕ
+tables_part tables numbers = flat_map (λ number. table_part (table_at tables number)) numbers
+
+abbrev pub heading_part : Certificate → List ℕ
+heading_part c =
+    joined (version_line 1 ∷ size_line c.periods c.thermal c.renewable (length c.tables) ∷ claim_line c.bound ∷ [])
+
+unfoldable pub certificate_parts : Instance → Found → List ℕ
+certificate_parts instance found =
+    let c = certificate_of instance found in
+    joined (heading_part c ∷ schedule_part c.schedule ∷ tables_part found.tables (leaf_tables found.tree.leaf)
+    ∷ leaf_line (leaf_claim found.tree.leaf) ∷ end_line ∷ [])
