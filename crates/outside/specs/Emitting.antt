@@ -2,7 +2,7 @@
 use Rattle.std.specs.Prelude.{◌≡◌, ℕ, Bool, true, false, List, [], ◌++◌, Option, Some, None, refl}
 use Rattle.std.proofs.Common.{sym, subst, ap, ◌∙◌, append_assoc, append-nil}
 use Rattle.outside.specs.Counts.{HasRisen}
-use Rattle.outside.specs.Known.{Appends}
+use Rattle.outside.specs.ToldBytes.{Appends}
 use Rattle.outside.specs.Sinks.{WriterState, WriterWrites, WritesFront}
 use Rattle.outside.specs.Latching.{Puts, Emits}
 

@@ -1,5 +1,5 @@
 pub mod Counts
-pub mod Known
+pub mod ToldBytes
 pub mod Slots
 pub mod Sinks
 pub mod Lines

@@ -1,7 +1,7 @@
 -- What a caller may know of a sink or a writer, and what each call does to it.
 use Rattle.std.specs.Prelude.{◌≡◌, ℕ, List, Option}
 use Rattle.outside.specs.Counts.{HasRisen}
-use Rattle.outside.specs.Known.{Appends, AppendsFront}
+use Rattle.outside.specs.ToldBytes.{Appends, AppendsFront}
 
 -- a sink: its count of faults, and, where they are told, the bytes written and those flushed
 pub record SinkState : Type 0 where

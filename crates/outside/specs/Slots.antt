@@ -7,7 +7,7 @@ use Rattle.outside.specs.declared.slot.Slot.{Slot}
 use Rattle.outside.specs.declared.slot.Stage.{Stage}
 use Rattle.outside.specs.declared.slot.Stage.TheVariants.{Unopened, Open, Finished}
 use Rattle.outside.specs.Counts.{HasRisen}
-use Rattle.outside.specs.Known.{Tells, Appends}
+use Rattle.outside.specs.ToldBytes.{Tells, Appends}
 use Rattle.outside.specs.Sinks.{WriterState}
 
 -- the name that a slot expects, and whether it was opened by that name

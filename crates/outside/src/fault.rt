@@ -1,6 +1,5 @@
-ghost use Rattle.std.specs.Prelude.{◌≡◌, Some, codes};
+ghost use Rattle.std.specs.Prelude.{Some, codes};
 
-use std::alloc::AllocError;
 use std::error::Error;
 use std::fmt;
 
@@ -17,23 +16,3 @@ impl fmt::Display for Failed {
 }
 
 impl Error for Failed {}
-
-/// Memory was refused.
-#[derive(Clone, Copy, Debug, PartialEq, Eq)]
-pub struct NoMemory;
-
-impl fmt::Display for NoMemory {
-    ghost output = { λ _. Some (codes "memory was refused") };
-
-    fn fmt<W: fmt::Write>(&self, f: &mut fmt::Formatter<W>) -> fmt::Result {
-        f.write_str("memory was refused")
-    }
-}
-
-impl Error for NoMemory {}
-
-impl From<AllocError> for NoMemory {
-    fn from(_fault: AllocError) -> NoMemory {
-        NoMemory
-    }
-}

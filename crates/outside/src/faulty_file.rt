@@ -1,9 +1,9 @@
 use crate::device::Device;
-use crate::fault::{Failed, NoMemory};
+use crate::fault::Failed;
 use crate::memory_file::MemoryFile;
 use crate::pace::Pace;
 use crate::schedule::{Call, FailingCall, Schedule};
-use std::alloc::Global;
+use std::alloc::{AllocError, Global};
 
 /// A file in memory on which the calls of a schedule fail, and no others.
 #[derive(Drop)]
@@ -27,7 +27,7 @@ impl FaultyFile {
         input: &[u8],
         failing: &[FailingCall],
         pace: Pace,
-    ) -> Result<Self, NoMemory>
+    ) -> Result<Self, AllocError>
         ensures state { IfOk result (λ file. faulty_file_state file ≡ fresh_file expected.now input.now) }
         ensures schedule { IfOk result (λ file. IsFresh failing.now file.schedule) }
         ensures pace { IfOk result (λ file. file.pace ≡ pace) }

@@ -1,9 +1,9 @@
-use crate::fault::{Failed, NoMemory};
+use crate::fault::Failed;
 use crate::memory_sink::MemorySink;
 use crate::pace::Pace;
 use crate::schedule::{Call, FailingCall, Schedule};
 use crate::sink::Sink;
-use std::alloc::Global;
+use std::alloc::{AllocError, Global};
 
 /// A sink in memory on which the calls of a schedule fail, and no others.
 #[derive(Drop)]
@@ -20,7 +20,7 @@ impl FaultySink {
     ghost use Rattle.outside.specs.Schedule.{IsFresh};
 
     /// A sink to which nothing was written, and on which these calls fail.
-    pub fn new(alloc: Global, failing: &[FailingCall], pace: Pace) -> Result<Self, NoMemory>
+    pub fn new(alloc: Global, failing: &[FailingCall], pace: Pace) -> Result<Self, AllocError>
         ensures state { IfOk result (λ sink. faulty_sink_state sink ≡ fresh_sink) }
         ensures schedule { IfOk result (λ sink. IsFresh failing.now sink.schedule) }
         ensures pace { IfOk result (λ sink. sink.pace ≡ pace) }

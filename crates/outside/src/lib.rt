@@ -7,8 +7,6 @@
 //! system. The last are the trusted edge: they tell no content.
 #![tactic(auto, unfolding(crate::specs::Lines::line, crate::specs::Lines::list_line))]
 
-#[cfg(test)]
-mod caller;
 mod count;
 mod device;
 mod devices;
@@ -33,13 +31,11 @@ mod slot;
 mod slot_writer;
 mod stream_sink;
 mod system;
-#[cfg(test)]
-mod tests;
 mod writer;
 
 pub use device::Device;
 pub use devices::Devices;
-pub use fault::{Failed, NoMemory};
+pub use fault::Failed;
 pub use faulty_file::FaultyFile;
 pub use faulty_sink::FaultySink;
 pub use files::Files;
@@ -63,4 +59,4 @@ pub use slot::{Slot, Stage};
 pub use slot_writer::SlotWriter;
 pub use stream_sink::StreamSink;
 pub use system::{Access, SystemFile, SystemFiles, system_files};
-pub use writer::{Writer, write_all, write_pieces};
+pub use writer::{Writer, write_all};

@@ -2,9 +2,9 @@ ghost use Rattle.std.specs.Prelude.{◌≡◌, ◌≤◌, [], true, length, min,
 ghost use Rattle.outside.specs.declared.slot.Stage.TheVariants.{Unopened};
 
 use crate::device::Device;
-use crate::fault::{Failed, NoMemory};
+use crate::fault::Failed;
 use crate::slot::Stage;
-use std::alloc::Global;
+use std::alloc::{AllocError, Global};
 
 /// A file in memory. No call on it fails, so its count of faults is always 0.
 ///
@@ -28,7 +28,7 @@ impl MemoryFile {
     ghost use Rattle.outside.specs.Memory.{file_state, fresh_file};
 
     /// An unopened file that expects this name, and has these bytes to read.
-    pub fn new(alloc: Global, expected: &str, input: &[u8]) -> Result<Self, NoMemory>
+    pub fn new(alloc: Global, expected: &str, input: &[u8]) -> Result<Self, AllocError>
         ensures { IfOk result (λ file. file_state file ≡ fresh_file expected.now input.now) }
     {
         Ok(MemoryFile {

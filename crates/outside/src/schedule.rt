@@ -5,8 +5,8 @@ ghost use Rattle.outside.specs.contracts.schedule.CallCounts.{the_row as counts-
 ghost use Rattle.std.specs.Borrow.{sem, Lends, u64};
 
 use crate::count::next_count;
-use crate::fault::{Failed, NoMemory};
-use std::alloc::Global;
+use crate::fault::Failed;
+use std::alloc::{AllocError, Global};
 
 /// A kind of call to the outside.
 #[derive(Clone, Copy, Debug, PartialEq, Eq)]
@@ -72,7 +72,7 @@ pub struct Schedule {
 
 impl Schedule {
     /// A schedule by which these calls fail.
-    pub fn new(alloc: Global, failing: &[FailingCall]) -> Result<Self, NoMemory>
+    pub fn new(alloc: Global, failing: &[FailingCall]) -> Result<Self, AllocError>
         ensures { IfOk result (IsFresh failing.now) }
     {
         Ok(Schedule {

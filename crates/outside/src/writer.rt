@@ -1,5 +1,4 @@
 ghost use Rattle.std.specs.Prelude.{◌≡◌, ◌<◌, ◌≤◌, length, take, IfOk, OnOk, OnErr};
-ghost use Rattle.std.specs.List.{flat_map};
 ghost use Rattle.outside.specs.Sinks.{WriterState, WriterWrites, WriterCountsFault, WritesFront};
 
 use crate::fault::Failed;
@@ -42,21 +41,6 @@ pub fn write_all<W: Writer>(writer: &mut W, piece: &[u8]) -> Result<(), Failed>
     let mut done = 0;
     while done < piece.len() {
         done += writer.write(&piece[done..])?;
-    }
-    Ok(())
-}
-
-/// Writes all of the pieces, one after another. It takes no memory.
-///
-/// `Failed` comes only where the writer's count rose, and a front of the pieces' bytes is written
-/// then.
-pub fn write_pieces<W: Writer>(writer: &mut W, pieces: &[&[u8]]) -> Result<(), Failed>
-    ensures ok { OnOk result (WriterWrites (flat_map (λ piece. piece.now) pieces.now) (W.state writer.old) (W.state writer.new)) }
-    ensures failed { OnErr result (WritesFront (flat_map (λ piece. piece.now) pieces.now) (W.state writer.old) (W.state writer.new)) }
-    ensures rest { W.same_else writer.old writer.new }
-{
-    for piece in pieces {
-        write_all(writer, piece)?;
     }
     Ok(())
 }
