@@ -19,10 +19,11 @@ use Rattle.instance.specs.Fields.{key_of, entries_of, pairs_of, entries_in, pair
 use Rattle.instance.specs.Scaled.{MILLION, size_of, scaled, is_rounded, wholes_of, is_below_zero}
 use Rattle.instance.specs.Points.{last_output}
 use Rattle.instance.specs.declared.fault.Place.{Place}
+use Rattle.uc_model.specs.declared.field_refusal.FieldRefusal.{FieldRefusal}
 use Rattle.instance.specs.declared.fault.Refusal.{Refusal}
-use Rattle.instance.specs.declared.totals.Totals.{Totals}
-use Rattle.instance.specs.declared.thermal.Outputs.{Outputs}
-use Rattle.instance.specs.FirstFault.{◌>>=◌, whole, wanted, refused_if, number_at, power_at, power_from, cost_at, whole_at, time_at, flag_at, periods_at, field_at, object_at, array_at, entries_at, rows_at, each_at, next_entry, power_entry, powers_at, maximum_entry, start_row, point_row, flag_field, time_field, power_field, output_field, outputs_at, ramps_at, times_at, initial_at, startup_at, points_at, thermal_at, maxima_at, renewable_at, UnitRefusal, in_unit, outside, units_at, thermal_member, renewable_member, thermal_units_at, renewable_units_at, totals_at, instance_at}
+use Rattle.instance.specs.declared.reader.totals.Totals.{Totals}
+use Rattle.instance.specs.declared.reader.thermal.Outputs.{Outputs}
+use Rattle.instance.specs.FirstFault.{◌>>=◌, whole, wanted, refused_if, number_at, amount_at, power_at, power_from, cost_at, whole_at, time_at, flag_at, periods_at, field_at, object_at, array_at, entries_at, rows_at, each_at, next_entry, power_entry, powers_at, maximum_entry, start_row, point_row, flag_field, time_field, power_field, output_field, outputs_at, ramps_at, times_at, initial_at, startup_at, points_at, thermal_at, maxima_at, renewable_at, in_unit, outside, units_at, thermal_member, renewable_member, thermal_units_at, renewable_units_at, totals_at, instance_at}
 use Rattle.instance.specs.InstanceOf.{Pairs}
 use Rattle.instance.specs.Held.{PAST_LIMITS}
 use Rattle.instance.specs.SameNumber.{SaySame}
@@ -137,17 +138,18 @@ periods_kept place a b h = elim h.size [
   | inr past ↦ ap (λ (negative : Bool). periods_read place negative (wholes_of a)) h.sign ∙ many_periods place b.negative (wholes_of a) (wholes_of b) (omega arith) (omega arith)
 ]
 
+amount_at_changed : (f : Decimal → Decimal) → Keeps f → (most : ℕ) → most < PAST_LIMITS → (exact : Bool) (place : Place) (v : Value)
+    → amount_at most exact place (with_numbers f v) ≡ amount_at most exact place v
+unfolding amount_at
+amount_at_changed f same most few exact place v =
+    let read = λ (d : Decimal). refused_if (nat_lt most (size_of d)) 4 place (scaled d) in
+    rw (number_at_changed f same exact place v) (bind_map f (number_at exact place v) read read (λ d. size_kept most place (f d) d few (same d)))
+
 power_at_changed : (f : Decimal → Decimal) → Keeps f → (exact : Bool) (place : Place) (v : Value) → power_at exact place (with_numbers f v) ≡ power_at exact place v
-unfolding power_at
-power_at_changed f same exact place v =
-    let read = λ (d : Decimal). refused_if (nat_lt MAX_POWER (size_of d)) 4 place (scaled d) in
-    rw (number_at_changed f same exact place v) (bind_map f (number_at exact place v) read read (λ d. size_kept MAX_POWER place (f d) d (omega arith) (same d)))
+power_at_changed f same = amount_at_changed f same MAX_POWER (omega arith)
 
 cost_at_changed : (f : Decimal → Decimal) → Keeps f → (exact : Bool) (place : Place) (v : Value) → cost_at exact place (with_numbers f v) ≡ cost_at exact place v
-unfolding cost_at
-cost_at_changed f same exact place v =
-    let read = λ (d : Decimal). refused_if (nat_lt MAX_COST (size_of d)) 4 place (scaled d) in
-    rw (number_at_changed f same exact place v) (bind_map f (number_at exact place v) read read (λ d. size_kept MAX_COST place (f d) d (omega arith) (same d)))
+cost_at_changed f same = amount_at_changed f same MAX_COST (omega arith)
 
 power_from_changed : (f : Decimal → Decimal) → Keeps f → (exact : Bool) (place : Place) (least : ℤ) (v : Value) → power_from exact place least (with_numbers f v) ≡ power_from exact place least v
 unfolding power_from
@@ -355,12 +357,12 @@ units_at_changed f field ms =
     ∙ bind_maps (pairs_with f) (pairs_with f) (object_at (whole field) v) last last (λ units.
     rw (length-map units (pair_with f)) (refused_map (pairs_with f) (nat_lt MAX_UNITS (length units)) 7 (whole field) units)))
 
-units_each : {A : Type 0} (f : Decimal → Decimal) (field : Field) (ms : Pairs) (read : List A → List ℕ × Value → Result A UnitRefusal) → ((front : List A) (m : List ℕ × Value) → read front (pair_with f m) ≡ read front m)
+units_each : {A : Type 0} (f : Decimal → Decimal) (field : Field) (ms : Pairs) (read : List A → List ℕ × Value → Result A FieldRefusal) → ((front : List A) (m : List ℕ × Value) → read front (pair_with f m) ≡ read front m)
     → (outside (units_at field (pairs_with f ms)) >>= λ us. each_at read [] us) ≡ (outside (units_at field ms) >>= λ us. each_at read [] us)
 units_each f field ms read e =
     let each = λ (us : Pairs). each_at read [] us in
     ap (λ (r : Result Pairs Refusal). outside r >>= each) (units_at_changed f field ms)
-    ∙ ap (λ (r : Result Pairs UnitRefusal). r >>= each) (in_unit_map (pairs_with f) 0 [] (units_at field ms))
+    ∙ ap (λ (r : Result Pairs FieldRefusal). r >>= each) (in_unit_map (pairs_with f) 0 [] (units_at field ms))
     ∙ bind_map (pairs_with f) (outside (units_at field ms)) each each (λ us. each_changed read (pair_with f) e [] us)
 
 thermal_units_changed : (f : Decimal → Decimal) → Keeps f → (exact : Bool) (ms : Pairs) → thermal_units_at exact (pairs_with f ms) ≡ thermal_units_at exact ms
@@ -381,7 +383,7 @@ totals_changed f same exact ms =
     (bind_same (field_at (whole TimePeriods) ms >>= periods_at exact (whole TimePeriods)) (powers_then exact (pairs_with f ms)) (powers_then exact ms) (λ periods.
     rw (powers_at_changed f same exact Demand periods ms, powers_at_changed f same exact Reserves periods ms) refl))
 
-abbrev units_then : Bool → Pairs → Totals → Result Instance UnitRefusal
+abbrev units_then : Bool → Pairs → Totals → Result Instance FieldRefusal
 units_then exact ms totals =
     thermal_units_at exact ms >>= λ thermal. renewable_units_at exact totals.periods ms >>= λ renewable.
     Ok (record { periods = totals.periods; demand = totals.demand; reserves = totals.reserves; thermal = thermal; renewable = renewable })

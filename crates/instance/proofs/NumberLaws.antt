@@ -4,13 +4,12 @@ use Rattle.std.specs.Prelude.{◌&&◌, ◌||◌, ◌==◌, nat_lt, IsTrue, ℤ,
 use Rattle.std.proofs.lemmas.Bool.{ltb-false, le-ltb}
 use Rattle.std.proofs.lemmas.Bool.Decides.{nat_tests}
 use Rattle.std.proofs.lemmas.Int.{ints}
-use Rattle.uc_model.specs.Limits.{IsPower, IsCost}
 use Rattle.uc_model.specs.declared.limits.TheConstants.{MAX_PERIODS, MAX_POWER, MAX_COST, MAX_TIME}
 use Rattle.decimal_json.specs.Value.{Decimal, Value}
 use Rattle.instance.specs.Fields.{number_in}
 use Rattle.instance.specs.Scaled.{MILLION, size_of, signed, scaled, is_rounded, wholes_of, is_below_zero}
 use Rattle.instance.specs.declared.fault.Place.{Place}
-use Rattle.instance.specs.FirstFault.{◌>>=◌, wanted, refused_if, number_at, power_at, power_from, cost_at, whole_at, time_at, flag_at, periods_at}
+use Rattle.instance.specs.FirstFault.{◌>>=◌, wanted, refused_if, number_at, amount_at, power_at, power_from, cost_at, whole_at, time_at, flag_at, periods_at}
 use Rattle.instance.specs.InstanceOf.{IsNumber, IsPowerOf, IsCostOf, IsTimeOf, IsFlagOf, IsPeriodsOf}
 use Rattle.instance.proofs.Steps.{bind_ok, wanted_ok, refused_ok, some_and, some_is}
 
@@ -51,20 +50,36 @@ size_of_signed true zero = refl
 size_of_signed true (suc n) = refl
 size_of_signed false n = refl
 
+-- a number of a size up to the most
+abbrev IsAmountOf : ℕ → Bool → ℤ → Value → Type 0
+IsAmountOf most exact z v = IsNumber exact v (λ d. (scaled d ≡ z) × (unsigned_abs z ≤ most))
+
+amount_is : (most : ℕ) (exact : Bool) (place : Place) (v : Value) (z : ℤ) → amount_at most exact place v ≡ Ok z → IsAmountOf most exact z v
+unfolding amount_at
+amount_is most exact place v z e =
+    let a = bind_ok (number_at exact place v) (λ d. refused_if (nat_lt most (size_of d)) 4 place (scaled d)) z e in
+    let r = refused_ok (nat_lt most (size_of a.0)) 4 place (scaled a.0) z a.2 in
+    let small : unsigned_abs z ≤ most = subst (λ (y : ℤ). unsigned_abs y ≤ most) r.1 (omega (arith, size_of_signed a.0.negative (size_of a.0), ltb-false _ _ r.0)) in
+    stands exact v (λ d. (scaled d ≡ z) × (unsigned_abs z ≤ most)) a.0 (number_is exact place v a.0 a.1) (r.1, small)
+
+amount_again : (most : ℕ) (exact : Bool) (place : Place) (v : Value) (z : ℤ) → IsAmountOf most exact z v → amount_at most exact place v ≡ Ok z
+unfolding amount_at
+amount_again most exact place v z h =
+    let a = stood exact v (λ d. (scaled d ≡ z) × (unsigned_abs z ≤ most)) h in
+    let small : size_of a.0 ≤ most = omega (arith, size_of_signed a.0.negative (size_of a.0), ap unsigned_abs a.2.0, a.2.1) in
+    rw (number_again exact place v a.0 a.1, le-ltb most (size_of a.0) small, a.2.0) refl
+
 pub power_is : (exact : Bool) (place : Place) (v : Value) (z : ℤ) → power_at exact place v ≡ Ok z → IsPowerOf exact z v
-unfolding power_at
-power_is exact place v z e =
-    let a = bind_ok (number_at exact place v) (λ d. refused_if (nat_lt MAX_POWER (size_of d)) 4 place (scaled d)) z e in
-    let r = refused_ok (nat_lt MAX_POWER (size_of a.0)) 4 place (scaled a.0) z a.2 in
-    let small : IsPower z = subst IsPower r.1 (omega (arith, size_of_signed a.0.negative (size_of a.0), ltb-false _ _ r.0)) in
-    stands exact v (λ d. (scaled d ≡ z) × IsPower z) a.0 (number_is exact place v a.0 a.1) (r.1, small)
+power_is = amount_is MAX_POWER
 
 pub power_again : (exact : Bool) (place : Place) (v : Value) (z : ℤ) → IsPowerOf exact z v → power_at exact place v ≡ Ok z
-unfolding power_at
-power_again exact place v z h =
-    let a = stood exact v (λ d. (scaled d ≡ z) × IsPower z) h in
-    let small : size_of a.0 ≤ MAX_POWER = omega (arith, size_of_signed a.0.negative (size_of a.0), ap unsigned_abs a.2.0, a.2.1) in
-    rw (number_again exact place v a.0 a.1, le-ltb MAX_POWER (size_of a.0) small, a.2.0) refl
+power_again = amount_again MAX_POWER
+
+pub cost_is : (exact : Bool) (place : Place) (v : Value) (z : ℤ) → cost_at exact place v ≡ Ok z → IsCostOf exact z v
+cost_is = amount_is MAX_COST
+
+pub cost_again : (exact : Bool) (place : Place) (v : Value) (z : ℤ) → IsCostOf exact z v → cost_at exact place v ≡ Ok z
+cost_again = amount_again MAX_COST
 
 lt_false : (a b : ℤ) → int_lt a b ≡ false → b ≤ℤ a
 lt_false a b e = grind (arith, ints)
@@ -82,21 +97,6 @@ power_from_is exact place least v z e =
 pub power_from_again : (exact : Bool) (place : Place) (least : ℤ) (v : Value) (z : ℤ) → IsPowerOf exact z v → least ≤ℤ z → power_from exact place least v ≡ Ok z
 unfolding power_from
 power_from_again exact place least v z h le = rw (power_again exact place v z h, lt_again z least le) refl
-
-pub cost_is : (exact : Bool) (place : Place) (v : Value) (z : ℤ) → cost_at exact place v ≡ Ok z → IsCostOf exact z v
-unfolding cost_at
-cost_is exact place v z e =
-    let a = bind_ok (number_at exact place v) (λ d. refused_if (nat_lt MAX_COST (size_of d)) 4 place (scaled d)) z e in
-    let r = refused_ok (nat_lt MAX_COST (size_of a.0)) 4 place (scaled a.0) z a.2 in
-    let small : IsCost z = subst IsCost r.1 (omega (arith, size_of_signed a.0.negative (size_of a.0), ltb-false _ _ r.0)) in
-    stands exact v (λ d. (scaled d ≡ z) × IsCost z) a.0 (number_is exact place v a.0 a.1) (r.1, small)
-
-pub cost_again : (exact : Bool) (place : Place) (v : Value) (z : ℤ) → IsCostOf exact z v → cost_at exact place v ≡ Ok z
-unfolding cost_at
-cost_again exact place v z h =
-    let a = stood exact v (λ d. (scaled d ≡ z) × IsCost z) h in
-    let small : size_of a.0 ≤ MAX_COST = omega (arith, size_of_signed a.0.negative (size_of a.0), ap unsigned_abs a.2.0, a.2.1) in
-    rw (number_again exact place v a.0 a.1, le-ltb MAX_COST (size_of a.0) small, a.2.0) refl
 
 -- ---- whole numbers
 

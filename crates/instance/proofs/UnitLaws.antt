@@ -5,8 +5,6 @@ use Rattle.std.specs.List.{AllZip}
 use Rattle.std.specs.Option.{IsSomeAnd}
 use Rattle.std.proofs.lemmas.Bool.{ltb-false, le-ltb}
 use Rattle.uc_model.specs.declared.limits.TheConstants.{MAX_UNITS}
-use Rattle.uc_model.specs.declared.instance.Point.{Point}
-use Rattle.uc_model.specs.declared.instance.StartRow.{StartRow}
 use Rattle.uc_model.specs.declared.instance.Thermal.{Thermal}
 use Rattle.uc_model.specs.declared.instance.Renewable.{Renewable}
 use Rattle.uc_model.specs.declared.instance.Instance.{Instance}
@@ -15,13 +13,14 @@ use Rattle.instance.specs.Fields.{key_of, pairs_in, field_of}
 use Rattle.uc_model.specs.declared.field.Field.{Field}
 use Rattle.uc_model.specs.declared.field.Field.TheVariants.{NoField, TimePeriods, Demand, Reserves, ThermalGenerators, RenewableGenerators, MustRun, PowerOutputMinimum, PowerOutputMaximum, RampUpLimit, RampDownLimit, RampStartupLimit, RampShutdownLimit, TimeUpMinimum, TimeDownMinimum, PowerOutputT0, UnitOnT0, TimeUpT0, TimeDownT0}
 use Rattle.instance.specs.declared.fault.Place.{Place}
+use Rattle.uc_model.specs.declared.field_refusal.FieldRefusal.{FieldRefusal}
 use Rattle.instance.specs.declared.fault.Refusal.{Refusal}
-use Rattle.instance.specs.declared.totals.Totals.{Totals}
-use Rattle.instance.specs.declared.thermal.Outputs.{Outputs}
-use Rattle.instance.specs.declared.thermal.Ramps.{Ramps}
-use Rattle.instance.specs.declared.thermal.Times.{Times}
-use Rattle.instance.specs.declared.thermal.Initial.{Initial}
-use Rattle.instance.specs.FirstFault.{◌>>=◌, UnitRefusal, whole, wanted, refused_if, field_at, object_at, each_at, power_at, power_from, time_at, flag_at, periods_at, flag_field, time_field, power_field, output_field, powers_at, maxima_at, outputs_at, ramps_at, times_at, initial_at, startup_at, points_at, thermal_at, renewable_at, outside, units_at, thermal_member, renewable_member, thermal_units_at, renewable_units_at, totals_at, instance_at}
+use Rattle.instance.specs.declared.reader.totals.Totals.{Totals}
+use Rattle.instance.specs.declared.reader.thermal.Outputs.{Outputs}
+use Rattle.instance.specs.declared.reader.thermal.Ramps.{Ramps}
+use Rattle.instance.specs.declared.reader.thermal.Times.{Times}
+use Rattle.instance.specs.declared.reader.thermal.Initial.{Initial}
+use Rattle.instance.specs.FirstFault.{◌>>=◌, thermal_of, whole, wanted, refused_if, field_at, object_at, each_at, power_at, power_from, time_at, flag_at, periods_at, flag_field, time_field, power_field, output_field, powers_at, maxima_at, outputs_at, ramps_at, times_at, initial_at, startup_at, points_at, thermal_at, renewable_at, outside, units_at, thermal_member, renewable_member, thermal_units_at, renewable_units_at, totals_at, instance_at}
 use Rattle.instance.specs.InstanceOf.{Pairs, Has, IsObject, IsPowerOf, IsTimeOf, IsFlagOf, IsPeriodsOf, IsPowersOf, IsLimitOf, IsMinimumTimeOf, IsThermalOf, IsRenewableOf, AreUnitsOf, HasFields, IsInstanceOf}
 use Rattle.instance.proofs.Steps.{ok_is, bind_ok, last_ok, two_ok, three_ok, first_ok, four_ok, six_ok, wanted_ok, refused_ok, some_and, some_is, some_split, wanted_is, wanted_again, in_unit_ok, in_unit_again}
 use Rattle.instance.proofs.NumberLaws.{power_is, power_again, power_from_is, power_from_again, time_is, time_again, flag_is, flag_again, periods_is, periods_again}
@@ -161,32 +160,12 @@ initial_again exact ms x h =
 
 -- ---- a thermal unit
 
-abbrev made : List ℕ → Outputs → Ramps → Times → Initial → List StartRow → List Point → Thermal
-made name outputs ramps times initial startup points = record {
-  name = name;
-  must_run = outputs.must_run;
-  pmin = outputs.pmin;
-  pmax = outputs.pmax;
-  ru = ramps.ru;
-  rd = ramps.rd;
-  su = ramps.su;
-  sd = ramps.sd;
-  ut = times.up;
-  dt = times.down;
-  p0 = initial.output;
-  on0 = initial.on;
-  ut0 = initial.up;
-  dt0 = initial.down;
-  startup = startup;
-  points = points;
-}
-
 abbrev parts_read : Bool → List ℕ → Pairs → Result Thermal Refusal
-parts_read exact name ms = outputs_at exact ms >>= λ o. ramps_at exact ms >>= λ r. times_at exact ms >>= λ t. initial_at exact ms >>= λ i. startup_at exact ms >>= λ s. points_at exact ms >>= λ p. Ok (made name o r t i s p)
+parts_read exact name ms = outputs_at exact ms >>= λ o. ramps_at exact ms >>= λ r. times_at exact ms >>= λ t. initial_at exact ms >>= λ i. startup_at exact ms >>= λ s. points_at exact ms >>= λ p. Ok (thermal_of name o r t i s p)
 
 parts_is : (exact : Bool) (name : List ℕ) (ms : Pairs) (unit : Thermal) → parts_read exact name ms ≡ Ok unit → (unit.name ≡ name) × IsThermalOf exact unit ms
 parts_is exact name ms unit e =
-    let a = six_ok (outputs_at exact ms) (ramps_at exact ms) (times_at exact ms) (initial_at exact ms) (startup_at exact ms) (points_at exact ms) (made name) unit e in
+    let a = six_ok (outputs_at exact ms) (ramps_at exact ms) (times_at exact ms) (initial_at exact ms) (startup_at exact ms) (points_at exact ms) (thermal_of name) unit e in
     let o = outputs_is exact ms a.0 a.6 in
     let r = ramps_is exact ms a.1 a.7 in
     let t = times_is exact ms a.2 a.8 in
@@ -371,7 +350,7 @@ totals_again exact ms x h =
 abbrev whole_made : Totals → List Thermal → List Renewable → Instance
 whole_made totals thermal renewable = record { periods = totals.periods; demand = totals.demand; reserves = totals.reserves; thermal = thermal; renewable = renewable }
 
-abbrev fields_read : Bool → Pairs → Result Instance UnitRefusal
+abbrev fields_read : Bool → Pairs → Result Instance FieldRefusal
 fields_read exact ms = outside (totals_at exact ms) >>= λ totals. thermal_units_at exact ms >>= λ thermal. renewable_units_at exact totals.periods ms >>= λ renewable. Ok (whole_made totals thermal renewable)
 
 fields_is : (exact : Bool) (ms : Pairs) (i : Instance) → fields_read exact ms ≡ Ok i → HasFields exact i ms

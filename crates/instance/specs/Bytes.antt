@@ -7,8 +7,8 @@ use Rattle.decimal_json.specs.Reading.{IsText, IsFault}
 use Rattle.instance.specs.FirstFault.{instance_at}
 use Rattle.instance.specs.InstanceOf.{IsInstanceOf}
 use Rattle.instance.specs.Rounded.{rounded_instance}
-use Rattle.instance.specs.declared.file.ReadFault.{ReadFault}
-use Rattle.instance.specs.declared.file.ReadFault.TheVariants as fault
+use Rattle.instance.specs.declared.from_bytes.ReadFault.{ReadFault}
+use Rattle.instance.specs.declared.from_bytes.ReadFault.TheVariants as fault
 
 abbrev pub StandFor : Bool → List ℕ → Instance → Type 0
 StandFor exact bytes instance = (v : Value) × IsText bytes v × IsInstanceOf exact v instance
@@ -21,6 +21,5 @@ StandForCounted exact bytes instance rounded = (v : Value) × IsText bytes v × 
 -- value of which this is the first fault.
 abbrev pub HasCause : Bool → List ℕ → ReadFault → Type 0
 HasCause exact bytes (fault.Json at kind) = IsFault bytes at kind
-HasCause exact bytes (fault.Refused code kind unit field entry) = (v : Value) × IsText bytes v
-    × (instance_at exact v ≡ Err (record { kind = kind; unit = unit; refused = record { code = code; place = record { field = field; entry = entry } } }))
+HasCause exact bytes (fault.Refused refusal) = (v : Value) × IsText bytes v × (instance_at exact v ≡ Err refusal)
 HasCause exact bytes fault.NoMemory = ⊤

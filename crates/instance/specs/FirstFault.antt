@@ -13,15 +13,16 @@ use Rattle.instance.specs.Fields.{key_of, number_in, entries_in, pairs_in, field
 use Rattle.instance.specs.Scaled.{MILLION, size_of, scaled, is_rounded, wholes_of, is_below_zero}
 use Rattle.instance.specs.Points.{last_output}
 use Rattle.uc_model.specs.declared.field.Field.{Field}
+use Rattle.uc_model.specs.declared.field_refusal.FieldRefusal.{FieldRefusal}
 use Rattle.uc_model.specs.declared.field.Field.TheVariants.{NoField, TimePeriods, Demand, Reserves, ThermalGenerators, RenewableGenerators, MustRun, PowerOutputMinimum, PowerOutputMaximum, RampUpLimit, RampDownLimit, RampStartupLimit, RampShutdownLimit, TimeUpMinimum, TimeDownMinimum, PowerOutputT0, UnitOnT0, TimeUpT0, TimeDownT0, Startup, StartupLag, StartupCost, PiecewiseProduction, PiecewiseProductionMw, PiecewiseProductionCost}
-use Rattle.instance.specs.declared.fault.TheConstants.{MISSING, OTHER_KIND, NOT_WHOLE, PAST_LIMIT, OUT_OF_RANGE, TOO_SHORT, TOO_MANY, ROUNDED, NO_UNIT, THERMAL, RENEWABLE}
+use Rattle.instance.specs.Codes.{MISSING, OTHER_KIND, NOT_WHOLE, PAST_LIMIT, OUT_OF_RANGE, TOO_SHORT, TOO_MANY, ROUNDED, NO_UNIT, THERMAL, RENEWABLE}
 use Rattle.instance.specs.declared.fault.Place.{Place}
 use Rattle.instance.specs.declared.fault.Refusal.{Refusal}
-use Rattle.instance.specs.declared.totals.Totals.{Totals}
-use Rattle.instance.specs.declared.thermal.Outputs.{Outputs}
-use Rattle.instance.specs.declared.thermal.Ramps.{Ramps}
-use Rattle.instance.specs.declared.thermal.Times.{Times}
-use Rattle.instance.specs.declared.thermal.Initial.{Initial}
+use Rattle.instance.specs.declared.reader.totals.Totals.{Totals}
+use Rattle.instance.specs.declared.reader.thermal.Outputs.{Outputs}
+use Rattle.instance.specs.declared.reader.thermal.Ramps.{Ramps}
+use Rattle.instance.specs.declared.reader.thermal.Times.{Times}
+use Rattle.instance.specs.declared.reader.thermal.Initial.{Initial}
 
 -- one step after another, up to the first fault
 infixl 10 ◌>>=◌
@@ -54,21 +55,23 @@ number_at exact place v = do
   d ← wanted OTHER_KIND place (number_in v)
   refused_if (exact && is_rounded d) ROUNDED place d
 
-unfoldable pub power_at : Bool → Place → Value → Result ℤ Refusal
-power_at exact place v = do
+-- a power or a cost, of a size up to the most
+unfoldable pub amount_at : ℕ → Bool → Place → Value → Result ℤ Refusal
+amount_at most exact place v = do
   d ← number_at exact place v
-  refused_if (nat_lt MAX_POWER (size_of d)) PAST_LIMIT place (scaled d)
+  refused_if (nat_lt most (size_of d)) PAST_LIMIT place (scaled d)
+
+abbrev pub power_at : Bool → Place → Value → Result ℤ Refusal
+power_at = amount_at MAX_POWER
+
+abbrev pub cost_at : Bool → Place → Value → Result ℤ Refusal
+cost_at = amount_at MAX_COST
 
 -- a power with a least one
 unfoldable pub power_from : Bool → Place → ℤ → Value → Result ℤ Refusal
 power_from exact place least v = do
   z ← power_at exact place v
   refused_if (int_lt z least) OUT_OF_RANGE place z
-
-unfoldable pub cost_at : Bool → Place → Value → Result ℤ Refusal
-cost_at exact place v = do
-  d ← number_at exact place v
-  refused_if (nat_lt MAX_COST (size_of d)) PAST_LIMIT place (scaled d)
 
 unfoldable pub whole_at : Bool → Place → Value → Result Decimal Refusal
 whole_at exact place v = do
@@ -211,6 +214,27 @@ points_at exact ms = do
   rows ← rows_at PiecewiseProduction MAX_POINTS ms
   each_at (point_row exact) [] rows
 
+-- a unit of its name and its parts
+abbrev pub thermal_of : List ℕ → Outputs → Ramps → Times → Initial → List StartRow → List Point → Thermal
+thermal_of name outputs ramps times initial startup points = record {
+  name = name;
+  must_run = outputs.must_run;
+  pmin = outputs.pmin;
+  pmax = outputs.pmax;
+  ru = ramps.ru;
+  rd = ramps.rd;
+  su = ramps.su;
+  sd = ramps.sd;
+  ut = times.up;
+  dt = times.down;
+  p0 = initial.output;
+  on0 = initial.on;
+  ut0 = initial.up;
+  dt0 = initial.down;
+  startup = startup;
+  points = points;
+}
+
 unfoldable pub thermal_at : Bool → List ℕ → Value → Result Thermal Refusal
 thermal_at exact name v = do
   ms ← object_at (whole NoField) v
@@ -220,24 +244,7 @@ thermal_at exact name v = do
   initial ← initial_at exact ms
   startup ← startup_at exact ms
   points ← points_at exact ms
-  Ok (record {
-    name = name;
-    must_run = outputs.must_run;
-    pmin = outputs.pmin;
-    pmax = outputs.pmax;
-    ru = ramps.ru;
-    rd = ramps.rd;
-    su = ramps.su;
-    sd = ramps.sd;
-    ut = times.up;
-    dt = times.down;
-    p0 = initial.output;
-    on0 = initial.on;
-    ut0 = initial.up;
-    dt0 = initial.down;
-    startup = startup;
-    points = points;
-  })
+  Ok (thermal_of name outputs ramps times initial startup points)
 
 -- ---- a renewable unit
 
@@ -255,17 +262,15 @@ renewable_at exact periods name v = do
 
 -- ---- the instance
 
--- a fault with the unit that it is in
-pub record UnitRefusal : Type 0 where
-  pub kind : ℕ
-  pub unit : List ℕ
-  pub refused : Refusal
+-- what refuses a record, with the unit that it is in
+abbrev pub with_unit : ℕ → List ℕ → Refusal → FieldRefusal
+with_unit kind unit e = record { code = e.code; kind_of_unit = kind; unit = unit; field = e.place.field; entry = e.place.entry }
 
-abbrev pub in_unit : {A : Type 0} → ℕ → List ℕ → Result A Refusal → Result A UnitRefusal
+abbrev pub in_unit : {A : Type 0} → ℕ → List ℕ → Result A Refusal → Result A FieldRefusal
 in_unit kind unit (Ok x) = Ok x
-in_unit kind unit (Err e) = Err (record { kind = kind; unit = unit; refused = e })
+in_unit kind unit (Err e) = Err (with_unit kind unit e)
 
-abbrev pub outside : {A : Type 0} → Result A Refusal → Result A UnitRefusal
+abbrev pub outside : {A : Type 0} → Result A Refusal → Result A FieldRefusal
 outside read = in_unit NO_UNIT [] read
 
 unfoldable pub units_at : Field → List (List ℕ × Value) → Result (List (List ℕ × Value)) Refusal
@@ -274,18 +279,18 @@ units_at field ms = do
   units ← object_at (whole field) v
   refused_if (nat_lt MAX_UNITS (length units)) TOO_MANY (whole field) units
 
-abbrev pub thermal_member : Bool → List Thermal → List ℕ × Value → Result Thermal UnitRefusal
+abbrev pub thermal_member : Bool → List Thermal → List ℕ × Value → Result Thermal FieldRefusal
 thermal_member exact front m = in_unit THERMAL m.0 (thermal_at exact m.0 m.1)
 
-abbrev pub renewable_member : Bool → ℕ → List Renewable → List ℕ × Value → Result Renewable UnitRefusal
+abbrev pub renewable_member : Bool → ℕ → List Renewable → List ℕ × Value → Result Renewable FieldRefusal
 renewable_member exact periods front m = in_unit RENEWABLE m.0 (renewable_at exact periods m.0 m.1)
 
-unfoldable pub thermal_units_at : Bool → List (List ℕ × Value) → Result (List Thermal) UnitRefusal
+unfoldable pub thermal_units_at : Bool → List (List ℕ × Value) → Result (List Thermal) FieldRefusal
 thermal_units_at exact ms = do
   units ← outside (units_at ThermalGenerators ms)
   each_at (thermal_member exact) [] units
 
-unfoldable pub renewable_units_at : Bool → ℕ → List (List ℕ × Value) → Result (List Renewable) UnitRefusal
+unfoldable pub renewable_units_at : Bool → ℕ → List (List ℕ × Value) → Result (List Renewable) FieldRefusal
 renewable_units_at exact periods ms = do
   units ← outside (units_at RenewableGenerators ms)
   each_at (renewable_member exact periods) [] units
@@ -297,7 +302,7 @@ totals_at exact ms = do
   reserves ← powers_at exact Reserves periods ms
   Ok (record { periods = periods; demand = demand; reserves = reserves })
 
-unfoldable pub instance_at : Bool → Value → Result Instance UnitRefusal
+unfoldable pub instance_at : Bool → Value → Result Instance FieldRefusal
 instance_at exact v = do
   ms ← outside (object_at (whole NoField) v)
   totals ← outside (totals_at exact ms)

@@ -1,3 +1,4 @@
+pub mod Codes
 pub mod Fields
 pub mod Scaled
 pub mod Nearest
@@ -10,3 +11,4 @@ pub mod FirstFault
 pub mod Answer
 pub mod InstanceOf
 pub mod Bytes
+pub mod inside

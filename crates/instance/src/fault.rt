@@ -2,11 +2,11 @@
 
 ghost use Rattle.std.specs.Prelude.{◌≡◌, ◌+◌, ◌<◌};
 ghost use Rattle.instance.specs.FirstFault.{whole, entry_of, refusal};
+ghost use Rattle.instance.specs.inside.Parts.{MOST_ENTRIES};
 
 use std::alloc::{AllocError, AllocFailed};
-use uc_model::{Field, Name};
+use uc_model::{Field, FieldRefusal};
 
-/// The codes of a refusal.
 pub(crate) const MISSING: u8 = 1;
 
 pub(crate) const OTHER_KIND: u8 = 2;
@@ -23,36 +23,42 @@ pub(crate) const TOO_MANY: u8 = 7;
 
 pub(crate) const ROUNDED: u8 = 8;
 
-/// The kinds of unit in a refusal.
 pub(crate) const NO_UNIT: u8 = 0;
 
 pub(crate) const THERMAL: u8 = 1;
 
 pub(crate) const RENEWABLE: u8 = 2;
 
-/// Why a JSON value has no instance, or none was made.
+/// Why a value was not read: what refuses it, or want of memory.
 #[derive(Debug, Drop)]
-pub enum InstanceFault {
-    /// The first fault in the order of the fields. The codes:
-    /// 1 the field is missing;
-    /// 2 it is of another JSON kind than wanted;
-    /// 3 it isn't whole;
-    /// 4 it is past a limit in size or of a time;
-    /// 5 it is outside its range;
-    /// 6 the array is shorter than the number of periods;
-    /// 7 there are too many periods, units or rows;
-    /// 8 it is rounded, where only exact numbers are taken.
-    Refused {
-        code: u8,
-        /// 0 where the fault is in no unit, 1 in a thermal and 2 in a renewable one.
-        kind_of_unit: u8,
-        /// The unit's name, empty where there is none.
-        unit: Name,
-        field: Field,
-        /// The place in an array, from 1, or 0 where the fault is at no entry.
-        entry: u32,
-    },
+pub enum Fault<R> {
+    Refused(R),
     NoMemory,
+}
+
+/// Why a JSON value has no instance, or none was made: the first fault in the order of the fields.
+pub type InstanceFault = Fault<FieldRefusal>;
+
+impl<R> From<AllocError> for Fault<R> {
+    ghost use Rattle.std.specs.Prelude.{◌≡◌};
+    ghost use Rattle.instance.specs.declared.fault.Fault.TheVariants.{NoMemory};
+
+    ghost from_gives = { λ _ e. e ≡ NoMemory };
+
+    fn from(_: AllocError) -> Self {
+        Fault::NoMemory
+    }
+}
+
+impl<R, T: Drop> From<AllocFailed<T>> for Fault<R> {
+    ghost use Rattle.std.specs.Prelude.{◌≡◌};
+    ghost use Rattle.instance.specs.declared.fault.Fault.TheVariants.{NoMemory};
+
+    ghost from_gives = { λ _ e. e ≡ NoMemory };
+
+    fn from(_: AllocFailed<T>) -> Self {
+        Fault::NoMemory
+    }
 }
 
 /// A field of a record, or an entry of a field that is an array, from 1; 0 is the field itself.
@@ -72,7 +78,7 @@ impl Place {
 
     /// The entry of a field at an index.
     pub(crate) fn entry(field: Field, index: usize) -> Self
-        requires { index < 4096 }
+        requires { index < MOST_ENTRIES }
         ensures { result ≡ entry_of field (index + 1) }
     {
         Place {
@@ -82,14 +88,14 @@ impl Place {
     }
 
     /// A fault here.
-    pub(crate) fn refused(self, code: u8) -> Fault
+    pub(crate) fn refused(self, code: u8) -> PlacedFault
         ensures { result ≡ Fault.Refused (refusal code self) }
     {
         Fault::Refused(Refusal { code, place: self })
     }
 }
 
-/// A fault in a record, apart from the unit that it is in.
+/// What refuses a record, apart from the unit that it is in.
 #[derive(Clone, Copy, Debug)]
 pub(crate) struct Refusal {
     pub(crate) code: u8,
@@ -97,52 +103,4 @@ pub(crate) struct Refusal {
 }
 
 /// Why a part of a record was not read.
-#[derive(Clone, Copy, Debug)]
-pub(crate) enum Fault {
-    Refused(Refusal),
-    NoMemory,
-}
-
-impl From<AllocError> for Fault {
-    ghost use Rattle.std.specs.Prelude.{◌≡◌};
-    ghost use Rattle.instance.specs.declared.fault.Fault.TheVariants.{NoMemory};
-
-    ghost from_gives = { λ _ e. e ≡ NoMemory };
-
-    fn from(_: AllocError) -> Self {
-        Fault::NoMemory
-    }
-}
-
-impl<T: Drop> From<AllocFailed<T>> for Fault {
-    ghost use Rattle.std.specs.Prelude.{◌≡◌};
-    ghost use Rattle.instance.specs.declared.fault.Fault.TheVariants.{NoMemory};
-
-    ghost from_gives = { λ _ e. e ≡ NoMemory };
-
-    fn from(_: AllocFailed<T>) -> Self {
-        Fault::NoMemory
-    }
-}
-
-impl From<AllocError> for InstanceFault {
-    ghost use Rattle.std.specs.Prelude.{◌≡◌};
-    ghost use Rattle.instance.specs.declared.fault.InstanceFault.TheVariants.{NoMemory};
-
-    ghost from_gives = { λ _ e. e ≡ NoMemory };
-
-    fn from(_: AllocError) -> Self {
-        InstanceFault::NoMemory
-    }
-}
-
-impl<T: Drop> From<AllocFailed<T>> for InstanceFault {
-    ghost use Rattle.std.specs.Prelude.{◌≡◌};
-    ghost use Rattle.instance.specs.declared.fault.InstanceFault.TheVariants.{NoMemory};
-
-    ghost from_gives = { λ _ e. e ≡ NoMemory };
-
-    fn from(_: AllocFailed<T>) -> Self {
-        InstanceFault::NoMemory
-    }
-}
+pub(crate) type PlacedFault = Fault<Refusal>;

@@ -2,6 +2,14 @@
 
 ghost use Rattle.std.specs.Prelude.{◌≡◌, IsTrue};
 
+mod arrays;
+mod numbers;
+mod renewable;
+mod rows;
+mod thermal;
+pub(crate) mod totals;
+pub(crate) mod units;
+
 /// A reader of numbers, which counts those that are rounded.
 #[derive(Drop)]
 pub(crate) struct Reader {

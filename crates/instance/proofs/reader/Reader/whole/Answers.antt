@@ -10,5 +10,5 @@ unfolding whole_at
 returns-clause-read c =
     let d = decimal_of c.in_ok-number.number.now in
     let rest : size_of d % 1_000_000 ≡ 0 = omega (arith, held_rest (size_of d), c.scaled_size-size.ensures, c.if-size-ne0.false) in
-    let read : whole_at c.args.self.now.exact c.args.spot.place (view c.args.spot.value.now) ≡ Ok d = grind (arith, c.in_ok-number.ensures.read, rest) in
+    let read : whole_at c.args.self.now.exact c.args.placed.place (view c.args.placed.value.now) ≡ Ok d = grind (arith, c.in_ok-number.ensures.read, rest) in
     (d, read, refl, ap (λ n. n / 1_000_000) c.scaled_size-size.ensures ∙ held_quotient (size_of d))

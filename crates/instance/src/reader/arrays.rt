@@ -6,11 +6,12 @@ ghost use Rattle.decimal_json.specs.View.{view, pair_view};
 ghost use Rattle.uc_model.specs.declared.field.Field.TheVariants.{PowerOutputMaximum};
 ghost use Rattle.instance.specs.FirstFault.{each_at, power_entry, powers_at, maximum_entry, maxima_at};
 ghost use Rattle.instance.specs.Rounded.{rounded_value, rounded_array};
-ghost use Rattle.instance.specs.Answer.{Gives, Counts};
+ghost use Rattle.instance.specs.Answer.{Gives};
+ghost use Rattle.instance.specs.inside.Parts.{Counts, MOST_PERIODS};
 
-use crate::fault::{Fault, Place};
+use crate::fault::{Place, PlacedFault};
+use crate::placed::{self, PlacedValue};
 use crate::reader::Reader;
-use crate::spot::{self, Spot};
 use decimal_json::{Json, Pair};
 use std::alloc::Global;
 use uc_model::Field;
@@ -23,8 +24,8 @@ impl Reader {
         alloc: Global,
         entries: &[Json],
         field: Field,
-    ) -> Result<Vec<i64>, Fault>
-        requires few { length entries.now ≤ 168 }
+    ) -> Result<Vec<i64>, PlacedFault>
+        requires few { length entries.now ≤ MOST_PERIODS }
         requires room { self.old.rounded + length entries.now < 2 ^ 64 }
         ensures read { Gives (λ zs. zs.items) result (each_at (power_entry self.old.exact field) [] (map view entries.now)) }
         ensures counted { OnOk result (Counts self.old self.new (sum_by rounded_value (map view entries.now)) (length entries.now)) }
@@ -33,7 +34,7 @@ impl Reader {
         let mut powers = Vec::new(alloc);
         for (index, value) in entries.iter().enumerate() {
             let place = Place::entry(field, index);
-            powers.push(self.power(Spot { value, place })?)?;
+            powers.push(self.power(PlacedValue { value, place })?)?;
         }
         Ok(powers)
     }
@@ -46,14 +47,14 @@ impl Reader {
         members: &[Pair],
         field: Field,
         periods: u32,
-    ) -> Result<Vec<i64>, Fault>
-        requires few { periods ≤ 168 }
+    ) -> Result<Vec<i64>, PlacedFault>
+        requires few { periods ≤ MOST_PERIODS }
         requires room { self.old.rounded + periods < 2 ^ 64 }
         ensures read { Gives (λ zs. zs.items) result (powers_at self.old.exact field periods (map pair_view members.now)) }
         ensures counted { OnOk result (Counts self.old self.new (rounded_array field periods (map pair_view members.now)) periods) }
         ensures length { IfOk result (λ zs. vec_len zs ≡ periods) }
     {
-        let entries = spot::entries(members, field, periods)?;
+        let entries = placed::entries(members, field, periods)?;
         self.power_entries(alloc, entries, field)
     }
 
@@ -64,8 +65,8 @@ impl Reader {
         alloc: Global,
         entries: &[Json],
         minimum: &[i64],
-    ) -> Result<Vec<i64>, Fault>
-        requires few { length entries.now ≤ 168 }
+    ) -> Result<Vec<i64>, PlacedFault>
+        requires few { length entries.now ≤ MOST_PERIODS }
         requires all { length minimum.now ≡ length entries.now }
         requires room { self.old.rounded + length entries.now < 2 ^ 64 }
         ensures read { Gives (λ zs. zs.items) result (each_at (maximum_entry self.old.exact minimum.now) [] (map view entries.now)) }
@@ -75,7 +76,7 @@ impl Reader {
         for (index, value) in entries.iter().enumerate() {
             let place = Place::entry(Field::PowerOutputMaximum, index);
             let least = at_least_zero(minimum[index]);
-            powers.push(self.power_from(Spot { value, place }, least)?)?;
+            powers.push(self.power_from(PlacedValue { value, place }, least)?)?;
         }
         Ok(powers)
     }
@@ -87,13 +88,13 @@ impl Reader {
         alloc: Global,
         members: &[Pair],
         minimum: &[i64],
-    ) -> Result<Vec<i64>, Fault>
-        requires few { length minimum.now ≤ 168 }
+    ) -> Result<Vec<i64>, PlacedFault>
+        requires few { length minimum.now ≤ MOST_PERIODS }
         requires room { self.old.rounded + length minimum.now < 2 ^ 64 }
         ensures read { Gives (λ zs. zs.items) result (maxima_at self.old.exact (length minimum.now) minimum.now (map pair_view members.now)) }
         ensures counted { OnOk result (Counts self.old self.new (rounded_array PowerOutputMaximum (length minimum.now) (map pair_view members.now)) (length minimum.now)) }
     {
-        let entries = spot::entries(members, Field::PowerOutputMaximum, minimum.len() as u32)?;
+        let entries = placed::entries(members, Field::PowerOutputMaximum, minimum.len() as u32)?;
         self.maximum_entries(alloc, entries, minimum)
     }
 }

@@ -4,11 +4,12 @@ ghost use Rattle.std.specs.Prelude.{◌≡◌, ◌+◌, ◌*◌, ◌<◌, ◌≤
 ghost use Rattle.decimal_json.specs.View.{view};
 ghost use Rattle.instance.specs.FirstFault.{renewable_at};
 ghost use Rattle.instance.specs.Rounded.{rounded_renewable};
-ghost use Rattle.instance.specs.Answer.{Gives, Counts};
+ghost use Rattle.instance.specs.Answer.{Gives};
+ghost use Rattle.instance.specs.inside.Parts.{Counts, MOST_PERIODS, RENEWABLE_NUMBERS};
 
-use crate::fault::{Fault, Place};
+use crate::fault::{Place, PlacedFault};
+use crate::placed::PlacedValue;
 use crate::reader::Reader;
-use crate::spot::Spot;
 use decimal_json::Json;
 use std::alloc::Global;
 use uc_model::{Field, List, Name, Renewable};
@@ -22,14 +23,14 @@ impl Reader {
         periods: u32,
         name: &str,
         value: &Json,
-    ) -> Result<Renewable, Fault>
-        requires few { periods ≤ 168 }
-        requires room { self.old.rounded + 336 < 2 ^ 64 }
+    ) -> Result<Renewable, PlacedFault>
+        requires few { periods ≤ MOST_PERIODS }
+        requires room { self.old.rounded + RENEWABLE_NUMBERS < 2 ^ 64 }
         ensures read { Gives (λ unit. unit) result (renewable_at self.old.exact periods name.now (view value.now)) }
-        ensures counted { OnOk result (Counts self.old self.new (rounded_renewable periods (view value.now)) 336) }
+        ensures counted { OnOk result (Counts self.old self.new (rounded_renewable periods (view value.now)) RENEWABLE_NUMBERS) }
     {
         let place = Place::whole(Field::NoField);
-        let members = Spot { value, place }.object()?;
+        let members = PlacedValue { value, place }.object()?;
         let minimum = self.powers(alloc, members, Field::PowerOutputMinimum, periods)?;
         let maximum = self.maxima(alloc, members, minimum.as_slice())?;
         Ok(Renewable {

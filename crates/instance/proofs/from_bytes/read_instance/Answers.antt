@@ -3,7 +3,7 @@ use Rattle.decimal_json.specs.Value.{Value}
 use Rattle.decimal_json.specs.declared.types.JsonFault.TheVariants as json
 use Rattle.instance.specs.InstanceOf.{IsInstanceOf}
 use Rattle.instance.proofs.Steps.{ok_is}
-use Rattle.instance.proofs.file.read_instance.Goals as goal
+use Rattle.instance.proofs.from_bytes.read_instance.Goals as goal
 
 pub returns-in-Err-At-clause-only : goal.returns-in-Err-At-clause-only
 returns-in-Err-At-clause-only c i s =

@@ -5,14 +5,16 @@ ghost use Rattle.decimal_json.specs.Value.{Value};
 ghost use Rattle.decimal_json.specs.View.{pair_view};
 ghost use Rattle.instance.specs.FirstFault.{each_at, thermal_member, renewable_member, thermal_units_at, renewable_units_at};
 ghost use Rattle.instance.specs.Rounded.{rounded_thermal, rounded_renewable, rounded_thermal_units, rounded_renewable_units};
-ghost use Rattle.instance.specs.Answer.{GivesWhole, IsInUnit, Counts};
+ghost use Rattle.instance.specs.Answer.{Gives};
+ghost use Rattle.instance.specs.Codes.{NO_UNIT};
+ghost use Rattle.instance.specs.inside.Parts.{IsInUnit, Counts, MOST_PERIODS, MOST_ENTRIES, THERMAL_NUMBERS, RENEWABLE_NUMBERS};
 
-use crate::fault::{Fault, InstanceFault, NO_UNIT, RENEWABLE, Refusal, THERMAL};
+use crate::fault::{Fault, InstanceFault, NO_UNIT, PlacedFault, RENEWABLE, Refusal, THERMAL};
+use crate::placed;
 use crate::reader::Reader;
-use crate::spot;
 use decimal_json::Pair;
 use std::alloc::Global;
-use uc_model::{Field, Name, Renewable, Thermal};
+use uc_model::{Field, FieldRefusal, Name, Renewable, Thermal};
 
 impl Reader {
     #[tactic(auto, unfolding(crate::specs::FirstFault::thermal_units_at, crate::specs::Rounded::rounded_thermal_units))]
@@ -21,11 +23,11 @@ impl Reader {
         alloc: Global,
         members: &[Pair],
     ) -> Result<Vec<Thermal>, InstanceFault>
-        requires { self.old.rounded + 173 * 4096 < 2 ^ 64 }
-        ensures read { GivesWhole (λ us. us.items) result (thermal_units_at self.old.exact (map pair_view members.now)) }
-        ensures counted { OnOk result (Counts self.old self.new (rounded_thermal_units (map pair_view members.now)) (173 * 4096)) }
+        requires { self.old.rounded + THERMAL_NUMBERS * MOST_ENTRIES < 2 ^ 64 }
+        ensures read { Gives (λ us. us.items) result (thermal_units_at self.old.exact (map pair_view members.now)) }
+        ensures counted { OnOk result (Counts self.old self.new (rounded_thermal_units (map pair_view members.now)) (THERMAL_NUMBERS * MOST_ENTRIES)) }
     {
-        match spot::units(members, Field::ThermalGenerators) {
+        match placed::units(members, Field::ThermalGenerators) {
             Ok(units) => self.thermal_list(alloc, units),
             Err(fault) => Err(outside(alloc, fault)),
         }
@@ -38,12 +40,12 @@ impl Reader {
         members: &[Pair],
         periods: u32,
     ) -> Result<Vec<Renewable>, InstanceFault>
-        requires few { periods ≤ 168 }
-        requires room { self.old.rounded + 336 * 4096 < 2 ^ 64 }
-        ensures read { GivesWhole (λ us. us.items) result (renewable_units_at self.old.exact periods (map pair_view members.now)) }
-        ensures counted { OnOk result (Counts self.old self.new (rounded_renewable_units periods (map pair_view members.now)) (336 * 4096)) }
+        requires few { periods ≤ MOST_PERIODS }
+        requires room { self.old.rounded + RENEWABLE_NUMBERS * MOST_ENTRIES < 2 ^ 64 }
+        ensures read { Gives (λ us. us.items) result (renewable_units_at self.old.exact periods (map pair_view members.now)) }
+        ensures counted { OnOk result (Counts self.old self.new (rounded_renewable_units periods (map pair_view members.now)) (RENEWABLE_NUMBERS * MOST_ENTRIES)) }
     {
-        match spot::units(members, Field::RenewableGenerators) {
+        match placed::units(members, Field::RenewableGenerators) {
             Ok(units) => self.renewable_list(alloc, units, periods),
             Err(fault) => Err(outside(alloc, fault)),
         }
@@ -55,10 +57,10 @@ impl Reader {
         alloc: Global,
         members: &[Pair],
     ) -> Result<Vec<Thermal>, InstanceFault>
-        requires few { length members.now ≤ 4096 }
-        requires room { self.old.rounded + 173 * length members.now < 2 ^ 64 }
-        ensures read { GivesWhole (λ us. us.items) result (each_at (thermal_member self.old.exact) [] (map pair_view members.now)) }
-        ensures counted { OnOk result (Counts self.old self.new (sum_by (λ (m : List ℕ × Value). rounded_thermal m.1) (map pair_view members.now)) (173 * length members.now)) }
+        requires few { length members.now ≤ MOST_ENTRIES }
+        requires room { self.old.rounded + THERMAL_NUMBERS * length members.now < 2 ^ 64 }
+        ensures read { Gives (λ us. us.items) result (each_at (thermal_member self.old.exact) [] (map pair_view members.now)) }
+        ensures counted { OnOk result (Counts self.old self.new (sum_by (λ (m : List ℕ × Value). rounded_thermal m.1) (map pair_view members.now)) (THERMAL_NUMBERS * length members.now)) }
     {
         let mut units = Vec::new(alloc);
         for member in members {
@@ -74,11 +76,11 @@ impl Reader {
         members: &[Pair],
         periods: u32,
     ) -> Result<Vec<Renewable>, InstanceFault>
-        requires short { periods ≤ 168 }
-        requires few { length members.now ≤ 4096 }
-        requires room { self.old.rounded + 336 * length members.now < 2 ^ 64 }
-        ensures read { GivesWhole (λ us. us.items) result (each_at (renewable_member self.old.exact periods) [] (map pair_view members.now)) }
-        ensures counted { OnOk result (Counts self.old self.new (sum_by (λ (m : List ℕ × Value). rounded_renewable periods m.1) (map pair_view members.now)) (336 * length members.now)) }
+        requires short { periods ≤ MOST_PERIODS }
+        requires few { length members.now ≤ MOST_ENTRIES }
+        requires room { self.old.rounded + RENEWABLE_NUMBERS * length members.now < 2 ^ 64 }
+        ensures read { Gives (λ us. us.items) result (each_at (renewable_member self.old.exact periods) [] (map pair_view members.now)) }
+        ensures counted { OnOk result (Counts self.old self.new (sum_by (λ (m : List ℕ × Value). rounded_renewable periods m.1) (map pair_view members.now)) (RENEWABLE_NUMBERS * length members.now)) }
     {
         let mut units = Vec::new(alloc);
         for member in members {
@@ -88,9 +90,9 @@ impl Reader {
     }
 
     fn thermal_unit(&mut self, alloc: Global, member: &Pair) -> Result<Thermal, InstanceFault>
-        requires { self.old.rounded + 173 < 2 ^ 64 }
-        ensures read { GivesWhole (λ unit. unit) result (thermal_member self.old.exact [] (pair_view member.now)) }
-        ensures counted { OnOk result (Counts self.old self.new (rounded_thermal (pair_view member.now).1) 173) }
+        requires { self.old.rounded + THERMAL_NUMBERS < 2 ^ 64 }
+        ensures read { Gives (λ unit. unit) result (thermal_member self.old.exact [] (pair_view member.now)) }
+        ensures counted { OnOk result (Counts self.old self.new (rounded_thermal (pair_view member.now).1) THERMAL_NUMBERS) }
     {
         let name = member.key.as_str();
         match self.thermal(alloc, name, &member.value) {
@@ -105,10 +107,10 @@ impl Reader {
         member: &Pair,
         periods: u32,
     ) -> Result<Renewable, InstanceFault>
-        requires few { periods ≤ 168 }
-        requires room { self.old.rounded + 336 < 2 ^ 64 }
-        ensures read { GivesWhole (λ unit. unit) result (renewable_member self.old.exact periods [] (pair_view member.now)) }
-        ensures counted { OnOk result (Counts self.old self.new (rounded_renewable periods (pair_view member.now).1) 336) }
+        requires few { periods ≤ MOST_PERIODS }
+        requires room { self.old.rounded + RENEWABLE_NUMBERS < 2 ^ 64 }
+        ensures read { Gives (λ unit. unit) result (renewable_member self.old.exact periods [] (pair_view member.now)) }
+        ensures counted { OnOk result (Counts self.old self.new (rounded_renewable periods (pair_view member.now).1) RENEWABLE_NUMBERS) }
     {
         let name = member.key.as_str();
         match self.renewable(alloc, periods, name, &member.value) {
@@ -119,27 +121,27 @@ impl Reader {
 }
 
 /// A fault with the unit that it is in.
-fn in_unit(alloc: Global, kind_of_unit: u8, name: &str, fault: Fault) -> InstanceFault
+fn in_unit(alloc: Global, kind_of_unit: u8, name: &str, fault: PlacedFault) -> InstanceFault
     ensures { IsInUnit kind_of_unit name.now fault result }
 {
     let Fault::Refused(Refusal { code, place }) = fault else {
-        return InstanceFault::NoMemory;
+        return Fault::NoMemory;
     };
     match String::from_str(alloc, name) {
-        Ok(unit) => InstanceFault::Refused {
+        Ok(unit) => Fault::Refused(FieldRefusal {
             code,
             kind_of_unit,
             unit: Name::from_string(unit),
             field: place.field,
             entry: place.entry,
-        },
-        Err(_) => InstanceFault::NoMemory,
+        }),
+        Err(_) => Fault::NoMemory,
     }
 }
 
 /// A fault in no unit.
-pub(crate) fn outside(alloc: Global, fault: Fault) -> InstanceFault
-    ensures { IsInUnit 0 [] fault result }
+pub(crate) fn outside(alloc: Global, fault: PlacedFault) -> InstanceFault
+    ensures { IsInUnit NO_UNIT [] fault result }
 {
     in_unit(alloc, NO_UNIT, "", fault)
 }

@@ -1,6 +1,6 @@
 use Rattle.decimal_json.specs.View.{view}
 use Rattle.instance.proofs.Whole.{answer_found, answer_lawful, answer_only}
-use Rattle.instance.proofs.read.from_json.Goals as goal
+use Rattle.instance.proofs.from_value.from_json.Goals as goal
 
 pub returns-clause-found : goal.returns-clause-found
 returns-clause-found c = answer_found c.args.exact (view c.args.json) c.read.result c.read.ensures.first

@@ -7,12 +7,12 @@ ghost use Rattle.decimal_json.specs.View.{view};
 ghost use Rattle.instance.specs.FirstFault.{instance_at};
 ghost use Rattle.instance.specs.InstanceOf.{IsInstanceOf};
 ghost use Rattle.instance.specs.Rounded.{rounded_instance};
-ghost use Rattle.instance.specs.Answer.{GivesWhole};
+ghost use Rattle.instance.specs.Answer.{Gives};
 
 use crate::fault::{InstanceFault, Place};
+use crate::placed::PlacedValue;
 use crate::reader::Reader;
-use crate::spot::Spot;
-use crate::units::outside;
+use crate::reader::units::outside;
 use decimal_json::Json;
 use std::alloc::Global;
 use uc_model::{Field, Instance, List};
@@ -27,9 +27,9 @@ pub fn from_json(alloc: Global, json: Json, exact: bool) -> Result<(Instance, u6
     ensures lawful { IfOk result (λ r. IsLawfulInstance r.0) }
     // The instance that a value stands for is answered, unless memory runs out. So there is one at most, and
     // a refusal comes only where there is none.
-    ensures only { (i : Instance) → IsInstanceOf exact (view json) i → GivesWhole (λ r. r.0) result (Ok i) }
+    ensures only { (i : Instance) → IsInstanceOf exact (view json) i → Gives (λ r. r.0) result (Ok i) }
     // A refusal is the first fault.
-    ensures first { GivesWhole (λ r. r.0) result (instance_at exact (view json)) }
+    ensures first { Gives (λ r. r.0) result (instance_at exact (view json)) }
     ensures counted { IfOk result (λ r. r.1 ≡ rounded_instance r.0.periods (view json)) }
     ensures none_if_exact { IfOk result (λ r. IsTrue exact → r.1 ≡ 0) }
 {
@@ -38,12 +38,12 @@ pub fn from_json(alloc: Global, json: Json, exact: bool) -> Result<(Instance, u6
 
 #[tactic(auto, unfolding(crate::specs::FirstFault::instance_at, crate::specs::Rounded::rounded_instance))]
 fn read(alloc: Global, json: &Json, exact: bool) -> Result<(Instance, u64), InstanceFault>
-    ensures first { GivesWhole (λ r. r.0) result (instance_at exact (view json.now)) }
+    ensures first { Gives (λ r. r.0) result (instance_at exact (view json.now)) }
     ensures counted { IfOk result (λ r. r.1 ≡ rounded_instance r.0.periods (view json.now)) }
     ensures none_if_exact { IfOk result (λ r. IsTrue exact → r.1 ≡ 0) }
 {
     let place = Place::whole(Field::NoField);
-    let members = match (Spot { value: json, place }).object() {
+    let members = match (PlacedValue { value: json, place }).object() {
         Ok(members) => members,
         Err(fault) => return Err(outside(alloc, fault)),
     };

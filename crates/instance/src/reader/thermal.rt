@@ -4,11 +4,12 @@ ghost use Rattle.std.specs.Prelude.{◌≡◌, ◌+◌, ◌<◌, ◌^◌, map, m
 ghost use Rattle.decimal_json.specs.View.{view, pair_view};
 ghost use Rattle.instance.specs.FirstFault.{outputs_at, ramps_at, times_at, initial_at, thermal_at};
 ghost use Rattle.instance.specs.Rounded.{rounded_outputs, rounded_ramps, rounded_times, rounded_initial, rounded_thermal};
-ghost use Rattle.instance.specs.Answer.{Gives, Counts};
+ghost use Rattle.instance.specs.Answer.{Gives};
+ghost use Rattle.instance.specs.inside.Parts.{Counts, THERMAL_NUMBERS};
 
-use crate::fault::{Fault, Place};
+use crate::fault::{Place, PlacedFault};
+use crate::placed::{PlacedValue, field};
 use crate::reader::Reader;
-use crate::spot::Spot;
 use decimal_json::{Json, Pair};
 use std::alloc::Global;
 use uc_model::{Field, List, Name, Thermal};
@@ -54,13 +55,13 @@ impl Reader {
         alloc: Global,
         name: &str,
         value: &Json,
-    ) -> Result<Thermal, Fault>
-        requires { self.old.rounded + 173 < 2 ^ 64 }
+    ) -> Result<Thermal, PlacedFault>
+        requires { self.old.rounded + THERMAL_NUMBERS < 2 ^ 64 }
         ensures read { Gives (λ unit. unit) result (thermal_at self.old.exact name.now (view value.now)) }
-        ensures counted { OnOk result (Counts self.old self.new (rounded_thermal (view value.now)) 173) }
+        ensures counted { OnOk result (Counts self.old self.new (rounded_thermal (view value.now)) THERMAL_NUMBERS) }
     {
         let place = Place::whole(Field::NoField);
-        let members = Spot { value, place }.object()?;
+        let members = PlacedValue { value, place }.object()?;
         let outputs = self.outputs(members)?;
         let ramps = self.ramps(members)?;
         let times = self.times(members)?;
@@ -87,15 +88,15 @@ impl Reader {
         })
     }
 
-    #[tactic(auto, unfolding(crate::specs::FirstFault::outputs_at, crate::specs::Rounded::rounded_outputs))]
-    fn outputs(&mut self, members: &[Pair]) -> Result<Outputs, Fault>
+    #[tactic(auto, unfolding(crate::specs::FirstFault::outputs_at, crate::specs::Rounded::rounded_outputs, crate::specs::Rounded::rounded_field))]
+    fn outputs(&mut self, members: &[Pair]) -> Result<Outputs, PlacedFault>
         requires { self.old.rounded + 3 < 2 ^ 64 }
         ensures read { Gives (λ x. x) result (outputs_at self.old.exact (map pair_view members.now)) }
         ensures counted { OnOk result (Counts self.old self.new (rounded_outputs (map pair_view members.now)) 3) }
     {
-        let must_run = self.flag_field(members, Field::MustRun)?;
-        let pmin = self.power_field(members, Field::PowerOutputMinimum, 0)?;
-        let pmax = self.power_field(members, Field::PowerOutputMaximum, pmin)?;
+        let must_run = self.flag(field(members, Field::MustRun)?)?;
+        let pmin = self.power_from(field(members, Field::PowerOutputMinimum)?, 0)?;
+        let pmax = self.power_from(field(members, Field::PowerOutputMaximum)?, pmin)?;
         Ok(Outputs {
             must_run,
             pmin,
@@ -103,43 +104,43 @@ impl Reader {
         })
     }
 
-    #[tactic(auto, unfolding(crate::specs::FirstFault::ramps_at, crate::specs::Rounded::rounded_ramps))]
-    fn ramps(&mut self, members: &[Pair]) -> Result<Ramps, Fault>
+    #[tactic(auto, unfolding(crate::specs::FirstFault::ramps_at, crate::specs::Rounded::rounded_ramps, crate::specs::Rounded::rounded_field))]
+    fn ramps(&mut self, members: &[Pair]) -> Result<Ramps, PlacedFault>
         requires { self.old.rounded + 4 < 2 ^ 64 }
         ensures read { Gives (λ x. x) result (ramps_at self.old.exact (map pair_view members.now)) }
         ensures counted { OnOk result (Counts self.old self.new (rounded_ramps (map pair_view members.now)) 4) }
     {
-        let ru = self.power_field(members, Field::RampUpLimit, 0)?;
-        let rd = self.power_field(members, Field::RampDownLimit, 0)?;
-        let su = self.power_field(members, Field::RampStartupLimit, 0)?;
-        let sd = self.power_field(members, Field::RampShutdownLimit, 0)?;
+        let ru = self.power_from(field(members, Field::RampUpLimit)?, 0)?;
+        let rd = self.power_from(field(members, Field::RampDownLimit)?, 0)?;
+        let su = self.power_from(field(members, Field::RampStartupLimit)?, 0)?;
+        let sd = self.power_from(field(members, Field::RampShutdownLimit)?, 0)?;
         Ok(Ramps { ru, rd, su, sd })
     }
 
-    #[tactic(auto, unfolding(crate::specs::FirstFault::times_at, crate::specs::Rounded::rounded_times))]
-    fn times(&mut self, members: &[Pair]) -> Result<Times, Fault>
+    #[tactic(auto, unfolding(crate::specs::FirstFault::times_at, crate::specs::Rounded::rounded_times, crate::specs::Rounded::rounded_field))]
+    fn times(&mut self, members: &[Pair]) -> Result<Times, PlacedFault>
         requires { self.old.rounded + 2 < 2 ^ 64 }
         ensures read { Gives (λ x. x) result (times_at self.old.exact (map pair_view members.now)) }
         ensures counted { OnOk result (Counts self.old self.new (rounded_times (map pair_view members.now)) 2) }
     {
-        let up = self.time_field(members, Field::TimeUpMinimum)?;
-        let down = self.time_field(members, Field::TimeDownMinimum)?;
+        let up = self.time(field(members, Field::TimeUpMinimum)?)?;
+        let down = self.time(field(members, Field::TimeDownMinimum)?)?;
         Ok(Times {
             up: up.max(1),
             down: down.max(1),
         })
     }
 
-    #[tactic(auto, unfolding(crate::specs::FirstFault::initial_at, crate::specs::Rounded::rounded_initial))]
-    fn initial(&mut self, members: &[Pair]) -> Result<Initial, Fault>
+    #[tactic(auto, unfolding(crate::specs::FirstFault::initial_at, crate::specs::Rounded::rounded_initial, crate::specs::Rounded::rounded_field))]
+    fn initial(&mut self, members: &[Pair]) -> Result<Initial, PlacedFault>
         requires { self.old.rounded + 4 < 2 ^ 64 }
         ensures read { Gives (λ x. x) result (initial_at self.old.exact (map pair_view members.now)) }
         ensures counted { OnOk result (Counts self.old self.new (rounded_initial (map pair_view members.now)) 4) }
     {
-        let output = self.output_field(members, Field::PowerOutputT0)?;
-        let on = self.flag_field(members, Field::UnitOnT0)?;
-        let up = self.time_field(members, Field::TimeUpT0)?;
-        let down = self.time_field(members, Field::TimeDownT0)?;
+        let output = self.power(field(members, Field::PowerOutputT0)?)?;
+        let on = self.flag(field(members, Field::UnitOnT0)?)?;
+        let up = self.time(field(members, Field::TimeUpT0)?)?;
+        let down = self.time(field(members, Field::TimeDownT0)?)?;
         Ok(Initial {
             output,
             on,

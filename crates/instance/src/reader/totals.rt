@@ -4,11 +4,12 @@ ghost use Rattle.std.specs.Prelude.{◌≡◌, ◌+◌, ◌<◌, ◌≤◌, ◌^
 ghost use Rattle.decimal_json.specs.View.{pair_view};
 ghost use Rattle.instance.specs.FirstFault.{totals_at};
 ghost use Rattle.instance.specs.Rounded.{rounded_totals};
-ghost use Rattle.instance.specs.Answer.{Gives, Counts};
+ghost use Rattle.instance.specs.Answer.{Gives};
+ghost use Rattle.instance.specs.inside.Parts.{Counts, MOST_PERIODS, TOTAL_NUMBERS};
 
-use crate::fault::{Fault, Place};
+use crate::fault::PlacedFault;
+use crate::placed::field;
 use crate::reader::Reader;
-use crate::spot::field_at;
 use decimal_json::Pair;
 use std::alloc::Global;
 use uc_model::{Field, List};
@@ -23,13 +24,13 @@ pub(crate) struct Totals {
 
 impl Reader {
     #[tactic(auto, unfolding(crate::specs::FirstFault::totals_at, crate::specs::Rounded::rounded_totals, crate::specs::Rounded::rounded_field))]
-    pub(crate) fn totals(&mut self, alloc: Global, members: &[Pair]) -> Result<Totals, Fault>
-        requires { self.old.rounded + 337 < 2 ^ 64 }
+    pub(crate) fn totals(&mut self, alloc: Global, members: &[Pair]) -> Result<Totals, PlacedFault>
+        requires { self.old.rounded + TOTAL_NUMBERS < 2 ^ 64 }
         ensures read { Gives (λ x. x) result (totals_at self.old.exact (map pair_view members.now)) }
-        ensures counted { IfOk result (λ x. Counts self.old self.new (rounded_totals x.periods (map pair_view members.now)) 337) }
-        ensures few { IfOk result (λ x. x.periods ≤ 168) }
+        ensures counted { IfOk result (λ x. Counts self.old self.new (rounded_totals x.periods (map pair_view members.now)) TOTAL_NUMBERS) }
+        ensures few { IfOk result (λ x. x.periods ≤ MOST_PERIODS) }
     {
-        let periods = self.periods(field_at(members, Place::whole(Field::TimePeriods))?)?;
+        let periods = self.periods(field(members, Field::TimePeriods)?)?;
         let demand = self.powers(alloc, members, Field::Demand, periods)?;
         let reserves = self.powers(alloc, members, Field::Reserves, periods)?;
         Ok(Totals {

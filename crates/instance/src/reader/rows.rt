@@ -7,11 +7,12 @@ ghost use Rattle.decimal_json.specs.View.{view, pair_view};
 ghost use Rattle.instance.specs.FirstFault.{each_at, start_row, point_row, startup_at, points_at};
 ghost use Rattle.instance.specs.Points.{last_output};
 ghost use Rattle.instance.specs.Rounded.{rounded_start_row, rounded_point, rounded_startup, rounded_points};
-ghost use Rattle.instance.specs.Answer.{Gives, Counts};
+ghost use Rattle.instance.specs.Answer.{Gives};
+ghost use Rattle.instance.specs.inside.Parts.{Counts, MOST_START_ROWS, MOST_POINTS, START_NUMBERS, POINT_NUMBERS};
 
-use crate::fault::{Fault, Place};
+use crate::fault::{Place, PlacedFault};
+use crate::placed::{self, PlacedValue};
 use crate::reader::Reader;
-use crate::spot::{self, Spot};
 use decimal_json::{Json, Pair};
 use std::alloc::Global;
 use uc_model::limits::{MAX_POINTS, MAX_POWER, MAX_START_ROWS};
@@ -24,29 +25,33 @@ impl Reader {
         &mut self,
         alloc: Global,
         members: &[Pair],
-    ) -> Result<Vec<StartRow>, Fault>
-        requires { self.old.rounded + 32 < 2 ^ 64 }
+    ) -> Result<Vec<StartRow>, PlacedFault>
+        requires { self.old.rounded + START_NUMBERS < 2 ^ 64 }
         ensures read { Gives (λ rows. rows.items) result (startup_at self.old.exact (map pair_view members.now)) }
-        ensures counted { OnOk result (Counts self.old self.new (rounded_startup (map pair_view members.now)) 32) }
+        ensures counted { OnOk result (Counts self.old self.new (rounded_startup (map pair_view members.now)) START_NUMBERS) }
     {
-        let rows = spot::rows(members, Field::Startup, MAX_START_ROWS)?;
+        let rows = placed::rows(members, Field::Startup, MAX_START_ROWS)?;
         self.start_rows(alloc, rows)
     }
 
     /// The points of a unit's production cost.
     #[tactic(auto, unfolding(crate::specs::FirstFault::points_at, crate::specs::Rounded::rounded_points))]
-    pub(crate) fn points(&mut self, alloc: Global, members: &[Pair]) -> Result<Vec<Point>, Fault>
-        requires { self.old.rounded + 128 < 2 ^ 64 }
+    pub(crate) fn points(
+        &mut self,
+        alloc: Global,
+        members: &[Pair],
+    ) -> Result<Vec<Point>, PlacedFault>
+        requires { self.old.rounded + POINT_NUMBERS < 2 ^ 64 }
         ensures read { Gives (λ rows. rows.items) result (points_at self.old.exact (map pair_view members.now)) }
-        ensures counted { OnOk result (Counts self.old self.new (rounded_points (map pair_view members.now)) 128) }
+        ensures counted { OnOk result (Counts self.old self.new (rounded_points (map pair_view members.now)) POINT_NUMBERS) }
     {
-        let rows = spot::rows(members, Field::PiecewiseProduction, MAX_POINTS)?;
+        let rows = placed::rows(members, Field::PiecewiseProduction, MAX_POINTS)?;
         self.point_rows(alloc, rows)
     }
 
     #[tactic(auto, unfolding(crate::specs::FirstFault::each_at))]
-    fn start_rows(&mut self, alloc: Global, rows: &[Json]) -> Result<Vec<StartRow>, Fault>
-        requires few { length rows.now ≤ 16 }
+    fn start_rows(&mut self, alloc: Global, rows: &[Json]) -> Result<Vec<StartRow>, PlacedFault>
+        requires few { length rows.now ≤ MOST_START_ROWS }
         requires room { self.old.rounded + 2 * length rows.now < 2 ^ 64 }
         ensures read { Gives (λ rows. rows.items) result (each_at (start_row self.old.exact) [] (map view rows.now)) }
         ensures counted { OnOk result (Counts self.old self.new (sum_by rounded_start_row (map view rows.now)) (2 * length rows.now)) }
@@ -59,22 +64,22 @@ impl Reader {
     }
 
     #[tactic(auto, unfolding(crate::specs::FirstFault::start_row, crate::specs::Rounded::rounded_start_row, crate::specs::Rounded::rounded_field))]
-    fn start_row(&mut self, row: &Json, index: usize) -> Result<StartRow, Fault>
-        requires few { index < 16 }
+    fn start_row(&mut self, row: &Json, index: usize) -> Result<StartRow, PlacedFault>
+        requires few { index < MOST_START_ROWS }
         requires room { self.old.rounded + 2 < 2 ^ 64 }
         ensures read { (front : List StartRow) → length front ≡ index → Gives (λ r. r) result (start_row self.old.exact front (view row.now)) }
         ensures counted { OnOk result (Counts self.old self.new (rounded_start_row (view row.now)) 2) }
     {
         let place = Place::entry(Field::Startup, index);
-        let members = Spot { value: row, place }.object()?;
-        let lag = self.time(spot::field_at(members, Place::entry(Field::StartupLag, index))?)?;
-        let cost = self.cost(spot::field_at(members, Place::entry(Field::StartupCost, index))?)?;
+        let members = PlacedValue { value: row, place }.object()?;
+        let lag = self.time(placed::field_at(members, Place::entry(Field::StartupLag, index))?)?;
+        let cost = self.cost(placed::field_at(members, Place::entry(Field::StartupCost, index))?)?;
         Ok(StartRow { lag, cost })
     }
 
     #[tactic(auto, unfolding(crate::specs::FirstFault::each_at))]
-    fn point_rows(&mut self, alloc: Global, rows: &[Json]) -> Result<Vec<Point>, Fault>
-        requires few { length rows.now ≤ 64 }
+    fn point_rows(&mut self, alloc: Global, rows: &[Json]) -> Result<Vec<Point>, PlacedFault>
+        requires few { length rows.now ≤ MOST_POINTS }
         requires room { self.old.rounded + 2 * length rows.now < 2 ^ 64 }
         ensures read { Gives (λ rows. rows.items) result (each_at (point_row self.old.exact) [] (map view rows.now)) }
         ensures counted { OnOk result (Counts self.old self.new (sum_by rounded_point (map view rows.now)) (2 * length rows.now)) }
@@ -90,17 +95,17 @@ impl Reader {
     }
 
     #[tactic(auto, unfolding(crate::specs::FirstFault::point_row, crate::specs::Rounded::rounded_point, crate::specs::Rounded::rounded_field))]
-    fn point(&mut self, row: &Json, index: usize, least: i64) -> Result<Point, Fault>
-        requires few { index < 64 }
+    fn point(&mut self, row: &Json, index: usize, least: i64) -> Result<Point, PlacedFault>
+        requires few { index < MOST_POINTS }
         requires room { self.old.rounded + 2 < 2 ^ 64 }
         ensures read { (front : List Point) → length front ≡ index → last_output front ≡ least → Gives (λ p. p) result (point_row self.old.exact front (view row.now)) }
         ensures counted { OnOk result (Counts self.old self.new (rounded_point (view row.now)) 2) }
     {
         let place = Place::entry(Field::PiecewiseProduction, index);
-        let members = Spot { value: row, place }.object()?;
-        let output = spot::field_at(members, Place::entry(Field::PiecewiseProductionMw, index))?;
+        let members = PlacedValue { value: row, place }.object()?;
+        let output = placed::field_at(members, Place::entry(Field::PiecewiseProductionMw, index))?;
         let mw = self.power_from(output, least)?;
-        let cost = spot::field_at(members, Place::entry(Field::PiecewiseProductionCost, index))?;
+        let cost = placed::field_at(members, Place::entry(Field::PiecewiseProductionCost, index))?;
         let cost = self.cost(cost)?;
         Ok(Point { mw, cost })
     }

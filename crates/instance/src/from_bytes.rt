@@ -5,28 +5,19 @@ ghost use Rattle.uc_model.specs.Limits.{IsLawfulInstance};
 ghost use Rattle.uc_model.specs.declared.instance.Instance.{Instance};
 ghost use Rattle.instance.specs.Bytes.{StandFor, StandForCounted, HasCause};
 
-use crate::fault::InstanceFault;
-use crate::read::from_json;
+use crate::fault::Fault;
+use crate::from_value::from_json;
 use decimal_json::JsonFault;
 use std::alloc::Global;
-use uc_model::{Field, Instance, Name};
+use uc_model::{FieldRefusal, Instance};
 
 /// Why bytes stand for no instance, or none was made.
 #[derive(Debug, Drop)]
 pub enum ReadFault {
     /// The bytes are no JSON text: the place and the kind of a [`JsonFault`].
-    Json {
-        at: usize,
-        kind: u8,
-    },
-    /// They are one, and its value has no instance: the parts of an [`InstanceFault`].
-    Refused {
-        code: u8,
-        kind_of_unit: u8,
-        unit: Name,
-        field: Field,
-        entry: u32,
-    },
+    Json { at: usize, kind: u8 },
+    /// They are one, and its value has no instance.
+    Refused(FieldRefusal),
     NoMemory,
 }
 
@@ -48,23 +39,7 @@ pub fn read_instance(alloc: Global, bytes: &[u8], exact: bool) -> Result<(Instan
     };
     match from_json(alloc, json, exact) {
         Ok(found) => Ok(found),
-        Err(
-            InstanceFault::Refused {
-                code,
-                kind_of_unit,
-                unit,
-                field,
-                entry,
-            },
-        ) => {
-            Err(ReadFault::Refused {
-                code,
-                kind_of_unit,
-                unit,
-                field,
-                entry,
-            })
-        }
-        Err(InstanceFault::NoMemory) => Err(ReadFault::NoMemory),
+        Err(Fault::Refused(refusal)) => Err(ReadFault::Refused(refusal)),
+        Err(Fault::NoMemory) => Err(ReadFault::NoMemory),
     }
 }

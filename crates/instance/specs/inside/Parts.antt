@@ -1,0 +1,64 @@
+-- What a part of the reader answers beside what it reads, and how many numbers a part may have.
+use Rattle.std.specs.Prelude.{◌≡◌, ℕ, ◌+◌, ◌≤◌, Bool, List, Result, Ok, Err}
+use Rattle.uc_model.specs.declared.field_refusal.FieldRefusal.{FieldRefusal}
+use Rattle.decimal_json.specs.Value.{Decimal}
+use Rattle.instance.specs.declared.fault.Fault.{Fault}
+use Rattle.instance.specs.declared.fault.Fault.TheVariants.{Refused, NoMemory}
+use Rattle.instance.specs.declared.fault.Refusal.{Refusal}
+use Rattle.instance.specs.declared.reader.Reader.{Reader}
+use Rattle.instance.specs.Scaled.{wholes_of}
+use Rattle.instance.specs.Held.{held_wholes}
+use Rattle.instance.specs.Answer.{Fails}
+use Rattle.instance.specs.FirstFault.{with_unit}
+
+-- So many rounded numbers were counted, at most as many as said.
+pub record Counts (old new : Reader) (count most : ℕ) : Type 0 where
+  pub exact : new.exact ≡ old.exact
+  pub rounded : new.rounded ≡ old.rounded + count
+  pub few : count ≤ most
+
+-- What was answered is the sign of a whole number and its size, which stands as one past every limit where it is
+-- past them.
+abbrev pub HoldsWhole : Result (Bool × ℕ) (Fault Refusal) → Result Decimal Refusal → Type 0
+HoldsWhole (Ok x) read = (d : Decimal) × (read ≡ Ok d) × (x.0 ≡ d.negative) × (x.1 ≡ held_wholes (wholes_of d))
+HoldsWhole (Err e) read = Fails e read
+
+-- A fault of a unit is this fault with the unit, unless memory ran out.
+abbrev pub IsInUnit : ℕ → List ℕ → Fault Refusal → Fault FieldRefusal → Type 0
+IsInUnit kind unit fault NoMemory = Unit {0}
+IsInUnit kind unit NoMemory (Refused told) = ⊥
+IsInUnit kind unit (Refused e) (Refused told) = told ≡ with_unit kind unit e
+
+-- ---- the most that a file within the limits has
+
+-- periods
+abbrev pub MOST_PERIODS : ℕ
+MOST_PERIODS = 168
+
+-- entries of an array, and units
+abbrev pub MOST_ENTRIES : ℕ
+MOST_ENTRIES = 4096
+
+-- rows of startup, and of piecewise_production
+abbrev pub MOST_START_ROWS : ℕ
+MOST_START_ROWS = 16
+
+abbrev pub MOST_POINTS : ℕ
+MOST_POINTS = 64
+
+-- numbers in a unit: two in a row and two in a point, 13 fields, and two for each period
+abbrev pub START_NUMBERS : ℕ
+START_NUMBERS = 32
+
+abbrev pub POINT_NUMBERS : ℕ
+POINT_NUMBERS = 128
+
+abbrev pub THERMAL_NUMBERS : ℕ
+THERMAL_NUMBERS = 173
+
+abbrev pub RENEWABLE_NUMBERS : ℕ
+RENEWABLE_NUMBERS = 336
+
+-- numbers in the fields of the whole system: the periods, and two for each
+abbrev pub TOTAL_NUMBERS : ℕ
+TOTAL_NUMBERS = 337
