@@ -6,8 +6,6 @@ mod escape;
 mod key;
 mod number;
 mod reader;
-#[cfg(test)]
-mod tests;
 mod text;
 mod types;
 mod value;

@@ -2,10 +2,10 @@
 
 mod kazarlis;
 
-use crate::{InstanceFault, ReadFault, from_json, read_instance};
+use instance::{Fault, InstanceFault, ReadFault, from_json, read_instance};
 use std::alloc::Global;
 use std::test::Fail;
-use uc_model::{Field, Instance, Point};
+use uc_model::{Field, FieldRefusal, Instance, Point};
 
 /// A system of one period with a thermal unit and a renewable one.
 const SYSTEM: &str =
@@ -325,20 +325,12 @@ fn is_refused(alloc: Global, case: &Case, exact: bool) -> Result<bool, Fail> {
 
 fn is_refused_at(alloc: Global, text: &str, case: &Case, exact: bool) -> Result<bool, Fail> {
     match read(alloc, text, exact)? {
-        Err(
-            InstanceFault::Refused {
-                code,
-                kind_of_unit,
-                unit,
-                field,
-                entry,
-            },
-        ) => Ok(
-            code == case.2
-                && kind_of_unit == case.3
-                && unit.as_str() == case.4
-                && field == case.5
-                && entry == case.6,
+        Err(Fault::Refused(refusal)) => Ok(
+            refusal.code == case.2
+                && refusal.kind_of_unit == case.3
+                && refusal.unit.as_str() == case.4
+                && refusal.field == case.5
+                && refusal.entry == case.6,
         ),
         _ => Ok(false),
     }
@@ -399,11 +391,11 @@ fn bytes_that_are_no_text_are_refused(rt: HostRuntime) {
     assert!(rt;
         matches!(
             &empty,
-            Err(ReadFault::Refused {
+            Err(ReadFault::Refused(FieldRefusal {
                 code: 1,
                 field: Field::TimePeriods,
                 ..
-            })
+            }))
         )
     );
 }

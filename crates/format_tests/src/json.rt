@@ -1,4 +1,6 @@
-use crate::{Json, JsonFault, Pair, read};
+//! Texts of JSON and what they say.
+
+use decimal_json::{Json, JsonFault, Pair, read};
 use std::alloc::{AllocError, Global};
 use std::test::Fail;
 
