@@ -9,7 +9,9 @@ use Rattle.std.proofs.lemmas.Str.{IsCharBoundary-start, IsCharBoundary-after_asc
 use Rattle.decimal_json.specs.Value.{Value}
 use Rattle.decimal_json.specs.Number.{is_digit, is_mark}
 use Rattle.decimal_json.specs.Escape.{is_hex, short_escape}
-use Rattle.decimal_json.specs.Scan.{Frame, in_array, in_object, Spot, wanted, first_item, first_key, key_wanted, colon_wanted, ended, literal, numeral, quoted, Numeral, minus, zero_first, whole, point, fraction, mark, signed, exponent, Purpose, Quoted, plain, escaped, unit, high, high_escaped, high_unit, Step, next, stop, fault, step, begin_step, ended_step, close_step, literal_step, numeral_step, quoted_step, escape_step, is_space, after, outcome, whole_outcome, finish}
+use Rattle.decimal_json.specs.Characters.{is_space}
+use Rattle.decimal_json.specs.Open.{Frame, in_array, in_object, Purpose}
+use Rattle.decimal_json.specs.inside.Scan.{Spot, wanted, first_item, first_key, key_wanted, colon_wanted, ended, literal, numeral, quoted, Numeral, minus, zero_first, whole, point, fraction, mark, signed, exponent, Quoted, plain, escaped, unit, high, high_escaped, high_unit, Step, next, stop, fault, step, begin_step, ended_step, close_step, literal_step, numeral_step, quoted_step, escape_step, after, outcome, whole_outcome, finish}
 use Rattle.decimal_json.proofs.Stands.{Stands, Caught, Good}
 use Rattle.decimal_json.proofs.Sound.{good_step}
 

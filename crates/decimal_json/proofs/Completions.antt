@@ -7,7 +7,8 @@ use Rattle.std.proofs.lemmas.Bool.{false≢true, cases_Bool, and_left, and_right
 use Rattle.decimal_json.specs.Value.{Value, number, text, array, object, items_of, members_of}
 use Rattle.decimal_json.specs.Number.{decimal_from}
 use Rattle.decimal_json.specs.Escape.{unit_of}
-use Rattle.decimal_json.specs.Scan.{Member, Frame, in_array, in_object, Spot, Purpose, for_value, for_key, wanted, first_item, first_key, key_wanted, colon_wanted, ended, literal, numeral, quoted, Numeral, minus, zero_first, whole, point, fraction, mark, signed, exponent, Quoted, plain, escaped, unit, high, high_escaped, high_unit, no_digit, one_digit, two_digits, three_digits}
+use Rattle.decimal_json.specs.Open.{Member, Frame, in_array, in_object, Purpose, for_value, for_key}
+use Rattle.decimal_json.specs.inside.Scan.{Spot, wanted, first_item, first_key, key_wanted, colon_wanted, ended, literal, numeral, quoted, Numeral, minus, zero_first, whole, point, fraction, mark, signed, exponent, Quoted, plain, escaped, unit, high, high_escaped, high_unit, no_digit, one_digit, two_digits, three_digits}
 use Rattle.decimal_json.specs.Grammar.{IsSpace, IsString, Spells, SpellsText, Character, short, alone, pair, character_text, meaning, AreCharacters, AreHex, is_first_alone, begins_with_second, IsWhole, AreDigits, numerals, negative_text, fraction_text, Power, no_power, power, power_text, is_down, written, IsPower, no_sign, sign_text}
 use Rattle.decimal_json.specs.Fronts.{FrontMembers, Spaced, IsFront, IsKeyFront}
 use Rattle.decimal_json.proofs.Growth.{items_close, members_close}

@@ -6,8 +6,9 @@ use Rattle.decimal_json.specs.declared.types.Json.{Json}
 use Rattle.decimal_json.specs.declared.types.JsonFault.{JsonFault}
 use Rattle.decimal_json.specs.declared.types.JsonFault.TheVariants.{At}
 use Rattle.decimal_json.specs.Value.{Value}
-use Rattle.decimal_json.specs.Scan.{wanted, ended, is_space, stop, Outcome, done, step, ended_step, close_step, finish, finish_value, scan, whole_outcome}
-use Rattle.decimal_json.specs.Answer.{Gives, Leads, SkipsSpace, IsToken, ReadsValue, BreaksValue}
+use Rattle.decimal_json.specs.Characters.{is_space}
+use Rattle.decimal_json.specs.inside.Scan.{wanted, ended, stop, Outcome, done, step, ended_step, close_step, finish, finish_value, scan, whole_outcome}
+use Rattle.decimal_json.specs.inside.Answer.{Gives, Leads, SkipsSpace, IsToken, ReadsValue, BreaksValue}
 use Rattle.decimal_json.proofs.Moves.{stopped, finished}
 
 whole_scan : (bytes : List ℕ) → whole_outcome bytes ≡ scan bytes 0 [] wanted

@@ -1,5 +1,5 @@
 -- The machine inside an escape.
-use Rattle.std.proofs.Common.{◌≡◌, ℕ, ◌+◌, ◌*◌, ◌==◌, ◌<◌, ◌≤◌, ⊎_elim, cond, List, [], ◌∷◌, ◌++◌, drop, refl, sym, ap, subst, ◌∙◌, arith, true, false}
+use Rattle.std.proofs.Common.{Bool, ◌≡◌, ℕ, ◌+◌, ◌*◌, ◌==◌, ◌<◌, ◌≤◌, ⊎_elim, cond, List, [], ◌∷◌, ◌++◌, drop, refl, sym, ap, subst, ◌∙◌, arith, true, false}
 use Rattle.decimal_json.specs.declared.types.JsonFault.{JsonFault}
 use Rattle.decimal_json.specs.declared.types.JsonFault.TheVariants.{At}
 use Rattle.std.specs.Prelude.{encode_utf8, nat_le, nat_lt, Some, None, ◌⊎◌}
@@ -7,8 +7,9 @@ use Rattle.std.proofs.lemmas.Bool.{and_parts, and_cases, and_left, and_right, an
 use Rattle.std.proofs.lemmas.Str.{encode_ascii}
 use Rattle.std.specs.Char.Utf16.{is_low_surrogate, is_high_surrogate, surrogate_pair_char}
 use Rattle.decimal_json.specs.Escape.{is_hex, hex_of, unit_of, short_escape}
-use Rattle.decimal_json.specs.Scan.{Frame, Spot, Purpose, Hex, no_digit, one_digit, two_digits, three_digits, Quoted, quoted, plain, escaped, unit, high, high_escaped, high_unit, Step, next, stop, Outcome, fault, step, quoted_step, more_hex, unit_step, pair_step, escape_step, outcome, scan, finish}
-use Rattle.decimal_json.specs.Answer.{Leads, FailsAt, StandsAt, HexAt, ReadsUnit, BreaksUnit, ReadsEscape, BreaksEscape, resumed}
+use Rattle.decimal_json.specs.Open.{Frame, Purpose}
+use Rattle.decimal_json.specs.inside.Scan.{Spot, Hex, no_digit, one_digit, two_digits, three_digits, Quoted, quoted, plain, escaped, unit, high, high_escaped, high_unit, Step, next, stop, Outcome, fault, step, quoted_step, more_hex, unit_step, pair_step, escape_step, outcome, scan, finish}
+use Rattle.decimal_json.specs.inside.Answer.{Leads, FailsAt, StandsAt, HexAt, ReadsUnit, BreaksUnit, ReadsEscape, BreaksEscape, resumed}
 use Rattle.decimal_json.proofs.Moves.{moved, stopped, stepped, finished}
 
 -- one place under two names
@@ -150,21 +151,24 @@ pub high_escaped_leads : (at : ℕ) (outer : List Frame) (p : Purpose) (t : List
 unfolding step quoted_step
 high_escaped_leads at outer p t back u = refl
 
+-- Where no byte passes a test, and none leads on that doesn't, there is a fault.
+no_more : (bytes : List ℕ) (at back : ℕ) (outer : List Frame) (spot : Spot) (test : ℕ → Bool) → FailsAt test bytes at → finish at outer spot ≡ fault back 5
+    → ((c : ℕ) → test c ≡ false → step at outer spot c ≡ stop back 5) → scan bytes at outer spot ≡ fault back 5
+unfolding scan outcome
+no_more bytes at back outer spot test fails ends stops = go (drop at bytes) (λ c cs e. fails c cs e) where
+  go : (rest : List ℕ) → ((c : ℕ) (cs : List ℕ) → rest ≡ c ∷ cs → test c ≡ false) → outcome at outer spot rest ≡ fault back 5
+  go [] same = ends
+  go (c ∷ cs) same = rw (stops c (same c cs refl)) refl
+
 pub no_backslash : (bytes : List ℕ) (at : ℕ) (outer : List Frame) (p : Purpose) (t : List ℕ) (back u : ℕ) → FailsAt (λ c. c == 92) bytes at
     → scan bytes at outer (quoted p (high t back u)) ≡ fault back 5
-unfolding scan outcome step quoted_step finish
-no_backslash bytes at outer p t back u fails = go (drop at bytes) (λ c cs e. fails c cs e) where
-  go : (rest : List ℕ) → ((c : ℕ) (cs : List ℕ) → rest ≡ c ∷ cs → (c == 92) ≡ false) → outcome at outer (quoted p (high t back u)) rest ≡ fault back 5
-  go [] same = refl
-  go (c ∷ cs) same = rw (same c cs refl) refl
+unfolding step quoted_step finish
+no_backslash bytes at outer p t back u fails = no_more bytes at back outer (quoted p (high t back u)) (λ c. c == 92) fails refl (λ c no_test. rw no_test refl)
 
 no_letter : (bytes : List ℕ) (at : ℕ) (outer : List Frame) (p : Purpose) (t : List ℕ) (back u : ℕ) → FailsAt (λ c. c == 117) bytes at
     → scan bytes at outer (quoted p (high_escaped t back u)) ≡ fault back 5
-unfolding scan outcome step quoted_step finish
-no_letter bytes at outer p t back u fails = go (drop at bytes) (λ c cs e. fails c cs e) where
-  go : (rest : List ℕ) → ((c : ℕ) (cs : List ℕ) → rest ≡ c ∷ cs → (c == 117) ≡ false) → outcome at outer (quoted p (high_escaped t back u)) rest ≡ fault back 5
-  go [] same = refl
-  go (c ∷ cs) same = rw (same c cs refl) refl
+unfolding step quoted_step finish
+no_letter bytes at outer p t back u fails = no_more bytes at back outer (quoted p (high_escaped t back u)) (λ c. c == 117) fails refl (λ c no_test. rw no_test refl)
 
 high_backslash : (bytes : List ℕ) (at : ℕ) (outer : List Frame) (p : Purpose) (t : List ℕ) (back u : ℕ) → StandsAt bytes at 92
     → scan bytes at outer (quoted p (high t back u)) ≡ scan bytes (at + 1) outer (quoted p (high_escaped t back u))

@@ -6,8 +6,10 @@ use Rattle.std.specs.Str.{bytes_eq}
 use Rattle.decimal_json.specs.declared.types.JsonFault.{JsonFault}
 use Rattle.decimal_json.specs.declared.types.JsonFault.TheVariants.{At}
 use Rattle.decimal_json.specs.Value.{Value, array, object, no_items, no_members, items_of, members_of, has_key}
-use Rattle.decimal_json.specs.Scan.{Member, Frame, in_array, in_object, Spot, wanted, first_item, first_key, key_wanted, colon_wanted, ended, quoted, for_key, plain, is_space, depth_limit, next, stop, Outcome, fault, step, begin_step, opened, ended_step, close_step, quote_step, scan, finish, finish_value}
-use Rattle.decimal_json.specs.Answer.{Leads, Reads, Breaks, SkipsSpace, StandsAt, IsToken, HasKeys, AddsKey, ReadsKey, BreaksKey, ReadsText, BreaksText, ReadsValue, BreaksValue, ReadsInside, BreaksInside, resumed}
+use Rattle.decimal_json.specs.Characters.{is_space, depth_limit}
+use Rattle.decimal_json.specs.Open.{Member, Frame, in_array, in_object, for_key}
+use Rattle.decimal_json.specs.inside.Scan.{Spot, wanted, first_item, first_key, key_wanted, colon_wanted, ended, quoted, plain, next, stop, Outcome, fault, step, begin_step, opened, ended_step, close_step, quote_step, scan, finish, finish_value}
+use Rattle.decimal_json.specs.inside.Answer.{Leads, Reads, Breaks, SkipsSpace, StandsAt, IsToken, HasKeys, AddsKey, ReadsKey, BreaksKey, ReadsText, BreaksText, ReadsValue, BreaksValue, ReadsInside, BreaksInside, resumed}
 use Rattle.decimal_json.proofs.Moves.{moved, stopped, stepped, finished}
 
 -- an array, up to where an item has to stand

@@ -1,7 +1,7 @@
 -- The machine's place of a fault of the second kind: no text goes on beyond it.
 use Rattle.std.proofs.Common.{subst, lit<, ◌≡◌, ℕ, ◌<◌, ◌≤◌, get_or, suc, zero, List, [], ◌∷◌, ◌++◌, length, take, refl, sym, ap, ◌∙◌, arith, false, append_assoc, length-append, ⊎_elim}
 use Rattle.decimal_json.specs.Value.{Value}
-use Rattle.decimal_json.specs.Scan.{stop, done, fault, step, after, outcome, whole_outcome}
+use Rattle.decimal_json.specs.inside.Scan.{stop, done, fault, step, after, outcome, whole_outcome}
 use Rattle.decimal_json.specs.Grammar.{SpellsText}
 use Rattle.decimal_json.specs.Reading.{BeginsText, IsNoJson}
 use Rattle.decimal_json.proofs.Runs.{Refuses}

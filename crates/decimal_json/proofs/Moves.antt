@@ -1,7 +1,9 @@
--- One byte more: what the machine of `specs/Scan.antt` does at the bytes of an input from a place on.
+-- One byte more: what the machine of `specs/inside/Scan.antt` does at the bytes of an input from a place on.
 use Rattle.std.proofs.Common.{◌≡◌, ℕ, ◌+◌, ◌<◌, suc, List, [], ◌∷◌, drop, length, get_or, refl, sym, ap, ◌∙◌, add-one, drop-cons, true}
-use Rattle.decimal_json.specs.Scan.{Frame, Spot, wanted, first_item, first_key, key_wanted, colon_wanted, ended, literal, numeral, quoted, next, stop, fault, step, ended_step, begin_step, minus, finish, after, outcome, scan, is_space}
-use Rattle.decimal_json.specs.Answer.{resumed, MaySpace}
+use Rattle.decimal_json.specs.Characters.{is_space}
+use Rattle.decimal_json.specs.Open.{Frame}
+use Rattle.decimal_json.specs.inside.Scan.{Spot, wanted, first_item, first_key, key_wanted, colon_wanted, ended, literal, numeral, quoted, next, stop, fault, step, ended_step, begin_step, minus, finish, after, outcome, scan}
+use Rattle.decimal_json.specs.inside.Answer.{resumed, MaySpace}
 
 -- a step at the next byte
 pub stepped : (bytes : List ℕ) (at c : ℕ) (outer : List Frame) (spot : Spot) → drop at bytes ≡ c ∷ drop (at + 1) bytes

@@ -3,8 +3,9 @@ use Rattle.std.proofs.Common.{◌≡◌, ℕ, ◌+◌, ◌*◌, ◌<◌, ◌≤�
 use Rattle.std.specs.Prelude.{ℤ}
 use Rattle.decimal_json.specs.Value.{Decimal, number}
 use Rattle.decimal_json.specs.Number.{is_digit, digit_of, is_mark, exponent_of, decimal_from}
-use Rattle.decimal_json.specs.Scan.{Frame, Spot, numeral, minus, zero_first, whole, point, fraction, mark, signed, exponent, ended, so_far, next, stop, step, numeral_step, begin_step, scan, finish, outcome, after, fault}
-use Rattle.decimal_json.specs.Answer.{AddsDigits, ReadsWhole, ReadsFraction, AddsExponent, ReadsExponent, kept, begun, AfterWhole, MayEnd, FailsAt, StandsAt}
+use Rattle.decimal_json.specs.Open.{Frame}
+use Rattle.decimal_json.specs.inside.Scan.{Spot, numeral, minus, zero_first, whole, point, fraction, mark, signed, exponent, ended, so_far, next, stop, step, numeral_step, begin_step, scan, finish, outcome, after, fault}
+use Rattle.decimal_json.specs.inside.Answer.{AddsDigits, ReadsWhole, ReadsFraction, AddsExponent, ReadsExponent, kept, begun, AfterWhole, MayEnd, FailsAt, StandsAt}
 use Rattle.std.proofs.lemmas.Bool.{and_parts, leb-true, ne_eqb, eqb-true, false≢true, or_cases}
 use Rattle.decimal_json.proofs.Moves.{same_scan, moved, byte_and_rest}
 

@@ -6,8 +6,8 @@ use Rattle.decimal_json.specs.declared.types.Json.{Json}
 use Rattle.decimal_json.specs.declared.types.JsonFault.{JsonFault}
 use Rattle.decimal_json.specs.declared.types.JsonFault.TheVariants.{At, NoMemory}
 use Rattle.decimal_json.specs.Value.{Value}
-use Rattle.decimal_json.specs.Scan.{Outcome, done, fault, whole_outcome}
-use Rattle.decimal_json.specs.Answer.{Gives}
+use Rattle.decimal_json.specs.inside.Scan.{Outcome, done, fault, whole_outcome}
+use Rattle.decimal_json.specs.inside.Answer.{Gives}
 use Rattle.decimal_json.specs.View.{view}
 use Rattle.decimal_json.specs.Reading.{IsText, IsNoJson, IsTextFault, IsFault, HasCause}
 use Rattle.decimal_json.proofs.Runs.{Refuses}

@@ -5,7 +5,8 @@ use Rattle.std.specs.Char.Utf16.{is_low_surrogate, is_high_surrogate}
 use Rattle.std.proofs.lemmas.List.{append-nil}
 use Rattle.std.proofs.lemmas.Bool.{cases_Bool, eqb-true}
 use Rattle.decimal_json.specs.Escape.{is_hex, unit_of}
-use Rattle.decimal_json.specs.Scan.{Member, Frame, Purpose, for_value, for_key, wanted, key_wanted, quoted, plain, escaped, high, high_escaped, high_unit, Hex, no_digit, one_digit, two_digits, three_digits, next, stop, fault, step, quoted_step, quote_step, more_hex, finish, outcome, whole_outcome}
+use Rattle.decimal_json.specs.Open.{Member, Frame, Purpose, for_value, for_key}
+use Rattle.decimal_json.specs.inside.Scan.{wanted, key_wanted, quoted, plain, escaped, high, high_escaped, high_unit, Hex, no_digit, one_digit, two_digits, three_digits, next, stop, fault, step, quoted_step, quote_step, more_hex, finish, outcome, whole_outcome}
 use Rattle.decimal_json.specs.Grammar.{Character, itself, short, alone, pair, character_text, meaning, AreHex, AreCharacters}
 use Rattle.decimal_json.specs.Fronts.{IsStringFront, RepeatsKey, LacksSecond, LacksPartner}
 use Rattle.decimal_json.proofs.Runs.{Refuses, placed_at}

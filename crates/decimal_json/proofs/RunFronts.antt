@@ -4,7 +4,9 @@ use Rattle.std.specs.Prelude.{nat_lt}
 use Rattle.std.proofs.lemmas.List.{append-nil}
 use Rattle.std.proofs.lemmas.Bool.{le-ltb}
 use Rattle.decimal_json.specs.Value.{Value, member, members_of, has_key}
-use Rattle.decimal_json.specs.Scan.{Member, Frame, in_array, in_object, Spot, wanted, first_item, first_key, key_wanted, colon_wanted, ended, is_space, next, stop, fault, step, outcome, whole_outcome}
+use Rattle.decimal_json.specs.Characters.{is_space}
+use Rattle.decimal_json.specs.Open.{Member, Frame, in_array, in_object}
+use Rattle.decimal_json.specs.inside.Scan.{Spot, wanted, first_item, first_key, key_wanted, colon_wanted, ended, next, stop, fault, step, outcome, whole_outcome}
 use Rattle.decimal_json.specs.Grammar.{IsSpace, HasUniqueKeys}
 use Rattle.decimal_json.specs.Fronts.{FrontItems, FrontMembers, IsFront, IsKeyFront, OpensTooDeep}
 use Rattle.decimal_json.proofs.Inside.{item_comma, member_comma, colon_comes, open_array, open_object}

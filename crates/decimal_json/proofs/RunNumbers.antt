@@ -5,8 +5,9 @@ use Rattle.std.proofs.lemmas.List.{append-nil}
 use Rattle.std.proofs.lemmas.Bool.{and_from, le-leb, cases_eq, ne_eqb}
 use Rattle.decimal_json.specs.Value.{Decimal, number}
 use Rattle.decimal_json.specs.Number.{is_digit, digit_of, is_mark, whole_of}
-use Rattle.decimal_json.specs.Scan.{Frame, Spot, wanted, ended, numeral, zero_first, whole, point, fraction, mark, signed, exponent, so_far, next, step, numeral_step, finish, after, outcome}
-use Rattle.decimal_json.specs.Answer.{begun}
+use Rattle.decimal_json.specs.Open.{Frame}
+use Rattle.decimal_json.specs.inside.Scan.{Spot, wanted, ended, numeral, zero_first, whole, point, fraction, mark, signed, exponent, so_far, next, step, numeral_step, finish, after, outcome}
+use Rattle.decimal_json.specs.inside.Answer.{begun}
 use Rattle.decimal_json.specs.Grammar.{AreDigits, numerals, IsWhole, fraction_text, Power, no_power, power, Sign, no_sign, plus, minus, sign_text, is_minus, power_text, is_down, written, IsPower, negative_text, IsNumber}
 use Rattle.decimal_json.proofs.Runs.{Moves, moves_none, moves_byte, moves_then, moves_on, placed_at, Delimits, delimiter_is}
 use Rattle.decimal_json.proofs.Numerals.{digit_whole, digit_fraction, whole_starts, zero_starts, point_starts, mark_is, mark_plus, mark_minus, signed_starts, exponent_more}

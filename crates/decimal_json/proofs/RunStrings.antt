@@ -6,7 +6,8 @@ use Rattle.std.specs.Char.Utf16.{is_low_surrogate, is_high_surrogate, surrogate_
 use Rattle.std.proofs.lemmas.List.{append-nil}
 use Rattle.std.proofs.lemmas.Bool.{cases_Bool, or_cases, or_parts, ne_eqb, false≢true}
 use Rattle.decimal_json.specs.Escape.{short_escape, is_hex, unit_of}
-use Rattle.decimal_json.specs.Scan.{Frame, Spot, Purpose, quoted, Quoted, plain, escaped, unit, high, high_escaped, high_unit, Hex, no_digit, one_digit, two_digits, three_digits, Step, next, stop, Outcome, fault, step, quoted_step, quote_step, unit_step, pair_step, more_hex, after, outcome}
+use Rattle.decimal_json.specs.Open.{Frame, Purpose}
+use Rattle.decimal_json.specs.inside.Scan.{Spot, quoted, Quoted, plain, escaped, unit, high, high_escaped, high_unit, Hex, no_digit, one_digit, two_digits, three_digits, Step, next, stop, Outcome, fault, step, quoted_step, quote_step, unit_step, pair_step, more_hex, after, outcome}
 use Rattle.decimal_json.specs.Grammar.{Character, itself, short, alone, pair, character_text, meaning, AreHex, is_surrogate, begins_with_second, AreCharacters}
 use Rattle.decimal_json.proofs.Runs.{Refuses, refuses_along}
 use Rattle.decimal_json.proofs.Escapes.{unit_each, second_each, plain_backslash, escaped_u, escaped_some, high_leads, high_escaped_leads, low_not_high}

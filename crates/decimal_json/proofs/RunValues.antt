@@ -5,7 +5,9 @@ use Rattle.std.specs.List.{flat_map}
 use Rattle.std.proofs.lemmas.List.{append-nil}
 use Rattle.std.proofs.lemmas.Bool.{cases_Bool, or_left, lt-ltb, ltb-true, ne_eqb, false≢true}
 use Rattle.decimal_json.specs.Value.{Decimal, Value, null, boolean, number, text, array, object, Items, no_items, item, Members, no_members, member, members_of, has_key}
-use Rattle.decimal_json.specs.Scan.{Member, Frame, in_array, in_object, Spot, wanted, first_item, first_key, key_wanted, colon_wanted, ended, literal, quoted, for_value, for_key, plain, is_space, rue, alse, ull, depth_limit, next, stop, done, step, opened, quote_step, finish, finish_value, outcome, whole_outcome}
+use Rattle.decimal_json.specs.Characters.{is_space, rue, alse, ull, depth_limit}
+use Rattle.decimal_json.specs.Open.{Member, Frame, in_array, in_object, for_value, for_key}
+use Rattle.decimal_json.specs.inside.Scan.{Spot, wanted, first_item, first_key, key_wanted, colon_wanted, ended, literal, quoted, plain, next, stop, done, step, opened, quote_step, finish, finish_value, outcome, whole_outcome}
 use Rattle.decimal_json.specs.Grammar.{Character, meaning, fraction_text, power_text, negative_text, IsSpace, IsString, IsNumber, IsWhole, numerals, HasUniqueKeys, Spells, SpellsItems, SpellsMoreItems, SpellsMembers, SpellsMoreMembers, SpellsText}
 use Rattle.decimal_json.proofs.Runs.{Moves, moves_none, moves_byte, moves_on, space_moves, Refuses, refuses_along, Arrives, arrives_then, arrives_by, placed_at, Delimits}
 use Rattle.decimal_json.proofs.RunNumbers.{number_run}

@@ -2,8 +2,10 @@
 use Rattle.std.proofs.Common.{◌≡◌, ℕ, ◌+◌, ◌==◌, ◌<◌, ◌||◌, suc, List, [], ◌∷◌, ◌++◌, length, sym, ap, subst, ◌∙◌, arith, Bool, true, append_assoc, length-append, ⊎_elim, inl, inr}
 use Rattle.std.specs.Prelude.{◌⊎◌}
 use Rattle.std.proofs.lemmas.Bool.{or_cases, eqb-true}
-use Rattle.decimal_json.specs.Scan.{Frame, Spot, next, Outcome, fault, step, is_space, after, outcome}
-use Rattle.decimal_json.specs.Answer.{MaySpace}
+use Rattle.decimal_json.specs.Characters.{is_space}
+use Rattle.decimal_json.specs.Open.{Frame}
+use Rattle.decimal_json.specs.inside.Scan.{Spot, next, Outcome, fault, step, after, outcome}
+use Rattle.decimal_json.specs.inside.Answer.{MaySpace}
 use Rattle.decimal_json.specs.Grammar.{IsSpace}
 use Rattle.decimal_json.proofs.Moves.{spaced}
 

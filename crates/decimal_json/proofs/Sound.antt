@@ -4,7 +4,8 @@ use Rattle.std.specs.Prelude.{◌⊎◌}
 use Rattle.std.proofs.lemmas.List.{append-nil}
 use Rattle.decimal_json.specs.Value.{Value}
 use Rattle.decimal_json.specs.Number.{whole_of}
-use Rattle.decimal_json.specs.Scan.{Frame, Spot, wanted, first_item, first_key, key_wanted, colon_wanted, ended, literal, numeral, quoted, minus, zero_first, whole, point, fraction, mark, signed, exponent, so_far, plain, escaped, unit, high, high_escaped, high_unit, Hex, no_digit, one_digit, two_digits, three_digits, Step, next, stop, Outcome, done, fault, step, finish, finish_value, after, outcome, whole_outcome}
+use Rattle.decimal_json.specs.Open.{Frame}
+use Rattle.decimal_json.specs.inside.Scan.{Spot, wanted, first_item, first_key, key_wanted, colon_wanted, ended, literal, numeral, quoted, minus, zero_first, whole, point, fraction, mark, signed, exponent, so_far, plain, escaped, unit, high, high_escaped, high_unit, Hex, no_digit, one_digit, two_digits, three_digits, Step, next, stop, Outcome, done, fault, step, finish, finish_value, after, outcome, whole_outcome}
 use Rattle.decimal_json.specs.Grammar.{SpellsText, no_power, power}
 use Rattle.decimal_json.specs.Fronts.{OpensTooDeep, RepeatsKey, LacksPartner, LacksSecond}
 use Rattle.decimal_json.proofs.Stands.{Stands, hex_text, Caught, Good}

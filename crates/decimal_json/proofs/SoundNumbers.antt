@@ -5,7 +5,8 @@ use Rattle.std.proofs.lemmas.Bool.{cond_both, eqb-true, eqb-false, and_parts, le
 use Rattle.std.specs.Prelude.{nat_le}
 use Rattle.decimal_json.specs.Value.{Value}
 use Rattle.decimal_json.specs.Number.{is_digit, digit_of, is_mark, whole_of}
-use Rattle.decimal_json.specs.Scan.{Frame, ended, numeral, Numeral, minus, zero_first, whole, point, fraction, mark, signed, exponent, so_far, numeral_step}
+use Rattle.decimal_json.specs.Open.{Frame}
+use Rattle.decimal_json.specs.inside.Scan.{ended, numeral, Numeral, minus, zero_first, whole, point, fraction, mark, signed, exponent, so_far, numeral_step}
 use Rattle.decimal_json.specs.Grammar.{Spells, IsNumber, AreDigits, IsWhole, numerals, negative_text, fraction_text, Sign, no_sign, plus, sign_text, is_minus, Power, no_power, power, power_text, is_down, written, IsPower}
 use Rattle.decimal_json.specs.Grammar as grammar
 use Rattle.decimal_json.specs.Fronts.{IsFront}

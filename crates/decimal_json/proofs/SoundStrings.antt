@@ -7,7 +7,9 @@ use Rattle.std.proofs.lemmas.List.{append-nil}
 use Rattle.std.proofs.lemmas.Bool.{cond_both, eqb-false, and_from, and_left, or_from, or_parts, not_from_false, false≢true}
 use Rattle.decimal_json.specs.Value.{text, members_of, has_key}
 use Rattle.decimal_json.specs.Escape.{short_escape, is_hex, unit_of}
-use Rattle.decimal_json.specs.Scan.{Frame, Purpose, for_value, for_key, quoted, Quoted, plain, escaped, unit, high, high_escaped, high_unit, Hex, no_digit, one_digit, two_digits, three_digits, is_plain, next, quoted_step, quote_step, escape_step, more_hex, unit_step, pair_step}
+use Rattle.decimal_json.specs.Characters.{is_plain}
+use Rattle.decimal_json.specs.Open.{Frame, Purpose, for_value, for_key}
+use Rattle.decimal_json.specs.inside.Scan.{quoted, Quoted, plain, escaped, unit, high, high_escaped, high_unit, Hex, no_digit, one_digit, two_digits, three_digits, next, quoted_step, quote_step, escape_step, more_hex, unit_step, pair_step}
 use Rattle.decimal_json.specs.Grammar.{Character, itself, short, alone, pair, character_text, meaning, AreHex, IsCharacter, is_first_alone, begins_with_second, AreCharacters}
 use Rattle.decimal_json.specs.Fronts.{IsFront, BehindKey, LacksSecond}
 use Rattle.decimal_json.proofs.Growth.{one_more, spaced_none}

@@ -5,7 +5,9 @@ use Rattle.std.proofs.lemmas.List.{append-nil}
 use Rattle.std.proofs.lemmas.Bool.{cond_both, eqb-true, ltb-true, ltb-false, and_parts, leb-true, eqb-false}
 use Rattle.decimal_json.specs.Value.{Value, null, boolean, array, object, no_items, no_members, items_of, members_of}
 use Rattle.decimal_json.specs.Number.{is_digit, digit_of}
-use Rattle.decimal_json.specs.Scan.{Member, Frame, in_array, in_object, Spot, Purpose, for_value, for_key, wanted, first_item, first_key, key_wanted, colon_wanted, ended, quoted, plain, awaited, rue, alse, ull, is_space, next, stop, begin_step, opened, ended_step, close_step, literal_step}
+use Rattle.decimal_json.specs.Characters.{rue, alse, ull, is_space}
+use Rattle.decimal_json.specs.Open.{Member, Frame, in_array, in_object, Purpose, for_value, for_key}
+use Rattle.decimal_json.specs.inside.Scan.{Spot, wanted, first_item, first_key, key_wanted, colon_wanted, ended, quoted, plain, awaited, next, stop, begin_step, opened, ended_step, close_step, literal_step}
 use Rattle.decimal_json.specs.Grammar.{Spells}
 use Rattle.decimal_json.specs.Fronts.{InArray, InObject, BehindKey, BehindColon, IsFront, IsKeyFront, IsStringFront}
 use Rattle.decimal_json.proofs.Uniques.{unique_more}

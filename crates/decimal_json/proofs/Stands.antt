@@ -6,7 +6,8 @@ use Rattle.std.specs.Char.Utf16.{is_high_surrogate}
 use Rattle.decimal_json.specs.Value.{Value}
 use Rattle.decimal_json.specs.Number.{is_mark, whole_of}
 use Rattle.decimal_json.specs.Escape.{is_hex, unit_of}
-use Rattle.decimal_json.specs.Scan.{Frame, in_array, Spot, Purpose, wanted, first_item, first_key, key_wanted, colon_wanted, ended, literal, numeral, quoted, Numeral, minus, zero_first, whole, point, fraction, mark, signed, exponent, Quoted, plain, escaped, unit, high, high_escaped, high_unit, Hex, no_digit, one_digit, two_digits, three_digits, Step, next, stop}
+use Rattle.decimal_json.specs.Open.{Frame, in_array, Purpose}
+use Rattle.decimal_json.specs.inside.Scan.{Spot, wanted, first_item, first_key, key_wanted, colon_wanted, ended, literal, numeral, quoted, Numeral, minus, zero_first, whole, point, fraction, mark, signed, exponent, Quoted, plain, escaped, unit, high, high_escaped, high_unit, Hex, no_digit, one_digit, two_digits, three_digits, Step, next, stop}
 use Rattle.decimal_json.specs.Grammar.{Spells, Character, character_text, meaning, AreCharacters, AreHex, AreDigits, IsWhole, numerals, negative_text, fraction_text, Sign, sign_text, is_minus}
 use Rattle.decimal_json.specs.Fronts.{Spaced, IsFront, IsKeyFront, IsStringFront, BehindKey, OpensTooDeep, RepeatsKey, LacksPartner}
 

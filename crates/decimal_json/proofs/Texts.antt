@@ -7,8 +7,10 @@ use Rattle.std.specs.Prelude.{nat_le, not, ◌&&◌, slice_range, encode_utf8}
 use Rattle.std.specs.Str.{IsCharBoundary}
 use Rattle.decimal_json.specs.declared.types.JsonFault.{JsonFault}
 use Rattle.decimal_json.specs.declared.types.JsonFault.TheVariants.{At}
-use Rattle.decimal_json.specs.Scan.{Frame, Purpose, quoted, plain, is_plain, next, stop, Outcome, fault, step, quoted_step, quote_step, scan, finish}
-use Rattle.decimal_json.specs.Answer.{Leads, FailsAt, StandsAt, ReadsPlain, ReadsText, BreaksText, ReadsEscape, BreaksEscape, resumed}
+use Rattle.decimal_json.specs.Characters.{is_plain}
+use Rattle.decimal_json.specs.Open.{Frame, Purpose}
+use Rattle.decimal_json.specs.inside.Scan.{quoted, plain, next, stop, Outcome, fault, step, quoted_step, quote_step, scan, finish}
+use Rattle.decimal_json.specs.inside.Answer.{Leads, FailsAt, StandsAt, ReadsPlain, ReadsText, BreaksText, ReadsEscape, BreaksEscape, resumed}
 use Rattle.decimal_json.proofs.Moves.{moved, stopped, stepped, finished, byte_and_rest}
 
 pub plain_parts : (c : ℕ) → is_plain c ≡ true → ((c == 34) ≡ false) × ((c == 92) ≡ false) × (nat_le 32 c ≡ true)

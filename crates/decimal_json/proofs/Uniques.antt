@@ -5,7 +5,7 @@ use Rattle.std.proofs.lemmas.Bool.{or_parts, or_from}
 use Rattle.std.proofs.lemmas.Bool.Decides.{same_from_decides, Decides-like}
 use Rattle.std.proofs.lemmas.Slice.Eq.{bytes_eq-Decides}
 use Rattle.decimal_json.specs.Value.{Value, Items, no_items, item, Members, no_members, member, items_of, members_of, has_key}
-use Rattle.decimal_json.specs.Scan.{Member}
+use Rattle.decimal_json.specs.Open.{Member}
 use Rattle.decimal_json.specs.Grammar.{HasUniqueKeys}
 use Rattle.decimal_json.proofs.Inside.{has_key-push}
 

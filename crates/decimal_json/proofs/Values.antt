@@ -10,8 +10,10 @@ use Rattle.decimal_json.specs.declared.types.JsonFault.{JsonFault}
 use Rattle.decimal_json.specs.declared.types.JsonFault.TheVariants.{At}
 use Rattle.decimal_json.specs.Value.{Value, null, boolean, text}
 use Rattle.decimal_json.specs.Number.{is_digit}
-use Rattle.decimal_json.specs.Scan.{Frame, Spot, wanted, literal, awaited, numeral, minus, quoted, for_value, plain, rue, alse, ull, is_space, next, stop, Outcome, fault, step, begin_step, literal_step, quote_step, after, outcome, scan, finish}
-use Rattle.decimal_json.specs.Answer.{Leads, FailsAt, StandsAt, IsToken, Reads, Breaks, ReadsText, BreaksText}
+use Rattle.decimal_json.specs.Characters.{rue, alse, ull, is_space}
+use Rattle.decimal_json.specs.Open.{Frame, for_value}
+use Rattle.decimal_json.specs.inside.Scan.{Spot, wanted, literal, awaited, numeral, minus, quoted, plain, next, stop, Outcome, fault, step, begin_step, literal_step, quote_step, after, outcome, scan, finish}
+use Rattle.decimal_json.specs.inside.Answer.{Leads, FailsAt, StandsAt, IsToken, Reads, Breaks, ReadsText, BreaksText}
 use Rattle.decimal_json.proofs.Exits.{passed_on, some_of, none_of}
 use Rattle.decimal_json.proofs.Moves.{moved, stopped, finished, byte_and_rest}
 

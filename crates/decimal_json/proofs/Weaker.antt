@@ -2,7 +2,7 @@
 use Rattle.std.proofs.Common.{ℕ, List, [], ◌∷◌, true, false}
 use Rattle.std.proofs.lemmas.Bool.{false≢true}
 use Rattle.decimal_json.specs.Value.{Value, null, boolean, number, text, array, object, Items, no_items, item, Members, no_members, member}
-use Rattle.decimal_json.specs.Scan.{Member}
+use Rattle.decimal_json.specs.Open.{Member}
 use Rattle.decimal_json.specs.Grammar.{Character, itself, short, alone, pair, IsCharacter, AreCharacters, IsString, Spells, SpellsItems, SpellsMoreItems, SpellsMembers, SpellsMoreMembers, SpellsText}
 use Rattle.decimal_json.specs.Fronts.{FrontItems, FrontMembers}
 

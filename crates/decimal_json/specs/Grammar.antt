@@ -7,7 +7,7 @@ use Rattle.std.specs.Char.Utf16.{is_low_surrogate, is_high_surrogate, surrogate_
 use Rattle.decimal_json.specs.Value.{Decimal, Value, null, boolean, number, text, array, object, Items, no_items, item, Members, no_members, member, has_key}
 use Rattle.decimal_json.specs.Number.{is_mark, whole_of, decimal_from}
 use Rattle.decimal_json.specs.Escape.{short_escape, is_hex, unit_of}
-use Rattle.decimal_json.specs.Scan.{is_space, is_plain, rue, alse, ull, depth_limit}
+use Rattle.decimal_json.specs.Characters.{is_space, is_plain, rue, alse, ull, depth_limit}
 
 -- section 2: white space
 abbrev pub IsSpace : List ℕ → Type 0

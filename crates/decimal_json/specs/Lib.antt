@@ -1,9 +1,10 @@
 pub mod Value
 pub mod Number
 pub mod Escape
-pub mod Scan
+pub mod Characters
+pub mod Open
 pub mod Grammar
 pub mod Fronts
 pub mod Reading
 pub mod View
-pub mod Answer
+pub mod inside

@@ -1,8 +1,8 @@
 //! Single bytes of the input, and white space.
 
 ghost use Rattle.std.specs.Prelude.{◌≡◌, ℕ, ◌+◌, ◌<◌, ◌≤◌, true, false, ◌==◌, List, ◌∷◌, [], length, drop, IfSome, IfNone};
-ghost use Rattle.decimal_json.specs.Scan.{is_space};
-ghost use Rattle.decimal_json.specs.Answer.{SkipsSpace, StandsAt, FailsAt, IsToken};
+ghost use Rattle.decimal_json.specs.Characters.{is_space};
+ghost use Rattle.decimal_json.specs.inside.Answer.{SkipsSpace, StandsAt, FailsAt, IsToken};
 
 /// The byte at a place, if there is one.
 pub fn byte_at(bytes: &[u8], at: usize) -> Option<u8>

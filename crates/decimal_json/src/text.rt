@@ -3,8 +3,8 @@
 ghost use Rattle.std.specs.Prelude.{◌≡◌, ◌+◌, ◌-◌, ◌<◌, ◌≤◌, length, slice_range, IfOk, IfErr};
 ghost use Rattle.std.specs.Str.{IsCharBoundary};
 ghost use Rattle.std.specs.String.{string_bytes};
-ghost use Rattle.decimal_json.specs.Scan.{is_plain};
-ghost use Rattle.decimal_json.specs.Answer.{FailsAt, ReadsPlain, ReadsText, BreaksText};
+ghost use Rattle.decimal_json.specs.Characters.{is_plain};
+ghost use Rattle.decimal_json.specs.inside.Answer.{FailsAt, ReadsPlain, ReadsText, BreaksText};
 
 use crate::bytes::byte_at;
 use crate::escape::escape;

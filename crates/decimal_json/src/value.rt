@@ -2,8 +2,9 @@
 
 ghost use Rattle.std.specs.Prelude.{◌≡◌, ◌≢◌, ◌+◌, ◌<◌, ◌≤◌, Bool, true, false, length, map, IfOk, IfErr};
 ghost use Rattle.decimal_json.specs.Value.{Value, items_of, members_of, array as array_value, object as object_value};
-ghost use Rattle.decimal_json.specs.Scan.{wanted, awaited, first_item, first_key, is_space};
-ghost use Rattle.decimal_json.specs.Answer.{StandsAt, Reads, Breaks, ReadsValue, BreaksValue, ReadsInside, BreaksInside};
+ghost use Rattle.decimal_json.specs.Characters.{is_space};
+ghost use Rattle.decimal_json.specs.inside.Scan.{wanted, awaited, first_item, first_key};
+ghost use Rattle.decimal_json.specs.inside.Answer.{StandsAt, Reads, Breaks, ReadsValue, BreaksValue, ReadsInside, BreaksInside};
 ghost use Rattle.decimal_json.specs.View.{view, pair_view};
 
 use crate::bytes::{has_byte, token_at};

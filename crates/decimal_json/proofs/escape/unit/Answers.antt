@@ -1,4 +1,4 @@
-use Rattle.decimal_json.specs.Answer.{BreaksUnit}
+use Rattle.decimal_json.specs.inside.Answer.{BreaksUnit}
 use Rattle.decimal_json.proofs.Exits.{passed_on}
 use Rattle.decimal_json.proofs.Escapes.{reads_unit, breaks_0, breaks_after_1, breaks_after_2, breaks_after_3}
 use Rattle.decimal_json.proofs.escape.unit.Goals as goal

@@ -2,7 +2,7 @@ use Rattle.std.proofs.Common.{sym, ◌∙◌, arith, refl}
 use Rattle.decimal_json.specs.declared.types.JsonFault.TheVariants.{At}
 use Rattle.std.specs.String.{string_bytes}
 use Rattle.std.proofs.lemmas.Bool.{not-true, not-false}
-use Rattle.decimal_json.specs.Answer.{knows, BreaksKey, IsToken}
+use Rattle.decimal_json.specs.inside.Answer.{knows, BreaksKey, IsToken}
 use Rattle.decimal_json.proofs.Exits.{passed_on}
 use Rattle.decimal_json.proofs.Values.{boundary_behind, token_of, end_of}
 use Rattle.decimal_json.proofs.Inside.{key_cut, no_key, key_breaks, key_twice, colon_cut, no_colon, key_read}

@@ -1,7 +1,8 @@
 use Rattle.std.proofs.Common.{◌≡◌, ℕ, ◌-◌, List, ◌∷◌, [], ◌++◌, ◌+◌, sym, ap, subst, ◌∙◌, arith, Bool, refl}
 use Rattle.decimal_json.specs.declared.types.JsonFault.{JsonFault}
-use Rattle.decimal_json.specs.Answer.{Leads, AfterWhole, AddsDigits}
-use Rattle.decimal_json.specs.Scan.{Frame, Spot, scan}
+use Rattle.decimal_json.specs.inside.Answer.{Leads, AfterWhole, AddsDigits}
+use Rattle.decimal_json.specs.Open.{Frame}
+use Rattle.decimal_json.specs.inside.Scan.{Spot, scan}
 use Rattle.decimal_json.proofs.Exits.{passed_on}
 use Rattle.decimal_json.proofs.Numerals.{no_fraction, reads_fraction, no_digit_after_point}
 use Rattle.decimal_json.proofs.number.add_fraction.Goals as goal

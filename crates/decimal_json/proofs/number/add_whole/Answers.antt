@@ -2,8 +2,9 @@ use Rattle.std.proofs.Common.{◌≡◌, ◌≤◌, ℕ, ◌-◌, List, ◌∷�
 use Rattle.decimal_json.specs.declared.types.JsonFault.TheVariants.{At}
 use Rattle.decimal_json.specs.declared.types.JsonFault.{JsonFault}
 use Rattle.decimal_json.specs.Number.{is_digit}
-use Rattle.decimal_json.specs.Answer.{Leads, begun, ReadsWhole, AddsDigits, FailsAt, StandsAt}
-use Rattle.decimal_json.specs.Scan.{Frame, scan}
+use Rattle.decimal_json.specs.inside.Answer.{Leads, begun, ReadsWhole, AddsDigits, FailsAt, StandsAt}
+use Rattle.decimal_json.specs.Open.{Frame}
+use Rattle.decimal_json.specs.inside.Scan.{scan}
 use Rattle.decimal_json.proofs.Exits.{passed_on, ok_from_two}
 use Rattle.decimal_json.proofs.Numerals.{reads_zero, reads_whole, no_whole, digit_low}
 use Rattle.decimal_json.proofs.number.add_whole.Goals as goal

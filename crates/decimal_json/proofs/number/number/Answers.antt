@@ -2,8 +2,9 @@ use mir.Val.{SFits, of_z, to_z}
 use mir.Syntax.{w64}
 use Rattle.std.proofs.Common.{rules, List, sym, subst, ◌∙◌}
 use Rattle.std.proofs.lemmas.Int.{to_z-of_z}
-use Rattle.decimal_json.specs.Scan.{Frame, Outcome, scan}
-use Rattle.decimal_json.specs.Answer.{Leads, begun}
+use Rattle.decimal_json.specs.Open.{Frame}
+use Rattle.decimal_json.specs.inside.Scan.{Outcome, scan}
+use Rattle.decimal_json.specs.inside.Answer.{Leads, begun}
 use Rattle.decimal_json.proofs.Exits.{passed_on}
 use Rattle.decimal_json.proofs.Numerals.{reads_number}
 use Rattle.decimal_json.proofs.number.number.Goals as goal

@@ -1,6 +1,6 @@
 use Rattle.std.proofs.Common.{◌-◌, ◌≤◌, length}
 use Rattle.std.specs.Prelude.{slice_range}
-use Rattle.decimal_json.specs.Answer.{ReadsPlain}
+use Rattle.decimal_json.specs.inside.Answer.{ReadsPlain}
 use Rattle.decimal_json.proofs.text.skip_plain.Given as goal
 
 abbrev pub invariant-loop-at : goal.invariant-loop-at

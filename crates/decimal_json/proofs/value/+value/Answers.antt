@@ -1,8 +1,9 @@
 use Rattle.std.proofs.Common.{◌+◌, List, [], ◌∷◌, ◌++◌, map, sym, ap, subst, ◌∙◌, arith, inl, inr}
 use Rattle.std.specs.String.{string_bytes}
 use Rattle.decimal_json.specs.Value.{Value, array, object, items_of, members_of}
-use Rattle.decimal_json.specs.Scan.{Member, first_item, first_key}
-use Rattle.decimal_json.specs.Answer.{knows, BreaksValue, ReadsInside, ReadsValue}
+use Rattle.decimal_json.specs.Open.{Member}
+use Rattle.decimal_json.specs.inside.Scan.{first_item, first_key}
+use Rattle.decimal_json.specs.inside.Answer.{knows, BreaksValue, ReadsInside, ReadsValue}
 use Rattle.decimal_json.specs.View.{view, pair_view}
 use Rattle.decimal_json.proofs.Exits.{passed_on}
 use Rattle.decimal_json.proofs.Values.{token_of, end_of}

@@ -1,6 +1,7 @@
 use Rattle.std.proofs.Common.{◌≡◌, ◌≤◌, ◌+◌, List, drop, length}
 use Rattle.decimal_json.specs.Value.{Value}
-use Rattle.decimal_json.specs.Scan.{Frame, awaited, scan}
+use Rattle.decimal_json.specs.Open.{Frame}
+use Rattle.decimal_json.specs.inside.Scan.{awaited, scan}
 use Rattle.decimal_json.proofs.value.literal.Given as goal
 
 abbrev pub invariant-loop-letter : goal.invariant-loop-letter

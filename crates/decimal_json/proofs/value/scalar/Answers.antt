@@ -2,7 +2,9 @@ use Rattle.std.proofs.Common.{◌+◌, [], sym, arith, refl, true, false}
 use Rattle.std.specs.String.{string_bytes}
 use Rattle.decimal_json.specs.Value.{null, boolean, number}
 use Rattle.decimal_json.specs.View.{decimal_of}
-use Rattle.decimal_json.specs.Scan.{literal, numeral, minus, quoted, for_value, plain, rue, alse, ull}
+use Rattle.decimal_json.specs.Characters.{rue, alse, ull}
+use Rattle.decimal_json.specs.Open.{for_value}
+use Rattle.decimal_json.specs.inside.Scan.{literal, numeral, minus, quoted, plain}
 use Rattle.decimal_json.proofs.Values.{boundary_behind, quote_led, true_led, false_led, null_led, minus_led, read_behind, breaks_behind, text_behind, text_breaks, no_value, as_viewed}
 use Rattle.decimal_json.proofs.Views.{view-null, view-bool, view-number, view-text}
 use Rattle.decimal_json.proofs.value.scalar.Goals as goal

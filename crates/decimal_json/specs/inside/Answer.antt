@@ -1,4 +1,4 @@
--- What a part of the reader answers, beside the machine of `specs/Scan.antt`.
+-- What a part of the reader answers, beside the machine of `specs/inside/Scan.antt`.
 use Rattle.std.specs.Prelude.{◌≡◌, ℕ, ◌+◌, ◌<◌, ◌==◌, ◌||◌, ⊤, Bool, true, false, List, [], ◌∷◌, ◌++◌, length, drop, min, encode_utf8, is_some, String, Result, Ok, Err}
 use Rattle.std.specs.Global.{Global}
 use Rattle.std.specs.Str.{bytes_eq}
@@ -10,7 +10,9 @@ use Rattle.decimal_json.specs.declared.types.JsonFault.TheVariants.{At, NoMemory
 use Rattle.decimal_json.specs.Value.{Value, members_of, has_key}
 use Rattle.decimal_json.specs.Number.{is_mark}
 use Rattle.decimal_json.specs.Escape.{is_hex, hex_of}
-use Rattle.decimal_json.specs.Scan.{Frame, in_object, Member, depth_limit, Purpose, plain, no_digit, unit, high_unit, unit_step, pair_step, quote_step, Spot, wanted, first_item, first_key, key_wanted, colon_wanted, ended, literal, numeral, quoted, minus, whole, point, fraction, mark, exponent, so_far, Step, Outcome, done, fault, after, is_space, scan}
+use Rattle.decimal_json.specs.Characters.{depth_limit, is_space}
+use Rattle.decimal_json.specs.Open.{Frame, in_object, Member, Purpose}
+use Rattle.decimal_json.specs.inside.Scan.{plain, no_digit, unit, high_unit, unit_step, pair_step, quote_step, Spot, wanted, first_item, first_key, key_wanted, colon_wanted, ended, literal, numeral, quoted, minus, whole, point, fraction, mark, exponent, so_far, Step, Outcome, done, fault, after, scan}
 
 -- The outcome is this fault. Want of memory may come in place of any outcome.
 abbrev pub Leads : JsonFault → Outcome → Type 0

@@ -1,24 +1,12 @@
 -- A reader's way through a JSON text, byte by byte, with what it has read so far: the grammar of RFC 8259 as a machine
 -- with a stack. `specs/Grammar.antt` has the grammar by itself, and the clauses of `read` say that both agree.
-use Rattle.std.specs.Prelude.{ℕ, suc, ◌+◌, ◌*◌, Bool, true, false, not, ◌&&◌, ◌||◌, ◌==◌, nat_lt, nat_le, List, [], ◌∷◌, ◌++◌, length, drop, Option, Some, None, encode_utf8, if◌then◌else◌}
+use Rattle.std.specs.Prelude.{ℕ, suc, ◌+◌, ◌*◌, Bool, true, false, ◌==◌, nat_lt, nat_le, List, [], ◌∷◌, ◌++◌, length, drop, Option, Some, None, encode_utf8, if◌then◌else◌}
 use Rattle.std.specs.Char.Utf16.{is_low_surrogate, is_high_surrogate, surrogate_pair_char}
 use Rattle.decimal_json.specs.Value.{Value, null, boolean, number, text, array, object, no_items, no_members, items_of, members_of, has_key}
+use Rattle.decimal_json.specs.Characters.{is_space, rue, alse, ull, depth_limit}
+use Rattle.decimal_json.specs.Open.{Member, Frame, in_array, in_object, Purpose, for_value, for_key}
 use Rattle.decimal_json.specs.Number.{is_digit, digit_of, is_mark, decimal_from}
 use Rattle.decimal_json.specs.Escape.{short_escape, is_hex, unit_of}
-
--- a key and its value
-abbrev pub Member : Type 0
-Member = List ℕ × Value
-
--- an array or an object that is open: what came before the value that is being read now
-pub data Frame : Type 0 where
-  in_array : List Value → Frame
-  in_object : List Member → List ℕ → Frame
-
--- a string is a value, or the key of a member after these, with the place of its first quote
-pub data Purpose : Type 0 where
-  for_value : Purpose
-  for_key : List Member → ℕ → Purpose
 
 -- the hexadecimal digits of an escape that have come
 pub data Hex : Type 0 where
@@ -68,28 +56,6 @@ pub data Step : Type 0 where
 pub data Outcome : Type 0 where
   done : Value → Outcome
   fault : ℕ → ℕ → Outcome
-
--- how many arrays and objects may stand in one another
-abbrev pub depth_limit : ℕ
-depth_limit = 64
-
--- white space of section 2
-abbrev pub is_space : ℕ → Bool
-is_space c = (c == 32) || (c == 9) || (c == 10) || (c == 13)
-
--- a byte of a string that stands for itself, as each byte of a character beyond ASCII does (section 7: unescaped)
-abbrev pub is_plain : ℕ → Bool
-is_plain c = not (c == 34) && not (c == 92) && nat_le 32 c
-
--- the letters after the first of a literal of section 3
-abbrev pub rue : List ℕ
-rue = 114 ∷ 117 ∷ 101 ∷ []
-
-abbrev pub alse : List ℕ
-alse = 97 ∷ 108 ∷ 115 ∷ 101 ∷ []
-
-abbrev pub ull : List ℕ
-ull = 117 ∷ 108 ∷ 108 ∷ []
 
 -- a bracket opens one level more, if there may be one
 unfoldable pub opened : ℕ → List Frame → Spot → Step
