@@ -14,3 +14,4 @@ pub mod ExactLaws
 pub mod HeldValues
 pub mod HeldRounded
 pub mod HeldInstance
+pub mod ShortTexts

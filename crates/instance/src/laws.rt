@@ -5,6 +5,7 @@ ghost use Rattle.uc_model.specs.Limits.{IsLawfulInstance};
 ghost use Rattle.uc_model.specs.declared.instance.Instance.{Instance};
 ghost use Rattle.decimal_json.specs.Value.{Decimal, Value};
 ghost use Rattle.decimal_json.specs.Number.{decimal_from, held_decimal, written_decimal};
+ghost use Rattle.decimal_json.specs.Reading.{IsText};
 ghost use Rattle.instance.specs.FirstFault.{instance_at};
 ghost use Rattle.instance.specs.InstanceOf.{IsInstanceOf};
 ghost use Rattle.instance.specs.Rounded.{rounded_instance};
@@ -51,4 +52,11 @@ pub fn held_exponents_change_no_instance()
         IsInstanceOf exact (with_numbers held_decimal v) i → IsInstanceOf exact v i }
     ensures kept { (exact : Bool) (v : Value) (i : Instance) → AllNumbers IsShort v →
         IsInstanceOf exact v i → IsInstanceOf exact (with_numbers held_decimal v) i }
+{}
+
+/// The numbers of a text of at most 2^26 bytes are short as it writes them, so that holding their exponents changes no
+/// instance of it.
+#[tactic(auto, using(crate::proofs::ShortTexts::short_text))]
+pub fn numbers_of_a_short_text_are_short()
+    ensures { (bytes : List ℕ) (v : Value) → length bytes ≤ MOST_DIGITS → IsText bytes (with_numbers held_decimal v) → AllNumbers IsShort v }
 {}
