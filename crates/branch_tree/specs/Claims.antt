@@ -11,7 +11,7 @@ use Rattle.dual_model.specs.declared.table.Table.{Table}
 use Rattle.branch_tree.specs.declared.tree.Leaf.{Leaf}
 use Rattle.branch_tree.specs.declared.tree.Leaf.TheVariants as leaf
 use Rattle.branch_tree.specs.declared.found.Found.{Found}
-pub use Rattle.branch_tree.specs.StoredTree.{tree_of, tree_bound}
+use Rattle.branch_tree.specs.StoredTree.{tree_of, tree_bound}
 
 -- the tables that a leaf uses
 abbrev pub leaf_tables : Leaf → List ℕ

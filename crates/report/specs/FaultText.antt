@@ -4,6 +4,7 @@ use Rattle.std.specs.Prelude.{ℕ, zero, suc, Bool, true, false, ◌||◌, List,
 use Rattle.uc_model.specs.Decimal.{whole_text}
 use Rattle.uc_model.specs.Money.{money_text}
 use Rattle.uc_model.specs.declared.field.Field.{Field}
+use Rattle.uc_model.specs.declared.field_refusal.FieldRefusal.{FieldRefusal}
 use Rattle.uc_model.specs.declared.field.Field.TheVariants as field
 use Rattle.uc_model.specs.declared.refusal.Refusal.{Refusal}
 use Rattle.uc_model.specs.declared.refusal.Refusal.TheVariants.{C1, C2, C3, C4, C5, C6, C7, C8, C9}
@@ -24,7 +25,7 @@ status_of (Long slot.Instance) = 4
 status_of (Long slot.CertIn) = 9
 status_of (Long slot.CertOut) = 9
 status_of (Json byte kind) = 4
-status_of (Instance code kind unit field entry) = 4
+status_of (Instance refusal) = 4
 status_of (Line number kind) = 9
 status_of (Code refusal) = 9
 
@@ -99,9 +100,10 @@ entry_text zero = []
 entry_text (suc entry) = 32 ∷ whole_text (suc entry)
 
 -- the code, and the field and the entry of a unit or of the whole instance
-abbrev pub instance_line : ℕ → ℕ → List ℕ → Field → ℕ → List ℕ
-instance_line code kind unit field entry =
-    joined (codes "instance: I" ∷ whole_text code ∷ owner_text kind unit ∷ field_text field ∷ entry_text entry ∷ codes "\n" ∷ [])
+abbrev pub instance_line : FieldRefusal → List ℕ
+instance_line refusal =
+    joined (codes "instance: I" ∷ whole_text refusal.code ∷ owner_text refusal.kind_of_unit refusal.unit
+    ∷ field_text refusal.field ∷ entry_text refusal.entry ∷ codes "\n" ∷ [])
 
 -- what is wrong at a line, by its kind from 1 to 3; another kind has no text
 abbrev pub line_fault_text : ℕ → List ℕ
@@ -155,6 +157,6 @@ fault_text (Write output) = write_line output
 fault_text Memory = line (codes "out of memory") []
 fault_text (Long slot) = long_line slot
 fault_text (Json byte kind) = json_line byte kind
-fault_text (Instance code kind unit field entry) = instance_line code kind unit field entry
+fault_text (Instance refusal) = instance_line refusal
 fault_text (Line number kind) = certificate_line number kind
 fault_text (Code refusal) = refusal_line refusal

@@ -1,10 +1,9 @@
 -- The report of what a search found, as it is printed. This project's own form. Money and power have six decimals; units and
 -- periods count from 1 here, and from 0 in the types.
-use Rattle.std.specs.Prelude.{ℕ, zero, suc, Bool, false, List, [], ◌∷◌, ◌++◌, ℤ, pos, ◌+ℤ◌, ◌-ℤ◌, int_le, Option, Some, None, length, flat_map, codes, if◌then◌else◌}
+use Rattle.std.specs.Prelude.{ℕ, zero, suc, Bool, List, [], ◌∷◌, ◌++◌, ℤ, pos, ◌+ℤ◌, Option, Some, None, length, flat_map, codes, if◌then◌else◌}
 use Rattle.std.specs.List.{zip}
 use Rattle.uc_model.specs.Decimal.{whole_text}
 use Rattle.uc_model.specs.Money.{money_text}
-use Rattle.uc_model.specs.Tolerance.{tolerance_of}
 use Rattle.uc_model.specs.Schedule.{thermal_unit, thermal_count, renewable_count}
 use Rattle.uc_model.specs.declared.instance.Thermal.{Thermal}
 use Rattle.uc_model.specs.declared.instance.Renewable.{Renewable}
@@ -15,7 +14,8 @@ use Rattle.uc_model.specs.declared.stuck.Why.{Why}
 use Rattle.uc_model.specs.declared.stuck.Why.TheVariants.{Rule, Box, Over, Under, Reserve}
 use Rattle.uc_model.specs.declared.stuck.Stuck.{Stuck}
 use Rattle.branch_tree.specs.declared.found.Found.{Found}
-use Rattle.branch_tree.specs.Claims.{tree_bound}
+use Rattle.branch_tree.specs.StoredTree.{tree_bound}
+use Rattle.branch_tree.specs.Closing.{is_within_gap}
 use Rattle.outside.specs.Lines.{joined, line, list_line}
 use Rattle.report.specs.Names.{unit_words}
 
@@ -24,20 +24,6 @@ abbrev pub size_line : Instance → ℕ → List ℕ
 size_line instance rounded =
     line (codes "periods") (whole_text instance.periods ∷ codes "thermal" ∷ whole_text (thermal_count instance)
     ∷ codes "renewable" ∷ whole_text (renewable_count instance) ∷ codes "rounded" ∷ whole_text rounded ∷ [])
-
--- Whether a cost is proved to be within the gap, in parts per million of its size, of the least one. With no bound it isn't.
-abbrev pub is_within_gap : ℤ → Option ℤ → ℕ → Bool
-is_within_gap cost None gap = false
-is_within_gap cost (Some bound) gap = int_le (cost -ℤ bound) (pos (tolerance_of cost gap))
-
--- the same of what was found; with no schedule it isn't
-abbrev pub is_priced_within : Option (Printed × ℤ) → Option ℤ → ℕ → Bool
-is_priced_within None bound gap = false
-is_priced_within (Some priced) bound gap = is_within_gap priced.1 bound gap
-
--- whether the search is closed: it found a schedule whose cost is within the gap
-abbrev pub is_closed : Found → ℕ → Bool
-is_closed found gap = is_priced_within found.schedule (tree_bound found.tree) gap
 
 abbrev pub state_line : Bool → List ℕ
 state_line closed = line (if closed then codes "closed" else codes "budget spent") []

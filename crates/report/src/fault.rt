@@ -4,7 +4,7 @@ ghost use Rattle.std.specs.Prelude.{◌≡◌};
 ghost use Rattle.report.specs.FaultText.{status_of};
 
 use outside::Slot;
-use uc_model::{Field, Name, Refusal};
+use uc_model::{FieldRefusal, Refusal};
 
 /// Why the program ends without an answer.
 #[derive(Debug, Drop)]
@@ -14,34 +14,18 @@ pub enum Fault {
     /// A file could not be opened or read.
     Read(Slot),
     /// The certificate, or with `output` the standard output, could not be written.
-    Write {
-        output: bool,
-    },
+    Write { output: bool },
     /// Memory was refused.
     Memory,
     /// A file has more bytes than are read.
     Long(Slot),
     /// The instance's byte `at`, from 0, is at fault: 1 no UTF-8, 2 no JSON, 3 nested too deep, 4 a key
     /// twice, 5 an unpaired surrogate.
-    Json {
-        at: usize,
-        kind: u8,
-    },
-    /// A field of the instance is refused by code I`code`: a field of a unit by its name, where
-    /// `kind_of_unit` is 1 (thermal) or 2 (renewable), and of the whole instance where it is 0; at an
-    /// entry of an array, from 1, or 0 for none.
-    Instance {
-        code: u8,
-        kind_of_unit: u8,
-        unit: Name,
-        field: Field,
-        entry: u32,
-    },
+    Json { at: usize, kind: u8 },
+    /// A field of the instance is refused.
+    Instance(FieldRefusal),
     /// The certificate's line, from 1, is at fault: 1 its form, 2 it is cut short, 3 bytes follow the end.
-    Line {
-        line: u64,
-        kind: u8,
-    },
+    Line { line: u64, kind: u8 },
     /// The certificate does not hold for the instance.
     Code(Refusal),
 }
@@ -57,7 +41,7 @@ impl Fault {
             Fault::Read(_) => 6,
             Fault::Write { .. } => 7,
             Fault::Memory => 8,
-            Fault::Long(Slot::Instance) | Fault::Json { .. } | Fault::Instance { .. } => 4,
+            Fault::Long(Slot::Instance) | Fault::Json { .. } | Fault::Instance(_) => 4,
             Fault::Long(_) | Fault::Line { .. } | Fault::Code(_) => 9,
         }
     }

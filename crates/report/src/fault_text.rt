@@ -12,7 +12,7 @@ use outside::{
     Failed, Latch, Out, Sink, SinkWriter, Slot, put_amount, put_money, put_place, put_whole,
     put_whole_line,
 };
-use uc_model::{Field, Refusal};
+use uc_model::{Field, FieldRefusal, Refusal};
 
 // How the program is called.
 fn put_usage<O: Out>(out: &mut O)
@@ -120,14 +120,14 @@ fn put_entry<O: Out>(out: &mut O, entry: u32)
 }
 
 // The refusal of a field of the instance.
-fn put_instance<O: Out>(out: &mut O, code: u8, kind: u8, name: &str, field: &Field, entry: u32)
-    ensures { O.emits (instance_line code kind name.now field.now entry) out.old out.new }
+fn put_instance<O: Out>(out: &mut O, refusal: &FieldRefusal)
+    ensures { O.emits (instance_line refusal.now) out.old out.new }
 {
     out.put(b"instance: I");
-    put_whole(out, u64::from(code));
-    put_owner(out, kind, name);
-    out.put(field_name(field));
-    put_entry(out, entry);
+    put_whole(out, u64::from(refusal.code));
+    put_owner(out, refusal.kind_of_unit, refusal.unit.as_str());
+    out.put(field_name(&refusal.field));
+    put_entry(out, refusal.entry);
     out.put(b"\n");
 }
 
@@ -227,13 +227,7 @@ fn put_fault<O: Out>(out: &mut O, fault: &Fault)
         Fault::Memory => out.put(b"out of memory\n"),
         Fault::Long(slot) => out.put(too_long(slot)),
         Fault::Json { at, kind } => put_at(out, b"instance: byte ", *at as u64, json_fault(*kind)),
-        Fault::Instance {
-            code,
-            kind_of_unit,
-            unit,
-            field,
-            entry,
-        } => put_instance(out, *code, *kind_of_unit, unit.as_str(), field, *entry),
+        Fault::Instance(refusal) => put_instance(out, refusal),
         Fault::Line { line, kind } => {
             put_at(out, b"certificate: line ", *line, line_fault(*kind));
         }

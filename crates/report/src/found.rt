@@ -2,16 +2,16 @@
 
 ghost use Rattle.std.specs.Prelude.{◌≡◌, ◌≤◌, OnOk, OnErr};
 ghost use Rattle.outside.specs.Sinks.{SinkWrites, SinkWritesFront};
-ghost use Rattle.branch_tree.specs.Claims.{tree_bound};
-ghost use Rattle.report.specs.FoundReport.{size_line, is_within_gap, is_closed, state_line, cost_line, bound_line, evaluations_line, schedule_report, no_schedule_report, found_report};
+ghost use Rattle.branch_tree.specs.StoredTree.{tree_bound};
+ghost use Rattle.report.specs.FoundReport.{size_line, state_line, cost_line, bound_line, evaluations_line, schedule_report, no_schedule_report, found_report};
 
 use crate::schedule::{RenewableLine, ThermalLine};
 use crate::stuck::put_stuck;
-use branch_tree::Found;
+use branch_tree::{Found, is_within_gap};
 use outside::{
     Failed, Latch, Out, Sink, SinkWriter, put_count, put_money_line, put_pairs, put_whole_line,
 };
-use uc_model::tolerance::{WHOLE_GAP, tolerance};
+use uc_model::tolerance::WHOLE_GAP;
 use uc_model::{Instance, Printed};
 
 // The numbers of periods, units and rounded numbers.
@@ -25,29 +25,6 @@ fn put_size<O: Out>(out: &mut O, instance: &Instance, rounded: u64)
     put_count(out, b" renewable ", renewable as u64);
     put_count(out, b" rounded ", rounded);
     out.put(b"\n");
-}
-
-// Whether the cost is proved to be within the gap of the least one.
-fn is_within(cost: &i64, bound: &Option<i128>, gap: u32) -> bool
-    requires { gap ≤ WHOLE_GAP }
-    ensures { result ≡ is_within_gap cost.now bound.now gap }
-{
-    match bound {
-        Some(bound) => i128::from(*cost) - i128::from(tolerance(*cost, gap)) <= *bound,
-        None => false,
-    }
-}
-
-/// Whether the search is closed: it found a schedule whose cost is above the bound by no more than `gap`
-/// parts per million of the cost's size.
-pub fn is_closed(found: &Found, gap: u32) -> bool
-    requires { gap ≤ WHOLE_GAP }
-    ensures { result ≡ is_closed found.now gap }
-{
-    match &found.schedule {
-        Some((_, cost)) => is_within(cost, &found.tree.bound(), gap),
-        None => false,
-    }
 }
 
 fn put_state<O: Out>(out: &mut O, closed: bool)
@@ -88,7 +65,7 @@ fn put_schedule<O: Out>(
     ensures { O.emits (schedule_report instance.now found.now gap printed.now cost.now) out.old out.new }
 {
     let bound = found.tree.bound();
-    put_state(out, is_within(cost, &bound, gap));
+    put_state(out, is_within_gap(cost, &bound, gap));
     put_money_line(out, b"cost", &i128::from(*cost));
     put_bound(out, &bound);
     put_evaluations(out, found);

@@ -11,4 +11,4 @@ mod stuck;
 
 pub use fault::Fault;
 pub use fault_text::write_fault;
-pub use found::{is_closed, write_found};
+pub use found::write_found;
