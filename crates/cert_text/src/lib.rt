@@ -2,6 +2,7 @@
 #![tactic(auto, unfolding(outside::specs::Lines::line, outside::specs::Lines::list_line))]
 
 mod certificate;
+pub mod laws;
 mod schedule;
 mod table;
 

@@ -1,0 +1,28 @@
+//! Laws of certificates' texts, each the contract of a function with an empty body.
+
+ghost use Rattle.std.specs.Prelude.{◌≡◌, ◌↔◌, ℕ, ℤ, ◌+◌, ◌/◌, ◌^◌, ◌<◌, ◌≤◌, length, unsigned_abs, None, IfSome, All};
+ghost use Rattle.uc_model.specs.Decimal.{whole_text};
+ghost use Rattle.uc_model.specs.Limits.{IsLawfulInstance};
+ghost use Rattle.uc_model.specs.declared.instance.Instance.{Instance};
+ghost use Rattle.dual_model.specs.Certificate.{CertificateHolds};
+ghost use Rattle.branch_tree.specs.Claims.{tree_bound, used_tables, certificate_of};
+ghost use Rattle.branch_tree.specs.declared.found.Found.{Found};
+ghost use Rattle.cert_text.specs.CertificateText.{listing_of};
+ghost use Rattle.cert_text.specs.TextConditions.{IsMoney, HasText};
+
+/// A number is within its range exactly where its text has no more digits than the range says, those of the
+/// decimals of money among them.
+pub fn ranges_count_digits()
+    ensures whole { (digits n : ℕ) → 0 < digits → (length (whole_text n) ≤ digits) ↔ (n < 10 ^ digits) }
+    ensures money { (n : ℤ) → (length (whole_text (unsigned_abs n / 1000000)) + 6 ≤ 38) ↔ IsMoney n }
+{}
+
+/// The certificate of an answer without a schedule has a text where its bound is in the range of money and
+/// the rows of its tables can be counted.
+pub fn certificates_without_schedule_have_text()
+    ensures { (instance : Instance) (found : Found) → IsLawfulInstance instance
+        → CertificateHolds instance (certificate_of instance found) → found.schedule ≡ None
+        → IfSome (tree_bound found.tree) IsMoney
+        → All (λ table. length table.ramps < 10 ^ 18) (used_tables found)
+        → HasText (listing_of (certificate_of instance found)) }
+{}
