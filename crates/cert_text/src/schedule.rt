@@ -3,11 +3,11 @@
 ghost use Rattle.std.specs.Prelude.{◌≡◌};
 ghost use Rattle.uc_model.specs.Decimal.{signed_text};
 ghost use Rattle.branch_tree.specs.Claims.{written_of};
-ghost use Rattle.cert_text.specs.CertificateText.{cell_text, thermal_line, renewable_line};
+ghost use Rattle.cert_text.specs.CertificateText.{cell_text};
 ghost use Rattle.cert_text.specs.WrittenParts.{schedule_part};
 
-use outside::{Form, Out, put_each, put_list_line, put_money_line, put_signed, put_whole};
-use uc_model::{Cell, List, Printed};
+use outside::{Form, Out, RowLine, put_each, put_money_line, put_signed, put_whole};
+use uc_model::{Cell, Printed};
 
 /// A number of any sign.
 #[derive(Clone, Copy)]
@@ -41,30 +41,6 @@ impl Form<Cell> for CellWord {
     }
 }
 
-// The line of a thermal unit's cells.
-#[derive(Clone, Copy)]
-struct ThermalRow;
-
-impl Form<List<Cell>> for ThermalRow {
-    ghost text = { λ _ row. thermal_line row };
-
-    fn put_value<O: Out>(&self, row: &List<Cell>, out: &mut O) {
-        put_list_line(out, b"t", &CellWord, row.as_slice());
-    }
-}
-
-// The line of a renewable unit's outputs.
-#[derive(Clone, Copy)]
-struct RenewableRow;
-
-impl Form<List<i64>> for RenewableRow {
-    ghost text = { λ _ row. renewable_line row };
-
-    fn put_value<O: Out>(&self, row: &List<i64>, out: &mut O) {
-        put_list_line(out, b"w", &Signed, row.as_slice());
-    }
-}
-
 // A schedule with its cost, or that there is none.
 pub(crate) fn put_schedule<O: Out>(out: &mut O, schedule: &Option<(Printed, i64)>)
     ensures { O.emits (schedule_part (written_of schedule.now)) out.old out.new }
@@ -72,8 +48,8 @@ pub(crate) fn put_schedule<O: Out>(out: &mut O, schedule: &Option<(Printed, i64)
     match schedule {
         Some((printed, cost)) => {
             put_money_line(out, b"schedule", &i128::from(*cost));
-            put_each(out, &ThermalRow, printed.thermal.as_slice());
-            put_each(out, &RenewableRow, printed.renewable.as_slice());
+            put_each(out, &RowLine { first: b"t", form: CellWord }, printed.thermal.as_slice());
+            put_each(out, &RowLine { first: b"w", form: Signed }, printed.renewable.as_slice());
         }
         None => out.put(b"schedule none\n"),
     }

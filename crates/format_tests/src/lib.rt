@@ -1,7 +1,15 @@
-//! Tests of the texts that the program reads and writes.
+//! Tests of the public calls of what reads and writes: slots and sinks, JSON, instances, reports and certificates.
 #![tactic(auto)]
 
+#[cfg(test)]
+mod certificates;
+#[cfg(test)]
+mod fixtures;
 #[cfg(test)]
 mod instance;
 #[cfg(test)]
 mod json;
+#[cfg(test)]
+mod reports;
+#[cfg(test)]
+mod slots;

@@ -1,14 +1,15 @@
 //! How the values of a list are put, one after another.
 
-ghost use Rattle.std.specs.Prelude.{ℕ, List, flat_map};
+ghost use Rattle.std.specs.Prelude.{ℕ, List as Sequence, flat_map};
 ghost use Rattle.std.specs.List.{zip};
 ghost use Rattle.outside.specs.Lines.{words_of, list_line};
 
 use crate::out::Out;
+use uc_model::List;
 
 /// A form in which values are put.
 pub trait Form<T> {
-    ghost text: { Self → T → List ℕ };
+    ghost text: { Self → T → Sequence ℕ };
 
     /// Puts a value in this form.
     fn put_value<O: Out>(&self, value: &T, out: &mut O)
@@ -45,7 +46,7 @@ pub fn put_list_line<T, F: Form<T>, O: Out>(out: &mut O, first: &[u8], form: &F,
 
 /// A form in which pairs are put.
 pub trait PairForm<A, B> {
-    ghost text: { Self → A × B → List ℕ };
+    ghost text: { Self → A × B → Sequence ℕ };
 
     /// Puts a pair in this form.
     fn put_pair<O: Out>(&self, first: &A, second: &B, out: &mut O)
@@ -63,5 +64,20 @@ pub fn put_pairs<A, B, F: PairForm<A, B>, O: Out>(
 {
     for index in 0..firsts.len().min(seconds.len()) {
         form.put_pair(&firsts[index], &seconds[index], out);
+    }
+}
+
+/// The line of a row's values in a form, after its first word.
+#[derive(Drop)]
+pub struct RowLine<'a, F> {
+    pub first: &'a [u8],
+    pub form: F,
+}
+
+impl<'a, T, F: Form<T>> Form<List<T>> for RowLine<'a, F> {
+    ghost text = { λ line row. list_line line.first.now (F.text line.form) row };
+
+    fn put_value<O: Out>(&self, row: &List<T>, out: &mut O) {
+        put_list_line(out, self.first, &self.form, row.as_slice());
     }
 }

@@ -39,7 +39,7 @@ pub use fault::Failed;
 pub use faulty_file::FaultyFile;
 pub use faulty_sink::FaultySink;
 pub use files::Files;
-pub use forms::{Form, PairForm, put_each, put_list_line, put_pairs};
+pub use forms::{Form, PairForm, RowLine, put_each, put_list_line, put_pairs};
 pub use gate::{Gate, OpenGate};
 pub use latch::Latch;
 pub use lent::Lent;

@@ -35,10 +35,13 @@ usage_text =
     joined (line (codes "usage: uc solve FILE --cert FILE [--units N] [--workers N] [--gap PPM] [--exact]") []
     ∷ line (codes "       uc check FILE CERT") [] ∷ line (codes "       uc demo SEED") [] ∷ [])
 
+abbrev pub slot_text : Slot → List ℕ
+slot_text slot.Instance = codes "instance"
+slot_text slot.CertIn = codes "certificate"
+slot_text slot.CertOut = codes "certificate"
+
 abbrev pub read_line : Slot → List ℕ
-read_line slot.Instance = line (codes "read failed: instance") []
-read_line slot.CertIn = line (codes "read failed: certificate") []
-read_line slot.CertOut = line (codes "read failed: certificate") []
+read_line slot = joined (codes "read failed: " ∷ slot_text slot ∷ codes "\n" ∷ [])
 
 abbrev pub write_line : Bool → List ℕ
 write_line true = line (codes "write failed: output") []

@@ -4,7 +4,7 @@ ghost use Rattle.std.specs.Prelude.{◌≡◌, ◌∷◌, [], OnOk, OnErr, codes
 ghost use Rattle.outside.specs.Sinks.{SinkWrites, SinkWritesFront};
 ghost use Rattle.outside.specs.Lines.{joined};
 ghost use Rattle.uc_model.specs.Decimal.{whole_text};
-ghost use Rattle.report.specs.FaultText.{usage_text, read_line, write_line, long_line, json_text, field_text, owner_text, entry_text, instance_line, line_fault_text, unit_rule_line, period_rule_line, rule_line, costs_line, refusal_line, fault_text};
+ghost use Rattle.report.specs.FaultText.{usage_text, slot_text, read_line, write_line, long_line, json_text, field_text, owner_text, entry_text, instance_line, line_fault_text, unit_rule_line, period_rule_line, rule_line, costs_line, refusal_line, fault_text};
 
 use crate::fault::Fault;
 use crate::names::put_unit;
@@ -23,13 +23,21 @@ fn put_usage<O: Out>(out: &mut O)
     out.put(b"       uc demo SEED\n");
 }
 
-fn read_failed(slot: &Slot) -> &'static [u8]
-    ensures { result.now ≡ read_line slot.now }
+fn slot_word(slot: &Slot) -> &'static [u8]
+    ensures { result.now ≡ slot_text slot.now }
 {
     match slot {
-        Slot::Instance => b"read failed: instance\n",
-        Slot::CertIn | Slot::CertOut => b"read failed: certificate\n",
+        Slot::Instance => b"instance",
+        Slot::CertIn | Slot::CertOut => b"certificate",
     }
+}
+
+fn put_read<O: Out>(out: &mut O, slot: &Slot)
+    ensures { O.emits (read_line slot.now) out.old out.new }
+{
+    out.put(b"read failed: ");
+    out.put(slot_word(slot));
+    out.put(b"\n");
 }
 
 fn write_failed(output: bool) -> &'static [u8]
@@ -222,7 +230,7 @@ fn put_fault<O: Out>(out: &mut O, fault: &Fault)
 {
     match fault {
         Fault::Words => put_usage(out),
-        Fault::Read(slot) => out.put(read_failed(slot)),
+        Fault::Read(slot) => put_read(out, slot),
         Fault::Write { output } => out.put(write_failed(*output)),
         Fault::Memory => out.put(b"out of memory\n"),
         Fault::Long(slot) => out.put(too_long(slot)),
