@@ -13,6 +13,3 @@ pub use corners::term;
 pub use start_cost::sigma;
 pub use unit_terms::terms;
 pub use walk::{Walk, least};
-
-#[cfg(test)]
-mod tests;

@@ -20,17 +20,3 @@ pub fn cost_less_tolerance_never_decreases()
     ensures { (low high : ℤ) (gap : ℕ) → gap ≤ WHOLE_GAP → low ≤ℤ high
         → (low -ℤ pos (tolerance_of low gap)) ≤ℤ (high -ℤ pos (tolerance_of high gap)) }
 {}
-
-#[cfg(test)]
-mod tests {
-    use super::*;
-
-    #[test]
-    fn rounds_down_the_part_of_the_size(rt: HostRuntime) {
-        assert_eq!(rt; tolerance(300_000_000, 1_000), 300_000);
-        assert_eq!(rt; tolerance(400_000_000, 1), 400);
-        assert_eq!(rt; tolerance(-1_999_999, 1), 1);
-        assert_eq!(rt; tolerance(999_999, 1), 0);
-        assert_eq!(rt; tolerance(i64::MIN, WHOLE_GAP), 1 << 63);
-    }
-}

@@ -2,7 +2,7 @@ use Rattle.std.proofs.Common.{◌∷◌, [], ◌++◌, length, ap, arith}
 use Rattle.std.proofs.lemmas.List.{length-append}
 use Rattle.std.proofs.lemmas.List.Elements.{All-same, All-push}
 use Rattle.dual_model.specs.TableValue.{IsLawfulRow}
-use Rattle.state_walk.proofs.tests.enumeration.rows.Goals as goal
+use Rattle.model_tests.proofs.enumeration.rows.Goals as goal
 
 pub loop-price-preserved : goal.loop-price-preserved
 loop-price-preserved c =

@@ -7,8 +7,8 @@ ghost use Rattle.std.specs.List.{list_all};
 ghost use Rattle.uc_model.specs.Limits.{IsLawfulThermal};
 ghost use Rattle.dual_model.specs.TableValue.{IsLawfulRow};
 
-use crate::{Walk, least, terms};
 use dual_model::Fix;
+use state_walk::{Walk, least, terms};
 use std::alloc::Global;
 use std::process::Abort;
 use std::test::Fail;

@@ -1,6 +1,6 @@
 use Rattle.std.proofs.Common.{◌≡◌, All, length}
 use Rattle.dual_model.specs.TableValue.{IsLawfulRow}
-use Rattle.state_walk.proofs.tests.enumeration.rows.Given as goal
+use Rattle.model_tests.proofs.enumeration.rows.Given as goal
 
 abbrev pub invariant-loop-price : goal.invariant-loop-price
 invariant-loop-price l = record {

@@ -1,0 +1,63 @@
+//! What several tests are made of.
+
+ghost use Rattle.std.specs.Prelude.{◌≡◌, ◌≤◌, ◌&&◌, nat_le, [], ◌∷◌, pos, int_le, IsTrue, IfOk, length};
+ghost use Rattle.std.specs.List.{list_all};
+ghost use Rattle.uc_model.specs.Limits.{IsLawfulThermal};
+
+use std::alloc::Global;
+use std::test::Fail;
+use uc_model::{List, Name, Point, StartRow, Thermal};
+
+/// Dollars in micro-dollars, and megawatts in watts.
+pub(crate) const MILLION: i64 = 1_000_000;
+
+/// What an example changes of the unit of 10 to 50 MW.
+#[derive(Clone, Copy)]
+pub(crate) struct Change {
+    pub(crate) must_run: bool,
+    pub(crate) on0: bool,
+    pub(crate) start_limit: u16,
+    pub(crate) down: u16,
+    pub(crate) down0: u16,
+}
+
+// A unit of 10 to 50 MW at 100 and 500 dollars, on initially at 20 MW or off, with these start categories.
+pub(crate) fn unit(alloc: Global, change: Change, startup: Vec<StartRow>) -> Result<Thermal, Fail>
+    requires rows { IsTrue (list_all (λ row. nat_le row.lag 1000 && (int_le (pos 0) row.cost && int_le row.cost (pos 1000))) startup.items) }
+    requires count { (1 ≤ length startup.items) × (length startup.items ≤ 16) }
+    requires down { 1 ≤ change.down }
+    ensures lawful { IfOk result IsLawfulThermal }
+    ensures points { IfOk result (λ unit. unit.points ≡ record { mw = pos 10000000; cost = pos 100000000 } ∷ record { mw = pos 50000000; cost = pos 500000000 } ∷ []) }
+{
+    let points = Vec::from_array(
+        alloc,
+        [
+            Point {
+                mw: 10 * MILLION,
+                cost: 100 * MILLION,
+            },
+            Point {
+                mw: 50 * MILLION,
+                cost: 500 * MILLION,
+            },
+        ],
+    )?;
+    Ok(Thermal {
+        name: Name::from_string(String::new(alloc)),
+        must_run: change.must_run,
+        pmin: 10 * MILLION,
+        pmax: 50 * MILLION,
+        ru: 40 * MILLION,
+        rd: 40 * MILLION,
+        su: i64::from(change.start_limit) * MILLION,
+        sd: 50 * MILLION,
+        ut: 1,
+        dt: u32::from(change.down),
+        p0: if change.on0 { 20 * MILLION } else { 0 },
+        on0: change.on0,
+        ut0: 1,
+        dt0: u32::from(change.down0),
+        startup: List::from_vec(startup),
+        points: List::from_vec(points),
+    })
+}

@@ -1,0 +1,13 @@
+//! Tests of the public calls of the model, its bounds and the walk.
+#![tactic(auto)]
+
+#[cfg(test)]
+mod enumeration;
+#[cfg(test)]
+mod fixtures;
+#[cfg(test)]
+mod numbers;
+#[cfg(test)]
+mod unit_values;
+#[cfg(test)]
+mod values;
