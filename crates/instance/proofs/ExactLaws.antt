@@ -18,7 +18,7 @@ use Rattle.decimal_json.specs.Value.{Decimal, Value}
 use Rattle.instance.specs.Fields.{key_of, number_in, entries_in, pairs_in, field_of}
 use Rattle.instance.specs.Scaled.{MILLION, scaled, is_rounded}
 use Rattle.instance.specs.InstanceOf.{Pairs, Has, IsObject, IsNumber, IsPowerOf, IsCostOf, IsTimeOf, IsFlagOf, IsPeriodsOf, IsPowersOf, AreRowsOf, IsStartRowOf, IsPointOf, IsLimitOf, IsMinimumTimeOf, IsThermalOf, IsRenewableOf, AreUnitsOf, HasFields, IsInstanceOf}
-use Rattle.instance.specs.Rounded.{rounded_value, rounded_field, entries_field, members_field, rounded_array, rounded_start_row, rounded_point, rounded_startup, rounded_points, rounded_outputs, rounded_ramps, rounded_times, rounded_initial, rounded_thermal, rounded_renewable, rounded_thermal_units, rounded_renewable_units, rounded_totals, rounded_instance}
+use Rattle.instance.specs.Rounded.{members_of_value, rounded_value, rounded_field, entries_field, members_field, rounded_array, rounded_start_row, rounded_point, rounded_startup, rounded_points, rounded_outputs, rounded_ramps, rounded_times, rounded_initial, rounded_thermal, rounded_renewable, rounded_thermal_units, rounded_renewable_units, rounded_totals, rounded_instance}
 
 -- The first holds exactly where the second does with a count of 0.
 record Agree (E F : Type 0) (c : ℕ) : Type 0 where
@@ -134,25 +134,22 @@ rows_agree field most ms R S c a rows =
     (λ vs. sum_by c vs)
     (λ vs. behind_both (1 ≤ length vs) (length vs ≤ most) (all_agree (λ w row. R row w) (λ w row. S row w) c (λ w row. a row w) vs rows))
 
+-- an object of two fields that are numbers
+two_agree : (f g : Field) (A B C D : Value → Type 0) → ((w : Value) → Agree (A w) (B w) (rounded_value w)) → ((w : Value) → Agree (C w) (D w) (rounded_value w))
+    → (v : Value) → Agree (IsObject v (λ ms. Has f ms A × Has g ms C)) (IsObject v (λ ms. Has f ms B × Has g ms D)) (rounded_field f (members_of_value v) + rounded_field g (members_of_value v))
+two_agree f g A B C D a c v =
+    inside_agrees (pairs_in v) (λ ms. Has f ms A × Has g ms C) (λ ms. Has f ms B × Has g ms D) (λ ms. rounded_field f ms + rounded_field g ms)
+    (λ ms. two (field_agrees f ms A B a) (field_agrees g ms C D c))
+
 start_row_agrees : (row : StartRow) (v : Value) → Agree (IsStartRowOf true row v) (IsStartRowOf false row v) (rounded_start_row v)
 unfolding rounded_start_row
 start_row_agrees row v =
-    inside_agrees (pairs_in v)
-    (λ ms. Has StartupLag ms (IsTimeOf true row.lag) × Has StartupCost ms (IsCostOf true row.cost))
-    (λ ms. Has StartupLag ms (IsTimeOf false row.lag) × Has StartupCost ms (IsCostOf false row.cost))
-    (λ ms. rounded_field StartupLag ms + rounded_field StartupCost ms)
-    (λ ms. two (field_agrees StartupLag ms (IsTimeOf true row.lag) (IsTimeOf false row.lag) (λ w. time_agrees row.lag w))
-    (field_agrees StartupCost ms (IsCostOf true row.cost) (IsCostOf false row.cost) (λ w. cost_agrees row.cost w)))
+    two_agree StartupLag StartupCost (IsTimeOf true row.lag) (IsTimeOf false row.lag) (IsCostOf true row.cost) (IsCostOf false row.cost) (λ w. time_agrees row.lag w) (λ w. cost_agrees row.cost w) v
 
 point_agrees : (point : Point) (v : Value) → Agree (IsPointOf true point v) (IsPointOf false point v) (rounded_point v)
 unfolding rounded_point
 point_agrees point v =
-    inside_agrees (pairs_in v)
-    (λ ms. Has PiecewiseProductionMw ms (IsPowerOf true point.mw) × Has PiecewiseProductionCost ms (IsCostOf true point.cost))
-    (λ ms. Has PiecewiseProductionMw ms (IsPowerOf false point.mw) × Has PiecewiseProductionCost ms (IsCostOf false point.cost))
-    (λ ms. rounded_field PiecewiseProductionMw ms + rounded_field PiecewiseProductionCost ms)
-    (λ ms. two (field_agrees PiecewiseProductionMw ms (IsPowerOf true point.mw) (IsPowerOf false point.mw) (λ w. power_agrees point.mw w))
-    (field_agrees PiecewiseProductionCost ms (IsCostOf true point.cost) (IsCostOf false point.cost) (λ w. cost_agrees point.cost w)))
+    two_agree PiecewiseProductionMw PiecewiseProductionCost (IsPowerOf true point.mw) (IsPowerOf false point.mw) (IsCostOf true point.cost) (IsCostOf false point.cost) (λ w. power_agrees point.mw w) (λ w. cost_agrees point.cost w) v
 
 startup_agrees : (ms : Pairs) (rows : List StartRow)
     → Agree (Has Startup ms (AreRowsOf MAX_START_ROWS (IsStartRowOf true) rows)) (Has Startup ms (AreRowsOf MAX_START_ROWS (IsStartRowOf false) rows)) (rounded_startup ms)

@@ -1,6 +1,7 @@
 pub mod Views
 pub mod Sizes
 pub mod Lists
+pub mod Loops
 pub mod Steps
 pub mod NumberLaws
 pub mod EachLaws

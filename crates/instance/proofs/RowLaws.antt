@@ -158,12 +158,19 @@ rows_again field most ms P h = rows_found field most P (field_of (key_of field) 
 
 -- ---- a row
 
+abbrev start_read : Bool → List StartRow → Pairs → Result StartRow Refusal
+start_read exact front ms = (field_at (next_entry StartupLag front) ms >>= time_at exact (next_entry StartupLag front)) >>= λ lag.
+    (field_at (next_entry StartupCost front) ms >>= cost_at exact (next_entry StartupCost front)) >>= λ cost. Ok (record { lag = lag; cost = cost })
+
+abbrev point_read : Bool → List Point → Pairs → Result Point Refusal
+point_read exact front ms = (field_at (next_entry PiecewiseProductionMw front) ms >>= power_from exact (next_entry PiecewiseProductionMw front) (last_output front)) >>= λ mw.
+    (field_at (next_entry PiecewiseProductionCost front) ms >>= cost_at exact (next_entry PiecewiseProductionCost front)) >>= λ cost. Ok (record { mw = mw; cost = cost })
+
 start_row_is : (exact : Bool) (front : List StartRow) (v : Value) (row : StartRow) → start_row exact front v ≡ Ok row → IsStartRowOf exact row v
 unfolding start_row
 start_row_is exact front v row e =
     wanted_is 2 (next_entry Startup front) (pairs_in v)
-    (λ ms. (field_at (next_entry StartupLag front) ms >>= time_at exact (next_entry StartupLag front)) >>= λ lag.
-    (field_at (next_entry StartupCost front) ms >>= cost_at exact (next_entry StartupCost front)) >>= λ cost. Ok (record { lag = lag; cost = cost }))
+    (start_read exact front)
     (λ ms. Has StartupLag ms (IsTimeOf exact row.lag) × Has StartupCost ms (IsCostOf exact row.cost)) row
     (λ ms read.
     let a = two_ok (field_at (next_entry StartupLag front) ms >>= time_at exact (next_entry StartupLag front)) (field_at (next_entry StartupCost front) ms >>= cost_at exact (next_entry StartupCost front))
@@ -178,8 +185,7 @@ start_row_again : (exact : Bool) (front : List StartRow) (v : Value) (row : Star
 unfolding start_row
 start_row_again exact front v row h =
     wanted_again 2 (next_entry Startup front) (pairs_in v)
-    (λ ms. (field_at (next_entry StartupLag front) ms >>= time_at exact (next_entry StartupLag front)) >>= λ lag.
-    (field_at (next_entry StartupCost front) ms >>= cost_at exact (next_entry StartupCost front)) >>= λ cost. Ok (record { lag = lag; cost = cost }))
+    (start_read exact front)
     (λ ms. Has StartupLag ms (IsTimeOf exact row.lag) × Has StartupCost ms (IsCostOf exact row.cost)) row
     (λ ms is.
     let lag = field_again (next_entry StartupLag front) ms (time_at exact (next_entry StartupLag front)) (IsTimeOf exact row.lag) row.lag (λ w. time_again exact (next_entry StartupLag front) w row.lag) is.0 in
@@ -191,8 +197,7 @@ point_row_is : (exact : Bool) (front : List Point) (v : Value) (p : Point) → p
 unfolding point_row
 point_row_is exact front v p e =
     let o = bind_ok (object_at (next_entry PiecewiseProduction front) v)
-    (λ ms. (field_at (next_entry PiecewiseProductionMw front) ms >>= power_from exact (next_entry PiecewiseProductionMw front) (last_output front)) >>= λ mw.
-    (field_at (next_entry PiecewiseProductionCost front) ms >>= cost_at exact (next_entry PiecewiseProductionCost front)) >>= λ cost. Ok (record { mw = mw; cost = cost })) p e in
+    (point_read exact front) p e in
     let a = two_ok (field_at (next_entry PiecewiseProductionMw front) o.0 >>= power_from exact (next_entry PiecewiseProductionMw front) (last_output front)) (field_at (next_entry PiecewiseProductionCost front) o.0 >>= cost_at exact (next_entry PiecewiseProductionCost front))
     (λ mw cost. record { mw = mw; cost = cost }) p o.2 in
     let found = bind_ok (field_at (next_entry PiecewiseProductionMw front) o.0) (power_from exact (next_entry PiecewiseProductionMw front) (last_output front)) a.0 a.2 in
@@ -209,8 +214,7 @@ point_row_again : (exact : Bool) (front : List Point) (v : Value) (p : Point) �
 unfolding point_row
 point_row_again exact front v p h up =
     wanted_again 2 (next_entry PiecewiseProduction front) (pairs_in v)
-    (λ ms. (field_at (next_entry PiecewiseProductionMw front) ms >>= power_from exact (next_entry PiecewiseProductionMw front) (last_output front)) >>= λ mw.
-    (field_at (next_entry PiecewiseProductionCost front) ms >>= cost_at exact (next_entry PiecewiseProductionCost front)) >>= λ cost. Ok (record { mw = mw; cost = cost }))
+    (point_read exact front)
     (λ ms. Has PiecewiseProductionMw ms (IsPowerOf exact p.mw) × Has PiecewiseProductionCost ms (IsCostOf exact p.cost)) p
     (λ ms is.
     let mw = field_again (next_entry PiecewiseProductionMw front) ms (power_from exact (next_entry PiecewiseProductionMw front) (last_output front)) (IsPowerOf exact p.mw) p.mw

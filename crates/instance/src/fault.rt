@@ -1,8 +1,8 @@
 //! Why a value has no instance.
 
 ghost use Rattle.std.specs.Prelude.{◌≡◌, ◌+◌, ◌<◌};
+ghost use Rattle.uc_model.specs.declared.limits.TheConstants.{MAX_PERIODS};
 ghost use Rattle.instance.specs.FirstFault.{whole, entry_of, refusal};
-ghost use Rattle.instance.specs.inside.Parts.{MOST_ENTRIES};
 
 use std::alloc::{AllocError, AllocFailed};
 use uc_model::{Field, FieldRefusal};
@@ -78,7 +78,7 @@ impl Place {
 
     /// The entry of a field at an index.
     pub(crate) fn entry(field: Field, index: usize) -> Self
-        requires { index < MOST_ENTRIES }
+        requires { index < MAX_PERIODS }
         ensures { result ≡ entry_of field (index + 1) }
     {
         Place {

@@ -1,11 +1,11 @@
 //! A value with its place, so that a fault in it can be told.
 
 ghost use Rattle.std.specs.Prelude.{◌≡◌, ◌≤◌, length, take, map, IfOk};
+ghost use Rattle.uc_model.specs.declared.limits.TheConstants.{MAX_UNITS};
 ghost use Rattle.decimal_json.specs.View.{view, pair_view};
 ghost use Rattle.instance.specs.FirstFault.{whole, field_at, object_at, array_at, entries_at, rows_at, units_at};
 ghost use Rattle.instance.specs.Rounded.{entries_field, members_field};
 ghost use Rattle.instance.specs.Answer.{Gives};
-ghost use Rattle.instance.specs.inside.Parts.{MOST_ENTRIES};
 
 use crate::fault::{MISSING, OTHER_KIND, OUT_OF_RANGE, Place, PlacedFault, TOO_MANY, TOO_SHORT};
 use crate::key::key;
@@ -101,7 +101,7 @@ pub(crate) fn rows(members: &[Pair], field: Field, most: usize) -> Result<&[Json
 pub(crate) fn units(members: &[Pair], field: Field) -> Result<&[Pair], PlacedFault>
     ensures read { Gives (λ ms. map pair_view ms.now) result (units_at field (map pair_view members.now)) }
     ensures listed { IfOk result (λ ms. map pair_view ms.now ≡ members_field field (map pair_view members.now)) }
-    ensures length { IfOk result (λ ms. length ms.now ≤ MOST_ENTRIES) }
+    ensures length { IfOk result (λ ms. length ms.now ≤ MAX_UNITS) }
 {
     let place = Place::whole(field);
     let units = field_at(members, place)?.object()?;

@@ -1,5 +1,6 @@
 -- What a part of the reader answers beside what it reads, and how many numbers a part may have.
-use Rattle.std.specs.Prelude.{◌≡◌, ℕ, ◌+◌, ◌≤◌, Bool, List, Result, Ok, Err}
+use Rattle.std.specs.Prelude.{◌≡◌, ℕ, ◌+◌, ◌*◌, ◌≤◌, Bool, List, Result, Ok, Err}
+use Rattle.uc_model.specs.declared.limits.TheConstants.{MAX_PERIODS, MAX_POINTS, MAX_START_ROWS}
 use Rattle.uc_model.specs.declared.field_refusal.FieldRefusal.{FieldRefusal}
 use Rattle.decimal_json.specs.Value.{Decimal}
 use Rattle.instance.specs.declared.fault.Fault.{Fault}
@@ -29,36 +30,23 @@ IsInUnit kind unit fault NoMemory = Unit {0}
 IsInUnit kind unit NoMemory (Refused told) = ⊥
 IsInUnit kind unit (Refused e) (Refused told) = told ≡ with_unit kind unit e
 
--- ---- the most that a file within the limits has
+-- ---- the most numbers that are read of a part of a file within the limits
 
--- periods
-abbrev pub MOST_PERIODS : ℕ
-MOST_PERIODS = 168
-
--- entries of an array, and units
-abbrev pub MOST_ENTRIES : ℕ
-MOST_ENTRIES = 4096
-
--- rows of startup, and of piecewise_production
-abbrev pub MOST_START_ROWS : ℕ
-MOST_START_ROWS = 16
-
-abbrev pub MOST_POINTS : ℕ
-MOST_POINTS = 64
-
--- numbers in a unit: two in a row and two in a point, 13 fields, and two for each period
+-- two in each row, and in each point
 abbrev pub START_NUMBERS : ℕ
-START_NUMBERS = 32
+START_NUMBERS = 2 * MAX_START_ROWS
 
 abbrev pub POINT_NUMBERS : ℕ
-POINT_NUMBERS = 128
+POINT_NUMBERS = 2 * MAX_POINTS
 
+-- 13 fields, the rows and the points
 abbrev pub THERMAL_NUMBERS : ℕ
-THERMAL_NUMBERS = 173
+THERMAL_NUMBERS = 13 + START_NUMBERS + POINT_NUMBERS
 
+-- two for each period
 abbrev pub RENEWABLE_NUMBERS : ℕ
-RENEWABLE_NUMBERS = 336
+RENEWABLE_NUMBERS = 2 * MAX_PERIODS
 
--- numbers in the fields of the whole system: the periods, and two for each
+-- the periods, and two for each
 abbrev pub TOTAL_NUMBERS : ℕ
-TOTAL_NUMBERS = 337
+TOTAL_NUMBERS = 1 + 2 * MAX_PERIODS

@@ -2,12 +2,13 @@
 
 ghost use Rattle.std.specs.Prelude.{◌≡◌, ◌+◌, ◌<◌, ◌≤◌, ◌^◌, [], length, map, sum_by, OnOk, IfOk, pos, vec_len};
 ghost use Rattle.std.specs.Int.{int_max};
+ghost use Rattle.uc_model.specs.declared.limits.TheConstants.{MAX_PERIODS};
 ghost use Rattle.decimal_json.specs.View.{view, pair_view};
 ghost use Rattle.uc_model.specs.declared.field.Field.TheVariants.{PowerOutputMaximum};
 ghost use Rattle.instance.specs.FirstFault.{each_at, power_entry, powers_at, maximum_entry, maxima_at};
 ghost use Rattle.instance.specs.Rounded.{rounded_value, rounded_array};
 ghost use Rattle.instance.specs.Answer.{Gives};
-ghost use Rattle.instance.specs.inside.Parts.{Counts, MOST_PERIODS};
+ghost use Rattle.instance.specs.inside.Parts.{Counts};
 
 use crate::fault::{Place, PlacedFault};
 use crate::placed::{self, PlacedValue};
@@ -15,6 +16,7 @@ use crate::reader::Reader;
 use decimal_json::{Json, Pair};
 use std::alloc::Global;
 use uc_model::Field;
+use uc_model::limits::MAX_POWER;
 
 impl Reader {
     /// The powers that entries are.
@@ -25,7 +27,7 @@ impl Reader {
         entries: &[Json],
         field: Field,
     ) -> Result<Vec<i64>, PlacedFault>
-        requires few { length entries.now ≤ MOST_PERIODS }
+        requires few { length entries.now ≤ MAX_PERIODS }
         requires room { self.old.rounded + length entries.now < 2 ^ 64 }
         ensures read { Gives (λ zs. zs.items) result (each_at (power_entry self.old.exact field) [] (map view entries.now)) }
         ensures counted { OnOk result (Counts self.old self.new (sum_by rounded_value (map view entries.now)) (length entries.now)) }
@@ -34,7 +36,7 @@ impl Reader {
         let mut powers = Vec::new(alloc);
         for (index, value) in entries.iter().enumerate() {
             let place = Place::entry(field, index);
-            powers.push(self.power(PlacedValue { value, place })?)?;
+            powers.push(self.amount(PlacedValue { value, place }, MAX_POWER)?)?;
         }
         Ok(powers)
     }
@@ -48,7 +50,7 @@ impl Reader {
         field: Field,
         periods: u32,
     ) -> Result<Vec<i64>, PlacedFault>
-        requires few { periods ≤ MOST_PERIODS }
+        requires few { periods ≤ MAX_PERIODS }
         requires room { self.old.rounded + periods < 2 ^ 64 }
         ensures read { Gives (λ zs. zs.items) result (powers_at self.old.exact field periods (map pair_view members.now)) }
         ensures counted { OnOk result (Counts self.old self.new (rounded_array field periods (map pair_view members.now)) periods) }
@@ -66,7 +68,7 @@ impl Reader {
         entries: &[Json],
         minimum: &[i64],
     ) -> Result<Vec<i64>, PlacedFault>
-        requires few { length entries.now ≤ MOST_PERIODS }
+        requires few { length entries.now ≤ MAX_PERIODS }
         requires all { length minimum.now ≡ length entries.now }
         requires room { self.old.rounded + length entries.now < 2 ^ 64 }
         ensures read { Gives (λ zs. zs.items) result (each_at (maximum_entry self.old.exact minimum.now) [] (map view entries.now)) }
@@ -89,7 +91,7 @@ impl Reader {
         members: &[Pair],
         minimum: &[i64],
     ) -> Result<Vec<i64>, PlacedFault>
-        requires few { length minimum.now ≤ MOST_PERIODS }
+        requires few { length minimum.now ≤ MAX_PERIODS }
         requires room { self.old.rounded + length minimum.now < 2 ^ 64 }
         ensures read { Gives (λ zs. zs.items) result (maxima_at self.old.exact (length minimum.now) minimum.now (map pair_view members.now)) }
         ensures counted { OnOk result (Counts self.old self.new (rounded_array PowerOutputMaximum (length minimum.now) (map pair_view members.now)) (length minimum.now)) }

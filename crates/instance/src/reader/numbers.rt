@@ -1,13 +1,13 @@
 //! The numbers of an instance: powers, costs, times, flags and the number of periods.
 
 ghost use Rattle.std.specs.Prelude.{◌≡◌, ◌+◌, ◌<◌, ◌≤◌, ◌^◌, ◌&&◌, nat_lt, OnOk, IfOk};
-ghost use Rattle.uc_model.specs.declared.limits.TheConstants.{MAX_POWER};
+ghost use Rattle.uc_model.specs.declared.limits.TheConstants.{MAX_POWER, MAX_PERIODS};
 ghost use Rattle.decimal_json.specs.View.{view, decimal_of};
-ghost use Rattle.instance.specs.FirstFault.{number_at, amount_at, power_at, power_from, cost_at, whole_at, time_at, flag_at, periods_at};
+ghost use Rattle.instance.specs.FirstFault.{number_at, amount_at, power_from, whole_at, time_at, flag_at, periods_at};
 ghost use Rattle.instance.specs.Rounded.{rounded_value};
 ghost use Rattle.instance.specs.Scaled.{signed};
 ghost use Rattle.instance.specs.Answer.{Gives};
-ghost use Rattle.instance.specs.inside.Parts.{HoldsWhole, Counts, MOST_PERIODS};
+ghost use Rattle.instance.specs.inside.Parts.{HoldsWhole, Counts};
 
 use crate::fault::{
     NOT_WHOLE, OTHER_KIND, OUT_OF_RANGE, PAST_LIMIT, PlacedFault, ROUNDED, TOO_MANY,
@@ -17,7 +17,7 @@ use crate::placed::PlacedValue;
 use crate::reader::Reader;
 use crate::scaled::{MILLION, rounds, scaled_size};
 use decimal_json::Number;
-use uc_model::limits::{MAX_COST, MAX_PERIODS, MAX_POWER, MAX_TIME};
+use uc_model::limits::{MAX_PERIODS, MAX_POWER, MAX_TIME};
 
 impl Reader {
     /// A number of any size.
@@ -41,7 +41,7 @@ impl Reader {
 
     /// A power in watts or a cost in micro-dollars, of a size up to the most.
     #[tactic(auto, unfolding(crate::specs::FirstFault::amount_at))]
-    fn amount(&mut self, placed: PlacedValue<'_>, most: u64) -> Result<i64, PlacedFault>
+    pub(crate) fn amount(&mut self, placed: PlacedValue<'_>, most: u64) -> Result<i64, PlacedFault>
         requires room { self.old.rounded + 1 < 2 ^ 64 }
         requires few { most ≤ MAX_POWER }
         ensures read { Gives (λ z. z) result (amount_at most self.old.exact placed.entry.place (view placed.entry.value.now)) }
@@ -55,15 +55,6 @@ impl Reader {
         Ok(signed(number.negative, size))
     }
 
-    /// A power in watts.
-    pub(crate) fn power(&mut self, placed: PlacedValue<'_>) -> Result<i64, PlacedFault>
-        requires { self.old.rounded + 1 < 2 ^ 64 }
-        ensures read { Gives (λ z. z) result (power_at self.old.exact placed.entry.place (view placed.entry.value.now)) }
-        ensures counted { OnOk result (Counts self.old self.new (rounded_value (view placed.entry.value.now)) 1) }
-    {
-        self.amount(placed, MAX_POWER)
-    }
-
     /// A power in watts, no less than another one.
     #[tactic(auto, unfolding(crate::specs::FirstFault::power_from))]
     pub(crate) fn power_from(
@@ -75,20 +66,11 @@ impl Reader {
         ensures read { Gives (λ z. z) result (power_from self.old.exact placed.entry.place least (view placed.entry.value.now)) }
         ensures counted { OnOk result (Counts self.old self.new (rounded_value (view placed.entry.value.now)) 1) }
     {
-        let power = self.power(placed)?;
+        let power = self.amount(placed, MAX_POWER)?;
         if power < least {
             return Err(placed.place.refused(OUT_OF_RANGE));
         }
         Ok(power)
-    }
-
-    /// A cost in micro-dollars.
-    pub(crate) fn cost(&mut self, placed: PlacedValue<'_>) -> Result<i64, PlacedFault>
-        requires { self.old.rounded + 1 < 2 ^ 64 }
-        ensures read { Gives (λ z. z) result (cost_at self.old.exact placed.entry.place (view placed.entry.value.now)) }
-        ensures counted { OnOk result (Counts self.old self.new (rounded_value (view placed.entry.value.now)) 1) }
-    {
-        self.amount(placed, MAX_COST)
     }
 
     /// A time in hours.
@@ -125,7 +107,7 @@ impl Reader {
         requires { self.old.rounded + 1 < 2 ^ 64 }
         ensures read { Gives (λ t. t) result (periods_at self.old.exact placed.entry.place (view placed.entry.value.now)) }
         ensures counted { OnOk result (Counts self.old self.new (rounded_value (view placed.entry.value.now)) 1) }
-        ensures most { IfOk result (λ t. t ≤ MOST_PERIODS) }
+        ensures most { IfOk result (λ t. t ≤ MAX_PERIODS) }
     {
         let (negative, periods) = self.whole(placed)?;
         if negative || periods == 0 {

@@ -1,11 +1,12 @@
 //! Renewable units.
 
 ghost use Rattle.std.specs.Prelude.{◌≡◌, ◌+◌, ◌*◌, ◌<◌, ◌≤◌, ◌^◌, OnOk};
+ghost use Rattle.uc_model.specs.declared.limits.TheConstants.{MAX_PERIODS};
 ghost use Rattle.decimal_json.specs.View.{view};
 ghost use Rattle.instance.specs.FirstFault.{renewable_at};
 ghost use Rattle.instance.specs.Rounded.{rounded_renewable};
 ghost use Rattle.instance.specs.Answer.{Gives};
-ghost use Rattle.instance.specs.inside.Parts.{Counts, MOST_PERIODS, RENEWABLE_NUMBERS};
+ghost use Rattle.instance.specs.inside.Parts.{Counts, RENEWABLE_NUMBERS};
 
 use crate::fault::{Place, PlacedFault};
 use crate::placed::PlacedValue;
@@ -24,7 +25,7 @@ impl Reader {
         name: &str,
         value: &Json,
     ) -> Result<Renewable, PlacedFault>
-        requires few { periods ≤ MOST_PERIODS }
+        requires few { periods ≤ MAX_PERIODS }
         requires room { self.old.rounded + RENEWABLE_NUMBERS < 2 ^ 64 }
         ensures read { Gives (λ unit. unit) result (renewable_at self.old.exact periods name.now (view value.now)) }
         ensures counted { OnOk result (Counts self.old self.new (rounded_renewable periods (view value.now)) RENEWABLE_NUMBERS) }

@@ -3,19 +3,20 @@
 ghost use Rattle.std.specs.Prelude.{◌≡◌, ◌+◌, ◌*◌, ◌<◌, ◌≤◌, ◌^◌, [], length, map, sum_by, OnOk, List};
 ghost use Rattle.uc_model.specs.declared.instance.Point.{Point};
 ghost use Rattle.uc_model.specs.declared.instance.StartRow.{StartRow};
+ghost use Rattle.uc_model.specs.declared.limits.TheConstants.{MAX_START_ROWS, MAX_POINTS};
 ghost use Rattle.decimal_json.specs.View.{view, pair_view};
 ghost use Rattle.instance.specs.FirstFault.{each_at, start_row, point_row, startup_at, points_at};
 ghost use Rattle.instance.specs.Points.{last_output};
 ghost use Rattle.instance.specs.Rounded.{rounded_start_row, rounded_point, rounded_startup, rounded_points};
 ghost use Rattle.instance.specs.Answer.{Gives};
-ghost use Rattle.instance.specs.inside.Parts.{Counts, MOST_START_ROWS, MOST_POINTS, START_NUMBERS, POINT_NUMBERS};
+ghost use Rattle.instance.specs.inside.Parts.{Counts, START_NUMBERS, POINT_NUMBERS};
 
 use crate::fault::{Place, PlacedFault};
 use crate::placed::{self, PlacedValue};
 use crate::reader::Reader;
 use decimal_json::{Json, Pair};
 use std::alloc::Global;
-use uc_model::limits::{MAX_POINTS, MAX_POWER, MAX_START_ROWS};
+use uc_model::limits::{MAX_COST, MAX_POINTS, MAX_POWER, MAX_START_ROWS};
 use uc_model::{Field, Point, StartRow};
 
 impl Reader {
@@ -51,7 +52,7 @@ impl Reader {
 
     #[tactic(auto, unfolding(crate::specs::FirstFault::each_at))]
     fn start_rows(&mut self, alloc: Global, rows: &[Json]) -> Result<Vec<StartRow>, PlacedFault>
-        requires few { length rows.now ≤ MOST_START_ROWS }
+        requires few { length rows.now ≤ MAX_START_ROWS }
         requires room { self.old.rounded + 2 * length rows.now < 2 ^ 64 }
         ensures read { Gives (λ rows. rows.items) result (each_at (start_row self.old.exact) [] (map view rows.now)) }
         ensures counted { OnOk result (Counts self.old self.new (sum_by rounded_start_row (map view rows.now)) (2 * length rows.now)) }
@@ -65,7 +66,7 @@ impl Reader {
 
     #[tactic(auto, unfolding(crate::specs::FirstFault::start_row, crate::specs::Rounded::rounded_start_row, crate::specs::Rounded::rounded_field))]
     fn start_row(&mut self, row: &Json, index: usize) -> Result<StartRow, PlacedFault>
-        requires few { index < MOST_START_ROWS }
+        requires few { index < MAX_START_ROWS }
         requires room { self.old.rounded + 2 < 2 ^ 64 }
         ensures read { (front : List StartRow) → length front ≡ index → Gives (λ r. r) result (start_row self.old.exact front (view row.now)) }
         ensures counted { OnOk result (Counts self.old self.new (rounded_start_row (view row.now)) 2) }
@@ -73,13 +74,14 @@ impl Reader {
         let place = Place::entry(Field::Startup, index);
         let members = PlacedValue { value: row, place }.object()?;
         let lag = self.time(placed::field_at(members, Place::entry(Field::StartupLag, index))?)?;
-        let cost = self.cost(placed::field_at(members, Place::entry(Field::StartupCost, index))?)?;
+        let cost = placed::field_at(members, Place::entry(Field::StartupCost, index))?;
+        let cost = self.amount(cost, MAX_COST)?;
         Ok(StartRow { lag, cost })
     }
 
     #[tactic(auto, unfolding(crate::specs::FirstFault::each_at))]
     fn point_rows(&mut self, alloc: Global, rows: &[Json]) -> Result<Vec<Point>, PlacedFault>
-        requires few { length rows.now ≤ MOST_POINTS }
+        requires few { length rows.now ≤ MAX_POINTS }
         requires room { self.old.rounded + 2 * length rows.now < 2 ^ 64 }
         ensures read { Gives (λ rows. rows.items) result (each_at (point_row self.old.exact) [] (map view rows.now)) }
         ensures counted { OnOk result (Counts self.old self.new (sum_by rounded_point (map view rows.now)) (2 * length rows.now)) }
@@ -96,7 +98,7 @@ impl Reader {
 
     #[tactic(auto, unfolding(crate::specs::FirstFault::point_row, crate::specs::Rounded::rounded_point, crate::specs::Rounded::rounded_field))]
     fn point(&mut self, row: &Json, index: usize, least: i64) -> Result<Point, PlacedFault>
-        requires few { index < MOST_POINTS }
+        requires few { index < MAX_POINTS }
         requires room { self.old.rounded + 2 < 2 ^ 64 }
         ensures read { (front : List Point) → length front ≡ index → last_output front ≡ least → Gives (λ p. p) result (point_row self.old.exact front (view row.now)) }
         ensures counted { OnOk result (Counts self.old self.new (rounded_point (view row.now)) 2) }
@@ -106,7 +108,7 @@ impl Reader {
         let output = placed::field_at(members, Place::entry(Field::PiecewiseProductionMw, index))?;
         let mw = self.power_from(output, least)?;
         let cost = placed::field_at(members, Place::entry(Field::PiecewiseProductionCost, index))?;
-        let cost = self.cost(cost)?;
+        let cost = self.amount(cost, MAX_COST)?;
         Ok(Point { mw, cost })
     }
 }

@@ -12,6 +12,7 @@ use crate::placed::{PlacedValue, field};
 use crate::reader::Reader;
 use decimal_json::{Json, Pair};
 use std::alloc::Global;
+use uc_model::limits::MAX_POWER;
 use uc_model::{Field, List, Name, Thermal};
 
 /// Whether a unit must run, and its least and greatest output in watts.
@@ -137,7 +138,7 @@ impl Reader {
         ensures read { Gives (λ x. x) result (initial_at self.old.exact (map pair_view members.now)) }
         ensures counted { OnOk result (Counts self.old self.new (rounded_initial (map pair_view members.now)) 4) }
     {
-        let output = self.power(field(members, Field::PowerOutputT0)?)?;
+        let output = self.amount(field(members, Field::PowerOutputT0)?, MAX_POWER)?;
         let on = self.flag(field(members, Field::UnitOnT0)?)?;
         let up = self.time(field(members, Field::TimeUpT0)?)?;
         let down = self.time(field(members, Field::TimeDownT0)?)?;

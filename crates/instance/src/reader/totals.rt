@@ -1,11 +1,12 @@
 //! The fields of the whole system: its periods, demand and reserves.
 
 ghost use Rattle.std.specs.Prelude.{◌≡◌, ◌+◌, ◌<◌, ◌≤◌, ◌^◌, map, OnOk, IfOk};
+ghost use Rattle.uc_model.specs.declared.limits.TheConstants.{MAX_PERIODS};
 ghost use Rattle.decimal_json.specs.View.{pair_view};
 ghost use Rattle.instance.specs.FirstFault.{totals_at};
 ghost use Rattle.instance.specs.Rounded.{rounded_totals};
 ghost use Rattle.instance.specs.Answer.{Gives};
-ghost use Rattle.instance.specs.inside.Parts.{Counts, MOST_PERIODS, TOTAL_NUMBERS};
+ghost use Rattle.instance.specs.inside.Parts.{Counts, TOTAL_NUMBERS};
 
 use crate::fault::PlacedFault;
 use crate::placed::field;
@@ -28,7 +29,7 @@ impl Reader {
         requires { self.old.rounded + TOTAL_NUMBERS < 2 ^ 64 }
         ensures read { Gives (λ x. x) result (totals_at self.old.exact (map pair_view members.now)) }
         ensures counted { IfOk result (λ x. Counts self.old self.new (rounded_totals x.periods (map pair_view members.now)) TOTAL_NUMBERS) }
-        ensures few { IfOk result (λ x. x.periods ≤ MOST_PERIODS) }
+        ensures few { IfOk result (λ x. x.periods ≤ MAX_PERIODS) }
     {
         let periods = self.periods(field(members, Field::TimePeriods)?)?;
         let demand = self.powers(alloc, members, Field::Demand, periods)?;

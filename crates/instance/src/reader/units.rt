@@ -1,13 +1,14 @@
 //! The units of an instance, in the order of the file.
 
 ghost use Rattle.std.specs.Prelude.{◌≡◌, ◌+◌, ◌*◌, ◌<◌, ◌≤◌, ◌^◌, ℕ, List, [], length, map, sum_by, OnOk};
+ghost use Rattle.uc_model.specs.declared.limits.TheConstants.{MAX_PERIODS, MAX_UNITS};
 ghost use Rattle.decimal_json.specs.Value.{Value};
 ghost use Rattle.decimal_json.specs.View.{pair_view};
 ghost use Rattle.instance.specs.FirstFault.{each_at, thermal_member, renewable_member, thermal_units_at, renewable_units_at};
 ghost use Rattle.instance.specs.Rounded.{rounded_thermal, rounded_renewable, rounded_thermal_units, rounded_renewable_units};
 ghost use Rattle.instance.specs.Answer.{Gives};
 ghost use Rattle.instance.specs.Codes.{NO_UNIT};
-ghost use Rattle.instance.specs.inside.Parts.{IsInUnit, Counts, MOST_PERIODS, MOST_ENTRIES, THERMAL_NUMBERS, RENEWABLE_NUMBERS};
+ghost use Rattle.instance.specs.inside.Parts.{IsInUnit, Counts, THERMAL_NUMBERS, RENEWABLE_NUMBERS};
 
 use crate::fault::{Fault, InstanceFault, NO_UNIT, PlacedFault, RENEWABLE, Refusal, THERMAL};
 use crate::placed;
@@ -23,9 +24,9 @@ impl Reader {
         alloc: Global,
         members: &[Pair],
     ) -> Result<Vec<Thermal>, InstanceFault>
-        requires { self.old.rounded + THERMAL_NUMBERS * MOST_ENTRIES < 2 ^ 64 }
+        requires { self.old.rounded + THERMAL_NUMBERS * MAX_UNITS < 2 ^ 64 }
         ensures read { Gives (λ us. us.items) result (thermal_units_at self.old.exact (map pair_view members.now)) }
-        ensures counted { OnOk result (Counts self.old self.new (rounded_thermal_units (map pair_view members.now)) (THERMAL_NUMBERS * MOST_ENTRIES)) }
+        ensures counted { OnOk result (Counts self.old self.new (rounded_thermal_units (map pair_view members.now)) (THERMAL_NUMBERS * MAX_UNITS)) }
     {
         match placed::units(members, Field::ThermalGenerators) {
             Ok(units) => self.thermal_list(alloc, units),
@@ -40,10 +41,10 @@ impl Reader {
         members: &[Pair],
         periods: u32,
     ) -> Result<Vec<Renewable>, InstanceFault>
-        requires few { periods ≤ MOST_PERIODS }
-        requires room { self.old.rounded + RENEWABLE_NUMBERS * MOST_ENTRIES < 2 ^ 64 }
+        requires few { periods ≤ MAX_PERIODS }
+        requires room { self.old.rounded + RENEWABLE_NUMBERS * MAX_UNITS < 2 ^ 64 }
         ensures read { Gives (λ us. us.items) result (renewable_units_at self.old.exact periods (map pair_view members.now)) }
-        ensures counted { OnOk result (Counts self.old self.new (rounded_renewable_units periods (map pair_view members.now)) (RENEWABLE_NUMBERS * MOST_ENTRIES)) }
+        ensures counted { OnOk result (Counts self.old self.new (rounded_renewable_units periods (map pair_view members.now)) (RENEWABLE_NUMBERS * MAX_UNITS)) }
     {
         match placed::units(members, Field::RenewableGenerators) {
             Ok(units) => self.renewable_list(alloc, units, periods),
@@ -57,7 +58,7 @@ impl Reader {
         alloc: Global,
         members: &[Pair],
     ) -> Result<Vec<Thermal>, InstanceFault>
-        requires few { length members.now ≤ MOST_ENTRIES }
+        requires few { length members.now ≤ MAX_UNITS }
         requires room { self.old.rounded + THERMAL_NUMBERS * length members.now < 2 ^ 64 }
         ensures read { Gives (λ us. us.items) result (each_at (thermal_member self.old.exact) [] (map pair_view members.now)) }
         ensures counted { OnOk result (Counts self.old self.new (sum_by (λ (m : List ℕ × Value). rounded_thermal m.1) (map pair_view members.now)) (THERMAL_NUMBERS * length members.now)) }
@@ -76,8 +77,8 @@ impl Reader {
         members: &[Pair],
         periods: u32,
     ) -> Result<Vec<Renewable>, InstanceFault>
-        requires short { periods ≤ MOST_PERIODS }
-        requires few { length members.now ≤ MOST_ENTRIES }
+        requires short { periods ≤ MAX_PERIODS }
+        requires few { length members.now ≤ MAX_UNITS }
         requires room { self.old.rounded + RENEWABLE_NUMBERS * length members.now < 2 ^ 64 }
         ensures read { Gives (λ us. us.items) result (each_at (renewable_member self.old.exact periods) [] (map pair_view members.now)) }
         ensures counted { OnOk result (Counts self.old self.new (sum_by (λ (m : List ℕ × Value). rounded_renewable periods m.1) (map pair_view members.now)) (RENEWABLE_NUMBERS * length members.now)) }
@@ -107,7 +108,7 @@ impl Reader {
         member: &Pair,
         periods: u32,
     ) -> Result<Renewable, InstanceFault>
-        requires few { periods ≤ MOST_PERIODS }
+        requires few { periods ≤ MAX_PERIODS }
         requires room { self.old.rounded + RENEWABLE_NUMBERS < 2 ^ 64 }
         ensures read { Gives (λ unit. unit) result (renewable_member self.old.exact periods [] (pair_view member.now)) }
         ensures counted { OnOk result (Counts self.old self.new (rounded_renewable periods (pair_view member.now).1) RENEWABLE_NUMBERS) }

@@ -1,15 +1,11 @@
-use Rattle.std.proofs.Common.{◌≡◌, ◌+◌, ◌*◌, ◌≤◌, ℕ, List, [], drop, take, map}
-use Rattle.std.specs.Prelude.{sum_by}
+use Rattle.std.proofs.Common.{ℕ, List}
 use Rattle.decimal_json.specs.Value.{Value}
 use Rattle.decimal_json.specs.View.{pair_view}
-use Rattle.instance.specs.FirstFault.{each_at, thermal_member}
+use Rattle.instance.specs.FirstFault.{thermal_member}
 use Rattle.instance.specs.Rounded.{rounded_thermal}
+use Rattle.instance.specs.inside.Parts.{THERMAL_NUMBERS}
+use Rattle.instance.proofs.Loops.{HasRead}
 use Rattle.instance.proofs.reader.Reader.thermal_list.Given as goal
 
 abbrev pub invariant-loop-member : goal.invariant-loop-member
-invariant-loop-member l = record {
-  read : each_at (thermal_member l.initial.self.exact) l.units.items (map pair_view (drop l.member-index l.members)) ≡ each_at (thermal_member l.initial.self.exact) [] (map pair_view l.members);
-  exact : l.self.exact ≡ l.initial.self.exact;
-  rounded : l.self.rounded ≡ l.initial.self.rounded + sum_by (λ (m : List ℕ × Value). rounded_thermal m.1) (map pair_view (take l.member-index l.members));
-  few : sum_by (λ (m : List ℕ × Value). rounded_thermal m.1) (map pair_view (take l.member-index l.members)) ≤ 173 * l.member-index;
-}
+invariant-loop-member l = HasRead pair_view (thermal_member l.initial.self.exact) (λ (m : List ℕ × Value). rounded_thermal m.1) THERMAL_NUMBERS l.initial.self l.self l.units.items l.members l.member-index
