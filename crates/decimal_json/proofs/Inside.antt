@@ -9,7 +9,7 @@ use Rattle.decimal_json.specs.Value.{Value, array, object, no_items, no_members,
 use Rattle.decimal_json.specs.Characters.{is_space, depth_limit}
 use Rattle.decimal_json.specs.Open.{Member, Frame, in_array, in_object, for_key}
 use Rattle.decimal_json.specs.inside.Scan.{Spot, wanted, first_item, first_key, key_wanted, colon_wanted, ended, quoted, plain, next, stop, Outcome, fault, step, begin_step, opened, ended_step, close_step, quote_step, scan, finish, finish_value}
-use Rattle.decimal_json.specs.inside.Answer.{Leads, Reads, Breaks, SkipsSpace, StandsAt, IsToken, HasKeys, AddsKey, ReadsKey, BreaksKey, ReadsText, BreaksText, ReadsValue, BreaksValue, ReadsInside, BreaksInside, resumed}
+use Rattle.decimal_json.specs.inside.Answer.{Leads, Reads, Breaks, MaySpace, SkipsSpace, StandsAt, IsToken, HasKeys, AddsKey, ReadsKey, BreaksKey, ReadsText, BreaksText, ReadsValue, BreaksValue, ReadsInside, BreaksInside, resumed}
 use Rattle.decimal_json.proofs.Moves.{moved, stopped, stepped, finished}
 
 -- an array, up to where an item has to stand
@@ -34,6 +34,15 @@ led_to e at kind o p is same f = subst (λ (e : JsonFault). Leads e o) (sym is) 
 
 token_as : (bytes : List ℕ) (at c k : ℕ) → IsToken bytes at c → c ≡ k → StandsAt bytes at k
 token_as bytes at c k token is = subst (λ (b : ℕ). StandsAt bytes at b) is token.0
+
+-- behind a bracket: the end of the input, and the bracket that closes it
+cut_here : (bytes : List ℕ) (start at room : ℕ) (spot : Spot) (e : JsonFault) → MaySpace spot → ((outer : List Frame) → finish at outer spot ≡ fault at 2) → SkipsSpace bytes start at → e ≡ At at 2 → drop at bytes ≡ []
+    → BreaksInside bytes start spot room e
+cut_here bytes start at room spot e may ends skips is none = λ outer fits. led_to e at 2 (scan bytes start outer spot) (scan bytes at outer spot) is (skips outer spot may) (finished bytes at outer spot none ∙ ends outer)
+
+closed_here : (bytes : List ℕ) (start at c k room : ℕ) (spot : Spot) (v : Value) → MaySpace spot → ((outer : List Frame) → step at outer spot k ≡ next outer (ended v)) → SkipsSpace bytes start at → IsToken bytes at c → c ≡ k
+    → ReadsInside bytes start spot (at + 1) room v
+closed_here bytes start at c k room spot v may closes skips token is = λ outer fits. skips outer spot may ∙ moved bytes at k outer spot outer (ended v) (token_as bytes at c k token is) (closes outer)
 
 -- arrays
 pub first_item_other : (at c : ℕ) (outer : List Frame) → is_space c ≡ false → (c ≡ 93 → ⊥) → step at outer first_item c ≡ step at (in_array [] ∷ outer) wanted c
@@ -60,17 +69,12 @@ item_ends : (at : ℕ) (outer : List Frame) (vs : List Value) (v : Value) → fi
 unfolding finish finish_value
 item_ends at outer vs v = refl
 
-first_item_ends : (at : ℕ) (outer : List Frame) → finish at outer first_item ≡ fault at 2
-unfolding finish
-first_item_ends at outer = refl
-
 pub array_cut : (bytes : List ℕ) (start at room : ℕ) (e : JsonFault) → SkipsSpace bytes start at → e ≡ At at 2 → drop at bytes ≡ [] → BreaksInside bytes start first_item room e
-array_cut bytes start at room e skips is none = λ outer fits. led_to e at 2 (scan bytes start outer first_item) (scan bytes at outer first_item) is (skips outer first_item tt)
-    (finished bytes at outer first_item none ∙ first_item_ends at outer)
+unfolding finish
+array_cut bytes start at room e skips is none = cut_here bytes start at room first_item e tt (λ outer. refl) skips is none
 
 pub array_empty : (bytes : List ℕ) (start at c room : ℕ) → SkipsSpace bytes start at → IsToken bytes at c → c ≡ 93 → ReadsInside bytes start first_item (at + 1) room (array no_items)
-array_empty bytes start at c room skips token is = λ outer fits. skips outer first_item tt
-    ∙ moved bytes at 93 outer first_item outer (ended (array no_items)) (token_as bytes at c 93 token is) (first_item_close at outer)
+array_empty bytes start at c room skips token is = closed_here bytes start at c 93 room first_item (array no_items) tt (λ outer. first_item_close at outer) skips token is
 
 pub items_begin : (bytes : List ℕ) (start at c room : ℕ) → SkipsSpace bytes start at → IsToken bytes at c → (c ≡ 93 → ⊥) → start ≤ at → HasItems bytes start at room []
 items_begin bytes start at c room skips token ne le = record {
@@ -215,17 +219,12 @@ member_ends : (at : ℕ) (outer : List Frame) (ms : List Member) (k : List ℕ) 
 unfolding finish finish_value
 member_ends at outer ms k v = refl
 
-first_key_ends : (at : ℕ) (outer : List Frame) → finish at outer first_key ≡ fault at 2
-unfolding finish
-first_key_ends at outer = refl
-
 pub object_cut : (bytes : List ℕ) (start at room : ℕ) (e : JsonFault) → SkipsSpace bytes start at → e ≡ At at 2 → drop at bytes ≡ [] → BreaksInside bytes start first_key room e
-object_cut bytes start at room e skips is none = λ outer fits. led_to e at 2 (scan bytes start outer first_key) (scan bytes at outer first_key) is (skips outer first_key tt)
-    (finished bytes at outer first_key none ∙ first_key_ends at outer)
+unfolding finish
+object_cut bytes start at room e skips is none = cut_here bytes start at room first_key e tt (λ outer. refl) skips is none
 
 pub object_empty : (bytes : List ℕ) (start at c room : ℕ) → SkipsSpace bytes start at → IsToken bytes at c → c ≡ 125 → ReadsInside bytes start first_key (at + 1) room (object no_members)
-object_empty bytes start at c room skips token is = λ outer fits. skips outer first_key tt
-    ∙ moved bytes at 125 outer first_key outer (ended (object no_members)) (token_as bytes at c 125 token is) (first_key_close at outer)
+object_empty bytes start at c room skips token is = closed_here bytes start at c 125 room first_key (object no_members) tt (λ outer. first_key_close at outer) skips token is
 
 pub members_begin : (bytes : List ℕ) (start at c room : ℕ) (test : List ℕ → Bool) → SkipsSpace bytes start at → IsToken bytes at c → (c ≡ 125 → ⊥) → start ≤ at → HasKeys test []
     → HasMembers bytes start at room [] test
