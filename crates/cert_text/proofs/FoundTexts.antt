@@ -7,14 +7,15 @@ use Rattle.uc_model.specs.Limits.{IsLawfulInstance}
 use Rattle.uc_model.specs.Schedule.{thermal_count, renewable_count}
 use Rattle.uc_model.specs.declared.instance.Instance.{Instance}
 use Rattle.dual_model.specs.Certificate.{CertificateHolds, ClaimHolds, WrittenSchedule}
-use Rattle.dual_model.specs.Cover.{Ends}
+use Rattle.dual_model.specs.Tree.{Ends}
 use Rattle.dual_model.specs.Prices.{IsLawfulTable, IsPrice, IsRowPriced}
 use Rattle.dual_model.specs.declared.table.Table.{Table}
 use Rattle.dual_model.specs.declared.table.RampRow.{RampRow}
 use Rattle.branch_tree.specs.declared.found.Found.{Found}
 use Rattle.branch_tree.specs.declared.tree.Leaf.{Leaf}
 use Rattle.branch_tree.specs.declared.tree.Leaf.TheVariants as leaf
-use Rattle.branch_tree.specs.Claims.{leaf_tables, leaf_claim, leaf_bound, table_at, tree_bound, used_tables, certificate_of, written_of}
+use Rattle.branch_tree.specs.StoredTree.{leaf_bound, tree_bound}
+use Rattle.branch_tree.specs.Claims.{leaf_tables, leaf_claim, table_at, used_tables, certificate_of, written_of}
 use Rattle.cert_text.specs.Nodes.{LeafNode, IsLeafWithin, IsNodeWithin}
 use Rattle.cert_text.specs.CertificateText.{listing_of}
 use Rattle.cert_text.specs.TextConditions.{HasDigits, IsMoney, IsTableText, IsRampText, IsScheduleText, HasText}

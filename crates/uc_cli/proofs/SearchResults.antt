@@ -1,25 +1,32 @@
 -- What the search answers for a root with a value, and for one with a unit that has no pattern.
-use Rattle.std.proofs.Common.{inl, ℕ, ◌<◌, [], ◌∷◌, refl, arith, ℤ}
-use Rattle.std.specs.Prelude.{None, Result, Ok, Err, IfOk}
+use Rattle.std.proofs.Common.{inl, ℕ, ◌*◌, ◌^◌, ◌<◌, ◌≤◌, [], ◌∷◌, All, length, map, refl, subst, sym, arith, ℤ, unsigned_abs}
+use Rattle.std.specs.Prelude.{None, Result, Ok, Err, IfOk, IfSome}
 use Rattle.std.proofs.lemmas.List.Elements.{All-nil, All-cons}
 use Rattle.uc_model.specs.Division.{IsFloor}
 use Rattle.uc_model.specs.Limits.{IsLawfulInstance}
+use Rattle.uc_model.specs.declared.limits.TheConstants.{MAX_UNITS}
 use Rattle.uc_model.specs.declared.instance.Instance.{Instance}
 use Rattle.uc_model.proofs.Ring.{linear, le_refl}
+use Rattle.uc_model.proofs.Sizes.{floor-size}
 use Rattle.dual_model.specs.Prices.{IsLawfulTable}
 use Rattle.dual_model.specs.Tree.{root}
 use Rattle.dual_model.specs.NodeValue.{IsNodeValue}
 use Rattle.dual_model.specs.Certificate.{CertificateHolds}
 use Rattle.dual_model.specs.Laws.{IsClaimTrue}
+use Rattle.dual_model.specs.Opening.{ZERO_SCALE, zero_table}
+use Rattle.dual_model.specs.declared.table.Table.{Table}
 use Rattle.dual_model.proofs.Covers.{certificates_claim_truly}
-use Rattle.branch_tree.specs.StoredTree.{IsNodeAt, tree_bound}
-use Rattle.branch_tree.specs.Claims.{certificate_of}
+use Rattle.branch_tree.specs.StoredTree.{IsNodeAt, leaf_bound, tree_bound}
+use Rattle.branch_tree.specs.Claims.{certificate_of, leaf_tables, table_at}
 use Rattle.branch_tree.specs.SearchResult.{IsFirstEmpty, IsTrueEntry, IsFirstClaim, IsSearchResult}
 use Rattle.branch_tree.specs.declared.found.Entry.{Entry}
 use Rattle.branch_tree.specs.declared.found.Found.{Found}
 use Rattle.branch_tree.specs.declared.found.Outcome.TheVariants.{Value}
 use Rattle.branch_tree.specs.declared.tree.Leaf.TheVariants as leaf
-use Rattle.dual_model.specs.Opening.{ZERO_SCALE, zero_table}
+use Rattle.cert_text.specs.TextConditions.{IsMoney}
+use Rattle.cert_text.proofs.FoundTexts.{found-has-text}
+use Rattle.state_walk.specs.CostToGo.{MAX_COST_TO_GO}
+use Rattle.uc_cli.specs.inside.Search.{IsSearchAnswer}
 use Rattle.uc_cli.proofs.UnpricedTables.{zero_lawful}
 
 -- the one entry of the log
@@ -98,11 +105,47 @@ bounded_is instance v b value floor =
     }
 
 -- what a search answers claims truly
-pub claims_truly : (instance : Instance) (found : Found) → IsLawfulInstance instance → IsSearchResult instance 1 found
+claims_truly : (instance : Instance) (found : Found) → IsLawfulInstance instance → IsSearchResult instance 1 found
     → IsClaimTrue instance (tree_bound found.tree)
 claims_truly instance found lawful answer = certificates_claim_truly instance (certificate_of instance found) lawful answer.truth.certificate
 
-pub claims_if_ok : {E : Type 0} (instance : Instance) (result : Result Found E) → IsLawfulInstance instance
-    → IfOk result (IsSearchResult instance 1) → IfOk result (λ found. IsClaimTrue instance (tree_bound found.tree))
-claims_if_ok instance (Ok found) lawful answer = claims_truly instance found lawful answer
-claims_if_ok instance (Err e) lawful answer = tt
+no_rows : (instance : Instance) → length (zero_table instance).ramps < 10 ^ 18
+no_rows instance = omega arith
+
+-- a bound of this size has a text
+bound_text : (v b : ℤ) → IsFloor v ZERO_SCALE b → unsigned_abs v ≤ MAX_UNITS * MAX_COST_TO_GO → IsMoney b
+bound_text v b floor size =
+    let few : unsigned_abs b ≤ MAX_UNITS * MAX_COST_TO_GO = floor-size v ZERO_SCALE b (MAX_UNITS * MAX_COST_TO_GO) (omega (arith, linear)) floor size in
+    omega arith
+
+pub bounded_answer : (instance : Instance) (v b : ℤ) → IsLawfulInstance instance → IsNodeValue instance root (zero_table instance) v
+    → IsFloor v ZERO_SCALE b → unsigned_abs v ≤ MAX_UNITS * MAX_COST_TO_GO → IsSearchAnswer instance (bounded_found instance v b)
+bounded_answer instance v b lawful value floor size =
+    let found = bounded_found instance v b in
+    let result = bounded_is instance v b value floor in
+    record {
+      search = result;
+      claim = claims_truly instance found lawful result;
+      text = found-has-text instance found lawful result.truth.certificate refl (bound_text v b floor size)
+          (All-cons (λ (table : Table). length table.ramps < 10 ^ 18) (zero_table instance) [] (no_rows instance)
+          (All-nil (λ (table : Table). length table.ramps < 10 ^ 18)));
+    }
+
+-- a root that a unit excludes has no bound and no table
+pub excluded_answer : (instance : Instance) (found : Found) (g : ℕ) → IsLawfulInstance instance → IsFirstEmpty instance root g
+    → IsSearchResult instance 1 found → IsSearchAnswer instance found
+excluded_answer instance found g lawful empty result =
+    let is_empty = (result.excluded g empty).0 in
+    record {
+      search = result;
+      claim = claims_truly instance found lawful result;
+      text = found-has-text instance found lawful result.truth.certificate result.stage.schedule
+          (subst (λ l. IfSome (leaf_bound l) IsMoney) (sym is_empty) tt)
+          (subst (λ l. All (λ (table : Table). length table.ramps < 10 ^ 18) (map (table_at found.tables) (leaf_tables l))) (sym is_empty)
+          (All-nil (λ (table : Table). length table.ramps < 10 ^ 18)));
+    }
+
+pub excluded_if_ok : {E : Type 0} (instance : Instance) (g : ℕ) (result : Result Found E) → IsLawfulInstance instance
+    → IsFirstEmpty instance root g → IfOk result (IsSearchResult instance 1) → IfOk result (IsSearchAnswer instance)
+excluded_if_ok instance g (Ok found) lawful empty answer = excluded_answer instance found g lawful empty answer
+excluded_if_ok instance g (Err e) lawful empty answer = tt

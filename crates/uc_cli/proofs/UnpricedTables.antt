@@ -26,8 +26,8 @@ use Rattle.dual_model.specs.NodeValue.{system_value, unit_constant, renewable_va
 use Rattle.dual_model.specs.declared.node.Fix.{Fix}
 use Rattle.dual_model.specs.declared.node.Node.{Node}
 use Rattle.dual_model.specs.declared.table.Table.{Table}
-use Rattle.state_walk.specs.Onward.{MAX_ONWARD}
-use Rattle.state_walk.specs.TableValue.{row_at, IsLawfulRow, AreRowsOf}
+use Rattle.state_walk.specs.CostToGo.{MAX_COST_TO_GO}
+use Rattle.dual_model.specs.TableValue.{row_at, IsLawfulRow, AreRowsOf}
 use Rattle.dual_model.specs.Opening.{ZERO_SCALE, unpriced_table, zero_table}
 use Rattle.uc_cli.specs.inside.Search.{HasEachPattern, IsUnitSum}
 
@@ -212,10 +212,10 @@ patterns-more instance table n v each value g h =
     (below_or_last n g (omega arith))
 
 -- the sum of at most 4096 unit values stays far below the ends of 128 bits
-pub sum_fits : (g : ℕ) (total v : ℤ) → g < MAX_UNITS → unsigned_abs total ≤ g * MAX_ONWARD → unsigned_abs v ≤ MAX_ONWARD
+pub sum_fits : (g : ℕ) (total v : ℤ) → g < MAX_UNITS → unsigned_abs total ≤ g * MAX_COST_TO_GO → unsigned_abs v ≤ MAX_COST_TO_GO
     → FitsSigned w128 (total +ℤ v)
 sum_fits g total v h k l = fits_signed_from_abs w128 (total +ℤ v) (omega (arith, ints))
 
-pub sum_size : (g : ℕ) (total v : ℤ) → unsigned_abs total ≤ g * MAX_ONWARD → unsigned_abs v ≤ MAX_ONWARD
-    → unsigned_abs (total +ℤ v) ≤ (g + 1) * MAX_ONWARD
+pub sum_size : (g : ℕ) (total v : ℤ) → unsigned_abs total ≤ g * MAX_COST_TO_GO → unsigned_abs v ≤ MAX_COST_TO_GO
+    → unsigned_abs (total +ℤ v) ≤ (g + 1) * MAX_COST_TO_GO
 sum_size g total v k l = omega (arith, ints)

@@ -7,12 +7,12 @@ use Rattle.uc_model.specs.declared.instance.Instance.{Instance}
 use Rattle.outside.specs.declared.slot.Slot.TheVariants as slot
 use Rattle.outside.specs.declared.slot.Stage.TheVariants.{Unopened, Finished}
 use Rattle.outside.specs.Counts.{HasRisen}
-use Rattle.outside.specs.Known.{Tells}
+use Rattle.outside.specs.ToldBytes.{Tells}
 use Rattle.outside.specs.Slots.{SlotState, matched}
 use Rattle.instance.specs.Bytes.{StandFor, StandForCounted}
 use Rattle.instance.specs.Bytes as read
-use Rattle.instance.specs.declared.file.ReadFault.{ReadFault}
-use Rattle.instance.specs.declared.file.ReadFault.TheVariants as read_fault
+use Rattle.instance.specs.declared.from_bytes.ReadFault.{ReadFault}
+use Rattle.instance.specs.declared.from_bytes.ReadFault.TheVariants as read_fault
 use Rattle.report.specs.declared.fault.Fault.{Fault}
 use Rattle.report.specs.declared.fault.Fault.TheVariants.{Read, Memory, Long, Json, Instance as Refused}
 
@@ -54,13 +54,13 @@ HasCause exact old new (Read slot.Instance) = HasRisen old.faults new.faults
 HasCause exact old new Memory = ⊤
 HasCause exact old new (Long slot.Instance) = IsLong old new
 HasCause exact old new (Json at kind) = HasNoInstance exact old new (read_fault.Json at kind)
-HasCause exact old new (Refused code kind unit field entry) = HasNoInstance exact old new (read_fault.Refused code kind unit field entry)
+HasCause exact old new (Refused refusal) = HasNoInstance exact old new (read_fault.Refused refusal)
 HasCause exact old new _ = ⊥
 
 -- the same of bytes that were read
 abbrev pub IsRefusal : Bool → List ℕ → Fault → Type 0
 IsRefusal exact bytes (Json at kind) = IsRefused exact bytes (read_fault.Json at kind)
-IsRefusal exact bytes (Refused code kind unit field entry) = IsRefused exact bytes (read_fault.Refused code kind unit field entry)
+IsRefusal exact bytes (Refused refusal) = IsRefused exact bytes (read_fault.Refused refusal)
 IsRefusal exact bytes Memory = ⊤
 IsRefusal exact bytes _ = ⊥
 

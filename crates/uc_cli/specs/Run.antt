@@ -9,7 +9,10 @@ use Rattle.outside.specs.Slots.{SlotState}
 use Rattle.outside.specs.Sinks.{SinkState}
 use Rattle.branch_tree.specs.StoredTree.{tree_bound}
 use Rattle.branch_tree.specs.Closing.{status_of}
+use Rattle.branch_tree.specs.Claims.{certificate_of}
 use Rattle.branch_tree.specs.SearchResult.{IsSearchResult}
+use Rattle.cert_text.specs.CertificateText.{listing_of}
+use Rattle.cert_text.specs.TextConditions.{HasText}
 use Rattle.branch_tree.specs.declared.found.Found.{Found}
 use Rattle.report.specs.FaultText as fault_text
 use Rattle.report.specs.declared.fault.Fault.{Fault}
@@ -28,12 +31,13 @@ pub record Outside : Type 0 where
 abbrev pub outside_of : (Slot → SlotState) → SinkState → SinkState → Outside
 outside_of files out err = record { files = files; out = out; err = err }
 
--- an answer for the instance in the file: what was found, and that its bound, or that there is no schedule, is
--- true of every schedule
+-- an answer for the instance in the file: what was found, that its bound, or that there is no schedule, is true of
+-- every schedule, and that its certificate has a text of the grammar
 pub record IsAnswer (exact : Bool) (file : SlotState) (instance : Instance) (rounded : ℕ) (found : Found) : Type 0 where
   pub read : HasInstance exact file instance rounded
   pub search : IsSearchResult instance 1 found
   pub claim : IsClaimTrue instance (tree_bound found.tree)
+  pub text : HasText (listing_of (certificate_of instance found))
 
 -- the instance in the file, and the answer for it
 pub record HasAnswer (exact : Bool) (before : Outside) (found : Found) : Type 0 where

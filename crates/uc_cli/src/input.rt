@@ -3,7 +3,7 @@
 ghost use Rattle.std.specs.Prelude.{◌≡◌, ◌≤◌, length, IfOk, IfErr};
 ghost use Rattle.outside.specs.declared.slot.Slot.TheVariants.{Instance as InstanceSlot};
 ghost use Rattle.outside.specs.declared.slot.Stage.TheVariants.{Unopened};
-ghost use Rattle.outside.specs.Known.{Tells};
+ghost use Rattle.outside.specs.ToldBytes.{Tells};
 ghost use Rattle.outside.specs.Slots.{SameBut};
 ghost use Rattle.uc_model.specs.Limits.{IsLawfulInstance};
 ghost use Rattle.instance.specs.Bytes.{StandForCounted};
@@ -49,21 +49,7 @@ fn instance_of(alloc: Global, bytes: &[u8], exact: bool) -> Result<(Instance, u6
     match instance::read_instance(alloc, bytes, exact) {
         Ok(read) => Ok(read),
         Err(ReadFault::Json { at, kind }) => Err(Fault::Json { at, kind }),
-        Err(
-            ReadFault::Refused {
-                code,
-                kind_of_unit,
-                unit,
-                field,
-                entry,
-            },
-        ) => Err(Fault::Instance {
-            code,
-            kind_of_unit,
-            unit,
-            field,
-            entry,
-        }),
+        Err(ReadFault::Refused(refusal)) => Err(Fault::Instance(refusal)),
         Err(ReadFault::NoMemory) => Err(Fault::Memory),
     }
 }

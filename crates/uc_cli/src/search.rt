@@ -5,15 +5,13 @@ ghost use Rattle.uc_model.specs.Limits.{IsLawfulInstance};
 ghost use Rattle.uc_model.specs.PatternBits.{commitment_of};
 ghost use Rattle.uc_model.specs.Schedule.{thermal_count};
 ghost use Rattle.uc_model.specs.declared.instance.Instance.{Instance};
-ghost use Rattle.dual_model.specs.Laws.{IsClaimTrue};
 ghost use Rattle.dual_model.specs.NodeValue.{IsNodeValue};
 ghost use Rattle.dual_model.specs.Opening.{unpriced_table, zero_table};
 ghost use Rattle.dual_model.specs.Tree.{root};
-ghost use Rattle.branch_tree.specs.StoredTree.{tree_bound};
 ghost use Rattle.branch_tree.specs.SearchResult.{IsFirstEmpty, IsSearchResult};
-ghost use Rattle.state_walk.specs.Onward.{IsWithin, MAX_ONWARD};
-ghost use Rattle.state_walk.specs.TableValue.{IsLawfulScale, IsUnitValueOf};
-ghost use Rattle.uc_cli.specs.inside.Search.{HasEachPattern};
+ghost use Rattle.state_walk.specs.CostToGo.{IsWithin, MAX_COST_TO_GO};
+ghost use Rattle.dual_model.specs.TableValue.{IsLawfulScale, IsUnitValueOf};
+ghost use Rattle.uc_cli.specs.inside.Search.{HasEachPattern, IsSearchAnswer};
 
 use branch_tree::{Entry, Found, Layout, Leaf, Outcome, Tree};
 use dual_model::{Fix, Table};
@@ -21,6 +19,7 @@ use outside::Gate;
 use state_walk::{Walk, least, terms};
 use std::alloc::Global;
 use std::sync::Wait;
+use uc_model::limits::MAX_UNITS;
 use uc_model::{Instance, List, NoMemory, Pattern, floor_div};
 
 /// The scale of the table of no prices, at which a price is in micro-dollars for a megawatt.
@@ -61,7 +60,7 @@ fn unit_value(
     requires unit { g < thermal_count instance.now }
     requires room { walk.old ≡ instance.now.periods }
     ensures value { IfOk result (IsUnitValueOf instance.now root (unpriced_table instance.now k) g) }
-    ensures size { IfOk result (IsWithin MAX_ONWARD) }
+    ensures size { IfOk result (IsWithin MAX_COST_TO_GO) }
     ensures kept { walk.new ≡ walk.old }
 {
     let unit = &instance.thermal.as_slice()[g];
@@ -92,7 +91,8 @@ fn first_empty(alloc: Global, instance: &Instance) -> Result<Option<u32>, NoMemo
 fn evaluate(alloc: Global, instance: &Instance) -> Result<i128, NoMemory>
     requires lawful { IsLawfulInstance instance.now }
     requires patterns { HasEachPattern instance.now (thermal_count instance.now) }
-    ensures { IfOk result (IsNodeValue instance.now root (zero_table instance.now)) }
+    ensures value { IfOk result (IsNodeValue instance.now root (zero_table instance.now)) }
+    ensures size { IfOk result (λ value. unsigned_abs value ≤ MAX_UNITS * MAX_COST_TO_GO) }
 {
     let periods = instance.periods as usize;
     let prices = vec![in alloc; (0_i128, 0_i128, 0_i128); periods]?;
@@ -138,7 +138,8 @@ fn excluded(alloc: Global, instance: &Instance, g: u32) -> Result<Found, NoMemor
 fn bounded(alloc: Global, instance: &Instance, value: &i128) -> Result<Found, NoMemory>
     requires lawful { IsLawfulInstance instance.now }
     requires value { IsNodeValue instance.now root (zero_table instance.now) value.now }
-    ensures { IfOk result (IsSearchResult instance.now 1) }
+    requires size { unsigned_abs value.now ≤ MAX_UNITS * MAX_COST_TO_GO }
+    ensures { IfOk result (IsSearchAnswer instance.now) }
 {
     let claim = Entry {
         unit: 1,
@@ -173,8 +174,7 @@ pub(crate) fn search<R: Wait, G: Gate>(
     gate: &G,
 ) -> Result<Found, NoMemory>
     requires { IsLawfulInstance instance.now }
-    ensures search { IfOk result (IsSearchResult instance.now 1) }
-    ensures claim { IfOk result (λ found. IsClaimTrue instance.now (tree_bound found.tree)) }
+    ensures { IfOk result (IsSearchAnswer instance.now) }
 {
     if let Some(g) = first_empty(alloc, instance)? {
         return excluded(alloc, instance, g);

@@ -1,11 +1,18 @@
--- What a search knows of the first units: their patterns, and the sum of their values.
+-- What a search knows of the first units, their patterns and the sum of their values, and what it answers.
 use Rattle.std.specs.Prelude.{◌≡◌, ℕ, zero, suc, ◌<◌, ℤ, pos, ◌+ℤ◌}
 use Rattle.uc_model.specs.declared.instance.Instance.{Instance}
 use Rattle.dual_model.specs.Fixings.{HasNoPattern}
+use Rattle.dual_model.specs.Laws.{IsClaimTrue}
 use Rattle.dual_model.specs.Tree.{root}
 use Rattle.dual_model.specs.UnitValue.{IsUnitValue}
 use Rattle.dual_model.specs.declared.node.Node.{Node}
 use Rattle.dual_model.specs.declared.table.Table.{Table}
+use Rattle.branch_tree.specs.StoredTree.{tree_bound}
+use Rattle.branch_tree.specs.Claims.{certificate_of}
+use Rattle.branch_tree.specs.SearchResult.{IsSearchResult}
+use Rattle.branch_tree.specs.declared.found.Found.{Found}
+use Rattle.cert_text.specs.CertificateText.{listing_of}
+use Rattle.cert_text.specs.TextConditions.{HasText}
 
 -- the sum of the values of the first n units
 abbrev pub IsUnitSum : Instance → Node → Table → ℕ → ℤ → Type 0
@@ -17,3 +24,9 @@ IsUnitSum instance node table (suc n) total =
 -- each of the first n units has an allowed pattern
 abbrev pub HasEachPattern : Instance → ℕ → Type 0
 HasEachPattern instance n = (g : ℕ) → g < n → ¬ HasNoPattern instance root g
+
+-- what the search answers: a search result, a true claim, and a certificate that has a text
+pub record IsSearchAnswer (instance : Instance) (found : Found) : Type 0 where
+  pub search : IsSearchResult instance 1 found
+  pub claim : IsClaimTrue instance (tree_bound found.tree)
+  pub text : HasText (listing_of (certificate_of instance found))

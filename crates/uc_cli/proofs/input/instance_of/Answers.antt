@@ -1,7 +1,7 @@
 -- Where the bytes stood for an instance, it would be answered, or memory refused.
 use Rattle.std.proofs.Common.{◌≡◌, ◌∙◌, sym, subst}
 use Rattle.instance.specs.Bytes.{HasCause}
-use Rattle.instance.specs.declared.file.ReadFault.TheVariants.{Json, Refused, NoMemory}
+use Rattle.instance.specs.declared.from_bytes.ReadFault.TheVariants.{Json, Refused, NoMemory}
 use Rattle.uc_cli.proofs.input.instance_of.Goals as goal
 
 pub returns-in-Err-Json-clause-refused : goal.returns-in-Err-Json-clause-refused
@@ -15,7 +15,7 @@ returns-in-Err-Json-clause-refused c = record {
 pub returns-in-Err-Refused-clause-refused : goal.returns-in-Err-Refused-clause-refused
 returns-in-Err-Refused-clause-refused c = record {
   none = λ instance stand.
-      let e : Refused c.in-Err-Refused.code c.in-Err-Refused.kind_of_unit c.in-Err-Refused.unit c.in-Err-Refused.field c.in-Err-Refused.entry ≡ NoMemory =
+      let e : Refused c.in-Err-Refused.refusal ≡ NoMemory =
       sym c.in-Err-Refused.field-0-is ∙ c.in-Err-Refused.ensures.only instance stand
       in
       cc;

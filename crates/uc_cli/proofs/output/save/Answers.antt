@@ -4,7 +4,7 @@ use Rattle.std.proofs.lemmas.Grind.{common_steps}
 use Rattle.std.proofs.lemmas.Result.{on_err_weaker}
 use Rattle.outside.specs.declared.slot.Slot.TheVariants.{CertOut}
 use Rattle.outside.specs.Counts.{HasRisen}
-use Rattle.outside.specs.Known.{Appends}
+use Rattle.outside.specs.ToldBytes.{Appends}
 use Rattle.outside.proofs.Appending.{all-appended, appended-since-nothing}
 use Rattle.uc_cli.specs.Writing.{text_of_certificate}
 use Rattle.uc_cli.proofs.output.save.Goals as goal

@@ -3,7 +3,7 @@ use Rattle.std.proofs.Common.{arith}
 use Rattle.std.proofs.lemmas.Grind.{common_steps}
 use Rattle.std.proofs.lemmas.Result.{on_err_weaker}
 use Rattle.outside.specs.Counts.{HasRisen}
-use Rattle.outside.specs.Known.{Appends}
+use Rattle.outside.specs.ToldBytes.{Appends}
 use Rattle.outside.proofs.Appending.{all-appended}
 use Rattle.uc_cli.specs.Writing.{text_of_report}
 use Rattle.uc_cli.proofs.output.tell.Goals as goal

@@ -3,7 +3,7 @@ use Rattle.std.proofs.Common.{◌≡◌, ◌<◌, length, ap, subst, ◌∙◌, 
 use Rattle.uc_model.specs.Schedule.{thermal_count}
 use Rattle.dual_model.specs.Tree.{root}
 use Rattle.dual_model.specs.Opening.{unpriced_table}
-use Rattle.state_walk.specs.TableValue.{IsUnitValueOf}
+use Rattle.dual_model.specs.TableValue.{IsUnitValueOf}
 use Rattle.std.specs.Prelude.{pos}
 use Rattle.uc_cli.proofs.UnpricedTables.{patterns-more}
 use Rattle.uc_cli.proofs.search.first_empty.Goals as goal

@@ -1,9 +1,17 @@
--- The claim of a certificate that holds is true.
-use Rattle.uc_cli.proofs.SearchResults.{claims_if_ok}
+-- A root that a unit excludes claims truly, and its certificate has a text.
+use Rattle.std.proofs.Common.{ℕ, Option, subst}
+use Rattle.std.specs.Prelude.{MatchOption}
+use Rattle.uc_model.specs.Schedule.{thermal_count}
+use Rattle.dual_model.specs.Tree.{root}
+use Rattle.branch_tree.specs.SearchResult.{IsFirstEmpty}
+use Rattle.uc_cli.specs.inside.Search.{HasEachPattern}
+use Rattle.uc_cli.proofs.SearchResults.{excluded_if_ok}
 use Rattle.uc_cli.proofs.search.search.Goals as goal
 
-pub returns-in-Some-clause-claim : goal.returns-in-Some-clause-claim
-returns-in-Some-clause-claim g c = claims_if_ok c.args.instance.now c.excluded.result c.requires c.excluded.ensures
-
-pub returns-clause-claim : goal.returns-clause-claim
-returns-clause-claim g c = claims_if_ok c.args.instance.now c.bounded.result c.requires c.bounded.ensures
+pub returns-in-Some : goal.returns-in-Some
+returns-in-Some g c =
+    let instance = c.args.instance.now in
+    excluded_if_ok instance c.in-Some.g c.excluded.result c.requires
+    (subst (λ (empty : Option ℕ). MatchOption empty (HasEachPattern instance (thermal_count instance)) (IsFirstEmpty instance root))
+    c.in-Some.is c.in_ok-g.ensures)
+    c.excluded.ensures
