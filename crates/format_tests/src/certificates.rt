@@ -1,36 +1,32 @@
 //! Certificates.
 
-ghost use Rattle.std.specs.Prelude.{IfOk};
+ghost use Rattle.std.specs.Prelude.{pos, ◌≤ℤ◌, IfOk};
 ghost use Rattle.branch_tree.specs.Claims.{HasLayout};
 
 use crate::fixtures::{OFF, instance, on, printed};
 use branch_tree::{Found, Layout, Leaf, Tree};
 use dual_model::{RampRow, Table};
 use outside::{MemorySink, SinkWriter};
-use std::alloc::{AllocError, Global};
+use std::alloc::Global;
 use std::test::Fail;
-use uc_model::List;
+use uc_model::{List, NoMemory};
 
 // A table of this scale, with a ramp row of the second unit in the first period.
-fn table(alloc: Global, k: i64) -> Result<Table, AllocError> {
+fn table(alloc: Global, k: i64) -> Result<Table, NoMemory>
+    requires { pos 0 ≤ℤ k }
+{
     let row = RampRow {
         g: 1,
         t: 0,
         up: 5,
         down: 3,
     };
-    Ok(Table {
-        units: 2,
-        k,
-        pi: List::from_vec(vec![in alloc; 10_000, -4]?),
-        mu: List::from_vec(vec![in alloc; 0, 7]?),
-        ramps: List::from_vec(vec![in alloc; row]?),
-    })
+    Table::new(alloc, 2, k, &[10_000, -4], &[0, 7], &[row])
 }
 
 // A schedule, in which the first unit starts in the second period and the other one is on all the time, and a
 // bound by the second of two tables.
-fn found(alloc: Global) -> Result<Found, AllocError>
+fn found(alloc: Global) -> Result<Found, NoMemory>
     ensures { IfOk result (λ found. HasLayout found) }
 {
     let first = [OFF, on(20_000_000, 5_000_000, 2)];
@@ -42,7 +38,7 @@ fn found(alloc: Global) -> Result<Found, AllocError>
     };
     Ok(Found {
         schedule: Some((schedule, 400_000_001)),
-        tree: Tree { leaf },
+        tree: Tree::of_leaf(leaf),
         tables: List::from_vec(vec![in alloc; table(alloc, 1)?, table(alloc, 1_000)?]?),
         log: List::from_vec(Vec::new(alloc)),
         most_on: None,

@@ -1,8 +1,7 @@
 //! Worked examples, from the text of a file on.
 
-mod kazarlis;
-
 use instance::{Fault, InstanceFault, ReadFault, from_json, read_instance};
+use sample_instances::KAZARLIS;
 use std::alloc::Global;
 use std::test::Fail;
 use uc_model::{Field, FieldRefusal, Instance, Point};
@@ -543,8 +542,7 @@ fn last_unit(instance: &Instance) -> Option<(&str, i64, i64, u32, u32, Point)> {
 
 #[test]
 fn the_ten_unit_system_is_read(rt: HostRuntime) -> Result<(), Fail> {
-    let Ok((instance, rounded)) = read_instance(rt.alloc(), kazarlis::KAZARLIS.as_bytes(), true)
-    else {
+    let Ok((instance, rounded)) = read_instance(rt.alloc(), KAZARLIS.as_bytes(), true) else {
         return Err("refused")?;
     };
     assert_eq!(rt; rounded, 0);

@@ -1,12 +1,9 @@
 //! Texts of JSON and what they say.
 
 use decimal_json::{Json, JsonFault, Pair, read};
+use sample_instances::BASE;
 use std::alloc::{AllocError, Global};
 use std::test::Fail;
-
-// A whole instance of the pglib-uc format.
-static INSTANCE: &str =
-    "{\"time_periods\":1,\"demand\":[30],\"reserves\":[5],\"thermal_generators\":{\"g1\":{\"must_run\":0,\"power_output_minimum\":10,\"power_output_maximum\":50,\"ramp_up_limit\":40,\"ramp_down_limit\":40,\"ramp_startup_limit\":50,\"ramp_shutdown_limit\":50,\"time_up_minimum\":1,\"time_down_minimum\":1,\"power_output_t0\":20,\"unit_on_t0\":1,\"time_up_t0\":1,\"time_down_t0\":0,\"startup\":[{\"lag\":1,\"cost\":0}],\"piecewise_production\":[{\"mw\":10,\"cost\":100},{\"mw\":50,\"cost\":500}]}},\"renewable_generators\":{}}";
 
 // Texts of RFC 8259, by its sections 2 to 7.
 static ACCEPTED: [&str; 69] = [
@@ -274,7 +271,7 @@ fn takes_and_refuses_by_the_sections(rt: HostRuntime) -> Result<(), Fail> {
 
 #[test]
 fn an_instance_and_each_front_of_it(rt: HostRuntime) -> Result<(), Fail> {
-    let text = INSTANCE.as_bytes();
+    let text = BASE.as_bytes();
     assert_eq!(rt; fault_of(rt.alloc(), text)?, None);
     for end in 0..text.len() {
         assert_eq!(rt; fault_of(rt.alloc(), &text[..end])?, Some((end, 2)));

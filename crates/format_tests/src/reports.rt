@@ -9,7 +9,7 @@ use report::{Fault, write_fault, write_found};
 use std::alloc::{AllocError, Global};
 use std::process::Abort;
 use std::test::Fail;
-use uc_model::{Field, Instance, List, Printed, Refusal, Stuck, Why};
+use uc_model::{Field, FieldRefusal, Instance, List, Printed, Refusal, Stuck, Why};
 
 fn found(
     alloc: Global,
@@ -20,7 +20,7 @@ fn found(
 ) -> Found {
     Found {
         schedule,
-        tree: Tree { leaf },
+        tree: Tree::of_leaf(leaf),
         tables: List::from_vec(Vec::new(alloc)),
         log: List::from_vec(log),
         most_on,
@@ -303,13 +303,13 @@ fn writes_refusals_of_instances(rt: HostRuntime) -> Result<(), Fail> {
         ),
     ];
     for (code, kind_of_unit, field, entry, text) in cases {
-        let fault = Fault::Instance {
+        let fault = Fault::Instance(FieldRefusal {
             code,
             kind_of_unit,
             unit: name(alloc, "g1")?,
             field,
             entry,
-        };
+        });
         assert_fault(&rt, rt.alloc(), &fault, 4, text);
     }
     Ok(())

@@ -1,7 +1,7 @@
 //! Runs of the program on devices in memory.
 
 use crate::tally::Tally;
-use outside::{Call, Devices, FailingCall, FaultyFile, FaultySink, NoMemory, Pace};
+use outside::{Call, Devices, FailingCall, FaultyFile, FaultySink, Pace};
 use sample_instances::{BASE, KAZARLIS};
 use std::alloc::{AllocError, Global};
 use std::process::Abort;
@@ -78,10 +78,8 @@ fn assert_run<R: Threads + Wait + Sync + Abort>(
     more: &[&str],
     failing: &Failing<'_>,
     ending: &Ending<'_>,
-) -> Result<(), NoMemory> {
-    let Ok(words) = words(alloc, more) else {
-        return Err(NoMemory);
-    };
+) -> Result<(), AllocError> {
+    let words = words(alloc, more)?;
     let pace = Pace::Full;
     let mut files = Devices::new(
         FaultyFile::new(alloc, "in.json", input, failing.instance, pace)?,
