@@ -1,22 +1,79 @@
 #!/usr/bin/env bash
-# Builds the program where it is missing or older than a source, and runs it with the words given.
+# Runs the program with the words given, and ends with its status. Where the program is missing or older than a source it is
+# proved and built first: how far that is stands on the error output, and status 70 says that it failed.
 set -eu
-top=$(cd "$(dirname "$0")" && pwd)
+top=$(dirname -- "$(readlink -f -- "$0")")
 program=$top/crates/uc/out/uc
-newer() { find "$top/crates" -name out -prune -o \( -name '*.rt' -o -name '*.antt' \) -newer "$program" -print -quit; }
-if [ ! -x "$program" ] || [ -n "$(newer)" ]; then
-  echo "uc: proving and building the program; the first time takes some minutes" >&2
-  log=$(mktemp)
-  # The program runs at the end of the build without words, and tells how it is called.
-  (cd "$top/crates/uc" && rt run) >"$log" 2>&1 </dev/null || true
-  if [ ! -x "$program" ] || [ -n "$(newer)" ]; then
-    if ! grep -q '^usage: uc' "$log"; then
-      cat "$log" >&2
-      rm -f "$log"
-      exit 70
-    fi
-    touch "$program"
-  fi
-  rm -f "$log"
-fi
+child='' work='' total=0 crates=() began=() ended=()
+
+say() { printf 'uc: %s\n' "$*" >&2; }
+is_current() {
+  [ -x "$program" ] && [ -z "$(find "$top/crates.txt" "$top/crates" -name out -prune -o \
+    \( -name '*.rt' -o -name '*.antt' -o -name crates.txt \) -newer "$program" -print -quit)" ]
+}
+
+# The crates that the program stands on, and the program: from crates.txt, which has the lowest first.
+needed() {
+  sed 's/#.*//' "$top/crates.txt" | tac | awk -F: 'BEGIN { is_needed["uc"] = 1 } { split($1, name, " ") }
+    is_needed[name[1]] { print name[1]; for (i = split($2, uses, " "); i > 0; i--) is_needed[uses[i]] = 1 }' | tac
+}
+
+# How many crates to prove side by side: one that waits for a library holds its place, and one that is proved takes some 2 GB.
+places() {
+  awk -v most="$(($(nproc) + 2))" '/^MemAvailable/ { n = int($2 / 2e6); print n < 1 ? 1 : n < most ? n : most }' /proc/meminfo
+}
+
+tell_begun() { began[$1]=$SECONDS && say "proving $(($1 + 1)) of $total: ${crates[$1]}"; }
+tell_proved() { ended[$1]=$SECONDS && say "proved $(($1 + 1)) of $total in $((SECONDS - began[$1])) s: ${crates[$1]}"; }
+
+# A library's folder is made when its proof begins, and the stamp in it when that is done. The log names each crate that is
+# done, also those that were proved before, and the program is begun once all others are.
+show() {
+  local i library last=$((total - 1))
+  for ((i = 0; i < last; i++)); do
+    library=$top/crates/${crates[i]}/out/rlib
+    if [ -z "${began[i]-}" ] && [ "$library" -nt "$work/start" ]; then tell_begun "$i"; fi
+    if [ -n "${began[i]-}" ] && [ -z "${ended[i]-}" ] && [ "$library/stamp" -nt "$work/start" ]; then tell_proved "$i"; fi
+  done
+  if [ -z "${began[last]-}" ] && [ "$(grep -c '^== ' "$work/log")" -ge "$last" ]; then tell_begun "$last"; fi
+}
+
+# Runs rt in the program's folder, where it takes in the crates below the program and no others.
+watched() {
+  (cd "$top/crates/uc" && exec rt "$@") >>"$work/log" 2>&1 </dev/null &
+  child=$!
+  while kill -0 "$child" 2>/dev/null; do show; sleep 1; done
+  show
+  wait "$child"
+}
+
+leave() { [ -z "$child" ] || kill "$child" 2>/dev/null || true; rm -rf -- "$work"; }
+
+fail() {
+  trap - EXIT
+  tail -n 15 -- "$work/log" >&2
+  say "the program could not be built; the log is $work/log"
+  exit 70
+}
+
+build() {
+  work=$(mktemp -d) && touch "$work/start" "$work/log"
+  trap leave EXIT
+  trap 'exit 143' INT TERM HUP
+  mapfile -t crates < <(needed)
+  total=${#crates[@]}
+  say "proving and building the program: some 8 minutes on four free processors the first time; later runs start at once"
+  watched all check --jobs "$(places)" || fail
+  tell_proved $((total - 1))
+  say "linking the program"
+  # The program runs at the end of its build, without words: it tells how it is called, and ends with 5.
+  watched run || [ $? -eq 5 ] || fail
+  # What was edited meanwhile stays newer than the program.
+  touch -r "$work/start" "$program"
+  trap - EXIT INT TERM HUP
+  rm -rf -- "$work"
+  say "built in $((SECONDS / 60)) min $((SECONDS % 60)) s"
+}
+
+is_current || build
 exec "$program" "$@"
