@@ -4,7 +4,7 @@
 set -eu
 top=$(dirname -- "$(readlink -f -- "$0")")
 program=$top/crates/uc/out/uc
-child='' work='' total=0 crates=() began=() ended=()
+child='' work='' crates=() began=() ended=()
 
 say() { printf 'uc: %s\n' "$*" >&2; }
 is_current() {
@@ -12,10 +12,12 @@ is_current() {
     \( -name '*.rt' -o -name '*.antt' -o -name crates.txt \) -newer "$program" -print -quit)" ]
 }
 
-# The crates that the program stands on, and the program: from crates.txt, which has the lowest first.
+# The crates that the program stands on, in the order of crates.txt, and the program.
 needed() {
-  sed 's/#.*//' "$top/crates.txt" | tac | awk -F: 'BEGIN { is_needed["uc"] = 1 } { split($1, name, " ") }
-    is_needed[name[1]] { print name[1]; for (i = split($2, uses, " "); i > 0; i--) is_needed[uses[i]] = 1 }' | tac
+  awk -F: 'function need(name, i, below) { if (!is_needed[name]++) for (i = split(uses[name], below, " "); i; i--) need(below[i]) }
+    { sub(/#.*/, "") } split($1, words, " ") { rows[NR] = words[1]; uses[words[1]] = $2 }
+    END { need("uc"); for (i = 1; i <= NR; i++) if (rows[i] in is_needed && rows[i] != "uc") print rows[i]; print "uc" }' \
+    "$top/crates.txt"
 }
 
 # How many crates to prove side by side: one that waits for a library holds its place, and one that is proved takes some 2 GB.
@@ -23,13 +25,12 @@ places() {
   awk -v most="$(($(nproc) + 2))" '/^MemAvailable/ { n = int($2 / 2e6); print n < 1 ? 1 : n < most ? n : most }' /proc/meminfo
 }
 
-tell_begun() { began[$1]=$SECONDS && say "proving $(($1 + 1)) of $total: ${crates[$1]}"; }
-tell_proved() { ended[$1]=$SECONDS && say "proved $(($1 + 1)) of $total in $((SECONDS - began[$1])) s: ${crates[$1]}"; }
-
+tell_begun() { began[$1]=$SECONDS && say "proving $(($1 + 1)) of ${#crates[@]}: ${crates[$1]}"; }
+tell_proved() { ended[$1]=$SECONDS && say "proved $(($1 + 1)) of ${#crates[@]} in $((SECONDS - began[$1])) s: ${crates[$1]}"; }
 # A library's folder is made when its proof begins, and the stamp in it when that is done. The log names each crate that is
 # done, also those that were proved before, and the program is begun once all others are.
 show() {
-  local i library last=$((total - 1))
+  local i library last=$((${#crates[@]} - 1))
   for ((i = 0; i < last; i++)); do
     library=$top/crates/${crates[i]}/out/rlib
     if [ -z "${began[i]-}" ] && [ "$library" -nt "$work/start" ]; then tell_begun "$i"; fi
@@ -61,10 +62,9 @@ build() {
   trap leave EXIT
   trap 'exit 143' INT TERM HUP
   mapfile -t crates < <(needed)
-  total=${#crates[@]}
   say "proving and building the program: some 8 minutes on four free processors the first time; later runs start at once"
   watched all check --jobs "$(places)" || fail
-  tell_proved $((total - 1))
+  tell_proved $((${#crates[@]} - 1))
   say "linking the program"
   # The program runs at the end of its build, without words: it tells how it is called, and ends with 5.
   watched run || [ $? -eq 5 ] || fail
