@@ -1,0 +1,136 @@
+#!/usr/bin/env python3
+"""Runs `rt ci` and prints, as a table, the processor minutes of each crate for its proof, its tests and its must-fail edits.
+
+    python3 bench/gate.py            # at the top of the repository, with `rt` on the path; what rt says goes to gate.log
+    python3 bench/gate.py --write    # the same, and the table goes into docs/PERFORMANCE.md where the gate passed
+
+Five times a second it looks at the processes below `rt ci` and keeps the processor time of each. The words of a check name its
+crate and say whether it is one of tests, and an edit is checked in a folder of its own. What is left of the whole time, as linking
+and running, stands in the row `rest`. The memory is the greatest sum of what these processes held, with shared pages counted anew.
+"""
+import os
+import pathlib
+import re
+import resource
+import subprocess
+import sys
+import time
+
+PHASES = ("proof", "tests", "edits")
+TICKS = os.sysconf("SC_CLK_TCK")
+PAGE = os.sysconf("SC_PAGE_SIZE")
+BEGIN, END = "<!-- gate.py: begin -->\n", "<!-- gate.py: end -->\n"
+
+
+class Process:
+    """A process as it was last seen: its parent, its processor seconds, the bytes that it holds, and its crate and phase."""
+
+    def __init__(self, number):
+        folder = pathlib.Path("/proc") / str(number)
+        words = (folder / "cmdline").read_bytes().decode(errors="replace").split("\0")
+        self.of = task(words, os.readlink(folder / "cwd"))
+        self.folder = folder
+        self.look()
+
+    def look(self):
+        # (the second field, the command in brackets, can hold spaces)
+        fields = (self.folder / "stat").read_text().rpartition(")")[2].split()
+        self.parent, self.began = int(fields[1]), fields[19]
+        self.seconds = (int(fields[11]) + int(fields[12])) / TICKS
+        self.held = int(fields[21]) * PAGE
+
+
+def task(words, folder):
+    """The crate and the phase of a check, by its words and the folder that it runs in; nothing of another process."""
+    if "--crate-name" not in words[:-1]:
+        return None
+    crate = words[words.index("--crate-name") + 1]
+    if "rt-edit-" in folder:
+        return crate, "edits"
+    return crate, "tests" if "--test" in words else "proof"
+
+
+def below(top, processes):
+    """The processes that the process `top` started, and those that these started."""
+    found = {}
+    for number in processes:
+        line = [number]
+        while line[-1] in processes and line[-1] not in found and line[-1] != top:
+            line.append(processes[line[-1]].parent)
+        if line[-1] == top or line[-1] in found:
+            found.update((it, processes[it]) for it in line[:-1])
+    return found
+
+
+def look(processes):
+    """Brings the table of all processes up to date. A number that was given anew is a new process."""
+    numbers = {int(it) for it in os.listdir("/proc") if it.isdigit()}
+    for number in numbers:
+        try:
+            known, began = processes.get(number), None
+            if known:
+                began = known.began
+                known.look()
+            if not known or known.began != began:
+                processes[number] = Process(number)
+        except (OSError, ValueError, IndexError):
+            numbers = numbers - {number}
+    for number in processes.keys() - numbers:
+        del processes[number]
+
+
+def measured(words, log):
+    """Runs the words. Returns the status, the seconds by crate and phase, the seconds in all and by the clock, and the memory."""
+    seconds, memory, processes, start = {}, 0, {}, time.monotonic()
+    with open(log, "w") as out, subprocess.Popen(words, stdin=subprocess.DEVNULL, stdout=out, stderr=out) as run:
+        while run.poll() is None:
+            look(processes)
+            mine = below(run.pid, processes)
+            for number, it in mine.items():
+                seconds[number, it.began] = it.of, it.seconds
+            memory = max(memory, sum(it.held for it in mine.values()))
+            time.sleep(0.2)
+    used = resource.getrusage(resource.RUSAGE_CHILDREN)
+    table = {}
+    for of, spent in seconds.values():
+        if of:
+            table[of] = table.get(of, 0) + spent
+    return run.returncode, table, used.ru_utime + used.ru_stime, time.monotonic() - start, memory
+
+
+def crates(top):
+    """The names of the crates, in the order of crates.txt."""
+    rows = (it.partition("#")[0].partition(":")[0].split() for it in (top / "crates.txt").read_text().splitlines())
+    return [it[0] for it in rows if it]
+
+
+def row(name, numbers):
+    return f"| {name} | " + " | ".join("" if it is None else f"{it / 60:.1f}" for it in numbers) + " |\n"
+
+
+def as_text(names, table, whole, clock, memory):
+    text = "| Crate | Proof | Tests | Edits | Sum |\n|---|---|---|---|---|\n"
+    for name in names:
+        spent = [table.get((name, phase)) for phase in PHASES]
+        text += row(name, [*spent, sum(it or 0 for it in spent)])
+    text += row("rest", [None, None, None, max(whole - sum(table.values()), 0)])
+    text += row("sum", [*(sum(it for of, it in table.items() if of[1] == phase) for phase in PHASES), whole])
+    processors = len(os.sched_getaffinity(0))
+    return text + f"\n{clock / 60:.0f} minutes on {processors} processors, and {memory / 1e9:.1f} GB at most.\n"
+
+
+def main():
+    top = pathlib.Path.cwd()
+    status, table, whole, clock, memory = measured(["rt", "ci"], top / "gate.log")
+    text = as_text(crates(top), table, whole, clock, memory)
+    print(text, end="")
+    print(f"rt ci ended with status {status}: {(top / 'gate.log').read_text().splitlines()[-1]}")
+    if "--write" in sys.argv[1:] and status == 0:
+        page = top / "docs" / "PERFORMANCE.md"
+        block = re.compile(f"{re.escape(BEGIN)}.*{re.escape(END)}", re.S)
+        page.write_text(block.sub(lambda _: BEGIN + text + END, page.read_text()))
+    return status
+
+
+if __name__ == "__main__":
+    sys.exit(main())
