@@ -11,6 +11,18 @@ use uc_model::{List, Name, Point, StartRow, Thermal};
 /// Dollars in micro-dollars, and megawatts in watts.
 pub(crate) const MILLION: i64 = 1_000_000;
 
+/// Points of 10 and 50 MW at 100 and 500 dollars an hour.
+pub(crate) const LINE: [Point; 2] = [
+    Point {
+        mw: 10 * MILLION,
+        cost: 100 * MILLION,
+    },
+    Point {
+        mw: 50 * MILLION,
+        cost: 500 * MILLION,
+    },
+];
+
 /// What an example changes of the unit of 10 to 50 MW.
 #[derive(Clone, Copy)]
 pub(crate) struct Change {
@@ -21,7 +33,7 @@ pub(crate) struct Change {
     pub(crate) down0: u16,
 }
 
-// A unit of 10 to 50 MW at 100 and 500 dollars, on initially at 20 MW or off, with these start categories.
+// A unit of these points, on initially at 20 MW or off, with these start categories.
 pub(crate) fn unit(alloc: Global, change: Change, startup: Vec<StartRow>) -> Result<Thermal, Fail>
     requires rows { IsTrue (list_all (λ row. nat_le row.lag 1000 && (int_le (pos 0) row.cost && int_le row.cost (pos 1000))) startup.items) }
     requires count { (1 ≤ length startup.items) × (length startup.items ≤ 16) }
@@ -29,19 +41,7 @@ pub(crate) fn unit(alloc: Global, change: Change, startup: Vec<StartRow>) -> Res
     ensures lawful { IfOk result IsLawfulThermal }
     ensures points { IfOk result (λ unit. unit.points ≡ record { mw = pos 10000000; cost = pos 100000000 } ∷ record { mw = pos 50000000; cost = pos 500000000 } ∷ []) }
 {
-    let points = Vec::from_array(
-        alloc,
-        [
-            Point {
-                mw: 10 * MILLION,
-                cost: 100 * MILLION,
-            },
-            Point {
-                mw: 50 * MILLION,
-                cost: 500 * MILLION,
-            },
-        ],
-    )?;
+    let points = Vec::from_array(alloc, LINE)?;
     Ok(Thermal {
         name: Name::from_string(String::new(alloc)),
         must_run: change.must_run,

@@ -3,7 +3,7 @@
 ghost use Rattle.std.specs.Prelude.{◌≤◌, pos, ◌≤ℤ◌, ◌≡◌};
 ghost use Rattle.uc_model.specs.Limits.{IsLawfulThermal};
 
-use crate::fixtures::{Change, MILLION, unit};
+use crate::fixtures::{Change, LINE, MILLION, unit};
 use dual_model::Fix;
 use state_walk::{Walk, least, sigma, term, terms};
 use std::alloc::Global;
@@ -59,18 +59,8 @@ fn the_last_stop_allows_a_category(rt: HostRuntime) -> Result<(), Fail> {
 // A term on the line between two points, and terms that are rounded down.
 #[test]
 fn terms_are_rounded_down(rt: HostRuntime) {
-    let line = [
-        Point {
-            mw: 10 * MILLION,
-            cost: 100 * MILLION,
-        },
-        Point {
-            mw: 50 * MILLION,
-            cost: 500 * MILLION,
-        },
-    ];
     assert_eq!(rt;
-        term(&line, MILLION, -20_000_000, 0, 15 * MILLION),
+        term(&LINE, MILLION, -20_000_000, 0, 15 * MILLION),
         Some(-50_000_000_000_000)
     );
     let rising = [Point { mw: 0, cost: 0 }, Point { mw: 3, cost: 1 }];

@@ -24,18 +24,20 @@ hour terms unit on zero = Some (pos 0)
 hour terms unit on (suc t) =
     if on t then hour_cost terms unit t (term_at terms t (starts unit on t) (is_followed (period_count terms) unit on t)) else Some (pos 0)
 
+-- the hour before, by whether a stop follows it
+hour-last : (terms : Terms) (unit : Thermal) (on : Commitment) (t : ℕ) (followed : Bool) → was_on unit on (suc t) ≡ true
+    → followed ≡ is_followed (period_count terms) unit on t
+    → hour_cost terms unit t (term_at terms t (since unit.on0 on (suc t) == suc t) followed) ≡ hour terms unit on (suc t)
+hour-last terms unit on t followed e same =
+    (λ i. hour_cost terms unit t (term_at terms t (since-start unit on t e i) (same i))) ∙ sym (cond-true (on t) _ _ e)
+
 -- the same of a state that is on, before a period of the horizon and after the last one
 pub hour-on : (terms : Terms) (unit : Thermal) (on : Commitment) (t : ℕ) → t < period_count terms → was_on unit on t ≡ true
     → hour_before terms unit t (since unit.on0 on t == t) (not (on t)) ≡ hour terms unit on t
 hour-on terms unit on zero h e = refl
 hour-on terms unit on (suc t) h e =
-    let followed : not (on (suc t)) ≡ is_followed (period_count terms) unit on t =
-    sym (
-    (λ i. (e i && not (on (suc t))) && lt-ltb (suc t) (period_count terms) h i)
-    ∙ and_true (not (on (suc t)))
-    ) in
-    (λ i. hour_cost terms unit t (term_at terms t (since-start unit on t e i) (followed i)))
-    ∙ sym (cond-true (on t) _ _ e)
+    hour-last terms unit on t _ e
+    (sym ((λ i. (e i && not (on (suc t))) && lt-ltb (suc t) (period_count terms) h i) ∙ and_true (not (on (suc t)))))
   where
     and_true : (b : Bool) → (b && true) ≡ b
     and_true true = refl
@@ -45,13 +47,9 @@ pub hour-end : (terms : Terms) (unit : Thermal) (on : Commitment) (t : ℕ) → 
     → hour_before terms unit t (since unit.on0 on t == t) false ≡ hour terms unit on t
 hour-end terms unit on zero h e = refl
 hour-end terms unit on (suc t) h e =
-    let followed : false ≡ is_followed (period_count terms) unit on t =
-    sym (
-    (λ i. stops unit on (suc t) && le-ltb (suc t) (period_count terms) (let le : period_count terms ≤ suc t = omega arith in le) i)
-    ∙ and_false (stops unit on (suc t))
-    ) in
-    (λ i. hour_cost terms unit t (term_at terms t (since-start unit on t e i) (followed i)))
-    ∙ sym (cond-true (on t) _ _ e)
+    let past : period_count terms ≤ suc t = omega arith in
+    hour-last terms unit on t false e
+    (sym ((λ i. stops unit on (suc t) && le-ltb (suc t) (period_count terms) past i) ∙ and_false (stops unit on (suc t))))
   where
     and_false : (b : Bool) → (b && false) ≡ false
     and_false true = refl

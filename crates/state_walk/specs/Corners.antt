@@ -2,7 +2,7 @@
 -- that is left, and such a point with one right of the cap that together meet it. Source: the vertices of the linear
 -- program of a cell in the Lagrangian relaxation of the reference model by Knueven, Ostrowski and Watson; the least
 -- cost of a linear program is attained at a vertex.
-use Rattle.std.specs.Prelude.{ℕ, ◌*◌, ◌^◌, ◌<◌, ◌≤◌, List, ℤ, pos, ◌+ℤ◌, ◌-ℤ◌, ◌*ℤ◌, neg_ℤ, ◌≤ℤ◌, unsigned_abs, int_le, int_lt, length}
+use Rattle.std.specs.Prelude.{ℕ, ◌*◌, ◌^◌, ◌<◌, ◌≤◌, List, ℤ, pos, ◌+ℤ◌, ◌-ℤ◌, ◌*ℤ◌, neg_ℤ, ◌≤ℤ◌, ◌<ℤ◌, unsigned_abs, int_le, int_lt, length}
 use Rattle.std.specs.Int.{int_min, int_div_euclid}
 use Rattle.uc_model.specs.Sums.{least_below}
 use Rattle.uc_model.specs.Points.{point_of, output_of}
@@ -54,6 +54,14 @@ pub record IsLawfulCell (points : List Point) (k a b cap : ℤ) : Type 0 where
   pub output_price : unsigned_abs a ≤ MAX_UNIT_PRICE
   pub reserve_price : unsigned_abs b ≤ MAX_UNIT_PRICE
   pub cap_size : unsigned_abs cap ≤ MAX_CAP
+
+-- a point at or left of the cap of such a cell, and one right of it
+pub record IsLawfulPair (points : List Point) (k a b cap : ℤ) (l j : ℕ) : Type 0 where
+  pub lawful : IsLawfulCell points k a b cap
+  pub left_point : l < length points
+  pub right_point : j < length points
+  pub left : pos 0 ≤ℤ room points cap l
+  pub right : room points cap j <ℤ pos 0
 
 -- the sizes of these numbers
 abbrev pub MAX_ROOM : ℕ

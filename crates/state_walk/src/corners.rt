@@ -1,10 +1,10 @@
 //! The term of a cell: the least reduced cost of an on hour, found at the corners of its choices, each a
 //! point or a pair of points.
 
-ghost use Rattle.std.specs.Prelude.{◌≡◌, ◌+◌, ◌*◌, ◌^◌, ◌<◌, ◌≤◌, IfSome, length, pos, ◌+ℤ◌, ◌-ℤ◌, ◌*ℤ◌, ◌≤ℤ◌, ◌<ℤ◌, int_le, int_lt, unsigned_abs};
+ghost use Rattle.std.specs.Prelude.{◌≡◌, ◌+◌, ◌*◌, ◌^◌, ◌<◌, ◌≤◌, IfSome, length, pos, ◌+ℤ◌, ◌-ℤ◌, ◌*ℤ◌, ◌≤ℤ◌, int_le, int_lt, unsigned_abs};
 ghost use Rattle.uc_model.specs.Division.{IsFloor};
 ghost use Rattle.uc_model.specs.Points.{output_of, point_of};
-ghost use Rattle.state_walk.specs.Corners.{corner_cost as corner_cost_of, IsLawfulCell, least_corner as least_corner_of, least_pair as least_pair_of, pair_cost as pair_cost_of, point_cost as point_cost_of, room as room_of, weighted_cost as weighted_cost_of, MAX_POINT_COST, MAX_ROOM, MAX_WEIGHTED};
+ghost use Rattle.state_walk.specs.Corners.{corner_cost as corner_cost_of, IsLawfulCell, IsLawfulPair, least_corner as least_corner_of, least_pair as least_pair_of, pair_cost as pair_cost_of, point_cost as point_cost_of, room as room_of, weighted_cost as weighted_cost_of, MAX_POINT_COST, MAX_ROOM, MAX_WEIGHTED};
 ghost use Rattle.dual_model.specs.TableValue.{IsCellTerm};
 
 use dual_model::limits::MAX_TERM;
@@ -88,11 +88,7 @@ fn least_pair(points: &[Point], cell: &PricedCell, l: usize) -> i128
 // The cost of the weights on the points l and j that meet the cap, rounded down. The price of the output is
 // the cap's in any case, and stands outside the quotient, where the numbers would not fit.
 fn pair_cost(points: &[Point], cell: &PricedCell, l: usize, j: usize) -> i128
-    requires lawful { IsLawfulCell points.now cell.now.k cell.now.a cell.now.b cell.now.cap }
-    requires left_point { l < length points.now }
-    requires right_point { j < length points.now }
-    requires left { pos 0 ≤ℤ room_of points.now cell.now.cap l }
-    requires right { room_of points.now cell.now.cap j <ℤ pos 0 }
+    requires { IsLawfulPair points.now cell.now.k cell.now.a cell.now.b cell.now.cap l j }
     ensures { result ≡ pair_cost_of points.now cell.now.k cell.now.a cell.now.cap l j }
 {
     let price = product(cell.a, i128::from(cell.cap));
@@ -101,11 +97,7 @@ fn pair_cost(points: &[Point], cell: &PricedCell, l: usize, j: usize) -> i128
 
 // The same without the price of the output.
 fn unpriced_pair_cost(points: &[Point], cell: &PricedCell, l: usize, j: usize) -> i128
-    requires lawful { IsLawfulCell points.now cell.now.k cell.now.a cell.now.b cell.now.cap }
-    requires left_point { l < length points.now }
-    requires right_point { j < length points.now }
-    requires left { pos 0 ≤ℤ room_of points.now cell.now.cap l }
-    requires right { room_of points.now cell.now.cap j <ℤ pos 0 }
+    requires { IsLawfulPair points.now cell.now.k cell.now.a cell.now.b cell.now.cap l j }
     ensures floor { IsFloor (cell.now.k *ℤ weighted_cost_of points.now cell.now.cap l j) (room_of points.now cell.now.cap l -ℤ room_of points.now cell.now.cap j) result }
     ensures size { unsigned_abs result ≤ 10 ^ 9 * MAX_WEIGHTED }
 {

@@ -5,7 +5,7 @@ use Rattle.std.specs.Prelude.{ℕ, ◌*◌, Bool, true, false, not, ◌&&◌, �
 use Rattle.uc_model.specs.Sums.{bit}
 use Rattle.uc_model.specs.Commitment.{Commitment, was_on, stops, stop_reduction}
 use Rattle.uc_model.specs.Rules.{Rule, MustRun, InitialUp, InitialDown, MinimumUp, MinimumDown, Category, InitialStop, Production, StartCap, StopCap, RampUp, RampDown, RenewableRange, Demand, Reserve, holds, holds_at}
-use Rattle.uc_model.specs.Schedule.{thermal_unit}
+use Rattle.uc_model.specs.Schedule.{no_unit, thermal_unit}
 use Rattle.uc_model.specs.PrintedSchedule.{printed_schedule, printed_denominator, printed_cost, cell_at}
 use Rattle.uc_model.specs.declared.instance.Thermal.{Thermal}
 use Rattle.uc_model.specs.declared.instance.Instance.{Instance}
@@ -21,27 +21,22 @@ mw n = pos (n * 1000000)
 abbrev pub dollars : ℕ → ℤ
 dollars n = pos (n * 1000000)
 
--- on initially at 20 MW, 100 dollars an hour at 10 MW and 500 at 50 MW, its start-up and shut-down limits
--- and ramps as wide as its range, and all times 1
-abbrev pub base_unit : Thermal
-base_unit = record {
-  name = [];
-  must_run = false;
+-- 100 dollars an hour at 10 MW and 500 at 50 MW, with free starts
+abbrev pub ranged_unit : Thermal
+ranged_unit = record no_unit {
   pmin = mw 10;
   pmax = mw 50;
-  ru = mw 40;
-  rd = mw 40;
-  su = mw 50;
-  sd = mw 50;
-  ut = 1;
-  dt = 1;
-  p0 = mw 20;
-  on0 = true;
-  ut0 = 1;
-  dt0 = 0;
   startup = record { lag = 1; cost = pos 0 } ∷ [];
   points = (record { mw = mw 10; cost = dollars 100 }) ∷ (record { mw = mw 50; cost = dollars 500 }) ∷ [];
 }
+
+-- its start-up and shut-down limits and ramps as wide as its range
+abbrev pub free_unit : Thermal
+free_unit = record ranged_unit { ru = mw 40; rd = mw 40; su = mw 50; sd = mw 50 }
+
+-- on initially at 20 MW, and all times 1
+abbrev pub base_unit : Thermal
+base_unit = record free_unit { ut = 1; dt = 1; p0 = mw 20; on0 = true; ut0 = 1 }
 
 -- the same, off initially
 abbrev pub cold_unit : Thermal
@@ -73,87 +68,49 @@ on p r c = record { on = true; p = mw p; r = mw r; category = c }
 abbrev pub cells : List Cell → Printed
 cells row = record { thermal = row ∷ []; renewable = [] ∷ [] }
 
+-- the thermal unit at these demands, with these cells
+abbrev pub tried : Thermal → List ℤ → List ℤ → List Cell → Example
+tried unit demand reserves row = record { instance = system unit demand reserves; printed = cells row }
+
 -- a schedule that obeys every rule: 30 MW and 5 MW of reserve
 abbrev pub obeying : Example
-obeying = record { instance = system base_unit (mw 30 ∷ []) (mw 5 ∷ []); printed = cells (on 20 5 0 ∷ []) }
+obeying = tried base_unit (mw 30 ∷ []) (mw 5 ∷ []) (on 20 5 0 ∷ [])
 
 -- a schedule that breaks the rule and no other
 abbrev pub breaking : Rule → Example
 -- off, though it must run
-breaking MustRun = record {
-  instance = system (record base_unit { must_run = true }) (mw 0 ∷ []) (mw 0 ∷ []);
-  printed = cells (off ∷ []);
-}
+breaking MustRun = tried (record base_unit { must_run = true }) (mw 0 ∷ []) (mw 0 ∷ []) (off ∷ [])
 -- off after one of three hours up
-breaking InitialUp = record {
-  instance = system (record base_unit { ut = 3 }) (mw 0 ∷ []) (mw 0 ∷ []);
-  printed = cells (off ∷ []);
-}
+breaking InitialUp = tried (record base_unit { ut = 3 }) (mw 0 ∷ []) (mw 0 ∷ []) (off ∷ [])
 -- on after one of three hours down
-breaking InitialDown = record {
-  instance = system (record cold_unit { must_run = true; dt = 3 }) (mw 30 ∷ []) (mw 0 ∷ []);
-  printed = cells (on 20 0 1 ∷ []);
-}
+breaking InitialDown = tried (record cold_unit { must_run = true; dt = 3 }) (mw 30 ∷ []) (mw 0 ∷ []) (on 20 0 1 ∷ [])
 -- up for one of two hours
-breaking MinimumUp = record {
-  instance = system (record cold_unit { ut = 2 }) (mw 30 ∷ mw 0 ∷ []) (mw 0 ∷ mw 0 ∷ []);
-  printed = cells (on 20 0 1 ∷ off ∷ []);
-}
+breaking MinimumUp = tried (record cold_unit { ut = 2 }) (mw 30 ∷ mw 0 ∷ []) (mw 0 ∷ mw 0 ∷ []) (on 20 0 1 ∷ off ∷ [])
 -- down for one of two hours
-breaking MinimumDown = record {
-  instance = system (record base_unit { dt = 2 }) (mw 0 ∷ mw 30 ∷ []) (mw 0 ∷ mw 0 ∷ []);
-  printed = cells (off ∷ on 20 0 1 ∷ []);
-}
+breaking MinimumDown = tried (record base_unit { dt = 2 }) (mw 0 ∷ mw 30 ∷ []) (mw 0 ∷ mw 0 ∷ []) (off ∷ on 20 0 1 ∷ [])
 -- a start without a category
-breaking Category = record {
-  instance = system cold_unit (mw 30 ∷ []) (mw 0 ∷ []);
-  printed = cells (on 20 0 0 ∷ []);
-}
+breaking Category = tried cold_unit (mw 30 ∷ []) (mw 0 ∷ []) (on 20 0 0 ∷ [])
 -- a stop from 20 MW above the minimum, where 10 MW are allowed
-breaking InitialStop = record {
-  instance = system (record base_unit { p0 = mw 30; sd = mw 20 }) (mw 0 ∷ []) (mw 0 ∷ []);
-  printed = cells (off ∷ []);
-}
+breaking InitialStop = tried (record base_unit { p0 = mw 30; sd = mw 20 }) (mw 0 ∷ []) (mw 0 ∷ []) (off ∷ [])
 -- a reserve below 0
-breaking Production = record {
-  instance = system base_unit (mw 30 ∷ []) (negsuc 0 ∷ []);
-  printed = cells ((record { on = true; p = mw 20; r = negsuc 0; category = 0 }) ∷ []);
-}
+breaking Production = tried base_unit (mw 30 ∷ []) (negsuc 0 ∷ []) ((record { on = true; p = mw 20; r = negsuc 0; category = 0 }) ∷ [])
 -- a start at 20 MW above the minimum, where 10 MW are allowed
-breaking StartCap = record {
-  instance = system (record cold_unit { su = mw 20 }) (mw 30 ∷ []) (mw 0 ∷ []);
-  printed = cells (on 20 0 1 ∷ []);
-}
+breaking StartCap = tried (record cold_unit { su = mw 20 }) (mw 30 ∷ []) (mw 0 ∷ []) (on 20 0 1 ∷ [])
 -- 20 MW above the minimum before a stop, where 10 MW are allowed
-breaking StopCap = record {
-  instance = system (record base_unit { sd = mw 20 }) (mw 30 ∷ mw 0 ∷ []) (mw 0 ∷ mw 0 ∷ []);
-  printed = cells (on 20 0 0 ∷ off ∷ []);
-}
+breaking StopCap = tried (record base_unit { sd = mw 20 }) (mw 30 ∷ mw 0 ∷ []) (mw 0 ∷ mw 0 ∷ []) (on 20 0 0 ∷ off ∷ [])
 -- 10 MW up in an hour, where 5 MW are allowed
-breaking RampUp = record {
-  instance = system (record base_unit { ru = mw 5 }) (mw 30 ∷ []) (mw 0 ∷ []);
-  printed = cells (on 20 0 0 ∷ []);
-}
+breaking RampUp = tried (record base_unit { ru = mw 5 }) (mw 30 ∷ []) (mw 0 ∷ []) (on 20 0 0 ∷ [])
 -- 10 MW down in the hour of a stop, where 5 MW are allowed
-breaking RampDown = record {
-  instance = system (record base_unit { rd = mw 5 }) (mw 20 ∷ mw 0 ∷ []) (mw 0 ∷ mw 0 ∷ []);
-  printed = cells (on 10 0 0 ∷ off ∷ []);
-}
+breaking RampDown = tried (record base_unit { rd = mw 5 }) (mw 20 ∷ mw 0 ∷ []) (mw 0 ∷ mw 0 ∷ []) (on 10 0 0 ∷ off ∷ [])
 -- 6 MW of the renewable unit's 5 MW
 breaking RenewableRange = record {
   instance = system base_unit (mw 36 ∷ []) (mw 0 ∷ []);
   printed = record { thermal = (on 20 0 0 ∷ []) ∷ []; renewable = (mw 6 ∷ []) ∷ [] };
 }
 -- 30 MW for a demand of 31 MW
-breaking Demand = record {
-  instance = system base_unit (mw 31 ∷ []) (mw 0 ∷ []);
-  printed = cells (on 20 0 0 ∷ []);
-}
+breaking Demand = tried base_unit (mw 31 ∷ []) (mw 0 ∷ []) (on 20 0 0 ∷ [])
 -- 20 MW of reserve where 21 MW are needed
-breaking Reserve = record {
-  instance = system base_unit (mw 30 ∷ []) (mw 21 ∷ []);
-  printed = cells (on 20 20 0 ∷ []);
-}
+breaking Reserve = tried base_unit (mw 30 ∷ []) (mw 21 ∷ []) (on 20 20 0 ∷ [])
 
 abbrev pub all_rules : List Rule
 all_rules =
@@ -201,10 +158,7 @@ weak_start_unit = record cold_unit { su = mw 5 }
 
 -- 5 MW above the minimum and a stop, where the shut-down limit allows 10 MW
 abbrev pub stopping : Example
-stopping = record {
-  instance = system (record base_unit { sd = mw 20 }) (mw 15 ∷ mw 0 ∷ []) (mw 0 ∷ mw 0 ∷ []);
-  printed = cells (on 5 0 0 ∷ off ∷ []);
-}
+stopping = tried (record base_unit { sd = mw 20 }) (mw 15 ∷ mw 0 ∷ []) (mw 0 ∷ mw 0 ∷ []) (on 5 0 0 ∷ off ∷ [])
 
 abbrev pub printed_cost_of : Example → ℤ
 printed_cost_of e = printed_cost e.instance e.printed

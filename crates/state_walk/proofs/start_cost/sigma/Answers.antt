@@ -1,5 +1,5 @@
 -- The category s joins the least one where the last stop allows it.
-use Rattle.std.proofs.Common.{arith, add-one, sym, ◌∙◌}
+use Rattle.std.proofs.Common.{arith, add-one}
 use Rattle.std.proofs.lemmas.Int.{to_z-of_z}
 use Rattle.std.proofs.lemmas.Bool.{cond-true, cond-false}
 use Rattle.state_walk.proofs.start_cost.sigma.Goals as goal
@@ -7,9 +7,6 @@ use Rattle.state_walk.proofs.start_cost.sigma.Goals.{then-may_cost_as, else-may_
 
 pub loop-s-preserved : goal.loop-s-preserved
 loop-s-preserved c = elim c.if-may_cost_as.branch [
-  | then-may_cost_as w ↦
-      rw (add-one c.loop-s.s) (grind (arith, to_z-of_z, cond-true))
-  | else-may_cost_as w ↦
-      let no = sym c.may_cost_as.ensures ∙ w.if-may_cost_as.false in
-      rw (add-one c.loop-s.s) (w.least-is ∙ c.loop-s.invariant ∙ sym (cond-false _ _ _ no))
+  | then-may_cost_as w ↦ rw (add-one c.loop-s.s) (grind (arith, to_z-of_z, cond-true))
+  | else-may_cost_as w ↦ rw (add-one c.loop-s.s) (grind (arith, cond-false))
 ]
