@@ -1,5 +1,5 @@
 -- The costs of the walk are far below the ends of 128 bits.
-use Rattle.std.proofs.Common.{ℕ, zero, suc, ◌+◌, ◌*◌, ◌^◌, ◌<◌, ◌≤◌, ◌-◌, Bool, true, false, arith, ℤ, pos, ◌*ℤ◌}
+use Rattle.std.proofs.Common.{ℕ, zero, suc, ◌+◌, ◌*◌, ◌^◌, ◌<◌, ◌≤◌, Bool, true, false, arith, ℤ, pos, ◌*ℤ◌}
 use Rattle.std.specs.Prelude.{Option, Some, None, unsigned_abs, ◌==◌, if◌then◌else◌}
 use Rattle.std.proofs.lemmas.Int.{ints}
 use Rattle.std.proofs.lemmas.Bool.{cond_both}
