@@ -38,14 +38,6 @@ point_cost-size points k a b cap lawful l h =
     let whole = abs_add (k *ℤ (point_of points l).cost) (a *ℤ output_of points l) _ _ cost output in
     omega arith
 
-pub weighted_cost-size : (points : List Point) (k a b cap : ℤ) → IsLawfulCell points k a b cap → (l j : ℕ) → l < length points → j < length points
-    → unsigned_abs (weighted_cost points cap l j) ≤ MAX_WEIGHTED
-weighted_cost-size points k a b cap lawful l j hl hj =
-    let first = abs_mul (room points cap l) (point_of points j).cost MAX_ROOM MAX_COST (room-size points k a b cap lawful l hl) (lawful.costs j hj) in
-    let second = abs_mul (room points cap j) (point_of points l).cost MAX_ROOM MAX_COST (room-size points k a b cap lawful j hj) (lawful.costs l hl) in
-    let whole = abs_sub (room points cap l *ℤ (point_of points j).cost) (room points cap j *ℤ (point_of points l).cost) _ _ first second in
-    omega arith
-
 -- ---- the cost of a pair
 pair_spread : (cap xl xj k a cl cj : ℤ)
     → neg_ℤ (cap -ℤ xj) *ℤ (k *ℤ cl +ℤ a *ℤ xl) +ℤ (cap -ℤ xl) *ℤ (k *ℤ cj +ℤ a *ℤ xj)

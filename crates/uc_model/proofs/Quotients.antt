@@ -1,6 +1,6 @@
 -- Laws of floor and ceiling, `IsFloor a b n` and `IsCeiling a b n`, for a positive b.
 -- Cite from a crate above by `use Rattle.uc_model.proofs.Quotients.{IsFloor-greatest}`.
-use Rattle.std.proofs.Common.{◌≡◌, ℕ, ◌/◌, ◌%◌, ◌<◌, ◌≢◌, ◌-◌, unsigned_abs, subst, arith, ℤ, pos, negsuc, ◌+ℤ◌, ◌*ℤ◌, neg_ℤ, ◌≤ℤ◌, ◌<ℤ◌}
+use Rattle.std.proofs.Common.{◌≡◌, ◌%◌, ◌≢◌, ◌-◌, unsigned_abs, subst, arith, ℤ, pos, negsuc, ◌+ℤ◌, ◌*ℤ◌, neg_ℤ, ◌≤ℤ◌, ◌<ℤ◌}
 use Rattle.std.specs.Int.{int_div_euclid, int_rem_euclid}
 use Rattle.std.proofs.lemmas.Int.{ints, by_lt_z}
 use Rattle.uc_model.specs.Division.{IsFloor, IsCeiling, quotient_up}
@@ -23,9 +23,6 @@ below_next b m n positive less = by_lt_z n m (λ above. absurd (apart above)) (�
 pub IsFloor-greatest : (a b n m : ℤ) → pos 0 <ℤ b → IsFloor a b n → (m *ℤ b) ≤ℤ a → m ≤ℤ n
 IsFloor-greatest a b n m positive floor le = below_next b m n positive (omega (arith, linear))
 
-pub IsFloor_mono : (a c b m n : ℤ) → pos 0 <ℤ b → IsFloor a b m → IsFloor c b n → a ≤ℤ c → m ≤ℤ n
-IsFloor_mono a c b m n positive floor other le = IsFloor-greatest c b n m positive other (omega (arith, linear))
-
 -- there is one floor
 pub IsFloor_unique : (a b m n : ℤ) → pos 0 <ℤ b → IsFloor a b m → IsFloor a b n → m ≡ n
 IsFloor_unique a b m n positive floor other =
@@ -36,79 +33,25 @@ IsFloor-int_div_euclid (pos a) (pos b) positive = omega (arith, ints)
 IsFloor-int_div_euclid (negsuc a) (pos b) positive = omega (arith, ints)
 IsFloor-int_div_euclid a (negsuc b) positive = absurd (omega (arith, linear))
 
--- there is a floor
-pub IsFloor_exists : (a b : ℤ) → pos 0 <ℤ b → (n : ℤ) × IsFloor a b n
-IsFloor_exists a b positive = (int_div_euclid a b, IsFloor-int_div_euclid a b positive)
-
--- the floor of a number of ℕ is the quotient of ℕ
-pub IsFloor-pos : (a b : ℕ) → 0 < b → IsFloor (pos a) (pos b) (pos (a / b))
-IsFloor-pos a b positive = omega (arith, ints)
-
--- the floor of a multiple
-pub IsFloor-mul : (n b : ℤ) → pos 0 <ℤ b → IsFloor (n *ℤ b) b n
-IsFloor-mul n b positive = record { below = omega (arith, linear); next = omega (arith, linear) }
-
 -- m times b more is m more
 pub IsFloor-add : (a b n m : ℤ) → IsFloor a b n → IsFloor (a +ℤ m *ℤ b) b (n +ℤ m)
 IsFloor-add a b n m floor = record { below = simp add-mul (omega (arith, linear)); next = simp add-mul (omega (arith, linear)) }
-
--- the floor of a sum is at least the sum of the floors
-pub IsFloor-sum : (a c b m n k : ℤ) → pos 0 <ℤ b → IsFloor a b m → IsFloor c b n → IsFloor (a +ℤ c) b k → (m +ℤ n) ≤ℤ k
-IsFloor-sum a c b m n k positive floor other both =
-    IsFloor-greatest (a +ℤ c) b k (m +ℤ n) positive both (simp add-mul (omega (arith, linear)))
 
 -- ---- the ceiling
 -- the ceiling of a / b is the floor of -a / b, negated, and the other way round
 pub IsCeiling-neg : (a b n : ℤ) → IsFloor a b n → IsCeiling (neg_ℤ a) b (neg_ℤ n)
 IsCeiling-neg a b n floor = record { above = simp neg-mul (omega (arith, linear)); before = simp neg-mul (omega (arith, linear)) }
 
-pub IsFloor-neg : (a b n : ℤ) → IsCeiling a b n → IsFloor (neg_ℤ a) b (neg_ℤ n)
-IsFloor-neg a b n ceiling = record { below = simp neg-mul (omega (arith, linear)); next = simp neg-mul (omega (arith, linear)) }
-
 -- each whole number at least a / b is at least the ceiling
 pub IsCeiling-least : (a b n m : ℤ) → pos 0 <ℤ b → IsCeiling a b n → a ≤ℤ (m *ℤ b) → n ≤ℤ m
 IsCeiling-least a b n m positive ceiling le = below_next b n m positive (omega (arith, linear))
-
-pub IsCeiling_mono : (a c b m n : ℤ) → pos 0 <ℤ b → IsCeiling a b m → IsCeiling c b n → a ≤ℤ c → m ≤ℤ n
-IsCeiling_mono a c b m n positive ceiling other le = IsCeiling-least a b m n positive ceiling (omega (arith, linear))
 
 -- there is one ceiling
 pub IsCeiling_unique : (a b m n : ℤ) → pos 0 <ℤ b → IsCeiling a b m → IsCeiling a b n → m ≡ n
 IsCeiling_unique a b m n positive ceiling other =
     le_antisymm m n (IsCeiling-least a b m n positive ceiling other.above) (IsCeiling-least a b n m positive other ceiling.above)
 
--- there is a ceiling
-pub IsCeiling_exists : (a b : ℤ) → pos 0 <ℤ b → (n : ℤ) × IsCeiling a b n
-IsCeiling_exists a b positive =
-    let floor = IsFloor_exists (neg_ℤ a) b positive in
-    (neg_ℤ floor.0, subst (λ x. IsCeiling x b (neg_ℤ floor.0)) (neg_neg a) (IsCeiling-neg (neg_ℤ a) b floor.0 floor.1))
-  where
-    neg_neg : (a : ℤ) → neg_ℤ (neg_ℤ a) ≡ a
-    neg_neg a = omega (arith, linear)
-
--- the ceiling of a multiple
-pub IsCeiling-mul : (n b : ℤ) → pos 0 <ℤ b → IsCeiling (n *ℤ b) b n
-IsCeiling-mul n b positive = record { above = omega (arith, linear); before = omega (arith, linear) }
-
--- m times b more is m more
-pub IsCeiling-add : (a b n m : ℤ) → IsCeiling a b n → IsCeiling (a +ℤ m *ℤ b) b (n +ℤ m)
-IsCeiling-add a b n m ceiling = record { above = simp add-mul (omega (arith, linear)); before = simp add-mul (omega (arith, linear)) }
-
--- the ceiling of a sum is at most the sum of the ceilings
-pub IsCeiling-sum : (a c b m n k : ℤ) → pos 0 <ℤ b → IsCeiling a b m → IsCeiling c b n → IsCeiling (a +ℤ c) b k → k ≤ℤ (m +ℤ n)
-IsCeiling-sum a c b m n k positive ceiling other both =
-    IsCeiling-least (a +ℤ c) b k (m +ℤ n) positive both (simp add-mul (omega (arith, linear)))
-
 -- ---- both
-pub floor-le-ceiling : (a b m n : ℤ) → pos 0 <ℤ b → IsFloor a b m → IsCeiling a b n → m ≤ℤ n
-floor-le-ceiling a b m n positive floor ceiling =
-    let nearer : (m *ℤ b) ≤ℤ (n *ℤ b) = omega (arith, linear) in
-    below_next b m n positive (omega (arith, linear))
-
-pub ceiling-le-floor_next : (a b m n : ℤ) → pos 0 <ℤ b → IsFloor a b m → IsCeiling a b n → n ≤ℤ (m +ℤ pos 1)
-ceiling-le-floor_next a b m n positive floor ceiling =
-    IsCeiling-least a b n (m +ℤ pos 1) positive ceiling (simp (add-mul, one-mul) (omega (arith, linear)))
-
 -- the ceiling by the floor: the floor where nothing is left, and else one more
 pub IsCeiling-exact : (a b n : ℤ) → pos 0 <ℤ b → IsFloor a b n → n *ℤ b ≡ a → IsCeiling a b n
 IsCeiling-exact a b n positive floor exact = record { above = omega (arith, linear); before = omega (arith, linear) }

@@ -4,7 +4,7 @@
 --     spread      for `simp`: a product of sums and negations becomes a sum of products of atoms.
 -- `simp spread (omega (arith, linear))` closes what is linear once the products are spread. Where a product stands with its
 -- factors in two orders, add `mul_comm a b` to `omega`'s list. A fact that is to be multiplied is a `let`, as in `less_room` below.
-use Rattle.std.proofs.Common.{◌≡◌, ℕ, suc, ◌+◌, ◌*◌, ◌≤◌, ◌⊎◌, inl, inr, refl, sym, ap, subst, ◌∙◌, arith, ℤ, pos, negsuc, ◌+ℤ◌, ◌-ℤ◌, ◌*ℤ◌, neg_ℤ, ◌≤ℤ◌, ◌<ℤ◌}
+use Rattle.std.proofs.Common.{◌≡◌, ℕ, suc, ◌*◌, ◌≤◌, ◌⊎◌, inl, inr, refl, sym, ap, subst, ◌∙◌, arith, ℤ, pos, negsuc, ◌+ℤ◌, ◌-ℤ◌, ◌*ℤ◌, neg_ℤ, ◌≤ℤ◌, ◌<ℤ◌}
 use borrow.Author.Differences.{up, down, same_out, lt_out, le_out, same_in, at_most_in, below_in, sum_is_lem, neg_is, product_is}
 use Rattle.std.proofs.lemmas.Int.{by_lt_z}
 
@@ -15,17 +15,8 @@ pub ruleset linear = (same_out, lt_out, le_out, same_in, at_most_in, below_in, s
 ruleset parts = (linear, product_is)
 
 -- ---- the sum
-pub add_comm : (a b : ℤ) → a +ℤ b ≡ b +ℤ a
-add_comm a b = omega (arith, linear)
-
-pub add_assoc : (a b c : ℤ) → (a +ℤ b) +ℤ c ≡ a +ℤ (b +ℤ c)
-add_assoc a b c = omega (arith, linear)
-
 pub add-zero : (a : ℤ) → a +ℤ pos 0 ≡ a
 add-zero a = omega (arith, linear)
-
-pub zero-add : (a : ℤ) → pos 0 +ℤ a ≡ a
-zero-add a = omega (arith, linear)
 
 -- ---- the product
 pub mul_comm : (a b : ℤ) → a *ℤ b ≡ b *ℤ a
@@ -109,9 +100,6 @@ le_of_eq a b e = omega (arith, linear)
 pub add-le-add : (a b c d : ℤ) → a ≤ℤ b → c ≤ℤ d → (a +ℤ c) ≤ℤ (b +ℤ d)
 add-le-add a b c d h k = omega (arith, linear)
 
-pub neg-le-neg : (a b : ℤ) → a ≤ℤ b → neg_ℤ b ≤ℤ neg_ℤ a
-neg-le-neg a b h = omega (arith, linear)
-
 pub sub_nonneg : (a b : ℤ) → a ≤ℤ b → pos 0 ≤ℤ (b -ℤ a)
 sub_nonneg a b h = omega (arith, linear)
 
@@ -145,10 +133,6 @@ mul-le-mul_left q a b h k =
 
 pub mul-le-mul_right : (q a b : ℤ) → pos 0 ≤ℤ q → a ≤ℤ b → (a *ℤ q) ≤ℤ (b *ℤ q)
 mul-le-mul_right q a b h k = rw (mul_comm a q, mul_comm b q) (mul-le-mul_left q a b h k)
-
-pub mul-le-mul : (a b c d : ℤ) → pos 0 ≤ℤ a → pos 0 ≤ℤ c → a ≤ℤ b → c ≤ℤ d → (a *ℤ c) ≤ℤ (b *ℤ d)
-mul-le-mul a b c d h k le other =
-    le_trans (a *ℤ c) (b *ℤ c) (b *ℤ d) (mul-le-mul_right c a b k le) (mul-le-mul_left b c d (omega (arith, linear)) other)
 
 -- the same at a factor of ℕ
 pub scale-le-scale : (q : ℕ) (a b : ℤ) → a ≤ℤ b → (pos q *ℤ a) ≤ℤ (pos q *ℤ b)
@@ -184,15 +168,9 @@ suc-mul n a =
     let next : pos (suc n) ≡ pos n +ℤ pos 1 = omega (arith, linear) in
     ap (λ x. x *ℤ a) next ∙ add-mul (pos n) (pos 1) a ∙ ap (λ x. pos n *ℤ a +ℤ x) (one-mul a)
 
-pub mul_positive : (a b : ℤ) → pos 0 <ℤ a → pos 0 <ℤ b → pos 0 <ℤ (a *ℤ b)
-mul_positive a b h k = subst (λ x. x <ℤ (a *ℤ b)) (mul-zero a) (mul-lt-mul_left a (pos 0) b h k)
-
 -- two numbers of ℕ, as numbers of ℤ
 pub pos-mul : (m n : ℕ) → pos (m * n) ≡ pos m *ℤ pos n
 pos-mul m n = refl
-
-pub pos-add : (m n : ℕ) → pos (m + n) ≡ pos m +ℤ pos n
-pos-add m n = refl
 
 -- ---- how the two sets are used
 priced : (q d p r : ℤ) → (q *ℤ (d -ℤ p +ℤ r)) +ℤ (q *ℤ (p -ℤ r)) ≡ q *ℤ d

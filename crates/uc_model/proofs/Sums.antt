@@ -3,7 +3,7 @@
 -- `(k : ℕ) → k < n → ..`, and the number of places first.
 use Rattle.std.proofs.Common.{◌≡◌, ℕ, zero, suc, ◌+◌, ◌<◌, ◌≢◌, ◌⊎◌, ⊎_elim, refl, sym, ap, subst, ◌∙◌, arith, ℤ, pos, ◌+ℤ◌, ◌-ℤ◌, ◌*ℤ◌, neg_ℤ, ◌≤ℤ◌}
 use Rattle.uc_model.specs.Sums.{sum_below}
-use Rattle.uc_model.proofs.Ring.{linear, spread, add-zero, add-le-add, le_refl, mul-add, add-mul, mul-zero, zero-mul, suc-mul}
+use Rattle.uc_model.proofs.Ring.{linear, add-zero, add-le-add, le_refl, mul-add, add-mul, mul-zero, zero-mul, suc-mul}
 
 -- a place below n + 1
 below_or_last : (n k : ℕ) → k < suc n → (k < n) ⊎ (k ≡ n)
@@ -133,18 +133,3 @@ sum_below-swap (suc m) n f =
 pub sum_below-const : (n : ℕ) (a : ℤ) → sum_below n (λ k. a) ≡ pos n *ℤ a
 sum_below-const zero a = sym (zero-mul a)
 sum_below-const (suc n) a = ap (λ x. x +ℤ a) (sum_below-const n a) ∙ sym (suc-mul n a)
-
--- ---- bounds by one number
-pub sum_below_at_most : (n : ℕ) (f : ℕ → ℤ) (most : ℤ) → ((k : ℕ) → k < n → f k ≤ℤ most) → sum_below n f ≤ℤ (pos n *ℤ most)
-sum_below_at_most n f most h = subst (λ x. sum_below n f ≤ℤ x) (sum_below-const n most) (sum_below-le n f (λ k. most) h)
-
-pub sum_below_at_least : (n : ℕ) (f : ℕ → ℤ) (least : ℤ) → ((k : ℕ) → k < n → least ≤ℤ f k) → (pos n *ℤ least) ≤ℤ sum_below n f
-sum_below_at_least n f least h = subst (λ x. x ≤ℤ sum_below n f) (sum_below-const n least) (sum_below-le n (λ k. least) f h)
-
--- ---- summation by parts, as Abel's: a sum of products with a difference is turned to the other factor's difference
-pub sum_below-by_parts : (n : ℕ) (m p : ℕ → ℤ)
-    → sum_below n (λ k. m k *ℤ (p (suc k) -ℤ p k)) +ℤ sum_below n (λ k. (m (suc k) -ℤ m k) *ℤ p (suc k)) ≡ m n *ℤ p n -ℤ m 0 *ℤ p 0
-sum_below-by_parts n m p =
-    sym (sum_below-add n (λ k. m k *ℤ (p (suc k) -ℤ p k)) (λ k. (m (suc k) -ℤ m k) *ℤ p (suc k)))
-    ∙ sum_below-same n _ (λ k. m (suc k) *ℤ p (suc k) -ℤ m k *ℤ p k) (λ k below. simp spread (omega (arith, linear)))
-    ∙ sum_below-telescope n (λ k. m k *ℤ p k)
