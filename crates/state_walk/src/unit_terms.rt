@@ -33,12 +33,8 @@ pub fn terms(
     ensures at_table { (instance : Instance) (table : Table) (g : ℕ) → thermal_unit instance g ≡ unit.now
         → k ≡ table.k → AreRowsOf instance table g rows.now → IfOk result (AreTermsOf instance table g) }
 {
-    let Ok(mut pi) = vec![in alloc; 0; rows.len()] else {
-        return Err(NoMemory);
-    };
-    let Ok(mut terms) = vec![in alloc; [None; 4]; rows.len()] else {
-        return Err(NoMemory);
-    };
+    let mut pi = vec![in alloc; 0; rows.len()]?;
+    let mut terms = vec![in alloc; [None; 4]; rows.len()]?;
     fill(pi.as_mut_slice(), terms.as_mut_slice(), unit, k, rows);
     Ok(Terms {
         k,

@@ -55,10 +55,8 @@ impl Walk {
             on: None,
             off: None,
         };
-        match vec![in alloc; none; times] {
-            Ok(values) => Ok(Walk { values }),
-            Err(_) => Err(NoMemory),
-        }
+        let values = vec![in alloc; none; times]?;
+        Ok(Walk { values })
     }
 }
 

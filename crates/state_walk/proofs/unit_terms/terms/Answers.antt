@@ -20,10 +20,10 @@ made_is : (c : goal.After-from_vec-2)
 made_is c = λ i. made (to_z-of_z w64 c.args.k c.ranges.k i) (prices_is c i) (terms_is c i)
 
 price_count : (c : goal.After-from_vec-2) → length c.fill.new.pi ≡ length c.args.rows.now
-price_count c = omega (arith, c.in-Ok.ensures.len)
+price_count c = omega (arith, c.in_ok-pi.ensures.len)
 
 term_count : (c : goal.After-from_vec-2) → length c.fill.new.terms ≡ length c.args.rows.now
-term_count c = omega (arith, c.in-Ok-vec.ensures.len)
+term_count c = omega (arith, c.in_ok-terms.ensures.len)
 
 filled_terms : (c : goal.After-from_vec-2) → AreTermsOfRows c.args.unit.now c.args.k c.args.rows.now (length c.args.rows.now) c.fill.new.terms
 filled_terms c =
