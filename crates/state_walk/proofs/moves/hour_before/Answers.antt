@@ -1,11 +1,13 @@
 -- The hour's cost, of a term that is there.
-use Rattle.std.proofs.Common.{◌≡◌, arith, rules, sym, ap, ◌∙◌, ℕ, suc, zero, ◌<◌, ◌-◌, ◌≤◌, ◌-ℤ◌, ◌*ℤ◌, ℤ, pos, to_z, of_z, FitsSigned}
+use Rattle.std.proofs.Common.{◌≡◌, lit<, arith, rules, sym, ap, ◌∙◌, ℕ, suc, zero, ◌<◌, ◌-◌, ◌≤◌, ◌-ℤ◌, ◌*ℤ◌, ℤ, pos, to_z, of_z, FitsSigned}
 use Rattle.std.specs.Prelude.{Some, Bool, unsigned_abs, slice_index_or}
-use Rattle.std.specs.Int.{w64, w128}
-use Rattle.std.proofs.lemmas.Int.{to_z-of_z, fits_signed_from_abs}
+use Rattle.std.specs.Int.{w128}
+use Rattle.std.proofs.lemmas.Int.{to_z-of_z}
 use Rattle.std.proofs.lemmas.Option.{MatchOption-at_some}
 use Rattle.uc_model.specs.declared.instance.Thermal.{Thermal}
 use Rattle.uc_model.specs.declared.terms.Terms.{Terms}
+use Rattle.uc_model.specs.declared.limits.TheConstants.{MAX_POWER}
+use Rattle.uc_model.proofs.Sizes.{wide, narrow}
 use Rattle.dual_model.specs.declared.limits.TheConstants.{MAX_UNIT_PRICE, MAX_TERM}
 use Rattle.dual_model.specs.UnitTerms.{term_at, price_at, period_count}
 use Rattle.state_walk.specs.Moves.{hour_before, hour_cost}
@@ -29,18 +31,11 @@ returns-in-Some c =
     (MatchOption-at_some _ _ c.in-Some.term found (c.requires.sized.term (c.args.t - 1) c.args.start c.args.stop within)).1 in
     let price_size : unsigned_abs (price_at c.args.terms.now (c.args.t - 1)) ≤ MAX_UNIT_PRICE =
     c.requires.sized.price (c.args.t - 1) within in
-    let fits : FitsSigned w128 c.in-Some.term = fits_signed_from_abs w128 _ (omega arith) in
-    let price_fits : FitsSigned w128 (price_at c.args.terms.now (c.args.t - 1)) = fits_signed_from_abs w128 _ (omega arith) in
-    let term_is : to_z w128 (of_z w128 c.in-Some.term) ≡ c.in-Some.term = to_z-of_z w128 _ fits in
-    let pi_is : slice_index_or c.as_slice.result.now (c.args.t - 1) (pos 0) ≡ price_at c.args.terms.now (c.args.t - 1) =
-    ap (λ l. slice_index_or l (c.args.t - 1) (pos 0)) c.as_slice.ensures in
-    let price_is : to_z w128 (of_z w128 (slice_index_or c.as_slice.result.now (c.args.t - 1) (pos 0))) ≡ price_at c.args.terms.now (c.args.t - 1) =
-    ap (λ z. to_z w128 (of_z w128 z)) pi_is ∙ to_z-of_z w128 _ price_fits in
-    let minimum_fits : FitsSigned w64 c.args.unit.now.pmin = fits_signed_from_abs w64 _ (omega (arith, c.requires.lawful.minimum.power)) in
-    let minimum_is : to_z w64 (of_z w64 c.args.unit.now.pmin) ≡ c.args.unit.now.pmin = to_z-of_z w64 _ minimum_fits in
+    let price_is = ap (λ l. to_z w128 (of_z w128 (slice_index_or l (c.args.t - 1) (pos 0)))) c.as_slice.ensures
+    ∙ wide (price_at c.args.terms.now (c.args.t - 1)) MAX_UNIT_PRICE price_size (lit< tt) in
     let result_is : c.less_product.result ≡ c.in-Some.term -ℤ price_at c.args.terms.now (c.args.t - 1) *ℤ c.args.unit.now.pmin =
-    c.less_product.ensures ∙ (λ i. term_is i -ℤ price_is i *ℤ minimum_is i) in
+    c.less_product.ensures
+    ∙ (λ i. wide c.in-Some.term MAX_TERM size (lit< tt) i -ℤ price_is i *ℤ narrow c.args.unit.now.pmin MAX_POWER c.requires.lawful.minimum.power (lit< tt) i) in
     let result_fits : FitsSigned w128 c.less_product.result = search rules in
-    let whole : to_z w128 (of_z w128 c.less_product.result) ≡ c.less_product.result = to_z-of_z w128 _ result_fits in
-    ap Some (whole ∙ result_is)
+    ap Some (to_z-of_z w128 _ result_fits ∙ result_is)
     ∙ made c.args.terms.now c.args.unit.now c.args.t c.args.start c.args.stop c.in-Some.term (omega (arith, c.if-t-eq0.false)) found
