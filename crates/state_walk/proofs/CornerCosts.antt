@@ -11,7 +11,8 @@ use Rattle.uc_model.proofs.Ring.{linear, spread, mul_comm, mul_assoc, mul_left_c
 use Rattle.uc_model.proofs.Quotients.{IsFloor-int_div_euclid, IsFloor-add, IsFloor_unique}
 use Rattle.uc_model.proofs.Sizes.{abs_add, abs_sub, abs_mul, wide, narrow, from-size, product-size, product-is, difference-size, difference-is, scaled-size, floor-size}
 use Rattle.dual_model.specs.declared.limits.TheConstants.{MAX_UNIT_PRICE, MAX_CAP}
-use Rattle.state_walk.specs.Corners.{IsLawfulCell, point_cost, room, weighted_cost, pair_cost, MAX_ROOM, MAX_POINT_COST, MAX_WEIGHTED}
+use Rattle.dual_model.specs.UnitTerms.{IsLawfulCell}
+use Rattle.state_walk.specs.Corners.{point_cost, room, weighted_cost, pair_cost, MAX_ROOM, MAX_POINT_COST, MAX_WEIGHTED}
 
 -- ---- sizes
 pub scale-size : (points : List Point) (k a b cap : ℤ) → IsLawfulCell points k a b cap → unsigned_abs k ≤ 10 ^ 9

@@ -2,14 +2,12 @@
 -- that is left, and such a point with one right of the cap that together meet it. Source: the vertices of the linear
 -- program of a cell in the Lagrangian relaxation of the reference model by Knueven, Ostrowski and Watson; the least
 -- cost of a linear program is attained at a vertex.
-use Rattle.std.specs.Prelude.{ℕ, ◌*◌, ◌^◌, ◌<◌, ◌≤◌, List, ℤ, pos, ◌+ℤ◌, ◌-ℤ◌, ◌*ℤ◌, neg_ℤ, ◌≤ℤ◌, ◌<ℤ◌, unsigned_abs, int_le, int_lt, length}
+use Rattle.std.specs.Prelude.{ℕ, ◌*◌, ◌^◌, ◌<◌, List, ℤ, pos, ◌+ℤ◌, ◌-ℤ◌, ◌*ℤ◌, neg_ℤ, ◌≤ℤ◌, ◌<ℤ◌, int_le, int_lt, length}
 use Rattle.std.specs.Int.{int_min, int_div_euclid}
 use Rattle.uc_model.specs.Sums.{least_below}
 use Rattle.uc_model.specs.Points.{point_of, output_of}
 use Rattle.uc_model.specs.declared.instance.Point.{Point}
-use Rattle.uc_model.specs.declared.limits.TheConstants.{MAX_POINTS, MAX_POWER, MAX_COST}
-use Rattle.dual_model.specs.declared.limits.TheConstants.{MAX_SCALE}
-use Rattle.dual_model.specs.declared.limits.TheConstants.{MAX_UNIT_PRICE, MAX_CAP}
+use Rattle.dual_model.specs.UnitTerms.{IsLawfulCell}
 
 -- the reduced cost of point l without reserve
 abbrev pub point_cost : List Point → ℤ → ℤ → ℕ → ℤ
@@ -44,16 +42,6 @@ corner_cost points k a b cap l =
 abbrev pub least_corner : List Point → ℤ → ℤ → ℤ → ℤ → ℤ
 least_corner points k a b cap =
     least_below (length points) (λ l. int_le (pos 0) (room points cap l)) (corner_cost points k a b cap) (point_cost points k a 0)
-
--- points, prices and a cap within the limits
-pub record IsLawfulCell (points : List Point) (k a b cap : ℤ) : Type 0 where
-  pub count : (1 ≤ length points) × (length points ≤ MAX_POINTS)
-  pub outputs : (l : ℕ) → l < length points → unsigned_abs (point_of points l).mw ≤ MAX_POWER
-  pub costs : (l : ℕ) → l < length points → unsigned_abs (point_of points l).cost ≤ MAX_COST
-  pub scale : (pos 0 ≤ℤ k) × (k ≤ℤ MAX_SCALE)
-  pub output_price : unsigned_abs a ≤ MAX_UNIT_PRICE
-  pub reserve_price : unsigned_abs b ≤ MAX_UNIT_PRICE
-  pub cap_size : unsigned_abs cap ≤ MAX_CAP
 
 -- a point at or left of the cap of such a cell, and one right of it
 pub record IsLawfulPair (points : List Point) (k a b cap : ℤ) (l j : ℕ) : Type 0 where

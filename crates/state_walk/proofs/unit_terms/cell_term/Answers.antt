@@ -7,7 +7,7 @@ use Rattle.uc_model.specs.Limits.{IsLawfulThermal}
 use Rattle.uc_model.specs.declared.instance.Thermal.{Thermal}
 use Rattle.uc_model.specs.declared.instance.Point.{Point}
 use Rattle.dual_model.specs.declared.limits.TheConstants.{MAX_UNIT_PRICE, MAX_CAP}
-use Rattle.state_walk.specs.Corners.{IsLawfulCell}
+use Rattle.dual_model.specs.UnitTerms.{IsLawfulCell}
 use Rattle.dual_model.specs.TableValue.{IsLawfulRow, IsLawfulScale}
 use Rattle.uc_model.proofs.Sizes.{wide, narrow}
 use Rattle.state_walk.proofs.unit_terms.cell_term.Goals as goal
