@@ -322,35 +322,37 @@ too_deep bytes start at room c e skips is token which none = λ outer fits.
     (λ (b : c ≡ 123). stopped bytes at 123 outer wanted at 3 (token_as bytes at c 123 token b) (open_object at outer ∙ opened_past at outer first_key (omega (arith, fits, none)))) which)
 
 -- behind the bracket
-array_opens : (bytes : List ℕ) (start at room c : ℕ) → SkipsSpace bytes start at → IsToken bytes at c → c ≡ 91 → (outer : List Frame) → length outer + (room + 1) ≡ depth_limit
-    → scan bytes start outer wanted ≡ scan bytes (at + 1) outer first_item
-array_opens bytes start at room c skips token is outer fits = skips outer wanted tt
-    ∙ moved bytes at 91 outer wanted outer first_item (token_as bytes at c 91 token is) (open_array at outer ∙ opened_within at room outer first_item fits)
+-- what stands behind a bracket that opens one level more
+inside_opens : (bytes : List ℕ) (start at room c k : ℕ) (spot : Spot) → ((outer : List Frame) → step at outer wanted k ≡ opened at outer spot) → SkipsSpace bytes start at → IsToken bytes at c → c ≡ k
+    → (outer : List Frame) → length outer + (room + 1) ≡ depth_limit → scan bytes start outer wanted ≡ scan bytes (at + 1) outer spot
+inside_opens bytes start at room c k spot opens skips token is outer fits = skips outer wanted tt
+    ∙ moved bytes at k outer wanted outer spot (token_as bytes at c k token is) (opens outer ∙ opened_within at room outer spot fits)
 
-object_opens : (bytes : List ℕ) (start at room c : ℕ) → SkipsSpace bytes start at → IsToken bytes at c → c ≡ 123 → (outer : List Frame) → length outer + (room + 1) ≡ depth_limit
-    → scan bytes start outer wanted ≡ scan bytes (at + 1) outer first_key
-object_opens bytes start at room c skips token is outer fits = skips outer wanted tt
-    ∙ moved bytes at 123 outer wanted outer first_key (token_as bytes at c 123 token is) (open_object at outer ∙ opened_within at room outer first_key fits)
+inside_read : (bytes : List ℕ) (start at end room less c k : ℕ) (spot : Spot) (v : Value) → ((outer : List Frame) → step at outer wanted k ≡ opened at outer spot) → SkipsSpace bytes start at → IsToken bytes at c → c ≡ k → less + 1 ≡ room
+    → ReadsInside bytes (at + 1) spot end less v → ReadsValue bytes start end room v
+inside_read bytes start at end room less c k spot v opens skips token is one r = λ outer fits.
+    inside_opens bytes start at less c k spot opens skips token is outer (omega (arith, fits, one)) ∙ r outer (omega (arith, fits, one))
+
+inside_breaks : (bytes : List ℕ) (start at room less c k : ℕ) (spot : Spot) (e : JsonFault) → ((outer : List Frame) → step at outer wanted k ≡ opened at outer spot) → SkipsSpace bytes start at → IsToken bytes at c → c ≡ k → less + 1 ≡ room
+    → BreaksInside bytes (at + 1) spot less e → BreaksValue bytes start room e
+inside_breaks bytes start at room less c k spot e opens skips token is one broken = λ outer fits.
+    subst (λ (o : Outcome). Leads e o) (sym (inside_opens bytes start at less c k spot opens skips token is outer (omega (arith, fits, one)))) (broken outer (omega (arith, fits, one)))
 
 pub array_value_read : (bytes : List ℕ) (start at end room less c : ℕ) (v : Value) → SkipsSpace bytes start at → IsToken bytes at c → c ≡ 91 → less + 1 ≡ room
     → ReadsInside bytes (at + 1) first_item end less v → ReadsValue bytes start end room v
-array_value_read bytes start at end room less c v skips token is one r = λ outer fits.
-    array_opens bytes start at less c skips token is outer (omega (arith, fits, one)) ∙ r outer (omega (arith, fits, one))
+array_value_read bytes start at end room less c v = inside_read bytes start at end room less c 91 first_item v (λ outer. open_array at outer)
 
 pub array_value_breaks : (bytes : List ℕ) (start at room less c : ℕ) (e : JsonFault) → SkipsSpace bytes start at → IsToken bytes at c → c ≡ 91 → less + 1 ≡ room
     → BreaksInside bytes (at + 1) first_item less e → BreaksValue bytes start room e
-array_value_breaks bytes start at room less c e skips token is one broken = λ outer fits.
-    subst (λ (o : Outcome). Leads e o) (sym (array_opens bytes start at less c skips token is outer (omega (arith, fits, one)))) (broken outer (omega (arith, fits, one)))
+array_value_breaks bytes start at room less c e = inside_breaks bytes start at room less c 91 first_item e (λ outer. open_array at outer)
 
 pub object_value_read : (bytes : List ℕ) (start at end room less c : ℕ) (v : Value) → SkipsSpace bytes start at → IsToken bytes at c → c ≡ 123 → less + 1 ≡ room
     → ReadsInside bytes (at + 1) first_key end less v → ReadsValue bytes start end room v
-object_value_read bytes start at end room less c v skips token is one r = λ outer fits.
-    object_opens bytes start at less c skips token is outer (omega (arith, fits, one)) ∙ r outer (omega (arith, fits, one))
+object_value_read bytes start at end room less c v = inside_read bytes start at end room less c 123 first_key v (λ outer. open_object at outer)
 
 pub object_value_breaks : (bytes : List ℕ) (start at room less c : ℕ) (e : JsonFault) → SkipsSpace bytes start at → IsToken bytes at c → c ≡ 123 → less + 1 ≡ room
     → BreaksInside bytes (at + 1) first_key less e → BreaksValue bytes start room e
-object_value_breaks bytes start at room less c e skips token is one broken = λ outer fits.
-    subst (λ (o : Outcome). Leads e o) (sym (object_opens bytes start at less c skips token is outer (omega (arith, fits, one)))) (broken outer (omega (arith, fits, one)))
+object_value_breaks bytes start at room less c e = inside_breaks bytes start at room less c 123 first_key e (λ outer. open_object at outer)
 
 -- a value that is no array and no object
 pub scalar_read : (bytes : List ℕ) (start at end room : ℕ) (v : Value) → SkipsSpace bytes start at → Reads bytes at wanted end v → ReadsValue bytes start end room v

@@ -1,8 +1,10 @@
 //! Single bytes of the input, and white space.
 
-ghost use Rattle.std.specs.Prelude.{◌≡◌, ℕ, ◌+◌, ◌<◌, ◌≤◌, true, false, ◌==◌, List, ◌∷◌, [], length, drop, IfSome, IfNone};
+ghost use Rattle.std.specs.Prelude.{◌≡◌, ℕ, ◌+◌, ◌<◌, ◌≤◌, true, false, ◌==◌, List, ◌∷◌, [], length, drop, IfSome, IfNone, IfOk, IfErr};
 ghost use Rattle.decimal_json.specs.Characters.{is_space};
 ghost use Rattle.decimal_json.specs.inside.Answer.{SkipsSpace, StandsAt, FailsAt, IsToken};
+
+use crate::types::{JsonFault, no_json};
 
 /// The byte at a place, if there is one.
 pub fn byte_at(bytes: &[u8], at: usize) -> Option<u8>
@@ -14,6 +16,18 @@ pub fn byte_at(bytes: &[u8], at: usize) -> Option<u8>
         Some(bytes[at])
     } else {
         None
+    }
+}
+
+/// The byte that has to stand at a place.
+pub fn byte_wanted(bytes: &[u8], at: usize) -> Result<u8, JsonFault>
+    ensures byte { IfOk result (StandsAt bytes.now at) }
+    ensures within { IfOk result (λ _. at < length bytes.now) }
+    ensures fault { IfErr result (λ e. (e ≡ JsonFault.At at 2) × (drop at bytes.now ≡ [])) }
+{
+    match byte_at(bytes, at) {
+        Some(byte) => Ok(byte),
+        None => Err(no_json(at)),
     }
 }
 

@@ -7,7 +7,7 @@ ghost use Rattle.decimal_json.specs.Open.{Frame, Purpose};
 ghost use Rattle.decimal_json.specs.inside.Scan.{quoted, plain, high, fault, scan};
 ghost use Rattle.decimal_json.specs.inside.Answer.{FailsAt, StandsAt, HexAt, ReadsUnit, BreaksUnit, ReadsEscape, BreaksEscape};
 
-use crate::bytes::{byte_at, has_byte};
+use crate::bytes::{byte_at, byte_wanted, has_byte};
 use crate::types::{JsonFault, no_json};
 
 fn is_hex_byte(byte: u8) -> bool
@@ -38,9 +38,7 @@ fn hex_at(bytes: &[u8], at: usize) -> Result<u32, JsonFault>
     ensures within { IfOk result (λ d. at < length bytes.now) }
     ensures fault { IfErr result (λ e. (e ≡ JsonFault.At at 2) × FailsAt is_hex bytes.now at) }
 {
-    let Some(byte) = byte_at(bytes, at) else {
-        return Err(no_json(at));
-    };
+    let byte = byte_wanted(bytes, at)?;
     if !is_hex_byte(byte) {
         return Err(no_json(at));
     }

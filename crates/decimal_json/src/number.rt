@@ -8,7 +8,7 @@ ghost use Rattle.decimal_json.specs.inside.Scan.{Spot, numeral, point, mark, sig
 ghost use Rattle.decimal_json.specs.inside.Answer.{Leads, Reads, Breaks, AfterWhole, MayEnd, AddsDigits, ReadsWhole, ReadsFraction, AddsExponent, ReadsExponent, begun, FailsAt, StandsAt, kept};
 ghost use Rattle.decimal_json.specs.View.{decimal_of};
 
-use crate::bytes::{byte_at, has_byte};
+use crate::bytes::{byte_at, byte_wanted, has_byte};
 use crate::types::{JsonFault, Number, no_json};
 use std::alloc::Global;
 
@@ -51,9 +51,7 @@ fn digit_at(bytes: &[u8], at: usize) -> Result<u8, JsonFault>
     ensures within { IfOk result (λ d. at < length bytes.now) }
     ensures fault { IfErr result (λ e. (e ≡ JsonFault.At at 2) × FailsAt is_digit bytes.now at) }
 {
-    let Some(byte) = byte_at(bytes, at) else {
-        return Err(no_json(at));
-    };
+    let byte = byte_wanted(bytes, at)?;
     if !is_digit_byte(byte) {
         return Err(no_json(at));
     }

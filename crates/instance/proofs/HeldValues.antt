@@ -231,16 +231,19 @@ maxima_at_changed f same exact periods minimum ms =
     rw (entries_at_changed f PowerOutputMaximum periods ms)
     (list_each f (maximum_entry exact minimum) (λ front v. power_from_changed f same exact _ _ v) (entries_at PowerOutputMaximum periods ms))
 
+-- an object of two fields
+two_read : {A B X : Type 0} (f : Decimal → Decimal) (first second : Place) (ms : Members) (read : Value → Result A Refusal) (also : Value → Result B Refusal) (made : A → B → X)
+    → ((v : Value) → read (with_numbers f v) ≡ read v) → ((v : Value) → also (with_numbers f v) ≡ also v)
+    → ((field_at first (pairs_of (members_with f ms)) >>= read) >>= λ a. (field_at second (pairs_of (members_with f ms)) >>= also) >>= λ b. Ok (made a b))
+    ≡ ((field_at first (pairs_of ms) >>= read) >>= λ a. (field_at second (pairs_of ms) >>= also) >>= λ b. Ok (made a b))
+two_read f first second ms read also made e g = rw (pairs_changed f ms, field_read f first (pairs_of ms) read e, field_read f second (pairs_of ms) also g) refl
+
 start_row_changed : (f : Decimal → Decimal) → Keeps f → (exact : Bool) (front : List StartRow) (v : Value) → start_row exact front (with_numbers f v) ≡ start_row exact front v
 unfolding start_row
 start_row_changed f same exact front (object ms) =
     let lag = next_entry StartupLag front in
     let cost = next_entry StartupCost front in
-    rw (
-      pairs_changed f ms,
-      field_read f lag (pairs_of ms) (time_at exact lag) (time_at_changed f same exact lag),
-      field_read f cost (pairs_of ms) (cost_at exact cost) (cost_at_changed f same exact cost),
-    ) refl
+    two_read f lag cost ms (time_at exact lag) (cost_at exact cost) (λ h z. record { lag = h; cost = z }) (time_at_changed f same exact lag) (cost_at_changed f same exact cost)
 start_row_changed f same exact front v = refl
 
 point_row_changed : (f : Decimal → Decimal) → Keeps f → (exact : Bool) (front : List Point) (v : Value) → point_row exact front (with_numbers f v) ≡ point_row exact front v
@@ -248,11 +251,8 @@ unfolding point_row
 point_row_changed f same exact front (object ms) =
     let mw = next_entry PiecewiseProductionMw front in
     let cost = next_entry PiecewiseProductionCost front in
-    rw (
-      pairs_changed f ms,
-      field_read f mw (pairs_of ms) (power_from exact mw (last_output front)) (power_from_changed f same exact mw (last_output front)),
-      field_read f cost (pairs_of ms) (cost_at exact cost) (cost_at_changed f same exact cost),
-    ) refl
+    let read = power_from exact mw (last_output front) in
+    two_read f mw cost ms read (cost_at exact cost) (λ y z. record { mw = y; cost = z }) (power_from_changed f same exact mw (last_output front)) (cost_at_changed f same exact cost)
 point_row_changed f same exact front v = refl
 
 -- ---- a thermal unit

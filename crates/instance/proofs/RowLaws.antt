@@ -162,6 +162,9 @@ abbrev start_read : Bool → List StartRow → Pairs → Result StartRow Refusal
 start_read exact front ms = (field_at (next_entry StartupLag front) ms >>= time_at exact (next_entry StartupLag front)) >>= λ lag.
     (field_at (next_entry StartupCost front) ms >>= cost_at exact (next_entry StartupCost front)) >>= λ cost. Ok (record { lag = lag; cost = cost })
 
+abbrev start_fields : Bool → StartRow → Pairs → Type 0
+start_fields exact row ms = Has StartupLag ms (IsTimeOf exact row.lag) × Has StartupCost ms (IsCostOf exact row.cost)
+
 abbrev point_read : Bool → List Point → Pairs → Result Point Refusal
 point_read exact front ms = (field_at (next_entry PiecewiseProductionMw front) ms >>= power_from exact (next_entry PiecewiseProductionMw front) (last_output front)) >>= λ mw.
     (field_at (next_entry PiecewiseProductionCost front) ms >>= cost_at exact (next_entry PiecewiseProductionCost front)) >>= λ cost. Ok (record { mw = mw; cost = cost })
@@ -169,13 +172,11 @@ point_read exact front ms = (field_at (next_entry PiecewiseProductionMw front) m
 start_row_is : (exact : Bool) (front : List StartRow) (v : Value) (row : StartRow) → start_row exact front v ≡ Ok row → IsStartRowOf exact row v
 unfolding start_row
 start_row_is exact front v row e =
-    wanted_is 2 (next_entry Startup front) (pairs_in v)
-    (start_read exact front)
-    (λ ms. Has StartupLag ms (IsTimeOf exact row.lag) × Has StartupCost ms (IsCostOf exact row.cost)) row
+    wanted_is 2 (next_entry Startup front) (pairs_in v) (start_read exact front) (start_fields exact row) row
     (λ ms read.
     let a = two_ok (field_at (next_entry StartupLag front) ms >>= time_at exact (next_entry StartupLag front)) (field_at (next_entry StartupCost front) ms >>= cost_at exact (next_entry StartupCost front))
     (λ lag cost. record { lag = lag; cost = cost }) row read in
-    subst (λ (x : StartRow). Has StartupLag ms (IsTimeOf exact x.lag) × Has StartupCost ms (IsCostOf exact x.cost)) a.4 (
+    subst (λ (x : StartRow). start_fields exact x ms) a.4 (
       field_is (next_entry StartupLag front) ms (time_at exact (next_entry StartupLag front)) (IsTimeOf exact a.0) a.0 (λ w. time_is exact (next_entry StartupLag front) w a.0) a.2,
       field_is (next_entry StartupCost front) ms (cost_at exact (next_entry StartupCost front)) (IsCostOf exact a.1) a.1 (λ w. cost_is exact (next_entry StartupCost front) w a.1) a.3,
     ))
@@ -184,9 +185,7 @@ start_row_is exact front v row e =
 start_row_again : (exact : Bool) (front : List StartRow) (v : Value) (row : StartRow) → IsStartRowOf exact row v → start_row exact front v ≡ Ok row
 unfolding start_row
 start_row_again exact front v row h =
-    wanted_again 2 (next_entry Startup front) (pairs_in v)
-    (start_read exact front)
-    (λ ms. Has StartupLag ms (IsTimeOf exact row.lag) × Has StartupCost ms (IsCostOf exact row.cost)) row
+    wanted_again 2 (next_entry Startup front) (pairs_in v) (start_read exact front) (start_fields exact row) row
     (λ ms is.
     let lag = field_again (next_entry StartupLag front) ms (time_at exact (next_entry StartupLag front)) (IsTimeOf exact row.lag) row.lag (λ w. time_again exact (next_entry StartupLag front) w row.lag) is.0 in
     let cost = field_again (next_entry StartupCost front) ms (cost_at exact (next_entry StartupCost front)) (IsCostOf exact row.cost) row.cost (λ w. cost_again exact (next_entry StartupCost front) w row.cost) is.1 in
