@@ -19,30 +19,8 @@ use uc_model::Field;
 use uc_model::limits::MAX_POWER;
 
 impl Reader {
-    /// The powers that entries are.
-    #[tactic(auto, unfolding(crate::specs::FirstFault::each_at))]
-    fn power_entries(
-        &mut self,
-        alloc: Global,
-        entries: &[Json],
-        field: Field,
-    ) -> Result<Vec<i64>, PlacedFault>
-        requires few { length entries.now ≤ MAX_PERIODS }
-        requires room { self.old.rounded + length entries.now < 2 ^ 64 }
-        ensures read { Gives (λ zs. zs.items) result (each_at (power_entry self.old.exact field) [] (map view entries.now)) }
-        ensures counted { OnOk result (Counts self.old self.new (sum_by rounded_value (map view entries.now)) (length entries.now)) }
-        ensures length { IfOk result (λ zs. vec_len zs ≡ length entries.now) }
-    {
-        let mut powers = Vec::new(alloc);
-        for (index, value) in entries.iter().enumerate() {
-            let place = Place::entry(field, index);
-            powers.push(self.amount(PlacedValue { value, place }, MAX_POWER)?)?;
-        }
-        Ok(powers)
-    }
-
     /// The powers of a field that is an array, up to the last period.
-    #[tactic(auto, unfolding(crate::specs::FirstFault::powers_at, crate::specs::Rounded::rounded_array))]
+    #[tactic(auto, unfolding(crate::specs::FirstFault::each_at, crate::specs::FirstFault::powers_at, crate::specs::Rounded::rounded_array))]
     pub(crate) fn powers(
         &mut self,
         alloc: Global,
@@ -57,34 +35,16 @@ impl Reader {
         ensures length { IfOk result (λ zs. vec_len zs ≡ periods) }
     {
         let entries = placed::entries(members, field, periods)?;
-        self.power_entries(alloc, entries, field)
-    }
-
-    /// The powers that entries are, each no less than the minimum of its period and than 0.
-    #[tactic(auto, unfolding(crate::specs::FirstFault::each_at))]
-    fn maximum_entries(
-        &mut self,
-        alloc: Global,
-        entries: &[Json],
-        minimum: &[i64],
-    ) -> Result<Vec<i64>, PlacedFault>
-        requires few { length entries.now ≤ MAX_PERIODS }
-        requires all { length minimum.now ≡ length entries.now }
-        requires room { self.old.rounded + length entries.now < 2 ^ 64 }
-        ensures read { Gives (λ zs. zs.items) result (each_at (maximum_entry self.old.exact minimum.now) [] (map view entries.now)) }
-        ensures counted { OnOk result (Counts self.old self.new (sum_by rounded_value (map view entries.now)) (length entries.now)) }
-    {
         let mut powers = Vec::new(alloc);
         for (index, value) in entries.iter().enumerate() {
-            let place = Place::entry(Field::PowerOutputMaximum, index);
-            let least = at_least_zero(minimum[index]);
-            powers.push(self.power_from(PlacedValue { value, place }, least)?)?;
+            let place = Place::entry(field, index);
+            powers.push(self.amount(PlacedValue { value, place }, MAX_POWER)?)?;
         }
         Ok(powers)
     }
 
     /// A renewable unit's maximum, beside its minimum.
-    #[tactic(auto, unfolding(crate::specs::FirstFault::maxima_at, crate::specs::Rounded::rounded_array))]
+    #[tactic(auto, unfolding(crate::specs::FirstFault::each_at, crate::specs::FirstFault::maxima_at, crate::specs::Rounded::rounded_array))]
     pub(crate) fn maxima(
         &mut self,
         alloc: Global,
@@ -97,7 +57,13 @@ impl Reader {
         ensures counted { OnOk result (Counts self.old self.new (rounded_array PowerOutputMaximum (length minimum.now) (map pair_view members.now)) (length minimum.now)) }
     {
         let entries = placed::entries(members, Field::PowerOutputMaximum, minimum.len() as u32)?;
-        self.maximum_entries(alloc, entries, minimum)
+        let mut powers = Vec::new(alloc);
+        for (index, value) in entries.iter().enumerate() {
+            let place = Place::entry(Field::PowerOutputMaximum, index);
+            let least = at_least_zero(minimum[index]);
+            powers.push(self.power_from(PlacedValue { value, place }, least)?)?;
+        }
+        Ok(powers)
     }
 }
 

@@ -21,7 +21,7 @@ use uc_model::{Field, Point, StartRow};
 
 impl Reader {
     /// The start categories of a unit.
-    #[tactic(auto, unfolding(crate::specs::FirstFault::startup_at, crate::specs::Rounded::rounded_startup))]
+    #[tactic(auto, unfolding(crate::specs::FirstFault::each_at, crate::specs::FirstFault::startup_at, crate::specs::Rounded::rounded_startup))]
     pub(crate) fn startup(
         &mut self,
         alloc: Global,
@@ -32,11 +32,15 @@ impl Reader {
         ensures counted { OnOk result (Counts self.old self.new (rounded_startup (map pair_view members.now)) START_NUMBERS) }
     {
         let rows = placed::rows(members, Field::Startup, MAX_START_ROWS)?;
-        self.start_rows(alloc, rows)
+        let mut start_rows = Vec::new(alloc);
+        for (index, row) in rows.iter().enumerate() {
+            start_rows.push(self.start_row(row, index)?)?;
+        }
+        Ok(start_rows)
     }
 
     /// The points of a unit's production cost.
-    #[tactic(auto, unfolding(crate::specs::FirstFault::points_at, crate::specs::Rounded::rounded_points))]
+    #[tactic(auto, unfolding(crate::specs::FirstFault::each_at, crate::specs::FirstFault::points_at, crate::specs::Rounded::rounded_points))]
     pub(crate) fn points(
         &mut self,
         alloc: Global,
@@ -47,21 +51,14 @@ impl Reader {
         ensures counted { OnOk result (Counts self.old self.new (rounded_points (map pair_view members.now)) POINT_NUMBERS) }
     {
         let rows = placed::rows(members, Field::PiecewiseProduction, MAX_POINTS)?;
-        self.point_rows(alloc, rows)
-    }
-
-    #[tactic(auto, unfolding(crate::specs::FirstFault::each_at))]
-    fn start_rows(&mut self, alloc: Global, rows: &[Json]) -> Result<Vec<StartRow>, PlacedFault>
-        requires few { length rows.now ≤ MAX_START_ROWS }
-        requires room { self.old.rounded + 2 * length rows.now < 2 ^ 64 }
-        ensures read { Gives (λ rows. rows.items) result (each_at (start_row self.old.exact) [] (map view rows.now)) }
-        ensures counted { OnOk result (Counts self.old self.new (sum_by rounded_start_row (map view rows.now)) (2 * length rows.now)) }
-    {
-        let mut start_rows = Vec::new(alloc);
+        let mut points = Vec::new(alloc);
+        let mut least = -(MAX_POWER as i64);
         for (index, row) in rows.iter().enumerate() {
-            start_rows.push(self.start_row(row, index)?)?;
+            let point = self.point(row, index, least)?;
+            least = point.mw;
+            points.push(point)?;
         }
-        Ok(start_rows)
+        Ok(points)
     }
 
     #[tactic(auto, unfolding(crate::specs::FirstFault::start_row, crate::specs::Rounded::rounded_start_row, crate::specs::Rounded::rounded_field))]
@@ -77,23 +74,6 @@ impl Reader {
         let cost = placed::field_at(members, Place::entry(Field::StartupCost, index))?;
         let cost = self.amount(cost, MAX_COST)?;
         Ok(StartRow { lag, cost })
-    }
-
-    #[tactic(auto, unfolding(crate::specs::FirstFault::each_at))]
-    fn point_rows(&mut self, alloc: Global, rows: &[Json]) -> Result<Vec<Point>, PlacedFault>
-        requires few { length rows.now ≤ MAX_POINTS }
-        requires room { self.old.rounded + 2 * length rows.now < 2 ^ 64 }
-        ensures read { Gives (λ rows. rows.items) result (each_at (point_row self.old.exact) [] (map view rows.now)) }
-        ensures counted { OnOk result (Counts self.old self.new (sum_by rounded_point (map view rows.now)) (2 * length rows.now)) }
-    {
-        let mut points = Vec::new(alloc);
-        let mut least = -(MAX_POWER as i64);
-        for (index, row) in rows.iter().enumerate() {
-            let point = self.point(row, index, least)?;
-            least = point.mw;
-            points.push(point)?;
-        }
-        Ok(points)
     }
 
     #[tactic(auto, unfolding(crate::specs::FirstFault::point_row, crate::specs::Rounded::rounded_point, crate::specs::Rounded::rounded_field))]

@@ -18,7 +18,7 @@ use std::alloc::Global;
 use uc_model::{Field, FieldRefusal, Name, Renewable, Thermal};
 
 impl Reader {
-    #[tactic(auto, unfolding(crate::specs::FirstFault::thermal_units_at, crate::specs::Rounded::rounded_thermal_units))]
+    #[tactic(auto, unfolding(crate::specs::FirstFault::each_at, crate::specs::FirstFault::thermal_units_at, crate::specs::Rounded::rounded_thermal_units))]
     pub(crate) fn thermal_units(
         &mut self,
         alloc: Global,
@@ -28,13 +28,18 @@ impl Reader {
         ensures read { Gives (λ us. us.items) result (thermal_units_at self.old.exact (map pair_view members.now)) }
         ensures counted { OnOk result (Counts self.old self.new (rounded_thermal_units (map pair_view members.now)) (THERMAL_NUMBERS * MAX_UNITS)) }
     {
-        match placed::units(members, Field::ThermalGenerators) {
-            Ok(units) => self.thermal_list(alloc, units),
-            Err(fault) => Err(outside(alloc, fault)),
+        let records = match placed::units(members, Field::ThermalGenerators) {
+            Ok(records) => records,
+            Err(fault) => return Err(outside(alloc, fault)),
+        };
+        let mut units = Vec::new(alloc);
+        for record in records {
+            units.push(self.thermal_unit(alloc, record)?)?;
         }
+        Ok(units)
     }
 
-    #[tactic(auto, unfolding(crate::specs::FirstFault::renewable_units_at, crate::specs::Rounded::rounded_renewable_units))]
+    #[tactic(auto, unfolding(crate::specs::FirstFault::each_at, crate::specs::FirstFault::renewable_units_at, crate::specs::Rounded::rounded_renewable_units))]
     pub(crate) fn renewable_units(
         &mut self,
         alloc: Global,
@@ -46,46 +51,13 @@ impl Reader {
         ensures read { Gives (λ us. us.items) result (renewable_units_at self.old.exact periods (map pair_view members.now)) }
         ensures counted { OnOk result (Counts self.old self.new (rounded_renewable_units periods (map pair_view members.now)) (RENEWABLE_NUMBERS * MAX_UNITS)) }
     {
-        match placed::units(members, Field::RenewableGenerators) {
-            Ok(units) => self.renewable_list(alloc, units, periods),
-            Err(fault) => Err(outside(alloc, fault)),
-        }
-    }
-
-    #[tactic(auto, unfolding(crate::specs::FirstFault::each_at))]
-    fn thermal_list(
-        &mut self,
-        alloc: Global,
-        members: &[Pair],
-    ) -> Result<Vec<Thermal>, InstanceFault>
-        requires few { length members.now ≤ MAX_UNITS }
-        requires room { self.old.rounded + THERMAL_NUMBERS * length members.now < 2 ^ 64 }
-        ensures read { Gives (λ us. us.items) result (each_at (thermal_member self.old.exact) [] (map pair_view members.now)) }
-        ensures counted { OnOk result (Counts self.old self.new (sum_by (λ (m : List ℕ × Value). rounded_thermal m.1) (map pair_view members.now)) (THERMAL_NUMBERS * length members.now)) }
-    {
+        let records = match placed::units(members, Field::RenewableGenerators) {
+            Ok(records) => records,
+            Err(fault) => return Err(outside(alloc, fault)),
+        };
         let mut units = Vec::new(alloc);
-        for member in members {
-            units.push(self.thermal_unit(alloc, member)?)?;
-        }
-        Ok(units)
-    }
-
-    #[tactic(auto, unfolding(crate::specs::FirstFault::each_at))]
-    fn renewable_list(
-        &mut self,
-        alloc: Global,
-        members: &[Pair],
-        periods: u32,
-    ) -> Result<Vec<Renewable>, InstanceFault>
-        requires short { periods ≤ MAX_PERIODS }
-        requires few { length members.now ≤ MAX_UNITS }
-        requires room { self.old.rounded + RENEWABLE_NUMBERS * length members.now < 2 ^ 64 }
-        ensures read { Gives (λ us. us.items) result (each_at (renewable_member self.old.exact periods) [] (map pair_view members.now)) }
-        ensures counted { OnOk result (Counts self.old self.new (sum_by (λ (m : List ℕ × Value). rounded_renewable periods m.1) (map pair_view members.now)) (RENEWABLE_NUMBERS * length members.now)) }
-    {
-        let mut units = Vec::new(alloc);
-        for member in members {
-            units.push(self.renewable_unit(alloc, member, periods)?)?;
+        for record in records {
+            units.push(self.renewable_unit(alloc, record, periods)?)?;
         }
         Ok(units)
     }

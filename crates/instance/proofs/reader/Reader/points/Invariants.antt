@@ -4,7 +4,7 @@ use Rattle.instance.specs.FirstFault.{point_row}
 use Rattle.instance.specs.Points.{last_output}
 use Rattle.instance.specs.Rounded.{rounded_point}
 use Rattle.instance.proofs.Loops.{HasRead}
-use Rattle.instance.proofs.reader.Reader.point_rows.Given as goal
+use Rattle.instance.proofs.reader.Reader.points.Given as goal
 
 abbrev pub invariant-loop-index : goal.invariant-loop-index
 invariant-loop-index l = record {
