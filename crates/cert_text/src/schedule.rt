@@ -48,8 +48,22 @@ pub(crate) fn put_schedule<O: Out>(out: &mut O, schedule: &Option<(Printed, i64)
     match schedule {
         Some((printed, cost)) => {
             put_money_line(out, b"schedule", &i128::from(*cost));
-            put_each(out, &RowLine { first: b"t", form: CellWord }, printed.thermal.as_slice());
-            put_each(out, &RowLine { first: b"w", form: Signed }, printed.renewable.as_slice());
+            put_each(
+                out,
+                &RowLine {
+                    first: b"t",
+                    form: CellWord,
+                },
+                printed.thermal.as_slice(),
+            );
+            put_each(
+                out,
+                &RowLine {
+                    first: b"w",
+                    form: Signed,
+                },
+                printed.renewable.as_slice(),
+            );
         }
         None => out.put(b"schedule none\n"),
     }
