@@ -1,6 +1,6 @@
 -- The line on standard error for a fault that ends the program, and the exit status. This project's own form. Units and periods
 -- count from 1 in the text, and from 0 in the types.
-use Rattle.std.specs.Prelude.{ℕ, zero, suc, Bool, true, false, ◌||◌, List, [], ◌∷◌, ◌++◌, ℤ, codes, ◌==◌, if◌then◌else◌}
+use Rattle.std.specs.Prelude.{ℕ, zero, suc, Bool, true, false, ◌||◌, List, [], ◌∷◌, ℤ, codes, ◌==◌, if◌then◌else◌}
 use Rattle.uc_model.specs.Decimal.{whole_text}
 use Rattle.uc_model.specs.Money.{money_text}
 use Rattle.uc_model.specs.declared.field.Field.{Field}
