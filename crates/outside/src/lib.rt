@@ -5,6 +5,8 @@
 //! read and wrote, and where a fault came from, is said in terms of their states. There are files
 //! and sinks in memory without faults, in memory with a list of the calls that fail, and of the
 //! system. The last are the trusted edge: they tell no content.
+//!
+//! Texts are put piece by piece into an [`Out`]: a [`Latch`] over a writer.
 #![tactic(auto, unfolding(crate::specs::Lines::line, crate::specs::Lines::list_line))]
 
 mod count;
