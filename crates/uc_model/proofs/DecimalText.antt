@@ -1,13 +1,13 @@
 -- The text of a whole number: `whole_text n` of a natural number, `signed_text z` of any.
 -- Cite from a crate above by `use Rattle.uc_model.proofs.DecimalText.{whole_text_injective}`.
-use Rattle.std.proofs.Common.{◌≡◌, ℕ, zero, suc, ◌+◌, ◌*◌, ◌/◌, ◌%◌, ◌^◌, ◌<◌, ◌≤◌, List, [], ◌∷◌, ◌++◌, map, length, get_or, decimal, All, ⊎_elim, refl, sym, ap, subst, ◌∙◌, arith, ℤ, pos, negsuc, unsigned_abs, append_assoc}
+use Rattle.std.proofs.Common.{◌≡◌, ℕ, zero, suc, ◌+◌, ◌*◌, ◌/◌, ◌%◌, ◌^◌, ◌<◌, ◌≤◌, List, [], ◌∷◌, ◌++◌, map, length, get_or, drop, decimal, All, ⊎_elim, refl, sym, ap, subst, ◌∙◌, arith, ℤ, pos, negsuc, unsigned_abs, append_assoc}
 use Rattle.std.specs.Int.Digits.{digits_of}
 use Rattle.std.specs.Char.{digit_value}
 use Rattle.std.specs.Fmt.{signed_decimal}
 use Rattle.std.specs.Str.Parse.{AllDigits, digits_value, digits_value_after}
 use Rattle.std.proofs.lemmas.Int.Digits.{digits_of_step, digits_value_push, digits_push}
 use Rattle.std.proofs.lemmas.List.{map-append, append-nil, length-append, get_or_append_left, nil_from_length}
-use Rattle.std.proofs.lemmas.List.Elements.{All-nil, All-cons, All-replicate}
+use Rattle.std.proofs.lemmas.List.Elements.{All-nil, All-cons, All-append, All-replicate, All-weaker}
 use Rattle.std.proofs.lemmas.Bool.{cases_lt}
 use Rattle.std.proofs.Math.Nat.{pow-suc}
 use Rattle.std.proofs.lemmas.Fmt.{decimal_by_steps_wide}
@@ -82,6 +82,16 @@ digits_value-whole_text = whole_text_by_steps (λ n ds. digits_value 10 ds ≡ n
 pub whole_text_injective : (m n : ℕ) → whole_text m ≡ whole_text n → m ≡ n
 whole_text_injective m n e = sym (digits_value-whole_text m) ∙ ap (digits_value 10) e ∙ digits_value-whole_text n
 
+-- no leading zero
+pub first_whole_text : (n : ℕ) → 0 < n → 48 < get_or (whole_text n) 0 0
+first_whole_text n positive = (whole_text_by_steps (λ n ds. (0 < length ds) × (0 < n → 48 < get_or ds 0 0))
+    (λ n small. (omega arith, λ some. omega arith))
+    (λ n ds large parts. (
+      omega (arith, length-append ds (digit_byte (n % 10) ∷ [])),
+      λ some. subst (λ c. 48 < c) (sym (get_or_append_left ds (digit_byte (n % 10) ∷ []) 0 0 parts.0)) (parts.1 (omega arith)),
+    ))
+    n).1 positive
+
 pub length-whole_text-le : (k n : ℕ) → 0 < k → n < 10 ^ k → length (whole_text n) ≤ k
 length-whole_text-le zero n some small = absurd (omega arith)
 length-whole_text-le (suc k) n some small = ⊎_elim
@@ -145,6 +155,11 @@ unfolding signed_text
 signed_decimal-signed_text (pos n) small = decimal-whole_text n small
 signed_decimal-signed_text (negsuc n) small = ap (λ ds. 45 ∷ ds) (decimal-whole_text (suc n) small)
 
+pub signed_text_nonempty : (z : ℤ) → 0 < length (signed_text z)
+unfolding signed_text
+signed_text_nonempty (pos n) = whole_text_nonempty n
+signed_text_nonempty (negsuc n) = omega arith
+
 -- a minus is no digit: the text of digits, and more behind it, tells itself from a text behind a minus
 pub whole_text_no_minus : (n : ℕ) (rest other : List ℕ) → whole_text n ++ rest ≡ 45 ∷ other → ⊥
 whole_text_no_minus n rest other e =
@@ -153,7 +168,23 @@ whole_text_no_minus n rest other e =
     let byte = ap (λ bs. get_or bs 0 0) e in
     omega arith
 
+pub signed_text_injective : (y z : ℤ) → signed_text y ≡ signed_text z → y ≡ z
+unfolding signed_text
+signed_text_injective (pos m) (pos n) e = ap pos (whole_text_injective m n e)
+signed_text_injective (pos m) (negsuc n) e = absurd (whole_text_no_minus m [] (whole_text (suc n)) (append-nil (whole_text m) ∙ e))
+signed_text_injective (negsuc m) (pos n) e = absurd (whole_text_no_minus n [] (whole_text (suc m)) (append-nil (whole_text n) ∙ sym e))
+signed_text_injective (negsuc m) (negsuc n) e = ap negsuc (suc_injective m n (whole_text_injective (suc m) (suc n) (ap (drop 1) e)))
+  where
+    suc_injective : (m n : ℕ) → suc m ≡ suc n → m ≡ n
+    suc_injective m n e = omega arith
+
 -- each byte is a minus or a digit, so no space and no line feed
 pub minus_text_bytes : (z : ℤ) → All (λ c. (45 ≤ c) × (c ≤ 57)) (minus_text z)
 minus_text_bytes (pos n) = All-nil (λ c. (45 ≤ c) × (c ≤ 57))
 minus_text_bytes (negsuc n) = All-replicate (λ c. (45 ≤ c) × (c ≤ 57)) 1 45 (omega arith)
+
+pub signed_text_bytes : (z : ℤ) → All (λ c. (45 ≤ c) × (c ≤ 57)) (signed_text z)
+unfolding signed_text
+signed_text_bytes z =
+    All-append (λ c. (45 ≤ c) × (c ≤ 57)) (minus_text z) (whole_text (unsigned_abs z)) (minus_text_bytes z)
+    (All-weaker (λ c. (48 ≤ c) × (c ≤ 57)) (λ c. (45 ≤ c) × (c ≤ 57)) (λ c h. omega arith) (whole_text (unsigned_abs z)) (whole_text_bytes (unsigned_abs z)))
