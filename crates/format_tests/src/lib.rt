@@ -6,9 +6,9 @@ mod certificates;
 #[cfg(test)]
 mod fixtures;
 #[cfg(test)]
-mod instance;
+mod instances;
 #[cfg(test)]
-mod json;
+mod json_texts;
 #[cfg(test)]
 mod reports;
 #[cfg(test)]
