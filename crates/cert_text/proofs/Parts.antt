@@ -10,7 +10,7 @@ use Rattle.outside.specs.Lines.{joined}
 use Rattle.outside.proofs.Joining.{joined-cons, joined-append, joined-map}
 use Rattle.cert_text.specs.Nodes.{leaf_line}
 use Rattle.cert_text.specs.CertificateText.{certificate_lines, certificate_text, schedule_lines, table_lines, thermal_line, renewable_line, ramp_line, cost_line, version_line, size_line, claim_line, end_line, scale_line, prices_line, ramps_line}
-use Rattle.cert_text.specs.WrittenParts.{schedule_part, table_part, tables_part, certificate_parts}
+use Rattle.cert_text.specs.inside.WrittenParts.{schedule_part, table_part, tables_part, certificate_parts}
 
 schedule-part : (schedule : Option WrittenSchedule) → joined (schedule_lines schedule) ≡ schedule_part schedule
 schedule-part None = refl

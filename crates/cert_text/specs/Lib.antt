@@ -1,4 +1,4 @@
 pub mod Nodes
 pub mod CertificateText
 pub mod TextConditions
-pub mod WrittenParts
+pub mod inside

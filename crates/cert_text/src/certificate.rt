@@ -5,7 +5,7 @@ ghost use Rattle.outside.specs.Sinks.{WriterWrites, WritesFront};
 ghost use Rattle.branch_tree.specs.Claims.{HasLayout, leaf_claim, certificate_of};
 ghost use Rattle.cert_text.specs.Nodes.{leaf_line};
 ghost use Rattle.cert_text.specs.CertificateText.{size_line, claim_line, certificate_text};
-ghost use Rattle.cert_text.specs.WrittenParts.{tables_part, heading_part, certificate_parts};
+ghost use Rattle.cert_text.specs.inside.WrittenParts.{tables_part, heading_part, certificate_parts};
 
 use crate::schedule::put_schedule;
 use crate::table::put_table;
@@ -68,7 +68,7 @@ fn put_leaf<O: Out>(out: &mut O, leaf: &Leaf)
     }
 }
 
-#[tactic(auto, unfolding(crate::specs::WrittenParts::certificate_parts, outside::specs::Lines::line))]
+#[tactic(auto, unfolding(crate::specs::inside::WrittenParts::certificate_parts, outside::specs::Lines::line))]
 fn put_certificate<O: Out>(out: &mut O, found: &Found, instance: &Instance)
     requires { HasLayout found.now }
     ensures { O.emits (certificate_parts instance.now found.now) out.old out.new }

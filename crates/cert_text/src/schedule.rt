@@ -4,7 +4,7 @@ ghost use Rattle.std.specs.Prelude.{◌≡◌};
 ghost use Rattle.uc_model.specs.Decimal.{signed_text};
 ghost use Rattle.branch_tree.specs.Claims.{written_of};
 ghost use Rattle.cert_text.specs.CertificateText.{cell_text};
-ghost use Rattle.cert_text.specs.WrittenParts.{schedule_part};
+ghost use Rattle.cert_text.specs.inside.WrittenParts.{schedule_part};
 
 use outside::{Form, Out, RowLine, put_each, put_money_line, put_signed, put_whole};
 use uc_model::{Cell, Printed};

@@ -2,7 +2,7 @@
 
 ghost use Rattle.std.specs.Prelude.{◌≡◌};
 ghost use Rattle.cert_text.specs.CertificateText.{scale_line, ramp_line};
-ghost use Rattle.cert_text.specs.WrittenParts.{table_part};
+ghost use Rattle.cert_text.specs.inside.WrittenParts.{table_part};
 
 use crate::schedule::Signed;
 use dual_model::{RampRow, Table};

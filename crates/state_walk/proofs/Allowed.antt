@@ -14,7 +14,7 @@ use Rattle.uc_model.proofs.Tests.{int_le-true, le-int_le, all_below-at, all_belo
 use Rattle.dual_model.specs.declared.node.Fix.{Fix}
 use Rattle.dual_model.specs.UnitTerms.{AreSizedTerms, IsSized, period_count, term_at}
 use Rattle.dual_model.specs.PatternValue.{IsPattern, is_followed}
-use Rattle.state_walk.specs.Moves.{holds_initially, initial_limit, has_lasted, hour_cost}
+use Rattle.state_walk.specs.inside.Moves.{holds_initially, initial_limit, has_lasted, hour_cost}
 use Rattle.state_walk.specs.CostToGo.{since_after}
 use Rattle.state_walk.proofs.Switches.{since}
 use Rattle.state_walk.proofs.Lasting.{enters, leaves, LeavesInTime, window-from_lasting, initial-from_lasting, lasting-from_windows}

@@ -9,7 +9,7 @@ use Rattle.dual_model.proofs.CellBounds.{BoundsCorners}
 use Rattle.dual_model.proofs.Terms.{pair_least, corner_least, greatest_bound, least_reduced_cost, is_term, cell_bound-corners, corners-cell_bound}
 use Rattle.dual_model.specs.declared.limits.TheConstants.{MAX_UNIT_PRICE, MAX_TERM}
 use Rattle.dual_model.specs.UnitTerms.{IsLawfulCell}
-use Rattle.state_walk.specs.Corners.{point_cost, room, least_corner, MAX_ROOM, MAX_POINT_COST}
+use Rattle.state_walk.specs.inside.Corners.{point_cost, room, least_corner, MAX_ROOM, MAX_POINT_COST}
 use Rattle.state_walk.proofs.CornerCosts.{room-size, point_cost-size}
 use Rattle.uc_model.proofs.Sizes.{abs_add, abs_mul}
 

@@ -12,7 +12,7 @@ use Rattle.uc_model.proofs.Quotients.{IsFloor-int_div_euclid, IsFloor-add, IsFlo
 use Rattle.uc_model.proofs.Sizes.{abs_add, abs_sub, abs_mul, wide, narrow, from-size, product-size, product-is, difference-size, difference-is, scaled-size, floor-size}
 use Rattle.dual_model.specs.declared.limits.TheConstants.{MAX_UNIT_PRICE, MAX_CAP}
 use Rattle.dual_model.specs.UnitTerms.{IsLawfulCell}
-use Rattle.state_walk.specs.Corners.{point_cost, room, weighted_cost, pair_cost, MAX_ROOM, MAX_POINT_COST, MAX_WEIGHTED}
+use Rattle.state_walk.specs.inside.Corners.{point_cost, room, weighted_cost, pair_cost, MAX_ROOM, MAX_POINT_COST, MAX_WEIGHTED}
 
 -- ---- sizes
 pub scale-size : (points : List Point) (k a b cap : ℤ) → IsLawfulCell points k a b cap → unsigned_abs k ≤ 10 ^ 9

@@ -5,7 +5,7 @@ use Rattle.std.specs.Int.{int_min}
 use Rattle.uc_model.specs.declared.instance.Thermal.{Thermal}
 use Rattle.uc_model.specs.declared.terms.Terms.{Terms}
 use Rattle.dual_model.specs.declared.node.Fix.{Fix}
-use Rattle.state_walk.specs.Moves.{hour_before, move}
+use Rattle.state_walk.specs.inside.Moves.{hour_before, move}
 use Rattle.state_walk.specs.declared.walk.CostToGo.{CostToGo}
 
 -- the total of two costs, and the lesser of them; None is what may not be

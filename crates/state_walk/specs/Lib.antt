@@ -1,3 +1,2 @@
-pub mod Moves
 pub mod CostToGo
-pub mod Corners
+pub mod inside

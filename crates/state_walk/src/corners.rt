@@ -5,7 +5,7 @@ ghost use Rattle.std.specs.Prelude.{◌≡◌, ◌+◌, ◌*◌, ◌^◌, ◌<�
 ghost use Rattle.uc_model.specs.Division.{IsFloor};
 ghost use Rattle.uc_model.specs.Points.{output_of, point_of};
 ghost use Rattle.dual_model.specs.UnitTerms.{IsLawfulCell};
-ghost use Rattle.state_walk.specs.Corners.{corner_cost as corner_cost_of, IsLawfulPair, least_corner as least_corner_of, least_pair as least_pair_of, pair_cost as pair_cost_of, point_cost as point_cost_of, room as room_of, weighted_cost as weighted_cost_of, MAX_POINT_COST, MAX_ROOM, MAX_WEIGHTED};
+ghost use Rattle.state_walk.specs.inside.Corners.{corner_cost as corner_cost_of, IsLawfulPair, least_corner as least_corner_of, least_pair as least_pair_of, pair_cost as pair_cost_of, point_cost as point_cost_of, room as room_of, weighted_cost as weighted_cost_of, MAX_POINT_COST, MAX_ROOM, MAX_WEIGHTED};
 ghost use Rattle.dual_model.specs.TableValue.{IsCellTerm};
 
 use dual_model::limits::MAX_TERM;

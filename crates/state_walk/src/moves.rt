@@ -3,7 +3,7 @@
 ghost use Rattle.std.specs.Prelude.{◌≡◌, ◌<◌, ◌≤◌, true, false, ◌-ℤ◌, ◌*ℤ◌, unsigned_abs};
 ghost use Rattle.uc_model.specs.Limits.{IsLawfulThermal};
 ghost use Rattle.dual_model.specs.UnitTerms.{AreSizedTerms, period_count, place as place_of, term_at as term_of};
-ghost use Rattle.state_walk.specs.Moves.{hour_before as hour_of, move, stop_since as stop_of};
+ghost use Rattle.state_walk.specs.inside.Moves.{hour_before as hour_of, move, stop_since as stop_of};
 
 use crate::rules::{holds_initially, may_be_off, may_be_on, may_start, may_stop};
 use crate::start_cost::sigma;

@@ -6,7 +6,7 @@
 
 ghost use Rattle.std.specs.Prelude.{◌≡◌, ◌+◌, ◌<◌, ◌≤◌};
 ghost use Rattle.uc_model.specs.Limits.{IsLawfulThermal};
-ghost use Rattle.state_walk.specs.Moves.{holds_initially as initially, initial_limit as limit_of, may_be_off as off_at, may_be_on as on_at, may_start as start_at, may_stop as stop_at, has_lasted as lasted};
+ghost use Rattle.state_walk.specs.inside.Moves.{holds_initially as initially, initial_limit as limit_of, may_be_off as off_at, may_be_on as on_at, may_start as start_at, may_stop as stop_at, has_lasted as lasted};
 
 use dual_model::Fix;
 use uc_model::Thermal;

@@ -1,3 +1,2 @@
--- Definitions that only private calls cite.
 pub mod Asked
 pub mod Search

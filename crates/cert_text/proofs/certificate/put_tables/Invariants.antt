@@ -1,5 +1,5 @@
 use Rattle.std.proofs.Common.{take}
-use Rattle.cert_text.specs.WrittenParts.{tables_part}
+use Rattle.cert_text.specs.inside.WrittenParts.{tables_part}
 use Rattle.cert_text.proofs.certificate.put_tables.Given as goal
 
 abbrev pub invariant-loop-number : goal.invariant-loop-number

@@ -3,7 +3,7 @@ use Rattle.std.proofs.Common.{◌*◌}
 use Rattle.uc_model.specs.Points.{point_of}
 use Rattle.uc_model.specs.declared.limits.TheConstants.{MAX_COST}
 use Rattle.uc_model.proofs.Sizes.{wide-size, from-size, product-size}
-use Rattle.state_walk.specs.Corners.{MAX_ROOM}
+use Rattle.state_walk.specs.inside.Corners.{MAX_ROOM}
 use Rattle.state_walk.proofs.corners.cost_by_room.Goals as goal
 
 pub returns-clause-size : goal.returns-clause-size

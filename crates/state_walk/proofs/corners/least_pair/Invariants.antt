@@ -2,7 +2,7 @@
 use Rattle.std.proofs.Common.{◌≡◌, pos}
 use Rattle.std.specs.Prelude.{int_lt}
 use Rattle.uc_model.specs.Sums.{least_below}
-use Rattle.state_walk.specs.Corners.{room, pair_cost, point_cost}
+use Rattle.state_walk.specs.inside.Corners.{room, pair_cost, point_cost}
 use Rattle.state_walk.proofs.corners.least_pair.Given as goal
 
 abbrev pub invariant-loop-j : goal.invariant-loop-j

@@ -2,7 +2,7 @@
 use Rattle.std.proofs.Common.{◌*◌, ◌^◌, ◌∙◌, ap, lit<, ◌+◌, ◌+ℤ◌, ◌*ℤ◌}
 use Rattle.uc_model.proofs.Sizes.{wide, narrow, from-size, product-fits, product-size, product-is, sum-fits, sum-size, sum-is}
 use Rattle.dual_model.specs.declared.limits.TheConstants.{MAX_UNIT_PRICE, MAX_CAP}
-use Rattle.state_walk.specs.Corners.{MAX_WEIGHTED}
+use Rattle.state_walk.specs.inside.Corners.{MAX_WEIGHTED}
 use Rattle.state_walk.proofs.CornerCosts.{pair_cost-from, width-positive}
 use Rattle.state_walk.proofs.corners.pair_cost.Goals as goal
 

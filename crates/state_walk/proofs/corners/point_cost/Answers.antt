@@ -3,7 +3,7 @@ use Rattle.std.proofs.Common.{◌*◌, ◌^◌, lit<, arith}
 use Rattle.uc_model.specs.declared.limits.TheConstants.{MAX_POWER, MAX_COST}
 use Rattle.uc_model.proofs.Sizes.{wide-size, sum-fits, sum-size}
 use Rattle.dual_model.specs.declared.limits.TheConstants.{MAX_UNIT_PRICE}
-use Rattle.state_walk.specs.Corners.{MAX_POINT_COST}
+use Rattle.state_walk.specs.inside.Corners.{MAX_POINT_COST}
 use Rattle.state_walk.proofs.CornerCosts.{point_cost-parts}
 use Rattle.state_walk.proofs.corners.point_cost.Goals as goal
 

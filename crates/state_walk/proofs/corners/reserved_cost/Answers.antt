@@ -2,7 +2,7 @@
 use Rattle.std.proofs.Common.{◌*◌, lit<}
 use Rattle.uc_model.proofs.Sizes.{product-size, sum-fits}
 use Rattle.dual_model.specs.declared.limits.TheConstants.{MAX_UNIT_PRICE}
-use Rattle.state_walk.specs.Corners.{MAX_ROOM, MAX_POINT_COST}
+use Rattle.state_walk.specs.inside.Corners.{MAX_ROOM, MAX_POINT_COST}
 use Rattle.state_walk.proofs.corners.reserved_cost.Goals as goal
 
 pub sum-requires : goal.sum-requires

@@ -5,7 +5,7 @@ use Rattle.std.specs.Int.{w64, w128}
 use Rattle.std.proofs.lemmas.Int.{ints, to_z-of_z}
 use Rattle.dual_model.specs.Term.{IsTerm}
 use Rattle.dual_model.specs.declared.limits.TheConstants.{MAX_TERM}
-use Rattle.state_walk.specs.Corners.{least_corner}
+use Rattle.state_walk.specs.inside.Corners.{least_corner}
 use Rattle.uc_model.proofs.Sizes.{wide}
 use Rattle.state_walk.proofs.CellTerms.{least_corner-term, term-size}
 use Rattle.state_walk.proofs.corners.term.Goals as goal

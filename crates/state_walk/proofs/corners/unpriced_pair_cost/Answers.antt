@@ -1,7 +1,7 @@
 -- The number and the width are what they name, and the quotient is no greater than the number.
 use Rattle.std.proofs.Common.{◌^◌, sym, subst, lit<, ◌<ℤ◌, pos}
 use Rattle.uc_model.proofs.Sizes.{from-size, product-fits}
-use Rattle.state_walk.specs.Corners.{MAX_WEIGHTED}
+use Rattle.state_walk.specs.inside.Corners.{MAX_WEIGHTED}
 use Rattle.state_walk.proofs.CornerCosts.{scale-size, width-is, width-positive, weighted-is, quotient-is}
 use Rattle.state_walk.proofs.corners.unpriced_pair_cost.Goals as goal
 
