@@ -34,11 +34,11 @@ fn makes_and_copies_tables(rt: HostRuntime) -> Result<(), Fail> {
         |_| "no memory",
     )?;
     let table = made.copy(alloc).map_err(|_| "no memory")?;
-    assert_eq!(rt; (table.units, table.k), (2, 1_000_000));
-    assert_eq!(rt; table.pi.as_slice(), [10_000_000, -4].as_slice());
-    assert_eq!(rt; table.mu.as_slice(), [0, 7].as_slice());
-    assert_eq!(rt; table.ramps.as_slice().len(), 1);
-    let kept = table.ramps.as_slice()[0];
+    assert_eq!(rt; (table.units(), table.k()), (2, 1_000_000));
+    assert_eq!(rt; table.pi(), [10_000_000, -4].as_slice());
+    assert_eq!(rt; table.mu(), [0, 7].as_slice());
+    assert_eq!(rt; table.ramps().len(), 1);
+    let kept = table.ramps()[0];
     assert_eq!(rt; (kept.g, kept.t, kept.up, kept.down), (1, 0, 5, 0));
     Ok(())
 }
