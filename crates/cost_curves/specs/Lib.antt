@@ -1,0 +1,3 @@
+pub mod LowerHull
+pub mod LeastCost
+pub mod inside

@@ -1,0 +1,13 @@
+//! The lower convex hull of a unit's points, and the least production cost at an output by it.
+//!
+//! Outputs are watts above the first point's, costs micro-dollars an hour.
+#![tactic(auto)]
+
+mod corners;
+mod curve;
+mod line;
+mod places;
+mod slope;
+
+pub use curve::Curve;
+pub use slope::Slope;

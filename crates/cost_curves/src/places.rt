@@ -1,0 +1,159 @@
+//! Where an output lies among the corners, and what the hull says there.
+
+ghost use Rattle.std.specs.Prelude.{◌≡◌, ℕ, suc, ◌*◌, ◌<◌, ◌≤◌, pos, List, ◌-ℤ◌, ◌*ℤ◌, ◌<ℤ◌, ◌≤ℤ◌, int_lt, length, unsigned_abs};
+ghost use Rattle.uc_model.specs.Division.{IsCeiling};
+ghost use Rattle.uc_model.specs.Hull.{hull_cost};
+ghost use Rattle.uc_model.specs.Points.{point_of, output_of};
+ghost use Rattle.uc_model.specs.declared.instance.Point.{Point};
+ghost use Rattle.cost_curves.specs.LowerHull.{AreLawfulCorners, IsLawfulPoint, IsLowerHull, width_of};
+ghost use Rattle.cost_curves.specs.LeastCost.{IsLeastCostUp, IsLeftSlope, IsSegmentAt};
+ghost use Rattle.cost_curves.specs.inside.Places.{HoldsOutput};
+
+use crate::line::{rise, run};
+use crate::slope::Slope;
+use uc_model::limits::{MAX_COST, MAX_POWER};
+use uc_model::{Point, ceil_div, scaled};
+
+/// The greatest output above the first corner's.
+pub(crate) fn width(corners: &[Point]) -> i64
+    requires { AreLawfulCorners corners.now }
+    ensures value { result ≡ width_of corners.now }
+{
+    output(corners, corners.len() - 1)
+}
+
+/// The least cost at an output, rounded up.
+pub(crate) fn ceil_at(corners: &[Point], p: &i64) -> i64
+    requires lawful { AreLawfulCorners corners.now }
+    requires low { pos 0 ≤ℤ p.now }
+    requires high { p.now ≤ℤ width_of corners.now }
+    ensures least { (points : List Point) → IsLowerHull points corners.now → IsLeastCostUp points p.now result }
+    ensures hull { (points : List Point) → IsLowerHull points corners.now → result ≡ hull_cost points 1 p.now }
+{
+    let found = ends_at(corners, p);
+    let over = *p - output(corners, found.left);
+    cost_between(&corners[found.left], &corners[found.right], &over)
+}
+
+/// The ends of a segment that holds an output.
+pub(crate) fn segment(corners: &[Point], p: &i64) -> (Point, Point)
+    requires lawful { AreLawfulCorners corners.now }
+    requires low { pos 0 ≤ℤ p.now }
+    requires high { p.now ≤ℤ width_of corners.now }
+    ensures { (points : List Point) → IsLowerHull points corners.now → IsSegmentAt points p.now result.0 result.1 }
+{
+    let found = ends_at(corners, p);
+    (corners[found.left], corners[found.right])
+}
+
+/// The slope on the left of an output.
+pub(crate) fn slope(corners: &[Point], p: &i64) -> Slope
+    requires lawful { AreLawfulCorners corners.now }
+    requires low { pos 0 <ℤ p.now }
+    requires high { p.now ≤ℤ width_of corners.now }
+    ensures { (points : List Point) → IsLowerHull points corners.now → IsLeftSlope points p.now result }
+{
+    let left = place(corners, p);
+    Slope {
+        rise: rise(&corners[left], &corners[left + 1]),
+        run: run(&corners[left], &corners[left + 1]),
+    }
+}
+
+// The cost on the line between two points, so far right of the left one, rounded up.
+fn cost_between(left: &Point, right: &Point, over: &i64) -> i64
+    requires left { IsLawfulPoint left.now }
+    requires right { IsLawfulPoint right.now }
+    requires low { pos 0 ≤ℤ over.now }
+    requires high { over.now ≤ℤ (right.now.mw -ℤ left.now.mw) }
+    ensures level { left.now.mw ≡ right.now.mw → result ≡ left.now.cost }
+    ensures rising { left.now.mw <ℤ right.now.mw → IsCeiling ((right.now.cost -ℤ left.now.cost) *ℤ over.now) (right.now.mw -ℤ left.now.mw) (result -ℤ left.now.cost) }
+{
+    if left.mw == right.mw {
+        return left.cost;
+    }
+    left.cost + rise_up(left, right, over)
+}
+
+// How far the line between two points rises until so far right of the left one, rounded up.
+fn rise_up(left: &Point, right: &Point, over: &i64) -> i64
+    requires left { IsLawfulPoint left.now }
+    requires right { IsLawfulPoint right.now }
+    requires low { pos 0 ≤ℤ over.now }
+    requires high { over.now ≤ℤ (right.now.mw -ℤ left.now.mw) }
+    requires apart { left.now.mw <ℤ right.now.mw }
+    ensures ceiling { IsCeiling ((right.now.cost -ℤ left.now.cost) *ℤ over.now) (right.now.mw -ℤ left.now.mw) result }
+    ensures size { unsigned_abs result ≤ 2 * MAX_COST }
+{
+    let rising = scaled(rise(left, right), *over);
+    let width = i128::from(run(left, right));
+    ceil_div(rising, width) as i64
+}
+
+// The places of a segment's ends among the corners.
+#[derive(Clone, Copy, Debug)]
+struct Ends {
+    left: usize,
+    right: usize,
+}
+
+// The ends of a segment that holds an output, or the corner that is alone.
+fn ends_at(corners: &[Point], p: &i64) -> Ends
+    requires lawful { AreLawfulCorners corners.now }
+    requires low { pos 0 ≤ℤ p.now }
+    requires high { p.now ≤ℤ width_of corners.now }
+    ensures { HoldsOutput corners.now p.now result.left result.right }
+{
+    if corners.len() == 1 {
+        return Ends { left: 0, right: 0 };
+    }
+    if *p == 0 {
+        return Ends { left: 0, right: 1 };
+    }
+    let left = place(corners, p);
+    Ends {
+        left,
+        right: left + 1,
+    }
+}
+
+// The corner from which a segment reaches an output that lies right of it, found by halving.
+fn place(corners: &[Point], p: &i64) -> usize
+    requires lawful { AreLawfulCorners corners.now }
+    requires low { pos 0 <ℤ p.now }
+    requires high { p.now ≤ℤ width_of corners.now }
+    ensures within { suc result < length corners.now }
+    ensures begins { output_of corners.now result <ℤ p.now }
+    ensures reaches { p.now ≤ℤ output_of corners.now (suc result) }
+{
+    let mut low = 0;
+    let mut high = corners.len() - 1;
+    while high - low > 1 {
+        let middle = low + (high - low) / 2;
+        if is_left(corners, middle, p) {
+            low = middle;
+        } else {
+            high = middle;
+        }
+    }
+    low
+}
+
+// Whether a corner lies left of an output.
+fn is_left(corners: &[Point], place: usize, p: &i64) -> bool
+    requires lawful { AreLawfulCorners corners.now }
+    requires within { place < length corners.now }
+    ensures { result ≡ int_lt (output_of corners.now place) p.now }
+{
+    output(corners, place) < *p
+}
+
+// A corner's output above the first one's.
+fn output(corners: &[Point], place: usize) -> i64
+    requires lawful { AreLawfulCorners corners.now }
+    requires within { place < length corners.now }
+    ensures value { result ≡ output_of corners.now place }
+    ensures size { unsigned_abs result ≤ 2 * MAX_POWER }
+{
+    run(&corners[0], &corners[place])
+}
