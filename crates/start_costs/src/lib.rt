@@ -1,0 +1,10 @@
+//! What a start costs: the cheapest category that a pattern's history allows, and the least cost by the last
+//! stop alone.
+#![tactic(auto)]
+
+mod barred;
+pub mod by_history;
+pub mod by_last_stop;
+
+pub use by_history::least_allowed;
+pub use by_last_stop::sigma;
