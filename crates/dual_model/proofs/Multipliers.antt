@@ -12,7 +12,7 @@ below_or_past : (k n : ℕ) → (k < n) ⊎ (n ≤ k)
 below_or_past k n = grind arith
 
 -- what holds of each element and of the default holds of each look-up
-look_up : (P : ℤ → Type 0) (xs : List ℤ) (d : ℤ) (k : ℕ) → All P xs → P d → P (slice_index_or xs k d)
+pub look_up : (P : ℤ → Type 0) (xs : List ℤ) (d : ℤ) (k : ℕ) → All P xs → P d → P (slice_index_or xs k d)
 look_up P xs d k each other = ⊎_elim
     (λ (within : k < length xs). each k d within)
     (λ (past : length xs ≤ k). subst P (sym (get_or_past xs k d past)) other)
@@ -22,7 +22,7 @@ pub mu_at_nonneg : (table : Table) → HasLawfulSigns table → (t : ℕ) → po
 mu_at_nonneg table signs t = look_up (λ n. pos 0 ≤ℤ n) table.mu (pos 0) t signs.mu (le_refl (pos 0))
 
 -- what holds of each row, and of one that is all 0, holds of the row that is looked up
-row_of_each : (P : RampRow → Type 0) (rows : List RampRow) (g t : ℕ)
+pub row_of_each : (P : RampRow → Type 0) (rows : List RampRow) (g t : ℕ)
     → ((k : ℕ) (d : RampRow) → k < length rows → P (slice_index_or rows k d))
     → P (record { g = g; t = t; up = pos 0; down = pos 0 }) → P (row_of rows g t)
 row_of_each P [] g t each other = other

@@ -1,0 +1,42 @@
+-- The row at the cell's place is the cell's, or no row is.
+use Rattle.std.proofs.Common.{◌≡◌, ◌<◌, length, sym, ap, ◌∙◌, add-one, arith, to_z, of_z, w64}
+use Rattle.std.specs.Prelude.{IsTrue}
+use Rattle.std.proofs.lemmas.Bool.{true≢false}
+use Rattle.std.proofs.lemmas.Int.{to_z-of_z}
+use Rattle.dual_model.specs.Prices.{row_of}
+use Rattle.dual_model.specs.declared.table.RampRow.{RampRow}
+use Rattle.ramp_duals.specs.RampRows.{row_in}
+use Rattle.ramp_duals.proofs.RowOrder.{IsOf, earlier_none, next_place, none_at, row_of-first, row_of-none, same_place}
+use Rattle.ramp_duals.proofs.multipliers.from_place.Goals as goal
+use Rattle.ramp_duals.proofs.multipliers.from_place.Goals.{else-place-rows-via-then-place-rows+else-is_of, else-place-rows-via-else-place-rows}
+
+pub returns-then-is_of : goal.returns-then-is_of
+returns-then-is_of c =
+    let rows = c.args.rows.now in
+    let place = c.args.place in
+    let here : IsTrue (IsOf (row_in rows place) c.args.g c.args.t) = sym c.is_of.ensures ∙ c.if-is_of.true in
+    let found : row_of rows c.args.g c.args.t ≡ row_in rows place =
+    row_of-first rows c.args.g c.args.t place c.if-place-rows.true (earlier_none rows c.args.g c.args.t place c.requires.place) here in
+    let up : to_z w64 (of_z w64 (row_in rows place).up) ≡ (row_in rows place).up = grind (arith, to_z-of_z) in
+    let down : to_z w64 (of_z w64 (row_in rows place).down) ≡ (row_in rows place).down = grind (arith, to_z-of_z) in
+    record {
+      up = up ∙ ap (λ (row : RampRow). row.up) (sym found);
+      down = down ∙ ap (λ (row : RampRow). row.down) (sym found);
+      next = next_place rows c.requires.rising c.args.g c.args.t place _ (add-one place) c.requires.place c.if-place-rows.true here;
+    }
+
+pub returns-else-place-rows : goal.returns-else-place-rows
+returns-else-place-rows c =
+    let rows = c.args.rows.now in
+    let none = row_of-none rows c.args.g c.args.t (none_at rows c.requires.rising c.args.g c.args.t c.args.place c.requires.place other) in
+    record {
+      up = ap (λ (row : RampRow). row.up) (sym none);
+      down = ap (λ (row : RampRow). row.down) (sym none);
+      next = same_place rows c.requires.rising c.args.g c.args.t c.args.place c.requires.place other;
+    }
+  where
+    other : c.args.place < length c.args.rows.now → IsTrue (IsOf (row_in c.args.rows.now c.args.place) c.args.g c.args.t) → ⊥
+    other l h = elim c.else-place-rows.branch [
+      | else-place-rows-via-then-place-rows+else-is_of w ↦ true≢false (sym h ∙ sym w.is_of.ensures ∙ w.if-is_of.false)
+      | else-place-rows-via-else-place-rows w ↦ omega (arith, w.if-place-rows.false)
+    ]

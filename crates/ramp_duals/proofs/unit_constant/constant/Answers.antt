@@ -1,0 +1,56 @@
+-- One period more, and the initial output at the end.
+use Rattle.std.proofs.Common.{◌≡◌, ℕ, suc, ◌+◌, ◌*◌, ◌^◌, ◌≤◌, length, add-one, sym, ap, subst, ◌∙◌, lit<, arith, ◌+ℤ◌, ◌-ℤ◌, ◌*ℤ◌, to_z, of_z}
+use Rattle.std.specs.Prelude.{neg_ℤ, unsigned_abs}
+use Rattle.std.specs.Int.{w128}
+use Rattle.uc_model.specs.Commitment.{initial_p}
+use Rattle.uc_model.specs.Sums.{sum_below}
+use Rattle.uc_model.proofs.Sizes.{abs_add, wide}
+use Rattle.dual_model.specs.Prices.{up_at, down_at}
+use Rattle.ramp_duals.specs.RampRows.{AreOf}
+use Rattle.ramp_duals.proofs.unit_constant.constant.Goals as goal
+
+pub loop-t-preserved : goal.loop-t-preserved
+loop-t-preserved c =
+    let so_far = c.loop-t.invariant in
+    let table = c.args.table.now in
+    let unit = c.args.unit.now in
+    let part = λ (t : ℕ). neg_ℤ (up_at table c.args.g t *ℤ unit.ru) -ℤ down_at table c.args.g t *ℤ unit.rd in
+    let next = subst (λ rows. AreOf rows c.args.g (suc c.loop-t.t) c.following-now.result) c.ramps-in-loop-t.ensures.rows c.following-now.ensures in
+    let added : c.sum-total.result ≡ to_z w128 c.loop-t.total-bits +ℤ c.ramp_part.result =
+    c.sum-total.ensures ∙ (λ i. to_z w128 c.loop-t.total-bits +ℤ wide c.ramp_part.result (2 ^ 108) c.ramp_part.ensures.size (lit< tt) i) in
+    let here : c.ramp_part.result ≡ part c.loop-t.t =
+    c.ramp_part.ensures.value ∙ (λ i. neg_ℤ (so_far.0.up i *ℤ unit.ru) -ℤ so_far.0.down i *ℤ unit.rd) in
+    let lengths = ap (λ pi. length pi) c.pi-t-end.ensures in
+    let periods : suc c.loop-t.t ≤ 168 = omega (arith, c.loop-t-test.true, c.requires.periods) in
+    let size : unsigned_abs c.sum-total.result ≤ suc c.loop-t.t * 2 ^ 108 =
+    subst (λ x. unsigned_abs x ≤ suc c.loop-t.t * 2 ^ 108) (sym added)
+    (omega (arith, abs_add (to_z w128 c.loop-t.total-bits) c.ramp_part.result (c.loop-t.t * 2 ^ 108) (2 ^ 108) so_far.2 c.ramp_part.ensures.size)) in
+    let kept : to_z w128 (of_z w128 c.sum-total.result) ≡ c.sum-total.result =
+    wide c.sum-total.result (168 * 2 ^ 108) (omega (arith, size, periods)) (lit< tt) in
+    subst (λ k. AreOf table.ramps c.args.g k c.following-now.result
+    × (to_z w128 (of_z w128 c.sum-total.result) ≡ sum_below k part)
+    × (unsigned_abs (to_z w128 (of_z w128 c.sum-total.result)) ≤ k * 2 ^ 108))
+    (sym (add-one c.loop-t.t))
+    (next, kept ∙ added ∙ (λ i. so_far.1 i +ℤ here i), subst (λ x. unsigned_abs x ≤ suc c.loop-t.t * 2 ^ 108) (sym kept) size)
+
+pub returns : goal.returns
+returns c =
+    let so_far = c.loop-t.invariant in
+    let table = c.args.table.now in
+    let unit = c.args.unit.now in
+    let g = c.args.g in
+    let part = λ (t : ℕ). neg_ℤ (up_at table g t *ℤ unit.ru) -ℤ down_at table g t *ℤ unit.rd in
+    let first = subst (λ rows. AreOf rows g 0 c.multipliers_of-first.result) c.ramps.ensures.rows c.multipliers_of-first.ensures in
+    let added : c.sum.result ≡ to_z w128 c.loop-t.total-bits +ℤ c.initial_part.result =
+    c.sum.ensures ∙ (λ i. to_z w128 c.loop-t.total-bits +ℤ wide c.initial_part.result (2 ^ 110) c.initial_part.ensures.size (lit< tt) i) in
+    let initial : c.initial_part.result ≡ (down_at table g 0 -ℤ up_at table g 0) *ℤ initial_p unit =
+    c.initial_part.ensures.value ∙ (λ i. (first.down i -ℤ first.up i) *ℤ initial_p unit) in
+    let lengths = ap (λ pi. length pi) c.pi-t-end.ensures in
+    let last : c.loop-t.t ≡ length table.pi = omega (arith, c.loop-t.auto.t-end, c.loop-t-test.false) in
+    let periods : c.loop-t.t ≤ 168 = omega (arith, c.requires.periods) in
+    let size : unsigned_abs c.sum.result ≤ 168 * 2 ^ 108 + 2 ^ 110 =
+    subst (λ x. unsigned_abs x ≤ 168 * 2 ^ 108 + 2 ^ 110) (sym added)
+    (omega (arith, periods, abs_add (to_z w128 c.loop-t.total-bits) c.initial_part.result (c.loop-t.t * 2 ^ 108) (2 ^ 110) so_far.2 c.initial_part.ensures.size)) in
+    wide c.sum.result (168 * 2 ^ 108 + 2 ^ 110) size (lit< tt)
+    ∙ added
+    ∙ (λ i. (so_far.1 ∙ ap (λ n. sum_below n part) last) i +ℤ initial i)

@@ -1,0 +1,26 @@
+-- The products, taken away from nothing.
+use Rattle.std.proofs.Common.{◌≡◌, ◌^◌, ◌≤◌, ◌∙◌, lit<, arith, ℤ, pos, ◌+ℤ◌, ◌-ℤ◌}
+use Rattle.std.specs.Prelude.{neg_ℤ, unsigned_abs}
+use Rattle.std.proofs.lemmas.Int.{ints}
+use Rattle.uc_model.proofs.Sizes.{difference-is, difference-size, sum-is, sum-size, wide, wide-size}
+use Rattle.ramp_duals.proofs.unit_constant.ramp_part.Goals as goal
+
+taken_away : (rise fall both all a b : ℤ) → rise ≡ a → fall ≡ b → both ≡ rise +ℤ fall → all ≡ pos 0 -ℤ both → all ≡ neg_ℤ a -ℤ b
+taken_away rise fall both all a b d e f h = omega (arith, ints)
+
+pub returns-clause-value : goal.returns-clause-value
+returns-clause-value c =
+    let size : unsigned_abs c.sum.result ≤ 2 ^ 108 =
+    sum-size c.priced-rise.result c.priced-fall.result c.sum.result (2 ^ 107) (2 ^ 107) c.sum.ensures c.priced-rise.ensures.size c.priced-fall.ensures.size in
+    let both = sum-is c.priced-rise.result c.priced-fall.result c.sum.result (2 ^ 107) (2 ^ 107) c.sum.ensures c.priced-rise.ensures.size c.priced-fall.ensures.size (lit< tt) in
+    let all = difference-is (pos 0) c.sum.result c.difference.result 0 (2 ^ 108) c.difference.ensures (omega arith) size (lit< tt) in
+    let all_size = difference-size (pos 0) c.sum.result c.difference.result 0 (2 ^ 108) c.difference.ensures (omega arith) size in
+    wide c.difference.result (2 ^ 108) all_size (lit< tt)
+    ∙ taken_away c.priced-rise.result c.priced-fall.result c.sum.result c.difference.result _ _
+    c.priced-rise.ensures.value c.priced-fall.ensures.value both all
+
+pub returns-clause-size : goal.returns-clause-size
+returns-clause-size c =
+    let size : unsigned_abs c.sum.result ≤ 2 ^ 108 =
+    sum-size c.priced-rise.result c.priced-fall.result c.sum.result (2 ^ 107) (2 ^ 107) c.sum.ensures c.priced-rise.ensures.size c.priced-fall.ensures.size in
+    wide-size c.difference.result (2 ^ 108) (difference-size (pos 0) c.sum.result c.difference.result 0 (2 ^ 108) c.difference.ensures (omega arith) size)
