@@ -7,8 +7,10 @@ ghost use Rattle.std.specs.List.{list_all};
 ghost use Rattle.uc_model.specs.Limits.{IsLawfulThermal};
 ghost use Rattle.dual_model.specs.TableValue.{IsLawfulRow};
 
+use cost_curves::Curve;
 use dual_model::Fix;
-use state_walk::{Walk, least, terms};
+use period_term::terms;
+use state_walk::{Walk, least};
 use std::alloc::Global;
 use std::process::Abort;
 use std::test::Fail;
@@ -299,7 +301,8 @@ fn walked(
     requires periods { (1 ≤ length rows.now) × (length rows.now ≤ 6) }
     requires rows { All IsLawfulRow rows.now }
 {
-    let terms = terms(alloc, unit, 1, rows)?;
+    let curve = Curve::of(alloc, unit.points.as_slice())?;
+    let terms = terms(alloc, unit, &curve, 1, rows)?;
     let mut walk = Walk::new(alloc, rows.len())?;
     Ok(least(&mut walk, &terms, unit, fix))
 }

@@ -33,6 +33,15 @@ pub(crate) struct Change {
     pub(crate) down0: u16,
 }
 
+/// On initially, and free to stop and start.
+pub(crate) const RUNNING: Change = Change {
+    must_run: false,
+    on0: true,
+    start_limit: 50,
+    down: 1,
+    down0: 0,
+};
+
 // A unit of these points, on initially at 20 MW or off, with these start categories.
 pub(crate) fn unit(alloc: Global, change: Change, startup: Vec<StartRow>) -> Result<Thermal, Fail>
     requires rows { IsTrue (list_all (λ row. nat_le row.lag 1000 && (int_le (pos 0) row.cost && int_le row.cost (pos 1000))) startup.items) }

@@ -2,11 +2,19 @@
 #![tactic(auto)]
 
 #[cfg(test)]
+mod cell_terms;
+#[cfg(test)]
+mod curves;
+#[cfg(test)]
 mod enumeration;
 #[cfg(test)]
 mod fixtures;
 #[cfg(test)]
+mod multipliers;
+#[cfg(test)]
 mod numbers;
+#[cfg(test)]
+mod starts;
 #[cfg(test)]
 mod unit_values;
 #[cfg(test)]

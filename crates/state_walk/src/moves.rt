@@ -6,9 +6,9 @@ ghost use Rattle.dual_model.specs.UnitTerms.{AreSizedTerms, period_count, place 
 ghost use Rattle.state_walk.specs.inside.Moves.{hour_before as hour_of, move, stop_since as stop_of};
 
 use crate::rules::{holds_initially, may_be_off, may_be_on, may_start, may_stop};
-use crate::start_cost::sigma;
 use dual_model::Fix;
 use dual_model::limits::{MAX_TERM, MAX_UNIT_PRICE};
+use start_costs::sigma;
 use uc_model::limits::MAX_POWER;
 use uc_model::{Terms, Thermal, difference, product, scaled};
 

@@ -14,9 +14,11 @@ ghost use Rattle.dual_model.specs.TableValue.{IsLawfulScale, IsUnitValueOf};
 ghost use Rattle.uc_cli.specs.inside.Search.{HasEachPattern, IsSearchAnswer};
 
 use branch_tree::{Entry, Found, Layout, Leaf, Outcome, Tree};
+use cost_curves::Curve;
 use dual_model::{Fix, Table};
 use outside::Gate;
-use state_walk::{Walk, least, terms};
+use period_term::terms;
+use state_walk::{Walk, least};
 use std::alloc::Global;
 use std::sync::Wait;
 use uc_model::limits::MAX_UNITS;
@@ -64,7 +66,8 @@ fn unit_value(
     ensures kept { walk.new ≡ walk.old }
 {
     let unit = &instance.thermal.as_slice()[g];
-    let unit_terms = terms(alloc, unit, k, prices)?;
+    let curve = Curve::of(alloc, unit.points.as_slice())?;
+    let unit_terms = terms(alloc, unit, &curve, k, prices)?;
     Ok(least(walk, &unit_terms, unit, &nothing_fixed()))
 }
 

@@ -1,0 +1,130 @@
+-- The term of a cell by that without reserve, at prices that are freed of it.
+use Rattle.std.proofs.Common.{◌≡◌, ℕ, zero, suc, ◌<◌, ⊎_elim, refl, sym, ap, subst, ◌∙◌, arith, List, ℤ, pos, ◌+ℤ◌, ◌-ℤ◌, ◌*ℤ◌, ◌≤ℤ◌, ◌<ℤ◌}
+use Rattle.std.specs.Prelude.{Option, None, slice_index_or, [], ◌∷◌}
+use Rattle.std.specs.Int.{int_min}
+use Rattle.std.proofs.lemmas.Int.{ints}
+use Rattle.uc_model.specs.declared.instance.Point.{Point}
+use Rattle.uc_model.proofs.Ring.{linear, le_or_lt, mul_left_comm, mul-zero, zero-mul, mul-add, mul-sub, add-mul, mul-le-mul_right, mul-le-mul_turned}
+use Rattle.dual_model.specs.Term.{IsTerm, weighted_output, weighted_cost}
+use Rattle.dual_model.specs.TableValue.{IsCellTerm}
+use Rattle.period_term.specs.inside.Freed.{AreFreed}
+
+min_le : (b : ℤ) → int_min b (pos 0) ≤ℤ b
+min_le b = grind (arith, ints)
+
+min_low : (b : ℤ) → int_min b (pos 0) ≤ℤ pos 0
+min_low b = grind (arith, ints)
+
+min_below : (b : ℤ) → b ≤ℤ pos 0 → int_min b (pos 0) ≡ b
+min_below b h = grind (arith, ints)
+
+min_above : (b : ℤ) → pos 0 <ℤ b → int_min b (pos 0) ≡ pos 0
+min_above b h = grind (arith, ints)
+
+-- the costs of weights, of cost `cost` and output `p`
+more : (q h k cost p r a b cap output reserve : ℤ) → output ≡ a -ℤ reserve → reserve ≤ℤ b → reserve ≤ℤ pos 0 → pos 0 ≤ℤ r → (p +ℤ r) ≤ℤ (q *ℤ cap)
+    → (q *ℤ h) ≤ℤ (k *ℤ cost +ℤ output *ℤ p +ℤ pos 0 *ℤ r)
+    → (q *ℤ (h +ℤ reserve *ℤ cap)) ≤ℤ (k *ℤ cost +ℤ a *ℤ p +ℤ b *ℤ r)
+more q h k cost p r a b cap output reserve is less low sign fits base =
+    let e1 = mul-le-mul_right r reserve b sign less in
+    let e2 = mul-le-mul_turned reserve (p +ℤ r) (q *ℤ cap) low fits in
+    let e3 = mul-add reserve p r in
+    let e4 : a *ℤ p ≡ output *ℤ p +ℤ reserve *ℤ p = ap (λ z. z *ℤ p) (whole a output reserve is) ∙ add-mul output reserve p in
+    let e5 = zero-mul r in
+    let e6 = mul-add q h (reserve *ℤ cap) in
+    let e7 = mul_left_comm q reserve cap in
+    omega (arith, linear)
+  where
+    whole : (a output reserve : ℤ) → output ≡ a -ℤ reserve → a ≡ output +ℤ reserve
+    whole a output reserve e = omega (arith, linear)
+
+-- what bounds them with all the room as reserve, and with none
+with_all : (q n k cost p r a b cap output reserve : ℤ) → output ≡ a -ℤ reserve → reserve ≡ b
+    → (q *ℤ n) ≤ℤ (k *ℤ cost +ℤ a *ℤ p +ℤ b *ℤ (q *ℤ cap -ℤ p))
+    → (q *ℤ (n -ℤ reserve *ℤ cap)) ≤ℤ (k *ℤ cost +ℤ output *ℤ p +ℤ pos 0 *ℤ r)
+with_all q n k cost p r a b cap output reserve is same base =
+    let e1 = mul-sub q n (reserve *ℤ cap) in
+    let e2 = mul_left_comm q reserve cap in
+    let e3 = mul-sub b (q *ℤ cap) p in
+    let e4 : a *ℤ p ≡ output *ℤ p +ℤ reserve *ℤ p = ap (λ z. z *ℤ p) (whole a output reserve is) ∙ add-mul output reserve p in
+    let e5 = zero-mul r in
+    let e6 = ap (λ z. z *ℤ p) same in
+    let e7 = ap (λ z. z *ℤ (q *ℤ cap)) same in
+    omega (arith, linear)
+  where
+    whole : (a output reserve : ℤ) → output ≡ a -ℤ reserve → a ≡ output +ℤ reserve
+    whole a output reserve e = omega (arith, linear)
+
+with_none : (q n k cost p r a b cap output reserve : ℤ) → output ≡ a -ℤ reserve → reserve ≡ pos 0
+    → (q *ℤ n) ≤ℤ (k *ℤ cost +ℤ a *ℤ p +ℤ b *ℤ pos 0)
+    → (q *ℤ (n -ℤ reserve *ℤ cap)) ≤ℤ (k *ℤ cost +ℤ output *ℤ p +ℤ pos 0 *ℤ r)
+with_none q n k cost p r a b cap output reserve is none base =
+    let e1 = mul-sub q n (reserve *ℤ cap) in
+    let e2 = ap (λ z. q *ℤ (z *ℤ cap)) none ∙ ap (λ z. q *ℤ z) (zero-mul cap) ∙ mul-zero q in
+    let e3 = mul-zero b in
+    let e4 : a *ℤ p ≡ output *ℤ p = ap (λ z. z *ℤ p) (whole a output reserve is none) in
+    let e5 = zero-mul r in
+    omega (arith, linear)
+  where
+    whole : (a output reserve : ℤ) → output ≡ a -ℤ reserve → reserve ≡ pos 0 → a ≡ output
+    whole a output reserve e none = omega (arith, linear)
+
+pub freed_term : (points : List Point) (k a b cap output reserve h : ℤ) → AreFreed k a b k output reserve → IsTerm points k output (pos 0) cap h
+    → IsTerm points k a b cap (h +ℤ reserve *ℤ cap)
+freed_term points k a b cap output reserve h freed term = record {
+  reachable = term.reachable;
+  bound = record {
+    below = λ q weight r total sign fits.
+        more (pos q) h k (weighted_cost points weight) (weighted_output points weight) r a b cap output reserve output_is
+        (subst (λ z. z ≤ℤ b) (sym freed.reserve_is) (min_le b)) (subst (λ z. z ≤ℤ pos 0) (sym freed.reserve_is) (min_low b)) sign fits
+        (term.bound.below q weight r total sign fits);
+  };
+  greatest = λ n bound. back n (reserve *ℤ cap) (term.greatest (n -ℤ reserve *ℤ cap) (record {
+    below = λ q weight r total sign fits. ⊎_elim
+        (λ (low : b ≤ℤ pos 0).
+        with_all (pos q) n k (weighted_cost points weight) (weighted_output points weight) r a b cap output reserve output_is
+        (freed.reserve_is ∙ min_below b low)
+        (bound.below q weight (pos q *ℤ cap -ℤ weighted_output points weight) total
+        (left (weighted_output points weight) r (pos q *ℤ cap) sign fits) (whole (weighted_output points weight) (pos q *ℤ cap))))
+        (λ (high : pos 0 <ℤ b).
+        with_none (pos q) n k (weighted_cost points weight) (weighted_output points weight) r a b cap output reserve output_is
+        (freed.reserve_is ∙ min_above b high)
+        (bound.below q weight (pos 0) total (nothing tt) (none (weighted_output points weight) r (pos q *ℤ cap) sign fits)))
+        (le_or_lt b (pos 0));
+  }));
+}
+  where
+    output_is : output ≡ a -ℤ reserve
+    output_is = freed.output_is ∙ ap (λ z. a -ℤ z) (sym freed.reserve_is)
+
+    back : (n x : ℤ) → (n -ℤ x) ≤ℤ h → n ≤ℤ (h +ℤ x)
+    back n x l = omega (arith, linear)
+
+    left : (p r room : ℤ) → pos 0 ≤ℤ r → (p +ℤ r) ≤ℤ room → pos 0 ≤ℤ (room -ℤ p)
+    left p r room sign fits = omega (arith, linear)
+
+    whole : (p room : ℤ) → (p +ℤ (room -ℤ p)) ≤ℤ room
+    whole p room = omega (arith, linear)
+
+    none : (p r room : ℤ) → pos 0 ≤ℤ r → (p +ℤ r) ≤ℤ room → (p +ℤ pos 0) ≤ℤ room
+    none p r room sign fits = omega (arith, linear)
+
+    nothing : Unit {0} → pos 0 ≤ℤ pos 0
+    nothing u = omega (arith, linear)
+
+-- the term at freed prices, as the calls give it
+pub of_freed : (points : List Point) (k a b cap scale output reserve : ℤ) (term : Option ℤ) → AreFreed k a b scale output reserve
+    → ((x y : ℤ) → AreFreed scale x y scale output reserve → IsCellTerm points scale x y cap term) → IsCellTerm points k a b cap term
+of_freed points k a b cap scale output reserve term freed each =
+    subst (λ z. IsCellTerm points z a b cap term) freed.scale_is
+    (each a b (record { scale_is = refl; output_is = freed.output_is; reserve_is = freed.reserve_is }))
+
+-- a fact of each of four caps and its term
+pub each_of_four : (P : ℤ → Option ℤ → Type 0) (caps : List ℤ) (x y z w : Option ℤ)
+    → P (slice_index_or caps 0 (pos 0)) x → P (slice_index_or caps 1 (pos 0)) y → P (slice_index_or caps 2 (pos 0)) z → P (slice_index_or caps 3 (pos 0)) w
+    → (i : ℕ) → i < 4 → P (slice_index_or caps i (pos 0)) (slice_index_or (x ∷ y ∷ z ∷ w ∷ []) i None)
+each_of_four P caps x y z w a b c d zero h = a
+each_of_four P caps x y z w a b c d (suc zero) h = b
+each_of_four P caps x y z w a b c d (suc (suc zero)) h = c
+each_of_four P caps x y z w a b c d (suc (suc (suc zero))) h = d
+each_of_four P caps x y z w a b c d (suc (suc (suc (suc i)))) h = absurd (omega arith)

@@ -1,0 +1,3 @@
+pub mod CornerNumbers
+pub mod FreedTerms
+pub mod LeastPlaces

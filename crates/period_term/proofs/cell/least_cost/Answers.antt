@@ -1,0 +1,26 @@
+-- The term at the least corner, or on the segment that holds the cap.
+use Rattle.std.proofs.Common.{sym, subst, ◌∙◌, lit<, pos}
+use Rattle.uc_model.proofs.Tests.{int_le-true}
+use Rattle.uc_model.proofs.Sizes.{wide}
+use Rattle.dual_model.specs.Term.{IsTerm}
+use Rattle.period_term.specs.inside.Places.{MAX_CORNER_COST, MAX_LEAST}
+use Rattle.period_term.proofs.LeastPlaces.{corner_term, segment_term, beyond}
+use Rattle.period_term.proofs.cell.least_cost.Goals as goal
+
+pub returns-then-is_within-clause-term : goal.returns-then-is_within-clause-term
+returns-then-is_within-clause-term c = λ points whole.
+    let k = c.args.prices.now.k in
+    let a = c.args.prices.now.a in
+    subst (λ z. IsTerm points k a (pos 0) c.args.cap.now z)
+    (sym (wide c.corner_cost.result MAX_CORNER_COST c.corner_cost.ensures.size (lit< tt) ∙ c.corner_cost.ensures.value))
+    (corner_term points c.args.corners.now k a c.args.cap.now c.args.place whole c.requires.prices.scale.low c.requires.sign c.requires.place
+    (int_le-true _ _ (sym c.is_within.ensures ∙ c.if-is_within.true)))
+
+pub returns-else-is_within-clause-term : goal.returns-else-is_within-clause-term
+returns-else-is_within-clause-term c = λ points whole.
+    let k = c.args.prices.now.k in
+    let a = c.args.prices.now.a in
+    subst (λ z. IsTerm points k a (pos 0) c.args.cap.now z)
+    (sym (wide c.segment_cost.result MAX_LEAST c.segment_cost.ensures.size (lit< tt)))
+    (segment_term points c.args.corners.now k a c.args.cap.now c.segment_cost.result c.cap_place.result c.args.place whole c.requires.prices.scale.low c.requires.sign
+    c.requires.place (beyond _ _ (sym c.is_within.ensures ∙ c.if-is_within.false)) c.cap_place.ensures c.segment_cost.ensures.floor)
