@@ -27,12 +27,14 @@ class Process:
 
     def __init__(self, number):
         folder = pathlib.Path("/proc") / str(number)
-        words = (folder / "cmdline").read_bytes().decode(errors="replace").split("\0")
-        self.of = task(words, os.readlink(folder / "cwd"))
-        self.folder = folder
+        self.folder, self.of = folder, None
         self.look()
 
     def look(self):
+        # (a process that was just begun can still have the words of the one that began it)
+        if not self.of:
+            words = (self.folder / "cmdline").read_bytes().decode(errors="replace").split("\0")
+            self.of = task(words, os.readlink(self.folder / "cwd"))
         # (the second field, the command in brackets, can hold spaces)
         fields = (self.folder / "stat").read_text().rpartition(")")[2].split()
         self.parent, self.began = int(fields[1]), fields[19]
