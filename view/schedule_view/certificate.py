@@ -1,0 +1,188 @@
+"""The certificate, read strictly by its grammar (`docs/FORMATS.md`, "The certificate"). What it claims isn't checked: `uc check` does."""
+from __future__ import annotations
+
+import re
+from collections import Counter
+from dataclasses import dataclass
+from typing import Dict, List, Optional, Tuple
+
+from .amounts import amount, signed, whole
+from .lines import Lines
+from .refusal import shown
+
+_CELL = re.compile(r"([^:]+):([^:]+):([^:]+)")
+MOST_TABLES, MOST_CATEGORY, WATT_DIGITS = 2**32, 255, 15
+
+# a cell that is on: output above the minimum and reserve in watts, and the category of a start, else 0
+CertificateCell = Tuple[int, int, int]
+
+
+@dataclass(frozen=True)
+class CertificateSchedule:
+    """A schedule as a certificate holds it: its cost in micro-dollars and its rows; the first row stands at `line`."""
+
+    cost: int
+    line: int
+    thermal: List[List[Optional[CertificateCell]]]
+    renewable: List[List[int]]
+
+
+@dataclass(frozen=True)
+class Prices:
+    """The prices of a table by period: a number n means n/scale micro-dollars a watt, which are dollars a megawatt."""
+
+    table: int
+    scale: int
+    demand: List[int]
+    reserve: List[int]
+
+
+@dataclass(frozen=True)
+class Leaves:
+    """How many leaves of each word a tree has, and, where it has but one, its word and the number of its table or unit."""
+
+    counts: Dict[str, int]
+    only: Optional[Tuple[str, int]]
+
+
+@dataclass(frozen=True)
+class Certificate:
+    """A certificate; the bound in micro-dollars, None where infeasibility is claimed; prices where some leaf has a bound."""
+
+    path: str
+    sizes: Tuple[int, int, int]
+    bound: Optional[int]
+    schedule: Optional[CertificateSchedule]
+    prices: Optional[Prices]
+    leaves: Leaves
+
+
+def read_certificate(path: str, data: bytes) -> Certificate:
+    """The certificate of the bytes of a file. Refused with the file and the line."""
+    lines = Lines(path, data)
+    _exactly(lines, "uc-certificate 1")
+    periods, thermal, renewable, tables = _size(lines)
+    bound = _claim(lines)
+    schedule = _schedule(lines, periods, thermal, renewable)
+    read = [_table(lines, number + 1, periods, thermal) for number in range(tables)]
+    leaves, first_bound, line = _tree(lines, periods, thermal, tables)
+    _exactly(lines, "end")
+    lines.finish()
+    prices = read[first_bound - 1] if first_bound else None
+    if prices and not prices.scale:
+        lines.refuse("a bound at a table of scale 0", line)
+    return Certificate(path, (periods, thermal, renewable), bound, schedule, prices, leaves)
+
+
+def _exactly(lines: Lines, text: str) -> None:
+    line = lines.take()
+    if line != text:
+        lines.refuse(f'{shown(line)} where "{text}" is due')
+
+
+def _numbers(lines: Lines, word: str, count: int) -> List[int]:
+    """The numbers of a line that begins with a word; each of at most 18 digits and any sign."""
+    line = lines.take()
+    words = line.split(" ")
+    numbers = [signed(text) for text in words[1:]]
+    if words[0] != word or len(numbers) != count or None in numbers:
+        lines.refuse(f"{shown(line)} where {word} and {count} numbers are due")
+    return numbers
+
+
+def _size(lines: Lines) -> Tuple[int, int, int, int]:
+    periods, thermal, renewable, tables = _numbers(lines, "size", 4)
+    if not (1 <= periods <= 168 and 0 <= thermal <= 4096 and 0 <= renewable <= 4096 and 0 <= tables < MOST_TABLES):
+        lines.refuse("a size past its limit")
+    return periods, thermal, renewable, tables
+
+
+def _claim(lines: Lines) -> Optional[int]:
+    line = lines.take()
+    if line == "claim infeasible":
+        return None
+    bound = amount(line[len("claim bound ") :]) if line.startswith("claim bound ") else None
+    if bound is None:
+        lines.refuse(f"{shown(line)} is no claim")
+    return bound
+
+
+def _schedule(lines: Lines, periods: int, thermal: int, renewable: int) -> Optional[CertificateSchedule]:
+    line = lines.take()
+    if line == "schedule none":
+        return None
+    cost = amount(line[len("schedule ") :]) if line.startswith("schedule ") else None
+    if cost is None:
+        lines.refuse(f"{shown(line)} where the schedule is due")
+    first = lines.number + 1
+    cells = [[_cell(lines, word) for word in _row(lines, "t", periods)] for _ in range(thermal)]
+    outputs = [[_watts(lines, word) for word in _row(lines, "w", periods)] for _ in range(renewable)]
+    return CertificateSchedule(cost, first, cells, outputs)
+
+
+def _row(lines: Lines, word: str, periods: int) -> List[str]:
+    line = lines.take()
+    words = line.split(" ")
+    if words[0] != word or len(words) != periods + 1:
+        lines.refuse(f"{shown(line)} where {word} and {periods} cells are due")
+    return words[1:]
+
+
+def _cell(lines: Lines, word: str) -> Optional[CertificateCell]:
+    if word == "-":
+        return None
+    parts = _CELL.fullmatch(word)
+    category = whole(parts[3]) if parts else None
+    if category is None or category > MOST_CATEGORY:
+        lines.refuse(f"{shown(word)} is no cell")
+    return _watts(lines, parts[1]), _watts(lines, parts[2]), category
+
+
+def _watts(lines: Lines, word: str) -> int:
+    watts = signed(word)
+    if watts is None or len(word.lstrip("-")) > WATT_DIGITS:
+        lines.refuse(f"{shown(word)} is no number of watts")
+    return watts
+
+
+def _table(lines: Lines, number: int, periods: int, thermal: int) -> Prices:
+    (scale,) = _numbers(lines, "table", 1)
+    if scale < 0:
+        lines.refuse("a scale below 0")
+    demand, reserve = _numbers(lines, "pi", periods), _numbers(lines, "mu", periods)
+    (rows,) = _numbers(lines, "ramps", 1)
+    if rows < 0:
+        lines.refuse("a number of rows below 0")
+    before = (0, 0)
+    for _ in range(rows):
+        unit, period, up, down = _numbers(lines, "ramp", 4)
+        if not (1 <= unit <= thermal and 1 <= period <= periods and (up or down) and before < (unit, period)):
+            lines.refuse("a ramp row that may not stand here")
+        before = (unit, period)
+    return Prices(number, scale, demand, reserve)
+
+
+def _tree(lines: Lines, periods: int, thermal: int, tables: int) -> Tuple[Leaves, Optional[int], int]:
+    """The leaves of the tree, and the table and line of the first leaf with a bound in preorder."""
+    most = {"bound": tables, "ray": tables, "empty": thermal}
+    counts: Counter[str] = Counter()
+    first_bound, line, only, due = None, 0, None, 1
+    while due:
+        text = lines.take()
+        word, _, rest = text.partition(" ")
+        numbers = [whole(number) for number in rest.split(" ")]
+        if word == "split" and len(numbers) == 2 and _is_within(numbers[0], thermal) and _is_within(numbers[1], periods):
+            due += 1
+        elif word in most and len(numbers) == 1 and _is_within(numbers[0], most[word]):
+            due -= 1
+            counts[word] += 1
+            only = word, numbers[0]
+            if word == "bound" and first_bound is None:
+                first_bound, line = numbers[0], lines.number
+        else:
+            lines.refuse(f"{shown(text)} is no node of the tree")
+    return Leaves(dict(counts), only if sum(counts.values()) == 1 else None), first_bound, line
+
+
+def _is_within(number: Optional[int], most: int) -> bool:
+    return number is not None and 1 <= number <= most

@@ -1,0 +1,137 @@
+"""Whether a report and a certificate are of an instance, and of each other.
+
+This keeps what can't be drawn, or would be drawn wrong, out of a picture: other units, cells outside a unit's range, hours whose
+outputs don't add up to demand. It is no proof that the schedule obeys all rules, nor that the bound is one: `uc check` is.
+"""
+from __future__ import annotations
+
+from typing import NoReturn, Optional
+
+from .amounts import amount_text
+from .certificate import Certificate, CertificateSchedule
+from .instance import Instance, Renewable, Thermal
+from .refusal import Refusal, shown
+from .report import Cell, Outcome, RenewableRow, Report, ThermalRow
+
+
+def check_report(instance: Instance, report: Report) -> None:
+    """Refused where the report isn't one of this instance, with its line."""
+    _check_sizes(instance, report)
+    if report.stuck:
+        _check_stuck(instance, report)
+    if not report.has_schedule:
+        return
+    if report.bound > report.cost:
+        _refuse(report, 4, f"the bound is above the cost, {amount_text(report.cost)}")
+    for unit, row in zip(instance.thermal, report.thermal):
+        _check_thermal(report, unit, row)
+    for unit, row in zip(instance.renewable, report.renewable):
+        _check_renewable(report, unit, row)
+    for period in range(instance.periods):
+        _check_hour(instance, report, period)
+
+
+def check_certificate(instance: Instance, report: Report, certificate: Certificate) -> None:
+    """Refused where the certificate isn't one of this instance and this report, with its line."""
+    if certificate.sizes != (instance.periods, len(instance.thermal), len(instance.renewable)):
+        _refuse(certificate, 2, "the sizes aren't those of the instance")
+    if (certificate.bound is None) != (report.outcome is Outcome.INFEASIBLE) or certificate.bound != report.bound:
+        _refuse(certificate, 3, "the claim isn't that of the report")
+    schedule = certificate.schedule
+    if (schedule is not None) != report.has_schedule or (schedule and schedule.cost != report.cost):
+        _refuse(certificate, 4, "the schedule isn't that of the report")
+    if schedule:
+        _check_rows(instance, report, certificate, schedule)
+
+
+def _refuse(source: object, line: Optional[int], what: str) -> NoReturn:
+    raise Refusal(source.path, f"line {line}" if line else "", what)
+
+
+def _check_sizes(instance: Instance, report: Report) -> None:
+    for word, written, number in (
+        ("periods", report.periods, instance.periods),
+        ("thermal units", report.thermal_units, len(instance.thermal)),
+        ("renewable units", report.renewable_units, len(instance.renewable)),
+        ("rounded numbers", report.rounded, instance.rounded),
+    ):
+        if written != number:
+            _refuse(report, 1, f"{written} {word}, where the instance has {number}")
+
+
+def _check_stuck(instance: Instance, report: Report) -> None:
+    stuck = report.stuck
+    if not 1 <= stuck.period <= instance.periods:
+        _refuse(report, stuck.line, f"the instance has no period {stuck.period}")
+    if stuck.unit is not None and all(unit.name != stuck.unit for unit in instance.thermal):
+        _refuse(report, stuck.line, f"the instance has no thermal unit {shown(stuck.unit)}")
+    for word, written, numbers in (("demand", stuck.demand, instance.demand), ("need", stuck.need, instance.reserves)):
+        if written is not None and written != numbers[stuck.period - 1]:
+            _refuse(report, stuck.line, f"the {word} of the instance is {amount_text(numbers[stuck.period - 1])}")
+
+
+def _check_name(report: Report, line: int, written: str, name: str) -> None:
+    if written != name:
+        _refuse(report, line, f"unit {shown(written)}, where the instance has {shown(name)}")
+
+
+def _check_thermal(report: Report, unit: Thermal, row: ThermalRow) -> None:
+    _check_name(report, row.line, row.name, unit.name)
+    was_on = unit.is_on_before
+    for period, cell in enumerate(row.cells):
+        what = _cell_fault(unit, cell, was_on) if cell else None
+        if what:
+            _refuse(report, row.line, f"period {period + 1}: {what}")
+        was_on = cell is not None
+
+
+def _cell_fault(unit: Thermal, cell: Cell, was_on: bool) -> Optional[str]:
+    """What is wrong with an on cell of a unit, if anything is."""
+    if cell.output < unit.least:
+        return f"output {amount_text(cell.output)} below the unit's minimum, {amount_text(unit.least)}"
+    if cell.output > unit.greatest:
+        return f"output {amount_text(cell.output)} above the unit's greatest, {amount_text(unit.greatest)}"
+    if cell.output + cell.reserve > unit.maximum:
+        return f"output and reserve above the unit's maximum, {amount_text(unit.maximum)}"
+    if was_on and cell.category:
+        return "a start of a unit that is on the hour before"
+    if not was_on and not cell.category:
+        return "a start without a category"
+    if cell.category > unit.categories:
+        return f"start category {cell.category} of a unit that has {unit.categories}"
+    return None
+
+
+def _check_renewable(report: Report, unit: Renewable, row: RenewableRow) -> None:
+    _check_name(report, row.line, row.name, unit.name)
+    for period, (output, least, greatest) in enumerate(zip(row.outputs, unit.least, unit.greatest)):
+        if not least <= output <= greatest:
+            what = f"output {amount_text(output)} not from {amount_text(least)} to {amount_text(greatest)}"
+            _refuse(report, row.line, f"period {period + 1}: {what}")
+
+
+def _check_hour(instance: Instance, report: Report, period: int) -> None:
+    cells = [row.cells[period] for row in report.thermal]
+    output = sum(cell.output for cell in cells if cell) + sum(row.outputs[period] for row in report.renewable)
+    if output != instance.demand[period]:
+        what = f"outputs add up to {amount_text(output)}, where demand is {amount_text(instance.demand[period])}"
+        _refuse(report, None, f"period {period + 1}: {what}")
+    reserve = sum(cell.reserve for cell in cells if cell)
+    if reserve < instance.reserves[period]:
+        what = f"reserves add up to {amount_text(reserve)}, where {amount_text(instance.reserves[period])} is needed"
+        _refuse(report, None, f"period {period + 1}: {what}")
+
+
+def _check_rows(instance: Instance, report: Report, certificate: Certificate, schedule: CertificateSchedule) -> None:
+    line = schedule.line
+    for unit, row, cells in zip(instance.thermal, report.thermal, schedule.thermal):
+        for period, (cell, written) in enumerate(zip(row.cells, cells)):
+            wanted = (cell.output - unit.least, cell.reserve, cell.category) if cell else None
+            if written != wanted:
+                _refuse(certificate, line, f"the cell of period {period + 1} isn't that of the report")
+        line += 1
+    for row, outputs in zip(report.renewable, schedule.renewable):
+        for period, (output, written) in enumerate(zip(row.outputs, outputs)):
+            if output != written:
+                _refuse(certificate, line, f"the output of period {period + 1} isn't that of the report")
+        line += 1

@@ -1,0 +1,98 @@
+"""The layers of the stacked output: units in the order of their average cost, the dearest merged where there are many."""
+from __future__ import annotations
+
+from dataclasses import dataclass
+from fractions import Fraction
+from typing import List
+
+from .amounts import short_text
+from .instance import Instance
+from .report import Report
+
+SINGLE_UNITS = 20
+# the dearer units are merged into layers of at least as many units, and into at most so many layers
+LEAST_MERGED, MOST_BANDS = 20, 5
+
+
+@dataclass(frozen=True)
+class Layer:
+    """One layer: its name, what the legend adds to it, the class that gives its colour, and by hour its output in watts and title."""
+
+    name: str
+    note: str
+    look: str
+    outputs: List[int]
+    titles: List[str]
+
+
+def merit_order(instance: Instance) -> List[int]:
+    """The thermal units' indexes, the cheapest first by the average cost at the last point, then in the order of the file."""
+    costs = [unit.average_cost for unit in instance.thermal]
+    return sorted(range(len(costs)), key=lambda g: (costs[g] is None, costs[g] or 0, g))
+
+
+def cost_text(cost: Fraction) -> str:
+    """An average cost for a reader's eye, with two decimals: micro-dollars a watt are dollars a megawatt."""
+    return f"{float(cost):,.2f}"
+
+
+def layers(instance: Instance, report: Report) -> List[Layer]:
+    """The layers from the bottom: units that give something, cheapest first, merged ones, and renewables on top."""
+    used = [g for g in merit_order(instance) if any(cell and cell.output for cell in report.thermal[g].cells)]
+    found = [_unit(instance, report, g, f"c{place}") for place, g in enumerate(used[:SINGLE_UNITS])]
+    found += [_band(instance, report, units, place) for place, units in enumerate(_bands(used[SINGLE_UNITS:]))]
+    if any(output for row in report.renewable for output in row.outputs):
+        found.append(_renewables(report))
+    return found
+
+
+def never_on(instance: Instance, report: Report) -> List[str]:
+    """The names of the units that give nothing, the cheapest first."""
+    rows = (report.thermal[g] for g in merit_order(instance))
+    return [row.name for row in rows if not any(cell and cell.output for cell in row.cells)]
+
+
+def _unit(instance: Instance, report: Report, g: int, look: str) -> Layer:
+    name, cells, cost = report.thermal[g].name, report.thermal[g].cells, instance.thermal[g].average_cost
+    titles = [
+        f"{name}, hour {t + 1}: {short_text(cell.output)} MW, reserve {short_text(cell.reserve)} MW" if cell else ""
+        for t, cell in enumerate(cells)
+    ]
+    note = f"{cost_text(cost)} $/MWh" if cost is not None else ""
+    return Layer(name, note, look, [cell.output if cell else 0 for cell in cells], titles)
+
+
+def _bands(units: List[int]) -> List[List[int]]:
+    """The units parted, in their order, into bands of nearly as many each."""
+    count = min(MOST_BANDS, -(-len(units) // LEAST_MERGED))
+    cuts = [len(units) * k // count for k in range(count + 1)] if count else []
+    return [units[low:high] for low, high in zip(cuts, cuts[1:])]
+
+
+def _band(instance: Instance, report: Report, units: List[int], place: int) -> Layer:
+    columns = list(zip(*(report.thermal[g].cells for g in units)))
+    outputs = [sum(cell.output for cell in column if cell) for column in columns]
+    reserves = [sum(cell.reserve for cell in column if cell) for column in columns]
+    counts = [sum(cell is not None for cell in column) for column in columns]
+    name = f"{len(units)} dearer units" if len(units) > 1 else "1 dearer unit"
+    titles = [
+        f"{name}{_range_text(instance, units)}, {count} on, hour {t + 1}: {short_text(output)} MW, reserve {short_text(reserve)} MW"
+        for t, (count, output, reserve) in enumerate(zip(counts, outputs, reserves))
+    ]
+    return Layer(name + _range_text(instance, units), "", f"m{place}", outputs, titles)
+
+
+def _range_text(instance: Instance, units: List[int]) -> str:
+    costs = [cost for cost in (instance.thermal[g].average_cost for g in units) if cost is not None]
+    if not costs:
+        return ""
+    low, high = cost_text(costs[0]), cost_text(costs[-1])
+    return f" at {low} $/MWh" if low == high else f" at {low} to {high} $/MWh"
+
+
+def _renewables(report: Report) -> Layer:
+    count = len(report.renewable)
+    outputs = [sum(column) for column in zip(*(row.outputs for row in report.renewable))]
+    name = f"{count} renewable units" if count > 1 else report.renewable[0].name
+    titles = [f"{name}, hour {t + 1}: {short_text(output)} MW" for t, output in enumerate(outputs)]
+    return Layer(name, "renewable", "renewable", outputs, titles)

@@ -1,0 +1,233 @@
+"""The report of `uc solve`, read strictly by its format (`docs/FORMATS.md`, "The report")."""
+from __future__ import annotations
+
+import enum
+import re
+from dataclasses import dataclass, field
+from typing import List, Match, Optional, Tuple
+
+from .amounts import amount, whole
+from .lines import Lines
+from .refusal import shown
+
+_CELL = re.compile(r"([0-9.]+)\+([0-9.]+)(?:\*([1-9][0-9]{0,2}))?")
+_NAME = r'"((?:[^"\\\x00-\x1f]|\\["\\]|\\u00[01][0-9a-f])*)"'
+_MW = r"(-?[0-9]+\.[0-9]{6})"
+_UNIT_LINE = re.compile(f"(thermal|renewable) {_NAME}((?: [^ ]+)*)")
+_ESCAPE = re.compile(r'\\(?:(["\\])|u00([0-9a-f]{2}))')
+_STUCK = re.compile(r"most-on commitment stuck in period ([0-9]+): (.*)", re.DOTALL)
+_WHY = (
+    re.compile(f"thermal {_NAME} breaks M([1-9][0-9]?)"),
+    re.compile(f"thermal {_NAME} needs at least {_MW} and at most {_MW} above its minimum"),
+    re.compile(f"least output {_MW} above demand {_MW}"),
+    re.compile(f"most output {_MW} below demand {_MW}"),
+    re.compile(f"reserve {_MW} below need {_MW}"),
+)
+
+
+class Outcome(enum.Enum):
+    """What the second line says; the value is that line."""
+
+    CLOSED = "closed"
+    SPENT = "budget spent"
+    NO_SCHEDULE = "budget spent, no schedule found"
+    INFEASIBLE = "infeasible"
+
+
+@dataclass(frozen=True)
+class Cell:
+    """A unit that is on in a period: total output and reserve in watts, and the category of a start, else 0."""
+
+    output: int
+    reserve: int
+    category: int
+
+
+@dataclass(frozen=True)
+class ThermalRow:
+    """The line of a thermal unit; None is a period in which it is off."""
+
+    line: int
+    name: str
+    cells: List[Optional[Cell]]
+
+
+@dataclass(frozen=True)
+class RenewableRow:
+    """The line of a renewable unit with its outputs in watts."""
+
+    line: int
+    name: str
+    outputs: List[int]
+
+
+@dataclass(frozen=True)
+class Stuck:
+    """The line on the most-on commitment: its number and text, the period from 1, and the demand or need that it names."""
+
+    line: int
+    text: str
+    period: int
+    unit: Optional[str] = None
+    demand: Optional[int] = None
+    need: Optional[int] = None
+
+
+@dataclass(frozen=True)
+class Report:
+    """A report; money in micro-dollars. Only what its outcome has is there."""
+
+    path: str
+    periods: int
+    thermal_units: int
+    renewable_units: int
+    rounded: int
+    outcome: Outcome
+    evaluations: int
+    cost: Optional[int] = None
+    bound: Optional[int] = None
+    stuck: Optional[Stuck] = None
+    thermal: List[ThermalRow] = field(default_factory=list)
+    renewable: List[RenewableRow] = field(default_factory=list)
+
+    @property
+    def has_schedule(self) -> bool:
+        """Whether there is a schedule to draw."""
+        return self.cost is not None
+
+
+def read_report(path: str, data: bytes) -> Report:
+    """The report of the bytes of a file. Refused with the file and the line."""
+    lines = Lines(path, data)
+    periods, thermal, renewable, rounded = _sizes(lines)
+    outcome = _outcome(lines)
+    head = (path, periods, thermal, renewable, rounded, outcome)
+    if outcome is Outcome.INFEASIBLE:
+        report = Report(*head, _evaluations(lines))
+    elif outcome is Outcome.NO_SCHEDULE:
+        bound, evaluations = _money(lines, "bound"), _evaluations(lines)
+        report = Report(*head, evaluations, bound=bound, stuck=None if lines.is_done() else _stuck(lines))
+    else:
+        cost, bound, evaluations = _money(lines, "cost"), _money(lines, "bound"), _evaluations(lines)
+        report = Report(
+            *head,
+            evaluations,
+            cost,
+            bound,
+            thermal=[_thermal_row(lines, periods) for _ in range(thermal)],
+            renewable=[_renewable_row(lines, periods) for _ in range(renewable)],
+        )
+    lines.finish()
+    return report
+
+
+def _sizes(lines: Lines) -> Tuple[int, int, int, int]:
+    words = lines.take().split(" ")
+    numbers = [whole(word) for word in words[1::2]]
+    if words[::2] != ["periods", "thermal", "renewable", "rounded"] or len(numbers) != 4 or None in numbers:
+        lines.refuse("not the line of sizes that a report begins with")
+    return tuple(numbers)
+
+
+def _outcome(lines: Lines) -> Outcome:
+    line = lines.take()
+    try:
+        return Outcome(line)
+    except ValueError:
+        lines.refuse(f"{shown(line)} is no outcome")
+
+
+def _word_of(lines: Lines, name: str) -> str:
+    """The one word behind a line's name."""
+    line = lines.take()
+    if not line.startswith(name + " "):
+        lines.refuse(f"{shown(line)} where the {name} is due")
+    return line[len(name) + 1 :]
+
+
+def _money(lines: Lines, name: str) -> int:
+    word = _word_of(lines, name)
+    money = amount(word)
+    if money is None:
+        lines.refuse(f"{shown(word)} is no amount of money")
+    return money
+
+
+def _evaluations(lines: Lines) -> int:
+    word = _word_of(lines, "evaluations")
+    number = whole(word)
+    if number is None:
+        lines.refuse(f"{shown(word)} is no number of evaluations")
+    return number
+
+
+def _unit_line(lines: Lines, kind: str, periods: int) -> Tuple[str, List[str]]:
+    """The name of a unit and the words of its cells, as many as there are periods."""
+    line = lines.take()
+    parts = _UNIT_LINE.fullmatch(line)
+    if parts is None or parts[1] != kind:
+        lines.refuse(f"{shown(line)} where a {kind} unit is due")
+    words = parts[3].split(" ")[1:]
+    if len(words) != periods:
+        lines.refuse(f"{len(words)} cells for {periods} periods")
+    return _unescaped(parts[2]), words
+
+
+def _thermal_row(lines: Lines, periods: int) -> ThermalRow:
+    name, words = _unit_line(lines, "thermal", periods)
+    return ThermalRow(lines.number, name, [_cell(lines, t + 1, word) for t, word in enumerate(words)])
+
+
+def _cell(lines: Lines, period: int, word: str) -> Optional[Cell]:
+    if word == "-":
+        return None
+    parts = _CELL.fullmatch(word)
+    output, reserve = (amount(parts[1]), amount(parts[2])) if parts else (None, None)
+    if output is None or reserve is None:
+        lines.refuse(f"period {period}: {shown(word)} is no cell")
+    return Cell(output, reserve, int(parts[3] or 0))
+
+
+def _renewable_row(lines: Lines, periods: int) -> RenewableRow:
+    name, words = _unit_line(lines, "renewable", periods)
+    return RenewableRow(lines.number, name, [_output(lines, t + 1, word) for t, word in enumerate(words)])
+
+
+def _output(lines: Lines, period: int, word: str) -> int:
+    output = amount(word)
+    if output is None:
+        lines.refuse(f"period {period}: {shown(word)} is no output")
+    return output
+
+
+def _stuck(lines: Lines) -> Stuck:
+    text = lines.take()
+    parts = _STUCK.fullmatch(text)
+    period = whole(parts[1]) if parts else None
+    if period is None:
+        lines.refuse(f"{shown(text)} where the stuck commitment or the end is due")
+    for kind, pattern in enumerate(_WHY):
+        why = pattern.fullmatch(parts[2])
+        if why:
+            return _reason(lines, text, period, kind, why)
+    lines.refuse(f"{shown(parts[2])} is no reason")
+
+
+def _reason(lines: Lines, text: str, period: int, kind: int, why: Match[str]) -> Stuck:
+    """A reason by the place of its pattern in `_WHY`. Refused where its numbers are none."""
+    if kind == 0:
+        return Stuck(lines.number, text, period, unit=_unescaped(why[1]))
+    first, second = (amount(word) for word in why.groups()[-2:])
+    if first is None or second is None:
+        lines.refuse(f"{shown(text)} has a number that is no amount of power")
+    if first <= second if kind in (1, 2) else first >= second:
+        lines.refuse(f"{shown(text)} compares its numbers the wrong way")
+    if kind == 1:
+        return Stuck(lines.number, text, period, unit=_unescaped(why[1]))
+    if kind in (2, 3):
+        return Stuck(lines.number, text, period, demand=second)
+    return Stuck(lines.number, text, period, need=second)
+
+
+def _unescaped(name: str) -> str:
+    return _ESCAPE.sub(lambda parts: parts[1] or chr(int(parts[2], 16)), name)
