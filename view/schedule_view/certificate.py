@@ -84,8 +84,8 @@ def _numbers(lines: Lines, word: str, count: int) -> List[int]:
     """The numbers of a line that begins with a word; each of at most 18 digits and any sign."""
     line = lines.take()
     words = line.split(" ")
-    numbers = [signed(text) for text in words[1:]]
-    if words[0] != word or len(numbers) != count or None in numbers:
+    numbers = [number for number in map(signed, words[1:]) if number is not None]
+    if words[0] != word or len(words) != count + 1 or len(numbers) != count:
         lines.refuse(f"{shown(line)} where {word} and {count} numbers are due")
     return numbers
 
@@ -133,7 +133,7 @@ def _cell(lines: Lines, word: str) -> Optional[CertificateCell]:
         return None
     parts = _CELL.fullmatch(word)
     category = whole(parts[3]) if parts else None
-    if category is None or category > MOST_CATEGORY:
+    if not parts or category is None or category > MOST_CATEGORY:
         lines.refuse(f"{shown(word)} is no cell")
     return _watts(lines, parts[1]), _watts(lines, parts[2]), category
 
@@ -165,24 +165,25 @@ def _table(lines: Lines, number: int, periods: int, thermal: int) -> Prices:
 def _tree(lines: Lines, periods: int, thermal: int, tables: int) -> Tuple[Leaves, Optional[int], int]:
     """The leaves of the tree, and the table and line of the first leaf with a bound in preorder."""
     most = {"bound": tables, "ray": tables, "empty": thermal}
-    counts: Counter[str] = Counter()
-    first_bound, line, only, due = None, 0, None, 1
+    leaves: List[Tuple[str, int, int]] = []
+    due = 1
     while due:
         text = lines.take()
         word, _, rest = text.partition(" ")
-        numbers = [whole(number) for number in rest.split(" ")]
-        if word == "split" and len(numbers) == 2 and _is_within(numbers[0], thermal) and _is_within(numbers[1], periods):
-            due += 1
-        elif word in most and len(numbers) == 1 and _is_within(numbers[0], most[word]):
+        numbers = [number for number in map(whole, rest.split(" ")) if number is not None]
+        if word in most and _are_within(numbers, [most[word]], rest):
             due -= 1
-            counts[word] += 1
-            only = word, numbers[0]
-            if word == "bound" and first_bound is None:
-                first_bound, line = numbers[0], lines.number
+            leaves.append((word, numbers[0], lines.number))
+        elif word == "split" and _are_within(numbers, [thermal, periods], rest):
+            due += 1
         else:
             lines.refuse(f"{shown(text)} is no node of the tree")
-    return Leaves(dict(counts), only if sum(counts.values()) == 1 else None), first_bound, line
+    counts = Counter(word for word, _, _ in leaves)
+    only = leaves[0][:2] if len(leaves) == 1 else None
+    bound, line = next(((number, line) for word, number, line in leaves if word == "bound"), (None, 0))
+    return Leaves(dict(counts), only), bound, line
 
 
-def _is_within(number: Optional[int], most: int) -> bool:
-    return number is not None and 1 <= number <= most
+def _are_within(numbers: List[int], most: List[int], text: str) -> bool:
+    """Whether a node's words are as many numbers as there are greatest ones, each from 1 to that."""
+    return len(numbers) == len(most) == text.count(" ") + 1 and all(1 <= number <= m for number, m in zip(numbers, most))

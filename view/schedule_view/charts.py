@@ -8,7 +8,7 @@ from .amounts import MILLION, nearest_text, short_text
 from .certificate import Prices
 from .instance import Instance
 from .layers import SINGLE_UNITS, Layer
-from .report import Report
+from .report import Schedule
 from .svg import Frame, element, hour_width, text
 
 OUTPUT_HEIGHT, DEMAND_HEIGHT, RESERVE_HEIGHT, PRICE_HEIGHT = 340, 220, 110, 150
@@ -42,9 +42,10 @@ def legend(stack: List[Layer]) -> str:
     return element("ul", "".join(_legend_entry(layer) for layer in stack), class_="legend")
 
 
-def reserve_chart(instance: Instance, report: Report) -> str:
+def reserve_chart(instance: Instance, schedule: Schedule) -> str:
     """Reserve given as bars, reserve needed as a line."""
-    given = [sum(row.cells[t].reserve for row in report.thermal if row.cells[t]) for t in range(instance.periods)]
+    columns = ([row.cells[t] for row in schedule.thermal] for t in range(instance.periods))
+    given = [sum(cell.reserve for cell in column if cell) for column in columns]
     frame = Frame.around(instance.periods, RESERVE_HEIGHT, given + instance.reserves, MILLION)
     bars = "".join(
         frame.bar(t, 0, size, f"hour {t + 1}: {short_text(size)} MW given, {short_text(need)} MW needed")
@@ -85,9 +86,7 @@ def _hour_titles(instance: Instance) -> List[str]:
 
 
 def _bars(frame: Frame, layer: Layer, bottoms: List[int]) -> str:
-    return "".join(
-        frame.bar(t, bottoms[t], output, layer.titles[t]) for t, output in enumerate(layer.outputs) if output
-    )
+    return "".join(frame.bar(t, bottoms[t], output, layer.titles[t]) for t, output in enumerate(layer.outputs) if output)
 
 
 def _name_inside(frame: Frame, layer: Layer, bottoms: List[int]) -> str:
@@ -138,8 +137,8 @@ def _hatching(look: str, prefix: str, transform: str) -> str:
         return ""
     tile = element("rect", width=6, height=6, class_=_colour(look))
     lines = element("path", d=_HATCHES[_place(look) // COLOURS], class_="hatch")
-    size = {"width": 6, "height": 6, "patternUnits": "userSpaceOnUse"}
-    return element("pattern", tile + lines, id=prefix + look, patternTransform=transform or "scale(1)", **size)
+    place = {"patternUnits": "userSpaceOnUse", "patternTransform": transform or "scale(1)"}
+    return element("pattern", tile + lines, id=prefix + look, width=6, height=6, **place)
 
 
 assert SINGLE_UNITS <= COLOURS * len(_HATCHES)

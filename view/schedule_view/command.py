@@ -51,7 +51,7 @@ def _run(given: argparse.Namespace) -> None:
         check_certificate(instance, report, certificate)
     drawn = page(instance, report, certificate, pathlib.PurePath(given.instance).name)
     table = io.StringIO()
-    write_table(report, table)
+    write_table(report.schedule, table)
     _write(given.page, drawn)
     if given.table is not None:
         _write(given.table, table.getvalue())

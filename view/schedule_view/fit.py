@@ -5,30 +5,22 @@ outputs don't add up to demand. It is no proof that the schedule obeys all rules
 """
 from __future__ import annotations
 
-from typing import NoReturn, Optional
+from typing import NoReturn, Optional, Union
 
 from .amounts import amount_text
 from .certificate import Certificate, CertificateSchedule
 from .instance import Instance, Renewable, Thermal
 from .refusal import Refusal, shown
-from .report import Cell, Outcome, RenewableRow, Report, ThermalRow
+from .report import Cell, Outcome, RenewableRow, Report, Schedule, Stuck, ThermalRow
 
 
 def check_report(instance: Instance, report: Report) -> None:
     """Refused where the report isn't one of this instance, with its line."""
     _check_sizes(instance, report)
     if report.stuck:
-        _check_stuck(instance, report)
-    if not report.has_schedule:
-        return
-    if report.bound > report.cost:
-        _refuse(report, 4, f"the bound is above the cost, {amount_text(report.cost)}")
-    for unit, row in zip(instance.thermal, report.thermal):
-        _check_thermal(report, unit, row)
-    for unit, row in zip(instance.renewable, report.renewable):
-        _check_renewable(report, unit, row)
-    for period in range(instance.periods):
-        _check_hour(instance, report, period)
+        _check_stuck(instance, report, report.stuck)
+    if report.schedule:
+        _check_schedule(instance, report, report.schedule)
 
 
 def check_certificate(instance: Instance, report: Report, certificate: Certificate) -> None:
@@ -37,14 +29,15 @@ def check_certificate(instance: Instance, report: Report, certificate: Certifica
         _refuse(certificate, 2, "the sizes aren't those of the instance")
     if (certificate.bound is None) != (report.outcome is Outcome.INFEASIBLE) or certificate.bound != report.bound:
         _refuse(certificate, 3, "the claim isn't that of the report")
-    schedule = certificate.schedule
-    if (schedule is not None) != report.has_schedule or (schedule and schedule.cost != report.cost):
+    ours, theirs = report.schedule, certificate.schedule
+    if (ours.cost if ours else None) != (theirs.cost if theirs else None):
         _refuse(certificate, 4, "the schedule isn't that of the report")
-    if schedule:
-        _check_rows(instance, report, certificate, schedule)
+    if ours and theirs:
+        _check_thermal_rows(instance, certificate, ours, theirs)
+        _check_renewable_rows(certificate, ours, theirs)
 
 
-def _refuse(source: object, line: Optional[int], what: str) -> NoReturn:
+def _refuse(source: Union[Report, Certificate], line: Optional[int], what: str) -> NoReturn:
     raise Refusal(source.path, f"line {line}" if line else "", what)
 
 
@@ -59,8 +52,7 @@ def _check_sizes(instance: Instance, report: Report) -> None:
             _refuse(report, 1, f"{written} {word}, where the instance has {number}")
 
 
-def _check_stuck(instance: Instance, report: Report) -> None:
-    stuck = report.stuck
+def _check_stuck(instance: Instance, report: Report, stuck: Stuck) -> None:
     if not 1 <= stuck.period <= instance.periods:
         _refuse(report, stuck.line, f"the instance has no period {stuck.period}")
     if stuck.unit is not None and all(unit.name != stuck.unit for unit in instance.thermal):
@@ -68,6 +60,17 @@ def _check_stuck(instance: Instance, report: Report) -> None:
     for word, written, numbers in (("demand", stuck.demand, instance.demand), ("need", stuck.need, instance.reserves)):
         if written is not None and written != numbers[stuck.period - 1]:
             _refuse(report, stuck.line, f"the {word} of the instance is {amount_text(numbers[stuck.period - 1])}")
+
+
+def _check_schedule(instance: Instance, report: Report, schedule: Schedule) -> None:
+    if report.bound is not None and report.bound > schedule.cost:
+        _refuse(report, 4, f"the bound is above the cost, {amount_text(schedule.cost)}")
+    for g, row in enumerate(schedule.thermal):
+        _check_thermal(report, instance.thermal[g], row)
+    for w, other in enumerate(schedule.renewable):
+        _check_renewable(report, instance.renewable[w], other)
+    for period in range(instance.periods):
+        _check_hour(instance, report, schedule, period)
 
 
 def _check_name(report: Report, line: int, written: str, name: str) -> None:
@@ -110,9 +113,9 @@ def _check_renewable(report: Report, unit: Renewable, row: RenewableRow) -> None
             _refuse(report, row.line, f"period {period + 1}: {what}")
 
 
-def _check_hour(instance: Instance, report: Report, period: int) -> None:
-    cells = [row.cells[period] for row in report.thermal]
-    output = sum(cell.output for cell in cells if cell) + sum(row.outputs[period] for row in report.renewable)
+def _check_hour(instance: Instance, report: Report, schedule: Schedule, period: int) -> None:
+    cells = [row.cells[period] for row in schedule.thermal]
+    output = sum(cell.output for cell in cells if cell) + sum(row.outputs[period] for row in schedule.renewable)
     if output != instance.demand[period]:
         what = f"outputs add up to {amount_text(output)}, where demand is {amount_text(instance.demand[period])}"
         _refuse(report, None, f"period {period + 1}: {what}")
@@ -122,16 +125,17 @@ def _check_hour(instance: Instance, report: Report, period: int) -> None:
         _refuse(report, None, f"period {period + 1}: {what}")
 
 
-def _check_rows(instance: Instance, report: Report, certificate: Certificate, schedule: CertificateSchedule) -> None:
-    line = schedule.line
-    for unit, row, cells in zip(instance.thermal, report.thermal, schedule.thermal):
+def _check_thermal_rows(instance: Instance, certificate: Certificate, ours: Schedule, theirs: CertificateSchedule) -> None:
+    for g, (unit, row, cells) in enumerate(zip(instance.thermal, ours.thermal, theirs.thermal)):
         for period, (cell, written) in enumerate(zip(row.cells, cells)):
             wanted = (cell.output - unit.least, cell.reserve, cell.category) if cell else None
             if written != wanted:
-                _refuse(certificate, line, f"the cell of period {period + 1} isn't that of the report")
-        line += 1
-    for row, outputs in zip(report.renewable, schedule.renewable):
+                _refuse(certificate, theirs.line + g, f"the cell of period {period + 1} isn't that of the report")
+
+
+def _check_renewable_rows(certificate: Certificate, ours: Schedule, theirs: CertificateSchedule) -> None:
+    first = theirs.line + len(theirs.thermal)
+    for w, (row, outputs) in enumerate(zip(ours.renewable, theirs.renewable)):
         for period, (output, written) in enumerate(zip(row.outputs, outputs)):
             if output != written:
-                _refuse(certificate, line, f"the output of period {period + 1} isn't that of the report")
-        line += 1
+                _refuse(certificate, first + w, f"the output of period {period + 1} isn't that of the report")

@@ -7,7 +7,7 @@ from typing import List, Optional, Tuple
 from .amounts import short_text
 from .instance import Instance, Renewable, Thermal
 from .layers import merit_order
-from .report import Cell, RenewableRow, Report, ThermalRow
+from .report import Cell, RenewableRow, Schedule, ThermalRow
 from .svg import SIDE_WIDTH, day_lines, described, element, hour_labels, hour_width, text, title
 
 FEW_UNITS = 60
@@ -44,15 +44,15 @@ class Row:
     marks: List[Optional[Mark]]
 
 
-def thermal_grid(instance: Instance, report: Report) -> str:
+def thermal_grid(instance: Instance, schedule: Schedule) -> str:
     """The thermal units, the cheapest on top."""
     order = merit_order(instance)
-    return _grid("Thermal units by hour", [_thermal_row(instance.thermal[g], report.thermal[g]) for g in order])
+    return _grid("Thermal units by hour", [_thermal_row(instance.thermal[g], schedule.thermal[g]) for g in order])
 
 
-def renewable_grid(instance: Instance, report: Report) -> str:
+def renewable_grid(instance: Instance, schedule: Schedule) -> str:
     """The renewable units in the order of the file."""
-    rows = [_renewable_row(unit, row) for unit, row in zip(instance.renewable, report.renewable)]
+    rows = [_renewable_row(unit, row) for unit, row in zip(instance.renewable, schedule.renewable)]
     return _grid("Renewable units by hour", rows)
 
 

@@ -7,7 +7,7 @@ from typing import List
 
 from .amounts import short_text
 from .instance import Instance
-from .report import Report
+from .report import Schedule
 
 SINGLE_UNITS = 20
 # the dearer units are merged into layers of at least as many units, and into at most so many layers
@@ -36,24 +36,24 @@ def cost_text(cost: Fraction) -> str:
     return f"{float(cost):,.2f}"
 
 
-def layers(instance: Instance, report: Report) -> List[Layer]:
+def layers(instance: Instance, schedule: Schedule) -> List[Layer]:
     """The layers from the bottom: units that give something, cheapest first, merged ones, and renewables on top."""
-    used = [g for g in merit_order(instance) if any(cell and cell.output for cell in report.thermal[g].cells)]
-    found = [_unit(instance, report, g, f"c{place}") for place, g in enumerate(used[:SINGLE_UNITS])]
-    found += [_band(instance, report, units, place) for place, units in enumerate(_bands(used[SINGLE_UNITS:]))]
-    if any(output for row in report.renewable for output in row.outputs):
-        found.append(_renewables(report))
+    used = [g for g in merit_order(instance) if any(cell and cell.output for cell in schedule.thermal[g].cells)]
+    found = [_unit(instance, schedule, g, f"c{place}") for place, g in enumerate(used[:SINGLE_UNITS])]
+    found += [_band(instance, schedule, units, place) for place, units in enumerate(_bands(used[SINGLE_UNITS:]))]
+    if any(output for row in schedule.renewable for output in row.outputs):
+        found.append(_renewables(schedule))
     return found
 
 
-def never_on(instance: Instance, report: Report) -> List[str]:
+def never_on(instance: Instance, schedule: Schedule) -> List[str]:
     """The names of the units that give nothing, the cheapest first."""
-    rows = (report.thermal[g] for g in merit_order(instance))
+    rows = (schedule.thermal[g] for g in merit_order(instance))
     return [row.name for row in rows if not any(cell and cell.output for cell in row.cells)]
 
 
-def _unit(instance: Instance, report: Report, g: int, look: str) -> Layer:
-    name, cells, cost = report.thermal[g].name, report.thermal[g].cells, instance.thermal[g].average_cost
+def _unit(instance: Instance, schedule: Schedule, g: int, look: str) -> Layer:
+    name, cells, cost = schedule.thermal[g].name, schedule.thermal[g].cells, instance.thermal[g].average_cost
     titles = [
         f"{name}, hour {t + 1}: {short_text(cell.output)} MW, reserve {short_text(cell.reserve)} MW" if cell else ""
         for t, cell in enumerate(cells)
@@ -69,8 +69,8 @@ def _bands(units: List[int]) -> List[List[int]]:
     return [units[low:high] for low, high in zip(cuts, cuts[1:])]
 
 
-def _band(instance: Instance, report: Report, units: List[int], place: int) -> Layer:
-    columns = list(zip(*(report.thermal[g].cells for g in units)))
+def _band(instance: Instance, schedule: Schedule, units: List[int], place: int) -> Layer:
+    columns = list(zip(*(schedule.thermal[g].cells for g in units)))
     outputs = [sum(cell.output for cell in column if cell) for column in columns]
     reserves = [sum(cell.reserve for cell in column if cell) for column in columns]
     counts = [sum(cell is not None for cell in column) for column in columns]
@@ -90,9 +90,9 @@ def _range_text(instance: Instance, units: List[int]) -> str:
     return f" at {low} $/MWh" if low == high else f" at {low} to {high} $/MWh"
 
 
-def _renewables(report: Report) -> Layer:
-    count = len(report.renewable)
-    outputs = [sum(column) for column in zip(*(row.outputs for row in report.renewable))]
-    name = f"{count} renewable units" if count > 1 else report.renewable[0].name
+def _renewables(schedule: Schedule) -> Layer:
+    count = len(schedule.renewable)
+    outputs = [sum(column) for column in zip(*(row.outputs for row in schedule.renewable))]
+    name, note = (f"{count} renewable units", "") if count > 1 else (schedule.renewable[0].name, "renewable")
     titles = [f"{name}, hour {t + 1}: {short_text(output)} MW" for t, output in enumerate(outputs)]
-    return Layer(name, "renewable", "renewable", outputs, titles)
+    return Layer(name, note, "renewable", outputs, titles)

@@ -6,12 +6,12 @@ from fractions import Fraction
 from typing import List, Optional, Tuple
 
 from .amounts import MILLION, short_text
-from .certificate import Certificate, Leaves
+from .certificate import Certificate, Leaves, Prices
 from .charts import demand_chart, legend, output_chart, price_chart, reserve_chart
 from .grid import renewable_grid, thermal_grid
 from .instance import Instance
 from .layers import layers, never_on
-from .report import Outcome, Report
+from .report import Outcome, Report, Schedule
 from .svg import element, text
 
 STYLE = pathlib.Path(__file__).with_name("style.css")
@@ -30,13 +30,14 @@ OUTCOMES = {
 
 def page(instance: Instance, report: Report, certificate: Optional[Certificate], name: str) -> str:
     """The whole page; the name is the instance's."""
-    parts = [element("h1", text(f"Schedule of {name}" if report.has_schedule else name)), *_outcome(report, certificate)]
+    schedule = report.schedule
+    parts = [element("h1", text(f"Schedule of {name}" if schedule else name)), *_outcome(report, certificate)]
     parts.append(_head(instance, report))
-    parts += _schedule(instance, report) if report.has_schedule else _demand(instance, report)
+    parts += _charts(instance, schedule) if schedule else _demand(instance, report)
     if certificate and certificate.prices:
-        parts += _prices(certificate)
-    if report.has_schedule:
-        parts += _grids(instance, report)
+        parts += _prices(certificate.prices)
+    if schedule:
+        parts += _grids(instance, schedule)
     head = (
         '<meta charset="utf-8"><meta name="viewport" content="width=device-width, initial-scale=1">'
         + element("title", text(name))
@@ -69,12 +70,12 @@ def _reason(leaves: Leaves) -> str:
 
 def _head(instance: Instance, report: Report) -> str:
     facts: List[Tuple[str, str]] = []
-    if report.has_schedule:
-        facts.append(("Cost", _money(report.cost)))
+    if report.schedule:
+        facts.append(("Cost", _money(report.schedule.cost)))
     if report.bound is not None:
         facts.append(("Bound", _money(report.bound)))
-    if report.has_schedule:
-        facts.append(("Gap", _gap(report.cost, report.bound)))
+    if report.schedule and report.bound is not None:
+        facts.append(("Gap", _gap(report.schedule.cost, report.bound)))
     facts += [
         ("Evaluations", f"{report.evaluations:,}"),
         ("Hours", str(instance.periods)),
@@ -100,8 +101,8 @@ def _gap(cost: int, bound: int) -> str:
     return f"{short_text(-(-parts.numerator // parts.denominator) * 100)} %"
 
 
-def _schedule(instance: Instance, report: Report) -> List[str]:
-    stack = layers(instance, report)
+def _charts(instance: Instance, schedule: Schedule) -> List[str]:
+    stack = layers(instance, schedule)
     parts = [
         element("h2", "Output by unit"),
         element(
@@ -111,14 +112,14 @@ def _schedule(instance: Instance, report: Report) -> List[str]:
         output_chart(instance, stack),
         legend(stack),
     ]
-    idle = never_on(instance, report)
+    idle = never_on(instance, schedule)
     if idle:
         more = f" and {len(idle) - NAMES_SHOWN} more" if len(idle) > NAMES_SHOWN else ""
         parts.append(element("p", text("Units without any output: " + ", ".join(idle[:NAMES_SHOWN]) + more + ".")))
     parts += [
         element("h2", "Reserve"),
         element("p", "Bars are the reserve given, the dashed line is the reserve needed."),
-        reserve_chart(instance, report),
+        reserve_chart(instance, schedule),
     ]
     return parts
 
@@ -133,40 +134,43 @@ def _demand(instance: Instance, report: Report) -> List[str]:
     ]
 
 
-def _prices(certificate: Certificate) -> List[str]:
-    table = certificate.prices.table
+def _prices(prices: Prices) -> List[str]:
     return [
         element("h2", "Prices"),
         element(
             "p",
-            f"The prices of table {table} of the certificate, that of its first leaf with a bound: "
+            f"The prices of table {prices.table} of the certificate, that of its first leaf with a bound: "
             "of demand, pi (the line), and of reserve, mu (dashed).",
         ),
-        price_chart(certificate.prices),
+        price_chart(prices),
     ]
 
 
-def _grids(instance: Instance, report: Report) -> List[str]:
+def _grids(instance: Instance, schedule: Schedule) -> List[str]:
     keys = [("least", "at least output"), ("between", "between"), ("greatest", "at greatest output")]
     parts: List[str] = []
     if instance.thermal:
         parts += [
             element("h2", "Thermal units by hour"),
-            element("p", "The cheapest unit is on top. An hour in which a unit starts is marked and has the category of the start."),
+            element(
+                "p", "The cheapest unit is on top. An hour in which a unit starts is marked and has the category of the start."
+            ),
             _keys(keys + [("start", "start")]),
-            thermal_grid(instance, report),
+            thermal_grid(instance, schedule),
         ]
     if instance.renewable:
         parts += [
             element("h2", "Renewable units by hour"),
             element("p", "In the order of the file. An hour in which a unit can't give anything is left out."),
             _keys(keys),
-            renewable_grid(instance, report),
+            renewable_grid(instance, schedule),
         ]
     return parts
 
 
 def _keys(keys: List[Tuple[str, str]]) -> str:
     """A legend of classes and words."""
-    entries = (element("svg", element("rect", width=14, height=14, class_=look), width=14, height=14) + words for look, words in keys)
+    entries = (
+        element("svg", element("rect", width=14, height=14, class_=look), width=14, height=14) + words for look, words in keys
+    )
     return element("ul", "".join(element("li", entry) for entry in entries), class_="legend")

@@ -3,7 +3,7 @@ from __future__ import annotations
 
 import enum
 import re
-from dataclasses import dataclass, field
+from dataclasses import dataclass
 from typing import List, Match, Optional, Tuple
 
 from .amounts import amount, whole
@@ -74,8 +74,17 @@ class Stuck:
 
 
 @dataclass(frozen=True)
+class Schedule:
+    """A schedule with its cost in micro-dollars; a row for each unit in the order of the lines."""
+
+    cost: int
+    thermal: List[ThermalRow]
+    renewable: List[RenewableRow]
+
+
+@dataclass(frozen=True)
 class Report:
-    """A report; money in micro-dollars. Only what its outcome has is there."""
+    """A report; the bound in micro-dollars. Only what its outcome has is there."""
 
     path: str
     periods: int
@@ -84,16 +93,9 @@ class Report:
     rounded: int
     outcome: Outcome
     evaluations: int
-    cost: Optional[int] = None
     bound: Optional[int] = None
+    schedule: Optional[Schedule] = None
     stuck: Optional[Stuck] = None
-    thermal: List[ThermalRow] = field(default_factory=list)
-    renewable: List[RenewableRow] = field(default_factory=list)
-
-    @property
-    def has_schedule(self) -> bool:
-        """Whether there is a schedule to draw."""
-        return self.cost is not None
 
 
 def read_report(path: str, data: bytes) -> Report:
@@ -106,27 +108,23 @@ def read_report(path: str, data: bytes) -> Report:
         report = Report(*head, _evaluations(lines))
     elif outcome is Outcome.NO_SCHEDULE:
         bound, evaluations = _money(lines, "bound"), _evaluations(lines)
-        report = Report(*head, evaluations, bound=bound, stuck=None if lines.is_done() else _stuck(lines))
+        report = Report(*head, evaluations, bound, stuck=None if lines.is_done() else _stuck(lines))
     else:
         cost, bound, evaluations = _money(lines, "cost"), _money(lines, "bound"), _evaluations(lines)
-        report = Report(
-            *head,
-            evaluations,
-            cost,
-            bound,
-            thermal=[_thermal_row(lines, periods) for _ in range(thermal)],
-            renewable=[_renewable_row(lines, periods) for _ in range(renewable)],
-        )
+        thermal_rows = [_thermal_row(lines, periods) for _ in range(thermal)]
+        renewable_rows = [_renewable_row(lines, periods) for _ in range(renewable)]
+        report = Report(*head, evaluations, bound, Schedule(cost, thermal_rows, renewable_rows))
     lines.finish()
     return report
 
 
 def _sizes(lines: Lines) -> Tuple[int, int, int, int]:
     words = lines.take().split(" ")
-    numbers = [whole(word) for word in words[1::2]]
-    if words[::2] != ["periods", "thermal", "renewable", "rounded"] or len(numbers) != 4 or None in numbers:
+    numbers = [number for number in map(whole, words[1::2]) if number is not None]
+    if words[::2] != ["periods", "thermal", "renewable", "rounded"] or len(numbers) != 4:
         lines.refuse("not the line of sizes that a report begins with")
-    return tuple(numbers)
+    periods, thermal, renewable, rounded = numbers
+    return periods, thermal, renewable, rounded
 
 
 def _outcome(lines: Lines) -> Outcome:
@@ -182,10 +180,11 @@ def _cell(lines: Lines, period: int, word: str) -> Optional[Cell]:
     if word == "-":
         return None
     parts = _CELL.fullmatch(word)
-    output, reserve = (amount(parts[1]), amount(parts[2])) if parts else (None, None)
-    if output is None or reserve is None:
-        lines.refuse(f"period {period}: {shown(word)} is no cell")
-    return Cell(output, reserve, int(parts[3] or 0))
+    if parts:
+        output, reserve = amount(parts[1]), amount(parts[2])
+        if output is not None and reserve is not None:
+            return Cell(output, reserve, int(parts[3] or 0))
+    lines.refuse(f"period {period}: {shown(word)} is no cell")
 
 
 def _renewable_row(lines: Lines, periods: int) -> RenewableRow:
@@ -204,7 +203,7 @@ def _stuck(lines: Lines) -> Stuck:
     text = lines.take()
     parts = _STUCK.fullmatch(text)
     period = whole(parts[1]) if parts else None
-    if period is None:
+    if not parts or period is None:
         lines.refuse(f"{shown(text)} where the stuck commitment or the end is due")
     for kind, pattern in enumerate(_WHY):
         why = pattern.fullmatch(parts[2])

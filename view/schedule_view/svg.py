@@ -157,7 +157,9 @@ class Frame:
         bottom = TOP + self.height
         plot = grid + day_lines(self.periods, bottom) + plot + hour_labels(self.periods, bottom + 15, titles)
         numbers = "".join(element("text", words, x=SIDE_WIDTH - 8, y=y + 4, class_="tick") for y, words in ticks)
-        numbers += element("text", text(axis), x=AXIS_X, y=bottom / 2, class_="axis", transform=f"rotate(-90 {AXIS_X} {bottom / 2:g})")
+        numbers += element(
+            "text", text(axis), x=AXIS_X, y=bottom / 2, class_="axis", transform=f"rotate(-90 {AXIS_X} {bottom / 2:g})"
+        )
         size = {"height": bottom + HOURS_HEIGHT}
         return element(
             "div",

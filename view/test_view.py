@@ -1,0 +1,376 @@
+#!/usr/bin/env python3
+"""Tests `uc-view` on stored reports: what is drawn adds up, and what doesn't fit is refused with a line that says where.
+
+    python3 view/test_view.py            # at the top of the repository
+"""
+from __future__ import annotations
+
+import contextlib
+import html.parser
+import io
+import json
+import pathlib
+import re
+import sys
+import tempfile
+import unittest
+from decimal import Decimal
+from fractions import Fraction
+from typing import Dict, List, Optional, Tuple
+
+sys.dont_write_bytecode = True
+HERE = pathlib.Path(__file__).resolve().parent
+TOP, STORED = HERE.parent, HERE / "tests"
+sys.path.insert(0, str(HERE))
+
+from schedule_view import amounts, command, fit, instance, page, report  # noqa: E402
+from schedule_view.refusal import Refusal  # noqa: E402
+
+ROW1 = TOP / "crates/uc/data/row1.json"
+KAZARLIS = TOP / "examples/kazarlis10.json"
+MUST_RUN = TOP / "examples/kazarlis10_must_run.json"
+COAST = STORED / "coast.json"
+
+ROW1_REPORT = """periods 1 thermal 1 renewable 0 rounded 0
+closed
+cost 300.000000
+bound 300.000000
+evaluations 0
+thermal "g1" 30.000000+5.000000
+"""
+ROW1_CERTIFICATE = """uc-certificate 1
+size 1 1 0 1
+claim bound 300.000000
+schedule 300.000000
+t 20000000:5000000:0
+table 1000000
+pi 10000000
+mu 0
+ramps 0
+bound 1
+end
+"""
+MUST_RUN_REPORT = """periods 24 thermal 10 renewable 0 rounded 0
+budget spent, no schedule found
+bound 168126.600000
+evaluations 1
+"""
+# row1 with a demand of 5 and no reserve, and with a demand of 60
+STUCK = "most-on commitment stuck in period 1: least output 10.000000 above demand 5.000000"
+STUCK_REPORT = f"""periods 1 thermal 1 renewable 0 rounded 0
+budget spent, no schedule found
+bound 0.000000
+evaluations 1
+{STUCK}
+"""
+INFEASIBLE_REPORT = """periods 1 thermal 1 renewable 0 rounded 0
+infeasible
+evaluations 0
+"""
+INFEASIBLE_CERTIFICATE = """uc-certificate 1
+size 1 1 0 1
+claim infeasible
+schedule none
+table 0
+pi 1
+mu 0
+ramps 0
+ray 1
+end
+"""
+
+# an edit of coast.report, and what the refusal says after the file's name
+BROKEN_REPORTS = (
+    ("thermal 2", "thermal 3", 'line 8: "renewable "wind'),
+    ("thermal 2 renewable 1", "thermal 1 renewable 2", 'line 7: "thermal "peak'),
+    ("rounded 1", "rounded 0", "line 1: 0 rounded numbers, where the instance has 1"),
+    ("periods 4", "periods 04", "line 1: not the line of sizes that a report begins with"),
+    ("budget spent", "budget  spent", 'line 2: "budget  spent" is no outcome'),
+    ("cost 5046.666668", "cost 5046.66666", 'line 3: "5046.66666" is no amount of money'),
+    ("cost 5046.666668", "cost 4046.666668", "line 4: the bound is above the cost, 4046.666668"),
+    ("evaluations 1", "evaluations +1", 'line 5: "+1" is no number of evaluations'),
+    ('"base \\"1\\""', '"base 1"', 'line 6: unit "base 1", where the instance has "base "1""'),
+    (" 40.000000+5.000000\n", "\n", "line 6: 3 cells for 4 periods"),
+    ("70.000000+5.000000", "70.00000+5.000000", 'line 6: period 2: "70.00000+5.000000" is no cell'),
+    ("70.000000+5.000000", "70.000000", 'line 6: period 2: "70.000000" is no cell'),
+    ("70.000000+5.000000", "15.000000+5.000000", "line 6: period 2: output 15.000000 below the unit's minimum, 20.000000"),
+    ("80.000000+0.000000", "81.000000+0.000000", "line 6: period 3: output 81.000000 above the unit's greatest, 80.000000"),
+    ("80.000000+0.000000", "80.000000+0.000001", "line 6: period 3: output and reserve above the unit's maximum, 80.000000"),
+    ("70.000000+5.000000", "70.000000+5.000000*1", "line 6: period 2: a start of a unit that is on the hour before"),
+    ("+0.000000*2", "+0.000000", "line 7: period 2: a start without a category"),
+    ("+0.000000*2", "+0.000000*3", "line 7: period 2: start category 3 of a unit that has 2"),
+    ('thermal "peak', 'renewable "peak', 'line 7: "renewable "peak <2>" - 10.'),
+    (" 10.500000 ", " 10.500001 ", "line 8: period 2: output 10.500001 not from 0.000000 to 10.500000"),
+    (" 30.000000 0.000000", " 30.000000  0.000000", 'line 8: "renewable "wind'),
+    ("30.000000 0", "29.000000 0", "period 3: outputs add up to 119.000000, where demand is 120.000000"),
+    ("10.000000+10.000000", "10.000000+9.999999", "period 3: reserves add up to 9.999999, where 10.000000 is needed"),
+    ("30.000000 0.000000\n", "30.000000 0.000000\n\n", "line 9: bytes after the end"),
+)
+# an edit of coast.cert, likewise
+BROKEN_CERTIFICATES = (
+    ("uc-certificate 1", "uc-certificate 2", 'line 1: "uc-certificate 2" where "uc-certificate 1" is due'),
+    ("size 4 2 1 1", "size 4 3 1 1", 'line 7: "w 20000000 10500000 30000000 0" where t and 4 cells are due'),
+    ("bound 4793.333330", "bound 4793.333331", "line 3: the claim isn't that of the report"),
+    ("schedule 5046.666668", "schedule 5046.666669", "line 4: the schedule isn't that of the report"),
+    ("50000000:5000000:0", "50000000:5000000:1", "line 5: the cell of period 2 isn't that of the report"),
+    ("50000000:5000000:0", "50000000:5000000", 'line 5: "50000000:5000000" is no cell'),
+    ("30000000 0\n", "30000000 1\n", "line 7: the output of period 4 isn't that of the report"),
+    ("table 1000000", "table 0", "line 12: a bound at a table of scale 0"),
+    ("mu 0 0 3000000 0", "mu 0 0 3000000", 'line 10: "mu 0 0 3000000" where mu and 4 numbers are due'),
+    ("ramps 0", "ramps 1\nramp 1 1 0 0", "line 12: a ramp row that may not stand here"),
+    ("bound 1\n", "bound 2\n", 'line 12: "bound 2" is no node of the tree'),
+    ("bound 1\n", "split 1 1\nbound 1\n", 'line 14: "end" is no node of the tree'),
+    ("end\n", "end", "line 13: cut short"),
+    ("end\n", "end\n.", "line 14: bytes after the end"),
+)
+# an edit of coast.json, likewise
+BROKEN_INSTANCES = (
+    ('"time_periods": 4', '"time_periods": 169', "time_periods: not from 1 to 168"),
+    ("[60, 90.5, 120, 40]", "[60, 90.5, 120]", "demand: 3 entries for 4 periods"),
+    ("[60, 90.5, 120, 40]", '[60, 90.5, "120", 40]', "demand 3: no number"),
+    ("[60, 90.5, 120, 40]", "[60, 90.5, 1e9999999999999, 40]", "demand 3: past the limit"),
+    ('"power_output_minimum": 20', '"power_output_minimum": 90', 'thermal "base "1"" power_output_maximum: below the minimum'),
+    ('"unit_on_t0": 0', '"unit_on_t0": 0.5', 'thermal "peak <2>" unit_on_t0: not whole'),
+    ('"mw": 50, "cost": 900', '"mw": 10, "cost": 900', 'thermal "base "1"" piecewise_production 2 mw: below the row before'),
+    ("[20, 10.5000001, 30, 0]", "[20, 10.5000001, 30, -1]", 'renewable "wind\\3" power_output_maximum 4: below the minimum or 0'),
+    ('"reserves"', '"demand"', 'key twice in an object: "demand"'),
+    ('"demand": [60', '"demand": [NaN', "no JSON: NaN"),
+    ("  }\n}\n", "  }\n", "line 47 column 1: no JSON"),
+)
+
+Bar = Tuple[int, Decimal, Decimal]
+
+
+class Drawn(html.parser.HTMLParser):
+    """A page as it was read again: the bars of each named group, its texts, and whether its tags are balanced."""
+
+    def __init__(self, text: str) -> None:
+        super().__init__()
+        self.bars: Dict[str, List[Bar]] = {}
+        self.text, self._open, self._group, self._grain = "", [], [], 1
+        self.feed(text)
+        assert not self._open, self._open
+
+    def handle_starttag(self, tag: str, attributes: List[Tuple[str, Optional[str]]]) -> None:
+        if tag == "meta":
+            return
+        found = dict(attributes)
+        self._open.append((tag, found.get("id") if tag == "g" else None))
+        if "data-grain" in found:
+            self._grain = int(found["data-grain"])
+        name = next((name for _, name in reversed(self._open) if name), None)
+        bar = re.fullmatch(r"M(\d+) ([0-9.-]+)v([0-9.]+)h1v-([0-9.]+)z", found.get("d", ""))
+        if name and bar:
+            assert bar[3] == bar[4]
+            low, size = (Decimal(number) * self._grain for number in (bar[2], bar[3]))
+            self.bars.setdefault(name, []).append((int(bar[1]), low, size))
+
+    def handle_endtag(self, tag: str) -> None:
+        assert self._open.pop()[0] == tag, tag
+
+    def handle_data(self, data: str) -> None:
+        self.text += data
+
+    def heights(self, name: str, periods: int) -> List[Decimal]:
+        """The sum of the bars over each hour, in watts; bars stand on each other without gaps, from nought."""
+        tops = [Decimal(0)] * periods
+        for period, low, size in self.bars.get(name, []):
+            assert low == tops[period], (name, period, low)
+            tops[period] += size
+        return tops
+
+
+class ViewTest(unittest.TestCase):
+    """Runs the command in a folder of its own."""
+
+    def setUp(self) -> None:
+        folder = tempfile.TemporaryDirectory()
+        self.addCleanup(folder.cleanup)
+        self.folder = pathlib.Path(folder.name)
+        self.out = self.folder / "out.html"
+
+    def put(self, name: str, text: str) -> pathlib.Path:
+        """A file of the folder."""
+        path = self.folder / name
+        path.write_bytes(text.encode("utf-8"))
+        return path
+
+    def run_view(self, *files: pathlib.Path, words: Tuple[str, ...] = ()) -> Tuple[int, str]:
+        """The status and what the error output says."""
+        err = io.StringIO()
+        with contextlib.redirect_stderr(err):
+            status = command.main([*map(str, files), "-o", str(self.out), *words])
+        return status, err.getvalue()
+
+    def drawn(self, *files: pathlib.Path) -> Drawn:
+        """The page of files that are taken."""
+        self.assertEqual(self.run_view(*files), (0, ""))
+        return Drawn(self.out.read_text(encoding="utf-8"))
+
+    def refused(self, place: str, *files: pathlib.Path) -> None:
+        """The files are refused with one line that begins so, and nothing is written."""
+        status, said = self.run_view(*files)
+        self.assertEqual((status, said[: len(place) + 9]), (1, f"uc-view: {place}"))
+        self.assertEqual(said.count("\n"), 1)
+        self.assertTrue(said.endswith("\n"))
+        self.assertFalse(self.out.exists())
+
+    def row1(self, demand: int, reserve: int) -> pathlib.Path:
+        """The smallest instance with another demand and reserve."""
+        value = json.loads(ROW1.read_text())
+        value.update(demand=[demand], reserves=[reserve])
+        return self.put("row.json", json.dumps(value))
+
+
+class Pictures(ViewTest):
+    def test_heights_add_up_to_demand(self) -> None:
+        for path, stored in ((COAST, "coast"), (KAZARLIS, "kazarlis10")):
+            wanted = json.loads(path.read_text(), parse_float=Decimal)
+            drawn = self.drawn(path, STORED / f"{stored}.report", STORED / f"{stored}.cert")
+            periods = wanted["time_periods"]
+            self.assertEqual(drawn.heights("outputs", periods), [power * 10**6 for power in wanted["demand"]])
+            self.assertEqual(drawn.heights("reserves", periods), [power * 10**6 for power in wanted["reserves"]])
+
+    def test_head_says_what_the_report_says(self) -> None:
+        text = self.drawn(COAST, STORED / "coast.report").text
+        for words in ("$5,046.666668", "$4,793.333330", "5.0199 %", "Budget spent: a schedule was found", 'base "1"', "peak <2>"):
+            self.assertIn(words, text)
+        self.assertIn("Closed", self.drawn(ROW1, self.put("r", ROW1_REPORT), self.put("c", ROW1_CERTIFICATE)).text)
+
+    def test_pages_stand_alone(self) -> None:
+        self.drawn(COAST, STORED / "coast.report", STORED / "coast.cert")
+        written = self.out.read_text(encoding="utf-8")
+        for words in ("http", "src=", "href", "<script", "@import", "@font-face"):
+            self.assertNotIn(words, written)
+        self.assertEqual(set(re.findall(r"url\((.)", written)) - {"#"}, set())
+
+    def test_prices_are_drawn(self) -> None:
+        self.assertNotIn("Prices", self.drawn(COAST, STORED / "coast.report").text)
+        text = self.drawn(COAST, STORED / "coast.report", STORED / "coast.cert").text
+        self.assertIn("hour 1: demand 16.666667 $/MWh, reserve 0 $/MWh", text)
+        self.assertIn("hour 3: demand 31 $/MWh, reserve 3 $/MWh", text)
+
+    def test_reports_without_a_schedule(self) -> None:
+        stuck = self.drawn(self.row1(5, 0), self.put("stuck", STUCK_REPORT)).text
+        self.assertIn("no schedule found", stuck)
+        self.assertIn(STUCK, stuck)
+        self.assertIn("no schedule found", self.drawn(MUST_RUN, self.put("most", MUST_RUN_REPORT)).text)
+        files = self.row1(60, 5), self.put("none", INFEASIBLE_REPORT), self.put("none.cert", INFEASIBLE_CERTIFICATE)
+        infeasible = self.drawn(*files).text
+        self.assertIn("Infeasible: no schedule exists", infeasible)
+        self.assertIn("ray 1", infeasible)
+
+    def test_dearest_units_are_merged(self) -> None:
+        units, periods = 61, 168
+        value = json.loads(ROW1.read_text())
+        value.update(time_periods=periods, demand=[units * 30] * periods, reserves=[-1] * periods)
+        g1 = value["thermal_generators"]["g1"]
+        dearer = lambda k: dict(g1, piecewise_production=[{"mw": 10, "cost": 100}, {"mw": 50, "cost": 500 + k}])  # noqa: E731
+        value["thermal_generators"] = {f"g{k + 1}": dearer(k) for k in range(units)}
+        lines = ROW1_REPORT.replace("periods 1 thermal 1", f"periods {periods} thermal {units}").splitlines()[:5]
+        lines += [f'thermal "g{k + 1}"' + " 30.000000+0.000000" * periods for k in range(units)]
+        drawn = self.drawn(self.put("many.json", json.dumps(value)), self.put("many", "\n".join(lines) + "\n"))
+        self.assertEqual(drawn.heights("outputs", periods), [units * 30 * 10**6] * periods)
+        self.assertEqual(len(drawn.bars["outputs"]), (20 + 3) * periods)
+        self.assertIn("13 dearer units at 10.40 to 10.64 $/MWh", drawn.text)
+
+    def test_table(self) -> None:
+        table = self.folder / "out.csv"
+        files = COAST, STORED / "coast.report"
+        self.assertEqual(self.run_view(*files, words=("--csv", str(table))), (0, ""))
+        lines = table.read_text(encoding="utf-8").split("\n")
+        self.assertEqual(lines[0], "unit,hour,on,output,reserve,category")
+        self.assertEqual(lines[2], '"base ""1""",2,1,70.000000,5.000000,0')
+        self.assertEqual(lines[5:7], ["peak <2>,1,0,0.000000,0.000000,0", "peak <2>,2,1,10.000000,0.000000,2"])
+        self.assertEqual(lines[10:], ["wind\\3,2,,10.500000,,", "wind\\3,3,,30.000000,,", "wind\\3,4,,0.000000,,", ""])
+
+
+class Refusals(ViewTest):
+    def edited(self, path: pathlib.Path, old: str, new: str) -> pathlib.Path:
+        """A copy of a file in which a text that stands there once or more is another one at its first place."""
+        text = path.read_text(encoding="utf-8")
+        self.assertIn(old, text)
+        return self.put(path.name, text.replace(old, new, 1))
+
+    def test_broken_reports(self) -> None:
+        for old, new, place in BROKEN_REPORTS:
+            with self.subTest(place):
+                broken = self.edited(STORED / "coast.report", old, new)
+                self.refused(f"{broken}: {place}", COAST, broken)
+
+    def test_broken_certificates(self) -> None:
+        for old, new, place in BROKEN_CERTIFICATES:
+            with self.subTest(place):
+                broken = self.edited(STORED / "coast.cert", old, new)
+                self.refused(f"{broken}: {place}", COAST, STORED / "coast.report", broken)
+
+    def test_broken_instances(self) -> None:
+        for old, new, place in BROKEN_INSTANCES:
+            with self.subTest(place):
+                broken = self.edited(COAST, old, new)
+                self.refused(f"{broken}: {place}", broken, STORED / "coast.report")
+
+    def test_files_of_other_instances(self) -> None:
+        self.refused(f"{STORED}/coast.report: line 1: 4 periods, where", KAZARLIS, STORED / "coast.report")
+        files = KAZARLIS, STORED / "kazarlis10.report", STORED / "coast.cert"
+        self.refused(f"{STORED}/coast.cert: line 2: the sizes", *files)
+        stuck = self.put("stuck", STUCK_REPORT)
+        self.refused(f"{stuck}: line 5: the demand of the instance is 6.000000", self.row1(6, 0), stuck)
+
+    def test_every_front_is_refused(self) -> None:
+        whole = (STORED / "coast.report").read_bytes()
+        for size in range(len(whole)):
+            with self.assertRaisesRegex(Refusal, f"^r: line {whole[:size].count(10) + 1}: cut short$"):
+                report.read_report("r", whole[:size])
+
+    def test_any_changed_byte_is_drawn_or_refused(self) -> None:
+        coast = instance.read_instance("i", COAST.read_bytes())
+        whole = (STORED / "coast.report").read_bytes()
+        for place in range(len(whole)):
+            for byte in b'\n 9-."\\\xff':
+                with contextlib.suppress(Refusal):
+                    changed = report.read_report("r", whole[:place] + bytes([byte]) + whole[place + 1 :])
+                    fit.check_report(coast, changed)
+                    page.page(coast, changed, None, "i")
+
+    def test_files_that_are_not_there(self) -> None:
+        self.refused(f"{self.folder}/no: can't be read: ", self.folder / "no", STORED / "coast.report")
+        self.out = self.folder / "no" / "out.html"
+        self.refused(f"{self.out}: can't be written: ", COAST, STORED / "coast.report")
+
+
+class Amounts(unittest.TestCase):
+    def test_numbers_are_scaled_to_the_nearest(self) -> None:
+        for text, millionths, rounded in (
+            ("0.0000005", 1, True),
+            ("-0.0000005", -1, True),
+            ("1e-7", 0, True),
+            ("1E2", 100_000_000, False),
+            ("-0.0", 0, False),
+            ("1.0000000", 1_000_000, False),
+            ("1.9999999", 2_000_000, True),
+            ("0e99999999999", 0, False),
+            ("3e-99999999999", 0, True),
+        ):
+            self.assertEqual(amounts.scaled(text), (millionths, rounded), text)
+
+    def test_amounts_have_one_spelling(self) -> None:
+        self.assertEqual(amounts.amount("-12.000001"), -12_000_001)
+        for text in ("", "1", "01.000000", "-0.000000", "+1.000000", "1.0000000", "1.00000", "١.000000", "1" * 33 + ".000000"):
+            self.assertIsNone(amounts.amount(text), text)
+
+    def test_fractions_are_shown_rounded(self) -> None:
+        self.assertEqual(amounts.nearest_text(Fraction(-2, 3)), "-0.666667")
+        self.assertEqual(amounts.nearest_text(Fraction(12_345)), "12,345")
+
+
+def main() -> int:
+    """Runs all tests; 0 where they hold."""
+    result = unittest.main(exit=False, argv=[sys.argv[0]], verbosity=0).result
+    failed = len({test.id() for test, _ in result.failures + result.errors})
+    print(f"view: {failed} of {result.testsRun} tests failed" if failed else f"view: all {result.testsRun} tests hold")
+    return 1 if failed else 0
+
+
+if __name__ == "__main__":
+    sys.exit(main())
