@@ -102,9 +102,19 @@ BROKEN_REPORTS = (
     ('thermal "peak', 'renewable "peak', 'line 7: "renewable "peak <2>" - 10.'),
     (" 10.500000 ", " 10.500001 ", "line 8: period 2: output 10.500001 not from 0.000000 to 10.500000"),
     (" 30.000000 0.000000", " 30.000000  0.000000", 'line 8: "renewable "wind'),
+    (" 30.000000 0.000000", " 30.000000 0.000000 0.000000", "line 8: 5 cells for 4 periods"),
     ("30.000000 0", "29.000000 0", "period 3: outputs add up to 119.000000, where demand is 120.000000"),
     ("10.000000+10.000000", "10.000000+9.999999", "period 3: reserves add up to 9.999999, where 10.000000 is needed"),
     ("30.000000 0.000000\n", "30.000000 0.000000\n\n", "line 9: bytes after the end"),
+)
+# an edit of the line on the stuck commitment, likewise
+BROKEN_REASONS = (
+    ("period 1", "period 2", "line 5: the instance has no period 2"),
+    ("above", "below", 'line 5: "least output 10.000000 below demand 5.000000" is no reason'),
+    ("10.000000", "4.000000", "line 5: "),
+    ("demand 5", "demand 6", "line 5: the demand of the instance is 5.000000"),
+    ("least output 10.000000 above demand 5.000000", 'thermal "g2" breaks M7', 'line 5: the instance has no thermal unit "g2"'),
+    ("least output 10.000000 above demand 5.000000", "reserve -5.000000 below need 1.000000", "line 5: the need of the instance"),
 )
 # an edit of coast.cert, likewise
 BROKEN_CERTIFICATES = (
@@ -118,6 +128,7 @@ BROKEN_CERTIFICATES = (
     ("table 1000000", "table 0", "line 12: a bound at a table of scale 0"),
     ("mu 0 0 3000000 0", "mu 0 0 3000000", 'line 10: "mu 0 0 3000000" where mu and 4 numbers are due'),
     ("ramps 0", "ramps 1\nramp 1 1 0 0", "line 12: a ramp row that may not stand here"),
+    ("ramps 0", "ramps 2\nramp 1 2 1 0\nramp 1 2 1 0", "line 13: a ramp row that may not stand here"),
     ("bound 1\n", "bound 2\n", 'line 12: "bound 2" is no node of the tree'),
     ("bound 1\n", "split 1 1\nbound 1\n", 'line 14: "end" is no node of the tree'),
     ("end\n", "end", "line 13: cut short"),
@@ -136,6 +147,7 @@ BROKEN_INSTANCES = (
     ('"reserves"', '"demand"', 'key twice in an object: "demand"'),
     ('"demand": [60', '"demand": [NaN', "no JSON: NaN"),
     ("  }\n}\n", "  }\n", "line 47 column 1: no JSON"),
+    ("[60, 90.5, 120, 40]", "[" * 100_000, "nested too deep"),
 )
 
 Bar = Tuple[int, Decimal, Decimal]
@@ -260,6 +272,32 @@ class Pictures(ViewTest):
         self.assertIn("Infeasible: no schedule exists", infeasible)
         self.assertIn("ray 1", infeasible)
 
+    def test_systems_of_one_kind(self) -> None:
+        value = json.loads(ROW1.read_text())
+        wind = {"w1": {"power_output_minimum": [0], "power_output_maximum": [5]}}
+        value.update(demand=[5], reserves=[0], thermal_generators={}, renewable_generators=wind)
+        head = "periods 1 thermal 0 renewable 1 rounded 0\nclosed\ncost 0.000000\nbound 0.000000\nevaluations 0\n"
+        files = self.put("wind.json", json.dumps(value)), self.put("wind", head + 'renewable "w1" 5.000000\n')
+        drawn = self.drawn(*files)
+        self.assertEqual(drawn.heights("outputs", 1), [5 * 10**6])
+        self.assertIn("Renewable units by hour", drawn.text)
+
+    def test_prices_of_nought(self) -> None:
+        noughts = " 0" * 24
+        head = "uc-certificate 1\nsize 24 10 0 1\nclaim bound 168126.600000\nschedule none\ntable 1000000\n"
+        tail = f"pi{noughts}\nmu{noughts}\nramps 0\nbound 1\nend\n"
+        text = self.drawn(MUST_RUN, self.put("most", MUST_RUN_REPORT), self.put("most.cert", head + tail)).text
+        self.assertIn("hour 24: demand 0 $/MWh, reserve 0 $/MWh", text)
+
+    def test_names_are_no_markup(self) -> None:
+        name, value = '</title><script>"\u0001\u202e&amp;', json.loads(ROW1.read_text())
+        value["thermal_generators"] = {name: value["thermal_generators"]["g1"]}
+        written = name.replace('"', '\\"').replace("\u0001", "\\u0001")
+        named = self.put("r", ROW1_REPORT.replace("g1", written))
+        text = self.drawn(self.put("named.json", json.dumps(value)), named).text
+        self.assertIn('</title><script>"\\u0001\\u202e&amp;, hour 1: 30 MW', text)
+        self.assertNotIn("<script", self.out.read_text(encoding="utf-8"))
+
     def test_dearest_units_are_merged(self) -> None:
         units, periods = 61, 168
         value = json.loads(ROW1.read_text())
@@ -297,6 +335,13 @@ class Refusals(ViewTest):
             with self.subTest(place):
                 broken = self.edited(STORED / "coast.report", old, new)
                 self.refused(f"{broken}: {place}", COAST, broken)
+
+    def test_broken_reasons(self) -> None:
+        for old, new, place in BROKEN_REASONS:
+            with self.subTest(place):
+                self.assertIn(old, STUCK)
+                broken = self.put("stuck", STUCK_REPORT.replace(STUCK, STUCK.replace(old, new, 1)))
+                self.refused(f"{broken}: {place}", self.row1(5, 0), broken)
 
     def test_broken_certificates(self) -> None:
         for old, new, place in BROKEN_CERTIFICATES:

@@ -86,10 +86,11 @@ class Frame:
 
     @staticmethod
     def around(periods: int, height: int, values: Iterable[int], unit: int) -> Frame:
-        """A plane that holds nought and all values, with some room above."""
+        """A plane that holds nought and all values with some room around them, and where all are nought one unit of the axis."""
         numbers = [0, *values]
         low, high = min(numbers), max(numbers)
-        return Frame(periods, height, low - (high - low) // 25 if low else 0, high + max(1, (high - low) // 25), unit)
+        room = (high - low) // 25 + 1 if low < high else unit
+        return Frame(periods, height, low - room if low else 0, high + room, unit)
 
     @property
     def width(self) -> int:
