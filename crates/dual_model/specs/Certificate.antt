@@ -1,9 +1,9 @@
 -- When a certificate holds: its size is the instance's, its tables are lawful, its schedule obeys and costs
 -- what is written, and its tree carries its claim. This project's own format.
-use Rattle.std.specs.Prelude.{◌≡◌, ℕ, List, ℤ, Option, Some, None, IsTrue, length, All}
+use Rattle.std.specs.Prelude.{◌≡◌, ℕ, List, ℤ, Option, Some, None, IsTrue, All}
 use Rattle.uc_model.specs.Schedule.{thermal_count, renewable_count}
 use Rattle.uc_model.specs.Rules.{Obeys}
-use Rattle.uc_model.specs.PrintedSchedule.{printed_schedule, printed_denominator, printed_cost}
+use Rattle.uc_model.specs.PrintedSchedule.{HasShapeOf, printed_schedule, printed_denominator, printed_cost}
 use Rattle.uc_model.specs.declared.instance.Instance.{Instance}
 use Rattle.uc_model.specs.declared.schedule.Printed.{Printed}
 use Rattle.dual_model.specs.Prices.{IsLawfulTable}
@@ -26,13 +26,6 @@ pub record Certificate : Type 0 where
   pub schedule : Option WrittenSchedule
   pub tables : List Table
   pub tree : Tree Leaf
-
--- the schedule has a row for each unit, with a cell for each period
-pub record HasShapeOf (instance : Instance) (printed : Printed) : Type 0 where
-  pub thermal : length printed.thermal ≡ thermal_count instance
-  pub cells : All (λ row. length row ≡ instance.periods) printed.thermal
-  pub renewable : length printed.renewable ≡ renewable_count instance
-  pub outputs : All (λ row. length row ≡ instance.periods) printed.renewable
 
 -- the printed schedule obeys, and the cost written is its printed cost
 pub record ScheduleHolds (instance : Instance) (written : WrittenSchedule) : Type 0 where

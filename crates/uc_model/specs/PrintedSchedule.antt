@@ -1,11 +1,11 @@
 -- What a printed schedule stands for: the schedule whose weights lie on the ends of the hull segments
 -- that hold its outputs. It is in whole watts over a denominator, so each cell's weights are whole over this
 -- denominator times the width of its segment, and all of them over that times the product of the widths.
-use Rattle.std.specs.Prelude.{ℕ, zero, suc, ◌*◌, ◌/◌, ◌==◌, false, List, [], ℤ, pos, ◌+ℤ◌, ◌*ℤ◌, unsigned_abs, slice_index_or, Option, Some, None, if◌then◌else◌}
+use Rattle.std.specs.Prelude.{◌≡◌, ℕ, zero, suc, ◌*◌, ◌/◌, ◌==◌, false, List, [], ℤ, pos, ◌+ℤ◌, ◌*ℤ◌, unsigned_abs, length, All, slice_index_or, Option, Some, None, if◌then◌else◌}
 use Rattle.std.specs.Ordering.{int_eq}
 use Rattle.uc_model.specs.Sums.{sum_below}
 use Rattle.uc_model.specs.StartCategory.{category_cost}
-use Rattle.uc_model.specs.Schedule.{Schedule, thermal_unit, thermal_count}
+use Rattle.uc_model.specs.Schedule.{Schedule, thermal_unit, thermal_count, renewable_count}
 use Rattle.uc_model.specs.Hull.{Segment, segment_at, segment_width, from_left, to_right, hull_cost}
 use Rattle.uc_model.specs.declared.instance.Point.{Point}
 use Rattle.uc_model.specs.declared.instance.Thermal.{Thermal}
@@ -16,6 +16,13 @@ use Rattle.uc_model.specs.declared.schedule.Printed.{Printed}
 -- the denominator of the printed watts, which are whole
 abbrev pub watt_denominator : Printed → ℕ
 watt_denominator printed = 1
+
+-- the schedule has a row for each unit, with a cell for each period
+pub record HasShapeOf (instance : Instance) (printed : Printed) : Type 0 where
+  pub thermal : length printed.thermal ≡ thermal_count instance
+  pub cells : All (λ row. length row ≡ instance.periods) printed.thermal
+  pub renewable : length printed.renewable ≡ renewable_count instance
+  pub outputs : All (λ row. length row ≡ instance.periods) printed.renewable
 
 -- the cell of thermal unit g in period t; where the schedule has none, an off cell
 abbrev pub cell_at : Printed → ℕ → ℕ → Cell
