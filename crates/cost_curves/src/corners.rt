@@ -1,41 +1,46 @@
 //! The corners of the lower hull: how a point joins them, and between which an output lies.
 
-ghost use Rattle.std.specs.Prelude.{◌≡◌, ℕ, suc, ◌+◌, ◌<◌, ◌≤◌, IsTrue, false, int_le, length, OnOk, IfOk};
+ghost use Rattle.std.specs.Prelude.{◌≡◌, ℕ, suc, ◌+◌, ◌<◌, ◌≤◌, false, int_le, length, take};
 ghost use Rattle.uc_model.specs.Points.{point_of};
 ghost use Rattle.cost_curves.specs.LowerHull.{AreLawfulPoints, IsLawfulPoint, HullOfFirst, IsLowerHull, is_above};
 ghost use Rattle.cost_curves.specs.inside.Corners.{is_over, IsNext, Joins};
 
 use crate::line::is_above_line;
-use std::alloc::Global;
-use uc_model::{NoMemory, Point};
+use uc_model::Point;
 
-/// The corners of the points' lower hull. The only error is `NoMemory`.
-pub(crate) fn of(alloc: Global, points: &[Point]) -> Result<Vec<Point>, NoMemory>
-    requires { AreLawfulPoints points.now }
-    ensures { IfOk result (λ corners. IsLowerHull points.now corners.items) }
+/// Puts the corners of the points' lower hull into the front of a list with room for as many as there are
+/// points, and answers how many they are.
+pub(crate) fn fill(corners: &mut [Point], points: &[Point]) -> usize
+    requires lawful { AreLawfulPoints points.now }
+    requires room { length points.now ≤ length corners.old }
+    ensures within { result ≤ length points.now }
+    ensures hull { IsLowerHull points.now (take result corners.new) }
 {
-    let mut corners = Vec::new(alloc);
+    let mut held = 0;
     for count in 0..points.len() {
-        join(&mut corners, points, count)?;
+        held = join(corners, held, points, count);
     }
-    Ok(corners)
+    held
 }
 
-// Makes the corners of the first `count` points' lower hull those of the next point's too.
-fn join(corners: &mut Vec<Point>, points: &[Point], count: usize) -> Result<(), NoMemory>
+// Makes the corners of the first `count` points' lower hull, the first `held` of the list, those of the next
+// point's too, and answers how many they are then.
+fn join(corners: &mut [Point], held: usize, points: &[Point], count: usize) -> usize
     requires lawful { AreLawfulPoints points.now }
     requires within { count < length points.now }
-    requires hull { HullOfFirst points.now count corners.old.items }
-    ensures hull { OnOk result (HullOfFirst points.now (count + 1) corners.new.items) }
+    requires room { length points.now ≤ length corners.old }
+    requires held { held ≤ count }
+    requires hull { HullOfFirst points.now count (take held corners.old) }
+    ensures held { result ≤ count + 1 }
+    ensures hull { HullOfFirst points.now (count + 1) (take result corners.new) }
 {
     let point = &points[count];
-    if is_over_last(corners, point) {
-        return Ok(());
+    if is_over_last(&corners[..held], point) {
+        return held;
     }
-    let kept = kept_corners(corners, points, count);
-    corners.truncate(kept);
-    corners.push(*point)?;
-    Ok(())
+    let kept = kept_corners(&corners[..held], points, count);
+    corners[kept] = *point;
+    kept + 1
 }
 
 // Whether the last corner has the point's output and costs no more.

@@ -38,7 +38,9 @@ impl Curve {
         ensures hull { IfOk result (λ curve. IsLowerHull points.now curve) }
         ensures width { IfOk result (λ curve. width_of curve ≡ width_of points.now) }
     {
-        let corners = corners::of(alloc, points)?;
+        let mut corners = points.to_vec(alloc)?;
+        let count = corners::fill(&mut corners, points);
+        corners.truncate(count);
         Ok(Curve { corners })
     }
 

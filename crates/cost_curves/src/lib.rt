@@ -5,9 +5,11 @@
 
 mod corners;
 mod curve;
+mod inline;
 mod line;
 mod places;
 mod slope;
 
 pub use curve::Curve;
+pub use inline::InlineCurve;
 pub use slope::Slope;

@@ -1,42 +1,40 @@
 -- The corners with the next point: the same where it lies over the last one, else those that stay, and the point.
-use Rattle.std.proofs.Common.{◌≡◌, ◌+◌, sym, ap, subst, arith, suc, [], ◌∷◌, ◌++◌, take, ◌∙◌}
+use Rattle.std.proofs.Common.{◌≡◌, ◌+◌, ◌<◌, ◌≤◌, sym, ap, subst, arith, suc, [], ◌∷◌, ◌++◌, take, length, ◌∙◌}
+use Rattle.std.specs.Prelude.{slice_set}
+use Rattle.std.proofs.lemmas.List.{take_more_set, take-take, length-take-le}
 use Rattle.uc_model.specs.Points.{point_of}
 use Rattle.cost_curves.specs.LowerHull.{HullOfFirst}
 use Rattle.cost_curves.proofs.JoinedCorners.{next-from, hull_over, hull_joined, extended}
 use Rattle.cost_curves.proofs.corners.join.Goals as goal
 
-pub returns-then-is_over_last : goal.returns-then-is_over_last
-returns-then-is_over_last c =
-    let hull = subst (λ xs. HullOfFirst c.args.points.now c.args.count xs) (sym c.deref.ensures.value) c.requires.hull in
-    let whole = hull_over c.args.points.now c.args.count c.deref.result.now c.is_over_last.result c.requires.lawful c.requires.within hull
+pub returns-then-is_over_last-clause-hull : goal.returns-then-is_over_last-clause-hull
+returns-then-is_over_last-clause-hull c =
+    let front = take c.args.held c.args.corners.now in
+    let whole = hull_over c.args.points.now c.args.count front c.is_over_last.result c.requires.lawful c.requires.within c.requires.hull
     (record { none = c.is_over_last.ensures.none; some = c.is_over_last.ensures.some }) c.if-is_over_last.true in
     let next : suc c.args.count ≡ c.args.count + 1 = omega arith in
-    record {
-      hull = subst (λ n. HullOfFirst c.args.points.now n c.args.corners.now.items) next
-          (subst (λ xs. HullOfFirst c.args.points.now (suc c.args.count) xs) c.deref.ensures.value whole);
-    }
+    subst (λ n. HullOfFirst c.args.points.now n front) next whole
 
 pub kept_corners-kept-requires-clause-next : goal.kept_corners-kept-requires-clause-next
 kept_corners-kept-requires-clause-next c =
-    let hull = subst (λ xs. HullOfFirst c.args.points.now c.args.count xs) (sym c.deref.ensures.value) c.requires.hull in
-    next-from c.args.points.now c.args.count c.deref.result.now c.is_over_last.result c.requires.lawful c.requires.within hull
+    next-from c.args.points.now c.args.count (take c.args.held c.args.corners.now) c.is_over_last.result c.requires.lawful c.requires.within c.requires.hull
     (record { none = c.is_over_last.ensures.none; some = c.is_over_last.ensures.some }) c.if-is_over_last.false
 
-pub returns : goal.returns
-returns c =
+pub returns-clause-hull : goal.returns-clause-hull
+returns-clause-hull c =
     let points = c.args.points.now in
     let count = c.args.count in
+    let corners = c.args.corners.now in
+    let kept = c.kept_corners-kept.result in
     let point = point_of points count in
-    let hull = subst (λ xs. HullOfFirst points count xs) (sym c.deref-2.ensures.value) c.requires.hull in
-    let before = subst (λ xs. HullOfFirst points count xs) (sym c.deref.ensures.value) c.requires.hull in
-    let next = next-from points count c.deref.result.now c.is_over_last.result c.requires.lawful c.requires.within before
+    let front = take c.args.held corners in
+    let next = next-from points count front c.is_over_last.result c.requires.lawful c.requires.within c.requires.hull
     (record { none = c.is_over_last.ensures.none; some = c.is_over_last.ensures.some }) c.if-is_over_last.false in
-    let whole = hull_joined points count c.deref-2.result.now (take c.kept_corners-kept.result c.deref-2.result.now ++ point ∷ []) c.kept_corners-kept.result
-    hull next c.kept_corners-kept.ensures.within c.kept_corners-kept.ensures.joins
-    (extended c.deref-2.result.now c.kept_corners-kept.result point c.kept_corners-kept.ensures.within) in
-    let left : take c.kept_corners-kept.result c.deref-2.result.now ≡ c.truncate.new.self.items =
-    ap (λ xs. take c.kept_corners-kept.result xs) c.deref-2.ensures.value ∙ sym c.truncate.ensures.items in
-    let all : take c.kept_corners-kept.result c.deref-2.result.now ++ point ∷ [] ≡ c.push.new.self.items =
-    ap (λ xs. xs ++ point ∷ []) left ∙ sym c.in_ok-push.ensures.items in
+    let held : length front ≡ c.args.held = length-take-le c.args.held corners (omega arith) in
+    let whole = hull_joined points count front (take kept front ++ point ∷ []) kept
+    c.requires.hull next c.kept_corners-kept.ensures.within c.kept_corners-kept.ensures.joins
+    (extended front kept point c.kept_corners-kept.ensures.within) in
+    let all : take kept front ++ point ∷ [] ≡ take (kept + 1) (slice_set corners kept point) =
+    ap (λ xs. xs ++ point ∷ []) (take-take kept c.args.held corners (omega arith)) ∙ sym (take_more_set corners kept point (omega arith)) in
     let following : suc count ≡ count + 1 = omega arith in
-    record { hull = subst (λ n. HullOfFirst points n c.push.new.self.items) following (subst (λ xs. HullOfFirst points (suc count) xs) all whole) }
+    subst (λ n. HullOfFirst points n (take (kept + 1) (slice_set corners kept point))) following (subst (λ xs. HullOfFirst points (suc count) xs) all whole)

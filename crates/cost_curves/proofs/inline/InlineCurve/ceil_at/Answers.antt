@@ -1,0 +1,20 @@
+-- The corners are those that the curve shows.
+use Rattle.std.proofs.Common.{◌∙◌, sym, ap, subst}
+use Rattle.std.specs.Int.{w64}
+use Rattle.std.proofs.lemmas.Int.{to_z-of_z}
+use Rattle.uc_model.specs.Hull.{hull_cost}
+use Rattle.cost_curves.specs.LowerHull.{IsLowerHull}
+use Rattle.cost_curves.specs.LeastCost.{IsLeastCostUp}
+use Rattle.cost_curves.proofs.inline.InlineCurve.ceil_at.Goals as goal
+
+pub returns-clause-least : goal.returns-clause-least
+returns-clause-least c = λ points whole.
+    subst (λ n. IsLeastCostUp points c.args.p n) (sym (to_z-of_z w64 c.ceil_at.result (record { sfits = c.ceil_at.type_inv })))
+    (subst (λ p. IsLeastCostUp points p c.ceil_at.result) (to_z-of_z w64 c.args.p c.ranges.p)
+    (c.ceil_at.ensures.least points (subst (λ xs. IsLowerHull points xs) (sym c.self.view_is) whole)))
+
+pub returns-clause-hull : goal.returns-clause-hull
+returns-clause-hull c = λ points whole.
+    to_z-of_z w64 c.ceil_at.result (record { sfits = c.ceil_at.type_inv })
+    ∙ c.ceil_at.ensures.hull points (subst (λ xs. IsLowerHull points xs) (sym c.self.view_is) whole)
+    ∙ ap (λ p. hull_cost points 1 p) (to_z-of_z w64 c.args.p c.ranges.p)
