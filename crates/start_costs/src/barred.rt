@@ -5,8 +5,9 @@ ghost use Rattle.uc_model.specs.StartCategory.{is_barred as barred_at};
 
 use uc_model::limits::MAX_PERIODS;
 
-/// Whether the initial time off bars the category before the one of this lag in period `t`, from 0.
-pub(crate) fn is_barred(time_down: usize, lag: usize, t: usize) -> bool
+/// Whether the initial time off, `time_down` hours, bars in period `t` (from 0) the category before the one of
+/// this lag, which lies past the period.
+pub fn is_barred(time_down: usize, lag: usize, t: usize) -> bool
     requires period { t < MAX_PERIODS }
     requires later { t + 1 < lag }
     requires fits { lag < 2 ^ 32 }

@@ -2,9 +2,10 @@
 //! stop alone.
 #![tactic(auto)]
 
-mod barred;
+pub mod barred;
 pub mod by_history;
 pub mod by_last_stop;
 
+pub use barred::is_barred;
 pub use by_history::least_allowed;
 pub use by_last_stop::sigma;

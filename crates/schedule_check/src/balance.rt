@@ -1,0 +1,187 @@
+//! The rules on the whole system: M14 and M15.
+
+ghost use Rattle.std.specs.Prelude.{◌≡◌, ◌*◌, ◌<◌, ◌≤◌, [], ◌*ℤ◌, ◌+ℤ◌, length, slice_index_or, unsigned_abs};
+ghost use Rattle.uc_model.specs.Sums.{bit, sum_below};
+ghost use Rattle.uc_model.specs.Limits.{IsLawfulInstance, IsPower};
+ghost use Rattle.uc_model.specs.PrintedSchedule.{HasShapeOf, cell_at};
+ghost use Rattle.uc_model.specs.Schedule.{renewable_count, thermal_count};
+ghost use Rattle.schedule_check.specs.SizedNumbers.{HasSizedNumbers, IsSized, IsSizedCell, output_at};
+ghost use Rattle.schedule_check.specs.inside.Failures.{IsFirstFailure};
+ghost use Rattle.schedule_check.specs.inside.WholeWatts.{demand_holds, reserve_holds, reserve_supply_at, row_of, supply_at, thermal_supply as thermal_supply_of};
+
+use uc_model::{Cell, Instance, Printed, sum};
+
+/// As many units of a kind as there may be.
+const MOST_UNITS: u64 = 4096;
+
+/// More than a cell's total output.
+const MOST_OUTPUT: u64 = 2_000_000_000_000_000;
+
+/// The first period in which the units' output isn't demand.
+pub(crate) fn first_unbalanced(instance: &Instance, printed: &Printed) -> Option<usize>
+    requires lawful { IsLawfulInstance instance.now }
+    requires shape { HasShapeOf instance.now printed.now }
+    requires sized { HasSizedNumbers printed.now }
+    ensures { IsFirstFailure instance.now.periods (demand_holds instance.now printed.now) result }
+{
+    for t in 0..instance.periods as usize {
+        if supply(instance, printed, t) != i128::from(instance.demand.as_slice()[t]) {
+            return Some(t);
+        }
+    }
+    None
+}
+
+/// The first period in which reserve is below what is required.
+pub(crate) fn first_short_of_reserve(instance: &Instance, printed: &Printed) -> Option<usize>
+    requires lawful { IsLawfulInstance instance.now }
+    requires shape { HasShapeOf instance.now printed.now }
+    requires sized { HasSizedNumbers printed.now }
+    ensures { IsFirstFailure instance.now.periods (reserve_holds instance.now printed.now) result }
+{
+    for t in 0..instance.periods as usize {
+        if reserve(instance, printed, t) < i128::from(instance.reserves.as_slice()[t]) {
+            return Some(t);
+        }
+    }
+    None
+}
+
+// What all units give in period t.
+fn supply(instance: &Instance, printed: &Printed, t: usize) -> i128
+    requires lawful { IsLawfulInstance instance.now }
+    requires shape { HasShapeOf instance.now printed.now }
+    requires sized { HasSizedNumbers printed.now }
+    requires period { t < instance.now.periods }
+    ensures { result ≡ supply_at instance.now printed.now t }
+{
+    sum(
+        thermal(instance, printed, t),
+        renewable(instance, printed, t),
+    )
+}
+
+// What the thermal units give in period t.
+fn thermal(instance: &Instance, printed: &Printed, t: usize) -> i128
+    requires lawful { IsLawfulInstance instance.now }
+    requires shape { HasShapeOf instance.now printed.now }
+    requires sized { HasSizedNumbers printed.now }
+    requires period { t < instance.now.periods }
+    ensures value { result ≡ sum_below (thermal_count instance.now) (λ g. thermal_supply_of instance.now printed.now g t) }
+    ensures size { unsigned_abs result ≤ MOST_UNITS * MOST_OUTPUT }
+{
+    let mut total = 0;
+    for g in 0..instance.thermal.as_slice().len() {
+        total = sum(total, thermal_output(instance, printed, g, t));
+    }
+    total
+}
+
+// What the renewable units give in period t.
+fn renewable(instance: &Instance, printed: &Printed, t: usize) -> i128
+    requires lawful { IsLawfulInstance instance.now }
+    requires shape { HasShapeOf instance.now printed.now }
+    requires sized { HasSizedNumbers printed.now }
+    requires period { t < instance.now.periods }
+    ensures value { result ≡ sum_below (renewable_count instance.now) (λ w. output_at printed.now w t) }
+    ensures size { unsigned_abs result ≤ MOST_UNITS * MOST_OUTPUT }
+{
+    let mut total = 0;
+    for w in 0..instance.renewable.as_slice().len() {
+        total = sum(total, renewable_output(instance, printed, w, t));
+    }
+    total
+}
+
+// The thermal units' reserve in period t.
+fn reserve(instance: &Instance, printed: &Printed, t: usize) -> i128
+    requires lawful { IsLawfulInstance instance.now }
+    requires shape { HasShapeOf instance.now printed.now }
+    requires sized { HasSizedNumbers printed.now }
+    requires period { t < instance.now.periods }
+    ensures { result ≡ reserve_supply_at instance.now printed.now t }
+{
+    let mut total = 0;
+    for g in 0..instance.thermal.as_slice().len() {
+        total = sum(total, cell_reserve(instance, printed, g, t));
+    }
+    total
+}
+
+// What thermal unit g gives in period t: its output above the minimum, and the minimum where it is on.
+fn thermal_output(instance: &Instance, printed: &Printed, g: usize, t: usize) -> i128
+    requires lawful { IsLawfulInstance instance.now }
+    requires shape { HasShapeOf instance.now printed.now }
+    requires sized { HasSizedNumbers printed.now }
+    requires unit { g < thermal_count instance.now }
+    requires period { t < instance.now.periods }
+    ensures value { result ≡ thermal_supply_of instance.now printed.now g t }
+    ensures size { unsigned_abs result ≤ MOST_OUTPUT }
+{
+    let minimum = instance.thermal.as_slice()[g].pmin;
+    total_output(&minimum, &cell(printed, g, t))
+}
+
+fn total_output(minimum: &i64, cell: &Cell) -> i128
+    requires minimum { IsPower minimum.now }
+    requires cell { IsSizedCell cell.now }
+    ensures value { result ≡ cell.now.p +ℤ minimum.now *ℤ bit cell.now.on }
+    ensures size { unsigned_abs result ≤ MOST_OUTPUT }
+{
+    if cell.on {
+        i128::from(cell.p) + i128::from(*minimum)
+    } else {
+        i128::from(cell.p)
+    }
+}
+
+// What renewable unit w gives in period t.
+fn renewable_output(instance: &Instance, printed: &Printed, w: usize, t: usize) -> i128
+    requires shape { HasShapeOf instance.now printed.now }
+    requires sized { HasSizedNumbers printed.now }
+    requires unit { w < renewable_count instance.now }
+    requires period { t < instance.now.periods }
+    ensures value { result ≡ output_at printed.now w t }
+    ensures size { unsigned_abs result ≤ MOST_OUTPUT }
+{
+    wide(&output(printed, w, t))
+}
+
+// The reserve of thermal unit g in period t.
+fn cell_reserve(instance: &Instance, printed: &Printed, g: usize, t: usize) -> i128
+    requires shape { HasShapeOf instance.now printed.now }
+    requires sized { HasSizedNumbers printed.now }
+    requires unit { g < thermal_count instance.now }
+    requires period { t < instance.now.periods }
+    ensures value { result ≡ (cell_at printed.now g t).r }
+    ensures size { unsigned_abs result ≤ MOST_OUTPUT }
+{
+    wide(&cell(printed, g, t).r)
+}
+
+// The cell of thermal unit g in period t.
+fn cell(printed: &Printed, g: usize, t: usize) -> Cell
+    requires unit { g < length printed.now.thermal }
+    requires period { t < length (row_of printed.now g) }
+    ensures { result ≡ cell_at printed.now g t }
+{
+    printed.thermal.as_slice()[g].as_slice()[t]
+}
+
+// The output of renewable unit w in period t.
+fn output(printed: &Printed, w: usize, t: usize) -> i64
+    requires unit { w < length printed.now.renewable }
+    requires period { t < length (slice_index_or printed.now.renewable w []) }
+    ensures { result ≡ output_at printed.now w t }
+{
+    printed.renewable.as_slice()[w].as_slice()[t]
+}
+
+// A number of a schedule in 128 bits.
+fn wide(number: &i64) -> i128
+    requires { IsSized number.now }
+    ensures value { result ≡ number.now }
+    ensures size { unsigned_abs result ≤ MOST_OUTPUT }
+{
+    i128::from(*number)
+}

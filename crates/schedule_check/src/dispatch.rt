@@ -1,0 +1,195 @@
+//! The rules on output and reserve: M8 to M12, and the numbers that they and M7 speak of.
+
+ghost use Rattle.std.specs.Prelude.{◌≡◌, ℕ, suc, ◌*◌, ◌<◌, ◌≤◌, ◌&&◌, pos, ◌-ℤ◌, ◌*ℤ◌, ◌+ℤ◌, int_le, length, unsigned_abs};
+ghost use Rattle.uc_model.specs.Sums.{bit};
+ghost use Rattle.uc_model.specs.Commitment.{initial_p, start_reduction as start_reduction_of, stop_cap as stop_cap_of, stop_reduction as stop_reduction_of};
+ghost use Rattle.uc_model.specs.Limits.{IsLawfulThermal, IsPower};
+ghost use Rattle.uc_model.specs.Points.{point_of};
+ghost use Rattle.schedule_check.specs.SizedNumbers.{IsSizedCell};
+ghost use Rattle.schedule_check.specs.inside.WholeWatts.{IsSizedRow, cell, commitment, output_before as before_of, production_at, start_cap_at, stop_cap_at, ramp_up_at, ramp_down_at, width as width_of};
+
+use crate::commitment::{starts, stops};
+use uc_model::limits::MAX_POWER;
+use uc_model::{Cell, Point, Thermal};
+
+/// M8: an on cell's output lies on the hull of the unit's points and its reserve isn't below 0; an off cell has
+/// neither.
+pub(crate) fn production(unit: &Thermal, row: &[Cell], t: usize) -> bool
+    requires lawful { IsLawfulThermal unit.now }
+    requires period { t < length row.now }
+    ensures { result ≡ production_at unit.now row.now t }
+{
+    let cell = &row[t];
+    if cell.on {
+        is_on_hull(unit, &cell.p) && 0 <= cell.r
+    } else {
+        cell.p == 0 && cell.r == 0
+    }
+}
+
+/// M9: output and reserve are within the range, and in the period of a start within the start-up limit.
+pub(crate) fn start_cap(unit: &Thermal, row: &[Cell], t: usize) -> bool
+    requires lawful { IsLawfulThermal unit.now }
+    requires sized { IsSizedRow row.now }
+    requires period { t < length row.now }
+    ensures { result ≡ start_cap_at unit.now row.now t }
+{
+    let full = range(unit, row[t].on);
+    let cap = reduced(&full, &start_reduction(unit), starts(unit, row, t));
+    head(&row[t]) <= cap
+}
+
+/// M10: they are within the range, and in the period before a stop within the shut-down limit.
+pub(crate) fn stop_cap(unit: &Thermal, row: &[Cell], t: usize) -> bool
+    requires lawful { IsLawfulThermal unit.now }
+    requires sized { IsSizedRow row.now }
+    requires period { t < length row.now }
+    ensures { result ≡ stop_cap_at (length row.now) unit.now row.now t }
+{
+    t + 1 >= row.len() || is_below_stop_cap(unit, row, t)
+}
+
+/// M11: output with reserve rises by no more than the ramp-up limit.
+pub(crate) fn ramp_up(unit: &Thermal, row: &[Cell], t: usize) -> bool
+    requires lawful { IsLawfulThermal unit.now }
+    requires sized { IsSizedRow row.now }
+    requires period { t < length row.now }
+    ensures { result ≡ ramp_up_at unit.now row.now t }
+{
+    is_rise_within(&output_before(unit, row, t), &head(&row[t]), &unit.ru)
+}
+
+/// M12: output falls by no more than the ramp-down limit.
+pub(crate) fn ramp_down(unit: &Thermal, row: &[Cell], t: usize) -> bool
+    requires lawful { IsLawfulThermal unit.now }
+    requires sized { IsSizedRow row.now }
+    requires period { t < length row.now }
+    ensures { result ≡ ramp_down_at unit.now row.now t }
+{
+    is_rise_within(&output(&row[t]), &output_before(unit, row, t), &unit.rd)
+}
+
+// Whether one output is above another by no more than a limit.
+fn is_rise_within(from: &i64, to: &i64, limit: &i64) -> bool
+    requires from { unsigned_abs from.now ≤ 2 * 1000000000000000 }
+    requires to { unsigned_abs to.now ≤ 2 * 1000000000000000 }
+    ensures { result ≡ int_le (to.now -ℤ from.now) limit.now }
+{
+    *to - *from <= *limit
+}
+
+// Whether an output lies between the outputs of the unit's first and last point.
+fn is_on_hull(unit: &Thermal, p: &i64) -> bool
+    requires { IsLawfulThermal unit.now }
+    ensures { result ≡ (int_le (pos 0) p.now && int_le p.now (width_of unit.now.points)) }
+{
+    0 <= *p && *p <= width(unit.points.as_slice())
+}
+
+// The output of the last point above the first one's.
+fn width(points: &[Point]) -> i64
+    requires some { 0 < length points.now }
+    requires each { (l : ℕ) → l < length points.now → IsPower (point_of points.now l).mw }
+    ensures { result ≡ width_of points.now }
+{
+    points[points.len() - 1].mw - points[0].mw
+}
+
+// M10 where a period follows.
+fn is_below_stop_cap(unit: &Thermal, row: &[Cell], t: usize) -> bool
+    requires lawful { IsLawfulThermal unit.now }
+    requires sized { IsSizedRow row.now }
+    requires period { suc t < length row.now }
+    ensures { result ≡ int_le ((cell row.now t).p +ℤ (cell row.now t).r) (stop_cap_of unit.now (commitment row.now) t) }
+{
+    let full = range(unit, row[t].on);
+    let cap = reduced(&full, &stop_reduction(unit), stops(unit, row, t + 1));
+    head(&row[t]) <= cap
+}
+
+// The output of a cell.
+fn output(cell: &Cell) -> i64
+    requires { IsSizedCell cell.now }
+    ensures value { result ≡ cell.now.p }
+    ensures size { unsigned_abs result < 1000000000000000 }
+{
+    cell.p
+}
+
+// The output of a cell with its reserve.
+fn head(cell: &Cell) -> i64
+    requires { IsSizedCell cell.now }
+    ensures value { result ≡ cell.now.p +ℤ cell.now.r }
+    ensures size { unsigned_abs result ≤ 2 * 1000000000000000 }
+{
+    cell.p + cell.r
+}
+
+// The output in the period before, which is the initial one before the first.
+fn output_before(unit: &Thermal, row: &[Cell], t: usize) -> i64
+    requires lawful { IsLawfulThermal unit.now }
+    requires sized { IsSizedRow row.now }
+    requires period { t < length row.now }
+    ensures value { result ≡ before_of unit.now row.now t }
+    ensures size { unsigned_abs result < 1000000000000000 }
+{
+    if t == 0 {
+        initial_output(unit)
+    } else {
+        output(&row[t - 1])
+    }
+}
+
+/// The initial output above the minimum.
+pub(crate) fn initial_output(unit: &Thermal) -> i64
+    requires { IsLawfulThermal unit.now }
+    ensures value { result ≡ initial_p unit.now }
+    ensures size { unsigned_abs result ≤ 2 * MAX_POWER }
+{
+    if unit.on0 { unit.p0 - unit.pmin } else { 0 }
+}
+
+/// M7's limit on it, by whether the unit stops in the first period.
+pub(crate) fn initial_limit(unit: &Thermal, stop: bool) -> i64
+    requires { IsLawfulThermal unit.now }
+    ensures { result ≡ bit unit.now.on0 *ℤ (unit.now.pmax -ℤ unit.now.pmin) -ℤ stop_reduction_of unit.now *ℤ bit stop }
+{
+    let full = range(unit, unit.on0);
+    reduced(&full, &stop_reduction(unit), stop)
+}
+
+// The width of the unit's range where it is on, and else 0.
+fn range(unit: &Thermal, on: bool) -> i64
+    requires { IsLawfulThermal unit.now }
+    ensures value { result ≡ (unit.now.pmax -ℤ unit.now.pmin) *ℤ bit on }
+    ensures size { unsigned_abs result ≤ MAX_POWER }
+{
+    if on { unit.pmax - unit.pmin } else { 0 }
+}
+
+// A range with a reduction, where it applies.
+fn reduced(full: &i64, reduction: &i64, applies: bool) -> i64
+    requires full { unsigned_abs full.now ≤ MAX_POWER }
+    requires reduction { unsigned_abs reduction.now ≤ MAX_POWER }
+    ensures { result ≡ full.now -ℤ reduction.now *ℤ bit applies }
+{
+    if applies { *full - *reduction } else { *full }
+}
+
+// How far the limit of a start lies below the greatest output.
+fn start_reduction(unit: &Thermal) -> i64
+    requires { IsLawfulThermal unit.now }
+    ensures value { result ≡ start_reduction_of unit.now }
+    ensures size { unsigned_abs result ≤ MAX_POWER }
+{
+    (unit.pmax - unit.su).max(0)
+}
+
+// How far the limit of a stop lies below the greatest output.
+fn stop_reduction(unit: &Thermal) -> i64
+    requires { IsLawfulThermal unit.now }
+    ensures value { result ≡ stop_reduction_of unit.now }
+    ensures size { unsigned_abs result ≤ MAX_POWER }
+{
+    (unit.pmax - unit.sd).max(0)
+}

@@ -1,0 +1,53 @@
+//! The rule on renewable units: M13.
+
+ghost use Rattle.std.specs.Prelude.{◌≡◌, ℕ, ◌<◌, ◌≤◌, ◌&&◌, int_le, pos, length, slice_index_or};
+ghost use Rattle.std.specs.Int.{int_max};
+ghost use Rattle.uc_model.specs.Limits.{IsLawfulInstance};
+ghost use Rattle.uc_model.specs.PrintedSchedule.{HasShapeOf};
+ghost use Rattle.uc_model.specs.Schedule.{renewable_count};
+ghost use Rattle.schedule_check.specs.inside.Failures.{IsFirstFailure, IsFirstPlace};
+ghost use Rattle.schedule_check.specs.inside.WholeWatts.{is_output_within, renewable_range_at};
+
+use crate::broken::Place;
+use uc_model::{Instance, Printed, Renewable};
+
+/// The first renewable unit and period at which M13 is broken.
+pub(crate) fn first_place(instance: &Instance, printed: &Printed) -> Option<Place>
+    requires lawful { IsLawfulInstance instance.now }
+    requires shape { HasShapeOf instance.now printed.now }
+    ensures { IsFirstPlace (renewable_count instance.now) instance.now.periods (renewable_range_at instance.now printed.now) result }
+{
+    let units = instance.renewable.as_slice();
+    let rows = printed.renewable.as_slice();
+    for unit in 0..units.len() {
+        if let Some(period) = first_period(&units[unit], rows[unit].as_slice()) {
+            return Some(Place { unit, period });
+        }
+    }
+    None
+}
+
+// The first period at which a unit's output isn't between its limits.
+fn first_period(unit: &Renewable, outputs: &[i64]) -> Option<usize>
+    requires minimum { length unit.now.minimum ≡ length outputs.now }
+    requires maximum { length unit.now.maximum ≡ length outputs.now }
+    ensures { IsFirstFailure (length outputs.now) (is_output_within unit.now outputs.now) result }
+{
+    for t in 0..outputs.len() {
+        if !is_within(unit, outputs, t) {
+            return Some(t);
+        }
+    }
+    None
+}
+
+// Whether the output in period t is between the limits.
+fn is_within(unit: &Renewable, outputs: &[i64], t: usize) -> bool
+    requires minimum { length unit.now.minimum ≡ length outputs.now }
+    requires maximum { length unit.now.maximum ≡ length outputs.now }
+    requires period { t < length outputs.now }
+    ensures { result ≡ is_output_within unit.now outputs.now t }
+{
+    let least = unit.minimum.as_slice()[t].max(0);
+    least <= outputs[t] && outputs[t] <= unit.maximum.as_slice()[t]
+}

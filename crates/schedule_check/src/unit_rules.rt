@@ -1,0 +1,86 @@
+//! The rules on thermal units, unit by unit and period by period.
+
+ghost use Rattle.std.specs.Prelude.{◌≡◌, ℕ, ◌<◌, ◌≤◌, length, slice_index_or};
+ghost use Rattle.uc_model.specs.Limits.{IsLawfulInstance, IsLawfulThermal};
+ghost use Rattle.uc_model.specs.PrintedSchedule.{HasShapeOf};
+ghost use Rattle.uc_model.specs.Schedule.{thermal_count, thermal_unit};
+ghost use Rattle.schedule_check.specs.SizedNumbers.{HasSizedNumbers};
+ghost use Rattle.schedule_check.specs.inside.Changes.{AreCounts, change_at};
+ghost use Rattle.schedule_check.specs.inside.Failures.{IsFirstFailure, IsFirstPlace};
+ghost use Rattle.schedule_check.specs.inside.WholeWatts.{IsSizedRow, commitment, row_of, unit_holds, unit_periods};
+ghost use Rattle.schedule_check.specs.declared.counts.Change.TheVariants.{Start, Stop};
+
+use crate::broken::Place;
+use crate::counts::{Change, Counts, MOMENTS};
+use crate::unit_rule::UnitRule;
+use crate::{commitment, dispatch, minimum_times, start_category};
+use uc_model::{Cell, Instance, Printed, Thermal};
+
+/// The first unit and period at which the rule is broken.
+pub(crate) fn first_place(rule: UnitRule, instance: &Instance, printed: &Printed) -> Option<Place>
+    requires lawful { IsLawfulInstance instance.now }
+    requires shape { HasShapeOf instance.now printed.now }
+    requires sized { HasSizedNumbers printed.now }
+    ensures { IsFirstPlace (thermal_count instance.now) (unit_periods rule instance.now.periods)
+        (λ g t. unit_holds rule instance.now.periods (thermal_unit instance.now g) (row_of printed.now g) t) result }
+{
+    let units = instance.thermal.as_slice();
+    let rows = printed.thermal.as_slice();
+    for unit in 0..units.len() {
+        if let Some(period) = first_period(rule, &units[unit], rows[unit].as_slice()) {
+            return Some(Place { unit, period });
+        }
+    }
+    None
+}
+
+// The first period at which a unit breaks the rule.
+fn first_period(rule: UnitRule, unit: &Thermal, row: &[Cell]) -> Option<usize>
+    requires lawful { IsLawfulThermal unit.now }
+    requires some { 0 < length row.now }
+    requires few { length row.now < MOMENTS }
+    requires sized { IsSizedRow row.now }
+    ensures { IsFirstFailure (unit_periods rule (length row.now)) (unit_holds rule (length row.now) unit.now row.now) result }
+{
+    let starts = Counts::of(Change::Start, unit, row);
+    let stops = Counts::of(Change::Stop, unit, row);
+    for t in 0..rule.periods(row.len()) {
+        if !holds(rule, &starts, &stops, unit, row, t) {
+            return Some(t);
+        }
+    }
+    None
+}
+
+// Whether a unit keeps the rule in period t.
+fn holds(
+    rule: UnitRule,
+    starts: &Counts,
+    stops: &Counts,
+    unit: &Thermal,
+    row: &[Cell],
+    t: usize,
+) -> bool
+    requires lawful { IsLawfulThermal unit.now }
+    requires few { length row.now < MOMENTS }
+    requires sized { IsSizedRow row.now }
+    requires starts { AreCounts starts.now.before (length row.now) (change_at Start unit.now (commitment row.now)) }
+    requires stops { AreCounts stops.now.before (length row.now) (change_at Stop unit.now (commitment row.now)) }
+    requires period { t < length row.now }
+    ensures { result ≡ unit_holds rule (length row.now) unit.now row.now t }
+{
+    match rule {
+        UnitRule::MustRun => commitment::must_run(unit, row, t),
+        UnitRule::InitialUp => commitment::initial_up(unit, row, t),
+        UnitRule::InitialDown => commitment::initial_down(unit, row, t),
+        UnitRule::MinimumUp => minimum_times::minimum_up(starts, unit, row, t),
+        UnitRule::MinimumDown => minimum_times::minimum_down(stops, unit, row, t),
+        UnitRule::Category => start_category::category(stops, unit, row, t),
+        UnitRule::InitialStop => commitment::initial_stop(unit, row),
+        UnitRule::Production => dispatch::production(unit, row, t),
+        UnitRule::StartCap => dispatch::start_cap(unit, row, t),
+        UnitRule::StopCap => dispatch::stop_cap(unit, row, t),
+        UnitRule::RampUp => dispatch::ramp_up(unit, row, t),
+        UnitRule::RampDown => dispatch::ramp_down(unit, row, t),
+    }
+}
