@@ -32,7 +32,7 @@ first_below-some (suc n) test k h e = ⊎_elim
     here None is = (n, is)
     here (Some j) is = (j, refl)
 
-first_segment-some : (points : List Point) (p : ℤ) (n i j : ℕ) → i < n → j < length points → IsTrue (segment_holds points 1 p i j)
+pub first_segment-some : (points : List Point) (p : ℤ) (n i j : ℕ) → i < n → j < length points → IsTrue (segment_holds points 1 p i j)
     → (s : Segment) × (first_segment points 1 p n ≡ Some s)
 first_segment-some points p zero i j h hj e = absurd (omega arith)
 first_segment-some points p (suc n) i j h hj e = ⊎_elim
@@ -53,10 +53,10 @@ first_segment-some points p (suc n) i j h hj e = ⊎_elim
 
 -- ---- the hull's value on a segment
 -- the parts of what the segment's ends say
-begins_at : (points : List Point) (p : ℤ) (a : ℕ) → IsTrue (int_le (pos 1 *ℤ output_of points a) p) → output_of points a ≤ℤ p
+pub begins_at : (points : List Point) (p : ℤ) (a : ℕ) → IsTrue (int_le (pos 1 *ℤ output_of points a) p) → output_of points a ≤ℤ p
 begins_at points p a h = subst (λ z. z ≤ℤ p) (one-mul (output_of points a)) (int_le-true (pos 1 *ℤ output_of points a) p h)
 
-reaches_at : (points : List Point) (p : ℤ) (b : ℕ) → IsTrue (int_le p (pos 1 *ℤ output_of points b)) → p ≤ℤ output_of points b
+pub reaches_at : (points : List Point) (p : ℤ) (b : ℕ) → IsTrue (int_le p (pos 1 *ℤ output_of points b)) → p ≤ℤ output_of points b
 reaches_at points p b h = subst (λ z. p ≤ℤ z) (one-mul (output_of points b)) (int_le-true p (pos 1 *ℤ output_of points b) h)
 
 -- the quotient of the hull's value

@@ -5,3 +5,4 @@ pub mod LeastCosts
 pub mod CornerSizes
 pub mod UnitPoints
 pub mod FirstSegments
+pub mod HullExists

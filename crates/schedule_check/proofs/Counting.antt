@@ -1,15 +1,14 @@
 -- Counts of the indexes below a number at which a test holds: what the windows of minimum times and the stops between
 -- two lags are by them.
-use Rattle.std.proofs.Common.{◌≡◌, ℕ, zero, suc, ◌+◌, ◌-◌, ◌<◌, ◌≤◌, ◌≢◌, ◌⊎◌, ⊎_elim, Bool, true, false, ◌&&◌, ◌||◌, cond, refl, sym, ap, subst, ◌∙◌, arith, List, length, get_or, ℤ, pos, ◌+ℤ◌, ◌≤ℤ◌}
+use Rattle.std.proofs.Common.{◌≡◌, ℕ, zero, suc, ◌+◌, ◌-◌, ◌<◌, ◌≤◌, ⊎_elim, Bool, true, false, ◌&&◌, ◌||◌, refl, sym, ap, subst, ◌∙◌, arith, List, length, get_or, pos}
 use Rattle.std.specs.Prelude.{IsTrue, nat_le, nat_lt, slice_set, int_le, if◌then◌else◌}
-use mir.Val.{bool_byte, Fits}
-use mir.Syntax.{w8}
-use Rattle.std.proofs.lemmas.List.{get_or-set_same, get_or-set_other, length-set}
-use Rattle.std.proofs.lemmas.Bool.{cases_lt, cases_Bool, and_parts, and_from, leb-true, le-leb, ltb-true, lt-ltb, le-ltb, or_cases, or_left, or_right, true≢false, not-true}
+use mir.Val.{bool_byte}
+use Rattle.std.proofs.lemmas.List.{get_or-set_same, get_or-set_other}
+use Rattle.std.proofs.lemmas.Bool.{cases_lt, cases_Bool, and_parts, and_from, leb-true, le-leb, ltb-true, lt-ltb, le-ltb, true≢false}
 use Rattle.uc_model.specs.Sums.{sum_below, any_below, bit}
 use Rattle.uc_model.proofs.Ring.{linear}
 use Rattle.uc_model.proofs.Tests.{any_below-at, any_below-from}
-use Rattle.uc_model.proofs.Sums.{sum_below-split, sum_below-same}
+use Rattle.uc_model.proofs.Sums.{sum_below-split}
 use Rattle.uc_model.specs.Commitment.{keeps_minimum_at}
 use Rattle.schedule_check.specs.inside.Changes.{count_below}
 
@@ -105,7 +104,7 @@ between_some low high k test after until h =
     let rest = count-more (suc k) high test until in
     omega (arith, first, here, rest)
 
-same_test : (a b : Bool) → (IsTrue a → IsTrue b) → (IsTrue b → IsTrue a) → a ≡ b
+pub same_test : (a b : Bool) → (IsTrue a → IsTrue b) → (IsTrue b → IsTrue a) → a ≡ b
 same_test true b h k = sym (h refl)
 same_test false true h k = k refl
 same_test false false h k = refl

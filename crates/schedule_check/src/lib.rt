@@ -8,8 +8,10 @@
 mod balance;
 mod broken;
 mod commitment;
+mod cost;
 mod counts;
 mod dispatch;
+mod feasibility;
 mod minimum_times;
 mod renewable;
 mod start_category;
@@ -17,3 +19,4 @@ mod unit_rule;
 mod unit_rules;
 
 pub use broken::Broken;
+pub use feasibility::check;

@@ -1,12 +1,12 @@
 -- The rules M1 to M15 on a printed schedule itself, in whole watts and without weights: what they say where M8 holds.
 -- Source: the rules of the reference model by Knueven, Ostrowski and Watson, as uc_model has them.
-use Rattle.std.specs.Prelude.{◌≡◌, ℕ, zero, suc, ◌-◌, Bool, false, not, ◌&&◌, ◌||◌, ◌==◌, nat_lt, List, [], ℤ, pos, ◌+ℤ◌, ◌-ℤ◌, ◌*ℤ◌, int_le, length, slice_index_or, if◌then◌else◌}
+use Rattle.std.specs.Prelude.{◌≡◌, ℕ, zero, suc, ◌-◌, ◌≤◌, Bool, true, false, not, ◌&&◌, ◌||◌, ◌==◌, nat_lt, List, [], ℤ, pos, ◌+ℤ◌, ◌-ℤ◌, ◌*ℤ◌, ◌≤ℤ◌, int_le, length, slice_index_or, Option, Some, None, if◌then◌else◌}
 use Rattle.std.specs.Int.{int_max}
 use Rattle.std.specs.Ordering.{int_eq}
 use Rattle.uc_model.specs.Sums.{sum_below, bit}
 use Rattle.uc_model.specs.Points.{output_of}
 use Rattle.uc_model.specs.Commitment.{Commitment, must_run_at, initial_up_at, initial_down_at, minimum_up_at, minimum_down_at, initial_stop_holds, initial_p, start_cap, stop_cap}
-use Rattle.uc_model.specs.StartCategory.{category_holds_at}
+use Rattle.uc_model.specs.StartCategory.{category_count, category_holds_at}
 use Rattle.uc_model.specs.Schedule.{thermal_unit, thermal_count, renewable_unit, renewable_count, demand_at, reserve_at}
 use Rattle.uc_model.specs.PrintedSchedule.{cell_at}
 use Rattle.uc_model.specs.Rules as model
@@ -16,7 +16,9 @@ use Rattle.uc_model.specs.declared.instance.Instance.{Instance}
 use Rattle.uc_model.specs.declared.instance.Renewable.{Renewable}
 use Rattle.uc_model.specs.declared.schedule.Cell.{Cell}
 use Rattle.uc_model.specs.declared.schedule.Printed.{Printed}
+use Rattle.schedule_check.specs.FirstBroken.{HoldsThroughout, FailsFirst}
 use Rattle.schedule_check.specs.SizedNumbers.{IsSizedCell, output_at}
+use Rattle.schedule_check.specs.declared.broken.Broken.{Broken}
 use Rattle.schedule_check.specs.declared.unit_rule.UnitRule.{UnitRule}
 use Rattle.schedule_check.specs.declared.unit_rule.UnitRule.TheVariants.{MustRun, InitialUp, InitialDown, MinimumUp, MinimumDown, Category, InitialStop, Production, StartCap, StopCap, RampUp, RampDown}
 
@@ -145,3 +147,20 @@ holds_at model.RampDown instance printed g t = unit_holds RampDown instance.peri
 holds_at model.RenewableRange instance printed w t = renewable_range_at instance printed w t
 holds_at model.Demand instance printed _ t = demand_holds instance printed t
 holds_at model.Reserve instance printed _ t = reserve_holds instance printed t
+
+-- the first place at which a printed schedule breaks a rule in whole watts, or none where it keeps them all
+abbrev pub IsFirstBrokenOf : Instance → Printed → Option Broken → Type 0
+IsFirstBrokenOf instance printed None = (rule : model.Rule) → HoldsThroughout instance (λ r. holds_at r instance printed) rule
+IsFirstBrokenOf instance printed (Some broken) = FailsFirst instance (λ r. holds_at r instance printed) broken
+
+-- the same of the rules on thermal units, which come first
+abbrev pub IsFirstUnitBroken : Instance → Printed → Option Broken → Type 0
+IsFirstUnitBroken instance printed None = (rule : UnitRule) → HoldsThroughout instance (λ r. holds_at r instance printed) (rule_of rule)
+IsFirstUnitBroken instance printed (Some broken) = FailsFirst instance (λ r. holds_at r instance printed) broken
+
+-- ---- the cost
+-- a cell can be priced: its output lies on the hull where it is on, and its category is one of the unit's
+pub record HasPrice (unit : Thermal) (cell : Cell) : Type 0 where
+  pub low : cell.on ≡ true → pos 0 ≤ℤ cell.p
+  pub high : cell.on ≡ true → cell.p ≤ℤ width unit.points
+  pub category : cell.category ≤ category_count unit

@@ -1,8 +1,7 @@
 -- A count is at most its index, and the next one is one more where there is a change.
-use Rattle.std.proofs.Common.{◌≡◌, ◌≤◌, subst, sym, ap, arith, ◌∙◌, length}
-use mir.Val.{bool_byte}
+use Rattle.std.proofs.Common.{◌≤◌, subst, sym, arith, ◌∙◌}
 use Rattle.std.proofs.lemmas.List.{length-set}
-use Rattle.schedule_check.specs.inside.Changes.{change_at, count_below}
+use Rattle.schedule_check.specs.inside.Changes.{change_at}
 use Rattle.schedule_check.specs.inside.WholeWatts.{commitment}
 use Rattle.schedule_check.proofs.Counting.{count-le, counted, byte_is, one_more}
 use Rattle.schedule_check.proofs.counts.Counts.of.Goals as goal

@@ -1,0 +1,188 @@
+-- From the first place of one rule to the first of all, in their order; and from whole watts to what they stand for.
+use Rattle.std.proofs.Common.{◌≡◌, ℕ, ◌-◌, ◌<◌, ◌≤◌, Bool, refl, sym, subst, ◌∙◌, arith}
+use Rattle.std.specs.Prelude.{IsTrue}
+use Rattle.uc_model.specs.Rules as model
+use Rattle.uc_model.specs.Rules.{Obeys}
+use Rattle.uc_model.specs.Schedule.{thermal_unit, thermal_count}
+use Rattle.uc_model.specs.PrintedSchedule.{printed_denominator, printed_schedule}
+use Rattle.uc_model.specs.Limits.{IsLawfulInstance}
+use Rattle.uc_model.specs.declared.instance.Instance.{Instance}
+use Rattle.uc_model.specs.declared.schedule.Printed.{Printed}
+use Rattle.uc_model.proofs.Tests.{all_below-from}
+use Rattle.schedule_check.specs.FirstBroken.{HoldsThroughout, FailsFirst, IsFirstBroken}
+use Rattle.schedule_check.specs.declared.broken.Broken.{Broken}
+use Rattle.schedule_check.specs.declared.broken.Place.{Place}
+use Rattle.schedule_check.specs.declared.unit_rule.UnitRule.{UnitRule}
+use Rattle.schedule_check.specs.declared.unit_rule.UnitRule.TheVariants.{MustRun, InitialUp, InitialDown, MinimumUp, MinimumDown, Category, InitialStop, Production, StartCap, StopCap, RampUp, RampDown}
+use Rattle.schedule_check.specs.inside.Failures.{FailsFirstIn}
+use Rattle.schedule_check.specs.inside.WholeWatts.{holds_at, rule_of, row_of, unit_holds, unit_periods}
+use Rattle.schedule_check.proofs.RuleOrder.{tried, number-tried, tried-number, number_some}
+use Rattle.schedule_check.proofs.SameRules.{AllProduced, same_rule}
+use Rattle.schedule_check.proofs.Produced.{denominator_positive}
+
+-- the rules on a printed schedule
+abbrev pub watts : Instance → Printed → model.Rule → ℕ → ℕ → Bool
+watts instance printed rule = holds_at rule instance printed
+
+-- ---- the rules on thermal units
+-- those before the one in turn
+pub earlier_tried : (instance : Instance) (printed : Printed) (turn : ℕ) → turn < 12
+    → ((k : ℕ) → k < turn → HoldsThroughout instance (watts instance printed) (rule_of (tried k)))
+    → (earlier : model.Rule) → model.rule_number earlier < model.rule_number (rule_of (tried turn)) → HoldsThroughout instance (watts instance printed) earlier
+earlier_tried instance printed turn within before earlier less =
+    let here = number-tried turn within in
+    let some = number_some earlier in
+    subst (λ rule. HoldsThroughout instance (watts instance printed) rule) (tried-number earlier (omega (arith, less)))
+    (before (model.rule_number earlier - 1) (omega (arith, less)))
+
+-- all of them, after the last turn
+pub all_tried : (instance : Instance) (printed : Printed) (turn : ℕ) → 12 ≤ turn
+    → ((k : ℕ) → k < turn → HoldsThroughout instance (watts instance printed) (rule_of (tried k)))
+    → (rule : model.Rule) → model.rule_number rule < 13 → HoldsThroughout instance (watts instance printed) rule
+all_tried instance printed turn last before rule less =
+    let some = number_some rule in
+    subst (λ r. HoldsThroughout instance (watts instance printed) r) (tried-number rule less) (before (model.rule_number rule - 1) (omega arith))
+
+-- what the rules on thermal units say, and of how many units and periods
+same_unit : (rule : UnitRule) (instance : Instance) (printed : Printed) (g t : ℕ)
+    → watts instance printed (rule_of rule) g t ≡ unit_holds rule instance.periods (thermal_unit instance g) (row_of printed g) t
+same_unit MustRun instance printed g t = refl
+same_unit InitialUp instance printed g t = refl
+same_unit InitialDown instance printed g t = refl
+same_unit MinimumUp instance printed g t = refl
+same_unit MinimumDown instance printed g t = refl
+same_unit Category instance printed g t = refl
+same_unit InitialStop instance printed g t = refl
+same_unit Production instance printed g t = refl
+same_unit StartCap instance printed g t = refl
+same_unit StopCap instance printed g t = refl
+same_unit RampUp instance printed g t = refl
+same_unit RampDown instance printed g t = refl
+
+units_of : (rule : UnitRule) (instance : Instance) → model.rule_units (rule_of rule) instance ≡ thermal_count instance
+units_of MustRun instance = refl
+units_of InitialUp instance = refl
+units_of InitialDown instance = refl
+units_of MinimumUp instance = refl
+units_of MinimumDown instance = refl
+units_of Category instance = refl
+units_of InitialStop instance = refl
+units_of Production instance = refl
+units_of StartCap instance = refl
+units_of StopCap instance = refl
+units_of RampUp instance = refl
+units_of RampDown instance = refl
+
+periods_of : (rule : UnitRule) (instance : Instance) → model.rule_periods (rule_of rule) instance ≡ unit_periods rule instance.periods
+periods_of MustRun instance = refl
+periods_of InitialUp instance = refl
+periods_of InitialDown instance = refl
+periods_of MinimumUp instance = refl
+periods_of MinimumDown instance = refl
+periods_of Category instance = refl
+periods_of InitialStop instance = refl
+periods_of Production instance = refl
+periods_of StartCap instance = refl
+periods_of StopCap instance = refl
+periods_of RampUp instance = refl
+periods_of RampDown instance = refl
+
+-- a rule on thermal units that is broken nowhere
+pub unit_throughout : (rule : UnitRule) (instance : Instance) (printed : Printed)
+    → ((g t : ℕ) → g < thermal_count instance → t < unit_periods rule instance.periods
+    → IsTrue (unit_holds rule instance.periods (thermal_unit instance g) (row_of printed g) t))
+    → HoldsThroughout instance (watts instance printed) (rule_of rule)
+unit_throughout rule instance printed all g t hg ht =
+    same_unit rule instance printed g t
+    ∙ all g t (subst (λ n. g < n) (units_of rule instance) hg) (subst (λ n. t < n) (periods_of rule instance) ht)
+
+-- one that is broken first there
+pub unit_fails : (rule : UnitRule) (instance : Instance) (printed : Printed) (place : Place) (number : ℕ)
+    → FailsFirstIn (thermal_count instance) (unit_periods rule instance.periods)
+    (λ g t. unit_holds rule instance.periods (thermal_unit instance g) (row_of printed g) t) place
+    → number ≡ model.rule_number (rule_of rule)
+    → ((earlier : model.Rule) → model.rule_number earlier < model.rule_number (rule_of rule) → HoldsThroughout instance (watts instance printed) earlier)
+    → FailsFirst instance (watts instance printed) (record { rule = number; unit = place.unit; period = place.period })
+unit_fails rule instance printed place number first is earlier = record {
+  rule = rule_of rule;
+  number = is;
+  unit = subst (λ n. place.unit < n) (sym (units_of rule instance)) first.unit;
+  period = subst (λ n. place.period < n) (sym (periods_of rule instance)) first.period.within;
+  fails = same_unit rule instance printed place.unit place.period ∙ first.period.fails;
+  rules = earlier;
+  units = λ g t hg ht. same_unit rule instance printed g t ∙ first.before g t hg (subst (λ n. t < n) (periods_of rule instance) ht);
+  periods = λ t ht. same_unit rule instance printed place.unit t ∙ first.period.before t ht;
+}
+
+-- ---- the other rules
+-- a fact of the first twelve, and of the 13th to the 15th where they are below a number, is one of all below it
+pub of_below : (P : model.Rule → Type 0) → ((rule : model.Rule) → model.rule_number rule < 13 → P rule) → (limit : ℕ)
+    → (13 < limit → P model.RenewableRange) → (14 < limit → P model.Demand) → (15 < limit → P model.Reserve)
+    → (rule : model.Rule) → model.rule_number rule < limit → P rule
+of_below P first limit renewable demand reserve model.MustRun h = first model.MustRun (omega arith)
+of_below P first limit renewable demand reserve model.InitialUp h = first model.InitialUp (omega arith)
+of_below P first limit renewable demand reserve model.InitialDown h = first model.InitialDown (omega arith)
+of_below P first limit renewable demand reserve model.MinimumUp h = first model.MinimumUp (omega arith)
+of_below P first limit renewable demand reserve model.MinimumDown h = first model.MinimumDown (omega arith)
+of_below P first limit renewable demand reserve model.Category h = first model.Category (omega arith)
+of_below P first limit renewable demand reserve model.InitialStop h = first model.InitialStop (omega arith)
+of_below P first limit renewable demand reserve model.Production h = first model.Production (omega arith)
+of_below P first limit renewable demand reserve model.StartCap h = first model.StartCap (omega arith)
+of_below P first limit renewable demand reserve model.StopCap h = first model.StopCap (omega arith)
+of_below P first limit renewable demand reserve model.RampUp h = first model.RampUp (omega arith)
+of_below P first limit renewable demand reserve model.RampDown h = first model.RampDown (omega arith)
+of_below P first limit renewable demand reserve model.RenewableRange h = renewable h
+of_below P first limit renewable demand reserve model.Demand h = demand h
+of_below P first limit renewable demand reserve model.Reserve h = reserve h
+
+-- a rule on the system that holds in each period
+pub system_throughout : (rule : model.Rule) (instance : Instance) (printed : Printed) → model.rule_periods rule instance ≡ instance.periods
+    → ((t : ℕ) → t < instance.periods → (g : ℕ) → IsTrue (watts instance printed rule g t)) → HoldsThroughout instance (watts instance printed) rule
+system_throughout rule instance printed periods all g t hg ht = all t (subst (λ n. t < n) periods ht) g
+
+-- ---- from whole watts to what they stand for
+-- in every cell M8 holds, where it is an earlier rule
+produced_before : (instance : Instance) (printed : Printed) (rule : model.Rule)
+    → ((earlier : model.Rule) → model.rule_number earlier < model.rule_number rule → HoldsThroughout instance (watts instance printed) earlier)
+    → 8 < model.rule_number rule → AllProduced instance printed
+produced_before instance printed rule earlier above g t hg ht = earlier model.Production above g t hg ht
+
+-- the schedule that a printed one stands for, rule by rule
+abbrev pub stands : Instance → Printed → model.Rule → ℕ → ℕ → Bool
+stands instance printed rule = model.holds_at rule instance (printed_denominator instance printed) (printed_schedule instance printed (printed_denominator instance printed))
+
+throughout_stands : (instance : Instance) (printed : Printed) (rule : model.Rule) → IsLawfulInstance instance
+    → (8 < model.rule_number rule → AllProduced instance printed) → HoldsThroughout instance (watts instance printed) rule
+    → HoldsThroughout instance (stands instance printed) rule
+throughout_stands instance printed rule lawful made all g t hg ht =
+    same_rule rule instance printed g t lawful (record { unit = hg; period = ht }) made ∙ all g t hg ht
+
+-- what fails first in whole watts is what the schedule breaks first
+pub first_stands : (instance : Instance) (printed : Printed) (broken : Broken) → IsLawfulInstance instance
+    → FailsFirst instance (watts instance printed) broken
+    → IsFirstBroken instance (printed_denominator instance printed) (printed_schedule instance printed (printed_denominator instance printed)) broken
+first_stands instance printed broken lawful first =
+    let made = produced_before instance printed first.rule first.rules in
+    record {
+      rule = first.rule;
+      number = first.number;
+      unit = first.unit;
+      period = first.period;
+      fails = same_rule first.rule instance printed broken.unit broken.period lawful (record { unit = first.unit; period = first.period }) made ∙ first.fails;
+      rules = λ earlier less. throughout_stands instance printed earlier lawful
+          (λ above. made (omega (arith, above, less))) (first.rules earlier less);
+      units = λ g t hg ht. same_rule first.rule instance printed g t lawful (record { unit = omega (arith, hg, first.unit); period = ht }) made ∙ first.units g t hg ht;
+      periods = λ t ht. same_rule first.rule instance printed broken.unit t lawful
+          (record { unit = first.unit; period = omega (arith, ht, first.period) }) made ∙ first.periods t ht;
+    }
+
+-- and where nothing fails the schedule obeys
+pub obeys_stands : (instance : Instance) (printed : Printed) → IsLawfulInstance instance
+    → ((rule : model.Rule) → HoldsThroughout instance (watts instance printed) rule)
+    → Obeys instance (printed_denominator instance printed) (printed_schedule instance printed (printed_denominator instance printed))
+obeys_stands instance printed lawful all = record {
+  denominator = denominator_positive instance printed;
+  rules = λ rule.
+      let here = throughout_stands instance printed rule lawful (λ above g t hg ht. all model.Production g t hg ht) (all rule) in
+      all_below-from (model.rule_units rule instance) _ (λ g hg. all_below-from (model.rule_periods rule instance) _ (λ t ht. here g t hg ht));
+}

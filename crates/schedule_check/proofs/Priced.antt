@@ -1,0 +1,48 @@
+-- The cells of a schedule that obeys can be priced: by M8 an output lies on the hull, and by M6 a category is one of the
+-- unit's.
+use Rattle.std.proofs.Common.{◌≡◌, ℕ, zero, suc, ◌<◌, ◌≤◌, ⊎_elim, false, ◌∙◌, sym, arith}
+use Rattle.std.specs.Prelude.{IsTrue, nat_lt, ◌==◌}
+use Rattle.std.proofs.lemmas.Bool.{and_parts, or_cases, cases_Bool, cond-true, cond-false, eqb-true, ltb-true}
+use Rattle.uc_model.specs.Commitment.{Commitment, starts}
+use Rattle.uc_model.specs.StartCategory.{category_count, is_category_allowed, category_holds_at}
+use Rattle.uc_model.specs.Schedule.{thermal_unit, thermal_count}
+use Rattle.uc_model.specs.Rules.{Category, Production, Obeys}
+use Rattle.uc_model.specs.PrintedSchedule.{cell_at, printed_denominator, printed_schedule}
+use Rattle.uc_model.specs.Limits.{IsLawfulInstance}
+use Rattle.uc_model.specs.declared.instance.Thermal.{Thermal}
+use Rattle.uc_model.specs.declared.instance.Instance.{Instance}
+use Rattle.uc_model.specs.declared.schedule.Printed.{Printed}
+use Rattle.uc_model.proofs.Obeyed.{rule_at}
+use Rattle.schedule_check.specs.inside.WholeWatts.{HasPrice, row_of}
+use Rattle.schedule_check.proofs.Produced.{holds_from}
+use Rattle.schedule_check.proofs.SameRules.{production-is}
+
+allowed-within : (unit : Thermal) (on : Commitment) (s t : ℕ) → IsTrue (is_category_allowed unit on s t) → s ≤ category_count unit
+allowed-within unit on zero t h = omega arith
+allowed-within unit on (suc s) t h =
+    ⊎_elim
+    (λ (last : IsTrue (suc s == category_count unit)). let e = eqb-true (suc s) (category_count unit) last in omega arith)
+    (λ rest. let l = ltb-true (suc s) (category_count unit) (and_parts (nat_lt (suc s) (category_count unit)) _ rest).0 in omega arith)
+    (or_cases (suc s == category_count unit) _ h)
+
+category-within : (unit : Thermal) (on : Commitment) (category : ℕ → ℕ) (t : ℕ) → IsTrue (category_holds_at unit on category t) → category t ≤ category_count unit
+category-within unit on category t h =
+    ⊎_elim
+    (λ (start : IsTrue (starts unit on t)). allowed-within unit on (category t) t (sym (cond-true _ _ _ start) ∙ h))
+    (λ (none : starts unit on t ≡ false).
+    let nought = eqb-true (category t) 0 (sym (cond-false _ _ _ none) ∙ h) in omega arith)
+    (cases_Bool (starts unit on t))
+
+pub priced : (instance : Instance) (printed : Printed) → IsLawfulInstance instance
+    → Obeys instance (printed_denominator instance printed) (printed_schedule instance printed (printed_denominator instance printed))
+    → (g t : ℕ) → g < thermal_count instance → t < instance.periods → HasPrice (thermal_unit instance g) (cell_at printed g t)
+priced instance printed lawful obeys g t hg ht =
+    let q = printed_denominator instance printed in
+    let x = printed_schedule instance printed q in
+    let made = sym (production-is instance printed g t lawful hg ht) ∙ rule_at instance q x obeys Production g t hg ht in
+    let holds = holds_from (thermal_unit instance g) (row_of printed g) t made in
+    record {
+      low = holds.low;
+      high = holds.high;
+      category = category-within (thermal_unit instance g) (x.thermal g).on (x.thermal g).category t (rule_at instance q x obeys Category g t hg ht);
+    }

@@ -1,0 +1,110 @@
+-- The rules on thermal units are the first twelve of the model's, in the order in which they are tried.
+use Rattle.std.proofs.Common.{◌≡◌, ℕ, zero, suc, ◌-◌, ◌<◌, refl, arith, get_or}
+use Rattle.uc_model.specs.Rules as model
+use Rattle.schedule_check.specs.inside.WholeWatts.{rule_of}
+use Rattle.schedule_check.specs.declared.unit_rule.TheConstants.{UNIT_RULES}
+use Rattle.schedule_check.specs.declared.unit_rule.UnitRule.{UnitRule}
+use Rattle.schedule_check.specs.declared.unit_rule.UnitRule.TheVariants.{MustRun, InitialUp, InitialDown, MinimumUp, MinimumDown, Category, InitialStop, Production, StartCap, StopCap, RampUp, RampDown}
+
+-- the rule tried in turn k, from 0
+abbrev pub tried : ℕ → UnitRule
+tried k = get_or UNIT_RULES k MustRun
+
+pub number-tried : (k : ℕ) → k < 12 → model.rule_number (rule_of (tried k)) ≡ suc k
+number-tried zero h = refl
+number-tried (suc zero) h = refl
+number-tried (suc (suc zero)) h = refl
+number-tried (suc (suc (suc zero))) h = refl
+number-tried (suc (suc (suc (suc zero)))) h = refl
+number-tried (suc (suc (suc (suc (suc zero))))) h = refl
+number-tried (suc (suc (suc (suc (suc (suc zero)))))) h = refl
+number-tried (suc (suc (suc (suc (suc (suc (suc zero))))))) h = refl
+number-tried (suc (suc (suc (suc (suc (suc (suc (suc zero)))))))) h = refl
+number-tried (suc (suc (suc (suc (suc (suc (suc (suc (suc zero))))))))) h = refl
+number-tried (suc (suc (suc (suc (suc (suc (suc (suc (suc (suc zero)))))))))) h = refl
+number-tried (suc (suc (suc (suc (suc (suc (suc (suc (suc (suc (suc zero))))))))))) h = refl
+number-tried (suc (suc (suc (suc (suc (suc (suc (suc (suc (suc (suc (suc k)))))))))))) h = absurd (omega arith)
+
+-- the turn of a rule is its number less 1
+pub tried-number : (rule : model.Rule) → model.rule_number rule < 13 → rule_of (tried (model.rule_number rule - 1)) ≡ rule
+tried-number model.MustRun h = refl
+tried-number model.InitialUp h = refl
+tried-number model.InitialDown h = refl
+tried-number model.MinimumUp h = refl
+tried-number model.MinimumDown h = refl
+tried-number model.Category h = refl
+tried-number model.InitialStop h = refl
+tried-number model.Production h = refl
+tried-number model.StartCap h = refl
+tried-number model.StopCap h = refl
+tried-number model.RampUp h = refl
+tried-number model.RampDown h = refl
+tried-number model.RenewableRange h = absurd (omega arith)
+tried-number model.Demand h = absurd (omega arith)
+tried-number model.Reserve h = absurd (omega arith)
+
+pub number_below : (rule : model.Rule) → model.rule_number rule < 16
+number_below model.MustRun = omega arith
+number_below model.InitialUp = omega arith
+number_below model.InitialDown = omega arith
+number_below model.MinimumUp = omega arith
+number_below model.MinimumDown = omega arith
+number_below model.Category = omega arith
+number_below model.InitialStop = omega arith
+number_below model.Production = omega arith
+number_below model.StartCap = omega arith
+number_below model.StopCap = omega arith
+number_below model.RampUp = omega arith
+number_below model.RampDown = omega arith
+number_below model.RenewableRange = omega arith
+number_below model.Demand = omega arith
+number_below model.Reserve = omega arith
+
+pub number_some : (rule : model.Rule) → 0 < model.rule_number rule
+number_some model.MustRun = omega arith
+number_some model.InitialUp = omega arith
+number_some model.InitialDown = omega arith
+number_some model.MinimumUp = omega arith
+number_some model.MinimumDown = omega arith
+number_some model.Category = omega arith
+number_some model.InitialStop = omega arith
+number_some model.Production = omega arith
+number_some model.StartCap = omega arith
+number_some model.StopCap = omega arith
+number_some model.RampUp = omega arith
+number_some model.RampDown = omega arith
+number_some model.RenewableRange = omega arith
+number_some model.Demand = omega arith
+number_some model.Reserve = omega arith
+
+-- a fact of the rules on thermal units is one of the first twelve
+pub of_first : (P : model.Rule → Type 0) → ((rule : UnitRule) → P (rule_of rule)) → (rule : model.Rule) → model.rule_number rule < 13 → P rule
+of_first P each model.MustRun h = each MustRun
+of_first P each model.InitialUp h = each InitialUp
+of_first P each model.InitialDown h = each InitialDown
+of_first P each model.MinimumUp h = each MinimumUp
+of_first P each model.MinimumDown h = each MinimumDown
+of_first P each model.Category h = each Category
+of_first P each model.InitialStop h = each InitialStop
+of_first P each model.Production h = each Production
+of_first P each model.StartCap h = each StartCap
+of_first P each model.StopCap h = each StopCap
+of_first P each model.RampUp h = each RampUp
+of_first P each model.RampDown h = each RampDown
+of_first P each model.RenewableRange h = absurd (omega arith)
+of_first P each model.Demand h = absurd (omega arith)
+of_first P each model.Reserve h = absurd (omega arith)
+
+pub number_unit : (rule : UnitRule) → model.rule_number (rule_of rule) < 13
+number_unit MustRun = omega arith
+number_unit InitialUp = omega arith
+number_unit InitialDown = omega arith
+number_unit MinimumUp = omega arith
+number_unit MinimumDown = omega arith
+number_unit Category = omega arith
+number_unit InitialStop = omega arith
+number_unit Production = omega arith
+number_unit StartCap = omega arith
+number_unit StopCap = omega arith
+number_unit RampUp = omega arith
+number_unit RampDown = omega arith

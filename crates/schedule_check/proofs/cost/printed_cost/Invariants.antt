@@ -1,0 +1,14 @@
+-- The sum over the units so far, and its size.
+use Rattle.std.proofs.Common.{◌≡◌, ◌*◌, ◌≤◌}
+use Rattle.std.specs.Prelude.{unsigned_abs}
+use Rattle.uc_model.specs.Sums.{sum_below}
+use Rattle.uc_model.specs.Schedule.{thermal_unit}
+use Rattle.uc_model.specs.PrintedSchedule.{cell_at, printed_cell_cost}
+use Rattle.schedule_check.specs.declared.cost.TheConstants.{MOST_PERIODS, MOST_CELL_COST}
+use Rattle.schedule_check.proofs.cost.printed_cost.Given as goal
+
+abbrev pub invariant-loop-g : goal.invariant-loop-g
+invariant-loop-g l = record {
+  value : l.total ≡ sum_below l.g (λ g. sum_below l.instance.periods (λ t. printed_cell_cost (thermal_unit l.instance g) 1 (cell_at l.printed g t)));
+  size : unsigned_abs l.total ≤ l.g * (MOST_PERIODS * MOST_CELL_COST);
+}

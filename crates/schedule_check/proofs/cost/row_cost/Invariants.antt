@@ -1,0 +1,14 @@
+-- The sum over the periods so far, and its size.
+use Rattle.std.proofs.Common.{◌≡◌, ◌*◌, ◌≤◌}
+use Rattle.std.specs.Prelude.{unsigned_abs}
+use Rattle.uc_model.specs.Sums.{sum_below}
+use Rattle.uc_model.specs.PrintedSchedule.{printed_cell_cost}
+use Rattle.schedule_check.specs.inside.WholeWatts.{cell}
+use Rattle.schedule_check.specs.declared.cost.TheConstants.{MOST_CELL_COST}
+use Rattle.schedule_check.proofs.cost.row_cost.Given as goal
+
+abbrev pub invariant-loop-t : goal.invariant-loop-t
+invariant-loop-t l = record {
+  value : l.total ≡ sum_below l.t (λ t. printed_cell_cost l.unit 1 (cell l.row t));
+  size : unsigned_abs l.total ≤ l.t * MOST_CELL_COST;
+}

@@ -1,0 +1,31 @@
+-- The cells of a schedule that obeys can be priced, and its printed cost fits 64 bits.
+use Rattle.std.proofs.Common.{◌≡◌, ◌≤◌, sym, ap, subst, ◌∙◌, arith, to_z, of_z}
+use Rattle.std.specs.Prelude.{unsigned_abs}
+use Rattle.std.specs.Int.{w64, w128}
+use Rattle.std.proofs.lemmas.Int.{fits_signed_from_abs}
+use Rattle.uc_model.specs.declared.limits.TheConstants.{COST_MAX}
+use Rattle.uc_model.specs.PrintedSchedule.{printed_denominator}
+use Rattle.uc_model.proofs.PrintedCosts.{printed_cost-fits}
+use Rattle.uc_model.proofs.Sizes.{wide, narrow}
+use Rattle.schedule_check.proofs.Priced.{priced}
+use Rattle.schedule_check.proofs.feasibility.cost.Goals as goal
+
+pub printed_cost-requires-clause-prices : goal.printed_cost-requires-clause-prices
+printed_cost-requires-clause-prices c = priced c.args.instance.now c.args.printed.now c.requires.lawful c.requires.obeys
+
+size : (c : goal.After-printed_cost) → unsigned_abs c.printed_cost.result ≤ COST_MAX
+size c =
+    subst (λ z. unsigned_abs z ≤ COST_MAX) (sym c.printed_cost.ensures)
+    (printed_cost-fits c.args.instance.now c.args.printed.now (printed_denominator c.args.instance.now c.args.printed.now) c.requires.lawful c.requires.obeys)
+
+same : (c : goal.After-printed_cost) → to_z w128 (of_z w128 c.printed_cost.result) ≡ c.printed_cost.result
+same c = let small = size c in wide c.printed_cost.result COST_MAX small (omega arith)
+
+pub overflow_cast-result : goal.overflow_cast-result
+overflow_cast-result c =
+    let small = subst (λ z. unsigned_abs z ≤ COST_MAX) (sym (same c)) (size c) in
+    fits_signed_from_abs w64 (to_z w128 (of_z w128 c.printed_cost.result)) (omega (arith, small))
+
+pub returns : goal.returns
+returns c =
+    ap (λ z. to_z w64 (of_z w64 z)) (same c) ∙ narrow c.printed_cost.result COST_MAX (size c) (omega arith) ∙ c.printed_cost.ensures
