@@ -15,6 +15,7 @@ use uc_model::{Cell, Instance, Printed, Thermal, sum};
 
 /// The most periods, and the most units of a kind.
 const MOST_PERIODS: u64 = 168;
+
 const MOST_UNITS: u64 = 4096;
 
 /// More than a cell's cost: twice the greatest 64-bit number.
