@@ -46,7 +46,8 @@ fn unit_cost(instance: &Instance, printed: &Printed, g: usize) -> i128
     ensures size { unsigned_abs result ≤ MOST_PERIODS * MOST_CELL_COST }
 {
     let unit = &instance.thermal.as_slice()[g];
-    let curve = InlineCurve::of(unit.points.as_slice());
+    let points = unit.points.as_slice();
+    let curve = InlineCurve::of(points);
     row_cost(unit, &curve, printed.thermal.as_slice()[g].as_slice())
 }
 
