@@ -1,4 +1,10 @@
+pub mod NumberedTree
+pub mod TreeView
+pub mod TreeCode
+pub mod Places
 pub mod StoredTree
+pub mod TreeLaws
+pub mod UsedTables
 pub mod Closing
 pub mod Claims
 pub mod SearchResult

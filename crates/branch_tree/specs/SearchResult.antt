@@ -6,7 +6,7 @@ use Rattle.uc_model.specs.declared.instance.Instance.{Instance}
 use Rattle.dual_model.specs.Prices.{IsLawfulTable}
 use Rattle.dual_model.specs.Fixings.{HasNoPattern}
 use Rattle.dual_model.specs.NodeValue.{IsNodeValue}
-use Rattle.dual_model.specs.Tree.{root}
+use Rattle.dual_model.specs.Tree.{Ends, root}
 use Rattle.dual_model.specs.Cover.{ReachesBoundOf}
 use Rattle.dual_model.specs.Certificate.{CertificateHolds}
 use Rattle.dual_model.specs.Opening.{zero_table}
@@ -18,8 +18,9 @@ use Rattle.branch_tree.specs.declared.found.Outcome.{Outcome}
 use Rattle.branch_tree.specs.declared.found.Outcome.TheVariants.{Value, Empty}
 use Rattle.branch_tree.specs.declared.tree.Leaf.TheVariants as leaf
 use Rattle.branch_tree.specs.declared.tree.Tree.{Tree}
+use Rattle.branch_tree.specs.TreeView.{tree_of}
 use Rattle.branch_tree.specs.StoredTree.{IsNodeAt, tree_bound}
-use Rattle.branch_tree.specs.Claims.{HasLayout, used_tables, certificate_of}
+use Rattle.branch_tree.specs.Claims.{HasLayout, written_tables, certificate_of}
 
 -- unit g is the first of the instance that has no pattern at the node
 pub record IsFirstEmpty (instance : Instance) (node : Node) (g : ℕ) : Type 0 where
@@ -66,7 +67,7 @@ pub record IsFirstClaim (tree : Tree) (instance : Instance) (tables : List Table
 
 -- a root that isn't excluded holds the table of no prices, and its bound is at least the one of this table
 pub record IsOpened (instance : Instance) (found : Found) (bound : ℤ) : Type 0 where
-  pub stored : used_tables found ≡ zero_table instance ∷ []
+  pub stored : written_tables found ≡ zero_table instance ∷ []
   pub reached : ReachesBoundOf instance root (zero_table instance) bound
 
 -- what a search does that has one table and looks for no schedule
@@ -83,5 +84,5 @@ pub record IsSearchResult (instance : Instance) (budget : ℕ) (found : Found) :
   pub spent : tree_bound found.tree ≢ None → length found.log ≡ budget
   -- a unit without an allowed pattern excludes the root before any evaluation
   pub excluded : (g : ℕ) → IsFirstEmpty instance root g →
-      (found.tree.leaf ≡ leaf.Empty g) × (found.log ≡ [])
+      (tree_of found.tree ≡ Ends (leaf.Empty g)) × (found.log ≡ [])
   pub stage : IsFirstStage instance found

@@ -1,21 +1,19 @@
--- What the stored form of a search's tree means: a tree with a stored leaf at each end. This project's own form.
+-- The bounds that are stored at the leaves of a tree. This project's own form.
 use Rattle.std.specs.Prelude.{◌≡◌, ℕ, ℤ, Option, Some, None}
 use Rattle.std.specs.Int.{int_min}
-use Rattle.dual_model.specs.Tree.{Ends, Splits, root}
+use Rattle.dual_model.specs.Tree.{Ends, Splits}
 use Rattle.dual_model.specs.Tree as branch
 use Rattle.dual_model.specs.declared.node.Node.{Node}
+use Rattle.branch_tree.specs.NumberedTree.{node_at}
+use Rattle.branch_tree.specs.TreeView.{TreeView, tree_of}
 use Rattle.branch_tree.specs.declared.tree.Leaf.{Leaf}
 use Rattle.branch_tree.specs.declared.tree.Leaf.TheVariants as leaf
-use Rattle.branch_tree.specs.declared.tree.Tree.{Tree}
-
--- the tree that is stored
-abbrev pub tree_of : Tree → branch.Tree Leaf
-tree_of tree = Ends tree.leaf
+use Rattle.branch_tree.specs.declared.tree.Spot.{Spot}
+use Rattle.branch_tree.specs.declared.tree.Spot.TheVariants as spot
 
 -- the node that has this number: numbers count from 0, which is the root
-pub record IsNodeAt (tree : Tree) (number : ℕ) (node : Node) : Type 0 where
-  pub at_root : number ≡ 0
-  pub is_root : node ≡ root
+abbrev pub IsNodeAt : TreeView → ℕ → Node → Type 0
+IsNodeAt tree number node = node_at tree.nodes number ≡ Some node
 
 -- the bound that a leaf stores, where it isn't excluded
 abbrev pub leaf_bound : Leaf → Option ℤ
@@ -23,6 +21,11 @@ leaf_bound (leaf.Live table value) = Some value
 leaf_bound (leaf.Bound table value) = Some value
 leaf_bound (leaf.Ray table) = None
 leaf_bound (leaf.Empty g) = None
+
+-- the same of what stands at a node; a split stores none
+abbrev pub spot_bound : Spot → Option ℤ
+spot_bound (spot.Inner g t off on) = None
+spot_bound (spot.Leaf leaf) = leaf_bound leaf
 
 -- the lesser of two bounds, where there is one
 abbrev pub lesser_bound : Option ℤ → Option ℤ → Option ℤ
@@ -35,5 +38,5 @@ abbrev pub least_bound : branch.Tree Leaf → Option ℤ
 least_bound (Ends leaf) = leaf_bound leaf
 least_bound (Splits g t off on) = lesser_bound (least_bound off) (least_bound on)
 
-abbrev pub tree_bound : Tree → Option ℤ
+abbrev pub tree_bound : TreeView → Option ℤ
 tree_bound tree = least_bound (tree_of tree)

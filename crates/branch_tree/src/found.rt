@@ -3,6 +3,7 @@
 ghost use Rattle.std.specs.Prelude.{◌≡◌, ◌≤◌};
 ghost use Rattle.branch_tree.specs.Closing.{is_within_gap};
 
+use crate::layout::Layout;
 use crate::tree::Tree;
 use dual_model::Table;
 use uc_model::tolerance::{WHOLE_GAP, tolerance};
@@ -26,14 +27,6 @@ pub struct Entry {
     pub node: u32,
     pub table: u32,
     pub outcome: Outcome,
-}
-
-/// The order in which a tree is written: its nodes in preorder, and the tables that its leaves use in
-/// order of first use.
-#[derive(Debug, Drop)]
-pub struct Layout {
-    pub nodes: List<u32>,
-    pub tables: List<u32>,
 }
 
 /// What a search found: a schedule and its cost in micro-dollars where there is one, the tree, its tables,

@@ -1,10 +1,12 @@
 //! What a search found: its tree of commitments, the log of its evaluations and its schedule.
-//!
-//! The tree has one leaf for now.
 #![tactic(auto)]
 
 pub mod found;
+pub mod laws;
+pub mod layout;
+mod places;
 pub mod tree;
 
-pub use found::{Entry, Found, Layout, Outcome, is_within_gap};
-pub use tree::{Leaf, Tree};
+pub use found::{Entry, Found, Outcome, is_within_gap};
+pub use layout::Layout;
+pub use tree::{Leaf, Spot, Tree};

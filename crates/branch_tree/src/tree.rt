@@ -1,6 +1,10 @@
 //! The tree of commitments.
 
-ghost use Rattle.std.specs.Prelude.{◌≡◌};
+use crate::places::{self, Place};
+use dual_model::Node;
+use std::alloc::Global;
+use std::marker::Model;
+use uc_model::{List, NoMemory};
 
 /// A leaf of the tree. Tables are numbers of `Found`'s list, from 0; values are micro-dollars.
 #[derive(Clone, Copy, Debug, PartialEq, Eq)]
@@ -15,29 +19,119 @@ pub enum Leaf {
     Empty { g: u32 },
 }
 
-/// A tree of one leaf, at which nothing is decided.
+/// What stands at a node.
+#[derive(Clone, Copy, Debug, PartialEq, Eq)]
+pub enum Spot {
+    /// A split on thermal unit `g` and period `t`, each from 0, into the children of these numbers.
+    Inner { g: u32, t: u32, off: u32, on: u32 },
+    /// A leaf.
+    Leaf(Leaf),
+}
+
+/// A tree of splits on thermal units and periods. Its nodes have the numbers from 0, which is the root.
+///
+/// Contracts see it as the view of `specs/TreeView`: a tree whose nodes have their numbers, with its size and
+/// its room.
 #[derive(Debug, Drop)]
 pub struct Tree {
-    pub leaf: Leaf,
+    units: u32,
+    periods: u32,
+    places: Vec<Place>,
+}
+
+impl Model for Tree {
+    ghost use Rattle.branch_tree.specs.TreeView.{TreeView};
+    ghost use Rattle.branch_tree.specs.TreeCode.{tree_view_code};
+
+    ghost Value = { TreeView };
+
+    ghost coded = { tree_view_code };
+
+    ghost use Rattle.branch_tree.specs.Places.{view_of, IsStored};
+
+    ghost view = { view_of };
+
+    ghost invariant = { IsStored };
 }
 
 impl Tree {
+    ghost use Rattle.std.specs.Prelude.{◌≡◌, ◌+◌, ◌<◌, ◌≤◌, suc, max, pos, Some, IfOk};
+    ghost use Rattle.branch_tree.specs.NumberedTree.{EndAt, node_count, spot_at, node_at, replaced, split_leaf};
+    ghost use Rattle.branch_tree.specs.TreeView.{TreeView, IsWhole, IsOpenAt, IsFreeAt, open_root};
     ghost use Rattle.branch_tree.specs.StoredTree.{tree_bound};
 
-    /// The tree of this leaf alone, which is its root.
-    pub fn of_leaf(leaf: Leaf) -> Tree
-        ensures { result ≡ record { leaf = leaf } }
+    /// A tree of its root alone, which is open, of table 0 and value 0. It splits on the cells of `units`
+    /// thermal units and `periods` periods, and has room for `nodes` nodes, or for the root where this is 0.
+    pub fn with_room(alloc: Global, units: u32, periods: u32, nodes: u32) -> Result<Tree, NoMemory>
+        ensures tree { IfOk result (λ tree. tree ≡ open_root units periods (max nodes 1)) }
+        ensures whole { IfOk result IsWhole }
     {
-        Tree { leaf }
+        let mut places = Vec::with_capacity(alloc, nodes.max(1) as usize)?;
+        let leaf = Leaf::Live { table: 0, value: 0 };
+        places.push_reserved(Place {
+            parent: 0,
+            spot: Spot::Leaf(leaf),
+        });
+        Ok(Tree {
+            units,
+            periods,
+            places,
+        })
+    }
+
+    /// What every tree keeps: it is a cover of each instance of its size, its nodes have the numbers from 0, and
+    /// there is room for them. The contract of a call that does nothing.
+    pub fn keeps_cover(&self)
+        ensures { IsWhole self.now }
+    {
+        let _places = &self.places;
+    }
+
+    /// Splits an open leaf on thermal unit `g` and period `t`, each from 0, and answers the numbers of its
+    /// off-child and of its on-child. Both are open, with the table and the value of the leaf.
+    pub fn split(&mut self, node: u32, g: u32, t: u32) -> (u32, u32)
+        requires live { IsOpenAt self.old.nodes node }
+        requires free { IsFreeAt self.old node g t }
+        requires room { node_count self.old.nodes + 2 ≤ self.old.room }
+        ensures children { (result.0 ≡ node_count self.old.nodes) × (result.1 ≡ suc (node_count self.old.nodes)) }
+        ensures tree { self.new ≡ record self.old { nodes = replaced node (split_leaf node g t result.0 result.1) self.old.nodes } }
+        ensures whole { IsWhole self.new }
+    {
+        places::split(&mut self.places, node, g, t)
+    }
+
+    /// Stores another leaf at an open one, which stays open where the new one is `Live`.
+    pub fn close(&mut self, node: u32, leaf: Leaf)
+        requires live { IsOpenAt self.old.nodes node }
+        ensures tree { self.new ≡ record self.old { nodes = replaced node (λ _. EndAt node leaf) self.old.nodes } }
+        ensures whole { IsWhole self.new }
+    {
+        places::store(&mut self.places, node, leaf);
     }
 
     /// The least bound stored at a leaf that isn't excluded, in micro-dollars; none where each leaf is.
     pub fn bound(&self) -> Option<i128>
         ensures { result ≡ tree_bound self.now }
     {
-        match self.leaf {
-            Leaf::Live { value, .. } | Leaf::Bound { value, .. } => Some(value),
-            Leaf::Ray { .. } | Leaf::Empty { .. } => None,
-        }
+        places::least(&self.places)
+    }
+
+    /// The decisions on the path from the root to the node of this number, in this order.
+    pub fn fixings(&self, alloc: Global, node: u32) -> Result<Node, NoMemory>
+        requires { node < node_count self.now.nodes }
+        ensures { IfOk result (λ found. node_at self.now.nodes node ≡ Some found) }
+    {
+        let path = places::path(alloc, &self.places, node)?;
+        Ok(Node {
+            fixings: List::from_vec(path),
+        })
+    }
+
+    /// What stands at the node of this number.
+    pub fn node(&self, node: u32) -> Spot
+        requires { node < node_count self.now.nodes }
+        ensures { spot_at self.now.nodes node ≡ Some result }
+    {
+        self.places[node as usize].spot
     }
 }

@@ -1,0 +1,136 @@
+-- The least stored bound: below each leaf's, and the greatest such.
+use Rattle.std.proofs.Common.{◌≡◌, ℕ, ◌+◌, ◌<◌, ◌≤◌, ◌⊎◌, true, false, List, length, ℤ, ◌≤ℤ◌, refl, ap, sym, ◌∙◌, subst, arith, ⊎_elim, Option, Some, None}
+use Rattle.std.specs.Prelude.{slice_get}
+use Rattle.std.proofs.lemmas.Int.{ints, int_min_is}
+use Rattle.std.proofs.lemmas.Bool.{cases_lt}
+use Rattle.std.proofs.lemmas.Option.{slice_get_within}
+use Rattle.dual_model.specs.Tree.{root, child}
+use Rattle.dual_model.specs.declared.node.Node.{Node}
+use Rattle.branch_tree.specs.NumberedTree.{NumberedTree, EndAt, SplitAt, Subtree, unnumbered, spot_of, subtree_below}
+use Rattle.branch_tree.specs.StoredTree.{leaf_bound, spot_bound, lesser_bound, least_bound}
+use Rattle.branch_tree.specs.Places.{HasPlaces, ArePlacesOf, AreWellPlaced, tree_from}
+use Rattle.branch_tree.specs.declared.tree.Spot.TheVariants as spot
+use Rattle.branch_tree.specs.declared.places.Place.{Place}
+use Rattle.branch_tree.proofs.Subtrees.{IsHere, subtree_cases, leaf_case}
+use Rattle.branch_tree.proofs.Placed.{place_part, part_place}
+
+-- a bound is no greater than another; none is the greatest
+abbrev pub AtMost : Option ℤ → Option ℤ → Type 0
+AtMost a None = Unit {0}
+AtMost None (Some b) = ⊥
+AtMost (Some a) (Some b) = a ≤ℤ b
+
+pub at_most_itself : (a : Option ℤ) → AtMost a a
+at_most_itself None = tt
+at_most_itself (Some a) = omega (arith, ints)
+
+pub at_most_through : (a b c : Option ℤ) → AtMost a b → AtMost b c → AtMost a c
+at_most_through a b None x y = tt
+at_most_through a None (Some c) x y = absurd y
+at_most_through None (Some b) (Some c) x y = absurd x
+at_most_through (Some a) (Some b) (Some c) x y = omega (arith, ints)
+
+pub at_most_both : (a b : Option ℤ) → AtMost a b → AtMost b a → a ≡ b
+at_most_both None None x y = refl
+at_most_both None (Some b) x y = absurd x
+at_most_both (Some a) None x y = absurd y
+at_most_both (Some a) (Some b) x y = let e : a ≡ b = omega (arith, ints) in ap Some e
+
+pub lesser_first : (a b : Option ℤ) → AtMost (lesser_bound a b) a
+lesser_first None b = tt
+lesser_first (Some a) None = omega (arith, ints)
+lesser_first (Some a) (Some b) = omega (arith, ints, int_min_is a b)
+
+pub lesser_second : (a b : Option ℤ) → AtMost (lesser_bound a b) b
+lesser_second None b = at_most_itself b
+lesser_second (Some a) None = tt
+lesser_second (Some a) (Some b) = omega (arith, ints, int_min_is a b)
+
+pub lesser_greatest : (c a b : Option ℤ) → AtMost c a → AtMost c b → AtMost c (lesser_bound a b)
+lesser_greatest c None b x y = y
+lesser_greatest c (Some a) None x y = x
+lesser_greatest None (Some a) (Some b) x y = absurd x
+lesser_greatest (Some c) (Some a) (Some b) x y = omega (arith, ints, int_min_is a b)
+
+-- ---- over the places
+-- it is at most what is stored at each of the first places, and the tree's bound at most it
+pub record IsLeastSoFar (places : List Place) (count : ℕ) (least : Option ℤ) : Type 0 where
+  pub below : (k : ℕ) (place : Place) → k < count → slice_get places k ≡ Some place → AtMost least (spot_bound place.spot)
+  pub above : AtMost (least_bound (unnumbered (tree_from places 0))) least
+
+-- what is at most each place's bound is at most the tree's
+pub least_reaches : (places : List Place) (parent : ℕ) (tree : NumberedTree) (least : Option ℤ) → HasPlaces places parent tree
+    → ((k : ℕ) (place : Place) → slice_get places k ≡ Some place → AtMost least (spot_bound place.spot))
+    → AtMost least (least_bound (unnumbered tree))
+least_reaches places parent (EndAt number leaf) least has below =
+    below number (record { parent = parent; spot = spot.Leaf leaf }) has.place
+least_reaches places parent (SplitAt number g t off on) least has below =
+    lesser_greatest least (least_bound (unnumbered off)) (least_bound (unnumbered on))
+    (least_reaches places number off least has.3 below) (least_reaches places number on least has.4 below)
+
+-- the tree's bound is at most that of each part
+pub bound_reaches : (here : Node) (tree : NumberedTree) (wanted : ℕ) (part : Subtree) → subtree_below here tree wanted ≡ Some part
+    → AtMost (least_bound (unnumbered tree)) (least_bound (unnumbered part.tree))
+bound_reaches here (EndAt number leaf) wanted part e =
+    let h = leaf_case here number leaf wanted part e in
+    subst (λ (p : Subtree). AtMost (leaf_bound leaf) (least_bound (unnumbered p.tree))) (sym h.whole) (at_most_itself (leaf_bound leaf))
+bound_reaches here (SplitAt number g t off on) wanted part e =
+    let left = least_bound (unnumbered off) in
+    let right = least_bound (unnumbered on) in
+    ⊎_elim
+    (λ (h : IsHere here (SplitAt number g t off on) wanted part).
+    subst (λ (p : Subtree). AtMost (lesser_bound left right) (least_bound (unnumbered p.tree))) (sym h.whole)
+    (at_most_itself (lesser_bound left right)))
+    (λ (sides : (subtree_below (child here g t false) off wanted ≡ Some part) ⊎ (subtree_below (child here g t true) on wanted ≡ Some part)).
+    ⊎_elim
+    (λ (l : subtree_below (child here g t false) off wanted ≡ Some part).
+    at_most_through (lesser_bound left right) left (least_bound (unnumbered part.tree)) (lesser_first left right)
+    (bound_reaches (child here g t false) off wanted part l))
+    (λ (r : subtree_below (child here g t true) on wanted ≡ Some part).
+    at_most_through (lesser_bound left right) right (least_bound (unnumbered part.tree)) (lesser_second left right)
+    (bound_reaches (child here g t true) on wanted part r))
+    sides)
+    (subtree_cases here number g t off on wanted part e)
+
+-- the bound of a part that is what stands there
+stands_bound : (bound : Option ℤ) (tree : NumberedTree) → AtMost bound (least_bound (unnumbered tree)) → AtMost bound (spot_bound (spot_of tree))
+stands_bound bound (EndAt number leaf) h = h
+stands_bound bound (SplitAt number g t off on) h = tt
+
+-- the tree's bound is at most what is stored at each place
+pub bound_below_place : (places : List Place) (tree : NumberedTree) (k : ℕ) (place : Place) → ArePlacesOf tree places
+    → slice_get places k ≡ Some place → AtMost (least_bound (unnumbered tree)) (spot_bound place.spot)
+bound_below_place places tree k place are e =
+    let part = place_part places tree k are (slice_get_within places k place e) in
+    let stands = part_place places tree k part.0 are part.1 in
+    let same : Some (record { parent = stands.0; spot = spot_of part.0.tree }) ≡ Some place = sym stands.1 ∙ e in
+    let one : record { parent = stands.0; spot = spot_of part.0.tree } ≡ place = cc in
+    subst (λ (p : Place). AtMost (least_bound (unnumbered tree)) (spot_bound p.spot)) one
+    (stands_bound (least_bound (unnumbered tree)) part.0.tree (bound_reaches root tree k part.0 part.1))
+
+-- one place more
+pub least_more : (places : List Place) (count : ℕ) (least bound : Option ℤ) (place : Place) → AreWellPlaced places
+    → slice_get places count ≡ Some place → bound ≡ spot_bound place.spot → IsLeastSoFar places count least
+    → IsLeastSoFar places (count + 1) (lesser_bound least bound)
+least_more places count least bound place are stands is so_far = record {
+  below = λ k p within e. ⊎_elim
+      (λ (l : k < count).
+      at_most_through (lesser_bound least bound) least (spot_bound p.spot) (lesser_first least bound) (so_far.below k p l e))
+      (λ (l : count ≤ k).
+      let last : k ≡ count = omega arith in
+      let same : Some p ≡ Some place = sym e ∙ (ap (slice_get places) last ∙ stands) in
+      let one : p ≡ place = cc in
+      subst (AtMost (lesser_bound least bound)) (is ∙ ap (λ (q : Place). spot_bound q.spot) (sym one)) (lesser_second least bound))
+      (cases_lt k count);
+  above = lesser_greatest (least_bound (unnumbered (tree_from places 0))) least bound so_far.above
+      (subst (AtMost (least_bound (unnumbered (tree_from places 0)))) (sym is)
+      (bound_below_place places (tree_from places 0) count place are stands));
+}
+
+-- at the end it is the tree's
+pub least_is : (places : List Place) (least : Option ℤ) → AreWellPlaced places → IsLeastSoFar places (length places) least
+    → least ≡ least_bound (unnumbered (tree_from places 0))
+least_is places least are so_far = at_most_both least (least_bound (unnumbered (tree_from places 0)))
+    (least_reaches places 0 (tree_from places 0) least are.placed
+    (λ k place e. so_far.below k place (slice_get_within places k place e) e))
+    so_far.above

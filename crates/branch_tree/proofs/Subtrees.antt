@@ -1,0 +1,206 @@
+-- Where the parts of a tree hang, by their numbers.
+use Rattle.std.proofs.Common.{◌≡◌, ℕ, ◌<◌, ◌≤◌, ◌⊎◌, true, false, cond, refl, ap, sym, ◌∙◌, subst, arith, inl, inr, ⊎_elim, Option, Some, None}
+use Rattle.std.specs.Prelude.{◌==◌}
+use Rattle.std.specs.Option.{option_or}
+use Rattle.std.proofs.lemmas.Bool.{eq-eqb, cases_lt}
+use Rattle.dual_model.specs.Tree.{child}
+use Rattle.dual_model.specs.declared.node.Node.{Node}
+use Rattle.branch_tree.specs.NumberedTree.{NumberedTree, EndAt, SplitAt, Subtree, number_of, times, subtree_below}
+use Rattle.branch_tree.specs.declared.tree.Leaf.{Leaf}
+use Rattle.branch_tree.proofs.Weights.{same_or_not, one_here, none_here, times_root}
+
+-- no two nodes have one number
+abbrev pub AreApart : NumberedTree → Type 0
+AreApart tree = (number : ℕ) → times number tree ≤ 1
+
+pub apart_off : (number g t : ℕ) (off on : NumberedTree) → AreApart (SplitAt number g t off on) → AreApart off
+apart_off number g t off on apart n = omega (arith, apart n)
+
+pub apart_on : (number g t : ℕ) (off on : NumberedTree) → AreApart (SplitAt number g t off on) → AreApart on
+apart_on number g t off on apart n = omega (arith, apart n)
+
+-- the root has the number, or it stands on either side
+pub record IsHere (here : Node) (tree : NumberedTree) (wanted : ℕ) (part : Subtree) : Type 0 where
+  pub number : number_of tree ≡ wanted
+  pub whole : part ≡ record { node = here; tree = tree }
+
+pub at_root : (here : Node) (tree : NumberedTree) → subtree_below here tree (number_of tree) ≡ Some (record { node = here; tree = tree })
+at_root here (EndAt number leaf) =
+    ap (λ b. cond b (Some (record { node = here; tree = EndAt number leaf })) None) (eq-eqb number number refl)
+at_root here (SplitAt number g t off on) =
+    ap (λ b. cond b (Some (record { node = here; tree = SplitAt number g t off on }))
+    (option_or (subtree_below (child here g t false) off number) (subtree_below (child here g t true) on number)))
+    (eq-eqb number number refl)
+
+some_is : {A : Type 0} (x y : A) → Some x ≡ Some y → x ≡ y
+some_is x y e = cc
+
+or_cases : {A : Type 0} (a b : Option A) (x : A) → option_or a b ≡ Some x → (a ≡ Some x) ⊎ ((a ≡ None) × (b ≡ Some x))
+or_cases None b x e = inr (refl, e)
+or_cases (Some y) b x e = inl e
+
+pub subtree_cases : (here : Node) (number g t : ℕ) (off on : NumberedTree) (wanted : ℕ) (part : Subtree)
+    → subtree_below here (SplitAt number g t off on) wanted ≡ Some part
+    → IsHere here (SplitAt number g t off on) wanted part
+    ⊎ ((subtree_below (child here g t false) off wanted ≡ Some part) ⊎ (subtree_below (child here g t true) on wanted ≡ Some part))
+subtree_cases here number g t off on wanted part e =
+    let left = subtree_below (child here g t false) off wanted in
+    let right = subtree_below (child here g t true) on wanted in
+    let all : Subtree = record { node = here; tree = SplitAt number g t off on } in
+    ⊎_elim
+    (λ (h : (number ≡ wanted) × ((number == wanted) ≡ true)).
+    inl (record { number = h.0; whole = sym (some_is all part (subst (λ b. cond b (Some all) (option_or left right) ≡ Some part) h.1 e)) }))
+    (λ (h : ((number ≡ wanted) → ⊥) × ((number == wanted) ≡ false)).
+    let below : option_or left right ≡ Some part = subst (λ b. cond b (Some all) (option_or left right) ≡ Some part) h.1 e in
+    ⊎_elim (λ (l : left ≡ Some part). inr (inl l)) (λ (r : (left ≡ None) × (right ≡ Some part)). inr (inr r.1)) (or_cases left right part below))
+    (same_or_not number wanted)
+
+pub leaf_case : (here : Node) (number : ℕ) (leaf : Leaf) (wanted : ℕ) (part : Subtree)
+    → subtree_below here (EndAt number leaf) wanted ≡ Some part → IsHere here (EndAt number leaf) wanted part
+leaf_case here number leaf wanted part e =
+    let all : Subtree = record { node = here; tree = EndAt number leaf } in
+    ⊎_elim
+    (λ (h : (number ≡ wanted) × ((number == wanted) ≡ true)).
+    record { number = h.0; whole = sym (some_is all part (subst (λ b. cond b (Some all) None ≡ Some part) h.1 e)) })
+    (λ (h : ((number ≡ wanted) → ⊥) × ((number == wanted) ≡ false)).
+    let none : None ≡ Some part = subst (λ b. cond b (Some all) None ≡ Some part) h.1 e in absurd (cc))
+    (same_or_not number wanted)
+
+-- what hangs from a number has it, and so some node does
+pub part_number : (here : Node) (tree : NumberedTree) (wanted : ℕ) (part : Subtree) → subtree_below here tree wanted ≡ Some part
+    → number_of part.tree ≡ wanted
+part_number here (EndAt number leaf) wanted part e =
+    let h = leaf_case here number leaf wanted part e in
+    ap (λ (p : Subtree). number_of p.tree) h.whole ∙ h.number
+part_number here (SplitAt number g t off on) wanted part e = ⊎_elim
+    (λ (h : IsHere here (SplitAt number g t off on) wanted part). ap (λ (p : Subtree). number_of p.tree) h.whole ∙ h.number)
+    (λ (sides : (subtree_below (child here g t false) off wanted ≡ Some part) ⊎ (subtree_below (child here g t true) on wanted ≡ Some part)).
+    ⊎_elim (part_number (child here g t false) off wanted part) (part_number (child here g t true) on wanted part) sides)
+    (subtree_cases here number g t off on wanted part e)
+
+pub part_counted : (here : Node) (tree : NumberedTree) (wanted : ℕ) (part : Subtree) → subtree_below here tree wanted ≡ Some part
+    → 1 ≤ times wanted tree
+part_counted here (EndAt number leaf) wanted part e =
+    let h = leaf_case here number leaf wanted part e in
+    subst (λ n. 1 ≤ times n (EndAt number leaf)) h.number (times_root (EndAt number leaf))
+part_counted here (SplitAt number g t off on) wanted part e = ⊎_elim
+    (λ (h : IsHere here (SplitAt number g t off on) wanted part).
+    subst (λ n. 1 ≤ times n (SplitAt number g t off on)) h.number (times_root (SplitAt number g t off on)))
+    (λ (sides : (subtree_below (child here g t false) off wanted ≡ Some part) ⊎ (subtree_below (child here g t true) on wanted ≡ Some part)).
+    ⊎_elim
+    (λ (l : subtree_below (child here g t false) off wanted ≡ Some part).
+    let some = part_counted (child here g t false) off wanted part l in omega arith)
+    (λ (r : subtree_below (child here g t true) on wanted ≡ Some part).
+    let some = part_counted (child here g t true) on wanted part r in omega arith)
+    sides)
+    (subtree_cases here number g t off on wanted part e)
+
+-- and nothing hangs from another number
+pub no_part : (here : Node) (tree : NumberedTree) (wanted : ℕ) → times wanted tree ≡ 0 → subtree_below here tree wanted ≡ None
+no_part here tree wanted none = none_or (subtree_below here tree wanted) refl
+  where
+    none_or : (found : Option Subtree) → subtree_below here tree wanted ≡ found → subtree_below here tree wanted ≡ None
+    none_or None e = e
+    none_or (Some part) e = let some = part_counted here tree wanted part e in absurd (omega arith)
+
+-- the part on one side of a split is that of the whole
+pub off_part : (here : Node) (number g t : ℕ) (off on : NumberedTree) (wanted : ℕ) (part : Subtree)
+    → AreApart (SplitAt number g t off on) → subtree_below (child here g t false) off wanted ≡ Some part
+    → subtree_below here (SplitAt number g t off on) wanted ≡ Some part
+off_part here number g t off on wanted part apart e =
+    let right = subtree_below (child here g t true) on wanted in
+    let all : Subtree = record { node = here; tree = SplitAt number g t off on } in
+    let some = part_counted (child here g t false) off wanted part e in
+    ⊎_elim
+    (λ (h : (number ≡ wanted) × ((number == wanted) ≡ true)).
+    absurd (omega (arith, apart wanted, one_here number wanted h.1)))
+    (λ (h : ((number ≡ wanted) → ⊥) × ((number == wanted) ≡ false)).
+    (λ i. cond (h.1 i) (Some all) (option_or (e i) right)))
+    (same_or_not number wanted)
+
+pub on_part : (here : Node) (number g t : ℕ) (off on : NumberedTree) (wanted : ℕ) (part : Subtree)
+    → AreApart (SplitAt number g t off on) → subtree_below (child here g t true) on wanted ≡ Some part
+    → subtree_below here (SplitAt number g t off on) wanted ≡ Some part
+on_part here number g t off on wanted part apart e =
+    let left = subtree_below (child here g t false) off wanted in
+    let all : Subtree = record { node = here; tree = SplitAt number g t off on } in
+    let some = part_counted (child here g t true) on wanted part e in
+    let none : times wanted off ≡ 0 = omega (arith, apart wanted) in
+    ⊎_elim
+    (λ (h : (number ≡ wanted) × ((number == wanted) ≡ true)).
+    absurd (omega (arith, apart wanted, one_here number wanted h.1)))
+    (λ (h : ((number ≡ wanted) → ⊥) × ((number == wanted) ≡ false)).
+    (λ i. cond (h.1 i) (Some all) (option_or (no_part (child here g t false) off wanted none i) (e i))))
+    (same_or_not number wanted)
+
+-- each number of a node has its part
+pub some_part : (here : Node) (tree : NumberedTree) (wanted : ℕ) → AreApart tree → 1 ≤ times wanted tree
+    → (part : Subtree) × (subtree_below here tree wanted ≡ Some part)
+some_part here (EndAt number leaf) wanted apart some = ⊎_elim
+    (λ (h : (number ≡ wanted) × ((number == wanted) ≡ true)). (
+      record { node = here; tree = EndAt number leaf },
+      subst (λ n. subtree_below here (EndAt number leaf) n ≡ Some (record { node = here; tree = EndAt number leaf })) h.0 (at_root here (EndAt number leaf)),
+    ))
+    (λ (h : ((number ≡ wanted) → ⊥) × ((number == wanted) ≡ false)).
+    absurd (omega (arith, none_here number wanted h.1)))
+    (same_or_not number wanted)
+some_part here (SplitAt number g t off on) wanted apart some = ⊎_elim
+    (λ (h : (number ≡ wanted) × ((number == wanted) ≡ true)). (
+      record { node = here; tree = SplitAt number g t off on },
+      subst (λ n. subtree_below here (SplitAt number g t off on) n ≡ Some (record { node = here; tree = SplitAt number g t off on })) h.0
+          (at_root here (SplitAt number g t off on)),
+    ))
+    (λ (h : ((number ≡ wanted) → ⊥) × ((number == wanted) ≡ false)).
+    let none = none_here number wanted h.1 in
+    ⊎_elim
+    (λ (l : 0 < times wanted off).
+    let p = some_part (child here g t false) off wanted (apart_off number g t off on apart) (omega arith) in
+    (p.0, off_part here number g t off on wanted p.0 apart p.1))
+    (λ (l : times wanted off ≤ 0).
+    let p = some_part (child here g t true) on wanted (apart_on number g t off on apart) (omega arith) in
+    (p.0, on_part here number g t off on wanted p.0 apart p.1))
+    (cases_lt 0 (times wanted off)))
+    (same_or_not number wanted)
+
+-- the children of a split hang from it
+pub record HasChildren (here : Node) (tree : NumberedTree) (node : Node) (g t : ℕ) (off on : NumberedTree) : Type 0 where
+  pub off_child : subtree_below here tree (number_of off) ≡ Some (record { node = child node g t false; tree = off })
+  pub on_child : subtree_below here tree (number_of on) ≡ Some (record { node = child node g t true; tree = on })
+
+pub children_hang : (here : Node) (tree : NumberedTree) (wanted : ℕ) (node : Node) (number g t : ℕ) (off on : NumberedTree)
+    → AreApart tree → subtree_below here tree wanted ≡ Some (record { node = node; tree = SplitAt number g t off on })
+    → HasChildren here tree node g t off on
+children_hang here (EndAt m leaf) wanted node number g t off on apart e =
+    let h = leaf_case here m leaf wanted (record { node = node; tree = SplitAt number g t off on }) e in
+    let differ : SplitAt number g t off on ≡ EndAt m leaf = ap (λ (p : Subtree). p.tree) h.whole in absurd (cc)
+children_hang here (SplitAt m a b left right) wanted node number g t off on apart e =
+    let part : Subtree = record { node = node; tree = SplitAt number g t off on } in
+    ⊎_elim
+    (λ (h : IsHere here (SplitAt m a b left right) wanted part).
+    let same : SplitAt number g t off on ≡ SplitAt m a b left right = ap (λ (p : Subtree). p.tree) h.whole in
+    let at : node ≡ here = ap (λ (p : Subtree). p.node) h.whole in
+    let is_g : g ≡ a = cc in
+    let is_t : t ≡ b = cc in
+    let is_off : off ≡ left = cc in
+    let is_on : on ≡ right = cc in
+    let off_child : subtree_below here (SplitAt m a b left right) (number_of left) ≡ Some (record { node = child here a b false; tree = left }) =
+    off_part here m a b left right (number_of left) (record { node = child here a b false; tree = left }) apart (at_root (child here a b false) left) in
+    let on_child : subtree_below here (SplitAt m a b left right) (number_of right) ≡ Some (record { node = child here a b true; tree = right }) =
+    on_part here m a b left right (number_of right) (record { node = child here a b true; tree = right }) apart (at_root (child here a b true) right) in
+    record { off_child = rw (at, is_g, is_t, is_off) off_child; on_child = rw (at, is_g, is_t, is_on) on_child })
+    (λ (sides : (subtree_below (child here a b false) left wanted ≡ Some part) ⊎ (subtree_below (child here a b true) right wanted ≡ Some part)).
+    ⊎_elim
+    (λ (l : subtree_below (child here a b false) left wanted ≡ Some part).
+    let below = children_hang (child here a b false) left wanted node number g t off on (apart_off m a b left right apart) l in
+    record {
+      off_child = off_part here m a b left right (number_of off) (record { node = child node g t false; tree = off }) apart below.off_child;
+      on_child = off_part here m a b left right (number_of on) (record { node = child node g t true; tree = on }) apart below.on_child;
+    })
+    (λ (r : subtree_below (child here a b true) right wanted ≡ Some part).
+    let below = children_hang (child here a b true) right wanted node number g t off on (apart_on m a b left right apart) r in
+    record {
+      off_child = on_part here m a b left right (number_of off) (record { node = child node g t false; tree = off }) apart below.off_child;
+      on_child = on_part here m a b left right (number_of on) (record { node = child node g t true; tree = on }) apart below.on_child;
+    })
+    sides)
+    (subtree_cases here m a b left right wanted part e)
