@@ -1,5 +1,5 @@
 -- The tables that a tree uses, found along its nodes in preorder.
-use Rattle.std.proofs.Common.{◌≡◌, ℕ, suc, ◌+◌, ◌<◌, Bool, true, false, not, ◌||◌, cond, All, List, [], ◌∷◌, ◌++◌, length, set, get_or, drop, refl, ap, sym, ◌∙◌, subst, arith, ⊎_elim, Option, Some, append_assoc, append-nil, length-append, length-set}
+use Rattle.std.proofs.Common.{◌≡◌, ℕ, suc, ◌+◌, ◌<◌, ◌≤◌, Bool, true, false, not, ◌||◌, cond, All, List, [], ◌∷◌, ◌++◌, length, set, get_or, drop, refl, ap, sym, ◌∙◌, subst, arith, ⊎_elim, Option, Some, append_assoc, append-nil, length-append, length-set}
 use Rattle.std.specs.Prelude.{◌==◌, filter}
 use Rattle.std.specs.Option.{option_map_or}
 use Rattle.std.specs.List.{flat_map, list_any}
@@ -8,8 +8,10 @@ use Rattle.std.proofs.lemmas.List.{get_or-set_same, get_or-set_other, get_or_at,
 use Rattle.std.proofs.lemmas.List.Concat.{flat_map-append}
 use Rattle.std.proofs.lemmas.List.Elements.{All-nil, All-cons, filter-append}
 use Rattle.std.proofs.lemmas.List.Folds.{list_any-append}
-use Rattle.branch_tree.specs.NumberedTree.{NumberedTree, EndAt, SplitAt, IsNumbered, unnumbered, numbers, spot_at}
+use Rattle.branch_tree.specs.NumberedTree.{NumberedTree, EndAt, SplitAt, IsNumbered, unnumbered, numbers, node_count, spot_at}
 use Rattle.branch_tree.specs.UsedTables.{leaves, leaf_tables, spot_tables, stored_tables, each_once}
+use Rattle.branch_tree.specs.declared.tree.Leaf.{Leaf}
+use Rattle.branch_tree.specs.declared.tree.Leaf.TheVariants as leaf
 use Rattle.branch_tree.specs.declared.tree.Spot.{Spot}
 use Rattle.branch_tree.proofs.Preorder.{IsPart, off_side, on_side, part_spot}
 
@@ -158,3 +160,38 @@ pub tables_next : (whole : NumberedTree) (nodes : List ℕ) (index : ℕ) (stand
 tables_next whole nodes index stands within is =
     ap (flat_map (tables_at whole)) (drop_more nodes index 0 within)
     ∙ ap (λ (o : Option Spot). option_map_or spot_tables o [] ++ flat_map (tables_at whole) (drop (index + 1) nodes)) is
+
+-- ---- how many
+length-filter_le : (test : ℕ → Bool) (numbers : List ℕ) → length (filter test numbers) ≤ length numbers
+length-filter_le test [] = omega arith
+length-filter_le test (number ∷ numbers) =
+    let rest = length-filter_le test numbers in
+    ⊎_elim
+    (λ (e : test number ≡ true). subst (λ b. length (cond b (number ∷ filter test numbers) (filter test numbers)) ≤ suc (length numbers)) (sym e) (omega arith))
+    (λ (e : test number ≡ false). subst (λ b. length (cond b (number ∷ filter test numbers) (filter test numbers)) ≤ suc (length numbers)) (sym e) (omega arith))
+    (cases_Bool (test number))
+
+pub length-each_once : (numbers : List ℕ) → length (each_once numbers) ≤ length numbers
+length-each_once [] = omega arith
+length-each_once (number ∷ numbers) =
+    omega (arith, length-filter_le (unlike number) (each_once numbers), length-each_once numbers)
+
+leaf_count : (l : Leaf) → length (leaf_tables l ++ []) ≤ 1
+leaf_count (leaf.Live table value) = omega arith
+leaf_count (leaf.Bound table value) = omega arith
+leaf_count (leaf.Ray table) = omega arith
+leaf_count (leaf.Empty g) = omega arith
+
+-- a tree has no more tables than nodes
+pub length-stored_tables : (tree : NumberedTree) → length (stored_tables (unnumbered tree)) ≤ node_count tree
+length-stored_tables (EndAt number l) = leaf_count l
+length-stored_tables (SplitAt number g t off on) =
+    let left = leaves (unnumbered off) in
+    let right = leaves (unnumbered on) in
+    omega (
+      arith,
+      ap length (flat_map-append leaf_tables left right),
+      length-append (flat_map leaf_tables left) (flat_map leaf_tables right),
+      length-stored_tables off,
+      length-stored_tables on,
+    )

@@ -1,6 +1,5 @@
 -- Which tables a tree uses, and in which order. This project's own form.
-use Rattle.std.specs.Prelude.{ℕ, not, ◌==◌, List, [], ◌∷◌, ◌++◌, filter, flat_map}
-use Rattle.std.specs.List.{position_or_len}
+use Rattle.std.specs.Prelude.{ℕ, suc, not, ◌==◌, List, [], ◌∷◌, ◌++◌, filter, flat_map, if◌then◌else◌}
 use Rattle.dual_model.specs.Tree.{Tree, Ends, Splits}
 use Rattle.branch_tree.specs.declared.tree.Leaf.{Leaf}
 use Rattle.branch_tree.specs.declared.tree.Leaf.TheVariants as leaf
@@ -37,6 +36,7 @@ each_once (number ∷ numbers) = number ∷ filter (λ other. not (other == numb
 abbrev pub used_tables : Tree Leaf → List ℕ
 used_tables tree = each_once (stored_tables tree)
 
--- the place of a table among those used
+-- the place of a table among those used, and their count where it isn't one of them
 abbrev pub place_of : List ℕ → ℕ → ℕ
-place_of used table = position_or_len (λ number. number == table) used
+place_of [] table = 0
+place_of (number ∷ used) table = if number == table then 0 else suc (place_of used table)

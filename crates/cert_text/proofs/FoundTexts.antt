@@ -1,41 +1,64 @@
 -- When the certificate of a found answer has a text.
-use Rattle.std.proofs.Common.{◌≡◌, ◌^◌, ◌<◌, ◌≤◌, List, [], length, map, subst, sym, All, arith, Option, None, ℤ, pos, negsuc, ◌≤ℤ◌}
+use Rattle.std.proofs.Common.{◌≡◌, ◌^◌, ◌<◌, true, false, List, [], ◌++◌, length, subst, sym, All, arith, Option, Some, None, ℤ, pos, negsuc, ◌≤ℤ◌}
 use Rattle.std.proofs.lemmas.Int.{ints}
 use Rattle.std.specs.Prelude.{IfSome}
-use Rattle.std.proofs.lemmas.List.Elements.{All-nil, All-cons, All-weaker}
+use Rattle.std.proofs.lemmas.List.Elements.{All-nil, All-cons, All-append, All-weaker}
+use Rattle.std.proofs.lemmas.List.{length-map}
+use Rattle.std.proofs.lemmas.Option.{slice_get_within}
 use Rattle.uc_model.specs.Limits.{IsLawfulInstance}
 use Rattle.uc_model.specs.Schedule.{thermal_count, renewable_count}
 use Rattle.uc_model.specs.declared.instance.Instance.{Instance}
-use Rattle.dual_model.specs.Certificate.{CertificateHolds, ClaimHolds, WrittenSchedule}
-use Rattle.dual_model.specs.Tree.{Ends}
+use Rattle.dual_model.specs.Certificate.{Certificate, CertificateHolds, ClaimHolds}
+use Rattle.dual_model.specs.Cover.{Leaf, Bound, Ray, Empty, IsExcluded, LeafHolds}
+use Rattle.dual_model.specs.Tree.{Tree, Ends, Splits, root, child, IsCoverBelow, IsCover, EachLeaf}
+use Rattle.dual_model.specs.declared.node.Node.{Node}
 use Rattle.dual_model.specs.Prices.{IsLawfulTable, IsPrice, IsRowPriced}
 use Rattle.dual_model.specs.declared.table.Table.{Table}
 use Rattle.dual_model.specs.declared.table.RampRow.{RampRow}
 use Rattle.branch_tree.specs.declared.found.Found.{Found}
-use Rattle.branch_tree.specs.declared.tree.Leaf.{Leaf}
-use Rattle.branch_tree.specs.declared.tree.Leaf.TheVariants as leaf
-use Rattle.branch_tree.specs.StoredTree.{leaf_bound, tree_bound}
-use Rattle.branch_tree.specs.Claims.{leaf_tables, leaf_claim, table_at, used_tables, certificate_of, written_of}
-use Rattle.cert_text.specs.Nodes.{LeafNode, IsLeafWithin, IsNodeWithin}
+use Rattle.branch_tree.specs.TreeView.{IsWhole, tree_of}
+use Rattle.branch_tree.specs.StoredTree.{tree_bound}
+use Rattle.branch_tree.specs.UsedTables.{stored_tables, used_tables}
+use Rattle.branch_tree.specs.Claims.{table_at, written_tables, certificate_of, written_of}
+use Rattle.branch_tree.proofs.Used.{length-each_once, length-stored_tables}
+use Rattle.cert_text.specs.Nodes.{TreeNode, LeafNode, SplitNode, preorder, IsLeafWithin, IsNodeWithin}
 use Rattle.cert_text.specs.CertificateText.{listing_of}
 use Rattle.cert_text.specs.TextConditions.{HasDigits, IsMoney, IsTableText, IsRampText, IsScheduleText, HasText}
 
--- the leaf names a table that is listed, or a unit that there is
-leaf-within : (instance : Instance) (tables : List Table) (schedule : Option WrittenSchedule) (leaf : Leaf)
-    → ClaimHolds instance (record {
-      periods = instance.periods;
-      thermal = thermal_count instance;
-      renewable = renewable_count instance;
-      bound = leaf_bound leaf;
-      schedule = schedule;
-      tables = map (table_at tables) (leaf_tables leaf);
-      tree = Ends (leaf_claim leaf);
-    }) (leaf_bound leaf)
-    → IsLeafWithin (thermal_count instance) (length (map (table_at tables) (leaf_tables leaf))) (leaf_claim leaf)
-leaf-within instance tables schedule (leaf.Live table value) h = omega arith
-leaf-within instance tables schedule (leaf.Bound table value) h = omega arith
-leaf-within instance tables schedule (leaf.Ray table) h = omega arith
-leaf-within instance tables schedule (leaf.Empty g) h = h.1.0
+-- a leaf that is excluded, or that holds for a bound, names a table that is listed, or a unit that there is
+excluded-within : (instance : Instance) (tables : List Table) (node : Node) (leaf : Leaf) → IsExcluded instance tables node leaf
+    → IsLeafWithin (thermal_count instance) (length tables) leaf
+excluded-within instance tables node (Bound number) h = absurd h
+excluded-within instance tables node (Ray number) h = slice_get_within tables number h.table h.is_table
+excluded-within instance tables node (Empty g) h = h.0
+
+holds-within : (instance : Instance) (tables : List Table) (b : ℤ) (node : Node) (leaf : Leaf) → LeafHolds instance tables b node leaf
+    → IsLeafWithin (thermal_count instance) (length tables) leaf
+holds-within instance tables b node (Bound number) h = slice_get_within tables number h.table h.is_table
+holds-within instance tables b node (Ray number) h = excluded-within instance tables node (Ray number) h
+holds-within instance tables b node (Empty g) h = excluded-within instance tables node (Empty g) h
+
+-- so do all nodes of a cover whose leaves claim so
+nodes-within : (instance : Instance) (tables : List Table) (P : Node → Leaf → Type 0)
+    → ((node : Node) (leaf : Leaf) → P node leaf → IsLeafWithin (thermal_count instance) (length tables) leaf)
+    → (node : Node) (tree : Tree Leaf) → IsCoverBelow instance node tree → EachLeaf P node tree
+    → All (IsNodeWithin instance.periods (thermal_count instance) (length tables)) (preorder tree)
+nodes-within instance tables P within node (Ends leaf) cover each =
+    let Within : TreeNode → Type 0 = IsNodeWithin instance.periods (thermal_count instance) (length tables) in
+    All-cons Within (LeafNode leaf) [] (within node leaf each) (All-nil Within)
+nodes-within instance tables P within node (Splits g t off on) cover each =
+    let Within : TreeNode → Type 0 = IsNodeWithin instance.periods (thermal_count instance) (length tables) in
+    All-cons Within (SplitNode g t) (preorder off ++ preorder on) (cover.0.unit, cover.0.period)
+    (All-append Within (preorder off) (preorder on)
+    (nodes-within instance tables P within (child node g t false) off cover.2 each.0)
+    (nodes-within instance tables P within (child node g t true) on cover.3 each.1))
+
+claimed-within : (instance : Instance) (c : Certificate) (bound : Option ℤ) → IsCover instance c.tree → ClaimHolds instance c bound
+    → All (IsNodeWithin instance.periods (thermal_count instance) (length c.tables)) (preorder c.tree)
+claimed-within instance c (Some b) cover claim =
+    nodes-within instance c.tables (LeafHolds instance c.tables b) (holds-within instance c.tables b) root c.tree cover claim.1
+claimed-within instance c None cover claim =
+    nodes-within instance c.tables (IsExcluded instance c.tables) (excluded-within instance c.tables) root c.tree cover claim.1
 
 price-digits : (n : ℤ) → IsPrice n → HasDigits 18 n
 price-digits n h = omega arith
@@ -66,26 +89,26 @@ lawful-table-texts : (instance : Instance) (tables : List Table) → All (IsLawf
     → All (λ table. length table.ramps < 10 ^ 18) tables → All (IsTableText instance.periods (thermal_count instance)) tables
 lawful-table-texts instance tables h few = λ k d within. lawful-table-text instance _ (h k d within) (few k d within)
 
-one-table : (tables : List Table) (leaf : Leaf) → length (map (table_at tables) (leaf_tables leaf)) ≤ 1
-one-table tables (leaf.Live table value) = omega arith
-one-table tables (leaf.Bound table value) = omega arith
-one-table tables (leaf.Ray table) = omega arith
-one-table tables (leaf.Empty g) = omega arith
+-- the tables of a whole tree can be counted
+few-tables : (instance : Instance) (found : Found) → IsWhole found.tree → length (written_tables found) < 2 ^ 32
+few-tables instance found whole =
+    let used = used_tables (tree_of found.tree) in
+    let same = length-map used (table_at found.tables) in
+    omega (arith, length-each_once (stored_tables (tree_of found.tree)), length-stored_tables found.tree.nodes, whole.within, whole.countable)
 
-pub found-has-text : (instance : Instance) (found : Found) → IsLawfulInstance instance
+pub found-has-text : (instance : Instance) (found : Found) → IsLawfulInstance instance → IsWhole found.tree
     → CertificateHolds instance (certificate_of instance found) → found.schedule ≡ None
     → IfSome (tree_bound found.tree) IsMoney
-    → All (λ table. length table.ramps < 10 ^ 18) (used_tables found)
+    → All (λ table. length table.ramps < 10 ^ 18) (written_tables found)
     → HasText (listing_of (certificate_of instance found))
-found-has-text instance found lawful holds none bound few = record {
+found-has-text instance found lawful whole holds none bound few = record {
   some_period = lawful.periods.0;
   periods = lawful.periods.1;
   thermal = lawful.thermal_units;
   renewable = lawful.renewable_units;
-  table_count = omega (arith, one-table found.tables found.tree.leaf);
+  table_count = few-tables instance found whole;
   bound = bound;
   schedule = subst (λ schedule. IfSome (written_of schedule) (IsScheduleText instance.periods (thermal_count instance) (renewable_count instance))) (sym none) tt;
-  tables = lawful-table-texts instance (used_tables found) holds.tables few;
-  nodes = All-cons (IsNodeWithin instance.periods (thermal_count instance) (length (used_tables found))) (LeafNode (leaf_claim found.tree.leaf)) []
-      (leaf-within instance found.tables (written_of found.schedule) found.tree.leaf holds.claim) (All-nil _);
+  tables = lawful-table-texts instance (written_tables found) holds.tables few;
+  nodes = claimed-within instance (certificate_of instance found) (tree_bound found.tree) holds.tree holds.claim;
 }

@@ -5,10 +5,12 @@ use Rattle.uc_model.specs.declared.instance.Instance.{Instance}
 use Rattle.dual_model.specs.Certificate.{WrittenSchedule}
 use Rattle.dual_model.specs.declared.table.Table.{Table}
 use Rattle.branch_tree.specs.declared.found.Found.{Found}
-use Rattle.branch_tree.specs.Claims.{table_at, leaf_tables, leaf_claim, certificate_of, used_tables}
+use Rattle.branch_tree.specs.TreeView.{tree_of}
+use Rattle.branch_tree.specs.UsedTables.{used_tables}
+use Rattle.branch_tree.specs.Claims.{table_at, certificate_of}
 use Rattle.outside.specs.Lines.{joined}
 use Rattle.outside.proofs.Joining.{joined-cons, joined-append, joined-map}
-use Rattle.cert_text.specs.Nodes.{leaf_line}
+use Rattle.cert_text.specs.Nodes.{preorder, node_line}
 use Rattle.cert_text.specs.CertificateText.{certificate_lines, certificate_text, schedule_lines, table_lines, thermal_line, renewable_line, ramp_line, cost_line, version_line, size_line, claim_line, end_line, scale_line, prices_line, ramps_line}
 use Rattle.cert_text.specs.inside.WrittenParts.{schedule_part, table_part, tables_part, certificate_parts}
 
@@ -40,11 +42,12 @@ pub parts_are_text : (instance : Instance) (found : Found)
 unfolding certificate_text certificate_lines certificate_parts
 parts_are_text instance found =
     let c = certificate_of instance found in
-    let leaf = leaf_line (leaf_claim found.tree.leaf) in
-    let tables = flat_map table_lines (used_tables found) in
-    let lower = joined-append tables (leaf ∷ end_line ∷ []) ∙ ap (λ text. text ++ (leaf ++ end_line)) (tables-part found.tables (leaf_tables found.tree.leaf)) in
-    let body = joined-append (schedule_lines c.schedule) (tables ++ leaf ∷ end_line ∷ []) ∙ (λ i. schedule-part c.schedule i ++ lower i) in
-    let rest = tables_part found.tables (leaf_tables found.tree.leaf) ++ (leaf ++ end_line) in
+    let used = used_tables (tree_of found.tree) in
+    let nodes = map node_line (preorder c.tree) in
+    let tables = flat_map table_lines c.tables in
+    let last = joined-append nodes (end_line ∷ []) ∙ ap (λ text. text ++ end_line) (joined-map node_line (preorder c.tree)) in
+    let lower = joined-append tables (nodes ++ end_line ∷ []) ∙ (λ i. tables-part found.tables used i ++ last i) in
+    let body = joined-append (schedule_lines c.schedule) (tables ++ (nodes ++ end_line ∷ [])) ∙ (λ i. schedule-part c.schedule i ++ lower i) in
     simp append_assoc (sym (ap (λ text. version_line 1 ++ (size_line c.periods c.thermal c.renewable (length c.tables) ++ text))
-    (joined-cons (claim_line c.bound) (schedule_lines c.schedule ++ (tables ++ leaf ∷ end_line ∷ []))
+    (joined-cons (claim_line c.bound) (schedule_lines c.schedule ++ (tables ++ (nodes ++ end_line ∷ [])))
     ∙ ap (λ text. claim_line c.bound ++ text) body)))

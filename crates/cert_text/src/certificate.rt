@@ -2,14 +2,14 @@
 
 ghost use Rattle.std.specs.Prelude.{◌≡◌, ◌<◌, All, OnOk, OnErr, length};
 ghost use Rattle.outside.specs.Sinks.{WriterWrites, WritesFront};
-ghost use Rattle.branch_tree.specs.Claims.{HasLayout, leaf_claim, certificate_of};
-ghost use Rattle.cert_text.specs.Nodes.{leaf_line};
+ghost use Rattle.branch_tree.specs.Claims.{HasLayout, certificate_of};
 ghost use Rattle.cert_text.specs.CertificateText.{size_line, claim_line, certificate_text};
 ghost use Rattle.cert_text.specs.inside.WrittenParts.{tables_part, heading_part, certificate_parts};
 
 use crate::schedule::put_schedule;
 use crate::table::put_table;
-use branch_tree::{Found, Leaf};
+use crate::tree::put_nodes;
+use branch_tree::Found;
 use dual_model::Table;
 use outside::{Failed, Latch, Lent, Out, Writer, put_count, put_money_line, put_whole_line};
 use uc_model::Instance;
@@ -57,17 +57,6 @@ fn put_tables<O: Out>(out: &mut O, tables: &[Table], numbers: &[u32])
     }
 }
 
-// A leaf; its table is the only one, with the number 1, and units count from 1 in the text.
-fn put_leaf<O: Out>(out: &mut O, leaf: &Leaf)
-    ensures { O.emits (leaf_line (leaf_claim leaf.now)) out.old out.new }
-{
-    match leaf {
-        Leaf::Live { .. } | Leaf::Bound { .. } => put_whole_line(out, b"bound", 1),
-        Leaf::Ray { .. } => put_whole_line(out, b"ray", 1),
-        Leaf::Empty { g } => put_whole_line(out, b"empty", u64::from(*g) + 1),
-    }
-}
-
 #[tactic(auto, unfolding(crate::specs::inside::WrittenParts::certificate_parts, outside::specs::Lines::line))]
 fn put_certificate<O: Out>(out: &mut O, found: &Found, instance: &Instance)
     requires { HasLayout found.now }
@@ -76,7 +65,7 @@ fn put_certificate<O: Out>(out: &mut O, found: &Found, instance: &Instance)
     put_heading(out, found, instance);
     put_schedule(out, &found.schedule);
     put_tables(out, found.tables.as_slice(), found.layout.tables.as_slice());
-    put_leaf(out, &found.tree.leaf);
+    put_nodes(out, &found.tree, &found.layout);
     out.put(b"end\n");
 }
 

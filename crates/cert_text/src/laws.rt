@@ -6,7 +6,8 @@ ghost use Rattle.uc_model.specs.Limits.{IsLawfulInstance};
 ghost use Rattle.uc_model.specs.declared.instance.Instance.{Instance};
 ghost use Rattle.dual_model.specs.Certificate.{CertificateHolds};
 ghost use Rattle.branch_tree.specs.StoredTree.{tree_bound};
-ghost use Rattle.branch_tree.specs.Claims.{used_tables, certificate_of};
+ghost use Rattle.branch_tree.specs.TreeView.{IsWhole};
+ghost use Rattle.branch_tree.specs.Claims.{written_tables, certificate_of};
 ghost use Rattle.branch_tree.specs.declared.found.Found.{Found};
 ghost use Rattle.cert_text.specs.CertificateText.{listing_of};
 ghost use Rattle.cert_text.specs.TextConditions.{IsMoney, HasText};
@@ -18,12 +19,12 @@ pub fn ranges_count_digits()
     ensures money { (n : ℤ) → (length (whole_text (unsigned_abs n / 1000000)) + 6 ≤ 38) ↔ IsMoney n }
 {}
 
-/// The certificate of an answer without a schedule has a text where its bound is in the range of money and
-/// the rows of its tables can be counted.
+/// The certificate of an answer without a schedule, whose tree keeps what every tree keeps, has a text where its
+/// bound is in the range of money and the rows of its tables can be counted.
 pub fn certificates_without_schedule_have_text()
-    ensures { (instance : Instance) (found : Found) → IsLawfulInstance instance
+    ensures { (instance : Instance) (found : Found) → IsLawfulInstance instance → IsWhole found.tree
         → CertificateHolds instance (certificate_of instance found) → found.schedule ≡ None
         → IfSome (tree_bound found.tree) IsMoney
-        → All (λ table. length table.ramps < 10 ^ 18) (used_tables found)
+        → All (λ table. length table.ramps < 10 ^ 18) (written_tables found)
         → HasText (listing_of (certificate_of instance found)) }
 {}

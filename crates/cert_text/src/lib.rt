@@ -5,5 +5,6 @@ mod certificate;
 pub mod laws;
 mod schedule;
 mod table;
+mod tree;
 
 pub use certificate::write;

@@ -4,9 +4,15 @@ use Rattle.uc_model.specs.declared.instance.Instance.{Instance}
 use Rattle.dual_model.specs.Certificate.{WrittenSchedule, Certificate}
 use Rattle.dual_model.specs.declared.table.Table.{Table}
 use Rattle.branch_tree.specs.declared.found.Found.{Found}
-use Rattle.branch_tree.specs.Claims.{table_at, leaf_tables, leaf_claim, certificate_of}
+use Rattle.dual_model.specs.Tree.{map_leaves}
+use Rattle.branch_tree.specs.TreeView.{tree_of}
+use Rattle.branch_tree.specs.UsedTables.{used_tables}
+use Rattle.branch_tree.specs.Claims.{table_at, leaf_claim, certificate_of}
+use Rattle.branch_tree.specs.declared.tree.Spot.{Spot}
+use Rattle.branch_tree.specs.declared.tree.Spot.TheVariants as spot
+use Rattle.branch_tree.specs.declared.tree.Tree.{Tree}
 use Rattle.outside.specs.Lines.{joined}
-use Rattle.cert_text.specs.Nodes.{leaf_line}
+use Rattle.cert_text.specs.Nodes.{TreeNode, LeafNode, SplitNode, preorder, node_line}
 use Rattle.cert_text.specs.CertificateText.{version_line, size_line, claim_line, cost_line, no_schedule_line, thermal_line, renewable_line, scale_line, prices_line, ramps_line, ramp_line, end_line}
 
 abbrev pub schedule_part : Option WrittenSchedule → List ℕ
@@ -24,6 +30,15 @@ table_part table =
 abbrev pub tables_part : List Table → List ℕ → List ℕ
 tables_part tables numbers = flat_map (λ number. table_part (table_at tables number)) numbers
 
+-- what stands at a node, as it is written where these tables are used
+abbrev pub spot_node : List ℕ → Spot → TreeNode
+spot_node used (spot.Inner g t off on) = SplitNode g t
+spot_node used (spot.Leaf leaf) = LeafNode (leaf_claim used leaf)
+
+-- the tree's nodes in preorder, where its tables are those used
+abbrev pub tree_part : Tree → List ℕ
+tree_part tree = flat_map node_line (preorder (map_leaves (leaf_claim (used_tables (tree_of tree))) (tree_of tree)))
+
 abbrev pub heading_part : Certificate → List ℕ
 heading_part c =
     joined (version_line 1 ∷ size_line c.periods c.thermal c.renewable (length c.tables) ∷ claim_line c.bound ∷ [])
@@ -31,5 +46,5 @@ heading_part c =
 unfoldable pub certificate_parts : Instance → Found → List ℕ
 certificate_parts instance found =
     let c = certificate_of instance found in
-    joined (heading_part c ∷ schedule_part c.schedule ∷ tables_part found.tables (leaf_tables found.tree.leaf)
-    ∷ leaf_line (leaf_claim found.tree.leaf) ∷ end_line ∷ [])
+    joined (heading_part c ∷ schedule_part c.schedule ∷ tables_part found.tables (used_tables (tree_of found.tree))
+    ∷ tree_part found.tree ∷ end_line ∷ [])

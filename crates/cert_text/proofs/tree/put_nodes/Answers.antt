@@ -1,0 +1,31 @@
+-- The nodes in preorder are those of the tree, so their lines are.
+use Rattle.std.proofs.lemmas.List.{take_all}
+use Rattle.std.proofs.Common.{◌≡◌, ℕ, ◌<◌, List, length, get_or, take, subst, sym, ap, ◌∙◌}
+use Rattle.std.specs.List.{flat_map}
+use Rattle.branch_tree.specs.NumberedTree.{node_count}
+use Rattle.branch_tree.specs.TreeView.{tree_of}
+use Rattle.branch_tree.specs.Claims.{leaf_claim}
+use Rattle.cert_text.specs.Nodes.{preorder, node_line}
+use Rattle.cert_text.specs.inside.WrittenParts.{tree_part}
+use Rattle.dual_model.specs.Tree.{map_leaves}
+use Rattle.branch_tree.proofs.Preorder.{whole_part, numbers_within}
+use Rattle.cert_text.proofs.TreeLines.{line_at, lines_listed}
+use Rattle.cert_text.proofs.tree.put_nodes.Goals as goal
+
+pub node-requires : goal.node-requires
+node-requires g c =
+    let whole = c.args.tree.now.nodes in
+    subst (λ (nodes : List ℕ). (k d : ℕ) → k < length nodes → get_or nodes k d < node_count whole)
+    (sym (c.as_slice-node-items.ensures ∙ c.requires.nodes))
+    (numbers_within whole whole c.keeps_cover.ensures.numbered (whole_part whole)) c.loop-node.node-index 0 c.loop-node-test.true
+
+pub returns : goal.returns
+returns g c =
+    let whole = c.args.tree.now.nodes in
+    let used = c.args.layout.now.tables in
+    let nodes = c.as_slice-node-items.ensures ∙ c.requires.nodes in
+    let all : flat_map (line_at used whole) (take c.loop-node.node-index c.as_slice-node-items.result.now) ≡ tree_part c.args.tree.now =
+    ap (flat_map (line_at used whole)) (take_all c.loop-node.node-index c.as_slice-node-items.result.now c.loop-node-test.false ∙ nodes)
+    ∙ (lines_listed used whole whole c.keeps_cover.ensures.numbered (whole_part whole)
+    ∙ ap (λ tables. flat_map node_line (preorder (map_leaves (leaf_claim tables) (tree_of c.args.tree.now)))) c.requires.tables) in
+    subst (λ text. g.O.Out.emits text c.args.out.now c.loop-node.out) all c.loop-node.invariant

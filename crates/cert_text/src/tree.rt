@@ -1,0 +1,74 @@
+//! The lines of a tree.
+
+ghost use Rattle.std.specs.Prelude.{◌≡◌, ◌∷◌, [], ℕ, suc, ◌<◌};
+ghost use Rattle.outside.specs.Lines.{line};
+ghost use Rattle.uc_model.specs.Decimal.{whole_text};
+ghost use Rattle.branch_tree.specs.UsedTables.{place_of};
+ghost use Rattle.branch_tree.specs.Claims.{IsLayoutOf, leaf_claim};
+ghost use Rattle.cert_text.specs.Nodes.{leaf_line, node_line};
+ghost use Rattle.cert_text.specs.inside.WrittenParts.{spot_node, tree_part};
+
+use branch_tree::{Layout, Leaf, Spot, Tree};
+use outside::{Out, put_place};
+
+// The place, from 0, of a table among those that the leaves use.
+fn place_of(used: &[u32], table: u32) -> usize
+    ensures { result ≡ place_of used.now table }
+{
+    for (place, number) in used.iter().enumerate() {
+        if *number == table {
+            return place;
+        }
+    }
+    used.len()
+}
+
+// A line of one place, from 1, of what stands at `index`, from 0.
+fn put_place_line<O: Out>(out: &mut O, first: &[u8], index: usize)
+    ensures { O.emits (line first.now (whole_text (suc index) ∷ [])) out.old out.new }
+{
+    out.put(first);
+    out.put(b" ");
+    put_place(out, index);
+    out.put(b"\n");
+}
+
+// A leaf with the place of its table.
+fn put_leaf<O: Out>(out: &mut O, used: &[u32], leaf: &Leaf)
+    ensures { O.emits (leaf_line (leaf_claim used.now leaf.now)) out.old out.new }
+{
+    match leaf {
+        Leaf::Live { table, .. } | Leaf::Bound { table, .. } => {
+            put_place_line(out, b"bound", place_of(used, *table));
+        }
+        Leaf::Ray { table } => put_place_line(out, b"ray", place_of(used, *table)),
+        Leaf::Empty { g } => put_place_line(out, b"empty", *g as usize),
+    }
+}
+
+// What stands at a node; units and periods count from 1 in the text.
+fn put_spot<O: Out>(out: &mut O, used: &[u32], spot: &Spot)
+    ensures { O.emits (node_line (spot_node used.now spot.now)) out.old out.new }
+{
+    match spot {
+        Spot::Inner { g, t, .. } => {
+            out.put(b"split ");
+            put_place(out, *g as usize);
+            out.put(b" ");
+            put_place(out, *t as usize);
+            out.put(b"\n");
+        }
+        Spot::Leaf(leaf) => put_leaf(out, used, leaf),
+    }
+}
+
+/// The nodes of the tree in preorder.
+pub(crate) fn put_nodes<O: Out>(out: &mut O, tree: &Tree, layout: &Layout)
+    requires { IsLayoutOf tree.now layout.now }
+    ensures { O.emits (tree_part tree.now) out.old out.new }
+{
+    tree.keeps_cover();
+    for node in layout.nodes.as_slice() {
+        put_spot(out, layout.tables.as_slice(), &tree.node(*node));
+    }
+}
