@@ -3,8 +3,8 @@
 ghost use Rattle.std.specs.Prelude.{pos, ◌≤ℤ◌, IfOk};
 ghost use Rattle.branch_tree.specs.Claims.{HasLayout};
 
-use crate::fixtures::{OFF, instance, on, printed};
-use branch_tree::{Found, Layout, Leaf, Tree};
+use crate::fixtures::{OFF, instance, lone_root, on, printed, two_leaves};
+use branch_tree::{Found, Layout, Leaf};
 use dual_model::{RampRow, Table};
 use outside::{MemorySink, SinkWriter};
 use std::alloc::Global;
@@ -27,7 +27,7 @@ fn table(alloc: Global, k: i64) -> Result<Table, NoMemory>
 // A schedule, in which the first unit starts in the second period and the other one is on all the time, and a
 // bound by the second of two tables.
 fn found(alloc: Global) -> Result<Found, NoMemory>
-    ensures { IfOk result (λ found. HasLayout found) }
+    ensures { IfOk result HasLayout }
 {
     let first = [OFF, on(20_000_000, 5_000_000, 2)];
     let second = [on(0, 0, 0), on(1, 30_000_000, 0)];
@@ -36,16 +36,36 @@ fn found(alloc: Global) -> Result<Found, NoMemory>
         table: 1,
         value: -500_000,
     };
+    let tree = lone_root(alloc, leaf)?;
+    let layout = Layout::of(alloc, &tree, 2)?;
     Ok(Found {
         schedule: Some((schedule, 400_000_001)),
-        tree: Tree::of_leaf(leaf),
+        tree,
         tables: List::from_vec(vec![in alloc; table(alloc, 1)?, table(alloc, 1_000)?]?),
         log: List::from_vec(Vec::new(alloc)),
         most_on: None,
-        layout: Layout {
-            nodes: List::from_vec(vec![in alloc; 0]?),
-            tables: List::from_vec(vec![in alloc; 1]?),
-        },
+        layout,
+    })
+}
+
+// A ray of this price of energy, of one unit and one period.
+fn ray(alloc: Global, price: i64) -> Result<Table, NoMemory> {
+    Table::new(alloc, 1, 0, &[price], &[0], &[])
+}
+
+// Two rays exclude the sides of a split.
+fn infeasible(alloc: Global) -> Result<Found, NoMemory>
+    ensures { IfOk result HasLayout }
+{
+    let tree = two_leaves(alloc, Leaf::Ray { table: 0 }, Leaf::Ray { table: 1 })?;
+    let layout = Layout::of(alloc, &tree, 2)?;
+    Ok(Found {
+        schedule: None,
+        tree,
+        tables: List::from_vec(vec![in alloc; ray(alloc, 1)?, ray(alloc, -1)?]?),
+        log: List::from_vec(Vec::new(alloc)),
+        most_on: None,
+        layout,
     })
 }
 
@@ -69,6 +89,33 @@ mu 0 7\n\
 ramps 1\n\
 ramp 2 1 5 3\n\
 bound 1\n\
+end\n";
+    assert_eq!(rt; out.written().unwrap_or(b""), text);
+    Ok(())
+}
+
+#[test]
+fn writes_a_split(rt: HostRuntime) -> Result<(), Fail> {
+    let alloc = rt.alloc();
+    let mut out = MemorySink::new(alloc);
+    let mut writer = SinkWriter::new(&mut out);
+    let instance = instance(alloc, 1, &["g1"], &[])?;
+    assert!(rt; cert_text::write(&infeasible(alloc)?, &instance, &mut writer).is_ok());
+    let text: &[u8] = b"uc-certificate 1\n\
+size 1 1 0 2\n\
+claim infeasible\n\
+schedule none\n\
+table 0\n\
+pi 1\n\
+mu 0\n\
+ramps 0\n\
+table 0\n\
+pi -1\n\
+mu 0\n\
+ramps 0\n\
+split 1 1\n\
+ray 1\n\
+ray 2\n\
 end\n";
     assert_eq!(rt; out.written().unwrap_or(b""), text);
     Ok(())

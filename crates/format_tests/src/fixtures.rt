@@ -1,7 +1,11 @@
 //! Instances and schedules that the tests share.
 
+ghost use Rattle.std.specs.Prelude.{◌≡◌, IfOk};
+ghost use Rattle.branch_tree.specs.NumberedTree.{EndAt, SplitAt};
+
+use branch_tree::{Leaf, Tree};
 use std::alloc::{AllocError, Global};
-use uc_model::{Cell, Instance, List, Name, Printed, Renewable, Thermal};
+use uc_model::{Cell, Instance, List, Name, NoMemory, Printed, Renewable, Thermal};
 
 pub const OFF: Cell = Cell {
     on: false,
@@ -96,4 +100,24 @@ pub fn printed(
         thermal: rows(alloc, thermal)?,
         renewable: rows(alloc, renewable)?,
     })
+}
+
+/// A tree of its root alone, which stores this leaf.
+pub fn lone_root(alloc: Global, leaf: Leaf) -> Result<Tree, NoMemory>
+    ensures { IfOk result (λ tree. tree.nodes ≡ EndAt 0 leaf) }
+{
+    let mut tree = Tree::with_room(alloc, 1, 1, 1)?;
+    tree.close(0, leaf);
+    Ok(tree)
+}
+
+/// A tree of a split on the one cell of its size, with these leaves.
+pub fn two_leaves(alloc: Global, off: Leaf, on: Leaf) -> Result<Tree, NoMemory>
+    ensures { IfOk result (λ tree. tree.nodes ≡ SplitAt 0 0 0 (EndAt 1 off) (EndAt 2 on)) }
+{
+    let mut tree = Tree::with_room(alloc, 1, 1, 3)?;
+    tree.split(0, 0, 0);
+    tree.close(1, off);
+    tree.close(2, on);
+    Ok(tree)
 }

@@ -13,3 +13,5 @@ mod json_texts;
 mod reports;
 #[cfg(test)]
 mod slots;
+#[cfg(test)]
+mod trees;

@@ -2,14 +2,14 @@
 
 ghost use Rattle.std.specs.Prelude.{◌≤◌};
 
-use crate::fixtures::{OFF, instance, name, on, printed};
-use branch_tree::{Entry, Found, Layout, Leaf, Outcome, Tree};
+use crate::fixtures::{OFF, instance, lone_root, name, on, printed};
+use branch_tree::{Entry, Found, Layout, Leaf, Outcome};
 use outside::{Call, FailingCall, FaultySink, MemorySink, Pace, Slot};
 use report::{Fault, write_fault, write_found};
-use std::alloc::{AllocError, Global};
+use std::alloc::Global;
 use std::process::Abort;
 use std::test::Fail;
-use uc_model::{Field, FieldRefusal, Instance, List, Printed, Refusal, Stuck, Why};
+use uc_model::{Field, FieldRefusal, Instance, List, NoMemory, Printed, Refusal, Stuck, Why};
 
 fn found(
     alloc: Global,
@@ -17,10 +17,10 @@ fn found(
     leaf: Leaf,
     log: Vec<Entry>,
     most_on: Option<Stuck>,
-) -> Found {
-    Found {
+) -> Result<Found, NoMemory> {
+    Ok(Found {
         schedule,
-        tree: Tree::of_leaf(leaf),
+        tree: lone_root(alloc, leaf)?,
         tables: List::from_vec(Vec::new(alloc)),
         log: List::from_vec(log),
         most_on,
@@ -28,19 +28,19 @@ fn found(
             nodes: List::from_vec(Vec::new(alloc)),
             tables: List::from_vec(Vec::new(alloc)),
         },
-    }
+    })
 }
 
 // A schedule of 30 MW in all and a reserve of 5 MW, of cost 300, and this bound.
-fn small_found(alloc: Global, value: i128) -> Result<Found, AllocError> {
+fn small_found(alloc: Global, value: i128) -> Result<Found, NoMemory> {
     let schedule = printed(alloc, &[&[on(20_000_000, 5_000_000, 0)]], &[])?;
     let leaf = Leaf::Bound { table: 0, value };
     let log = Vec::new(alloc);
-    Ok(found(alloc, Some((schedule, 300_000_000)), leaf, log, None))
+    found(alloc, Some((schedule, 300_000_000)), leaf, log, None)
 }
 
 // A schedule of two units over two periods, after one evaluation.
-fn large_found(alloc: Global) -> Result<Found, AllocError> {
+fn large_found(alloc: Global) -> Result<Found, NoMemory> {
     let cells = [OFF, on(20_000_000, 5_000_000, 2)];
     let schedule = printed(alloc, &[&cells], &[&[0, 2_500_000]])?;
     let leaf = Leaf::Live {
@@ -48,11 +48,11 @@ fn large_found(alloc: Global) -> Result<Found, AllocError> {
         value: -500_000,
     };
     let log = vec![in alloc; ENTRY]?;
-    Ok(found(alloc, Some((schedule, 400_000_001)), leaf, log, None))
+    found(alloc, Some((schedule, 400_000_001)), leaf, log, None)
 }
 
 // No schedule, since the most-on commitment got stuck.
-fn stuck_found(alloc: Global, why: Why) -> Result<Found, AllocError> {
+fn stuck_found(alloc: Global, why: Why) -> Result<Found, NoMemory> {
     let prefix = printed(alloc, &[], &[])?;
     let stuck = Stuck {
         period: 0,
@@ -63,7 +63,7 @@ fn stuck_found(alloc: Global, why: Why) -> Result<Found, AllocError> {
         table: 0,
         value: 300_000_000,
     };
-    Ok(found(alloc, None, leaf, vec![in alloc; ENTRY]?, Some(stuck)))
+    found(alloc, None, leaf, vec![in alloc; ENTRY]?, Some(stuck))
 }
 
 const ENTRY: Entry = Entry {
@@ -215,7 +215,7 @@ most-on commitment stuck in period 1: ";
 fn writes_that_no_schedule_exists(rt: HostRuntime) -> Result<(), Fail> {
     let alloc = rt.alloc();
     let instance = instance(alloc, 1, &["g1"], &[])?;
-    let found = found(alloc, None, Leaf::Empty { g: 0 }, Vec::new(alloc), None);
+    let found = found(alloc, None, Leaf::Empty { g: 0 }, Vec::new(alloc), None)?;
     let start = b"periods 1 thermal 1 renewable 0 rounded 0\n";
     assert_report(
         &rt,

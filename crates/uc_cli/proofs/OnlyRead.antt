@@ -1,8 +1,8 @@
 -- A slot that was read as `slurp` says was only read.
-use Rattle.std.proofs.Common.{◌≡◌, ℕ, ◌+◌, ◌≤◌, List, [], ◌++◌, length, sym, ap, ◌∙◌, subst, ⊎_elim, arith}
+use Rattle.std.proofs.Common.{◌≡◌, ℕ, ◌+◌, ◌≤◌, List, [], ◌++◌, length, sym, ap, ◌∙◌, ⊎_elim, arith}
 use Rattle.std.specs.Prelude.{Result, Ok, Err, IfOk, Option, Some, None}
 use Rattle.std.specs.Option.{option_map}
-use Rattle.outside.specs.declared.slot.Stage.TheVariants.{Unopened, Open}
+use Rattle.outside.specs.declared.slot.Stage.TheVariants.{Unopened}
 use Rattle.outside.specs.declared.reading.SlurpFault.{SlurpFault}
 use Rattle.outside.specs.declared.reading.SlurpFault.TheVariants.{Failed, TooLong, NoMemory}
 use Rattle.outside.specs.Slots.{SlotState, CountsFault}

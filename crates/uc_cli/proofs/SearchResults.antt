@@ -1,7 +1,8 @@
 -- What the search answers for a root with a value, and for one with a unit that has no pattern.
-use Rattle.std.proofs.Common.{inl, ℕ, ◌*◌, ◌^◌, ◌<◌, ◌≤◌, [], ◌∷◌, All, length, map, refl, subst, sym, arith, ℤ, unsigned_abs}
-use Rattle.std.specs.Prelude.{None, Result, Ok, Err, IfOk, IfSome}
+use Rattle.std.proofs.Common.{◌≡◌, ◌⊎◌, inl, ⊎_elim, ℕ, ◌*◌, ◌^◌, ◌<◌, ◌≤◌, [], ◌∷◌, length, refl, ap, subst, sym, arith, ℤ, unsigned_abs}
+use Rattle.std.specs.Prelude.{None}
 use Rattle.std.proofs.lemmas.List.Elements.{All-nil, All-cons}
+use Rattle.std.proofs.lemmas.Bool.{cases_order}
 use Rattle.uc_model.specs.Division.{IsFloor}
 use Rattle.uc_model.specs.Limits.{IsLawfulInstance}
 use Rattle.uc_model.specs.declared.limits.TheConstants.{MAX_UNITS}
@@ -9,24 +10,27 @@ use Rattle.uc_model.specs.declared.instance.Instance.{Instance}
 use Rattle.uc_model.proofs.Ring.{linear, le_refl}
 use Rattle.uc_model.proofs.Sizes.{floor-size}
 use Rattle.dual_model.specs.Prices.{IsLawfulTable}
-use Rattle.dual_model.specs.Tree.{root}
+use Rattle.dual_model.specs.Tree.{Ends, root}
 use Rattle.dual_model.specs.NodeValue.{IsNodeValue}
 use Rattle.dual_model.specs.Certificate.{CertificateHolds}
 use Rattle.dual_model.specs.Laws.{IsClaimTrue}
 use Rattle.dual_model.specs.Opening.{ZERO_SCALE, zero_table}
 use Rattle.dual_model.specs.declared.table.Table.{Table}
 use Rattle.dual_model.proofs.Covers.{certificates_claim_truly}
-use Rattle.branch_tree.specs.StoredTree.{IsNodeAt, leaf_bound, tree_bound}
-use Rattle.branch_tree.specs.Claims.{certificate_of, leaf_tables, table_at}
+use Rattle.branch_tree.specs.TreeView.{IsWhole}
+use Rattle.branch_tree.specs.StoredTree.{tree_bound}
+use Rattle.branch_tree.specs.Claims.{IsLayoutOf, certificate_of}
 use Rattle.branch_tree.specs.SearchResult.{IsFirstEmpty, IsTrueEntry, IsFirstClaim, IsSearchResult}
 use Rattle.branch_tree.specs.declared.found.Entry.{Entry}
 use Rattle.branch_tree.specs.declared.found.Found.{Found}
+use Rattle.branch_tree.specs.declared.layout.Layout.{Layout}
+use Rattle.branch_tree.specs.declared.tree.Tree.{Tree}
 use Rattle.branch_tree.specs.declared.found.Outcome.TheVariants.{Value}
 use Rattle.branch_tree.specs.declared.tree.Leaf.TheVariants as leaf
 use Rattle.cert_text.specs.TextConditions.{IsMoney}
 use Rattle.cert_text.proofs.FoundTexts.{found-has-text}
 use Rattle.state_walk.specs.CostToGo.{MAX_COST_TO_GO}
-use Rattle.uc_cli.specs.inside.Search.{IsSearchAnswer}
+use Rattle.uc_cli.specs.inside.Search.{IsSearchAnswer, lone_root}
 use Rattle.uc_cli.proofs.UnpricedTables.{zero_lawful}
 
 -- the one entry of the log
@@ -34,19 +38,19 @@ abbrev pub the_claim : ℤ → Entry
 the_claim v = record { unit = 1; worker = 0; node = 0; table = 0; outcome = Value v }
 
 -- what is answered where the root has the value v, whose bound is b
-abbrev pub bounded_found : Instance → ℤ → ℤ → Found
-bounded_found instance v b = record {
+abbrev pub bounded_found : Instance → ℤ → Tree → Layout → Found
+bounded_found instance v tree layout = record {
   schedule = None;
-  tree = record { leaf = leaf.Bound 0 b };
+  tree = tree;
   tables = zero_table instance ∷ [];
   log = the_claim v ∷ [];
   most_on = None;
-  layout = record { nodes = 0 ∷ []; tables = 0 ∷ [] };
+  layout = layout;
 }
 
-bounded_certificate : (instance : Instance) (v b : ℤ) → IsNodeValue instance root (zero_table instance) v → IsFloor v ZERO_SCALE b
-    → CertificateHolds instance (certificate_of instance (bounded_found instance v b))
-bounded_certificate instance v b value floor = record {
+bounded_certificate : (instance : Instance) (v b : ℤ) (layout : Layout) → IsNodeValue instance root (zero_table instance) v → IsFloor v ZERO_SCALE b
+    → CertificateHolds instance (certificate_of instance (bounded_found instance v (lone_root instance (leaf.Bound 0 b)) layout))
+bounded_certificate instance v b layout value floor = record {
   periods = refl;
   thermal = refl;
   renewable = refl;
@@ -70,21 +74,17 @@ not_first_empty instance v value g empty =
     let unit = value.units g empty.within in
     empty.empty unit.on unit.best.pattern
 
--- the root has the number 0
-at_root : (instance : Instance) (v b : ℤ) → IsNodeAt (bounded_found instance v b).tree 0 root
-at_root instance v b = record { at_root = refl; is_root = refl }
-
-pub bounded_is : (instance : Instance) (v b : ℤ) → IsNodeValue instance root (zero_table instance) v → IsFloor v ZERO_SCALE b
-    → IsSearchResult instance 1 (bounded_found instance v b)
-bounded_is instance v b value floor =
-    let found = bounded_found instance v b in
+pub bounded_is : (instance : Instance) (v b : ℤ) (layout : Layout) → IsLayoutOf (lone_root instance (leaf.Bound 0 b)) layout → IsNodeValue instance root (zero_table instance) v → IsFloor v ZERO_SCALE b
+    → IsSearchResult instance 1 (bounded_found instance v (lone_root instance (leaf.Bound 0 b)) layout)
+bounded_is instance v b layout of_tree value floor =
+    let found = bounded_found instance v (lone_root instance (leaf.Bound 0 b)) layout in
     record {
       truth = record {
-        layout = record { nodes = refl; tables = refl; within = All-cons (λ i. i < 1) 0 [] (omega arith) (All-nil (λ i. i < 1)) };
-        certificate = bounded_certificate instance v b value floor;
+        layout = record { layout = of_tree; within = All-cons (λ i. i < 1) 0 [] (omega arith) (All-nil (λ i. i < 1)) };
+        certificate = bounded_certificate instance v b layout value floor;
         log = record {
           entries = All-cons (IsTrueEntry instance found.tree found.tables) (the_claim v) []
-              (record { node = root; is_node = at_root instance v b; table = zero_table instance; is_table = refl; lawful = zero_lawful instance; outcome = value })
+              (record { node = root; is_node = refl; table = zero_table instance; is_table = refl; lawful = zero_lawful instance; outcome = value })
               (All-nil (IsTrueEntry instance found.tree found.tables));
           apart = λ i j d h k. absurd (omega arith);
         };
@@ -95,7 +95,7 @@ bounded_is instance v b value floor =
         schedule = refl;
         most_on = refl;
         claims = All-cons (IsFirstClaim found.tree instance found.tables) (the_claim v) []
-            (record { unit = refl; worker = refl; node = at_root instance v b; table = refl })
+            (record { unit = refl; worker = refl; node = refl; table = refl })
             (All-nil (IsFirstClaim found.tree instance found.tables));
         opened = record {
           stored = refl;
@@ -118,34 +118,85 @@ bound_text v b floor size =
     let few : unsigned_abs b ≤ MAX_UNITS * MAX_COST_TO_GO = floor-size v ZERO_SCALE b (MAX_UNITS * MAX_COST_TO_GO) (omega (arith, linear)) floor size in
     omega arith
 
-pub bounded_answer : (instance : Instance) (v b : ℤ) → IsLawfulInstance instance → IsNodeValue instance root (zero_table instance) v
-    → IsFloor v ZERO_SCALE b → unsigned_abs v ≤ MAX_UNITS * MAX_COST_TO_GO → IsSearchAnswer instance (bounded_found instance v b)
-bounded_answer instance v b lawful value floor size =
-    let found = bounded_found instance v b in
-    let result = bounded_is instance v b value floor in
-    record {
+pub bounded_answer : (instance : Instance) (v b : ℤ) (tree : Tree) (layout : Layout) → IsLawfulInstance instance
+    → tree ≡ lone_root instance (leaf.Bound 0 b) → IsWhole tree → IsLayoutOf tree layout
+    → IsNodeValue instance root (zero_table instance) v
+    → IsFloor v ZERO_SCALE b → unsigned_abs v ≤ MAX_UNITS * MAX_COST_TO_GO → IsSearchAnswer instance (bounded_found instance v tree layout)
+bounded_answer instance v b tree layout lawful is whole of_tree value floor size =
+    let lone = lone_root instance (leaf.Bound 0 b) in
+    let found = bounded_found instance v lone layout in
+    let result = bounded_is instance v b layout (subst (λ (t : Tree). IsLayoutOf t layout) is of_tree) value floor in
+    let answer : IsSearchAnswer instance found = record {
       search = result;
       claim = claims_truly instance found lawful result;
-      text = found-has-text instance found lawful result.truth.certificate refl (bound_text v b floor size)
+      text = found-has-text instance found lawful (subst IsWhole is whole) result.truth.certificate refl (bound_text v b floor size)
           (All-cons (λ (table : Table). length table.ramps < 10 ^ 18) (zero_table instance) [] (no_rows instance)
           (All-nil (λ (table : Table). length table.ramps < 10 ^ 18)));
+    } in
+    subst (λ (t : Tree). IsSearchAnswer instance (bounded_found instance v t layout)) (sym is) answer
+
+-- what is answered where the root has a unit without a pattern
+abbrev pub excluded_found : Tree → Layout → Found
+excluded_found tree layout = record {
+  schedule = None;
+  tree = tree;
+  tables = [];
+  log = [];
+  most_on = None;
+  layout = layout;
+}
+
+-- there is one first such unit
+first_is_one : (instance : Instance) (g h : ℕ) → IsFirstEmpty instance root g → IsFirstEmpty instance root h → g ≡ h
+first_is_one instance g h one other = ⊎_elim
+    (λ (e : g ≡ h). e)
+    (λ (apart : (g < h) ⊎ (h < g)). ⊎_elim
+    (λ (l : g < h). absurd (other.first g l one.empty))
+    (λ (l : h < g). absurd (one.first h l other.empty))
+    apart)
+    (cases_order g h)
+
+pub excluded_is : (instance : Instance) (g : ℕ) (layout : Layout) → IsLayoutOf (lone_root instance (leaf.Empty g)) layout
+    → IsFirstEmpty instance root g → IsSearchResult instance 1 (excluded_found (lone_root instance (leaf.Empty g)) layout)
+excluded_is instance g layout of_tree empty =
+    let found = excluded_found (lone_root instance (leaf.Empty g)) layout in
+    record {
+      truth = record {
+        layout = record { layout = of_tree; within = All-nil (λ i. i < 0) };
+        certificate = record {
+          periods = refl;
+          thermal = refl;
+          renewable = refl;
+          tables = All-nil (IsLawfulTable instance);
+          tree = tt;
+          schedule = λ written e. absurd (cc);
+          claim = (refl, (empty.within, empty.empty));
+        };
+        log = record {
+          entries = All-nil (IsTrueEntry instance found.tree found.tables);
+          apart = λ i j d h k. absurd (omega arith);
+        };
+      };
+      spent = λ some. absurd (some refl);
+      excluded = λ other first. (ap (λ unit. Ends (leaf.Empty unit)) (first_is_one instance g other empty first), refl);
+      stage = record {
+        schedule = refl;
+        most_on = refl;
+        claims = All-nil (IsFirstClaim found.tree instance found.tables);
+        opened = tt;
+      };
     }
 
--- a root that a unit excludes has no bound and no table
-pub excluded_answer : (instance : Instance) (found : Found) (g : ℕ) → IsLawfulInstance instance → IsFirstEmpty instance root g
-    → IsSearchResult instance 1 found → IsSearchAnswer instance found
-excluded_answer instance found g lawful empty result =
-    let is_empty = (result.excluded g empty).0 in
-    record {
+pub excluded_answer : (instance : Instance) (g : ℕ) (tree : Tree) (layout : Layout) → IsLawfulInstance instance
+    → tree ≡ lone_root instance (leaf.Empty g) → IsWhole tree → IsLayoutOf tree layout
+    → IsFirstEmpty instance root g → IsSearchAnswer instance (excluded_found tree layout)
+excluded_answer instance g tree layout lawful is whole of_tree empty =
+    let found = excluded_found (lone_root instance (leaf.Empty g)) layout in
+    let result = excluded_is instance g layout (subst (λ (t : Tree). IsLayoutOf t layout) is of_tree) empty in
+    let answer : IsSearchAnswer instance found = record {
       search = result;
       claim = claims_truly instance found lawful result;
-      text = found-has-text instance found lawful result.truth.certificate result.stage.schedule
-          (subst (λ l. IfSome (leaf_bound l) IsMoney) (sym is_empty) tt)
-          (subst (λ l. All (λ (table : Table). length table.ramps < 10 ^ 18) (map (table_at found.tables) (leaf_tables l))) (sym is_empty)
-          (All-nil (λ (table : Table). length table.ramps < 10 ^ 18)));
-    }
-
-pub excluded_if_ok : {E : Type 0} (instance : Instance) (g : ℕ) (result : Result Found E) → IsLawfulInstance instance
-    → IsFirstEmpty instance root g → IfOk result (IsSearchResult instance 1) → IfOk result (IsSearchAnswer instance)
-excluded_if_ok instance g (Ok found) lawful empty answer = excluded_answer instance found g lawful empty answer
-excluded_if_ok instance g (Err e) lawful empty answer = tt
+      text = found-has-text instance found lawful (subst IsWhole is whole) result.truth.certificate refl tt
+          (All-nil (λ (table : Table). length table.ramps < 10 ^ 18));
+    } in
+    subst (λ (t : Tree). IsSearchAnswer instance (excluded_found t layout)) (sym is) answer

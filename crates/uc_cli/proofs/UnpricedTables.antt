@@ -18,7 +18,7 @@ use Rattle.uc_model.proofs.Ring.{linear, zero-mul}
 use Rattle.uc_model.proofs.Sums.{sum_below-zero, sum_below-same}
 use Rattle.uc_model.proofs.Tests.{all_below-from}
 use Rattle.dual_model.specs.Prices.{pi_at, mu_at, IsPrice, IsWellFormed, IsLawfulTable}
-use Rattle.dual_model.specs.Fixings.{IsFixOf, IsPatternAt, HasNoPattern}
+use Rattle.dual_model.specs.Fixings.{IsFixOf, HasNoPattern}
 use Rattle.dual_model.specs.Tree.{root}
 use Rattle.dual_model.specs.Term.{output_price, reserve_price}
 use Rattle.dual_model.specs.UnitValue.{IsUnitValue}

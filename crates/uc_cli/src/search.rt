@@ -8,10 +8,11 @@ ghost use Rattle.uc_model.specs.declared.instance.Instance.{Instance};
 ghost use Rattle.dual_model.specs.NodeValue.{IsNodeValue};
 ghost use Rattle.dual_model.specs.Opening.{unpriced_table, zero_table};
 ghost use Rattle.dual_model.specs.Tree.{root};
-ghost use Rattle.branch_tree.specs.SearchResult.{IsFirstEmpty, IsSearchResult};
+ghost use Rattle.branch_tree.specs.TreeView.{IsWhole};
+ghost use Rattle.branch_tree.specs.SearchResult.{IsFirstEmpty};
 ghost use Rattle.state_walk.specs.CostToGo.{IsWithin, MAX_COST_TO_GO};
 ghost use Rattle.dual_model.specs.TableValue.{IsLawfulScale, IsUnitValueOf};
-ghost use Rattle.uc_cli.specs.inside.Search.{HasEachPattern, IsSearchAnswer};
+ghost use Rattle.uc_cli.specs.inside.Search.{HasEachPattern, IsSearchAnswer, lone_root};
 
 use branch_tree::{Entry, Found, Layout, Leaf, Outcome, Tree};
 use cost_curves::Curve;
@@ -119,21 +120,33 @@ fn single<T: Drop>(alloc: Global, item: T) -> Result<List<T>, NoMemory>
     Ok(List::from_vec(items))
 }
 
+// A tree of its root alone, which stores this leaf.
+fn lone_root(alloc: Global, instance: &Instance, leaf: Leaf) -> Result<Tree, NoMemory>
+    requires { IsLawfulInstance instance.now }
+    ensures tree { IfOk result (λ tree. tree ≡ lone_root instance.now leaf) }
+    ensures whole { IfOk result IsWhole }
+{
+    let units = instance.thermal.as_slice().len() as u32;
+    let mut tree = Tree::with_room(alloc, units, instance.periods, 1)?;
+    tree.close(0, leaf);
+    Ok(tree)
+}
+
 // The root is excluded, since this unit has no allowed pattern.
 fn excluded(alloc: Global, instance: &Instance, g: u32) -> Result<Found, NoMemory>
-    requires { IsFirstEmpty instance.now root g }
-    ensures { IfOk result (IsSearchResult instance.now 1) }
+    requires lawful { IsLawfulInstance instance.now }
+    requires empty { IsFirstEmpty instance.now root g }
+    ensures { IfOk result (IsSearchAnswer instance.now) }
 {
+    let tree = lone_root(alloc, instance, Leaf::Empty { g })?;
+    let layout = Layout::of(alloc, &tree, 0)?;
     Ok(Found {
         schedule: None,
-        tree: Tree::of_leaf(Leaf::Empty { g }),
+        tree,
         tables: List::from_vec(Vec::new(alloc)),
         log: List::from_vec(Vec::new(alloc)),
         most_on: None,
-        layout: Layout {
-            nodes: single(alloc, 0)?,
-            tables: List::from_vec(Vec::new(alloc)),
-        },
+        layout,
     })
 }
 
@@ -152,19 +165,21 @@ fn bounded(alloc: Global, instance: &Instance, value: &i128) -> Result<Found, No
         outcome: Outcome::Value(*value),
     };
     let bound = floor_div(*value, i128::from(SCALE));
+    let leaf = Leaf::Bound {
+        table: 0,
+        value: bound,
+    };
+    let tables = single(alloc, no_prices(alloc, instance)?)?;
+    let log = single(alloc, claim)?;
+    let tree = lone_root(alloc, instance, leaf)?;
+    let layout = Layout::of(alloc, &tree, 1)?;
     Ok(Found {
         schedule: None,
-        tree: Tree::of_leaf(Leaf::Bound {
-            table: 0,
-            value: bound,
-        }),
-        tables: single(alloc, no_prices(alloc, instance)?)?,
-        log: single(alloc, claim)?,
+        tree,
+        tables,
+        log,
         most_on: None,
-        layout: Layout {
-            nodes: single(alloc, 0)?,
-            tables: single(alloc, 0)?,
-        },
+        layout,
     })
 }
 

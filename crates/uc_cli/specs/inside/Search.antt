@@ -1,5 +1,6 @@
 -- What a search knows of the first units, their patterns and the sum of their values, and what it answers.
 use Rattle.std.specs.Prelude.{◌≡◌, ℕ, zero, suc, ◌<◌, ℤ, pos, ◌+ℤ◌}
+use Rattle.uc_model.specs.Schedule.{thermal_count}
 use Rattle.uc_model.specs.declared.instance.Instance.{Instance}
 use Rattle.dual_model.specs.Fixings.{HasNoPattern}
 use Rattle.dual_model.specs.Laws.{IsClaimTrue}
@@ -7,10 +8,13 @@ use Rattle.dual_model.specs.Tree.{root}
 use Rattle.dual_model.specs.UnitValue.{IsUnitValue}
 use Rattle.dual_model.specs.declared.node.Node.{Node}
 use Rattle.dual_model.specs.declared.table.Table.{Table}
+use Rattle.branch_tree.specs.NumberedTree.{EndAt}
+use Rattle.branch_tree.specs.TreeView.{TreeView}
 use Rattle.branch_tree.specs.StoredTree.{tree_bound}
 use Rattle.branch_tree.specs.Claims.{certificate_of}
 use Rattle.branch_tree.specs.SearchResult.{IsSearchResult}
 use Rattle.branch_tree.specs.declared.found.Found.{Found}
+use Rattle.branch_tree.specs.declared.tree.Leaf.{Leaf}
 use Rattle.cert_text.specs.CertificateText.{listing_of}
 use Rattle.cert_text.specs.TextConditions.{HasText}
 
@@ -30,3 +34,7 @@ pub record IsSearchAnswer (instance : Instance) (found : Found) : Type 0 where
   pub search : IsSearchResult instance 1 found
   pub claim : IsClaimTrue instance (tree_bound found.tree)
   pub text : HasText (listing_of (certificate_of instance found))
+
+-- a tree of its root alone, which stores this leaf
+abbrev pub lone_root : Instance → Leaf → TreeView
+lone_root instance leaf = record { units = thermal_count instance; periods = instance.periods; room = 1; nodes = EndAt 0 leaf }

@@ -1,5 +1,5 @@
 -- Each turn finds a pattern of one unit more, or the first unit without one.
-use Rattle.std.proofs.Common.{◌≡◌, ◌<◌, length, ap, subst, ◌∙◌, arith}
+use Rattle.std.proofs.Common.{◌≡◌, length, ap, subst, ◌∙◌, arith}
 use Rattle.uc_model.specs.Schedule.{thermal_count}
 use Rattle.dual_model.specs.Tree.{root}
 use Rattle.dual_model.specs.Opening.{unpriced_table}
