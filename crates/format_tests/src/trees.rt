@@ -53,11 +53,15 @@ fn tells_bound_paths_and_layout(rt: HostRuntime) -> Result<(), Fail> {
     assert_eq!(rt; tree.node(2), inner);
     assert_eq!(rt; tree.node(3), Spot::Leaf(Leaf::Ray { table: 0 }));
     assert_path(&rt, tree.fixings(alloc, 0)?.fixings.as_slice(), &[]);
-    assert_path(&rt, tree.fixings(alloc, 1)?.fixings.as_slice(), &[(1, 2, false)]);
+    assert_path(
+        &rt,
+        tree.fixings(alloc, 1)?.fixings.as_slice(),
+        &[(1, 2, false)],
+    );
     let path = [(1, 2, true), (0, 0, false)];
     assert_path(&rt, tree.fixings(alloc, 3)?.fixings.as_slice(), &path);
     let layout = Layout::of(alloc, &tree, 2)?;
-    assert_eq!(rt; layout.nodes.as_slice(), &[0, 1, 2, 3, 4]);
-    assert_eq!(rt; layout.tables.as_slice(), &[1, 0]);
+    assert_eq!(rt; layout.nodes.as_slice(), [0, 1, 2, 3, 4].as_slice());
+    assert_eq!(rt; layout.tables.as_slice(), [1, 0].as_slice());
     Ok(())
 }
