@@ -1,4 +1,6 @@
 pub mod Nodes
 pub mod CertificateText
 pub mod TextConditions
+pub mod Grammar
+pub mod Reading
 pub mod inside

@@ -1,6 +1,6 @@
 -- What a certificate has to meet to have a text of the grammar: its size, the shapes of its lists, and how many digits its
 -- numbers have. This project's own format.
-use Rattle.std.specs.Prelude.{◌≡◌, ℕ, ◌^◌, ◌<◌, ◌≤◌, List, ℤ, unsigned_abs, IfSome, IsTrue, All, length}
+use Rattle.std.specs.Prelude.{◌≡◌, ℕ, ◌^◌, ◌<◌, ◌≤◌, true, false, List, ℤ, pos, unsigned_abs, IfSome, All, length}
 use Rattle.uc_model.specs.declared.schedule.Cell.{Cell}
 use Rattle.dual_model.specs.Certificate.{WrittenSchedule}
 use Rattle.dual_model.specs.Prices.{IsWellFormed}
@@ -23,10 +23,20 @@ pub record IsOnCell (cell : Cell) : Type 0 where
   pub reserve : HasDigits 15 cell.r
   pub category : cell.category ≤ 255
 
+-- an off cell, which has no number
+pub record IsOffCell (cell : Cell) : Type 0 where
+  pub output : cell.p ≡ pos 0
+  pub reserve : cell.r ≡ pos 0
+  pub category : cell.category ≡ 0
+
+pub record IsCellText (cell : Cell) : Type 0 where
+  pub on : cell.on ≡ true → IsOnCell cell
+  pub off : cell.on ≡ false → IsOffCell cell
+
 -- a row for each unit, of a cell, or an output in watts, for each period
 pub record IsThermalRow (periods : ℕ) (row : List Cell) : Type 0 where
   pub cells : length row ≡ periods
-  pub written : All (λ cell. IsTrue cell.on → IsOnCell cell) row
+  pub written : All IsCellText row
 
 pub record IsRenewableRow (periods : ℕ) (row : List ℤ) : Type 0 where
   pub outputs : length row ≡ periods

@@ -1,1 +1,4 @@
 pub mod WrittenParts
+pub mod Forms
+pub mod LineForms
+pub mod ReadViews

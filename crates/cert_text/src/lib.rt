@@ -1,10 +1,13 @@
 //! The text of certificates.
 #![tactic(auto, unfolding(outside::specs::Lines::line, outside::specs::Lines::list_line))]
 
+mod cert;
 mod certificate;
 pub mod laws;
+mod reader;
 mod schedule;
 mod table;
 mod tree;
 
+pub use cert::{Cert, CertFault, CertKind, CertNode};
 pub use certificate::write;

@@ -1,0 +1,105 @@
+-- The grammar of certificates in version 1, line by line: which line may stand where, and what has to come after it. A
+-- count is a number of its digits, however many lines it asks for. This project's own format.
+--
+-- Units, periods and tables count from 0 here, and from 1 in the text.
+use Rattle.std.specs.Prelude.{◌≡◌, ℕ, zero, suc, ◌^◌, ◌<◌, ◌≤◌, List, [], ◌∷◌, ◌++◌, ℤ, Option, Some, None, IfSome, replicate, codes, length, All, pos, ◌≤ℤ◌, ◌⊎◌, ◌≢◌}
+use Rattle.uc_model.specs.declared.schedule.Cell.{Cell}
+use Rattle.dual_model.specs.Prices.{IsRowBefore, IsRowWithin}
+use Rattle.dual_model.specs.declared.table.RampRow.{RampRow}
+use Rattle.outside.specs.Lines.{line}
+use Rattle.uc_model.specs.Decimal.{whole_text}
+use Rattle.cert_text.specs.Nodes.{TreeNode, LeafNode, SplitNode, node_line, IsNodeWithin}
+use Rattle.cert_text.specs.TextConditions.{HasDigits, IsMoney, IsThermalRow, IsRenewableRow, IsRampText}
+use Rattle.cert_text.specs.CertificateText.{version_line, size_line, claim_line, cost_line, no_schedule_line, thermal_line, renewable_line, scale_line, prices_line, ramp_line, end_line}
+
+-- the numbers of periods, thermal units, renewable units and tables
+pub record Sizes : Type 0 where
+  pub periods : ℕ
+  pub thermal : ℕ
+  pub renewable : ℕ
+  pub tables : ℕ
+
+pub record AreSizes (size : Sizes) : Type 0 where
+  pub some_period : 1 ≤ size.periods
+  pub periods : size.periods ≤ 168
+  pub thermal : size.thermal ≤ 4096
+  pub renewable : size.renewable ≤ 4096
+  pub tables : size.tables < 2 ^ 32
+
+-- what a line may be
+pub data Symbol : Type 0 where
+  Version : Symbol
+  Size : Symbol
+  Claim : Symbol
+  -- the schedule, of a system of that size
+  Schedule : Sizes → Symbol
+  ThermalRow : Sizes → Symbol
+  RenewableRow : Sizes → Symbol
+  -- the first line of a table, and those of its prices, which begin with these words
+  Scale : Sizes → Symbol
+  Prices : List ℕ → Sizes → Symbol
+  -- the count of a table's ramp rows; and a row, so many before the last one, behind another or as the first
+  Ramps : Sizes → Symbol
+  Ramp : Sizes → ℕ → Option RampRow → Symbol
+  Node : Sizes → Symbol
+  End : Symbol
+
+-- so many ramp rows are to come, behind one or as the first ones
+abbrev pub ramp_rows : Sizes → ℕ → Option RampRow → List Symbol
+ramp_rows size zero before = []
+ramp_rows size (suc more) before = Ramp size more before ∷ []
+
+-- what comes behind a schedule's line: its rows where there is one
+abbrev pub schedule_rows : Sizes → Option ℤ → List Symbol
+schedule_rows size None = []
+schedule_rows size (Some cost) = replicate size.thermal (ThermalRow size) ++ replicate size.renewable (RenewableRow size)
+
+abbrev pub schedule_line : Option ℤ → List ℕ
+schedule_line None = no_schedule_line
+schedule_line (Some cost) = cost_line cost
+
+-- a split is followed by two trees
+abbrev pub children : Sizes → TreeNode → List Symbol
+children size (LeafNode leaf) = []
+children size (SplitNode g t) = Node size ∷ Node size ∷ []
+
+abbrev pub ramp_count_line : ℕ → List ℕ
+ramp_count_line count = line (codes "ramps") (whole_text count ∷ [])
+
+-- a row that may stand behind another one
+pub record IsRampAfter (size : Sizes) (before : Option RampRow) (row : RampRow) : Type 0 where
+  pub within : IsRowWithin size.thermal size.periods row
+  pub written : IsRampText row
+  pub rises : IfSome before (λ earlier. IsRowBefore earlier row)
+
+-- what comes behind the line of the size
+abbrev pub after_size : Sizes → List Symbol
+after_size size = Claim ∷ Schedule size ∷ (replicate size.tables (Scale size) ++ Node size ∷ End ∷ [])
+
+-- a line of that kind, which has to be followed by lines of these kinds before what was to come anyway
+abbrev pub Produces : Symbol → List ℕ → List Symbol → Type 0
+Produces Version text next = (text ≡ version_line 1) × (next ≡ Size ∷ [])
+Produces Size text next =
+    (size : Sizes) × AreSizes size × (text ≡ size_line size.periods size.thermal size.renewable size.tables) × (next ≡ after_size size)
+Produces Claim text next = (bound : Option ℤ) × IfSome bound IsMoney × (text ≡ claim_line bound) × (next ≡ [])
+Produces (Schedule size) text next =
+    (cost : Option ℤ) × IfSome cost IsMoney × (text ≡ schedule_line cost) × (next ≡ schedule_rows size cost)
+Produces (ThermalRow size) text next = (row : List Cell) × IsThermalRow size.periods row × (text ≡ thermal_line row) × (next ≡ [])
+Produces (RenewableRow size) text next = (row : List ℤ) × IsRenewableRow size.periods row × (text ≡ renewable_line row) × (next ≡ [])
+Produces (Scale size) text next =
+    (k : ℕ) × (k < 10 ^ 18) × (text ≡ scale_line (pos k))
+    × (next ≡ Prices (codes "pi") size ∷ Prices (codes "mu") size ∷ Ramps size ∷ [])
+Produces (Prices word size) text next =
+    (prices : List ℤ) × (length prices ≡ size.periods) × All (HasDigits 18) prices × (text ≡ prices_line word prices) × (next ≡ [])
+Produces (Ramps size) text next = (count : ℕ) × (count < 10 ^ 18) × (text ≡ ramp_count_line count) × (next ≡ ramp_rows size count None)
+Produces (Ramp size more before) text next =
+    (row : RampRow) × IsRampAfter size before row × (text ≡ ramp_line row) × (next ≡ ramp_rows size more (Some row))
+Produces (Node size) text next =
+    (node : TreeNode) × IsNodeWithin size.periods size.thermal size.tables node × (text ≡ node_line node) × (next ≡ children size node)
+Produces End text next = (text ≡ end_line) × (next ≡ [])
+
+-- where lines of these kinds are to come, these lines may stand, and then lines of those kinds are to come
+abbrev pub Reaches : List Symbol → List (List ℕ) → List Symbol → Type 0
+Reaches kinds [] left = kinds ≡ left
+Reaches [] (text ∷ texts) left = ⊥
+Reaches (kind ∷ kinds) (text ∷ texts) left = (next : List Symbol) × Produces kind text next × Reaches (next ++ kinds) texts left

@@ -1,0 +1,26 @@
+-- What a certificate that was read says: the listing that it stands for. This project's own format.
+use Rattle.std.specs.Prelude.{◌≡◌, ℕ, List, map}
+use Rattle.dual_model.specs.Cover.{Bound, Ray, Empty}
+use Rattle.branch_tree.specs.Claims.{written_of}
+use Rattle.cert_text.specs.declared.cert.Cert.{Cert}
+use Rattle.cert_text.specs.declared.cert.CertNode.{CertNode}
+use Rattle.cert_text.specs.declared.cert.CertNode.TheVariants as nodes
+use Rattle.cert_text.specs.Nodes.{TreeNode, LeafNode, SplitNode}
+use Rattle.cert_text.specs.CertificateText.{Listing}
+
+abbrev pub node_of : CertNode → TreeNode
+node_of (nodes.Split g t) = SplitNode g t
+node_of (nodes.Bound table) = LeafNode (Bound table)
+node_of (nodes.Ray table) = LeafNode (Ray table)
+node_of (nodes.Empty g) = LeafNode (Empty g)
+
+abbrev pub listing_read : Cert → Listing
+listing_read cert = record {
+  periods = cert.periods;
+  thermal = cert.thermal;
+  renewable = cert.renewable;
+  bound = cert.bound;
+  schedule = written_of cert.schedule;
+  tables = cert.tables;
+  nodes = map node_of cert.tree;
+}

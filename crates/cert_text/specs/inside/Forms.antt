@@ -1,0 +1,110 @@
+-- Reading from the front of bytes: a form is a thing that may stand there, and reading it gives its value and the bytes
+-- behind it. Long forms are made of short ones.
+use Rattle.std.specs.Prelude.{◌≡◌, ℕ, zero, suc, ◌+◌, ◌-◌, ◌*◌, Bool, true, false, ◌&&◌, ◌||◌, ◌==◌, nat_lt, nat_le, List, [], ◌∷◌, length, drop, take, Option, Some, None, option_and_then, ℤ, pos, negsuc, nat_eq, not, codes, if◌then◌else◌}
+use Rattle.std.specs.List.{starts_with, prefix_len}
+use Rattle.std.specs.Str.Parse.{digits_value}
+use Rattle.std.specs.Char.{digit_value}
+
+infixl 10 ◌>>=◌
+abbrev pub ◌>>=◌ : {A B : Type 0} → Option A → (A → Option B) → Option B
+o >>= f = option_and_then f o
+
+-- a value and the bytes behind it, where the form stands at the front
+abbrev pub Form : Type 0 → Type 0
+Form A = List ℕ → Option (A × List ℕ)
+
+-- what a function returned, seen by view, is what reading gives
+abbrev pub Gives : {X Y : Type 0} → (X → Y) → Option X → Option Y → Type 0
+Gives view (Some x) read = read ≡ Some (view x)
+Gives view None read = read ≡ None
+
+-- ---- forms made of forms
+-- the bytes behind a fixed text
+unfoldable pub text_at : List ℕ → List ℕ → Option (List ℕ)
+text_at text bytes = if starts_with nat_eq bytes text then Some (drop (length text) bytes) else None
+
+abbrev pub after : {A : Type 0} → List ℕ → Form A → Form A
+after text form bytes = text_at text bytes >>= form
+
+abbrev pub ended : {A : Type 0} → Form A → List ℕ → Form A
+ended form text bytes = form bytes >>= λ x. text_at text x.1 >>= λ rest. Some (x.0, rest)
+
+abbrev pub both : {A B : Type 0} → Form A → Form B → Form (A × B)
+both first second bytes = first bytes >>= λ x. second x.1 >>= λ y. Some ((x.0, y.0), y.1)
+
+abbrev pub mapped : {A B : Type 0} → (A → B) → Form A → Form B
+mapped f form bytes = form bytes >>= λ x. Some (f x.0, x.1)
+
+abbrev pub passing : {A : Type 0} → (A → Bool) → Form A → Form A
+passing test form bytes = form bytes >>= λ x. if test x.0 then Some x else None
+
+-- the form behind a text that stands at the front, or else what another reading gave
+abbrev pub when : {A : Type 0} → Option (List ℕ) → Form A → Option (A × List ℕ) → Option (A × List ℕ)
+when None form other = other
+when (Some rest) form other = form rest
+
+-- a text that stands for one value
+abbrev pub fixed : {A : Type 0} → List ℕ → A → Form A
+fixed text value bytes = text_at text bytes >>= λ rest. Some (value, rest)
+
+-- the first form, or else the second
+abbrev pub or_else : {A : Type 0} → Option A → Option A → Option A
+or_else None other = other
+or_else (Some x) other = Some x
+
+-- the form so many times
+unfoldable pub times : {A : Type 0} → ℕ → Form A → Form (List A)
+times zero form bytes = Some ([], bytes)
+times (suc n) form bytes = form bytes >>= λ x. times n form x.1 >>= λ xs. Some (x.0 ∷ xs.0, xs.1)
+
+-- ---- numbers
+abbrev pub is_digit : ℕ → Bool
+is_digit c = nat_lt (digit_value c) 10
+
+-- how many digits stand at the front, and their number
+abbrev pub run : List ℕ → ℕ
+run bytes = prefix_len is_digit bytes
+
+abbrev pub run_value : List ℕ → ℕ
+run_value bytes = digits_value 10 (take (run bytes) bytes)
+
+abbrev pub begins_with : ℕ → List ℕ → Bool
+begins_with c [] = false
+begins_with c (b ∷ bytes) = b == c
+
+-- at least one digit and at most so many, and no zero before another digit
+abbrev pub is_whole : ℕ → List ℕ → Bool
+is_whole digits bytes = (nat_lt 0 (run bytes) && nat_le (run bytes) digits) && (not (begins_with 48 bytes) || (run bytes == 1))
+
+unfoldable pub whole_at : ℕ → Form ℕ
+whole_at digits bytes = if is_whole digits bytes then Some (run_value bytes, drop (run bytes) bytes) else None
+
+-- six digits
+unfoldable pub decimals_at : Form ℕ
+decimals_at bytes = if run bytes == 6 then Some (run_value bytes, drop (run bytes) bytes) else None
+
+-- a minus stands before no zero
+abbrev pub negative : ℕ → Option ℤ
+negative zero = None
+negative (suc n) = Some (negsuc n)
+
+-- the form, with a minus before it or not
+abbrev pub with_sign : Form ℕ → Form ℤ
+with_sign form bytes =
+    if begins_with 45 bytes then (form (drop 1 bytes) >>= λ x. negative x.0 >>= λ z. Some (z, x.1)) else (form bytes >>= λ x. Some (pos x.0, x.1))
+
+unfoldable pub signed_at : ℕ → Form ℤ
+signed_at digits = with_sign (whole_at digits)
+
+abbrev pub millionths : ℕ × ℕ → ℕ
+millionths parts = parts.0 * 1000000 + parts.1
+
+unfoldable pub millionths_at : Form ℕ
+millionths_at = mapped millionths (both (ended (whole_at 32) (codes ".")) decimals_at)
+
+unfoldable pub money_at : Form ℤ
+money_at = with_sign millionths_at
+
+-- a number from 1 on, that counts from 0 here
+unfoldable pub ordinal_at : Form ℕ
+ordinal_at = mapped (λ n. n - 1) (passing (λ n. nat_lt 0 n) (whole_at 18))

@@ -1,0 +1,50 @@
+//! What a certificate says, as it was read.
+
+use dual_model::Table;
+use uc_model::{List, Printed};
+
+/// A node of a certificate's tree. Units, periods and tables count from 0 here, and from 1 in the text.
+#[derive(Clone, Copy, Debug, PartialEq, Eq)]
+pub enum CertNode {
+    /// A split on thermal unit `g` in period `t`: the nodes of the child with the unit off follow, then those of the
+    /// child with it on.
+    Split { g: u32, t: u32 },
+    /// A leaf with a bound at the table of this number.
+    Bound(u32),
+    /// A leaf that the ray of this number excludes.
+    Ray(u32),
+    /// A leaf at which the thermal unit of this number has no pattern.
+    Empty(u32),
+}
+
+/// A certificate: the numbers of periods, thermal and renewable units; the bound that is claimed, in micro-dollars,
+/// or none where infeasibility is; a schedule with its cost in micro-dollars; the tables; and the tree, as its nodes
+/// in preorder.
+#[derive(Debug, Drop)]
+pub struct Cert {
+    pub periods: u32,
+    pub thermal: u32,
+    pub renewable: u32,
+    pub bound: Option<i128>,
+    pub schedule: Option<(Printed, i128)>,
+    pub tables: List<Table>,
+    pub tree: List<CertNode>,
+}
+
+/// What is wrong with a line.
+#[derive(Clone, Copy, Debug, PartialEq, Eq)]
+pub enum CertKind {
+    /// A line, ended by its line feed, may not stand there.
+    Form,
+    /// The bytes end before the line feed of the line.
+    Cut,
+    /// A byte follows the line `end`.
+    Tail,
+}
+
+/// Why bytes were not read: the first line, from 1, that is at fault, or memory was refused.
+#[derive(Clone, Copy, Debug, PartialEq, Eq)]
+pub enum CertFault {
+    At { line: u64, kind: CertKind },
+    NoMemory,
+}

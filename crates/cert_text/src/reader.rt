@@ -1,0 +1,5 @@
+//! Reading certificates.
+
+mod lines;
+mod numbers;
+mod sizes;

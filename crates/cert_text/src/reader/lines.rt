@@ -1,0 +1,203 @@
+//! The other lines of one value.
+
+ghost use Rattle.std.specs.Prelude.{◌≡◌, ◌<◌, IfSome, codes};
+ghost use Rattle.cert_text.specs.Nodes.{LeafNode, SplitNode};
+ghost use Rattle.cert_text.specs.inside.Forms.{Gives, ended, money_at};
+ghost use Rattle.cert_text.specs.inside.LineForms.{claim_at, schedule_at, on_cell_at, cell_at, scale_at, ramp_count_at, ramp_at, rises, is_ramp, named_at, split_at, node_at};
+ghost use Rattle.cert_text.specs.inside.ReadViews.{sizes};
+ghost use Rattle.cert_text.specs.Reading.{node_of};
+
+use super::numbers::{take_byte, take_count, take_money, take_ordinal, take_signed, take_text};
+use super::sizes::Size;
+use crate::cert::CertNode;
+use dual_model::RampRow;
+use uc_model::Cell;
+
+// Money up to the end of the line.
+fn take_last_money(bytes: &[u8]) -> Option<(i128, &[u8])>
+    ensures { Gives (λ r. (r.0, r.1.now)) result (ended money_at (codes "\n") bytes.now) }
+{
+    let (money, rest) = take_money(bytes)?;
+    let rest = take_byte(rest, b'\n')?;
+    Some((money, rest))
+}
+
+/// The bound that is claimed, or none.
+#[tactic(auto, unfolding(crate::specs::inside::LineForms::claim_at))]
+pub(crate) fn take_claim(bytes: &[u8]) -> Option<(Option<i128>, &[u8])>
+    ensures { Gives (λ r. (r.0, r.1.now)) result (claim_at bytes.now) }
+{
+    if let Some(rest) = take_text(bytes, b"claim bound ") {
+        let (bound, rest) = take_last_money(rest)?;
+        return Some((Some(bound), rest));
+    }
+    let rest = take_text(bytes, b"claim infeasible\n")?;
+    Some((None, rest))
+}
+
+/// The cost of the schedule that follows, or none.
+#[tactic(auto, unfolding(crate::specs::inside::LineForms::schedule_at))]
+pub(crate) fn take_schedule(bytes: &[u8]) -> Option<(Option<i128>, &[u8])>
+    ensures { Gives (λ r. (r.0, r.1.now)) result (schedule_at bytes.now) }
+{
+    if let Some(rest) = take_text(bytes, b"schedule none\n") {
+        return Some((None, rest));
+    }
+    let rest = take_text(bytes, b"schedule ")?;
+    let (cost, rest) = take_last_money(rest)?;
+    Some((Some(cost), rest))
+}
+
+#[tactic(auto, unfolding(crate::specs::inside::LineForms::on_cell_at))]
+fn take_on_cell(bytes: &[u8]) -> Option<(Cell, &[u8])>
+    ensures { Gives (λ r. (r.0, r.1.now)) result (on_cell_at bytes.now) }
+{
+    let (p, rest) = take_signed(bytes, 15)?;
+    let rest = take_byte(rest, b':')?;
+    let (r, rest) = take_signed(rest, 15)?;
+    let rest = take_byte(rest, b':')?;
+    let (category, rest) = take_count(rest, 18)?;
+    if category > 255 {
+        return None;
+    }
+    let cell = Cell {
+        on: true,
+        p,
+        r,
+        category: category as u8,
+    };
+    Some((cell, rest))
+}
+
+/// A cell of the schedule.
+#[tactic(auto, unfolding(crate::specs::inside::LineForms::cell_at))]
+pub(crate) fn take_cell(bytes: &[u8]) -> Option<(Cell, &[u8])>
+    ensures { Gives (λ r. (r.0, r.1.now)) result (cell_at bytes.now) }
+{
+    if let Some((cell, rest)) = take_on_cell(bytes) {
+        return Some((cell, rest));
+    }
+    let rest = take_byte(bytes, b'-')?;
+    let cell = Cell {
+        on: false,
+        p: 0,
+        r: 0,
+        category: 0,
+    };
+    Some((cell, rest))
+}
+
+/// The scale of a table, in its first line.
+#[tactic(auto, unfolding(crate::specs::inside::LineForms::scale_at))]
+pub(crate) fn take_scale(bytes: &[u8]) -> Option<(u64, &[u8])>
+    ensures value { Gives (λ r. (r.0, r.1.now)) result (scale_at bytes.now) }
+    ensures bound { IfSome result (λ r. r.0 < 1000000000000000000) }
+{
+    let rest = take_text(bytes, b"table ")?;
+    let (k, rest) = take_count(rest, 18)?;
+    let rest = take_byte(rest, b'\n')?;
+    Some((k, rest))
+}
+
+/// How many ramp rows a table has.
+#[tactic(auto, unfolding(crate::specs::inside::LineForms::ramp_count_at))]
+pub(crate) fn take_ramp_count(bytes: &[u8]) -> Option<(u64, &[u8])>
+    ensures { Gives (λ r. (r.0, r.1.now)) result (ramp_count_at bytes.now) }
+{
+    let rest = take_text(bytes, b"ramps ")?;
+    let (count, rest) = take_count(rest, 18)?;
+    let rest = take_byte(rest, b'\n')?;
+    Some((count, rest))
+}
+
+fn rises(before: &Option<RampRow>, row: &RampRow) -> bool
+    ensures { result ≡ rises before.now row.now }
+{
+    match before {
+        None => true,
+        Some(before) => before.g < row.g || (before.g == row.g && before.t < row.t),
+    }
+}
+
+/// A row of ramp multipliers behind another one, or as the first.
+#[tactic(auto, unfolding(crate::specs::inside::LineForms::ramp_at))]
+pub(crate) fn take_ramp<'a>(
+    bytes: &'a [u8],
+    size: &Size,
+    before: &Option<RampRow>,
+) -> Option<(RampRow, &'a [u8])>
+    ensures { Gives (λ r. (r.0, r.1.now)) result (ramp_at (sizes size.now) before.now bytes.now) }
+{
+    let rest = take_text(bytes, b"ramp ")?;
+    let (g, rest) = take_ordinal(rest)?;
+    let rest = take_byte(rest, b' ')?;
+    let (t, rest) = take_ordinal(rest)?;
+    let rest = take_byte(rest, b' ')?;
+    let (up, rest) = take_signed(rest, 18)?;
+    let rest = take_byte(rest, b' ')?;
+    let (down, rest) = take_signed(rest, 18)?;
+    let rest = take_byte(rest, b'\n')?;
+    if g >= u64::from(size.thermal) || t >= u64::from(size.periods) {
+        return None;
+    }
+    let row = RampRow {
+        g: g as u32,
+        t: t as u32,
+        up,
+        down,
+    };
+    if (row.up == 0 && row.down == 0) || !rises(before, &row) {
+        return None;
+    }
+    Some((row, rest))
+}
+
+// The number of a leaf, below a count, up to the end of the line.
+#[tactic(auto, unfolding(crate::specs::inside::LineForms::named_at))]
+fn take_named(bytes: &[u8], count: u32) -> Option<(u32, &[u8])>
+    ensures { Gives (λ r. (r.0, r.1.now)) result (named_at count bytes.now) }
+{
+    let (number, rest) = take_ordinal(bytes)?;
+    let rest = take_byte(rest, b'\n')?;
+    if number >= u64::from(count) {
+        return None;
+    }
+    Some((number as u32, rest))
+}
+
+// The unit and the period of a split, up to the end of the line.
+#[tactic(auto, unfolding(crate::specs::inside::LineForms::split_at))]
+fn take_split<'a>(bytes: &'a [u8], size: &Size) -> Option<((u32, u32), &'a [u8])>
+    ensures { Gives (λ r. (r.0, r.1.now)) result (split_at (sizes size.now) bytes.now) }
+{
+    let (g, rest) = take_ordinal(bytes)?;
+    let rest = take_byte(rest, b' ')?;
+    let (t, rest) = take_ordinal(rest)?;
+    let rest = take_byte(rest, b'\n')?;
+    if g >= u64::from(size.thermal) || t >= u64::from(size.periods) {
+        return None;
+    }
+    Some(((g as u32, t as u32), rest))
+}
+
+/// A node of the tree.
+#[tactic(auto, unfolding(crate::specs::inside::LineForms::node_at))]
+pub(crate) fn take_node<'a>(bytes: &'a [u8], size: &Size) -> Option<(CertNode, &'a [u8])>
+    ensures { Gives (λ r. (node_of r.0, r.1.now)) result (node_at (sizes size.now) bytes.now) }
+{
+    if let Some(rest) = take_text(bytes, b"bound ") {
+        let (table, rest) = take_named(rest, size.tables)?;
+        return Some((CertNode::Bound(table), rest));
+    }
+    if let Some(rest) = take_text(bytes, b"ray ") {
+        let (table, rest) = take_named(rest, size.tables)?;
+        return Some((CertNode::Ray(table), rest));
+    }
+    if let Some(rest) = take_text(bytes, b"empty ") {
+        let (g, rest) = take_named(rest, size.thermal)?;
+        return Some((CertNode::Empty(g), rest));
+    }
+    let rest = take_text(bytes, b"split ")?;
+    let ((g, t), rest) = take_split(rest, size)?;
+    Some((CertNode::Split { g, t }, rest))
+}
