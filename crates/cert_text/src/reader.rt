@@ -3,3 +3,6 @@
 mod lines;
 mod numbers;
 mod sizes;
+mod stop;
+mod table;
+mod words;

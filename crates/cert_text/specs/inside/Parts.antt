@@ -1,0 +1,123 @@
+-- Reading parts of a certificate, of one or more lines each: the value of a part and the bytes behind it, or the bytes from
+-- the first line on that may not stand there.
+use Rattle.std.specs.Prelude.{◌≡◌, ℕ, zero, suc, List, [], ◌∷◌, length, Option, Some, None, Result, Ok, Err, ℤ, pos, codes}
+use Rattle.std.specs.Option.{ok_or}
+use Rattle.uc_model.specs.declared.schedule.Cell.{Cell}
+use Rattle.uc_model.specs.declared.schedule.Printed.{Printed}
+use Rattle.dual_model.specs.Certificate.{WrittenSchedule}
+use Rattle.dual_model.specs.declared.table.RampRow.{RampRow}
+use Rattle.dual_model.specs.declared.table.Table.{Table}
+use Rattle.cert_text.specs.CertificateText.{Listing}
+use Rattle.cert_text.specs.Nodes.{TreeNode, LeafNode, SplitNode}
+use Rattle.cert_text.specs.Grammar.{Sizes}
+use Rattle.cert_text.specs.declared.reader.stop.Stop.{Stop}
+use Rattle.cert_text.specs.declared.reader.stop.Stop.TheVariants as stops
+use Rattle.cert_text.specs.inside.Forms.{Form, signed_at}
+use Rattle.cert_text.specs.inside.LineForms.{version_at, size_at, claim_at, schedule_at, cell_at, row_at, scale_at, ramp_count_at, ramp_at, node_at, end_at}
+
+infixl 10 ◌>>=◌
+abbrev pub ◌>>=◌ : {A B : Type 0} → Result A (List ℕ) → (A → Result B (List ℕ)) → Result B (List ℕ)
+(Ok x) >>= f = f x
+(Err rest) >>= f = Err rest
+
+abbrev pub Part : Type 0 → Type 0
+Part A = List ℕ → Result (A × List ℕ) (List ℕ)
+
+-- what a function returned, seen by view, is what reading gives, unless memory was refused
+abbrev pub StopsAs : {Y : Type 0} → Stop → Result Y (List ℕ) → Type 0
+StopsAs stops.NoMemory read = Unit {0}
+StopsAs (stops.At rest) read = read ≡ Err rest.now
+
+abbrev pub GivesPart : {X Y : Type 0} → (X → Y) → Result X Stop → Result Y (List ℕ) → Type 0
+GivesPart view (Ok x) read = read ≡ Ok (view x)
+GivesPart view (Err stop) read = StopsAs stop read
+
+-- ---- parts made of parts
+abbrev pub line_of : {A : Type 0} → Form A → Part A
+line_of form bytes = ok_or (form bytes) bytes
+
+abbrev pub then : {A B : Type 0} → Part A → (A → Part B) → Part (A × B)
+then first second bytes = first bytes >>= λ x. second x.0 x.1 >>= λ y. Ok ((x.0, y.0), y.1)
+
+abbrev pub told : {A B : Type 0} → (A → B) → Part A → Part B
+told f part bytes = part bytes >>= λ x. Ok (f x.0, x.1)
+
+-- the part so many times
+unfoldable pub repeated : {A : Type 0} → ℕ → Part A → Part (List A)
+repeated zero part bytes = Ok ([], bytes)
+repeated (suc n) part bytes = part bytes >>= λ x. repeated n part x.1 >>= λ xs. Ok (x.0 ∷ xs.0, xs.1)
+
+-- ---- the schedule
+abbrev pub rows_of : {A : Type 0} → List ℕ → ℕ → ℕ → Form A → Part (List (List A))
+rows_of first count periods word = repeated count (line_of (row_at first periods word))
+
+unfoldable pub printed_part : Sizes → Part (List (List Cell) × List (List ℤ))
+printed_part size =
+    then (rows_of (codes "t") size.thermal size.periods cell_at) (λ _. rows_of (codes "w") size.renewable size.periods (signed_at 15))
+
+abbrev pub written : ℤ → List (List Cell) × List (List ℤ) → Option WrittenSchedule
+written cost rows = Some (record { printed = record { thermal = rows.0; renewable = rows.1 }; cost = cost })
+
+abbrev pub rows_behind : Sizes → Option ℤ → Part (Option WrittenSchedule)
+rows_behind size None bytes = Ok (None, bytes)
+rows_behind size (Some cost) bytes = told (written cost) (printed_part size) bytes
+
+unfoldable pub schedule_part : Sizes → Part (Option WrittenSchedule)
+schedule_part size bytes = line_of schedule_at bytes >>= λ x. rows_behind size x.0 x.1
+
+-- ---- tables
+-- so many ramp rows, behind one or as the first ones
+unfoldable pub ramp_rows_part : Sizes → ℕ → Option RampRow → Part (List RampRow)
+ramp_rows_part size zero before bytes = Ok ([], bytes)
+ramp_rows_part size (suc more) before bytes =
+    line_of (ramp_at size before) bytes >>= λ x. ramp_rows_part size more (Some x.0) x.1 >>= λ xs. Ok (x.0 ∷ xs.0, xs.1)
+
+unfoldable pub ramps_part : Sizes → Part (List RampRow)
+ramps_part size bytes = line_of ramp_count_at bytes >>= λ x. ramp_rows_part size x.0 None x.1
+
+abbrev pub prices_part : List ℕ → Sizes → Part (List ℤ)
+prices_part word size = line_of (row_at word size.periods (signed_at 18))
+
+abbrev pub table_of : Sizes → ℕ × (List ℤ × (List ℤ × List RampRow)) → Table
+table_of size p = record { units = size.thermal; k = pos p.0; pi = p.1.0; mu = p.1.1.0; ramps = p.1.1.1 }
+
+unfoldable pub table_part : Sizes → Part Table
+table_part size =
+    told (table_of size) (then (line_of scale_at) (λ _. then (prices_part (codes "pi") size) (λ _. then (prices_part (codes "mu") size) (λ _. ramps_part size))))
+
+-- ---- the tree
+-- how many trees are owed after a node, where so many others are
+abbrev pub owed_after : ℕ → TreeNode → ℕ
+owed_after others (LeafNode leaf) = others
+owed_after others (SplitNode g t) = suc (suc others)
+
+-- the nodes of so many trees; there are no more of them than the first number
+unfoldable pub nodes_part : Sizes → ℕ → ℕ → Part (List TreeNode)
+nodes_part size most zero bytes = Ok ([], bytes)
+nodes_part size zero (suc others) bytes = Err bytes
+nodes_part size (suc most) (suc others) bytes =
+    line_of (node_at size) bytes >>= λ x. nodes_part size most (owed_after others x.0) x.1 >>= λ xs. Ok (x.0 ∷ xs.0, xs.1)
+
+-- the nodes of a tree, which are no more than the bytes
+unfoldable pub tree_part : Sizes → Part (List TreeNode)
+tree_part size bytes = nodes_part size (length bytes) 1 bytes
+
+-- ---- the whole
+abbrev pub listing_from : Sizes × (Option ℤ × (Option WrittenSchedule × (List Table × (List TreeNode × Unit {0})))) → Listing
+listing_from p = record {
+  periods = p.0.periods;
+  thermal = p.0.thermal;
+  renewable = p.0.renewable;
+  bound = p.1.0;
+  schedule = p.1.1.0;
+  tables = p.1.1.1.0;
+  nodes = p.1.1.1.1.0;
+}
+
+unfoldable pub heading_part : Part Sizes
+heading_part = told (λ p. p.1) (then (line_of version_at) (λ _. line_of size_at))
+
+unfoldable pub certificate_part : Part Listing
+certificate_part =
+    told listing_from (then heading_part (λ size. then (line_of claim_at) (λ _. then (schedule_part size)
+    (λ _. then (repeated size.tables (table_part size)) (λ _. then (tree_part size) (λ _. line_of end_at))))))
