@@ -4,3 +4,4 @@ pub mod LineForms
 pub mod ReadViews
 pub mod RampLists
 pub mod Parts
+pub mod Scratch

@@ -2,6 +2,7 @@
 
 mod lines;
 mod numbers;
+mod scratch;
 mod sizes;
 mod stop;
 mod table;

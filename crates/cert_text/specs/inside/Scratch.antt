@@ -1,0 +1,3 @@
+-- scratch
+pub data Nothing : Type 0 where
+  nothing : Nothing
