@@ -1,5 +1,5 @@
 -- A form reads what it writes, and nothing else: the law of a long form from those of the short ones that it is made of.
-use Rattle.std.proofs.Common.{◌≡◌, ℕ, zero, suc, Bool, true, false, List, [], ◌∷◌, ◌++◌, length, drop, All, Option, Some, None, refl, sym, ap, subst, ◌∙◌, append_assoc, arith, eqb, cond}
+use Rattle.std.proofs.Common.{◌≡◌, ℕ, zero, suc, Bool, true, false, List, [], ◌∷◌, ◌++◌, length, drop, All, Option, Some, None, refl, sym, ap, subst, ◌∙◌, append_assoc, arith, eqb, cond, inl, inr, ⊎_elim, ◌⊎◌}
 use Rattle.std.specs.Prelude.{nat_eq}
 use Rattle.std.specs.List.{flat_map, starts_with}
 use Rattle.std.proofs.lemmas.Bool.{false≢true}
@@ -8,7 +8,7 @@ use Rattle.std.proofs.lemmas.List.{drop_at}
 use Rattle.std.proofs.lemmas.List.Elements.{All-nil, All-cons, All-head, All-tail}
 use Rattle.std.proofs.lemmas.Option.{same_Some, cond_some}
 use Rattle.std.proofs.lemmas.Slice.Eq.{starts_is}
-use Rattle.cert_text.specs.inside.Forms.{◌>>=◌, Form, text_at, after, ended, both, mapped, passing, fixed, times}
+use Rattle.cert_text.specs.inside.Forms.{◌>>=◌, Form, text_at, after, ended, both, mapped, passing, fixed, when, times}
 use Rattle.cert_text.proofs.Loops.{after_text}
 
 -- what is read is valid, and its text is what stood there; and the text of what is valid is read, whatever follows as it may
@@ -151,3 +151,40 @@ times-form {A} {form} {V} {t} {F} h follows n = record { takes = taken n; again 
     read (suc n) (x ∷ xs) rest v f =
         ap (times (suc n) form) (append_assoc (t x) (flat_map t xs) rest)
         ∙ rw (h.again x (flat_map t xs ++ rest) (All-head V x xs v.1) (goes_on xs rest f), read n xs rest (omega arith, All-tail V x xs v.1) f) refl
+
+-- nothing stands for the value
+pub empty-form : {A : Type 0} (value : A) → IsForm (λ rest. Some (value, rest)) (λ a. a ≡ value) (λ _. []) Anything
+empty-form {A} value = record {
+  takes = λ bytes x e. subst (λ (x : A × List ℕ). (x.0 ≡ value) × (bytes ≡ x.1)) (same_Some (value, bytes) x e) (refl, refl);
+  again = λ a rest v f. ap (λ (a : A). Some (a, rest)) (sym v);
+}
+
+-- a form behind a text, or else another one, whose texts don't begin with this text
+pub record IsChoice {A : Type 0} (text : List ℕ) (V W U : A → Type 0) (t s u : A → List ℕ) : Type 0 where
+  pub first : (a : A) → V a → U a × (text ++ t a ≡ u a)
+  pub second : (a : A) → W a → U a × (s a ≡ u a)
+  pub cases : (a : A) → U a → V a ⊎ W a
+  pub apart : (a : A) (rest : List ℕ) → W a → text_at text (s a ++ rest) ≡ None
+
+pub when-form : {A : Type 0} {form other : Form A} {V W U : A → Type 0} {t s u : A → List ℕ} → IsForm form V t Anything → IsForm other W s Anything
+    → (text : List ℕ) → IsChoice text V W U t s u → IsForm (λ bytes. when (text_at text bytes) form (other bytes)) U u Anything
+when-form {A} {form} {other} {V} {W} {U} {t} {s} {u} h k text choice = record { takes = λ bytes x e. taken bytes x (text_at text bytes) refl e; again = read }
+  where
+    taken : (bytes : List ℕ) (x : A × List ℕ) (o : Option (List ℕ)) → text_at text bytes ≡ o → when o form (other bytes) ≡ Some x → U x.0 × (bytes ≡ u x.0 ++ x.1)
+    taken bytes x None e f =
+        let one = k.takes bytes x f in
+        let there = choice.second x.0 one.0 in
+        (there.0, one.1 ∙ ap (λ text. text ++ x.1) there.1)
+    taken bytes x (Some rest) e f =
+        let one = h.takes rest x f in
+        let there = choice.first x.0 one.0 in
+        (there.0, text_at-takes text bytes rest e ∙ ap (λ rest. text ++ rest) one.1 ∙ sym (append_assoc text (t x.0) x.1) ∙ ap (λ text. text ++ x.1) there.1)
+    read : (a : A) (rest : List ℕ) → U a → Anything rest → when (text_at text (u a ++ rest)) form (other (u a ++ rest)) ≡ Some (a, rest)
+    read a rest v f = ⊎_elim
+        (λ (one : V a).
+        let same : u a ++ rest ≡ text ++ (t a ++ rest) = ap (λ text. text ++ rest) (sym (choice.first a one).1) ∙ append_assoc text (t a) rest in
+        ap (λ bytes. when (text_at text bytes) form (other bytes)) same ∙ rw (text_at-again text (t a ++ rest)) (h.again a rest one f))
+        (λ (two : W a).
+        let same : u a ++ rest ≡ s a ++ rest = ap (λ text. text ++ rest) (sym (choice.second a two).1) in
+        ap (λ bytes. when (text_at text bytes) form (other bytes)) same ∙ rw (choice.apart a rest two) (k.again a rest two f))
+        (choice.cases a v)

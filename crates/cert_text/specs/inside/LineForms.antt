@@ -31,7 +31,7 @@ claim_at bytes =
 -- ---- the schedule
 unfoldable pub schedule_at : Form (Option ℤ)
 schedule_at bytes =
-    when (text_at (codes "schedule none\n") bytes) (λ rest. Some (None, rest)) (mapped Some (after (codes "schedule ") (ended money_at (codes "\n"))) bytes)
+    when (text_at (codes "schedule none\n") bytes) (λ rest. Some (None, rest)) (after (codes "schedule ") (mapped Some (ended money_at (codes "\n"))) bytes)
 
 abbrev pub on_cell : ℤ × (ℤ × ℕ) → Cell
 on_cell p = record { on = true; p = p.0; r = p.1.0; category = p.1.1 }
