@@ -142,7 +142,7 @@ schedule-form = when-form (empty-form None) (after-form some_money (codes "sched
     cases (Some z) v = inr v
 
 -- ---- cells
-spaced_signed : (digits : ℕ) → 0 < digits → (end : ℕ) → is_digit end ≡ false → IsForm (ended (signed_at digits) (end ∷ [])) (HasDigits digits) (λ z. signed_text z ++ end ∷ []) Anything
+pub spaced_signed : (digits : ℕ) → 0 < digits → (end : ℕ) → is_digit end ≡ false → IsForm (ended (signed_at digits) (end ∷ [])) (HasDigits digits) (λ z. signed_text z ++ end ∷ []) Anything
 spaced_signed digits some end none = ended-form (signed-form digits some) (end ∷ []) (λ rest. rw none refl)
 
 abbrev on_text : Cell → List ℕ
