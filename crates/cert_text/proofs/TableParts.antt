@@ -1,0 +1,148 @@
+-- The parts of tables and of schedules read their lines.
+use Rattle.std.proofs.Common.{◌≡◌, ◌≢◌, ℕ, zero, suc, ◌+◌, ◌^◌, ◌<◌, ◌≤◌, List, [], ◌∷◌, ◌++◌, length, map, replicate, get_or, All, Option, Some, None, Result, Ok, Err, ℤ, pos, negsuc, unsigned_abs, ◌≤ℤ◌, refl, sym, ap, subst, ◌∙◌, arith}
+use Rattle.std.specs.Prelude.{IfSome, codes, ◌<ℤ◌, slice_index_or}
+use Rattle.std.specs.List.{flat_map}
+use Rattle.std.proofs.lemmas.Int.{ints}
+use Rattle.std.proofs.lemmas.List.Elements.{All-nil, All-cons, All-head, All-tail}
+use Rattle.uc_model.specs.declared.schedule.Cell.{Cell}
+use Rattle.uc_model.specs.declared.schedule.Printed.{Printed}
+use Rattle.dual_model.specs.Certificate.{WrittenSchedule}
+use Rattle.dual_model.specs.Prices.{IsWellFormed, IsRowBefore, IsRowWithin}
+use Rattle.dual_model.specs.declared.table.RampRow.{RampRow}
+use Rattle.dual_model.specs.declared.table.Table.{Table}
+use Rattle.cert_text.specs.TextConditions.{HasDigits, IsMoney, IsThermalRow, IsRenewableRow, IsScheduleText, IsRampText, IsTableText}
+use Rattle.cert_text.specs.CertificateText.{thermal_line, renewable_line, schedule_lines, scale_line, prices_line, ramps_line, ramp_line, table_lines}
+use Rattle.cert_text.specs.Grammar.{Sizes, AreSizes, Symbol, Schedule, ThermalRow, RenewableRow, Scale, Prices, Ramps, Ramp, Produces, IsRampAfter, ramp_rows, ramp_count_line, schedule_line, schedule_rows}
+use Rattle.cert_text.specs.inside.RampLists.{AreRamps}
+use Rattle.cert_text.specs.inside.Forms.{signed_at}
+use Rattle.cert_text.specs.inside.LineForms.{cell_at, row_at, scale_at, schedule_at, ramp_count_at, ramp_at}
+use Rattle.cert_text.specs.inside.Parts.{◌>>=◌, Part, line_of, then, told, repeated, rows_of, printed_part, written, rows_behind, schedule_part, ramp_rows_part, ramps_part, prices_part, table_of, table_part}
+use Rattle.cert_text.proofs.LineLaws.{thermal-form, renewable-form, prices-form, scale-form, ramp_count-form, schedule-form}
+use Rattle.cert_text.proofs.NodeLaws.{ramp-form}
+use Rattle.cert_text.proofs.PartLaws.{IsPart, Done, line-part, then-part, told-part, told_then, part-as, before-part, nothing-part, repeated-part}
+
+map_as_flat : {A B : Type 0} (f : A → B) (xs : List A) → flat_map (λ x. f x ∷ []) xs ≡ map f xs
+map_as_flat f [] = refl
+map_as_flat f (x ∷ xs) = ap (λ rest. f x ∷ rest) (map_as_flat f xs)
+
+-- ---- ramp rows
+pub ramp_rows-part : (size : Sizes) → AreSizes size → (n : ℕ) (before : Option RampRow)
+    → IsPart (ramp_rows_part size n before) (λ rows. (length rows ≡ n) × AreRamps size before rows) (map ramp_line) (ramp_rows size n before) Done
+unfolding ramp_rows_part
+ramp_rows-part size lawful zero before =
+    part-as (told-part (nothing-part []) (λ rows. rows) (λ rows. (length rows ≡ 0) × AreRamps size before rows) (map ramp_line) Done (record { there = there; back = back })) (λ bytes. refl)
+  where
+    there : (rows : List RampRow) → rows ≡ [] → ((length rows ≡ 0) × AreRamps size before rows) × ([] ≡ map ramp_line rows) × ([] ≡ Done rows)
+    there [] e = ((refl, tt), refl, refl)
+    there (row ∷ rows) e = absurd cc
+    back : (rows : List RampRow) → (length rows ≡ 0) × AreRamps size before rows → (a : List RampRow) × (a ≡ []) × (a ≡ rows)
+    back [] w = ([], refl, refl)
+    back (row ∷ rows) w = absurd (omega arith)
+ramp_rows-part size lawful (suc n) before =
+    part-as (told-part (then-part (line-part (ramp-form size lawful before) (Ramp size n before) (λ row. ramp_rows size n (Some row)) (λ row v. (row, v, refl, refl)) (λ text others p. (p.0, p.1, p.2)))
+    (λ row v. ramp_rows-part size lawful n (Some row)))
+    grown (λ rows. (length rows ≡ suc n) × AreRamps size before rows) (map ramp_line) Done
+    (record { there = λ p v. ((ap suc v.1.0, (v.0, v.1.1)), refl, refl); back = back }))
+    (told_then grown (line_of (ramp_at size before)) (λ row. ramp_rows_part size n (Some row)))
+  where
+    grown : RampRow × List RampRow → List RampRow
+    grown p = p.0 ∷ p.1
+    back : (rows : List RampRow) → (length rows ≡ suc n) × AreRamps size before rows
+        → (p : RampRow × List RampRow) × (IsRampAfter size before p.0 × ((length p.1 ≡ n) × AreRamps size (Some p.0) p.1)) × (grown p ≡ rows)
+    back [] w = absurd (omega arith)
+    back (row ∷ rows) w = ((row, rows), (w.1.0, (omega arith, w.1.1)), refl)
+
+pub ramps-part : (size : Sizes) → AreSizes size
+    → IsPart (ramps_part size) (λ rows. (length rows < 10 ^ 18) × AreRamps size None rows) (λ rows. ramps_line rows ∷ map ramp_line rows) (Ramps size ∷ []) Done
+unfolding ramps_part
+ramps-part size lawful =
+    part-as (told-part (then-part (line-part ramp_count-form (Ramps size) (λ count. ramp_rows size count None) (λ count v. (count, v, refl, refl)) (λ text others p. (p.0, p.1, p.2)))
+    (λ count v. ramp_rows-part size lawful count None))
+    (λ p. p.1) (λ rows. (length rows < 10 ^ 18) × AreRamps size None rows) (λ rows. ramps_line rows ∷ map ramp_line rows) Done
+    (record {
+      there = λ p v. ((omega (arith, v.0, v.1.0), v.1.1), ap (λ count. ramp_count_line count ∷ map ramp_line p.1) (sym v.1.0), refl);
+      back = λ rows w. ((length rows, rows), (w.0, (refl, w.1)), refl);
+    }))
+    (λ bytes. told_then (λ p. p.1) (line_of ramp_count_at) (λ count. ramp_rows_part size count None) bytes ∙ just_second (line_of ramp_count_at bytes))
+  where
+    same_rest : (r : Result (List RampRow × List ℕ) (List ℕ)) → (r >>= λ y. Ok (y.0, y.1)) ≡ r
+    same_rest (Ok y) = refl
+    same_rest (Err rest) = refl
+    just_second : (r : Result (ℕ × List ℕ) (List ℕ)) → (r >>= λ x. ramp_rows_part size x.0 None x.1 >>= λ y. Ok (y.0, y.1)) ≡ (r >>= λ x. ramp_rows_part size x.0 None x.1)
+    just_second (Ok x) = same_rest (ramp_rows_part size x.0 None x.1)
+    just_second (Err rest) = refl
+
+-- rows that follow each other are within the size, of few digits, and rise
+ramps_within : (size : Sizes) (before : Option RampRow) (rows : List RampRow) → AreRamps size before rows → All (IsRowWithin size.thermal size.periods) rows
+ramps_within size before [] h = All-nil (IsRowWithin size.thermal size.periods)
+ramps_within size before (row ∷ rows) h = All-cons (IsRowWithin size.thermal size.periods) row rows h.0.within (ramps_within size (Some row) rows h.1)
+
+ramps_written : (size : Sizes) (before : Option RampRow) (rows : List RampRow) → AreRamps size before rows → All IsRampText rows
+ramps_written size before [] h = All-nil IsRampText
+ramps_written size before (row ∷ rows) h = All-cons IsRampText row rows h.0.written (ramps_written size (Some row) rows h.1)
+
+ramps_rise : (size : Sizes) (before : Option RampRow) (rows : List RampRow) → AreRamps size before rows
+    → (i : ℕ) (d : RampRow) → suc i < length rows → IsRowBefore (get_or rows i d) (get_or rows (suc i) d)
+ramps_rise size before [] h i d lt = absurd (omega arith)
+ramps_rise size before (row ∷ []) h i d lt = absurd (omega arith)
+ramps_rise size before (row ∷ next ∷ rows) h zero d lt = h.1.0.rises
+ramps_rise size before (row ∷ next ∷ rows) h (suc i) d lt = ramps_rise size (Some row) (next ∷ rows) h.1 i d (omega arith)
+
+ramps_from : (size : Sizes) (before : Option RampRow) (rows : List RampRow) → All (IsRowWithin size.thermal size.periods) rows → All IsRampText rows
+    → ((i : ℕ) (d : RampRow) → suc i < length rows → IsRowBefore (get_or rows i d) (get_or rows (suc i) d))
+    → ((first : RampRow) (others : List RampRow) → rows ≡ first ∷ others → IfSome before (λ earlier. IsRowBefore earlier first)) → AreRamps size before rows
+ramps_from size before [] within written rising first = tt
+ramps_from size before (row ∷ rows) within written rising first = (
+  record { within = All-head (IsRowWithin size.thermal size.periods) row rows within; written = All-head IsRampText row rows written; rises = first row rows refl },
+  ramps_from size (Some row) rows (All-tail (IsRowWithin size.thermal size.periods) row rows within) (All-tail IsRampText row rows written)
+  (λ i d lt. rising (suc i) d (omega arith)) (λ next others e. behind next others e),
+)
+  where
+    behind : (next : RampRow) (others : List RampRow) → rows ≡ next ∷ others → IsRowBefore row next
+    behind next others e =
+        let long : 1 < length (row ∷ rows) = omega (arith, ap length e) in
+        subst (λ (following : RampRow). IsRowBefore row following) (ap (λ rows. get_or rows 0 row) e) (rising 0 row long)
+
+-- ---- tables
+pub table-part : (size : Sizes) → AreSizes size → IsPart (table_part size) (IsTableText size.periods size.thermal) table_lines (Scale size ∷ []) Done
+unfolding table_part
+table-part size lawful =
+    told-part (then-part (line-part scale-form (Scale size) (λ k. Prices (codes "pi") size ∷ Prices (codes "mu") size ∷ Ramps size ∷ []) (λ k v. (k, v, refl, refl)) (λ text others p. (p.0, p.1, p.2)))
+    (λ k v. then-part (before-part (prices (codes "pi")) (Prices (codes "mu") size ∷ Ramps size ∷ []))
+    (λ pi v. then-part (before-part (prices (codes "mu")) (Ramps size ∷ [])) (λ mu v. ramps-part size lawful))))
+    (table_of size) (IsTableText size.periods size.thermal) table_lines Done
+    (record {
+      there = λ p v. (record {
+        form = record {
+          scale = scale_at_least p.0;
+          lengths = v.1.1.0.0 ∙ sym v.1.0.0;
+          rows = subst (λ (n : ℕ). All (IsRowWithin size.thermal n) p.1.1.1) (sym v.1.0.0) (ramps_within size None p.1.1.1 v.1.1.1.1);
+          rising = ramps_rise size None p.1.1.1 v.1.1.1.1;
+        };
+        units = refl;
+        periods_priced = v.1.0.0;
+        scale = v.0;
+        pi = v.1.0.1;
+        mu = v.1.1.0.1;
+        rows = v.1.1.1.0;
+        ramps = ramps_written size None p.1.1.1 v.1.1.1.1;
+      }, refl, refl);
+      back = back;
+    })
+  where
+    prices : (word : List ℕ) → IsPart (prices_part word size) (λ prices. (length prices ≡ size.periods) × All (HasDigits 18) prices) (λ prices. prices_line word prices ∷ []) (Prices word size ∷ []) Done
+    prices word = line-part (prices-form word size.periods) (Prices word size) Done (λ prices v. (prices, v.0, v.1, refl, refl)) (λ text others p. (p.0, (p.1, p.2), p.3))
+    scale_at_least : (k : ℕ) → pos 0 ≤ℤ pos k
+    scale_at_least k = omega (arith, ints)
+    natural : (k : ℤ) → pos 0 ≤ℤ k → pos (unsigned_abs k) ≡ k
+    natural (pos n) h = refl
+    natural (negsuc n) h = absurd (omega (arith, ints))
+    back : (table : Table) → IsTableText size.periods size.thermal table
+        → (p : ℕ × (List ℤ × (List ℤ × List RampRow))) × ((p.0 < 10 ^ 18) × (((length p.1.0 ≡ size.periods) × All (HasDigits 18) p.1.0)
+        × (((length p.1.1.0 ≡ size.periods) × All (HasDigits 18) p.1.1.0) × ((length p.1.1.1 < 10 ^ 18) × AreRamps size None p.1.1.1)))) × (table_of size p ≡ table)
+    back table w =
+        let within = subst (λ (n : ℕ). All (IsRowWithin n (length table.pi)) table.ramps) w.units w.form.rows in
+        let rows = subst (λ (n : ℕ). All (IsRowWithin size.thermal n) table.ramps) w.periods_priced within in
+        ((unsigned_abs table.k, (table.pi, (table.mu, table.ramps))),
+        (w.scale, ((w.periods_priced, w.pi), ((w.form.lengths ∙ w.periods_priced, w.mu), (w.rows, ramps_from size None table.ramps rows w.ramps w.form.rising (λ first others e. tt))))),
+        λ i. record { units = sym w.units i; k = natural table.k w.form.scale i; pi = table.pi; mu = table.mu; ramps = table.ramps })
