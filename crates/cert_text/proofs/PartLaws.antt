@@ -36,7 +36,7 @@ pub bind_ok : {A B : Type 0} (r : Result A (List ℕ)) (f : A → Result B (List
 bind_ok (Ok x) f y e = (x, refl, e)
 bind_ok (Err rest) f y e = absurd cc
 
-abbrev ok_of : (A : Type 0) → A → List ℕ → Result (A × List ℕ) (List ℕ)
+abbrev pub ok_of : (A : Type 0) → A → List ℕ → Result (A × List ℕ) (List ℕ)
 ok_of A a rest = Ok (a, rest)
 
 pub same_Ok : {A : Type 0} (x y : A) → ◌≡◌ {A = Result A (List ℕ)} (Ok x) (Ok y) → x ≡ y

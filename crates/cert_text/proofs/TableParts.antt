@@ -21,7 +21,7 @@ use Rattle.cert_text.proofs.LineLaws.{thermal-form, renewable-form, prices-form,
 use Rattle.cert_text.proofs.NodeLaws.{ramp-form}
 use Rattle.cert_text.proofs.PartLaws.{IsPart, Done, line-part, then-part, told-part, told_then, part-as, before-part, nothing-part, repeated-part}
 
-map_as_flat : {A B : Type 0} (f : A → B) (xs : List A) → flat_map (λ x. f x ∷ []) xs ≡ map f xs
+pub map_as_flat : {A B : Type 0} (f : A → B) (xs : List A) → flat_map (λ x. f x ∷ []) xs ≡ map f xs
 map_as_flat f [] = refl
 map_as_flat f (x ∷ xs) = ap (λ rest. f x ∷ rest) (map_as_flat f xs)
 

@@ -5,6 +5,8 @@ use Rattle.cert_text.proofs.NumberLaws.{NoDigit}
 use Rattle.cert_text.proofs.LineLaws.{size-form}
 use Rattle.cert_text.proofs.PartLaws.{Stops}
 use Rattle.cert_text.proofs.TableParts.{table-part}
+use Rattle.cert_text.proofs.ScheduleParts.{schedule-part}
+use Rattle.cert_text.proofs.TreeParts.{tree-part}
 use Rattle.cert_text.proofs.NodeLaws.{ramp-form}
 use Rattle.cert_text.proofs.reader.scratch.scratch.Goals as goal
 
