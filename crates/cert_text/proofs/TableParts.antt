@@ -16,7 +16,7 @@ use Rattle.cert_text.specs.Grammar.{Sizes, AreSizes, Symbol, Schedule, ThermalRo
 use Rattle.cert_text.specs.inside.RampLists.{AreRamps}
 use Rattle.cert_text.specs.inside.Forms.{signed_at}
 use Rattle.cert_text.specs.inside.LineForms.{cell_at, row_at, scale_at, schedule_at, ramp_count_at, ramp_at}
-use Rattle.cert_text.specs.inside.Parts.{◌>>=◌, Part, line_of, then, told, repeated, rows_of, printed_part, written, rows_behind, schedule_part, ramp_rows_part, ramps_part, prices_part, table_of, table_part}
+use Rattle.cert_text.specs.inside.Parts.{◌>>=◌, Part, line_of, then, told, repeated, rows_of, printed_part, written, rows_behind, schedule_part, ramp_rows_part, ramps_part, prices_part, table_of, numbers_part, table_part}
 use Rattle.cert_text.proofs.LineLaws.{thermal-form, renewable-form, prices-form, scale-form, ramp_count-form, schedule-form}
 use Rattle.cert_text.proofs.NodeLaws.{ramp-form}
 use Rattle.cert_text.proofs.PartLaws.{IsPart, Done, line-part, then-part, told-part, told_then, part-as, before-part, nothing-part, repeated-part}
@@ -105,7 +105,7 @@ ramps_from size before (row ∷ rows) within written rising first = (
 
 -- ---- tables
 pub table-part : (size : Sizes) → AreSizes size → IsPart (table_part size) (IsTableText size.periods size.thermal) table_lines (Scale size ∷ []) Done
-unfolding table_part
+unfolding table_part numbers_part
 table-part size lawful =
     told-part (then-part (line-part scale-form (Scale size) (λ k. Prices (codes "pi") size ∷ Prices (codes "mu") size ∷ Ramps size ∷ []) (λ k v. (k, v, refl, refl)) (λ text others p. (p.0, p.1, p.2)))
     (λ k v. then-part (before-part (prices (codes "pi")) (Prices (codes "mu") size ∷ Ramps size ∷ []))
@@ -146,3 +146,10 @@ table-part size lawful =
         ((unsigned_abs table.k, (table.pi, (table.mu, table.ramps))),
         (w.scale, ((w.periods_priced, w.pi), ((w.form.lengths ∙ w.periods_priced, w.mu), (w.rows, ramps_from size None table.ramps rows w.ramps w.form.rising (λ first others e. tt))))),
         λ i. record { units = sym w.units i; k = natural table.k w.form.scale i; pi = table.pi; mu = table.mu; ramps = table.ramps })
+
+-- the numbers that are read are those of a well-formed table
+pub numbers_form : (size : Sizes) → AreSizes size → (bytes : List ℕ) (numbers : ℕ × (List ℤ × (List ℤ × List RampRow))) (rest : List ℕ)
+    → numbers_part size bytes ≡ Ok (numbers, rest) → IsWellFormed (table_of size numbers)
+numbers_form size lawful bytes numbers rest e =
+    let table : table_part size bytes ≡ Ok (table_of size numbers, rest) = unfold table_part in rw e refl in
+    ((table-part size lawful).takes bytes (table_of size numbers, rest) table).0.form

@@ -1,7 +1,9 @@
 //! Reading certificates.
 
 mod lines;
+mod nodes;
 mod numbers;
+mod plan;
 mod scratch;
 mod sizes;
 mod stop;

@@ -81,9 +81,12 @@ prices_part word size = line_of (row_at word size.periods (signed_at 18))
 abbrev pub table_of : Sizes → ℕ × (List ℤ × (List ℤ × List RampRow)) → Table
 table_of size p = record { units = size.thermal; k = pos p.0; pi = p.1.0; mu = p.1.1.0; ramps = p.1.1.1 }
 
+-- the numbers of a table, in their order
+unfoldable pub numbers_part : Sizes → Part (ℕ × (List ℤ × (List ℤ × List RampRow)))
+numbers_part size = then (line_of scale_at) (λ _. then (prices_part (codes "pi") size) (λ _. then (prices_part (codes "mu") size) (λ _. ramps_part size)))
+
 unfoldable pub table_part : Sizes → Part Table
-table_part size =
-    told (table_of size) (then (line_of scale_at) (λ _. then (prices_part (codes "pi") size) (λ _. then (prices_part (codes "mu") size) (λ _. ramps_part size))))
+table_part size = told (table_of size) (numbers_part size)
 
 -- ---- the tree
 -- how many trees are owed after a node, where so many others are

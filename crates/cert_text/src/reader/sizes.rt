@@ -1,7 +1,8 @@
 //! The line of a certificate's size.
 
-ghost use Rattle.std.specs.Prelude.{◌≡◌};
-ghost use Rattle.cert_text.specs.inside.Forms.{Gives, ended, whole_at};
+ghost use Rattle.std.specs.Prelude.{◌≡◌, IfSome};
+ghost use Rattle.cert_text.specs.Grammar.{AreSizes};
+ghost use Rattle.cert_text.specs.inside.Forms.{Gives};
 ghost use Rattle.cert_text.specs.inside.LineForms.{size_at};
 ghost use Rattle.cert_text.specs.inside.ReadViews.{sizes};
 
@@ -23,7 +24,8 @@ const MAX_TABLES: u64 = 4_294_967_295;
 /// The line of the size.
 #[tactic(auto, unfolding(crate::specs::inside::LineForms::size_at))]
 pub(crate) fn take_size(bytes: &[u8]) -> Option<(Size, &[u8])>
-    ensures { Gives (λ r. (sizes r.0, r.1.now)) result (size_at bytes.now) }
+    ensures value { Gives (λ r. (sizes r.0, r.1.now)) result (size_at bytes.now) }
+    ensures lawful { IfSome result (λ r. AreSizes (sizes r.0)) }
 {
     let rest = take_text(bytes, b"size ")?;
     let (periods, rest) = take_count(rest, 18)?;

@@ -1,9 +1,10 @@
 //! Tables.
 
-ghost use Rattle.std.specs.Prelude.{◌≡◌, ◌∷◌, [], Option, None, IfOk, codes};
-ghost use Rattle.cert_text.specs.inside.Parts.{GivesPart, ramp_rows_part, ramps_part, prices_part, table_part, repeated};
+ghost use Rattle.std.specs.Prelude.{◌≡◌, None, ◌<◌, IfOk, Ok, Err};
+ghost use Rattle.dual_model.specs.Prices.{IsWellFormed};
+ghost use Rattle.cert_text.specs.Grammar.{AreSizes};
+ghost use Rattle.cert_text.specs.inside.Parts.{GivesPart, ramp_rows_part, ramps_part, numbers_part, table_of, table_part, repeated};
 ghost use Rattle.cert_text.specs.inside.ReadViews.{sizes};
-ghost use Rattle.cert_text.specs.inside.RampLists.{AreRamps};
 
 use super::lines::{take_ramp, take_ramp_count, take_scale};
 use super::sizes::Size;
@@ -12,9 +13,9 @@ use super::words::{Price, take_row};
 use dual_model::{RampRow, Table};
 use std::alloc::Global;
 
-// Room for the lists of one table, kept from table to table.
+// The lists of one table, with room that is kept from table to table.
 #[derive(Drop)]
-struct Lists {
+pub(crate) struct Lists {
     pi: Vec<i64>,
     mu: Vec<i64>,
     ramps: Vec<RampRow>,
@@ -54,4 +55,76 @@ fn take_ramps<'a>(
 {
     let (count, rest) = take_ramp_count(bytes).ok_or(Stop::At(bytes))?;
     take_ramp_rows(size, count, rest, rows)
+}
+
+// The numbers of a table: its scale, and its lists in place of what was there.
+#[tactic(auto, unfolding(crate::specs::inside::Parts::numbers_part))]
+fn take_numbers<'a>(
+    size: &Size,
+    bytes: &'a [u8],
+    pi: &mut Vec<i64>,
+    mu: &mut Vec<i64>,
+    ramps: &mut Vec<RampRow>,
+) -> Result<(u64, &'a [u8]), Stop<'a>>
+    ensures numbers { GivesPart (λ r. ((r.0, (pi.new.items, (mu.new.items, ramps.new.items))), r.1.now)) result (numbers_part (sizes size.now) bytes.now) }
+    ensures bound { IfOk result (λ r. r.0 < 1000000000000000000) }
+{
+    let (k, rest) = take_scale(bytes).ok_or(Stop::At(bytes))?;
+    let rest = take_row(b"pi", &Price, size.periods, rest, pi)?;
+    let rest = take_row(b"mu", &Price, size.periods, rest, mu)?;
+    let rest = take_ramps(size, rest, ramps)?;
+    Ok((k, rest))
+}
+
+// A table.
+#[tactic(auto, unfolding(crate::specs::inside::Parts::table_part))]
+fn take_table<'a>(
+    alloc: Global,
+    size: &Size,
+    bytes: &'a [u8],
+    lists: &mut Lists,
+) -> Result<(Table, &'a [u8]), Stop<'a>>
+    requires { AreSizes (sizes size.now) }
+    ensures { GivesPart (λ r. (r.0, r.1.now)) result (table_part (sizes size.now) bytes.now) }
+{
+    let (k, rest) = take_numbers(
+        size,
+        bytes,
+        &mut lists.pi,
+        &mut lists.mu,
+        &mut lists.ramps,
+    )?;
+    let table = Table::new(
+        alloc,
+        size.thermal,
+        k as i64,
+        lists.pi.as_slice(),
+        lists.mu.as_slice(),
+        lists.ramps.as_slice(),
+    )?;
+    Ok((table, rest))
+}
+
+/// The tables, as many as the size says.
+pub(crate) fn take_tables<'a>(
+    alloc: Global,
+    size: &Size,
+    bytes: &'a [u8],
+) -> Result<(Vec<Table>, &'a [u8]), Stop<'a>>
+    requires { AreSizes (sizes size.now) }
+    ensures { GivesPart (λ r. (r.0.items, r.1.now)) result (repeated size.now.tables (table_part (sizes size.now)) bytes.now) }
+{
+    let mut tables = Vec::new(alloc);
+    let mut lists = Lists {
+        pi: Vec::new(alloc),
+        mu: Vec::new(alloc),
+        ramps: Vec::new(alloc),
+    };
+    let mut rest = bytes;
+    for _ in 0..size.tables {
+        let (table, behind) = take_table(alloc, size, rest, &mut lists)?;
+        tables.push(table)?;
+        rest = behind;
+    }
+    Ok((tables, rest))
 }
