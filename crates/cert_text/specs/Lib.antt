@@ -3,4 +3,5 @@ pub mod CertificateText
 pub mod TextConditions
 pub mod Grammar
 pub mod Reading
+pub mod ReadFaults
 pub mod inside

@@ -1,12 +1,14 @@
 -- What a certificate that was read says: the listing that it stands for. This project's own format.
 use Rattle.std.specs.Prelude.{◌≡◌, ℕ, List, map}
+use Rattle.dual_model.specs.Certificate.{Certificate}
 use Rattle.dual_model.specs.Cover.{Bound, Ray, Empty}
 use Rattle.branch_tree.specs.Claims.{written_of}
 use Rattle.cert_text.specs.declared.cert.Cert.{Cert}
 use Rattle.cert_text.specs.declared.cert.CertNode.{CertNode}
 use Rattle.cert_text.specs.declared.cert.CertNode.TheVariants as nodes
 use Rattle.cert_text.specs.Nodes.{TreeNode, LeafNode, SplitNode}
-use Rattle.cert_text.specs.CertificateText.{Listing}
+use Rattle.cert_text.specs.CertificateText.{Listing, listing_of, certificate_text}
+use Rattle.cert_text.specs.TextConditions.{HasText}
 
 abbrev pub node_of : CertNode → TreeNode
 node_of (nodes.Split g t) = SplitNode g t
@@ -24,3 +26,10 @@ listing_read cert = record {
   tables = cert.tables;
   nodes = map node_of cert.tree;
 }
+
+-- the bytes are the text of a certificate, which has this listing
+pub record IsTextOf (bytes : List ℕ) (cert : Cert) : Type 0 where
+  pub certificate : Certificate
+  pub listed : listing_of certificate ≡ listing_read cert
+  pub conditions : HasText (listing_of certificate)
+  pub text : bytes ≡ certificate_text certificate

@@ -7,6 +7,7 @@ use Rattle.cert_text.proofs.PartLaws.{Stops}
 use Rattle.cert_text.proofs.TableParts.{table-part}
 use Rattle.cert_text.proofs.ScheduleParts.{schedule-part}
 use Rattle.cert_text.proofs.TreeParts.{tree-part}
+use Rattle.cert_text.proofs.CertificateParts.{certificate-part}
 use Rattle.cert_text.proofs.NodeLaws.{ramp-form}
 use Rattle.cert_text.proofs.reader.scratch.scratch.Goals as goal
 

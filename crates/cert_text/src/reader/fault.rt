@@ -1,0 +1,43 @@
+//! Which line is at fault.
+
+ghost use Rattle.std.specs.Prelude.{◌≡◌, ◌++◌, ◌+◌, ◌-◌, ◌≤◌, List, ℕ, take, length, IsTrue, ◌↔◌};
+ghost use Rattle.cert_text.specs.ReadFaults.{HasLineFeed};
+ghost use Rattle.cert_text.specs.inside.LineCount.{line_feeds};
+
+use crate::cert::{CertFault, CertKind};
+
+// The number of the line, from 1, that begins where the bytes are left.
+fn line_number(bytes: &[u8], rest: &[u8]) -> u64
+    requires { length rest.now ≤ length bytes.now }
+    ensures { result ≡ line_feeds (take (length bytes.now - length rest.now) bytes.now) + 1 }
+{
+    let front = &bytes[..bytes.len() - rest.len()];
+    front.iter().filter(|byte| **byte == b'\n').count() as u64 + 1
+}
+
+/// The fault of a line that may not stand where the bytes are left.
+pub(crate) fn fault_at(bytes: &[u8], rest: &[u8]) -> CertFault
+    requires { length rest.now ≤ length bytes.now }
+    ensures { IsStopAt bytes.now rest.now result }
+{
+    let kind = if rest.contains(&b'\n') {
+        CertKind::Form
+    } else {
+        CertKind::Cut
+    };
+    CertFault::At {
+        line: line_number(bytes, rest),
+        kind,
+    }
+}
+
+/// The fault of bytes that are left behind a certificate.
+pub(crate) fn tail_at(bytes: &[u8], rest: &[u8]) -> CertFault
+    requires { length rest.now ≤ length bytes.now }
+    ensures { result ≡ CertFault.At (line_feeds (take (length bytes.now - length rest.now) bytes.now) + 1) CertKind.Tail }
+{
+    CertFault::At {
+        line: line_number(bytes, rest),
+        kind: CertKind::Tail,
+    }
+}

@@ -1,0 +1,55 @@
+//! A whole certificate.
+
+ghost use Rattle.std.specs.Prelude.{◌≡◌, IfOk, Ok, Err};
+ghost use Rattle.cert_text.specs.Grammar.{AreSizes};
+ghost use Rattle.cert_text.specs.Reading.{listing_read};
+ghost use Rattle.cert_text.specs.inside.Parts.{GivesPart, heading_part, certificate_part};
+ghost use Rattle.cert_text.specs.inside.ReadViews.{sizes};
+
+use super::lines::take_claim;
+use super::nodes::take_tree;
+use super::numbers::take_text;
+use super::plan::take_plan;
+use super::sizes::{Size, take_size};
+use super::stop::Stop;
+use super::table::take_tables;
+use crate::cert::Cert;
+use std::alloc::Global;
+use uc_model::List;
+
+// The first two lines: the version of the format, of which there is one, and the size.
+#[tactic(auto, unfolding(crate::specs::inside::Parts::heading_part, crate::specs::inside::LineForms::version_at))]
+fn take_heading(bytes: &[u8]) -> Result<(Size, &[u8]), Stop<'_>>
+    ensures value { GivesPart (λ r. (sizes r.0, r.1.now)) result (heading_part bytes.now) }
+    ensures lawful { IfOk result (λ r. AreSizes (sizes r.0)) }
+{
+    let rest = take_text(bytes, b"uc-certificate 1\n").ok_or(Stop::At(bytes))?;
+    let (size, rest) = take_size(rest).ok_or(Stop::At(rest))?;
+    Ok((size, rest))
+}
+
+/// A certificate at the front of bytes.
+#[tactic(auto, unfolding(crate::specs::inside::Parts::certificate_part, crate::specs::inside::LineForms::end_at))]
+pub(crate) fn take_certificate(
+    alloc: Global,
+    bytes: &[u8],
+) -> Result<(Cert, &[u8]), Stop<'_>>
+    ensures { GivesPart (λ r. (listing_read r.0, r.1.now)) result (certificate_part bytes.now) }
+{
+    let (size, rest) = take_heading(bytes)?;
+    let (bound, rest) = take_claim(rest).ok_or(Stop::At(rest))?;
+    let (schedule, rest) = take_plan(alloc, &size, rest)?;
+    let (tables, rest) = take_tables(alloc, &size, rest)?;
+    let (tree, rest) = take_tree(alloc, &size, rest)?;
+    let rest = take_text(rest, b"end\n").ok_or(Stop::At(rest))?;
+    let cert = Cert {
+        periods: size.periods,
+        thermal: size.thermal,
+        renewable: size.renewable,
+        bound,
+        schedule,
+        tables: List::from_vec(tables),
+        tree: List::from_vec(tree),
+    };
+    Ok((cert, rest))
+}
