@@ -11,3 +11,4 @@ mod tree;
 
 pub use cert::{Cert, CertFault, CertKind, CertNode};
 pub use certificate::write;
+pub use reader::read;

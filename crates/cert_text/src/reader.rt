@@ -20,7 +20,7 @@ mod whole;
 mod words;
 
 use crate::cert::{Cert, CertFault};
-use fault::{fault_at, tail_at};
+use fault::{stop_fault, tail_fault};
 use std::alloc::Global;
 use stop::Stop;
 use whole::take_certificate;
@@ -43,10 +43,10 @@ pub fn read(alloc: Global, bytes: &[u8]) -> Result<Cert, CertFault>
             if rest.is_empty() {
                 Ok(cert)
             } else {
-                Err(tail_at(bytes, rest))
+                Err(tail_fault(bytes, rest))
             }
         }
-        Err(Stop::At(rest)) => Err(fault_at(bytes, rest)),
+        Err(Stop::At(rest)) => Err(stop_fault(bytes, rest)),
         Err(Stop::NoMemory) => Err(CertFault::NoMemory),
     }
 }

@@ -1,12 +1,17 @@
--- The number of the line that begins behind a front of bytes.
-use Rattle.std.specs.Prelude.{◌≡◌, ℕ, ◌+◌, ◌==◌, List, ◌++◌, count_by}
+-- Which line begins where the bytes are left, and what is wrong with it.
+use Rattle.std.specs.Prelude.{ℕ, ◌+◌, ◌-◌, ◌==◌, List, length, take, count_by, if◌then◌else◌}
+use Rattle.std.specs.List.{list_any}
+use Rattle.cert_text.specs.declared.cert.CertKind.{CertKind}
+use Rattle.cert_text.specs.declared.cert.CertKind.TheVariants.{Form, Cut}
 
 -- how many line feeds there are
 abbrev pub line_feeds : List ℕ → ℕ
 line_feeds bytes = count_by (λ c. c == 10) bytes
 
--- the line that begins where these bytes are left
-pub record BeginsLine (bytes rest : List ℕ) (line : ℕ) : Type 0 where
-  pub front : List ℕ
-  pub parts : bytes ≡ front ++ rest
-  pub number : line ≡ line_feeds front + 1
+-- the number of the line, from 1, that begins where the bytes are left
+abbrev pub line_number : List ℕ → List ℕ → ℕ
+line_number bytes rest = line_feeds (take (length bytes - length rest) bytes) + 1
+
+-- a line that may not stand is cut off where it has no line feed
+abbrev pub stop_kind : List ℕ → CertKind
+stop_kind rest = if list_any (λ c. c == 10) rest then Form else Cut

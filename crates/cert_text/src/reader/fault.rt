@@ -1,24 +1,23 @@
 //! Which line is at fault.
 
-ghost use Rattle.std.specs.Prelude.{◌≡◌, ◌++◌, ◌+◌, ◌-◌, ◌≤◌, List, ℕ, take, length, IsTrue, ◌↔◌};
-ghost use Rattle.cert_text.specs.ReadFaults.{HasLineFeed};
-ghost use Rattle.cert_text.specs.inside.LineCount.{line_feeds};
+ghost use Rattle.std.specs.Prelude.{◌≡◌, ◌≤◌, length};
+ghost use Rattle.cert_text.specs.inside.LineCount.{line_number, stop_kind};
 
 use crate::cert::{CertFault, CertKind};
 
 // The number of the line, from 1, that begins where the bytes are left.
 fn line_number(bytes: &[u8], rest: &[u8]) -> u64
     requires { length rest.now ≤ length bytes.now }
-    ensures { result ≡ line_feeds (take (length bytes.now - length rest.now) bytes.now) + 1 }
+    ensures { result ≡ line_number bytes.now rest.now }
 {
     let front = &bytes[..bytes.len() - rest.len()];
     front.iter().filter(|byte| **byte == b'\n').count() as u64 + 1
 }
 
 /// The fault of a line that may not stand where the bytes are left.
-pub(crate) fn fault_at(bytes: &[u8], rest: &[u8]) -> CertFault
+pub(crate) fn stop_fault(bytes: &[u8], rest: &[u8]) -> CertFault
     requires { length rest.now ≤ length bytes.now }
-    ensures { IsStopAt bytes.now rest.now result }
+    ensures { result ≡ CertFault.At (line_number bytes.now rest.now) (stop_kind rest.now) }
 {
     let kind = if rest.contains(&b'\n') {
         CertKind::Form
@@ -32,9 +31,9 @@ pub(crate) fn fault_at(bytes: &[u8], rest: &[u8]) -> CertFault
 }
 
 /// The fault of bytes that are left behind a certificate.
-pub(crate) fn tail_at(bytes: &[u8], rest: &[u8]) -> CertFault
+pub(crate) fn tail_fault(bytes: &[u8], rest: &[u8]) -> CertFault
     requires { length rest.now ≤ length bytes.now }
-    ensures { result ≡ CertFault.At (line_feeds (take (length bytes.now - length rest.now) bytes.now) + 1) CertKind.Tail }
+    ensures { result ≡ CertFault.At (line_number bytes.now rest.now) CertKind.Tail }
 {
     CertFault::At {
         line: line_number(bytes, rest),
