@@ -12,13 +12,14 @@ use Rattle.dual_model.specs.declared.table.RampRow.{RampRow}
 use Rattle.dual_model.specs.declared.table.Table.{Table}
 use Rattle.cert_text.specs.TextConditions.{HasDigits, IsMoney, IsThermalRow, IsRenewableRow, IsScheduleText, IsRampText, IsTableText}
 use Rattle.cert_text.specs.CertificateText.{thermal_line, renewable_line, schedule_lines, scale_line, prices_line, ramps_line, ramp_line, table_lines}
-use Rattle.cert_text.specs.Grammar.{Sizes, AreSizes, Symbol, Schedule, ThermalRow, RenewableRow, Scale, Prices, Ramps, Ramp, Produces, IsRampAfter, ramp_rows, ramp_count_line, schedule_line, schedule_rows}
+use Rattle.cert_text.specs.Grammar.{Sizes, AreSizes, Symbol, Schedule, ThermalRow, RenewableRow, Scale, Pi, Mu, Ramps, Ramp, Produces, ArePrices, IsRampAfter, ramp_rows, ramp_count_line, schedule_line, schedule_rows}
 use Rattle.cert_text.specs.inside.RampLists.{AreRamps}
 use Rattle.cert_text.specs.inside.Forms.{signed_at}
 use Rattle.cert_text.specs.inside.LineForms.{cell_at, row_at, scale_at, schedule_at, ramp_count_at, ramp_at}
 use Rattle.cert_text.specs.inside.Parts.{◌>>=◌, Part, line_of, then, told, repeated, rows_of, printed_part, written, rows_behind, schedule_part, ramp_rows_part, ramps_part, prices_part, table_of, numbers_part, table_part}
 use Rattle.cert_text.proofs.LineLaws.{thermal-form, renewable-form, prices-form, scale-form, ramp_count-form, schedule-form}
 use Rattle.cert_text.proofs.NodeLaws.{ramp-form}
+use Rattle.cert_text.proofs.FormLaws.{IsForm, Anything, form-as}
 use Rattle.cert_text.proofs.PartLaws.{IsPart, Done, line-part, then-part, told-part, told_then, part-as, before-part, nothing-part, repeated-part}
 
 pub map_as_flat : {A B : Type 0} (f : A → B) (xs : List A) → flat_map (λ x. f x ∷ []) xs ≡ map f xs
@@ -107,44 +108,48 @@ ramps_from size before (row ∷ rows) within written rising first = (
 pub table-part : (size : Sizes) → AreSizes size → IsPart (table_part size) (IsTableText size.periods size.thermal) table_lines (Scale size ∷ []) Done
 unfolding table_part numbers_part
 table-part size lawful =
-    told-part (then-part (line-part scale-form (Scale size) (λ k. Prices (codes "pi") size ∷ Prices (codes "mu") size ∷ Ramps size ∷ []) (λ k v. (k, v, refl, refl)) (λ text others p. (p.0, p.1, p.2)))
-    (λ k v. then-part (before-part (prices (codes "pi")) (Prices (codes "mu") size ∷ Ramps size ∷ []))
-    (λ pi v. then-part (before-part (prices (codes "mu")) (Ramps size ∷ [])) (λ mu v. ramps-part size lawful))))
+    told-part (then-part (line-part scale-form (Scale size) (λ k. Pi size ∷ Mu size ∷ Ramps size ∷ []) (λ k v. (k, v, refl, refl)) (λ text others p. (p.0, p.1, p.2)))
+    (λ k v. then-part (before-part pi_prices (Mu size ∷ Ramps size ∷ []))
+    (λ pi v. then-part (before-part mu_prices (Ramps size ∷ [])) (λ mu v. ramps-part size lawful))))
     (table_of size) (IsTableText size.periods size.thermal) table_lines Done
     (record {
       there = λ p v. (record {
         form = record {
           scale = scale_at_least p.0;
-          lengths = v.1.1.0.0 ∙ sym v.1.0.0;
-          rows = subst (λ (n : ℕ). All (IsRowWithin size.thermal n) p.1.1.1) (sym v.1.0.0) (ramps_within size None p.1.1.1 v.1.1.1.1);
+          lengths = v.1.1.0.periods ∙ sym v.1.0.periods;
+          rows = subst (λ (n : ℕ). All (IsRowWithin size.thermal n) p.1.1.1) (sym v.1.0.periods) (ramps_within size None p.1.1.1 v.1.1.1.1);
           rising = ramps_rise size None p.1.1.1 v.1.1.1.1;
         };
         units = refl;
-        periods_priced = v.1.0.0;
+        periods_priced = v.1.0.periods;
         scale = v.0;
-        pi = v.1.0.1;
-        mu = v.1.1.0.1;
+        pi = v.1.0.written;
+        mu = v.1.1.0.written;
         rows = v.1.1.1.0;
         ramps = ramps_written size None p.1.1.1 v.1.1.1.1;
       }, refl, refl);
       back = back;
     })
   where
-    prices : (word : List ℕ) → IsPart (prices_part word size) (λ prices. (length prices ≡ size.periods) × All (HasDigits 18) prices) (λ prices. prices_line word prices ∷ []) (Prices word size ∷ []) Done
-    prices word = line-part (prices-form word size.periods) (Prices word size) Done (λ prices v. (prices, v.0, v.1, refl, refl)) (λ text others p. (p.0, (p.1, p.2), p.3))
+    prices : (word : List ℕ) → IsForm (row_at word size.periods (signed_at 18)) (ArePrices size) (prices_line word) Anything
+    prices word = form-as (prices-form word size.periods) (ArePrices size) (prices_line word) (λ prices v. record { periods = v.0; written = v.1 }) (λ prices w. (w.periods, w.written)) (λ prices. refl)
+    pi_prices : IsPart (prices_part (codes "pi") size) (ArePrices size) (λ prices. prices_line (codes "pi") prices ∷ []) (Pi size ∷ []) Done
+    pi_prices = line-part (prices (codes "pi")) (Pi size) Done (λ prices v. (prices, v, refl, refl)) (λ text others p. (p.0, p.1, p.2))
+    mu_prices : IsPart (prices_part (codes "mu") size) (ArePrices size) (λ prices. prices_line (codes "mu") prices ∷ []) (Mu size ∷ []) Done
+    mu_prices = line-part (prices (codes "mu")) (Mu size) Done (λ prices v. (prices, v, refl, refl)) (λ text others p. (p.0, p.1, p.2))
     scale_at_least : (k : ℕ) → pos 0 ≤ℤ pos k
     scale_at_least k = omega (arith, ints)
     natural : (k : ℤ) → pos 0 ≤ℤ k → pos (unsigned_abs k) ≡ k
     natural (pos n) h = refl
     natural (negsuc n) h = absurd (omega (arith, ints))
     back : (table : Table) → IsTableText size.periods size.thermal table
-        → (p : ℕ × (List ℤ × (List ℤ × List RampRow))) × ((p.0 < 10 ^ 18) × (((length p.1.0 ≡ size.periods) × All (HasDigits 18) p.1.0)
-        × (((length p.1.1.0 ≡ size.periods) × All (HasDigits 18) p.1.1.0) × ((length p.1.1.1 < 10 ^ 18) × AreRamps size None p.1.1.1)))) × (table_of size p ≡ table)
+        → (p : ℕ × (List ℤ × (List ℤ × List RampRow))) × ((p.0 < 10 ^ 18) × (ArePrices size p.1.0
+        × (ArePrices size p.1.1.0 × ((length p.1.1.1 < 10 ^ 18) × AreRamps size None p.1.1.1)))) × (table_of size p ≡ table)
     back table w =
         let within = subst (λ (n : ℕ). All (IsRowWithin n (length table.pi)) table.ramps) w.units w.form.rows in
         let rows = subst (λ (n : ℕ). All (IsRowWithin size.thermal n) table.ramps) w.periods_priced within in
         ((unsigned_abs table.k, (table.pi, (table.mu, table.ramps))),
-        (w.scale, ((w.periods_priced, w.pi), ((w.form.lengths ∙ w.periods_priced, w.mu), (w.rows, ramps_from size None table.ramps rows w.ramps w.form.rising (λ first others e. tt))))),
+        (w.scale, (record { periods = w.periods_priced; written = w.pi }, (record { periods = w.form.lengths ∙ w.periods_priced; written = w.mu }, (w.rows, ramps_from size None table.ramps rows w.ramps w.form.rising (λ first others e. tt))))),
         λ i. record { units = sym w.units i; k = natural table.k w.form.scale i; pi = table.pi; mu = table.mu; ramps = table.ramps })
 
 -- the numbers that are read are those of a well-formed table

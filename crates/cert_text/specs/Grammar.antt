@@ -35,9 +35,10 @@ pub data Symbol : Type 0 where
   Schedule : Sizes → Symbol
   ThermalRow : Sizes → Symbol
   RenewableRow : Sizes → Symbol
-  -- the first line of a table, and those of its prices, which begin with these words
+  -- the first line of a table, and those of its prices of demand and of reserve
   Scale : Sizes → Symbol
-  Prices : List ℕ → Sizes → Symbol
+  Pi : Sizes → Symbol
+  Mu : Sizes → Symbol
   -- the count of a table's ramp rows; and a row, so many before the last one, behind another or as the first
   Ramps : Sizes → Symbol
   Ramp : Sizes → ℕ → Option RampRow → Symbol
@@ -66,6 +67,11 @@ children size (SplitNode g t) = Node size ∷ Node size ∷ []
 abbrev pub ramp_count_line : ℕ → List ℕ
 ramp_count_line count = line (codes "ramps") (whole_text count ∷ [])
 
+-- a price for each period
+pub record ArePrices (size : Sizes) (prices : List ℤ) : Type 0 where
+  pub periods : length prices ≡ size.periods
+  pub written : All (HasDigits 18) prices
+
 -- a row that may stand behind another one
 pub record IsRampAfter (size : Sizes) (before : Option RampRow) (row : RampRow) : Type 0 where
   pub within : IsRowWithin size.thermal size.periods row
@@ -88,9 +94,9 @@ Produces (ThermalRow size) text next = (row : List Cell) × IsThermalRow size.pe
 Produces (RenewableRow size) text next = (row : List ℤ) × IsRenewableRow size.periods row × (text ≡ renewable_line row) × (next ≡ [])
 Produces (Scale size) text next =
     (k : ℕ) × (k < 10 ^ 18) × (text ≡ scale_line (pos k))
-    × (next ≡ Prices (codes "pi") size ∷ Prices (codes "mu") size ∷ Ramps size ∷ [])
-Produces (Prices word size) text next =
-    (prices : List ℤ) × (length prices ≡ size.periods) × All (HasDigits 18) prices × (text ≡ prices_line word prices) × (next ≡ [])
+    × (next ≡ Pi size ∷ Mu size ∷ Ramps size ∷ [])
+Produces (Pi size) text next = (prices : List ℤ) × ArePrices size prices × (text ≡ prices_line (codes "pi") prices) × (next ≡ [])
+Produces (Mu size) text next = (prices : List ℤ) × ArePrices size prices × (text ≡ prices_line (codes "mu") prices) × (next ≡ [])
 Produces (Ramps size) text next = (count : ℕ) × (count < 10 ^ 18) × (text ≡ ramp_count_line count) × (next ≡ ramp_rows size count None)
 Produces (Ramp size more before) text next =
     (row : RampRow) × IsRampAfter size before row × (text ≡ ramp_line row) × (next ≡ ramp_rows size more (Some row))
