@@ -57,24 +57,30 @@ unfolding certificate_part certificate_lines
 certificate-part =
     told-part (then-part heading-part body-part) listing_from IsListed (certificate_lines 1) Done
     (record {
-      there = λ p v. (record {
-        text = record {
-          some_period = v.0.some_period;
-          periods = v.0.periods;
-          thermal = v.0.thermal;
-          renewable = v.0.renewable;
-          table_count = omega (arith, v.0.tables, v.1.1.1.0.0);
-          bound = v.1.0;
-          schedule = v.1.1.0;
-          tables = v.1.1.1.0.1;
-          nodes = subst (λ (n : ℕ). All (IsNodeWithin p.0.periods p.0.thermal n) p.1.1.1.1.0) (sym v.1.1.1.0.0) v.1.1.1.1.0.1;
-        };
-        tree = v.1.1.1.1.0.0;
-      }, ap (λ n. version_line 1 ∷ size_line p.0.periods p.0.thermal p.0.renewable n ∷ body_lines p.1) (sym v.1.1.1.0.0), refl);
+      there = λ p v. (
+        record {
+          text = record {
+            some_period = v.0.some_period;
+            periods = v.0.periods;
+            thermal = v.0.thermal;
+            renewable = v.0.renewable;
+            table_count = omega (arith, v.0.tables, v.1.1.1.0.0);
+            bound = v.1.0;
+            schedule = v.1.1.0;
+            tables = v.1.1.1.0.1;
+            nodes = subst (λ (n : ℕ). All (IsNodeWithin p.0.periods p.0.thermal n) p.1.1.1.1.0) (sym v.1.1.1.0.0) v.1.1.1.1.0.1;
+          };
+          tree = v.1.1.1.1.0.0;
+        },
+        ap (λ n. version_line 1 ∷ size_line p.0.periods p.0.thermal p.0.renewable n ∷ body_lines p.1) (sym v.1.1.1.0.0),
+        refl,
+      );
       back = λ c w. (
         (record { periods = c.periods; thermal = c.thermal; renewable = c.renewable; tables = length c.tables }, (c.bound, (c.schedule, (c.tables, (c.nodes, tt))))),
-        (record { some_period = w.text.some_period; periods = w.text.periods; thermal = w.text.thermal; renewable = w.text.renewable; tables = w.text.table_count },
-        (w.text.bound, (w.text.schedule, ((refl, w.text.tables), ((w.tree, w.text.nodes), tt))))),
+        (
+          record { some_period = w.text.some_period; periods = w.text.periods; thermal = w.text.thermal; renewable = w.text.renewable; tables = w.text.table_count },
+          (w.text.bound, (w.text.schedule, ((refl, w.text.tables), ((w.tree, w.text.nodes), tt)))),
+        ),
         refl,
       );
     })

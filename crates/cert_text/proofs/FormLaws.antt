@@ -141,9 +141,11 @@ times-form {A} {form} {V} {t} {F} h follows n = record { takes = taken n; again 
         let parts = one.1 ∙ ap (λ rest. t b.0.0 ++ rest) more.1 ∙ sym (append_assoc (t b.0.0) (flat_map t c.0.0) c.0.1) in
         subst (λ (x : List A × List ℕ). ((length x.0 ≡ suc n) × All V x.0) × (bytes ≡ flat_map t x.0 ++ x.1)) (same_Some (b.0.0 ∷ c.0.0, c.0.1) x c.2)
         ((ap suc more.0.0, All-cons V b.0.0 c.0.0 one.0 more.0.1), parts)
+
     goes_on : (xs : List A) (rest : List ℕ) → F rest → F (flat_map t xs ++ rest)
     goes_on [] rest f = f
     goes_on (x ∷ xs) rest f = subst F (sym (append_assoc (t x) (flat_map t xs) rest)) (follows x (flat_map t xs ++ rest))
+
     read : (n : ℕ) (xs : List A) (rest : List ℕ) → (length xs ≡ n) × All V xs → F rest → times n form (flat_map t xs ++ rest) ≡ Some (xs, rest)
     read zero [] rest v f = refl
     read zero (x ∷ xs) rest v f = absurd (omega arith)
@@ -179,6 +181,7 @@ when-form {A} {form} {other} {V} {W} {U} {t} {s} {u} h k text choice = record { 
         let one = h.takes rest x f in
         let there = choice.first x.0 one.0 in
         (there.0, text_at-takes text bytes rest e ∙ ap (λ rest. text ++ rest) one.1 ∙ sym (append_assoc text (t x.0) x.1) ∙ ap (λ text. text ++ x.1) there.1)
+
     read : (a : A) (rest : List ℕ) → U a → Anything rest → when (text_at text (u a ++ rest)) form (other (u a ++ rest)) ≡ Some (a, rest)
     read a rest v f = ⊎_elim
         (λ (one : V a).

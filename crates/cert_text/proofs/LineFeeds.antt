@@ -46,6 +46,7 @@ cell_feeds cell = by_state cell.on
         rw (line_feeds-append (signed_text cell.p), signed_feeds cell.p)
         (rw (line_feeds-append (codes ":") (signed_text cell.r ++ (codes ":" ++ whole_text cell.category)), line_feeds-append (signed_text cell.r), signed_feeds cell.r)
         (rw (line_feeds-append (codes ":") (whole_text cell.category), whole_feeds cell.category) refl))
+
     by_state : (on : Bool) → line_feeds (cond on (joined (signed_text cell.p ∷ codes ":" ∷ signed_text cell.r ∷ codes ":" ∷ whole_text cell.category ∷ [])) (codes "-")) ≡ 0
     by_state true = on
     by_state false = refl

@@ -101,9 +101,11 @@ claim-form = when-form some_money (fixed-form (codes "claim infeasible\n") None)
     first : (o : Option ℤ) → IsMoneyOf o → IfSome o IsMoney × (codes "claim bound " ++ (money_text (money_of o) ++ codes "\n") ≡ claim_line o)
     first None v = absurd v
     first (Some z) v = (v, refl)
+
     second : (o : Option ℤ) → o ≡ None → IfSome o IsMoney × (codes "claim infeasible\n" ≡ claim_line o)
     second None w = (tt, refl)
     second (Some z) w = absurd cc
+
     cases : (o : Option ℤ) → IfSome o IsMoney → IsMoneyOf o ⊎ (o ≡ None)
     cases None v = inr refl
     cases (Some z) v = inl v
@@ -134,9 +136,11 @@ schedule-form = when-form (empty-form None) (after-form some_money (codes "sched
     first : (o : Option ℤ) → o ≡ None → IfSome o IsMoney × (codes "schedule none\n" ≡ schedule_line o)
     first None v = (tt, refl)
     first (Some z) v = absurd cc
+
     second : (o : Option ℤ) → IsMoneyOf o → IfSome o IsMoney × (codes "schedule " ++ (money_text (money_of o) ++ codes "\n") ≡ schedule_line o)
     second None w = absurd w
     second (Some z) w = (w, refl)
+
     cases : (o : Option ℤ) → IfSome o IsMoney → (o ≡ None) ⊎ IsMoneyOf o
     cases None v = inl refl
     cases (Some z) v = inr v
@@ -171,6 +175,7 @@ cell-form = record { takes = λ bytes x e. taken bytes x (on_cell_at bytes) refl
   where
     on_is : (cell : Cell) → cell.on ≡ true → on_text cell ≡ cell_text cell
     on_is cell on = rw on (simp append_assoc)
+
     taken : (bytes : List ℕ) (x : Cell × List ℕ) (o : Option (Cell × List ℕ)) → on_cell_at bytes ≡ o → or_else o (fixed (codes "-") off_cell bytes) ≡ Some x
         → IsCellText x.0 × (bytes ≡ cell_text x.0 ++ x.1)
     taken bytes x None e f =
@@ -180,8 +185,10 @@ cell-form = record { takes = λ bytes x e. taken bytes x (on_cell_at bytes) refl
     taken bytes x (Some y) e f =
         let on = on_cell-form.takes bytes x (e ∙ f) in
         (record { on = λ e. on.0.1; off = λ e. absurd (false≢true (sym e ∙ on.0.0)) }, on.1 ∙ ap (λ text. text ++ x.1) (on_is x.0 on.0.0))
+
     off_is : (cell : Cell) → cell.on ≡ false → IsOffCell cell → off_cell ≡ cell
     off_is cell off blank = λ i. record { on = sym off i; p = sym blank.output i; r = sym blank.reserve i; category = sym blank.category i }
+
     read_by : (cell : Cell) (rest : List ℕ) (on : Bool) → cell.on ≡ on → IsCellText cell → NoDigit rest
         → or_else (on_cell_at (cell_text cell ++ rest)) (fixed (codes "-") off_cell (cell_text cell ++ rest)) ≡ Some (cell, rest)
     read_by cell rest true e v f =
@@ -191,6 +198,7 @@ cell-form = record { takes = λ bytes x e. taken bytes x (on_cell_at bytes) refl
         let same = off_is cell e (v.off e) in
         subst (λ (cell : Cell). or_else (on_cell_at (cell_text cell ++ rest)) (fixed (codes "-") off_cell (cell_text cell ++ rest)) ≡ Some (cell, rest)) same
         (rw (no_on_cell rest f) ((fixed-form (codes "-") off_cell).again off_cell rest refl tt))
+
     read : (cell : Cell) (rest : List ℕ) → IsCellText cell → NoDigit rest
         → or_else (on_cell_at (cell_text cell ++ rest)) (fixed (codes "-") off_cell (cell_text cell ++ rest)) ≡ Some (cell, rest)
     read cell rest v f = read_by cell rest cell.on refl v f

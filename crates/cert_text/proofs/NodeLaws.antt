@@ -37,12 +37,14 @@ present_passes up down h = ⊎_elim
 
 rises_from_test : (before : Option RampRow) (row : RampRow) → rises before row ≡ true → IfSome before (λ earlier. IsRowBefore earlier row)
 rises_from_test None row e = tt
-rises_from_test (Some earlier) row e = record { before = ⊎_elim
-    (λ (one : nat_lt earlier.g row.g ≡ true). inl (ltb-true earlier.g row.g one))
-    (λ (two : (nat_eq earlier.g row.g && nat_lt earlier.t row.t) ≡ true).
-    let both = and_parts (nat_eq earlier.g row.g) (nat_lt earlier.t row.t) two in
-    inr (eqb-true earlier.g row.g both.0, ltb-true earlier.t row.t both.1))
-    (or_cases (nat_lt earlier.g row.g) (nat_eq earlier.g row.g && nat_lt earlier.t row.t) e) }
+rises_from_test (Some earlier) row e = record {
+  before = ⊎_elim
+      (λ (one : nat_lt earlier.g row.g ≡ true). inl (ltb-true earlier.g row.g one))
+      (λ (two : (nat_eq earlier.g row.g && nat_lt earlier.t row.t) ≡ true).
+      let both = and_parts (nat_eq earlier.g row.g) (nat_lt earlier.t row.t) two in
+      inr (eqb-true earlier.g row.g both.0, ltb-true earlier.t row.t both.1))
+      (or_cases (nat_lt earlier.g row.g) (nat_eq earlier.g row.g && nat_lt earlier.t row.t) e);
+}
 
 rise_passes : (before : Option RampRow) (row : RampRow) → IfSome before (λ earlier. IsRowBefore earlier row) → rises before row ≡ true
 rise_passes None row h = refl
@@ -206,9 +208,11 @@ unit_node-form size lawful =
     first (LeafNode (Ray n)) v = absurd v
     first (LeafNode (Empty n)) v = (v, refl)
     first (SplitNode g t) v = absurd v
+
     second : (node : TreeNode) → IsSplitNode size.thermal size.periods node → IsUnitNode size node × (split_text node ≡ node_line node)
     second (LeafNode leaf) w = absurd w
     second (SplitNode g t) w = (w, split_text_is size (SplitNode g t) w)
+
     cases : (node : TreeNode) → IsUnitNode size node → IsEmptyNode size.thermal node ⊎ IsSplitNode size.thermal size.periods node
     cases (LeafNode (Bound n)) v = absurd v
     cases (LeafNode (Ray n)) v = absurd v
@@ -228,16 +232,19 @@ later_node-form size lawful =
     first (LeafNode (Ray n)) v = (v, refl)
     first (LeafNode (Empty n)) v = absurd v
     first (SplitNode g t) v = absurd v
+
     second : (node : TreeNode) → IsUnitNode size node → IsLaterNode size node × (node_line node ≡ node_line node)
     second (LeafNode (Bound n)) w = absurd w
     second (LeafNode (Ray n)) w = absurd w
     second (LeafNode (Empty n)) w = (w, refl)
     second (SplitNode g t) w = (w, refl)
+
     cases : (node : TreeNode) → IsLaterNode size node → IsRayNode size.tables node ⊎ IsUnitNode size node
     cases (LeafNode (Bound n)) v = absurd v
     cases (LeafNode (Ray n)) v = inl v
     cases (LeafNode (Empty n)) v = inr v
     cases (SplitNode g t) v = inr v
+
     apart : (node : TreeNode) (rest : List ℕ) → IsUnitNode size node → text_at (codes "ray ") (node_line node ++ rest) ≡ None
     apart (LeafNode (Bound n)) rest w = absurd w
     apart (LeafNode (Ray n)) rest w = absurd w
@@ -254,16 +261,19 @@ node-form size lawful =
     first (LeafNode (Ray n)) v = absurd v
     first (LeafNode (Empty n)) v = absurd v
     first (SplitNode g t) v = absurd v
+
     second : (node : TreeNode) → IsLaterNode size node → IsNodeWithin size.periods size.thermal size.tables node × (node_line node ≡ node_line node)
     second (LeafNode (Bound n)) w = absurd w
     second (LeafNode (Ray n)) w = (w, refl)
     second (LeafNode (Empty n)) w = (w, refl)
     second (SplitNode g t) w = (w, refl)
+
     cases : (node : TreeNode) → IsNodeWithin size.periods size.thermal size.tables node → IsBoundNode size.tables node ⊎ IsLaterNode size node
     cases (LeafNode (Bound n)) v = inl v
     cases (LeafNode (Ray n)) v = inr v
     cases (LeafNode (Empty n)) v = inr v
     cases (SplitNode g t) v = inr v
+
     apart : (node : TreeNode) (rest : List ℕ) → IsLaterNode size node → text_at (codes "bound ") (node_line node ++ rest) ≡ None
     apart (LeafNode (Bound n)) rest w = absurd w
     apart (LeafNode (Ray n)) rest w = refl

@@ -76,9 +76,10 @@ whole-form digits some = record {
       let long : length ds ≡ run bytes = length-take-le (run bytes) bytes (run-le bytes) in
       let text = whole_text-digits_value ds (digits_of_run bytes) (omega arith) (lead_from_test bytes positive tests.1) in
       let power : 10 ^ length ds ≤ 10 ^ digits = pow-le-pow_right {n = 10} (omega arith) (omega arith) in
-      subst (λ (x : ℕ × List ℕ). (x.0 < 10 ^ digits) × (bytes ≡ whole_text x.0 ++ x.1)) passed.1
-      (omega (arith, digits_value-lt 10 ds (digits_of_run bytes), power),
-      sym (take-append-drop (run bytes) bytes) ∙ ap (λ text. text ++ drop (run bytes) bytes) (sym text));
+      subst (λ (x : ℕ × List ℕ). (x.0 < 10 ^ digits) × (bytes ≡ whole_text x.0 ++ x.1)) passed.1 (
+        omega (arith, digits_value-lt 10 ds (digits_of_run bytes), power),
+        sym (take-append-drop (run bytes) bytes) ∙ ap (λ text. text ++ drop (run bytes) bytes) (sym text),
+      );
   again = λ n rest small none.
       let ds = whole_text n in
       let long : run (ds ++ rest) ≡ length ds = run-digits ds rest (whole_text_digits n) none in
@@ -115,9 +116,10 @@ decimals-form = record {
       let long : length ds ≡ 6 = length-take-le (run bytes) bytes (run-le bytes) ∙ six in
       let power : 10 ^ length ds ≡ 1000000 = ap (λ k. 10 ^ k) long in
       let text = six_digits-digits_value ds long (digits_of_run bytes) in
-      subst (λ (x : ℕ × List ℕ). (x.0 < 1000000) × (bytes ≡ six_digits x.0 ++ x.1)) passed.1
-      (omega (arith, digits_value-lt 10 ds (digits_of_run bytes), power),
-      sym (take-append-drop (run bytes) bytes) ∙ ap (λ text. text ++ drop (run bytes) bytes) (sym text));
+      subst (λ (x : ℕ × List ℕ). (x.0 < 1000000) × (bytes ≡ six_digits x.0 ++ x.1)) passed.1 (
+        omega (arith, digits_value-lt 10 ds (digits_of_run bytes), power),
+        sym (take-append-drop (run bytes) bytes) ∙ ap (λ text. text ++ drop (run bytes) bytes) (sym text),
+      );
   again = λ n rest small none.
       let ds = six_digits n in
       let long : run (ds ++ rest) ≡ 6 = run-digits ds rest (decimals_are_digits n) none ∙ length-six_digits n in
@@ -138,12 +140,14 @@ with_sign-form {form} {V} {t} {F} h no_minus = record { takes = taken; again = r
     plain bytes x e =
         let b = bind_some (form bytes) (λ x. Some (pos x.0, x.1)) x e in
         subst (λ (x : ℤ × List ℕ). V (unsigned_abs x.0) × (bytes ≡ (minus_text x.0 ++ t (unsigned_abs x.0)) ++ x.1)) (same_Some (pos b.0.0, b.0.1) x b.2) (h.takes bytes b.0 b.1)
+
     minus : (n : ℕ) (bytes rest : List ℕ) (x : ℤ × List ℕ) → (negative n >>= λ z. Some (z, rest)) ≡ Some x → V n → bytes ≡ t n ++ rest
         → V (unsigned_abs x.0) × (45 ∷ bytes ≡ (minus_text x.0 ++ t (unsigned_abs x.0)) ++ x.1)
     minus zero bytes rest x e v parts = absurd cc
     minus (suc n) bytes rest x e v parts =
         subst (λ (x : ℤ × List ℕ). V (unsigned_abs x.0) × (45 ∷ bytes ≡ (minus_text x.0 ++ t (unsigned_abs x.0)) ++ x.1)) (same_Some (negsuc n, rest) x e)
         (v, ap (λ (bs : List ℕ). 45 ∷ bs) parts)
+
     taken : (bytes : List ℕ) (x : ℤ × List ℕ) → with_sign form bytes ≡ Some x
         → V (unsigned_abs x.0) × (bytes ≡ (minus_text x.0 ++ t (unsigned_abs x.0)) ++ x.1)
     taken [] x e = plain [] x e
@@ -155,6 +159,7 @@ with_sign-form {form} {V} {t} {F} h no_minus = record { takes = taken; again = r
         rw same (minus b.0.0 bytes b.0.1 x b.2 one.0 one.1))
         (λ (other : c ≡ 45 → ⊥). plain (c ∷ bytes) x (rw (ne_eqb c 45 other) at e))
         (cases_eq c 45)
+
     read : (z : ℤ) (rest : List ℕ) → V (unsigned_abs z) → F rest → with_sign form ((minus_text z ++ t (unsigned_abs z)) ++ rest) ≡ Some (z, rest)
     read (pos n) rest v f = rw (no_minus n rest, h.again n rest v f) refl
     read (negsuc n) rest v f = rw (h.again (suc n) rest v f) refl

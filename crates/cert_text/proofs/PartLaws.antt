@@ -114,9 +114,11 @@ line-part {A} {form} {V} {t} h kind next produces only = record {
     found : (o : Option (A × List ℕ)) (bytes : List ℕ) (x : A × List ℕ) → ok_or o bytes ≡ Ok x → o ≡ Some x
     found (Some y) bytes x e = ap Some (same_Ok y x e)
     found None bytes x e = absurd cc
+
     none : (o : Option (A × List ℕ)) (bytes rest : List ℕ) → ok_or o bytes ≡ Err rest → (o ≡ None) × (bytes ≡ rest)
     none (Some y) bytes rest e = absurd cc
     none None bytes rest e = (refl, same_Err bytes rest e)
+
     no_some : (x : A × List ℕ) → None ≡ Some x → ⊥
     no_some x e = cc
 
@@ -146,6 +148,7 @@ then-part {A} {B} {first} {second} {V} {W} {l} {m} {kinds} {middle} {left} h k =
         let one = h.takes bytes x e in
         Stops-behind kinds (middle x.0) (l x.0) bytes x.1 rest (h.runs x.0 one.0) one.1 ((k x.0 one.0).stops x.1 rest f)
     second_stops x bytes rest e (AtSecond y f g) = absurd (cc)
+
     stopped : (bytes rest : List ℕ) → StopsAt (first bytes) (λ x. second x.0 x.1 >>= λ y. ok_of (A × B) (x.0, y.0) y.1) rest → Stops kinds bytes rest
     stopped bytes rest (AtFirst e) = h.stops bytes rest e
     stopped bytes rest (AtSecond x e f) = second_stops x bytes rest e (bind_err (second x.0 x.1) (λ y. ok_of (A × B) (x.0, y.0) y.1) rest f)
@@ -209,6 +212,7 @@ told_then {A} {B} {C} f first second bytes = by_first (first bytes)
     by_second : (x : A × List ℕ) (s : Result (B × List ℕ) (List ℕ)) → ((s >>= λ y. ok_of (A × B) (x.0, y.0) y.1) >>= λ z. ok_of C (f z.0) z.1) ≡ (s >>= λ y. ok_of C (f (x.0, y.0)) y.1)
     by_second x (Ok y) = refl
     by_second x (Err rest) = refl
+
     by_first : (r : Result (A × List ℕ) (List ℕ)) → ((r >>= λ x. second x.0 x.1 >>= λ y. ok_of (A × B) (x.0, y.0) y.1) >>= λ z. ok_of C (f z.0) z.1) ≡ (r >>= λ x. second x.0 x.1 >>= λ y. ok_of C (f (x.0, y.0)) y.1)
     by_first (Ok x) = by_second x (second x.0 x.1)
     by_first (Err rest) = refl
@@ -236,6 +240,7 @@ repeated-part {A} {part} {V} {l} {kind} h zero = record {
     none : (xs : List A) (rest : List ℕ) → length xs ≡ 0 → ok_of (List A) [] (joined (flat_map l xs) ++ rest) ≡ ok_of (List A) xs rest
     none [] rest e = refl
     none (x ∷ xs) rest e = absurd (omega arith)
+
     no_lines : (xs : List A) → length xs ≡ 0 → Reaches [] (flat_map l xs) []
     no_lines [] e = refl
     no_lines (x ∷ xs) e = absurd (omega arith)
@@ -246,6 +251,7 @@ repeated-part {A} {part} {V} {l} {kind} h (suc n) =
   where
     grown : A × List A → List A
     grown p = p.0 ∷ p.1
+
     back : (xs : List A) → (length xs ≡ suc n) × All V xs → (p : A × List A) × (V p.0 × ((length p.1 ≡ n) × All V p.1)) × (grown p ≡ xs)
     back [] w = absurd (omega arith)
     back (x ∷ xs) w = ((x, xs), (All-head V x xs w.1, (omega arith, All-tail V x xs w.1)), refl)

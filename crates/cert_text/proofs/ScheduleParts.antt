@@ -78,13 +78,16 @@ schedule-part size =
       ap (λ cost. schedule_line (Some cost) ∷ row_lines (Some w)) (sym v.1.0),
       refl,
     )
+
     back : (schedule : Option WrittenSchedule) → IfSome schedule (IsScheduleText size.periods size.thermal size.renewable)
         → (p : Option ℤ × Option WrittenSchedule) × (IfSome p.0 IsMoney × IsBehind size p.0 p.1) × (p.1 ≡ schedule)
     back None w = ((None, None), (tt, refl), refl)
     back (Some w) v = ((Some w.cost, Some w), (v.cost, (refl, record { thermal_rows = v.thermal_rows; cells = v.cells; renewable_rows = v.renewable_rows; outputs = v.outputs })), refl)
+
     same_rest : (r : Result (Option WrittenSchedule × List ℕ) (List ℕ)) → (r >>= λ y. Ok (y.0, y.1)) ≡ r
     same_rest (Ok y) = refl
     same_rest (Err rest) = refl
+
     just_second : (r : Result (Option ℤ × List ℕ) (List ℕ)) → (r >>= λ x. rows_behind size x.0 x.1 >>= λ y. Ok (y.0, y.1)) ≡ (r >>= λ x. rows_behind size x.0 x.1)
     just_second (Ok x) = same_rest (rows_behind size x.0 x.1)
     just_second (Err rest) = refl

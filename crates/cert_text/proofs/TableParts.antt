@@ -36,6 +36,7 @@ ramp_rows-part size lawful zero before =
     there : (rows : List RampRow) → rows ≡ [] → ((length rows ≡ 0) × AreRamps size before rows) × ([] ≡ map ramp_line rows) × ([] ≡ Done rows)
     there [] e = ((refl, tt), refl, refl)
     there (row ∷ rows) e = absurd cc
+
     back : (rows : List RampRow) → (length rows ≡ 0) × AreRamps size before rows → (a : List RampRow) × (a ≡ []) × (a ≡ rows)
     back [] w = ([], refl, refl)
     back (row ∷ rows) w = absurd (omega arith)
@@ -48,6 +49,7 @@ ramp_rows-part size lawful (suc n) before =
   where
     grown : RampRow × List RampRow → List RampRow
     grown p = p.0 ∷ p.1
+
     back : (rows : List RampRow) → (length rows ≡ suc n) × AreRamps size before rows
         → (p : RampRow × List RampRow) × (IsRampAfter size before p.0 × ((length p.1 ≡ n) × AreRamps size (Some p.0) p.1)) × (grown p ≡ rows)
     back [] w = absurd (omega arith)
@@ -69,6 +71,7 @@ ramps-part size lawful =
     same_rest : (r : Result (List RampRow × List ℕ) (List ℕ)) → (r >>= λ y. Ok (y.0, y.1)) ≡ r
     same_rest (Ok y) = refl
     same_rest (Err rest) = refl
+
     just_second : (r : Result (ℕ × List ℕ) (List ℕ)) → (r >>= λ x. ramp_rows_part size x.0 None x.1 >>= λ y. Ok (y.0, y.1)) ≡ (r >>= λ x. ramp_rows_part size x.0 None x.1)
     just_second (Ok x) = same_rest (ramp_rows_part size x.0 None x.1)
     just_second (Err rest) = refl
@@ -96,7 +99,7 @@ ramps_from size before [] within written rising first = tt
 ramps_from size before (row ∷ rows) within written rising first = (
   record { within = All-head (IsRowWithin size.thermal size.periods) row rows within; written = All-head IsRampText row rows written; rises = first row rows refl },
   ramps_from size (Some row) rows (All-tail (IsRowWithin size.thermal size.periods) row rows within) (All-tail IsRampText row rows written)
-  (λ i d lt. rising (suc i) d (omega arith)) (λ next others e. behind next others e),
+      (λ i d lt. rising (suc i) d (omega arith)) (λ next others e. behind next others e),
 )
   where
     behind : (next : RampRow) (others : List RampRow) → rows ≡ next ∷ others → IsRowBefore row next
@@ -113,44 +116,54 @@ table-part size lawful =
     (λ pi v. then-part (before-part mu_prices (Ramps size ∷ [])) (λ mu v. ramps-part size lawful))))
     (table_of size) (IsTableText size.periods size.thermal) table_lines Done
     (record {
-      there = λ p v. (record {
-        form = record {
-          scale = scale_at_least p.0;
-          lengths = v.1.1.0.periods ∙ sym v.1.0.periods;
-          rows = subst (λ (n : ℕ). All (IsRowWithin size.thermal n) p.1.1.1) (sym v.1.0.periods) (ramps_within size None p.1.1.1 v.1.1.1.1);
-          rising = ramps_rise size None p.1.1.1 v.1.1.1.1;
-        };
-        units = refl;
-        periods_priced = v.1.0.periods;
-        scale = v.0;
-        pi = v.1.0.written;
-        mu = v.1.1.0.written;
-        rows = v.1.1.1.0;
-        ramps = ramps_written size None p.1.1.1 v.1.1.1.1;
-      }, refl, refl);
+      there = λ p v. (
+        record {
+          form = record {
+            scale = scale_at_least p.0;
+            lengths = v.1.1.0.periods ∙ sym v.1.0.periods;
+            rows = subst (λ (n : ℕ). All (IsRowWithin size.thermal n) p.1.1.1) (sym v.1.0.periods) (ramps_within size None p.1.1.1 v.1.1.1.1);
+            rising = ramps_rise size None p.1.1.1 v.1.1.1.1;
+          };
+          units = refl;
+          periods_priced = v.1.0.periods;
+          scale = v.0;
+          pi = v.1.0.written;
+          mu = v.1.1.0.written;
+          rows = v.1.1.1.0;
+          ramps = ramps_written size None p.1.1.1 v.1.1.1.1;
+        },
+        refl,
+        refl,
+      );
       back = back;
     })
   where
     prices : (word : List ℕ) → IsForm (row_at word size.periods (signed_at 18)) (ArePrices size) (prices_line word) Anything
     prices word = form-as (prices-form word size.periods) (ArePrices size) (prices_line word) (λ prices v. record { periods = v.0; written = v.1 }) (λ prices w. (w.periods, w.written)) (λ prices. refl)
+
     pi_prices : IsPart (prices_part (codes "pi") size) (ArePrices size) (λ prices. prices_line (codes "pi") prices ∷ []) (Pi size ∷ []) Done
     pi_prices = line-part (prices (codes "pi")) (Pi size) Done (λ prices v. (prices, v, refl, refl)) (λ text others p. (p.0, p.1, p.2))
+
     mu_prices : IsPart (prices_part (codes "mu") size) (ArePrices size) (λ prices. prices_line (codes "mu") prices ∷ []) (Mu size ∷ []) Done
     mu_prices = line-part (prices (codes "mu")) (Mu size) Done (λ prices v. (prices, v, refl, refl)) (λ text others p. (p.0, p.1, p.2))
+
     scale_at_least : (k : ℕ) → pos 0 ≤ℤ pos k
     scale_at_least k = omega (arith, ints)
+
     natural : (k : ℤ) → pos 0 ≤ℤ k → pos (unsigned_abs k) ≡ k
     natural (pos n) h = refl
     natural (negsuc n) h = absurd (omega (arith, ints))
+
     back : (table : Table) → IsTableText size.periods size.thermal table
         → (p : ℕ × (List ℤ × (List ℤ × List RampRow))) × ((p.0 < 10 ^ 18) × (ArePrices size p.1.0
         × (ArePrices size p.1.1.0 × ((length p.1.1.1 < 10 ^ 18) × AreRamps size None p.1.1.1)))) × (table_of size p ≡ table)
     back table w =
         let within = subst (λ (n : ℕ). All (IsRowWithin n (length table.pi)) table.ramps) w.units w.form.rows in
-        let rows = subst (λ (n : ℕ). All (IsRowWithin size.thermal n) table.ramps) w.periods_priced within in
-        ((unsigned_abs table.k, (table.pi, (table.mu, table.ramps))),
-        (w.scale, (record { periods = w.periods_priced; written = w.pi }, (record { periods = w.form.lengths ∙ w.periods_priced; written = w.mu }, (w.rows, ramps_from size None table.ramps rows w.ramps w.form.rising (λ first others e. tt))))),
-        λ i. record { units = sym w.units i; k = natural table.k w.form.scale i; pi = table.pi; mu = table.mu; ramps = table.ramps })
+        let rows = subst (λ (n : ℕ). All (IsRowWithin size.thermal n) table.ramps) w.periods_priced within in (
+          (unsigned_abs table.k, (table.pi, (table.mu, table.ramps))),
+          (w.scale, (record { periods = w.periods_priced; written = w.pi }, (record { periods = w.form.lengths ∙ w.periods_priced; written = w.mu }, (w.rows, ramps_from size None table.ramps rows w.ramps w.form.rising (λ first others e. tt))))),
+          λ i. record { units = sym w.units i; k = natural table.k w.form.scale i; pi = table.pi; mu = table.mu; ramps = table.ramps },
+        )
 
 -- the numbers that are read are those of a well-formed table
 pub numbers_form : (size : Sizes) → AreSizes size → (bytes : List ℕ) (numbers : ℕ × (List ℤ × (List ℤ × List RampRow))) (rest : List ℕ)

@@ -153,6 +153,7 @@ nodes_stop size lawful (suc most) (suc others) bytes rest few e =
         Stops-behind (Node size ∷ replicate others (Node size)) (replicate (owed_after others x.0) (Node size)) (node_line x.0 ∷ []) bytes x.1 rest
         (children size x.0, (x.0, one.0, refl, refl), owed_kinds size others x.0) one.1 behind
     by_second later x e (AtSecond y f g) = absurd cc
+
     by_step : ((n : ℕ) (bytes : List ℕ) → length bytes ≤ most → nodes_part size most n bytes ≡ Err rest → Stops (replicate n (Node size)) bytes rest)
         → StopsAt (line_of (node_at size) bytes) (λ x. grown x.0 (nodes_part size most (owed_after others x.0) x.1)) rest → Stops (Node size ∷ replicate others (Node size)) bytes rest
     by_step later (AtFirst f) = Stops-before (Node size ∷ []) (replicate others (Node size)) bytes rest ((node-part size lawful).stops bytes rest f)

@@ -5,4 +5,3 @@ pub mod LineCount
 pub mod ReadViews
 pub mod RampLists
 pub mod Parts
-pub mod Scratch

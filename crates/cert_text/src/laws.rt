@@ -1,15 +1,15 @@
 //! Laws of certificates' texts, each the contract of a function with an empty body.
 
-ghost use Rattle.std.specs.Prelude.{◌≡◌, ◌↔◌, ℕ, ℤ, ◌+◌, ◌/◌, ◌^◌, ◌<◌, ◌≤◌, length, unsigned_abs, None, IfSome, All};
+ghost use Rattle.std.specs.Prelude.{◌≡◌, ◌↔◌, ℕ, ℤ, List, [], ◌++◌, ◌+◌, ◌/◌, ◌^◌, ◌<◌, ◌≤◌, length, unsigned_abs, None, IfSome, All};
 ghost use Rattle.uc_model.specs.Decimal.{whole_text};
 ghost use Rattle.uc_model.specs.Limits.{IsLawfulInstance};
 ghost use Rattle.uc_model.specs.declared.instance.Instance.{Instance};
-ghost use Rattle.dual_model.specs.Certificate.{CertificateHolds};
+ghost use Rattle.dual_model.specs.Certificate.{Certificate, CertificateHolds};
 ghost use Rattle.branch_tree.specs.StoredTree.{tree_bound};
 ghost use Rattle.branch_tree.specs.TreeView.{IsWhole};
 ghost use Rattle.branch_tree.specs.Claims.{written_tables, certificate_of};
 ghost use Rattle.branch_tree.specs.declared.found.Found.{Found};
-ghost use Rattle.cert_text.specs.CertificateText.{listing_of};
+ghost use Rattle.cert_text.specs.CertificateText.{listing_of, certificate_text};
 ghost use Rattle.cert_text.specs.TextConditions.{IsMoney, HasText};
 
 /// A number is within its range exactly where its text has no more digits than the range says, those of the
@@ -27,4 +27,11 @@ pub fn certificates_without_schedule_have_text()
         → IfSome (tree_bound found.tree) IsMoney
         → All (λ table. length table.ramps < 10 ^ 18) (written_tables found)
         → HasText (listing_of (certificate_of instance found)) }
+{}
+
+/// The text of a certificate tells where it ends, and all that it lists: no certificate's text is a front of another's, and two
+/// with one text have one listing.
+pub fn texts_tell_certificates_apart()
+    ensures { (c d : Certificate) (more : List ℕ) → HasText (listing_of c) → HasText (listing_of d)
+        → certificate_text c ++ more ≡ certificate_text d → (listing_of c ≡ listing_of d) × (more ≡ []) }
 {}

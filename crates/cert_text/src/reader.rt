@@ -12,7 +12,6 @@ mod lines;
 mod nodes;
 mod numbers;
 mod plan;
-mod scratch;
 mod sizes;
 mod stop;
 mod table;

@@ -18,7 +18,9 @@ pub(crate) struct Size {
 }
 
 const MAX_PERIODS: u64 = 168;
+
 const MAX_UNITS: u64 = 4096;
+
 const MAX_TABLES: u64 = 4_294_967_295;
 
 /// The line of the size.

@@ -87,13 +87,7 @@ fn take_table<'a>(
     requires { AreSizes (sizes size.now) }
     ensures { GivesPart (λ r. (r.0, r.1.now)) result (table_part (sizes size.now) bytes.now) }
 {
-    let (k, rest) = take_numbers(
-        size,
-        bytes,
-        &mut lists.pi,
-        &mut lists.mu,
-        &mut lists.ramps,
-    )?;
+    let (k, rest) = take_numbers(size, bytes, &mut lists.pi, &mut lists.mu, &mut lists.ramps)?;
     let table = Table::new(
         alloc,
         size.thermal,

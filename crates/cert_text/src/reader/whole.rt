@@ -30,10 +30,7 @@ fn take_heading(bytes: &[u8]) -> Result<(Size, &[u8]), Stop<'_>>
 
 /// A certificate at the front of bytes.
 #[tactic(auto, unfolding(crate::specs::inside::Parts::certificate_part, crate::specs::inside::LineForms::end_at))]
-pub(crate) fn take_certificate(
-    alloc: Global,
-    bytes: &[u8],
-) -> Result<(Cert, &[u8]), Stop<'_>>
+pub(crate) fn take_certificate(alloc: Global, bytes: &[u8]) -> Result<(Cert, &[u8]), Stop<'_>>
     ensures { GivesPart (λ r. (listing_read r.0, r.1.now)) result (certificate_part bytes.now) }
 {
     let (size, rest) = take_heading(bytes)?;

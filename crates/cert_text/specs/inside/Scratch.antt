@@ -1,3 +1,0 @@
--- scratch
-pub data Nothing : Type 0 where
-  nothing : Nothing
