@@ -2,6 +2,8 @@
 #![tactic(auto)]
 
 #[cfg(test)]
+mod certificate_texts;
+#[cfg(test)]
 mod certificates;
 #[cfg(test)]
 mod fixtures;
