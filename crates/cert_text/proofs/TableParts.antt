@@ -108,6 +108,10 @@ ramps_from size before (row ∷ rows) within written rising first = (
         subst (λ (following : RampRow). IsRowBefore row following) (ap (λ rows. get_or rows 0 row) e) (rising 0 row long)
 
 -- ---- tables
+pub prices_as : (word : List ℕ) (size : Sizes) → IsForm (row_at word size.periods (signed_at 18)) (ArePrices size) (prices_line word) Anything
+prices_as word size =
+    form-as (prices-form word size.periods) (ArePrices size) (prices_line word) (λ prices v. record { periods = v.0; written = v.1 }) (λ prices w. (w.periods, w.written)) (λ prices. refl)
+
 pub table-part : (size : Sizes) → AreSizes size → IsPart (table_part size) (IsTableText size.periods size.thermal) table_lines (Scale size ∷ []) Done
 unfolding table_part numbers_part
 table-part size lawful =
@@ -138,14 +142,11 @@ table-part size lawful =
       back = back;
     })
   where
-    prices : (word : List ℕ) → IsForm (row_at word size.periods (signed_at 18)) (ArePrices size) (prices_line word) Anything
-    prices word = form-as (prices-form word size.periods) (ArePrices size) (prices_line word) (λ prices v. record { periods = v.0; written = v.1 }) (λ prices w. (w.periods, w.written)) (λ prices. refl)
-
     pi_prices : IsPart (prices_part (codes "pi") size) (ArePrices size) (λ prices. prices_line (codes "pi") prices ∷ []) (Pi size ∷ []) Done
-    pi_prices = line-part (prices (codes "pi")) (Pi size) Done (λ prices v. (prices, v, refl, refl)) (λ text others p. (p.0, p.1, p.2))
+    pi_prices = line-part (prices_as (codes "pi") size) (Pi size) Done (λ prices v. (prices, v, refl, refl)) (λ text others p. (p.0, p.1, p.2))
 
     mu_prices : IsPart (prices_part (codes "mu") size) (ArePrices size) (λ prices. prices_line (codes "mu") prices ∷ []) (Mu size ∷ []) Done
-    mu_prices = line-part (prices (codes "mu")) (Mu size) Done (λ prices v. (prices, v, refl, refl)) (λ text others p. (p.0, p.1, p.2))
+    mu_prices = line-part (prices_as (codes "mu") size) (Mu size) Done (λ prices v. (prices, v, refl, refl)) (λ text others p. (p.0, p.1, p.2))
 
     scale_at_least : (k : ℕ) → pos 0 ≤ℤ pos k
     scale_at_least k = omega (arith, ints)

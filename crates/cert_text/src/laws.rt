@@ -1,6 +1,6 @@
 //! Laws of certificates' texts, each the contract of a function with an empty body.
 
-ghost use Rattle.std.specs.Prelude.{◌≡◌, ◌↔◌, ℕ, ℤ, List, [], ◌++◌, ◌+◌, ◌/◌, ◌^◌, ◌<◌, ◌≤◌, length, unsigned_abs, None, IfSome, All};
+ghost use Rattle.std.specs.Prelude.{◌≡◌, ◌↔◌, ℕ, ℤ, List, [], ◌∷◌, ◌++◌, ◌+◌, ◌/◌, ◌^◌, ◌<◌, ◌≤◌, length, unsigned_abs, None, IfSome, All};
 ghost use Rattle.uc_model.specs.Decimal.{whole_text};
 ghost use Rattle.uc_model.specs.Limits.{IsLawfulInstance};
 ghost use Rattle.uc_model.specs.declared.instance.Instance.{Instance};
@@ -9,7 +9,8 @@ ghost use Rattle.branch_tree.specs.StoredTree.{tree_bound};
 ghost use Rattle.branch_tree.specs.TreeView.{IsWhole};
 ghost use Rattle.branch_tree.specs.Claims.{written_tables, certificate_of};
 ghost use Rattle.branch_tree.specs.declared.found.Found.{Found};
-ghost use Rattle.cert_text.specs.CertificateText.{listing_of, certificate_text};
+ghost use Rattle.cert_text.specs.CertificateText.{listing_of, certificate_lines, certificate_text};
+ghost use Rattle.cert_text.specs.Grammar.{Version, Reaches};
 ghost use Rattle.cert_text.specs.TextConditions.{IsMoney, HasText};
 
 /// A number is within its range exactly where its text has no more digits than the range says, those of the
@@ -34,4 +35,12 @@ pub fn certificates_without_schedule_have_text()
 pub fn texts_tell_certificates_apart()
     ensures { (c d : Certificate) (more : List ℕ) → HasText (listing_of c) → HasText (listing_of d)
         → certificate_text c ++ more ≡ certificate_text d → (listing_of c ≡ listing_of d) × (more ≡ []) }
+{}
+
+/// The grammar by lines is that of certificates: lines that may stand one behind the other, so that none is to come, are the lines of
+/// a certificate, and these may stand so.
+pub fn lines_that_may_stand_make_certificates()
+    ensures whole { (lines : List (List ℕ)) → Reaches (Version ∷ []) lines []
+        → (c : Certificate) × HasText (listing_of c) × (lines ≡ certificate_lines 1 (listing_of c)) }
+    ensures stand { (c : Certificate) → HasText (listing_of c) → Reaches (Version ∷ []) (certificate_lines 1 (listing_of c)) [] }
 {}

@@ -1,4 +1,4 @@
-//! Texts of certificates, and what is read from them. The texts are those of docs/FORMATS.md.
+//! Texts of certificates, and what is read from them.
 
 use cert_text::{Cert, CertFault, CertKind, CertNode, read};
 use std::alloc::{AllocError, Global};
