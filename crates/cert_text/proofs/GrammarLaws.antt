@@ -110,3 +110,71 @@ next_lawful (Node size) text next h p = subst AreLawful (sym p.3) (behind p.0)
     behind (LeafNode leaf) = tt
     behind (SplitNode g t) = (h, (h, tt))
 next_lawful End text next h p = subst AreLawful (sym p.1) tt
+
+-- ---- runs over the same bytes
+-- of two runs the second one goes on where the first ends
+pub record GoesOn (lines : List (List ℕ)) (left : List Symbol) (x : List ℕ) (others : List (List ℕ)) (another : List Symbol) (y : List ℕ) : Type 0 where
+  pub more : List (List ℕ)
+  pub lines_are : others ≡ lines ++ more
+  pub run : Reaches left more another
+  pub rest : x ≡ joined more ++ y
+
+one_further : (line other : List ℕ) (lines others : List (List ℕ)) (left another : List Symbol) (x y : List ℕ) → line ≡ other → GoesOn lines left x others another y → GoesOn (line ∷ lines) left x (other ∷ others) another y
+one_further line other lines others left another x y same h = record { more = h.more; lines_are = (λ i. sym same i ∷ h.lines_are i); run = h.run; rest = h.rest }
+
+pub runs_meet : (kinds : List Symbol) (lines others : List (List ℕ)) (left another : List Symbol) (x y : List ℕ) → AreLawful kinds → Reaches kinds lines left → Reaches kinds others another
+    → joined lines ++ x ≡ joined others ++ y → GoesOn lines left x others another y ⊎ GoesOn others another y lines left x
+runs_meet kinds [] others left another x y h p q e =
+    inl (record { more = others; lines_are = refl; run = subst (λ (kinds : List Symbol). Reaches kinds others another) p q; rest = e })
+runs_meet kinds (line ∷ lines) [] left another x y h p q e =
+    inr (record { more = line ∷ lines; lines_are = refl; run = subst (λ (kinds : List Symbol). Reaches kinds (line ∷ lines) left) q p; rest = sym e })
+runs_meet [] (line ∷ lines) (other ∷ others) left another x y h p q e = absurd p
+runs_meet (kind ∷ kinds) (line ∷ lines) (other ∷ others) left another x y h p q e =
+    let first : line ++ (joined lines ++ x) ≡ other ++ (joined others ++ y) =
+    sym (append_assoc line (joined lines) x) ∙ ap (λ text. text ++ x) (sym (joined-cons line lines)) ∙ e ∙ ap (λ text. text ++ y) (joined-cons other others) ∙ append_assoc other (joined others) y in
+    let same = one_line kind line other p.0 q.0 (joined lines ++ x) (joined others ++ y) h.0 p.1 q.1 first in
+    let behind : Reaches (p.0 ++ kinds) others another = subst (λ (next : List Symbol). Reaches (next ++ kinds) others another) (sym same.next_same) q.2 in
+    ⊎_elim
+    (λ (one : GoesOn lines left x others another y). inl (one_further line other lines others left another x y same.text_same one))
+    (λ (two : GoesOn others another y lines left x). inr (one_further other line others lines another left y x (sym same.text_same) two))
+    (runs_meet (p.0 ++ kinds) lines others left another x y (both_lawful p.0 kinds (next_lawful kind line p.0 h.0 p.1) h.1) p.2 behind same.rest_same)
+
+-- ---- whole runs are those of certificates
+nothing_behind : (more : List (List ℕ)) (left : List Symbol) → Reaches [] more left → (more ≡ []) × ([] ≡ left)
+nothing_behind [] left e = (refl, e)
+nothing_behind (text ∷ more) left e = absurd e
+
+barred_run : (bytes rest : List ℕ) (h : Stops (Version ∷ []) bytes rest) (more : List (List ℕ)) → Reaches (h.kind ∷ h.others) more [] → rest ≡ joined more ++ [] → ⊥
+barred_run bytes rest h [] e same = cc
+barred_run bytes rest h (text ∷ more) e same = h.barred text (joined more ++ []) e.0 e.1 (same ∙ ap (λ bytes. bytes ++ []) (joined-cons text more) ∙ append_assoc text (joined more) [])
+
+no_whole_stops : (lines : List (List ℕ)) (rest : List ℕ) → Reaches (Version ∷ []) lines [] → Stops (Version ∷ []) (joined lines) rest → ⊥
+no_whole_stops lines rest run h = ⊎_elim
+    (λ (one : GoesOn lines [] [] h.lines (h.kind ∷ h.others) rest). let none = (nothing_behind one.more (h.kind ∷ h.others) one.run).1 in cc)
+    (λ (two : GoesOn h.lines (h.kind ∷ h.others) rest lines [] []). barred_run (joined lines) rest h two.more two.run two.rest)
+    (runs_meet (Version ∷ []) lines h.lines [] (h.kind ∷ h.others) [] rest (tt, tt) run h.run (append-nil (joined lines) ∙ h.parts))
+
+whole_lines : (lines others : List (List ℕ)) (rest : List ℕ) → Reaches (Version ∷ []) lines [] → Reaches (Version ∷ []) others [] → joined lines ≡ joined others ++ rest → lines ≡ others
+whole_lines lines others rest run whole e = ⊎_elim
+    (λ (one : GoesOn lines [] [] others [] rest). sym (one.lines_are ∙ ap (λ more. lines ++ more) (nothing_behind one.more [] one.run).0 ∙ append-nil lines))
+    (λ (two : GoesOn others [] rest lines [] []). two.lines_are ∙ ap (λ more. others ++ more) (nothing_behind two.more [] two.run).0 ∙ append-nil others)
+    (runs_meet (Version ∷ []) lines others [] [] [] rest (tt, tt) run whole (append-nil (joined lines) ∙ e))
+
+listed_lines : (lines : List (List ℕ)) (c : Listing) (rest : List ℕ) → Reaches (Version ∷ []) lines [] → IsListed c → joined lines ≡ joined (certificate_lines 1 c) ++ rest
+    → (certificate : Certificate) × HasText (listing_of certificate) × (lines ≡ certificate_lines 1 (listing_of certificate))
+listed_lines lines c rest run listed e =
+    let tree = owed_is_tree c.nodes listed.tree in
+    let certificate : Certificate = record { periods = c.periods; thermal = c.thermal; renewable = c.renewable; bound = c.bound; schedule = c.schedule; tables = c.tables; tree = tree.0 } in
+    let same : listing_of certificate ≡ c = (λ i. record { periods = c.periods; thermal = c.thermal; renewable = c.renewable; bound = c.bound; schedule = c.schedule; tables = c.tables; nodes = tree.1 i }) in
+    (certificate, subst HasText (sym same) listed.text, whole_lines lines (certificate_lines 1 c) rest run (certificate-part.runs c listed) e ∙ ap (certificate_lines 1) (sym same))
+
+pub whole_run_is_certificate : (lines : List (List ℕ)) → Reaches (Version ∷ []) lines []
+    → (c : Certificate) × HasText (listing_of c) × (lines ≡ certificate_lines 1 (listing_of c))
+whole_run_is_certificate lines run = by_reading (certificate_part (joined lines)) refl
+  where
+    by_reading : (r : Result (Listing × List ℕ) (List ℕ)) → certificate_part (joined lines) ≡ r → (c : Certificate) × HasText (listing_of c) × (lines ≡ certificate_lines 1 (listing_of c))
+    by_reading (Ok x) e = let one = certificate-part.takes (joined lines) x e in listed_lines lines x.0 x.1 run one.0 one.1
+    by_reading (Err rest) e = absurd (no_whole_stops lines rest run (certificate-part.stops (joined lines) rest e))
+
+pub certificate_runs : (c : Certificate) → HasText (listing_of c) → Reaches (Version ∷ []) (certificate_lines 1 (listing_of c)) []
+certificate_runs c h = certificate-part.runs (listing_of c) (certificate_listed c h)
