@@ -21,7 +21,7 @@ use Rattle.cert_text.proofs.TreeParts.{owed_is_tree}
 use Rattle.cert_text.proofs.CertificateParts.{IsListed, certificate-part}
 
 -- ---- the first line of bytes
-later_feed : (b : ℕ) (bytes : List ℕ) → (b ≡ 10 → ⊥) → HasLineFeed (b ∷ bytes) → HasLineFeed bytes
+pub later_feed : (b : ℕ) (bytes : List ℕ) → (b ≡ 10 → ⊥) → HasLineFeed (b ∷ bytes) → HasLineFeed bytes
 later_feed b bytes other (zero, lt, same) = absurd (other same)
 later_feed b bytes other (suc k, lt, same) = (k, omega arith, same)
 

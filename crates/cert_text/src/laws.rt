@@ -11,6 +11,8 @@ ghost use Rattle.branch_tree.specs.Claims.{written_tables, certificate_of};
 ghost use Rattle.branch_tree.specs.declared.found.Found.{Found};
 ghost use Rattle.cert_text.specs.CertificateText.{listing_of, certificate_lines, certificate_text};
 ghost use Rattle.cert_text.specs.Grammar.{Version, Reaches};
+ghost use Rattle.cert_text.specs.ReadFaults.{IsKindAt};
+ghost use Rattle.cert_text.specs.declared.cert.CertKind.{CertKind};
 ghost use Rattle.cert_text.specs.TextConditions.{IsMoney, HasText};
 
 /// A number is within its range exactly where its text has no more digits than the range says, those of the
@@ -43,4 +45,10 @@ pub fn lines_that_may_stand_make_certificates()
     ensures whole { (lines : List (List ℕ)) → Reaches (Version ∷ []) lines []
         → (c : Certificate) × HasText (listing_of c) × (lines ≡ certificate_lines 1 (listing_of c)) }
     ensures stand { (c : Certificate) → HasText (listing_of c) → Reaches (Version ∷ []) (certificate_lines 1 (listing_of c)) [] }
+{}
+
+/// Bytes have at most one fault that is told by its line.
+pub fn bytes_have_one_fault()
+    ensures { (bytes : List ℕ) (line other : ℕ) (kind another : CertKind) → IsKindAt bytes line kind → IsKindAt bytes other another
+        → (line ≡ other) × (kind ≡ another) }
 {}
