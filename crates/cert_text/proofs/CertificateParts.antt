@@ -1,21 +1,20 @@
 -- The whole of a certificate reads its lines.
-use Rattle.std.proofs.Common.{◌≡◌, ℕ, List, [], ◌∷◌, ◌++◌, length, map, replicate, All, Option, Some, None, Result, Ok, Err, ℤ, refl, sym, ap, subst, ◌∙◌, arith, append-nil}
-use Rattle.std.specs.Prelude.{IfSome, codes}
+use Rattle.std.proofs.Common.{◌≡◌, ℕ, List, [], ◌∷◌, ◌++◌, length, map, replicate, All, Option, Ok, ℤ, refl, sym, ap, subst, ◌∙◌, arith, append-nil}
+use Rattle.std.specs.Prelude.{IfSome}
 use Rattle.std.specs.List.{flat_map}
 use Rattle.dual_model.specs.Certificate.{Certificate, WrittenSchedule}
 use Rattle.dual_model.specs.declared.table.Table.{Table}
-use Rattle.outside.specs.Lines.{joined}
-use Rattle.cert_text.specs.Nodes.{TreeNode, node_line, IsNodeWithin, preorder}
+use Rattle.cert_text.specs.Nodes.{TreeNode, node_line, IsNodeWithin}
 use Rattle.cert_text.specs.TextConditions.{IsMoney, IsScheduleText, IsTableText, HasText}
 use Rattle.cert_text.specs.CertificateText.{Listing, listing_of, version_line, size_line, claim_line, schedule_lines, table_lines, end_line, certificate_lines, certificate_text}
-use Rattle.cert_text.specs.Grammar.{Sizes, AreSizes, Symbol, Version, Size, Claim, Schedule, Scale, Node, End, after_size}
-use Rattle.cert_text.specs.inside.LineForms.{version_at, size_at, claim_at, end_at}
-use Rattle.cert_text.specs.inside.Parts.{Part, line_of, then, told, repeated, schedule_part, table_part, tree_part, listing_from, heading_part, certificate_part}
+use Rattle.cert_text.specs.Grammar.{Sizes, AreSizes, Version, Size, Claim, Schedule, Scale, Node, End, after_size}
+use Rattle.cert_text.specs.inside.LineForms.{claim_at, end_at}
+use Rattle.cert_text.specs.inside.Parts.{line_of, then, repeated, schedule_part, table_part, tree_part, listing_from, heading_part, certificate_part}
 use Rattle.cert_text.proofs.LineLaws.{version-form, size-form, claim-form, end-form}
 use Rattle.cert_text.proofs.PartLaws.{IsPart, Done, line-part, then-part, told-part, before-part, repeated-part}
 use Rattle.cert_text.proofs.TableParts.{table-part}
 use Rattle.cert_text.proofs.ScheduleParts.{schedule-part}
-use Rattle.cert_text.proofs.TreeParts.{AreOwed, tree-part, owed_is_tree, tree_is_owed}
+use Rattle.cert_text.proofs.TreeParts.{AreOwed, tree-part, tree_is_owed}
 
 heading-part : IsPart heading_part AreSizes (λ size. version_line 1 ∷ size_line size.periods size.thermal size.renewable size.tables ∷ []) (Version ∷ []) after_size
 unfolding heading_part

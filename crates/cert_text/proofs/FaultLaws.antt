@@ -1,6 +1,5 @@
 -- Where reading stops, the line that begins there is the first at fault.
-use Rattle.std.proofs.Common.{◌≡◌, ◌≢◌, ℕ, zero, suc, ◌+◌, ◌-◌, ◌<◌, ◌≤◌, Bool, true, false, List, [], ◌∷◌, ◌++◌, length, take, Option, Some, None, Result, Ok, Err, refl, sym, ap, subst, ◌∙◌, append-nil, arith, nat_eq, cond, ⊎_elim}
-use Rattle.std.specs.Prelude.{Contains}
+use Rattle.std.proofs.Common.{◌≡◌, ◌≢◌, ℕ, zero, suc, ◌-◌, true, false, List, [], ◌∷◌, ◌++◌, length, take, Ok, Err, refl, sym, ap, subst, ◌∙◌, append-nil, arith, nat_eq, ⊎_elim}
 use Rattle.std.specs.List.{list_any}
 use Rattle.std.proofs.lemmas.Bool.{cases_Bool, cases_eq, eq-eqb, ne_eqb, false≢true}
 use Rattle.std.proofs.lemmas.List.{take_at, length-append}
@@ -9,16 +8,14 @@ use Rattle.outside.specs.Lines.{joined}
 use Rattle.cert_text.specs.CertificateText.{Listing, listing_of, certificate_lines, certificate_text}
 use Rattle.cert_text.specs.TextConditions.{HasText}
 use Rattle.cert_text.specs.Grammar.{Symbol, Version, Reaches}
-use Rattle.cert_text.specs.ReadFaults.{HasLineFeed, IsWholeLine, ComesAt, IsFormAt, IsCutAt, IsTailAt, IsFaultOf}
-use Rattle.cert_text.specs.declared.cert.CertFault.{CertFault}
+use Rattle.cert_text.specs.ReadFaults.{HasLineFeed, IsWholeLine, IsFormAt, IsCutAt, IsFaultOf}
 use Rattle.cert_text.specs.declared.cert.CertFault.TheVariants as faults
 use Rattle.cert_text.specs.declared.cert.CertKind.TheVariants as kinds
 use Rattle.cert_text.specs.inside.LineCount.{line_feeds, line_number, stop_kind}
 use Rattle.cert_text.specs.inside.Parts.{certificate_part}
-use Rattle.cert_text.proofs.PartLaws.{IsPart, Stops}
 use Rattle.cert_text.proofs.LineFeeds.{reached_feeds}
 use Rattle.cert_text.proofs.TreeParts.{owed_is_tree}
-use Rattle.cert_text.proofs.CertificateParts.{IsListed, certificate-part}
+use Rattle.cert_text.proofs.CertificateParts.{certificate-part}
 
 -- ---- the first line of bytes
 pub later_feed : (b : ℕ) (bytes : List ℕ) → (b ≡ 10 → ⊥) → HasLineFeed (b ∷ bytes) → HasLineFeed bytes

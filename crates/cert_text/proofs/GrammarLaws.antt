@@ -1,7 +1,7 @@
 -- The grammar goes one way: bytes have at most one line of a kind at their front. So lines that may stand meet the reader's, and
 -- whole ones are those of a certificate.
-use Rattle.std.proofs.Common.{◌≡◌, ◌≢◌, ℤ, ℕ, zero, suc, ◌<◌, List, [], ◌∷◌, ◌++◌, length, replicate, Option, Some, None, Result, Ok, Err, refl, sym, ap, subst, ◌∙◌, append_assoc, append-nil, inl, inr, ◌⊎◌, ⊎_elim, arith}
-use Rattle.std.specs.Prelude.{◌↔◌, codes}
+use Rattle.std.proofs.Common.{◌≡◌, ℤ, ℕ, zero, suc, List, [], ◌∷◌, ◌++◌, replicate, Option, Some, None, Result, Ok, Err, refl, sym, ap, subst, ◌∙◌, append_assoc, append-nil, inl, inr, ◌⊎◌, ⊎_elim}
+use Rattle.std.specs.Prelude.{codes}
 use Rattle.std.specs.List.{AllByRecursion}
 use Rattle.std.proofs.lemmas.Option.{some_pair_parts}
 use Rattle.outside.specs.Lines.{joined}
@@ -17,7 +17,7 @@ use Rattle.cert_text.specs.inside.Parts.{certificate_part}
 use Rattle.cert_text.proofs.FormLaws.{IsForm, Anything}
 use Rattle.cert_text.proofs.LineLaws.{version-form, size-form, claim-form, schedule-form, thermal-form, renewable-form, scale-form, ramp_count-form, end-form}
 use Rattle.cert_text.proofs.NodeLaws.{ramp-form, node-form}
-use Rattle.cert_text.proofs.PartLaws.{IsPart, Stops, Done}
+use Rattle.cert_text.proofs.PartLaws.{Stops, Done}
 use Rattle.cert_text.proofs.TableParts.{prices_as}
 use Rattle.cert_text.proofs.TreeParts.{owed_is_tree}
 use Rattle.cert_text.proofs.CertificateParts.{IsListed, certificate-part, certificate_listed}

@@ -1,7 +1,7 @@
 -- Each line that may stand has one line feed, at its end; so lines are counted by their line feeds.
-use Rattle.std.proofs.Common.{◌≡◌, ℕ, zero, suc, ◌+◌, ◌<◌, ◌≤◌, Bool, true, false, List, [], ◌∷◌, ◌++◌, length, All, Option, Some, None, ℤ, pos, refl, sym, ap, ◌∙◌, arith, cond, nat_eq}
+use Rattle.std.proofs.Common.{◌≡◌, ℕ, suc, ◌+◌, ◌≤◌, Bool, true, false, List, [], ◌∷◌, ◌++◌, length, All, Option, Some, None, ℤ, pos, refl, ap, ◌∙◌, arith, cond, nat_eq}
 use Rattle.std.specs.Prelude.{codes}
-use Rattle.std.specs.List.{count_by, AllByRecursion}
+use Rattle.std.specs.List.{AllByRecursion}
 use Rattle.std.proofs.lemmas.Bool.{ne_eqb}
 use Rattle.std.proofs.lemmas.List.Elements.{All-head, All-tail, All-weaker}
 use Rattle.std.proofs.lemmas.List.Sums.{sum_by-append}
@@ -14,8 +14,8 @@ use Rattle.dual_model.specs.Cover.{Bound, Ray, Empty}
 use Rattle.outside.specs.Lines.{joined, spaced, line, words_of, list_line}
 use Rattle.outside.proofs.Joining.{joined-cons}
 use Rattle.cert_text.specs.Nodes.{TreeNode, LeafNode, SplitNode, node_line}
-use Rattle.cert_text.specs.CertificateText.{version_line, size_line, claim_line, cell_text, thermal_line, renewable_line, scale_line, prices_line, ramp_line, end_line}
-use Rattle.cert_text.specs.Grammar.{Symbol, Version, Size, Claim, Schedule, ThermalRow, RenewableRow, Scale, Pi, Mu, Ramps, Ramp, Node, End, Produces, Reaches, schedule_line, ramp_count_line}
+use Rattle.cert_text.specs.CertificateText.{claim_line, cell_text}
+use Rattle.cert_text.specs.Grammar.{Symbol, Version, Size, Claim, Schedule, ThermalRow, RenewableRow, Scale, Pi, Mu, Ramps, Ramp, Node, End, Produces, Reaches, schedule_line}
 use Rattle.cert_text.specs.inside.LineCount.{line_feeds}
 
 pub line_feeds-append : (xs ys : List ℕ) → line_feeds (xs ++ ys) ≡ line_feeds xs + line_feeds ys

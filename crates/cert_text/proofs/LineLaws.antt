@@ -1,22 +1,21 @@
 -- The forms of single lines read the lines of the grammar.
-use Rattle.std.proofs.Common.{◌≡◌, ◌≢◌, ℕ, zero, suc, ◌+◌, ◌^◌, ◌<◌, ◌≤◌, Bool, true, false, List, [], ◌∷◌, ◌++◌, length, All, Option, Some, None, ℤ, pos, negsuc, refl, sym, ap, subst, ◌∙◌, append_assoc, arith, inl, inr, ⊎_elim, ◌⊎◌, not, ◌&&◌, ◌||◌, nat_eq, nat_lt, nat_le, get_or, drop}
+use Rattle.std.proofs.Common.{◌≡◌, ℕ, ◌^◌, ◌<◌, ◌≤◌, Bool, true, false, List, [], ◌∷◌, ◌++◌, length, All, Option, Some, None, ℤ, pos, refl, sym, ap, subst, ◌∙◌, append_assoc, arith, inl, inr, ◌⊎◌, ◌&&◌, nat_lt, nat_le, get_or, drop}
 use Rattle.std.specs.Prelude.{IfSome, codes}
-use Rattle.std.proofs.lemmas.Bool.{false≢true, ltb-true, leb-true, lt-ltb, le-leb, eqb-true, eq-eqb, and_parts, and_from, or_cases, or_left, or_right, not-true}
-use Rattle.std.proofs.lemmas.Option.{same_Some}
+use Rattle.std.proofs.lemmas.Bool.{false≢true, ltb-true, leb-true, lt-ltb, le-leb, and_parts}
 use Rattle.uc_model.specs.Decimal.{whole_text, signed_text}
 use Rattle.uc_model.specs.Money.{money_text}
 use Rattle.uc_model.specs.declared.schedule.Cell.{Cell}
 use Rattle.uc_model.proofs.DecimalText.{whole_text_digit}
 use Rattle.uc_model.proofs.MoneyText.{money_text_bytes, money_text_nonempty}
 use Rattle.std.proofs.lemmas.List.{get_or_append_left}
-use Rattle.outside.specs.Lines.{line, list_line, joined}
-use Rattle.cert_text.specs.TextConditions.{HasDigits, IsMoney, IsOnCell, IsOffCell, IsCellText, IsThermalRow, IsRenewableRow, IsRampText}
-use Rattle.cert_text.specs.CertificateText.{version_line, size_line, claim_line, cell_text, thermal_line, renewable_line, cost_line, no_schedule_line, scale_line, prices_line, ramp_line, end_line}
+use Rattle.outside.specs.Lines.{line, list_line}
+use Rattle.cert_text.specs.TextConditions.{HasDigits, IsMoney, IsOnCell, IsOffCell, IsCellText, IsThermalRow, IsRenewableRow}
+use Rattle.cert_text.specs.CertificateText.{version_line, size_line, claim_line, cell_text, thermal_line, renewable_line, scale_line, prices_line, end_line}
 use Rattle.cert_text.specs.Grammar.{Sizes, AreSizes, schedule_line, ramp_count_line}
-use Rattle.cert_text.specs.inside.Forms.{◌>>=◌, Form, text_at, fixed, or_else, whole_at, signed_at, money_at, is_digit, run, is_whole, ended, both, passing, mapped}
+use Rattle.cert_text.specs.inside.Forms.{Form, text_at, fixed, or_else, whole_at, signed_at, money_at, is_digit, ended, mapped}
 use Rattle.cert_text.specs.inside.LineForms.{version_at, sizes_of, are_sizes, size_at, claim_at, schedule_at, on_cell, off_cell, on_cell_at, cell_at, row_at, scale_at, ramp_count_at, end_at}
-use Rattle.cert_text.proofs.FormLaws.{IsForm, Anything, text_at-takes, bind_some, fixed-form, empty-form, after-form, ended-form, both-form, mapped-form, passing-form, form-as, times-form, when-form}
-use Rattle.cert_text.proofs.NumberLaws.{NoDigit, whole-form, signed-form, money-form, ordinal-form}
+use Rattle.cert_text.proofs.FormLaws.{IsForm, Anything, text_at-takes, fixed-form, empty-form, after-form, ended-form, both-form, mapped-form, passing-form, form-as, times-form, when-form}
+use Rattle.cert_text.proofs.NumberLaws.{NoDigit, whole-form, signed-form, money-form}
 
 -- ---- lines of one number
 -- a number up to a space or the end of its line

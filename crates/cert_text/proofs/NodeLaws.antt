@@ -1,22 +1,22 @@
 -- The forms of ramp rows and of nodes read their lines.
-use Rattle.std.proofs.Common.{◌≡◌, ◌≢◌, ℕ, zero, suc, ◌+◌, ◌^◌, ◌<◌, ◌≤◌, Bool, true, false, List, [], ◌∷◌, ◌++◌, Option, Some, None, ℤ, pos, refl, sym, ap, ◌∙◌, append_assoc, arith, inl, inr, ⊎_elim, ◌⊎◌, not, ◌&&◌, ◌||◌, nat_eq, nat_lt, nat_le}
+use Rattle.std.proofs.Common.{◌≡◌, ◌≢◌, ℕ, suc, ◌^◌, ◌<◌, ◌≤◌, true, false, List, [], ◌∷◌, ◌++◌, Option, Some, None, ℤ, pos, refl, sym, ◌∙◌, append_assoc, arith, inl, inr, ⊎_elim, ◌⊎◌, not, ◌&&◌, ◌||◌, nat_eq, nat_lt}
 use Rattle.std.specs.Prelude.{IfSome, codes}
 use Rattle.std.specs.Ordering.{int_eq}
 use Rattle.std.proofs.lemmas.Bool.{false≢true, ltb-true, lt-ltb, eqb-true, eq-eqb, and_parts, and_from, or_cases, or_left, or_right, not-true, not_from_false, false_from_ne_true}
 use Rattle.std.proofs.lemmas.Bool.Decides.{Decides-int_eq}
-use Rattle.uc_model.specs.Decimal.{whole_text, signed_text}
+use Rattle.uc_model.specs.Decimal.{whole_text}
 use Rattle.outside.specs.Lines.{line}
 use Rattle.dual_model.specs.Cover.{Bound, Ray, Empty}
-use Rattle.dual_model.specs.Prices.{IsRowBefore, IsRowWithin}
+use Rattle.dual_model.specs.Prices.{IsRowBefore}
 use Rattle.dual_model.specs.declared.table.RampRow.{RampRow}
-use Rattle.cert_text.specs.TextConditions.{HasDigits, IsRampText}
+use Rattle.cert_text.specs.TextConditions.{IsRampText}
 use Rattle.cert_text.specs.CertificateText.{ramp_line}
 use Rattle.cert_text.specs.Nodes.{TreeNode, LeafNode, SplitNode, node_line, IsNodeWithin}
 use Rattle.cert_text.specs.Grammar.{Sizes, AreSizes, IsRampAfter}
-use Rattle.cert_text.specs.inside.Forms.{Form, text_at, when, ended, ordinal_at, signed_at, mapped, after, is_digit}
+use Rattle.cert_text.specs.inside.Forms.{text_at, when, ended, ordinal_at, mapped, after, is_digit}
 use Rattle.cert_text.specs.inside.LineForms.{ramp_row, rises, is_ramp, ramp_at, named_at, split_at, node_at}
-use Rattle.cert_text.proofs.FormLaws.{IsForm, Anything, after-form, ended-form, both-form, mapped-form, passing-form, form-as, when-form}
-use Rattle.cert_text.proofs.NumberLaws.{NoDigit, signed-form, ordinal-form}
+use Rattle.cert_text.proofs.FormLaws.{IsForm, Anything, after-form, ended-form, both-form, mapped-form, passing-form, when-form}
+use Rattle.cert_text.proofs.NumberLaws.{ordinal-form}
 use Rattle.cert_text.proofs.LineLaws.{spaced_signed}
 
 spaced_ordinal : (end : ℕ) → is_digit end ≡ false → IsForm (ended ordinal_at (end ∷ [])) (λ n. suc n < 10 ^ 18) (λ n. whole_text (suc n) ++ end ∷ []) Anything

@@ -1,21 +1,19 @@
 -- The forms of numbers read their texts.
-use Rattle.std.proofs.Common.{◌≡◌, ℕ, zero, suc, ◌+◌, ◌-◌, ◌*◌, ◌/◌, ◌%◌, ◌^◌, ◌<◌, ◌≤◌, Bool, true, false, List, [], ◌∷◌, ◌++◌, length, get_or, take, drop, Option, Some, None, ℤ, pos, negsuc, unsigned_abs, refl, sym, ap, subst, ◌∙◌, append_assoc, arith, cond, ⊎_elim, not, ◌&&◌, ◌||◌, nat_eq, nat_lt, nat_le}
+use Rattle.std.proofs.Common.{◌≡◌, ℕ, zero, suc, ◌+◌, ◌-◌, ◌/◌, ◌%◌, ◌^◌, ◌<◌, ◌≤◌, Bool, true, false, List, [], ◌∷◌, ◌++◌, length, get_or, take, drop, Some, ℤ, pos, negsuc, unsigned_abs, refl, sym, ap, subst, ◌∙◌, append_assoc, arith, cond, ⊎_elim, not, ◌&&◌, ◌||◌, nat_eq, nat_lt, nat_le}
 use Rattle.std.specs.Char.{digit_value}
 use Rattle.std.specs.Str.Parse.{digits_value, AllDigits}
-use Rattle.std.specs.List.{prefix_len}
-use Rattle.std.proofs.lemmas.Bool.{false≢true, ltb-true, leb-true, lt-ltb, le-leb, eqb-true, ne_eqb, cases_eq, and_parts, eq-eqb}
+use Rattle.std.proofs.lemmas.Bool.{ltb-true, leb-true, lt-ltb, le-leb, eqb-true, ne_eqb, cases_eq, and_parts, eq-eqb}
 use Rattle.std.proofs.lemmas.Int.Digits.{digits_value-lt}
-use Rattle.std.proofs.lemmas.List.{take_at, drop_at, take-append-drop, length-append, length-take-le, append-nil, get_or-take, get_or_append_left}
+use Rattle.std.proofs.lemmas.List.{take_at, drop_at, take-append-drop, length-append, length-take-le, get_or-take, get_or_append_left}
 use Rattle.std.proofs.lemmas.List.Sums.{prefix_len-le-length}
 use Rattle.std.proofs.lemmas.Option.{same_Some, cond_some}
 use Rattle.uc_model.specs.Decimal.{whole_text, minus_text, signed_text, digit_byte}
 use Rattle.uc_model.specs.Money.{six_digits, millionths_text, money_text}
 use Rattle.uc_model.proofs.DecimalText.{whole_text_digits, whole_text_nonempty, digits_value-whole_text, length-whole_text-le, whole_text-digits_value, first_whole_text, whole_text_digit, whole_text_bytes, digit_value-digit_byte}
 use Rattle.uc_model.proofs.MoneyText.{length-six_digits, six_digits-digits_value, six_digits_injective}
-use Rattle.cert_text.specs.inside.Forms.{◌>>=◌, Form, is_digit, run, run_value, begins_with, is_whole, whole_at, decimals_at, signed_at, with_sign, negative, millionths, millionths_at, money_at, ordinal_at, mapped, both, ended, passing}
+use Rattle.cert_text.specs.inside.Forms.{◌>>=◌, Form, is_digit, run, run_value, begins_with, is_whole, whole_at, decimals_at, signed_at, with_sign, negative, millionths, millionths_at, money_at, ordinal_at}
 use Rattle.cert_text.specs.TextConditions.{HasDigits, IsMoney}
-use Rattle.cert_text.proofs.FormLaws.{IsForm, Anything, bind_some, fixed-form, ended-form, both-form, mapped-form, passing-form, form-as}
-use Rattle.cert_text.proofs.Runs.{power_more}
+use Rattle.cert_text.proofs.FormLaws.{IsForm, bind_some, ended-form, both-form, mapped-form, passing-form}
 use Rattle.std.proofs.Math.Nat.{pow-le-pow_right}
 
 -- what stands there doesn't begin with a digit

@@ -1,7 +1,7 @@
 -- Bytes have at most one fault: the lines before it may stand, so two faults have the same lines before them.
-use Rattle.std.proofs.Common.{◌≡◌, ◌≢◌, ℕ, zero, suc, ◌+◌, ◌<◌, List, [], ◌∷◌, ◌++◌, length, get_or, drop, ℤ, Option, Some, None, refl, sym, ap, subst, ◌∙◌, append_assoc, append-nil, arith, ⊎_elim, ◌⊎◌}
+use Rattle.std.proofs.Common.{◌≡◌, ◌≢◌, ℕ, suc, List, [], ◌∷◌, ◌++◌, length, get_or, drop, ℤ, Option, Some, None, refl, sym, ap, subst, ◌∙◌, append_assoc, append-nil, arith, ⊎_elim}
 use Rattle.std.specs.Prelude.{codes}
-use Rattle.std.proofs.lemmas.Bool.{cases_eq, eq-eqb, ne_eqb}
+use Rattle.std.proofs.lemmas.Bool.{cases_eq, eq-eqb}
 use Rattle.std.proofs.lemmas.List.Elements.{Contains-append_right}
 use Rattle.dual_model.specs.Cover.{Bound, Ray, Empty}
 use Rattle.uc_model.specs.Decimal.{whole_text, signed_text}
@@ -11,7 +11,7 @@ use Rattle.outside.proofs.Joining.{joined-cons}
 use Rattle.cert_text.specs.Nodes.{TreeNode, LeafNode, SplitNode, node_line}
 use Rattle.cert_text.specs.CertificateText.{claim_line, cell_text}
 use Rattle.cert_text.specs.Grammar.{Symbol, Version, Size, Claim, Schedule, ThermalRow, RenewableRow, Scale, Pi, Mu, Ramps, Ramp, Node, End, Produces, Reaches, schedule_line}
-use Rattle.cert_text.specs.ReadFaults.{HasLineFeed, IsWholeLine, MayStand, ComesAt, IsFormAt, IsCutAt, IsTailAt, IsKindAt}
+use Rattle.cert_text.specs.ReadFaults.{HasLineFeed, IsWholeLine, MayStand, IsKindAt}
 use Rattle.cert_text.specs.declared.cert.CertKind.{CertKind}
 use Rattle.cert_text.specs.declared.cert.CertKind.TheVariants as kinds
 use Rattle.cert_text.specs.inside.LineCount.{line_feeds}

@@ -6,7 +6,7 @@ use Rattle.std.specs.Option.{ok_or}
 use Rattle.std.proofs.lemmas.List.{append-nil}
 use Rattle.std.proofs.lemmas.List.Elements.{All-nil, All-cons, All-head, All-tail}
 use Rattle.outside.specs.Lines.{joined}
-use Rattle.outside.proofs.Joining.{joined-cons, joined-append}
+use Rattle.outside.proofs.Joining.{joined-append}
 use Rattle.cert_text.specs.Grammar.{Symbol, Produces, Reaches}
 use Rattle.cert_text.specs.inside.Forms.{Form}
 use Rattle.cert_text.specs.inside.Parts.{◌>>=◌, Part, line_of, then, told, repeated}

@@ -1,13 +1,12 @@
 -- What the answer of the reader says, from what reading the bytes as a whole gives.
-use Rattle.std.proofs.Common.{◌≡◌, ◌≢◌, ℕ, ◌+◌, ◌≤◌, List, [], ◌++◌, length, Result, Ok, Err, refl, sym, ap, ◌∙◌, arith}
+use Rattle.std.proofs.Common.{◌≡◌, ℕ, ◌≤◌, List, [], ◌++◌, length, Ok, Err, sym, ap, ◌∙◌, arith}
 use Rattle.std.proofs.lemmas.List.{length-append}
 use Rattle.outside.specs.Lines.{joined}
 use Rattle.dual_model.specs.Certificate.{Certificate}
 use Rattle.cert_text.specs.CertificateText.{Listing, listing_of, certificate_lines, certificate_text}
 use Rattle.cert_text.specs.TextConditions.{HasText}
-use Rattle.cert_text.specs.Grammar.{Symbol, Version}
 use Rattle.cert_text.specs.inside.Parts.{certificate_part}
-use Rattle.cert_text.proofs.PartLaws.{IsPart, Stops, same_Ok}
+use Rattle.cert_text.proofs.PartLaws.{same_Ok}
 use Rattle.cert_text.proofs.CertificateParts.{certificate-part, certificate_whole, certificate_again}
 
 pub rest_shorter : (bytes rest : List ℕ) (c : Listing) → certificate_part bytes ≡ Ok (c, rest) → length rest ≤ length bytes

@@ -1,13 +1,13 @@
 -- The part of the schedule reads its lines.
 use Rattle.std.proofs.Common.{◌≡◌, ℕ, List, [], ◌∷◌, ◌++◌, length, map, replicate, All, Option, Some, None, Result, Ok, Err, ℤ, refl, sym, ap, subst, ◌∙◌}
-use Rattle.std.specs.Prelude.{IfSome, codes}
+use Rattle.std.specs.Prelude.{IfSome}
 use Rattle.uc_model.specs.declared.schedule.Cell.{Cell}
 use Rattle.dual_model.specs.Certificate.{WrittenSchedule}
 use Rattle.cert_text.specs.TextConditions.{IsMoney, IsThermalRow, IsRenewableRow, IsScheduleText}
 use Rattle.cert_text.specs.CertificateText.{thermal_line, renewable_line, schedule_lines}
-use Rattle.cert_text.specs.Grammar.{Sizes, Symbol, Schedule, ThermalRow, RenewableRow, schedule_line, schedule_rows}
+use Rattle.cert_text.specs.Grammar.{Sizes, Schedule, ThermalRow, RenewableRow, schedule_line, schedule_rows}
 use Rattle.cert_text.specs.inside.LineForms.{schedule_at}
-use Rattle.cert_text.specs.inside.Parts.{◌>>=◌, line_of, then, told, printed_part, written, rows_behind, schedule_part}
+use Rattle.cert_text.specs.inside.Parts.{◌>>=◌, line_of, printed_part, written, rows_behind, schedule_part}
 use Rattle.cert_text.proofs.LineLaws.{thermal-form, renewable-form, schedule-form}
 use Rattle.cert_text.proofs.PartLaws.{IsPart, Done, line-part, then-part, told-part, told_then, part-as, before-part, nothing-part, repeated-part}
 use Rattle.cert_text.proofs.TableParts.{map_as_flat}

@@ -1,26 +1,23 @@
 -- The parts of tables and of schedules read their lines.
-use Rattle.std.proofs.Common.{◌≡◌, ◌≢◌, ℕ, zero, suc, ◌+◌, ◌^◌, ◌<◌, ◌≤◌, List, [], ◌∷◌, ◌++◌, length, map, replicate, get_or, All, Option, Some, None, Result, Ok, Err, ℤ, pos, negsuc, unsigned_abs, ◌≤ℤ◌, refl, sym, ap, subst, ◌∙◌, arith}
-use Rattle.std.specs.Prelude.{IfSome, codes, ◌<ℤ◌, slice_index_or}
+use Rattle.std.proofs.Common.{◌≡◌, ℕ, zero, suc, ◌^◌, ◌<◌, List, [], ◌∷◌, length, map, get_or, All, Option, Some, None, Result, Ok, Err, ℤ, pos, negsuc, unsigned_abs, ◌≤ℤ◌, refl, sym, ap, subst, ◌∙◌, arith}
+use Rattle.std.specs.Prelude.{IfSome, codes}
 use Rattle.std.specs.List.{flat_map}
 use Rattle.std.proofs.lemmas.Int.{ints}
 use Rattle.std.proofs.lemmas.List.Elements.{All-nil, All-cons, All-head, All-tail}
-use Rattle.uc_model.specs.declared.schedule.Cell.{Cell}
-use Rattle.uc_model.specs.declared.schedule.Printed.{Printed}
-use Rattle.dual_model.specs.Certificate.{WrittenSchedule}
 use Rattle.dual_model.specs.Prices.{IsWellFormed, IsRowBefore, IsRowWithin}
 use Rattle.dual_model.specs.declared.table.RampRow.{RampRow}
 use Rattle.dual_model.specs.declared.table.Table.{Table}
-use Rattle.cert_text.specs.TextConditions.{HasDigits, IsMoney, IsThermalRow, IsRenewableRow, IsScheduleText, IsRampText, IsTableText}
-use Rattle.cert_text.specs.CertificateText.{thermal_line, renewable_line, schedule_lines, scale_line, prices_line, ramps_line, ramp_line, table_lines}
-use Rattle.cert_text.specs.Grammar.{Sizes, AreSizes, Symbol, Schedule, ThermalRow, RenewableRow, Scale, Pi, Mu, Ramps, Ramp, Produces, ArePrices, IsRampAfter, ramp_rows, ramp_count_line, schedule_line, schedule_rows}
+use Rattle.cert_text.specs.TextConditions.{IsRampText, IsTableText}
+use Rattle.cert_text.specs.CertificateText.{prices_line, ramps_line, ramp_line, table_lines}
+use Rattle.cert_text.specs.Grammar.{Sizes, AreSizes, Scale, Pi, Mu, Ramps, Ramp, ArePrices, IsRampAfter, ramp_rows, ramp_count_line}
 use Rattle.cert_text.specs.inside.RampLists.{AreRamps}
 use Rattle.cert_text.specs.inside.Forms.{signed_at}
-use Rattle.cert_text.specs.inside.LineForms.{cell_at, row_at, scale_at, schedule_at, ramp_count_at, ramp_at}
-use Rattle.cert_text.specs.inside.Parts.{◌>>=◌, Part, line_of, then, told, repeated, rows_of, printed_part, written, rows_behind, schedule_part, ramp_rows_part, ramps_part, prices_part, table_of, numbers_part, table_part}
-use Rattle.cert_text.proofs.LineLaws.{thermal-form, renewable-form, prices-form, scale-form, ramp_count-form, schedule-form}
+use Rattle.cert_text.specs.inside.LineForms.{row_at, ramp_count_at, ramp_at}
+use Rattle.cert_text.specs.inside.Parts.{◌>>=◌, line_of, written, ramp_rows_part, ramps_part, prices_part, table_of, numbers_part, table_part}
+use Rattle.cert_text.proofs.LineLaws.{prices-form, scale-form, ramp_count-form}
 use Rattle.cert_text.proofs.NodeLaws.{ramp-form}
 use Rattle.cert_text.proofs.FormLaws.{IsForm, Anything, form-as}
-use Rattle.cert_text.proofs.PartLaws.{IsPart, Done, line-part, then-part, told-part, told_then, part-as, before-part, nothing-part, repeated-part}
+use Rattle.cert_text.proofs.PartLaws.{IsPart, Done, line-part, then-part, told-part, told_then, part-as, before-part, nothing-part}
 
 pub map_as_flat : {A B : Type 0} (f : A → B) (xs : List A) → flat_map (λ x. f x ∷ []) xs ≡ map f xs
 map_as_flat f [] = refl

@@ -1,6 +1,5 @@
 -- The part of the tree reads the nodes of one tree in preorder.
-use Rattle.std.proofs.Common.{◌≡◌, ℕ, zero, suc, ◌+◌, ◌<◌, ◌≤◌, List, [], ◌∷◌, ◌++◌, length, map, replicate, All, Option, Some, None, Result, Ok, Err, refl, sym, ap, subst, ◌∙◌, append_assoc, arith}
-use Rattle.std.specs.Prelude.{codes}
+use Rattle.std.proofs.Common.{◌≡◌, ℕ, zero, suc, ◌<◌, ◌≤◌, List, [], ◌∷◌, ◌++◌, length, map, replicate, All, Result, Ok, Err, refl, sym, ap, subst, ◌∙◌, append_assoc, arith}
 use Rattle.std.specs.List.{flat_map}
 use Rattle.std.proofs.lemmas.List.{length-append, append-nil}
 use Rattle.std.proofs.lemmas.List.Elements.{All-nil, All-cons, All-head, All-tail}
@@ -9,10 +8,10 @@ use Rattle.outside.proofs.Joining.{joined-cons}
 use Rattle.dual_model.specs.Tree.{Tree, Ends, Splits}
 use Rattle.dual_model.specs.Cover.{Leaf, Bound, Ray, Empty}
 use Rattle.cert_text.specs.Nodes.{TreeNode, LeafNode, SplitNode, preorder, node_line, IsNodeWithin}
-use Rattle.cert_text.specs.Grammar.{Sizes, AreSizes, Symbol, Node, Reaches, Produces, children}
+use Rattle.cert_text.specs.Grammar.{Sizes, AreSizes, Symbol, Node, Reaches, children}
 use Rattle.cert_text.specs.inside.Forms.{text_at}
 use Rattle.cert_text.specs.inside.LineForms.{node_at, split_at}
-use Rattle.cert_text.specs.inside.Parts.{◌>>=◌, Part, line_of, owed_after, nodes_part, tree_part}
+use Rattle.cert_text.specs.inside.Parts.{◌>>=◌, line_of, owed_after, nodes_part, tree_part}
 use Rattle.cert_text.proofs.NodeLaws.{node-form}
 use Rattle.cert_text.proofs.PartLaws.{IsPart, Done, Stops, StopsAt, AtFirst, AtSecond, ok_of, bind_ok, bind_err, same_Ok, same_Err, line-part, Stops-behind, Stops-before}
 

@@ -32,15 +32,15 @@ pub fn certificates_without_schedule_have_text()
         → HasText (listing_of (certificate_of instance found)) }
 {}
 
-/// The text of a certificate tells where it ends, and all that it lists: no certificate's text is a front of another's, and two
-/// with one text have one listing.
+/// The text of a certificate tells where it ends, and all that it lists: no certificate's text is a front of
+/// another's, and two with one text have one listing.
 pub fn texts_tell_certificates_apart()
     ensures { (c d : Certificate) (more : List ℕ) → HasText (listing_of c) → HasText (listing_of d)
         → certificate_text c ++ more ≡ certificate_text d → (listing_of c ≡ listing_of d) × (more ≡ []) }
 {}
 
-/// The grammar by lines is that of certificates: lines that may stand one behind the other, so that none is to come, are the lines of
-/// a certificate, and these may stand so.
+/// The grammar by lines is that of certificates: lines that may stand one behind the other, so that none is to
+/// come, are the lines of a certificate, and these may stand so.
 pub fn lines_that_may_stand_make_certificates()
     ensures whole { (lines : List (List ℕ)) → Reaches (Version ∷ []) lines []
         → (c : Certificate) × HasText (listing_of c) × (lines ≡ certificate_lines 1 (listing_of c)) }
@@ -49,6 +49,6 @@ pub fn lines_that_may_stand_make_certificates()
 
 /// Bytes have at most one fault that is told by its line.
 pub fn bytes_have_one_fault()
-    ensures { (bytes : List ℕ) (line other : ℕ) (kind another : CertKind) → IsKindAt bytes line kind → IsKindAt bytes other another
-        → (line ≡ other) × (kind ≡ another) }
+    ensures { (bytes : List ℕ) (line other : ℕ) (kind another : CertKind)
+        → IsKindAt bytes line kind → IsKindAt bytes other another → (line ≡ other) × (kind ≡ another) }
 {}

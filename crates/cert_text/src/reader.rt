@@ -26,8 +26,8 @@ use whole::take_certificate;
 
 /// Reads a certificate's text, which is all of the bytes.
 ///
-/// `At` tells the first line, from 1, that may not stand where it does (`Form`), whose line feed isn't there (`Cut`), or that
-/// follows the last one (`Tail`). `NoMemory` comes only where memory is refused.
+/// `At` tells the first line, from 1, that may not stand where it does (`Form`), whose line feed isn't there
+/// (`Cut`), or that follows the last one (`Tail`). `NoMemory` comes only where memory is refused.
 pub fn read(alloc: Global, bytes: &[u8]) -> Result<Cert, CertFault>
     // What is read is what the bytes are the text of.
     ensures text { IfOk result (IsTextOf bytes.now) }

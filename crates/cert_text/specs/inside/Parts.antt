@@ -3,7 +3,6 @@
 use Rattle.std.specs.Prelude.{◌≡◌, ℕ, zero, suc, List, [], ◌∷◌, length, Option, Some, None, Result, Ok, Err, ℤ, pos, codes}
 use Rattle.std.specs.Option.{ok_or}
 use Rattle.uc_model.specs.declared.schedule.Cell.{Cell}
-use Rattle.uc_model.specs.declared.schedule.Printed.{Printed}
 use Rattle.dual_model.specs.Certificate.{WrittenSchedule}
 use Rattle.dual_model.specs.declared.table.RampRow.{RampRow}
 use Rattle.dual_model.specs.declared.table.Table.{Table}

@@ -1,5 +1,5 @@
 -- Rows of ramp multipliers one behind the other.
-use Rattle.std.specs.Prelude.{◌≡◌, ℕ, List, [], ◌∷◌, Option, Some, None}
+use Rattle.std.specs.Prelude.{List, [], ◌∷◌, Option, Some}
 use Rattle.dual_model.specs.declared.table.RampRow.{RampRow}
 use Rattle.cert_text.specs.Grammar.{Sizes, IsRampAfter}
 

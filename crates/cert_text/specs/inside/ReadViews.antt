@@ -1,5 +1,4 @@
 -- What contracts see of the values that are read.
-use Rattle.std.specs.Prelude.{ℕ}
 use Rattle.cert_text.specs.Grammar.{Sizes}
 use Rattle.cert_text.specs.declared.reader.sizes.Size.{Size}
 

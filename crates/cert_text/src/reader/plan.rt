@@ -19,7 +19,8 @@ fn take_printed<'a>(
     size: &Size,
     bytes: &'a [u8],
 ) -> Result<(Printed, &'a [u8]), Stop<'a>>
-    ensures { GivesPart (λ r. ((r.0.thermal, r.0.renewable), r.1.now)) result (printed_part (sizes size.now) bytes.now) }
+    ensures { GivesPart (λ r. ((r.0.thermal, r.0.renewable), r.1.now)) result
+        (printed_part (sizes size.now) bytes.now) }
 {
     let (thermal, rest) = take_rows(alloc, b"t", &CellWord, size.thermal, size.periods, bytes)?;
     let (renewable, rest) = take_rows(alloc, b"w", &Watts, size.renewable, size.periods, rest)?;

@@ -28,7 +28,8 @@ fn take_ramp_rows<'a>(
     bytes: &'a [u8],
     rows: &mut Vec<RampRow>,
 ) -> Result<&'a [u8], Stop<'a>>
-    ensures { GivesPart (λ rest. (rows.new.items, rest.now)) result (ramp_rows_part (sizes size.now) count None bytes.now) }
+    ensures { GivesPart (λ rest. (rows.new.items, rest.now)) result
+        (ramp_rows_part (sizes size.now) count None bytes.now) }
 {
     rows.clear();
     let mut rest = bytes;
@@ -66,7 +67,8 @@ fn take_numbers<'a>(
     mu: &mut Vec<i64>,
     ramps: &mut Vec<RampRow>,
 ) -> Result<(u64, &'a [u8]), Stop<'a>>
-    ensures numbers { GivesPart (λ r. ((r.0, (pi.new.items, (mu.new.items, ramps.new.items))), r.1.now)) result (numbers_part (sizes size.now) bytes.now) }
+    ensures numbers { GivesPart (λ r. ((r.0, (pi.new.items, (mu.new.items, ramps.new.items))), r.1.now)) result
+        (numbers_part (sizes size.now) bytes.now) }
     ensures bound { IfOk result (λ r. r.0 < 1000000000000000000) }
 {
     let (k, rest) = take_scale(bytes).ok_or(Stop::At(bytes))?;
@@ -106,7 +108,8 @@ pub(crate) fn take_tables<'a>(
     bytes: &'a [u8],
 ) -> Result<(Vec<Table>, &'a [u8]), Stop<'a>>
     requires { AreSizes (sizes size.now) }
-    ensures { GivesPart (λ r. (r.0.items, r.1.now)) result (repeated size.now.tables (table_part (sizes size.now)) bytes.now) }
+    ensures { GivesPart (λ r. (r.0.items, r.1.now)) result
+        (repeated size.now.tables (table_part (sizes size.now)) bytes.now) }
 {
     let mut tables = Vec::new(alloc);
     let mut lists = Lists {

@@ -63,7 +63,8 @@ fn take_words<'a, X: Copy, W: Word<X>>(
     bytes: &'a [u8],
     words: &mut Vec<X>,
 ) -> Result<Option<&'a [u8]>, NoMemory>
-    ensures { IfOk result (λ r. Gives (λ rest. (words.new.items, rest.now)) r (words_at count (W.form word.now) bytes.now)) }
+    ensures { IfOk result (λ r. Gives (λ rest. (words.new.items, rest.now)) r
+        (words_at count (W.form word.now) bytes.now)) }
 {
     words.clear();
     let mut rest = bytes;
@@ -88,7 +89,8 @@ pub(crate) fn take_row<'a, X: Copy, W: Word<X>>(
     bytes: &'a [u8],
     words: &mut Vec<X>,
 ) -> Result<&'a [u8], Stop<'a>>
-    ensures { GivesPart (λ rest. (words.new.items, rest.now)) result (line_of (row_at first.now count (W.form word.now)) bytes.now) }
+    ensures { GivesPart (λ rest. (words.new.items, rest.now)) result
+        (line_of (row_at first.now count (W.form word.now)) bytes.now) }
 {
     let Some(rest) = take_text(bytes, first) else {
         return Err(Stop::At(bytes));
@@ -111,7 +113,8 @@ pub(crate) fn take_rows<'a, X: Copy, W: Word<X>>(
     periods: u32,
     bytes: &'a [u8],
 ) -> Result<(Vec<List<X>>, &'a [u8]), Stop<'a>>
-    ensures { GivesPart (λ r. (r.0.items, r.1.now)) result (rows_of first.now count periods (W.form word.now) bytes.now) }
+    ensures { GivesPart (λ r. (r.0.items, r.1.now)) result
+        (rows_of first.now count periods (W.form word.now) bytes.now) }
 {
     let mut rows = Vec::new(alloc);
     let mut rest = bytes;
