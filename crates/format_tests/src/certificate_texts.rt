@@ -189,11 +189,12 @@ static MISSPELLED: [(usize, &str); 100] = [
 ];
 
 // Lines after which another one may not stand: its number, and that of the first one at fault.
-static MISCOUNTED: [(usize, &str, u64); 9] = [
+static MISCOUNTED: [(usize, &str, u64); 10] = [
     (2, "size 2 2 1 2", 14),
     (2, "size 2 2 1 4294967295", 14),
     (2, "size 2 2 1 0", 8),
     (2, "size 2 2 2 1", 8),
+    (4, "schedule none", 5),
     (11, "ramps 3", 14),
     (11, "ramps 999999999999999999", 14),
     (11, "ramps 1", 13),
