@@ -65,9 +65,11 @@ hull_after points count corners lawful inside hull =
     (λ (over : IsTrue test.0). (corners, hull_over points count corners test.0 lawful inside hull test.1 over))
     (λ (beyond : test.0 ≡ false).
     let next = next-from points count corners test.0 lawful inside hull test.1 beyond in
-    let kept = kept_by points count corners point hull next (length corners) (omega arith) (covers_start points count corners point hull next) in
-    (take kept.0 corners ++ point ∷ [], hull_joined points count corners (take kept.0 corners ++ point ∷ []) kept.0 hull next kept.1 kept.2
-    (extended corners kept.0 point kept.1)))
+    let kept = kept_by points count corners point hull next (length corners) (omega arith) (covers_start points count corners point hull next) in (
+      take kept.0 corners ++ point ∷ [],
+      hull_joined points count corners (take kept.0 corners ++ point ∷ []) kept.0 hull next kept.1 kept.2
+          (extended corners kept.0 point kept.1),
+    ))
     (cases_Bool test.0)
 
 hull_of_first : (points : List Point) → AreLawfulPoints points → (count : ℕ) → count ≤ length points
@@ -113,15 +115,18 @@ holds_output : (corners : List Point) (p : ℤ) → AreLawfulCorners corners →
 holds_output corners p lawful low high =
     ⊎_elim
     (λ (positive : pos 0 <ℤ p).
-    let found = between corners p positive (length corners - 1) (omega (arith, lawful.some)) high in
-    (found.0, suc found.0, record {
-      left_within = omega (arith, found.1.within);
-      right_within = found.1.within;
-      beside = inr refl;
-      begins = less_le _ _ found.1.begins;
-      reaches = found.1.reaches;
-      first = λ h. found.1.begins;
-    }))
+    let found = between corners p positive (length corners - 1) (omega (arith, lawful.some)) high in (
+      found.0,
+      suc found.0,
+      record {
+        left_within = omega (arith, found.1.within);
+        right_within = found.1.within;
+        beside = inr refl;
+        begins = less_le _ _ found.1.begins;
+        reaches = found.1.reaches;
+        first = λ h. found.1.begins;
+      },
+    ))
     (λ (none : p ≤ℤ pos 0). at_zero (length corners) refl (omega (arith, linear)))
     (cases_lt_le (pos 0) p)
   where
@@ -133,26 +138,32 @@ holds_output corners p lawful low high =
 
     at_zero : (n : ℕ) → n ≡ length corners → p ≤ℤ pos 0 → (left : ℕ) × (right : ℕ) × HoldsOutput corners p left right
     at_zero zero e h = absurd (omega arith)
-    at_zero (suc zero) e h = let first = output-first corners in
-        (0, 0, record {
-          left_within = lawful.some;
-          right_within = lawful.some;
-          beside = inl (refl, sym e);
-          begins = omega (arith, linear, first);
-          reaches = omega (arith, linear, first);
-          first = λ positive. absurd (omega (arith, linear));
-        })
+    at_zero (suc zero) e h = let first = output-first corners in (
+      0,
+      0,
+      record {
+        left_within = lawful.some;
+        right_within = lawful.some;
+        beside = inl (refl, sym e);
+        begins = omega (arith, linear, first);
+        reaches = omega (arith, linear, first);
+        first = λ positive. absurd (omega (arith, linear));
+      },
+    )
     at_zero (suc (suc m)) e h =
         let first = output-first corners in
-        let rising = lawful.rising 0 (omega arith) in
-        (0, 1, record {
-          left_within = lawful.some;
-          right_within = omega arith;
-          beside = inr refl;
-          begins = omega (arith, linear, first);
-          reaches = omega (arith, linear, rising);
-          first = λ positive. absurd (omega (arith, linear));
-        })
+        let rising = lawful.rising 0 (omega arith) in (
+          0,
+          1,
+          record {
+            left_within = lawful.some;
+            right_within = omega arith;
+            beside = inr refl;
+            begins = omega (arith, linear, first);
+            reaches = omega (arith, linear, rising);
+            first = λ positive. absurd (omega (arith, linear));
+          },
+        )
 
 -- the hull has a segment at each output up to its width
 pub segment-there : (points : List Point) (p : ℤ) → AreLawfulPoints points → pos 0 ≤ℤ p → p ≤ℤ width_of points
