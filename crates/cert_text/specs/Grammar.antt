@@ -39,7 +39,7 @@ pub data Symbol : Type 0 where
   Scale : Sizes → Symbol
   Pi : Sizes → Symbol
   Mu : Sizes → Symbol
-  -- the count of a table's ramp rows; and a row, so many before the last one, behind another or as the first
+  -- the count of a table's ramp rows; and a row with so many after it, behind another one or as the first
   Ramps : Sizes → Symbol
   Ramp : Sizes → ℕ → Option RampRow → Symbol
   Node : Sizes → Symbol
