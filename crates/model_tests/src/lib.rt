@@ -10,6 +10,8 @@ mod enumeration;
 #[cfg(test)]
 mod fixtures;
 #[cfg(test)]
+mod leaves;
+#[cfg(test)]
 mod multipliers;
 #[cfg(test)]
 mod numbers;

@@ -1,0 +1,5 @@
+pub mod DecidedPaths
+pub mod ConstantSizes
+pub mod Reckoned
+pub mod NodeTotals
+pub mod PathsOfNodes

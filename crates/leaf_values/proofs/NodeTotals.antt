@@ -1,0 +1,107 @@
+-- What entries that were reckoned for a node's fixes add up to is the node's value.
+use Rattle.std.proofs.Common.{◌≡◌, ℕ, ◌<◌, ◌≤◌, List, Some, None, Option, refl, sym, ap, subst, ◌∙◌, arith, ℤ, ◌+ℤ◌}
+use Rattle.std.specs.Prelude.{MatchOption, unsigned_abs}
+use Rattle.uc_model.specs.Schedule.{thermal_count, thermal_unit}
+use Rattle.uc_model.specs.declared.instance.Instance.{Instance}
+use Rattle.uc_model.proofs.Ring.{linear}
+use Rattle.uc_model.proofs.Sums.{sum_below-same}
+use Rattle.dual_model.specs.Fixings.{HasEmptyUnit, IsFixOf}
+use Rattle.dual_model.specs.NodeValue.{IsNodeValue, constant_at, renewables_value, system_value}
+use Rattle.dual_model.specs.PatternValue.{HasNoPattern, IsLeastValue}
+use Rattle.dual_model.specs.TableValue.{AreTermsOf, IsUnitValueOf}
+use Rattle.dual_model.specs.declared.node.Fix.{Fix}
+use Rattle.dual_model.specs.declared.node.Node.{Node}
+use Rattle.dual_model.specs.declared.table.Table.{Table}
+use Rattle.dual_model.proofs.TableValues.{unit_value-of}
+use Rattle.leaf_values.specs.Entries.{AreEntriesOf, AreUnitsReckoned, MAX_REST, IsEntryOf, IsReckoned, entry_at}
+use Rattle.leaf_values.specs.Paths.{AreFixesOf, fix_at}
+use Rattle.leaf_values.specs.inside.Totals.{AreReckonedFor, HasNoValue, IsReckonedFor, IsTotal, part_of, value_of}
+use Rattle.leaf_values.specs.declared.entries.UnitEntry.{UnitEntry}
+use Rattle.leaf_values.specs.declared.entries.TableEntries.{TableEntries}
+
+-- ---- the entries are those of the table as before
+pub reckoned_units : (instance : Instance) (fixes : List Fix) (old new : List UnitEntry) → AreUnitsReckoned instance old
+    → AreReckonedFor instance fixes (thermal_count instance) old new → AreUnitsReckoned instance new
+reckoned_units instance fixes old new before after = record {
+  count = after.count ∙ before.count;
+  unit = λ g h. (after.unit g h).reckoned;
+}
+
+still_entry : (instance : Instance) (table : Table) (g : ℕ) (fix : Fix) (old new : UnitEntry) → IsEntryOf instance table g old
+    → IsReckonedFor instance.periods (thermal_unit instance g) fix old new → IsEntryOf instance table g new
+still_entry instance table g fix old new entry after = record {
+  terms = subst (AreTermsOf instance table g) (sym after.terms) entry.terms;
+  constant = after.constant ∙ entry.constant;
+}
+
+pub entries_kept : (instance : Instance) (table : Table) (fixes : List Fix) (old new : TableEntries) → AreEntriesOf instance table old
+    → AreReckonedFor instance fixes (thermal_count instance) old.units.items new.units.items → new.rest ≡ old.rest
+    → AreEntriesOf instance table new
+entries_kept instance table fixes old new entries after rest = record {
+  reckoned = record {
+    units = reckoned_units instance fixes old.units.items new.units.items entries.reckoned.units after;
+    rest = subst (λ z. unsigned_abs z ≤ MAX_REST) (sym rest) entries.reckoned.rest;
+  };
+  unit = λ g h. still_entry instance table g (fix_at fixes g) (entry_at old g) (entry_at new g) (entries.unit g h) (after.unit g h);
+  rest = rest ∙ entries.rest;
+}
+
+-- ---- a unit's value
+least_of : (P : Type 0) (Q : ℤ → Type 0) (value : Option ℤ) (v : ℤ) → MatchOption value P Q → value ≡ Some v → Q v
+least_of P Q value v h e = subst (λ (o : Option ℤ). MatchOption o P Q) e h
+
+none_of : (P : Type 0) (Q : ℤ → Type 0) (value : Option ℤ) → MatchOption value P Q → value ≡ None → P
+none_of P Q value h e = subst (λ (o : Option ℤ). MatchOption o P Q) e h
+
+unit_value : (instance : Instance) (node : Node) (table : Table) (g : ℕ) (fix : Fix) (entry : UnitEntry) → AreTermsOf instance table g entry.terms
+    → IsReckoned instance.periods (thermal_unit instance g) entry → entry.fix ≡ fix → IsFixOf instance.periods node g fix
+    → IsUnitValueOf instance node table g entry.value
+unit_value instance node table g fix entry terms reckoned same decided =
+    let unit = thermal_unit instance g in
+    unit_value-of instance node table g unit entry.terms entry.fix entry.value refl terms (subst (IsFixOf instance.periods node g) (sym same) decided)
+    (λ w e. least_of (HasNoPattern entry.terms unit entry.fix) (IsLeastValue entry.terms unit entry.fix) entry.value w reckoned.value e)
+    (λ e. none_of (HasNoPattern entry.terms unit entry.fix) (IsLeastValue entry.terms unit entry.fix) entry.value reckoned.value e)
+
+-- ---- the node's value
+-- entries of the table that were reckoned for what the node decides
+pub record AreValuesAt (instance : Instance) (table : Table) (node : Node) (entries : TableEntries) : Type 0 where
+  pub are : AreEntriesOf instance table entries
+  pub value : (g : ℕ) → g < thermal_count instance → IsUnitValueOf instance node table g (entry_at entries g).value
+
+pub values_at : (instance : Instance) (table : Table) (node : Node) (fixes : List Fix) (old new : TableEntries) → AreEntriesOf instance table new
+    → AreReckonedFor instance fixes (thermal_count instance) old.units.items new.units.items → AreFixesOf instance node fixes
+    → AreValuesAt instance table node new
+values_at instance table node fixes old new are after decided = record {
+  are = are;
+  value = λ g h.
+      unit_value instance node table g (fix_at fixes g) (entry_at new g) (are.unit g h).terms (after.unit g h).reckoned (after.unit g h).fix (decided.fix g h);
+}
+
+node_sum : (system renewables rest units parts v : ℤ) → rest ≡ system +ℤ renewables → v ≡ rest +ℤ parts → parts ≡ units → v ≡ system +ℤ units +ℤ renewables
+node_sum system renewables rest units parts v e f h = omega (arith, linear)
+
+node_value : (instance : Instance) (table : Table) (node : Node) (entries : TableEntries) (v : ℤ) → AreValuesAt instance table node entries
+    → IsTotal entries (thermal_count instance) v → IsNodeValue instance node table v
+node_value instance table node entries v at sum =
+    let value = λ (g : ℕ). value_of (entry_at entries g) in
+    let parts = sum_below-same (thermal_count instance) (λ g. part_of (entry_at entries g)) (λ g. value g +ℤ constant_at instance table g)
+    (λ g h. ap (λ z. value g +ℤ z) (at.are.unit g h).constant) in
+    record {
+      unit_value = value;
+      units = λ g h. subst (IsUnitValueOf instance node table g) (sum.each g h) (at.value g h);
+      total = node_sum (system_value instance table) (renewables_value instance table) entries.rest _ _ v at.are.rest sum.total parts;
+    }
+
+empty_unit : (instance : Instance) (table : Table) (node : Node) (entries : TableEntries) → AreValuesAt instance table node entries
+    → HasNoValue entries (thermal_count instance) → HasEmptyUnit instance node
+empty_unit instance table node entries at without = record {
+  unit = without.unit;
+  within = without.within;
+  empty = subst (IsUnitValueOf instance node table without.unit) without.none (at.value without.unit without.within);
+}
+
+pub node_answer : (instance : Instance) (table : Table) (node : Node) (entries : TableEntries) (answer : Option ℤ) → AreValuesAt instance table node entries
+    → MatchOption answer (HasNoValue entries (thermal_count instance)) (IsTotal entries (thermal_count instance))
+    → MatchOption answer (HasEmptyUnit instance node) (IsNodeValue instance node table)
+node_answer instance table node entries None at without = empty_unit instance table node entries at without
+node_answer instance table node entries (Some v) at sum = node_value instance table node entries v at sum

@@ -1,0 +1,56 @@
+-- Paths that a walk over a tree makes: their decisions are placed, and a path decides each cell once if each split is on a
+-- cell that the path to it hasn't decided.
+-- Cite from a crate above by `use Rattle.leaf_values.proofs.PathsOfNodes.{placed, decides_once-more}`.
+use Rattle.std.proofs.Common.{◌≡◌, ℕ, ◌+◌, ◌<◌, ◌≤◌, ◌⊎◌, ⊎_elim, not, List, [], ◌∷◌, ◌++◌, length, take, sym, arith}
+use Rattle.std.specs.Prelude.{All, IsTrue}
+use Rattle.std.proofs.lemmas.List.{get_or-take, get_or_append_left, get_or_push, length-append, length-take, take-append-le, take-take, take_all}
+use Rattle.uc_model.specs.Limits.{IsLawfulInstance}
+use Rattle.uc_model.specs.Schedule.{thermal_count}
+use Rattle.uc_model.specs.declared.instance.Instance.{Instance}
+use Rattle.dual_model.specs.Fixings.{IsNodeOf}
+use Rattle.dual_model.specs.Tree.{is_decided}
+use Rattle.dual_model.specs.declared.node.Fixing.{Fixing}
+use Rattle.leaf_values.specs.Paths.{DecidesOnce, IsPlaced, node_of}
+
+pub placed : (instance : Instance) (path : List Fixing) (units : ℕ) → IsLawfulInstance instance → IsNodeOf instance (node_of path)
+    → units ≡ thermal_count instance → All (IsPlaced units) path
+placed instance path units lawful inside count i d h = record {
+  unit = omega (arith, count, (inside i d h).unit);
+  period = omega (arith, lawful.periods.1, (inside i d h).period);
+}
+
+-- ---- each cell once
+abbrev IsFresh : List Fixing → Fixing → Type 0
+IsFresh before fixing = IsTrue (not (is_decided (node_of before) fixing.g fixing.t))
+
+pub decides_once-nil : DecidesOnce []
+decides_once-nil = record { fresh = λ i d h. absurd (omega arith) }
+
+below_or_last : (i n : ℕ) → i < n + 1 → (i < n) ⊎ (i ≡ n)
+below_or_last i n h = grind arith
+
+pub decides_once-more : (path : List Fixing) (fixing : Fixing) → DecidesOnce path
+    → IsTrue (not (is_decided (node_of path) fixing.g fixing.t)) → DecidesOnce (path ++ fixing ∷ [])
+decides_once-more path fixing once free = record {
+  fresh = λ i d h.
+      ⊎_elim
+      (λ (before : i < length path).
+      let short : i ≤ length path = omega arith in
+      rw (take-append-le, get_or_append_left) (once.fresh i d before))
+      (λ (last : i ≡ length path).
+      let end : length path ≡ i = sym last in
+      let short : i ≤ length path = omega arith in
+      let all : take i path ≡ path = take_all i path (omega arith) in
+      rw (take-append-le, get_or_push, all) free)
+      (below_or_last i (length path) (omega (arith, h, length-append path (fixing ∷ []))));
+}
+
+-- the beginning of such a path
+pub decides_once-take : (path : List Fixing) (n : ℕ) → DecidesOnce path → DecidesOnce (take n path)
+decides_once-take path n once = record {
+  fresh = λ i d h.
+      let shown : i < length path = omega (arith, h, length-take n path) in
+      let cut : i < n = omega (arith, h, length-take n path) in
+      let short : i ≤ n = omega arith in
+      rw (take-take, get_or-take) (once.fresh i d shown);
+}

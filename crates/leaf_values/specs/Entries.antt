@@ -1,0 +1,70 @@
+-- What is kept of the units of an instance at a price table. Source: the single-unit problems of the Lagrangian
+-- relaxation of the reference model by Knueven, Ostrowski and Watson; that each unit's value is kept, with the decisions
+-- that it was reckoned for, is this project's own.
+use Rattle.std.specs.Prelude.{◌≡◌, ℕ, ◌+◌, ◌*◌, ◌^◌, ◌<◌, ◌≤◌, List, [], pos, ◌+ℤ◌, unsigned_abs, length, slice_index_or, None, MatchOption}
+use Rattle.uc_model.specs.Schedule.{thermal_unit, thermal_count}
+use Rattle.uc_model.specs.declared.instance.Instance.{Instance}
+use Rattle.uc_model.specs.declared.instance.Thermal.{Thermal}
+use Rattle.uc_model.specs.declared.limits.TheConstants.{MAX_UNITS}
+use Rattle.dual_model.specs.NodeValue.{constant_at, renewables_value, system_value}
+use Rattle.dual_model.specs.PatternValue.{HasNoPattern, IsLeastValue}
+use Rattle.dual_model.specs.TableValue.{AreTermsOf}
+use Rattle.dual_model.specs.UnitTerms.{AreSizedTerms, period_count}
+use Rattle.dual_model.specs.declared.table.Table.{Table}
+use Rattle.state_walk.specs.CostToGo.{IsWithin, MAX_COST_TO_GO}
+use Rattle.system_value.specs.Sizes.{MAX_RENEWABLES, MAX_SYSTEM}
+use Rattle.leaf_values.specs.declared.entries.UnitEntry.{UnitEntry}
+use Rattle.leaf_values.specs.declared.entries.TableEntries.{TableEntries}
+
+-- a unit's constant is at most this in size, and so is what doesn't hang on thermal units, and a node's value
+abbrev pub MAX_CONSTANT : ℕ
+MAX_CONSTANT = 10 ^ 30
+
+abbrev pub MAX_REST : ℕ
+MAX_REST = MAX_SYSTEM + MAX_RENEWABLES
+
+abbrev pub MAX_NODE_VALUE : ℕ
+MAX_NODE_VALUE = MAX_REST + MAX_UNITS * (MAX_COST_TO_GO + MAX_CONSTANT)
+
+-- the entry of thermal unit g, from 0
+abbrev pub no_entry : UnitEntry
+no_entry = record {
+  terms = record { k = pos 0; pi = []; terms = [] };
+  constant = pos 0;
+  fix = record { known = record { low = 0; high = 0 }; on = record { low = 0; high = 0 } };
+  value = None;
+}
+
+abbrev pub entry_in : List UnitEntry → ℕ → UnitEntry
+entry_in units g = slice_index_or units g no_entry
+
+abbrev pub entry_at : TableEntries → ℕ → UnitEntry
+entry_at entries = entry_in entries.units.items
+
+-- an entry of the unit, whatever the prices: its value is the least of the patterns that are as its fix decides
+pub record IsReckoned (horizon : ℕ) (unit : Thermal) (entry : UnitEntry) : Type 0 where
+  pub periods : period_count entry.terms ≡ horizon
+  pub sized : AreSizedTerms unit entry.terms
+  pub constant : unsigned_abs entry.constant ≤ MAX_CONSTANT
+  pub value : MatchOption entry.value (HasNoPattern entry.terms unit entry.fix) (IsLeastValue entry.terms unit entry.fix)
+  pub size : IsWithin MAX_COST_TO_GO entry.value
+
+-- an entry for each thermal unit of the instance, whatever the prices
+pub record AreUnitsReckoned (instance : Instance) (units : List UnitEntry) : Type 0 where
+  pub count : length units ≡ thermal_count instance
+  pub unit : (g : ℕ) → g < thermal_count instance → IsReckoned instance.periods (thermal_unit instance g) (entry_in units g)
+
+pub record AreReckoned (instance : Instance) (entries : TableEntries) : Type 0 where
+  pub units : AreUnitsReckoned instance entries.units.items
+  pub rest : unsigned_abs entries.rest ≤ MAX_REST
+
+-- the entry is that of unit g at the table
+pub record IsEntryOf (instance : Instance) (table : Table) (g : ℕ) (entry : UnitEntry) : Type 0 where
+  pub terms : AreTermsOf instance table g entry.terms
+  pub constant : entry.constant ≡ constant_at instance table g
+
+-- the entries of the instance's units at the table, and what doesn't hang on them
+pub record AreEntriesOf (instance : Instance) (table : Table) (entries : TableEntries) : Type 0 where
+  pub reckoned : AreReckoned instance entries
+  pub unit : (g : ℕ) → g < thermal_count instance → IsEntryOf instance table g (entry_at entries g)
+  pub rest : entries.rest ≡ system_value instance table +ℤ renewables_value instance table

@@ -1,0 +1,21 @@
+//! What is kept of a table.
+
+use dual_model::Fix;
+use uc_model::Terms;
+
+/// One thermal unit at a table: its terms, what the ramp rules add whatever its pattern, and its value for the decisions
+/// `fix`, `None` where no pattern is as they say.
+#[derive(Debug, Drop)]
+pub struct UnitEntry {
+    pub(crate) terms: Terms,
+    pub(crate) constant: i128,
+    pub(crate) fix: Fix,
+    pub(crate) value: Option<i128>,
+}
+
+/// The entries of an instance's thermal units at a table, and what demand, reserves and renewable units add there.
+#[derive(Debug, Drop)]
+pub struct TableEntries {
+    pub(crate) units: Vec<UnitEntry>,
+    pub(crate) rest: i128,
+}

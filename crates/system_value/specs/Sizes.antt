@@ -1,0 +1,19 @@
+-- How large the parts of a node's value are that don't hang on thermal units. The limits in size are this project's.
+use Rattle.std.specs.Prelude.{ℕ, ◌*◌}
+use Rattle.uc_model.specs.declared.limits.TheConstants.{MAX_PERIODS, MAX_POWER, MAX_UNITS}
+use Rattle.dual_model.specs.declared.limits.TheConstants.{MAX_PRICE}
+
+-- a price times a power is at most this in size
+abbrev pub MAX_CELL : ℕ
+MAX_CELL = MAX_PRICE * MAX_POWER
+
+-- what demand and reserves add is at most this
+abbrev pub MAX_SYSTEM : ℕ
+MAX_SYSTEM = MAX_PERIODS * (2 * MAX_CELL)
+
+-- what one renewable unit adds, and what all of them do
+abbrev pub MAX_RENEWABLE : ℕ
+MAX_RENEWABLE = MAX_PERIODS * MAX_CELL
+
+abbrev pub MAX_RENEWABLES : ℕ
+MAX_RENEWABLES = MAX_UNITS * MAX_RENEWABLE
