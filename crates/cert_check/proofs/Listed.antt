@@ -1,0 +1,262 @@
+-- What the steps of the check say of any certificate that has the listing that was read.
+use Rattle.std.proofs.Common.{◌≡◌, ℕ, suc, ◌||◌, refl, sym, ap, subst, ◌∙◌, List, [], ◌∷◌, length, All, ℤ}
+use Rattle.std.specs.Prelude.{Option, Some, None, map, take, slice_get}
+use Rattle.std.specs.List.{list_any}
+use Rattle.std.proofs.lemmas.List.{append-nil}
+use Rattle.std.proofs.lemmas.Option.{none-some, same_Some, get_or_from_slice_get, slice_get_within}
+use Rattle.std.proofs.lemmas.List.Elements.{All-get_or, All-take}
+use Rattle.uc_model.specs.declared.instance.Instance.{Instance}
+use Rattle.uc_model.specs.declared.refusal.Refusal.{Refusal}
+use Rattle.uc_model.specs.declared.refusal.Refusal.TheVariants as codes
+use Rattle.uc_model.specs.Rules.{Obeys}
+use Rattle.uc_model.specs.PrintedSchedule.{printed_denominator, printed_schedule}
+use Rattle.uc_model.proofs.Obeyed.{rule_at}
+use Rattle.schedule_check.specs.FirstBroken.{IsFirstBroken}
+use Rattle.std.proofs.lemmas.Bool.{true≢false}
+use Rattle.dual_model.specs.Prices.{IsLawfulTable}
+use Rattle.dual_model.specs.Tree.{root}
+use Rattle.dual_model.specs.Cover.{Bound, Ray, Empty, has_bound}
+use Rattle.dual_model.specs.Certificate.{Certificate, CertificateHolds, WrittenSchedule, ScheduleHolds}
+use Rattle.branch_tree.specs.Claims.{written_of}
+use Rattle.cert_text.specs.CertificateText.{Listing, listing_of}
+use Rattle.cert_text.specs.Nodes.{TreeNode, LeafNode, SplitNode, preorder, IsNodeWithin}
+use Rattle.cert_text.specs.TextConditions.{HasText, IsTableText}
+use Rattle.cert_text.specs.Reading.{listing_read, node_of}
+use Rattle.cert_text.specs.declared.cert.Cert.{Cert}
+use Rattle.cert_text.specs.declared.cert.CertNode.{CertNode}
+use Rattle.cert_text.specs.declared.cert.CertNode.TheVariants as nodes
+use Rattle.cert_check.specs.Answers.{IsRead, cost_of}
+use Rattle.cert_check.specs.Visits.{visits, IsSound}
+use Rattle.cert_check.specs.Refusals.{HasSize, HasTables, HasSchedule, ClaimFits, HasClaim, IsFirstUnsound, IsUnsoundAt, IsRefusedBy, refusal_of}
+use Rattle.cert_check.specs.inside.Nodes.{AreCheckable, IsCodeOf}
+use Rattle.cert_check.specs.inside.Numbers.{HasLawfulNumbers, IsFirstOff}
+use Rattle.cert_check.specs.inside.Schedules.{IsCostOf, IsScheduleFault}
+use Rattle.cert_check.specs.inside.Steps.{FitsInstance, ReadClaimFits, is_bound_leaf}
+use Rattle.cert_check.specs.inside.Walks.{walk, all_visits}
+use Rattle.cert_check.proofs.Certificates.{is_bound_node, any-preorder, holds-from, size-of, fits-of, sound-of}
+use Rattle.cert_check.proofs.Pending.{walk-preorder}
+use Rattle.cert_check.proofs.TextFacts.{lawful-table, numbers-of}
+
+-- the certificate has the listing
+abbrev Listed : Certificate → Cert → Type 0
+Listed c cert = listing_of c ≡ listing_read cert
+
+pub text-of : (c : Certificate) (cert : Cert) → Listed c cert → IsRead cert → HasText (listing_of c)
+text-of c cert e read = subst HasText (read.listed ∙ sym e) read.conditions
+
+-- ---- size, tables
+pub size-from : (instance : Instance) (c : Certificate) (cert : Cert) → Listed c cert → FitsInstance instance cert → HasSize instance c
+size-from instance c cert e fits = record {
+  periods = ap (λ (l : Listing). l.periods) e ∙ fits.periods;
+  thermal = ap (λ (l : Listing). l.thermal) e ∙ fits.thermal;
+  renewable = ap (λ (l : Listing). l.renewable) e ∙ fits.renewable;
+}
+
+pub fits-from : (instance : Instance) (c : Certificate) (cert : Cert) → Listed c cert → HasSize instance c → FitsInstance instance cert
+fits-from instance c cert e size = record {
+  periods = sym (ap (λ (l : Listing). l.periods) e) ∙ size.periods;
+  thermal = sym (ap (λ (l : Listing). l.thermal) e) ∙ size.thermal;
+  renewable = sym (ap (λ (l : Listing). l.renewable) e) ∙ size.renewable;
+}
+
+tables-is : (c : Certificate) (cert : Cert) → Listed c cert → c.tables ≡ cert.tables
+tables-is c cert e = ap (λ (l : Listing). l.tables) e
+
+pub lawful-from : (instance : Instance) (c : Certificate) (cert : Cert) → Listed c cert → IsRead cert → FitsInstance instance cert
+    → All HasLawfulNumbers cert.tables → All (IsLawfulTable instance) c.tables
+lawful-from instance c cert e read fits numbers =
+    let size = size-from instance c cert e fits in
+    let own = subst (λ tables. All HasLawfulNumbers tables) (sym (tables-is c cert e)) numbers in
+    λ k d h. lawful-table instance c.periods c.thermal _ size.periods size.thermal ((text-of c cert e read).tables k d h) (own k d h)
+
+pub tables-from : (instance : Instance) (c : Certificate) (cert : Cert) → Listed c cert → IsRead cert → FitsInstance instance cert
+    → All HasLawfulNumbers cert.tables → HasTables instance c
+tables-from instance c cert e read fits numbers =
+    record { size = size-from instance c cert e fits; tables = lawful-from instance c cert e read fits numbers }
+
+-- ---- the schedule
+pub schedule-is : (c : Certificate) (cert : Cert) → Listed c cert → c.schedule ≡ written_of cert.schedule
+schedule-is c cert e = ap (λ (l : Listing). l.schedule) e
+
+costs-hold : (instance : Instance) (schedule : Option WrittenSchedule) (cost : Option ℤ) → IsCostOf instance schedule cost
+    → (written : WrittenSchedule) → schedule ≡ Some written → ScheduleHolds instance written
+costs-hold instance None cost is written e = absurd (none-some written e)
+costs-hold instance (Some own) cost is written e = subst (λ w. ScheduleHolds instance w) (same_Some own written e) is.0
+
+pub schedule-from : (instance : Instance) (c : Certificate) (cert : Cert) → Listed c cert → IsRead cert → FitsInstance instance cert
+    → All HasLawfulNumbers cert.tables → (cost : Option ℤ) → IsCostOf instance (written_of cert.schedule) cost → HasSchedule instance c
+schedule-from instance c cert e read fits numbers cost is = record {
+  tables = tables-from instance c cert e read fits numbers;
+  schedule = costs-hold instance c.schedule cost (subst (λ o. IsCostOf instance o cost) (sym (schedule-is c cert e)) is);
+}
+
+-- ---- the claim
+leaf-bound : (node : CertNode) → is_bound_leaf node ≡ is_bound_node (node_of node)
+leaf-bound (nodes.Split g t) = refl
+leaf-bound (nodes.Bound table) = refl
+leaf-bound (nodes.Ray table) = refl
+leaf-bound (nodes.Empty g) = refl
+
+any-bound : (cert : List CertNode) → list_any is_bound_leaf cert ≡ list_any is_bound_node (map node_of cert)
+any-bound [] = refl
+any-bound (node ∷ rest) = λ i. leaf-bound node i || any-bound rest i
+
+nodes-is : (c : Certificate) (cert : Cert) → Listed c cert → preorder c.tree ≡ map node_of cert.tree
+nodes-is c cert e = ap (λ (l : Listing). l.nodes) e
+
+has-bound-is : (c : Certificate) (cert : Cert) → Listed c cert → list_any is_bound_leaf cert.tree ≡ has_bound c.tree
+has-bound-is c cert e = any-bound cert.tree ∙ ap (λ xs. list_any is_bound_node xs) (sym (nodes-is c cert e)) ∙ any-preorder c.tree
+
+pub bound-is : (c : Certificate) (cert : Cert) → Listed c cert → c.bound ≡ cert.bound
+bound-is c cert e = ap (λ (l : Listing). l.bound) e
+
+claim-to : (c : Certificate) (cert : Cert) (bound : Option ℤ) → Listed c cert → ReadClaimFits cert bound → ClaimFits c bound
+claim-to c cert (Some b) e fits = sym (has-bound-is c cert e) ∙ fits
+claim-to c cert None e fits = (schedule-is c cert e ∙ fits.0, sym (has-bound-is c cert e) ∙ fits.1)
+
+claim-back : (c : Certificate) (cert : Cert) (bound : Option ℤ) → Listed c cert → ClaimFits c bound → ReadClaimFits cert bound
+claim-back c cert (Some b) e fits = has-bound-is c cert e ∙ fits
+claim-back c cert None e fits = (sym (schedule-is c cert e) ∙ fits.0, has-bound-is c cert e ∙ fits.1)
+
+pub claim-fits : (c : Certificate) (cert : Cert) → Listed c cert → ReadClaimFits cert cert.bound → ClaimFits c c.bound
+claim-fits c cert e fits = claim-to c cert c.bound e (subst (λ b. ReadClaimFits cert b) (sym (bound-is c cert e)) fits)
+
+pub claim-misfits : (c : Certificate) (cert : Cert) → Listed c cert → ¬ ReadClaimFits cert cert.bound → ¬ ClaimFits c c.bound
+claim-misfits c cert e misfits fits = misfits (subst (λ b. ReadClaimFits cert b) (bound-is c cert e) (claim-back c cert c.bound e fits))
+
+-- ---- the nodes
+pub visits-is : (c : Certificate) (cert : Cert) → Listed c cert → all_visits cert.tree ≡ visits root c.tree
+visits-is c cert e =
+    ap (λ xs. walk (root ∷ []) xs) (sym (nodes-is c cert e) ∙ sym (append-nil (preorder c.tree)))
+    ∙ walk-preorder root c.tree [] [] ∙ append-nil (visits root c.tree)
+
+pub within-of : (c : Certificate) (cert : Cert) → Listed c cert → IsRead cert → All (IsNodeWithin c.periods c.thermal (length c.tables)) (preorder c.tree)
+within-of c cert e read = (text-of c cert e read).nodes
+
+-- what the walk over the nodes wants
+pub checkable : (instance : Instance) (cert : Cert) → IsRead cert → FitsInstance instance cert → All HasLawfulNumbers cert.tables → AreCheckable instance cert
+checkable instance cert read fits numbers =
+    let c = read.certificate in
+    let e = read.listed in
+    record {
+      size = fits;
+      tables = subst (λ tables. All (IsLawfulTable instance) tables) (tables-is c cert e) (lawful-from instance c cert e read fits numbers);
+      nodes = within-read c cert e (within-of c cert e read);
+    }
+  where
+    within-read : (c : Certificate) (cert : Cert) (e : Listed c cert) → All (IsNodeWithin c.periods c.thermal (length c.tables)) (preorder c.tree)
+        → All (IsNodeWithin cert.periods cert.thermal (length cert.tables)) (map node_of cert.tree)
+    within-read c cert e within = subst (λ (l : Listing). All (IsNodeWithin l.periods l.thermal (length l.tables)) l.nodes) e within
+
+-- ---- the answers
+-- a schedule that breaks a rule doesn't obey
+breaks-obeys : (instance : Instance) (written : WrittenSchedule) (rule unit period : ℕ)
+    → (let q = printed_denominator instance written.printed in
+    IsFirstBroken instance q (printed_schedule instance written.printed q) (record { rule = rule; unit = unit; period = period }))
+    → (let q = printed_denominator instance written.printed in Obeys instance q (printed_schedule instance written.printed q)) → ⊥
+breaks-obeys instance written rule unit period broken obeys =
+    let q = printed_denominator instance written.printed in
+    true≢false (sym (rule_at instance q (printed_schedule instance written.printed q) obeys broken.rule unit period broken.unit broken.period) ∙ broken.fails)
+
+-- an element of each kind is none
+not-all : {A : Type 0} (P : A → Type 0) (xs : List A) (i : ℕ) (x : A) → slice_get xs i ≡ Some x → ¬ P x → ¬ All P xs
+not-all P xs i x e fails all =
+    fails (subst P (get_or_from_slice_get xs i x x e) (All-get_or P xs i x (slice_get_within xs i x e) all))
+
+pub refused-9 : (instance : Instance) (c : Certificate) (cert : Cert) → Listed c cert → ¬ FitsInstance instance cert
+    → (¬ HasSize instance c) × (¬ CertificateHolds instance c)
+refused-9 instance c cert e unfit =
+    (λ size. unfit (fits-from instance c cert e size), λ holds. unfit (fits-from instance c cert e (size-of instance c holds)))
+
+pub refused-1 : (instance : Instance) (c : Certificate) (cert : Cert) (i number : ℕ) → Listed c cert → IsRead cert → FitsInstance instance cert
+    → IsFirstOff cert.tables i → number ≡ suc i → IsRefusedBy instance c (codes.C1 number) × (¬ CertificateHolds instance c)
+refused-1 instance c cert i number e read fits first is =
+    let size = size-from instance c cert e fits in
+    let same = tables-is c cert e in
+    let at = ap (λ xs. slice_get xs i) same ∙ first.is_table in
+    let unlawful : ¬ IsLawfulTable instance first.table = λ lawful. first.off (numbers-of instance first.table lawful) in (
+      (
+        size,
+        i,
+        is,
+        record {
+          table = first.table;
+          is_table = at;
+          unlawful = unlawful;
+          before = λ k d h. lawful-table instance c.periods c.thermal _ size.periods size.thermal
+              (All-take (IsTableText c.periods c.thermal) i c.tables (text-of c cert e read).tables k d h)
+              (subst (λ xs. All HasLawfulNumbers (take i xs)) (sym same) first.before k d h);
+        },
+      ),
+      λ holds. not-all (IsLawfulTable instance) c.tables i first.table at unlawful holds.tables,
+    )
+
+pub refused-schedule : (instance : Instance) (c : Certificate) (schedule : Option WrittenSchedule) (code : Refusal) → HasTables instance c → c.schedule ≡ schedule
+    → IsScheduleFault instance schedule code → IsRefusedBy instance c code × (¬ CertificateHolds instance c)
+refused-schedule instance c None code tables e fault = absurd fault
+refused-schedule instance c (Some written) (codes.C2 rule unit period) tables e fault = (
+  record { tables = tables; written = written; is_written = e; breaks = fault },
+  λ holds. breaks-obeys instance written rule unit period fault (holds.schedule written e).obeys,
+)
+refused-schedule instance c (Some written) (codes.C3 cost computed) tables e fault = (
+  record {
+    tables = tables;
+    written = written;
+    is_written = e;
+    obeys = fault.obeys;
+    is_cost = fault.is_cost;
+    is_computed = fault.is_computed;
+    differs = fault.differs;
+  },
+  λ holds. fault.differs (sym fault.is_cost ∙ (holds.schedule written e).cost ∙ sym fault.is_computed),
+)
+refused-schedule instance c (Some written) (codes.C1 table) tables e fault = absurd fault
+refused-schedule instance c (Some written) (codes.C4 node) tables e fault = absurd fault
+refused-schedule instance c (Some written) (codes.C5 node) tables e fault = absurd fault
+refused-schedule instance c (Some written) (codes.C6 node) tables e fault = absurd fault
+refused-schedule instance c (Some written) (codes.C7 node) tables e fault = absurd fault
+refused-schedule instance c (Some written) codes.C8 tables e fault = absurd fault
+refused-schedule instance c (Some written) codes.C9 tables e fault = absurd fault
+
+pub refused-8 : (instance : Instance) (c : Certificate) (cert : Cert) → Listed c cert → HasSchedule instance c → ¬ ReadClaimFits cert cert.bound
+    → IsRefusedBy instance c codes.C8 × (¬ CertificateHolds instance c)
+refused-8 instance c cert e schedule misfits =
+    let fails = claim-misfits c cert e misfits in
+    ((schedule, fails), λ holds. fails (fits-of instance c c.bound holds.claim))
+
+-- a code of a node that isn't sound
+code-of : (instance : Instance) (c : Certificate) (node : TreeNode) (number : ℕ) → IsUnsoundAt instance c (refusal_of node number)
+    → IsRefusedBy instance c (refusal_of node number)
+code-of instance c (LeafNode (Bound table)) number at = at
+code-of instance c (LeafNode (Ray table)) number at = at
+code-of instance c (LeafNode (Empty g)) number at = at
+code-of instance c (SplitNode g t) number at = at
+
+pub refused-node : (instance : Instance) (c : Certificate) (cert : Cert) (code : Refusal) → Listed c cert → HasClaim instance c → IsCodeOf instance cert code
+    → IsRefusedBy instance c code × (¬ CertificateHolds instance c)
+refused-node instance c cert code e claim first =
+    let at : IsFirstUnsound instance c.tables c.bound (visits root c.tree) first.index first.visit =
+    subst (λ all. IsFirstUnsound instance c.tables c.bound all first.index first.visit) (visits-is c cert e)
+    (subst (λ bound. IsFirstUnsound instance c.tables bound (all_visits cert.tree) first.index first.visit) (sym (bound-is c cert e))
+    (subst (λ tables. IsFirstUnsound instance tables cert.bound (all_visits cert.tree) first.index first.visit) (sym (tables-is c cert e)) first.first)) in (
+      subst (λ r. IsRefusedBy instance c r) (sym first.is_code)
+          (code-of instance c first.visit.node (suc first.index) (record { claim = claim; index = first.index; visit = first.visit; first = at; is_code = refl })),
+      λ holds. not-all (IsSound instance c.tables c.bound) (visits root c.tree) first.index first.visit at.is_visit at.unsound (sound-of instance c holds),
+    )
+
+-- and where each node is sound the certificate holds
+pub accepted : (instance : Instance) (c : Certificate) (cert : Cert) → Listed c cert → IsRead cert → HasClaim instance c
+    → All (IsSound instance cert.tables cert.bound) (all_visits cert.tree) → CertificateHolds instance c
+accepted instance c cert e read claim all =
+    holds-from instance c claim (within-of c cert e read)
+    (subst (λ visited. All (IsSound instance c.tables c.bound) visited) (visits-is c cert e)
+    (subst (λ bound. All (IsSound instance c.tables bound) (all_visits cert.tree)) (sym (bound-is c cert e))
+    (subst (λ tables. All (IsSound instance tables cert.bound) (all_visits cert.tree)) (sym (tables-is c cert e)) all)))
+
+pub cost-is : (c : Certificate) (cert : Cert) (instance : Instance) (cost : Option ℤ) → Listed c cert → IsCostOf instance (written_of cert.schedule) cost
+    → cost ≡ cost_of c.schedule
+cost-is c cert instance cost e is = cost-by instance (written_of cert.schedule) cost is ∙ ap (λ o. cost_of o) (sym (schedule-is c cert e))
+  where
+    cost-by : (instance : Instance) (schedule : Option WrittenSchedule) (cost : Option ℤ) → IsCostOf instance schedule cost → cost ≡ cost_of schedule
+    cost-by instance None cost is = is
+    cost-by instance (Some written) cost is = is.1

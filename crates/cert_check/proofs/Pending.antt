@@ -1,0 +1,75 @@
+-- The places that are to come on a path, by its last decision; and the walk over the nodes of a tree in preorder.
+use Rattle.std.proofs.Common.{◌≡◌, ℕ, true, false, refl, sym, ap, ◌∙◌, List, [], ◌∷◌, ◌++◌, append_assoc}
+use Rattle.std.specs.Prelude.{if◌then◌else◌}
+use Rattle.std.proofs.lemmas.List.{append-nil}
+use Rattle.dual_model.specs.Tree.{Tree, Ends, Splits, child}
+use Rattle.dual_model.specs.Cover.{Leaf}
+use Rattle.dual_model.specs.declared.node.Fixing.{Fixing}
+use Rattle.dual_model.specs.declared.node.Node.{Node}
+use Rattle.cert_text.specs.Nodes.{TreeNode, LeafNode, SplitNode, preorder}
+use Rattle.cert_check.specs.Visits.{visits}
+use Rattle.cert_check.specs.inside.Walks.{walk, other_child, pending, places}
+
+pub pending-push : (before fixings : List Fixing) (last : Fixing)
+    → pending before (fixings ++ last ∷ []) ≡ other_child (before ++ fixings) last ++ pending before fixings
+pending-push before [] last =
+    sym (append-nil (other_child (before ++ []) last) ∙ ap (λ front. other_child front last) (append-nil before))
+pending-push before (fixing ∷ fixings) last =
+    ap (λ more. more ++ other_child before fixing) (pending-push (before ++ fixing ∷ []) fixings last)
+    ∙ append_assoc (other_child ((before ++ fixing ∷ []) ++ fixings) last) (pending (before ++ fixing ∷ []) fixings) (other_child before fixing)
+    ∙ ap (λ front. other_child front last ++ (pending (before ++ fixing ∷ []) fixings ++ other_child before fixing)) (append_assoc before (fixing ∷ []) fixings)
+
+-- a walk that begins with a tree's nodes visits the tree, and goes on with the other places
+pub walk-preorder : (place : Node) (tree : Tree Leaf) (places : List Node) (nodes : List TreeNode)
+    → walk (place ∷ places) (preorder tree ++ nodes) ≡ visits place tree ++ walk places nodes
+walk-preorder place (Ends leaf) places nodes = refl
+walk-preorder place (Splits g t off on) places nodes =
+    let off_place = child place g t false in
+    let on_place = child place g t true in
+    ap (λ more. record { place = place; node = SplitNode g t } ∷ more)
+    (ap (λ rest. walk (off_place ∷ on_place ∷ places) rest) (append_assoc (preorder off) (preorder on) nodes)
+    ∙ walk-preorder off_place off (on_place ∷ places) (preorder on ++ nodes)
+    ∙ ap (λ rest. visits off_place off ++ rest) (walk-preorder on_place on places nodes)
+    ∙ sym (append_assoc (visits off_place off) (visits on_place on) (walk places nodes)))
+
+-- ---- a path's next place
+abbrev off_to_on : Fixing → Fixing
+off_to_on last = record { g = last.g; t = last.t; on = true }
+
+other-off : (before : List Fixing) (last : Fixing) → last.on ≡ false → other_child before last ≡ record { fixings = before ++ off_to_on last ∷ [] } ∷ []
+other-off before last off = ap (λ b. if b then [] else record { fixings = before ++ off_to_on last ∷ [] } ∷ []) off
+
+other-on : (before : List Fixing) (last : Fixing) → last.on ≡ true → other_child before last ≡ []
+other-on before last on = ap (λ b. if b then [] else record { fixings = before ++ off_to_on last ∷ [] } ∷ []) on
+
+-- the last decision, for the on-child, is left
+pub left-behind : (front whole : List Fixing) (last : Fixing) → whole ≡ front ++ last ∷ [] → last.on ≡ true → pending [] whole ≡ pending [] front
+left-behind front whole last e on =
+    ap (λ path. pending [] path) e ∙ pending-push [] front last ∙ ap (λ more. more ++ pending [] front) (other-on front last on)
+
+-- and one for the off-child gives way to the on-child
+pub turned : (front whole next : List Fixing) (last : Fixing) → whole ≡ front ++ last ∷ [] → last.on ≡ false
+    → next ≡ front ++ (record { g = last.g; t = last.t; on = true }) ∷ [] → pending [] whole ≡ places next
+turned front whole next last e off n =
+    ap (λ path. pending [] path) e ∙ pending-push [] front last ∙ ap (λ more. more ++ pending [] front) (other-off front last off)
+    ∙ ap (λ more. record { fixings = front ++ off_to_on last ∷ [] } ∷ more) (sym (left-behind front (front ++ off_to_on last ∷ []) (off_to_on last) refl refl))
+    ∙ ap (λ path. places path) (sym n)
+
+-- below a split comes the off-child, and then the on-child
+pub below : (path next : List Fixing) (g t : ℕ) → next ≡ path ++ (record { g = g; t = t; on = false }) ∷ []
+    → (nodes : List TreeNode) → walk (places path) (SplitNode g t ∷ nodes)
+    ≡ (record { place = record { fixings = path }; node = SplitNode g t }) ∷ walk (places next) nodes
+below path next g t n nodes =
+    let last : Fixing = record { g = g; t = t; on = false } in
+    ap (λ more. (record { place = record { fixings = path }; node = SplitNode g t }) ∷ walk (record { fixings = path ++ last ∷ [] } ∷ more) nodes)
+    (sym (pending-push [] path last ∙ ap (λ more. more ++ pending [] path) (other-off path last refl)))
+    ∙ ap (λ p. (record { place = record { fixings = path }; node = SplitNode g t }) ∷ walk (places p) nodes) (sym n)
+
+-- behind a leaf comes the next place
+pub behind : (path next : List Fixing) (leaf : Leaf) → pending [] path ≡ places next → (nodes : List TreeNode)
+    → walk (places path) (LeafNode leaf ∷ nodes) ≡ (record { place = record { fixings = path }; node = LeafNode leaf }) ∷ walk (places next) nodes
+behind path next leaf e nodes = ap (λ more. (record { place = record { fixings = path }; node = LeafNode leaf }) ∷ walk more nodes) e
+
+pub at_end : (path : List Fixing) (leaf : Leaf) → pending [] path ≡ [] → (nodes : List TreeNode)
+    → walk (places path) (LeafNode leaf ∷ nodes) ≡ (record { place = record { fixings = path }; node = LeafNode leaf }) ∷ []
+at_end path leaf e nodes = ap (λ more. (record { place = record { fixings = path }; node = LeafNode leaf }) ∷ walk more nodes) e

@@ -1,0 +1,65 @@
+-- Each step says what it says of any certificate that has the listing that was read.
+use Rattle.std.proofs.Common.{All, sym, ap, subst, ◌∙◌}
+use Rattle.std.proofs.lemmas.Bool.{true≢false}
+use Rattle.dual_model.specs.Laws.{IsClaimTrue}
+use Rattle.dual_model.proofs.Covers.{certificates_claim_truly}
+use Rattle.branch_tree.specs.Claims.{written_of}
+use Rattle.cert_check.specs.Answers.{is_none}
+use Rattle.cert_check.specs.inside.Nodes.{IsFirstCode}
+use Rattle.cert_check.specs.inside.Numbers.{HasLawfulNumbers}
+use Rattle.cert_check.proofs.Listed.{tables-from, schedule-from, claim-fits, refused-schedule, refused-8, refused-node, accepted, cost-is, bound-is, schedule-is}
+use Rattle.cert_check.proofs.certificate.check.Goals as goal
+
+pub returns-in-Err-clause-refused : goal.returns-in-Err-clause-refused
+returns-in-Err-clause-refused c = λ d e.
+    let fits = c.fits_instance.ensures.0 c.if-not-fits_instance.false in
+    let numbers = subst (λ tables. All HasLawfulNumbers tables) c.as_slice.ensures c.in_default.ensures in
+    refused-schedule c.args.instance.now d (written_of c.args.cert.now.schedule) c.in-Err.code
+    (tables-from c.args.instance.now d c.args.cert.now e c.requires.text fits numbers) (schedule-is d c.args.cert.now e) c.in-Err.ensures.refused
+
+pub returns-then-not-does_claim_fit-clause-refused : goal.returns-then-not-does_claim_fit-clause-refused
+returns-then-not-does_claim_fit-clause-refused c = λ d e.
+    let fits = c.fits_instance.ensures.0 c.if-not-fits_instance.false in
+    let numbers = subst (λ tables. All HasLawfulNumbers tables) c.as_slice.ensures c.in_default.ensures in
+    refused-8 c.args.instance.now d c.args.cert.now e
+    (schedule-from c.args.instance.now d c.args.cert.now e c.requires.text fits numbers c.in-Ok.cost c.in-Ok.ensures.cost)
+    (λ claim. true≢false (sym (c.does_claim_fit.ensures.1 claim) ∙ c.if-not-does_claim_fit.true))
+
+pub returns-in-Ok-Some-clause-refused : goal.returns-in-Ok-Some-clause-refused
+returns-in-Ok-Some-clause-refused c = λ d e.
+    let fits = c.fits_instance.ensures.0 c.if-not-fits_instance.false in
+    let numbers = subst (λ tables. All HasLawfulNumbers tables) c.as_slice.ensures c.in_default.ensures in
+    let schedule = schedule-from c.args.instance.now d c.args.cert.now e c.requires.text fits numbers c.in-Ok.cost c.in-Ok.ensures.cost in
+    let claim = claim-fits d c.args.cert.now e (c.does_claim_fit.ensures.0 c.if-not-does_claim_fit.false) in
+    refused-node c.args.instance.now d c.args.cert.now c.in-Ok-Some.code e (record { schedule = schedule; claim = claim })
+    (subst (λ found. IsFirstCode c.args.instance.now c.args.cert.now found) c.in-Ok-Some.field-0-is c.in-Ok-Some.ensures)
+
+pub returns-in-Ok-None-clause-holds : goal.returns-in-Ok-None-clause-holds
+returns-in-Ok-None-clause-holds c =
+    let fits = c.fits_instance.ensures.0 c.if-not-fits_instance.false in
+    let numbers = subst (λ tables. All HasLawfulNumbers tables) c.as_slice.ensures c.in_default.ensures in
+    record {
+      holds = λ d e.
+          let schedule = schedule-from c.args.instance.now d c.args.cert.now e c.requires.text fits numbers c.in-Ok.cost c.in-Ok.ensures.cost in
+          let claim = claim-fits d c.args.cert.now e (c.does_claim_fit.ensures.0 c.if-not-does_claim_fit.false) in
+          accepted c.args.instance.now d c.args.cert.now e c.requires.text (record { schedule = schedule; claim = claim })
+          (subst (λ found. IsFirstCode c.args.instance.now c.args.cert.now found) c.in-Ok-None.field-0-is c.in-Ok-None.ensures);
+      claimed = λ d e. record {
+        cost = cost-is d c.args.cert.now c.args.instance.now c.in-Ok.cost e c.in-Ok.ensures.cost;
+        bound = sym (bound-is d c.args.cert.now e);
+        infeasible = c.claims_infeasible.ensures ∙ ap is_none (sym (bound-is d c.args.cert.now e));
+      };
+    }
+
+pub returns-in-Ok-None-clause-claims : goal.returns-in-Ok-None-clause-claims
+returns-in-Ok-None-clause-claims c =
+    let fits = c.fits_instance.ensures.0 c.if-not-fits_instance.false in
+    let numbers = subst (λ tables. All HasLawfulNumbers tables) c.as_slice.ensures c.in_default.ensures in
+    let d = c.requires.text.certificate in
+    let e = c.requires.text.listed in
+    let schedule = schedule-from c.args.instance.now d c.args.cert.now e c.requires.text fits numbers c.in-Ok.cost c.in-Ok.ensures.cost in
+    let claim = claim-fits d c.args.cert.now e (c.does_claim_fit.ensures.0 c.if-not-does_claim_fit.false) in
+    subst (λ b. IsClaimTrue c.args.instance.now b) (bound-is d c.args.cert.now e)
+    (certificates_claim_truly c.args.instance.now d c.requires.lawful
+    (accepted c.args.instance.now d c.args.cert.now e c.requires.text (record { schedule = schedule; claim = claim })
+    (subst (λ found. IsFirstCode c.args.instance.now c.args.cert.now found) c.in-Ok-None.field-0-is c.in-Ok-None.ensures)))

@@ -1,0 +1,4 @@
+pub mod Visits
+pub mod Refusals
+pub mod inside
+pub mod Answers

@@ -1,0 +1,69 @@
+-- What the checks of leaves keep for one another, and the tests of a leaf's numbers. This project's own.
+use Rattle.std.specs.Prelude.{◌≡◌, ℕ, ◌<◌, ℤ, pos, ◌≤ℤ◌, ◌<ℤ◌, Option, Some, None, List, slice_get, length, MatchOption}
+use Rattle.uc_model.specs.Division.{IsFloor}
+use Rattle.uc_model.specs.Schedule.{thermal_count}
+use Rattle.uc_model.specs.declared.instance.Instance.{Instance}
+use Rattle.dual_model.specs.Fixings.{HasEmptyUnit}
+use Rattle.dual_model.specs.NodeValue.{IsNodeValue}
+use Rattle.dual_model.specs.declared.node.Node.{Node}
+use Rattle.dual_model.specs.declared.table.Table.{Table}
+use Rattle.leaf_values.specs.Entries.{AreEntriesOf}
+use Rattle.leaf_values.specs.declared.entries.TableEntries.{TableEntries}
+use Rattle.cert_text.specs.declared.cert.CertNode.{CertNode}
+use Rattle.cert_text.specs.declared.cert.CertNode.TheVariants as nodes
+use Rattle.cert_check.specs.declared.leaf.Leaves.{Leaves}
+use Rattle.cert_check.specs.declared.leaf.Loaded.{Loaded}
+
+-- a leaf, whose table or unit is there
+abbrev pub IsLeafNode : ℕ → ℕ → CertNode → Type 0
+IsLeafNode units tables (nodes.Split g t) = ⊥
+IsLeafNode units tables (nodes.Bound table) = table < tables
+IsLeafNode units tables (nodes.Ray table) = table < tables
+IsLeafNode units tables (nodes.Empty g) = g < units
+
+-- the entries are those of the table of that number
+abbrev pub AreOfNumber : Instance → List Table → ℕ → TableEntries → Type 0
+AreOfNumber instance tables number entries = (table : Table) → slice_get tables number ≡ Some table → AreEntriesOf instance table entries
+
+abbrev pub IsLoaded : Instance → List Table → Option Loaded → Type 0
+IsLoaded instance tables None = Unit {0}
+IsLoaded instance tables (Some loaded) = AreOfNumber instance tables loaded.table loaded.entries
+
+-- room for the walks and the fixes, and the entries of the table that was loaded last
+pub record IsReady (instance : Instance) (tables : List Table) (leaves : Leaves) : Type 0 where
+  pub room : leaves.walk ≡ instance.periods
+  pub fixes : length leaves.fixes.items ≡ thermal_count instance
+  pub loaded : IsLoaded instance tables leaves.loaded
+
+-- the value of the node at the table of that number, or none where a unit is empty
+abbrev pub IsValueAt : Instance → List Table → Node → ℕ → Option ℤ → Type 0
+IsValueAt instance tables node number value =
+    (table : Table) → slice_get tables number ≡ Some table → MatchOption value (HasEmptyUnit instance node) (IsNodeValue instance node table)
+
+-- the quotient of the value and the scale, rounded down, is the bound or more
+pub record HasFloorOf (k value bound : ℤ) : Type 0 where
+  pub floor : ℤ
+  pub is_floor : IsFloor value k floor
+  pub enough : bound ≤ℤ floor
+
+abbrev pub IsEnough : ℤ → ℤ → Option ℤ → Type 0
+IsEnough k bound None = Unit {0}
+IsEnough k bound (Some value) = HasFloorOf k value bound
+
+-- the table bounds by the bound where the node has that value
+pub record IsBounding (k bound : ℤ) (value : Option ℤ) : Type 0 where
+  pub scale : pos 0 <ℤ k
+  pub enough : IsEnough k bound value
+
+abbrev pub IsBoundingBy : ℤ → Option ℤ → Option ℤ → Type 0
+IsBoundingBy k value None = ⊥
+IsBoundingBy k value (Some bound) = IsBounding k bound value
+
+abbrev pub IsPositive : Option ℤ → Type 0
+IsPositive None = Unit {0}
+IsPositive (Some value) = pos 0 <ℤ value
+
+-- the table is a ray that excludes all where the node has that value
+pub record IsExcluding (k : ℤ) (value : Option ℤ) : Type 0 where
+  pub scale : k ≡ pos 0
+  pub positive : IsPositive value

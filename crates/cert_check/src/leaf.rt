@@ -1,0 +1,231 @@
+//! What a leaf of a certificate's tree claims, and whether it is so.
+
+ghost use Rattle.std.specs.Prelude.{◌≡◌, ◌↔◌, ◌<◌, List, pos, ◌<ℤ◌, ◌≤ℤ◌, All, IfOk, IsTrue, length};
+ghost use Rattle.uc_model.specs.Limits.{IsLawfulInstance};
+ghost use Rattle.uc_model.specs.Schedule.{thermal_count};
+ghost use Rattle.dual_model.specs.Cover.{Bound, Ray};
+ghost use Rattle.dual_model.specs.Prices.{IsLawfulTable};
+ghost use Rattle.dual_model.specs.declared.node.Node.{Node};
+ghost use Rattle.dual_model.specs.declared.table.Table.{Table};
+ghost use Rattle.cert_text.specs.Nodes.{LeafNode};
+ghost use Rattle.leaf_values.specs.Paths.{AreFixesOf, node_of as place_of};
+ghost use Rattle.cert_check.specs.Visits.{IsSound, IsSoundNode};
+ghost use Rattle.cert_check.specs.inside.Leaves.{AreOfNumber, HasFloorOf, IsBoundingBy, IsEnough, IsExcluding, IsLeafNode, IsLoaded, IsPositive, IsReady, IsValueAt};
+ghost use Rattle.cert_check.specs.inside.Nodes.{AreCheckable};
+ghost use Rattle.cert_check.specs.inside.Walks.{IsPath, visit_of};
+
+use cert_text::{Cert, CertNode};
+use dual_model::{Fix, Fixing, Table};
+use leaf_values::{TableEntries, fill_fixes, is_empty, load, undecided, value};
+use state_walk::Walk;
+use std::alloc::Global;
+use uc_model::{Instance, NoMemory, floor_div};
+
+/// The entries of the table of a number, from 0.
+#[derive(Debug, Drop)]
+pub(crate) struct Loaded {
+    table: u32,
+    entries: TableEntries,
+}
+
+/// What the leaves checked so far leave for the next ones: room for walks and for what a path decides, and the table that
+/// was loaded last.
+#[derive(Debug, Drop)]
+pub(crate) struct Leaves {
+    walk: Walk,
+    fixes: Vec<Fix>,
+    loaded: Option<Loaded>,
+}
+
+impl Leaves {
+    pub fn new(alloc: Global, instance: &Instance) -> Result<Leaves, NoMemory>
+        requires { IsLawfulInstance instance.now }
+        ensures { IfOk result (λ leaves. (tables : List Table) → IsReady instance.now tables leaves) }
+    {
+        Ok(Leaves {
+            walk: Walk::new(alloc, instance.periods as usize)?,
+            fixes: vec![in alloc; undecided(); instance.thermal.as_slice().len()]?,
+            loaded: None,
+        })
+    }
+
+    /// Whether the leaf at the path is what it claims.
+    pub fn is_sound(
+        &mut self,
+        alloc: Global,
+        instance: &Instance,
+        cert: &Cert,
+        path: &[Fixing],
+        leaf: &CertNode,
+    ) -> Result<bool, NoMemory>
+        requires lawful { IsLawfulInstance instance.now }
+        requires checkable { AreCheckable instance.now cert.now }
+        requires ready { IsReady instance.now cert.now.tables self.old }
+        requires path { IsPath instance.now path.now }
+        requires leaf { IsLeafNode (thermal_count instance.now) (length cert.now.tables) leaf.now }
+        ensures ready { IfOk result (λ sound. IsReady instance.now cert.now.tables self.new) }
+        ensures sound { IfOk result (λ sound. IsTrue sound ↔ IsSound instance.now cert.now.tables cert.now.bound (visit_of path.now leaf.now)) }
+    {
+        decide(&mut self.fixes, instance, path);
+        match leaf {
+            CertNode::Split { .. } => Ok(false),
+            CertNode::Bound(number) => self.is_bound(alloc, instance, cert, *number),
+            CertNode::Ray(number) => self.is_ray(alloc, instance, cert, *number),
+            CertNode::Empty(g) => {
+                is_empty(
+                    alloc,
+                    &mut self.walk,
+                    instance,
+                    *g,
+                    &self.fixes[*g as usize],
+                )
+            }
+        }
+    }
+
+    // Whether the table of that number bounds the cost of the schedules at the node by what is claimed.
+    fn is_bound(
+        &mut self,
+        alloc: Global,
+        instance: &Instance,
+        cert: &Cert,
+        number: u32,
+    ) -> Result<bool, NoMemory>
+        requires lawful { IsLawfulInstance instance.now }
+        requires checkable { AreCheckable instance.now cert.now }
+        requires ready { IsReady instance.now cert.now.tables self.old }
+        requires number { number < length cert.now.tables }
+        ensures ready { IfOk result (λ sound. IsReady instance.now cert.now.tables self.new) }
+        ensures sound { IfOk result (λ sound. (place : Node) → AreFixesOf instance.now place self.old.fixes.items
+            → IsTrue sound ↔ IsSoundNode instance.now cert.now.tables cert.now.bound place (LeafNode (Bound number))) }
+    {
+        let tables = cert.tables.as_slice();
+        let value = self.value_at(alloc, instance, tables, number)?;
+        Ok(bounds(&tables[number as usize], &cert.bound, &value))
+    }
+
+    // Whether the table of that number is a ray that leaves no schedule at the node.
+    fn is_ray(
+        &mut self,
+        alloc: Global,
+        instance: &Instance,
+        cert: &Cert,
+        number: u32,
+    ) -> Result<bool, NoMemory>
+        requires lawful { IsLawfulInstance instance.now }
+        requires checkable { AreCheckable instance.now cert.now }
+        requires ready { IsReady instance.now cert.now.tables self.old }
+        requires number { number < length cert.now.tables }
+        ensures ready { IfOk result (λ sound. IsReady instance.now cert.now.tables self.new) }
+        ensures sound { IfOk result (λ sound. (place : Node) → AreFixesOf instance.now place self.old.fixes.items
+            → IsTrue sound ↔ IsSoundNode instance.now cert.now.tables cert.now.bound place (LeafNode (Ray number))) }
+    {
+        let tables = cert.tables.as_slice();
+        let value = self.value_at(alloc, instance, tables, number)?;
+        Ok(excludes(&tables[number as usize], &value))
+    }
+
+    // The value of the node at the table of that number, which is loaded if another one was.
+    fn value_at(
+        &mut self,
+        alloc: Global,
+        instance: &Instance,
+        tables: &[Table],
+        number: u32,
+    ) -> Result<Option<i128>, NoMemory>
+        requires lawful { IsLawfulInstance instance.now }
+        requires tables { All (IsLawfulTable instance.now) tables.now }
+        requires ready { IsReady instance.now tables.now self.old }
+        requires number { number < length tables.now }
+        ensures ready { IfOk result (λ value. IsReady instance.now tables.now self.new) }
+        ensures value { IfOk result (λ value. (place : Node) → AreFixesOf instance.now place self.old.fixes.items
+            → IsValueAt instance.now tables.now place number value) }
+    {
+        let kept = self.loaded.take();
+        let mut entries = entries_of(alloc, kept, &mut self.walk, instance, tables, number)?;
+        let value = value(&mut entries, &mut self.walk, instance, &self.fixes);
+        self.loaded = Some(Loaded {
+            table: number,
+            entries,
+        });
+        Ok(value)
+    }
+}
+
+// Writes what the path decides of each unit.
+fn decide(fixes: &mut Vec<Fix>, instance: &Instance, path: &[Fixing])
+    requires lawful { IsLawfulInstance instance.now }
+    requires count { length fixes.old.items ≡ thermal_count instance.now }
+    requires path { IsPath instance.now path.now }
+    ensures { AreFixesOf instance.now (place_of path.now) fixes.new.items }
+{
+    fill_fixes(fixes.as_mut_slice(), path);
+}
+
+// The entries of the table of that number: those that were kept, if they are its, or else new ones.
+fn entries_of(
+    alloc: Global,
+    kept: Option<Loaded>,
+    walk: &mut Walk,
+    instance: &Instance,
+    tables: &[Table],
+    number: u32,
+) -> Result<TableEntries, NoMemory>
+    requires lawful { IsLawfulInstance instance.now }
+    requires tables { All (IsLawfulTable instance.now) tables.now }
+    requires kept { IsLoaded instance.now tables.now kept }
+    requires number { number < length tables.now }
+    requires room { walk.old ≡ instance.now.periods }
+    ensures room { walk.new ≡ walk.old }
+    ensures entries { IfOk result (AreOfNumber instance.now tables.now number) }
+{
+    if let Some(loaded) = kept {
+        if loaded.table == number {
+            return Ok(loaded.entries);
+        }
+    }
+    load(alloc, walk, instance, &tables[number as usize])
+}
+
+// Whether the table bounds by what is claimed where the node has that value.
+fn bounds(table: &Table, bound: &Option<i128>, value: &Option<i128>) -> bool
+    ensures { IsTrue result ↔ IsBoundingBy table.now.k value.now bound.now }
+{
+    match bound {
+        Some(bound) => table.k() > 0 && is_enough(table, bound, value),
+        None => false,
+    }
+}
+
+fn is_enough(table: &Table, bound: &i128, value: &Option<i128>) -> bool
+    requires { pos 0 <ℤ table.now.k }
+    ensures { IsTrue result ↔ IsEnough table.now.k bound.now value.now }
+{
+    match value {
+        Some(value) => is_floor_enough(table, *bound, *value),
+        None => true,
+    }
+}
+
+fn is_floor_enough(table: &Table, bound: i128, value: i128) -> bool
+    requires { pos 0 <ℤ table.now.k }
+    ensures { IsTrue result ↔ HasFloorOf table.now.k value bound }
+{
+    floor_div(value, i128::from(table.k())) >= bound
+}
+
+// Whether the table is a ray that excludes all where the node has that value.
+fn excludes(table: &Table, value: &Option<i128>) -> bool
+    ensures { IsTrue result ↔ IsExcluding table.now.k value.now }
+{
+    table.k() == 0 && is_positive(value)
+}
+
+fn is_positive(value: &Option<i128>) -> bool
+    ensures { IsTrue result ↔ IsPositive value.now }
+{
+    match value {
+        Some(value) => *value > 0,
+        None => true,
+    }
+}

@@ -1,0 +1,67 @@
+//! The signs and sizes of the numbers of price tables.
+
+ghost use Rattle.std.specs.Prelude.{◌≡◌, ◌↔◌, IsTrue, All};
+ghost use Rattle.dual_model.specs.Prices.{IsPrice};
+ghost use Rattle.cert_check.specs.inside.Numbers.{HasLawfulNumbers, IsFirstOffOf, IsLawfulRampRow, IsSignedPrice};
+
+use dual_model::limits::{MAX_PRICE, MAX_SCALE};
+use dual_model::{RampRow, Table};
+
+/// The first table, from 0, with a number past its limit or of the wrong sign.
+pub(crate) fn first_off(tables: &[Table]) -> Option<usize>
+    ensures { IsFirstOffOf tables.now result }
+{
+    for i in 0..tables.len() {
+        if !is_lawful(&tables[i]) {
+            return Some(i);
+        }
+    }
+    None
+}
+
+// Whether the numbers are within the limits, and the multipliers of inequalities at least 0.
+fn is_lawful(table: &Table) -> bool
+    ensures { IsTrue result ↔ HasLawfulNumbers table.now }
+{
+    table.k() <= MAX_SCALE
+        && are_prices(table.pi())
+        && are_signed_prices(table.mu())
+        && are_lawful_rows(table.ramps())
+}
+
+fn are_prices(prices: &[i64]) -> bool
+    ensures { IsTrue result ↔ All IsPrice prices.now }
+{
+    prices.iter().all(|price| is_price(price))
+}
+
+fn are_signed_prices(prices: &[i64]) -> bool
+    ensures { IsTrue result ↔ All IsSignedPrice prices.now }
+{
+    prices.iter().all(|price| is_signed_price(price))
+}
+
+fn are_lawful_rows(rows: &[RampRow]) -> bool
+    ensures { IsTrue result ↔ All IsLawfulRampRow rows.now }
+{
+    rows.iter().all(|row| is_lawful_row(row))
+}
+
+fn is_lawful_row(row: &RampRow) -> bool
+    ensures { IsTrue result ↔ IsLawfulRampRow row.now }
+{
+    is_signed_price(&row.up) && is_signed_price(&row.down)
+}
+
+fn is_signed_price(price: &i64) -> bool
+    ensures { IsTrue result ↔ IsSignedPrice price.now }
+{
+    0 <= *price && is_price(price)
+}
+
+// Whether a number is within the limit of prices.
+fn is_price(price: &i64) -> bool
+    ensures { IsTrue result ↔ IsPrice price.now }
+{
+    price.unsigned_abs() <= MAX_PRICE
+}
