@@ -37,7 +37,7 @@ fn put_state<O: Out>(out: &mut O, closed: bool)
     }
 }
 
-fn put_bound<O: Out>(out: &mut O, bound: &Option<i128>)
+pub(crate) fn put_bound<O: Out>(out: &mut O, bound: &Option<i128>)
     ensures { O.emits (bound_line bound.now) out.old out.new }
 {
     if let Some(bound) = bound {

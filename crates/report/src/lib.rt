@@ -2,6 +2,7 @@
 //! error output. No call takes memory.
 #![tactic(auto, unfolding(outside::specs::Lines::line, outside::specs::Lines::list_line))]
 
+mod claims;
 pub mod fault;
 mod fault_text;
 mod found;
@@ -9,6 +10,7 @@ mod names;
 mod schedule;
 mod stuck;
 
+pub use claims::write_claims;
 pub use fault::Fault;
 pub use fault_text::write_fault;
 pub use found::write_found;
