@@ -9,7 +9,8 @@ use Rattle.outside.specs.Slots.{SlotState, SameBut}
 use Rattle.outside.specs.Sinks.{SinkState}
 use Rattle.branch_tree.specs.declared.found.Found.{Found}
 use Rattle.uc_cli.specs.Writing.{IsSaved, FailsToSave, IsTold, FailsToTell, text_of_certificate, text_of_report}
-use Rattle.uc_cli.specs.Run.{outside_of, IsAnswer, IsDone, IsUnsaved, IsUntold}
+use Rattle.uc_cli.specs.Outside.{outside_of}
+use Rattle.uc_cli.specs.Run.{IsAnswer, IsDone, IsUnsaved, IsUntold}
 
 -- what holds of a result, by its test
 pub at_err : {T E P : Type 0} (result : Result T E) → is_err result ≡ true → OnErr result P → P

@@ -7,11 +7,11 @@ use Rattle.outside.specs.declared.reading.SlurpFault.{SlurpFault}
 use Rattle.outside.specs.declared.reading.SlurpFault.TheVariants.{Failed, TooLong, NoMemory}
 use Rattle.outside.specs.Slots.{SlotState, CountsFault}
 use Rattle.outside.specs.Reading.{Reads, ReadsAll, ReadsBeyond, ReadsSome, FailsToRead}
-use Rattle.uc_cli.specs.Reading.{most_bytes, IsOnlyRead}
+use Rattle.uc_cli.specs.Reading.{IsOnlyRead}
 
-from_reads : (name taken : List ℕ) (old new : SlotState) → Reads name taken old new → length taken ≤ most_bytes + 1
-    → IsOnlyRead old new
-from_reads name taken old new reads few = record {
+from_reads : (most : ℕ) (name taken : List ℕ) (old new : SlotState) → Reads name taken old new → length taken ≤ most + 1
+    → IsOnlyRead most old new
+from_reads most name taken old new reads few = record {
   unwritten = ap (λ (s : SlotState). s.written) (sym reads);
   unfinished = λ e. let open_stage = ap (λ (s : SlotState). s.stage) reads in cc;
   taken = taken;
@@ -20,8 +20,8 @@ from_reads name taken old new reads few = record {
 }
 
 -- a counted fault changes nothing else
-at_fault : (old middle new : SlotState) → IsOnlyRead old middle → CountsFault middle new → IsOnlyRead old new
-at_fault old middle new read fault = record {
+at_fault : (most : ℕ) (old middle new : SlotState) → IsOnlyRead most old middle → CountsFault middle new → IsOnlyRead most old new
+at_fault most old middle new read fault = record {
   unwritten = ap (λ (s : SlotState). s.written) fault.same ∙ read.unwritten;
   unfinished = λ e. read.unfinished (sym (ap (λ (s : SlotState). s.stage) fault.same) ∙ e);
   taken = read.taken;
@@ -33,8 +33,8 @@ nothing_taken : (left : Option (List ℕ)) → option_map (λ rest. [] ++ rest) 
 nothing_taken None = λ i. None
 nothing_taken (Some rest) = λ i. Some rest
 
-untouched : (old : SlotState) → old.stage ≡ Unopened → IsOnlyRead old old
-untouched old unopened = record {
+pub untouched : (most : ℕ) (old : SlotState) → old.stage ≡ Unopened → IsOnlyRead most old old
+untouched most old unopened = record {
   unwritten = λ i. old.written;
   unfinished = λ e. cc;
   taken = [];
@@ -42,23 +42,25 @@ untouched old unopened = record {
   few = omega arith;
 }
 
-failed_read : (name : List ℕ) (old new : SlotState) → old.stage ≡ Unopened → FailsToRead name most_bytes old new → IsOnlyRead old new
-failed_read name old new unopened fails = ⊎_elim
-    (λ (fault : CountsFault old new). at_fault old old new (untouched old unopened) fault)
-    (λ (later : (middle : SlotState) × ReadsSome name most_bytes old middle × CountsFault middle new).
-    at_fault old later.0 new (from_reads name later.1.taken old later.0 later.1.reads later.1.within) later.2)
+failed_read : (most : ℕ) (name : List ℕ) (old new : SlotState) → old.stage ≡ Unopened → FailsToRead name most old new
+    → IsOnlyRead most old new
+failed_read most name old new unopened fails = ⊎_elim
+    (λ (fault : CountsFault old new). at_fault most old old new (untouched most old unopened) fault)
+    (λ (later : (middle : SlotState) × ReadsSome name most old middle × CountsFault middle new).
+    at_fault most old later.0 new (from_reads most name later.1.taken old later.0 later.1.reads later.1.within) later.2)
     fails.cause
 
-pub only_read : {V : Type 0} (items : V → List ℕ) (name : List ℕ) (result : Result V SlurpFault) (old new : SlotState) → old.stage ≡ Unopened
-    → IfOk result (λ bytes. ReadsAll name most_bytes (items bytes) old new)
-    → (result ≡ Err TooLong → ReadsBeyond name most_bytes old new)
-    → (result ≡ Err NoMemory → ReadsSome name most_bytes old new)
-    → (result ≡ Err Failed → FailsToRead name most_bytes old new)
-    → IsOnlyRead old new
-only_read items name (Ok bytes) old new unopened all beyond some fails =
-    from_reads name (items bytes) old new all.reads (omega (arith, all.within))
-only_read items name (Err Failed) old new unopened all beyond some fails = failed_read name old new unopened (fails (λ i. Err Failed))
-only_read items name (Err TooLong) old new unopened all beyond some fails =
-    let read = beyond (λ i. Err TooLong) in from_reads name read.taken old new read.reads (omega (arith, read.beyond))
-only_read items name (Err NoMemory) old new unopened all beyond some fails =
-    let read = some (λ i. Err NoMemory) in from_reads name read.taken old new read.reads read.within
+pub only_read : {V : Type 0} (items : V → List ℕ) (most : ℕ) (name : List ℕ) (result : Result V SlurpFault) (old new : SlotState)
+    → old.stage ≡ Unopened
+    → IfOk result (λ bytes. ReadsAll name most (items bytes) old new)
+    → (result ≡ Err TooLong → ReadsBeyond name most old new)
+    → (result ≡ Err NoMemory → ReadsSome name most old new)
+    → (result ≡ Err Failed → FailsToRead name most old new)
+    → IsOnlyRead most old new
+only_read items most name (Ok bytes) old new unopened all beyond some fails =
+    from_reads most name (items bytes) old new all.reads (omega (arith, all.within))
+only_read items most name (Err Failed) old new unopened all beyond some fails = failed_read most name old new unopened (fails (λ i. Err Failed))
+only_read items most name (Err TooLong) old new unopened all beyond some fails =
+    let read = beyond (λ i. Err TooLong) in from_reads most name read.taken old new read.reads (omega (arith, read.beyond))
+only_read items most name (Err NoMemory) old new unopened all beyond some fails =
+    let read = some (λ i. Err NoMemory) in from_reads most name read.taken old new read.reads read.within

@@ -1,7 +1,9 @@
 -- What the words of the command line ask for. This project's own commands.
-use Rattle.std.specs.Prelude.{ℕ, Bool, false, not, ◌&&◌, ◌||◌, ◌==◌, List, [], ◌∷◌, Option, Some, None, codes, length, slice_index_or, if◌then◌else◌}
-use Rattle.std.specs.Option.{option_map}
+use Rattle.std.specs.Prelude.{ℕ, Bool, false, List, [], Option, Some, None, codes, unwrap_or, option_and_then, if◌then◌else◌}
+use Rattle.std.specs.Option.{option_map_or}
 use Rattle.std.specs.Str.{bytes_eq}
+use Rattle.clap.specs.Words.{Row, Text, first_of, subcommand_of}
+use Rattle.uc_cli.specs.Arguments.{program, is_taken}
 
 -- what `solve` is asked: the instance's file, the certificate's, and whether a rounded number is refused
 pub record Solve : Type 0 where
@@ -9,38 +11,40 @@ pub record Solve : Type 0 where
   pub certificate : List ℕ
   pub exact : Bool
 
+-- what `check` is asked: the instance's file, and the certificate's
+pub record Check : Type 0 where
+  pub instance : List ℕ
+  pub certificate : List ℕ
+
 -- what the program does
 pub data Command : Type 0 where
   Solves : Solve → Command
+  Checks : Check → Command
 
--- a word that names a file: not empty, and no option
-abbrev pub is_name : List ℕ → Bool
-is_name [] = false
-is_name (byte ∷ bytes) = not (byte == 45)
+-- the value of an argument that has to be given, and so is
+abbrev pub value_of : Text → List Row → List ℕ
+value_of id rows = unwrap_or (first_of id rows) []
 
--- a word by its place, from 0, at which the program's name stands
-abbrev pub word_at : List (List ℕ) → ℕ → List ℕ
-word_at words i = slice_index_or words i []
+-- whether a switch is given
+abbrev pub is_on : Text → List Row → Bool
+is_on id rows = option_map_or (λ text. bytes_eq text (codes "true")) (first_of id rows) false
 
-abbrev pub is_word : List (List ℕ) → ℕ → List ℕ → Bool
-is_word words i text = bytes_eq (word_at words i) text
+abbrev pub solve_of : List Row → Solve
+solve_of rows = record {
+  instance = value_of (codes "instance") rows;
+  certificate = value_of (codes "cert") rows;
+  exact = is_on (codes "exact") rows;
+}
 
--- the words from the second to the seventh are `solve FILE --cert CERT --units 1`
-unfoldable pub is_solve : List (List ℕ) → Bool
-is_solve words =
-    is_word words 1 (codes "solve") && is_name (word_at words 2)
-    && is_word words 3 (codes "--cert") && is_name (word_at words 4)
-    && is_word words 5 (codes "--units") && is_word words 6 (codes "1")
+abbrev pub check_of : List Row → Check
+check_of rows = record { instance = value_of (codes "instance") rows; certificate = value_of (codes "certificate") rows }
 
--- these are all, or `--exact` follows as the eighth
-unfoldable pub is_complete : List (List ℕ) → Bool
-is_complete words = (length words == 7) || ((length words == 8) && is_word words 7 (codes "--exact"))
+-- the command of a name, with what was found for its arguments
+abbrev pub named : Text × List Row → Option Command
+named given =
+    if bytes_eq given.0 (codes "solve") then Some (Solves (solve_of given.1))
+    else (if bytes_eq given.0 (codes "check") then Some (Checks (check_of given.1)) else None)
 
-abbrev pub solve_of : List (List ℕ) → Option Solve
-solve_of words =
-    if is_complete words && is_solve words
-    then Some (record { instance = word_at words 2; certificate = word_at words 4; exact = length words == 8 }) else None
-
--- the command that the words ask for, and none where they ask for nothing that the program does
-abbrev pub command_of : List (List ℕ) → Option Command
-command_of words = option_map Solves (solve_of words)
+-- the command that the words ask for, where they are taken: then there is one
+unfoldable pub command_of : List Text → Option Command
+command_of words = if is_taken words then option_and_then named (subcommand_of program words) else None

@@ -43,16 +43,16 @@ pub record HasNoInstance (exact : Bool) (old new : SlotState) (fault : ReadFault
   pub refused : IsRefused exact bytes fault
   pub calm : new.faults ≡ old.faults
 
--- the instance's file has more bytes than are read, where they are told, and reading it met no fault
-pub record IsLong (old new : SlotState) : Type 0 where
-  pub long : IfSome old.left (λ bytes. most_bytes < length bytes)
+-- the file has more bytes than are read, where they are told, and reading it met no fault
+pub record IsLong (most : ℕ) (old new : SlotState) : Type 0 where
+  pub long : IfSome old.left (λ bytes. most < length bytes)
   pub calm : new.faults ≡ old.faults
 
 -- the cause of a fault that comes before anything is written, by the instance's file before and after
 abbrev pub HasCause : Bool → SlotState → SlotState → Fault → Type 0
 HasCause exact old new (Read slot.Instance) = HasRisen old.faults new.faults
 HasCause exact old new Memory = ⊤
-HasCause exact old new (Long slot.Instance) = IsLong old new
+HasCause exact old new (Long slot.Instance) = IsLong most_bytes old new
 HasCause exact old new (Json at kind) = HasNoInstance exact old new (read_fault.Json at kind)
 HasCause exact old new (Refused refusal) = HasNoInstance exact old new (read_fault.Refused refusal)
 HasCause exact old new _ = ⊥
@@ -69,10 +69,10 @@ abbrev pub IsOpenedByNoOther : List ℕ → SlotState → SlotState → Type 0
 IsOpenedByNoOther name old new = (new.stage ≡ Unopened) ⊎ (new.naming ≡ option_map (matched name) old.naming)
 
 -- a slot that is only read: it is neither written nor finished, and of its bytes, where they are told, at most one
--- more was taken than a file may have
-pub record IsOnlyRead (old new : SlotState) : Type 0 where
+-- more was taken than its file may have
+pub record IsOnlyRead (most : ℕ) (old new : SlotState) : Type 0 where
   pub unwritten : new.written ≡ old.written
   pub unfinished : new.stage ≢ Finished
   pub taken : List ℕ
   pub left : option_map (λ rest. taken ++ rest) new.left ≡ old.left
-  pub few : length taken ≤ most_bytes + 1
+  pub few : length taken ≤ most + 1

@@ -6,7 +6,6 @@ use Rattle.dual_model.specs.Laws.{IsClaimTrue}
 use Rattle.outside.specs.declared.slot.Slot.{Slot}
 use Rattle.outside.specs.declared.slot.Slot.TheVariants as slot
 use Rattle.outside.specs.Slots.{SlotState}
-use Rattle.outside.specs.Sinks.{SinkState}
 use Rattle.branch_tree.specs.StoredTree.{tree_bound}
 use Rattle.branch_tree.specs.Closing.{status_of}
 use Rattle.branch_tree.specs.Claims.{certificate_of}
@@ -16,20 +15,13 @@ use Rattle.cert_text.specs.TextConditions.{HasText}
 use Rattle.branch_tree.specs.declared.found.Found.{Found}
 use Rattle.report.specs.FaultText as fault_text
 use Rattle.report.specs.declared.fault.Fault.{Fault}
-use Rattle.report.specs.declared.fault.Fault.TheVariants.{Words, Write}
-use Rattle.uc_cli.specs.Command.{Solve, Command, Solves}
-use Rattle.uc_cli.specs.Reading.{HasInstance, HasCause, IsOpenedByNoOther, IsOnlyRead}
+use Rattle.report.specs.declared.fault.Fault.TheVariants.{Words, Write, Memory}
+use Rattle.uc_cli.specs.Outside.{Outside}
+use Rattle.uc_cli.specs.Command.{Solve, Command, Solves, Checks}
+use Rattle.uc_cli.specs.Reading.{most_bytes, HasInstance, HasCause, IsOpenedByNoOther, IsOnlyRead}
+use Rattle.uc_cli.specs.Checking.{IsCheckRun}
 use Rattle.uc_cli.specs.Writing.{default_gap, text_of_certificate, text_of_report, IsSaved, FailsToSave, IsTold, FailsToTell, TellsFault}
 use Rattle.uc_cli.specs.declared.program.End.{End}
-
--- the outside of a run, as far as its traits tell it: the files, the output and the error output
-pub record Outside : Type 0 where
-  pub files : Slot → SlotState
-  pub out : SinkState
-  pub err : SinkState
-
-abbrev pub outside_of : (Slot → SlotState) → SinkState → SinkState → Outside
-outside_of files out err = record { files = files; out = out; err = err }
 
 -- an answer for the instance in the file: what was found, that its bound, or that there is no schedule, is true of
 -- every schedule, and that its certificate has a text of the grammar
@@ -80,7 +72,7 @@ IsFailure exact before after fault (Some found) = ⊥
 -- each slot that isn't unopened was opened by its name in the words; the instance is only read, and no certificate is
 pub record KeepsToFiles (asked : Solve) (before after : Outside) : Type 0 where
   pub instance : IsOpenedByNoOther asked.instance (before.files slot.Instance) (after.files slot.Instance)
-  pub read : IsOnlyRead (before.files slot.Instance) (after.files slot.Instance)
+  pub read : IsOnlyRead most_bytes (before.files slot.Instance) (after.files slot.Instance)
   pub certificate : IsOpenedByNoOther asked.certificate (before.files slot.CertOut) (after.files slot.CertOut)
   pub other : after.files slot.CertIn ≡ before.files slot.CertIn
 
@@ -107,11 +99,16 @@ pub record IsSolveRun (asked : Solve) (before after : Outside) (end : End) : Typ
 -- a run of the command
 abbrev pub IsRun : Command → Outside → Outside → End → Type 0
 IsRun (Solves asked) before after end = IsSolveRun asked before after end
+IsRun (Checks asked) before after end = IsCheckRun asked before after end
 
--- the words ask for nothing that the program does: it tells how it is called, and touches nothing else
-pub record IsUsage (before after : Outside) (end : End) : Type 0 where
-  pub code : end.code ≡ 5
+-- the run ended at its words with this fault: it told it, and touched nothing else
+pub record IsTurnedAway (fault : Fault) (before after : Outside) (end : End) : Type 0 where
+  pub code : end.code ≡ fault_text.status_of fault
   pub nothing : end.found ≡ None
   pub files : after.files ≡ before.files
   pub out : after.out ≡ before.out
-  pub told : TellsFault Words before.err after.err
+  pub told : TellsFault fault before.err after.err
+
+-- the words aren't taken: the run tells how the program is called, or that memory was refused
+abbrev pub IsUsage : Outside → Outside → End → Type 0
+IsUsage before after end = IsTurnedAway Words before after end ⊎ IsTurnedAway Memory before after end

@@ -1,8 +1,16 @@
 //! What the words of the command line ask for.
 
-ghost use Rattle.std.specs.Prelude.{◌≡◌, ◌<◌, ◌≤◌, map, length, string_bytes, IsTrue, MatchOption, Some};
-ghost use Rattle.uc_cli.specs.Command.{word_at, is_word, is_name, is_solve as is_solve_words, is_complete as is_complete_words, command_of, Solves};
-ghost use Rattle.uc_cli.specs.inside.Asked.{solve_asked};
+ghost use Rattle.std.specs.Prelude.{◌≡◌, map, string_bytes, true, IfOk, IfErr, Some, option_map, option_and_then};
+ghost use Rattle.clap.specs.Words.{first_of, found_of, rows_of, kind_of, subcommand_rows_of};
+ghost use Rattle.uc_cli.specs.Arguments.{is_taken};
+ghost use Rattle.uc_cli.specs.Command.{named, command_of as command_of_words, value_of, is_on, solve_of as solve_of_rows, check_of as check_of_rows};
+ghost use Rattle.uc_cli.specs.inside.Asked.{command_asked, solve_asked, check_asked, refusal_of, IsRefusal};
+
+use crate::arguments::program;
+use clap::error::ErrorKind;
+use clap::{ArgMatches, Error};
+use report::Fault;
+use std::alloc::Global;
 
 /// What `solve` is asked: the file of the instance, that of the certificate, and whether a rounded number
 /// is refused.
@@ -13,69 +21,105 @@ pub(crate) struct Solve<'a> {
     pub exact: bool,
 }
 
-fn word(words: &[String], place: usize) -> &str
-    requires { place < length words.now }
-    ensures { result.now ≡ word_at (map string_bytes words.now) place }
-{
-    words[place].as_str()
+/// What `check` is asked: the file of the instance, and that of the certificate.
+#[derive(Clone, Copy, Debug)]
+pub(crate) struct Check<'a> {
+    pub instance: &'a str,
+    pub certificate: &'a str,
 }
 
-fn has_word(words: &[String], place: usize, text: &str) -> bool
-    requires { place < length words.now }
-    ensures { result ≡ is_word (map string_bytes words.now) place text.now }
-{
-    word(words, place) == text
+/// A command with its arguments.
+#[derive(Clone, Copy, Debug)]
+pub(crate) enum Command<'a> {
+    Solve(Solve<'a>),
+    Check(Check<'a>),
 }
 
-// A word that names a file: not empty, and no option.
-fn has_name(words: &[String], place: usize) -> bool
-    requires { place < length words.now }
-    ensures { result ≡ is_name (word_at (map string_bytes words.now) place) }
+// The value of an argument, where it has one.
+fn text<'a>(given: &ArgMatches<'a>, id: &str) -> Option<&'a str>
+    ensures { option_map (λ s. s.now) result ≡ first_of id.now (rows_of (found_of given.now)) }
 {
-    match word(words, place).as_bytes() {
-        [] => false,
-        [first, ..] => *first != b'-',
+    given.get_str(id)
+}
+
+// The value of an argument that has to be given.
+fn value<'a>(given: &ArgMatches<'a>, id: &str) -> &'a str
+    ensures { result.now ≡ value_of id.now (rows_of (found_of given.now)) }
+{
+    match text(given, id) {
+        Some(text) => text,
+        None => "",
     }
 }
 
-#[tactic(auto, unfolding(crate::specs::Command::is_solve))]
-fn is_solve(words: &[String]) -> bool
-    requires { 7 ≤ length words.now }
-    ensures { result ≡ is_solve_words (map string_bytes words.now) }
+// Whether a switch is given.
+fn is_given(given: &ArgMatches<'_>, id: &str) -> bool
+    ensures { result ≡ is_on id.now (rows_of (found_of given.now)) }
 {
-    let command = has_word(words, 1, "solve");
-    let instance = has_name(words, 2);
-    let option = has_word(words, 3, "--cert");
-    let certificate = has_name(words, 4);
-    let units = has_word(words, 5, "--units");
-    let number = has_word(words, 6, "1");
-    command && instance && option && certificate && units && number
-}
-
-#[tactic(auto, unfolding(crate::specs::Command::is_complete))]
-fn is_complete(words: &[String]) -> bool
-    ensures value { result ≡ is_complete_words (map string_bytes words.now) }
-    ensures long { IsTrue result → 7 ≤ length words.now }
-{
-    match words.len() {
-        7 => true,
-        8 => has_word(words, 7, "--exact"),
-        _ => false,
+    match text(given, id) {
+        Some(text) => text == "true",
+        None => false,
     }
 }
 
-/// What `solve` is asked, where the words are `solve FILE --cert CERT --units 1` or these with `--exact`
-/// behind them. No other words are a command yet.
-pub(crate) fn solve_of(words: &[String]) -> Option<Solve<'_>>
-    ensures { MatchOption result (command_of (map string_bytes words.now) ≡ None)
-        (λ solve. command_of (map string_bytes words.now) ≡ Some (Solves (solve_asked solve))) }
+fn solve_of<'a>(given: &ArgMatches<'a>) -> Solve<'a>
+    ensures { solve_asked result ≡ solve_of_rows (rows_of (found_of given.now)) }
 {
-    if !is_complete(words) || !is_solve(words) {
-        return None;
+    Solve {
+        instance: value(given, "instance"),
+        certificate: value(given, "cert"),
+        exact: is_given(given, "exact"),
     }
-    Some(Solve {
-        instance: word(words, 2),
-        certificate: word(words, 4),
-        exact: words.len() == 8,
-    })
+}
+
+fn check_of<'a>(given: &ArgMatches<'a>) -> Check<'a>
+    ensures { check_asked result ≡ check_of_rows (rows_of (found_of given.now)) }
+{
+    Check {
+        instance: value(given, "instance"),
+        certificate: value(given, "certificate"),
+    }
+}
+
+// The command that was found, with its arguments.
+fn command_in<'a>(matches: &ArgMatches<'a>) -> Option<Command<'a>>
+    ensures { option_map command_asked result ≡ option_and_then named (subcommand_rows_of matches.now) }
+{
+    let (name, given) = matches.subcommand()?;
+    if name == "solve" {
+        Some(Command::Solve(solve_of(given)))
+    } else if name == "check" {
+        Some(Command::Check(check_of(given)))
+    } else {
+        None
+    }
+}
+
+// Words that aren't taken are told by one line for each command, whatever is wrong with them.
+fn refusal(error: &Error) -> Fault
+    ensures { result ≡ refusal_of (kind_of error.now) }
+{
+    match error.kind() {
+        ErrorKind::OutOfMemory => Fault::Memory,
+        _ => Fault::Words,
+    }
+}
+
+/// What the words ask for, of which the first is the program's name. `Words` comes exactly where the words aren't
+/// taken, and `Memory` only where memory is refused.
+pub(crate) fn command_of<'a>(alloc: Global, words: &'a [String]) -> Result<Command<'a>, Fault>
+    ensures taken { IfOk result (λ _. is_taken (map string_bytes words.now) ≡ true) }
+    ensures command { IfOk result (λ command. command_of_words (map string_bytes words.now) ≡ Some (command_asked command)) }
+    ensures refused { IfErr result (IsRefusal (map string_bytes words.now)) }
+{
+    let Ok(program) = program(alloc) else {
+        return Err(Fault::Memory);
+    };
+    match program.try_get_matches_from(words) {
+        Ok(matches) => match command_in(&matches) {
+            Some(command) => Ok(command),
+            None => Err(Fault::Words),
+        },
+        Err(error) => Err(refusal(&error)),
+    }
 }

@@ -30,7 +30,7 @@ fn instance_bytes<F: Files>(
     ensures cause { IfErr result (HasCause exact (F.state files.old Slot.Instance) (F.state files.new Slot.Instance)) }
     ensures calm { IfOk result (λ _. (F.state files.new Slot.Instance).faults ≡ (F.state files.old Slot.Instance).faults) }
     ensures named { IsOpenedByNoOther name.now (F.state files.old Slot.Instance) (F.state files.new Slot.Instance) }
-    ensures only_read { IsOnlyRead (F.state files.old Slot.Instance) (F.state files.new Slot.Instance) }
+    ensures only_read { IsOnlyRead most_bytes (F.state files.old Slot.Instance) (F.state files.new Slot.Instance) }
     ensures others { SameBut InstanceSlot (F.state files.old) (F.state files.new) }
 {
     slurp(alloc, files, Slot::Instance, name, INSTANCE_LIMIT).map_err(|fault| match fault {
@@ -66,7 +66,7 @@ pub(crate) fn read_instance<F: Files>(
     ensures cause { IfErr result (HasCause exact (F.state files.old Slot.Instance) (F.state files.new Slot.Instance)) }
     ensures calm { IfOk result (λ _. (F.state files.new Slot.Instance).faults ≡ (F.state files.old Slot.Instance).faults) }
     ensures named { IsOpenedByNoOther name.now (F.state files.old Slot.Instance) (F.state files.new Slot.Instance) }
-    ensures only_read { IsOnlyRead (F.state files.old Slot.Instance) (F.state files.new Slot.Instance) }
+    ensures only_read { IsOnlyRead most_bytes (F.state files.old Slot.Instance) (F.state files.new Slot.Instance) }
     ensures others { SameBut InstanceSlot (F.state files.old) (F.state files.new) }
 {
     let bytes = instance_bytes(alloc, files, name, exact)?;

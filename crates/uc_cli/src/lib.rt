@@ -1,6 +1,9 @@
 //! The program `uc` as a function of its words and of the outside.
 #![tactic(auto)]
 
+mod arguments;
+mod certificate;
+mod check;
 mod command;
 mod input;
 mod output;

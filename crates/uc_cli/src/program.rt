@@ -1,11 +1,16 @@
 //! The top call: a run of the program from its words.
 
-ghost use Rattle.std.specs.Prelude.{◌≡◌, map, string_bytes, None, Some};
+ghost use Rattle.std.specs.Prelude.{◌≡◌, map, string_bytes, true, false, None, Some};
 ghost use Rattle.outside.specs.Slots.{AllUnopened};
-ghost use Rattle.uc_cli.specs.Command.{Command, command_of};
-ghost use Rattle.uc_cli.specs.Run.{outside_of, IsRun, IsUsage};
+ghost use Rattle.uc_cli.specs.Arguments.{is_taken};
+ghost use Rattle.uc_cli.specs.Command.{Command as WordsCommand, command_of as command_of_words};
+ghost use Rattle.uc_cli.specs.Outside.{outside_of};
+ghost use Rattle.uc_cli.specs.Run.{IsRun, IsUsage};
+ghost use Rattle.uc_cli.specs.Writing.{TellsFault};
+ghost use Rattle.report.specs.FaultText.{status_of};
 
-use crate::command::solve_of;
+use crate::check::check;
+use crate::command::{Command, command_of};
 use crate::output::tell_fault;
 use crate::solve::solve;
 use branch_tree::Found;
@@ -15,19 +20,33 @@ use std::alloc::Global;
 use std::sync::Wait;
 use std::thread::Threads;
 
-/// How a run ended: its exit status, and what was found where the status is 2, 3 or 7.
+/// How a run ended: its exit status, and of `solve` what was found where the status is 2, 3 or 7.
 #[derive(Drop)]
 pub struct End {
     pub code: u8,
     pub found: Option<Found>,
 }
 
+// A run that ends at its words.
+fn turn_away<E: Sink>(err: &mut E, fault: &Fault) -> End
+    ensures code { result.code ≡ status_of fault.now }
+    ensures nothing { result.found ≡ None }
+    ensures told { TellsFault fault.now (E.state err.old) (E.state err.new) }
+{
+    tell_fault(err, fault);
+    End {
+        code: fault.code(),
+        found: None,
+    }
+}
+
 /// A run of the program. The words begin with the program's name; each slot of the files is unopened.
 ///
-/// The status is 2 where a bound was found and printed, 3 where no schedule exists, 4 where the instance's
-/// bytes stand for no instance or are more than 2^26, 5 where the words ask for nothing that the program
-/// does, 6 where reading the instance failed, 7 where writing the certificate or the report failed, and 8
-/// where memory was refused.
+/// The status of `solve` is 2 where a bound was found and printed, and 3 where no schedule exists; that of `check` is 0
+/// where the certificate holds for the instance, and 9 where it doesn't, is no certificate's text or has more than 2^46
+/// bytes. It is 4 where the instance's bytes stand for no instance or are more than 2^26, 5 where the command-line parser
+/// doesn't take the words, 6 where reading the instance or the certificate failed, 7 where writing the certificate or
+/// the report failed, and 8 where memory was refused.
 pub fn uc<R: Threads + Wait + Sync, F: Files, O: Sink, E: Sink, G: Gate + Sync>(
     rt: &R,
     alloc: Global,
@@ -40,17 +59,15 @@ pub fn uc<R: Threads + Wait + Sync, F: Files, O: Sink, E: Sink, G: Gate + Sync>(
     requires { AllUnopened (F.state files.old) }
     ensures usage { let before = outside_of (F.state files.old) (O.state out.old) (E.state err.old) in
         let after = outside_of (F.state files.new) (O.state out.new) (E.state err.new) in
-        command_of (map string_bytes words.now) ≡ None → IsUsage before after result }
+        is_taken (map string_bytes words.now) ≡ false → IsUsage before after result }
     ensures run { let before = outside_of (F.state files.old) (O.state out.old) (E.state err.old) in
         let after = outside_of (F.state files.new) (O.state out.new) (E.state err.new) in
-        (command : Command) → command_of (map string_bytes words.now) ≡ Some command → IsRun command before after result }
+        is_taken (map string_bytes words.now) ≡ true
+        → (command : WordsCommand) × (command_of_words (map string_bytes words.now) ≡ Some command) × IsRun command before after result }
 {
-    let Some(asked) = solve_of(words) else {
-        tell_fault(err, &Fault::Words);
-        return End {
-            code: Fault::Words.code(),
-            found: None,
-        };
-    };
-    solve(rt, alloc, &asked, files, out, err, gate)
+    match command_of(alloc, words) {
+        Ok(Command::Solve(asked)) => solve(rt, alloc, &asked, files, out, err, gate),
+        Ok(Command::Check(asked)) => check(alloc, &asked, files, out, err),
+        Err(fault) => turn_away(err, &fault),
+    }
 }

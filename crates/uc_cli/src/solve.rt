@@ -6,8 +6,9 @@ ghost use Rattle.outside.specs.declared.slot.Slot.TheVariants as slot;
 ghost use Rattle.outside.specs.declared.slot.Stage.TheVariants.{Unopened};
 ghost use Rattle.outside.specs.Slots.{AllUnopened, SameBut};
 ghost use Rattle.outside.specs.Sinks.{SinkState};
-ghost use Rattle.uc_cli.specs.Reading.{HasCause, IsOpenedByNoOther, IsOnlyRead};
-ghost use Rattle.uc_cli.specs.Run.{outside_of, IsAnswer, IsDone, IsFailure, KeepsToFiles, IsSolveRun};
+ghost use Rattle.uc_cli.specs.Reading.{most_bytes, HasCause, IsOpenedByNoOther, IsOnlyRead};
+ghost use Rattle.uc_cli.specs.Outside.{outside_of};
+ghost use Rattle.uc_cli.specs.Run.{IsAnswer, IsDone, IsFailure, KeepsToFiles, IsSolveRun};
 ghost use Rattle.uc_cli.specs.inside.Asked.{solve_asked};
 
 use crate::command::Solve;
@@ -50,7 +51,7 @@ fn find<R: Wait, F: Files, G: Gate>(
     ensures cause { IfErr result (HasCause asked.now.exact (F.state files.old slot.Instance) (F.state files.new slot.Instance)) }
     ensures calm { IfOk result (λ _. (F.state files.new slot.Instance).faults ≡ (F.state files.old slot.Instance).faults) }
     ensures named { IsOpenedByNoOther asked.now.instance.now (F.state files.old slot.Instance) (F.state files.new slot.Instance) }
-    ensures read { IsOnlyRead (F.state files.old slot.Instance) (F.state files.new slot.Instance) }
+    ensures read { IsOnlyRead most_bytes (F.state files.old slot.Instance) (F.state files.new slot.Instance) }
     ensures others { SameBut slot.Instance (F.state files.old) (F.state files.new) }
 {
     let (instance, rounded) = read_instance(alloc, files, asked.instance, asked.exact)?;

@@ -1,0 +1,58 @@
+-- The commands of the program with their arguments, as the command-line parser clap sees them, and when its rule for simple
+-- commands takes words. The commands are this project's own; the rule is that of clap 4.
+--
+-- Help is no argument and no command here, so words that ask for it are refused like any others that aren't taken.
+use Rattle.std.specs.Prelude.{Bool, true, false, List, [], ◌∷◌, pos, Some, codes}
+use Rattle.clap.specs.Words.{App, Kinds, Rule, Shape, Text, new_rule, fault_of}
+use Rattle.clap.specs.Simple.{new_shape}
+use Rattle.clap.specs.declared.builder.action.ArgAction.TheVariants.{SetTrue}
+use Rattle.clap.specs.declared.builder.value_parser.ValueParser.TheVariants.{Signed}
+
+-- a value that is told by its place, and has to be given
+abbrev pub place : Text → Rule
+place id = record (new_rule id) { required = true }
+
+-- `--NAME VALUE`, which has to be given
+abbrev pub needed_option : Text → Rule
+needed_option name = record (new_rule name) { long = Some name; required = true }
+
+-- `--NAME N`, where N is 1 alone, which it is also where the option isn't given
+abbrev pub one_alone : Text → Rule
+one_alone name =
+    record (new_rule name) { long = Some name; parser = Some (Signed (pos 1) (pos 1)); defaults = codes "1" ∷ [] }
+
+-- `--NAME`
+abbrev pub switch : Text → Rule
+switch name = record (new_rule name) { long = Some name; action = Some SetTrue }
+
+-- `solve FILE --cert FILE [--units N] [--workers N] [--exact]`
+abbrev pub solve_shape : Shape
+solve_shape = record (new_shape (codes "solve")) {
+  rules = place (codes "instance") ∷ needed_option (codes "cert") ∷ one_alone (codes "units") ∷ one_alone (codes "workers")
+      ∷ switch (codes "exact") ∷ [];
+}
+
+-- `check FILE CERT`
+abbrev pub check_shape : Shape
+check_shape = record (new_shape (codes "check")) { rules = place (codes "instance") ∷ place (codes "certificate") ∷ [] }
+
+-- the program has to be given one of the two
+abbrev pub program : App
+program = record {
+  top = record (new_shape (codes "uc")) {
+    is_leaf = false;
+    subcommand_required = true;
+    disable_help_flag = true;
+    disable_help_subcommand = true;
+  };
+  subs = solve_shape ∷ check_shape ∷ [];
+}
+
+-- no kind of error may come
+abbrev pub is_none : Kinds → Bool
+is_none [] = true
+is_none (kind ∷ kinds) = false
+
+-- the words, of which the first is the program's name, are taken: clap's rule finds no fault in them
+unfoldable pub is_taken : List Text → Bool
+is_taken words = is_none (fault_of program words)
