@@ -1,0 +1,11 @@
+-- Each term is 0.
+use Rattle.std.proofs.Common.{◌≡◌, sym, subst, rules, pos}
+use Rattle.std.specs.Prelude.{Some, replicate}
+use Rattle.interval_graph.specs.Intervals.{AreTermRows}
+use Rattle.interval_graph.proofs.TermRows.{zero-rows}
+use Rattle.interval_graph.proofs.intervals.Intervals.new.Goals as goal
+
+pub invariant_of-result : goal.invariant_of-result
+invariant_of-result c =
+    let made : c.in_ok-rows.rows.items ≡ replicate c.args.periods (replicate 4 (Some (pos 0))) = search rules in
+    subst (λ rows. AreTermRows rows) (sym made) (zero-rows c.args.periods c.requires)

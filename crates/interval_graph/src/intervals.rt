@@ -1,0 +1,118 @@
+//! On-intervals: the periods from a start to the last one before a stop.
+
+ghost use Rattle.std.specs.Prelude.{◌≡◌, ◌<◌, ◌≤◌, ℕ, pos, Some, false, IfOk, IfSome, MatchOption, length, replicate, unsigned_abs};
+ghost use Rattle.dual_model.specs.UnitTerms.{place as place_of};
+ghost use Rattle.interval_graph.specs.Intervals.{interval_cost, interval_term, term_in, AreTermRows, HasNoTerm, IsThere, MAX_INTERVAL};
+
+use dual_model::limits::MAX_TERM;
+use std::alloc::Global;
+use std::marker::Model;
+use uc_model::limits::MAX_PERIODS;
+use uc_model::{NoMemory, Terms};
+
+/// A unit's terms by their place in an on-interval, over a number of periods that does not change. Contracts see
+/// the rows of terms: for each period, from 0, the term of a cell that neither starts the interval nor ends it, of
+/// one that starts it, of one that ends it, and of one that does both.
+#[derive(Debug, Drop)]
+pub struct Intervals {
+    rows: Vec<[Option<i128>; 4]>,
+}
+
+impl Model for Intervals {
+    ghost use Rattle.std.specs.Prelude.{List, ℤ, Option};
+    ghost use Rattle.interval_graph.specs.Intervals.{AreTermRows};
+
+    ghost Value = { List (List (Option ℤ)) };
+
+    ghost view = { λ intervals. intervals.rows.items };
+
+    ghost invariant = { λ intervals. AreTermRows intervals.rows.items };
+}
+
+impl Intervals {
+    /// Intervals over `periods` periods, at most `MAX_PERIODS`, all of whose terms are 0. The only error is `NoMemory`.
+    pub fn new(alloc: Global, periods: usize) -> Result<Intervals, NoMemory>
+        requires { periods ≤ MAX_PERIODS }
+        ensures { IfOk result (λ intervals. intervals ≡ replicate periods (replicate 4 (Some (pos 0)))) }
+    {
+        let rows = vec![in alloc; [Some(0); 4]; periods]?;
+        Ok(Intervals { rows })
+    }
+
+    /// The number of periods.
+    pub fn periods(&self) -> usize
+        ensures value { result ≡ length self.now }
+        ensures size { result ≤ MAX_PERIODS }
+    {
+        self.rows.len()
+    }
+
+    /// Takes the terms of a unit in place of those that it has. Each period has a term at the full cap.
+    pub fn fill(&mut self, terms: &Terms)
+        requires room { length self.old ≡ length terms.now.terms }
+        requires rows { AreTermRows terms.now.terms }
+        ensures { self.new ≡ terms.now.terms }
+    {
+        self.rows
+            .as_mut_slice()
+            .copy_from_slice(terms.terms.as_slice());
+    }
+
+    /// The term of a cell in period `t`, from 0, by whether it starts its interval and whether it ends it; `None`
+    /// where its cap is negative.
+    pub fn term(&self, t: usize, start: bool, stop: bool) -> Option<i128>
+        requires { t < length self.now }
+        ensures value { result ≡ term_in self.now t start stop }
+        ensures size { IfSome result (λ m. unsigned_abs m ≤ MAX_TERM) }
+    {
+        self.rows[t][place(start, stop)]
+    }
+
+    /// The term of a cell in period `t`, from 0, that neither starts its interval nor ends it.
+    pub fn full_term(&self, t: usize) -> i128
+        requires { t < length self.now }
+        ensures value { Some result ≡ term_in self.now t false false }
+        ensures size { unsigned_abs result ≤ MAX_TERM }
+    {
+        match self.rows[t][0] {
+            Some(term) => term,
+            None => unreachable!(),
+        }
+    }
+
+    /// The sum of the terms of the interval from period `a` to period `b`, both from 0 and in it; `None` exactly where
+    /// the cap of a cell of it is negative, which only its first and its last one's can be.
+    pub fn cost(&self, a: usize, b: usize) -> Option<i128>
+        requires order { a ≤ b }
+        requires within { b < length self.now }
+        ensures cost { MatchOption result (HasNoTerm self.now a b) (λ cost. cost ≡ interval_cost self.now a b) }
+        ensures terms { IfSome result (λ cost. (t : ℕ) → a ≤ t → t ≤ b → IsThere (interval_term self.now a b t)) }
+        ensures size { IfSome result (λ cost. unsigned_abs cost ≤ MAX_INTERVAL) }
+    {
+        // Invariant, before period t: total = the sum of the first t - a terms of the interval, each of which is
+        // there, and |total| <= (t - a) * MAX_TERM.
+        let periods = self.periods();
+        prove!(b < periods);
+        let mut total = 0;
+        for t in a..b + 1 {
+            match self.term(t, t == a, t == b) {
+                None => return None,
+                Some(term) => total += term,
+            }
+        }
+        Some(total)
+    }
+}
+
+// The place of a cell's term in its period's row.
+fn place(start: bool, stop: bool) -> usize
+    ensures value { result ≡ place_of start stop }
+    ensures within { result < 4 }
+{
+    match (start, stop) {
+        (false, false) => 0,
+        (true, false) => 1,
+        (false, true) => 2,
+        (true, true) => 3,
+    }
+}

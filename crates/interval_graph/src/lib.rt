@@ -1,0 +1,6 @@
+//! What the hours of one thermal unit cost while it is on, an interval of periods at a time.
+#![tactic(auto)]
+
+pub mod intervals;
+
+pub use intervals::Intervals;
