@@ -1,0 +1,105 @@
+-- A pattern whose way is the least one is allowed and as is decided, and its value is the way's cost.
+use Rattle.std.proofs.Common.{◌≡◌, ℕ, zero, suc, ◌≤◌, Bool, false, refl, sym, ap, subst, ◌∙◌, arith, ℤ}
+use Rattle.std.specs.Prelude.{Option, Some, None, MatchOption, IfSome, IfNone, unsigned_abs}
+use Rattle.uc_model.specs.Commitment.{Commitment}
+use Rattle.uc_model.specs.Limits.{IsLawfulThermal}
+use Rattle.uc_model.specs.PatternBits.{commitment_of}
+use Rattle.uc_model.specs.Schedule.{thermal_unit}
+use Rattle.uc_model.specs.declared.instance.Instance.{Instance}
+use Rattle.uc_model.specs.declared.instance.Thermal.{Thermal}
+use Rattle.uc_model.specs.declared.pattern.Pattern.{Pattern}
+use Rattle.uc_model.specs.declared.terms.Terms.{Terms}
+use Rattle.dual_model.specs.declared.node.Fix.{Fix}
+use Rattle.dual_model.specs.declared.node.Node.{Node}
+use Rattle.dual_model.specs.declared.table.Table.{Table}
+use Rattle.dual_model.specs.Fixings.{HasNoPattern as HasNoPatternAt, IsFixOf}
+use Rattle.dual_model.specs.UnitValue.{IsBestPattern}
+use Rattle.dual_model.specs.TableValue.{AreTermsOf}
+use Rattle.dual_model.proofs.TableValues.{unit_value-of}
+use Rattle.dual_model.specs.PatternValue.{HasNoPattern, IsLeastValue, IsPattern, pattern_value}
+use Rattle.dual_model.specs.UnitTerms.{AreSizedTerms, period_count}
+use Rattle.state_walk.specs.inside.Moves.{move}
+use Rattle.state_walk.specs.CostToGo.{since_after, total_of, IsWithin, MAX_COST_TO_GO}
+use Rattle.state_walk.proofs.CostSizes.{cost_to_go-fits}
+use Rattle.state_walk.proofs.LeastValues.{from_start, least-from_start, none-from_start}
+use Rattle.state_walk.proofs.Allowed.{pattern-all_right}
+use Rattle.state_walk.proofs.Optimum.{way}
+use Rattle.state_walk.proofs.Ways.{own_way-right, whole_way-from, AllRight}
+use Rattle.unit_path.specs.inside.Ways.{way_of, IsWay}
+use Rattle.unit_path.proofs.BestPatterns.{best-of}
+
+way_of-way : (terms : Terms) (unit : Thermal) (fix : Fix) (on : Commitment) (n t : ℕ) (was : Bool) (since : ℕ)
+    → way_of terms unit fix on n t was since ≡ way terms unit fix on n t was since
+way_of-way terms unit fix on zero t was since = refl
+way_of-way terms unit fix on (suc n) t was since =
+    ap (total_of (move terms unit fix t was since (on t))) (way_of-way terms unit fix on n (suc t) (on t) (since_after was since (on t) t))
+
+all_right : (terms : Terms) (unit : Thermal) (fix : Fix) (cost : ℤ) (pattern : Pattern) → IsWay terms unit fix cost pattern
+    → AllRight terms unit fix (commitment_of pattern) 0
+all_right terms unit fix cost pattern is =
+    own_way-right terms unit fix (commitment_of pattern) (period_count terms) 0 cost (omega arith)
+    (sym (way_of-way terms unit fix (commitment_of pattern) (period_count terms) 0 unit.on0 0) ∙ is.attained)
+
+pub way-pattern : (terms : Terms) (unit : Thermal) (fix : Fix) (cost : ℤ) (pattern : Pattern) → IsLawfulThermal unit → AreSizedTerms unit terms
+    → IsWay terms unit fix cost pattern → IsPattern (period_count terms) unit fix (commitment_of pattern)
+way-pattern terms unit fix cost pattern lawful sized is =
+    pattern-all_right terms unit fix (commitment_of pattern) lawful sized (all_right terms unit fix cost pattern is)
+
+same-some : (a b : ℤ) → Some a ≡ Some b → a ≡ b
+same-some a b e = cc
+
+pub way-value : (terms : Terms) (unit : Thermal) (fix : Fix) (cost : ℤ) (pattern : Pattern)
+    → IsWay terms unit fix cost pattern → cost ≡ pattern_value terms unit (commitment_of pattern)
+way-value terms unit fix cost pattern is =
+    same-some cost (pattern_value terms unit (commitment_of pattern))
+    (sym is.attained ∙ way_of-way terms unit fix (commitment_of pattern) (period_count terms) 0 unit.on0 0
+    ∙ whole_way-from terms unit fix (commitment_of pattern) (all_right terms unit fix cost pattern is))
+
+-- ---- the answer
+-- the cost of the least way, with a pattern whose way it is; or that there is none
+abbrev pub IsAnswer : Terms → Thermal → Fix → Option (ℤ × Pattern) → Type 0
+IsAnswer terms unit fix None = from_start terms unit fix ≡ None
+IsAnswer terms unit fix (Some best) = (from_start terms unit fix ≡ Some best.0) × IsWay terms unit fix best.0 best.1
+
+pub answer-value : (terms : Terms) (unit : Thermal) (fix : Fix) (best : Option (ℤ × Pattern)) → IsLawfulThermal unit → AreSizedTerms unit terms
+    → IsAnswer terms unit fix best → IfSome best (λ best. IsLeastValue terms unit fix best.0)
+answer-value terms unit fix None lawful sized is = tt
+answer-value terms unit fix (Some best) lawful sized is = least-from_start terms unit fix best.0 lawful sized is.0
+
+pub answer-pattern : (terms : Terms) (unit : Thermal) (fix : Fix) (best : Option (ℤ × Pattern)) → IsLawfulThermal unit → AreSizedTerms unit terms
+    → IsAnswer terms unit fix best → IfSome best (λ best. IsPattern (period_count terms) unit fix (commitment_of best.1))
+answer-pattern terms unit fix None lawful sized is = tt
+answer-pattern terms unit fix (Some best) lawful sized is = way-pattern terms unit fix best.0 best.1 lawful sized is.1
+
+pub answer-attained : (terms : Terms) (unit : Thermal) (fix : Fix) (best : Option (ℤ × Pattern))
+    → IsAnswer terms unit fix best → IfSome best (λ best. best.0 ≡ pattern_value terms unit (commitment_of best.1))
+answer-attained terms unit fix None is = tt
+answer-attained terms unit fix (Some best) is = way-value terms unit fix best.0 best.1 is.1
+
+pub answer-within : (terms : Terms) (unit : Thermal) (fix : Fix) (best : Option (ℤ × Pattern))
+    → IsAnswer terms unit fix best → IfSome best (λ best. (t : ℕ) → period_count terms ≤ t → commitment_of best.1 t ≡ false)
+answer-within terms unit fix None is = tt
+answer-within terms unit fix (Some best) is = is.1.after
+
+pub answer-none : (terms : Terms) (unit : Thermal) (fix : Fix) (best : Option (ℤ × Pattern)) → AreSizedTerms unit terms
+    → IsAnswer terms unit fix best → IfNone best (HasNoPattern terms unit fix)
+answer-none terms unit fix None sized is = none-from_start terms unit fix sized is
+answer-none terms unit fix (Some best) sized is = tt
+
+pub answer-size : (terms : Terms) (unit : Thermal) (fix : Fix) (best : Option (ℤ × Pattern)) → IsLawfulThermal unit → AreSizedTerms unit terms
+    → IsAnswer terms unit fix best → IfSome best (λ best. unsigned_abs best.0 ≤ MAX_COST_TO_GO)
+answer-size terms unit fix None lawful sized is = tt
+answer-size terms unit fix (Some best) lawful sized is =
+    subst (λ o. IsWithin MAX_COST_TO_GO o) is.0 (cost_to_go-fits unit terms fix lawful sized (period_count terms) 0 (omega arith) unit.on0 0)
+
+pub answer-at_table : (instance : Instance) (node : Node) (table : Table) (g : ℕ) (terms : Terms) (unit : Thermal) (fix : Fix) (best : Option (ℤ × Pattern))
+    → IsLawfulThermal unit → AreSizedTerms unit terms → thermal_unit instance g ≡ unit → AreTermsOf instance table g terms → IsFixOf instance.periods node g fix
+    → IsAnswer terms unit fix best
+    → MatchOption best (HasNoPatternAt instance node g) (λ best. IsBestPattern instance node table g (commitment_of best.1) best.0)
+answer-at_table instance node table g terms unit fix None lawful sized same are decided is =
+    unit_value-of instance node table g unit terms fix None same are decided (λ w e. cc) (λ e. none-from_start terms unit fix sized is)
+answer-at_table instance node table g terms unit fix (Some best) lawful sized same are decided is =
+    best-of instance node table g unit terms fix best.0 (commitment_of best.1) same are decided
+    (least-from_start terms unit fix best.0 lawful sized is.0)
+    (way-pattern terms unit fix best.0 best.1 lawful sized is.1)
+    (way-value terms unit fix best.0 best.1 is.1)

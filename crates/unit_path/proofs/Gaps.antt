@@ -1,0 +1,120 @@
+-- What the last stop adds to the start categories: those whose lags the gap since then lies between. So a start costs the least
+-- of what it costs without a stop in the horizon and of these, and after a longer gap than any lag nothing is added.
+use Rattle.std.proofs.Common.{◌≡◌, ℕ, zero, suc, ◌+◌, ◌-◌, ◌<◌, ◌≤◌, ⊎_elim, Bool, true, false, not, ◌&&◌, ◌||◌, cond, refl, sym, ap, ◌∙◌, arith, ℤ}
+use Rattle.std.specs.Prelude.{Some, None, nat_lt, nat_le}
+use Rattle.std.specs.Int.{int_min}
+use Rattle.std.proofs.lemmas.Int.{ints}
+use Rattle.std.proofs.lemmas.Bool.{cases_lt, le-leb, lt-leb, lt-ltb, le-ltb, ltb-true}
+use Rattle.uc_model.specs.Sums.{least_below}
+use Rattle.uc_model.specs.StartCategory.{category_cost, category_count, category_lag, is_barred, may_cost_as, sigma}
+use Rattle.uc_model.specs.declared.instance.Thermal.{Thermal}
+use Rattle.state_walk.specs.inside.Moves.{stop_since}
+use Rattle.unit_path.specs.inside.StartCosts.{is_within_lags, row_of}
+
+-- ---- least values by two tests
+min_swap : (a b c : ℤ) → int_min a (int_min b c) ≡ int_min b (int_min a c)
+min_swap a b c = grind (arith, ints)
+
+min_twice : (a b : ℤ) → int_min a b ≡ int_min a (int_min a b)
+min_twice a b = grind (arith, ints)
+
+least-test : (n : ℕ) (p q : ℕ → Bool) (f : ℕ → ℤ) (other : ℤ) → ((k : ℕ) → k < n → p k ≡ q k) → least_below n p f other ≡ least_below n q f other
+least-test zero p q f other e = refl
+least-test (suc n) p q f other e =
+    λ i. cond (e n (omega arith) i) (int_min (f n) (least-test n p q f other (λ k h. e k (omega arith)) i)) (least-test n p q f other (λ k h. e k (omega arith)) i)
+
+chosen-first : (b : Bool) (x y r s : ℤ) → s ≡ int_min x r → cond b (int_min y s) s ≡ int_min x (cond b (int_min y r) r)
+chosen-first true x y r s e = ap (int_min y) e ∙ min_swap y x r
+chosen-first false x y r s e = e
+
+-- a number less than `other` may as well be taken last
+least-first : (n : ℕ) (p : ℕ → Bool) (f : ℕ → ℤ) (x other : ℤ) → least_below n p f (int_min x other) ≡ int_min x (least_below n p f other)
+least-first zero p f x other = refl
+least-first (suc n) p f x other = chosen-first (p n) x (f n) (least_below n p f other) _ (least-first n p f x other)
+
+chosen-either : (p q : Bool) (x a l : ℤ) (by_q : ℤ → ℤ) → ((y z : ℤ) → by_q (int_min y z) ≡ int_min y (by_q z)) → a ≡ by_q l
+    → cond (p || q) (int_min x a) a ≡ cond q (int_min x (by_q (cond p (int_min x l) l))) (by_q (cond p (int_min x l) l))
+chosen-either true true x a l by_q first e = ap (int_min x) e ∙ min_twice x (by_q l) ∙ ap (int_min x) (sym (first x l))
+chosen-either true false x a l by_q first e = ap (int_min x) e ∙ sym (first x l)
+chosen-either false true x a l by_q first e = ap (int_min x) e
+chosen-either false false x a l by_q first e = e
+
+-- what passes one of two tests: first what passes one, and from there what passes the other
+least-either : (n : ℕ) (p q : ℕ → Bool) (f : ℕ → ℤ) (other : ℤ)
+    → least_below n (λ k. p k || q k) f other ≡ least_below n q f (least_below n p f other)
+least-either zero p q f other = refl
+least-either (suc n) p q f other =
+    chosen-either (p n) (q n) (f n) _ (least_below n p f other) (least_below n q f) (λ y z. least-first n q f y z) (least-either n p q f other)
+
+-- ---- one category
+-- a stop adds it where it is reached, its lags are in order, and the gap is below the next lag
+added : (reached ordered near below free : Bool) → (ordered ≡ true → near ≡ below)
+    → cond reached (ordered && near) free ≡ (cond reached (ordered && false) free || ((below && reached) && ordered))
+added true true near true free e = e refl
+added true true near false free e = e refl
+added true false near true free e = refl
+added true false near false free e = refl
+added false ordered near below true e = refl
+added false ordered near true false e = refl
+added false ordered near false false e = refl
+
+not_added : (reached ordered near free : Bool) → (ordered ≡ true → near ≡ false) → cond reached (ordered && near) free ≡ cond reached (ordered && false) free
+not_added true true near free e = e refl
+not_added true false near free e = refl
+not_added false ordered near free e = refl
+
+near-below : (gap lag t l : ℕ) → t - l ≡ gap → 1 ≤ lag → nat_le (t - l) (lag - 1) ≡ nat_lt gap lag
+near-below gap lag t l e some =
+    ⊎_elim
+    (λ (h : gap < lag). le-leb (t - l) (lag - 1) (omega arith) ∙ sym (lt-ltb gap lag h))
+    (λ (h : lag ≤ gap). lt-leb (t - l) (lag - 1) (omega arith) ∙ sym (le-ltb gap lag h))
+    (cases_lt gap lag)
+
+lag-next : (unit : Thermal) (s : ℕ) → category_lag unit (suc (suc s)) ≡ (row_of unit.startup (suc s)).lag
+lag-next unit s = let e : suc (suc s) - 1 ≡ suc s = omega arith in ap (λ k. (row_of unit.startup k).lag) e
+
+lag-own : (unit : Thermal) (s : ℕ) → category_lag unit (suc s) ≡ (row_of unit.startup s).lag
+lag-own unit s = let e : suc s - 1 ≡ s = omega arith in ap (λ k. (row_of unit.startup k).lag) e
+
+may_cost-gap : (unit : Thermal) (gap t s : ℕ) → gap ≤ t
+    → may_cost_as unit (Some (t - gap)) t s ≡ (may_cost_as unit None t s || is_within_lags unit.startup s gap t)
+may_cost-gap unit gap t s h =
+    let lag = category_lag unit (suc (suc s)) in
+    let own = category_lag unit (suc s) in
+    added (nat_le lag (suc t)) (nat_lt own lag) (nat_le (t - (t - gap)) (lag - 1)) (nat_lt gap lag) (not (is_barred unit.dt0 lag t))
+    (λ e. let less : own < lag = ltb-true own lag e in near-below gap lag t (t - gap) (omega arith) (omega arith))
+    ∙ (λ i. may_cost_as unit None t s || ((nat_lt gap (lag-next unit s i) && nat_le (lag-next unit s i) (suc t)) && nat_lt (lag-own unit s i) (lag-next unit s i)))
+
+-- ---- all of them
+pub sigma-gap : (unit : Thermal) (gap t : ℕ) → gap ≤ t
+    → sigma unit (Some (t - gap)) t
+    ≡ least_below (category_count unit - 1) (λ s. is_within_lags unit.startup s gap t) (λ s. (row_of unit.startup s).cost) (sigma unit None t)
+sigma-gap unit gap t h =
+    least-test (category_count unit - 1) (may_cost_as unit (Some (t - gap)) t) (λ s. may_cost_as unit None t s || is_within_lags unit.startup s gap t)
+    (λ s. category_cost unit (suc s)) (category_cost unit (category_count unit)) (λ s l. may_cost-gap unit gap t s h)
+    ∙ least-either (category_count unit - 1) (may_cost_as unit None t) (λ s. is_within_lags unit.startup s gap t)
+    (λ s. category_cost unit (suc s)) (category_cost unit (category_count unit))
+
+pub sigma-cold : (unit : Thermal) (l t longest : ℕ) → ((s : ℕ) → s < category_count unit → (row_of unit.startup s).lag ≤ longest) → l + longest ≤ t
+    → sigma unit (Some l) t ≡ sigma unit None t
+sigma-cold unit l t longest most h =
+    least-test (category_count unit - 1) (may_cost_as unit (Some l) t) (may_cost_as unit None t)
+    (λ s. category_cost unit (suc s)) (category_cost unit (category_count unit)) (λ s k.
+    not_added (nat_le (category_lag unit (suc (suc s))) (suc t)) (nat_lt (category_lag unit (suc s)) (category_lag unit (suc (suc s))))
+    (nat_le (t - l) (category_lag unit (suc (suc s)) - 1)) (not (is_barred unit.dt0 (category_lag unit (suc (suc s))) t)) (λ e.
+    let less : category_lag unit (suc s) < category_lag unit (suc (suc s)) = ltb-true _ _ e in
+    let here = lag-next unit s in
+    let long = most (suc s) (omega arith) in
+    lt-leb (t - l) (category_lag unit (suc (suc s)) - 1) (omega arith)))
+
+-- the same by the time since which the unit is off
+pub sigma-cold_since : (unit : Thermal) (since t longest : ℕ) → 0 < since → ((s : ℕ) → s < category_count unit → (row_of unit.startup s).lag ≤ longest)
+    → since - 1 + longest ≤ t → sigma unit (stop_since since) t ≡ sigma unit None t
+sigma-cold_since unit zero t longest some most h = absurd (omega arith)
+sigma-cold_since unit (suc l) t longest some most h =
+    sigma-cold unit l t longest most (omega (arith, (let e : suc l - 1 ≡ l = omega arith in e)))
+
+pub sigma-gap_since : (unit : Thermal) (since t : ℕ) → 0 < since → since ≤ suc t
+    → sigma unit (Some (t - (t - (since - 1)))) t ≡ sigma unit (stop_since since) t
+sigma-gap_since unit zero t some h = absurd (omega arith)
+sigma-gap_since unit (suc l) t some h = ap (λ k. sigma unit (Some k) t) (omega arith)

@@ -1,0 +1,16 @@
+pub mod BestPatterns
+pub mod BestWays
+pub mod Costs
+pub mod Entries
+pub mod Gaps
+pub mod Going
+pub mod Hourly
+pub mod LeastStarts
+pub mod LeastStops
+pub mod RestLaws
+pub mod RunLaws
+pub mod SizedRows
+pub mod Switched
+pub mod Tables
+pub mod Traces
+pub mod WayLaws

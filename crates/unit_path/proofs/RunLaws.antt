@@ -1,0 +1,183 @@
+-- A run of on hours on the least way: how it splits, and that until it may end it has to go on.
+use Rattle.std.proofs.Common.{◌≡◌, ℕ, zero, suc, ◌+◌, ◌-◌, ◌*◌, ◌<◌, ◌≤◌, Bool, true, false, ◌&&◌, cond, refl, sym, ap, subst, ◌∙◌, lit<, arith, ℤ, pos, ◌+ℤ◌, to_z, of_z, FitsSigned}
+use Rattle.std.specs.Prelude.{Some, None, ◌==◌, nat_lt, unsigned_abs}
+use Rattle.std.specs.Int.{w128}
+use Rattle.std.proofs.lemmas.Int.{fits_signed_from_abs}
+use Rattle.std.proofs.lemmas.Bool.{and_from, cond-true, cond-false, lt-ltb, ne_eqb, or_left}
+use Rattle.uc_model.specs.declared.instance.Thermal.{Thermal}
+use Rattle.uc_model.specs.declared.terms.Terms.{Terms}
+use Rattle.uc_model.specs.declared.limits.TheConstants.{MAX_PERIODS}
+use Rattle.uc_model.proofs.Sizes.{abs_add, wide}
+use Rattle.dual_model.specs.declared.node.Fix.{Fix}
+use Rattle.dual_model.specs.UnitTerms.{period_count}
+use Rattle.state_walk.specs.inside.Moves.{holds_initially, hour_before, may_be_off, may_be_on, may_stop, move}
+use Rattle.state_walk.specs.CostToGo.{lesser_of, total_of, MAX_MOVE}
+use Rattle.unit_path.specs.inside.Choices.{stays, stop_cost}
+use Rattle.unit_path.specs.inside.Hours.{leave_cost, stay_cost}
+use Rattle.unit_path.proofs.Costs.{lesser-comm, lesser-none, total-assoc, total-none, total-zero, zero-total}
+use Rattle.unit_path.proofs.Going.{on-step, stop_cost-at, to_go}
+
+-- ---- tests
+pub and_false : (b : Bool) → (b && false) ≡ false
+and_false true = refl
+and_false false = refl
+
+pub and_true : (b : Bool) → (b && true) ≡ b
+and_true true = refl
+and_true false = refl
+
+-- ---- one period
+-- a unit that may not be on doesn't stay on
+pub stay-barred : (terms : Terms) (unit : Thermal) (fix : Fix) (since t : ℕ) → may_be_on fix t ≡ false → move terms unit fix t true since true ≡ None
+stay-barred terms unit fix since t e = cond-false (may_be_on fix t && holds_initially unit t false) _ _ (ap (λ b. b && holds_initially unit t false) e)
+
+-- and one that may not stop doesn't
+pub stop-barred : (terms : Terms) (unit : Thermal) (fix : Fix) (since t : ℕ) → may_stop unit since t ≡ false → move terms unit fix t true since false ≡ None
+stop-barred terms unit fix since t e =
+    cond-false ((may_be_off unit fix t && holds_initially unit t true) && may_stop unit since t) _ _
+    (ap (λ b. (may_be_off unit fix t && holds_initially unit t true) && b) e ∙ and_false (may_be_off unit fix t && holds_initially unit t true))
+
+pub stop-allowed : (terms : Terms) (unit : Thermal) (fix : Fix) (since t : ℕ) → may_stop unit since t ≡ true
+    → move terms unit fix t true since false ≡ leave_cost terms unit fix t (since == t)
+stop-allowed terms unit fix since t e =
+    ap (λ b. cond b (hour_before terms unit t (since == t) true) None)
+    (ap (λ b. (may_be_off unit fix t && holds_initially unit t true) && b) e ∙ and_true (may_be_off unit fix t && holds_initially unit t true))
+
+-- the moves of a unit that has been on since an earlier period
+pub stay-later : (terms : Terms) (unit : Thermal) (fix : Fix) (since t : ℕ) → since < t
+    → move terms unit fix t true since true ≡ stay_cost terms unit fix t false
+stay-later terms unit fix since t h = ap (λ b. stay_cost terms unit fix t b) (ne_eqb since t (λ e. omega arith))
+
+pub stop-later : (terms : Terms) (unit : Thermal) (fix : Fix) (since t : ℕ) → since < t → may_stop unit since t ≡ true
+    → move terms unit fix t true since false ≡ leave_cost terms unit fix t false
+stop-later terms unit fix since t h e =
+    stop-allowed terms unit fix since t e ∙ ap (λ b. leave_cost terms unit fix t b) (ne_eqb since t (λ e. omega arith))
+
+-- M7 says something of the first period alone
+pub holds-later : (unit : Thermal) (t : ℕ) (stop : Bool) → 0 < t → holds_initially unit t stop ≡ true
+holds-later unit t stop h = or_left (nat_lt 0 t) _ (lt-ltb 0 t h)
+
+-- where it may be on, it costs the hour before to stay on, of a later period
+pub stay-hour : (terms : Terms) (unit : Thermal) (fix : Fix) (since t : ℕ) → since < t → may_be_on fix t ≡ true
+    → move terms unit fix t true since true ≡ hour_before terms unit t false false
+stay-hour terms unit fix since t h e =
+    stay-later terms unit fix since t h
+    ∙ cond-true (may_be_on fix t && holds_initially unit t false) _ _ (and_from _ _ e (holds-later unit t false (omega arith)))
+
+-- ---- runs
+pub stays-split : (terms : Terms) (unit : Thermal) (fix : Fix) (since t m n : ℕ)
+    → stays terms unit fix since t (m + n) ≡ total_of (stays terms unit fix since t m) (stays terms unit fix since (t + m) n)
+stays-split terms unit fix since t m zero =
+    ap (stays terms unit fix since t) (let e : m + 0 ≡ m = omega arith in e) ∙ sym (zero-total (stays terms unit fix since t m))
+stays-split terms unit fix since t m (suc n) =
+    let count : m + suc n ≡ suc (m + n) = omega arith in
+    let at : t + (m + n) ≡ (t + m) + n = omega arith in
+    ap (stays terms unit fix since t) count
+    ∙ (λ i. total_of (stays-split terms unit fix since t m n i) (move terms unit fix (at i) true since true))
+    ∙ total-assoc (stays terms unit fix since t m) (stays terms unit fix since (t + m) n) (move terms unit fix ((t + m) + n) true since true)
+
+-- the first period apart
+pub stays-first : (terms : Terms) (unit : Thermal) (fix : Fix) (since t n : ℕ)
+    → stays terms unit fix since t (suc n) ≡ total_of (move terms unit fix t true since true) (stays terms unit fix since (suc t) n)
+stays-first terms unit fix since t n =
+    let count : suc n ≡ 1 + n = omega arith in
+    let at : t + 0 ≡ t = omega arith in
+    let next : t + 1 ≡ suc t = omega arith in
+    ap (stays terms unit fix since t) count
+    ∙ stays-split terms unit fix since t 1 n
+    ∙ (λ i. total_of (total-zero (move terms unit fix (at i) true since true) i) (stays terms unit fix since (next i) n))
+
+-- a run through a period in which the unit may not be on isn't there
+pub stays-barred : (terms : Terms) (unit : Thermal) (fix : Fix) (since t k n : ℕ) → t ≤ k → k < t + n → may_be_on fix k ≡ false
+    → stays terms unit fix since t n ≡ None
+stays-barred terms unit fix since t k n low high e =
+    let count : n ≡ (k - t) + suc (n - suc (k - t)) = omega arith in
+    let at : t + (k - t) ≡ k = omega arith in
+    ap (stays terms unit fix since t) count
+    ∙ stays-split terms unit fix since t (k - t) (suc (n - suc (k - t)))
+    ∙ ap (λ x. total_of (stays terms unit fix since t (k - t)) x)
+    (stays-first terms unit fix since (t + (k - t)) (n - suc (k - t))
+    ∙ ap (λ x. total_of x (stays terms unit fix since (suc (t + (k - t))) (n - suc (k - t))))
+    (ap (λ j. move terms unit fix j true since true) at ∙ stay-barred terms unit fix since k e))
+    ∙ total-none (stays terms unit fix since t (k - t))
+
+-- until it may stop, the unit has to stay on
+pub forced-stays : (terms : Terms) (unit : Thermal) (fix : Fix) (since t n : ℕ) → t + n ≤ period_count terms
+    → ((k : ℕ) → t ≤ k → k < t + n → may_stop unit since k ≡ false)
+    → to_go terms unit fix t true since ≡ total_of (stays terms unit fix since t n) (to_go terms unit fix (t + n) true since)
+forced-stays terms unit fix since t zero h barred =
+    ap (λ k. to_go terms unit fix k true since) (let e : t ≡ t + 0 = omega arith in e) ∙ sym (total-zero (to_go terms unit fix (t + 0) true since))
+forced-stays terms unit fix since t (suc n) h barred =
+    let here = t + n in
+    let next : suc (t + n) ≡ t + suc n = omega arith in
+    let none : stop_cost terms unit fix since here ≡ None =
+    stop_cost-at terms unit fix since here (omega arith)
+    ∙ ap (λ x. total_of x (to_go terms unit fix (suc here) false (suc here))) (stop-barred terms unit fix since here (barred here (omega arith) (omega arith))) in
+    let stay = total_of (move terms unit fix here true since true) (to_go terms unit fix (suc here) true since) in
+    forced-stays terms unit fix since t n (omega arith) (λ k a b. barred k a (omega arith))
+    ∙ ap (total_of (stays terms unit fix since t n))
+    (on-step terms unit fix since here (omega arith) ∙ ap (lesser_of stay) none ∙ lesser-none stay)
+    ∙ sym (total-assoc (stays terms unit fix since t n) (move terms unit fix here true since true) (to_go terms unit fix (suc here) true since))
+    ∙ ap (λ k. total_of (stays terms unit fix since t (suc n)) (to_go terms unit fix k true since)) next
+
+-- a unit that has just been switched on stops at once, or goes on until it may stop
+pub run-least : (terms : Terms) (unit : Thermal) (fix : Fix) (since from : ℕ) → since < from → from ≤ period_count terms
+    → ((k : ℕ) → since < k → k < from → may_stop unit since k ≡ false)
+    → to_go terms unit fix since true since
+    ≡ lesser_of (stop_cost terms unit fix since since) (total_of (stays terms unit fix since since (from - since)) (to_go terms unit fix from true since))
+run-least terms unit fix since from low high barred =
+    let count : from - since ≡ suc (from - suc since) = omega arith in
+    let end : suc since + (from - suc since) ≡ from = omega arith in
+    let first = move terms unit fix since true since true in
+    let rest = stays terms unit fix since (suc since) (from - suc since) in
+    let later : to_go terms unit fix (suc since) true since ≡ total_of rest (to_go terms unit fix from true since) =
+    forced-stays terms unit fix since (suc since) (from - suc since) (omega arith) (λ k a b. barred k (omega arith) (omega arith))
+    ∙ ap (λ k. total_of rest (to_go terms unit fix k true since)) end in
+    let whole : total_of first (to_go terms unit fix (suc since) true since) ≡ total_of (stays terms unit fix since since (from - since)) (to_go terms unit fix from true since) =
+    ap (total_of first) later
+    ∙ sym (total-assoc first rest (to_go terms unit fix from true since))
+    ∙ ap (λ x. total_of x (to_go terms unit fix from true since))
+    (sym (ap (stays terms unit fix since since) count ∙ stays-first terms unit fix since since (from - suc since))) in
+    on-step terms unit fix since since (omega arith)
+    ∙ lesser-comm _ (stop_cost terms unit fix since since)
+    ∙ ap (lesser_of (stop_cost terms unit fix since since)) whole
+
+-- what a run costs before period t
+pub record IsRunTo (terms : Terms) (unit : Thermal) (fix : Fix) (since t : ℕ) (total : ℤ) : Type 0 where
+  pub value : Some total ≡ stays terms unit fix since since (t - since)
+  pub size : unsigned_abs total ≤ (t - since) * MAX_MOVE
+
+run_more-value : (terms : Terms) (unit : Thermal) (fix : Fix) (since t n : ℕ) (total stay : ℤ) → since < t → n ≡ suc (t - since) → may_be_on fix t ≡ true
+    → Some stay ≡ hour_before terms unit t false false → Some total ≡ stays terms unit fix since since (t - since)
+    → Some (total +ℤ stay) ≡ stays terms unit fix since since n
+run_more-value terms unit fix since t n total stay h e on is so_far =
+    let at : since + (t - since) ≡ t = omega arith in
+    (λ i. total_of (so_far i) ((is ∙ sym (stay-hour terms unit fix since t h on) ∙ ap (λ k. move terms unit fix k true since true) (sym at)) i))
+    ∙ ap (stays terms unit fix since since) (sym e)
+
+pub run-first : (terms : Terms) (unit : Thermal) (fix : Fix) (since n : ℕ) (spent : ℤ) → n ≡ 1 → Some spent ≡ move terms unit fix since true since true
+    → Some spent ≡ stays terms unit fix since since n
+run-first terms unit fix since n spent e is =
+    let at : since + 0 ≡ since = omega arith in
+    is ∙ sym (total-zero (move terms unit fix since true since true))
+    ∙ ap (λ k. total_of (Some (pos 0)) (move terms unit fix k true since true)) (sym at)
+    ∙ ap (stays terms unit fix since since) (sym e)
+
+pub run-fits : (n : ℕ) (total stay : ℤ) → n ≤ MAX_PERIODS → unsigned_abs total ≤ n * MAX_MOVE → unsigned_abs stay ≤ MAX_MOVE
+    → FitsSigned w128 (total +ℤ to_z w128 (of_z w128 stay))
+run-fits n total stay h size more =
+    let kept = wide stay MAX_MOVE more (lit< tt) in
+    let whole = abs_add total stay (n * MAX_MOVE) MAX_MOVE size more in
+    subst (λ x. FitsSigned w128 (total +ℤ x)) (sym kept) (fits_signed_from_abs w128 (total +ℤ stay) (omega arith))
+
+pub run-more : (terms : Terms) (unit : Thermal) (fix : Fix) (since t : ℕ) (total stay : ℤ) → since < t → t ≤ MAX_PERIODS → may_be_on fix t ≡ true
+    → Some stay ≡ hour_before terms unit t false false → unsigned_abs stay ≤ MAX_MOVE → IsRunTo terms unit fix since t total
+    → IsRunTo terms unit fix since (suc t) (to_z w128 (of_z w128 (total +ℤ to_z w128 (of_z w128 stay))))
+run-more terms unit fix since t total stay h few on is more so_far =
+    let kept = wide stay MAX_MOVE more (lit< tt) in
+    let size : unsigned_abs (total +ℤ stay) ≤ (suc t - since) * MAX_MOVE =
+    omega (arith, abs_add total stay ((t - since) * MAX_MOVE) MAX_MOVE so_far.size more) in
+    let same : to_z w128 (of_z w128 (total +ℤ to_z w128 (of_z w128 stay))) ≡ total +ℤ stay =
+    ap (λ x. to_z w128 (of_z w128 (total +ℤ x))) kept ∙ wide (total +ℤ stay) (suc MAX_PERIODS * MAX_MOVE) (omega arith) (lit< tt) in
+    subst (λ x. IsRunTo terms unit fix since (suc t) x) (sym same)
+    (record { value = run_more-value terms unit fix since t (suc t - since) total stay h (omega arith) on is so_far.value; size = size })

@@ -1,0 +1,39 @@
+-- Terms that are sized for a unit are rows of terms, with one at the full cap.
+use Rattle.std.proofs.Common.{ℕ, ◌≤◌, false, refl, arith, ℤ, pos, ◌-ℤ◌, ◌*ℤ◌, ◌≤ℤ◌}
+use Rattle.std.specs.Prelude.{Option, Some, None, IfSome, unsigned_abs}
+use Rattle.std.specs.Int.{int_min}
+use Rattle.std.proofs.lemmas.Bool.{cond_both}
+use Rattle.uc_model.specs.Commitment.{start_reduction, stop_reduction}
+use Rattle.uc_model.specs.Limits.{IsLawfulThermal}
+use Rattle.uc_model.specs.declared.instance.Thermal.{Thermal}
+use Rattle.uc_model.specs.declared.terms.Terms.{Terms}
+use Rattle.uc_model.proofs.Ring.{linear, mul-zero}
+use Rattle.dual_model.specs.UnitTerms.{cell_cap, period_count, AreSizedTerms, IsSized}
+use Rattle.dual_model.specs.declared.limits.TheConstants.{MAX_TERM}
+use Rattle.interval_graph.specs.Intervals.{AreTermRows, IsThere}
+
+sized-size : (cap : ℤ) (term : Option ℤ) → IsSized cap term → IfSome term (λ m. unsigned_abs m ≤ MAX_TERM)
+sized-size cap None is = tt
+sized-size cap (Some m) is = is.1
+
+sized-there : (cap : ℤ) (term : Option ℤ) → IsSized cap term → pos 0 ≤ℤ cap → IsThere term
+sized-there cap None is h = absurd (omega (arith, linear))
+sized-there cap (Some m) is h = (m, refl)
+
+min_nonneg : (a b : ℤ) → pos 0 ≤ℤ a → pos 0 ≤ℤ b → pos 0 ≤ℤ int_min a b
+min_nonneg a b h k = cond_both _ b a (λ x. pos 0 ≤ℤ x) (λ e. k) (λ e. h)
+
+full-cap : (periods : ℕ) (unit : Thermal) (t : ℕ) → IsLawfulThermal unit → pos 0 ≤ℤ cell_cap periods unit t false false
+full-cap periods unit t lawful =
+    let range = lawful.range in
+    let start = mul-zero (start_reduction unit) in
+    let stop = mul-zero (stop_reduction unit) in
+    min_nonneg (unit.pmax -ℤ unit.pmin -ℤ start_reduction unit *ℤ pos 0) (unit.pmax -ℤ unit.pmin -ℤ stop_reduction unit *ℤ pos 0)
+    (omega (arith, linear)) (omega (arith, linear))
+
+pub sized-rows : (unit : Thermal) (terms : Terms) → IsLawfulThermal unit → AreSizedTerms unit terms → AreTermRows terms.terms
+sized-rows unit terms lawful sized = record {
+  periods = sized.periods.1;
+  size = λ t start stop within. sized-size _ _ (sized.term t start stop within);
+  full = λ t within. sized-there _ _ (sized.term t false false within) (full-cap (period_count terms) unit t lawful);
+}

@@ -1,0 +1,225 @@
+-- The pattern that is read from the table, from switch to switch: what it has of the least way so far, and one switch more.
+use Rattle.std.proofs.Common.{◌≡◌, ℕ, suc, ◌-◌, ◌<◌, ◌≤◌, ⊎_elim, Bool, true, false, not, ◌&&◌, refl, sym, ap, subst, ◌∙◌, arith, ℤ}
+use Rattle.std.specs.Prelude.{Option, Some, None, IfSome, if◌then◌else◌}
+use Rattle.std.proofs.lemmas.Bool.{cases_Bool, cond-false}
+use Rattle.uc_model.specs.Commitment.{Commitment}
+use Rattle.uc_model.specs.PatternBits.{commitment_of}
+use Rattle.uc_model.specs.declared.instance.Thermal.{Thermal}
+use Rattle.uc_model.specs.declared.pattern.Pattern.{Pattern}
+use Rattle.uc_model.specs.declared.terms.Terms.{Terms}
+use Rattle.dual_model.specs.declared.node.Fix.{Fix}
+use Rattle.dual_model.specs.UnitTerms.{period_count}
+use Rattle.state_walk.specs.inside.Moves.{holds_initially, may_be_off, may_be_on, may_start, may_stop, move}
+use Rattle.state_walk.specs.CostToGo.{total_of}
+use Rattle.state_walk.proofs.Optimum.{total_of-parts}
+use Rattle.unit_path.specs.inside.Choices.{choice_cost, rests, start_total, stays, stop_cost, switch_after, IsStart, IsStop, IsSwitch}
+use Rattle.unit_path.specs.inside.Hours.{IsHour, IsStartIn, IsStopIn}
+use Rattle.unit_path.specs.inside.Ways.{way_of, IsWay}
+use Rattle.unit_path.specs.declared.hour.Choice.{Choice}
+use Rattle.unit_path.specs.declared.hour.Hour.{Hour}
+use Rattle.unit_path.proofs.Going.{start_total-at, start_total-end, stop_cost-at, stop_cost-end, to_go}
+use Rattle.unit_path.proofs.WayLaws.{rest-ended, rest-switched, run-ended, run-switched, way_from}
+
+-- the pattern has the way's part before period `from`, from which on the unit is `on`, or off, to its next switch in period `to`
+pub record IsTraced (terms : Terms) (unit : Thermal) (fix : Fix) (total : ℤ) (pattern : Pattern) (on : Bool) (from to : ℕ) : Type 0 where
+  pub since : ℕ
+  pub cost : ℤ
+  pub after : from ≤ since
+  pub soon : since ≤ suc from
+  pub switch : IsSwitch terms unit fix on since (record { cost = cost; at = to })
+  pub off : (k : ℕ) → from ≤ k → commitment_of pattern k ≡ false
+  pub way : (other : Commitment) → ((k : ℕ) → k < from → other k ≡ commitment_of pattern k)
+      → ((k : ℕ) → from ≤ k → k < since → other k ≡ on)
+      → way_from terms unit fix other since on since ≡ Some cost
+      → way_of terms unit fix other (period_count terms) 0 unit.on0 0 ≡ Some total
+
+-- the next pattern has the run too
+pub record HasRun (old new : Pattern) (on : Bool) (from to : ℕ) : Type 0 where
+  pub run : (k : ℕ) → from ≤ k → k < to → commitment_of old k ≡ false → commitment_of new k ≡ on
+  pub before : (k : ℕ) → k < from → commitment_of new k ≡ commitment_of old k
+  pub after : (k : ℕ) → to ≤ k → commitment_of new k ≡ commitment_of old k
+
+-- ---- the choice behind a switch
+-- a choice that is there
+record Chosen (P : Choice → Type 0) (choice : Option Choice) (cost : ℤ) : Type 0 where
+  chosen : Choice
+  is : choice ≡ Some chosen
+  holds : P chosen
+  same : chosen.cost ≡ cost
+
+choice-there : (P : Choice → Type 0) (choice : Option Choice) (cost : ℤ) → choice_cost choice ≡ Some cost → IfSome choice P → Chosen P choice cost
+choice-there P None cost e h = cc
+choice-there P (Some choice) cost e h = record { chosen = choice; is = refl; holds = h; same = cc }
+
+not-none : (o : Option ℤ) (v : ℤ) → o ≡ None → o ≡ Some v → ⊥
+not-none o v e h = cc
+
+-- the start behind a chosen stop
+record Behind (P : Choice → Type 0) (choice : Option Choice) (switch : Option ℤ → Option ℤ) (cost : ℤ) : Type 0 where
+  chosen : Choice
+  is : choice ≡ Some chosen
+  holds : P chosen
+  whole : (rest : Option ℤ) → rest ≡ Some chosen.cost → switch rest ≡ Some cost
+
+stop-behind : (terms : Terms) (unit : Thermal) (fix : Fix) (since to : ℕ) (cost : ℤ) (stop : Option Choice) → to < period_count terms
+    → IsStop terms unit fix since since (record { cost = cost; at = to }) → IsStopIn terms unit fix to stop
+    → Behind (IsStart terms unit fix (suc to) (suc to)) stop
+    (λ rest. total_of (stays terms unit fix since since (to - since)) (total_of (move terms unit fix to true since false) rest)) cost
+stop-behind terms unit fix since to cost stop h is entry =
+    let whole = total_of-parts (stays terms unit fix since since (to - since)) (stop_cost terms unit fix since to) cost is.attained in
+    let at = stop_cost-at terms unit fix since to h in
+    let rest = total_of-parts (move terms unit fix to true since false) (to_go terms unit fix (suc to) false (suc to)) whole.second (sym at ∙ whole.second_is) in
+    ⊎_elim
+    (λ (may : may_be_off unit fix to ≡ true).
+    let least = entry.least may in
+    let there = choice-there (IsStart terms unit fix (suc to) (suc to)) stop rest.second (least.cost ∙ rest.second_is) least.start in
+    record {
+      chosen = there.chosen;
+      is = there.is;
+      holds = there.holds;
+      whole = λ r e.
+          ap (λ x. total_of (stays terms unit fix since since (to - since)) (total_of (move terms unit fix to true since false) x))
+          (e ∙ ap Some there.same ∙ sym rest.second_is)
+          ∙ ap (total_of (stays terms unit fix since since (to - since))) (sym at) ∙ is.attained;
+    })
+    (λ (barred : may_be_off unit fix to ≡ false).
+    absurd (not-none (move terms unit fix to true since false) rest.first
+    (cond-false ((may_be_off unit fix to && holds_initially unit to true) && may_stop unit since to) _ _
+    (ap (λ b. (b && holds_initially unit to true) && may_stop unit since to) barred)) rest.first_is))
+    (cases_Bool (may_be_off unit fix to))
+
+start-behind : (terms : Terms) (unit : Thermal) (fix : Fix) (since to : ℕ) (cost : ℤ) (start : Option Choice) → to < period_count terms
+    → IsStart terms unit fix since since (record { cost = cost; at = to }) → IsStartIn terms unit fix to start
+    → Behind (IsStop terms unit fix (suc to) (suc to)) start
+    (λ rest. total_of (rests unit fix since (to - since)) (total_of (move terms unit fix to false since true) rest)) cost
+start-behind terms unit fix since to cost start h is entry =
+    let whole = total_of-parts (rests unit fix since (to - since)) (start_total terms unit fix since to) cost is.attained in
+    let at = start_total-at terms unit fix since to h in
+    let rest = total_of-parts (move terms unit fix to false since true) (to_go terms unit fix (suc to) true (suc to)) whole.second (sym at ∙ whole.second_is) in
+    ⊎_elim
+    (λ (may : may_be_on fix to ≡ true).
+    let least = entry.least may in
+    let there = choice-there (IsStop terms unit fix (suc to) (suc to)) start rest.second (least.cost ∙ rest.second_is) least.stop in
+    record {
+      chosen = there.chosen;
+      is = there.is;
+      holds = there.holds;
+      whole = λ r e.
+          ap (λ x. total_of (rests unit fix since (to - since)) (total_of (move terms unit fix to false since true) x))
+          (e ∙ ap Some there.same ∙ sym rest.second_is)
+          ∙ ap (total_of (rests unit fix since (to - since))) (sym at) ∙ is.attained;
+    })
+    (λ (barred : may_be_on fix to ≡ false).
+    absurd (not-none (move terms unit fix to false since true) rest.first
+    (cond-false (may_be_on fix to && may_start unit since to) _ _ (ap (λ b. b && may_start unit since to) barred)) rest.first_is))
+    (cases_Bool (may_be_on fix to))
+
+-- ---- one switch more
+pub trace-more : (terms : Terms) (unit : Thermal) (fix : Fix) (total : ℤ) (old new : Pattern) (on : Bool) (from to next end : ℕ) (hour : Hour)
+    → to < period_count terms → IsHour terms unit fix to hour → IsTraced terms unit fix total old on from to → HasRun old new on from to
+    → next ≡ switch_after (if not on then hour.start else hour.stop) end
+    → IsTraced terms unit fix total new (not on) to next
+trace-more terms unit fix total old new true from to next end hour h is traced run e =
+    let switch = traced.switch in
+    let low = switch.later in
+    let first = traced.after in
+    let behind = stop-behind terms unit fix traced.since to traced.cost hour.stop h switch is.stop in
+    let at : next ≡ behind.chosen.at = e ∙ ap (λ o. switch_after o end) behind.is in
+    record {
+      since = suc to;
+      cost = behind.chosen.cost;
+      after = omega arith;
+      soon = omega arith;
+      switch = subst (λ k. IsStart terms unit fix (suc to) (suc to) (record { cost = behind.chosen.cost; at = k })) (sym at) behind.holds;
+      off = λ k high. run.after k high ∙ traced.off k (omega arith);
+      way = λ other same here rest.
+          traced.way other (λ k short. same k (omega arith) ∙ run.before k short)
+          (λ k a b. same k (omega arith) ∙ run.run k a (omega arith) (traced.off k a))
+          (run-switched terms unit fix other traced.since to low h
+          (λ k a b. same k b ∙ run.run k (omega arith) b (traced.off k (omega arith))) (here to (omega arith) (omega arith))
+          ∙ behind.whole _ rest);
+    }
+trace-more terms unit fix total old new false from to next end hour h is traced run e =
+    let switch = traced.switch in
+    let low = switch.later in
+    let first = traced.after in
+    let behind = start-behind terms unit fix traced.since to traced.cost hour.start h switch is.start in
+    let at : next ≡ behind.chosen.at = e ∙ ap (λ o. switch_after o end) behind.is in
+    record {
+      since = suc to;
+      cost = behind.chosen.cost;
+      after = omega arith;
+      soon = omega arith;
+      switch = subst (λ k. IsStop terms unit fix (suc to) (suc to) (record { cost = behind.chosen.cost; at = k })) (sym at) behind.holds;
+      off = λ k high. run.after k high ∙ traced.off k (omega arith);
+      way = λ other same here rest.
+          traced.way other (λ k short. same k (omega arith) ∙ run.before k short)
+          (λ k a b. same k (omega arith) ∙ run.run k a (omega arith) (traced.off k a))
+          (rest-switched terms unit fix other traced.since to low h
+          (λ k a b. same k b ∙ run.run k (omega arith) b (traced.off k (omega arith))) (here to (omega arith) (omega arith))
+          ∙ behind.whole _ rest);
+    }
+
+-- and it is a later one
+pub more-later : (terms : Terms) (unit : Thermal) (fix : Fix) (total : ℤ) (pattern : Pattern) (on : Bool) (from to next end : ℕ) (hour : Hour)
+    → to < period_count terms → IsHour terms unit fix to hour → IsTraced terms unit fix total pattern on from to
+    → next ≡ switch_after (if not on then hour.start else hour.stop) end
+    → to < next
+more-later terms unit fix total pattern true from to next end hour h is traced e =
+    let behind = stop-behind terms unit fix traced.since to traced.cost hour.stop h traced.switch is.stop in
+    let at : next ≡ behind.chosen.at = e ∙ ap (λ o. switch_after o end) behind.is in
+    let later : suc to ≤ behind.chosen.at = behind.holds.later in
+    omega arith
+more-later terms unit fix total pattern false from to next end hour h is traced e =
+    let behind = start-behind terms unit fix traced.since to traced.cost hour.start h traced.switch is.start in
+    let at : next ≡ behind.chosen.at = e ∙ ap (λ o. switch_after o end) behind.is in
+    let later : suc to ≤ behind.chosen.at = behind.holds.later in
+    omega arith
+
+pub switch-within : (terms : Terms) (unit : Thermal) (fix : Fix) (total : ℤ) (pattern : Pattern) (on : Bool) (from to : ℕ)
+    → IsTraced terms unit fix total pattern on from to → to ≤ period_count terms
+switch-within terms unit fix total pattern true from to traced = let switch = traced.switch in switch.within
+switch-within terms unit fix total pattern false from to traced = let switch = traced.switch in switch.within
+
+-- ---- the end
+pub trace-end : (terms : Terms) (unit : Thermal) (fix : Fix) (total : ℤ) (old new : Pattern) (on : Bool) (from to end : ℕ)
+    → to ≡ period_count terms → end ≡ to → IsTraced terms unit fix total old on from to → HasRun old new on from end → IsWay terms unit fix total new
+trace-end terms unit fix total old new true from to end h e traced run =
+    let switch = traced.switch in
+    let low = switch.later in
+    let first = traced.after in
+    record {
+      attained =
+          traced.way (commitment_of new) (λ k short. run.before k short) (λ k a b. run.run k a (omega arith) (traced.off k a))
+          (run-ended terms unit fix (commitment_of new) traced.since to low h (λ k a b. run.run k (omega arith) (omega arith) (traced.off k (omega arith)))
+          ∙ ap (total_of (stays terms unit fix traced.since traced.since (to - traced.since))) (sym (stop_cost-end terms unit fix traced.since to h))
+          ∙ switch.attained);
+      after = λ k high. run.after k (omega arith) ∙ traced.off k (omega arith);
+    }
+trace-end terms unit fix total old new false from to end h e traced run =
+    let switch = traced.switch in
+    let low = switch.later in
+    let first = traced.after in
+    record {
+      attained =
+          traced.way (commitment_of new) (λ k short. run.before k short) (λ k a b. run.run k a (omega arith) (traced.off k a))
+          (rest-ended terms unit fix (commitment_of new) traced.since to low h (λ k a b. run.run k (omega arith) (omega arith) (traced.off k (omega arith)))
+          ∙ ap (total_of (rests unit fix traced.since (to - traced.since))) (sym (start_total-end terms unit fix traced.since to h))
+          ∙ switch.attained);
+      after = λ k high. run.after k (omega arith) ∙ traced.off k (omega arith);
+    }
+
+-- ---- the beginning
+pub trace-start : (terms : Terms) (unit : Thermal) (fix : Fix) (pattern : Pattern) (first : Choice)
+    → IsSwitch terms unit fix unit.on0 0 first → ((k : ℕ) → commitment_of pattern k ≡ false)
+    → IsTraced terms unit fix first.cost pattern unit.on0 0 first.at
+trace-start terms unit fix pattern first switch off = record {
+  since = 0;
+  cost = first.cost;
+  after = omega arith;
+  soon = omega arith;
+  switch = switch;
+  off = λ k low. off k;
+  way = λ other same here rest.
+      ap (λ n. way_of terms unit fix other n 0 unit.on0 0) (let e : period_count terms ≡ period_count terms - 0 = omega arith in e) ∙ rest;
+}

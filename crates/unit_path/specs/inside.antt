@@ -1,0 +1,4 @@
+pub mod Choices
+pub mod Hours
+pub mod StartCosts
+pub mod Ways
