@@ -1,0 +1,14 @@
+//! The value of a node of the branch tree at a price table: the Lagrangian bound, with what each unit adds to it and a
+//! pattern of each that attains its part.
+#![tactic(auto)]
+
+mod fixes;
+pub mod node_value;
+mod room;
+mod system;
+mod units;
+mod valued;
+
+pub use node_value::{value, value_in};
+pub use room::Room;
+pub use valued::{ValueFault, Valued};

@@ -1,0 +1,99 @@
+//! The value of a node at a table.
+
+ghost use Rattle.std.specs.Prelude.{◌≡◌, IfOk, IfErr, length};
+ghost use Rattle.uc_model.specs.Limits.{IsLawfulInstance};
+ghost use Rattle.dual_model.specs.Fixings.{IsNodeOf};
+ghost use Rattle.dual_model.specs.Prices.{HasSizeOf, IsWithinLimits};
+ghost use Rattle.dual_value.specs.NodeAnswer.{IsFaultOf, IsValued};
+ghost use Rattle.dual_value.specs.Rooms.{IsRoomOf};
+
+use crate::room::Room;
+use crate::system::{renewables_value, system_value};
+use crate::units::unit_part;
+use crate::valued::{ValueFault, Valued};
+use dual_model::{Node, Table};
+use std::alloc::Global;
+use uc_model::{Instance, List, NoMemory, Pattern, sum};
+use unit_path::Scratch;
+
+/// The value of a node at a table, exact, with what each thermal unit adds and a pattern of each that attains its
+/// value. `Empty(g)` exactly where thermal unit `g`, from 0, is the first without a pattern at the node. The only other
+/// error is `NoMemory`.
+pub fn value(
+    alloc: Global,
+    scratch: &mut Scratch,
+    instance: &Instance,
+    node: &Node,
+    table: &Table,
+) -> Result<Valued, ValueFault>
+    requires lawful { IsLawfulInstance instance.now }
+    requires node { IsNodeOf instance.now node.now }
+    requires size { HasSizeOf instance.now table.now }
+    requires limits { IsWithinLimits table.now }
+    requires memory { scratch.old ≡ instance.now.periods }
+    ensures kept { scratch.new ≡ scratch.old }
+
+    ensures value { IfOk result (IsValued instance.now node.now table.now) }
+    ensures fault { IfErr result (IsFaultOf instance.now node.now) }
+{
+    let mut room = Room::new(alloc, instance)?;
+    value_in(alloc, scratch, &mut room, instance, node, table)
+}
+
+/// The same, with the room that was made for the instance: nothing is made anew that many tables or nodes of the
+/// instance share.
+pub fn value_in(
+    alloc: Global,
+    scratch: &mut Scratch,
+    room: &mut Room,
+    instance: &Instance,
+    node: &Node,
+    table: &Table,
+) -> Result<Valued, ValueFault>
+    requires lawful { IsLawfulInstance instance.now }
+    requires node { IsNodeOf instance.now node.now }
+    requires size { HasSizeOf instance.now table.now }
+    requires limits { IsWithinLimits table.now }
+    requires memory { scratch.old ≡ instance.now.periods }
+    requires room { IsRoomOf instance.now room.old }
+    ensures kept { scratch.new ≡ scratch.old }
+    ensures kept_room { room.new ≡ room.old }
+
+    ensures value { IfOk result (IsValued instance.now node.now table.now) }
+    ensures fault { IfErr result (IsFaultOf instance.now node.now) }
+{
+    let units = instance.thermal.as_slice();
+    let mut parts = no_parts(alloc, units.len())?;
+    let mut patterns = no_patterns(alloc, units.len())?;
+    let mut total = sum(
+        system_value(instance, table),
+        renewables_value(instance, table),
+    );
+    // Invariant, before unit g: each unit before it has its part and a pattern of it (IsPartOf), and `total` is what
+    // does not hang on units with the sum of their parts, at most MAX_SYSTEM + MAX_RENEWABLES + g * MAX_PART in size.
+    for g in 0..units.len() {
+        let (part, pattern) = unit_part(alloc, scratch, room, &units[g], node, table, g)?;
+        parts[g] = part;
+        patterns[g] = pattern;
+        total = sum(total, part);
+    }
+    Ok(Valued {
+        total,
+        parts: List::from_vec(parts),
+        patterns: List::from_vec(patterns),
+    })
+}
+
+// A part of 0 for each unit.
+fn no_parts(alloc: Global, units: usize) -> Result<Vec<i128>, NoMemory>
+    ensures { IfOk result (λ parts. length parts.items ≡ units) }
+{
+    Ok(vec![in alloc; 0; units]?)
+}
+
+// A pattern for each unit.
+fn no_patterns(alloc: Global, units: usize) -> Result<Vec<Pattern>, NoMemory>
+    ensures { IfOk result (λ patterns. length patterns.items ≡ units) }
+{
+    Ok(vec![in alloc; Pattern::all_off(); units]?)
+}
