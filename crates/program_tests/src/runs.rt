@@ -1,6 +1,7 @@
 //! Runs of the program on devices in memory.
 
 use crate::tally::Tally;
+use crate::texts::changed;
 use outside::{Call, Devices, FailingCall, FaultyFile, FaultySink, Pace};
 use sample_instances::{BASE, KAZARLIS};
 use std::alloc::{AllocError, Global};
@@ -260,24 +261,16 @@ const REFUSALS: [Refusal; 8] = [
     },
 ];
 
-fn changed(alloc: Global, changes: &[(&str, &str)]) -> Result<String, AllocError> {
-    let mut text = String::from_str(alloc, BASE)?;
-    for (from, to) in changes {
-        text = text.replace(alloc, *from, to)?;
-    }
-    Ok(text)
-}
-
 #[test]
 fn runs_end_as_the_worked_examples_say(rt: HostRuntime) -> Result<(), Fail> {
     let alloc = rt.alloc();
     for run in &ANSWERS {
-        let input = changed(alloc, run.changes)?;
+        let input = changed(alloc, BASE, run.changes)?;
         let ending = &run.ending;
         assert_run(&rt, alloc, input.as_bytes(), run.words, &NONE_FAILS, ending)?;
     }
     for run in &REFUSALS {
-        let input = changed(alloc, run.changes)?;
+        let input = changed(alloc, BASE, run.changes)?;
         let ending = &fault(run.code, run.told);
         assert_run(&rt, alloc, input.as_bytes(), run.words, &NONE_FAILS, ending)?;
     }
@@ -412,7 +405,7 @@ fn assert_bound<R: Threads + Wait + Sync + Abort>(
 #[test]
 fn systems_of_each_shape_are_bounded(rt: HostRuntime) -> Result<(), Fail> {
     let alloc = rt.alloc();
-    let two = changed(alloc, &[SECOND_UNIT])?;
+    let two = changed(alloc, BASE, &[SECOND_UNIT])?;
     let size = Size {
         periods: 1,
         thermal: 2,
@@ -429,6 +422,7 @@ fn systems_of_each_shape_are_bounded(rt: HostRuntime) -> Result<(), Fail> {
     let reserves = repeated(alloc, "5", 168)?;
     let long = changed(
         alloc,
+        BASE,
         &[
             ("\"time_periods\":1", "\"time_periods\":168"),
             ("[30]", &format!(in alloc; "[{demand}]")?),
