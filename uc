@@ -62,7 +62,7 @@ build() {
   trap leave EXIT
   trap 'exit 143' INT TERM HUP
   mapfile -t crates < <(needed)
-  say "proving and building the program: some 8 minutes on four free processors the first time; later runs start at once"
+  say "proving and building the program: some 10 minutes on four free processors the first time; later runs start at once"
   watched all check --jobs "$(places)" || fail
   tell_proved $((${#crates[@]} - 1))
   say "linking the program"
