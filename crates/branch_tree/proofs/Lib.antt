@@ -9,3 +9,4 @@ pub mod Paths
 pub mod TreeLaws
 pub mod Preorder
 pub mod Used
+pub mod Grown

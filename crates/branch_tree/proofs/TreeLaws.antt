@@ -63,7 +63,7 @@ both_none None b none = (refl, none)
 both_none (Some a) None none = absurd (cc)
 both_none (Some a) (Some b) none = absurd (cc)
 
-excluded_below : (instance : Instance) (tables : List Table) (node : Node) (tree : branch.Tree Leaf) → least_bound tree ≡ None
+pub excluded_below : (instance : Instance) (tables : List Table) (node : Node) (tree : branch.Tree Leaf) → least_bound tree ≡ None
     → EachLeaf (StoredHolds instance tables) node tree → EachLeaf (IsExcluded instance tables) node (map_leaves own_claim tree)
 excluded_below instance tables node (Ends leaf) none h = leaf_excluded instance tables node leaf none h
 excluded_below instance tables node (Splits g t off on) none h =

@@ -41,6 +41,11 @@ pub record ArePlacesOf (tree : NumberedTree) (places : List Place) : Type 0 wher
   pub count : length places ≡ node_count tree
   pub numbered : IsNumbered tree
 
+-- the tree's nodes have places
+pub record IsPlaced (tree : NumberedTree) : Type 0 where
+  pub places : List Place
+  pub are : ArePlacesOf tree places
+
 -- the places are those of the tree that hangs from the first
 abbrev pub AreWellPlaced : List Place → Type 0
 AreWellPlaced places = ArePlacesOf (tree_from places 0) places

@@ -1,10 +1,9 @@
 -- What a search answers: a tree that holds, a true log, and how much of the budget was spent. This project's
 -- own statement.
-use Rattle.std.specs.Prelude.{◌≡◌, ◌≢◌, ℕ, ◌<◌, List, [], ◌∷◌, ℤ, Some, None, IfSome, All, AllPairs, length, slice_get}
-use Rattle.uc_model.specs.Schedule.{thermal_count}
+use Rattle.std.specs.Prelude.{◌≡◌, ◌≢◌, ℕ, List, [], ◌∷◌, ℤ, Some, None, IfSome, All, AllPairs, length, slice_get}
 use Rattle.uc_model.specs.declared.instance.Instance.{Instance}
 use Rattle.dual_model.specs.Prices.{IsLawfulTable}
-use Rattle.dual_model.specs.Fixings.{HasNoPattern}
+use Rattle.dual_model.specs.Fixings.{IsFirstEmpty}
 use Rattle.dual_model.specs.NodeValue.{IsNodeValue}
 use Rattle.dual_model.specs.Tree.{Ends, root}
 use Rattle.dual_model.specs.Cover.{ReachesBoundOf}
@@ -21,12 +20,6 @@ use Rattle.branch_tree.specs.declared.tree.Tree.{Tree}
 use Rattle.branch_tree.specs.TreeView.{tree_of}
 use Rattle.branch_tree.specs.StoredTree.{IsNodeAt, tree_bound}
 use Rattle.branch_tree.specs.Claims.{HasLayout, written_tables, certificate_of}
-
--- unit g is the first of the instance that has no pattern at the node
-pub record IsFirstEmpty (instance : Instance) (node : Node) (g : ℕ) : Type 0 where
-  pub within : g < thermal_count instance
-  pub empty : HasNoPattern instance node g
-  pub first : (earlier : ℕ) → earlier < g → ¬ HasNoPattern instance node earlier
 
 -- the outcome is that of the node at the table
 abbrev pub IsOutcome : Instance → Node → Table → Outcome → Type 0

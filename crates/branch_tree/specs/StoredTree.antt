@@ -1,5 +1,5 @@
 -- The bounds that are stored at the leaves of a tree. This project's own form.
-use Rattle.std.specs.Prelude.{◌≡◌, ℕ, ℤ, Option, Some, None}
+use Rattle.std.specs.Prelude.{◌≡◌, ℕ, ℤ, ◌≤ℤ◌, Option, Some, None}
 use Rattle.std.specs.Int.{int_min}
 use Rattle.dual_model.specs.Tree.{Ends, Splits}
 use Rattle.dual_model.specs.Tree as branch
@@ -32,6 +32,12 @@ abbrev pub lesser_bound : Option ℤ → Option ℤ → Option ℤ
 lesser_bound None b = b
 lesser_bound (Some a) None = Some a
 lesser_bound (Some a) (Some b) = Some (int_min a b)
+
+-- a bound is no greater than another; none is the greatest
+abbrev pub AtMost : Option ℤ → Option ℤ → Type 0
+AtMost a None = Unit {0}
+AtMost None (Some b) = ⊥
+AtMost (Some a) (Some b) = a ≤ℤ b
 
 -- the least stored bound over the leaves that aren't excluded, and none where each of them is
 abbrev pub least_bound : branch.Tree Leaf → Option ℤ

@@ -12,4 +12,5 @@ mod slope;
 
 pub use curve::Curve;
 pub use inline::InlineCurve;
+pub use line::{rise, run};
 pub use slope::Slope;

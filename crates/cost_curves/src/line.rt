@@ -7,7 +7,7 @@ use uc_model::limits::{MAX_COST, MAX_POWER};
 use uc_model::{Point, scaled};
 
 /// How far a point lies right of another, in watts.
-pub(crate) fn run(from: &Point, to: &Point) -> i64
+pub fn run(from: &Point, to: &Point) -> i64
     requires from { IsLawfulPoint from.now }
     requires to { IsLawfulPoint to.now }
     ensures value { result ≡ to.now.mw -ℤ from.now.mw }
@@ -17,7 +17,7 @@ pub(crate) fn run(from: &Point, to: &Point) -> i64
 }
 
 /// How far it lies above the other, in micro-dollars.
-pub(crate) fn rise(from: &Point, to: &Point) -> i64
+pub fn rise(from: &Point, to: &Point) -> i64
     requires from { IsLawfulPoint from.now }
     requires to { IsLawfulPoint to.now }
     ensures value { result ≡ to.now.cost -ℤ from.now.cost }

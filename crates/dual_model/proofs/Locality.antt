@@ -1,12 +1,12 @@
 -- A unit's rules and costs depend on its commitment in the periods of the instance alone.
 use Rattle.std.proofs.Common.{◌≡◌, ℕ, zero, suc, ◌+◌, ◌-◌, ◌<◌, ◌≤◌, Bool, true, false, not, ◌&&◌, ◌||◌, cond, refl, ap, arith, List, [], ◌∷◌, pos, ◌-ℤ◌, ◌*ℤ◌}
-use Rattle.std.specs.Prelude.{nat_lt, int_le, min, max, Some, ◌==◌}
+use Rattle.std.specs.Prelude.{nat_lt, nat_le, int_le, min, max, Some, ◌==◌}
 use Rattle.std.specs.List.{list_all}
 use Rattle.std.specs.Int.{int_min}
 use Rattle.std.proofs.lemmas.Bool.{ltb-true, ltb-false}
-use Rattle.uc_model.specs.Sums.{sum_below, all_below, bit}
+use Rattle.uc_model.specs.Sums.{sum_below, all_below, any_below, bit}
 use Rattle.uc_model.specs.Commitment.{Commitment, was_on, starts, stops, keeps_minimum_at, start_cap, stop_cap, cap, is_allowed_at, is_allowed, initial_stop_holds, stop_reduction, start_reduction}
-use Rattle.uc_model.specs.StartCategory.{last_stop, sigma}
+use Rattle.uc_model.specs.StartCategory.{last_stop, sigma, category_lag, category_count, is_barred, is_category_allowed}
 use Rattle.uc_model.specs.declared.instance.Thermal.{Thermal}
 use Rattle.uc_model.proofs.Sums.{sum_below-same}
 use Rattle.dual_model.specs.Fixings.{keeps, keeps_of}
@@ -29,6 +29,10 @@ all_below-same : (n : ℕ) (f g : ℕ → Bool) → ((k : ℕ) → k < n → f k
 all_below-same zero f g e = refl
 all_below-same (suc n) f g e = λ i. e n (omega arith) i && all_below-same n f g (λ k h. e k (omega arith)) i
 
+any_below-same : (n : ℕ) (f g : ℕ → Bool) → ((k : ℕ) → k < n → f k ≡ g k) → any_below n f ≡ any_below n g
+any_below-same zero f g e = refl
+any_below-same (suc n) f g e = λ i. e n (omega arith) i || any_below-same n f g (λ k h. e k (omega arith)) i
+
 was_on-same : (n : ℕ) (unit : Thermal) (on other : Commitment) → SameBelow n on other → (t : ℕ) → t ≤ n
     → was_on unit on t ≡ was_on unit other t
 was_on-same n unit on other h zero l = refl
@@ -42,7 +46,7 @@ pub stops-same : (n : ℕ) (unit : Thermal) (on other : Commitment) → SameBelo
     → stops unit on t ≡ stops unit other t
 stops-same n unit on other h t l = λ i. was_on-same n unit on other h t (omega arith) i && not (h.same t l i)
 
-keeps_minimum-same : (n window : ℕ) (changes changes' state state' : Commitment) → SameBelow n changes changes'
+pub keeps_minimum-same : (n window : ℕ) (changes changes' state state' : Commitment) → SameBelow n changes changes'
     → SameBelow n state state' → (t : ℕ) → t < n
     → keeps_minimum_at window changes state t ≡ keeps_minimum_at window changes' state' t
 keeps_minimum-same n window changes changes' state state' hc hs t l =
@@ -84,7 +88,7 @@ allowed_at-same periods unit on other h t l =
     && (not (not unit.on0 && nat_lt t (unit.dt - unit.dt0)) || not (here i))
     && started i && stopped i && (not (here i) || int_le (pos 0) (room i))
 
-initial_stop-same : (periods : ℕ) (unit : Thermal) (on other : Commitment) → SameBelow periods on other → 0 < periods
+pub initial_stop-same : (periods : ℕ) (unit : Thermal) (on other : Commitment) → SameBelow periods on other → 0 < periods
     → initial_stop_holds unit on ≡ initial_stop_holds unit other
 initial_stop-same periods unit on other h some =
     ap (λ b. int_le (bit unit.on0 *ℤ (unit.p0 -ℤ unit.pmin))
@@ -109,6 +113,16 @@ last_stop-same n unit on other h (suc t) l =
 pub sigma-same : (n : ℕ) (unit : Thermal) (on other : Commitment) → SameBelow n on other → (t : ℕ) → t ≤ n
     → sigma unit (last_stop unit on t) t ≡ sigma unit (last_stop unit other t) t
 sigma-same n unit on other h t l = ap (λ last. sigma unit last t) (last_stop-same n unit on other h t l)
+
+-- a start may use the same categories
+pub category_allowed-same : (n : ℕ) (unit : Thermal) (on other : Commitment) → SameBelow n on other → (s t : ℕ) → t < n
+    → is_category_allowed unit on s t ≡ is_category_allowed unit other s t
+category_allowed-same n unit on other h zero t l = refl
+category_allowed-same n unit on other h (suc s) t l =
+    let lag = category_lag unit (suc (suc s)) in
+    ap (λ stopped. (suc s == category_count unit)
+    || (nat_lt (suc s) (category_count unit) && cond (nat_le lag (suc t)) stopped (not (is_barred unit.dt0 lag t))))
+    (any_below-same lag _ _ (λ i hi. ap (λ b. nat_le (category_lag unit (suc s)) i && b) (stops-same n unit on other h (t - i) (omega arith))))
 
 -- ---- fixings
 -- one more than the last period of which the fixings speak

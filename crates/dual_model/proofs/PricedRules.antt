@@ -48,7 +48,7 @@ start_priced k q unit row t sign holds =
 
 -- ---- an on cell
 -- output and reserve stay within the cap
-within_cap : (periods q : ℕ) (unit : Thermal) (row : Row) (t : ℕ)
+pub within_cap : (periods q : ℕ) (unit : Thermal) (row : Row) (t : ℕ)
     → (p_at unit row t +ℤ row.reserve t) ≤ℤ (pos q *ℤ start_cap unit row.on t)
     → IsTrue (stop_cap_at periods q unit row t)
     → (p_at unit row t +ℤ row.reserve t) ≤ℤ (pos q *ℤ cap periods unit row.on t)

@@ -39,6 +39,12 @@ pub record IsPatternAt (instance : Instance) (node : Node) (g : ℕ) (on : Commi
 abbrev pub HasNoPattern : Instance → Node → ℕ → Type 0
 HasNoPattern instance node g = (on : Commitment) → ¬ IsPatternAt instance node g on
 
+-- unit g is the first of the instance that has no pattern at the node
+pub record IsFirstEmpty (instance : Instance) (node : Node) (g : ℕ) : Type 0 where
+  pub within : g < thermal_count instance
+  pub empty : HasNoPattern instance node g
+  pub first : (earlier : ℕ) → earlier < g → ¬ HasNoPattern instance node earlier
+
 -- some unit of the instance has no pattern at the node
 pub record HasEmptyUnit (instance : Instance) (node : Node) : Type 0 where
   pub unit : ℕ

@@ -14,7 +14,7 @@ use Rattle.dual_model.specs.declared.limits.TheConstants.{MAX_PRICE}
 use Rattle.dual_model.specs.declared.table.RampRow.{RampRow}
 use Rattle.dual_model.specs.declared.table.Table.{Table}
 use Rattle.dual_model.proofs.Multipliers.{row_of_each}
-use Rattle.dual_value.specs.inside.System.{MAX_CELL}
+use Rattle.system_value.specs.Sizes.{MAX_CELL}
 
 -- the value of a unit is at most this in size, as `least` of a path says
 abbrev pub MAX_UNIT_VALUE : ℕ

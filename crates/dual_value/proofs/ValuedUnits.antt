@@ -12,11 +12,12 @@ use Rattle.uc_model.proofs.Ring.{linear}
 use Rattle.uc_model.proofs.Sizes.{abs_add}
 use Rattle.uc_model.proofs.Sums.{sum_below-same}
 use Rattle.dual_model.specs.NodeValue.{constant_at, node_total, renewables_value, system_value, unit_part}
+use Rattle.dual_model.specs.Fixings.{IsFirstEmpty}
 use Rattle.dual_model.specs.UnitValue.{IsBestPattern}
 use Rattle.dual_model.specs.declared.node.Node.{Node}
 use Rattle.dual_model.specs.declared.table.Table.{Table}
-use Rattle.dual_value.specs.NodeAnswer.{IsFaultOf, IsFirstWithout, IsPartFault, IsPartOf, IsValued, MAX_PART}
-use Rattle.dual_value.specs.inside.System.{MAX_RENEWABLES, MAX_SYSTEM}
+use Rattle.dual_value.specs.NodeAnswer.{IsFaultOf, IsPartFault, IsPartOf, IsValued, MAX_PART}
+use Rattle.system_value.specs.Sizes.{MAX_RENEWABLES, MAX_SYSTEM}
 use Rattle.dual_value.specs.declared.valued.ValueFault.{ValueFault}
 use Rattle.dual_value.specs.declared.valued.ValueFault.TheVariants.{Empty, NoMemory}
 
@@ -112,7 +113,7 @@ valued-all instance node table total parts patterns few all = record {
 pub first-without : (instance : Instance) (node : Node) (table : Table) (g : ℕ) (total : ℤ) (parts : List ℤ) (patterns : List Pattern) (fault : ValueFault)
     → g < thermal_count instance → IsValuedTo instance node table g total parts patterns → IsPartFault instance node g fault → IsFaultOf instance node fault
 first-without instance node table g total parts patterns (Empty n) h so_far is =
-    subst (λ k. IsFirstWithout instance node k) (sym is.0)
+    subst (λ k. IsFirstEmpty instance node k) (sym is.0)
     (record {
       within = h;
       empty = is.1;

@@ -7,7 +7,7 @@ use Rattle.uc_model.specs.Schedule.{thermal_count}
 use Rattle.uc_model.specs.declared.limits.TheConstants.{MAX_UNITS}
 use Rattle.uc_model.specs.declared.instance.Instance.{Instance}
 use Rattle.uc_model.specs.declared.pattern.Pattern.{Pattern}
-use Rattle.dual_model.specs.Fixings.{HasNoPattern}
+use Rattle.dual_model.specs.Fixings.{HasNoPattern, IsFirstEmpty}
 use Rattle.dual_model.specs.NodeValue.{IsNodeValue, unit_part}
 use Rattle.dual_model.specs.UnitValue.{IsBestPattern}
 use Rattle.dual_model.specs.declared.node.Node.{Node}
@@ -39,15 +39,9 @@ pub record IsValued (instance : Instance) (node : Node) (table : Table) (valued 
       IsPartOf instance node table g (slice_index_or valued.parts g (pos 0))
       (slice_index_or valued.patterns g (record { low = 0; high = 0 }))
 
--- unit g is the first of the instance that has no pattern at the node
-pub record IsFirstWithout (instance : Instance) (node : Node) (g : ℕ) : Type 0 where
-  pub within : g < thermal_count instance
-  pub empty : HasNoPattern instance node g
-  pub first : (earlier : ℕ) → earlier < g → ¬ HasNoPattern instance node earlier
-
 -- why there is no answer
 abbrev pub IsFaultOf : Instance → Node → ValueFault → Type 0
-IsFaultOf instance node (Empty g) = IsFirstWithout instance node g
+IsFaultOf instance node (Empty g) = IsFirstEmpty instance node g
 IsFaultOf instance node NoMemory = ⊤
 
 -- the same of unit g alone

@@ -5,7 +5,6 @@
 mod fixes;
 pub mod node_value;
 mod room;
-mod system;
 mod units;
 mod valued;
 

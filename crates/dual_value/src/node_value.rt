@@ -8,11 +8,11 @@ ghost use Rattle.dual_value.specs.NodeAnswer.{IsFaultOf, IsValued};
 ghost use Rattle.dual_value.specs.Rooms.{IsRoomOf};
 
 use crate::room::Room;
-use crate::system::{renewables_value, system_value};
 use crate::units::unit_part;
 use crate::valued::{ValueFault, Valued};
 use dual_model::{Node, Table};
 use std::alloc::Global;
+use system_value::{renewables_value, system_value};
 use uc_model::{Instance, List, NoMemory, Pattern, sum};
 use unit_path::Scratch;
 

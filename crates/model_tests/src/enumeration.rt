@@ -1,4 +1,4 @@
-//! The walk beside a plain enumeration of the patterns of small units.
+//! The walk, and the patterns with the most and the fewest on periods, beside a plain enumeration of the patterns of small units.
 //!
 //! A pattern is the list of a unit's states: the one before the horizon, and then that of each period, from 1.
 
@@ -8,6 +8,7 @@ ghost use Rattle.uc_model.specs.Limits.{IsLawfulThermal};
 ghost use Rattle.dual_model.specs.TableValue.{IsLawfulRow};
 
 use cost_curves::Curve;
+use dispatch_repair::{fewest_of, most_of};
 use dual_model::Fix;
 use period_term::terms;
 use state_walk::{Walk, least};
@@ -194,19 +195,27 @@ fn lasts(states: &[bool], minimum: usize, on: bool) -> bool {
     })
 }
 
+// The states of a unit in the pattern of this number, whose bit t is period t + 1.
+fn states_of(on0: bool, number: u32, periods: usize) -> [bool; PERIODS + 1]
+    requires { periods ≤ 6 }
+{
+    let mut states = [on0; PERIODS + 1];
+    let mut rest = number;
+    for t in 1..=periods {
+        states[t] = rest % 2 == 1;
+        rest /= 2;
+    }
+    states
+}
+
 // The least cost of the patterns over these periods that are as decided.
 fn least_by_enumeration(small: &Small, periods: usize, decided: &Decided) -> Option<i64>
     requires { periods ≤ 6 }
 {
     let mut least: Option<i64> = None;
     for number in 0..1_u32 << periods {
-        let mut states = [small.on0; PERIODS + 1];
-        let mut rest = number;
-        for t in 1..=periods {
-            states[t] = rest % 2 == 1;
-            rest /= 2;
-        }
-        let states = &states[..=periods];
+        let all = states_of(small.on0, number, periods);
+        let states = &all[..=periods];
         let agrees = (0..periods).all(|t| decided[t].is_none_or(|on| is(states, t + 1, on)));
         let cost = if agrees { small.cost(states) } else { None };
         least = match (least, cost) {
@@ -215,6 +224,27 @@ fn least_by_enumeration(small: &Small, periods: usize, decided: &Decided) -> Opt
         };
     }
     least
+}
+
+// The numbers of the allowed patterns over these periods with the most and with the fewest on periods.
+fn extremes_by_enumeration(small: &Small, periods: usize) -> Option<(u32, u32)>
+    requires { periods ≤ 6 }
+{
+    let mut extremes: Option<(u32, u32)> = None;
+    for number in 0..1_u32 << periods {
+        let all = states_of(small.on0, number, periods);
+        if small.cost(&all[..=periods]).is_some() {
+            let (mut most, mut fewest) = extremes.unwrap_or((number, number));
+            if number.count_ones() > most.count_ones() {
+                most = number;
+            }
+            if number.count_ones() < fewest.count_ones() {
+                fewest = number;
+            }
+            extremes = Some((most, fewest));
+        }
+    }
+    extremes
 }
 
 // The unit.
@@ -323,6 +353,34 @@ fn least_by_walk(
     Ok(value.map_err(|_| "no memory")?)
 }
 
+// The words of a pattern's periods.
+fn words(pattern: Pattern) -> (u128, u64) {
+    (pattern.low, pattern.high)
+}
+
+// The unit's patterns with the most and with the fewest on periods are those of the enumeration.
+fn assert_extremes<R: Abort>(
+    rt: &R,
+    alloc: Global,
+    small: &Small,
+    periods: usize,
+) -> Result<(), Fail>
+    requires periods { (1 ≤ periods) × (periods ≤ 6) }
+    requires times { (1 ≤ small.now.up) × (1 ≤ small.now.down) }
+{
+    let unit = unit(alloc, small, Vec::from_array(alloc, small.startup())?)?;
+    let found = extremes_by_enumeration(small, periods);
+    assert_eq!(rt;
+        most_of(&unit, periods as u32).map(words),
+        found.map(|(most, _)| (u128::from(most), 0))
+    );
+    assert_eq!(rt;
+        fewest_of(&unit, periods as u32).map(words),
+        found.map(|(_, fewest)| (u128::from(fewest), 0))
+    );
+    Ok(())
+}
+
 /// What is decided in the runs.
 const DECIDED: [Decided; 4] = [
     [None; PERIODS],
@@ -332,7 +390,7 @@ const DECIDED: [Decided; 4] = [
 ];
 
 // Units with these times, in each initial state, with several limits, and must-run or not.
-fn assert_least<R: Abort>(
+fn assert_as_enumerated<R: Abort>(
     rt: &R,
     alloc: Global,
     periods: usize,
@@ -354,6 +412,7 @@ fn assert_least<R: Abort>(
                 limit,
                 cheap_first,
             };
+            assert_extremes(rt, alloc, &small, periods)?;
             for decided in &DECIDED {
                 let walked = least_by_walk(alloc, &small, periods, decided)?;
                 let enumerated = least_by_enumeration(&small, periods, decided);
@@ -365,11 +424,11 @@ fn assert_least<R: Abort>(
 }
 
 #[test]
-fn the_walk_finds_the_least_pattern(rt: HostRuntime) -> Result<(), Fail> {
+fn small_units_are_as_enumerated(rt: HostRuntime) -> Result<(), Fail> {
     for periods in 1..=PERIODS {
         for (up, down) in [(1, 1), (1, 3), (2, 1), (3, 2), (2, 7), (7, 2)] {
             for lasted in [0, 1, 2, 4] {
-                assert_least(&rt, rt.alloc(), periods, up, down, lasted)?;
+                assert_as_enumerated(&rt, rt.alloc(), periods, up, down, lasted)?;
             }
         }
     }

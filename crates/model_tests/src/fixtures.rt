@@ -2,11 +2,12 @@
 
 ghost use Rattle.std.specs.Prelude.{◌≡◌, ◌≤◌, ◌&&◌, nat_le, [], ◌∷◌, pos, int_le, IsTrue, IfOk, length};
 ghost use Rattle.std.specs.List.{list_all};
-ghost use Rattle.uc_model.specs.Limits.{IsLawfulThermal};
+ghost use Rattle.uc_model.specs.Schedule.{thermal_count};
+ghost use Rattle.uc_model.specs.Limits.{IsLawfulInstance, IsLawfulThermal};
 
 use std::alloc::Global;
 use std::test::Fail;
-use uc_model::{List, Name, Point, StartRow, Thermal};
+use uc_model::{Instance, List, Name, Point, Renewable, StartRow, Thermal};
 
 /// Dollars in micro-dollars, and megawatts in watts.
 pub(crate) const MILLION: i64 = 1_000_000;
@@ -68,5 +69,26 @@ pub(crate) fn unit(alloc: Global, change: Change, startup: Vec<StartRow>) -> Res
         dt0: u32::from(change.down0),
         startup: List::from_vec(startup),
         points: List::from_vec(points),
+    })
+}
+
+// A demand of 30 MW and a reserve of 2 MW in the one period, this unit and one of up to 5 MW of wind.
+pub(crate) fn system(alloc: Global, thermal: Thermal) -> Result<Instance, Fail>
+    requires { IsLawfulThermal thermal }
+    ensures lawful { IfOk result IsLawfulInstance }
+    ensures units { IfOk result (λ instance. thermal_count instance ≡ 1) }
+    ensures periods { IfOk result (λ instance. instance.periods ≡ 1) }
+{
+    let wind = Renewable {
+        name: Name::from_string(String::new(alloc)),
+        minimum: List::from_vec(Vec::from_array(alloc, [0])?),
+        maximum: List::from_vec(Vec::from_array(alloc, [5 * MILLION])?),
+    };
+    Ok(Instance {
+        periods: 1,
+        demand: List::from_vec(Vec::from_array(alloc, [30 * MILLION])?),
+        reserves: List::from_vec(Vec::from_array(alloc, [2 * MILLION])?),
+        thermal: List::from_vec(Vec::from_array(alloc, [thermal])?),
+        renewable: List::from_vec(Vec::from_array(alloc, [wind])?),
     })
 }

@@ -1,17 +1,17 @@
 //! The values of leaves of a tree over one period, worked by hand.
 
 ghost use Rattle.std.specs.Prelude.{◌≡◌, IfOk, length};
-ghost use Rattle.uc_model.specs.Limits.{IsLawfulInstance, IsLawfulThermal};
+ghost use Rattle.uc_model.specs.Limits.{IsLawfulInstance};
 ghost use Rattle.uc_model.specs.Schedule.{thermal_count};
 ghost use Rattle.dual_model.specs.Prices.{HasSizeOf, IsWithinLimits};
 
-use crate::fixtures::{Change, MILLION, RUNNING, unit};
+use crate::fixtures::{Change, RUNNING, system, unit};
 use dual_model::{Fixing, Table};
 use leaf_values::{fill_fixes, is_empty, load, undecided, value};
 use state_walk::Walk;
 use std::alloc::Global;
 use std::test::Fail;
-use uc_model::{Instance, List, Name, NoMemory, Renewable, StartRow, Thermal};
+use uc_model::{Instance, NoMemory, StartRow};
 
 // The unit is off in the period.
 const OFF: Fixing = Fixing {
@@ -19,27 +19,6 @@ const OFF: Fixing = Fixing {
     t: 0,
     on: false,
 };
-
-// A demand of 30 MW and a reserve of 2 MW in the one period, this unit and one of up to 5 MW of wind.
-fn system(alloc: Global, thermal: Thermal) -> Result<Instance, Fail>
-    requires { IsLawfulThermal thermal }
-    ensures lawful { IfOk result IsLawfulInstance }
-    ensures units { IfOk result (λ instance. thermal_count instance ≡ 1) }
-    ensures periods { IfOk result (λ instance. instance.periods ≡ 1) }
-{
-    let wind = Renewable {
-        name: Name::from_string(String::new(alloc)),
-        minimum: List::from_vec(Vec::from_array(alloc, [0])?),
-        maximum: List::from_vec(Vec::from_array(alloc, [5 * MILLION])?),
-    };
-    Ok(Instance {
-        periods: 1,
-        demand: List::from_vec(Vec::from_array(alloc, [30 * MILLION])?),
-        reserves: List::from_vec(Vec::from_array(alloc, [2 * MILLION])?),
-        thermal: List::from_vec(Vec::from_array(alloc, [thermal])?),
-        renewable: List::from_vec(Vec::from_array(alloc, [wind])?),
-    })
-}
 
 // Demand at 12 dollars a megawatt and reserve at 1, for one unit.
 fn table(alloc: Global) -> Result<Table, Fail>

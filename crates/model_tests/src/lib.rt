@@ -12,6 +12,8 @@ mod fixtures;
 #[cfg(test)]
 mod leaves;
 #[cfg(test)]
+mod most_on;
+#[cfg(test)]
 mod multipliers;
 #[cfg(test)]
 mod numbers;

@@ -1,8 +1,7 @@
 //! For each rule of the model a certificate whose schedule breaks this rule alone, and the line that says so.
 
 use crate::check_run::{Ending, Input, assert_check};
-use crate::texts::{Change, changed};
-use sample_instances::BASE;
+use sample_instances::{BASE, Change, changed};
 use std::alloc::{AllocError, Global};
 use std::test::Fail;
 

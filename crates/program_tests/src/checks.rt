@@ -1,9 +1,9 @@
 //! The worked examples of `check`, and its faults.
 
 use crate::check_run::{Ending, Input, assert_check};
-use crate::texts::{BASE_CERTIFICATE, Change, changed};
+use crate::texts::BASE_CERTIFICATE;
 use outside::{Call, FailingCall};
-use sample_instances::BASE;
+use sample_instances::{BASE, Change, changed};
 use std::test::Fail;
 
 const BASE_CLAIMS: &[u8] = b"accepted\ncost 300.000000\nbound 300.000000\n";

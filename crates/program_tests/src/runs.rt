@@ -1,9 +1,8 @@
 //! Runs of the program on devices in memory.
 
 use crate::tally::Tally;
-use crate::texts::changed;
 use outside::{Call, Devices, FailingCall, FaultyFile, FaultySink, Pace};
-use sample_instances::{BASE, KAZARLIS};
+use sample_instances::{BASE, KAZARLIS, changed};
 use std::alloc::{AllocError, Global};
 use std::process::Abort;
 use std::sync::Wait;

@@ -2,7 +2,9 @@
 #![tactic(auto)]
 
 mod base;
+mod changes;
 mod kazarlis;
 
 pub use base::BASE;
+pub use changes::{Change, changed};
 pub use kazarlis::KAZARLIS;

@@ -17,7 +17,7 @@ use Rattle.schedule_check.specs.inside.WholeWatts.{HasPrice, row_of}
 use Rattle.schedule_check.proofs.Produced.{holds_from}
 use Rattle.schedule_check.proofs.SameRules.{production-is}
 
-allowed-within : (unit : Thermal) (on : Commitment) (s t : ℕ) → IsTrue (is_category_allowed unit on s t) → s ≤ category_count unit
+pub allowed-within : (unit : Thermal) (on : Commitment) (s t : ℕ) → IsTrue (is_category_allowed unit on s t) → s ≤ category_count unit
 allowed-within unit on zero t h = omega arith
 allowed-within unit on (suc s) t h =
     ⊎_elim

@@ -1,3 +1,4 @@
 pub mod Failures
 pub mod Changes
 pub mod WholeWatts
+pub mod CommitmentRules

@@ -5,7 +5,8 @@ ghost use Rattle.uc_model.specs.Commitment.{starts as starts_at, stops as stops_
 ghost use Rattle.uc_model.specs.Limits.{IsLawfulThermal};
 ghost use Rattle.schedule_check.specs.inside.WholeWatts.{commitment};
 
-use crate::dispatch::{initial_limit, initial_output};
+use crate::dispatch::initial_limit;
+use crate::limits::initial_output;
 use uc_model::{Cell, Thermal};
 
 /// Whether the unit is on in the period before t, which is the initial one before the first.

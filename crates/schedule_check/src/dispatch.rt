@@ -1,16 +1,15 @@
 //! The rules on output and reserve: M8 to M12, and the numbers that they and M7 speak of.
 
-ghost use Rattle.std.specs.Prelude.{◌≡◌, ℕ, suc, ◌*◌, ◌<◌, ◌≤◌, ◌&&◌, pos, ◌-ℤ◌, ◌*ℤ◌, ◌+ℤ◌, int_le, length, unsigned_abs};
+ghost use Rattle.std.specs.Prelude.{◌≡◌, suc, ◌*◌, ◌<◌, ◌≤◌, ◌&&◌, pos, ◌-ℤ◌, ◌*ℤ◌, ◌+ℤ◌, int_le, length, unsigned_abs};
 ghost use Rattle.uc_model.specs.Sums.{bit};
-ghost use Rattle.uc_model.specs.Commitment.{initial_p, start_reduction as start_reduction_of, stop_cap as stop_cap_of, stop_reduction as stop_reduction_of};
-ghost use Rattle.uc_model.specs.Limits.{IsLawfulThermal, IsPower};
-ghost use Rattle.uc_model.specs.Points.{point_of};
+ghost use Rattle.uc_model.specs.Commitment.{stop_cap as stop_cap_of, stop_reduction as stop_reduction_of};
+ghost use Rattle.uc_model.specs.Limits.{IsLawfulThermal};
 ghost use Rattle.schedule_check.specs.SizedNumbers.{IsSizedCell};
 ghost use Rattle.schedule_check.specs.inside.WholeWatts.{IsSizedRow, cell, commitment, output_before as before_of, production_at, start_cap_at, stop_cap_at, ramp_up_at, ramp_down_at, width as width_of};
 
 use crate::commitment::{starts, stops};
-use uc_model::limits::MAX_POWER;
-use uc_model::{Cell, Point, Thermal};
+use crate::limits::{initial_output, range, reduced, start_reduction, stop_reduction, width};
+use uc_model::{Cell, Thermal};
 
 /// M8: an on cell's output lies on the hull of the unit's points and its reserve isn't below 0; an off cell has
 /// neither.
@@ -86,15 +85,6 @@ fn is_on_hull(unit: &Thermal, p: &i64) -> bool
     0 <= *p && *p <= width(unit.points.as_slice())
 }
 
-// The output of the last point above the first one's.
-fn width(points: &[Point]) -> i64
-    requires some { 0 < length points.now }
-    requires each { (l : ℕ) → l < length points.now → IsPower (point_of points.now l).mw }
-    ensures { result ≡ width_of points.now }
-{
-    points[points.len() - 1].mw - points[0].mw
-}
-
 // M10 where a period follows.
 fn is_below_stop_cap(unit: &Thermal, row: &[Cell], t: usize) -> bool
     requires lawful { IsLawfulThermal unit.now }
@@ -140,15 +130,6 @@ fn output_before(unit: &Thermal, row: &[Cell], t: usize) -> i64
     }
 }
 
-/// The initial output above the minimum.
-pub(crate) fn initial_output(unit: &Thermal) -> i64
-    requires { IsLawfulThermal unit.now }
-    ensures value { result ≡ initial_p unit.now }
-    ensures size { unsigned_abs result ≤ 2 * MAX_POWER }
-{
-    if unit.on0 { unit.p0 - unit.pmin } else { 0 }
-}
-
 /// M7's limit on it, by whether the unit stops in the first period.
 pub(crate) fn initial_limit(unit: &Thermal, stop: bool) -> i64
     requires { IsLawfulThermal unit.now }
@@ -156,40 +137,4 @@ pub(crate) fn initial_limit(unit: &Thermal, stop: bool) -> i64
 {
     let full = range(unit, unit.on0);
     reduced(&full, &stop_reduction(unit), stop)
-}
-
-// The width of the unit's range where it is on, and else 0.
-fn range(unit: &Thermal, on: bool) -> i64
-    requires { IsLawfulThermal unit.now }
-    ensures value { result ≡ (unit.now.pmax -ℤ unit.now.pmin) *ℤ bit on }
-    ensures size { unsigned_abs result ≤ MAX_POWER }
-{
-    if on { unit.pmax - unit.pmin } else { 0 }
-}
-
-// A range with a reduction, where it applies.
-fn reduced(full: &i64, reduction: &i64, applies: bool) -> i64
-    requires full { unsigned_abs full.now ≤ MAX_POWER }
-    requires reduction { unsigned_abs reduction.now ≤ MAX_POWER }
-    ensures { result ≡ full.now -ℤ reduction.now *ℤ bit applies }
-{
-    if applies { *full - *reduction } else { *full }
-}
-
-// How far the limit of a start lies below the greatest output.
-fn start_reduction(unit: &Thermal) -> i64
-    requires { IsLawfulThermal unit.now }
-    ensures value { result ≡ start_reduction_of unit.now }
-    ensures size { unsigned_abs result ≤ MAX_POWER }
-{
-    (unit.pmax - unit.su).max(0)
-}
-
-// How far the limit of a stop lies below the greatest output.
-fn stop_reduction(unit: &Thermal) -> i64
-    requires { IsLawfulThermal unit.now }
-    ensures value { result ≡ stop_reduction_of unit.now }
-    ensures size { unsigned_abs result ≤ MAX_POWER }
-{
-    (unit.pmax - unit.sd).max(0)
 }

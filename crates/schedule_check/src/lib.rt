@@ -12,6 +12,7 @@ mod cost;
 mod counts;
 mod dispatch;
 mod feasibility;
+pub mod limits;
 mod minimum_times;
 mod renewable;
 mod start_category;
@@ -20,3 +21,4 @@ mod unit_rules;
 
 pub use broken::Broken;
 pub use feasibility::check;
+pub use unit_rules::broken_rule;

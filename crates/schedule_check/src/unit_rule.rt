@@ -37,6 +37,16 @@ pub(crate) const UNIT_RULES: [UnitRule; 12] = [
     UnitRule::RampDown,
 ];
 
+/// Those on commitments, in their order: M1 to M5 and M7.
+pub(crate) const COMMITMENT_RULES: [UnitRule; 6] = [
+    UnitRule::MustRun,
+    UnitRule::InitialUp,
+    UnitRule::InitialDown,
+    UnitRule::MinimumUp,
+    UnitRule::MinimumDown,
+    UnitRule::InitialStop,
+];
+
 impl UnitRule {
     /// The number n of the rule's name Mn.
     pub fn number(self) -> u8

@@ -6,13 +6,14 @@ ghost use Rattle.uc_model.specs.PrintedSchedule.{HasShapeOf};
 ghost use Rattle.uc_model.specs.Schedule.{thermal_count, thermal_unit};
 ghost use Rattle.schedule_check.specs.SizedNumbers.{HasSizedNumbers};
 ghost use Rattle.schedule_check.specs.inside.Changes.{AreCounts, change_at};
+ghost use Rattle.schedule_check.specs.inside.CommitmentRules.{IsFirstBrokenRule};
 ghost use Rattle.schedule_check.specs.inside.Failures.{IsFirstFailure, IsFirstPlace};
 ghost use Rattle.schedule_check.specs.inside.WholeWatts.{IsSizedRow, commitment, row_of, unit_holds, unit_periods};
 ghost use Rattle.schedule_check.specs.declared.counts.Change.TheVariants.{Start, Stop};
 
 use crate::broken::Place;
 use crate::counts::{Change, Counts, MOMENTS};
-use crate::unit_rule::UnitRule;
+use crate::unit_rule::{COMMITMENT_RULES, UnitRule};
 use crate::{commitment, dispatch, minimum_times, start_category};
 use uc_model::{Cell, Instance, Printed, Thermal};
 
@@ -44,8 +45,46 @@ fn first_period(rule: UnitRule, unit: &Thermal, row: &[Cell]) -> Option<usize>
 {
     let starts = Counts::of(Change::Start, unit, row);
     let stops = Counts::of(Change::Stop, unit, row);
+    first_failure(rule, &starts, &stops, unit, row)
+}
+
+/// The first of the rules on commitments, M1 to M5 and M7, that a unit's row breaks, by its number. Power plays no part.
+pub fn broken_rule(unit: &Thermal, row: &[Cell]) -> Option<u8>
+    requires lawful { IsLawfulThermal unit.now }
+    requires some { 0 < length row.now }
+    requires few { length row.now < MOMENTS }
+    requires sized { IsSizedRow row.now }
+    ensures { IsFirstBrokenRule unit.now row.now result }
+{
+    let starts = Counts::of(Change::Start, unit, row);
+    let stops = Counts::of(Change::Stop, unit, row);
+    for rule in COMMITMENT_RULES {
+        match first_failure(rule, &starts, &stops, unit, row) {
+            Some(_) => return Some(rule.number()),
+            None => {}
+        }
+    }
+    None
+}
+
+// The first period at which a unit breaks the rule, by the counts of its starts and stops.
+fn first_failure(
+    rule: UnitRule,
+    starts: &Counts,
+    stops: &Counts,
+    unit: &Thermal,
+    row: &[Cell],
+) -> Option<usize>
+    requires lawful { IsLawfulThermal unit.now }
+    requires some { 0 < length row.now }
+    requires few { length row.now < MOMENTS }
+    requires sized { IsSizedRow row.now }
+    requires starts { AreCounts starts.now.before (length row.now) (change_at Start unit.now (commitment row.now)) }
+    requires stops { AreCounts stops.now.before (length row.now) (change_at Stop unit.now (commitment row.now)) }
+    ensures { IsFirstFailure (unit_periods rule (length row.now)) (unit_holds rule (length row.now) unit.now row.now) result }
+{
     for t in 0..rule.periods(row.len()) {
-        if !holds(rule, &starts, &stops, unit, row, t) {
+        if !holds(rule, starts, stops, unit, row, t) {
             return Some(t);
         }
     }

@@ -89,16 +89,16 @@ fn has_stop_within(unit: &Thermal, pattern: &Pattern, from: usize, to: usize, t:
     false
 }
 
-// Whether the pattern has a stop in period t.
-fn stops(unit: &Thermal, pattern: &Pattern, t: usize) -> bool
+/// Whether the pattern has a stop in period t, from 0.
+pub fn stops(unit: &Thermal, pattern: &Pattern, t: usize) -> bool
     requires { t < MAX_PERIODS }
     ensures { result ≡ stops_at unit.now (commitment_of pattern.now) t }
 {
     was_on(unit, pattern, t) && !pattern.is_on(t as u32)
 }
 
-// Whether the unit is on in the period before t, which is the initial one before the first.
-fn was_on(unit: &Thermal, pattern: &Pattern, t: usize) -> bool
+/// Whether the unit is on in the period before t, from 0, which is the initial one before the first.
+pub fn was_on(unit: &Thermal, pattern: &Pattern, t: usize) -> bool
     requires { t < MAX_PERIODS }
     ensures { result ≡ was_on_before unit.now (commitment_of pattern.now) t }
 {

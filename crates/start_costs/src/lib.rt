@@ -7,5 +7,5 @@ pub mod by_history;
 pub mod by_last_stop;
 
 pub use barred::is_barred;
-pub use by_history::least_allowed;
+pub use by_history::{least_allowed, stops, was_on};
 pub use by_last_stop::sigma;

@@ -1,14 +1,14 @@
 -- What the search answers for a root with a value, and for one with a unit that has no pattern.
-use Rattle.std.proofs.Common.{◌≡◌, ◌⊎◌, inl, ⊎_elim, ℕ, ◌*◌, ◌^◌, ◌<◌, ◌≤◌, [], ◌∷◌, length, refl, ap, subst, sym, arith, ℤ, unsigned_abs}
+use Rattle.std.proofs.Common.{◌≡◌, ◌⊎◌, inl, ⊎_elim, ℕ, ◌^◌, ◌<◌, ◌≤◌, [], ◌∷◌, length, refl, ap, subst, sym, arith, ℤ, unsigned_abs}
 use Rattle.std.specs.Prelude.{None}
 use Rattle.std.proofs.lemmas.List.Elements.{All-nil, All-cons}
 use Rattle.std.proofs.lemmas.Bool.{cases_order}
 use Rattle.uc_model.specs.Division.{IsFloor}
 use Rattle.uc_model.specs.Limits.{IsLawfulInstance}
-use Rattle.uc_model.specs.declared.limits.TheConstants.{MAX_UNITS}
 use Rattle.uc_model.specs.declared.instance.Instance.{Instance}
 use Rattle.uc_model.proofs.Ring.{linear, le_refl}
 use Rattle.uc_model.proofs.Sizes.{floor-size}
+use Rattle.dual_model.specs.Fixings.{IsFirstEmpty}
 use Rattle.dual_model.specs.Prices.{IsLawfulTable}
 use Rattle.dual_model.specs.Tree.{Ends, root}
 use Rattle.dual_model.specs.NodeValue.{IsNodeValue}
@@ -20,7 +20,7 @@ use Rattle.dual_model.proofs.Covers.{certificates_claim_truly}
 use Rattle.branch_tree.specs.TreeView.{IsWhole}
 use Rattle.branch_tree.specs.StoredTree.{tree_bound}
 use Rattle.branch_tree.specs.Claims.{IsLayoutOf, certificate_of}
-use Rattle.branch_tree.specs.SearchResult.{IsFirstEmpty, IsTrueEntry, IsFirstClaim, IsSearchResult}
+use Rattle.branch_tree.specs.SearchResult.{IsTrueEntry, IsFirstClaim, IsSearchResult}
 use Rattle.branch_tree.specs.declared.found.Entry.{Entry}
 use Rattle.branch_tree.specs.declared.found.Found.{Found}
 use Rattle.branch_tree.specs.declared.layout.Layout.{Layout}
@@ -29,9 +29,9 @@ use Rattle.branch_tree.specs.declared.found.Outcome.TheVariants.{Value}
 use Rattle.branch_tree.specs.declared.tree.Leaf.TheVariants as leaf
 use Rattle.cert_text.specs.TextConditions.{IsMoney}
 use Rattle.cert_text.proofs.FoundTexts.{found-has-text}
-use Rattle.state_walk.specs.CostToGo.{MAX_COST_TO_GO}
+use Rattle.dual_value.specs.NodeAnswer.{MAX_VALUE}
 use Rattle.uc_cli.specs.inside.Search.{IsSearchAnswer, lone_root}
-use Rattle.uc_cli.proofs.UnpricedTables.{zero_lawful}
+use Rattle.uc_cli.proofs.UnpricedTables.{each_pattern, unpriced_lawful, zero_scale}
 
 -- the one entry of the log
 abbrev pub the_claim : ℤ → Entry
@@ -54,7 +54,7 @@ bounded_certificate instance v b layout value floor = record {
   periods = refl;
   thermal = refl;
   renewable = refl;
-  tables = All-cons (IsLawfulTable instance) (zero_table instance) [] (zero_lawful instance) (All-nil (IsLawfulTable instance));
+  tables = All-cons (IsLawfulTable instance) (zero_table instance) [] (unpriced_lawful instance ZERO_SCALE zero_scale) (All-nil (IsLawfulTable instance));
   tree = tt;
   schedule = λ written e. absurd (cc);
   claim = (
@@ -68,12 +68,6 @@ bounded_certificate instance v b layout value floor = record {
   );
 }
 
--- a root with a value has no unit without a pattern
-not_first_empty : (instance : Instance) (v : ℤ) → IsNodeValue instance root (zero_table instance) v → (g : ℕ) → IsFirstEmpty instance root g → ⊥
-not_first_empty instance v value g empty =
-    let unit = value.units g empty.within in
-    empty.empty unit.on unit.best.pattern
-
 pub bounded_is : (instance : Instance) (v b : ℤ) (layout : Layout) → IsLayoutOf (lone_root instance (leaf.Bound 0 b)) layout → IsNodeValue instance root (zero_table instance) v → IsFloor v ZERO_SCALE b
     → IsSearchResult instance 1 (bounded_found instance v (lone_root instance (leaf.Bound 0 b)) layout)
 bounded_is instance v b layout of_tree value floor =
@@ -84,13 +78,13 @@ bounded_is instance v b layout of_tree value floor =
         certificate = bounded_certificate instance v b layout value floor;
         log = record {
           entries = All-cons (IsTrueEntry instance found.tree found.tables) (the_claim v) []
-              (record { node = root; is_node = refl; table = zero_table instance; is_table = refl; lawful = zero_lawful instance; outcome = value })
+              (record { node = root; is_node = refl; table = zero_table instance; is_table = refl; lawful = unpriced_lawful instance ZERO_SCALE zero_scale; outcome = value })
               (All-nil (IsTrueEntry instance found.tree found.tables));
           apart = λ i j d h k. absurd (omega arith);
         };
       };
       spent = λ some. refl;
-      excluded = λ g empty. absurd (not_first_empty instance v value g empty);
+      excluded = λ g empty. absurd (each_pattern instance root (zero_table instance) v value g empty.within empty.empty);
       stage = record {
         schedule = refl;
         most_on = refl;
@@ -113,15 +107,15 @@ no_rows : (instance : Instance) → length (zero_table instance).ramps < 10 ^ 18
 no_rows instance = omega arith
 
 -- a bound of this size has a text
-bound_text : (v b : ℤ) → IsFloor v ZERO_SCALE b → unsigned_abs v ≤ MAX_UNITS * MAX_COST_TO_GO → IsMoney b
+bound_text : (v b : ℤ) → IsFloor v ZERO_SCALE b → unsigned_abs v ≤ MAX_VALUE → IsMoney b
 bound_text v b floor size =
-    let few : unsigned_abs b ≤ MAX_UNITS * MAX_COST_TO_GO = floor-size v ZERO_SCALE b (MAX_UNITS * MAX_COST_TO_GO) (omega (arith, linear)) floor size in
+    let few : unsigned_abs b ≤ MAX_VALUE = floor-size v ZERO_SCALE b (MAX_VALUE) (omega (arith, linear)) floor size in
     omega arith
 
 pub bounded_answer : (instance : Instance) (v b : ℤ) (tree : Tree) (layout : Layout) → IsLawfulInstance instance
     → tree ≡ lone_root instance (leaf.Bound 0 b) → IsWhole tree → IsLayoutOf tree layout
     → IsNodeValue instance root (zero_table instance) v
-    → IsFloor v ZERO_SCALE b → unsigned_abs v ≤ MAX_UNITS * MAX_COST_TO_GO → IsSearchAnswer instance (bounded_found instance v tree layout)
+    → IsFloor v ZERO_SCALE b → unsigned_abs v ≤ MAX_VALUE → IsSearchAnswer instance (bounded_found instance v tree layout)
 bounded_answer instance v b tree layout lawful is whole of_tree value floor size =
     let lone = lone_root instance (leaf.Bound 0 b) in
     let found = bounded_found instance v lone layout in

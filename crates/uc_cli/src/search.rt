@@ -1,114 +1,85 @@
 //! The search: the value of the root at the table of no prices.
 
-ghost use Rattle.std.specs.Prelude.{◌≡◌, ℕ, ◌<◌, ◌*◌, ◌≤◌, unsigned_abs, length, replicate, pos, false, [], ◌∷◌, IfOk, MatchOption, ⊤};
+ghost use Rattle.std.specs.Prelude.{◌≡◌, ◌≤◌, unsigned_abs, [], ◌∷◌, IfOk, IfErr, MatchOption};
 ghost use Rattle.uc_model.specs.Limits.{IsLawfulInstance};
-ghost use Rattle.uc_model.specs.PatternBits.{commitment_of};
-ghost use Rattle.uc_model.specs.Schedule.{thermal_count};
-ghost use Rattle.uc_model.specs.declared.instance.Instance.{Instance};
+ghost use Rattle.dual_model.specs.Fixings.{IsFirstEmpty};
 ghost use Rattle.dual_model.specs.NodeValue.{IsNodeValue};
 ghost use Rattle.dual_model.specs.Opening.{unpriced_table, zero_table};
+ghost use Rattle.dual_model.specs.TableValue.{IsLawfulScale};
 ghost use Rattle.dual_model.specs.Tree.{root};
+ghost use Rattle.dual_value.specs.NodeAnswer.{IsFaultOf, IsValued, MAX_VALUE};
 ghost use Rattle.branch_tree.specs.TreeView.{IsWhole};
-ghost use Rattle.branch_tree.specs.SearchResult.{IsFirstEmpty};
-ghost use Rattle.state_walk.specs.CostToGo.{IsWithin, MAX_COST_TO_GO};
-ghost use Rattle.dual_model.specs.TableValue.{IsLawfulScale, IsUnitValueOf};
 ghost use Rattle.uc_cli.specs.inside.Search.{HasEachPattern, IsSearchAnswer, lone_root};
 
 use branch_tree::{Entry, Found, Layout, Leaf, Outcome, Tree};
-use cost_curves::Curve;
-use dual_model::{Fix, Table};
+use dual_model::{Node, Table};
+use dual_value::{ValueFault, Valued, value};
 use outside::Gate;
-use period_term::terms;
-use state_walk::{Walk, least};
 use std::alloc::Global;
 use std::sync::Wait;
-use uc_model::limits::MAX_UNITS;
-use uc_model::{Instance, List, NoMemory, Pattern, floor_div};
+use uc_model::{Instance, List, NoMemory, floor_div};
+use unit_path::Scratch;
 
 /// The scale of the table of no prices, at which a price is in micro-dollars for a megawatt.
 const SCALE: i64 = 1_000_000;
 
-// The table of no prices.
-fn no_prices(alloc: Global, instance: &Instance) -> Result<Table, NoMemory>
-    requires { IsLawfulInstance instance.now }
-    ensures { IfOk result (λ table. table ≡ zero_table instance.now) }
+// The table where every price is 0, at the scale `k`.
+fn unpriced(alloc: Global, instance: &Instance, k: i64) -> Result<Table, NoMemory>
+    requires lawful { IsLawfulInstance instance.now }
+    requires scale { IsLawfulScale k }
+    ensures { IfOk result (λ table. table ≡ unpriced_table instance.now k) }
 {
     let zeros = vec![in alloc; 0_i64; instance.periods as usize]?;
     let units = instance.thermal.as_slice().len() as u32;
-    Table::new(alloc, units, SCALE, &zeros, &zeros, &[])
+    Table::new(alloc, units, k, &zeros, &zeros, &[])
 }
 
-// Nothing is decided at the root.
-fn nothing_fixed() -> Fix
-    ensures { (t : ℕ) → commitment_of result.known t ≡ false }
+// The root, at which nothing is decided.
+fn root(alloc: Global) -> Node
+    ensures { result ≡ root }
 {
-    Fix {
-        known: Pattern::all_off(),
-        on: Pattern::all_off(),
+    Node {
+        fixings: List::from_vec(Vec::new(alloc)),
     }
 }
 
-// The value of thermal unit `g` where every price is 0, at the scale `k`, or nothing where it has no allowed pattern.
-fn unit_value(
-    alloc: Global,
-    walk: &mut Walk,
-    instance: &Instance,
-    k: i64,
-    prices: &[(i128, i128, i128)],
-    g: usize,
-) -> Result<Option<i128>, NoMemory>
+// The value of the root where every price is 0, at the scale `k`.
+fn root_value(alloc: Global, instance: &Instance, k: i64) -> Result<Valued, ValueFault>
     requires lawful { IsLawfulInstance instance.now }
     requires scale { IsLawfulScale k }
-    requires prices { prices.now ≡ replicate instance.now.periods (pos 0, pos 0, pos 0) }
-    requires unit { g < thermal_count instance.now }
-    requires room { walk.old ≡ instance.now.periods }
-    ensures value { IfOk result (IsUnitValueOf instance.now root (unpriced_table instance.now k) g) }
-    ensures size { IfOk result (IsWithin MAX_COST_TO_GO) }
-    ensures kept { walk.new ≡ walk.old }
+    ensures value { IfOk result (IsValued instance.now root (unpriced_table instance.now k)) }
+    ensures fault { IfErr result (IsFaultOf instance.now root) }
 {
-    let unit = &instance.thermal.as_slice()[g];
-    let curve = Curve::of(alloc, unit.points.as_slice())?;
-    let unit_terms = terms(alloc, unit, &curve, k, prices)?;
-    Ok(least(walk, &unit_terms, unit, &nothing_fixed()))
+    let table = unpriced(alloc, instance, k)?;
+    let mut scratch = Scratch::new(alloc, instance.periods as usize)?;
+    value(alloc, &mut scratch, instance, &root(alloc), &table)
 }
 
-// The first thermal unit without an allowed pattern. Prices play no part in it, so nothing is evaluated: the walk
-// is at the scale 0, at which each pattern costs nothing.
+// The first thermal unit without an allowed pattern. Prices play no part in it, so no claim is needed: it is asked at
+// the scale 0, at which each pattern costs nothing.
 fn first_empty(alloc: Global, instance: &Instance) -> Result<Option<u32>, NoMemory>
     requires { IsLawfulInstance instance.now }
-    ensures { IfOk result (λ empty. MatchOption empty (HasEachPattern instance.now (thermal_count instance.now))
-        (IsFirstEmpty instance.now root)) }
+    ensures { IfOk result (λ empty. MatchOption empty (HasEachPattern instance.now) (IsFirstEmpty instance.now root)) }
 {
-    let periods = instance.periods as usize;
-    let prices = vec![in alloc; (0_i128, 0_i128, 0_i128); periods]?;
-    let mut walk = Walk::new(alloc, periods)?;
-    for g in 0..instance.thermal.as_slice().len() {
-        match unit_value(alloc, &mut walk, instance, 0, &prices, g)? {
-            Some(_) => {}
-            None => return Ok(Some(g as u32)),
-        }
+    match root_value(alloc, instance, 0) {
+        Ok(_) => Ok(None),
+        Err(ValueFault::Empty(g)) => Ok(Some(g)),
+        Err(ValueFault::NoMemory) => Err(NoMemory),
     }
-    Ok(None)
 }
 
 // The value of the root at the table of no prices.
 fn evaluate(alloc: Global, instance: &Instance) -> Result<i128, NoMemory>
     requires lawful { IsLawfulInstance instance.now }
-    requires patterns { HasEachPattern instance.now (thermal_count instance.now) }
+    requires patterns { HasEachPattern instance.now }
     ensures value { IfOk result (IsNodeValue instance.now root (zero_table instance.now)) }
-    ensures size { IfOk result (λ value. unsigned_abs value ≤ MAX_UNITS * MAX_COST_TO_GO) }
+    ensures size { IfOk result (λ value. unsigned_abs value ≤ MAX_VALUE) }
 {
-    let periods = instance.periods as usize;
-    let prices = vec![in alloc; (0_i128, 0_i128, 0_i128); periods]?;
-    let mut walk = Walk::new(alloc, periods)?;
-    let mut total = 0;
-    for g in 0..instance.thermal.as_slice().len() {
-        match unit_value(alloc, &mut walk, instance, SCALE, &prices, g)? {
-            Some(value) => total += value,
-            None => unreachable!(),
-        }
+    match root_value(alloc, instance, SCALE) {
+        Ok(valued) => Ok(valued.total),
+        Err(ValueFault::Empty(_)) => unreachable!(),
+        Err(ValueFault::NoMemory) => Err(NoMemory),
     }
-    Ok(total)
 }
 
 // A list of one element.
@@ -154,7 +125,7 @@ fn excluded(alloc: Global, instance: &Instance, g: u32) -> Result<Found, NoMemor
 fn bounded(alloc: Global, instance: &Instance, value: &i128) -> Result<Found, NoMemory>
     requires lawful { IsLawfulInstance instance.now }
     requires value { IsNodeValue instance.now root (zero_table instance.now) value.now }
-    requires size { unsigned_abs value.now ≤ MAX_UNITS * MAX_COST_TO_GO }
+    requires size { unsigned_abs value.now ≤ MAX_VALUE }
     ensures { IfOk result (IsSearchAnswer instance.now) }
 {
     let claim = Entry {
@@ -169,7 +140,7 @@ fn bounded(alloc: Global, instance: &Instance, value: &i128) -> Result<Found, No
         table: 0,
         value: bound,
     };
-    let tables = single(alloc, no_prices(alloc, instance)?)?;
+    let tables = single(alloc, unpriced(alloc, instance, SCALE)?)?;
     let log = single(alloc, claim)?;
     let tree = lone_root(alloc, instance, leaf)?;
     let layout = Layout::of(alloc, &tree, 1)?;

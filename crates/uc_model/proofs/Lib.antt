@@ -5,6 +5,9 @@ pub mod Ring
 pub mod Sums
 pub mod Tests
 pub mod PatternBits
+pub mod PeriodRuns
+pub mod AllowedParts
+pub mod ExtremePatterns
 pub mod Obeyed
 pub mod StartCosts
 pub mod MinimumTimes

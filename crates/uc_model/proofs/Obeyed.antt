@@ -74,7 +74,7 @@ cap_nonneg q c p r hq hp hr h =
     le_from_mul (pos q) (pos 0) c positive above
 
 -- a least of two numbers that aren't negative
-min_nonneg : (a b : ℤ) → pos 0 ≤ℤ a → pos 0 ≤ℤ b → pos 0 ≤ℤ int_min a b
+pub min_nonneg : (a b : ℤ) → pos 0 ≤ℤ a → pos 0 ≤ℤ b → pos 0 ≤ℤ int_min a b
 min_nonneg a b ha hb = grind (arith, ints)
 
 -- each cell of a schedule that obeys has a cap of at least 0

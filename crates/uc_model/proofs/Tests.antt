@@ -63,10 +63,10 @@ any_below-from (suc n) test k l h =
     (below_or_last n k l)
 
 -- ---- the least value
-int_min_left : (a b : ℤ) → int_min a b ≤ℤ a
+pub int_min_left : (a b : ℤ) → int_min a b ≤ℤ a
 int_min_left a b = grind (arith, ints)
 
-int_min_right : (a b : ℤ) → int_min a b ≤ℤ b
+pub int_min_right : (a b : ℤ) → int_min a b ≤ℤ b
 int_min_right a b = grind (arith, ints)
 
 step_left : (b : Bool) (x y : ℤ) → IsTrue b → cond b (int_min x y) y ≤ℤ x

@@ -4,6 +4,7 @@ pub mod Money
 pub mod Sums
 pub mod Commitment
 pub mod PatternBits
+pub mod ExtremePatterns
 pub mod StartCategory
 pub mod Points
 pub mod Schedule

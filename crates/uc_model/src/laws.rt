@@ -4,12 +4,13 @@ ghost use Rattle.std.specs.Prelude.{◌≡◌, ℕ, ◌*◌, ◌^◌, ◌<◌, �
 ghost use Rattle.uc_model.specs.Division.{IsCeiling, quotient_up};
 ghost use Rattle.uc_model.specs.Commitment.{Commitment, state_before, starts, is_allowed, cap, KeepsMinimumTimes};
 ghost use Rattle.uc_model.specs.PatternBits.{commitment_of};
+ghost use Rattle.uc_model.specs.ExtremePatterns.{IsMostOn, IsFewestOn, HasExactlyOne};
 ghost use Rattle.uc_model.specs.StartCategory.{is_category_allowed, category_cost, last_stop, sigma};
 ghost use Rattle.uc_model.specs.Schedule.{Schedule, thermal_unit, thermal_count};
 ghost use Rattle.uc_model.specs.Rules.{Obeys};
 ghost use Rattle.uc_model.specs.Cost.{cost};
 ghost use Rattle.uc_model.specs.PrintedSchedule.{printed_denominator, printed_schedule, printed_cost};
-ghost use Rattle.uc_model.specs.Limits.{IsLawfulInstance, COST_MAX};
+ghost use Rattle.uc_model.specs.Limits.{IsLawfulInstance, IsLawfulThermal, COST_MAX};
 ghost use Rattle.uc_model.specs.declared.instance.Instance.{Instance};
 ghost use Rattle.uc_model.specs.declared.instance.Thermal.{Thermal};
 ghost use Rattle.uc_model.specs.declared.pattern.Pattern.{Pattern};
@@ -33,6 +34,14 @@ pub fn starts_and_stops_follow_from_the_state()
 pub fn patterns_are_told_by_their_periods()
     ensures { (a b : Pattern) → a.low < 2 ^ 128 → b.low < 2 ^ 128 → a.high < 2 ^ 64 → b.high < 2 ^ 64
         → ((t : ℕ) → commitment_of a t ≡ commitment_of b t) → a ≡ b }
+{}
+
+/// A unit with an allowed pattern has exactly one with the most on periods, and exactly one with the fewest.
+pub fn most_and_fewest_on_patterns_are_unique()
+    ensures most { (periods : ℕ) (unit : Thermal) (on : Commitment) → 1 ≤ periods → IsLawfulThermal unit
+        → IsTrue (is_allowed periods unit on) → HasExactlyOne periods (IsMostOn periods unit) }
+    ensures fewest { (periods : ℕ) (unit : Thermal) (on : Commitment) → 1 ≤ periods → IsLawfulThermal unit
+        → IsTrue (is_allowed periods unit on) → HasExactlyOne periods (IsFewestOn periods unit) }
 {}
 
 /// A schedule that obeys has a cap of at least 0 in each period of each unit, so its commitments are

@@ -1,6 +1,6 @@
 -- The visits of a list of nodes by a walk that knows the places at which subtrees are still to come, the next one first.
 -- This project's own.
-use Rattle.std.specs.Prelude.{◌≡◌, ℕ, Bool, not, IsTrue, All, true, false, List, [], ◌∷◌, ◌++◌, ℤ, Option, Some, None, length, slice_get, map, if◌then◌else◌}
+use Rattle.std.specs.Prelude.{◌≡◌, ℕ, Bool, not, IsTrue, All, true, false, List, [], ◌∷◌, ◌++◌, ℤ, Option, length, map, if◌then◌else◌}
 use Rattle.uc_model.specs.declared.instance.Instance.{Instance}
 use Rattle.dual_model.specs.Fixings.{IsCell, IsNodeOf}
 use Rattle.dual_model.specs.Tree.{child, root, is_decided}
@@ -13,7 +13,6 @@ use Rattle.cert_text.specs.declared.cert.CertNode.{CertNode}
 use Rattle.cert_text.specs.declared.cert.CertNode.TheVariants as nodes
 use Rattle.leaf_values.specs.Paths.{DecidesOnce}
 use Rattle.cert_check.specs.Visits.{Visit, IsSound}
-use Rattle.cert_check.specs.Refusals.{IsFirstUnsound}
 
 -- a split's children are to come before the other places
 abbrev pub walk : List Node → List TreeNode → List Visit
@@ -66,12 +65,6 @@ MayGoOn instance path (nodes.Split g t) = IsCell instance g t × IsTrue (not (is
 MayGoOn instance path (nodes.Bound table) = Unit {0}
 MayGoOn instance path (nodes.Ray table) = Unit {0}
 MayGoOn instance path (nodes.Empty g) = Unit {0}
-
--- the first node that isn't sound, or none
-abbrev pub IsFirstUnsoundOf : Instance → List Table → Option ℤ → List Visit → List CertNode → Option ℕ → Type 0
-IsFirstUnsoundOf instance tables bound all nodes None = All (IsSound instance tables bound) all
-IsFirstUnsoundOf instance tables bound all nodes (Some i) =
-    (visit : Visit) × IsFirstUnsound instance tables bound all i visit × (slice_get (map node_of nodes) i ≡ Some visit.node)
 
 -- the walk has made so many visits, all sound, and goes on at the path with the nodes that are left
 pub record HasVisited (instance : Instance) (tables : List Table) (bound : Option ℤ) (all : List Visit) (turns : ℕ) (path : List Fixing) (rest : List TreeNode) : Type 0 where

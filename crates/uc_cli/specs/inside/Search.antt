@@ -1,13 +1,10 @@
--- What a search knows of the first units, their patterns and the sum of their values, and what it answers.
-use Rattle.std.specs.Prelude.{◌≡◌, ℕ, zero, suc, ◌<◌, ℤ, pos, ◌+ℤ◌}
+-- What a search knows of the units before its claim, and what it answers.
+use Rattle.std.specs.Prelude.{ℕ, ◌<◌}
 use Rattle.uc_model.specs.Schedule.{thermal_count}
 use Rattle.uc_model.specs.declared.instance.Instance.{Instance}
 use Rattle.dual_model.specs.Fixings.{HasNoPattern}
 use Rattle.dual_model.specs.Laws.{IsClaimTrue}
 use Rattle.dual_model.specs.Tree.{root}
-use Rattle.dual_model.specs.UnitValue.{IsUnitValue}
-use Rattle.dual_model.specs.declared.node.Node.{Node}
-use Rattle.dual_model.specs.declared.table.Table.{Table}
 use Rattle.branch_tree.specs.NumberedTree.{EndAt}
 use Rattle.branch_tree.specs.TreeView.{TreeView}
 use Rattle.branch_tree.specs.StoredTree.{tree_bound}
@@ -18,16 +15,9 @@ use Rattle.branch_tree.specs.declared.tree.Leaf.{Leaf}
 use Rattle.cert_text.specs.CertificateText.{listing_of}
 use Rattle.cert_text.specs.TextConditions.{HasText}
 
--- the sum of the values of the first n units
-abbrev pub IsUnitSum : Instance → Node → Table → ℕ → ℤ → Type 0
-IsUnitSum instance node table zero total = total ≡ pos 0
-IsUnitSum instance node table (suc n) total =
-    (before : ℤ) × (v : ℤ) × IsUnitSum instance node table n before × IsUnitValue instance node table n v
-    × (total ≡ (before +ℤ v))
-
--- each of the first n units has an allowed pattern
-abbrev pub HasEachPattern : Instance → ℕ → Type 0
-HasEachPattern instance n = (g : ℕ) → g < n → ¬ HasNoPattern instance root g
+-- each thermal unit has an allowed pattern
+abbrev pub HasEachPattern : Instance → Type 0
+HasEachPattern instance = (g : ℕ) → g < thermal_count instance → ¬ HasNoPattern instance root g
 
 -- what the search answers: a search result, a true claim, and a certificate that has a text
 pub record IsSearchAnswer (instance : Instance) (found : Found) : Type 0 where

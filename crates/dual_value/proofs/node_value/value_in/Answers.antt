@@ -10,7 +10,7 @@ use Rattle.uc_model.specs.Schedule.{no_unit, thermal_count, thermal_unit}
 use Rattle.uc_model.proofs.Sizes.{abs_add, sum-is, sum-size, wide, wide-size}
 use Rattle.dual_value.specs.NodeAnswer.{IsFaultOf, IsPartOf, IsValued, MAX_PART}
 use Rattle.dual_value.specs.Rooms.{RoomOf}
-use Rattle.dual_value.specs.inside.System.{MAX_RENEWABLES, MAX_SYSTEM}
+use Rattle.system_value.specs.Sizes.{MAX_RENEWABLES, MAX_SYSTEM}
 use Rattle.dual_value.proofs.ValuedUnits.{first-without, valued-all, valued-more, valued-none, IsValuedTo}
 use Rattle.dual_value.proofs.node_value.value_in.Goals as goal
 

@@ -5,7 +5,7 @@ use Rattle.uc_model.specs.declared.limits.TheConstants.{MAX_PERIODS}
 use Rattle.uc_model.proofs.Sizes.{sum-fits, sum-is, sum-size, wide, wide-size}
 use Rattle.dual_model.specs.NodeValue.{unit_constant}
 use Rattle.dual_value.specs.NodeAnswer.{MAX_PART}
-use Rattle.dual_value.specs.inside.System.{MAX_CELL}
+use Rattle.system_value.specs.Sizes.{MAX_CELL}
 use Rattle.dual_value.proofs.Constants.{constant-size, MAX_UNIT_VALUE}
 use Rattle.dual_value.proofs.Parts.{fix-decided, none-decided, part-of}
 use Rattle.dual_value.proofs.units.unit_part.Goals as goal

@@ -1,0 +1,279 @@
+-- From one period to the next: what was filled stays filled, and what is written fills the period.
+use Rattle.std.proofs.Common.{◌≡◌, ◌≢◌, ℕ, zero, suc, ◌+◌, ◌<◌, ◌≤◌, ⊎_elim, Bool, true, false, refl, sym, ap, subst, ◌∙◌, arith, List, [], length, ℤ, pos, ◌-ℤ◌, ◌*ℤ◌}
+use Rattle.std.specs.Prelude.{nat_lt, slice_index_or}
+use Rattle.std.specs.Int.{int_min, int_max}
+use Rattle.std.proofs.lemmas.Bool.{cases_lt, cases_eq, lt-ltb, le-ltb, cond-true, cond-false}
+use Rattle.std.proofs.Math.ListN.{get_or-eq_default}
+use Rattle.std.proofs.lemmas.Int.{ints}
+use Rattle.uc_model.specs.Sums.{sum_below, bit}
+use Rattle.uc_model.specs.Commitment.{initial_p}
+use Rattle.uc_model.specs.Limits.{IsLawfulThermal, IsPower}
+use Rattle.uc_model.specs.declared.instance.Thermal.{Thermal}
+use Rattle.uc_model.proofs.Ring.{one-mul, zero-mul}
+use Rattle.uc_model.specs.StartCategory.{category_cost}
+use Rattle.uc_model.specs.Schedule.{thermal_unit, thermal_count, renewable_count, reserve_at, no_unit}
+use Rattle.uc_model.specs.PrintedSchedule.{HasShapeOf, cell_at}
+use Rattle.uc_model.specs.declared.instance.Instance.{Instance}
+use Rattle.uc_model.specs.declared.pattern.Pattern.{Pattern}
+use Rattle.uc_model.specs.declared.schedule.Cell.{Cell}
+use Rattle.uc_model.specs.declared.schedule.Printed.{Printed}
+use Rattle.uc_model.specs.declared.stuck.Stuck.{Stuck}
+use Rattle.uc_model.specs.declared.stuck.Why.{Why}
+use Rattle.uc_model.specs.declared.stuck.Why.TheVariants as why
+use Rattle.start_costs.specs.Cheapest.{IsCheapestAbove}
+use Rattle.dispatch_repair.specs.Period.{Period, Source, FromRenewable, FromThermal, commitment_at, output_before, head_of}
+use Rattle.dispatch_repair.specs.MeritOrder.{IsInMeritOrder}
+use Rattle.dispatch_repair.specs.Dispatch.{HasPeriods, output_at, IsCommittedCell, amounts, period_after, IsFilling, IsFilled, IsDispatchThrough}
+use Rattle.dispatch_repair.specs.Stuck.{IsRegular, IsFirstBrokenRule, IsStuckInPeriod, IsFirstObstacle, stuck_period, IsStuckBy, IsStuckOf, IsDispatchFault}
+use Rattle.dispatch_repair.specs.inside.Amounts.{amount_at, amount_of, thermal_amount, IsRoomOf, IsSizedOutput}
+use Rattle.dispatch_repair.specs.inside.Filled.{IsDispatchedFrom}
+use Rattle.dispatch_repair.specs.inside.Progress.{AreBefore, AreFilledBelow, IsStuckIn, IsStuckAfter}
+use Rattle.dispatch_repair.specs.inside.Rows.{AreCommitted, AreSameBut, IsWritten, AreSameBelow}
+use Rattle.dispatch_repair.specs.inside.Segments.{source_count}
+use Rattle.dispatch_repair.specs.declared.room.Room.{Room}
+use Rattle.dispatch_repair.specs.declared.schedule.DispatchFault.{DispatchFault}
+use Rattle.dispatch_repair.specs.declared.schedule.DispatchFault.TheVariants as fault
+use Rattle.dispatch_repair.proofs.Impossible.{impossible}
+
+-- ---- what was filled stays so
+-- the outputs before, the cells and the renewable outputs of period t are the same
+pub record AreSameAt (instance : Instance) (t : ℕ) (old new : Printed) : Type 0 where
+  pub before : (g : ℕ) → output_before instance old g t ≡ output_before instance new g t
+  pub cells : (g : ℕ) → cell_at old g t ≡ cell_at new g t
+  pub outputs : (w : ℕ) → output_at old w t ≡ output_at new w t
+
+pub filled_moved : (instance : Instance) (patterns : List Pattern) (t : ℕ) (old new : Printed) → AreSameAt instance t old new
+    → IsFilled instance patterns old t → IsFilled instance patterns new t
+filled_moved instance patterns t old new same filled =
+    subst (λ z. z) (λ i. IsFilling instance patterns t (λ g. same.before g i) (λ g. same.cells g i) (λ w. same.outputs w i)) filled
+
+same_below : (instance : Instance) (periods t : ℕ) (old new : Printed) → AreSameBelow periods old new → t < periods → AreSameAt instance t old new
+same_below instance periods t old new same h = record {
+  before = λ g. before g t h;
+  cells = λ g. sym (same.cells g t h);
+  outputs = λ w. sym (same.outputs w t h);
+}
+  where
+    before : (g k : ℕ) → k < periods → output_before instance old g k ≡ output_before instance new g k
+    before g zero k = refl
+    before g (suc k) hk = ap (λ (c : Cell). c.p) (sym (same.cells g k (omega arith)))
+
+same_but : (instance : Instance) (t k : ℕ) (old new : Printed) → AreSameBut t old new → k < t → AreSameAt instance k old new
+same_but instance t k old new same h = record {
+  before = λ g. before g k h;
+  cells = λ g. sym (same.cells g k (apart k t h));
+  outputs = λ w. sym (same.outputs w k (apart k t h));
+}
+  where
+    apart : (a b : ℕ) → a < b → a ≢ b
+    apart a b h e = omega arith
+
+    before : (g j : ℕ) → j < t → output_before instance old g j ≡ output_before instance new g j
+    before g zero hj = refl
+    before g (suc j) hj = ap (λ (c : Cell). c.p) (sym (same.cells g j (apart j t (omega arith))))
+
+-- what came before a period stands when it is written
+before_same : (instance : Instance) (t : ℕ) (old new : Printed) (g : ℕ) → AreSameBut t old new → output_before instance old g t ≡ output_before instance new g t
+before_same instance zero old new g same = refl
+before_same instance (suc t) old new g same = ap (λ (c : Cell). c.p) (sym (same.cells g t (apart t)))
+  where
+    apart : (k : ℕ) → k ≢ suc k
+    apart k e = omega arith
+
+-- ---- past the last unit
+no_cells : (instance : Instance) (periods : ℕ) (printed : Printed) (g t : ℕ) → HasPeriods instance periods printed → thermal_count instance ≤ g → (cell_at printed g t).p ≡ pos 0
+no_cells instance periods printed g t shape h =
+    let none : slice_index_or printed.thermal g [] ≡ [] = get_or-eq_default printed.thermal [] (subst (λ n. n ≤ g) (sym shape.thermal) h) in
+    ap (λ (row : List Cell). cell_p (slice_index_or row t (record { on = false; p = pos 0; r = pos 0; category = 0 }))) none
+  where
+    cell_p : Cell → ℤ
+    cell_p c = c.p
+
+no_outputs : (instance : Instance) (periods : ℕ) (printed : Printed) (w t : ℕ) → HasPeriods instance periods printed → renewable_count instance ≤ w → output_at printed w t ≡ pos 0
+no_outputs instance periods printed w t shape h =
+    let none : slice_index_or printed.renewable w [] ≡ [] = get_or-eq_default printed.renewable [] (subst (λ n. n ≤ w) (sym shape.renewable) h) in
+    ap (λ (row : List ℤ). slice_index_or row t (pos 0)) none
+
+no_amount : (instance : Instance) (numbers : List ℤ) (g : ℕ) → length numbers ≡ source_count instance → thermal_count instance ≤ g → thermal_amount instance numbers g ≡ pos 0
+no_amount instance numbers g count h = get_or-eq_default numbers (pos 0) (subst (λ n. n ≤ renewable_count instance + g) (sym count) (more (renewable_count instance) (thermal_count instance) g h))
+  where
+    more : (w n k : ℕ) → n ≤ k → w + n ≤ w + k
+    more w n k h = omega arith
+
+no_initial : (instance : Instance) (g : ℕ) → thermal_count instance ≤ g → initial_p (thermal_unit instance g) ≡ pos 0
+no_initial instance g h = ap initial_p (get_or-eq_default instance.thermal no_unit h)
+
+-- the amounts before the first period
+pub begun : (instance : Instance) (patterns : List Pattern) (printed : Printed) (room : Room) → AreCommitted instance patterns printed → IsRoomOf instance room
+    → ((g : ℕ) → g < thermal_count instance → thermal_amount instance room.amounts.items g ≡ initial_p (thermal_unit instance g))
+    → ((g : ℕ) → g < thermal_count instance → IsSizedOutput (thermal_amount instance room.amounts.items g))
+    → AreFilledBelow instance patterns 0 printed room
+begun instance patterns printed room committed of_room initial sizes = record {
+  committed = committed;
+  filled = λ k h. absurd (omega (arith, h));
+  room = of_room;
+  before = record {
+    are = λ g. ⊎_elim (λ low. initial g low) (λ high. no_amount instance room.amounts.items g of_room.amounts high ∙ sym (no_initial instance g high)) (cases_lt g (thermal_count instance));
+    sizes = sizes;
+  };
+}
+
+-- ---- a period more
+committed_cell : (instance : Instance) (patterns : List Pattern) (g t : ℕ) (old new : Cell) → new.on ≡ old.on → new.category ≡ old.category
+    → IsCommittedCell instance patterns g t old → IsCommittedCell instance patterns g t new
+committed_cell instance patterns g t old new on category is = record {
+  on = on ∙ is.on;
+  start = λ h. subst (λ s. IsCheapestAbove (thermal_unit instance g) (commitment_at patterns g) t 0 (s, category_cost (thermal_unit instance g) s)) (sym category) (is.start h);
+  none = λ h. category ∙ is.none h;
+}
+
+module _ (instance : Instance) (patterns : List Pattern) (t : ℕ) (old new : Printed) (before after heads : List ℤ)
+    (shape : HasPeriods instance instance.periods new) (count : length after ≡ source_count instance)
+    (was : AreBefore instance old t before) (committed : AreCommitted instance patterns old) (within : t < instance.periods)
+    (dispatched : IsDispatchedFrom (period_after instance patterns t (thermal_amount instance before)) after heads)
+    (written : IsWritten instance after heads (reserve_at instance t) t old new) where
+  abbrev gave : Source → ℤ
+  gave = amounts (λ g. cell_at new g t) (λ w. output_at new w t)
+
+  abbrev period : Period
+  period = period_after instance patterns t (λ g. output_before instance new g t)
+
+  gives : (s : Source) → amount_of instance after s ≡ gave s
+  gives (FromRenewable w) = ⊎_elim
+      (λ (h : w < renewable_count instance). cond-true (nat_lt w (renewable_count instance)) _ _ (lt-ltb w (renewable_count instance) h) ∙ sym (written.outputs w h))
+      (λ h. cond-false (nat_lt w (renewable_count instance)) _ _ (le-ltb w (renewable_count instance) h) ∙ sym (no_outputs instance instance.periods new w t shape h))
+      (cases_lt w (renewable_count instance))
+  gives (FromThermal g) = ⊎_elim
+      (λ (h : g < thermal_count instance). sym (written.cells g h).p)
+      (λ h. no_amount instance after g count h ∙ sym (no_cells instance instance.periods new g t shape h))
+      (cases_lt g (thermal_count instance))
+
+  gave_before : (g : ℕ) → thermal_amount instance before g ≡ output_before instance new g t
+  gave_before g = was.are g ∙ before_same instance t old new g written.others
+
+  same_period : period_after instance patterns t (thermal_amount instance before) ≡ period
+  same_period = λ i. period_after instance patterns t (λ g. gave_before g i)
+
+  pub filled_period : IsFilled instance patterns new t
+  filled_period = record {
+    cells = λ g h. committed_cell instance patterns g t (cell_at old g t) (cell_at new g t) (written.cells g h).on (written.cells g h).category (committed.cells g t h within);
+    merit = subst (λ z. z) (λ i. IsInMeritOrder (same_period i) (λ s. gives s i)) dispatched.merit;
+    reserve = λ g h.
+        let head : amount_at heads g ≡ head_of period g = (dispatched.heads g h).is ∙ ap (λ p. head_of p g) same_period in
+        (written.cells g h).r
+        ∙ (λ i. int_min (head i -ℤ gives (FromThermal g) i) (int_max (reserve_at instance t -ℤ sum_below g (λ k. (cell_at new k t).r)) (pos 0)));
+  }
+
+  pub committed_still : AreCommitted instance patterns new
+  committed_still = record {
+    shape = shape;
+    cells = λ g k hg hk. ⊎_elim
+        (λ (same : k ≡ t). subst (λ j. IsCommittedCell instance patterns g j (cell_at new g j)) (sym same)
+        (committed_cell instance patterns g t (cell_at old g t) (cell_at new g t) (written.cells g hg).on (written.cells g hg).category (committed.cells g t hg within)))
+        (λ other. subst (IsCommittedCell instance patterns g k) (sym (written.others.cells g k other)) (committed.cells g k hg hk))
+        (cases_eq k t);
+  }
+
+  pub before_next : AreBefore instance new (suc t) after
+  before_next = record { are = λ g. gives (FromThermal g); sizes = dispatched.sizes }
+
+-- the next period, after one was dispatched and written
+pub next_filled : (instance : Instance) (patterns : List Pattern) (t : ℕ) (old new : Printed) (was is : Room) → AreFilledBelow instance patterns t old was
+    → t < instance.periods → IsRoomOf instance is → HasPeriods instance instance.periods new
+    → IsDispatchedFrom (period_after instance patterns t (thermal_amount instance was.amounts.items)) is.amounts.items is.heads.items
+    → IsWritten instance is.amounts.items is.heads.items (reserve_at instance t) t old new → AreFilledBelow instance patterns (suc t) new is
+next_filled instance patterns t old new was is below within room shape dispatched written = record {
+  committed = committed_still instance patterns t old new was.amounts.items is.amounts.items is.heads.items shape room.amounts below.before below.committed within dispatched written;
+  filled = λ k h. ⊎_elim
+      (λ (early : k < t). filled_moved instance patterns k old new (same_but instance t k old new written.others early) (below.filled k early))
+      (λ (late : t ≤ k). subst (IsFilled instance patterns new) (last k h late)
+      (filled_period instance patterns t old new was.amounts.items is.amounts.items is.heads.items shape room.amounts below.before below.committed within dispatched written))
+      (cases_lt k t);
+  room = room;
+  before = before_next instance patterns t old new was.amounts.items is.amounts.items is.heads.items shape room.amounts below.before below.committed within dispatched written;
+}
+  where
+    last : (k : ℕ) → k < suc t → t ≤ k → t ≡ k
+    last k a b = omega arith
+
+-- ---- the end
+pub through : (instance : Instance) (patterns : List Pattern) (printed : Printed) (room : Room) → AreFilledBelow instance patterns instance.periods printed room
+    → IsDispatchThrough instance patterns instance.periods printed
+through instance patterns printed room below = record { shape = below.committed.shape; filled = below.filled }
+
+pub whole_shape : (instance : Instance) (printed : Printed) → HasPeriods instance instance.periods printed → HasShapeOf instance printed
+whole_shape instance printed shape = record { thermal = shape.thermal; cells = shape.cells; renewable = shape.renewable; outputs = shape.outputs }
+
+-- stuck in period t, after those before it
+pub stuck_period_is : (instance : Instance) (patterns : List Pattern) (t : ℕ) (printed : Printed) (room : Room) (reason : Why) (stuck : Stuck)
+    → IsRegular instance patterns → AreFilledBelow instance patterns t printed room → t < instance.periods
+    → IsFirstObstacle (period_after instance patterns t (thermal_amount instance room.amounts.items)) reason
+    → IsStuckIn printed t reason stuck → IsStuckInPeriod instance patterns stuck (stuck_period instance patterns stuck)
+stuck_period_is instance patterns t printed room reason stuck regular below within obstacle is = record {
+  regular = regular;
+  within = subst (λ k. k < instance.periods) (sym is.is_period) within;
+  prefix = subst (λ k. IsDispatchThrough instance patterns k stuck.prefix) (sym is.is_period) (record {
+    shape = is.prefix.shape instance below.committed.shape (less t instance.periods within);
+    filled = λ k h. filled_moved instance patterns k printed stuck.prefix (same_below instance t k printed stuck.prefix is.prefix.same h) (below.filled k h);
+  });
+  obstacle = found;
+  impossible = impossible (stuck_period instance patterns stuck) stuck.why (subst (λ k. k < instance.periods) (sym is.is_period) within) found;
+}
+  where
+    less : (a b : ℕ) → a < b → a ≤ b
+    less a b h = omega arith
+
+    before : (g k : ℕ) → k ≡ t → output_before instance printed g k ≡ output_before instance stuck.prefix g k
+    before g zero e = refl
+    before g (suc k) e = ap (λ (c : Cell). c.p) (sym (is.prefix.same.cells g k (omega (arith, e))))
+
+    same : period_after instance patterns t (thermal_amount instance room.amounts.items) ≡ stuck_period instance patterns stuck
+    same = (λ i. period_after instance patterns t (λ g. (below.before.are g ∙ before g t refl) i))
+        ∙ (λ i. period_after instance patterns (sym is.is_period i) (λ g. output_before instance stuck.prefix g (sym is.is_period i)))
+
+    found : IsFirstObstacle (stuck_period instance patterns stuck) stuck.why
+    found = subst (IsFirstObstacle (stuck_period instance patterns stuck)) (sym is.reason) (subst (λ p. IsFirstObstacle p reason) same obstacle)
+
+-- an obstacle in a period isn't a broken rule
+pub stuck_of : (instance : Instance) (patterns : List Pattern) (stuck : Stuck) → IsStuckInPeriod instance patterns stuck (stuck_period instance patterns stuck)
+    → IsStuckOf instance patterns stuck
+stuck_of instance patterns stuck is = by stuck.why is.obstacle
+  where
+    by : (reason : Why) → IsFirstObstacle (stuck_period instance patterns stuck) reason → IsStuckBy instance patterns stuck reason
+    by (why.Rule number unit) none = absurd none
+    by (why.Box unit low high) found = is
+    by (why.Over least demand) found = is
+    by (why.Under most demand) found = is
+    by (why.Reserve room need) found = is
+
+-- the answer of a dispatch that is stuck in period t, or to which memory was refused
+pub stuck_fault : (instance : Instance) (patterns : List Pattern) (t : ℕ) (printed : Printed) (room : Room) (reason : Why) (answer : DispatchFault)
+    → IsRegular instance patterns → AreFilledBelow instance patterns t printed room → t < instance.periods
+    → IsFirstObstacle (period_after instance patterns t (thermal_amount instance room.amounts.items)) reason
+    → IsStuckAfter printed t reason answer → IsDispatchFault instance patterns answer
+stuck_fault instance patterns t printed room reason (fault.Stuck stuck) regular below within obstacle is =
+    stuck_of instance patterns stuck (stuck_period_is instance patterns t printed room reason stuck regular below within obstacle is)
+stuck_fault instance patterns t printed room reason fault.NoMemory regular below within obstacle is = tt
+
+-- the answer of a dispatch of a commitment that breaks a rule
+pub broken_fault : (instance : Instance) (patterns : List Pattern) (printed : Printed) (number unit : ℕ) (answer : DispatchFault)
+    → HasPeriods instance instance.periods printed → IsFirstBrokenRule instance patterns number unit
+    → IsStuckAfter printed 0 (why.Rule number unit) answer → IsDispatchFault instance patterns answer
+broken_fault instance patterns printed number unit (fault.Stuck stuck) shape broken is =
+    subst (IsStuckBy instance patterns stuck) (sym is.reason) (record {
+      period = is.is_period;
+      prefix = is.prefix.shape instance shape (omega arith);
+      broken = broken;
+    })
+broken_fault instance patterns printed number unit fault.NoMemory shape broken is = tt
+
+-- the size of what a unit gives initially
+pub initial_size : (unit : Thermal) → IsLawfulThermal unit → IsSizedOutput (initial_p unit)
+initial_size unit lawful = by unit.on0 (unit.p0 -ℤ unit.pmin) (gap unit.p0 unit.pmin lawful.initial_output lawful.minimum.power)
+  where
+    gap : (a b : ℤ) → IsPower a → IsPower b → IsSizedOutput (a -ℤ b)
+    gap a b ha hb = grind (arith, ints, ha, hb)
+
+    by : (b : Bool) (z : ℤ) → IsSizedOutput z → IsSizedOutput (bit b *ℤ z)
+    by true z h = subst IsSizedOutput (sym (one-mul z)) h
+    by false z h = subst IsSizedOutput (sym (zero-mul z)) (omega arith)

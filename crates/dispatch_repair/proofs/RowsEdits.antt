@@ -1,0 +1,55 @@
+-- Writes into rows.
+use Rattle.std.proofs.Common.{◌≡◌, ℕ, ◌+◌, ◌<◌, ◌≤◌, get_or, length, take, drop, sym, ap, subst, ◌∙◌, List, [], ◌++◌}
+use Rattle.std.specs.Prelude.{All, map, slice_set, slice_index_or}
+use Rattle.std.specs.Vec.{with_item}
+use Rattle.std.specs.declared.alloc.Global.{Global}
+use Rattle.std.specs.declared.vec.Vec.{Vec}
+use Rattle.std.proofs.lemmas.List.{map-set, get_or-map, get_or_default, length-map, length-take-le}
+use Rattle.std.proofs.lemmas.List.Edits.{map_over_more}
+use Rattle.std.proofs.lemmas.List.Elements.{All-map}
+use Rattle.uc_model.specs.declared.instance.Instance.{Instance}
+use Rattle.uc_model.specs.declared.schedule.Printed.{Printed}
+use Rattle.dispatch_repair.specs.Dispatch.{HasPeriods}
+use Rattle.dispatch_repair.specs.inside.Rows.{rows_of, row_at}
+
+-- the row that is read is the one at its place
+pub row_read : {X : Type 0} (rows : List (Vec X Global)) (i : ℕ) (row : Vec X Global) → i < length rows
+    → row ≡ slice_index_or rows i row → row.items ≡ row_at (rows_of rows) i
+row_read {X} rows i row within is =
+    ap (λ (v : Vec X Global). v.items) is ∙ sym (get_or-map (λ (v : Vec X Global). v.items) rows i row [] within)
+
+-- a write into a row
+pub row_set : {X : Type 0} (rows : List (Vec X Global)) (i t : ℕ) (row : Vec X Global) (x : X) → i < length rows
+    → row ≡ slice_index_or rows i row
+    → rows_of (slice_set rows i (with_item row t x)) ≡ slice_set (rows_of rows) i (slice_set (row_at (rows_of rows) i) t x)
+row_set {X} rows i t row x within is =
+    map-set (λ (v : Vec X Global). v.items) rows i (with_item row t x)
+    ∙ ap (λ (items : List X). slice_set (rows_of rows) i (slice_set items t x)) (row_read rows i row within is)
+
+-- one more row is cut
+pub cut_more : {X : Type 0} (rows : List (Vec X Global)) (start : List (List X)) (n i : ℕ) (row cut : Vec X Global)
+    → i < length start → i < length rows → row ≡ slice_index_or rows i row → cut.items ≡ take n row.items
+    → rows_of rows ≡ map (take n) (take i start) ++ drop i start
+    → rows_of (slice_set rows i cut) ≡ map (take n) (take (i + 1) start) ++ drop (i + 1) start
+cut_more {X} rows start n i row cut hs hr is items before =
+    let within : i < length (rows_of rows) = subst (λ k. i < k) (sym (length-map rows (λ (v : Vec X Global). v.items))) hr in
+    map-set (λ (v : Vec X Global). v.items) rows i cut ∙ ap (slice_set (rows_of rows) i) items
+    ∙ map_over_more (take n) start (rows_of rows) i row.items hs before
+    (row_read rows i row hr is ∙ get_or_default (rows_of rows) i [] row.items within)
+
+-- rows that are cut have the length that is left
+cut_lengths : {X : Type 0} (rows : List (List X)) (n m : ℕ) → n ≤ m → All (λ row. length row ≡ m) rows
+    → All (λ row. length row ≡ n) (map (take n) rows)
+cut_lengths {X} rows n m h lengths =
+    All-map (λ (row : List X). length row ≡ n) (take n) rows
+    (λ k d within. length-take-le n (get_or rows k d) (subst (λ j. n ≤ j) (sym (lengths k d within)) h))
+
+-- the schedule of the first periods
+pub cut_shape : (instance : Instance) (n : ℕ) (printed : Printed) → HasPeriods instance instance.periods printed → n ≤ instance.periods
+    → HasPeriods instance n (record { thermal = map (take n) printed.thermal; renewable = map (take n) printed.renewable })
+cut_shape instance n printed shape h = record {
+  thermal = length-map printed.thermal _ ∙ shape.thermal;
+  cells = cut_lengths printed.thermal n instance.periods h shape.cells;
+  renewable = length-map printed.renewable _ ∙ shape.renewable;
+  outputs = cut_lengths printed.renewable n instance.periods h shape.outputs;
+}

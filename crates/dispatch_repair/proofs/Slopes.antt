@@ -1,0 +1,45 @@
+-- The slopes of a lower hull rise: a segment that begins left of where another ends is no steeper.
+use Rattle.std.proofs.Common.{◌≡◌, ℕ, ◌<◌, ap, ◌∙◌, arith, List, length, ℤ, pos, ◌+ℤ◌, ◌*ℤ◌, ◌≤ℤ◌, ◌<ℤ◌}
+use Rattle.std.specs.Prelude.{IsTrue, int_lt}
+use Rattle.std.proofs.lemmas.Bool.{and_parts}
+use Rattle.uc_model.specs.Points.{output_of}
+use Rattle.uc_model.specs.Hull.{rise, run, is_hull_segment, is_above_line}
+use Rattle.uc_model.specs.Sums.{all_below}
+use Rattle.uc_model.specs.declared.instance.Point.{Point}
+use Rattle.uc_model.proofs.Ring.{linear, spread}
+use Rattle.uc_model.proofs.Tests.{int_le-true, int_lt-true, all_below-at}
+use Rattle.cost_curves.proofs.Lines.{flatter_trans}
+
+-- what a segment of the hull is
+record IsSegment (points : List Point) (i j : ℕ) : Type 0 where
+  wide : pos 0 <ℤ run points i j
+  above : (l : ℕ) → l < length points → (rise points i j *ℤ run points i l) ≤ℤ (rise points i l *ℤ run points i j)
+
+segment_parts : (points : List Point) (i j : ℕ) → IsTrue (is_hull_segment points i j) → IsSegment points i j
+segment_parts points i j h =
+    let parts = and_parts (int_lt (pos 0) (run points i j)) (all_below (length points) (is_above_line points i j)) h in
+    record {
+      wide = int_lt-true (pos 0) (run points i j) parts.0;
+      above = λ l hl. int_le-true _ _ (all_below-at (length points) (is_above_line points i j) parts.1 l hl);
+    }
+
+-- with rises and runs that add up, what lies above a line from its left end lies flatter towards its right end
+turned : (r w ra a rb b : ℤ) → w ≡ a +ℤ b → r ≡ ra +ℤ rb → (r *ℤ a) ≤ℤ (ra *ℤ w) → (rb *ℤ w) ≤ℤ (r *ℤ b)
+turned r w ra a rb b hw hr h =
+    let e1 : r *ℤ w ≡ r *ℤ a +ℤ r *ℤ b = ap (λ z. r *ℤ z) hw ∙ (simp spread) in
+    let e2 : r *ℤ w ≡ ra *ℤ w +ℤ rb *ℤ w = ap (λ z. z *ℤ w) hr ∙ (simp spread) in
+    omega (arith, linear, e1, e2, h)
+
+pub slopes_rise : (points : List Point) (i j k m : ℕ) → j < length points → k < length points
+    → IsTrue (is_hull_segment points i j) → IsTrue (is_hull_segment points k m) → output_of points k <ℤ output_of points j
+    → (rise points k m *ℤ run points i j) ≤ℤ (rise points i j *ℤ run points k m)
+slopes_rise points i j k m hj hk first second begins =
+    let a = segment_parts points i j first in
+    let b = segment_parts points k m second in
+    let steep : (rise points k j *ℤ run points i j) ≤ℤ (rise points i j *ℤ run points k j) =
+    turned (rise points i j) (run points i j) (rise points i k) (run points i k) (rise points k j) (run points k j)
+    (omega (arith, linear)) (omega (arith, linear)) (a.above k hk) in
+    let wide : pos 0 <ℤ run points k j = omega (arith, linear, begins) in
+    (flatter_trans (run points k m) (rise points k m) (run points k j) (rise points k j) (run points i j) (rise points i j)
+    (omega (arith, linear, b.wide)) wide (omega (arith, linear, a.wide))
+    (record { products = b.above j hj }) (record { products = steep })).products

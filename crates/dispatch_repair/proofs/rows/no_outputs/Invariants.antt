@@ -1,0 +1,8 @@
+-- The rows so far.
+use Rattle.std.proofs.Common.{◌≡◌, length}
+use Rattle.std.specs.Prelude.{All}
+use Rattle.dispatch_repair.specs.inside.Rows.{rows_of}
+use Rattle.dispatch_repair.proofs.rows.no_outputs.Given as goal
+
+abbrev pub invariant-loop : goal.invariant-loop
+invariant-loop l = (length l.rows.items ≡ l.counter) × All (λ row. length row ≡ l.periods) (rows_of l.rows.items)

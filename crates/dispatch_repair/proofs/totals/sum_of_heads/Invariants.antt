@@ -1,0 +1,13 @@
+-- The sum over the heads so far, and its size.
+use Rattle.std.proofs.Common.{◌≡◌, ◌*◌, ◌≤◌}
+use Rattle.std.specs.Prelude.{unsigned_abs}
+use Rattle.uc_model.specs.Sums.{sum_below}
+use Rattle.uc_model.specs.declared.limits.TheConstants.{MAX_POWER}
+use Rattle.dispatch_repair.specs.inside.Amounts.{amount_at}
+use Rattle.dispatch_repair.proofs.totals.sum_of_heads.Given as goal
+
+abbrev pub invariant-loop-g : goal.invariant-loop-g
+invariant-loop-g l = record {
+  value : l.total ≡ sum_below l.g (amount_at l.heads);
+  size : unsigned_abs l.total ≤ l.g * (3 * MAX_POWER);
+}

@@ -1,0 +1,57 @@
+-- The dispatch of a commitment: its schedule in merit order. Source: economic dispatch by the merit order of incremental costs,
+-- within the rules of the reference model by Knueven, Ostrowski and Watson; that a period is filled for itself is this project's own.
+use Rattle.std.specs.Prelude.{◌≡◌, ℕ, ◌<◌, false, List, [], ℤ, pos, IsTrue, All, length, slice_index_or}
+use Rattle.uc_model.specs.Commitment.{starts}
+use Rattle.uc_model.specs.StartCategory.{category_cost}
+use Rattle.uc_model.specs.Schedule.{thermal_unit, thermal_count, renewable_count}
+use Rattle.uc_model.specs.PrintedSchedule.{cell_at}
+use Rattle.uc_model.specs.declared.instance.Instance.{Instance}
+use Rattle.uc_model.specs.declared.pattern.Pattern.{Pattern}
+use Rattle.uc_model.specs.declared.schedule.Cell.{Cell}
+use Rattle.uc_model.specs.declared.schedule.Printed.{Printed}
+use Rattle.start_costs.specs.Cheapest.{IsCheapestAbove}
+use Rattle.dispatch_repair.specs.Period.{Period, Source, FromRenewable, FromThermal, commitment_at, output_before}
+use Rattle.dispatch_repair.specs.MeritOrder.{IsInMeritOrder, IsReserveInOrder}
+
+-- the schedule has a row for each unit, with a cell for each of the first periods
+pub record HasPeriods (instance : Instance) (periods : ℕ) (printed : Printed) : Type 0 where
+  pub thermal : length printed.thermal ≡ thermal_count instance
+  pub cells : All (λ row. length row ≡ periods) printed.thermal
+  pub renewable : length printed.renewable ≡ renewable_count instance
+  pub outputs : All (λ row. length row ≡ periods) printed.renewable
+
+-- a renewable unit's output in period t
+abbrev pub output_at : Printed → ℕ → ℕ → ℤ
+output_at printed w t = slice_index_or (slice_index_or printed.renewable w []) t (pos 0)
+
+-- a cell is the commitment's: a start takes the cheapest category that the history allows, the first of several
+pub record IsCommittedCell (instance : Instance) (patterns : List Pattern) (g t : ℕ) (cell : Cell) : Type 0 where
+  pub on : cell.on ≡ commitment_at patterns g t
+  pub start : IsTrue (starts (thermal_unit instance g) (commitment_at patterns g) t)
+      → IsCheapestAbove (thermal_unit instance g) (commitment_at patterns g) t 0 (cell.category, category_cost (thermal_unit instance g) cell.category)
+  pub none : starts (thermal_unit instance g) (commitment_at patterns g) t ≡ false → cell.category ≡ 0
+
+-- what each source gives, by the cells and the renewable units' outputs of a period
+abbrev pub amounts : (ℕ → Cell) → (ℕ → ℤ) → Source → ℤ
+amounts cell output (FromRenewable w) = output w
+amounts cell output (FromThermal g) = (cell g).p
+
+-- period t, with what each unit gave in the period before
+abbrev pub period_after : Instance → List Pattern → ℕ → (ℕ → ℤ) → Period
+period_after instance patterns t before = record { instance = instance; on = commitment_at patterns; t = t; before = before }
+
+-- cells and outputs of period t: the commitment's, in merit order, with reserve in the order of the file
+pub record IsFilling (instance : Instance) (patterns : List Pattern) (t : ℕ) (before : ℕ → ℤ) (cell : ℕ → Cell) (output : ℕ → ℤ) : Type 0 where
+  pub cells : (g : ℕ) → g < thermal_count instance → IsCommittedCell instance patterns g t (cell g)
+  pub merit : IsInMeritOrder (period_after instance patterns t before) (amounts cell output)
+  pub reserve : IsReserveInOrder (period_after instance patterns t before) (amounts cell output) (λ g. (cell g).r)
+
+-- period t of a printed schedule is filled so, from the one before
+abbrev pub IsFilled : Instance → List Pattern → Printed → ℕ → Type 0
+IsFilled instance patterns printed t =
+    IsFilling instance patterns t (λ g. output_before instance printed g t) (λ g. cell_at printed g t) (λ w. output_at printed w t)
+
+-- the first periods of the dispatch of a commitment
+pub record IsDispatchThrough (instance : Instance) (patterns : List Pattern) (periods : ℕ) (printed : Printed) : Type 0 where
+  pub shape : HasPeriods instance periods printed
+  pub filled : (t : ℕ) → t < periods → IsFilled instance patterns printed t

@@ -1,0 +1,7 @@
+pub mod Period
+pub mod MeritOrder
+pub mod Dispatch
+pub mod Stuck
+pub mod inside
+pub mod PlainNumbers
+pub mod MostOn

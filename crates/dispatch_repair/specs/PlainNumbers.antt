@@ -1,0 +1,27 @@
+-- The numbers that a dispatch has: none is below 0, and none is above the limit on a power. This project's own.
+use Rattle.std.specs.Prelude.{◌≡◌, ℕ, ◌≤◌, false, pos, ◌+ℤ◌, ◌≤ℤ◌}
+use Rattle.uc_model.specs.PrintedSchedule.{cell_at}
+use Rattle.uc_model.specs.Limits.{IsPower, IsLimit}
+use Rattle.uc_model.specs.declared.limits.TheConstants.{MAX_START_ROWS}
+use Rattle.uc_model.specs.declared.schedule.Cell.{Cell}
+use Rattle.uc_model.specs.declared.schedule.Printed.{Printed}
+use Rattle.dispatch_repair.specs.Dispatch.{output_at}
+
+-- an off cell has no number
+pub record IsIdleCell (cell : Cell) : Type 0 where
+  pub output : cell.p ≡ pos 0
+  pub reserve : cell.r ≡ pos 0
+  pub category : cell.category ≡ 0
+
+-- output and reserve together are within the limit, and the category is one that a unit may have, or 0
+pub record IsPlainCell (cell : Cell) : Type 0 where
+  pub output : pos 0 ≤ℤ cell.p
+  pub reserve : pos 0 ≤ℤ cell.r
+  pub total : IsPower (cell.p +ℤ cell.r)
+  pub category : cell.category ≤ MAX_START_ROWS
+  pub off : cell.on ≡ false → IsIdleCell cell
+
+-- each cell and each renewable unit's output; where the schedule has none they are 0
+pub record HasPlainNumbers (printed : Printed) : Type 0 where
+  pub cells : (g t : ℕ) → IsPlainCell (cell_at printed g t)
+  pub outputs : (w t : ℕ) → IsLimit (output_at printed w t)

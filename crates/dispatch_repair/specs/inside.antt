@@ -1,0 +1,8 @@
+pub mod Segments
+pub mod Amounts
+pub mod Rows
+pub mod Totals
+pub mod Filled
+pub mod Filling
+pub mod Broken
+pub mod Progress

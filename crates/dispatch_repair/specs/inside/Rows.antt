@@ -1,0 +1,110 @@
+-- The schedule that rows stand for, and what the writing of a period does to it. This project's own.
+use Rattle.std.specs.Prelude.{◌≡◌, ◌≢◌, ℕ, ◌+◌, ◌*◌, ◌<◌, ◌≤◌, false, List, [], ℤ, pos, ◌+ℤ◌, ◌-ℤ◌, ◌≤ℤ◌, length, map, slice_index_or, slice_set}
+use Rattle.std.specs.Int.{int_min, int_max}
+use Rattle.std.specs.declared.alloc.Global.{Global}
+use Rattle.std.specs.declared.vec.Vec.{Vec}
+use Rattle.uc_model.specs.Sums.{sum_below}
+use Rattle.uc_model.specs.Schedule.{thermal_count, renewable_count}
+use Rattle.uc_model.specs.PrintedSchedule.{cell_at}
+use Rattle.uc_model.specs.declared.instance.Instance.{Instance}
+use Rattle.uc_model.specs.declared.limits.TheConstants.{MAX_POWER}
+use Rattle.uc_model.specs.declared.pattern.Pattern.{Pattern}
+use Rattle.uc_model.specs.declared.schedule.Cell.{Cell}
+use Rattle.uc_model.specs.declared.schedule.Printed.{Printed}
+use Rattle.dispatch_repair.specs.Dispatch.{HasPeriods, IsCommittedCell, output_at}
+use Rattle.dispatch_repair.specs.inside.Amounts.{amount_at, thermal_amount}
+use Rattle.dispatch_repair.specs.declared.rows.Rows.{Rows}
+
+-- the rows' items
+abbrev pub rows_of : {X : Type 0} → List (Vec X Global) → List (List X)
+rows_of rows = map (λ row. row.items) rows
+
+-- the schedule of the rows
+abbrev pub printed_of : Rows → Printed
+printed_of rows = record { thermal = rows_of rows.thermal.items; renewable = rows_of rows.renewable.items }
+
+-- a unit's row; past the last one a row of nothing
+abbrev pub row_at : {X : Type 0} → List (List X) → ℕ → List X
+row_at rows g = slice_index_or rows g []
+
+-- a row's cell in a period; past the last one an off cell
+abbrev pub cell_of : List Cell → ℕ → Cell
+cell_of row t = slice_index_or row t (record { on = false; p = pos 0; r = pos 0; category = 0 })
+
+-- a cell is the commitment's, without any power
+pub record IsNewCell (instance : Instance) (patterns : List Pattern) (g t : ℕ) (cell : Cell) : Type 0 where
+  pub committed : IsCommittedCell instance patterns g t cell
+  pub output : cell.p ≡ pos 0
+  pub reserve : cell.r ≡ pos 0
+
+-- the first periods of unit g's row are the commitment's, without any power
+pub record IsCommittedRow (instance : Instance) (patterns : List Pattern) (g periods : ℕ) (row : List Cell) : Type 0 where
+  pub length : length row ≡ periods
+  pub cells : (t : ℕ) → t < periods → IsNewCell instance patterns g t (cell_of row t)
+
+-- the rows of the first units are the commitment's
+pub record AreCommittedRows (instance : Instance) (patterns : List Pattern) (n : ℕ) (rows : List (List Cell)) : Type 0 where
+  pub count : length rows ≡ n
+  pub each : (g : ℕ) → g < n → IsCommittedRow instance patterns g instance.periods (row_at rows g)
+
+-- a row for each unit, with a cell for each period, and each cell is the commitment's
+pub record AreCommitted (instance : Instance) (patterns : List Pattern) (printed : Printed) : Type 0 where
+  pub shape : HasPeriods instance instance.periods printed
+  pub cells : (g t : ℕ) → g < thermal_count instance → t < instance.periods → IsCommittedCell instance patterns g t (cell_at printed g t)
+
+-- no cell gives anything
+pub record ArePowerless (instance : Instance) (printed : Printed) : Type 0 where
+  pub output : (g t : ℕ) → g < thermal_count instance → t < instance.periods → (cell_at printed g t).p ≡ pos 0
+  pub reserve : (g t : ℕ) → g < thermal_count instance → t < instance.periods → (cell_at printed g t).r ≡ pos 0
+
+-- two schedules are the same but in period t
+pub record AreSameBut (t : ℕ) (old new : Printed) : Type 0 where
+  pub cells : (g k : ℕ) → k ≢ t → cell_at new g k ≡ cell_at old g k
+  pub outputs : (w k : ℕ) → k ≢ t → output_at new w k ≡ output_at old w k
+
+-- a cell keeps its state and category, and gives this output and reserve
+pub record HasPower (old new : Cell) (output spare : ℤ) : Type 0 where
+  pub on : new.on ≡ old.on
+  pub category : new.category ≡ old.category
+  pub p : new.p ≡ output
+  pub r : new.r ≡ spare
+
+-- a unit's reserve, by its output and head: up to the head, and to what is left to give
+abbrev pub reserve_of : ℤ → ℤ → ℤ → ℤ
+reserve_of output head left = int_min (head -ℤ output) (int_max left (pos 0))
+
+-- the cell with this output and reserve
+abbrev pub with_power : Cell → ℤ → ℤ → Cell
+with_power cell output spare = record cell { p = output; r = spare }
+
+-- the size of what is left of a need after n units: each gave at most what was left, and its head may lie below its output
+pub record IsLeft (n : ℕ) (left : ℤ) : Type 0 where
+  pub low : pos 0 ≤ℤ (left +ℤ pos MAX_POWER)
+  pub high : left ≤ℤ pos (MAX_POWER + n * (5 * MAX_POWER))
+
+-- the first n rows of cells were written in period t, with what was left of the need for each
+pub record AreCellsWritten (amounts heads : List ℤ) (need : ℤ) (t n : ℕ) (old new : List (List Cell)) : Type 0 where
+  pub count : length new ≡ length old
+  pub lengths : (g : ℕ) → length (row_at new g) ≡ length (row_at old g)
+  pub others : (g k : ℕ) → k ≢ t → cell_of (row_at new g) k ≡ cell_of (row_at old g) k
+  pub rest : (g : ℕ) → n ≤ g → row_at new g ≡ row_at old g
+  pub cells : (g : ℕ) → g < n → HasPower (cell_of (row_at old g) t) (cell_of (row_at new g) t) (amount_at amounts g)
+      (reserve_of (amount_at amounts g) (amount_at heads g) (need -ℤ sum_below g (λ h. (cell_of (row_at new h) t).r)))
+
+-- the first n rows of outputs were written in period t
+pub record AreOutputsWritten (amounts : List ℤ) (t n : ℕ) (old new : List (List ℤ)) : Type 0 where
+  pub count : length new ≡ length old
+  pub rest : (w : ℕ) → n ≤ w → row_at new w ≡ row_at old w
+  pub outputs : (w : ℕ) → w < n → row_at new w ≡ slice_set (row_at old w) t (amount_at amounts w)
+
+-- period t was written: these amounts, and reserve in the order of the file up to what is needed
+pub record IsWritten (instance : Instance) (amounts heads : List ℤ) (need : ℤ) (t : ℕ) (old new : Printed) : Type 0 where
+  pub others : AreSameBut t old new
+  pub outputs : (w : ℕ) → w < renewable_count instance → output_at new w t ≡ amount_at amounts w
+  pub cells : (g : ℕ) → g < thermal_count instance → HasPower (cell_at old g t) (cell_at new g t) (thermal_amount instance amounts g)
+      (int_min (amount_at heads g -ℤ thermal_amount instance amounts g) (int_max (need -ℤ sum_below g (λ h. (cell_at new h t).r)) (pos 0)))
+
+-- the schedules are the same in the first periods
+pub record AreSameBelow (periods : ℕ) (old new : Printed) : Type 0 where
+  pub cells : (g k : ℕ) → k < periods → cell_at new g k ≡ cell_at old g k
+  pub outputs : (w k : ℕ) → k < periods → output_at new w k ≡ output_at old w k

@@ -1,0 +1,23 @@
+//! What a commitment dispatches to: its schedule in order of merit, or where it gets stuck; and the commitment with the
+//! most on periods.
+#![tactic(auto)]
+
+pub mod extreme_patterns;
+mod fill;
+mod merit_order;
+pub mod most_on_commitment;
+mod obstacle;
+mod period;
+mod range;
+mod ranges;
+mod regularity;
+pub mod room;
+mod rows;
+pub mod schedule;
+mod segment;
+mod totals;
+
+pub use extreme_patterns::{fewest_of, most_of};
+pub use most_on_commitment::{MostFault, most_on};
+pub use room::Room;
+pub use schedule::{DispatchFault, dispatch, dispatch_in};

@@ -1,0 +1,207 @@
+//! The dispatch of one period, from the one before.
+
+ghost use Rattle.std.specs.Prelude.{◌≡◌, ℕ, ◌*◌, ◌<◌, ◌≤◌, pos, ◌-ℤ◌, unsigned_abs, length, MatchOption};
+ghost use Rattle.std.specs.Int.{int_max};
+ghost use Rattle.uc_model.specs.Commitment.{initial_p};
+ghost use Rattle.uc_model.specs.Limits.{IsLawfulInstance, IsPower};
+ghost use Rattle.uc_model.specs.declared.limits.TheConstants.{MAX_POWER, MAX_UNITS};
+ghost use Rattle.uc_model.specs.Schedule.{renewable_count, thermal_count, thermal_unit};
+ghost use Rattle.dispatch_repair.specs.Dispatch.{period_after};
+ghost use Rattle.dispatch_repair.specs.Period.{Period, demand_of, need_of};
+ghost use Rattle.dispatch_repair.specs.Stuck.{IsFirstObstacle};
+ghost use Rattle.dispatch_repair.specs.inside.Amounts.{IsRoomOf, IsSizedOutput, amount_at, range_at, thermal_amount};
+ghost use Rattle.dispatch_repair.specs.inside.Filled.{IsDispatchedFrom};
+ghost use Rattle.dispatch_repair.specs.inside.Filling.{IsFilledTo, IsFirstLeft, IsLeft, IsOpen};
+ghost use Rattle.dispatch_repair.specs.inside.Segments.{AreInMeritOrder, source_count};
+ghost use Rattle.dispatch_repair.specs.inside.Totals.{AreSizedTotals, AreTotalsOf, IsSizedSum, IsSizedTotal};
+
+use crate::fill::{Left, fill};
+use crate::obstacle::{Totals, empty_range, imbalance, least};
+use crate::range::Range;
+use crate::ranges::set_ranges;
+use crate::room::Room;
+use crate::segment::Segment;
+use crate::totals::totals;
+use schedule_check::limits::initial_output;
+use uc_model::{Instance, Pattern, Why};
+
+/// Makes the amounts those before the first period: what each thermal unit gives initially.
+pub(crate) fn begin(room: &mut Room, instance: &Instance)
+    requires lawful { IsLawfulInstance instance.now }
+    requires room { IsRoomOf instance.now room.old }
+    ensures room { IsRoomOf instance.now room.new }
+    ensures initial { (g : ℕ) → g < thermal_count instance.now
+        → thermal_amount instance.now room.new.amounts.items g ≡ initial_p (thermal_unit instance.now g) }
+{
+    set_initial(&mut room.amounts, instance);
+}
+
+// Writes what each thermal unit gives initially.
+fn set_initial(amounts: &mut [i64], instance: &Instance)
+    requires lawful { IsLawfulInstance instance.now }
+    requires amounts { length amounts.old ≡ source_count instance.now }
+    ensures length { length amounts.new ≡ length amounts.old }
+    ensures initial { (g : ℕ) → g < thermal_count instance.now
+        → thermal_amount instance.now amounts.new g ≡ initial_p (thermal_unit instance.now g) }
+{
+    let renewables = instance.renewable.as_slice().len();
+    for g in 0..instance.thermal.as_slice().len() {
+        amounts[renewables + g] = initial_of(instance, g);
+    }
+}
+
+// What thermal unit g gives initially.
+fn initial_of(instance: &Instance, g: usize) -> i64
+    requires lawful { IsLawfulInstance instance.now }
+    requires unit { g < thermal_count instance.now }
+    ensures { result ≡ initial_p (thermal_unit instance.now g) }
+{
+    initial_output(&instance.thermal.as_slice()[g])
+}
+
+/// Dispatches period t, from 0: the thermal units' amounts are those of the period before, and become those of this one,
+/// as the renewable units' do; or says why it can't be filled.
+pub(crate) fn dispatch_period(
+    room: &mut Room,
+    instance: &Instance,
+    patterns: &[Pattern],
+    t: usize,
+) -> Option<Why>
+    requires lawful { IsLawfulInstance instance.now }
+    requires patterns { length patterns.now ≡ thermal_count instance.now }
+    requires period { t < instance.now.periods }
+    requires room { IsRoomOf instance.now room.old }
+    requires before { (g : ℕ) → g < thermal_count instance.now → IsSizedOutput (thermal_amount instance.now room.old.amounts.items g) }
+    ensures room { IsRoomOf instance.now room.new }
+    ensures dispatched { let period = period_after instance.now patterns.now t (thermal_amount instance.now room.old.amounts.items) in
+        MatchOption result (IsDispatchedFrom period room.new.amounts.items room.new.heads.items) (IsFirstObstacle period) }
+{
+    let renewables = instance.renewable.as_slice().len();
+    set_ranges(room, instance, patterns, t);
+    if let Some(why) = empty_range(&room.ranges, renewables) {
+        return Some(why);
+    }
+    let totals = totals(instance, patterns, t, &room.ranges, &room.heads);
+    let demand = &instance.demand.as_slice()[t];
+    let need = &instance.reserves.as_slice()[t];
+    if let Some(why) = imbalance(&totals, demand, need) {
+        return Some(why);
+    }
+    let left = left(&totals, demand, need);
+    fill_from_lows(
+        instance,
+        &room.order,
+        &room.ranges,
+        &mut room.amounts,
+        &left,
+    );
+    None
+}
+
+// Fills the ranges from their low ends; answers what is left to give.
+fn fill_from_lows(
+    instance: &Instance,
+    order: &[Segment],
+    ranges: &[Range],
+    amounts: &mut [i64],
+    left: &Left,
+) -> Left
+    requires order { AreInMeritOrder instance.now order.now }
+    requires ranges { length ranges.now ≡ source_count instance.now }
+    requires amounts { length amounts.old ≡ source_count instance.now }
+    requires sources { (n : ℕ) → n < source_count instance.now → IsOpen instance.now n (range_at ranges.now n) }
+    requires left { IsLeft left.now }
+    ensures length { length amounts.new ≡ length amounts.old }
+    ensures filled { IsFilledTo instance.now order.now ranges.now left.now (length order.now) amounts.new result }
+{
+    let mut rest = *left;
+    take_lows(amounts, ranges);
+    fill(instance, order, ranges, amounts, &mut rest);
+    rest
+}
+
+// What is left to give where each source gives its least.
+fn left(totals: &Totals, demand: &i64, need: &i64) -> Left
+    requires sizes { AreSizedTotals totals.now }
+    requires demand { IsPower demand.now }
+    requires need { IsPower need.now }
+    ensures first { (period : Period) → AreTotalsOf period totals.now → demand.now ≡ demand_of period → need.now ≡ need_of period
+        → IsFirstLeft period result }
+    ensures need_size { unsigned_abs result.need ≤ MAX_UNITS * (20 * MAX_POWER) }
+    ensures room_size { unsigned_abs result.room ≤ MAX_UNITS * (20 * MAX_POWER) }
+{
+    Left {
+        need: unmet(demand, &least(totals)),
+        room: room_above(totals, need),
+    }
+}
+
+// What is left of demand.
+fn unmet(demand: &i64, least: &i64) -> i64
+    requires demand { IsPower demand.now }
+    requires least { IsSizedTotal least.now }
+    ensures value { result ≡ demand.now -ℤ least.now }
+    ensures size { unsigned_abs result ≤ MAX_UNITS * (20 * MAX_POWER) }
+{
+    *demand - *least
+}
+
+// What the thermal units may give beside the reserve that is needed, above their low ends.
+fn room_above(totals: &Totals, need: &i64) -> i64
+    requires sizes { AreSizedTotals totals.now }
+    requires need { IsPower need.now }
+    ensures value { result ≡ (totals.now.heads -ℤ int_max need.now (pos 0)) -ℤ totals.now.thermal_low }
+    ensures size { unsigned_abs result ≤ MAX_UNITS * (20 * MAX_POWER) }
+{
+    above(&limit(totals, need), &totals.thermal_low)
+}
+
+// What the thermal units may give beside the reserve that is needed.
+fn limit(totals: &Totals, need: &i64) -> i64
+    requires sizes { AreSizedTotals totals.now }
+    requires need { IsPower need.now }
+    ensures value { result ≡ totals.now.heads -ℤ int_max need.now (pos 0) }
+    ensures size { unsigned_abs result ≤ MAX_UNITS * (10 * MAX_POWER) }
+{
+    beside(&totals.heads, &positive(need))
+}
+
+// Reserve that is needed, which is at least none.
+fn positive(need: &i64) -> i64
+    requires { IsPower need.now }
+    ensures value { result ≡ int_max need.now (pos 0) }
+    ensures size { unsigned_abs result ≤ MAX_POWER }
+{
+    (*need).max(0)
+}
+
+// A sum less a power.
+fn beside(total: &i64, part: &i64) -> i64
+    requires total { IsSizedSum total.now }
+    requires part { unsigned_abs part.now ≤ MAX_POWER }
+    ensures value { result ≡ total.now -ℤ part.now }
+    ensures size { unsigned_abs result ≤ MAX_UNITS * (10 * MAX_POWER) }
+{
+    *total - *part
+}
+
+// A total less a sum.
+fn above(total: &i64, part: &i64) -> i64
+    requires total { unsigned_abs total.now ≤ MAX_UNITS * (10 * MAX_POWER) }
+    requires part { IsSizedSum part.now }
+    ensures value { result ≡ total.now -ℤ part.now }
+    ensures size { unsigned_abs result ≤ MAX_UNITS * (20 * MAX_POWER) }
+{
+    *total - *part
+}
+
+// Each source gives its least.
+fn take_lows(amounts: &mut [i64], ranges: &[Range])
+    requires { length amounts.old ≡ length ranges.now }
+    ensures length { length amounts.new ≡ length amounts.old }
+    ensures lows { (n : ℕ) → n < length ranges.now → amount_at amounts.new n ≡ (range_at ranges.now n).low }
+{
+    for source in 0..ranges.len() {
+        amounts[source] = ranges[source].low;
+    }
+}

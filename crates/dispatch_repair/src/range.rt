@@ -1,0 +1,167 @@
+//! Where a source's output may lie in a period.
+
+ghost use Rattle.std.specs.Prelude.{◌≡◌, suc, ◌<◌, ◌≤◌, pos, ◌+ℤ◌, ◌-ℤ◌, if◌then◌else◌};
+ghost use Rattle.std.specs.Int.{int_max, int_min};
+ghost use Rattle.uc_model.specs.Commitment.{cap as cap_of, start_cap as start_cap_of, starts as starts_at, stop_cap as stop_cap_of};
+ghost use Rattle.uc_model.specs.Limits.{IsLawfulThermal, IsLimit};
+ghost use Rattle.uc_model.specs.PatternBits.{commitment_of};
+ghost use Rattle.dispatch_repair.specs.Period.{head as head_after, highest, is_off_next as is_off_after, lowest};
+ghost use Rattle.dispatch_repair.specs.inside.Amounts.{IsSizedEnd, IsSizedOutput};
+
+use schedule_check::limits::{range, reduced, start_reduction, stop_reduction, width};
+use start_costs::{stops, was_on};
+use uc_model::limits::MAX_PERIODS;
+use uc_model::{Pattern, Thermal};
+
+/// The ends of a source's range, in watts, of a thermal unit above its minimum.
+#[derive(Clone, Copy, Debug)]
+pub(crate) struct Range {
+    pub low: i64,
+    pub high: i64,
+}
+
+/// The most that a thermal unit's output and reserve may be in period t (from 0), after the output `before`.
+pub(crate) fn head(periods: usize, unit: &Thermal, pattern: &Pattern, t: usize, before: &i64) -> i64
+    requires lawful { IsLawfulThermal unit.now }
+    requires period { t < periods }
+    requires few { periods ≤ MAX_PERIODS }
+    requires before { IsSizedOutput before.now }
+    ensures value { result ≡ head_after periods unit.now (commitment_of pattern.now) t before.now }
+    ensures size { IsSizedEnd result }
+{
+    lower(&cap(periods, unit, pattern, t), &risen(before, &unit.ru))
+}
+
+/// Where its output may lie in that period, by its head.
+pub(crate) fn thermal_range(
+    periods: usize,
+    unit: &Thermal,
+    pattern: &Pattern,
+    t: usize,
+    before: &i64,
+    head: &i64,
+) -> Range
+    requires lawful { IsLawfulThermal unit.now }
+    requires period { t < periods }
+    requires few { periods ≤ MAX_PERIODS }
+    requires before { IsSizedOutput before.now }
+    requires head { head.now ≡ head_after periods unit.now (commitment_of pattern.now) t before.now }
+    requires head_size { IsSizedEnd head.now }
+    ensures low { result.low ≡ lowest unit.now before.now }
+    ensures high { result.high ≡ highest periods unit.now (commitment_of pattern.now) t before.now }
+    ensures low_size { IsSizedEnd result.low }
+    ensures high_size { IsSizedEnd result.high }
+{
+    let most = lower(head, &width(unit.points.as_slice()));
+    Range {
+        low: lowest_output(before, &unit.rd),
+        high: falling(periods, unit, pattern, t, &most),
+    }
+}
+
+// The most that output may be, by what it may rise.
+fn risen(before: &i64, rise: &i64) -> i64
+    requires before { IsSizedOutput before.now }
+    requires rise { IsLimit rise.now }
+    ensures value { result ≡ before.now +ℤ rise.now }
+    ensures size { IsSizedEnd result }
+{
+    *before + *rise
+}
+
+// The least output, by what it may fall.
+fn lowest_output(before: &i64, fall: &i64) -> i64
+    requires before { IsSizedOutput before.now }
+    requires fall { IsLimit fall.now }
+    ensures value { result ≡ int_max (pos 0) (before.now -ℤ fall.now) }
+    ensures size { IsSizedEnd result }
+{
+    (*before - *fall).max(0)
+}
+
+// The lower of two ends.
+fn lower(first: &i64, second: &i64) -> i64
+    requires first { IsSizedEnd first.now }
+    requires second { IsSizedEnd second.now }
+    ensures value { result ≡ int_min first.now second.now }
+    ensures size { IsSizedEnd result }
+{
+    (*first).min(*second)
+}
+
+// The most that output may be so that it can fall to nothing before a stop.
+fn falling(periods: usize, unit: &Thermal, pattern: &Pattern, t: usize, most: &i64) -> i64
+    requires lawful { IsLawfulThermal unit.now }
+    requires period { t < periods }
+    requires few { periods ≤ MAX_PERIODS }
+    requires most { IsSizedEnd most.now }
+    ensures value { result ≡ (if is_off_after periods (commitment_of pattern.now) t then int_min most.now unit.now.rd else most.now) }
+    ensures size { IsSizedEnd result }
+{
+    lowered(most, &unit.rd, is_off_next(periods, pattern, t))
+}
+
+// Whether the unit is off in the period after t.
+fn is_off_next(periods: usize, pattern: &Pattern, t: usize) -> bool
+    requires period { t < periods }
+    requires few { periods ≤ MAX_PERIODS }
+    ensures { result ≡ is_off_after periods (commitment_of pattern.now) t }
+{
+    t + 1 < periods && !pattern.is_on(t as u32 + 1)
+}
+
+// An end with a limit, where it applies.
+fn lowered(end: &i64, limit: &i64, applies: bool) -> i64
+    requires end { IsSizedEnd end.now }
+    requires limit { IsSizedEnd limit.now }
+    ensures value { result ≡ (if applies then int_min end.now limit.now else end.now) }
+    ensures size { IsSizedEnd result }
+{
+    if applies { lower(end, limit) } else { *end }
+}
+
+// The cap of a cell: the least of the limits of a start, and of a stop in the next period.
+fn cap(periods: usize, unit: &Thermal, pattern: &Pattern, t: usize) -> i64
+    requires lawful { IsLawfulThermal unit.now }
+    requires period { t < periods }
+    requires few { periods ≤ MAX_PERIODS }
+    ensures value { result ≡ cap_of periods unit.now (commitment_of pattern.now) t }
+    ensures size { IsSizedEnd result }
+{
+    let start = start_cap(unit, pattern, t);
+    if t + 1 < periods {
+        lower(&start, &stop_cap(unit, pattern, t))
+    } else {
+        start
+    }
+}
+
+// The limit of a start in period t, on what the unit may give at all.
+fn start_cap(unit: &Thermal, pattern: &Pattern, t: usize) -> i64
+    requires lawful { IsLawfulThermal unit.now }
+    requires period { t < MAX_PERIODS }
+    ensures value { result ≡ start_cap_of unit.now (commitment_of pattern.now) t }
+    ensures size { IsSizedEnd result }
+{
+    let full = range(unit, pattern.is_on(t as u32));
+    reduced(&full, &start_reduction(unit), starts(unit, pattern, t))
+}
+
+// Whether the unit starts in period t.
+fn starts(unit: &Thermal, pattern: &Pattern, t: usize) -> bool
+    requires { t < MAX_PERIODS }
+    ensures { result ≡ starts_at unit.now (commitment_of pattern.now) t }
+{
+    !was_on(unit, pattern, t) && pattern.is_on(t as u32)
+}
+
+// The limit of a stop in the period after t, on what the unit may give at all.
+fn stop_cap(unit: &Thermal, pattern: &Pattern, t: usize) -> i64
+    requires lawful { IsLawfulThermal unit.now }
+    requires period { suc t < MAX_PERIODS }
+    ensures value { result ≡ stop_cap_of unit.now (commitment_of pattern.now) t }
+    ensures size { IsSizedEnd result }
+{
+    let full = range(unit, pattern.is_on(t as u32));
+    reduced(&full, &stop_reduction(unit), stops(unit, pattern, t + 1))
+}

@@ -1,0 +1,200 @@
+//! The ranges of all sources in a period, and the heads of the thermal units.
+
+ghost use Rattle.std.specs.Prelude.{◌≡◌, ℕ, ℤ, ◌+◌, ◌<◌, ◌≤◌, pos, length, List};
+ghost use Rattle.std.specs.Int.{int_max};
+ghost use Rattle.uc_model.specs.Limits.{IsLawfulInstance, IsPower};
+ghost use Rattle.uc_model.specs.Schedule.{renewable_count, renewable_maximum, renewable_minimum, thermal_count};
+ghost use Rattle.uc_model.specs.declared.pattern.Pattern.{Pattern as PatternValue};
+ghost use Rattle.dispatch_repair.specs.Dispatch.{period_after};
+ghost use Rattle.dispatch_repair.specs.inside.Amounts.{AreHeadsOf, AreRangesOf, IsHeadOf, IsRangeOf, IsRoomOf, IsSizedEnd, IsSizedOutput, range_at, thermal_amount};
+ghost use Rattle.dispatch_repair.specs.inside.Segments.{source_count};
+
+use crate::range::{Range, head, thermal_range};
+use crate::room::Room;
+use uc_model::{Instance, Pattern};
+
+/// Sets the ranges of all sources and the heads of the thermal units, after the amounts of the period before.
+pub(crate) fn set_ranges(room: &mut Room, instance: &Instance, patterns: &[Pattern], t: usize)
+    requires lawful { IsLawfulInstance instance.now }
+    requires patterns { length patterns.now ≡ thermal_count instance.now }
+    requires period { t < instance.now.periods }
+    requires room { IsRoomOf instance.now room.old }
+    requires before { (g : ℕ) → g < thermal_count instance.now → IsSizedOutput (thermal_amount instance.now room.old.amounts.items g) }
+    ensures room { IsRoomOf instance.now room.new }
+    ensures amounts { room.new.amounts ≡ room.old.amounts }
+    ensures ranges { AreRangesOf (period_after instance.now patterns.now t (thermal_amount instance.now room.old.amounts.items)) room.new.ranges.items }
+    ensures heads { AreHeadsOf (period_after instance.now patterns.now t (thermal_amount instance.now room.old.amounts.items)) room.new.heads.items }
+{
+    set_heads(&mut room.heads, &room.amounts, instance, patterns, t);
+    set_ends(
+        &mut room.ranges,
+        &room.heads,
+        &room.amounts,
+        instance,
+        patterns,
+        t,
+    );
+}
+
+// The ranges of all sources, by the thermal units' heads.
+fn set_ends(
+    ranges: &mut [Range],
+    heads: &[i64],
+    amounts: &[i64],
+    instance: &Instance,
+    patterns: &[Pattern],
+    t: usize,
+)
+    requires lawful { IsLawfulInstance instance.now }
+    requires patterns { length patterns.now ≡ thermal_count instance.now }
+    requires period { t < instance.now.periods }
+    requires ranges { length ranges.old ≡ source_count instance.now }
+    requires amounts { length amounts.now ≡ source_count instance.now }
+    requires before { (g : ℕ) → g < thermal_count instance.now → IsSizedOutput (thermal_amount instance.now amounts.now g) }
+    requires head_count { length heads.now ≡ thermal_count instance.now }
+    requires heads { AreHeadsOf (period_after instance.now patterns.now t (thermal_amount instance.now amounts.now)) heads.now }
+    ensures length { length ranges.new ≡ length ranges.old }
+    ensures ranges { AreRangesOf (period_after instance.now patterns.now t (thermal_amount instance.now amounts.now)) ranges.new }
+{
+    set_renewable(ranges, instance, t);
+    set_thermal(ranges, heads, amounts, instance, patterns, t);
+}
+
+// The ranges of the renewable units.
+fn set_renewable(ranges: &mut [Range], instance: &Instance, t: usize)
+    requires lawful { IsLawfulInstance instance.now }
+    requires period { t < instance.now.periods }
+    requires ranges { length ranges.old ≡ source_count instance.now }
+    ensures length { length ranges.new ≡ length ranges.old }
+    ensures ranges { (patterns : List PatternValue) (before : ℕ → ℤ) (w : ℕ) → w < renewable_count instance.now
+        → IsRangeOf (period_after instance.now patterns t before) w (range_at ranges.new w) }
+{
+    for w in 0..instance.renewable.as_slice().len() {
+        ranges[w] = renewable_range(instance, t, w);
+    }
+}
+
+// The range of renewable unit w.
+fn renewable_range(instance: &Instance, t: usize, w: usize) -> Range
+    requires lawful { IsLawfulInstance instance.now }
+    requires period { t < instance.now.periods }
+    requires unit { w < renewable_count instance.now }
+    ensures low { result.low ≡ int_max (renewable_minimum instance.now w t) (pos 0) }
+    ensures high { result.high ≡ renewable_maximum instance.now w t }
+    ensures low_size { IsSizedEnd result.low }
+    ensures high_size { IsSizedEnd result.high }
+{
+    let unit = &instance.renewable.as_slice()[w];
+    free_range(&unit.minimum.as_slice()[t], &unit.maximum.as_slice()[t])
+}
+
+// The range between two limits, none of it below 0.
+fn free_range(minimum: &i64, maximum: &i64) -> Range
+    requires minimum { IsPower minimum.now }
+    requires maximum { IsPower maximum.now }
+    ensures low { result.low ≡ int_max minimum.now (pos 0) }
+    ensures high { result.high ≡ maximum.now }
+    ensures low_size { IsSizedEnd result.low }
+    ensures high_size { IsSizedEnd result.high }
+{
+    Range {
+        low: (*minimum).max(0),
+        high: *maximum,
+    }
+}
+
+// The heads of the thermal units.
+fn set_heads(
+    heads: &mut [i64],
+    amounts: &[i64],
+    instance: &Instance,
+    patterns: &[Pattern],
+    t: usize,
+)
+    requires lawful { IsLawfulInstance instance.now }
+    requires patterns { length patterns.now ≡ thermal_count instance.now }
+    requires period { t < instance.now.periods }
+    requires heads { length heads.old ≡ thermal_count instance.now }
+    requires amounts { length amounts.now ≡ source_count instance.now }
+    requires before { (g : ℕ) → g < thermal_count instance.now → IsSizedOutput (thermal_amount instance.now amounts.now g) }
+    ensures length { length heads.new ≡ length heads.old }
+    ensures heads { AreHeadsOf (period_after instance.now patterns.now t (thermal_amount instance.now amounts.now)) heads.new }
+{
+    for g in 0..instance.thermal.as_slice().len() {
+        heads[g] = unit_head(amounts, instance, patterns, t, g);
+    }
+}
+
+// The head of thermal unit g.
+fn unit_head(amounts: &[i64], instance: &Instance, patterns: &[Pattern], t: usize, g: usize) -> i64
+    requires lawful { IsLawfulInstance instance.now }
+    requires patterns { length patterns.now ≡ thermal_count instance.now }
+    requires period { t < instance.now.periods }
+    requires unit { g < thermal_count instance.now }
+    requires amounts { length amounts.now ≡ source_count instance.now }
+    requires before { IsSizedOutput (thermal_amount instance.now amounts.now g) }
+    ensures { IsHeadOf (period_after instance.now patterns.now t (thermal_amount instance.now amounts.now)) g result }
+{
+    let before = &amounts[instance.renewable.as_slice().len() + g];
+    let unit = &instance.thermal.as_slice()[g];
+    head(instance.periods as usize, unit, &patterns[g], t, before)
+}
+
+// The ranges of the thermal units, by their heads.
+fn set_thermal(
+    ranges: &mut [Range],
+    heads: &[i64],
+    amounts: &[i64],
+    instance: &Instance,
+    patterns: &[Pattern],
+    t: usize,
+)
+    requires lawful { IsLawfulInstance instance.now }
+    requires patterns { length patterns.now ≡ thermal_count instance.now }
+    requires period { t < instance.now.periods }
+    requires ranges { length ranges.old ≡ source_count instance.now }
+    requires amounts { length amounts.now ≡ source_count instance.now }
+    requires before { (g : ℕ) → g < thermal_count instance.now → IsSizedOutput (thermal_amount instance.now amounts.now g) }
+    requires head_count { length heads.now ≡ thermal_count instance.now }
+    requires heads { AreHeadsOf (period_after instance.now patterns.now t (thermal_amount instance.now amounts.now)) heads.now }
+    ensures length { length ranges.new ≡ length ranges.old }
+    ensures others { (w : ℕ) → w < renewable_count instance.now → range_at ranges.new w ≡ range_at ranges.old w }
+    ensures ranges { (g : ℕ) → g < thermal_count instance.now
+        → IsRangeOf (period_after instance.now patterns.now t (thermal_amount instance.now amounts.now)) (renewable_count instance.now + g)
+        (range_at ranges.new (renewable_count instance.now + g)) }
+{
+    let renewables = instance.renewable.as_slice().len();
+    for g in 0..instance.thermal.as_slice().len() {
+        ranges[renewables + g] = unit_range(&heads[g], amounts, instance, patterns, t, g);
+    }
+}
+
+// The range of thermal unit g, by its head.
+fn unit_range(
+    head: &i64,
+    amounts: &[i64],
+    instance: &Instance,
+    patterns: &[Pattern],
+    t: usize,
+    g: usize,
+) -> Range
+    requires lawful { IsLawfulInstance instance.now }
+    requires patterns { length patterns.now ≡ thermal_count instance.now }
+    requires period { t < instance.now.periods }
+    requires unit { g < thermal_count instance.now }
+    requires amounts { length amounts.now ≡ source_count instance.now }
+    requires before { IsSizedOutput (thermal_amount instance.now amounts.now g) }
+    requires head { IsHeadOf (period_after instance.now patterns.now t (thermal_amount instance.now amounts.now)) g head.now }
+    ensures { IsRangeOf (period_after instance.now patterns.now t (thermal_amount instance.now amounts.now)) (renewable_count instance.now + g) result }
+{
+    let before = &amounts[instance.renewable.as_slice().len() + g];
+    let unit = &instance.thermal.as_slice()[g];
+    thermal_range(
+        instance.periods as usize,
+        unit,
+        &patterns[g],
+        t,
+        before,
+        head,
+    )
+}

@@ -1,0 +1,264 @@
+//! The rows of a schedule while it is dispatched.
+
+ghost use Rattle.std.specs.Prelude.{◌≡◌, ℕ, ◌<◌, ◌≤◌, ◌-ℤ◌, false, All, IfOk, IsTrue, length, map, slice_set, take};
+ghost use Rattle.uc_model.specs.Commitment.{starts};
+ghost use Rattle.uc_model.specs.Limits.{IsLawfulInstance, IsLawfulThermal, IsPower};
+ghost use Rattle.uc_model.specs.PatternBits.{commitment_of};
+ghost use Rattle.uc_model.specs.Schedule.{thermal_count};
+ghost use Rattle.uc_model.specs.StartCategory.{category_cost};
+ghost use Rattle.uc_model.specs.declared.instance.Instance.{Instance};
+ghost use Rattle.uc_model.specs.declared.pattern.Pattern.{Pattern};
+ghost use Rattle.start_costs.specs.Cheapest.{IsCheapestAbove};
+ghost use Rattle.dispatch_repair.specs.Dispatch.{HasPeriods};
+ghost use Rattle.dispatch_repair.specs.inside.Amounts.{IsRoomOf, IsSizedEnd, IsSizedOutput, amount_at, thermal_amount};
+ghost use Rattle.dispatch_repair.specs.inside.Rows.{AreCellsWritten, AreCommitted, AreCommittedRows, AreOutputsWritten, AreSameBelow, IsCommittedRow, IsLeft, IsWritten, cell_of, printed_of, reserve_of, row_at, rows_of, with_power, ArePowerless, IsNewCell};
+
+use crate::room::Room;
+use start_costs::{least_allowed, was_on};
+use std::alloc::Global;
+use uc_model::limits::{MAX_PERIODS, MAX_UNITS};
+use uc_model::{Cell, Instance, List, NoMemory, Pattern, Printed, Thermal};
+
+/// For each unit a cell, or a renewable output in watts, for each period.
+#[derive(Debug, Drop)]
+pub(crate) struct Rows {
+    pub thermal: Vec<Vec<Cell>>,
+    pub renewable: Vec<Vec<i64>>,
+}
+
+/// The rows of a commitment, without any power.
+pub(crate) fn committed(
+    alloc: Global,
+    instance: &Instance,
+    patterns: &[Pattern],
+) -> Result<Rows, NoMemory>
+    requires lawful { IsLawfulInstance instance.now }
+    requires patterns { length patterns.now ≡ thermal_count instance.now }
+    ensures committed { IfOk result (λ rows. AreCommitted instance.now patterns.now (printed_of rows)) }
+    ensures powerless { IfOk result (λ rows. ArePowerless instance.now (printed_of rows)) }
+{
+    let thermal = committed_rows(alloc, instance, patterns)?;
+    let renewables = instance.renewable.as_slice().len();
+    let renewable = no_outputs(alloc, renewables, instance.periods as usize)?;
+    Ok(Rows { thermal, renewable })
+}
+
+// The thermal units' rows, without any power.
+fn committed_rows(
+    alloc: Global,
+    instance: &Instance,
+    patterns: &[Pattern],
+) -> Result<Vec<Vec<Cell>>, NoMemory>
+    requires lawful { IsLawfulInstance instance.now }
+    requires patterns { length patterns.now ≡ thermal_count instance.now }
+    ensures { IfOk result (λ rows. AreCommittedRows instance.now patterns.now (thermal_count instance.now) (rows_of rows.items)) }
+{
+    let mut rows = Vec::new(alloc);
+    for g in 0..patterns.len() {
+        rows.push(committed_row(alloc, instance, patterns, g)?)?;
+    }
+    Ok(rows)
+}
+
+// A unit's row, without any power.
+fn committed_row(
+    alloc: Global,
+    instance: &Instance,
+    patterns: &[Pattern],
+    g: usize,
+) -> Result<Vec<Cell>, NoMemory>
+    requires lawful { IsLawfulInstance instance.now }
+    requires patterns { length patterns.now ≡ thermal_count instance.now }
+    requires unit { g < thermal_count instance.now }
+    ensures { IfOk result (λ row. IsCommittedRow instance.now patterns.now g instance.now.periods row.items) }
+{
+    let mut row = Vec::new(alloc);
+    for t in 0..instance.periods as usize {
+        row.push(committed_cell(instance, patterns, g, t))?;
+    }
+    Ok(row)
+}
+
+// A cell, without any power.
+fn committed_cell(instance: &Instance, patterns: &[Pattern], g: usize, t: usize) -> Cell
+    requires lawful { IsLawfulInstance instance.now }
+    requires patterns { length patterns.now ≡ thermal_count instance.now }
+    requires unit { g < thermal_count instance.now }
+    requires period { t < instance.now.periods }
+    ensures { IsNewCell instance.now patterns.now g t result }
+{
+    let unit = &instance.thermal.as_slice()[g];
+    let pattern = &patterns[g];
+    let on = pattern.is_on(t as u32);
+    let category = start_category(unit, pattern, t);
+    Cell {
+        on,
+        p: 0,
+        r: 0,
+        category,
+    }
+}
+
+// The category of the start in period t, from 1: the cheapest one that the history allows; 0 is no start.
+fn start_category(unit: &Thermal, pattern: &Pattern, t: usize) -> u8
+    requires lawful { IsLawfulThermal unit.now }
+    requires period { t < MAX_PERIODS }
+    ensures start { IsTrue (starts unit.now (commitment_of pattern.now) t)
+        → IsCheapestAbove unit.now (commitment_of pattern.now) t 0 (result, category_cost unit.now result) }
+    ensures none { starts unit.now (commitment_of pattern.now) t ≡ false → result ≡ 0 }
+{
+    if !was_on(unit, pattern, t) && pattern.is_on(t as u32) {
+        least_allowed(unit, pattern, t).0
+    } else {
+        0
+    }
+}
+
+// Rows of outputs of 0, for each unit and period.
+fn no_outputs(alloc: Global, units: usize, periods: usize) -> Result<Vec<Vec<i64>>, NoMemory>
+    ensures units { IfOk result (λ rows. length rows.items ≡ units) }
+    ensures periods { IfOk result (λ rows. All (λ row. length row ≡ periods) (rows_of rows.items)) }
+{
+    let mut rows = Vec::new(alloc);
+    for _ in 0..units {
+        rows.push(vec![in alloc; 0; periods]?)?;
+    }
+    Ok(rows)
+}
+
+/// Writes the amounts of period t, and gives reserve to the units in the order of the file, each up to its head, until
+/// what is needed is reached.
+pub(crate) fn write_period(instance: &Instance, rows: &mut Rows, room: &Room, need: &i64, t: usize)
+    requires shape { HasPeriods instance.now instance.now.periods (printed_of rows.old) }
+    requires room { IsRoomOf instance.now room.now }
+    requires period { t < instance.now.periods }
+    requires need { IsPower need.now }
+    requires units { IsLawfulInstance instance.now }
+    requires amounts { (g : ℕ) → g < thermal_count instance.now → IsSizedOutput (thermal_amount instance.now room.now.amounts.items g) }
+    requires heads { (g : ℕ) → g < thermal_count instance.now → IsSizedEnd (amount_at room.now.heads.items g) }
+    ensures shape { HasPeriods instance.now instance.now.periods (printed_of rows.new) }
+    ensures written { IsWritten instance.now room.now.amounts.items room.now.heads.items need.now t (printed_of rows.old) (printed_of rows.new) }
+{
+    let amounts = room.amounts.as_slice();
+    let renewables = instance.renewable.as_slice().len();
+    write_outputs(&mut rows.renewable, &amounts[..renewables], t);
+    write_cells(
+        &mut rows.thermal,
+        &amounts[renewables..],
+        room.heads.as_slice(),
+        need,
+        t,
+    );
+}
+
+// Writes the outputs of period t.
+fn write_outputs(rows: &mut Vec<Vec<i64>>, amounts: &[i64], t: usize)
+    requires units { length amounts.now ≡ length rows.old.items }
+    requires period { (w : ℕ) → w < length rows.old.items → t < length (row_at (rows_of rows.old.items) w) }
+    ensures { AreOutputsWritten amounts.now t (length rows.old.items) (rows_of rows.old.items) (rows_of rows.new.items) }
+{
+    for w in 0..amounts.len() {
+        set_at(rows, w, t, &amounts[w]);
+    }
+}
+
+// Writes the cells of period t, with reserve up to each head until what is needed is reached.
+fn write_cells(rows: &mut Vec<Vec<Cell>>, amounts: &[i64], heads: &[i64], need: &i64, t: usize)
+    requires units { length amounts.now ≡ length rows.old.items }
+    requires few { length rows.old.items ≤ MAX_UNITS }
+    requires heads { length heads.now ≡ length rows.old.items }
+    requires period { (g : ℕ) → g < length rows.old.items → t < length (row_at (rows_of rows.old.items) g) }
+    requires need { IsPower need.now }
+    requires outputs { (g : ℕ) → g < length rows.old.items → IsSizedOutput (amount_at amounts.now g) }
+    requires ends { (g : ℕ) → g < length rows.old.items → IsSizedEnd (amount_at heads.now g) }
+    ensures { AreCellsWritten amounts.now heads.now need.now t (length rows.old.items) (rows_of rows.old.items) (rows_of rows.new.items) }
+{
+    let mut left = *need;
+    for g in 0..amounts.len() {
+        write_cell(rows, g, t, &amounts[g], &heads[g], &mut left);
+    }
+}
+
+// Writes a cell's output, and its reserve: up to its head, and to what is left to give, which it takes away.
+fn write_cell(rows: &mut Vec<Vec<Cell>>, g: usize, t: usize, p: &i64, head: &i64, left: &mut i64)
+    requires unit { g < length rows.old.items }
+    requires period { t < length (row_at (rows_of rows.old.items) g) }
+    requires output { IsSizedOutput p.now }
+    requires head { IsSizedEnd head.now }
+    requires left { IsLeft MAX_UNITS left.old }
+    ensures left { left.new ≡ left.old -ℤ reserve_of p.now head.now left.old }
+    ensures cell { rows_of rows.new.items ≡ slice_set (rows_of rows.old.items) g (slice_set (row_at (rows_of rows.old.items) g) t
+        (with_power (cell_of (row_at (rows_of rows.old.items) g) t) p.now (reserve_of p.now head.now left.old))) }
+{
+    let r = reserve(p, head, left);
+    *left -= r;
+    let cell = Cell {
+        p: *p,
+        r,
+        ..rows[g][t]
+    };
+    set_at(rows, g, t, &cell);
+}
+
+// A unit's reserve: up to its head, and to what is left to give.
+fn reserve(p: &i64, head: &i64, left: &i64) -> i64
+    requires output { IsSizedOutput p.now }
+    requires head { IsSizedEnd head.now }
+    requires left { IsLeft MAX_UNITS left.now }
+    ensures { result ≡ reserve_of p.now head.now left.now }
+{
+    (*head - *p).min((*left).max(0))
+}
+
+// Writes unit i's entry of period t.
+fn set_at<T: Copy>(rows: &mut Vec<Vec<T>>, i: usize, t: usize, value: &T)
+    requires unit { i < length rows.old.items }
+    requires period { t < length (row_at (rows_of rows.old.items) i) }
+    ensures { rows_of rows.new.items ≡ slice_set (rows_of rows.old.items) i (slice_set (row_at (rows_of rows.old.items) i) t value.now) }
+{
+    let row = &mut rows[i];
+    row[t] = *value;
+}
+
+/// The schedule of these rows.
+pub(crate) fn printed(alloc: Global, rows: Rows) -> Result<Printed, NoMemory>
+    ensures { IfOk result (λ printed. printed ≡ printed_of rows) }
+{
+    Ok(Printed {
+        thermal: List::from_vec(lists(alloc, rows.thermal)?),
+        renewable: List::from_vec(lists(alloc, rows.renewable)?),
+    })
+}
+
+/// The schedule of the first periods.
+pub(crate) fn first_periods(alloc: Global, rows: Rows, periods: usize) -> Result<Printed, NoMemory>
+    ensures shape { (instance : Instance) → HasPeriods instance instance.periods (printed_of rows) → periods ≤ instance.periods
+        → IfOk result (HasPeriods instance periods) }
+    ensures same { IfOk result (AreSameBelow periods (printed_of rows)) }
+{
+    let mut rows = rows;
+    cut(&mut rows.thermal, periods);
+    cut(&mut rows.renewable, periods);
+    printed(alloc, rows)
+}
+
+// The rows as lists.
+fn lists<T: Drop>(alloc: Global, rows: Vec<Vec<T>>) -> Result<Vec<List<T>>, NoMemory>
+    ensures { IfOk result (λ lists. lists.items ≡ rows_of rows.items) }
+{
+    let mut lists = Vec::new(alloc);
+    for row in rows {
+        lists.push(List::from_vec(row))?;
+    }
+    Ok(lists)
+}
+
+// The first entries of each row.
+fn cut<T: Drop>(rows: &mut Vec<Vec<T>>, periods: usize)
+    ensures { rows_of rows.new.items ≡ map (take periods) (rows_of rows.old.items) }
+{
+    for i in 0..rows.len() {
+        let row = &mut rows[i];
+        row.truncate(periods);
+    }
+}

@@ -1,0 +1,7 @@
+//! Tests of the dispatch of commitments.
+#![tactic(auto)]
+
+#[cfg(test)]
+mod dispatches;
+#[cfg(test)]
+mod systems;

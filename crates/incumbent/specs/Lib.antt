@@ -1,0 +1,4 @@
+pub mod Costs
+pub mod Words
+pub mod Passes
+pub mod Rule

@@ -1,8 +1,0 @@
--- The test holds in each of the periods so far.
-use Rattle.std.proofs.Common.{ℕ, ◌<◌, length}
-use Rattle.std.specs.Prelude.{IsTrue}
-use Rattle.schedule_check.specs.inside.WholeWatts.{unit_holds}
-use Rattle.schedule_check.proofs.unit_rules.first_period.Given as goal
-
-abbrev pub invariant-loop-t : goal.invariant-loop-t
-invariant-loop-t l = (k : ℕ) → k < l.t → IsTrue (unit_holds l.rule (length l.row) l.unit l.row k)

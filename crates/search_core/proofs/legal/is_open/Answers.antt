@@ -1,0 +1,10 @@
+-- An open leaf's number is that of a node.
+use Rattle.std.proofs.Common.{arith}
+use Rattle.branch_tree.proofs.Grown.{open_below}
+use Rattle.search_core.proofs.legal.is_open.Goals as goal
+
+pub returns-then-node-notes : goal.returns-then-node-notes
+returns-then-node-notes c = (
+  (λ h. absurd (cc)),
+  (λ free. absurd (omega (arith, open_below c.args.tree.now.nodes c.args.node c.keeps_cover.ensures.numbered free.live))),
+)

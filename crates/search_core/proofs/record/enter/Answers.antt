@@ -1,0 +1,19 @@
+-- What was put into the note was taken off again.
+use Rattle.std.proofs.Common.{length, ap, ◌∙◌, arith, rules}
+use Rattle.std.proofs.lemmas.List.{get_or_read}
+use Rattle.search_core.specs.declared.notes.Note.{Note}
+use Rattle.search_core.specs.Notes.{no_note}
+use Rattle.search_core.proofs.Undone.{note_put_back}
+use Rattle.search_core.proofs.record.enter.Goals as goal
+
+pub returns-then-is_err-clause-same : goal.returns-then-is_err-clause-same
+returns-then-is_err-clause-same c =
+    let notes = c.args.notes.now.items in
+    let node = c.args.entry.node in
+    let read = get_or_read notes node c.index.result.now (omega (arith, c.args.notes.now.ok.0, c.requires)) c.index.ensures no_note in (
+      note_put_back notes c.add_entry.new.notes.items c.keep_entries.new.notes.items node c.args.entry.table _
+          (omega (arith, c.args.notes.now.ok.0, c.requires)) c.in_ok-add_entry.ensures.added c.keep_entries.ensures.notes
+          (ap length (c.as_slice-count.ensures ∙ ap (λ (note : Note). note.tables) read)),
+      search rules,
+      search rules,
+    )

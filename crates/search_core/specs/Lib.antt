@@ -1,0 +1,8 @@
+pub mod Machine
+pub mod Moves
+pub mod Steps
+pub mod Notes
+pub mod Orderly
+pub mod MachineCode
+pub mod Runs
+pub mod Inside

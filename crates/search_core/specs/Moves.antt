@@ -1,0 +1,108 @@
+-- What a commit makes of its node: what the node stores then, and the move by which the claim ends, with its condition and
+-- its effect. This project's own form of branch and bound.
+use Rattle.std.specs.Prelude.{◌≡◌, ℕ, suc, ◌<◌, ◌⊎◌, ◌&&◌, IsTrue, List, [], ◌∷◌, ℤ, pos, int_lt, ◌<ℤ◌, Some, length, if◌then◌else◌}
+use Rattle.std.specs.Int.{int_div_euclid}
+use Rattle.dual_model.specs.declared.table.Table.{Table}
+use Rattle.branch_tree.specs.NumberedTree.{EndAt, node_count, replaced, split_leaf}
+use Rattle.branch_tree.specs.TreeView.{TreeView, IsFreeAt}
+use Rattle.branch_tree.specs.Closing.{is_within_gap}
+use Rattle.branch_tree.specs.declared.found.Outcome.{Outcome}
+use Rattle.branch_tree.specs.declared.found.Outcome.TheVariants as outcome
+use Rattle.branch_tree.specs.declared.tree.Leaf.{Leaf}
+use Rattle.branch_tree.specs.declared.tree.Leaf.TheVariants as leaf
+use Rattle.search_core.specs.declared.event.Move.{Move}
+use Rattle.search_core.specs.declared.event.Move.TheVariants.{Again, Split, Prune, Ray, Empty}
+use Rattle.search_core.specs.Machine.{Machine, Stored, desk_of, entries_of, stored_at}
+
+-- ---- what a node stores after an evaluation
+-- floor(V/K), in micro-dollars, where K > 0
+abbrev pub bound_of : ℤ → ℤ → ℤ
+bound_of v k = int_div_euclid v k
+
+-- the new table, which has this number, where K > 0 and its bound is greater; else the old one
+abbrev pub kept_after : Stored → ℕ → ℤ → Outcome → Stored
+kept_after old number k (outcome.Value v) =
+    if int_lt (pos 0) k && int_lt old.value (bound_of v k) then record { table = number; value = bound_of v k } else old
+kept_after old number k (outcome.Empty g) = old
+
+-- what the move Again leaves at the node after this evaluation
+abbrev pub kept : Machine → ℕ → Table → Outcome → Stored
+kept m node table outcome = kept_after (stored_at m.tree node) (length m.tables) table.k outcome
+
+-- ---- the effect
+-- the leaf of that number is this one
+abbrev pub closed : TreeView → ℕ → Leaf → TreeView
+closed tree node leaf = record tree { nodes = replaced node (λ _. EndAt node leaf) tree.nodes }
+
+-- the leaf of that number is split, and its children store what it stored
+abbrev pub split : TreeView → ℕ → ℕ → ℕ → TreeView
+split tree node g t =
+    record tree { nodes = replaced node (split_leaf node g t (node_count tree.nodes) (suc (node_count tree.nodes))) tree.nodes }
+
+-- the unit that the outcome names
+abbrev pub unit_of : Outcome → ℕ
+unit_of (outcome.Value v) = 0
+unit_of (outcome.Empty g) = g
+
+-- the tree after the move, where the evaluation was at the table of that number and would leave this at the node
+abbrev pub tree_after : TreeView → ℕ → Stored → ℕ → Outcome → Move → TreeView
+tree_after tree node stored number outcome Again = closed tree node (leaf.Live stored.table stored.value)
+tree_after tree node stored number outcome (Split g t) = split (closed tree node (leaf.Live stored.table stored.value)) node g t
+tree_after tree node stored number outcome (Prune seen) = closed tree node (leaf.Bound stored.table stored.value)
+tree_after tree node stored number outcome Ray = closed tree node (leaf.Ray number)
+tree_after tree node stored number outcome Empty = closed tree node (leaf.Empty (unit_of outcome))
+
+-- of two nodes, those that the move adds
+abbrev pub children_by : List ℕ → Move → List ℕ
+children_by both Again = []
+children_by both (Split g t) = both
+children_by both (Prune seen) = []
+children_by both Ray = []
+children_by both Empty = []
+
+-- the tickets of the nodes that the move adds
+abbrev pub tickets_of : TreeView → Move → List ℕ
+tickets_of tree action = children_by (node_count tree.nodes ∷ suc (node_count tree.nodes) ∷ []) action
+
+-- ---- the condition
+abbrev pub IsValue : Outcome → Type 0
+IsValue (outcome.Value v) = Unit {0}
+IsValue (outcome.Empty g) = ⊥
+
+abbrev pub IsPositive : Outcome → Type 0
+IsPositive (outcome.Value v) = pos 0 <ℤ v
+IsPositive (outcome.Empty g) = ⊥
+
+abbrev pub IsEmpty : Outcome → Type 0
+IsEmpty (outcome.Value v) = ⊥
+IsEmpty (outcome.Empty g) = Unit {0}
+
+-- a cell is undecided at the node
+pub record HasFreeCell (tree : TreeView) (node : ℕ) : Type 0 where
+  pub g : ℕ
+  pub t : ℕ
+  pub free : IsFreeAt tree node g t
+
+-- a split is on a cell that is undecided at the node
+abbrev pub IsFreeFor : TreeView → ℕ → Move → Type 0
+IsFreeFor tree node Again = Unit {0}
+IsFreeFor tree node (Split g t) = IsFreeAt tree node g t
+IsFreeFor tree node (Prune seen) = Unit {0}
+IsFreeFor tree node Ray = Unit {0}
+IsFreeFor tree node Empty = Unit {0}
+
+-- with one entry more the node has fewer than a hundred, or no cell is undecided there
+abbrev pub MayGoOn : Machine → ℕ → Type 0
+MayGoOn m node = (suc (length (entries_of m.log node)) < 100) ⊎ (¬ HasFreeCell m.tree node)
+
+-- the worker has seen the cost, and the bound that the node would store is within the gap of it
+pub record MayPrune (m : Machine) (worker : ℕ) (stored : Stored) (seen : ℤ) : Type 0 where
+  pub looked : (desk_of m worker).seen ≡ Some seen
+  pub within : IsTrue (is_within_gap seen (Some stored.value) m.gap)
+
+abbrev pub IsMoveLegal : Machine → ℕ → ℕ → Table → Outcome → Move → Type 0
+IsMoveLegal m worker node table outcome Again = IsValue outcome × MayGoOn m node
+IsMoveLegal m worker node table outcome (Split g t) = IsValue outcome × IsFreeAt m.tree node g t
+IsMoveLegal m worker node table outcome (Prune seen) = IsValue outcome × MayPrune m worker (kept m node table outcome) seen
+IsMoveLegal m worker node table outcome Ray = (table.k ≡ pos 0) × IsPositive outcome
+IsMoveLegal m worker node table outcome Empty = IsEmpty outcome

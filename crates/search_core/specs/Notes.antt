@@ -1,0 +1,48 @@
+-- What is kept of each node beside the state. This project's own form.
+use Rattle.std.specs.Prelude.{◌≡◌, ℕ, false, List, [], Option, Some, IsTrue, length, map, slice_get, slice_set, slice_index_or}
+use Rattle.branch_tree.specs.TreeView.{TreeView, IsOpenAt}
+use Rattle.branch_tree.specs.declared.tree.Leaf.TheVariants as leaf
+use Rattle.branch_tree.specs.declared.tree.Spot.{Spot}
+use Rattle.branch_tree.specs.declared.tree.Spot.TheVariants as spot
+use Rattle.branch_tree.specs.declared.found.Entry.{Entry}
+use Rattle.search_core.specs.declared.notes.Note.{Note}
+use Rattle.search_core.specs.declared.holder.Holder.{Holder}
+use Rattle.search_core.specs.Machine.{IsHeldIn, entries_of}
+
+abbrev pub no_note : Note
+no_note = record { held = false; tables = [] }
+
+abbrev pub note_in : List Note → ℕ → Note
+note_in notes node = slice_index_or notes node no_note
+
+-- one node's note becomes another
+abbrev pub with_note : List Note → ℕ → (Note → Note) → List Note
+with_note notes node change = slice_set notes node (change (note_in notes node))
+
+-- the numbers of the tables of the node's entries
+abbrev pub entry_tables : List Entry → ℕ → List ℕ
+entry_tables log node = map (λ entry. entry.table) (entries_of log node)
+
+-- the note says of the node whether it is held, and which tables its entries have
+pub record IsNoteOf (claims : List (Option Holder)) (log : List Entry) (node : ℕ) (note : Note) : Type 0 where
+  pub held : IsTrue note.held → IsHeldIn claims node
+  pub unheld : note.held ≡ false → ¬ IsHeldIn claims node
+  pub tables : note.tables ≡ entry_tables log node
+
+-- an open leaf stands there
+abbrev pub IsLive : Spot → Type 0
+IsLive (spot.Leaf (leaf.Live table value)) = Unit {0}
+IsLive (spot.Leaf (leaf.Bound table value)) = ⊥
+IsLive (spot.Leaf (leaf.Ray table)) = ⊥
+IsLive (spot.Leaf (leaf.Empty g)) = ⊥
+IsLive (spot.Inner g t off on) = ⊥
+
+-- an open leaf has the number, and its note says that it isn't held
+pub record IsFreeLeaf (tree : TreeView) (notes : List Note) (node : ℕ) : Type 0 where
+  pub live : IsOpenAt tree.nodes node
+  pub unheld : (note_in notes node).held ≡ false
+
+-- there is a note of each of so many nodes
+pub record AreNotesOf (claims : List (Option Holder)) (log : List Entry) (count : ℕ) (notes : List Note) : Type 0 where
+  pub length : length notes ≡ count
+  pub each : (node : ℕ) (note : Note) → slice_get notes node ≡ Some note → IsNoteOf claims log node note

@@ -1,0 +1,73 @@
+//! The desks of all workers.
+
+ghost use Rattle.std.specs.Prelude.{◌≡◌, ◌<◌, Some, OnOk, OnErr, take, length, vec_len};
+ghost use Rattle.branch_tree.specs.StoredTree.{lesser_bound};
+ghost use Rattle.search_core.specs.Machine.{desk_in};
+ghost use Rattle.search_core.specs.Steps.{with_desk, with_tickets, with_queued, without_first};
+
+use crate::desk::Desk;
+use crate::{costs, lists};
+use std::alloc::Global;
+use uc_model::NoMemory;
+
+/// Says what the worker has seen.
+pub(crate) fn see(desks: &mut Vec<Desk>, worker: u8, seen: &Option<i64>)
+    requires { worker < vec_len desks.old }
+    ensures { desks.new.items ≡ with_desk desks.old.items worker (λ desk. record desk { seen = seen.now }) }
+{
+    desks[worker as usize].seen = *seen;
+}
+
+/// Says that the worker has seen this cost too.
+pub(crate) fn see_cost(desks: &mut Vec<Desk>, worker: u8, cost: &i64)
+    requires { worker < vec_len desks.old }
+    ensures { desks.new.items ≡ with_desk desks.old.items worker (λ desk. record desk { seen = lesser_bound desk.seen (Some cost.now) }) }
+{
+    let seen = &mut desks[worker as usize].seen;
+    *seen = costs::least(seen, cost);
+}
+
+/// Takes tickets into the worker's hand.
+pub(crate) fn take_tickets(
+    alloc: Global,
+    desks: &mut Vec<Desk>,
+    worker: u8,
+    tickets: &[u32],
+) -> Result<(), NoMemory>
+    requires { worker < vec_len desks.old }
+    ensures taken { OnOk result (desks.new.items ≡ with_desk desks.old.items worker (λ desk. with_tickets desk tickets.now)) }
+    ensures same { OnErr result (desks.new.items ≡ desks.old.items) }
+{
+    desks[worker as usize].take(alloc, tickets)
+}
+
+/// Keeps the first tickets of the worker's hand alone.
+pub(crate) fn keep_tickets(alloc: Global, desks: &mut Vec<Desk>, worker: u8, count: usize)
+    requires { worker < vec_len desks.old }
+    ensures { desks.new.items ≡ with_desk desks.old.items worker (λ desk. record desk { hand = take count desk.hand }) }
+{
+    lists::shorten(alloc, &mut desks[worker as usize].hand, count);
+}
+
+/// Moves a ticket from the worker's hand to the back of its queue.
+pub(crate) fn enqueue(
+    alloc: Global,
+    desks: &mut Vec<Desk>,
+    worker: u8,
+    node: u32,
+) -> Result<(), NoMemory>
+    requires { worker < vec_len desks.old }
+    ensures moved { OnOk result (desks.new.items ≡ with_desk desks.old.items worker (λ desk. with_queued desk node)) }
+    ensures same { OnErr result (desks.new.items ≡ desks.old.items) }
+{
+    desks[worker as usize].enqueue(alloc, node)
+}
+
+/// Drops the first ticket of the worker's queue.
+pub(crate) fn drop_first(alloc: Global, desks: &mut Vec<Desk>, worker: u8)
+    requires within { worker < vec_len desks.old }
+    requires some { 0 < length (desk_in desks.old.items worker).queue }
+    ensures { desks.new.items ≡ with_desk desks.old.items worker without_first }
+{
+    desks[worker as usize].drop_first(alloc);
+}

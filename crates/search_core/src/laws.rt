@@ -1,0 +1,29 @@
+//! The laws of the machine: the contracts of functions that have nothing to compute.
+
+ghost use Rattle.search_core.specs.Runs.{RunsHold, StartsAreReached, StepsReach, ReachedStatesHold};
+
+use uc_model::tolerance::cost_less_tolerance_never_decreases;
+
+/// Every run of any number of workers, whatever the order of their steps: from a true start, after each of a list of
+/// legal events whose commits and published costs are true,
+///
+/// - the leaves are a cover, and each node's ticket is in exactly one hand or queue;
+/// - what each leaf stores holds, so no schedule costs less than the tree's bound, and without one there is none;
+/// - the best cost never rises, and is at most what any worker has seen;
+/// - each pruned leaf's bound is within the gap of the best cost, though it was pruned by an older one;
+/// - where no node is open or held, the best cost is within the gap of the bound, or each leaf is excluded.
+pub fn runs_hold()
+    ensures { RunsHold }
+{
+    cost_less_tolerance_never_decreases();
+}
+
+/// The same for a caller that takes one step after another: a true start is reached, a legal and true event leads from a
+/// reached state to another, and of each reached state all this holds.
+pub fn reached_states_hold()
+    ensures start { StartsAreReached }
+    ensures step { StepsReach }
+    ensures holds { ReachedStatesHold }
+{
+    cost_less_tolerance_never_decreases();
+}

@@ -1,0 +1,93 @@
+//! What a move does to the tree and to the tickets.
+
+ghost use Rattle.std.specs.Prelude.{◌≡◌, ◌≤◌, ◌+◌, ◌∷◌, [], suc};
+ghost use Rattle.branch_tree.specs.NumberedTree.{node_count};
+ghost use Rattle.branch_tree.specs.TreeView.{IsOpenAt, IsFreeAt};
+ghost use Rattle.branch_tree.specs.Places.{IsPlaced};
+ghost use Rattle.branch_tree.specs.declared.tree.Leaf.TheVariants as leaf;
+ghost use Rattle.search_core.specs.Moves.{IsFreeFor, children_by, unit_of, closed, split, tree_after};
+
+use crate::event::Move;
+use crate::stored::Stored;
+use branch_tree::{Leaf, Outcome, Tree};
+
+/// The children that a move adds, of which the first would have this number.
+pub(crate) fn children<'a>(action: &Move, both: &'a [u32; 2]) -> &'a [u32]
+    ensures { result.now ≡ children_by both.now action.now }
+{
+    match action {
+        Move::Split { .. } => &both[..],
+        Move::Again | Move::Prune { .. } | Move::Ray | Move::Empty => &both[..0],
+    }
+}
+
+// The unit that the outcome names, 0 where it names none.
+fn unit_of(outcome: &Outcome) -> u32
+    ensures { result ≡ unit_of outcome.now }
+{
+    match outcome {
+        Outcome::Value(_) => 0,
+        Outcome::Empty(g) => *g,
+    }
+}
+
+// The open leaf that stores this.
+fn live(stored: &Stored) -> Leaf
+    ensures { result ≡ leaf.Live stored.now.table stored.now.value }
+{
+    Leaf::Live {
+        table: stored.table,
+        value: stored.value,
+    }
+}
+
+// The closed leaf that stores this.
+fn pruned(stored: &Stored) -> Leaf
+    ensures { result ≡ leaf.Bound stored.now.table stored.now.value }
+{
+    Leaf::Bound {
+        table: stored.table,
+        value: stored.value,
+    }
+}
+
+// Makes the open node store this, and splits it.
+fn split(tree: &mut Tree, node: u32, stored: &Stored, g: u32, t: u32)
+    requires placed { IsPlaced tree.old.nodes }
+    requires live { IsOpenAt tree.old.nodes node }
+    requires free { IsFreeAt tree.old node g t }
+    requires room { node_count tree.old.nodes + 2 ≤ tree.old.room }
+    ensures { tree.new ≡ split (closed tree.old node (leaf.Live stored.now.table stored.now.value)) node g t }
+{
+    tree.close(node, live(stored));
+    let _ = tree.split(node, g, t);
+}
+
+/// Makes a move on an open node that would store this, after an evaluation at the table of this number.
+pub(crate) fn make(
+    tree: &mut Tree,
+    node: u32,
+    stored: &Stored,
+    table: u32,
+    outcome: &Outcome,
+    action: &Move,
+)
+    requires placed { IsPlaced tree.old.nodes }
+    requires live { IsOpenAt tree.old.nodes node }
+    requires free { IsFreeFor tree.old node action.now }
+    requires room { node_count tree.old.nodes + 2 ≤ tree.old.room }
+    ensures { tree.new ≡ tree_after tree.old node stored.now table outcome.now action.now }
+{
+    match action {
+        Move::Again => tree.close(node, live(stored)),
+        Move::Split { g, t } => split(tree, node, stored, *g, *t),
+        Move::Prune { .. } => tree.close(node, pruned(stored)),
+        Move::Ray => tree.close(node, Leaf::Ray { table }),
+        Move::Empty => tree.close(
+            node,
+            Leaf::Empty {
+                g: unit_of(outcome),
+            },
+        ),
+    }
+}

@@ -1,0 +1,168 @@
+//! Events that aren't legal, each after those that lead to it.
+
+use crate::acts::{Act, is_taken, start};
+use branch_tree::Outcome;
+use search_core::Move;
+use std::alloc::Global;
+use std::test::Fail;
+
+const FIVE: Outcome = Outcome::Value(5);
+
+const NONE: Outcome = Outcome::Empty(0);
+
+const CELL: Move = Move::Split { g: 0, t: 0 };
+
+// Each line's events are legal but for the last, on a tree of one period, with a budget of three claims.
+const REFUSED: [&[Act]; 28] = [
+    // the node is held, by this worker or by another; it isn't there; it is a split, or closed; the budget is spent
+    &[Act::Claim(0, 0), Act::Claim(0, 0)],
+    &[Act::Claim(0, 0), Act::Claim(1, 0)],
+    &[Act::Claim(0, 1)],
+    &[
+        Act::Claim(0, 0),
+        Act::Commit(0, 1, 1, FIVE, CELL),
+        Act::Claim(0, 0),
+    ],
+    &[
+        Act::Claim(0, 0),
+        Act::Commit(0, 1, 1, NONE, Move::Empty),
+        Act::Claim(0, 0),
+    ],
+    &[
+        Act::Claim(0, 0),
+        Act::Commit(0, 1, 1, FIVE, Move::Again),
+        Act::Claim(0, 0),
+        Act::Commit(0, 2, 2, FIVE, Move::Again),
+        Act::Claim(0, 0),
+        Act::Commit(0, 3, 3, FIVE, Move::Again),
+        Act::Claim(0, 0),
+    ],
+    // the worker isn't there
+    &[Act::Claim(3, 0)],
+    &[Act::Publish(3, 7)],
+    &[Act::Look(3)],
+    &[Act::Push(3, 0)],
+    &[Act::Pop(3)],
+    &[Act::Push(0, 0), Act::Steal(3, 0)],
+    &[Act::Steal(0, 3)],
+    // the unit isn't there, is another worker's, or was committed
+    &[Act::Claim(0, 0), Act::Commit(0, 0, 1, FIVE, Move::Again)],
+    &[Act::Claim(0, 0), Act::Commit(0, 2, 1, FIVE, Move::Again)],
+    &[Act::Claim(0, 0), Act::Commit(1, 1, 1, FIVE, Move::Again)],
+    &[
+        Act::Claim(0, 0),
+        Act::Commit(0, 1, 1, FIVE, Move::Again),
+        Act::Commit(0, 1, 2, FIVE, Move::Again),
+    ],
+    // the node has an entry at the table; a child isn't first evaluated at the table that it stores
+    &[
+        Act::Claim(0, 0),
+        Act::Commit(0, 1, 1, FIVE, Move::Again),
+        Act::Claim(1, 0),
+        Act::Commit(1, 2, 1, FIVE, Move::Again),
+    ],
+    // no value, for Again, Split and Prune
+    &[Act::Claim(0, 0), Act::Commit(0, 1, 1, NONE, Move::Again)],
+    &[Act::Claim(0, 0), Act::Commit(0, 1, 1, NONE, CELL)],
+    &[
+        Act::Publish(0, 5),
+        Act::Claim(0, 0),
+        Act::Commit(0, 1, 1, NONE, Move::Prune { seen: 5 }),
+    ],
+    // a cell that isn't one of the tree, and one that is decided
+    &[
+        Act::Claim(0, 0),
+        Act::Commit(0, 1, 1, FIVE, Move::Split { g: 1, t: 0 }),
+    ],
+    &[
+        Act::Claim(0, 0),
+        Act::Commit(0, 1, 1, FIVE, CELL),
+        Act::Claim(0, 1),
+        Act::Commit(0, 2, 1, FIVE, CELL),
+    ],
+    // a cost that another worker saw, and one that the bound is too far below
+    &[
+        Act::Publish(1, 5),
+        Act::Claim(0, 0),
+        Act::Commit(0, 1, 1, FIVE, Move::Prune { seen: 5 }),
+    ],
+    &[
+        Act::Publish(0, 6),
+        Act::Claim(0, 0),
+        Act::Commit(0, 1, 1, FIVE, Move::Prune { seen: 6 }),
+    ],
+    // a ray of scale above 0, and one of value 0
+    &[Act::Claim(0, 0), Act::Commit(0, 1, 1, FIVE, Move::Ray)],
+    &[
+        Act::Claim(0, 0),
+        Act::Commit(0, 1, 0, Outcome::Value(0), Move::Ray),
+    ],
+    // a value, for Empty
+    &[Act::Claim(0, 0), Act::Commit(0, 1, 1, FIVE, Move::Empty)],
+];
+
+// How many of the events are legal, each after those before it that are.
+fn taken(alloc: Global, acts: &[Act]) -> Result<usize, Fail> {
+    let mut state = start(alloc, 1, 3, 3)?;
+    let mut taken = 0usize;
+    for act in acts {
+        if is_taken(alloc, &mut state, *act)? {
+            taken = taken.saturating_add(1);
+        }
+    }
+    Ok(taken)
+}
+
+#[test]
+fn events_are_refused(rt: HostRuntime) -> Result<(), Fail> {
+    let alloc = rt.alloc();
+    for acts in REFUSED.iter() {
+        assert_eq!(rt; taken(alloc, acts)?.saturating_add(1), acts.len());
+    }
+    Ok(())
+}
+
+// A node may have a hundred entries, and no claim ends there in Again, while a cell is undecided; and a child's first
+// table is the one that it stores.
+#[test]
+fn the_hundredth_entry_is_no_again(rt: HostRuntime) -> Result<(), Fail> {
+    let alloc = rt.alloc();
+    let mut state = start(alloc, 2, 1, 200)?;
+    for unit in 1..100u32 {
+        assert!(rt; is_taken(alloc, &mut state, Act::Claim(0, 0))?);
+        assert!(rt;
+            is_taken(
+                alloc,
+                &mut state,
+                Act::Commit(0, unit, unit, FIVE, Move::Again)
+            )?
+        );
+    }
+    assert!(rt; is_taken(alloc, &mut state, Act::Claim(0, 0))?);
+    assert!(rt;
+        !is_taken(
+            alloc,
+            &mut state,
+            Act::Commit(0, 100, 100, FIVE, Move::Again)
+        )?
+    );
+    assert!(rt; is_taken(alloc, &mut state, Act::Commit(0, 100, 100, FIVE, CELL))?);
+    assert!(rt; is_taken(alloc, &mut state, Act::Claim(0, 2))?);
+    assert!(rt; !is_taken(alloc, &mut state, Act::Commit(0, 101, 2, FIVE, Move::Again))?);
+    assert!(rt; is_taken(alloc, &mut state, Act::Commit(0, 101, 1, FIVE, Move::Again))?);
+    Ok(())
+}
+
+// One worker and a budget of one claim: the root is claimed once, and after that all is as before.
+#[test]
+fn the_root_is_claimed_once(rt: HostRuntime) -> Result<(), Fail> {
+    let alloc = rt.alloc();
+    let mut state = start(alloc, 1, 1, 1)?;
+    assert!(rt; is_taken(alloc, &mut state, Act::Claim(0, 0))?);
+    assert!(rt; !is_taken(alloc, &mut state, Act::Claim(0, 0))?);
+    assert_eq!(rt; state.log().as_slice().len(), 0);
+    assert_eq!(rt; state.hand(0).as_slice(), [0].as_slice());
+    assert!(rt; is_taken(alloc, &mut state, Act::Commit(0, 1, 1, FIVE, Move::Again))?);
+    assert_eq!(rt; state.log().as_slice().len(), 1);
+    Ok(())
+}

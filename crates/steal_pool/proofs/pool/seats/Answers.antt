@@ -1,0 +1,29 @@
+use Rattle.std.proofs.Common.{◌≡◌, ◌<◌, length, map, [], ap, ◌∙◌, sym, arith}
+use Rattle.std.specs.Prelude.{remove}
+use Rattle.std.proofs.lemmas.List.{length-map}
+use Rattle.steal_pool.specs.Seats.{untouched}
+use Rattle.steal_pool.specs.Ends.{own_id, victim_id}
+use Rattle.steal_pool.proofs.Making.{drop_next, others_count, seats_more}
+use Rattle.steal_pool.proofs.pool.seats.Goals as goal
+
+pub new-seat-requires-clause-others : goal.new-seat-requires-clause-others
+new-seat-requires-clause-others c =
+    let behind = drop_next c.args.deques.items _ _ _ (c.loop-own.invariant.0 ∙ c.in-Some.ensures.steps.0) in
+    let ids : length (map victim_id c.args.victims.now) ≡ length c.args.deques.items = ap length c.requires.same ∙ length-map c.args.deques.items own_id in
+    let within : c.len-me.result < length (map victim_id c.args.victims.now) = omega (arith, behind.0, c.len-me.ensures) in
+    let count = others_count c.in_ok-others.others.items (map victim_id c.args.victims.now) c.len-me.result within c.in_ok-others.ensures in
+    omega (arith, c.in_ok-others.others.ok.0)
+
+pub loop-own-preserved : goal.loop-own-preserved
+loop-own-preserved c =
+    seats_more _ _ _ _ _ _ _ _ _ _ c.in_ok-others.others.items _ c.loop-own.invariant.0 c.in-Some.ensures.steps.0 c.loop-own.invariant.2
+    (sym c.loop-own.made.ok.0) c.in_ok-push.ensures.items c.in_ok-push.ensures.len c.requires.same
+    (c.in_ok-others.ensures ∙ ap (λ n. map untouched (remove (map victim_id c.args.victims.now) n)) c.len-me.ensures)
+    (c.new-seat.ensures ∙ ap (λ n. record {
+      me = n;
+      deque = own_id c.in-Some.own;
+      room = c.args.room;
+      put = [];
+      took = [];
+      others = c.in_ok-others.others.items;
+    }) c.len-me.ensures)

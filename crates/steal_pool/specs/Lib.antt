@@ -1,0 +1,4 @@
+pub mod Line
+pub mod Seats
+pub mod Ends
+pub mod Pools

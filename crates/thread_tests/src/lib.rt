@@ -1,0 +1,9 @@
+//! Tests of the objects that threads share, by one thread and by two.
+#![tactic(auto)]
+
+#[cfg(test)]
+mod incumbents;
+#[cfg(test)]
+mod pools;
+#[cfg(test)]
+mod together;
