@@ -63,10 +63,8 @@ pub record IsOpened (instance : Instance) (found : Found) (bound : ℤ) : Type 0
   pub stored : written_tables found ≡ zero_table instance ∷ []
   pub reached : ReachesBoundOf instance root (zero_table instance) bound
 
--- what a search does that has one table and looks for no schedule
+-- what a search does that has one table
 pub record IsFirstStage (instance : Instance) (found : Found) : Type 0 where
-  pub schedule : found.schedule ≡ None
-  pub most_on : found.most_on ≡ None
   pub claims : All (IsFirstClaim found.tree instance found.tables) found.log
   pub opened : IfSome (tree_bound found.tree) (IsOpened instance found)
 

@@ -1,19 +1,20 @@
 //! Laws of certificates' texts, each the contract of a function with an empty body.
 
-ghost use Rattle.std.specs.Prelude.{◌≡◌, ◌↔◌, ℕ, ℤ, List, [], ◌∷◌, ◌++◌, ◌+◌, ◌/◌, ◌^◌, ◌<◌, ◌≤◌, length, unsigned_abs, None, IfSome, All};
+ghost use Rattle.std.specs.Prelude.{◌≡◌, ◌↔◌, ℕ, ℤ, List, [], ◌∷◌, ◌++◌, ◌+◌, ◌/◌, ◌^◌, ◌<◌, ◌≤◌, length, unsigned_abs, IfSome, All};
 ghost use Rattle.uc_model.specs.Decimal.{whole_text};
 ghost use Rattle.uc_model.specs.Limits.{IsLawfulInstance};
+ghost use Rattle.uc_model.specs.Schedule.{thermal_count, renewable_count};
 ghost use Rattle.uc_model.specs.declared.instance.Instance.{Instance};
 ghost use Rattle.dual_model.specs.Certificate.{Certificate, CertificateHolds};
 ghost use Rattle.branch_tree.specs.StoredTree.{tree_bound};
 ghost use Rattle.branch_tree.specs.TreeView.{IsWhole};
-ghost use Rattle.branch_tree.specs.Claims.{written_tables, certificate_of};
+ghost use Rattle.branch_tree.specs.Claims.{written_tables, certificate_of, written_of};
 ghost use Rattle.branch_tree.specs.declared.found.Found.{Found};
 ghost use Rattle.cert_text.specs.CertificateText.{listing_of, certificate_lines, certificate_text};
 ghost use Rattle.cert_text.specs.Grammar.{Version, Reaches};
 ghost use Rattle.cert_text.specs.ReadFaults.{IsKindAt};
 ghost use Rattle.cert_text.specs.declared.cert.CertKind.{CertKind};
-ghost use Rattle.cert_text.specs.TextConditions.{IsMoney, HasText};
+ghost use Rattle.cert_text.specs.TextConditions.{IsMoney, IsScheduleText, HasText};
 
 /// A number is within its range exactly where its text has no more digits than the range says, those of the
 /// decimals of money among them.
@@ -22,11 +23,12 @@ pub fn ranges_count_digits()
     ensures money { (n : ℤ) → (length (whole_text (unsigned_abs n / 1000000)) + 6 ≤ 38) ↔ IsMoney n }
 {}
 
-/// The certificate of an answer without a schedule, whose tree keeps what every tree keeps, has a text where its
-/// bound is in the range of money and the rows of its tables can be counted.
-pub fn certificates_without_schedule_have_text()
+/// The certificate of an answer, whose tree keeps what every tree keeps, has a text where its schedule has one, its bound is in
+/// the range of money, and the rows of its tables can be counted.
+pub fn found_certificates_have_text()
     ensures { (instance : Instance) (found : Found) → IsLawfulInstance instance → IsWhole found.tree
-        → CertificateHolds instance (certificate_of instance found) → found.schedule ≡ None
+        → CertificateHolds instance (certificate_of instance found)
+        → IfSome (written_of found.schedule) (IsScheduleText instance.periods (thermal_count instance) (renewable_count instance))
         → IfSome (tree_bound found.tree) IsMoney
         → All (λ table. length table.ramps < 10 ^ 18) (written_tables found)
         → HasText (listing_of (certificate_of instance found)) }

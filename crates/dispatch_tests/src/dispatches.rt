@@ -8,7 +8,7 @@ use std::test::Fail;
 use uc_model::{Pattern, Printed, Stuck, Why};
 
 /// Why a commitment got stuck, with its two numbers: a rule and unit, or powers in MW.
-type Reason = (&'static str, i64, i64);
+type Reason = (&'static str, i128, i128);
 
 /// What is wanted of a commitment: a cost in dollars with output above the minimum and reserve of each thermal unit in the
 /// first period, in MW; or the period, from 0, in which it gets stuck, and why.
@@ -225,14 +225,19 @@ const CASES: [Case; 18] = [
 
 const MILLION: i64 = 1_000_000;
 
+// A power in MW.
+fn megawatts(watts: i64) -> i128 {
+    i128::from(watts / MILLION)
+}
+
 // The reason of a stuck dispatch.
 fn reason(why: &Why) -> Reason {
     match *why {
-        Why::Rule { rule, unit } => ("rule", i64::from(rule), unit as i64),
-        Why::Box { low, high, .. } => ("box", low / MILLION, high / MILLION),
-        Why::Over { least, demand } => ("over", least / MILLION, demand / MILLION),
-        Why::Under { most, demand } => ("under", most / MILLION, demand / MILLION),
-        Why::Reserve { room, need } => ("reserve", room / MILLION, need / MILLION),
+        Why::Rule { rule, unit } => ("rule", i128::from(rule), unit as i128),
+        Why::Box { low, high, .. } => ("box", megawatts(low), megawatts(high)),
+        Why::Over { least, demand } => ("over", megawatts(least), megawatts(demand)),
+        Why::Under { most, demand } => ("under", megawatts(most), megawatts(demand)),
+        Why::Reserve { room, need } => ("reserve", megawatts(room), megawatts(need)),
     }
 }
 

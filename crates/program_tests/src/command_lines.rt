@@ -13,11 +13,14 @@ const USAGE: &[u8] =
     b"usage: uc solve FILE --cert FILE [--units N] [--workers N] [--gap PPM] [--exact]\n       uc check FILE CERT\n       uc demo SEED\n";
 
 /// Words behind the program's name that are taken.
-const TAKEN: [&[&str]; 11] = [
+const TAKEN: [&[&str]; 14] = [
     &["solve", "in.json", "--cert", "new.cert"],
     &["solve", "--cert", "new.cert", "in.json"],
     &["solve", "--cert=new.cert", "in.json"],
     &["solve", "in.json", "--cert", "new.cert", "--units", "1"],
+    &["solve", "in.json", "--cert", "new.cert", "--gap", "0"],
+    &["solve", "in.json", "--cert", "new.cert", "--gap=1000000"],
+    &["solve", "in.json", "--cert", "new.cert", "--gap=+007"],
     &[
         "solve",
         "--exact",
@@ -35,7 +38,7 @@ const TAKEN: [&[&str]; 11] = [
 ];
 
 /// Words behind the program's name that are refused.
-const REFUSED: [&[&str]; 32] = [
+const REFUSED: [&[&str]; 37] = [
     &[],
     &["frob"],
     &["help"],
@@ -62,7 +65,14 @@ const REFUSED: [&[&str]; 32] = [
         "solve", "in.json", "--cert", "new.cert", "--units", "1", "--units", "1",
     ],
     &["solve", "in.json", "--cert", "new.cert", "--workers", "2"],
-    &["solve", "in.json", "--cert", "new.cert", "--gap", "1000"],
+    &["solve", "in.json", "--cert", "new.cert", "--gap", "1000001"],
+    &["solve", "in.json", "--cert", "new.cert", "--gap", "-1"],
+    &["solve", "in.json", "--cert", "new.cert", "--gap=-1"],
+    &["solve", "in.json", "--cert", "new.cert", "--gap", "0.1"],
+    &["solve", "in.json", "--cert", "new.cert", "--gap"],
+    &[
+        "solve", "in.json", "--cert", "new.cert", "--gap", "1", "--gap", "1",
+    ],
     &[
         "solve", "in.json", "--cert", "new.cert", "--exact", "--exact",
     ],

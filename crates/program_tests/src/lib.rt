@@ -14,6 +14,8 @@ mod malicious_input;
 #[cfg(test)]
 mod runs;
 #[cfg(test)]
+mod schedules;
+#[cfg(test)]
 mod tally;
 #[cfg(test)]
 mod texts;

@@ -2,7 +2,7 @@
 
 use crate::tally::Tally;
 use outside::{Call, Devices, FailingCall, FaultyFile, FaultySink, Pace};
-use sample_instances::{BASE, KAZARLIS, changed};
+use sample_instances::{BASE, changed};
 use std::alloc::{AllocError, Global};
 use std::process::Abort;
 use std::sync::Wait;
@@ -11,10 +11,14 @@ use std::thread::Threads;
 use uc_cli::uc;
 
 const BASE_CERTIFICATE: &[u8] =
-    b"uc-certificate 1\nsize 1 1 0 1\nclaim bound 0.000000\nschedule none\ntable 1000000\npi 0\nmu 0\nramps 0\nbound 1\nend\n";
+    b"uc-certificate 1\nsize 1 1 0 1\nclaim bound 0.000000\nschedule 300.000000\nt 20000000:5000000:0\ntable 1000000\npi 0\nmu 0\nramps 0\nbound 1\nend\n";
 
 const BASE_REPORT: &[u8] =
-    b"periods 1 thermal 1 renewable 0 rounded 0\nbudget spent, no schedule found\nbound 0.000000\nevaluations 1\n";
+    b"periods 1 thermal 1 renewable 0 rounded 0\nbudget spent\ncost 300.000000\nbound 0.000000\nevaluations 1\nthermal \"g1\" 30.000000+5.000000\n";
+
+/// The same where the gap is the whole cost.
+const BASE_CLOSED: &[u8] =
+    b"periods 1 thermal 1 renewable 0 rounded 0\nclosed\ncost 300.000000\nbound 0.000000\nevaluations 1\nthermal \"g1\" 30.000000+5.000000\n";
 
 const USAGE: &[u8] =
     b"usage: uc solve FILE --cert FILE [--units N] [--workers N] [--gap PPM] [--exact]\n       uc check FILE CERT\n       uc demo SEED\n";
@@ -118,14 +122,14 @@ struct Refusal {
 }
 
 const BASE_ANSWER: Ending<'static> = Ending {
-    code: 2,
+    code: 1,
     entries: 1,
     certificate: BASE_CERTIFICATE,
     report: BASE_REPORT,
     told: b"",
 };
 
-const ANSWERS: [Answer; 8] = [
+const ANSWERS: [Answer; 12] = [
     Answer {
         changes: &[],
         words: ONE,
@@ -144,20 +148,57 @@ const ANSWERS: [Answer; 8] = [
         words: ONE,
         ending: BASE_ANSWER,
     },
+    // The gap that is given by the words: the whole cost, and a part in a million less.
+    Answer {
+        changes: &[],
+        words: &["--units", "1", "--gap", "0"],
+        ending: BASE_ANSWER,
+    },
+    Answer {
+        changes: &[],
+        words: &["--gap", "999999"],
+        ending: BASE_ANSWER,
+    },
+    Answer {
+        changes: &[],
+        words: &["--gap", "1000000"],
+        ending: Ending {
+            code: 0,
+            report: BASE_CLOSED,
+            ..BASE_ANSWER
+        },
+    },
+    // 20 MW above the minimum at $124,997.5 a MWh.
     Answer {
         changes: &[("\"cost\":500", "\"cost\":5000000")],
         words: ONE,
-        ending: BASE_ANSWER,
+        ending: Ending {
+            certificate: b"uc-certificate 1\nsize 1 1 0 1\nclaim bound 0.000000\nschedule 2500050.000000\nt 20000000:5000000:0\ntable 1000000\npi 0\nmu 0\nramps 0\nbound 1\nend\n",
+            report: b"periods 1 thermal 1 renewable 0 rounded 0\nbudget spent\ncost 2500050.000000\nbound 0.000000\nevaluations 1\nthermal \"g1\" 30.000000+5.000000\n",
+            ..BASE_ANSWER
+        },
     },
     Answer {
         changes: &[("\"must_run\":0", "\"must_run\":1")],
         words: ONE,
         ending: Ending {
+            certificate: b"uc-certificate 1\nsize 1 1 0 1\nclaim bound 100.000000\nschedule 300.000000\nt 20000000:5000000:0\ntable 1000000\npi 0\nmu 0\nramps 0\nbound 1\nend\n",
+            report: b"periods 1 thermal 1 renewable 0 rounded 0\nbudget spent\ncost 300.000000\nbound 100.000000\nevaluations 1\nthermal \"g1\" 30.000000+5.000000\n",
+            ..BASE_ANSWER
+        },
+    },
+    // A dispatch that is stuck doesn't exclude that there is a schedule, though here there is none.
+    Answer {
+        changes: &[
+            ("\"demand\":[30]", "\"demand\":[5]"),
+            ("[5],\"thermal", "[0],\"thermal"),
+        ],
+        words: ONE,
+        ending: Ending {
             code: 2,
-            entries: 1,
-            certificate: b"uc-certificate 1\nsize 1 1 0 1\nclaim bound 100.000000\nschedule none\ntable 1000000\npi 0\nmu 0\nramps 0\nbound 1\nend\n",
-            report: b"periods 1 thermal 1 renewable 0 rounded 0\nbudget spent, no schedule found\nbound 100.000000\nevaluations 1\n",
-            told: b"",
+            certificate: b"uc-certificate 1\nsize 1 1 0 1\nclaim bound 0.000000\nschedule none\ntable 1000000\npi 0\nmu 0\nramps 0\nbound 1\nend\n",
+            report: b"periods 1 thermal 1 renewable 0 rounded 0\nbudget spent, no schedule found\nbound 0.000000\nevaluations 1\nmost-on commitment stuck in period 1: least output 10.000000 above demand 5.000000\n",
+            ..BASE_ANSWER
         },
     },
     Answer {
@@ -182,7 +223,8 @@ const ANSWERS: [Answer; 8] = [
         changes: &[("\"demand\":[30]", "\"demand\":[30.0000005]")],
         words: ONE,
         ending: Ending {
-            report: b"periods 1 thermal 1 renewable 0 rounded 1\nbudget spent, no schedule found\nbound 0.000000\nevaluations 1\n",
+            certificate: b"uc-certificate 1\nsize 1 1 0 1\nclaim bound 0.000000\nschedule 300.000010\nt 20000001:5000000:0\ntable 1000000\npi 0\nmu 0\nramps 0\nbound 1\nend\n",
+            report: b"periods 1 thermal 1 renewable 0 rounded 1\nbudget spent\ncost 300.000010\nbound 0.000000\nevaluations 1\nthermal \"g1\" 30.000001+5.000000\n",
             ..BASE_ANSWER
         },
     },
@@ -194,11 +236,9 @@ const ANSWERS: [Answer; 8] = [
         ],
         words: ONE,
         ending: Ending {
-            code: 2,
-            entries: 1,
-            certificate: b"uc-certificate 1\nsize 2 1 0 1\nclaim bound 0.000000\nschedule none\ntable 1000000\npi 0 0\nmu 0 0\nramps 0\nbound 1\nend\n",
-            report: b"periods 2 thermal 1 renewable 0 rounded 0\nbudget spent, no schedule found\nbound 0.000000\nevaluations 1\n",
-            told: b"",
+            certificate: b"uc-certificate 1\nsize 2 1 0 1\nclaim bound 0.000000\nschedule 600.000000\nt 20000000:5000000:0 20000000:5000000:0\ntable 1000000\npi 0 0\nmu 0 0\nramps 0\nbound 1\nend\n",
+            report: b"periods 2 thermal 1 renewable 0 rounded 0\nbudget spent\ncost 600.000000\nbound 0.000000\nevaluations 1\nthermal \"g1\" 30.000000+5.000000 30.000000+5.000000\n",
+            ..BASE_ANSWER
         },
     },
 ];
@@ -351,46 +391,57 @@ const SECOND_UNIT: (&str, &str) = (
     "},\"g2\":{\"must_run\":1,\"power_output_minimum\":20,\"power_output_maximum\":40,\"ramp_up_limit\":20,\"ramp_down_limit\":20,\"ramp_startup_limit\":40,\"ramp_shutdown_limit\":40,\"time_up_minimum\":1,\"time_down_minimum\":1,\"power_output_t0\":20,\"unit_on_t0\":1,\"time_up_t0\":1,\"time_down_t0\":0,\"startup\":[{\"lag\":1,\"cost\":0}],\"piecewise_production\":[{\"mw\":20,\"cost\":300},{\"mw\":40,\"cost\":700}]}},\"renewable_generators\"",
 );
 
-/// The item so often, with commas between.
-fn repeated(alloc: Global, item: &str, times: u32) -> Result<String, AllocError> {
+/// The item so often, with this between.
+fn repeated(alloc: Global, item: &str, between: &str, times: u32) -> Result<String, AllocError> {
     let mut text = String::from_str(alloc, item)?;
     for _ in 1..times {
-        text.push_str(",")?;
+        text.push_str(between)?;
         text.push_str(item)?;
     }
     Ok(text)
 }
 
-/// A system's size as a certificate has it.
+/// What is printed of a system: its size as the certificate has it, the report's line on the gap, cost and bound, and the
+/// lines of its units in the certificate and in the report.
 #[derive(Clone, Copy)]
-struct Size {
+struct Solved<'a> {
     periods: u32,
-    thermal: u32,
-    renewable: u32,
+    size: &'a str,
+    code: u8,
+    state: &'a str,
+    cost: &'a str,
+    bound: &'a str,
+    cells: &'a str,
+    rows: &'a str,
 }
 
-/// How a run ends that bounds a system of this size at the table of no prices.
-fn assert_bound<R: Threads + Wait + Sync + Abort>(
+/// How a run ends that bounds a system at the table of no prices and dispatches its most-on commitment.
+fn assert_solved<R: Threads + Wait + Sync + Abort>(
     rt: &R,
     alloc: Global,
     input: &str,
-    size: Size,
-    bound: &str,
+    solved: &Solved<'_>,
 ) -> Result<(), Fail> {
-    let Size {
+    let Solved {
         periods,
-        thermal,
-        renewable,
-    } = size;
-    let zeros = repeated(alloc, "0", periods)?.replace(alloc, ",", " ")?;
+        size,
+        code,
+        state,
+        cost,
+        bound,
+        cells,
+        rows,
+    } = *solved;
+    let zeros = repeated(alloc, "0", " ", periods)?;
     let certificate = format!(in alloc;
-        "uc-certificate 1\nsize {periods} {thermal} {renewable} 1\nclaim bound {bound}\nschedule none\ntable 1000000\npi {zeros}\nmu {zeros}\nramps 0\nbound 1\nend\n"
+        "uc-certificate 1\nsize {periods} {size} 1\nclaim bound {bound}\nschedule {cost}\n{cells}table 1000000\npi {zeros}\nmu {zeros}\nramps 0\nbound 1\nend\n"
     )?;
+    let (thermal, renewable) = size.split_once(' ').unwrap_or(("", ""));
     let report = format!(in alloc;
-        "periods {periods} thermal {thermal} renewable {renewable} rounded 0\nbudget spent, no schedule found\nbound {bound}\nevaluations 1\n"
+        "periods {periods} thermal {thermal} renewable {renewable} rounded 0\n{state}\ncost {cost}\nbound {bound}\nevaluations 1\n{rows}"
     )?;
     let ending = Ending {
-        code: 2,
+        code,
         entries: 1,
         certificate: certificate.as_bytes(),
         report: report.as_bytes(),
@@ -400,25 +451,41 @@ fn assert_bound<R: Threads + Wait + Sync + Abort>(
     Ok(())
 }
 
-// With ample memory a run bounds a system of two units, one without thermal units, and one over 168 hours.
+// With ample memory a run solves a system of two units, which both run at their minimum, and one without thermal units.
 #[test]
-fn systems_of_each_shape_are_bounded(rt: HostRuntime) -> Result<(), Fail> {
+fn systems_of_each_kind_of_unit_are_solved(rt: HostRuntime) -> Result<(), Fail> {
     let alloc = rt.alloc();
     let two = changed(alloc, BASE, &[SECOND_UNIT])?;
-    let size = Size {
+    let solved = Solved {
         periods: 1,
-        thermal: 2,
-        renewable: 0,
+        size: "2 0",
+        code: 1,
+        state: "budget spent",
+        cost: "400.000000",
+        bound: "300.000000",
+        cells: "t 0:5000000:0\nt 0:0:0\n",
+        rows: "thermal \"g1\" 10.000000+5.000000\nthermal \"g2\" 20.000000+0.000000\n",
     };
-    assert_bound(&rt, alloc, &two, size, "300.000000")?;
-    let size = Size {
+    assert_solved(&rt, alloc, &two, &solved)?;
+    let solved = Solved {
         periods: 1,
-        thermal: 0,
-        renewable: 1,
+        size: "0 1",
+        code: 0,
+        state: "closed",
+        cost: "0.000000",
+        bound: "0.000000",
+        cells: "w 30000000\n",
+        rows: "renewable \"w1\" 30.000000\n",
     };
-    assert_bound(&rt, alloc, NO_THERMAL, size, "0.000000")?;
-    let demand = repeated(alloc, "30", 168)?;
-    let reserves = repeated(alloc, "5", 168)?;
+    assert_solved(&rt, alloc, NO_THERMAL, &solved)
+}
+
+// And one over 168 hours.
+#[test]
+fn a_system_over_a_week_is_solved(rt: HostRuntime) -> Result<(), Fail> {
+    let alloc = rt.alloc();
+    let demand = repeated(alloc, "30", ",", 168)?;
+    let reserves = repeated(alloc, "5", ",", 168)?;
     let long = changed(
         alloc,
         BASE,
@@ -429,29 +496,19 @@ fn systems_of_each_shape_are_bounded(rt: HostRuntime) -> Result<(), Fail> {
             ("\"must_run\":0", "\"must_run\":1"),
         ],
     )?;
-    let size = Size {
+    let cells = repeated(alloc, "20000000:5000000:0", " ", 168)?;
+    let cells = format!(in alloc; "t {cells}\n")?;
+    let row = repeated(alloc, "30.000000+5.000000", " ", 168)?;
+    let row = format!(in alloc; "thermal \"g1\" {row}\n")?;
+    let solved = Solved {
         periods: 168,
-        thermal: 1,
-        renewable: 0,
+        size: "1 0",
+        code: 1,
+        state: "budget spent",
+        cost: "50400.000000",
+        bound: "16800.000000",
+        cells: cells.as_str(),
+        rows: row.as_str(),
     };
-    assert_bound(&rt, alloc, &long, size, "16800.000000")
-}
-
-// The ten-unit system, and the same with its two largest units on all day: each costs least at its minimum.
-#[test]
-fn the_ten_unit_system_is_bounded(rt: HostRuntime) -> Result<(), Fail> {
-    let alloc = rt.alloc();
-    let size = Size {
-        periods: 24,
-        thermal: 10,
-        renewable: 0,
-    };
-    assert_bound(&rt, alloc, KAZARLIS, size, "0.000000")?;
-    let mut text = String::from_str(alloc, KAZARLIS)?;
-    for name in ["u1_1", "u2_1"] {
-        let from = format!(in alloc; "\"{name}\":{{\"must_run\":0")?;
-        let to = format!(in alloc; "\"{name}\":{{\"must_run\":1")?;
-        text = text.replace(alloc, from.as_str(), to.as_str())?;
-    }
-    assert_bound(&rt, alloc, &text, size, "168126.600000")
+    assert_solved(&rt, alloc, &long, &solved)
 }

@@ -8,7 +8,9 @@ use Rattle.outside.specs.declared.slot.Slot.TheVariants as slot
 use Rattle.outside.specs.Slots.{SlotState, SameBut}
 use Rattle.outside.specs.Sinks.{SinkState}
 use Rattle.branch_tree.specs.declared.found.Found.{Found}
-use Rattle.uc_cli.specs.Writing.{IsSaved, FailsToSave, IsTold, FailsToTell, text_of_certificate, text_of_report}
+use Rattle.uc_cli.specs.Writing.{IsSaved, FailsToSave, IsTold, FailsToTell, text_of_certificate}
+use Rattle.report.specs.FoundReport.{found_report}
+use Rattle.uc_cli.specs.Command.{Solve}
 use Rattle.uc_cli.specs.Outside.{outside_of}
 use Rattle.uc_cli.specs.Run.{IsAnswer, IsDone, IsUnsaved, IsUntold}
 
@@ -42,12 +44,12 @@ saved_since : (f g h : Slot → SlotState) (instance : Instance) (found : Found)
 saved_since f g h instance found same saved =
     subst (λ s. IsSaved (text_of_certificate instance found) s (h slot.CertOut)) (certificate_same f g same) saved
 
-pub untold : (exact : Bool) (f g h : Slot → SlotState) (before after err_old err_new : SinkState) (instance : Instance) (rounded : ℕ) (found : Found)
-    → IsAnswer exact (f slot.Instance) instance rounded found → SameBut slot.Instance f g
+pub untold : (asked : Solve) (f g h : Slot → SlotState) (before after err_old err_new : SinkState) (instance : Instance) (rounded : ℕ) (found : Found)
+    → IsAnswer asked.exact (f slot.Instance) instance rounded found → SameBut slot.Instance f g
     → IsSaved (text_of_certificate instance found) (g slot.CertOut) (h slot.CertOut)
-    → FailsToTell (text_of_report instance found rounded) before after
-    → IsUntold exact (outside_of f before err_old) (outside_of h after err_new) found
-untold exact f g h before after err_old err_new instance rounded found answer same saved fails = record {
+    → FailsToTell (found_report instance found rounded asked.gap) before after
+    → IsUntold asked (outside_of f before err_old) (outside_of h after err_new) found
+untold asked f g h before after err_old err_new instance rounded found answer same saved fails = record {
   has = record { instance = instance; rounded = rounded; answer = answer };
   saved = saved_since f g h instance found same saved;
   report = fails;
@@ -62,13 +64,13 @@ calm_each f g h first second read written slot.CertIn =
 calm_each f g h first second read written slot.CertOut =
     written ∙ ap (λ (s : SlotState). s.faults) (first slot.CertOut (λ e. cc))
 
-pub done : (exact : Bool) (f g h : Slot → SlotState) (before after err_old err_new : SinkState) (instance : Instance) (rounded : ℕ) (found : Found)
-    → IsAnswer exact (f slot.Instance) instance rounded found → SameBut slot.Instance f g → SameBut slot.CertOut g h
+pub done : (asked : Solve) (f g h : Slot → SlotState) (before after err_old err_new : SinkState) (instance : Instance) (rounded : ℕ) (found : Found)
+    → IsAnswer asked.exact (f slot.Instance) instance rounded found → SameBut slot.Instance f g → SameBut slot.CertOut g h
     → (g slot.Instance).faults ≡ (f slot.Instance).faults
     → IsSaved (text_of_certificate instance found) (g slot.CertOut) (h slot.CertOut)
-    → IsTold (text_of_report instance found rounded) before after
-    → IsDone exact (outside_of f before err_old) (outside_of h after err_new) found
-done exact f g h before after err_old err_new instance rounded found answer first second calm saved told = record {
+    → IsTold (found_report instance found rounded asked.gap) before after
+    → IsDone asked (outside_of f before err_old) (outside_of h after err_new) found
+done asked f g h before after err_old err_new instance rounded found answer first second calm saved told = record {
   has = record { instance = instance; rounded = rounded; answer = answer };
   saved = saved_since f g h instance found first saved;
   told = told;

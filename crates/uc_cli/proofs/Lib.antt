@@ -1,7 +1,9 @@
 pub mod UnpricedTables
+pub mod ScheduleTexts
 pub mod SearchResults
 pub mod Endings
 pub mod OnlyRead
 pub mod Commands
 pub mod Verdicts
+pub mod Gaps
 pub mod TurnedAway

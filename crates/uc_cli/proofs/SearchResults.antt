@@ -30,33 +30,36 @@ use Rattle.branch_tree.specs.declared.tree.Leaf.TheVariants as leaf
 use Rattle.cert_text.specs.TextConditions.{IsMoney}
 use Rattle.cert_text.proofs.FoundTexts.{found-has-text}
 use Rattle.dual_value.specs.NodeAnswer.{MAX_VALUE}
-use Rattle.uc_cli.specs.inside.Search.{IsSearchAnswer, lone_root}
+use Rattle.uc_cli.specs.declared.most_on.Start.{Start}
+use Rattle.uc_cli.specs.inside.Search.{IsSearchAnswer, IsStart, lone_root}
+use Rattle.uc_cli.proofs.ScheduleTexts.{schedule_holds, has_schedule_text}
+use Rattle.uc_cli.proofs.Verdicts.{schedule_true}
 use Rattle.uc_cli.proofs.UnpricedTables.{each_pattern, unpriced_lawful, zero_scale}
 
 -- the one entry of the log
 abbrev pub the_claim : ℤ → Entry
 the_claim v = record { unit = 1; worker = 0; node = 0; table = 0; outcome = Value v }
 
--- what is answered where the root has the value v, whose bound is b
-abbrev pub bounded_found : Instance → ℤ → Tree → Layout → Found
-bounded_found instance v tree layout = record {
-  schedule = None;
+-- what is answered where the root has the value v, from this start
+abbrev pub bounded_found : Instance → Start → ℤ → Tree → Layout → Found
+bounded_found instance start v tree layout = record {
+  schedule = start.schedule;
   tree = tree;
   tables = zero_table instance ∷ [];
   log = the_claim v ∷ [];
-  most_on = None;
+  most_on = start.most_on;
   layout = layout;
 }
 
-bounded_certificate : (instance : Instance) (v b : ℤ) (layout : Layout) → IsNodeValue instance root (zero_table instance) v → IsFloor v ZERO_SCALE b
-    → CertificateHolds instance (certificate_of instance (bounded_found instance v (lone_root instance (leaf.Bound 0 b)) layout))
-bounded_certificate instance v b layout value floor = record {
+bounded_certificate : (instance : Instance) (start : Start) (v b : ℤ) (layout : Layout) → IsStart instance start → IsNodeValue instance root (zero_table instance) v → IsFloor v ZERO_SCALE b
+    → CertificateHolds instance (certificate_of instance (bounded_found instance start v (lone_root instance (leaf.Bound 0 b)) layout))
+bounded_certificate instance start v b layout is_start value floor = record {
   periods = refl;
   thermal = refl;
   renewable = refl;
   tables = All-cons (IsLawfulTable instance) (zero_table instance) [] (unpriced_lawful instance ZERO_SCALE zero_scale) (All-nil (IsLawfulTable instance));
   tree = tt;
-  schedule = λ written e. absurd (cc);
+  schedule = schedule_holds instance start.schedule is_start.priced;
   claim = (
     refl,
     record {
@@ -68,14 +71,14 @@ bounded_certificate instance v b layout value floor = record {
   );
 }
 
-pub bounded_is : (instance : Instance) (v b : ℤ) (layout : Layout) → IsLayoutOf (lone_root instance (leaf.Bound 0 b)) layout → IsNodeValue instance root (zero_table instance) v → IsFloor v ZERO_SCALE b
-    → IsSearchResult instance 1 (bounded_found instance v (lone_root instance (leaf.Bound 0 b)) layout)
-bounded_is instance v b layout of_tree value floor =
-    let found = bounded_found instance v (lone_root instance (leaf.Bound 0 b)) layout in
+pub bounded_is : (instance : Instance) (start : Start) (v b : ℤ) (layout : Layout) → IsStart instance start → IsLayoutOf (lone_root instance (leaf.Bound 0 b)) layout → IsNodeValue instance root (zero_table instance) v → IsFloor v ZERO_SCALE b
+    → IsSearchResult instance 1 (bounded_found instance start v (lone_root instance (leaf.Bound 0 b)) layout)
+bounded_is instance start v b layout is_start of_tree value floor =
+    let found = bounded_found instance start v (lone_root instance (leaf.Bound 0 b)) layout in
     record {
       truth = record {
         layout = record { layout = of_tree; within = All-cons (λ i. i < 1) 0 [] (omega arith) (All-nil (λ i. i < 1)) };
-        certificate = bounded_certificate instance v b layout value floor;
+        certificate = bounded_certificate instance start v b layout is_start value floor;
         log = record {
           entries = All-cons (IsTrueEntry instance found.tree found.tables) (the_claim v) []
               (record { node = root; is_node = refl; table = zero_table instance; is_table = refl; lawful = unpriced_lawful instance ZERO_SCALE zero_scale; outcome = value })
@@ -86,8 +89,6 @@ bounded_is instance v b layout of_tree value floor =
       spent = λ some. refl;
       excluded = λ g empty. absurd (each_pattern instance root (zero_table instance) v value g empty.within empty.empty);
       stage = record {
-        schedule = refl;
-        most_on = refl;
         claims = All-cons (IsFirstClaim found.tree instance found.tables) (the_claim v) []
             (record { unit = refl; worker = refl; node = refl; table = refl })
             (All-nil (IsFirstClaim found.tree instance found.tables));
@@ -112,22 +113,26 @@ bound_text v b floor size =
     let few : unsigned_abs b ≤ MAX_VALUE = floor-size v ZERO_SCALE b (MAX_VALUE) (omega (arith, linear)) floor size in
     omega arith
 
-pub bounded_answer : (instance : Instance) (v b : ℤ) (tree : Tree) (layout : Layout) → IsLawfulInstance instance
+pub bounded_answer : (instance : Instance) (start : Start) (v b : ℤ) (tree : Tree) (layout : Layout) → IsLawfulInstance instance
+    → IsStart instance start
     → tree ≡ lone_root instance (leaf.Bound 0 b) → IsWhole tree → IsLayoutOf tree layout
     → IsNodeValue instance root (zero_table instance) v
-    → IsFloor v ZERO_SCALE b → unsigned_abs v ≤ MAX_VALUE → IsSearchAnswer instance (bounded_found instance v tree layout)
-bounded_answer instance v b tree layout lawful is whole of_tree value floor size =
+    → IsFloor v ZERO_SCALE b → unsigned_abs v ≤ MAX_VALUE → IsSearchAnswer instance (bounded_found instance start v tree layout)
+bounded_answer instance start v b tree layout lawful is_start is whole of_tree value floor size =
     let lone = lone_root instance (leaf.Bound 0 b) in
-    let found = bounded_found instance v lone layout in
-    let result = bounded_is instance v b layout (subst (λ (t : Tree). IsLayoutOf t layout) is of_tree) value floor in
+    let found = bounded_found instance start v lone layout in
+    let result = bounded_is instance start v b layout is_start (subst (λ (t : Tree). IsLayoutOf t layout) is of_tree) value floor in
     let answer : IsSearchAnswer instance found = record {
       search = result;
+      most_on = is_start.most_on b;
+      schedule = schedule_true instance (certificate_of instance found) lawful result.truth.certificate;
       claim = claims_truly instance found lawful result;
-      text = found-has-text instance found lawful (subst IsWhole is whole) result.truth.certificate refl (bound_text v b floor size)
+      text = found-has-text instance found lawful (subst IsWhole is whole) result.truth.certificate
+          (has_schedule_text instance start.schedule is_start.priced) (bound_text v b floor size)
           (All-cons (λ (table : Table). length table.ramps < 10 ^ 18) (zero_table instance) [] (no_rows instance)
           (All-nil (λ (table : Table). length table.ramps < 10 ^ 18)));
     } in
-    subst (λ (t : Tree). IsSearchAnswer instance (bounded_found instance v t layout)) (sym is) answer
+    subst (λ (t : Tree). IsSearchAnswer instance (bounded_found instance start v t layout)) (sym is) answer
 
 -- what is answered where the root has a unit without a pattern
 abbrev pub excluded_found : Tree → Layout → Found
@@ -174,8 +179,6 @@ excluded_is instance g layout of_tree empty =
       spent = λ some. absurd (some refl);
       excluded = λ other first. (ap (λ unit. Ends (leaf.Empty unit)) (first_is_one instance g other empty first), refl);
       stage = record {
-        schedule = refl;
-        most_on = refl;
         claims = All-nil (IsFirstClaim found.tree instance found.tables);
         opened = tt;
       };
@@ -189,8 +192,10 @@ excluded_answer instance g tree layout lawful is whole of_tree empty =
     let result = excluded_is instance g layout (subst (λ (t : Tree). IsLayoutOf t layout) is of_tree) empty in
     let answer : IsSearchAnswer instance found = record {
       search = result;
+      most_on = refl;
+      schedule = λ written e. absurd (cc);
       claim = claims_truly instance found lawful result;
-      text = found-has-text instance found lawful (subst IsWhole is whole) result.truth.certificate refl tt
+      text = found-has-text instance found lawful (subst IsWhole is whole) result.truth.certificate tt tt
           (All-nil (λ (table : Table). length table.ramps < 10 ^ 18));
     } in
     subst (λ (t : Tree). IsSearchAnswer instance (excluded_found t layout)) (sym is) answer

@@ -33,7 +33,7 @@ stopped (Solves asked) files out err_old err_new end unopened code nothing told 
   ended = inr (record {
     fault = Memory;
     code = code;
-    failure = subst (IsFailure asked.exact (outside_of files out err_old) (outside_of files out err_new) Memory) (sym nothing)
+    failure = subst (IsFailure asked (outside_of files out err_old) (outside_of files out err_new) Memory) (sym nothing)
         (record { cause = tt; certificate = refl; out = refl });
     told = told;
   });

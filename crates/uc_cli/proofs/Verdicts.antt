@@ -48,7 +48,7 @@ in_file file cert text = record {
 }
 
 -- a schedule of a certificate that holds is one, and costs no more than is written
-schedule_true : (instance : Instance) (certificate : Certificate) → IsLawfulInstance instance → CertificateHolds instance certificate
+pub schedule_true : (instance : Instance) (certificate : Certificate) → IsLawfulInstance instance → CertificateHolds instance certificate
     → (written : WrittenSchedule) → certificate.schedule ≡ Some written → IsScheduleTrue instance written
 schedule_true instance certificate lawful holds written is =
     let scheduled = holds.schedule written is in

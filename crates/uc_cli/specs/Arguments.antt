@@ -21,15 +21,23 @@ abbrev pub one_alone : Text → Rule
 one_alone name =
     record (new_rule name) { long = Some name; parser = Some (Signed (pos 1) (pos 1)); defaults = codes "1" ∷ [] }
 
+-- `--gap PPM`, a whole number from 0 to a million, which is 1000 where the option isn't given
+abbrev pub gap_option : Rule
+gap_option = record (new_rule (codes "gap")) {
+  long = Some (codes "gap");
+  parser = Some (Signed (pos 0) (pos 1000000));
+  defaults = codes "1000" ∷ [];
+}
+
 -- `--NAME`
 abbrev pub switch : Text → Rule
 switch name = record (new_rule name) { long = Some name; action = Some SetTrue }
 
--- `solve FILE --cert FILE [--units N] [--workers N] [--exact]`
+-- `solve FILE --cert FILE [--units N] [--workers N] [--gap PPM] [--exact]`
 abbrev pub solve_shape : Shape
 solve_shape = record (new_shape (codes "solve")) {
   rules = place (codes "instance") ∷ needed_option (codes "cert") ∷ one_alone (codes "units") ∷ one_alone (codes "workers")
-      ∷ switch (codes "exact") ∷ [];
+      ∷ gap_option ∷ switch (codes "exact") ∷ [];
 }
 
 -- `check FILE CERT`

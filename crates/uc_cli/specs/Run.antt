@@ -8,26 +8,32 @@ use Rattle.outside.specs.declared.slot.Slot.TheVariants as slot
 use Rattle.outside.specs.Slots.{SlotState}
 use Rattle.branch_tree.specs.StoredTree.{tree_bound}
 use Rattle.branch_tree.specs.Closing.{status_of}
-use Rattle.branch_tree.specs.Claims.{certificate_of}
+use Rattle.dual_model.specs.Certificate.{WrittenSchedule}
+use Rattle.branch_tree.specs.Claims.{certificate_of, written_of}
 use Rattle.branch_tree.specs.SearchResult.{IsSearchResult}
 use Rattle.cert_text.specs.CertificateText.{listing_of}
 use Rattle.cert_text.specs.TextConditions.{HasText}
 use Rattle.branch_tree.specs.declared.found.Found.{Found}
 use Rattle.report.specs.FaultText as fault_text
+use Rattle.report.specs.FoundReport.{found_report}
 use Rattle.report.specs.declared.fault.Fault.{Fault}
 use Rattle.report.specs.declared.fault.Fault.TheVariants.{Words, Write, Memory}
 use Rattle.uc_cli.specs.Outside.{Outside}
 use Rattle.uc_cli.specs.Command.{Solve, Command, Solves, Checks}
 use Rattle.uc_cli.specs.Reading.{most_bytes, HasInstance, HasCause, IsOpenedByNoOther, IsOnlyRead}
-use Rattle.uc_cli.specs.Checking.{IsCheckRun}
-use Rattle.uc_cli.specs.Writing.{default_gap, text_of_certificate, text_of_report, IsSaved, FailsToSave, IsTold, FailsToTell, TellsFault}
+use Rattle.uc_cli.specs.Checking.{IsCheckRun, IsScheduleTrue}
+use Rattle.uc_cli.specs.MostOnDispatch.{FollowsMostOn}
+use Rattle.uc_cli.specs.Writing.{text_of_certificate, IsSaved, FailsToSave, IsTold, FailsToTell, TellsFault}
 use Rattle.uc_cli.specs.declared.program.End.{End}
 
--- an answer for the instance in the file: what was found, that its bound, or that there is no schedule, is true of
--- every schedule, and that its certificate has a text of the grammar
+-- an answer for the instance in the file: what was found, by one evaluation and from the most-on commitment; that its schedule
+-- obeys and costs at most what is printed; that its bound, or that there is no schedule, is true of every schedule; and that
+-- its certificate has a text of the grammar
 pub record IsAnswer (exact : Bool) (file : SlotState) (instance : Instance) (rounded : ℕ) (found : Found) : Type 0 where
   pub read : HasInstance exact file instance rounded
   pub search : IsSearchResult instance 1 found
+  pub most_on : FollowsMostOn instance found.schedule (tree_bound found.tree) found.most_on
+  pub schedule : (written : WrittenSchedule) → written_of found.schedule ≡ Some written → IsScheduleTrue instance written
   pub claim : IsClaimTrue instance (tree_bound found.tree)
   pub text : HasText (listing_of (certificate_of instance found))
 
@@ -38,10 +44,10 @@ pub record HasAnswer (exact : Bool) (before : Outside) (found : Found) : Type 0 
   pub answer : IsAnswer exact (before.files slot.Instance) instance rounded found
 
 -- the run answered: the certificate is saved and the report told
-pub record IsDone (exact : Bool) (before after : Outside) (found : Found) : Type 0 where
-  pub has : HasAnswer exact before found
+pub record IsDone (asked : Solve) (before after : Outside) (found : Found) : Type 0 where
+  pub has : HasAnswer asked.exact before found
   pub saved : IsSaved (text_of_certificate has.instance found) (before.files slot.CertOut) (after.files slot.CertOut)
-  pub told : IsTold (text_of_report has.instance found has.rounded) before.out after.out
+  pub told : IsTold (found_report has.instance found has.rounded asked.gap) before.out after.out
   pub calm : (s : Slot) → (after.files s).faults ≡ (before.files s).faults
 
 -- the run found an answer and could not write its certificate; nothing was written to the output
@@ -51,10 +57,10 @@ pub record IsUnsaved (exact : Bool) (before after : Outside) (found : Found) : T
   pub out : after.out ≡ before.out
 
 -- the run found an answer, saved its certificate and could not write its report
-pub record IsUntold (exact : Bool) (before after : Outside) (found : Found) : Type 0 where
-  pub has : HasAnswer exact before found
+pub record IsUntold (asked : Solve) (before after : Outside) (found : Found) : Type 0 where
+  pub has : HasAnswer asked.exact before found
   pub saved : IsSaved (text_of_certificate has.instance found) (before.files slot.CertOut) (after.files slot.CertOut)
-  pub report : FailsToTell (text_of_report has.instance found has.rounded) before.out after.out
+  pub report : FailsToTell (found_report has.instance found has.rounded asked.gap) before.out after.out
 
 -- a fault ended the run before anything was written
 pub record IsStopped (exact : Bool) (before after : Outside) (fault : Fault) : Type 0 where
@@ -63,11 +69,11 @@ pub record IsStopped (exact : Bool) (before after : Outside) (fault : Fault) : T
   pub out : after.out ≡ before.out
 
 -- how a run of `solve` ended with a fault
-abbrev pub IsFailure : Bool → Outside → Outside → Fault → Option Found → Type 0
-IsFailure exact before after (Write false) (Some found) = IsUnsaved exact before after found
-IsFailure exact before after (Write true) (Some found) = IsUntold exact before after found
-IsFailure exact before after fault None = IsStopped exact before after fault
-IsFailure exact before after fault (Some found) = ⊥
+abbrev pub IsFailure : Solve → Outside → Outside → Fault → Option Found → Type 0
+IsFailure asked before after (Write false) (Some found) = IsUnsaved asked.exact before after found
+IsFailure asked before after (Write true) (Some found) = IsUntold asked before after found
+IsFailure asked before after fault None = IsStopped asked.exact before after fault
+IsFailure asked before after fault (Some found) = ⊥
 
 -- each slot that isn't unopened was opened by its name in the words; the instance is only read, and no certificate is
 pub record KeepsToFiles (asked : Solve) (before after : Outside) : Type 0 where
@@ -80,15 +86,15 @@ pub record KeepsToFiles (asked : Solve) (before after : Outside) : Type 0 where
 pub record IsAnswered (asked : Solve) (before after : Outside) (end : End) : Type 0 where
   pub found : Found
   pub is_found : end.found ≡ Some found
-  pub code : end.code ≡ status_of found default_gap
-  pub done : IsDone asked.exact before after found
+  pub code : end.code ≡ status_of found asked.gap
+  pub done : IsDone asked before after found
   pub silent : after.err ≡ before.err
 
 -- the run met a fault, which has its cause, and told it
 pub record IsFaulty (asked : Solve) (before after : Outside) (end : End) : Type 0 where
   pub fault : Fault
   pub code : end.code ≡ fault_text.status_of fault
-  pub failure : IsFailure asked.exact before after fault end.found
+  pub failure : IsFailure asked before after fault end.found
   pub told : TellsFault fault before.err after.err
 
 -- a run of `solve`

@@ -9,20 +9,12 @@ use Rattle.outside.specs.Sinks.{SinkState}
 use Rattle.branch_tree.specs.Claims.{certificate_of}
 use Rattle.branch_tree.specs.declared.found.Found.{Found}
 use Rattle.cert_text.specs.CertificateText.{certificate_text}
-use Rattle.report.specs.FoundReport.{found_report}
 use Rattle.report.specs.FaultText.{fault_text}
 use Rattle.report.specs.declared.fault.Fault.{Fault}
 
--- the gap in parts per million where the words give none
-abbrev pub default_gap : ℕ
-default_gap = 1000
-
--- the certificate and the report of what was found
+-- the certificate of what was found
 abbrev pub text_of_certificate : Instance → Found → List ℕ
 text_of_certificate instance found = certificate_text (certificate_of instance found)
-
-abbrev pub text_of_report : Instance → Found → ℕ → List ℕ
-text_of_report instance found rounded = found_report instance found rounded default_gap
 
 -- the certificate's slot is finished, its bytes, where they are told, are these, and no fault was counted
 pub record IsSaved (text : List ℕ) (old new : SlotState) : Type 0 where

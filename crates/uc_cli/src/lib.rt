@@ -6,6 +6,7 @@ mod certificate;
 mod check;
 mod command;
 mod input;
+mod most_on;
 mod output;
 mod program;
 mod search;

@@ -1,21 +1,20 @@
 //! Writing the certificate, the report and the line of a fault.
 
-ghost use Rattle.std.specs.Prelude.{◌≡◌, OnOk, OnErr};
+ghost use Rattle.std.specs.Prelude.{◌≡◌, ◌≤◌, OnOk, OnErr};
 ghost use Rattle.uc_model.specs.declared.instance.Instance.{Instance};
 ghost use Rattle.outside.specs.declared.slot.Slot.TheVariants.{CertOut};
 ghost use Rattle.outside.specs.declared.slot.Stage.TheVariants.{Unopened};
 ghost use Rattle.outside.specs.Slots.{SameBut};
 ghost use Rattle.branch_tree.specs.Claims.{HasLayout};
 ghost use Rattle.uc_cli.specs.Reading.{IsOpenedByNoOther};
-ghost use Rattle.uc_cli.specs.Writing.{IsSaved, FailsToSave, IsTold, FailsToTell, TellsFault, text_of_certificate, text_of_report};
+ghost use Rattle.uc_cli.specs.Writing.{IsSaved, FailsToSave, IsTold, FailsToTell, TellsFault, text_of_certificate};
+ghost use Rattle.report.specs.FoundReport.{found_report};
 
 use branch_tree::Found;
 use outside::{Failed, Files, Sink, Slot, SlotWriter};
 use report::{Fault, write_fault, write_found};
 use uc_model::Instance;
-
-/// The gap in parts per million where the words give none.
-pub(crate) const DEFAULT_GAP: u32 = 1000;
+use uc_model::tolerance::WHOLE_GAP;
 
 /// Writes the certificate to its slot, and finishes it.
 pub(crate) fn save<F: Files>(
@@ -37,17 +36,19 @@ pub(crate) fn save<F: Files>(
     files.finish(Slot::CertOut)
 }
 
-/// Writes the report, and flushes it.
+/// Writes the report, by the gap in parts per million, and flushes it.
 pub(crate) fn tell<O: Sink>(
     out: &mut O,
     found: &Found,
     instance: &Instance,
     rounded: u64,
+    gap: u32,
 ) -> Result<(), Failed>
-    ensures told { OnOk result (IsTold (text_of_report instance.now found.now rounded) (O.state out.old) (O.state out.new)) }
-    ensures failed { OnErr result (FailsToTell (text_of_report instance.now found.now rounded) (O.state out.old) (O.state out.new)) }
+    requires { gap ≤ WHOLE_GAP }
+    ensures told { OnOk result (IsTold (found_report instance.now found.now rounded gap) (O.state out.old) (O.state out.new)) }
+    ensures failed { OnErr result (FailsToTell (found_report instance.now found.now rounded gap) (O.state out.old) (O.state out.new)) }
 {
-    write_found(out, found, instance, rounded, DEFAULT_GAP)?;
+    write_found(out, found, instance, rounded, gap)?;
     out.flush()
 }
 

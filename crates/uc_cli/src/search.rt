@@ -1,4 +1,4 @@
-//! The search: the value of the root at the table of no prices.
+//! The search: the value of the root at the table of no prices, and the schedule of the most-on commitment.
 
 ghost use Rattle.std.specs.Prelude.{◌≡◌, ◌≤◌, unsigned_abs, [], ◌∷◌, IfOk, IfErr, MatchOption};
 ghost use Rattle.uc_model.specs.Limits.{IsLawfulInstance};
@@ -9,8 +9,9 @@ ghost use Rattle.dual_model.specs.TableValue.{IsLawfulScale};
 ghost use Rattle.dual_model.specs.Tree.{root};
 ghost use Rattle.dual_value.specs.NodeAnswer.{IsFaultOf, IsValued, MAX_VALUE};
 ghost use Rattle.branch_tree.specs.TreeView.{IsWhole};
-ghost use Rattle.uc_cli.specs.inside.Search.{HasEachPattern, IsSearchAnswer, lone_root};
+ghost use Rattle.uc_cli.specs.inside.Search.{HasEachPattern, IsSearchAnswer, IsStart, lone_root};
 
+use crate::most_on::{Start, dispatch_most_on};
 use branch_tree::{Entry, Found, Layout, Leaf, Outcome, Tree};
 use dual_model::{Node, Table};
 use dual_value::{ValueFault, Valued, value};
@@ -121,11 +122,18 @@ fn excluded(alloc: Global, instance: &Instance, g: u32) -> Result<Found, NoMemor
     })
 }
 
-// The root is bounded by its value at the table of no prices, which the one claim gave.
-fn bounded(alloc: Global, instance: &Instance, value: &i128) -> Result<Found, NoMemory>
+// The root is bounded by its value at the table of no prices, which the one claim gave; the schedule is that of the most-on
+// commitment, where this one isn't stuck.
+fn bounded(
+    alloc: Global,
+    instance: &Instance,
+    value: &i128,
+    start: Start,
+) -> Result<Found, NoMemory>
     requires lawful { IsLawfulInstance instance.now }
     requires value { IsNodeValue instance.now root (zero_table instance.now) value.now }
     requires size { unsigned_abs value.now ≤ MAX_VALUE }
+    requires start { IsStart instance.now start }
     ensures { IfOk result (IsSearchAnswer instance.now) }
 {
     let claim = Entry {
@@ -145,17 +153,17 @@ fn bounded(alloc: Global, instance: &Instance, value: &i128) -> Result<Found, No
     let tree = lone_root(alloc, instance, leaf)?;
     let layout = Layout::of(alloc, &tree, 1)?;
     Ok(Found {
-        schedule: None,
+        schedule: start.schedule,
         tree,
         tables,
         log,
-        most_on: None,
+        most_on: start.most_on,
         layout,
     })
 }
 
-/// What the search finds: a leaf for the first unit without an allowed pattern, without any claim, or the
-/// bound of the one claim, which enters the gate as unit 1 of worker 0.
+/// What the search finds: a leaf for the first unit without an allowed pattern, without any claim; or the bound of the one
+/// claim, which enters the gate as unit 1 of worker 0, and what the most-on commitment gives.
 pub(crate) fn search<R: Wait, G: Gate>(
     rt: &R,
     alloc: Global,
@@ -170,5 +178,6 @@ pub(crate) fn search<R: Wait, G: Gate>(
     }
     gate.enter(rt, 0, 1);
     let value = evaluate(alloc, instance)?;
-    bounded(alloc, instance, &value)
+    let start = dispatch_most_on(alloc, instance)?;
+    bounded(alloc, instance, &value, start)
 }

@@ -1,6 +1,6 @@
 //! A run of `solve`.
 
-ghost use Rattle.std.specs.Prelude.{◌≡◌, None, Some, IfOk, IfErr};
+ghost use Rattle.std.specs.Prelude.{◌≡◌, ◌≤◌, None, Some, IfOk, IfErr};
 ghost use Rattle.outside.specs.declared.slot.Slot.{Slot};
 ghost use Rattle.outside.specs.declared.slot.Slot.TheVariants as slot;
 ghost use Rattle.outside.specs.declared.slot.Stage.TheVariants.{Unopened};
@@ -13,7 +13,7 @@ ghost use Rattle.uc_cli.specs.inside.Asked.{solve_asked};
 
 use crate::command::Solve;
 use crate::input::read_instance;
-use crate::output::{DEFAULT_GAP, save, tell, tell_fault};
+use crate::output::{save, tell, tell_fault};
 use crate::program::End;
 use crate::search::search;
 use branch_tree::Found;
@@ -21,6 +21,7 @@ use outside::{Files, Gate, Sink, Slot};
 use report::Fault;
 use std::alloc::Global;
 use std::sync::Wait;
+use uc_model::tolerance::WHOLE_GAP;
 use uc_model::{Instance, NoMemory};
 
 /// What was found for the instance of a file.
@@ -74,10 +75,11 @@ fn find_and_write<R: Wait, F: Files, O: Sink, G: Gate>(
     out: &mut O,
     gate: &G,
 ) -> Result<Found, Failure>
-    requires { AllUnopened (F.state files.old) }
-    ensures done { (err_old err_new : SinkState) → IfOk result (IsDone asked.now.exact
+    requires unopened { AllUnopened (F.state files.old) }
+    requires gap { asked.now.gap ≤ WHOLE_GAP }
+    ensures done { (err_old err_new : SinkState) → IfOk result (IsDone (solve_asked asked.now)
         (outside_of (F.state files.old) (O.state out.old) err_old) (outside_of (F.state files.new) (O.state out.new) err_new)) }
-    ensures failed { (err_old err_new : SinkState) → IfErr result (λ f. IsFailure asked.now.exact
+    ensures failed { (err_old err_new : SinkState) → IfErr result (λ f. IsFailure (solve_asked asked.now)
         (outside_of (F.state files.old) (O.state out.old) err_old) (outside_of (F.state files.new) (O.state out.new) err_new) f.fault f.found) }
     ensures files { (err_old err_new : SinkState) → KeepsToFiles (solve_asked asked.now)
         (outside_of (F.state files.old) (O.state out.old) err_old) (outside_of (F.state files.new) (O.state out.new) err_new) }
@@ -92,7 +94,15 @@ fn find_and_write<R: Wait, F: Files, O: Sink, G: Gate>(
             found: Some(answer.found),
         });
     }
-    if tell(out, &answer.found, &answer.instance, answer.rounded).is_err() {
+    if tell(
+        out,
+        &answer.found,
+        &answer.instance,
+        answer.rounded,
+        asked.gap,
+    )
+    .is_err()
+    {
         return Err(Failure {
             fault: Fault::Write { output: true },
             found: Some(answer.found),
@@ -111,13 +121,14 @@ pub(crate) fn solve<R: Wait, F: Files, O: Sink, E: Sink, G: Gate>(
     err: &mut E,
     gate: &G,
 ) -> End
-    requires { AllUnopened (F.state files.old) }
+    requires unopened { AllUnopened (F.state files.old) }
+    requires gap { asked.now.gap ≤ WHOLE_GAP }
     ensures { IsSolveRun (solve_asked asked.now) (outside_of (F.state files.old) (O.state out.old) (E.state err.old))
         (outside_of (F.state files.new) (O.state out.new) (E.state err.new)) result }
 {
     match find_and_write(rt, alloc, asked, files, out, gate) {
         Ok(found) => End {
-            code: found.status(DEFAULT_GAP),
+            code: found.status(asked.gap),
             found: Some(found),
         },
         Err(failure) => {

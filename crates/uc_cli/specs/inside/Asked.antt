@@ -1,5 +1,5 @@
 -- What the program's own form of a command asks for, and when it finds none.
-use Rattle.std.specs.Prelude.{◌≡◌, ℕ, false, List}
+use Rattle.std.specs.Prelude.{◌≡◌, ℕ, ◌≤◌, ⊤, false, List}
 use Rattle.clap.specs.declared.error.kind.ErrorKind.{ErrorKind}
 use Rattle.clap.specs.declared.error.kind.ErrorKind.TheVariants as kind
 use Rattle.report.specs.declared.fault.Fault.{Fault}
@@ -12,7 +12,8 @@ use Rattle.uc_cli.specs.declared.command.Command.{Command as CommandWords}
 use Rattle.uc_cli.specs.declared.command.Command.TheVariants as forms
 
 abbrev pub solve_asked : SolveWords → Solve
-solve_asked solve = record { instance = solve.instance.now; certificate = solve.certificate.now; exact = solve.exact }
+solve_asked solve =
+    record { instance = solve.instance.now; certificate = solve.certificate.now; gap = solve.gap; exact = solve.exact }
 
 abbrev pub check_asked : CheckWords → Check
 check_asked check = record { instance = check.instance.now; certificate = check.certificate.now }
@@ -20,6 +21,11 @@ check_asked check = record { instance = check.instance.now; certificate = check.
 abbrev pub command_asked : CommandWords → Command
 command_asked (forms.Solve solve) = Solves (solve_asked solve)
 command_asked (forms.Check check) = Checks (check_asked check)
+
+-- the gap that `solve` is asked is at most the whole of a cost
+abbrev pub HasGap : CommandWords → Type 0
+HasGap (forms.Solve solve) = solve.gap ≤ 1000000
+HasGap (forms.Check check) = ⊤
 
 -- the fault of an error of the parser
 abbrev pub refusal_of : ErrorKind → Fault

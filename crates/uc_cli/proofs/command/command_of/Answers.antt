@@ -11,7 +11,7 @@ returns-in-Some-clause-taken c = taken _ _ c.in-Ok.ensures c.in-Ok-try_get_match
 pub returns-in-Some-clause-command : goal.returns-in-Some-clause-command
 returns-in-Some-clause-command c =
     sym (found _ _ _ (Some c.in-Some.command) c.in-Ok.ensures (taken _ _ c.in-Ok.ensures c.in-Ok-try_get_matches_from.ensures.kinds)
-    c.in-Ok-try_get_matches_from.ensures.matches c.in-Some.ensures)
+    c.in-Ok-try_get_matches_from.ensures.matches c.in-Some.ensures.command)
 
 pub returns-clause-refused : goal.returns-clause-refused
 returns-clause-refused c = subst (IsRefusal _) (sym c.refusal.ensures) (refused _ _ _ c.in-Ok.ensures c.in-Err.ensures.kinds)

@@ -5,13 +5,13 @@ use Rattle.std.proofs.lemmas.Result.{on_err_weaker}
 use Rattle.outside.specs.Counts.{HasRisen}
 use Rattle.outside.specs.ToldBytes.{Appends}
 use Rattle.outside.proofs.Appending.{all-appended}
-use Rattle.uc_cli.specs.Writing.{text_of_report}
+use Rattle.report.specs.FoundReport.{found_report}
 use Rattle.uc_cli.proofs.output.tell.Goals as goal
 
 pub returns-clause-failed : goal.returns-clause-failed
 returns-clause-failed g c =
     let state = g.O.Sink.state in
-    let text = text_of_report c.args.instance.now c.args.found.now c.args.rounded in
+    let text = found_report c.args.instance.now c.args.found.now c.args.rounded c.args.gap in
     let before = state c.args.out.now in
     let end = state c.flush.new.self in
     on_err_weaker c.flush.result (λ fault.
