@@ -1,0 +1,2 @@
+pub mod RayTables
+pub mod UnpricedTables
