@@ -6,3 +6,4 @@ pub mod CornerSizes
 pub mod UnitPoints
 pub mod FirstSegments
 pub mod HullExists
+pub mod Slopes

@@ -37,6 +37,13 @@ impl Room {
         let rows = vec![in alloc; (0, 0, 0); instance.periods as usize]?;
         Ok(Room { curves, rows })
     }
+
+    /// The curve of each thermal unit.
+    pub fn curves(&self) -> &[Curve]
+        ensures { result.now ≡ self.now.curves }
+    {
+        &self.curves
+    }
 }
 
 // The curve of each unit.

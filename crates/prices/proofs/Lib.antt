@@ -1,2 +1,5 @@
+pub mod GreatestSlopes
+pub mod OnCells
+pub mod PricedPeriods
 pub mod RayTables
 pub mod UnpricedTables

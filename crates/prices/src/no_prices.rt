@@ -1,6 +1,6 @@
 //! Tables at which every price is 0.
 
-ghost use Rattle.std.specs.Prelude.{◌≡◌, IfOk};
+ghost use Rattle.std.specs.Prelude.{◌≡◌, pos, IfOk, replicate};
 ghost use Rattle.uc_model.specs.Limits.{IsLawfulInstance};
 ghost use Rattle.dual_model.specs.Opening.{unpriced_table, zero_table};
 ghost use Rattle.dual_model.specs.Prices.{IsLawfulTable};
@@ -30,7 +30,14 @@ pub fn unpriced(alloc: Global, instance: &Instance, k: i64) -> Result<Table, NoM
     ensures table { IfOk result (λ table. table ≡ unpriced_table instance.now k) }
     ensures lawful { IfOk result (IsLawfulTable instance.now) }
 {
-    let zeros = vec![in alloc; 0_i64; instance.periods as usize]?;
+    let zeros = zeros(alloc, instance.periods as usize)?;
     let units = instance.thermal.as_slice().len() as u32;
     Table::new(alloc, units, k, &zeros, &zeros, &[])
+}
+
+/// A price of 0 in each period.
+pub(crate) fn zeros(alloc: Global, periods: usize) -> Result<Vec<i64>, NoMemory>
+    ensures { IfOk result (λ zeros. zeros.items ≡ replicate periods (pos 0)) }
+{
+    Ok(vec![in alloc; 0; periods]?)
 }

@@ -9,6 +9,7 @@ ghost use Rattle.dual_model.specs.Opening.{falls_short as falls_short_at, first_
 ghost use Rattle.dual_model.specs.Prices.{IsLawfulTable};
 ghost use Rattle.prices.specs.inside.Rays.{down_of, named_by, up_of};
 
+use crate::no_prices::zeros;
 use dual_model::{RampRow, Table};
 use std::alloc::Global;
 use uc_model::limits::{MAX_PERIODS, MAX_POWER};
@@ -114,7 +115,7 @@ fn prices(alloc: Global, periods: usize, t: usize, price: &i64) -> Result<Vec<i6
     requires { t < periods }
     ensures { IfOk result (λ prices. prices.items ≡ price_in periods t price.now) }
 {
-    let mut prices = vec![in alloc; 0_i64; periods]?;
+    let mut prices = zeros(alloc, periods)?;
     prices[t] = *price;
     Ok(prices)
 }
