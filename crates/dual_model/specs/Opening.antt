@@ -3,12 +3,13 @@
 -- rays are tried, and in what order, is this project's own choice.
 --
 -- Units and periods count from 0 here.
-use Rattle.std.specs.Prelude.{ℕ, zero, suc, ◌+◌, ◌-◌, ◌*◌, ◌/◌, ◌%◌, Bool, false, ◌&&◌, ◌||◌, nat_lt, List, [], ◌∷◌, ◌++◌, ℤ, pos, neg_ℤ, ◌+ℤ◌, ◌-ℤ◌, int_lt, replicate, slice_set, slice_index_or, if◌then◌else◌}
+use Rattle.std.specs.Prelude.{◌≡◌, ℕ, zero, suc, ◌+◌, ◌-◌, ◌*◌, ◌/◌, ◌%◌, ◌<◌, Bool, false, ◌&&◌, ◌||◌, ◌==◌, nat_lt, List, [], ◌∷◌, ◌++◌, ℤ, pos, neg_ℤ, ◌+ℤ◌, ◌-ℤ◌, int_lt, replicate, slice_set, slice_index_or, if◌then◌else◌}
 use Rattle.uc_model.specs.Sums.{bit}
 use Rattle.uc_model.specs.Commitment.{initial_p}
 use Rattle.uc_model.specs.Schedule.{thermal_count, thermal_unit}
 use Rattle.uc_model.specs.declared.instance.Instance.{Instance}
 use Rattle.uc_model.specs.declared.instance.Thermal.{Thermal}
+use Rattle.dual_model.specs.Prices.{pi_at, mu_at, up_at, down_at}
 use Rattle.dual_model.specs.declared.table.Table.{Table}
 use Rattle.dual_model.specs.declared.table.RampRow.{RampRow}
 
@@ -117,3 +118,17 @@ ray_prices instance t ray = record {
 -- the table of the opening's ray n, from 0
 abbrev pub ray_table : Instance → ℕ → Table
 ray_table instance n = ray_prices instance (ray_period instance.periods n) (ray_at instance.periods n)
+
+-- ---- the same number by number
+-- the numbers of a table are those that a ray names in period t: pi and mu there, a multiplier of 1 in the first period for each
+-- unit that is named, and 0 everywhere else
+pub record HasNumbersOf (instance : Instance) (t : ℕ) (ray : OpeningRay) (table : Table) : Type 0 where
+  pub scale : table.k ≡ pos 0
+  pub demand : (s : ℕ) → s < instance.periods → pi_at table s ≡ (if s == t then ray.demand else pos 0)
+  pub reserve : (s : ℕ) → s < instance.periods → mu_at table s ≡ (if s == t then ray.reserve else pos 0)
+  pub up : (g s : ℕ) → g < thermal_count instance → up_at table g s ≡ (if s == 0 then bit (ray.up (thermal_unit instance g)) else pos 0)
+  pub down : (g s : ℕ) → g < thermal_count instance → down_at table g s ≡ (if s == 0 then bit (ray.down (thermal_unit instance g)) else pos 0)
+
+-- those of the opening's ray n, from 0
+abbrev pub HasRayNumbers : Instance → ℕ → Table → Type 0
+HasRayNumbers instance n table = HasNumbersOf instance (ray_period instance.periods n) (ray_at instance.periods n) table

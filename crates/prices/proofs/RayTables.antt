@@ -31,8 +31,8 @@ rows-more instance up down g unit rows is before =
     next n = omega arith
 
 -- a row of a unit below n in the first period, with multipliers of 0 and 1 that aren't both 0
-record IsFirstRow (n : ℕ) (row : RampRow) : Type 0 where
-  unit : row.g < n
+pub record IsFirstRow (n : ℕ) (row : RampRow) : Type 0 where
+  pub unit : row.g < n
   period : row.t ≡ 0
   present : (row.up ≢ pos 0) ⊎ (row.down ≢ pos 0)
   up : pos 0 ≤ℤ row.up
@@ -72,7 +72,7 @@ more_units n row is = record {
   down_size = is.down_size;
 }
 
-rows_within : (instance : Instance) (up down : Thermal → Bool) (n : ℕ) → All (IsFirstRow n) (first_rows instance up down n)
+pub rows_within : (instance : Instance) (up down : Thermal → Bool) (n : ℕ) → All (IsFirstRow n) (first_rows instance up down n)
 rows_within instance up down zero = All-nil (IsFirstRow zero)
 rows_within instance up down (suc n) =
     All-append (IsFirstRow (suc n)) (first_rows instance up down n) (first_row n (up (thermal_unit instance n)) (down (thermal_unit instance n)))

@@ -5,7 +5,7 @@ ghost use Rattle.uc_model.specs.Sums.{bit};
 ghost use Rattle.uc_model.specs.Commitment.{initial_p};
 ghost use Rattle.uc_model.specs.Limits.{IsLawfulInstance, IsLawfulThermal};
 ghost use Rattle.uc_model.specs.Schedule.{thermal_count};
-ghost use Rattle.dual_model.specs.Opening.{falls_short as falls_short_at, first_row, first_rows, no_ray, period_rays, price_in, ramp_rays, ray_at, ray_count, ray_period, ray_table, rises_short as rises_short_at, stays_below as stays_below_at};
+ghost use Rattle.dual_model.specs.Opening.{HasRayNumbers, falls_short as falls_short_at, first_row, first_rows, no_ray, period_rays, price_in, ramp_rays, ray_at, ray_count, ray_period, ray_table, rises_short as rises_short_at, stays_below as stays_below_at};
 ghost use Rattle.dual_model.specs.Prices.{IsLawfulTable};
 ghost use Rattle.prices.specs.inside.Rays.{down_of, named_by, up_of};
 
@@ -43,6 +43,7 @@ pub fn opening_ray(alloc: Global, instance: &Instance, n: u32) -> Result<Table, 
     requires lawful { IsLawfulInstance instance.now }
     requires number { n < ray_count instance.now.periods }
     ensures table { IfOk result (λ table. table ≡ ray_table instance.now n) }
+    ensures numbers { IfOk result (HasRayNumbers instance.now n) }
     ensures lawful { IfOk result (IsLawfulTable instance.now) }
 {
     let ray = ray_of(instance.periods, n);
