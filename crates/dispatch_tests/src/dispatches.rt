@@ -1,7 +1,8 @@
 //! Commitments with their dispatch, or where and why they get stuck.
 
-use crate::systems::{System, instance};
+use crate::systems::instance;
 use dispatch_repair::{DispatchFault, dispatch};
+use sample_instances::System;
 use schedule_check::check;
 use std::alloc::Global;
 use std::test::Fail;

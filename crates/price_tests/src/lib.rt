@@ -1,0 +1,9 @@
+//! Tests of the prices that a search tries.
+#![tactic(auto)]
+
+#[cfg(test)]
+mod marginals;
+#[cfg(test)]
+mod openings;
+#[cfg(test)]
+mod systems;
