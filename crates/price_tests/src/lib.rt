@@ -6,4 +6,6 @@ mod marginals;
 #[cfg(test)]
 mod openings;
 #[cfg(test)]
+mod steps;
+#[cfg(test)]
 mod systems;

@@ -1,2 +1,3 @@
 pub mod Marginal
+pub mod Steps
 pub mod inside

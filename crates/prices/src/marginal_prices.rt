@@ -8,13 +8,13 @@ ghost use Rattle.uc_model.specs.Schedule.{thermal_count};
 ghost use Rattle.cost_curves.specs.LowerHull.{width_of};
 ghost use Rattle.dual_model.specs.Prices.{IsLawfulTable, IsPrice};
 ghost use Rattle.dual_value.specs.Rooms.{IsRoomOf};
-ghost use Rattle.prices.specs.Marginal.{IsMarginalPrice, IsMarginalTable, IsPriceAt, IsRunning, kept_within};
+ghost use Rattle.prices.specs.Marginal.{IsMarginalPrice, IsMarginalTable, IsPriceAt, IsRunning};
 ghost use Rattle.prices.specs.inside.Slopes.{AreOutputsWithin, ArePriced, IsCellSlope, IsGreatestOf, steeper_of, steeper_slope as steeper_slope_of};
 
+use crate::limited::kept;
 use crate::no_prices::{SCALE, zeros};
 use cost_curves::{Curve, Slope};
 use dual_model::Table;
-use dual_model::limits::MAX_PRICE;
 use dual_value::Room;
 use std::alloc::Global;
 use uc_model::{Cell, Instance, NoMemory, Printed, floor_div, scaled};
@@ -150,15 +150,6 @@ fn price_at(slope: &Slope) -> i64
 {
     let price = floor_div(scaled(SCALE, slope.rise), i128::from(slope.run));
     kept(&price)
-}
-
-// A price kept within the limit in size.
-fn kept(price: &i128) -> i64
-    ensures value { result ≡ kept_within MAX_PRICE price.now }
-    ensures size { IsPrice result }
-{
-    let limit = i128::from(MAX_PRICE);
-    (*price).min(limit).max(-limit) as i64
 }
 
 // The cell of thermal unit g in period t.
