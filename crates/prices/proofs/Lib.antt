@@ -4,3 +4,4 @@ pub mod PricedPeriods
 pub mod RayNumbers
 pub mod RayTables
 pub mod UnpricedTables
+pub mod LawfulRows

@@ -1,14 +1,21 @@
 //! The prices that a search tries: the table of no prices, the rays of its opening, the prices of a dispatch, and the table to
-//! try next at a node.
+//! try next at a node, which an ascent finds.
 #![tactic(auto)]
 
+mod ascent;
+mod bundle;
+mod evaluation;
 pub mod laws;
 mod limited;
 mod marginal_prices;
+mod merit;
 mod no_prices;
+mod outputs;
+mod price_list;
 mod rays;
 mod steps;
 
+pub use ascent::{Ascent, ascend};
 pub use marginal_prices::{marginal, marginal_in};
 pub use no_prices::{unpriced, zero};
 pub use rays::opening_ray;
