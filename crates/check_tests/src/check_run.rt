@@ -1,7 +1,6 @@
 //! A run of `check` on devices in memory.
 
-use crate::tally::Tally;
-use outside::{Devices, FailingCall, FaultyFile, FaultySink, Pace, Stage};
+use outside::{Devices, FailingCall, FaultyFile, FaultySink, OpenGate, Pace, Stage};
 use std::alloc::{AllocError, Global};
 use std::process::Abort;
 use std::sync::Wait;
@@ -61,8 +60,7 @@ pub(crate) fn assert_check<R: Threads + Wait + Sync + Abort>(
     );
     let mut out = FaultySink::new(alloc, input.untold, pace)?;
     let mut err = FaultySink::new(alloc, &[], pace)?;
-    let gate = Tally::new();
-    let end = uc(rt, alloc, &words, &mut files, &mut out, &mut err, &gate);
+    let end = uc(rt, alloc, &words, &mut files, &mut out, &mut err, &OpenGate);
     assert_eq!(rt; end.code, ending.code);
     assert!(rt; end.found.is_none());
     assert!(rt; files.cert_out.memory.stage() == Stage::Unopened);

@@ -1,8 +1,7 @@
 //! The schedule of a system of ten units, which `check` accepts.
 
 use crate::check_run::{Ending, Input, assert_check};
-use crate::tally::Tally;
-use outside::{Devices, FaultyFile, FaultySink, Pace};
+use outside::{Devices, FaultyFile, FaultySink, OpenGate, Pace};
 use sample_instances::KAZARLIS;
 use std::alloc::{AllocError, Global};
 use std::process::Abort;
@@ -48,8 +47,7 @@ fn assert_scheduled<R: Threads + Wait + Sync + Abort>(
     );
     let mut out = FaultySink::new(alloc, &[], pace)?;
     let mut err = FaultySink::new(alloc, &[], pace)?;
-    let gate = Tally::new();
-    let end = uc(rt, alloc, &words, &mut files, &mut out, &mut err, &gate);
+    let end = uc(rt, alloc, &words, &mut files, &mut out, &mut err, &OpenGate);
     assert_eq!(rt; end.code, 1);
     let claims = claims(alloc, out.memory.flushed().unwrap_or_default())?;
     assert!(rt; claims.starts_with(cost));
