@@ -1,0 +1,11 @@
+//! The demo generator: the instance that a seed stands for.
+#![tactic(auto)]
+
+mod generator;
+mod millions;
+mod numbers;
+mod system;
+mod unit;
+mod units;
+
+pub use system::instance;
