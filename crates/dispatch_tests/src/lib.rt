@@ -2,6 +2,8 @@
 #![tactic(auto)]
 
 #[cfg(test)]
+mod demos;
+#[cfg(test)]
 mod dispatches;
 #[cfg(test)]
 mod systems;
