@@ -1,6 +1,7 @@
 //! The demo generator: the instance that a seed stands for.
 #![tactic(auto)]
 
+pub mod examples;
 mod generator;
 mod millions;
 mod numbers;
