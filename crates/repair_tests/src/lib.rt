@@ -1,0 +1,5 @@
+//! Tests of the repair of schedules.
+#![tactic(auto)]
+
+#[cfg(test)]
+mod repairs;

@@ -1,0 +1,2 @@
+pub mod PlainSchedules
+pub mod SizedTerms

@@ -1,0 +1,73 @@
+//! What it costs the system that a unit is on in a period, beside all other units.
+
+use crate::merit::Market;
+use crate::period::{NOTHING, Period};
+use crate::unit::{Limits, Unit};
+
+/// By how much the system costs more with a unit on than with it off in a period, for the four kinds of cell in the order of `Terms`,
+/// and what the unit gives then where no cap is in the way.
+#[derive(Clone, Copy, Debug)]
+pub(crate) struct Cells {
+    pub plain: i64,
+    pub start: i64,
+    pub stop: i64,
+    pub both: i64,
+    pub power: i64,
+}
+
+/// No difference.
+pub(crate) const SAME: Cells = Cells {
+    plain: 0,
+    start: 0,
+    stop: 0,
+    both: 0,
+    power: 0,
+};
+
+/// The cells of a unit that was taken out of the period.
+pub(crate) fn cells_of(market: &Market, period: &Period, unit: &Unit) -> Cells {
+    let off = period.cost_with(market, &NOTHING);
+    let plain = unit.limits(false, false);
+    let power = merit_power(market, period, unit);
+    let on = on_cost(market, period, unit, &plain, power).saturating_sub(off);
+    let other = |limits: Limits| {
+        if limits.head == plain.head && power <= limits.most {
+            on
+        } else {
+            on_cost(market, period, unit, &limits, power).saturating_sub(off)
+        }
+    };
+    Cells {
+        plain: on,
+        start: other(unit.limits(true, false)),
+        stop: other(unit.limits(false, true)),
+        both: other(unit.limits(true, true)),
+        power,
+    }
+}
+
+// What the period costs with the unit on at so much output, or as much as the limits leave.
+fn on_cost(market: &Market, period: &Period, unit: &Unit, limits: &Limits, power: i64) -> i64 {
+    cost_at(market, period, unit, power.min(limits.most), limits.head)
+}
+
+/// What the period costs with the unit on at this output and head.
+pub(crate) fn cost_at(market: &Market, period: &Period, unit: &Unit, power: i64, head: i64) -> i64 {
+    unit.cost_at(power)
+        .saturating_add(period.cost_with(market, &unit.addition(power, head)))
+}
+
+// What the unit gives above its minimum in the order of merit.
+fn merit_power(market: &Market, period: &Period, unit: &Unit) -> i64 {
+    let needed = period.needed_with(&unit.addition(0, 0));
+    let mut power: i64 = 0;
+    for segment in &unit.segments {
+        let cheaper = period.watts_before(market, segment.place);
+        let left = needed.saturating_sub(cheaper).saturating_sub(power);
+        if left <= 0 {
+            break;
+        }
+        power = power.saturating_add(segment.watts.min(left));
+    }
+    power
+}

@@ -1,0 +1,119 @@
+//! The search for a cheap schedule: commitments rounded at several thresholds, each improved unit by unit, and kicks of the best.
+
+ghost use Rattle.std.specs.Prelude.{◌≡◌, IfOk};
+ghost use Rattle.uc_model.specs.Limits.{IsLawfulInstance};
+ghost use Rattle.uc_model.specs.declared.instance.Instance.{Instance};
+ghost use Rattle.schedule_repair.specs.Accepted.{IsAcceptedIfFound};
+
+use crate::accepted::accepted;
+use crate::kicks::kick;
+use crate::passes::{Units, pass, set_full_prices, set_soft_prices};
+use crate::printing::printed_of;
+use crate::room::Repair;
+use crate::rounding::round;
+use dual_model::Table;
+use std::alloc::Global;
+use uc_model::{Instance, NoMemory, Printed};
+use unit_path::Scratch;
+
+/// A unit's share has to be above a threshold to count as on, in parts of 2^16: a fifth, a half, a twentieth and a thousandth, in
+/// this order.
+const THRESHOLDS: [i64; 4] = [13107, 32768, 3277, 66];
+
+/// The passes in which missing reserve is cheap, and the most after them in which it has its full price.
+const SOFT_PASSES: u32 = 2;
+
+const HARD_PASSES: u32 = 6;
+
+/// The cheapest schedule that so many moves find, with its cost in micro-dollars; `None` where they find none. A move is the search for
+/// one unit's best pattern. From the shares of an ascent to the table the units are put on patterns at several thresholds, and improved;
+/// what is left of the moves then goes into kicks of the best that came of it. The only error is `NoMemory`.
+pub fn repair(
+    alloc: Global,
+    room: &mut Repair,
+    instance: &Instance,
+    table: &Table,
+    shares: &[i64],
+    moves: u32,
+) -> Result<Option<(Printed, i64)>, NoMemory>
+    requires lawful { IsLawfulInstance instance.now }
+    ensures accepted { IfOk result (IsAcceptedIfFound instance.now) }
+{
+    let mut scratch = Scratch::new(alloc, instance.periods as usize)?;
+    let mut best = None;
+    let mut left = moves;
+    room.kept.cost = i64::MAX;
+    for threshold in THRESHOLDS {
+        let rounded = round(
+            alloc,
+            &mut scratch,
+            &room.plant,
+            &mut room.state,
+            instance,
+            shares,
+            threshold,
+        )?;
+        if rounded && left > 0 {
+            room.state.load(&room.plant, instance.periods);
+            descend(alloc, &mut scratch, room, instance, table, &mut left)?;
+            best = cheaper(best, offer(alloc, room, instance)?);
+            room.kept.keep(&room.plant, &room.state, instance);
+        }
+    }
+    kick(alloc, &mut scratch, room, instance, table, left)?;
+    Ok(cheaper(best, offer(alloc, room, instance)?))
+}
+
+// The schedule of the state with its cost, if it is accepted.
+fn offer(
+    alloc: Global,
+    room: &mut Repair,
+    instance: &Instance,
+) -> Result<Option<(Printed, i64)>, NoMemory>
+    requires lawful { IsLawfulInstance instance.now }
+    ensures { IfOk result (IsAcceptedIfFound instance.now) }
+{
+    room.state.recenter(&room.plant, instance.periods);
+    let printed = printed_of(alloc, &room.plant, &room.state, instance)?;
+    Ok(match accepted(instance, &printed) {
+        Some(cost) => Some((printed, cost)),
+        None => None,
+    })
+}
+
+// The cheaper of two schedules that may be missing.
+fn cheaper(first: Option<(Printed, i64)>, second: Option<(Printed, i64)>) -> Option<(Printed, i64)>
+    ensures { (instance : Instance) → IsAcceptedIfFound instance first → IsAcceptedIfFound instance second → IsAcceptedIfFound instance result }
+{
+    match (first, second) {
+        (Some(first), Some(second)) => Some(if second.1 < first.1 { second } else { first }),
+        (None, second) => second,
+        (first, None) => first,
+    }
+}
+
+// Improves all units in passes until none gains.
+fn descend(
+    alloc: Global,
+    scratch: &mut Scratch,
+    room: &mut Repair,
+    instance: &Instance,
+    table: &Table,
+    left: &mut u32,
+) -> Result<(), NoMemory>
+    requires lawful { IsLawfulInstance instance.now }
+    requires scratch { scratch.old ≡ instance.now.periods }
+    ensures { scratch.new ≡ scratch.old }
+{
+    set_soft_prices(&mut room.state.periods, &room.plant.market, table);
+    for _ in 0..SOFT_PASSES {
+        pass(alloc, scratch, room, instance, Units::All, left)?;
+    }
+    set_full_prices(&mut room.state.periods, &room.plant.market);
+    for _ in 0..HARD_PASSES {
+        if !pass(alloc, scratch, room, instance, Units::All, left)? {
+            break;
+        }
+    }
+    Ok(())
+}

@@ -1,0 +1,82 @@
+//! The best state so far.
+
+ghost use Rattle.uc_model.specs.Limits.{IsLawfulInstance};
+
+use crate::moves::start_cost;
+use crate::system::{Plant, State, add_all, total};
+use crate::unit::unit_at;
+use crate::window::Window;
+use std::alloc::Global;
+use uc_model::{Instance, NoMemory, Pattern};
+
+/// The patterns and windows of the best state, and what it costs; nothing is kept at the greatest cost.
+#[derive(Debug, Drop)]
+pub(crate) struct Kept {
+    patterns: Vec<Pattern>,
+    rows: Vec<Vec<Window>>,
+    pub cost: i64,
+}
+
+impl Kept {
+    /// Nothing, with memory for such a state. The only error is `NoMemory`.
+    pub(crate) fn new(alloc: Global, state: &State) -> Result<Kept, NoMemory> {
+        let patterns = state.patterns.to_vec(alloc)?;
+        let mut rows = Vec::new(alloc);
+        for row in &state.rows {
+            rows.push(row.to_vec(alloc)?)?;
+        }
+        Ok(Kept {
+            patterns,
+            rows,
+            cost: i64::MAX,
+        })
+    }
+
+    /// Keeps the state if it is cheaper than what is kept, and tells whether.
+    pub(crate) fn keep(&mut self, plant: &Plant, state: &State, instance: &Instance) -> bool
+        requires lawful { IsLawfulInstance instance.now }
+    {
+        let cost = cost_of_state(plant, state, instance);
+        if cost >= self.cost {
+            return false;
+        }
+        self.cost = cost;
+        copy_patterns(&state.patterns, &mut self.patterns);
+        copy_rows(&state.rows, &mut self.rows);
+        true
+    }
+
+    /// Makes the state what is kept.
+    pub(crate) fn restore(&self, plant: &Plant, state: &mut State) {
+        copy_patterns(&self.patterns, &mut state.patterns);
+        copy_rows(&self.rows, &mut state.rows);
+        add_all(plant, &mut state.periods, &state.rows);
+    }
+}
+
+// What a state costs, with its starts.
+fn cost_of_state(plant: &Plant, state: &State, instance: &Instance) -> i64
+    requires lawful { IsLawfulInstance instance.now }
+{
+    let mut cost = total(&plant.market, &state.periods);
+    for (g, pattern) in state.patterns.iter().enumerate() {
+        if let Some(unit) = unit_at(instance, g) {
+            cost = cost.saturating_add(start_cost(unit, pattern, instance.periods));
+        }
+    }
+    cost
+}
+
+fn copy_patterns(from: &[Pattern], to: &mut [Pattern]) {
+    for (copy, pattern) in to.iter_mut().zip(from) {
+        *copy = *pattern;
+    }
+}
+
+fn copy_rows(from: &[Vec<Window>], to: &mut [Vec<Window>]) {
+    for (copies, row) in to.iter_mut().zip(from) {
+        for (copy, window) in copies.iter_mut().zip(row) {
+            *copy = *window;
+        }
+    }
+}

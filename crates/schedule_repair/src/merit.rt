@@ -1,0 +1,137 @@
+//! The segments of all thermal units in order of merit, and what watts cost.
+
+use crate::unit::Unit;
+use cost_curves::Curve;
+use std::alloc::Global;
+use uc_model::{NoMemory, Point};
+
+/// Rates are in parts of this of a micro-dollar a watt.
+pub(crate) const PART: i64 = 1 << 16;
+
+/// The greatest rate in size, of a million dollars a megawatt.
+const STEEPEST: i64 = 1 << 36;
+
+/// What is lacking or too much costs so many times the dearest watt of a segment or a minimum.
+const SCARCITY: i64 = 50;
+
+/// The most doublings of a place.
+const DOUBLINGS: u32 = 20;
+
+/// A segment of a unit's hull: its place in the order of merit, its watts, and the rate of each.
+#[derive(Clone, Copy, Debug)]
+pub(crate) struct Segment {
+    pub place: usize,
+    pub watts: i64,
+    pub rate: i64,
+}
+
+/// The rates of all segments in order of merit, the powers of two up to their number from the greatest on, the rate of the steepest,
+/// and that of what is lacking.
+#[derive(Debug, Drop)]
+pub(crate) struct Market {
+    pub rates: Vec<i64>,
+    pub strides: Vec<usize>,
+    pub steepest: i64,
+    pub scarcity: i64,
+}
+
+// Where a segment stands among its unit's.
+#[derive(Clone, Copy, Debug)]
+struct Entry {
+    rate: i64,
+    unit: usize,
+    number: usize,
+}
+
+/// What so many watts cost at a rate, in micro-dollars.
+pub(crate) fn cost_of(rate: i64, watts: i64) -> i64 {
+    rate.saturating_mul(watts) / PART
+}
+
+/// A number kept within the greatest rate.
+pub(crate) fn rate_within(number: &i128) -> i64 {
+    let most = i128::from(STEEPEST);
+    (*number).min(most).max(-most) as i64
+}
+
+/// The segments of a curve, in rising order, without their places.
+pub(crate) fn segments_of(alloc: Global, curve: &Curve) -> Result<Vec<Segment>, NoMemory> {
+    let mut segments = Vec::new(alloc);
+    let corners = curve.corners();
+    for (from, to) in corners.iter().zip(corners.iter().skip(1)) {
+        segments.push(segment_between(from, to))?;
+    }
+    Ok(segments)
+}
+
+fn segment_between(from: &Point, to: &Point) -> Segment {
+    let watts = to.mw.saturating_sub(from.mw);
+    let rise = i128::from(to.cost.saturating_sub(from.cost));
+    let rate = rise.saturating_mul(i128::from(PART)) / i128::from(watts.max(1));
+    Segment {
+        place: 0,
+        watts,
+        rate: rate_within(&rate),
+    }
+}
+
+/// Orders the segments of the units by merit, and tells them their places.
+pub(crate) fn market_of(alloc: Global, units: &mut [Unit]) -> Result<Market, NoMemory> {
+    let entries = entries(alloc, units)?;
+    let mut rates = Vec::new(alloc);
+    let mut steepest: i64 = 1;
+    for (place, entry) in entries.iter().enumerate() {
+        rates.push(entry.rate)?;
+        steepest = steepest.max(entry.rate);
+        set_place(units, entry, place);
+    }
+    let mut dearest = steepest;
+    for unit in units.iter() {
+        dearest = dearest.max(unit.rate_at_minimum());
+    }
+    let strides = strides(alloc, rates.len())?;
+    Ok(Market {
+        rates,
+        strides,
+        steepest,
+        scarcity: dearest.saturating_mul(SCARCITY),
+    })
+}
+
+fn entries(alloc: Global, units: &[Unit]) -> Result<Vec<Entry>, NoMemory> {
+    let mut entries = Vec::new(alloc);
+    for (unit, own) in units.iter().enumerate() {
+        for (number, segment) in own.segments.iter().enumerate() {
+            entries.push(Entry {
+                rate: segment.rate,
+                unit,
+                number,
+            })?;
+        }
+    }
+    entries.sort_by_key(|entry| entry.rate)?;
+    Ok(entries)
+}
+
+fn set_place(units: &mut [Unit], entry: &Entry, place: usize) {
+    if let Some(unit) = units.get_mut(entry.unit) {
+        if let Some(segment) = unit.segments.get_mut(entry.number) {
+            segment.place = place;
+        }
+    }
+}
+
+// The powers of two up to a number, from the greatest on.
+fn strides(alloc: Global, most: usize) -> Result<Vec<usize>, NoMemory> {
+    let mut rising = Vec::new(alloc);
+    let mut stride: usize = 1;
+    for _ in 0..DOUBLINGS {
+        if stride > most {
+            break;
+        }
+        rising.push(stride)?;
+        stride = stride.saturating_mul(2);
+    }
+    rising.reverse();
+    Ok(rising)
+}

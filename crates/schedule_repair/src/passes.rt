@@ -1,0 +1,101 @@
+//! Passes over the units, and what missing reserve costs in them.
+
+ghost use Rattle.std.specs.Prelude.{◌≡◌};
+ghost use Rattle.uc_model.specs.Limits.{IsLawfulInstance};
+
+use crate::chance::Chance;
+use crate::merit::{Market, PART, rate_within};
+use crate::moves::improve;
+use crate::period::Period;
+use crate::room::{Repair, Visit};
+use crate::turns::Turns;
+use dual_model::Table;
+use std::alloc::Global;
+use uc_model::{Instance, NoMemory};
+use unit_path::Scratch;
+
+/// Missing reserve costs at least so many hundredths of the steepest segment where it is cheap.
+const SOFT_PRICE: i64 = 17;
+
+/// The units of a pass: all, those that have a turn, or all of these but one.
+#[derive(Clone, Copy, Debug)]
+pub(crate) enum Units {
+    All,
+    Listed,
+    ListedBut(usize),
+}
+
+/// Improves each of the units once, in an order by chance, as long as moves are left, and centres the windows of those whose ramps can
+/// bind; and tells whether a pattern has changed. The only error is `NoMemory`.
+pub(crate) fn pass(
+    alloc: Global,
+    scratch: &mut Scratch,
+    room: &mut Repair,
+    instance: &Instance,
+    units: Units,
+    left: &mut u32,
+) -> Result<bool, NoMemory>
+    requires lawful { IsLawfulInstance instance.now }
+    requires scratch { scratch.old ≡ instance.now.periods }
+    ensures { scratch.new ≡ scratch.old }
+{
+    shuffle(&mut room.visits, &mut room.chance)?;
+    let mut has_changed = false;
+    for visit in &room.visits {
+        if *left > 0 && is_visited(&room.turns, units, visit.unit) {
+            *left = left.saturating_sub(1);
+            let changed = improve(
+                alloc,
+                scratch,
+                &room.plant,
+                &mut room.state,
+                instance,
+                visit.unit,
+                None,
+            )?;
+            has_changed = has_changed || changed;
+        }
+    }
+    if room.plant.is_ramped {
+        room.state.recenter(&room.plant, instance.periods);
+    }
+    Ok(has_changed)
+}
+
+fn is_visited(turns: &Turns, units: Units, g: usize) -> bool {
+    match units {
+        Units::All => true,
+        Units::Listed => turns.is_listed(g),
+        Units::ListedBut(other) => g != other && turns.is_listed(g),
+    }
+}
+
+// Orders the visits by chance.
+fn shuffle(visits: &mut Vec<Visit>, chance: &mut Chance) -> Result<(), NoMemory> {
+    for visit in visits.iter_mut() {
+        visit.key = chance.next();
+    }
+    visits.sort_by_key(|visit| visit.key)?;
+    Ok(())
+}
+
+/// Makes missing reserve as cheap as its price in the table, or a part of the steepest segment if this is more.
+pub(crate) fn set_soft_prices(periods: &mut [Period], market: &Market, table: &Table) {
+    let least = market.steepest.saturating_mul(SOFT_PRICE) / 100;
+    for (period, price) in periods.iter_mut().zip(table.mu()) {
+        period.reserve_rate = least.max(rate_of(price, table.k()));
+    }
+}
+
+// The rate of a price at a scale.
+fn rate_of(price: &i64, scale: i64) -> i64 {
+    let rate = i128::from(*price).saturating_mul(i128::from(PART)) / i128::from(scale.max(1));
+    rate_within(&rate)
+}
+
+/// Makes missing reserve as dear as missing output.
+pub(crate) fn set_full_prices(periods: &mut [Period], market: &Market) {
+    for period in periods.iter_mut() {
+        period.reserve_rate = market.scarcity;
+    }
+}

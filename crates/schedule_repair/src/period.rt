@@ -1,0 +1,230 @@
+//! A period: what its on units may give, in order of merit, and what demand and reserve cost then.
+
+use crate::merit::{Market, cost_of};
+use crate::unit::Unit;
+use crate::window::Window;
+use std::alloc::Global;
+use uc_model::NoMemory;
+
+// The watts and the cost of the segments that a node of the index tree stands for.
+#[derive(Clone, Copy, Debug)]
+struct Node {
+    watts: i64,
+    cost: i64,
+}
+
+const EMPTY: Node = Node { watts: 0, cost: 0 };
+
+/// A period. Its nodes are an index tree over the places in the order of merit, of the watts inside the windows of the on units; `watts`
+/// is their sum. `base` is what the low ends cost, `floor` what they give with the minimums, `power` without them, and `heads` the sum
+/// of the heads. Demand less the most that renewable units give is `needed`, less the least `bearable`.
+#[derive(Debug, Drop)]
+pub(crate) struct Period {
+    nodes: Vec<Node>,
+    watts: i64,
+    base: i64,
+    floor: i64,
+    power: i64,
+    heads: i64,
+    pub needed: i64,
+    pub bearable: i64,
+    pub reserve: i64,
+    pub reserve_rate: i64,
+    pub is_tight: bool,
+}
+
+/// How far the period is filled in the order of merit: all before the place, and so many watts there.
+#[derive(Clone, Copy, Debug)]
+pub(crate) struct Fill {
+    pub place: usize,
+    pub left: i64,
+    pub cost: i64,
+}
+
+/// What one unit adds to a period.
+#[derive(Clone, Copy, Debug)]
+pub(crate) struct Addition {
+    pub floor: i64,
+    pub power: i64,
+    pub head: i64,
+}
+
+/// No unit.
+pub(crate) const NOTHING: Addition = Addition {
+    floor: 0,
+    power: 0,
+    head: 0,
+};
+
+impl Period {
+    /// A period without units, for so many segments. The only error is `NoMemory`.
+    pub(crate) fn new(alloc: Global, segments: usize) -> Result<Period, NoMemory> {
+        let nodes = vec![in alloc; EMPTY; segments.saturating_add(1)]?;
+        Ok(Period {
+            nodes,
+            watts: 0,
+            base: 0,
+            floor: 0,
+            power: 0,
+            heads: 0,
+            needed: 0,
+            bearable: 0,
+            reserve: 0,
+            reserve_rate: 0,
+            is_tight: false,
+        })
+    }
+
+    /// Takes all units away.
+    pub(crate) fn clear(&mut self) {
+        for node in self.nodes.iter_mut() {
+            *node = EMPTY;
+        }
+        self.watts = 0;
+        self.base = 0;
+        self.floor = 0;
+        self.power = 0;
+        self.heads = 0;
+    }
+
+    /// Adds a unit in its window where `sign` is 1, and takes it away where it is -1.
+    pub(crate) fn shift(&mut self, market: &Market, unit: &Unit, window: &Window, sign: i64) {
+        if !window.on {
+            return;
+        }
+        let mut base = unit.base;
+        let mut from: i64 = 0;
+        for segment in &unit.segments {
+            let to = from.saturating_add(segment.watts);
+            let low = window.low.max(from);
+            let high = window.high.min(to);
+            if low > from {
+                let below = low.min(to).saturating_sub(from);
+                base = base.saturating_add(cost_of(segment.rate, below));
+            }
+            if high > low {
+                let watts = high.saturating_sub(low).saturating_mul(sign);
+                self.add(market, segment.place, watts, cost_of(segment.rate, watts));
+            }
+            from = to;
+        }
+        let floor = unit.minimum.saturating_add(window.low);
+        self.base = self.base.saturating_add(base.saturating_mul(sign));
+        self.floor = self.floor.saturating_add(floor.saturating_mul(sign));
+        self.power = self.power.saturating_add(window.low.saturating_mul(sign));
+        self.heads = self.heads.saturating_add(window.head.saturating_mul(sign));
+    }
+
+    // Adds watts and cost at a place.
+    fn add(&mut self, market: &Market, place: usize, watts: i64, cost: i64) {
+        self.watts = self.watts.saturating_add(watts);
+        let mut i = place.saturating_add(1);
+        for _ in 0..=market.strides.len() {
+            let Some(node) = self.nodes.get_mut(i) else {
+                break;
+            };
+            node.watts = node.watts.saturating_add(watts);
+            node.cost = node.cost.saturating_add(cost);
+            let rest = i & i.saturating_sub(1);
+            i = i.saturating_add(i.saturating_sub(rest));
+        }
+    }
+
+    /// The watts before a place in the order of merit.
+    pub(crate) fn watts_before(&self, market: &Market, place: usize) -> i64 {
+        let mut watts: i64 = 0;
+        let mut i = place;
+        for _ in 0..=market.strides.len() {
+            if i == 0 {
+                break;
+            }
+            if let Some(node) = self.nodes.get(i) {
+                watts = watts.saturating_add(node.watts);
+            }
+            i &= i.saturating_sub(1);
+        }
+        watts
+    }
+
+    /// Fills so many watts in the order of merit. What is lacking has its price.
+    pub(crate) fn fill(&self, market: &Market, watts: i64) -> Fill {
+        let mut place: usize = 0;
+        let mut left = watts;
+        let mut cost: i64 = 0;
+        for stride in &market.strides {
+            let next = place.saturating_add(*stride);
+            if let Some(node) = self.nodes.get(next) {
+                if node.watts <= left {
+                    left = left.saturating_sub(node.watts);
+                    cost = cost.saturating_add(node.cost);
+                    place = next;
+                }
+            }
+        }
+        let rate = match market.rates.get(place) {
+            Some(rate) => *rate,
+            None => market.scarcity,
+        };
+        Fill {
+            place,
+            left,
+            cost: cost.saturating_add(cost_of(rate, left)),
+        }
+    }
+
+    /// The watts that are needed above the floor with another unit.
+    pub(crate) fn needed_with(&self, other: &Addition) -> i64 {
+        let floor = self.floor.saturating_add(other.floor);
+        self.needed.saturating_sub(floor).max(0)
+    }
+
+    /// What the period costs with another unit, whose own cost is left out.
+    pub(crate) fn cost_with(&self, market: &Market, other: &Addition) -> i64 {
+        let needed = self.needed_with(other);
+        let floor = self.floor.saturating_add(other.floor);
+        let surplus = floor.saturating_sub(self.bearable).max(0);
+        let short = self.short_of_reserve(other, needed);
+        self.base
+            .saturating_add(self.fill(market, needed).cost)
+            .saturating_add(cost_of(market.scarcity, surplus))
+            .saturating_add(cost_of(self.reserve_rate, short))
+    }
+
+    /// Whether output or reserve is lacking with another unit, or output is too much.
+    pub(crate) fn is_lacking_with(&self, other: &Addition) -> bool {
+        self.needed_with(other) > self.watts
+            || self.floor.saturating_add(other.floor) > self.bearable
+            || self.short_with(other) > 0
+    }
+
+    /// The watts inside the windows of the on units.
+    pub(crate) fn watts(&self) -> i64 {
+        self.watts
+    }
+
+    /// The watts of reserve that are lacking with another unit.
+    pub(crate) fn short_with(&self, other: &Addition) -> i64 {
+        self.short_of_reserve(other, self.needed_with(other))
+    }
+
+    // The same, where so many watts are needed.
+    fn short_of_reserve(&self, other: &Addition, needed: i64) -> i64 {
+        self.power
+            .saturating_add(other.power)
+            .saturating_add(needed)
+            .saturating_add(self.reserve)
+            .saturating_sub(self.heads.saturating_add(other.head))
+            .max(0)
+    }
+
+    /// Whether hardly more reserve is left than is wanted, or less.
+    pub(crate) fn is_short_soon(&self) -> bool {
+        let needed = self.needed_with(&NOTHING);
+        let spare = self
+            .heads
+            .saturating_sub(self.power)
+            .saturating_sub(needed)
+            .saturating_sub(self.reserve);
+        spare < self.reserve / 20
+    }
+}

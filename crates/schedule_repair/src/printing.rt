@@ -1,0 +1,150 @@
+//! The schedule of a state, in whole watts.
+
+ghost use Rattle.std.specs.Prelude.{◌≡◌};
+ghost use Rattle.uc_model.specs.Limits.{IsLawfulInstance, IsLawfulThermal};
+
+use crate::system::{Plant, State, at};
+use crate::unit::{Unit, is_on, unit_at};
+use crate::window::{Window, limits_at};
+use start_costs::least_allowed;
+use std::alloc::Global;
+use uc_model::limits::MAX_PERIODS;
+use uc_model::{Cell, Instance, List, NoMemory, Pattern, Printed, Thermal};
+
+/// The schedule of a state, whose windows are centred on what each unit gives. The only error is `NoMemory`.
+pub(crate) fn printed_of(
+    alloc: Global,
+    plant: &Plant,
+    state: &State,
+    instance: &Instance,
+) -> Result<Printed, NoMemory>
+    requires { IsLawfulInstance instance.now }
+{
+    let mut wanted = instance.reserves.as_slice().to_vec(alloc)?;
+    let mut left = instance.demand.as_slice().to_vec(alloc)?;
+    let thermal = thermal_rows(alloc, plant, state, instance, &mut wanted, &mut left)?;
+    Ok(Printed {
+        thermal: List::from_vec(thermal),
+        renewable: List::from_vec(renewable_rows(alloc, instance, &mut left)?),
+    })
+}
+
+// The cells of all thermal units.
+fn thermal_rows(
+    alloc: Global,
+    plant: &Plant,
+    state: &State,
+    instance: &Instance,
+    wanted: &mut [i64],
+    left: &mut [i64],
+) -> Result<Vec<List<Cell>>, NoMemory>
+    requires { IsLawfulInstance instance.now }
+{
+    let mut rows = Vec::new(alloc);
+    for g in 0..instance.thermal.as_slice().len() {
+        let (Some(thermal), Some(unit)) = (unit_at(instance, g), plant.units.get(g)) else {
+            break;
+        };
+        let (Some(pattern), Some(row)) = (state.patterns.get(g), state.rows.get(g)) else {
+            break;
+        };
+        let cells = cells(
+            alloc,
+            thermal,
+            unit,
+            pattern,
+            row,
+            instance.periods,
+            wanted,
+            left,
+        )?;
+        rows.push(List::from_vec(cells))?;
+    }
+    Ok(rows)
+}
+
+// The cells of a unit, which gives of the wanted reserve what it can, and takes its output from what is left of demand.
+fn cells(
+    alloc: Global,
+    thermal: &Thermal,
+    unit: &Unit,
+    pattern: &Pattern,
+    row: &[Window],
+    periods: u32,
+    wanted: &mut [i64],
+    left: &mut [i64],
+) -> Result<Vec<Cell>, NoMemory>
+    requires { IsLawfulThermal thermal.now }
+{
+    let mut cells = Vec::new(alloc);
+    let mut before = unit.before;
+    let mut was_on = unit.was_on;
+    let mut t: u32 = 0;
+    for ((window, wanted), left) in row.iter().zip(wanted.iter_mut()).zip(left.iter_mut()) {
+        let on = is_on(pattern, t);
+        let mut cell = OFF;
+        if on {
+            let head = limits_at(unit, pattern, t, periods).head;
+            let spare = head
+                .min(before.saturating_add(unit.rise))
+                .saturating_sub(window.power);
+            cell = Cell {
+                on,
+                p: window.power,
+                r: spare.min(*wanted).max(0),
+                category: category(thermal, pattern, t, !was_on),
+            };
+            *left = left.saturating_sub(unit.minimum).saturating_sub(cell.p);
+            *wanted = wanted.saturating_sub(cell.r);
+        }
+        before = cell.p;
+        was_on = on;
+        cells.push(cell)?;
+        t = t.saturating_add(1);
+    }
+    Ok(cells)
+}
+
+const OFF: Cell = Cell {
+    on: false,
+    p: 0,
+    r: 0,
+    category: 0,
+};
+
+// The category of a start, and 0 where there is none.
+fn category(thermal: &Thermal, pattern: &Pattern, t: u32, starts: bool) -> u8
+    requires { IsLawfulThermal thermal.now }
+{
+    if starts && t < MAX_PERIODS {
+        least_allowed(thermal, pattern, t as usize).0
+    } else {
+        0
+    }
+}
+
+// What the renewable units give: each its least, and of what is left then as much as it can.
+fn renewable_rows(
+    alloc: Global,
+    instance: &Instance,
+    left: &mut [i64],
+) -> Result<Vec<List<i64>>, NoMemory> {
+    for unit in instance.renewable.as_slice() {
+        for (left, least) in left.iter_mut().zip(unit.minimum.as_slice()) {
+            *left = left.saturating_sub((*least).max(0));
+        }
+    }
+    let mut rows = Vec::new(alloc);
+    for unit in instance.renewable.as_slice() {
+        let mut outputs = Vec::new(alloc);
+        for (t, left) in left.iter_mut().enumerate() {
+            let least = at(unit.minimum.as_slice(), t).max(0);
+            let most = at(unit.maximum.as_slice(), t);
+            let more = most.saturating_sub(least).min(*left).max(0);
+            *left = left.saturating_sub(more);
+            outputs.push(least.saturating_add(more))?;
+        }
+        rows.push(List::from_vec(outputs))?;
+    }
+    Ok(rows)
+}

@@ -1,0 +1,51 @@
+//! What repairs share.
+
+ghost use Rattle.std.specs.Prelude.{◌≡◌};
+ghost use Rattle.uc_model.specs.Limits.{IsLawfulInstance};
+
+use crate::chance::Chance;
+use crate::kept::Kept;
+use crate::system::{Plant, State};
+use crate::turns::Turns;
+use std::alloc::Global;
+use uc_model::{Instance, NoMemory};
+
+/// What repairs of an instance's schedules share; made once, mended by each move.
+#[derive(Debug, Drop)]
+pub struct Repair {
+    pub(crate) plant: Plant,
+    pub(crate) state: State,
+    pub(crate) chance: Chance,
+    pub(crate) visits: Vec<Visit>,
+    pub(crate) turns: Turns,
+    pub(crate) kept: Kept,
+}
+
+/// A unit, and when it is visited in a pass.
+#[derive(Clone, Copy, Debug)]
+pub(crate) struct Visit {
+    pub key: u64,
+    pub unit: usize,
+}
+
+impl Repair {
+    /// What repairs of the instance share. The only error is `NoMemory`.
+    pub fn new(alloc: Global, instance: &Instance) -> Result<Repair, NoMemory>
+        requires { IsLawfulInstance instance.now }
+    {
+        let plant = Plant::new(alloc, instance)?;
+        let state = State::new(alloc, instance, &plant)?;
+        let mut visits = Vec::new(alloc);
+        for unit in 0..plant.units.len() {
+            visits.push(Visit { key: 0, unit })?;
+        }
+        Ok(Repair {
+            turns: Turns::new(alloc, plant.units.len())?,
+            kept: Kept::new(alloc, &state)?,
+            chance: Chance::new(),
+            plant,
+            state,
+            visits,
+        })
+    }
+}

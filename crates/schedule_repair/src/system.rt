@@ -1,0 +1,222 @@
+//! The units of an instance, and their state while a schedule is sought.
+
+ghost use Rattle.std.specs.Prelude.{◌≡◌, IfOk};
+ghost use Rattle.uc_model.specs.Limits.{IsLawfulInstance};
+
+use crate::cells::{Cells, SAME};
+use crate::merit::{Market, market_of};
+use crate::period::{Fill, NOTHING, Period};
+use crate::trajectory::Trajectory;
+use crate::unit::{Unit, unit_at};
+use crate::window::{IDLE, Window, keep_ramps, narrow, open};
+use std::alloc::Global;
+use uc_model::{Instance, NoMemory, Pattern};
+
+/// The units, the order of merit of their segments, and whether a unit's ramps can bind.
+#[derive(Debug, Drop)]
+pub(crate) struct Plant {
+    pub units: Vec<Unit>,
+    pub market: Market,
+    pub is_ramped: bool,
+}
+
+/// The periods; each unit's pattern, and its windows; and memory for one unit's cells and windows and for how far periods are filled.
+#[derive(Debug, Drop)]
+pub(crate) struct State {
+    pub periods: Vec<Period>,
+    pub patterns: Vec<Pattern>,
+    pub rows: Vec<Vec<Window>>,
+    pub cells: Vec<Cells>,
+    pub trial: Trial,
+    pub fills: Vec<Fill>,
+}
+
+/// The windows of a unit that is tried, and memory for its trajectory.
+#[derive(Debug, Drop)]
+pub(crate) struct Trial {
+    pub row: Vec<Window>,
+    pub trajectory: Trajectory,
+}
+
+impl Plant {
+    /// The units of an instance. The only error is `NoMemory`.
+    pub(crate) fn new(alloc: Global, instance: &Instance) -> Result<Plant, NoMemory>
+        requires { IsLawfulInstance instance.now }
+    {
+        let mut units = Vec::new(alloc);
+        for g in 0..instance.thermal.as_slice().len() {
+            if let Some(unit) = unit_at(instance, g) {
+                units.push(Unit::of(alloc, unit, instance.periods)?)?;
+            }
+        }
+        let market = market_of(alloc, &mut units)?;
+        let is_ramped = units.iter().any(|unit| unit.is_ramped);
+        Ok(Plant {
+            units,
+            market,
+            is_ramped,
+        })
+    }
+}
+
+impl State {
+    /// A state in which each unit is off. The only error is `NoMemory`.
+    pub(crate) fn new(
+        alloc: Global,
+        instance: &Instance,
+        plant: &Plant,
+    ) -> Result<State, NoMemory> {
+        let count = instance.periods as usize;
+        let mut patterns = Vec::new(alloc);
+        let mut rows = Vec::new(alloc);
+        for _ in &plant.units {
+            patterns.push(Pattern::all_off())?;
+            rows.push(vec![in alloc; IDLE; count]?)?;
+        }
+        Ok(State {
+            periods: periods_of(alloc, instance, &plant.market)?,
+            patterns,
+            rows,
+            cells: vec![in alloc; SAME; count]?,
+            trial: Trial {
+                row: vec![in alloc; IDLE; count]?,
+                trajectory: Trajectory::new(alloc),
+            },
+            fills: vec![in alloc; UNFILLED; count]?,
+        })
+    }
+
+    /// Puts all units on their patterns, at the outputs in order of merit, moved until they keep the ramps.
+    pub(crate) fn load(&mut self, plant: &Plant, count: u32) {
+        for period in self.periods.iter_mut() {
+            period.is_tight = false;
+        }
+        let units = plant.units.iter().zip(&self.patterns);
+        for ((unit, pattern), row) in units.zip(self.rows.iter_mut()) {
+            open(unit, pattern, count, row);
+        }
+        add_all(plant, &mut self.periods, &self.rows);
+        self.recenter(plant, count);
+    }
+
+    /// Centres the windows on the outputs in order of merit inside them.
+    pub(crate) fn recenter(&mut self, plant: &Plant, count: u32) {
+        for (fill, period) in self.fills.iter_mut().zip(self.periods.iter_mut()) {
+            *fill = period.fill(&plant.market, period.needed_with(&NOTHING));
+            if period.is_short_soon() {
+                period.is_tight = true;
+            }
+        }
+        let units = plant.units.iter().zip(&self.patterns);
+        for ((unit, pattern), row) in units.zip(self.rows.iter_mut()) {
+            center(unit, row, &self.fills);
+            open(unit, pattern, count, row);
+            if unit.is_ramped {
+                keep_ramps(unit, row);
+                narrow(unit, &self.periods, row);
+            }
+        }
+        add_all(plant, &mut self.periods, &self.rows);
+    }
+}
+
+const UNFILLED: Fill = Fill {
+    place: 0,
+    left: 0,
+    cost: 0,
+};
+
+// The periods of the instance, without units.
+fn periods_of(
+    alloc: Global,
+    instance: &Instance,
+    market: &Market,
+) -> Result<Vec<Period>, NoMemory> {
+    let mut periods = Vec::new(alloc);
+    let demands = instance.demand.as_slice().iter();
+    for (t, (demand, reserve)) in demands.zip(instance.reserves.as_slice()).enumerate() {
+        let mut period = Period::new(alloc, market.rates.len())?;
+        period.needed = *demand;
+        period.bearable = *demand;
+        for unit in instance.renewable.as_slice() {
+            let most = at(unit.maximum.as_slice(), t);
+            let least = at(unit.minimum.as_slice(), t).max(0);
+            period.needed = period.needed.saturating_sub(most);
+            period.bearable = period.bearable.saturating_sub(least);
+        }
+        period.reserve = (*reserve).max(0);
+        period.reserve_rate = market.scarcity;
+        periods.push(period)?;
+    }
+    Ok(periods)
+}
+
+/// The entry of a list, and 0 past its end.
+pub(crate) fn at(numbers: &[i64], i: usize) -> i64 {
+    match numbers.get(i) {
+        Some(number) => *number,
+        None => 0,
+    }
+}
+
+/// What all periods cost, starts left out.
+pub(crate) fn total(market: &Market, periods: &[Period]) -> i64 {
+    let mut total: i64 = 0;
+    for period in periods {
+        total = total.saturating_add(period.cost_with(market, &NOTHING));
+    }
+    total
+}
+
+/// Adds a unit in its windows to all periods, or takes it away where the sign is -1.
+pub(crate) fn shift(
+    market: &Market,
+    periods: &mut [Period],
+    unit: &Unit,
+    row: &[Window],
+    sign: i64,
+) {
+    for (period, window) in periods.iter_mut().zip(row) {
+        period.shift(market, unit, window, sign);
+    }
+}
+
+/// Puts all units into the periods anew.
+pub(crate) fn add_all(plant: &Plant, periods: &mut [Period], rows: &[Vec<Window>]) {
+    for period in periods.iter_mut() {
+        period.clear();
+    }
+    for (unit, row) in plant.units.iter().zip(rows) {
+        shift(&plant.market, periods, unit, row, 1);
+    }
+}
+
+// Centres a unit's windows on what it gives where periods are filled so far.
+fn center(unit: &Unit, row: &mut [Window], fills: &[Fill]) {
+    for (window, fill) in row.iter_mut().zip(fills) {
+        if window.on {
+            window.power = filled(unit, window, fill);
+        }
+    }
+}
+
+// What a unit gives inside its window.
+fn filled(unit: &Unit, window: &Window, fill: &Fill) -> i64 {
+    let mut power = window.low;
+    let mut from: i64 = 0;
+    for segment in &unit.segments {
+        let to = from.saturating_add(segment.watts);
+        let part = window
+            .high
+            .min(to)
+            .saturating_sub(window.low.max(from))
+            .max(0);
+        if segment.place < fill.place {
+            power = power.saturating_add(part);
+        } else if segment.place == fill.place {
+            power = power.saturating_add(part.min(fill.left));
+        }
+        from = to;
+    }
+    power
+}

@@ -1,0 +1,155 @@
+//! The trajectory of one unit: its outputs that cost least beside the others and keep its ramps.
+
+use crate::beside::Beside;
+use crate::convex::{Bottom, Convex};
+use crate::merit::PART;
+use crate::period::Period;
+use crate::window::Window;
+use std::alloc::Global;
+use uc_model::NoMemory;
+
+/// Into how many parts a range of outputs is cut where its cost is told.
+const PARTS: i64 = 8;
+
+/// Memory for the search of a trajectory: the cost of outputs so far, that of the period, and where the former is least in each period.
+#[derive(Debug, Drop)]
+pub(crate) struct Trajectory {
+    value: Convex,
+    reached: Convex,
+    own: Convex,
+    points: Vec<i64>,
+    bottoms: Vec<Bottom>,
+}
+
+impl Trajectory {
+    /// Memory for a trajectory. None is taken until one is sought.
+    pub(crate) fn new(alloc: Global) -> Trajectory {
+        Trajectory {
+            value: Convex::new(alloc),
+            reached: Convex::new(alloc),
+            own: Convex::new(alloc),
+            points: Vec::new(alloc),
+            bottoms: Vec::new(alloc),
+        }
+    }
+
+    /// Centres open windows on the outputs that cost least with those of all periods, near the centres so far where several do. The
+    /// only error is `NoMemory`.
+    pub(crate) fn center(&mut self, beside: &Beside, row: &mut [Window]) -> Result<(), NoMemory> {
+        self.bottoms.clear();
+        self.value.set(beside.unit.before);
+        let (rise, fall) = (beside.unit.rise, beside.unit.fall);
+        let mut t: usize = 0;
+        for period in beside.periods {
+            if let Some(window) = row.get(t) {
+                self.reached
+                    .set_reached(&self.value, rise, fall, window.high)?;
+                let next = t.saturating_add(1);
+                let wanted = wanted_output(beside, row, next);
+                self.set_own(beside, period, window, wanted)?;
+                self.value.set_sum(&self.reached, &self.own)?;
+                self.bottoms.push(self.value.bottom())?;
+            }
+            t = t.saturating_add(1);
+        }
+        read_back(beside, &self.bottoms, row);
+        Ok(())
+    }
+
+    // The cost of the period over the outputs that are reached, with what lacks of the reserve of the next one below the wanted output.
+    fn set_own(
+        &mut self,
+        beside: &Beside,
+        period: &Period,
+        window: &Window,
+        wanted: (i64, i64),
+    ) -> Result<(), NoMemory> {
+        let low = self.reached.low;
+        let high = self.reached.high();
+        self.own.set(low);
+        set_points(&mut self.points, beside, period, wanted.0, low, high)?;
+        let mut from = low;
+        let mut cost = cost_to(beside, period, window, wanted, from);
+        for to in &self.points {
+            if *to > from {
+                let next = cost_to(beside, period, window, wanted, *to);
+                let width = to.saturating_sub(from);
+                let rate = next.saturating_sub(cost).saturating_mul(PART) / width.max(1);
+                self.own.push(width, rate)?;
+                from = *to;
+                cost = next;
+            }
+        }
+        Ok(())
+    }
+}
+
+// What an output costs in its period, and by what lacks of the reserve of the next.
+fn cost_to(
+    beside: &Beside,
+    period: &Period,
+    window: &Window,
+    wanted: (i64, i64),
+    power: i64,
+) -> i64 {
+    let lacking = wanted.0.saturating_sub(power).max(0);
+    beside
+        .cost_at(period, window.on, power, window.head)
+        .saturating_add(lacking.saturating_mul(wanted.1) / PART)
+}
+
+// The least output that leaves the reserve of period t its head, and the rate of missing reserve there.
+fn wanted_output(beside: &Beside, row: &[Window], t: usize) -> (i64, i64) {
+    let (Some(period), Some(window)) = (beside.periods.get(t), row.get(t)) else {
+        return (0, 0);
+    };
+    if !window.on {
+        return (0, 0);
+    }
+    let addition = beside.unit.addition(window.power, 0);
+    let short = period.short_with(&addition).min(window.head);
+    (short.saturating_sub(beside.unit.rise), period.reserve_rate)
+}
+
+// The outputs between which the cost is told: the ends of the unit's segments, those at which the others give nothing or all they can,
+// the wanted one, and some between.
+fn set_points(
+    points: &mut Vec<i64>,
+    beside: &Beside,
+    period: &Period,
+    wanted: i64,
+    low: i64,
+    high: i64,
+) -> Result<(), NoMemory> {
+    points.clear();
+    let mut end: i64 = 0;
+    for segment in &beside.unit.segments {
+        end = end.saturating_add(segment.watts);
+        points.push(end.max(low).min(high))?;
+    }
+    let needed = period.needed_with(&beside.unit.addition(0, 0));
+    for point in [needed, needed.saturating_sub(period.watts()), wanted] {
+        points.push(point.max(low).min(high))?;
+    }
+    let part = high.saturating_sub(low) / PARTS;
+    let mut between = low;
+    for _ in 1..PARTS {
+        between = between.saturating_add(part);
+        points.push(between)?;
+    }
+    points.push(high)?;
+    points.sort()?;
+    Ok(())
+}
+
+// From the last period back, the output at the bottom that is nearest to the centre so far, within the ramp to the next one.
+fn read_back(beside: &Beside, bottoms: &[Bottom], row: &mut [Window]) {
+    let mut least = i64::MIN;
+    let mut most = i64::MAX;
+    for (window, bottom) in row.iter_mut().zip(bottoms).rev() {
+        let power = window.power.max(bottom.low).min(bottom.high);
+        window.power = power.max(least).min(most);
+        least = window.power.saturating_sub(beside.unit.rise);
+        most = window.power.saturating_add(beside.unit.fall);
+    }
+}

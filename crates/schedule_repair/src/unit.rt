@@ -1,0 +1,175 @@
+//! What repairs have to know of a thermal unit.
+
+ghost use Rattle.std.specs.Prelude.{IfSome};
+ghost use Rattle.uc_model.specs.Limits.{IsLawfulInstance, IsLawfulThermal};
+
+use crate::merit::{PART, Segment, cost_of, rate_within, segments_of};
+use crate::period::Addition;
+use cost_curves::Curve;
+use dual_model::Fix;
+use std::alloc::Global;
+use uc_model::limits::MAX_PERIODS;
+use uc_model::{Instance, NoMemory, Pattern, Thermal};
+
+/// A thermal unit. Outputs are watts above its minimum: those that its caps leave, `full` beside no start or stop; how far it may rise
+/// and fall in an hour; and what it gave before the first period. `fix` keeps it on as long as it can't fall to where it may stop.
+#[derive(Debug, Drop)]
+pub(crate) struct Unit {
+    pub minimum: i64,
+    pub base: i64,
+    pub segments: Vec<Segment>,
+    pub width: i64,
+    pub full: i64,
+    pub start: i64,
+    pub stop: i64,
+    pub rise: i64,
+    pub fall: i64,
+    pub before: i64,
+    pub was_on: bool,
+    pub is_ramped: bool,
+    pub fix: Fix,
+}
+
+/// The most output of a cell, and the most output and reserve together.
+#[derive(Clone, Copy, Debug)]
+pub(crate) struct Limits {
+    pub most: i64,
+    pub head: i64,
+}
+
+impl Unit {
+    /// What repairs know of a unit. The only error is `NoMemory`.
+    pub(crate) fn of(alloc: Global, unit: &Thermal, periods: u32) -> Result<Unit, NoMemory>
+        requires { IsLawfulThermal unit.now }
+    {
+        let curve = Curve::of(alloc, unit.points.as_slice())?;
+        let segments = segments_of(alloc, &curve)?;
+        let base = match curve.corners().first() {
+            Some(corner) => corner.cost,
+            None => 0,
+        };
+        let mut own = Unit {
+            minimum: unit.pmin,
+            base,
+            segments,
+            width: curve.width(),
+            full: unit.pmax.saturating_sub(unit.pmin),
+            start: unit.su.saturating_sub(unit.pmin),
+            stop: unit.sd.saturating_sub(unit.pmin),
+            rise: unit.ru,
+            fall: unit.rd,
+            before: output_before(unit),
+            was_on: unit.on0,
+            is_ramped: false,
+            fix: undecided(),
+        };
+        own.is_ramped = own.can_ramps_bind();
+        own.fix = own.first_periods(periods);
+        Ok(own)
+    }
+
+    /// What a cell leaves, by whether it is a start and whether a stop follows.
+    pub(crate) fn limits(&self, starts: bool, stops: bool) -> Limits {
+        let mut head = self.full;
+        let mut most = self.width;
+        if starts {
+            head = head.min(self.start).min(self.rise);
+        }
+        if stops {
+            head = head.min(self.stop);
+            most = most.min(self.fall);
+        }
+        Limits {
+            most: most.min(head).max(0),
+            head: head.max(0),
+        }
+    }
+
+    /// What an hour at an output above the minimum costs.
+    pub(crate) fn cost_at(&self, power: i64) -> i64 {
+        let mut cost = self.base;
+        let mut left = power;
+        for segment in &self.segments {
+            if left <= 0 {
+                break;
+            }
+            cost = cost.saturating_add(cost_of(segment.rate, segment.watts.min(left)));
+            left = left.saturating_sub(segment.watts);
+        }
+        cost
+    }
+
+    /// What the unit adds to a period at an output above its minimum, and a head.
+    pub(crate) fn addition(&self, power: i64, head: i64) -> Addition {
+        Addition {
+            floor: self.minimum.saturating_add(power),
+            power,
+            head,
+        }
+    }
+
+    /// What a watt costs at the minimum.
+    pub(crate) fn rate_at_minimum(&self) -> i64 {
+        let cost = i128::from(self.base).saturating_mul(i128::from(PART));
+        rate_within(&(cost / i128::from(self.minimum.max(1))))
+    }
+
+    fn can_ramps_bind(&self) -> bool {
+        let reach = self.full.min(self.width).max(self.before);
+        self.before < 0 || self.rise < self.full || self.fall < reach
+    }
+
+    // That the unit is on until it has fallen so far that it may stop.
+    fn first_periods(&self, periods: u32) -> Fix {
+        let mut fix = undecided();
+        let mut reach = self.before;
+        let mut most = self.fall;
+        for t in 0..periods {
+            if reach <= most {
+                break;
+            }
+            if t < MAX_PERIODS {
+                fix.known.switch_on(t);
+                fix.on.switch_on(t);
+            }
+            reach = reach.saturating_sub(self.fall);
+            most = self.fall.min(self.stop).max(0);
+        }
+        fix
+    }
+}
+
+/// That nothing is decided.
+pub(crate) fn undecided() -> Fix {
+    Fix {
+        known: Pattern::all_off(),
+        on: Pattern::all_off(),
+    }
+}
+
+// What a unit gave above its minimum before the first period.
+fn output_before(unit: &Thermal) -> i64 {
+    if unit.on0 {
+        unit.p0.saturating_sub(unit.pmin)
+    } else {
+        0
+    }
+}
+
+/// Whether a pattern is on in a period, from 0.
+pub(crate) fn is_on(pattern: &Pattern, t: u32) -> bool {
+    t < MAX_PERIODS && pattern.is_on(t)
+}
+
+/// Thermal unit g of an instance, from 0.
+pub(crate) fn unit_at(instance: &Instance, g: usize) -> Option<&Thermal>
+    requires { IsLawfulInstance instance.now }
+    ensures { IfSome result (λ unit. IsLawfulThermal unit.now) }
+{
+    let units = instance.thermal.as_slice();
+    if g < units.len() {
+        Some(&units[g])
+    } else {
+        None
+    }
+}

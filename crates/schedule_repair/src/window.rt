@@ -1,0 +1,161 @@
+//! Windows: what a unit may give in each period, so that whatever it gives inside them keeps its ramps.
+
+use crate::period::Period;
+use crate::unit::{Limits, Unit, is_on};
+use uc_model::Pattern;
+
+/// What a unit may give above its minimum in a period, round the output on which the window is centred, and with reserve up to the head.
+#[derive(Clone, Copy, Debug)]
+pub(crate) struct Window {
+    pub on: bool,
+    pub power: i64,
+    pub low: i64,
+    pub high: i64,
+    pub head: i64,
+}
+
+/// That of a unit that is off.
+pub(crate) const IDLE: Window = Window {
+    on: false,
+    power: 0,
+    low: 0,
+    high: 0,
+    head: 0,
+};
+
+/// What the pattern leaves in period t, from 0.
+pub(crate) fn limits_at(unit: &Unit, pattern: &Pattern, t: u32, periods: u32) -> Limits {
+    let was_on = if t == 0 {
+        unit.was_on
+    } else {
+        is_on(pattern, t.saturating_sub(1))
+    };
+    let next = t.saturating_add(1);
+    let stops = next < periods && !is_on(pattern, next);
+    unit.limits(!was_on, stops)
+}
+
+/// Opens the windows as far as the caps allow, whatever the ramps.
+pub(crate) fn open(unit: &Unit, pattern: &Pattern, periods: u32, row: &mut [Window]) {
+    let mut t: u32 = 0;
+    for window in row.iter_mut() {
+        *window = if is_on(pattern, t) {
+            let limits = limits_at(unit, pattern, t, periods);
+            Window {
+                on: true,
+                power: window.power.min(limits.most),
+                low: 0,
+                high: limits.most,
+                head: limits.head,
+            }
+        } else {
+            IDLE
+        };
+        t = t.saturating_add(1);
+    }
+}
+
+/// Moves the centres of open windows until they keep the ramps.
+pub(crate) fn keep_ramps(unit: &Unit, row: &mut [Window]) {
+    let mut next: i64 = i64::MAX;
+    for window in row.iter_mut().rev() {
+        if window.on {
+            window.power = window.power.min(next.saturating_add(unit.fall));
+        }
+        next = window.power;
+    }
+    let mut before = unit.before;
+    for window in row.iter_mut() {
+        if window.on {
+            let least = before.saturating_sub(unit.fall);
+            let most = before.saturating_add(unit.rise);
+            window.power = window.power.max(least).min(most).max(0);
+        }
+        before = window.power;
+    }
+}
+
+/// Narrows open windows round their centres, which keep the ramps, until whatever is inside keeps them.
+pub(crate) fn narrow(unit: &Unit, periods: &[Period], row: &mut [Window]) {
+    let mut before = initial(unit);
+    let mut t: usize = 0;
+    for period in periods {
+        if let Some(window) = row.get(t) {
+            let mut own = *window;
+            if period.is_tight && own.on {
+                let least = own.head.saturating_sub(unit.rise).min(before.power);
+                before.low = before.low.max(least);
+            }
+            narrow_both(unit, &mut before, &mut own);
+            if t > 0 {
+                set(row, t.saturating_sub(1), before);
+            }
+            set(row, t, own);
+            before = own;
+        }
+        t = t.saturating_add(1);
+    }
+    lower_heads(unit, row);
+}
+
+// The state before the first period.
+fn initial(unit: &Unit) -> Window {
+    Window {
+        on: unit.was_on,
+        power: unit.before,
+        low: unit.before,
+        high: unit.before,
+        head: unit.before,
+    }
+}
+
+fn set(row: &mut [Window], t: usize, window: Window) {
+    if let Some(own) = row.get_mut(t) {
+        *own = window;
+    }
+}
+
+// Narrows the windows of a period and of the one before.
+fn narrow_both(unit: &Unit, before: &mut Window, own: &mut Window) {
+    let rise = own.power.saturating_sub(before.power);
+    let (up, down) = shared(
+        own.high.saturating_sub(own.power),
+        before.power.saturating_sub(before.low),
+        unit.rise.saturating_sub(rise),
+    );
+    own.high = own.power.saturating_add(up);
+    before.low = before.power.saturating_sub(down);
+    let (down, up) = shared(
+        own.power.saturating_sub(own.low),
+        before.high.saturating_sub(before.power),
+        unit.fall.saturating_add(rise),
+    );
+    own.low = own.power.saturating_sub(down);
+    before.high = before.power.saturating_add(up);
+}
+
+// Two rooms cut so that they are within a sum, the larger one first.
+fn shared(first: i64, second: i64, sum: i64) -> (i64, i64) {
+    let sum = sum.max(0);
+    let half = sum / 2;
+    if first.saturating_add(second) <= sum {
+        (first, second)
+    } else if first <= half {
+        (first, sum.saturating_sub(first))
+    } else if second <= half {
+        (sum.saturating_sub(second), second)
+    } else {
+        (half, sum.saturating_sub(half))
+    }
+}
+
+// Keeps the heads within the ramps from the low ends.
+fn lower_heads(unit: &Unit, row: &mut [Window]) {
+    let mut low = unit.before;
+    for window in row.iter_mut() {
+        if window.on {
+            window.head = window.head.min(low.saturating_add(unit.rise));
+        }
+        low = window.low;
+    }
+}
