@@ -7,4 +7,4 @@ pub mod TreeLaws
 pub mod UsedTables
 pub mod Closing
 pub mod Claims
-pub mod SearchResult
+pub mod TrueFound

@@ -17,6 +17,6 @@ mod steps;
 
 pub use ascent::{Ascent, ascend};
 pub use marginal_prices::{marginal, marginal_in};
-pub use no_prices::{unpriced, zero};
+pub use no_prices::{SCALE, unpriced, zero};
 pub use rays::opening_ray;
-pub use steps::step;
+pub use steps::{next_ascent, step};

@@ -1,13 +1,13 @@
 //! The table to try next at a node.
 
-ghost use Rattle.std.specs.Prelude.{◌≤◌, IfOk, IfSome};
+ghost use Rattle.std.specs.Prelude.{◌≡◌, ◌+◌, ◌≤◌, pos, IfOk, IfSome};
 ghost use Rattle.uc_model.specs.Limits.{IsLawfulInstance};
 ghost use Rattle.dual_model.specs.Fixings.{IsNodeOf};
 ghost use Rattle.dual_model.specs.Prices.{IsLawfulTable};
 ghost use Rattle.dual_value.specs.NodeAnswer.{IsValued};
 ghost use Rattle.prices.specs.Steps.{IsStepFor};
 
-use crate::ascent::ascend;
+use crate::ascent::{Ascent, ascend};
 use crate::no_prices::SCALE;
 use dual_model::{Node, Table};
 use dual_value::Valued;
@@ -20,6 +20,35 @@ const EVALUATIONS: u32 = 150;
 const FEW_EVALUATIONS: u32 = 40;
 
 const FEW_CELLS: usize = 500;
+
+/// The ascent to a table to try next at a node at which `had` tables were tried, of which the last is `table`: the table's scale is
+/// a million and `had`. The only error is `NoMemory`.
+pub fn next_ascent(
+    alloc: Global,
+    instance: &Instance,
+    node: &Node,
+    table: &Table,
+    had: u32,
+) -> Result<Ascent, NoMemory>
+    requires lawful { IsLawfulInstance instance.now }
+    requires node { IsNodeOf instance.now node.now }
+    requires count { had ≤ 999000000 }
+    ensures lawful { IfOk result (λ ascent. IsLawfulTable instance.now ascent.table) }
+    ensures scale { IfOk result (λ ascent. ascent.table.k ≡ pos (1000000 + had)) }
+{
+    let cells = instance
+        .thermal
+        .as_slice()
+        .len()
+        .saturating_mul(instance.periods as usize);
+    let evaluations = if cells <= FEW_CELLS {
+        FEW_EVALUATIONS
+    } else {
+        EVALUATIONS
+    };
+    let scale = SCALE + i64::from(had);
+    ascend(alloc, instance, node, table, evaluations, scale)
+}
 
 /// A table to try next at a node at which `had` tables were tried, of which the last is `table`; `valued` is its value, or `None`
 /// where it wasn't evaluated here. Tables of different `had` differ. The only error is `NoMemory`.
@@ -39,16 +68,5 @@ pub fn step(
     ensures lawful { IfOk result (IsLawfulTable instance.now) }
     ensures told_apart { IfOk result (IsStepFor had) }
 {
-    let cells = instance
-        .thermal
-        .as_slice()
-        .len()
-        .saturating_mul(instance.periods as usize);
-    let evaluations = if cells <= FEW_CELLS {
-        FEW_EVALUATIONS
-    } else {
-        EVALUATIONS
-    };
-    let scale = SCALE + i64::from(had);
-    Ok(ascend(alloc, instance, node, table, evaluations, scale)?.table)
+    Ok(next_ascent(alloc, instance, node, table, had)?.table)
 }

@@ -13,11 +13,14 @@ const USAGE: &[u8] =
     b"usage: uc solve FILE --cert FILE [--units N] [--workers N] [--gap PPM] [--exact]\n       uc check FILE CERT\n       uc demo SEED\n";
 
 /// Words behind the program's name that are taken.
-const TAKEN: [&[&str]; 14] = [
+const TAKEN: [&[&str]; 15] = [
     &["solve", "in.json", "--cert", "new.cert"],
     &["solve", "--cert", "new.cert", "in.json"],
     &["solve", "--cert=new.cert", "in.json"],
     &["solve", "in.json", "--cert", "new.cert", "--units", "1"],
+    &[
+        "solve", "in.json", "--cert", "new.cert", "--units", "1000000",
+    ],
     &["solve", "in.json", "--cert", "new.cert", "--gap", "0"],
     &["solve", "in.json", "--cert", "new.cert", "--gap=1000000"],
     &["solve", "in.json", "--cert", "new.cert", "--gap=+007"],
@@ -57,7 +60,9 @@ const REFUSED: [&[&str]; 37] = [
     ],
     &["solve", "in.json", "--cer", "new.cert"],
     &["solve", "in.json", "--cert", "new.cert", "--units", "0"],
-    &["solve", "in.json", "--cert", "new.cert", "--units", "2"],
+    &[
+        "solve", "in.json", "--cert", "new.cert", "--units", "1000001",
+    ],
     &["solve", "in.json", "--cert", "new.cert", "--units", "one"],
     &["solve", "in.json", "--cert", "new.cert", "--units", "-1"],
     &["solve", "in.json", "--cert", "new.cert", "--units"],

@@ -11,14 +11,13 @@ use std::thread::Threads;
 use uc_cli::uc;
 
 const BASE_CERTIFICATE: &[u8] =
-    b"uc-certificate 1\nsize 1 1 0 1\nclaim bound 0.000000\nschedule 300.000000\nt 20000000:5000000:0\ntable 1000000\npi 0\nmu 0\nramps 0\nbound 1\nend\n";
+    b"uc-certificate 1\nsize 1 1 0 1\nclaim bound 300.000000\nschedule 300.000000\nt 20000000:5000000:0\ntable 1000000\npi 10000000\nmu 0\nramps 0\nbound 1\nend\n";
 
 const BASE_REPORT: &[u8] =
-    b"periods 1 thermal 1 renewable 0 rounded 0\nbudget spent\ncost 300.000000\nbound 0.000000\nevaluations 1\nthermal \"g1\" 30.000000+5.000000\n";
+    b"periods 1 thermal 1 renewable 0 rounded 0\nclosed\ncost 300.000000\nbound 300.000000\nevaluations 0\nthermal \"g1\" 30.000000+5.000000\n";
 
-/// The same where the gap is the whole cost.
-const BASE_CLOSED: &[u8] =
-    b"periods 1 thermal 1 renewable 0 rounded 0\nclosed\ncost 300.000000\nbound 0.000000\nevaluations 1\nthermal \"g1\" 30.000000+5.000000\n";
+const NO_SCHEDULE: &[u8] =
+    b"periods 1 thermal 1 renewable 0 rounded 0\ninfeasible\nevaluations 0\n";
 
 const USAGE: &[u8] =
     b"usage: uc solve FILE --cert FILE [--units N] [--workers N] [--gap PPM] [--exact]\n       uc check FILE CERT\n       uc demo SEED\n";
@@ -42,12 +41,11 @@ const NONE_FAILS: Failing<'static> = Failing {
     output: &[],
 };
 
-/// How a run ends: its status, how often the gate was entered (by worker 0 with the unit 1), and the bytes of the
-/// certificate, those flushed on the output, and those on the error output.
+/// How a run ends without a claim: its status, and the bytes of the certificate, those flushed on the output, and those on the error
+/// output.
 #[derive(Clone, Copy)]
 struct Ending<'a> {
     code: u8,
-    entries: u64,
     certificate: &'a [u8],
     report: &'a [u8],
     told: &'a [u8],
@@ -57,7 +55,6 @@ struct Ending<'a> {
 fn fault(code: u8, told: &[u8]) -> Ending<'_> {
     Ending {
         code,
-        entries: 0,
         certificate: b"",
         report: b"",
         told,
@@ -95,8 +92,7 @@ fn assert_run<R: Threads + Wait + Sync + Abort>(
     let gate = Tally::new();
     let end = uc(rt, alloc, &words, &mut files, &mut out, &mut err, &gate);
     assert_eq!(rt; end.code, ending.code);
-    assert_eq!(rt; gate.entries(), ending.entries);
-    assert!(rt; ending.entries == 0 || gate.last() == (0, 1));
+    assert_eq!(rt; gate.entries(), 0);
     assert!(rt; files.cert_out.memory.written() == Some(ending.certificate));
     assert!(rt; out.memory.flushed() == Some(ending.report));
     assert!(rt; err.memory.written() == Some(ending.told));
@@ -122,22 +118,47 @@ struct Refusal {
 }
 
 const BASE_ANSWER: Ending<'static> = Ending {
-    code: 1,
-    entries: 1,
+    code: 0,
     certificate: BASE_CERTIFICATE,
     report: BASE_REPORT,
     told: b"",
 };
 
-const ANSWERS: [Answer; 12] = [
+/// The opening shows that there is no schedule.
+const EXCLUDED: Ending<'static> = Ending {
+    code: 3,
+    certificate: SHORT,
+    report: NO_SCHEDULE,
+    told: b"",
+};
+
+/// The unit is off at first.
+const NO_OUTPUT: (&str, &str) = ("\"power_output_t0\":20", "\"power_output_t0\":0");
+
+const NOT_ON: (&str, &str) = ("\"unit_on_t0\":1", "\"unit_on_t0\":0");
+
+const NOT_UP: (&str, &str) = ("\"time_up_t0\":1", "\"time_up_t0\":0");
+
+const DOWN: (&str, &str) = ("\"time_down_t0\":0", "\"time_down_t0\":1");
+
+/// The price of demand shows that output is short.
+const SHORT: &[u8] =
+    b"uc-certificate 1\nsize 1 1 0 1\nclaim infeasible\nschedule none\ntable 0\npi 1\nmu 0\nramps 0\nray 1\nend\n";
+
+const ANSWERS: [Answer; 16] = [
     Answer {
         changes: &[],
-        words: ONE,
+        words: &[],
         ending: BASE_ANSWER,
     },
     Answer {
         changes: &[],
         words: ONE_EXACT,
+        ending: BASE_ANSWER,
+    },
+    Answer {
+        changes: &[],
+        words: &["--gap", "0", "--units", "1000000"],
         ending: BASE_ANSWER,
     },
     Answer {
@@ -148,56 +169,51 @@ const ANSWERS: [Answer; 12] = [
         words: ONE,
         ending: BASE_ANSWER,
     },
-    // The gap that is given by the words: the whole cost, and a part in a million less.
-    Answer {
-        changes: &[],
-        words: &["--units", "1", "--gap", "0"],
-        ending: BASE_ANSWER,
-    },
-    Answer {
-        changes: &[],
-        words: &["--gap", "999999"],
-        ending: BASE_ANSWER,
-    },
-    Answer {
-        changes: &[],
-        words: &["--gap", "1000000"],
-        ending: Ending {
-            code: 0,
-            report: BASE_CLOSED,
-            ..BASE_ANSWER
-        },
-    },
     // 20 MW above the minimum at $124,997.5 a MWh.
     Answer {
         changes: &[("\"cost\":500", "\"cost\":5000000")],
         words: ONE,
         ending: Ending {
-            certificate: b"uc-certificate 1\nsize 1 1 0 1\nclaim bound 0.000000\nschedule 2500050.000000\nt 20000000:5000000:0\ntable 1000000\npi 0\nmu 0\nramps 0\nbound 1\nend\n",
-            report: b"periods 1 thermal 1 renewable 0 rounded 0\nbudget spent\ncost 2500050.000000\nbound 0.000000\nevaluations 1\nthermal \"g1\" 30.000000+5.000000\n",
+            certificate: b"uc-certificate 1\nsize 1 1 0 1\nclaim bound 2500050.000000\nschedule 2500050.000000\nt 20000000:5000000:0\ntable 1000000\npi 124997500000\nmu 0\nramps 0\nbound 1\nend\n",
+            report: b"periods 1 thermal 1 renewable 0 rounded 0\nclosed\ncost 2500050.000000\nbound 2500050.000000\nevaluations 0\nthermal \"g1\" 30.000000+5.000000\n",
             ..BASE_ANSWER
         },
     },
     Answer {
         changes: &[("\"must_run\":0", "\"must_run\":1")],
         words: ONE,
-        ending: Ending {
-            certificate: b"uc-certificate 1\nsize 1 1 0 1\nclaim bound 100.000000\nschedule 300.000000\nt 20000000:5000000:0\ntable 1000000\npi 0\nmu 0\nramps 0\nbound 1\nend\n",
-            report: b"periods 1 thermal 1 renewable 0 rounded 0\nbudget spent\ncost 300.000000\nbound 100.000000\nevaluations 1\nthermal \"g1\" 30.000000+5.000000\n",
-            ..BASE_ANSWER
-        },
+        ending: BASE_ANSWER,
     },
-    // A dispatch that is stuck doesn't exclude that there is a schedule, though here there is none.
+    // The hull of the costs runs past the second point.
     Answer {
         changes: &[
-            ("\"demand\":[30]", "\"demand\":[5]"),
-            ("[5],\"thermal", "[0],\"thermal"),
+            ("\"demand\":[30]", "\"demand\":[10]"),
+            ("\"reserves\":[5]", "\"reserves\":[0]"),
+            ("\"power_output_minimum\":10", "\"power_output_minimum\":0"),
+            ("\"power_output_maximum\":50", "\"power_output_maximum\":20"),
+            ("\"ramp_up_limit\":40", "\"ramp_up_limit\":20"),
+            ("\"ramp_down_limit\":40", "\"ramp_down_limit\":20"),
+            ("\"ramp_startup_limit\":50", "\"ramp_startup_limit\":20"),
+            ("\"ramp_shutdown_limit\":50", "\"ramp_shutdown_limit\":20"),
+            ("\"power_output_t0\":20", "\"power_output_t0\":10"),
+            (
+                "{\"mw\":10,\"cost\":100},{\"mw\":50,\"cost\":500}",
+                "{\"mw\":0,\"cost\":0},{\"mw\":10,\"cost\":100},{\"mw\":20,\"cost\":120}",
+            ),
         ],
         words: ONE,
         ending: Ending {
-            code: 2,
-            certificate: b"uc-certificate 1\nsize 1 1 0 1\nclaim bound 0.000000\nschedule none\ntable 1000000\npi 0\nmu 0\nramps 0\nbound 1\nend\n",
-            report: b"periods 1 thermal 1 renewable 0 rounded 0\nbudget spent, no schedule found\nbound 0.000000\nevaluations 1\nmost-on commitment stuck in period 1: least output 10.000000 above demand 5.000000\n",
+            certificate: b"uc-certificate 1\nsize 1 1 0 1\nclaim bound 60.000000\nschedule 60.000000\nt 10000000:0:0\ntable 1000000\npi 6000000\nmu 0\nramps 0\nbound 1\nend\n",
+            report: b"periods 1 thermal 1 renewable 0 rounded 0\nclosed\ncost 60.000000\nbound 60.000000\nevaluations 0\nthermal \"g1\" 10.000000+0.000000\n",
+            ..BASE_ANSWER
+        },
+    },
+    Answer {
+        changes: &[("\"reserves\":[5]", "\"reserves\":[20]")],
+        words: ONE,
+        ending: Ending {
+            certificate: b"uc-certificate 1\nsize 1 1 0 1\nclaim bound 300.000000\nschedule 300.000000\nt 20000000:20000000:0\ntable 1000000\npi 10000000\nmu 0\nramps 0\nbound 1\nend\n",
+            report: b"periods 1 thermal 1 renewable 0 rounded 0\nclosed\ncost 300.000000\nbound 300.000000\nevaluations 0\nthermal \"g1\" 30.000000+20.000000\n",
             ..BASE_ANSWER
         },
     },
@@ -205,26 +221,75 @@ const ANSWERS: [Answer; 12] = [
         changes: &[
             ("\"must_run\":0", "\"must_run\":1"),
             ("\"time_down_minimum\":1", "\"time_down_minimum\":3"),
-            ("\"power_output_t0\":20", "\"power_output_t0\":0"),
-            ("\"unit_on_t0\":1", "\"unit_on_t0\":0"),
-            ("\"time_up_t0\":1", "\"time_up_t0\":0"),
-            ("\"time_down_t0\":0", "\"time_down_t0\":1"),
+            NO_OUTPUT,
+            NOT_ON,
+            NOT_UP,
+            DOWN,
         ],
         words: ONE,
         ending: Ending {
-            code: 3,
-            entries: 0,
             certificate: b"uc-certificate 1\nsize 1 1 0 0\nclaim infeasible\nschedule none\nempty 1\nend\n",
-            report: b"periods 1 thermal 1 renewable 0 rounded 0\ninfeasible\nevaluations 0\n",
-            told: b"",
+            ..EXCLUDED
+        },
+    },
+    Answer {
+        changes: &[("\"demand\":[30]", "\"demand\":[60]")],
+        words: ONE,
+        ending: EXCLUDED,
+    },
+    // The unit is up too slowly.
+    Answer {
+        changes: &[("\"ramp_up_limit\":40", "\"ramp_up_limit\":5")],
+        words: ONE,
+        ending: Ending {
+            certificate: b"uc-certificate 1\nsize 1 1 0 1\nclaim infeasible\nschedule none\ntable 0\npi 1\nmu 0\nramps 1\nramp 1 1 1 0\nray 1\nend\n",
+            ..EXCLUDED
+        },
+    },
+    Answer {
+        changes: &[("\"reserves\":[5]", "\"reserves\":[21]")],
+        words: ONE,
+        ending: Ending {
+            certificate: b"uc-certificate 1\nsize 1 1 0 1\nclaim infeasible\nschedule none\ntable 0\npi 1\nmu 1\nramps 0\nray 1\nend\n",
+            ..EXCLUDED
+        },
+    },
+    // A start that reaches no output leaves the unit off.
+    Answer {
+        changes: &[
+            NO_OUTPUT,
+            NOT_ON,
+            NOT_UP,
+            DOWN,
+            ("\"ramp_startup_limit\":50", "\"ramp_startup_limit\":5"),
+            ("\"reserves\":[5]", "\"reserves\":[0]"),
+        ],
+        words: ONE,
+        ending: EXCLUDED,
+    },
+    Answer {
+        changes: &[
+            NO_OUTPUT,
+            NOT_ON,
+            NOT_UP,
+            DOWN,
+            ("\"ramp_startup_limit\":50", "\"ramp_startup_limit\":5"),
+            ("\"reserves\":[5]", "\"reserves\":[0]"),
+            ("\"demand\":[30]", "\"demand\":[0]"),
+        ],
+        words: ONE,
+        ending: Ending {
+            certificate: b"uc-certificate 1\nsize 1 1 0 1\nclaim bound 0.000000\nschedule 0.000000\nt -\ntable 1000000\npi 0\nmu 0\nramps 0\nbound 1\nend\n",
+            report: b"periods 1 thermal 1 renewable 0 rounded 0\nclosed\ncost 0.000000\nbound 0.000000\nevaluations 0\nthermal \"g1\" -\n",
+            ..BASE_ANSWER
         },
     },
     Answer {
         changes: &[("\"demand\":[30]", "\"demand\":[30.0000005]")],
         words: ONE,
         ending: Ending {
-            certificate: b"uc-certificate 1\nsize 1 1 0 1\nclaim bound 0.000000\nschedule 300.000010\nt 20000001:5000000:0\ntable 1000000\npi 0\nmu 0\nramps 0\nbound 1\nend\n",
-            report: b"periods 1 thermal 1 renewable 0 rounded 1\nbudget spent\ncost 300.000010\nbound 0.000000\nevaluations 1\nthermal \"g1\" 30.000001+5.000000\n",
+            certificate: b"uc-certificate 1\nsize 1 1 0 1\nclaim bound 300.000010\nschedule 300.000010\nt 20000001:5000000:0\ntable 1000000\npi 10000000\nmu 0\nramps 0\nbound 1\nend\n",
+            report: b"periods 1 thermal 1 renewable 0 rounded 1\nclosed\ncost 300.000010\nbound 300.000010\nevaluations 0\nthermal \"g1\" 30.000001+5.000000\n",
             ..BASE_ANSWER
         },
     },
@@ -236,8 +301,8 @@ const ANSWERS: [Answer; 12] = [
         ],
         words: ONE,
         ending: Ending {
-            certificate: b"uc-certificate 1\nsize 2 1 0 1\nclaim bound 0.000000\nschedule 600.000000\nt 20000000:5000000:0 20000000:5000000:0\ntable 1000000\npi 0 0\nmu 0 0\nramps 0\nbound 1\nend\n",
-            report: b"periods 2 thermal 1 renewable 0 rounded 0\nbudget spent\ncost 600.000000\nbound 0.000000\nevaluations 1\nthermal \"g1\" 30.000000+5.000000 30.000000+5.000000\n",
+            certificate: b"uc-certificate 1\nsize 2 1 0 1\nclaim bound 600.000000\nschedule 600.000000\nt 20000000:5000000:0 20000000:5000000:0\ntable 1000000\npi 10000000 10000000\nmu 0 0\nramps 0\nbound 1\nend\n",
+            report: b"periods 2 thermal 1 renewable 0 rounded 0\nclosed\ncost 600.000000\nbound 600.000000\nevaluations 0\nthermal \"g1\" 30.000000+5.000000 30.000000+5.000000\n",
             ..BASE_ANSWER
         },
     },
@@ -288,7 +353,7 @@ const REFUSALS: [Refusal; 8] = [
     },
     Refusal {
         changes: &[],
-        words: &["--units", "2"],
+        words: &["--units", "0"],
         code: 5,
         told: USAGE,
     },
@@ -360,7 +425,6 @@ fn a_fault_of_the_outside_ends_the_run(rt: HostRuntime) -> Result<(), Fail> {
             ..NONE_FAILS
         };
         let ending = Ending {
-            entries: 1,
             certificate,
             ..fault(7, b"write failed: certificate\n")
         };
@@ -372,7 +436,6 @@ fn a_fault_of_the_outside_ends_the_run(rt: HostRuntime) -> Result<(), Fail> {
             ..NONE_FAILS
         };
         let ending = Ending {
-            entries: 1,
             certificate: BASE_CERTIFICATE,
             ..fault(7, b"write failed: output\n")
         };
@@ -381,15 +444,49 @@ fn a_fault_of_the_outside_ends_the_run(rt: HostRuntime) -> Result<(), Fail> {
     Ok(())
 }
 
-/// The text of a system without thermal units.
+/// The text of a system without thermal units, whose renewable unit gives 5 MW at most.
 const NO_THERMAL: &str =
-    "{\"time_periods\":1,\"demand\":[30],\"reserves\":[0],\"thermal_generators\":{},\"renewable_generators\":{\"w1\":{\"power_output_minimum\":[0],\"power_output_maximum\":[40]}}}";
+    "{\"time_periods\":1,\"demand\":[5],\"reserves\":[0],\"thermal_generators\":{},\"renewable_generators\":{\"w1\":{\"power_output_minimum\":[0],\"power_output_maximum\":[5]}}}";
 
-/// A second unit, which must run and costs 300 dollars at its minimum, behind the first one.
-const SECOND_UNIT: (&str, &str) = (
-    "}},\"renewable_generators\"",
-    "},\"g2\":{\"must_run\":1,\"power_output_minimum\":20,\"power_output_maximum\":40,\"ramp_up_limit\":20,\"ramp_down_limit\":20,\"ramp_startup_limit\":40,\"ramp_shutdown_limit\":40,\"time_up_minimum\":1,\"time_down_minimum\":1,\"power_output_t0\":20,\"unit_on_t0\":1,\"time_up_t0\":1,\"time_down_t0\":0,\"startup\":[{\"lag\":1,\"cost\":0}],\"piecewise_production\":[{\"mw\":20,\"cost\":300},{\"mw\":40,\"cost\":700}]}},\"renewable_generators\"",
-);
+/// The report of such a system that has no schedule.
+const NO_RENEWABLE_SCHEDULE: &[u8] =
+    b"periods 1 thermal 0 renewable 1 rounded 0\ninfeasible\nevaluations 0\n";
+
+/// Its changes, and how a run of it ends.
+const RENEWABLE_ANSWERS: [Answer; 3] = [
+    Answer {
+        changes: &[],
+        words: ONE,
+        ending: Ending {
+            certificate: b"uc-certificate 1\nsize 1 0 1 1\nclaim bound 0.000000\nschedule 0.000000\nw 5000000\ntable 1000000\npi 0\nmu 0\nramps 0\nbound 1\nend\n",
+            report: b"periods 1 thermal 0 renewable 1 rounded 0\nclosed\ncost 0.000000\nbound 0.000000\nevaluations 0\nrenewable \"w1\" 5.000000\n",
+            ..BASE_ANSWER
+        },
+    },
+    Answer {
+        changes: &[("\"demand\":[5]", "\"demand\":[6]")],
+        words: ONE,
+        ending: Ending {
+            code: 3,
+            certificate: b"uc-certificate 1\nsize 1 0 1 1\nclaim infeasible\nschedule none\ntable 0\npi 1\nmu 0\nramps 0\nray 1\nend\n",
+            report: NO_RENEWABLE_SCHEDULE,
+            told: b"",
+        },
+    },
+    Answer {
+        changes: &[
+            ("\"demand\":[5]", "\"demand\":[0]"),
+            ("\"reserves\":[0]", "\"reserves\":[5]"),
+        ],
+        words: ONE,
+        ending: Ending {
+            code: 3,
+            certificate: b"uc-certificate 1\nsize 1 0 1 1\nclaim infeasible\nschedule none\ntable 0\npi 0\nmu 1\nramps 0\nray 1\nend\n",
+            report: NO_RENEWABLE_SCHEDULE,
+            told: b"",
+        },
+    },
+];
 
 /// The item so often, with this between.
 fn repeated(alloc: Global, item: &str, between: &str, times: u32) -> Result<String, AllocError> {
@@ -401,83 +498,22 @@ fn repeated(alloc: Global, item: &str, between: &str, times: u32) -> Result<Stri
     Ok(text)
 }
 
-/// What is printed of a system: its size as the certificate has it, the report's line on the gap, cost and bound, and the
-/// lines of its units in the certificate and in the report.
-#[derive(Clone, Copy)]
-struct Solved<'a> {
-    periods: u32,
-    size: &'a str,
-    code: u8,
-    state: &'a str,
-    cost: &'a str,
-    bound: &'a str,
-    cells: &'a str,
-    rows: &'a str,
-}
-
-/// How a run ends that bounds a system at the table of no prices and dispatches its most-on commitment.
-fn assert_solved<R: Threads + Wait + Sync + Abort>(
-    rt: &R,
-    alloc: Global,
-    input: &str,
-    solved: &Solved<'_>,
-) -> Result<(), Fail> {
-    let Solved {
-        periods,
-        size,
-        code,
-        state,
-        cost,
-        bound,
-        cells,
-        rows,
-    } = *solved;
-    let zeros = repeated(alloc, "0", " ", periods)?;
-    let certificate = format!(in alloc;
-        "uc-certificate 1\nsize {periods} {size} 1\nclaim bound {bound}\nschedule {cost}\n{cells}table 1000000\npi {zeros}\nmu {zeros}\nramps 0\nbound 1\nend\n"
-    )?;
-    let (thermal, renewable) = size.split_once(' ').unwrap_or(("", ""));
-    let report = format!(in alloc;
-        "periods {periods} thermal {thermal} renewable {renewable} rounded 0\n{state}\ncost {cost}\nbound {bound}\nevaluations 1\n{rows}"
-    )?;
-    let ending = Ending {
-        code,
-        entries: 1,
-        certificate: certificate.as_bytes(),
-        report: report.as_bytes(),
-        told: b"",
-    };
-    assert_run(rt, alloc, input.as_bytes(), ONE, &NONE_FAILS, &ending)?;
-    Ok(())
-}
-
-// With ample memory a run solves a system of two units, which both run at their minimum, and one without thermal units.
+// With ample memory a run solves a system without thermal units, or tells that it has no schedule.
 #[test]
-fn systems_of_each_kind_of_unit_are_solved(rt: HostRuntime) -> Result<(), Fail> {
+fn systems_without_thermal_units_are_solved(rt: HostRuntime) -> Result<(), Fail> {
     let alloc = rt.alloc();
-    let two = changed(alloc, BASE, &[SECOND_UNIT])?;
-    let solved = Solved {
-        periods: 1,
-        size: "2 0",
-        code: 1,
-        state: "budget spent",
-        cost: "400.000000",
-        bound: "300.000000",
-        cells: "t 0:5000000:0\nt 0:0:0\n",
-        rows: "thermal \"g1\" 10.000000+5.000000\nthermal \"g2\" 20.000000+0.000000\n",
-    };
-    assert_solved(&rt, alloc, &two, &solved)?;
-    let solved = Solved {
-        periods: 1,
-        size: "0 1",
-        code: 0,
-        state: "closed",
-        cost: "0.000000",
-        bound: "0.000000",
-        cells: "w 30000000\n",
-        rows: "renewable \"w1\" 30.000000\n",
-    };
-    assert_solved(&rt, alloc, NO_THERMAL, &solved)
+    for run in &RENEWABLE_ANSWERS {
+        let input = changed(alloc, NO_THERMAL, run.changes)?;
+        assert_run(
+            &rt,
+            alloc,
+            input.as_bytes(),
+            run.words,
+            &NONE_FAILS,
+            &run.ending,
+        )?;
+    }
+    Ok(())
 }
 
 // And one over 168 hours.
@@ -497,18 +533,20 @@ fn a_system_over_a_week_is_solved(rt: HostRuntime) -> Result<(), Fail> {
         ],
     )?;
     let cells = repeated(alloc, "20000000:5000000:0", " ", 168)?;
-    let cells = format!(in alloc; "t {cells}\n")?;
+    let prices = repeated(alloc, "10000000", " ", 168)?;
+    let zeros = repeated(alloc, "0", " ", 168)?;
     let row = repeated(alloc, "30.000000+5.000000", " ", 168)?;
-    let row = format!(in alloc; "thermal \"g1\" {row}\n")?;
-    let solved = Solved {
-        periods: 168,
-        size: "1 0",
-        code: 1,
-        state: "budget spent",
-        cost: "50400.000000",
-        bound: "16800.000000",
-        cells: cells.as_str(),
-        rows: row.as_str(),
+    let certificate = format!(in alloc;
+        "uc-certificate 1\nsize 168 1 0 1\nclaim bound 50400.000000\nschedule 50400.000000\nt {cells}\ntable 1000000\npi {prices}\nmu {zeros}\nramps 0\nbound 1\nend\n"
+    )?;
+    let report = format!(in alloc;
+        "periods 168 thermal 1 renewable 0 rounded 0\nclosed\ncost 50400.000000\nbound 50400.000000\nevaluations 0\nthermal \"g1\" {row}\n"
+    )?;
+    let ending = Ending {
+        certificate: certificate.as_bytes(),
+        report: report.as_bytes(),
+        ..BASE_ANSWER
     };
-    assert_solved(&rt, alloc, &long, &solved)
+    assert_run(&rt, alloc, long.as_bytes(), ONE, &NONE_FAILS, &ending)?;
+    Ok(())
 }

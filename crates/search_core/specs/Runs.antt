@@ -16,7 +16,7 @@ use Rattle.dual_model.specs.declared.node.Node.{Node}
 use Rattle.dual_model.specs.declared.table.Table.{Table}
 use Rattle.branch_tree.specs.Closing.{is_within_gap}
 use Rattle.branch_tree.specs.NumberedTree.{node_count}
-use Rattle.branch_tree.specs.SearchResult.{IsOutcome}
+use Rattle.branch_tree.specs.TrueFound.{IsOutcome}
 use Rattle.branch_tree.specs.StoredTree.{AtMost, IsNodeAt, tree_bound}
 use Rattle.branch_tree.specs.TreeLaws.{StoredHolds, claims_of}
 use Rattle.branch_tree.specs.TreeView.{tree_of}

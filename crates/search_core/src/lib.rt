@@ -19,9 +19,10 @@ mod notes;
 mod record;
 mod start;
 pub mod state;
-mod stored;
+pub mod stored;
 mod tables;
 
 pub use branch_tree::{Entry, Outcome};
 pub use event::{Event, Move, StepFault};
 pub use state::State;
+pub use stored::{Stored, kept_after};

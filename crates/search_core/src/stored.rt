@@ -10,7 +10,7 @@ use uc_model::floor_div;
 
 /// A table, by its number, and the bound that it gives, in micro-dollars.
 #[derive(Clone, Copy, Debug)]
-pub(crate) struct Stored {
+pub struct Stored {
     pub table: u32,
     pub value: i128,
 }
@@ -49,7 +49,7 @@ fn greater(old: &Stored, new: &Stored) -> Stored
 }
 
 /// What the move Again leaves at a node that stored `old`, after an evaluation at the table of this number and scale.
-pub(crate) fn kept_after(old: &Stored, table: u32, scale: &i64, outcome: &Outcome) -> Stored
+pub fn kept_after(old: &Stored, table: u32, scale: &i64, outcome: &Outcome) -> Stored
     ensures { result ≡ kept_after old.now table scale.now outcome.now }
 {
     match outcome {

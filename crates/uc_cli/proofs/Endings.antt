@@ -1,6 +1,6 @@
 -- How the ends of a run follow from its steps: reading and searching (from the files f to g), writing the
 -- certificate (from g to h) and the report.
-use Rattle.std.proofs.Common.{◌≡◌, ℕ, Bool, true, false, subst, ap, ◌∙◌, refl}
+use Rattle.std.proofs.Common.{◌≡◌, ℕ, true, false, subst, ap, ◌∙◌, refl}
 use Rattle.std.specs.Prelude.{Result, Ok, Err, OnOk, OnErr, is_err}
 use Rattle.uc_model.specs.declared.instance.Instance.{Instance}
 use Rattle.outside.specs.declared.slot.Slot.{Slot}
@@ -27,11 +27,11 @@ at_ok (Err x) e h = absurd (cc)
 certificate_same : (f g : Slot → SlotState) → SameBut slot.Instance f g → g slot.CertOut ≡ f slot.CertOut
 certificate_same f g same = same slot.CertOut (λ e. cc)
 
-pub unsaved : (exact : Bool) (f g h : Slot → SlotState) (out err_old err_new : SinkState) (instance : Instance) (rounded : ℕ) (found : Found)
-    → IsAnswer exact (f slot.Instance) instance rounded found → SameBut slot.Instance f g
+pub unsaved : (asked : Solve) (f g h : Slot → SlotState) (out err_old err_new : SinkState) (instance : Instance) (rounded : ℕ) (found : Found)
+    → IsAnswer asked (f slot.Instance) instance rounded found → SameBut slot.Instance f g
     → FailsToSave (text_of_certificate instance found) (g slot.CertOut) (h slot.CertOut)
-    → IsUnsaved exact (outside_of f out err_old) (outside_of h out err_new) found
-unsaved exact f g h out err_old err_new instance rounded found answer same fails = record {
+    → IsUnsaved asked (outside_of f out err_old) (outside_of h out err_new) found
+unsaved asked f g h out err_old err_new instance rounded found answer same fails = record {
   has = record { instance = instance; rounded = rounded; answer = answer };
   certificate =
       subst (λ s. FailsToSave (text_of_certificate instance found) s (h slot.CertOut)) (certificate_same f g same) fails;
@@ -45,7 +45,7 @@ saved_since f g h instance found same saved =
     subst (λ s. IsSaved (text_of_certificate instance found) s (h slot.CertOut)) (certificate_same f g same) saved
 
 pub untold : (asked : Solve) (f g h : Slot → SlotState) (before after err_old err_new : SinkState) (instance : Instance) (rounded : ℕ) (found : Found)
-    → IsAnswer asked.exact (f slot.Instance) instance rounded found → SameBut slot.Instance f g
+    → IsAnswer asked (f slot.Instance) instance rounded found → SameBut slot.Instance f g
     → IsSaved (text_of_certificate instance found) (g slot.CertOut) (h slot.CertOut)
     → FailsToTell (found_report instance found rounded asked.gap) before after
     → IsUntold asked (outside_of f before err_old) (outside_of h after err_new) found
@@ -65,7 +65,7 @@ calm_each f g h first second read written slot.CertOut =
     written ∙ ap (λ (s : SlotState). s.faults) (first slot.CertOut (λ e. cc))
 
 pub done : (asked : Solve) (f g h : Slot → SlotState) (before after err_old err_new : SinkState) (instance : Instance) (rounded : ℕ) (found : Found)
-    → IsAnswer asked.exact (f slot.Instance) instance rounded found → SameBut slot.Instance f g → SameBut slot.CertOut g h
+    → IsAnswer asked (f slot.Instance) instance rounded found → SameBut slot.Instance f g → SameBut slot.CertOut g h
     → (g slot.Instance).faults ≡ (f slot.Instance).faults
     → IsSaved (text_of_certificate instance found) (g slot.CertOut) (h slot.CertOut)
     → IsTold (found_report instance found rounded asked.gap) before after

@@ -1,9 +1,8 @@
-pub mod UnpricedTables
 pub mod ScheduleTexts
 pub mod SearchResults
 pub mod Endings
 pub mod OnlyRead
 pub mod Commands
 pub mod Verdicts
-pub mod Gaps
+pub mod OptionNumbers
 pub mod TurnedAway

@@ -1,27 +1,18 @@
--- A priced schedule holds in a certificate, and has a text of its grammar.
-use Rattle.std.proofs.Common.{◌≡◌, ◌∙◌, ℕ, ◌<◌, false, List, [], All, get_or, length, subst, sym, arith, ap, ℤ, pos, Some, None, Option}
+-- A schedule that is accepted has a text of the certificate's grammar.
+use Rattle.std.proofs.Common.{◌≡◌, ◌∙◌, ℕ, false, List, [], get_or, length, subst, sym, arith, ap, ℤ, pos, Some, None, Option}
 use Rattle.std.specs.Prelude.{IfSome}
 use Rattle.std.proofs.lemmas.List.{get_or_default}
-use Rattle.std.proofs.lemmas.Option.{same_Some}
 use Rattle.uc_model.specs.Schedule.{thermal_count, renewable_count}
-use Rattle.uc_model.specs.PrintedSchedule.{HasShapeOf, cell_at}
+use Rattle.uc_model.specs.PrintedSchedule.{cell_at}
 use Rattle.uc_model.specs.declared.instance.Instance.{Instance}
 use Rattle.uc_model.specs.declared.schedule.Cell.{Cell}
 use Rattle.uc_model.specs.declared.schedule.Printed.{Printed}
-use Rattle.dual_model.specs.Certificate.{WrittenSchedule, ScheduleHolds}
 use Rattle.schedule_check.specs.SizedNumbers.{HasSizedNumbers, IsSizedCell}
 use Rattle.dispatch_repair.specs.PlainNumbers.{IsPlainCell, HasPlainNumbers}
 use Rattle.dispatch_repair.proofs.Plain.{sized}
 use Rattle.branch_tree.specs.Claims.{written_of}
-use Rattle.cert_text.specs.TextConditions.{HasDigits, IsMoney, IsCellText, IsThermalRow, IsRenewableRow, IsScheduleText}
-use Rattle.uc_cli.specs.inside.Search.{IsPriced}
-
-pub schedule_holds : (instance : Instance) (schedule : Option (Printed × ℤ)) → IfSome schedule (λ pair. IsPriced instance pair.0 pair.1)
-    → (written : WrittenSchedule) → written_of schedule ≡ Some written → ScheduleHolds instance written
-schedule_holds instance None priced written e = absurd (cc)
-schedule_holds instance (Some pair) priced written e =
-    subst (ScheduleHolds instance) (same_Some _ written e)
-    (record { shape = priced.shape; obeys = priced.obeys; cost = priced.cost_is })
+use Rattle.cert_text.specs.TextConditions.{HasDigits, IsCellText, IsThermalRow, IsRenewableRow, IsScheduleText}
+use Rattle.schedule_repair.specs.Accepted.{IsAccepted}
 
 -- ---- the text
 -- where a schedule has no cell
@@ -59,21 +50,21 @@ renewable_row periods printed w row small is count = record {
       subst (HasDigits 15) same (omega (arith, output));
 }
 
-schedule_text : (instance : Instance) (printed : Printed) (cost : ℤ) → IsPriced instance printed cost
+schedule_text : (instance : Instance) (printed : Printed) (cost : ℤ) → IsAccepted instance printed cost
     → IsScheduleText instance.periods (thermal_count instance) (renewable_count instance) (record { printed = printed; cost = cost })
-schedule_text instance printed cost priced =
-    let small = sized printed priced.numbers in
+schedule_text instance printed cost accepted =
+    let small = sized printed accepted.numbers in
     record {
-      cost = priced.money;
-      thermal_rows = priced.shape.thermal;
+      cost = omega (arith, accepted.size);
+      thermal_rows = accepted.shape.thermal;
       cells = λ g d within.
-          thermal_row instance.periods printed g _ priced.numbers small (get_or_default printed.thermal g d [] within) (priced.shape.cells g d within);
-      renewable_rows = priced.shape.renewable;
+          thermal_row instance.periods printed g _ accepted.numbers small (get_or_default printed.thermal g d [] within) (accepted.shape.cells g d within);
+      renewable_rows = accepted.shape.renewable;
       outputs = λ w d within.
-          renewable_row instance.periods printed w _ small (get_or_default printed.renewable w d [] within) (priced.shape.outputs w d within);
+          renewable_row instance.periods printed w _ small (get_or_default printed.renewable w d [] within) (accepted.shape.outputs w d within);
     }
 
-pub has_schedule_text : (instance : Instance) (schedule : Option (Printed × ℤ)) → IfSome schedule (λ pair. IsPriced instance pair.0 pair.1)
+pub has_schedule_text : (instance : Instance) (schedule : Option (Printed × ℤ)) → IfSome schedule (λ pair. IsAccepted instance pair.0 pair.1)
     → IfSome (written_of schedule) (IsScheduleText instance.periods (thermal_count instance) (renewable_count instance))
-has_schedule_text instance None priced = tt
-has_schedule_text instance (Some pair) priced = schedule_text instance pair.0 pair.1 priced
+has_schedule_text instance None accepted = tt
+has_schedule_text instance (Some pair) accepted = schedule_text instance pair.0 pair.1 accepted

@@ -21,6 +21,14 @@ abbrev pub one_alone : Text → Rule
 one_alone name =
     record (new_rule name) { long = Some name; parser = Some (Signed (pos 1) (pos 1)); defaults = codes "1" ∷ [] }
 
+-- `--units N`, a whole number from 1 to a million, which is 1000 where the option isn't given
+abbrev pub units_option : Rule
+units_option = record (new_rule (codes "units")) {
+  long = Some (codes "units");
+  parser = Some (Signed (pos 1) (pos 1000000));
+  defaults = codes "1000" ∷ [];
+}
+
 -- `--gap PPM`, a whole number from 0 to a million, which is 1000 where the option isn't given
 abbrev pub gap_option : Rule
 gap_option = record (new_rule (codes "gap")) {
@@ -36,8 +44,8 @@ switch name = record (new_rule name) { long = Some name; action = Some SetTrue }
 -- `solve FILE --cert FILE [--units N] [--workers N] [--gap PPM] [--exact]`
 abbrev pub solve_shape : Shape
 solve_shape = record (new_shape (codes "solve")) {
-  rules = place (codes "instance") ∷ needed_option (codes "cert") ∷ one_alone (codes "units") ∷ one_alone (codes "workers")
-      ∷ gap_option ∷ switch (codes "exact") ∷ [];
+  rules = place (codes "instance") ∷ needed_option (codes "cert") ∷ units_option ∷ one_alone (codes "workers") ∷ gap_option
+      ∷ switch (codes "exact") ∷ [];
 }
 
 -- `check FILE CERT`

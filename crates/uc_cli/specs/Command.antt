@@ -7,11 +7,12 @@ use Rattle.clap.specs.ValueTests.{is_unsigned_in}
 use Rattle.clap.specs.Words.{Row, Text, first_of, one_of, subcommand_of}
 use Rattle.uc_cli.specs.Arguments.{program, is_taken}
 
--- what `solve` is asked: the instance's file, the certificate's, the gap in parts per million of a cost at which a search is
--- closed, and whether a rounded number is refused
+-- what `solve` is asked: the instance's file, the certificate's, the budget of evaluations, the gap in parts per million of a cost
+-- at which a search is closed, and whether a rounded number is refused
 pub record Solve : Type 0 where
   pub instance : List ℕ
   pub certificate : List ℕ
+  pub units : ℕ
   pub gap : ℕ
   pub exact : Bool
 
@@ -34,17 +35,18 @@ abbrev pub is_on : Text → List Row → Bool
 is_on id rows = option_map_or (λ text. bytes_eq text (codes "true")) (first_of id rows) false
 
 -- the whole number that a text writes, where it is at most a million, as each one is that the parser lets through; else 0
-abbrev pub parts_per_million : Text → ℕ
-parts_per_million text = if is_unsigned_in 0 1000000 text then digits_value 10 (without_leading_plus text) else 0
+abbrev pub up_to_a_million : Text → ℕ
+up_to_a_million text = if is_unsigned_in 0 1000000 text then digits_value 10 (without_leading_plus text) else 0
 
-abbrev pub gap_of : List Row → ℕ
-gap_of rows = option_map_or parts_per_million (one_of (codes "gap") rows) 0
+abbrev pub number_of : Text → List Row → ℕ
+number_of id rows = option_map_or up_to_a_million (one_of id rows) 0
 
 abbrev pub solve_of : List Row → Solve
 solve_of rows = record {
   instance = value_of (codes "instance") rows;
   certificate = value_of (codes "cert") rows;
-  gap = gap_of rows;
+  units = number_of (codes "units") rows;
+  gap = number_of (codes "gap") rows;
   exact = is_on (codes "exact") rows;
 }
 

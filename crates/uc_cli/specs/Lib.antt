@@ -4,6 +4,5 @@ pub mod Outside
 pub mod Reading
 pub mod Writing
 pub mod Checking
-pub mod MostOnDispatch
 pub mod Run
 pub mod inside

@@ -10,7 +10,7 @@ use Rattle.branch_tree.specs.StoredTree.{tree_bound}
 use Rattle.branch_tree.specs.Closing.{status_of}
 use Rattle.dual_model.specs.Certificate.{WrittenSchedule}
 use Rattle.branch_tree.specs.Claims.{certificate_of, written_of}
-use Rattle.branch_tree.specs.SearchResult.{IsSearchResult}
+use Rattle.workers.specs.SearchResult.{IsSearchResult}
 use Rattle.cert_text.specs.CertificateText.{listing_of}
 use Rattle.cert_text.specs.TextConditions.{HasText}
 use Rattle.branch_tree.specs.declared.found.Found.{Found}
@@ -22,43 +22,41 @@ use Rattle.uc_cli.specs.Outside.{Outside}
 use Rattle.uc_cli.specs.Command.{Solve, Command, Solves, Checks}
 use Rattle.uc_cli.specs.Reading.{most_bytes, HasInstance, HasCause, IsOpenedByNoOther, IsOnlyRead}
 use Rattle.uc_cli.specs.Checking.{IsCheckRun, IsScheduleTrue}
-use Rattle.uc_cli.specs.MostOnDispatch.{FollowsMostOn}
 use Rattle.uc_cli.specs.Writing.{text_of_certificate, IsSaved, FailsToSave, IsTold, FailsToTell, TellsFault}
 use Rattle.uc_cli.specs.declared.program.End.{End}
 
--- an answer for the instance in the file: what was found, by one evaluation and from the most-on commitment; that its schedule
--- obeys and costs at most what is printed; that its bound, or that there is no schedule, is true of every schedule; and that
--- its certificate has a text of the grammar
-pub record IsAnswer (exact : Bool) (file : SlotState) (instance : Instance) (rounded : ℕ) (found : Found) : Type 0 where
-  pub read : HasInstance exact file instance rounded
-  pub search : IsSearchResult instance 1 found
-  pub most_on : FollowsMostOn instance found.schedule (tree_bound found.tree) found.most_on
+-- an answer for the instance in the file: what was found, with the budget and at the gap that are asked; that its schedule obeys and
+-- costs at most what is printed; that its bound, or that there is no schedule, is true of every schedule; and that its certificate has
+-- a text of the grammar
+pub record IsAnswer (asked : Solve) (file : SlotState) (instance : Instance) (rounded : ℕ) (found : Found) : Type 0 where
+  pub read : HasInstance asked.exact file instance rounded
+  pub search : IsSearchResult instance asked.units asked.gap found
   pub schedule : (written : WrittenSchedule) → written_of found.schedule ≡ Some written → IsScheduleTrue instance written
   pub claim : IsClaimTrue instance (tree_bound found.tree)
   pub text : HasText (listing_of (certificate_of instance found))
 
 -- the instance in the file, and the answer for it
-pub record HasAnswer (exact : Bool) (before : Outside) (found : Found) : Type 0 where
+pub record HasAnswer (asked : Solve) (before : Outside) (found : Found) : Type 0 where
   pub instance : Instance
   pub rounded : ℕ
-  pub answer : IsAnswer exact (before.files slot.Instance) instance rounded found
+  pub answer : IsAnswer asked (before.files slot.Instance) instance rounded found
 
 -- the run answered: the certificate is saved and the report told
 pub record IsDone (asked : Solve) (before after : Outside) (found : Found) : Type 0 where
-  pub has : HasAnswer asked.exact before found
+  pub has : HasAnswer asked before found
   pub saved : IsSaved (text_of_certificate has.instance found) (before.files slot.CertOut) (after.files slot.CertOut)
   pub told : IsTold (found_report has.instance found has.rounded asked.gap) before.out after.out
   pub calm : (s : Slot) → (after.files s).faults ≡ (before.files s).faults
 
 -- the run found an answer and could not write its certificate; nothing was written to the output
-pub record IsUnsaved (exact : Bool) (before after : Outside) (found : Found) : Type 0 where
-  pub has : HasAnswer exact before found
+pub record IsUnsaved (asked : Solve) (before after : Outside) (found : Found) : Type 0 where
+  pub has : HasAnswer asked before found
   pub certificate : FailsToSave (text_of_certificate has.instance found) (before.files slot.CertOut) (after.files slot.CertOut)
   pub out : after.out ≡ before.out
 
 -- the run found an answer, saved its certificate and could not write its report
 pub record IsUntold (asked : Solve) (before after : Outside) (found : Found) : Type 0 where
-  pub has : HasAnswer asked.exact before found
+  pub has : HasAnswer asked before found
   pub saved : IsSaved (text_of_certificate has.instance found) (before.files slot.CertOut) (after.files slot.CertOut)
   pub report : FailsToTell (found_report has.instance found has.rounded asked.gap) before.out after.out
 
@@ -70,7 +68,7 @@ pub record IsStopped (exact : Bool) (before after : Outside) (fault : Fault) : T
 
 -- how a run of `solve` ended with a fault
 abbrev pub IsFailure : Solve → Outside → Outside → Fault → Option Found → Type 0
-IsFailure asked before after (Write false) (Some found) = IsUnsaved asked.exact before after found
+IsFailure asked before after (Write false) (Some found) = IsUnsaved asked before after found
 IsFailure asked before after (Write true) (Some found) = IsUntold asked before after found
 IsFailure asked before after fault None = IsStopped asked.exact before after fault
 IsFailure asked before after fault (Some found) = ⊥

@@ -3,7 +3,7 @@
 ghost use Rattle.std.specs.Prelude.{◌≡◌, IfOk, true, false, []};
 ghost use Rattle.clap.specs.Words.{app_of, rule_of, shape_of};
 ghost use Rattle.clap.specs.declared.builder.command.Command.TheViews.{out-Command as fields_of};
-ghost use Rattle.uc_cli.specs.Arguments.{place as place_rule, needed_option as needed_rule, one_alone as one_rule, gap_option as gap_rule, switch as switch_rule, solve_shape, check_shape, program as program_app};
+ghost use Rattle.uc_cli.specs.Arguments.{place as place_rule, needed_option as needed_rule, units_option as units_rule, one_alone as one_rule, gap_option as gap_rule, switch as switch_rule, solve_shape, check_shape, program as program_app};
 
 use clap::{Arg, ArgAction, Command, value_parser};
 use std::alloc::{AllocError, Global};
@@ -35,6 +35,17 @@ fn one_alone<'a>(alloc: Global, name: &'a str) -> Arg<'a>
         .default_value("1")
 }
 
+// `--units N`, a whole number from 1 to a million, which is 1000 where the option isn't given.
+fn units_option<'a>(alloc: Global) -> Arg<'a>
+    ensures rule { rule_of result ≡ units_rule }
+    ensures local { result.global ≡ false }
+{
+    Arg::new(alloc, "units")
+        .long("units")
+        .value_parser(value_parser!(u32).range(1..=1_000_000))
+        .default_value("1000")
+}
+
 // `--gap PPM`, a whole number from 0 to a million, which is 1000 where the option isn't given.
 fn gap_option<'a>(alloc: Global) -> Arg<'a>
     ensures rule { rule_of result ≡ gap_rule }
@@ -61,7 +72,7 @@ fn solve_command<'a>(alloc: Global) -> Result<Command<'a>, AllocError>
     Command::new(alloc, "solve")
         .arg(place(alloc, "instance"))?
         .arg(needed_option(alloc, "cert"))?
-        .arg(one_alone(alloc, "units"))?
+        .arg(units_option(alloc))?
         .arg(one_alone(alloc, "workers"))?
         .arg(gap_option(alloc))?
         .arg(switch(alloc, "exact"))

@@ -3,22 +3,25 @@
 ghost use Rattle.std.specs.Prelude.{◌≡◌, ◌≤◌, map, string_bytes, true, IfOk, IfErr, IfSome, Some, option_map, option_and_then};
 ghost use Rattle.clap.specs.Words.{first_of, found_of, rows_of, kind_of, subcommand_rows_of};
 ghost use Rattle.uc_cli.specs.Arguments.{is_taken};
-ghost use Rattle.uc_cli.specs.Command.{named, command_of as command_of_words, value_of, is_on, gap_of, solve_of as solve_of_rows, check_of as check_of_rows};
-ghost use Rattle.uc_cli.specs.inside.Asked.{command_asked, solve_asked, check_asked, refusal_of, HasGap, IsRefusal};
+ghost use Rattle.uc_cli.specs.Command.{named, command_of as command_of_words, value_of, is_on, number_of, solve_of as solve_of_rows, check_of as check_of_rows};
+ghost use Rattle.uc_cli.specs.inside.Asked.{command_asked, solve_asked, check_asked, refusal_of, HasNumbers, IsRefusal};
 
 use crate::arguments::program;
 use clap::error::ErrorKind;
 use clap::{ArgMatches, Error};
 use report::Fault;
 use std::alloc::Global;
-use uc_model::tolerance::WHOLE_GAP;
 
-/// What `solve` is asked: the file of the instance, that of the certificate, the gap at which a search is closed, in parts
-/// per million of a cost, and whether a rounded number is refused.
+/// The greatest number of an option: evaluations of a budget, and parts per million of a cost.
+const MOST: u32 = 1_000_000;
+
+/// What `solve` is asked: the file of the instance, that of the certificate, the budget in evaluations, the gap at which a search is
+/// closed, in parts per million of a cost, and whether a rounded number is refused.
 #[derive(Clone, Copy, Debug)]
 pub(crate) struct Solve<'a> {
     pub instance: &'a str,
     pub certificate: &'a str,
+    pub units: u32,
     pub gap: u32,
     pub exact: bool,
 }
@@ -64,25 +67,26 @@ fn is_given(given: &ArgMatches<'_>, id: &str) -> bool
     }
 }
 
-// The gap in parts per million. The parser lets no other number through.
-fn gap(given: &ArgMatches<'_>) -> u32
-    ensures value { result ≡ gap_of (rows_of (found_of given.now)) }
-    ensures whole { result ≤ WHOLE_GAP }
+// The number of an option. The parser lets none through that is greater.
+fn number(given: &ArgMatches<'_>, id: &str) -> u32
+    ensures value { result ≡ number_of id.now (rows_of (found_of given.now)) }
+    ensures most { result ≤ MOST }
 {
-    match given.get_one::<u32>("gap") {
-        Some(gap) if gap <= WHOLE_GAP => gap,
+    match given.get_one::<u32>(id) {
+        Some(number) if number <= MOST => number,
         _ => 0,
     }
 }
 
 fn solve_of<'a>(given: &ArgMatches<'a>) -> Solve<'a>
     ensures asked { solve_asked result ≡ solve_of_rows (rows_of (found_of given.now)) }
-    ensures gap { result.gap ≤ WHOLE_GAP }
+    ensures numbers { (result.units ≤ MOST) × (result.gap ≤ MOST) }
 {
     Solve {
         instance: value(given, "instance"),
         certificate: value(given, "cert"),
-        gap: gap(given),
+        units: number(given, "units"),
+        gap: number(given, "gap"),
         exact: is_given(given, "exact"),
     }
 }
@@ -99,7 +103,7 @@ fn check_of<'a>(given: &ArgMatches<'a>) -> Check<'a>
 // The command that was found, with its arguments.
 fn command_in<'a>(matches: &ArgMatches<'a>) -> Option<Command<'a>>
     ensures command { option_map command_asked result ≡ option_and_then named (subcommand_rows_of matches.now) }
-    ensures gap { IfSome result HasGap }
+    ensures numbers { IfSome result HasNumbers }
 {
     let (name, given) = matches.subcommand()?;
     if name == "solve" {
@@ -126,7 +130,7 @@ fn refusal(error: &Error) -> Fault
 pub(crate) fn command_of<'a>(alloc: Global, words: &'a [String]) -> Result<Command<'a>, Fault>
     ensures taken { IfOk result (λ _. is_taken (map string_bytes words.now) ≡ true) }
     ensures command { IfOk result (λ command. command_of_words (map string_bytes words.now) ≡ Some (command_asked command)) }
-    ensures gap { IfOk result HasGap }
+    ensures numbers { IfOk result HasNumbers }
     ensures refused { IfErr result (IsRefusal (map string_bytes words.now)) }
 {
     let Ok(program) = program(alloc) else {

@@ -6,10 +6,8 @@ mod certificate;
 mod check;
 mod command;
 mod input;
-mod most_on;
 mod output;
 mod program;
-mod search;
 mod solve;
 
 pub use outside::{SlurpFault, slurp};

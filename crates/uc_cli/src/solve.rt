@@ -15,14 +15,15 @@ use crate::command::Solve;
 use crate::input::read_instance;
 use crate::output::{save, tell, tell_fault};
 use crate::program::End;
-use crate::search::search;
 use branch_tree::Found;
 use outside::{Files, Gate, Sink, Slot};
 use report::Fault;
+use search_core::limits::MAX_BUDGET;
 use std::alloc::Global;
 use std::sync::Wait;
 use uc_model::tolerance::WHOLE_GAP;
 use uc_model::{Instance, NoMemory};
+use workers::{Options, search};
 
 /// What was found for the instance of a file.
 #[derive(Drop)]
@@ -47,8 +48,10 @@ fn find<R: Wait, F: Files, G: Gate>(
     files: &mut F,
     gate: &G,
 ) -> Result<Answer, Fault>
-    requires { (F.state files.old Slot.Instance).stage ≡ Unopened }
-    ensures answer { IfOk result (λ a. IsAnswer asked.now.exact (F.state files.old slot.Instance) a.instance a.rounded a.found) }
+    requires unopened { (F.state files.old Slot.Instance).stage ≡ Unopened }
+    requires budget { asked.now.units ≤ MAX_BUDGET }
+    requires gap { asked.now.gap ≤ WHOLE_GAP }
+    ensures answer { IfOk result (λ a. IsAnswer (solve_asked asked.now) (F.state files.old slot.Instance) a.instance a.rounded a.found) }
     ensures cause { IfErr result (HasCause asked.now.exact (F.state files.old slot.Instance) (F.state files.new slot.Instance)) }
     ensures calm { IfOk result (λ _. (F.state files.new slot.Instance).faults ≡ (F.state files.old slot.Instance).faults) }
     ensures named { IsOpenedByNoOther asked.now.instance.now (F.state files.old slot.Instance) (F.state files.new slot.Instance) }
@@ -56,7 +59,11 @@ fn find<R: Wait, F: Files, G: Gate>(
     ensures others { SameBut slot.Instance (F.state files.old) (F.state files.new) }
 {
     let (instance, rounded) = read_instance(alloc, files, asked.instance, asked.exact)?;
-    match search(rt, alloc, &instance, gate) {
+    let options = Options {
+        budget: asked.units,
+        gap: asked.gap,
+    };
+    match search(rt, alloc, &instance, &options, gate) {
         Ok(found) => Ok(Answer {
             instance,
             rounded,
@@ -76,6 +83,7 @@ fn find_and_write<R: Wait, F: Files, O: Sink, G: Gate>(
     gate: &G,
 ) -> Result<Found, Failure>
     requires unopened { AllUnopened (F.state files.old) }
+    requires budget { asked.now.units ≤ MAX_BUDGET }
     requires gap { asked.now.gap ≤ WHOLE_GAP }
     ensures done { (err_old err_new : SinkState) → IfOk result (IsDone (solve_asked asked.now)
         (outside_of (F.state files.old) (O.state out.old) err_old) (outside_of (F.state files.new) (O.state out.new) err_new)) }
@@ -122,6 +130,7 @@ pub(crate) fn solve<R: Wait, F: Files, O: Sink, E: Sink, G: Gate>(
     gate: &G,
 ) -> End
     requires unopened { AllUnopened (F.state files.old) }
+    requires budget { asked.now.units ≤ MAX_BUDGET }
     requires gap { asked.now.gap ≤ WHOLE_GAP }
     ensures { IsSolveRun (solve_asked asked.now) (outside_of (F.state files.old) (O.state out.old) (E.state err.old))
         (outside_of (F.state files.new) (O.state out.new) (E.state err.new)) result }

@@ -13,7 +13,7 @@ use Rattle.uc_cli.specs.declared.command.Command.TheVariants as forms
 
 abbrev pub solve_asked : SolveWords → Solve
 solve_asked solve =
-    record { instance = solve.instance.now; certificate = solve.certificate.now; gap = solve.gap; exact = solve.exact }
+    record { instance = solve.instance.now; certificate = solve.certificate.now; units = solve.units; gap = solve.gap; exact = solve.exact }
 
 abbrev pub check_asked : CheckWords → Check
 check_asked check = record { instance = check.instance.now; certificate = check.certificate.now }
@@ -22,10 +22,10 @@ abbrev pub command_asked : CommandWords → Command
 command_asked (forms.Solve solve) = Solves (solve_asked solve)
 command_asked (forms.Check check) = Checks (check_asked check)
 
--- the gap that `solve` is asked is at most the whole of a cost
-abbrev pub HasGap : CommandWords → Type 0
-HasGap (forms.Solve solve) = solve.gap ≤ 1000000
-HasGap (forms.Check check) = ⊤
+-- the budget that `solve` is asked is at most a million evaluations, and the gap at most the whole of a cost
+abbrev pub HasNumbers : CommandWords → Type 0
+HasNumbers (forms.Solve solve) = (solve.units ≤ 1000000) × (solve.gap ≤ 1000000)
+HasNumbers (forms.Check check) = ⊤
 
 -- the fault of an error of the parser
 abbrev pub refusal_of : ErrorKind → Fault

@@ -7,7 +7,7 @@ use Rattle.uc_cli.proofs.solve.find_and_write.Goals as goal
 pub returns-then-is_err-clause-failed : goal.returns-then-is_err-clause-failed
 returns-then-is_err-clause-failed g c = λ err_old err_new.
     let files = g.F.Files.state in
-    unsaved c.args.asked.now.exact (files c.args.files.now) (files c.find.new.files) (files c.save.new.files) (g.O.Sink.state c.args.out.now) err_old err_new
+    unsaved (solve_asked c.args.asked.now) (files c.args.files.now) (files c.find.new.files) (files c.save.new.files) (g.O.Sink.state c.args.out.now) err_old err_new
     c.in-Ok.answer.instance c.in-Ok.answer.rounded c.in-Ok.answer.found c.in-Ok.ensures.answer c.in-Ok.ensures.others
     (at_err c.save.result (sym c.is_err.ensures.value ∙ c.if-is_err.true) c.save.ensures.failed)
 

@@ -1,0 +1,71 @@
+#!/usr/bin/env python3
+"""Measures what whole runs of `uc solve` find on instance files, and what they take.
+
+    python3 bench/search.py PROGRAM UNITS CASE.json ..     # PROGRAM is `crates/uc/out/uc`, or `unproved`
+
+Told are cost, bound and gap after a budget of so many evaluations, the evaluations, and the seconds of the run and of the check of its
+certificate, which has to be accepted. `unproved` builds the program of the sources at hand without a proof, see `unproved.py`; its
+times are those of a proved one.
+"""
+import pathlib
+import subprocess
+import sys
+import tempfile
+import time
+
+import unproved
+
+TOP = pathlib.Path(__file__).resolve().parent.parent
+LIBRARIES = "outside report uc_cli".split()
+
+
+def built(folder):
+    source = (TOP / "crates" / "uc" / "src" / "main.rt").read_text()
+    (folder / "built").mkdir()
+    return unproved.build(folder / "built", LIBRARIES, source, checks=False)
+
+
+def timed(words):
+    start = time.monotonic()
+    ran = subprocess.run(words, capture_output=True, text=True)
+    return ran, time.monotonic() - start
+
+
+def amount(report, name):
+    """An amount of a report in dollars, where it has one."""
+    rows = [row.split(" ") for row in report.splitlines()]
+    return next((float(row[1]) for row in rows if row[0] == name), None)
+
+
+def measure(program, units, case, folder):
+    certificate = folder / "found.cert"
+    solved, took = timed([program, "solve", case, "--cert", certificate, "--units", units])
+    if solved.returncode > 3:
+        raise SystemExit(solved.stderr)
+    checked, check = timed([program, "check", case, certificate])
+    if checked.returncode:
+        raise SystemExit(checked.stderr)
+    cost, bound = amount(solved.stdout, "cost"), amount(solved.stdout, "bound")
+    parts = [f"{pathlib.Path(case).stem}: status {solved.returncode}"]
+    if cost is not None:
+        parts.append(f"cost {cost:.2f}")
+    if bound is not None:
+        parts.append(f"bound {bound:.2f}")
+    if cost:
+        parts.append(f"gap {(cost - bound) / abs(cost):.4%}")
+    parts.append(f"evaluations {int(amount(solved.stdout, 'evaluations'))}")
+    print(", ".join(parts), f"in {took:.2f} s, checked in {check:.2f} s")
+
+
+def main(program, units, cases):
+    with tempfile.TemporaryDirectory() as made:
+        folder = pathlib.Path(made)
+        program = built(folder) if program == "unproved" else program
+        for case in cases:
+            measure(program, units, case, folder)
+
+
+if __name__ == "__main__":
+    if len(sys.argv) < 4:
+        raise SystemExit(__doc__)
+    main(sys.argv[1], sys.argv[2], sys.argv[3:])

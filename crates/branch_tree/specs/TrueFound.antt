@@ -1,0 +1,46 @@
+-- When what a search found is true: a tree that holds, a schedule that obeys, and a true log. This project's own statement.
+use Rattle.std.specs.Prelude.{◌≡◌, ◌≢◌, List, Some, All, AllPairs, slice_get}
+use Rattle.uc_model.specs.declared.instance.Instance.{Instance}
+use Rattle.dual_model.specs.Prices.{IsLawfulTable}
+use Rattle.dual_model.specs.Fixings.{IsFirstEmpty}
+use Rattle.dual_model.specs.NodeValue.{IsNodeValue}
+use Rattle.dual_model.specs.Certificate.{CertificateHolds}
+use Rattle.dual_model.specs.declared.node.Node.{Node}
+use Rattle.dual_model.specs.declared.table.Table.{Table}
+use Rattle.branch_tree.specs.declared.found.Entry.{Entry}
+use Rattle.branch_tree.specs.declared.found.Found.{Found}
+use Rattle.branch_tree.specs.declared.found.Outcome.{Outcome}
+use Rattle.branch_tree.specs.declared.found.Outcome.TheVariants.{Value, Empty}
+use Rattle.branch_tree.specs.declared.tree.Tree.{Tree}
+use Rattle.branch_tree.specs.StoredTree.{IsNodeAt}
+use Rattle.branch_tree.specs.Claims.{HasLayout, certificate_of}
+
+-- the outcome is that of the node at the table
+abbrev pub IsOutcome : Instance → Node → Table → Outcome → Type 0
+IsOutcome instance node table (Value v) = IsNodeValue instance node table v
+IsOutcome instance node table (Empty g) = IsFirstEmpty instance node g
+
+-- an entry of the log is true: its table is lawful, and its outcome is that of its node there
+pub record IsTrueEntry (instance : Instance) (tree : Tree) (tables : List Table) (entry : Entry) : Type 0 where
+  pub node : Node
+  pub is_node : IsNodeAt tree entry.node node
+  pub table : Table
+  pub is_table : slice_get tables entry.table ≡ Some table
+  pub lawful : IsLawfulTable instance table
+  pub outcome : IsOutcome instance node table entry.outcome
+
+-- two entries have different claims, and differ in the node or in the table, under whichever numbers it stands
+pub record AreApart (tables : List Table) (first second : Entry) : Type 0 where
+  pub unit : first.unit ≢ second.unit
+  pub pair : first.node ≡ second.node → slice_get tables first.table ≢ slice_get tables second.table
+
+-- each entry of the log is true, and no two share a claim, or a node and a table
+pub record IsTrueLog (instance : Instance) (tree : Tree) (tables : List Table) (log : List Entry) : Type 0 where
+  pub entries : All (IsTrueEntry instance tree tables) log
+  pub apart : AllPairs (AreApart tables) log
+
+-- what was found is true: it stands for a certificate that holds, and its log is true
+pub record IsTrueFound (instance : Instance) (found : Found) : Type 0 where
+  pub layout : HasLayout found
+  pub certificate : CertificateHolds instance (certificate_of instance found)
+  pub log : IsTrueLog instance found.tree found.tables found.log

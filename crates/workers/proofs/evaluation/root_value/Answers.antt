@@ -1,0 +1,13 @@
+-- No unit is the first without an allowed pattern.
+use Rattle.std.proofs.Common.{subst}
+use Rattle.dual_model.specs.Fixings.{IsFirstEmpty}
+use Rattle.dual_model.specs.Tree.{root}
+use Rattle.dual_value.specs.NodeAnswer.{IsFaultOf}
+use Rattle.workers.proofs.Patterns.{not_first}
+use Rattle.workers.proofs.evaluation.root_value.Goals as goal
+
+pub unreachable-requires : goal.unreachable-requires
+unreachable-requires c =
+    let instance = c.args.instance.now in
+    let empty : IsFirstEmpty instance root c.in-Err-Empty.field-0-0 = subst (IsFaultOf instance root) c.in-Err-Empty.field-0-is c.in-Err-Empty.ensures.fault in
+    not_first instance c.in-Err-Empty.field-0-0 c.requires.patterns empty

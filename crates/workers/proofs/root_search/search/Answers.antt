@@ -1,0 +1,75 @@
+-- Each answer is a search result that can be written.
+use Rattle.std.proofs.Common.{subst, sym}
+use Rattle.std.specs.Prelude.{IfOk}
+use Rattle.std.proofs.lemmas.Option.{slice_get_within}
+use Rattle.std.proofs.lemmas.Result.{IfOk-weaker}
+use Rattle.workers.specs.SearchResult.{IsNoDearer, IsSearchResult}
+use Rattle.workers.specs.Writable.{IsWritable}
+use Rattle.workers.specs.declared.opening.Priced.{Priced}
+use Rattle.workers.specs.inside.Answers.{IsAnswerOf}
+use Rattle.workers.specs.inside.Claims.{IsClaimed}
+use Rattle.workers.specs.inside.Standings.{IsBest, ending_of}
+use Rattle.workers.proofs.Drops.{no_dearer}
+use Rattle.workers.proofs.root_search.search.Given.{Over}
+use Rattle.workers.proofs.root_search.search.Goals as goal
+
+pub returns-in-Some-clause-result : goal.returns-in-Some-clause-result
+returns-in-Some-clause-result g c =
+    let instance = c.args.instance.now in
+    let budget = c.args.options.now.budget in
+    let gap = c.args.options.now.gap in
+    IfOk-weaker c.without_pattern.result (IsAnswerOf instance budget gap) (IsSearchResult instance budget gap) (λ found a. a.result) (c.without_pattern.ensures budget gap)
+
+pub returns-in-Some-clause-writable : goal.returns-in-Some-clause-writable
+returns-in-Some-clause-writable g c =
+    let instance = c.args.instance.now in
+    IfOk-weaker c.without_pattern.result (IsAnswerOf instance 0 0) (IsWritable instance) (λ found a. a.writable) (c.without_pattern.ensures 0 0)
+
+pub returns-in-Some-2-clause-result : goal.returns-in-Some-2-clause-result
+returns-in-Some-2-clause-result g c =
+    let instance = c.args.instance.now in
+    let budget = c.args.options.now.budget in
+    let gap = c.args.options.now.gap in
+    IfOk-weaker c.without_schedule.result (IsAnswerOf instance budget gap) (IsSearchResult instance budget gap) (λ found a. a.result)
+    (c.without_schedule.ensures budget gap c.in_ok-standing.standing c.in_ok-standing.ensures)
+
+pub returns-in-Some-2-clause-writable : goal.returns-in-Some-2-clause-writable
+returns-in-Some-2-clause-writable g c =
+    let instance = c.args.instance.now in
+    IfOk-weaker c.without_schedule.result (IsAnswerOf instance 0 0) (IsWritable instance) (λ found a. a.writable)
+    (c.without_schedule.ensures 0 0 c.in_ok-standing.standing c.in_ok-standing.ensures)
+
+pub bounded-requires-clause-stored : goal.bounded-requires-clause-stored
+bounded-requires-clause-stored g c =
+    let holds = c.in_ok-root.ensures.root.holds in
+    slice_get_within c.in_ok-root.root.tables.items c.in_ok-root.root.stored.table holds.table holds.is_table
+
+answer : (g : Over) (c : goal.After-drop-lent-5 g)
+    → IfOk c.bounded.result (IsAnswerOf c.args.instance.now c.args.options.now.budget c.args.options.now.gap)
+answer g c =
+    let instance = c.args.instance.now in
+    let stands = c.in_ok-standing.standing in
+    let opening = c.in_ok-opening.opening in
+    let root = c.in_ok-root.root in
+    let schedule = subst (λ s. IsNoDearer s (ending_of stands)) (sym c.outcome-schedule.ensures.schedule) (no_dearer stands) in
+    let best : IsBest instance (ending_of stands) root.best = record {
+      accepted = c.in_ok-root.ensures.accepted;
+      no_dearer = c.in_ok-root.ensures.no_worse (ending_of stands) (c.in_ok-start.ensures.no_worse (ending_of stands) schedule);
+    } in
+    let claimed = subst (λ (opened : Priced). IsClaimed instance opened root) c.in_ok-start.ensures.opening c.in_ok-root.ensures.root in
+    c.bounded.ensures c.args.options.now.budget c.args.options.now.gap stands opening c.in_ok-standing.ensures c.outcome-schedule.ensures.most_on best
+    c.in_ok-opening.ensures.table c.in_ok-opening.ensures.priced claimed c.in_ok-root.ensures.spent
+
+pub returns-clause-result : goal.returns-clause-result
+returns-clause-result g c =
+    let instance = c.args.instance.now in
+    let budget = c.args.options.now.budget in
+    let gap = c.args.options.now.gap in
+    IfOk-weaker c.bounded.result (IsAnswerOf instance budget gap) (IsSearchResult instance budget gap) (λ found a. a.result) (answer g c)
+
+pub returns-clause-writable : goal.returns-clause-writable
+returns-clause-writable g c =
+    let instance = c.args.instance.now in
+    let budget = c.args.options.now.budget in
+    let gap = c.args.options.now.gap in
+    IfOk-weaker c.bounded.result (IsAnswerOf instance budget gap) (IsWritable instance) (λ found a. a.writable) (answer g c)

@@ -1,0 +1,6 @@
+pub mod MostOnStuck
+pub mod DropCommitment
+pub mod Opening
+pub mod SearchResult
+pub mod Writable
+pub mod inside

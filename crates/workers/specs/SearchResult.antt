@@ -1,0 +1,98 @@
+-- What a search answers: a true answer, how much of the budget was spent, and what the opening gives at least. This project's own
+-- statement.
+use Rattle.std.specs.Prelude.{◌≡◌, ◌≢◌, ◌⊎◌, ℕ, false, List, [], ℤ, ◌≤ℤ◌, Option, Some, None, IfSome, fold, length, slice_get}
+use Rattle.uc_model.specs.declared.instance.Instance.{Instance}
+use Rattle.uc_model.specs.declared.pattern.Pattern.{Pattern}
+use Rattle.uc_model.specs.declared.schedule.Printed.{Printed}
+use Rattle.dual_model.specs.Cover.{ReachesBoundOf}
+use Rattle.dual_model.specs.Fixings.{IsFirstEmpty}
+use Rattle.dual_model.specs.Opening.{ray_table, zero_table}
+use Rattle.dual_model.specs.Tree.{Ends, root}
+use Rattle.dual_model.specs.declared.table.Table.{Table}
+use Rattle.prices.specs.Marginal.{IsMarginalTable}
+use Rattle.branch_tree.specs.Claims.{table_at}
+use Rattle.branch_tree.specs.Closing.{is_closed}
+use Rattle.branch_tree.specs.StoredTree.{tree_bound}
+use Rattle.branch_tree.specs.TreeView.{tree_of}
+use Rattle.branch_tree.specs.TrueFound.{IsTrueFound}
+use Rattle.branch_tree.specs.declared.found.Entry.{Entry}
+use Rattle.branch_tree.specs.declared.found.Found.{Found}
+use Rattle.branch_tree.specs.declared.tree.Leaf.TheVariants as leaf
+use Rattle.search_core.specs.declared.stored.Stored.{Stored}
+use Rattle.search_core.specs.Moves.{bound_of, kept_after}
+use Rattle.workers.specs.DropCommitment.{Ending, Dispatched, StuckIn, IsDropCommitment}
+use Rattle.workers.specs.MostOnStuck.{TellsMostOn}
+use Rattle.workers.specs.Opening.{HasEachPattern, IsFirstRay, IsRootTable}
+
+-- ---- no schedule by the opening
+-- the root is excluded by ray n of the opening, before any claim
+pub record IsExcludedByFirst (instance : Instance) (n : ℕ) (found : Found) : Type 0 where
+  pub number : ℕ
+  pub tree : tree_of found.tree ≡ Ends (leaf.Ray number)
+  pub table : slice_get found.tables number ≡ Some (ray_table instance n)
+  pub log : found.log ≡ []
+
+-- ---- what the drop commitment gives
+-- where it isn't stuck there is a schedule that costs no more
+abbrev pub IsNoDearer : Option (Printed × ℤ) → Ending → Type 0
+IsNoDearer None (Dispatched printed cost) = ⊥
+IsNoDearer (Some priced) (Dispatched printed cost) = priced.1 ≤ℤ cost
+IsNoDearer schedule (StuckIn t) = Unit {0}
+
+-- and the bound is at least that of its marginal prices
+pub record ReachesMarginal (instance : Instance) (printed : Printed) (bound : ℤ) : Type 0 where
+  pub table : Table
+  pub is_marginal : IsMarginalTable instance printed table
+  pub reached : ReachesBoundOf instance root table bound
+
+abbrev pub ReachesMarginalOf : Instance → Ending → ℤ → Type 0
+ReachesMarginalOf instance (Dispatched printed cost) bound = ReachesMarginal instance printed bound
+ReachesMarginalOf instance (StuckIn t) bound = Unit {0}
+
+-- ---- what the root stores
+-- what the move Again leaves after an entry of the log
+abbrev pub stored_by : List Table → Stored → Entry → Stored
+stored_by tables stored entry = kept_after stored entry.table (table_at tables entry.table).k entry.outcome
+
+-- after one entry and the next
+abbrev pub stored_after : List Table → Stored → List Entry → Stored
+stored_after tables stored entries = fold (stored_by tables) stored entries
+
+-- a root that isn't excluded, and has no children, stores what the entries leave of the opening's table, the first of the tables
+pub record HoldsItsTable (instance : Instance) (ending : Ending) (found : Found) : Type 0 where
+  pub table : Table
+  pub value : ℤ
+  pub opening : IsRootTable instance ending table value
+  pub is_first : slice_get found.tables 0 ≡ Some table
+  pub stored : Stored
+  pub is_stored : stored ≡ stored_after found.tables (record { table = 0; value = bound_of value table.k }) found.log
+  pub holds :
+      (tree_of found.tree ≡ Ends (leaf.Live stored.table stored.value)) ⊎ (tree_of found.tree ≡ Ends (leaf.Bound stored.table stored.value))
+
+-- what a bound has to reach, and how it is stored
+pub record IsBoundOpened (instance : Instance) (ending : Ending) (found : Found) (bound : ℤ) : Type 0 where
+  pub unpriced : ReachesBoundOf instance root (zero_table instance) bound
+  pub marginal : ReachesMarginalOf instance ending bound
+  pub own : HoldsItsTable instance ending found
+
+-- the drop commitment, where each unit has an allowed pattern, and what it gives
+pub record FollowsOpening (instance : Instance) (found : Found) : Type 0 where
+  pub patterns : List Pattern
+  pub ending : Ending
+  pub drop : IsDropCommitment instance patterns ending
+  pub schedule : IsNoDearer found.schedule ending
+  pub bound : IfSome (tree_bound found.tree) (IsBoundOpened instance ending found)
+
+-- ---- the answer
+-- the answer of a search with this budget of evaluations, and this gap in parts per million of a cost
+pub record IsSearchResult (instance : Instance) (budget gap : ℕ) (found : Found) : Type 0 where
+  pub truth : IsTrueFound instance found
+  -- where a leaf isn't excluded, and no schedule is within the gap, the whole budget was spent
+  pub spent : tree_bound found.tree ≢ None → is_closed found gap ≡ false → length found.log ≡ budget
+  -- where there is neither a schedule nor the answer that there is none, the most-on commitment is stuck
+  pub most_on : TellsMostOn instance found.schedule (tree_bound found.tree) found.most_on
+  -- a unit without an allowed pattern excludes the root before any evaluation, and else so does a ray
+  pub empty : (g : ℕ) → IsFirstEmpty instance root g → (tree_of found.tree ≡ Ends (leaf.Empty g)) × (found.log ≡ [])
+  pub ray : (n : ℕ) → IsFirstRay instance n → IsExcludedByFirst instance n found
+  -- else the opening's schedule and bounds are reached
+  pub opened : HasEachPattern instance → FollowsOpening instance found

@@ -1,0 +1,4 @@
+pub mod Evaluations
+pub mod Standings
+pub mod Claims
+pub mod Answers

@@ -1,0 +1,119 @@
+//! What a search answers.
+
+ghost use Rattle.std.specs.Prelude.{◌≡◌, ℕ, ◌<◌, false, IfOk, length};
+ghost use Rattle.uc_model.specs.Limits.{IsLawfulInstance};
+ghost use Rattle.dual_model.specs.Fixings.{IsFirstEmpty};
+ghost use Rattle.dual_model.specs.Tree.{root};
+ghost use Rattle.branch_tree.specs.TreeView.{IsWhole};
+ghost use Rattle.workers.specs.Opening.{HasEachPattern, HasNoRay, IsFirstRay, IsRootTable};
+ghost use Rattle.workers.specs.declared.drop_pass.Standing.{Standing};
+ghost use Rattle.workers.specs.declared.opening.Priced.{Priced};
+ghost use Rattle.workers.specs.inside.Answers.{IsAnswerOf, lone_root};
+ghost use Rattle.workers.specs.inside.Claims.{IsClaimed, is_root_closed};
+ghost use Rattle.workers.specs.inside.Evaluations.{IsPricedOf};
+ghost use Rattle.workers.specs.inside.Standings.{IsBest, IsDropped, ending_of, kept_stuck, told_of};
+
+use crate::claims::Root;
+use branch_tree::{Found, Layout, Leaf, Tree};
+use prices::opening_ray;
+use std::alloc::Global;
+use uc_model::{Instance, List, NoMemory, Printed, Stuck};
+
+// A tree of its root alone, which stores this leaf.
+fn lone_root(alloc: Global, instance: &Instance, leaf: Leaf) -> Result<Tree, NoMemory>
+    requires { IsLawfulInstance instance.now }
+    ensures tree { IfOk result (λ tree. tree ≡ lone_root instance.now leaf) }
+    ensures whole { IfOk result IsWhole }
+{
+    let units = instance.thermal.as_slice().len() as u32;
+    let mut tree = Tree::with_room(alloc, units, instance.periods, 1)?;
+    tree.close(0, leaf);
+    Ok(tree)
+}
+
+/// The root is excluded, since this unit has no allowed pattern.
+pub(crate) fn without_pattern(alloc: Global, instance: &Instance, g: u32) -> Result<Found, NoMemory>
+    requires lawful { IsLawfulInstance instance.now }
+    requires empty { IsFirstEmpty instance.now root g }
+    ensures { (budget gap : ℕ) → IfOk result (IsAnswerOf instance.now budget gap) }
+{
+    let tree = lone_root(alloc, instance, Leaf::Empty { g })?;
+    let layout = Layout::of(alloc, &tree, 0)?;
+    Ok(Found {
+        schedule: None,
+        tree,
+        tables: List::from_vec(Vec::new(alloc)),
+        log: List::from_vec(Vec::new(alloc)),
+        most_on: None,
+        layout,
+    })
+}
+
+/// The root is excluded by this ray of the opening.
+pub(crate) fn without_schedule(
+    alloc: Global,
+    instance: &Instance,
+    n: u32,
+) -> Result<Found, NoMemory>
+    requires lawful { IsLawfulInstance instance.now }
+    requires patterns { HasEachPattern instance.now }
+    requires ray { IsFirstRay instance.now n }
+    ensures { (budget gap : ℕ) (stands : Standing) → IsDropped instance.now stands → IfOk result (IsAnswerOf instance.now budget gap) }
+{
+    let mut tables = Vec::new(alloc);
+    tables.push(opening_ray(alloc, instance, n)?)?;
+    let tree = lone_root(alloc, instance, Leaf::Ray { table: 0 })?;
+    let layout = Layout::of(alloc, &tree, 1)?;
+    Ok(Found {
+        schedule: None,
+        tree,
+        tables: List::from_vec(tables),
+        log: List::from_vec(Vec::new(alloc)),
+        most_on: None,
+        layout,
+    })
+}
+
+// What is told of the most-on commitment, by the schedule.
+fn told(best: &Option<(Printed, i64)>, most_on: Option<Stuck>) -> Option<Stuck>
+    ensures { result ≡ told_of best.now most_on }
+{
+    match best {
+        Some(_) => None,
+        None => most_on,
+    }
+}
+
+/// The root is bounded by what it stores; the schedule is the best that was found.
+pub(crate) fn bounded(
+    alloc: Global,
+    instance: &Instance,
+    root: Root,
+    most_on: Option<Stuck>,
+) -> Result<Found, NoMemory>
+    requires lawful { IsLawfulInstance instance.now }
+    requires patterns { HasEachPattern instance.now }
+    requires rays { HasNoRay instance.now }
+    requires stored { root.stored.table < length root.tables.items }
+    ensures { (budget gap : ℕ) (stands : Standing) (opening : Priced) → IsDropped instance.now stands → most_on ≡ kept_stuck stands
+        → IsBest instance.now (ending_of stands) root.best → IsRootTable instance.now (ending_of stands) opening.table opening.value
+        → IsPricedOf instance.now opening → IsClaimed instance.now opening root
+        → (is_root_closed root.best root.stored.value gap ≡ false → length root.log.items ≡ budget)
+        → IfOk result (IsAnswerOf instance.now budget gap) }
+{
+    let leaf = Leaf::Bound {
+        table: root.stored.table,
+        value: root.stored.value,
+    };
+    let tree = lone_root(alloc, instance, leaf)?;
+    let layout = Layout::of(alloc, &tree, root.tables.len())?;
+    let most_on = told(&root.best, most_on);
+    Ok(Found {
+        schedule: root.best,
+        tree,
+        tables: List::from_vec(root.tables),
+        log: List::from_vec(root.log),
+        most_on,
+        layout,
+    })
+}

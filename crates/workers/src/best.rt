@@ -1,0 +1,96 @@
+//! The best schedule so far, which repairs improve.
+
+ghost use Rattle.std.specs.Prelude.{◌≡◌, ◌≤◌, IfOk};
+ghost use Rattle.uc_model.specs.Limits.{IsLawfulInstance};
+ghost use Rattle.uc_model.specs.declared.tolerance.TheConstants.{WHOLE_GAP};
+ghost use Rattle.schedule_repair.specs.Accepted.{IsAcceptedIfFound};
+ghost use Rattle.uc_model.specs.declared.instance.Instance.{Instance};
+ghost use Rattle.workers.specs.inside.Claims.{is_root_closed};
+ghost use Rattle.workers.specs.inside.Standings.{IsLower, IsNoWorse};
+
+use branch_tree::is_within_gap;
+use prices::Ascent;
+use schedule_repair::{Repair, repair};
+use std::alloc::Global;
+use uc_model::{Instance, NoMemory, Printed};
+
+/// The moves of the first repair, beside those for each unit: enough for the passes of each threshold, and for kicks of what comes of
+/// them where the units are few.
+const FIRST_MOVES: u32 = 20_000;
+
+const FIRST_MOVES_EACH: u32 = 30;
+
+/// The moves of each later repair for each unit: about as long as the evaluations of a later ascent take.
+const LATER_MOVES_EACH: u32 = 10;
+
+/// How many moves the repair has at the claim of this unit.
+pub(crate) fn moves(instance: &Instance, unit: u32) -> u32
+    requires { IsLawfulInstance instance.now }
+{
+    let units = instance.thermal.as_slice().len() as u32;
+    if unit == 1 {
+        units
+            .saturating_mul(FIRST_MOVES_EACH)
+            .saturating_add(FIRST_MOVES)
+    } else {
+        units.saturating_mul(LATER_MOVES_EACH)
+    }
+}
+
+/// Whether the best schedule closes a root of this bound.
+pub(crate) fn is_closed(best: &Option<(Printed, i64)>, bound: &i128, gap: u32) -> bool
+    requires { gap ≤ WHOLE_GAP }
+    ensures { result ≡ is_root_closed best.now bound.now gap }
+{
+    match best {
+        Some((_, cost)) => is_within_gap(cost, &Some(*bound), gap),
+        None => false,
+    }
+}
+
+/// The cheaper of the best schedule so far and of what a repair of an ascent finds. The only error is `NoMemory`.
+pub(crate) fn improved(
+    alloc: Global,
+    repairs: &mut Repair,
+    instance: &Instance,
+    ascent: &Ascent,
+    moves: u32,
+    best: Option<(Printed, i64)>,
+) -> Result<Option<(Printed, i64)>, NoMemory>
+    requires lawful { IsLawfulInstance instance.now }
+    requires best { IsAcceptedIfFound instance.now best }
+    ensures accepted { IfOk result (IsAcceptedIfFound instance.now) }
+    ensures no_worse { IfOk result (IsNoWorse best) }
+{
+    if moves == 0 {
+        return Ok(best);
+    }
+    let found = repair(
+        alloc,
+        repairs,
+        instance,
+        &ascent.table,
+        &ascent.shares,
+        moves,
+    )?;
+    Ok(cheaper(best, found))
+}
+
+// The cheaper of two schedules that may be missing, the first where both cost the same.
+fn cheaper(first: Option<(Printed, i64)>, second: Option<(Printed, i64)>) -> Option<(Printed, i64)>
+    ensures accepted { (instance : Instance) → IsAcceptedIfFound instance first → IsAcceptedIfFound instance second → IsAcceptedIfFound instance result }
+    ensures no_worse { IsNoWorse first result }
+{
+    match (first, second) {
+        (Some(first), Some(second)) => Some(lower(first, second)),
+        (None, second) => second,
+        (first, None) => first,
+    }
+}
+
+// The cheaper of two schedules.
+fn lower(first: (Printed, i64), second: (Printed, i64)) -> (Printed, i64)
+    ensures { IsLower first second result }
+{
+    if second.1 < first.1 { second } else { first }
+}

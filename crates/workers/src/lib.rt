@@ -1,0 +1,15 @@
+//! The search: from an instance to a schedule, a lower bound on the cost of every schedule, and the log of what was evaluated.
+#![tactic(auto)]
+
+mod answer;
+mod best;
+mod claims;
+mod drop_pass;
+mod evaluation;
+mod opening;
+mod rays;
+pub mod root_search;
+mod start;
+mod trial;
+
+pub use root_search::{Options, search};
