@@ -4,8 +4,7 @@
     python3 bench/search.py PROGRAM UNITS CASE.json ..     # PROGRAM is `crates/uc/out/uc`, or `unproved`
 
 Told are cost, bound and gap after a budget of so many evaluations, the evaluations, and the seconds of the run and of the check of its
-certificate, which has to be accepted. `unproved` builds the program of the sources at hand without a proof, see `unproved.py`; its
-times are those of a proved one.
+certificate, which has to be accepted. `unproved` builds the program of the sources at hand without a proof, see `unproved.py`.
 """
 import pathlib
 import subprocess
