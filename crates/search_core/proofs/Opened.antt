@@ -1,13 +1,14 @@
 -- Which nodes are open, by the notes.
-use Rattle.std.proofs.Common.{◌≡◌, ℕ, ◌<◌, true, false, arith, ⊎_elim}
+use Rattle.std.proofs.Common.{◌≡◌, ℕ, ◌<◌, ◌≤◌, true, false, [], length, arith, ⊎_elim}
 use Rattle.std.proofs.lemmas.Bool.{cases_Bool}
 use Rattle.std.proofs.lemmas.Option.{slice_get-get_or}
 use Rattle.branch_tree.specs.NumberedTree.{node_count}
 use Rattle.branch_tree.proofs.Grown.{open_numbered}
 use Rattle.search_core.specs.declared.state.State.TheInside.{Inside}
-use Rattle.search_core.specs.Machine.{IsOpen}
+use Rattle.search_core.specs.Machine.{IsOpen, entries_of}
 use Rattle.search_core.specs.Notes.{no_note, note_in, IsNoteOf, IsFreeLeaf}
 use Rattle.search_core.specs.Inside.{view_of, IsKept}
+use Rattle.search_core.proofs.NoteSteps.{no_entries}
 
 -- the note of a node
 pub kept_note : (a : Inside) (node : ℕ) → IsKept a → node < node_count a.tree.nodes
@@ -32,3 +33,8 @@ open_is_free a node kept is =
           (λ (e : (note_in a.notes.items node).held ≡ false). e)
           (cases_Bool (note_in a.notes.items node).held);
     }
+
+-- a node that has no note has no entry
+pub unnoted : (a : Inside) (node : ℕ) → IsKept a → length a.notes.items ≤ node → entries_of a.log node ≡ []
+unnoted a node kept past =
+    no_entries a.log (node_count a.tree.nodes) node kept.orderly.entries (omega (arith, kept.notes.length))

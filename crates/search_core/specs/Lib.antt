@@ -4,5 +4,6 @@ pub mod Steps
 pub mod Notes
 pub mod Orderly
 pub mod MachineCode
+pub mod OwnTables
 pub mod Runs
 pub mod Inside

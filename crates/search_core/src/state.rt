@@ -146,6 +146,30 @@ impl State {
         &self.desks[w as usize].queue
     }
 
+    /// How many nodes the tree has.
+    pub fn count(&self) -> u32
+        ensures { result ≡ node_count self.now.tree.nodes }
+    {
+        self.notes.len() as u32
+    }
+
+    /// How many entries of the log the node of this number has; of no node there are none.
+    pub fn entries(&self, node: u32) -> usize
+        ensures { result ≡ length (entries_of self.now.log node) }
+    {
+        match self.notes.get(node as usize) {
+            Some(note) => note.tables.as_slice().len(),
+            None => 0,
+        }
+    }
+
+    /// How many claims there were.
+    pub fn claims(&self) -> u32
+        ensures { result ≡ length self.now.claims }
+    {
+        self.claims.len() as u32
+    }
+
     /// The tree, the tables and the log.
     pub fn finish(self) -> (Tree, List<Table>, List<Entry>)
         ensures tree { result.0 ≡ self.tree }
