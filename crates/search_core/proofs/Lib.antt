@@ -16,3 +16,9 @@ pub mod Gaps
 pub mod TrueSteps
 pub mod TrueRuns
 pub mod DeskCounts
+pub mod Paths
+pub mod StoredTables
+pub mod OwnTables
+pub mod LogEntries
+pub mod OwnSteps
+pub mod Logs

@@ -108,7 +108,7 @@ new_tickets m worker Empty orderly within = no_tickets m worker orderly within
 pub sound_of : (m : Machine) → IsOrderly m → IsSound m.tree
 sound_of m orderly = record { placed = orderly.placed; cover = orderly.cover }
 
-entries_more : (log : List Entry) (entry : Entry) (count later : ℕ) → All (λ entry. entry.node < count) log → entry.node < count → count ≤ later
+pub entries_more : (log : List Entry) (entry : Entry) (count later : ℕ) → All (λ entry. entry.node < count) log → entry.node < count → count ≤ later
     → All (λ entry. entry.node < later) (log ++ entry ∷ [])
 entries_more log entry count later each own more =
     All-append (λ (e : Entry). e.node < later) log (entry ∷ [])

@@ -30,6 +30,7 @@ use Rattle.search_core.specs.Machine.{Machine, no_desk, first_desk, holder_of}
 use Rattle.search_core.specs.Steps.{IsLegal, committed_by, after}
 use Rattle.search_core.specs.Runs.{IsTrueEvent, IsTrueStart, IsTrueRun, IsBestWithin, IsSettled, HoldsAt, HoldsAlong, RunsHold, StartsAreReached, StepsReach, ReachedStatesHold, after_all}
 use Rattle.search_core.proofs.Gaps.{NeverDecreases, closed_within}
+use Rattle.search_core.proofs.Logs.{HasTrueLog, start_logged, logged_after}
 use Rattle.search_core.proofs.Started.{orderly_start}
 use Rattle.search_core.proofs.TrueSteps.{IsTrueState, true_after}
 
@@ -90,8 +91,9 @@ ended instance m is settled =
     (λ (h : IsBestWithin m.best m.gap (least_bound (tree_of m.tree))). inl h)
     (closed_within m.best m.gap root (tree_of m.tree) (all_closed m.tree.nodes is.orderly.placed.are.numbered none) is.pruned)
 
-holds_at : (instance : Instance) (m : Machine) → IsLawfulInstance instance → IsTrueState instance m → HoldsAt instance m
-holds_at instance m lawful is = record {
+holds_at : (instance : Instance) (start m : Machine) → IsLawfulInstance instance → IsTrueState instance m → HasTrueLog instance start m
+    → HoldsAt instance start m
+holds_at instance start m lawful is logged = record {
   cover = is.orderly.cover instance is.size;
   tickets = is.orderly.tickets;
   stored = is.stored;
@@ -100,6 +102,10 @@ holds_at instance m lawful is = record {
   least = is.least;
   pruned = is.pruned;
   ended = ended instance m is;
+  log = record { entries = logged.entries; apart = logged.apart };
+  first = logged.first;
+  own = logged.own;
+  few = logged.few;
 }
 
 -- ---- the best cost never rises
@@ -117,17 +123,19 @@ never_rises m (Pop worker) = at_most_itself m.best
 never_rises m (Steal worker victim) = at_most_itself m.best
 
 -- ---- runs
-along : NeverDecreases → (instance : Instance) (m : Machine) (events : List Event) → IsLawfulInstance instance → IsTrueState instance m
-    → IsTrueRun instance m events → HoldsAlong instance m events
-along law instance m [] lawful is run = holds_at instance m lawful is
-along law instance m (event ∷ events) lawful is run = (
-  holds_at instance m lawful is,
+along : NeverDecreases → (instance : Instance) (start m : Machine) (events : List Event) → IsLawfulInstance instance → IsTrueState instance m
+    → HasTrueLog instance start m → IsTrueRun instance m events → HoldsAlong instance start m events
+along law instance start m [] lawful is logged run = holds_at instance start m lawful is logged
+along law instance start m (event ∷ events) lawful is logged run = (
+  holds_at instance start m lawful is logged,
   never_rises m event,
-  along law instance (after m event) events lawful (true_after law instance m event lawful is run.0 run.1) run.2,
+  along law instance start (after m event) events lawful (true_after law instance m event lawful is run.0 run.1)
+      (logged_after instance start m event is.orderly run.0 run.1 logged) run.2,
 )
 
 pub runs_hold : NeverDecreases → RunsHold
-runs_hold law instance m events lawful start run = along law instance m events lawful (start_true instance m start) run
+runs_hold law instance m events lawful start run =
+    along law instance m m events lawful (start_true instance m start) (start_logged instance m start) run
 
 -- ---- one step after another
 run_more : (instance : Instance) (m : Machine) (events : List Event) (event : Event) → IsTrueRun instance m events
@@ -142,25 +150,25 @@ after_more m [] event = refl
 after_more m (first ∷ events) event = after_more (after m first) events event
 
 pub starts_are_reached : StartsAreReached
-starts_are_reached instance m start = record { start = m; events = []; is_start = start; run = tt; is = refl }
+starts_are_reached instance m start = record { events = []; is_start = start; run = tt; is = refl }
 
 pub steps_reach : StepsReach
-steps_reach instance m event reached legal told = record {
-  start = reached.start;
+steps_reach instance start m event reached legal told = record {
   events = reached.events ++ event ∷ [];
   is_start = reached.is_start;
-  run = run_more instance reached.start reached.events event reached.run
+  run = run_more instance start reached.events event reached.run
       (subst (λ (x : Machine). IsLegal x event) (sym reached.is) legal)
       (subst (λ (x : Machine). IsTrueEvent instance x event) (sym reached.is) told);
-  is = after_more reached.start reached.events event ∙ ap (λ (x : Machine). after x event) reached.is;
+  is = after_more start reached.events event ∙ ap (λ (x : Machine). after x event) reached.is;
 }
 
-last_holds : (instance : Instance) (m : Machine) (events : List Event) → HoldsAlong instance m events → HoldsAt instance (after_all m events)
-last_holds instance m [] holds = holds
-last_holds instance m (event ∷ events) holds = last_holds instance (after m event) events holds.2
+last_holds : (instance : Instance) (start m : Machine) (events : List Event) → HoldsAlong instance start m events
+    → HoldsAt instance start (after_all m events)
+last_holds instance start m [] holds = holds
+last_holds instance start m (event ∷ events) holds = last_holds instance start (after m event) events holds.2
 
 pub reached_states_hold : NeverDecreases → ReachedStatesHold
-reached_states_hold law instance m lawful reached =
-    subst (HoldsAt instance) reached.is
-    (last_holds instance reached.start reached.events
-    (runs_hold law instance reached.start reached.events lawful reached.is_start reached.run))
+reached_states_hold law instance start m lawful reached =
+    subst (HoldsAt instance start) reached.is
+    (last_holds instance start start reached.events
+    (runs_hold law instance start reached.events lawful reached.is_start reached.run))

@@ -1,7 +1,7 @@
 -- Runs of the search machine, and what holds after each event of one whose commits and published costs are true. Source:
 -- branch and bound on the commitment variables of the reference model by Knueven, Ostrowski and Watson; the machine is this
 -- project's own.
-use Rattle.std.specs.Prelude.{◌≡◌, ℕ, ◌≤◌, ◌⊎◌, IsTrue, All, IfSome, List, [], ◌∷◌, ℤ, pos, ◌<ℤ◌, Option, Some, None}
+use Rattle.std.specs.Prelude.{◌≡◌, ℕ, ◌≤◌, ◌⊎◌, IsTrue, All, IfSome, List, [], ◌∷◌, ℤ, pos, ◌<ℤ◌, Option, Some, None, slice_get}
 use Rattle.uc_model.specs.Limits.{IsLawfulInstance}
 use Rattle.uc_model.specs.Schedule.{thermal_count}
 use Rattle.uc_model.specs.declared.tolerance.TheConstants.{WHOLE_GAP}
@@ -16,7 +16,7 @@ use Rattle.dual_model.specs.declared.node.Node.{Node}
 use Rattle.dual_model.specs.declared.table.Table.{Table}
 use Rattle.branch_tree.specs.Closing.{is_within_gap}
 use Rattle.branch_tree.specs.NumberedTree.{node_count}
-use Rattle.branch_tree.specs.TrueFound.{IsOutcome}
+use Rattle.branch_tree.specs.TrueFound.{IsOutcome, IsTrueLog}
 use Rattle.branch_tree.specs.StoredTree.{AtMost, IsNodeAt, tree_bound}
 use Rattle.branch_tree.specs.TreeLaws.{StoredHolds, claims_of}
 use Rattle.branch_tree.specs.TreeView.{tree_of}
@@ -26,8 +26,9 @@ use Rattle.branch_tree.specs.declared.tree.Leaf.TheVariants as leaf
 use Rattle.search_core.specs.declared.limits.TheConstants.{MAX_BUDGET}
 use Rattle.search_core.specs.declared.event.Event.{Event}
 use Rattle.search_core.specs.declared.event.Event.TheVariants.{Claim, Commit, Publish, Look, Push, Pop, Steal}
-use Rattle.search_core.specs.Machine.{Machine, IsHolding, IsHeld, IsOpen, start_of}
+use Rattle.search_core.specs.Machine.{Machine, IsHolding, IsHeld, IsOpen, start_of, stored_at}
 use Rattle.search_core.specs.Orderly.{IsEachTicketOnce}
+use Rattle.search_core.specs.OwnTables.{Owns, HasFewEntries}
 use Rattle.search_core.specs.Steps.{IsLegal, after}
 
 -- ---- true events
@@ -96,7 +97,8 @@ pub record IsSettled (m : Machine) : Type 0 where
   pub none_open : (node : ℕ) → ¬ IsOpen m node
   pub none_held : (node : ℕ) → ¬ IsHeld m node
 
-pub record HoldsAt (instance : Instance) (m : Machine) : Type 0 where
+-- of a state that a run from this start reached
+pub record HoldsAt (instance : Instance) (start m : Machine) : Type 0 where
   -- the leaves are a cover, and each node's ticket is in exactly one hand or queue
   pub cover : IsCover instance (tree_of m.tree)
   pub tickets : IsEachTicketOnce m.desks (node_count m.tree.nodes)
@@ -110,23 +112,29 @@ pub record HoldsAt (instance : Instance) (m : Machine) : Type 0 where
   pub pruned : EachLeaf (λ node leaf. IsPrunedWithin m.best m.gap leaf) root (tree_of m.tree)
   -- at the end the best cost is within the gap of the bound, or each leaf is excluded
   pub ended : IsSettled m → IsBestWithin m.best m.gap (tree_bound m.tree) ⊎ AllExcluded instance m.tables (claims_of m.tree)
+  -- the log is true, the first table is that of the start, and by what the start stores at the root, each node stores what
+  -- its entries leave
+  pub log : IsTrueLog instance m.tree m.tables m.log
+  pub first : slice_get m.tables 0 ≡ slice_get start.tables 0
+  pub own : Owns m.tree m.tables m.log (stored_at start.tree 0)
+  -- a node with an undecided cell has at most a hundred entries
+  pub few : HasFewEntries m.tree m.log
 
--- before the first event and after each; and no event raises the best cost
-abbrev pub HoldsAlong : Instance → Machine → List Event → Type 0
-HoldsAlong instance m [] = HoldsAt instance m
-HoldsAlong instance m (event ∷ events) =
-    HoldsAt instance m × AtMost (after m event).best m.best × HoldsAlong instance (after m event) events
+-- before the first event and after each, of events that come after the start; and no event raises the best cost
+abbrev pub HoldsAlong : Instance → Machine → Machine → List Event → Type 0
+HoldsAlong instance start m [] = HoldsAt instance start m
+HoldsAlong instance start m (event ∷ events) =
+    HoldsAt instance start m × AtMost (after m event).best m.best × HoldsAlong instance start (after m event) events
 
 -- every run from a true start, of legal and true events
 abbrev pub RunsHold : Type 0
 RunsHold =
     (instance : Instance) (m : Machine) (events : List Event) → IsLawfulInstance instance → IsTrueStart instance m
-    → IsTrueRun instance m events → HoldsAlong instance m events
+    → IsTrueRun instance m events → HoldsAlong instance m m events
 
 -- ---- one step after another
--- a state that a run of legal and true events reaches from a true start
-pub record IsReached (instance : Instance) (m : Machine) : Type 0 where
-  pub start : Machine
+-- a state that a run of legal and true events reaches from this start, which is true
+pub record IsReached (instance : Instance) (start m : Machine) : Type 0 where
   pub events : List Event
   pub is_start : IsTrueStart instance start
   pub run : IsTrueRun instance start events
@@ -135,12 +143,13 @@ pub record IsReached (instance : Instance) (m : Machine) : Type 0 where
 -- a true start is reached, each legal and true event leads from a reached state to another, and what holds after the events of
 -- runs holds of each reached state
 abbrev pub StartsAreReached : Type 0
-StartsAreReached = (instance : Instance) (m : Machine) → IsTrueStart instance m → IsReached instance m
+StartsAreReached = (instance : Instance) (m : Machine) → IsTrueStart instance m → IsReached instance m m
 
 abbrev pub StepsReach : Type 0
 StepsReach =
-    (instance : Instance) (m : Machine) (event : Event) → IsReached instance m → IsLegal m event → IsTrueEvent instance m event
-    → IsReached instance (after m event)
+    (instance : Instance) (start m : Machine) (event : Event) → IsReached instance start m → IsLegal m event
+    → IsTrueEvent instance m event → IsReached instance start (after m event)
 
 abbrev pub ReachedStatesHold : Type 0
-ReachedStatesHold = (instance : Instance) (m : Machine) → IsLawfulInstance instance → IsReached instance m → HoldsAt instance m
+ReachedStatesHold =
+    (instance : Instance) (start m : Machine) → IsLawfulInstance instance → IsReached instance start m → HoldsAt instance start m

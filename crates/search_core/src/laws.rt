@@ -11,15 +11,20 @@ use uc_model::tolerance::cost_less_tolerance_never_decreases;
 /// - what each leaf stores holds, so no schedule costs less than the tree's bound, and without one there is none;
 /// - the best cost never rises, and is at most what any worker has seen;
 /// - each pruned leaf's bound is within the gap of the best cost, though it was pruned by an older one;
-/// - where no node is open or held, the best cost is within the gap of the bound, or each leaf is excluded.
+/// - where no node is open or held, the best cost is within the gap of the bound, or each leaf is excluded;
+/// - the log is true, each outcome that of its node at a lawful table, and no two entries share a claim, or a node and a
+///   table; the first table is that of the start;
+/// - each leaf that isn't excluded stores what its own entries leave of what its parent stored;
+/// - a node at which a cell is undecided has at most 100 entries, the first of them, but at the root, at the table that its
+///   parent stored.
 pub fn runs_hold()
     ensures { RunsHold }
 {
     cost_less_tolerance_never_decreases();
 }
 
-/// The same for a caller that takes one step after another: a true start is reached, a legal and true event leads from a
-/// reached state to another, and of each reached state all this holds.
+/// The same for a caller that takes one step after another: a true start is reached from itself, a legal and true event leads
+/// from a state that a start reaches to another, and of each reached state all this holds by its start.
 pub fn reached_states_hold()
     ensures start { StartsAreReached }
     ensures step { StepsReach }
