@@ -15,14 +15,21 @@ use dual_model::{Node, Table};
 use std::alloc::Global;
 use uc_model::{Instance, NoMemory};
 
-/// After how many evaluations without a gain the stride is shortened.
+/// After how many evaluations without a gain the stride is shortened, and after how many an ascent ends.
 const PATIENCE: u32 = 9;
+
+const FUTILE: u32 = 20;
 
 /// How often a step that promises hardly anything is tried again with another stride.
 const STALLS: u32 = 10;
 
 /// A step has to promise this part of the value.
 const PROMISE: i128 = 1_000_000;
+
+/// The part of the value by which the first step is to raise it, from prices in order of merit and from those of a table.
+const RISE_BY_MERIT: i128 = 100;
+
+const RISE_BY_TABLE: i128 = 400;
 
 /// What an ascent found: the best table, and how often each unit was on in each period among the cuts that give the best move, unit
 /// by unit, in parts of 2^16.
@@ -62,7 +69,8 @@ pub fn ascend(
     let (prices, shares) = match evaluate(alloc, &mut lent, instance, node, &prices)? {
         None => (prices, Vec::new(alloc)),
         Some(first) => {
-            let mut center = begin(alloc, instance, prices, &first)?;
+            let rise = first_rise(table, first.value);
+            let mut center = begin(alloc, instance, prices, &first, rise)?;
             climb(alloc, &mut lent, instance, node, &mut center, evaluations)?;
             let shares = mean_shares(alloc, &center.bundle)?;
             (center.prices, shares)
@@ -74,7 +82,7 @@ pub fn ascend(
     })
 }
 
-// Steps from the centre, until no step promises a gain.
+// Steps from the centre, until no step promises a gain, or many in a row have gained nothing.
 fn climb(
     alloc: Global,
     lent: &mut Lent,
@@ -90,6 +98,9 @@ fn climb(
 {
     let mut stalls: u32 = 0;
     for _ in 0..evaluations {
+        if center.nulls >= FUTILE {
+            break;
+        }
         let size = center.value.saturating_abs();
         let step = center.bundle.step(alloc, &center.prices, size)?;
         if step.predicted < size / PROMISE {
@@ -109,6 +120,11 @@ fn climb(
     Ok(())
 }
 
+// Whether the table has no price of demand.
+fn is_unpriced(table: &Table) -> bool {
+    table.pi().iter().all(|price| *price == 0)
+}
+
 // The table's prices, or those in order of merit where it has none of demand.
 fn first_prices(
     alloc: Global,
@@ -116,7 +132,7 @@ fn first_prices(
     table: &Table,
     ramped: &[u32],
 ) -> Result<Vec<i64>, NoMemory> {
-    let mut prices = if table.pi().iter().all(|price| *price == 0) {
+    let mut prices = if is_unpriced(table) {
         merit_prices(alloc, instance)?
     } else {
         table.pi().to_vec(alloc)?
@@ -128,16 +144,27 @@ fn first_prices(
     Ok(prices)
 }
 
-// The centre at the first prices.
+// By how much the first step is to raise the value, of which prices in order of merit leave more to gain.
+fn first_rise(table: &Table, value: i128) -> i128 {
+    let size = value.saturating_abs();
+    if is_unpriced(table) {
+        size / RISE_BY_MERIT
+    } else {
+        size / RISE_BY_TABLE
+    }
+}
+
+// The centre at the first prices, from where the first step is to raise the value by so much.
 fn begin(
     alloc: Global,
     instance: &Instance,
     prices: Vec<i64>,
     first: &Evaluation,
+    rise: i128,
 ) -> Result<Center, NoMemory> {
     let mut bundle = Bundle::of(alloc, instance);
     let cut = cut(alloc, &bundle, first, 0, WHOLE)?;
-    bundle.begin(alloc, cut, first.value)?;
+    bundle.begin(alloc, cut, rise)?;
     Ok(Center {
         prices,
         value: first.value,
@@ -207,9 +234,8 @@ fn shorten(center: &mut Center, gain: i128, predicted: i128) {
     if gain < predicted.saturating_mul(-4) {
         center.bundle.scale_stride(7, 10);
     }
-    if center.nulls >= PATIENCE {
+    if center.nulls % PATIENCE == 0 {
         center.bundle.scale_stride(8, 10);
-        center.nulls = 0;
     }
 }
 

@@ -93,10 +93,10 @@ impl Bundle {
         }
     }
 
-    /// The first cut, with all weight, where the bound has this value: the first step is to raise it by a hundredth.
-    pub(crate) fn begin(&mut self, alloc: Global, cut: Cut, value: i128) -> Result<(), NoMemory> {
+    /// The first cut, with all weight, by which the first step is to raise the bound by so much.
+    pub(crate) fn begin(&mut self, alloc: Global, cut: Cut, rise: i128) -> Result<(), NoMemory> {
         let length = self.change(&cut.slopes, &cut.slopes).max(1);
-        let rise = (value.saturating_abs() / 100).saturating_mul(i128::from(PART));
+        let rise = rise.saturating_mul(i128::from(PART));
         self.stride = within(&(rise / length), LONGEST).max(1);
         self.push(alloc, cut)
     }
