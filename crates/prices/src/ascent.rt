@@ -15,10 +15,17 @@ use dual_model::{Node, Table};
 use std::alloc::Global;
 use uc_model::{Instance, NoMemory};
 
-/// After how many evaluations without a gain the stride is shortened, and after how many an ascent ends.
+/// After how many evaluations without a gain the stride is shortened.
 const PATIENCE: u32 = 9;
 
-const FUTILE: u32 = 20;
+/// After how many evaluations in a row without a gain an ascent ends.
+const FUTILE: u32 = 26;
+
+/// After how many it ends where a step promises little.
+const FUTILE_FOR_LITTLE: u32 = 14;
+
+/// A step that promises less than this part of the value promises little.
+const LITTLE: i128 = 400_000;
 
 /// How often a step that promises hardly anything is tried again with another stride.
 const STALLS: u32 = 10;
@@ -26,9 +33,10 @@ const STALLS: u32 = 10;
 /// A step has to promise this part of the value.
 const PROMISE: i128 = 1_000_000;
 
-/// The part of the value by which the first step is to raise it, from prices in order of merit and from those of a table.
+/// The part of the value by which the first step is to raise it, from prices in order of merit.
 const RISE_BY_MERIT: i128 = 100;
 
+/// The same from the prices of a table.
 const RISE_BY_TABLE: i128 = 400;
 
 /// What an ascent found: the best table, and how often each unit was on in each period among the cuts that give the best move, unit
@@ -98,11 +106,11 @@ fn climb(
 {
     let mut stalls: u32 = 0;
     for _ in 0..evaluations {
-        if center.nulls >= FUTILE {
-            break;
-        }
         let size = center.value.saturating_abs();
         let step = center.bundle.step(alloc, &center.prices, size)?;
+        if is_futile(center.nulls, step.predicted, size) {
+            break;
+        }
         if step.predicted < size / PROMISE {
             stalls = stalls.saturating_add(1);
             if stalls > STALLS {
@@ -118,6 +126,16 @@ fn climb(
         }
     }
     Ok(())
+}
+
+// Whether an ascent ends where so many evaluations in a row have gained nothing and the next step promises so much.
+fn is_futile(nulls: u32, predicted: i128, size: i128) -> bool {
+    let most = if predicted < size / LITTLE {
+        FUTILE_FOR_LITTLE
+    } else {
+        FUTILE
+    };
+    nulls >= most
 }
 
 // Whether the table has no price of demand.

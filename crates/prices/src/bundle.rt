@@ -4,8 +4,8 @@
 //! square of its length over twice the stride. It is the stride times a mean of the cuts' slopes, and the weights of this mean are
 //! found by moving weight from the highest of the weighted cuts to the lowest cut.
 
-use crate::limited::{narrow, within};
-use crate::price_list::at;
+use crate::limited::{narrow, within, word};
+use crate::products::{Products, add_multiple};
 use std::alloc::Global;
 use uc_model::{Instance, NoMemory};
 
@@ -45,12 +45,13 @@ pub(crate) struct Cut {
     pub shares: Vec<i64>,
 }
 
-/// The cuts; how many prices may be below 0, which come first, and how many after them act on the whole system; by how much the
+/// The cuts, and the products of their slopes over the prices that move freely; how many prices may be below 0, which come first, and how many after them act on the whole system; by how much the
 /// slopes of all others are enlarged, since each acts on one unit; the watts of a unit of slopes; the stride, in parts of `PART`;
 /// and the most cuts that are kept.
 #[derive(Debug, Drop)]
 pub(crate) struct Bundle {
     pub cuts: Vec<Cut>,
+    products: Products,
     pub free: usize,
     pub system: usize,
     pub metric: i64,
@@ -66,11 +67,13 @@ pub(crate) struct Move {
     pub predicted: i128,
 }
 
-// The products of the cuts' slopes over the prices that move freely, and the heights of the cuts after the move.
-#[derive(Debug, Drop)]
-struct Heights {
-    gram: Vec<Vec<i64>>,
-    heights: Vec<i128>,
+// The cut that lies lowest after the move, the highest that has weight, and their heights.
+#[derive(Clone, Copy, Debug)]
+struct Ends {
+    low: usize,
+    least: i128,
+    high: usize,
+    most: i128,
 }
 
 impl Bundle {
@@ -80,6 +83,7 @@ impl Bundle {
         let units = instance.thermal.as_slice().len();
         Bundle {
             cuts: Vec::new(alloc),
+            products: Products::none(alloc),
             free: periods,
             system: periods.saturating_mul(2),
             metric: metric(units),
@@ -152,9 +156,8 @@ impl Bundle {
         let sums = self.sums(alloc, center.len())?;
         let mut moves = Vec::new(alloc);
         for (i, (price, sum)) in center.iter().zip(&sums).enumerate() {
-            let mean = i128::from(sum / PART).saturating_mul(i128::from(self.metric_at(i)));
-            let by = i128::from(self.stride).saturating_mul(mean) / i128::from(WHOLE);
-            let by = narrow(&by);
+            let mean = (sum / PART).saturating_mul(self.metric_at(i));
+            let by = narrow(&(times(self.stride, mean) / i128::from(WHOLE)));
             if i >= self.free && price.saturating_add(by) <= 0 {
                 moves.push(price.saturating_neg())?;
             } else {
@@ -169,9 +172,7 @@ impl Bundle {
         let mut sums = vec![in alloc; 0_i64; count]?;
         for cut in &self.cuts {
             if cut.weight > 0 {
-                for (sum, slope) in sums.iter_mut().zip(&cut.slopes) {
-                    *sum = sum.wrapping_add(cut.weight.wrapping_mul(*slope));
-                }
+                add_multiple(&mut sums, &cut.slopes, cut.weight);
             }
         }
         Ok(sums)
@@ -185,149 +186,125 @@ impl Bundle {
         moves: &[i64],
         size: i128,
     ) -> Result<(), NoMemory> {
-        let mut heights = self.heights(alloc, center, moves)?;
+        let reach = self.stride.saturating_mul(self.unit);
+        let active = self.active(alloc, center, moves)?;
+        self.recount(alloc, &active)?;
+        let mut heights = self.heights(alloc, moves, &active, reach)?;
         let enough = size / 10_000_000;
         for _ in 0..SHIFTS {
-            let Some((low, high, apart)) = self.ends(&heights.heights) else {
-                break;
-            };
-            if low == high || apart <= enough {
+            let ends = self.ends(&heights);
+            let apart = ends.most.saturating_sub(ends.least);
+            if ends.low == ends.high || apart <= enough {
                 break;
             }
-            let amount = self.amount(&heights.gram, low, high, apart);
+            let amount = self.amount(&ends, apart, reach);
             if amount == 0 {
                 break;
             }
-            self.shift(&mut heights, low, high, amount);
+            self.shift(&mut heights, &ends, amount, reach);
         }
         Ok(())
     }
 
-    // The products and heights.
-    fn heights(&self, alloc: Global, center: &[i64], moves: &[i64]) -> Result<Heights, NoMemory> {
-        let active = self.active(alloc, center, moves)?;
-        let kept = self.kept(alloc, &active)?;
-        let mut gram = Vec::new(alloc);
-        for first in &kept {
-            let mut row = Vec::new(alloc);
-            for second in &kept {
-                row.push(product_of(first, second))?;
-            }
-            gram.push(row)?;
-        }
-        let mut heights = Vec::new(alloc);
-        for (cut, row) in self.cuts.iter().zip(&gram) {
-            let fixed = self.fixed(cut, center, moves);
-            heights.push(fixed.saturating_add(self.rise(row)))?;
-        }
-        Ok(Heights { gram, heights })
+    // Counts these prices in the products, and no others.
+    fn recount(&mut self, alloc: Global, active: &[bool]) -> Result<(), NoMemory> {
+        self.products.count(alloc, &self.cuts, active)
     }
 
-    // The prices that don't end at 0.
-    fn active(&self, alloc: Global, center: &[i64], moves: &[i64]) -> Result<Vec<usize>, NoMemory> {
+    // The heights of the cuts after the move, by the products over the prices that are active.
+    fn heights(
+        &self,
+        alloc: Global,
+        moves: &[i64],
+        active: &[bool],
+        reach: i64,
+    ) -> Result<Vec<i128>, NoMemory> {
+        let stopped = stopped(alloc, moves, active)?;
+        let mut heights = Vec::new(alloc);
+        for (cut, row) in self.cuts.iter().zip(&self.products.rows) {
+            let fixed = self.fixed(cut, &stopped);
+            heights.push(fixed.saturating_add(along(self.mean_product(row), reach)))?;
+        }
+        Ok(heights)
+    }
+
+    // Which prices don't end at 0.
+    fn active(&self, alloc: Global, center: &[i64], moves: &[i64]) -> Result<Vec<bool>, NoMemory> {
         let mut active = Vec::new(alloc);
         for (i, (price, by)) in center.iter().zip(moves).enumerate() {
-            if i < self.free || price.saturating_add(*by) != 0 {
-                active.push(i)?;
-            }
+            active.push(i < self.free || price.saturating_add(*by) != 0)?;
         }
         Ok(active)
     }
 
-    // The cuts' slopes in these prices.
-    fn kept(&self, alloc: Global, active: &[usize]) -> Result<Vec<Vec<i64>>, NoMemory> {
-        let mut kept = Vec::new(alloc);
-        for cut in &self.cuts {
-            let mut slopes = Vec::new(alloc);
-            for i in active {
-                slopes.push(at(&cut.slopes, *i))?;
-            }
-            kept.push(slopes)?;
-        }
-        Ok(kept)
-    }
-
-    // The cut that lies lowest after the move, the highest that has weight, and how far they are apart.
-    fn ends(&self, heights: &[i128]) -> Option<(usize, usize, i128)> {
-        let mut lowest: Option<(usize, i128)> = None;
-        let mut highest: Option<(usize, i128)> = None;
+    // The ends by these heights.
+    fn ends(&self, heights: &[i128]) -> Ends {
+        let mut ends = Ends {
+            low: 0,
+            least: i128::MAX,
+            high: 0,
+            most: i128::MIN,
+        };
         for (k, (cut, height)) in self.cuts.iter().zip(heights).enumerate() {
-            lowest = match lowest {
-                Some((_, least)) if least <= *height => lowest,
-                _ => Some((k, *height)),
-            };
-            highest = match highest {
-                Some((_, most)) if cut.weight <= 0 || most >= *height => highest,
-                None if cut.weight <= 0 => None,
-                _ => Some((k, *height)),
-            };
+            if *height < ends.least {
+                ends.low = k;
+                ends.least = *height;
+            }
+            if cut.weight > 0 && *height > ends.most {
+                ends.high = k;
+                ends.most = *height;
+            }
         }
-        match (lowest, highest) {
-            (Some((low, least)), Some((high, most))) => Some((
-                low,
-                high,
-                most.saturating_sub(least),
-            )),
-            _ => None,
-        }
+        ends
     }
 
-    // By how much a cut rises with the move, by its products with all cuts.
-    fn rise(&self, row: &[i64]) -> i128 {
+    // The weighted mean of a cut's products with all cuts.
+    fn mean_product(&self, row: &[i64]) -> i64 {
         let mut sum: i128 = 0;
         for (product, cut) in row.iter().zip(&self.cuts) {
-            sum = sum.saturating_add(i128::from(*product).saturating_mul(i128::from(cut.weight)));
+            sum = sum.saturating_add(times(*product, cut.weight));
         }
-        self.along(sum / i128::from(WHOLE))
+        word(&(sum / i128::from(WHOLE)))
     }
 
-    // What a product of slopes is worth along the stride.
-    fn along(&self, product: i128) -> i128 {
-        product
-            .saturating_mul(i128::from(self.stride))
-            .saturating_mul(i128::from(self.unit))
-            / i128::from(PART)
-    }
-
-    // How much weight moves between two cuts.
-    fn amount(&self, gram: &[Vec<i64>], low: usize, high: usize, apart: i128) -> i64 {
-        let between = product(gram, low, high).saturating_mul(2);
-        let bend = product(gram, low, low)
-            .saturating_add(product(gram, high, high))
+    // How much weight moves between the ends, which are so far apart.
+    fn amount(&self, ends: &Ends, apart: i128, reach: i64) -> i64 {
+        let between = self.products.of(ends.low, ends.high).saturating_mul(2);
+        let bend = self
+            .products
+            .of(ends.low, ends.low)
+            .saturating_add(self.products.of(ends.high, ends.high))
             .saturating_sub(between);
-        let whole = apart.saturating_mul(i128::from(WHOLE)) / self.along(bend).max(1);
-        let most = match self.cuts.get(high) {
+        let whole = apart.saturating_mul(i128::from(WHOLE)) / along(bend, reach).max(1);
+        let most = match self.cuts.get(ends.high) {
             Some(cut) => cut.weight,
             None => 0,
         };
         within(&whole, most.max(0)).max(0)
     }
 
-    fn shift(&mut self, heights: &mut Heights, low: usize, high: usize, amount: i64) {
-        if let Some(cut) = self.cuts.get_mut(high) {
+    // Moves so much weight from the highest cut to the lowest one.
+    fn shift(&mut self, heights: &mut [i128], ends: &Ends, amount: i64, reach: i64) {
+        if let Some(cut) = self.cuts.get_mut(ends.high) {
             cut.weight = cut.weight.saturating_sub(amount);
         }
-        if let Some(cut) = self.cuts.get_mut(low) {
+        if let Some(cut) = self.cuts.get_mut(ends.low) {
             cut.weight = cut.weight.saturating_add(amount);
         }
-        for (height, row) in heights.heights.iter_mut().zip(&heights.gram) {
-            let change = i128::from(at(row, low).saturating_sub(at(row, high)));
-            let rise = self.along(change.saturating_mul(i128::from(amount)) / i128::from(WHOLE));
-            *height = height.saturating_add(rise);
+        let gained = self.products.row(ends.low);
+        let lost = self.products.row(ends.high);
+        for (height, (more, less)) in heights.iter_mut().zip(gained.iter().zip(lost)) {
+            let change = times(more.saturating_sub(*less), amount) / i128::from(WHOLE);
+            *height = height.saturating_add(along(word(&change), reach));
         }
     }
 
     // The error of a cut after the moves of the prices that end at 0.
-    fn fixed(&self, cut: &Cut, center: &[i64], moves: &[i64]) -> i128 {
+    fn fixed(&self, cut: &Cut, stopped: &[(usize, i64)]) -> i128 {
         let mut error = cut.error;
-        for (i, (slope, (price, by))) in cut
-            .slopes
-            .iter()
-            .zip(center.iter().zip(moves))
-            .enumerate()
-        {
-            if i >= self.free && *by != 0 && price.saturating_add(*by) == 0 {
-                error = error.saturating_add(self.worth(i, *slope, *by));
+        for (i, by) in stopped {
+            if let Some(slope) = cut.slopes.get(*i) {
+                error = error.saturating_add(self.worth(*i, *slope, *by));
             }
         }
         error
@@ -335,13 +312,11 @@ impl Bundle {
 
     // What a slope is worth over the move of price i.
     fn worth(&self, i: usize, slope: i64, by: i64) -> i128 {
-        let worth = i128::from(slope)
-            .saturating_mul(i128::from(self.unit))
-            .saturating_mul(i128::from(by));
+        let watts = slope.saturating_mul(self.unit);
         if i < self.system {
-            worth
+            times(watts, by)
         } else {
-            worth / i128::from(self.metric.max(1))
+            times(watts / self.metric.max(1), by)
         }
     }
 
@@ -406,6 +381,7 @@ impl Bundle {
     /// Takes a cut. Where there are too many, one that has hardly any weight is given up, or else all but the newest ones are made one.
     pub(crate) fn push(&mut self, alloc: Global, cut: Cut) -> Result<(), NoMemory> {
         self.cuts.push(cut)?;
+        self.products.push(alloc, &self.cuts)?;
         if self.cuts.len() > self.most {
             let (lightest, least) = self.lightest();
             if least < LIGHT {
@@ -435,6 +411,7 @@ impl Bundle {
     fn give_up(&mut self, k: usize) {
         if k < self.cuts.len() {
             let lost = self.cuts.remove(k).weight;
+            self.products.give_up(k);
             if let Some(cut) = self.cuts.last_mut() {
                 cut.weight = cut.weight.saturating_add(lost);
             }
@@ -452,6 +429,7 @@ impl Bundle {
             }
         }
         self.cuts.insert(0, mean)?;
+        self.products = Products::none(alloc);
         Ok(())
     }
 
@@ -471,8 +449,8 @@ impl Bundle {
         let mut shares = vec![in alloc; 0_i64; cells]?;
         let mut error: i128 = 0;
         for cut in self.cuts.iter().take(count) {
-            add_weighted(&mut slopes, &cut.slopes, cut.weight);
-            add_weighted(&mut shares, &cut.shares, cut.weight);
+            add_multiple(&mut slopes, &cut.slopes, cut.weight);
+            add_multiple(&mut shares, &cut.shares, cut.weight);
             error = error.saturating_add(cut.error.saturating_mul(i128::from(cut.weight)));
         }
         for slope in slopes.iter_mut() {
@@ -517,28 +495,25 @@ fn slope_unit(instance: &Instance) -> i64 {
     unit
 }
 
-// Adds numbers times a weight.
-fn add_weighted(sums: &mut [i64], numbers: &[i64], weight: i64) {
-    for (sum, number) in sums.iter_mut().zip(numbers) {
-        *sum = sum.wrapping_add(weight.wrapping_mul(*number));
+// The moves of the prices that don't count.
+fn stopped(alloc: Global, moves: &[i64], active: &[bool]) -> Result<Vec<(usize, i64)>, NoMemory> {
+    let mut stopped = Vec::new(alloc);
+    for (i, (by, moves_freely)) in moves.iter().zip(active).enumerate() {
+        if *by != 0 && !*moves_freely {
+            stopped.push((i, *by))?;
+        }
     }
+    Ok(stopped)
 }
 
-// The product of two cuts' slopes.
-fn product_of(first: &[i64], second: &[i64]) -> i64 {
-    let mut sum: i64 = 0;
-    for (a, b) in first.iter().zip(second) {
-        sum = sum.wrapping_add(a.wrapping_mul(*b));
-    }
-    sum
+// What a product of slopes is worth over such a reach: the stride, in units of slopes.
+fn along(product: i64, reach: i64) -> i128 {
+    times(product, reach) / i128::from(PART)
 }
 
-// An entry of the products.
-fn product(gram: &[Vec<i64>], k: usize, j: usize) -> i128 {
-    match gram.get(k) {
-        Some(row) => i128::from(at(row, j)),
-        None => 0,
-    }
+// The product of two numbers, which fits.
+fn times(first: i64, second: i64) -> i128 {
+    i128::from(first).wrapping_mul(i128::from(second))
 }
 
 // Whether nearly the same prices end at 0.

@@ -12,6 +12,7 @@ mod merit;
 mod no_prices;
 mod outputs;
 mod price_list;
+mod products;
 mod rays;
 mod steps;
 

@@ -28,3 +28,9 @@ pub(crate) fn narrow(number: &i128) -> i64 {
 pub(crate) fn within(number: &i128, most: i64) -> i64 {
     narrow(number).min(most).max(most.saturating_neg())
 }
+
+/// A number kept within the limits of a word.
+pub(crate) fn word(number: &i128) -> i64 {
+    let limit = i128::from(i64::MAX);
+    (*number).min(limit).max(-limit) as i64
+}
