@@ -45,9 +45,9 @@ pub(crate) struct Cut {
     pub shares: Vec<i64>,
 }
 
-/// The cuts, and the products of their slopes over the prices that move freely; how many prices may be below 0, which come first, and how many after them act on the whole system; by how much the
-/// slopes of all others are enlarged, since each acts on one unit; the watts of a unit of slopes; the stride, in parts of `PART`;
-/// and the most cuts that are kept.
+/// The cuts, and the products of their slopes over the prices that move freely; how many prices may be below 0, which come first,
+/// and how many after them act on the whole system; by how much the slopes of all others are enlarged, since each acts on one unit;
+/// the watts of a unit of slopes; the stride, in parts of `PART`; and the most cuts that are kept.
 #[derive(Debug, Drop)]
 pub(crate) struct Bundle {
     pub cuts: Vec<Cut>,
