@@ -93,19 +93,29 @@ stuck_line instance None = []
 stuck_line instance (Some stuck) =
     joined (codes "most-on commitment stuck in period " ∷ whole_text (suc stuck.period) ∷ codes ": " ∷ why_line instance stuck.why ∷ [])
 
--- a schedule with its cost
+-- the first lines of a schedule with its cost: whether it is within the gap, cost, bound and evaluations
+abbrev pub schedule_summary : Found → ℕ → ℤ → List ℕ
+schedule_summary found gap cost =
+    joined (state_line (is_within_gap cost (tree_bound found.tree) gap) ∷ cost_line cost ∷ bound_line (tree_bound found.tree)
+    ∷ evaluations_line found ∷ [])
+
+-- and then its rows
 abbrev pub schedule_report : Instance → Found → ℕ → Printed → ℤ → List ℕ
 schedule_report instance found gap printed cost =
-    joined (state_line (is_within_gap cost (tree_bound found.tree) gap) ∷ cost_line cost ∷ bound_line (tree_bound found.tree)
-    ∷ evaluations_line found ∷ thermal_lines instance.thermal printed.thermal
+    joined (schedule_summary found gap cost ∷ thermal_lines instance.thermal printed.thermal
     ∷ renewable_lines instance.renewable printed.renewable ∷ [])
 
--- without a schedule: with no bound there is none, and else there may be one
+-- the first lines without a schedule: with no bound there is none, and else there may be one
+abbrev pub no_schedule_summary : Found → Option ℤ → List ℕ
+no_schedule_summary found None = joined (line (codes "infeasible") [] ∷ evaluations_line found ∷ [])
+no_schedule_summary found (Some bound) =
+    joined (line (codes "budget spent, no schedule found") [] ∷ bound_line (Some bound) ∷ evaluations_line found ∷ [])
+
+-- and then, where there may be one, why none was found
 abbrev pub no_schedule_report : Instance → Found → Option ℤ → List ℕ
-no_schedule_report instance found None = joined (line (codes "infeasible") [] ∷ evaluations_line found ∷ [])
+no_schedule_report instance found None = no_schedule_summary found None
 no_schedule_report instance found (Some bound) =
-    joined (line (codes "budget spent, no schedule found") [] ∷ bound_line (Some bound) ∷ evaluations_line found
-    ∷ stuck_line instance found.most_on ∷ [])
+    joined (no_schedule_summary found (Some bound) ∷ stuck_line instance found.most_on ∷ [])
 
 abbrev pub outcome_report : Instance → Found → ℕ → Option (Printed × ℤ) → List ℕ
 outcome_report instance found gap None = no_schedule_report instance found (tree_bound found.tree)

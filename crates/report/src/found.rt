@@ -3,7 +3,7 @@
 ghost use Rattle.std.specs.Prelude.{◌≡◌, ◌≤◌, OnOk, OnErr};
 ghost use Rattle.outside.specs.Sinks.{SinkWrites, SinkWritesFront};
 ghost use Rattle.branch_tree.specs.StoredTree.{tree_bound};
-ghost use Rattle.report.specs.FoundReport.{size_line, state_line, cost_line, bound_line, evaluations_line, schedule_report, no_schedule_report, found_report};
+ghost use Rattle.report.specs.FoundReport.{size_line, state_line, cost_line, bound_line, evaluations_line, schedule_summary, schedule_report, no_schedule_summary, no_schedule_report, found_report};
 
 use crate::schedule::{RenewableLine, ThermalLine};
 use crate::stuck::put_stuck;
@@ -53,6 +53,18 @@ fn put_evaluations<O: Out>(out: &mut O, found: &Found)
     put_whole_line(out, b"evaluations", count as u64);
 }
 
+// What a report says of a schedule before its rows.
+pub(crate) fn put_summary<O: Out>(out: &mut O, found: &Found, gap: u32, cost: &i64)
+    requires { gap ≤ WHOLE_GAP }
+    ensures { O.emits (schedule_summary found.now gap cost.now) out.old out.new }
+{
+    let bound = found.tree.bound();
+    put_state(out, is_within_gap(cost, &bound, gap));
+    put_money_line(out, b"cost", &i128::from(*cost));
+    put_bound(out, &bound);
+    put_evaluations(out, found);
+}
+
 fn put_schedule<O: Out>(
     out: &mut O,
     found: &Found,
@@ -64,11 +76,7 @@ fn put_schedule<O: Out>(
     requires { gap ≤ WHOLE_GAP }
     ensures { O.emits (schedule_report instance.now found.now gap printed.now cost.now) out.old out.new }
 {
-    let bound = found.tree.bound();
-    put_state(out, is_within_gap(cost, &bound, gap));
-    put_money_line(out, b"cost", &i128::from(*cost));
-    put_bound(out, &bound);
-    put_evaluations(out, found);
+    put_summary(out, found, gap, cost);
     put_pairs(
         out,
         &ThermalLine,
@@ -83,18 +91,27 @@ fn put_schedule<O: Out>(
     );
 }
 
+// What a report says without a schedule, but for why none was found.
+pub(crate) fn put_no_summary<O: Out>(out: &mut O, found: &Found, bound: &Option<i128>)
+    ensures { O.emits (no_schedule_summary found.now bound.now) out.old out.new }
+{
+    if bound.is_some() {
+        out.put(b"budget spent, no schedule found\n");
+        put_bound(out, bound);
+        put_evaluations(out, found);
+    } else {
+        out.put(b"infeasible\n");
+        put_evaluations(out, found);
+    }
+}
+
 fn put_no_schedule<O: Out>(out: &mut O, found: &Found, instance: &Instance)
     ensures { O.emits (no_schedule_report instance.now found.now (tree_bound found.now.tree)) out.old out.new }
 {
     let bound = found.tree.bound();
+    put_no_summary(out, found, &bound);
     if bound.is_some() {
-        out.put(b"budget spent, no schedule found\n");
-        put_bound(out, &bound);
-        put_evaluations(out, found);
         put_stuck(out, instance, &found.most_on);
-    } else {
-        out.put(b"infeasible\n");
-        put_evaluations(out, found);
     }
 }
 

@@ -3,6 +3,7 @@
 #![tactic(auto, unfolding(outside::specs::Lines::line, outside::specs::Lines::list_line))]
 
 mod claims;
+pub mod demo;
 pub mod fault;
 mod fault_text;
 mod found;
@@ -11,6 +12,7 @@ mod schedule;
 mod stuck;
 
 pub use claims::write_claims;
+pub use demo::{DEMO_GAP, write_demo};
 pub use fault::Fault;
 pub use fault_text::write_fault;
 pub use found::write_found;
