@@ -1,10 +1,11 @@
 -- What a search answers claims truly, and its certificate has a text.
-use Rattle.std.proofs.Common.{◌^◌, ◌<◌, ◌≤◌, ℕ, arith, length, Option, Some, None, ℤ, unsigned_abs}
+use Rattle.std.proofs.Common.{◌≡◌, ◌^◌, ◌<◌, ◌≤◌, ℕ, arith, length, subst, Option, Some, None, ℤ, unsigned_abs}
 use Rattle.std.specs.Prelude.{IfSome}
 use Rattle.std.proofs.lemmas.List.Elements.{All-weaker}
 use Rattle.uc_model.specs.Limits.{IsLawfulInstance}
 use Rattle.uc_model.specs.declared.instance.Instance.{Instance}
 use Rattle.dual_model.specs.declared.table.Table.{Table}
+use Rattle.dual_model.specs.Laws.{IsClaimTrue}
 use Rattle.dual_model.proofs.Covers.{certificates_claim_truly}
 use Rattle.outside.specs.Slots.{SlotState}
 use Rattle.branch_tree.specs.StoredTree.{tree_bound}
@@ -13,11 +14,14 @@ use Rattle.branch_tree.specs.declared.found.Found.{Found}
 use Rattle.cert_text.specs.CertificateText.{listing_of}
 use Rattle.cert_text.specs.TextConditions.{HasText, IsMoney}
 use Rattle.cert_text.proofs.FoundTexts.{found-has-text}
+use Rattle.demo_gen.specs.Demo.{demo_instance}
 use Rattle.dual_value.specs.NodeAnswer.{MAX_VALUE}
 use Rattle.workers.specs.Writable.{HasFewRows, IsWritable}
 use Rattle.workers.specs.SearchResult.{IsSearchResult}
 use Rattle.uc_cli.specs.Command.{Solve}
 use Rattle.uc_cli.specs.Reading.{HasInstance}
+use Rattle.uc_cli.specs.Checking.{IsScheduleTrue}
+use Rattle.uc_cli.specs.DemoRun.{IsDemoAnswer}
 use Rattle.uc_cli.specs.Run.{IsAnswer}
 use Rattle.uc_cli.proofs.ScheduleTexts.{has_schedule_text}
 use Rattle.uc_cli.proofs.Verdicts.{schedule_true}
@@ -47,4 +51,15 @@ answered asked file instance rounded found lawful read result writable = record 
   schedule = schedule_true instance (certificate_of instance found) lawful result.truth.certificate;
   claim = certificates_claim_truly instance (certificate_of instance found) lawful result.truth.certificate;
   text = text_of instance asked.units asked.gap found lawful result writable;
+}
+
+pub demo_answered : (seed : ℕ) (instance : Instance) (found : Found) → instance ≡ demo_instance seed → IsLawfulInstance instance
+    → IsSearchResult instance 200 1000 found → IsDemoAnswer seed found
+demo_answered seed instance found is lawful result = record {
+  search = subst (λ i. IsSearchResult i 200 1000 found) is result;
+  schedule = λ written e.
+      subst (λ i. IsScheduleTrue i written) is
+      (schedule_true instance (certificate_of instance found) lawful result.truth.certificate written e);
+  claim = subst (λ i. IsClaimTrue i (tree_bound found.tree)) is
+      (certificates_claim_truly instance (certificate_of instance found) lawful result.truth.certificate);
 }

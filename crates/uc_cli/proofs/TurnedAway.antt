@@ -10,9 +10,10 @@ use Rattle.report.specs.declared.fault.Fault.{Fault}
 use Rattle.report.specs.declared.fault.Fault.TheVariants.{Words, Memory}
 use Rattle.uc_cli.specs.Arguments.{is_taken}
 use Rattle.uc_cli.specs.Checking.{most_certificate_bytes}
-use Rattle.uc_cli.specs.Command.{Command, Solves, Checks, command_of}
+use Rattle.uc_cli.specs.Command.{Command, Solves, Checks, Demos, command_of}
 use Rattle.uc_cli.specs.Outside.{outside_of}
 use Rattle.uc_cli.specs.Reading.{most_bytes}
+use Rattle.uc_cli.specs.DemoRun.{IsDemoFailure}
 use Rattle.uc_cli.specs.Run.{IsFailure, IsRun}
 use Rattle.uc_cli.specs.Writing.{TellsFault}
 use Rattle.uc_cli.specs.declared.program.End.{End}
@@ -51,6 +52,15 @@ stopped (Checks asked) files out err_old err_new end unopened code nothing told 
     fault = Memory;
     code = code;
     failure = record { cause = inl (record { cause = tt; untouched = refl }); out = refl };
+    told = told;
+  });
+}
+stopped (Demos asked) files out err_old err_new end unopened code nothing told = record {
+  files = refl;
+  ended = inr (record {
+    fault = Memory;
+    code = code;
+    failure = subst (IsDemoFailure asked out out Memory) (sym nothing) refl;
     told = told;
   });
 }

@@ -52,7 +52,15 @@ solve_shape = record (new_shape (codes "solve")) {
 abbrev pub check_shape : Shape
 check_shape = record (new_shape (codes "check")) { rules = place (codes "instance") ∷ place (codes "certificate") ∷ [] }
 
--- the program has to be given one of the two
+-- a whole number from 0 that 32 bits hold, told by its place, which has to be given
+abbrev pub seed_place : Rule
+seed_place = record (new_rule (codes "seed")) { parser = Some (Signed (pos 0) (pos 4294967295)); required = true }
+
+-- `demo SEED`
+abbrev pub demo_shape : Shape
+demo_shape = record (new_shape (codes "demo")) { rules = seed_place ∷ [] }
+
+-- the program has to be given one of the three
 abbrev pub program : App
 program = record {
   top = record (new_shape (codes "uc")) {
@@ -61,7 +69,7 @@ program = record {
     disable_help_flag = true;
     disable_help_subcommand = true;
   };
-  subs = solve_shape ∷ check_shape ∷ [];
+  subs = solve_shape ∷ check_shape ∷ demo_shape ∷ [];
 }
 
 -- no kind of error may come

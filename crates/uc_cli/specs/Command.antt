@@ -21,10 +21,15 @@ pub record Check : Type 0 where
   pub instance : List ℕ
   pub certificate : List ℕ
 
+-- what `demo` is asked: the seed
+pub record Demo : Type 0 where
+  pub seed : ℕ
+
 -- what the program does
 pub data Command : Type 0 where
   Solves : Solve → Command
   Checks : Check → Command
+  Demos : Demo → Command
 
 -- the value of an argument that has to be given, and so is
 abbrev pub value_of : Text → List Row → List ℕ
@@ -34,30 +39,34 @@ value_of id rows = unwrap_or (first_of id rows) []
 abbrev pub is_on : Text → List Row → Bool
 is_on id rows = option_map_or (λ text. bytes_eq text (codes "true")) (first_of id rows) false
 
--- the whole number that a text writes, where it is at most a million, as each one is that the parser lets through; else 0
-abbrev pub up_to_a_million : Text → ℕ
-up_to_a_million text = if is_unsigned_in 0 1000000 text then digits_value 10 (without_leading_plus text) else 0
+-- the whole number that a text writes, where it is at most this, as each one is that the parser lets through; else 0
+abbrev pub whole_up_to : ℕ → Text → ℕ
+whole_up_to most text = if is_unsigned_in 0 most text then digits_value 10 (without_leading_plus text) else 0
 
-abbrev pub number_of : Text → List Row → ℕ
-number_of id rows = option_map_or up_to_a_million (one_of id rows) 0
+abbrev pub number_of : ℕ → Text → List Row → ℕ
+number_of most id rows = option_map_or (whole_up_to most) (one_of id rows) 0
 
 abbrev pub solve_of : List Row → Solve
 solve_of rows = record {
   instance = value_of (codes "instance") rows;
   certificate = value_of (codes "cert") rows;
-  units = number_of (codes "units") rows;
-  gap = number_of (codes "gap") rows;
+  units = number_of 1000000 (codes "units") rows;
+  gap = number_of 1000000 (codes "gap") rows;
   exact = is_on (codes "exact") rows;
 }
 
 abbrev pub check_of : List Row → Check
 check_of rows = record { instance = value_of (codes "instance") rows; certificate = value_of (codes "certificate") rows }
 
+abbrev pub demo_of : List Row → Demo
+demo_of rows = record { seed = number_of 4294967295 (codes "seed") rows }
+
 -- the command of a name, with what was found for its arguments
 abbrev pub named : Text × List Row → Option Command
 named given =
     if bytes_eq given.0 (codes "solve") then Some (Solves (solve_of given.1))
-    else (if bytes_eq given.0 (codes "check") then Some (Checks (check_of given.1)) else None)
+    else (if bytes_eq given.0 (codes "check") then Some (Checks (check_of given.1))
+    else (if bytes_eq given.0 (codes "demo") then Some (Demos (demo_of given.1)) else None))
 
 -- the command that the words ask for, where they are taken: then there is one
 unfoldable pub command_of : List Text → Option Command

@@ -4,5 +4,6 @@ pub mod Outside
 pub mod Reading
 pub mod Writing
 pub mod Checking
+pub mod DemoRun
 pub mod Run
 pub mod inside

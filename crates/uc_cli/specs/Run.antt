@@ -19,9 +19,10 @@ use Rattle.report.specs.FoundReport.{found_report}
 use Rattle.report.specs.declared.fault.Fault.{Fault}
 use Rattle.report.specs.declared.fault.Fault.TheVariants.{Words, Write, Memory}
 use Rattle.uc_cli.specs.Outside.{Outside}
-use Rattle.uc_cli.specs.Command.{Solve, Command, Solves, Checks}
+use Rattle.uc_cli.specs.Command.{Solve, Command, Solves, Checks, Demos}
 use Rattle.uc_cli.specs.Reading.{most_bytes, HasInstance, HasCause, IsOpenedByNoOther, IsOnlyRead}
 use Rattle.uc_cli.specs.Checking.{IsCheckRun, IsScheduleTrue}
+use Rattle.uc_cli.specs.DemoRun.{IsDemoRun}
 use Rattle.uc_cli.specs.Writing.{text_of_certificate, IsSaved, FailsToSave, IsTold, FailsToTell, TellsFault}
 use Rattle.uc_cli.specs.declared.program.End.{End}
 
@@ -104,6 +105,7 @@ pub record IsSolveRun (asked : Solve) (before after : Outside) (end : End) : Typ
 abbrev pub IsRun : Command → Outside → Outside → End → Type 0
 IsRun (Solves asked) before after end = IsSolveRun asked before after end
 IsRun (Checks asked) before after end = IsCheckRun asked before after end
+IsRun (Demos asked) before after end = IsDemoRun asked before after end
 
 -- the run ended at its words with this fault: it told it, and touched nothing else
 pub record IsTurnedAway (fault : Fault) (before after : Outside) (end : End) : Type 0 where

@@ -3,7 +3,7 @@
 ghost use Rattle.std.specs.Prelude.{◌≡◌, IfOk, true, false, []};
 ghost use Rattle.clap.specs.Words.{app_of, rule_of, shape_of};
 ghost use Rattle.clap.specs.declared.builder.command.Command.TheViews.{out-Command as fields_of};
-ghost use Rattle.uc_cli.specs.Arguments.{place as place_rule, needed_option as needed_rule, units_option as units_rule, one_alone as one_rule, gap_option as gap_rule, switch as switch_rule, solve_shape, check_shape, program as program_app};
+ghost use Rattle.uc_cli.specs.Arguments.{place as place_rule, needed_option as needed_rule, units_option as units_rule, one_alone as one_rule, gap_option as gap_rule, switch as switch_rule, seed_place as seed_rule, solve_shape, check_shape, demo_shape, program as program_app};
 
 use clap::{Arg, ArgAction, Command, value_parser};
 use std::alloc::{AllocError, Global};
@@ -65,6 +65,16 @@ fn switch<'a>(alloc: Global, name: &'a str) -> Arg<'a>
     Arg::new(alloc, name).long(name).action(ArgAction::SetTrue)
 }
 
+// A whole number from 0 that 32 bits hold, told by its place, which has to be given.
+fn seed_place<'a>(alloc: Global) -> Arg<'a>
+    ensures rule { rule_of result ≡ seed_rule }
+    ensures local { result.global ≡ false }
+{
+    Arg::new(alloc, "seed")
+        .required(true)
+        .value_parser(value_parser!(u32))
+}
+
 fn solve_command<'a>(alloc: Global) -> Result<Command<'a>, AllocError>
     ensures shape { IfOk result (λ command. shape_of command ≡ solve_shape) }
     ensures local { IfOk result (λ command. (fields_of command).has_globals ≡ false) }
@@ -87,6 +97,13 @@ fn check_command<'a>(alloc: Global) -> Result<Command<'a>, AllocError>
         .arg(place(alloc, "certificate"))
 }
 
+fn demo_command<'a>(alloc: Global) -> Result<Command<'a>, AllocError>
+    ensures shape { IfOk result (λ command. shape_of command ≡ demo_shape) }
+    ensures local { IfOk result (λ command. (fields_of command).has_globals ≡ false) }
+{
+    Command::new(alloc, "demo").arg(seed_place(alloc))
+}
+
 // A command has to be given, and help is none.
 fn bare_program<'a>(alloc: Global) -> Command<'a>
     ensures app { app_of result ≡ record { top = record program_app.top { is_leaf = true }; subs = [] } }
@@ -97,11 +114,12 @@ fn bare_program<'a>(alloc: Global) -> Command<'a>
         .disable_help_subcommand(true)
 }
 
-/// The program with its commands, `solve` and `check`.
+/// The program with its commands, `solve`, `check` and `demo`.
 pub(crate) fn program<'a>(alloc: Global) -> Result<Command<'a>, AllocError>
     ensures { IfOk result (λ command. app_of command ≡ program_app) }
 {
     bare_program(alloc)
         .subcommand(solve_command(alloc)?)?
-        .subcommand(check_command(alloc)?)
+        .subcommand(check_command(alloc)?)?
+        .subcommand(demo_command(alloc)?)
 }

@@ -3,8 +3,8 @@
 ghost use Rattle.std.specs.Prelude.{◌≡◌, ◌≤◌, map, string_bytes, true, IfOk, IfErr, IfSome, Some, option_map, option_and_then};
 ghost use Rattle.clap.specs.Words.{first_of, found_of, rows_of, kind_of, subcommand_rows_of};
 ghost use Rattle.uc_cli.specs.Arguments.{is_taken};
-ghost use Rattle.uc_cli.specs.Command.{named, command_of as command_of_words, value_of, is_on, number_of, solve_of as solve_of_rows, check_of as check_of_rows};
-ghost use Rattle.uc_cli.specs.inside.Asked.{command_asked, solve_asked, check_asked, refusal_of, HasNumbers, IsRefusal};
+ghost use Rattle.uc_cli.specs.Command.{named, command_of as command_of_words, value_of, is_on, number_of, solve_of as solve_of_rows, check_of as check_of_rows, demo_of as demo_of_rows};
+ghost use Rattle.uc_cli.specs.inside.Asked.{command_asked, solve_asked, check_asked, demo_asked, refusal_of, HasNumbers, IsRefusal};
 
 use crate::arguments::program;
 use clap::error::ErrorKind;
@@ -14,6 +14,9 @@ use std::alloc::Global;
 
 /// The greatest number of an option: evaluations of a budget, and parts per million of a cost.
 const MOST: u32 = 1_000_000;
+
+/// The greatest seed.
+const MOST_SEED: u32 = 4_294_967_295;
 
 /// What `solve` is asked: the file of the instance, that of the certificate, the budget in evaluations, the gap at which a search is
 /// closed, in parts per million of a cost, and whether a rounded number is refused.
@@ -33,11 +36,18 @@ pub(crate) struct Check<'a> {
     pub certificate: &'a str,
 }
 
+/// What `demo` is asked: the seed.
+#[derive(Clone, Copy, Debug)]
+pub(crate) struct Demo {
+    pub seed: u32,
+}
+
 /// A command with its arguments.
 #[derive(Clone, Copy, Debug)]
 pub(crate) enum Command<'a> {
     Solve(Solve<'a>),
     Check(Check<'a>),
+    Demo(Demo),
 }
 
 // The value of an argument, where it has one.
@@ -67,13 +77,13 @@ fn is_given(given: &ArgMatches<'_>, id: &str) -> bool
     }
 }
 
-// The number of an option. The parser lets none through that is greater.
-fn number(given: &ArgMatches<'_>, id: &str) -> u32
-    ensures value { result ≡ number_of id.now (rows_of (found_of given.now)) }
-    ensures most { result ≤ MOST }
+// The number of an argument. The parser lets none through that is greater than `most`.
+fn number(given: &ArgMatches<'_>, id: &str, most: u32) -> u32
+    ensures value { result ≡ number_of most id.now (rows_of (found_of given.now)) }
+    ensures most { result ≤ most }
 {
     match given.get_one::<u32>(id) {
-        Some(number) if number <= MOST => number,
+        Some(number) if number <= most => number,
         _ => 0,
     }
 }
@@ -85,8 +95,8 @@ fn solve_of<'a>(given: &ArgMatches<'a>) -> Solve<'a>
     Solve {
         instance: value(given, "instance"),
         certificate: value(given, "cert"),
-        units: number(given, "units"),
-        gap: number(given, "gap"),
+        units: number(given, "units", MOST),
+        gap: number(given, "gap", MOST),
         exact: is_given(given, "exact"),
     }
 }
@@ -100,6 +110,14 @@ fn check_of<'a>(given: &ArgMatches<'a>) -> Check<'a>
     }
 }
 
+fn demo_of(given: &ArgMatches<'_>) -> Demo
+    ensures { demo_asked result ≡ demo_of_rows (rows_of (found_of given.now)) }
+{
+    Demo {
+        seed: number(given, "seed", MOST_SEED),
+    }
+}
+
 // The command that was found, with its arguments.
 fn command_in<'a>(matches: &ArgMatches<'a>) -> Option<Command<'a>>
     ensures command { option_map command_asked result ≡ option_and_then named (subcommand_rows_of matches.now) }
@@ -110,6 +128,8 @@ fn command_in<'a>(matches: &ArgMatches<'a>) -> Option<Command<'a>>
         Some(Command::Solve(solve_of(given)))
     } else if name == "check" {
         Some(Command::Check(check_of(given)))
+    } else if name == "demo" {
+        Some(Command::Demo(demo_of(given)))
     } else {
         None
     }

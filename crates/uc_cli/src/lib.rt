@@ -5,6 +5,7 @@ mod arguments;
 mod certificate;
 mod check;
 mod command;
+mod demo;
 mod input;
 mod output;
 mod program;

@@ -11,6 +11,7 @@ ghost use Rattle.report.specs.FaultText.{status_of};
 
 use crate::check::check;
 use crate::command::{Command, command_of};
+use crate::demo::demo;
 use crate::output::tell_fault;
 use crate::solve::solve;
 use branch_tree::Found;
@@ -20,7 +21,7 @@ use std::alloc::Global;
 use std::sync::Wait;
 use std::thread::Threads;
 
-/// How a run ended: its exit status, and of `solve` what was found where the status is 0 to 3 or 7.
+/// How a run ended: its exit status, and of `solve` and `demo` what was found where the status is 0 to 3 or 7.
 #[derive(Drop)]
 pub struct End {
     pub code: u8,
@@ -42,7 +43,7 @@ fn turn_away<E: Sink>(err: &mut E, fault: &Fault) -> End
 
 /// A run of the program. The words begin with the program's name; each slot of the files is unopened.
 ///
-/// The status of `solve` is 0 where a schedule was printed whose cost is within the gap of the bound, 1 where the cost of the
+/// The status of `solve` and `demo` is 0 where a schedule was printed whose cost is within the gap of the bound, 1 where the cost of the
 /// one printed is above, 2 where a bound was printed and no schedule was found, and 3 where none exists; that of `check` is 0
 /// where the certificate holds for the instance, and 9 where it doesn't, is no certificate's text or has more than 2^46
 /// bytes. It is 4 where the instance's bytes stand for no instance or are more than 2^26, 5 where the command-line parser
@@ -69,6 +70,7 @@ pub fn uc<R: Threads + Wait + Sync, F: Files, O: Sink, E: Sink, G: Gate + Sync>(
     match command_of(alloc, words) {
         Ok(Command::Solve(asked)) => solve(rt, alloc, &asked, files, out, err, gate),
         Ok(Command::Check(asked)) => check(alloc, &asked, files, out, err),
+        Ok(Command::Demo(asked)) => demo(rt, alloc, &asked, out, err, gate),
         Err(fault) => turn_away(err, &fault),
     }
 }

@@ -35,9 +35,9 @@ struct Answer {
 
 /// A fault that ends a run, and what was found before it.
 #[derive(Drop)]
-struct Failure {
-    fault: Fault,
-    found: Option<Found>,
+pub(crate) struct Failure {
+    pub fault: Fault,
+    pub found: Option<Found>,
 }
 
 // Reads the instance and searches.

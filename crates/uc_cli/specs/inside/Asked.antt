@@ -5,9 +5,10 @@ use Rattle.clap.specs.declared.error.kind.ErrorKind.TheVariants as kind
 use Rattle.report.specs.declared.fault.Fault.{Fault}
 use Rattle.report.specs.declared.fault.Fault.TheVariants.{Words, Memory}
 use Rattle.uc_cli.specs.Arguments.{is_taken}
-use Rattle.uc_cli.specs.Command.{Solve, Check, Command, Solves, Checks}
+use Rattle.uc_cli.specs.Command.{Solve, Check, Demo, Command, Solves, Checks, Demos}
 use Rattle.uc_cli.specs.declared.command.Solve.{Solve as SolveWords}
 use Rattle.uc_cli.specs.declared.command.Check.{Check as CheckWords}
+use Rattle.uc_cli.specs.declared.command.Demo.{Demo as DemoWords}
 use Rattle.uc_cli.specs.declared.command.Command.{Command as CommandWords}
 use Rattle.uc_cli.specs.declared.command.Command.TheVariants as forms
 
@@ -18,14 +19,19 @@ solve_asked solve =
 abbrev pub check_asked : CheckWords → Check
 check_asked check = record { instance = check.instance.now; certificate = check.certificate.now }
 
+abbrev pub demo_asked : DemoWords → Demo
+demo_asked demo = record { seed = demo.seed }
+
 abbrev pub command_asked : CommandWords → Command
 command_asked (forms.Solve solve) = Solves (solve_asked solve)
 command_asked (forms.Check check) = Checks (check_asked check)
+command_asked (forms.Demo demo) = Demos (demo_asked demo)
 
 -- the budget that `solve` is asked is at most a million evaluations, and the gap at most the whole of a cost
 abbrev pub HasNumbers : CommandWords → Type 0
 HasNumbers (forms.Solve solve) = (solve.units ≤ 1000000) × (solve.gap ≤ 1000000)
 HasNumbers (forms.Check check) = ⊤
+HasNumbers (forms.Demo demo) = ⊤
 
 -- the fault of an error of the parser
 abbrev pub refusal_of : ErrorKind → Fault

@@ -1,0 +1,63 @@
+-- What a run of `demo` did, by how it ended. This project's own.
+use Rattle.std.specs.Prelude.{◌≡◌, ℕ, ◌⊎◌, true, Option, Some, None}
+use Rattle.dual_model.specs.Certificate.{WrittenSchedule}
+use Rattle.dual_model.specs.Laws.{IsClaimTrue}
+use Rattle.outside.specs.Sinks.{SinkState}
+use Rattle.branch_tree.specs.Claims.{written_of}
+use Rattle.branch_tree.specs.Closing.{status_of}
+use Rattle.branch_tree.specs.StoredTree.{tree_bound}
+use Rattle.branch_tree.specs.declared.found.Found.{Found}
+use Rattle.demo_gen.specs.Demo.{demo_instance}
+use Rattle.workers.specs.SearchResult.{IsSearchResult}
+use Rattle.report.specs.DemoReport.{demo_report}
+use Rattle.report.specs.FaultText as fault_text
+use Rattle.report.specs.declared.fault.Fault.{Fault}
+use Rattle.report.specs.declared.fault.Fault.TheVariants.{Write, Memory}
+use Rattle.uc_cli.specs.Outside.{Outside}
+use Rattle.uc_cli.specs.Command.{Demo}
+use Rattle.uc_cli.specs.Checking.{IsScheduleTrue}
+use Rattle.uc_cli.specs.Writing.{IsTold, FailsToTell, TellsFault}
+use Rattle.uc_cli.specs.declared.program.End.{End}
+
+-- an answer for the instance of the seed: what was found with a budget of 200 evaluations and at a gap of a thousandth of the cost; that
+-- its schedule obeys and costs at most what is printed; and that its bound, or that there is no schedule, is true of every schedule
+pub record IsDemoAnswer (seed : ℕ) (found : Found) : Type 0 where
+  pub search : IsSearchResult (demo_instance seed) 200 1000 found
+  pub schedule : (written : WrittenSchedule) → written_of found.schedule ≡ Some written → IsScheduleTrue (demo_instance seed) written
+  pub claim : IsClaimTrue (demo_instance seed) (tree_bound found.tree)
+
+-- the run answered: the report is told, by the output before and after
+pub record IsDemoDone (asked : Demo) (before after : SinkState) (found : Found) : Type 0 where
+  pub answer : IsDemoAnswer asked.seed found
+  pub told : IsTold (demo_report asked.seed found) before after
+
+-- the run found an answer and could not write its report
+pub record IsDemoUntold (asked : Demo) (before after : SinkState) (found : Found) : Type 0 where
+  pub answer : IsDemoAnswer asked.seed found
+  pub report : FailsToTell (demo_report asked.seed found) before after
+
+-- how a run of `demo` ended with a fault: before the answer only memory is refused, and nothing is written
+abbrev pub IsDemoFailure : Demo → SinkState → SinkState → Fault → Option Found → Type 0
+IsDemoFailure asked before after (Write true) (Some found) = IsDemoUntold asked before after found
+IsDemoFailure asked before after Memory None = after ≡ before
+IsDemoFailure asked before after _ _ = ⊥
+
+-- the run answered what it was asked, and told no fault
+pub record IsDemoAnswered (asked : Demo) (before after : Outside) (end : End) : Type 0 where
+  pub found : Found
+  pub is_found : end.found ≡ Some found
+  pub code : end.code ≡ status_of found 1000
+  pub done : IsDemoDone asked before.out after.out found
+  pub silent : after.err ≡ before.err
+
+-- the run met a fault, which has its cause, and told it
+pub record IsDemoFaulty (asked : Demo) (before after : Outside) (end : End) : Type 0 where
+  pub fault : Fault
+  pub code : end.code ≡ fault_text.status_of fault
+  pub failure : IsDemoFailure asked before.out after.out fault end.found
+  pub told : TellsFault fault before.err after.err
+
+-- a run of `demo`, which touches no file
+pub record IsDemoRun (asked : Demo) (before after : Outside) (end : End) : Type 0 where
+  pub files : after.files ≡ before.files
+  pub ended : IsDemoAnswered asked before after end ⊎ IsDemoFaulty asked before after end

@@ -1,0 +1,103 @@
+//! A run of `demo`.
+
+ghost use Rattle.std.specs.Prelude.{◌≡◌, IfOk, IfErr, OnOk, OnErr};
+ghost use Rattle.outside.specs.declared.slot.Slot.{Slot};
+ghost use Rattle.outside.specs.Slots.{SlotState};
+ghost use Rattle.report.specs.DemoReport.{demo_report};
+ghost use Rattle.uc_cli.specs.Outside.{outside_of};
+ghost use Rattle.uc_cli.specs.Writing.{IsTold, FailsToTell};
+ghost use Rattle.uc_cli.specs.DemoRun.{IsDemoAnswer, IsDemoDone, IsDemoFailure, IsDemoRun};
+ghost use Rattle.uc_cli.specs.inside.Asked.{demo_asked};
+
+use crate::command::Demo;
+use crate::output::tell_fault;
+use crate::program::End;
+use crate::solve::Failure;
+use branch_tree::Found;
+use outside::{Failed, Gate, Sink};
+use report::{DEMO_GAP, Fault, write_demo};
+use std::alloc::Global;
+use std::sync::Wait;
+use uc_model::NoMemory;
+use workers::{Options, search};
+
+/// The budget of a demo, in evaluations.
+const BUDGET: u32 = 200;
+
+// Searches the instance of the seed.
+fn find<R: Wait, G: Gate>(rt: &R, alloc: Global, seed: u32, gate: &G) -> Result<Found, NoMemory>
+    ensures { IfOk result (IsDemoAnswer seed) }
+{
+    let instance = demo_gen::instance(alloc, seed)?;
+    let options = Options {
+        budget: BUDGET,
+        gap: DEMO_GAP,
+    };
+    search(rt, alloc, &instance, &options, gate)
+}
+
+// Writes the report, and flushes it.
+fn tell_found<O: Sink>(out: &mut O, seed: u32, found: &Found) -> Result<(), Failed>
+    ensures told { OnOk result (IsTold (demo_report seed found.now) (O.state out.old) (O.state out.new)) }
+    ensures failed { OnErr result (FailsToTell (demo_report seed found.now) (O.state out.old) (O.state out.new)) }
+{
+    write_demo(out, seed, found)?;
+    out.flush()
+}
+
+// Searches and writes the report.
+fn find_and_tell<R: Wait, O: Sink, G: Gate>(
+    rt: &R,
+    alloc: Global,
+    asked: &Demo,
+    out: &mut O,
+    gate: &G,
+) -> Result<Found, Failure>
+    ensures done { IfOk result (IsDemoDone (demo_asked asked.now) (O.state out.old) (O.state out.new)) }
+    ensures failed { IfErr result (λ f. IsDemoFailure (demo_asked asked.now) (O.state out.old) (O.state out.new) f.fault f.found) }
+{
+    let found = match find(rt, alloc, asked.seed, gate) {
+        Ok(found) => found,
+        Err(NoMemory) => {
+            return Err(Failure {
+                fault: Fault::Memory,
+                found: None,
+            });
+        }
+    };
+    if tell_found(out, asked.seed, &found).is_err() {
+        return Err(Failure {
+            fault: Fault::Write { output: true },
+            found: Some(found),
+        });
+    }
+    Ok(found)
+}
+
+/// A run of `demo`: searches the instance of the seed and reports what was found, or tells a fault. It touches no file, whatever the
+/// files are.
+pub(crate) fn demo<R: Wait, O: Sink, E: Sink, G: Gate>(
+    rt: &R,
+    alloc: Global,
+    asked: &Demo,
+    out: &mut O,
+    err: &mut E,
+    gate: &G,
+) -> End
+    ensures { (files : Slot → SlotState) → IsDemoRun (demo_asked asked.now) (outside_of files (O.state out.old) (E.state err.old))
+        (outside_of files (O.state out.new) (E.state err.new)) result }
+{
+    match find_and_tell(rt, alloc, asked, out, gate) {
+        Ok(found) => End {
+            code: found.status(DEMO_GAP),
+            found: Some(found),
+        },
+        Err(failure) => {
+            tell_fault(err, &failure.fault);
+            End {
+                code: failure.fault.code(),
+                found: failure.found,
+            }
+        }
+    }
+}
