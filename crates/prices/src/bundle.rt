@@ -22,9 +22,9 @@ const PART: i64 = 1 << 16;
 const LONGEST: i64 = 1 << 40;
 
 /// How often the prices that stay at 0 are found anew, and how often weight is moved then.
-const PASSES: u32 = 6;
+const PASSES: u32 = 4;
 
-const SHIFTS: u32 = 100;
+const SHIFTS: u32 = 60;
 
 /// A cut of less weight may be given up.
 const LIGHT: i64 = 1 << 14;
@@ -524,5 +524,5 @@ fn are_same_bounds(center: &[i64], first: &[i64], second: &[i64]) -> bool {
             changed = changed.saturating_add(1);
         }
     }
-    changed.saturating_mul(100) <= center.len()
+    changed.saturating_mul(10_000) <= center.len()
 }

@@ -21,6 +21,11 @@ const FEW_EVALUATIONS: u32 = 40;
 
 const FEW_CELLS: usize = 500;
 
+/// Those where there are so many cells that each evaluation takes long.
+const MANY_EVALUATIONS: u32 = 60;
+
+const MANY_CELLS: usize = 20_000;
+
 /// The ascent to a table to try next at a node at which `had` tables were tried, of which the last is `table`: the table's scale is
 /// a million and `had`. The only error is `NoMemory`.
 pub fn next_ascent(
@@ -43,6 +48,8 @@ pub fn next_ascent(
         .saturating_mul(instance.periods as usize);
     let evaluations = if cells <= FEW_CELLS {
         FEW_EVALUATIONS
+    } else if cells >= MANY_CELLS {
+        MANY_EVALUATIONS
     } else {
         EVALUATIONS
     };
