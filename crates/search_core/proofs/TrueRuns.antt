@@ -102,6 +102,7 @@ holds_at instance start m lawful is logged = record {
   least = is.least;
   pruned = is.pruned;
   ended = ended instance m is;
+  tables = is.lawful;
   log = record { entries = logged.entries; apart = logged.apart };
   first = logged.first;
   own = logged.own;

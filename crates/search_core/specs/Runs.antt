@@ -112,8 +112,9 @@ pub record HoldsAt (instance : Instance) (start m : Machine) : Type 0 where
   pub pruned : EachLeaf (λ node leaf. IsPrunedWithin m.best m.gap leaf) root (tree_of m.tree)
   -- at the end the best cost is within the gap of the bound, or each leaf is excluded
   pub ended : IsSettled m → IsBestWithin m.best m.gap (tree_bound m.tree) ⊎ AllExcluded instance m.tables (claims_of m.tree)
-  -- the log is true, the first table is that of the start, and by what the start stores at the root, each node stores what
+  -- the tables are lawful, the log is true, the first table is that of the start, and by what the start stores at the root, each node stores what
   -- its entries leave
+  pub tables : All (IsLawfulTable instance) m.tables
   pub log : IsTrueLog instance m.tree m.tables m.log
   pub first : slice_get m.tables 0 ≡ slice_get start.tables 0
   pub own : Owns m.tree m.tables m.log (stored_at start.tree 0)

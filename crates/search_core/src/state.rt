@@ -45,7 +45,7 @@ impl Model for State {
 }
 
 impl State {
-    ghost use Rattle.std.specs.Prelude.{◌≡◌, ◌≢◌, ◌↔◌, ◌<◌, ◌≤◌, ℕ, [], IsTrue, false, None, Some, Err, IfSome, IfOk, OnOk, OnErr, length};
+    ghost use Rattle.std.specs.Prelude.{◌≡◌, ◌≢◌, ◌↔◌, ◌<◌, ◌≤◌, ℕ, [], IsTrue, false, None, Some, Err, IfSome, IfOk, MatchOption, OnOk, OnErr, length};
     ghost use Rattle.uc_model.specs.declared.tolerance.TheConstants.{WHOLE_GAP};
     ghost use Rattle.branch_tree.specs.NumberedTree.{node_count};
     ghost use Rattle.branch_tree.specs.TreeView.{IsFreeAt};
@@ -267,6 +267,15 @@ impl State {
             && legal::is_open(&self.tree, self.notes.as_slice(), node)
     }
 
+    /// The first cell, a thermal unit and a period, each from 0, that is undecided at the node of this number. The only error is
+    /// `NoMemory`.
+    pub fn free_cell(&self, alloc: Global, node: u32) -> Result<Option<(u32, u32)>, NoMemory>
+        requires { node < node_count self.now.tree.nodes }
+        ensures { IfOk result (λ cell. MatchOption cell (¬ HasFreeCell self.now.tree node) (λ cell. IsFreeAt self.now.tree node cell.0 cell.1)) }
+    {
+        cells::free_cell(alloc, &self.tree, self.units, self.periods, node)
+    }
+
     // Whether a cell is undecided at the node.
     fn has_free_cell(&self, alloc: Global, node: u32) -> Result<bool, NoMemory>
         requires { node < node_count self.now.tree.nodes }
@@ -275,16 +284,17 @@ impl State {
         cells::has_free_cell(alloc, &self.tree, self.units, self.periods, node)
     }
 
-    // Whether this is a cell of the tree that is undecided at the node.
-    fn is_free(&self, alloc: Global, node: u32, g: u32, t: u32) -> Result<bool, NoMemory>
+    /// Whether thermal unit `g` and period `t`, each from 0, are a cell of the tree that is undecided at the node of this number. The only
+    /// error is `NoMemory`.
+    pub fn is_free(&self, alloc: Global, node: u32, g: u32, t: u32) -> Result<bool, NoMemory>
         requires { node < node_count self.now.tree.nodes }
         ensures { IfOk result (λ free. IsTrue free ↔ IsFreeAt self.now.tree node g t) }
     {
         cells::is_free(alloc, &self.tree, self.units, self.periods, node, g, t)
     }
 
-    // Whether none of the node's entries is at the table.
-    fn is_fresh(&self, node: u32, table: &Table) -> bool
+    /// Whether none of the node's entries of the log is at the table.
+    pub fn is_fresh(&self, node: u32, table: &Table) -> bool
         requires { node < node_count self.now.tree.nodes }
         ensures { IsTrue result ↔ IsFresh self.now (entries_of self.now.log node) table.now }
     {
@@ -326,8 +336,9 @@ impl State {
         Ok(!self.has_free_cell(alloc, node)?)
     }
 
-    // Whether the node may be evaluated again after an entry more.
-    fn may_go_on(&self, alloc: Global, node: u32) -> Result<bool, NoMemory>
+    /// Whether a commit may leave the node open: with one entry more it has fewer than a hundred, or no cell is undecided there. The only
+    /// error is `NoMemory`.
+    pub fn may_go_on(&self, alloc: Global, node: u32) -> Result<bool, NoMemory>
         requires { node < node_count self.now.tree.nodes }
         ensures { IfOk result (λ may. IsTrue may ↔ MayGoOn self.now node) }
     {
@@ -337,8 +348,8 @@ impl State {
         Ok(!self.has_free_cell(alloc, node)?)
     }
 
-    // What the move Again would leave at the node.
-    fn kept(&self, node: u32, table: &Table, outcome: &Outcome) -> Stored
+    /// What a commit of this outcome at the table would leave at the node, by the move `Again`.
+    pub fn kept(&self, node: u32, table: &Table, outcome: &Outcome) -> Stored
         requires { node < node_count self.now.tree.nodes }
         ensures { result ≡ kept self.now node table.now outcome.now }
     {

@@ -72,6 +72,7 @@ empty_answer instance g budget gap tree layout is whole of_tree empty =
         empty = λ other first. (ap (λ unit. Ends (leaf.Empty unit)) (first_is_one instance g other empty first), refl);
         ray = λ n first. absurd (each_pattern instance root (ray_table instance n) first.positive.value first.positive.is_value g empty.within empty.empty);
         opened = λ each. absurd (not_first instance g each empty);
+        few = λ number free. omega arith;
       };
       writable = record { tree = subst IsWhole is whole; schedule = tt; bound = tt; tables = All-nil HasFewRows };
     } in
@@ -133,7 +134,9 @@ ray_answer instance n budget gap stands tree layout lawful each first dropped is
           drop = dropped.drop;
           schedule = no_dearer instance n stands lawful first dropped;
           bound = tt;
+          own = λ none. absurd (none n first.within first.positive);
         };
+        few = λ number free. omega arith;
       };
       writable = record {
         tree = subst IsWhole is whole;

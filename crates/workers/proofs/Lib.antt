@@ -1,8 +1,9 @@
 pub mod Patterns
 pub mod OpeningRays
 pub mod Drops
-pub mod StoredTables
-pub mod RootClaims
 pub mod FewRows
 pub mod Excluded
-pub mod Bounded
+pub mod WrittenTables
+pub mod OwnValues
+pub mod Answered
+pub mod Searches

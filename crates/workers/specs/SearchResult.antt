@@ -1,6 +1,6 @@
 -- What a search answers: a true answer, how much of the budget was spent, and what the opening gives at least. This project's own
 -- statement.
-use Rattle.std.specs.Prelude.{◌≡◌, ◌≢◌, ◌⊎◌, ℕ, false, List, [], ℤ, ◌≤ℤ◌, Option, Some, None, IfSome, fold, length, slice_get}
+use Rattle.std.specs.Prelude.{◌≡◌, ◌≢◌, ℕ, false, List, [], ℤ, ◌≤ℤ◌, Option, Some, None, IfSome, length, slice_get}
 use Rattle.uc_model.specs.declared.instance.Instance.{Instance}
 use Rattle.uc_model.specs.declared.pattern.Pattern.{Pattern}
 use Rattle.uc_model.specs.declared.schedule.Printed.{Printed}
@@ -10,19 +10,17 @@ use Rattle.dual_model.specs.Opening.{ray_table, zero_table}
 use Rattle.dual_model.specs.Tree.{Ends, root}
 use Rattle.dual_model.specs.declared.table.Table.{Table}
 use Rattle.prices.specs.Marginal.{IsMarginalTable}
-use Rattle.branch_tree.specs.Claims.{table_at}
 use Rattle.branch_tree.specs.Closing.{is_closed}
 use Rattle.branch_tree.specs.StoredTree.{tree_bound}
 use Rattle.branch_tree.specs.TreeView.{tree_of}
 use Rattle.branch_tree.specs.TrueFound.{IsTrueFound}
-use Rattle.branch_tree.specs.declared.found.Entry.{Entry}
 use Rattle.branch_tree.specs.declared.found.Found.{Found}
 use Rattle.branch_tree.specs.declared.tree.Leaf.TheVariants as leaf
-use Rattle.search_core.specs.declared.stored.Stored.{Stored}
-use Rattle.search_core.specs.Moves.{bound_of, kept_after}
+use Rattle.search_core.specs.Moves.{bound_of}
+use Rattle.search_core.specs.OwnTables.{Owns, HasFewEntries}
 use Rattle.workers.specs.DropCommitment.{Ending, Dispatched, StuckIn, IsDropCommitment}
 use Rattle.workers.specs.MostOnStuck.{TellsMostOn}
-use Rattle.workers.specs.Opening.{HasEachPattern, IsFirstRay, IsRootTable}
+use Rattle.workers.specs.Opening.{HasEachPattern, HasNoRay, IsFirstRay, IsRootTable}
 
 -- ---- no schedule by the opening
 -- the root is excluded by ray n of the opening, before any claim
@@ -49,39 +47,30 @@ abbrev pub ReachesMarginalOf : Instance → Ending → ℤ → Type 0
 ReachesMarginalOf instance (Dispatched printed cost) bound = ReachesMarginal instance printed bound
 ReachesMarginalOf instance (StuckIn t) bound = Unit {0}
 
--- ---- what the root stores
--- what the move Again leaves after an entry of the log
-abbrev pub stored_by : List Table → Stored → Entry → Stored
-stored_by tables stored entry = kept_after stored entry.table (table_at tables entry.table).k entry.outcome
-
--- after one entry and the next
-abbrev pub stored_after : List Table → Stored → List Entry → Stored
-stored_after tables stored entries = fold (stored_by tables) stored entries
-
--- a root that isn't excluded, and has no children, stores what the entries leave of the opening's table, the first of the tables
-pub record HoldsItsTable (instance : Instance) (ending : Ending) (found : Found) : Type 0 where
+-- ---- what nodes store
+-- the root begins with the opening's table, which is the first one, and each node with what its parent stores; a leaf that isn't excluded
+-- stores what its own entries leave of that, and the first entry of a node with an undecided cell is at what it begins with
+pub record HoldsOwnTables (instance : Instance) (ending : Ending) (found : Found) : Type 0 where
   pub table : Table
   pub value : ℤ
   pub opening : IsRootTable instance ending table value
   pub is_first : slice_get found.tables 0 ≡ Some table
-  pub stored : Stored
-  pub is_stored : stored ≡ stored_after found.tables (record { table = 0; value = bound_of value table.k }) found.log
-  pub holds :
-      (tree_of found.tree ≡ Ends (leaf.Live stored.table stored.value)) ⊎ (tree_of found.tree ≡ Ends (leaf.Bound stored.table stored.value))
+  pub own : Owns found.tree found.tables found.log (record { table = 0; value = bound_of value table.k })
 
--- what a bound has to reach, and how it is stored
-pub record IsBoundOpened (instance : Instance) (ending : Ending) (found : Found) (bound : ℤ) : Type 0 where
+-- what a bound has to reach
+pub record IsBoundOpened (instance : Instance) (ending : Ending) (bound : ℤ) : Type 0 where
   pub unpriced : ReachesBoundOf instance root (zero_table instance) bound
   pub marginal : ReachesMarginalOf instance ending bound
-  pub own : HoldsItsTable instance ending found
 
--- the drop commitment, where each unit has an allowed pattern, and what it gives
+-- the drop commitment, where each unit has an allowed pattern, and what it gives; and what nodes store, where no ray of the opening
+-- excludes the root
 pub record FollowsOpening (instance : Instance) (found : Found) : Type 0 where
   pub patterns : List Pattern
   pub ending : Ending
   pub drop : IsDropCommitment instance patterns ending
   pub schedule : IsNoDearer found.schedule ending
-  pub bound : IfSome (tree_bound found.tree) (IsBoundOpened instance ending found)
+  pub bound : IfSome (tree_bound found.tree) (IsBoundOpened instance ending)
+  pub own : HasNoRay instance → HoldsOwnTables instance ending found
 
 -- ---- the answer
 -- the answer of a search with this budget of evaluations, and this gap in parts per million of a cost
@@ -96,3 +85,5 @@ pub record IsSearchResult (instance : Instance) (budget gap : ℕ) (found : Foun
   pub ray : (n : ℕ) → IsFirstRay instance n → IsExcludedByFirst instance n found
   -- else the opening's schedule and bounds are reached
   pub opened : HasEachPattern instance → FollowsOpening instance found
+  -- a node at which a cell is undecided has at most a hundred entries of the log
+  pub few : HasFewEntries found.tree found.log

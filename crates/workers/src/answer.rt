@@ -1,19 +1,22 @@
 //! What a search answers.
 
-ghost use Rattle.std.specs.Prelude.{◌≡◌, ℕ, ◌<◌, false, IfOk, length};
+ghost use Rattle.std.specs.Prelude.{◌≡◌, ℕ, ◌<◌, All, IfOk, length};
 ghost use Rattle.uc_model.specs.Limits.{IsLawfulInstance};
 ghost use Rattle.dual_model.specs.Fixings.{IsFirstEmpty};
 ghost use Rattle.dual_model.specs.Tree.{root};
-ghost use Rattle.branch_tree.specs.TreeView.{IsWhole};
+ghost use Rattle.branch_tree.specs.StoredTree.{tree_bound};
+ghost use Rattle.branch_tree.specs.TreeView.{IsWhole, tree_of};
+ghost use Rattle.branch_tree.specs.UsedTables.{stored_tables};
+ghost use Rattle.search_core.specs.Runs.{HoldsAt};
 ghost use Rattle.workers.specs.Opening.{HasEachPattern, HasNoRay, IsFirstRay, IsRootTable};
 ghost use Rattle.workers.specs.declared.drop_pass.Standing.{Standing};
 ghost use Rattle.workers.specs.declared.opening.Priced.{Priced};
-ghost use Rattle.workers.specs.inside.Answers.{IsAnswerOf, lone_root};
-ghost use Rattle.workers.specs.inside.Claims.{IsClaimed, is_root_closed};
+ghost use Rattle.workers.specs.inside.Answers.{IsAnswerOf, lone_root, told_by};
 ghost use Rattle.workers.specs.inside.Evaluations.{IsPricedOf};
-ghost use Rattle.workers.specs.inside.Standings.{IsBest, IsDropped, ending_of, kept_stuck, told_of};
+ghost use Rattle.workers.specs.inside.Searches.{IsSizedEntry, IsSpentUnlessClosed, start_by};
+ghost use Rattle.workers.specs.inside.Standings.{IsBest, IsDropped, ending_of, kept_stuck};
 
-use crate::claims::Root;
+use crate::tree_search::Search;
 use branch_tree::{Found, Layout, Leaf, Tree};
 use prices::opening_ray;
 use std::alloc::Global;
@@ -74,45 +77,41 @@ pub(crate) fn without_schedule(
     })
 }
 
-// What is told of the most-on commitment, by the schedule.
-fn told(best: &Option<(Printed, i64)>, most_on: Option<Stuck>) -> Option<Stuck>
-    ensures { result ≡ told_of best.now most_on }
+// What is told of the most-on commitment, by the tree's bound and the schedule.
+fn told(tree: &Tree, best: &Option<(Printed, i64)>, most_on: Option<Stuck>) -> Option<Stuck>
+    ensures { result ≡ told_by (tree_bound tree.now) best.now most_on }
 {
-    match best {
-        Some(_) => None,
-        None => most_on,
+    match (tree.bound(), best) {
+        (Some(_), None) => most_on,
+        _ => None,
     }
 }
 
-/// The root is bounded by what it stores; the schedule is the best that was found.
+/// The tree, with the best schedule that was found. The only error is `NoMemory`.
 pub(crate) fn bounded(
     alloc: Global,
     instance: &Instance,
-    root: Root,
+    search: Search,
     most_on: Option<Stuck>,
 ) -> Result<Found, NoMemory>
     requires lawful { IsLawfulInstance instance.now }
     requires patterns { HasEachPattern instance.now }
     requires rays { HasNoRay instance.now }
-    requires stored { root.stored.table < length root.tables.items }
+    requires stored { All (λ table. table < length search.state.tables) (stored_tables (tree_of search.state.tree)) }
     ensures { (budget gap : ℕ) (stands : Standing) (opening : Priced) → IsDropped instance.now stands → most_on ≡ kept_stuck stands
-        → IsBest instance.now (ending_of stands) root.best → IsRootTable instance.now (ending_of stands) opening.table opening.value
-        → IsPricedOf instance.now opening → IsClaimed instance.now opening root
-        → (is_root_closed root.best root.stored.value gap ≡ false → length root.log.items ≡ budget)
+        → IsBest instance.now (ending_of stands) search.best → IsRootTable instance.now (ending_of stands) opening.table opening.value
+        → IsPricedOf instance.now opening → HoldsAt instance.now (start_by instance.now opening budget gap) search.state
+        → All IsSizedEntry search.state.log → IsSpentUnlessClosed search.state search.best budget gap
         → IfOk result (IsAnswerOf instance.now budget gap) }
 {
-    let leaf = Leaf::Bound {
-        table: root.stored.table,
-        value: root.stored.value,
-    };
-    let tree = lone_root(alloc, instance, leaf)?;
-    let layout = Layout::of(alloc, &tree, root.tables.len())?;
-    let most_on = told(&root.best, most_on);
+    let (tree, tables, log) = search.state.finish();
+    let layout = Layout::of(alloc, &tree, tables.as_slice().len())?;
+    let most_on = told(&tree, &search.best, most_on);
     Ok(Found {
-        schedule: root.best,
+        schedule: search.best,
         tree,
-        tables: List::from_vec(root.tables),
-        log: List::from_vec(root.log),
+        tables,
+        log,
         most_on,
         layout,
     })

@@ -1,11 +1,11 @@
 //! The best schedule so far, which repairs improve.
 
-ghost use Rattle.std.specs.Prelude.{◌≡◌, ◌≤◌, IfOk};
+ghost use Rattle.std.specs.Prelude.{◌≡◌, ◌≤◌, Some, IfOk};
 ghost use Rattle.uc_model.specs.Limits.{IsLawfulInstance};
 ghost use Rattle.uc_model.specs.declared.tolerance.TheConstants.{WHOLE_GAP};
 ghost use Rattle.schedule_repair.specs.Accepted.{IsAcceptedIfFound};
 ghost use Rattle.uc_model.specs.declared.instance.Instance.{Instance};
-ghost use Rattle.workers.specs.inside.Claims.{is_root_closed};
+ghost use Rattle.branch_tree.specs.Closing.{is_schedule_within};
 ghost use Rattle.workers.specs.inside.Standings.{IsLower, IsNoWorse};
 
 use branch_tree::is_within_gap;
@@ -20,11 +20,13 @@ const FIRST_MOVES: u32 = 20_000;
 
 const FIRST_MOVES_EACH: u32 = 30;
 
-/// The moves of each later repair for each unit: about as long as the evaluations of a later ascent take.
+/// The moves of each later repair at the root for each unit: about as long as the evaluations of a later ascent take; and at other nodes.
 const LATER_MOVES_EACH: u32 = 10;
 
-/// How many moves the repair has at the claim of this unit.
-pub(crate) fn moves(instance: &Instance, unit: u32) -> u32
+const NODE_MOVES_EACH: u32 = 5;
+
+/// How many moves the repair has at the claim of this unit, of the node of this number.
+pub(crate) fn moves(instance: &Instance, node: u32, unit: u32) -> u32
     requires { IsLawfulInstance instance.now }
 {
     let units = instance.thermal.as_slice().len() as u32;
@@ -32,15 +34,17 @@ pub(crate) fn moves(instance: &Instance, unit: u32) -> u32
         units
             .saturating_mul(FIRST_MOVES_EACH)
             .saturating_add(FIRST_MOVES)
-    } else {
+    } else if node == 0 {
         units.saturating_mul(LATER_MOVES_EACH)
+    } else {
+        units.saturating_mul(NODE_MOVES_EACH)
     }
 }
 
 /// Whether the best schedule closes a root of this bound.
 pub(crate) fn is_closed(best: &Option<(Printed, i64)>, bound: &i128, gap: u32) -> bool
     requires { gap ≤ WHOLE_GAP }
-    ensures { result ≡ is_root_closed best.now bound.now gap }
+    ensures { result ≡ is_schedule_within best.now (Some bound.now) gap }
 {
     match best {
         Some((_, cost)) => is_within_gap(cost, &Some(*bound), gap),

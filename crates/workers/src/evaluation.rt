@@ -2,14 +2,16 @@
 
 ghost use Rattle.std.specs.Prelude.{◌≡◌, ◌≤◌, unsigned_abs, IfErr, IfOk, MatchOption};
 ghost use Rattle.uc_model.specs.Limits.{IsLawfulInstance};
-ghost use Rattle.dual_model.specs.Fixings.{IsFirstEmpty};
+ghost use Rattle.dual_model.specs.Fixings.{IsFirstEmpty, IsNodeOf};
 ghost use Rattle.dual_model.specs.NodeValue.{IsNodeValue};
 ghost use Rattle.dual_model.specs.Prices.{IsLawfulTable};
 ghost use Rattle.dual_model.specs.Tree.{root};
 ghost use Rattle.dual_value.specs.NodeAnswer.{IsFaultOf, IsValued, MAX_VALUE};
 ghost use Rattle.workers.specs.Opening.{HasEachPattern};
 ghost use Rattle.workers.specs.inside.Evaluations.{IsLentOf};
+ghost use Rattle.workers.specs.inside.Searches.{IsOutcomeOf};
 
+use branch_tree::Outcome;
 use dual_model::{Node, Table};
 use dual_value::{Room, ValueFault, Valued, value_in};
 use prices::unpriced;
@@ -109,6 +111,35 @@ pub(crate) fn first_empty(
     match valued(alloc, lent, instance, &table) {
         Ok(_) => Ok(None),
         Err(ValueFault::Empty(g)) => Ok(Some(g)),
+        Err(ValueFault::NoMemory) => Err(NoMemory),
+    }
+}
+
+/// The value of a node at the table, or its first thermal unit without an allowed pattern. The only error is `NoMemory`.
+pub(crate) fn node_outcome(
+    alloc: Global,
+    lent: &mut Lent,
+    instance: &Instance,
+    node: &Node,
+    table: &Table,
+) -> Result<Outcome, NoMemory>
+    requires lawful { IsLawfulInstance instance.now }
+    requires node { IsNodeOf instance.now node.now }
+    requires table { IsLawfulTable instance.now table.now }
+    requires lent { IsLentOf instance.now lent.old }
+    ensures lent { IsLentOf instance.now lent.new }
+    ensures outcome { IfOk result (IsOutcomeOf instance.now node.now table.now) }
+{
+    match value_in(
+        alloc,
+        &mut lent.scratch,
+        &mut lent.room,
+        instance,
+        node,
+        table,
+    ) {
+        Ok(valued) => Ok(Outcome::Value(valued.total)),
+        Err(ValueFault::Empty(g)) => Ok(Outcome::Empty(g)),
         Err(ValueFault::NoMemory) => Err(NoMemory),
     }
 }

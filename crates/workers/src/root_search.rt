@@ -12,12 +12,12 @@ ghost use Rattle.workers.specs.inside.Evaluations.{IsLentOf};
 ghost use Rattle.workers.specs.inside.Standings.{kept_stuck, schedule_of};
 
 use crate::answer::{bounded, without_pattern, without_schedule};
-use crate::claims::claim_root;
 use crate::drop_pass::{Standing, drop_pass};
 use crate::evaluation::{Lent, first_empty};
 use crate::opening::root_table;
 use crate::rays::first_ray;
 use crate::start::started;
+use crate::tree_search::{holds, search_tree};
 use branch_tree::Found;
 use outside::Gate;
 use schedule_repair::Repair;
@@ -61,7 +61,7 @@ pub fn search<R: Wait, G: Gate>(
     if let Some(n) = excluding_ray(alloc, &mut lent, instance, &start.best)? {
         return without_schedule(alloc, instance, n);
     }
-    let root = claim_root(
+    let grown = search_tree(
         rt,
         alloc,
         &mut lent,
@@ -71,7 +71,8 @@ pub fn search<R: Wait, G: Gate>(
         start,
         gate,
     )?;
-    bounded(alloc, instance, root, most_on)
+    holds(&grown.state);
+    bounded(alloc, instance, grown, most_on)
 }
 
 // The schedule of the drop commitment with its cost, or why the most-on commitment gets stuck.

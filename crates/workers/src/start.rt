@@ -54,7 +54,7 @@ pub(crate) fn started(
         repairs,
         instance,
         &ascent,
-        moves(instance, 1),
+        moves(instance, 0, 1),
         schedule,
     )?;
     Ok(Start {

@@ -1,12 +1,15 @@
 -- What the search makes of what it knows.
-use Rattle.std.specs.Prelude.{ℕ}
+use Rattle.std.specs.Prelude.{ℕ, ℤ, Option, None, Some}
 use Rattle.uc_model.specs.Schedule.{thermal_count}
 use Rattle.uc_model.specs.declared.instance.Instance.{Instance}
+use Rattle.uc_model.specs.declared.schedule.Printed.{Printed}
+use Rattle.uc_model.specs.declared.stuck.Stuck.{Stuck}
 use Rattle.branch_tree.specs.NumberedTree.{EndAt}
 use Rattle.branch_tree.specs.TreeView.{TreeView}
 use Rattle.branch_tree.specs.declared.found.Found.{Found}
 use Rattle.branch_tree.specs.declared.tree.Leaf.{Leaf}
 use Rattle.workers.specs.Writable.{IsWritable}
+use Rattle.workers.specs.inside.Standings.{told_of}
 use Rattle.workers.specs.SearchResult.{IsSearchResult}
 
 -- a tree of its root alone, which stores this leaf
@@ -17,3 +20,8 @@ lone_root instance leaf = record { units = thermal_count instance; periods = ins
 pub record IsAnswerOf (instance : Instance) (budget gap : ℕ) (found : Found) : Type 0 where
   pub result : IsSearchResult instance budget gap found
   pub writable : IsWritable instance found
+
+-- what is told of the most-on commitment: nothing where there is a schedule, or no bound
+abbrev pub told_by : Option ℤ → Option (Printed × ℤ) → Option Stuck → Option Stuck
+told_by None best stuck = None
+told_by (Some bound) best stuck = told_of best stuck

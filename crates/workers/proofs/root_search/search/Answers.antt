@@ -1,14 +1,15 @@
 -- Each answer is a search result that can be written.
 use Rattle.std.proofs.Common.{subst, sym}
 use Rattle.std.specs.Prelude.{IfOk}
-use Rattle.std.proofs.lemmas.Option.{slice_get_within}
 use Rattle.std.proofs.lemmas.Result.{IfOk-weaker}
+use Rattle.search_core.specs.Runs.{HoldsAt}
 use Rattle.workers.specs.SearchResult.{IsNoDearer, IsSearchResult}
 use Rattle.workers.specs.Writable.{IsWritable}
 use Rattle.workers.specs.declared.opening.Priced.{Priced}
 use Rattle.workers.specs.inside.Answers.{IsAnswerOf}
-use Rattle.workers.specs.inside.Claims.{IsClaimed}
+use Rattle.workers.specs.inside.Searches.{start_by}
 use Rattle.workers.specs.inside.Standings.{IsBest, ending_of}
+use Rattle.workers.proofs.Answered.{stored_within}
 use Rattle.workers.proofs.Drops.{no_dearer}
 use Rattle.workers.proofs.root_search.search.Given.{Over}
 use Rattle.workers.proofs.root_search.search.Goals as goal
@@ -39,26 +40,30 @@ returns-in-Some-2-clause-writable g c =
     IfOk-weaker c.without_schedule.result (IsAnswerOf instance 0 0) (IsWritable instance) (λ found a. a.writable)
     (c.without_schedule.ensures 0 0 c.in_ok-standing.standing c.in_ok-standing.ensures)
 
-pub bounded-requires-clause-stored : goal.bounded-requires-clause-stored
-bounded-requires-clause-stored g c =
-    let holds = c.in_ok-root.ensures.root.holds in
-    slice_get_within c.in_ok-root.root.tables.items c.in_ok-root.root.stored.table holds.table holds.is_table
+-- what holds at the end of the search over the tree
+ended : (g : Over) (c : goal.After-drop-lent-5 g)
+    → HoldsAt c.args.instance.now (start_by c.args.instance.now c.in_ok-start.start.opening c.args.options.now.budget c.args.options.now.gap) c.in_ok-grown.grown.state
+ended g c =
+    c.holds.ensures.holds c.args.instance.now c.in_ok-start.start.opening c.args.options.now.budget c.args.options.now.gap c.requires.lawful
+    c.in_ok-grown.ensures.grown.searching
 
 answer : (g : Over) (c : goal.After-drop-lent-5 g)
     → IfOk c.bounded.result (IsAnswerOf c.args.instance.now c.args.options.now.budget c.args.options.now.gap)
 answer g c =
     let instance = c.args.instance.now in
+    let budget = c.args.options.now.budget in
+    let gap = c.args.options.now.gap in
     let stands = c.in_ok-standing.standing in
     let opening = c.in_ok-opening.opening in
-    let root = c.in_ok-root.root in
+    let grown = c.in_ok-grown.grown in
     let schedule = subst (λ s. IsNoDearer s (ending_of stands)) (sym c.outcome-schedule.ensures.schedule) (no_dearer stands) in
-    let best : IsBest instance (ending_of stands) root.best = record {
-      accepted = c.in_ok-root.ensures.accepted;
-      no_dearer = c.in_ok-root.ensures.no_worse (ending_of stands) (c.in_ok-start.ensures.no_worse (ending_of stands) schedule);
+    let best : IsBest instance (ending_of stands) grown.best = record {
+      accepted = c.in_ok-grown.ensures.grown.accepted;
+      no_dearer = c.in_ok-grown.ensures.no_worse (ending_of stands) (c.in_ok-start.ensures.no_worse (ending_of stands) schedule);
     } in
-    let claimed = subst (λ (opened : Priced). IsClaimed instance opened root) c.in_ok-start.ensures.opening c.in_ok-root.ensures.root in
-    c.bounded.ensures c.args.options.now.budget c.args.options.now.gap stands opening c.in_ok-standing.ensures c.outcome-schedule.ensures.most_on best
-    c.in_ok-opening.ensures.table c.in_ok-opening.ensures.priced claimed c.in_ok-root.ensures.spent
+    let holds = subst (λ (opened : Priced). HoldsAt instance (start_by instance opened budget gap) grown.state) c.in_ok-start.ensures.opening (ended g c) in
+    c.bounded.ensures budget gap stands opening c.in_ok-standing.ensures c.outcome-schedule.ensures.most_on best
+    c.in_ok-opening.ensures.table c.in_ok-opening.ensures.priced holds c.in_ok-grown.ensures.grown.searching.sized c.in_ok-grown.ensures.grown.spent
 
 pub returns-clause-result : goal.returns-clause-result
 returns-clause-result g c =
@@ -73,3 +78,10 @@ returns-clause-writable g c =
     let budget = c.args.options.now.budget in
     let gap = c.args.options.now.gap in
     IfOk-weaker c.bounded.result (IsAnswerOf instance budget gap) (IsWritable instance) (λ found a. a.writable) (answer g c)
+
+pub bounded-requires-clause-stored : goal.bounded-requires-clause-stored
+bounded-requires-clause-stored g c =
+    stored_within c.args.instance.now (start_by c.args.instance.now c.in_ok-start.start.opening c.args.options.now.budget c.args.options.now.gap)
+    c.in_ok-grown.grown.state
+    (c.holds.ensures.holds c.args.instance.now c.in_ok-start.start.opening c.args.options.now.budget c.args.options.now.gap c.requires.lawful
+    c.in_ok-grown.ensures.grown.searching)

@@ -1,0 +1,207 @@
+-- What is answered after a search over the tree: what its leaves store, the best schedule, and what is told of the most-on commitment.
+use Rattle.std.proofs.Common.{◌≡◌, ⊎_elim, ℕ, ◌<◌, All, length, refl, sym, subst, arith, ℤ, pos, ◌≤ℤ◌, ◌<ℤ◌, Some, Option}
+use Rattle.std.specs.Prelude.{None, IfSome}
+use Rattle.std.proofs.lemmas.List.Elements.{All-weaker}
+use Rattle.uc_model.specs.Limits.{IsLawfulInstance}
+use Rattle.uc_model.specs.declared.instance.Instance.{Instance}
+use Rattle.uc_model.specs.declared.schedule.Printed.{Printed}
+use Rattle.uc_model.specs.declared.stuck.Stuck.{Stuck}
+use Rattle.uc_model.proofs.Quotients.{IsFloor-greatest, IsFloor-int_div_euclid}
+use Rattle.uc_model.proofs.Ring.{le_refl, le_trans, linear}
+use Rattle.dual_model.specs.Cover.{ReachesBoundOf}
+use Rattle.dual_model.specs.NodeValue.{IsNodeValue}
+use Rattle.dual_model.specs.Opening.{ZERO_SCALE, zero_table}
+use Rattle.dual_model.specs.Prices.{IsLawfulTable}
+use Rattle.dual_model.specs.Tree.{root}
+use Rattle.dual_model.specs.declared.table.Table.{Table}
+use Rattle.branch_tree.specs.Claims.{IsLayoutOf, written_tables}
+use Rattle.branch_tree.specs.StoredTree.{AtMost, tree_bound}
+use Rattle.branch_tree.specs.TreeView.{IsWhole, tree_of}
+use Rattle.branch_tree.specs.TrueFound.{IsTrueFound}
+use Rattle.branch_tree.specs.UsedTables.{stored_tables, used_tables}
+use Rattle.branch_tree.specs.declared.found.Found.{Found}
+use Rattle.branch_tree.specs.declared.layout.Layout.{Layout}
+use Rattle.search_core.specs.declared.stored.Stored.{Stored}
+use Rattle.search_core.specs.Machine.{Machine}
+use Rattle.search_core.specs.Moves.{bound_of}
+use Rattle.search_core.specs.Runs.{HoldsAt}
+use Rattle.workers.specs.Writable.{HasFewRows}
+use Rattle.workers.specs.DropCommitment.{Dispatched}
+use Rattle.workers.specs.MostOnStuck.{TellsMostOn}
+use Rattle.workers.specs.Opening.{HasEachPattern, HasNoRay, IsGreaterTable, IsRootTable}
+use Rattle.workers.specs.SearchResult.{IsBoundOpened, IsNoDearer}
+use Rattle.workers.specs.declared.drop_pass.Standing.{Standing}
+use Rattle.workers.specs.declared.drop_pass.Standing.TheVariants as standing
+use Rattle.workers.specs.declared.opening.Priced.{Priced}
+use Rattle.workers.specs.inside.Answers.{IsAnswerOf, told_by}
+use Rattle.workers.specs.inside.Evaluations.{IsPricedOf}
+use Rattle.workers.specs.inside.Searches.{IsSizedEntry, IsSpentUnlessClosed, start_by}
+use Rattle.workers.specs.inside.Standings.{IsBest, IsDropped, KeepsMostOn, ending_of, kept_stuck, told_of}
+use Rattle.workers.proofs.FewRows.{few_rows}
+use Rattle.workers.proofs.OwnValues.{bound_small, least_above, least_small}
+use Rattle.workers.proofs.Patterns.{not_first}
+use Rattle.workers.proofs.WrittenTables.{certificate_holds, each_within, written_lawful}
+
+-- ---- what is told of the most-on commitment
+tells_stuck : (instance : Instance) (bound : ℤ) (stands : Standing) (best : Option (Printed × ℤ)) → KeepsMostOn instance stands
+    → IsNoDearer best (ending_of stands) → TellsMostOn instance best (Some bound) (told_of best (kept_stuck stands))
+tells_stuck instance bound stands (Some priced) kept no_dearer = refl
+tells_stuck instance bound (standing.Dispatched printed cost) None kept no_dearer = absurd no_dearer
+tells_stuck instance bound (standing.Stuck period most_on) None kept no_dearer = kept
+
+tells_nothing : (instance : Instance) (best : Option (Printed × ℤ)) → TellsMostOn instance best None None
+tells_nothing instance None = refl
+tells_nothing instance (Some priced) = refl
+
+tells_most_on : (instance : Instance) (bound : Option ℤ) (stands : Standing) (best : Option (Printed × ℤ)) → KeepsMostOn instance stands
+    → IsNoDearer best (ending_of stands) → TellsMostOn instance best bound (told_by bound best (kept_stuck stands))
+tells_most_on instance None stands best kept no_dearer = tells_nothing instance best
+tells_most_on instance (Some bound) stands best kept no_dearer = tells_stuck instance bound stands best kept no_dearer
+
+-- ---- the bound
+-- a greater value at the same scale has a bound no less
+bound_rises : (v w k : ℤ) → pos 0 <ℤ k → v ≤ℤ w → bound_of v k ≤ℤ bound_of w k
+bound_rises v w k scale le =
+    let low = IsFloor-int_div_euclid v k scale in
+    IsFloor-greatest w k (bound_of w k) (bound_of v k) scale (IsFloor-int_div_euclid w k scale) (le_trans _ _ _ low.below le)
+
+reaches : (instance : Instance) (table : Table) (v least bound : ℤ) → IsNodeValue instance root table v → pos 0 <ℤ table.k
+    → bound_of v table.k ≤ℤ least → least ≤ℤ bound → ReachesBoundOf instance root table bound
+reaches instance table v least bound value scale first rest = record {
+  bound = bound_of v table.k;
+  is_bound = record { value = v; is_value = value; quotient = IsFloor-int_div_euclid v table.k scale };
+  reached = le_trans _ _ _ first rest;
+}
+
+million : pos 0 <ℤ ZERO_SCALE
+million = omega (arith, linear)
+
+-- the opening's table reaches the bound of the table of no prices, and that of the marginal prices where there are any
+reaches_both : (instance : Instance) (printed : Printed) (opening : Priced) (bound : ℤ) → IsGreaterTable instance printed opening.table opening.value
+    → IsPricedOf instance opening → bound_of opening.value opening.table.k ≤ℤ bound → IsBoundOpened instance (Dispatched printed (pos 0)) bound
+reaches_both instance printed opening bound greater priced above =
+    let scale : opening.table.k ≡ ZERO_SCALE = priced.scale in
+    let first : bound_of opening.value ZERO_SCALE ≤ℤ bound = subst (λ k. bound_of opening.value k ≤ℤ bound) scale above in
+    let marginal_scale : greater.marginal.k ≡ ZERO_SCALE = greater.is_marginal.scale in
+    let known : (greater.at_zero ≤ℤ opening.value) × (greater.at_marginal ≤ℤ opening.value) = ⊎_elim
+    (λ more. (subst (λ v. greater.at_zero ≤ℤ v) (sym more.2) (lower greater.at_zero greater.at_marginal more.0), subst (λ v. greater.at_marginal ≤ℤ v) (sym more.2) (le_refl greater.at_marginal)))
+    (λ less. (subst (λ v. greater.at_zero ≤ℤ v) (sym less.2) (le_refl greater.at_zero), subst (λ v. greater.at_marginal ≤ℤ v) (sym less.2) less.0))
+    greater.taken in
+    record {
+      unpriced = reaches instance (zero_table instance) greater.at_zero (bound_of opening.value ZERO_SCALE) bound greater.is_at_zero million
+          (bound_rises greater.at_zero opening.value ZERO_SCALE million known.0) first;
+      marginal = record {
+        table = greater.marginal;
+        is_marginal = greater.is_marginal;
+        reached = reaches instance greater.marginal greater.at_marginal (bound_of opening.value ZERO_SCALE) bound greater.is_at_marginal
+            (subst (λ k. pos 0 <ℤ k) (sym marginal_scale) million)
+            (subst (λ k. bound_of greater.at_marginal k ≤ℤ bound_of opening.value ZERO_SCALE) (sym marginal_scale)
+            (bound_rises greater.at_marginal opening.value ZERO_SCALE million known.1)) first;
+      };
+    }
+  where
+    lower : (a b : ℤ) → a <ℤ b → a ≤ℤ b
+    lower a b l = omega (arith, linear)
+
+reaches_opening : (instance : Instance) (stands : Standing) (opening : Priced) (bound : ℤ)
+    → IsRootTable instance (ending_of stands) opening.table opening.value → IsPricedOf instance opening
+    → bound_of opening.value opening.table.k ≤ℤ bound → IsBoundOpened instance (ending_of stands) bound
+reaches_opening instance (standing.Dispatched printed cost) opening bound table priced above =
+    let both = reaches_both instance printed opening bound table priced above in
+    record { unpriced = both.unpriced; marginal = both.marginal }
+reaches_opening instance (standing.Stuck period most_on) opening bound table priced above =
+    let first : bound_of opening.value ZERO_SCALE ≤ℤ bound = subst (λ k. bound_of opening.value k ≤ℤ bound) priced.scale above in
+    record {
+      unpriced = reaches instance (zero_table instance) opening.value (bound_of opening.value ZERO_SCALE) bound
+          (subst (λ t. IsNodeValue instance root t opening.value) table.0 table.1) million (le_refl (bound_of opening.value ZERO_SCALE)) first;
+      marginal = tt;
+    }
+
+-- ---- the tables
+-- the leaves' tables are there
+pub stored_within : (instance : Instance) (start m : Machine) → HoldsAt instance start m
+    → All (λ table. table < length m.tables) (stored_tables (tree_of m.tree))
+stored_within instance start m holds = each_within instance m.tables root (tree_of m.tree) holds.stored
+
+-- ---- the answer
+-- what is answered, with this schedule and this layout
+abbrev pub searched_found : Machine → Option (Printed × ℤ) → Option Stuck → Layout → Found
+searched_found m best stuck layout = record {
+  schedule = best;
+  tree = m.tree;
+  tables = m.tables;
+  log = m.log;
+  most_on = told_by (tree_bound m.tree) best stuck;
+  layout = layout;
+}
+
+module _ (instance : Instance) (stands : Standing) (best : Option (Printed × ℤ)) (opening : Priced) (m : Machine) (layout : Layout) (budget gap : ℕ)
+    (lawful : IsLawfulInstance instance) (dropped : IsDropped instance stands) (is_best : IsBest instance (ending_of stands) best)
+    (opens : IsRootTable instance (ending_of stands) opening.table opening.value) (priced : IsPricedOf instance opening)
+    (holds : HoldsAt instance (start_by instance opening budget gap) m) (of_tree : IsLayoutOf m.tree layout)
+    (within : All (λ i. i < length m.tables) layout.tables) where
+  abbrev found : Found
+  found = searched_found m best (kept_stuck stands) layout
+
+  used_within : All (λ i. i < length m.tables) (used_tables (tree_of m.tree))
+  used_within = subst (λ numbers. All (λ i. i < length m.tables) numbers) of_tree.tables within
+
+  searched_truth : IsTrueFound instance found
+  searched_truth = record {
+    layout = record { layout = of_tree; within = used_within };
+    certificate = certificate_holds instance found is_best.accepted holds.cover holds.tables used_within holds.stored holds.bound;
+    log = holds.log;
+  }
+
+  -- the bound that the root begins with
+  abbrev first : Stored
+  first = record { table = 0; value = bound_of opening.value opening.table.k }
+
+  above_first : AtMost (Some first.value) (tree_bound m.tree)
+  above_first = least_above m.tree.units m.tree.periods m.tables m.log root first.value first m.tree.nodes (le_refl first.value) holds.own
+
+  bound_opened : (bound : Option ℤ) → AtMost (Some first.value) bound → IfSome bound (IsBoundOpened instance (ending_of stands))
+  bound_opened None above = tt
+  bound_opened (Some bound) above = reaches_opening instance stands opening bound opens priced above
+
+  scale : pos 0 <ℤ opening.table.k
+  scale = subst (λ k. pos 0 <ℤ k) (sym priced.scale) million
+
+  searched_own : (spent : IsSpentUnlessClosed m best budget gap) → All IsSizedEntry m.log → HasEachPattern instance → HasNoRay instance
+      → IsWhole m.tree → IsAnswerOf instance budget gap found
+  searched_own spent sized each none whole = record {
+    result = record {
+      truth = searched_truth;
+      spent = spent.spent;
+      most_on = tells_most_on instance (tree_bound m.tree) stands best dropped.most_on is_best.no_dearer;
+      empty = λ g empty. absurd (not_first instance g each empty);
+      ray = λ n ray. absurd (none n ray.within ray.positive);
+      opened = λ patterns. record {
+        patterns = dropped.patterns;
+        ending = ending_of stands;
+        drop = dropped.drop;
+        schedule = is_best.no_dearer;
+        bound = bound_opened (tree_bound m.tree) above_first;
+        own = λ rays. record { table = opening.table; value = opening.value; opening = opens; is_first = holds.first; own = holds.own };
+      };
+      few = holds.few;
+    };
+    writable = record {
+      tree = whole;
+      schedule = is_best.accepted;
+      bound = least_small m.tree.units m.tree.periods m.tables m.log root first m.tree.nodes
+          (bound_small opening.value opening.table.k scale priced.valued.size) sized holds.own;
+      tables = All-weaker (IsLawfulTable instance) HasFewRows (λ table. few_rows instance table lawful) (written_tables found)
+          (written_lawful instance found holds.tables used_within);
+    };
+  }
+
+pub searched_answer : (instance : Instance) (stands : Standing) (best : Option (Printed × ℤ)) (stuck : Option Stuck) (opening : Priced) (m : Machine)
+    (layout : Layout) (budget gap : ℕ) → IsLawfulInstance instance → HasEachPattern instance → HasNoRay instance → IsDropped instance stands
+    → stuck ≡ kept_stuck stands → IsBest instance (ending_of stands) best → IsRootTable instance (ending_of stands) opening.table opening.value
+    → IsPricedOf instance opening → HoldsAt instance (start_by instance opening budget gap) m → All IsSizedEntry m.log
+    → IsSpentUnlessClosed m best budget gap → IsWhole m.tree → IsLayoutOf m.tree layout → All (λ i. i < length m.tables) layout.tables
+    → IsAnswerOf instance budget gap (searched_found m best stuck layout)
+searched_answer instance stands best stuck opening m layout budget gap lawful each none dropped kept is_best opens priced holds sized spent whole of_tree within =
+    subst (λ (s : Option Stuck). IsAnswerOf instance budget gap (searched_found m best s layout)) (sym kept)
+    (searched_own instance stands best opening m layout budget gap lawful dropped is_best opens priced holds of_tree within spent sized each none whole)

@@ -1,0 +1,97 @@
+-- Each turn is a claim and its commit, and at the end the search is closed, no node is open, or the budget is spent.
+use Rattle.std.proofs.Common.{◌≡◌, ◌∙◌, suc, ◌+◌, length, Ok, None, Some, ap, arith, refl, subst, sym}
+use Rattle.search_core.specs.Machine.{Machine}
+use Rattle.workers.specs.inside.Searches.{IsGrown, start_by}
+use Rattle.workers.proofs.Searches.{better_than_none, claimed_ready, closed_by_none_open, grown_closed, published_best, published_claims, published_searching, start_searching, turned_best, turned_searching}
+use Rattle.workers.proofs.tree_search.search_tree.Given.{Over}
+use Rattle.workers.proofs.tree_search.search_tree.Goals as goal
+
+pub loop-had-init : goal.loop-had-init
+loop-had-init g c =
+    let instance = c.args.instance.now in
+    let opening = c.args.start.opening in
+    let budget = c.args.options.now.budget in
+    let gap = c.args.options.now.gap in
+    let best = c.args.start.best in
+    let state = c.in_ok-state.state in
+    let start = start_by instance opening budget gap in
+    let published = c.in_ok-state.ensures in
+    let begun = start_searching instance opening budget gap c.requires.opening c.requires.budget c.requires.gap in
+    record {
+      lent = c.requires.lent;
+      searching = published_searching instance opening budget gap start state best begun c.requires.accepted published;
+      count = published_claims start state best published;
+      published = published_best start state None best refl (better_than_none best) published;
+      accepted = c.requires.accepted;
+      no_worse = λ ending h. h;
+      next = c.requires.next;
+    }
+
+pub returns-then-is_finished-clause-grown : goal.returns-then-is_finished-clause-grown
+returns-then-is_finished-clause-grown g c =
+    let before = c.loop-had.invariant in
+    grown_closed c.args.instance.now c.args.start.opening c.args.options.now.budget c.args.options.now.gap c.loop-had.search.state
+    c.loop-had.search.best before.searching before.published before.accepted
+    (c.is_finished.ensures c.if-is_finished.true)
+
+pub returns-in_default-clause-grown : goal.returns-in_default-clause-grown
+returns-in_default-clause-grown g c =
+    let instance = c.args.instance.now in
+    let opening = c.args.start.opening in
+    let budget = c.args.options.now.budget in
+    let gap = c.args.options.now.gap in
+    let best = c.loop-had.search.best in
+    let state = c.loop-had.search.state in
+    let before = c.loop-had.invariant in
+    let none = c.claim_next.ensures.none (c.in_ok-node.was ∙ ap Ok c.in_default.is) in
+    let holds = c.holds.ensures.holds instance opening budget gap c.requires.lawful before.searching in
+    subst (λ (m : Machine). IsGrown instance opening budget gap m best) (sym none.0)
+    (grown_closed instance opening budget gap state best before.searching before.published before.accepted
+    (closed_by_none_open instance opening budget gap state best before.searching holds before.published none.1))
+
+pub turn-requires-clause-gap : goal.turn-requires-clause-gap
+turn-requires-clause-gap g c =
+    let claimed = c.claim_next.ensures.claimed c.in-Some.node (c.in_ok-node.was ∙ ap Ok c.in-Some.is) in
+    sym (ap (λ (m : Machine). m.gap) claimed.1 ∙ c.loop-had.invariant.searching.gap_is)
+
+pub turn-requires-clause-ready : goal.turn-requires-clause-ready
+turn-requires-clause-ready g c =
+    let instance = c.args.instance.now in
+    let opening = c.args.start.opening in
+    let budget = c.args.options.now.budget in
+    let gap = c.args.options.now.gap in
+    let state = c.loop-had.search.state in
+    let before = c.loop-had.invariant in
+    let claimed = c.claim_next.ensures.claimed c.in-Some.node (c.in_ok-node.was ∙ ap Ok c.in-Some.is) in
+    claimed_ready instance opening budget gap state c.claim_next.new.state c.in-Some.node (c.loop-had.had + 1) before.searching
+    (c.holds.ensures.holds instance opening budget gap c.requires.lawful before.searching) c.holds.ensures.whole claimed.0 claimed.1
+    (omega (arith, before.count))
+
+pub loop-had-preserved : goal.loop-had-preserved
+loop-had-preserved g c =
+    let instance = c.args.instance.now in
+    let opening = c.args.start.opening in
+    let budget = c.args.options.now.budget in
+    let gap = c.args.options.now.gap in
+    let state = c.loop-had.search.state in
+    let new = c.claim_next.new.state in
+    let node = c.in-Some.node in
+    let unit = c.loop-had.had + 1 in
+    let before = c.loop-had.invariant in
+    let after = c.in_ok-search.search in
+    let claimed = c.claim_next.ensures.claimed node (c.in_ok-node.was ∙ ap Ok c.in-Some.is) in
+    let unit_is : unit ≡ suc (length state.claims) = omega (arith, before.count) in
+    let ready = claimed_ready instance opening budget gap state new node unit before.searching
+    (c.holds.ensures.holds instance opening budget gap c.requires.lawful before.searching) c.holds.ensures.whole claimed.0 claimed.1 unit_is in
+    let both = turned_searching instance opening budget gap state new after.state after.best node unit before.searching claimed.0 claimed.1 unit_is
+    ready c.in_ok-search.ensures.accepted c.in_ok-search.ensures.turned in
+    record {
+      lent = c.in_ok-search.ensures.lent;
+      searching = both.0;
+      count = both.1;
+      published = turned_best instance state new after.state c.loop-had.search.best after.best node unit claimed.1 ready before.published
+          c.in_ok-search.ensures.no_worse c.in_ok-search.ensures.turned;
+      accepted = c.in_ok-search.ensures.accepted;
+      no_worse = λ ending h. c.in_ok-search.ensures.no_worse ending (before.no_worse ending h);
+      next = tt;
+    }
