@@ -5,7 +5,7 @@ ghost use Rattle.std.specs.Prelude.{◌≤◌};
 use crate::fixtures::{OFF, instance, lone_root, name, on, printed};
 use branch_tree::{Entry, Found, Layout, Leaf, Outcome};
 use outside::{Call, FailingCall, FaultySink, MemorySink, Pace, Slot};
-use report::{Fault, write_fault, write_found};
+use report::{Fault, write_demo, write_fault, write_found};
 use std::alloc::Global;
 use std::process::Abort;
 use std::test::Fail;
@@ -227,6 +227,74 @@ fn writes_that_no_schedule_exists(rt: HostRuntime) -> Result<(), Fail> {
         start,
         b"infeasible\nevaluations 0\n",
     );
+    Ok(())
+}
+
+// The report of the demo of a seed is this.
+fn assert_demo(rt: &impl Abort, alloc: Global, seed: u32, found: &Found, text: &[u8]) {
+    let mut out = MemorySink::new(alloc);
+    assert!(rt; write_demo(&mut out, seed, found).is_ok());
+    assert_eq!(rt; out.written().unwrap_or(b""), text);
+}
+
+// A demo is closed where cost and bound are a thousandth of the cost apart, and not where it is a millionth of a dollar more.
+#[test]
+fn writes_whether_a_demo_is_closed(rt: HostRuntime) -> Result<(), Fail> {
+    let cases: [(u32, i128, &[u8]); 2] = [
+        (
+            0,
+            299_700_000,
+            b"demo 0\nclosed\ncost 300.000000\nbound 299.700000\nevaluations 0\n",
+        ),
+        (
+            4_294_967_295,
+            299_699_999,
+            b"demo 4294967295\nbudget spent\ncost 300.000000\nbound 299.699999\nevaluations 0\n",
+        ),
+    ];
+    for (seed, value, text) in cases {
+        let found = small_found(rt.alloc(), value)?;
+        assert_demo(&rt, rt.alloc(), seed, &found, text);
+    }
+    Ok(())
+}
+
+#[test]
+fn writes_demos_without_schedules(rt: HostRuntime) -> Result<(), Fail> {
+    let alloc = rt.alloc();
+    let stuck = stuck_found(alloc, Why::Rule { rule: 7, unit: 0 })?;
+    assert_demo(
+        &rt,
+        alloc,
+        7,
+        &stuck,
+        b"demo 7\nbudget spent, no schedule found\nbound 300.000000\nevaluations 1\n",
+    );
+    let empty = found(alloc, None, Leaf::Empty { g: 0 }, Vec::new(alloc), None)?;
+    assert_demo(
+        &rt,
+        alloc,
+        7,
+        &empty,
+        b"demo 7\ninfeasible\nevaluations 0\n",
+    );
+    Ok(())
+}
+
+// A sink that takes a byte at a time has a front of the report up to the call that fails.
+#[test]
+fn writes_a_front_of_a_demo_at_a_fault(rt: HostRuntime) -> Result<(), Fail> {
+    let alloc = rt.alloc();
+    let found = small_found(alloc, 300_000_000)?;
+    let tenth = FailingCall {
+        call: Call::Write,
+        number: 10,
+    };
+    let mut out = FaultySink::new(alloc, &[tenth], Pace::ByteByByte)?;
+    assert!(rt; write_demo(&mut out, 9, &found).is_err());
+    let front: &[u8] = b"demo 9\nclo";
+    assert_eq!(rt; out.memory.written().unwrap_or(b""), front);
+    assert_eq!(rt; out.schedule.faults, 1);
     Ok(())
 }
 

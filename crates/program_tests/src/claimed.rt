@@ -123,13 +123,23 @@ fn is_bounded(lines: &str, run: &Claimed) -> bool {
     }
 }
 
-fn assert_claimed<R: Threads + Wait + Sync + Abort>(
+/// How a run ended: its status, the certificate, and the output.
+#[derive(Drop)]
+struct Ended {
+    code: u8,
+    certificate: FaultyFile,
+    out: FaultySink,
+}
+
+// A run on the instance with these words behind `--cert FILE`; the gate tallies its claims.
+fn run<R: Threads + Wait + Sync + Abort>(
     rt: &R,
     alloc: Global,
     input: &[u8],
-    run: &Claimed,
-) -> Result<(), AllocError> {
-    let words = words(alloc, run.words)?;
+    more: &[&str],
+    gate: &Tally,
+) -> Result<Ended, AllocError> {
+    let words = words(alloc, more)?;
     let pace = Pace::Full;
     let mut files = Devices::new(
         FaultyFile::new(alloc, "in.json", input, &[], pace)?,
@@ -138,23 +148,61 @@ fn assert_claimed<R: Threads + Wait + Sync + Abort>(
     );
     let mut out = FaultySink::new(alloc, &[], pace)?;
     let mut err = FaultySink::new(alloc, &[], pace)?;
+    let end = uc(rt, alloc, &words, &mut files, &mut out, &mut err, gate);
+    Ok(Ended {
+        code: end.code,
+        certificate: files.cert_out,
+        out,
+    })
+}
+
+fn assert_claimed<R: Threads + Wait + Sync + Abort>(
+    rt: &R,
+    alloc: Global,
+    input: &[u8],
+    claimed: &Claimed,
+) -> Result<(), AllocError> {
     let gate = Tally::new();
-    let end = uc(rt, alloc, &words, &mut files, &mut out, &mut err, &gate);
-    assert_eq!(rt; end.code, run.code);
-    assert_eq!(rt; gate.entries(), run.entries);
-    assert!(rt; run.entries == 0 || gate.last() == (0, run.entries));
-    let report = std::str::from_utf8(out.memory.flushed().unwrap_or_default()).unwrap_or_default();
-    let lines = report.strip_prefix(run.head).unwrap_or_default();
-    assert!(rt; is_bounded(lines, run));
+    let ended = run(rt, alloc, input, claimed.words, &gate)?;
+    assert_eq!(rt; ended.code, claimed.code);
+    assert_eq!(rt; gate.entries(), claimed.entries);
+    assert!(rt; claimed.entries == 0 || gate.last() == (0, claimed.entries));
+    let report = ended.out.memory.flushed().unwrap_or_default();
+    let report = std::str::from_utf8(report).unwrap_or_default();
+    let lines = report.strip_prefix(claimed.head).unwrap_or_default();
+    assert!(rt; is_bounded(lines, claimed));
     Ok(())
 }
 
 #[test]
 fn claims_bound_as_the_instance_lets_them(rt: HostRuntime) -> Result<(), Fail> {
     let alloc = rt.alloc();
-    for run in &RUNS {
-        let input = changed(alloc, BASE, run.changes)?;
-        assert_claimed(&rt, alloc, input.as_bytes(), run)?;
+    for claimed in &RUNS {
+        let input = changed(alloc, BASE, claimed.changes)?;
+        assert_claimed(&rt, alloc, input.as_bytes(), claimed)?;
     }
+    Ok(())
+}
+
+#[test]
+fn a_gap_that_one_table_leaves_is_split(rt: HostRuntime) -> Result<(), Fail> {
+    let alloc = rt.alloc();
+    let input = changed(alloc, BASE, &BOTH_DEAR)?;
+    let words = ["--units", "101", "--gap", "0"];
+    let ended = run(&rt, alloc, input.as_bytes(), &words, &Tally::new())?;
+    let certificate = ended.certificate.memory.written().unwrap_or_default();
+    let certificate = std::str::from_utf8(certificate).unwrap_or_default();
+    let mut lines = certificate.lines();
+    assert!(rt; lines.any(|line| line.starts_with("split ")));
+    Ok(())
+}
+
+#[test]
+fn splits_close_what_one_table_leaves_open(rt: HostRuntime) -> Result<(), Fail> {
+    let alloc = rt.alloc();
+    let input = changed(alloc, BASE, &BOTH_DEAR)?;
+    let words = ["--units", "500", "--gap", "50000"];
+    let ended = run(&rt, alloc, input.as_bytes(), &words, &Tally::new())?;
+    assert_eq!(rt; ended.code, 0);
     Ok(())
 }

@@ -41,7 +41,7 @@ const TAKEN: [&[&str]; 15] = [
 ];
 
 /// Words behind the program's name that are refused.
-const REFUSED: [&[&str]; 37] = [
+const REFUSED: [&[&str]; 41] = [
     &[],
     &["frob"],
     &["help"],
@@ -88,7 +88,11 @@ const REFUSED: [&[&str]; 37] = [
     &["check", "in.json", "old.cert", "more"],
     &["check", "in.json", "old.cert", "--exact"],
     &["check", "in.json", "--help"],
-    &["demo", "1"],
+    &["demo"],
+    &["demo", "x"],
+    &["demo", "4294967296"],
+    &["demo", "-1"],
+    &["demo", "1", "2"],
 ];
 
 // An instance without bytes is refused, so words that are taken end with 4, and others with 5.

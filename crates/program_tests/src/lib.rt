@@ -1,10 +1,12 @@
-//! Tests of whole runs of `solve`, and of the words that the program takes.
+//! Tests of whole runs of `solve` and `demo`, and of the words that the program takes.
 #![tactic(auto)]
 
 #[cfg(test)]
 mod claimed;
 #[cfg(test)]
 mod command_lines;
+#[cfg(test)]
+mod demos;
 #[cfg(test)]
 mod runs;
 #[cfg(test)]
