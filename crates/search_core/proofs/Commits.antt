@@ -1,5 +1,5 @@
 -- What the fields are after a commit.
-use Rattle.std.proofs.Common.{◌≡◌, ℕ, ◌+◌, ◌-◌, List, [], ◌∷◌, ◌++◌, length, set, replicate, false, refl, ap, sym, ◌∙◌, subst, arith, Option, Some, None}
+use Rattle.std.proofs.Common.{◌≡◌, ℕ, ◌+◌, ◌-◌, List, [], ◌∷◌, ◌++◌, length, set, replicate, false, refl, ap, sym, ◌∙◌, subst, arith, Option, Some, None, ℤ}
 use Rattle.dual_model.specs.declared.table.Table.{Table}
 use Rattle.branch_tree.specs.NumberedTree.{node_count}
 use Rattle.branch_tree.specs.TreeView.{TreeView}
@@ -12,7 +12,7 @@ use Rattle.search_core.specs.declared.event.Move.TheVariants.{Again, Split, Prun
 use Rattle.search_core.specs.Machine.{Machine, Stored, IsHolding}
 use Rattle.search_core.specs.Moves.{children_by, tree_after, IsFreeFor}
 use Rattle.search_core.specs.Steps.{IsCommittable}
-use Rattle.search_core.specs.Notes.{no_note, with_note, AreNotesOf}
+use Rattle.search_core.specs.Notes.{no_note, with_note, with_entry, AreNotesOf}
 use Rattle.search_core.specs.Orderly.{IsOrderly}
 use Rattle.search_core.proofs.Growth.{tree_grows}
 use Rattle.search_core.proofs.Holding.{holdable}
@@ -50,24 +50,24 @@ commit_count m worker unit node table outcome action stored number a b new child
 
 -- the notes, known by equations alone
 pub commit_notes : (m : Machine) (worker unit node : ℕ) (entry : Entry) (notes reserved recorded freed new : List Note) (added count : ℕ)
-    (claims : List (Option Holder)) (log : List Entry) → IsOrderly m → IsHolding m worker unit node
+    (scale : ℤ) (claims : List (Option Holder)) (log : List Entry) → IsOrderly m → IsHolding m worker unit node
     → AreNotesOf m.claims m.log (node_count m.tree.nodes) notes → entry.node ≡ node
     → claims ≡ set m.claims (unit - 1) None → log ≡ m.log ++ entry ∷ [] → count ≡ node_count m.tree.nodes + added
-    → reserved ≡ notes → recorded ≡ with_note reserved node (λ note. record note { tables = note.tables ++ entry.table ∷ [] })
+    → reserved ≡ notes → recorded ≡ with_note reserved node (λ note. with_entry note entry.table scale)
     → freed ≡ with_note recorded node (λ note. record note { held = false }) → new ≡ freed ++ replicate added no_note
     → AreNotesOf claims log count new
-commit_notes m worker unit node entry notes reserved recorded freed new added count claims log orderly holding are own claims_is log_is count_is reserved_is recorded_is freed_is new_is =
+commit_notes m worker unit node entry notes reserved recorded freed new added count scale claims log orderly holding are own claims_is log_is count_is reserved_is recorded_is freed_is new_is =
     let held = holdable m worker unit node orderly holding in
     let holder : Holder = record { worker = worker; node = node } in
     let place : unit - 1 ≡ held.claim = omega (arith, held.unit_is) in
-    let made = notes_committed m.tree.nodes m.claims m.log notes held.claim holder entry added orderly.placed orderly.holders orderly.entries
+    let made = notes_committed m.tree.nodes m.claims m.log notes held.claim holder entry scale added orderly.placed orderly.holders orderly.entries
     are held.holds own in
-    let all : new ≡ notes_after notes node entry.table added =
+    let all : new ≡ notes_after notes node entry.table scale added =
     new_is
     ∙ ap (λ ns. ns ++ replicate added no_note)
     (freed_is
     ∙ ap (λ ns. with_note ns node (λ note. record note { held = false }))
-    (recorded_is ∙ ap (λ ns. with_note ns node (λ note. record note { tables = note.tables ++ entry.table ∷ [] })) reserved_is)) in
+    (recorded_is ∙ ap (λ ns. with_note ns node (λ note. with_entry note entry.table scale)) reserved_is)) in
     subst (λ cs. AreNotesOf cs log count new) (sym (claims_is ∙ ap (λ i. set m.claims i None) place))
     (subst (λ l. AreNotesOf (set m.claims held.claim None) l count new) (sym log_is)
     (subst (λ n. AreNotesOf (set m.claims held.claim None) (m.log ++ entry ∷ []) n new) (sym count_is)

@@ -14,7 +14,7 @@ use Rattle.search_core.specs.Machine.{Machine, Stored, holder_of}
 use Rattle.search_core.specs.Moves.{kept, tree_after}
 use Rattle.search_core.specs.Steps.{IsLegal, committed_by, after}
 use Rattle.search_core.specs.Orderly.{IsOrderly}
-use Rattle.search_core.specs.Notes.{AreNotesOf}
+use Rattle.search_core.specs.Notes.{AreNotesOf, AreScalesNoted}
 use Rattle.search_core.specs.Inside.{view_of, IsKept}
 use Rattle.search_core.proofs.OrderlySteps.{orderly_after}
 
@@ -50,13 +50,14 @@ as_large_after m (Steal worker victim) = record { units = refl; periods = refl }
 -- ---- the fields
 pub kept_by : (a b : Inside) (m : Machine) (event : Event) → view_of a ≡ m → IsKept a → IsLegal m event
     → view_of b ≡ after (view_of a) event → b.units ≡ a.units → b.periods ≡ a.periods
-    → AreNotesOf b.claims.items b.log (node_count b.tree.nodes) b.notes.items → IsKept b
-kept_by a b m event seen kept legal view units periods notes =
+    → AreNotesOf b.claims.items b.log (node_count b.tree.nodes) b.notes.items → AreScalesNoted b.tables b.notes.items → IsKept b
+kept_by a b m event seen kept legal view units periods notes scales =
     let large = as_large_after (view_of a) event in
     record {
       orderly = subst IsOrderly (sym view)
           (orderly_after (view_of a) event kept.orderly (subst (λ (x : Machine). IsLegal x event) (sym seen) legal));
       notes = notes;
+      scales = scales;
       units = units ∙ (kept.units ∙ (sym large.units ∙ sym (ap (λ (x : Machine). x.tree.units) view)));
       periods = periods ∙ (kept.periods ∙ (sym large.periods ∙ sym (ap (λ (x : Machine). x.tree.periods) view)));
     }
@@ -64,6 +65,6 @@ kept_by a b m event seen kept legal view units periods notes =
 -- the same, by the state that the fields stood for
 pub kept_to : (a b : Inside) (m : Machine) (event : Event) → view_of a ≡ m → IsKept a → IsLegal m event
     → view_of b ≡ after m event → b.units ≡ a.units → b.periods ≡ a.periods
-    → AreNotesOf b.claims.items b.log (node_count b.tree.nodes) b.notes.items → IsKept b
-kept_to a b m event seen kept legal view units periods notes =
-    kept_by a b m event seen kept legal (view ∙ sym (ap (λ (x : Machine). after x event) seen)) units periods notes
+    → AreNotesOf b.claims.items b.log (node_count b.tree.nodes) b.notes.items → AreScalesNoted b.tables b.notes.items → IsKept b
+kept_to a b m event seen kept legal view units periods notes scales =
+    kept_by a b m event seen kept legal (view ∙ sym (ap (λ (x : Machine). after x event) seen)) units periods notes scales

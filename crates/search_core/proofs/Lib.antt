@@ -9,6 +9,7 @@ pub mod Opened
 pub mod Holding
 pub mod Started
 pub mod Entries
+pub mod Scales
 pub mod Commits
 pub mod Leaves
 pub mod Truth

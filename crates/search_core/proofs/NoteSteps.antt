@@ -1,5 +1,5 @@
 -- The notes of the nodes after a claim and after a commit.
-use Rattle.std.proofs.Common.{◌≡◌, ◌≢◌, ℕ, zero, suc, ◌+◌, ◌<◌, ◌≤◌, ◌⊎◌, true, false, cond, All, List, [], ◌∷◌, ◌++◌, length, map, replicate, set, refl, ap, sym, ◌∙◌, subst, arith, inl, inr, ⊎_elim, Option, Some, None, length-append, length-set, append-nil}
+use Rattle.std.proofs.Common.{◌≡◌, ◌≢◌, ℕ, zero, suc, ◌+◌, ◌<◌, ◌≤◌, ◌⊎◌, true, false, cond, All, List, [], ◌∷◌, ◌++◌, length, map, replicate, set, refl, ap, sym, ◌∙◌, subst, arith, inl, inr, ⊎_elim, Option, Some, None, ℤ, length-append, length-set, append-nil}
 use Rattle.std.specs.Prelude.{◌==◌, slice_get}
 use Rattle.std.proofs.lemmas.Bool.{eq-eqb, ne_eqb}
 use Rattle.std.proofs.lemmas.List.{map-append, get_or-set_same, length-replicate}
@@ -12,7 +12,7 @@ use Rattle.branch_tree.proofs.Grown.{open_numbered}
 use Rattle.search_core.specs.declared.holder.Holder.{Holder}
 use Rattle.search_core.specs.declared.notes.Note.{Note}
 use Rattle.search_core.specs.Machine.{entries_of}
-use Rattle.search_core.specs.Notes.{no_note, note_in, with_note, entry_tables, IsNoteOf, AreNotesOf}
+use Rattle.search_core.specs.Notes.{no_note, note_in, with_note, with_entry, entry_tables, IsNoteOf, AreNotesOf}
 use Rattle.search_core.specs.Orderly.{AreHoldersApart}
 use Rattle.search_core.proofs.Claims.{get_set_cases, held_more, held_new, held_before, unheld_ended, still_held, was_held}
 
@@ -94,21 +94,21 @@ get_blanks_cases (x ∷ xs) j y z (suc k) e = ⊎_elim
     (λ (r : (length xs ≤ k) × (y ≡ z)). inr (omega arith, r.1))
     (get_blanks_cases xs j y z k e)
 
--- the notes after an entry at a table, the end of the claim, and so many nodes more
-abbrev pub notes_after : List Note → ℕ → ℕ → ℕ → List Note
-notes_after notes node table added =
-    with_note (with_note notes node (λ note. record note { tables = note.tables ++ table ∷ [] })) node (λ note. record note { held = false })
+-- the notes after an entry at a table of this scale, the end of the claim, and so many nodes more
+abbrev pub notes_after : List Note → ℕ → ℕ → ℤ → ℕ → List Note
+notes_after notes node table scale added =
+    with_note (with_note notes node (λ note. with_entry note table scale)) node (λ note. record note { held = false })
     ++ replicate added no_note
 
 pub notes_committed : (nodes : NumberedTree) (claims : List (Option Holder)) (log : List Entry) (notes : List Note) (claim : ℕ) (holder : Holder)
-    (entry : Entry) (added : ℕ) → IsPlaced nodes → AreHoldersApart nodes claims → All (λ entry. entry.node < node_count nodes) log
+    (entry : Entry) (scale : ℤ) (added : ℕ) → IsPlaced nodes → AreHoldersApart nodes claims → All (λ entry. entry.node < node_count nodes) log
     → AreNotesOf claims log (node_count nodes) notes → slice_get claims claim ≡ Some (Some holder) → entry.node ≡ holder.node
-    → AreNotesOf (set claims claim None) (log ++ entry ∷ []) (node_count nodes + added) (notes_after notes holder.node entry.table added)
-notes_committed nodes claims log notes claim holder entry added placed apart within are held is =
+    → AreNotesOf (set claims claim None) (log ++ entry ∷ []) (node_count nodes + added) (notes_after notes holder.node entry.table scale added)
+notes_committed nodes claims log notes claim holder entry scale added placed apart within are held is =
     let node = holder.node in
     let below = open_numbered nodes node placed (apart.live claim holder held) in
     let own = noted claims log (node_count nodes) notes node are below in
-    let first : Note = record (note_in notes node) { tables = (note_in notes node).tables ++ entry.table ∷ [] } in
+    let first : Note = with_entry (note_in notes node) entry.table scale in
     let middle = set notes node first in
     let second : Note = record (note_in middle node) { held = false } in
     let last = set middle node second in

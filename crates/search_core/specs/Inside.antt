@@ -3,7 +3,7 @@ use Rattle.std.specs.Prelude.{◌≡◌}
 use Rattle.branch_tree.specs.NumberedTree.{node_count}
 use Rattle.search_core.specs.Machine.{Machine}
 use Rattle.search_core.specs.Orderly.{IsOrderly}
-use Rattle.search_core.specs.Notes.{AreNotesOf}
+use Rattle.search_core.specs.Notes.{AreNotesOf, AreScalesNoted}
 use Rattle.search_core.specs.declared.state.State.TheInside.{Inside}
 
 abbrev pub view_of : Inside → Machine
@@ -21,5 +21,6 @@ view_of a = record {
 pub record IsKept (a : Inside) : Type 0 where
   pub orderly : IsOrderly (view_of a)
   pub notes : AreNotesOf a.claims.items a.log (node_count a.tree.nodes) a.notes.items
+  pub scales : AreScalesNoted a.tables a.notes.items
   pub units : a.units ≡ a.tree.units
   pub periods : a.periods ≡ a.tree.periods

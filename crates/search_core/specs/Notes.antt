@@ -1,5 +1,7 @@
 -- What is kept of each node beside the state. This project's own form.
-use Rattle.std.specs.Prelude.{◌≡◌, ℕ, false, List, [], Option, Some, IsTrue, length, map, slice_get, slice_set, slice_index_or}
+use Rattle.std.specs.Prelude.{◌≡◌, ℕ, ℤ, pos, ◌≤ℤ◌, All, false, List, [], ◌∷◌, ◌++◌, Option, Some, IsTrue, length, map, slice_get, slice_set, slice_index_or}
+use Rattle.std.specs.Int.{int_max}
+use Rattle.dual_model.specs.declared.table.Table.{Table}
 use Rattle.branch_tree.specs.TreeView.{TreeView, IsOpenAt}
 use Rattle.branch_tree.specs.declared.tree.Leaf.TheVariants as leaf
 use Rattle.branch_tree.specs.declared.tree.Spot.{Spot}
@@ -10,7 +12,7 @@ use Rattle.search_core.specs.declared.holder.Holder.{Holder}
 use Rattle.search_core.specs.Machine.{IsHeldIn, entries_of}
 
 abbrev pub no_note : Note
-no_note = record { held = false; tables = [] }
+no_note = record { held = false; tables = []; greatest = pos 0 }
 
 abbrev pub note_in : List Note → ℕ → Note
 note_in notes node = slice_index_or notes node no_note
@@ -18,6 +20,10 @@ note_in notes node = slice_index_or notes node no_note
 -- one node's note becomes another
 abbrev pub with_note : List Note → ℕ → (Note → Note) → List Note
 with_note notes node change = slice_set notes node (change (note_in notes node))
+
+-- the note with one entry more, at the table of this number and scale
+abbrev pub with_entry : Note → ℕ → ℤ → Note
+with_entry note table scale = record note { tables = note.tables ++ table ∷ []; greatest = int_max note.greatest scale }
 
 -- the numbers of the tables of the node's entries
 abbrev pub entry_tables : List Entry → ℕ → List ℕ
@@ -46,3 +52,16 @@ pub record IsFreeLeaf (tree : TreeView) (notes : List Note) (node : ℕ) : Type 
 pub record AreNotesOf (claims : List (Option Holder)) (log : List Entry) (count : ℕ) (notes : List Note) : Type 0 where
   pub length : length notes ≡ count
   pub each : (node : ℕ) (note : Note) → slice_get notes node ≡ Some note → IsNoteOf claims log node note
+
+-- there is a table of this number, and its scale is at most this
+pub record IsScaleAtMost (tables : List Table) (greatest : ℤ) (number : ℕ) : Type 0 where
+  pub table : Table
+  pub is : slice_get tables number ≡ Some table
+  pub most : table.k ≤ℤ greatest
+
+-- of each note, no table's scale is above the greatest
+abbrev pub AreScalesAtMost : List Table → Note → Type 0
+AreScalesAtMost tables note = All (IsScaleAtMost tables note.greatest) note.tables
+
+abbrev pub AreScalesNoted : List Table → List Note → Type 0
+AreScalesNoted tables notes = All (AreScalesAtMost tables) notes

@@ -1,26 +1,31 @@
 //! What the state keeps of each node, so that no step walks over the log.
 
-ghost use Rattle.std.specs.Prelude.{◌≡◌, ◌<◌, ◌≤◌, ◌+◌, ◌∷◌, ◌++◌, length, replicate, [], true, false, OnOk, OnErr, take, slice_set, vec_len, vec_capacity};
+ghost use Rattle.std.specs.Prelude.{◌≡◌, ◌<◌, ◌≤◌, ◌+◌, ◌∷◌, ◌++◌, ◌<ℤ◌, ◌↔◌, IsTrue, pos, length, replicate, [], true, false, OnOk, OnErr, take, slice_set, vec_len, vec_capacity};
+ghost use Rattle.std.specs.Int.{int_max};
 ghost use Rattle.search_core.specs.Notes.{no_note, with_note};
 
 use crate::lists;
+use dual_model::Table;
 use std::alloc::Global;
 use uc_model::{List, NoMemory};
 
-/// Whether a worker holds the node, and the numbers of the tables of its entries of the log, in their order.
+/// Whether a worker holds the node, the numbers of the tables of its entries of the log, in their order, and the greatest scale of these
+/// tables, at least 0.
 #[derive(Debug, Drop)]
 pub(crate) struct Note {
     pub held: bool,
     pub tables: List<u32>,
+    pub greatest: i64,
 }
 
 /// The note of a node that isn't held and has no entry.
 pub(crate) fn blank(alloc: Global) -> Note
-    ensures { result ≡ record { held = false; tables = [] } }
+    ensures { result ≡ record { held = false; tables = []; greatest = pos 0 } }
 {
     Note {
         held: false,
         tables: List::from_vec(Vec::new(alloc)),
+        greatest: 0,
     }
 }
 
@@ -46,6 +51,23 @@ pub(crate) fn add_entry(
     ensures capacity { vec_capacity notes.new ≡ vec_capacity notes.old }
 {
     lists::push(alloc, &mut notes[node as usize].tables, table)
+}
+
+/// Notes the scale of the table of an entry of the node.
+pub(crate) fn add_scale(notes: &mut Vec<Note>, node: u32, scale: &i64)
+    requires { node < vec_len notes.old }
+    ensures notes { notes.new.items ≡ with_note notes.old.items node (λ note. record note { greatest = int_max note.greatest scale.now }) }
+    ensures capacity { vec_capacity notes.new ≡ vec_capacity notes.old }
+{
+    let note = &mut notes[node as usize];
+    note.greatest = note.greatest.max(*scale);
+}
+
+/// Whether the table's scale is above those of the tables of the node's entries.
+pub(crate) fn is_above(note: &Note, table: &Table) -> bool
+    ensures { IsTrue result ↔ (note.now.greatest <ℤ table.now.k) }
+{
+    table.k() > note.greatest
 }
 
 /// Forgets all entries of the node but the first ones.

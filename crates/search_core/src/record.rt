@@ -1,7 +1,7 @@
 //! The record of a commit: its entry of the log and what goes with it, or nothing.
 
 ghost use Rattle.std.specs.Prelude.{◌≡◌, ◌<◌, ◌∷◌, ◌++◌, [], OnOk, OnErr, vec_len, vec_capacity};
-ghost use Rattle.search_core.specs.Notes.{with_note};
+ghost use Rattle.search_core.specs.Notes.{with_note, with_entry};
 ghost use Rattle.search_core.specs.Steps.{with_desk, with_tickets};
 
 use crate::desk::Desk;
@@ -12,7 +12,8 @@ use dual_model::Table;
 use std::alloc::Global;
 use uc_model::{List, NoMemory};
 
-// Puts the entry into the log, its table behind the tables and the table's number into the note of its node, or changes nothing.
+// Puts the entry into the log, its table behind the tables and the table's number and scale into the note of its node, or
+// changes nothing.
 fn enter(
     alloc: Global,
     notes: &mut Vec<Note>,
@@ -22,18 +23,20 @@ fn enter(
     table: Table,
 ) -> Result<(), NoMemory>
     requires { entry.node < vec_len notes.old }
-    ensures notes { OnOk result (notes.new.items ≡ with_note notes.old.items entry.node (λ note. record note { tables = note.tables ++ entry.table ∷ [] })) }
+    ensures notes { OnOk result (notes.new.items ≡ with_note notes.old.items entry.node (λ note. with_entry note entry.table table.k)) }
     ensures log { OnOk result (log.new ≡ log.old ++ entry ∷ []) }
     ensures tables { OnOk result (tables.new ≡ tables.old ++ table ∷ []) }
     ensures same { OnErr result ((notes.new.items ≡ notes.old.items) × (log.new ≡ log.old) × (tables.new ≡ tables.old)) }
     ensures capacity { vec_capacity notes.new ≡ vec_capacity notes.old }
 {
     let count = notes[entry.node as usize].tables.as_slice().len();
+    let scale = table.k();
     notes::add_entry(alloc, notes, entry.node, entry.table)?;
     if lists::push_both(alloc, log, entry, tables, table).is_err() {
         notes::keep_entries(alloc, notes, entry.node, count);
         return Err(NoMemory);
     }
+    notes::add_scale(notes, entry.node, &scale);
     Ok(())
 }
 
@@ -51,7 +54,7 @@ pub(crate) fn record(
     requires worker { entry.worker < vec_len desks.old }
     requires node { entry.node < vec_len notes.old }
     ensures desks { OnOk result (desks.new.items ≡ with_desk desks.old.items entry.worker (λ desk. with_tickets desk tickets.now)) }
-    ensures notes { OnOk result (notes.new.items ≡ with_note notes.old.items entry.node (λ note. record note { tables = note.tables ++ entry.table ∷ [] })) }
+    ensures notes { OnOk result (notes.new.items ≡ with_note notes.old.items entry.node (λ note. with_entry note entry.table table.k)) }
     ensures log { OnOk result (log.new ≡ log.old ++ entry ∷ []) }
     ensures tables { OnOk result (tables.new ≡ tables.old ++ table ∷ []) }
     ensures same_desks { OnErr result (desks.new.items ≡ desks.old.items) }

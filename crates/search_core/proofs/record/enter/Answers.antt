@@ -1,9 +1,11 @@
--- What was put into the note was taken off again.
-use Rattle.std.proofs.Common.{length, ap, ◌∙◌, arith, rules}
+-- What was put into the note: all of it, or it was taken off again.
+use Rattle.std.proofs.Common.{◌≡◌, length, ap, ◌∙◌, arith, rules}
+use Rattle.std.specs.Int.{int_max}
 use Rattle.std.proofs.lemmas.List.{get_or_read}
 use Rattle.search_core.specs.declared.notes.Note.{Note}
-use Rattle.search_core.specs.Notes.{no_note}
+use Rattle.search_core.specs.Notes.{no_note, with_note}
 use Rattle.search_core.proofs.Undone.{note_put_back}
+use Rattle.search_core.proofs.Scales.{note_entered}
 use Rattle.search_core.proofs.record.enter.Goals as goal
 
 pub returns-then-is_err-clause-same : goal.returns-then-is_err-clause-same
@@ -17,3 +19,11 @@ returns-then-is_err-clause-same c =
       search rules,
       search rules,
     )
+
+pub returns-clause-notes : goal.returns-clause-notes
+returns-clause-notes c =
+    let middle = c.add_entry.new.notes.items in
+    let node = c.args.entry.node in
+    let scaled : c.add_scale.new.notes.items ≡ with_note middle node (λ note. record note { greatest = int_max note.greatest c.args.table.k }) = search rules in
+    note_entered c.args.notes.now.items middle c.add_scale.new.notes.items node c.args.entry.table c.args.table.k
+    (omega (arith, c.args.notes.now.ok.0, c.requires)) c.in_ok-add_entry.ensures.added scaled

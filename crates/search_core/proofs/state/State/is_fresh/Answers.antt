@@ -1,31 +1,57 @@
--- The note has the numbers of the tables of the node's entries.
-use Rattle.std.proofs.Common.{◌≡◌, ◌<◌, ap, sym, ◌∙◌, subst, arith}
+-- The note has the numbers of the tables of the node's entries, and none of them is a table above its greatest scale.
+use Rattle.std.proofs.Common.{◌≡◌, ◌<◌, ◌↔◌, ℕ, ap, sym, ◌∙◌, subst, arith}
 use Rattle.std.proofs.lemmas.List.{get_or_read}
+use Rattle.dual_model.specs.declared.table.Table.{Table}
 use Rattle.branch_tree.specs.NumberedTree.{node_count}
 use Rattle.search_core.specs.declared.notes.Note.{Note}
+use Rattle.search_core.specs.declared.state.State.TheInside.{Inside}
 use Rattle.search_core.specs.Machine.{Machine, entries_of}
-use Rattle.search_core.specs.Notes.{no_note, entry_tables}
+use Rattle.search_core.specs.Notes.{no_note, note_in, entry_tables, AreScalesAtMost}
 use Rattle.search_core.specs.Steps.{IsFresh}
+use Rattle.search_core.specs.Inside.{view_of, IsKept}
 use Rattle.search_core.proofs.Opened.{kept_note}
 use Rattle.search_core.proofs.Entries.{IsNoneOf, none_of_entries, entries_none_of}
+use Rattle.search_core.proofs.Scales.{above_all, scales_in}
 use Rattle.search_core.proofs.state.State.is_fresh.Goals as goal
 
-pub returns : goal.returns
-returns c =
+-- a table is fresh where it is none of the note's
+by_note : (a : Inside) (m : Machine) (node : ℕ) (note : Note) (table : Table) → IsKept a → view_of a ≡ m → node < node_count m.tree.nodes
+    → note ≡ note_in a.notes.items node → IsNoneOf a.tables note.tables table ↔ IsFresh m (entries_of m.log node) table
+by_note a m node note table kept seen within read =
+    let below = subst (λ (x : Machine). node < node_count x.tree.nodes) (sym seen) within in
+    let numbers : note.tables ≡ entry_tables a.log node = ap (λ (n : Note). n.tables) read ∙ (kept_note a node kept below).tables in (
+      (λ none. subst (λ (x : Machine). IsFresh x (entries_of x.log node) table) seen
+          (none_of_entries a.tables (entries_of a.log node) table (subst (λ ns. IsNoneOf a.tables ns table) numbers none))),
+      (λ fresh.
+          let own = subst (λ (x : Machine). IsFresh x (entries_of x.log node) table) (sym seen) fresh in
+          subst (λ ns. IsNoneOf a.tables ns table) (sym numbers) (entries_none_of a.tables (entries_of a.log node) table own)),
+    )
+
+pub returns-then-is_above : goal.returns-then-is_above
+returns-then-is_above c =
     let a = c.self.inside in
     let node = c.args.node in
+    let note = c.index-note.result.now in
     let table = c.args.table.now in
     let below = subst (λ (m : Machine). node < node_count m.tree.nodes) (sym c.self.view_is) c.requires in
-    let read = get_or_read a.notes.items node c.index.result.now (omega (arith, a.notes.ok.0, c.self.invariant.notes.length)) c.index.ensures no_note in
-    let note = kept_note a node c.self.invariant below in
-    let numbers : c.as_slice-2.result.now ≡ entry_tables a.log node = c.as_slice-2.ensures ∙ (ap (λ (n : Note). n.tables) read ∙ note.tables) in
-    let tables : c.as_slice.result.now ≡ a.tables = c.as_slice.ensures in (
-      (λ h. subst (λ (m : Machine). IsFresh m (entries_of m.log node) table) c.self.view_is
-          (none_of_entries a.tables (entries_of a.log node) table
-          (subst (λ ns. IsNoneOf a.tables ns table) numbers (subst (λ ts. IsNoneOf ts c.as_slice-2.result.now table) tables (c.is_none_of.ensures.0 h))))),
-      (λ h.
-          let own = subst (λ (m : Machine). IsFresh m (entries_of m.log node) table) (sym c.self.view_is) h in
-          c.is_none_of.ensures.1
-          (subst (λ ts. IsNoneOf ts c.as_slice-2.result.now table) (sym tables)
-          (subst (λ ns. IsNoneOf a.tables ns table) (sym numbers) (entries_none_of a.tables (entries_of a.log node) table own)))),
+    let read = get_or_read a.notes.items node note (omega (arith, a.notes.ok.0, c.self.invariant.notes.length)) c.index-note.ensures no_note in
+    let same = by_note a c.args.self.now node note table c.self.invariant c.self.view_is c.requires read in
+    let scales = subst (AreScalesAtMost a.tables) (sym read) (scales_in a.tables a.notes.items node c.self.invariant.scales) in (
+      (λ _. same.0 (above_all a.tables note table scales (c.is_above.ensures.0 c.if-is_above.true))),
+      (λ _. c.if-is_above.true),
+    )
+
+pub returns-else-is_above : goal.returns-else-is_above
+returns-else-is_above c =
+    let a = c.self.inside in
+    let node = c.args.node in
+    let note = c.index-note.result.now in
+    let table = c.args.table.now in
+    let below = subst (λ (m : Machine). node < node_count m.tree.nodes) (sym c.self.view_is) c.requires in
+    let read = get_or_read a.notes.items node note (omega (arith, a.notes.ok.0, c.self.invariant.notes.length)) c.index-note.ensures no_note in
+    let same = by_note a c.args.self.now node note table c.self.invariant c.self.view_is c.requires read in
+    let both : IsNoneOf c.as_slice.result.now c.as_slice-else-is_above.result.now table ≡ IsNoneOf a.tables note.tables table =
+    λ i. IsNoneOf (c.as_slice.ensures i) (c.as_slice-else-is_above.ensures i) table in (
+      (λ none. same.0 (subst (λ p. p) both (c.is_none_of.ensures.0 none))),
+      (λ fresh. c.is_none_of.ensures.1 (subst (λ p. p) (sym both) (same.1 fresh))),
     )

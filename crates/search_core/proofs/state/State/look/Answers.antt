@@ -9,4 +9,4 @@ pub invariant_of-self : goal.invariant_of-self
 invariant_of-self c =
     let a = c.self.inside in
     kept_by a (record a { desks = c.see.new.desks }) c.args.self.now (Look c.args.worker) c.self.view_is c.self.invariant c.requires
-    (λ i. record (view_of a) { desks = c.see.ensures i }) refl refl c.self.invariant.notes
+    (λ i. record (view_of a) { desks = c.see.ensures i }) refl refl c.self.invariant.notes c.self.invariant.scales

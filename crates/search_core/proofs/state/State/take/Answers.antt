@@ -21,4 +21,4 @@ invariant_of-self-2 c =
     ∙ ap (λ ds. with_desk ds victim without_first)
     (c.in_ok-take_tickets.ensures.taken ∙ ap (λ f. with_desk a.desks.items worker (λ desk. with_tickets desk (f ∷ []))) first) in
     kept_by a (record a { desks = c.drop_first.new.desks }) c.args.self.now (Steal worker victim) c.self.view_is c.self.invariant
-    c.requires (λ i. record (view_of a) { desks = desks i }) refl refl c.self.invariant.notes
+    c.requires (λ i. record (view_of a) { desks = desks i }) refl refl c.self.invariant.notes c.self.invariant.scales
