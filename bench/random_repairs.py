@@ -37,7 +37,7 @@ fn cost(alloc: Global, instance: &Instance) -> Option<i64> {
     let table = zero(alloc, instance).ok()?;
     let ascent = ascend(alloc, instance, &root, &table, 40, 1_000_000).ok()?;
     let mut room = Repair::new(alloc, instance).ok()?;
-    let (_, cost) = repair(alloc, &mut room, instance, &ascent.table, &ascent.shares, 3000).ok()??;
+    let (_, cost) = repair(alloc, &mut room, instance, &ascent.table, &ascent.shares, 3000, i64::MIN).ok()??;
     Some(cost)
 }
 

@@ -1,10 +1,10 @@
 #!/usr/bin/env python3
 """Measures the schedules that repairs of an ascent find on instance files, and what they take.
 
-    python3 bench/repair.py MOVES CASE.json[=DOLLARS] ..     # at the top of the repository, with `rt` on the path
+    python3 bench/repair.py MOVES[:PPM] CASE.json[=DOLLARS] ..     # at the top of the repository, with `rt` on the path
 
 From the table of no prices an ascent of as many evaluations as a step makes gives prices and shares, and `repair` makes so many moves
-for each unit. Told are the bound and the cost in dollars, the seconds of the ascent, of making the room and of the repair, and, where
+for each unit, or ends before at a cost within so many millionths of the bound. Told are the bound and the cost in dollars, the seconds of the ascent, of making the room and of the repair, and, where
 a cost is given in dollars, how far the cost found lies above it, in parts of it. Nothing is proved here, see `unproved.py`.
 """
 import pathlib
@@ -36,6 +36,14 @@ fn bound(alloc: Global, instance: &Instance, root: &Node, table: &Table) -> Opti
     Some(value(alloc, &mut scratch, instance, root, table).ok()?.total / i128::from(table.k().max(1)))
 }
 
+// The greatest cost that is within the gap of the bound.
+fn enough(bound: i128) -> i64 {
+    if GAP < 0 {
+        return i64::MIN;
+    }
+    i64::try_from(bound * 1_000_000 / (1_000_000 - GAP)).unwrap_or(i64::MAX)
+}
+
 // Tells the bound, the cost, and the microseconds of the ascent, the room and the repair.
 fn time_repair(rt: &HostRuntime, instance: &Instance) -> io::Result<()> {
     let alloc = rt.alloc();
@@ -55,8 +63,12 @@ fn time_repair(rt: &HostRuntime, instance: &Instance) -> io::Result<()> {
         return Ok(());
     };
     let making = made.elapsed(rt)?.as_micros();
+    let Some(bound) = bound(alloc, instance, &root, &ascent.table) else {
+        return Ok(());
+    };
+    let moves = MOVES * units as u32;
     let begun = Instant::now(rt)?;
-    let Ok(found) = repair(alloc, &mut room, instance, &ascent.table, &ascent.shares, MOVES * units as u32) else {
+    let Ok(found) = repair(alloc, &mut room, instance, &ascent.table, &ascent.shares, moves, enough(bound)) else {
         return Ok(());
     };
     let repaired = begun.elapsed(rt)?.as_micros();
@@ -64,10 +76,7 @@ fn time_repair(rt: &HostRuntime, instance: &Instance) -> io::Result<()> {
         Some((_, cost)) => cost,
         None => 0,
     };
-    if let Some(bound) = bound(alloc, instance, &root, &ascent.table) {
-        println!(rt; "{bound} {cost} {ascended} {making} {repaired}")?;
-    }
-    Ok(())
+    println!(rt; "{bound} {cost} {ascended} {making} {repaired}")
 }
 
 fn main(rt: HostRuntime) -> io::Result<()> {
@@ -90,9 +99,10 @@ def tell(name, printed, known):
 
 
 def main(moves, cases):
+    moves, _, gap = moves.partition(":")
     with tempfile.TemporaryDirectory() as made:
         folder = pathlib.Path(made)
-        source = PROGRAM.replace("MOVES", str(int(moves)))
+        source = PROGRAM.replace("MOVES", str(int(moves))).replace("GAP", str(int(gap or -1)))
         program = unproved.build(folder, LIBRARIES, source, checks=False)
         for case in cases:
             path, _, known = case.partition("=")

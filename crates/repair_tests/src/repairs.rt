@@ -82,12 +82,22 @@ fn instance_of(alloc: Global, system: &System) -> Result<Instance, Fail>
     }
 }
 
-// The cost of the schedule that is found from the shares.
+// The cost of the schedule that all moves find from the shares.
 fn cost(alloc: Global, system: &System, shares: &[i64]) -> Result<Option<i64>, Fail> {
+    cost_within(alloc, system, shares, i64::MIN)
+}
+
+// The cost of the schedule that is found from the shares, where so much is little enough.
+fn cost_within(
+    alloc: Global,
+    system: &System,
+    shares: &[i64],
+    enough: i64,
+) -> Result<Option<i64>, Fail> {
     let instance = instance_of(alloc, system)?;
     let table = zero(alloc, &instance).map_err(|_| "no memory")?;
     let mut room = Repair::new(alloc, &instance).map_err(|_| "no memory")?;
-    match repair(alloc, &mut room, &instance, &table, shares, 100) {
+    match repair(alloc, &mut room, &instance, &table, shares, 100, enough) {
         Ok(Some((_, cost))) => Ok(Some(cost)),
         Ok(None) => Ok(None),
         Err(_) => Err("no memory".into()),
@@ -121,6 +131,13 @@ fn off_unit_is_started(rt: HostRuntime) -> Result<(), Fail> {
 fn ramps_bind_between_two_periods(rt: HostRuntime) -> Result<(), Fail> {
     // The slow unit gives 30 MW and then 40, the dear one 20 MW in the second hour: 300 + 400 + 400 dollars.
     let found = cost(rt.alloc(), &RISING, &[ON, ON, 0, ON])?;
+    assert!(rt; found == Some(1100 * DOLLAR));
+    Ok(())
+}
+
+#[test]
+fn schedule_is_found_where_any_cost_is_enough(rt: HostRuntime) -> Result<(), Fail> {
+    let found = cost_within(rt.alloc(), &RISING, &[ON, ON, 0, ON], i64::MAX)?;
     assert!(rt; found == Some(1100 * DOLLAR));
     Ok(())
 }

@@ -25,9 +25,16 @@ const SOFT_PASSES: u32 = 2;
 
 const HARD_PASSES: u32 = 6;
 
+/// Descents after which no further one is made once a schedule costs little enough have taken so many moves or more.
+const FEW_MOVES: u32 = 1000;
+
+/// A state's cost, whose rates are rounded, is taken for less than its schedule's by this part.
+const ROUNDING: i64 = 1 << 18;
+
 /// The cheapest schedule that so many moves find, with its cost in micro-dollars; `None` where they find none. A move is the search for
 /// one unit's best pattern. From the shares of an ascent to the table the units are put on patterns at several thresholds, and improved;
-/// what is left of the moves then goes into kicks of the best that came of it. The only error is `NoMemory`.
+/// what is left of the moves then goes into kicks of the best that came of it. A schedule that costs at most `enough` ends the search:
+/// there are no kicks then, and no further threshold where one takes long. The only error is `NoMemory`.
 pub fn repair(
     alloc: Global,
     room: &mut Repair,
@@ -35,6 +42,7 @@ pub fn repair(
     table: &Table,
     shares: &[i64],
     moves: u32,
+    enough: i64,
 ) -> Result<Option<(Printed, i64)>, NoMemory>
     requires lawful { IsLawfulInstance instance.now }
     ensures accepted { IfOk result (IsAcceptedIfFound instance.now) }
@@ -44,24 +52,75 @@ pub fn repair(
     let mut left = moves;
     room.kept.cost = i64::MAX;
     for threshold in THRESHOLDS {
-        let rounded = round(
-            alloc,
-            &mut scratch,
-            &room.plant,
-            &mut room.state,
-            instance,
-            shares,
-            threshold,
-        )?;
-        if rounded && left > 0 {
-            room.state.load(&room.plant, instance.periods);
-            descend(alloc, &mut scratch, room, instance, table, &mut left)?;
-            best = cheaper(best, offer(alloc, room, instance)?);
-            room.kept.keep(&room.plant, &room.state, instance);
+        if moves.saturating_sub(left) < FEW_MOVES || !is_enough(&best, enough) {
+            let found = descent(
+                alloc,
+                &mut scratch,
+                room,
+                instance,
+                table,
+                shares,
+                threshold,
+                &mut left,
+            )?;
+            best = cheaper(best, found);
         }
     }
-    kick(alloc, &mut scratch, room, instance, table, left)?;
+    if is_enough(&best, enough) {
+        return Ok(best);
+    }
+    let aim = aim(room.kept.cost, enough);
+    kick(alloc, &mut scratch, room, instance, table, left, aim)?;
     Ok(cheaper(best, offer(alloc, room, instance)?))
+}
+
+// Whether there is a schedule that costs at most so much.
+fn is_enough(best: &Option<(Printed, i64)>, enough: i64) -> bool {
+    match best {
+        Some((_, cost)) => *cost <= enough,
+        None => false,
+    }
+}
+
+// The cost of a state at which its schedule costs at most so much; none where the best state costs no more and its schedule doesn't do.
+fn aim(kept: i64, enough: i64) -> i64 {
+    let aim = enough.saturating_sub(enough.saturating_abs() / ROUNDING);
+    if kept <= aim { i64::MIN } else { aim }
+}
+
+// The schedule that a descent from a threshold finds, which is kept if it is the cheapest so far.
+fn descent(
+    alloc: Global,
+    scratch: &mut Scratch,
+    room: &mut Repair,
+    instance: &Instance,
+    table: &Table,
+    shares: &[i64],
+    threshold: i64,
+    left: &mut u32,
+) -> Result<Option<(Printed, i64)>, NoMemory>
+    requires lawful { IsLawfulInstance instance.now }
+    requires scratch { scratch.old ≡ instance.now.periods }
+    ensures scratch { scratch.new ≡ scratch.old }
+    ensures accepted { IfOk result (IsAcceptedIfFound instance.now) }
+{
+    let rounded = round(
+        alloc,
+        scratch,
+        &room.plant,
+        &mut room.state,
+        instance,
+        shares,
+        threshold,
+    )?;
+    if !rounded || *left == 0 {
+        return Ok(None);
+    }
+    room.state.load(&room.plant, instance.periods);
+    descend(alloc, scratch, room, instance, table, left)?;
+    let found = offer(alloc, room, instance)?;
+    room.kept.keep(&room.plant, &room.state, instance);
+    Ok(found)
 }
 
 // The schedule of the state with its cost, if it is accepted.

@@ -27,7 +27,7 @@ const KICKS: u32 = 500;
 /// So many searches of a pattern count as one move where turns are listed, since the rest of a move is shared there.
 const SEARCHES: usize = 4;
 
-/// Kicks the best state as long as moves are left. The only error is `NoMemory`.
+/// Kicks the best state as long as moves are left and it costs more than the aim. The only error is `NoMemory`.
 pub(crate) fn kick(
     alloc: Global,
     scratch: &mut Scratch,
@@ -35,6 +35,7 @@ pub(crate) fn kick(
     instance: &Instance,
     table: &Table,
     moves: u32,
+    aim: i64,
 ) -> Result<(), NoMemory>
     requires lawful { IsLawfulInstance instance.now }
     requires scratch { scratch.old ≡ instance.now.periods }
@@ -46,7 +47,7 @@ pub(crate) fn kick(
         if number % KICKS == 0 {
             list_turns(alloc, scratch, room, instance, &mut left)?;
         }
-        if left == 0 {
+        if left == 0 || room.kept.cost <= aim {
             break;
         }
         kick_once(alloc, scratch, room, instance, table, &mut left)?;

@@ -76,6 +76,7 @@ pub(crate) fn improved(
         &ascent.table,
         &ascent.shares,
         moves,
+        i64::MIN,
     )?;
     Ok(cheaper(best, found))
 }
