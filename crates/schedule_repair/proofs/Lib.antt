@@ -1,2 +1,1 @@
 pub mod PlainSchedules
-pub mod SizedTerms

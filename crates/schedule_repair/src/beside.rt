@@ -26,14 +26,34 @@ impl Beside<'_> {
         }
     }
 
-    /// What the system costs with the unit at the centres of these windows, without its starts.
-    pub(crate) fn cost_of(&self, row: &[Window]) -> i64 {
-        let mut cost: i64 = 0;
+    /// Whether the system costs less than so much with the unit at the centres of these windows, without its starts.
+    pub(crate) fn is_below(&self, row: &[Window], most: i64) -> bool {
+        let mut cost = self.least_cost(row);
         let mut before = self.unit.before;
-        for (period, window) in self.periods.iter().zip(row) {
+        for ((period, cell), window) in self.periods.iter().zip(self.cells).zip(row) {
+            if cost >= most {
+                return false;
+            }
             let head = window.head.min(before.saturating_add(self.unit.rise));
-            cost = cost.saturating_add(self.cost_at(period, window.on, window.power, head));
+            if window.on && (window.power != cell.power || head != self.unit.full) {
+                let more = self.cost_at(period, true, window.power, head);
+                cost = cost.saturating_add(
+                    more.saturating_sub(cell.off).saturating_sub(cell.plain),
+                );
+            }
             before = window.power;
+        }
+        cost < most
+    }
+
+    // What the system would cost with the unit on in these windows and neither caps nor ramps.
+    fn least_cost(&self, row: &[Window]) -> i64 {
+        let mut cost: i64 = 0;
+        for (cell, window) in self.cells.iter().zip(row) {
+            cost = cost.saturating_add(cell.off);
+            if window.on {
+                cost = cost.saturating_add(cell.plain);
+            }
         }
         cost
     }

@@ -4,10 +4,11 @@ use crate::merit::Market;
 use crate::period::{NOTHING, Period};
 use crate::unit::{Limits, Unit};
 
-/// By how much the system costs more with a unit on than with it off in a period, for the four kinds of cell in the order of `Terms`,
+/// What the system costs with a unit off in a period; by how much more with it on, for the four kinds of cell in the order of `Terms`;
 /// and what the unit gives then where no cap is in the way.
 #[derive(Clone, Copy, Debug)]
 pub(crate) struct Cells {
+    pub off: i64,
     pub plain: i64,
     pub start: i64,
     pub stop: i64,
@@ -17,12 +18,28 @@ pub(crate) struct Cells {
 
 /// No difference.
 pub(crate) const SAME: Cells = Cells {
+    off: 0,
     plain: 0,
     start: 0,
     stop: 0,
     both: 0,
     power: 0,
 };
+
+/// The cells of a unit as they were reckoned last, with the key of the period without it.
+#[derive(Clone, Copy, Debug)]
+pub(crate) struct Known {
+    pub key: u64,
+    pub cells: Cells,
+}
+
+pub(crate) const UNKNOWN: Known = Known {
+    key: 0,
+    cells: SAME,
+};
+
+/// For so many contents of a period a unit's cells may be known.
+pub(crate) const WAYS: usize = 2;
 
 /// The cells of a unit that was taken out of the period.
 pub(crate) fn cells_of(market: &Market, period: &Period, unit: &Unit) -> Cells {
@@ -38,6 +55,7 @@ pub(crate) fn cells_of(market: &Market, period: &Period, unit: &Unit) -> Cells {
         }
     };
     Cells {
+        off,
         plain: on,
         start: other(unit.limits(true, false)),
         stop: other(unit.limits(false, true)),

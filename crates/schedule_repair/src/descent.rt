@@ -1,6 +1,6 @@
 //! The search for a cheap schedule: commitments rounded at several thresholds, each improved unit by unit, and kicks of the best.
 
-ghost use Rattle.std.specs.Prelude.{◌≡◌, IfOk};
+ghost use Rattle.std.specs.Prelude.{IfOk};
 ghost use Rattle.uc_model.specs.Limits.{IsLawfulInstance};
 ghost use Rattle.uc_model.specs.declared.instance.Instance.{Instance};
 ghost use Rattle.schedule_repair.specs.Accepted.{IsAcceptedIfFound};
@@ -14,7 +14,6 @@ use crate::rounding::round;
 use dual_model::Table;
 use std::alloc::Global;
 use uc_model::{Instance, NoMemory, Printed};
-use unit_path::Scratch;
 
 /// A unit's share has to be above a threshold to count as on, in parts of 2^16: a fifth, a half, a twentieth and a thousandth, in
 /// this order.
@@ -47,22 +46,12 @@ pub fn repair(
     requires lawful { IsLawfulInstance instance.now }
     ensures accepted { IfOk result (IsAcceptedIfFound instance.now) }
 {
-    let mut scratch = Scratch::new(alloc, instance.periods as usize)?;
     let mut best = None;
     let mut left = moves;
     room.kept.cost = i64::MAX;
     for threshold in THRESHOLDS {
         if moves.saturating_sub(left) < FEW_MOVES || !is_enough(&best, enough) {
-            let found = descent(
-                alloc,
-                &mut scratch,
-                room,
-                instance,
-                table,
-                shares,
-                threshold,
-                &mut left,
-            )?;
+            let found = descent(alloc, room, instance, table, shares, threshold, &mut left)?;
             best = cheaper(best, found);
         }
     }
@@ -70,7 +59,7 @@ pub fn repair(
         return Ok(best);
     }
     let aim = aim(room.kept.cost, enough);
-    kick(alloc, &mut scratch, room, instance, table, left, aim)?;
+    kick(room, instance, table, left, aim)?;
     Ok(cheaper(best, offer(alloc, room, instance)?))
 }
 
@@ -91,7 +80,6 @@ fn aim(kept: i64, enough: i64) -> i64 {
 // The schedule that a descent from a threshold finds, which is kept if it is the cheapest so far.
 fn descent(
     alloc: Global,
-    scratch: &mut Scratch,
     room: &mut Repair,
     instance: &Instance,
     table: &Table,
@@ -100,26 +88,16 @@ fn descent(
     left: &mut u32,
 ) -> Result<Option<(Printed, i64)>, NoMemory>
     requires lawful { IsLawfulInstance instance.now }
-    requires scratch { scratch.old ≡ instance.now.periods }
-    ensures scratch { scratch.new ≡ scratch.old }
     ensures accepted { IfOk result (IsAcceptedIfFound instance.now) }
 {
-    let rounded = round(
-        alloc,
-        scratch,
-        &room.plant,
-        &mut room.state,
-        instance,
-        shares,
-        threshold,
-    )?;
+    let rounded = round(&room.plant, &mut room.state, shares, threshold);
     if !rounded || *left == 0 {
         return Ok(None);
     }
     room.state.load(&room.plant, instance.periods);
-    descend(alloc, scratch, room, instance, table, left)?;
+    descend(room, instance, table, left)?;
     let found = offer(alloc, room, instance)?;
-    room.kept.keep(&room.plant, &room.state, instance);
+    room.kept.keep(&room.plant, &mut room.state, instance);
     Ok(found)
 }
 
@@ -153,24 +131,20 @@ fn cheaper(first: Option<(Printed, i64)>, second: Option<(Printed, i64)>) -> Opt
 
 // Improves all units in passes until none gains.
 fn descend(
-    alloc: Global,
-    scratch: &mut Scratch,
     room: &mut Repair,
     instance: &Instance,
     table: &Table,
     left: &mut u32,
 ) -> Result<(), NoMemory>
     requires lawful { IsLawfulInstance instance.now }
-    requires scratch { scratch.old ≡ instance.now.periods }
-    ensures { scratch.new ≡ scratch.old }
 {
     set_soft_prices(&mut room.state.periods, &room.plant.market, table);
     for _ in 0..SOFT_PASSES {
-        pass(alloc, scratch, room, instance, Units::All, left)?;
+        pass(room, instance, Units::All, left)?;
     }
     set_full_prices(&mut room.state.periods, &room.plant.market);
     for _ in 0..HARD_PASSES {
-        if !pass(alloc, scratch, room, instance, Units::All, left)? {
+        if !pass(room, instance, Units::All, left)? {
             break;
         }
     }

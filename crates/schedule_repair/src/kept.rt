@@ -3,7 +3,7 @@
 ghost use Rattle.uc_model.specs.Limits.{IsLawfulInstance};
 
 use crate::moves::start_cost;
-use crate::system::{Plant, State, add_all, total};
+use crate::system::{Plant, State, copy_row, exchange, total};
 use crate::unit::unit_at;
 use crate::window::Window;
 use std::alloc::Global;
@@ -33,7 +33,7 @@ impl Kept {
     }
 
     /// Keeps the state if it is cheaper than what is kept, and tells whether.
-    pub(crate) fn keep(&mut self, plant: &Plant, state: &State, instance: &Instance) -> bool
+    pub(crate) fn keep(&mut self, plant: &Plant, state: &mut State, instance: &Instance) -> bool
         requires lawful { IsLawfulInstance instance.now }
     {
         let cost = cost_of_state(plant, state, instance);
@@ -49,16 +49,18 @@ impl Kept {
     /// Makes the state what is kept.
     pub(crate) fn restore(&self, plant: &Plant, state: &mut State) {
         copy_patterns(&self.patterns, &mut state.patterns);
-        copy_rows(&self.rows, &mut state.rows);
-        add_all(plant, &mut state.periods, &state.rows);
+        let units = plant.units.iter().zip(&self.rows);
+        for ((unit, kept), row) in units.zip(state.rows.iter_mut()) {
+            exchange(&plant.market, &mut state.periods, unit, row, kept);
+        }
     }
 }
 
 // What a state costs, with its starts.
-fn cost_of_state(plant: &Plant, state: &State, instance: &Instance) -> i64
+fn cost_of_state(plant: &Plant, state: &mut State, instance: &Instance) -> i64
     requires lawful { IsLawfulInstance instance.now }
 {
-    let mut cost = total(&plant.market, &state.periods);
+    let mut cost = total(&plant.market, &mut state.periods);
     for (g, pattern) in state.patterns.iter().enumerate() {
         if let Some(unit) = unit_at(instance, g) {
             cost = cost.saturating_add(start_cost(unit, pattern, instance.periods));
@@ -75,8 +77,6 @@ fn copy_patterns(from: &[Pattern], to: &mut [Pattern]) {
 
 fn copy_rows(from: &[Vec<Window>], to: &mut [Vec<Window>]) {
     for (copies, row) in to.iter_mut().zip(from) {
-        for (copy, window) in copies.iter_mut().zip(row) {
-            *copy = *window;
-        }
+        copy_row(row, copies);
     }
 }

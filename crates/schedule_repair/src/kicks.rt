@@ -1,6 +1,5 @@
 //! A kick: the best state is left by a turn that costs little, and improved anew.
 
-ghost use Rattle.std.specs.Prelude.{◌≡◌};
 ghost use Rattle.uc_model.specs.Limits.{IsLawfulInstance};
 
 use crate::chance::CHANCES;
@@ -8,9 +7,7 @@ use crate::moves::improve;
 use crate::passes::{Units, pass, set_full_prices, set_soft_prices};
 use crate::room::Repair;
 use dual_model::{Fix, Table};
-use std::alloc::Global;
 use uc_model::{Instance, NoMemory};
-use unit_path::Scratch;
 
 /// The most passes of a kick in which missing reserve has its full price.
 const PASSES: u32 = 2;
@@ -21,7 +18,7 @@ const SPAN: i64 = 200;
 /// So many of `CHANCES` kicks begin with missing reserve cheap: three of four.
 const SOFT_KICKS: u64 = CHANCES / 4 * 3;
 
-/// After so many kicks the turns are listed anew.
+/// After so many kicks the turns are listed anew, if the best state is another one then.
 const KICKS: u32 = 500;
 
 /// So many searches of a pattern count as one move where turns are listed, since the rest of a move is shared there.
@@ -29,8 +26,6 @@ const SEARCHES: usize = 4;
 
 /// Kicks the best state as long as moves are left and it costs more than the aim. The only error is `NoMemory`.
 pub(crate) fn kick(
-    alloc: Global,
-    scratch: &mut Scratch,
     room: &mut Repair,
     instance: &Instance,
     table: &Table,
@@ -38,42 +33,34 @@ pub(crate) fn kick(
     aim: i64,
 ) -> Result<(), NoMemory>
     requires lawful { IsLawfulInstance instance.now }
-    requires scratch { scratch.old ≡ instance.now.periods }
-    ensures { scratch.new ≡ scratch.old }
 {
     let mut left = moves;
+    let mut listed = i64::MAX;
     room.kept.restore(&room.plant, &mut room.state);
     for number in 0..moves {
-        if number % KICKS == 0 {
-            list_turns(alloc, scratch, room, instance, &mut left)?;
+        if number % KICKS == 0 && (number == 0 || room.kept.cost < listed) {
+            list_turns(room, instance, &mut left)?;
+            listed = room.kept.cost;
         }
         if left == 0 || room.kept.cost <= aim {
             break;
         }
-        kick_once(alloc, scratch, room, instance, table, &mut left)?;
+        kick_once(room, instance, table, &mut left)?;
     }
     Ok(())
 }
 
 // Lists the turns that cost little, if enough moves are left for the search of a pattern in each cell.
-fn list_turns(
-    alloc: Global,
-    scratch: &mut Scratch,
-    room: &mut Repair,
-    instance: &Instance,
-    left: &mut u32,
-) -> Result<(), NoMemory>
+fn list_turns(room: &mut Repair, instance: &Instance, left: &mut u32) -> Result<(), NoMemory>
     requires lawful { IsLawfulInstance instance.now }
-    requires scratch { scratch.old ≡ instance.now.periods }
-    ensures { scratch.new ≡ scratch.old }
 {
     let cells = room.visits.len().saturating_mul(instance.periods as usize);
     if !pay(left, cells / SEARCHES) {
         return Ok(());
     }
-    let most = i128::from(room.kept.cost / SPAN).saturating_abs();
+    let most = (room.kept.cost / SPAN).saturating_abs();
     let turns = &mut room.turns;
-    turns.list(alloc, scratch, &room.plant, &mut room.state, instance, most)
+    turns.list(&room.plant, &mut room.state, instance.periods, most)
 }
 
 // Takes so many moves where as many are left, and else all that are; and tells which.
@@ -92,16 +79,12 @@ fn pay(left: &mut u32, moves: usize) -> bool {
 
 // Turns a cell, improves the other units that have turns, and then the unit of the cell too; and goes back if that is no cheaper.
 fn kick_once(
-    alloc: Global,
-    scratch: &mut Scratch,
     room: &mut Repair,
     instance: &Instance,
     table: &Table,
     left: &mut u32,
 ) -> Result<(), NoMemory>
     requires lawful { IsLawfulInstance instance.now }
-    requires scratch { scratch.old ≡ instance.now.periods }
-    ensures { scratch.new ≡ scratch.old }
 {
     let Some(turn) = room.turns.choose(&mut room.chance) else {
         *left = 0;
@@ -111,23 +94,16 @@ fn kick_once(
     if room.chance.next() < SOFT_KICKS {
         set_soft_prices(&mut room.state.periods, &room.plant.market, table);
     }
-    turn_unit(alloc, scratch, room, instance, turn.unit, Some(&turn.fix))?;
-    pass(
-        alloc,
-        scratch,
-        room,
-        instance,
-        Units::ListedBut(turn.unit),
-        left,
-    )?;
-    turn_unit(alloc, scratch, room, instance, turn.unit, None)?;
+    turn_unit(room, instance, turn.unit, Some(&turn.fix))?;
+    pass(room, instance, Units::ListedBut(turn.unit), left)?;
+    turn_unit(room, instance, turn.unit, None)?;
     set_full_prices(&mut room.state.periods, &room.plant.market);
     for _ in 0..PASSES {
-        if !pass(alloc, scratch, room, instance, Units::Listed, left)? {
+        if !pass(room, instance, Units::Listed, left)? {
             break;
         }
     }
-    if !room.kept.keep(&room.plant, &room.state, instance) {
+    if !room.kept.keep(&room.plant, &mut room.state, instance) {
         room.kept.restore(&room.plant, &mut room.state);
     }
     Ok(())
@@ -135,25 +111,13 @@ fn kick_once(
 
 // Improves a unit, under a fix that turns it.
 fn turn_unit(
-    alloc: Global,
-    scratch: &mut Scratch,
     room: &mut Repair,
     instance: &Instance,
     g: usize,
     turned: Option<&Fix>,
 ) -> Result<(), NoMemory>
     requires lawful { IsLawfulInstance instance.now }
-    requires scratch { scratch.old ≡ instance.now.periods }
-    ensures { scratch.new ≡ scratch.old }
 {
-    improve(
-        alloc,
-        scratch,
-        &room.plant,
-        &mut room.state,
-        instance,
-        g,
-        turned,
-    )?;
+    improve(&room.plant, &mut room.state, instance, g, turned)?;
     Ok(())
 }

@@ -3,10 +3,10 @@
 
 mod accepted;
 mod beside;
-mod caps;
 mod cells;
 mod chance;
 mod convex;
+mod course;
 mod descent;
 mod kept;
 mod kicks;
@@ -19,8 +19,8 @@ mod printing;
 mod room;
 mod rounding;
 mod system;
-mod terms;
 mod trajectory;
+mod tried;
 mod turns;
 mod unit;
 mod window;

@@ -1,26 +1,23 @@
 //! A move: one unit's pattern is made the best beside those of all others.
 
-ghost use Rattle.std.specs.Prelude.{◌≡◌};
 ghost use Rattle.uc_model.specs.Limits.{IsLawfulInstance, IsLawfulThermal};
 
 use crate::beside::Beside;
-use crate::cells::cells_of;
-use crate::patterns::{best_pattern, is_same};
-use crate::system::{Plant, State, Trial, shift, total};
-use crate::unit::{is_on, undecided, unit_at};
+use crate::cells::{Cells, Known, WAYS, cells_of};
+use crate::merit::Market;
+use crate::patterns::is_same;
+use crate::period::Period;
+use crate::system::{Plant, State, Trial, copy_row, exchange, shift, total};
+use crate::unit::{Unit, is_on, undecided, unit_at};
 use crate::window::{Window, keep_ramps, narrow, open};
 use dual_model::Fix;
 use start_costs::least_allowed;
-use std::alloc::Global;
 use uc_model::limits::MAX_PERIODS;
 use uc_model::{Instance, NoMemory, Pattern, Thermal};
-use unit_path::Scratch;
 
 /// Makes unit g's pattern the best beside the others, or the best of those that are as `turned` decides, whatever it costs; and tells
 /// whether the pattern has changed. The only error is `NoMemory`.
 pub(crate) fn improve(
-    alloc: Global,
-    scratch: &mut Scratch,
     plant: &Plant,
     state: &mut State,
     instance: &Instance,
@@ -28,17 +25,15 @@ pub(crate) fn improve(
     turned: Option<&Fix>,
 ) -> Result<bool, NoMemory>
     requires lawful { IsLawfulInstance instance.now }
-    requires scratch { scratch.old ≡ instance.now.periods }
-    ensures { scratch.new ≡ scratch.old }
 {
-    let Some(thermal) = unit_at(instance, g) else {
+    let (Some(thermal), Some(unit)) = (unit_at(instance, g), plant.units.get(g)) else {
         return Ok(false);
     };
     let most = most_cost(plant, state, g, turned);
-    take_away(plant, state, g);
+    fill_cells(plant, state, g);
     let fix = fix_of(plant, g, turned);
     let count = instance.periods;
-    let best = best_pattern(alloc, scratch, thermal, &fix, &state.cells, count, false)?;
+    let best = state.course.best(unit, &fix, &state.cells, false);
     let changed = match best {
         Some((_, pattern)) => put_on(plant, state, thermal, g, count, &pattern, most)?,
         None => false,
@@ -49,9 +44,12 @@ pub(crate) fn improve(
 
 // What the system may cost with new outputs of a unit whose ramps can bind, without its starts: less than it does, or anything where
 // the unit has to turn.
-fn most_cost(plant: &Plant, state: &State, g: usize, turned: Option<&Fix>) -> i64 {
+fn most_cost(plant: &Plant, state: &mut State, g: usize, turned: Option<&Fix>) -> i64 {
     match plant.units.get(g) {
-        Some(unit) if unit.is_ramped && turned.is_none() => total(&plant.market, &state.periods),
+        Some(unit) if unit.is_ramped && turned.is_none() => total(
+            &plant.market,
+            &mut state.periods,
+        ),
         _ => i64::MAX,
     }
 }
@@ -65,20 +63,57 @@ fn fix_of(plant: &Plant, g: usize, turned: Option<&Fix>) -> Fix {
     }
 }
 
-/// Takes unit g away from the others, and fills its cells.
-pub(crate) fn take_away(plant: &Plant, state: &mut State, g: usize) {
-    if let (Some(unit), Some(row)) = (plant.units.get(g), state.rows.get(g)) {
-        shift(&plant.market, &mut state.periods, unit, row, -1);
-        for (cell, period) in state.cells.iter_mut().zip(&state.periods) {
-            *cell = cells_of(&plant.market, period, unit);
+/// Fills unit g's cells beside the others. A unit whose ramps can bind is taken away from them.
+pub(crate) fn fill_cells(plant: &Plant, state: &mut State, g: usize) {
+    if let (Some(unit), Some(row), Some(known)) = (
+        plant.units.get(g),
+        state.rows.get(g),
+        state.known.get_mut(g),
+    ) {
+        let cells = state.cells.iter_mut().zip(known.chunks_exact_mut(WAYS));
+        let periods = state.periods.iter_mut().zip(row);
+        for ((period, window), (cell, known)) in periods.zip(cells) {
+            *cell = cells_beside(&plant.market, period, unit, window, known);
         }
     }
 }
 
-/// Puts unit g back into its windows.
+// The cells of a unit in its window, which are reckoned only where they aren't known. A unit whose ramps can bind is taken away.
+fn cells_beside(
+    market: &Market,
+    period: &mut Period,
+    unit: &Unit,
+    window: &Window,
+    known: &mut [Known],
+) -> Cells {
+    let key = period.key_without(unit, window);
+    let way = (key >> 32) as usize % WAYS;
+    if unit.is_ramped {
+        period.shift(market, unit, window, -1);
+    }
+    match known.get(way) {
+        Some(known) if known.key == key => return known.cells,
+        _ => (),
+    }
+    if !unit.is_ramped {
+        period.shift(market, unit, window, -1);
+    }
+    let cells = cells_of(market, period, unit);
+    if !unit.is_ramped {
+        period.shift(market, unit, window, 1);
+    }
+    if let Some(known) = known.get_mut(way) {
+        *known = Known { key, cells };
+    }
+    cells
+}
+
+/// Puts unit g back into its windows, if it is away.
 pub(crate) fn put_back(plant: &Plant, state: &mut State, g: usize) {
     if let (Some(unit), Some(row)) = (plant.units.get(g), state.rows.get(g)) {
-        shift(&plant.market, &mut state.periods, unit, row, 1);
+        if unit.is_ramped {
+            shift(&plant.market, &mut state.periods, unit, row, 1);
+        }
     }
 }
 
@@ -107,8 +142,18 @@ fn put_on(
     let before = *own;
     let same = is_same(&before, pattern);
     if !unit.is_ramped {
-        *own = *pattern;
-        open(unit, own, count, row);
+        if !same {
+            *own = *pattern;
+            copy_row(row, &mut state.trial.row);
+            open(unit, own, count, &mut state.trial.row);
+            exchange(
+                &plant.market,
+                &mut state.periods,
+                unit,
+                row,
+                &state.trial.row,
+            );
+        }
         return Ok(!same);
     }
     let beside = Beside {
@@ -148,7 +193,7 @@ fn take_first(
 ) -> Result<(), NoMemory> {
     for (pattern, starts) in choices.iter().skip(from) {
         track(beside, pattern, trial)?;
-        if beside.cost_of(&trial.row).saturating_add(*starts) < most {
+        if beside.is_below(&trial.row, most.saturating_sub(*starts)) {
             *own = *pattern;
             narrow(beside.unit, beside.periods, &mut trial.row);
             for (window, tried) in row.iter_mut().zip(&trial.row) {

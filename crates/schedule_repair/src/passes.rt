@@ -1,6 +1,5 @@
 //! Passes over the units, and what missing reserve costs in them.
 
-ghost use Rattle.std.specs.Prelude.{◌≡◌};
 ghost use Rattle.uc_model.specs.Limits.{IsLawfulInstance};
 
 use crate::chance::Chance;
@@ -8,11 +7,10 @@ use crate::merit::{Market, PART, rate_within};
 use crate::moves::improve;
 use crate::period::Period;
 use crate::room::{Repair, Visit};
+use crate::tried::mark_of_try;
 use crate::turns::Turns;
 use dual_model::Table;
-use std::alloc::Global;
 use uc_model::{Instance, NoMemory};
-use unit_path::Scratch;
 
 /// Missing reserve costs at least so many hundredths of the steepest segment where it is cheap.
 const SOFT_PRICE: i64 = 17;
@@ -28,31 +26,23 @@ pub(crate) enum Units {
 /// Improves each of the units once, in an order by chance, as long as moves are left, and centres the windows of those whose ramps can
 /// bind; and tells whether a pattern has changed. The only error is `NoMemory`.
 pub(crate) fn pass(
-    alloc: Global,
-    scratch: &mut Scratch,
     room: &mut Repair,
     instance: &Instance,
     units: Units,
     left: &mut u32,
 ) -> Result<bool, NoMemory>
     requires lawful { IsLawfulInstance instance.now }
-    requires scratch { scratch.old ≡ instance.now.periods }
-    ensures { scratch.new ≡ scratch.old }
 {
     shuffle(&mut room.visits, &mut room.chance)?;
     let mut has_changed = false;
     for visit in &room.visits {
-        if *left > 0 && is_visited(&room.turns, units, visit.unit) {
+        if *left > 0
+            && is_visited(&room.turns, units, visit.unit)
+            && !room.tried.has(mark_of_try(&room.state.periods, visit.unit))
+        {
             *left = left.saturating_sub(1);
-            let changed = improve(
-                alloc,
-                scratch,
-                &room.plant,
-                &mut room.state,
-                instance,
-                visit.unit,
-                None,
-            )?;
+            let changed = improve(&room.plant, &mut room.state, instance, visit.unit, None)?;
+            room.tried.put(mark_of_try(&room.state.periods, visit.unit));
             has_changed = has_changed || changed;
         }
     }

@@ -17,7 +17,9 @@ const EMPTY: Node = Node { watts: 0, cost: 0 };
 
 /// A period. Its nodes are an index tree over the places in the order of merit, of the watts inside the windows of the on units; `watts`
 /// is their sum. `base` is what the low ends cost, `floor` what they give with the minimums, `power` without them, and `heads` the sum
-/// of the heads. Demand less the most that renewable units give is `needed`, less the least `bearable`.
+/// of the heads. Demand less the most that renewable units give is `needed`, less the least `bearable`. `mark` is the sum of the marks
+/// of the units in their windows, so that equal marks tell of equal contents, and `known` the key at which the cost was reckoned last,
+/// with this cost.
 #[derive(Debug, Drop)]
 pub(crate) struct Period {
     nodes: Vec<Node>,
@@ -26,6 +28,8 @@ pub(crate) struct Period {
     floor: i64,
     power: i64,
     heads: i64,
+    mark: u64,
+    known: (u64, i64),
     pub needed: i64,
     pub bearable: i64,
     pub reserve: i64,
@@ -56,6 +60,25 @@ pub(crate) const NOTHING: Addition = Addition {
     head: 0,
 };
 
+// What a unit in its window adds to the mark of its period.
+fn mark_of(unit: &Unit, window: &Window) -> u64 {
+    if !window.on {
+        return 0;
+    }
+    let mut mark = unit.salt;
+    for number in [window.low, window.high, window.head] {
+        mark = mixed(mark, number.unsigned_abs());
+    }
+    mark
+}
+
+/// A mark with a number mixed into it.
+pub(crate) fn mixed(mark: u64, number: u64) -> u64 {
+    // The golden ratio in 64 binary digits.
+    let mark = (mark ^ number).wrapping_mul(0x9E37_79B9_7F4A_7C15);
+    mark ^ (mark >> 29)
+}
+
 impl Period {
     /// A period without units, for so many segments. The only error is `NoMemory`.
     pub(crate) fn new(alloc: Global, segments: usize) -> Result<Period, NoMemory> {
@@ -67,6 +90,8 @@ impl Period {
             floor: 0,
             power: 0,
             heads: 0,
+            mark: 0,
+            known: (0, 0),
             needed: 0,
             bearable: 0,
             reserve: 0,
@@ -85,6 +110,7 @@ impl Period {
         self.floor = 0;
         self.power = 0;
         self.heads = 0;
+        self.mark = 0;
     }
 
     /// Adds a unit in its window where `sign` is 1, and takes it away where it is -1.
@@ -108,6 +134,12 @@ impl Period {
             }
             from = to;
         }
+        let mark = mark_of(unit, window);
+        self.mark = if sign < 0 {
+            self.mark.wrapping_sub(mark)
+        } else {
+            self.mark.wrapping_add(mark)
+        };
         let floor = unit.minimum.saturating_add(window.low);
         self.base = self.base.saturating_add(base.saturating_mul(sign));
         self.floor = self.floor.saturating_add(floor.saturating_mul(sign));
@@ -154,11 +186,11 @@ impl Period {
         for stride in &market.strides {
             let next = place.saturating_add(*stride);
             if let Some(node) = self.nodes.get(next) {
-                if node.watts <= left {
-                    left = left.saturating_sub(node.watts);
-                    cost = cost.saturating_add(node.cost);
-                    place = next;
-                }
+                // Without a branch, which would be guessed wrong half the time.
+                let is_taken = node.watts <= left;
+                left = left.wrapping_sub(if is_taken { node.watts } else { 0 });
+                cost = cost.wrapping_add(if is_taken { node.cost } else { 0 });
+                place = if is_taken { next } else { place };
             }
         }
         let rate = match market.rates.get(place) {
@@ -188,6 +220,27 @@ impl Period {
             .saturating_add(self.fill(market, needed).cost)
             .saturating_add(cost_of(market.scarcity, surplus))
             .saturating_add(cost_of(self.reserve_rate, short))
+    }
+
+    /// The mark of what is in the period and of the price of reserve.
+    pub(crate) fn key(&self) -> u64 {
+        self.mark
+            .wrapping_add(self.reserve_rate.unsigned_abs())
+            .wrapping_add(1)
+    }
+
+    /// The key of the period without a unit in its window.
+    pub(crate) fn key_without(&self, unit: &Unit, window: &Window) -> u64 {
+        self.key().wrapping_sub(mark_of(unit, window))
+    }
+
+    /// What the period costs.
+    pub(crate) fn cost(&mut self, market: &Market) -> i64 {
+        let key = self.key();
+        if self.known.0 != key {
+            self.known = (key, self.cost_with(market, &NOTHING));
+        }
+        self.known.1
     }
 
     /// Whether output or reserve is lacking with another unit, or output is too much.

@@ -1,6 +1,5 @@
 //! The schedule of a state, in whole watts.
 
-ghost use Rattle.std.specs.Prelude.{◌≡◌};
 ghost use Rattle.uc_model.specs.Limits.{IsLawfulInstance, IsLawfulThermal};
 
 use crate::system::{Plant, State, at};

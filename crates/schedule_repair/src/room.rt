@@ -1,11 +1,11 @@
 //! What repairs share.
 
-ghost use Rattle.std.specs.Prelude.{◌≡◌};
 ghost use Rattle.uc_model.specs.Limits.{IsLawfulInstance};
 
 use crate::chance::Chance;
 use crate::kept::Kept;
 use crate::system::{Plant, State};
+use crate::tried::Tried;
 use crate::turns::Turns;
 use std::alloc::Global;
 use uc_model::{Instance, NoMemory};
@@ -18,6 +18,7 @@ pub struct Repair {
     pub(crate) chance: Chance,
     pub(crate) visits: Vec<Visit>,
     pub(crate) turns: Turns,
+    pub(crate) tried: Tried,
     pub(crate) kept: Kept,
 }
 
@@ -40,6 +41,7 @@ impl Repair {
             visits.push(Visit { key: 0, unit })?;
         }
         Ok(Repair {
+            tried: Tried::new(alloc)?,
             turns: Turns::new(alloc, plant.units.len())?,
             kept: Kept::new(alloc, &state)?,
             chance: Chance::new(),

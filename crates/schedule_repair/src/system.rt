@@ -1,16 +1,20 @@
 //! The units of an instance, and their state while a schedule is sought.
 
-ghost use Rattle.std.specs.Prelude.{◌≡◌, IfOk};
+ghost use Rattle.std.specs.Prelude.{IfOk};
 ghost use Rattle.uc_model.specs.Limits.{IsLawfulInstance};
 
-use crate::cells::{Cells, SAME};
+use crate::cells::{Cells, Known, SAME, UNKNOWN, WAYS};
+use crate::course::Course;
 use crate::merit::{Market, market_of};
-use crate::period::{Fill, NOTHING, Period};
+use crate::period::{Fill, NOTHING, Period, mixed};
 use crate::trajectory::Trajectory;
 use crate::unit::{Unit, unit_at};
 use crate::window::{IDLE, Window, keep_ramps, narrow, open};
 use std::alloc::Global;
 use uc_model::{Instance, NoMemory, Pattern};
+
+/// What the salts of units are made of: any odd number.
+const SALT: u64 = 0x2545_F491_4F6C_DD1D;
 
 /// The units, the order of merit of their segments, and whether a unit's ramps can bind.
 #[derive(Debug, Drop)]
@@ -20,14 +24,17 @@ pub(crate) struct Plant {
     pub is_ramped: bool,
 }
 
-/// The periods; each unit's pattern, and its windows; and memory for one unit's cells and windows and for how far periods are filled.
+/// The periods; each unit's pattern, its windows, and what is known of its cells; and memory for one unit's cells, windows and pattern,
+/// and for how far periods are filled.
 #[derive(Debug, Drop)]
 pub(crate) struct State {
     pub periods: Vec<Period>,
     pub patterns: Vec<Pattern>,
     pub rows: Vec<Vec<Window>>,
     pub cells: Vec<Cells>,
+    pub known: Vec<Vec<Known>>,
     pub trial: Trial,
+    pub course: Course,
     pub fills: Vec<Fill>,
 }
 
@@ -46,7 +53,9 @@ impl Plant {
         let mut units = Vec::new(alloc);
         for g in 0..instance.thermal.as_slice().len() {
             if let Some(unit) = unit_at(instance, g) {
-                units.push(Unit::of(alloc, unit, instance.periods)?)?;
+                let mut own = Unit::of(alloc, unit, instance.periods)?;
+                own.salt = mixed(SALT, g as u64);
+                units.push(own)?;
             }
         }
         let market = market_of(alloc, &mut units)?;
@@ -69,7 +78,9 @@ impl State {
         let count = instance.periods as usize;
         let mut patterns = Vec::new(alloc);
         let mut rows = Vec::new(alloc);
+        let mut known = Vec::new(alloc);
         for _ in &plant.units {
+            known.push(vec![in alloc; UNKNOWN; count.saturating_mul(WAYS)]?)?;
             patterns.push(Pattern::all_off())?;
             rows.push(vec![in alloc; IDLE; count]?)?;
         }
@@ -77,7 +88,9 @@ impl State {
             periods: periods_of(alloc, instance, &plant.market)?,
             patterns,
             rows,
+            known,
             cells: vec![in alloc; SAME; count]?,
+            course: Course::new(alloc, count)?,
             trial: Trial {
                 row: vec![in alloc; IDLE; count]?,
                 trajectory: Trajectory::new(alloc),
@@ -109,14 +122,16 @@ impl State {
         }
         let units = plant.units.iter().zip(&self.patterns);
         for ((unit, pattern), row) in units.zip(self.rows.iter_mut()) {
-            center(unit, row, &self.fills);
-            open(unit, pattern, count, row);
+            let own = &mut self.trial.row;
+            copy_row(row, own);
+            center(unit, own, &self.fills);
+            open(unit, pattern, count, own);
             if unit.is_ramped {
-                keep_ramps(unit, row);
-                narrow(unit, &self.periods, row);
+                keep_ramps(unit, own);
+                narrow(unit, &self.periods, own);
             }
+            exchange(&plant.market, &mut self.periods, unit, row, own);
         }
-        add_all(plant, &mut self.periods, &self.rows);
     }
 }
 
@@ -160,10 +175,10 @@ pub(crate) fn at(numbers: &[i64], i: usize) -> i64 {
 }
 
 /// What all periods cost, starts left out.
-pub(crate) fn total(market: &Market, periods: &[Period]) -> i64 {
+pub(crate) fn total(market: &Market, periods: &mut [Period]) -> i64 {
     let mut total: i64 = 0;
-    for period in periods {
-        total = total.saturating_add(period.cost_with(market, &NOTHING));
+    for period in periods.iter_mut() {
+        total = total.saturating_add(period.cost(market));
     }
     total
 }
@@ -178,6 +193,38 @@ pub(crate) fn shift(
 ) {
     for (period, window) in periods.iter_mut().zip(row) {
         period.shift(market, unit, window, sign);
+    }
+}
+
+/// Moves a unit from its windows to others, in the periods too.
+pub(crate) fn exchange(
+    market: &Market,
+    periods: &mut [Period],
+    unit: &Unit,
+    row: &mut [Window],
+    to: &[Window],
+) {
+    for (period, (own, window)) in periods.iter_mut().zip(row.iter_mut().zip(to)) {
+        if !is_alike(own, window) {
+            period.shift(market, unit, own, -1);
+            period.shift(market, unit, window, 1);
+        }
+        *own = *window;
+    }
+}
+
+// Whether what two windows leave is the same.
+fn is_alike(first: &Window, second: &Window) -> bool {
+    first.on == second.on
+        && first.low == second.low
+        && first.high == second.high
+        && first.head == second.head
+}
+
+/// Copies windows.
+pub(crate) fn copy_row(from: &[Window], to: &mut [Window]) {
+    for (copy, window) in to.iter_mut().zip(from) {
+        *copy = *window;
     }
 }
 

@@ -7,12 +7,15 @@ use crate::merit::{PART, Segment, cost_of, rate_within, segments_of};
 use crate::period::Addition;
 use cost_curves::Curve;
 use dual_model::Fix;
+use start_costs::sigma;
 use std::alloc::Global;
 use uc_model::limits::MAX_PERIODS;
 use uc_model::{Instance, NoMemory, Pattern, Thermal};
 
 /// A thermal unit. Outputs are watts above its minimum: those that its caps leave, `full` beside no start or stop; how far it may rise
-/// and fall in an hour; and what it gave before the first period. `fix` keeps it on as long as it can't fall to where it may stop.
+/// and fall in an hour; and what it gave before the first period. `fix` keeps it on as long as it can't fall to where it may stop. Its
+/// minimum times are `up` and `down`, and `left` is what is left of one before the first period. `bases` is what a start in each period
+/// costs without a stop before it, and `warm` what it may cost after one. `salt` tells its marks from those of other units.
 #[derive(Debug, Drop)]
 pub(crate) struct Unit {
     pub minimum: i64,
@@ -27,7 +30,23 @@ pub(crate) struct Unit {
     pub before: i64,
     pub was_on: bool,
     pub is_ramped: bool,
+    pub salt: u64,
     pub fix: Fix,
+    pub must_run: bool,
+    pub up: usize,
+    pub down: usize,
+    pub left: usize,
+    pub may_stop_first: bool,
+    pub is_too_high: bool,
+    pub bases: Vec<i64>,
+    pub warm: Vec<Warm>,
+}
+
+/// A start less than `lag` periods after a stop costs so much.
+#[derive(Clone, Copy, Debug)]
+pub(crate) struct Warm {
+    pub lag: usize,
+    pub cost: i64,
 }
 
 /// The most output of a cell, and the most output and reserve together.
@@ -61,7 +80,16 @@ impl Unit {
             before: output_before(unit),
             was_on: unit.on0,
             is_ramped: false,
+            salt: 0,
             fix: undecided(),
+            must_run: unit.must_run,
+            up: unit.ut as usize,
+            down: unit.dt as usize,
+            left: time_left(unit) as usize,
+            may_stop_first: unit.p0 <= unit.sd,
+            is_too_high: unit.p0 > unit.pmax,
+            bases: bases(alloc, unit, periods)?,
+            warm: warm_starts(alloc, unit)?,
         };
         own.is_ramped = own.can_ramps_bind();
         own.fix = own.first_periods(periods);
@@ -137,6 +165,43 @@ impl Unit {
         }
         fix
     }
+}
+
+// How long a unit has to stay as it is initially.
+fn time_left(unit: &Thermal) -> u32 {
+    if unit.on0 {
+        unit.ut.saturating_sub(unit.ut0)
+    } else {
+        unit.dt.saturating_sub(unit.dt0)
+    }
+}
+
+// What a start costs in each period without a stop before it.
+fn bases(alloc: Global, unit: &Thermal, periods: u32) -> Result<Vec<i64>, NoMemory>
+    requires { IsLawfulThermal unit.now }
+{
+    let mut bases = Vec::new(alloc);
+    for t in 0..periods {
+        if t < MAX_PERIODS {
+            bases.push(sigma(unit, None, t as usize))?;
+        }
+    }
+    Ok(bases)
+}
+
+// What starts may cost after a stop, by how long ago it was.
+fn warm_starts(alloc: Global, unit: &Thermal) -> Result<Vec<Warm>, NoMemory> {
+    let mut warm = Vec::new(alloc);
+    let rows = unit.startup.as_slice();
+    for (row, next) in rows.iter().zip(rows.iter().skip(1)) {
+        if row.lag < next.lag {
+            warm.push(Warm {
+                lag: next.lag as usize,
+                cost: row.cost,
+            })?;
+        }
+    }
+    Ok(warm)
 }
 
 /// That nothing is decided.
