@@ -17,7 +17,7 @@ use uc_model::{Instance, NoMemory, Printed};
 
 /// A unit's share has to be above a threshold to count as on, in parts of 2^16: a fifth, a half, a twentieth and a thousandth, in
 /// this order.
-const THRESHOLDS: [i64; 4] = [13107, 32768, 3277, 66];
+pub(crate) const THRESHOLDS: [i64; 4] = [13107, 32768, 3277, 66];
 
 /// The passes in which missing reserve is cheap, and the most after them in which it has its full price.
 const SOFT_PASSES: u32 = 2;
@@ -31,9 +31,10 @@ const FEW_MOVES: u32 = 1000;
 const ROUNDING: i64 = 1 << 18;
 
 /// The cheapest schedule that so many moves find, with its cost in micro-dollars; `None` where they find none. A move is the search for
-/// one unit's best pattern. From the shares of an ascent to the table the units are put on patterns at several thresholds, and improved;
-/// what is left of the moves then goes into kicks of the best that came of it. A schedule that costs at most `enough` ends the search:
-/// there are no kicks then, and no further threshold where one takes long. The only error is `NoMemory`.
+/// one unit's best pattern. From the shares of an ascent to the table the units are put on patterns at several thresholds in the first
+/// repair of the room, and at one of them in turn in each later one, and improved; what is left of the moves then goes into kicks of the best
+/// state of all repairs. A schedule that costs at most `enough` ends the search: there are no kicks then, and no further threshold where
+/// one takes long. The only error is `NoMemory`.
 pub fn repair(
     alloc: Global,
     room: &mut Repair,
@@ -48,18 +49,21 @@ pub fn repair(
 {
     let mut best = None;
     let mut left = moves;
-    room.kept.cost = i64::MAX;
-    for threshold in THRESHOLDS {
+    let (first, count) = room.next_thresholds();
+    for threshold in THRESHOLDS.iter().skip(first).take(count) {
         if moves.saturating_sub(left) < FEW_MOVES || !is_enough(&best, enough) {
-            let found = descent(alloc, room, instance, table, shares, threshold, &mut left)?;
+            let found = descent(alloc, room, instance, table, shares, *threshold, &mut left)?;
             best = cheaper(best, found);
         }
     }
     if is_enough(&best, enough) {
         return Ok(best);
     }
-    let aim = aim(room.kept.cost, enough);
-    kick(room, instance, table, left, aim)?;
+    let before = room.kept.cost;
+    kick(room, instance, table, left, aim(before, enough))?;
+    if room.kept.cost == before {
+        return Ok(best);
+    }
     Ok(cheaper(best, offer(alloc, room, instance)?))
 }
 

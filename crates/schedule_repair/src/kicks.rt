@@ -18,9 +18,6 @@ const SPAN: i64 = 200;
 /// So many of `CHANCES` kicks begin with missing reserve cheap: three of four.
 const SOFT_KICKS: u64 = CHANCES / 4 * 3;
 
-/// After so many kicks the turns are listed anew, if the best state is another one then.
-const KICKS: u32 = 500;
-
 /// So many searches of a pattern count as one move where turns are listed, since the rest of a move is shared there.
 const SEARCHES: usize = 4;
 
@@ -35,46 +32,37 @@ pub(crate) fn kick(
     requires lawful { IsLawfulInstance instance.now }
 {
     let mut left = moves;
-    let mut listed = i64::MAX;
     room.kept.restore(&room.plant, &mut room.state);
-    for number in 0..moves {
-        if number % KICKS == 0 && (number == 0 || room.kept.cost < listed) {
-            list_turns(room, instance, &mut left)?;
-            listed = room.kept.cost;
-        }
+    for _ in 0..moves {
         if left == 0 || room.kept.cost <= aim {
             break;
+        }
+        if room.turns.are_old(room.kept.cost) {
+            list_turns(room, instance, &mut left)?;
         }
         kick_once(room, instance, table, &mut left)?;
     }
     Ok(())
 }
 
-// Lists the turns that cost little, if enough moves are left for the search of a pattern in each cell.
+// Lists the turns that cost little, for which the search of a pattern in each cell takes moves.
 fn list_turns(room: &mut Repair, instance: &Instance, left: &mut u32) -> Result<(), NoMemory>
     requires lawful { IsLawfulInstance instance.now }
 {
     let cells = room.visits.len().saturating_mul(instance.periods as usize);
-    if !pay(left, cells / SEARCHES) {
-        return Ok(());
-    }
-    let most = (room.kept.cost / SPAN).saturating_abs();
+    *left = match u32::try_from(cells / SEARCHES) {
+        Ok(moves) => left.saturating_sub(moves),
+        Err(_) => 0,
+    };
     let turns = &mut room.turns;
-    turns.list(&room.plant, &mut room.state, instance.periods, most)
-}
-
-// Takes so many moves where as many are left, and else all that are; and tells which.
-fn pay(left: &mut u32, moves: usize) -> bool {
-    match u32::try_from(moves) {
-        Ok(moves) if moves <= *left => {
-            *left = left.saturating_sub(moves);
-            true
-        }
-        _ => {
-            *left = 0;
-            false
-        }
-    }
+    let cost = room.kept.cost;
+    turns.list(
+        &room.plant,
+        &mut room.state,
+        instance.periods,
+        cost,
+        (cost / SPAN).saturating_abs(),
+    )
 }
 
 // Turns a cell, improves the other units that have turns, and then the unit of the cell too; and goes back if that is no cheaper.

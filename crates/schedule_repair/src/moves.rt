@@ -117,8 +117,8 @@ pub(crate) fn put_back(plant: &Plant, state: &mut State, g: usize) {
     }
 }
 
-// Opens the windows of unit g, which was taken away, for the pattern; where its ramps can bind only if that costs less than so much, and
-// else for the pattern so far with other outputs that do. Tells whether the pattern has changed.
+// Puts unit g on the pattern; where its ramps can bind only if that costs less than so much, and else on the pattern so far with other
+// outputs that do. Tells whether the pattern has changed.
 fn put_on(
     plant: &Plant,
     state: &mut State,
@@ -133,29 +133,18 @@ fn put_on(
     let Some(unit) = plant.units.get(g) else {
         return Ok(false);
     };
-    let Some(own) = state.patterns.get_mut(g) else {
-        return Ok(false);
-    };
-    let Some(row) = state.rows.get_mut(g) else {
+    if !unit.is_ramped {
+        return Ok(put_freely(plant, state, unit, g, count, pattern));
+    }
+    let (Some(own), Some(row)) = (state.patterns.get_mut(g), state.rows.get_mut(g)) else {
         return Ok(false);
     };
     let before = *own;
-    let same = is_same(&before, pattern);
-    if !unit.is_ramped {
-        if !same {
-            *own = *pattern;
-            copy_row(row, &mut state.trial.row);
-            open(unit, own, count, &mut state.trial.row);
-            exchange(
-                &plant.market,
-                &mut state.periods,
-                unit,
-                row,
-                &state.trial.row,
-            );
-        }
-        return Ok(!same);
-    }
+    let starts = start_cost(thermal, own, count);
+    let choices = [
+        (*pattern, start_cost(thermal, pattern, count)),
+        (before, starts),
+    ];
     let beside = Beside {
         market: &plant.market,
         periods: &state.periods,
@@ -163,22 +152,34 @@ fn put_on(
         unit,
         count,
     };
-    let starts = start_cost(thermal, own, count);
-    let choices = [
-        (*pattern, start_cost(thermal, pattern, count)),
-        (before, starts),
-    ];
+    let from = usize::from(is_same(&before, pattern));
     let most = most.saturating_add(starts);
-    take_first(
-        &beside,
-        &choices,
-        usize::from(same),
-        most,
-        own,
-        &mut state.trial,
-        row,
-    )?;
+    let trial = &mut state.trial;
+    take_first(&beside, &choices, from, most, own, trial, row)?;
     Ok(!is_same(&before, own))
+}
+
+// Puts unit g, whose ramps can't bind, on the pattern, and tells whether it is another one.
+fn put_freely(
+    plant: &Plant,
+    state: &mut State,
+    unit: &Unit,
+    g: usize,
+    count: u32,
+    pattern: &Pattern,
+) -> bool {
+    let (Some(own), Some(row)) = (state.patterns.get_mut(g), state.rows.get_mut(g)) else {
+        return false;
+    };
+    if is_same(own, pattern) {
+        return false;
+    }
+    *own = *pattern;
+    let opened = &mut state.trial.row;
+    copy_row(row, opened);
+    open(unit, own, count, opened);
+    exchange(&plant.market, &mut state.periods, unit, row, opened);
+    true
 }
 
 // Takes the first pattern from a place on that costs less than so much with its starts, and outputs that keep the ramps.

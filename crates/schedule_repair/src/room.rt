@@ -3,6 +3,7 @@
 ghost use Rattle.uc_model.specs.Limits.{IsLawfulInstance};
 
 use crate::chance::Chance;
+use crate::descent::THRESHOLDS;
 use crate::kept::Kept;
 use crate::system::{Plant, State};
 use crate::tried::Tried;
@@ -10,7 +11,7 @@ use crate::turns::Turns;
 use std::alloc::Global;
 use uc_model::{Instance, NoMemory};
 
-/// What repairs of an instance's schedules share; made once, mended by each move.
+/// What repairs of an instance's schedules share; made once, mended by each move. `repairs` counts them.
 #[derive(Debug, Drop)]
 pub struct Repair {
     pub(crate) plant: Plant,
@@ -20,6 +21,7 @@ pub struct Repair {
     pub(crate) turns: Turns,
     pub(crate) tried: Tried,
     pub(crate) kept: Kept,
+    repairs: usize,
 }
 
 /// A unit, and when it is visited in a pass.
@@ -48,6 +50,18 @@ impl Repair {
             plant,
             state,
             visits,
+            repairs: 0,
         })
+    }
+
+    /// The first threshold of the next repair and how many it has: all in the first one, and then one after another.
+    pub(crate) fn next_thresholds(&mut self) -> (usize, usize) {
+        let number = self.repairs;
+        self.repairs = number.saturating_add(1);
+        if number == 0 {
+            (0, THRESHOLDS.len())
+        } else {
+            (number % THRESHOLDS.len(), 1)
+        }
     }
 }

@@ -17,11 +17,17 @@ pub(crate) struct Turn {
     pub fix: Fix,
 }
 
-/// The turns, cheapest first, and which units have one.
+/// After so many choices the turns are listed anew, if the best state is another one then.
+const CHOICES: u32 = 500;
+
+/// The turns, cheapest first, and which units have one; the cost of the state that they were listed from, which is the greatest number
+/// before; and how often one was chosen since.
 #[derive(Debug, Drop)]
 pub(crate) struct Turns {
     turns: Vec<Turn>,
     are_listed: Vec<bool>,
+    listed_at: i64,
+    choices: u32,
 }
 
 impl Turns {
@@ -30,7 +36,14 @@ impl Turns {
         Ok(Turns {
             turns: Vec::new(alloc),
             are_listed: vec![in alloc; false; units]?,
+            listed_at: i64::MAX,
+            choices: 0,
         })
+    }
+
+    /// Whether the turns are to be listed anew from the best state, which costs so much.
+    pub(crate) fn are_old(&self, cost: i64) -> bool {
+        self.listed_at == i64::MAX || (self.choices >= CHOICES && cost < self.listed_at)
     }
 
     /// Whether unit g has a turn.
@@ -42,7 +55,8 @@ impl Turns {
     }
 
     /// A turn by chance, a cheap one more likely.
-    pub(crate) fn choose(&self, chance: &mut Chance) -> Option<Turn> {
+    pub(crate) fn choose(&mut self, chance: &mut Chance) -> Option<Turn> {
+        self.choices = self.choices.saturating_add(1);
         let number = chance.next();
         let count = self.turns.len() as u64;
         let place = number.saturating_mul(number).saturating_mul(count) / (CHANCES * CHANCES);
@@ -52,15 +66,18 @@ impl Turns {
         }
     }
 
-    /// Lists the turns from a state that cost less than so much more. The only error is `NoMemory`.
+    /// Lists the turns from a state of this cost that cost less than so much more. The only error is `NoMemory`.
     pub(crate) fn list(
         &mut self,
         plant: &Plant,
         state: &mut State,
         periods: u32,
+        cost: i64,
         most: i64,
     ) -> Result<(), NoMemory> {
         self.turns.clear();
+        self.listed_at = cost;
+        self.choices = 0;
         for g in 0..plant.units.len() {
             let before = self.turns.len();
             push_turns(plant, state, g, periods, most, &mut self.turns)?;
