@@ -2,6 +2,8 @@
 #![tactic(auto)]
 
 #[cfg(test)]
+mod ascents;
+#[cfg(test)]
 mod marginals;
 #[cfg(test)]
 mod openings;

@@ -5,27 +5,25 @@ ghost use Rattle.uc_model.specs.Limits.{IsLawfulInstance};
 ghost use Rattle.dual_model.specs.Fixings.{IsNodeOf};
 ghost use Rattle.dual_model.specs.Prices.{IsLawfulTable};
 ghost use Rattle.dual_model.specs.TableValue.{IsLawfulScale};
-ghost use Rattle.prices.specs.inside.Moves.{IsLentOf};
 
-use crate::bundle::{Bundle, Cut, Move, WHOLE};
-use crate::evaluation::{Evaluation, Lent, evaluate};
+use crate::bundle::{Bundle, Cut, Move, WHOLE, times};
+use crate::limited::word;
 use crate::merit::merit_prices;
+use crate::no_prices::SCALE;
 use crate::price_list::{at, push_ramp_prices, table_of};
 use dual_model::{Node, Table};
+use quick_value::{Decisions, Evaluation, Evaluator};
 use std::alloc::Global;
 use uc_model::{Instance, NoMemory};
 
 /// After how many evaluations without a gain the stride is shortened.
 const PATIENCE: u32 = 9;
 
-/// After how many evaluations in a row without a gain an ascent ends.
-const FUTILE: u32 = 26;
+/// After how many evaluations in a row without a gain an ascent ends, and after how many where few cuts are kept, since each evaluation
+/// takes long there.
+const FUTILE: u32 = 60;
 
-/// After how many it ends where a step promises little.
-const FUTILE_FOR_LITTLE: u32 = 14;
-
-/// A step that promises less than this part of the value promises little.
-const LITTLE: i128 = 400_000;
+const FUTILE_OF_FEW_CUTS: u32 = 30;
 
 /// How often a step that promises hardly anything is tried again with another stride.
 const STALLS: u32 = 10;
@@ -39,21 +37,24 @@ const RISE_BY_MERIT: i128 = 100;
 /// The same from the prices of a table.
 const RISE_BY_TABLE: i128 = 400;
 
-/// What an ascent found: the best table, and how often each unit was on in each period among the cuts that give the best move, unit
-/// by unit, in parts of 2^16.
+/// What an ascent found: the best table, how often each unit was on in each period among the cuts that give the best move, unit by unit,
+/// in parts of 2^16, and what it takes the bound for, in micro-dollars, of which nothing is proved.
 #[derive(Debug, Drop)]
 pub struct Ascent {
     pub table: Table,
     pub shares: Vec<i64>,
+    pub bound: i128,
 }
 
-// The best prices so far, their value, the cuts there, and how many evaluations have gained nothing since.
+// The best prices so far, their value, the cuts there, and how many evaluations have gained nothing since; and the cuts' mean shares, where
+// strides have been tried since the last evaluation, which leave the weights unsettled.
 #[derive(Debug, Drop)]
 struct Center {
     prices: Vec<i64>,
     value: i128,
     bundle: Bundle,
     nulls: u32,
+    shares: Vec<i64>,
 }
 
 /// Ascends at a node from a table by at most so many evaluations, to a table at the scale `k`; from the prices in order of merit
@@ -72,43 +73,56 @@ pub fn ascend(
     ensures lawful { IfOk result (λ ascent. IsLawfulTable instance.now ascent.table) }
     ensures scale { IfOk result (λ ascent. ascent.table.k ≡ k) }
 {
-    let mut lent = Lent::new(alloc, instance)?;
-    let prices = first_prices(alloc, instance, table, &lent.ramped)?;
-    let (prices, shares) = match evaluate(alloc, &mut lent, instance, node, &prices)? {
-        None => (prices, Vec::new(alloc)),
+    let mut evaluator = Evaluator::new(alloc, instance)?;
+    let decisions = Decisions::of(alloc, instance, node)?;
+    let ramped = evaluator.ramped(alloc)?;
+    let prices = first_prices(alloc, instance, table, &ramped)?;
+    let (mut prices, shares, value) = match evaluator.evaluate(
+        alloc, instance, &decisions, &prices,
+    )? {
+        None => (prices, Vec::new(alloc), 0),
         Some(first) => {
             let rise = first_rise(table, first.value);
-            let mut center = begin(alloc, instance, prices, &first, rise)?;
-            climb(alloc, &mut lent, instance, node, &mut center, evaluations)?;
-            let shares = mean_shares(alloc, &center.bundle)?;
-            (center.prices, shares)
+            let mut center = begin(alloc, instance, prices, first, rise)?;
+            climb(
+                alloc,
+                &mut evaluator,
+                instance,
+                &decisions,
+                &mut center,
+                evaluations,
+            )?;
+            settle(alloc, &mut center)?;
+            (center.prices, center.shares, center.value)
         }
     };
+    rescale(&mut prices, SCALE, k);
     Ok(Ascent {
-        table: table_of(alloc, instance, &prices, &lent.ramped, k)?,
+        table: table_of(alloc, instance, &prices, &ramped, k)?,
         shares,
+        bound: value / i128::from(SCALE),
     })
 }
 
 // Steps from the centre, until no step promises a gain, or many in a row have gained nothing.
 fn climb(
     alloc: Global,
-    lent: &mut Lent,
+    evaluator: &mut Evaluator,
     instance: &Instance,
-    node: &Node,
+    decisions: &Decisions,
     center: &mut Center,
     evaluations: u32,
-) -> Result<(), NoMemory>
-    requires lawful { IsLawfulInstance instance.now }
-    requires node { IsNodeOf instance.now node.now }
-    requires lent { IsLentOf instance.now lent.old }
-    ensures { IsLentOf instance.now lent.new }
-{
+) -> Result<(), NoMemory> {
+    let futile = if center.bundle.has_few_cuts() {
+        FUTILE_OF_FEW_CUTS
+    } else {
+        FUTILE
+    };
     let mut stalls: u32 = 0;
     for _ in 0..evaluations {
         let size = center.value.saturating_abs();
         let step = center.bundle.step(alloc, &center.prices, size)?;
-        if is_futile(center.nulls, step.predicted, size) {
+        if center.nulls >= futile {
             break;
         }
         if step.predicted < size / PROMISE {
@@ -116,11 +130,12 @@ fn climb(
             if stalls > STALLS {
                 break;
             }
+            settle(alloc, center)?;
             center.bundle.try_another_stride(step.predicted);
         } else {
             let prices = moved(alloc, &center.prices, &step.moves)?;
-            match evaluate(alloc, lent, instance, node, &prices)? {
-                Some(found) => take(alloc, center, prices, &found, &step)?,
+            match evaluator.evaluate(alloc, instance, decisions, &prices)? {
+                Some(found) => take(alloc, center, prices, found, &step)?,
                 None => break,
             }
         }
@@ -128,22 +143,12 @@ fn climb(
     Ok(())
 }
 
-// Whether an ascent ends where so many evaluations in a row have gained nothing and the next step promises so much.
-fn is_futile(nulls: u32, predicted: i128, size: i128) -> bool {
-    let most = if predicted < size / LITTLE {
-        FUTILE_FOR_LITTLE
-    } else {
-        FUTILE
-    };
-    nulls >= most
-}
-
 // Whether the table has no price of demand.
 fn is_unpriced(table: &Table) -> bool {
     table.pi().iter().all(|price| *price == 0)
 }
 
-// The table's prices, or those in order of merit where it has none of demand.
+// The table's prices at the scale `SCALE`, or those in order of merit where it has none of demand.
 fn first_prices(
     alloc: Global,
     instance: &Instance,
@@ -159,7 +164,18 @@ fn first_prices(
         prices.push(*price)?;
     }
     push_ramp_prices(&mut prices, table, ramped)?;
+    if !is_unpriced(table) {
+        rescale(&mut prices, table.k(), SCALE);
+    }
     Ok(prices)
+}
+
+// Puts prices of one scale at another one.
+fn rescale(prices: &mut [i64], from: i64, to: i64) {
+    let from = from.max(1);
+    for price in prices.iter_mut() {
+        *price = word(&(times(*price, to) / i128::from(from)));
+    }
 }
 
 // By how much the first step is to raise the value, of which prices in order of merit leave more to gain.
@@ -177,38 +193,32 @@ fn begin(
     alloc: Global,
     instance: &Instance,
     prices: Vec<i64>,
-    first: &Evaluation,
+    first: Evaluation,
     rise: i128,
 ) -> Result<Center, NoMemory> {
     let mut bundle = Bundle::of(alloc, instance);
-    let cut = cut(alloc, &bundle, first, 0, WHOLE)?;
+    let value = first.value;
+    let cut = cut(&bundle, first, WHOLE);
     bundle.begin(alloc, cut, rise)?;
     Ok(Center {
         prices,
-        value: first.value,
+        value,
         bundle,
         nulls: 0,
+        shares: Vec::new(alloc),
     })
 }
 
-// The cut of an evaluation.
-fn cut(
-    alloc: Global,
-    bundle: &Bundle,
-    found: &Evaluation,
-    error: i128,
-    weight: i64,
-) -> Result<Cut, NoMemory> {
-    let mut slopes = Vec::new(alloc);
-    for (i, watts) in found.lacks.iter().enumerate() {
-        slopes.push(bundle.slope(*watts, i))?;
-    }
-    Ok(Cut {
+// The cut of an evaluation, which it takes over, without error and with this weight.
+fn cut(bundle: &Bundle, found: Evaluation, weight: i64) -> Cut {
+    let mut slopes = found.lacks;
+    bundle.make_slopes(&mut slopes);
+    Cut {
         slopes,
-        error,
+        error: 0,
         weight,
-        shares: found.shares.to_vec(alloc)?,
-    })
+        shares: found.shares,
+    }
 }
 
 // Takes what was found at the moved prices: the centre moves there where the value has risen enough.
@@ -216,18 +226,20 @@ fn take(
     alloc: Global,
     center: &mut Center,
     prices: Vec<i64>,
-    found: &Evaluation,
+    found: Evaluation,
     step: &Move,
 ) -> Result<(), NoMemory> {
-    let gain = found.value.saturating_sub(center.value);
-    let mut own = cut(alloc, &center.bundle, found, 0, 0)?;
-    let back = center.bundle.change(&own.slopes, &step.moves);
+    let value = found.value;
+    let gain = value.saturating_sub(center.value);
+    let mut own = cut(&center.bundle, found, 0);
+    let back = center.bundle.change(&own.slopes, &step.moved);
     own.error = gain.saturating_sub(back);
     center.bundle.push(alloc, own)?;
+    center.shares.clear();
     if gain > step.predicted / 10 {
-        center.bundle.recenter(alloc, &step.moves, gain)?;
+        center.bundle.recenter(&step.moved, gain);
         center.prices = prices;
-        center.value = found.value;
+        center.value = value;
         center.nulls = 0;
         lengthen(&mut center.bundle, gain, step.predicted);
     } else {
@@ -264,6 +276,14 @@ fn moved(alloc: Global, prices: &[i64], moves: &[i64]) -> Result<Vec<i64>, NoMem
         moved.push(price.saturating_add(*by))?;
     }
     Ok(moved)
+}
+
+// Takes the mean shares of the cuts by their weights, if there are none since the last evaluation.
+fn settle(alloc: Global, center: &mut Center) -> Result<(), NoMemory> {
+    if center.shares.is_empty() {
+        center.shares = mean_shares(alloc, &center.bundle)?;
+    }
+    Ok(())
 }
 
 // The weighted mean of the cuts' shares.

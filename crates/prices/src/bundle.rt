@@ -5,6 +5,7 @@
 //! found by moving weight from the highest of the weighted cuts to the lowest cut.
 
 use crate::limited::{narrow, within, word};
+use crate::price_list::at;
 use crate::products::{Products, add_multiple};
 use std::alloc::Global;
 use uc_model::{Instance, NoMemory};
@@ -29,7 +30,11 @@ const SHIFTS: u32 = 60;
 /// A cut of less weight may be given up.
 const LIGHT: i64 = 1 << 14;
 
-/// Where there are more cells, few cuts are kept.
+/// The most cuts that are kept, and those where there are more cells than so many.
+const MOST_CUTS: usize = 24;
+
+const FEW_CUTS: usize = 4;
+
 const MANY_CELLS: usize = 8000;
 
 /// The most doublings of the unit of slopes.
@@ -60,10 +65,11 @@ pub(crate) struct Bundle {
     pub most: usize,
 }
 
-/// A move of each price, and by how much the bound rises at most with it.
+/// A move of each price, those that aren't 0 by their places, and by how much the bound rises at most with them.
 #[derive(Debug, Drop)]
 pub(crate) struct Move {
     pub moves: Vec<i64>,
+    pub moved: Vec<(usize, i64)>,
     pub predicted: i128,
 }
 
@@ -90,16 +96,22 @@ impl Bundle {
             unit: slope_unit(instance),
             stride: 1,
             most: if units.saturating_mul(periods) <= MANY_CELLS {
-                24
+                MOST_CUTS
             } else {
-                4
+                FEW_CUTS
             },
         }
     }
 
+    /// Whether few cuts are kept.
+    pub(crate) fn has_few_cuts(&self) -> bool {
+        self.most <= FEW_CUTS
+    }
+
     /// The first cut, with all weight, by which the first step is to raise the bound by so much.
     pub(crate) fn begin(&mut self, alloc: Global, cut: Cut, rise: i128) -> Result<(), NoMemory> {
-        let length = self.change(&cut.slopes, &cut.slopes).max(1);
+        let slopes = moved(alloc, &cut.slopes)?;
+        let length = self.change(&cut.slopes, &slopes).max(1);
         let rise = rise.saturating_mul(i128::from(PART));
         self.stride = within(&(rise / length), LONGEST).max(1);
         self.push(alloc, cut)
@@ -116,10 +128,13 @@ impl Bundle {
         }
     }
 
-    /// The slope of a number of watts in price i.
-    pub(crate) fn slope(&self, watts: i64, i: usize) -> i64 {
-        let enlarged = watts.saturating_mul(self.metric_at(i));
-        within(&i128::from(enlarged / self.unit.max(1)), STEEPEST)
+    /// Makes slopes of the watts that lack of what each price is of.
+    pub(crate) fn make_slopes(&self, watts: &mut [i64]) {
+        let unit = self.unit.max(1);
+        for (i, own) in watts.iter_mut().enumerate() {
+            let enlarged = own.saturating_mul(self.metric_at(i));
+            *own = (enlarged / unit).max(-STEEPEST).min(STEEPEST);
+        }
     }
 
     fn metric_at(&self, i: usize) -> i64 {
@@ -147,8 +162,13 @@ impl Bundle {
                 break;
             }
         }
-        let predicted = self.predicted(&moves);
-        Ok(Move { moves, predicted })
+        let moved = moved(alloc, &moves)?;
+        let predicted = self.predicted(&moved);
+        Ok(Move {
+            moves,
+            moved,
+            predicted,
+        })
     }
 
     // The move by the weights, that of a price which would end at or below 0, where it may not, being to 0.
@@ -301,42 +321,33 @@ impl Bundle {
 
     // The error of a cut after the moves of the prices that end at 0.
     fn fixed(&self, cut: &Cut, stopped: &[(usize, i64)]) -> i128 {
-        let mut error = cut.error;
-        for (i, by) in stopped {
-            if let Some(slope) = cut.slopes.get(*i) {
-                error = error.saturating_add(self.worth(*i, *slope, *by));
-            }
-        }
-        error
+        cut.error.saturating_add(self.change(&cut.slopes, stopped))
     }
 
-    // What a slope is worth over the move of price i.
-    fn worth(&self, i: usize, slope: i64, by: i64) -> i128 {
-        let watts = slope.saturating_mul(self.unit);
-        if i < self.system {
-            times(watts, by)
-        } else {
-            times(watts / self.metric.max(1), by)
-        }
-    }
-
-    /// By how much a cut changes with the moves.
-    pub(crate) fn change(&self, slopes: &[i64], moves: &[i64]) -> i128 {
-        let mut sum: i128 = 0;
-        for (i, (slope, by)) in slopes.iter().zip(moves).enumerate() {
-            if *by != 0 {
-                sum = sum.saturating_add(self.worth(i, *slope, *by));
+    /// By how much a cut with these slopes changes with the moves of some prices.
+    pub(crate) fn change(&self, slopes: &[i64], moved: &[(usize, i64)]) -> i128 {
+        let mut system: i128 = 0;
+        let mut ramps: i128 = 0;
+        for (i, by) in moved {
+            let worth = times(at(slopes, *i), *by);
+            if *i < self.system {
+                system = system.wrapping_add(worth);
+            } else {
+                ramps = ramps.wrapping_add(worth);
             }
         }
-        sum
+        let metric = i128::from(self.metric.max(1));
+        system
+            .saturating_add(ramps / metric)
+            .saturating_mul(i128::from(self.unit))
     }
 
     // By how much the bound rises at most with the moves, by the cuts that have weight.
-    fn predicted(&self, moves: &[i64]) -> i128 {
+    fn predicted(&self, moved: &[(usize, i64)]) -> i128 {
         let mut least = i128::MAX;
         for cut in &self.cuts {
             if cut.weight > 0 {
-                least = least.min(cut.error.saturating_add(self.change(&cut.slopes, moves)));
+                least = least.min(cut.error.saturating_add(self.change(&cut.slopes, moved)));
             }
         }
         least
@@ -362,20 +373,16 @@ impl Bundle {
     }
 
     /// The centre moved: each cut's error is anew what it lies above the bound there.
-    pub(crate) fn recenter(
-        &mut self,
-        alloc: Global,
-        moves: &[i64],
-        gain: i128,
-    ) -> Result<(), NoMemory> {
-        let mut changes = Vec::new(alloc);
-        for cut in &self.cuts {
-            changes.push(self.change(&cut.slopes, moves))?;
+    pub(crate) fn recenter(&mut self, moved: &[(usize, i64)], gain: i128) {
+        for k in 0..self.cuts.len() {
+            let change = match self.cuts.get(k) {
+                Some(cut) => self.change(&cut.slopes, moved),
+                None => 0,
+            };
+            if let Some(cut) = self.cuts.get_mut(k) {
+                cut.error = cut.error.saturating_add(change).saturating_sub(gain);
+            }
         }
-        for (cut, change) in self.cuts.iter_mut().zip(&changes) {
-            cut.error = cut.error.saturating_add(*change).saturating_sub(gain);
-        }
-        Ok(())
     }
 
     /// Takes a cut. Where there are too many, one that has hardly any weight is given up, or else all but the newest ones are made one.
@@ -506,13 +513,24 @@ fn stopped(alloc: Global, moves: &[i64], active: &[bool]) -> Result<Vec<(usize, 
     Ok(stopped)
 }
 
+// The moves that aren't 0, by their places.
+fn moved(alloc: Global, moves: &[i64]) -> Result<Vec<(usize, i64)>, NoMemory> {
+    let mut moved = Vec::new(alloc);
+    for (i, by) in moves.iter().enumerate() {
+        if *by != 0 {
+            moved.push((i, *by))?;
+        }
+    }
+    Ok(moved)
+}
+
 // What a product of slopes is worth over such a reach: the stride, in units of slopes.
 fn along(product: i64, reach: i64) -> i128 {
     times(product, reach) / i128::from(PART)
 }
 
-// The product of two numbers, which fits.
-fn times(first: i64, second: i64) -> i128 {
+/// The product of two numbers, which fits.
+pub(crate) fn times(first: i64, second: i64) -> i128 {
     i128::from(first).wrapping_mul(i128::from(second))
 }
 

@@ -4,13 +4,11 @@
 
 mod ascent;
 mod bundle;
-mod evaluation;
 pub mod laws;
 mod limited;
 mod marginal_prices;
 mod merit;
 mod no_prices;
-mod outputs;
 mod price_list;
 mod products;
 mod rays;

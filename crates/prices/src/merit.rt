@@ -3,19 +3,13 @@
 use crate::limited::kept;
 use crate::no_prices::SCALE;
 use std::alloc::Global;
-use uc_model::{Instance, NoMemory, Point, Thermal, scaled};
+use uc_model::{Instance, NoMemory, Thermal, scaled};
 
 /// A unit's greatest output in watts, and what a watt costs there, in numbers of the scale.
 #[derive(Clone, Copy, Debug)]
 struct FullLoad {
     rate: i64,
     output: i64,
-}
-
-/// Whether the cost between two points rises by less than this price a watt.
-pub(crate) fn rate_below(from: &Point, to: &Point, price: &i128) -> bool {
-    let cost = scaled(SCALE, to.cost.saturating_sub(from.cost));
-    cost < price.saturating_mul(i128::from(to.mw.saturating_sub(from.mw)))
 }
 
 /// In each period the rate at full load of the unit with which the greatest outputs, cheapest first, reach demand and reserve

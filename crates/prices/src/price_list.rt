@@ -8,43 +8,9 @@ ghost use Rattle.dual_model.specs.TableValue.{IsLawfulScale};
 ghost use Rattle.prices.specs.inside.Moves.{AreLawfulRows, IsBehind, IsMultiplier};
 
 use crate::limited::kept;
-use cost_curves::Curve;
 use dual_model::{RampRow, Table};
 use std::alloc::Global;
-use uc_model::{Instance, NoMemory, Thermal};
-
-/// The units, from 0, whose ramps can bind.
-pub(crate) fn ramped(
-    alloc: Global,
-    instance: &Instance,
-    curves: &[Curve],
-) -> Result<Vec<u32>, NoMemory> {
-    let mut ramped = Vec::new(alloc);
-    let mut g: u32 = 0;
-    for (unit, curve) in instance.thermal.as_slice().iter().zip(curves) {
-        if can_bind(unit, curve) {
-            ramped.push(g)?;
-        }
-        g = g.saturating_add(1);
-    }
-    Ok(ramped)
-}
-
-// Whether a unit's ramps can bind.
-fn can_bind(unit: &Thermal, curve: &Curve) -> bool {
-    let range = unit.pmax.saturating_sub(unit.pmin);
-    let reach = range.min(curve.width()).max(initial_power(unit));
-    unit.ru < range || unit.rd < reach
-}
-
-/// What the unit gives initially above its minimum.
-pub(crate) fn initial_power(unit: &Thermal) -> i64 {
-    if unit.on0 {
-        unit.p0.saturating_sub(unit.pmin)
-    } else {
-        0
-    }
-}
+use uc_model::{Instance, NoMemory};
 
 /// Adds the ramps' prices of a table.
 pub(crate) fn push_ramp_prices(

@@ -26,6 +26,9 @@ const MANY_EVALUATIONS: u32 = 60;
 
 const MANY_CELLS: usize = 20_000;
 
+/// The most at a node but the root, whose table begins near the best one.
+const NODE_EVALUATIONS: u32 = 120;
+
 /// The ascent to a table to try next at a node at which `had` tables were tried, of which the last is `table`: the table's scale is
 /// a million and `had`. The only error is `NoMemory`.
 pub fn next_ascent(
@@ -52,6 +55,11 @@ pub fn next_ascent(
         MANY_EVALUATIONS
     } else {
         EVALUATIONS
+    };
+    let evaluations = if node.fixings.as_slice().is_empty() {
+        evaluations
+    } else {
+        evaluations.min(NODE_EVALUATIONS)
     };
     let scale = SCALE + i64::from(had);
     ascend(alloc, instance, node, table, evaluations, scale)

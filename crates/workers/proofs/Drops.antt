@@ -9,6 +9,7 @@ use Rattle.uc_model.specs.Schedule.{thermal_count}
 use Rattle.uc_model.specs.declared.instance.Instance.{Instance}
 use Rattle.uc_model.specs.declared.pattern.Pattern.{Pattern}
 use Rattle.dispatch_repair.specs.MostOn.{AreMostOn}
+use Rattle.schedule_repair.specs.Accepted.{IsAcceptedIfFound}
 use Rattle.workers.specs.DropCommitment.{Ending, Dispatched, StuckIn, IsDropPass, IsEndingOf, IsFewestOnOf, is_better}
 use Rattle.workers.specs.SearchResult.{IsNoDearer}
 use Rattle.workers.specs.declared.drop_pass.Standing.{Standing}
@@ -27,6 +28,12 @@ accepted : (instance : Instance) (patterns : List Pattern) (tried : Trial) → I
     → IsAcceptedEnding instance (ending_of_trial tried)
 accepted instance patterns (trial.Dispatched printed cost) h = h.accepted
 accepted instance patterns (trial.Stuck stuck) h = tt
+
+-- the schedule of a dispatch is accepted
+pub accepted_schedule : (instance : Instance) (stands : Standing) → IsAcceptedEnding instance (ending_of stands)
+    → IsAcceptedIfFound instance (schedule_of stands)
+accepted_schedule instance (standing.Dispatched printed cost) h = h
+accepted_schedule instance (standing.Stuck period most_on) h = tt
 
 -- ---- the most-on commitment
 pub first_dropped : (instance : Instance) (patterns : List Pattern) (tried : Trial) (first : Standing) → AreMostOn instance patterns

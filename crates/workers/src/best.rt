@@ -12,6 +12,7 @@ use branch_tree::is_within_gap;
 use prices::Ascent;
 use schedule_repair::{Repair, repair};
 use std::alloc::Global;
+use uc_model::tolerance::WHOLE_GAP;
 use uc_model::{Instance, NoMemory, Printed};
 
 /// The moves of the first repair, beside those for each unit: enough for the passes of each threshold, and for kicks of what comes of
@@ -20,10 +21,11 @@ const FIRST_MOVES: u32 = 20_000;
 
 const FIRST_MOVES_EACH: u32 = 30;
 
-/// The moves of each later repair at the root for each unit: about as long as the evaluations of a later ascent take; and at other nodes.
+/// The moves of each later repair at the root for each unit.
 const LATER_MOVES_EACH: u32 = 10;
 
-const NODE_MOVES_EACH: u32 = 5;
+/// The same at other nodes: enough for a descent from one threshold, and some kicks of the best state.
+const NODE_MOVES_EACH: u32 = 15;
 
 /// How many moves the repair has at the claim of this unit, of the node of this number.
 pub(crate) fn moves(instance: &Instance, node: u32, unit: u32) -> u32
@@ -41,6 +43,19 @@ pub(crate) fn moves(instance: &Instance, node: u32, unit: u32) -> u32
     }
 }
 
+/// The greatest cost, in micro-dollars, that is taken to be within the gap of the bound.
+pub(crate) fn enough(bound: &i128, gap: u32) -> i64
+    requires { gap ≤ WHOLE_GAP }
+{
+    let rest = i128::from(WHOLE_GAP - gap).max(1);
+    let cost = if *bound > 0 {
+        bound.saturating_mul(i128::from(WHOLE_GAP)) / rest
+    } else {
+        *bound
+    };
+    cost.min(i128::from(i64::MAX)).max(i128::from(i64::MIN)) as i64
+}
+
 /// Whether the best schedule closes a root of this bound.
 pub(crate) fn is_closed(best: &Option<(Printed, i64)>, bound: &i128, gap: u32) -> bool
     requires { gap ≤ WHOLE_GAP }
@@ -52,13 +67,15 @@ pub(crate) fn is_closed(best: &Option<(Printed, i64)>, bound: &i128, gap: u32) -
     }
 }
 
-/// The cheaper of the best schedule so far and of what a repair of an ascent finds. The only error is `NoMemory`.
+/// The cheaper of the best schedule so far and of what a repair of an ascent finds, which ends at a cost that is `enough`. The only error
+/// is `NoMemory`.
 pub(crate) fn improved(
     alloc: Global,
     repairs: &mut Repair,
     instance: &Instance,
     ascent: &Ascent,
     moves: u32,
+    enough: i64,
     best: Option<(Printed, i64)>,
 ) -> Result<Option<(Printed, i64)>, NoMemory>
     requires lawful { IsLawfulInstance instance.now }
@@ -76,7 +93,7 @@ pub(crate) fn improved(
         &ascent.table,
         &ascent.shares,
         moves,
-        i64::MIN,
+        enough,
     )?;
     Ok(cheaper(best, found))
 }

@@ -34,8 +34,8 @@ pub struct Options {
 }
 
 /// What the search finds: a leaf for the first unit without an allowed pattern, or for the first ray of the opening that leaves no
-/// schedule, without any claim; or else a bound, and a schedule where the drop commitment has one or a repair finds one. Each claim enters the gate as
-/// its unit, from 1, of worker 0. The only error is `NoMemory`.
+/// schedule, without any claim; or else a bound, and a schedule where the drop commitment has one or a repair finds one. Each claim
+/// enters the gate as its unit, from 1, of worker 0. The only error is `NoMemory`.
 pub fn search<R: Wait, G: Gate>(
     rt: &R,
     alloc: Global,
@@ -57,7 +57,14 @@ pub fn search<R: Wait, G: Gate>(
     let opening = root_table(alloc, &mut lent, instance, &standing)?;
     let (schedule, most_on) = outcome(standing);
     let mut repairs = Repair::new(alloc, instance)?;
-    let start = started(alloc, &mut repairs, instance, opening, schedule)?;
+    let start = started(
+        alloc,
+        &mut repairs,
+        instance,
+        options.gap,
+        opening,
+        schedule,
+    )?;
     if let Some(n) = excluding_ray(alloc, &mut lent, instance, &start.best)? {
         return without_schedule(alloc, instance, n);
     }

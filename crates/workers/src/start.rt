@@ -1,13 +1,14 @@
 //! What the claims of the root begin with.
 
-ghost use Rattle.std.specs.Prelude.{◌≡◌, ◌+◌, pos, IfOk};
+ghost use Rattle.std.specs.Prelude.{◌≡◌, ◌+◌, ◌≤◌, pos, IfOk};
 ghost use Rattle.uc_model.specs.Limits.{IsLawfulInstance};
+ghost use Rattle.uc_model.specs.declared.tolerance.TheConstants.{WHOLE_GAP};
 ghost use Rattle.dual_model.specs.Prices.{IsLawfulTable};
 ghost use Rattle.schedule_repair.specs.Accepted.{IsAcceptedIfFound};
 ghost use Rattle.workers.specs.inside.Evaluations.{IsNextAt, IsPricedOf};
 ghost use Rattle.workers.specs.inside.Standings.{IsNoWorse};
 
-use crate::best::{improved, moves};
+use crate::best::{enough, improved, moves};
 use crate::evaluation::root_node;
 use crate::opening::Priced;
 use prices::{Ascent, next_ascent, zero};
@@ -30,10 +31,12 @@ pub(crate) fn started(
     alloc: Global,
     repairs: &mut Repair,
     instance: &Instance,
+    gap: u32,
     opening: Priced,
     schedule: Option<(Printed, i64)>,
 ) -> Result<Start, NoMemory>
     requires lawful { IsLawfulInstance instance.now }
+    requires gap { gap ≤ WHOLE_GAP }
     requires opening { IsPricedOf instance.now opening }
     requires accepted { IsAcceptedIfFound instance.now schedule }
     ensures opening { IfOk result (λ start. start.opening ≡ opening) }
@@ -55,6 +58,7 @@ pub(crate) fn started(
         instance,
         &ascent,
         moves(instance, 0, 1),
+        enough(&ascent.bound, gap),
         schedule,
     )?;
     Ok(Start {

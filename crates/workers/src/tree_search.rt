@@ -16,7 +16,7 @@ ghost use Rattle.workers.specs.inside.Evaluations.{IsLentOf, IsNextAt, IsPricedO
 ghost use Rattle.workers.specs.inside.Searches.{IsGrown, IsPublished, IsReady, IsSearching, IsTurned, start_by};
 ghost use Rattle.workers.specs.inside.Standings.{IsNoWorse};
 
-use crate::best::{improved, is_closed, moves};
+use crate::best::{enough, improved, is_closed, moves};
 use crate::evaluation::Lent;
 use crate::frontier::Frontier;
 use crate::machine::{WORKER, claim_next, publish};
@@ -201,7 +201,21 @@ fn turn(
         unit,
         next,
     )?;
-    let best = repaired(alloc, repairs, instance, &ascent, moves, search.best)?;
+    let best = match &frontier.least() {
+        Some(bound) if !is_closed(&search.best, bound, gap) => {
+            let enough = enough(bound, gap);
+            repaired(
+                alloc,
+                repairs,
+                instance,
+                &ascent,
+                moves,
+                enough,
+                search.best,
+            )?
+        }
+        _ => search.best,
+    };
     publish(alloc, &mut state, &best)?;
     Ok(Search {
         state,
@@ -221,13 +235,15 @@ fn moves_of(instance: &Instance, next: &Option<Ascent>, node: u32, unit: u32) ->
     }
 }
 
-// The better schedule of the best so far and of what a repair of the ascent finds in so many moves. An ascent without shares has none.
+// The better schedule of the best so far and of what a repair of the ascent finds in so many moves, which ends at a cost that is `enough`.
+// An ascent without shares has none.
 fn repaired(
     alloc: Global,
     repairs: &mut Repair,
     instance: &Instance,
     ascent: &Ascent,
     moves: u32,
+    enough: i64,
     best: Option<(Printed, i64)>,
 ) -> Result<Option<(Printed, i64)>, NoMemory>
     requires lawful { IsLawfulInstance instance.now }
@@ -236,5 +252,5 @@ fn repaired(
     ensures no_worse { IfOk result (IsNoWorse best) }
 {
     let moves = if ascent.shares.is_empty() { 0 } else { moves };
-    improved(alloc, repairs, instance, ascent, moves, best)
+    improved(alloc, repairs, instance, ascent, moves, enough, best)
 }

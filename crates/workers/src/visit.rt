@@ -74,7 +74,8 @@ pub(crate) fn visit(
 }
 
 // The table to evaluate the node at: the one of the first ascent, where it was made already; that which the node inherited, where it wasn't
-// evaluated yet; a ray that excludes it, where no schedule was found; or else that of an ascent from what it stores.
+// evaluated yet; a ray that excludes it, where no schedule was found, but not at the root, whose rays the opening has tried; or else that of
+// an ascent from what it stores.
 fn trial(
     alloc: Global,
     lent: &mut Lent,
@@ -99,7 +100,7 @@ fn trial(
         let table = stored_table(state, node).copy(alloc)?;
         return Ok(without_shares(alloc, table));
     }
-    if !found {
+    if !found && node != 0 {
         if let Some(table) = fresh_ray(alloc, lent, instance, state, node, path)? {
             return Ok(without_shares(alloc, table));
         }
@@ -123,6 +124,7 @@ fn without_shares(alloc: Global, table: Table) -> Ascent
     Ascent {
         table,
         shares: Vec::new(alloc),
+        bound: 0,
     }
 }
 

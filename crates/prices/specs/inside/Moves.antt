@@ -2,9 +2,6 @@
 use Rattle.std.specs.Prelude.{ℕ, suc, ◌+◌, ◌<◌, ◌≡◌, List, ℤ, pos, ◌≤ℤ◌, All, length, slice_index_or}
 use Rattle.dual_model.specs.Prices.{IsPrice, IsRowBefore, IsRowPriced, IsRowSigned, IsRowWithin}
 use Rattle.dual_model.specs.declared.table.RampRow.{RampRow}
-use Rattle.uc_model.specs.declared.instance.Instance.{Instance}
-use Rattle.dual_value.specs.Rooms.{IsRoomOf}
-use Rattle.prices.specs.declared.evaluation.Lent.{Lent}
 
 -- the multiplier of an inequality, which is at least 0
 pub record IsMultiplier (price : ℤ) : Type 0 where
@@ -21,9 +18,3 @@ pub record AreLawfulRows (units periods : ℕ) (rows : List RampRow) : Type 0 wh
 -- a row comes behind the last of the others
 abbrev pub IsBehind : List RampRow → RampRow → Type 0
 IsBehind rows row = (i : ℕ) (d : RampRow) → i + 1 ≡ length rows → IsRowBefore (slice_index_or rows i d) row
-
--- what evaluations of the instance share
-pub record IsLentOf (instance : Instance) (lent : Lent) : Type 0 where
-  pub room : IsRoomOf instance lent.room
-  pub scratch : lent.scratch ≡ instance.periods
-  pub rows : length lent.rows.items ≡ instance.periods

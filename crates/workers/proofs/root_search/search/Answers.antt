@@ -2,6 +2,7 @@
 use Rattle.std.proofs.Common.{subst, sym}
 use Rattle.std.specs.Prelude.{IfOk}
 use Rattle.std.proofs.lemmas.Result.{IfOk-weaker}
+use Rattle.schedule_repair.specs.Accepted.{IsAcceptedIfFound}
 use Rattle.search_core.specs.Runs.{HoldsAt}
 use Rattle.workers.specs.SearchResult.{IsNoDearer, IsSearchResult}
 use Rattle.workers.specs.Writable.{IsWritable}
@@ -10,7 +11,7 @@ use Rattle.workers.specs.inside.Answers.{IsAnswerOf}
 use Rattle.workers.specs.inside.Searches.{start_by}
 use Rattle.workers.specs.inside.Standings.{IsBest, ending_of}
 use Rattle.workers.proofs.Answered.{stored_within}
-use Rattle.workers.proofs.Drops.{no_dearer}
+use Rattle.workers.proofs.Drops.{accepted_schedule, no_dearer}
 use Rattle.workers.proofs.root_search.search.Given.{Over}
 use Rattle.workers.proofs.root_search.search.Goals as goal
 
@@ -39,6 +40,13 @@ returns-in-Some-2-clause-writable g c =
     let instance = c.args.instance.now in
     IfOk-weaker c.without_schedule.result (IsAnswerOf instance 0 0) (IsWritable instance) (λ found a. a.writable)
     (c.without_schedule.ensures 0 0 c.in_ok-standing.standing c.in_ok-standing.ensures)
+
+-- the schedule of the drop commitment is accepted
+pub started-requires-clause-accepted : goal.started-requires-clause-accepted
+started-requires-clause-accepted g c =
+    let stands = c.in_ok-standing.standing in
+    subst (IsAcceptedIfFound c.args.instance.now) (sym c.outcome-schedule.ensures.schedule)
+    (accepted_schedule c.args.instance.now stands c.in_ok-standing.ensures.accepted)
 
 -- what holds at the end of the search over the tree
 ended : (g : Over) (c : goal.After-drop-lent-5 g)

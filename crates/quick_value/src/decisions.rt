@@ -1,0 +1,52 @@
+//! What a node decides of each cell.
+
+use crate::amounts::put;
+use dual_model::Node;
+use std::alloc::Global;
+use uc_model::{Instance, NoMemory};
+
+/// Whether a unit may be on in a period, and off.
+#[derive(Clone, Copy, Debug)]
+pub(crate) struct Choice {
+    pub on: bool,
+    pub off: bool,
+}
+
+/// What may be in each cell of a node, unit by unit.
+#[derive(Debug, Drop)]
+pub struct Decisions {
+    pub(crate) rows: Vec<Vec<Choice>>,
+}
+
+impl Decisions {
+    /// The decisions on the path of a node of the instance. The only error is `NoMemory`.
+    pub fn of(alloc: Global, instance: &Instance, node: &Node) -> Result<Decisions, NoMemory> {
+        let periods = instance.periods as usize;
+        let mut rows = Vec::new(alloc);
+        for unit in instance.thermal.as_slice() {
+            let choice = Choice {
+                on: true,
+                off: !unit.must_run,
+            };
+            rows.push(vec![in alloc; choice; periods]?)?;
+        }
+        for fixing in node.fixings.as_slice() {
+            if let Some(row) = rows.get_mut(fixing.g as usize) {
+                decide(row, fixing.t as usize, fixing.on);
+            }
+        }
+        Ok(Decisions { rows })
+    }
+}
+
+// Decides the cell of period t.
+fn decide(row: &mut [Choice], t: usize, on: bool) {
+    let Some(own) = row.get(t) else {
+        return;
+    };
+    let choice = Choice {
+        on: own.on && on,
+        off: own.off && !on,
+    };
+    put(row, t, choice);
+}

@@ -1,0 +1,113 @@
+//! The evaluator of an instance.
+
+ghost use Rattle.uc_model.specs.Limits.{IsLawfulInstance};
+
+use crate::amounts::PART;
+use crate::cells::fill;
+use crate::decisions::{Choice, Decisions};
+use crate::evaluation::{Evaluation, of_system};
+use crate::outputs::{NOTHING, Output, fill_outputs};
+use crate::prices::{FREE, Price, fill_common, fill_ramped, has_ramp_price};
+use crate::unit::{Unit, unit_at};
+use crate::walk::Walk;
+use std::alloc::Global;
+use uc_model::{Instance, NoMemory};
+
+/// The units of an instance, and memory for one unit's prices and walk.
+///
+/// A list of prices has, at the scale `SCALE`, in each period that of demand, in each that of reserve, and for each unit whose ramps can
+/// bind those of its ramp up and then of its ramp down in each period.
+#[derive(Debug, Drop)]
+pub struct Evaluator {
+    units: Vec<Unit>,
+    common: Vec<Price>,
+    own: Vec<Price>,
+    walk: Walk,
+    outputs: Vec<Output>,
+}
+
+impl Evaluator {
+    /// The evaluator of an instance. The only error is `NoMemory`.
+    pub fn new(alloc: Global, instance: &Instance) -> Result<Evaluator, NoMemory>
+        requires { IsLawfulInstance instance.now }
+    {
+        let periods = instance.periods as usize;
+        let mut units = Vec::new(alloc);
+        for g in 0..instance.thermal.as_slice().len() {
+            if let Some(unit) = unit_at(instance, g) {
+                units.push(Unit::of(alloc, unit, instance.periods)?)?;
+            }
+        }
+        Ok(Evaluator {
+            units,
+            common: vec![in alloc; FREE; periods]?,
+            own: vec![in alloc; FREE; periods]?,
+            walk: Walk::new(alloc, periods)?,
+            outputs: vec![in alloc; NOTHING; periods]?,
+        })
+    }
+
+    /// The units, from 0, whose ramps can bind. The only error is `NoMemory`.
+    pub fn ramped(&self, alloc: Global) -> Result<Vec<u32>, NoMemory> {
+        let mut ramped = Vec::new(alloc);
+        let mut g: u32 = 0;
+        for unit in &self.units {
+            if unit.is_ramped {
+                ramped.push(g)?;
+            }
+            g = g.saturating_add(1);
+        }
+        Ok(ramped)
+    }
+
+    /// What the node with these decisions is worth at the prices, and none where a unit has no pattern. The only error is `NoMemory`.
+    pub fn evaluate(
+        &mut self,
+        alloc: Global,
+        instance: &Instance,
+        decisions: &Decisions,
+        prices: &[i64],
+    ) -> Result<Option<Evaluation>, NoMemory> {
+        let mut found = of_system(alloc, instance, prices)?;
+        fill_common(&mut self.common, prices);
+        let mut first = self.common.len().saturating_mul(2);
+        let mut sum: i128 = 0;
+        for (unit, choices) in self.units.iter().zip(&decisions.rows) {
+            let own = priced(&self.common, &mut self.own, unit, prices, first);
+            let Some(amount) = walked(&mut self.walk, unit, own, choices) else {
+                return Ok(None);
+            };
+            sum = sum.saturating_add(i128::from(amount));
+            fill_outputs(&mut self.outputs, unit, &self.walk, own);
+            found.add(unit, &self.outputs)?;
+            if unit.is_ramped {
+                found.add_ramps(unit, &self.outputs, prices, first)?;
+                first = first.saturating_add(own.len().saturating_mul(2));
+            }
+        }
+        found.value = found.value.saturating_add(sum.saturating_mul(PART));
+        Ok(Some(found))
+    }
+}
+
+// The prices of a unit, of whose ramps those begin at `first` in the list: the common ones where it has none.
+fn priced<'a>(
+    common: &'a [Price],
+    own: &'a mut [Price],
+    unit: &Unit,
+    prices: &[i64],
+    first: usize,
+) -> &'a [Price] {
+    if unit.is_ramped && has_ramp_price(prices, first, own.len()) {
+        fill_ramped(own, prices, first);
+        own
+    } else {
+        common
+    }
+}
+
+// The least amount of a unit at its prices, as it may be.
+fn walked(walk: &mut Walk, unit: &Unit, prices: &[Price], choices: &[Choice]) -> Option<i64> {
+    fill(&mut walk.cells, unit, prices);
+    walk.least(unit, choices)
+}

@@ -1,0 +1,21 @@
+//! The value of a node at prices, found quickly: what an ascent climbs by.
+//!
+//! It is the Lagrangian bound in numbers of 64 bits, by one walk over each unit's periods. Nothing is proved of it but that it is safe:
+//! the value that a bound rests on is reckoned anew, and exactly, by others.
+#![tactic(auto)]
+
+mod amounts;
+mod cells;
+mod decisions;
+mod evaluation;
+mod evaluator;
+mod outputs;
+mod prices;
+mod starts;
+mod unit;
+mod walk;
+
+pub use amounts::SCALE;
+pub use decisions::Decisions;
+pub use evaluation::{Evaluation, ON};
+pub use evaluator::Evaluator;

@@ -1,0 +1,58 @@
+//! What a unit gives as it stands.
+
+use crate::amounts::put;
+use crate::cells::Cell;
+use crate::prices::Price;
+use crate::unit::{Cap, Unit};
+use crate::walk::{Stand, Walk};
+
+/// Whether a unit is on in a period, and its output above the minimum and its reserve there.
+#[derive(Clone, Copy, Debug)]
+pub(crate) struct Output {
+    pub on: bool,
+    pub power: i64,
+    pub reserve: i64,
+}
+
+pub(crate) const NOTHING: Output = Output {
+    on: false,
+    power: 0,
+    reserve: 0,
+};
+
+/// Fills what a unit gives in each period, as it stands at its prices.
+pub(crate) fn fill_outputs(outputs: &mut [Output], unit: &Unit, walk: &Walk, prices: &[Price]) {
+    let places = walk.stands.iter().zip(walk.cells.iter().zip(prices));
+    for (t, (stand, (cell, price))) in places.enumerate() {
+        put(outputs, t, output_of(unit, *stand, cell, price));
+    }
+}
+
+// What a unit gives that stands so in a cell.
+fn output_of(unit: &Unit, stand: Stand, cell: &Cell, price: &Price) -> Output {
+    match stand {
+        Stand::Off => NOTHING,
+        Stand::Full => output_within(&unit.full, cell, price),
+        Stand::Start => output_within(&unit.start, cell, price),
+        Stand::Stop => output_within(&unit.stop, cell, price),
+        Stand::Both => output_within(&unit.both, cell, price),
+    }
+}
+
+// What is best within a cap. What it leaves is reserve where this earns.
+fn output_within(cap: &Cap, cell: &Cell, price: &Price) -> Output {
+    let power = if cell.power <= cap.most {
+        cell.power
+    } else {
+        cap.power
+    };
+    Output {
+        on: true,
+        power,
+        reserve: if price.reserve > 0 {
+            cap.most.saturating_sub(power)
+        } else {
+            0
+        },
+    }
+}
