@@ -3,9 +3,10 @@
 
     python3 bench/repair.py MOVES[:PPM] CASE.json[=DOLLARS] ..     # at the top of the repository, with `rt` on the path
 
-From the table of no prices an ascent of as many evaluations as a step makes gives prices and shares, and `repair` makes so many moves
-for each unit, or ends before at a cost within so many millionths of the bound. Told are the bound and the cost in dollars, the seconds of the ascent, of making the room and of the repair, and, where
-a cost is given in dollars, how far the cost found lies above it, in parts of it. Nothing is proved here, see `unproved.py`.
+From the table of no prices an ascent of 40 evaluations for up to 500 cells, and of 150 for more, gives prices and shares, and `repair`, the
+first of its room, makes so many moves for each unit, or ends before at a cost within so many millionths of the bound. Told are the bound
+and the cost in dollars, the seconds of the ascent, of making the room and of the repair, and, where a cost is given in dollars, how far the
+cost found lies above it, in parts of it. Nothing is proved here, see `unproved.py`.
 """
 import pathlib
 import shutil
