@@ -83,7 +83,7 @@ pub fn ascend(
         None => (prices, Vec::new(alloc), 0),
         Some(first) => {
             let rise = first_rise(table, first.value);
-            let mut center = begin(alloc, instance, prices, first, rise)?;
+            let mut center = begin(alloc, instance, prices, first, rise, &ramped)?;
             climb(
                 alloc,
                 &mut evaluator,
@@ -195,8 +195,9 @@ fn begin(
     prices: Vec<i64>,
     first: Evaluation,
     rise: i128,
+    ramped: &[u32],
 ) -> Result<Center, NoMemory> {
-    let mut bundle = Bundle::of(alloc, instance);
+    let mut bundle = Bundle::of(alloc, instance, ramped)?;
     let value = first.value;
     let cut = cut(&bundle, first, WHOLE);
     bundle.begin(alloc, cut, rise)?;

@@ -8,7 +8,7 @@ use crate::limited::{narrow, within, word};
 use crate::price_list::at;
 use crate::products::{Products, add_multiple};
 use std::alloc::Global;
-use uc_model::{Instance, NoMemory};
+use uc_model::{Instance, NoMemory, Thermal};
 
 /// The sum of the weights.
 pub(crate) const WHOLE: i64 = 1 << 24;
@@ -50,19 +50,20 @@ pub(crate) struct Cut {
     pub shares: Vec<i64>,
 }
 
-/// The cuts, and the products of their slopes over the prices that move freely; how many prices may be below 0, which come first,
-/// and how many after them act on the whole system; by how much the slopes of all others are enlarged, since each acts on one unit;
-/// the watts of a unit of slopes; the stride, in parts of `PART`; and the most cuts that are kept.
+/// The cuts, and the products of their slopes over the prices that move freely; how many prices may be below 0, which come first; how many
+/// act on the whole system, which are these and as many after them, and then on each unit whose ramps can bind; by how much slopes are
+/// enlarged: those of the system, by 1, and then those of each such unit; the watts of a unit of slopes; the stride, in parts of `PART`;
+/// and the most cuts that are kept.
 #[derive(Debug, Drop)]
 pub(crate) struct Bundle {
     pub cuts: Vec<Cut>,
     products: Products,
-    pub free: usize,
-    pub system: usize,
-    pub metric: i64,
-    pub unit: i64,
+    free: usize,
+    system: usize,
+    metrics: Vec<i64>,
+    unit: i64,
     pub stride: i64,
-    pub most: usize,
+    most: usize,
 }
 
 /// A move of each price, those that aren't 0 by their places, and by how much the bound rises at most with them.
@@ -83,16 +84,20 @@ struct Ends {
 }
 
 impl Bundle {
-    /// A bundle without cuts for the ascents of an instance.
-    pub(crate) fn of(alloc: Global, instance: &Instance) -> Bundle {
+    /// A bundle without cuts for the ascents of an instance, in which the ramps of these units can bind. The only error is `NoMemory`.
+    pub(crate) fn of(
+        alloc: Global,
+        instance: &Instance,
+        ramped: &[u32],
+    ) -> Result<Bundle, NoMemory> {
         let periods = instance.periods as usize;
         let units = instance.thermal.as_slice().len();
-        Bundle {
+        Ok(Bundle {
             cuts: Vec::new(alloc),
             products: Products::none(alloc),
             free: periods,
             system: periods.saturating_mul(2),
-            metric: metric(units),
+            metrics: metrics(alloc, instance, ramped)?,
             unit: slope_unit(instance),
             stride: 1,
             most: if units.saturating_mul(periods) <= MANY_CELLS {
@@ -100,7 +105,7 @@ impl Bundle {
             } else {
                 FEW_CUTS
             },
-        }
+        })
     }
 
     /// Whether few cuts are kept.
@@ -137,12 +142,9 @@ impl Bundle {
         }
     }
 
+    // By how much the slopes in price i are enlarged.
     fn metric_at(&self, i: usize) -> i64 {
-        if i < self.system {
-            1
-        } else {
-            self.metric.max(1)
-        }
+        at(&self.metrics, i / self.system.max(1)).max(1)
     }
 
     /// The move from the centre, at which the bound is some `size`.
@@ -326,19 +328,20 @@ impl Bundle {
 
     /// By how much a cut with these slopes changes with the moves of some prices.
     pub(crate) fn change(&self, slopes: &[i64], moved: &[(usize, i64)]) -> i128 {
-        let mut system: i128 = 0;
-        let mut ramps: i128 = 0;
+        let mut change: i128 = 0;
+        let mut enlarged: i128 = 0;
+        let mut metric: i64 = 1;
         for (i, by) in moved {
-            let worth = times(at(slopes, *i), *by);
-            if *i < self.system {
-                system = system.wrapping_add(worth);
-            } else {
-                ramps = ramps.wrapping_add(worth);
+            let own = self.metric_at(*i);
+            if own != metric {
+                change = change.wrapping_add(enlarged / i128::from(metric.max(1)));
+                enlarged = 0;
+                metric = own;
             }
+            enlarged = enlarged.wrapping_add(times(at(slopes, *i), *by));
         }
-        let metric = i128::from(self.metric.max(1));
-        system
-            .saturating_add(ramps / metric)
+        change
+            .wrapping_add(enlarged / i128::from(metric.max(1)))
             .saturating_mul(i128::from(self.unit))
     }
 
@@ -475,13 +478,32 @@ impl Bundle {
     }
 }
 
-// By how much slopes are enlarged that act on one of so many units: a compromise between a few and many.
-fn metric(units: usize) -> i64 {
-    let mut root: i64 = 2;
-    for _ in 0..units.isqrt() {
-        root = root.saturating_add(1);
+// By how much slopes are enlarged: those of the system, and those of each unit whose ramps can bind.
+fn metrics(alloc: Global, instance: &Instance, ramped: &[u32]) -> Result<Vec<i64>, NoMemory> {
+    let units = instance.thermal.as_slice();
+    let mut all: i64 = 0;
+    for unit in units {
+        all = all.saturating_add(range_of(unit));
     }
-    (root.saturating_mul(2) / 5).max(2)
+    let mut metrics = vec![in alloc; 1_i64; 1]?;
+    for g in ramped {
+        if let Some(unit) = units.get(*g as usize) {
+            metrics.push(metric(all, range_of(unit)))?;
+        }
+    }
+    Ok(metrics)
+}
+
+// Three tenths of the root of how many times all ranges are one unit's, since each price of a ramp acts on one unit alone.
+fn metric(all: i64, own: i64) -> i64 {
+    let times = all.saturating_mul(100) / own.max(1);
+    let root = times.max(0).isqrt();
+    (root.saturating_mul(3).saturating_add(50) / 100).max(1)
+}
+
+// The watts between a unit's least and greatest output.
+fn range_of(unit: &Thermal) -> i64 {
+    unit.pmax.saturating_sub(unit.pmin)
 }
 
 // The least power of two of which a million are no less than any period's demand and all units' greatest output.

@@ -12,9 +12,10 @@ use crate::no_prices::SCALE;
 use dual_model::{Node, Table};
 use dual_value::Valued;
 use std::alloc::Global;
-use uc_model::{Instance, NoMemory};
+use uc_model::{Instance, NoMemory, Thermal};
 
-/// The most evaluations of an ascent, and those where there are so few cells that each is cheap beside what the cuts take.
+/// The most evaluations of an ascent, and those where there are so few cells that each is cheap beside what the cuts take, and no ramps
+/// that have prices too.
 const EVALUATIONS: u32 = 150;
 
 const FEW_EVALUATIONS: u32 = 40;
@@ -44,25 +45,31 @@ pub fn next_ascent(
     ensures lawful { IfOk result (λ ascent. IsLawfulTable instance.now ascent.table) }
     ensures scale { IfOk result (λ ascent. ascent.table.k ≡ pos (1000000 + had)) }
 {
-    let cells = instance
-        .thermal
-        .as_slice()
-        .len()
-        .saturating_mul(instance.periods as usize);
-    let evaluations = if cells <= FEW_CELLS {
+    let evaluations = if node.fixings.as_slice().is_empty() {
+        evaluations_of(instance)
+    } else {
+        evaluations_of(instance).min(NODE_EVALUATIONS)
+    };
+    let scale = SCALE + i64::from(had);
+    ascend(alloc, instance, node, table, evaluations, scale)
+}
+
+// The most evaluations of an ascent at the root.
+fn evaluations_of(instance: &Instance) -> u32 {
+    let units = instance.thermal.as_slice();
+    let cells = units.len().saturating_mul(instance.periods as usize);
+    if cells <= FEW_CELLS && units.iter().all(|unit| is_agile(unit)) {
         FEW_EVALUATIONS
     } else if cells >= MANY_CELLS {
         MANY_EVALUATIONS
     } else {
         EVALUATIONS
-    };
-    let evaluations = if node.fixings.as_slice().is_empty() {
-        evaluations
-    } else {
-        evaluations.min(NODE_EVALUATIONS)
-    };
-    let scale = SCALE + i64::from(had);
-    ascend(alloc, instance, node, table, evaluations, scale)
+    }
+}
+
+// Whether a unit may rise and fall over its whole range within an hour.
+fn is_agile(unit: &Thermal) -> bool {
+    unit.ru.min(unit.rd) >= unit.pmax.saturating_sub(unit.pmin)
 }
 
 /// A table to try next at a node at which `had` tables were tried, of which the last is `table`; `valued` is its value, or `None`

@@ -7,7 +7,7 @@ ghost use Rattle.schedule_repair.specs.Accepted.{IsAcceptedIfFound};
 
 use crate::accepted::accepted;
 use crate::kicks::kick;
-use crate::passes::{Units, pass, set_full_prices, set_soft_prices};
+use crate::passes::{Units, pass, set_full_prices, set_soft_prices, soft_price};
 use crate::printing::printed_of;
 use crate::room::Repair;
 use crate::rounding::round;
@@ -19,8 +19,9 @@ use uc_model::{Instance, NoMemory, Printed};
 /// this order.
 pub(crate) const THRESHOLDS: [i64; 4] = [13107, 32768, 3277, 66];
 
-/// The passes in which missing reserve is cheap, and the most after them in which it has its full price.
-const SOFT_PASSES: u32 = 2;
+/// The passes in which missing reserve is cheap, from one to the next half as cheap, and the most after them in which it has its full
+/// price.
+const SOFT_PASSES: u32 = 8;
 
 const HARD_PASSES: u32 = 6;
 
@@ -142,9 +143,11 @@ fn descend(
 ) -> Result<(), NoMemory>
     requires lawful { IsLawfulInstance instance.now }
 {
-    set_soft_prices(&mut room.state.periods, &room.plant.market, table);
+    let mut least = soft_price(&room.plant.market);
     for _ in 0..SOFT_PASSES {
+        set_soft_prices(&mut room.state.periods, table, least);
         pass(room, instance, Units::All, left)?;
+        least = least.saturating_mul(2);
     }
     set_full_prices(&mut room.state.periods, &room.plant.market);
     for _ in 0..HARD_PASSES {

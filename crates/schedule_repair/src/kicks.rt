@@ -4,7 +4,7 @@ ghost use Rattle.uc_model.specs.Limits.{IsLawfulInstance};
 
 use crate::chance::CHANCES;
 use crate::moves::improve;
-use crate::passes::{Units, pass, set_full_prices, set_soft_prices};
+use crate::passes::{Units, pass, set_full_prices, set_soft_prices, soft_price};
 use crate::room::Repair;
 use dual_model::{Fix, Table};
 use uc_model::{Instance, NoMemory};
@@ -80,7 +80,8 @@ fn kick_once(
     };
     *left = left.saturating_sub(2);
     if room.chance.next() < SOFT_KICKS {
-        set_soft_prices(&mut room.state.periods, &room.plant.market, table);
+        let least = soft_price(&room.plant.market);
+        set_soft_prices(&mut room.state.periods, table, least);
     }
     turn_unit(room, instance, turn.unit, Some(&turn.fix))?;
     pass(room, instance, Units::ListedBut(turn.unit), left)?;

@@ -25,13 +25,13 @@ pub(crate) struct Segment {
     pub rate: i64,
 }
 
-/// The rates of all segments in order of merit, the powers of two up to their number from the greatest on, the rate of the steepest,
-/// and that of what is lacking.
+/// The rates of all segments in order of merit, the powers of two up to their number from the greatest on, the rate of the segment with
+/// which half of all watts are reached, and that of what is lacking.
 #[derive(Debug, Drop)]
 pub(crate) struct Market {
     pub rates: Vec<i64>,
     pub strides: Vec<usize>,
-    pub steepest: i64,
+    pub middle: i64,
     pub scarcity: i64,
 }
 
@@ -39,6 +39,7 @@ pub(crate) struct Market {
 #[derive(Clone, Copy, Debug)]
 struct Entry {
     rate: i64,
+    watts: i64,
     unit: usize,
     number: usize,
 }
@@ -79,13 +80,12 @@ fn segment_between(from: &Point, to: &Point) -> Segment {
 pub(crate) fn market_of(alloc: Global, units: &mut [Unit]) -> Result<Market, NoMemory> {
     let entries = entries(alloc, units)?;
     let mut rates = Vec::new(alloc);
-    let mut steepest: i64 = 1;
+    let mut dearest: i64 = 1;
     for (place, entry) in entries.iter().enumerate() {
         rates.push(entry.rate)?;
-        steepest = steepest.max(entry.rate);
+        dearest = dearest.max(entry.rate);
         set_place(units, entry, place);
     }
-    let mut dearest = steepest;
     for unit in units.iter() {
         dearest = dearest.max(unit.rate_at_minimum());
     }
@@ -93,7 +93,7 @@ pub(crate) fn market_of(alloc: Global, units: &mut [Unit]) -> Result<Market, NoM
     Ok(Market {
         rates,
         strides,
-        steepest,
+        middle: middle(&entries),
         scarcity: dearest.saturating_mul(SCARCITY),
     })
 }
@@ -104,6 +104,7 @@ fn entries(alloc: Global, units: &[Unit]) -> Result<Vec<Entry>, NoMemory> {
         for (number, segment) in own.segments.iter().enumerate() {
             entries.push(Entry {
                 rate: segment.rate,
+                watts: segment.watts,
                 unit,
                 number,
             })?;
@@ -111,6 +112,22 @@ fn entries(alloc: Global, units: &[Unit]) -> Result<Vec<Entry>, NoMemory> {
     }
     entries.sort_by_key(|entry| entry.rate)?;
     Ok(entries)
+}
+
+// The rate of the segment with which, in order of merit, half of all watts are reached; at least 1.
+fn middle(entries: &[Entry]) -> i64 {
+    let mut watts: i64 = 0;
+    for entry in entries {
+        watts = watts.saturating_add(entry.watts);
+    }
+    let mut left = watts / 2;
+    for entry in entries {
+        left = left.saturating_sub(entry.watts);
+        if left <= 0 {
+            return entry.rate.max(1);
+        }
+    }
+    1
 }
 
 fn set_place(units: &mut [Unit], entry: &Entry, place: usize) {

@@ -12,8 +12,8 @@ use crate::turns::Turns;
 use dual_model::Table;
 use uc_model::{Instance, NoMemory};
 
-/// Missing reserve costs at least so many hundredths of the steepest segment where it is cheap.
-const SOFT_PRICE: i64 = 17;
+/// Missing reserve costs at least so many hundredths of a watt in the middle of the order of merit where it is cheap.
+const SOFT_PRICE: i64 = 30;
 
 /// The units of a pass: all, those that have a turn, or all of these but one.
 #[derive(Clone, Copy, Debug)]
@@ -69,9 +69,13 @@ fn shuffle(visits: &mut Vec<Visit>, chance: &mut Chance) -> Result<(), NoMemory>
     Ok(())
 }
 
-/// Makes missing reserve as cheap as its price in the table, or a part of the steepest segment if this is more.
-pub(crate) fn set_soft_prices(periods: &mut [Period], market: &Market, table: &Table) {
-    let least = market.steepest.saturating_mul(SOFT_PRICE) / 100;
+/// What missing reserve costs at least where it is cheap.
+pub(crate) fn soft_price(market: &Market) -> i64 {
+    market.middle.saturating_mul(SOFT_PRICE) / 100
+}
+
+/// Makes missing reserve as cheap as its price in the table, or as this price if it is more.
+pub(crate) fn set_soft_prices(periods: &mut [Period], table: &Table, least: i64) {
     for (period, price) in periods.iter_mut().zip(table.mu()) {
         period.reserve_rate = least.max(rate_of(price, table.k()));
     }

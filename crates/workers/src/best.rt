@@ -15,20 +15,17 @@ use std::alloc::Global;
 use uc_model::tolerance::WHOLE_GAP;
 use uc_model::{Instance, NoMemory, Printed};
 
-/// The moves of the first repair, beside those for each unit: enough for the passes of each threshold, and for kicks of what comes of
-/// them where the units are few.
+/// The moves of the first repair, beside those for each unit: the latter are enough for the passes of each threshold, and the former for
+/// kicks of what comes of them where the units are few.
 const FIRST_MOVES: u32 = 20_000;
 
-const FIRST_MOVES_EACH: u32 = 30;
+const FIRST_MOVES_EACH: u32 = 60;
 
-/// The moves of each later repair at the root for each unit.
-const LATER_MOVES_EACH: u32 = 10;
+/// The moves of each later repair for each unit: enough for a descent from one threshold, and some kicks of the best state.
+const LATER_MOVES_EACH: u32 = 25;
 
-/// The same at other nodes: enough for a descent from one threshold, and some kicks of the best state.
-const NODE_MOVES_EACH: u32 = 15;
-
-/// How many moves the repair has at the claim of this unit, of the node of this number.
-pub(crate) fn moves(instance: &Instance, node: u32, unit: u32) -> u32
+/// How many moves the repair has at the claim of this unit.
+pub(crate) fn moves(instance: &Instance, unit: u32) -> u32
     requires { IsLawfulInstance instance.now }
 {
     let units = instance.thermal.as_slice().len() as u32;
@@ -36,10 +33,8 @@ pub(crate) fn moves(instance: &Instance, node: u32, unit: u32) -> u32
         units
             .saturating_mul(FIRST_MOVES_EACH)
             .saturating_add(FIRST_MOVES)
-    } else if node == 0 {
-        units.saturating_mul(LATER_MOVES_EACH)
     } else {
-        units.saturating_mul(NODE_MOVES_EACH)
+        units.saturating_mul(LATER_MOVES_EACH)
     }
 }
 

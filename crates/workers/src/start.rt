@@ -57,7 +57,7 @@ pub(crate) fn started(
         repairs,
         instance,
         &ascent,
-        moves(instance, 0, 1),
+        moves(instance, 1),
         enough(&ascent.bound, gap),
         schedule,
     )?;

@@ -185,7 +185,7 @@ fn turn(
     ensures accepted { IfOk result (λ after. IsAcceptedIfFound instance.now after.best) }
     ensures no_worse { IfOk result (λ after. IsNoWorse search.best after.best) }
 {
-    let moves = moves_of(instance, &next, node, unit);
+    let moves = moves_of(instance, &next, unit);
     let found = search.best.is_some();
     let mut state = search.state;
     let mut frontier = search.frontier;
@@ -225,13 +225,13 @@ fn turn(
 }
 
 // How many moves the repair of a claim has: none where its ascent was made, and repaired, already.
-fn moves_of(instance: &Instance, next: &Option<Ascent>, node: u32, unit: u32) -> u32
+fn moves_of(instance: &Instance, next: &Option<Ascent>, unit: u32) -> u32
     requires { IsLawfulInstance instance.now }
 {
     if next.is_some() {
         0
     } else {
-        moves(instance, node, unit)
+        moves(instance, unit)
     }
 }
 
