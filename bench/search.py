@@ -1,16 +1,18 @@
 #!/usr/bin/env python3
 """Measures what whole runs of `uc solve` find on instance files, and what they take.
 
-    python3 bench/search.py PROGRAM UNITS CASE.json ..     # PROGRAM is `crates/uc/out/uc`, or `unproved`
+    python3 bench/search.py PROGRAM UNITS[:SECONDS] CASE.json ..     # PROGRAM is `crates/uc/out/uc`, or `unproved`
 
-Told are cost, bound and gap after a budget of so many evaluations, the evaluations, and the seconds of the run and of the check of its
-certificate, which has to be accepted. `unproved` builds the program of the sources at hand without a proof, see `unproved.py`.
+Told are cost, bound and gap after a budget of so many evaluations, the evaluations, and the seconds of the processor that the run took and
+the check of its certificate, which has to be accepted. With SECONDS, where the Python that runs this has scipy 1.9 or later, HiGHS follows
+on the same instance with so many seconds, see `highs.py`. `unproved` builds the program of the sources at hand without a proof, see
+`unproved.py`.
 """
 import pathlib
+import resource
 import subprocess
 import sys
 import tempfile
-import time
 
 import unproved
 
@@ -24,10 +26,16 @@ def built(folder):
     return unproved.build(folder / "built", LIBRARIES, source, checks=False)
 
 
+def processor():
+    """The seconds of the processor that ended children took so far."""
+    used = resource.getrusage(resource.RUSAGE_CHILDREN)
+    return used.ru_utime + used.ru_stime
+
+
 def timed(words):
-    start = time.monotonic()
+    start = processor()
     ran = subprocess.run(words, capture_output=True, text=True)
-    return ran, time.monotonic() - start
+    return ran, processor() - start
 
 
 def amount(report, name):
@@ -53,15 +61,28 @@ def measure(program, units, case, folder):
     if cost:
         parts.append(f"gap {(cost - bound) / abs(cost):.4%}")
     parts.append(f"evaluations {int(amount(solved.stdout, 'evaluations'))}")
-    print(", ".join(parts), f"in {took:.2f} s, checked in {check:.2f} s")
+    print(", ".join(parts), f"in {took:.2f} s, checked in {check:.2f} s", flush=True)
 
 
-def main(program, units, cases):
+def highs_too(seconds, case):
+    try:
+        import highs
+    except ImportError:
+        print("HiGHS: not run, as there is no scipy")
+        return
+    print("HiGHS on", end=" ", flush=True)
+    highs.main(seconds, [case])
+
+
+def main(program, budget, cases):
+    units, _, seconds = budget.partition(":")
     with tempfile.TemporaryDirectory() as made:
         folder = pathlib.Path(made)
         program = built(folder) if program == "unproved" else program
         for case in cases:
             measure(program, units, case, folder)
+            if seconds:
+                highs_too(float(seconds), case)
 
 
 if __name__ == "__main__":

@@ -15,11 +15,13 @@ use std::alloc::Global;
 use uc_model::tolerance::WHOLE_GAP;
 use uc_model::{Instance, NoMemory, Printed};
 
-/// The moves of the first repair, beside those for each unit: the latter are enough for the passes of each threshold, and the former for
-/// kicks of what comes of them where the units are few.
-const FIRST_MOVES: u32 = 20_000;
-
+/// The moves of the first repair for each unit: enough for the passes of each threshold.
 const FIRST_MOVES_EACH: u32 = 60;
+
+/// Further ones of it for each of the first so many units, for kicks of what comes of these passes.
+const KICKS_EACH: u32 = 140;
+
+const KICKED_UNITS: u32 = 100;
 
 /// The moves of each later repair for each unit: enough for a descent from one threshold, and some kicks of the best state.
 const LATER_MOVES_EACH: u32 = 25;
@@ -30,9 +32,8 @@ pub(crate) fn moves(instance: &Instance, unit: u32) -> u32
 {
     let units = instance.thermal.as_slice().len() as u32;
     if unit == 1 {
-        units
-            .saturating_mul(FIRST_MOVES_EACH)
-            .saturating_add(FIRST_MOVES)
+        let kicks = units.min(KICKED_UNITS).saturating_mul(KICKS_EACH);
+        units.saturating_mul(FIRST_MOVES_EACH).saturating_add(kicks)
     } else {
         units.saturating_mul(LATER_MOVES_EACH)
     }
