@@ -12,10 +12,10 @@ use Rattle.uc_model.proofs.Sums.{sum_below-first, sum_below-same}
 use Rattle.dual_model.specs.declared.node.Fix.{Fix}
 use Rattle.dual_model.specs.UnitTerms.{period_count, term_at, price_at}
 use Rattle.dual_model.specs.PatternValue.{is_followed, term_of, period_value, pattern_value}
-use Rattle.state_walk.specs.inside.Moves.{may_be_on, may_be_off, holds_initially, may_stop, may_start, stop_since, hour_cost, hour_before, move}
-use Rattle.state_walk.specs.CostToGo.{total_of, end_cost}
-use Rattle.state_walk.proofs.Optimum.{way, total_of-parts}
-use Rattle.state_walk.proofs.Switches.{since, since-start, last_stop-since}
+use Rattle.dual_model.specs.Moves.{may_be_on, may_be_off, holds_initially, may_stop, may_start, stop_since, hour_cost, hour_before, move}
+use Rattle.dual_model.specs.CostToGo.{total_of, end_cost}
+use Rattle.dual_model.proofs.Optimum.{way, total_of-parts}
+use Rattle.dual_model.proofs.Switches.{since, since-start, last_stop-since}
 
 -- ---- the hour before a period
 -- what the pattern's hour before period t costs without the start; nothing where it is off

@@ -1,12 +1,11 @@
 -- The least cost of going on from a state to the end of the horizon: the recursion of the walk, over the
 -- number of periods that are left. Source: Bellman's principle of optimality (Dynamic Programming, 1957).
-use Rattle.std.specs.Prelude.{◌≡◌, ℕ, zero, suc, ◌*◌, ◌^◌, ◌≤◌, Bool, true, false, ◌==◌, List, ℤ, pos, ◌+ℤ◌, unsigned_abs, slice_index_or, Option, Some, None, IfSome}
+use Rattle.std.specs.Prelude.{ℕ, zero, suc, ◌*◌, ◌^◌, ◌≤◌, Bool, true, false, ◌==◌, ℤ, pos, ◌+ℤ◌, unsigned_abs, Option, Some, None, IfSome}
 use Rattle.std.specs.Int.{int_min}
 use Rattle.uc_model.specs.declared.instance.Thermal.{Thermal}
 use Rattle.uc_model.specs.declared.terms.Terms.{Terms}
 use Rattle.dual_model.specs.declared.node.Fix.{Fix}
-use Rattle.state_walk.specs.inside.Moves.{hour_before, move}
-use Rattle.state_walk.specs.declared.walk.CostToGo.{CostToGo}
+use Rattle.dual_model.specs.Moves.{hour_before, move}
 
 -- the total of two costs, and the lesser of them; None is what may not be
 abbrev pub total_of : Option ℤ → Option ℤ → Option ℤ
@@ -49,14 +48,3 @@ MAX_MOVE = 2 * 10 ^ 29
 
 abbrev pub MAX_COST_TO_GO : ℕ
 MAX_COST_TO_GO = 10 ^ 32
-
--- the table of the walk before period t, with n periods left: an entry for each time since which a state may last
-abbrev pub entry : Terms → Thermal → Fix → ℕ → ℕ → ℕ → CostToGo
-entry terms unit fix n t since =
-    record { on = cost_to_go terms unit fix n t true since; off = cost_to_go terms unit fix n t false since }
-
-abbrev pub entry_at : List CostToGo → ℕ → CostToGo
-entry_at values since = slice_index_or values since (record { on = None; off = None })
-
-abbrev pub IsTable : Terms → Thermal → Fix → ℕ → ℕ → List CostToGo → Type 0
-IsTable terms unit fix n t values = (since : ℕ) → since ≤ t → entry_at values since ≡ entry terms unit fix n t since

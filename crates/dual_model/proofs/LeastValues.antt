@@ -9,10 +9,10 @@ use Rattle.uc_model.proofs.Ring.{linear}
 use Rattle.dual_model.specs.declared.node.Fix.{Fix}
 use Rattle.dual_model.specs.UnitTerms.{AreSizedTerms, period_count}
 use Rattle.dual_model.specs.PatternValue.{IsPattern, IsLeastValue, HasNoPattern, pattern_value}
-use Rattle.state_walk.specs.CostToGo.{cost_to_go}
-use Rattle.state_walk.proofs.Optimum.{AtMost, cost_to_go-le-way, cost_to_go-attained}
-use Rattle.state_walk.proofs.Ways.{own_way-right, whole_way-from}
-use Rattle.state_walk.proofs.Allowed.{all_right-pattern, pattern-all_right}
+use Rattle.dual_model.specs.CostToGo.{cost_to_go}
+use Rattle.dual_model.proofs.Optimum.{AtMost, cost_to_go-le-way, cost_to_go-attained}
+use Rattle.dual_model.proofs.Ways.{own_way-right, whole_way-from}
+use Rattle.dual_model.proofs.Allowed.{all_right-pattern, pattern-all_right}
 
 -- the recursion from the beginning
 abbrev pub from_start : Terms → Thermal → Fix → Option ℤ

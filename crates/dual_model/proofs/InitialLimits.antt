@@ -8,7 +8,7 @@ use Rattle.uc_model.specs.Commitment.{Commitment, initial_stop_holds}
 use Rattle.uc_model.specs.declared.instance.Thermal.{Thermal}
 use Rattle.uc_model.proofs.Ring.{linear, mul-one, mul-zero, one-mul, zero-mul}
 use Rattle.uc_model.proofs.Tests.{int_le-true, le-int_le}
-use Rattle.state_walk.specs.inside.Moves.{initial_limit}
+use Rattle.dual_model.specs.Moves.{initial_limit}
 
 limit_from : (p0 pmin pmax sd : ℤ) (first now : Bool) → first ≡ true
     → (bit first *ℤ (p0 -ℤ pmin)) ≤ℤ (bit first *ℤ (pmax -ℤ pmin) -ℤ int_max (pmax -ℤ sd) (pos 0) *ℤ bit (first && not now))

@@ -14,13 +14,13 @@ use Rattle.uc_model.proofs.Tests.{int_le-true, le-int_le, all_below-at, all_belo
 use Rattle.dual_model.specs.declared.node.Fix.{Fix}
 use Rattle.dual_model.specs.UnitTerms.{AreSizedTerms, IsSized, period_count, term_at}
 use Rattle.dual_model.specs.PatternValue.{IsPattern, is_followed}
-use Rattle.state_walk.specs.inside.Moves.{holds_initially, initial_limit, has_lasted, hour_cost}
-use Rattle.state_walk.specs.CostToGo.{since_after}
-use Rattle.state_walk.proofs.Switches.{since}
-use Rattle.state_walk.proofs.Lasting.{enters, leaves, LeavesInTime, window-from_lasting, initial-from_lasting, lasting-from_windows}
+use Rattle.dual_model.specs.Moves.{holds_initially, initial_limit, has_lasted, hour_cost}
+use Rattle.dual_model.specs.CostToGo.{since_after}
+use Rattle.dual_model.proofs.Switches.{since}
+use Rattle.dual_model.proofs.Lasting.{enters, leaves, LeavesInTime, window-from_lasting, initial-from_lasting, lasting-from_windows}
 use Rattle.dual_model.proofs.CellCaps.{cell_cap-cap}
-use Rattle.state_walk.proofs.InitialLimits.{initial_stop-limit, initial_stop-from}
-use Rattle.state_walk.proofs.Ways.{hour, IsRight, IsThere, AllRight}
+use Rattle.dual_model.proofs.InitialLimits.{initial_stop-limit, initial_stop-from}
+use Rattle.dual_model.proofs.Ways.{hour, IsRight, IsThere, AllRight}
 
 -- ---- the parts of what is allowed in a period
 record AllowedAt (periods : ℕ) (unit : Thermal) (on : Commitment) (t : ℕ) : Type 0 where

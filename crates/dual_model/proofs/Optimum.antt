@@ -9,8 +9,8 @@ use Rattle.uc_model.specs.declared.instance.Thermal.{Thermal}
 use Rattle.uc_model.specs.declared.terms.Terms.{Terms}
 use Rattle.uc_model.proofs.Ring.{linear}
 use Rattle.dual_model.specs.declared.node.Fix.{Fix}
-use Rattle.state_walk.specs.inside.Moves.{move}
-use Rattle.state_walk.specs.CostToGo.{total_of, lesser_of, end_cost, since_after, cost_to_go}
+use Rattle.dual_model.specs.Moves.{move}
+use Rattle.dual_model.specs.CostToGo.{total_of, lesser_of, end_cost, since_after, cost_to_go}
 
 -- the cost of the way that a commitment takes from a state before period t, with n periods left
 abbrev pub way : Terms → Thermal → Fix → Commitment → ℕ → ℕ → Bool → ℕ → Option ℤ
