@@ -17,9 +17,10 @@ use Rattle.uc_model.specs.declared.schedule.Printed.{Printed}
 use Rattle.uc_model.proofs.Ring.{linear, le_or_lt, le_trans, le_antisymm, mul_nonneg, mul-zero}
 use Rattle.uc_model.proofs.Sums.{sum_below-sub}
 use Rattle.uc_model.proofs.MinimumTimes.{bit_nonneg}
+use Rattle.schedule_check.specs.SizedNumbers.{output_at}
 use Rattle.dispatch_repair.specs.Period.{Period, Source, FromThermal, commitment_at, output_before, head_of, need_of}
 use Rattle.dispatch_repair.specs.MeritOrder.{IsInMeritOrder, IsReserveInOrder}
-use Rattle.dispatch_repair.specs.Dispatch.{IsFilled, amounts, output_at, period_after}
+use Rattle.dispatch_repair.specs.Dispatch.{IsFilled, amounts, period_after}
 
 -- ---- least and greatest numbers
 min_left : (a b : ℤ) → int_min a b ≤ℤ a

@@ -21,9 +21,10 @@ use Rattle.uc_model.specs.declared.stuck.Stuck.{Stuck}
 use Rattle.uc_model.specs.declared.stuck.Why.{Why}
 use Rattle.uc_model.specs.declared.stuck.Why.TheVariants as why
 use Rattle.start_costs.specs.Cheapest.{IsCheapestAbove}
+use Rattle.schedule_check.specs.SizedNumbers.{output_at}
 use Rattle.dispatch_repair.specs.Period.{Period, Source, FromRenewable, FromThermal, commitment_at, output_before, head_of}
 use Rattle.dispatch_repair.specs.MeritOrder.{IsInMeritOrder}
-use Rattle.dispatch_repair.specs.Dispatch.{HasPeriods, output_at, IsCommittedCell, amounts, period_after, IsFilling, IsFilled, IsDispatchThrough}
+use Rattle.dispatch_repair.specs.Dispatch.{HasPeriods, IsCommittedCell, amounts, period_after, IsFilling, IsFilled, IsDispatchThrough}
 use Rattle.dispatch_repair.specs.Stuck.{IsRegular, IsFirstBrokenRule, IsStuckInPeriod, IsFirstObstacle, stuck_period, IsStuckBy, IsStuckOf, IsDispatchFault}
 use Rattle.dispatch_repair.specs.inside.Amounts.{amount_at, amount_of, thermal_amount, IsRoomOf, IsSizedOutput}
 use Rattle.dispatch_repair.specs.inside.Filled.{IsDispatchedFrom}

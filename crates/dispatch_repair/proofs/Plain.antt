@@ -17,11 +17,11 @@ use Rattle.uc_model.specs.declared.schedule.Cell.{Cell}
 use Rattle.uc_model.specs.declared.schedule.Printed.{Printed}
 use Rattle.uc_model.proofs.Ring.{linear, mul-one, mul-zero, le_trans}
 use Rattle.uc_model.proofs.CostBound.{within_of_abs, abs_of_within}
-use Rattle.schedule_check.specs.SizedNumbers.{HasSizedNumbers}
+use Rattle.schedule_check.specs.SizedNumbers.{HasSizedNumbers, output_at}
 use Rattle.schedule_check.proofs.Priced.{allowed-within}
 use Rattle.dispatch_repair.specs.Period.{FromRenewable, commitment_at}
-use Rattle.dispatch_repair.specs.Dispatch.{IsFilled, IsDispatchThrough, output_at}
-use Rattle.dispatch_repair.specs.PlainNumbers.{IsIdleCell, IsPlainCell, HasPlainNumbers}
+use Rattle.dispatch_repair.specs.Dispatch.{IsFilled, IsDispatchThrough}
+use Rattle.schedule_check.specs.PlainNumbers.{IsIdleCell, IsPlainCell, HasPlainNumbers}
 use Rattle.dispatch_repair.proofs.Filled.{cell_within, cell-le-cap, cell_idle, cap-le-range, max_right}
 
 -- ---- powers

@@ -1,6 +1,6 @@
 -- The dispatch of a commitment: its schedule in merit order. Source: economic dispatch by the merit order of incremental costs,
 -- within the rules of the reference model by Knueven, Ostrowski and Watson; that a period is filled for itself is this project's own.
-use Rattle.std.specs.Prelude.{◌≡◌, ℕ, ◌<◌, false, List, [], ℤ, pos, IsTrue, All, length, slice_index_or}
+use Rattle.std.specs.Prelude.{◌≡◌, ℕ, ◌<◌, false, List, ℤ, IsTrue, All, length}
 use Rattle.uc_model.specs.Commitment.{starts}
 use Rattle.uc_model.specs.StartCategory.{category_cost}
 use Rattle.uc_model.specs.Schedule.{thermal_unit, thermal_count, renewable_count}
@@ -10,6 +10,7 @@ use Rattle.uc_model.specs.declared.pattern.Pattern.{Pattern}
 use Rattle.uc_model.specs.declared.schedule.Cell.{Cell}
 use Rattle.uc_model.specs.declared.schedule.Printed.{Printed}
 use Rattle.start_costs.specs.Cheapest.{IsCheapestAbove}
+use Rattle.schedule_check.specs.SizedNumbers.{output_at}
 use Rattle.dispatch_repair.specs.Period.{Period, Source, FromRenewable, FromThermal, commitment_at, output_before}
 use Rattle.dispatch_repair.specs.MeritOrder.{IsInMeritOrder, IsReserveInOrder}
 
@@ -19,10 +20,6 @@ pub record HasPeriods (instance : Instance) (periods : ℕ) (printed : Printed) 
   pub cells : All (λ row. length row ≡ periods) printed.thermal
   pub renewable : length printed.renewable ≡ renewable_count instance
   pub outputs : All (λ row. length row ≡ periods) printed.renewable
-
--- a renewable unit's output in period t
-abbrev pub output_at : Printed → ℕ → ℕ → ℤ
-output_at printed w t = slice_index_or (slice_index_or printed.renewable w []) t (pos 0)
 
 -- a cell is the commitment's: a start takes the cheapest category that the history allows, the first of several
 pub record IsCommittedCell (instance : Instance) (patterns : List Pattern) (g t : ℕ) (cell : Cell) : Type 0 where

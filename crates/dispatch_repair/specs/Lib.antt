@@ -3,5 +3,4 @@ pub mod MeritOrder
 pub mod Dispatch
 pub mod Stuck
 pub mod inside
-pub mod PlainNumbers
 pub mod MostOn

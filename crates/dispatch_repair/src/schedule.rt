@@ -5,7 +5,7 @@ ghost use Rattle.uc_model.specs.Limits.{IsLawfulInstance};
 ghost use Rattle.uc_model.specs.PrintedSchedule.{HasShapeOf, printed_denominator, printed_schedule};
 ghost use Rattle.uc_model.specs.Rules.{Obeys};
 ghost use Rattle.uc_model.specs.Schedule.{thermal_count};
-ghost use Rattle.dispatch_repair.specs.PlainNumbers.{HasPlainNumbers};
+ghost use Rattle.schedule_check.specs.PlainNumbers.{HasPlainNumbers};
 ghost use Rattle.dispatch_repair.specs.Stuck.{IsDispatchFault, IsDispatchOf, IsRegular};
 ghost use Rattle.dispatch_repair.specs.inside.Amounts.{IsRoomOf};
 ghost use Rattle.dispatch_repair.specs.inside.Progress.{AreFilledBelow, IsStuckAfter};

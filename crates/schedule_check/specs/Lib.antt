@@ -1,3 +1,5 @@
 pub mod FirstBroken
 pub mod SizedNumbers
+pub mod PlainNumbers
+pub mod Accepted
 pub mod inside

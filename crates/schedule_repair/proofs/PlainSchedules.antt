@@ -8,7 +8,7 @@ use Rattle.uc_model.specs.Limits.{IsLimit}
 use Rattle.uc_model.specs.declared.schedule.Cell.{Cell}
 use Rattle.uc_model.specs.declared.schedule.Printed.{Printed}
 use Rattle.uc_model.proofs.Ring.{linear}
-use Rattle.dispatch_repair.specs.PlainNumbers.{IsPlainCell, HasPlainNumbers}
+use Rattle.schedule_check.specs.PlainNumbers.{IsPlainCell, HasPlainNumbers}
 
 abbrev no_cell : Cell
 no_cell = record { on = false; p = pos 0; r = pos 0; category = 0 }

@@ -3,8 +3,8 @@
 ghost use Rattle.std.specs.Prelude.{◌≡◌, ◌+ℤ◌, All, IfSome, IsTrue, length};
 ghost use Rattle.uc_model.specs.Limits.{IsLawfulInstance, IsLimit};
 ghost use Rattle.uc_model.specs.PrintedSchedule.{HasShapeOf};
-ghost use Rattle.dispatch_repair.specs.PlainNumbers.{IsIdleCell, IsPlainCell};
-ghost use Rattle.schedule_repair.specs.Accepted.{IsAccepted};
+ghost use Rattle.schedule_check.specs.PlainNumbers.{IsIdleCell, IsPlainCell};
+ghost use Rattle.schedule_check.specs.Accepted.{IsAccepted};
 
 use schedule_check::check;
 use uc_model::limits::{MAX_POWER, MAX_START_ROWS};

@@ -3,7 +3,7 @@
 ghost use Rattle.std.specs.Prelude.{IfOk};
 ghost use Rattle.uc_model.specs.Limits.{IsLawfulInstance};
 ghost use Rattle.uc_model.specs.declared.instance.Instance.{Instance};
-ghost use Rattle.schedule_repair.specs.Accepted.{IsAcceptedIfFound};
+ghost use Rattle.schedule_check.specs.Accepted.{IsAcceptedIfFound};
 
 use crate::accepted::accepted;
 use crate::kicks::kick;

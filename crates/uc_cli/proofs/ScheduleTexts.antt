@@ -8,11 +8,11 @@ use Rattle.uc_model.specs.declared.instance.Instance.{Instance}
 use Rattle.uc_model.specs.declared.schedule.Cell.{Cell}
 use Rattle.uc_model.specs.declared.schedule.Printed.{Printed}
 use Rattle.schedule_check.specs.SizedNumbers.{HasSizedNumbers, IsSizedCell}
-use Rattle.dispatch_repair.specs.PlainNumbers.{IsPlainCell, HasPlainNumbers}
+use Rattle.schedule_check.specs.PlainNumbers.{IsPlainCell, HasPlainNumbers}
 use Rattle.dispatch_repair.proofs.Plain.{sized}
 use Rattle.branch_tree.specs.Claims.{written_of}
 use Rattle.cert_text.specs.TextConditions.{HasDigits, IsCellText, IsThermalRow, IsRenewableRow, IsScheduleText}
-use Rattle.schedule_repair.specs.Accepted.{IsAccepted}
+use Rattle.schedule_check.specs.Accepted.{IsAccepted}
 
 -- ---- the text
 -- where a schedule has no cell

@@ -9,7 +9,7 @@ use Rattle.uc_model.specs.Schedule.{thermal_count}
 use Rattle.uc_model.specs.declared.instance.Instance.{Instance}
 use Rattle.uc_model.specs.declared.pattern.Pattern.{Pattern}
 use Rattle.dispatch_repair.specs.MostOn.{AreMostOn}
-use Rattle.schedule_repair.specs.Accepted.{IsAcceptedIfFound}
+use Rattle.schedule_check.specs.Accepted.{IsAcceptedIfFound}
 use Rattle.workers.specs.DropCommitment.{Ending, Dispatched, StuckIn, IsDropPass, IsEndingOf, IsFewestOnOf, is_better}
 use Rattle.workers.specs.SearchResult.{IsNoDearer}
 use Rattle.workers.specs.declared.drop_pass.Standing.{Standing}

@@ -46,7 +46,7 @@ use Rattle.search_core.specs.Runs.{HoldsAt, IsBestWithin, IsReached, IsTrueCost,
 use Rattle.search_core.proofs.Claims.{get_push_last}
 use Rattle.search_core.proofs.Leaves.{holds_of_leaf, leaf_part}
 use Rattle.search_core.proofs.TrueRuns.{starts_are_reached, steps_reach}
-use Rattle.schedule_repair.specs.Accepted.{IsAcceptedIfFound}
+use Rattle.schedule_check.specs.Accepted.{IsAcceptedIfFound}
 use Rattle.workers.specs.DropCommitment.{Dispatched, StuckIn}
 use Rattle.workers.specs.declared.opening.Priced.{Priced}
 use Rattle.workers.specs.inside.Evaluations.{IsPricedOf}

@@ -29,7 +29,7 @@ use Rattle.branch_tree.specs.declared.tree.Leaf.{Leaf}
 use Rattle.branch_tree.specs.declared.tree.Leaf.TheVariants as leaf
 use Rattle.branch_tree.proofs.Bounds.{at_most_itself, at_most_through, lesser_first, lesser_second}
 use Rattle.branch_tree.proofs.Used.{unlike}
-use Rattle.schedule_repair.specs.Accepted.{IsAcceptedIfFound}
+use Rattle.schedule_check.specs.Accepted.{IsAcceptedIfFound}
 
 -- ---- a number among others
 abbrev IsAmong : List ℕ → ℕ → Type 0

@@ -8,7 +8,7 @@ use Rattle.branch_tree.specs.Claims.{written_tables}
 use Rattle.branch_tree.specs.StoredTree.{tree_bound}
 use Rattle.branch_tree.specs.TreeView.{IsWhole}
 use Rattle.branch_tree.specs.declared.found.Found.{Found}
-use Rattle.schedule_repair.specs.Accepted.{IsAcceptedIfFound}
+use Rattle.schedule_check.specs.Accepted.{IsAcceptedIfFound}
 
 -- a table with at most a row for each cell
 abbrev pub HasFewRows : Table → Type 0

@@ -4,7 +4,7 @@ ghost use Rattle.std.specs.Prelude.{◌≡◌, ◌≤◌, IfOk, MatchOption};
 ghost use Rattle.uc_model.specs.Limits.{IsLawfulInstance};
 ghost use Rattle.uc_model.specs.declared.tolerance.TheConstants.{WHOLE_GAP};
 ghost use Rattle.search_core.specs.declared.limits.TheConstants.{MAX_BUDGET};
-ghost use Rattle.schedule_repair.specs.Accepted.{IsAcceptedIfFound};
+ghost use Rattle.schedule_check.specs.Accepted.{IsAcceptedIfFound};
 ghost use Rattle.workers.specs.Writable.{IsWritable};
 ghost use Rattle.workers.specs.Opening.{HasEachPattern, HasNoRay, IsFirstRay};
 ghost use Rattle.workers.specs.SearchResult.{IsSearchResult};

@@ -4,7 +4,7 @@ ghost use Rattle.std.specs.Prelude.{◌≡◌, ◌+◌, ◌≤◌, pos, IfOk};
 ghost use Rattle.uc_model.specs.Limits.{IsLawfulInstance};
 ghost use Rattle.uc_model.specs.declared.tolerance.TheConstants.{WHOLE_GAP};
 ghost use Rattle.dual_model.specs.Prices.{IsLawfulTable};
-ghost use Rattle.schedule_repair.specs.Accepted.{IsAcceptedIfFound};
+ghost use Rattle.schedule_check.specs.Accepted.{IsAcceptedIfFound};
 ghost use Rattle.workers.specs.inside.Evaluations.{IsNextAt, IsPricedOf};
 ghost use Rattle.workers.specs.inside.Standings.{IsNoWorse};
 

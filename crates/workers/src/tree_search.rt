@@ -9,7 +9,7 @@ ghost use Rattle.branch_tree.specs.TreeView.{IsWhole};
 ghost use Rattle.search_core.specs.Machine.{Machine};
 ghost use Rattle.search_core.specs.Runs.{HoldsAt};
 ghost use Rattle.search_core.specs.declared.limits.TheConstants.{MAX_BUDGET};
-ghost use Rattle.schedule_repair.specs.Accepted.{IsAcceptedIfFound};
+ghost use Rattle.schedule_check.specs.Accepted.{IsAcceptedIfFound};
 ghost use Rattle.uc_model.specs.declared.instance.Instance.{Instance};
 ghost use Rattle.workers.specs.declared.opening.Priced.{Priced};
 ghost use Rattle.workers.specs.inside.Evaluations.{IsLentOf, IsNextAt, IsPricedOf};

@@ -11,7 +11,8 @@ use Rattle.uc_model.specs.declared.limits.TheConstants.{MAX_POWER}
 use Rattle.uc_model.specs.declared.pattern.Pattern.{Pattern}
 use Rattle.uc_model.specs.declared.schedule.Cell.{Cell}
 use Rattle.uc_model.specs.declared.schedule.Printed.{Printed}
-use Rattle.dispatch_repair.specs.Dispatch.{HasPeriods, IsCommittedCell, output_at}
+use Rattle.schedule_check.specs.SizedNumbers.{output_at}
+use Rattle.dispatch_repair.specs.Dispatch.{HasPeriods, IsCommittedCell}
 use Rattle.dispatch_repair.specs.inside.Amounts.{amount_at, thermal_amount}
 use Rattle.dispatch_repair.specs.declared.rows.Rows.{Rows}
 

@@ -21,7 +21,7 @@ use Rattle.search_core.specs.Machine.{Machine, IsHolding, IsWorker, entries_of, 
 use Rattle.search_core.specs.Moves.{HasFreeCell, bound_of}
 use Rattle.search_core.specs.Steps.{IsFresh, IsLegal, IsStoredTable, after}
 use Rattle.search_core.specs.Runs.{IsReached, IsTrueOutcome}
-use Rattle.schedule_repair.specs.Accepted.{IsAcceptedIfFound}
+use Rattle.schedule_check.specs.Accepted.{IsAcceptedIfFound}
 use Rattle.workers.specs.declared.opening.Priced.{Priced}
 
 -- the machine's start: one worker, and a root that stores the opening's table with its bound

@@ -6,7 +6,7 @@ use Rattle.uc_model.specs.declared.pattern.Pattern.{Pattern}
 use Rattle.uc_model.specs.declared.schedule.Printed.{Printed}
 use Rattle.uc_model.specs.declared.stuck.Stuck.{Stuck}
 use Rattle.dispatch_repair.specs.Stuck.{IsDispatchOf, IsStuckOf}
-use Rattle.schedule_repair.specs.Accepted.{IsAccepted, IsAcceptedIfFound}
+use Rattle.schedule_check.specs.Accepted.{IsAccepted, IsAcceptedIfFound}
 use Rattle.workers.specs.DropCommitment.{Ending, Dispatched, StuckIn, IsDropCommitment, IsDropPass}
 use Rattle.workers.specs.MostOnStuck.{IsMostOnStuck}
 use Rattle.workers.specs.SearchResult.{IsNoDearer}

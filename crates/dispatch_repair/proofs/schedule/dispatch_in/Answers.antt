@@ -3,7 +3,7 @@ use Rattle.std.proofs.Common.{ℕ, ◌≤◌, arith, sym, subst}
 use Rattle.std.proofs.lemmas.Result.{IfOk-weaker}
 use Rattle.uc_model.specs.PrintedSchedule.{printed_denominator, printed_schedule}
 use Rattle.uc_model.specs.Rules.{Obeys}
-use Rattle.dispatch_repair.specs.PlainNumbers.{HasPlainNumbers}
+use Rattle.schedule_check.specs.PlainNumbers.{HasPlainNumbers}
 use Rattle.dispatch_repair.specs.Stuck.{IsDispatchOf}
 use Rattle.dispatch_repair.specs.inside.Amounts.{IsSizedOutput}
 use Rattle.dispatch_repair.specs.inside.Rows.{printed_of}

@@ -7,7 +7,7 @@ use Rattle.uc_model.specs.PrintedSchedule.{printed_cost, printed_denominator}
 use Rattle.uc_model.specs.declared.limits.TheConstants.{COST_MAX}
 use Rattle.uc_model.proofs.PrintedCosts.{printed_cost-fits}
 use Rattle.uc_model.proofs.Sizes.{narrow}
-use Rattle.dispatch_repair.specs.PlainNumbers.{IsPlainCell}
+use Rattle.schedule_check.specs.PlainNumbers.{IsPlainCell}
 use Rattle.schedule_repair.proofs.PlainSchedules.{plain}
 use Rattle.schedule_repair.proofs.accepted.accepted.Goals as goal
 

@@ -1,6 +1,6 @@
 -- Where there is a schedule no ray is positive.
 use Rattle.std.proofs.Common.{subst}
-use Rattle.schedule_repair.specs.Accepted.{IsAcceptedIfFound}
+use Rattle.schedule_check.specs.Accepted.{IsAcceptedIfFound}
 use Rattle.workers.proofs.OpeningRays.{no_ray}
 use Rattle.workers.proofs.root_search.excluding_ray.Goals as goal
 

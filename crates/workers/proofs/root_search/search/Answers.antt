@@ -2,7 +2,7 @@
 use Rattle.std.proofs.Common.{subst, sym}
 use Rattle.std.specs.Prelude.{IfOk}
 use Rattle.std.proofs.lemmas.Result.{IfOk-weaker}
-use Rattle.schedule_repair.specs.Accepted.{IsAcceptedIfFound}
+use Rattle.schedule_check.specs.Accepted.{IsAcceptedIfFound}
 use Rattle.search_core.specs.Runs.{HoldsAt}
 use Rattle.workers.specs.SearchResult.{IsNoDearer, IsSearchResult}
 use Rattle.workers.specs.Writable.{IsWritable}

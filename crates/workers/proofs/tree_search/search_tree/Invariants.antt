@@ -1,7 +1,7 @@
 -- What is lent stays the instance's, each claim so far was committed, and the best schedule is accepted, published and got no worse; an
 -- ascent that was made already is that of the next claim.
 use Rattle.std.proofs.Common.{◌≡◌, suc, length}
-use Rattle.schedule_repair.specs.Accepted.{IsAcceptedIfFound}
+use Rattle.schedule_check.specs.Accepted.{IsAcceptedIfFound}
 use Rattle.workers.specs.inside.Evaluations.{IsLentOf, IsNextAt}
 use Rattle.workers.specs.inside.Searches.{IsSearching, cost_of}
 use Rattle.workers.specs.inside.Standings.{IsNoWorse}

@@ -1,11 +1,11 @@
--- The numbers that a dispatch has: none is below 0, and none is above the limit on a power. This project's own.
+-- The numbers that a dispatch or a repair has: none is below 0, and none is above the limit on a power. This project's own.
 use Rattle.std.specs.Prelude.{◌≡◌, ℕ, ◌≤◌, false, pos, ◌+ℤ◌, ◌≤ℤ◌}
 use Rattle.uc_model.specs.PrintedSchedule.{cell_at}
 use Rattle.uc_model.specs.Limits.{IsPower, IsLimit}
 use Rattle.uc_model.specs.declared.limits.TheConstants.{MAX_START_ROWS}
 use Rattle.uc_model.specs.declared.schedule.Cell.{Cell}
 use Rattle.uc_model.specs.declared.schedule.Printed.{Printed}
-use Rattle.dispatch_repair.specs.Dispatch.{output_at}
+use Rattle.schedule_check.specs.SizedNumbers.{output_at}
 
 -- an off cell has no number
 pub record IsIdleCell (cell : Cell) : Type 0 where
