@@ -2,7 +2,9 @@
 """Runs `rt ci` and prints, as a table, the processor minutes of each crate for its proof, its tests and its must-fail edits.
 
     python3 bench/gate.py            # at the top of the repository, with `rt` on the path; what rt says goes to gate.log
-    python3 bench/gate.py --write    # the same, and the table goes into docs/PERFORMANCE.md where the gate passed
+    python3 bench/gate.py --anew     # from nothing, where earlier runs on this machine have kept what they passed
+    python3 bench/gate.py --write    # the table goes into docs/PERFORMANCE.md where the gate passed
+    taskset -c 0,1 python3 bench/gate.py --anew    # by the clock of two processors
 
 Five times a second it looks at the processes below `rt ci` and keeps the processor time of each. The words of a check name its
 crate and say whether it is one of tests, and an edit is checked in a folder of its own. What is left of the whole time, as linking
@@ -123,7 +125,8 @@ def as_text(names, table, whole, clock, memory):
 
 def main():
     top = pathlib.Path.cwd()
-    status, table, whole, clock, memory = measured(["rt", "ci"], top / "gate.log")
+    anew = ["--anew"] if "--anew" in sys.argv[1:] else []
+    status, table, whole, clock, memory = measured(["rt", "ci", *anew], top / "gate.log")
     text = as_text(crates(top), table, whole, clock, memory)
     print(text, end="")
     print(f"rt ci ended with status {status}: {(top / 'gate.log').read_text().splitlines()[-1]}")

@@ -14,3 +14,11 @@ pub mod Computed
 pub mod TableValues
 pub mod TermLists
 pub mod CellCaps
+pub mod CostSizes
+pub mod Optimum
+pub mod Switches
+pub mod Lasting
+pub mod Ways
+pub mod InitialLimits
+pub mod Allowed
+pub mod LeastValues

@@ -108,7 +108,7 @@ total-same instance table g terms are on term same =
     (λ t within. period-same instance table g terms are on term t within (same t within))
     ∙ ap (λ n. sum_below n (by_terms.period_value terms (thermal_unit instance g) on)) (sym are.periods)
 
-to_table : (instance : Instance) (table : Table) (g : ℕ) (terms : Terms) → AreTermsOf instance table g terms
+pub to_table : (instance : Instance) (table : Table) (g : ℕ) (terms : Terms) → AreTermsOf instance table g terms
     → (on : Commitment) → IsTrue (is_allowed instance.periods (thermal_unit instance g) on)
     → IsPatternValue instance table g on (pattern_value terms (thermal_unit instance g) on)
 to_table instance table g terms are on allowed = record {

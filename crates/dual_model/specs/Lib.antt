@@ -13,3 +13,5 @@ pub mod Examples
 pub mod UnitTerms
 pub mod PatternValue
 pub mod TableValue
+pub mod Moves
+pub mod CostToGo

@@ -8,6 +8,7 @@
 pub mod examples;
 pub mod laws;
 pub mod limits;
+pub mod moves;
 pub mod node;
 pub mod table;
 

@@ -1,6 +1,10 @@
 //! Nodes of the branch tree: what a path from the root has decided.
 
-use uc_model::{List, Pattern};
+ghost use Rattle.std.specs.Prelude.{◌≡◌, ◌<◌};
+ghost use Rattle.dual_model.specs.Moves.{may_be_off as off_at, may_be_on as on_at};
+
+use uc_model::limits::MAX_PERIODS;
+use uc_model::{List, Pattern, Thermal};
 
 /// The decision that thermal unit `g` is on, or off, in period `t`, both counted from 0.
 #[derive(Clone, Copy, Debug)]
@@ -22,4 +26,24 @@ pub struct Node {
 pub struct Fix {
     pub known: Pattern,
     pub on: Pattern,
+}
+
+impl Fix {
+    /// Whether the unit may be on in period `t` (from 0) by what is decided.
+    pub fn may_be_on(&self, t: usize) -> bool
+        requires { t < MAX_PERIODS }
+        ensures { result ≡ on_at self.now t }
+    {
+        let period = t as u32;
+        !self.known.is_on(period) || self.on.is_on(period)
+    }
+
+    /// Whether the unit may be off in period `t` (from 0) by M1 and what is decided.
+    pub fn may_be_off(&self, unit: &Thermal, t: usize) -> bool
+        requires { t < MAX_PERIODS }
+        ensures { result ≡ off_at unit.now self.now t }
+    {
+        let period = t as u32;
+        !unit.must_run && (!self.known.is_on(period) || !self.on.is_on(period))
+    }
 }

@@ -11,7 +11,7 @@ use Rattle.uc_model.specs.declared.limits.TheConstants.{MAX_UNITS}
 use Rattle.uc_model.proofs.Ring.{linear}
 use Rattle.uc_model.proofs.Sizes.{abs_add, wide}
 use Rattle.dual_model.specs.declared.node.Fix.{Fix}
-use Rattle.state_walk.specs.CostToGo.{MAX_COST_TO_GO}
+use Rattle.dual_model.specs.CostToGo.{MAX_COST_TO_GO}
 use Rattle.leaf_values.specs.Entries.{MAX_CONSTANT, MAX_REST, entry_at, entry_in}
 use Rattle.leaf_values.specs.Paths.{fix_at}
 use Rattle.leaf_values.specs.inside.Totals.{AreReckonedFor, IsReckonedFor, IsTotal, part_of, value_of}

@@ -11,7 +11,7 @@ use Rattle.dual_model.specs.PatternValue.{HasNoPattern, IsLeastValue}
 use Rattle.dual_model.specs.TableValue.{AreTermsOf}
 use Rattle.dual_model.specs.UnitTerms.{AreSizedTerms, period_count}
 use Rattle.dual_model.specs.declared.table.Table.{Table}
-use Rattle.state_walk.specs.CostToGo.{IsWithin, MAX_COST_TO_GO}
+use Rattle.dual_model.specs.CostToGo.{IsWithin, MAX_COST_TO_GO}
 use Rattle.system_value.specs.Sizes.{MAX_RENEWABLES, MAX_SYSTEM}
 use Rattle.leaf_values.specs.declared.entries.UnitEntry.{UnitEntry}
 use Rattle.leaf_values.specs.declared.entries.TableEntries.{TableEntries}

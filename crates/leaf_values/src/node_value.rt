@@ -7,7 +7,7 @@ ghost use Rattle.dual_model.specs.Fixings.{HasEmptyUnit};
 ghost use Rattle.dual_model.specs.NodeValue.{IsNodeValue};
 ghost use Rattle.dual_model.specs.declared.node.Node.{Node};
 ghost use Rattle.dual_model.specs.declared.table.Table.{Table};
-ghost use Rattle.state_walk.specs.CostToGo.{IsWithin, MAX_COST_TO_GO};
+ghost use Rattle.dual_model.specs.CostToGo.{IsWithin, MAX_COST_TO_GO};
 ghost use Rattle.leaf_values.specs.Entries.{AreEntriesOf, AreReckoned, AreUnitsReckoned, IsReckoned, MAX_CONSTANT, MAX_NODE_VALUE};
 ghost use Rattle.leaf_values.specs.Paths.{AreFixesOf};
 ghost use Rattle.leaf_values.specs.inside.Totals.{AreReckonedFor, HasNoValue, IsPart, IsReckonedFor, IsTotal};

@@ -1,2 +1,1 @@
-pub mod CostToGo
 pub mod inside

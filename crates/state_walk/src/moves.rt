@@ -3,11 +3,12 @@
 ghost use Rattle.std.specs.Prelude.{◌≡◌, ◌<◌, ◌≤◌, true, false, ◌-ℤ◌, ◌*ℤ◌, unsigned_abs};
 ghost use Rattle.uc_model.specs.Limits.{IsLawfulThermal};
 ghost use Rattle.dual_model.specs.UnitTerms.{AreSizedTerms, period_count, place as place_of, term_at as term_of};
-ghost use Rattle.state_walk.specs.inside.Moves.{hour_before as hour_of, move, stop_since as stop_of};
+ghost use Rattle.dual_model.specs.Moves.{hour_before as hour_of, move, stop_since as stop_of};
 
-use crate::rules::{holds_initially, may_be_off, may_be_on, may_start, may_stop};
+use crate::rules::{may_start, may_stop};
 use dual_model::Fix;
 use dual_model::limits::{MAX_TERM, MAX_UNIT_PRICE};
+use dual_model::moves::holds_initially;
 use start_costs::sigma;
 use uc_model::limits::MAX_POWER;
 use uc_model::{Terms, Thermal, difference, product, scaled};
@@ -25,7 +26,7 @@ pub(crate) fn stay_on(
     requires period { t < period_count terms.now }
     ensures { result ≡ move terms.now unit.now fix.now t true since true }
 {
-    if may_be_on(fix, t) && holds_initially(unit, t, false) {
+    if fix.may_be_on(t) && holds_initially(unit, t, false) {
         hour_before(terms, unit, t, since == t, false)
     } else {
         None
@@ -40,7 +41,7 @@ pub(crate) fn stop(terms: &Terms, unit: &Thermal, fix: &Fix, t: usize, since: us
     requires past { since ≤ t }
     ensures { result ≡ move terms.now unit.now fix.now t true since false }
 {
-    if may_be_off(unit, fix, t) && holds_initially(unit, t, true) && may_stop(unit, since, t) {
+    if fix.may_be_off(unit, t) && holds_initially(unit, t, true) && may_stop(unit, since, t) {
         hour_before(terms, unit, t, since == t, true)
     } else {
         None
@@ -59,7 +60,7 @@ pub(crate) fn stay_off(
     requires period { t < period_count terms.now }
     ensures { result ≡ move terms.now unit.now fix.now t false since false }
 {
-    if may_be_off(unit, fix, t) {
+    if fix.may_be_off(unit, t) {
         Some(0)
     } else {
         None
@@ -80,7 +81,7 @@ pub(crate) fn start(
     requires past { since ≤ t }
     ensures { result ≡ move terms.now unit.now fix.now t false since true }
 {
-    if may_be_on(fix, t) && may_start(unit, since, t) {
+    if fix.may_be_on(t) && may_start(unit, since, t) {
         Some(scaled(terms.k, sigma(unit, stop_since(since), t)))
     } else {
         None

@@ -10,7 +10,8 @@ ghost use Rattle.dual_model.specs.declared.table.Table.{Table};
 ghost use Rattle.dual_model.specs.UnitTerms.{AreSizedTerms, period_count};
 ghost use Rattle.dual_model.specs.PatternValue.{HasNoPattern, IsLeastValue};
 ghost use Rattle.dual_model.specs.TableValue.{AreTermsOf, IsUnitValueOf};
-ghost use Rattle.state_walk.specs.CostToGo.{total_of, lesser_of, entry, cost_to_go, IsTable, IsWithin, MAX_COST_TO_GO};
+ghost use Rattle.dual_model.specs.CostToGo.{total_of, lesser_of, cost_to_go, IsWithin, MAX_COST_TO_GO};
+ghost use Rattle.state_walk.specs.inside.WalkTable.{entry, IsTable};
 
 use crate::moves::{hour_before, start, stay_off, stay_on, stop};
 use dual_model::Fix;

@@ -1,113 +1,21 @@
 -- A pattern that attains the least value by a unit's terms attains the unit's value at the table that the terms are of.
-use Rattle.std.proofs.Common.{◌≡◌, ℕ, ◌<◌, ⊎_elim, Bool, true, false, not, ◌||◌, refl, sym, ap, subst, ◌∙◌, arith, ℤ, pos, ◌+ℤ◌, ◌-ℤ◌, ◌*ℤ◌, ◌≤ℤ◌}
-use Rattle.std.specs.Prelude.{IsTrue, Option, Some, None, unwrap_or, int_le, List, if◌then◌else◌}
-use Rattle.std.proofs.lemmas.Bool.{and_parts, or_cases, true≢false, not-true}
-use Rattle.uc_model.specs.Sums.{sum_below, all_below}
-use Rattle.uc_model.specs.Commitment.{Commitment, starts, cap, is_allowed, is_allowed_at, initial_stop_holds}
-use Rattle.uc_model.specs.StartCategory.{last_stop, sigma}
+use Rattle.std.proofs.Common.{◌≡◌, ℕ, sym, ap, subst, ◌∙◌, ℤ}
+use Rattle.std.specs.Prelude.{Some}
+use Rattle.uc_model.specs.Commitment.{Commitment}
 use Rattle.uc_model.specs.Schedule.{thermal_unit}
 use Rattle.uc_model.specs.declared.instance.Thermal.{Thermal}
 use Rattle.uc_model.specs.declared.instance.Instance.{Instance}
-use Rattle.uc_model.specs.declared.instance.Point.{Point}
 use Rattle.uc_model.specs.declared.terms.Terms.{Terms}
-use Rattle.uc_model.proofs.Ring.{linear}
-use Rattle.uc_model.proofs.Sums.{sum_below-same}
-use Rattle.uc_model.proofs.Tests.{int_le-true, all_below-at}
-use Rattle.dual_model.specs.Prices.{pi_at}
 use Rattle.dual_model.specs.Fixings.{IsFixOf}
-use Rattle.dual_model.specs.Term.{IsTerm, IsTermAt, output_price, reserve_price}
-use Rattle.dual_model.specs.UnitValue.{IsBestPattern, IsPatternValue, IsUnitValue, period_value}
+use Rattle.dual_model.specs.UnitValue.{IsBestPattern, IsPatternValue, IsUnitValue}
 use Rattle.dual_model.specs.declared.node.Fix.{Fix}
 use Rattle.dual_model.specs.declared.node.Node.{Node}
 use Rattle.dual_model.specs.declared.table.Table.{Table}
-use Rattle.dual_model.specs.UnitTerms.{term_at, price_at, period_count}
-use Rattle.dual_model.specs.PatternValue.{IsPattern, IsLeastValue, is_followed, term_of, pattern_value}
-use Rattle.dual_model.specs.PatternValue as by_terms
-use Rattle.dual_model.specs.TableValue.{IsCellTerm, AreTermsOf}
-use Rattle.dual_model.proofs.CellCaps.{cell_cap-cap}
-use Rattle.dual_model.proofs.TableValues.{unit_value-of}
+use Rattle.dual_model.specs.UnitTerms.{period_count}
+use Rattle.dual_model.specs.PatternValue.{IsPattern, IsLeastValue, pattern_value}
+use Rattle.dual_model.specs.TableValue.{AreTermsOf}
+use Rattle.dual_model.proofs.TableValues.{to_table, unit_value-of}
 
--- ---- terms
--- each on cell of an allowed pattern has a cap of at least 0
-cap-allowed : (periods : ℕ) (unit : Thermal) (on : Commitment) → IsTrue (is_allowed periods unit on) → (t : ℕ) → t < periods → IsTrue (on t)
-    → pos 0 ≤ℤ cap periods unit on t
-cap-allowed periods unit on allowed t within here =
-    let parts = and_parts (initial_stop_holds unit on) (all_below periods (is_allowed_at periods unit on)) allowed in
-    let last = and_parts _ (not (on t) || int_le (pos 0) (cap periods unit on t)) (all_below-at periods (is_allowed_at periods unit on) parts.1 t within) in
-    ⊎_elim
-    (λ (off : IsTrue (not (on t))). absurd (true≢false (sym here ∙ not-true (on t) off)))
-    (λ (le : IsTrue (int_le (pos 0) (cap periods unit on t))). int_le-true _ _ le)
-    (or_cases (not (on t)) (int_le (pos 0) (cap periods unit on t)) last.1)
-
-cell_term-at : (points : List Point) (k a b c : ℤ) (term : Option ℤ) → IsCellTerm points k a b c term → pos 0 ≤ℤ c
-    → IsTerm points k a b c (unwrap_or term (pos 0))
-cell_term-at points k a b c None is h = absurd (omega (arith, linear))
-cell_term-at points k a b c (Some m) is h = is
-
--- the term of such a cell is the table's
-term-at : (instance : Instance) (table : Table) (g : ℕ) (terms : Terms) → AreTermsOf instance table g terms
-    → (on : Commitment) → IsTrue (is_allowed instance.periods (thermal_unit instance g) on) → (t : ℕ) → t < instance.periods → IsTrue (on t)
-    → IsTermAt instance table g on t (term_of terms (thermal_unit instance g) on t)
-term-at instance table g terms are on allowed t within here =
-    let unit = thermal_unit instance g in
-    let low = cap-allowed instance.periods unit on allowed t within here in
-    let same_cap = cell_cap-cap instance.periods unit on t here in
-    let found : IsTerm unit.points table.k (output_price table g t) (reserve_price table g t) (cap instance.periods unit on t)
-    (unwrap_or (term_at terms t (starts unit on t) (is_followed instance.periods unit on t)) (pos 0)) =
-    subst (λ c. IsTerm unit.points table.k (output_price table g t) (reserve_price table g t) c
-    (unwrap_or (term_at terms t (starts unit on t) (is_followed instance.periods unit on t)) (pos 0))) same_cap
-    (cell_term-at unit.points table.k (output_price table g t) (reserve_price table g t) _ _
-    (are.term t (starts unit on t) (is_followed instance.periods unit on t) within)
-    (subst (λ c. pos 0 ≤ℤ c) (sym same_cap) low)) in
-    subst (λ n. IsTermAt instance table g on t (unwrap_or (term_at terms t (starts unit on t) (is_followed n unit on t)) (pos 0)))
-    (sym are.periods) found
-
--- ---- values
--- the value of a period by the terms and by the table
-period-same : (instance : Instance) (table : Table) (g : ℕ) (terms : Terms) → AreTermsOf instance table g terms
-    → (on : Commitment) (term : ℕ → ℤ) (t : ℕ) → t < instance.periods
-    → (IsTrue (on t) → term t ≡ term_of terms (thermal_unit instance g) on t)
-    → period_value table (thermal_unit instance g) on term t ≡ by_terms.period_value terms (thermal_unit instance g) on t
-period-same instance table g terms are on term t within same = λ i.
-    hour i +ℤ (if starts unit on t then are_scale i *ℤ sigma unit (last_stop unit on t) t else pos 0)
-  where
-    unit : Thermal
-    unit = thermal_unit instance g
-
-    are_scale : table.k ≡ terms.k
-    are_scale = sym are.scale
-
-    table_side : ℤ
-    table_side = term t -ℤ pi_at table t *ℤ (thermal_unit instance g).pmin
-
-    terms_side : ℤ
-    terms_side = term_of terms (thermal_unit instance g) on t -ℤ price_at terms t *ℤ (thermal_unit instance g).pmin
-
-    by_bit : (b : Bool) → on t ≡ b → (if b then table_side else pos 0) ≡ (if b then terms_side else pos 0)
-    by_bit true e = λ i. same e i -ℤ sym (are.price t within) i *ℤ (thermal_unit instance g).pmin
-    by_bit false e = refl
-
-    hour : (if on t then table_side else pos 0) ≡ (if on t then terms_side else pos 0)
-    hour = by_bit (on t) refl
-
-total-same : (instance : Instance) (table : Table) (g : ℕ) (terms : Terms) → AreTermsOf instance table g terms
-    → (on : Commitment) (term : ℕ → ℤ) → ((t : ℕ) → t < instance.periods → IsTrue (on t) → term t ≡ term_of terms (thermal_unit instance g) on t)
-    → sum_below instance.periods (period_value table (thermal_unit instance g) on term) ≡ pattern_value terms (thermal_unit instance g) on
-total-same instance table g terms are on term same =
-    sum_below-same instance.periods _ (by_terms.period_value terms (thermal_unit instance g) on)
-    (λ t within. period-same instance table g terms are on term t within (same t within))
-    ∙ ap (λ n. sum_below n (by_terms.period_value terms (thermal_unit instance g) on)) (sym are.periods)
-
-to_table : (instance : Instance) (table : Table) (g : ℕ) (terms : Terms) → AreTermsOf instance table g terms
-    → (on : Commitment) → IsTrue (is_allowed instance.periods (thermal_unit instance g) on)
-    → IsPatternValue instance table g on (pattern_value terms (thermal_unit instance g) on)
-to_table instance table g terms are on allowed = record {
-  term = term_of terms (thermal_unit instance g) on;
-  terms = λ t within here. term-at instance table g terms are on allowed t within here;
-  total = sym (total-same instance table g terms are on (term_of terms (thermal_unit instance g) on) (λ t within here. refl));
-}
-
--- ---- the whole
 pub best-of : (instance : Instance) (node : Node) (table : Table) (g : ℕ) (unit : Thermal) (terms : Terms) (fix : Fix) (v : ℤ) (on : Commitment)
     → thermal_unit instance g ≡ unit → AreTermsOf instance table g terms → IsFixOf instance.periods node g fix
     → IsLeastValue terms unit fix v → IsPattern (period_count terms) unit fix on → v ≡ pattern_value terms unit on

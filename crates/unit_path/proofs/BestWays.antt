@@ -18,13 +18,13 @@ use Rattle.dual_model.specs.TableValue.{AreTermsOf}
 use Rattle.dual_model.proofs.TableValues.{unit_value-of}
 use Rattle.dual_model.specs.PatternValue.{HasNoPattern, IsLeastValue, IsPattern, pattern_value}
 use Rattle.dual_model.specs.UnitTerms.{AreSizedTerms, period_count}
-use Rattle.state_walk.specs.inside.Moves.{move}
-use Rattle.state_walk.specs.CostToGo.{since_after, total_of, IsWithin, MAX_COST_TO_GO}
-use Rattle.state_walk.proofs.CostSizes.{cost_to_go-fits}
-use Rattle.state_walk.proofs.LeastValues.{from_start, least-from_start, none-from_start}
-use Rattle.state_walk.proofs.Allowed.{pattern-all_right}
-use Rattle.state_walk.proofs.Optimum.{way}
-use Rattle.state_walk.proofs.Ways.{own_way-right, whole_way-from, AllRight}
+use Rattle.dual_model.specs.Moves.{move}
+use Rattle.dual_model.specs.CostToGo.{since_after, total_of, IsWithin, MAX_COST_TO_GO}
+use Rattle.dual_model.proofs.CostSizes.{cost_to_go-fits}
+use Rattle.dual_model.proofs.LeastValues.{from_start, least-from_start, none-from_start}
+use Rattle.dual_model.proofs.Allowed.{pattern-all_right}
+use Rattle.dual_model.proofs.Optimum.{way}
+use Rattle.dual_model.proofs.Ways.{own_way-right, whole_way-from, AllRight}
 use Rattle.unit_path.specs.inside.Ways.{way_of, IsWay}
 use Rattle.unit_path.proofs.BestPatterns.{best-of}
 

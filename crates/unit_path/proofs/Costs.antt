@@ -5,7 +5,7 @@ use Rattle.std.specs.Int.{int_min}
 use Rattle.std.proofs.lemmas.Int.{ints}
 use Rattle.uc_model.proofs.Ring.{linear}
 use Rattle.uc_model.proofs.Sizes.{abs_add, abs_min}
-use Rattle.state_walk.specs.CostToGo.{lesser_of, total_of, IsWithin}
+use Rattle.dual_model.specs.CostToGo.{lesser_of, total_of, IsWithin}
 
 -- ---- totals
 pub total-none : (a : Option ℤ) → total_of a None ≡ None

@@ -5,7 +5,7 @@ use Rattle.uc_model.specs.declared.instance.Thermal.{Thermal}
 use Rattle.uc_model.specs.declared.terms.Terms.{Terms}
 use Rattle.dual_model.specs.declared.node.Fix.{Fix}
 use Rattle.dual_model.specs.UnitTerms.{period_count}
-use Rattle.state_walk.specs.inside.Moves.{may_be_off, may_be_on, may_start, may_stop}
+use Rattle.dual_model.specs.Moves.{may_be_off, may_be_on, may_start, may_stop}
 use Rattle.unit_path.specs.inside.Choices.{IsLeastStart, IsLeastStop}
 use Rattle.unit_path.specs.inside.Hours.{hour_in, IsCold, IsTableFrom, IsUntil}
 use Rattle.unit_path.specs.declared.hour.Hour.{Hour}

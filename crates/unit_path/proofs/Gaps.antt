@@ -8,7 +8,7 @@ use Rattle.std.proofs.lemmas.Bool.{cases_lt, le-leb, lt-leb, lt-ltb, le-ltb, ltb
 use Rattle.uc_model.specs.Sums.{least_below}
 use Rattle.uc_model.specs.StartCategory.{category_cost, category_count, category_lag, is_barred, may_cost_as, sigma}
 use Rattle.uc_model.specs.declared.instance.Thermal.{Thermal}
-use Rattle.state_walk.specs.inside.Moves.{stop_since}
+use Rattle.dual_model.specs.Moves.{stop_since}
 use Rattle.unit_path.specs.inside.StartCosts.{is_within_lags, row_of}
 
 -- ---- least values by two tests

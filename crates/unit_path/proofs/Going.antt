@@ -7,9 +7,9 @@ use Rattle.uc_model.specs.declared.instance.Thermal.{Thermal}
 use Rattle.uc_model.specs.declared.terms.Terms.{Terms}
 use Rattle.dual_model.specs.declared.node.Fix.{Fix}
 use Rattle.dual_model.specs.UnitTerms.{AreSizedTerms, period_count}
-use Rattle.state_walk.specs.inside.Moves.{move}
-use Rattle.state_walk.specs.CostToGo.{cost_to_go, end_cost, lesser_of, since_after, total_of, IsWithin, MAX_COST_TO_GO}
-use Rattle.state_walk.proofs.CostSizes.{cost_to_go-fits}
+use Rattle.dual_model.specs.Moves.{move}
+use Rattle.dual_model.specs.CostToGo.{cost_to_go, end_cost, lesser_of, since_after, total_of, IsWithin, MAX_COST_TO_GO}
+use Rattle.dual_model.proofs.CostSizes.{cost_to_go-fits}
 use Rattle.unit_path.specs.inside.Choices.{start_total, stop_cost}
 
 -- the least cost of going on from a state before period t

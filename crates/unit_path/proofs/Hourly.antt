@@ -4,7 +4,7 @@ use Rattle.std.specs.Prelude.{Some}
 use Rattle.uc_model.specs.declared.instance.Thermal.{Thermal}
 use Rattle.uc_model.specs.declared.terms.Terms.{Terms}
 use Rattle.dual_model.specs.UnitTerms.{term_at, price_at}
-use Rattle.state_walk.specs.inside.Moves.{hour_before, hour_cost}
+use Rattle.dual_model.specs.Moves.{hour_before, hour_cost}
 
 pub hour-of_term : (terms : Terms) (unit : Thermal) (t : ℕ) (start stop : Bool) (m : ℤ) → 0 < t
     → term_at terms (t - 1) start stop ≡ Some m

@@ -8,8 +8,8 @@ use Rattle.uc_model.specs.declared.instance.Thermal.{Thermal}
 use Rattle.uc_model.specs.declared.terms.Terms.{Terms}
 use Rattle.dual_model.specs.declared.node.Fix.{Fix}
 use Rattle.dual_model.specs.UnitTerms.{AreSizedTerms, period_count}
-use Rattle.state_walk.specs.inside.Moves.{may_be_off, may_start, stop_since}
-use Rattle.state_walk.specs.CostToGo.{lesser_of, total_of, IsWithin, MAX_COST_TO_GO}
+use Rattle.dual_model.specs.Moves.{may_be_off, may_start, stop_since}
+use Rattle.dual_model.specs.CostToGo.{lesser_of, total_of, IsWithin, MAX_COST_TO_GO}
 use Rattle.unit_path.specs.inside.Choices.{choice_cost, rests, start_total, IsLeastStart, IsOneOf, IsStart}
 use Rattle.unit_path.specs.inside.Hours.{IsCold, IsColdStart, IsStartIn}
 use Rattle.unit_path.specs.declared.hour.Choice.{Choice}

@@ -7,8 +7,8 @@ use Rattle.uc_model.specs.declared.instance.Thermal.{Thermal}
 use Rattle.uc_model.specs.declared.terms.Terms.{Terms}
 use Rattle.dual_model.specs.declared.node.Fix.{Fix}
 use Rattle.dual_model.specs.UnitTerms.{AreSizedTerms, period_count}
-use Rattle.state_walk.specs.inside.Moves.{hour_before, may_be_on, may_stop, move}
-use Rattle.state_walk.specs.CostToGo.{lesser_of, total_of, IsWithin, MAX_COST_TO_GO}
+use Rattle.dual_model.specs.Moves.{hour_before, may_be_on, may_stop, move}
+use Rattle.dual_model.specs.CostToGo.{lesser_of, total_of, IsWithin, MAX_COST_TO_GO}
 use Rattle.unit_path.specs.inside.Choices.{choice_cost, longer_of, stays, stop_cost, IsLeastStop, IsOneOf, IsStop, IsStopAtOnce}
 use Rattle.unit_path.specs.inside.Hours.{leave_cost, IsOnward, IsStopIn}
 use Rattle.unit_path.specs.declared.hour.Choice.{Choice}

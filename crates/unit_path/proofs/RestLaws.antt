@@ -6,8 +6,8 @@ use Rattle.uc_model.specs.declared.instance.Thermal.{Thermal}
 use Rattle.uc_model.specs.declared.terms.Terms.{Terms}
 use Rattle.dual_model.specs.declared.node.Fix.{Fix}
 use Rattle.dual_model.specs.UnitTerms.{period_count}
-use Rattle.state_walk.specs.inside.Moves.{has_lasted, may_be_off, may_be_on, may_start, move}
-use Rattle.state_walk.specs.CostToGo.{lesser_of, total_of}
+use Rattle.dual_model.specs.Moves.{has_lasted, may_be_off, may_be_on, may_start, move}
+use Rattle.dual_model.specs.CostToGo.{lesser_of, total_of}
 use Rattle.unit_path.specs.inside.Choices.{rests, start_total}
 use Rattle.unit_path.proofs.Costs.{lesser-none, total-assoc, total-none, total-zero, zero-total}
 use Rattle.unit_path.proofs.Going.{off-step, start_total-at, to_go}

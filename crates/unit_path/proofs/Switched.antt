@@ -7,8 +7,8 @@ use Rattle.uc_model.specs.declared.instance.Thermal.{Thermal}
 use Rattle.uc_model.specs.declared.terms.Terms.{Terms}
 use Rattle.dual_model.specs.declared.node.Fix.{Fix}
 use Rattle.dual_model.specs.UnitTerms.{period_count}
-use Rattle.state_walk.specs.inside.Moves.{holds_initially, may_be_off, may_be_on, may_start, may_stop, move, stop_since}
-use Rattle.state_walk.specs.CostToGo.{total_of, IsWithin, MAX_COST_TO_GO}
+use Rattle.dual_model.specs.Moves.{holds_initially, may_be_off, may_be_on, may_start, may_stop, move, stop_since}
+use Rattle.dual_model.specs.CostToGo.{total_of, IsWithin, MAX_COST_TO_GO}
 use Rattle.unit_path.specs.inside.Choices.{choice_cost, start_total, stop_cost}
 use Rattle.unit_path.specs.inside.Hours.{leave_cost, IsStartIn, IsStopIn}
 use Rattle.unit_path.specs.declared.hour.Choice.{Choice}

@@ -11,9 +11,9 @@ use Rattle.uc_model.specs.declared.instance.Thermal.{Thermal}
 use Rattle.uc_model.specs.declared.terms.Terms.{Terms}
 use Rattle.dual_model.specs.declared.node.Fix.{Fix}
 use Rattle.dual_model.specs.UnitTerms.{AreSizedTerms, period_count}
-use Rattle.state_walk.specs.inside.Moves.{may_be_off, may_be_on}
-use Rattle.state_walk.specs.CostToGo.{lesser_of, total_of, IsWithin, MAX_COST_TO_GO, MAX_MOVE}
-use Rattle.state_walk.proofs.CostSizes.{cost_to_go-size, more_room}
+use Rattle.dual_model.specs.Moves.{may_be_off, may_be_on}
+use Rattle.dual_model.specs.CostToGo.{lesser_of, total_of, IsWithin, MAX_COST_TO_GO, MAX_MOVE}
+use Rattle.dual_model.proofs.CostSizes.{cost_to_go-size, more_room}
 use Rattle.unit_path.specs.inside.Choices.{choice_cost}
 use Rattle.unit_path.specs.inside.Hours.{hour_in, IsEnd, IsHour, IsStartIn, IsStopIn, IsTableFrom, IsUntil, IsWithinMoves}
 use Rattle.unit_path.specs.declared.hour.Choice.{Choice}

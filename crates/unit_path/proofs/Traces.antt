@@ -9,9 +9,9 @@ use Rattle.uc_model.specs.declared.pattern.Pattern.{Pattern}
 use Rattle.uc_model.specs.declared.terms.Terms.{Terms}
 use Rattle.dual_model.specs.declared.node.Fix.{Fix}
 use Rattle.dual_model.specs.UnitTerms.{period_count}
-use Rattle.state_walk.specs.inside.Moves.{holds_initially, may_be_off, may_be_on, may_start, may_stop, move}
-use Rattle.state_walk.specs.CostToGo.{total_of}
-use Rattle.state_walk.proofs.Optimum.{total_of-parts}
+use Rattle.dual_model.specs.Moves.{holds_initially, may_be_off, may_be_on, may_start, may_stop, move}
+use Rattle.dual_model.specs.CostToGo.{total_of}
+use Rattle.dual_model.proofs.Optimum.{total_of-parts}
 use Rattle.unit_path.specs.inside.Choices.{choice_cost, rests, start_total, stays, stop_cost, switch_after, IsStart, IsStop, IsSwitch}
 use Rattle.unit_path.specs.inside.Hours.{IsHour, IsStartIn, IsStopIn}
 use Rattle.unit_path.specs.inside.Ways.{way_of, IsWay}

@@ -6,8 +6,8 @@ use Rattle.uc_model.specs.declared.instance.Thermal.{Thermal}
 use Rattle.uc_model.specs.declared.terms.Terms.{Terms}
 use Rattle.dual_model.specs.declared.node.Fix.{Fix}
 use Rattle.dual_model.specs.UnitTerms.{period_count}
-use Rattle.state_walk.specs.inside.Moves.{move}
-use Rattle.state_walk.specs.CostToGo.{end_cost, since_after, total_of}
+use Rattle.dual_model.specs.Moves.{move}
+use Rattle.dual_model.specs.CostToGo.{end_cost, since_after, total_of}
 use Rattle.unit_path.specs.inside.Choices.{rests, stays}
 use Rattle.unit_path.specs.inside.Ways.{way_of}
 use Rattle.unit_path.proofs.Costs.{total-assoc, total-zero}

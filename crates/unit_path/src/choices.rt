@@ -1,7 +1,7 @@
 //! Costs that may not be there, and the better of two choices.
 
 ghost use Rattle.std.specs.Prelude.{◌≡◌, ◌≤◌, ◌⊎◌, Some, unsigned_abs};
-ghost use Rattle.state_walk.specs.CostToGo.{lesser_of, total_of, IsWithin, MAX_COST_TO_GO};
+ghost use Rattle.dual_model.specs.CostToGo.{lesser_of, total_of, IsWithin, MAX_COST_TO_GO};
 ghost use Rattle.unit_path.specs.inside.Choices.{choice_cost, longer_of, IsOneOf};
 
 use crate::hour::Choice;

@@ -3,13 +3,13 @@
 ghost use Rattle.std.specs.Prelude.{◌≡◌, ◌<◌, ◌≤◌, ◌-ℤ◌, ◌*ℤ◌, Some, false, unsigned_abs};
 ghost use Rattle.uc_model.specs.Limits.{IsLawfulThermal};
 ghost use Rattle.dual_model.specs.UnitTerms.{AreSizedTerms, period_count};
-ghost use Rattle.state_walk.specs.CostToGo.{IsWithin, MAX_MOVE};
-ghost use Rattle.state_walk.specs.inside.Moves.{hour_before as hour_of};
+ghost use Rattle.dual_model.specs.CostToGo.{IsWithin, MAX_MOVE};
+ghost use Rattle.dual_model.specs.Moves.{hour_before as hour_of};
 ghost use Rattle.unit_path.specs.inside.Hours.{leave_cost, stay_cost};
 
-use crate::rules::{holds_initially, may_be_off, may_be_on};
 use dual_model::Fix;
 use dual_model::limits::{MAX_TERM, MAX_UNIT_PRICE};
+use dual_model::moves::holds_initially;
 use interval_graph::Intervals;
 use uc_model::limits::MAX_POWER;
 use uc_model::{Terms, Thermal, difference, product};
@@ -30,7 +30,7 @@ pub(crate) fn stay(
     ensures value { result ≡ stay_cost terms.now unit.now fix.now t start }
     ensures size { IsWithin MAX_MOVE result }
 {
-    if may_be_on(fix, t) && holds_initially(unit, t, false) {
+    if fix.may_be_on(t) && holds_initially(unit, t, false) {
         hour_before(intervals, terms, unit, t, start, false)
     } else {
         None
@@ -53,7 +53,7 @@ pub(crate) fn leave(
     ensures value { result ≡ leave_cost terms.now unit.now fix.now t start }
     ensures size { IsWithin MAX_MOVE result }
 {
-    if may_be_off(unit, fix, t) && holds_initially(unit, t, true) {
+    if fix.may_be_off(unit, t) && holds_initially(unit, t, true) {
         hour_before(intervals, terms, unit, t, start, true)
     } else {
         None

@@ -12,8 +12,8 @@ ghost use Rattle.dual_model.specs.PatternValue.{HasNoPattern, IsLeastValue, IsPa
 ghost use Rattle.dual_model.specs.TableValue.{AreTermsOf};
 ghost use Rattle.dual_model.specs.declared.node.Node.{Node};
 ghost use Rattle.dual_model.specs.declared.table.Table.{Table};
-ghost use Rattle.state_walk.specs.CostToGo.{cost_to_go, total_of, IsWithin, MAX_COST_TO_GO, MAX_MOVE};
-ghost use Rattle.state_walk.specs.inside.Moves.{may_be_off as may_be_off_in, may_be_on as may_be_on_in};
+ghost use Rattle.dual_model.specs.CostToGo.{cost_to_go, total_of, IsWithin, MAX_COST_TO_GO, MAX_MOVE};
+ghost use Rattle.dual_model.specs.Moves.{may_be_off as may_be_off_in, may_be_on as may_be_on_in};
 ghost use Rattle.unit_path.specs.inside.Choices.{choice_cost, IsFirst};
 ghost use Rattle.unit_path.specs.inside.Hours.{IsEnd, IsHour, IsStartIn, IsStopIn, IsTableFrom};
 
@@ -21,7 +21,6 @@ use crate::choices::{better, cost_of, joined};
 use crate::hour::{Choice, Hour, UNKNOWN};
 use crate::hour_costs::{full_hour_before, leave};
 use crate::rests::{cold_start, next_start};
-use crate::rules::{may_be_off, may_be_on};
 use crate::runs::{next_stop, onward};
 use crate::scratch::Scratch;
 use crate::trace::pattern_of;
@@ -165,7 +164,7 @@ fn on_after(next: &Hour, fix: &Fix, t: usize) -> (usize, Option<Choice>)
     ensures on { may_be_on_in fix.now t ≡ true → result ≡ (next.now.on_until, next.now.onward) }
     ensures off { may_be_on_in fix.now t ≡ false → result ≡ (t, None) }
 {
-    if may_be_on(fix, t) {
+    if fix.may_be_on(t) {
         (next.on_until, next.onward)
     } else {
         (t, None)
@@ -178,7 +177,7 @@ fn off_after(next: &Hour, unit: &Thermal, fix: &Fix, t: usize) -> (usize, Option
     ensures off { may_be_off_in unit.now fix.now t ≡ true → result ≡ (next.now.off_until, next.now.cold_start) }
     ensures on { may_be_off_in unit.now fix.now t ≡ false → result ≡ (t, None) }
 {
-    if may_be_off(unit, fix, t) {
+    if fix.may_be_off(unit, t) {
         (next.off_until, next.cold_start)
     } else {
         (t, None)
@@ -205,7 +204,7 @@ fn stop_in(hours: &[Hour], terms: &Terms, unit: &Thermal, fix: &Fix, t: usize) -
     requires later { IsTableFrom terms.now unit.now fix.now (suc t) hours.now }
     ensures { IsStopIn terms.now unit.now fix.now t result }
 {
-    if may_be_off(unit, fix, t) {
+    if fix.may_be_off(unit, t) {
         next_start(hours, terms, unit, fix, t + 1)
     } else {
         None
@@ -228,7 +227,7 @@ fn start_in(
     requires later { IsTableFrom terms.now unit.now fix.now (suc t) hours.now }
     ensures { IsStartIn terms.now unit.now fix.now t result }
 {
-    if may_be_on(fix, t) {
+    if fix.may_be_on(t) {
         next_stop(hours, intervals, terms, unit, fix, t + 1)
     } else {
         None

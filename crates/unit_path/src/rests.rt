@@ -5,8 +5,8 @@ ghost use Rattle.uc_model.specs.Limits.{IsCost, IsLawfulThermal};
 ghost use Rattle.uc_model.specs.StartCategory.{sigma};
 ghost use Rattle.dual_model.specs.TableValue.{IsLawfulScale};
 ghost use Rattle.dual_model.specs.UnitTerms.{AreSizedTerms, period_count};
-ghost use Rattle.state_walk.specs.CostToGo.{cost_to_go, lesser_of, total_of, IsWithin, MAX_COST_TO_GO};
-ghost use Rattle.state_walk.specs.inside.Moves.{may_be_off, may_start, stop_since};
+ghost use Rattle.dual_model.specs.CostToGo.{cost_to_go, lesser_of, total_of, IsWithin, MAX_COST_TO_GO};
+ghost use Rattle.dual_model.specs.Moves.{may_be_off, may_start, stop_since};
 ghost use Rattle.unit_path.specs.inside.Choices.{choice_cost, IsLeastStart, IsOneOf, IsStart};
 ghost use Rattle.unit_path.specs.inside.Hours.{IsTableFrom};
 

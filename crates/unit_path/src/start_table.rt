@@ -4,7 +4,7 @@ ghost use Rattle.std.specs.Prelude.{◌≡◌, ℕ, suc, ◌+◌, ◌-◌, ◌<�
 ghost use Rattle.std.specs.Int.{int_min};
 ghost use Rattle.uc_model.specs.Limits.{IsLawfulThermal};
 ghost use Rattle.uc_model.specs.StartCategory.{sigma as least_start_cost};
-ghost use Rattle.state_walk.specs.inside.Moves.{stop_since};
+ghost use Rattle.dual_model.specs.Moves.{stop_since};
 ghost use Rattle.unit_path.specs.inside.StartCosts.{is_within_lags, row_of};
 
 use uc_model::limits::{MAX_PERIODS, MAX_TIME};

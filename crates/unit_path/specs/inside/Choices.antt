@@ -5,8 +5,8 @@ use Rattle.uc_model.specs.declared.instance.Thermal.{Thermal}
 use Rattle.uc_model.specs.declared.terms.Terms.{Terms}
 use Rattle.dual_model.specs.UnitTerms.{period_count}
 use Rattle.dual_model.specs.declared.node.Fix.{Fix}
-use Rattle.state_walk.specs.inside.Moves.{may_be_off, move}
-use Rattle.state_walk.specs.CostToGo.{cost_to_go, end_cost, total_of, IsWithin, MAX_COST_TO_GO}
+use Rattle.dual_model.specs.Moves.{may_be_off, move}
+use Rattle.dual_model.specs.CostToGo.{cost_to_go, end_cost, total_of, IsWithin, MAX_COST_TO_GO}
 use Rattle.unit_path.specs.declared.hour.Choice.{Choice}
 
 abbrev pub choice_cost : Option Choice → Option ℤ

@@ -6,8 +6,8 @@ use Rattle.uc_model.specs.declared.instance.Thermal.{Thermal}
 use Rattle.uc_model.specs.declared.terms.Terms.{Terms}
 use Rattle.dual_model.specs.UnitTerms.{period_count}
 use Rattle.dual_model.specs.declared.node.Fix.{Fix}
-use Rattle.state_walk.specs.inside.Moves.{holds_initially, hour_before, may_be_off, may_be_on, may_start, may_stop, stop_since}
-use Rattle.state_walk.specs.CostToGo.{IsWithin, MAX_MOVE}
+use Rattle.dual_model.specs.Moves.{holds_initially, hour_before, may_be_off, may_be_on, may_start, may_stop, stop_since}
+use Rattle.dual_model.specs.CostToGo.{IsWithin, MAX_MOVE}
 use Rattle.unit_path.specs.inside.Choices.{choice_cost, IsLeastStart, IsLeastStop}
 use Rattle.unit_path.specs.declared.hour.Choice.{Choice}
 use Rattle.unit_path.specs.declared.hour.Hour.{Hour}

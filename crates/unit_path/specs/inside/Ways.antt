@@ -8,8 +8,8 @@ use Rattle.uc_model.specs.declared.pattern.Pattern.{Pattern}
 use Rattle.uc_model.specs.declared.terms.Terms.{Terms}
 use Rattle.dual_model.specs.UnitTerms.{period_count}
 use Rattle.dual_model.specs.declared.node.Fix.{Fix}
-use Rattle.state_walk.specs.inside.Moves.{move}
-use Rattle.state_walk.specs.CostToGo.{end_cost, since_after, total_of}
+use Rattle.dual_model.specs.Moves.{move}
+use Rattle.dual_model.specs.CostToGo.{end_cost, since_after, total_of}
 
 -- what the commitment's way costs from a state before period t on, with n periods left
 abbrev pub way_of : Terms → Thermal → Fix → Commitment → ℕ → ℕ → Bool → ℕ → Option ℤ

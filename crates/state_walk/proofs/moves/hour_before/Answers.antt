@@ -10,7 +10,7 @@ use Rattle.uc_model.specs.declared.limits.TheConstants.{MAX_POWER}
 use Rattle.uc_model.proofs.Sizes.{wide, narrow}
 use Rattle.dual_model.specs.declared.limits.TheConstants.{MAX_UNIT_PRICE, MAX_TERM}
 use Rattle.dual_model.specs.UnitTerms.{term_at, price_at, period_count}
-use Rattle.state_walk.specs.inside.Moves.{hour_before, hour_cost}
+use Rattle.dual_model.specs.Moves.{hour_before, hour_cost}
 use Rattle.state_walk.proofs.moves.hour_before.Goals as goal
 
 made : (terms : Terms) (unit : Thermal) (t : ℕ) (start stop : Bool) (m : ℤ) → 0 < t

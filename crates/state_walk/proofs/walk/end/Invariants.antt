@@ -1,7 +1,7 @@
 -- The entries before the place are those of the end.
 use Rattle.std.proofs.Common.{◌≡◌, ℕ, ◌<◌}
 use Rattle.dual_model.specs.UnitTerms.{period_count}
-use Rattle.state_walk.specs.CostToGo.{entry, entry_at}
+use Rattle.state_walk.specs.inside.WalkTable.{entry, entry_at}
 use Rattle.state_walk.proofs.walk.end.Given as goal
 
 abbrev pub invariant-loop-since : goal.invariant-loop-since

@@ -5,10 +5,11 @@ use Rattle.uc_model.specs.declared.instance.Thermal.{Thermal}
 use Rattle.uc_model.specs.declared.terms.Terms.{Terms}
 use Rattle.dual_model.specs.declared.node.Fix.{Fix}
 use Rattle.dual_model.specs.UnitTerms.{period_count}
-use Rattle.state_walk.specs.inside.Moves.{move}
-use Rattle.state_walk.specs.CostToGo.{total_of, lesser_of, cost_to_go, entry, IsWithin, MAX_COST_TO_GO}
+use Rattle.dual_model.specs.Moves.{move}
+use Rattle.dual_model.specs.CostToGo.{total_of, lesser_of, cost_to_go, IsWithin, MAX_COST_TO_GO}
+use Rattle.state_walk.specs.inside.WalkTable.{entry}
 use Rattle.state_walk.specs.declared.walk.CostToGo.{CostToGo}
-use Rattle.state_walk.proofs.CostSizes.{move-fits, cost_to_go-fits}
+use Rattle.dual_model.proofs.CostSizes.{move-fits, cost_to_go-fits}
 use Rattle.state_walk.proofs.walk.entry_before.Goals as goal
 
 along : (a b : Option ℤ) → a ≡ b → IsWithin MAX_COST_TO_GO b → IsWithin MAX_COST_TO_GO a

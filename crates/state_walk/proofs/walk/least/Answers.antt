@@ -6,10 +6,10 @@ use Rattle.uc_model.specs.declared.instance.Thermal.{Thermal}
 use Rattle.uc_model.specs.declared.terms.Terms.{Terms}
 use Rattle.dual_model.specs.declared.node.Fix.{Fix}
 use Rattle.dual_model.specs.UnitTerms.{AreSizedTerms, period_count}
-use Rattle.state_walk.specs.CostToGo.{IsWithin, MAX_COST_TO_GO}
-use Rattle.state_walk.proofs.CostSizes.{cost_to_go-fits}
+use Rattle.dual_model.specs.CostToGo.{IsWithin, MAX_COST_TO_GO}
+use Rattle.dual_model.proofs.CostSizes.{cost_to_go-fits}
 use Rattle.dual_model.specs.PatternValue.{HasNoPattern, IsLeastValue}
-use Rattle.state_walk.proofs.LeastValues.{from_start, least-from_start, none-from_start}
+use Rattle.dual_model.proofs.LeastValues.{from_start, least-from_start, none-from_start}
 use Rattle.dual_model.proofs.TableValues.{unit_value-of}
 use Rattle.state_walk.proofs.walk.least.Goals as goal
 

@@ -1,7 +1,7 @@
 -- The entries before the place are of this period, and the others as they were.
 use Rattle.std.proofs.Common.{◌≡◌, ℕ, ◌-◌, ◌<◌, ◌≤◌}
 use Rattle.dual_model.specs.UnitTerms.{period_count}
-use Rattle.state_walk.specs.CostToGo.{entry, entry_at}
+use Rattle.state_walk.specs.inside.WalkTable.{entry, entry_at}
 use Rattle.state_walk.proofs.walk.step.Given as goal
 
 abbrev pub invariant-loop-since : goal.invariant-loop-since

@@ -6,7 +6,7 @@ use Rattle.uc_model.specs.declared.limits.TheConstants.{MAX_POWER}
 use Rattle.uc_model.proofs.Sizes.{wide, narrow}
 use Rattle.dual_model.specs.declared.limits.TheConstants.{MAX_UNIT_PRICE, MAX_TERM}
 use Rattle.dual_model.specs.UnitTerms.{term_at, price_at, period_count}
-use Rattle.state_walk.specs.CostToGo.{MAX_MOVE}
+use Rattle.dual_model.specs.CostToGo.{MAX_MOVE}
 use Rattle.interval_graph.specs.Intervals.{term_in}
 use Rattle.unit_path.proofs.Hourly.{hour-of_term}
 use Rattle.unit_path.proofs.hour_costs.hour_before.Goals as goal

@@ -4,8 +4,8 @@ use Rattle.std.specs.Prelude.{Some}
 use Rattle.std.proofs.lemmas.Bool.{ne_eqb}
 use Rattle.uc_model.proofs.Sizes.{wide, wide-size}
 use Rattle.dual_model.specs.UnitTerms.{period_count}
-use Rattle.state_walk.specs.CostToGo.{IsWithin, MAX_MOVE}
-use Rattle.state_walk.specs.inside.Moves.{hour_before}
+use Rattle.dual_model.specs.CostToGo.{IsWithin, MAX_MOVE}
+use Rattle.dual_model.specs.Moves.{hour_before}
 use Rattle.unit_path.proofs.LeastStarts.{least-start_end}
 use Rattle.unit_path.proofs.LeastStops.{least-end}
 use Rattle.unit_path.proofs.path.end.Goals as goal

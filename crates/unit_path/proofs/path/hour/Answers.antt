@@ -7,8 +7,8 @@ use Rattle.uc_model.specs.declared.limits.TheConstants.{MAX_COST}
 use Rattle.uc_model.proofs.Sizes.{from-size, narrow, wide, wide-size}
 use Rattle.uc_model.proofs.StartCosts.{sigma-size}
 use Rattle.dual_model.specs.UnitTerms.{period_count}
-use Rattle.state_walk.specs.inside.Moves.{may_be_off, may_be_on}
-use Rattle.state_walk.specs.CostToGo.{total_of, MAX_MOVE}
+use Rattle.dual_model.specs.Moves.{may_be_off, may_be_on}
+use Rattle.dual_model.specs.CostToGo.{total_of, MAX_MOVE}
 use Rattle.unit_path.specs.inside.Choices.{choice_cost}
 use Rattle.unit_path.specs.inside.Hours.{hour_in}
 use Rattle.unit_path.proofs.Entries.{cold_start-entry, off_until-entry, on_until-entry, onward-entry}

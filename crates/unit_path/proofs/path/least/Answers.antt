@@ -9,9 +9,9 @@ use Rattle.uc_model.specs.declared.terms.Terms.{Terms}
 use Rattle.uc_model.proofs.Sizes.{wide}
 use Rattle.dual_model.specs.UnitTerms.{AreSizedTerms, period_count}
 use Rattle.dual_model.specs.declared.node.Fix.{Fix}
-use Rattle.state_walk.specs.CostToGo.{IsWithin, MAX_COST_TO_GO}
-use Rattle.state_walk.proofs.CostSizes.{cost_to_go-fits}
-use Rattle.state_walk.proofs.LeastValues.{from_start}
+use Rattle.dual_model.specs.CostToGo.{IsWithin, MAX_COST_TO_GO}
+use Rattle.dual_model.proofs.CostSizes.{cost_to_go-fits}
+use Rattle.dual_model.proofs.LeastValues.{from_start}
 use Rattle.unit_path.specs.inside.Ways.{IsWay}
 use Rattle.unit_path.specs.declared.hour.Choice.{Choice}
 use Rattle.unit_path.specs.inside.Choices.{choice_cost}

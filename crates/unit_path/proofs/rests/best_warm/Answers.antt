@@ -2,7 +2,7 @@
 use Rattle.std.proofs.Common.{◌≡◌, add-one, false, refl, sym, subst, arith}
 use Rattle.unit_path.specs.inside.Choices.{choice_cost}
 use Rattle.unit_path.specs.inside.Hours.{hour_in}
-use Rattle.state_walk.specs.CostToGo.{lesser_of}
+use Rattle.dual_model.specs.CostToGo.{lesser_of}
 use Rattle.unit_path.proofs.Going.{to_go}
 use Rattle.unit_path.proofs.LeastStarts.{best-more, IsBestTo}
 use Rattle.unit_path.proofs.Switched.{start-fits}

@@ -4,7 +4,7 @@ use Rattle.std.specs.Prelude.{unsigned_abs}
 use Rattle.uc_model.specs.declared.limits.TheConstants.{MAX_COST}
 use Rattle.uc_model.proofs.Sizes.{from-size}
 use Rattle.uc_model.proofs.StartCosts.{sigma-size}
-use Rattle.state_walk.specs.inside.Moves.{stop_since}
+use Rattle.dual_model.specs.Moves.{stop_since}
 use Rattle.unit_path.proofs.rests.from_start.Goals as goal
 
 pub priced_start-requires-clause-cost : goal.priced_start-requires-clause-cost

@@ -7,8 +7,8 @@ use Rattle.uc_model.specs.declared.terms.Terms.{Terms}
 use Rattle.uc_model.proofs.Sizes.{wide}
 use Rattle.dual_model.specs.declared.node.Fix.{Fix}
 use Rattle.dual_model.specs.UnitTerms.{period_count}
-use Rattle.state_walk.specs.inside.Moves.{may_stop}
-use Rattle.state_walk.specs.CostToGo.{total_of, MAX_MOVE}
+use Rattle.dual_model.specs.Moves.{may_stop}
+use Rattle.dual_model.specs.CostToGo.{total_of, MAX_MOVE}
 use Rattle.unit_path.specs.inside.Choices.{choice_cost, stop_cost}
 use Rattle.unit_path.specs.inside.Hours.{leave_cost, IsStopIn}
 use Rattle.unit_path.specs.declared.hour.Choice.{Choice}

@@ -3,8 +3,8 @@ use Rattle.std.proofs.Common.{◌≡◌, suc, ◌-◌, length, true, false, refl
 use Rattle.std.specs.Prelude.{Some, None}
 use Rattle.std.proofs.lemmas.Bool.{eq-eqb}
 use Rattle.uc_model.proofs.Sizes.{wide}
-use Rattle.state_walk.specs.inside.Moves.{hour_before, move}
-use Rattle.state_walk.specs.CostToGo.{lesser_of, total_of, MAX_MOVE}
+use Rattle.dual_model.specs.Moves.{hour_before, move}
+use Rattle.dual_model.specs.CostToGo.{lesser_of, total_of, MAX_MOVE}
 use Rattle.unit_path.specs.inside.Choices.{stop_cost}
 use Rattle.unit_path.specs.inside.Hours.{stay_cost}
 use Rattle.unit_path.proofs.Going.{on-step, to_go}

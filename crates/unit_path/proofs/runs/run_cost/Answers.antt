@@ -3,8 +3,8 @@ use Rattle.std.proofs.Common.{◌≡◌, ◌+◌, ◌-◌, ◌≤◌, add-one, s
 use Rattle.std.specs.Prelude.{true, Some, unsigned_abs}
 use Rattle.std.specs.Int.{w128}
 use Rattle.uc_model.proofs.Sizes.{wide}
-use Rattle.state_walk.specs.CostToGo.{IsWithin, MAX_MOVE}
-use Rattle.state_walk.proofs.CostSizes.{move-size}
+use Rattle.dual_model.specs.CostToGo.{IsWithin, MAX_MOVE}
+use Rattle.dual_model.proofs.CostSizes.{move-size}
 use Rattle.unit_path.specs.inside.Choices.{stays}
 use Rattle.unit_path.specs.inside.Hours.{hour_in}
 use Rattle.unit_path.proofs.RunLaws.{run-first, run-fits, run-more, IsRunTo}

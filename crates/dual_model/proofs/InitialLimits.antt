@@ -1,0 +1,65 @@
+-- M7 by the greatest initial output.
+use Rattle.std.proofs.Common.{◌≡◌, Bool, true, false, not, ◌&&◌, refl, sym, subst, arith, ℤ, pos, ◌-ℤ◌, ◌*ℤ◌, ◌≤ℤ◌}
+use Rattle.std.specs.Prelude.{IsTrue, int_le, if◌then◌else◌}
+use Rattle.std.specs.Int.{int_min, int_max}
+use Rattle.std.proofs.lemmas.Int.{ints, clamps}
+use Rattle.uc_model.specs.Sums.{bit}
+use Rattle.uc_model.specs.Commitment.{Commitment, initial_stop_holds}
+use Rattle.uc_model.specs.declared.instance.Thermal.{Thermal}
+use Rattle.uc_model.proofs.Ring.{linear, mul-one, mul-zero, one-mul, zero-mul}
+use Rattle.uc_model.proofs.Tests.{int_le-true, le-int_le}
+use Rattle.dual_model.specs.Moves.{initial_limit}
+
+limit_from : (p0 pmin pmax sd : ℤ) (first now : Bool) → first ≡ true
+    → (bit first *ℤ (p0 -ℤ pmin)) ≤ℤ (bit first *ℤ (pmax -ℤ pmin) -ℤ int_max (pmax -ℤ sd) (pos 0) *ℤ bit (first && not now))
+    → p0 ≤ℤ (if now then pmax else int_min pmax sd)
+limit_from p0 pmin pmax sd true true e h =
+    let a = one-mul (p0 -ℤ pmin) in
+    let b = one-mul (pmax -ℤ pmin) in
+    let c = mul-zero (int_max (pmax -ℤ sd) (pos 0)) in
+    omega (arith, linear)
+limit_from p0 pmin pmax sd true false e h =
+    let a = one-mul (p0 -ℤ pmin) in
+    let b = one-mul (pmax -ℤ pmin) in
+    let c = mul-one (int_max (pmax -ℤ sd) (pos 0)) in
+    let sum : (p0 -ℤ pmin) ≤ℤ ((pmax -ℤ pmin) -ℤ int_max (pmax -ℤ sd) (pos 0)) = omega (arith, linear) in
+    omega (arith, ints, clamps)
+limit_from p0 pmin pmax sd false now e h = cc
+
+limit_to : (p0 pmin pmax sd : ℤ) (first now : Bool) → (first ≡ true → p0 ≤ℤ (if now then pmax else int_min pmax sd))
+    → (bit first *ℤ (p0 -ℤ pmin)) ≤ℤ (bit first *ℤ (pmax -ℤ pmin) -ℤ int_max (pmax -ℤ sd) (pos 0) *ℤ bit (first && not now))
+limit_to p0 pmin pmax sd true true h =
+    let at = h refl in
+    let a = one-mul (p0 -ℤ pmin) in
+    let b = one-mul (pmax -ℤ pmin) in
+    let c = mul-zero (int_max (pmax -ℤ sd) (pos 0)) in
+    omega (arith, linear)
+limit_to p0 pmin pmax sd true false h =
+    let at = h refl in
+    let a = one-mul (p0 -ℤ pmin) in
+    let b = one-mul (pmax -ℤ pmin) in
+    let c = mul-one (int_max (pmax -ℤ sd) (pos 0)) in
+    let sum : (p0 -ℤ pmin) ≤ℤ ((pmax -ℤ pmin) -ℤ int_max (pmax -ℤ sd) (pos 0)) = omega (arith, ints, clamps) in
+    omega (arith, linear)
+limit_to p0 pmin pmax sd false now h =
+    let a = zero-mul (p0 -ℤ pmin) in
+    let b = zero-mul (pmax -ℤ pmin) in
+    let c = mul-zero (int_max (pmax -ℤ sd) (pos 0)) in
+    omega (arith, linear)
+
+limit_is : (unit : Thermal) (now : Bool) → (if now then unit.pmax else int_min unit.pmax unit.sd) ≡ initial_limit unit (not now)
+limit_is unit true = refl
+limit_is unit false = refl
+
+pub initial_stop-limit : (unit : Thermal) (on : Commitment) → IsTrue (initial_stop_holds unit on) → unit.on0 ≡ true
+    → IsTrue (int_le unit.p0 (initial_limit unit (not (on 0))))
+initial_stop-limit unit on h e =
+    le-int_le _ _
+    (subst (λ z. unit.p0 ≤ℤ z) (limit_is unit (on 0)) (limit_from unit.p0 unit.pmin unit.pmax unit.sd unit.on0 (on 0) e (int_le-true _ _ h)))
+
+pub initial_stop-from : (unit : Thermal) (on : Commitment) → (unit.on0 ≡ true → IsTrue (int_le unit.p0 (initial_limit unit (not (on 0)))))
+    → IsTrue (initial_stop_holds unit on)
+initial_stop-from unit on h =
+    le-int_le _ _
+    (limit_to unit.p0 unit.pmin unit.pmax unit.sd unit.on0 (on 0)
+    (λ e. subst (λ z. unit.p0 ≤ℤ z) (sym (limit_is unit (on 0))) (int_le-true _ _ (h e))))

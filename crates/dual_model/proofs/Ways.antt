@@ -1,0 +1,308 @@
+-- The way that a commitment takes from the initial state: in which case there is one, and that its cost is the pattern's value.
+use Rattle.std.proofs.Common.{◌≡◌, ℕ, zero, suc, ◌+◌, ◌<◌, ◌≤◌, ◌⊎◌, ⊎_elim, Bool, true, false, not, ◌&&◌, refl, sym, ap, subst, ◌∙◌, arith, ℤ, pos, ◌+ℤ◌, ◌-ℤ◌, ◌*ℤ◌}
+use Rattle.std.specs.Prelude.{IsTrue, Option, Some, None, unwrap_or, ◌==◌, if◌then◌else◌}
+use Rattle.std.proofs.lemmas.Bool.{cond-true, cond-false, and_parts, and_from, true≢false, lt-ltb, le-ltb}
+use Rattle.uc_model.specs.Sums.{sum_below}
+use Rattle.uc_model.specs.Commitment.{Commitment, was_on, starts, stops}
+use Rattle.uc_model.specs.StartCategory.{last_stop, sigma}
+use Rattle.uc_model.specs.declared.instance.Thermal.{Thermal}
+use Rattle.uc_model.specs.declared.terms.Terms.{Terms}
+use Rattle.uc_model.proofs.Ring.{linear}
+use Rattle.uc_model.proofs.Sums.{sum_below-first, sum_below-same}
+use Rattle.dual_model.specs.declared.node.Fix.{Fix}
+use Rattle.dual_model.specs.UnitTerms.{period_count, term_at, price_at}
+use Rattle.dual_model.specs.PatternValue.{is_followed, term_of, period_value, pattern_value}
+use Rattle.dual_model.specs.Moves.{may_be_on, may_be_off, holds_initially, may_stop, may_start, stop_since, hour_cost, hour_before, move}
+use Rattle.dual_model.specs.CostToGo.{total_of, end_cost}
+use Rattle.dual_model.proofs.Optimum.{way, total_of-parts}
+use Rattle.dual_model.proofs.Switches.{since, since-start, last_stop-since}
+
+-- ---- the hour before a period
+-- what the pattern's hour before period t costs without the start; nothing where it is off
+abbrev pub hour : Terms → Thermal → Commitment → ℕ → Option ℤ
+hour terms unit on zero = Some (pos 0)
+hour terms unit on (suc t) =
+    if on t then hour_cost terms unit t (term_at terms t (starts unit on t) (is_followed (period_count terms) unit on t)) else Some (pos 0)
+
+-- the hour before, by whether a stop follows it
+hour-last : (terms : Terms) (unit : Thermal) (on : Commitment) (t : ℕ) (followed : Bool) → was_on unit on (suc t) ≡ true
+    → followed ≡ is_followed (period_count terms) unit on t
+    → hour_cost terms unit t (term_at terms t (since unit.on0 on (suc t) == suc t) followed) ≡ hour terms unit on (suc t)
+hour-last terms unit on t followed e same =
+    (λ i. hour_cost terms unit t (term_at terms t (since-start unit on t e i) (same i))) ∙ sym (cond-true (on t) _ _ e)
+
+-- the same of a state that is on, before a period of the horizon and after the last one
+pub hour-on : (terms : Terms) (unit : Thermal) (on : Commitment) (t : ℕ) → t < period_count terms → was_on unit on t ≡ true
+    → hour_before terms unit t (since unit.on0 on t == t) (not (on t)) ≡ hour terms unit on t
+hour-on terms unit on zero h e = refl
+hour-on terms unit on (suc t) h e =
+    hour-last terms unit on t _ e
+    (sym ((λ i. (e i && not (on (suc t))) && lt-ltb (suc t) (period_count terms) h i) ∙ and_true (not (on (suc t)))))
+  where
+    and_true : (b : Bool) → (b && true) ≡ b
+    and_true true = refl
+    and_true false = refl
+
+pub hour-end : (terms : Terms) (unit : Thermal) (on : Commitment) (t : ℕ) → t ≡ period_count terms → was_on unit on t ≡ true
+    → hour_before terms unit t (since unit.on0 on t == t) false ≡ hour terms unit on t
+hour-end terms unit on zero h e = refl
+hour-end terms unit on (suc t) h e =
+    let past : period_count terms ≤ suc t = omega arith in
+    hour-last terms unit on t false e
+    (sym ((λ i. stops unit on (suc t) && le-ltb (suc t) (period_count terms) past i) ∙ and_false (stops unit on (suc t))))
+  where
+    and_false : (b : Bool) → (b && false) ≡ false
+    and_false true = refl
+    and_false false = refl
+
+pub hour-off : (terms : Terms) (unit : Thermal) (on : Commitment) (t : ℕ) → was_on unit on t ≡ false → hour terms unit on t ≡ Some (pos 0)
+hour-off terms unit on zero e = refl
+hour-off terms unit on (suc t) e = cond-false (on t) _ _ e
+
+-- ---- one period
+-- the start in period t
+abbrev pub start_value : Terms → Thermal → Commitment → ℕ → ℤ
+start_value terms unit on t = if starts unit on t then terms.k *ℤ sigma unit (last_stop unit on t) t else pos 0
+
+-- each rule that decides in period t lets the commitment through
+pub record IsRight (unit : Thermal) (fix : Fix) (on : Commitment) (t : ℕ) : Type 0 where
+  pub on_may : on t ≡ true → IsTrue (may_be_on fix t)
+  pub off_may : on t ≡ false → IsTrue (may_be_off unit fix t)
+  pub initially : was_on unit on t ≡ true → IsTrue (holds_initially unit t (not (on t)))
+  pub stop_may : was_on unit on t ≡ true → on t ≡ false → IsTrue (may_stop unit (since unit.on0 on t) t)
+  pub start_may : was_on unit on t ≡ false → on t ≡ true → IsTrue (may_start unit (since unit.on0 on t) t)
+
+-- the move that the commitment makes in period t
+abbrev pub step : Terms → Thermal → Fix → Commitment → ℕ → Option ℤ
+step terms unit fix on t = move terms unit fix t (was_on unit on t) (since unit.on0 on t) (on t)
+
+abbrev pub IsThere : Option ℤ → Type 0
+IsThere o = (x : ℤ) × (o ≡ Some x)
+
+-- what a test lets through is there, and passed it
+through : (b : Bool) (o : Option ℤ) (x : ℤ) → (if b then o else None) ≡ Some x → IsTrue b × (o ≡ Some x)
+through true o x e = (refl, e)
+through false o x e = cc
+
+pub step-right : (terms : Terms) (unit : Thermal) (fix : Fix) (on : Commitment) (t : ℕ) (x : ℤ) → t < period_count terms
+    → step terms unit fix on t ≡ Some x → IsRight unit fix on t × IsThere (hour terms unit on t)
+step-right terms unit fix on t x h e = by_bits (was_on unit on t) (on t) refl refl
+  where
+    moved : (was now : Bool) → was_on unit on t ≡ was → on t ≡ now → move terms unit fix t was (since unit.on0 on t) now ≡ Some x
+    moved was now w n = (λ i. move terms unit fix t (sym w i) (since unit.on0 on t) (sym n i)) ∙ e
+
+    by_bits : (was now : Bool) → was_on unit on t ≡ was → on t ≡ now → IsRight unit fix on t × IsThere (hour terms unit on t)
+    by_bits true true w n =
+        let found = through _ _ x (moved true true w n) in
+        let tests = and_parts _ _ found.0 in (
+          record {
+            on_may = λ o. tests.0;
+            off_may = λ o. absurd (true≢false (sym n ∙ o));
+            initially = λ o. ap (λ b. holds_initially unit t (not b)) n ∙ tests.1;
+            stop_may = λ o p. absurd (true≢false (sym n ∙ p));
+            start_may = λ o p. absurd (true≢false (sym w ∙ o));
+          },
+          (x, sym (hour-on terms unit on t h w) ∙ ap (λ b. hour_before terms unit t (since unit.on0 on t == t) (not b)) n ∙ found.1),
+        )
+    by_bits true false w n =
+        let found = through _ _ x (moved true false w n) in
+        let tests = and_parts _ _ found.0 in
+        let more = and_parts _ _ tests.0 in (
+          record {
+            on_may = λ o. absurd (true≢false (sym o ∙ n));
+            off_may = λ o. more.0;
+            initially = λ o. ap (λ b. holds_initially unit t (not b)) n ∙ more.1;
+            stop_may = λ o p. tests.1;
+            start_may = λ o p. absurd (true≢false (sym w ∙ o));
+          },
+          (x, sym (hour-on terms unit on t h w) ∙ ap (λ b. hour_before terms unit t (since unit.on0 on t == t) (not b)) n ∙ found.1),
+        )
+    by_bits false true w n =
+        let found = through _ _ x (moved false true w n) in
+        let tests = and_parts _ _ found.0 in (
+          record {
+            on_may = λ o. tests.0;
+            off_may = λ o. absurd (true≢false (sym n ∙ o));
+            initially = λ o. absurd (true≢false (sym o ∙ w));
+            stop_may = λ o p. absurd (true≢false (sym o ∙ w));
+            start_may = λ o p. tests.1;
+          },
+          (pos 0, hour-off terms unit on t w),
+        )
+    by_bits false false w n =
+        let found = through _ _ x (moved false false w n) in (
+          record {
+            on_may = λ o. absurd (true≢false (sym o ∙ n));
+            off_may = λ o. found.0;
+            initially = λ o. absurd (true≢false (sym o ∙ w));
+            stop_may = λ o p. absurd (true≢false (sym o ∙ w));
+            start_may = λ o p. absurd (true≢false (sym p ∙ n));
+          },
+          (pos 0, hour-off terms unit on t w),
+        )
+
+pub step-from : (terms : Terms) (unit : Thermal) (fix : Fix) (on : Commitment) (t : ℕ) (x : ℤ) → t < period_count terms
+    → IsRight unit fix on t → hour terms unit on t ≡ Some x
+    → step terms unit fix on t ≡ Some (x +ℤ start_value terms unit on t)
+step-from terms unit fix on t x h right there = by_bits (was_on unit on t) (on t) refl refl
+  where
+    now_is : (was now : Bool) (y : ℤ) → was_on unit on t ≡ was → on t ≡ now → move terms unit fix t was (since unit.on0 on t) now ≡ Some y
+        → y ≡ x +ℤ start_value terms unit on t → step terms unit fix on t ≡ Some (x +ℤ start_value terms unit on t)
+    now_is was now y w n e v = (λ i. move terms unit fix t (w i) (since unit.on0 on t) (n i)) ∙ e ∙ ap Some v
+
+    no_start : starts unit on t ≡ false → x ≡ x +ℤ start_value terms unit on t
+    no_start e =
+        let none : start_value terms unit on t ≡ pos 0 = cond-false (starts unit on t) _ _ e in omega (arith, linear)
+
+    by_bits : (was now : Bool) → was_on unit on t ≡ was → on t ≡ now → step terms unit fix on t ≡ Some (x +ℤ start_value terms unit on t)
+    by_bits true true w n =
+        let cost : hour_before terms unit t (since unit.on0 on t == t) false ≡ Some x =
+        ap (λ b. hour_before terms unit t (since unit.on0 on t == t) (not b)) (sym n) ∙ hour-on terms unit on t h w ∙ there in
+        now_is true true x w n
+        (cond-true _ _ _ (and_from _ _ (right.on_may n) (ap (λ b. holds_initially unit t (not b)) (sym n) ∙ right.initially w)) ∙ cost)
+        (no_start (λ i. not (w i) && on t))
+    by_bits true false w n =
+        let cost : hour_before terms unit t (since unit.on0 on t == t) true ≡ Some x =
+        ap (λ b. hour_before terms unit t (since unit.on0 on t == t) (not b)) (sym n) ∙ hour-on terms unit on t h w ∙ there in
+        now_is true false x w n
+        (cond-true _ _ _ (and_from _ _ (and_from _ _ (right.off_may n) (ap (λ b. holds_initially unit t (not b)) (sym n) ∙ right.initially w)) (right.stop_may w n)) ∙ cost)
+        (no_start (λ i. not (w i) && on t))
+    by_bits false true w n =
+        let free : x ≡ pos 0 = (let e = hour-off terms unit on t w in cc) in
+        let started : starts unit on t ≡ true = λ i. not (w i) && n i in
+        let cost : start_value terms unit on t ≡ terms.k *ℤ sigma unit (stop_since (since unit.on0 on t)) t =
+        cond-true (starts unit on t) _ _ started ∙ ap (λ l. terms.k *ℤ sigma unit l t) (last_stop-since unit on t w) in
+        now_is false true (terms.k *ℤ sigma unit (stop_since (since unit.on0 on t)) t) w n
+        (cond-true _ _ _ (and_from _ _ (right.on_may n) (right.start_may w n)))
+        (omega (arith, linear))
+    by_bits false false w n =
+        let free : x ≡ pos 0 = (let e = hour-off terms unit on t w in cc) in
+        let idle = no_start (λ i. not (w i) && n i) in
+        now_is false false (pos 0) w n
+        (cond-true _ _ _ (right.off_may n))
+        (sym free ∙ idle)
+
+-- ---- the whole way
+-- the way from the state that the commitment has before period t
+abbrev pub own_way : Terms → Thermal → Fix → Commitment → ℕ → ℕ → Option ℤ
+own_way terms unit fix on n t = way terms unit fix on n t (was_on unit on t) (since unit.on0 on t)
+
+-- what the way's end says
+end-right : (terms : Terms) (unit : Thermal) (fix : Fix) (on : Commitment) (t : ℕ) (v : ℤ) → t ≡ period_count terms
+    → own_way terms unit fix on 0 t ≡ Some v → IsThere (hour terms unit on t)
+end-right terms unit fix on t v h e = by_state (was_on unit on t) refl
+  where
+    by_state : (was : Bool) → was_on unit on t ≡ was → IsThere (hour terms unit on t)
+    by_state true w = (v, sym (hour-end terms unit on t h w) ∙ (λ i. end_cost terms unit t (sym w i) (since unit.on0 on t)) ∙ e)
+    by_state false w = (pos 0, hour-off terms unit on t w)
+
+end-from : (terms : Terms) (unit : Thermal) (fix : Fix) (on : Commitment) (t : ℕ) (x : ℤ) → t ≡ period_count terms
+    → hour terms unit on t ≡ Some x → own_way terms unit fix on 0 t ≡ Some x
+end-from terms unit fix on t x h e = by_state (was_on unit on t) refl
+  where
+    by_state : (was : Bool) → was_on unit on t ≡ was → end_cost terms unit t (was_on unit on t) (since unit.on0 on t) ≡ Some x
+    by_state true w = (λ i. end_cost terms unit t (w i) (since unit.on0 on t)) ∙ hour-end terms unit on t h w ∙ e
+    by_state false w = (λ i. end_cost terms unit t (w i) (since unit.on0 on t)) ∙ sym (hour-off terms unit on t w) ∙ e
+
+-- what a way from period t on says of each period
+pub record AllRight (terms : Terms) (unit : Thermal) (fix : Fix) (on : Commitment) (t : ℕ) : Type 0 where
+  pub right : (k : ℕ) → t ≤ k → k < period_count terms → IsRight unit fix on k
+  pub there : (k : ℕ) → t ≤ k → k ≤ period_count terms → IsThere (hour terms unit on k)
+
+pub own_way-right : (terms : Terms) (unit : Thermal) (fix : Fix) (on : Commitment) (n t : ℕ) (v : ℤ) → n + t ≡ period_count terms
+    → own_way terms unit fix on n t ≡ Some v → AllRight terms unit fix on t
+own_way-right terms unit fix on zero t v h e =
+    let last : t ≡ period_count terms = omega arith in
+    record {
+      right = λ k a b. absurd (omega arith);
+      there = λ k a b. let same : t ≡ k = omega arith in
+          subst (λ i. IsThere (hour terms unit on i)) same (end-right terms unit fix on t v last e);
+    }
+own_way-right terms unit fix on (suc n) t v h e =
+    let parts = total_of-parts (step terms unit fix on t) (own_way terms unit fix on n (suc t)) v e in
+    let here = step-right terms unit fix on t parts.first (omega arith) parts.first_is in
+    let rest = own_way-right terms unit fix on n (suc t) parts.second (omega arith) parts.second_is in
+    record {
+      right = λ k a b. ⊎_elim
+          (λ (now : t ≡ k). subst (λ i. IsRight unit fix on i) now here.0)
+          (λ (later : suc t ≤ k). rest.right k later b)
+          (here_or_later t k a);
+      there = λ k a b. ⊎_elim
+          (λ (now : t ≡ k). subst (λ i. IsThere (hour terms unit on i)) now here.1)
+          (λ (later : suc t ≤ k). rest.there k later b)
+          (here_or_later t k a);
+    }
+  where
+    here_or_later : (i k : ℕ) → i ≤ k → (i ≡ k) ⊎ (suc i ≤ k)
+    here_or_later i k l = grind arith
+
+-- the value of the hour before a period
+abbrev pub hour_value : Terms → Thermal → Commitment → ℕ → ℤ
+hour_value terms unit on t = unwrap_or (hour terms unit on t) (pos 0)
+
+hour_value-is : (terms : Terms) (unit : Thermal) (on : Commitment) (t : ℕ) → IsThere (hour terms unit on t)
+    → hour terms unit on t ≡ Some (hour_value terms unit on t)
+hour_value-is terms unit on t there = there.1 ∙ ap Some (sym (ap (λ o. unwrap_or o (pos 0)) there.1))
+
+-- of an hour that is there it is what the pattern's value counts
+hour_cost-term : (terms : Terms) (unit : Thermal) (t : ℕ) (term : Option ℤ) (x : ℤ) → hour_cost terms unit t term ≡ Some x
+    → x ≡ unwrap_or term (pos 0) -ℤ price_at terms t *ℤ unit.pmin
+hour_cost-term terms unit t None x e = cc
+hour_cost-term terms unit t (Some m) x e = cc
+
+period_value-is : (terms : Terms) (unit : Thermal) (on : Commitment) (t : ℕ) → IsThere (hour terms unit on (suc t))
+    → period_value terms unit on t ≡ hour_value terms unit on (suc t) +ℤ start_value terms unit on t
+period_value-is terms unit on t there = by_bit (on t) refl
+  where
+    here : Option ℤ
+    here = hour_cost terms unit t (term_at terms t (starts unit on t) (is_followed (period_count terms) unit on t))
+
+    value : hour terms unit on (suc t) ≡ Some there.0
+    value = there.1
+
+    by_bit : (b : Bool) → on t ≡ b → period_value terms unit on t ≡ hour_value terms unit on (suc t) +ℤ start_value terms unit on t
+    by_bit true e =
+        let found : here ≡ Some there.0 = sym (cond-true (on t) here (Some (pos 0)) e) ∙ value in
+        let cost = hour_cost-term terms unit t _ there.0 found in
+        let counted : (if on t then term_of terms unit on t -ℤ price_at terms t *ℤ unit.pmin else pos 0) ≡ there.0 =
+        cond-true (on t) _ (pos 0) e ∙ sym cost in
+        let same : hour_value terms unit on (suc t) ≡ there.0 = ap (λ o. unwrap_or o (pos 0)) value in
+        ap (λ x. x +ℤ start_value terms unit on t) (counted ∙ sym same)
+    by_bit false e =
+        let none : hour_value terms unit on (suc t) ≡ pos 0 =
+        ap (λ o. unwrap_or o (pos 0)) (cond-false (on t) here (Some (pos 0)) e) in
+        let counted : (if on t then term_of terms unit on t -ℤ price_at terms t *ℤ unit.pmin else pos 0) ≡ pos 0 =
+        cond-false (on t) _ (pos 0) e in
+        ap (λ x. x +ℤ start_value terms unit on t) (counted ∙ sym none)
+
+pub own_way-from : (terms : Terms) (unit : Thermal) (fix : Fix) (on : Commitment) (n t : ℕ) → n + t ≡ period_count terms
+    → AllRight terms unit fix on t
+    → own_way terms unit fix on n t ≡ Some (hour_value terms unit on t +ℤ sum_below n (λ k. period_value terms unit on (k + t)))
+own_way-from terms unit fix on zero t h all =
+    let last : t ≡ period_count terms = omega arith in
+    end-from terms unit fix on t _ last (hour_value-is terms unit on t (all.there t (omega arith) (omega arith)))
+    ∙ ap Some (let e : hour_value terms unit on t ≡ hour_value terms unit on t +ℤ pos 0 = omega (arith, linear) in e)
+own_way-from terms unit fix on (suc n) t h all =
+    let here = hour_value-is terms unit on t (all.there t (omega arith) (omega arith)) in
+    let moved = step-from terms unit fix on t (hour_value terms unit on t) (omega arith) (all.right t (omega arith) (omega arith)) here in
+    let rest = own_way-from terms unit fix on n (suc t) (omega arith)
+    (record { right = λ k a b. all.right k (omega arith) b; there = λ k a b. all.there k (omega arith) b }) in
+    let first = sum_below-first n (λ k. period_value terms unit on (k + t)) in
+    let at : 0 + t ≡ t = omega arith in
+    let this : period_value terms unit on (0 + t) ≡ hour_value terms unit on (suc t) +ℤ start_value terms unit on t =
+    ap (λ i. period_value terms unit on i) at ∙ period_value-is terms unit on t (all.there (suc t) (omega arith) (omega arith)) in
+    let later : sum_below n (λ k. period_value terms unit on (suc k + t)) ≡ sum_below n (λ k. period_value terms unit on (k + suc t)) =
+    sum_below-same n _ _ (λ k l. let e : suc k + t ≡ k + suc t = omega arith in ap (λ i. period_value terms unit on i) e) in
+    (λ i. total_of (moved i) (rest i)) ∙ ap Some (omega (arith, linear))
+
+-- from the beginning
+pub whole_way-from : (terms : Terms) (unit : Thermal) (fix : Fix) (on : Commitment) → AllRight terms unit fix on 0
+    → way terms unit fix on (period_count terms) 0 unit.on0 0 ≡ Some (pattern_value terms unit on)
+whole_way-from terms unit fix on all =
+    own_way-from terms unit fix on (period_count terms) 0 (omega arith) all
+    ∙ ap Some (
+    let start : hour_value terms unit on 0 ≡ pos 0 = refl in
+    let same : sum_below (period_count terms) (λ k. period_value terms unit on (k + 0)) ≡ pattern_value terms unit on =
+    sum_below-same (period_count terms) _ _ (λ k l. let e : k + 0 ≡ k = omega arith in ap (λ i. period_value terms unit on i) e) in
+    omega (arith, linear)
+    )
