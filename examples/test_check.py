@@ -1,0 +1,186 @@
+#!/usr/bin/env python3
+"""Tests `check.py` on the certificates of `tests/`, as they stand and changed.
+
+    python3 examples/test_check.py [PROGRAM]     # at the top of the repository; with PROGRAM `uc check` has to answer the same
+
+Each row below has an instance, a certificate, and the verdict that docs/ wants of them; a changed row has a text that stands once in
+the certificate, or in the instance, and what stands there instead.
+"""
+import pathlib
+import subprocess
+import sys
+import tempfile
+import unittest
+
+sys.dont_write_bytecode = True
+HERE = pathlib.Path(__file__).resolve().parent
+TOP, STORED = HERE.parent, HERE / "tests"
+sys.path.insert(0, str(HERE))
+
+import check  # noqa: E402
+
+INFEASIBLE = "accepted infeasible"
+
+AS_THEY_STAND = [
+    ("two_units", "two_units", "accepted cost 2520.000000 bound 2520.000000"),
+    ("two_units", "two_units_found", "accepted cost 2520.000000 bound 2519.999120"),
+    ("starts", "starts", "accepted cost 540.000000 bound 540.000000"),
+    ("idle", "idle", "accepted cost 280.000000 bound 280.000000"),
+    ("floor", "floor", "accepted cost 0.000000 bound -0.000004"),
+    ("watts", "watts", "accepted cost 0.000001 bound 0.000000"),
+    ("too_much", "too_much", INFEASIBLE),
+    ("starts", "idle", "certificate: C9"),
+    ("../../crates/uc/data/row1", "../../crates/uc/data/row1", "accepted cost 300.000000 bound 300.000000"),
+    ("../kazarlis10", "../../view/tests/kazarlis10", "accepted cost 564014.181769 bound 559260.301794"),
+    ("../../view/tests/coast", "../../view/tests/coast", "accepted cost 5046.666668 bound 4793.333330"),
+]
+
+# The certificate of the instance, with a change.
+CHANGED_CERTIFICATES = [
+    # what is claimed
+    ("two_units", "bound 2520.000000", "bound 2519.999999", "accepted cost 2520.000000 bound 2519.999999"),
+    ("two_units", "bound 2520.000000", "bound 2520.000001", "certificate: C4 node 3"),
+    ("floor", "bound -0.000004", "bound -0.000003", "certificate: C4 node 1"),
+    ("watts", "bound 0.000000", "bound 0.000001", "certificate: C4 node 1"),
+    ("starts", "bound 540.000000", "bound 540.000001", "certificate: C4 node 6"),
+    ("idle", "bound 280.000000", "bound 280.000001", "certificate: C4 node 4"),
+    ("too_much", "claim infeasible", "claim bound 0.000000", "certificate: C8"),
+    ("two_units", "claim bound 2520.000000", "claim infeasible", "certificate: C8"),
+    # the size and the tables
+    ("two_units", "size 2 2 0 1\n", "size 2 2 1 1\n", "certificate: line 7: form"),
+    ("two_units", "table 5", "table 0", "certificate: C4 node 3"),
+    ("two_units", "table 5", "table 1000000000", "certificate: C4 node 3"),
+    ("two_units", "table 5", "table 1000000001", "certificate: C1 table 1"),
+    ("two_units", "pi 23 147", "pi 23 100000000000000", "certificate: C4 node 3"),
+    ("two_units", "pi 23 147", "pi 23 -100000000000001", "certificate: C1 table 1"),
+    ("two_units", "mu 0 22", "mu -1 22", "certificate: C1 table 1"),
+    ("two_units", "ramp 1 2 62 0", "ramp 1 2 62 -1", "certificate: C1 table 1"),
+    ("two_units", "ramp 1 2 62 0", "ramp 1 2 61 0", "certificate: C4 node 3"),
+    # the schedule
+    ("two_units", "t 30000000:5000000:0 40", "t - 40", "certificate: C2 M2 thermal 1 period 1"),
+    ("two_units", "t 30000000:5000000:0", "t 30000000:6000000:0", "certificate: C2 M11 thermal 1 period 1"),
+    ("two_units", "40000000:0:0", "51000000:0:0", "certificate: C2 M8 thermal 1 period 2"),
+    ("two_units", "40000000:0:0", "40000000:-1:0", "certificate: C2 M8 thermal 1 period 2"),
+    ("two_units", "40000000:0:0", "40000000:0:1", "certificate: C2 M6 thermal 1 period 2"),
+    ("two_units", "40000000:0:0", "40000000:1:0", "certificate: C2 M11 thermal 1 period 2"),
+    ("two_units", "40000000:0:0", "4999999:0:0", "certificate: C2 M12 thermal 1 period 2"),
+    ("two_units", "40000000:0:0", "39999999:0:0", "certificate: C2 M14 period 2"),
+    ("two_units", "10000000:5000000:1", "10000000:5000001:1", "certificate: C2 M9 thermal 2 period 2"),
+    ("two_units", "10000000:5000000:1", "10000000:4999999:1", "certificate: C2 M15 period 2"),
+    ("two_units", "10000000:5000000:1", "10000000:5000000:0", "certificate: C2 M6 thermal 2 period 2"),
+    ("two_units", "10000000:5000000:1", "10000000:5000000:2", "certificate: C3 written 2520.000000 computed 2550.000000"),
+    ("two_units", "schedule 2520.000000", "schedule 2519.999999", "certificate: C3 written 2519.999999 computed 2520.000000"),
+    ("starts", "t 0:0:0 -", "t 1:0:0 -", "certificate: C2 M10 thermal 1 period 1"),
+    ("starts", "t 0:0:0 - 10000000:0:2", "t - 0:0:2 -", "certificate: C2 M4 thermal 1 period 3"),
+    ("starts", "10000000:0:2", "10000000:0:1", "certificate: C2 M6 thermal 1 period 3"),
+    ("idle", "t -", "t 0:0:1", "certificate: C2 M3 thermal 1 period 1"),
+    ("idle", "10000000:0:2", "10000000:0:1", "certificate: C2 M6 thermal 1 period 2"),
+    ("floor", "w 10", "w -1", "certificate: C2 M13 renewable 1 period 1"),
+    ("floor", "w 10", "w 5000001", "certificate: C2 M13 renewable 1 period 1"),
+    ("watts", "schedule 0.000001", "schedule 0.000000", "certificate: C3 written 0.000000 computed 0.000001"),
+    # the tree
+    ("two_units", "empty 1", "empty 2", "certificate: C6 node 2"),
+    ("two_units", "empty 1", "bound 1", "accepted cost 2520.000000 bound 2520.000000"),
+    ("two_units", "empty 1", "ray 1", "certificate: C5 node 2"),
+    ("two_units", "empty 1\n", "split 1 1\nempty 1\nempty 1\n", "certificate: C7 node 2"),
+    ("two_units", "split 1 1\nempty 1\nbound 1", "bound 1", "accepted cost 2520.000000 bound 2520.000000"),
+    ("two_units", "split 1 1\nempty 1\nbound 1", "empty 1", "certificate: C8"),
+    ("too_much", "ray 1\nray 2", "ray 2\nray 1", "certificate: C5 node 2"),
+    ("too_much", "ray 2", "bound 2", "certificate: C8"),
+    ("starts", "bound 3\nray 4", "ray 4\nbound 3", "certificate: C5 node 6"),
+    # the lines
+    ("two_units", "uc-certificate 1", "uc-certificate 2", "certificate: line 1: form"),
+    ("two_units", "size 2 2", "size 2 02", "certificate: line 2: form"),
+    ("two_units", "bound 2520.000000", "bound 2520.00000", "certificate: line 3: form"),
+    ("two_units", "t - ", "t  - ", "certificate: line 6: form"),
+    ("two_units", "5000000:1", "5000000:256", "certificate: line 6: form"),
+    ("two_units", "mu 0 22", "mu -0 22", "certificate: line 9: form"),
+    ("two_units", "mu 0 22", "mu 0 22 0", "certificate: line 9: form"),
+    ("two_units", "ramps 1", "ramps 2", "certificate: line 12: form"),
+    ("two_units", "ramps 1", "ramps 0", "certificate: line 11: form"),
+    ("two_units", "62 0", "0 0", "certificate: line 11: form"),
+    ("two_units", "split 1 1", "split 3 1", "certificate: line 12: form"),
+    ("two_units", "bound 1\nend", "bound 2\nend", "certificate: line 14: form"),
+    ("two_units", "end\n", "end", "certificate: line 15: cut short"),
+    ("two_units", "end\n", "", "certificate: line 15: cut short"),
+    ("two_units", "end\n", "end\n\n", "certificate: line 16: bytes after the end"),
+]
+
+# The instance, with a change, beside its certificate.
+CHANGED_INSTANCES = [
+    ("two_units", '"must_run": 0, "power_output_minimum": 10', '"must_run": 1, "power_output_minimum": 10', "certificate: C2 M1 thermal 2 period 1"),
+    ("two_units", '"power_output_t0": 45', '"power_output_t0": 70.000001', "certificate: C2 M7 thermal 1 period 1"),
+    ("starts", '"time_down_minimum": 1', '"time_down_minimum": 2', "certificate: C2 M5 thermal 1 period 3"),
+    ("starts", '"time_down_t0": 2', '"time_down_t0": 1', "certificate: C4 node 6"),
+    ("floor", "0.00001", "1E-5", "accepted cost 0.000000 bound -0.000004"),
+    ("floor", "0.00001", "0.0000104999", "accepted cost 0.000000 bound -0.000004"),
+    ("floor", "0.00001", "0.0000105", "certificate: C2 M14 period 1"),
+    ("floor", "[-1]", "[6]", 'instance: I5 renewable "wind" power_output_maximum 1'),
+    ("floor", "[5]", "[]", 'instance: I6 renewable "wind" power_output_maximum'),
+    ("two_units", '"time_periods": 2', '"time_periods": 169', "instance: I7 time_periods"),
+    ("two_units", "[50, 80]", "[50]", "instance: I6 demand"),
+    ("two_units", "[5, 5]", "[5, null]", "instance: I2 reserves 2"),
+    ("two_units", '"time_up_t0": 1', '"time_up_t0": 1.5', 'instance: I3 thermal "coal" time_up_t0'),
+    ("two_units", '{"mw": 70,', '{"mw": 39,', 'instance: I5 thermal "coal" piecewise_production.mw 3'),
+    ("two_units", '{"lag": 3, ', "{", 'instance: I1 thermal "gas" startup.lag 2'),
+    ("two_units", '"cost": 90}', '"cost": 5000000.000001}', 'instance: I4 thermal "gas" startup.cost 2'),
+]
+
+
+def changed(name, old, new):
+    text = (STORED / name).read_bytes()
+    if text.count(old.encode()) != 1:
+        raise AssertionError(f"{name}: {old!r} doesn't stand there once")
+    return text.replace(old.encode(), new.encode())
+
+
+def cases():
+    for instance, certificate, verdict in AS_THEY_STAND:
+        yield (STORED / f"{instance}.json").read_bytes(), (STORED / f"{certificate}.cert").read_bytes(), verdict
+    for name, old, new, verdict in CHANGED_CERTIFICATES:
+        yield (STORED / f"{name}.json").read_bytes(), changed(f"{name}.cert", old, new), verdict
+    for name, old, new, verdict in CHANGED_INSTANCES:
+        yield changed(f"{name}.json", old, new), (STORED / f"{name}.cert").read_bytes(), verdict
+
+
+def status_of(verdict):
+    return {"a": 0, "i": 4, "c": 9}[verdict[0]]
+
+
+class Verdicts(unittest.TestCase):
+    def answer(self, command, instance, certificate):
+        with tempfile.TemporaryDirectory() as folder:
+            files = pathlib.Path(folder, "instance.json"), pathlib.Path(folder, "written.cert")
+            for file, content in zip(files, (instance, certificate)):
+                file.write_bytes(content)
+            ran = subprocess.run([*command, *files], capture_output=True, text=True)
+        self.assertEqual("", ran.stderr if ran.returncode == 0 else ran.stdout)
+        return ran.returncode, " ".join((ran.stdout + ran.stderr).splitlines())
+
+    def test_verdicts(self):
+        commands = [[sys.executable, HERE / "check.py"], *([it, "check"] for it in PROGRAMS)]
+        for instance, certificate, verdict in cases():
+            for command in commands:
+                with self.subTest(command=command, verdict=verdict, certificate=certificate):
+                    self.assertEqual((status_of(verdict), verdict), self.answer(command, instance, certificate))
+
+    def test_bytes_that_are_no_json(self):
+        text = (STORED / "floor.json").read_bytes()
+        for bad in (text[:-3], b"\xef\xbb\xbf" + text, text.replace(b"5]", b"05]"), text.replace(b"wind", b"\\ud800"), text.replace(b"5]", b"NaN]"),
+                    text.replace(b'"reserves"', b'"demand"'), b"[" * 65 + b"]" * 65, text.replace(b"wind", b"\xff"), b"[" * 10**5):
+            with self.subTest(text=bad[:80]), self.assertRaises(check.Refused) as refused:
+                check.json_of(bad)
+            self.assertEqual(4, refused.exception.status)
+
+    def test_files_that_are_missing(self):
+        with self.assertRaisesRegex(check.Refused, "read failed: instance"):
+            check.verdict([str(STORED / "none.json"), str(STORED / "floor.cert")])
+        with self.assertRaisesRegex(check.Refused, "read failed: certificate"):
+            check.verdict([str(STORED / "floor.json"), str(STORED / "none.cert")])
+
+
+PROGRAMS = []
+
+if __name__ == "__main__":
+    PROGRAMS = [str(pathlib.Path(it).resolve()) for it in sys.argv[1:]]
+    unittest.main(argv=sys.argv[:1])
