@@ -1,7 +1,7 @@
 #!/usr/bin/env python3
 """Tests `uc-view` on stored reports: what is drawn adds up, and what doesn't fit is refused with a line that says where.
 
-    python3 view/test_view.py            # at the top of the repository
+    python3 view/test_view.py            # at the top of the repository; test_table.py beside it is run too
 """
 from __future__ import annotations
 
@@ -522,8 +522,8 @@ class Amounts(unittest.TestCase):
 
 
 def main() -> int:
-    """Runs all tests; 0 where they hold."""
-    result = unittest.main(exit=False, argv=[sys.argv[0]], verbosity=0).result
+    """Runs all tests, those of `uc-table` too; 0 where they hold."""
+    result = unittest.TextTestRunner(verbosity=0).run(unittest.defaultTestLoader.discover(str(HERE), "test_*.py"))
     failed = len({test.id() for test, _ in result.failures + result.errors})
     print(f"view: {failed} of {result.testsRun} tests failed" if failed else f"view: all {result.testsRun} tests hold")
     return 1 if failed else 0

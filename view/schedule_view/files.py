@@ -1,6 +1,7 @@
 """The files of a run: read and written whole, and none written over another one."""
 from __future__ import annotations
 
+import contextlib
 import os
 import pathlib
 from typing import List
@@ -22,6 +23,28 @@ def write_file(path: str, words: str) -> None:
         pathlib.Path(path).write_bytes(words.encode("utf-8"))
     except (OSError, ValueError) as error:
         raise Refusal(path, "", f"can't be written: {cause(error)}") from None
+
+
+def make_folder(path: str) -> None:
+    """Makes a folder where there is none. Refused with the cause."""
+    try:
+        os.makedirs(path, exist_ok=True)
+    except (OSError, ValueError) as error:
+        raise Refusal(path, "", f"can't be made: {cause(error)}") from None
+
+
+def move_file(path: str, place: str) -> None:
+    """Gives a file another name, also where that is another file's. Refused with the cause."""
+    try:
+        os.replace(path, place)
+    except (OSError, ValueError) as error:
+        raise Refusal(place, "", f"can't be written: {cause(error)}") from None
+
+
+def remove_file(path: str) -> None:
+    """Removes a file where it is there and can be removed."""
+    with contextlib.suppress(OSError, ValueError):
+        os.unlink(path)
 
 
 def refuse_shared(inputs: List[str], outputs: List[str]) -> None:

@@ -1,0 +1,92 @@
+"""The file of the table: the rows that are there are kept, and each new one is appended as soon as it is known."""
+from __future__ import annotations
+
+import fcntl
+import pathlib
+from typing import Dict
+
+from schedule_view.files import cause
+from schedule_view.refusal import Refusal
+
+from .rows import FORMS, Form, Row
+
+
+class TableFile:
+    """A table that is open for appending, and that no other run appends to meanwhile."""
+
+    def __init__(self, path: str) -> None:
+        """Opens the table, or makes it. Refused where it is none, or another run writes it."""
+        self._path = path
+        self._form = _form(path)
+        self.rows: Dict[str, Row] = {}
+        try:
+            self._file = open(path, "a+b", buffering=0)
+        except (OSError, ValueError) as error:
+            raise Refusal(path, "", f"can't be opened: {cause(error)}") from None
+        try:
+            self._lock()
+            self._keep()
+        except BaseException:
+            self._file.close()
+            raise
+
+    def append(self, row: Row) -> None:
+        """Adds a row, whole or not at all as far as the system allows. Refused where it can't be written."""
+        self._put(self._form.line(row))
+        self.rows[row.name] = row
+
+    def close(self) -> None:
+        """Lets other runs append."""
+        self._file.close()
+
+    def _lock(self) -> None:
+        try:
+            fcntl.flock(self._file, fcntl.LOCK_EX | fcntl.LOCK_NB)
+        except BlockingIOError:
+            raise Refusal(self._path, "", "another run writes it") from None
+        except OSError:
+            # the file system has no locks: then nothing keeps two runs apart
+            pass
+
+    def _keep(self) -> None:
+        """Reads the rows; a line that was cut off when a run was stopped is taken away."""
+        self._file.seek(0)
+        data = self._file.read()
+        whole = data[: data.rfind(b"\n") + 1]
+        if len(whole) < len(data):
+            self._file.truncate(len(whole))
+        try:
+            lines = whole.decode("utf-8").split("\n")[:-1]
+        except UnicodeDecodeError:
+            raise Refusal(self._path, "", "not UTF-8") from None
+        head = self._form.head.splitlines()
+        if not lines:
+            self._put(self._form.head)
+        elif lines[: len(head)] != head:
+            raise Refusal(self._path, "line 1", "not the columns of a table of instances")
+        for number, line in enumerate(lines[len(head) :], len(head) + 1):
+            self._add(number, line)
+
+    def _add(self, number: int, line: str) -> None:
+        try:
+            row = self._form.row(line)
+        except ValueError as error:
+            raise Refusal(self._path, f"line {number}", str(error)) from None
+        if row.name in self.rows:
+            raise Refusal(self._path, f"line {number}", f"a second row of {row.name}")
+        self.rows[row.name] = row
+
+    def _put(self, text: str) -> None:
+        data = text.encode("utf-8")
+        try:
+            while data:
+                data = data[self._file.write(data) :]
+        except OSError as error:
+            raise Refusal(self._path, "", f"can't be written: {cause(error)}") from None
+
+
+def _form(path: str) -> Form:
+    ending = pathlib.PurePath(path).suffix
+    if ending not in FORMS:
+        raise Refusal(path, "", f"ends in none of {', '.join(FORMS)}, which tells the table's form")
+    return FORMS[ending]
