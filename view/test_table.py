@@ -49,7 +49,10 @@ RUNS = (
 )
 # a table, and what is said of it
 BROKEN_TABLES = (
-    ("t.csv", "name,status\n", "line 1: not the columns of a table of instances"),
+    ("t.csv", "name,status\n", "line 1: not what a table of instances begins with"),
+    ("t.csv", "notes", "line 1: not what a table of instances begins with"),
+    ("t.jsonl", "notes", "line 1: not what a table of instances begins with"),
+    ("t.csv", HEAD + "\nx\ny", "line 2: 1 cells, where there are 8 columns"),
     ("t.csv", HEAD + "\nx,0,1.000000,1.000000,0,1,0.000000\n", "line 2: 7 cells, where there are 8 columns"),
     ("t.csv", HEAD + "\nx,,,,,,0.000000,1.000000\n", "line 2: no status of a row"),
     ("t.csv", HEAD + "\nx,0,1.0,1.000000,0,1,0.000000,1.000000\n", "line 2: no cost of a row"),

@@ -85,7 +85,8 @@ def _row(cells: Cells) -> Row:
 class CommaSeparated:
     """Rows as comma-separated values below a line of the columns' names; an empty cell is what a row lacks."""
 
-    head = ",".join(HEAD) + "\n"
+    # what stands above the rows, and what a table begins with that has a line or a front of one
+    head = opening = ",".join(HEAD) + "\n"
 
     @staticmethod
     def line(row: Row) -> str:
@@ -111,7 +112,7 @@ class _Number(str):
 class JsonLines:
     """Rows as JSON objects, one a line, without a line above them; what a row lacks is null."""
 
-    head = ""
+    head, opening = "", '{"name": '
 
     @staticmethod
     def line(row: Row) -> str:

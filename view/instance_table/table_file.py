@@ -49,23 +49,25 @@ class TableFile:
             pass
 
     def _keep(self) -> None:
-        """Reads the rows; a line that was cut off when a run was stopped is taken away."""
+        """Reads the rows; then a line that was cut off when a run was stopped is taken away. A file that is no table stays as it is."""
         self._file.seek(0)
         data = self._file.read()
-        whole = data[: data.rfind(b"\n") + 1]
-        if len(whole) < len(data):
-            self._file.truncate(len(whole))
-        try:
-            lines = whole.decode("utf-8").split("\n")[:-1]
-        except UnicodeDecodeError:
-            raise Refusal(self._path, "", "not UTF-8") from None
-        head = self._form.head.splitlines()
-        if not lines:
-            self._put(self._form.head)
-        elif lines[: len(head)] != head:
-            raise Refusal(self._path, "line 1", "not the columns of a table of instances")
+        cut = data.rfind(b"\n") + 1
+        lines, rest = self._decoded(data[:cut]).split("\n")[:-1], data[cut:]
+        head, opening = self._form.head.splitlines(), self._form.opening.encode("utf-8")
+        if lines[: len(head)] != head[: len(lines)] or not (lines or opening.startswith(rest) or rest.startswith(opening)):
+            raise Refusal(self._path, "line 1", "not what a table of instances begins with")
         for number, line in enumerate(lines[len(head) :], len(head) + 1):
             self._add(number, line)
+        self._file.truncate(cut)
+        if not lines:
+            self._put(self._form.head)
+
+    def _decoded(self, data: bytes) -> str:
+        try:
+            return data.decode("utf-8")
+        except UnicodeDecodeError:
+            raise Refusal(self._path, "", "not UTF-8") from None
 
     def _add(self, number: int, line: str) -> None:
         try:
