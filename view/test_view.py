@@ -1,7 +1,7 @@
 #!/usr/bin/env python3
 """Tests `uc-view` on stored reports: what is drawn adds up, and what doesn't fit is refused with a line that says where.
 
-    python3 view/test_view.py            # at the top of the repository
+    python3 view/test_view.py            # at the top of the repository; test_table.py beside it is run too
 """
 from __future__ import annotations
 
@@ -23,13 +23,14 @@ HERE = pathlib.Path(__file__).resolve().parent
 TOP, STORED = HERE.parent, HERE / "tests"
 sys.path.insert(0, str(HERE))
 
-from schedule_view import amounts, command, fit, instance, page, report  # noqa: E402
+from schedule_view import amounts, command, costs, fit, instance, page, report  # noqa: E402
 from schedule_view.refusal import Refusal  # noqa: E402
 
 ROW1 = TOP / "crates/uc/data/row1.json"
 KAZARLIS = TOP / "examples/kazarlis10.json"
 MUST_RUN = TOP / "examples/kazarlis10_must_run.json"
 COAST = STORED / "coast.json"
+COAST_FILES = COAST, STORED / "coast.report", STORED / "coast.cert"
 
 ROW1_REPORT = """periods 1 thermal 1 renewable 0 rounded 0
 closed
@@ -88,6 +89,7 @@ BROKEN_REPORTS = (
     ("budget spent", "budget  spent", 'line 2: "budget  spent" is no outcome'),
     ("cost 5046.666668", "cost 5046.66666", 'line 3: "5046.66666" is no amount of money'),
     ("cost 5046.666668", "cost 4046.666668", "line 4: the bound is above the cost, 4046.666668"),
+    ("cost 5046.666668", "cost 5046.666667", "line 3: the schedule costs 5046.666668"),
     ("evaluations 1", "evaluations +1", 'line 5: "+1" is no number of evaluations'),
     ('"base \\"1\\""', '"base 1"', 'line 6: unit "base 1", where the instance has "base "1""'),
     (" 40.000000+5.000000\n", "\n", "line 6: 3 cells for 4 periods"),
@@ -159,7 +161,7 @@ class Drawn(html.parser.HTMLParser):
     def __init__(self, text: str) -> None:
         super().__init__()
         self.bars: Dict[str, List[Bar]] = {}
-        self.text, self._open, self._group, self._grain = "", [], [], 1
+        self.written, self.text, self._open, self._grain = text, "", [], 1
         self.feed(text)
         assert not self._open, self._open
 
@@ -214,14 +216,14 @@ class ViewTest(unittest.TestCase):
             status = command.main([*map(str, files), "-o", str(self.out), *words])
         return status, err.getvalue()
 
-    def drawn(self, *files: pathlib.Path) -> Drawn:
+    def drawn(self, *files: pathlib.Path, words: Tuple[str, ...] = ()) -> Drawn:
         """The page of files that are taken."""
-        self.assertEqual(self.run_view(*files), (0, ""))
+        self.assertEqual(self.run_view(*files, words=words), (0, ""))
         return Drawn(self.out.read_text(encoding="utf-8"))
 
-    def refused(self, place: str, *files: pathlib.Path) -> None:
+    def refused(self, place: str, *files: pathlib.Path, words: Tuple[str, ...] = ()) -> None:
         """The files are refused with one line that begins so, and nothing is written."""
-        status, said = self.run_view(*files)
+        status, said = self.run_view(*files, words=words)
         self.assertEqual((status, said[: len(place) + 9]), (1, f"uc-view: {place}"))
         self.assertEqual(said.count("\n"), 1)
         self.assertTrue(said.endswith("\n"))
@@ -256,9 +258,62 @@ class Pictures(ViewTest):
             self.assertNotIn(words, written)
         self.assertEqual(set(re.findall(r"url\((.)", written)) - {"#"}, set())
 
+    def test_costs_add_up(self) -> None:
+        drawn = self.drawn(COAST, STORED / "coast.report")
+        # by hand: the first unit costs 400 and 16.67 or 20 a MWh, the second one 350, and its start of category 2 costs 80
+        dollars = ("733.333334", "1650", "1850", "733.333334")
+        self.assertEqual(drawn.heights("production", 4), [Decimal(amount) * 10**6 for amount in dollars])
+        self.assertEqual(drawn.bars["starts"], [(1, Decimal(1650 * 10**6), Decimal(80 * 10**6))])
+        self.assertIn("Production costs $4,966.666668, starts $80.", drawn.text)
+        self.assertIn("hour 2: production $1,650, starts $80", drawn.text)
+
+    def test_costs_below_nought_hang_from_it(self) -> None:
+        value = json.loads(ROW1.read_text())
+        unit = value["thermal_generators"]["g1"]
+        unit.update(unit_on_t0=0, time_up_t0=0, time_down_t0=5, power_output_t0=0, startup=[{"lag": 1, "cost": -7}])
+        unit["piecewise_production"] = [{"mw": 10, "cost": -100}, {"mw": 50, "cost": -60}]
+        written = ROW1_REPORT.replace("300.000000", "-87.000000").replace("+5.000000", "+5.000000*1")
+        written = self.drawn(self.put("paid.json", json.dumps(value)), self.put("paid", written)).written
+        self.assertIn('d="M0 -80000v80000h1v-80000z"', written)
+        self.assertIn('d="M0 -87000v7000h1v-7000z"', written)
+        self.assertIn("production -$80, starts -$7", written)
+
+    def test_curtailed_power_is_drawn(self) -> None:
+        drawn = self.drawn(COAST, STORED / "coast.report")
+        self.assertIn("None: all that renewable units can give, 60.5 MWh, is used.", drawn.text)
+        self.assertNotIn("curtailed", drawn.bars)
+        more = self.put("more.json", COAST.read_text().replace("[20, 10.5000001, 30, 0]", "[25, 10.5000001, 30, 0.5]"))
+        drawn = self.drawn(more, STORED / "coast.report")
+        self.assertEqual(drawn.heights("curtailed", 4), [5 * 10**6, 0, 0, 500_000])
+        self.assertIn("could give and don't: 5.5 of 66 MWh.", drawn.text)
+
+    def test_gap_that_was_asked_for(self) -> None:
+        self.assertNotIn("asked for0", self.drawn(COAST, STORED / "coast.report").text)
+        self.assertIn("Gap asked for5.0198 %", self.drawn(COAST, STORED / "coast.report", words=("--gap", "50198")).text)
+        self.drawn(ROW1, self.put("r", ROW1_REPORT), words=("--gap", "0"))
+        self.out.unlink()
+        place = f'{STORED}/coast.report: line 2: "budget spent", where the gap is 50199 parts per million and 50199 were asked for'
+        self.refused(place, COAST, STORED / "coast.report", words=("--gap", "50199"))
+        for word in ("1000001", "-1", "x"):
+            with contextlib.redirect_stderr(io.StringIO()), self.assertRaises(SystemExit) as ended:
+                command.main([str(COAST), str(STORED / "coast.report"), "-o", str(self.out), f"--gap={word}"])
+            self.assertEqual(ended.exception.code, 2)
+
+    def test_every_hour_is_in_sight_at_every_width(self) -> None:
+        written = self.drawn(KAZARLIS, STORED / "kazarlis10.report", STORED / "kazarlis10.cert").written
+        label = r'<text x="([0-9.]+)%" y="[0-9.]+" class="hour every-\d+">(?:<title>[^<]*</title>)?(\d+)</text>'
+        labels = re.findall(label, written)
+        self.assertEqual(len(labels), 5 * 24)
+        for place, hour in labels:
+            self.assertAlmostEqual(float(place), 100 * (int(hour) - 0.5) / 24, places=3)
+        # nothing but a legend's icons has a width in pixels, and what is drawn in hours is stretched over its plot
+        self.assertEqual(set(re.findall(r'<svg[^>]* width="([^"]*)"', written)), {"14"})
+        self.assertEqual(set(re.findall(r'viewBox="0 0 (\d+) [^"]*" preserveAspectRatio="none"', written)), {"24"})
+
     def test_prices_are_drawn(self) -> None:
         self.assertNotIn("Prices", self.drawn(COAST, STORED / "coast.report").text)
         text = self.drawn(COAST, STORED / "coast.report", STORED / "coast.cert").text
+        self.assertIn("Prices of the boundThese are no market prices", text)
         self.assertIn("hour 1: demand 16.666667 $/MWh, reserve 0 $/MWh", text)
         self.assertIn("hour 3: demand 31 $/MWh, reserve 3 $/MWh", text)
 
@@ -289,6 +344,16 @@ class Pictures(ViewTest):
         text = self.drawn(MUST_RUN, self.put("most", MUST_RUN_REPORT), self.put("most.cert", head + tail)).text
         self.assertIn("hour 24: demand 0 $/MWh, reserve 0 $/MWh", text)
 
+    def test_prices_at_their_limit_without_a_schedule(self) -> None:
+        head = "uc-certificate 1\nsize 1 1 0 1\nclaim bound 0.000000\nschedule none\ntable 1\n"
+        for price, is_drawn in ((-(10**14), False), (1 - 10**14, True)):
+            tail = f"pi {price}\nmu 0\nramps 0\nbound 1\nend\n"
+            text = self.drawn(self.row1(5, 0), self.put("stuck", STUCK_REPORT), self.put("stuck.cert", head + tail)).text
+            self.assertEqual("hour 1: demand -" in text, is_drawn)
+            self.assertEqual("Prices of the boundNot drawn: no schedule stands" in text, not is_drawn)
+        tall = self.put("tall.cert", ROW1_CERTIFICATE.replace("mu 0", f"mu {10**14}"))
+        self.assertIn("reserve 100,000,000 $/MWh", self.drawn(ROW1, self.put("r", ROW1_REPORT), tall).text)
+
     def test_names_are_no_markup(self) -> None:
         name, value = '</title><script>"\u0001\u202e&amp;', json.loads(ROW1.read_text())
         value["thermal_generators"] = {name: value["thermal_generators"]["g1"]}
@@ -298,29 +363,47 @@ class Pictures(ViewTest):
         self.assertIn('</title><script>"\\u0001\\u202e&amp;, hour 1: 30 MW', text)
         self.assertNotIn("<script", self.out.read_text(encoding="utf-8"))
 
-    def test_dearest_units_are_merged(self) -> None:
+    def test_steadiest_units_are_merged(self) -> None:
         units, periods = 61, 168
         value = json.loads(ROW1.read_text())
         value.update(time_periods=periods, demand=[units * 30] * periods, reserves=[-1] * periods)
         g1 = value["thermal_generators"]["g1"]
         dearer = lambda k: dict(g1, piecewise_production=[{"mw": 10, "cost": 100}, {"mw": 50, "cost": 500 + k}])  # noqa: E731
         value["thermal_generators"] = {f"g{k + 1}": dearer(k) for k in range(units)}
+        # the cheapest unit and the dearest one move, against each other: 10 dollars more and 11.5 less every other hour
+        rows = {0: (31, 30), units - 1: (29, 30)}
+        cost = periods * sum(Decimal(600 + k) / 2 for k in range(units)) - Decimal("1.5") * periods / 2
         lines = ROW1_REPORT.replace("periods 1 thermal 1", f"periods {periods} thermal {units}").splitlines()[:5]
-        lines += [f'thermal "g{k + 1}"' + " 30.000000+0.000000" * periods for k in range(units)]
+        lines[2] = f"cost {cost:.6f}"
+        for k in range(units):
+            odd, even = rows.get(k, (30, 30))
+            lines.append(f'thermal "g{k + 1}"' + f" {odd}.000000+0.000000 {even}.000000+0.000000" * (periods // 2))
         drawn = self.drawn(self.put("many.json", json.dumps(value)), self.put("many", "\n".join(lines) + "\n"))
         self.assertEqual(drawn.heights("outputs", periods), [units * 30 * 10**6] * periods)
         self.assertEqual(len(drawn.bars["outputs"]), (20 + 3) * periods)
-        self.assertIn("13 dearer units at 10.40 to 10.64 $/MWh", drawn.text)
+        for words in ("13 steadier units at 10.02 to 10.26 $/MWh", "g1, hour 1: 31 MW", "g61, hour 1: 29 MW", "g43, hour 1: 30 MW"):
+            self.assertIn(words, drawn.text)
+        self.assertNotIn("g42, hour 1: 30 MW", drawn.text)
 
     def test_table(self) -> None:
         table = self.folder / "out.csv"
-        files = COAST, STORED / "coast.report"
+        files = COAST, STORED / "coast.report", STORED / "coast.cert"
         self.assertEqual(self.run_view(*files, words=("--csv", str(table))), (0, ""))
         lines = table.read_text(encoding="utf-8").split("\n")
-        self.assertEqual(lines[0], "unit,hour,on,output,reserve,category")
-        self.assertEqual(lines[2], '"base ""1""",2,1,70.000000,5.000000,0')
-        self.assertEqual(lines[5:7], ["peak <2>,1,0,0.000000,0.000000,0", "peak <2>,2,1,10.000000,0.000000,2"])
-        self.assertEqual(lines[10:], ["wind\\3,2,,10.500000,,", "wind\\3,3,,30.000000,,", "wind\\3,4,,0.000000,,", ""])
+        self.assertEqual(lines[0], "unit,kind,hour,on,output,reserve,category,demand,need,demand_price,reserve_price")
+        wanted = {
+            2: '"base ""1""",thermal,2,1,70.000000,5.000000,0,90.500000,5.000000,20.000000,0.000000',
+            5: "peak <2>,thermal,1,0,0.000000,0.000000,0,60.000000,5.000000,16.666667,0.000000",
+            6: "peak <2>,thermal,2,1,10.000000,0.000000,2,90.500000,5.000000,20.000000,0.000000",
+            11: "wind\\3,renewable,3,1,30.000000,0.000000,0,120.000000,10.000000,31.000000,3.000000",
+            12: "wind\\3,renewable,4,0,0.000000,0.000000,0,40.000000,5.000000,18.000000,0.000000",
+            13: "",
+        }
+        self.assertEqual({place: lines[place] for place in wanted}, wanted)
+        self.assertEqual(len(lines), 14)
+        self.assertEqual(self.run_view(*files[:2], words=("--csv", str(table))), (0, ""))
+        lines = table.read_text(encoding="utf-8").split("\n")
+        self.assertEqual(lines[12], "wind\\3,renewable,4,0,0.000000,0.000000,0,40.000000,5.000000,,")
 
 
 class Refusals(ViewTest):
@@ -378,6 +461,25 @@ class Refusals(ViewTest):
                     fit.check_report(coast, changed)
                     page.page(coast, changed, None, "i")
 
+    def test_outputs_over_other_files(self) -> None:
+        case, found, certificate = (self.put(path.name, path.read_text(encoding="utf-8")) for path in COAST_FILES)
+        soft, hard, dangling = self.folder / "soft", self.folder / "hard", self.folder / "dangling"
+        soft.symlink_to(case.name)
+        hard.hardlink_to(certificate) if hasattr(hard, "hardlink_to") else certificate.link_to(hard)
+        dangling.symlink_to("made.html")
+        (self.folder / "same").symlink_to(".")
+        page, other = self.folder / "made.html", self.folder / "same" / "made.html"
+        for outputs in [(path, None) for path in (found, soft, hard)] + [(page, path) for path in (case, hard, page, other, dangling)]:
+            with self.subTest(outputs):
+                self.out = outputs[0]
+                words = ("--csv", str(outputs[1])) if outputs[1] else ()
+                status, said = self.run_view(case, found, certificate, words=words)
+                refused = outputs[1] or outputs[0]
+                self.assertEqual((status, said.count("\n")), (1, 1))
+                self.assertTrue(said.startswith(f"uc-view: {refused}: would be written over "), said)
+                self.assertFalse(page.exists())
+        self.assertEqual([path.read_bytes() for path in (case, found, certificate)], [path.read_bytes() for path in COAST_FILES])
+
     def test_files_that_are_not_there(self) -> None:
         self.refused(f"{self.folder}/no: can't be read: ", self.folder / "no", STORED / "coast.report")
         self.out = self.folder / "no" / "out.html"
@@ -404,14 +506,24 @@ class Amounts(unittest.TestCase):
         for text in ("", "1", "01.000000", "-0.000000", "+1.000000", "1.0000000", "1.00000", "١.000000", "1" * 33 + ".000000"):
             self.assertIsNone(amounts.amount(text), text)
 
+    def test_gaps_are_rounded_up(self) -> None:
+        for cost, bound, parts in ((10**6, 10**6 - 1, 1), (3, 2, 333_334), (-4, -5, 250_000), (7, 7, 0), (0, 0, 0), (0, -1, None)):
+            self.assertEqual(amounts.gap_parts(cost, bound), parts)
+
+    def test_costs_lie_on_the_lower_hull(self) -> None:
+        # two points at one output, and one above the line between its neighbors
+        corners = costs.lower_hull([(10, 100), (10, 90), (20, 400), (30, 300)])
+        self.assertEqual(corners, [(10, 90), (30, 300)])
+        self.assertEqual([costs.hull_cost(corners, output) for output in (10, 11, 20, 30)], [90, 101, 195, 300])
+
     def test_fractions_are_shown_rounded(self) -> None:
         self.assertEqual(amounts.nearest_text(Fraction(-2, 3)), "-0.666667")
         self.assertEqual(amounts.nearest_text(Fraction(12_345)), "12,345")
 
 
 def main() -> int:
-    """Runs all tests; 0 where they hold."""
-    result = unittest.main(exit=False, argv=[sys.argv[0]], verbosity=0).result
+    """Runs all tests, those of `uc-table` too; 0 where they hold."""
+    result = unittest.TextTestRunner(verbosity=0).run(unittest.defaultTestLoader.discover(str(HERE), "test_*.py"))
     failed = len({test.id() for test, _ in result.failures + result.errors})
     print(f"view: {failed} of {result.testsRun} tests failed" if failed else f"view: all {result.testsRun} tests hold")
     return 1 if failed else 0

@@ -49,11 +49,31 @@ def short_text(millionths: int) -> str:
     return f"{'-' if millionths < 0 else ''}{size // MILLION:,}{'.' + decimals if decimals else ''}"
 
 
-def nearest_text(value: Fraction) -> str:
-    """A fraction rounded to six decimals, half away from nought, as `short_text` shows it."""
+def dollars_text(micros: int) -> str:
+    """An amount of money for a reader's eye."""
+    return f"{'-' if micros < 0 else ''}${short_text(abs(micros))}"
+
+
+def nearest(value: Fraction) -> int:
+    """The whole millionths nearest to a fraction, half away from nought."""
     scaled = abs(value) * MILLION
     size = (2 * scaled.numerator + scaled.denominator) // (2 * scaled.denominator)
-    return short_text(-size if value < 0 else size)
+    return -size if value < 0 else size
+
+
+def nearest_text(value: Fraction) -> str:
+    """A fraction rounded to six decimals, as `short_text` shows it."""
+    return short_text(nearest(value))
+
+
+def gap_parts(cost: int, bound: int) -> Optional[int]:
+    """Cost less bound in parts per million of the cost, rounded up; None where the cost alone is 0.
+
+    An answer is closed where these are at most the gap that was asked for.
+    """
+    if not cost:
+        return 0 if bound == cost else None
+    return -((bound - cost) * MILLION // abs(cost))
 
 
 def scaled(text: str) -> Optional[Tuple[int, bool]]:

@@ -12,6 +12,8 @@ from .refusal import shown
 
 _CELL = re.compile(r"([^:]+):([^:]+):([^:]+)")
 MOST_TABLES, MOST_CATEGORY, WATT_DIGITS = 2**32, 255, 15
+# the greatest size of a price, whatever its scale
+MOST_PRICE = 10**14
 
 # a cell that is on: output above the minimum and reserve in watts, and the category of a start, else 0
 CertificateCell = Tuple[int, int, int]

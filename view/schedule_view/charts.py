@@ -1,17 +1,20 @@
-"""The charts over the hours: stacked output, reserve, demand alone where there is no schedule, and prices."""
+"""The charts over the hours: stacked output, curtailed power, reserve, costs, prices, and demand alone where there is no schedule."""
 from __future__ import annotations
 
 from fractions import Fraction
 from typing import Dict, List, Optional, Tuple
 
-from .amounts import MILLION, nearest_text, short_text
+from .amounts import MILLION, dollars_text, nearest_text, short_text
 from .certificate import Prices
+from .costs import HourlyCosts
 from .instance import Instance
 from .layers import SINGLE_UNITS, Layer
 from .report import Schedule
-from .svg import Frame, element, hour_width, text
+from .svg import Frame, element, percent, text
 
-OUTPUT_HEIGHT, DEMAND_HEIGHT, RESERVE_HEIGHT, PRICE_HEIGHT = 340, 220, 110, 150
+OUTPUT_HEIGHT, DEMAND_HEIGHT, RESERVE_HEIGHT, CURTAILED_HEIGHT, COST_HEIGHT, PRICE_HEIGHT = 340, 220, 110, 90, 150, 150
+# pixels of a plot in a narrow page and in a wide one, in which a name has room, and those that hatchings are made for
+NARROW_PLOT, WIDE_PLOT, HATCHED_PLOT = 440, 980, 1100
 # colours are repeated with another hatching after so many
 COLOURS = 8
 NAME_HEIGHT, LETTER_WIDTH = 13, 6.4
@@ -30,7 +33,7 @@ def output_chart(instance: Instance, stack: List[Layer]) -> str:
         bottoms = [bottom + output for bottom, output in zip(bottoms, layer.outputs)]
     plot = (
         element("defs", "".join(_hatching(layer.look, "", _upright(frame)) for layer in stack))
-        + frame.group("".join(bars), id="outputs")
+        + frame.bars("".join(bars), "outputs")
         + "".join(names)
         + frame.group(frame.steps(instance.demand, "demand"))
     )
@@ -51,8 +54,33 @@ def reserve_chart(instance: Instance, schedule: Schedule) -> str:
         frame.bar(t, 0, size, f"hour {t + 1}: {short_text(size)} MW given, {short_text(need)} MW needed")
         for t, (size, need) in enumerate(zip(given, instance.reserves))
     )
-    plot = frame.group(bars, id="reserves", class_="given") + frame.group(frame.steps(instance.reserves, "need"))
+    plot = frame.bars(bars, "reserves", "given") + frame.group(frame.steps(instance.reserves, "need"))
     return frame.chart(plot, "Reserve given and reserve needed", "MW")
+
+
+def curtailed_chart(curtailed: List[int]) -> str:
+    """The power that renewable units could give and don't."""
+    frame = Frame.around(len(curtailed), CURTAILED_HEIGHT, curtailed, MILLION)
+    bars = (frame.bar(t, 0, size, f"hour {t + 1}: {short_text(size)} MW curtailed") for t, size in enumerate(curtailed) if size)
+    plot = frame.bars("".join(bars), "curtailed", "renewable")
+    return frame.chart(plot, "Curtailed renewable power", "MW")
+
+
+def cost_chart(costs: HourlyCosts) -> str:
+    """What production costs, and on top of that what starts cost; amounts below nought hang from nought."""
+    pairs = list(zip(costs.production, costs.starts))
+    tops, bottoms = [max(p, 0) + max(s, 0) for p, s in pairs], [min(p, 0) + min(s, 0) for p, s in pairs]
+    frame = Frame.around(len(pairs), COST_HEIGHT, tops + bottoms, MILLION)
+    production, starts = [], []
+    for t, (running, starting) in enumerate(pairs):
+        words = f"hour {t + 1}: production {dollars_text(running)}, starts {dollars_text(starting)}"
+        if running:
+            production.append(frame.bar(t, min(running, 0), abs(running), words))
+        if starting:
+            bottom = max(running, 0) if starting > 0 else min(running, 0) + starting
+            starts.append(frame.bar(t, bottom, abs(starting), words))
+    plot = frame.bars("".join(production), "production", "between") + frame.bars("".join(starts), "starts", "starts")
+    return frame.chart(plot, "Cost by hour", "$")
 
 
 def demand_chart(instance: Instance, stuck: Optional[int]) -> str:
@@ -90,19 +118,19 @@ def _bars(frame: Frame, layer: Layer, bottoms: List[int]) -> str:
 
 
 def _name_inside(frame: Frame, layer: Layer, bottoms: List[int]) -> str:
-    """The layer's name where it fits into the layer, at the thickest such place; nothing where there is none."""
-    width = hour_width(frame.periods)
-    hours = int((len(layer.name) + 1) * LETTER_WIDTH / width) + 1
-    places: List[Tuple[int, int, int]] = []
-    for t in range(frame.periods - hours + 1):
-        low = max(bottoms[t : t + hours])
-        high = min(bottom + output for bottom, output in zip(bottoms[t : t + hours], layer.outputs[t : t + hours]))
-        places.append((high - low, -t, low))
-    size, start, low = max(places, default=(0, 0, 0))
-    if size * frame.scale < NAME_HEIGHT:
-        return ""
-    x, y = (hours / 2 - start) * width, frame.y(low + size // 2) + 4
-    return element("text", text(layer.name), x=x, y=y, class_=f"name on-{_colour(layer.look)}")
+    """The layer's name at the thickest place where it fits in, where it may be for narrow pages too; nothing where there is none."""
+    for width, look in ((NARROW_PLOT, "narrow"), (WIDE_PLOT, "wide")):
+        hours = int((len(layer.name) + 1) * LETTER_WIDTH * frame.periods / width) + 1
+        places: List[Tuple[int, int, int]] = []
+        for t in range(frame.periods - hours + 1):
+            low = max(bottoms[t : t + hours])
+            high = min(bottom + output for bottom, output in zip(bottoms[t : t + hours], layer.outputs[t : t + hours]))
+            places.append((high - low, -t, low))
+        size, start, low = max(places, default=(0, 0, 0))
+        if size * frame.scale >= NAME_HEIGHT:
+            x, y = percent(hours / 2 - start, frame.periods), frame.y(low + size // 2) + 4
+            return element("text", text(layer.name), x=x, y=y, class_=f"name {look} on-{_colour(layer.look)}")
+    return ""
 
 
 def _legend_entry(layer: Layer) -> str:
@@ -112,9 +140,8 @@ def _legend_entry(layer: Layer) -> str:
 
 
 def _upright(frame: Frame) -> str:
-    """What turns the units of the frame's group back into pixels."""
-    right, up, _ = frame.matrix
-    return f"scale({1 / right:.10g} {1 / up:.10g})"
+    """What turns the units of the frame's group back into pixels, to the right those of a plot as wide as hatchings are made for."""
+    return f"scale({frame.periods / HATCHED_PLOT:.10g} {1 / frame.upwards:.10g})"
 
 
 def _place(look: str) -> int:

@@ -7,8 +7,10 @@ import pathlib
 import sys
 from typing import List, Optional
 
+from .amounts import MILLION, whole
 from .certificate import Certificate, read_certificate
-from .fit import check_certificate, check_report
+from .files import read_file, refuse_shared, write_file
+from .fit import check_certificate, check_gap, check_report
 from .instance import read_instance
 from .page import page
 from .refusal import Refusal
@@ -37,39 +39,34 @@ def _parser() -> argparse.ArgumentParser:
     parser.add_argument("certificate", metavar="CERT", nargs="?", help="its certificate, whose prices are drawn too")
     parser.add_argument("-o", dest="page", metavar="OUT.html", required=True, help="where the page goes")
     parser.add_argument("--csv", dest="table", metavar="OUT.csv", help="where the schedule goes as a table")
+    parser.add_argument("--gap", metavar="PPM", type=gap_of, help="the gap that `uc solve` was asked for, which the page then tells")
     return parser
+
+
+def gap_of(text: str) -> int:
+    """A gap as `uc` takes it; a word that is none is an error of the words."""
+    gap = whole(text)
+    if gap is None or gap > MILLION:
+        raise argparse.ArgumentTypeError(f"{text} is not a whole number from 0 to {MILLION}")
+    return gap
 
 
 def _run(given: argparse.Namespace) -> None:
     """Everything is read, checked and drawn before the first file is written."""
-    instance = read_instance(given.instance, _read(given.instance))
-    report = read_report(given.report, _read(given.report))
+    inputs = [path for path in (given.instance, given.report, given.certificate) if path is not None]
+    refuse_shared(inputs, [path for path in (given.page, given.table) if path is not None])
+    instance = read_instance(given.instance, read_file(given.instance))
+    report = read_report(given.report, read_file(given.report))
     check_report(instance, report)
+    if given.gap is not None:
+        check_gap(report, given.gap)
     certificate: Optional[Certificate] = None
     if given.certificate is not None:
-        certificate = read_certificate(given.certificate, _read(given.certificate))
+        certificate = read_certificate(given.certificate, read_file(given.certificate))
         check_certificate(instance, report, certificate)
-    drawn = page(instance, report, certificate, pathlib.PurePath(given.instance).name)
+    drawn = page(instance, report, certificate, pathlib.PurePath(given.instance).name, given.gap)
     table = io.StringIO()
-    write_table(report.schedule, table)
-    _write(given.page, drawn)
+    write_table(instance, report.schedule, certificate.prices if certificate else None, table)
+    write_file(given.page, drawn)
     if given.table is not None:
-        _write(given.table, table.getvalue())
-
-
-def _read(path: str) -> bytes:
-    try:
-        return pathlib.Path(path).read_bytes()
-    except (OSError, ValueError) as error:
-        raise Refusal(path, "", f"can't be read: {_cause(error)}") from None
-
-
-def _write(path: str, words: str) -> None:
-    try:
-        pathlib.Path(path).write_bytes(words.encode("utf-8"))
-    except (OSError, ValueError) as error:
-        raise Refusal(path, "", f"can't be written: {_cause(error)}") from None
-
-
-def _cause(error: Exception) -> str:
-    return getattr(error, "strerror", None) or str(error)
+        write_file(given.table, table.getvalue())

@@ -1,14 +1,16 @@
 """Whether a report and a certificate are of an instance, and of each other.
 
 This keeps what can't be drawn, or would be drawn wrong, out of a picture: other units, cells outside a unit's range, hours whose
-outputs don't add up to demand. It is no proof that the schedule obeys all rules, nor that the bound is one: `uc check` is.
+outputs don't add up to demand, hours whose costs don't add up to the cost. It is no proof that the schedule obeys all rules, nor that
+the bound is one: `uc check` is.
 """
 from __future__ import annotations
 
 from typing import NoReturn, Optional, Union
 
-from .amounts import amount_text
+from .amounts import amount_text, gap_parts
 from .certificate import Certificate, CertificateSchedule
+from .costs import hourly_costs
 from .instance import Instance, Renewable, Thermal
 from .refusal import Refusal, shown
 from .report import Cell, Outcome, RenewableRow, Report, Schedule, Stuck, ThermalRow
@@ -21,6 +23,16 @@ def check_report(instance: Instance, report: Report) -> None:
         _check_stuck(instance, report, report.stuck)
     if report.schedule:
         _check_schedule(instance, report, report.schedule)
+
+
+def check_gap(report: Report, asked: int) -> None:
+    """Refused where the outcome isn't that of the gap that was asked for, in parts per million."""
+    if report.schedule and report.bound is not None:
+        parts = gap_parts(report.schedule.cost, report.bound)
+        is_within = parts is not None and parts <= asked
+        if is_within != (report.outcome is Outcome.CLOSED):
+            found = "none of a cost of 0" if parts is None else f"{parts} parts per million"
+            _refuse(report, 2, f"{shown(report.outcome.value)}, where the gap is {found} and {asked} were asked for")
 
 
 def check_certificate(instance: Instance, report: Report, certificate: Certificate) -> None:
@@ -71,6 +83,9 @@ def _check_schedule(instance: Instance, report: Report, schedule: Schedule) -> N
         _check_renewable(report, instance.renewable[w], other)
     for period in range(instance.periods):
         _check_hour(instance, report, schedule, period)
+    cost = hourly_costs(instance, schedule).total
+    if cost != schedule.cost:
+        _refuse(report, 3, f"the schedule costs {amount_text(cost)}")
 
 
 def _check_name(report: Report, line: int, written: str, name: str) -> None:
@@ -100,8 +115,8 @@ def _cell_fault(unit: Thermal, cell: Cell, was_on: bool) -> Optional[str]:
         return "a start of a unit that is on the hour before"
     if not was_on and not cell.category:
         return "a start without a category"
-    if cell.category > unit.categories:
-        return f"start category {cell.category} of a unit that has {unit.categories}"
+    if cell.category > len(unit.start_costs):
+        return f"start category {cell.category} of a unit that has {len(unit.start_costs)}"
     return None
 
 

@@ -2,29 +2,17 @@
 from __future__ import annotations
 
 from dataclasses import dataclass
-from typing import List, Optional, Tuple
+from typing import Dict, List, Optional, Tuple
 
 from .amounts import short_text
 from .instance import Instance, Renewable, Thermal
 from .layers import merit_order
 from .report import Cell, RenewableRow, Schedule, ThermalRow
-from .svg import SIDE_WIDTH, day_lines, described, element, hour_labels, hour_width, text, title
+from .svg import day_lines, described, element, hour_labels, percent, stretched, text, title
 
 FEW_UNITS = 60
-HIGH_ROW, LOW_ROW = 17, 11
-HEAD, NAME_LETTERS, START_BAR, WIDE_HOUR = 18, 17, 3, 14
-
-
-@dataclass(frozen=True)
-class Shape:
-    """Pixels: the width of an hour, the height of a row."""
-
-    hour: int
-    row: int
-
-    def base(self, place: int) -> float:
-        """Where the letters of a row stand."""
-        return place * self.row + self.row * 0.78
+# the pixels of a row, of few units and of many, which the style has too
+HIGH_ROW, LOW_ROW, HEAD = 17, 11, 18
 
 
 @dataclass(frozen=True)
@@ -83,29 +71,35 @@ def _level(output: int, least: int, greatest: int) -> Tuple[str, str]:
 
 
 def _grid(label: str, rows: List[Row]) -> str:
-    """Names and hours stay in sight while the grid scrolls."""
+    """The names and the hours of a grid, and its cells; of many units it scrolls below the hours."""
     periods, few = len(rows[0].marks), len(rows) <= FEW_UNITS
-    shape = Shape(hour_width(periods), HIGH_ROW if few else LOW_ROW)
-    width, height = shape.hour * periods, shape.row * len(rows)
-    lines = "".join(element("path", d=f"M0 {k * shape.row}H{width}", class_="line") for k in range(len(rows) + 1))
-    cells = "".join(_cells(row, k, shape) for k, row in enumerate(rows))
-    names = "".join(_name(row, k, shape) for k, row in enumerate(rows))
-    return element(
+    pixels = HIGH_ROW if few else LOW_ROW
+    height = pixels * len(rows)
+    lines = "".join(element("line", x2="100%", y1=y, y2=y, class_="line") for y in range(0, height + 1, pixels))
+    pieces = [piece for place, row in enumerate(rows) for piece in _pieces(row, place, pixels)]
+    cells = stretched(periods, height + 1, "".join(piece.shape for piece in pieces))
+    drawn = lines + day_lines(periods, height) + cells + "".join(piece.category for piece in pieces)
+    names = "".join(element("div", text(row.name), title=text(row.name)) for row in rows)
+    grid = element(
         "div",
         element("div", class_="corner")
-        + element("svg", hour_labels(periods, HEAD - 5), width=width, height=HEAD, class_="hours", aria_hidden="true")
-        + element("svg", names, width=SIDE_WIDTH, height=height, class_="side names")
-        + element("svg", lines + day_lines(periods, height) + cells, width=width, height=height + 1, **described(label)),
-        class_=f"scroll grid {'few' if few else 'many'}",
+        + element("svg", hour_labels(periods, HEAD - 5), height=HEAD, class_="hours", aria_hidden="true")
+        + element("div", names, class_="names")
+        + element("svg", drawn, height=height + 1, **described(label)),
+        class_=f"grid {'few' if few else 'many'}",
     )
+    return grid if few else element("div", grid, class_="scroll")
 
 
-def _name(row: Row, place: int, shape: Shape) -> str:
-    cut = row.name if len(row.name) <= NAME_LETTERS else row.name[: NAME_LETTERS - 1] + "…"
-    return element("text", title(row.name) + text(cut), x=SIDE_WIDTH - 8, y=shape.base(place), class_="tick")
+@dataclass(frozen=True)
+class Piece:
+    """Hours with the same mark: the shape, in hours and pixels, and the category of a start, which isn't stretched."""
+
+    shape: str
+    category: str
 
 
-def _cells(row: Row, place: int, shape: Shape) -> str:
+def _pieces(row: Row, place: int, pixels: int) -> List[Piece]:
     """The marks of a unit; hours that follow each other with the same mark are one piece."""
     found, first = [], 0
     for end in range(1, len(row.marks) + 1):
@@ -113,19 +107,22 @@ def _cells(row: Row, place: int, shape: Shape) -> str:
             mark = row.marks[first]
             if mark:
                 hours = f"hour {first + 1}" if end == first + 1 else f"hours {first + 1} to {end}"
-                found.append(_piece(mark, f"{row.name}, {hours}: {mark.words}", first, end, place, shape))
+                words = f"{row.name}, {hours}: {mark.words}"
+                box = {"x": first, "y": place * pixels + 1, "width": end - first, "height": pixels - 1}
+                category = _category(mark, percent(first + 0.5, len(row.marks)), (place + 0.78) * pixels)
+                found.append(Piece(_shape(mark, words, box), category))
             first = end
-    return "".join(found)
+    return found
 
 
-def _piece(mark: Mark, words: str, first: int, end: int, place: int, shape: Shape) -> str:
-    """A mark over the hours from `first` up to `end`; a start has its category, and a bar at its left edge, or all over it."""
-    x, y, height = first * shape.hour, place * shape.row + 1, shape.row - 1
-    piece = element("rect", title(words), x=x, y=y, width=(end - first) * shape.hour, height=height, class_=mark.look)
+def _shape(mark: Mark, words: str, box: Dict[str, int]) -> str:
+    """A mark over its hours; a start has a bar at its left edge."""
+    piece = element("rect", title(words), class_=mark.look, **box)
     if not mark.category:
         return piece
-    is_wide = shape.hour >= WIDE_HOUR
-    piece += element("rect", x=x, y=y, width=START_BAR if is_wide else shape.hour, height=height, class_="start")
-    look = f"on-{mark.look}" if is_wide else "on-start"
-    middle = x + shape.hour / 2 + is_wide
-    return piece + element("text", str(mark.category), x=middle, y=shape.base(place), class_=look)
+    return piece + element("path", d=f"M{box['x']} {box['y']}v{box['height']}", class_="start")
+
+
+def _category(mark: Mark, x: str, y: float) -> str:
+    """The number of a start's category in its hour; nothing where none starts."""
+    return element("text", str(mark.category), x=x, y=y, class_=f"category on-{mark.look}") if mark.category else ""

@@ -23,10 +23,17 @@ class Thermal:
     maximum: int
     # the greatest output: what the maximum and the points allow
     greatest: int
-    # micro-dollars for a watt and hour at the last point, None where that is at no output
-    average_cost: Optional[Fraction]
-    categories: int
+    # outputs in watts, none below the one before, with what an hour there costs in micro-dollars
+    points: List[Tuple[int, int]]
+    # micro-dollars by category
+    start_costs: List[int]
     is_on_before: bool
+
+    @property
+    def average_cost(self) -> Optional[Fraction]:
+        """Micro-dollars for a watt and hour at the last point, None where that is at no output."""
+        last, cost = self.points[-1]
+        return Fraction(cost, last) if last > 0 else None
 
 
 @dataclass(frozen=True)
@@ -183,21 +190,26 @@ def _thermal(name: str, unit: Record) -> Thermal:
     for field in ("time_up_minimum", "time_down_minimum", "time_up_t0", "time_down_t0"):
         unit.time(field)
     unit.amount("power_output_t0", POWER_LIMIT)
-    categories = unit.rows("startup", MOST_CATEGORIES)
-    for category in categories:
-        category.time("lag")
-        category.amount("cost", COST_LIMIT)
+    start_costs = _start_costs(unit)
     points = _points(unit)
-    last, cost = points[-1]
     return Thermal(
         name=name,
         least=least,
         maximum=maximum,
-        greatest=min(maximum, least + last - points[0][0]),
-        average_cost=Fraction(cost, last) if last > 0 else None,
-        categories=len(categories),
+        greatest=min(maximum, least + points[-1][0] - points[0][0]),
+        points=points,
+        start_costs=start_costs,
         is_on_before=unit.flag("unit_on_t0"),
     )
+
+
+def _start_costs(unit: Record) -> List[int]:
+    """What a start of each category costs, in micro-dollars."""
+    costs = []
+    for category in unit.rows("startup", MOST_CATEGORIES):
+        category.time("lag")
+        costs.append(category.amount("cost", COST_LIMIT))
+    return costs
 
 
 def _points(unit: Record) -> List[Tuple[int, int]]:

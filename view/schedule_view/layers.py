@@ -1,16 +1,16 @@
-"""The layers of the stacked output: units in the order of their average cost, the dearest merged where there are many."""
+"""The layers of the stacked output: units in the order of their average cost, the steadiest merged where there are many."""
 from __future__ import annotations
 
 from dataclasses import dataclass
 from fractions import Fraction
-from typing import List
+from typing import List, Set
 
 from .amounts import short_text
 from .instance import Instance
 from .report import Schedule
 
 SINGLE_UNITS = 20
-# the dearer units are merged into layers of at least as many units, and into at most so many layers
+# the steadier units are merged into layers of at least as many units, and into at most so many layers
 LEAST_MERGED, MOST_BANDS = 20, 5
 
 
@@ -23,6 +23,7 @@ class Layer:
     look: str
     outputs: List[int]
     titles: List[str]
+    is_merged: bool = False
 
 
 def merit_order(instance: Instance) -> List[int]:
@@ -37,13 +38,26 @@ def cost_text(cost: Fraction) -> str:
 
 
 def layers(instance: Instance, schedule: Schedule) -> List[Layer]:
-    """The layers from the bottom: units that give something, cheapest first, merged ones, and renewables on top."""
+    """The layers from the bottom, of units that give something: merged ones, single ones, and renewables; each kind cheapest first."""
     used = [g for g in merit_order(instance) if any(cell and cell.output for cell in schedule.thermal[g].cells)]
-    found = [_unit(instance, schedule, g, f"c{place}") for place, g in enumerate(used[:SINGLE_UNITS])]
-    found += [_band(instance, schedule, units, place) for place, units in enumerate(_bands(used[SINGLE_UNITS:]))]
+    single = _liveliest(schedule, used)
+    steadier = [g for g in used if g not in single]
+    found = [_band(instance, schedule, units, place) for place, units in enumerate(_bands(steadier))]
+    found += [_unit(instance, schedule, g, f"c{place}") for place, g in enumerate(g for g in used if g in single)]
     if any(output for row in schedule.renewable for output in row.outputs):
         found.append(_renewables(schedule))
     return found
+
+
+def _liveliest(schedule: Schedule, used: List[int]) -> Set[int]:
+    """The units to be drawn one by one: those whose output moves most from hour to hour, and of equal ones the dearest."""
+
+    def moved(g: int) -> int:
+        outputs = [cell.output if cell else 0 for cell in schedule.thermal[g].cells]
+        return sum(abs(after - before) for before, after in zip(outputs, outputs[1:]))
+
+    places = sorted(range(len(used)), key=lambda place: (moved(used[place]), place))
+    return {used[place] for place in places[-SINGLE_UNITS:]}
 
 
 def never_on(instance: Instance, schedule: Schedule) -> List[str]:
@@ -74,12 +88,12 @@ def _band(instance: Instance, schedule: Schedule, units: List[int], place: int) 
     outputs = [sum(cell.output for cell in column if cell) for column in columns]
     reserves = [sum(cell.reserve for cell in column if cell) for column in columns]
     counts = [sum(cell is not None for cell in column) for column in columns]
-    name = f"{len(units)} dearer units" if len(units) > 1 else "1 dearer unit"
+    name = f"{len(units)} steadier units" if len(units) > 1 else "1 steadier unit"
     titles = [
         f"{name}{_range_text(instance, units)}, {count} on, hour {t + 1}: {short_text(output)} MW, reserve {short_text(reserve)} MW"
         for t, (count, output, reserve) in enumerate(zip(counts, outputs, reserves))
     ]
-    return Layer(name + _range_text(instance, units), "", f"m{place}", outputs, titles)
+    return Layer(name + _range_text(instance, units), "", f"m{place}", outputs, titles, is_merged=True)
 
 
 def _range_text(instance: Instance, units: List[int]) -> str:

@@ -2,17 +2,17 @@
 from __future__ import annotations
 
 import pathlib
-from fractions import Fraction
 from typing import List, Optional, Tuple
 
-from .amounts import MILLION, short_text
-from .certificate import Certificate, Leaves, Prices
-from .charts import demand_chart, legend, output_chart, price_chart, reserve_chart
+from .amounts import MILLION, dollars_text, gap_parts, short_text
+from .certificate import MOST_PRICE, Certificate, Leaves
+from .charts import cost_chart, curtailed_chart, demand_chart, legend, output_chart, price_chart, reserve_chart
+from .costs import hourly_costs
 from .grid import renewable_grid, thermal_grid
 from .instance import Instance
-from .layers import layers, never_on
+from .layers import SINGLE_UNITS, layers, never_on
 from .report import Outcome, Report, Schedule
-from .svg import element, text
+from .svg import element, narrow_rules, text
 
 STYLE = pathlib.Path(__file__).with_name("style.css")
 NAMES_SHOWN = 12
@@ -28,20 +28,20 @@ OUTCOMES = {
 }
 
 
-def page(instance: Instance, report: Report, certificate: Optional[Certificate], name: str) -> str:
-    """The whole page; the name is the instance's."""
+def page(instance: Instance, report: Report, certificate: Optional[Certificate], name: str, gap: Optional[int] = None) -> str:
+    """The whole page; the name is the instance's, the gap that which was asked for, in parts per million."""
     schedule = report.schedule
     parts = [element("h1", text(f"Schedule of {name}" if schedule else name)), *_outcome(report, certificate)]
-    parts.append(_head(instance, report))
+    parts.append(_head(instance, report, gap))
     parts += _charts(instance, schedule) if schedule else _demand(instance, report)
-    if certificate and certificate.prices:
-        parts += _prices(certificate.prices)
+    if certificate:
+        parts += _prices(certificate, bool(schedule))
     if schedule:
         parts += _grids(instance, schedule)
     head = (
         '<meta charset="utf-8"><meta name="viewport" content="width=device-width, initial-scale=1">'
         + element("title", text(name))
-        + element("style", STYLE.read_text(encoding="utf-8"))
+        + element("style", STYLE.read_text(encoding="utf-8") + narrow_rules(instance.periods))
     )
     foot = element("footer", FOOT)
     return f'<!DOCTYPE html>\n<html lang="en">{element("head", head)}{element("body", element("main", "".join(parts) + foot))}</html>\n'
@@ -68,14 +68,16 @@ def _reason(leaves: Leaves) -> str:
     return f"the value of all schedules at the ray of table {number} is above 0 (ray {number})."
 
 
-def _head(instance: Instance, report: Report) -> str:
+def _head(instance: Instance, report: Report, gap: Optional[int]) -> str:
     facts: List[Tuple[str, str]] = []
     if report.schedule:
         facts.append(("Cost", _money(report.schedule.cost)))
     if report.bound is not None:
         facts.append(("Bound", _money(report.bound)))
     if report.schedule and report.bound is not None:
-        facts.append(("Gap", _gap(report.schedule.cost, report.bound)))
+        facts.append(("Gap", _percent(gap_parts(report.schedule.cost, report.bound))))
+    if gap is not None:
+        facts.append(("Gap asked for", _percent(gap)))
     facts += [
         ("Evaluations", f"{report.evaluations:,}"),
         ("Hours", str(instance.periods)),
@@ -93,22 +95,26 @@ def _money(micros: int) -> str:
     return f"{'-' if micros < 0 else ''}${size // MILLION:,}.{cents:02}" + element("small", f"{rest:04}")
 
 
-def _gap(cost: int, bound: int) -> str:
-    """The gap in percent of the cost, rounded up to four decimals."""
-    if not cost:
-        return "0 %" if bound == cost else "none, the cost is 0"
-    parts = Fraction((cost - bound) * MILLION, abs(cost))
-    return f"{short_text(-(-parts.numerator // parts.denominator) * 100)} %"
+def _percent(parts: Optional[int]) -> str:
+    """Parts per million of the cost, None where the cost is 0 and there is no such part."""
+    return "none, the cost is 0" if parts is None else f"{short_text(parts * 100)} %"
 
 
 def _charts(instance: Instance, schedule: Schedule) -> List[str]:
+    return [*_outputs(instance, schedule), *_curtailed(instance, schedule), *_reserve(instance, schedule), *_costs(instance, schedule)]
+
+
+def _outputs(instance: Instance, schedule: Schedule) -> List[str]:
     stack = layers(instance, schedule)
+    order = "The cheapest unit is at the bottom, by average cost at its last point."
+    if any(layer.is_merged for layer in stack):
+        order = (
+            f"One by one, the cheapest lowest, by average cost at its last point: the {SINGLE_UNITS} units whose output moves most "
+            "from hour to hour. Below them, in grey, are the steadier ones."
+        )
     parts = [
         element("h2", "Output by unit"),
-        element(
-            "p",
-            "The cheapest unit is at the bottom, by average cost at its last point. The line is demand, to which the outputs add up.",
-        ),
+        element("p", order + " The line is demand, to which the outputs add up."),
         output_chart(instance, stack),
         legend(stack),
     ]
@@ -116,12 +122,41 @@ def _charts(instance: Instance, schedule: Schedule) -> List[str]:
     if idle:
         more = f" and {len(idle) - NAMES_SHOWN} more" if len(idle) > NAMES_SHOWN else ""
         parts.append(element("p", text("Units without any output: " + ", ".join(idle[:NAMES_SHOWN]) + more + ".")))
-    parts += [
+    return parts
+
+
+def _curtailed(instance: Instance, schedule: Schedule) -> List[str]:
+    """What renewable units could give and don't, in words alone where that is nothing."""
+    if not instance.renewable:
+        return []
+    available = [sum(powers) for powers in zip(*(unit.greatest for unit in instance.renewable))]
+    given = [sum(powers) for powers in zip(*(row.outputs for row in schedule.renewable))]
+    curtailed = [most - power for most, power in zip(available, given)]
+    total, most = short_text(sum(curtailed)), short_text(sum(available))
+    heading = element("h2", "Curtailed renewable power")
+    if not any(curtailed):
+        return [heading, element("p", f"None: all that renewable units can give, {most} MWh, is used.")]
+    words = f"What renewable units could give and don't: {total} of {most} MWh."
+    return [heading, element("p", words), curtailed_chart(curtailed)]
+
+
+def _reserve(instance: Instance, schedule: Schedule) -> List[str]:
+    return [
         element("h2", "Reserve"),
         element("p", "Bars are the reserve given, the dashed line is the reserve needed."),
         reserve_chart(instance, schedule),
     ]
-    return parts
+
+
+def _costs(instance: Instance, schedule: Schedule) -> List[str]:
+    costs = hourly_costs(instance, schedule)
+    production, starts = (dollars_text(sum(amounts)) for amounts in (costs.production, costs.starts))
+    return [
+        element("h2", "Cost by hour"),
+        element("p", f"Production costs {production}, starts {starts}."),
+        _keys([("between", "production"), ("starts", "starts")]),
+        cost_chart(costs),
+    ]
 
 
 def _demand(instance: Instance, report: Report) -> List[str]:
@@ -134,16 +169,21 @@ def _demand(instance: Instance, report: Report) -> List[str]:
     ]
 
 
-def _prices(prices: Prices) -> List[str]:
-    return [
-        element("h2", "Prices"),
-        element(
-            "p",
-            f"The prices of table {prices.table} of the certificate, that of its first leaf with a bound: "
-            "of demand, pi (the line), and of reserve, mu (dashed).",
-        ),
-        price_chart(prices),
-    ]
+def _prices(certificate: Certificate, has_schedule: bool) -> List[str]:
+    """The prices of the bound; without a schedule and at their limit they tell nothing, and are told in words alone."""
+    prices, count = certificate.prices, certificate.leaves.counts.get("bound", 0)
+    if not prices:
+        return []
+    heading = element("h2", "Prices of the bound")
+    if not has_schedule and any(abs(price) == MOST_PRICE for price in prices.demand + prices.reserve):
+        words = "Not drawn: no schedule stands, and these prices are at the limit of what a certificate may have."
+        return [heading, element("p", words)]
+    leaf = f"the first of its {count} leaves with a bound" if count > 1 else "its leaf with a bound"
+    words = (
+        f"These are no market prices: they are the multipliers from which table {prices.table} of the certificate, that of {leaf}, "
+        "makes the bound. The line is that of demand, pi, the dashed one that of reserve, mu."
+    )
+    return [heading, element("p", words), price_chart(prices)]
 
 
 def _grids(instance: Instance, schedule: Schedule) -> List[str]:
@@ -171,6 +211,7 @@ def _grids(instance: Instance, schedule: Schedule) -> List[str]:
 def _keys(keys: List[Tuple[str, str]]) -> str:
     """A legend of classes and words."""
     entries = (
-        element("svg", element("rect", width=14, height=14, class_=look), width=14, height=14) + words for look, words in keys
+        element("svg", element("rect", width=14, height=14, class_=look), width=14, height=14, aria_hidden="true") + words
+        for look, words in keys
     )
     return element("ul", "".join(element("li", entry) for entry in entries), class_="legend")

@@ -3,6 +3,8 @@
 A plot's data stands in a group whose units are hours to the right and the data's own upwards, as megawatts, with all their decimals,
 so that the heights in the file are exact; the group's matrix alone brings them to pixels. `data-grain` tells how many whole numbers
 of the data, as watts, are one such unit.
+
+Plots are as wide as the page lets them be: data is stretched over the hours, and texts, which aren't, have their places in percent.
 """
 from __future__ import annotations
 
@@ -15,11 +17,14 @@ from typing import Dict, Iterable, List, Sequence, Tuple, Union
 from .amounts import nearest_text
 from .refusal import printable
 
-SIDE_WIDTH, HOURS_HEIGHT, TOP = 120, 20, 8
-AXIS_X = SIDE_WIDTH - 62
-# the width that a day's or a week's hours share, and the bounds of one hour's
-PLOT_WIDTH, LEAST_HOUR, MOST_HOUR = 1176, 7, 64
-LABEL_SPACE, HOURS_A_DAY, TICKS = 26, 24, 6
+HOURS_HEIGHT, TOP, AXIS_Y, SIDE_GAP = 20, 22, 10, 8
+# pixels beside the plots: names and axes in a wide and in a narrow page, which the style has too, and the page's margins
+SIDE_WIDTH, NARROW_SIDE_WIDTH, NARROW_PAGE, MARGINS = 120, 74, 760, 68
+# pixels that an hour needs for its label, for a start's category and for lines around its bars
+LABEL_SPACE, CATEGORY_SPACE, OUTLINE_SPACE = 24, 14, 5
+HOURS_A_DAY, TICKS = 24, 6
+# every so many hours have a label where there is room for no more; each number divides the next one
+LABEL_STEPS = (1, 2, 4, 12, 24)
 
 
 def text(words: str) -> str:
@@ -47,31 +52,47 @@ def described(words: str) -> Dict[str, str]:
     return {"role": "img", "aria_label": text(words)}
 
 
-def hour_width(periods: int) -> int:
-    """The pixels of an hour, the same in all charts of a page."""
-    return max(LEAST_HOUR, min(MOST_HOUR, PLOT_WIDTH // periods))
-
-
-def labelled_hours(periods: int) -> List[int]:
-    """The hours, from 0, that have room for a label."""
-    steps = (step for step in (1, 2, 3, 4, 6, 12, 24) if step * hour_width(periods) >= LABEL_SPACE)
-    return list(range(0, periods, next(steps)))
+def percent(hours: float, periods: int) -> str:
+    """How far to the right of a plot a place in its hours is."""
+    return f"{100 * hours / periods:.6g}%"
 
 
 def hour_labels(periods: int, y: float, titles: Sequence[str] = ()) -> str:
-    """The numbers of the hours, from 1, on a line; their titles, where given, tell more."""
-    width = hour_width(periods)
+    """The numbers of the hours, from 1, on a line, for `narrow_rules` to thin out; their titles, where given, tell more."""
     return "".join(
-        element("text", (title(titles[t]) if titles else "") + str(t + 1), x=width * (t + 0.5), y=y, class_="hour")
-        for t in labelled_hours(periods)
+        element(
+            "text",
+            (title(titles[t]) if titles else "") + str(t + 1),
+            x=percent(t + 0.5, periods),
+            y=y,
+            class_=f"hour every-{max(step for step in LABEL_STEPS if t % step == 0)}",
+        )
+        for t in range(periods)
     )
+
+
+def narrow_rules(periods: int) -> str:
+    """The rules of the page's style that leave out what hours are too narrow for: labels, categories in cells, lines around bars."""
+    rules = [(LABEL_SPACE / step, f".every-{step} {{ display: none; }}") for step in LABEL_STEPS[:-1]]
+    rules += [(CATEGORY_SPACE, ".category { display: none; }"), (OUTLINE_SPACE, ".bars path { stroke: none; }")]
+    return "".join(f"@media (max-width: {_narrowest(periods, pixels)}px) {{ {rule} }}\n" for pixels, rule in rules)
+
+
+def _narrowest(periods: int, pixels: float) -> int:
+    """The width of a page below which an hour has fewer pixels than that."""
+    plot = math.ceil(pixels * periods) + MARGINS
+    return plot + (NARROW_SIDE_WIDTH if plot + NARROW_SIDE_WIDTH <= NARROW_PAGE else SIDE_WIDTH)
 
 
 def day_lines(periods: int, height: float) -> str:
     """A line between each day of 24 hours and the next."""
-    width = hour_width(periods)
-    days = range(HOURS_A_DAY, periods, HOURS_A_DAY)
-    return "".join(element("path", d=f"M{t * width} 0V{height:g}", class_="day") for t in days)
+    places = (percent(t, periods) for t in range(HOURS_A_DAY, periods, HOURS_A_DAY))
+    return "".join(element("line", x1=x, x2=x, y2=height, class_="day") for x in places)
+
+
+def stretched(periods: int, height: float, content: str) -> str:
+    """A drawing whose units are hours to the right and pixels downwards, over the whole width of a plot."""
+    return element("svg", content, viewBox=f"0 0 {periods} {height:g}", preserveAspectRatio="none", height=height)
 
 
 @dataclass(frozen=True)
@@ -91,11 +112,6 @@ class Frame:
         low, high = min(numbers), max(numbers)
         room = (high - low) // 25 + 1 if low < high else unit
         return Frame(periods, height, low - room if low else 0, high + room, unit)
-
-    @property
-    def width(self) -> int:
-        """Pixels."""
-        return hour_width(self.periods) * self.periods
 
     @property
     def scale(self) -> float:
@@ -118,15 +134,19 @@ class Frame:
         return ("-" if value < 0 else "") + f"{digits[:cut]}.{digits[cut:]}".rstrip("0").rstrip(".")
 
     @property
-    def matrix(self) -> Tuple[float, float, float]:
-        """Pixels for an hour, pixels for a unit of the group, and the pixel of nought."""
-        return float(hour_width(self.periods)), -self.scale * 10**self.decimals, self.y(0)
+    def upwards(self) -> float:
+        """Pixels, counted downwards, for a unit of the group."""
+        return -self.scale * 10**self.decimals
+
+    def bars(self, content: str, name: str, look: str = "") -> str:
+        """A group of bars, with a name and a class besides its own."""
+        return self.group(content, id=name, class_=f"bars {look}".rstrip())
 
     def group(self, content: str, **attributes: Union[str, int, float]) -> str:
-        """A group in hours and units of the data."""
-        right, up, nought = self.matrix
-        matrix = f"matrix({right:.10g} 0 0 {up:.10g} 0 {nought:.10g})"
-        return element("g", content, transform=matrix, data_grain=10**self.decimals, **attributes)
+        """A group in hours and units of the data, over the whole width of the plot."""
+        matrix = f"matrix(1 0 0 {self.upwards:.10g} 0 {self.y(0):.10g})"
+        group = element("g", content, transform=matrix, data_grain=10**self.decimals, **attributes)
+        return stretched(self.periods, TOP + self.height, group)
 
     def bar(self, period: int, bottom: int, size: int, words: str = "", **attributes: str) -> str:
         """A bar over one hour, for `group`. It is a path, since browsers cap the height of a rectangle."""
@@ -152,19 +172,20 @@ class Frame:
         return [k * step for k in range(first, last + 1)]
 
     def chart(self, plot: str, label: str, axis: str, titles: Sequence[str] = ()) -> str:
-        """The chart: an axis that stays in sight, and the plot, which scrolls where the page is narrow."""
+        """The chart: an axis, and the plot beside it."""
         ticks = [(self.y(tick * self.unit), nearest_text(tick)) for tick in self.ticks()]
-        grid = "".join(element("path", d=f"M0 {y:.2f}H{self.width}", class_="line") for y, _ in ticks)
+        grid = "".join(element("line", x2="100%", y1=y, y2=y, class_="line") for y, _ in ticks)
         bottom = TOP + self.height
         plot = grid + day_lines(self.periods, bottom) + plot + hour_labels(self.periods, bottom + 15, titles)
-        numbers = "".join(element("text", words, x=SIDE_WIDTH - 8, y=y + 4, class_="tick") for y, words in ticks)
-        numbers += element(
-            "text", text(axis), x=AXIS_X, y=bottom / 2, class_="axis", transform=f"rotate(-90 {AXIS_X} {bottom / 2:g})"
-        )
-        size = {"height": bottom + HOURS_HEIGHT}
+        numbers = "".join(_beside(words, y + 4) for y, words in ticks) + _beside(text(axis), AXIS_Y)
+        height = bottom + HOURS_HEIGHT
         return element(
             "div",
-            element("svg", numbers, width=SIDE_WIDTH, class_="side", aria_hidden="true", **size)
-            + element("svg", plot, width=self.width, **described(label), **size),
-            class_="scroll chart",
+            element("svg", numbers, height=height, aria_hidden="true") + element("svg", plot, height=height, **described(label)),
+            class_="chart",
         )
+
+
+def _beside(words: str, y: float) -> str:
+    """A word of an axis, which ends a little before the plot."""
+    return element("text", words, x="100%", dx=-SIDE_GAP, y=y, class_="tick")

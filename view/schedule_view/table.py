@@ -2,28 +2,47 @@
 from __future__ import annotations
 
 import csv
-from typing import Optional, TextIO
+from fractions import Fraction
+from typing import List, Optional, TextIO, Tuple
 
-from .amounts import amount_text
+from .amounts import amount_text, nearest
+from .certificate import Prices
+from .instance import Instance
 from .report import Schedule
 
-HEAD = ("unit", "hour", "on", "output", "reserve", "category")
+HEAD = ("unit", "kind", "hour", "on", "output", "reserve", "category", "demand", "need", "demand_price", "reserve_price")
 
 
-def write_table(schedule: Optional[Schedule], out: TextIO) -> None:
-    """Power in megawatts with six decimals, category 0 where nothing starts; the head alone where there is no schedule.
+def write_table(instance: Instance, schedule: Optional[Schedule], prices: Optional[Prices], out: TextIO) -> None:
+    """Power in megawatts and prices in dollars a megawatt-hour, with six decimals; the head alone where there is no schedule.
 
-    Renewable units come last; they are neither on nor off and give no reserve, so these columns are empty.
+    A unit that is off has noughts, and so has the category where nothing starts. A renewable unit is on where it gives something.
+    The hour's demand, reserve needed and prices of the bound stand in each line; without a certificate the prices are empty.
     """
     table = csv.writer(out, lineterminator="\n")
     table.writerow(HEAD)
     if schedule is None:
         return
+    hours = _hours(instance, prices)
     for row in schedule.thermal:
         for period, cell in enumerate(row.cells):
-            numbers = (1, cell.output, cell.reserve, cell.category) if cell else (0, 0, 0, 0)
-            is_on, output, reserve, category = numbers
-            table.writerow((row.name, period + 1, is_on, amount_text(output), amount_text(reserve), category))
+            numbers = (cell.output, cell.reserve, cell.category) if cell else (0, 0, 0)
+            table.writerow((row.name, "thermal", *_line(period, cell is not None, numbers), *hours[period]))
     for other in schedule.renewable:
         for period, output in enumerate(other.outputs):
-            table.writerow((other.name, period + 1, "", amount_text(output), "", ""))
+            table.writerow((other.name, "renewable", *_line(period, output > 0, (output, 0, 0)), *hours[period]))
+
+
+def _line(period: int, is_on: bool, numbers: Tuple[int, int, int]) -> Tuple[int, int, str, str, int]:
+    output, reserve, category = numbers
+    return period + 1, int(is_on), amount_text(output), amount_text(reserve), category
+
+
+def _hours(instance: Instance, prices: Optional[Prices]) -> List[Tuple[str, str, str, str]]:
+    """What stands in each line of an hour: demand, reserve needed, and their prices."""
+    priced = [("", "")] * instance.periods
+    if prices:
+        texts = ([amount_text(nearest(Fraction(n, prices.scale))) for n in numbers] for numbers in (prices.demand, prices.reserve))
+        priced = list(zip(*texts))
+    powers = zip(map(amount_text, instance.demand), map(amount_text, instance.reserves))
+    return [(*power, *price) for power, price in zip(powers, priced)]

@@ -1,0 +1,1 @@
+"""A table of many instances, from runs of `uc solve`."""

@@ -1,0 +1,70 @@
+"""What a schedule costs in each hour, as a report's cost counts it (`docs/MODEL.md`, "Printed schedules")."""
+from __future__ import annotations
+
+from bisect import bisect_left
+from dataclasses import dataclass
+from typing import List, Tuple
+
+from .instance import Instance, Thermal
+from .report import Schedule
+
+Corner = Tuple[int, int]
+
+
+@dataclass(frozen=True)
+class HourlyCosts:
+    """What production and starts cost in each hour, in micro-dollars."""
+
+    production: List[int]
+    starts: List[int]
+
+    @property
+    def total(self) -> int:
+        """The cost of the schedule."""
+        return sum(self.production) + sum(self.starts)
+
+
+def hourly_costs(instance: Instance, schedule: Schedule) -> HourlyCosts:
+    """The costs of a schedule whose outputs and categories are those of the instance's units."""
+    production, starts = [0] * instance.periods, [0] * instance.periods
+    for unit, row in zip(instance.thermal, schedule.thermal):
+        corners = lower_hull(unit.points)
+        for period, cell in enumerate(row.cells):
+            if cell:
+                production[period] += hull_cost(corners, _above_minimum(unit, cell.output))
+                starts[period] += unit.start_costs[cell.category - 1] if cell.category else 0
+    return HourlyCosts(production, starts)
+
+
+def _above_minimum(unit: Thermal, output: int) -> int:
+    """The output counted as the points are: the first one is the unit's least output."""
+    return output - unit.least + unit.points[0][0]
+
+
+def lower_hull(points: List[Corner]) -> List[Corner]:
+    """The corners of the lower convex hull of points whose outputs don't fall; of several at one output the cheapest counts."""
+    corners: List[Corner] = []
+    for point in sorted(points):
+        if corners and corners[-1][0] == point[0]:
+            continue
+        while len(corners) > 1 and not _is_below(corners[-2], corners[-1], point):
+            corners.pop()
+        corners.append(point)
+    return corners
+
+
+def _is_below(left: Corner, middle: Corner, right: Corner) -> bool:
+    """Whether the middle corner is below the line between the others."""
+    rise, run = right[1] - left[1], right[0] - left[0]
+    return (middle[1] - left[1]) * run < rise * (middle[0] - left[0])
+
+
+def hull_cost(corners: List[Corner], output: int) -> int:
+    """The hull's cost at an output in its range, rounded up to a micro-dollar."""
+    place = bisect_left(corners, (output,))
+    right = corners[min(place, len(corners) - 1)]
+    if right[0] == output:
+        return right[1]
+    left = corners[place - 1]
+    rise, run = right[1] - left[1], right[0] - left[0]
+    return left[1] - (-rise * (output - left[0])) // run
