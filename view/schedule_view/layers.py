@@ -42,7 +42,9 @@ def layers(instance: Instance, schedule: Schedule) -> List[Layer]:
     used = [g for g in merit_order(instance) if any(cell and cell.output for cell in schedule.thermal[g].cells)]
     single = _liveliest(schedule, used)
     steadier = [g for g in used if g not in single]
-    found = [_band(instance, schedule, units, place) for place, units in enumerate(_bands(steadier))]
+    bands = _bands(steadier)
+    # the greys get lighter upwards, and the lightest is below the colours
+    found = [_band(instance, schedule, units, place) for place, units in enumerate(bands, MOST_BANDS - len(bands))]
     found += [_unit(instance, schedule, g, f"c{place}") for place, g in enumerate(g for g in used if g in single)]
     if any(output for row in schedule.renewable for output in row.outputs):
         found.append(_renewables(schedule))
