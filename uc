@@ -1,10 +1,17 @@
 #!/usr/bin/env bash
 # Runs the program with the words given, and ends with its status. Where the program is missing or older than a source it is
-# proved and built first: how far that is stands on the error output, and status 70 says that it failed.
+# proved and built first: how far that is stands on the error output, and status 70 says that it failed. Of runs at once one
+# builds it, and the others wait.
 set -eu
 top=$(dirname -- "$(readlink -f -- "$0")")
 program=$top/crates/uc/out/uc
-child='' work='' crates=() began=() ended=()
+child='' work='' told='' crates=() uses=() began=() took=()
+
+# What the proof of each crate took when it was measured, in seconds of one processor.
+weights='uc_model 60 dual_model 30 outside 66 decimal_json 138 instance 228 cert_text 204 report 84 cost_curves 48
+  start_costs 30 period_term 72 ramp_duals 42 system_value 42 interval_graph 18 unit_path 96 dispatch_repair 210
+  dual_value 54 quick_value 162 prices 300 schedule_repair 438 branch_tree 54 search_core 186 workers 426
+  schedule_check 114 state_walk 48 leaf_values 66 cert_check 84 demo_gen 36 uc_cli 210 uc 102'
 
 say() { printf 'uc: %s\n' "$*" >&2; }
 is_current() {
@@ -12,12 +19,19 @@ is_current() {
     \( -name '*.rt' -o -name '*.antt' -o -name crates.txt \) -newer "$program" -print -quit)" ]
 }
 
-# The crates that the program stands on, in the order of crates.txt, and the program.
+# Runs that look at the program share the lock, with -s; one that builds it has it alone, with -x.
+take_lock() {
+  flock -w 1 "$1" "$lock" && return
+  say "waiting for another run, which builds the program"
+  flock "$1" "$lock"
+}
+
+# The crates that the program stands on, in the order of crates.txt, and the program, each with the libraries that it uses.
 needed() {
   awk -F: 'function need(name, i, below) { if (!is_needed[name]++) for (i = split(uses[name], below, " "); i; i--) need(below[i]) }
     { sub(/#.*/, "") } split($1, words, " ") { rows[NR] = words[1]; uses[words[1]] = $2 }
-    END { need("uc"); for (i = 1; i <= NR; i++) if (rows[i] in is_needed && rows[i] != "uc") print rows[i]; print "uc" }' \
-    "$top/crates.txt"
+    END { need("uc"); for (i = 1; i <= NR; i++) if (rows[i] in is_needed && rows[i] != "uc") print rows[i], uses[rows[i]]
+      print "uc", uses["uc"] }' "$top/crates.txt"
 }
 
 # How many crates to prove side by side: one that waits for a library holds its place, and one that is proved takes some 2 GB.
@@ -25,26 +39,68 @@ places() {
   awk -v most="$(($(nproc) + 2))" '/^MemAvailable/ { n = int($2 / 2e6); print n < 1 ? 1 : n < most ? n : most }' /proc/meminfo
 }
 
-tell_begun() { began[$1]=$SECONDS && say "proving $(($1 + 1)) of ${#crates[@]}: ${crates[$1]}"; }
-tell_proved() { ended[$1]=$SECONDS && say "proved $(($1 + 1)) of ${#crates[@]} in $((SECONDS - began[$1])) s: ${crates[$1]}"; }
-# A library's folder is made when its proof begins, and the stamp in it when that is done. The log names each crate that is
-# done, also those that were proved before, and the program is begun once all others are.
-show() {
-  local i library last=$((${#crates[@]} - 1))
-  for ((i = 0; i < last; i++)); do
-    library=$top/crates/${crates[i]}/out/rlib
-    if [ -z "${began[i]-}" ] && [ "$library" -nt "$work/start" ]; then tell_begun "$i"; fi
-    if [ -n "${began[i]-}" ] && [ -z "${ended[i]-}" ] && [ "$library/stamp" -nt "$work/start" ]; then tell_proved "$i"; fi
+# A line for each crate: its name, the seconds since its proof began, those that it took, and the libraries that it uses.
+states() {
+  local i age
+  for ((i = 0; i < ${#crates[@]}; i++)); do
+    age=0
+    if [ -n "${began[i]-}" ]; then age=$((SECONDS - began[i])); fi
+    echo "${crates[i]} $age ${took[i]:--} ${uses[i]}"
   done
-  if [ -z "${began[last]-}" ] && [ "$(grep -c '^== ' "$work/log")" -ge "$last" ]; then tell_begun "$last"; fi
+}
+
+# The minutes until all is proved, by what proofs took when they were measured and how those of this run compare: all that is left,
+# shared by the processors, or the longest chain of it if that is more.
+minutes_left() {
+  states | awk -v weights="$weights" -v processors="$(nproc)" '
+    function rest(name, left) {
+      if (took[name] != "-") return 0
+      left = weight[name] * pace - age[name]
+      return left > 5 ? left : 5
+    }
+    function chain(name, i, below, one, most) {
+      if (name in chains) return chains[name]
+      for (i = split(uses[name], below, " "); i; i--) { one = chain(below[i]); if (one > most) most = one }
+      return chains[name] = most + rest(name)
+    }
+    BEGIN { for (i = split(weights, words, " "); i; i -= 2) weight[words[i - 1]] = words[i] }
+    { age[$1] = $2; took[$1] = $3; names[NR] = $1; uses[$1] = ""; for (i = 4; i <= NF; i++) uses[$1] = uses[$1] " " $i }
+    !($1 in weight) { weight[$1] = 60 }
+    $3 > 0 { spent += $3; expected += weight[$1] }
+    END {
+      pace = expected ? spent / expected : 1
+      for (i = 1; i <= NR; i++) { total += rest(names[i]); if (chain(names[i]) > longest) longest = chain(names[i]) }
+      shared = total / processors
+      print int((shared > longest ? shared : longest) / 60 + 0.99)
+    }'
+}
+
+# A library's folder is made when its proof begins, and the log names each crate that is done, also those that were proved before.
+# The program is begun once all others are done.
+show() {
+  local i ended proved=0 last=$((${#crates[@]} - 1)) line
+  ended=$(sed -n 's/^== \(.*\)/ \1 /p' "$work/log")
+  for ((i = 0; i <= last; i++)); do
+    if [ "$top/crates/${crates[i]}/out/rlib" -nt "$work/start" ] || { [ "$i" = "$last" ] && [ "$proved" = "$last" ]; }; then
+      began[i]=${began[i]-$SECONDS}
+    fi
+    if [[ $ended == *" ${crates[i]} "* ]]; then
+      took[i]=${took[i]-$((SECONDS - ${began[i]-SECONDS}))}
+      proved=$((proved + 1))
+    fi
+  done
+  line="$proved of ${#crates[@]} proved, some $(minutes_left) min left"
+  if [ "$line" != "$told" ]; then told=$line && say "$line"; fi
 }
 
 # Runs rt in the program's folder, where it takes in the crates below the program and no others.
 watched() {
-  (cd "$top/crates/uc" && exec rt "$@") >>"$work/log" 2>&1 </dev/null &
+  (cd "$top/crates/uc" && exec {lock}<&- && exec rt "$@") >>"$work/log" 2>&1 </dev/null &
   child=$!
-  while kill -0 "$child" 2>/dev/null; do show; sleep 1; done
-  show
+  while kill -0 "$child" 2>/dev/null; do
+    [ "$1" != all ] || show
+    sleep 1
+  done
   wait "$child"
 }
 
@@ -58,14 +114,14 @@ fail() {
 }
 
 build() {
+  local name below
   work=$(mktemp -d) && touch "$work/start" "$work/log"
   trap leave EXIT
   trap 'exit 143' INT TERM HUP
-  mapfile -t crates < <(needed)
-  say "proving and building the program: some 10 minutes on four free processors the first time; later runs start at once"
+  while read -r name below; do crates+=("$name") uses+=("$below"); done < <(needed)
+  say "proving and building the program; later runs start at once"
   watched all check --jobs "$(places)" || fail
-  tell_proved $((${#crates[@]} - 1))
-  say "linking the program"
+  say "all ${#crates[@]} proved; linking the program"
   # The program runs at the end of its build, without words: it tells how it is called, and ends with 5.
   watched run || [ $? -eq 5 ] || fail
   # What was edited meanwhile stays newer than the program.
@@ -75,5 +131,11 @@ build() {
   say "built in $((SECONDS / 60)) min $((SECONDS % 60)) s"
 }
 
-is_current || build
+exec {lock}<"$top"
+take_lock -s
+if ! is_current; then
+  take_lock -x
+  is_current || build
+fi
+exec {lock}<&-
 exec "$program" "$@"

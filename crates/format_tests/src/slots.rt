@@ -180,7 +180,7 @@ fn a_latch_keeps_its_first_fault(rt: HostRuntime) -> Result<(), Fail> {
 fn read_file(rt: &HostRuntime, name: &str) -> (Result<Vec<u8>, SlurpFault>, u64) {
     let mut files = system_files(rt);
     let read = slurp(rt.alloc(), &mut files, Slot::CertIn, name, 2);
-    (read, files.cert_in.faults())
+    (read, files.devices.cert_in.faults())
 }
 
 #[test]

@@ -3,14 +3,15 @@ use Rattle.std.specs.Prelude.{ℕ, None}
 use Rattle.outside.specs.declared.slot.Stage.{Stage}
 use Rattle.outside.specs.declared.slot.Stage.TheVariants.{Unopened, Open, Finished}
 use Rattle.outside.specs.declared.system.Handle.{Handle}
-use Rattle.outside.specs.declared.system.Handle.TheVariants.{Unopened as NoFile, Open as OpenFile, Finished as DoneFile}
+use Rattle.outside.specs.declared.system.Handle.TheVariants.{Unopened as NoFile, Open as OpenFile, Lost as LostFile, Finished as DoneFile}
 use Rattle.outside.specs.Slots.{SlotState}
 use Rattle.outside.specs.Sinks.{SinkState}
 
--- the stage of a file of the system
+-- the stage of a file of the system; one that was given up after a fault stays open
 abbrev pub stage_of : {H : Type 0} → Handle H → Stage
 stage_of NoFile = Unopened
 stage_of (OpenFile file) = Open
+stage_of LostFile = Open
 stage_of DoneFile = Finished
 
 -- a slot that tells no content

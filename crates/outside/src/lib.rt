@@ -12,6 +12,7 @@
 mod count;
 mod device;
 mod devices;
+mod draft;
 mod fault;
 mod faulty_file;
 mod faulty_sink;

@@ -1,49 +1,80 @@
 ghost use Rattle.std.specs.Prelude.{◌≡◌};
 ghost use Rattle.outside.specs.declared.slot.Slot.{Slot};
-ghost use Rattle.outside.specs.declared.slot.Stage.TheVariants.{Unopened as UnopenedStage};
+ghost use Rattle.outside.specs.declared.slot.Stage.TheVariants.{Unopened as UnopenedStage, Open as OpenStage};
 ghost use Rattle.outside.specs.Slots.{AllUnopened};
 ghost use Rattle.outside.specs.System.{untold_slot};
 
 use crate::count::{counted, counted_write};
 use crate::device::Device;
 use crate::devices::Devices;
+use crate::draft::{Draft, FileIdentity, open_target};
 use crate::fault::Failed;
 use crate::files::Files;
 use crate::slot::Slot;
-use std::fs;
-use std::io::{Read, Write};
+use std::fs::OpenFile;
+use std::io::{ErrorKind, Read, Write};
+use std::{fs, io};
 
 /// What a file of the system is opened for.
 #[derive(Clone, Copy, Debug, PartialEq, Eq)]
 pub enum Access {
     /// An existing file, to read it.
     Read,
-    /// A file that is made, or emptied where it exists, to write it.
+    /// A file that is made, or replaced where it exists, to write it.
     Write,
+}
+
+/// A file of the system that is open, and its draft where it is one.
+#[derive(Drop)]
+struct Opened<H> {
+    file: H,
+    draft: Option<Draft>,
+}
+
+impl<H: Write + OpenFile + Drop> Opened<H> {
+    /// Hands on what was written, and puts a draft in its target's place.
+    fn finish(&mut self, rt: &impl std::rt::Files) -> io::Result<()> {
+        self.file.flush()?;
+        if let Some(draft) = &self.draft {
+            self.file.sync_all()?;
+            draft.publish(rt)?;
+        }
+        Ok(())
+    }
 }
 
 /// A file of the system at its stage.
 #[derive(Drop)]
 enum Handle<H> {
     Unopened,
-    Open(H),
+    Open(Opened<H>),
+    /// It was given up after a fault.
+    Lost,
     Finished,
 }
 
 /// A file of the system behind a slot. It is closed when it is finished.
 ///
+/// What is written stands at the name once it is finished and not before: a regular file, or one
+/// that isn't there yet, is written as a new file beside it, which takes its place then. After a
+/// fault in writing the new file is removed, and no later call succeeds. A device or a pipe is
+/// written as it stands.
+///
 /// It tells no content. Each error of the system is counted, an interrupted call too, and so is a
-/// write that takes no byte of a piece that has some. That it is finished says that the system has
-/// taken all that was written, and not that a disk has it.
+/// write that takes no byte of a piece that has some.
 #[derive(Drop)]
 pub struct SystemFile<'a, R: std::rt::Files> {
     rt: &'a R,
     pub access: Access,
     handle: Handle<R::File>,
+    /// The file that was opened to be read.
+    identity: Option<FileIdentity>,
+    /// The files that may not be written.
+    others: [Option<FileIdentity>; 2],
     faults: u64,
 }
 
-impl<'a, R: std::rt::Files> SystemFile<'a, R> {
+impl<'a, R: std::rt::Files + AllocGlobal> SystemFile<'a, R> {
     /// An unopened file, which will be opened for this.
     pub fn new(rt: &'a R, access: Access) -> Self
         ensures state { ⟦<SystemFile<'a, R> as Device>⟧.state result ≡ untold_slot UnopenedStage 0 }
@@ -53,6 +84,8 @@ impl<'a, R: std::rt::Files> SystemFile<'a, R> {
             rt,
             access,
             handle: Handle::Unopened,
+            identity: None,
+            others: [None; 2],
             faults: 0,
         }
     }
@@ -63,9 +96,42 @@ impl<'a, R: std::rt::Files> SystemFile<'a, R> {
     {
         self.faults
     }
+
+    /// Opens the file of the system.
+    fn opened(&self, name: &str) -> io::Result<(Opened<R::File>, Option<FileIdentity>)> {
+        match self.access {
+            Access::Read => {
+                let file = fs::open(self.rt, name)?;
+                let identity = FileIdentity::of(&file.metadata()?);
+                Ok((Opened { file, draft: None }, Some(identity)))
+            }
+            Access::Write => {
+                let (file, draft) = open_target(self.rt, name, &self.others)?;
+                Ok((Opened { file, draft }, None))
+            }
+        }
+    }
+
+    /// Gives up an open file after a fault, and removes what was made.
+    fn give_up(&mut self)
+        requires { (⟦<SystemFile<'a, R> as Device>⟧.state self.old).stage ≡ OpenStage }
+        ensures { ⟦<SystemFile<'a, R> as Device>⟧.state self.new ≡ ⟦<SystemFile<'a, R> as Device>⟧.state self.old }
+    {
+        if let Handle::Open(opened) = &self.handle {
+            if let Some(draft) = &opened.draft {
+                draft.discard(self.rt);
+            }
+        }
+        self.handle = Handle::Lost;
+    }
 }
 
-impl<'a, R: std::rt::Files> Device for SystemFile<'a, R> {
+/// The error of a call on a file that was given up.
+fn lost() -> io::Error {
+    io::Error::from(ErrorKind::BrokenPipe)
+}
+
+impl<'a, R: std::rt::Files + AllocGlobal> Device for SystemFile<'a, R> {
     ghost use Rattle.outside.specs.System.{stage_of};
 
     ghost state = { λ file. untold_slot (stage_of file.handle) file.faults };
@@ -73,17 +139,17 @@ impl<'a, R: std::rt::Files> Device for SystemFile<'a, R> {
     ghost unopened_is_unwritten = { λ file e. tt };
 
     fn open(&mut self, name: &str) -> Result<(), Failed> {
-        let opened = match self.access {
-            Access::Read => fs::open(self.rt, name),
-            Access::Write => fs::create(self.rt, name),
-        };
-        self.handle = Handle::Open(counted(opened, &mut self.faults)?);
+        let opened = self.opened(name);
+        let (opened, identity) = counted(opened, &mut self.faults)?;
+        self.identity = identity;
+        self.handle = Handle::Open(opened);
         Ok(())
     }
 
     fn read(&mut self, buf: &mut [u8]) -> Result<usize, Failed> {
         let read = match &mut self.handle {
-            Handle::Open(file) => file.read(buf),
+            Handle::Open(opened) => opened.file.read(buf),
+            Handle::Lost => Err(lost()),
             _ => unreachable!(),
         };
         counted(read, &mut self.faults)
@@ -91,36 +157,80 @@ impl<'a, R: std::rt::Files> Device for SystemFile<'a, R> {
 
     fn write(&mut self, piece: &[u8]) -> Result<usize, Failed> {
         let written = match &mut self.handle {
-            Handle::Open(file) => file.write(piece),
+            Handle::Open(opened) => opened.file.write(piece),
+            Handle::Lost => Err(lost()),
             _ => unreachable!(),
         };
-        counted_write(written, piece, &mut self.faults)
+        let taken = counted_write(written, piece, &mut self.faults);
+        if taken.is_err() {
+            self.give_up();
+        }
+        taken
     }
 
     fn finish(&mut self) -> Result<(), Failed> {
-        let flushed = match &mut self.handle {
-            Handle::Open(file) => file.flush(),
+        let finished = match &mut self.handle {
+            Handle::Open(opened) => opened.finish(self.rt),
+            Handle::Lost => Err(lost()),
             _ => unreachable!(),
         };
-        counted(flushed, &mut self.faults)?;
-        self.handle = Handle::Finished;
-        Ok(())
+        let outcome = counted(finished, &mut self.faults);
+        if outcome.is_err() {
+            self.give_up();
+        } else {
+            self.handle = Handle::Finished;
+        }
+        outcome
     }
 }
 
 /// The files of a run on the system: the instance and the certificate to check are read, the
 /// certificate of this run is made anew.
-pub type SystemFiles<'a, R> = Devices<SystemFile<'a, R>>;
+///
+/// The certificate is opened by no name of a file that was opened before to be read: that is a
+/// fault, and the file is as it was.
+#[derive(Drop)]
+pub struct SystemFiles<'a, R: std::rt::Files> {
+    pub devices: Devices<SystemFile<'a, R>>,
+}
+
+impl<'a, R: std::rt::Files + AllocGlobal> Files for SystemFiles<'a, R> {
+    ghost state = { λ files. ⟦<Devices<SystemFile<'a, R>> as Files>⟧.state files.devices };
+
+    ghost unopened_is_unwritten = { λ files slot e. tt };
+
+    fn open_slot(&mut self, slot: Slot, name: &str) -> Result<(), Failed> {
+        self.devices.cert_out.others = [
+            self.devices.instance.identity,
+            self.devices.cert_in.identity,
+        ];
+        self.devices.open_slot(slot, name)
+    }
+
+    fn read(&mut self, slot: Slot, buf: &mut [u8]) -> Result<usize, Failed> {
+        self.devices.read(slot, buf)
+    }
+
+    fn write(&mut self, slot: Slot, piece: &[u8]) -> Result<usize, Failed> {
+        self.devices.write(slot, piece)
+    }
+
+    fn finish(&mut self, slot: Slot) -> Result<(), Failed> {
+        self.devices.finish(slot)
+    }
+}
 
 /// The files of a run on the system, all of them unopened.
-pub fn system_files<'a, R: std::rt::Files>(rt: &'a R) -> SystemFiles<'a, R>
-    ensures unopened { AllUnopened (⟦<Devices<SystemFile<'a, R>> as Files>⟧.state result) }
-    ensures access { (result.instance.access ≡ Access.Read) × (result.cert_in.access ≡ Access.Read) × (result.cert_out.access ≡ Access.Write) }
-    ensures faults { (slot : Slot) → (⟦<Devices<SystemFile<'a, R>> as Files>⟧.state result slot).faults ≡ 0 }
+pub fn system_files<'a, R: std::rt::Files + AllocGlobal>(rt: &'a R) -> SystemFiles<'a, R>
+    ensures unopened { AllUnopened (⟦<SystemFiles<'a, R> as Files>⟧.state result) }
+    ensures access { (result.devices.instance.access ≡ Access.Read) × (result.devices.cert_in.access ≡ Access.Read) × (result.devices.cert_out.access ≡ Access.Write) }
+    ensures faults { (slot : Slot) → (⟦<SystemFiles<'a, R> as Files>⟧.state result slot).faults ≡ 0 }
 {
-    Devices::new(
-        SystemFile::new(rt, Access::Read),
-        SystemFile::new(rt, Access::Read),
-        SystemFile::new(rt, Access::Write),
-    )
+    SystemFiles {
+        devices: Devices::new(
+            SystemFile::new(rt, Access::Read),
+            SystemFile::new(rt, Access::Read),
+            SystemFile::new(rt, Access::Write),
+        ),
+    }
 }
