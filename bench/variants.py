@@ -1,7 +1,8 @@
 #!/usr/bin/env python3
 """Makes other systems of an instance file, to measure the search on more than it was tuned on.
 
-    python3 bench/variants.py CASE.json OUT.json [copies=N] [ramps=PART] [units=N] [slow=LOW:HIGH] [reserve=PART] [seed=N]
+    python3 bench/variants.py CASE.json OUT.json [copies=N] [ramps=PART] [units=N] [slow=LOW:HIGH] [reserve=PART] [wind=PART]
+        [must=N] [costs=PART] [seed=N]
 
 - copies=N: N of each thermal unit, with N times the demand and reserve.
 - ramps=PART: each unit's ramps are this part of its greatest output, and so are its startup and shutdown limits where that is above its
@@ -10,6 +11,9 @@
   lower and moved by up to 2 % in each period.
 - slow=LOW:HIGH: half of the units, by chance, have ramps of a part of their range between these.
 - reserve=PART: reserve is this part of demand.
+- wind=PART: renewable units give so many times as much, at least and at most.
+- must=N: so many of the units, by chance, must run, which begin as they do.
+- costs=PART: each unit's production costs and starts are dearer or cheaper by up to this part, by chance.
 
 All chance hangs on the seed, 0 where none is given.
 """
@@ -58,6 +62,25 @@ def slowed(case, low, high, chance):
             unit["ramp_up_limit"] = unit["ramp_down_limit"] = round(span * chance.uniform(low, high), DECIMALS)
 
 
+def windy(case, part):
+    for unit in case[RENEWABLE].values():
+        for end in ("minimum", "maximum"):
+            unit[f"power_output_{end}"] = [round(it * part, DECIMALS) for it in unit[f"power_output_{end}"]]
+
+
+def running(case, count, chance):
+    begun = sorted(name for name, unit in case[THERMAL].items() if unit["unit_on_t0"])
+    for name in chance.sample(begun, min(count, len(begun))):
+        case[THERMAL][name]["must_run"] = 1
+
+
+def priced(case, part, chance):
+    for unit in case[THERMAL].values():
+        times = 1 + part * chance.uniform(-1, 1)
+        for point in (*unit["piecewise_production"], *unit["startup"]):
+            point["cost"] = round(point["cost"] * times, DECIMALS)
+
+
 def main(source, target, options):
     case = json.loads(pathlib.Path(source).read_text())
     given = dict(option.split("=") for option in options)
@@ -71,6 +94,12 @@ def main(source, target, options):
             chosen(case, int(value), chance)
         elif name == "slow":
             slowed(case, *map(float, value.split(":")), chance)
+        elif name == "wind":
+            windy(case, float(value))
+        elif name == "must":
+            running(case, int(value), chance)
+        elif name == "costs":
+            priced(case, float(value), chance)
         elif name == "reserve":
             case["reserves"] = [round(float(value) * it, DECIMALS) for it in case["demand"]]
         else:

@@ -37,6 +37,9 @@ const RISE_BY_MERIT: i128 = 100;
 /// The same from the prices of a table.
 const RISE_BY_TABLE: i128 = 400;
 
+/// A value counts as no less in size than this part of what the dearest unit costs at full load in all periods.
+const LEAST_SIZE: i128 = 4;
+
 /// What an ascent found: the best table, how often each unit was on in each period among the cuts that give the best move, unit by unit,
 /// in parts of 2^16, and what it takes the bound for, in micro-dollars, of which nothing is proved.
 #[derive(Debug, Drop)]
@@ -77,12 +80,13 @@ pub fn ascend(
     let decisions = Decisions::of(alloc, instance, node)?;
     let ramped = evaluator.ramped(alloc)?;
     let prices = first_prices(alloc, instance, table, &ramped)?;
+    let least = least_size(instance);
     let (mut prices, shares, value) = match evaluator.evaluate(
         alloc, instance, &decisions, &prices,
     )? {
         None => (prices, Vec::new(alloc), 0),
         Some(first) => {
-            let rise = first_rise(table, first.value);
+            let rise = first_rise(table, size_of(first.value, least));
             let mut center = begin(alloc, instance, prices, first, rise, &ramped)?;
             climb(
                 alloc,
@@ -91,6 +95,7 @@ pub fn ascend(
                 &decisions,
                 &mut center,
                 evaluations,
+                least,
             )?;
             settle(alloc, &mut center)?;
             (center.prices, center.shares, center.value)
@@ -112,6 +117,7 @@ fn climb(
     decisions: &Decisions,
     center: &mut Center,
     evaluations: u32,
+    least: i128,
 ) -> Result<(), NoMemory> {
     let futile = if center.bundle.has_few_cuts() {
         FUTILE_OF_FEW_CUTS
@@ -120,7 +126,7 @@ fn climb(
     };
     let mut stalls: u32 = 0;
     for _ in 0..evaluations {
-        let size = center.value.saturating_abs();
+        let size = size_of(center.value, least);
         let step = center.bundle.step(alloc, &center.prices, size)?;
         if center.nulls >= futile {
             break;
@@ -178,9 +184,24 @@ fn rescale(prices: &mut [i64], from: i64, to: i64) {
     }
 }
 
-// By how much the first step is to raise the value, of which prices in order of merit leave more to gain.
-fn first_rise(table: &Table, value: i128) -> i128 {
-    let size = value.saturating_abs();
+// The size of a value, which counts as at least so much: where it is nothing, strides that go by it would be too.
+fn size_of(value: i128, least: i128) -> i128 {
+    value.saturating_abs().max(least)
+}
+
+// A part of what the unit that costs most at full load costs so in all periods, at the scale `SCALE`.
+fn least_size(instance: &Instance) -> i128 {
+    let mut most: i64 = 1;
+    for unit in instance.thermal.as_slice() {
+        if let Some(point) = unit.points.as_slice().last() {
+            most = most.max(point.cost.saturating_abs());
+        }
+    }
+    times(most, i64::from(instance.periods)).saturating_mul(i128::from(SCALE)) / LEAST_SIZE
+}
+
+// By how much the first step is to raise a value of some size, of which prices in order of merit leave more to gain.
+fn first_rise(table: &Table, size: i128) -> i128 {
     if is_unpriced(table) {
         size / RISE_BY_MERIT
     } else {

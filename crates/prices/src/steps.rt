@@ -27,8 +27,13 @@ const MANY_EVALUATIONS: u32 = 60;
 
 const MANY_CELLS: usize = 20_000;
 
-/// The most at a node but the root, whose table begins near the best one.
+/// The most at a node but the root, whose table begins near the best one, and those there where the ramps of few units can bind.
 const NODE_EVALUATIONS: u32 = 120;
+
+const FREE_NODE_EVALUATIONS: u32 = 180;
+
+/// The ramps of few units can bind where it is at most one of so many.
+const FEW_RAMPED: usize = 4;
 
 /// The ascent to a table to try next at a node at which `had` tables were tried, of which the last is `table`: the table's scale is
 /// a million and `had`. The only error is `NoMemory`.
@@ -45,25 +50,26 @@ pub fn next_ascent(
     ensures lawful { IfOk result (λ ascent. IsLawfulTable instance.now ascent.table) }
     ensures scale { IfOk result (λ ascent. ascent.table.k ≡ pos (1000000 + had)) }
 {
-    let evaluations = if node.fixings.as_slice().is_empty() {
-        evaluations_of(instance)
-    } else {
-        evaluations_of(instance).min(NODE_EVALUATIONS)
-    };
+    let evaluations = evaluations_of(instance, node.fixings.as_slice().is_empty());
     let scale = SCALE + i64::from(had);
     ascend(alloc, instance, node, table, evaluations, scale)
 }
 
-// The most evaluations of an ascent at the root.
-fn evaluations_of(instance: &Instance) -> u32 {
+// The most evaluations of an ascent, at the root or at another node.
+fn evaluations_of(instance: &Instance, is_root: bool) -> u32 {
     let units = instance.thermal.as_slice();
     let cells = units.len().saturating_mul(instance.periods as usize);
-    if cells <= FEW_CELLS && units.iter().all(|unit| is_agile(unit)) {
-        FEW_EVALUATIONS
-    } else if cells >= MANY_CELLS {
+    let ramped = units.iter().filter(|unit| !is_agile(unit)).count();
+    if cells >= MANY_CELLS {
         MANY_EVALUATIONS
-    } else {
+    } else if cells <= FEW_CELLS && ramped == 0 {
+        FEW_EVALUATIONS
+    } else if is_root {
         EVALUATIONS
+    } else if ramped <= units.len() / FEW_RAMPED {
+        FREE_NODE_EVALUATIONS
+    } else {
+        NODE_EVALUATIONS
     }
 }
 

@@ -47,6 +47,15 @@ pub(crate) fn number_at(numbers: &[i64], i: usize) -> i64 {
     }
 }
 
+/// The entries of a list from a place on. An iterator would step there one by one.
+pub(crate) fn behind(numbers: &[i64], first: usize) -> &[i64] {
+    if first < numbers.len() {
+        &numbers[first..]
+    } else {
+        &[]
+    }
+}
+
 /// Sets an entry of a list, if it has it.
 pub(crate) fn put<T: Copy + Drop>(entries: &mut [T], i: usize, entry: T) {
     if let Some(own) = entries.get_mut(i) {

@@ -1,6 +1,6 @@
 //! What an evaluation finds, and how units add to it.
 
-use crate::amounts::{number_at, times};
+use crate::amounts::{behind, number_at, times};
 use crate::outputs::Output;
 use crate::unit::Unit;
 use std::alloc::Global;
@@ -18,11 +18,34 @@ pub struct Evaluation {
 /// The share of a unit that is on.
 pub const ON: i64 = 1 << 16;
 
+/// The least and the most that all renewable units give in a period.
+#[derive(Clone, Copy, Debug)]
+pub(crate) struct Range {
+    pub least: i64,
+    pub most: i64,
+}
+
+const NO_RANGE: Range = Range { least: 0, most: 0 };
+
+/// The ranges of all periods. The only error is `NoMemory`.
+pub(crate) fn renewable_ranges(alloc: Global, instance: &Instance) -> Result<Vec<Range>, NoMemory> {
+    let mut ranges = vec![in alloc; NO_RANGE; instance.periods as usize]?;
+    for unit in instance.renewable.as_slice() {
+        let ends = unit.minimum.as_slice().iter().zip(unit.maximum.as_slice());
+        for (range, (least, most)) in ranges.iter_mut().zip(ends) {
+            range.least = range.least.saturating_add((*least).max(0));
+            range.most = range.most.saturating_add(*most);
+        }
+    }
+    Ok(ranges)
+}
+
 /// What demand, reserve and renewable units lack by themselves, and their value. There is room for so many prices. The only error is
 /// `NoMemory`.
 pub(crate) fn of_system(
     alloc: Global,
     instance: &Instance,
+    renewables: &[Range],
     prices: &[i64],
 ) -> Result<Evaluation, NoMemory> {
     let mut lacks = Vec::new(alloc);
@@ -30,12 +53,9 @@ pub(crate) fn of_system(
     for demand in instance.demand.as_slice() {
         lacks.push(*demand)?;
     }
-    for unit in instance.renewable.as_slice() {
-        let range = unit.minimum.as_slice().iter().zip(unit.maximum.as_slice());
-        for (lack, (price, (least, most))) in lacks.iter_mut().zip(prices.iter().zip(range)) {
-            let free = if *price > 0 { *most } else { (*least).max(0) };
-            *lack = lack.saturating_sub(free);
-        }
+    for (lack, (price, range)) in lacks.iter_mut().zip(prices.iter().zip(renewables)) {
+        let free = if *price > 0 { range.most } else { range.least };
+        *lack = lack.saturating_sub(free);
     }
     for reserve in instance.reserves.as_slice() {
         lacks.push(*reserve)?;
@@ -120,7 +140,7 @@ impl Evaluation {
 // So many watts at each of so many prices of the list from `first` on.
 fn sum_of(prices: &[i64], first: usize, count: usize, watts: i64) -> i128 {
     let mut sum: i128 = 0;
-    for price in prices.iter().skip(first).take(count) {
+    for price in behind(prices, first).iter().take(count) {
         if *price != 0 {
             sum = sum.saturating_add(times(*price, watts));
         }

@@ -5,7 +5,7 @@ ghost use Rattle.uc_model.specs.Limits.{IsLawfulInstance};
 use crate::amounts::PART;
 use crate::cells::fill;
 use crate::decisions::{Choice, Decisions};
-use crate::evaluation::{Evaluation, of_system};
+use crate::evaluation::{Evaluation, Range, of_system, renewable_ranges};
 use crate::outputs::{NOTHING, Output, fill_outputs};
 use crate::prices::{FREE, Price, fill_common, fill_ramped, has_ramp_price};
 use crate::unit::{Unit, unit_at};
@@ -13,13 +13,14 @@ use crate::walk::Walk;
 use std::alloc::Global;
 use uc_model::{Instance, NoMemory};
 
-/// The units of an instance, and memory for one unit's prices and walk.
+/// The units of an instance, the ranges of its renewable ones, and memory for one unit's prices and walk.
 ///
 /// A list of prices has, at the scale `SCALE`, in each period that of demand, in each that of reserve, and for each unit whose ramps can
 /// bind those of its ramp up and then of its ramp down in each period.
 #[derive(Debug, Drop)]
 pub struct Evaluator {
     units: Vec<Unit>,
+    renewables: Vec<Range>,
     common: Vec<Price>,
     own: Vec<Price>,
     walk: Walk,
@@ -40,6 +41,7 @@ impl Evaluator {
         }
         Ok(Evaluator {
             units,
+            renewables: renewable_ranges(alloc, instance)?,
             common: vec![in alloc; FREE; periods]?,
             own: vec![in alloc; FREE; periods]?,
             walk: Walk::new(alloc, periods)?,
@@ -68,7 +70,7 @@ impl Evaluator {
         decisions: &Decisions,
         prices: &[i64],
     ) -> Result<Option<Evaluation>, NoMemory> {
-        let mut found = of_system(alloc, instance, prices)?;
+        let mut found = of_system(alloc, instance, &self.renewables, prices)?;
         fill_common(&mut self.common, prices);
         let mut first = self.common.len().saturating_mul(2);
         let mut sum: i128 = 0;

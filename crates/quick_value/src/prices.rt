@@ -1,6 +1,6 @@
 //! The prices of one unit, period by period, from a list of prices.
 
-use crate::amounts::{number_at, put};
+use crate::amounts::{behind, number_at, put};
 
 /// In one period what a watt of output earns over the same watt held as reserve where this earns, what a watt of reserve earns, both for
 /// the unit, and what a watt of demand costs.
@@ -68,9 +68,8 @@ pub(crate) fn fill_ramped(own: &mut [Price], prices: &[i64], first: usize) {
 /// Whether a unit has a price of its ramps, which begin at `first` in the list.
 pub(crate) fn has_ramp_price(prices: &[i64], first: usize, periods: usize) -> bool {
     let count = periods.saturating_mul(2);
-    prices
+    behind(prices, first)
         .iter()
-        .skip(first)
         .take(count)
         .any(|price| *price != 0)
 }

@@ -14,6 +14,9 @@ const STEEPEST: i64 = 1 << 36;
 /// What is lacking or too much costs so many times the dearest watt of a segment or a minimum.
 const SCARCITY: i64 = 50;
 
+/// The most that a period costs by itself in which something is lacking.
+const DEAREST_BREACH: i64 = 1 << 43;
+
 /// The most doublings of a place.
 const DOUBLINGS: u32 = 20;
 
@@ -26,13 +29,14 @@ pub(crate) struct Segment {
 }
 
 /// The rates of all segments in order of merit, the powers of two up to their number from the greatest on, the rate of the segment with
-/// which half of all watts are reached, and that of what is lacking.
+/// which half of all watts are reached, and that of what is lacking; and what a period costs beside it in which something is lacking.
 #[derive(Debug, Drop)]
 pub(crate) struct Market {
     pub rates: Vec<i64>,
     pub strides: Vec<usize>,
     pub middle: i64,
     pub scarcity: i64,
+    pub breach: i64,
 }
 
 // Where a segment stands among its unit's.
@@ -83,11 +87,13 @@ pub(crate) fn market_of(alloc: Global, units: &mut [Unit]) -> Result<Market, NoM
     let mut dearest: i64 = 1;
     for (place, entry) in entries.iter().enumerate() {
         rates.push(entry.rate)?;
-        dearest = dearest.max(entry.rate);
+        dearest = dearest.max(entry.rate.saturating_abs());
         set_place(units, entry, place);
     }
+    let mut breach: i64 = 0;
     for unit in units.iter() {
-        dearest = dearest.max(unit.rate_at_minimum());
+        dearest = dearest.max(unit.rate_at_minimum().saturating_abs());
+        breach = breach.max(unit.cost_of_run());
     }
     let strides = strides(alloc, rates.len())?;
     Ok(Market {
@@ -95,6 +101,7 @@ pub(crate) fn market_of(alloc: Global, units: &mut [Unit]) -> Result<Market, NoM
         strides,
         middle: middle(&entries),
         scarcity: dearest.saturating_mul(SCARCITY),
+        breach: breach.min(DEAREST_BREACH),
     })
 }
 

@@ -216,10 +216,14 @@ impl Period {
         let floor = self.floor.saturating_add(other.floor);
         let surplus = floor.saturating_sub(self.bearable).max(0);
         let short = self.short_of_reserve(other, needed);
+        let is_breached = needed > self.watts
+            || surplus > 0
+            || (short > 0 && self.reserve_rate >= market.scarcity);
         self.base
             .saturating_add(self.fill(market, needed).cost)
             .saturating_add(cost_of(market.scarcity, surplus))
             .saturating_add(cost_of(self.reserve_rate, short))
+            .saturating_add(if is_breached { market.breach } else { 0 })
     }
 
     /// The mark of what is in the period and of the price of reserve.

@@ -1,7 +1,7 @@
 //! Commitments rounded from the shares of an ascent.
 
 use crate::cells::{Cells, SAME};
-use crate::system::{Plant, State};
+use crate::system::{Plant, State, behind};
 use uc_model::Pattern;
 
 /// Puts each unit on the allowed pattern that is nearest to its shares, where those above the threshold count as on; and tells whether
@@ -24,7 +24,7 @@ fn share_cells(cells: &mut [Cells], shares: &[i64], first: usize, threshold: i64
     for cell in cells.iter_mut() {
         *cell = SAME;
     }
-    for (cell, share) in cells.iter_mut().zip(shares.iter().skip(first)) {
+    for (cell, share) in cells.iter_mut().zip(behind(shares, first)) {
         let cost = threshold.saturating_sub(*share);
         *cell = Cells {
             off: 0,

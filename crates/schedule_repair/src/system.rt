@@ -174,6 +174,15 @@ pub(crate) fn at(numbers: &[i64], i: usize) -> i64 {
     }
 }
 
+/// The entries of a list from a place on. An iterator would step there one by one.
+pub(crate) fn behind(numbers: &[i64], first: usize) -> &[i64] {
+    if first < numbers.len() {
+        &numbers[first..]
+    } else {
+        &[]
+    }
+}
+
 /// What all periods cost, starts left out.
 pub(crate) fn total(market: &Market, periods: &mut [Period]) -> i64 {
     let mut total: i64 = 0;

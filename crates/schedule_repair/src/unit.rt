@@ -142,6 +142,20 @@ impl Unit {
         rate_within(&(cost / i128::from(self.minimum.max(1))))
     }
 
+    /// What the dearest start and a run at full load for the minimum up time cost, each in size.
+    pub(crate) fn cost_of_run(&self) -> i64 {
+        let mut start: i64 = 0;
+        for base in &self.bases {
+            start = start.max(base.saturating_abs());
+        }
+        for warm in &self.warm {
+            start = start.max(warm.cost.saturating_abs());
+        }
+        let hours = self.up.min(self.bases.len()) as i64;
+        let hour = self.cost_at(self.width).saturating_abs();
+        start.saturating_add(hour.saturating_mul(hours))
+    }
+
     fn can_ramps_bind(&self) -> bool {
         let reach = self.full.min(self.width).max(self.before);
         self.before < 0 || self.rise < self.full || self.fall < reach
