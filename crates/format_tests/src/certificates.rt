@@ -1,4 +1,4 @@
-//! Certificates.
+//! Certificates that are written.
 
 ghost use Rattle.std.specs.Prelude.{pos, ◌≤ℤ◌, IfOk};
 ghost use Rattle.branch_tree.specs.Claims.{HasLayout};
@@ -10,6 +10,40 @@ use outside::{MemorySink, SinkWriter};
 use std::alloc::Global;
 use std::test::Fail;
 use uc_model::{List, NoMemory};
+
+/// A schedule, the table that its bound needs, and the bound.
+const BOUND: &[u8] = b"uc-certificate 1\n\
+size 2 2 1 1\n\
+claim bound -0.500000\n\
+schedule 400.000001\n\
+t - 20000000:5000000:2\n\
+t 0:0:0 1:30000000:0\n\
+w 0 2500000\n\
+table 1000\n\
+pi 10000 -4\n\
+mu 0 7\n\
+ramps 1\n\
+ramp 2 1 5 3\n\
+bound 1\n\
+end\n";
+
+/// Rays at both sides of a split.
+const SPLIT: &[u8] = b"uc-certificate 1\n\
+size 1 1 0 2\n\
+claim infeasible\n\
+schedule none\n\
+table 0\n\
+pi 1\n\
+mu 0\n\
+ramps 0\n\
+table 0\n\
+pi -1\n\
+mu 0\n\
+ramps 0\n\
+split 1 1\n\
+ray 1\n\
+ray 2\n\
+end\n";
 
 // A table of this scale, with a ramp row of the second unit in the first period.
 fn table(alloc: Global, k: i64) -> Result<Table, NoMemory>
@@ -70,53 +104,17 @@ fn infeasible(alloc: Global) -> Result<Found, NoMemory>
 }
 
 #[test]
-fn writes_schedule_table_and_bound(rt: HostRuntime) -> Result<(), Fail> {
+fn writes_certificates(rt: HostRuntime) -> Result<(), Fail> {
     let alloc = rt.alloc();
     let mut out = MemorySink::new(alloc);
     let mut writer = SinkWriter::new(&mut out);
-    let instance = instance(alloc, 2, &["g1", "g2"], &["w1"])?;
-    assert!(rt; cert_text::write(&found(alloc)?, &instance, &mut writer).is_ok());
-    let text: &[u8] = b"uc-certificate 1\n\
-size 2 2 1 1\n\
-claim bound -0.500000\n\
-schedule 400.000001\n\
-t - 20000000:5000000:2\n\
-t 0:0:0 1:30000000:0\n\
-w 0 2500000\n\
-table 1000\n\
-pi 10000 -4\n\
-mu 0 7\n\
-ramps 1\n\
-ramp 2 1 5 3\n\
-bound 1\n\
-end\n";
-    assert_eq!(rt; out.written().unwrap_or(b""), text);
-    Ok(())
-}
-
-#[test]
-fn writes_a_split(rt: HostRuntime) -> Result<(), Fail> {
-    let alloc = rt.alloc();
+    let two = instance(alloc, 2, &["g1", "g2"], &["w1"])?;
+    assert!(rt; cert_text::write(&found(alloc)?, &two, &mut writer).is_ok());
+    assert_eq!(rt; out.written().unwrap_or(b""), BOUND);
     let mut out = MemorySink::new(alloc);
     let mut writer = SinkWriter::new(&mut out);
-    let instance = instance(alloc, 1, &["g1"], &[])?;
-    assert!(rt; cert_text::write(&infeasible(alloc)?, &instance, &mut writer).is_ok());
-    let text: &[u8] = b"uc-certificate 1\n\
-size 1 1 0 2\n\
-claim infeasible\n\
-schedule none\n\
-table 0\n\
-pi 1\n\
-mu 0\n\
-ramps 0\n\
-table 0\n\
-pi -1\n\
-mu 0\n\
-ramps 0\n\
-split 1 1\n\
-ray 1\n\
-ray 2\n\
-end\n";
-    assert_eq!(rt; out.written().unwrap_or(b""), text);
+    let one = instance(alloc, 1, &["g1"], &[])?;
+    assert!(rt; cert_text::write(&infeasible(alloc)?, &one, &mut writer).is_ok());
+    assert_eq!(rt; out.written().unwrap_or(b""), SPLIT);
     Ok(())
 }

@@ -1,4 +1,4 @@
-//! Tests of the public calls of what reads and writes: slots and sinks, JSON, instances, reports and certificates.
+//! Tests of what is read and written on values that no whole run shows: slots and sinks, JSON, instances, reports and certificates.
 #![tactic(auto)]
 
 #[cfg(test)]

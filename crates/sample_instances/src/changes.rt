@@ -6,7 +6,11 @@ use std::alloc::{AllocError, Global};
 pub type Change = (&'static str, &'static str);
 
 /// The text with each change made in its order.
-pub fn changed(alloc: Global, text: &str, changes: &[(&str, &str)]) -> Result<String, AllocError> {
+pub(crate) fn changed(
+    alloc: Global,
+    text: &str,
+    changes: &[(&str, &str)],
+) -> Result<String, AllocError> {
     let mut text = String::from_str(alloc, text)?;
     for (from, to) in changes {
         text = text.replace(alloc, *from, to)?;

@@ -3,10 +3,8 @@
 
 mod base;
 mod changes;
-mod kazarlis;
 mod systems;
 
 pub use base::BASE;
-pub use changes::{Change, changed};
-pub use kazarlis::KAZARLIS;
+pub use changes::Change;
 pub use systems::{System, system_text};

@@ -1,0 +1,31 @@
+//! Tests of whole runs of the program, on devices in memory. Files of `data/` say them line by line, and the file
+//! `stdout` what is printed: the lines of the cases, and below those of runs how each ended.
+#![tactic(auto)]
+
+mod case;
+mod ending;
+mod line;
+mod run;
+mod setting;
+mod sweep;
+mod tally;
+mod text;
+
+use crate::case::Case;
+use crate::line::follow;
+use std::{fs, io};
+
+/// The files of cases.
+const FILES: [&str; 4] = ["solve", "check", "words", "formats"];
+
+fn main(rt: HostRuntime) -> io::Result<()> {
+    for file in FILES {
+        let lines = fs::read_to_string(&rt, file)?;
+        let mut case = Case::new(rt.alloc());
+        for line in lines.lines() {
+            rt.println(line)?;
+            follow(&rt, &mut case, line)?;
+        }
+    }
+    Ok(())
+}

@@ -1,0 +1,116 @@
+//! Runs that are alike but for a number.
+
+use crate::case::{Case, Failure};
+use crate::ending::text_of;
+use crate::run::run;
+use std::alloc::{AllocError, Global};
+use std::io;
+use std::sync::Wait;
+use std::thread::Threads;
+
+/// Runs one after another that ended alike: their first and last number, and how they ended.
+#[derive(Drop)]
+struct Alike {
+    first: u64,
+    last: u64,
+    ending: String,
+}
+
+impl Alike {
+    // None yet.
+    fn new(alloc: Global) -> Self {
+        Alike {
+            first: 0,
+            last: 0,
+            ending: String::new(alloc),
+        }
+    }
+
+    // Tells them, if there are any.
+    fn tell(&self, rt: &impl Print) -> io::Result<()> {
+        if self.ending.is_empty() {
+            return Ok(());
+        }
+        println!(rt; "{} to {}", self.first, self.last)?;
+        rt.print(self.ending.as_str())
+    }
+
+    // One more. Where it ended otherwise, the ones before are told.
+    fn put(&mut self, rt: &impl Print, number: u64, ending: String) -> io::Result<()> {
+        if self.ending.as_str() != ending.as_str() {
+            self.tell(rt)?;
+            self.first = number;
+            self.ending = ending;
+        }
+        self.last = number;
+        Ok(())
+    }
+}
+
+/// Runs in which the first call of this kind on this device fails, the second one, and so on to the last.
+pub(crate) fn fail_each<R: Threads + Wait + Sync + Print + AllocGlobal>(
+    rt: &R,
+    case: &mut Case,
+    failure: Failure,
+    words: &str,
+) -> io::Result<()> {
+    let alloc = rt.alloc();
+    let mut alike = Alike::new(alloc);
+    let mut failure = failure;
+    for number in 0..1_000_000u64 {
+        failure.failing.number = number;
+        case.failures.push(failure)?;
+        let ended = run(rt, alloc, case, words)?;
+        let _ = case.failures.pop();
+        if ended.is_sound() {
+            break;
+        }
+        let ending = text_of(alloc, case, &ended)?;
+        alike.put(rt, number, ending)?;
+    }
+    alike.tell(rt)
+}
+
+// An ending with `N` for a number.
+fn with_n(alloc: Global, ending: &str, number: u64) -> Result<String, AllocError> {
+    let number = format!(in alloc; " {number}:")?;
+    String::from_str(alloc, ending)?.replace(alloc, number.as_str(), " N:")
+}
+
+/// Runs whose instance is cut to no byte, to one, and so on up to all but one. `N` is the number of bytes.
+pub(crate) fn cut_instance<R: Threads + Wait + Sync + Print + AllocGlobal>(
+    rt: &R,
+    case: &mut Case,
+    words: &str,
+) -> io::Result<()> {
+    let alloc = rt.alloc();
+    let mut alike = Alike::new(alloc);
+    let whole = Vec::from_slice(alloc, case.instance.as_slice())?;
+    for length in 0..whole.len() {
+        case.instance = Vec::from_slice(alloc, &whole[..length])?;
+        let ended = run(rt, alloc, case, words)?;
+        let ending = text_of(alloc, case, &ended)?;
+        let number = length as u64;
+        alike.put(rt, number, with_n(alloc, ending.as_str(), number)?)?;
+    }
+    case.instance = whole;
+    alike.tell(rt)
+}
+
+/// Runs whose certificate is cut to no byte, to one, and so on up to all but one.
+pub(crate) fn cut_certificate<R: Threads + Wait + Sync + Print + AllocGlobal>(
+    rt: &R,
+    case: &mut Case,
+    words: &str,
+) -> io::Result<()> {
+    let alloc = rt.alloc();
+    let mut alike = Alike::new(alloc);
+    let whole = Vec::from_slice(alloc, case.certificate.as_slice())?;
+    for length in 0..whole.len() {
+        case.certificate = Vec::from_slice(alloc, &whole[..length])?;
+        let ended = run(rt, alloc, case, words)?;
+        alike.put(rt, length as u64, text_of(alloc, case, &ended)?)?;
+    }
+    case.certificate = whole;
+    alike.tell(rt)
+}

@@ -1,0 +1,41 @@
+//! A gate that counts.
+
+use outside::Gate;
+use std::sync::Wait;
+use std::sync::atomic::{AtomicU64, Ordering};
+
+/// A gate that lets every worker pass, and keeps how often it was entered, and how often out of turn.
+#[derive(Drop)]
+pub(crate) struct Tally {
+    entries: AtomicU64,
+    strays: AtomicU64,
+}
+
+impl Tally {
+    /// A gate that nobody has entered.
+    pub(crate) fn new() -> Self {
+        Tally {
+            entries: AtomicU64::new(0),
+            strays: AtomicU64::new(0),
+        }
+    }
+
+    /// How often it was entered.
+    pub(crate) fn entries(&self) -> u64 {
+        self.entries.load(Ordering::SeqCst)
+    }
+
+    /// How often by another worker than the first one, or not for the unit behind that of the entry before.
+    pub(crate) fn strays(&self) -> u64 {
+        self.strays.load(Ordering::SeqCst)
+    }
+}
+
+impl Gate for Tally {
+    fn enter<R: Wait>(&self, _rt: &R, worker: u8, unit: u32) {
+        let before = self.entries.fetch_add(1, Ordering::SeqCst);
+        if worker != 0 || before.wrapping_add(1) != u64::from(unit) {
+            self.strays.fetch_add(1, Ordering::SeqCst);
+        }
+    }
+}
