@@ -51,7 +51,7 @@ pub struct Ascent {
 
 // The best prices so far, their value, the cuts there, and how many evaluations have gained nothing since; and the cuts' mean shares, where
 // strides have been tried since the last evaluation, which leave the weights unsettled.
-#[derive(Debug, Drop)]
+#[derive(Drop)]
 struct Center {
     prices: Vec<i64>,
     value: i128,

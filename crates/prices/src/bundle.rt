@@ -42,7 +42,7 @@ const DOUBLINGS: u32 = 43;
 
 /// A cut: its slope in each price, in units of watts that are the bundle's, by how much it lies above the bound at the centre, its
 /// weight, and how often each unit was on in each period where it was found, in parts of `PART`.
-#[derive(Debug, Drop)]
+#[derive(Drop)]
 pub(crate) struct Cut {
     pub slopes: Vec<i64>,
     pub error: i128,
@@ -54,7 +54,7 @@ pub(crate) struct Cut {
 /// act on the whole system, which are these and as many after them, and then on each unit whose ramps can bind; by how much slopes are
 /// enlarged: those of the system, by 1, and then those of each such unit; the watts of a unit of slopes; the stride, in parts of `PART`;
 /// and the most cuts that are kept.
-#[derive(Debug, Drop)]
+#[derive(Drop)]
 pub(crate) struct Bundle {
     pub cuts: Vec<Cut>,
     products: Products,
@@ -67,7 +67,7 @@ pub(crate) struct Bundle {
 }
 
 /// A move of each price, those that aren't 0 by their places, and by how much the bound rises at most with them.
-#[derive(Debug, Drop)]
+#[derive(Drop)]
 pub(crate) struct Move {
     pub moves: Vec<i64>,
     pub moved: Vec<(usize, i64)>,
@@ -75,7 +75,7 @@ pub(crate) struct Move {
 }
 
 // The cut that lies lowest after the move, the highest that has weight, and their heights.
-#[derive(Clone, Copy, Debug)]
+#[derive(Clone, Copy)]
 struct Ends {
     low: usize,
     least: i128,

@@ -6,7 +6,7 @@ use std::alloc::Global;
 use uc_model::{Instance, NoMemory, Thermal, scaled};
 
 /// A unit's greatest output in watts, and what a watt costs there, in numbers of the scale.
-#[derive(Clone, Copy, Debug)]
+#[derive(Clone, Copy)]
 struct FullLoad {
     rate: i64,
     output: i64,

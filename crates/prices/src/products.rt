@@ -7,7 +7,7 @@ use uc_model::NoMemory;
 
 /// The products, a row for each cut, and which prices count in them. Sums go round at the ends of their type, so that a price can
 /// be taken out of them again.
-#[derive(Debug, Drop)]
+#[derive(Drop)]
 pub(crate) struct Products {
     pub rows: Vec<Vec<i64>>,
     counted: Vec<bool>,

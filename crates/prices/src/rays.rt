@@ -16,7 +16,7 @@ use uc_model::limits::{MAX_PERIODS, MAX_POWER};
 use uc_model::{Instance, NoMemory, Thermal};
 
 /// The units that have a multiplier of 1 on a ramp rule in the first period.
-#[derive(Clone, Copy, Debug)]
+#[derive(Clone, Copy)]
 enum Ramps {
     /// None.
     Free,
@@ -29,7 +29,7 @@ enum Ramps {
 }
 
 /// What a ray names: the price of demand and that of reserve in period `t`, and the units whose ramps it prices.
-#[derive(Clone, Copy, Debug)]
+#[derive(Clone, Copy)]
 struct Ray {
     t: usize,
     demand: i64,

@@ -6,7 +6,7 @@ use crate::unit::{Cap, Corner, Unit};
 
 /// The amounts of a cell by itself, as a start, before a stop, and as both; and the output above the minimum that is best where the cap
 /// allows it.
-#[derive(Clone, Copy, Debug)]
+#[derive(Clone, Copy)]
 pub(crate) struct Cell {
     pub full: i64,
     pub start: i64,

@@ -6,14 +6,14 @@ use std::alloc::Global;
 use uc_model::{Instance, NoMemory};
 
 /// Whether a unit may be on in a period, and off.
-#[derive(Clone, Copy, Debug)]
+#[derive(Clone, Copy)]
 pub(crate) struct Choice {
     pub on: bool,
     pub off: bool,
 }
 
 /// What may be in each cell of a node, unit by unit.
-#[derive(Debug, Drop)]
+#[derive(Drop)]
 pub struct Decisions {
     pub(crate) rows: Vec<Vec<Choice>>,
 }

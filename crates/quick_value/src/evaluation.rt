@@ -19,7 +19,7 @@ pub struct Evaluation {
 pub const ON: i64 = 1 << 16;
 
 /// The least and the most that all renewable units give in a period.
-#[derive(Clone, Copy, Debug)]
+#[derive(Clone, Copy)]
 pub(crate) struct Range {
     pub least: i64,
     pub most: i64,

@@ -17,7 +17,7 @@ use uc_model::{Instance, NoMemory};
 ///
 /// A list of prices has, at the scale `SCALE`, in each period that of demand, in each that of reserve, and for each unit whose ramps can
 /// bind those of its ramp up and then of its ramp down in each period.
-#[derive(Debug, Drop)]
+#[derive(Drop)]
 pub struct Evaluator {
     units: Vec<Unit>,
     renewables: Vec<Range>,

@@ -7,7 +7,7 @@ use crate::unit::{Cap, Unit};
 use crate::walk::{Stand, Walk};
 
 /// Whether a unit is on in a period, and its output above the minimum and its reserve there.
-#[derive(Clone, Copy, Debug)]
+#[derive(Clone, Copy)]
 pub(crate) struct Output {
     pub on: bool,
     pub power: i64,

@@ -4,7 +4,7 @@ use crate::amounts::{behind, number_at, put};
 
 /// In one period what a watt of output earns over the same watt held as reserve where this earns, what a watt of reserve earns, both for
 /// the unit, and what a watt of demand costs.
-#[derive(Clone, Copy, Debug)]
+#[derive(Clone, Copy)]
 pub(crate) struct Price {
     pub output: i64,
     pub reserve: i64,

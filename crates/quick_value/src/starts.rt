@@ -9,7 +9,7 @@ use uc_model::limits::MAX_PERIODS;
 use uc_model::{NoMemory, StartRow, Thermal};
 
 /// From a period on, a start costs so much where the last stop was at most so many periods before.
-#[derive(Clone, Copy, Debug)]
+#[derive(Clone, Copy)]
 pub(crate) struct Warm {
     pub from: usize,
     pub longest: usize,
@@ -17,7 +17,7 @@ pub(crate) struct Warm {
 }
 
 /// The amounts of starts: in each period whatever the last stop, and those that a late stop allows.
-#[derive(Debug, Drop)]
+#[derive(Drop)]
 pub(crate) struct Starts {
     pub always: Vec<i64>,
     pub warm: Vec<Warm>,

@@ -11,7 +11,7 @@ use uc_model::{Instance, NoMemory, Point, Thermal, floor_div};
 
 /// A corner of the production cost: output above the minimum in watts, its amount, and the least price of output at which a watt more
 /// earns.
-#[derive(Clone, Copy, Debug)]
+#[derive(Clone, Copy)]
 pub(crate) struct Corner {
     pub power: i64,
     pub cost: i64,
@@ -19,7 +19,7 @@ pub(crate) struct Corner {
 }
 
 /// What output and reserve may be together, the greatest output above the minimum that this leaves, and the amount that it costs.
-#[derive(Clone, Copy, Debug)]
+#[derive(Clone, Copy)]
 pub(crate) struct Cap {
     pub most: i64,
     pub power: i64,
@@ -28,7 +28,7 @@ pub(crate) struct Cap {
 
 /// A thermal unit. Its caps are those of a cell by itself, `full`, of a start, of one that a stop follows, and of both. The first period
 /// in which it may stop, or start, is that of its initial state.
-#[derive(Debug, Drop)]
+#[derive(Drop)]
 pub(crate) struct Unit {
     pub minimum: i64,
     pub corners: Vec<Corner>,

@@ -12,7 +12,7 @@ use std::alloc::Global;
 use uc_model::NoMemory;
 
 /// An amount, and in which period the run or the rest before began; `None` is the initial state.
-#[derive(Clone, Copy, Debug)]
+#[derive(Clone, Copy)]
 struct Way {
     amount: i64,
     since: Option<usize>,
@@ -24,7 +24,7 @@ const NO_WAY: Way = Way {
 };
 
 /// How a unit is on in a period.
-#[derive(Clone, Copy, Debug, PartialEq, Eq)]
+#[derive(Clone, Copy)]
 pub(crate) enum Stand {
     Off,
     Full,
@@ -36,7 +36,7 @@ pub(crate) enum Stand {
 /// Memory for the walk of one unit: its cells; what they add up to before each period; the least way that ends in a rest from each period
 /// on, the last one being that to the end; the least way into a run from each period on, and the same less the sums before the next
 /// period; and how the unit stands in each period on the least way of all.
-#[derive(Debug, Drop)]
+#[derive(Drop)]
 pub(crate) struct Walk {
     pub cells: Vec<Cell>,
     sums: Vec<i64>,
@@ -48,7 +48,7 @@ pub(crate) struct Walk {
 
 // What goes on: since when no period forbids a rest, and a run; whether the initial rest does, and the initial run; and the least rest
 // and the least run that have lasted their minimum times.
-#[derive(Clone, Copy, Debug)]
+#[derive(Clone, Copy)]
 struct Going {
     rests_since: usize,
     runs_since: usize,

@@ -1,7 +1,7 @@
 //! Numbers by chance, the same in each run.
 
 /// A linear congruence.
-#[derive(Clone, Copy, Debug)]
+#[derive(Clone, Copy)]
 pub(crate) struct Chance {
     seed: u64,
 }

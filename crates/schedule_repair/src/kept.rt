@@ -3,14 +3,12 @@
 ghost use Rattle.uc_model.specs.Limits.{IsLawfulInstance};
 
 use crate::moves::start_cost;
-use crate::system::{Plant, State, copy_row, exchange, total};
-use crate::unit::unit_at;
-use crate::window::Window;
+use repair_state::{Plant, State, Window, copy_row, exchange, total, unit_at};
 use std::alloc::Global;
 use uc_model::{Instance, NoMemory, Pattern};
 
 /// The patterns and windows of the best state, and what it costs; nothing is kept at the greatest cost.
-#[derive(Debug, Drop)]
+#[derive(Drop)]
 pub(crate) struct Kept {
     patterns: Vec<Pattern>,
     rows: Vec<Vec<Window>>,

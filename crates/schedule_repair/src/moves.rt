@@ -2,15 +2,11 @@
 
 ghost use Rattle.uc_model.specs.Limits.{IsLawfulInstance, IsLawfulThermal};
 
-use crate::beside::Beside;
-use crate::cells::{Cells, Known, WAYS, cells_of};
-use crate::merit::Market;
-use crate::patterns::is_same;
-use crate::period::Period;
-use crate::system::{Plant, State, Trial, copy_row, exchange, shift, total};
-use crate::unit::{Unit, is_on, undecided, unit_at};
-use crate::window::{Window, keep_ramps, narrow, open};
 use dual_model::Fix;
+use repair_state::{
+    Beside, Cells, Known, Market, Period, Plant, State, Trial, Unit, WAYS, Window, cells_of,
+    copy_row, exchange, is_on, is_same, keep_ramps, narrow, open, shift, total, undecided, unit_at,
+};
 use start_costs::least_allowed;
 use uc_model::limits::MAX_PERIODS;
 use uc_model::{Instance, NoMemory, Pattern, Thermal};

@@ -3,20 +3,19 @@
 ghost use Rattle.uc_model.specs.Limits.{IsLawfulInstance};
 
 use crate::chance::Chance;
-use crate::merit::{Market, PART, rate_within};
 use crate::moves::improve;
-use crate::period::Period;
 use crate::room::{Repair, Visit};
 use crate::tried::mark_of_try;
 use crate::turns::Turns;
 use dual_model::Table;
+use repair_state::{Market, PART, Period, rate_within};
 use uc_model::{Instance, NoMemory};
 
 /// Missing reserve costs at least so many hundredths of a watt in the middle of the order of merit where it is cheap.
 const SOFT_PRICE: i64 = 30;
 
 /// The units of a pass: all, those that have a turn, or all of these but one.
-#[derive(Clone, Copy, Debug)]
+#[derive(Clone, Copy)]
 pub(crate) enum Units {
     All,
     Listed,

@@ -2,9 +2,7 @@
 
 ghost use Rattle.uc_model.specs.Limits.{IsLawfulInstance, IsLawfulThermal};
 
-use crate::system::{Plant, State, at};
-use crate::unit::{Unit, is_on, unit_at};
-use crate::window::{Window, limits_at};
+use repair_state::{Plant, State, Unit, Window, at, is_on, limits_at, unit_at};
 use start_costs::least_allowed;
 use std::alloc::Global;
 use uc_model::limits::MAX_PERIODS;

@@ -5,14 +5,14 @@ ghost use Rattle.uc_model.specs.Limits.{IsLawfulInstance};
 use crate::chance::Chance;
 use crate::descent::THRESHOLDS;
 use crate::kept::Kept;
-use crate::system::{Plant, State};
 use crate::tried::Tried;
 use crate::turns::Turns;
+use repair_state::{Plant, State};
 use std::alloc::Global;
 use uc_model::{Instance, NoMemory};
 
 /// What repairs of an instance's schedules share; made once, mended by each move. `repairs` counts them.
-#[derive(Debug, Drop)]
+#[derive(Drop)]
 pub struct Repair {
     pub(crate) plant: Plant,
     pub(crate) state: State,
@@ -25,7 +25,7 @@ pub struct Repair {
 }
 
 /// A unit, and when it is visited in a pass.
-#[derive(Clone, Copy, Debug)]
+#[derive(Clone, Copy)]
 pub(crate) struct Visit {
     pub key: u64,
     pub unit: usize,

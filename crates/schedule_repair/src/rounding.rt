@@ -1,7 +1,6 @@
 //! Commitments rounded from the shares of an ascent.
 
-use crate::cells::{Cells, SAME};
-use crate::system::{Plant, State, behind};
+use repair_state::{Cells, Plant, SAME, State, behind};
 use uc_model::Pattern;
 
 /// Puts each unit on the allowed pattern that is nearest to its shares, where those above the threshold count as on; and tells whether

@@ -1,6 +1,6 @@
 //! Tries without gain, which need not be made again.
 
-use crate::period::{Period, mixed};
+use repair_state::{Period, mixed};
 use std::alloc::Global;
 use uc_model::NoMemory;
 
@@ -8,7 +8,7 @@ use uc_model::NoMemory;
 const TRIES: usize = 1 << 16;
 
 /// Marks of tries. Where many are remembered, a new one takes the place of another.
-#[derive(Debug, Drop)]
+#[derive(Drop)]
 pub(crate) struct Tried {
     marks: Vec<u64>,
 }

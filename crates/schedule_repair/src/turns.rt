@@ -2,15 +2,13 @@
 
 use crate::chance::{CHANCES, Chance};
 use crate::moves::{fill_cells, put_back};
-use crate::patterns::with_turn;
-use crate::system::{Plant, State};
-use crate::unit::is_on;
 use dual_model::Fix;
+use repair_state::{Plant, State, is_on, with_turn};
 use std::alloc::Global;
 use uc_model::{NoMemory, Pattern};
 
 /// A turn of a unit in period t, from 0: the fix that forces it, and what the unit's best pattern under it costs more beside the others.
-#[derive(Clone, Copy, Debug)]
+#[derive(Clone, Copy)]
 pub(crate) struct Turn {
     pub more: i64,
     pub unit: usize,
@@ -22,7 +20,7 @@ const CHOICES: u32 = 500;
 
 /// The turns, cheapest first, and which units have one; the cost of the state that they were listed from, which is the greatest number
 /// before; and how often one was chosen since.
-#[derive(Debug, Drop)]
+#[derive(Drop)]
 pub(crate) struct Turns {
     turns: Vec<Turn>,
     are_listed: Vec<bool>,

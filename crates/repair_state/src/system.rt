@@ -17,8 +17,8 @@ use uc_model::{Instance, NoMemory, Pattern};
 const SALT: u64 = 0x2545_F491_4F6C_DD1D;
 
 /// The units, the order of merit of their segments, and whether a unit's ramps can bind.
-#[derive(Debug, Drop)]
-pub(crate) struct Plant {
+#[derive(Drop)]
+pub struct Plant {
     pub units: Vec<Unit>,
     pub market: Market,
     pub is_ramped: bool,
@@ -26,8 +26,8 @@ pub(crate) struct Plant {
 
 /// The periods; each unit's pattern, its windows, and what is known of its cells; and memory for one unit's cells, windows and pattern,
 /// and for how far periods are filled.
-#[derive(Debug, Drop)]
-pub(crate) struct State {
+#[derive(Drop)]
+pub struct State {
     pub periods: Vec<Period>,
     pub patterns: Vec<Pattern>,
     pub rows: Vec<Vec<Window>>,
@@ -35,19 +35,19 @@ pub(crate) struct State {
     pub known: Vec<Vec<Known>>,
     pub trial: Trial,
     pub course: Course,
-    pub fills: Vec<Fill>,
+    pub(crate) fills: Vec<Fill>,
 }
 
 /// The windows of a unit that is tried, and memory for its trajectory.
-#[derive(Debug, Drop)]
-pub(crate) struct Trial {
+#[derive(Drop)]
+pub struct Trial {
     pub row: Vec<Window>,
     pub trajectory: Trajectory,
 }
 
 impl Plant {
     /// The units of an instance. The only error is `NoMemory`.
-    pub(crate) fn new(alloc: Global, instance: &Instance) -> Result<Plant, NoMemory>
+    pub fn new(alloc: Global, instance: &Instance) -> Result<Plant, NoMemory>
         requires { IsLawfulInstance instance.now }
     {
         let mut units = Vec::new(alloc);
@@ -70,11 +70,7 @@ impl Plant {
 
 impl State {
     /// A state in which each unit is off. The only error is `NoMemory`.
-    pub(crate) fn new(
-        alloc: Global,
-        instance: &Instance,
-        plant: &Plant,
-    ) -> Result<State, NoMemory> {
+    pub fn new(alloc: Global, instance: &Instance, plant: &Plant) -> Result<State, NoMemory> {
         let count = instance.periods as usize;
         let mut patterns = Vec::new(alloc);
         let mut rows = Vec::new(alloc);
@@ -100,7 +96,7 @@ impl State {
     }
 
     /// Puts all units on their patterns, at the outputs in order of merit, moved until they keep the ramps.
-    pub(crate) fn load(&mut self, plant: &Plant, count: u32) {
+    pub fn load(&mut self, plant: &Plant, count: u32) {
         for period in self.periods.iter_mut() {
             period.is_tight = false;
         }
@@ -113,7 +109,7 @@ impl State {
     }
 
     /// Centres the windows on the outputs in order of merit inside them.
-    pub(crate) fn recenter(&mut self, plant: &Plant, count: u32) {
+    pub fn recenter(&mut self, plant: &Plant, count: u32) {
         for (fill, period) in self.fills.iter_mut().zip(self.periods.iter_mut()) {
             *fill = period.fill(&plant.market, period.needed_with(&NOTHING));
             if period.is_short_soon() {
@@ -148,26 +144,35 @@ fn periods_of(
     market: &Market,
 ) -> Result<Vec<Period>, NoMemory> {
     let mut periods = Vec::new(alloc);
-    let demands = instance.demand.as_slice().iter();
-    for (t, (demand, reserve)) in demands.zip(instance.reserves.as_slice()).enumerate() {
-        let mut period = Period::new(alloc, market.rates.len())?;
-        period.needed = *demand;
-        period.bearable = *demand;
-        for unit in instance.renewable.as_slice() {
-            let most = at(unit.maximum.as_slice(), t);
-            let least = at(unit.minimum.as_slice(), t).max(0);
-            period.needed = period.needed.saturating_sub(most);
-            period.bearable = period.bearable.saturating_sub(least);
-        }
-        period.reserve = (*reserve).max(0);
-        period.reserve_rate = market.scarcity;
-        periods.push(period)?;
+    for t in 0..instance.periods as usize {
+        periods.push(period_at(alloc, instance, market, t)?)?;
     }
     Ok(periods)
 }
 
+// Period t of the instance, without units.
+fn period_at(
+    alloc: Global,
+    instance: &Instance,
+    market: &Market,
+    t: usize,
+) -> Result<Period, NoMemory> {
+    let mut period = Period::new(alloc, market.rates.len())?;
+    period.needed = at(instance.demand.as_slice(), t);
+    period.bearable = period.needed;
+    for unit in instance.renewable.as_slice() {
+        let most = at(unit.maximum.as_slice(), t);
+        let least = at(unit.minimum.as_slice(), t).max(0);
+        period.needed = period.needed.saturating_sub(most);
+        period.bearable = period.bearable.saturating_sub(least);
+    }
+    period.reserve = at(instance.reserves.as_slice(), t).max(0);
+    period.reserve_rate = market.scarcity;
+    Ok(period)
+}
+
 /// The entry of a list, and 0 past its end.
-pub(crate) fn at(numbers: &[i64], i: usize) -> i64 {
+pub fn at(numbers: &[i64], i: usize) -> i64 {
     match numbers.get(i) {
         Some(number) => *number,
         None => 0,
@@ -175,7 +180,7 @@ pub(crate) fn at(numbers: &[i64], i: usize) -> i64 {
 }
 
 /// The entries of a list from a place on. An iterator would step there one by one.
-pub(crate) fn behind(numbers: &[i64], first: usize) -> &[i64] {
+pub fn behind(numbers: &[i64], first: usize) -> &[i64] {
     if first < numbers.len() {
         &numbers[first..]
     } else {
@@ -184,7 +189,7 @@ pub(crate) fn behind(numbers: &[i64], first: usize) -> &[i64] {
 }
 
 /// What all periods cost, starts left out.
-pub(crate) fn total(market: &Market, periods: &mut [Period]) -> i64 {
+pub fn total(market: &Market, periods: &mut [Period]) -> i64 {
     let mut total: i64 = 0;
     for period in periods.iter_mut() {
         total = total.saturating_add(period.cost(market));
@@ -193,20 +198,14 @@ pub(crate) fn total(market: &Market, periods: &mut [Period]) -> i64 {
 }
 
 /// Adds a unit in its windows to all periods, or takes it away where the sign is -1.
-pub(crate) fn shift(
-    market: &Market,
-    periods: &mut [Period],
-    unit: &Unit,
-    row: &[Window],
-    sign: i64,
-) {
+pub fn shift(market: &Market, periods: &mut [Period], unit: &Unit, row: &[Window], sign: i64) {
     for (period, window) in periods.iter_mut().zip(row) {
         period.shift(market, unit, window, sign);
     }
 }
 
 /// Moves a unit from its windows to others, in the periods too.
-pub(crate) fn exchange(
+pub fn exchange(
     market: &Market,
     periods: &mut [Period],
     unit: &Unit,
@@ -231,7 +230,7 @@ fn is_alike(first: &Window, second: &Window) -> bool {
 }
 
 /// Copies windows.
-pub(crate) fn copy_row(from: &[Window], to: &mut [Window]) {
+pub fn copy_row(from: &[Window], to: &mut [Window]) {
     for (copy, window) in to.iter_mut().zip(from) {
         *copy = *window;
     }
@@ -262,17 +261,26 @@ fn filled(unit: &Unit, window: &Window, fill: &Fill) -> i64 {
     let mut from: i64 = 0;
     for segment in &unit.segments {
         let to = from.saturating_add(segment.watts);
-        let part = window
-            .high
-            .min(to)
-            .saturating_sub(window.low.max(from))
-            .max(0);
-        if segment.place < fill.place {
-            power = power.saturating_add(part);
-        } else if segment.place == fill.place {
-            power = power.saturating_add(part.min(fill.left));
-        }
+        let part = part_between(window, from, to);
+        power = power.saturating_add(filled_at(fill, segment.place, part));
         from = to;
     }
     power
+}
+
+// The watts of a window between two outputs.
+fn part_between(window: &Window, from: i64, to: i64) -> i64 {
+    let low = window.low.max(from);
+    window.high.min(to).saturating_sub(low).max(0)
+}
+
+// How many of so many watts at a place are filled.
+fn filled_at(fill: &Fill, place: usize, watts: i64) -> i64 {
+    if place < fill.place {
+        watts
+    } else if place == fill.place {
+        watts.min(fill.left)
+    } else {
+        0
+    }
 }

@@ -4,21 +4,21 @@ use std::alloc::Global;
 use uc_model::NoMemory;
 
 /// Over so many watts a function rises by this rate.
-#[derive(Clone, Copy, Debug)]
+#[derive(Clone, Copy)]
 pub(crate) struct Piece {
     pub width: i64,
     pub rate: i64,
 }
 
 /// A convex function from the output `low` on: pieces of rising rates.
-#[derive(Debug, Drop)]
+#[derive(Drop)]
 pub(crate) struct Convex {
     pub low: i64,
     pub pieces: Vec<Piece>,
 }
 
 /// The outputs between which a function is least.
-#[derive(Clone, Copy, Debug)]
+#[derive(Clone, Copy)]
 pub(crate) struct Bottom {
     pub low: i64,
     pub high: i64,

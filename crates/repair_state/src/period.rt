@@ -7,7 +7,7 @@ use std::alloc::Global;
 use uc_model::NoMemory;
 
 // The watts and the cost of the segments that a node of the index tree stands for.
-#[derive(Clone, Copy, Debug)]
+#[derive(Clone, Copy)]
 struct Node {
     watts: i64,
     cost: i64,
@@ -20,8 +20,8 @@ const EMPTY: Node = Node { watts: 0, cost: 0 };
 /// of the heads. Demand less the most that renewable units give is `needed`, less the least `bearable`. `mark` is the sum of the marks
 /// of the units in their windows, so that equal marks tell of equal contents, and `known` the key at which the cost was reckoned last,
 /// with this cost.
-#[derive(Debug, Drop)]
-pub(crate) struct Period {
+#[derive(Drop)]
+pub struct Period {
     nodes: Vec<Node>,
     watts: i64,
     base: i64,
@@ -30,15 +30,15 @@ pub(crate) struct Period {
     heads: i64,
     mark: u64,
     known: (u64, i64),
-    pub needed: i64,
-    pub bearable: i64,
-    pub reserve: i64,
+    pub(crate) needed: i64,
+    pub(crate) bearable: i64,
+    pub(crate) reserve: i64,
     pub reserve_rate: i64,
-    pub is_tight: bool,
+    pub(crate) is_tight: bool,
 }
 
 /// How far the period is filled in the order of merit: all before the place, and so many watts there.
-#[derive(Clone, Copy, Debug)]
+#[derive(Clone, Copy)]
 pub(crate) struct Fill {
     pub place: usize,
     pub left: i64,
@@ -46,7 +46,7 @@ pub(crate) struct Fill {
 }
 
 /// What one unit adds to a period.
-#[derive(Clone, Copy, Debug)]
+#[derive(Clone, Copy)]
 pub(crate) struct Addition {
     pub floor: i64,
     pub power: i64,
@@ -73,7 +73,7 @@ fn mark_of(unit: &Unit, window: &Window) -> u64 {
 }
 
 /// A mark with a number mixed into it.
-pub(crate) fn mixed(mark: u64, number: u64) -> u64 {
+pub fn mixed(mark: u64, number: u64) -> u64 {
     // The golden ratio in 64 binary digits.
     let mark = (mark ^ number).wrapping_mul(0x9E37_79B9_7F4A_7C15);
     mark ^ (mark >> 29)
@@ -114,7 +114,7 @@ impl Period {
     }
 
     /// Adds a unit in its window where `sign` is 1, and takes it away where it is -1.
-    pub(crate) fn shift(&mut self, market: &Market, unit: &Unit, window: &Window, sign: i64) {
+    pub fn shift(&mut self, market: &Market, unit: &Unit, window: &Window, sign: i64) {
         if !window.on {
             return;
         }
@@ -227,14 +227,14 @@ impl Period {
     }
 
     /// The mark of what is in the period and of the price of reserve.
-    pub(crate) fn key(&self) -> u64 {
+    pub fn key(&self) -> u64 {
         self.mark
             .wrapping_add(self.reserve_rate.unsigned_abs())
             .wrapping_add(1)
     }
 
     /// The key of the period without a unit in its window.
-    pub(crate) fn key_without(&self, unit: &Unit, window: &Window) -> u64 {
+    pub fn key_without(&self, unit: &Unit, window: &Window) -> u64 {
         self.key().wrapping_sub(mark_of(unit, window))
     }
 

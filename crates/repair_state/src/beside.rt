@@ -7,8 +7,8 @@ use crate::unit::Unit;
 use crate::window::Window;
 
 /// A unit that was taken away from all others, with its cells beside them.
-#[derive(Clone, Copy, Debug)]
-pub(crate) struct Beside<'a> {
+#[derive(Clone, Copy)]
+pub struct Beside<'a> {
     pub market: &'a Market,
     pub periods: &'a [Period],
     pub cells: &'a [Cells],
@@ -27,7 +27,7 @@ impl Beside<'_> {
     }
 
     /// Whether the system costs less than so much with the unit at the centres of these windows, without its starts.
-    pub(crate) fn is_below(&self, row: &[Window], most: i64) -> bool {
+    pub fn is_below(&self, row: &[Window], most: i64) -> bool {
         let mut cost = self.least_cost(row);
         let mut before = self.unit.before;
         for ((period, cell), window) in self.periods.iter().zip(self.cells).zip(row) {
@@ -59,7 +59,7 @@ impl Beside<'_> {
     }
 
     /// Whether output or reserve is lacking in a period, or output is too much, with the unit at the centres of these windows.
-    pub(crate) fn is_lacking(&self, row: &[Window]) -> bool {
+    pub fn is_lacking(&self, row: &[Window]) -> bool {
         let mut before = self.unit.before;
         let mut is_lacking = false;
         for (period, window) in self.periods.iter().zip(row) {

@@ -17,7 +17,7 @@ const MOST: i64 = 1 << 46;
 /// Further the least ways from it on: `start` of a unit that starts, whose start is left out, up to the period in which it stops; `run`
 /// of one that is on and may stop after it, likewise; `rest` of one that stops, with the period in which it starts again; and `cold` of
 /// one that is off since long, likewise.
-#[derive(Clone, Copy, Debug)]
+#[derive(Clone, Copy)]
 struct Hour {
     on_before: i64,
     off_before: i64,
@@ -28,7 +28,7 @@ struct Hour {
 }
 
 // What is left costs so much, and the unit is switched in this period.
-#[derive(Clone, Copy, Debug)]
+#[derive(Clone, Copy)]
 struct Way {
     cost: i64,
     at: usize,
@@ -46,8 +46,8 @@ const NO_HOUR: Hour = Hour {
 };
 
 /// Memory for the search of a pattern: the periods, and the end.
-#[derive(Debug, Drop)]
-pub(crate) struct Course {
+#[derive(Drop)]
+pub struct Course {
     hours: Vec<Hour>,
 }
 
@@ -75,7 +75,7 @@ impl Course {
 
     /// The least cost of a pattern that is as `fix` decides by the cells, with starts for nothing where they are free, and this pattern;
     /// `None` where there is none.
-    pub(crate) fn best(
+    pub fn best(
         &mut self,
         unit: &Unit,
         fix: &Fix,

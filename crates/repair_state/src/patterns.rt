@@ -5,7 +5,7 @@ use uc_model::Pattern;
 use uc_model::limits::MAX_PERIODS;
 
 /// The fix with one period decided more: to be on, or to be off.
-pub(crate) fn with_turn(fix: &Fix, t: u32, on: bool) -> Fix {
+pub fn with_turn(fix: &Fix, t: u32, on: bool) -> Fix {
     let mut fix = *fix;
     if t < MAX_PERIODS {
         fix.known.switch_on(t);
@@ -17,6 +17,6 @@ pub(crate) fn with_turn(fix: &Fix, t: u32, on: bool) -> Fix {
 }
 
 /// Whether two patterns are the same.
-pub(crate) fn is_same(first: &Pattern, second: &Pattern) -> bool {
+pub fn is_same(first: &Pattern, second: &Pattern) -> bool {
     first.low == second.low && first.high == second.high
 }

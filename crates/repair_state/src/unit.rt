@@ -16,42 +16,42 @@ use uc_model::{Instance, NoMemory, Pattern, Thermal};
 /// and fall in an hour; and what it gave before the first period. `fix` keeps it on as long as it can't fall to where it may stop. Its
 /// minimum times are `up` and `down`, and `left` is what is left of one before the first period. `bases` is what a start in each period
 /// costs without a stop before it, and `warm` what it may cost after one. `salt` tells its marks from those of other units.
-#[derive(Debug, Drop)]
-pub(crate) struct Unit {
+#[derive(Drop)]
+pub struct Unit {
     pub minimum: i64,
-    pub base: i64,
-    pub segments: Vec<Segment>,
-    pub width: i64,
-    pub full: i64,
-    pub start: i64,
-    pub stop: i64,
+    pub(crate) base: i64,
+    pub(crate) segments: Vec<Segment>,
+    pub(crate) width: i64,
+    pub(crate) full: i64,
+    pub(crate) start: i64,
+    pub(crate) stop: i64,
     pub rise: i64,
-    pub fall: i64,
+    pub(crate) fall: i64,
     pub before: i64,
     pub was_on: bool,
     pub is_ramped: bool,
-    pub salt: u64,
+    pub(crate) salt: u64,
     pub fix: Fix,
-    pub must_run: bool,
-    pub up: usize,
-    pub down: usize,
-    pub left: usize,
-    pub may_stop_first: bool,
-    pub is_too_high: bool,
-    pub bases: Vec<i64>,
-    pub warm: Vec<Warm>,
+    pub(crate) must_run: bool,
+    pub(crate) up: usize,
+    pub(crate) down: usize,
+    pub(crate) left: usize,
+    pub(crate) may_stop_first: bool,
+    pub(crate) is_too_high: bool,
+    pub(crate) bases: Vec<i64>,
+    pub(crate) warm: Vec<Warm>,
 }
 
 /// A start less than `lag` periods after a stop costs so much.
-#[derive(Clone, Copy, Debug)]
+#[derive(Clone, Copy)]
 pub(crate) struct Warm {
     pub lag: usize,
     pub cost: i64,
 }
 
 /// The most output of a cell, and the most output and reserve together.
-#[derive(Clone, Copy, Debug)]
-pub(crate) struct Limits {
+#[derive(Clone, Copy)]
+pub struct Limits {
     pub most: i64,
     pub head: i64,
 }
@@ -219,7 +219,7 @@ fn warm_starts(alloc: Global, unit: &Thermal) -> Result<Vec<Warm>, NoMemory> {
 }
 
 /// That nothing is decided.
-pub(crate) fn undecided() -> Fix {
+pub fn undecided() -> Fix {
     Fix {
         known: Pattern::all_off(),
         on: Pattern::all_off(),
@@ -236,12 +236,12 @@ fn output_before(unit: &Thermal) -> i64 {
 }
 
 /// Whether a pattern is on in a period, from 0.
-pub(crate) fn is_on(pattern: &Pattern, t: u32) -> bool {
+pub fn is_on(pattern: &Pattern, t: u32) -> bool {
     t < MAX_PERIODS && pattern.is_on(t)
 }
 
 /// Thermal unit g of an instance, from 0.
-pub(crate) fn unit_at(instance: &Instance, g: usize) -> Option<&Thermal>
+pub fn unit_at(instance: &Instance, g: usize) -> Option<&Thermal>
     requires { IsLawfulInstance instance.now }
     ensures { IfSome result (λ unit. IsLawfulThermal unit.now) }
 {

@@ -6,8 +6,8 @@ use crate::unit::{Limits, Unit};
 
 /// What the system costs with a unit off in a period; by how much more with it on, for the four kinds of cell in the order of `Terms`;
 /// and what the unit gives then where no cap is in the way.
-#[derive(Clone, Copy, Debug)]
-pub(crate) struct Cells {
+#[derive(Clone, Copy)]
+pub struct Cells {
     pub off: i64,
     pub plain: i64,
     pub start: i64,
@@ -17,7 +17,7 @@ pub(crate) struct Cells {
 }
 
 /// No difference.
-pub(crate) const SAME: Cells = Cells {
+pub const SAME: Cells = Cells {
     off: 0,
     plain: 0,
     start: 0,
@@ -27,8 +27,8 @@ pub(crate) const SAME: Cells = Cells {
 };
 
 /// The cells of a unit as they were reckoned last, with the key of the period without it.
-#[derive(Clone, Copy, Debug)]
-pub(crate) struct Known {
+#[derive(Clone, Copy)]
+pub struct Known {
     pub key: u64,
     pub cells: Cells,
 }
@@ -39,10 +39,10 @@ pub(crate) const UNKNOWN: Known = Known {
 };
 
 /// For so many contents of a period a unit's cells may be known.
-pub(crate) const WAYS: usize = 2;
+pub const WAYS: usize = 2;
 
 /// The cells of a unit that was taken out of the period.
-pub(crate) fn cells_of(market: &Market, period: &Period, unit: &Unit) -> Cells {
+pub fn cells_of(market: &Market, period: &Period, unit: &Unit) -> Cells {
     let off = period.cost_with(market, &NOTHING);
     let plain = unit.limits(false, false);
     let power = merit_power(market, period, unit);

@@ -4,6 +4,7 @@ use crate::beside::Beside;
 use crate::convex::{Bottom, Convex};
 use crate::merit::PART;
 use crate::period::Period;
+use crate::unit::Unit;
 use crate::window::Window;
 use std::alloc::Global;
 use uc_model::NoMemory;
@@ -12,8 +13,8 @@ use uc_model::NoMemory;
 const PARTS: i64 = 8;
 
 /// Memory for the search of a trajectory: the cost of outputs so far, that of the period, and where the former is least in each period.
-#[derive(Debug, Drop)]
-pub(crate) struct Trajectory {
+#[derive(Drop)]
+pub struct Trajectory {
     value: Convex,
     reached: Convex,
     own: Convex,
@@ -35,7 +36,7 @@ impl Trajectory {
 
     /// Centres open windows on the outputs that cost least with those of all periods, near the centres so far where several do. The
     /// only error is `NoMemory`.
-    pub(crate) fn center(&mut self, beside: &Beside, row: &mut [Window]) -> Result<(), NoMemory> {
+    pub fn center(&mut self, beside: &Beside, row: &mut [Window]) -> Result<(), NoMemory> {
         self.bottoms.clear();
         self.value.set(beside.unit.before);
         let (rise, fall) = (beside.unit.rise, beside.unit.fall);
@@ -100,15 +101,17 @@ fn cost_to(
 
 // The least output that leaves the reserve of period t its head, and the rate of missing reserve there.
 fn wanted_output(beside: &Beside, row: &[Window], t: usize) -> (i64, i64) {
-    let (Some(period), Some(window)) = (beside.periods.get(t), row.get(t)) else {
-        return (0, 0);
-    };
-    if !window.on {
-        return (0, 0);
+    match (beside.periods.get(t), row.get(t)) {
+        (Some(period), Some(window)) if window.on => wanted_in(beside.unit, period, window),
+        _ => (0, 0),
     }
-    let addition = beside.unit.addition(window.power, 0);
+}
+
+// The same of a period in which the unit is on.
+fn wanted_in(unit: &Unit, period: &Period, window: &Window) -> (i64, i64) {
+    let addition = unit.addition(window.power, 0);
     let short = period.short_with(&addition).min(window.head);
-    (short.saturating_sub(beside.unit.rise), period.reserve_rate)
+    (short.saturating_sub(unit.rise), period.reserve_rate)
 }
 
 // The outputs between which the cost is told: the ends of the unit's segments, those at which the others give nothing or all they can,

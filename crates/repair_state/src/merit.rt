@@ -6,7 +6,7 @@ use std::alloc::Global;
 use uc_model::{NoMemory, Point};
 
 /// Rates are in parts of this of a micro-dollar a watt.
-pub(crate) const PART: i64 = 1 << 16;
+pub const PART: i64 = 1 << 16;
 
 /// The greatest rate in size, of a million dollars a megawatt.
 const STEEPEST: i64 = 1 << 36;
@@ -21,7 +21,7 @@ const DEAREST_BREACH: i64 = 1 << 43;
 const DOUBLINGS: u32 = 20;
 
 /// A segment of a unit's hull: its place in the order of merit, its watts, and the rate of each.
-#[derive(Clone, Copy, Debug)]
+#[derive(Clone, Copy)]
 pub(crate) struct Segment {
     pub place: usize,
     pub watts: i64,
@@ -30,17 +30,17 @@ pub(crate) struct Segment {
 
 /// The rates of all segments in order of merit, the powers of two up to their number from the greatest on, the rate of the segment with
 /// which half of all watts are reached, and that of what is lacking; and what a period costs beside it in which something is lacking.
-#[derive(Debug, Drop)]
-pub(crate) struct Market {
-    pub rates: Vec<i64>,
-    pub strides: Vec<usize>,
+#[derive(Drop)]
+pub struct Market {
+    pub(crate) rates: Vec<i64>,
+    pub(crate) strides: Vec<usize>,
     pub middle: i64,
     pub scarcity: i64,
-    pub breach: i64,
+    pub(crate) breach: i64,
 }
 
 // Where a segment stands among its unit's.
-#[derive(Clone, Copy, Debug)]
+#[derive(Clone, Copy)]
 struct Entry {
     rate: i64,
     watts: i64,
@@ -54,7 +54,7 @@ pub(crate) fn cost_of(rate: i64, watts: i64) -> i64 {
 }
 
 /// A number kept within the greatest rate.
-pub(crate) fn rate_within(number: &i128) -> i64 {
+pub fn rate_within(number: &i128) -> i64 {
     let most = i128::from(STEEPEST);
     (*number).min(most).max(-most) as i64
 }

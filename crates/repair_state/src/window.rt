@@ -5,8 +5,8 @@ use crate::unit::{Limits, Unit, is_on};
 use uc_model::Pattern;
 
 /// What a unit may give above its minimum in a period, round the output on which the window is centred, and with reserve up to the head.
-#[derive(Clone, Copy, Debug)]
-pub(crate) struct Window {
+#[derive(Clone, Copy)]
+pub struct Window {
     pub on: bool,
     pub power: i64,
     pub low: i64,
@@ -24,7 +24,7 @@ pub(crate) const IDLE: Window = Window {
 };
 
 /// What the pattern leaves in period t, from 0.
-pub(crate) fn limits_at(unit: &Unit, pattern: &Pattern, t: u32, periods: u32) -> Limits {
+pub fn limits_at(unit: &Unit, pattern: &Pattern, t: u32, periods: u32) -> Limits {
     let was_on = if t == 0 {
         unit.was_on
     } else {
@@ -36,7 +36,7 @@ pub(crate) fn limits_at(unit: &Unit, pattern: &Pattern, t: u32, periods: u32) ->
 }
 
 /// Opens the windows as far as the caps allow, whatever the ramps.
-pub(crate) fn open(unit: &Unit, pattern: &Pattern, periods: u32, row: &mut [Window]) {
+pub fn open(unit: &Unit, pattern: &Pattern, periods: u32, row: &mut [Window]) {
     let mut t: u32 = 0;
     for window in row.iter_mut() {
         *window = if is_on(pattern, t) {
@@ -56,7 +56,7 @@ pub(crate) fn open(unit: &Unit, pattern: &Pattern, periods: u32, row: &mut [Wind
 }
 
 /// Moves the centres of open windows until they keep the ramps.
-pub(crate) fn keep_ramps(unit: &Unit, row: &mut [Window]) {
+pub fn keep_ramps(unit: &Unit, row: &mut [Window]) {
     let mut next: i64 = i64::MAX;
     for window in row.iter_mut().rev() {
         if window.on {
@@ -76,7 +76,7 @@ pub(crate) fn keep_ramps(unit: &Unit, row: &mut [Window]) {
 }
 
 /// Narrows open windows round their centres, which keep the ramps, until whatever is inside keeps them.
-pub(crate) fn narrow(unit: &Unit, periods: &[Period], row: &mut [Window]) {
+pub fn narrow(unit: &Unit, periods: &[Period], row: &mut [Window]) {
     let mut before = initial(unit);
     let mut t: usize = 0;
     for period in periods {
