@@ -1,5 +1,5 @@
 -- The numbers of a dispatch are plain: a unit's output and reserve stay within its range, which the limits on an instance bound.
--- Cite by `use Rattle.dispatch_repair.proofs.Plain.{plain, sized}`.
+-- Cite by `use Rattle.dispatch_repair.proofs.Plain.{plain}`.
 use Rattle.std.proofs.Common.{◌≡◌, ℕ, ◌<◌, ◌≤◌, ⊎_elim, Bool, true, false, not, sym, subst, ◌∙◌, arith, refl, List, [], length, get_or, ℤ, pos, ◌+ℤ◌, ◌-ℤ◌, ◌*ℤ◌, ◌≤ℤ◌}
 use Rattle.std.specs.Prelude.{IsTrue, All}
 use Rattle.std.proofs.lemmas.Bool.{cases_lt, cases_Bool, and_right}
@@ -9,30 +9,20 @@ use Rattle.uc_model.specs.Sums.{bit}
 use Rattle.uc_model.specs.Commitment.{was_on, starts}
 use Rattle.uc_model.specs.Schedule.{thermal_unit, thermal_count, renewable_count, renewable_minimum, renewable_maximum}
 use Rattle.uc_model.specs.PrintedSchedule.{cell_at}
-use Rattle.uc_model.specs.Limits.{IsPower, IsLimit, IsLawfulInstance}
+use Rattle.uc_model.specs.Limits.{IsLimit, IsLawfulInstance}
 use Rattle.uc_model.specs.declared.instance.Instance.{Instance}
-use Rattle.uc_model.specs.declared.limits.TheConstants.{MAX_POWER, MAX_START_ROWS}
+use Rattle.uc_model.specs.declared.limits.TheConstants.{MAX_START_ROWS}
 use Rattle.uc_model.specs.declared.pattern.Pattern.{Pattern}
 use Rattle.uc_model.specs.declared.schedule.Cell.{Cell}
 use Rattle.uc_model.specs.declared.schedule.Printed.{Printed}
 use Rattle.uc_model.proofs.Ring.{linear, mul-one, mul-zero, le_trans}
-use Rattle.uc_model.proofs.CostBound.{within_of_abs, abs_of_within}
-use Rattle.schedule_check.specs.SizedNumbers.{HasSizedNumbers, output_at}
+use Rattle.schedule_check.specs.SizedNumbers.{output_at}
+use Rattle.schedule_check.proofs.Plain.{power_below}
 use Rattle.schedule_check.proofs.Priced.{allowed-within}
 use Rattle.dispatch_repair.specs.Period.{FromRenewable, commitment_at}
 use Rattle.dispatch_repair.specs.Dispatch.{IsFilled, IsDispatchThrough}
 use Rattle.schedule_check.specs.PlainNumbers.{IsIdleCell, IsPlainCell, HasPlainNumbers}
 use Rattle.dispatch_repair.proofs.Filled.{cell_within, cell-le-cap, cell_idle, cap-le-range, max_right}
-
--- ---- powers
-power_high : (z : ℤ) → IsPower z → z ≤ℤ pos MAX_POWER
-power_high z h = (within_of_abs z MAX_POWER h).high
-
--- a number that isn't below 0 is a power if it is at most one
-power_below : (z most : ℤ) → pos 0 ≤ℤ z → z ≤ℤ most → IsPower most → IsPower z
-power_below z most low high power =
-    let limit = power_high most power in
-    abs_of_within z MAX_POWER (record { low = omega (arith, linear); high = omega (arith, linear) })
 
 bit-le : (a : ℤ) (b : Bool) → pos 0 ≤ℤ a → (a *ℤ bit b) ≤ℤ a
 bit-le a true h = omega (arith, linear, mul-one a)
@@ -127,15 +117,4 @@ plain instance patterns periods printed lawful within dispatch = record {
       (λ g t hg ht. cell_plain instance patterns printed t lawful (dispatch.filled t ht) g hg);
   outputs = everywhere IsLimit printed.renewable (renewable_count instance) periods (pos 0) dispatch.shape.renewable dispatch.shape.outputs no_output-plain
       (λ w t hw ht. output_plain instance patterns printed t lawful (dispatch.filled t ht) (omega arith) w hw);
-}
-
--- plain numbers have at most 15 digits
-pub sized : (printed : Printed) → HasPlainNumbers printed → HasSizedNumbers printed
-sized printed numbers = record {
-  thermal = λ g t.
-      let cell = numbers.cells g t in
-      let output = power_below (cell_at printed g t).p ((cell_at printed g t).p +ℤ (cell_at printed g t).r) cell.output (omega (arith, linear, cell.reserve)) cell.total in
-      let reserve = power_below (cell_at printed g t).r ((cell_at printed g t).p +ℤ (cell_at printed g t).r) cell.reserve (omega (arith, linear, cell.output)) cell.total in
-      record { output = omega (arith, output); reserve = omega (arith, reserve) };
-  renewable = λ w t. let output = (numbers.outputs w t).power in omega (arith, output);
 }

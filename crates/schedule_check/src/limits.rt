@@ -40,7 +40,8 @@ pub fn range(unit: &Thermal, on: bool) -> i64
 pub fn reduced(full: &i64, reduction: &i64, applies: bool) -> i64
     requires full { unsigned_abs full.now ≤ MAX_POWER }
     requires reduction { unsigned_abs reduction.now ≤ MAX_POWER }
-    ensures { result ≡ full.now -ℤ reduction.now *ℤ bit applies }
+    ensures value { result ≡ full.now -ℤ reduction.now *ℤ bit applies }
+    ensures size { unsigned_abs result ≤ 2 * MAX_POWER }
 {
     if applies { *full - *reduction } else { *full }
 }

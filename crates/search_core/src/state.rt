@@ -355,8 +355,8 @@ impl State {
         kept_after(&stored_at(&self.tree, node), number, &table.k(), outcome)
     }
 
-    // Whether the worker has seen this cost, and what the node would store is within the gap of it.
-    fn may_prune(&self, worker: u8, stored: &Stored, seen: &i64) -> bool
+    /// Whether the worker, from 0, has seen this cost, in micro-dollars, and what the node would store is within the gap of it.
+    pub fn may_prune(&self, worker: u8, stored: &Stored, seen: &i64) -> bool
         requires { IsWorker self.now worker }
         ensures { IsTrue result ↔ MayPrune self.now worker stored.now seen.now }
     {

@@ -1,27 +1,17 @@
 -- How the ends of a run follow from its steps: reading and searching (from the files f to g), writing the
 -- certificate (from g to h) and the report.
-use Rattle.std.proofs.Common.{◌≡◌, ℕ, true, false, subst, ap, ◌∙◌, refl}
-use Rattle.std.specs.Prelude.{Result, Ok, Err, OnOk, OnErr, is_err}
+use Rattle.std.proofs.Common.{◌≡◌, ℕ, subst, ap, ◌∙◌, refl}
 use Rattle.uc_model.specs.declared.instance.Instance.{Instance}
 use Rattle.outside.specs.declared.slot.Slot.{Slot}
 use Rattle.outside.specs.declared.slot.Slot.TheVariants as slot
 use Rattle.outside.specs.Slots.{SlotState, SameBut}
 use Rattle.outside.specs.Sinks.{SinkState}
 use Rattle.branch_tree.specs.declared.found.Found.{Found}
-use Rattle.uc_cli.specs.Writing.{IsSaved, FailsToSave, IsTold, FailsToTell, text_of_certificate}
+use Rattle.uc_check.specs.Writing.{IsSaved, FailsToSave, IsTold, FailsToTell, text_of_certificate}
 use Rattle.report.specs.FoundReport.{found_report}
-use Rattle.uc_cli.specs.Command.{Solve}
-use Rattle.uc_cli.specs.Outside.{outside_of}
+use Rattle.uc_check.specs.Command.{Solve}
+use Rattle.uc_check.specs.Outside.{outside_of}
 use Rattle.uc_cli.specs.Run.{IsAnswer, IsDone, IsUnsaved, IsUntold}
-
--- what holds of a result, by its test
-pub at_err : {T E P : Type 0} (result : Result T E) → is_err result ≡ true → OnErr result P → P
-at_err (Ok x) e h = absurd (cc)
-at_err (Err x) e h = h
-
-pub at_ok : {T E P : Type 0} (result : Result T E) → is_err result ≡ false → OnOk result P → P
-at_ok (Ok x) e h = h
-at_ok (Err x) e h = absurd (cc)
 
 -- the certificate's slot is as it was before the instance was read
 certificate_same : (f g : Slot → SlotState) → SameBut slot.Instance f g → g slot.CertOut ≡ f slot.CertOut

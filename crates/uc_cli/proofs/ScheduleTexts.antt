@@ -9,7 +9,7 @@ use Rattle.uc_model.specs.declared.schedule.Cell.{Cell}
 use Rattle.uc_model.specs.declared.schedule.Printed.{Printed}
 use Rattle.schedule_check.specs.SizedNumbers.{HasSizedNumbers, IsSizedCell}
 use Rattle.schedule_check.specs.PlainNumbers.{IsPlainCell, HasPlainNumbers}
-use Rattle.dispatch_repair.proofs.Plain.{sized}
+use Rattle.schedule_check.proofs.Plain.{sized}
 use Rattle.branch_tree.specs.Claims.{written_of}
 use Rattle.cert_text.specs.TextConditions.{HasDigits, IsCellText, IsThermalRow, IsRenewableRow, IsScheduleText}
 use Rattle.schedule_check.specs.Accepted.{IsAccepted}

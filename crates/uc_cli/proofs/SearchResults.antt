@@ -18,13 +18,13 @@ use Rattle.demo_gen.specs.Demo.{demo_instance}
 use Rattle.dual_value.specs.NodeAnswer.{MAX_VALUE}
 use Rattle.workers.specs.Writable.{HasFewRows, IsWritable}
 use Rattle.workers.specs.SearchResult.{IsSearchResult}
-use Rattle.uc_cli.specs.Command.{Solve}
-use Rattle.uc_cli.specs.Reading.{HasInstance}
-use Rattle.uc_cli.specs.Checking.{IsScheduleTrue}
+use Rattle.uc_check.specs.Command.{Solve}
+use Rattle.uc_check.specs.Reading.{HasInstance}
+use Rattle.uc_check.specs.Checking.{IsScheduleTrue}
 use Rattle.uc_cli.specs.DemoRun.{IsDemoAnswer}
 use Rattle.uc_cli.specs.Run.{IsAnswer}
 use Rattle.uc_cli.proofs.ScheduleTexts.{has_schedule_text}
-use Rattle.uc_cli.proofs.Verdicts.{schedule_true}
+use Rattle.uc_check.proofs.Verdicts.{schedule_true}
 
 -- a bound of this size has a text
 bound_text : (bound : Option ℤ) → IfSome bound (λ b. unsigned_abs b ≤ MAX_VALUE) → IfSome bound IsMoney

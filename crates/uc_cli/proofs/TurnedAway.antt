@@ -8,18 +8,18 @@ use Rattle.outside.specs.Sinks.{SinkState}
 use Rattle.report.specs.FaultText.{status_of}
 use Rattle.report.specs.declared.fault.Fault.{Fault}
 use Rattle.report.specs.declared.fault.Fault.TheVariants.{Words, Memory}
-use Rattle.uc_cli.specs.Arguments.{is_taken}
-use Rattle.uc_cli.specs.Checking.{most_certificate_bytes}
-use Rattle.uc_cli.specs.Command.{Command, Solves, Checks, Demos, command_of}
-use Rattle.uc_cli.specs.Outside.{outside_of}
-use Rattle.uc_cli.specs.Reading.{most_bytes}
+use Rattle.uc_check.specs.Arguments.{is_taken}
+use Rattle.uc_check.specs.Checking.{most_certificate_bytes}
+use Rattle.uc_check.specs.Command.{Command, Solves, Checks, Demos, command_of}
+use Rattle.uc_check.specs.Outside.{outside_of}
+use Rattle.uc_check.specs.Reading.{most_bytes}
 use Rattle.uc_cli.specs.DemoRun.{IsDemoFailure}
 use Rattle.uc_cli.specs.Run.{IsFailure, IsRun}
-use Rattle.uc_cli.specs.Writing.{TellsFault}
-use Rattle.uc_cli.specs.declared.program.End.{End}
-use Rattle.uc_cli.specs.inside.Asked.{IsRefusal}
-use Rattle.uc_cli.proofs.Commands.{names_a_command}
-use Rattle.uc_cli.proofs.OnlyRead.{untouched}
+use Rattle.uc_check.specs.Writing.{TellsFault}
+use Rattle.uc_check.specs.declared.ending.End.{End}
+use Rattle.uc_check.specs.Asked.{IsRefusal}
+use Rattle.uc_check.proofs.Commands.{names_a_command}
+use Rattle.uc_check.proofs.OnlyRead.{untouched}
 
 stopped : (command : Command) (files : Slot → SlotState) (out err_old err_new : SinkState) (end : End) → AllUnopened files
     → end.code ≡ status_of Memory → end.found ≡ None → TellsFault Memory err_old err_new

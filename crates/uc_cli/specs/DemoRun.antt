@@ -13,11 +13,11 @@ use Rattle.report.specs.DemoReport.{demo_report}
 use Rattle.report.specs.FaultText as fault_text
 use Rattle.report.specs.declared.fault.Fault.{Fault}
 use Rattle.report.specs.declared.fault.Fault.TheVariants.{Write, Memory}
-use Rattle.uc_cli.specs.Outside.{Outside}
-use Rattle.uc_cli.specs.Command.{Demo}
-use Rattle.uc_cli.specs.Checking.{IsScheduleTrue}
-use Rattle.uc_cli.specs.Writing.{IsTold, FailsToTell, TellsFault}
-use Rattle.uc_cli.specs.declared.program.End.{End}
+use Rattle.uc_check.specs.Outside.{Outside}
+use Rattle.uc_check.specs.Command.{Demo}
+use Rattle.uc_check.specs.Checking.{IsScheduleTrue}
+use Rattle.uc_check.specs.Writing.{IsTold, FailsToTell, TellsFault}
+use Rattle.uc_check.specs.declared.ending.End.{End}
 
 -- an answer for the instance of the seed: what was found with a budget of 200 evaluations and at a gap of a thousandth of the cost; that
 -- its schedule obeys and costs at most what is printed; and that its bound, or that there is no schedule, is true of every schedule

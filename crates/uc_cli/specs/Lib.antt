@@ -1,9 +1,2 @@
-pub mod Arguments
-pub mod Command
-pub mod Outside
-pub mod Reading
-pub mod Writing
-pub mod Checking
 pub mod DemoRun
 pub mod Run
-pub mod inside

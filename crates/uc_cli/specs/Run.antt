@@ -18,13 +18,13 @@ use Rattle.report.specs.FaultText as fault_text
 use Rattle.report.specs.FoundReport.{found_report}
 use Rattle.report.specs.declared.fault.Fault.{Fault}
 use Rattle.report.specs.declared.fault.Fault.TheVariants.{Words, Write, Memory}
-use Rattle.uc_cli.specs.Outside.{Outside}
-use Rattle.uc_cli.specs.Command.{Solve, Command, Solves, Checks, Demos}
-use Rattle.uc_cli.specs.Reading.{most_bytes, HasInstance, HasCause, IsOpenedByNoOther, IsOnlyRead}
-use Rattle.uc_cli.specs.Checking.{IsCheckRun, IsScheduleTrue}
+use Rattle.uc_check.specs.Outside.{Outside}
+use Rattle.uc_check.specs.Command.{Solve, Command, Solves, Checks, Demos}
+use Rattle.uc_check.specs.Reading.{most_bytes, HasInstance, HasCause, IsOpenedByNoOther, IsOnlyRead}
+use Rattle.uc_check.specs.Checking.{IsCheckRun, IsScheduleTrue}
 use Rattle.uc_cli.specs.DemoRun.{IsDemoRun}
-use Rattle.uc_cli.specs.Writing.{text_of_certificate, IsSaved, FailsToSave, IsTold, FailsToTell, TellsFault}
-use Rattle.uc_cli.specs.declared.program.End.{End}
+use Rattle.uc_check.specs.Writing.{text_of_certificate, IsSaved, FailsToSave, IsTold, FailsToTell, TellsFault}
+use Rattle.uc_check.specs.declared.ending.End.{End}
 
 -- an answer for the instance in the file: what was found, with the budget and at the gap that are asked; that its schedule obeys and
 -- costs at most what is printed; that its bound, or that there is no schedule, is true of every schedule; and that its certificate has

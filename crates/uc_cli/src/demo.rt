@@ -4,20 +4,18 @@ ghost use Rattle.std.specs.Prelude.{◌≡◌, IfOk, IfErr, OnOk, OnErr};
 ghost use Rattle.outside.specs.declared.slot.Slot.{Slot};
 ghost use Rattle.outside.specs.Slots.{SlotState};
 ghost use Rattle.report.specs.DemoReport.{demo_report};
-ghost use Rattle.uc_cli.specs.Outside.{outside_of};
-ghost use Rattle.uc_cli.specs.Writing.{IsTold, FailsToTell};
+ghost use Rattle.uc_check.specs.Outside.{outside_of};
+ghost use Rattle.uc_check.specs.Writing.{IsTold, FailsToTell};
 ghost use Rattle.uc_cli.specs.DemoRun.{IsDemoAnswer, IsDemoDone, IsDemoFailure, IsDemoRun};
-ghost use Rattle.uc_cli.specs.inside.Asked.{demo_asked};
+ghost use Rattle.uc_check.specs.Asked.{demo_asked};
 
-use crate::command::Demo;
-use crate::output::tell_fault;
-use crate::program::End;
 use crate::solve::Failure;
 use branch_tree::Found;
 use outside::{Failed, Gate, Sink};
 use report::{DEMO_GAP, Fault, write_demo};
 use std::alloc::Global;
 use std::sync::Wait;
+use uc_check::{Demo, End, tell_fault};
 use uc_model::NoMemory;
 use workers::{Options, search};
 

@@ -2,31 +2,21 @@
 
 ghost use Rattle.std.specs.Prelude.{◌≡◌, map, string_bytes, true, false, None, Some};
 ghost use Rattle.outside.specs.Slots.{AllUnopened};
-ghost use Rattle.uc_cli.specs.Arguments.{is_taken};
-ghost use Rattle.uc_cli.specs.Command.{Command as WordsCommand, command_of as command_of_words};
-ghost use Rattle.uc_cli.specs.Outside.{outside_of};
+ghost use Rattle.uc_check.specs.Arguments.{is_taken};
+ghost use Rattle.uc_check.specs.Command.{Command as WordsCommand, command_of as command_of_words};
+ghost use Rattle.uc_check.specs.Outside.{outside_of};
 ghost use Rattle.uc_cli.specs.Run.{IsRun, IsUsage};
-ghost use Rattle.uc_cli.specs.Writing.{TellsFault};
+ghost use Rattle.uc_check.specs.Writing.{TellsFault};
 ghost use Rattle.report.specs.FaultText.{status_of};
 
-use crate::check::check;
-use crate::command::{Command, command_of};
 use crate::demo::demo;
-use crate::output::tell_fault;
 use crate::solve::solve;
-use branch_tree::Found;
 use outside::{Files, Gate, Sink};
 use report::Fault;
 use std::alloc::Global;
 use std::sync::Wait;
 use std::thread::Threads;
-
-/// How a run ended: its exit status, and of `solve` and `demo` what was found where the status is 0 to 3 or 7.
-#[derive(Drop)]
-pub struct End {
-    pub code: u8,
-    pub found: Option<Found>,
-}
+use uc_check::{Command, End, check_certificate, command_of, tell_fault};
 
 // A run that ends at its words.
 fn turn_away<E: Sink>(err: &mut E, fault: &Fault) -> End
@@ -69,7 +59,7 @@ pub fn uc<R: Threads + Wait + Sync, F: Files, O: Sink, E: Sink, G: Gate + Sync>(
 {
     match command_of(alloc, words) {
         Ok(Command::Solve(asked)) => solve(rt, alloc, &asked, files, out, err, gate),
-        Ok(Command::Check(asked)) => check(alloc, &asked, files, out, err),
+        Ok(Command::Check(asked)) => check_certificate(alloc, &asked, files, out, err),
         Ok(Command::Demo(asked)) => demo(rt, alloc, &asked, out, err, gate),
         Err(fault) => turn_away(err, &fault),
     }

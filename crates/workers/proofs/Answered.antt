@@ -26,17 +26,18 @@ use Rattle.search_core.specs.Machine.{Machine}
 use Rattle.search_core.specs.Moves.{bound_of}
 use Rattle.search_core.specs.Runs.{HoldsAt}
 use Rattle.workers.specs.Writable.{HasFewRows}
-use Rattle.workers.specs.DropCommitment.{Dispatched}
-use Rattle.workers.specs.MostOnStuck.{TellsMostOn}
-use Rattle.workers.specs.Opening.{HasEachPattern, HasNoRay, IsGreaterTable, IsRootTable}
+use Rattle.decommitment.specs.DropCommitment.{Dispatched, HasEachPattern}
+use Rattle.decommitment.specs.MostOnStuck.{TellsMostOn}
+use Rattle.workers.specs.Opening.{HasNoRay, IsGreaterTable, IsRootTable}
 use Rattle.workers.specs.SearchResult.{IsBoundOpened, IsNoDearer}
-use Rattle.workers.specs.declared.drop_pass.Standing.{Standing}
-use Rattle.workers.specs.declared.drop_pass.Standing.TheVariants as standing
+use Rattle.decommitment.specs.declared.pass.Standing.{Standing}
+use Rattle.decommitment.specs.declared.pass.Standing.TheVariants as standing
 use Rattle.workers.specs.declared.opening.Priced.{Priced}
 use Rattle.workers.specs.inside.Answers.{IsAnswerOf, told_by}
 use Rattle.workers.specs.inside.Evaluations.{IsPricedOf}
 use Rattle.workers.specs.inside.Searches.{IsSizedEntry, IsSpentUnlessClosed, start_by}
-use Rattle.workers.specs.inside.Standings.{IsBest, IsDropped, KeepsMostOn, ending_of, kept_stuck, told_of}
+use Rattle.decommitment.specs.Standings.{IsDropped, KeepsMostOn, ending_of}
+use Rattle.workers.specs.inside.Best.{IsBest, kept_stuck, told_of}
 use Rattle.workers.proofs.FewRows.{few_rows}
 use Rattle.workers.proofs.OwnValues.{bound_small, least_above, least_small}
 use Rattle.workers.proofs.Patterns.{not_first}

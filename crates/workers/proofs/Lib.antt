@@ -1,6 +1,6 @@
+pub mod FirstSchedule
 pub mod Patterns
 pub mod OpeningRays
-pub mod Drops
 pub mod FewRows
 pub mod Excluded
 pub mod WrittenTables

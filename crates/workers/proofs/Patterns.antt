@@ -7,7 +7,7 @@ use Rattle.dual_model.specs.NodeValue.{IsNodeValue}
 use Rattle.dual_model.specs.Tree.{root}
 use Rattle.dual_model.specs.declared.node.Node.{Node}
 use Rattle.dual_model.specs.declared.table.Table.{Table}
-use Rattle.workers.specs.Opening.{HasEachPattern}
+use Rattle.decommitment.specs.DropCommitment.{HasEachPattern}
 
 -- where a node has a value no unit is without a pattern
 pub each_pattern : (instance : Instance) (node : Node) (table : Table) (v : ℤ) → IsNodeValue instance node table v

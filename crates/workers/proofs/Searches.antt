@@ -47,11 +47,12 @@ use Rattle.search_core.proofs.Claims.{get_push_last}
 use Rattle.search_core.proofs.Leaves.{holds_of_leaf, leaf_part}
 use Rattle.search_core.proofs.TrueRuns.{starts_are_reached, steps_reach}
 use Rattle.schedule_check.specs.Accepted.{IsAcceptedIfFound}
-use Rattle.workers.specs.DropCommitment.{Dispatched, StuckIn}
+use Rattle.decommitment.specs.DropCommitment.{Dispatched, StuckIn}
 use Rattle.workers.specs.declared.opening.Priced.{Priced}
 use Rattle.workers.specs.inside.Evaluations.{IsPricedOf}
-use Rattle.workers.specs.inside.Searches.{HasStoredTable, IsGrown, IsOutcomeOf, IsPublished, IsReady, IsScaledWithin, IsSearching, IsSizedEntry, IsTableFor, IsTurned, IsVisited, cost_of, start_by}
-use Rattle.workers.specs.inside.Standings.{IsNoWorse}
+use Rattle.claims.specs.Claims.{HasStoredTable, IsPublished}
+use Rattle.workers.specs.inside.Searches.{IsGrown, IsOutcomeOf, IsReady, IsScaledWithin, IsSearching, IsSizedEntry, IsTableFor, IsTurned, IsVisited, cost_of, start_by}
+use Rattle.workers.specs.inside.Best.{IsNoWorse}
 
 -- ---- the start
 million : pos 0 <ℤ ZERO_SCALE

@@ -1,5 +1,3 @@
-pub mod MostOnStuck
-pub mod DropCommitment
 pub mod Opening
 pub mod SearchResult
 pub mod Writable

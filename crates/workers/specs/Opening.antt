@@ -3,21 +3,15 @@
 --
 -- Units and rays count from 0 here.
 use Rattle.std.specs.Prelude.{◌≡◌, ◌⊎◌, ℕ, ◌<◌, ℤ, ◌<ℤ◌, ◌≤ℤ◌}
-use Rattle.uc_model.specs.Schedule.{thermal_count}
 use Rattle.uc_model.specs.declared.instance.Instance.{Instance}
 use Rattle.uc_model.specs.declared.schedule.Printed.{Printed}
 use Rattle.dual_model.specs.Cover.{HasPositiveValue}
-use Rattle.dual_model.specs.Fixings.{HasNoPattern}
 use Rattle.dual_model.specs.NodeValue.{IsNodeValue}
 use Rattle.dual_model.specs.Opening.{ray_count, ray_table, zero_table}
 use Rattle.dual_model.specs.Tree.{root}
 use Rattle.dual_model.specs.declared.table.Table.{Table}
 use Rattle.prices.specs.Marginal.{IsMarginalTable}
-use Rattle.workers.specs.DropCommitment.{Ending, Dispatched, StuckIn}
-
--- each thermal unit has an allowed pattern
-abbrev pub HasEachPattern : Instance → Type 0
-HasEachPattern instance = (g : ℕ) → g < thermal_count instance → ¬ HasNoPattern instance root g
+use Rattle.decommitment.specs.DropCommitment.{Ending, Dispatched, StuckIn}
 
 -- ---- the rays
 -- ray n leaves no schedule

@@ -18,9 +18,9 @@ use Rattle.branch_tree.specs.declared.found.Found.{Found}
 use Rattle.branch_tree.specs.declared.tree.Leaf.TheVariants as leaf
 use Rattle.search_core.specs.Moves.{bound_of}
 use Rattle.search_core.specs.OwnTables.{Owns, HasFewEntries}
-use Rattle.workers.specs.DropCommitment.{Ending, Dispatched, StuckIn, IsDropCommitment}
-use Rattle.workers.specs.MostOnStuck.{TellsMostOn}
-use Rattle.workers.specs.Opening.{HasEachPattern, HasNoRay, IsFirstRay, IsRootTable}
+use Rattle.decommitment.specs.DropCommitment.{Ending, Dispatched, StuckIn, IsDropCommitment, HasEachPattern}
+use Rattle.decommitment.specs.MostOnStuck.{TellsMostOn}
+use Rattle.workers.specs.Opening.{HasNoRay, IsFirstRay, IsRootTable}
 
 -- ---- no schedule by the opening
 -- the root is excluded by ray n of the opening, before any claim

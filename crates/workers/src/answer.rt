@@ -8,13 +8,15 @@ ghost use Rattle.branch_tree.specs.StoredTree.{tree_bound};
 ghost use Rattle.branch_tree.specs.TreeView.{IsWhole, tree_of};
 ghost use Rattle.branch_tree.specs.UsedTables.{stored_tables};
 ghost use Rattle.search_core.specs.Runs.{HoldsAt};
-ghost use Rattle.workers.specs.Opening.{HasEachPattern, HasNoRay, IsFirstRay, IsRootTable};
-ghost use Rattle.workers.specs.declared.drop_pass.Standing.{Standing};
+ghost use Rattle.decommitment.specs.DropCommitment.{HasEachPattern};
+ghost use Rattle.workers.specs.Opening.{HasNoRay, IsFirstRay, IsRootTable};
+ghost use Rattle.decommitment.specs.declared.pass.Standing.{Standing};
 ghost use Rattle.workers.specs.declared.opening.Priced.{Priced};
 ghost use Rattle.workers.specs.inside.Answers.{IsAnswerOf, lone_root, told_by};
 ghost use Rattle.workers.specs.inside.Evaluations.{IsPricedOf};
 ghost use Rattle.workers.specs.inside.Searches.{IsSizedEntry, IsSpentUnlessClosed, start_by};
-ghost use Rattle.workers.specs.inside.Standings.{IsBest, IsDropped, ending_of, kept_stuck};
+ghost use Rattle.decommitment.specs.Standings.{IsDropped, ending_of};
+ghost use Rattle.workers.specs.inside.Best.{IsBest, kept_stuck};
 
 use crate::tree_search::Search;
 use branch_tree::{Found, Layout, Leaf, Tree};

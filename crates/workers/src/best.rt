@@ -6,7 +6,7 @@ ghost use Rattle.uc_model.specs.declared.tolerance.TheConstants.{WHOLE_GAP};
 ghost use Rattle.schedule_check.specs.Accepted.{IsAcceptedIfFound};
 ghost use Rattle.uc_model.specs.declared.instance.Instance.{Instance};
 ghost use Rattle.branch_tree.specs.Closing.{is_schedule_within};
-ghost use Rattle.workers.specs.inside.Standings.{IsLower, IsNoWorse};
+ghost use Rattle.workers.specs.inside.Best.{IsLower, IsNoWorse};
 
 use branch_tree::is_within_gap;
 use prices::Ascent;

@@ -7,7 +7,7 @@ ghost use Rattle.dual_model.specs.NodeValue.{IsNodeValue};
 ghost use Rattle.dual_model.specs.Prices.{IsLawfulTable};
 ghost use Rattle.dual_model.specs.Tree.{root};
 ghost use Rattle.dual_value.specs.NodeAnswer.{IsFaultOf, IsValued, MAX_VALUE};
-ghost use Rattle.workers.specs.Opening.{HasEachPattern};
+ghost use Rattle.decommitment.specs.DropCommitment.{HasEachPattern};
 ghost use Rattle.workers.specs.inside.Evaluations.{IsLentOf};
 ghost use Rattle.workers.specs.inside.Searches.{IsOutcomeOf};
 

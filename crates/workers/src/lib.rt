@@ -3,17 +3,12 @@
 
 mod answer;
 mod best;
-mod branching;
-mod drop_pass;
 mod evaluation;
-mod frontier;
-mod machine;
 mod opening;
 mod rays;
 pub mod root_search;
 mod start;
 mod tree_search;
-mod trial;
 mod visit;
 
 pub use root_search::{Options, search};

@@ -6,12 +6,13 @@ ghost use Rattle.dual_model.specs.NodeValue.{IsNodeValue};
 ghost use Rattle.dual_model.specs.Opening.{ZERO_SCALE};
 ghost use Rattle.dual_model.specs.Prices.{IsLawfulTable};
 ghost use Rattle.dual_model.specs.Tree.{root};
-ghost use Rattle.workers.specs.Opening.{HasEachPattern, IsRootTable};
+ghost use Rattle.decommitment.specs.DropCommitment.{HasEachPattern};
+ghost use Rattle.workers.specs.Opening.{IsRootTable};
 ghost use Rattle.workers.specs.inside.Evaluations.{IsLentOf, IsPricedOf};
-ghost use Rattle.workers.specs.inside.Standings.{ending_of, IsDropped};
+ghost use Rattle.decommitment.specs.Standings.{ending_of, IsDropped};
 
-use crate::drop_pass::Standing;
 use crate::evaluation::{Lent, root_value};
+use decommitment::Standing;
 use dual_model::Table;
 use prices::{marginal_in, zero};
 use std::alloc::Global;

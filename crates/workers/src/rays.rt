@@ -4,7 +4,8 @@ ghost use Rattle.std.specs.Prelude.{◌≡◌, ◌≤ℤ◌, ◌<ℤ◌, false, 
 ghost use Rattle.dual_model.specs.Fixings.{IsNodeOf};
 ghost use Rattle.dual_model.specs.Prices.{IsLawfulTable};
 ghost use Rattle.uc_model.specs.Limits.{IsLawfulInstance};
-ghost use Rattle.workers.specs.Opening.{HasEachPattern, HasNoRay, IsFirstRay};
+ghost use Rattle.decommitment.specs.DropCommitment.{HasEachPattern};
+ghost use Rattle.workers.specs.Opening.{HasNoRay, IsFirstRay};
 ghost use Rattle.workers.specs.inside.Evaluations.{IsLentOf};
 
 use crate::evaluation::{Lent, node_outcome, root_value};

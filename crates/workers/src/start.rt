@@ -6,7 +6,7 @@ ghost use Rattle.uc_model.specs.declared.tolerance.TheConstants.{WHOLE_GAP};
 ghost use Rattle.dual_model.specs.Prices.{IsLawfulTable};
 ghost use Rattle.schedule_check.specs.Accepted.{IsAcceptedIfFound};
 ghost use Rattle.workers.specs.inside.Evaluations.{IsNextAt, IsPricedOf};
-ghost use Rattle.workers.specs.inside.Standings.{IsNoWorse};
+ghost use Rattle.workers.specs.inside.Best.{IsNoWorse};
 
 use crate::best::{enough, improved, moves};
 use crate::evaluation::root_node;

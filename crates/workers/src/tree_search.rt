@@ -13,17 +13,17 @@ ghost use Rattle.schedule_check.specs.Accepted.{IsAcceptedIfFound};
 ghost use Rattle.uc_model.specs.declared.instance.Instance.{Instance};
 ghost use Rattle.workers.specs.declared.opening.Priced.{Priced};
 ghost use Rattle.workers.specs.inside.Evaluations.{IsLentOf, IsNextAt, IsPricedOf};
-ghost use Rattle.workers.specs.inside.Searches.{IsGrown, IsPublished, IsReady, IsSearching, IsTurned, start_by};
-ghost use Rattle.workers.specs.inside.Standings.{IsNoWorse};
+ghost use Rattle.claims.specs.Claims.{IsPublished};
+ghost use Rattle.workers.specs.inside.Searches.{IsGrown, IsReady, IsSearching, IsTurned, start_by};
+ghost use Rattle.workers.specs.inside.Best.{IsNoWorse};
 
 use crate::best::{enough, improved, is_closed, moves};
 use crate::evaluation::Lent;
-use crate::frontier::Frontier;
-use crate::machine::{WORKER, claim_next, publish};
 use crate::opening::Priced;
 use crate::root_search::Options;
 use crate::start::Start;
 use crate::visit::visit;
+use claims::{Frontier, WORKER, claim_next, publish};
 use outside::Gate;
 use prices::{Ascent, SCALE};
 use schedule_repair::Repair;
@@ -174,8 +174,7 @@ fn turn(
 ) -> Result<Search, NoMemory>
     requires lawful { IsLawfulInstance instance.now }
     requires lent { IsLentOf instance.now lent.old }
-    requires gap { gap ≡ search.state.gap }
-    requires whole { gap ≤ WHOLE_GAP }
+    requires gap { gap ≤ WHOLE_GAP }
     requires unit { unit ≤ MAX_BUDGET }
     requires ready { IsReady instance.now search.state node unit }
     requires accepted { IsAcceptedIfFound instance.now search.best }
@@ -195,7 +194,6 @@ fn turn(
         instance,
         &mut state,
         &mut frontier,
-        gap,
         found,
         node,
         unit,

@@ -9,7 +9,7 @@ use Rattle.branch_tree.specs.TreeView.{TreeView}
 use Rattle.branch_tree.specs.declared.found.Found.{Found}
 use Rattle.branch_tree.specs.declared.tree.Leaf.{Leaf}
 use Rattle.workers.specs.Writable.{IsWritable}
-use Rattle.workers.specs.inside.Standings.{told_of}
+use Rattle.workers.specs.inside.Best.{told_of}
 use Rattle.workers.specs.SearchResult.{IsSearchResult}
 
 -- a tree of its root alone, which stores this leaf

@@ -15,13 +15,14 @@ use Rattle.branch_tree.specs.TreeView.{IsOpenAt}
 use Rattle.branch_tree.specs.declared.found.Entry.{Entry}
 use Rattle.branch_tree.specs.declared.found.Outcome.{Outcome}
 use Rattle.branch_tree.specs.declared.found.Outcome.TheVariants as outcome
-use Rattle.search_core.specs.declared.event.Event.TheVariants.{Commit, Publish}
+use Rattle.search_core.specs.declared.event.Event.TheVariants.{Commit}
 use Rattle.search_core.specs.declared.event.Move.{Move}
 use Rattle.search_core.specs.Machine.{Machine, IsHolding, IsWorker, entries_of, start_of}
 use Rattle.search_core.specs.Moves.{HasFreeCell, bound_of}
 use Rattle.search_core.specs.Steps.{IsFresh, IsLegal, IsStoredTable, after}
 use Rattle.search_core.specs.Runs.{IsReached, IsTrueOutcome}
 use Rattle.schedule_check.specs.Accepted.{IsAcceptedIfFound}
+use Rattle.claims.specs.Claims.{HasStoredTable, IsPublished}
 use Rattle.workers.specs.declared.opening.Priced.{Priced}
 
 -- the machine's start: one worker, and a root that stores the opening's table with its bound
@@ -56,16 +57,6 @@ pub record IsSearching (instance : Instance) (opening : Priced) (budget gap : �
 abbrev pub cost_of : Option (Printed × ℤ) → Option ℤ
 cost_of None = None
 cost_of (Some priced) = Some priced.1
-
--- the machine after the cost of a schedule that may be missing was published
-abbrev pub IsPublished : Option (Printed × ℤ) → Machine → Machine → Type 0
-IsPublished None old new = new ≡ old
-IsPublished (Some priced) old new = new ≡ after old (Publish 0 priced.1)
-
--- a table is stored at the node
-pub record HasStoredTable (m : Machine) (node : ℕ) : Type 0 where
-  pub table : Table
-  pub is_table : IsStoredTable m node table
 
 -- the worker holds the open node by the claim of this unit
 pub record IsReady (instance : Instance) (m : Machine) (node unit : ℕ) : Type 0 where

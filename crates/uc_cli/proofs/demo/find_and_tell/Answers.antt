@@ -1,6 +1,6 @@
 -- Each end from the steps before it.
 use Rattle.std.proofs.Common.{◌∙◌, sym}
-use Rattle.uc_cli.proofs.Endings.{at_err, at_ok}
+use Rattle.uc_check.proofs.Tested.{at_err, at_ok}
 use Rattle.uc_cli.proofs.demo.find_and_tell.Goals as goal
 
 pub returns-then-is_err-clause-failed : goal.returns-then-is_err-clause-failed

@@ -1,5 +1,5 @@
 -- What the search answers for the instance that was read.
-use Rattle.uc_cli.specs.inside.Asked.{solve_asked}
+use Rattle.uc_check.specs.Asked.{solve_asked}
 use Rattle.uc_cli.proofs.SearchResults.{answered}
 use Rattle.outside.specs.declared.slot.Slot.TheVariants as slot
 use Rattle.uc_cli.proofs.solve.find.Goals as goal

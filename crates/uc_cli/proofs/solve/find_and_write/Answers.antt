@@ -1,7 +1,8 @@
 -- Each end from the steps before it.
 use Rattle.std.proofs.Common.{◌∙◌, sym}
-use Rattle.uc_cli.specs.inside.Asked.{solve_asked}
-use Rattle.uc_cli.proofs.Endings.{at_err, at_ok, unsaved, untold, done}
+use Rattle.uc_check.specs.Asked.{solve_asked}
+use Rattle.uc_check.proofs.Tested.{at_err, at_ok}
+use Rattle.uc_cli.proofs.Endings.{unsaved, untold, done}
 use Rattle.uc_cli.proofs.solve.find_and_write.Goals as goal
 
 pub returns-then-is_err-clause-failed : goal.returns-then-is_err-clause-failed

@@ -9,9 +9,10 @@ use Rattle.workers.specs.Writable.{IsWritable}
 use Rattle.workers.specs.declared.opening.Priced.{Priced}
 use Rattle.workers.specs.inside.Answers.{IsAnswerOf}
 use Rattle.workers.specs.inside.Searches.{start_by}
-use Rattle.workers.specs.inside.Standings.{IsBest, ending_of}
+use Rattle.decommitment.specs.Standings.{ending_of}
+use Rattle.workers.specs.inside.Best.{IsBest}
 use Rattle.workers.proofs.Answered.{stored_within}
-use Rattle.workers.proofs.Drops.{accepted_schedule, no_dearer}
+use Rattle.workers.proofs.FirstSchedule.{accepted_schedule, no_dearer}
 use Rattle.workers.proofs.root_search.search.Given.{Over}
 use Rattle.workers.proofs.root_search.search.Goals as goal
 

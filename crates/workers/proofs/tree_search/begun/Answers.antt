@@ -5,7 +5,8 @@ use Rattle.std.proofs.lemmas.Int.{to_z-of_z}
 use Rattle.uc_model.specs.Division.{IsFloor}
 use Rattle.uc_model.specs.Schedule.{thermal_count}
 use Rattle.search_core.specs.Machine.{Machine, start_of}
-use Rattle.workers.specs.inside.Searches.{IsPublished, start_by}
+use Rattle.claims.specs.Claims.{IsPublished}
+use Rattle.workers.specs.inside.Searches.{start_by}
 use Rattle.workers.proofs.Searches.{quotient_is}
 use Rattle.workers.proofs.tree_search.begun.Goals as goal
 

@@ -49,11 +49,6 @@ returns-in_default-clause-grown g c =
     (grown_closed instance opening budget gap state best before.searching before.published before.accepted
     (closed_by_none_open instance opening budget gap state best before.searching holds before.published none.1))
 
-pub turn-requires-clause-gap : goal.turn-requires-clause-gap
-turn-requires-clause-gap g c =
-    let claimed = c.claim_next.ensures.claimed c.in-Some.node (c.in_ok-node.was ∙ ap Ok c.in-Some.is) in
-    sym (ap (λ (m : Machine). m.gap) claimed.1 ∙ c.loop-had.invariant.searching.gap_is)
-
 pub turn-requires-clause-ready : goal.turn-requires-clause-ready
 turn-requires-clause-ready g c =
     let instance = c.args.instance.now in

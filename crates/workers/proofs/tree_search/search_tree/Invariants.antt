@@ -4,7 +4,7 @@ use Rattle.std.proofs.Common.{◌≡◌, suc, length}
 use Rattle.schedule_check.specs.Accepted.{IsAcceptedIfFound}
 use Rattle.workers.specs.inside.Evaluations.{IsLentOf, IsNextAt}
 use Rattle.workers.specs.inside.Searches.{IsSearching, cost_of}
-use Rattle.workers.specs.inside.Standings.{IsNoWorse}
+use Rattle.workers.specs.inside.Best.{IsNoWorse}
 use Rattle.workers.proofs.tree_search.search_tree.Given as goal
 
 abbrev pub invariant-loop-had : goal.invariant-loop-had

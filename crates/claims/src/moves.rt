@@ -1,0 +1,150 @@
+//! The move by which a claim of a node ends.
+
+ghost use Rattle.std.specs.Prelude.{◌≡◌, ◌<◌, None, IfOk, IfSome, MatchOption};
+ghost use Rattle.branch_tree.specs.NumberedTree.{node_count};
+ghost use Rattle.branch_tree.specs.TreeView.{IsFreeAt};
+ghost use Rattle.search_core.specs.Machine.{IsWorker};
+ghost use Rattle.search_core.specs.Moves.{IsMoveLegal, IsValue, MayGoOn, MayPrune, kept};
+
+use crate::branching::{NEARLY, most_divided};
+use crate::machine::WORKER;
+use branch_tree::Outcome;
+use dual_model::{Node, Table};
+use search_core::{Move, State};
+use std::alloc::Global;
+use uc_model::{Instance, NoMemory};
+
+/// So many claims the root gets before it is split.
+const ROOT_CLAIMS: usize = 3;
+
+/// With so many entries a node is split on a cell whose share is nearly whole.
+const LATE: usize = 3;
+
+/// The move that ends a claim of the node with this outcome at the table: the node is closed where this may be, split where the shares say on
+/// which cell, and else left open. The shares are those of the ascent to the table, or none. The only error is `NoMemory`.
+pub fn action(
+    alloc: Global,
+    state: &State,
+    instance: &Instance,
+    node: u32,
+    path: &Node,
+    table: &Table,
+    shares: &[i64],
+    outcome: &Outcome,
+) -> Result<Move, NoMemory>
+    requires worker { IsWorker state.now 0 }
+    requires within { node < node_count state.now.tree.nodes }
+    ensures { IfOk result (IsMoveLegal state.now 0 node table.now outcome.now) }
+{
+    if let Some(action) = closing(state, node, table, outcome) {
+        return Ok(action);
+    }
+    if let Some((g, t)) = cell(alloc, state, instance, node, path, shares)? {
+        return Ok(Move::Split { g, t });
+    }
+    Ok(Move::Again)
+}
+
+// The move that closes the node, where there is one: a unit has no pattern there, the table is a ray that excludes it, or its bound is
+// within the gap of the best cost.
+fn closing(state: &State, node: u32, table: &Table, outcome: &Outcome) -> Option<Move>
+    requires worker { IsWorker state.now 0 }
+    requires within { node < node_count state.now.tree.nodes }
+    ensures legal { IfSome result (IsMoveLegal state.now 0 node table.now outcome.now) }
+    ensures value { result ≡ None → IsValue outcome.now }
+{
+    match outcome {
+        Outcome::Empty(_) => Some(Move::Empty),
+        Outcome::Value(value) if table.k() == 0 && *value > 0 => Some(Move::Ray),
+        Outcome::Value(_) => {
+            let seen = closing_cost(state, node, table, outcome)?;
+            Some(Move::Prune { seen })
+        }
+    }
+}
+
+// The best cost, where the bound that the node would store is within the gap of it.
+fn closing_cost(state: &State, node: u32, table: &Table, outcome: &Outcome) -> Option<i64>
+    requires worker { IsWorker state.now 0 }
+    requires within { node < node_count state.now.tree.nodes }
+    ensures { IfSome result (MayPrune state.now 0 (kept state.now node table.now outcome.now)) }
+{
+    let seen = state.seen(WORKER)?;
+    let kept = state.kept(node, table, outcome);
+    if state.may_prune(WORKER, &kept, &seen) {
+        Some(seen)
+    } else {
+        None
+    }
+}
+
+// The cell to split the node on, or none where it is to be left open.
+fn cell(
+    alloc: Global,
+    state: &State,
+    instance: &Instance,
+    node: u32,
+    path: &Node,
+    shares: &[i64],
+) -> Result<Option<(u32, u32)>, NoMemory>
+    requires within { node < node_count state.now.tree.nodes }
+    ensures { IfOk result (λ cell. MatchOption cell (MayGoOn state.now node) (λ cell. IsFreeAt state.now.tree node cell.0 cell.1)) }
+{
+    if is_ripe(state, node) {
+        if let Some(cell) = divided(alloc, state, instance, node, path, shares)? {
+            return Ok(Some(cell));
+        }
+    }
+    if state.may_go_on(alloc, node)? {
+        return Ok(None);
+    }
+    let cell = state.free_cell(alloc, node)?;
+    Ok(cell)
+}
+
+// Whether the node had its claims: the root some, and each other node the one at the table that it inherited.
+fn is_ripe(state: &State, node: u32) -> bool {
+    let entries = state.entries(node);
+    if node == 0 {
+        entries.saturating_add(1) >= ROOT_CLAIMS
+    } else {
+        entries > 0
+    }
+}
+
+// The cell that the shares of the ascent divide most. After some claims it may divide hardly any, and then it is the first one.
+fn divided(
+    alloc: Global,
+    state: &State,
+    instance: &Instance,
+    node: u32,
+    path: &Node,
+    shares: &[i64],
+) -> Result<Option<(u32, u32)>, NoMemory>
+    requires within { node < node_count state.now.tree.nodes }
+    ensures { IfOk result (λ cell. IfSome cell (λ cell. IsFreeAt state.now.tree node cell.0 cell.1)) }
+{
+    let late = state.entries(node) >= LATE;
+    let least = if late { 0 } else { NEARLY };
+    if let Some((g, t)) = most_divided(instance, path, shares, least) {
+        if state.is_free(alloc, node, g, t)? {
+            return Ok(Some((g, t)));
+        }
+    }
+    if !late {
+        return Ok(None);
+    }
+    let cell = first_free(alloc, state, node)?;
+    Ok(cell)
+}
+
+// The first undecided cell of the node.
+fn first_free(alloc: Global, state: &State, node: u32) -> Result<Option<(u32, u32)>, NoMemory>
+    requires within { node < node_count state.now.tree.nodes }
+    ensures { IfOk result (λ cell. IfSome cell (λ cell. IsFreeAt state.now.tree node cell.0 cell.1)) }
+{
+    match state.free_cell(alloc, node)? {
+        Some((g, t)) => Ok(Some((g, t))),
+        None => Ok(None),
+    }
+}

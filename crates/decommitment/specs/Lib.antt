@@ -1,0 +1,4 @@
+pub mod DropCommitment
+pub mod MostOnStuck
+pub mod Standings
+pub mod inside

@@ -1,0 +1,7 @@
+//! A first schedule by unit decommitment: from the commitment with the most on periods, unit by unit, to one with fewer.
+#![tactic(auto)]
+
+pub mod pass;
+mod trial;
+
+pub use pass::{Standing, drop_pass};

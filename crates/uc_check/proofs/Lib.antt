@@ -1,0 +1,5 @@
+pub mod Tested
+pub mod OnlyRead
+pub mod Commands
+pub mod Verdicts
+pub mod OptionNumbers

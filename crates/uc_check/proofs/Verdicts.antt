@@ -1,0 +1,160 @@
+-- How the ends of a run of `check` follow from its steps: reading the instance (from the files f to g), reading the
+-- certificate (from g to h), checking it, and the report.
+use Rattle.std.proofs.Common.{◌≡◌, ◌≤◌, ℕ, true, false, length, sym, subst, ap, ◌∙◌, refl, ⊎_elim}
+use Rattle.std.specs.Prelude.{Result, Ok, Err, IfOk, IfErr, IsErrAnd, Some, List}
+use Rattle.uc_model.specs.Limits.{IsLawfulInstance}
+use Rattle.uc_model.specs.declared.instance.Instance.{Instance}
+use Rattle.uc_model.proofs.PrintedCosts.{cost-le-printed}
+use Rattle.dual_model.specs.Certificate.{Certificate, CertificateHolds, WrittenSchedule}
+use Rattle.dual_model.specs.Laws.{IsClaimTrue}
+use Rattle.outside.specs.declared.slot.Slot.{Slot}
+use Rattle.outside.specs.declared.slot.Slot.TheVariants as slot
+use Rattle.outside.specs.ToldBytes.{Tells}
+use Rattle.outside.specs.Slots.{SlotState, SameBut}
+use Rattle.outside.specs.Sinks.{SinkState}
+use Rattle.cert_text.specs.Reading.{IsTextOf}
+use Rattle.cert_text.specs.declared.cert.Cert.{Cert}
+use Rattle.cert_check.specs.Answers.{AreClaimsOf, IsAccepted, IsRead}
+use Rattle.cert_check.specs.declared.claims.Claims.{Claims}
+use Rattle.report.specs.ClaimsReport.{claims_report}
+use Rattle.report.specs.declared.fault.Fault.{Fault}
+use Rattle.report.specs.declared.fault.Fault.TheVariants.{Memory, Line, Code, Write}
+use Rattle.uc_check.specs.Outside.{Outside, outside_of}
+use Rattle.uc_check.specs.Reading.{HasInstance}
+use Rattle.uc_check.specs.Writing.{IsTold, FailsToTell}
+use Rattle.uc_check.specs.Checking.{most_certificate_bytes, HasCertificate, HasCertificateCause, IsAcceptance, IsCertificateFault, IsCheckFailure, IsCheckStopped, IsCheckUntold, IsInstanceFault, IsScheduleTrue, text_of_claims}
+use Rattle.uc_check.specs.inside.Checks.{AreVerifiedClaims, HasCertificateText, HasReadCause, IsRefusedCert, IsRefusedText}
+
+pub ok_both : {T E : Type 0} (result : Result T E) (P Q R : T → Type 0) → IfOk result P → IfOk result Q → ((x : T) → P x → Q x → R x)
+    → IfOk result R
+ok_both (Ok x) P Q R p q both = both x p q
+ok_both (Err e) P Q R p q both = tt
+
+-- what `?` hands up is what it was handed
+pub handed_up : {T E : Type 0} (result : Result T E) (e : E) (P : E → Type 0) → IsErrAnd result (λ f. f ≡ e) → P e → IfErr result P
+handed_up (Ok x) e P is p = tt
+handed_up (Err f) e P is p = subst P (sym is) p
+
+-- what was read has a text
+pub is_read : (bytes : List ℕ) (cert : Cert) → IsTextOf bytes cert → IsRead cert
+is_read bytes cert text = record { certificate = text.certificate; listed = text.listed; conditions = text.conditions }
+
+in_file : (file : SlotState) (cert : Cert) → (text : HasCertificateText file cert) → HasCertificate file text.text.certificate
+in_file file cert text = record {
+  bytes = text.bytes;
+  told = text.told;
+  few = text.few;
+  is = record { conditions = text.text.conditions; text = text.text.text };
+}
+
+-- a schedule of a certificate that holds is one, and costs no more than is written
+pub schedule_true : (instance : Instance) (certificate : Certificate) → IsLawfulInstance instance → CertificateHolds instance certificate
+    → (written : WrittenSchedule) → certificate.schedule ≡ Some written → IsScheduleTrue instance written
+schedule_true instance certificate lawful holds written is =
+    let scheduled = holds.schedule written is in
+    record {
+      obeys = scheduled.obeys;
+      costs = rw scheduled.cost (cost-le-printed instance written.printed lawful scheduled.obeys);
+    }
+
+-- the certificate's slot is as it was before the instance was read
+input_same : (f g : Slot → SlotState) → SameBut slot.Instance f g → g slot.CertIn ≡ f slot.CertIn
+input_same f g same = same slot.CertIn (λ e. cc)
+
+calm_each : (f g h : Slot → SlotState) → SameBut slot.Instance f g → SameBut slot.CertIn g h
+    → (g slot.Instance).faults ≡ (f slot.Instance).faults → (h slot.CertIn).faults ≡ (g slot.CertIn).faults
+    → (s : Slot) → (h s).faults ≡ (f s).faults
+calm_each f g h first second read checked slot.Instance = ap (λ (s : SlotState). s.faults) (second slot.Instance (λ e. cc)) ∙ read
+calm_each f g h first second read checked slot.CertIn =
+    checked ∙ ap (λ (s : SlotState). s.faults) (first slot.CertIn (λ e. cc))
+calm_each f g h first second read checked slot.CertOut =
+    ap (λ (s : SlotState). s.faults) (second slot.CertOut (λ e. cc) ∙ first slot.CertOut (λ e. cc))
+
+pub verified : (f g h : Slot → SlotState) (instance : Instance) (rounded : ℕ) (cert : Cert) (claims : Claims)
+    → HasInstance false (f slot.Instance) instance rounded → SameBut slot.Instance f g → SameBut slot.CertIn g h
+    → (g slot.Instance).faults ≡ (f slot.Instance).faults → (h slot.CertIn).faults ≡ (g slot.CertIn).faults
+    → HasCertificateText (g slot.CertIn) cert → IsAccepted instance cert claims → IsClaimTrue instance claims.bound
+    → AreVerifiedClaims f h claims
+verified f g h instance rounded cert claims read first second calm checked text accepted claim =
+    let c = text.text.certificate in
+    let listed = text.text.listed in
+    let holds = accepted.holds c listed in
+    let claimed = accepted.claimed c listed in
+    record {
+      certificate = c;
+      verified = record {
+        instance = instance;
+        rounded = rounded;
+        read = read;
+        is = subst (λ file. HasCertificate file c) (input_same f g first) (in_file (g slot.CertIn) cert text);
+        holds = holds;
+        claim = subst (IsClaimTrue instance) claimed.bound claim;
+        schedule = schedule_true instance c read.lawful holds;
+      };
+      claimed = claimed;
+      calm = calm_each f g h first second calm checked;
+    }
+
+-- where the certificate was read and refused, the one in the file is
+pub refused_cause : (f g h : Slot → SlotState) (instance : Instance) (cert : Cert) (fault : Fault)
+    → (h slot.CertIn).faults ≡ (g slot.CertIn).faults → HasCertificateText (g slot.CertIn) cert → IsRefusedCert instance cert fault
+    → HasCertificateCause instance (g slot.CertIn) (h slot.CertIn) fault
+refused_cause f g h instance cert (Code code) checked text refused =
+    let c = text.text.certificate in
+    let why = refused c text.text.listed in
+    record { certificate = c; is = in_file (g slot.CertIn) cert text; refused = why.0; fails = why.1; calm = checked }
+refused_cause f g h instance cert Memory checked text refused = tt
+refused_cause f g h instance cert _ checked text refused = absurd refused
+
+-- a fault of the certificate, whose instance was read before it
+pub certificate_fault : (f g h : Slot → SlotState) (out err_old err_new : SinkState) (instance : Instance) (rounded : ℕ) (fault : Fault)
+    → HasInstance false (f slot.Instance) instance rounded → SameBut slot.Instance f g → SameBut slot.CertIn g h
+    → (g slot.Instance).faults ≡ (f slot.Instance).faults
+    → HasCertificateCause instance (g slot.CertIn) (h slot.CertIn) fault
+    → IsCertificateFault (outside_of f out err_old) (outside_of h out err_new) fault
+certificate_fault f g h out err_old err_new instance rounded fault read first second calm cause = record {
+  instance = instance;
+  rounded = rounded;
+  read = read;
+  calm = ap (λ (s : SlotState). s.faults) (second slot.Instance (λ e. cc)) ∙ calm;
+  cause = subst (λ file. HasCertificateCause instance file (h slot.CertIn) fault) (input_same f g first) cause;
+}
+
+-- bytes that were read and are no certificate's text are the cause of a fault
+pub refused_text : (old new : SlotState) (bytes : List ℕ) (fault : Fault) → Tells old.left bytes → length bytes ≤ most_certificate_bytes
+    → new.faults ≡ old.faults → IsRefusedText bytes fault → HasReadCause old new fault
+refused_text old new bytes (Line line kind) told few calm faulty =
+    λ instance. record { bytes = bytes; told = told; few = few; faulty = faulty; calm = calm }
+refused_text old new bytes Memory told few calm refused = λ instance. tt
+refused_text old new bytes _ told few calm refused = absurd refused
+
+-- a run that stopped before anything was written failed
+pub stopped_failure : (before after : Outside) (fault : Fault) → IsCheckStopped before after fault → IsCheckFailure before after fault
+stopped_failure before after (Write true) stopped = absurd (⊎_elim
+    (λ (early : IsInstanceFault before after (Write true)). early.cause)
+    (λ (late : IsCertificateFault before after (Write true)). late.cause) stopped.cause)
+stopped_failure before after _ stopped = stopped
+
+-- the claims are the certificate's
+same_text : (c : Certificate) (claims : Claims) → AreClaimsOf c claims
+    → claims_report claims.cost claims.bound claims.infeasible ≡ text_of_claims c
+same_text c claims are = rw (are.cost, are.bound, are.infeasible) refl
+
+pub untold : (f h : Slot → SlotState) (out_old out_new err_old err_new : SinkState) (claims : Claims) → AreVerifiedClaims f h claims
+    → FailsToTell (claims_report claims.cost claims.bound claims.infeasible) out_old out_new
+    → IsCheckUntold (outside_of f out_old err_old) (outside_of h out_new err_new)
+untold f h out_old out_new err_old err_new claims are fails = record {
+  certificate = are.certificate;
+  verified = are.verified;
+  report = subst (λ text. FailsToTell text out_old out_new) (same_text are.certificate claims are.claimed) fails;
+}
+
+pub accepted : (f h : Slot → SlotState) (out_old out_new err_old err_new : SinkState) (claims : Claims) → AreVerifiedClaims f h claims
+    → IsTold (claims_report claims.cost claims.bound claims.infeasible) out_old out_new
+    → IsAcceptance (outside_of f out_old err_old) (outside_of h out_new err_new)
+accepted f h out_old out_new err_old err_new claims are told = record {
+  certificate = are.certificate;
+  verified = are.verified;
+  told = subst (λ text. IsTold text out_old out_new) (same_text are.certificate claims are.claimed) told;
+  calm = are.calm;
+}

@@ -1,0 +1,23 @@
+-- The parser's number is the one that the text writes.
+use Rattle.std.proofs.Common.{sym}
+use Rattle.clap.specs.Words.{found_of}
+use Rattle.clap.proofs.WalkLemmas.{one_text-rows}
+use Rattle.uc_check.proofs.OptionNumbers.{kept_of, kept_some, kept_none}
+use Rattle.uc_check.proofs.command.number.Goals as goal
+
+pub returns-in-Some-clause-value : goal.returns-in-Some-clause-value
+returns-in-Some-clause-value c =
+    let read = kept_of c.args.most _ c.get_one.result c.ranges.most.fits c.get_one.ensures.none c.get_one.ensures.value in
+    rw (sym (one_text-rows (found_of c.args.given.now) c.args.id.now))
+    (sym ((kept_some c.args.most c.in-Some.number c.get_one.result _ c.in-Some.is read).0 c.if-number-most.true))
+
+pub returns-in_default-clause-value : goal.returns-in_default-clause-value
+returns-in_default-clause-value c =
+    let read = kept_of c.args.most _ c.get_one.result c.ranges.most.fits c.get_one.ensures.none c.get_one.ensures.value in
+    rw (sym (one_text-rows (found_of c.args.given.now) c.args.id.now))
+    (sym ((kept_some c.args.most c.in-Some.number c.get_one.result _ c.in-Some.is read).1 c.if-number-most.false))
+
+pub returns-in_default-2-clause-value : goal.returns-in_default-2-clause-value
+returns-in_default-2-clause-value c =
+    let read = kept_of c.args.most _ c.get_one.result c.ranges.most.fits c.get_one.ensures.none c.get_one.ensures.value in
+    rw (sym (one_text-rows (found_of c.args.given.now) c.args.id.now)) (sym (kept_none c.args.most c.get_one.result _ c.in_default.is read))

@@ -1,0 +1,45 @@
+-- What the program's own form of a command asks for, and when it finds none.
+use Rattle.std.specs.Prelude.{◌≡◌, ℕ, ◌≤◌, ⊤, false, List}
+use Rattle.clap.specs.declared.error.kind.ErrorKind.{ErrorKind}
+use Rattle.clap.specs.declared.error.kind.ErrorKind.TheVariants as kind
+use Rattle.report.specs.declared.fault.Fault.{Fault}
+use Rattle.report.specs.declared.fault.Fault.TheVariants.{Words, Memory}
+use Rattle.uc_check.specs.Arguments.{is_taken}
+use Rattle.uc_check.specs.Command.{Solve, Check, Demo, Command, Solves, Checks, Demos}
+use Rattle.uc_check.specs.declared.command.Solve.{Solve as SolveWords}
+use Rattle.uc_check.specs.declared.command.Check.{Check as CheckWords}
+use Rattle.uc_check.specs.declared.command.Demo.{Demo as DemoWords}
+use Rattle.uc_check.specs.declared.command.Command.{Command as CommandWords}
+use Rattle.uc_check.specs.declared.command.Command.TheVariants as forms
+
+abbrev pub solve_asked : SolveWords → Solve
+solve_asked solve =
+    record { instance = solve.instance.now; certificate = solve.certificate.now; units = solve.units; gap = solve.gap; exact = solve.exact }
+
+abbrev pub check_asked : CheckWords → Check
+check_asked check = record { instance = check.instance.now; certificate = check.certificate.now }
+
+abbrev pub demo_asked : DemoWords → Demo
+demo_asked demo = record { seed = demo.seed }
+
+abbrev pub command_asked : CommandWords → Command
+command_asked (forms.Solve solve) = Solves (solve_asked solve)
+command_asked (forms.Check check) = Checks (check_asked check)
+command_asked (forms.Demo demo) = Demos (demo_asked demo)
+
+-- the budget that `solve` is asked is at most a million evaluations, and the gap at most the whole of a cost
+abbrev pub HasNumbers : CommandWords → Type 0
+HasNumbers (forms.Solve solve) = (solve.units ≤ 1000000) × (solve.gap ≤ 1000000)
+HasNumbers (forms.Check check) = ⊤
+HasNumbers (forms.Demo demo) = ⊤
+
+-- the fault of an error of the parser
+abbrev pub refusal_of : ErrorKind → Fault
+refusal_of kind.OutOfMemory = Memory
+refusal_of _ = Words
+
+-- the words aren't taken, or memory was refused
+abbrev pub IsRefusal : List (List ℕ) → Fault → Type 0
+IsRefusal words Words = is_taken words ≡ false
+IsRefusal words Memory = Unit {0}
+IsRefusal words _ = ⊥

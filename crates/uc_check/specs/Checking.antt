@@ -1,0 +1,179 @@
+-- What a run of `check` did, by how it ended. This project's own.
+use Rattle.std.specs.Prelude.{◌≡◌, ℕ, ◌^◌, ◌≤◌, ◌⊎◌, ⊤, true, false, List, Some, None, pos, ◌*ℤ◌, ◌≤ℤ◌, length}
+use Rattle.uc_model.specs.Cost.{cost}
+use Rattle.uc_model.specs.Rules.{Obeys}
+use Rattle.uc_model.specs.PrintedSchedule.{printed_denominator, printed_schedule}
+use Rattle.uc_model.specs.declared.instance.Instance.{Instance}
+use Rattle.uc_model.specs.declared.refusal.Refusal.{Refusal}
+use Rattle.dual_model.specs.Certificate.{Certificate, CertificateHolds, WrittenSchedule}
+use Rattle.dual_model.specs.Laws.{IsClaimTrue}
+use Rattle.outside.specs.declared.slot.Slot.{Slot}
+use Rattle.outside.specs.declared.slot.Slot.TheVariants as slot
+use Rattle.outside.specs.Counts.{HasRisen}
+use Rattle.outside.specs.ToldBytes.{Tells}
+use Rattle.outside.specs.Slots.{SlotState}
+use Rattle.cert_text.specs.CertificateText.{certificate_text, listing_of}
+use Rattle.cert_text.specs.TextConditions.{HasText}
+use Rattle.cert_text.specs.ReadFaults.{IsKindAt}
+use Rattle.cert_text.specs.declared.cert.CertKind.{CertKind}
+use Rattle.cert_text.specs.declared.cert.CertKind.TheVariants as kinds
+use Rattle.cert_check.specs.Answers.{cost_of, is_none}
+use Rattle.cert_check.specs.Refusals.{IsRefusedBy}
+use Rattle.report.specs.ClaimsReport.{claims_report}
+use Rattle.report.specs.FaultText as fault_text
+use Rattle.report.specs.declared.fault.Fault.{Fault}
+use Rattle.report.specs.declared.fault.Fault.TheVariants.{Read, Write, Memory, Long, Line, Code}
+use Rattle.uc_check.specs.Outside.{Outside}
+use Rattle.uc_check.specs.Command.{Check}
+use Rattle.uc_check.specs.Reading.{most_bytes, HasInstance, HasCause, IsLong, IsOpenedByNoOther, IsOnlyRead}
+use Rattle.uc_check.specs.Writing.{IsTold, FailsToTell, TellsFault}
+use Rattle.uc_check.specs.declared.ending.End.{End}
+
+-- the most bytes of a certificate's file: 64 TiB
+abbrev pub most_certificate_bytes : ℕ
+most_certificate_bytes = 2 ^ 46
+
+-- ---- the certificate in the file
+
+-- the bytes are the text of the certificate
+pub record IsCertificateText (bytes : List ℕ) (certificate : Certificate) : Type 0 where
+  pub conditions : HasText (listing_of certificate)
+  pub text : bytes ≡ certificate_text certificate
+
+-- the file's bytes, where they are told, are at most as many as are read, and the text of the certificate
+pub record HasCertificate (file : SlotState) (certificate : Certificate) : Type 0 where
+  pub bytes : List ℕ
+  pub told : Tells file.left bytes
+  pub few : length bytes ≤ most_certificate_bytes
+  pub is : IsCertificateText bytes certificate
+
+-- the schedule that is written obeys, and costs at most what is written
+pub record IsScheduleTrue (instance : Instance) (written : WrittenSchedule) : Type 0 where
+  pub obeys :
+      let q = printed_denominator instance written.printed in
+      Obeys instance q (printed_schedule instance written.printed q)
+  pub costs :
+      let q = printed_denominator instance written.printed in
+      cost instance q (printed_schedule instance written.printed q) ≤ℤ (pos q *ℤ written.cost)
+
+-- the certificate in the one file holds for the instance in the other, and so what it claims is true
+pub record IsVerified (files : Slot → SlotState) (certificate : Certificate) : Type 0 where
+  pub instance : Instance
+  pub rounded : ℕ
+  pub read : HasInstance false (files slot.Instance) instance rounded
+  pub is : HasCertificate (files slot.CertIn) certificate
+  pub holds : CertificateHolds instance certificate
+  pub claim : IsClaimTrue instance certificate.bound
+  pub schedule : (written : WrittenSchedule) → certificate.schedule ≡ Some written → IsScheduleTrue instance written
+
+-- the report of what the certificate claims
+abbrev pub text_of_claims : Certificate → List ℕ
+text_of_claims certificate = claims_report (cost_of certificate.schedule) certificate.bound (is_none certificate.bound)
+
+-- ---- faults
+
+-- the number that the line of a fault has for its kind
+abbrev pub kind_number : CertKind → ℕ
+kind_number kinds.Form = 1
+kind_number kinds.Cut = 2
+kind_number kinds.Tail = 3
+
+-- the bytes are no certificate's text, and the line is the first at fault
+pub record IsFaultyAt (bytes : List ℕ) (line kind : ℕ) : Type 0 where
+  pub none : (certificate : Certificate) → ¬ IsCertificateText bytes certificate
+  pub what : CertKind
+  pub is_kind : kind ≡ kind_number what
+  pub first : IsKindAt bytes line what
+
+-- the same of the bytes of the file, where they are told, of which there are no more than are read, and reading them
+-- met no fault
+pub record HasFaultyLine (old new : SlotState) (line kind : ℕ) : Type 0 where
+  pub bytes : List ℕ
+  pub told : Tells old.left bytes
+  pub few : length bytes ≤ most_certificate_bytes
+  pub faulty : IsFaultyAt bytes line kind
+  pub calm : new.faults ≡ old.faults
+
+-- the certificate in the file doesn't hold for the instance, for which it is refused by the code, and reading it met
+-- no fault
+pub record HasRefusedCertificate (instance : Instance) (old new : SlotState) (code : Refusal) : Type 0 where
+  pub certificate : Certificate
+  pub is : HasCertificate old certificate
+  pub refused : IsRefusedBy instance certificate code
+  pub fails : ¬ CertificateHolds instance certificate
+  pub calm : new.faults ≡ old.faults
+
+-- the cause of a fault that comes of the certificate's file, by the file before and after
+abbrev pub HasCertificateCause : Instance → SlotState → SlotState → Fault → Type 0
+HasCertificateCause instance old new (Read slot.CertIn) = HasRisen old.faults new.faults
+HasCertificateCause instance old new Memory = ⊤
+HasCertificateCause instance old new (Long slot.CertIn) = IsLong most_certificate_bytes old new
+HasCertificateCause instance old new (Line line kind) = HasFaultyLine old new line kind
+HasCertificateCause instance old new (Code code) = HasRefusedCertificate instance old new code
+HasCertificateCause instance old new _ = ⊥
+
+-- a fault of the instance's file ended the run before the certificate's was opened
+pub record IsInstanceFault (before after : Outside) (fault : Fault) : Type 0 where
+  pub cause : HasCause false (before.files slot.Instance) (after.files slot.Instance) fault
+  pub untouched : after.files slot.CertIn ≡ before.files slot.CertIn
+
+-- the instance was read, and a fault of the certificate ended the run
+pub record IsCertificateFault (before after : Outside) (fault : Fault) : Type 0 where
+  pub instance : Instance
+  pub rounded : ℕ
+  pub read : HasInstance false (before.files slot.Instance) instance rounded
+  pub calm : (after.files slot.Instance).faults ≡ (before.files slot.Instance).faults
+  pub cause : HasCertificateCause instance (before.files slot.CertIn) (after.files slot.CertIn) fault
+
+-- a fault ended the run before anything was written
+pub record IsCheckStopped (before after : Outside) (fault : Fault) : Type 0 where
+  pub cause : IsInstanceFault before after fault ⊎ IsCertificateFault before after fault
+  pub out : after.out ≡ before.out
+
+-- the certificate holds, and the report could not be written
+pub record IsCheckUntold (before after : Outside) : Type 0 where
+  pub certificate : Certificate
+  pub verified : IsVerified before.files certificate
+  pub report : FailsToTell (text_of_claims certificate) before.out after.out
+
+-- how a run of `check` ended with a fault
+abbrev pub IsCheckFailure : Outside → Outside → Fault → Type 0
+IsCheckFailure before after (Write true) = IsCheckUntold before after
+IsCheckFailure before after fault = IsCheckStopped before after fault
+
+-- ---- the run
+
+-- each slot that isn't unopened was opened by its name in the words, instance and certificate are only read, and no
+-- certificate is written
+pub record KeepsToInput (asked : Check) (before after : Outside) : Type 0 where
+  pub instance : IsOpenedByNoOther asked.instance (before.files slot.Instance) (after.files slot.Instance)
+  pub instance_read : IsOnlyRead most_bytes (before.files slot.Instance) (after.files slot.Instance)
+  pub certificate : IsOpenedByNoOther asked.certificate (before.files slot.CertIn) (after.files slot.CertIn)
+  pub certificate_read : IsOnlyRead most_certificate_bytes (before.files slot.CertIn) (after.files slot.CertIn)
+  pub other : after.files slot.CertOut ≡ before.files slot.CertOut
+
+-- the certificate holds, its claims are told, and no fault is
+pub record IsAcceptance (before after : Outside) : Type 0 where
+  pub certificate : Certificate
+  pub verified : IsVerified before.files certificate
+  pub told : IsTold (text_of_claims certificate) before.out after.out
+  pub calm : (s : Slot) → (after.files s).faults ≡ (before.files s).faults
+
+-- the run accepted the certificate
+pub record IsAccepting (before after : Outside) (end : End) : Type 0 where
+  pub code : end.code ≡ 0
+  pub done : IsAcceptance before after
+  pub silent : after.err ≡ before.err
+
+-- the run met a fault, which has its cause, and told it
+pub record IsCheckFaulty (before after : Outside) (end : End) : Type 0 where
+  pub fault : Fault
+  pub code : end.code ≡ fault_text.status_of fault
+  pub failure : IsCheckFailure before after fault
+  pub told : TellsFault fault before.err after.err
+
+-- a run of `check`
+pub record IsCheckRun (asked : Check) (before after : Outside) (end : End) : Type 0 where
+  pub nothing : end.found ≡ None
+  pub files : KeepsToInput asked before after
+  pub ended : IsAccepting before after end ⊎ IsCheckFaulty before after end

@@ -1,0 +1,73 @@
+-- What the words of the command line ask for. This project's own commands.
+use Rattle.std.specs.Prelude.{ℕ, Bool, false, List, [], Option, Some, None, codes, unwrap_or, option_and_then, if◌then◌else◌}
+use Rattle.std.specs.Option.{option_map_or}
+use Rattle.std.specs.Str.{bytes_eq}
+use Rattle.std.specs.Str.Parse.{digits_value, without_leading_plus}
+use Rattle.clap.specs.ValueTests.{is_unsigned_in}
+use Rattle.clap.specs.Words.{Row, Text, first_of, one_of, subcommand_of}
+use Rattle.uc_check.specs.Arguments.{program, is_taken}
+
+-- what `solve` is asked: the instance's file, the certificate's, the budget of evaluations, the gap in parts per million of a cost
+-- at which a search is closed, and whether a rounded number is refused
+pub record Solve : Type 0 where
+  pub instance : List ℕ
+  pub certificate : List ℕ
+  pub units : ℕ
+  pub gap : ℕ
+  pub exact : Bool
+
+-- what `check` is asked: the instance's file, and the certificate's
+pub record Check : Type 0 where
+  pub instance : List ℕ
+  pub certificate : List ℕ
+
+-- what `demo` is asked: the seed
+pub record Demo : Type 0 where
+  pub seed : ℕ
+
+-- what the program does
+pub data Command : Type 0 where
+  Solves : Solve → Command
+  Checks : Check → Command
+  Demos : Demo → Command
+
+-- the value of an argument that has to be given, and so is
+abbrev pub value_of : Text → List Row → List ℕ
+value_of id rows = unwrap_or (first_of id rows) []
+
+-- whether a switch is given
+abbrev pub is_on : Text → List Row → Bool
+is_on id rows = option_map_or (λ text. bytes_eq text (codes "true")) (first_of id rows) false
+
+-- the whole number that a text writes, where it is at most this, as each one is that the parser lets through; else 0
+abbrev pub whole_up_to : ℕ → Text → ℕ
+whole_up_to most text = if is_unsigned_in 0 most text then digits_value 10 (without_leading_plus text) else 0
+
+abbrev pub number_of : ℕ → Text → List Row → ℕ
+number_of most id rows = option_map_or (whole_up_to most) (one_of id rows) 0
+
+abbrev pub solve_of : List Row → Solve
+solve_of rows = record {
+  instance = value_of (codes "instance") rows;
+  certificate = value_of (codes "cert") rows;
+  units = number_of 1000000 (codes "units") rows;
+  gap = number_of 1000000 (codes "gap") rows;
+  exact = is_on (codes "exact") rows;
+}
+
+abbrev pub check_of : List Row → Check
+check_of rows = record { instance = value_of (codes "instance") rows; certificate = value_of (codes "certificate") rows }
+
+abbrev pub demo_of : List Row → Demo
+demo_of rows = record { seed = number_of 4294967295 (codes "seed") rows }
+
+-- the command of a name, with what was found for its arguments
+abbrev pub named : Text × List Row → Option Command
+named given =
+    if bytes_eq given.0 (codes "solve") then Some (Solves (solve_of given.1))
+    else (if bytes_eq given.0 (codes "check") then Some (Checks (check_of given.1))
+    else (if bytes_eq given.0 (codes "demo") then Some (Demos (demo_of given.1)) else None))
+
+-- the command that the words ask for, where they are taken: then there is one
+unfoldable pub command_of : List Text → Option Command
+command_of words = if is_taken words then option_and_then named (subcommand_of program words) else None

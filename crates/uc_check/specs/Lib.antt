@@ -1,0 +1,8 @@
+pub mod Arguments
+pub mod Command
+pub mod Asked
+pub mod Outside
+pub mod Reading
+pub mod Writing
+pub mod Checking
+pub mod inside

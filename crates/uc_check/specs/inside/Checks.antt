@@ -1,0 +1,47 @@
+-- What the steps of `check` know of the certificate, and of what it claims.
+use Rattle.std.specs.Prelude.{◌≡◌, ℕ, ◌≤◌, List, length}
+use Rattle.uc_model.specs.declared.instance.Instance.{Instance}
+use Rattle.dual_model.specs.Certificate.{Certificate, CertificateHolds}
+use Rattle.outside.specs.declared.slot.Slot.{Slot}
+use Rattle.outside.specs.ToldBytes.{Tells}
+use Rattle.outside.specs.Slots.{SlotState}
+use Rattle.cert_text.specs.CertificateText.{listing_of}
+use Rattle.cert_text.specs.Reading.{IsTextOf, listing_read}
+use Rattle.cert_text.specs.declared.cert.Cert.{Cert}
+use Rattle.cert_check.specs.Answers.{AreClaimsOf}
+use Rattle.cert_check.specs.Refusals.{IsRefusedBy}
+use Rattle.cert_check.specs.declared.claims.Claims.{Claims}
+use Rattle.report.specs.declared.fault.Fault.{Fault}
+use Rattle.report.specs.declared.fault.Fault.TheVariants.{Line, Memory, Code}
+use Rattle.uc_check.specs.Checking.{most_certificate_bytes, HasCertificateCause, IsFaultyAt, IsVerified}
+
+-- the file's bytes, where they are told, are at most as many as are read, and the text of what was read
+pub record HasCertificateText (file : SlotState) (cert : Cert) : Type 0 where
+  pub bytes : List ℕ
+  pub told : Tells file.left bytes
+  pub few : length bytes ≤ most_certificate_bytes
+  pub text : IsTextOf bytes cert
+
+-- why bytes were not read
+abbrev pub IsRefusedText : List ℕ → Fault → Type 0
+IsRefusedText bytes (Line line kind) = IsFaultyAt bytes line kind
+IsRefusedText bytes Memory = Unit {0}
+IsRefusedText bytes _ = ⊥
+
+-- a fault of reading the certificate's file has its cause, whatever the instance
+abbrev pub HasReadCause : SlotState → SlotState → Fault → Type 0
+HasReadCause old new fault = (instance : Instance) → HasCertificateCause instance old new fault
+
+-- why a certificate was not accepted
+abbrev pub IsRefusedCert : Instance → Cert → Fault → Type 0
+IsRefusedCert instance cert (Code code) =
+    (c : Certificate) → listing_of c ≡ listing_read cert → IsRefusedBy instance c code × (¬ CertificateHolds instance c)
+IsRefusedCert instance cert Memory = Unit {0}
+IsRefusedCert instance cert _ = ⊥
+
+-- the claims are those of the certificate in the file, which holds; and reading it met no fault
+pub record AreVerifiedClaims (before after : Slot → SlotState) (claims : Claims) : Type 0 where
+  pub certificate : Certificate
+  pub verified : IsVerified before certificate
+  pub claimed : AreClaimsOf certificate claims
+  pub calm : (s : Slot) → (after s).faults ≡ (before s).faults

@@ -1,0 +1,125 @@
+//! The commands of the program with their arguments, for the command-line parser.
+
+ghost use Rattle.std.specs.Prelude.{◌≡◌, IfOk, true, false, []};
+ghost use Rattle.clap.specs.Words.{app_of, rule_of, shape_of};
+ghost use Rattle.clap.specs.declared.builder.command.Command.TheViews.{out-Command as fields_of};
+ghost use Rattle.uc_check.specs.Arguments.{place as place_rule, needed_option as needed_rule, units_option as units_rule, one_alone as one_rule, gap_option as gap_rule, switch as switch_rule, seed_place as seed_rule, solve_shape, check_shape, demo_shape, program as program_app};
+
+use clap::{Arg, ArgAction, Command, value_parser};
+use std::alloc::{AllocError, Global};
+
+// A value that is told by its place, and has to be given.
+fn place<'a>(alloc: Global, id: &'a str) -> Arg<'a>
+    ensures rule { rule_of result ≡ place_rule id.entry.now }
+    ensures local { result.global ≡ false }
+{
+    Arg::new(alloc, id).required(true)
+}
+
+// `--NAME VALUE`, which has to be given.
+fn needed_option<'a>(alloc: Global, name: &'a str) -> Arg<'a>
+    ensures rule { rule_of result ≡ needed_rule name.entry.now }
+    ensures local { result.global ≡ false }
+{
+    Arg::new(alloc, name).long(name).required(true)
+}
+
+// `--NAME N`, where N is 1 alone, which it is also where the option isn't given.
+fn one_alone<'a>(alloc: Global, name: &'a str) -> Arg<'a>
+    ensures rule { rule_of result ≡ one_rule name.entry.now }
+    ensures local { result.global ≡ false }
+{
+    Arg::new(alloc, name)
+        .long(name)
+        .value_parser(value_parser!(u32).range(1..=1))
+        .default_value("1")
+}
+
+// `--units N`, a whole number from 1 to a million, which is 1000 where the option isn't given.
+fn units_option<'a>(alloc: Global) -> Arg<'a>
+    ensures rule { rule_of result ≡ units_rule }
+    ensures local { result.global ≡ false }
+{
+    Arg::new(alloc, "units")
+        .long("units")
+        .value_parser(value_parser!(u32).range(1..=1_000_000))
+        .default_value("1000")
+}
+
+// `--gap PPM`, a whole number from 0 to a million, which is 1000 where the option isn't given.
+fn gap_option<'a>(alloc: Global) -> Arg<'a>
+    ensures rule { rule_of result ≡ gap_rule }
+    ensures local { result.global ≡ false }
+{
+    Arg::new(alloc, "gap")
+        .long("gap")
+        .value_parser(value_parser!(u32).range(0..=1_000_000))
+        .default_value("1000")
+}
+
+// `--NAME`.
+fn switch<'a>(alloc: Global, name: &'a str) -> Arg<'a>
+    ensures rule { rule_of result ≡ switch_rule name.entry.now }
+    ensures local { result.global ≡ false }
+{
+    Arg::new(alloc, name).long(name).action(ArgAction::SetTrue)
+}
+
+// A whole number from 0 that 32 bits hold, told by its place, which has to be given.
+fn seed_place<'a>(alloc: Global) -> Arg<'a>
+    ensures rule { rule_of result ≡ seed_rule }
+    ensures local { result.global ≡ false }
+{
+    Arg::new(alloc, "seed")
+        .required(true)
+        .value_parser(value_parser!(u32))
+}
+
+fn solve_command<'a>(alloc: Global) -> Result<Command<'a>, AllocError>
+    ensures shape { IfOk result (λ command. shape_of command ≡ solve_shape) }
+    ensures local { IfOk result (λ command. (fields_of command).has_globals ≡ false) }
+{
+    Command::new(alloc, "solve")
+        .arg(place(alloc, "instance"))?
+        .arg(needed_option(alloc, "cert"))?
+        .arg(units_option(alloc))?
+        .arg(one_alone(alloc, "workers"))?
+        .arg(gap_option(alloc))?
+        .arg(switch(alloc, "exact"))
+}
+
+fn check_command<'a>(alloc: Global) -> Result<Command<'a>, AllocError>
+    ensures shape { IfOk result (λ command. shape_of command ≡ check_shape) }
+    ensures local { IfOk result (λ command. (fields_of command).has_globals ≡ false) }
+{
+    Command::new(alloc, "check")
+        .arg(place(alloc, "instance"))?
+        .arg(place(alloc, "certificate"))
+}
+
+fn demo_command<'a>(alloc: Global) -> Result<Command<'a>, AllocError>
+    ensures shape { IfOk result (λ command. shape_of command ≡ demo_shape) }
+    ensures local { IfOk result (λ command. (fields_of command).has_globals ≡ false) }
+{
+    Command::new(alloc, "demo").arg(seed_place(alloc))
+}
+
+// A command has to be given, and help is none.
+fn bare_program<'a>(alloc: Global) -> Command<'a>
+    ensures app { app_of result ≡ record { top = record program_app.top { is_leaf = true }; subs = [] } }
+{
+    Command::new(alloc, "uc")
+        .subcommand_required(true)
+        .disable_help_flag(true)
+        .disable_help_subcommand(true)
+}
+
+/// The program with its commands, `solve`, `check` and `demo`.
+pub(crate) fn program<'a>(alloc: Global) -> Result<Command<'a>, AllocError>
+    ensures { IfOk result (λ command. app_of command ≡ program_app) }
+{
+    bare_program(alloc)
+        .subcommand(solve_command(alloc)?)?
+        .subcommand(check_command(alloc)?)?
+        .subcommand(demo_command(alloc)?)
+}

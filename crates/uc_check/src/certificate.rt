@@ -1,0 +1,80 @@
+//! Reading the certificate that is to be checked.
+
+ghost use Rattle.std.specs.Prelude.{◌≡◌, ◌≤◌, length, IfOk, IfErr};
+ghost use Rattle.outside.specs.declared.slot.Slot.TheVariants.{CertIn};
+ghost use Rattle.outside.specs.declared.slot.Stage.TheVariants.{Unopened};
+ghost use Rattle.outside.specs.ToldBytes.{Tells};
+ghost use Rattle.outside.specs.Slots.{SameBut};
+ghost use Rattle.cert_text.specs.Reading.{IsTextOf};
+ghost use Rattle.uc_check.specs.Reading.{IsOpenedByNoOther, IsOnlyRead};
+ghost use Rattle.uc_check.specs.Checking.{most_certificate_bytes, kind_number};
+ghost use Rattle.uc_check.specs.inside.Checks.{HasCertificateText, HasReadCause, IsRefusedText};
+
+use cert_text::{Cert, CertFault, CertKind, read};
+use outside::{Files, Slot, SlurpFault, slurp};
+use report::Fault;
+use std::alloc::Global;
+
+/// The most bytes of a certificate's file.
+const CERTIFICATE_LIMIT: u64 = 1 << 46;
+
+fn certificate_bytes<F: Files>(alloc: Global, files: &mut F, name: &str) -> Result<Vec<u8>, Fault>
+    requires { (F.state files.old Slot.CertIn).stage ≡ Unopened }
+    ensures whole { IfOk result (λ bytes. Tells (F.state files.old Slot.CertIn).left bytes.items) }
+    ensures few { IfOk result (λ bytes. length bytes.items ≤ most_certificate_bytes) }
+    ensures cause { IfErr result (HasReadCause (F.state files.old Slot.CertIn) (F.state files.new Slot.CertIn)) }
+    ensures calm { IfOk result (λ _. (F.state files.new Slot.CertIn).faults ≡ (F.state files.old Slot.CertIn).faults) }
+    ensures named { IsOpenedByNoOther name.now (F.state files.old Slot.CertIn) (F.state files.new Slot.CertIn) }
+    ensures only_read { IsOnlyRead most_certificate_bytes (F.state files.old Slot.CertIn) (F.state files.new Slot.CertIn) }
+    ensures others { SameBut CertIn (F.state files.old) (F.state files.new) }
+{
+    slurp(alloc, files, Slot::CertIn, name, CERTIFICATE_LIMIT).map_err(|fault| match fault {
+        SlurpFault::Failed => Fault::Read(Slot::CertIn),
+        SlurpFault::TooLong => Fault::Long(Slot::CertIn),
+        SlurpFault::NoMemory => Fault::Memory,
+    })
+}
+
+// The number of a kind in the line of the fault.
+fn number_of(kind: CertKind) -> u8
+    ensures { result ≡ kind_number kind }
+{
+    match kind {
+        CertKind::Form => 1,
+        CertKind::Cut => 2,
+        CertKind::Tail => 3,
+    }
+}
+
+// The certificate of the bytes.
+fn certificate_of(alloc: Global, bytes: &[u8]) -> Result<Cert, Fault>
+    ensures text { IfOk result (IsTextOf bytes.now) }
+    ensures refused { IfErr result (IsRefusedText bytes.now) }
+{
+    match read(alloc, bytes) {
+        Ok(cert) => Ok(cert),
+        Err(CertFault::At { line, kind }) => Err(Fault::Line {
+            line,
+            kind: number_of(kind),
+        }),
+        Err(CertFault::NoMemory) => Err(Fault::Memory),
+    }
+}
+
+/// The certificate in the file of this name.
+pub(crate) fn read_certificate<F: Files>(
+    alloc: Global,
+    files: &mut F,
+    name: &str,
+) -> Result<Cert, Fault>
+    requires { (F.state files.old Slot.CertIn).stage ≡ Unopened }
+    ensures text { IfOk result (HasCertificateText (F.state files.old Slot.CertIn)) }
+    ensures cause { IfErr result (HasReadCause (F.state files.old Slot.CertIn) (F.state files.new Slot.CertIn)) }
+    ensures calm { IfOk result (λ _. (F.state files.new Slot.CertIn).faults ≡ (F.state files.old Slot.CertIn).faults) }
+    ensures named { IsOpenedByNoOther name.now (F.state files.old Slot.CertIn) (F.state files.new Slot.CertIn) }
+    ensures only_read { IsOnlyRead most_certificate_bytes (F.state files.old Slot.CertIn) (F.state files.new Slot.CertIn) }
+    ensures others { SameBut CertIn (F.state files.old) (F.state files.new) }
+{
+    let bytes = certificate_bytes(alloc, files, name)?;
+    certificate_of(alloc, &bytes)
+}

@@ -1,0 +1,166 @@
+//! What the words of the command line ask for.
+
+ghost use Rattle.std.specs.Prelude.{◌≡◌, ◌≤◌, map, string_bytes, true, IfOk, IfErr, IfSome, Some, option_map, option_and_then};
+ghost use Rattle.clap.specs.Words.{first_of, found_of, rows_of, kind_of, subcommand_rows_of};
+ghost use Rattle.uc_check.specs.Arguments.{is_taken};
+ghost use Rattle.uc_check.specs.Command.{named, command_of as command_of_words, value_of, is_on, number_of, solve_of as solve_of_rows, check_of as check_of_rows, demo_of as demo_of_rows};
+ghost use Rattle.uc_check.specs.Asked.{command_asked, solve_asked, check_asked, demo_asked, refusal_of, HasNumbers, IsRefusal};
+
+use crate::arguments::program;
+use clap::error::ErrorKind;
+use clap::{ArgMatches, Error};
+use report::Fault;
+use std::alloc::Global;
+
+/// The greatest number of an option: evaluations of a budget, and parts per million of a cost.
+const MOST: u32 = 1_000_000;
+
+/// The greatest seed.
+const MOST_SEED: u32 = 4_294_967_295;
+
+/// What `solve` is asked: the file of the instance, that of the certificate, the budget in evaluations, the gap at which a search is
+/// closed, in parts per million of a cost, and whether a rounded number is refused.
+#[derive(Clone, Copy, Debug)]
+pub struct Solve<'a> {
+    pub instance: &'a str,
+    pub certificate: &'a str,
+    pub units: u32,
+    pub gap: u32,
+    pub exact: bool,
+}
+
+/// What `check` is asked: the file of the instance, and that of the certificate.
+#[derive(Clone, Copy, Debug)]
+pub struct Check<'a> {
+    pub instance: &'a str,
+    pub certificate: &'a str,
+}
+
+/// What `demo` is asked: the seed.
+#[derive(Clone, Copy, Debug)]
+pub struct Demo {
+    pub seed: u32,
+}
+
+/// A command with its arguments.
+#[derive(Clone, Copy, Debug)]
+pub enum Command<'a> {
+    Solve(Solve<'a>),
+    Check(Check<'a>),
+    Demo(Demo),
+}
+
+// The value of an argument, where it has one.
+fn text<'a>(given: &ArgMatches<'a>, id: &str) -> Option<&'a str>
+    ensures { option_map (λ s. s.now) result ≡ first_of id.now (rows_of (found_of given.now)) }
+{
+    given.get_str(id)
+}
+
+// The value of an argument that has to be given.
+fn value<'a>(given: &ArgMatches<'a>, id: &str) -> &'a str
+    ensures { result.now ≡ value_of id.now (rows_of (found_of given.now)) }
+{
+    match text(given, id) {
+        Some(text) => text,
+        None => "",
+    }
+}
+
+// Whether a switch is given.
+fn is_given(given: &ArgMatches<'_>, id: &str) -> bool
+    ensures { result ≡ is_on id.now (rows_of (found_of given.now)) }
+{
+    match text(given, id) {
+        Some(text) => text == "true",
+        None => false,
+    }
+}
+
+// The number of an argument. The parser lets none through that is greater than `most`.
+fn number(given: &ArgMatches<'_>, id: &str, most: u32) -> u32
+    ensures value { result ≡ number_of most id.now (rows_of (found_of given.now)) }
+    ensures most { result ≤ most }
+{
+    match given.get_one::<u32>(id) {
+        Some(number) if number <= most => number,
+        _ => 0,
+    }
+}
+
+fn solve_of<'a>(given: &ArgMatches<'a>) -> Solve<'a>
+    ensures asked { solve_asked result ≡ solve_of_rows (rows_of (found_of given.now)) }
+    ensures numbers { (result.units ≤ MOST) × (result.gap ≤ MOST) }
+{
+    Solve {
+        instance: value(given, "instance"),
+        certificate: value(given, "cert"),
+        units: number(given, "units", MOST),
+        gap: number(given, "gap", MOST),
+        exact: is_given(given, "exact"),
+    }
+}
+
+fn check_of<'a>(given: &ArgMatches<'a>) -> Check<'a>
+    ensures { check_asked result ≡ check_of_rows (rows_of (found_of given.now)) }
+{
+    Check {
+        instance: value(given, "instance"),
+        certificate: value(given, "certificate"),
+    }
+}
+
+fn demo_of(given: &ArgMatches<'_>) -> Demo
+    ensures { demo_asked result ≡ demo_of_rows (rows_of (found_of given.now)) }
+{
+    Demo {
+        seed: number(given, "seed", MOST_SEED),
+    }
+}
+
+// The command that was found, with its arguments.
+fn command_in<'a>(matches: &ArgMatches<'a>) -> Option<Command<'a>>
+    ensures command { option_map command_asked result ≡ option_and_then named (subcommand_rows_of matches.now) }
+    ensures numbers { IfSome result HasNumbers }
+{
+    let (name, given) = matches.subcommand()?;
+    if name == "solve" {
+        Some(Command::Solve(solve_of(given)))
+    } else if name == "check" {
+        Some(Command::Check(check_of(given)))
+    } else if name == "demo" {
+        Some(Command::Demo(demo_of(given)))
+    } else {
+        None
+    }
+}
+
+// Words that aren't taken are told by one line for each command, whatever is wrong with them.
+fn refusal(error: &Error) -> Fault
+    ensures { result ≡ refusal_of (kind_of error.now) }
+{
+    match error.kind() {
+        ErrorKind::OutOfMemory => Fault::Memory,
+        _ => Fault::Words,
+    }
+}
+
+/// What the words ask for, of which the first is the program's name. `Words` comes exactly where the words aren't
+/// taken, and `Memory` only where memory is refused.
+pub fn command_of<'a>(alloc: Global, words: &'a [String]) -> Result<Command<'a>, Fault>
+    ensures taken { IfOk result (λ _. is_taken (map string_bytes words.now) ≡ true) }
+    ensures command { IfOk result (λ command. command_of_words (map string_bytes words.now) ≡ Some (command_asked command)) }
+    ensures numbers { IfOk result HasNumbers }
+    ensures refused { IfErr result (IsRefusal (map string_bytes words.now)) }
+{
+    let Ok(program) = program(alloc) else {
+        return Err(Fault::Memory);
+    };
+    match program.try_get_matches_from(words) {
+        Ok(matches) => match command_in(&matches) {
+            Some(command) => Ok(command),
+            None => Err(Fault::Words),
+        },
+        Err(error) => Err(refusal(&error)),
+    }
+}
