@@ -16,4 +16,6 @@ mod reports;
 #[cfg(test)]
 mod slots;
 #[cfg(test)]
+mod system_files;
+#[cfg(test)]
 mod trees;

@@ -1,9 +1,9 @@
 //! What is read up to a limit, a latch, and files and streams of the system.
 
-ghost use Rattle.std.specs.Prelude.{◌≡◌};
+ghost use Rattle.std.specs.Prelude.{◌≡◌, OnOk};
 ghost use Rattle.outside.specs.declared.slot.Slot.{Slot};
 ghost use Rattle.outside.specs.declared.slot.Slot.TheVariants.{CertOut};
-ghost use Rattle.outside.specs.declared.slot.Stage.TheVariants.{Unopened};
+ghost use Rattle.outside.specs.declared.slot.Stage.TheVariants.{Unopened, Open};
 
 use outside::{
     Call, Devices, Failed, FailingCall, FaultyFile, FaultySink, Files, Latch, Lent, Out, Pace,
@@ -12,13 +12,21 @@ use outside::{
 use std::fs;
 use std::test::Fail;
 
-/// Writes the bytes to the certificate's slot, and finishes it.
-fn save<F: Files>(files: &mut F, name: &str, bytes: &[u8]) -> Result<(), Failed>
+/// Opens the certificate's slot, and writes the bytes to it.
+pub(crate) fn begin<F: Files>(files: &mut F, name: &str, bytes: &[u8]) -> Result<(), Failed>
     requires { (F.state files.old Slot.CertOut).stage ≡ Unopened }
+    ensures { OnOk result ((F.state files.new Slot.CertOut).stage ≡ Open) }
 {
     files.open_slot(Slot::CertOut, name)?;
     let mut writer = SlotWriter::new(files, Slot::CertOut);
-    write_all(&mut writer, bytes)?;
+    write_all(&mut writer, bytes)
+}
+
+/// Writes the bytes to the certificate's slot, and finishes it.
+pub(crate) fn save<F: Files>(files: &mut F, name: &str, bytes: &[u8]) -> Result<(), Failed>
+    requires { (F.state files.old Slot.CertOut).stage ≡ Unopened }
+{
+    begin(files, name, bytes)?;
     files.finish(Slot::CertOut)
 }
 
