@@ -1,25 +1,17 @@
-//! Tests of the public calls of the model, its bounds and the walk.
+//! Tests of the numbers and values of the model, and of units that are drawn, beside all their patterns.
 #![tactic(auto)]
 
 #[cfg(test)]
-mod cell_terms;
+mod cells;
 #[cfg(test)]
-mod curves;
+mod drawn;
+#[cfg(test)]
+mod draws;
 #[cfg(test)]
 mod enumeration;
 #[cfg(test)]
-mod fixtures;
-#[cfg(test)]
-mod leaves;
-#[cfg(test)]
-mod most_on;
-#[cfg(test)]
-mod multipliers;
-#[cfg(test)]
 mod numbers;
 #[cfg(test)]
-mod starts;
-#[cfg(test)]
-mod unit_values;
+mod paths;
 #[cfg(test)]
 mod values;

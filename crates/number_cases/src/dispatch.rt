@@ -1,0 +1,85 @@
+//! The dispatch of commitments.
+
+ghost use Rattle.uc_model.specs.Limits.{IsLawfulInstance};
+
+use crate::commitment::patterns;
+use dispatch_repair::{DispatchFault, MostFault, dispatch, most_on};
+use schedule_check::check;
+use std::alloc::{AllocError, Global};
+use uc_model::{Instance, NoMemory, Printed, Stuck};
+
+/// What a commitment's dispatch costs and gives, or where and why it is stuck and what it gives before.
+pub(crate) fn tell_dispatch(
+    alloc: Global,
+    instance: &Instance,
+    words: &str,
+) -> Result<String, NoMemory>
+    requires { IsLawfulInstance instance.now }
+{
+    let patterns = patterns(alloc, words)?;
+    if patterns.len() != instance.thermal.as_slice().len() {
+        return Ok(String::from_str(alloc, "a pattern for each unit\n")?);
+    }
+    match dispatch(alloc, instance, &patterns) {
+        Ok(printed) => {
+            let mut text = match check(instance, &printed) {
+                Ok(cost) => format!(in alloc; "cost {cost}\n")?,
+                Err(broken) => format!(in alloc; "rule {} is broken\n", broken.rule)?,
+            };
+            put_schedule(&mut text, &printed)?;
+            Ok(text)
+        }
+        Err(DispatchFault::Stuck(stuck)) => Ok(stuck_text(alloc, &stuck)?),
+        Err(DispatchFault::NoMemory) => Err(NoMemory),
+    }
+}
+
+/// The unit's patterns with the most on periods, as their first periods' bits in a number, or the first unit without one.
+pub(crate) fn tell_most_on(alloc: Global, instance: &Instance) -> Result<String, NoMemory>
+    requires { IsLawfulInstance instance.now }
+{
+    match most_on(alloc, instance) {
+        Ok(patterns) => {
+            let mut text = String::from_str(alloc, "patterns")?;
+            for pattern in &patterns {
+                write!(text, " {}", pattern.low)?;
+            }
+            text.push_str("\n")?;
+            Ok(text)
+        }
+        Err(MostFault::Empty(g)) => Ok(format!(in alloc; "empty {}\n", g.saturating_add(1))?),
+        Err(MostFault::NoMemory) => Err(NoMemory),
+    }
+}
+
+// Where and why a dispatch is stuck, and what it gives before.
+fn stuck_text(alloc: Global, stuck: &Stuck) -> Result<String, AllocError> {
+    let period = stuck.period.saturating_add(1);
+    let mut text = format!(in alloc; "stuck in period {period}: {:?}\n", stuck.why)?;
+    put_schedule(&mut text, &stuck.prefix)?;
+    Ok(text)
+}
+
+// The rows of a schedule: output above the minimum, reserve and start category of each thermal unit in each period, and the
+// output of each renewable one.
+fn put_schedule(text: &mut String, printed: &Printed) -> Result<(), AllocError> {
+    for row in printed.thermal.as_slice() {
+        text.push_str("thermal")?;
+        for cell in row.as_slice() {
+            if cell.on {
+                write!(text, " {}:{}:{}", cell.p, cell.r, cell.category)?;
+            } else {
+                text.push_str(" off")?;
+            }
+        }
+        text.push_str("\n")?;
+    }
+    for row in printed.renewable.as_slice() {
+        text.push_str("renewable")?;
+        for output in row.as_slice() {
+            write!(text, " {output}")?;
+        }
+        text.push_str("\n")?;
+    }
+    Ok(())
+}

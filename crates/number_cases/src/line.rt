@@ -1,0 +1,78 @@
+//! The lines of the cases.
+
+ghost use Rattle.uc_model.specs.Limits.{IsLawfulInstance};
+
+use crate::ascent::{tell_ascents, tell_step};
+use crate::demo::tell_demo;
+use crate::dispatch::{tell_dispatch, tell_most_on};
+use crate::leaf::tell_leaf;
+use crate::multipliers::tell_multipliers;
+use crate::node::tell_node;
+use crate::repairs::tell_repair;
+use crate::system::{changed, unit_changed};
+use crate::table::{tell_marginal, tell_rays, tell_zero};
+use crate::unit::tell_unit;
+use instance::{ReadFault, read_instance};
+use std::alloc::Global;
+use std::rt::Files;
+use std::{fs, io};
+use uc_model::{Instance, NoMemory};
+
+/// Does what a line says: it begins a system, changes its text, or asks of it.
+pub(crate) fn follow<R: Print + Files + AllocGlobal>(
+    rt: &R,
+    system: &mut String,
+    line: &str,
+) -> io::Result<()> {
+    let alloc = rt.alloc();
+    let (word, rest) = line.split_once(' ').unwrap_or((line, ""));
+    let text = match word {
+        "" | "#" | "case" => return Ok(()),
+        "system" => Some(fs::read_to_string(rt, rest)?),
+        "change" => changed(alloc, system.as_str(), rest)?,
+        "unit" => unit_changed(alloc, system.as_str(), rest)?,
+        _ => {
+            return match answer(alloc, system.as_str(), word, rest) {
+                Ok(text) => rt.print(text.as_str()),
+                Err(NoMemory) => rt.println("no memory"),
+            };
+        }
+    };
+    match text {
+        Some(text) => *system = text,
+        None => rt.println("no such text")?,
+    }
+    Ok(())
+}
+
+// What is answered to a question.
+fn answer(alloc: Global, system: &str, word: &str, rest: &str) -> Result<String, NoMemory> {
+    if word == "demo" {
+        return tell_demo(alloc, rest);
+    }
+    match read_instance(alloc, system.as_bytes(), false) {
+        Ok((instance, _)) => answer_of(alloc, &instance, word, rest),
+        Err(ReadFault::NoMemory) => Err(NoMemory),
+        Err(_) => Ok(String::from_str(alloc, "no instance\n")?),
+    }
+}
+
+// What is answered of an instance.
+fn answer_of(alloc: Global, instance: &Instance, word: &str, rest: &str) -> Result<String, NoMemory>
+    requires { IsLawfulInstance instance.now }
+{
+    match word {
+        "dispatch" => tell_dispatch(alloc, instance, rest),
+        "zero" => tell_zero(alloc, instance),
+        "rays" => tell_rays(alloc, instance),
+        "marginal" => tell_marginal(alloc, instance, rest),
+        "node" => tell_node(alloc, instance, rest),
+        "step" => tell_step(alloc, instance, rest),
+        "ascents" => tell_ascents(alloc, instance, rest),
+        "repair" => tell_repair(alloc, instance, rest),
+        "most-on" => tell_most_on(alloc, instance),
+        "leaf" => tell_leaf(alloc, instance, rest),
+        "multipliers" => tell_multipliers(alloc, instance),
+        _ => tell_unit(alloc, instance, word, rest),
+    }
+}

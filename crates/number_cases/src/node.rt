@@ -1,0 +1,130 @@
+//! Nodes, and their values.
+
+ghost use Rattle.std.specs.Prelude.{◌↔◌, IfOk, IsTrue};
+ghost use Rattle.uc_model.specs.declared.instance.Instance.{Instance};
+ghost use Rattle.uc_model.specs.Limits.{IsLawfulInstance};
+ghost use Rattle.dual_model.specs.Fixings.{IsNodeOf};
+ghost use Rattle.dual_model.specs.Prices.{HasSizeOf, IsLawfulTable, IsWithinLimits};
+
+use crate::leaf::root_value;
+use dual_model::{Fixing, Node, Table};
+use dual_value::{ValueFault, Valued, value};
+use std::alloc::{AllocError, Global};
+use uc_model::{Instance, List, NoMemory};
+use unit_path::Scratch;
+
+/// The node that decides nothing.
+pub(crate) fn root(alloc: Global) -> Node
+    ensures { (instance : Instance) → IsNodeOf instance result }
+{
+    Node {
+        fixings: List::from_vec(Vec::new(alloc)),
+    }
+}
+
+/// The total value of the root at the table, and whether the checker has another.
+pub(crate) fn root_total(
+    alloc: Global,
+    instance: &Instance,
+    table: &Table,
+) -> Result<String, NoMemory>
+    requires lawful { IsLawfulInstance instance.now }
+    requires table { IsLawfulTable instance.now table.now }
+{
+    let mut scratch = Scratch::new(alloc, instance.periods as usize)?;
+    match value(alloc, &mut scratch, instance, &root(alloc), table) {
+        Ok(valued) if root_value(alloc, instance, table)? == Some(valued.total) => {
+            Ok(format!(in alloc; "value {}\n", valued.total)?)
+        }
+        Ok(_) => Ok(String::from_str(alloc, "the checker has another value\n")?),
+        Err(fault) => fault_text(alloc, fault),
+    }
+}
+
+// Which unit has no pattern.
+fn fault_text(alloc: Global, fault: ValueFault) -> Result<String, NoMemory> {
+    match fault {
+        ValueFault::Empty(g) => { Ok(format!(in alloc; "empty {}\n", g.saturating_add(1))?) }
+        ValueFault::NoMemory => Err(NoMemory),
+    }
+}
+
+/// The value of a node at a price of demand, as `PRICE DECISION..` says, with the part of each unit and the first periods
+/// of a pattern of it.
+pub(crate) fn tell_node(alloc: Global, instance: &Instance, words: &str) -> Result<String, NoMemory>
+    requires { IsLawfulInstance instance.now }
+{
+    let (price, decisions) = words.split_once(' ').unwrap_or((words, ""));
+    let price = price.parse::<i32>().unwrap_or(0);
+    let node = node(alloc, decisions)?;
+    if !is_node_of(instance, &node) {
+        return Ok(String::from_str(alloc, "no such cell\n")?);
+    }
+    let table = table(alloc, instance, price, 0)?;
+    let mut scratch = Scratch::new(alloc, instance.periods as usize)?;
+    match value(alloc, &mut scratch, instance, &node, &table) {
+        Ok(valued) => Ok(valued_text(alloc, &valued)?),
+        Err(fault) => fault_text(alloc, fault),
+    }
+}
+
+// The total, and a line for each unit.
+fn valued_text(alloc: Global, valued: &Valued) -> Result<String, AllocError> {
+    let mut text = format!(in alloc; "value {}\n", valued.total)?;
+    let patterns = valued.patterns.as_slice();
+    for (part, pattern) in valued.parts.as_slice().iter().zip(patterns) {
+        writeln!(text, "part {part} {}", pattern.low)?;
+    }
+    Ok(text)
+}
+
+/// The table with these prices of demand and of reserve in each period, at the scale of a million.
+pub(crate) fn table(
+    alloc: Global,
+    instance: &Instance,
+    demand: i32,
+    reserve: i32,
+) -> Result<Table, NoMemory>
+    requires lawful { IsLawfulInstance instance.now }
+    ensures size { IfOk result (HasSizeOf instance.now) }
+    ensures limits { IfOk result IsWithinLimits }
+{
+    let periods = instance.periods as usize;
+    let demand = vec![in alloc; i64::from(demand); periods]?;
+    let reserve = vec![in alloc; i64::from(reserve); periods]?;
+    let units = instance.thermal.as_slice().len() as u32;
+    Table::new(alloc, units, 1_000_000, &demand, &reserve, &[])
+}
+
+// The node of decisions, each `UNIT:PERIOD:on` or `off`.
+fn node(alloc: Global, words: &str) -> Result<Node, AllocError> {
+    let mut fixings = Vec::new(alloc);
+    for word in words.split(' ') {
+        if let Some(fixing) = decision(word) {
+            fixings.push(fixing)?;
+        }
+    }
+    Ok(Node {
+        fixings: List::from_vec(fixings),
+    })
+}
+
+// The decision of a word.
+fn decision(word: &str) -> Option<Fixing> {
+    let (unit, rest) = word.split_once(':')?;
+    let (period, state) = rest.split_once(':')?;
+    Some(Fixing {
+        g: unit.parse::<u32>().ok()?.checked_sub(1)?,
+        t: period.parse::<u32>().ok()?.checked_sub(1)?,
+        on: state == "on",
+    })
+}
+
+// Whether the decisions are on cells of the instance.
+fn is_node_of(instance: &Instance, node: &Node) -> bool
+    ensures { IsTrue result ↔ IsNodeOf instance.now node.now }
+{
+    let units = instance.thermal.as_slice().len();
+    node.fixings.as_slice().iter().all(|fixing| (fixing.g as usize) < units
+        && fixing.t < instance.periods)
+}

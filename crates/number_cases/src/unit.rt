@@ -1,0 +1,142 @@
+//! The first unit of a system: its curve, terms of its cells, and what starts cost.
+
+ghost use Rattle.std.specs.Prelude.{◌≡◌, ◌<◌};
+ghost use Rattle.uc_model.specs.Limits.{IsLawfulInstance, IsLawfulThermal};
+ghost use Rattle.uc_model.specs.Schedule.{thermal_count, thermal_unit};
+
+use crate::commitment::pattern;
+use crate::intervals::tell_intervals;
+use cost_curves::Curve;
+use period_term::term;
+use start_costs::{least_allowed, sigma};
+use std::alloc::{AllocError, Global};
+use uc_model::limits::MAX_PERIODS;
+use uc_model::{Instance, NoMemory, Thermal};
+
+/// What is answered to a question on the first unit.
+pub(crate) fn tell_unit(
+    alloc: Global,
+    instance: &Instance,
+    word: &str,
+    rest: &str,
+) -> Result<String, NoMemory>
+    requires { IsLawfulInstance instance.now }
+{
+    if instance.thermal.as_slice().is_empty() {
+        return Ok(String::from_str(alloc, "no unit\n")?);
+    }
+    let unit = unit_of(instance, 0);
+    match word {
+        "curve" => tell_curve(alloc, unit, rest),
+        "term" => tell_term(alloc, unit, rest),
+        "start" => Ok(tell_start(alloc, unit, rest)?),
+        "sigma" => Ok(tell_sigma(alloc, unit, rest)?),
+        "intervals" => tell_intervals(alloc, unit, rest),
+        _ => Ok(String::from_str(alloc, "no such question\n")?),
+    }
+}
+
+/// Thermal unit `g`, from 0.
+pub(crate) fn unit_of(instance: &Instance, g: usize) -> &Thermal
+    requires { g < thermal_count instance.now }
+    ensures { result.now ≡ thermal_unit instance.now g }
+{
+    &instance.thermal.as_slice()[g]
+}
+
+// The number of a word among words, from 0; 0 where there is none.
+fn number(words: &str, n: usize) -> i32 {
+    match words.split(' ').nth(n) {
+        Some(word) => word.parse::<i32>().unwrap_or(0),
+        None => 0,
+    }
+}
+
+// The width of the curve, and a line for each output.
+fn tell_curve(alloc: Global, unit: &Thermal, words: &str) -> Result<String, NoMemory>
+    requires { IsLawfulThermal unit.now }
+{
+    let curve = Curve::of(alloc, unit.points.as_slice())?;
+    let mut text = format!(in alloc; "width {}\n", curve.width())?;
+    for word in words.split(' ') {
+        put_output(&mut text, &curve, word.parse::<i64>().unwrap_or(-1))?;
+    }
+    Ok(text)
+}
+
+// The least cost at an output, the ends of its segment, and the slopes on its left and right where both are.
+fn put_output(text: &mut String, curve: &Curve, p: i64) -> Result<(), AllocError> {
+    let width = curve.width();
+    if p < 0 || p > width {
+        return text.push_str("no such output\n");
+    }
+    let (left, right) = curve.segment(p);
+    write!(
+        text,
+        "cost {} from {}:{}",
+        curve.ceil_at(p),
+        left.mw,
+        left.cost
+    )?;
+    write!(text, " to {}:{}", right.mw, right.cost)?;
+    if 0 < p && p < width {
+        let left = curve.left_slope(p);
+        let right = curve.right_slope(p);
+        write!(text, " slopes {}/{}", left.rise, left.run)?;
+        write!(text, " {}/{}", right.rise, right.run)?;
+    }
+    text.push_str("\n")
+}
+
+// The term of a cell, of the scale, the prices of output and of reserve and the cap.
+fn tell_term(alloc: Global, unit: &Thermal, words: &str) -> Result<String, NoMemory>
+    requires { IsLawfulThermal unit.now }
+{
+    let curve = Curve::of(alloc, unit.points.as_slice())?;
+    let scale = number(words, 0).unsigned_abs().min(1_000_000);
+    let output = i128::from(number(words, 1));
+    let reserve = i128::from(number(words, 2));
+    match term(
+        &curve,
+        i64::from(scale),
+        output,
+        reserve,
+        i64::from(number(words, 3)),
+    ) {
+        Some(term) => Ok(format!(in alloc; "term {term}\n")?),
+        None => Ok(String::from_str(alloc, "no term\n")?),
+    }
+}
+
+// A period, from 0, that a word tells from 1.
+fn period(word: &str) -> Option<usize> {
+    word.parse::<usize>().ok()?.checked_sub(1)
+}
+
+// The cheapest category of a start in a period of a pattern, and what it costs.
+fn tell_start(alloc: Global, unit: &Thermal, words: &str) -> Result<String, AllocError>
+    requires { IsLawfulThermal unit.now }
+{
+    let (bits, rest) = words.split_once(' ').unwrap_or((words, ""));
+    match period(rest) {
+        Some(t) if t < MAX_PERIODS as usize => {
+            let (category, cost) = least_allowed(unit, &pattern(bits), t);
+            format!(in alloc; "category {category} cost {cost}\n")
+        }
+        _ => String::from_str(alloc, "no such period\n"),
+    }
+}
+
+// The least cost of a start in a period, by the period of the last stop, of which 0 is none.
+fn tell_sigma(alloc: Global, unit: &Thermal, words: &str) -> Result<String, AllocError>
+    requires { IsLawfulThermal unit.now }
+{
+    let (stop, rest) = words.split_once(' ').unwrap_or((words, ""));
+    match period(rest) {
+        Some(t) if t < MAX_PERIODS as usize => {
+            let cost = sigma(unit, period(stop), t);
+            format!(in alloc; "cost {cost}\n")
+        }
+        _ => String::from_str(alloc, "no such period\n"),
+    }
+}

@@ -1,5 +1,0 @@
-//! Tests of the repair of schedules.
-#![tactic(auto)]
-
-#[cfg(test)]
-mod repairs;
