@@ -12,14 +12,8 @@ use Rattle.uc_model.specs.declared.instance.Instance.{Instance}
 use Rattle.uc_model.specs.declared.pattern.Pattern.{Pattern}
 use Rattle.uc_model.specs.declared.schedule.Printed.{Printed}
 use Rattle.uc_model.specs.declared.stuck.Stuck.{Stuck}
-use Rattle.dual_model.specs.Fixings.{HasNoPattern}
-use Rattle.dual_model.specs.Tree.{root}
 use Rattle.dispatch_repair.specs.MostOn.{AreMostOn, IsOffFrom}
 use Rattle.dispatch_repair.specs.Stuck.{IsDispatchOf, IsStuckOf}
-
--- each thermal unit has an allowed pattern
-abbrev pub HasEachPattern : Instance → Type 0
-HasEachPattern instance = (g : ℕ) → g < thermal_count instance → ¬ HasNoPattern instance root g
 
 -- how the dispatch of a commitment ends: with a schedule and its cost, or stuck in a period
 pub data Ending : Type 0 where

@@ -3,11 +3,11 @@
 -- Knueven, Ostrowski and Watson.
 --
 -- Units and periods count from 0 here.
-use Rattle.std.specs.Prelude.{ℕ, ◌+◌, Bool, true, false, not, ◌&&◌, ◌||◌, ◌==◌, [], ◌∷◌, ◌++◌, IsTrue, if◌then◌else◌}
+use Rattle.std.specs.Prelude.{ℕ, ◌+◌, ◌<◌, Bool, true, false, not, ◌&&◌, ◌||◌, ◌==◌, [], ◌∷◌, ◌++◌, IsTrue, if◌then◌else◌}
 use Rattle.std.specs.List.{list_any}
-use Rattle.uc_model.specs.Schedule.{Schedule}
+use Rattle.uc_model.specs.Schedule.{Schedule, thermal_count}
 use Rattle.uc_model.specs.declared.instance.Instance.{Instance}
-use Rattle.dual_model.specs.Fixings.{IsCell, agrees}
+use Rattle.dual_model.specs.Fixings.{HasNoPattern, IsCell, agrees}
 use Rattle.dual_model.specs.declared.node.Node.{Node}
 
 -- a leaf, or a split on a unit and a period into the off-child and the on-child
@@ -18,6 +18,10 @@ pub data Tree (A : Type 0) : Type 0 where
 -- the node at which nothing is decided
 abbrev pub root : Node
 root = record { fixings = [] }
+
+-- each thermal unit has an allowed pattern
+abbrev pub HasEachPattern : Instance → Type 0
+HasEachPattern instance = (g : ℕ) → g < thermal_count instance → ¬ HasNoPattern instance root g
 
 -- the child of a node at which the cell is decided besides
 abbrev pub child : Node → ℕ → ℕ → Bool → Node

@@ -1,7 +1,1 @@
-pub mod GreatestSlopes
-pub mod OnCells
-pub mod PricedPeriods
-pub mod RayNumbers
-pub mod RayTables
-pub mod UnpricedTables
 pub mod LawfulRows

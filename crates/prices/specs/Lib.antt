@@ -1,3 +1,2 @@
-pub mod Marginal
 pub mod Steps
 pub mod inside

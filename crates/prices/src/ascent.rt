@@ -1,20 +1,19 @@
 //! The ascent: prices at which the Lagrangian bound of a node is high.
 
-ghost use Rattle.std.specs.Prelude.{◌≡◌, IfOk};
+ghost use Rattle.std.specs.Prelude.{◌≡◌, pos, IfOk, IfSome};
 ghost use Rattle.uc_model.specs.Limits.{IsLawfulInstance};
 ghost use Rattle.dual_model.specs.Fixings.{IsNodeOf};
 ghost use Rattle.dual_model.specs.Prices.{IsLawfulTable};
 ghost use Rattle.dual_model.specs.TableValue.{IsLawfulScale};
 
-use crate::bundle::{Bundle, Cut, Move, WHOLE, times};
-use crate::limited::word;
 use crate::merit::merit_prices;
-use crate::no_prices::SCALE;
-use crate::price_list::{at, push_ramp_prices, table_of};
+use crate::price_list::{push_ramp_prices, table_of};
+use bundle::{Bundle, Cut, Move, WHOLE, times, word};
 use dual_model::{Node, Table};
+use opening_tables::SCALE;
 use quick_value::{Decisions, Evaluation, Evaluator};
 use std::alloc::Global;
-use uc_model::{Instance, NoMemory};
+use uc_model::{Instance, NoMemory, Thermal};
 
 /// After how many evaluations without a gain the stride is shortened.
 const PATIENCE: u32 = 9;
@@ -41,12 +40,14 @@ const RISE_BY_TABLE: i128 = 400;
 const LEAST_SIZE: i128 = 4;
 
 /// What an ascent found: the best table, how often each unit was on in each period among the cuts that give the best move, unit by unit,
-/// in parts of 2^16, and what it takes the bound for, in micro-dollars, of which nothing is proved.
-#[derive(Debug, Drop)]
+/// in parts of 2^16, and what it takes the bound for, in micro-dollars, of which nothing is proved. Where this is above all that a schedule
+/// could cost, the ascent ended there, and its prices stand in `ray` at the scale 0: the value there should show that there is none.
+#[derive(Drop)]
 pub struct Ascent {
     pub table: Table,
     pub shares: Vec<i64>,
     pub bound: i128,
+    pub ray: Option<Table>,
 }
 
 // The best prices so far, their value, the cuts there, and how many evaluations have gained nothing since; and the cuts' mean shares, where
@@ -58,6 +59,59 @@ struct Center {
     bundle: Bundle,
     nulls: u32,
     shares: Vec<i64>,
+}
+
+// Where an ascent ended: prices at the scale `SCALE`, their value, and how often units are on.
+#[derive(Drop)]
+struct Top {
+    prices: Vec<i64>,
+    value: i128,
+    shares: Vec<i64>,
+}
+
+// How large values are, at the scale `SCALE`: as how much one counts at least, and what no schedule can cost.
+#[derive(Clone, Copy)]
+struct Sizes {
+    least: i128,
+    most: i128,
+}
+
+impl Sizes {
+    // The least is a part of what the unit that costs most at full load costs so in all periods; the most is twice what the dearest hour
+    // and the dearest start of each unit cost in all periods.
+    fn of(instance: &Instance) -> Sizes {
+        let mut full: i64 = 1;
+        let mut hourly: i128 = 1;
+        for unit in instance.thermal.as_slice() {
+            if let Some(point) = unit.points.as_slice().last() {
+                full = full.max(point.cost.saturating_abs());
+            }
+            hourly = hourly.saturating_add(i128::from(dearest_hour(unit)));
+        }
+        let whole = i128::from(SCALE).saturating_mul(i128::from(instance.periods));
+        Sizes {
+            least: whole.saturating_mul(i128::from(full)) / LEAST_SIZE,
+            most: whole.saturating_mul(2).saturating_mul(hourly),
+        }
+    }
+
+    // The size of a value, which counts as at least so much: where it is nothing, strides that go by it would be too.
+    fn of_value(self, value: i128) -> i128 {
+        value.saturating_abs().max(self.least)
+    }
+}
+
+// The most that a unit's production and start can cost in a period.
+fn dearest_hour(unit: &Thermal) -> i64 {
+    let mut production: i64 = 0;
+    for point in unit.points.as_slice() {
+        production = production.max(point.cost.saturating_abs());
+    }
+    let mut start: i64 = 0;
+    for row in unit.startup.as_slice() {
+        start = start.max(row.cost.saturating_abs());
+    }
+    production.saturating_add(start)
 }
 
 /// Ascends at a node from a table by at most so many evaluations, to a table at the scale `k`; from the prices in order of merit
@@ -75,18 +129,22 @@ pub fn ascend(
     requires scale { IsLawfulScale k }
     ensures lawful { IfOk result (λ ascent. IsLawfulTable instance.now ascent.table) }
     ensures scale { IfOk result (λ ascent. ascent.table.k ≡ k) }
+    ensures ray { IfOk result (λ ascent. IfSome ascent.ray (IsLawfulTable instance.now)) }
+    ensures ray_scale { IfOk result (λ ascent. IfSome ascent.ray (λ ray. ray.k ≡ pos 0)) }
 {
     let mut evaluator = Evaluator::new(alloc, instance)?;
     let decisions = Decisions::of(alloc, instance, node)?;
     let ramped = evaluator.ramped(alloc)?;
+    let sizes = Sizes::of(instance);
     let prices = first_prices(alloc, instance, table, &ramped)?;
-    let least = least_size(instance);
-    let (mut prices, shares, value) = match evaluator.evaluate(
-        alloc, instance, &decisions, &prices,
-    )? {
-        None => (prices, Vec::new(alloc), 0),
+    let top = match evaluator.evaluate(alloc, instance, &decisions, &prices)? {
+        None => Top {
+            prices,
+            value: 0,
+            shares: Vec::new(alloc),
+        },
         Some(first) => {
-            let rise = first_rise(table, size_of(first.value, least));
+            let rise = first_rise(table, sizes.of_value(first.value));
             let mut center = begin(alloc, instance, prices, first, rise, &ramped)?;
             climb(
                 alloc,
@@ -95,17 +153,46 @@ pub fn ascend(
                 &decisions,
                 &mut center,
                 evaluations,
-                least,
+                sizes,
             )?;
             settle(alloc, &mut center)?;
-            (center.prices, center.shares, center.value)
+            Top {
+                prices: center.prices,
+                value: center.value,
+                shares: center.shares,
+            }
         }
     };
-    rescale(&mut prices, SCALE, k);
+    ended(alloc, instance, top, &ramped, sizes, k)
+}
+
+// The ascent that ended there, with its table at the scale `k`.
+fn ended(
+    alloc: Global,
+    instance: &Instance,
+    mut top: Top,
+    ramped: &[u32],
+    sizes: Sizes,
+    k: i64,
+) -> Result<Ascent, NoMemory>
+    requires lawful { IsLawfulInstance instance.now }
+    requires scale { IsLawfulScale k }
+    ensures lawful { IfOk result (λ ascent. IsLawfulTable instance.now ascent.table) }
+    ensures scale { IfOk result (λ ascent. ascent.table.k ≡ k) }
+    ensures ray { IfOk result (λ ascent. IfSome ascent.ray (IsLawfulTable instance.now)) }
+    ensures ray_scale { IfOk result (λ ascent. IfSome ascent.ray (λ ray. ray.k ≡ pos 0)) }
+{
+    let ray = if top.value > sizes.most {
+        Some(table_of(alloc, instance, &top.prices, ramped, 0)?)
+    } else {
+        None
+    };
+    rescale(&mut top.prices, SCALE, k);
     Ok(Ascent {
-        table: table_of(alloc, instance, &prices, &ramped, k)?,
-        shares,
-        bound: value / i128::from(SCALE),
+        table: table_of(alloc, instance, &top.prices, ramped, k)?,
+        shares: top.shares,
+        bound: top.value / i128::from(SCALE),
+        ray,
     })
 }
 
@@ -117,7 +204,7 @@ fn climb(
     decisions: &Decisions,
     center: &mut Center,
     evaluations: u32,
-    least: i128,
+    sizes: Sizes,
 ) -> Result<(), NoMemory> {
     let futile = if center.bundle.has_few_cuts() {
         FUTILE_OF_FEW_CUTS
@@ -126,9 +213,9 @@ fn climb(
     };
     let mut stalls: u32 = 0;
     for _ in 0..evaluations {
-        let size = size_of(center.value, least);
+        let size = sizes.of_value(center.value);
         let step = center.bundle.step(alloc, &center.prices, size)?;
-        if center.nulls >= futile {
+        if center.nulls >= futile || center.value > sizes.most {
             break;
         }
         if step.predicted < size / PROMISE {
@@ -180,24 +267,8 @@ fn first_prices(
 fn rescale(prices: &mut [i64], from: i64, to: i64) {
     let from = from.max(1);
     for price in prices.iter_mut() {
-        *price = word(&(times(*price, to) / i128::from(from)));
+        *price = word(times(*price, to) / i128::from(from));
     }
-}
-
-// The size of a value, which counts as at least so much: where it is nothing, strides that go by it would be too.
-fn size_of(value: i128, least: i128) -> i128 {
-    value.saturating_abs().max(least)
-}
-
-// A part of what the unit that costs most at full load costs so in all periods, at the scale `SCALE`.
-fn least_size(instance: &Instance) -> i128 {
-    let mut most: i64 = 1;
-    for unit in instance.thermal.as_slice() {
-        if let Some(point) = unit.points.as_slice().last() {
-            most = most.max(point.cost.saturating_abs());
-        }
-    }
-    times(most, i64::from(instance.periods)).saturating_mul(i128::from(SCALE)) / LEAST_SIZE
 }
 
 // By how much the first step is to raise a value of some size, of which prices in order of merit leave more to gain.
@@ -303,22 +374,7 @@ fn moved(alloc: Global, prices: &[i64], moves: &[i64]) -> Result<Vec<i64>, NoMem
 // Takes the mean shares of the cuts by their weights, if there are none since the last evaluation.
 fn settle(alloc: Global, center: &mut Center) -> Result<(), NoMemory> {
     if center.shares.is_empty() {
-        center.shares = mean_shares(alloc, &center.bundle)?;
+        center.shares = center.bundle.mean_shares(alloc)?;
     }
     Ok(())
-}
-
-// The weighted mean of the cuts' shares.
-fn mean_shares(alloc: Global, bundle: &Bundle) -> Result<Vec<i64>, NoMemory> {
-    let mut means = Vec::new(alloc);
-    if let Some(first) = bundle.cuts.first() {
-        for i in 0..first.shares.len() {
-            let mut sum: i64 = 0;
-            for cut in &bundle.cuts {
-                sum = sum.saturating_add(cut.weight.saturating_mul(at(&cut.shares, i)));
-            }
-            means.push(sum / WHOLE)?;
-        }
-    }
-    Ok(means)
 }

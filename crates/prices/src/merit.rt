@@ -1,7 +1,6 @@
 //! Rates of cost, and the prices in order of merit.
 
-use crate::limited::kept;
-use crate::no_prices::SCALE;
+use opening_tables::{SCALE, kept};
 use std::alloc::Global;
 use uc_model::{Instance, NoMemory, Thermal, scaled};
 
@@ -66,7 +65,7 @@ fn full_load(unit: &Thermal) -> FullLoad {
     };
     let rate = scaled(SCALE, cost) / i128::from(unit.pmax.max(1));
     FullLoad {
-        rate: kept(&rate),
+        rate: kept(rate),
         output: unit.pmax,
     }
 }

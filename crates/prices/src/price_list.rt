@@ -7,8 +7,9 @@ ghost use Rattle.dual_model.specs.Prices.{IsLawfulTable, IsPrice, IsRowWithin};
 ghost use Rattle.dual_model.specs.TableValue.{IsLawfulScale};
 ghost use Rattle.prices.specs.inside.Moves.{AreLawfulRows, IsBehind, IsMultiplier};
 
-use crate::limited::kept;
+use bundle::at;
 use dual_model::{RampRow, Table};
+use opening_tables::kept;
 use std::alloc::Global;
 use uc_model::{Instance, NoMemory};
 
@@ -45,14 +46,6 @@ fn set(prices: &mut [i64], i: usize, price: &i64) {
     }
 }
 
-/// The entry of a list, and 0 past its end.
-pub(crate) fn at(numbers: &[i64], i: usize) -> i64 {
-    match numbers.get(i) {
-        Some(number) => *number,
-        None => 0,
-    }
-}
-
 /// The table of the prices at the scale `k`, each kept within its limits.
 pub(crate) fn table_of(
     alloc: Global,
@@ -80,7 +73,7 @@ fn demand_prices(alloc: Global, periods: u32, prices: &[i64]) -> Result<Vec<i64>
 {
     let mut demand = Vec::new(alloc);
     for t in 0..periods {
-        demand.push(kept(&i128::from(at(prices, t as usize))))?;
+        demand.push(kept(i128::from(at(prices, t as usize))))?;
     }
     Ok(demand)
 }
@@ -102,7 +95,7 @@ fn reserve_prices(alloc: Global, periods: u32, prices: &[i64]) -> Result<Vec<i64
 fn multiplier(prices: &[i64], i: usize) -> i64
     ensures { IsMultiplier result }
 {
-    kept(&i128::from(at(prices, i))).max(0)
+    kept(i128::from(at(prices, i))).max(0)
 }
 
 // The rows of the ramps' prices.

@@ -4,13 +4,12 @@ ghost use Rattle.std.specs.Prelude.{◌≡◌, ◌+◌, ◌≤◌, pos, IfOk, If
 ghost use Rattle.uc_model.specs.Limits.{IsLawfulInstance};
 ghost use Rattle.dual_model.specs.Fixings.{IsNodeOf};
 ghost use Rattle.dual_model.specs.Prices.{IsLawfulTable};
-ghost use Rattle.dual_value.specs.NodeAnswer.{IsValued};
+ghost use Rattle.dual_model.specs.NodeAnswer.{IsValued};
 ghost use Rattle.prices.specs.Steps.{IsStepFor};
 
 use crate::ascent::{Ascent, ascend};
-use crate::no_prices::SCALE;
-use dual_model::{Node, Table};
-use dual_value::Valued;
+use dual_model::{Node, Table, Valued};
+use opening_tables::SCALE;
 use std::alloc::Global;
 use uc_model::{Instance, NoMemory, Thermal};
 
@@ -49,6 +48,8 @@ pub fn next_ascent(
     requires count { had ≤ 999000000 }
     ensures lawful { IfOk result (λ ascent. IsLawfulTable instance.now ascent.table) }
     ensures scale { IfOk result (λ ascent. ascent.table.k ≡ pos (1000000 + had)) }
+    ensures ray { IfOk result (λ ascent. IfSome ascent.ray (IsLawfulTable instance.now)) }
+    ensures ray_scale { IfOk result (λ ascent. IfSome ascent.ray (λ ray. ray.k ≡ pos 0)) }
 {
     let evaluations = evaluations_of(instance, node.fixings.as_slice().is_empty());
     let scale = SCALE + i64::from(had);

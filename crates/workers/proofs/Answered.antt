@@ -26,21 +26,24 @@ use Rattle.search_core.specs.Machine.{Machine}
 use Rattle.search_core.specs.Moves.{bound_of}
 use Rattle.search_core.specs.Runs.{HoldsAt}
 use Rattle.workers.specs.Writable.{HasFewRows}
-use Rattle.decommitment.specs.DropCommitment.{Dispatched, HasEachPattern}
+use Rattle.decommitment.specs.DropCommitment.{Dispatched}
+use Rattle.dual_model.specs.Tree.{HasEachPattern}
 use Rattle.decommitment.specs.MostOnStuck.{TellsMostOn}
-use Rattle.workers.specs.Opening.{HasNoRay, IsGreaterTable, IsRootTable}
+use Rattle.opening.specs.Rays.{HasNoRay}
+use Rattle.opening.specs.RootTables.{IsGreaterTable}
+use Rattle.workers.specs.Opening.{IsRootTable}
 use Rattle.workers.specs.SearchResult.{IsBoundOpened, IsNoDearer}
 use Rattle.decommitment.specs.declared.pass.Standing.{Standing}
 use Rattle.decommitment.specs.declared.pass.Standing.TheVariants as standing
-use Rattle.workers.specs.declared.opening.Priced.{Priced}
+use Rattle.opening.specs.declared.root_tables.Priced.{Priced}
 use Rattle.workers.specs.inside.Answers.{IsAnswerOf, told_by}
-use Rattle.workers.specs.inside.Evaluations.{IsPricedOf}
+use Rattle.opening.specs.RootTables.{IsPricedOf}
 use Rattle.workers.specs.inside.Searches.{IsSizedEntry, IsSpentUnlessClosed, start_by}
 use Rattle.decommitment.specs.Standings.{IsDropped, KeepsMostOn, ending_of}
 use Rattle.workers.specs.inside.Best.{IsBest, kept_stuck, told_of}
 use Rattle.workers.proofs.FewRows.{few_rows}
 use Rattle.workers.proofs.OwnValues.{bound_small, least_above, least_small}
-use Rattle.workers.proofs.Patterns.{not_first}
+use Rattle.opening.proofs.Patterns.{not_first}
 use Rattle.workers.proofs.WrittenTables.{certificate_holds, each_within, written_lawful}
 
 -- ---- what is told of the most-on commitment

@@ -16,18 +16,18 @@ use Rattle.branch_tree.specs.declared.found.Found.{Found}
 use Rattle.branch_tree.specs.declared.layout.Layout.{Layout}
 use Rattle.branch_tree.specs.declared.tree.Tree.{Tree}
 use Rattle.branch_tree.specs.declared.tree.Leaf.TheVariants as leaf
-use Rattle.prices.proofs.RayTables.{ray_lawful}
+use Rattle.opening_tables.proofs.RayTables.{ray_lawful}
 use Rattle.workers.specs.Writable.{HasFewRows}
-use Rattle.decommitment.specs.DropCommitment.{HasEachPattern}
-use Rattle.workers.specs.Opening.{IsFirstRay}
+use Rattle.dual_model.specs.Tree.{HasEachPattern}
+use Rattle.opening.specs.Rays.{IsFirstRay}
 use Rattle.workers.specs.SearchResult.{IsNoDearer}
 use Rattle.decommitment.specs.declared.pass.Standing.{Standing}
 use Rattle.workers.specs.inside.Answers.{IsAnswerOf, lone_root}
 use Rattle.decommitment.specs.Standings.{IsDropped, ending_of}
 use Rattle.decommitment.specs.declared.pass.Standing.TheVariants as standing
 use Rattle.workers.proofs.FewRows.{few_rows}
-use Rattle.workers.proofs.Patterns.{each_pattern, not_first}
-use Rattle.workers.proofs.OpeningRays.{first_is_one as first_ray_is_one, no_ray}
+use Rattle.opening.proofs.Patterns.{each_pattern, not_first}
+use Rattle.opening.proofs.OpeningRays.{first_is_one as first_ray_is_one, no_ray}
 
 -- ---- no pattern
 abbrev pub empty_found : Tree → Layout → Found

@@ -1,6 +1,4 @@
 pub mod FirstSchedule
-pub mod Patterns
-pub mod OpeningRays
 pub mod FewRows
 pub mod Excluded
 pub mod WrittenTables

@@ -11,7 +11,7 @@ use Rattle.uc_model.proofs.Tests.{int_lt-true}
 use Rattle.dual_model.specs.Tree.{child}
 use Rattle.dual_model.specs.declared.node.Node.{Node}
 use Rattle.dual_model.specs.declared.table.Table.{Table}
-use Rattle.dual_value.specs.NodeAnswer.{MAX_VALUE}
+use Rattle.dual_model.specs.NodeAnswer.{MAX_VALUE}
 use Rattle.branch_tree.specs.Claims.{table_at}
 use Rattle.branch_tree.specs.NumberedTree.{NumberedTree, EndAt, SplitAt, unnumbered}
 use Rattle.branch_tree.specs.StoredTree.{AtMost, leaf_bound, least_bound, lesser_bound}

@@ -48,10 +48,10 @@ use Rattle.search_core.proofs.Leaves.{holds_of_leaf, leaf_part}
 use Rattle.search_core.proofs.TrueRuns.{starts_are_reached, steps_reach}
 use Rattle.schedule_check.specs.Accepted.{IsAcceptedIfFound}
 use Rattle.decommitment.specs.DropCommitment.{Dispatched, StuckIn}
-use Rattle.workers.specs.declared.opening.Priced.{Priced}
-use Rattle.workers.specs.inside.Evaluations.{IsPricedOf}
+use Rattle.opening.specs.declared.root_tables.Priced.{Priced}
+use Rattle.opening.specs.RootTables.{IsPricedOf}
 use Rattle.claims.specs.Claims.{HasStoredTable, IsPublished}
-use Rattle.workers.specs.inside.Searches.{IsGrown, IsOutcomeOf, IsReady, IsScaledWithin, IsSearching, IsSizedEntry, IsTableFor, IsTurned, IsVisited, cost_of, start_by}
+use Rattle.workers.specs.inside.Searches.{IsGrown, IsReady, IsScaledWithin, IsSearching, IsSizedEntry, IsTableFor, IsTurned, IsVisited, cost_of, start_by}
 use Rattle.workers.specs.inside.Best.{IsNoWorse}
 
 -- ---- the start
@@ -293,7 +293,7 @@ visited_searching instance opening budget gap m new node unit is claim unit_is r
     (steps_reach instance (start_by instance opening budget gap) m (Claim 0 node) is.reached claim tt) visited.legal
     (λ number path holding there.
     let same : number ≡ node = same_holder number node (sym holding ∙ ready.held) in
-    (told path (subst (λ n. IsNodeAt m.tree n path) same there)).told) in
+    record { lawful = visited.fits.lawful; told = (told path (subst (λ n. IsNodeAt m.tree n path) same there)).told }) in
     let all = visited.is ∙ ap (committed_by held 0 unit table result action) ready.held in
     let count = length-append m.claims (Some (holder node) ∷ []) in
     let place : unit - 1 ≡ length m.claims = omega (arith, unit_is) in

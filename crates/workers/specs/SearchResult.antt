@@ -9,7 +9,7 @@ use Rattle.dual_model.specs.Fixings.{IsFirstEmpty}
 use Rattle.dual_model.specs.Opening.{ray_table, zero_table}
 use Rattle.dual_model.specs.Tree.{Ends, root}
 use Rattle.dual_model.specs.declared.table.Table.{Table}
-use Rattle.prices.specs.Marginal.{IsMarginalTable}
+use Rattle.opening_tables.specs.Marginal.{IsMarginalTable}
 use Rattle.branch_tree.specs.Closing.{is_closed}
 use Rattle.branch_tree.specs.StoredTree.{tree_bound}
 use Rattle.branch_tree.specs.TreeView.{tree_of}
@@ -18,9 +18,11 @@ use Rattle.branch_tree.specs.declared.found.Found.{Found}
 use Rattle.branch_tree.specs.declared.tree.Leaf.TheVariants as leaf
 use Rattle.search_core.specs.Moves.{bound_of}
 use Rattle.search_core.specs.OwnTables.{Owns, HasFewEntries}
-use Rattle.decommitment.specs.DropCommitment.{Ending, Dispatched, StuckIn, IsDropCommitment, HasEachPattern}
+use Rattle.decommitment.specs.DropCommitment.{Ending, Dispatched, StuckIn, IsDropCommitment}
+use Rattle.dual_model.specs.Tree.{HasEachPattern}
 use Rattle.decommitment.specs.MostOnStuck.{TellsMostOn}
-use Rattle.workers.specs.Opening.{HasNoRay, IsFirstRay, IsRootTable}
+use Rattle.opening.specs.Rays.{HasNoRay, IsFirstRay}
+use Rattle.workers.specs.Opening.{IsRootTable}
 
 -- ---- no schedule by the opening
 -- the root is excluded by ray n of the opening, before any claim

@@ -3,7 +3,7 @@ use Rattle.std.specs.Prelude.{◌*◌, ◌≤◌, unsigned_abs, All, IfSome, len
 use Rattle.uc_model.specs.declared.instance.Instance.{Instance}
 use Rattle.uc_model.specs.declared.limits.TheConstants.{MAX_PERIODS, MAX_UNITS}
 use Rattle.dual_model.specs.declared.table.Table.{Table}
-use Rattle.dual_value.specs.NodeAnswer.{MAX_VALUE}
+use Rattle.dual_model.specs.NodeAnswer.{MAX_VALUE}
 use Rattle.branch_tree.specs.Claims.{written_tables}
 use Rattle.branch_tree.specs.StoredTree.{tree_bound}
 use Rattle.branch_tree.specs.TreeView.{IsWhole}

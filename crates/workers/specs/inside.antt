@@ -1,4 +1,4 @@
-pub mod Evaluations
+pub mod Trials
 pub mod Best
 pub mod Searches
 pub mod Answers

@@ -8,9 +8,10 @@ ghost use Rattle.uc_model.specs.declared.instance.Instance.{Instance};
 ghost use Rattle.branch_tree.specs.Closing.{is_schedule_within};
 ghost use Rattle.workers.specs.inside.Best.{IsLower, IsNoWorse};
 
+use crate::worker::Worker;
 use branch_tree::is_within_gap;
 use prices::Ascent;
-use schedule_repair::{Repair, repair};
+use schedule_repair::repair;
 use std::alloc::Global;
 use uc_model::tolerance::WHOLE_GAP;
 use uc_model::{Instance, NoMemory, Printed};
@@ -40,52 +41,48 @@ pub(crate) fn moves(instance: &Instance, unit: u32) -> u32
 }
 
 /// The greatest cost, in micro-dollars, that is taken to be within the gap of the bound.
-pub(crate) fn enough(bound: &i128, gap: u32) -> i64
+pub(crate) fn enough(bound: i128, gap: u32) -> i64
     requires { gap ≤ WHOLE_GAP }
 {
     let rest = i128::from(WHOLE_GAP - gap).max(1);
-    let cost = if *bound > 0 {
+    let cost = if bound > 0 {
         bound.saturating_mul(i128::from(WHOLE_GAP)) / rest
     } else {
-        *bound
+        bound
     };
     cost.min(i128::from(i64::MAX)).max(i128::from(i64::MIN)) as i64
 }
 
 /// Whether the best schedule closes a root of this bound.
-pub(crate) fn is_closed(best: &Option<(Printed, i64)>, bound: &i128, gap: u32) -> bool
+pub(crate) fn is_closed(best: &Option<(Printed, i64)>, bound: i128, gap: u32) -> bool
     requires { gap ≤ WHOLE_GAP }
-    ensures { result ≡ is_schedule_within best.now (Some bound.now) gap }
+    ensures { result ≡ is_schedule_within best.now (Some bound) gap }
 {
     match best {
-        Some((_, cost)) => is_within_gap(cost, &Some(*bound), gap),
+        Some((_, cost)) => is_within_gap(cost, &Some(bound), gap),
         None => false,
     }
 }
 
-/// The cheaper of the best schedule so far and of what a repair of an ascent finds, which ends at a cost that is `enough`. The only error
-/// is `NoMemory`.
+/// The cheaper of the best schedule so far and of what a repair of an ascent finds in so many moves, which ends at a cost that is `enough`.
+/// The only error is `NoMemory`.
 pub(crate) fn improved(
     alloc: Global,
-    repairs: &mut Repair,
-    instance: &Instance,
+    worker: &mut Worker,
     ascent: &Ascent,
     moves: u32,
     enough: i64,
     best: Option<(Printed, i64)>,
 ) -> Result<Option<(Printed, i64)>, NoMemory>
-    requires lawful { IsLawfulInstance instance.now }
-    requires best { IsAcceptedIfFound instance.now best }
-    ensures accepted { IfOk result (IsAcceptedIfFound instance.now) }
+    requires best { IsAcceptedIfFound worker.old.evaluator best }
+    ensures kept { worker.new.evaluator ≡ worker.old.evaluator }
+    ensures accepted { IfOk result (IsAcceptedIfFound worker.old.evaluator) }
     ensures no_worse { IfOk result (IsNoWorse best) }
 {
-    if moves == 0 {
-        return Ok(best);
-    }
     let found = repair(
         alloc,
-        repairs,
-        instance,
+        &mut worker.repairs,
+        worker.evaluator.instance(),
         &ascent.table,
         &ascent.shares,
         moves,

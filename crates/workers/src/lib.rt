@@ -3,12 +3,11 @@
 
 mod answer;
 mod best;
-mod evaluation;
-mod opening;
-mod rays;
 pub mod root_search;
 mod start;
 mod tree_search;
 mod visit;
+mod worker;
 
+pub use branch_tree::{Entry, Found};
 pub use root_search::{Options, search};

@@ -1,27 +1,25 @@
 //! The search.
 
-ghost use Rattle.std.specs.Prelude.{◌≡◌, ◌≤◌, IfOk, MatchOption};
+ghost use Rattle.std.specs.Prelude.{◌≡◌, ◌≤◌, IfOk};
 ghost use Rattle.uc_model.specs.Limits.{IsLawfulInstance};
 ghost use Rattle.uc_model.specs.declared.tolerance.TheConstants.{WHOLE_GAP};
+ghost use Rattle.dual_model.specs.Tree.{HasEachPattern};
 ghost use Rattle.search_core.specs.declared.limits.TheConstants.{MAX_BUDGET};
-ghost use Rattle.schedule_check.specs.Accepted.{IsAcceptedIfFound};
-ghost use Rattle.workers.specs.Writable.{IsWritable};
-ghost use Rattle.decommitment.specs.DropCommitment.{HasEachPattern};
-ghost use Rattle.workers.specs.Opening.{HasNoRay, IsFirstRay};
+ghost use Rattle.decommitment.specs.Standings.{IsDropped, ending_of};
+ghost use Rattle.opening.specs.RootTables.{IsPricedOf};
+ghost use Rattle.workers.specs.Opening.{IsRootTable};
 ghost use Rattle.workers.specs.SearchResult.{IsSearchResult};
-ghost use Rattle.workers.specs.inside.Evaluations.{IsLentOf};
+ghost use Rattle.workers.specs.Writable.{IsWritable};
 ghost use Rattle.workers.specs.inside.Best.{kept_stuck, schedule_of};
 
 use crate::answer::{bounded, without_pattern, without_schedule};
-use crate::evaluation::{Lent, first_empty};
-use crate::opening::root_table;
-use crate::rays::first_ray;
 use crate::start::started;
 use crate::tree_search::{holds, search_tree};
+use crate::worker::Worker;
 use branch_tree::Found;
 use decommitment::{Standing, drop_pass};
+use opening::{Priced, dispatched_root, excluding_ray, unpriced_root};
 use outside::Gate;
-use schedule_repair::Repair;
 use std::alloc::Global;
 use std::sync::Wait;
 use uc_model::{Instance, NoMemory, Printed, Stuck};
@@ -50,37 +48,36 @@ pub fn search<R: Wait, G: Gate>(
     ensures result { IfOk result (IsSearchResult instance.now options.now.budget options.now.gap) }
     ensures writable { IfOk result (IsWritable instance.now) }
 {
-    let mut lent = Lent::new(alloc, instance)?;
-    if let Some(g) = first_empty(alloc, &mut lent, instance)? {
+    let mut worker = Worker::new(alloc, instance)?;
+    if let Some(g) = worker.evaluator.first_empty(alloc)? {
         return without_pattern(alloc, instance, g);
     }
     let standing = drop_pass(alloc, instance)?;
-    let opening = root_table(alloc, &mut lent, instance, &standing)?;
+    let opening = root_table(alloc, &mut worker, &standing)?;
     let (schedule, most_on) = outcome(standing);
-    let mut repairs = Repair::new(alloc, instance)?;
-    let start = started(
-        alloc,
-        &mut repairs,
-        instance,
-        options.gap,
-        opening,
-        schedule,
-    )?;
-    if let Some(n) = excluding_ray(alloc, &mut lent, instance, &start.best)? {
+    let start = started(alloc, &mut worker, options.gap, opening, schedule)?;
+    if let Some(n) = excluding_ray(alloc, &mut worker.evaluator, &start.best)? {
         return without_schedule(alloc, instance, n);
     }
-    let grown = search_tree(
-        rt,
-        alloc,
-        &mut lent,
-        &mut repairs,
-        instance,
-        options,
-        start,
-        gate,
-    )?;
+    let grown = search_tree(rt, alloc, &mut worker, options, start, gate)?;
     holds(&grown.state);
     bounded(alloc, instance, grown, most_on)
+}
+
+// The root's table by how the drop commitment stands.
+fn root_table(alloc: Global, worker: &mut Worker, standing: &Standing) -> Result<Priced, NoMemory>
+    requires patterns { HasEachPattern worker.old.evaluator }
+    requires dropped { IsDropped worker.old.evaluator standing.now }
+    ensures kept { worker.new.evaluator ≡ worker.old.evaluator }
+    ensures table { IfOk result (λ priced. IsRootTable worker.old.evaluator (ending_of standing.now) priced.table priced.value) }
+    ensures priced { IfOk result (IsPricedOf worker.old.evaluator) }
+{
+    match standing {
+        Standing::Stuck { .. } => unpriced_root(alloc, &mut worker.evaluator),
+        Standing::Dispatched { printed, .. } => {
+            dispatched_root(alloc, &mut worker.evaluator, printed)
+        }
+    }
 }
 
 // The schedule of the drop commitment with its cost, or why the most-on commitment gets stuck.
@@ -91,25 +88,5 @@ fn outcome(standing: Standing) -> (Option<(Printed, i64)>, Option<Stuck>)
     match standing {
         Standing::Dispatched { printed, cost } => (Some((printed, cost)), None),
         Standing::Stuck { most_on, .. } => (None, Some(most_on)),
-    }
-}
-
-// The first ray of the opening that leaves no schedule. Where there is a schedule, there is none.
-fn excluding_ray(
-    alloc: Global,
-    lent: &mut Lent,
-    instance: &Instance,
-    best: &Option<(Printed, i64)>,
-) -> Result<Option<u32>, NoMemory>
-    requires lawful { IsLawfulInstance instance.now }
-    requires patterns { HasEachPattern instance.now }
-    requires lent { IsLentOf instance.now lent.old }
-    requires accepted { IsAcceptedIfFound instance.now best.now }
-    ensures lent { IsLentOf instance.now lent.new }
-    ensures ray { IfOk result (λ ray. MatchOption ray (HasNoRay instance.now) (IsFirstRay instance.now)) }
-{
-    match best {
-        Some(_) => Ok(None),
-        None => first_ray(alloc, lent, instance),
     }
 }

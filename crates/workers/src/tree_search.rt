@@ -11,22 +11,22 @@ ghost use Rattle.search_core.specs.Runs.{HoldsAt};
 ghost use Rattle.search_core.specs.declared.limits.TheConstants.{MAX_BUDGET};
 ghost use Rattle.schedule_check.specs.Accepted.{IsAcceptedIfFound};
 ghost use Rattle.uc_model.specs.declared.instance.Instance.{Instance};
-ghost use Rattle.workers.specs.declared.opening.Priced.{Priced};
-ghost use Rattle.workers.specs.inside.Evaluations.{IsLentOf, IsNextAt, IsPricedOf};
+ghost use Rattle.opening.specs.declared.root_tables.Priced.{Priced};
+ghost use Rattle.opening.specs.RootTables.{IsPricedOf};
+ghost use Rattle.workers.specs.inside.Trials.{IsNextAt};
 ghost use Rattle.claims.specs.Claims.{IsPublished};
 ghost use Rattle.workers.specs.inside.Searches.{IsGrown, IsReady, IsSearching, IsTurned, start_by};
 ghost use Rattle.workers.specs.inside.Best.{IsNoWorse};
 
 use crate::best::{enough, improved, is_closed, moves};
-use crate::evaluation::Lent;
-use crate::opening::Priced;
 use crate::root_search::Options;
 use crate::start::Start;
-use crate::visit::visit;
+use crate::visit::{Trial, visit};
+use crate::worker::Worker;
 use claims::{Frontier, WORKER, claim_next, publish};
+use opening::Priced;
 use outside::Gate;
 use prices::{Ascent, SCALE};
-use schedule_repair::Repair;
 use search_core::State;
 use search_core::laws::reached_states_hold;
 use std::alloc::Global;
@@ -34,11 +34,18 @@ use std::sync::Wait;
 use uc_model::{Instance, NoMemory, Printed, floor_div};
 
 /// The state of the search machine, the best schedule so far with its cost in micro-dollars, and the order of the open nodes.
-#[derive(Debug, Drop)]
+#[derive(Drop)]
 pub(crate) struct Search {
     pub state: State,
     pub best: Option<(Printed, i64)>,
     pub frontier: Frontier,
+}
+
+/// A node that is held by the claim of this unit.
+#[derive(Clone, Copy)]
+pub(crate) struct Claim {
+    pub node: u32,
+    pub unit: u32,
 }
 
 // The machine before any claim, with the cost of a schedule that may be missing.
@@ -86,25 +93,23 @@ pub(crate) fn holds(state: &State)
 pub(crate) fn search_tree<R: Wait, G: Gate>(
     rt: &R,
     alloc: Global,
-    lent: &mut Lent,
-    repairs: &mut Repair,
-    instance: &Instance,
+    worker: &mut Worker,
     options: &Options,
     start: Start,
     gate: &G,
 ) -> Result<Search, NoMemory>
-    requires lawful { IsLawfulInstance instance.now }
-    requires lent { IsLentOf instance.now lent.old }
+    requires lawful { IsLawfulInstance worker.old.evaluator }
     requires budget { options.now.budget ≤ MAX_BUDGET }
     requires gap { options.now.gap ≤ WHOLE_GAP }
-    requires opening { IsPricedOf instance.now start.opening }
-    requires accepted { IsAcceptedIfFound instance.now start.best }
-    requires next { IsNextAt instance.now 1 start.next }
-    ensures lent { IsLentOf instance.now lent.new }
-    ensures grown { IfOk result (λ search. IsGrown instance.now start.opening options.now.budget options.now.gap search.state search.best) }
+    requires opening { IsPricedOf worker.old.evaluator start.opening }
+    requires accepted { IsAcceptedIfFound worker.old.evaluator start.best }
+    requires next { IsNextAt worker.old.evaluator 1 start.next }
+    ensures kept { worker.new.evaluator ≡ worker.old.evaluator }
+    ensures grown { IfOk result (λ search. IsGrown worker.old.evaluator start.opening options.now.budget options.now.gap search.state search.best) }
     ensures no_worse { IfOk result (λ search. IsNoWorse start.best search.best) }
 {
     let mut next = start.next;
+    let instance = worker.evaluator.instance();
     let state = begun(alloc, instance, options, start.opening, &start.best)?;
     let mut search = Search {
         frontier: Frontier::of_root(alloc, &state)?,
@@ -121,17 +126,7 @@ pub(crate) fn search_tree<R: Wait, G: Gate>(
         };
         let unit = had + 1;
         gate.enter(rt, WORKER, unit);
-        search = turn(
-            alloc,
-            lent,
-            repairs,
-            instance,
-            options.gap,
-            search,
-            node,
-            unit,
-            next,
-        )?;
+        search = turn(alloc, worker, options.gap, search, Claim { node, unit }, next)?;
         next = None;
     }
     Ok(search)
@@ -143,7 +138,7 @@ fn is_finished(search: &Search, gap: u32) -> bool
     requires { gap ≤ WHOLE_GAP }
     ensures { IsTrue result → tree_bound search.now.state.tree ≢ None → is_schedule_within search.now.best (tree_bound search.now.state.tree) gap ≡ true }
 {
-    match &search.frontier.least() {
+    match search.frontier.least() {
         Some(bound) => is_closed(&search.best, bound, gap) && is_settled(search, gap),
         None => is_settled(search, gap),
     }
@@ -154,101 +149,62 @@ fn is_settled(search: &Search, gap: u32) -> bool
     requires { gap ≤ WHOLE_GAP }
     ensures { IsTrue result → tree_bound search.now.state.tree ≢ None → is_schedule_within search.now.best (tree_bound search.now.state.tree) gap ≡ true }
 {
-    match &search.state.tree().bound() {
+    match search.state.tree().bound() {
         Some(bound) => is_closed(&search.best, bound, gap),
         None => true,
     }
 }
 
-// Ends the claim of this unit, by which the node is held, and publishes the best schedule of those so far and what a repair finds.
+// Ends the claim, and publishes the best schedule of that so far and of what a repair finds.
 fn turn(
     alloc: Global,
-    lent: &mut Lent,
-    repairs: &mut Repair,
-    instance: &Instance,
+    worker: &mut Worker,
     gap: u32,
-    search: Search,
-    node: u32,
-    unit: u32,
+    mut search: Search,
+    claim: Claim,
     next: Option<Ascent>,
 ) -> Result<Search, NoMemory>
-    requires lawful { IsLawfulInstance instance.now }
-    requires lent { IsLentOf instance.now lent.old }
     requires gap { gap ≤ WHOLE_GAP }
-    requires unit { unit ≤ MAX_BUDGET }
-    requires ready { IsReady instance.now search.state node unit }
-    requires accepted { IsAcceptedIfFound instance.now search.best }
-    requires next { IsNextAt instance.now unit next }
-    ensures lent { IsLentOf instance.now lent.new }
-    ensures turned { IfOk result (λ after. IsTurned instance.now search.state after.state after.best node unit) }
-    ensures accepted { IfOk result (λ after. IsAcceptedIfFound instance.now after.best) }
+    requires unit { claim.unit ≤ MAX_BUDGET }
+    requires ready { IsReady worker.old.evaluator search.state claim.node claim.unit }
+    requires accepted { IsAcceptedIfFound worker.old.evaluator search.best }
+    requires next { IsNextAt worker.old.evaluator claim.unit next }
+    ensures kept { worker.new.evaluator ≡ worker.old.evaluator }
+    ensures turned { IfOk result (λ after. IsTurned worker.old.evaluator search.state after.state after.best claim.node claim.unit) }
+    ensures accepted { IfOk result (λ after. IsAcceptedIfFound worker.old.evaluator after.best) }
     ensures no_worse { IfOk result (λ after. IsNoWorse search.best after.best) }
 {
-    let moves = moves_of(instance, &next, unit);
-    let found = search.best.is_some();
-    let mut state = search.state;
-    let mut frontier = search.frontier;
-    let ascent = visit(
-        alloc,
-        lent,
-        instance,
-        &mut state,
-        &mut frontier,
-        found,
-        node,
-        unit,
-        next,
-    )?;
-    let best = match &frontier.least() {
-        Some(bound) if !is_closed(&search.best, bound, gap) => {
-            let enough = enough(bound, gap);
-            repaired(
-                alloc,
-                repairs,
-                instance,
-                &ascent,
-                moves,
-                enough,
-                search.best,
-            )?
-        }
-        _ => search.best,
-    };
-    publish(alloc, &mut state, &best)?;
-    Ok(Search {
-        state,
-        best,
-        frontier,
-    })
-}
-
-// How many moves the repair of a claim has: none where its ascent was made, and repaired, already.
-fn moves_of(instance: &Instance, next: &Option<Ascent>, unit: u32) -> u32
-    requires { IsLawfulInstance instance.now }
-{
-    if next.is_some() {
-        0
-    } else {
-        moves(instance, unit)
+    let is_repaired = next.is_some();
+    let trial = visit(alloc, worker, &mut search, claim, next)?;
+    if !is_repaired {
+        search.best = repaired(alloc, worker, gap, claim.unit, search.frontier.least(), &trial, search.best)?;
     }
+    publish(alloc, &mut search.state, &search.best)?;
+    Ok(search)
 }
 
-// The better schedule of the best so far and of what a repair of the ascent finds in so many moves, which ends at a cost that is `enough`.
-// An ascent without shares has none.
+// The cheaper of the best schedule so far and of what a repair of the trial's ascent finds, unless no node is open, or the best one
+// closes the tree already.
 fn repaired(
     alloc: Global,
-    repairs: &mut Repair,
-    instance: &Instance,
-    ascent: &Ascent,
-    moves: u32,
-    enough: i64,
+    worker: &mut Worker,
+    gap: u32,
+    unit: u32,
+    least: Option<i128>,
+    trial: &Trial,
     best: Option<(Printed, i64)>,
 ) -> Result<Option<(Printed, i64)>, NoMemory>
-    requires lawful { IsLawfulInstance instance.now }
-    requires best { IsAcceptedIfFound instance.now best }
-    ensures accepted { IfOk result (IsAcceptedIfFound instance.now) }
+    requires gap { gap ≤ WHOLE_GAP }
+    requires best { IsAcceptedIfFound worker.old.evaluator best }
+    ensures kept { worker.new.evaluator ≡ worker.old.evaluator }
+    ensures accepted { IfOk result (IsAcceptedIfFound worker.old.evaluator) }
     ensures no_worse { IfOk result (IsNoWorse best) }
 {
-    let moves = if ascent.shares.is_empty() { 0 } else { moves };
-    improved(alloc, repairs, instance, ascent, moves, enough, best)
+    match (least, trial.ascent()) {
+        (Some(bound), Some(ascent)) if !is_closed(&best, bound, gap) => {
+            let moves = moves(worker.evaluator.instance(), unit);
+            improved(alloc, worker, ascent, moves, enough(bound, gap), best)
+        }
+        _ => Ok(best),
+    }
 }

@@ -1,5 +1,5 @@
 -- The search over the tree between claims, and what a claim of a node is to be.
-use Rattle.std.specs.Prelude.{◌≡◌, ◌≢◌, ℕ, ◌+◌, ◌<◌, ◌≤◌, false, All, [], ℤ, pos, ◌≤ℤ◌, ◌<ℤ◌, unsigned_abs, Option, None, Some, length}
+use Rattle.std.specs.Prelude.{◌≡◌, ◌≢◌, ℕ, ◌+◌, ◌<◌, ◌≤◌, false, All, [], ℤ, pos, ◌≤ℤ◌, ◌<ℤ◌, Option, None, Some, length}
 use Rattle.uc_model.specs.Schedule.{thermal_count}
 use Rattle.uc_model.specs.declared.instance.Instance.{Instance}
 use Rattle.uc_model.specs.declared.schedule.Printed.{Printed}
@@ -7,33 +7,27 @@ use Rattle.dual_model.specs.Fixings.{IsNodeOf}
 use Rattle.dual_model.specs.Prices.{IsLawfulTable}
 use Rattle.dual_model.specs.declared.node.Node.{Node}
 use Rattle.dual_model.specs.declared.table.Table.{Table}
-use Rattle.dual_value.specs.NodeAnswer.{MAX_VALUE}
 use Rattle.branch_tree.specs.Closing.{is_schedule_within}
 use Rattle.branch_tree.specs.NumberedTree.{node_count}
 use Rattle.branch_tree.specs.StoredTree.{IsNodeAt, tree_bound}
 use Rattle.branch_tree.specs.TreeView.{IsOpenAt}
 use Rattle.branch_tree.specs.declared.found.Entry.{Entry}
 use Rattle.branch_tree.specs.declared.found.Outcome.{Outcome}
-use Rattle.branch_tree.specs.declared.found.Outcome.TheVariants as outcome
 use Rattle.search_core.specs.declared.event.Event.TheVariants.{Commit}
 use Rattle.search_core.specs.declared.event.Move.{Move}
 use Rattle.search_core.specs.Machine.{Machine, IsHolding, IsWorker, entries_of, start_of}
 use Rattle.search_core.specs.Moves.{HasFreeCell, bound_of}
 use Rattle.search_core.specs.Steps.{IsFresh, IsLegal, IsStoredTable, after}
-use Rattle.search_core.specs.Runs.{IsReached, IsTrueOutcome}
+use Rattle.search_core.specs.Runs.{IsReached}
 use Rattle.schedule_check.specs.Accepted.{IsAcceptedIfFound}
 use Rattle.claims.specs.Claims.{HasStoredTable, IsPublished}
-use Rattle.workers.specs.declared.opening.Priced.{Priced}
+use Rattle.opening.specs.Outcomes.{IsOutcomeAt, IsSized}
+use Rattle.opening.specs.declared.root_tables.Priced.{Priced}
 
 -- the machine's start: one worker, and a root that stores the opening's table with its bound
 abbrev pub start_by : Instance → Priced → ℕ → ℕ → Machine
 start_by instance opening budget gap =
     start_of (thermal_count instance) instance.periods 1 budget gap opening.table (bound_of opening.value opening.table.k)
-
--- a value is at most so large
-abbrev pub IsSized : Outcome → Type 0
-IsSized (outcome.Value v) = unsigned_abs v ≤ MAX_VALUE
-IsSized (outcome.Empty g) = Unit {0}
 
 abbrev pub IsSizedEntry : Entry → Type 0
 IsSizedEntry entry = IsSized entry.outcome
@@ -76,18 +70,13 @@ pub record IsTableFor (instance : Instance) (m : Machine) (node unit : ℕ) (tab
   pub fresh : IsFresh m (entries_of m.log node) table
   pub first : entries_of m.log node ≡ [] → node ≢ 0 → HasFreeCell m.tree node → IsStoredTable m node table
 
--- the outcome is true of the node at the table, and of a size
-pub record IsOutcomeOf (instance : Instance) (path : Node) (table : Table) (outcome : Outcome) : Type 0 where
-  pub told : IsTrueOutcome instance path table outcome
-  pub sized : IsSized outcome
-
 -- the claim of this unit ended by a commit
 pub record IsVisited (instance : Instance) (m after_m : Machine) (node unit : ℕ) : Type 0 where
   pub table : Table
   pub outcome : Outcome
   pub action : Move
   pub fits : IsTableFor instance m node unit table
-  pub told : (path : Node) → IsNodeAt m.tree node path → IsOutcomeOf instance path table outcome
+  pub told : (path : Node) → IsNodeAt m.tree node path → IsOutcomeAt instance path table outcome
   pub legal : IsLegal m (Commit 0 unit table outcome action)
   pub is : after_m ≡ after m (Commit 0 unit table outcome action)
 

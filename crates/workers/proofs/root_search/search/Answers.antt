@@ -6,7 +6,7 @@ use Rattle.schedule_check.specs.Accepted.{IsAcceptedIfFound}
 use Rattle.search_core.specs.Runs.{HoldsAt}
 use Rattle.workers.specs.SearchResult.{IsNoDearer, IsSearchResult}
 use Rattle.workers.specs.Writable.{IsWritable}
-use Rattle.workers.specs.declared.opening.Priced.{Priced}
+use Rattle.opening.specs.declared.root_tables.Priced.{Priced}
 use Rattle.workers.specs.inside.Answers.{IsAnswerOf}
 use Rattle.workers.specs.inside.Searches.{start_by}
 use Rattle.decommitment.specs.Standings.{ending_of}

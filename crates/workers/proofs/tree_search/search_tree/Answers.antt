@@ -8,7 +8,7 @@ use Rattle.workers.proofs.tree_search.search_tree.Goals as goal
 
 pub loop-had-init : goal.loop-had-init
 loop-had-init g c =
-    let instance = c.args.instance.now in
+    let instance = c.args.worker.now.evaluator in
     let opening = c.args.start.opening in
     let budget = c.args.options.now.budget in
     let gap = c.args.options.now.gap in
@@ -18,7 +18,7 @@ loop-had-init g c =
     let published = c.in_ok-state.ensures in
     let begun = start_searching instance opening budget gap c.requires.opening c.requires.budget c.requires.gap in
     record {
-      lent = c.requires.lent;
+      kept = refl;
       searching = published_searching instance opening budget gap start state best begun c.requires.accepted published;
       count = published_claims start state best published;
       published = published_best start state None best refl (better_than_none best) published;
@@ -30,13 +30,13 @@ loop-had-init g c =
 pub returns-then-is_finished-clause-grown : goal.returns-then-is_finished-clause-grown
 returns-then-is_finished-clause-grown g c =
     let before = c.loop-had.invariant in
-    grown_closed c.args.instance.now c.args.start.opening c.args.options.now.budget c.args.options.now.gap c.loop-had.search.state
+    grown_closed c.args.worker.now.evaluator c.args.start.opening c.args.options.now.budget c.args.options.now.gap c.loop-had.search.state
     c.loop-had.search.best before.searching before.published before.accepted
     (c.is_finished.ensures c.if-is_finished.true)
 
 pub returns-in_default-clause-grown : goal.returns-in_default-clause-grown
 returns-in_default-clause-grown g c =
-    let instance = c.args.instance.now in
+    let instance = c.args.worker.now.evaluator in
     let opening = c.args.start.opening in
     let budget = c.args.options.now.budget in
     let gap = c.args.options.now.gap in
@@ -51,7 +51,7 @@ returns-in_default-clause-grown g c =
 
 pub turn-requires-clause-ready : goal.turn-requires-clause-ready
 turn-requires-clause-ready g c =
-    let instance = c.args.instance.now in
+    let instance = c.args.worker.now.evaluator in
     let opening = c.args.start.opening in
     let budget = c.args.options.now.budget in
     let gap = c.args.options.now.gap in
@@ -64,7 +64,7 @@ turn-requires-clause-ready g c =
 
 pub loop-had-preserved : goal.loop-had-preserved
 loop-had-preserved g c =
-    let instance = c.args.instance.now in
+    let instance = c.args.worker.now.evaluator in
     let opening = c.args.start.opening in
     let budget = c.args.options.now.budget in
     let gap = c.args.options.now.gap in
@@ -81,7 +81,7 @@ loop-had-preserved g c =
     let both = turned_searching instance opening budget gap state new after.state after.best node unit before.searching claimed.0 claimed.1 unit_is
     ready c.in_ok-search.ensures.accepted c.in_ok-search.ensures.turned in
     record {
-      lent = c.in_ok-search.ensures.lent;
+      kept = c.in_ok-search.ensures.kept ∙ before.kept;
       searching = both.0;
       count = both.1;
       published = turned_best instance state new after.state c.loop-had.search.best after.best node unit claimed.1 ready before.published

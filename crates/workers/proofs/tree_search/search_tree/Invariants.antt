@@ -1,19 +1,19 @@
--- What is lent stays the instance's, each claim so far was committed, and the best schedule is accepted, published and got no worse; an
+-- The worker stays the instance's, each claim so far was committed, and the best schedule is accepted, published and got no worse; an
 -- ascent that was made already is that of the next claim.
 use Rattle.std.proofs.Common.{◌≡◌, suc, length}
 use Rattle.schedule_check.specs.Accepted.{IsAcceptedIfFound}
-use Rattle.workers.specs.inside.Evaluations.{IsLentOf, IsNextAt}
+use Rattle.workers.specs.inside.Trials.{IsNextAt}
 use Rattle.workers.specs.inside.Searches.{IsSearching, cost_of}
 use Rattle.workers.specs.inside.Best.{IsNoWorse}
 use Rattle.workers.proofs.tree_search.search_tree.Given as goal
 
 abbrev pub invariant-loop-had : goal.invariant-loop-had
 invariant-loop-had g l = record {
-  lent : IsLentOf l.instance l.lent;
-  searching : IsSearching l.instance l.fn.start.opening l.options.budget l.options.gap l.search.state;
+  kept : l.worker.evaluator ≡ l.fn.worker.evaluator;
+  searching : IsSearching l.fn.worker.evaluator l.fn.start.opening l.options.budget l.options.gap l.search.state;
   count : length l.search.state.claims ≡ l.had;
   published : l.search.state.best ≡ cost_of l.search.best;
-  accepted : IsAcceptedIfFound l.instance l.search.best;
+  accepted : IsAcceptedIfFound l.fn.worker.evaluator l.search.best;
   no_worse : IsNoWorse l.fn.start.best l.search.best;
-  next : IsNextAt l.instance (suc l.had) l.next;
+  next : IsNextAt l.fn.worker.evaluator (suc l.had) l.next;
 }

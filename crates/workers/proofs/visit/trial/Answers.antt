@@ -8,13 +8,12 @@ use Rattle.workers.proofs.visit.trial.Goals as goal
 
 pub returns-then-is_new-clause-table : goal.returns-then-is_new-clause-table
 returns-then-is_new-clause-table c =
-    let instance = c.args.instance.now in
-    let state = c.args.state.now in
-    let stored = subst (IsStoredTable state c.args.node) (sym c.in_ok-table.ensures) c.stored_table.ensures in
-    subst (IsTableFor instance state c.args.node c.args.unit) (sym c.without_shares.ensures)
-    (inherited_fits instance state c.args.node c.args.unit c.in_ok-table.table c.requires.ready (c.is_new.ensures.new c.if-is_new.true) stored)
+    let instance = c.args.worker.now.evaluator in
+    let state = c.args.search.now.state in
+    let stored = subst (IsStoredTable state c.args.claim.node) (sym c.in_ok-table.ensures) c.stored_table.ensures in
+    (inherited_fits instance state c.args.claim.node c.args.claim.unit c.in_ok-table.table c.requires.ready (c.is_new.ensures.new c.if-is_new.true) stored)
 
 pub returns-clause-table : goal.returns-clause-table
 returns-clause-table c =
-    stepped_fits c.args.instance.now c.args.state.now c.args.node c.args.unit c.in_ok-ascent.ascent.table c.requires.ready
+    stepped_fits c.args.worker.now.evaluator c.args.search.now.state c.args.claim.node c.args.claim.unit c.in_ok-ascent.ascent.table c.requires.ready
     (c.is_new.ensures.known c.if-is_new.false) c.in_ok-ascent.ensures.lawful c.in_ok-ascent.ensures.scale

@@ -1,0 +1,591 @@
+//! A bundle of cuts of the Lagrangian bound, and the move to where they say that it is higher.
+//!
+//! A cut lies above the bound at all prices. The move is that of a proximal bundle: it maximises the least of the cuts less the
+//! square of its length over twice the stride. It is the stride times a mean of the cuts' slopes, and the weights of this mean are
+//! found by moving weight from the highest of the weighted cuts to the lowest cut.
+
+use crate::numbers::{at, narrow, times, within, word};
+use crate::products::{Products, add_multiple};
+use std::alloc::Global;
+use uc_model::{Instance, NoMemory, Thermal};
+
+/// The sum of the weights.
+pub const WHOLE: i64 = 1 << 24;
+
+/// The greatest slope in size.
+const STEEPEST: i64 = 1 << 20;
+
+/// The stride is in parts of this.
+const PART: i64 = 1 << 16;
+
+/// The greatest stride.
+const LONGEST: i64 = 1 << 40;
+
+/// How often the prices that stay at 0 are found anew, and how often weight is moved then.
+const PASSES: u32 = 4;
+
+const SHIFTS: u32 = 60;
+
+/// A cut of less weight may be given up.
+const LIGHT: i64 = 1 << 14;
+
+/// The most cuts that are kept, and those where there are more cells than so many.
+const MOST_CUTS: usize = 24;
+
+const FEW_CUTS: usize = 4;
+
+const MANY_CELLS: usize = 8000;
+
+/// The most doublings of the unit of slopes.
+const DOUBLINGS: u32 = 43;
+
+/// A cut: its slope in each price, in units of watts that are the bundle's, by how much it lies above the bound at the centre, its
+/// weight, and how often each unit was on in each period where it was found, in parts of `PART`.
+#[derive(Drop)]
+pub struct Cut {
+    pub slopes: Vec<i64>,
+    pub error: i128,
+    pub weight: i64,
+    pub shares: Vec<i64>,
+}
+
+/// The cuts, and the products of their slopes over the prices that move freely; how many prices may be below 0, which come first; how many
+/// act on the whole system, which are these and as many after them, and then on each unit whose ramps can bind; by how much slopes are
+/// enlarged: those of the system, by 1, and then those of each such unit; the watts of a unit of slopes; the stride, in parts of `PART`;
+/// and the most cuts that are kept.
+#[derive(Drop)]
+pub struct Bundle {
+    cuts: Vec<Cut>,
+    products: Products,
+    free: usize,
+    system: usize,
+    metrics: Vec<i64>,
+    unit: i64,
+    stride: i64,
+    most: usize,
+}
+
+/// A move of each price, those that aren't 0 by their places, and by how much the bound rises at most with them.
+#[derive(Drop)]
+pub struct Move {
+    pub moves: Vec<i64>,
+    pub moved: Vec<(usize, i64)>,
+    pub predicted: i128,
+}
+
+// The cut that lies lowest after the move, the highest that has weight, and their heights.
+#[derive(Clone, Copy)]
+struct Ends {
+    low: usize,
+    least: i128,
+    high: usize,
+    most: i128,
+}
+
+impl Bundle {
+    /// A bundle without cuts for the ascents of an instance, in which the ramps of these units can bind. The only error is `NoMemory`.
+    pub fn of(alloc: Global, instance: &Instance, ramped: &[u32]) -> Result<Bundle, NoMemory> {
+        let periods = instance.periods as usize;
+        let units = instance.thermal.as_slice().len();
+        Ok(Bundle {
+            cuts: Vec::new(alloc),
+            products: Products::none(alloc),
+            free: periods,
+            system: periods.saturating_mul(2),
+            metrics: metrics(alloc, instance, ramped)?,
+            unit: slope_unit(instance),
+            stride: 1,
+            most: if units.saturating_mul(periods) <= MANY_CELLS {
+                MOST_CUTS
+            } else {
+                FEW_CUTS
+            },
+        })
+    }
+
+    /// Whether few cuts are kept.
+    pub fn has_few_cuts(&self) -> bool {
+        self.most <= FEW_CUTS
+    }
+
+    /// The first cut, with all weight, by which the first step is to raise the bound by so much.
+    pub fn begin(&mut self, alloc: Global, cut: Cut, rise: i128) -> Result<(), NoMemory> {
+        let slopes = moved(alloc, &cut.slopes)?;
+        let length = self.change(&cut.slopes, &slopes).max(1);
+        let rise = rise.saturating_mul(i128::from(PART));
+        self.stride = within(rise / length, LONGEST).max(1);
+        self.push(alloc, cut)
+    }
+
+    /// Another stride where a step promises hardly anything: a longer one, or a shorter one by the newest cut alone where it promises
+    /// a loss.
+    pub fn try_another_stride(&mut self, predicted: i128) {
+        if predicted >= 0 {
+            self.scale_stride(4, 1);
+        } else {
+            self.scale_stride(7, 10);
+            self.trust_newest();
+        }
+    }
+
+    /// Makes slopes of the watts that lack of what each price is of.
+    pub fn make_slopes(&self, watts: &mut [i64]) {
+        let unit = self.unit.max(1);
+        for (i, own) in watts.iter_mut().enumerate() {
+            let enlarged = own.saturating_mul(self.metric_at(i));
+            *own = (enlarged / unit).max(-STEEPEST).min(STEEPEST);
+        }
+    }
+
+    // By how much the slopes in price i are enlarged.
+    fn metric_at(&self, i: usize) -> i64 {
+        at(&self.metrics, i / self.system.max(1)).max(1)
+    }
+
+    /// The move from the centre, at which the bound is some `size`.
+    pub fn step(&mut self, alloc: Global, center: &[i64], size: i128) -> Result<Move, NoMemory> {
+        let mut moves = self.moves(alloc, center)?;
+        for _ in 0..PASSES {
+            self.balance(alloc, center, &moves, size)?;
+            let next = self.moves(alloc, center)?;
+            let same = are_same_bounds(center, &moves, &next);
+            moves = next;
+            if same {
+                break;
+            }
+        }
+        let moved = moved(alloc, &moves)?;
+        let predicted = self.predicted(&moved);
+        Ok(Move {
+            moves,
+            moved,
+            predicted,
+        })
+    }
+
+    // The move by the weights, that of a price which would end at or below 0, where it may not, being to 0.
+    fn moves(&self, alloc: Global, center: &[i64]) -> Result<Vec<i64>, NoMemory> {
+        let sums = self.sums(alloc, center.len())?;
+        let mut moves = Vec::new(alloc);
+        for (i, price) in center.iter().enumerate() {
+            moves.push(self.move_of(i, *price, at(&sums, i)))?;
+        }
+        Ok(moves)
+    }
+
+    // The move of price i, by the weighted sum of the cuts' slopes in it.
+    fn move_of(&self, i: usize, price: i64, sum: i64) -> i64 {
+        let mean = (sum / PART).saturating_mul(self.metric_at(i));
+        let by = narrow(times(self.stride, mean) / i128::from(WHOLE));
+        if i >= self.free && price.saturating_add(by) <= 0 {
+            price.saturating_neg()
+        } else {
+            by
+        }
+    }
+
+    // The weighted sum of the cuts' slopes in each price.
+    fn sums(&self, alloc: Global, count: usize) -> Result<Vec<i64>, NoMemory> {
+        let mut sums = vec![in alloc; 0_i64; count]?;
+        for cut in &self.cuts {
+            if cut.weight > 0 {
+                add_multiple(&mut sums, &cut.slopes, cut.weight);
+            }
+        }
+        Ok(sums)
+    }
+
+    // Moves weight from the highest weighted cuts to the lowest one.
+    fn balance(
+        &mut self,
+        alloc: Global,
+        center: &[i64],
+        moves: &[i64],
+        size: i128,
+    ) -> Result<(), NoMemory> {
+        let reach = self.stride.saturating_mul(self.unit);
+        let active = self.active(alloc, center, moves)?;
+        self.recount(alloc, &active)?;
+        let mut heights = self.heights(alloc, moves, &active, reach)?;
+        let enough = size / 10_000_000;
+        for _ in 0..SHIFTS {
+            let ends = self.ends(&heights);
+            let apart = ends.most.saturating_sub(ends.least);
+            if ends.low == ends.high || apart <= enough {
+                break;
+            }
+            let amount = self.amount(&ends, apart, reach);
+            if amount == 0 {
+                break;
+            }
+            self.shift(&mut heights, &ends, amount, reach);
+        }
+        Ok(())
+    }
+
+    // Counts these prices in the products, and no others.
+    fn recount(&mut self, alloc: Global, active: &[bool]) -> Result<(), NoMemory> {
+        self.products.count(alloc, &self.cuts, active)
+    }
+
+    // The heights of the cuts after the move, by the products over the prices that are active.
+    fn heights(
+        &self,
+        alloc: Global,
+        moves: &[i64],
+        active: &[bool],
+        reach: i64,
+    ) -> Result<Vec<i128>, NoMemory> {
+        let stopped = stopped(alloc, moves, active)?;
+        let mut heights = Vec::new(alloc);
+        for (cut, row) in self.cuts.iter().zip(&self.products.rows) {
+            let fixed = self.fixed(cut, &stopped);
+            heights.push(fixed.saturating_add(along(self.mean_product(row), reach)))?;
+        }
+        Ok(heights)
+    }
+
+    // Which prices don't end at 0.
+    fn active(&self, alloc: Global, center: &[i64], moves: &[i64]) -> Result<Vec<bool>, NoMemory> {
+        let mut active = Vec::new(alloc);
+        for (i, price) in center.iter().enumerate() {
+            active.push(i < self.free || price.saturating_add(at(moves, i)) != 0)?;
+        }
+        Ok(active)
+    }
+
+    // The ends by these heights.
+    fn ends(&self, heights: &[i128]) -> Ends {
+        let mut ends = Ends {
+            low: 0,
+            least: i128::MAX,
+            high: 0,
+            most: i128::MIN,
+        };
+        for (k, (cut, height)) in self.cuts.iter().zip(heights).enumerate() {
+            if *height < ends.least {
+                ends.low = k;
+                ends.least = *height;
+            }
+            if cut.weight > 0 && *height > ends.most {
+                ends.high = k;
+                ends.most = *height;
+            }
+        }
+        ends
+    }
+
+    // The weighted mean of a cut's products with all cuts.
+    fn mean_product(&self, row: &[i64]) -> i64 {
+        let mut sum: i128 = 0;
+        for (product, cut) in row.iter().zip(&self.cuts) {
+            sum = sum.saturating_add(times(*product, cut.weight));
+        }
+        word(sum / i128::from(WHOLE))
+    }
+
+    // How much weight moves between the ends, which are so far apart.
+    fn amount(&self, ends: &Ends, apart: i128, reach: i64) -> i64 {
+        let between = self.products.of(ends.low, ends.high).saturating_mul(2);
+        let bend = self
+            .products
+            .of(ends.low, ends.low)
+            .saturating_add(self.products.of(ends.high, ends.high))
+            .saturating_sub(between);
+        let whole = apart.saturating_mul(i128::from(WHOLE)) / along(bend, reach).max(1);
+        let most = match self.cuts.get(ends.high) {
+            Some(cut) => cut.weight,
+            None => 0,
+        };
+        within(whole, most.max(0)).max(0)
+    }
+
+    // Moves so much weight from the highest cut to the lowest one.
+    fn shift(&mut self, heights: &mut [i128], ends: &Ends, amount: i64, reach: i64) {
+        if let Some(cut) = self.cuts.get_mut(ends.high) {
+            cut.weight = cut.weight.saturating_sub(amount);
+        }
+        if let Some(cut) = self.cuts.get_mut(ends.low) {
+            cut.weight = cut.weight.saturating_add(amount);
+        }
+        for (k, height) in heights.iter_mut().enumerate() {
+            let more = self.products.of(ends.low, k);
+            let change = times(more.saturating_sub(self.products.of(ends.high, k)), amount);
+            let moved = along(word(change / i128::from(WHOLE)), reach);
+            *height = height.saturating_add(moved);
+        }
+    }
+
+    // The error of a cut after the moves of the prices that end at 0.
+    fn fixed(&self, cut: &Cut, stopped: &[(usize, i64)]) -> i128 {
+        cut.error.saturating_add(self.change(&cut.slopes, stopped))
+    }
+
+    /// By how much a cut with these slopes changes with the moves of some prices.
+    pub fn change(&self, slopes: &[i64], moved: &[(usize, i64)]) -> i128 {
+        let mut change: i128 = 0;
+        let mut enlarged: i128 = 0;
+        let mut metric: i64 = 1;
+        for (i, by) in moved {
+            let own = self.metric_at(*i);
+            if own != metric {
+                change = change.wrapping_add(enlarged / i128::from(metric.max(1)));
+                enlarged = 0;
+                metric = own;
+            }
+            enlarged = enlarged.wrapping_add(times(at(slopes, *i), *by));
+        }
+        change
+            .wrapping_add(enlarged / i128::from(metric.max(1)))
+            .saturating_mul(i128::from(self.unit))
+    }
+
+    // By how much the bound rises at most with the moves, by the cuts that have weight.
+    fn predicted(&self, moved: &[(usize, i64)]) -> i128 {
+        let mut least = i128::MAX;
+        for cut in &self.cuts {
+            if cut.weight > 0 {
+                least = least.min(cut.error.saturating_add(self.change(&cut.slopes, moved)));
+            }
+        }
+        least
+    }
+
+    /// Lengthens or shortens the stride.
+    pub fn scale_stride(&mut self, times: i64, over: i64) {
+        let stride = i128::from(self.stride).saturating_mul(i128::from(times))
+            / i128::from(over.max(1));
+        self.stride = within(stride, LONGEST).max(1);
+    }
+
+    // All weight to the newest cut.
+    fn trust_newest(&mut self) {
+        let count = self.cuts.len();
+        for (k, cut) in self.cuts.iter_mut().enumerate() {
+            cut.weight = if k.saturating_add(1) == count {
+                WHOLE
+            } else {
+                0
+            };
+        }
+    }
+
+    /// The centre moved: each cut's error is anew what it lies above the bound there.
+    pub fn recenter(&mut self, moved: &[(usize, i64)], gain: i128) {
+        for k in 0..self.cuts.len() {
+            let change = match self.cuts.get(k) {
+                Some(cut) => self.change(&cut.slopes, moved),
+                None => 0,
+            };
+            if let Some(cut) = self.cuts.get_mut(k) {
+                cut.error = cut.error.saturating_add(change).saturating_sub(gain);
+            }
+        }
+    }
+
+    /// Takes a cut. Where there are too many, one that has hardly any weight is given up, or else all but the newest ones are made one.
+    pub fn push(&mut self, alloc: Global, cut: Cut) -> Result<(), NoMemory> {
+        self.cuts.push(cut)?;
+        self.products.push(alloc, &self.cuts)?;
+        if self.cuts.len() > self.most {
+            let (lightest, least) = self.lightest();
+            if least < LIGHT {
+                self.give_up(lightest);
+            } else {
+                self.merge(alloc)?;
+            }
+        }
+        Ok(())
+    }
+
+    // The cut of least weight but the newest one, and its weight.
+    fn lightest(&self) -> (usize, i64) {
+        let newest = self.cuts.len().saturating_sub(1);
+        let mut lightest = 0;
+        let mut least = i64::MAX;
+        for (k, cut) in self.cuts.iter().enumerate() {
+            if k < newest && cut.weight < least {
+                lightest = k;
+                least = cut.weight;
+            }
+        }
+        (lightest, least)
+    }
+
+    // Gives up a cut, and its weight to the newest one.
+    fn give_up(&mut self, k: usize) {
+        if k < self.cuts.len() {
+            let lost = self.cuts.remove(k).weight;
+            self.products.give_up(k);
+            if let Some(cut) = self.cuts.last_mut() {
+                cut.weight = cut.weight.saturating_add(lost);
+            }
+        }
+    }
+
+    // Makes one cut, the weighted mean, of all but the newest ones.
+    fn merge(&mut self, alloc: Global) -> Result<(), NoMemory> {
+        let newest = self.most.saturating_sub(2);
+        let old = self.cuts.len().saturating_sub(newest);
+        let mut mean = self.mean_of(alloc, old)?;
+        for _ in 0..old {
+            if !self.cuts.is_empty() {
+                mean.weight = mean.weight.saturating_add(self.cuts.remove(0).weight);
+            }
+        }
+        self.cuts.insert(0, mean)?;
+        self.products = Products::none(alloc);
+        Ok(())
+    }
+
+    /// The mean of the cuts' shares by their weights. The only error is `NoMemory`.
+    pub fn mean_shares(&self, alloc: Global) -> Result<Vec<i64>, NoMemory> {
+        let mut means = Vec::new(alloc);
+        if let Some(first) = self.cuts.first() {
+            for i in 0..first.shares.len() {
+                let mut sum: i64 = 0;
+                for cut in &self.cuts {
+                    sum = sum.saturating_add(cut.weight.saturating_mul(at(&cut.shares, i)));
+                }
+                means.push(sum / WHOLE)?;
+            }
+        }
+        Ok(means)
+    }
+
+    // The weighted mean of the first cuts, without weight.
+    fn mean_of(&self, alloc: Global, count: usize) -> Result<Cut, NoMemory> {
+        let mut mean = self.nothing(alloc)?;
+        for cut in self.cuts.iter().take(count) {
+            mean.add(cut);
+        }
+        mean.divide();
+        Ok(mean)
+    }
+
+    // A cut of noughts, as long as the others.
+    fn nothing(&self, alloc: Global) -> Result<Cut, NoMemory> {
+        let (prices, cells) = match self.cuts.first() {
+            Some(cut) => (cut.slopes.len(), cut.shares.len()),
+            None => (0, 0),
+        };
+        Ok(Cut {
+            slopes: vec![in alloc; 0_i64; prices]?,
+            error: 0,
+            weight: 0,
+            shares: vec![in alloc; 0_i64; cells]?,
+        })
+    }
+}
+
+impl Cut {
+    // Adds another one times its weight, and this weight.
+    fn add(&mut self, cut: &Cut) {
+        add_multiple(&mut self.slopes, &cut.slopes, cut.weight);
+        add_multiple(&mut self.shares, &cut.shares, cut.weight);
+        let error = cut.error.saturating_mul(i128::from(cut.weight));
+        self.error = self.error.saturating_add(error);
+        self.weight = self.weight.saturating_add(cut.weight);
+    }
+
+    // Makes a mean of what was added, without weight.
+    fn divide(&mut self) {
+        let total = self.weight.max(1);
+        divide(&mut self.slopes, total);
+        divide(&mut self.shares, total);
+        self.error = self.error / i128::from(total);
+        self.weight = 0;
+    }
+}
+
+// Divides numbers by one that is at least 1.
+fn divide(numbers: &mut [i64], by: i64) {
+    let by = by.max(1);
+    for number in numbers.iter_mut() {
+        *number = *number / by;
+    }
+}
+
+// By how much slopes are enlarged: those of the system, and those of each unit whose ramps can bind.
+fn metrics(alloc: Global, instance: &Instance, ramped: &[u32]) -> Result<Vec<i64>, NoMemory> {
+    let units = instance.thermal.as_slice();
+    let mut all: i64 = 0;
+    for unit in units {
+        all = all.saturating_add(range_of(unit));
+    }
+    let mut metrics = vec![in alloc; 1_i64; 1]?;
+    for g in ramped {
+        if let Some(unit) = units.get(*g as usize) {
+            metrics.push(metric(all, range_of(unit)))?;
+        }
+    }
+    Ok(metrics)
+}
+
+// Three tenths of the root of how many times all ranges are one unit's, since each price of a ramp acts on one unit alone.
+fn metric(all: i64, own: i64) -> i64 {
+    let times = all.saturating_mul(100) / own.max(1);
+    let root = times.max(0).isqrt();
+    (root.saturating_mul(3).saturating_add(50) / 100).max(1)
+}
+
+// The watts between a unit's least and greatest output.
+fn range_of(unit: &Thermal) -> i64 {
+    unit.pmax.saturating_sub(unit.pmin)
+}
+
+// The least power of two of which a million are no less than any period's demand and all units' greatest output.
+fn slope_unit(instance: &Instance) -> i64 {
+    let mut most: i64 = 1;
+    for unit in instance.thermal.as_slice() {
+        most = most.saturating_add(unit.pmax);
+    }
+    for demand in instance.demand.as_slice() {
+        most = most.max(demand.saturating_abs());
+    }
+    let mut unit: i64 = 1;
+    for _ in 0..DOUBLINGS {
+        if most / unit.max(1) > STEEPEST {
+            unit = unit.saturating_mul(2);
+        }
+    }
+    unit
+}
+
+// The moves of the prices that don't count.
+fn stopped(alloc: Global, moves: &[i64], active: &[bool]) -> Result<Vec<(usize, i64)>, NoMemory> {
+    let mut stopped = Vec::new(alloc);
+    for (i, (by, moves_freely)) in moves.iter().zip(active).enumerate() {
+        if *by != 0 && !*moves_freely {
+            stopped.push((i, *by))?;
+        }
+    }
+    Ok(stopped)
+}
+
+// The moves that aren't 0, by their places.
+fn moved(alloc: Global, moves: &[i64]) -> Result<Vec<(usize, i64)>, NoMemory> {
+    let mut moved = Vec::new(alloc);
+    for (i, by) in moves.iter().enumerate() {
+        if *by != 0 {
+            moved.push((i, *by))?;
+        }
+    }
+    Ok(moved)
+}
+
+// What a product of slopes is worth over such a reach: the stride, in units of slopes.
+fn along(product: i64, reach: i64) -> i128 {
+    times(product, reach) / i128::from(PART)
+}
+
+// Whether nearly the same prices end at 0.
+fn are_same_bounds(center: &[i64], first: &[i64], second: &[i64]) -> bool {
+    let mut changed: usize = 0;
+    for (price, (a, b)) in center.iter().zip(first.iter().zip(second)) {
+        if (price.saturating_add(*a) == 0) != (price.saturating_add(*b) == 0) {
+            changed = changed.saturating_add(1);
+        }
+    }
+    changed.saturating_mul(10_000) <= center.len()
+}

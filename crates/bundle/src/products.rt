@@ -1,0 +1,157 @@
+//! The products of cuts' slopes with each other, over the prices that count, kept from move to move.
+
+use crate::cuts::Cut;
+use crate::numbers::at;
+use std::alloc::Global;
+use uc_model::NoMemory;
+
+/// The products, a row for each cut, and which prices count in them. Sums go round at the ends of their type, so that a price can
+/// be taken out of them again.
+#[derive(Drop)]
+pub(crate) struct Products {
+    pub rows: Vec<Vec<i64>>,
+    counted: Vec<bool>,
+}
+
+impl Products {
+    /// The products of no cuts.
+    pub(crate) fn none(alloc: Global) -> Products {
+        Products {
+            rows: Vec::new(alloc),
+            counted: Vec::new(alloc),
+        }
+    }
+
+    /// Counts these prices and no others.
+    pub(crate) fn count(
+        &mut self,
+        alloc: Global,
+        cuts: &[Cut],
+        active: &[bool],
+    ) -> Result<(), NoMemory> {
+        if self.rows.len() != cuts.len() || self.counted.len() != active.len() {
+            self.forget(alloc, cuts.len(), active.len())?;
+        }
+        let changes = changes(alloc, &self.counted, active)?;
+        for (i, counts) in &changes {
+            self.turn(alloc, cuts, *i, *counts)?;
+        }
+        Ok(())
+    }
+
+    // As many rows of noughts, in which no price counts.
+    fn forget(&mut self, alloc: Global, cuts: usize, prices: usize) -> Result<(), NoMemory> {
+        self.rows.clear();
+        for _ in 0..cuts {
+            self.rows.push(vec![in alloc; 0_i64; cuts]?)?;
+        }
+        self.counted = vec![in alloc; false; prices]?;
+        Ok(())
+    }
+
+    // Counts price i, or counts it no longer.
+    fn turn(
+        &mut self,
+        alloc: Global,
+        cuts: &[Cut],
+        i: usize,
+        counts: bool,
+    ) -> Result<(), NoMemory> {
+        let mut slopes = Vec::new(alloc);
+        for cut in cuts {
+            slopes.push(at(&cut.slopes, i))?;
+        }
+        for (row, slope) in self.rows.iter_mut().zip(&slopes) {
+            let slope = if counts { *slope } else { slope.wrapping_neg() };
+            add_multiple(row, &slopes, slope);
+        }
+        if let Some(own) = self.counted.get_mut(i) {
+            *own = counts;
+        }
+        Ok(())
+    }
+
+    /// Adds the row of the last of the cuts, which is new.
+    pub(crate) fn push(&mut self, alloc: Global, cuts: &[Cut]) -> Result<(), NoMemory> {
+        let Some(newest) = cuts.last() else {
+            return Ok(());
+        };
+        let places = places(alloc, &self.counted)?;
+        let mut row = Vec::new(alloc);
+        for cut in cuts {
+            row.push(product_over(&places, &newest.slopes, &cut.slopes))?;
+        }
+        for (own, product) in self.rows.iter_mut().zip(&row) {
+            own.push(*product)?;
+        }
+        self.rows.push(row)?;
+        Ok(())
+    }
+
+    /// Gives up a cut.
+    pub(crate) fn give_up(&mut self, k: usize) {
+        if k < self.rows.len() {
+            let _ = self.rows.remove(k);
+        }
+        for row in self.rows.iter_mut() {
+            if k < row.len() {
+                let _ = row.remove(k);
+            }
+        }
+    }
+
+    /// The product of two cuts.
+    pub(crate) fn of(&self, k: usize, j: usize) -> i64 {
+        at(self.row(k), j)
+    }
+
+    /// The products of a cut.
+    pub(crate) fn row(&self, k: usize) -> &[i64] {
+        match self.rows.get(k) {
+            Some(row) => row,
+            None => &[],
+        }
+    }
+}
+
+// The prices that are to count and don't, or the other way round, and whether each is to.
+fn changes(
+    alloc: Global,
+    counted: &[bool],
+    active: &[bool],
+) -> Result<Vec<(usize, bool)>, NoMemory> {
+    let mut changes = Vec::new(alloc);
+    for (i, (was, is)) in counted.iter().zip(active).enumerate() {
+        if *was != *is {
+            changes.push((i, *is))?;
+        }
+    }
+    Ok(changes)
+}
+
+// The prices that count.
+fn places(alloc: Global, counted: &[bool]) -> Result<Vec<usize>, NoMemory> {
+    let mut places = Vec::new(alloc);
+    for (i, counts) in counted.iter().enumerate() {
+        if *counts {
+            places.push(i)?;
+        }
+    }
+    Ok(places)
+}
+
+// The product of two cuts' slopes over these prices.
+fn product_over(places: &[usize], first: &[i64], second: &[i64]) -> i64 {
+    let mut sum: i64 = 0;
+    for i in places {
+        sum = sum.wrapping_add(at(first, *i).wrapping_mul(at(second, *i)));
+    }
+    sum
+}
+
+/// Adds numbers times a weight.
+pub(crate) fn add_multiple(sums: &mut [i64], numbers: &[i64], weight: i64) {
+    for (sum, number) in sums.iter_mut().zip(numbers) {
+        *sum = sum.wrapping_add(weight.wrapping_mul(*number));
+    }
+}

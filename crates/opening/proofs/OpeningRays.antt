@@ -1,0 +1,46 @@
+-- Rays: one more that leaves a schedule, none where there is one, and what is told of the first that leaves none.
+use Rattle.std.proofs.Common.{◌≡◌, ◌⊎◌, ⊎_elim, ℕ, ◌+◌, ◌<◌, refl, subst, sym, arith, ℤ, pos, ◌≤ℤ◌, ◌<ℤ◌}
+use Rattle.std.proofs.lemmas.Bool.{cases_order}
+use Rattle.uc_model.specs.Limits.{IsLawfulInstance}
+use Rattle.uc_model.specs.Rules.{Obeys}
+use Rattle.uc_model.specs.Schedule.{Schedule}
+use Rattle.uc_model.specs.declared.instance.Instance.{Instance}
+use Rattle.uc_model.proofs.Ring.{linear}
+use Rattle.dual_model.specs.NodeValue.{IsNodeValue}
+use Rattle.dual_model.specs.Opening.{ray_table}
+use Rattle.dual_model.specs.Tree.{root}
+use Rattle.dual_model.proofs.NodeValues.{rays_exclude, values_are_unique}
+use Rattle.opening_tables.proofs.RayTables.{ray_lawful}
+use Rattle.opening.specs.Rays.{HasNoRay, HasNoRayBelow, IsFirstRay, IsRayPositive}
+
+-- a ray whose value isn't above 0 isn't positive
+pub not_positive : (instance : Instance) (n : ℕ) (v : ℤ) → IsNodeValue instance root (ray_table instance n) v → v ≤ℤ pos 0
+    → ¬ IsRayPositive instance n
+not_positive instance n v value below ray =
+    let same : ray.value ≡ v = values_are_unique instance root (ray_table instance n) ray.value v ray.is_value value in
+    let above : pos 0 <ℤ v = subst (λ w. pos 0 <ℤ w) same ray.positive in
+    omega (arith, linear)
+
+pub none_more : (instance : Instance) (n : ℕ) → HasNoRayBelow instance n → ¬ IsRayPositive instance n → HasNoRayBelow instance (n + 1)
+none_more instance n none this earlier within =
+    ⊎_elim
+    (λ (is : earlier ≡ n). subst (λ k. ¬ IsRayPositive instance k) (sym is) this)
+    (λ (apart : (earlier < n) ⊎ (n < earlier)). ⊎_elim (λ (l : earlier < n). none earlier l) (λ (l : n < earlier). absurd (omega arith)) apart)
+    (cases_order earlier n)
+
+-- where there is a schedule no ray is positive, by weak duality
+pub no_ray : (instance : Instance) (q : ℕ) (x : Schedule) → IsLawfulInstance instance → Obeys instance q x → HasNoRay instance
+no_ray instance q x lawful obeys n within ray =
+    let table = ray_lawful instance n lawful within in
+    rays_exclude instance root (ray_table instance n) ray.value q x lawful (record { size = table.size; signs = table.signs })
+    ray.is_value refl ray.positive (record { obeys = obeys; agrees = refl })
+
+-- there is one first
+pub first_is_one : (instance : Instance) (m n : ℕ) → IsFirstRay instance m → IsFirstRay instance n → m ≡ n
+first_is_one instance m n one other = ⊎_elim
+    (λ (e : m ≡ n). e)
+    (λ (apart : (m < n) ⊎ (n < m)). ⊎_elim
+    (λ (l : m < n). absurd (other.first m l one.positive))
+    (λ (l : n < m). absurd (one.first n l other.positive))
+    apart)
+    (cases_order m n)

@@ -1,0 +1,4 @@
+pub mod Outcomes
+pub mod Rays
+pub mod RootTables
+pub mod inside

@@ -1,0 +1,11 @@
+//! What a search does before any claim: the evaluator of an instance's nodes, the table that the root has at first, and whether the opening
+//! shows that no schedule exists.
+#![tactic(auto)]
+
+mod evaluator;
+mod rays;
+mod root_tables;
+
+pub use evaluator::{Evaluator, root_node};
+pub use rays::{excluding_ray, is_excluding, node_ray};
+pub use root_tables::{Priced, dispatched_root, unpriced_root};

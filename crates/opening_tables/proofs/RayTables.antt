@@ -1,0 +1,223 @@
+-- The tables of the opening's rays: their rows, and that they are lawful.
+use Rattle.std.proofs.Common.{◌≡◌, ◌≢◌, ℕ, zero, suc, ◌+◌, ◌-◌, ◌*◌, ◌%◌, ◌<◌, ◌≤◌, ⊎_elim, inl, inr, Bool, true, false, List, [], ◌∷◌, ◌++◌, length, get_or, refl, sym, ap, subst, ◌∙◌, arith, ℤ, pos, neg_ℤ, ◌≤ℤ◌}
+use Rattle.std.specs.Prelude.{◌⊎◌, nat_lt, unsigned_abs, slice_index_or, replicate, All, if◌then◌else◌}
+use Rattle.std.proofs.lemmas.Bool.{cases_lt}
+use Rattle.std.proofs.lemmas.Int.{ints}
+use Rattle.std.proofs.lemmas.List.{append-nil, get_or_append_left, get_or_push, length-append, length-replicate, length-set}
+use Rattle.std.proofs.lemmas.List.Elements.{All-append, All-cons, All-from_recursion, All-get_or, All-nil, All-replicate, All-set, All-weaker}
+use Rattle.uc_model.specs.Limits.{IsLawfulInstance}
+use Rattle.uc_model.specs.Schedule.{thermal_count, thermal_unit}
+use Rattle.uc_model.specs.declared.instance.Instance.{Instance}
+use Rattle.uc_model.specs.declared.instance.Thermal.{Thermal}
+use Rattle.uc_model.proofs.Ring.{linear}
+use Rattle.dual_model.specs.Opening.{OpeningRay, falls_short, first_row, first_rows, no_ray, nowhere, period_rays, price_in, ramp_rays, ray_at, ray_count, ray_period, ray_prices, ray_table, rises_short, stays_below}
+use Rattle.dual_model.specs.Prices.{IsLawfulTable, IsPrice, IsRowBefore, IsRowPriced, IsRowSigned, IsRowWithin}
+use Rattle.dual_model.specs.declared.table.RampRow.{RampRow}
+use Rattle.dual_model.specs.declared.table.Table.{Table}
+use Rattle.opening_tables.specs.inside.Rays.{down_of, named_by, up_of}
+use Rattle.opening_tables.specs.declared.rays.Ray.{Ray}
+
+-- ---- the rows
+-- one unit more
+pub rows-more : (instance : Instance) (up down : Thermal → Bool) (g : ℕ) (unit : Thermal) (rows : List RampRow) → thermal_unit instance g ≡ unit
+    → rows ≡ first_rows instance up down g → rows ++ first_row g (up unit) (down unit) ≡ first_rows instance up down (g + 1)
+rows-more instance up down g unit rows is before =
+    let whole : first_rows instance up down (suc g) ≡ first_rows instance up down (g + 1) = ap (first_rows instance up down) (next g) in
+    ap (λ xs. xs ++ first_row g (up unit) (down unit)) before
+    ∙ ap (λ (u : Thermal). first_rows instance up down g ++ first_row g (up u) (down u)) (sym is)
+    ∙ whole
+  where
+    next : (n : ℕ) → suc n ≡ n + 1
+    next n = omega arith
+
+-- a row of a unit below n in the first period, with multipliers of 0 and 1 that aren't both 0
+pub record IsFirstRow (n : ℕ) (row : RampRow) : Type 0 where
+  pub unit : row.g < n
+  period : row.t ≡ 0
+  present : (row.up ≢ pos 0) ⊎ (row.down ≢ pos 0)
+  up : pos 0 ≤ℤ row.up
+  down : pos 0 ≤ℤ row.down
+  up_size : unsigned_abs row.up ≤ 1
+  down_size : unsigned_abs row.down ≤ 1
+
+first_is : (n g up down : ℕ) → g < n → up ≤ 1 → down ≤ 1 → (pos up ≢ pos 0) ⊎ (pos down ≢ pos 0)
+    → IsFirstRow n (record { g = g; t = 0; up = pos up; down = pos down })
+first_is n g up down unit small_up small_down present = record {
+  unit = unit;
+  period = refl;
+  present = present;
+  up = omega (arith, linear);
+  down = omega (arith, linear);
+  up_size = small_up;
+  down_size = small_down;
+}
+
+one : pos 1 ≢ pos 0
+one e = absurd (omega (arith, linear, e))
+
+row_within : (n g : ℕ) (up down : Bool) → g < n → All (IsFirstRow n) (first_row g up down)
+row_within n g true true h = All-cons (IsFirstRow n) _ [] (first_is n g 1 1 h (omega arith) (omega arith) (inl one)) (All-nil (IsFirstRow n))
+row_within n g true false h = All-cons (IsFirstRow n) _ [] (first_is n g 1 0 h (omega arith) (omega arith) (inl one)) (All-nil (IsFirstRow n))
+row_within n g false true h = All-cons (IsFirstRow n) _ [] (first_is n g 0 1 h (omega arith) (omega arith) (inr one)) (All-nil (IsFirstRow n))
+row_within n g false false h = All-nil (IsFirstRow n)
+
+more_units : (n : ℕ) (row : RampRow) → IsFirstRow n row → IsFirstRow (suc n) row
+more_units n row is = record {
+  unit = omega (arith, is.unit);
+  period = is.period;
+  present = is.present;
+  up = is.up;
+  down = is.down;
+  up_size = is.up_size;
+  down_size = is.down_size;
+}
+
+pub rows_within : (instance : Instance) (up down : Thermal → Bool) (n : ℕ) → All (IsFirstRow n) (first_rows instance up down n)
+rows_within instance up down zero = All-nil (IsFirstRow zero)
+rows_within instance up down (suc n) =
+    All-append (IsFirstRow (suc n)) (first_rows instance up down n) (first_row n (up (thermal_unit instance n)) (down (thermal_unit instance n)))
+    (All-weaker (IsFirstRow n) (IsFirstRow (suc n)) (more_units n) (first_rows instance up down n) (rows_within instance up down n))
+    (row_within (suc n) n (up (thermal_unit instance n)) (down (thermal_unit instance n)) (omega arith))
+
+-- the rows rise by unit
+abbrev Rises : List RampRow → Type 0
+Rises rows = (i : ℕ) (d : RampRow) → suc i < length rows → IsRowBefore (slice_index_or rows i d) (slice_index_or rows (suc i) d)
+
+rises_push : (n : ℕ) (rows : List RampRow) (row : RampRow) → All (IsFirstRow n) rows → row.g ≡ n → Rises rows → Rises (rows ++ row ∷ [])
+rises_push n rows row within last rises i d h =
+    ⊎_elim
+    (λ (inside : suc i < length rows).
+    let earlier : i < length rows = omega arith in
+    subst (λ (a : RampRow). IsRowBefore a (get_or (rows ++ row ∷ []) (suc i) d)) (sym (get_or_append_left rows (row ∷ []) d i earlier))
+    (subst (IsRowBefore (get_or rows i d)) (sym (get_or_append_left rows (row ∷ []) d (suc i) inside)) (rises i d inside)))
+    (λ (past : length rows ≤ suc i).
+    let size : length (rows ++ row ∷ []) ≡ length rows + 1 = length-append rows (row ∷ []) in
+    let end : length rows ≡ suc i = omega (arith, size, h, past) in
+    let earlier : i < length rows = omega arith in
+    let before : (get_or rows i d).g < n = (within i d earlier).unit in
+    subst (λ (a : RampRow). IsRowBefore a (get_or (rows ++ row ∷ []) (suc i) d)) (sym (get_or_append_left rows (row ∷ []) d i earlier))
+    (subst (IsRowBefore (get_or rows i d)) (sym (get_or_push rows row d (suc i) end))
+    (record { before = inl (omega (arith, before, last)) })))
+    (cases_lt (suc i) (length rows))
+
+rises_row : (n : ℕ) (rows : List RampRow) (up down : Bool) → All (IsFirstRow n) rows → Rises rows → Rises (rows ++ first_row n up down)
+rises_row n rows true true within rises = rises_push n rows _ within refl rises
+rises_row n rows true false within rises = rises_push n rows _ within refl rises
+rises_row n rows false true within rises = rises_push n rows _ within refl rises
+rises_row n rows false false within rises = subst Rises (sym (append-nil rows)) rises
+
+rows_rise : (instance : Instance) (up down : Thermal → Bool) (n : ℕ) → Rises (first_rows instance up down n)
+rows_rise instance up down zero = λ i d h. absurd (omega arith)
+rows_rise instance up down (suc n) =
+    rises_row n (first_rows instance up down n) (up (thermal_unit instance n)) (down (thermal_unit instance n))
+    (rows_within instance up down n) (rows_rise instance up down n)
+
+-- ---- the prices
+-- a price of demand of at most 1 in size, and one of reserve that is 0 or 1
+record IsSmallRay (ray : OpeningRay) : Type 0 where
+  demand : unsigned_abs ray.demand ≤ 1
+  reserve : pos 0 ≤ℤ ray.reserve
+  reserve_size : unsigned_abs ray.reserve ≤ 1
+
+small_is : (demand reserve : ℤ) (up down : Thermal → Bool) → unsigned_abs demand ≤ 1 → pos 0 ≤ℤ reserve → unsigned_abs reserve ≤ 1
+    → IsSmallRay (record { demand = demand; reserve = reserve; up = up; down = down })
+small_is demand reserve up down h k m = record { demand = h; reserve = k; reserve_size = m }
+
+nought : pos 0 ≤ℤ pos 0
+nought = omega (arith, linear)
+
+above : pos 0 ≤ℤ pos 1
+above = omega (arith, linear)
+
+small_period : All IsSmallRay period_rays
+small_period =
+    All-from_recursion IsSmallRay period_rays (
+      small_is (pos 1) (pos 0) nowhere nowhere (omega arith) nought (omega arith),
+      (
+        small_is (neg_ℤ (pos 1)) (pos 0) nowhere nowhere (omega arith) nought (omega arith),
+        (
+          small_is (pos 1) (pos 1) nowhere nowhere (omega arith) above (omega arith),
+          (small_is (pos 0) (pos 1) nowhere nowhere (omega arith) above (omega arith), tt),
+        ),
+      ),
+    )
+
+small_ramp : All IsSmallRay ramp_rays
+small_ramp =
+    All-from_recursion IsSmallRay ramp_rays (
+      small_is (pos 1) (pos 0) rises_short nowhere (omega arith) nought (omega arith),
+      (
+        small_is (pos 1) (pos 1) rises_short nowhere (omega arith) above (omega arith),
+        (
+          small_is (neg_ℤ (pos 1)) (pos 0) nowhere falls_short (omega arith) nought (omega arith),
+          (small_is (pos 0) (pos 0) stays_below nowhere (omega arith) nought (omega arith), tt),
+        ),
+      ),
+    )
+
+either_small : (b : Bool) (first second : OpeningRay) → IsSmallRay first → IsSmallRay second → IsSmallRay (if b then first else second)
+either_small true first second h k = h
+either_small false first second h k = k
+
+ray_small : (periods n : ℕ) → n < ray_count periods → IsSmallRay (ray_at periods n)
+ray_small periods n h =
+    either_small (nat_lt n (4 * periods)) (slice_index_or period_rays (n % 4) no_ray) (slice_index_or ramp_rays (n - 4 * periods) no_ray)
+    (All-get_or IsSmallRay period_rays (n % 4) no_ray (omega arith) small_period)
+    (All-get_or IsSmallRay ramp_rays (n - 4 * periods) no_ray (omega (arith, h)) small_ramp)
+
+prices_count : (periods t : ℕ) (price : ℤ) → length (price_in periods t price) ≡ periods
+prices_count periods t price = length-set (replicate periods (pos 0)) t price ∙ length-replicate {A = ℤ} periods (pos 0)
+
+prices_are : (P : ℤ → Type 0) (periods t : ℕ) (price : ℤ) → P price → P (pos 0) → All P (price_in periods t price)
+prices_are P periods t price h none = All-set P (replicate periods (pos 0)) t price h (All-replicate P periods (pos 0) none)
+
+small_price : (z : ℤ) → unsigned_abs z ≤ 1 → IsPrice z
+small_price z h = omega (arith, h)
+
+-- ---- the table
+pub ray_lawful : (instance : Instance) (n : ℕ) → IsLawfulInstance instance → n < ray_count instance.periods → IsLawfulTable instance (ray_table instance n)
+ray_lawful instance n lawful h =
+    let ray = ray_at instance.periods n in
+    let t = ray_period instance.periods n in
+    let small = ray_small instance.periods n h in
+    let rows = first_rows instance ray.up ray.down (thermal_count instance) in
+    let within = rows_within instance ray.up ray.down (thermal_count instance) in
+    let count = prices_count instance.periods t ray.demand in
+    record {
+      size = record {
+        form = record {
+          scale = omega (arith, linear);
+          lengths = prices_count instance.periods t ray.reserve ∙ sym count;
+          rows = All-weaker (IsFirstRow (thermal_count instance)) (IsRowWithin (thermal_count instance) (length (price_in instance.periods t ray.demand)))
+              (λ row is. record { unit = is.unit; period = omega (arith, is.period, count, lawful.periods.0); present = is.present }) rows within;
+          rising = rows_rise instance ray.up ray.down (thermal_count instance);
+        };
+        units = refl;
+        periods = count;
+      };
+      signs = record {
+        mu = prices_are (λ z. pos 0 ≤ℤ z) instance.periods t ray.reserve small.reserve (omega (arith, linear));
+        ramps = All-weaker (IsFirstRow (thermal_count instance)) IsRowSigned (λ row is. record { up = is.up; down = is.down }) rows within;
+      };
+      limits = record {
+        scale = omega (arith, ints);
+        pi = prices_are IsPrice instance.periods t ray.demand (small_price ray.demand small.demand) (omega arith);
+        mu = prices_are IsPrice instance.periods t ray.reserve (small_price ray.reserve small.reserve_size) (omega arith);
+        ramps = All-weaker (IsFirstRow (thermal_count instance)) IsRowPriced
+            (λ row is. record { up = small_price row.up is.up_size; down = small_price row.down is.down_size }) rows within;
+      };
+    }
+
+-- the table that the code makes of a ray's parts
+abbrev pub made_of : ℕ → List ℤ → List ℤ → List RampRow → Table
+made_of units pi mu ramps = record { units = units; k = pos 0; pi = pi; mu = mu; ramps = ramps }
+
+pub ray_table-made : (instance : Instance) (n : ℕ) (ray : Ray) (units : ℕ) (pi mu : List ℤ) (ramps : List RampRow)
+    → named_by ray ≡ ray_at instance.periods n → ray.t ≡ ray_period instance.periods n → units ≡ thermal_count instance
+    → pi ≡ price_in instance.periods ray.t ray.demand → mu ≡ price_in instance.periods ray.t ray.reserve
+    → ramps ≡ first_rows instance (up_of ray.ramps) (down_of ray.ramps) (thermal_count instance)
+    → made_of units pi mu ramps ≡ ray_table instance n
+ray_table-made instance n ray units pi mu ramps names period count demand reserve rows =
+    let parts : made_of units pi mu ramps ≡ ray_prices instance ray.t (named_by ray) = λ i. made_of (count i) (demand i) (reserve i) (rows i) in
+    let named : ray_prices instance ray.t (named_by ray) ≡ ray_table instance n = λ i. ray_prices instance (period i) (names i) in
+    parts ∙ named

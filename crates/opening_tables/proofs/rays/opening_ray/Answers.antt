@@ -1,0 +1,38 @@
+-- The parts make the ray's table, which is lawful.
+use Rattle.std.proofs.Common.{◌≡◌, sym, ap, subst, ◌∙◌, length}
+use Rattle.std.proofs.lemmas.Result.{IfOk-weaker}
+use Rattle.dual_model.specs.Opening.{HasRayNumbers, ray_table}
+use Rattle.dual_model.specs.Prices.{IsLawfulTable, IsWellFormed}
+use Rattle.opening_tables.proofs.RayNumbers.{ray_numbers}
+use Rattle.opening_tables.proofs.RayTables.{made_of, ray_lawful, ray_table-made}
+use Rattle.opening_tables.proofs.rays.opening_ray.Goals as goal
+
+pub new-requires : goal.new-requires
+new-requires c =
+    let is : made_of (length c.as_slice.result.now) c.deref.result.now c.deref-2.result.now c.deref-3.result.now ≡ ray_table c.args.instance.now c.args.n =
+    ray_table-made c.args.instance.now c.args.n c.ray_of-ray.result (length c.as_slice.result.now) c.deref.result.now c.deref-2.result.now c.deref-3.result.now
+    c.ray_of-ray.ensures.ray c.ray_of-ray.ensures.period (ap length c.as_slice.ensures)
+    (c.deref.ensures.value ∙ c.in_ok-pi.ensures) (c.deref-2.ensures.value ∙ c.in_ok-mu.ensures) (c.deref-3.ensures.value ∙ c.in_ok-ramps.ensures) in
+    subst IsWellFormed (sym is) (ray_lawful c.args.instance.now c.args.n c.requires.lawful c.requires.number).size.form
+
+pub returns-clause-lawful : goal.returns-clause-lawful
+returns-clause-lawful c =
+    let table = made_of (length c.as_slice.result.now) c.deref.result.now c.deref-2.result.now c.deref-3.result.now in
+    let is : table ≡ ray_table c.args.instance.now c.args.n =
+    ray_table-made c.args.instance.now c.args.n c.ray_of-ray.result (length c.as_slice.result.now) c.deref.result.now c.deref-2.result.now c.deref-3.result.now
+    c.ray_of-ray.ensures.ray c.ray_of-ray.ensures.period (ap length c.as_slice.ensures)
+    (c.deref.ensures.value ∙ c.in_ok-pi.ensures) (c.deref-2.ensures.value ∙ c.in_ok-mu.ensures) (c.deref-3.ensures.value ∙ c.in_ok-ramps.ensures) in
+    IfOk-weaker c.new.result (λ made. made ≡ table) (IsLawfulTable c.args.instance.now)
+    (λ made same. subst (IsLawfulTable c.args.instance.now) (sym (same ∙ is)) (ray_lawful c.args.instance.now c.args.n c.requires.lawful c.requires.number))
+    c.new.ensures
+
+pub returns-clause-numbers : goal.returns-clause-numbers
+returns-clause-numbers c =
+    let table = made_of (length c.as_slice.result.now) c.deref.result.now c.deref-2.result.now c.deref-3.result.now in
+    let is : table ≡ ray_table c.args.instance.now c.args.n =
+    ray_table-made c.args.instance.now c.args.n c.ray_of-ray.result (length c.as_slice.result.now) c.deref.result.now c.deref-2.result.now c.deref-3.result.now
+    c.ray_of-ray.ensures.ray c.ray_of-ray.ensures.period (ap length c.as_slice.ensures)
+    (c.deref.ensures.value ∙ c.in_ok-pi.ensures) (c.deref-2.ensures.value ∙ c.in_ok-mu.ensures) (c.deref-3.ensures.value ∙ c.in_ok-ramps.ensures) in
+    IfOk-weaker c.new.result (λ made. made ≡ table) (HasRayNumbers c.args.instance.now c.args.n)
+    (λ made same. subst (HasRayNumbers c.args.instance.now c.args.n) (sym (same ∙ is)) (ray_numbers c.args.instance.now c.args.n c.requires.lawful))
+    c.new.ensures

@@ -1,0 +1,2 @@
+pub mod Marginal
+pub mod inside
