@@ -1,4 +1,3 @@
-pub mod FirstSchedule
 pub mod FewRows
 pub mod Excluded
 pub mod WrittenTables

@@ -25,7 +25,8 @@ use Rattle.search_core.specs.declared.stored.Stored.{Stored}
 use Rattle.search_core.specs.Machine.{entries_of}
 use Rattle.search_core.specs.Moves.{bound_of, kept_after}
 use Rattle.search_core.specs.OwnTables.{HoldsStored, OwnsBelow, stored_after, stored_by}
-use Rattle.workers.specs.inside.Searches.{IsSized, IsSizedEntry}
+use Rattle.opening.specs.Outcomes.{IsSized}
+use Rattle.workers.specs.inside.Searches.{IsSizedEntry}
 
 -- ---- no less
 le_of_lt : (a b : ℤ) → a <ℤ b → a ≤ℤ b

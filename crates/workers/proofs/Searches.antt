@@ -1,12 +1,11 @@
 -- The search over the tree: its start, a claim that was committed, a cost that was published, and its end.
-use Rattle.std.proofs.Common.{◌≡◌, ◌≢◌, ◌∙◌, ◌⊎◌, ⊎_elim, inl, inr, ℕ, zero, suc, ◌+◌, ◌-◌, ◌<◌, ◌≤◌, false, true, All, List, [], ◌∷◌, ◌++◌, length, get_or, set, refl, ap, sym, subst, arith, ℤ, pos, ◌≤ℤ◌, ◌<ℤ◌, Option, Some, None, length-append, length-set}
-use Rattle.std.specs.Prelude.{IsTrue, IfSome, slice_get}
+use Rattle.std.proofs.Common.{◌≡◌, ◌≢◌, ◌∙◌, ◌⊎◌, ⊎_elim, ℕ, suc, ◌+◌, ◌-◌, ◌≤◌, false, true, All, List, [], ◌∷◌, ◌++◌, length, get_or, set, refl, ap, sym, subst, arith, ℤ, pos, ◌≤ℤ◌, ◌<ℤ◌, Option, Some, None, length-append, length-set}
+use Rattle.std.specs.Prelude.{slice_get}
 use Rattle.std.specs.Int.{int_min}
 use Rattle.std.specs.Option.{option_map}
 use Rattle.std.proofs.lemmas.Int.{ints, int_min_is}
 use Rattle.std.proofs.lemmas.List.Elements.{All-nil, All-cons, All-append}
 use Rattle.std.proofs.lemmas.Option.{get_or_from_slice_get, slice_get_within}
-use Rattle.uc_model.specs.Limits.{IsLawfulInstance}
 use Rattle.uc_model.specs.declared.instance.Instance.{Instance}
 use Rattle.uc_model.specs.declared.schedule.Printed.{Printed}
 use Rattle.uc_model.specs.declared.tolerance.TheConstants.{WHOLE_GAP}
@@ -23,7 +22,7 @@ use Rattle.dual_model.specs.declared.node.Fixing.{Fixing}
 use Rattle.dual_model.specs.declared.node.Node.{Node}
 use Rattle.dual_model.specs.declared.table.Table.{Table}
 use Rattle.branch_tree.specs.Closing.{is_schedule_within}
-use Rattle.branch_tree.specs.NumberedTree.{NumberedTree, EndAt, SplitAt, Subtree, unnumbered, spot_of, node_count, subtree_below, subtree_at, node_at}
+use Rattle.branch_tree.specs.NumberedTree.{NumberedTree, EndAt, SplitAt, Subtree, unnumbered, subtree_below, subtree_at}
 use Rattle.branch_tree.specs.StoredTree.{IsNodeAt, least_bound, lesser_bound, tree_bound}
 use Rattle.branch_tree.specs.TreeLaws.{StoredHolds, own_claim}
 use Rattle.branch_tree.specs.TreeView.{IsOpenAt, IsWhole, tree_of}
@@ -39,10 +38,10 @@ use Rattle.search_core.specs.declared.event.Move.{Move}
 use Rattle.search_core.specs.declared.holder.Holder.{Holder}
 use Rattle.search_core.specs.declared.limits.TheConstants.{MAX_BUDGET}
 use Rattle.search_core.specs.declared.stored.Stored.{Stored}
-use Rattle.search_core.specs.Machine.{Machine, IsHeldIn, IsHolding, IsOpen, entries_of, holder_in, holder_of, spot_stored, stored_at}
-use Rattle.search_core.specs.Moves.{IsMoveLegal, bound_of, kept, tickets_of, tree_after}
-use Rattle.search_core.specs.Steps.{IsLegal, IsStoredTable, after, committed, committed_by, with_tickets}
-use Rattle.search_core.specs.Runs.{HoldsAt, IsBestWithin, IsReached, IsTrueCost, IsTrueEvent}
+use Rattle.search_core.specs.Machine.{Machine, IsHeldIn, IsOpen, entries_of, holder_in, spot_stored, stored_at}
+use Rattle.search_core.specs.Moves.{IsMoveLegal, bound_of}
+use Rattle.search_core.specs.Steps.{IsLegal, IsStoredTable, after, committed, committed_by}
+use Rattle.search_core.specs.Runs.{HoldsAt, IsBestWithin, IsReached, IsTrueCost}
 use Rattle.search_core.proofs.Claims.{get_push_last}
 use Rattle.search_core.proofs.Leaves.{holds_of_leaf, leaf_part}
 use Rattle.search_core.proofs.TrueRuns.{starts_are_reached, steps_reach}
@@ -53,6 +52,7 @@ use Rattle.opening.specs.RootTables.{IsPricedOf}
 use Rattle.claims.specs.Claims.{HasStoredTable, IsPublished}
 use Rattle.workers.specs.inside.Searches.{IsGrown, IsReady, IsScaledWithin, IsSearching, IsSizedEntry, IsTableFor, IsTurned, IsVisited, cost_of, start_by}
 use Rattle.workers.specs.inside.Best.{IsNoWorse}
+use Rattle.workers.specs.inside.Trials.{IsFreshRay}
 
 -- ---- the start
 million : pos 0 <ℤ ZERO_SCALE
@@ -255,6 +255,19 @@ stepped_fits instance m node unit table ready known lawful scale = record {
 
     above : (k : ℤ) → k ≡ pos (1000000 + unit) → k <ℤ pos (1000000 + unit) → ⊥
     above k same l = omega (arith, ints, same)
+
+-- a ray
+pub ray_fits : (instance : Instance) (m : Machine) (node unit : ℕ) (ray : Table) → (entries_of m.log node ≡ [] → node ≢ 0 → ⊥)
+    → IsFreshRay instance m node ray → IsTableFor instance m node unit ray
+ray_fits instance m node unit ray known is = record {
+  lawful = is.lawful;
+  scaled = below ray.k is.scale;
+  fresh = is.fresh;
+  first = λ empty root free. absurd (known empty root);
+}
+  where
+    below : (k : ℤ) → k ≡ pos 0 → k ≤ℤ pos (1000000 + unit)
+    below k same = omega (arith, ints, same)
 
 -- ---- a commit
 pub commit_legal : (instance : Instance) (m : Machine) (node unit : ℕ) (table : Table) (result : Outcome) (action : Move)

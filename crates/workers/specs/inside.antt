@@ -1,4 +1,5 @@
 pub mod Trials
 pub mod Best
+pub mod Starts
 pub mod Searches
 pub mod Answers

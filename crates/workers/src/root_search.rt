@@ -1,28 +1,26 @@
 //! The search.
 
-ghost use Rattle.std.specs.Prelude.{◌≡◌, ◌≤◌, IfOk};
+ghost use Rattle.std.specs.Prelude.{◌≤◌, IfOk};
 ghost use Rattle.uc_model.specs.Limits.{IsLawfulInstance};
 ghost use Rattle.uc_model.specs.declared.tolerance.TheConstants.{WHOLE_GAP};
 ghost use Rattle.dual_model.specs.Tree.{HasEachPattern};
 ghost use Rattle.search_core.specs.declared.limits.TheConstants.{MAX_BUDGET};
-ghost use Rattle.decommitment.specs.Standings.{IsDropped, ending_of};
-ghost use Rattle.opening.specs.RootTables.{IsPricedOf};
-ghost use Rattle.workers.specs.Opening.{IsRootTable};
+ghost use Rattle.opening.specs.Rays.{HasNoRay};
 ghost use Rattle.workers.specs.SearchResult.{IsSearchResult};
 ghost use Rattle.workers.specs.Writable.{IsWritable};
-ghost use Rattle.workers.specs.inside.Best.{kept_stuck, schedule_of};
+ghost use Rattle.workers.specs.inside.Answers.{IsAnswerOf};
+ghost use Rattle.workers.specs.inside.Starts.{IsOpened};
 
 use crate::answer::{bounded, without_pattern, without_schedule};
-use crate::start::started;
+use crate::start::{Opened, started};
 use crate::tree_search::{holds, search_tree};
 use crate::worker::Worker;
 use branch_tree::Found;
-use decommitment::{Standing, drop_pass};
-use opening::{Priced, dispatched_root, excluding_ray, unpriced_root};
+use opening::excluding_ray;
 use outside::Gate;
 use std::alloc::Global;
 use std::sync::Wait;
-use uc_model::{Instance, NoMemory, Printed, Stuck};
+use uc_model::{Instance, NoMemory};
 
 /// How long a search goes on: at most `budget` evaluations after the opening, and only while the cost is above the bound by more
 /// than `gap` parts per million of its size.
@@ -48,45 +46,69 @@ pub fn search<R: Wait, G: Gate>(
     ensures result { IfOk result (IsSearchResult instance.now options.now.budget options.now.gap) }
     ensures writable { IfOk result (IsWritable instance.now) }
 {
+    answered(rt, alloc, instance, options, gate)
+}
+
+// The same, with both clauses in one.
+fn answered<R: Wait, G: Gate>(
+    rt: &R,
+    alloc: Global,
+    instance: &Instance,
+    options: &Options,
+    gate: &G,
+) -> Result<Found, NoMemory>
+    requires lawful { IsLawfulInstance instance.now }
+    requires budget { options.now.budget ≤ MAX_BUDGET }
+    requires gap { options.now.gap ≤ WHOLE_GAP }
+    ensures { IfOk result (IsAnswerOf instance.now options.now.budget options.now.gap) }
+{
     let mut worker = Worker::new(alloc, instance)?;
-    if let Some(g) = worker.evaluator.first_empty(alloc)? {
-        return without_pattern(alloc, instance, g);
+    match worker.evaluator.first_empty(alloc)? {
+        Some(g) => without_pattern(alloc, instance, g),
+        None => searched(rt, alloc, &mut worker, options, gate),
     }
-    let standing = drop_pass(alloc, instance)?;
-    let opening = root_table(alloc, &mut worker, &standing)?;
-    let (schedule, most_on) = outcome(standing);
-    let start = started(alloc, &mut worker, options.gap, opening, schedule)?;
-    if let Some(n) = excluding_ray(alloc, &mut worker.evaluator, &start.best)? {
-        return without_schedule(alloc, instance, n);
+}
+
+// The answer where each unit has an allowed pattern.
+fn searched<R: Wait, G: Gate>(
+    rt: &R,
+    alloc: Global,
+    worker: &mut Worker,
+    options: &Options,
+    gate: &G,
+) -> Result<Found, NoMemory>
+    requires patterns { HasEachPattern worker.old.evaluator }
+    requires budget { options.now.budget ≤ MAX_BUDGET }
+    requires gap { options.now.gap ≤ WHOLE_GAP }
+    ensures { IfOk result (IsAnswerOf worker.old.evaluator options.now.budget options.now.gap) }
+{
+    let instance = worker.evaluator.instance();
+    let opened = started(alloc, worker, options.gap)?;
+    match excluding_ray(alloc, &mut worker.evaluator, &opened.start.best)? {
+        Some(n) => without_schedule(alloc, instance, n),
+        None => claimed(rt, alloc, worker, options, opened, gate),
     }
-    let grown = search_tree(rt, alloc, &mut worker, options, start, gate)?;
+}
+
+// The answer where no ray of the opening excludes the root either.
+fn claimed<R: Wait, G: Gate>(
+    rt: &R,
+    alloc: Global,
+    worker: &mut Worker,
+    options: &Options,
+    opened: Opened,
+    gate: &G,
+) -> Result<Found, NoMemory>
+    requires patterns { HasEachPattern worker.old.evaluator }
+    requires rays { HasNoRay worker.old.evaluator }
+    requires budget { options.now.budget ≤ MAX_BUDGET }
+    requires gap { options.now.gap ≤ WHOLE_GAP }
+    requires opened { IsOpened worker.old.evaluator opened }
+    ensures { IfOk result (IsAnswerOf worker.old.evaluator options.now.budget options.now.gap) }
+{
+    let instance = worker.evaluator.instance();
+    let Opened { start, most_on } = opened;
+    let grown = search_tree(rt, alloc, worker, options, start, gate)?;
     holds(&grown.state);
     bounded(alloc, instance, grown, most_on)
-}
-
-// The root's table by how the drop commitment stands.
-fn root_table(alloc: Global, worker: &mut Worker, standing: &Standing) -> Result<Priced, NoMemory>
-    requires patterns { HasEachPattern worker.old.evaluator }
-    requires dropped { IsDropped worker.old.evaluator standing.now }
-    ensures kept { worker.new.evaluator ≡ worker.old.evaluator }
-    ensures table { IfOk result (λ priced. IsRootTable worker.old.evaluator (ending_of standing.now) priced.table priced.value) }
-    ensures priced { IfOk result (IsPricedOf worker.old.evaluator) }
-{
-    match standing {
-        Standing::Stuck { .. } => unpriced_root(alloc, &mut worker.evaluator),
-        Standing::Dispatched { printed, .. } => {
-            dispatched_root(alloc, &mut worker.evaluator, printed)
-        }
-    }
-}
-
-// The schedule of the drop commitment with its cost, or why the most-on commitment gets stuck.
-fn outcome(standing: Standing) -> (Option<(Printed, i64)>, Option<Stuck>)
-    ensures schedule { result.0 ≡ schedule_of standing }
-    ensures most_on { result.1 ≡ kept_stuck standing }
-{
-    match standing {
-        Standing::Dispatched { printed, cost } => (Some((printed, cost)), None),
-        Standing::Stuck { most_on, .. } => (None, Some(most_on)),
-    }
 }

@@ -3,20 +3,24 @@
 ghost use Rattle.std.specs.Prelude.{◌≡◌, ◌≤◌, IfOk};
 ghost use Rattle.uc_model.specs.Limits.{IsLawfulInstance};
 ghost use Rattle.uc_model.specs.declared.tolerance.TheConstants.{WHOLE_GAP};
+ghost use Rattle.dual_model.specs.Tree.{HasEachPattern};
 ghost use Rattle.schedule_check.specs.Accepted.{IsAcceptedIfFound};
+ghost use Rattle.decommitment.specs.Standings.{IsDropped, ending_of};
 ghost use Rattle.opening.specs.RootTables.{IsPricedOf};
-ghost use Rattle.workers.specs.inside.Trials.{IsAscentFor, IsNextAt};
-ghost use Rattle.workers.specs.inside.Best.{IsNoWorse};
+ghost use Rattle.workers.specs.Opening.{IsRootTable};
+ghost use Rattle.workers.specs.inside.Starts.{IsOpened};
+ghost use Rattle.workers.specs.inside.Trials.{IsAscentFor};
 
 use crate::best::{enough, improved, moves};
 use crate::worker::Worker;
-use opening::{Priced, root_node};
+use decommitment::{Standing, drop_pass};
+use opening::{Priced, dispatched_root, root_node, unpriced_root};
 use prices::{Ascent, next_ascent, zero};
 use std::alloc::Global;
-use uc_model::{Instance, NoMemory, Printed};
+use uc_model::{Instance, NoMemory, Printed, Stuck};
 
-/// The opening's table with its value, the best schedule so far with its cost in micro-dollars, and the ascent to the table of the
-/// first claim, where it was made already.
+/// The opening's table with its value, the best schedule so far with its cost in micro-dollars, and the ascent to the table of the first
+/// claim, where it was made already.
 #[derive(Drop)]
 pub(crate) struct Start {
     pub opening: Priced,
@@ -24,45 +28,104 @@ pub(crate) struct Start {
     pub next: Option<Ascent>,
 }
 
-/// What the claims begin with, from the schedule of the drop commitment; where this one is stuck, the first ascent is made and repaired,
-/// since a schedule spares the rays of the opening. An ascent that ran off isn't repaired: there is hardly a schedule. The only error is
-/// `NoMemory`.
-pub(crate) fn started(
+/// The start, and why the most-on commitment is stuck, where the drop commitment is.
+#[derive(Drop)]
+pub(crate) struct Opened {
+    pub start: Start,
+    pub most_on: Option<Stuck>,
+}
+
+/// What the claims begin with. The only error is `NoMemory`.
+pub(crate) fn started(alloc: Global, worker: &mut Worker, gap: u32) -> Result<Opened, NoMemory>
+    requires patterns { HasEachPattern worker.old.evaluator }
+    requires gap { gap ≤ WHOLE_GAP }
+    ensures kept { worker.new.evaluator ≡ worker.old.evaluator }
+    ensures opened { IfOk result (IsOpened worker.old.evaluator) }
+{
+    let standing = drop_pass(alloc, worker.evaluator.instance())?;
+    let opening = root_table(alloc, worker, &standing)?;
+    start_with(alloc, worker, gap, opening, standing)
+}
+
+// The root's table by how the drop commitment stands.
+fn root_table(alloc: Global, worker: &mut Worker, standing: &Standing) -> Result<Priced, NoMemory>
+    requires patterns { HasEachPattern worker.old.evaluator }
+    requires dropped { IsDropped worker.old.evaluator standing.now }
+    ensures kept { worker.new.evaluator ≡ worker.old.evaluator }
+    ensures table { IfOk result (λ priced. IsRootTable worker.old.evaluator (ending_of standing.now) priced.table priced.value) }
+    ensures priced { IfOk result (IsPricedOf worker.old.evaluator) }
+{
+    match standing {
+        Standing::Stuck { .. } => unpriced_root(alloc, &mut worker.evaluator),
+        Standing::Dispatched { printed, .. } => {
+            dispatched_root(alloc, &mut worker.evaluator, printed)
+        }
+    }
+}
+
+// The start with the schedule of the drop commitment; where this one is stuck, the first ascent is made and repaired, since a schedule spares
+// the rays of the opening.
+fn start_with(
     alloc: Global,
     worker: &mut Worker,
     gap: u32,
     opening: Priced,
-    schedule: Option<(Printed, i64)>,
-) -> Result<Start, NoMemory>
+    standing: Standing,
+) -> Result<Opened, NoMemory>
     requires gap { gap ≤ WHOLE_GAP }
-    requires opening { IsPricedOf worker.old.evaluator opening }
-    requires accepted { IsAcceptedIfFound worker.old.evaluator schedule }
+    requires dropped { IsDropped worker.old.evaluator standing }
+    requires table { IsRootTable worker.old.evaluator (ending_of standing) opening.table opening.value }
+    requires priced { IsPricedOf worker.old.evaluator opening }
     ensures kept { worker.new.evaluator ≡ worker.old.evaluator }
-    ensures opening { IfOk result (λ start. start.opening ≡ opening) }
-    ensures accepted { IfOk result (λ start. IsAcceptedIfFound worker.old.evaluator start.best) }
-    ensures no_worse { IfOk result (λ start. IsNoWorse schedule start.best) }
-    ensures next { IfOk result (λ start. IsNextAt worker.old.evaluator 1 start.next) }
+    ensures opened { IfOk result (IsOpened worker.old.evaluator) }
 {
-    if schedule.is_some() {
-        return Ok(Start {
-            opening,
-            best: schedule,
-            next: None,
-        });
+    match standing {
+        Standing::Dispatched { printed, cost } => Ok(Opened {
+            start: Start {
+                opening,
+                best: Some((printed, cost)),
+                next: None,
+            },
+            most_on: None,
+        }),
+        Standing::Stuck { most_on, .. } => {
+            let ascent = first_ascent(alloc, worker.evaluator.instance())?;
+            let best = first_repaired(alloc, worker, gap, &ascent)?;
+            Ok(Opened {
+                start: Start {
+                    opening,
+                    best,
+                    next: Some(ascent),
+                },
+                most_on: Some(most_on),
+            })
+        }
     }
-    let instance = worker.evaluator.instance();
-    let ascent = first_ascent(alloc, instance)?;
-    let best = if ascent.ray.is_some() {
-        schedule
-    } else {
-        let enough = enough(ascent.bound, gap);
-        improved(alloc, worker, &ascent, moves(instance, 1), enough, schedule)?
-    };
-    Ok(Start {
-        opening,
-        best,
-        next: Some(ascent),
-    })
+}
+
+// What a repair of the first ascent finds. One that ran off isn't repaired: there is hardly a schedule.
+fn first_repaired(
+    alloc: Global,
+    worker: &mut Worker,
+    gap: u32,
+    ascent: &Ascent,
+) -> Result<Option<(Printed, i64)>, NoMemory>
+    requires gap { gap ≤ WHOLE_GAP }
+    ensures kept { worker.new.evaluator ≡ worker.old.evaluator }
+    ensures accepted { IfOk result (IsAcceptedIfFound worker.old.evaluator) }
+{
+    if ascent.ray.is_some() {
+        return Ok(None);
+    }
+    let moves = moves(worker.evaluator.instance(), 1);
+    improved(
+        alloc,
+        worker,
+        ascent,
+        moves,
+        enough(ascent.bound, gap),
+        None,
+    )
 }
 
 /// The ascent of the first claim, from the prices in order of merit, which come out better than the opening's. The only error is

@@ -1,6 +1,6 @@
 //! The search over the tree: claims of nodes, until it is closed, no node is open or the budget is spent.
 
-ghost use Rattle.std.specs.Prelude.{◌≡◌, ◌≢◌, ◌≤◌, ℕ, true, IsTrue, IfOk};
+ghost use Rattle.std.specs.Prelude.{◌≡◌, ◌≢◌, ◌≤◌, ℕ, true, IsTrue, IfOk, None, OnOk};
 ghost use Rattle.uc_model.specs.Limits.{IsLawfulInstance};
 ghost use Rattle.uc_model.specs.declared.tolerance.TheConstants.{WHOLE_GAP};
 ghost use Rattle.branch_tree.specs.Closing.{is_schedule_within};
@@ -33,12 +33,14 @@ use std::alloc::Global;
 use std::sync::Wait;
 use uc_model::{Instance, NoMemory, Printed, floor_div};
 
-/// The state of the search machine, the best schedule so far with its cost in micro-dollars, and the order of the open nodes.
+/// The state of the search machine, the best schedule so far with its cost in micro-dollars, the order of the open nodes, and the ascent to
+/// the table of the next claim, where it was made already.
 #[derive(Drop)]
 pub(crate) struct Search {
     pub state: State,
     pub best: Option<(Printed, i64)>,
     pub frontier: Frontier,
+    pub next: Option<Ascent>,
 }
 
 /// A node that is held by the claim of this unit.
@@ -98,7 +100,6 @@ pub(crate) fn search_tree<R: Wait, G: Gate>(
     start: Start,
     gate: &G,
 ) -> Result<Search, NoMemory>
-    requires lawful { IsLawfulInstance worker.old.evaluator }
     requires budget { options.now.budget ≤ MAX_BUDGET }
     requires gap { options.now.gap ≤ WHOLE_GAP }
     requires opening { IsPricedOf worker.old.evaluator start.opening }
@@ -108,13 +109,13 @@ pub(crate) fn search_tree<R: Wait, G: Gate>(
     ensures grown { IfOk result (λ search. IsGrown worker.old.evaluator start.opening options.now.budget options.now.gap search.state search.best) }
     ensures no_worse { IfOk result (λ search. IsNoWorse start.best search.best) }
 {
-    let mut next = start.next;
     let instance = worker.evaluator.instance();
     let state = begun(alloc, instance, options, start.opening, &start.best)?;
     let mut search = Search {
         frontier: Frontier::of_root(alloc, &state)?,
         state,
         best: start.best,
+        next: start.next,
     };
     for had in 0..options.budget {
         holds(&search.state);
@@ -124,10 +125,12 @@ pub(crate) fn search_tree<R: Wait, G: Gate>(
         let Some(node) = claim_next(alloc, &mut search.state, &mut search.frontier)? else {
             return Ok(search);
         };
-        let unit = had + 1;
-        gate.enter(rt, WORKER, unit);
-        search = turn(alloc, worker, options.gap, search, Claim { node, unit }, next)?;
-        next = None;
+        let claim = Claim {
+            node,
+            unit: had + 1,
+        };
+        gate.enter(rt, WORKER, claim.unit);
+        turn(alloc, worker, options.gap, &mut search, claim)?;
     }
     Ok(search)
 }
@@ -160,51 +163,54 @@ fn turn(
     alloc: Global,
     worker: &mut Worker,
     gap: u32,
-    mut search: Search,
+    search: &mut Search,
     claim: Claim,
-    next: Option<Ascent>,
-) -> Result<Search, NoMemory>
+) -> Result<(), NoMemory>
     requires gap { gap ≤ WHOLE_GAP }
     requires unit { claim.unit ≤ MAX_BUDGET }
-    requires ready { IsReady worker.old.evaluator search.state claim.node claim.unit }
-    requires accepted { IsAcceptedIfFound worker.old.evaluator search.best }
-    requires next { IsNextAt worker.old.evaluator claim.unit next }
+    requires ready { IsReady worker.old.evaluator search.old.state claim.node claim.unit }
+    requires accepted { IsAcceptedIfFound worker.old.evaluator search.old.best }
+    requires next { IsNextAt worker.old.evaluator claim.unit search.old.next }
     ensures kept { worker.new.evaluator ≡ worker.old.evaluator }
-    ensures turned { IfOk result (λ after. IsTurned worker.old.evaluator search.state after.state after.best claim.node claim.unit) }
-    ensures accepted { IfOk result (λ after. IsAcceptedIfFound worker.old.evaluator after.best) }
-    ensures no_worse { IfOk result (λ after. IsNoWorse search.best after.best) }
+    ensures turned { OnOk result (IsTurned worker.old.evaluator search.old.state search.new.state search.new.best claim.node claim.unit) }
+    ensures accepted { OnOk result (IsAcceptedIfFound worker.old.evaluator search.new.best) }
+    ensures no_worse { OnOk result (IsNoWorse search.old.best search.new.best) }
+    ensures next { OnOk result (search.new.next ≡ None) }
 {
-    let is_repaired = next.is_some();
-    let trial = visit(alloc, worker, &mut search, claim, next)?;
+    let is_repaired = search.next.is_some();
+    let trial = visit(alloc, worker, search, claim)?;
     if !is_repaired {
-        search.best = repaired(alloc, worker, gap, claim.unit, search.frontier.least(), &trial, search.best)?;
+        improve(alloc, worker, gap, search, claim.unit, &trial)?;
     }
-    publish(alloc, &mut search.state, &search.best)?;
-    Ok(search)
+    publish(alloc, &mut search.state, &search.best)
 }
 
-// The cheaper of the best schedule so far and of what a repair of the trial's ascent finds, unless no node is open, or the best one
+// Takes the cheaper of the best schedule so far and of what a repair of the trial's ascent finds, unless no node is open, or the best one
 // closes the tree already.
-fn repaired(
+fn improve(
     alloc: Global,
     worker: &mut Worker,
     gap: u32,
+    search: &mut Search,
     unit: u32,
-    least: Option<i128>,
     trial: &Trial,
-    best: Option<(Printed, i64)>,
-) -> Result<Option<(Printed, i64)>, NoMemory>
+) -> Result<(), NoMemory>
     requires gap { gap ≤ WHOLE_GAP }
-    requires best { IsAcceptedIfFound worker.old.evaluator best }
+    requires accepted { IsAcceptedIfFound worker.old.evaluator search.old.best }
     ensures kept { worker.new.evaluator ≡ worker.old.evaluator }
-    ensures accepted { IfOk result (IsAcceptedIfFound worker.old.evaluator) }
-    ensures no_worse { IfOk result (IsNoWorse best) }
+    ensures state { search.new.state ≡ search.old.state }
+    ensures next { search.new.next ≡ search.old.next }
+    ensures accepted { OnOk result (IsAcceptedIfFound worker.old.evaluator search.new.best) }
+    ensures no_worse { OnOk result (IsNoWorse search.old.best search.new.best) }
 {
-    match (least, trial.ascent()) {
-        (Some(bound), Some(ascent)) if !is_closed(&best, bound, gap) => {
-            let moves = moves(worker.evaluator.instance(), unit);
-            improved(alloc, worker, ascent, moves, enough(bound, gap), best)
-        }
-        _ => Ok(best),
+    let (Some(bound), Some(ascent)) = (search.frontier.least(), trial.ascent()) else {
+        return Ok(());
+    };
+    if is_closed(&search.best, bound, gap) {
+        return Ok(());
     }
+    let moves = moves(worker.evaluator.instance(), unit);
+    let best = search.best.take();
+    search.best = improved(alloc, worker, ascent, moves, enough(bound, gap), best)?;
+    Ok(())
 }

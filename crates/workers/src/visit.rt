@@ -1,14 +1,14 @@
 //! A claim of a node: at which table it is evaluated, and by which move it ends.
 
-ghost use Rattle.std.specs.Prelude.{◌≡◌, ◌≢◌, ◌<◌, ◌≤◌, false, [], pos, IfOk, IfSome, IsTrue, OnOk};
+ghost use Rattle.std.specs.Prelude.{◌≡◌, ◌≢◌, ◌<◌, ◌≤◌, false, [], None, pos, IfOk, IfSome, IsTrue, OnOk};
 ghost use Rattle.uc_model.specs.declared.instance.Instance.{Instance};
 ghost use Rattle.dual_model.specs.Fixings.{IsNodeOf};
 ghost use Rattle.dual_model.specs.Prices.{IsLawfulTable};
 ghost use Rattle.branch_tree.specs.NumberedTree.{node_count};
+ghost use Rattle.branch_tree.specs.StoredTree.{IsNodeAt};
 ghost use Rattle.search_core.specs.Machine.{entries_of};
-ghost use Rattle.search_core.specs.Steps.{IsFresh};
 ghost use Rattle.search_core.specs.declared.limits.TheConstants.{MAX_BUDGET};
-ghost use Rattle.workers.specs.inside.Trials.{IsAscentFor, IsNextAt, table_of};
+ghost use Rattle.workers.specs.inside.Trials.{IsAscentFor, IsFreshRay, IsNextAt, table_of};
 ghost use Rattle.workers.specs.inside.Searches.{IsReady, IsTableFor, IsVisited};
 
 use crate::start::first_ascent;
@@ -18,7 +18,7 @@ use claims::{WORKER, action, stored_table, take};
 use dual_model::{Node, Table};
 use opening::{is_excluding, node_ray};
 use prices::{Ascent, next_ascent};
-use search_core::{Event, State};
+use search_core::{Event, Move, State};
 use std::alloc::Global;
 use uc_model::NoMemory;
 
@@ -66,45 +66,68 @@ pub(crate) fn visit(
     worker: &mut Worker,
     search: &mut Search,
     claim: Claim,
-    next: Option<Ascent>,
 ) -> Result<Trial, NoMemory>
     requires unit { claim.unit ≤ MAX_BUDGET }
     requires ready { IsReady worker.old.evaluator search.old.state claim.node claim.unit }
-    requires next { IsNextAt worker.old.evaluator claim.unit next }
+    requires next { IsNextAt worker.old.evaluator claim.unit search.old.next }
     ensures kept { worker.new.evaluator ≡ worker.old.evaluator }
     ensures best { search.new.best ≡ search.old.best }
+    ensures next { search.new.next ≡ None }
     ensures visited { OnOk result (IsVisited worker.old.evaluator search.old.state search.new.state claim.node claim.unit) }
 {
+    let next = search.next.take();
     let path = search.state.tree().fixings(alloc, claim.node)?;
-    let trial = trial(alloc, worker, search, claim, &path, next)?;
-    let outcome = worker.evaluator.outcome(alloc, &path, trial.table())?;
-    let action = action(
-        alloc,
-        &search.state,
-        worker.evaluator.instance(),
-        claim.node,
-        &path,
-        trial.table(),
-        trial.shares(),
-        &outcome,
-    )?;
-    let event = Event::Commit {
-        worker: WORKER,
-        unit: claim.unit,
-        table: trial.table().copy(alloc)?,
-        outcome,
-        action,
-    };
-    take(alloc, &mut search.state, event)?;
+    let trial = chosen(alloc, worker, search, claim, &path, next)?;
+    let action = end(alloc, worker, &mut search.state, claim, &path, &trial)?;
     search
         .frontier
         .add_after(&search.state, claim.node, &action)?;
     Ok(trial)
 }
 
+// Evaluates the node at the trial's table, and commits what comes out with the move that ends the claim.
+fn end(
+    alloc: Global,
+    worker: &mut Worker,
+    state: &mut State,
+    claim: Claim,
+    path: &Node,
+    trial: &Trial,
+) -> Result<Move, NoMemory>
+    requires path { IsNodeOf worker.old.evaluator path.now }
+    requires own { (own : _) → IsNodeAt state.old.tree claim.node own → path.now ≡ own }
+    requires ready { IsReady worker.old.evaluator state.old claim.node claim.unit }
+    requires table { IsTableFor worker.old.evaluator state.old claim.node claim.unit (table_of trial.now) }
+    ensures kept { worker.new.evaluator ≡ worker.old.evaluator }
+    ensures visited { OnOk result (IsVisited worker.old.evaluator state.old state.new claim.node claim.unit) }
+{
+    let table = trial.table();
+    let outcome = worker.evaluator.outcome(alloc, path, table)?;
+    let instance = worker.evaluator.instance();
+    let action = action(
+        alloc,
+        state,
+        instance,
+        claim.node,
+        path,
+        table,
+        trial.shares(),
+        &outcome,
+    )?;
+    let event = Event::Commit {
+        worker: WORKER,
+        unit: claim.unit,
+        table: table.copy(alloc)?,
+        outcome,
+        action,
+    };
+    take(alloc, state, event)?;
+    Ok(action)
+}
+
 // What to evaluate the node at: the table that it inherited, where it wasn't evaluated yet; a ray that excludes it, where no schedule is
 // known; or else the table of an ascent.
-fn trial(
+fn chosen(
     alloc: Global,
     worker: &mut Worker,
     search: &Search,
@@ -121,23 +144,15 @@ fn trial(
 {
     let state = &search.state;
     if is_new(state, claim.node) {
-        return Ok(Trial::Inherited(
-            stored_table(state, claim.node).copy(alloc)?,
-        ));
+        let table = stored_table(state, claim.node).copy(alloc)?;
+        return Ok(Trial::Inherited(table));
     }
-    let is_unmet = search.best.is_none();
-    if is_unmet && claim.node != 0 {
-        let ray = node_ray(alloc, &mut worker.evaluator, path)?;
-        if let Some(table) = fresh(state, claim.node, ray) {
-            return Ok(Trial::Ray(table));
-        }
+    if let Some(table) = opening_ray(alloc, worker, search, claim, path)? {
+        return Ok(Trial::Ray(table));
     }
     let ascent = ascent(alloc, worker, state, claim, path, next)?;
-    if is_unmet {
-        let ray = own_ray(alloc, worker, path, &ascent)?;
-        if let Some(table) = fresh(state, claim.node, ray) {
-            return Ok(Trial::Ray(table));
-        }
+    if let Some(table) = own_ray(alloc, worker, search, claim, path, &ascent)? {
+        return Ok(Trial::Ray(table));
     }
     Ok(Trial::Ascended(ascent))
 }
@@ -150,40 +165,62 @@ fn is_new(state: &State, node: u32) -> bool
     node != 0 && state.entries(node) == 0
 }
 
-// The table, where there is one that was not tried at the node.
-fn fresh(state: &State, node: u32, table: Option<Table>) -> Option<Table>
+// The ray, where there is one that was not tried at the node.
+fn fresh(state: &State, node: u32, ray: Option<Table>) -> Option<Table>
     requires { node < node_count state.now.tree.nodes }
-    ensures fresh { IfSome result (IsFresh state.now (entries_of state.now.log node)) }
-    ensures lawful { (instance : Instance) → IfSome table (IsLawfulTable instance) → IfSome result (IsLawfulTable instance) }
-    ensures scale { IfSome table (λ table. table.k ≡ pos 0) → IfSome result (λ table. table.k ≡ pos 0) }
+    ensures { (instance : Instance) → IfSome ray (IsLawfulTable instance) → IfSome ray (λ table. table.k ≡ pos 0)
+        → IfSome result (IsFreshRay instance state.now node) }
 {
-    match table {
-        Some(table) if state.is_fresh(node, &table) => Some(table),
+    match ray {
+        Some(ray) if state.is_fresh(node, &ray) => Some(ray),
         _ => None,
     }
 }
 
-// The ray of an ascent that ran off, where it excludes the node.
+// A ray of the opening that excludes the node and was not tried there, where no schedule is known; but none for the root, at which the
+// opening has tried them.
+fn opening_ray(
+    alloc: Global,
+    worker: &mut Worker,
+    search: &Search,
+    claim: Claim,
+    path: &Node,
+) -> Result<Option<Table>, NoMemory>
+    requires path { IsNodeOf worker.old.evaluator path.now }
+    requires within { claim.node < node_count search.now.state.tree.nodes }
+    ensures kept { worker.new.evaluator ≡ worker.old.evaluator }
+    ensures ray { IfOk result (λ ray. IfSome ray (IsFreshRay worker.old.evaluator search.now.state claim.node)) }
+{
+    if search.best.is_some() || claim.node == 0 {
+        return Ok(None);
+    }
+    let ray = node_ray(alloc, &mut worker.evaluator, path)?;
+    Ok(fresh(&search.state, claim.node, ray))
+}
+
+// The ray of an ascent that ran off, where it excludes the node and was not tried there, and no schedule is known.
 fn own_ray(
     alloc: Global,
     worker: &mut Worker,
+    search: &Search,
+    claim: Claim,
     path: &Node,
     ascent: &Ascent,
 ) -> Result<Option<Table>, NoMemory>
     requires path { IsNodeOf worker.old.evaluator path.now }
-    requires lawful { IfSome ascent.now.ray (IsLawfulTable worker.old.evaluator) }
-    requires scale { IfSome ascent.now.ray (λ ray. ray.k ≡ pos 0) }
+    requires within { claim.node < node_count search.now.state.tree.nodes }
+    requires ascent { IsAscentFor worker.old.evaluator claim.unit ascent.now }
     ensures kept { worker.new.evaluator ≡ worker.old.evaluator }
-    ensures lawful { IfOk result (λ ray. IfSome ray (IsLawfulTable worker.old.evaluator)) }
-    ensures scale { IfOk result (λ ray. IfSome ray (λ table. table.k ≡ pos 0)) }
+    ensures ray { IfOk result (λ ray. IfSome ray (IsFreshRay worker.old.evaluator search.now.state claim.node)) }
 {
     let Some(ray) = &ascent.ray else {
         return Ok(None);
     };
-    if !is_excluding(alloc, &mut worker.evaluator, path, ray)? {
+    if search.best.is_some() || !is_excluding(alloc, &mut worker.evaluator, path, ray)? {
         return Ok(None);
     }
-    Ok(Some(ray.copy(alloc)?))
+    let ray = ray.copy(alloc)?;
+    Ok(fresh(&search.state, claim.node, Some(ray)))
 }
 
 // The ascent to a table of this unit's scale: the first one, where it was made already, or one from what the node stores.

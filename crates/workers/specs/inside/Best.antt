@@ -10,11 +10,6 @@ use Rattle.decommitment.specs.declared.pass.Standing.TheVariants as standing
 use Rattle.workers.specs.SearchResult.{IsNoDearer}
 
 -- ---- what is told
--- the schedule with its cost, or that there is none
-abbrev pub schedule_of : Standing → Option (Printed × ℤ)
-schedule_of (standing.Dispatched printed cost) = Some (printed, cost)
-schedule_of (standing.Stuck period most_on) = None
-
 -- why the most-on commitment is stuck, where the best one is
 abbrev pub kept_stuck : Standing → Option Stuck
 kept_stuck (standing.Dispatched printed cost) = None

@@ -1,5 +1,5 @@
 -- The search over the tree between claims, and what a claim of a node is to be.
-use Rattle.std.specs.Prelude.{◌≡◌, ◌≢◌, ℕ, ◌+◌, ◌<◌, ◌≤◌, false, All, [], ℤ, pos, ◌≤ℤ◌, ◌<ℤ◌, Option, None, Some, length}
+use Rattle.std.specs.Prelude.{◌≡◌, ◌≢◌, ℕ, ◌+◌, ◌<◌, false, All, [], ℤ, pos, ◌≤ℤ◌, ◌<ℤ◌, Option, None, Some, length}
 use Rattle.uc_model.specs.Schedule.{thermal_count}
 use Rattle.uc_model.specs.declared.instance.Instance.{Instance}
 use Rattle.uc_model.specs.declared.schedule.Printed.{Printed}

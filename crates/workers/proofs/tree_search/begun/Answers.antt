@@ -6,7 +6,6 @@ use Rattle.uc_model.specs.Division.{IsFloor}
 use Rattle.uc_model.specs.Schedule.{thermal_count}
 use Rattle.search_core.specs.Machine.{Machine, start_of}
 use Rattle.claims.specs.Claims.{IsPublished}
-use Rattle.workers.specs.inside.Searches.{start_by}
 use Rattle.workers.proofs.Searches.{quotient_is}
 use Rattle.workers.proofs.tree_search.begun.Goals as goal
 

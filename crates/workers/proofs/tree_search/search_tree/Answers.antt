@@ -1,9 +1,12 @@
 -- Each turn is a claim and its commit, and at the end the search is closed, no node is open, or the budget is spent.
-use Rattle.std.proofs.Common.{◌≡◌, ◌∙◌, suc, ◌+◌, length, Ok, None, Some, ap, arith, refl, subst, sym}
+use Rattle.std.proofs.Common.{◌≡◌, ◌∙◌, suc, ◌+◌, length, Ok, None, ap, arith, refl, subst, sym}
+use Rattle.uc_model.specs.declared.instance.Instance.{Instance}
 use Rattle.search_core.specs.Machine.{Machine}
-use Rattle.workers.specs.inside.Searches.{IsGrown, start_by}
+use Rattle.schedule_check.specs.Accepted.{IsAcceptedIfFound}
+use Rattle.claims.specs.Claims.{IsPublished}
+use Rattle.workers.specs.inside.Searches.{IsGrown, IsReady, IsTurned, start_by}
+use Rattle.workers.specs.inside.Trials.{IsNextAt}
 use Rattle.workers.proofs.Searches.{better_than_none, claimed_ready, closed_by_none_open, grown_closed, published_best, published_claims, published_searching, start_searching, turned_best, turned_searching}
-use Rattle.workers.proofs.tree_search.search_tree.Given.{Over}
 use Rattle.workers.proofs.tree_search.search_tree.Goals as goal
 
 pub loop-had-init : goal.loop-had-init
@@ -15,7 +18,7 @@ loop-had-init g c =
     let best = c.args.start.best in
     let state = c.in_ok-state.state in
     let start = start_by instance opening budget gap in
-    let published = c.in_ok-state.ensures in
+    let published = subst (λ (i : Instance). IsPublished best (start_by i opening budget gap) state) c.instance-instance.ensures.is c.in_ok-state.ensures in
     let begun = start_searching instance opening budget gap c.requires.opening c.requires.budget c.requires.gap in
     record {
       kept = refl;
@@ -44,7 +47,7 @@ returns-in_default-clause-grown g c =
     let state = c.loop-had.search.state in
     let before = c.loop-had.invariant in
     let none = c.claim_next.ensures.none (c.in_ok-node.was ∙ ap Ok c.in_default.is) in
-    let holds = c.holds.ensures.holds instance opening budget gap c.requires.lawful before.searching in
+    let holds = c.holds.ensures.holds instance opening budget gap c.instance-instance.ensures.lawful before.searching in
     subst (λ (m : Machine). IsGrown instance opening budget gap m best) (sym none.0)
     (grown_closed instance opening budget gap state best before.searching before.published before.accepted
     (closed_by_none_open instance opening budget gap state best before.searching holds before.published none.1))
@@ -57,10 +60,13 @@ turn-requires-clause-ready g c =
     let gap = c.args.options.now.gap in
     let state = c.loop-had.search.state in
     let before = c.loop-had.invariant in
-    let claimed = c.claim_next.ensures.claimed c.in-Some.node (c.in_ok-node.was ∙ ap Ok c.in-Some.is) in
-    claimed_ready instance opening budget gap state c.claim_next.new.state c.in-Some.node (c.loop-had.had + 1) before.searching
-    (c.holds.ensures.holds instance opening budget gap c.requires.lawful before.searching) c.holds.ensures.whole claimed.0 claimed.1
-    (omega (arith, before.count))
+    let node = c.in-Some.node in
+    let unit = c.loop-had.had + 1 in
+    let claimed = c.claim_next.ensures.claimed node (c.in_ok-node.was ∙ ap Ok c.in-Some.is) in
+    subst (λ (i : Instance). IsReady i c.claim_next.new.state node unit) (sym before.kept)
+    (claimed_ready instance opening budget gap state c.claim_next.new.state node unit before.searching
+    (c.holds.ensures.holds instance opening budget gap c.instance-instance.ensures.lawful before.searching) c.holds.ensures.whole claimed.0 claimed.1
+    (omega (arith, before.count)))
 
 pub loop-had-preserved : goal.loop-had-preserved
 loop-had-preserved g c =
@@ -73,20 +79,22 @@ loop-had-preserved g c =
     let node = c.in-Some.node in
     let unit = c.loop-had.had + 1 in
     let before = c.loop-had.invariant in
-    let after = c.in_ok-search.search in
+    let after = c.turn.new.search in
+    let turn = c.in_ok-turn.ensures in
     let claimed = c.claim_next.ensures.claimed node (c.in_ok-node.was ∙ ap Ok c.in-Some.is) in
     let unit_is : unit ≡ suc (length state.claims) = omega (arith, before.count) in
     let ready = claimed_ready instance opening budget gap state new node unit before.searching
-    (c.holds.ensures.holds instance opening budget gap c.requires.lawful before.searching) c.holds.ensures.whole claimed.0 claimed.1 unit_is in
+    (c.holds.ensures.holds instance opening budget gap c.instance-instance.ensures.lawful before.searching) c.holds.ensures.whole claimed.0 claimed.1 unit_is in
+    let accepted = subst (λ (i : Instance). IsAcceptedIfFound i after.best) before.kept turn.accepted in
+    let turned = subst (λ (i : Instance). IsTurned i new after.state after.best node unit) before.kept turn.turned in
     let both = turned_searching instance opening budget gap state new after.state after.best node unit before.searching claimed.0 claimed.1 unit_is
-    ready c.in_ok-search.ensures.accepted c.in_ok-search.ensures.turned in
+    ready accepted turned in
     record {
-      kept = c.in_ok-search.ensures.kept ∙ before.kept;
+      kept = turn.kept ∙ before.kept;
       searching = both.0;
       count = both.1;
-      published = turned_best instance state new after.state c.loop-had.search.best after.best node unit claimed.1 ready before.published
-          c.in_ok-search.ensures.no_worse c.in_ok-search.ensures.turned;
-      accepted = c.in_ok-search.ensures.accepted;
-      no_worse = λ ending h. c.in_ok-search.ensures.no_worse ending (before.no_worse ending h);
-      next = tt;
+      published = turned_best instance state new after.state c.loop-had.search.best after.best node unit claimed.1 ready before.published turn.no_worse turned;
+      accepted = accepted;
+      no_worse = λ ending h. turn.no_worse ending (before.no_worse ending h);
+      next = subst (IsNextAt instance (suc unit)) (sym turn.next) tt;
     }

@@ -15,5 +15,5 @@ invariant-loop-had g l = record {
   published : l.search.state.best ≡ cost_of l.search.best;
   accepted : IsAcceptedIfFound l.fn.worker.evaluator l.search.best;
   no_worse : IsNoWorse l.fn.start.best l.search.best;
-  next : IsNextAt l.fn.worker.evaluator (suc l.had) l.next;
+  next : IsNextAt l.fn.worker.evaluator (suc l.had) l.search.next;
 }

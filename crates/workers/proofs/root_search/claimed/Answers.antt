@@ -1,0 +1,50 @@
+-- The search over the tree ends with what is answered.
+use Rattle.std.proofs.Common.{subst, sym}
+use Rattle.std.specs.Prelude.{IfOk}
+use Rattle.uc_model.specs.declared.instance.Instance.{Instance}
+use Rattle.dual_model.specs.Tree.{HasEachPattern}
+use Rattle.search_core.specs.Runs.{HoldsAt}
+use Rattle.decommitment.specs.Standings.{IsDropped, ending_of}
+use Rattle.opening.specs.RootTables.{IsPricedOf}
+use Rattle.workers.specs.Opening.{IsRootTable}
+use Rattle.workers.specs.inside.Answers.{IsAnswerOf}
+use Rattle.workers.specs.inside.Best.{IsBest}
+use Rattle.workers.specs.inside.Searches.{start_by}
+use Rattle.workers.proofs.Answered.{stored_within}
+use Rattle.workers.proofs.root_search.claimed.Goals as goal
+
+pub bounded-requires-clause-patterns : goal.bounded-requires-clause-patterns
+bounded-requires-clause-patterns g c = subst HasEachPattern (sym c.instance-instance.ensures.is) c.requires.patterns
+
+pub bounded-requires-clause-stored : goal.bounded-requires-clause-stored
+bounded-requires-clause-stored g c =
+    let instance = c.args.worker.now.evaluator in
+    let opening = c.args.opened.start.opening in
+    let budget = c.args.options.now.budget in
+    let gap = c.args.options.now.gap in
+    let state = c.in_ok-grown.grown.state in
+    stored_within instance (start_by instance opening budget gap) state
+    (c.holds.ensures.holds instance opening budget gap c.instance-instance.ensures.lawful c.in_ok-grown.ensures.grown.searching)
+
+pub returns : goal.returns
+returns g c =
+    let instance = c.args.worker.now.evaluator in
+    let own = c.instance-instance.ensures.is in
+    let opening = c.args.opened.start.opening in
+    let budget = c.args.options.now.budget in
+    let gap = c.args.options.now.gap in
+    let opened = c.requires.opened in
+    let stands = opened.standing in
+    let grown = c.in_ok-grown.ensures.grown in
+    let best : IsBest instance (ending_of stands) c.in_ok-grown.grown.best = record {
+      accepted = grown.accepted;
+      no_dearer = c.in_ok-grown.ensures.no_worse (ending_of stands) opened.is_best.no_dearer;
+    } in
+    let holds = c.holds.ensures.holds instance opening budget gap c.instance-instance.ensures.lawful grown.searching in
+    subst (λ (i : Instance). IfOk c.bounded.result (IsAnswerOf i budget gap)) own
+    (c.bounded.ensures budget gap stands opening (subst (λ (i : Instance). IsDropped i stands) (sym own) opened.dropped) opened.stuck
+    (subst (λ (i : Instance). IsBest i (ending_of stands) c.in_ok-grown.grown.best) (sym own) best)
+    (subst (λ (i : Instance). IsRootTable i (ending_of stands) opening.table opening.value) (sym own) opened.table)
+    (subst (λ (i : Instance). IsPricedOf i opening) (sym own) opened.priced)
+    (subst (λ (i : Instance). HoldsAt i (start_by i opening budget gap) c.in_ok-grown.grown.state) (sym own) holds)
+    grown.searching.sized grown.spent)

@@ -1,0 +1,20 @@
+-- What the claims of the root begin with.
+use Rattle.std.specs.Prelude.{◌≡◌}
+use Rattle.uc_model.specs.declared.instance.Instance.{Instance}
+use Rattle.decommitment.specs.Standings.{IsDropped, ending_of}
+use Rattle.decommitment.specs.declared.pass.Standing.{Standing}
+use Rattle.opening.specs.RootTables.{IsPricedOf}
+use Rattle.workers.specs.Opening.{IsRootTable}
+use Rattle.workers.specs.declared.start.Opened.{Opened}
+use Rattle.workers.specs.inside.Best.{IsBest, kept_stuck}
+use Rattle.workers.specs.inside.Trials.{IsNextAt}
+
+-- the drop commitment, with what is known by it
+pub record IsOpened (instance : Instance) (opened : Opened) : Type 0 where
+  pub standing : Standing
+  pub dropped : IsDropped instance standing
+  pub stuck : opened.most_on ≡ kept_stuck standing
+  pub table : IsRootTable instance (ending_of standing) opened.start.opening.table opened.start.opening.value
+  pub priced : IsPricedOf instance opened.start.opening
+  pub is_best : IsBest instance (ending_of standing) opened.start.best
+  pub is_next : IsNextAt instance 1 opened.start.next
