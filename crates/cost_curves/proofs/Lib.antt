@@ -4,6 +4,7 @@ pub mod HullValues
 pub mod LeastCosts
 pub mod CornerSizes
 pub mod UnitPoints
+pub mod CurveLists
 pub mod FirstSegments
 pub mod HullExists
 pub mod Slopes

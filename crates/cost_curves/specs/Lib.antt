@@ -1,3 +1,4 @@
 pub mod LowerHull
 pub mod LeastCost
+pub mod UnitCurves
 pub mod inside

@@ -9,8 +9,10 @@ mod inline;
 mod line;
 mod places;
 mod slope;
+mod unit_curves;
 
 pub use curve::Curve;
 pub use inline::InlineCurve;
 pub use line::{rise, run};
 pub use slope::Slope;
+pub use unit_curves::curves_of;

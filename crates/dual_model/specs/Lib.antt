@@ -4,6 +4,7 @@ pub mod Fixings
 pub mod Term
 pub mod UnitValue
 pub mod NodeValue
+pub mod NodeAnswer
 pub mod Tree
 pub mod Cover
 pub mod Certificate

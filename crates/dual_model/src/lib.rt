@@ -11,6 +11,8 @@ pub mod limits;
 pub mod moves;
 pub mod node;
 pub mod table;
+pub mod valued;
 
 pub use node::{Fix, Fixing, Node};
 pub use table::{RampRow, Table};
+pub use valued::Valued;

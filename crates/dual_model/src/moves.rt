@@ -1,9 +1,13 @@
-//! What a unit may do in a period, by its state before it.
+//! What a unit may do in a period, by its state before it, and what an hour costs.
 
-ghost use Rattle.std.specs.Prelude.{◌≡◌};
+ghost use Rattle.std.specs.Prelude.{◌≡◌, ◌<◌, ◌≤◌, ◌-ℤ◌, ◌*ℤ◌, unsigned_abs};
+ghost use Rattle.dual_model.specs.CostToGo.{MAX_MOVE};
 ghost use Rattle.dual_model.specs.Moves.{holds_initially as initially, initial_limit as limit_of};
+ghost use Rattle.dual_model.specs.UnitTerms.{place as place_of};
 
-use uc_model::Thermal;
+use crate::limits::{MAX_TERM, MAX_UNIT_PRICE};
+use uc_model::limits::MAX_POWER;
+use uc_model::{Thermal, difference, product};
 
 /// M7, of a unit that is on initially: whether its initial output is low enough for a stop in the first period, or for
 /// none. It says nothing of a later period `t` (from 0).
@@ -22,4 +26,28 @@ fn initial_limit(unit: &Thermal, stop: bool) -> i64
     } else {
         unit.pmax
     }
+}
+
+/// The place of a cell's term in its period's row, by whether the cell is a start and whether a stop follows.
+pub fn place(start: bool, stop: bool) -> usize
+    ensures value { result ≡ place_of start stop }
+    ensures within { result < 4 }
+{
+    match (start, stop) {
+        (false, false) => 0,
+        (true, false) => 1,
+        (false, true) => 2,
+        (true, true) => 3,
+    }
+}
+
+/// What an hour of this term costs: the term less the price of the minimum output.
+pub fn hour_cost(term: i128, price: i128, minimum: i64) -> i128
+    requires term { unsigned_abs term ≤ MAX_TERM }
+    requires price { unsigned_abs price ≤ MAX_UNIT_PRICE }
+    requires minimum { unsigned_abs minimum ≤ MAX_POWER }
+    ensures value { result ≡ term -ℤ price *ℤ minimum }
+    ensures size { unsigned_abs result ≤ MAX_MOVE }
+{
+    difference(term, product(price, i128::from(minimum)))
 }

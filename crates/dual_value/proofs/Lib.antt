@@ -1,5 +1,4 @@
 pub mod FixBits
-pub mod CurveLists
 pub mod Constants
 pub mod Parts
 pub mod ValuedUnits

@@ -8,6 +8,7 @@ mod room;
 mod units;
 mod valued;
 
+pub use dual_model::Valued;
 pub use node_value::{value, value_in};
 pub use room::Room;
-pub use valued::{ValueFault, Valued};
+pub use valued::ValueFault;

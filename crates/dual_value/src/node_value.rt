@@ -9,8 +9,8 @@ ghost use Rattle.dual_value.specs.Rooms.{IsRoomOf};
 
 use crate::room::Room;
 use crate::units::unit_part;
-use crate::valued::{ValueFault, Valued};
-use dual_model::{Node, Table};
+use crate::valued::ValueFault;
+use dual_model::{Node, Table, Valued};
 use std::alloc::Global;
 use system_value::{renewables_value, system_value};
 use uc_model::{Instance, List, NoMemory, Pattern, sum};

@@ -1,13 +1,15 @@
 //! What the evaluations of one instance share, made once.
 
-ghost use Rattle.std.specs.Prelude.{◌≡◌, IfOk, All, length};
-ghost use Rattle.uc_model.specs.Limits.{IsLawfulInstance, IsLawfulThermal};
-ghost use Rattle.dual_value.specs.Rooms.{AreCurvesOf, IsRoomOf};
+ghost use Rattle.std.specs.Prelude.{◌≡◌, IfOk};
+ghost use Rattle.uc_model.specs.Limits.{IsLawfulInstance};
+ghost use Rattle.uc_model.specs.declared.instance.Instance.{Instance};
+ghost use Rattle.cost_curves.specs.UnitCurves.{AreCurvesOf};
+ghost use Rattle.dual_value.specs.Rooms.{IsRoomOf};
 
-use cost_curves::Curve;
+use cost_curves::{Curve, curves_of};
 use std::alloc::Global;
 use std::marker::Model;
-use uc_model::{Instance, NoMemory, Thermal};
+use uc_model::{Instance, NoMemory};
 
 /// The curves of an instance's thermal units, and memory for the prices of one unit at a time. Contracts see the corners
 /// of each curve, and the number of periods.
@@ -33,28 +35,16 @@ impl Room {
         requires { IsLawfulInstance instance.now }
         ensures { IfOk result (IsRoomOf instance.now) }
     {
-        let curves = curves(alloc, instance.thermal.as_slice())?;
+        let curves = curves_of(alloc, instance)?;
         let rows = vec![in alloc; (0, 0, 0); instance.periods as usize]?;
         Ok(Room { curves, rows })
     }
 
     /// The curve of each thermal unit.
     pub fn curves(&self) -> &[Curve]
-        ensures { result.now ≡ self.now.curves }
+        ensures value { result.now ≡ self.now.curves }
+        ensures curves { (instance : Instance) → IsRoomOf instance self.now → AreCurvesOf instance result.now }
     {
         &self.curves
     }
-}
-
-// The curve of each unit.
-fn curves(alloc: Global, units: &[Thermal]) -> Result<Vec<Curve>, NoMemory>
-    requires { All IsLawfulThermal units.now }
-    ensures count { IfOk result (λ curves. length curves.items ≡ length units.now) }
-    ensures curves { IfOk result (λ curves. AreCurvesOf units.now (length units.now) curves.items) }
-{
-    let mut curves = Vec::new(alloc);
-    for unit in units {
-        curves.push(Curve::of(alloc, unit.points.as_slice())?)?;
-    }
-    Ok(curves)
 }

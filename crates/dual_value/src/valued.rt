@@ -1,15 +1,6 @@
-//! What is answered of a node and a table.
+//! Why a node has no value.
 
-use uc_model::{List, NoMemory, Pattern};
-
-/// The value of a node: the total, at the scale of the table, and for each thermal unit what it adds (its value and
-/// its constant) and a pattern that attains its value.
-#[derive(Debug, Drop)]
-pub struct Valued {
-    pub total: i128,
-    pub parts: List<i128>,
-    pub patterns: List<Pattern>,
-}
+use uc_model::NoMemory;
 
 /// Why a node has no value: thermal unit `g`, from 0, is the first without a pattern. Or memory was refused.
 #[derive(Clone, Copy, Debug)]

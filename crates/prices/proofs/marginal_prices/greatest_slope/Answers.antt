@@ -17,10 +17,10 @@ cell_slope-own-requires c = λ on.
     let g = c.loop-g.g in
     let within : g < thermal_count c.args.instance.now = omega (arith, c.loop-g-test.true, ap length c.as_slice-g-end.ensures) in
     let curve : slice_index_or c.args.room.now.curves g [] ≡ c.index-curves-g.result =
-    ap (λ (curves : List (List Point)). slice_index_or curves g []) (sym c.curves-curves.ensures)
-    ∙ sym (get_or_read c.curves-curves.result.now g c.index-curves-g.result (omega (arith, within, c.requires.room.count, ap length c.curves-curves.ensures)) c.index-curves-g.is []) in
+    ap (λ (curves : List (List Point)). slice_index_or curves g []) (sym c.curves-curves.ensures.value)
+    ∙ sym (get_or_read c.curves-curves.result.now g c.index-curves-g.result (omega (arith, within, c.requires.room.curves.count, ap length c.curves-curves.ensures.value)) c.index-curves-g.is []) in
     let hull : IsLowerHull (thermal_unit c.args.instance.now g).points c.index-curves-g.result =
-    subst (IsLowerHull (thermal_unit c.args.instance.now g).points) curve (c.requires.room.curve g within) in
+    subst (IsLowerHull (thermal_unit c.args.instance.now g).points) curve (c.requires.room.curves.curve g within) in
     let output : (cell_at c.args.printed.now g c.args.t).p ≤ℤ width_of (thermal_unit c.args.instance.now g).points =
     c.requires.outputs g c.args.t within c.requires.period (subst (λ (cell : Cell). IsTrue cell.on) c.cell.ensures on) in
     subst (λ z. c.cell.result.p ≤ℤ z) (sym (whole_width (thermal_unit c.args.instance.now g).points c.index-curves-g.result hull))
@@ -31,10 +31,10 @@ loop-g-preserved c =
     let g = c.loop-g.g in
     let within : g < thermal_count c.args.instance.now = omega (arith, c.loop-g-test.true, ap length c.as_slice-g-end.ensures) in
     let curve : slice_index_or c.args.room.now.curves g [] ≡ c.index-curves-g.result =
-    ap (λ (curves : List (List Point)). slice_index_or curves g []) (sym c.curves-curves.ensures)
-    ∙ sym (get_or_read c.curves-curves.result.now g c.index-curves-g.result (omega (arith, within, c.requires.room.count, ap length c.curves-curves.ensures)) c.index-curves-g.is []) in
+    ap (λ (curves : List (List Point)). slice_index_or curves g []) (sym c.curves-curves.ensures.value)
+    ∙ sym (get_or_read c.curves-curves.result.now g c.index-curves-g.result (omega (arith, within, c.requires.room.curves.count, ap length c.curves-curves.ensures.value)) c.index-curves-g.is []) in
     let hull : IsLowerHull (thermal_unit c.args.instance.now g).points c.index-curves-g.result =
-    subst (IsLowerHull (thermal_unit c.args.instance.now g).points) curve (c.requires.room.curve g within) in
+    subst (IsLowerHull (thermal_unit c.args.instance.now g).points) curve (c.requires.room.curves.curve g within) in
     subst (IsGreatestOf c.args.instance.now c.args.printed.now c.args.t (g + 1)) (sym c.steeper-greatest.ensures)
     (greatest-more c.args.instance.now c.args.printed.now c.args.t g c.loop-g.greatest c.cell_slope-own.result c.loop-g.invariant
     (own_slope c.args.instance.now c.args.printed.now g c.args.t c.index-curves-g.result c.cell.result c.cell_slope-own.result c.cell.ensures hull c.cell_slope-own.ensures))
