@@ -20,7 +20,7 @@ use uc_model::{Instance, List, NoMemory};
 use unit_path::Scratch;
 
 /// What the evaluations of an instance share: the curves, and memory for paths.
-#[derive(Debug, Drop)]
+#[derive(Drop)]
 pub(crate) struct Lent {
     pub room: Room,
     pub scratch: Scratch,

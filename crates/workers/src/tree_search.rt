@@ -34,7 +34,7 @@ use std::sync::Wait;
 use uc_model::{Instance, NoMemory, Printed, floor_div};
 
 /// The state of the search machine, the best schedule so far with its cost in micro-dollars, and the order of the open nodes.
-#[derive(Debug, Drop)]
+#[derive(Drop)]
 pub(crate) struct Search {
     pub state: State,
     pub best: Option<(Printed, i64)>,

@@ -13,7 +13,7 @@ use Rattle.dual_model.specs.Prices.{IsRowPriced, IsWithinLimits, down_at, row_of
 use Rattle.dual_model.specs.declared.limits.TheConstants.{MAX_PRICE}
 use Rattle.dual_model.specs.declared.table.Table.{Table}
 use Rattle.dual_model.proofs.Multipliers.{row_of_each}
-use Rattle.leaf_values.specs.Entries.{MAX_CONSTANT}
+use Rattle.ramp_duals.specs.Sizes.{MAX_CONSTANT}
 
 -- the size of a sum of as many terms of this size
 pub sum_below-size : (n m : ℕ) (f : ℕ → ℤ) → ((k : ℕ) → k < n → unsigned_abs (f k) ≤ m) → unsigned_abs (sum_below n f) ≤ n * m
