@@ -1,10 +1,10 @@
 -- What each node stores by its own entries, after an entry more and the move of its claim.
-use Rattle.std.proofs.Common.{◌≡◌, ◌≢◌, ℕ, ◌<◌, ◌⊎◌, true, false, cond, List, length, ap, sym, ◌∙◌, subst, arith, ⊎_elim, Some}
+use Rattle.std.proofs.Common.{◌≡◌, ◌≢◌, ℕ, ◌<◌, true, false, cond, List, length, ap, sym, ◌∙◌, subst, arith, ⊎_elim, Some}
 use Rattle.std.proofs.lemmas.Bool.{eq-eqb}
 use Rattle.dual_model.specs.Tree.{child}
 use Rattle.dual_model.specs.declared.node.Node.{Node}
 use Rattle.dual_model.specs.declared.table.Table.{Table}
-use Rattle.branch_tree.specs.NumberedTree.{NumberedTree, EndAt, SplitAt, Subtree, number_of, spot_of, times, subtree_below, replaced}
+use Rattle.branch_tree.specs.NumberedTree.{NumberedTree, EndAt, SplitAt, Subtree, spot_of, times, subtree_below, replaced}
 use Rattle.branch_tree.specs.declared.found.Entry.{Entry}
 use Rattle.branch_tree.specs.declared.tree.Leaf.{Leaf}
 use Rattle.branch_tree.specs.declared.tree.Spot.TheVariants as spot

@@ -1,5 +1,5 @@
 -- The product and the difference are as small as their parts allow.
-use Rattle.std.proofs.Common.{◌≡◌, ◌*◌, ◌≤◌, ap, ◌∙◌, lit<, arith, ℤ, ◌-ℤ◌, ◌*ℤ◌}
+use Rattle.std.proofs.Common.{◌*◌, ◌≤◌, ap, ◌∙◌, lit<, arith, ◌-ℤ◌, ◌*ℤ◌}
 use Rattle.std.specs.Prelude.{unsigned_abs}
 use Rattle.uc_model.specs.declared.limits.TheConstants.{MAX_POWER}
 use Rattle.uc_model.proofs.Sizes.{difference-is, difference-size, from-size, narrow, product-fits, product-is, product-size, sum-fits, wide, wide-size}

@@ -1,5 +1,5 @@
 -- The unit's value with its constant, or that it has no pattern.
-use Rattle.std.proofs.Common.{refl, sym, ap, ◌∙◌, lit<, arith}
+use Rattle.std.proofs.Common.{refl, ap, ◌∙◌, lit<, arith}
 use Rattle.uc_model.proofs.Sizes.{sum-fits, sum-is, sum-size, wide, wide-size}
 use Rattle.dual_model.specs.NodeValue.{unit_constant}
 use Rattle.dual_value.specs.NodeAnswer.{MAX_PART}
