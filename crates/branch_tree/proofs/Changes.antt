@@ -1,5 +1,5 @@
 -- What `close` and `split` make of the places and of the cover.
-use Rattle.std.proofs.Common.{◌≡◌, ◌≢◌, ℕ, zero, suc, ◌+◌, ◌<◌, ◌⊎◌, true, false, cond, List, [], ◌∷◌, ◌++◌, length, set, refl, ap, sym, ◌∙◌, subst, arith, ⊎_elim, Some, length-append, length-set}
+use Rattle.std.proofs.Common.{◌≡◌, ◌≢◌, ℕ, zero, suc, ◌+◌, ◌<◌, true, false, cond, List, [], ◌∷◌, ◌++◌, length, set, refl, ap, sym, ◌∙◌, subst, arith, ⊎_elim, Some, length-append, length-set}
 use Rattle.std.specs.Prelude.{◌==◌, IsTrue, not, slice_get}
 use Rattle.std.proofs.lemmas.Bool.{cases_eq, eq-eqb, ne_eqb}
 use Rattle.std.proofs.lemmas.Option.{slice_get_within}
@@ -7,7 +7,7 @@ use Rattle.uc_model.specs.declared.instance.Instance.{Instance}
 use Rattle.dual_model.specs.Fixings.{IsCell}
 use Rattle.dual_model.specs.Tree.{root, child, is_decided, IsCoverBelow, IsCover}
 use Rattle.dual_model.specs.declared.node.Node.{Node}
-use Rattle.branch_tree.specs.NumberedTree.{NumberedTree, EndAt, SplitAt, Subtree, unnumbered, number_of, spot_of, times, subtree_below, subtree_at, replaced, split_leaf}
+use Rattle.branch_tree.specs.NumberedTree.{NumberedTree, EndAt, SplitAt, Subtree, unnumbered, spot_of, subtree_below, subtree_at, replaced, split_leaf}
 use Rattle.branch_tree.specs.TreeView.{TreeView, IsSizeOf, IsOpenAt, IsFreeAt, tree_of}
 use Rattle.branch_tree.specs.Places.{ArePlacesOf}
 use Rattle.branch_tree.specs.declared.tree.Leaf.{Leaf}
@@ -15,7 +15,7 @@ use Rattle.branch_tree.specs.declared.tree.Leaf.TheVariants as leaf
 use Rattle.branch_tree.specs.declared.tree.Spot.TheVariants as spot
 use Rattle.branch_tree.specs.declared.places.Place.{Place}
 use Rattle.branch_tree.proofs.Weights.{same_or_not, one_if, replaced_nowhere}
-use Rattle.branch_tree.proofs.Subtrees.{AreApart, IsHere, apart_off, apart_on, subtree_cases, leaf_case, part_counted}
+use Rattle.branch_tree.proofs.Subtrees.{AreApart, IsOff, IsOn, apart_off, apart_on, leaf_at, leaf_sides}
 use Rattle.branch_tree.proofs.Placed.{are_apart, part_place, from_some}
 use Rattle.branch_tree.proofs.Replaced.{are_changed}
 
@@ -162,37 +162,26 @@ pub cover_split : (instance : Instance) (here : Node) (tree : NumberedTree) (wan
     → IsCoverBelow instance here (unnumbered tree)
     → IsCoverBelow instance here (unnumbered (replaced wanted (split_leaf wanted g t off on) tree))
 cover_split instance here (EndAt number l) wanted g t off on part leaf apart e is cell undecided cover =
-    let h = leaf_case here number l wanted part e in
-    let at : part.node ≡ here = ap (λ (p : Subtree). p.node) h.whole in
+    let at = leaf_at here number l leaf wanted part e is in
     let grown = split_leaf wanted g t off on l in
-    subst (λ b. IsCoverBelow instance here (unnumbered (cond b grown (EndAt number l)))) (sym (eq-eqb number wanted h.number))
-    (cell, subst (λ node. IsTrue (not (is_decided node g t))) at undecided, tt, tt)
+    subst (λ b. IsCoverBelow instance here (unnumbered (cond b grown (EndAt number l)))) (sym at.test)
+    (cell, subst (λ node. IsTrue (not (is_decided node g t))) at.node undecided, tt, tt)
 cover_split instance here (SplitAt number a b left right) wanted g t off on part leaf apart e is cell undecided cover =
     let grow = split_leaf wanted g t off on in
     ⊎_elim
-    (λ (h : IsHere here (SplitAt number a b left right) wanted part).
-    let differ : spot.Inner a b (number_of left) (number_of right) ≡ spot.Leaf leaf =
-    sym (ap (λ (p : Subtree). spot_of p.tree) h.whole) ∙ is in absurd (cc))
-    (λ (sides : (subtree_below (child here a b false) left wanted ≡ Some part) ⊎ (subtree_below (child here a b true) right wanted ≡ Some part)).
-    ⊎_elim
-    (λ (l : subtree_below (child here a b false) left wanted ≡ Some part).
-    let some = part_counted (child here a b false) left wanted part l in
-    let none : times wanted right ≡ 0 = omega (arith, apart wanted) in (
+    (λ (l : IsOff here a b left right wanted part). (
       cover.0,
       cover.1,
-      cover_split instance (child here a b false) left wanted g t off on part leaf (apart_off number a b left right apart) l is cell undecided cover.2,
-      subst (λ tree. IsCoverBelow instance (child here a b true) (unnumbered tree)) (sym (replaced_nowhere wanted grow right none)) cover.3,
+      cover_split instance (child here a b false) left wanted g t off on part leaf (apart_off number a b left right apart) l.0 is cell undecided cover.2,
+      subst (λ tree. IsCoverBelow instance (child here a b true) (unnumbered tree)) (sym (replaced_nowhere wanted grow right l.1)) cover.3,
     ))
-    (λ (r : subtree_below (child here a b true) right wanted ≡ Some part).
-    let some = part_counted (child here a b true) right wanted part r in
-    let none : times wanted left ≡ 0 = omega (arith, apart wanted) in (
+    (λ (r : IsOn here a b left right wanted part). (
       cover.0,
       cover.1,
-      subst (λ tree. IsCoverBelow instance (child here a b false) (unnumbered tree)) (sym (replaced_nowhere wanted grow left none)) cover.2,
-      cover_split instance (child here a b true) right wanted g t off on part leaf (apart_on number a b left right apart) r is cell undecided cover.3,
+      subst (λ tree. IsCoverBelow instance (child here a b false) (unnumbered tree)) (sym (replaced_nowhere wanted grow left r.1)) cover.2,
+      cover_split instance (child here a b true) right wanted g t off on part leaf (apart_on number a b left right apart) r.0 is cell undecided cover.3,
     ))
-    sides)
-    (subtree_cases here number a b left right wanted part e)
+    (leaf_sides here number a b left right wanted part leaf apart e is)
 
 -- what a free cell is for the cover of any instance of the size
 pub free_split : (tree : TreeView) (places : List Place) (wanted g t off on : ℕ) (instance : Instance)

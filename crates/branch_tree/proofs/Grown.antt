@@ -1,7 +1,7 @@
 -- A placed tree after an open leaf of it was closed or split: it is placed again, what stands elsewhere stays, and what holds
 -- of each leaf holds again where it holds of what was grown.
 use Rattle.std.proofs.Common.{◌≡◌, ◌≢◌, ℕ, suc, ◌+◌, ◌<◌, ◌≤◌, ◌⊎◌, true, false, cond, List, [], ◌∷◌, ◌++◌, set, refl, ap, sym, ◌∙◌, subst, arith, ⊎_elim, Some, None, Option, length-append, length-set}
-use Rattle.std.specs.Prelude.{◌==◌, slice_get}
+use Rattle.std.specs.Prelude.{slice_get}
 use Rattle.std.specs.Option.{option_or, option_map}
 use Rattle.std.proofs.lemmas.Bool.{eq-eqb, ne_eqb, cases_lt}
 use Rattle.std.proofs.lemmas.Option.{slice_get-get_or}
@@ -16,8 +16,8 @@ use Rattle.branch_tree.specs.declared.tree.Leaf.TheVariants as leaf
 use Rattle.branch_tree.specs.declared.tree.Spot.{Spot}
 use Rattle.branch_tree.specs.declared.tree.Spot.TheVariants as spot
 use Rattle.branch_tree.specs.declared.places.Place.{Place}
-use Rattle.branch_tree.proofs.Weights.{same_or_not, one_here, replaced_nowhere}
-use Rattle.branch_tree.proofs.Subtrees.{AreApart, IsHere, apart_off, apart_on, at_root, subtree_cases, leaf_case, part_counted, no_part}
+use Rattle.branch_tree.proofs.Weights.{replaced_nowhere}
+use Rattle.branch_tree.proofs.Subtrees.{AreApart, IsHere, IsOff, IsOn, apart_off, apart_on, at_root, subtree_cases, leaf_at, leaf_case, leaf_sides, not_root, part_counted, no_part, side_part}
 use Rattle.branch_tree.proofs.Placed.{are_apart, part_place, spot_is, from_some}
 use Rattle.branch_tree.proofs.Changes.{get-set_other, get-set_same, get-append, open_place, open_within, closed_places, split_places}
 use Rattle.branch_tree.proofs.Preorder.{IsPart, whole_part, off_side, on_side, part_spot}
@@ -162,51 +162,34 @@ split_elsewhere tree wanted g t number s placed at differ e =
     ∙ ap (λ (x : Spot). Some x) other.2
 
 -- ---- what was grown hangs from its number
-leaf_is : (l old : Leaf) → spot.Leaf l ≡ spot.Leaf old → l ≡ old
-leaf_is l old e = cc
-
 pub part_there : (here : Node) (tree : NumberedTree) (wanted : ℕ) (grow : Leaf → NumberedTree) (part : Subtree) (old : Leaf) → AreApart tree
     → ((l : Leaf) → number_of (grow l) ≡ wanted) → subtree_below here tree wanted ≡ Some part → spot_of part.tree ≡ spot.Leaf old
     → subtree_below here (replaced wanted grow tree) wanted ≡ Some (record { node = part.node; tree = grow old })
 part_there here (EndAt number l) wanted grow part old apart number_is e is =
-    let h = leaf_case here number l wanted part e in
-    let spots : spot.Leaf l ≡ spot.Leaf old = sym (ap (λ (p : Subtree). spot_of p.tree) h.whole) ∙ is in
-    let same = leaf_is l old spots in
-    let at : part.node ≡ here = ap (λ (p : Subtree). p.node) h.whole in
-    ap (λ b. subtree_below here (cond b (grow l) (EndAt number l)) wanted) (eq-eqb number wanted h.number)
+    let at = leaf_at here number l old wanted part e is in
+    ap (λ b. subtree_below here (cond b (grow l) (EndAt number l)) wanted) at.test
     ∙ ap (subtree_below here (grow l)) (sym (number_is l))
     ∙ at_root here (grow l)
-    ∙ (λ i. Some (record { node = sym at i; tree = grow (same i) }))
+    ∙ (λ i. Some (record { node = sym at.node i; tree = grow (at.same i) }))
 part_there here (SplitAt number g t off on) wanted grow part old apart number_is e is =
+    let there : Subtree = record { node = part.node; tree = grow old } in
     let left = subtree_below (child here g t false) (replaced wanted grow off) wanted in
     let right = subtree_below (child here g t true) (replaced wanted grow on) wanted in
-    let all : Option Subtree = Some (record { node = here; tree = replaced wanted grow (SplitAt number g t off on) }) in
     ⊎_elim
-    (λ (h : IsHere here (SplitAt number g t off on) wanted part).
-    let differ : spot.Inner g t (number_of off) (number_of on) ≡ spot.Leaf old =
-    sym (ap (λ (p : Subtree). spot_of p.tree) h.whole) ∙ is in absurd (cc))
-    (λ (sides : (subtree_below (child here g t false) off wanted ≡ Some part) ⊎ (subtree_below (child here g t true) on wanted ≡ Some part)).
-    ⊎_elim
-    (λ (l : subtree_below (child here g t false) off wanted ≡ Some part).
-    let some = part_counted (child here g t false) off wanted part l in
-    let below = part_there (child here g t false) off wanted grow part old (apart_off number g t off on apart) number_is l is in
-    ⊎_elim
-    (λ (h : (number ≡ wanted) × ((number == wanted) ≡ true)). absurd (omega (arith, apart wanted, one_here number wanted h.1)))
-    (λ (h : ((number ≡ wanted) → ⊥) × ((number == wanted) ≡ false)). (λ i. cond (h.1 i) all (option_or (below i) right)))
-    (same_or_not number wanted))
-    (λ (r : subtree_below (child here g t true) on wanted ≡ Some part).
-    let some = part_counted (child here g t true) on wanted part r in
-    let none : times wanted off ≡ 0 = omega (arith, apart wanted) in
+    (λ (l : IsOff here g t off on wanted part).
+    let some = part_counted (child here g t false) off wanted part l.0 in
+    let below = part_there (child here g t false) off wanted grow part old (apart_off number g t off on apart) number_is l.0 is in
+    side_part here number g t (replaced wanted grow off) (replaced wanted grow on) wanted there
+    (not_root number g t off on wanted apart (omega arith)) (ap (λ o. option_or o right) below))
+    (λ (r : IsOn here g t off on wanted part).
+    let some = part_counted (child here g t true) on wanted part r.0 in
     let nothing : left ≡ None =
-    ap (λ tree. subtree_below (child here g t false) tree wanted) (replaced_nowhere wanted grow off none)
-    ∙ no_part (child here g t false) off wanted none in
-    let below = part_there (child here g t true) on wanted grow part old (apart_on number g t off on apart) number_is r is in
-    ⊎_elim
-    (λ (h : (number ≡ wanted) × ((number == wanted) ≡ true)). absurd (omega (arith, apart wanted, one_here number wanted h.1)))
-    (λ (h : ((number ≡ wanted) → ⊥) × ((number == wanted) ≡ false)). (λ i. cond (h.1 i) all (option_or (nothing i) (below i))))
-    (same_or_not number wanted))
-    sides)
-    (subtree_cases here number g t off on wanted part e)
+    ap (λ tree. subtree_below (child here g t false) tree wanted) (replaced_nowhere wanted grow off r.1)
+    ∙ no_part (child here g t false) off wanted r.1 in
+    let below = part_there (child here g t true) on wanted grow part old (apart_on number g t off on apart) number_is r.0 is in
+    side_part here number g t (replaced wanted grow off) (replaced wanted grow on) wanted there
+    (not_root number g t off on wanted apart (omega arith)) (λ i. option_or (nothing i) (below i)))
+    (leaf_sides here number g t off on wanted part old apart e is)
 
 -- the node of a leaf that was replaced by another is the same
 pub closed_node : (tree : NumberedTree) (wanted : ℕ) (new : Leaf) (node : Node) → IsPlaced tree → IsOpenAt tree wanted
@@ -247,34 +230,21 @@ pub each_leaf_replaced : (P Q : Node → Leaf → Type 0) → ((n : Node) (l : L
     → EachLeaf P here (unnumbered tree) → EachLeaf Q part.node (unnumbered (grow old))
     → EachLeaf Q here (unnumbered (replaced wanted grow tree))
 each_leaf_replaced P Q turn here (EndAt number l) wanted grow part old apart e is each grown =
-    let h = leaf_case here number l wanted part e in
-    let spots : spot.Leaf l ≡ spot.Leaf old = sym (ap (λ (p : Subtree). spot_of p.tree) h.whole) ∙ is in
-    let same = leaf_is l old spots in
-    let at : part.node ≡ here = ap (λ (p : Subtree). p.node) h.whole in
-    subst (λ b. EachLeaf Q here (unnumbered (cond b (grow l) (EndAt number l)))) (sym (eq-eqb number wanted h.number))
-    (subst (λ x. EachLeaf Q here (unnumbered (grow x))) (sym same) (subst (λ n. EachLeaf Q n (unnumbered (grow old))) at grown))
+    let at = leaf_at here number l old wanted part e is in
+    subst (λ b. EachLeaf Q here (unnumbered (cond b (grow l) (EndAt number l)))) (sym at.test)
+    (subst (λ x. EachLeaf Q here (unnumbered (grow x))) (sym at.same) (subst (λ n. EachLeaf Q n (unnumbered (grow old))) at.node grown))
 each_leaf_replaced P Q turn here (SplitAt number g t off on) wanted grow part old apart e is each grown = ⊎_elim
-    (λ (h : IsHere here (SplitAt number g t off on) wanted part).
-    let differ : spot.Inner g t (number_of off) (number_of on) ≡ spot.Leaf old =
-    sym (ap (λ (p : Subtree). spot_of p.tree) h.whole) ∙ is in absurd (cc))
-    (λ (sides : (subtree_below (child here g t false) off wanted ≡ Some part) ⊎ (subtree_below (child here g t true) on wanted ≡ Some part)).
-    ⊎_elim
-    (λ (l : subtree_below (child here g t false) off wanted ≡ Some part).
-    let some = part_counted (child here g t false) off wanted part l in
-    let none : times wanted on ≡ 0 = omega (arith, apart wanted) in (
-      each_leaf_replaced P Q turn (child here g t false) off wanted grow part old (apart_off number g t off on apart) l is each.0 grown,
-      subst (λ tree. EachLeaf Q (child here g t true) (unnumbered tree)) (sym (replaced_nowhere wanted grow on none))
+    (λ (l : IsOff here g t off on wanted part). (
+      each_leaf_replaced P Q turn (child here g t false) off wanted grow part old (apart_off number g t off on apart) l.0 is each.0 grown,
+      subst (λ tree. EachLeaf Q (child here g t true) (unnumbered tree)) (sym (replaced_nowhere wanted grow on l.1))
           (each_leaf_map P Q turn (child here g t true) (unnumbered on) each.1),
     ))
-    (λ (r : subtree_below (child here g t true) on wanted ≡ Some part).
-    let some = part_counted (child here g t true) on wanted part r in
-    let none : times wanted off ≡ 0 = omega (arith, apart wanted) in (
-      subst (λ tree. EachLeaf Q (child here g t false) (unnumbered tree)) (sym (replaced_nowhere wanted grow off none))
+    (λ (r : IsOn here g t off on wanted part). (
+      subst (λ tree. EachLeaf Q (child here g t false) (unnumbered tree)) (sym (replaced_nowhere wanted grow off r.1))
           (each_leaf_map P Q turn (child here g t false) (unnumbered off) each.0),
-      each_leaf_replaced P Q turn (child here g t true) on wanted grow part old (apart_on number g t off on apart) r is each.1 grown,
+      each_leaf_replaced P Q turn (child here g t true) on wanted grow part old (apart_on number g t off on apart) r.0 is each.1 grown,
     ))
-    sides)
-    (subtree_cases here number g t off on wanted part e)
+    (leaf_sides here number g t off on wanted part old apart e is)
 
 -- ---- where no leaf is open
 abbrev pub IsClosedLeaf : Leaf → Type 0

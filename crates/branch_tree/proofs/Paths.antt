@@ -49,6 +49,48 @@ root_part : (here : Node) (tree : NumberedTree) (wanted : ℕ) (part : Subtree) 
 root_part here tree wanted part is e =
     some_is part (record { node = here; tree = tree }) (sym e ∙ (ap (subtree_below here tree) (sym is) ∙ at_root here tree))
 
+-- a split is the parent of its children
+parent_here : (places : List Place) (here : Node) (m a b : ℕ) (left right : NumberedTree) (wanted : ℕ) (part : Subtree) → IsChild here a b left right part
+    → ((place : Place) → slice_get places wanted ≡ Some place → place.parent ≡ m) → HasParent places here (SplitAt m a b left right) wanted part
+parent_here places here m a b left right wanted part is_child named = record {
+  node = here;
+  number = m;
+  g = a;
+  t = b;
+  off = left;
+  on = right;
+  split = record { hangs = at_root here (SplitAt m a b left right) };
+  is_child = is_child;
+  named = named;
+}
+
+-- a parent in a tree is one in a tree that has all its parts
+parent_above : (places : List Place) (below here : Node) (side whole : NumberedTree) (wanted : ℕ) (part : Subtree)
+    → ((number : ℕ) (p : Subtree) → subtree_below below side number ≡ Some p → subtree_below here whole number ≡ Some p)
+    → HasParent places below side wanted part → HasParent places here whole wanted part
+parent_above places below here side whole wanted part raise above = record {
+  node = above.node;
+  number = above.number;
+  g = above.g;
+  t = above.t;
+  off = above.off;
+  on = above.on;
+  split = record {
+    hangs = raise above.number (record { node = above.node; tree = SplitAt above.number above.g above.t above.off above.on }) above.split.hangs;
+  };
+  is_child = above.is_child;
+  named = above.named;
+}
+
+-- one side of a split: a child of it, or lower
+parent_on_side : (places : List Place) (below here : Node) (side whole : NumberedTree) (wanted : ℕ) (part : Subtree)
+    → ((number : ℕ) (p : Subtree) → subtree_below below side number ≡ Some p → subtree_below here whole number ≡ Some p)
+    → (number_of side ≡ wanted → HasParent places here whole wanted part)
+    → (number_of side ≢ wanted → HasParent places below side wanted part) → HasParent places here whole wanted part
+parent_on_side places below here side whole wanted part raise own lower =
+    ⊎_elim own (λ (h : number_of side ≡ wanted → ⊥). parent_above places below here side whole wanted part raise (lower h))
+    (cases_eq (number_of side) wanted)
+
 pub has_parent : (places : List Place) (parent : ℕ) (here : Node) (tree : NumberedTree) (wanted : ℕ) (part : Subtree)
     → HasPlaces places parent tree → AreApart tree → subtree_below here tree wanted ≡ Some part → number_of tree ≢ wanted
     → HasParent places here tree wanted part
@@ -59,65 +101,13 @@ has_parent places parent here (SplitAt m a b left right) wanted part has apart e
     (λ (sides : (subtree_below (child here a b false) left wanted ≡ Some part) ⊎ (subtree_below (child here a b true) right wanted ≡ Some part)).
     ⊎_elim
     (λ (l : subtree_below (child here a b false) left wanted ≡ Some part).
-    ⊎_elim
-    (λ (is : number_of left ≡ wanted). record {
-      node = here;
-      number = m;
-      g = a;
-      t = b;
-      off = left;
-      on = right;
-      split = record { hangs = at_root here (SplitAt m a b left right) };
-      is_child = inl (root_part (child here a b false) left wanted part is l);
-      named = parent_named places m left wanted has.3 is;
-    })
-    (λ (lower : number_of left ≡ wanted → ⊥).
-    let above = has_parent places m (child here a b false) left wanted part has.3 (apart_off m a b left right apart) l lower in
-    record {
-      node = above.node;
-      number = above.number;
-      g = above.g;
-      t = above.t;
-      off = above.off;
-      on = above.on;
-      split = record {
-        hangs = off_part here m a b left right above.number
-            (record { node = above.node; tree = SplitAt above.number above.g above.t above.off above.on }) apart above.split.hangs;
-      };
-      is_child = above.is_child;
-      named = above.named;
-    })
-    (cases_eq (number_of left) wanted))
+    parent_on_side places (child here a b false) here left (SplitAt m a b left right) wanted part (λ n p. off_part here m a b left right n p apart)
+    (λ is. parent_here places here m a b left right wanted part (inl (root_part (child here a b false) left wanted part is l)) (parent_named places m left wanted has.3 is))
+    (has_parent places m (child here a b false) left wanted part has.3 (apart_off m a b left right apart) l))
     (λ (r : subtree_below (child here a b true) right wanted ≡ Some part).
-    ⊎_elim
-    (λ (is : number_of right ≡ wanted). record {
-      node = here;
-      number = m;
-      g = a;
-      t = b;
-      off = left;
-      on = right;
-      split = record { hangs = at_root here (SplitAt m a b left right) };
-      is_child = inr (root_part (child here a b true) right wanted part is r);
-      named = parent_named places m right wanted has.4 is;
-    })
-    (λ (lower : number_of right ≡ wanted → ⊥).
-    let above = has_parent places m (child here a b true) right wanted part has.4 (apart_on m a b left right apart) r lower in
-    record {
-      node = above.node;
-      number = above.number;
-      g = above.g;
-      t = above.t;
-      off = above.off;
-      on = above.on;
-      split = record {
-        hangs = on_part here m a b left right above.number
-            (record { node = above.node; tree = SplitAt above.number above.g above.t above.off above.on }) apart above.split.hangs;
-      };
-      is_child = above.is_child;
-      named = above.named;
-    })
-    (cases_eq (number_of right) wanted))
+    parent_on_side places (child here a b true) here right (SplitAt m a b left right) wanted part (λ n p. on_part here m a b left right n p apart)
+    (λ is. parent_here places here m a b left right wanted part (inr (root_part (child here a b true) right wanted part is r)) (parent_named places m right wanted has.4 is))
+    (has_parent places m (child here a b true) right wanted part has.4 (apart_on m a b left right apart) r))
     sides)
     (subtree_cases here m a b left right wanted part e)
 

@@ -1,12 +1,13 @@
 -- Where the parts of a tree hang, by their numbers.
-use Rattle.std.proofs.Common.{◌≡◌, ℕ, ◌<◌, ◌≤◌, ◌⊎◌, true, false, cond, refl, ap, sym, ◌∙◌, subst, arith, inl, inr, ⊎_elim, Option, Some, None}
+use Rattle.std.proofs.Common.{◌≡◌, ℕ, ◌+◌, ◌<◌, ◌≤◌, ◌⊎◌, true, false, cond, refl, ap, sym, ◌∙◌, subst, arith, inl, inr, ⊎_elim, Option, Some, None}
 use Rattle.std.specs.Prelude.{◌==◌}
 use Rattle.std.specs.Option.{option_or}
-use Rattle.std.proofs.lemmas.Bool.{eq-eqb, cases_lt}
+use Rattle.std.proofs.lemmas.Bool.{eq-eqb, ne_eqb, cases_lt}
 use Rattle.dual_model.specs.Tree.{child}
 use Rattle.dual_model.specs.declared.node.Node.{Node}
-use Rattle.branch_tree.specs.NumberedTree.{NumberedTree, EndAt, SplitAt, Subtree, number_of, times, subtree_below}
+use Rattle.branch_tree.specs.NumberedTree.{NumberedTree, EndAt, SplitAt, Subtree, number_of, spot_of, times, subtree_below}
 use Rattle.branch_tree.specs.declared.tree.Leaf.{Leaf}
+use Rattle.branch_tree.specs.declared.tree.Spot.TheVariants as spot
 use Rattle.branch_tree.proofs.Weights.{same_or_not, one_here, none_here, times_root}
 
 -- no two nodes have one number
@@ -66,6 +67,27 @@ leaf_case here number leaf wanted part e =
     let none : None ≡ Some part = subst (λ b. cond b (Some all) None ≡ Some part) h.1 e in absurd (cc))
     (same_or_not number wanted)
 
+-- the leaf that is reached is the one that stands there
+pub record IsLeafAt (here : Node) (number : ℕ) (l old : Leaf) (wanted : ℕ) (part : Subtree) : Type 0 where
+  pub number_is : number ≡ wanted
+  pub test : (number == wanted) ≡ true
+  pub same : l ≡ old
+  pub node : part.node ≡ here
+
+leaf_is : (l old : Leaf) → spot.Leaf l ≡ spot.Leaf old → l ≡ old
+leaf_is l old e = cc
+
+pub leaf_at : (here : Node) (number : ℕ) (l old : Leaf) (wanted : ℕ) (part : Subtree) → subtree_below here (EndAt number l) wanted ≡ Some part
+    → spot_of part.tree ≡ spot.Leaf old → IsLeafAt here number l old wanted part
+leaf_at here number l old wanted part e is =
+    let h = leaf_case here number l wanted part e in
+    record {
+      number_is = h.number;
+      test = eq-eqb number wanted h.number;
+      same = leaf_is l old (sym (ap (λ (p : Subtree). spot_of p.tree) h.whole) ∙ is);
+      node = ap (λ (p : Subtree). p.node) h.whole;
+    }
+
 -- what hangs from a number has it, and so some node does
 pub part_number : (here : Node) (tree : NumberedTree) (wanted : ℕ) (part : Subtree) → subtree_below here tree wanted ≡ Some part
     → number_of part.tree ≡ wanted
@@ -103,35 +125,64 @@ no_part here tree wanted none = none_or (subtree_below here tree wanted) refl
     none_or None e = e
     none_or (Some part) e = let some = part_counted here tree wanted part e in absurd (omega arith)
 
+-- the number of a part on a side of a split isn't that of the split
+pub not_root : (number g t : ℕ) (off on : NumberedTree) (wanted : ℕ) → AreApart (SplitAt number g t off on) → 1 ≤ times wanted off + times wanted on
+    → number ≡ wanted → ⊥
+not_root number g t off on wanted apart some e = omega (arith, apart wanted, one_here number wanted (eq-eqb number wanted e))
+
+pub side_part : (here : Node) (number g t : ℕ) (off on : NumberedTree) (wanted : ℕ) (part : Subtree) → (number ≡ wanted → ⊥)
+    → option_or (subtree_below (child here g t false) off wanted) (subtree_below (child here g t true) on wanted) ≡ Some part
+    → subtree_below here (SplitAt number g t off on) wanted ≡ Some part
+side_part here number g t off on wanted part other e =
+    ap (λ b. cond b (Some (record { node = here; tree = SplitAt number g t off on }))
+    (option_or (subtree_below (child here g t false) off wanted) (subtree_below (child here g t true) on wanted)))
+    (ne_eqb number wanted other)
+    ∙ e
+
 -- the part on one side of a split is that of the whole
 pub off_part : (here : Node) (number g t : ℕ) (off on : NumberedTree) (wanted : ℕ) (part : Subtree)
     → AreApart (SplitAt number g t off on) → subtree_below (child here g t false) off wanted ≡ Some part
     → subtree_below here (SplitAt number g t off on) wanted ≡ Some part
 off_part here number g t off on wanted part apart e =
-    let right = subtree_below (child here g t true) on wanted in
-    let all : Subtree = record { node = here; tree = SplitAt number g t off on } in
     let some = part_counted (child here g t false) off wanted part e in
-    ⊎_elim
-    (λ (h : (number ≡ wanted) × ((number == wanted) ≡ true)).
-    absurd (omega (arith, apart wanted, one_here number wanted h.1)))
-    (λ (h : ((number ≡ wanted) → ⊥) × ((number == wanted) ≡ false)).
-    (λ i. cond (h.1 i) (Some all) (option_or (e i) right)))
-    (same_or_not number wanted)
+    side_part here number g t off on wanted part (not_root number g t off on wanted apart (omega arith))
+    (ap (λ o. option_or o (subtree_below (child here g t true) on wanted)) e)
 
 pub on_part : (here : Node) (number g t : ℕ) (off on : NumberedTree) (wanted : ℕ) (part : Subtree)
     → AreApart (SplitAt number g t off on) → subtree_below (child here g t true) on wanted ≡ Some part
     → subtree_below here (SplitAt number g t off on) wanted ≡ Some part
 on_part here number g t off on wanted part apart e =
-    let left = subtree_below (child here g t false) off wanted in
-    let all : Subtree = record { node = here; tree = SplitAt number g t off on } in
     let some = part_counted (child here g t true) on wanted part e in
     let none : times wanted off ≡ 0 = omega (arith, apart wanted) in
+    side_part here number g t off on wanted part (not_root number g t off on wanted apart (omega arith))
+    (λ i. option_or (no_part (child here g t false) off wanted none i) (e i))
+
+-- a leaf below a split stands on one of its sides, and its number isn't on the other
+abbrev pub IsOff : Node → ℕ → ℕ → NumberedTree → NumberedTree → ℕ → Subtree → Type 0
+IsOff here g t off on wanted part = (subtree_below (child here g t false) off wanted ≡ Some part) × (times wanted on ≡ 0)
+
+abbrev pub IsOn : Node → ℕ → ℕ → NumberedTree → NumberedTree → ℕ → Subtree → Type 0
+IsOn here g t off on wanted part = (subtree_below (child here g t true) on wanted ≡ Some part) × (times wanted off ≡ 0)
+
+pub leaf_sides : (here : Node) (number g t : ℕ) (off on : NumberedTree) (wanted : ℕ) (part : Subtree) (old : Leaf)
+    → AreApart (SplitAt number g t off on) → subtree_below here (SplitAt number g t off on) wanted ≡ Some part → spot_of part.tree ≡ spot.Leaf old
+    → IsOff here g t off on wanted part ⊎ IsOn here g t off on wanted part
+leaf_sides here number g t off on wanted part old apart e is = ⊎_elim
+    (λ (h : IsHere here (SplitAt number g t off on) wanted part).
+    let differ : spot.Inner g t (number_of off) (number_of on) ≡ spot.Leaf old =
+    sym (ap (λ (p : Subtree). spot_of p.tree) h.whole) ∙ is in absurd (cc))
+    (λ (sides : (subtree_below (child here g t false) off wanted ≡ Some part) ⊎ (subtree_below (child here g t true) on wanted ≡ Some part)).
     ⊎_elim
-    (λ (h : (number ≡ wanted) × ((number == wanted) ≡ true)).
-    absurd (omega (arith, apart wanted, one_here number wanted h.1)))
-    (λ (h : ((number ≡ wanted) → ⊥) × ((number == wanted) ≡ false)).
-    (λ i. cond (h.1 i) (Some all) (option_or (no_part (child here g t false) off wanted none i) (e i))))
-    (same_or_not number wanted)
+    (λ (l : subtree_below (child here g t false) off wanted ≡ Some part).
+    let some = part_counted (child here g t false) off wanted part l in
+    let none : times wanted on ≡ 0 = omega (arith, apart wanted) in
+    inl (l, none))
+    (λ (r : subtree_below (child here g t true) on wanted ≡ Some part).
+    let some = part_counted (child here g t true) on wanted part r in
+    let none : times wanted off ≡ 0 = omega (arith, apart wanted) in
+    inr (r, none))
+    sides)
+    (subtree_cases here number g t off on wanted part e)
 
 -- each number of a node has its part
 pub some_part : (here : Node) (tree : NumberedTree) (wanted : ℕ) → AreApart tree → 1 ≤ times wanted tree

@@ -10,7 +10,7 @@ use uc_model::tolerance::{WHOLE_GAP, tolerance};
 use uc_model::{List, Printed, Stuck};
 
 /// What the evaluation of a node at a table gave.
-#[derive(Clone, Copy, Debug, PartialEq, Eq)]
+#[derive(Clone, Copy, Debug)]
 pub enum Outcome {
     /// The value V of the node at the table.
     Value(i128),
@@ -20,7 +20,7 @@ pub enum Outcome {
 
 /// An entry of the log: claim number `unit`, from 1, was evaluated by the worker on the node at the table
 /// of that number, each from 0.
-#[derive(Clone, Copy, Debug)]
+#[derive(Clone, Copy)]
 pub struct Entry {
     pub unit: u32,
     pub worker: u8,
@@ -32,7 +32,7 @@ pub struct Entry {
 /// What a search found: a schedule and its cost in micro-dollars where there is one, the tree, its tables,
 /// the log of evaluations, and why the commitment with the most on periods could not be dispatched where
 /// this is the reason that no schedule was found.
-#[derive(Debug, Drop)]
+#[derive(Drop)]
 pub struct Found {
     pub schedule: Option<(Printed, i64)>,
     pub tree: Tree,

@@ -11,7 +11,7 @@ use uc_model::{List, NoMemory};
 
 /// The order in which a tree is written: the numbers of its nodes in preorder, the off-child of a split before
 /// its on-child, and of the tables that its leaves use in order of first use.
-#[derive(Debug, Drop)]
+#[derive(Drop)]
 pub struct Layout {
     pub nodes: List<u32>,
     pub tables: List<u32>,

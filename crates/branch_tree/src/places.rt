@@ -13,7 +13,7 @@ use std::alloc::Global;
 use uc_model::NoMemory;
 
 /// A node in the list: the number of its parent, that of the root being 0, and what stands there.
-#[derive(Clone, Copy, Debug)]
+#[derive(Clone, Copy)]
 pub(crate) struct Place {
     pub parent: u32,
     pub spot: Spot,

@@ -32,7 +32,7 @@ pub enum Spot {
 ///
 /// Contracts see it as the view of `specs/TreeView`: a tree whose nodes have their numbers, with its size and
 /// its room.
-#[derive(Debug, Drop)]
+#[derive(Drop)]
 pub struct Tree {
     units: u32,
     periods: u32,

@@ -1,6 +1,6 @@
 -- What the tests of a leaf's numbers say of the leaf: a node with a value has no empty unit, and its value is one.
-use Rattle.std.proofs.Common.{◌≡◌, ℕ, ◌<◌, ◌⊎◌, Bool, IsTrue, inl, inr, List, sym, subst, ◌∙◌, ℤ, pos, ◌<ℤ◌}
-use Rattle.std.specs.Prelude.{Option, Some, None, slice_get, MatchOption, ◌↔◌}
+use Rattle.std.proofs.Common.{◌≡◌, ℕ, ◌<◌, ◌⊎◌, Bool, true, false, IsTrue, inl, inr, List, sym, subst, ◌∙◌, ℤ, pos, ◌<ℤ◌}
+use Rattle.std.specs.Prelude.{Option, Some, None, slice_get, MatchOption, ◌↔◌, if◌then◌else◌}
 use Rattle.std.proofs.lemmas.Option.{same_Some}
 use Rattle.uc_model.specs.Schedule.{thermal_count}
 use Rattle.uc_model.specs.declared.instance.Instance.{Instance}
@@ -12,7 +12,7 @@ use Rattle.dual_model.specs.declared.table.Table.{Table}
 use Rattle.dual_model.proofs.NodeValues.{values_are_unique}
 use Rattle.cert_text.specs.Nodes.{LeafNode}
 use Rattle.cert_check.specs.Visits.{IsSoundNode}
-use Rattle.cert_check.specs.inside.Leaves.{HasFloorOf, IsBounding, IsBoundingBy, IsEnough, IsExcluding, IsPositive}
+use Rattle.cert_check.specs.inside.Leaves.{HasFloorOf, IsBounding, IsBoundingBy, IsEnough, IsExcluding, IsHeld, IsPositive}
 
 valued-not-empty : (instance : Instance) (node : Node) (table : Table) (v : ℤ) → IsNodeValue instance node table v → ¬ HasEmptyUnit instance node
 valued-not-empty instance node table v is none =
@@ -107,3 +107,12 @@ bound-sound instance tables None node number table value told here is test = tes
 bound-sound instance tables (Some b) node number table value told here is test =
     let by = bounding-is instance tables node number table b value here is in
     ((λ t. by.0 (test.0 t)), (λ sound. test.1 (by.1 sound)))
+
+pub table-sound : (instance : Instance) (tables : List Table) (bound : Option ℤ) (node : Node) (number : ℕ) (table : Table) (value : Option ℤ) (is_ray told : Bool)
+    → slice_get tables number ≡ Some table → MatchOption value (HasEmptyUnit instance node) (IsNodeValue instance node table)
+    → IsTrue told ↔ IsHeld is_ray table.k value bound
+    → IsTrue told ↔ IsSoundNode instance tables bound node (LeafNode (if is_ray then Ray number else Bound number))
+table-sound instance tables bound node number table value true told here is test =
+    let by = excluding-is instance tables node number table value here is in
+    ray-sound instance tables bound node number told ((λ t. by.0 (test.0 t)), (λ sound. test.1 (by.1 sound)))
+table-sound instance tables bound node number table value false told here is test = bound-sound instance tables bound node number table value told here is test

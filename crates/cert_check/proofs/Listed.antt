@@ -199,15 +199,7 @@ refused-schedule instance c (Some written) (codes.C2 rule unit period) tables e 
   λ holds. breaks-obeys instance written rule unit period fault (holds.schedule written e).obeys,
 )
 refused-schedule instance c (Some written) (codes.C3 cost computed) tables e fault = (
-  record {
-    tables = tables;
-    written = written;
-    is_written = e;
-    obeys = fault.obeys;
-    is_cost = fault.is_cost;
-    is_computed = fault.is_computed;
-    differs = fault.differs;
-  },
+  record { tables = tables; written = written; is_written = e; miscosts = fault },
   λ holds. fault.differs (sym fault.is_cost ∙ (holds.schedule written e).cost ∙ sym fault.is_computed),
 )
 refused-schedule instance c (Some written) (codes.C1 table) tables e fault = absurd fault

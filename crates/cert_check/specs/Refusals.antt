@@ -62,17 +62,21 @@ pub record BreaksRule (instance : Instance) (c : Certificate) (rule unit period 
       let q = printed_denominator instance written.printed in
       IsFirstBroken instance q (printed_schedule instance written.printed q) (record { rule = rule; unit = unit; period = period })
 
--- the schedule obeys, and its cost isn't the one written
-pub record MissesCost (instance : Instance) (c : Certificate) (cost computed : ℤ) : Type 0 where
-  pub tables : HasTables instance c
-  pub written : WrittenSchedule
-  pub is_written : c.schedule ≡ Some written
+-- a schedule obeys, and its cost isn't the one written
+pub record Miscosts (instance : Instance) (written : WrittenSchedule) (cost computed : ℤ) : Type 0 where
   pub obeys :
       let q = printed_denominator instance written.printed in
       Obeys instance q (printed_schedule instance written.printed q)
   pub is_cost : written.cost ≡ cost
   pub is_computed : computed ≡ printed_cost instance written.printed
   pub differs : cost ≢ computed
+
+-- it is the schedule of the certificate
+pub record MissesCost (instance : Instance) (c : Certificate) (cost computed : ℤ) : Type 0 where
+  pub tables : HasTables instance c
+  pub written : WrittenSchedule
+  pub is_written : c.schedule ≡ Some written
+  pub miscosts : Miscosts instance written cost computed
 
 -- the code by which a node of that number is refused
 abbrev pub refusal_of : TreeNode → ℕ → Refusal

@@ -4,7 +4,7 @@ use uc_model::{NoMemory, Refusal};
 
 /// What is true where a certificate is accepted: `cost` micro-dollars is what its schedule costs at most, where there is
 /// one; no schedule costs less than `bound` micro-dollars, where there is a bound; and where `infeasible` there is no schedule.
-#[derive(Clone, Copy, Debug, PartialEq, Eq)]
+#[derive(Clone, Copy, Debug)]
 pub struct Claims {
     pub cost: Option<i64>,
     pub bound: Option<i128>,
@@ -12,7 +12,7 @@ pub struct Claims {
 }
 
 /// The certificate is refused by a code, or memory was refused.
-#[derive(Clone, Copy, Debug, PartialEq, Eq)]
+#[derive(Clone, Copy, Debug)]
 pub enum CheckFault {
     Refused(Refusal),
     NoMemory,

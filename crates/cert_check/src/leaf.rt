@@ -1,6 +1,6 @@
 //! What a leaf of a certificate's tree claims, and whether it is so.
 
-ghost use Rattle.std.specs.Prelude.{◌≡◌, ◌↔◌, ◌<◌, List, pos, ◌<ℤ◌, ◌≤ℤ◌, All, IfOk, IsTrue, length};
+ghost use Rattle.std.specs.Prelude.{◌≡◌, ◌↔◌, ◌<◌, List, pos, ◌<ℤ◌, ◌≤ℤ◌, All, IfOk, IsTrue, length, if◌then◌else◌};
 ghost use Rattle.uc_model.specs.Limits.{IsLawfulInstance};
 ghost use Rattle.uc_model.specs.Schedule.{thermal_count};
 ghost use Rattle.dual_model.specs.Cover.{Bound, Ray};
@@ -10,7 +10,7 @@ ghost use Rattle.dual_model.specs.declared.table.Table.{Table};
 ghost use Rattle.cert_text.specs.Nodes.{LeafNode};
 ghost use Rattle.leaf_values.specs.Paths.{AreFixesOf, node_of as place_of};
 ghost use Rattle.cert_check.specs.Visits.{IsSound, IsSoundNode};
-ghost use Rattle.cert_check.specs.inside.Leaves.{AreOfNumber, HasFloorOf, IsBoundingBy, IsEnough, IsExcluding, IsLeafNode, IsLoaded, IsPositive, IsReady, IsValueAt};
+ghost use Rattle.cert_check.specs.inside.Leaves.{AreOfNumber, HasFloorOf, IsBoundingBy, IsEnough, IsExcluding, IsHeld, IsLeafNode, IsLoaded, IsPositive, IsReady, IsValueAt};
 ghost use Rattle.cert_check.specs.inside.Nodes.{AreCheckable};
 ghost use Rattle.cert_check.specs.inside.Walks.{IsPath, visit_of};
 
@@ -22,7 +22,7 @@ use std::alloc::Global;
 use uc_model::{Instance, NoMemory, floor_div};
 
 /// The entries of the table of a number, from 0.
-#[derive(Debug, Drop)]
+#[derive(Drop)]
 pub(crate) struct Loaded {
     table: u32,
     entries: TableEntries,
@@ -30,7 +30,7 @@ pub(crate) struct Loaded {
 
 /// What the leaves checked so far leave for the next ones: room for walks and for what a path decides, and the table that
 /// was loaded last.
-#[derive(Debug, Drop)]
+#[derive(Drop)]
 pub(crate) struct Leaves {
     walk: Walk,
     fixes: Vec<Fix>,
@@ -69,8 +69,10 @@ impl Leaves {
         decide(&mut self.fixes, instance, path);
         match leaf {
             CertNode::Split { .. } => Ok(false),
-            CertNode::Bound(number) => self.is_bound(alloc, instance, cert, *number),
-            CertNode::Ray(number) => self.is_ray(alloc, instance, cert, *number),
+            CertNode::Bound(number) => {
+                self.is_table_sound(alloc, instance, cert, *number, false)
+            }
+            CertNode::Ray(number) => self.is_table_sound(alloc, instance, cert, *number, true),
             CertNode::Empty(g) => {
                 is_empty(
                     alloc,
@@ -83,13 +85,15 @@ impl Leaves {
         }
     }
 
-    // Whether the table of that number bounds the cost of the schedules at the node by what is claimed.
-    fn is_bound(
+    // Whether the table of that number is a ray that leaves no schedule at the node, or else bounds the cost of those there by
+    // what is claimed.
+    fn is_table_sound(
         &mut self,
         alloc: Global,
         instance: &Instance,
         cert: &Cert,
         number: u32,
+        is_ray: bool,
     ) -> Result<bool, NoMemory>
         requires lawful { IsLawfulInstance instance.now }
         requires checkable { AreCheckable instance.now cert.now }
@@ -97,32 +101,11 @@ impl Leaves {
         requires number { number < length cert.now.tables }
         ensures ready { IfOk result (λ sound. IsReady instance.now cert.now.tables self.new) }
         ensures sound { IfOk result (λ sound. (place : Node) → AreFixesOf instance.now place self.old.fixes.items
-            → IsTrue sound ↔ IsSoundNode instance.now cert.now.tables cert.now.bound place (LeafNode (Bound number))) }
+            → IsTrue sound ↔ IsSoundNode instance.now cert.now.tables cert.now.bound place (LeafNode (if is_ray then Ray number else Bound number))) }
     {
         let tables = cert.tables.as_slice();
         let value = self.value_at(alloc, instance, tables, number)?;
-        Ok(bounds(&tables[number as usize], &cert.bound, &value))
-    }
-
-    // Whether the table of that number is a ray that leaves no schedule at the node.
-    fn is_ray(
-        &mut self,
-        alloc: Global,
-        instance: &Instance,
-        cert: &Cert,
-        number: u32,
-    ) -> Result<bool, NoMemory>
-        requires lawful { IsLawfulInstance instance.now }
-        requires checkable { AreCheckable instance.now cert.now }
-        requires ready { IsReady instance.now cert.now.tables self.old }
-        requires number { number < length cert.now.tables }
-        ensures ready { IfOk result (λ sound. IsReady instance.now cert.now.tables self.new) }
-        ensures sound { IfOk result (λ sound. (place : Node) → AreFixesOf instance.now place self.old.fixes.items
-            → IsTrue sound ↔ IsSoundNode instance.now cert.now.tables cert.now.bound place (LeafNode (Ray number))) }
-    {
-        let tables = cert.tables.as_slice();
-        let value = self.value_at(alloc, instance, tables, number)?;
-        Ok(excludes(&tables[number as usize], &value))
+        Ok(holds(&tables[number as usize], is_ray, &cert.bound, &value))
     }
 
     // The value of the node at the table of that number, which is loaded if another one was.
@@ -185,6 +168,17 @@ fn entries_of(
         }
     }
     load(alloc, walk, instance, &tables[number as usize])
+}
+
+// Whether the table is a ray that excludes all, or else bounds by what is claimed, where the node has that value.
+fn holds(table: &Table, is_ray: bool, bound: &Option<i128>, value: &Option<i128>) -> bool
+    ensures { IsTrue result ↔ IsHeld is_ray table.now.k value.now bound.now }
+{
+    if is_ray {
+        excludes(table, value)
+    } else {
+        bounds(table, bound, value)
+    }
 }
 
 // Whether the table bounds by what is claimed where the node has that value.

@@ -45,7 +45,7 @@ pub(crate) fn most_divided(
 }
 
 // The shares of all units, and the places where those of one begin and end.
-#[derive(Clone, Copy, Debug)]
+#[derive(Clone, Copy)]
 struct Row<'a> {
     shares: &'a [i64],
     first: usize,

@@ -7,14 +7,14 @@ use std::collections::BinaryHeap;
 use uc_model::NoMemory;
 
 // An open node: the less its bound, in micro-dollars, the greater its rank.
-#[derive(Clone, Copy, Debug, PartialEq, Eq, PartialOrd, Ord)]
+#[derive(Clone, Copy, PartialEq, Eq, PartialOrd, Ord)]
 struct Candidate {
     rank: i128,
     node: u32,
 }
 
 /// The open nodes: the one that was just claimed, if it is to be claimed again, and then those of least bound first.
-#[derive(Debug, Drop)]
+#[derive(Drop)]
 pub struct Frontier {
     again: Option<Candidate>,
     open: BinaryHeap<Candidate>,

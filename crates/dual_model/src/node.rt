@@ -7,7 +7,7 @@ use uc_model::limits::MAX_PERIODS;
 use uc_model::{List, Pattern, Thermal};
 
 /// The decision that thermal unit `g` is on, or off, in period `t`, both counted from 0.
-#[derive(Clone, Copy, Debug)]
+#[derive(Clone, Copy)]
 pub struct Fixing {
     pub g: u32,
     pub t: u32,
@@ -15,14 +15,14 @@ pub struct Fixing {
 }
 
 /// A node: the decisions on its path, from the root on.
-#[derive(Debug, Drop)]
+#[derive(Drop)]
 pub struct Node {
     pub fixings: List<Fixing>,
 }
 
 /// What a node decides of one thermal unit: the periods in which it is decided, and those of them in which
 /// the unit is on.
-#[derive(Clone, Copy, Debug)]
+#[derive(Clone, Copy)]
 pub struct Fix {
     pub known: Pattern,
     pub on: Pattern,

@@ -1,4 +1,3 @@
 pub mod FixBits
-pub mod Constants
 pub mod Parts
 pub mod ValuedUnits

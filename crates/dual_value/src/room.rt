@@ -13,7 +13,7 @@ use uc_model::{Instance, NoMemory};
 
 /// The curves of an instance's thermal units, and memory for the prices of one unit at a time. Contracts see the corners
 /// of each curve, and the number of periods.
-#[derive(Debug, Drop)]
+#[derive(Drop)]
 pub struct Room {
     pub(crate) curves: Vec<Curve>,
     /// In each period the price of output, of reserve and of demand.

@@ -1,10 +1,10 @@
 //! On-intervals: the periods from a start to the last one before a stop.
 
 ghost use Rattle.std.specs.Prelude.{◌≡◌, ◌<◌, ◌≤◌, ℕ, pos, Some, false, IfOk, IfSome, MatchOption, length, replicate, unsigned_abs};
-ghost use Rattle.dual_model.specs.UnitTerms.{place as place_of};
 ghost use Rattle.interval_graph.specs.Intervals.{interval_cost, interval_term, term_in, AreTermRows, HasNoTerm, IsThere, MAX_INTERVAL};
 
 use dual_model::limits::MAX_TERM;
+use dual_model::moves::place;
 use std::alloc::Global;
 use std::marker::Model;
 use uc_model::limits::MAX_PERIODS;
@@ -13,7 +13,7 @@ use uc_model::{NoMemory, Terms};
 /// A unit's terms by their place in an on-interval, over a number of periods that does not change. Contracts see
 /// the rows of terms: for each period, from 0, the term of a cell that neither starts the interval nor ends it, of
 /// one that starts it, of one that ends it, and of one that does both.
-#[derive(Debug, Drop)]
+#[derive(Drop)]
 pub struct Intervals {
     rows: Vec<[Option<i128>; 4]>,
 }
@@ -101,18 +101,5 @@ impl Intervals {
             }
         }
         Some(total)
-    }
-}
-
-// The place of a cell's term in its period's row.
-fn place(start: bool, stop: bool) -> usize
-    ensures value { result ≡ place_of start stop }
-    ensures within { result < 4 }
-{
-    match (start, stop) {
-        (false, false) => 0,
-        (true, false) => 1,
-        (false, true) => 2,
-        (true, true) => 3,
     }
 }

@@ -1,5 +1,4 @@
 pub mod DecidedPaths
-pub mod ConstantSizes
 pub mod Reckoned
 pub mod NodeTotals
 pub mod PathsOfNodes

@@ -1,7 +1,8 @@
 -- What is kept of the units of an instance at a price table. Source: the single-unit problems of the Lagrangian
 -- relaxation of the reference model by Knueven, Ostrowski and Watson; that each unit's value is kept, with the decisions
 -- that it was reckoned for, is this project's own.
-use Rattle.std.specs.Prelude.{◌≡◌, ℕ, ◌+◌, ◌*◌, ◌^◌, ◌<◌, ◌≤◌, List, [], pos, ◌+ℤ◌, unsigned_abs, length, slice_index_or, None, MatchOption}
+pub use Rattle.ramp_duals.specs.Sizes.{MAX_CONSTANT}
+use Rattle.std.specs.Prelude.{◌≡◌, ℕ, ◌+◌, ◌*◌, ◌<◌, ◌≤◌, List, [], pos, ◌+ℤ◌, unsigned_abs, length, slice_index_or, None, MatchOption}
 use Rattle.uc_model.specs.Schedule.{thermal_unit, thermal_count}
 use Rattle.uc_model.specs.declared.instance.Instance.{Instance}
 use Rattle.uc_model.specs.declared.instance.Thermal.{Thermal}
@@ -16,10 +17,7 @@ use Rattle.system_value.specs.Sizes.{MAX_RENEWABLES, MAX_SYSTEM}
 use Rattle.leaf_values.specs.declared.entries.UnitEntry.{UnitEntry}
 use Rattle.leaf_values.specs.declared.entries.TableEntries.{TableEntries}
 
--- a unit's constant is at most this in size, and so is what doesn't hang on thermal units, and a node's value
-abbrev pub MAX_CONSTANT : ℕ
-MAX_CONSTANT = 10 ^ 30
-
+-- what doesn't hang on thermal units is at most this in size, and a node's value this
 abbrev pub MAX_REST : ℕ
 MAX_REST = MAX_SYSTEM + MAX_RENEWABLES
 

@@ -5,7 +5,7 @@ use uc_model::Terms;
 
 /// One thermal unit at a table: its terms, what the ramp rules add whatever its pattern, and its value for the decisions
 /// `fix`, `None` where no pattern is as they say.
-#[derive(Debug, Drop)]
+#[derive(Drop)]
 pub struct UnitEntry {
     pub(crate) terms: Terms,
     pub(crate) constant: i128,
@@ -14,7 +14,7 @@ pub struct UnitEntry {
 }
 
 /// The entries of an instance's thermal units at a table, and what demand, reserves and renewable units add there.
-#[derive(Debug, Drop)]
+#[derive(Drop)]
 pub struct TableEntries {
     pub(crate) units: Vec<UnitEntry>,
     pub(crate) rest: i128,

@@ -1,2 +1,3 @@
 pub mod RowOrder
 pub mod PriceSizes
+pub mod ConstantSizes

@@ -1,1 +1,2 @@
 pub mod RampRows
+pub mod Sizes

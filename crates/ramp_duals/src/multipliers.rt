@@ -7,7 +7,7 @@ use crate::search::place;
 use dual_model::RampRow;
 
 /// The multipliers of a cell, and how many rows stand before the next cell of its unit.
-#[derive(Clone, Copy, Debug)]
+#[derive(Clone, Copy)]
 pub(crate) struct Multipliers {
     pub(crate) up: i64,
     pub(crate) down: i64,

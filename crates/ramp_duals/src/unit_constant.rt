@@ -4,6 +4,8 @@ ghost use Rattle.std.specs.Prelude.{◌≡◌, ◌*◌, ◌^◌, ◌≤◌, ◌-
 ghost use Rattle.uc_model.specs.Commitment.{initial_p};
 ghost use Rattle.uc_model.specs.Limits.{IsLawfulThermal};
 ghost use Rattle.dual_model.specs.NodeValue.{unit_constant};
+ghost use Rattle.dual_model.specs.Prices.{IsWithinLimits};
+ghost use Rattle.ramp_duals.specs.Sizes.{MAX_CONSTANT};
 
 use crate::multipliers::{Multipliers, following, multipliers_of};
 use crate::wide::{gap, priced, wide};
@@ -16,7 +18,8 @@ use uc_model::{Thermal, difference, product, sum};
 pub fn constant(table: &Table, unit: &Thermal, g: u32) -> i128
     requires lawful { IsLawfulThermal unit.now }
     requires periods { length table.now.pi ≤ MAX_PERIODS }
-    ensures { result ≡ unit_constant (length table.now.pi) table.now unit.now g }
+    ensures value { result ≡ unit_constant (length table.now.pi) table.now unit.now g }
+    ensures size { IsWithinLimits table.now → unsigned_abs result ≤ MAX_CONSTANT }
 {
     let first = multipliers_of(table.ramps(), g, 0);
     let mut now = first;

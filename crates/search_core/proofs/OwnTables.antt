@@ -1,15 +1,15 @@
 -- What each node stores by its own entries, after an entry more and the move of its claim.
-use Rattle.std.proofs.Common.{◌≡◌, ◌≢◌, ℕ, ◌<◌, ◌⊎◌, true, false, cond, List, length, ap, sym, ◌∙◌, subst, arith, ⊎_elim, Some}
+use Rattle.std.proofs.Common.{◌≡◌, ◌≢◌, ℕ, ◌<◌, true, false, cond, List, length, ap, sym, ◌∙◌, subst, arith, ⊎_elim, Some}
 use Rattle.std.proofs.lemmas.Bool.{eq-eqb}
 use Rattle.dual_model.specs.Tree.{child}
 use Rattle.dual_model.specs.declared.node.Node.{Node}
 use Rattle.dual_model.specs.declared.table.Table.{Table}
-use Rattle.branch_tree.specs.NumberedTree.{NumberedTree, EndAt, SplitAt, Subtree, number_of, spot_of, times, subtree_below, replaced}
+use Rattle.branch_tree.specs.NumberedTree.{NumberedTree, EndAt, SplitAt, Subtree, spot_of, times, subtree_below, replaced}
 use Rattle.branch_tree.specs.declared.found.Entry.{Entry}
 use Rattle.branch_tree.specs.declared.tree.Leaf.{Leaf}
 use Rattle.branch_tree.specs.declared.tree.Spot.TheVariants as spot
 use Rattle.branch_tree.proofs.Weights.{one_if, replaced_nowhere}
-use Rattle.branch_tree.proofs.Subtrees.{AreApart, IsHere, apart_off, apart_on, subtree_cases, leaf_case, part_counted}
+use Rattle.branch_tree.proofs.Subtrees.{AreApart, IsOff, IsOn, apart_off, apart_on, leaf_at, leaf_sides, not_root, part_counted}
 use Rattle.search_core.specs.Machine.{Stored, entries_of}
 use Rattle.search_core.specs.OwnTables.{HasFreeCellAt, StartsAt, HoldsStored, OwnsBelow, stored_after}
 
@@ -58,9 +58,6 @@ own_same units periods tables more log later wanted here inherited (SplitAt numb
     )
 
 -- ---- a tree with that node, a leaf, whose place something else takes
-leaf_is : (l old : Leaf) → spot.Leaf l ≡ spot.Leaf old → l ≡ old
-leaf_is l old e = cc
-
 pub own_replaced : (units periods : ℕ) (tables more : List Table) (log later : List Entry) (wanted : ℕ) (grow : Leaf → NumberedTree)
     (part : Subtree) (old : Leaf) → AreAlike tables more log later wanted → spot_of part.tree ≡ spot.Leaf old
     → ((stored : Stored) → stored.table < length tables → OwnsBelow units periods tables log part.node stored (EndAt wanted old)
@@ -69,55 +66,44 @@ pub own_replaced : (units periods : ℕ) (tables more : List Table) (log later :
     → inherited.table < length tables → OwnsBelow units periods tables log here inherited tree
     → OwnsBelow units periods more later here inherited (replaced wanted grow tree)
 own_replaced units periods tables more log later wanted grow part old like is grown here inherited (EndAt number l) apart e there own =
-    let h = leaf_case here number l wanted part e in
-    let spots : spot.Leaf l ≡ spot.Leaf old = sym (ap (λ (p : Subtree). spot_of p.tree) h.whole) ∙ is in
-    let same = leaf_is l old spots in
-    let at : part.node ≡ here = ap (λ (p : Subtree). p.node) h.whole in
+    let at = leaf_at here number l old wanted part e is in
     let was : OwnsBelow units periods tables log part.node inherited (EndAt wanted old) =
-    subst (λ n. OwnsBelow units periods tables log n inherited (EndAt wanted old)) (sym at)
-    (subst (λ x. OwnsBelow units periods tables log here inherited (EndAt wanted x)) same
-    (subst (λ n. OwnsBelow units periods tables log here inherited (EndAt n l)) h.number own)) in
-    subst (λ b. OwnsBelow units periods more later here inherited (cond b (grow l) (EndAt number l))) (sym (eq-eqb number wanted h.number))
-    (subst (λ x. OwnsBelow units periods more later here inherited (grow x)) (sym same)
-    (subst (λ n. OwnsBelow units periods more later n inherited (grow old)) at (grown inherited there was)))
+    subst (λ n. OwnsBelow units periods tables log n inherited (EndAt wanted old)) (sym at.node)
+    (subst (λ x. OwnsBelow units periods tables log here inherited (EndAt wanted x)) at.same
+    (subst (λ n. OwnsBelow units periods tables log here inherited (EndAt n l)) at.number_is own)) in
+    subst (λ b. OwnsBelow units periods more later here inherited (cond b (grow l) (EndAt number l))) (sym at.test)
+    (subst (λ x. OwnsBelow units periods more later here inherited (grow x)) (sym at.same)
+    (subst (λ n. OwnsBelow units periods more later n inherited (grow old)) at.node (grown inherited there was)))
 own_replaced units periods tables more log later wanted grow part old like is grown here inherited (SplitAt number g t off on) apart e there own =
     let left = child here g t false in
     let right = child here g t true in
     let stored = stored_after tables inherited (entries_of log number) in
     let within = like.within number inherited there in
     ⊎_elim
-    (λ (h : IsHere here (SplitAt number g t off on) wanted part).
-    let differ : spot.Inner g t (number_of off) (number_of on) ≡ spot.Leaf old =
-    sym (ap (λ (p : Subtree). spot_of p.tree) h.whole) ∙ is in absurd (cc))
-    (λ (sides : (subtree_below left off wanted ≡ Some part) ⊎ (subtree_below right on wanted ≡ Some part)).
-    ⊎_elim
-    (λ (l : subtree_below left off wanted ≡ Some part).
-    let some = part_counted left off wanted part l in
-    let none : times wanted on ≡ 0 = omega (arith, apart wanted) in
-    let differ : number ≢ wanted = λ e. omega (arith, apart wanted, ap one_if (eq-eqb number wanted e)) in
+    (λ (l : IsOff here g t off on wanted part).
+    let some = part_counted left off wanted part l.0 in
+    let differ = not_root number g t off on wanted apart (omega arith) in
     let same = sym (stores_same tables more log later wanted inherited number like differ) in (
       start_same units periods tables more log later wanted here inherited number like differ there own.0,
       subst (λ s. OwnsBelow units periods more later left s (replaced wanted grow off)) same
           (own_replaced units periods tables more log later wanted grow part old like is grown left stored off
-          (apart_off number g t off on apart) l within own.1),
+          (apart_off number g t off on apart) l.0 within own.1),
       subst (λ tree. OwnsBelow units periods more later right (stored_after more inherited (entries_of later number)) tree)
-          (sym (replaced_nowhere wanted grow on none))
+          (sym (replaced_nowhere wanted grow on l.1))
           (subst (λ s. OwnsBelow units periods more later right s on) same
-          (own_same units periods tables more log later wanted right stored on like none within own.2)),
+          (own_same units periods tables more log later wanted right stored on like l.1 within own.2)),
     ))
-    (λ (r : subtree_below right on wanted ≡ Some part).
-    let some = part_counted right on wanted part r in
-    let none : times wanted off ≡ 0 = omega (arith, apart wanted) in
-    let differ : number ≢ wanted = λ e. omega (arith, apart wanted, ap one_if (eq-eqb number wanted e)) in
+    (λ (r : IsOn here g t off on wanted part).
+    let some = part_counted right on wanted part r.0 in
+    let differ = not_root number g t off on wanted apart (omega arith) in
     let same = sym (stores_same tables more log later wanted inherited number like differ) in (
       start_same units periods tables more log later wanted here inherited number like differ there own.0,
       subst (λ tree. OwnsBelow units periods more later left (stored_after more inherited (entries_of later number)) tree)
-          (sym (replaced_nowhere wanted grow off none))
+          (sym (replaced_nowhere wanted grow off r.1))
           (subst (λ s. OwnsBelow units periods more later left s off) same
-          (own_same units periods tables more log later wanted left stored off like none within own.1)),
+          (own_same units periods tables more log later wanted left stored off like r.1 within own.1)),
       subst (λ s. OwnsBelow units periods more later right s (replaced wanted grow on)) same
           (own_replaced units periods tables more log later wanted grow part old like is grown right stored on
-          (apart_on number g t off on apart) r within own.2),
+          (apart_on number g t off on apart) r.0 within own.2),
     ))
-    sides)
-    (subtree_cases here number g t off on wanted part e)
+    (leaf_sides here number g t off on wanted part old apart e is)

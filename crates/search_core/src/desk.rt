@@ -9,7 +9,7 @@ use uc_model::{List, NoMemory};
 
 /// The least cost that the worker has seen, in micro-dollars, and its tickets, which are nodes: those in its hand,
 /// and those in its queue, the first to leave first.
-#[derive(Debug, Drop)]
+#[derive(Drop)]
 pub(crate) struct Desk {
     pub seen: Option<i64>,
     pub hand: List<u32>,

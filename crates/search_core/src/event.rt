@@ -4,7 +4,7 @@ use branch_tree::Outcome;
 use dual_model::Table;
 
 /// How a claim ends. Units and periods count from 0, costs are micro-dollars.
-#[derive(Clone, Copy, Debug, PartialEq, Eq)]
+#[derive(Clone, Copy, Debug)]
 pub enum Move {
     /// The node is open again.
     Again,
@@ -19,7 +19,7 @@ pub enum Move {
 }
 
 /// One atomic step of one worker. Workers and nodes count from 0, claims (`unit`) from 1; costs are micro-dollars.
-#[derive(Debug, Drop)]
+#[derive(Drop)]
 pub enum Event {
     /// The worker claims the open node.
     Claim {
@@ -60,7 +60,7 @@ pub enum Event {
 }
 
 /// Why a step wasn't taken: the machine has no case for this event, or memory was refused.
-#[derive(Debug, Drop)]
+#[derive(Drop)]
 pub enum StepFault {
     NotLegal(Event),
     NoMemory,

@@ -4,7 +4,7 @@ ghost use Rattle.std.specs.Prelude.{◌≡◌, ◌<◌, ◌≤◌, ◌-◌, None
 ghost use Rattle.search_core.specs.Machine.{holder_in};
 
 /// The worker, and the node that it holds by a claim; each counts from 0.
-#[derive(Clone, Copy, Debug, PartialEq, Eq)]
+#[derive(Clone, Copy)]
 pub(crate) struct Holder {
     pub worker: u8,
     pub node: u32,

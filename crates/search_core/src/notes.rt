@@ -1,17 +1,18 @@
 //! What the state keeps of each node, so that no step walks over the log.
 
-ghost use Rattle.std.specs.Prelude.{◌≡◌, ◌<◌, ◌≤◌, ◌+◌, ◌∷◌, ◌++◌, ◌<ℤ◌, ◌↔◌, IsTrue, pos, length, replicate, [], true, false, OnOk, OnErr, take, slice_set, vec_len, vec_capacity};
+ghost use Rattle.std.specs.Prelude.{◌≡◌, ◌≢◌, ◌<◌, ◌≤◌, ◌+◌, ◌∷◌, ◌++◌, ◌<ℤ◌, ◌↔◌, All, IsTrue, Some, pos, slice_get, length, replicate, [], true, false, OnOk, OnErr, take, slice_set, vec_len, vec_capacity};
 ghost use Rattle.std.specs.Int.{int_max};
-ghost use Rattle.search_core.specs.Notes.{no_note, with_note};
+ghost use Rattle.search_core.specs.Notes.{no_note, with_note, AreScalesAtMost};
 
 use crate::lists;
+use crate::tables::is_none_of;
 use dual_model::Table;
 use std::alloc::Global;
 use uc_model::{List, NoMemory};
 
 /// Whether a worker holds the node, the numbers of the tables of its entries of the log, in their order, and the greatest scale of these
 /// tables, at least 0.
-#[derive(Debug, Drop)]
+#[derive(Drop)]
 pub(crate) struct Note {
     pub held: bool,
     pub tables: List<u32>,
@@ -63,8 +64,16 @@ pub(crate) fn add_scale(notes: &mut Vec<Note>, node: u32, scale: &i64)
     note.greatest = note.greatest.max(*scale);
 }
 
-/// Whether the table's scale is above those of the tables of the node's entries.
-pub(crate) fn is_above(note: &Note, table: &Table) -> bool
+/// Whether none of the tables that the note names is this one.
+pub(crate) fn is_new(note: &Note, tables: &[Table], table: &Table) -> bool
+    requires { AreScalesAtMost tables.now note.now }
+    ensures { IsTrue result ↔ All (λ number. slice_get tables.now number ≢ Some table.now) note.now.tables }
+{
+    is_above(note, table) || is_none_of(tables, note.tables.as_slice(), table)
+}
+
+// Whether the table's scale is above those of the tables of the node's entries.
+fn is_above(note: &Note, table: &Table) -> bool
     ensures { IsTrue result ↔ (note.now.greatest <ℤ table.now.k) }
 {
     table.k() > note.greatest

@@ -4,7 +4,7 @@ use crate::desk::Desk;
 use crate::event::{Event, Move, StepFault};
 use crate::holder::{Holder, end_claim, holder_of};
 use crate::limits::NODE_ENTRIES;
-use crate::notes::{Note, add_blanks, is_above, set_held};
+use crate::notes::{Note, add_blanks, is_new, set_held};
 use crate::stored::{Stored, kept_after, stored_at};
 use crate::{cells, costs, desks, legal, moves, record, start, tables};
 use branch_tree::{Entry, Leaf, Outcome, Tree, is_within_gap};
@@ -14,7 +14,7 @@ use std::marker::Model;
 use uc_model::{List, NoMemory};
 
 /// The state of a search by several workers. Contracts see it as the record of `specs/Machine`.
-#[derive(Debug, Drop)]
+#[derive(Drop)]
 pub struct State {
     units: u32,
     periods: u32,
@@ -298,9 +298,7 @@ impl State {
         requires { node < node_count self.now.tree.nodes }
         ensures { IsTrue result ↔ IsFresh self.now (entries_of self.now.log node) table.now }
     {
-        let note = &self.notes[node as usize];
-        is_above(note, table)
-            || tables::is_none_of(self.tables.as_slice(), note.tables.as_slice(), table)
+        is_new(&self.notes[node as usize], self.tables.as_slice(), table)
     }
 
     // Whether the node has an entry, is the root or stores the table.

@@ -9,7 +9,7 @@ use branch_tree::{Leaf, Outcome, Spot, Tree};
 use uc_model::floor_div;
 
 /// A table, by its number, and the bound that it gives, in micro-dollars.
-#[derive(Clone, Copy, Debug)]
+#[derive(Clone, Copy)]
 pub struct Stored {
     pub table: u32,
     pub value: i128,

@@ -13,7 +13,7 @@ ghost use Rattle.dual_model.specs.TableValue.{AreTermsOf, IsUnitValueOf};
 ghost use Rattle.dual_model.specs.CostToGo.{total_of, lesser_of, cost_to_go, IsWithin, MAX_COST_TO_GO};
 ghost use Rattle.state_walk.specs.inside.WalkTable.{entry, IsTable};
 
-use crate::moves::{hour_before, start, stay_off, stay_on, stop};
+use crate::moves::{hour_before, move_cost};
 use dual_model::Fix;
 use std::alloc::Global;
 use std::marker::Model;
@@ -21,7 +21,7 @@ use uc_model::{NoMemory, Terms, Thermal};
 
 /// The least cost from a state before a period to the end of the horizon, where the unit is on, and where it
 /// is off; `None` where no pattern goes on from there.
-#[derive(Clone, Copy, Debug)]
+#[derive(Clone, Copy)]
 pub(crate) struct CostToGo {
     on: Option<i128>,
     off: Option<i128>,
@@ -29,7 +29,7 @@ pub(crate) struct CostToGo {
 
 /// The memory of walks over a number of periods, which contracts see as that number: an entry for each time
 /// since which a state may last.
-#[derive(Debug, Drop)]
+#[derive(Drop)]
 pub struct Walk {
     values: Vec<CostToGo>,
 }
@@ -175,12 +175,21 @@ fn entry_before(
 {
     CostToGo {
         on: lesser(
-            total(stay_on(terms, unit, fix, t, since), later.on),
-            total(stop(terms, unit, fix, t, since), switched.off),
+            total(move_cost(terms, unit, fix, t, true, since, true), later.on),
+            total(
+                move_cost(terms, unit, fix, t, true, since, false),
+                switched.off,
+            ),
         ),
         off: lesser(
-            total(start(terms, unit, fix, t, since), switched.on),
-            total(stay_off(terms, unit, fix, t, since), later.off),
+            total(
+                move_cost(terms, unit, fix, t, false, since, true),
+                switched.on,
+            ),
+            total(
+                move_cost(terms, unit, fix, t, false, since, false),
+                later.off,
+            ),
         ),
     }
 }

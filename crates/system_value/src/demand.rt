@@ -1,14 +1,15 @@
 //! What demand and reserves add.
 
 ghost use Rattle.std.specs.Prelude.{◌≡◌, ◌*◌, ◌<◌, ◌≤◌, ◌*ℤ◌, ◌+ℤ◌, unsigned_abs};
-ghost use Rattle.uc_model.specs.Limits.{IsLawfulInstance, IsPower};
+ghost use Rattle.uc_model.specs.Limits.{IsLawfulInstance};
 ghost use Rattle.uc_model.specs.Schedule.{demand_at, reserve_at};
 ghost use Rattle.dual_model.specs.NodeValue.{system_value as value_of};
-ghost use Rattle.dual_model.specs.Prices.{HasSizeOf, IsPrice, IsWithinLimits, mu_at, pi_at};
+ghost use Rattle.dual_model.specs.Prices.{HasSizeOf, IsWithinLimits, mu_at, pi_at};
 ghost use Rattle.system_value.specs.Sizes.{MAX_CELL, MAX_SYSTEM};
 
+use crate::priced::priced;
 use dual_model::Table;
-use uc_model::{Instance, scaled, sum};
+use uc_model::{Instance, sum};
 
 /// Demand and reserves at their prices, over all periods, at the scale of the table.
 pub fn system_value(instance: &Instance, table: &Table) -> i128
@@ -38,14 +39,4 @@ fn period_value(instance: &Instance, table: &Table, t: usize) -> i128
         priced(&table.pi()[t], &instance.demand.as_slice()[t]),
         priced(&table.mu()[t], &instance.reserves.as_slice()[t]),
     )
-}
-
-// A power at a price.
-fn priced(price: &i64, power: &i64) -> i128
-    requires price { IsPrice price.now }
-    requires power { IsPower power.now }
-    ensures value { result ≡ price.now *ℤ power.now }
-    ensures size { unsigned_abs result ≤ MAX_CELL }
-{
-    scaled(*price, *power)
 }

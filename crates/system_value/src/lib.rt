@@ -2,6 +2,7 @@
 #![tactic(auto)]
 
 mod demand;
+mod priced;
 mod renewable;
 
 pub use demand::system_value;

@@ -8,8 +8,9 @@ ghost use Rattle.dual_model.specs.NodeValue.{renewable_part as part_of, renewabl
 ghost use Rattle.dual_model.specs.Prices.{HasSizeOf, IsPrice, IsWithinLimits};
 ghost use Rattle.system_value.specs.Sizes.{MAX_CELL, MAX_RENEWABLE, MAX_RENEWABLES};
 
+use crate::priced::priced;
 use dual_model::Table;
-use uc_model::{Instance, scaled, sum};
+use uc_model::{Instance, sum};
 
 /// What the renewable units add over all periods, at the scale of the table: each is at its greatest output where energy
 /// has a price above 0, else at its least.
@@ -68,6 +69,28 @@ fn cost(price: &i64, least: &i64, most: &i64) -> i128
         else neg_ℤ (price.now *ℤ int_max least.now (pos 0))) }
     ensures size { unsigned_abs result ≤ MAX_CELL }
 {
-    let output = if *price > 0 { *most } else { (*least).max(0) };
-    -scaled(*price, output)
+    if *price > 0 {
+        earned(price, most)
+    } else {
+        earned(price, &given(least))
+    }
+}
+
+// Minus the price times an output.
+fn earned(price: &i64, output: &i64) -> i128
+    requires price { IsPrice price.now }
+    requires output { IsPower output.now }
+    ensures value { result ≡ neg_ℤ (price.now *ℤ output.now) }
+    ensures size { unsigned_abs result ≤ MAX_CELL }
+{
+    -priced(price, output)
+}
+
+// The least output, which isn't below 0.
+fn given(least: &i64) -> i64
+    requires { IsPower least.now }
+    ensures value { result ≡ int_max least.now (pos 0) }
+    ensures size { IsPower result }
+{
+    (*least).max(0)
 }

@@ -1,7 +1,7 @@
 //! The fields of an instance, as a refusal names them.
 
 /// A field of an instance in the pglib-uc format.
-#[derive(Clone, Copy, Debug, PartialEq, Eq)]
+#[derive(Clone, Copy, Debug)]
 pub enum Field {
     /// The whole value, or a unit's record.
     NoField,

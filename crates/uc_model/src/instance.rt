@@ -10,7 +10,7 @@ pub struct Point {
 }
 
 /// A start category: from `lag` hours after the stop on, a start costs `cost` micro-dollars.
-#[derive(Clone, Copy, Debug)]
+#[derive(Clone, Copy)]
 pub struct StartRow {
     pub lag: u32,
     pub cost: i64,
@@ -19,7 +19,7 @@ pub struct StartRow {
 /// A thermal unit. Powers are watts, times hours; `p0` is total output at the initial time, the
 /// minimum included. The rows of `startup` are its start categories, cheapest lag first as in the
 /// file, and those of `points` its production cost, by rising output.
-#[derive(Debug, Drop)]
+#[derive(Drop)]
 pub struct Thermal {
     /// The unit's name in the file.
     pub name: Name,
@@ -54,7 +54,7 @@ pub struct Thermal {
 }
 
 /// A renewable unit: its least and greatest output in each period, in watts.
-#[derive(Debug, Drop)]
+#[derive(Drop)]
 pub struct Renewable {
     pub name: Name,
     pub minimum: List<i64>,
@@ -62,7 +62,7 @@ pub struct Renewable {
 }
 
 /// A system over `periods` hours. `demand` and `reserves` are watts in each period.
-#[derive(Debug, Drop)]
+#[derive(Drop)]
 pub struct Instance {
     pub periods: u32,
     pub demand: List<i64>,

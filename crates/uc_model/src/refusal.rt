@@ -2,7 +2,7 @@
 
 /// A code of the certificate check. Tables and nodes count from 1, units and periods from 0; money is
 /// micro-dollars.
-#[derive(Clone, Copy, Debug, PartialEq, Eq)]
+#[derive(Clone, Copy, Debug)]
 pub enum Refusal {
     /// A number of the table is past its limit or has the wrong sign.
     C1 {

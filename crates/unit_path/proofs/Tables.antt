@@ -80,27 +80,26 @@ until-step may periods t next until h on off later =
 moves-fit : (n : ℕ) (cost : Option ℤ) → n ≤ 168 → IsWithin (MAX_MOVE * n + MAX_MOVE) cost → IsWithin MAX_COST_TO_GO cost
 moves-fit n cost h size = more_room (MAX_MOVE * n + MAX_MOVE) MAX_COST_TO_GO cost (omega arith) size
 
+-- of a way that the table has for each period and for the end
+table-moves : (terms : Terms) (way : ℕ → Option Choice) → IsWithinMoves 0 (way (period_count terms)) → (t : ℕ) → t ≤ period_count terms
+    → (t < period_count terms → IsWithinMoves (period_count terms - t) (way t)) → IsWithinMoves (period_count terms - t) (way t)
+table-moves terms way end t high hour =
+    ⊎_elim
+    (λ (within : t < period_count terms). hour within)
+    (λ (past : period_count terms ≤ t).
+    let e : period_count terms ≡ t = omega arith in
+    subst (λ k. IsWithinMoves (period_count terms - k) (way k)) e (more_room (MAX_MOVE * 0 + MAX_MOVE) _ _ (omega arith) end))
+    (cases_lt t (period_count terms))
+
 pub onward-moves : (terms : Terms) (unit : Thermal) (fix : Fix) (from : ℕ) (hours : List Hour) → IsTableFrom terms unit fix from hours
     → (t : ℕ) → from ≤ t → t ≤ period_count terms → IsWithinMoves (period_count terms - t) (hour_in hours t).onward
 onward-moves terms unit fix from hours table t low high =
-    ⊎_elim
-    (λ (within : t < period_count terms). (table.hour t low within).onward_size)
-    (λ (past : period_count terms ≤ t).
-    let e : period_count terms ≡ t = omega arith in
-    subst (λ k. IsWithinMoves (period_count terms - k) (hour_in hours k).onward) e
-    (more_room (MAX_MOVE * 0 + MAX_MOVE) _ _ (omega arith) table.end.onward_size))
-    (cases_lt t (period_count terms))
+    table-moves terms (λ k. (hour_in hours k).onward) table.end.onward_size t high (λ within. (table.hour t low within).onward_size)
 
 pub cold_start-moves : (terms : Terms) (unit : Thermal) (fix : Fix) (from : ℕ) (hours : List Hour) → IsTableFrom terms unit fix from hours
     → (t : ℕ) → from ≤ t → t ≤ period_count terms → IsWithinMoves (period_count terms - t) (hour_in hours t).cold_start
 cold_start-moves terms unit fix from hours table t low high =
-    ⊎_elim
-    (λ (within : t < period_count terms). (table.hour t low within).cold_start_size)
-    (λ (past : period_count terms ≤ t).
-    let e : period_count terms ≡ t = omega arith in
-    subst (λ k. IsWithinMoves (period_count terms - k) (hour_in hours k).cold_start) e
-    (more_room (MAX_MOVE * 0 + MAX_MOVE) _ _ (omega arith) table.end.cold_start_size))
-    (cases_lt t (period_count terms))
+    table-moves terms (λ k. (hour_in hours k).cold_start) table.end.cold_start_size t high (λ within. (table.hour t low within).cold_start_size)
 
 -- the way that goes on where it may
 pub later-moves : (may : Bool) (n : ℕ) (next later : Option Choice) → (may ≡ true → later ≡ next) → (may ≡ false → later ≡ None)

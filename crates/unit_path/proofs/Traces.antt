@@ -10,7 +10,7 @@ use Rattle.uc_model.specs.declared.terms.Terms.{Terms}
 use Rattle.dual_model.specs.declared.node.Fix.{Fix}
 use Rattle.dual_model.specs.UnitTerms.{period_count}
 use Rattle.dual_model.specs.Moves.{holds_initially, may_be_off, may_be_on, may_start, may_stop, move}
-use Rattle.dual_model.specs.CostToGo.{total_of}
+use Rattle.dual_model.specs.CostToGo.{end_cost, total_of}
 use Rattle.dual_model.proofs.Optimum.{total_of-parts}
 use Rattle.unit_path.specs.inside.Choices.{choice_cost, rests, start_total, stays, stop_cost, switch_after, IsStart, IsStop, IsSwitch}
 use Rattle.unit_path.specs.inside.Hours.{IsHour, IsStartIn, IsStopIn}
@@ -18,7 +18,7 @@ use Rattle.unit_path.specs.inside.Ways.{way_of, IsWay}
 use Rattle.unit_path.specs.declared.hour.Choice.{Choice}
 use Rattle.unit_path.specs.declared.hour.Hour.{Hour}
 use Rattle.unit_path.proofs.Going.{start_total-at, start_total-end, stop_cost-at, stop_cost-end, to_go}
-use Rattle.unit_path.proofs.WayLaws.{rest-ended, rest-switched, run-ended, run-switched, way_from}
+use Rattle.unit_path.proofs.WayLaws.{ended, lasting, switched, way_from}
 
 -- the pattern has the way's part before period `from`, from which on the unit is `on`, or off, to its next switch in period `to`
 pub record IsTraced (terms : Terms) (unit : Thermal) (fix : Fix) (total : ℤ) (pattern : Pattern) (on : Bool) (from to : ℕ) : Type 0 where
@@ -114,48 +114,58 @@ start-behind terms unit fix since to cost start h is entry =
     (cond-false (may_be_on fix to && may_start unit since to) _ _ (ap (λ b. b && may_start unit since to) barred)) rest.first_is))
     (cases_Bool (may_be_on fix to))
 
+-- what a switch in period t costs with all that follows
+abbrev switch_total : Terms → Thermal → Fix → Bool → ℕ → ℕ → Option ℤ
+switch_total terms unit fix true since t = stop_cost terms unit fix since t
+switch_total terms unit fix false since t = start_total terms unit fix since t
+
+switch-end : (terms : Terms) (unit : Thermal) (fix : Fix) (on : Bool) (since t : ℕ) → t ≡ period_count terms
+    → switch_total terms unit fix on since t ≡ end_cost terms unit t on since
+switch-end terms unit fix true since t h = stop_cost-end terms unit fix since t h
+switch-end terms unit fix false since t h = start_total-end terms unit fix since t h
+
+-- what a chosen switch of either state has
+record HasSwitch (terms : Terms) (unit : Thermal) (fix : Fix) (on : Bool) (since : ℕ) (choice : Choice) : Type 0 where
+  later : since ≤ choice.at
+  within : choice.at ≤ period_count terms
+  attained :
+      total_of (lasting terms unit fix on since since (choice.at - since)) (switch_total terms unit fix on since choice.at) ≡ Some choice.cost
+
+has-switch : (terms : Terms) (unit : Thermal) (fix : Fix) (on : Bool) (since : ℕ) (choice : Choice) → IsSwitch terms unit fix on since choice
+    → HasSwitch terms unit fix on since choice
+has-switch terms unit fix true since choice switch = record { later = switch.later; within = switch.within; attained = switch.attained }
+has-switch terms unit fix false since choice switch = record { later = switch.later; within = switch.within; attained = switch.attained }
+
+-- the switch behind a chosen one
+switch-behind : (terms : Terms) (unit : Thermal) (fix : Fix) (on : Bool) (since to : ℕ) (cost : ℤ) (hour : Hour) → to < period_count terms
+    → IsSwitch terms unit fix on since (record { cost = cost; at = to }) → IsHour terms unit fix to hour
+    → Behind (IsSwitch terms unit fix (not on) (suc to)) (if not on then hour.start else hour.stop)
+    (λ rest. total_of (lasting terms unit fix on since since (to - since)) (total_of (move terms unit fix to on since (not on)) rest)) cost
+switch-behind terms unit fix true since to cost hour h switch is = stop-behind terms unit fix since to cost hour.stop h switch is.stop
+switch-behind terms unit fix false since to cost hour h switch is = start-behind terms unit fix since to cost hour.start h switch is.start
+
 -- ---- one switch more
 pub trace-more : (terms : Terms) (unit : Thermal) (fix : Fix) (total : ℤ) (old new : Pattern) (on : Bool) (from to next end : ℕ) (hour : Hour)
     → to < period_count terms → IsHour terms unit fix to hour → IsTraced terms unit fix total old on from to → HasRun old new on from to
     → next ≡ switch_after (if not on then hour.start else hour.stop) end
     → IsTraced terms unit fix total new (not on) to next
-trace-more terms unit fix total old new true from to next end hour h is traced run e =
-    let switch = traced.switch in
+trace-more terms unit fix total old new on from to next end hour h is traced run e =
+    let switch = has-switch terms unit fix on traced.since (record { cost = traced.cost; at = to }) traced.switch in
     let low = switch.later in
     let first = traced.after in
-    let behind = stop-behind terms unit fix traced.since to traced.cost hour.stop h switch is.stop in
+    let behind = switch-behind terms unit fix on traced.since to traced.cost hour h traced.switch is in
     let at : next ≡ behind.chosen.at = e ∙ ap (λ o. switch_after o end) behind.is in
     record {
       since = suc to;
       cost = behind.chosen.cost;
       after = omega arith;
       soon = omega arith;
-      switch = subst (λ k. IsStart terms unit fix (suc to) (suc to) (record { cost = behind.chosen.cost; at = k })) (sym at) behind.holds;
+      switch = subst (λ k. IsSwitch terms unit fix (not on) (suc to) (record { cost = behind.chosen.cost; at = k })) (sym at) behind.holds;
       off = λ k high. run.after k high ∙ traced.off k (omega arith);
       way = λ other same here rest.
           traced.way other (λ k short. same k (omega arith) ∙ run.before k short)
           (λ k a b. same k (omega arith) ∙ run.run k a (omega arith) (traced.off k a))
-          (run-switched terms unit fix other traced.since to low h
-          (λ k a b. same k b ∙ run.run k (omega arith) b (traced.off k (omega arith))) (here to (omega arith) (omega arith))
-          ∙ behind.whole _ rest);
-    }
-trace-more terms unit fix total old new false from to next end hour h is traced run e =
-    let switch = traced.switch in
-    let low = switch.later in
-    let first = traced.after in
-    let behind = start-behind terms unit fix traced.since to traced.cost hour.start h switch is.start in
-    let at : next ≡ behind.chosen.at = e ∙ ap (λ o. switch_after o end) behind.is in
-    record {
-      since = suc to;
-      cost = behind.chosen.cost;
-      after = omega arith;
-      soon = omega arith;
-      switch = subst (λ k. IsStop terms unit fix (suc to) (suc to) (record { cost = behind.chosen.cost; at = k })) (sym at) behind.holds;
-      off = λ k high. run.after k high ∙ traced.off k (omega arith);
-      way = λ other same here rest.
-          traced.way other (λ k short. same k (omega arith) ∙ run.before k short)
-          (λ k a b. same k (omega arith) ∙ run.run k a (omega arith) (traced.off k a))
-          (rest-switched terms unit fix other traced.since to low h
+          (switched terms unit fix other on traced.since to low h
           (λ k a b. same k b ∙ run.run k (omega arith) b (traced.off k (omega arith))) (here to (omega arith) (omega arith))
           ∙ behind.whole _ rest);
     }
@@ -165,46 +175,29 @@ pub more-later : (terms : Terms) (unit : Thermal) (fix : Fix) (total : ℤ) (pat
     → to < period_count terms → IsHour terms unit fix to hour → IsTraced terms unit fix total pattern on from to
     → next ≡ switch_after (if not on then hour.start else hour.stop) end
     → to < next
-more-later terms unit fix total pattern true from to next end hour h is traced e =
-    let behind = stop-behind terms unit fix traced.since to traced.cost hour.stop h traced.switch is.stop in
+more-later terms unit fix total pattern on from to next end hour h is traced e =
+    let behind = switch-behind terms unit fix on traced.since to traced.cost hour h traced.switch is in
     let at : next ≡ behind.chosen.at = e ∙ ap (λ o. switch_after o end) behind.is in
-    let later : suc to ≤ behind.chosen.at = behind.holds.later in
-    omega arith
-more-later terms unit fix total pattern false from to next end hour h is traced e =
-    let behind = start-behind terms unit fix traced.since to traced.cost hour.start h traced.switch is.start in
-    let at : next ≡ behind.chosen.at = e ∙ ap (λ o. switch_after o end) behind.is in
-    let later : suc to ≤ behind.chosen.at = behind.holds.later in
+    let later : suc to ≤ behind.chosen.at = (has-switch terms unit fix (not on) (suc to) behind.chosen behind.holds).later in
     omega arith
 
 pub switch-within : (terms : Terms) (unit : Thermal) (fix : Fix) (total : ℤ) (pattern : Pattern) (on : Bool) (from to : ℕ)
     → IsTraced terms unit fix total pattern on from to → to ≤ period_count terms
-switch-within terms unit fix total pattern true from to traced = let switch = traced.switch in switch.within
-switch-within terms unit fix total pattern false from to traced = let switch = traced.switch in switch.within
+switch-within terms unit fix total pattern on from to traced =
+    (has-switch terms unit fix on traced.since (record { cost = traced.cost; at = to }) traced.switch).within
 
 -- ---- the end
 pub trace-end : (terms : Terms) (unit : Thermal) (fix : Fix) (total : ℤ) (old new : Pattern) (on : Bool) (from to end : ℕ)
     → to ≡ period_count terms → end ≡ to → IsTraced terms unit fix total old on from to → HasRun old new on from end → IsWay terms unit fix total new
-trace-end terms unit fix total old new true from to end h e traced run =
-    let switch = traced.switch in
+trace-end terms unit fix total old new on from to end h e traced run =
+    let switch = has-switch terms unit fix on traced.since (record { cost = traced.cost; at = to }) traced.switch in
     let low = switch.later in
     let first = traced.after in
     record {
       attained =
           traced.way (commitment_of new) (λ k short. run.before k short) (λ k a b. run.run k a (omega arith) (traced.off k a))
-          (run-ended terms unit fix (commitment_of new) traced.since to low h (λ k a b. run.run k (omega arith) (omega arith) (traced.off k (omega arith)))
-          ∙ ap (total_of (stays terms unit fix traced.since traced.since (to - traced.since))) (sym (stop_cost-end terms unit fix traced.since to h))
-          ∙ switch.attained);
-      after = λ k high. run.after k (omega arith) ∙ traced.off k (omega arith);
-    }
-trace-end terms unit fix total old new false from to end h e traced run =
-    let switch = traced.switch in
-    let low = switch.later in
-    let first = traced.after in
-    record {
-      attained =
-          traced.way (commitment_of new) (λ k short. run.before k short) (λ k a b. run.run k a (omega arith) (traced.off k a))
-          (rest-ended terms unit fix (commitment_of new) traced.since to low h (λ k a b. run.run k (omega arith) (omega arith) (traced.off k (omega arith)))
-          ∙ ap (total_of (rests unit fix traced.since (to - traced.since))) (sym (start_total-end terms unit fix traced.since to h))
+          (ended terms unit fix (commitment_of new) on traced.since to low h (λ k a b. run.run k (omega arith) (omega arith) (traced.off k (omega arith)))
+          ∙ ap (total_of (lasting terms unit fix on traced.since traced.since (to - traced.since))) (sym (switch-end terms unit fix on traced.since to h))
           ∙ switch.attained);
       after = λ k high. run.after k (omega arith) ∙ traced.off k (omega arith);
     }

@@ -1,5 +1,5 @@
 -- The way of a commitment along a run of on hours or a rest, and over the switch behind it.
-use Rattle.std.proofs.Common.{◌≡◌, ℕ, zero, suc, ◌+◌, ◌-◌, ◌<◌, ◌≤◌, Bool, true, false, sym, ap, ◌∙◌, arith, ℤ}
+use Rattle.std.proofs.Common.{◌≡◌, ℕ, zero, suc, ◌+◌, ◌-◌, ◌<◌, ◌≤◌, Bool, true, false, not, refl, sym, ap, ◌∙◌, arith, ℤ}
 use Rattle.std.specs.Prelude.{Option}
 use Rattle.uc_model.specs.Commitment.{Commitment}
 use Rattle.uc_model.specs.declared.instance.Thermal.{Thermal}
@@ -29,76 +29,66 @@ way-end terms unit fix on t was since h =
     let left : period_count terms - t ≡ 0 = omega arith in
     ap (λ n. way_of terms unit fix on n t was since) left
 
--- ---- runs
-run-way : (terms : Terms) (unit : Thermal) (fix : Fix) (on : Commitment) (since t n : ℕ) → t + n ≤ period_count terms
-    → ((k : ℕ) → t ≤ k → k < t + n → on k ≡ true)
-    → way_from terms unit fix on t true since ≡ total_of (stays terms unit fix since t n) (way_from terms unit fix on (t + n) true since)
-run-way terms unit fix on since t zero h bits =
-    ap (λ k. way_from terms unit fix on k true since) (let e : t ≡ t + 0 = omega arith in e) ∙ sym (total-zero (way_from terms unit fix on (t + 0) true since))
-run-way terms unit fix on since t (suc n) h bits =
+-- a state that lasts, and one that is left
+stay-step : (terms : Terms) (unit : Thermal) (fix : Fix) (bits : Commitment) (t : ℕ) (on : Bool) (since : ℕ) → t < period_count terms → bits t ≡ on
+    → way_from terms unit fix bits t on since ≡ total_of (move terms unit fix t on since on) (way_from terms unit fix bits (suc t) on since)
+stay-step terms unit fix bits t true since h e = way-step terms unit fix bits t true since true h e
+stay-step terms unit fix bits t false since h e = way-step terms unit fix bits t false since false h e
+
+switch-step : (terms : Terms) (unit : Thermal) (fix : Fix) (bits : Commitment) (t : ℕ) (on : Bool) (since : ℕ) → t < period_count terms → bits t ≡ not on
+    → way_from terms unit fix bits t on since ≡ total_of (move terms unit fix t on since (not on)) (way_from terms unit fix bits (suc t) (not on) (suc t))
+switch-step terms unit fix bits t true since h e = way-step terms unit fix bits t true since false h e
+switch-step terms unit fix bits t false since h e = way-step terms unit fix bits t false since true h e
+
+-- ---- runs and rests
+-- what it costs to go on so, on or off, in the n periods from t on
+abbrev pub lasting : Terms → Thermal → Fix → Bool → ℕ → ℕ → ℕ → Option ℤ
+lasting terms unit fix true since t n = stays terms unit fix since t n
+lasting terms unit fix false since t n = rests unit fix t n
+
+none-lasts : (terms : Terms) (unit : Thermal) (fix : Fix) (on : Bool) (since t : ℕ) (rest : Option ℤ) → rest ≡ total_of (lasting terms unit fix on since t 0) rest
+none-lasts terms unit fix true since t rest = sym (total-zero rest)
+none-lasts terms unit fix false since t rest = sym (total-zero rest)
+
+one_more-lasts : (terms : Terms) (unit : Thermal) (fix : Fix) (on : Bool) (since t n : ℕ)
+    → total_of (lasting terms unit fix on since t n) (move terms unit fix (t + n) on since on) ≡ lasting terms unit fix on since t (suc n)
+one_more-lasts terms unit fix true since t n = refl
+one_more-lasts terms unit fix false since t n = refl
+
+lasting-way : (terms : Terms) (unit : Thermal) (fix : Fix) (bits : Commitment) (on : Bool) (since t n : ℕ) → t + n ≤ period_count terms
+    → ((k : ℕ) → t ≤ k → k < t + n → bits k ≡ on)
+    → way_from terms unit fix bits t on since ≡ total_of (lasting terms unit fix on since t n) (way_from terms unit fix bits (t + n) on since)
+lasting-way terms unit fix bits on since t zero h same =
+    ap (λ k. way_from terms unit fix bits k on since) (let e : t ≡ t + 0 = omega arith in e)
+    ∙ none-lasts terms unit fix on since t (way_from terms unit fix bits (t + 0) on since)
+lasting-way terms unit fix bits on since t (suc n) h same =
     let here = t + n in
     let next : suc (t + n) ≡ t + suc n = omega arith in
-    run-way terms unit fix on since t n (omega arith) (λ k a b. bits k a (omega arith))
-    ∙ ap (total_of (stays terms unit fix since t n)) (way-step terms unit fix on here true since true (omega arith) (bits here (omega arith) (omega arith)))
-    ∙ sym (total-assoc (stays terms unit fix since t n) (move terms unit fix here true since true) (way_from terms unit fix on (suc here) true since))
-    ∙ ap (λ k. total_of (stays terms unit fix since t (suc n)) (way_from terms unit fix on k true since)) next
+    lasting-way terms unit fix bits on since t n (omega arith) (λ k a b. same k a (omega arith))
+    ∙ ap (total_of (lasting terms unit fix on since t n)) (stay-step terms unit fix bits here on since (omega arith) (same here (omega arith) (omega arith)))
+    ∙ sym (total-assoc (lasting terms unit fix on since t n) (move terms unit fix here on since on) (way_from terms unit fix bits (suc here) on since))
+    ∙ (λ i. total_of (one_more-lasts terms unit fix on since t n i) (way_from terms unit fix bits (next i) on since))
 
-run-to : (terms : Terms) (unit : Thermal) (fix : Fix) (on : Commitment) (since to : ℕ) → since ≤ to → to ≤ period_count terms
-    → ((k : ℕ) → since ≤ k → k < to → on k ≡ true)
-    → way_from terms unit fix on since true since ≡ total_of (stays terms unit fix since since (to - since)) (way_from terms unit fix on to true since)
-run-to terms unit fix on since to low high bits =
+lasting-to : (terms : Terms) (unit : Thermal) (fix : Fix) (bits : Commitment) (on : Bool) (since to : ℕ) → since ≤ to → to ≤ period_count terms
+    → ((k : ℕ) → since ≤ k → k < to → bits k ≡ on)
+    → way_from terms unit fix bits since on since ≡ total_of (lasting terms unit fix on since since (to - since)) (way_from terms unit fix bits to on since)
+lasting-to terms unit fix bits on since to low high same =
     let end : since + (to - since) ≡ to = omega arith in
-    run-way terms unit fix on since since (to - since) (omega arith) (λ k a b. bits k a (omega arith))
-    ∙ ap (λ k. total_of (stays terms unit fix since since (to - since)) (way_from terms unit fix on k true since)) end
+    lasting-way terms unit fix bits on since since (to - since) (omega arith) (λ k a b. same k a (omega arith))
+    ∙ ap (λ k. total_of (lasting terms unit fix on since since (to - since)) (way_from terms unit fix bits k on since)) end
 
-pub run-switched : (terms : Terms) (unit : Thermal) (fix : Fix) (on : Commitment) (since to : ℕ) → since ≤ to → to < period_count terms
-    → ((k : ℕ) → since ≤ k → k < to → on k ≡ true) → on to ≡ false
-    → way_from terms unit fix on since true since
-    ≡ total_of (stays terms unit fix since since (to - since)) (total_of (move terms unit fix to true since false) (way_from terms unit fix on (suc to) false (suc to)))
-run-switched terms unit fix on since to low high bits off =
-    run-to terms unit fix on since to low (omega arith) bits
-    ∙ ap (total_of (stays terms unit fix since since (to - since))) (way-step terms unit fix on to true since false high off)
+pub switched : (terms : Terms) (unit : Thermal) (fix : Fix) (bits : Commitment) (on : Bool) (since to : ℕ) → since ≤ to → to < period_count terms
+    → ((k : ℕ) → since ≤ k → k < to → bits k ≡ on) → bits to ≡ not on
+    → way_from terms unit fix bits since on since
+    ≡ total_of (lasting terms unit fix on since since (to - since))
+    (total_of (move terms unit fix to on since (not on)) (way_from terms unit fix bits (suc to) (not on) (suc to)))
+switched terms unit fix bits on since to low high same other =
+    lasting-to terms unit fix bits on since to low (omega arith) same
+    ∙ ap (total_of (lasting terms unit fix on since since (to - since))) (switch-step terms unit fix bits to on since high other)
 
-pub run-ended : (terms : Terms) (unit : Thermal) (fix : Fix) (on : Commitment) (since to : ℕ) → since ≤ to → to ≡ period_count terms
-    → ((k : ℕ) → since ≤ k → k < to → on k ≡ true)
-    → way_from terms unit fix on since true since ≡ total_of (stays terms unit fix since since (to - since)) (end_cost terms unit to true since)
-run-ended terms unit fix on since to low end bits =
-    run-to terms unit fix on since to low (omega arith) bits
-    ∙ ap (total_of (stays terms unit fix since since (to - since))) (way-end terms unit fix on to true since end)
-
--- ---- rests
-rest-way : (terms : Terms) (unit : Thermal) (fix : Fix) (on : Commitment) (since t n : ℕ) → t + n ≤ period_count terms
-    → ((k : ℕ) → t ≤ k → k < t + n → on k ≡ false)
-    → way_from terms unit fix on t false since ≡ total_of (rests unit fix t n) (way_from terms unit fix on (t + n) false since)
-rest-way terms unit fix on since t zero h bits =
-    ap (λ k. way_from terms unit fix on k false since) (let e : t ≡ t + 0 = omega arith in e) ∙ sym (total-zero (way_from terms unit fix on (t + 0) false since))
-rest-way terms unit fix on since t (suc n) h bits =
-    let here = t + n in
-    let next : suc (t + n) ≡ t + suc n = omega arith in
-    rest-way terms unit fix on since t n (omega arith) (λ k a b. bits k a (omega arith))
-    ∙ ap (total_of (rests unit fix t n)) (way-step terms unit fix on here false since false (omega arith) (bits here (omega arith) (omega arith)))
-    ∙ sym (total-assoc (rests unit fix t n) (move terms unit fix here false since false) (way_from terms unit fix on (suc here) false since))
-    ∙ ap (λ k. total_of (rests unit fix t (suc n)) (way_from terms unit fix on k false since)) next
-
-rest-to : (terms : Terms) (unit : Thermal) (fix : Fix) (on : Commitment) (since to : ℕ) → since ≤ to → to ≤ period_count terms
-    → ((k : ℕ) → since ≤ k → k < to → on k ≡ false)
-    → way_from terms unit fix on since false since ≡ total_of (rests unit fix since (to - since)) (way_from terms unit fix on to false since)
-rest-to terms unit fix on since to low high bits =
-    let end : since + (to - since) ≡ to = omega arith in
-    rest-way terms unit fix on since since (to - since) (omega arith) (λ k a b. bits k a (omega arith))
-    ∙ ap (λ k. total_of (rests unit fix since (to - since)) (way_from terms unit fix on k false since)) end
-
-pub rest-switched : (terms : Terms) (unit : Thermal) (fix : Fix) (on : Commitment) (since to : ℕ) → since ≤ to → to < period_count terms
-    → ((k : ℕ) → since ≤ k → k < to → on k ≡ false) → on to ≡ true
-    → way_from terms unit fix on since false since
-    ≡ total_of (rests unit fix since (to - since)) (total_of (move terms unit fix to false since true) (way_from terms unit fix on (suc to) true (suc to)))
-rest-switched terms unit fix on since to low high bits started =
-    rest-to terms unit fix on since to low (omega arith) bits
-    ∙ ap (total_of (rests unit fix since (to - since))) (way-step terms unit fix on to false since true high started)
-
-pub rest-ended : (terms : Terms) (unit : Thermal) (fix : Fix) (on : Commitment) (since to : ℕ) → since ≤ to → to ≡ period_count terms
-    → ((k : ℕ) → since ≤ k → k < to → on k ≡ false)
-    → way_from terms unit fix on since false since ≡ total_of (rests unit fix since (to - since)) (end_cost terms unit to false since)
-rest-ended terms unit fix on since to low end bits =
-    rest-to terms unit fix on since to low (omega arith) bits
-    ∙ ap (total_of (rests unit fix since (to - since))) (way-end terms unit fix on to false since end)
+pub ended : (terms : Terms) (unit : Thermal) (fix : Fix) (bits : Commitment) (on : Bool) (since to : ℕ) → since ≤ to → to ≡ period_count terms
+    → ((k : ℕ) → since ≤ k → k < to → bits k ≡ on)
+    → way_from terms unit fix bits since on since ≡ total_of (lasting terms unit fix on since since (to - since)) (end_cost terms unit to on since)
+ended terms unit fix bits on since to low end same =
+    lasting-to terms unit fix bits on since to low (omega arith) same
+    ∙ ap (total_of (lasting terms unit fix on since since (to - since))) (way-end terms unit fix bits to on since end)

@@ -2,14 +2,14 @@
 
 /// The least of some ways: what it costs, and the period in which the unit is switched next on it; the number of
 /// periods stands for no switch.
-#[derive(Clone, Copy, Debug)]
+#[derive(Clone, Copy)]
 pub(crate) struct Choice {
     pub(crate) cost: i128,
     pub(crate) at: usize,
 }
 
 /// A period, or the end of the horizon behind the last one. `None` is what may not be.
-#[derive(Clone, Copy, Debug)]
+#[derive(Clone, Copy)]
 pub(crate) struct Hour {
     /// What it costs to stay on in the period: the hour before, which was no start.
     pub(crate) stay: i128,

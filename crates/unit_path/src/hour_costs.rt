@@ -1,6 +1,6 @@
 //! What the hour before a period costs a unit that was on in it, by what it does in the period.
 
-ghost use Rattle.std.specs.Prelude.{◌≡◌, ◌<◌, ◌≤◌, ◌-ℤ◌, ◌*ℤ◌, Some, false, unsigned_abs};
+ghost use Rattle.std.specs.Prelude.{◌≡◌, ◌<◌, ◌≤◌, Some, false, unsigned_abs, if◌then◌else◌};
 ghost use Rattle.uc_model.specs.Limits.{IsLawfulThermal};
 ghost use Rattle.dual_model.specs.UnitTerms.{AreSizedTerms, period_count};
 ghost use Rattle.dual_model.specs.CostToGo.{IsWithin, MAX_MOVE};
@@ -8,53 +8,36 @@ ghost use Rattle.dual_model.specs.Moves.{hour_before as hour_of};
 ghost use Rattle.unit_path.specs.inside.Hours.{leave_cost, stay_cost};
 
 use dual_model::Fix;
-use dual_model::limits::{MAX_TERM, MAX_UNIT_PRICE};
-use dual_model::moves::holds_initially;
+use dual_model::moves::{holds_initially, hour_cost};
 use interval_graph::Intervals;
-use uc_model::limits::MAX_POWER;
-use uc_model::{Terms, Thermal, difference, product};
+use uc_model::{Terms, Thermal};
 
-/// A unit that is on stays on in period `t`: the cost of the hour before, which was a start or none.
-pub(crate) fn stay(
+/// A unit that is on stays on in period `t`, or stops in it where it has been on for long enough: the cost of the hour before,
+/// which was a start or none.
+pub(crate) fn hour_to(
     intervals: &Intervals,
     terms: &Terms,
     unit: &Thermal,
     fix: &Fix,
     t: usize,
     start: bool,
+    stop: bool,
 ) -> Option<i128>
     requires lawful { IsLawfulThermal unit.now }
     requires sized { AreSizedTerms unit.now terms.now }
     requires filled { intervals.now ≡ terms.now.terms }
     requires period { t < period_count terms.now }
-    ensures value { result ≡ stay_cost terms.now unit.now fix.now t start }
+    ensures value { result ≡ (if stop then leave_cost terms.now unit.now fix.now t start else stay_cost terms.now unit.now fix.now t start) }
     ensures size { IsWithin MAX_MOVE result }
 {
-    if fix.may_be_on(t) && holds_initially(unit, t, false) {
+    if stop {
+        if fix.may_be_off(unit, t) && holds_initially(unit, t, true) {
+            hour_before(intervals, terms, unit, t, start, true)
+        } else {
+            None
+        }
+    } else if fix.may_be_on(t) && holds_initially(unit, t, false) {
         hour_before(intervals, terms, unit, t, start, false)
-    } else {
-        None
-    }
-}
-
-/// A unit that is on and may stop does so in period `t`: the cost of the hour before, which was a start or none.
-pub(crate) fn leave(
-    intervals: &Intervals,
-    terms: &Terms,
-    unit: &Thermal,
-    fix: &Fix,
-    t: usize,
-    start: bool,
-) -> Option<i128>
-    requires lawful { IsLawfulThermal unit.now }
-    requires sized { AreSizedTerms unit.now terms.now }
-    requires filled { intervals.now ≡ terms.now.terms }
-    requires period { t < period_count terms.now }
-    ensures value { result ≡ leave_cost terms.now unit.now fix.now t start }
-    ensures size { IsWithin MAX_MOVE result }
-{
-    if fix.may_be_off(unit, t) && holds_initially(unit, t, true) {
-        hour_before(intervals, terms, unit, t, start, true)
     } else {
         None
     }
@@ -83,7 +66,7 @@ pub(crate) fn hour_before(
     let price = terms.pi.as_slice()[t - 1];
     match intervals.term(t - 1, start, stop) {
         None => None,
-        Some(term) => Some(less_product(term, price, unit.pmin)),
+        Some(term) => Some(hour_cost(term, price, unit.pmin)),
     }
 }
 
@@ -105,16 +88,5 @@ pub(crate) fn full_hour_before(
         return 0;
     }
     let price = terms.pi.as_slice()[t - 1];
-    less_product(intervals.full_term(t - 1), price, unit.pmin)
-}
-
-// A term less the price of the minimum output.
-fn less_product(term: i128, price: i128, minimum: i64) -> i128
-    requires term { unsigned_abs term ≤ MAX_TERM }
-    requires price { unsigned_abs price ≤ MAX_UNIT_PRICE }
-    requires minimum { unsigned_abs minimum ≤ MAX_POWER }
-    ensures value { result ≡ term -ℤ price *ℤ minimum }
-    ensures size { unsigned_abs result ≤ MAX_MOVE }
-{
-    difference(term, product(price, i128::from(minimum)))
+    hour_cost(intervals.full_term(t - 1), price, unit.pmin)
 }

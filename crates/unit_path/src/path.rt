@@ -19,7 +19,7 @@ ghost use Rattle.unit_path.specs.inside.Hours.{IsEnd, IsHour, IsStartIn, IsStopI
 
 use crate::choices::{better, cost_of, joined};
 use crate::hour::{Choice, Hour, UNKNOWN};
-use crate::hour_costs::{full_hour_before, leave};
+use crate::hour_costs::{full_hour_before, hour_to};
 use crate::rests::{cold_start, next_start};
 use crate::runs::{next_stop, onward};
 use crate::scratch::Scratch;
@@ -144,7 +144,7 @@ fn hour(
     let start = start_in(hours, intervals, terms, unit, fix, t);
     let start_cost = sigma(unit, None, t);
     let stop = stop_in(hours, terms, unit, fix, t);
-    let exit = exit(leave(intervals, terms, unit, fix, t, false), &stop);
+    let exit = exit(hour_to(intervals, terms, unit, fix, t, false, true), &stop);
     let stay = full_hour_before(intervals, terms, unit, t);
     Hour {
         stay,

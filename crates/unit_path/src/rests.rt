@@ -12,7 +12,7 @@ ghost use Rattle.unit_path.specs.inside.Hours.{IsTableFrom};
 
 use crate::choices::{better, better_of};
 use crate::hour::{Choice, Hour};
-use crate::rules::first_start;
+use crate::rules::first_switch;
 use crate::start_table::{first_cold, start_cost};
 use dual_model::Fix;
 use uc_model::{Terms, Thermal, scaled, sum};
@@ -32,7 +32,7 @@ pub(crate) fn next_start(
     ensures { IsLeastStart terms.now unit.now fix.now since since result }
 {
     let end = hours.len() - 1;
-    let from = first_start(unit, since).max(since).min(end);
+    let from = first_switch(unit, false, since).max(since).min(end);
     let until = hours[since].off_until;
     if from > until {
         return None;

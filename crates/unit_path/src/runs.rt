@@ -10,8 +10,8 @@ ghost use Rattle.unit_path.specs.inside.Hours.{IsHour, IsTableFrom};
 
 use crate::choices::{better, better_of, cost_of, joined, longer_by};
 use crate::hour::{Choice, Hour};
-use crate::hour_costs::{hour_before, leave, stay};
-use crate::rules::first_stop;
+use crate::hour_costs::{hour_before, hour_to};
+use crate::rules::first_switch;
 use dual_model::Fix;
 use interval_graph::Intervals;
 use uc_model::{Terms, Thermal};
@@ -39,7 +39,7 @@ pub(crate) fn next_stop(
     }
     let at_once = at_once(&hours[since], intervals, terms, unit, fix, since);
     let known = better(None, at_once, since);
-    match stay(intervals, terms, unit, fix, since, true) {
+    match hour_to(intervals, terms, unit, fix, since, true, false) {
         None => known,
         Some(spent) => later_stop(hours, terms, unit, fix, known, spent, since),
     }
@@ -61,10 +61,10 @@ fn at_once(
     requires hour { IsHour terms.now unit.now fix.now since hour.now }
     ensures { result ≡ stop_cost terms.now unit.now fix.now since since }
 {
-    if first_stop(unit, since) > since {
+    if first_switch(unit, true, since) > since {
         return None;
     }
-    match leave(intervals, terms, unit, fix, since, true) {
+    match hour_to(intervals, terms, unit, fix, since, true, true) {
         None => None,
         Some(cost) => joined(cost, cost_of(&hour.stop)),
     }
@@ -89,7 +89,7 @@ fn later_stop(
     ensures { IsLeastStop terms.now unit.now fix.now since since result }
 {
     let end = hours.len() - 1;
-    let from = first_stop(unit, since).max(since + 1).min(end);
+    let from = first_switch(unit, true, since).max(since + 1).min(end);
     if from > hours[since + 1].on_until {
         return known;
     }

@@ -10,7 +10,7 @@ use uc_model::NoMemory;
 use uc_model::limits::MAX_PERIODS;
 
 /// The memory of paths over a number of periods, which contracts see as that number.
-#[derive(Debug, Drop)]
+#[derive(Drop)]
 pub struct Scratch {
     pub(crate) intervals: Intervals,
     /// The periods, and the end of the horizon.

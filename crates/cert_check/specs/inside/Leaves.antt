@@ -1,5 +1,5 @@
 -- What the checks of leaves keep for one another, and the tests of a leaf's numbers. This project's own.
-use Rattle.std.specs.Prelude.{◌≡◌, ℕ, ◌<◌, ℤ, pos, ◌≤ℤ◌, ◌<ℤ◌, Option, Some, None, List, slice_get, length, MatchOption}
+use Rattle.std.specs.Prelude.{◌≡◌, ℕ, ◌<◌, Bool, true, false, ℤ, pos, ◌≤ℤ◌, ◌<ℤ◌, Option, Some, None, List, slice_get, length, MatchOption}
 use Rattle.uc_model.specs.Division.{IsFloor}
 use Rattle.uc_model.specs.Schedule.{thermal_count}
 use Rattle.uc_model.specs.declared.instance.Instance.{Instance}
@@ -67,3 +67,8 @@ IsPositive (Some value) = pos 0 <ℤ value
 pub record IsExcluding (k : ℤ) (value : Option ℤ) : Type 0 where
   pub scale : k ≡ pos 0
   pub positive : IsPositive value
+
+-- the one of these that a leaf with a ray, or else with a bound, asks for
+abbrev pub IsHeld : Bool → ℤ → Option ℤ → Option ℤ → Type 0
+IsHeld true k value bound = IsExcluding k value
+IsHeld false k value bound = IsBoundingBy k value bound

@@ -1,26 +1,17 @@
 -- What the check of a certificate's schedule answers. This project's own.
-use Rattle.std.specs.Prelude.{◌≡◌, ◌≢◌, ℤ, Option, Some, None}
-use Rattle.uc_model.specs.Rules.{Obeys}
-use Rattle.uc_model.specs.PrintedSchedule.{printed_denominator, printed_schedule, printed_cost}
+use Rattle.std.specs.Prelude.{◌≡◌, ℤ, Option, Some, None}
+use Rattle.uc_model.specs.PrintedSchedule.{printed_denominator, printed_schedule}
 use Rattle.uc_model.specs.declared.instance.Instance.{Instance}
 use Rattle.uc_model.specs.declared.refusal.Refusal.{Refusal}
 use Rattle.uc_model.specs.declared.refusal.Refusal.TheVariants as codes
 use Rattle.dual_model.specs.Certificate.{WrittenSchedule, ScheduleHolds}
 use Rattle.schedule_check.specs.FirstBroken.{IsFirstBroken}
+use Rattle.cert_check.specs.Refusals.{Miscosts}
 
 -- the schedule holds, and that is its cost
 abbrev pub IsCostOf : Instance → Option WrittenSchedule → Option ℤ → Type 0
 IsCostOf instance None cost = cost ≡ None
 IsCostOf instance (Some written) cost = ScheduleHolds instance written × (cost ≡ Some written.cost)
-
--- it obeys, and its cost isn't the one written
-pub record Miscosts (instance : Instance) (written : WrittenSchedule) (cost computed : ℤ) : Type 0 where
-  pub obeys :
-      let q = printed_denominator instance written.printed in
-      Obeys instance q (printed_schedule instance written.printed q)
-  pub is_cost : written.cost ≡ cost
-  pub is_computed : computed ≡ printed_cost instance written.printed
-  pub differs : cost ≢ computed
 
 -- the code says why it doesn't hold
 abbrev pub IsScheduleFault : Instance → Option WrittenSchedule → Refusal → Type 0

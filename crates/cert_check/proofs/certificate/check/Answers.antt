@@ -7,8 +7,17 @@ use Rattle.branch_tree.specs.Claims.{written_of}
 use Rattle.cert_check.specs.Answers.{is_none}
 use Rattle.cert_check.specs.inside.Nodes.{IsFirstCode}
 use Rattle.cert_check.specs.inside.Numbers.{HasLawfulNumbers}
-use Rattle.cert_check.proofs.Listed.{tables-from, schedule-from, claim-fits, refused-schedule, refused-8, refused-node, accepted, cost-is, bound-is, schedule-is}
+use Rattle.cert_check.proofs.Listed.{checkable, tables-from, schedule-from, claim-fits, refused-schedule, refused-8, refused-9, refused-node, accepted, cost-is, bound-is, schedule-is}
 use Rattle.cert_check.proofs.certificate.check.Goals as goal
+
+pub returns-then-not-fits_instance-clause-refused : goal.returns-then-not-fits_instance-clause-refused
+returns-then-not-fits_instance-clause-refused c = λ d e.
+    refused-9 c.args.instance.now d c.args.cert.now e (λ fits. true≢false (sym (c.fits_instance.ensures.1 fits) ∙ c.if-not-fits_instance.true))
+
+pub first_unsound-requires-clause-checkable : goal.first_unsound-requires-clause-checkable
+first_unsound-requires-clause-checkable c =
+    checkable c.args.instance.now c.args.cert.now c.requires.text (c.fits_instance.ensures.0 c.if-not-fits_instance.false)
+    (subst (λ tables. All HasLawfulNumbers tables) c.as_slice.ensures c.in_default.ensures)
 
 pub returns-in-Err-clause-refused : goal.returns-in-Err-clause-refused
 returns-in-Err-clause-refused c = λ d e.

@@ -7,7 +7,7 @@ use Rattle.std.specs.Int.{w128}
 use Rattle.std.proofs.lemmas.List.{get_or_read}
 use Rattle.uc_model.specs.Limits.{IsLawfulThermal}
 use Rattle.uc_model.specs.Schedule.{no_unit, thermal_count, thermal_unit}
-use Rattle.uc_model.proofs.Sizes.{abs_add, sum-is, sum-size, wide, wide-size}
+use Rattle.uc_model.proofs.Sizes.{abs_add, sum-fits, sum-is, sum-size, wide, wide-size}
 use Rattle.dual_value.specs.NodeAnswer.{IsFaultOf, IsPartOf, IsValued, MAX_PART}
 use Rattle.dual_value.specs.Rooms.{RoomOf}
 use Rattle.system_value.specs.Sizes.{MAX_RENEWABLES, MAX_SYSTEM}
@@ -18,6 +18,14 @@ use Rattle.dual_value.proofs.node_value.value_in.Goals as goal
 err-only : (r : Result Valued ValueFault) (fault : ValueFault) (P : ValueFault → Type 0) → IsErrAnd r (λ e. e ≡ fault) → P fault → IfErr r P
 err-only (Ok valued) fault P is h = tt
 err-only (Err e) fault P is h = subst P (sym is) h
+
+pub sum-total-requires : goal.sum-total-requires
+sum-total-requires c =
+    sum-fits c.system_value.result c.renewables_value.result MAX_SYSTEM MAX_RENEWABLES c.system_value.ensures.size c.renewables_value.ensures.size (lit< tt)
+
+pub sum-total-requires-in-loop-g : goal.sum-total-requires-in-loop-g
+sum-total-requires-in-loop-g c =
+    omega (arith, c.loop-g-test.true, ap length c.as_slice-units.ensures, c.requires.lawful.thermal_units, c.loop-g.invariant.valued.size, wide-size c.in_ok-part.part MAX_PART c.in_ok-part.ensures.size)
 
 pub loop-g-init : goal.loop-g-init
 loop-g-init c =

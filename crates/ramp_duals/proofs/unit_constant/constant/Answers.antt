@@ -4,10 +4,24 @@ use Rattle.std.specs.Prelude.{neg_ℤ, unsigned_abs}
 use Rattle.std.specs.Int.{w128}
 use Rattle.uc_model.specs.Commitment.{initial_p}
 use Rattle.uc_model.specs.Sums.{sum_below}
-use Rattle.uc_model.proofs.Sizes.{abs_add, wide}
+use Rattle.uc_model.proofs.Sizes.{abs_add, wide, wide-size}
+use Rattle.dual_model.specs.NodeValue.{unit_constant}
 use Rattle.dual_model.specs.Prices.{up_at, down_at}
 use Rattle.ramp_duals.specs.RampRows.{AreOf}
+use Rattle.ramp_duals.specs.Sizes.{MAX_CONSTANT}
+use Rattle.ramp_duals.proofs.ConstantSizes.{constant_size}
 use Rattle.ramp_duals.proofs.unit_constant.constant.Goals as goal
+
+pub sum-total-requires : goal.sum-total-requires
+sum-total-requires c =
+    let lengths = ap (λ pi. length pi) c.pi-t-end.ensures in
+    omega (arith, c.loop-t-test.true, c.requires.periods, c.loop-t.invariant.2, wide-size c.ramp_part.result (2 ^ 108) c.ramp_part.ensures.size)
+
+pub sum-requires : goal.sum-requires
+sum-requires c =
+    let lengths = ap (λ pi. length pi) c.pi-t-end.ensures in
+    let periods : c.loop-t.t ≤ 168 = omega (arith, c.requires.periods) in
+    omega (arith, periods, c.loop-t.invariant.2, wide-size c.initial_part.result (2 ^ 110) c.initial_part.ensures.size)
 
 pub loop-t-preserved : goal.loop-t-preserved
 loop-t-preserved c =
@@ -51,6 +65,11 @@ returns c =
     let size : unsigned_abs c.sum.result ≤ 168 * 2 ^ 108 + 2 ^ 110 =
     subst (λ x. unsigned_abs x ≤ 168 * 2 ^ 108 + 2 ^ 110) (sym added)
     (omega (arith, periods, abs_add (to_z w128 c.loop-t.total-bits) c.initial_part.result (c.loop-t.t * 2 ^ 108) (2 ^ 110) so_far.2 c.initial_part.ensures.size)) in
+    let value : to_z w128 (of_z w128 c.sum.result) ≡ unit_constant (length table.pi) table unit g =
     wide c.sum.result (168 * 2 ^ 108 + 2 ^ 110) size (lit< tt)
     ∙ added
-    ∙ (λ i. (so_far.1 ∙ ap (λ n. sum_below n part) last) i +ℤ initial i)
+    ∙ (λ i. (so_far.1 ∙ ap (λ n. sum_below n part) last) i +ℤ initial i) in
+    record {
+      value = value;
+      size = λ limits. subst (λ x. unsigned_abs x ≤ MAX_CONSTANT) (sym value) (constant_size (length table.pi) table unit g c.requires.periods limits c.requires.lawful);
+    }

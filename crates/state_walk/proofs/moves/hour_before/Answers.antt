@@ -1,5 +1,5 @@
 -- The hour's cost, of a term that is there.
-use Rattle.std.proofs.Common.{◌≡◌, lit<, arith, rules, sym, ap, ◌∙◌, ℕ, suc, zero, ◌<◌, ◌-◌, ◌≤◌, ◌-ℤ◌, ◌*ℤ◌, ℤ, pos, to_z, of_z, FitsSigned}
+use Rattle.std.proofs.Common.{◌≡◌, lit<, arith, rules, sym, ap, subst, ◌∙◌, ℕ, suc, zero, ◌<◌, ◌-◌, ◌≤◌, ◌-ℤ◌, ◌*ℤ◌, ℤ, pos, to_z, of_z, FitsSigned}
 use Rattle.std.specs.Prelude.{Some, Bool, unsigned_abs, slice_index_or}
 use Rattle.std.specs.Int.{w128}
 use Rattle.std.proofs.lemmas.Int.{to_z-of_z}
@@ -7,7 +7,7 @@ use Rattle.std.proofs.lemmas.Option.{MatchOption-at_some}
 use Rattle.uc_model.specs.declared.instance.Thermal.{Thermal}
 use Rattle.uc_model.specs.declared.terms.Terms.{Terms}
 use Rattle.uc_model.specs.declared.limits.TheConstants.{MAX_POWER}
-use Rattle.uc_model.proofs.Sizes.{wide, narrow}
+use Rattle.uc_model.proofs.Sizes.{abs_narrow, narrow, wide, wide-size}
 use Rattle.dual_model.specs.declared.limits.TheConstants.{MAX_UNIT_PRICE, MAX_TERM}
 use Rattle.dual_model.specs.UnitTerms.{term_at, price_at, period_count}
 use Rattle.dual_model.specs.Moves.{hour_before, hour_cost}
@@ -22,6 +22,18 @@ made terms unit (suc t) start stop m h e =
     (λ i. Some (m -ℤ price_at terms (same i) *ℤ unit.pmin))
     ∙ ap (hour_cost terms unit t) (sym (ap (λ k. term_at terms k start stop) (sym same) ∙ e))
 
+pub hour_cost-requires : goal.hour_cost-requires
+hour_cost-requires c =
+    let within : c.args.t - 1 < period_count c.args.terms.now = omega (arith, c.requires.period, c.if-t-eq0.false) in
+    let found : term_at c.args.terms.now (c.args.t - 1) c.args.start c.args.stop ≡ Some c.in-Some.term =
+    sym c.term_at.ensures ∙ c.in-Some.is in
+    record {
+      term = wide-size c.in-Some.term MAX_TERM (MatchOption-at_some _ _ c.in-Some.term found (c.requires.sized.term (c.args.t - 1) c.args.start c.args.stop within)).1;
+      price = wide-size (slice_index_or c.as_slice.result.now (c.args.t - 1) (pos 0)) MAX_UNIT_PRICE
+          (subst (λ l. unsigned_abs (slice_index_or l (c.args.t - 1) (pos 0)) ≤ MAX_UNIT_PRICE) (sym c.as_slice.ensures) (c.requires.sized.price (c.args.t - 1) within));
+      minimum = omega (arith, abs_narrow c.args.unit.now.pmin, c.requires.lawful.minimum.power);
+    }
+
 pub returns-in-Some : goal.returns-in-Some
 returns-in-Some c =
     let found : term_at c.args.terms.now (c.args.t - 1) c.args.start c.args.stop ≡ Some c.in-Some.term =
@@ -33,9 +45,9 @@ returns-in-Some c =
     c.requires.sized.price (c.args.t - 1) within in
     let price_is = ap (λ l. to_z w128 (of_z w128 (slice_index_or l (c.args.t - 1) (pos 0)))) c.as_slice.ensures
     ∙ wide (price_at c.args.terms.now (c.args.t - 1)) MAX_UNIT_PRICE price_size (lit< tt) in
-    let result_is : c.less_product.result ≡ c.in-Some.term -ℤ price_at c.args.terms.now (c.args.t - 1) *ℤ c.args.unit.now.pmin =
-    c.less_product.ensures
+    let result_is : c.hour_cost.result ≡ c.in-Some.term -ℤ price_at c.args.terms.now (c.args.t - 1) *ℤ c.args.unit.now.pmin =
+    c.hour_cost.ensures.value
     ∙ (λ i. wide c.in-Some.term MAX_TERM size (lit< tt) i -ℤ price_is i *ℤ narrow c.args.unit.now.pmin MAX_POWER c.requires.lawful.minimum.power (lit< tt) i) in
-    let result_fits : FitsSigned w128 c.less_product.result = search rules in
+    let result_fits : FitsSigned w128 c.hour_cost.result = search rules in
     ap Some (to_z-of_z w128 _ result_fits ∙ result_is)
     ∙ made c.args.terms.now c.args.unit.now c.args.t c.args.start c.args.stop c.in-Some.term (omega (arith, c.if-t-eq0.false)) found

@@ -27,19 +27,19 @@ entry-suc terms unit fix n m t since e on off is_on is_off =
     (λ i. record { on = is_on i; off = is_off i }) ∙ ap (λ k. entry terms unit fix k t since) (sym e)
 
 pub total-requires-clause-left : goal.total-requires-clause-left
-total-requires-clause-left c = along _ _ c.stay_on.ensures (move-fits c.args.unit.now c.args.terms.now c.args.fix.now c.requires.lawful c.requires.sized c.args.t c.requires.period true c.args.since true)
+total-requires-clause-left c = along _ _ c.move_cost.ensures (move-fits c.args.unit.now c.args.terms.now c.args.fix.now c.requires.lawful c.requires.sized c.args.t c.requires.period true c.args.since true)
 
 pub total-requires-clause-right : goal.total-requires-clause-right
 total-requires-clause-right c = along _ _ (ap (λ (e : CostToGo). e.on) c.requires.after) (cost_to_go-fits c.args.unit.now c.args.terms.now c.args.fix.now c.requires.lawful c.requires.sized _ (suc c.args.t) (omega (arith, c.requires.period)) true c.args.since)
 
 pub total-requires-2-clause-left : goal.total-requires-2-clause-left
-total-requires-2-clause-left c = along _ _ c.stop.ensures (move-fits c.args.unit.now c.args.terms.now c.args.fix.now c.requires.lawful c.requires.sized c.args.t c.requires.period true c.args.since false)
+total-requires-2-clause-left c = along _ _ c.move_cost-2.ensures (move-fits c.args.unit.now c.args.terms.now c.args.fix.now c.requires.lawful c.requires.sized c.args.t c.requires.period true c.args.since false)
 
 pub total-requires-2-clause-right : goal.total-requires-2-clause-right
 total-requires-2-clause-right c = along _ _ (ap (λ (e : CostToGo). e.off) c.requires.entered) (cost_to_go-fits c.args.unit.now c.args.terms.now c.args.fix.now c.requires.lawful c.requires.sized _ (suc c.args.t) (omega (arith, c.requires.period)) false (suc c.args.t))
 
 pub total-requires-3-clause-left : goal.total-requires-3-clause-left
-total-requires-3-clause-left c = along _ _ c.start.ensures (move-fits c.args.unit.now c.args.terms.now c.args.fix.now c.requires.lawful c.requires.sized c.args.t c.requires.period false c.args.since true)
+total-requires-3-clause-left c = along _ _ c.move_cost-3.ensures (move-fits c.args.unit.now c.args.terms.now c.args.fix.now c.requires.lawful c.requires.sized c.args.t c.requires.period false c.args.since true)
 
 pub total-requires-3-clause-right : goal.total-requires-3-clause-right
 total-requires-3-clause-right c = along _ _ (ap (λ (e : CostToGo). e.on) c.requires.entered) (cost_to_go-fits c.args.unit.now c.args.terms.now c.args.fix.now c.requires.lawful c.requires.sized _ (suc c.args.t) (omega (arith, c.requires.period)) true (suc c.args.t))
@@ -53,10 +53,10 @@ returns c =
     let later_off = ap (λ (e : CostToGo). e.off) c.requires.after in
     let entered_on = ap (λ (e : CostToGo). e.on) c.requires.entered in
     let entered_off = ap (λ (e : CostToGo). e.off) c.requires.entered in
-    let stayed = c.total.ensures ∙ (λ i. total_of (c.stay_on.ensures i) (later_on i)) in
-    let stopped = c.total-2.ensures ∙ (λ i. total_of (c.stop.ensures i) (entered_off i)) in
-    let started = c.total-3.ensures ∙ (λ i. total_of (c.start.ensures i) (entered_on i)) in
-    let stayed_off = c.total-4.ensures ∙ (λ i. total_of (c.stay_off.ensures i) (later_off i)) in
+    let stayed = c.total.ensures ∙ (λ i. total_of (c.move_cost.ensures i) (later_on i)) in
+    let stopped = c.total-2.ensures ∙ (λ i. total_of (c.move_cost-2.ensures i) (entered_off i)) in
+    let started = c.total-3.ensures ∙ (λ i. total_of (c.move_cost-3.ensures i) (entered_on i)) in
+    let stayed_off = c.total-4.ensures ∙ (λ i. total_of (c.move_cost-4.ensures i) (later_off i)) in
     entry-suc c.args.terms.now c.args.unit.now c.args.fix.now (period_count c.args.terms.now - suc c.args.t) (period_count c.args.terms.now - c.args.t)
     c.args.t c.args.since (omega (arith, c.requires.period)) _ _
     (c.lesser.ensures ∙ (λ i. lesser_of (stayed i) (stopped i)))

@@ -21,7 +21,7 @@ use Rattle.unit_path.proofs.path.hour.Goals as goal
 pub onward-requires-clause-exit : goal.onward-requires-clause-exit
 onward-requires-clause-exit c =
     within-fits c.args.unit.now c.args.terms.now c.requires.sized c.args.t c.exit-exit.result
-    (move-before c.args.terms.now c.args.t c.leave.result c.exit-exit.result c.stop_in-stop.result c.requires.period c.leave.ensures.size c.exit-exit.ensures
+    (move-before c.args.terms.now c.args.t c.hour_to.result c.exit-exit.result c.stop_in-stop.result c.requires.period c.hour_to.ensures.size c.exit-exit.ensures
     (stop-moves c.args.unit.now c.args.terms.now c.args.fix.now c.requires.lawful c.requires.sized c.args.t c.stop_in-stop.result c.requires.period c.stop_in-stop.ensures))
 
 pub onward-requires-clause-later : goal.onward-requires-clause-later
@@ -59,7 +59,7 @@ returns c =
     (onward-moves terms unit fix (suc t) hours c.requires.later (suc t) (omega arith) (omega arith)) in
     let cold_moves = later-moves (may_be_off unit fix t) left (hour_in hours (suc t)).cold_start c.off_after-off_until.result.1 off_next off_none
     (cold_start-moves terms unit fix (suc t) hours c.requires.later (suc t) (omega arith) (omega arith)) in
-    let exit_moves = move-before terms t c.leave.result c.exit-exit.result c.stop_in-stop.result c.requires.period c.leave.ensures.size c.exit-exit.ensures
+    let exit_moves = move-before terms t c.hour_to.result c.exit-exit.result c.stop_in-stop.result c.requires.period c.hour_to.ensures.size c.exit-exit.ensures
     (stop-moves unit terms fix c.requires.lawful c.requires.sized t c.stop_in-stop.result c.requires.period c.stop_in-stop.ensures) in
     record {
       stay = ap Some kept ∙ c.full_hour_before-stay.ensures.value;
@@ -80,7 +80,7 @@ returns c =
           (λ since h may. onward-entry terms unit fix (suc t) hours c.requires.later since (suc t) (omega arith) (omega arith) (omega arith)
           (λ less. lasted-later (unit.ut - unit.ut0) unit.ut since t (suc t) (omega arith) may))
           (ap Some kept ∙ c.full_hour_before-stay.ensures.value)
-          (c.exit-exit.ensures ∙ ap (λ x. total_of x (choice_cost c.stop_in-stop.result)) c.leave.ensures.value)
+          (c.exit-exit.ensures ∙ ap (λ x. total_of x (choice_cost c.stop_in-stop.result)) c.hour_to.ensures.value)
           c.stop_in-stop.ensures c.onward.ensures.cost c.onward.ensures.choice;
       onward_size = lesser-moves (period_count terms - t) _ c.exit-exit.result c.onward.result c.onward.ensures.cost
           (move-before terms t (Some stay) _ c.on_after-on_until.result.1 c.requires.period stay_size refl onward_moves) exit_moves;

@@ -13,17 +13,17 @@ returns-then-from-until c =
     let until = off_until-entry c.args.terms.now c.args.unit.now c.args.fix.now c.args.since c.args.hours.now c.requires.later c.args.since (omega arith) (omega arith) in
     least-none c.args.terms.now c.args.unit.now c.args.fix.now c.requires.lawful c.requires.sized c.args.since c.min-from.result
     (hour_in c.args.hours.now c.args.since).off_until until.later c.if-from-until.true (omega (arith, c.requires.later.count))
-    (λ k low high. c.first_start.ensures.first k ∙ lt-leb c.first_start.result k (omega arith))
+    (λ k low high. c.first_switch.ensures.first k ∙ lt-leb c.first_switch.result k (omega arith))
     (until.at (omega (arith, c.if-from-until.true, c.requires.later.count)))
 
 pub best_warm-best-requires-clause-may : goal.best_warm-best-requires-clause-may
 best_warm-best-requires-clause-may c = λ h.
     let until = off_until-entry c.args.terms.now c.args.unit.now c.args.fix.now c.args.since c.args.hours.now c.requires.later c.args.since (omega arith) (omega arith) in
-    c.first_start.ensures.first c.min-from.result ∙ le-leb c.first_start.result c.min-from.result (omega (arith, h, until.within, c.requires.later.count))
+    c.first_switch.ensures.first c.min-from.result ∙ le-leb c.first_switch.result c.min-from.result (omega (arith, h, until.within, c.requires.later.count))
 
 pub best_warm-best-requires-else-cold-until-clause-may : goal.best_warm-best-requires-else-cold-until-clause-may
 best_warm-best-requires-else-cold-until-clause-may c = λ h.
-    c.first_start.ensures.first c.min-from.result ∙ le-leb c.first_start.result c.min-from.result (omega (arith, h, c.requires.later.count))
+    c.first_switch.ensures.first c.min-from.result ∙ le-leb c.first_switch.result c.min-from.result (omega (arith, h, c.requires.later.count))
 
 pub from_start-requires-clause-start : goal.from_start-requires-clause-start
 from_start-requires-clause-start c =
@@ -41,8 +41,8 @@ returns-then-cold-until c =
     least-to c.args.terms.now c.args.unit.now c.args.fix.now c.requires.lawful c.requires.sized c.args.since from last
     (hour_in c.args.hours.now last).start c.best_warm-best.result c.better.result c.from_start.result
     (omega (arith, c.requires.later.count)) c.if-from-until.false short
-    (λ k low high. c.first_start.ensures.first k ∙ lt-leb c.first_start.result k (omega arith))
-    (c.first_start.ensures.first last ∙ le-leb c.first_start.result last (omega (arith, c.if-from-until.false, short, c.requires.later.count)))
+    (λ k low high. c.first_switch.ensures.first k ∙ lt-leb c.first_switch.result k (omega arith))
+    (c.first_switch.ensures.first last ∙ le-leb c.first_switch.result last (omega (arith, c.if-from-until.false, short, c.requires.later.count)))
     (λ k low high. until.before k low high) (until.at short)
     (c.requires.later.hour last until.later short).start c.from_start.ensures
     (record { cost = c.best_warm-best.ensures.cost; start = c.best_warm-best.ensures.start })
@@ -55,12 +55,12 @@ returns-else-cold-until c =
     let cold = c.min-cold.result in
     let least = cold_start-entry c.args.terms.now c.args.unit.now c.args.fix.now c.args.since c.args.hours.now c.requires.later c.args.since cold
     (omega (arith, c.requires.later.count)) (omega (arith, c.requires.later.count)) (omega (arith, c.requires.later.count))
-    (λ h. c.first_start.ensures.first cold ∙ le-leb c.first_start.result cold (omega (arith, h, c.requires.later.count)))
+    (λ h. c.first_switch.ensures.first cold ∙ le-leb c.first_switch.result cold (omega (arith, h, c.requires.later.count)))
     (λ short k h. c.first_cold.ensures.cold k (omega (arith, short, h, c.requires.later.count))) in
     least-from_cold c.args.terms.now c.args.unit.now c.args.fix.now c.requires.lawful c.requires.sized c.args.since from cold
     (hour_in c.args.hours.now cold).cold_start c.best_warm-best-else-cold-until.result c.better_of.result
     (omega (arith, c.requires.later.count)) (omega (arith, c.requires.later.count)) (omega (arith, c.requires.later.count))
-    (λ k low high. c.first_start.ensures.first k ∙ lt-leb c.first_start.result k (omega arith))
+    (λ k low high. c.first_switch.ensures.first k ∙ lt-leb c.first_switch.result k (omega arith))
     (λ k low high. until.before k low (omega (arith, high, c.if-cold-until.false)))
     least
     (record { cost = c.best_warm-best-else-cold-until.ensures.cost; start = c.best_warm-best-else-cold-until.ensures.start })

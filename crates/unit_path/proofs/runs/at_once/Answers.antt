@@ -24,9 +24,9 @@ whole terms unit fix since cost stop h may entry e =
     ap (λ x. total_of x (choice_cost stop)) (e ∙ ap (λ b. leave_cost terms unit fix since b) (sym (eq-eqb since since refl)))
     ∙ stop-total terms unit fix since since stop h may entry
 
-pub returns-then-first_stop-since : goal.returns-then-first_stop-since
-returns-then-first_stop-since c =
-    let barred = c.first_stop.ensures.first c.args.since ∙ lt-leb c.first_stop.result c.args.since c.if-first_stop-since.true in
+pub returns-then-first_switch-since : goal.returns-then-first_switch-since
+returns-then-first_switch-since c =
+    let barred = c.first_switch.ensures.first c.args.since ∙ lt-leb c.first_switch.result c.args.since c.if-first_switch-since.true in
     sym (
     stop_cost-at c.args.terms.now c.args.unit.now c.args.fix.now c.args.since c.args.since c.requires.period
     ∙ ap (λ x. total_of x (to_go c.args.terms.now c.args.unit.now c.args.fix.now (suc c.args.since) false (suc c.args.since)))
@@ -35,13 +35,13 @@ returns-then-first_stop-since c =
 
 pub returns-in-None : goal.returns-in-None
 returns-in-None c =
-    let may = c.first_stop.ensures.first c.args.since ∙ le-leb c.first_stop.result c.args.since c.if-first_stop-since.false in
-    ap (λ x. total_of x (choice_cost c.args.hour.now.stop)) (sym c.in-None.is) ∙ whole c.args.terms.now c.args.unit.now c.args.fix.now c.args.since c.leave.result c.args.hour.now.stop c.requires.period may c.requires.hour.stop c.leave.ensures.value
+    let may = c.first_switch.ensures.first c.args.since ∙ le-leb c.first_switch.result c.args.since c.if-first_switch-since.false in
+    ap (λ x. total_of x (choice_cost c.args.hour.now.stop)) (sym c.in-None.is) ∙ whole c.args.terms.now c.args.unit.now c.args.fix.now c.args.since c.hour_to.result c.args.hour.now.stop c.requires.period may c.requires.hour.stop c.hour_to.ensures.value
 
 pub returns-in-Some : goal.returns-in-Some
 returns-in-Some c =
-    let may = c.first_stop.ensures.first c.args.since ∙ le-leb c.first_stop.result c.args.since c.if-first_stop-since.false in
+    let may = c.first_switch.ensures.first c.args.since ∙ le-leb c.first_switch.result c.args.since c.if-first_switch-since.false in
     c.joined.ensures
     ∙ (λ i. total_of (Some (wide c.in-Some.cost MAX_MOVE c.in-Some.ensures.size (lit< tt) i)) (c.cost_of.ensures i))
     ∙ ap (λ x. total_of x (choice_cost c.args.hour.now.stop)) (sym c.in-Some.is)
-    ∙ whole c.args.terms.now c.args.unit.now c.args.fix.now c.args.since c.leave.result c.args.hour.now.stop c.requires.period may c.requires.hour.stop c.leave.ensures.value
+    ∙ whole c.args.terms.now c.args.unit.now c.args.fix.now c.args.since c.hour_to.result c.args.hour.now.stop c.requires.period may c.requires.hour.stop c.hour_to.ensures.value

@@ -28,7 +28,7 @@ returns-then-from-hours c =
     (until.at (omega (arith, c.if-from-hours.true, c.requires.later.count))) in
     least-at_once terms unit fix c.requires.lawful c.requires.sized since c.args.known (omega arith) c.requires.known
     (run-least terms unit fix since from (omega (arith, c.requires.later.count)) (omega (arith, c.requires.later.count))
-    (λ k low high. c.first_stop.ensures.first k ∙ lt-leb c.first_stop.result k (omega arith))
+    (λ k low high. c.first_switch.ensures.first k ∙ lt-leb c.first_switch.result k (omega arith))
     ∙ ap (λ x. lesser_of (stop_cost terms unit fix since since) (total_of x (to_go terms unit fix from true since))) none
     ∙ lesser-none (stop_cost terms unit fix since since))
 
@@ -41,7 +41,7 @@ pub longer_by-requires-clause-choice : goal.longer_by-requires-clause-choice
 longer_by-requires-clause-choice c =
     (onward-entry c.args.terms.now c.args.unit.now c.args.fix.now c.args.since c.args.hours.now c.requires.later c.args.since c.min-from.result
     (omega (arith, c.requires.later.count)) (omega (arith, c.requires.later.count)) (omega (arith, c.requires.later.count))
-    (λ h. c.first_stop.ensures.first c.min-from.result ∙ le-leb c.first_stop.result c.min-from.result (omega (arith, c.requires.later.count)))).size
+    (λ h. c.first_switch.ensures.first c.min-from.result ∙ le-leb c.first_switch.result c.min-from.result (omega (arith, c.requires.later.count)))).size
 
 pub returns : goal.returns
 returns c =
@@ -55,10 +55,10 @@ returns c =
     c.longer_by.ensures ∙ ap (λ x. longer_of x onward) (wide c.run_cost-spent.result MAX_COST_TO_GO c.run_cost-spent.ensures.size (lit< tt)) in
     let least = onward-entry terms unit fix since c.args.hours.now c.requires.later since from
     (omega (arith, c.requires.later.count)) (omega (arith, c.requires.later.count)) (omega (arith, c.requires.later.count))
-    (λ h. c.first_stop.ensures.first from ∙ le-leb c.first_stop.result from (omega (arith, c.requires.later.count))) in
+    (λ h. c.first_switch.ensures.first from ∙ le-leb c.first_switch.result from (omega (arith, c.requires.later.count))) in
     least-later terms unit fix c.requires.lawful c.requires.sized since from c.args.known c.run_cost-spent.result onward c.better_of.result
     (omega (arith, c.requires.later.count)) (omega (arith, c.requires.later.count))
-    (λ k low high. c.first_stop.ensures.first k ∙ lt-leb c.first_stop.result k (omega arith))
+    (λ k low high. c.first_switch.ensures.first k ∙ lt-leb c.first_switch.result k (omega arith))
     c.requires.known c.run_cost-spent.ensures.value least
     (c.better_of.ensures.cost ∙ ap (λ o. lesser_of (choice_cost c.args.known) (choice_cost o)) longer)
     (subst (λ o. (c.better_of.result ≡ c.args.known) ⊎ (c.better_of.result ≡ o)) longer c.better_of.ensures.choice)

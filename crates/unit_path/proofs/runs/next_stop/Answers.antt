@@ -28,7 +28,7 @@ later_stop-requires-clause-known c =
 pub later_stop-requires-clause-spent : goal.later_stop-requires-clause-spent
 later_stop-requires-clause-spent c =
     ap Some (wide c.in-Some.spent MAX_MOVE c.in-Some.ensures.size (lit< tt))
-    ∙ sym c.in-Some.is ∙ c.stay.ensures.value
+    ∙ sym c.in-Some.is ∙ c.hour_to.ensures.value
     ∙ ap (λ b. stay_cost c.args.terms.now c.args.unit.now c.args.fix.now c.args.since b) (sym (eq-eqb c.args.since c.args.since refl))
 
 pub returns-in-None : goal.returns-in-None
@@ -38,7 +38,7 @@ returns-in-None c =
     let fix = c.args.fix.now in
     let since = c.args.since in
     let none : move terms unit fix since true since true ≡ None =
-    ap (λ b. stay_cost terms unit fix since b) (eq-eqb since since refl) ∙ sym c.stay.ensures.value ∙ c.in-None.is in
+    ap (λ b. stay_cost terms unit fix since b) (eq-eqb since since refl) ∙ sym c.hour_to.ensures.value ∙ c.in-None.is in
     least-at_once terms unit fix c.requires.lawful c.requires.sized since c.better-known.result (omega arith)
     (at_once-from terms unit fix since c.better-known.result c.at_once-at_once.result
     c.at_once-at_once.ensures c.better-known.ensures.cost c.better-known.ensures.choice)

@@ -24,23 +24,15 @@ invariant_of-self c = (
     (c.split.ensures.off ∙ c.self.inside.places.ok.0) (c.split.ensures.on ∙ ap suc c.self.inside.places.ok.0) c.split.ensures.places
     ).stored
 
-pub returns-clause-tree : goal.returns-clause-tree
-returns-clause-tree c = (
-    split_made c.self.inside (record c.self.inside { places = c.split.new.places }) c.args.self.now c.args.node c.args.g c.args.t
-    c.split.result.0 c.split.result.1 c.self.view_is c.self.invariant
-    (record { units = refl; periods = refl; room = c.split.ensures.capacity }) c.requires.live c.requires.free c.requires.room
-    (c.split.ensures.off ∙ c.self.inside.places.ok.0) (c.split.ensures.on ∙ ap suc c.self.inside.places.ok.0) c.split.ensures.places
-    ).view
-
-pub returns-clause-whole : goal.returns-clause-whole
-returns-clause-whole c = (
-    split_made c.self.inside (record c.self.inside { places = c.split.new.places }) c.args.self.now c.args.node c.args.g c.args.t
-    c.split.result.0 c.split.result.1 c.self.view_is c.self.invariant
-    (record { units = refl; periods = refl; room = c.split.ensures.capacity }) c.requires.live c.requires.free c.requires.room
-    (c.split.ensures.off ∙ c.self.inside.places.ok.0) (c.split.ensures.on ∙ ap suc c.self.inside.places.ok.0) c.split.ensures.places
-    ).whole
-
-pub returns-clause-children : goal.returns-clause-children
-returns-clause-children c =
+pub returns : goal.returns
+returns c =
     let count = stored_count c.self.inside c.args.self.now c.self.view_is c.self.invariant in
-    (c.split.ensures.off ∙ (c.self.inside.places.ok.0 ∙ count), c.split.ensures.on ∙ ap suc (c.self.inside.places.ok.0 ∙ count))
+    let made = split_made c.self.inside (record c.self.inside { places = c.split.new.places }) c.args.self.now c.args.node c.args.g c.args.t
+    c.split.result.0 c.split.result.1 c.self.view_is c.self.invariant
+    (record { units = refl; periods = refl; room = c.split.ensures.capacity }) c.requires.live c.requires.free c.requires.room
+    (c.split.ensures.off ∙ c.self.inside.places.ok.0) (c.split.ensures.on ∙ ap suc c.self.inside.places.ok.0) c.split.ensures.places in
+    record {
+      children = (c.split.ensures.off ∙ (c.self.inside.places.ok.0 ∙ count), c.split.ensures.on ∙ ap suc (c.self.inside.places.ok.0 ∙ count));
+      tree = made.view;
+      whole = made.whole;
+    }

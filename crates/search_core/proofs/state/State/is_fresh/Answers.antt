@@ -1,5 +1,5 @@
 -- The note has the numbers of the tables of the node's entries, and none of them is a table above its greatest scale.
-use Rattle.std.proofs.Common.{◌≡◌, ◌<◌, ◌↔◌, ℕ, ap, sym, ◌∙◌, subst, arith}
+use Rattle.std.proofs.Common.{◌≡◌, ◌<◌, ◌↔◌, ℕ, List, ap, sym, ◌∙◌, subst, arith}
 use Rattle.std.proofs.lemmas.List.{get_or_read}
 use Rattle.dual_model.specs.declared.table.Table.{Table}
 use Rattle.branch_tree.specs.NumberedTree.{node_count}
@@ -11,7 +11,7 @@ use Rattle.search_core.specs.Steps.{IsFresh}
 use Rattle.search_core.specs.Inside.{view_of, IsKept}
 use Rattle.search_core.proofs.Opened.{kept_note}
 use Rattle.search_core.proofs.Entries.{IsNoneOf, none_of_entries, entries_none_of}
-use Rattle.search_core.proofs.Scales.{above_all, scales_in}
+use Rattle.search_core.proofs.Scales.{scales_in}
 use Rattle.search_core.proofs.state.State.is_fresh.Goals as goal
 
 -- a table is fresh where it is none of the note's
@@ -27,31 +27,21 @@ by_note a m node note table kept seen within read =
           subst (λ ns. IsNoneOf a.tables ns table) (sym numbers) (entries_none_of a.tables (entries_of a.log node) table own)),
     )
 
-pub returns-then-is_above : goal.returns-then-is_above
-returns-then-is_above c =
+pub is_new-requires : goal.is_new-requires
+is_new-requires c =
     let a = c.self.inside in
-    let node = c.args.node in
-    let note = c.index-note.result.now in
-    let table = c.args.table.now in
-    let below = subst (λ (m : Machine). node < node_count m.tree.nodes) (sym c.self.view_is) c.requires in
-    let read = get_or_read a.notes.items node note (omega (arith, a.notes.ok.0, c.self.invariant.notes.length)) c.index-note.ensures no_note in
-    let same = by_note a c.args.self.now node note table c.self.invariant c.self.view_is c.requires read in
-    let scales = subst (AreScalesAtMost a.tables) (sym read) (scales_in a.tables a.notes.items node c.self.invariant.scales) in (
-      (λ _. same.0 (above_all a.tables note table scales (c.is_above.ensures.0 c.if-is_above.true))),
-      (λ _. c.if-is_above.true),
-    )
+    let below = subst (λ (m : Machine). c.args.node < node_count m.tree.nodes) (sym c.self.view_is) c.requires in
+    let read = get_or_read a.notes.items c.args.node c.index.result.now (omega (arith, a.notes.ok.0, c.self.invariant.notes.length)) c.index.ensures no_note in
+    subst (λ tables. AreScalesAtMost tables c.index.result.now) (sym c.as_slice.ensures)
+    (subst (AreScalesAtMost a.tables) (sym read) (scales_in a.tables a.notes.items c.args.node c.self.invariant.scales))
 
-pub returns-else-is_above : goal.returns-else-is_above
-returns-else-is_above c =
+pub returns : goal.returns
+returns c =
     let a = c.self.inside in
-    let node = c.args.node in
-    let note = c.index-note.result.now in
-    let table = c.args.table.now in
-    let below = subst (λ (m : Machine). node < node_count m.tree.nodes) (sym c.self.view_is) c.requires in
-    let read = get_or_read a.notes.items node note (omega (arith, a.notes.ok.0, c.self.invariant.notes.length)) c.index-note.ensures no_note in
-    let same = by_note a c.args.self.now node note table c.self.invariant c.self.view_is c.requires read in
-    let both : IsNoneOf c.as_slice.result.now c.as_slice-else-is_above.result.now table ≡ IsNoneOf a.tables note.tables table =
-    λ i. IsNoneOf (c.as_slice.ensures i) (c.as_slice-else-is_above.ensures i) table in (
-      (λ none. same.0 (subst (λ p. p) both (c.is_none_of.ensures.0 none))),
-      (λ fresh. c.is_none_of.ensures.1 (subst (λ p. p) (sym both) (same.1 fresh))),
+    let below = subst (λ (m : Machine). c.args.node < node_count m.tree.nodes) (sym c.self.view_is) c.requires in
+    let read = get_or_read a.notes.items c.args.node c.index.result.now (omega (arith, a.notes.ok.0, c.self.invariant.notes.length)) c.index.ensures no_note in
+    let same = by_note a c.args.self.now c.args.node c.index.result.now c.args.table.now c.self.invariant c.self.view_is c.requires read in
+    let tables = λ (ts : List Table). IsNoneOf ts c.index.result.now.tables c.args.table.now in (
+      (λ new. same.0 (subst tables c.as_slice.ensures (c.is_new.ensures.0 new))),
+      (λ fresh. c.is_new.ensures.1 (subst tables (sym c.as_slice.ensures) (same.1 fresh))),
     )

@@ -1,0 +1,19 @@
+-- The product is as small as its parts allow.
+use Rattle.std.proofs.Common.{◌≤◌, ◌∙◌, lit<, ◌*ℤ◌}
+use Rattle.std.specs.Prelude.{unsigned_abs}
+use Rattle.uc_model.specs.declared.limits.TheConstants.{MAX_POWER}
+use Rattle.uc_model.proofs.Sizes.{narrow, scaled-size, wide, wide-size}
+use Rattle.dual_model.specs.declared.limits.TheConstants.{MAX_PRICE}
+use Rattle.system_value.specs.Sizes.{MAX_CELL}
+use Rattle.system_value.proofs.priced.priced.Goals as goal
+
+pub returns : goal.returns
+returns c =
+    let size : unsigned_abs c.scaled.result ≤ MAX_CELL =
+    scaled-size c.args.price.now c.args.power.now c.scaled.result MAX_PRICE MAX_POWER c.scaled.ensures c.requires.price c.requires.power in
+    record {
+      value = wide c.scaled.result MAX_CELL size (lit< tt)
+          ∙ c.scaled.ensures
+          ∙ (λ i. narrow c.args.price.now MAX_PRICE c.requires.price (lit< tt) i *ℤ narrow c.args.power.now MAX_POWER c.requires.power (lit< tt) i);
+      size = wide-size c.scaled.result MAX_CELL size;
+    }
