@@ -1,4 +1,2 @@
 pub mod Failures
 pub mod Changes
-pub mod WholeWatts
-pub mod CommitmentRules

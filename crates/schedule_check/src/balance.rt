@@ -7,7 +7,7 @@ ghost use Rattle.uc_model.specs.PrintedSchedule.{HasShapeOf, cell_at};
 ghost use Rattle.uc_model.specs.Schedule.{renewable_count, thermal_count};
 ghost use Rattle.schedule_check.specs.SizedNumbers.{HasSizedNumbers, IsSized, IsSizedCell, output_at};
 ghost use Rattle.schedule_check.specs.inside.Failures.{IsFirstFailure};
-ghost use Rattle.schedule_check.specs.inside.WholeWatts.{demand_holds, reserve_holds, reserve_supply_at, row_of, supply_at, thermal_supply as thermal_supply_of};
+ghost use Rattle.schedule_check.specs.WholeWatts.{demand_holds, reserve_holds, reserve_supply_at, row_of, supply_at, thermal_supply as thermal_supply_of};
 
 use uc_model::{Cell, Instance, Printed, sum};
 
@@ -25,7 +25,7 @@ pub(crate) fn first_unbalanced(instance: &Instance, printed: &Printed) -> Option
     ensures { IsFirstFailure instance.now.periods (demand_holds instance.now printed.now) result }
 {
     for t in 0..instance.periods as usize {
-        if supply(instance, printed, t) != i128::from(instance.demand.as_slice()[t]) {
+        if !is_balanced(instance, printed, t) {
             return Some(t);
         }
     }
@@ -40,11 +40,33 @@ pub(crate) fn first_short_of_reserve(instance: &Instance, printed: &Printed) -> 
     ensures { IsFirstFailure instance.now.periods (reserve_holds instance.now printed.now) result }
 {
     for t in 0..instance.periods as usize {
-        if reserve(instance, printed, t) < i128::from(instance.reserves.as_slice()[t]) {
+        if !has_reserve(instance, printed, t) {
             return Some(t);
         }
     }
     None
+}
+
+// Whether the units' output in period t is demand.
+fn is_balanced(instance: &Instance, printed: &Printed, t: usize) -> bool
+    requires lawful { IsLawfulInstance instance.now }
+    requires shape { HasShapeOf instance.now printed.now }
+    requires sized { HasSizedNumbers printed.now }
+    requires period { t < instance.now.periods }
+    ensures { result ≡ demand_holds instance.now printed.now t }
+{
+    supply(instance, printed, t) == i128::from(instance.demand.as_slice()[t])
+}
+
+// Whether reserve in period t is at least what is required.
+fn has_reserve(instance: &Instance, printed: &Printed, t: usize) -> bool
+    requires lawful { IsLawfulInstance instance.now }
+    requires shape { HasShapeOf instance.now printed.now }
+    requires sized { HasSizedNumbers printed.now }
+    requires period { t < instance.now.periods }
+    ensures { result ≡ reserve_holds instance.now printed.now t }
+{
+    i128::from(instance.reserves.as_slice()[t]) <= reserve(instance, printed, t)
 }
 
 // What all units give in period t.
@@ -128,11 +150,16 @@ fn total_output(minimum: &i64, cell: &Cell) -> i128
     ensures value { result ≡ cell.now.p +ℤ minimum.now *ℤ bit cell.now.on }
     ensures size { unsigned_abs result ≤ MOST_OUTPUT }
 {
-    if cell.on {
-        i128::from(cell.p) + i128::from(*minimum)
-    } else {
-        i128::from(cell.p)
-    }
+    sum(wide(&cell.p), wide(&part(minimum, cell.on)))
+}
+
+// A unit's minimum where it is on, and else 0.
+fn part(minimum: &i64, on: bool) -> i64
+    requires { IsPower minimum.now }
+    ensures value { result ≡ minimum.now *ℤ bit on }
+    ensures size { IsPower result }
+{
+    if on { *minimum } else { 0 }
 }
 
 // What renewable unit w gives in period t.

@@ -1,6 +1,6 @@
 -- The part of the rise is no greater than the rise.
 use Rattle.std.proofs.Common.{◌-ℤ◌, ◌*ℤ◌, ◌≤ℤ◌, ◌<ℤ◌, ℤ, pos, arith}
-use Rattle.uc_model.proofs.Ring.{linear}
+use Rattle.uc_model.proofs.Ring.{linear, sub_nonneg}
 use Rattle.period_term.specs.inside.Places.{over_of, rise_of, run_of}
 use Rattle.uc_model.specs.Points.{output_of}
 use Rattle.std.proofs.Common.{suc}
@@ -14,13 +14,10 @@ returns-clause-size c =
     rise_down-size (c.args.prices.now.k *ℤ rise_of corners i) (over_of corners c.args.cap.now i) (run_of corners i)
     c.rise.result c.over.result c.run.result c.product-rising.result c.floor_div.result
     c.rise.ensures.value c.rise.ensures.size c.over.ensures.value c.over.ensures.size c.run.ensures.value c.run.ensures.size
-    (gap (output_of corners i) c.args.cap.now c.requires.begins) (within (output_of corners i) c.args.cap.now (output_of corners (suc i)) c.requires.reaches)
-    (wider (output_of corners i) c.args.cap.now (output_of corners (suc i)) c.requires.begins c.requires.reaches)
+    (sub_nonneg (output_of corners i) c.args.cap.now c.requires.segment.begins) (within (output_of corners i) c.args.cap.now (output_of corners (suc i)) c.requires.segment.reaches)
+    (wider (output_of corners i) c.args.cap.now (output_of corners (suc i)) c.requires.segment.begins c.requires.segment.reaches)
     c.product-rising.ensures c.floor_div.ensures
   where
-    gap : (x y : ℤ) → x ≤ℤ y → pos 0 ≤ℤ (y -ℤ x)
-    gap x y h = omega (arith, linear)
-
     within : (x y z : ℤ) → y <ℤ z → (y -ℤ x) ≤ℤ (z -ℤ x)
     within x y z h = omega (arith, linear)
 

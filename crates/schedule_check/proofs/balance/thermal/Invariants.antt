@@ -2,7 +2,7 @@
 use Rattle.std.proofs.Common.{◌≡◌, ◌*◌, ◌≤◌}
 use Rattle.std.specs.Prelude.{unsigned_abs}
 use Rattle.uc_model.specs.Sums.{sum_below}
-use Rattle.schedule_check.specs.inside.WholeWatts.{thermal_supply}
+use Rattle.schedule_check.specs.WholeWatts.{thermal_supply}
 use Rattle.schedule_check.specs.declared.balance.TheConstants.{MOST_OUTPUT}
 use Rattle.schedule_check.proofs.balance.thermal.Given as goal
 
