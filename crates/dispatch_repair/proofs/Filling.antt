@@ -12,7 +12,7 @@ use Rattle.cost_curves.specs.declared.slope.Slope.{Slope}
 use Rattle.cost_curves.proofs.Lines.{flatter_trans}
 use Rattle.dispatch_repair.specs.MeritOrder.{HasNextSlope}
 use Rattle.dispatch_repair.specs.inside.Amounts.{range_at, amount_at, thermal_amount}
-use Rattle.dispatch_repair.specs.inside.Filling.{IsLeft, IsOpen, end_of, IsFull, IsSpent, IsRaise, CostsUpTo, IsWorth, IsTaken, AddsUp, IsFilledTo}
+use Rattle.dispatch_repair.specs.inside.Filling.{IsOpen, end_of, IsFull, IsSpent, IsRaise, CostsUpTo, IsWorth, IsTaken, AddsUp, IsFilledTo}
 use Rattle.dispatch_repair.specs.inside.Segments.{comes_before, IsAtMost, source_at, source_count, segment_at, no_segment, IsSegmentOf, AreInMeritOrder}
 use Rattle.dispatch_repair.specs.declared.fill.Left.{Left}
 use Rattle.dispatch_repair.specs.declared.range.Range.{Range}

@@ -12,7 +12,7 @@ use Rattle.uc_model.specs.declared.instance.Thermal.{Thermal}
 use Rattle.uc_model.proofs.Ring.{one-mul, zero-mul}
 use Rattle.uc_model.specs.StartCategory.{category_cost}
 use Rattle.uc_model.specs.Schedule.{thermal_unit, thermal_count, renewable_count, reserve_at, no_unit}
-use Rattle.uc_model.specs.PrintedSchedule.{HasShapeOf, cell_at}
+use Rattle.uc_model.specs.PrintedSchedule.{cell_at}
 use Rattle.uc_model.specs.declared.instance.Instance.{Instance}
 use Rattle.uc_model.specs.declared.pattern.Pattern.{Pattern}
 use Rattle.uc_model.specs.declared.schedule.Cell.{Cell}

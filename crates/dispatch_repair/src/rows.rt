@@ -2,9 +2,9 @@
 
 ghost use Rattle.std.specs.Prelude.{◌≡◌, ℕ, ◌<◌, ◌≤◌, ◌-ℤ◌, false, All, IfOk, IsTrue, length, map, slice_set, take};
 ghost use Rattle.uc_model.specs.Commitment.{starts};
-ghost use Rattle.uc_model.specs.Limits.{IsLawfulInstance, IsLawfulThermal, IsPower};
 ghost use Rattle.uc_model.specs.PatternBits.{commitment_of};
 ghost use Rattle.uc_model.specs.Schedule.{thermal_count};
+ghost use Rattle.uc_model.specs.Limits.{IsLawfulInstance, IsLawfulThermal, IsPower};
 ghost use Rattle.uc_model.specs.StartCategory.{category_cost};
 ghost use Rattle.uc_model.specs.declared.instance.Instance.{Instance};
 ghost use Rattle.uc_model.specs.declared.pattern.Pattern.{Pattern};
