@@ -12,6 +12,7 @@ use Rattle.cost_curves.specs.LowerHull.{AreLawfulPoints, HullOfFirst, IsLowerHul
 use Rattle.cost_curves.specs.inside.Corners.{is_over, IsNext, Joins}
 use Rattle.cost_curves.specs.inside.Places.{HoldsOutput}
 use Rattle.cost_curves.proofs.JoinedCorners.{Covers, Tested, TestedLast, covers_start, covers_next, joins, next-from, hull_over, hull_joined, extended, outputs-le}
+use Rattle.cost_curves.proofs.Lines.{less_le}
 use Rattle.cost_curves.proofs.HullValues.{segment_is, output-first, whole_width, lawful_corners}
 use Rattle.cost_curves.proofs.FirstSegments.{first_segment-some, begins_at, reaches_at}
 
@@ -130,9 +131,6 @@ holds_output corners p lawful low high =
     (λ (none : p ≤ℤ pos 0). at_zero (length corners) refl (omega (arith, linear)))
     (cases_lt_le (pos 0) p)
   where
-    less_le : (x y : ℤ) → x <ℤ y → x ≤ℤ y
-    less_le x y h = omega (arith, linear)
-
     cases_lt_le : (x y : ℤ) → (x <ℤ y) ⊎ (y ≤ℤ x)
     cases_lt_le x y = ⊎_elim (λ (h : y ≤ℤ x). inr h) (λ (h : x <ℤ y). inl h) (le_or_lt y x)
 

@@ -13,6 +13,7 @@ use Rattle.cost_curves.specs.LowerHull.{IsLawfulPoint, AreLawfulCorners, IsAbove
 use Rattle.cost_curves.specs.LeastCost.{IsSegmentAt, IsLeftSlope, IsRightSlope}
 use Rattle.cost_curves.specs.inside.Places.{HoldsOutput}
 use Rattle.cost_curves.specs.declared.slope.Slope.{Slope}
+use Rattle.cost_curves.proofs.Lines.{sub_positive}
 use Rattle.cost_curves.proofs.JoinedCorners.{outputs-le}
 
 -- an output lies right of the low corner, and not right of the high one
@@ -94,15 +95,12 @@ line points corners whole i h =
 pub line-segment : (points corners : List Point) (i : ℕ) (line : Line points corners i) → IsTrue (is_hull_segment points line.left line.right)
 line-segment points corners i line =
     and_from (int_lt (pos 0) (run points line.left line.right)) (all_below (length points) (is_above_line points line.left line.right))
-    (lt-int_lt _ _ (subst (λ z. pos 0 <ℤ z) (sym (run_is points line.left line.right)) (wide _ _ line.rising)))
+    (lt-int_lt _ _ (subst (λ z. pos 0 <ℤ z) (sym (run_is points line.left line.right)) (sub_positive _ _ line.rising)))
     (all_below-from (length points) (is_above_line points line.left line.right)
     (λ l h. le-int_le _ _
     (subst (λ z. (rise points line.left line.right *ℤ run points line.left l) ≤ℤ (rise points line.left l *ℤ z)) (sym (run_is points line.left line.right))
     (subst (λ z. (rise points line.left line.right *ℤ z) ≤ℤ (rise points line.left l *ℤ ((point_of points line.right).mw -ℤ (point_of points line.left).mw)))
     (sym (run_is points line.left l)) (line.above l h)))))
-  where
-    wide : (x y : ℤ) → x <ℤ y → pos 0 <ℤ (y -ℤ x)
-    wide x y h = omega (arith, linear)
 
 pub segment_from : (points : List Point) (p : ℤ) (a b : ℕ) → IsTrue (is_hull_segment points a b || ((a == b) && is_hull_point points a))
     → output_of points a ≤ℤ p → p ≤ℤ output_of points b → IsTrue (segment_holds points 1 p a b)

@@ -7,12 +7,13 @@ use Rattle.uc_model.specs.Sums.{sum_below}
 use Rattle.uc_model.specs.Points.{point_of, output_of, weighted_cost}
 use Rattle.uc_model.specs.Hull.{run, rise}
 use Rattle.uc_model.specs.declared.instance.Point.{Point}
-use Rattle.uc_model.proofs.Ring.{linear, spread, mul_comm, mul_assoc, mul_left_comm, mul-sub, mul-zero, zero-mul, mul-one, le_from_mul, mul-le-mul_right, pos_of_nonneg, pos_nonneg}
+use Rattle.uc_model.proofs.Ring.{linear, sub_nonneg, spread, mul_comm, mul_assoc, mul_left_comm, mul-sub, mul-zero, zero-mul, mul-one, le_from_mul, mul-le-mul_right, pos_of_nonneg, pos_nonneg}
 use Rattle.uc_model.proofs.Sums.{sum_below-le, sum_below-sub, sum_below-mul_left, sum_below-single, sum_below-pair}
 use Rattle.uc_model.proofs.Quotients.{IsCeiling-least}
 use Rattle.cost_curves.specs.LowerHull.{IsLowerHull}
 use Rattle.cost_curves.specs.LeastCost.{CostsAtMost, IsLeastCostUp}
 use Rattle.cost_curves.specs.inside.Places.{HoldsOutput}
+use Rattle.cost_curves.proofs.Lines.{less_le, sub_positive}
 use Rattle.cost_curves.proofs.HullValues.{line, output_is, output-first, run_is}
 
 -- ---- weights on one point, and on two
@@ -47,14 +48,14 @@ pub line_reached : (points : List Point) (p n : ℤ) (a b : ℕ) → a < length 
 line_reached points p n a b ha hb rising begins reaches cost =
     let xa = output_of points a in
     let xb = output_of points b in
-    let left = pos_of_nonneg (xb -ℤ p) (gap p xb reaches) in
-    let right = pos_of_nonneg (p -ℤ xa) (gap xa p begins) in
-    let whole = pos_of_nonneg (xb -ℤ xa) (gap xa xb (less_le xa xb rising)) in
+    let left = pos_of_nonneg (xb -ℤ p) (sub_nonneg p xb reaches) in
+    let right = pos_of_nonneg (p -ℤ xa) (sub_nonneg xa p begins) in
+    let whole = pos_of_nonneg (xb -ℤ xa) (sub_nonneg xa xb (less_le xa xb rising)) in
     let apart : a ≢ b = λ e. level a b e rising in
     record {
       q = whole.0;
       weight = λ l. if l == a then left.0 else (if l == b then right.0 else 0);
-      positive = some whole.0 (xb -ℤ xa) whole.1 (wide xa xb rising);
+      positive = some whole.0 (xb -ℤ xa) whole.1 (sub_positive xa xb rising);
       total = pair_sum (length points) a b left.0 right.0 (λ l w. pos w) ha hb apart (λ l. refl)
           ∙ parts xa xb p (pos left.0) (pos right.0) (pos whole.0) left.1 right.1 whole.1;
       output = pair_sum (length points) a b left.0 right.0 (λ l w. output_of points l *ℤ pos w) ha hb apart (λ l. mul-zero (output_of points l))
@@ -67,15 +68,6 @@ line_reached points p n a b ha hb rising begins reaches cost =
           (line_cost (point_of points a).cost (point_of points b).cost (xb -ℤ xa) (p -ℤ xa) n cost)));
     }
   where
-    gap : (x y : ℤ) → x ≤ℤ y → pos 0 ≤ℤ (y -ℤ x)
-    gap x y h = omega (arith, linear)
-
-    wide : (x y : ℤ) → x <ℤ y → pos 0 <ℤ (y -ℤ x)
-    wide x y h = omega (arith, linear)
-
-    less_le : (x y : ℤ) → x <ℤ y → x ≤ℤ y
-    less_le x y h = omega (arith, linear)
-
     rest : (x y z : ℤ) → (y -ℤ x) -ℤ (z -ℤ x) ≡ y -ℤ z
     rest x y z = omega (arith, linear)
 
@@ -166,16 +158,10 @@ between_least points p n a b ha hb rising begins reaches above ceiling = record 
   reached = line_reached points p n a b ha hb rising begins reaches ceiling.above;
   least = λ m costs.
       cancel n m (point_of points a).cost (IsCeiling-least (rise points a b *ℤ (p -ℤ output_of points a)) (run points a b) (n -ℤ (point_of points a).cost) (m -ℤ (point_of points a).cost)
-      (broad _ _ rising) ceiling
-      (below_weights points p m (rise points a b) (run points a b) (output_of points a) (point_of points a).cost (wide _ _ rising) above costs));
+      (sub_positive _ _ rising) ceiling
+      (below_weights points p m (rise points a b) (run points a b) (output_of points a) (point_of points a).cost (sub_nonneg _ _ (less_le _ _ rising)) above costs));
 }
   where
-    wide : (x y : ℤ) → x <ℤ y → pos 0 ≤ℤ (y -ℤ x)
-    wide x y h = omega (arith, linear)
-
-    broad : (x y : ℤ) → x <ℤ y → pos 0 <ℤ (y -ℤ x)
-    broad x y h = omega (arith, linear)
-
     cancel : (n m c : ℤ) → (n -ℤ c) ≤ℤ (m -ℤ c) → n ≤ℤ m
     cancel n m c h = omega (arith, linear)
 

@@ -91,7 +91,7 @@ fn rise_up(left: &Point, right: &Point, over: &i64) -> i64
 }
 
 // The places of a segment's ends among the corners.
-#[derive(Clone, Copy, Debug)]
+#[derive(Clone, Copy)]
 struct Ends {
     left: usize,
     right: usize,

@@ -1,5 +1,5 @@
 -- The turns of the drop pass.
-use Rattle.std.proofs.Common.{◌≡◌, ◌∙◌, ⊎_elim, ℕ, zero, suc, ◌<ℤ◌, false, true, List, get_or, set, length-set, inl, inr, refl, sym, subst, ap, arith, ℤ}
+use Rattle.std.proofs.Common.{◌≡◌, ◌⊎◌, ◌∙◌, ⊎_elim, ℕ, zero, suc, ◌<ℤ◌, false, true, List, get_or, set, length-set, inl, inr, refl, sym, subst, ap, arith, ℤ}
 use Rattle.std.specs.Prelude.{IsTrue, int_lt, nat_lt}
 use Rattle.std.proofs.lemmas.Bool.{cases_Bool, ltb-true}
 use Rattle.std.proofs.lemmas.List.{set-get_or}
@@ -9,7 +9,7 @@ use Rattle.uc_model.specs.Schedule.{thermal_count}
 use Rattle.uc_model.specs.declared.instance.Instance.{Instance}
 use Rattle.uc_model.specs.declared.pattern.Pattern.{Pattern}
 use Rattle.dispatch_repair.specs.MostOn.{AreMostOn}
-use Rattle.decommitment.specs.DropCommitment.{Ending, Dispatched, StuckIn, IsDropPass, IsEndingOf, IsFewestOnOf, is_better}
+use Rattle.decommitment.specs.DropCommitment.{Ending, Dispatched, StuckIn, IsDropPass, IsEndingOf, IsFewestOnOf, IsTaken, is_better}
 use Rattle.decommitment.specs.declared.pass.Standing.{Standing}
 use Rattle.decommitment.specs.declared.pass.Standing.TheVariants as standing
 use Rattle.decommitment.specs.declared.trial.Trial.{Trial}
@@ -29,24 +29,6 @@ accepted instance patterns (trial.Dispatched printed cost) h = h.accepted
 accepted instance patterns (trial.Stuck stuck) h = tt
 
 -- ---- the most-on commitment
-pub first_dropped : (instance : Instance) (patterns : List Pattern) (tried : Trial) (first : Standing) → AreMostOn instance patterns
-    → IsTrialOf instance patterns tried → IsFirstOf tried first → IsDroppedBelow instance 0 patterns first
-first_dropped instance patterns (trial.Dispatched printed cost) first most h is =
-    subst (IsDroppedBelow instance 0 patterns) (sym is)
-    (record {
-      count = most.count;
-      passed = (most, ended instance patterns (trial.Dispatched printed cost) h);
-      accepted = h.accepted;
-      most_on = tt;
-    })
-first_dropped instance patterns (trial.Stuck stuck) first most h is =
-    subst (IsDroppedBelow instance 0 patterns) (sym is)
-    (record {
-      count = most.count;
-      passed = (most, ended instance patterns (trial.Stuck stuck) h);
-      accepted = tt;
-      most_on = record { patterns = patterns; most_on = most; stuck_by = h };
-    })
 
 -- ---- a turn
 -- a number isn't below itself
@@ -77,6 +59,19 @@ ending_is instance (suc n) patterns ending passed = ⊎_elim
     (subst (IsEndingOf instance passed.former) (sym worse.1.end) (ending_is instance n passed.former passed.stood passed.before)))
     passed.turn.taken
 
+-- a turn more
+passed_turn : (instance : Instance) (g : ℕ) (former patterns : List Pattern) (stood ending tried : Ending) (fewest : Pattern)
+    → IsDropPass instance g former stood → IsFewestOnOf instance g fewest → IsEndingOf instance (set former g fewest) tried
+    → (IsTrue (is_better tried stood) × IsTaken (set former g fewest) patterns tried ending)
+    ⊎ ((is_better tried stood ≡ false) × IsTaken former patterns stood ending)
+    → IsDropPass instance (suc g) patterns ending
+passed_turn instance g former patterns stood ending tried fewest before few is taken = record {
+  former = former;
+  stood = stood;
+  before = before;
+  turn = record { fewest = fewest; is_fewest = few; tried = tried; is_tried = is; taken = taken };
+}
+
 -- the unit has its pattern with the fewest on periods already, so that it is tried with no change
 pub turn_spared : (instance : Instance) (g : ℕ) (patterns : List Pattern) (standing : Standing) (fewest : Pattern)
     → IsDroppedBelow instance g patterns standing → IsFewestOnOf instance g fewest → fewest ≡ get_or patterns g fewest
@@ -85,18 +80,9 @@ turn_spared instance g patterns standing fewest h few same =
     let unchanged : set patterns g fewest ≡ patterns = ap (set patterns g) same ∙ set-get_or patterns g fewest in
     record {
       count = h.count;
-      passed = record {
-        former = patterns;
-        stood = ending_of standing;
-        before = h.passed;
-        turn = record {
-          fewest = fewest;
-          is_fewest = few;
-          tried = ending_of standing;
-          is_tried = subst (λ p. IsEndingOf instance p (ending_of standing)) (sym unchanged) (ending_is instance g patterns (ending_of standing) h.passed);
-          taken = inr (not_better (ending_of standing), record { commitment = refl; end = refl });
-        };
-      };
+      passed = passed_turn instance g patterns patterns (ending_of standing) (ending_of standing) (ending_of standing) fewest h.passed few
+          (subst (λ p. IsEndingOf instance p (ending_of standing)) (sym unchanged) (ending_is instance g patterns (ending_of standing) h.passed))
+          (inr (not_better (ending_of standing), record { commitment = refl; end = refl }));
       accepted = h.accepted;
       most_on = h.most_on;
     }
@@ -107,18 +93,8 @@ pub turn_stays : (instance : Instance) (g : ℕ) (patterns : List Pattern) (stan
     → is_better (ending_of_trial tried) (ending_of standing) ≡ false → IsDroppedBelow instance (suc g) patterns standing
 turn_stays instance g patterns standing fewest tried h few is worse = record {
   count = h.count;
-  passed = record {
-    former = patterns;
-    stood = ending_of standing;
-    before = h.passed;
-    turn = record {
-      fewest = fewest;
-      is_fewest = few;
-      tried = ending_of_trial tried;
-      is_tried = ended instance (set patterns g fewest) tried is;
-      taken = inr (worse, record { commitment = refl; end = refl });
-    };
-  };
+  passed = passed_turn instance g patterns patterns (ending_of standing) (ending_of standing) (ending_of_trial tried) fewest h.passed few
+      (ended instance (set patterns g fewest) tried is) (inr (worse, record { commitment = refl; end = refl }));
   accepted = h.accepted;
   most_on = h.most_on;
 }
@@ -143,28 +119,8 @@ turn_replaces instance g patterns former after fewest tried h few is better repl
     let end = replaced_end tried former after replaced in
     record {
       count = length-set patterns g fewest ∙ h.count;
-      passed = record {
-        former = patterns;
-        stood = ending_of former;
-        before = h.passed;
-        turn = record {
-          fewest = fewest;
-          is_fewest = few;
-          tried = ending_of_trial tried;
-          is_tried = ended instance (set patterns g fewest) tried is;
-          taken = inl (better, record { commitment = refl; end = end });
-        };
-      };
+      passed = passed_turn instance g patterns (set patterns g fewest) (ending_of former) (ending_of after) (ending_of_trial tried) fewest h.passed few
+          (ended instance (set patterns g fewest) tried is) (inl (better, record { commitment = refl; end = end }));
       accepted = subst (IsAcceptedEnding instance) (sym end) (accepted instance (set patterns g fewest) tried is);
       most_on = replaced_kept instance tried former after replaced h.most_on;
     }
-
--- after the turns of all units
-pub all_dropped : (instance : Instance) (n : ℕ) (patterns : List Pattern) (standing : Standing) → n ≡ thermal_count instance
-    → IsDroppedBelow instance n patterns standing → IsDropped instance standing
-all_dropped instance n patterns standing all h = record {
-  patterns = patterns;
-  drop = record { passed = subst (λ k. IsDropPass instance k patterns (ending_of standing)) all h.passed };
-  accepted = h.accepted;
-  most_on = h.most_on;
-}

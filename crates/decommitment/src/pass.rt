@@ -4,7 +4,7 @@ ghost use Rattle.std.specs.Prelude.{◌≡◌, ◌<◌, IfOk, IsTrue, suc};
 ghost use Rattle.uc_model.specs.Limits.{IsLawfulInstance};
 ghost use Rattle.uc_model.specs.Schedule.{thermal_count};
 ghost use Rattle.dispatch_repair.specs.MostOn.{AreMostOn};
-ghost use Rattle.dispatch_repair.specs.inside.Amounts.{IsRoomOf};
+ghost use Rattle.dispatch_repair.specs.Rooms.{IsRoomOf};
 ghost use Rattle.decommitment.specs.DropCommitment.{IsFewestOnOf, is_better as is_better_ending};
 ghost use Rattle.dual_model.specs.Tree.{HasEachPattern};
 ghost use Rattle.decommitment.specs.Standings.{ending_of, IsDropped};

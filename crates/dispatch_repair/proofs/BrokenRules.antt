@@ -9,9 +9,9 @@ use Rattle.uc_model.specs.declared.instance.Instance.{Instance}
 use Rattle.uc_model.specs.declared.pattern.Pattern.{Pattern}
 use Rattle.uc_model.specs.declared.schedule.Cell.{Cell}
 use Rattle.dual_model.proofs.Locality.{SameBelow}
-use Rattle.schedule_check.specs.inside.CommitmentRules as of_row
-use Rattle.schedule_check.specs.inside.CommitmentRules.{RowKeeps}
-use Rattle.schedule_check.specs.inside.WholeWatts.{commitment, rule_of}
+use Rattle.schedule_check.specs.CommitmentRules as of_row
+use Rattle.schedule_check.specs.CommitmentRules.{RowKeeps}
+use Rattle.schedule_check.specs.WholeWatts.{commitment, rule_of}
 use Rattle.schedule_check.proofs.RuleOrder.{of_first}
 use Rattle.schedule_check.proofs.CommitmentOrder.{turn, turn_of, on_commitments}
 use Rattle.dispatch_repair.specs.Period.{commitment_at}

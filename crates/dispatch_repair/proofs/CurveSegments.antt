@@ -14,11 +14,12 @@ use Rattle.cost_curves.specs.LowerHull.{IsLowerHull}
 use Rattle.cost_curves.specs.LeastCost.{IsRightSlope}
 use Rattle.cost_curves.specs.declared.slope.Slope.{Slope}
 use Rattle.cost_curves.proofs.HullValues.{line, line-segment, output_is, whole_width}
+use Rattle.cost_curves.proofs.Lines.{sub_positive}
+use Rattle.cost_curves.proofs.Slopes.{slopes_rise}
 use Rattle.dispatch_repair.specs.Period.{FromRenewable, FromThermal}
 use Rattle.dispatch_repair.specs.MeritOrder.{HasNextSlope}
 use Rattle.dispatch_repair.specs.inside.Segments.{IsAtMost, free_segment, corner_segment, IsSegmentOf, IsNextOn, IsCovered, AreSegmentsOf, source_at, width_at}
 use Rattle.dispatch_repair.specs.declared.segment.Segment.{Segment}
-use Rattle.dispatch_repair.proofs.Slopes.{slopes_rise}
 
 -- ---- places of sources
 pub renewable_at : (instance : Instance) (w : ℕ) → w < renewable_count instance → source_at instance w ≡ FromRenewable w
@@ -33,8 +34,6 @@ thermal_at instance g =
     back m n = omega arith
 
 -- ---- a segment more
-pub none_yet : (instance : Instance) → AreSegmentsOf instance 0 []
-none_yet instance = record { each = λ k d h. absurd (omega (arith, h)); covered = λ m h. absurd (omega (arith, h)) }
 
 alone : {A : Type 0} (P : A → Type 0) (a : A) → P a → All P (a ∷ [])
 alone P a h = All-cons P a [] h (All-nil P)
@@ -100,7 +99,7 @@ between points corners n i whole h =
     let running : (point_of corners (suc i)).mw -ℤ (point_of corners i).mw ≡ run points its.left its.right =
     (λ t. (its.right_is t).mw -ℤ (its.left_is t).mw) ∙ apart (point_of points its.right).mw (point_of points its.left).mw (point_of points 0).mw in
     record {
-      wide = wide (point_of corners i).mw (point_of corners (suc i)).mw (whole.hull.rising i h);
+      wide = sub_positive (point_of corners i).mw (point_of corners (suc i)).mw (whole.hull.rising i h);
       below = λ amount other less is.
           at_most_by other _ rising running is.segment.rise is.segment.run
           (slopes_rise points its.left its.right is.left is.right its.right_within is.segment.left_within hull is.segment.segment
@@ -111,9 +110,6 @@ between points corners n i whole h =
           (second (output_of points its.left) (output_of corners i) amount (output_of points is.right) left least is.reaches));
     }
   where
-    wide : (x y : ℤ) → x <ℤ y → pos 0 <ℤ (y -ℤ x)
-    wide x y h = omega (arith, linear)
-
     apart : (x y z : ℤ) → x -ℤ y ≡ (x -ℤ z) -ℤ (y -ℤ z)
     apart x y z = omega (arith, linear)
 
@@ -135,17 +131,6 @@ pub record ArePushed (instance : Instance) (n : ℕ) (corners : List Point) (i :
   pub covered : (m : ℕ) → m < n → IsCovered instance segments m
   pub reached : (amount : ℤ) → pos 0 ≤ℤ amount → amount <ℤ output_of corners i
       → (segment : Segment) × Contains segments segment × IsNextOn instance n amount segment
-
-pub pushed_none : (instance : Instance) (n : ℕ) (corners : List Point) (segments : List Segment) → AreSegmentsOf instance n segments
-    → ArePushed instance n corners 0 segments
-pushed_none instance n corners segments are = record {
-  each = are.each;
-  covered = are.covered;
-  reached = λ amount low high. absurd (nothing amount (point_of corners 0).mw low high);
-}
-  where
-    nothing : (a x : ℤ) → pos 0 ≤ℤ a → a <ℤ (x -ℤ x) → ⊥
-    nothing a x h k = omega (arith, linear)
 
 pub pushed_more : (instance : Instance) (g i : ℕ) (corners : List Point) (segments : List Segment) → g < thermal_count instance
     → IsLowerHull (thermal_unit instance g).points corners → suc i < length corners

@@ -12,7 +12,7 @@ use Rattle.cost_curves.specs.declared.slope.Slope.{Slope}
 use Rattle.cost_curves.proofs.Lines.{flatter_trans}
 use Rattle.dispatch_repair.specs.MeritOrder.{HasNextSlope}
 use Rattle.dispatch_repair.specs.inside.Amounts.{range_at, amount_at, thermal_amount}
-use Rattle.dispatch_repair.specs.inside.Filling.{IsLeft, IsOpen, end_of, IsFull, IsSpent, IsRaise, CostsUpTo, IsWorth, IsTaken, AddsUp, IsFilledTo}
+use Rattle.dispatch_repair.specs.inside.Filling.{IsOpen, end_of, IsFull, IsSpent, IsRaise, CostsUpTo, IsWorth, IsTaken, AddsUp, IsFilledTo}
 use Rattle.dispatch_repair.specs.inside.Segments.{comes_before, IsAtMost, source_at, source_count, segment_at, no_segment, IsSegmentOf, AreInMeritOrder}
 use Rattle.dispatch_repair.specs.declared.fill.Left.{Left}
 use Rattle.dispatch_repair.specs.declared.range.Range.{Range}
@@ -329,35 +329,3 @@ step instance order ranges start i old new before after are hi ends runs was rai
       where
         last : (k : ℕ) → k < suc i → i ≤ k → i ≡ k
         last k a b = omega arith
-
--- ---- before the first segment
-pub filled_none : (instance : Instance) (order : List Segment) (ranges : List Range) (start : Left) (amounts : List ℤ) → length amounts ≡ source_count instance
-    → ((n : ℕ) → n < source_count instance → IsOpen instance n (range_at ranges n))
-    → ((n : ℕ) → n < source_count instance → amount_at amounts n ≡ (range_at ranges n).low) → IsLeft start
-    → IsFilledTo instance order ranges start 0 amounts start
-filled_none instance order ranges start amounts count ends lows left = record {
-  count = count;
-  low = λ n h. level (range_at ranges n).low (amount_at amounts n) (lows n h);
-  high = λ n h. below (amount_at amounts n) (range_at ranges n).low (range_at ranges n).high (lows n h) (ends n h).order;
-  sums = record {
-    need = ap (λ z. start.need +ℤ z) (sum_below-same (source_count instance) (amount_at amounts) (λ n. (range_at ranges n).low) lows);
-    room = ap (λ z. start.room +ℤ z) (sum_below-same (thermal_count instance) (thermal_amount instance amounts) (λ g. (range_at ranges (renewable_count instance + g)).low)
-        (λ g hg. lows (renewable_count instance + g) (inside (renewable_count instance) g (thermal_count instance) hg)));
-  };
-  left = left;
-  spent = λ j h. absurd (omega (arith, h));
-  merit = λ j h. absurd (omega (arith, h));
-  ahead = λ j h hj n watt taken. absurd (nothing (amount_at amounts n) (range_at ranges n).low watt (lows n taken.source) taken.low taken.high);
-}
-  where
-    level : (a b : ℤ) → b ≡ a → a ≤ℤ b
-    level a b e = omega (arith, linear)
-
-    below : (a l h : ℤ) → a ≡ l → l ≤ℤ h → a ≤ℤ h
-    below a l h e k = omega (arith, linear)
-
-    inside : (w k n : ℕ) → k < n → w + k < w + n
-    inside w k n h = omega arith
-
-    nothing : (a l w : ℤ) → a ≡ l → l ≤ℤ w → w <ℤ a → ⊥
-    nothing a l w e h k = omega (arith, linear)

@@ -83,31 +83,22 @@ module _ (period : Period) (q : ℕ) (x : Schedule) (goes : Goes period q x) whe
       (λ g. pos q *ℤ (thermal_unit period.instance g).pmin *ℤ bit ((x.thermal g).on period.t)) in
       omega (arith, linear, supply, parts, minimums-is)
 
+  -- q times what all give together
+  scaled_total : (f : Source → ℤ) → pos q *ℤ total_output period f
+      ≡ pos q *ℤ minimums period +ℤ pos q *ℤ thermal_sum period f +ℤ pos q *ℤ renewable_sum period f
+  scaled_total f =
+      mul-add (pos q) (minimums period +ℤ thermal_sum period f) (renewable_sum period f)
+      ∙ ap (λ z. z +ℤ pos q *ℤ renewable_sum period f) (mul-add (pos q) (minimums period) (thermal_sum period f))
+
   not_over : total_output period (low_of period) ≤ℤ demand_of period
   not_over =
       le_from_mul (pos q) _ _ (omega (arith, linear, goes.some))
-      (omega (
-        arith,
-        linear,
-        mul-add (pos q) (minimums period +ℤ thermal_sum period (low_of period)) (renewable_sum period (low_of period)),
-        mul-add (pos q) (minimums period) (thermal_sum period (low_of period)),
-        least_thermal,
-        least_renewable,
-        balance,
-      ))
+      (omega (arith, linear, scaled_total (low_of period), least_thermal, least_renewable, balance))
 
   not_under : demand_of period ≤ℤ total_output period (high_of period)
   not_under =
       le_from_mul (pos q) _ _ (omega (arith, linear, goes.some))
-      (omega (
-        arith,
-        linear,
-        mul-add (pos q) (minimums period +ℤ thermal_sum period (high_of period)) (renewable_sum period (high_of period)),
-        mul-add (pos q) (minimums period) (thermal_sum period (high_of period)),
-        most_thermal,
-        most_renewable,
-        balance,
-      ))
+      (omega (arith, linear, scaled_total (high_of period), most_thermal, most_renewable, balance))
 
   -- ---- reserve
   -- a unit's output and reserve are at most q times its head

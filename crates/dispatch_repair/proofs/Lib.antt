@@ -1,4 +1,3 @@
-pub mod Slopes
 pub mod MeritSegments
 pub mod Numbers
 pub mod CurveSegments

@@ -18,7 +18,7 @@ use Rattle.uc_model.proofs.Sums.{sum_below-same, sum_below-add}
 use Rattle.uc_model.proofs.Tests.{le-int_le, eq-int_eq}
 use Rattle.dual_model.proofs.Locality.{SameBelow, starts-same, cap-same, category_allowed-same}
 use Rattle.schedule_check.specs.FirstBroken.{HoldsThroughout}
-use Rattle.schedule_check.specs.inside.WholeWatts as whole
+use Rattle.schedule_check.specs.WholeWatts as whole
 use Rattle.schedule_check.proofs.Produced.{holds_to}
 use Rattle.schedule_check.proofs.CommitmentOrder.{turn, on_commitments}
 use Rattle.schedule_check.proofs.FirstPlaces.{watts, obeys_stands}

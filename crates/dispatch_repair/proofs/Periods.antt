@@ -12,7 +12,7 @@ use Rattle.uc_model.specs.declared.instance.Thermal.{Thermal}
 use Rattle.uc_model.proofs.Ring.{one-mul, zero-mul}
 use Rattle.uc_model.specs.StartCategory.{category_cost}
 use Rattle.uc_model.specs.Schedule.{thermal_unit, thermal_count, renewable_count, reserve_at, no_unit}
-use Rattle.uc_model.specs.PrintedSchedule.{HasShapeOf, cell_at}
+use Rattle.uc_model.specs.PrintedSchedule.{cell_at}
 use Rattle.uc_model.specs.declared.instance.Instance.{Instance}
 use Rattle.uc_model.specs.declared.pattern.Pattern.{Pattern}
 use Rattle.uc_model.specs.declared.schedule.Cell.{Cell}
@@ -26,7 +26,8 @@ use Rattle.dispatch_repair.specs.Period.{Period, Source, FromRenewable, FromTher
 use Rattle.dispatch_repair.specs.MeritOrder.{IsInMeritOrder}
 use Rattle.dispatch_repair.specs.Dispatch.{HasPeriods, IsCommittedCell, amounts, period_after, IsFilling, IsFilled, IsDispatchThrough}
 use Rattle.dispatch_repair.specs.Stuck.{IsRegular, IsFirstBrokenRule, IsStuckInPeriod, IsFirstObstacle, stuck_period, IsStuckBy, IsStuckOf, IsDispatchFault}
-use Rattle.dispatch_repair.specs.inside.Amounts.{amount_at, amount_of, thermal_amount, IsRoomOf, IsSizedOutput}
+use Rattle.dispatch_repair.specs.Rooms.{IsRoomOf}
+use Rattle.dispatch_repair.specs.inside.Amounts.{amount_at, amount_of, thermal_amount, IsSizedOutput}
 use Rattle.dispatch_repair.specs.inside.Filled.{IsDispatchedFrom}
 use Rattle.dispatch_repair.specs.inside.Progress.{AreBefore, AreFilledBelow, IsStuckIn, IsStuckAfter}
 use Rattle.dispatch_repair.specs.inside.Rows.{AreCommitted, AreSameBut, IsWritten, AreSameBelow}
@@ -201,9 +202,6 @@ next_filled instance patterns t old new was is below within room shape dispatche
 pub through : (instance : Instance) (patterns : List Pattern) (printed : Printed) (room : Room) → AreFilledBelow instance patterns instance.periods printed room
     → IsDispatchThrough instance patterns instance.periods printed
 through instance patterns printed room below = record { shape = below.committed.shape; filled = below.filled }
-
-pub whole_shape : (instance : Instance) (printed : Printed) → HasPeriods instance instance.periods printed → HasShapeOf instance printed
-whole_shape instance printed shape = record { thermal = shape.thermal; cells = shape.cells; renewable = shape.renewable; outputs = shape.outputs }
 
 -- stuck in period t, after those before it
 pub stuck_period_is : (instance : Instance) (patterns : List Pattern) (t : ℕ) (printed : Printed) (room : Room) (reason : Why) (stuck : Stuck)

@@ -1,9 +1,8 @@
 -- The numbers of a dispatch are plain: a unit's output and reserve stay within its range, which the limits on an instance bound.
 -- Cite by `use Rattle.dispatch_repair.proofs.Plain.{plain}`.
-use Rattle.std.proofs.Common.{◌≡◌, ℕ, ◌<◌, ◌≤◌, ⊎_elim, Bool, true, false, not, sym, subst, ◌∙◌, arith, refl, List, [], length, get_or, ℤ, pos, ◌+ℤ◌, ◌-ℤ◌, ◌*ℤ◌, ◌≤ℤ◌}
+use Rattle.std.proofs.Common.{◌≡◌, ℕ, ◌<◌, ◌≤◌, ⊎_elim, Bool, true, false, not, sym, ◌∙◌, arith, List, [], length, get_or, ℤ, pos, ◌+ℤ◌, ◌-ℤ◌, ◌*ℤ◌, ◌≤ℤ◌}
 use Rattle.std.specs.Prelude.{IsTrue, All}
-use Rattle.std.proofs.lemmas.Bool.{cases_lt, cases_Bool, and_right}
-use Rattle.std.proofs.lemmas.List.{get_or_past}
+use Rattle.std.proofs.lemmas.Bool.{cases_Bool, and_right}
 use Rattle.std.proofs.lemmas.List.Elements.{All-get_or}
 use Rattle.uc_model.specs.Sums.{bit}
 use Rattle.uc_model.specs.Commitment.{was_on, starts}
@@ -13,11 +12,10 @@ use Rattle.uc_model.specs.Limits.{IsLimit, IsLawfulInstance}
 use Rattle.uc_model.specs.declared.instance.Instance.{Instance}
 use Rattle.uc_model.specs.declared.limits.TheConstants.{MAX_START_ROWS}
 use Rattle.uc_model.specs.declared.pattern.Pattern.{Pattern}
-use Rattle.uc_model.specs.declared.schedule.Cell.{Cell}
 use Rattle.uc_model.specs.declared.schedule.Printed.{Printed}
 use Rattle.uc_model.proofs.Ring.{linear, mul-one, mul-zero, le_trans}
 use Rattle.schedule_check.specs.SizedNumbers.{output_at}
-use Rattle.schedule_check.proofs.Plain.{power_below}
+use Rattle.schedule_check.proofs.Plain.{power_below, plain as plain_everywhere}
 use Rattle.schedule_check.proofs.Priced.{allowed-within}
 use Rattle.dispatch_repair.specs.Period.{FromRenewable, commitment_at}
 use Rattle.dispatch_repair.specs.Dispatch.{IsFilled, IsDispatchThrough}
@@ -77,44 +75,18 @@ module _ (instance : Instance) (patterns : List Pattern) (printed : Printed) (t 
         power = power_below _ (renewable_maximum instance w t) low (filled.merit.high (FromRenewable w) hw) ((lawful.renewable w hw).maximum t ht);
       }
 
--- ---- past the schedule
-abbrev no_cell : Cell
-no_cell = record { on = false; p = pos 0; r = pos 0; category = 0 }
-
-no_cell-plain : IsPlainCell no_cell
-no_cell-plain = record {
-  output = omega (arith, linear);
-  reserve = omega (arith, linear);
-  total = omega arith;
-  category = omega arith;
-  off = λ e. record { output = refl; reserve = refl; category = refl };
-}
-
-no_output-plain : IsLimit (pos 0)
-no_output-plain = record { low = omega (arith, linear); power = omega arith }
-
--- what holds of each entry of a table with rows of one length, and of what stands for one past them, holds everywhere
-everywhere : {X : Type 0} (P : X → Type 0) (rows : List (List X)) (count width : ℕ) (past : X) → length rows ≡ count
-    → All (λ row. length row ≡ width) rows → P past
-    → ((i j : ℕ) → i < count → j < width → P (get_or (get_or rows i []) j past)) → (i j : ℕ) → P (get_or (get_or rows i []) j past)
-everywhere P rows count width past rows-is width-is none each i j =
-    ⊎_elim
-    (λ (row : i < count).
-    let length-is : length (get_or rows i []) ≡ width = All-get_or (λ row. length row ≡ width) rows i [] (omega arith) width-is in
-    ⊎_elim
-    (λ (place : j < width). each i j row place)
-    (λ (after : width ≤ j). subst P (sym (get_or_past (get_or rows i []) j past (omega arith))) none)
-    (cases_lt j width))
-    (λ (after : count ≤ i).
-    subst (λ row. P (get_or row j past)) (sym (get_or_past rows i [] (omega arith))) (subst P (sym (get_or_past [] j past (omega arith))) none))
-    (cases_lt i count)
-
 -- ---- the whole
 pub plain : (instance : Instance) (patterns : List Pattern) (periods : ℕ) (printed : Printed) → IsLawfulInstance instance
     → periods ≤ instance.periods → IsDispatchThrough instance patterns periods printed → HasPlainNumbers printed
-plain instance patterns periods printed lawful within dispatch = record {
-  cells = everywhere IsPlainCell printed.thermal (thermal_count instance) periods no_cell dispatch.shape.thermal dispatch.shape.cells no_cell-plain
-      (λ g t hg ht. cell_plain instance patterns printed t lawful (dispatch.filled t ht) g hg);
-  outputs = everywhere IsLimit printed.renewable (renewable_count instance) periods (pos 0) dispatch.shape.renewable dispatch.shape.outputs no_output-plain
-      (λ w t hw ht. output_plain instance patterns printed t lawful (dispatch.filled t ht) (omega arith) w hw);
-}
+plain instance patterns periods printed lawful within dispatch =
+    plain_everywhere printed
+    (λ g t row place.
+    let before = inside printed.thermal g t dispatch.shape.cells row place in
+    cell_plain instance patterns printed t lawful (dispatch.filled t before) g (omega (arith, row, dispatch.shape.thermal)))
+    (λ w t row place.
+    let before = inside printed.renewable w t dispatch.shape.outputs row place in
+    output_plain instance patterns printed t lawful (dispatch.filled t before) (omega (arith, before, within)) w (omega (arith, row, dispatch.shape.renewable)))
+  where
+    inside : {X : Type 0} (rows : List (List X)) (i j : ℕ) → All (λ row. length row ≡ periods) rows → i < length rows → j < length (get_or rows i [])
+        → j < periods
+    inside rows i j each row place = omega (arith, place, All-get_or (λ row. length row ≡ periods) rows i [] row each)

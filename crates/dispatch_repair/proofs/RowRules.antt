@@ -10,8 +10,8 @@ use Rattle.uc_model.specs.declared.instance.Thermal.{Thermal}
 use Rattle.uc_model.specs.declared.pattern.Pattern.{Pattern}
 use Rattle.uc_model.specs.declared.schedule.Cell.{Cell}
 use Rattle.dual_model.proofs.Locality.{SameBelow, starts-same, stops-same, keeps_minimum-same, initial_stop-same}
-use Rattle.schedule_check.specs.inside.CommitmentRules.{RowKeeps}
-use Rattle.schedule_check.specs.inside.WholeWatts.{commitment, rule_of, unit_holds, unit_periods}
+use Rattle.schedule_check.specs.CommitmentRules.{RowKeeps}
+use Rattle.schedule_check.specs.WholeWatts.{commitment, rule_of, unit_holds, unit_periods}
 use Rattle.schedule_check.proofs.CommitmentOrder.{turn}
 use Rattle.dispatch_repair.specs.Period.{commitment_at}
 use Rattle.dispatch_repair.specs.Stuck.{KeepsRule, committed}

@@ -2,5 +2,6 @@ pub mod Period
 pub mod MeritOrder
 pub mod Dispatch
 pub mod Stuck
+pub mod Rooms
 pub mod inside
 pub mod MostOn

@@ -12,7 +12,7 @@ use crate::segment::Segment;
 use uc_model::Instance;
 
 /// What is left to give: to meet demand, and by the thermal units within their limit.
-#[derive(Clone, Copy, Debug)]
+#[derive(Clone, Copy)]
 pub(crate) struct Left {
     pub need: i64,
     pub room: i64,

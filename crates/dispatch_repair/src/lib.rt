@@ -21,3 +21,4 @@ pub use extreme_patterns::{fewest_of, most_of};
 pub use most_on_commitment::{MostFault, most_on};
 pub use room::Room;
 pub use schedule::{DispatchFault, dispatch, dispatch_in};
+pub use uc_model::Stuck;

@@ -28,15 +28,23 @@ fn segments(alloc: Global, instance: &Instance) -> Result<Vec<Segment>, NoMemory
     requires { IsLawfulInstance instance.now }
     ensures { IfOk result (λ all. AreSegmentsOf instance.now (source_count instance.now) all.items) }
 {
-    let mut segments = Vec::new(alloc);
-    for w in 0..instance.renewable.as_slice().len() {
-        segments.push(free(w))?;
-    }
+    let mut segments = free_segments(alloc, instance)?;
     let renewables = instance.renewable.as_slice().len();
     let units = instance.thermal.as_slice();
     for g in 0..units.len() {
         let curve = Curve::of(alloc, units[g].points.as_slice())?;
         push_curve(&mut segments, renewables + g, curve.corners())?;
+    }
+    Ok(segments)
+}
+
+// The segments of the renewable units.
+fn free_segments(alloc: Global, instance: &Instance) -> Result<Vec<Segment>, NoMemory>
+    ensures { IfOk result (λ all. AreSegmentsOf instance.now (renewable_count instance.now) all.items) }
+{
+    let mut segments = Vec::new(alloc);
+    for w in 0..instance.renewable.as_slice().len() {
+        segments.push(free(w))?;
     }
     Ok(segments)
 }

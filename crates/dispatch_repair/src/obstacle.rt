@@ -15,7 +15,7 @@ use uc_model::Why;
 use uc_model::limits::{MAX_POWER, MAX_UNITS};
 
 /// The sums over a period's sources, in watts.
-#[derive(Clone, Copy, Debug)]
+#[derive(Clone, Copy)]
 pub(crate) struct Totals {
     /// The minimums of the units that are on.
     pub minimums: i64,

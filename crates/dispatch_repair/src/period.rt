@@ -1,6 +1,6 @@
 //! The dispatch of one period, from the one before.
 
-ghost use Rattle.std.specs.Prelude.{◌≡◌, ℕ, ◌*◌, ◌<◌, ◌≤◌, pos, ◌-ℤ◌, unsigned_abs, length, MatchOption};
+ghost use Rattle.std.specs.Prelude.{◌≡◌, ℕ, ℤ, ◌*◌, ◌<◌, ◌≤◌, pos, ◌-ℤ◌, unsigned_abs, length, MatchOption, MatchResult};
 ghost use Rattle.std.specs.Int.{int_max};
 ghost use Rattle.uc_model.specs.Commitment.{initial_p};
 ghost use Rattle.uc_model.specs.Limits.{IsLawfulInstance, IsPower};
@@ -9,9 +9,10 @@ ghost use Rattle.uc_model.specs.Schedule.{renewable_count, thermal_count, therma
 ghost use Rattle.dispatch_repair.specs.Dispatch.{period_after};
 ghost use Rattle.dispatch_repair.specs.Period.{Period, demand_of, need_of};
 ghost use Rattle.dispatch_repair.specs.Stuck.{IsFirstObstacle};
-ghost use Rattle.dispatch_repair.specs.inside.Amounts.{IsRoomOf, IsSizedOutput, amount_at, range_at, thermal_amount};
+ghost use Rattle.dispatch_repair.specs.Rooms.{IsRoomOf};
+ghost use Rattle.dispatch_repair.specs.inside.Amounts.{AreBeforePeriod, AreHeadsOf, AreRangesOf, AreSizedHeads, AreSizedRanges, amount_at, next_period, range_at, thermal_amount};
 ghost use Rattle.dispatch_repair.specs.inside.Filled.{IsDispatchedFrom};
-ghost use Rattle.dispatch_repair.specs.inside.Filling.{IsFilledTo, IsFirstLeft, IsLeft, IsOpen};
+ghost use Rattle.dispatch_repair.specs.inside.Filling.{IsFilledTo, IsFirstLeft, IsLeft, IsOpen, IsStart};
 ghost use Rattle.dispatch_repair.specs.inside.Segments.{AreInMeritOrder, source_count};
 ghost use Rattle.dispatch_repair.specs.inside.Totals.{AreSizedTotals, AreTotalsOf, IsSizedSum, IsSizedTotal};
 
@@ -67,35 +68,51 @@ pub(crate) fn dispatch_period(
     patterns: &[Pattern],
     t: usize,
 ) -> Option<Why>
+    requires room { IsRoomOf instance.now room.old }
+    requires before { AreBeforePeriod instance.now patterns.now t room.old.amounts.items }
+    ensures room { IsRoomOf instance.now room.new }
+    ensures dispatched { let period = next_period instance.now patterns.now t room.old.amounts.items in
+        MatchOption result (IsDispatchedFrom period room.new.amounts.items room.new.heads.items) (IsFirstObstacle period) }
+{
+    set_ranges(room, instance, patterns, t);
+    match first_left(room, instance, patterns, t) {
+        Ok(left) => {
+            fill_from_lows(
+                instance,
+                &room.order,
+                &room.ranges,
+                &mut room.amounts,
+                &left,
+            );
+            None
+        }
+        Err(why) => Some(why),
+    }
+}
+
+// What is left to give where each source gives its least, or else the first obstacle.
+fn first_left(room: &Room, instance: &Instance, patterns: &[Pattern], t: usize) -> Result<Left, Why>
+    requires room { IsRoomOf instance.now room.now }
     requires lawful { IsLawfulInstance instance.now }
     requires patterns { length patterns.now ≡ thermal_count instance.now }
     requires period { t < instance.now.periods }
-    requires room { IsRoomOf instance.now room.old }
-    requires before { (g : ℕ) → g < thermal_count instance.now → IsSizedOutput (thermal_amount instance.now room.old.amounts.items g) }
-    ensures room { IsRoomOf instance.now room.new }
-    ensures dispatched { let period = period_after instance.now patterns.now t (thermal_amount instance.now room.old.amounts.items) in
-        MatchOption result (IsDispatchedFrom period room.new.amounts.items room.new.heads.items) (IsFirstObstacle period) }
+    requires ranges { AreSizedRanges room.now.ranges.items }
+    requires heads { AreSizedHeads room.now.heads.items }
+    ensures { (before : ℕ → ℤ) → let period = period_after instance.now patterns.now t before in
+        AreRangesOf period room.now.ranges.items → AreHeadsOf period room.now.heads.items
+        → MatchResult result (IsStart period) (IsFirstObstacle period) }
 {
     let renewables = instance.renewable.as_slice().len();
-    set_ranges(room, instance, patterns, t);
     if let Some(why) = empty_range(&room.ranges, renewables) {
-        return Some(why);
+        return Err(why);
     }
     let totals = totals(instance, patterns, t, &room.ranges, &room.heads);
     let demand = &instance.demand.as_slice()[t];
     let need = &instance.reserves.as_slice()[t];
-    if let Some(why) = imbalance(&totals, demand, need) {
-        return Some(why);
+    match imbalance(&totals, demand, need) {
+        Some(why) => Err(why),
+        None => Ok(left(&totals, demand, need)),
     }
-    let left = left(&totals, demand, need);
-    fill_from_lows(
-        instance,
-        &room.order,
-        &room.ranges,
-        &mut room.amounts,
-        &left,
-    );
-    None
 }
 
 // Fills the ranges from their low ends; answers what is left to give.

@@ -14,7 +14,7 @@ use uc_model::limits::MAX_PERIODS;
 use uc_model::{Pattern, Thermal};
 
 /// The ends of a source's range, in watts, of a thermal unit above its minimum.
-#[derive(Clone, Copy, Debug)]
+#[derive(Clone, Copy)]
 pub(crate) struct Range {
     pub low: i64,
     pub high: i64,

@@ -6,7 +6,8 @@ ghost use Rattle.uc_model.specs.Limits.{IsLawfulInstance, IsPower};
 ghost use Rattle.uc_model.specs.Schedule.{renewable_count, renewable_maximum, renewable_minimum, thermal_count};
 ghost use Rattle.uc_model.specs.declared.pattern.Pattern.{Pattern as PatternValue};
 ghost use Rattle.dispatch_repair.specs.Dispatch.{period_after};
-ghost use Rattle.dispatch_repair.specs.inside.Amounts.{AreHeadsOf, AreRangesOf, IsHeadOf, IsRangeOf, IsRoomOf, IsSizedEnd, IsSizedOutput, range_at, thermal_amount};
+ghost use Rattle.dispatch_repair.specs.Rooms.{IsRoomOf};
+ghost use Rattle.dispatch_repair.specs.inside.Amounts.{AreBeforePeriod, AreHeadsOf, AreRangesOf, IsHeadOf, IsRangeOf, IsSizedEnd, next_period, range_at};
 ghost use Rattle.dispatch_repair.specs.inside.Segments.{source_count};
 
 use crate::range::{Range, head, thermal_range};
@@ -15,15 +16,12 @@ use uc_model::{Instance, Pattern};
 
 /// Sets the ranges of all sources and the heads of the thermal units, after the amounts of the period before.
 pub(crate) fn set_ranges(room: &mut Room, instance: &Instance, patterns: &[Pattern], t: usize)
-    requires lawful { IsLawfulInstance instance.now }
-    requires patterns { length patterns.now ≡ thermal_count instance.now }
-    requires period { t < instance.now.periods }
     requires room { IsRoomOf instance.now room.old }
-    requires before { (g : ℕ) → g < thermal_count instance.now → IsSizedOutput (thermal_amount instance.now room.old.amounts.items g) }
+    requires before { AreBeforePeriod instance.now patterns.now t room.old.amounts.items }
     ensures room { IsRoomOf instance.now room.new }
     ensures amounts { room.new.amounts ≡ room.old.amounts }
-    ensures ranges { AreRangesOf (period_after instance.now patterns.now t (thermal_amount instance.now room.old.amounts.items)) room.new.ranges.items }
-    ensures heads { AreHeadsOf (period_after instance.now patterns.now t (thermal_amount instance.now room.old.amounts.items)) room.new.heads.items }
+    ensures ranges { AreRangesOf (next_period instance.now patterns.now t room.old.amounts.items) room.new.ranges.items }
+    ensures heads { AreHeadsOf (next_period instance.now patterns.now t room.old.amounts.items) room.new.heads.items }
 {
     set_heads(&mut room.heads, &room.amounts, instance, patterns, t);
     set_ends(
@@ -45,16 +43,12 @@ fn set_ends(
     patterns: &[Pattern],
     t: usize,
 )
-    requires lawful { IsLawfulInstance instance.now }
-    requires patterns { length patterns.now ≡ thermal_count instance.now }
-    requires period { t < instance.now.periods }
+    requires before { AreBeforePeriod instance.now patterns.now t amounts.now }
     requires ranges { length ranges.old ≡ source_count instance.now }
-    requires amounts { length amounts.now ≡ source_count instance.now }
-    requires before { (g : ℕ) → g < thermal_count instance.now → IsSizedOutput (thermal_amount instance.now amounts.now g) }
     requires head_count { length heads.now ≡ thermal_count instance.now }
-    requires heads { AreHeadsOf (period_after instance.now patterns.now t (thermal_amount instance.now amounts.now)) heads.now }
+    requires heads { AreHeadsOf (next_period instance.now patterns.now t amounts.now) heads.now }
     ensures length { length ranges.new ≡ length ranges.old }
-    ensures ranges { AreRangesOf (period_after instance.now patterns.now t (thermal_amount instance.now amounts.now)) ranges.new }
+    ensures ranges { AreRangesOf (next_period instance.now patterns.now t amounts.now) ranges.new }
 {
     set_renewable(ranges, instance, t);
     set_thermal(ranges, heads, amounts, instance, patterns, t);
@@ -111,14 +105,10 @@ fn set_heads(
     patterns: &[Pattern],
     t: usize,
 )
-    requires lawful { IsLawfulInstance instance.now }
-    requires patterns { length patterns.now ≡ thermal_count instance.now }
-    requires period { t < instance.now.periods }
+    requires before { AreBeforePeriod instance.now patterns.now t amounts.now }
     requires heads { length heads.old ≡ thermal_count instance.now }
-    requires amounts { length amounts.now ≡ source_count instance.now }
-    requires before { (g : ℕ) → g < thermal_count instance.now → IsSizedOutput (thermal_amount instance.now amounts.now g) }
     ensures length { length heads.new ≡ length heads.old }
-    ensures heads { AreHeadsOf (period_after instance.now patterns.now t (thermal_amount instance.now amounts.now)) heads.new }
+    ensures heads { AreHeadsOf (next_period instance.now patterns.now t amounts.now) heads.new }
 {
     for g in 0..instance.thermal.as_slice().len() {
         heads[g] = unit_head(amounts, instance, patterns, t, g);
@@ -127,13 +117,9 @@ fn set_heads(
 
 // The head of thermal unit g.
 fn unit_head(amounts: &[i64], instance: &Instance, patterns: &[Pattern], t: usize, g: usize) -> i64
-    requires lawful { IsLawfulInstance instance.now }
-    requires patterns { length patterns.now ≡ thermal_count instance.now }
-    requires period { t < instance.now.periods }
+    requires before { AreBeforePeriod instance.now patterns.now t amounts.now }
     requires unit { g < thermal_count instance.now }
-    requires amounts { length amounts.now ≡ source_count instance.now }
-    requires before { IsSizedOutput (thermal_amount instance.now amounts.now g) }
-    ensures { IsHeadOf (period_after instance.now patterns.now t (thermal_amount instance.now amounts.now)) g result }
+    ensures { IsHeadOf (next_period instance.now patterns.now t amounts.now) g result }
 {
     let before = &amounts[instance.renewable.as_slice().len() + g];
     let unit = &instance.thermal.as_slice()[g];
@@ -149,18 +135,14 @@ fn set_thermal(
     patterns: &[Pattern],
     t: usize,
 )
-    requires lawful { IsLawfulInstance instance.now }
-    requires patterns { length patterns.now ≡ thermal_count instance.now }
-    requires period { t < instance.now.periods }
+    requires before { AreBeforePeriod instance.now patterns.now t amounts.now }
     requires ranges { length ranges.old ≡ source_count instance.now }
-    requires amounts { length amounts.now ≡ source_count instance.now }
-    requires before { (g : ℕ) → g < thermal_count instance.now → IsSizedOutput (thermal_amount instance.now amounts.now g) }
     requires head_count { length heads.now ≡ thermal_count instance.now }
-    requires heads { AreHeadsOf (period_after instance.now patterns.now t (thermal_amount instance.now amounts.now)) heads.now }
+    requires heads { AreHeadsOf (next_period instance.now patterns.now t amounts.now) heads.now }
     ensures length { length ranges.new ≡ length ranges.old }
     ensures others { (w : ℕ) → w < renewable_count instance.now → range_at ranges.new w ≡ range_at ranges.old w }
     ensures ranges { (g : ℕ) → g < thermal_count instance.now
-        → IsRangeOf (period_after instance.now patterns.now t (thermal_amount instance.now amounts.now)) (renewable_count instance.now + g)
+        → IsRangeOf (next_period instance.now patterns.now t amounts.now) (renewable_count instance.now + g)
         (range_at ranges.new (renewable_count instance.now + g)) }
 {
     let renewables = instance.renewable.as_slice().len();
@@ -178,14 +160,10 @@ fn unit_range(
     t: usize,
     g: usize,
 ) -> Range
-    requires lawful { IsLawfulInstance instance.now }
-    requires patterns { length patterns.now ≡ thermal_count instance.now }
-    requires period { t < instance.now.periods }
+    requires before { AreBeforePeriod instance.now patterns.now t amounts.now }
     requires unit { g < thermal_count instance.now }
-    requires amounts { length amounts.now ≡ source_count instance.now }
-    requires before { IsSizedOutput (thermal_amount instance.now amounts.now g) }
-    requires head { IsHeadOf (period_after instance.now patterns.now t (thermal_amount instance.now amounts.now)) g head.now }
-    ensures { IsRangeOf (period_after instance.now patterns.now t (thermal_amount instance.now amounts.now)) (renewable_count instance.now + g) result }
+    requires head { IsHeadOf (next_period instance.now patterns.now t amounts.now) g head.now }
+    ensures { IsRangeOf (next_period instance.now patterns.now t amounts.now) (renewable_count instance.now + g) result }
 {
     let before = &amounts[instance.renewable.as_slice().len() + g];
     let unit = &instance.thermal.as_slice()[g];

@@ -11,7 +11,7 @@ use schedule_check::broken_rule;
 use uc_model::{Instance, Pattern};
 
 /// A rule M`rule` and the unit, from 0, that breaks it.
-#[derive(Clone, Copy, Debug)]
+#[derive(Clone, Copy)]
 pub(crate) struct BrokenRule {
     pub rule: u8,
     pub unit: usize,

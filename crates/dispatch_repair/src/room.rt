@@ -2,7 +2,7 @@
 
 ghost use Rattle.std.specs.Prelude.{IfOk};
 ghost use Rattle.uc_model.specs.Limits.{IsLawfulInstance};
-ghost use Rattle.dispatch_repair.specs.inside.Amounts.{IsRoomOf};
+ghost use Rattle.dispatch_repair.specs.Rooms.{IsRoomOf};
 
 use crate::merit_order::merit_order;
 use crate::range::Range;
@@ -12,7 +12,7 @@ use uc_model::{Instance, NoMemory};
 
 /// The segments of an instance's sources in order of merit, and memory for one period: the sources' ranges and amounts,
 /// and the thermal units' heads.
-#[derive(Debug, Drop)]
+#[derive(Drop)]
 pub struct Room {
     pub(crate) order: Vec<Segment>,
     pub(crate) ranges: Vec<Range>,

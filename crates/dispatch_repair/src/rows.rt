@@ -2,15 +2,16 @@
 
 ghost use Rattle.std.specs.Prelude.{◌≡◌, ℕ, ◌<◌, ◌≤◌, ◌-ℤ◌, false, All, IfOk, IsTrue, length, map, slice_set, take};
 ghost use Rattle.uc_model.specs.Commitment.{starts};
-ghost use Rattle.uc_model.specs.Limits.{IsLawfulInstance, IsLawfulThermal, IsPower};
 ghost use Rattle.uc_model.specs.PatternBits.{commitment_of};
 ghost use Rattle.uc_model.specs.Schedule.{thermal_count};
+ghost use Rattle.uc_model.specs.Limits.{IsLawfulInstance, IsLawfulThermal, IsPower};
 ghost use Rattle.uc_model.specs.StartCategory.{category_cost};
 ghost use Rattle.uc_model.specs.declared.instance.Instance.{Instance};
 ghost use Rattle.uc_model.specs.declared.pattern.Pattern.{Pattern};
 ghost use Rattle.start_costs.specs.Cheapest.{IsCheapestAbove};
 ghost use Rattle.dispatch_repair.specs.Dispatch.{HasPeriods};
-ghost use Rattle.dispatch_repair.specs.inside.Amounts.{IsRoomOf, IsSizedEnd, IsSizedOutput, amount_at, thermal_amount};
+ghost use Rattle.dispatch_repair.specs.Rooms.{IsRoomOf};
+ghost use Rattle.dispatch_repair.specs.inside.Amounts.{IsSizedEnd, IsSizedOutput, amount_at, thermal_amount};
 ghost use Rattle.dispatch_repair.specs.inside.Rows.{AreCellsWritten, AreCommitted, AreCommittedRows, AreOutputsWritten, AreSameBelow, IsCommittedRow, IsLeft, IsWritten, cell_of, printed_of, reserve_of, row_at, rows_of, with_power, ArePowerless, IsNewCell};
 
 use crate::room::Room;
@@ -20,7 +21,7 @@ use uc_model::limits::{MAX_PERIODS, MAX_UNITS};
 use uc_model::{Cell, Instance, List, NoMemory, Pattern, Printed, Thermal};
 
 /// For each unit a cell, or a renewable output in watts, for each period.
-#[derive(Debug, Drop)]
+#[derive(Drop)]
 pub(crate) struct Rows {
     pub thermal: Vec<Vec<Cell>>,
     pub renewable: Vec<Vec<i64>>,
@@ -192,12 +193,19 @@ fn write_cell(rows: &mut Vec<Vec<Cell>>, g: usize, t: usize, p: &i64, head: &i64
 {
     let r = reserve(p, head, left);
     *left -= r;
-    let cell = Cell {
-        p: *p,
-        r,
-        ..rows[g][t]
-    };
+    let cell = powered(&rows[g][t], p, &r);
     set_at(rows, g, t, &cell);
+}
+
+// A cell with this output and reserve.
+fn powered(cell: &Cell, p: &i64, r: &i64) -> Cell
+    ensures { result ≡ with_power cell.now p.now r.now }
+{
+    Cell {
+        p: *p,
+        r: *r,
+        ..*cell
+    }
 }
 
 // A unit's reserve: up to its head, and to what is left to give.

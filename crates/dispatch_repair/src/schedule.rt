@@ -7,7 +7,7 @@ ghost use Rattle.uc_model.specs.Rules.{Obeys};
 ghost use Rattle.uc_model.specs.Schedule.{thermal_count};
 ghost use Rattle.schedule_check.specs.PlainNumbers.{HasPlainNumbers};
 ghost use Rattle.dispatch_repair.specs.Stuck.{IsDispatchFault, IsDispatchOf, IsRegular};
-ghost use Rattle.dispatch_repair.specs.inside.Amounts.{IsRoomOf};
+ghost use Rattle.dispatch_repair.specs.Rooms.{IsRoomOf};
 ghost use Rattle.dispatch_repair.specs.inside.Progress.{AreFilledBelow, IsStuckAfter};
 ghost use Rattle.dispatch_repair.specs.inside.Rows.{printed_of};
 

@@ -9,7 +9,7 @@ use std::cmp::Ordering;
 use uc_model::scaled;
 
 /// A part of a source's output that has one slope.
-#[derive(Clone, Copy, Debug)]
+#[derive(Clone, Copy)]
 pub(crate) struct Segment {
     /// The place of the source: renewable units come first, then thermal ones, each kind in the order of the file.
     pub source: usize,

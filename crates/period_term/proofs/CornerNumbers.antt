@@ -65,18 +65,20 @@ priced_floor k a c d x y over q floor =
     whole = ap (λ z. z *ℤ over) parts ∙ product
 
 -- ---- what the calls give
-pub rise_down-size : (r v w rise over run rising q : ℤ) → rise ≡ r → unsigned_abs rise ≤ MAX_RISE → over ≡ v → unsigned_abs over ≤ MAX_OVER
+-- the part of a rise until the cap
+pub rise_down-is : (r v w rise over run rising q : ℤ) → rise ≡ r → unsigned_abs rise ≤ MAX_RISE → over ≡ v → unsigned_abs over ≤ MAX_OVER
     → run ≡ w → unsigned_abs run ≤ 4 * MAX_POWER → pos 0 ≤ℤ v → v ≤ℤ w → pos 0 <ℤ w
     → rising ≡ to_z w128 (of_z w128 rise) *ℤ to_z w128 (of_z w128 over)
-    → IsFloor (to_z w128 (of_z w128 rising)) (to_z w128 (of_z w128 run)) q → unsigned_abs (to_z w128 (of_z w128 q)) ≤ MAX_RISE
-rise_down-size r v w rise over run rising q rise_is rise_size over_is over_size run_is run_size low high positive e floor =
+    → IsFloor (to_z w128 (of_z w128 rising)) (to_z w128 (of_z w128 run)) q
+    → IsFloor (r *ℤ v) w (to_z w128 (of_z w128 q)) × (unsigned_abs (to_z w128 (of_z w128 q)) ≤ MAX_RISE)
+rise_down-is r v w rise over run rising q rise_is rise_size over_is over_size run_is run_size low high positive e floor =
     let number : to_z w128 (of_z w128 rising) ≡ r *ℤ v =
     wide rising (MAX_RISE * MAX_OVER) (product-size rise over rising MAX_RISE MAX_OVER e rise_size over_size) (lit< tt)
     ∙ product-is rise over rising MAX_RISE MAX_OVER e rise_size over_size (lit< tt) (lit< tt) ∙ (λ t. rise_is t *ℤ over_is t) in
     let divisor : to_z w128 (of_z w128 run) ≡ w = wide run (4 * MAX_POWER) run_size (lit< tt) ∙ run_is in
-    wide-size q MAX_RISE
-    (floor_part-size r v w q MAX_RISE (subst (λ z. unsigned_abs z ≤ MAX_RISE) rise_is rise_size) low high positive
-    (subst (λ z. IsFloor (r *ℤ v) z q) divisor (subst (λ z. IsFloor z (to_z w128 (of_z w128 run)) q) number floor)))
+    let exact : IsFloor (r *ℤ v) w q = subst (λ z. IsFloor (r *ℤ v) z q) divisor (subst (λ z. IsFloor z (to_z w128 (of_z w128 run)) q) number floor) in
+    let size : unsigned_abs q ≤ MAX_RISE = floor_part-size r v w q MAX_RISE (subst (λ z. unsigned_abs z ≤ MAX_RISE) rise_is rise_size) low high positive exact in
+    (subst (IsFloor (r *ℤ v) w) (sym (wide q MAX_RISE size (lit< tt))) exact, wide-size q MAX_RISE size)
 
 -- a sum of two, and of three, and their size
 pub sum_is : (x y r : ℤ) (m n : ℕ) → r ≡ to_z w128 (of_z w128 x) +ℤ to_z w128 (of_z w128 y) → unsigned_abs x ≤ m → unsigned_abs y ≤ n → m + n < 2 ^ 127

@@ -1,8 +1,8 @@
 -- The term of a cell by that without reserve, at prices that are freed of it.
-use Rattle.std.proofs.Common.{◌≡◌, ℕ, zero, suc, ◌<◌, ⊎_elim, refl, sym, ap, subst, ◌∙◌, arith, List, ℤ, pos, ◌+ℤ◌, ◌-ℤ◌, ◌*ℤ◌, ◌≤ℤ◌, ◌<ℤ◌}
+use Rattle.std.proofs.Common.{◌≡◌, ℕ, zero, suc, ◌<◌, ⊎_elim, refl, sym, ap, subst, ◌∙◌, arith, FitsSigned, to_z, of_z, List, ℤ, pos, ◌+ℤ◌, ◌-ℤ◌, ◌*ℤ◌, ◌≤ℤ◌, ◌<ℤ◌}
 use Rattle.std.specs.Prelude.{Option, None, slice_index_or, [], ◌∷◌}
-use Rattle.std.specs.Int.{int_min}
-use Rattle.std.proofs.lemmas.Int.{ints}
+use Rattle.std.specs.Int.{int_min, w64, w128}
+use Rattle.std.proofs.lemmas.Int.{ints, to_z-of_z}
 use Rattle.uc_model.specs.declared.instance.Point.{Point}
 use Rattle.uc_model.proofs.Ring.{linear, le_or_lt, mul_left_comm, mul-zero, zero-mul, mul-add, mul-sub, add-mul, mul-le-mul_right, mul-le-mul_turned}
 use Rattle.dual_model.specs.Term.{IsTerm, weighted_output, weighted_cost}
@@ -111,6 +111,15 @@ freed_term points k a b cap output reserve h freed term = record {
 
     nothing : Unit {0} → pos 0 ≤ℤ pos 0
     nothing u = omega (arith, linear)
+
+-- prices that are freed of those that a call's bits say
+pub freed_bits : (k a b scale output reserve : ℤ) → FitsSigned w64 k → FitsSigned w128 a → FitsSigned w128 b
+    → AreFreed (to_z w64 (of_z w64 k)) (to_z w128 (of_z w128 a)) (to_z w128 (of_z w128 b)) scale output reserve → AreFreed k a b scale output reserve
+freed_bits k a b scale output reserve hk ha hb freed = record {
+  scale_is = freed.scale_is ∙ to_z-of_z w64 k hk;
+  output_is = freed.output_is ∙ (λ i. to_z-of_z w128 a ha i -ℤ int_min (to_z-of_z w128 b hb i) (pos 0));
+  reserve_is = freed.reserve_is ∙ ap (λ z. int_min z (pos 0)) (to_z-of_z w128 b hb);
+}
 
 -- the term at freed prices, as the calls give it
 pub of_freed : (points : List Point) (k a b cap scale output reserve : ℤ) (term : Option ℤ) → AreFreed k a b scale output reserve

@@ -5,13 +5,14 @@ use Rattle.std.proofs.lemmas.Int.{ints}
 use Rattle.uc_model.specs.Division.{IsFloor}
 use Rattle.uc_model.specs.Points.{point_of, output_of}
 use Rattle.uc_model.specs.declared.instance.Point.{Point}
-use Rattle.uc_model.proofs.Ring.{linear, spread, le_or_lt, le_antisymm, mul_comm, mul_assoc, mul_left_comm, mul-zero, zero-mul, one-mul, mul_nonneg, mul-le-mul_left, mul-le-mul_right, mul-le-mul_turned, le_from_mul}
+use Rattle.uc_model.proofs.Ring.{linear, sub_nonneg, spread, le_or_lt, le_antisymm, mul_comm, mul_assoc, mul_left_comm, mul-zero, zero-mul, one-mul, mul_nonneg, mul-le-mul_left, mul-le-mul_right, mul-le-mul_turned, le_from_mul}
 use Rattle.uc_model.proofs.Quotients.{IsFloor-greatest}
 use Rattle.uc_model.proofs.Tests.{int_lt-true}
 use Rattle.dual_model.specs.Term.{IsCellBound, IsTerm}
 use Rattle.dual_model.proofs.Terms.{cell_bound-corners, corners-cell_bound}
 use Rattle.cost_curves.specs.LowerHull.{IsAbove, IsLowerHull}
 use Rattle.cost_curves.proofs.HullValues.{starts}
+use Rattle.cost_curves.proofs.Lines.{less_le, sub_positive}
 use Rattle.period_term.specs.inside.Places.{corner_cost, over_of, run_of, IsLeastPlace, HoldsCap}
 
 -- neither end's outer neighbour costs less
@@ -117,15 +118,6 @@ from_right e f g x y z falls rising left h =
     let apart : ((y -ℤ x) *ℤ f) ≤ℤ ((y -ℤ x) *ℤ g) = simp spread (omega (arith, linear, product, whole, e1, e2, e3, e4)) in
     le_from_mul (y -ℤ x) f g (omega (arith, linear)) apart
 
-gap : (x y : ℤ) → x ≤ℤ y → pos 0 ≤ℤ (y -ℤ x)
-gap x y h = omega (arith, linear)
-
-wide : (x y : ℤ) → x <ℤ y → pos 0 <ℤ (y -ℤ x)
-wide x y h = omega (arith, linear)
-
-less_le : (x y : ℤ) → x <ℤ y → x ≤ℤ y
-less_le x y h = omega (arith, linear)
-
 inner_or_last : (i n : ℕ) → i < n → (suc i < n) ⊎ (suc i ≡ n)
 inner_or_last i n h = grind arith
 
@@ -134,7 +126,7 @@ least_right : (points corners : List Point) (k a : ℤ) (i : ℕ) → IsLowerHul
     → corner_cost corners k a i ≤ℤ cost_at k a (point_of corners 0).mw (point_of points l)
 least_right points corners k a i whole sign least l hl right = ⊎_elim
     (λ (inner : suc i < length corners).
-    from_left _ _ _ _ _ (gap _ _ (least.right inner)) (gap _ _ right) (wide _ _ (whole.hull.rising i inner))
+    from_left _ _ _ _ _ (sub_nonneg _ _ (least.right inner)) (sub_nonneg _ _ right) (sub_positive _ _ (whole.hull.rising i inner))
     (priced_above k a (point_of corners 0).mw (point_of corners i) (point_of corners (suc i)) (point_of points l) sign (whole.hull.above i inner l hl)))
     (λ (last : suc i ≡ length corners).
     level (point_of corners i).cost (point_of points l).cost (point_of corners i).mw (point_of points l).mw (point_of corners 0).mw
@@ -185,7 +177,7 @@ corner_term points corners k a cap i whole sign room least near =
           subst (λ (x : Point). n ≤ℤ cost_at k a (point_of corners 0).mw x) (sym found.2)
           (subst (λ z. n ≤ℤ cost_at k a z (point_of points found.0)) (sym zero_at)
           ((corners-cell_bound points k a (pos 0) cap n bound).point found.0 found.1
-          (gap _ _ (subst (λ z. ((point_of points found.0).mw -ℤ z) ≤ℤ cap) zero_at
+          (sub_nonneg _ _ (subst (λ z. ((point_of points found.0).mw -ℤ z) ≤ℤ cap) zero_at
           (subst (λ (x : Point). (x.mw -ℤ (point_of corners 0).mw) ≤ℤ cap) found.2 near)))));
     }
   where
@@ -253,7 +245,7 @@ segment_term points corners k a cap h i place whole sign room least beyond holds
     let f = corner_cost corners k a i in
     let s = corner_cost corners k a (suc i) -ℤ f in
     let width = apart (point_of corners (suc i)).mw (point_of corners i).mw bottom in
-    let positive : pos 0 <ℤ run_of corners i = subst (λ z. pos 0 <ℤ z) (sym width) (wide _ _ (whole.hull.rising i inner)) in
+    let positive : pos 0 <ℤ run_of corners i = subst (λ z. pos 0 <ℤ z) (sym width) (sub_positive _ _ (whole.hull.rising i inner)) in
     let above : (p : Point) → IsAbove (point_of corners i) (point_of corners (suc i)) p
     → (s *ℤ ((p.mw -ℤ bottom) -ℤ output_of corners i)) ≤ℤ ((cost_at k a bottom p -ℤ f) *ℤ run_of corners i) =
     λ p h. subst (λ z. (s *ℤ z) ≤ℤ ((cost_at k a bottom p -ℤ f) *ℤ run_of corners i)) (sym (apart p.mw (point_of corners i).mw bottom))
@@ -265,7 +257,7 @@ segment_term points corners k a cap h i place whole sign room least beyond holds
     let no_more = subst (λ (x : Point). corner_cost corners k a place ≤ℤ cost_at k a bottom x) (sym first.2)
     (least_over points corners k a place whole sign least first.0 first.1) in
     let falls : s ≤ℤ pos 0 =
-    falls_to s _ f (corner_cost corners k a place) (run_of corners i) (wide _ _ (before _ _ _ holds.begins beyond)) positive no_more
+    falls_to s _ f (corner_cost corners k a place) (run_of corners i) (sub_positive _ _ (before _ _ _ holds.begins beyond)) positive no_more
     (above (point_of corners place) (subst (λ x. IsAbove (point_of corners i) (point_of corners (suc i)) x) (sym last.2) (whole.hull.above i inner last.0 last.1))) in
     record {
       reachable = room;
@@ -277,7 +269,7 @@ segment_term points corners k a cap h i place whole sign room least beyond holds
       greatest = λ n bound.
           let near = subst (λ z. ((point_of points first.0).mw -ℤ z) ≤ℤ cap) zero_at (subst (λ (x : Point). (x.mw -ℤ bottom) ≤ℤ cap) first.2 holds.begins) in
           let far = subst (λ z. cap <ℤ ((point_of points second.0).mw -ℤ z)) zero_at (subst (λ (x : Point). cap <ℤ (x.mw -ℤ bottom)) second.2 holds.reaches) in
-          let pair = (corners-cell_bound points k a (pos 0) cap n bound).pair first.0 second.0 first.1 second.1 (gap _ _ near) (negative _ _ far) in
+          let pair = (corners-cell_bound points k a (pos 0) cap n bound).pair first.0 second.0 first.1 second.1 (sub_nonneg _ _ near) (negative _ _ far) in
           let back = subst (λ z. (((cap -ℤ ((point_of points first.0).mw -ℤ z)) -ℤ (cap -ℤ ((point_of points second.0).mw -ℤ z))) *ℤ n)
           ≤ℤ (neg_ℤ (cap -ℤ ((point_of points second.0).mw -ℤ z)) *ℤ cost_at k a z (point_of points first.0) +ℤ (cap -ℤ ((point_of points first.0).mw -ℤ z)) *ℤ cost_at k a z (point_of points second.0))) (sym zero_at) pair in
           let left = subst (λ (x : Point). (((cap -ℤ (x.mw -ℤ bottom)) -ℤ (cap -ℤ ((point_of points second.0).mw -ℤ bottom))) *ℤ n)

@@ -8,7 +8,7 @@ ghost use Rattle.dual_model.specs.Term.{IsTerm};
 ghost use Rattle.dual_model.specs.TableValue.{IsCellTerm, IsLawfulScale};
 ghost use Rattle.cost_curves.specs.LowerHull.{AreLawfulCorners, IsLowerHull};
 ghost use Rattle.period_term.specs.inside.Freed.{AreFreed, AreLawfulPrices};
-ghost use Rattle.period_term.specs.inside.Places.{corner_cost as corner_cost_of, over_of, rise_of, run_of, IsLeastPlace, HoldsCap, MAX_CORNER_COST, MAX_RISE, MAX_OVER, MAX_LEAST};
+ghost use Rattle.period_term.specs.inside.Places.{corner_cost as corner_cost_of, over_of, rise_of, run_of, IsLeastPlace, HoldsCap, LiesOnSegment, MAX_CORNER_COST, MAX_RISE, MAX_OVER, MAX_LEAST};
 
 use crate::freed::{Prices, freed};
 use cost_curves::Curve;
@@ -163,10 +163,8 @@ fn cap_place(corners: &[Point], place: usize, cap: &i64) -> usize
 fn segment_cost(corners: &[Point], prices: &Prices, left: usize, cap: &i64) -> i128
     requires lawful { AreLawfulCorners corners.now }
     requires prices { AreLawfulPrices prices.now.k prices.now.a prices.now.b }
-    requires within { suc left < length corners.now }
     requires cap { unsigned_abs cap.now ≤ MAX_CAP }
-    requires begins { output_of corners.now left ≤ℤ cap.now }
-    requires reaches { cap.now <ℤ output_of corners.now (suc left) }
+    requires segment { LiesOnSegment corners.now cap.now left }
     ensures floor { IsFloor
         ((corner_cost_of corners.now prices.now.k prices.now.a (suc left) -ℤ corner_cost_of corners.now prices.now.k prices.now.a left) *ℤ over_of corners.now cap.now left)
         (run_of corners.now left)
@@ -182,10 +180,8 @@ fn segment_cost(corners: &[Point], prices: &Prices, left: usize, cap: &i64) -> i
 fn rise_down(corners: &[Point], prices: &Prices, left: usize, cap: &i64) -> i128
     requires lawful { AreLawfulCorners corners.now }
     requires prices { AreLawfulPrices prices.now.k prices.now.a prices.now.b }
-    requires within { suc left < length corners.now }
     requires cap { unsigned_abs cap.now ≤ MAX_CAP }
-    requires begins { output_of corners.now left ≤ℤ cap.now }
-    requires reaches { cap.now <ℤ output_of corners.now (suc left) }
+    requires segment { LiesOnSegment corners.now cap.now left }
     ensures floor { IsFloor ((prices.now.k *ℤ rise_of corners.now left) *ℤ over_of corners.now cap.now left) (run_of corners.now left) result }
     ensures size { unsigned_abs result ≤ MAX_RISE }
 {

@@ -9,7 +9,7 @@ use uc_model::difference;
 
 /// The scale, the price of output above that of the reserve which it takes the room of, and the price of the
 /// reserve, which is not above 0.
-#[derive(Clone, Copy, Debug)]
+#[derive(Clone, Copy)]
 pub(crate) struct Prices {
     pub(crate) k: i64,
     pub(crate) a: i128,

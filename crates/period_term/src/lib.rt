@@ -8,4 +8,5 @@ mod freed;
 mod unit_terms;
 
 pub use cell::term;
+pub use uc_model::Terms;
 pub use unit_terms::terms;

@@ -2,7 +2,7 @@
 
 use crate::cells::{Cells, cost_at};
 use crate::merit::Market;
-use crate::period::{NOTHING, Period};
+use crate::period::{Addition, NOTHING, Period};
 use crate::unit::Unit;
 use crate::window::Window;
 
@@ -35,25 +35,28 @@ impl Beside<'_> {
                 return false;
             }
             let head = window.head.min(before.saturating_add(self.unit.rise));
-            if window.on && (window.power != cell.power || head != self.unit.full) {
-                let more = self.cost_at(period, true, window.power, head);
-                cost = cost.saturating_add(
-                    more.saturating_sub(cell.off).saturating_sub(cell.plain),
-                );
-            }
+            cost = cost.saturating_add(self.cost_above(period, cell, window, head));
             before = window.power;
         }
         cost < most
+    }
+
+    // What a period costs at the centre of a window and this head above what it would cost with neither caps nor ramps.
+    fn cost_above(&self, period: &Period, cell: &Cells, window: &Window, head: i64) -> i64 {
+        if !window.on || (window.power == cell.power && head == self.unit.full) {
+            return 0;
+        }
+        self.cost_at(period, true, window.power, head)
+            .saturating_sub(cell.off)
+            .saturating_sub(cell.plain)
     }
 
     // What the system would cost with the unit on in these windows and neither caps nor ramps.
     fn least_cost(&self, row: &[Window]) -> i64 {
         let mut cost: i64 = 0;
         for (cell, window) in self.cells.iter().zip(row) {
-            cost = cost.saturating_add(cell.off);
-            if window.on {
-                cost = cost.saturating_add(cell.plain);
-            }
+            let more = if window.on { cell.plain } else { 0 };
+            cost = cost.saturating_add(cell.off).saturating_add(more);
         }
         cost
     }
@@ -64,14 +67,18 @@ impl Beside<'_> {
         let mut is_lacking = false;
         for (period, window) in self.periods.iter().zip(row) {
             let head = window.head.min(before.saturating_add(self.unit.rise));
-            let addition = if window.on {
-                self.unit.addition(window.power, head)
-            } else {
-                NOTHING
-            };
-            is_lacking = is_lacking || period.is_lacking_with(&addition);
+            is_lacking = is_lacking || period.is_lacking_with(&self.addition(window, head));
             before = window.power;
         }
         is_lacking
+    }
+
+    // What the unit adds to a period at the centre of a window, with this head.
+    fn addition(&self, window: &Window, head: i64) -> Addition {
+        if window.on {
+            self.unit.addition(window.power, head)
+        } else {
+            NOTHING
+        }
     }
 }

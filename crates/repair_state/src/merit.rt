@@ -63,8 +63,8 @@ pub fn rate_within(number: &i128) -> i64 {
 pub(crate) fn segments_of(alloc: Global, curve: &Curve) -> Result<Vec<Segment>, NoMemory> {
     let mut segments = Vec::new(alloc);
     let corners = curve.corners();
-    for (from, to) in corners.iter().zip(corners.iter().skip(1)) {
-        segments.push(segment_between(from, to))?;
+    for i in 1..corners.len() {
+        segments.push(segment_between(&corners[i - 1], &corners[i]))?;
     }
     Ok(segments)
 }
@@ -83,26 +83,45 @@ fn segment_between(from: &Point, to: &Point) -> Segment {
 /// Orders the segments of the units by merit, and tells them their places.
 pub(crate) fn market_of(alloc: Global, units: &mut [Unit]) -> Result<Market, NoMemory> {
     let entries = entries(alloc, units)?;
-    let mut rates = Vec::new(alloc);
-    let mut dearest: i64 = 1;
     for (place, entry) in entries.iter().enumerate() {
-        rates.push(entry.rate)?;
-        dearest = dearest.max(entry.rate.saturating_abs());
         set_place(units, entry, place);
     }
-    let mut breach: i64 = 0;
-    for unit in units.iter() {
-        dearest = dearest.max(unit.rate_at_minimum().saturating_abs());
-        breach = breach.max(unit.cost_of_run());
-    }
-    let strides = strides(alloc, rates.len())?;
     Ok(Market {
-        rates,
-        strides,
+        rates: rates_of(alloc, &entries)?,
+        strides: strides(alloc, entries.len())?,
         middle: middle(&entries),
-        scarcity: dearest.saturating_mul(SCARCITY),
-        breach: breach.min(DEAREST_BREACH),
+        scarcity: dearest_rate(&entries, units).saturating_mul(SCARCITY),
+        breach: dearest_run(units).min(DEAREST_BREACH),
     })
+}
+
+fn rates_of(alloc: Global, entries: &[Entry]) -> Result<Vec<i64>, NoMemory> {
+    let mut rates = Vec::new(alloc);
+    for entry in entries {
+        rates.push(entry.rate)?;
+    }
+    Ok(rates)
+}
+
+// The dearest rate in size, of a segment or at a unit's minimum; at least 1.
+fn dearest_rate(entries: &[Entry], units: &[Unit]) -> i64 {
+    let mut dearest: i64 = 1;
+    for entry in entries {
+        dearest = dearest.max(entry.rate.saturating_abs());
+    }
+    for unit in units {
+        dearest = dearest.max(unit.rate_at_minimum().saturating_abs());
+    }
+    dearest
+}
+
+// What the dearest unit's start and run cost.
+fn dearest_run(units: &[Unit]) -> i64 {
+    let mut dearest: i64 = 0;
+    for unit in units {
+        dearest = dearest.max(unit.cost_of_run());
+    }
+    dearest
 }
 
 fn entries(alloc: Global, units: &[Unit]) -> Result<Vec<Entry>, NoMemory> {

@@ -100,7 +100,7 @@ impl Period {
         })
     }
 
-    /// Takes all units away.
+    /// Takes all units away, and the mark of hardly any reserve.
     pub(crate) fn clear(&mut self) {
         for node in self.nodes.iter_mut() {
             *node = EMPTY;
@@ -111,6 +111,7 @@ impl Period {
         self.power = 0;
         self.heads = 0;
         self.mark = 0;
+        self.is_tight = false;
     }
 
     /// Adds a unit in its window where `sign` is 1, and takes it away where it is -1.

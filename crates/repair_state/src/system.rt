@@ -59,75 +59,107 @@ impl Plant {
             }
         }
         let market = market_of(alloc, &mut units)?;
-        let is_ramped = units.iter().any(|unit| unit.is_ramped);
         Ok(Plant {
+            is_ramped: can_any_bind(&units),
             units,
             market,
-            is_ramped,
         })
     }
+}
+
+// Whether the ramps of one of the units can bind.
+fn can_any_bind(units: &[Unit]) -> bool {
+    let mut can_bind = false;
+    for unit in units {
+        can_bind = can_bind || unit.is_ramped;
+    }
+    can_bind
 }
 
 impl State {
     /// A state in which each unit is off. The only error is `NoMemory`.
     pub fn new(alloc: Global, instance: &Instance, plant: &Plant) -> Result<State, NoMemory> {
         let count = instance.periods as usize;
-        let mut patterns = Vec::new(alloc);
-        let mut rows = Vec::new(alloc);
-        let mut known = Vec::new(alloc);
-        for _ in &plant.units {
-            known.push(vec![in alloc; UNKNOWN; count.saturating_mul(WAYS)]?)?;
-            patterns.push(Pattern::all_off())?;
-            rows.push(vec![in alloc; IDLE; count]?)?;
-        }
+        let units = plant.units.len();
         Ok(State {
             periods: periods_of(alloc, instance, &plant.market)?,
-            patterns,
-            rows,
-            known,
+            patterns: vec![in alloc; Pattern::all_off(); units]?,
+            rows: table(alloc, IDLE, units, count)?,
+            known: table(alloc, UNKNOWN, units, count.saturating_mul(WAYS))?,
             cells: vec![in alloc; SAME; count]?,
             course: Course::new(alloc, count)?,
-            trial: Trial {
-                row: vec![in alloc; IDLE; count]?,
-                trajectory: Trajectory::new(alloc),
-            },
+            trial: Trial::new(alloc, count)?,
             fills: vec![in alloc; UNFILLED; count]?,
         })
     }
 
     /// Puts all units on their patterns, at the outputs in order of merit, moved until they keep the ramps.
     pub fn load(&mut self, plant: &Plant, count: u32) {
-        for period in self.periods.iter_mut() {
-            period.is_tight = false;
-        }
-        let units = plant.units.iter().zip(&self.patterns);
-        for ((unit, pattern), row) in units.zip(self.rows.iter_mut()) {
-            open(unit, pattern, count, row);
-        }
+        open_all(plant, &self.patterns, count, &mut self.rows);
         add_all(plant, &mut self.periods, &self.rows);
         self.recenter(plant, count);
     }
 
     /// Centres the windows on the outputs in order of merit inside them.
     pub fn recenter(&mut self, plant: &Plant, count: u32) {
-        for (fill, period) in self.fills.iter_mut().zip(self.periods.iter_mut()) {
-            *fill = period.fill(&plant.market, period.needed_with(&NOTHING));
-            if period.is_short_soon() {
-                period.is_tight = true;
-            }
-        }
+        fill_periods(&plant.market, &mut self.periods, &mut self.fills);
         let units = plant.units.iter().zip(&self.patterns);
         for ((unit, pattern), row) in units.zip(self.rows.iter_mut()) {
             let own = &mut self.trial.row;
             copy_row(row, own);
             center(unit, own, &self.fills);
             open(unit, pattern, count, own);
-            if unit.is_ramped {
-                keep_ramps(unit, own);
-                narrow(unit, &self.periods, own);
-            }
+            fit(unit, &self.periods, own);
             exchange(&plant.market, &mut self.periods, unit, row, own);
         }
+    }
+}
+
+impl Trial {
+    // Memory for so many periods. The only error is `NoMemory`.
+    fn new(alloc: Global, count: usize) -> Result<Trial, NoMemory> {
+        Ok(Trial {
+            row: vec![in alloc; IDLE; count]?,
+            trajectory: Trajectory::new(alloc),
+        })
+    }
+}
+
+// So many rows of so many entries. The only error is `NoMemory`.
+fn table<T: Copy>(
+    alloc: Global,
+    entry: T,
+    rows: usize,
+    count: usize,
+) -> Result<Vec<Vec<T>>, NoMemory> {
+    let mut table = Vec::new(alloc);
+    for _ in 0..rows {
+        table.push(vec![in alloc; entry; count]?)?;
+    }
+    Ok(table)
+}
+
+// Opens the windows of all units.
+fn open_all(plant: &Plant, patterns: &[Pattern], count: u32, rows: &mut [Vec<Window>]) {
+    let units = plant.units.iter().zip(patterns);
+    for ((unit, pattern), row) in units.zip(rows.iter_mut()) {
+        open(unit, pattern, count, row);
+    }
+}
+
+// Fills each period in the order of merit, and marks it where hardly any reserve is left.
+fn fill_periods(market: &Market, periods: &mut [Period], fills: &mut [Fill]) {
+    for (fill, period) in fills.iter_mut().zip(periods.iter_mut()) {
+        *fill = period.fill(market, period.needed_with(&NOTHING));
+        period.is_tight = period.is_tight || period.is_short_soon();
+    }
+}
+
+// Makes open windows keep the ramps, where these can bind.
+fn fit(unit: &Unit, periods: &[Period], row: &mut [Window]) {
+    if unit.is_ramped {
+        keep_ramps(unit, row);
+        narrow(unit, periods, row);
     }
 }
 
@@ -213,11 +245,16 @@ pub fn exchange(
     to: &[Window],
 ) {
     for (period, (own, window)) in periods.iter_mut().zip(row.iter_mut().zip(to)) {
-        if !is_alike(own, window) {
-            period.shift(market, unit, own, -1);
-            period.shift(market, unit, window, 1);
-        }
+        move_unit(market, period, unit, own, window);
         *own = *window;
+    }
+}
+
+// Moves a unit in a period from its window to another.
+fn move_unit(market: &Market, period: &mut Period, unit: &Unit, own: &Window, to: &Window) {
+    if !is_alike(own, to) {
+        period.shift(market, unit, own, -1);
+        period.shift(market, unit, to, 1);
     }
 }
 
@@ -236,7 +273,7 @@ pub fn copy_row(from: &[Window], to: &mut [Window]) {
     }
 }
 
-/// Puts all units into the periods anew.
+/// Puts all units into the periods anew, of which none is marked as tight.
 pub(crate) fn add_all(plant: &Plant, periods: &mut [Period], rows: &[Vec<Window>]) {
     for period in periods.iter_mut() {
         period.clear();

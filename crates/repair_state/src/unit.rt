@@ -207,11 +207,11 @@ fn bases(alloc: Global, unit: &Thermal, periods: u32) -> Result<Vec<i64>, NoMemo
 fn warm_starts(alloc: Global, unit: &Thermal) -> Result<Vec<Warm>, NoMemory> {
     let mut warm = Vec::new(alloc);
     let rows = unit.startup.as_slice();
-    for (row, next) in rows.iter().zip(rows.iter().skip(1)) {
-        if row.lag < next.lag {
+    for i in 1..rows.len() {
+        if rows[i - 1].lag < rows[i].lag {
             warm.push(Warm {
-                lag: next.lag as usize,
-                cost: row.cost,
+                lag: rows[i].lag as usize,
+                cost: rows[i - 1].cost,
             })?;
         }
     }

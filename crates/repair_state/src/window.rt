@@ -118,34 +118,37 @@ fn set(row: &mut [Window], t: usize, window: Window) {
 // Narrows the windows of a period and of the one before.
 fn narrow_both(unit: &Unit, before: &mut Window, own: &mut Window) {
     let rise = own.power.saturating_sub(before.power);
-    let (up, down) = shared(
-        own.high.saturating_sub(own.power),
-        before.power.saturating_sub(before.low),
-        unit.rise.saturating_sub(rise),
-    );
-    own.high = own.power.saturating_add(up);
-    before.low = before.power.saturating_sub(down);
-    let (down, up) = shared(
-        own.power.saturating_sub(own.low),
-        before.high.saturating_sub(before.power),
-        unit.fall.saturating_add(rise),
-    );
-    own.low = own.power.saturating_sub(down);
-    before.high = before.power.saturating_add(up);
+    let up = own.high.saturating_sub(own.power);
+    let down = before.power.saturating_sub(before.low);
+    let both = unit.rise.saturating_sub(rise).max(0);
+    own.high = own.power.saturating_add(first_share(up, down, both));
+    before.low = before.power.saturating_sub(second_share(up, down, both));
+    let down = own.power.saturating_sub(own.low);
+    let up = before.high.saturating_sub(before.power);
+    let both = unit.fall.saturating_add(rise).max(0);
+    own.low = own.power.saturating_sub(first_share(down, up, both));
+    before.high = before.power.saturating_add(second_share(down, up, both));
 }
 
-// Two rooms cut so that they are within a sum, the larger one first.
-fn shared(first: i64, second: i64, sum: i64) -> (i64, i64) {
-    let sum = sum.max(0);
+// What is left of the first of two rooms where both are cut so that they are within a sum, the larger one first.
+fn first_share(first: i64, second: i64, sum: i64) -> i64 {
     let half = sum / 2;
-    if first.saturating_add(second) <= sum {
-        (first, second)
-    } else if first <= half {
-        (first, sum.saturating_sub(first))
+    if first.saturating_add(second) <= sum || first <= half {
+        first
     } else if second <= half {
-        (sum.saturating_sub(second), second)
+        sum.saturating_sub(second)
     } else {
-        (half, sum.saturating_sub(half))
+        half
+    }
+}
+
+// What is left of the second.
+fn second_share(first: i64, second: i64, sum: i64) -> i64 {
+    let half = sum / 2;
+    if first.saturating_add(second) <= sum || (first > half && second <= half) {
+        second
+    } else {
+        sum.saturating_sub(first.min(half))
     }
 }
 

@@ -4,9 +4,9 @@ use Rattle.std.proofs.lemmas.Bool.{true≢false}
 use Rattle.uc_model.specs.Rules.{rule_number}
 use Rattle.uc_model.specs.declared.instance.Thermal.{Thermal}
 use Rattle.uc_model.specs.declared.schedule.Cell.{Cell}
-use Rattle.schedule_check.specs.inside.CommitmentRules.{IsOnCommitments, RowKeeps, BreaksFirst}
+use Rattle.schedule_check.specs.CommitmentRules.{IsOnCommitments, RowKeeps, BreaksFirst}
 use Rattle.schedule_check.specs.inside.Failures.{FailsFirstAt}
-use Rattle.schedule_check.specs.inside.WholeWatts.{rule_of, unit_holds, unit_periods}
+use Rattle.schedule_check.specs.WholeWatts.{rule_of, unit_holds, unit_periods}
 use Rattle.schedule_check.specs.declared.unit_rule.TheConstants.{COMMITMENT_RULES}
 use Rattle.schedule_check.specs.declared.unit_rule.UnitRule.{UnitRule}
 use Rattle.schedule_check.specs.declared.unit_rule.UnitRule.TheVariants.{MustRun, InitialUp, InitialDown, MinimumUp, MinimumDown, Category, InitialStop, Production, StartCap, StopCap, RampUp, RampDown}

@@ -14,9 +14,9 @@ use Rattle.schedule_check.specs.declared.broken.Broken.{Broken}
 use Rattle.schedule_check.specs.declared.broken.Place.{Place}
 use Rattle.schedule_check.specs.declared.unit_rule.UnitRule.{UnitRule}
 use Rattle.schedule_check.specs.declared.unit_rule.UnitRule.TheVariants.{MustRun, InitialUp, InitialDown, MinimumUp, MinimumDown, Category, InitialStop, Production, StartCap, StopCap, RampUp, RampDown}
-use Rattle.schedule_check.specs.inside.Failures.{FailsFirstIn}
-use Rattle.schedule_check.specs.inside.WholeWatts.{holds_at, rule_of, row_of, unit_holds, unit_periods}
-use Rattle.schedule_check.proofs.RuleOrder.{tried, number-tried, tried-number, number_some}
+use Rattle.schedule_check.specs.inside.Failures.{FailsFirstAt, FailsFirstIn}
+use Rattle.schedule_check.specs.WholeWatts.{holds_at, rule_of, row_of, unit_holds, unit_periods}
+use Rattle.schedule_check.proofs.RuleOrder.{tried, number-tried, tried-number, number_within}
 use Rattle.schedule_check.proofs.SameRules.{AllProduced, same_rule}
 use Rattle.schedule_check.proofs.Produced.{denominator_positive}
 
@@ -31,7 +31,7 @@ pub earlier_tried : (instance : Instance) (printed : Printed) (turn : ℕ) → t
     → (earlier : model.Rule) → model.rule_number earlier < model.rule_number (rule_of (tried turn)) → HoldsThroughout instance (watts instance printed) earlier
 earlier_tried instance printed turn within before earlier less =
     let here = number-tried turn within in
-    let some = number_some earlier in
+    let some = (number_within earlier).0 in
     subst (λ rule. HoldsThroughout instance (watts instance printed) rule) (tried-number earlier (omega (arith, less)))
     (before (model.rule_number earlier - 1) (omega (arith, less)))
 
@@ -40,7 +40,7 @@ pub all_tried : (instance : Instance) (printed : Printed) (turn : ℕ) → 12 �
     → ((k : ℕ) → k < turn → HoldsThroughout instance (watts instance printed) (rule_of (tried k)))
     → (rule : model.Rule) → model.rule_number rule < 13 → HoldsThroughout instance (watts instance printed) rule
 all_tried instance printed turn last before rule less =
-    let some = number_some rule in
+    let some = (number_within rule).0 in
     subst (λ r. HoldsThroughout instance (watts instance printed) r) (tried-number rule less) (before (model.rule_number rule - 1) (omega arith))
 
 -- what the rules on thermal units say, and of how many units and periods
@@ -135,10 +135,21 @@ of_below P first limit renewable demand reserve model.RenewableRange h = renewab
 of_below P first limit renewable demand reserve model.Demand h = demand h
 of_below P first limit renewable demand reserve model.Reserve h = reserve h
 
--- a rule on the system that holds in each period
-pub system_throughout : (rule : model.Rule) (instance : Instance) (printed : Printed) → model.rule_periods rule instance ≡ instance.periods
-    → ((t : ℕ) → t < instance.periods → (g : ℕ) → IsTrue (watts instance printed rule g t)) → HoldsThroughout instance (watts instance printed) rule
-system_throughout rule instance printed periods all g t hg ht = all t (subst (λ n. t < n) periods ht) g
+-- a rule on the system that is broken first there
+pub system_fails : (rule : model.Rule) (instance : Instance) (printed : Printed) (k : ℕ) → model.rule_units rule instance ≡ 1
+    → model.rule_periods rule instance ≡ instance.periods → FailsFirstAt instance.periods (watts instance printed rule 0) k
+    → ((earlier : model.Rule) → model.rule_number earlier < model.rule_number rule → HoldsThroughout instance (watts instance printed) earlier)
+    → FailsFirst instance (watts instance printed) (record { rule = model.rule_number rule; unit = 0; period = k })
+system_fails rule instance printed k units periods first earlier = record {
+  rule = rule;
+  number = refl;
+  unit = subst (λ n. 0 < n) (sym units) (omega arith);
+  period = subst (λ n. k < n) (sym periods) first.within;
+  fails = first.fails;
+  rules = earlier;
+  units = λ g t hg ht. absurd (omega arith);
+  periods = first.before;
+}
 
 -- ---- from whole watts to what they stand for
 -- in every cell M8 holds, where it is an earlier rule

@@ -13,7 +13,7 @@ use Rattle.uc_model.specs.declared.instance.Thermal.{Thermal}
 use Rattle.uc_model.specs.declared.instance.Instance.{Instance}
 use Rattle.uc_model.specs.declared.schedule.Printed.{Printed}
 use Rattle.uc_model.proofs.Obeyed.{rule_at}
-use Rattle.schedule_check.specs.inside.WholeWatts.{HasPrice, row_of}
+use Rattle.schedule_check.specs.WholeWatts.{HasPrice, row_of}
 use Rattle.schedule_check.proofs.Produced.{holds_from}
 use Rattle.schedule_check.proofs.SameRules.{production-is}
 

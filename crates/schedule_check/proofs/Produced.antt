@@ -24,7 +24,7 @@ use Rattle.uc_model.proofs.Obeyed.{Produces, production_parts}
 use Rattle.cost_curves.specs.LowerHull.{width_of}
 use Rattle.cost_curves.proofs.UnitPoints.{lawful_points}
 use Rattle.cost_curves.proofs.HullExists.{segment-there, segment-within}
-use Rattle.schedule_check.specs.inside.WholeWatts as watts
+use Rattle.schedule_check.specs.WholeWatts as watts
 use Rattle.schedule_check.proofs.SegmentWeights.{stand_for}
 use Rattle.schedule_check.proofs.Counting.{same_test}
 

@@ -1,7 +1,7 @@
 -- The rules on thermal units are the first twelve of the model's, in the order in which they are tried.
 use Rattle.std.proofs.Common.{◌≡◌, ℕ, zero, suc, ◌-◌, ◌<◌, refl, arith, get_or}
 use Rattle.uc_model.specs.Rules as model
-use Rattle.schedule_check.specs.inside.WholeWatts.{rule_of}
+use Rattle.schedule_check.specs.WholeWatts.{rule_of}
 use Rattle.schedule_check.specs.declared.unit_rule.TheConstants.{UNIT_RULES}
 use Rattle.schedule_check.specs.declared.unit_rule.UnitRule.{UnitRule}
 use Rattle.schedule_check.specs.declared.unit_rule.UnitRule.TheVariants.{MustRun, InitialUp, InitialDown, MinimumUp, MinimumDown, Category, InitialStop, Production, StartCap, StopCap, RampUp, RampDown}
@@ -43,39 +43,23 @@ tried-number model.RenewableRange h = absurd (omega arith)
 tried-number model.Demand h = absurd (omega arith)
 tried-number model.Reserve h = absurd (omega arith)
 
-pub number_below : (rule : model.Rule) → model.rule_number rule < 16
-number_below model.MustRun = omega arith
-number_below model.InitialUp = omega arith
-number_below model.InitialDown = omega arith
-number_below model.MinimumUp = omega arith
-number_below model.MinimumDown = omega arith
-number_below model.Category = omega arith
-number_below model.InitialStop = omega arith
-number_below model.Production = omega arith
-number_below model.StartCap = omega arith
-number_below model.StopCap = omega arith
-number_below model.RampUp = omega arith
-number_below model.RampDown = omega arith
-number_below model.RenewableRange = omega arith
-number_below model.Demand = omega arith
-number_below model.Reserve = omega arith
-
-pub number_some : (rule : model.Rule) → 0 < model.rule_number rule
-number_some model.MustRun = omega arith
-number_some model.InitialUp = omega arith
-number_some model.InitialDown = omega arith
-number_some model.MinimumUp = omega arith
-number_some model.MinimumDown = omega arith
-number_some model.Category = omega arith
-number_some model.InitialStop = omega arith
-number_some model.Production = omega arith
-number_some model.StartCap = omega arith
-number_some model.StopCap = omega arith
-number_some model.RampUp = omega arith
-number_some model.RampDown = omega arith
-number_some model.RenewableRange = omega arith
-number_some model.Demand = omega arith
-number_some model.Reserve = omega arith
+-- a rule's number lies between 1 and 15
+pub number_within : (rule : model.Rule) → (0 < model.rule_number rule) × (model.rule_number rule < 16)
+number_within model.MustRun = (omega arith, omega arith)
+number_within model.InitialUp = (omega arith, omega arith)
+number_within model.InitialDown = (omega arith, omega arith)
+number_within model.MinimumUp = (omega arith, omega arith)
+number_within model.MinimumDown = (omega arith, omega arith)
+number_within model.Category = (omega arith, omega arith)
+number_within model.InitialStop = (omega arith, omega arith)
+number_within model.Production = (omega arith, omega arith)
+number_within model.StartCap = (omega arith, omega arith)
+number_within model.StopCap = (omega arith, omega arith)
+number_within model.RampUp = (omega arith, omega arith)
+number_within model.RampDown = (omega arith, omega arith)
+number_within model.RenewableRange = (omega arith, omega arith)
+number_within model.Demand = (omega arith, omega arith)
+number_within model.Reserve = (omega arith, omega arith)
 
 -- a fact of the rules on thermal units is one of the first twelve
 pub of_first : (P : model.Rule → Type 0) → ((rule : UnitRule) → P (rule_of rule)) → (rule : model.Rule) → model.rule_number rule < 13 → P rule

@@ -18,7 +18,7 @@ use Rattle.uc_model.proofs.Sums.{sum_below-same, sum_below-mul_left}
 use Rattle.uc_model.proofs.Tests.{int_le-true, le-int_le, int_eq-true, eq-int_eq}
 use Rattle.uc_model.proofs.PrintedCosts.{denominator-factor}
 use Rattle.schedule_check.specs.SizedNumbers.{output_at}
-use Rattle.schedule_check.specs.inside.WholeWatts as watts
+use Rattle.schedule_check.specs.WholeWatts as watts
 use Rattle.schedule_check.proofs.Counting.{same_test}
 use Rattle.schedule_check.proofs.Produced.{Shows, denominator_positive, production-same, holds_from, made}
 
@@ -37,13 +37,6 @@ scale-int_eq q a b some =
     (le_from_mul (pos q) a b (omega (arith, linear)) (omega (arith, linear)))
     (le_from_mul (pos q) b a (omega (arith, linear)) (omega (arith, linear)))))
     (λ h. eq-int_eq _ _ (ap (λ z. pos q *ℤ z) (int_eq-true a b h)))
-
--- equal numbers compare alike
-le_by : (a b c d : ℤ) → a ≡ c → b ≡ d → int_le a b ≡ int_le c d
-le_by a b c d h k = λ i. int_le (h i) (k i)
-
-eq_by : (a b c d : ℤ) → a ≡ c → b ≡ d → int_eq a b ≡ int_eq c d
-eq_by a b c d h k = λ i. int_eq (h i) (k i)
 
 over_one : (q : ℕ) → q / 1 ≡ q
 over_one q = omega arith

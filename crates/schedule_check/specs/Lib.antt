@@ -2,4 +2,6 @@ pub mod FirstBroken
 pub mod SizedNumbers
 pub mod PlainNumbers
 pub mod Accepted
+pub mod WholeWatts
+pub mod CommitmentRules
 pub mod inside

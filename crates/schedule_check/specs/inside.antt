@@ -1,4 +1,3 @@
 pub mod Failures
 pub mod Changes
-pub mod WholeWatts
-pub mod CommitmentRules
+pub mod Supplies

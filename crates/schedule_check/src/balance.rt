@@ -4,10 +4,11 @@ ghost use Rattle.std.specs.Prelude.{◌≡◌, ◌*◌, ◌<◌, ◌≤◌, [], 
 ghost use Rattle.uc_model.specs.Sums.{bit, sum_below};
 ghost use Rattle.uc_model.specs.Limits.{IsLawfulInstance, IsPower};
 ghost use Rattle.uc_model.specs.PrintedSchedule.{HasShapeOf, cell_at};
-ghost use Rattle.uc_model.specs.Schedule.{renewable_count, thermal_count};
+ghost use Rattle.uc_model.specs.Schedule.{thermal_count};
 ghost use Rattle.schedule_check.specs.SizedNumbers.{HasSizedNumbers, IsSized, IsSizedCell, output_at};
 ghost use Rattle.schedule_check.specs.inside.Failures.{IsFirstFailure};
-ghost use Rattle.schedule_check.specs.inside.WholeWatts.{demand_holds, reserve_holds, reserve_supply_at, row_of, supply_at, thermal_supply as thermal_supply_of};
+ghost use Rattle.schedule_check.specs.WholeWatts.{demand_holds, reserve_holds, row_of, supply_at, thermal_supply as thermal_supply_of};
+ghost use Rattle.schedule_check.specs.inside.Supplies.{given_at, units_of};
 
 use uc_model::{Cell, Instance, Printed, sum};
 
@@ -25,7 +26,7 @@ pub(crate) fn first_unbalanced(instance: &Instance, printed: &Printed) -> Option
     ensures { IsFirstFailure instance.now.periods (demand_holds instance.now printed.now) result }
 {
     for t in 0..instance.periods as usize {
-        if supply(instance, printed, t) != i128::from(instance.demand.as_slice()[t]) {
+        if !is_balanced(instance, printed, t) {
             return Some(t);
         }
     }
@@ -40,11 +41,22 @@ pub(crate) fn first_short_of_reserve(instance: &Instance, printed: &Printed) -> 
     ensures { IsFirstFailure instance.now.periods (reserve_holds instance.now printed.now) result }
 {
     for t in 0..instance.periods as usize {
-        if reserve(instance, printed, t) < i128::from(instance.reserves.as_slice()[t]) {
+        if !has_reserve(instance, printed, t) {
             return Some(t);
         }
     }
     None
+}
+
+// Whether the units' output in period t is demand.
+fn is_balanced(instance: &Instance, printed: &Printed, t: usize) -> bool
+    requires lawful { IsLawfulInstance instance.now }
+    requires shape { HasShapeOf instance.now printed.now }
+    requires sized { HasSizedNumbers printed.now }
+    requires period { t < instance.now.periods }
+    ensures { result ≡ demand_holds instance.now printed.now t }
+{
+    supply(instance, printed, t) == i128::from(instance.demand.as_slice()[t])
 }
 
 // What all units give in period t.
@@ -56,56 +68,74 @@ fn supply(instance: &Instance, printed: &Printed, t: usize) -> i128
     ensures { result ≡ supply_at instance.now printed.now t }
 {
     sum(
-        thermal(instance, printed, t),
-        renewable(instance, printed, t),
+        supplied(Kind::Thermal, instance, printed, t),
+        supplied(Kind::Renewable, instance, printed, t),
     )
 }
 
-// What the thermal units give in period t.
-fn thermal(instance: &Instance, printed: &Printed, t: usize) -> i128
+// Whether reserve in period t is at least what is required.
+fn has_reserve(instance: &Instance, printed: &Printed, t: usize) -> bool
     requires lawful { IsLawfulInstance instance.now }
     requires shape { HasShapeOf instance.now printed.now }
     requires sized { HasSizedNumbers printed.now }
     requires period { t < instance.now.periods }
-    ensures value { result ≡ sum_below (thermal_count instance.now) (λ g. thermal_supply_of instance.now printed.now g t) }
+    ensures { result ≡ reserve_holds instance.now printed.now t }
+{
+    i128::from(instance.reserves.as_slice()[t]) <= supplied(Kind::Reserve, instance, printed, t)
+}
+
+// What is summed over units: outputs of the thermal units with their minimums, their reserves, or the outputs of the renewable units.
+#[derive(Clone, Copy)]
+pub(crate) enum Kind {
+    Thermal,
+    Reserve,
+    Renewable,
+}
+
+// The sum over all units in period t.
+fn supplied(kind: Kind, instance: &Instance, printed: &Printed, t: usize) -> i128
+    requires lawful { IsLawfulInstance instance.now }
+    requires shape { HasShapeOf instance.now printed.now }
+    requires sized { HasSizedNumbers printed.now }
+    requires period { t < instance.now.periods }
+    ensures value { result ≡ sum_below (units_of kind instance.now) (λ i. given_at kind instance.now printed.now i t) }
     ensures size { unsigned_abs result ≤ MOST_UNITS * MOST_OUTPUT }
 {
     let mut total = 0;
-    for g in 0..instance.thermal.as_slice().len() {
-        total = sum(total, thermal_output(instance, printed, g, t));
+    for i in 0..units(kind, instance) {
+        total = sum(total, given(kind, instance, printed, i, t));
     }
     total
 }
 
-// What the renewable units give in period t.
-fn renewable(instance: &Instance, printed: &Printed, t: usize) -> i128
-    requires lawful { IsLawfulInstance instance.now }
-    requires shape { HasShapeOf instance.now printed.now }
-    requires sized { HasSizedNumbers printed.now }
-    requires period { t < instance.now.periods }
-    ensures value { result ≡ sum_below (renewable_count instance.now) (λ w. output_at printed.now w t) }
-    ensures size { unsigned_abs result ≤ MOST_UNITS * MOST_OUTPUT }
+// How many units there are of the kind.
+fn units(kind: Kind, instance: &Instance) -> usize
+    requires { IsLawfulInstance instance.now }
+    ensures value { result ≡ units_of kind instance.now }
+    ensures few { result ≤ MOST_UNITS }
 {
-    let mut total = 0;
-    for w in 0..instance.renewable.as_slice().len() {
-        total = sum(total, renewable_output(instance, printed, w, t));
+    match kind {
+        Kind::Thermal => instance.thermal.as_slice().len(),
+        Kind::Reserve => instance.thermal.as_slice().len(),
+        Kind::Renewable => instance.renewable.as_slice().len(),
     }
-    total
 }
 
-// The thermal units' reserve in period t.
-fn reserve(instance: &Instance, printed: &Printed, t: usize) -> i128
+// What unit i gives in period t.
+fn given(kind: Kind, instance: &Instance, printed: &Printed, i: usize, t: usize) -> i128
     requires lawful { IsLawfulInstance instance.now }
     requires shape { HasShapeOf instance.now printed.now }
     requires sized { HasSizedNumbers printed.now }
+    requires unit { i < units_of kind instance.now }
     requires period { t < instance.now.periods }
-    ensures { result ≡ reserve_supply_at instance.now printed.now t }
+    ensures value { result ≡ given_at kind instance.now printed.now i t }
+    ensures size { unsigned_abs result ≤ MOST_OUTPUT }
 {
-    let mut total = 0;
-    for g in 0..instance.thermal.as_slice().len() {
-        total = sum(total, cell_reserve(instance, printed, g, t));
+    match kind {
+        Kind::Thermal => thermal_output(instance, printed, i, t),
+        Kind::Reserve => wide(&cell(printed, i, t).r),
+        Kind::Renewable => wide(&output(printed, i, t)),
     }
-    total
 }
 
 // What thermal unit g gives in period t: its output above the minimum, and the minimum where it is on.
@@ -128,35 +158,16 @@ fn total_output(minimum: &i64, cell: &Cell) -> i128
     ensures value { result ≡ cell.now.p +ℤ minimum.now *ℤ bit cell.now.on }
     ensures size { unsigned_abs result ≤ MOST_OUTPUT }
 {
-    if cell.on {
-        i128::from(cell.p) + i128::from(*minimum)
-    } else {
-        i128::from(cell.p)
-    }
+    sum(wide(&cell.p), wide(&part(minimum, cell.on)))
 }
 
-// What renewable unit w gives in period t.
-fn renewable_output(instance: &Instance, printed: &Printed, w: usize, t: usize) -> i128
-    requires shape { HasShapeOf instance.now printed.now }
-    requires sized { HasSizedNumbers printed.now }
-    requires unit { w < renewable_count instance.now }
-    requires period { t < instance.now.periods }
-    ensures value { result ≡ output_at printed.now w t }
-    ensures size { unsigned_abs result ≤ MOST_OUTPUT }
+// A unit's minimum where it is on, and else 0.
+fn part(minimum: &i64, on: bool) -> i64
+    requires { IsPower minimum.now }
+    ensures value { result ≡ minimum.now *ℤ bit on }
+    ensures size { IsPower result }
 {
-    wide(&output(printed, w, t))
-}
-
-// The reserve of thermal unit g in period t.
-fn cell_reserve(instance: &Instance, printed: &Printed, g: usize, t: usize) -> i128
-    requires shape { HasShapeOf instance.now printed.now }
-    requires sized { HasSizedNumbers printed.now }
-    requires unit { g < thermal_count instance.now }
-    requires period { t < instance.now.periods }
-    ensures value { result ≡ (cell_at printed.now g t).r }
-    ensures size { unsigned_abs result ≤ MOST_OUTPUT }
-{
-    wide(&cell(printed, g, t).r)
+    if on { *minimum } else { 0 }
 }
 
 // The cell of thermal unit g in period t.

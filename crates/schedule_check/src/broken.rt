@@ -10,7 +10,7 @@ pub struct Broken {
 }
 
 /// A unit and a period, from 0.
-#[derive(Clone, Copy, Debug)]
+#[derive(Clone, Copy)]
 pub(crate) struct Place {
     pub unit: usize,
     pub period: usize,

@@ -3,7 +3,7 @@
 ghost use Rattle.std.specs.Prelude.{◌≡◌, ◌<◌, ◌≤◌, length};
 ghost use Rattle.uc_model.specs.Commitment.{starts as starts_at, stops as stops_at, was_on as was_on_at, must_run_at, initial_up_at, initial_down_at, initial_stop_holds};
 ghost use Rattle.uc_model.specs.Limits.{IsLawfulThermal};
-ghost use Rattle.schedule_check.specs.inside.WholeWatts.{commitment};
+ghost use Rattle.schedule_check.specs.WholeWatts.{commitment};
 
 use crate::dispatch::initial_limit;
 use crate::limits::initial_output;

@@ -2,7 +2,7 @@
 
 ghost use Rattle.std.specs.Prelude.{◌≡◌, ℕ, ◌+◌, ◌-◌, ◌<◌, ◌≤◌, Bool, length};
 ghost use Rattle.schedule_check.specs.inside.Changes.{AreCounts, change_at, count_below};
-ghost use Rattle.schedule_check.specs.inside.WholeWatts.{commitment};
+ghost use Rattle.schedule_check.specs.WholeWatts.{commitment};
 
 use crate::commitment::{starts, stops};
 use uc_model::{Cell, Thermal};
@@ -11,14 +11,14 @@ use uc_model::{Cell, Thermal};
 pub(crate) const MOMENTS: usize = 169;
 
 /// A change of a unit's state.
-#[derive(Clone, Copy, Debug)]
+#[derive(Clone, Copy)]
 pub(crate) enum Change {
     Start,
     Stop,
 }
 
 /// The number of a unit's changes of one kind before each period, and before the end of the last.
-#[derive(Debug, Drop)]
+#[derive(Drop)]
 pub(crate) struct Counts {
     before: [u8; MOMENTS],
 }

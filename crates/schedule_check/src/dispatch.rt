@@ -5,7 +5,7 @@ ghost use Rattle.uc_model.specs.Sums.{bit};
 ghost use Rattle.uc_model.specs.Commitment.{stop_cap as stop_cap_of, stop_reduction as stop_reduction_of};
 ghost use Rattle.uc_model.specs.Limits.{IsLawfulThermal};
 ghost use Rattle.schedule_check.specs.SizedNumbers.{IsSizedCell};
-ghost use Rattle.schedule_check.specs.inside.WholeWatts.{IsSizedRow, cell, commitment, output_before as before_of, production_at, start_cap_at, stop_cap_at, ramp_up_at, ramp_down_at, width as width_of};
+ghost use Rattle.schedule_check.specs.WholeWatts.{IsSizedRow, cell, commitment, output_before as before_of, production_at, start_cap_at, stop_cap_at, ramp_up_at, ramp_down_at, width as width_of};
 
 use crate::commitment::{starts, stops};
 use crate::limits::{initial_output, range, reduced, start_reduction, stop_reduction, width};

@@ -6,10 +6,10 @@ ghost use Rattle.uc_model.specs.PrintedSchedule.{HasShapeOf, printed_cost as pri
 ghost use Rattle.uc_model.specs.Rules.{Obeys};
 ghost use Rattle.schedule_check.specs.FirstBroken.{IsFirstBroken};
 ghost use Rattle.schedule_check.specs.SizedNumbers.{HasSizedNumbers};
-ghost use Rattle.schedule_check.specs.inside.WholeWatts.{IsFirstBrokenOf, IsFirstUnitBroken};
+ghost use Rattle.schedule_check.specs.WholeWatts.{IsFirstBrokenOf, IsFirstUnitBroken};
 
 use crate::broken::Broken;
-use crate::cost::printed_cost;
+use crate::pricing::printed_cost;
 use crate::unit_rule::UNIT_RULES;
 use crate::{balance, renewable, unit_rules};
 use uc_model::{Instance, Printed};
@@ -35,8 +35,8 @@ pub fn check(instance: &Instance, printed: &Printed) -> Result<i64, Broken>
     }
 }
 
-// The printed cost of a schedule that obeys, which fits.
-fn cost(instance: &Instance, printed: &Printed) -> i64
+/// The printed cost, in micro-dollars, of a schedule that obeys M1 to M15. It takes no memory.
+pub fn cost(instance: &Instance, printed: &Printed) -> i64
     requires lawful { IsLawfulInstance instance.now }
     requires shape { HasShapeOf instance.now printed.now }
     requires obeys { let q = printed_denominator instance.now printed.now in

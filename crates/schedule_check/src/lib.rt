@@ -8,17 +8,17 @@
 mod balance;
 mod broken;
 mod commitment;
-mod cost;
 mod counts;
 mod dispatch;
 mod feasibility;
 pub mod limits;
 mod minimum_times;
+mod pricing;
 mod renewable;
 mod start_category;
 mod unit_rule;
 mod unit_rules;
 
 pub use broken::Broken;
-pub use feasibility::check;
+pub use feasibility::{check, cost};
 pub use unit_rules::broken_rule;

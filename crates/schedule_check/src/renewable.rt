@@ -3,10 +3,10 @@
 ghost use Rattle.std.specs.Prelude.{◌≡◌, ℕ, ◌<◌, ◌≤◌, ◌&&◌, int_le, pos, length, slice_index_or};
 ghost use Rattle.std.specs.Int.{int_max};
 ghost use Rattle.uc_model.specs.Limits.{IsLawfulInstance};
+ghost use Rattle.schedule_check.specs.inside.Failures.{IsFirstFailure, IsFirstPlace};
 ghost use Rattle.uc_model.specs.PrintedSchedule.{HasShapeOf};
 ghost use Rattle.uc_model.specs.Schedule.{renewable_count};
-ghost use Rattle.schedule_check.specs.inside.Failures.{IsFirstFailure, IsFirstPlace};
-ghost use Rattle.schedule_check.specs.inside.WholeWatts.{is_output_within, renewable_range_at};
+ghost use Rattle.schedule_check.specs.WholeWatts.{is_output_within, renewable_range_at};
 
 use crate::broken::Place;
 use uc_model::{Instance, Printed, Renewable};

@@ -6,7 +6,7 @@ ghost use Rattle.uc_model.specs.StartCategory.{category_count, category_holds_at
 ghost use Rattle.uc_model.specs.Limits.{IsLawfulThermal};
 ghost use Rattle.uc_model.specs.declared.instance.Thermal.{Thermal};
 ghost use Rattle.schedule_check.specs.inside.Changes.{AreCounts};
-ghost use Rattle.schedule_check.specs.inside.WholeWatts.{commitment, category as category_of};
+ghost use Rattle.schedule_check.specs.WholeWatts.{commitment, category as category_of};
 
 use crate::commitment::starts;
 use crate::counts::{Counts, MOMENTS};

@@ -2,10 +2,10 @@
 
 ghost use Rattle.std.specs.Prelude.{◌≡◌};
 ghost use Rattle.uc_model.specs.Rules.{rule_number};
-ghost use Rattle.schedule_check.specs.inside.WholeWatts.{rule_of, unit_periods};
+ghost use Rattle.schedule_check.specs.WholeWatts.{rule_of, unit_periods};
 
 /// M1 to M12 by their names.
-#[derive(Clone, Copy, Debug)]
+#[derive(Clone, Copy)]
 pub(crate) enum UnitRule {
     MustRun,
     InitialUp,

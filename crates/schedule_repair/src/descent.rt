@@ -48,24 +48,39 @@ pub fn repair(
     requires lawful { IsLawfulInstance instance.now }
     ensures accepted { IfOk result (IsAcceptedIfFound instance.now) }
 {
+    room.begin(moves);
     let mut best = None;
-    let mut left = moves;
     let (first, count) = room.next_thresholds();
     for threshold in THRESHOLDS.iter().skip(first).take(count) {
-        if moves.saturating_sub(left) < FEW_MOVES || !is_enough(&best, enough) {
-            let found = descent(alloc, room, instance, table, shares, *threshold, &mut left)?;
+        if room.spent() < FEW_MOVES || !is_enough(&best, enough) {
+            let found = descent(alloc, room, instance, table, shares, *threshold)?;
             best = cheaper(best, found);
         }
     }
     if is_enough(&best, enough) {
         return Ok(best);
     }
+    let found = kicked(alloc, room, instance, table, enough)?;
+    Ok(cheaper(best, found))
+}
+
+// The schedule of the best state after kicks, if they found a better one.
+fn kicked(
+    alloc: Global,
+    room: &mut Repair,
+    instance: &Instance,
+    table: &Table,
+    enough: i64,
+) -> Result<Option<(Printed, i64)>, NoMemory>
+    requires lawful { IsLawfulInstance instance.now }
+    ensures accepted { IfOk result (IsAcceptedIfFound instance.now) }
+{
     let before = room.kept.cost;
-    kick(room, instance, table, left, aim(before, enough))?;
+    kick(room, instance, table, aim(before, enough))?;
     if room.kept.cost == before {
-        return Ok(best);
+        return Ok(None);
     }
-    Ok(cheaper(best, offer(alloc, room, instance)?))
+    offer(alloc, room, instance)
 }
 
 // Whether there is a schedule that costs at most so much.
@@ -90,17 +105,16 @@ fn descent(
     table: &Table,
     shares: &[i64],
     threshold: i64,
-    left: &mut u32,
 ) -> Result<Option<(Printed, i64)>, NoMemory>
     requires lawful { IsLawfulInstance instance.now }
     ensures accepted { IfOk result (IsAcceptedIfFound instance.now) }
 {
     let rounded = round(&room.plant, &mut room.state, shares, threshold);
-    if !rounded || *left == 0 {
+    if !rounded || room.left == 0 {
         return Ok(None);
     }
     room.state.load(&room.plant, instance.periods);
-    descend(room, instance, table, left)?;
+    descend(room, instance, table)?;
     let found = offer(alloc, room, instance)?;
     room.kept.keep(&room.plant, &mut room.state, instance);
     Ok(found)
@@ -135,23 +149,18 @@ fn cheaper(first: Option<(Printed, i64)>, second: Option<(Printed, i64)>) -> Opt
 }
 
 // Improves all units in passes until none gains.
-fn descend(
-    room: &mut Repair,
-    instance: &Instance,
-    table: &Table,
-    left: &mut u32,
-) -> Result<(), NoMemory>
+fn descend(room: &mut Repair, instance: &Instance, table: &Table) -> Result<(), NoMemory>
     requires lawful { IsLawfulInstance instance.now }
 {
     let mut least = soft_price(&room.plant.market);
     for _ in 0..SOFT_PASSES {
         set_soft_prices(&mut room.state.periods, table, least);
-        pass(room, instance, Units::All, left)?;
+        pass(room, instance, Units::All)?;
         least = least.saturating_mul(2);
     }
     set_full_prices(&mut room.state.periods, &room.plant.market);
     for _ in 0..HARD_PASSES {
-        if !pass(room, instance, Units::All, left)? {
+        if !pass(room, instance, Units::All)? {
             break;
         }
     }

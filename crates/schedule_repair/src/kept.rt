@@ -3,7 +3,7 @@
 ghost use Rattle.uc_model.specs.Limits.{IsLawfulInstance};
 
 use crate::moves::start_cost;
-use repair_state::{Plant, State, Window, copy_row, exchange, total, unit_at};
+use repair_state::{Period, Plant, State, Window, copy_row, exchange, total, unit_at};
 use std::alloc::Global;
 use uc_model::{Instance, NoMemory, Pattern};
 
@@ -47,10 +47,19 @@ impl Kept {
     /// Makes the state what is kept.
     pub(crate) fn restore(&self, plant: &Plant, state: &mut State) {
         copy_patterns(&self.patterns, &mut state.patterns);
-        let units = plant.units.iter().zip(&self.rows);
-        for ((unit, kept), row) in units.zip(state.rows.iter_mut()) {
-            exchange(&plant.market, &mut state.periods, unit, row, kept);
-        }
+        restore_rows(plant, &self.rows, &mut state.periods, &mut state.rows);
+    }
+}
+
+// Moves all units into the kept windows.
+fn restore_rows(
+    plant: &Plant,
+    kept: &[Vec<Window>],
+    periods: &mut [Period],
+    rows: &mut [Vec<Window>],
+) {
+    for ((unit, to), row) in plant.units.iter().zip(kept).zip(rows.iter_mut()) {
+        exchange(&plant.market, periods, unit, row, to);
     }
 }
 

@@ -21,37 +21,35 @@ const SOFT_KICKS: u64 = CHANCES / 4 * 3;
 /// So many searches of a pattern count as one move where turns are listed, since the rest of a move is shared there.
 const SEARCHES: usize = 4;
 
-/// Kicks the best state as long as moves are left and it costs more than the aim. The only error is `NoMemory`.
+/// Kicks the best state as long as moves are left in the room and it costs more than the aim. The only error is `NoMemory`.
 pub(crate) fn kick(
     room: &mut Repair,
     instance: &Instance,
     table: &Table,
-    moves: u32,
     aim: i64,
 ) -> Result<(), NoMemory>
     requires lawful { IsLawfulInstance instance.now }
 {
-    let mut left = moves;
     room.kept.restore(&room.plant, &mut room.state);
-    for _ in 0..moves {
-        if left == 0 || room.kept.cost <= aim {
+    for _ in 0..room.left {
+        if room.left == 0 || room.kept.cost <= aim {
             break;
         }
         if room.turns.are_old(room.kept.cost) {
-            list_turns(room, instance, &mut left)?;
+            list_turns(room, instance)?;
         }
-        kick_once(room, instance, table, &mut left)?;
+        kick_once(room, instance, table)?;
     }
     Ok(())
 }
 
 // Lists the turns that cost little, for which the search of a pattern in each cell takes moves.
-fn list_turns(room: &mut Repair, instance: &Instance, left: &mut u32) -> Result<(), NoMemory>
+fn list_turns(room: &mut Repair, instance: &Instance) -> Result<(), NoMemory>
     requires lawful { IsLawfulInstance instance.now }
 {
     let cells = room.visits.len().saturating_mul(instance.periods as usize);
-    *left = match u32::try_from(cells / SEARCHES) {
-        Ok(moves) => left.saturating_sub(moves),
+    room.left = match u32::try_from(cells / SEARCHES) {
+        Ok(moves) => room.left.saturating_sub(moves),
         Err(_) => 0,
     };
     let turns = &mut room.turns;
@@ -66,29 +64,24 @@ fn list_turns(room: &mut Repair, instance: &Instance, left: &mut u32) -> Result<
 }
 
 // Turns a cell, improves the other units that have turns, and then the unit of the cell too; and goes back if that is no cheaper.
-fn kick_once(
-    room: &mut Repair,
-    instance: &Instance,
-    table: &Table,
-    left: &mut u32,
-) -> Result<(), NoMemory>
+fn kick_once(room: &mut Repair, instance: &Instance, table: &Table) -> Result<(), NoMemory>
     requires lawful { IsLawfulInstance instance.now }
 {
     let Some(turn) = room.turns.choose(&mut room.chance) else {
-        *left = 0;
+        room.left = 0;
         return Ok(());
     };
-    *left = left.saturating_sub(2);
+    room.left = room.left.saturating_sub(2);
     if room.chance.next() < SOFT_KICKS {
         let least = soft_price(&room.plant.market);
         set_soft_prices(&mut room.state.periods, table, least);
     }
     turn_unit(room, instance, turn.unit, Some(&turn.fix))?;
-    pass(room, instance, Units::ListedBut(turn.unit), left)?;
+    pass(room, instance, Units::ListedBut(turn.unit))?;
     turn_unit(room, instance, turn.unit, None)?;
     set_full_prices(&mut room.state.periods, &room.plant.market);
     for _ in 0..PASSES {
-        if !pass(room, instance, Units::Listed, left)? {
+        if !pass(room, instance, Units::Listed)? {
             break;
         }
     }

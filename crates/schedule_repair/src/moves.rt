@@ -61,16 +61,33 @@ fn fix_of(plant: &Plant, g: usize, turned: Option<&Fix>) -> Fix {
 
 /// Fills unit g's cells beside the others. A unit whose ramps can bind is taken away from them.
 pub(crate) fn fill_cells(plant: &Plant, state: &mut State, g: usize) {
-    if let (Some(unit), Some(row), Some(known)) = (
-        plant.units.get(g),
-        state.rows.get(g),
-        state.known.get_mut(g),
-    ) {
-        let cells = state.cells.iter_mut().zip(known.chunks_exact_mut(WAYS));
-        let periods = state.periods.iter_mut().zip(row);
-        for ((period, window), (cell, known)) in periods.zip(cells) {
-            *cell = cells_beside(&plant.market, period, unit, window, known);
-        }
+    let (Some(unit), Some(row)) = (plant.units.get(g), state.rows.get(g)) else {
+        return;
+    };
+    if let Some(known) = state.known.get_mut(g) {
+        fill_row(
+            &plant.market,
+            &mut state.periods,
+            unit,
+            row,
+            known,
+            &mut state.cells,
+        );
+    }
+}
+
+// Fills the cells of a unit in its windows.
+fn fill_row(
+    market: &Market,
+    periods: &mut [Period],
+    unit: &Unit,
+    row: &[Window],
+    known: &mut [Known],
+    cells: &mut [Cells],
+) {
+    let cells = cells.iter_mut().zip(known.chunks_exact_mut(WAYS));
+    for ((period, window), (cell, known)) in periods.iter_mut().zip(row).zip(cells) {
+        *cell = cells_beside(market, period, unit, window, known);
     }
 }
 
@@ -136,11 +153,7 @@ fn put_on(
         return Ok(false);
     };
     let before = *own;
-    let starts = start_cost(thermal, own, count);
-    let choices = [
-        (*pattern, start_cost(thermal, pattern, count)),
-        (before, starts),
-    ];
+    let most = most.saturating_add(start_cost(thermal, &before, count));
     let beside = Beside {
         market: &plant.market,
         periods: &state.periods,
@@ -148,11 +161,13 @@ fn put_on(
         unit,
         count,
     };
-    let from = usize::from(is_same(&before, pattern));
-    let most = most.saturating_add(starts);
     let trial = &mut state.trial;
-    take_first(&beside, &choices, from, most, own, trial, row)?;
-    Ok(!is_same(&before, own))
+    if !is_same(&before, pattern) && take(&beside, thermal, pattern, most, trial, row)? {
+        *own = *pattern;
+        return Ok(true);
+    }
+    take(&beside, thermal, &before, most, trial, row)?;
+    Ok(false)
 }
 
 // Puts unit g, whose ramps can't bind, on the pattern, and tells whether it is another one.
@@ -178,28 +193,25 @@ fn put_freely(
     true
 }
 
-// Takes the first pattern from a place on that costs less than so much with its starts, and outputs that keep the ramps.
-fn take_first(
+// Takes windows of a pattern, round outputs that keep the ramps, if it costs less than so much with its starts; and tells whether.
+fn take(
     beside: &Beside,
-    choices: &[(Pattern, i64)],
-    from: usize,
+    thermal: &Thermal,
+    pattern: &Pattern,
     most: i64,
-    own: &mut Pattern,
     trial: &mut Trial,
     row: &mut [Window],
-) -> Result<(), NoMemory> {
-    for (pattern, starts) in choices.iter().skip(from) {
-        track(beside, pattern, trial)?;
-        if beside.is_below(&trial.row, most.saturating_sub(*starts)) {
-            *own = *pattern;
-            narrow(beside.unit, beside.periods, &mut trial.row);
-            for (window, tried) in row.iter_mut().zip(&trial.row) {
-                *window = *tried;
-            }
-            break;
-        }
+) -> Result<bool, NoMemory>
+    requires lawful { IsLawfulThermal thermal.now }
+{
+    track(beside, pattern, trial)?;
+    let starts = start_cost(thermal, pattern, beside.count);
+    if !beside.is_below(&trial.row, most.saturating_sub(starts)) {
+        return Ok(false);
     }
-    Ok(())
+    narrow(beside.unit, beside.periods, &mut trial.row);
+    copy_row(&trial.row, row);
+    Ok(true)
 }
 
 // Centres windows on the outputs that are best in each period alone, moved until they keep the ramps; or in all periods together where

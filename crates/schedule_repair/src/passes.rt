@@ -24,31 +24,39 @@ pub(crate) enum Units {
 
 /// Improves each of the units once, in an order by chance, as long as moves are left, and centres the windows of those whose ramps can
 /// bind; and tells whether a pattern has changed. The only error is `NoMemory`.
-pub(crate) fn pass(
-    room: &mut Repair,
-    instance: &Instance,
-    units: Units,
-    left: &mut u32,
-) -> Result<bool, NoMemory>
+pub(crate) fn pass(room: &mut Repair, instance: &Instance, units: Units) -> Result<bool, NoMemory>
     requires lawful { IsLawfulInstance instance.now }
 {
     shuffle(&mut room.visits, &mut room.chance)?;
     let mut has_changed = false;
-    for visit in &room.visits {
-        if *left > 0
-            && is_visited(&room.turns, units, visit.unit)
-            && !room.tried.has(mark_of_try(&room.state.periods, visit.unit))
-        {
-            *left = left.saturating_sub(1);
-            let changed = improve(&room.plant, &mut room.state, instance, visit.unit, None)?;
-            room.tried.put(mark_of_try(&room.state.periods, visit.unit));
-            has_changed = has_changed || changed;
-        }
+    for i in 0..room.visits.len() {
+        let changed = visit(room, instance, units, i)?;
+        has_changed = has_changed || changed;
     }
     if room.plant.is_ramped {
         room.state.recenter(&room.plant, instance.periods);
     }
     Ok(has_changed)
+}
+
+// Improves the unit of visit i, if it is one of the units, a move is left and it wasn't tried; and tells whether its pattern has changed.
+fn visit(room: &mut Repair, instance: &Instance, units: Units, i: usize) -> Result<bool, NoMemory>
+    requires lawful { IsLawfulInstance instance.now }
+{
+    let g = match room.visits.get(i) {
+        Some(visit) => visit.unit,
+        None => return Ok(false),
+    };
+    if room.left == 0
+        || !is_visited(&room.turns, units, g)
+        || room.tried.has(mark_of_try(&room.state.periods, g))
+    {
+        return Ok(false);
+    }
+    room.left = room.left.saturating_sub(1);
+    let changed = improve(&room.plant, &mut room.state, instance, g, None)?;
+    room.tried.put(mark_of_try(&room.state.periods, g));
+    Ok(changed)
 }
 
 fn is_visited(turns: &Turns, units: Units, g: usize) -> bool {
@@ -75,8 +83,13 @@ pub(crate) fn soft_price(market: &Market) -> i64 {
 
 /// Makes missing reserve as cheap as its price in the table, or as this price if it is more.
 pub(crate) fn set_soft_prices(periods: &mut [Period], table: &Table, least: i64) {
-    for (period, price) in periods.iter_mut().zip(table.mu()) {
-        period.reserve_rate = least.max(rate_of(price, table.k()));
+    set_prices(periods, table.mu(), table.k(), least);
+}
+
+// Makes missing reserve as cheap as its prices at this scale.
+fn set_prices(periods: &mut [Period], prices: &[i64], scale: i64, least: i64) {
+    for (period, price) in periods.iter_mut().zip(prices) {
+        period.reserve_rate = least.max(rate_of(price, scale));
     }
 }
 

@@ -11,7 +11,8 @@ use repair_state::{Plant, State};
 use std::alloc::Global;
 use uc_model::{Instance, NoMemory};
 
-/// What repairs of an instance's schedules share; made once, mended by each move. `repairs` counts them.
+/// What repairs of an instance's schedules share; made once, mended by each move. `repairs` counts them; one
+/// may make so many `moves`, of which some are `left`.
 #[derive(Drop)]
 pub struct Repair {
     pub(crate) plant: Plant,
@@ -21,6 +22,8 @@ pub struct Repair {
     pub(crate) turns: Turns,
     pub(crate) tried: Tried,
     pub(crate) kept: Kept,
+    moves: u32,
+    pub(crate) left: u32,
     repairs: usize,
 }
 
@@ -38,10 +41,7 @@ impl Repair {
     {
         let plant = Plant::new(alloc, instance)?;
         let state = State::new(alloc, instance, &plant)?;
-        let mut visits = Vec::new(alloc);
-        for unit in 0..plant.units.len() {
-            visits.push(Visit { key: 0, unit })?;
-        }
+        let visits = visits(alloc, plant.units.len())?;
         Ok(Repair {
             tried: Tried::new(alloc)?,
             turns: Turns::new(alloc, plant.units.len())?,
@@ -50,8 +50,21 @@ impl Repair {
             plant,
             state,
             visits,
+            moves: 0,
+            left: 0,
             repairs: 0,
         })
+    }
+
+    /// Gives a repair so many moves.
+    pub(crate) fn begin(&mut self, moves: u32) {
+        self.moves = moves;
+        self.left = moves;
+    }
+
+    /// How many of its moves were made.
+    pub(crate) fn spent(&self) -> u32 {
+        self.moves.saturating_sub(self.left)
     }
 
     /// The first threshold of the next repair and how many it has: all in the first one, and then one after another.
@@ -64,4 +77,13 @@ impl Repair {
             (number % THRESHOLDS.len(), 1)
         }
     }
+}
+
+// A visit of each of so many units.
+fn visits(alloc: Global, units: usize) -> Result<Vec<Visit>, NoMemory> {
+    let mut visits = Vec::new(alloc);
+    for unit in 0..units {
+        visits.push(Visit { key: 0, unit })?;
+    }
+    Ok(visits)
 }

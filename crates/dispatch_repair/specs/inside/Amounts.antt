@@ -1,12 +1,14 @@
 -- Ranges, heads and amounts of a period's sources by their places: renewable units, then thermal ones. This project's own.
 use Rattle.std.specs.Prelude.{◌≡◌, ℕ, ◌+◌, ◌*◌, ◌<◌, ◌≤◌, nat_lt, List, ℤ, pos, unsigned_abs, length, slice_index_or, if◌then◌else◌}
+use Rattle.uc_model.specs.Limits.{IsLawfulInstance}
 use Rattle.uc_model.specs.Schedule.{thermal_count, renewable_count}
 use Rattle.uc_model.specs.declared.instance.Instance.{Instance}
 use Rattle.uc_model.specs.declared.limits.TheConstants.{MAX_POWER}
+use Rattle.uc_model.specs.declared.pattern.Pattern.{Pattern}
+use Rattle.dispatch_repair.specs.Dispatch.{period_after}
 use Rattle.dispatch_repair.specs.Period.{Period, Source, FromRenewable, FromThermal, low_of, high_of, head_of}
-use Rattle.dispatch_repair.specs.inside.Segments.{source_at, source_count, AreInMeritOrder}
+use Rattle.dispatch_repair.specs.inside.Segments.{source_at, source_count}
 use Rattle.dispatch_repair.specs.declared.range.Range.{Range}
-use Rattle.dispatch_repair.specs.declared.room.Room.{Room}
 
 abbrev pub range_at : List Range → ℕ → Range
 range_at ranges n = slice_index_or ranges n (record { low = pos 0; high = pos 0 })
@@ -53,16 +55,21 @@ pub record IsHeadOf (period : Period) (g : ℕ) (number : ℤ) : Type 0 where
   pub is : number ≡ head_of period g
   pub size : IsSizedEnd number
 
+-- these are the amounts before period t of the commitment
+pub record AreBeforePeriod (instance : Instance) (patterns : List Pattern) (t : ℕ) (amounts : List ℤ) : Type 0 where
+  pub lawful : IsLawfulInstance instance
+  pub pattern_count : length patterns ≡ thermal_count instance
+  pub period : t < instance.periods
+  pub count : length amounts ≡ source_count instance
+  pub sizes : (g : ℕ) → g < thermal_count instance → IsSizedOutput (thermal_amount instance amounts g)
+
+-- the period after them
+abbrev pub next_period : Instance → List Pattern → ℕ → List ℤ → Period
+next_period instance patterns t amounts = period_after instance patterns t (thermal_amount instance amounts)
+
 -- the ranges of all sources, and the heads of the thermal units
 abbrev pub AreRangesOf : Period → List Range → Type 0
 AreRangesOf period ranges = (n : ℕ) → n < source_count period.instance → IsRangeOf period n (range_at ranges n)
 
 abbrev pub AreHeadsOf : Period → List ℤ → Type 0
 AreHeadsOf period heads = (g : ℕ) → g < thermal_count period.instance → IsHeadOf period g (amount_at heads g)
-
--- memory for the periods of an instance, with its segments in order of merit
-pub record IsRoomOf (instance : Instance) (room : Room) : Type 0 where
-  pub order : AreInMeritOrder instance room.order.items
-  pub ranges : length room.ranges.items ≡ source_count instance
-  pub amounts : length room.amounts.items ≡ source_count instance
-  pub heads : length room.heads.items ≡ thermal_count instance

@@ -8,6 +8,7 @@ use Rattle.uc_model.specs.declared.limits.TheConstants.{MAX_POWER, MAX_UNITS}
 use Rattle.cost_curves.specs.declared.slope.Slope.{Slope}
 use Rattle.dispatch_repair.specs.Period.{Period, demand_of, low_of, thermal_limit, thermal_sum, total_output}
 use Rattle.dispatch_repair.specs.MeritOrder.{HasNextSlope}
+use Rattle.dispatch_repair.specs.Stuck.{IsFree}
 use Rattle.dispatch_repair.specs.inside.Amounts.{range_at, amount_at, thermal_amount, IsSizedEnd}
 use Rattle.dispatch_repair.specs.inside.Segments.{IsAtMost, source_at, source_count, width_at, segment_at}
 use Rattle.dispatch_repair.specs.declared.fill.Left.{Left}
@@ -97,3 +98,9 @@ pub record IsFilledTo (instance : Instance) (order : List Segment) (ranges : Lis
 pub record IsFirstLeft (period : Period) (left : Left) : Type 0 where
   pub need : left.need ≡ demand_of period -ℤ total_output period (low_of period)
   pub room : left.room ≡ thermal_limit period -ℤ thermal_sum period (low_of period)
+
+-- nothing is in the way, and this is left at first
+pub record IsStart (period : Period) (left : Left) : Type 0 where
+  pub free : IsFree period
+  pub first : IsFirstLeft period left
+  pub sizes : IsLeft left

@@ -8,7 +8,8 @@ use Rattle.uc_model.specs.declared.stuck.Stuck.{Stuck}
 use Rattle.uc_model.specs.declared.stuck.Why.{Why}
 use Rattle.dispatch_repair.specs.Period.{output_before}
 use Rattle.dispatch_repair.specs.Dispatch.{HasPeriods, IsFilled}
-use Rattle.dispatch_repair.specs.inside.Amounts.{IsRoomOf, IsSizedOutput, thermal_amount}
+use Rattle.dispatch_repair.specs.Rooms.{IsRoomOf}
+use Rattle.dispatch_repair.specs.inside.Amounts.{IsSizedOutput, thermal_amount}
 use Rattle.dispatch_repair.specs.inside.Rows.{AreCommitted, AreSameBelow}
 use Rattle.dispatch_repair.specs.declared.room.Room.{Room}
 use Rattle.dispatch_repair.specs.declared.schedule.DispatchFault.{DispatchFault}

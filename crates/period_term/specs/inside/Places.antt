@@ -30,6 +30,12 @@ pub record HoldsCap (corners : List Point) (cap : ℤ) (i place : ℕ) : Type 0 
   pub begins : output_of corners i ≤ℤ cap
   pub reaches : cap <ℤ output_of corners (suc i)
 
+-- the cap lies on the segment from corner i to the next one, but for its right end
+pub record LiesOnSegment (corners : List Point) (cap : ℤ) (i : ℕ) : Type 0 where
+  pub within : suc i < length corners
+  pub begins : output_of corners i ≤ℤ cap
+  pub reaches : cap <ℤ output_of corners (suc i)
+
 -- the sizes of these numbers
 abbrev pub MAX_CORNER_COST : ℕ
 MAX_CORNER_COST = 3 * 10 ^ 28

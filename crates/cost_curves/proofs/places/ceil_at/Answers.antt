@@ -4,7 +4,7 @@ use Rattle.std.specs.Int.{w64}
 use Rattle.std.proofs.lemmas.Int.{to_z-of_z}
 use Rattle.uc_model.specs.Division.{IsCeiling}
 use Rattle.uc_model.specs.Points.{point_of, output_of}
-use Rattle.uc_model.proofs.Ring.{linear}
+use Rattle.uc_model.proofs.Ring.{linear, sub_nonneg}
 use Rattle.cost_curves.specs.LeastCost.{IsLeastCostUp}
 use Rattle.cost_curves.proofs.CornerSizes.{over-bits, over-fits}
 use Rattle.cost_curves.proofs.HullValues.{segment_is}
@@ -17,12 +17,9 @@ overflow_sub-over c =
     over-fits c.args.corners.now c.args.p.now c.output.result c.ends_at-found.result.left c.ends_at-found.result.right c.requires.lawful c.requires.low
     c.ends_at-found.ensures c.output.ensures.value
 
-gap : (x y : ℤ) → x ≤ℤ y → pos 0 ≤ℤ (y -ℤ x)
-gap x y h = omega (arith, linear)
-
 pub cost_between-requires-clause-low : goal.cost_between-requires-clause-low
 cost_between-requires-clause-low c =
-    subst (λ z. pos 0 ≤ℤ z) (sym (over-bits c.args.corners.now c.args.p.now c.output.result c.ends_at-found.result.left c.ends_at-found.result.right c.requires.lawful c.requires.low c.ends_at-found.ensures c.output.ensures.value)) (gap (output_of c.args.corners.now c.ends_at-found.result.left) c.args.p.now c.ends_at-found.ensures.begins)
+    subst (λ z. pos 0 ≤ℤ z) (sym (over-bits c.args.corners.now c.args.p.now c.output.result c.ends_at-found.result.left c.ends_at-found.result.right c.requires.lawful c.requires.low c.ends_at-found.ensures c.output.ensures.value)) (sub_nonneg (output_of c.args.corners.now c.ends_at-found.result.left) c.args.p.now c.ends_at-found.ensures.begins)
 
 within : (p x y z : ℤ) → p ≤ℤ (y -ℤ z) → (p -ℤ (x -ℤ z)) ≤ℤ (y -ℤ x)
 within p x y z h = omega (arith, linear)

@@ -1,5 +1,5 @@
 -- The turns of the units before the place were taken.
-use Rattle.dispatch_repair.specs.inside.Amounts.{IsRoomOf}
+use Rattle.dispatch_repair.specs.Rooms.{IsRoomOf}
 use Rattle.decommitment.specs.inside.Turns.{IsDroppedBelow}
 use Rattle.decommitment.proofs.pass.drop_pass.Given as goal
 

@@ -12,7 +12,7 @@ pub returns-in-Ok-clause-trial : goal.returns-in-Ok-clause-trial
 returns-in-Ok-clause-trial c =
     let instance = c.args.instance.now in
     let printed = c.in-Ok.printed in
-    let fits : FitsSigned w64 c.accepted_cost-cost.result = search rules in
+    let fits : FitsSigned w64 c.cost-cost.result = search rules in
     let size : unsigned_abs (printed_cost instance printed) ≤ COST_MAX =
     printed_cost-fits instance printed (printed_denominator instance printed) c.requires.lawful c.in-Ok.ensures.obeys in
     simp to_z-of_z (record {
@@ -20,8 +20,8 @@ returns-in-Ok-clause-trial c =
       accepted = record {
         shape = c.in-Ok.ensures.shape;
         obeys = c.in-Ok.ensures.obeys;
-        cost_is = c.accepted_cost-cost.ensures;
+        cost_is = c.cost-cost.ensures;
         numbers = c.in-Ok.ensures.numbers;
-        size = subst (λ z. unsigned_abs z ≤ COST_MAX) (sym c.accepted_cost-cost.ensures) size;
+        size = subst (λ z. unsigned_abs z ≤ COST_MAX) (sym c.cost-cost.ensures) size;
       };
     })

@@ -1,25 +1,12 @@
--- A renewable unit has one segment, and a thermal one those of its curve.
-use Rattle.std.proofs.Common.{◌≡◌, ℕ, suc, ◌+◌, ◌<◌, ◌∷◌, [], ◌++◌, length, arith, sym, subst, ap, ◌∙◌}
+-- A thermal unit has the segments of its curve.
+use Rattle.std.proofs.Common.{◌≡◌, ℕ, suc, ◌+◌, ◌<◌, length, arith, sym, subst, ap, ◌∙◌}
 use Rattle.std.specs.Prelude.{slice_index_or}
 use Rattle.std.proofs.lemmas.List.{get_or_read}
 use Rattle.uc_model.specs.Schedule.{thermal_unit, renewable_count, no_unit}
 use Rattle.uc_model.specs.declared.instance.Thermal.{Thermal}
 use Rattle.cost_curves.specs.LowerHull.{IsLowerHull}
-use Rattle.dispatch_repair.specs.inside.Segments.{AreSegmentsOf, free_segment}
-use Rattle.dispatch_repair.specs.declared.segment.Segment.{Segment}
-use Rattle.dispatch_repair.proofs.CurveSegments.{renewable_more}
+use Rattle.dispatch_repair.specs.inside.Segments.{AreSegmentsOf}
 use Rattle.dispatch_repair.proofs.merit_order.segments.Goals as goal
-
-pub loop-w-preserved : goal.loop-w-preserved
-loop-w-preserved c =
-    let before = c.loop-w.invariant in
-    let items : c.push.new.self.items ≡ c.loop-w.segments.items ++ c.free.result ∷ [] = c.in_ok-push.ensures.items in
-    subst (AreSegmentsOf c.args.instance.now (c.loop-w.w + 1)) (sym (items ∙ ap (λ (s : Segment). c.loop-w.segments.items ++ s ∷ []) c.free.ensures))
-    (subst (λ k. AreSegmentsOf c.args.instance.now k (c.loop-w.segments.items ++ free_segment c.loop-w.w ∷ [])) (more c.loop-w.w)
-    (renewable_more c.args.instance.now c.loop-w.w c.loop-w.segments.items (subst (λ xs. c.loop-w.w < length xs) c.as_slice-w-end.ensures c.loop-w-test.true) before))
-  where
-    more : (k : ℕ) → suc k ≡ k + 1
-    more k = omega arith
 
 pub loop-g-preserved : goal.loop-g-preserved
 loop-g-preserved c =

@@ -3,8 +3,5 @@ use Rattle.std.proofs.Common.{◌+◌}
 use Rattle.dispatch_repair.specs.inside.Segments.{AreSegmentsOf}
 use Rattle.dispatch_repair.proofs.merit_order.segments.Given as goal
 
-abbrev pub invariant-loop-w : goal.invariant-loop-w
-invariant-loop-w l = AreSegmentsOf l.instance l.w l.segments.items
-
 abbrev pub invariant-loop-g : goal.invariant-loop-g
 invariant-loop-g l = AreSegmentsOf l.instance (l.renewables + l.g) l.segments.items

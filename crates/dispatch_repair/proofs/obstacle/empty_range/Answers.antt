@@ -6,6 +6,7 @@ use Rattle.uc_model.proofs.Sizes.{narrow}
 use Rattle.uc_model.proofs.Tests.{int_lt-true}
 use Rattle.dispatch_repair.specs.Period.{Period, FromThermal}
 use Rattle.dispatch_repair.specs.inside.Amounts.{AreRangesOf, range_at}
+use Rattle.dispatch_repair.specs.inside.Segments.{source_count}
 use Rattle.dispatch_repair.specs.declared.range.Range.{Range}
 use Rattle.dispatch_repair.proofs.Numbers.{at_most}
 use Rattle.dispatch_repair.proofs.Places.{HasEnds, thermal_ends}
@@ -15,22 +16,22 @@ within : (renewables unit sources first second : ℕ) → renewables ≡ first �
 within renewables unit sources first second e f h = omega arith
 
 at_place : (period : Period) (ranges : List Range) (renewables unit : ℕ) → renewables ≡ renewable_count period.instance
-    → unit < thermal_count period.instance → AreRangesOf period ranges → HasEnds period (FromThermal unit) (range_at ranges (renewables + unit))
-at_place period ranges renewables unit e h are =
-    subst (λ m. HasEnds period (FromThermal unit) (range_at ranges (m + unit))) (sym e) (thermal_ends period ranges unit h are)
+    → length ranges ≡ source_count period.instance → unit + renewables < length ranges → AreRangesOf period ranges
+    → (unit < thermal_count period.instance) × HasEnds period (FromThermal unit) (range_at ranges (renewables + unit))
+at_place period ranges renewables unit e whole h are =
+    let inside = within renewables unit (length ranges) (renewable_count period.instance) (thermal_count period.instance) e whole h in
+    (inside, subst (λ m. HasEnds period (FromThermal unit) (range_at ranges (m + unit))) (sym e) (thermal_ends period ranges unit inside are))
 
 pub returns-then-is_empty : goal.returns-then-is_empty
 returns-then-is_empty c = λ period renewables whole are.
-    let unit = c.loop-unit.unit in
-    let h : unit < thermal_count period.instance =
-    within c.args.renewables unit (length c.args.ranges.now) (renewable_count period.instance) (thermal_count period.instance) renewables whole (omega arith) in
-    let its = at_place period c.args.ranges.now c.args.renewables unit renewables h are in
-    let range = range_at c.args.ranges.now (c.args.renewables + unit) in
+    let place = at_place period c.args.ranges.now c.args.renewables c.loop-unit.unit renewables whole (omega arith) are in
+    let its = place.1 in
+    let range = range_at c.args.ranges.now (c.args.renewables + c.loop-unit.unit) in
     let low = narrow range.low _ its.low_size (omega arith) ∙ its.low in
     let high = narrow range.high _ its.high_size (omega arith) ∙ its.high in
     let empty : range.high <ℤ range.low = int_lt-true range.high range.low (sym c.is_empty.ensures ∙ c.if-is_empty.true) in
     record {
-      within = h;
+      within = place.0;
       low = low;
       high = high;
       empty = omega (arith, linear, low, high, its.low, its.high, empty);
@@ -39,10 +40,7 @@ returns-then-is_empty c = λ period renewables whole are.
 
 pub loop-unit-preserved : goal.loop-unit-preserved
 loop-unit-preserved c = λ period renewables whole are.
-    let unit = c.loop-unit.unit in
-    let h : unit < thermal_count period.instance =
-    within c.args.renewables unit (length c.args.ranges.now) (renewable_count period.instance) (thermal_count period.instance) renewables whole (omega arith) in
-    let its = at_place period c.args.ranges.now c.args.renewables unit renewables h are in
-    let range = range_at c.args.ranges.now (c.args.renewables + unit) in
+    let its = (at_place period c.args.ranges.now c.args.renewables c.loop-unit.unit renewables whole (omega arith) are).1 in
+    let range = range_at c.args.ranges.now (c.args.renewables + c.loop-unit.unit) in
     let some : range.low ≤ℤ range.high = at_most range.high range.low (sym c.is_empty.ensures ∙ c.if-is_empty.false) in
     below_more _ _ (c.loop-unit.invariant period renewables whole are) (omega (arith, linear, some, its.low, its.high))

@@ -10,8 +10,8 @@ use Rattle.schedule_check.specs.SizedNumbers.{IsSized, IsSizedCell}
 use Rattle.uc_model.specs.Schedule.{thermal_unit, thermal_count, no_unit}
 use Rattle.uc_model.specs.declared.schedule.Cell.{Cell}
 use Rattle.dual_model.proofs.Locality.{SameBelow}
-use Rattle.schedule_check.specs.inside.CommitmentRules.{IsFirstBrokenRule}
-use Rattle.schedule_check.specs.inside.WholeWatts.{IsSizedRow, commitment, row_of}
+use Rattle.schedule_check.specs.CommitmentRules.{IsFirstBrokenRule}
+use Rattle.schedule_check.specs.WholeWatts.{IsSizedRow, commitment, row_of}
 use Rattle.dispatch_repair.specs.Period.{commitment_at}
 use Rattle.dispatch_repair.specs.inside.Broken.{IsFirstOf}
 use Rattle.dispatch_repair.specs.inside.Rows.{printed_of}

@@ -12,6 +12,15 @@ returns-in-Some-clause-fault c =
     stuck_fault c.args.instance.now c.args.patterns.now c.loop-t.t (printed_of c.loop-t.rows) c.loop-t.room c.in-Some.why c.stuck.result
     c.requires.regular c.loop-t.invariant c.loop-t-test.true c.in-Some.ensures.dispatched c.stuck.ensures
 
+pub dispatch_period-requires-clause-before : goal.dispatch_period-requires-clause-before
+dispatch_period-requires-clause-before c = record {
+  lawful = c.requires.lawful;
+  pattern_count = c.requires.patterns;
+  period = c.loop-t-test.true;
+  count = c.loop-t.invariant.room.amounts;
+  sizes = c.loop-t.invariant.before.sizes;
+}
+
 pub loop-t-preserved : goal.loop-t-preserved
 loop-t-preserved c =
     subst (λ k. AreFilledBelow c.args.instance.now c.args.patterns.now k (printed_of c.write_period.new.rows) c.dispatch_period.new.room) (more c.loop-t.t)

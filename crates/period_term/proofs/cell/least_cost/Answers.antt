@@ -1,5 +1,5 @@
 -- The term at the least corner, or on the segment that holds the cap.
-use Rattle.std.proofs.Common.{sym, subst, ◌∙◌, lit<, pos}
+use Rattle.std.proofs.Common.{sym, subst, ◌∙◌, lit<, pos, arith}
 use Rattle.uc_model.proofs.Tests.{int_le-true}
 use Rattle.uc_model.proofs.Sizes.{wide}
 use Rattle.dual_model.specs.Term.{IsTerm}
@@ -15,6 +15,13 @@ returns-then-is_within-clause-term c = λ points whole.
     (sym (wide c.corner_cost.result MAX_CORNER_COST c.corner_cost.ensures.size (lit< tt) ∙ c.corner_cost.ensures.value))
     (corner_term points c.args.corners.now k a c.args.cap.now c.args.place whole c.requires.prices.scale.low c.requires.sign c.requires.place
     (int_le-true _ _ (sym c.is_within.ensures ∙ c.if-is_within.true)))
+
+pub segment_cost-requires-clause-segment : goal.segment_cost-requires-clause-segment
+segment_cost-requires-clause-segment c = record {
+  within = omega (arith, c.cap_place.ensures.within, c.requires.place.within);
+  begins = c.cap_place.ensures.begins;
+  reaches = c.cap_place.ensures.reaches;
+}
 
 pub returns-else-is_within-clause-term : goal.returns-else-is_within-clause-term
 returns-else-is_within-clause-term c = λ points whole.

@@ -1,28 +1,35 @@
 -- The part of the rise is no greater than the rise.
-use Rattle.std.proofs.Common.{◌-ℤ◌, ◌*ℤ◌, ◌≤ℤ◌, ◌<ℤ◌, ℤ, pos, arith}
-use Rattle.uc_model.proofs.Ring.{linear}
-use Rattle.period_term.specs.inside.Places.{over_of, rise_of, run_of}
+use Rattle.std.proofs.Common.{suc, ◌≤◌, ◌-ℤ◌, ◌*ℤ◌, ◌≤ℤ◌, ◌<ℤ◌, ℤ, pos, arith, to_z, of_z}
+use Rattle.std.specs.Prelude.{unsigned_abs}
+use Rattle.std.specs.Int.{w128}
+use Rattle.uc_model.specs.Division.{IsFloor}
 use Rattle.uc_model.specs.Points.{output_of}
-use Rattle.std.proofs.Common.{suc}
-use Rattle.period_term.proofs.CornerNumbers.{rise_down-size}
+use Rattle.uc_model.proofs.Ring.{linear, sub_nonneg}
+use Rattle.period_term.specs.inside.Places.{over_of, rise_of, run_of, MAX_RISE}
+use Rattle.period_term.proofs.CornerNumbers.{rise_down-is}
 use Rattle.period_term.proofs.cell.rise_down.Goals as goal
 
-pub returns-clause-size : goal.returns-clause-size
-returns-clause-size c =
+part : (c : goal.After-floor_div) → IsFloor ((c.args.prices.now.k *ℤ rise_of c.args.corners.now c.args.left) *ℤ over_of c.args.corners.now c.args.cap.now c.args.left)
+    (run_of c.args.corners.now c.args.left) (to_z w128 (of_z w128 c.floor_div.result))
+    × (unsigned_abs (to_z w128 (of_z w128 c.floor_div.result)) ≤ MAX_RISE)
+part c =
     let corners = c.args.corners.now in
     let i = c.args.left in
-    rise_down-size (c.args.prices.now.k *ℤ rise_of corners i) (over_of corners c.args.cap.now i) (run_of corners i)
+    rise_down-is (c.args.prices.now.k *ℤ rise_of corners i) (over_of corners c.args.cap.now i) (run_of corners i)
     c.rise.result c.over.result c.run.result c.product-rising.result c.floor_div.result
     c.rise.ensures.value c.rise.ensures.size c.over.ensures.value c.over.ensures.size c.run.ensures.value c.run.ensures.size
-    (gap (output_of corners i) c.args.cap.now c.requires.begins) (within (output_of corners i) c.args.cap.now (output_of corners (suc i)) c.requires.reaches)
-    (wider (output_of corners i) c.args.cap.now (output_of corners (suc i)) c.requires.begins c.requires.reaches)
+    (sub_nonneg (output_of corners i) c.args.cap.now c.requires.segment.begins) (within (output_of corners i) c.args.cap.now (output_of corners (suc i)) c.requires.segment.reaches)
+    (wider (output_of corners i) c.args.cap.now (output_of corners (suc i)) c.requires.segment.begins c.requires.segment.reaches)
     c.product-rising.ensures c.floor_div.ensures
   where
-    gap : (x y : ℤ) → x ≤ℤ y → pos 0 ≤ℤ (y -ℤ x)
-    gap x y h = omega (arith, linear)
-
     within : (x y z : ℤ) → y <ℤ z → (y -ℤ x) ≤ℤ (z -ℤ x)
     within x y z h = omega (arith, linear)
 
     wider : (x y z : ℤ) → x ≤ℤ y → y <ℤ z → pos 0 <ℤ (z -ℤ x)
     wider x y z h k = omega (arith, linear)
+
+pub returns-clause-floor : goal.returns-clause-floor
+returns-clause-floor c = (part c).0
+
+pub returns-clause-size : goal.returns-clause-size
+returns-clause-size c = (part c).1

@@ -1,22 +1,16 @@
 -- The corners are those that the curve shows, and the numbers are what their bits say.
-use Rattle.std.proofs.Common.{sym, subst, to_z, of_z}
-use Rattle.std.specs.Int.{w64, w128}
+use Rattle.std.proofs.Common.{sym, subst}
+use Rattle.std.specs.Int.{w64}
 use Rattle.std.proofs.lemmas.Int.{to_z-of_z}
 use Rattle.dual_model.specs.TableValue.{IsCellTerm}
 use Rattle.cost_curves.specs.LowerHull.{IsLowerHull}
-use Rattle.period_term.specs.inside.Freed.{AreFreed}
-use Rattle.period_term.proofs.FreedTerms.{of_freed}
+use Rattle.period_term.proofs.FreedTerms.{freed_bits, of_freed}
 use Rattle.period_term.proofs.cell.term.Goals as goal
 
 pub returns-clause-term : goal.returns-clause-term
 returns-clause-term c = λ points hull.
     let prices = c.freed-prices.result in
-    let k = to_z-of_z w64 c.args.k c.ranges.k in
-    let a = to_z-of_z w128 c.args.a c.ranges.a in
-    let b = to_z-of_z w128 c.args.b c.ranges.b in
-    let freed = subst (λ z. AreFreed c.args.k c.args.a z prices.k prices.a prices.b) b
-    (subst (λ z. AreFreed c.args.k z (to_z w128 (of_z w128 c.args.b)) prices.k prices.a prices.b) a
-    (subst (λ z. AreFreed z (to_z w128 (of_z w128 c.args.a)) (to_z w128 (of_z w128 c.args.b)) prices.k prices.a prices.b) k c.freed-prices.ensures.freed)) in
+    let freed = freed_bits c.args.k c.args.a c.args.b prices.k prices.a prices.b c.ranges.k c.ranges.a c.ranges.b c.freed-prices.ensures.freed in
     of_freed points c.args.k c.args.a c.args.b c.args.cap prices.k prices.a prices.b c.cell_term.result freed
     (λ x y own. subst (λ z. IsCellTerm points prices.k x y z c.cell_term.result) (to_z-of_z w64 c.args.cap c.ranges.cap)
     (c.cell_term.ensures.term points x y (subst (λ xs. IsLowerHull points xs) (sym c.corners-corners.ensures.value) hull) own))

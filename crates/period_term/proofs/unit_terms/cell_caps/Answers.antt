@@ -1,9 +1,8 @@
 -- Each place holds its cell's cap.
 use Rattle.std.proofs.Common.{◌≡◌, ℕ, ◌<◌, ◌≤◌, Bool, true, false, [], ◌∷◌, lit<, ℤ, pos, zero, suc, arith, subst, sym, ◌∙◌, to_z, of_z}
-use Rattle.std.specs.Prelude.{slice_index_or, unsigned_abs, List}
+use Rattle.std.specs.Prelude.{slice_index_or, unsigned_abs}
 use Rattle.std.specs.Int.{w64}
 use Rattle.uc_model.proofs.Sizes.{narrow}
-use Rattle.uc_model.specs.declared.instance.Thermal.{Thermal}
 use Rattle.dual_model.specs.declared.limits.TheConstants.{MAX_CAP}
 use Rattle.dual_model.specs.UnitTerms.{place, cell_cap}
 use Rattle.period_term.proofs.unit_terms.cell_caps.Goals as goal

@@ -2,8 +2,8 @@
 use Rattle.std.proofs.Common.{refl, arith}
 use Rattle.uc_model.specs.Rules as model
 use Rattle.schedule_check.specs.FirstBroken.{HoldsThroughout}
-use Rattle.schedule_check.proofs.RuleOrder.{of_first, number_below}
-use Rattle.schedule_check.proofs.FirstPlaces.{watts, of_below}
+use Rattle.schedule_check.proofs.RuleOrder.{of_first, number_within}
+use Rattle.schedule_check.proofs.FirstPlaces.{watts, of_below, system_fails}
 use Rattle.schedule_check.proofs.feasibility.first_broken.Goals as goal
 
 pub returns-in-Some-first_place : goal.returns-in-Some-first_place
@@ -23,37 +23,20 @@ returns-in-Some-first_place c =
 
 pub returns-in-Some-first_unbalanced : goal.returns-in-Some-first_unbalanced
 returns-in-Some-first_unbalanced c =
-    let first = c.in-Some-first_unbalanced.ensures in
     let P = λ (rule : model.Rule). HoldsThroughout c.args.instance.now (watts c.args.instance.now c.args.printed.now) rule in
-    record {
-      rule = model.Demand;
-      number = refl;
-      unit = omega arith;
-      period = first.within;
-      fails = first.fails;
-      rules = of_below P (of_first P c.in_default.ensures) 14 (λ h. c.in_default-first_place.ensures) (λ h. absurd (omega arith)) (λ h. absurd (omega arith));
-      units = λ g t hg ht. absurd (omega arith);
-      periods = first.before;
-    }
+    system_fails model.Demand c.args.instance.now c.args.printed.now c.in-Some-first_unbalanced.period refl refl c.in-Some-first_unbalanced.ensures
+    (of_below P (of_first P c.in_default.ensures) 14 (λ h. c.in_default-first_place.ensures) (λ h. absurd (omega arith)) (λ h. absurd (omega arith)))
 
 pub returns-in-Some-first_short_of_reserve : goal.returns-in-Some-first_short_of_reserve
 returns-in-Some-first_short_of_reserve c =
-    let first = c.in-Some-first_short_of_reserve.ensures in
     let P = λ (rule : model.Rule). HoldsThroughout c.args.instance.now (watts c.args.instance.now c.args.printed.now) rule in
-    record {
-      rule = model.Reserve;
-      number = refl;
-      unit = omega arith;
-      period = first.within;
-      fails = first.fails;
-      rules = of_below P (of_first P c.in_default.ensures) 15 (λ h. c.in_default-first_place.ensures)
-          (λ h g t hg ht. c.in_default-first_unbalanced.ensures t ht) (λ h. absurd (omega arith));
-      units = λ g t hg ht. absurd (omega arith);
-      periods = first.before;
-    }
+    system_fails model.Reserve c.args.instance.now c.args.printed.now c.in-Some-first_short_of_reserve.period refl refl
+    c.in-Some-first_short_of_reserve.ensures
+    (of_below P (of_first P c.in_default.ensures) 15 (λ h. c.in_default-first_place.ensures)
+    (λ h g t hg ht. c.in_default-first_unbalanced.ensures t ht) (λ h. absurd (omega arith)))
 
 pub returns : goal.returns
 returns c = λ rule.
     let P = λ (r : model.Rule). HoldsThroughout c.args.instance.now (watts c.args.instance.now c.args.printed.now) r in
     of_below P (of_first P c.in_default.ensures) 16 (λ h. c.in_default-first_place.ensures)
-    (λ h g t hg ht. c.in_default-first_unbalanced.ensures t ht) (λ h g t hg ht. c.in_default-first_short_of_reserve.ensures t ht) rule (number_below rule)
+    (λ h g t hg ht. c.in_default-first_unbalanced.ensures t ht) (λ h g t hg ht. c.in_default-first_short_of_reserve.ensures t ht) rule ((number_within rule).1)

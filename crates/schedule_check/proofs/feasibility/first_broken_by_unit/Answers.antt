@@ -1,7 +1,7 @@
 -- The rule in turn is broken first there, those before it hold; or it holds, and after the last turn all do.
 use Rattle.std.proofs.Common.{arith, below_more}
 use Rattle.schedule_check.specs.FirstBroken.{HoldsThroughout}
-use Rattle.schedule_check.specs.inside.WholeWatts.{rule_of}
+use Rattle.schedule_check.specs.WholeWatts.{rule_of}
 use Rattle.schedule_check.proofs.RuleOrder.{tried, number_unit}
 use Rattle.schedule_check.proofs.FirstPlaces.{watts, earlier_tried, all_tried, unit_fails, unit_throughout}
 use Rattle.schedule_check.proofs.feasibility.first_broken_by_unit.Goals as goal

@@ -1,7 +1,7 @@
 -- The test holds in each of the periods so far.
 use Rattle.std.proofs.Common.{ℕ, ◌<◌}
 use Rattle.std.specs.Prelude.{IsTrue}
-use Rattle.schedule_check.specs.inside.WholeWatts.{is_output_within}
+use Rattle.schedule_check.specs.WholeWatts.{is_output_within}
 use Rattle.schedule_check.proofs.renewable.first_period.Given as goal
 
 abbrev pub invariant-loop-t : goal.invariant-loop-t

@@ -1,7 +1,7 @@
 -- The rule holds for each of the units so far.
 use Rattle.std.proofs.Common.{ℕ, ◌<◌}
 use Rattle.std.specs.Prelude.{IsTrue}
-use Rattle.schedule_check.specs.inside.WholeWatts.{renewable_range_at}
+use Rattle.schedule_check.specs.WholeWatts.{renewable_range_at}
 use Rattle.schedule_check.proofs.renewable.first_place.Given as goal
 
 abbrev pub invariant-loop-unit : goal.invariant-loop-unit

@@ -1,6 +1,6 @@
 -- The rule in turn is broken first there, those before it are kept; or it is kept, and after the last turn all are.
 use Rattle.std.proofs.Common.{arith, below_more}
-use Rattle.schedule_check.specs.inside.CommitmentRules.{RowKeeps}
+use Rattle.schedule_check.specs.CommitmentRules.{RowKeeps}
 use Rattle.schedule_check.proofs.CommitmentOrder.{turn, breaks_first, keeps_all, broken_at}
 use Rattle.schedule_check.proofs.unit_rules.broken_rule.Goals as goal
 

@@ -1,7 +1,7 @@
 -- The test holds in each of the periods so far.
 use Rattle.std.proofs.Common.{ℕ, ◌<◌, length}
 use Rattle.std.specs.Prelude.{IsTrue}
-use Rattle.schedule_check.specs.inside.WholeWatts.{unit_holds}
+use Rattle.schedule_check.specs.WholeWatts.{unit_holds}
 use Rattle.schedule_check.proofs.unit_rules.first_failure.Given as goal
 
 abbrev pub invariant-loop-t : goal.invariant-loop-t

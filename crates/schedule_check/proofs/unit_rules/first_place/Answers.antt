@@ -4,7 +4,7 @@ use Rattle.std.specs.Prelude.{slice_index_or}
 use Rattle.std.proofs.lemmas.List.{get_or_read}
 use Rattle.uc_model.specs.Limits.{IsLawfulThermal}
 use Rattle.uc_model.specs.Schedule.{thermal_unit, no_unit}
-use Rattle.schedule_check.specs.inside.WholeWatts.{IsSizedRow, row_of}
+use Rattle.schedule_check.specs.WholeWatts.{IsSizedRow, row_of}
 use Rattle.schedule_check.proofs.unit_rules.first_place.Goals as goal
 
 pub first_period-requires-clause-lawful : goal.first_period-requires-clause-lawful

@@ -2,7 +2,7 @@
 use Rattle.std.proofs.Common.{ℕ, ◌<◌}
 use Rattle.std.specs.Prelude.{IsTrue}
 use Rattle.uc_model.specs.Schedule.{thermal_unit}
-use Rattle.schedule_check.specs.inside.WholeWatts.{row_of, unit_holds, unit_periods}
+use Rattle.schedule_check.specs.WholeWatts.{row_of, unit_holds, unit_periods}
 use Rattle.schedule_check.proofs.unit_rules.first_place.Given as goal
 
 abbrev pub invariant-loop-unit : goal.invariant-loop-unit

@@ -8,7 +8,7 @@ use Rattle.uc_model.specs.declared.limits.TheConstants.{COST_MAX}
 use Rattle.uc_model.proofs.PrintedCosts.{printed_cost-fits}
 use Rattle.uc_model.proofs.Sizes.{narrow}
 use Rattle.schedule_check.specs.PlainNumbers.{IsPlainCell}
-use Rattle.schedule_repair.proofs.PlainSchedules.{plain}
+use Rattle.schedule_repair.proofs.PlainSchedules.{plain_rows}
 use Rattle.schedule_repair.proofs.accepted.accepted.Goals as goal
 
 pub returns-in-Ok : goal.returns-in-Ok
@@ -23,7 +23,7 @@ returns-in-Ok c =
       shape = c.has_shape.ensures c.if-not-has_shape.false;
       obeys = c.in-Ok.ensures.obeys;
       cost_is = same;
-      numbers = plain printed
+      numbers = plain_rows printed
           (subst (All (All IsPlainCell)) c.as_slice.ensures (c.are_plain.ensures c.if-not-are_plain.false))
           (subst (All (All IsLimit)) c.as_slice-else-not-are_plain.ensures (c.are_limits.ensures c.if-not-are_limits.false));
       size = subst (λ z. unsigned_abs z ≤ COST_MAX) (sym same) size;

@@ -2,7 +2,7 @@
 use Rattle.std.proofs.Common.{◌≤◌, subst, sym, arith, ◌∙◌}
 use Rattle.std.proofs.lemmas.List.{length-set}
 use Rattle.schedule_check.specs.inside.Changes.{change_at}
-use Rattle.schedule_check.specs.inside.WholeWatts.{commitment}
+use Rattle.schedule_check.specs.WholeWatts.{commitment}
 use Rattle.schedule_check.proofs.Counting.{count-le, counted, byte_is, one_more}
 use Rattle.schedule_check.proofs.counts.Counts.of.Goals as goal
 

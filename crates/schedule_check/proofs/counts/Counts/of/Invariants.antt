@@ -1,7 +1,7 @@
 -- The counts before the periods so far.
 use Rattle.std.proofs.Common.{◌≡◌, ℕ, suc, ◌<◌, length, get_or}
 use Rattle.schedule_check.specs.inside.Changes.{change_at, count_below}
-use Rattle.schedule_check.specs.inside.WholeWatts.{commitment}
+use Rattle.schedule_check.specs.WholeWatts.{commitment}
 use Rattle.schedule_check.proofs.counts.Counts.of.Given as goal
 
 abbrev pub invariant-loop-t : goal.invariant-loop-t

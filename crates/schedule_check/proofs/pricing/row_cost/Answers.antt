@@ -1,10 +1,10 @@
 -- The cell's cost is the next term.
 use Rattle.std.proofs.Common.{arith}
 use Rattle.uc_model.specs.PrintedSchedule.{printed_cell_cost}
-use Rattle.schedule_check.specs.inside.WholeWatts.{cell}
-use Rattle.schedule_check.specs.declared.cost.TheConstants.{MOST_CELL_COST}
+use Rattle.schedule_check.specs.WholeWatts.{cell}
+use Rattle.schedule_check.specs.declared.pricing.TheConstants.{MOST_CELL_COST}
 use Rattle.schedule_check.proofs.AddedSums.{added}
-use Rattle.schedule_check.proofs.cost.row_cost.Goals as goal
+use Rattle.schedule_check.proofs.pricing.row_cost.Goals as goal
 
 pub loop-t-preserved : goal.loop-t-preserved
 loop-t-preserved c =

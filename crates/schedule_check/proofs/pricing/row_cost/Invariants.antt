@@ -3,9 +3,9 @@ use Rattle.std.proofs.Common.{◌≡◌, ◌*◌, ◌≤◌}
 use Rattle.std.specs.Prelude.{unsigned_abs}
 use Rattle.uc_model.specs.Sums.{sum_below}
 use Rattle.uc_model.specs.PrintedSchedule.{printed_cell_cost}
-use Rattle.schedule_check.specs.inside.WholeWatts.{cell}
-use Rattle.schedule_check.specs.declared.cost.TheConstants.{MOST_CELL_COST}
-use Rattle.schedule_check.proofs.cost.row_cost.Given as goal
+use Rattle.schedule_check.specs.WholeWatts.{cell}
+use Rattle.schedule_check.specs.declared.pricing.TheConstants.{MOST_CELL_COST}
+use Rattle.schedule_check.proofs.pricing.row_cost.Given as goal
 
 abbrev pub invariant-loop-t : goal.invariant-loop-t
 invariant-loop-t l = record {

@@ -8,7 +8,7 @@ ghost use Rattle.uc_model.specs.Schedule.{thermal_count, thermal_unit};
 ghost use Rattle.uc_model.specs.StartCategory.{category_cost as category_cost_of, category_count};
 ghost use Rattle.uc_model.specs.Sums.{sum_below};
 ghost use Rattle.cost_curves.specs.LowerHull.{IsLowerHull};
-ghost use Rattle.schedule_check.specs.inside.WholeWatts.{HasPrice, cell as cell_of};
+ghost use Rattle.schedule_check.specs.WholeWatts.{HasPrice, cell as cell_of};
 
 use cost_curves::InlineCurve;
 use uc_model::{Cell, Instance, Printed, Thermal, sum};

@@ -4,7 +4,7 @@ use Rattle.std.specs.Int.{w64}
 use Rattle.std.proofs.lemmas.Int.{ints, to_z-of_z}
 use Rattle.cost_curves.specs.LowerHull.{width_of}
 use Rattle.cost_curves.proofs.HullValues.{whole_width}
-use Rattle.schedule_check.proofs.cost.production_cost.Goals as goal
+use Rattle.schedule_check.proofs.pricing.production_cost.Goals as goal
 
 pub ceil_at-requires-clause-high : goal.ceil_at-requires-clause-high
 ceil_at-requires-clause-high c =

@@ -4,7 +4,7 @@ use Rattle.std.specs.Prelude.{◌≡◌, ℕ, ◌<◌, ◌⊎◌, List, length, 
 use Rattle.uc_model.specs.Rules.{rule_number}
 use Rattle.uc_model.specs.declared.instance.Thermal.{Thermal}
 use Rattle.uc_model.specs.declared.schedule.Cell.{Cell}
-use Rattle.schedule_check.specs.inside.WholeWatts.{rule_of, unit_holds, unit_periods}
+use Rattle.schedule_check.specs.WholeWatts.{rule_of, unit_holds, unit_periods}
 use Rattle.schedule_check.specs.declared.unit_rule.UnitRule.{UnitRule}
 
 abbrev pub IsOnCommitments : UnitRule → Type 0

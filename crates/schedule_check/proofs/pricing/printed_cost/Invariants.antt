@@ -4,8 +4,8 @@ use Rattle.std.specs.Prelude.{unsigned_abs}
 use Rattle.uc_model.specs.Sums.{sum_below}
 use Rattle.uc_model.specs.Schedule.{thermal_unit}
 use Rattle.uc_model.specs.PrintedSchedule.{cell_at, printed_cell_cost}
-use Rattle.schedule_check.specs.declared.cost.TheConstants.{MOST_PERIODS, MOST_CELL_COST}
-use Rattle.schedule_check.proofs.cost.printed_cost.Given as goal
+use Rattle.schedule_check.specs.declared.pricing.TheConstants.{MOST_PERIODS, MOST_CELL_COST}
+use Rattle.schedule_check.proofs.pricing.printed_cost.Given as goal
 
 abbrev pub invariant-loop-g : goal.invariant-loop-g
 invariant-loop-g l = record {

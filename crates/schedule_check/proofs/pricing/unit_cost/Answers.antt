@@ -6,8 +6,8 @@ use Rattle.std.proofs.lemmas.List.Elements.{All-get_or}
 use Rattle.uc_model.specs.Schedule.{thermal_unit, no_unit}
 use Rattle.uc_model.specs.declared.instance.Thermal.{Thermal}
 use Rattle.uc_model.specs.declared.schedule.Cell.{Cell}
-use Rattle.schedule_check.specs.inside.WholeWatts.{HasPrice, cell, row_of}
-use Rattle.schedule_check.proofs.cost.unit_cost.Goals as goal
+use Rattle.schedule_check.specs.WholeWatts.{HasPrice, cell, row_of}
+use Rattle.schedule_check.proofs.pricing.unit_cost.Goals as goal
 
 pub row_cost-requires-clause-prices : goal.row_cost-requires-clause-prices
 row_cost-requires-clause-prices c =
