@@ -1,21 +1,7 @@
-//! Tests of what is read and written on values that no whole run shows: slots and sinks, JSON, instances, reports and certificates.
+//! Tests of slots and streams that no whole run shows: what is read up to a limit, and files and streams of the system.
 #![tactic(auto)]
 
-#[cfg(test)]
-mod certificate_texts;
-#[cfg(test)]
-mod certificates;
-#[cfg(test)]
-mod fixtures;
-#[cfg(test)]
-mod instances;
-#[cfg(test)]
-mod json_texts;
-#[cfg(test)]
-mod reports;
 #[cfg(test)]
 mod slots;
 #[cfg(test)]
 mod system_files;
-#[cfg(test)]
-mod trees;

@@ -1,4 +1,4 @@
-//! What is read up to a limit, a latch, and files and streams of the system.
+//! What is read up to a limit, and files and streams of the system.
 
 ghost use Rattle.std.specs.Prelude.{◌≡◌, OnOk};
 ghost use Rattle.outside.specs.declared.slot.Slot.{Slot};
@@ -6,8 +6,8 @@ ghost use Rattle.outside.specs.declared.slot.Slot.TheVariants.{CertOut};
 ghost use Rattle.outside.specs.declared.slot.Stage.TheVariants.{Unopened, Open};
 
 use outside::{
-    Call, Devices, Failed, FailingCall, FaultyFile, FaultySink, Files, Latch, Lent, Out, Pace,
-    Sink, SinkWriter, Slot, SlotWriter, SlurpFault, StreamSink, slurp, system_files, write_all,
+    Devices, Failed, FaultyFile, Files, Pace, Sink, SinkWriter, Slot, SlotWriter, SlurpFault,
+    StreamSink, slurp, system_files, write_all,
 };
 use std::fs;
 use std::test::Fail;
@@ -28,6 +28,12 @@ pub(crate) fn save<F: Files>(files: &mut F, name: &str, bytes: &[u8]) -> Result<
 {
     begin(files, name, bytes)?;
     files.finish(Slot::CertOut)
+}
+
+/// Whether a run writes the bytes to its certificate of the name.
+pub(crate) fn is_saved(rt: &HostRuntime, name: &str, bytes: &[u8]) -> bool {
+    let mut files = system_files(rt);
+    save(&mut files, name, bytes).is_ok()
 }
 
 #[test]
@@ -56,29 +62,6 @@ fn slurps_up_to_the_limit(rt: HostRuntime) -> Result<(), Fail> {
     Ok(())
 }
 
-/// After the first fault a latch writes nothing, though later calls would succeed.
-#[test]
-fn a_latch_keeps_its_first_fault(rt: HostRuntime) -> Result<(), Fail> {
-    for (failing, want, written) in [
-        (3, false, b"abc".as_slice()),
-        (9, true, b"abcdef".as_slice()),
-    ] {
-        let failing = FailingCall {
-            call: Call::Write,
-            number: failing,
-        };
-        let mut out = FaultySink::new(rt.alloc(), &[failing], Pace::ByteByByte)?;
-        let mut writer = SinkWriter::new(&mut out);
-        let mut latch = Latch::new(Lent::new(&mut writer));
-        latch.put(b"abcd");
-        latch.put(b"ef");
-        assert_eq!(rt; latch.outcome().is_ok(), want);
-        assert_eq!(rt; out.memory.written(), Some(written));
-        assert_eq!(rt; out.schedule.faults, if want { 0 } else { 1 });
-    }
-    Ok(())
-}
-
 /// What is read from a file of the system, and how many faults are counted.
 fn read_file(rt: &HostRuntime, name: &str) -> (Result<Vec<u8>, SlurpFault>, u64) {
     let mut files = system_files(rt);
@@ -86,16 +69,26 @@ fn read_file(rt: &HostRuntime, name: &str) -> (Result<Vec<u8>, SlurpFault>, u64)
     (read, files.devices.cert_in.faults())
 }
 
+/// Whether the bytes are read from the file, without a fault.
+fn is_read(rt: &HostRuntime, name: &str, bytes: &[u8]) -> bool {
+    let (read, faults) = read_file(rt, name);
+    match read {
+        Ok(read) => read.as_slice() == bytes && faults == 0,
+        Err(_) => false,
+    }
+}
+
+/// Whether the file can't be read, by a fault.
+fn is_missed(rt: &HostRuntime, name: &str) -> bool {
+    let (read, faults) = read_file(rt, name);
+    read.is_err() && faults == 1
+}
+
 #[test]
 fn reads_what_it_wrote(rt: HostRuntime) -> Result<(), Fail> {
-    let mut written = system_files(&rt);
-    assert!(rt; save(&mut written, "outside.cert", b"{}").is_ok());
-    let (read, faults) = read_file(&rt, "outside.cert");
-    assert_eq!(rt; read?.as_slice(), b"{}".as_slice());
-    assert_eq!(rt; faults, 0);
-    let (read, faults) = read_file(&rt, "outside.none");
-    assert!(rt; read.is_err());
-    assert_eq!(rt; faults, 1);
+    assert!(rt; is_saved(&rt, "outside.cert", b"{}"));
+    assert!(rt; is_read(&rt, "outside.cert", b"{}"));
+    assert!(rt; is_missed(&rt, "outside.none"));
     fs::remove_file(&rt, "outside.cert")?;
     let mut out = StreamSink::new(rt.stdout());
     assert!(rt; write_all(&mut SinkWriter::new(&mut out), b"line\n").is_ok());

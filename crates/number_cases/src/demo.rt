@@ -1,29 +1,16 @@
-//! The instances of the demo generator, and what their most-on commitments cost.
+//! The instances of the demo generator.
 
+use crate::Answer;
 use demo_gen::instance;
-use dispatch_repair::{dispatch, most_on};
-use schedule_check::check;
 use std::alloc::{AllocError, Global};
-use uc_model::{Instance, NoMemory, Thermal};
+use uc_model::{Instance, Thermal};
 
-/// The numbers of the instance of a seed, and what its most-on commitment costs.
-pub(crate) fn tell_demo(alloc: Global, word: &str) -> Result<String, NoMemory> {
-    let Ok(seed) = word.parse::<u32>() else {
-        return Ok(String::from_str(alloc, "no seed\n")?);
-    };
-    let system = instance(alloc, seed)?;
-    let mut text = system_text(alloc, &system)?;
-    let Ok(patterns) = most_on(alloc, &system) else {
-        return Err(NoMemory);
-    };
-    let Ok(printed) = dispatch(alloc, &system, &patterns) else {
-        return Ok(String::from_str(alloc, "stuck\n")?);
-    };
-    match check(&system, &printed) {
-        Ok(cost) => writeln!(text, "cost {cost}")?,
-        Err(broken) => writeln!(text, "rule {} is broken", broken.rule)?,
+/// The numbers of the instance of a seed.
+pub(crate) fn tell_demo(alloc: Global, word: &str) -> Answer {
+    match word.parse::<u32>() {
+        Ok(seed) => Ok(system_text(alloc, &instance(alloc, seed)?)?),
+        Err(_) => Ok(String::from_str(alloc, "no seed\n")?),
     }
-    Ok(text)
 }
 
 // The numbers of an instance, unit by unit in their order.

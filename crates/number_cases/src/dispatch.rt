@@ -2,30 +2,25 @@
 
 ghost use Rattle.uc_model.specs.Limits.{IsLawfulInstance};
 
+use crate::Answer;
 use crate::commitment::patterns;
+use crate::table::marginal_text;
 use dispatch_repair::{DispatchFault, MostFault, dispatch, most_on};
-use schedule_check::check;
 use std::alloc::{AllocError, Global};
 use uc_model::{Instance, NoMemory, Printed, Stuck};
 
-/// What a commitment's dispatch costs and gives, or where and why it is stuck and what it gives before.
-pub(crate) fn tell_dispatch(
-    alloc: Global,
-    instance: &Instance,
-    words: &str,
-) -> Result<String, NoMemory>
+/// What a commitment's dispatch gives, or its marginal prices, or where and why it is stuck and what it gives before.
+pub(crate) fn tell_dispatch(alloc: Global, instance: &Instance, word: &str, rest: &str) -> Answer
     requires { IsLawfulInstance instance.now }
 {
-    let patterns = patterns(alloc, words)?;
+    let patterns = patterns(alloc, rest)?;
     if patterns.len() != instance.thermal.as_slice().len() {
         return Ok(String::from_str(alloc, "a pattern for each unit\n")?);
     }
     match dispatch(alloc, instance, &patterns) {
+        Ok(printed) if word == "marginal" => marginal_text(alloc, instance, &printed),
         Ok(printed) => {
-            let mut text = match check(instance, &printed) {
-                Ok(cost) => format!(in alloc; "cost {cost}\n")?,
-                Err(broken) => format!(in alloc; "rule {} is broken\n", broken.rule)?,
-            };
+            let mut text = String::new(alloc);
             put_schedule(&mut text, &printed)?;
             Ok(text)
         }
@@ -35,7 +30,7 @@ pub(crate) fn tell_dispatch(
 }
 
 /// The unit's patterns with the most on periods, as their first periods' bits in a number, or the first unit without one.
-pub(crate) fn tell_most_on(alloc: Global, instance: &Instance) -> Result<String, NoMemory>
+pub(crate) fn tell_most_on(alloc: Global, instance: &Instance) -> Answer
     requires { IsLawfulInstance instance.now }
 {
     match most_on(alloc, instance) {

@@ -2,15 +2,12 @@
 
 ghost use Rattle.uc_model.specs.Limits.{IsLawfulInstance};
 
-use crate::ascent::{tell_ascents, tell_step};
+use crate::Answer;
 use crate::demo::tell_demo;
 use crate::dispatch::{tell_dispatch, tell_most_on};
-use crate::leaf::tell_leaf;
-use crate::multipliers::tell_multipliers;
 use crate::node::tell_node;
-use crate::repairs::tell_repair;
 use crate::system::{changed, unit_changed};
-use crate::table::{tell_marginal, tell_rays, tell_zero};
+use crate::table::{tell_rays, tell_step, tell_zero};
 use crate::unit::tell_unit;
 use instance::{ReadFault, read_instance};
 use std::alloc::Global;
@@ -46,7 +43,7 @@ pub(crate) fn follow<R: Print + Files + AllocGlobal>(
 }
 
 // What is answered to a question.
-fn answer(alloc: Global, system: &str, word: &str, rest: &str) -> Result<String, NoMemory> {
+fn answer(alloc: Global, system: &str, word: &str, rest: &str) -> Answer {
     if word == "demo" {
         return tell_demo(alloc, rest);
     }
@@ -58,21 +55,16 @@ fn answer(alloc: Global, system: &str, word: &str, rest: &str) -> Result<String,
 }
 
 // What is answered of an instance.
-fn answer_of(alloc: Global, instance: &Instance, word: &str, rest: &str) -> Result<String, NoMemory>
+fn answer_of(alloc: Global, instance: &Instance, word: &str, rest: &str) -> Answer
     requires { IsLawfulInstance instance.now }
 {
     match word {
-        "dispatch" => tell_dispatch(alloc, instance, rest),
+        "dispatch" | "marginal" => tell_dispatch(alloc, instance, word, rest),
+        "most-on" => tell_most_on(alloc, instance),
         "zero" => tell_zero(alloc, instance),
         "rays" => tell_rays(alloc, instance),
-        "marginal" => tell_marginal(alloc, instance, rest),
-        "node" => tell_node(alloc, instance, rest),
         "step" => tell_step(alloc, instance, rest),
-        "ascents" => tell_ascents(alloc, instance, rest),
-        "repair" => tell_repair(alloc, instance, rest),
-        "most-on" => tell_most_on(alloc, instance),
-        "leaf" => tell_leaf(alloc, instance, rest),
-        "multipliers" => tell_multipliers(alloc, instance),
+        "node" => tell_node(alloc, instance, rest),
         _ => tell_unit(alloc, instance, word, rest),
     }
 }

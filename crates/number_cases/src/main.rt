@@ -3,22 +3,21 @@
 //! rays count from 1.
 #![tactic(auto)]
 
-mod ascent;
 mod commitment;
 mod demo;
 mod dispatch;
-mod intervals;
-mod leaf;
 mod line;
-mod multipliers;
 mod node;
-mod repairs;
 mod system;
 mod table;
 mod unit;
 
 use crate::line::follow;
 use std::{fs, io};
+use uc_model::NoMemory;
+
+/// What is answered to a question.
+type Answer = Result<String, NoMemory>;
 
 fn main(rt: HostRuntime) -> io::Result<()> {
     let lines = fs::read_to_string(&rt, "cases")?;

@@ -6,7 +6,7 @@ ghost use Rattle.uc_model.specs.Limits.{IsLawfulInstance};
 ghost use Rattle.dual_model.specs.Fixings.{IsNodeOf};
 ghost use Rattle.dual_model.specs.Prices.{HasSizeOf, IsLawfulTable, IsWithinLimits};
 
-use crate::leaf::root_value;
+use crate::Answer;
 use dual_model::{Fixing, Node, Table};
 use dual_value::{ValueFault, Valued, value};
 use std::alloc::{AllocError, Global};
@@ -22,27 +22,19 @@ pub(crate) fn root(alloc: Global) -> Node
     }
 }
 
-/// The total value of the root at the table, and whether the checker has another.
-pub(crate) fn root_total(
-    alloc: Global,
-    instance: &Instance,
-    table: &Table,
-) -> Result<String, NoMemory>
+/// The total value of the root at the table.
+pub(crate) fn root_total(alloc: Global, instance: &Instance, table: &Table) -> Answer
     requires lawful { IsLawfulInstance instance.now }
     requires table { IsLawfulTable instance.now table.now }
 {
-    let mut scratch = Scratch::new(alloc, instance.periods as usize)?;
-    match value(alloc, &mut scratch, instance, &root(alloc), table) {
-        Ok(valued) if root_value(alloc, instance, table)? == Some(valued.total) => {
-            Ok(format!(in alloc; "value {}\n", valued.total)?)
-        }
-        Ok(_) => Ok(String::from_str(alloc, "the checker has another value\n")?),
+    match valued(alloc, instance, &root(alloc), table) {
+        Ok(valued) => Ok(format!(in alloc; "value {}\n", valued.total)?),
         Err(fault) => fault_text(alloc, fault),
     }
 }
 
 // Which unit has no pattern.
-fn fault_text(alloc: Global, fault: ValueFault) -> Result<String, NoMemory> {
+fn fault_text(alloc: Global, fault: ValueFault) -> Answer {
     match fault {
         ValueFault::Empty(g) => { Ok(format!(in alloc; "empty {}\n", g.saturating_add(1))?) }
         ValueFault::NoMemory => Err(NoMemory),
@@ -51,21 +43,45 @@ fn fault_text(alloc: Global, fault: ValueFault) -> Result<String, NoMemory> {
 
 /// The value of a node at a price of demand, as `PRICE DECISION..` says, with the part of each unit and the first periods
 /// of a pattern of it.
-pub(crate) fn tell_node(alloc: Global, instance: &Instance, words: &str) -> Result<String, NoMemory>
+pub(crate) fn tell_node(alloc: Global, instance: &Instance, words: &str) -> Answer
     requires { IsLawfulInstance instance.now }
 {
     let (price, decisions) = words.split_once(' ').unwrap_or((words, ""));
     let price = price.parse::<i32>().unwrap_or(0);
     let node = node(alloc, decisions)?;
-    if !is_node_of(instance, &node) {
-        return Ok(String::from_str(alloc, "no such cell\n")?);
+    if is_node_of(instance, &node) {
+        node_text(alloc, instance, &node, price)
+    } else {
+        Ok(String::from_str(alloc, "no such cell\n")?)
     }
-    let table = table(alloc, instance, price, 0)?;
-    let mut scratch = Scratch::new(alloc, instance.periods as usize)?;
-    match value(alloc, &mut scratch, instance, &node, &table) {
+}
+
+// The value of a node at a price of demand.
+fn node_text(alloc: Global, instance: &Instance, node: &Node, price: i32) -> Answer
+    requires lawful { IsLawfulInstance instance.now }
+    requires node { IsNodeOf instance.now node.now }
+{
+    let table = table(alloc, instance, price)?;
+    match valued(alloc, instance, node, &table) {
         Ok(valued) => Ok(valued_text(alloc, &valued)?),
         Err(fault) => fault_text(alloc, fault),
     }
+}
+
+// The value of a node at a table.
+fn valued(
+    alloc: Global,
+    instance: &Instance,
+    node: &Node,
+    table: &Table,
+) -> Result<Valued, ValueFault>
+    requires lawful { IsLawfulInstance instance.now }
+    requires node { IsNodeOf instance.now node.now }
+    requires size { HasSizeOf instance.now table.now }
+    requires limits { IsWithinLimits table.now }
+{
+    let mut scratch = Scratch::new(alloc, instance.periods as usize)?;
+    value(alloc, &mut scratch, instance, node, table)
 }
 
 // The total, and a line for each unit.
@@ -78,20 +94,15 @@ fn valued_text(alloc: Global, valued: &Valued) -> Result<String, AllocError> {
     Ok(text)
 }
 
-/// The table with these prices of demand and of reserve in each period, at the scale of a million.
-pub(crate) fn table(
-    alloc: Global,
-    instance: &Instance,
-    demand: i32,
-    reserve: i32,
-) -> Result<Table, NoMemory>
+// The table with this price of demand in each period, at the scale of a million.
+fn table(alloc: Global, instance: &Instance, price: i32) -> Result<Table, NoMemory>
     requires lawful { IsLawfulInstance instance.now }
     ensures size { IfOk result (HasSizeOf instance.now) }
     ensures limits { IfOk result IsWithinLimits }
 {
     let periods = instance.periods as usize;
-    let demand = vec![in alloc; i64::from(demand); periods]?;
-    let reserve = vec![in alloc; i64::from(reserve); periods]?;
+    let demand = vec![in alloc; i64::from(price); periods]?;
+    let reserve = vec![in alloc; 0; periods]?;
     let units = instance.thermal.as_slice().len() as u32;
     Table::new(alloc, units, 1_000_000, &demand, &reserve, &[])
 }

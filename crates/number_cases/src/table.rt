@@ -1,14 +1,16 @@
 //! Tables of prices: their numbers, and the values of roots at them.
 
+ghost use Rattle.std.specs.Prelude.{◌<◌, ◌≤◌};
 ghost use Rattle.uc_model.specs.Limits.{IsLawfulInstance};
 ghost use Rattle.uc_model.specs.PrintedSchedule.{HasShapeOf, printed_denominator, printed_schedule};
 ghost use Rattle.uc_model.specs.Rules.{Obeys};
+ghost use Rattle.dual_model.specs.Opening.{ray_count};
+ghost use Rattle.dual_model.specs.Prices.{IsLawfulTable};
 
-use crate::commitment::patterns;
-use crate::node::root_total;
-use dispatch_repair::{DispatchFault, dispatch};
+use crate::Answer;
+use crate::node::{root, root_total};
 use dual_model::Table;
-use prices::{marginal, opening_ray, zero};
+use prices::{marginal, opening_ray, step, zero};
 use std::alloc::{AllocError, Global};
 use uc_model::{Instance, NoMemory, Printed};
 
@@ -30,57 +32,67 @@ fn put_table(text: &mut String, table: &Table) -> Result<(), AllocError> {
     text.push_str("\n")
 }
 
-/// The table of no prices.
-pub(crate) fn tell_zero(alloc: Global, instance: &Instance) -> Result<String, NoMemory>
-    requires { IsLawfulInstance instance.now }
+// The table's numbers, and the value of the root at it.
+fn priced_text(alloc: Global, instance: &Instance, table: &Table) -> Answer
+    requires lawful { IsLawfulInstance instance.now }
+    requires table { IsLawfulTable instance.now table.now }
 {
-    let table = zero(alloc, instance)?;
     let mut text = String::new(alloc);
-    put_table(&mut text, &table)?;
+    put_table(&mut text, table)?;
+    text.push_str(root_total(alloc, instance, table)?.as_str())?;
     Ok(text)
 }
 
+/// The table of no prices, and the value of the root at it.
+pub(crate) fn tell_zero(alloc: Global, instance: &Instance) -> Answer
+    requires { IsLawfulInstance instance.now }
+{
+    priced_text(alloc, instance, &zero(alloc, instance)?)
+}
+
 /// The opening's rays, and the value of the root at each.
-pub(crate) fn tell_rays(alloc: Global, instance: &Instance) -> Result<String, NoMemory>
+pub(crate) fn tell_rays(alloc: Global, instance: &Instance) -> Answer
     requires { IsLawfulInstance instance.now }
 {
     let mut text = String::new(alloc);
     for n in 0..4 * instance.periods + 4 {
-        let table = opening_ray(alloc, instance, n)?;
-        put_table(&mut text, &table)?;
-        text.push_str(root_total(alloc, instance, &table)?.as_str())?;
+        text.push_str(ray_text(alloc, instance, n)?.as_str())?;
     }
     Ok(text)
 }
 
-/// The marginal prices of a commitment's dispatch, and the value of the root at them.
-pub(crate) fn tell_marginal(
-    alloc: Global,
-    instance: &Instance,
-    words: &str,
-) -> Result<String, NoMemory>
-    requires { IsLawfulInstance instance.now }
+// A ray of the opening, and the value of the root at it.
+fn ray_text(alloc: Global, instance: &Instance, n: u32) -> Answer
+    requires lawful { IsLawfulInstance instance.now }
+    requires number { n < ray_count instance.now.periods }
 {
-    let patterns = patterns(alloc, words)?;
-    if patterns.len() != instance.thermal.as_slice().len() {
-        return Ok(String::from_str(alloc, "a pattern for each unit\n")?);
-    }
-    match dispatch(alloc, instance, &patterns) {
-        Ok(printed) => marginal_text(alloc, instance, &printed),
-        Err(DispatchFault::Stuck(_)) => Ok(String::from_str(alloc, "stuck\n")?),
-        Err(DispatchFault::NoMemory) => Err(NoMemory),
-    }
+    priced_text(alloc, instance, &opening_ray(alloc, instance, n)?)
 }
 
-// The marginal prices of a schedule, and the value of the root at them.
-fn marginal_text(alloc: Global, instance: &Instance, printed: &Printed) -> Result<String, NoMemory>
+/// The marginal prices of a schedule, and the value of the root at them.
+pub(crate) fn marginal_text(alloc: Global, instance: &Instance, printed: &Printed) -> Answer
     requires lawful { IsLawfulInstance instance.now }
     requires shape { HasShapeOf instance.now printed.now }
     requires obeys { let q = printed_denominator instance.now printed.now in Obeys instance.now q (printed_schedule instance.now printed.now q) }
 {
-    let table = marginal(alloc, instance, printed)?;
-    let mut text = String::new(alloc);
-    put_table(&mut text, &table)?;
-    text.push_str(root_total(alloc, instance, &table)?.as_str())?;
-    Ok(text)
+    priced_text(alloc, instance, &marginal(alloc, instance, printed)?)
+}
+
+/// The scale of the table to try behind so many at the root.
+pub(crate) fn tell_step(alloc: Global, instance: &Instance, words: &str) -> Answer
+    requires { IsLawfulInstance instance.now }
+{
+    let had = u32::from(words.parse::<u16>().unwrap_or(0));
+    let scale = stepped(alloc, instance, &zero(alloc, instance)?, had)?;
+    Ok(format!(in alloc; "scale {scale}\n")?)
+}
+
+// The scale of the table to try at the root behind so many, of which this is the last.
+fn stepped(alloc: Global, instance: &Instance, table: &Table, had: u32) -> Result<i64, NoMemory>
+    requires lawful { IsLawfulInstance instance.now }
+    requires table { IsLawfulTable instance.now table.now }
+    requires count { had ≤ 65535 }
+{
+    let root = root(alloc);
+    Ok(step(alloc, instance, &root, table, None, had)?.k())
 }

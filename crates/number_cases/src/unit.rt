@@ -4,22 +4,17 @@ ghost use Rattle.std.specs.Prelude.{◌≡◌, ◌<◌};
 ghost use Rattle.uc_model.specs.Limits.{IsLawfulInstance, IsLawfulThermal};
 ghost use Rattle.uc_model.specs.Schedule.{thermal_count, thermal_unit};
 
+use crate::Answer;
 use crate::commitment::pattern;
-use crate::intervals::tell_intervals;
 use cost_curves::Curve;
 use period_term::term;
 use start_costs::{least_allowed, sigma};
 use std::alloc::{AllocError, Global};
 use uc_model::limits::MAX_PERIODS;
-use uc_model::{Instance, NoMemory, Thermal};
+use uc_model::{Instance, Thermal};
 
 /// What is answered to a question on the first unit.
-pub(crate) fn tell_unit(
-    alloc: Global,
-    instance: &Instance,
-    word: &str,
-    rest: &str,
-) -> Result<String, NoMemory>
+pub(crate) fn tell_unit(alloc: Global, instance: &Instance, word: &str, rest: &str) -> Answer
     requires { IsLawfulInstance instance.now }
 {
     if instance.thermal.as_slice().is_empty() {
@@ -31,7 +26,6 @@ pub(crate) fn tell_unit(
         "term" => tell_term(alloc, unit, rest),
         "start" => Ok(tell_start(alloc, unit, rest)?),
         "sigma" => Ok(tell_sigma(alloc, unit, rest)?),
-        "intervals" => tell_intervals(alloc, unit, rest),
         _ => Ok(String::from_str(alloc, "no such question\n")?),
     }
 }
@@ -53,7 +47,7 @@ fn number(words: &str, n: usize) -> i32 {
 }
 
 // The width of the curve, and a line for each output.
-fn tell_curve(alloc: Global, unit: &Thermal, words: &str) -> Result<String, NoMemory>
+fn tell_curve(alloc: Global, unit: &Thermal, words: &str) -> Answer
     requires { IsLawfulThermal unit.now }
 {
     let curve = Curve::of(alloc, unit.points.as_slice())?;
@@ -89,7 +83,7 @@ fn put_output(text: &mut String, curve: &Curve, p: i64) -> Result<(), AllocError
 }
 
 // The term of a cell, of the scale, the prices of output and of reserve and the cap.
-fn tell_term(alloc: Global, unit: &Thermal, words: &str) -> Result<String, NoMemory>
+fn tell_term(alloc: Global, unit: &Thermal, words: &str) -> Answer
     requires { IsLawfulThermal unit.now }
 {
     let curve = Curve::of(alloc, unit.points.as_slice())?;
