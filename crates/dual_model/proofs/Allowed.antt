@@ -12,7 +12,8 @@ use Rattle.uc_model.proofs.Ring.{linear}
 use Rattle.uc_model.proofs.Sums.{sum_below-same}
 use Rattle.uc_model.proofs.Tests.{int_le-true, le-int_le, all_below-at, all_below-from}
 use Rattle.dual_model.specs.declared.node.Fix.{Fix}
-use Rattle.dual_model.specs.UnitTerms.{AreSizedTerms, IsSized, period_count, term_at}
+use Rattle.uc_model.specs.Terms.{period_count, term_at}
+use Rattle.dual_model.specs.UnitTerms.{AreSizedTerms, IsSized}
 use Rattle.dual_model.specs.PatternValue.{IsPattern, is_followed}
 use Rattle.dual_model.specs.Moves.{holds_initially, initial_limit, has_lasted, hour_cost}
 use Rattle.dual_model.specs.CostToGo.{since_after}

@@ -11,8 +11,10 @@ use Rattle.uc_model.specs.declared.terms.Terms.{Terms}
 use Rattle.dual_model.specs.declared.node.Fix.{Fix}
 use Rattle.uc_model.proofs.Sizes.{abs_add, abs_sub, abs_mul, abs_min}
 use Rattle.uc_model.proofs.StartCosts.{sigma-size}
-use Rattle.dual_model.specs.declared.limits.TheConstants.{MAX_UNIT_PRICE, MAX_TERM}
-use Rattle.dual_model.specs.UnitTerms.{AreSizedTerms, IsSized, period_count, price_at}
+use Rattle.uc_model.specs.declared.limits.TheConstants.{MAX_TERM}
+use Rattle.dual_model.specs.declared.limits.TheConstants.{MAX_UNIT_PRICE}
+use Rattle.uc_model.specs.Terms.{period_count, price_at}
+use Rattle.dual_model.specs.UnitTerms.{AreSizedTerms, IsSized}
 use Rattle.dual_model.specs.Moves.{stop_since, hour_cost, hour_before, move}
 use Rattle.dual_model.specs.CostToGo.{total_of, lesser_of, end_cost, since_after, cost_to_go, IsWithin, MAX_MOVE, MAX_COST_TO_GO}
 

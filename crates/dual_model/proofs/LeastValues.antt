@@ -7,7 +7,8 @@ use Rattle.uc_model.specs.declared.instance.Thermal.{Thermal}
 use Rattle.uc_model.specs.declared.terms.Terms.{Terms}
 use Rattle.uc_model.proofs.Ring.{linear}
 use Rattle.dual_model.specs.declared.node.Fix.{Fix}
-use Rattle.dual_model.specs.UnitTerms.{AreSizedTerms, period_count}
+use Rattle.uc_model.specs.Terms.{period_count}
+use Rattle.dual_model.specs.UnitTerms.{AreSizedTerms}
 use Rattle.dual_model.specs.PatternValue.{IsPattern, IsLeastValue, HasNoPattern, pattern_value}
 use Rattle.dual_model.specs.CostToGo.{cost_to_go}
 use Rattle.dual_model.proofs.Optimum.{AtMost, cost_to_go-le-way, cost_to_go-attained}

@@ -22,7 +22,7 @@ use Rattle.dual_model.specs.declared.node.Fix.{Fix}
 use Rattle.dual_model.specs.declared.node.Node.{Node}
 use Rattle.dual_model.specs.declared.table.Table.{Table}
 use Rattle.dual_model.proofs.UnitValues.{term_unique}
-use Rattle.dual_model.specs.UnitTerms.{term_at, price_at}
+use Rattle.uc_model.specs.Terms.{term_at, price_at}
 use Rattle.dual_model.specs.PatternValue.{IsPattern, IsLeastValue, is_followed, term_of, pattern_value}
 use Rattle.dual_model.specs.PatternValue as by_terms
 use Rattle.dual_model.specs.TableValue.{IsCellTerm, AreTermsOf, IsUnitValueOf}

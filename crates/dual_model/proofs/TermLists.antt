@@ -9,8 +9,10 @@ use Rattle.uc_model.specs.declared.terms.Terms.{Terms}
 use Rattle.uc_model.specs.declared.limits.TheConstants.{MAX_PERIODS}
 use Rattle.dual_model.specs.Term.{output_price, reserve_price}
 use Rattle.dual_model.specs.declared.table.Table.{Table}
-use Rattle.dual_model.specs.declared.limits.TheConstants.{MAX_TERM, MAX_UNIT_PRICE}
-use Rattle.dual_model.specs.UnitTerms.{AreSizedTerms, IsSized, term_at, cell_cap}
+use Rattle.uc_model.specs.declared.limits.TheConstants.{MAX_TERM}
+use Rattle.dual_model.specs.declared.limits.TheConstants.{MAX_UNIT_PRICE}
+use Rattle.uc_model.specs.Terms.{term_at}
+use Rattle.dual_model.specs.UnitTerms.{AreSizedTerms, IsSized, cell_cap}
 use Rattle.dual_model.specs.TableValue.{row_at, ArePricesOf, AreTermsOfRows, AreTermsFor, AreRowsOf, AreTermsOf, IsCellTerm, IsLawfulRow, IsLawfulScale}
 
 abbrev pub made : ℤ → List ℤ → List (List (Option ℤ)) → Terms

@@ -10,7 +10,7 @@ use Rattle.uc_model.specs.declared.terms.Terms.{Terms}
 use Rattle.uc_model.proofs.Ring.{linear}
 use Rattle.uc_model.proofs.Sums.{sum_below-first, sum_below-same}
 use Rattle.dual_model.specs.declared.node.Fix.{Fix}
-use Rattle.dual_model.specs.UnitTerms.{period_count, term_at, price_at}
+use Rattle.uc_model.specs.Terms.{period_count, term_at, price_at}
 use Rattle.dual_model.specs.PatternValue.{is_followed, term_of, period_value, pattern_value}
 use Rattle.dual_model.specs.Moves.{may_be_on, may_be_off, holds_initially, may_stop, may_start, stop_since, hour_cost, hour_before, move}
 use Rattle.dual_model.specs.CostToGo.{total_of, end_cost}

@@ -9,7 +9,7 @@ use Rattle.uc_model.specs.StartCategory.{sigma}
 use Rattle.uc_model.specs.declared.instance.Thermal.{Thermal}
 use Rattle.uc_model.specs.declared.terms.Terms.{Terms}
 use Rattle.dual_model.specs.declared.node.Fix.{Fix}
-use Rattle.dual_model.specs.UnitTerms.{term_at, price_at}
+use Rattle.uc_model.specs.Terms.{term_at, price_at}
 
 -- nothing that is decided wants the unit off in period t
 abbrev pub may_be_on : Fix → ℕ → Bool

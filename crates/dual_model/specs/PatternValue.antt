@@ -9,7 +9,7 @@ use Rattle.uc_model.specs.declared.instance.Thermal.{Thermal}
 use Rattle.uc_model.specs.declared.terms.Terms.{Terms}
 use Rattle.dual_model.specs.Fixings.{fix_agrees}
 use Rattle.dual_model.specs.declared.node.Fix.{Fix}
-use Rattle.dual_model.specs.UnitTerms.{period_count, term_at, price_at}
+use Rattle.uc_model.specs.Terms.{period_count, term_at, price_at}
 
 -- a pattern of the unit: allowed, and as the fix decides
 pub record IsPattern (periods : ℕ) (unit : Thermal) (fix : Fix) (on : Commitment) : Type 0 where

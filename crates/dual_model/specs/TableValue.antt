@@ -13,8 +13,10 @@ use Rattle.dual_model.specs.UnitValue.{IsUnitValue}
 use Rattle.dual_model.specs.declared.limits.TheConstants.{MAX_SCALE}
 use Rattle.dual_model.specs.declared.node.Node.{Node}
 use Rattle.dual_model.specs.declared.table.Table.{Table}
-use Rattle.dual_model.specs.declared.limits.TheConstants.{MAX_UNIT_PRICE, MAX_TERM}
-use Rattle.dual_model.specs.UnitTerms.{period_count, term_at, price_at, cell_cap, place}
+use Rattle.uc_model.specs.declared.limits.TheConstants.{MAX_TERM}
+use Rattle.dual_model.specs.declared.limits.TheConstants.{MAX_UNIT_PRICE}
+use Rattle.uc_model.specs.Terms.{period_count, term_at, price_at, place}
+use Rattle.dual_model.specs.UnitTerms.{cell_cap}
 
 -- the term of a cell of this cap, or nothing where the cap is below 0
 abbrev pub IsCellTerm : List Point → ℤ → ℤ → ℤ → ℤ → Option ℤ → Type 0

@@ -11,30 +11,13 @@ use Rattle.uc_model.specs.Points.{point_of}
 use Rattle.uc_model.specs.declared.limits.TheConstants.{MAX_PERIODS, MAX_POINTS, MAX_POWER, MAX_COST}
 use Rattle.uc_model.specs.declared.instance.Point.{Point}
 use Rattle.uc_model.specs.declared.instance.Thermal.{Thermal}
+use Rattle.uc_model.specs.Terms.{period_count, price_at, term_at}
 use Rattle.uc_model.specs.declared.terms.Terms.{Terms}
 use Rattle.dual_model.specs.declared.limits.TheConstants.{MAX_SCALE}
-use Rattle.dual_model.specs.declared.limits.TheConstants.{MAX_UNIT_PRICE, MAX_TERM, MAX_CAP}
+use Rattle.uc_model.specs.declared.limits.TheConstants.{MAX_TERM}
+use Rattle.dual_model.specs.declared.limits.TheConstants.{MAX_UNIT_PRICE, MAX_CAP}
 
--- the number of periods
-abbrev pub period_count : Terms → ℕ
-period_count terms = length terms.terms
-
--- the place of a cell's term in its period's row, by whether the cell is a start and whether a stop follows
-abbrev pub place : Bool → Bool → ℕ
-place false false = 0
-place true false = 1
-place false true = 2
-place true true = 3
-
--- the term of such a cell in period t
-abbrev pub term_at : Terms → ℕ → Bool → Bool → Option ℤ
-term_at terms t start stop = slice_index_or (slice_index_or terms.terms t []) (place start stop) None
-
--- the price of demand in period t
-abbrev pub price_at : Terms → ℕ → ℤ
-price_at terms t = slice_index_or terms.pi t (pos 0)
-
--- the cap of such a cell: a unit that is on initially has no start in the first period, and after the last
+-- the cap of a cell, by whether it is a start and whether a stop follows: a unit that is on initially has no start in the first period, and after the last
 -- period there is no stop
 abbrev pub cell_cap : ℕ → Thermal → ℕ → Bool → Bool → ℤ
 cell_cap periods unit t start stop =

@@ -3,10 +3,9 @@
 ghost use Rattle.std.specs.Prelude.{◌≡◌, ◌<◌, ◌≤◌, ◌-ℤ◌, ◌*ℤ◌, unsigned_abs};
 ghost use Rattle.dual_model.specs.CostToGo.{MAX_MOVE};
 ghost use Rattle.dual_model.specs.Moves.{holds_initially as initially, initial_limit as limit_of};
-ghost use Rattle.dual_model.specs.UnitTerms.{place as place_of};
 
-use crate::limits::{MAX_TERM, MAX_UNIT_PRICE};
-use uc_model::limits::MAX_POWER;
+use crate::limits::MAX_UNIT_PRICE;
+use uc_model::limits::{MAX_POWER, MAX_TERM};
 use uc_model::{Thermal, difference, product};
 
 /// M7, of a unit that is on initially: whether its initial output is low enough for a stop in the first period, or for
@@ -25,19 +24,6 @@ fn initial_limit(unit: &Thermal, stop: bool) -> i64
         unit.pmax.min(unit.sd)
     } else {
         unit.pmax
-    }
-}
-
-/// The place of a cell's term in its period's row, by whether the cell is a start and whether a stop follows.
-pub fn place(start: bool, stop: bool) -> usize
-    ensures value { result ≡ place_of start stop }
-    ensures within { result < 4 }
-{
-    match (start, stop) {
-        (false, false) => 0,
-        (true, false) => 1,
-        (false, true) => 2,
-        (true, true) => 3,
     }
 }
 

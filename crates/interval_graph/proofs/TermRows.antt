@@ -3,8 +3,8 @@ use Rattle.std.proofs.Common.{◌≡◌, ℕ, ◌<◌, ◌≤◌, Bool, true, fa
 use Rattle.std.specs.Prelude.{Option, Some, None, IfSome, unsigned_abs, slice_index_or, replicate}
 use Rattle.std.proofs.lemmas.List.{get_or-replicate, length-replicate}
 use Rattle.uc_model.specs.declared.limits.TheConstants.{MAX_PERIODS}
-use Rattle.dual_model.specs.UnitTerms.{place}
-use Rattle.dual_model.specs.declared.limits.TheConstants.{MAX_TERM}
+use Rattle.uc_model.specs.Terms.{place}
+use Rattle.uc_model.specs.declared.limits.TheConstants.{MAX_TERM}
 use Rattle.interval_graph.specs.Intervals.{term_in, AreTermRows}
 
 place-below : (start stop : Bool) → place start stop < 4

@@ -7,7 +7,7 @@ use Rattle.std.proofs.lemmas.Int.{fits_signed_from_abs}
 use Rattle.uc_model.specs.Sums.{sum_below}
 use Rattle.uc_model.specs.declared.limits.TheConstants.{MAX_PERIODS}
 use Rattle.uc_model.proofs.Sizes.{abs_add, wide}
-use Rattle.dual_model.specs.declared.limits.TheConstants.{MAX_TERM}
+use Rattle.uc_model.specs.declared.limits.TheConstants.{MAX_TERM}
 use Rattle.interval_graph.specs.Intervals.{interval_term, IsThere}
 
 pub record IsSumTo (rows : List (List (Option ℤ))) (a b t : ℕ) (total : ℤ) : Type 0 where

@@ -3,11 +3,10 @@
 ghost use Rattle.std.specs.Prelude.{◌≡◌, ◌<◌, ◌≤◌, ℕ, pos, Some, false, IfOk, IfSome, MatchOption, length, replicate, unsigned_abs};
 ghost use Rattle.interval_graph.specs.Intervals.{interval_cost, interval_term, term_in, AreTermRows, HasNoTerm, IsThere, MAX_INTERVAL};
 
-use dual_model::limits::MAX_TERM;
-use dual_model::moves::place;
 use std::alloc::Global;
 use std::marker::Model;
-use uc_model::limits::MAX_PERIODS;
+use uc_model::limits::{MAX_PERIODS, MAX_TERM};
+use uc_model::terms::place;
 use uc_model::{NoMemory, Terms};
 
 /// A unit's terms by their place in an on-interval, over a number of periods that does not change. Contracts see

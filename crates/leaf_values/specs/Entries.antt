@@ -10,7 +10,8 @@ use Rattle.uc_model.specs.declared.limits.TheConstants.{MAX_UNITS}
 use Rattle.dual_model.specs.NodeValue.{constant_at, renewables_value, system_value}
 use Rattle.dual_model.specs.PatternValue.{HasNoPattern, IsLeastValue}
 use Rattle.dual_model.specs.TableValue.{AreTermsOf}
-use Rattle.dual_model.specs.UnitTerms.{AreSizedTerms, period_count}
+use Rattle.uc_model.specs.Terms.{period_count}
+use Rattle.dual_model.specs.UnitTerms.{AreSizedTerms}
 use Rattle.dual_model.specs.declared.table.Table.{Table}
 use Rattle.dual_model.specs.CostToGo.{IsWithin, MAX_COST_TO_GO}
 use Rattle.system_value.specs.Sizes.{MAX_RENEWABLES, MAX_SYSTEM}

@@ -4,7 +4,8 @@ ghost use Rattle.std.specs.Prelude.{◌≡◌, ℕ, ◌<◌, ◌≤◌, ◌↔�
 ghost use Rattle.uc_model.specs.Limits.{IsLawfulInstance, IsLawfulThermal};
 ghost use Rattle.uc_model.specs.Schedule.{thermal_count};
 ghost use Rattle.dual_model.specs.Fixings.{HasNoPattern, IsFixOf};
-ghost use Rattle.dual_model.specs.UnitTerms.{AreSizedTerms, period_count};
+ghost use Rattle.uc_model.specs.Terms.{period_count};
+ghost use Rattle.dual_model.specs.UnitTerms.{AreSizedTerms};
 ghost use Rattle.dual_model.specs.declared.node.Node.{Node};
 
 use crate::units::unit_of;

@@ -6,7 +6,8 @@ ghost use Rattle.uc_model.specs.Schedule.{thermal_count, thermal_unit};
 ghost use Rattle.dual_model.specs.NodeValue.{constant_at, renewables_value as renewables_of, system_value as system_of};
 ghost use Rattle.dual_model.specs.Prices.{HasSizeOf, IsWithinLimits};
 ghost use Rattle.dual_model.specs.TableValue.{AreTermsOf};
-ghost use Rattle.dual_model.specs.UnitTerms.{AreSizedTerms, period_count};
+ghost use Rattle.uc_model.specs.Terms.{period_count};
+ghost use Rattle.dual_model.specs.UnitTerms.{AreSizedTerms};
 ghost use Rattle.leaf_values.specs.Entries.{AreEntriesOf, IsEntryOf, IsReckoned, MAX_CONSTANT, MAX_REST};
 
 use crate::entries::{TableEntries, UnitEntry};

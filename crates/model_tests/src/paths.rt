@@ -4,7 +4,8 @@
 ghost use Rattle.std.specs.Prelude.{◌≡◌, ◌≤◌, All, IfOk, length};
 ghost use Rattle.uc_model.specs.Limits.{IsLawfulThermal};
 ghost use Rattle.dual_model.specs.TableValue.{IsLawfulRow};
-ghost use Rattle.dual_model.specs.UnitTerms.{AreSizedTerms, period_count};
+ghost use Rattle.uc_model.specs.Terms.{period_count};
+ghost use Rattle.dual_model.specs.UnitTerms.{AreSizedTerms};
 
 use crate::drawn::{fix, prices, unit};
 use crate::draws::Draws;

@@ -8,7 +8,8 @@ ghost use Rattle.uc_model.specs.Schedule.{thermal_unit};
 ghost use Rattle.uc_model.specs.declared.instance.Instance.{Instance};
 ghost use Rattle.dual_model.specs.declared.table.Table.{Table};
 ghost use Rattle.cost_curves.specs.LowerHull.{IsLowerHull};
-ghost use Rattle.dual_model.specs.UnitTerms.{AreSizedTerms, cell_cap as cap_of, place};
+ghost use Rattle.uc_model.specs.Terms.{place};
+ghost use Rattle.dual_model.specs.UnitTerms.{AreSizedTerms, cell_cap as cap_of};
 ghost use Rattle.dual_model.specs.TableValue.{ArePricesOf, AreRowsOf, AreTermsFor, AreTermsOf, AreTermsOfRows, IsLawfulRow, IsLawfulScale, IsTermOfRow, row_at};
 
 use crate::cell::row_terms;

@@ -2,13 +2,15 @@
 
 ghost use Rattle.std.specs.Prelude.{◌≡◌, ◌<◌, ◌≤◌};
 ghost use Rattle.uc_model.specs.Limits.{IsLawfulThermal};
-ghost use Rattle.dual_model.specs.UnitTerms.{AreSizedTerms, period_count, term_at as term_of};
+ghost use Rattle.uc_model.specs.Terms.{period_count, term_at as term_of};
+ghost use Rattle.dual_model.specs.UnitTerms.{AreSizedTerms};
 ghost use Rattle.dual_model.specs.Moves.{hour_before as hour_of, move, stop_since as stop_of};
 
 use crate::rules::may_switch;
 use dual_model::Fix;
-use dual_model::moves::{holds_initially, hour_cost, place};
+use dual_model::moves::{holds_initially, hour_cost};
 use start_costs::sigma;
+use uc_model::terms::place;
 use uc_model::{Terms, Thermal, scaled};
 
 /// What it costs to go on from a state before period `t`, the unit being on in the period or not.

@@ -15,3 +15,4 @@ pub mod PrintedSchedule
 pub mod Limits
 pub mod Examples
 pub mod Tolerance
+pub mod Terms

@@ -1,4 +1,4 @@
-//! The limits on an instance's numbers.
+//! The limits on an instance's numbers, and on terms.
 
 ghost use Rattle.std.specs.Prelude.{◌≡◌, ◌*◌, ◌^◌};
 
@@ -27,6 +27,9 @@ pub const MAX_TIME: u32 = 1_000_000;
 /// each unit. It fits an `i64`.
 pub const COST_MAX: u64 = 6_881_280_000_000_000_000;
 
+/// The greatest size of a cell's term at a price table.
+pub const MAX_TERM: u128 = 100_000_000_000_000_000_000_000_000_000;
+
 /// A law, with nothing to run: the limits as numbers.
 pub fn limits_are_these()
     ensures periods { MAX_PERIODS ≡ 168 }
@@ -37,4 +40,5 @@ pub fn limits_are_these()
     ensures cost { MAX_COST ≡ 5 * 10 ^ 12 }
     ensures time { MAX_TIME ≡ 10 ^ 6 }
     ensures schedule { COST_MAX ≡ 4096 * 168 * (10 ^ 13) }
+    ensures term { MAX_TERM ≡ 10 ^ 29 }
 {}

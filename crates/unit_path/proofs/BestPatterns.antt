@@ -11,7 +11,7 @@ use Rattle.dual_model.specs.UnitValue.{IsBestPattern, IsPatternValue, IsUnitValu
 use Rattle.dual_model.specs.declared.node.Fix.{Fix}
 use Rattle.dual_model.specs.declared.node.Node.{Node}
 use Rattle.dual_model.specs.declared.table.Table.{Table}
-use Rattle.dual_model.specs.UnitTerms.{period_count}
+use Rattle.uc_model.specs.Terms.{period_count}
 use Rattle.dual_model.specs.PatternValue.{IsPattern, IsLeastValue, pattern_value}
 use Rattle.dual_model.specs.TableValue.{AreTermsOf}
 use Rattle.dual_model.proofs.TableValues.{to_table, unit_value-of}

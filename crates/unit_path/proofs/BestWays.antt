@@ -17,7 +17,8 @@ use Rattle.dual_model.specs.UnitValue.{IsBestPattern}
 use Rattle.dual_model.specs.TableValue.{AreTermsOf}
 use Rattle.dual_model.proofs.TableValues.{unit_value-of}
 use Rattle.dual_model.specs.PatternValue.{HasNoPattern, IsLeastValue, IsPattern, pattern_value}
-use Rattle.dual_model.specs.UnitTerms.{AreSizedTerms, period_count}
+use Rattle.uc_model.specs.Terms.{period_count}
+use Rattle.dual_model.specs.UnitTerms.{AreSizedTerms}
 use Rattle.dual_model.specs.Moves.{move}
 use Rattle.dual_model.specs.CostToGo.{since_after, total_of, IsWithin, MAX_COST_TO_GO}
 use Rattle.dual_model.proofs.CostSizes.{cost_to_go-fits}

@@ -4,7 +4,7 @@ use Rattle.std.proofs.lemmas.Bool.{cases_lt}
 use Rattle.uc_model.specs.declared.instance.Thermal.{Thermal}
 use Rattle.uc_model.specs.declared.terms.Terms.{Terms}
 use Rattle.dual_model.specs.declared.node.Fix.{Fix}
-use Rattle.dual_model.specs.UnitTerms.{period_count}
+use Rattle.uc_model.specs.Terms.{period_count}
 use Rattle.dual_model.specs.Moves.{may_be_off, may_be_on, may_start, may_stop}
 use Rattle.unit_path.specs.inside.Choices.{IsLeastStart, IsLeastStop}
 use Rattle.unit_path.specs.inside.Hours.{hour_in, IsCold, IsTableFrom, IsUntil}

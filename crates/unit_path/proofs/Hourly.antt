@@ -3,7 +3,7 @@ use Rattle.std.proofs.Common.{◌≡◌, ℕ, zero, suc, ◌-◌, ◌<◌, Bool,
 use Rattle.std.specs.Prelude.{Some}
 use Rattle.uc_model.specs.declared.instance.Thermal.{Thermal}
 use Rattle.uc_model.specs.declared.terms.Terms.{Terms}
-use Rattle.dual_model.specs.UnitTerms.{term_at, price_at}
+use Rattle.uc_model.specs.Terms.{term_at, price_at}
 use Rattle.dual_model.specs.Moves.{hour_before, hour_cost}
 
 pub hour-of_term : (terms : Terms) (unit : Thermal) (t : ℕ) (start stop : Bool) (m : ℤ) → 0 < t

@@ -7,7 +7,8 @@ use Rattle.uc_model.specs.StartCategory.{sigma}
 use Rattle.uc_model.specs.declared.instance.Thermal.{Thermal}
 use Rattle.uc_model.specs.declared.terms.Terms.{Terms}
 use Rattle.dual_model.specs.declared.node.Fix.{Fix}
-use Rattle.dual_model.specs.UnitTerms.{AreSizedTerms, period_count}
+use Rattle.uc_model.specs.Terms.{period_count}
+use Rattle.dual_model.specs.UnitTerms.{AreSizedTerms}
 use Rattle.dual_model.specs.Moves.{may_be_off, may_start, stop_since}
 use Rattle.dual_model.specs.CostToGo.{lesser_of, total_of, IsWithin, MAX_COST_TO_GO}
 use Rattle.unit_path.specs.inside.Choices.{choice_cost, rests, start_total, IsLeastStart, IsOneOf, IsStart}

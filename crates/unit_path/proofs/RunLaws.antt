@@ -9,7 +9,7 @@ use Rattle.uc_model.specs.declared.terms.Terms.{Terms}
 use Rattle.uc_model.specs.declared.limits.TheConstants.{MAX_PERIODS}
 use Rattle.uc_model.proofs.Sizes.{abs_add, wide}
 use Rattle.dual_model.specs.declared.node.Fix.{Fix}
-use Rattle.dual_model.specs.UnitTerms.{period_count}
+use Rattle.uc_model.specs.Terms.{period_count}
 use Rattle.dual_model.specs.Moves.{holds_initially, hour_before, may_be_off, may_be_on, may_stop, move}
 use Rattle.dual_model.specs.CostToGo.{lesser_of, total_of, MAX_MOVE}
 use Rattle.unit_path.specs.inside.Choices.{stays, stop_cost}

@@ -8,8 +8,9 @@ use Rattle.uc_model.specs.Limits.{IsLawfulThermal}
 use Rattle.uc_model.specs.declared.instance.Thermal.{Thermal}
 use Rattle.uc_model.specs.declared.terms.Terms.{Terms}
 use Rattle.uc_model.proofs.Ring.{linear, mul-zero}
-use Rattle.dual_model.specs.UnitTerms.{cell_cap, period_count, AreSizedTerms, IsSized}
-use Rattle.dual_model.specs.declared.limits.TheConstants.{MAX_TERM}
+use Rattle.uc_model.specs.Terms.{period_count}
+use Rattle.dual_model.specs.UnitTerms.{cell_cap, AreSizedTerms, IsSized}
+use Rattle.uc_model.specs.declared.limits.TheConstants.{MAX_TERM}
 use Rattle.interval_graph.specs.Intervals.{AreTermRows, IsThere}
 
 sized-size : (cap : ℤ) (term : Option ℤ) → IsSized cap term → IfSome term (λ m. unsigned_abs m ≤ MAX_TERM)

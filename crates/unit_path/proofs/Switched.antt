@@ -6,7 +6,7 @@ use Rattle.uc_model.specs.StartCategory.{sigma}
 use Rattle.uc_model.specs.declared.instance.Thermal.{Thermal}
 use Rattle.uc_model.specs.declared.terms.Terms.{Terms}
 use Rattle.dual_model.specs.declared.node.Fix.{Fix}
-use Rattle.dual_model.specs.UnitTerms.{period_count}
+use Rattle.uc_model.specs.Terms.{period_count}
 use Rattle.dual_model.specs.Moves.{holds_initially, may_be_off, may_be_on, may_start, may_stop, move, stop_since}
 use Rattle.dual_model.specs.CostToGo.{total_of, IsWithin, MAX_COST_TO_GO}
 use Rattle.unit_path.specs.inside.Choices.{choice_cost, start_total, stop_cost}

@@ -8,7 +8,7 @@ use Rattle.uc_model.specs.declared.instance.Thermal.{Thermal}
 use Rattle.uc_model.specs.declared.pattern.Pattern.{Pattern}
 use Rattle.uc_model.specs.declared.terms.Terms.{Terms}
 use Rattle.dual_model.specs.declared.node.Fix.{Fix}
-use Rattle.dual_model.specs.UnitTerms.{period_count}
+use Rattle.uc_model.specs.Terms.{period_count}
 use Rattle.dual_model.specs.Moves.{holds_initially, may_be_off, may_be_on, may_start, may_stop, move}
 use Rattle.dual_model.specs.CostToGo.{end_cost, total_of}
 use Rattle.dual_model.proofs.Optimum.{total_of-parts}

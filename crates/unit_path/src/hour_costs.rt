@@ -2,7 +2,8 @@
 
 ghost use Rattle.std.specs.Prelude.{◌≡◌, ◌<◌, ◌≤◌, Some, false, unsigned_abs, if◌then◌else◌};
 ghost use Rattle.uc_model.specs.Limits.{IsLawfulThermal};
-ghost use Rattle.dual_model.specs.UnitTerms.{AreSizedTerms, period_count};
+ghost use Rattle.uc_model.specs.Terms.{period_count};
+ghost use Rattle.dual_model.specs.UnitTerms.{AreSizedTerms};
 ghost use Rattle.dual_model.specs.CostToGo.{IsWithin, MAX_MOVE};
 ghost use Rattle.dual_model.specs.Moves.{hour_before as hour_of};
 ghost use Rattle.unit_path.specs.inside.Hours.{leave_cost, stay_cost};

@@ -4,7 +4,8 @@ ghost use Rattle.std.specs.Prelude.{◌≡◌, ℕ, ◌-◌, ◌<◌, ◌≤◌,
 ghost use Rattle.uc_model.specs.Limits.{IsCost, IsLawfulThermal};
 ghost use Rattle.uc_model.specs.StartCategory.{sigma};
 ghost use Rattle.dual_model.specs.TableValue.{IsLawfulScale};
-ghost use Rattle.dual_model.specs.UnitTerms.{AreSizedTerms, period_count};
+ghost use Rattle.uc_model.specs.Terms.{period_count};
+ghost use Rattle.dual_model.specs.UnitTerms.{AreSizedTerms};
 ghost use Rattle.dual_model.specs.CostToGo.{cost_to_go, lesser_of, total_of, IsWithin, MAX_COST_TO_GO};
 ghost use Rattle.dual_model.specs.Moves.{may_be_off, may_start, stop_since};
 ghost use Rattle.unit_path.specs.inside.Choices.{choice_cost, IsLeastStart, IsOneOf, IsStart};

@@ -6,7 +6,7 @@ use Rattle.uc_model.specs.PatternBits.{commitment_of}
 use Rattle.uc_model.specs.declared.instance.Thermal.{Thermal}
 use Rattle.uc_model.specs.declared.pattern.Pattern.{Pattern}
 use Rattle.uc_model.specs.declared.terms.Terms.{Terms}
-use Rattle.dual_model.specs.UnitTerms.{period_count}
+use Rattle.uc_model.specs.Terms.{period_count}
 use Rattle.dual_model.specs.declared.node.Fix.{Fix}
 use Rattle.dual_model.specs.Moves.{move}
 use Rattle.dual_model.specs.CostToGo.{end_cost, since_after, total_of}

@@ -4,7 +4,8 @@ use Rattle.std.specs.Prelude.{unsigned_abs}
 use Rattle.uc_model.specs.declared.limits.TheConstants.{MAX_POWER}
 use Rattle.uc_model.proofs.Sizes.{difference-is, difference-size, from-size, narrow, product-fits, product-is, product-size, sum-fits, wide, wide-size}
 use Rattle.dual_model.specs.CostToGo.{MAX_MOVE}
-use Rattle.dual_model.specs.declared.limits.TheConstants.{MAX_TERM, MAX_UNIT_PRICE}
+use Rattle.uc_model.specs.declared.limits.TheConstants.{MAX_TERM}
+use Rattle.dual_model.specs.declared.limits.TheConstants.{MAX_UNIT_PRICE}
 use Rattle.dual_model.proofs.moves.hour_cost.Goals as goal
 
 pub product-requires : goal.product-requires

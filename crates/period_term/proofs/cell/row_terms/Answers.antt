@@ -2,7 +2,7 @@
 use Rattle.std.proofs.Common.{sym, subst}
 use Rattle.std.specs.Prelude.{slice_index_or, pos, ◌≤◌, IfSome, unsigned_abs}
 use Rattle.dual_model.specs.TableValue.{IsCellTerm}
-use Rattle.dual_model.specs.declared.limits.TheConstants.{MAX_TERM}
+use Rattle.uc_model.specs.declared.limits.TheConstants.{MAX_TERM}
 use Rattle.cost_curves.specs.LowerHull.{IsLowerHull}
 use Rattle.period_term.proofs.FreedTerms.{freed_bits, of_freed, each_of_four}
 use Rattle.period_term.proofs.cell.row_terms.Goals as goal

@@ -4,7 +4,8 @@ use Rattle.std.specs.Prelude.{slice_index_or, unsigned_abs}
 use Rattle.std.specs.Int.{w64}
 use Rattle.uc_model.proofs.Sizes.{narrow}
 use Rattle.dual_model.specs.declared.limits.TheConstants.{MAX_CAP}
-use Rattle.dual_model.specs.UnitTerms.{place, cell_cap}
+use Rattle.uc_model.specs.Terms.{place}
+use Rattle.dual_model.specs.UnitTerms.{cell_cap}
 use Rattle.period_term.proofs.unit_terms.cell_caps.Goals as goal
 
 in_places : (cap : Bool → Bool → ℤ) (neither start stop both : ℤ) → neither ≡ cap false false → start ≡ cap true false

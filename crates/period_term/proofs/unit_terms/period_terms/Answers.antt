@@ -6,8 +6,10 @@ use Rattle.std.proofs.lemmas.Int.{to_z-of_z}
 use Rattle.uc_model.specs.declared.instance.Thermal.{Thermal}
 use Rattle.uc_model.specs.declared.instance.Point.{Point}
 use Rattle.uc_model.proofs.Sizes.{wide}
-use Rattle.dual_model.specs.declared.limits.TheConstants.{MAX_TERM, MAX_UNIT_PRICE}
-use Rattle.dual_model.specs.UnitTerms.{place, cell_cap}
+use Rattle.uc_model.specs.declared.limits.TheConstants.{MAX_TERM}
+use Rattle.dual_model.specs.declared.limits.TheConstants.{MAX_UNIT_PRICE}
+use Rattle.uc_model.specs.Terms.{place}
+use Rattle.dual_model.specs.UnitTerms.{cell_cap}
 use Rattle.dual_model.specs.TableValue.{IsCellTerm, IsTermOfRow}
 use Rattle.period_term.proofs.unit_terms.period_terms.Goals as goal
 

@@ -8,8 +8,9 @@ use Rattle.uc_model.specs.declared.instance.Thermal.{Thermal}
 use Rattle.uc_model.specs.declared.terms.Terms.{Terms}
 use Rattle.uc_model.specs.declared.limits.TheConstants.{MAX_POWER}
 use Rattle.uc_model.proofs.Sizes.{abs_narrow, narrow, wide, wide-size}
-use Rattle.dual_model.specs.declared.limits.TheConstants.{MAX_UNIT_PRICE, MAX_TERM}
-use Rattle.dual_model.specs.UnitTerms.{term_at, price_at, period_count}
+use Rattle.uc_model.specs.declared.limits.TheConstants.{MAX_TERM}
+use Rattle.dual_model.specs.declared.limits.TheConstants.{MAX_UNIT_PRICE}
+use Rattle.uc_model.specs.Terms.{term_at, price_at, period_count}
 use Rattle.dual_model.specs.Moves.{hour_before, hour_cost}
 use Rattle.state_walk.proofs.moves.hour_before.Goals as goal
 

@@ -4,7 +4,7 @@ use Rattle.std.specs.Prelude.{Option}
 use Rattle.uc_model.specs.declared.instance.Thermal.{Thermal}
 use Rattle.uc_model.specs.declared.terms.Terms.{Terms}
 use Rattle.dual_model.specs.declared.node.Fix.{Fix}
-use Rattle.dual_model.specs.UnitTerms.{period_count}
+use Rattle.uc_model.specs.Terms.{period_count}
 use Rattle.dual_model.specs.Moves.{move}
 use Rattle.dual_model.specs.CostToGo.{total_of, lesser_of, cost_to_go, IsWithin, MAX_COST_TO_GO}
 use Rattle.state_walk.specs.inside.WalkTable.{entry}

@@ -4,8 +4,9 @@ use Rattle.std.specs.Prelude.{Some, unsigned_abs, slice_index_or}
 use Rattle.std.specs.Int.{w128}
 use Rattle.uc_model.specs.declared.limits.TheConstants.{MAX_POWER}
 use Rattle.uc_model.proofs.Sizes.{abs_narrow, narrow, wide, wide-size}
-use Rattle.dual_model.specs.declared.limits.TheConstants.{MAX_UNIT_PRICE, MAX_TERM}
-use Rattle.dual_model.specs.UnitTerms.{term_at, price_at, period_count}
+use Rattle.uc_model.specs.declared.limits.TheConstants.{MAX_TERM}
+use Rattle.dual_model.specs.declared.limits.TheConstants.{MAX_UNIT_PRICE}
+use Rattle.uc_model.specs.Terms.{term_at, price_at, period_count}
 use Rattle.dual_model.specs.CostToGo.{MAX_MOVE}
 use Rattle.interval_graph.specs.Intervals.{term_in}
 use Rattle.unit_path.proofs.Hourly.{hour-of_term}

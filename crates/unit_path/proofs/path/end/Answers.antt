@@ -3,7 +3,7 @@ use Rattle.std.proofs.Common.{◌≡◌, length, false, refl, sym, ap, subst, �
 use Rattle.std.specs.Prelude.{Some}
 use Rattle.std.proofs.lemmas.Bool.{ne_eqb}
 use Rattle.uc_model.proofs.Sizes.{wide, wide-size}
-use Rattle.dual_model.specs.UnitTerms.{period_count}
+use Rattle.uc_model.specs.Terms.{period_count}
 use Rattle.dual_model.specs.CostToGo.{IsWithin, MAX_MOVE}
 use Rattle.dual_model.specs.Moves.{hour_before}
 use Rattle.unit_path.proofs.LeastStarts.{least-start_end}

@@ -6,7 +6,7 @@ use Rattle.uc_model.specs.StartCategory.{sigma}
 use Rattle.uc_model.specs.declared.limits.TheConstants.{MAX_COST}
 use Rattle.uc_model.proofs.Sizes.{from-size, narrow, wide, wide-size}
 use Rattle.uc_model.proofs.StartCosts.{sigma-size}
-use Rattle.dual_model.specs.UnitTerms.{period_count}
+use Rattle.uc_model.specs.Terms.{period_count}
 use Rattle.dual_model.specs.Moves.{may_be_off, may_be_on}
 use Rattle.dual_model.specs.CostToGo.{total_of, MAX_MOVE}
 use Rattle.unit_path.specs.inside.Choices.{choice_cost}

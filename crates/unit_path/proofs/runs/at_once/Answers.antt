@@ -6,7 +6,7 @@ use Rattle.uc_model.specs.declared.instance.Thermal.{Thermal}
 use Rattle.uc_model.specs.declared.terms.Terms.{Terms}
 use Rattle.uc_model.proofs.Sizes.{wide}
 use Rattle.dual_model.specs.declared.node.Fix.{Fix}
-use Rattle.dual_model.specs.UnitTerms.{period_count}
+use Rattle.uc_model.specs.Terms.{period_count}
 use Rattle.dual_model.specs.Moves.{may_stop}
 use Rattle.dual_model.specs.CostToGo.{total_of, MAX_MOVE}
 use Rattle.unit_path.specs.inside.Choices.{choice_cost, stop_cost}

@@ -3,7 +3,7 @@ use Rattle.std.proofs.Common.{◌≡◌, ◌<◌, ◌≤◌, [], length, false, 
 use Rattle.std.specs.Prelude.{Option, None, IfSome, unsigned_abs, slice_index_or}
 use Rattle.std.proofs.lemmas.List.{get_or_read}
 use Rattle.uc_model.proofs.Sizes.{wide-size}
-use Rattle.dual_model.specs.declared.limits.TheConstants.{MAX_TERM}
+use Rattle.uc_model.specs.declared.limits.TheConstants.{MAX_TERM}
 use Rattle.interval_graph.specs.Intervals.{term_in, IsThere}
 use Rattle.interval_graph.proofs.intervals.Intervals.full_term.Goals as goal
 

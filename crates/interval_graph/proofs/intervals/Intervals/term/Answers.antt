@@ -2,7 +2,7 @@
 use Rattle.std.proofs.Common.{◌<◌, ◌≤◌, [], length, sym, subst}
 use Rattle.std.specs.Prelude.{None, IfSome, unsigned_abs, slice_index_or}
 use Rattle.std.proofs.lemmas.List.{get_or_read}
-use Rattle.dual_model.specs.declared.limits.TheConstants.{MAX_TERM}
+use Rattle.uc_model.specs.declared.limits.TheConstants.{MAX_TERM}
 use Rattle.interval_graph.proofs.intervals.Intervals.term.Goals as goal
 
 pub returns-clause-size : goal.returns-clause-size
