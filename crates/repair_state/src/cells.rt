@@ -77,11 +77,14 @@ pub(crate) fn cost_at(market: &Market, period: &Period, unit: &Unit, power: i64,
 
 // What the unit gives above its minimum in the order of merit.
 fn merit_power(market: &Market, period: &Period, unit: &Unit) -> i64 {
-    let needed = period.needed_with(&unit.addition(0, 0));
+    let least = unit.addition(0, 0);
+    let needed = period.needed_with(&least);
+    let room = period.room_with(&least).max(needed);
     let mut power: i64 = 0;
     for segment in &unit.segments {
         let cheaper = period.watts_before(market, segment.place);
-        let left = needed.saturating_sub(cheaper).saturating_sub(power);
+        let wanted = if segment.rate < 0 { room } else { needed };
+        let left = wanted.saturating_sub(cheaper).saturating_sub(power);
         if left <= 0 {
             break;
         }

@@ -28,11 +28,13 @@ pub(crate) struct Segment {
     pub rate: i64,
 }
 
-/// The rates of all segments in order of merit, the powers of two up to their number from the greatest on, the rate of the segment with
-/// which half of all watts are reached, and that of what is lacking; and what a period costs beside it in which something is lacking.
+/// The rates of all segments in order of merit, how many of them are below 0, the powers of two up to their number from the greatest on, the
+/// rate of the segment with which half of all watts are reached, and that of what is lacking; and what a period costs beside it in which
+/// something is lacking.
 #[derive(Drop)]
 pub struct Market {
     pub(crate) rates: Vec<i64>,
+    pub(crate) gainful: usize,
     pub(crate) strides: Vec<usize>,
     pub middle: i64,
     pub scarcity: i64,
@@ -88,6 +90,7 @@ pub(crate) fn market_of(alloc: Global, units: &mut [Unit]) -> Result<Market, NoM
     }
     Ok(Market {
         rates: rates_of(alloc, &entries)?,
+        gainful: gainful(&entries),
         strides: strides(alloc, entries.len())?,
         middle: middle(&entries),
         scarcity: dearest_rate(&entries, units).saturating_mul(SCARCITY),
@@ -101,6 +104,11 @@ fn rates_of(alloc: Global, entries: &[Entry]) -> Result<Vec<i64>, NoMemory> {
         rates.push(entry.rate)?;
     }
     Ok(rates)
+}
+
+// How many rates are below 0, which come first.
+fn gainful(entries: &[Entry]) -> usize {
+    entries.iter().filter(|entry| entry.rate < 0).count()
 }
 
 // The dearest rate in size, of a segment or at a unit's minimum; at least 1.

@@ -211,17 +211,35 @@ impl Period {
         self.needed.saturating_sub(floor).max(0)
     }
 
+    /// The watts that demand takes above the floor with another unit, and for which reserve leaves room; renewable units give less for them.
+    pub(crate) fn room_with(&self, other: &Addition) -> i64 {
+        let floor = self.floor.saturating_add(other.floor);
+        let spare = self.lack_of_reserve(other, 0).saturating_neg();
+        self.bearable.saturating_sub(floor).min(spare)
+    }
+
+    // The watts that are given above the floor with another unit: those that are needed, or as far as there is room all that cost less
+    // than nothing.
+    fn given_with(&self, market: &Market, other: &Addition) -> i64 {
+        let needed = self.needed_with(other);
+        if market.gainful == 0 {
+            return needed;
+        }
+        let gainful = self.watts_before(market, market.gainful);
+        gainful.min(self.room_with(other)).max(needed)
+    }
+
     /// What the period costs with another unit, whose own cost is left out.
     pub(crate) fn cost_with(&self, market: &Market, other: &Addition) -> i64 {
-        let needed = self.needed_with(other);
+        let given = self.given_with(market, other);
         let floor = self.floor.saturating_add(other.floor);
         let surplus = floor.saturating_sub(self.bearable).max(0);
-        let short = self.short_of_reserve(other, needed);
-        let is_breached = needed > self.watts
+        let short = self.lack_of_reserve(other, given).max(0);
+        let is_breached = given > self.watts
             || surplus > 0
             || (short > 0 && self.reserve_rate >= market.scarcity);
         self.base
-            .saturating_add(self.fill(market, needed).cost)
+            .saturating_add(self.fill(market, given).cost)
             .saturating_add(cost_of(market.scarcity, surplus))
             .saturating_add(cost_of(self.reserve_rate, short))
             .saturating_add(if is_breached { market.breach } else { 0 })
@@ -262,17 +280,16 @@ impl Period {
 
     /// The watts of reserve that are lacking with another unit.
     pub(crate) fn short_with(&self, other: &Addition) -> i64 {
-        self.short_of_reserve(other, self.needed_with(other))
+        self.lack_of_reserve(other, self.needed_with(other)).max(0)
     }
 
-    // The same, where so many watts are needed.
-    fn short_of_reserve(&self, other: &Addition, needed: i64) -> i64 {
+    // The same, where so many watts are given; below 0 where there is room for more.
+    fn lack_of_reserve(&self, other: &Addition, given: i64) -> i64 {
         self.power
             .saturating_add(other.power)
-            .saturating_add(needed)
+            .saturating_add(given)
             .saturating_add(self.reserve)
             .saturating_sub(self.heads.saturating_add(other.head))
-            .max(0)
     }
 
     /// Whether hardly more reserve is left than is wanted, or less.
