@@ -95,32 +95,22 @@ fn assert_cells<R: Abort>(rt: &R, alloc: Global, points: &[Point]) -> Result<(),
     Ok(())
 }
 
-const CONVEX: [Point; 3] = [
-    Point { mw: 0, cost: 1 },
-    Point { mw: 2, cost: 3 },
-    Point { mw: 5, cost: 12 },
-];
+// Points, each an output and a cost.
+macro_rules! points {
+    ($(($mw:expr, $cost:expr)),*) => {
+        [$(Point { mw: $mw, cost: $cost }),*]
+    };
+}
 
-const ABOVE_THE_HULL: [Point; 3] = [
-    Point { mw: 0, cost: 0 },
-    Point { mw: 2, cost: 9 },
-    Point { mw: 5, cost: 4 },
-];
+const CONVEX: [Point; 3] = points![(0, 1), (2, 3), (5, 12)];
 
-const SHARED_OUTPUTS: [Point; 4] = [
-    Point { mw: 0, cost: 5 },
-    Point { mw: 0, cost: 2 },
-    Point { mw: 4, cost: 1 },
-    Point { mw: 4, cost: 7 },
-];
+const ABOVE_THE_HULL: [Point; 3] = points![(0, 0), (2, 9), (5, 4)];
 
-const ON_A_LINE: [Point; 3] = [
-    Point { mw: 0, cost: 0 },
-    Point { mw: 1, cost: 2 },
-    Point { mw: 3, cost: 6 },
-];
+const SHARED_OUTPUTS: [Point; 4] = points![(0, 5), (0, 2), (4, 1), (4, 7)];
 
-const ALONE: [Point; 1] = [Point { mw: 0, cost: -3 }];
+const ON_A_LINE: [Point; 3] = points![(0, 0), (1, 2), (3, 6)];
+
+const ALONE: [Point; 1] = points![(0, -3)];
 
 // The term by halving is the least over all points and pairs of points: also where points share an output, lie above
 // the hull or have one slope, and where slopes tie with a price.

@@ -61,9 +61,8 @@ fn start_rows(alloc: Global, draws: &mut Draws) -> Result<Vec<StartRow>, AllocEr
     ensures count { IfOk result (λ rows. (1 ≤ length rows.items) × (length rows.items ≤ 4)) }
     ensures rows { IfOk result (λ rows. All IsSmallRow rows.items) }
 {
-    let count = 1 + draws.below(4);
-    let mut rows = Vec::new(alloc);
-    for _ in 0..count {
+    let mut rows = vec![in alloc; start_row(draws)]?;
+    for _ in 0..draws.below(4) {
         rows.push(start_row(draws))?;
     }
     Ok(rows)

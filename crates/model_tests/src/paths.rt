@@ -93,29 +93,55 @@ fn assert_extremes<R: Abort>(rt: &R, unit: &Thermal, prices: &[(i128, i128, i128
     }
 }
 
-// The walk and the path of a unit find the least value of all patterns that are as decided, and the path one of these that costs just
-// that; whether there is one.
+// Whether the least value by the walk is that of all patterns that are as decided, and the path has one of these that costs just that;
+// or neither is there.
+fn is_enumerated(
+    unit: &Thermal,
+    prices: &[(i128, i128, i128)],
+    fix: &Fix,
+    walked: Option<i128>,
+    path: Option<(i128, Pattern)>,
+) -> bool
+    requires { length prices.now ≤ 8 }
+{
+    match (enumerated(unit, prices, fix), path) {
+        (Some((least, _, _)), Some((value, pattern))) => {
+            walked == Some(least)
+                && value == least
+                && cost_of(unit, prices, pattern.low) == Some(least)
+                && pattern.high == 0
+                && agrees(fix, pattern.low, prices.len())
+        }
+        (least, path) => least.is_none() && path.is_none() && walked.is_none(),
+    }
+}
+
+// The walk and the path of a unit are as enumerated; whether there is a least value.
+fn assert_least<R: Abort>(
+    rt: &R,
+    alloc: Global,
+    unit: &Thermal,
+    prices: &[(i128, i128, i128)],
+    fix: &Fix,
+) -> Result<bool, Fail>
+    requires lawful { IsLawfulThermal unit.now }
+    requires count { (1 ≤ length prices.now) × (length prices.now ≤ 8) }
+    requires prices { All IsLawfulRow prices.now }
+{
+    let terms = unit_terms(alloc, unit, prices)?;
+    let walked = walked(alloc, &terms, unit, fix)?;
+    let path = found(alloc, &terms, unit, fix)?;
+    assert!(rt; is_enumerated(unit, prices, fix, walked, path));
+    Ok(walked.is_some())
+}
+
+// A unit that is drawn is as enumerated; whether it has a pattern.
 fn assert_drawn<R: Abort>(rt: &R, alloc: Global, draws: &mut Draws) -> Result<bool, Fail> {
     let unit = unit(alloc, draws)?;
     let prices = prices(alloc, draws)?;
     let fix = fix(draws);
     assert_extremes(rt, &unit, &prices);
-    let terms = unit_terms(alloc, &unit, &prices)?;
-    let walked = walked(alloc, &terms, &unit, &fix)?;
-    let path = found(alloc, &terms, &unit, &fix)?;
-    match (enumerated(&unit, &prices, &fix), path) {
-        (Some((least, _, _)), Some((value, pattern))) => {
-            assert_eq!(rt; walked, Some(least));
-            assert_eq!(rt; value, least);
-            assert_eq!(rt; cost_of(&unit, &prices, pattern.low), Some(least));
-            assert!(rt; pattern.high == 0 && agrees(&fix, pattern.low, prices.len()));
-            Ok(true)
-        }
-        (least, path) => {
-            assert!(rt; least.is_none() && path.is_none() && walked.is_none());
-            Ok(false)
-        }
-    }
+    assert_least(rt, alloc, &unit, &prices, &fix)
 }
 
 // At least a tenth of the units has a pattern, and a tenth has none.

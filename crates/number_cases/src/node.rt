@@ -13,6 +13,9 @@ use std::alloc::{AllocError, Global};
 use uc_model::{Instance, List, NoMemory};
 use unit_path::Scratch;
 
+/// The value of a node, if each unit has a pattern.
+type Evaluation = Result<Valued, ValueFault>;
+
 /// The node that decides nothing.
 pub(crate) fn root(alloc: Global) -> Node
     ensures { (instance : Instance) → IsNodeOf instance result }
@@ -69,12 +72,7 @@ fn node_text(alloc: Global, instance: &Instance, node: &Node, price: i32) -> Ans
 }
 
 // The value of a node at a table.
-fn valued(
-    alloc: Global,
-    instance: &Instance,
-    node: &Node,
-    table: &Table,
-) -> Result<Valued, ValueFault>
+fn valued(alloc: Global, instance: &Instance, node: &Node, table: &Table) -> Evaluation
     requires lawful { IsLawfulInstance instance.now }
     requires node { IsNodeOf instance.now node.now }
     requires size { HasSizeOf instance.now table.now }

@@ -55,8 +55,7 @@ pub(crate) struct Told {
 #[derive(Drop)]
 pub(crate) struct Range {
     pub word: String,
-    pub least: u32,
-    pub most: u32,
+    pub limits: (u32, u32),
 }
 
 /// What a case says: the bytes of the files that are read, how the devices behave, and what is told of a run. Besides, what the
@@ -91,6 +90,22 @@ impl Case {
             report: Vec::new(alloc),
             row: String::new(alloc),
             words: String::new(alloc),
+        }
+    }
+
+    /// The bytes of the certificate that is read, or else those of the instance.
+    pub(crate) fn bytes(&self, place: Place) -> &[u8] {
+        match place {
+            Place::CertIn => self.certificate.as_slice(),
+            _ => self.instance.as_slice(),
+        }
+    }
+
+    /// Puts other bytes in their place.
+    pub(crate) fn set_bytes(&mut self, place: Place, bytes: Vec<u8>) {
+        match place {
+            Place::CertIn => self.certificate = bytes,
+            _ => self.instance = bytes,
         }
     }
 
@@ -161,7 +176,8 @@ impl Range {
         };
         match number_of(number) {
             Some((whole, is_whole)) if word == self.word.as_str() => {
-                self.least <= whole && (whole < self.most || whole == self.most && is_whole)
+                let (least, most) = self.limits;
+                least <= whole && (whole < most || whole == most && is_whole)
             }
             _ => false,
         }

@@ -10,7 +10,8 @@ fn put_line(case: &Case, text: &mut String, line: &str) -> Result<(), AllocError
     let Some(range) = case.range_of(line) else {
         return writeln!(text, "{line}");
     };
-    write!(text, "{} {} to {}", range.word, range.least, range.most)?;
+    let (least, most) = range.limits;
+    write!(text, "{} {least} to {most}", range.word)?;
     text.push_str(if case.has_reported(line) {
         ", as before\n"
     } else {

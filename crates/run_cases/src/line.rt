@@ -1,9 +1,9 @@
 //! The lines of the cases.
 
-use crate::case::{Case, Failure, call_of, place_of};
+use crate::case::{Case, Failure, Place, call_of, place_of};
 use crate::ending::text_of;
 use crate::run::{Ended, run};
-use crate::sweep::{cut_certificate, cut_instance, fail_each};
+use crate::sweep::{cut_each, fail_each};
 use crate::text::split;
 use outside::FailingCall;
 use std::alloc::{AllocError, Global};
@@ -107,8 +107,8 @@ pub(crate) fn follow<R: Threads + Wait + Sync + Print + Files + AllocGlobal>(
         "again" => tell_again(rt, case, rest),
         "|" => tell_row(rt, case, rest),
         "each" => tell_each(rt, case, rest),
-        "cut" => cut_instance(rt, case, rest),
-        "cut.cert" => cut_certificate(rt, case, rest),
+        "cut" => cut_each(rt, Place::Instance, rest, case),
+        "cut.cert" => cut_each(rt, Place::CertIn, rest, case),
         _ => {
             if !case.take(rt, word, rest)? {
                 rt.println("no such line")?;

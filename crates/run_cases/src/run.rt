@@ -1,8 +1,12 @@
 //! A run of the program on devices in memory.
 
+ghost use Rattle.std.specs.Prelude.{◌≡◌, IfOk};
+ghost use Rattle.outside.specs.Slots.{AllUnopened};
+ghost use Rattle.outside.specs.declared.slot.Stage.TheVariants.{Unopened};
+
 use crate::case::{Case, Place};
 use crate::tally::Tally;
-use outside::{Devices, FaultyFile, FaultySink};
+use outside::{Device, Devices, FaultyFile, FaultySink, Files};
 use std::alloc::{AllocError, Global};
 use std::sync::Wait;
 use std::thread::Threads;
@@ -46,6 +50,73 @@ fn words_of(alloc: Global, line: &str) -> Result<Vec<String>, AllocError> {
     Ok(words)
 }
 
+// The file of a device, on which the case's calls fail.
+fn file_of(
+    alloc: Global,
+    case: &Case,
+    place: Place,
+    name: &str,
+    input: &[u8],
+) -> Result<FaultyFile, AllocError>
+    ensures { IfOk result (λ file. (⟦<FaultyFile as Device>⟧.state file).stage ≡ Unopened) }
+{
+    let calls = case.calls(alloc, place)?;
+    FaultyFile::new(alloc, name, input, &calls, case.pace)
+}
+
+// The output of a device.
+fn sink_of(alloc: Global, case: &Case, place: Place) -> Result<FaultySink, AllocError> {
+    let calls = case.calls(alloc, place)?;
+    FaultySink::new(alloc, &calls, case.pace)
+}
+
+// The devices of a run that hasn't begun.
+fn unbegun(alloc: Global, case: &Case) -> Result<Ended, AllocError>
+    ensures { IfOk result (λ ended. AllUnopened (⟦<Devices<FaultyFile> as Files>⟧.state ended.files)) }
+{
+    let files = Devices::new(
+        file_of(alloc, case, Place::Instance, "in.json", &case.instance)?,
+        file_of(alloc, case, Place::CertIn, "old.cert", &case.certificate)?,
+        file_of(alloc, case, Place::CertOut, "new.cert", b"")?,
+    );
+    Ok(Ended {
+        code: 0,
+        has_found: false,
+        entries: 0,
+        strays: 0,
+        files,
+        out: sink_of(alloc, case, Place::Output)?,
+        err: sink_of(alloc, case, Place::Fault)?,
+    })
+}
+
+// Runs the program on devices.
+fn carried_out<R: Threads + Wait + Sync>(
+    rt: &R,
+    alloc: Global,
+    words: &[String],
+    run: Ended,
+) -> Ended
+    requires { AllUnopened (⟦<Devices<FaultyFile> as Files>⟧.state run.files) }
+{
+    let mut run = run;
+    let gate = Tally::new();
+    let end = uc(
+        rt,
+        alloc,
+        words,
+        &mut run.files,
+        &mut run.out,
+        &mut run.err,
+        &gate,
+    );
+    run.code = end.code;
+    run.has_found = end.found.is_some();
+    run.entries = gate.entries();
+    run.strays = gate.strays();
+    run
+}
+
 /// Runs the program with the words of a line.
 pub(crate) fn run<R: Threads + Wait + Sync>(
     rt: &R,
@@ -54,27 +125,5 @@ pub(crate) fn run<R: Threads + Wait + Sync>(
     line: &str,
 ) -> Result<Ended, AllocError> {
     let words = words_of(alloc, line)?;
-    let unread = case.calls(alloc, Place::Instance)?;
-    let unchecked = case.calls(alloc, Place::CertIn)?;
-    let unwritten = case.calls(alloc, Place::CertOut)?;
-    let unsaid = case.calls(alloc, Place::Output)?;
-    let untold = case.calls(alloc, Place::Fault)?;
-    let mut files = Devices::new(
-        FaultyFile::new(alloc, "in.json", &case.instance, &unread, case.pace)?,
-        FaultyFile::new(alloc, "old.cert", &case.certificate, &unchecked, case.pace)?,
-        FaultyFile::new(alloc, "new.cert", b"", &unwritten, case.pace)?,
-    );
-    let mut out = FaultySink::new(alloc, &unsaid, case.pace)?;
-    let mut err = FaultySink::new(alloc, &untold, case.pace)?;
-    let gate = Tally::new();
-    let end = uc(rt, alloc, &words, &mut files, &mut out, &mut err, &gate);
-    Ok(Ended {
-        code: end.code,
-        has_found: end.found.is_some(),
-        entries: gate.entries(),
-        strays: gate.strays(),
-        files,
-        out,
-        err,
-    })
+    Ok(carried_out(rt, alloc, &words, unbegun(alloc, case)?))
 }

@@ -1,6 +1,6 @@
 //! The lines that say what the runs of a case begin with.
 
-use crate::case::{Case, Failure, Range, Told, call_of, place_of};
+use crate::case::{Case, Failure, Place, Range, Told, call_of, place_of};
 use crate::text::{bytes_of, changed, split, with_line, with_list, with_more};
 use outside::{FailingCall, Pace};
 use std::alloc::{AllocError, Global};
@@ -42,20 +42,8 @@ fn range_of(alloc: Global, text: &str) -> Result<Option<Range>, AllocError> {
     };
     Ok(Some(Range {
         word: String::from_str(alloc, word)?,
-        least,
-        most,
+        limits: (least, most),
     }))
-}
-
-// Puts a value, if there is one, in place of another. Whether there is one.
-fn set<T: Drop>(standing: &mut T, value: Option<T>) -> bool {
-    match value {
-        Some(value) => {
-            *standing = value;
-            true
-        }
-        None => false,
-    }
 }
 
 // Puts a value, if there is one, behind others. Whether there is one.
@@ -69,46 +57,26 @@ fn add<T: Drop>(others: &mut Vec<T>, value: Option<T>) -> Result<bool, AllocErro
     }
 }
 
+// The bytes of a file that a line says, of which others stand.
+fn said<R: Files + AllocGlobal>(
+    rt: &R,
+    standing: &[u8],
+    word: &str,
+    rest: &str,
+) -> io::Result<Option<Vec<u8>>> {
+    let alloc = rt.alloc();
+    match word {
+        "instance" | "old" => Ok(Some(fs::read(rt, rest)?)),
+        "text" => Ok(Some(bytes_of(alloc, rest)?)),
+        "change" => Ok(changed(alloc, standing, rest)?),
+        "line" => Ok(with_line(alloc, standing, rest)?),
+        "list" => Ok(with_list(alloc, standing, rest)?),
+        "more" => Ok(with_more(alloc, standing, rest)?),
+        _ => Ok(None),
+    }
+}
+
 impl Case {
-    // The bytes of the instance that a line says.
-    fn instance_of<R: Files + AllocGlobal>(
-        &self,
-        rt: &R,
-        word: &str,
-        rest: &str,
-    ) -> io::Result<Option<Vec<u8>>> {
-        let alloc = rt.alloc();
-        let bytes = self.instance.as_slice();
-        match word {
-            "instance" => Ok(Some(fs::read(rt, rest)?)),
-            "text" => Ok(Some(bytes_of(alloc, rest)?)),
-            "change" => Ok(changed(alloc, bytes, rest)?),
-            "list" => Ok(with_list(alloc, bytes, rest)?),
-            "more" => Ok(with_more(alloc, bytes, rest)?),
-            _ => Ok(None),
-        }
-    }
-
-    // The bytes of the certificate that a line says.
-    fn certificate_of<R: Files + AllocGlobal>(
-        &self,
-        rt: &R,
-        word: &str,
-        rest: &str,
-    ) -> io::Result<Option<Vec<u8>>> {
-        let alloc = rt.alloc();
-        let bytes = self.certificate.as_slice();
-        match word {
-            "old.cert" => Ok(Some(fs::read(rt, rest)?)),
-            "written" => Ok(Some(Vec::from_slice(alloc, self.written.as_slice())?)),
-            "text.cert" => Ok(Some(bytes_of(alloc, rest)?)),
-            "change.cert" => Ok(changed(alloc, bytes, rest)?),
-            "line.cert" => Ok(with_line(alloc, bytes, rest)?),
-            "more.cert" => Ok(with_more(alloc, bytes, rest)?),
-            _ => Ok(None),
-        }
-    }
-
     // What a row says, and the words of its run, as `WORD WORDS` says.
     fn set_rows(&mut self, alloc: Global, text: &str) -> Result<(), AllocError> {
         let (row, words) = split(text);
@@ -147,18 +115,25 @@ impl Case {
         word: &str,
         rest: &str,
     ) -> io::Result<bool> {
+        let alloc = rt.alloc();
         if word == "case" {
-            *self = Case::new(rt.alloc());
+            *self = Case::new(alloc);
             return Ok(true);
         }
-        let instance = self.instance_of(rt, word, rest)?;
-        if set(&mut self.instance, instance) {
+        if word == "written" {
+            self.certificate = Vec::from_slice(alloc, self.written.as_slice())?;
             return Ok(true);
         }
-        let certificate = self.certificate_of(rt, word, rest)?;
-        if set(&mut self.certificate, certificate) {
-            return Ok(true);
+        let (place, kind) = match word.strip_suffix(".cert") {
+            Some(kind) => (Place::CertIn, kind),
+            None => (Place::Instance, word),
+        };
+        match said(rt, self.bytes(place), kind, rest)? {
+            Some(bytes) => {
+                self.set_bytes(place, bytes);
+                Ok(true)
+            }
+            None => Ok(self.take_way(alloc, word, rest)?),
         }
-        Ok(self.take_way(rt.alloc(), word, rest)?)
     }
 }

@@ -1,6 +1,6 @@
 //! Runs that are alike but for a number.
 
-use crate::case::{Case, Failure};
+use crate::case::{Case, Failure, Place};
 use crate::ending::text_of;
 use crate::run::run;
 use std::alloc::{AllocError, Global};
@@ -71,46 +71,35 @@ pub(crate) fn fail_each<R: Threads + Wait + Sync + Print + AllocGlobal>(
     alike.tell(rt)
 }
 
-// An ending with `N` for a number.
-fn with_n(alloc: Global, ending: &str, number: u64) -> Result<String, AllocError> {
-    let number = format!(in alloc; " {number}:")?;
-    String::from_str(alloc, ending)?.replace(alloc, number.as_str(), " N:")
+// The ending of a run of an instance with `N` for a number.
+fn with_n(alloc: Global, place: Place, ending: String, number: u64) -> Result<String, AllocError> {
+    match place {
+        Place::Instance => {
+            let number = format!(in alloc; " {number}:")?;
+            ending.replace(alloc, number.as_str(), " N:")
+        }
+        _ => Ok(ending),
+    }
 }
 
-/// Runs whose instance is cut to no byte, to one, and so on up to all but one. `N` is the number of bytes.
-pub(crate) fn cut_instance<R: Threads + Wait + Sync + Print + AllocGlobal>(
+/// Runs whose instance, or certificate, is cut to no byte, to one, and so on up to all but one. In the endings of those of an instance `N` is
+/// the number of bytes.
+pub(crate) fn cut_each<R: Threads + Wait + Sync + Print + AllocGlobal>(
     rt: &R,
-    case: &mut Case,
+    place: Place,
     words: &str,
+    case: &mut Case,
 ) -> io::Result<()> {
     let alloc = rt.alloc();
     let mut alike = Alike::new(alloc);
-    let whole = Vec::from_slice(alloc, case.instance.as_slice())?;
+    let whole = Vec::from_slice(alloc, case.bytes(place))?;
     for length in 0..whole.len() {
-        case.instance = Vec::from_slice(alloc, &whole[..length])?;
+        case.set_bytes(place, Vec::from_slice(alloc, &whole[..length])?);
         let ended = run(rt, alloc, case, words)?;
-        let ending = text_of(alloc, case, &ended)?;
         let number = length as u64;
-        alike.put(rt, number, with_n(alloc, ending.as_str(), number)?)?;
+        let ending = text_of(alloc, case, &ended)?;
+        alike.put(rt, number, with_n(alloc, place, ending, number)?)?;
     }
-    case.instance = whole;
-    alike.tell(rt)
-}
-
-/// Runs whose certificate is cut to no byte, to one, and so on up to all but one.
-pub(crate) fn cut_certificate<R: Threads + Wait + Sync + Print + AllocGlobal>(
-    rt: &R,
-    case: &mut Case,
-    words: &str,
-) -> io::Result<()> {
-    let alloc = rt.alloc();
-    let mut alike = Alike::new(alloc);
-    let whole = Vec::from_slice(alloc, case.certificate.as_slice())?;
-    for length in 0..whole.len() {
-        case.certificate = Vec::from_slice(alloc, &whole[..length])?;
-        let ended = run(rt, alloc, case, words)?;
-        alike.put(rt, length as u64, text_of(alloc, case, &ended)?)?;
-    }
-    case.certificate = whole;
+    case.set_bytes(place, whole);
     alike.tell(rt)
 }

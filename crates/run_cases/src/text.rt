@@ -3,6 +3,9 @@
 use percent_encoding::percent_decode;
 use std::alloc::{AllocError, Global};
 
+/// Bytes that others were changed to, if they could be.
+pub(crate) type Changed = Result<Option<Vec<u8>>, AllocError>;
+
 /// The first word of a line, and the rest behind the space.
 pub(crate) fn split(line: &str) -> (&str, &str) {
     line.split_once(' ').unwrap_or((line, ""))
@@ -16,12 +19,7 @@ pub(crate) fn bytes_of(alloc: Global, text: &str) -> Result<Vec<u8>, AllocError>
 }
 
 // Bytes with one text replaced by another. Nothing where it isn't there.
-fn replaced(
-    alloc: Global,
-    bytes: &[u8],
-    from: &str,
-    to: &str,
-) -> Result<Option<Vec<u8>>, AllocError> {
+fn replaced(alloc: Global, bytes: &[u8], from: &str, to: &str) -> Changed {
     let from = bytes_of(alloc, from)?;
     let to = bytes_of(alloc, to)?;
     let (Ok(text), Ok(from), Ok(to)) = (
@@ -40,11 +38,7 @@ fn replaced(
 
 /// Bytes with one text replaced by another, as `FROM => TO` says, or `FROM =>` by none. Nothing where that isn't said, or the text
 /// isn't there.
-pub(crate) fn changed(
-    alloc: Global,
-    bytes: &[u8],
-    change: &str,
-) -> Result<Option<Vec<u8>>, AllocError> {
+pub(crate) fn changed(alloc: Global, bytes: &[u8], change: &str) -> Changed {
     match change.split_once(" =>") {
         Some((from, to)) => replaced(alloc, bytes, from, to.strip_prefix(' ').unwrap_or(to)),
         None => Ok(None),
@@ -66,11 +60,7 @@ fn list(alloc: Global, count: u32, text: &str) -> Result<String, AllocError> {
 }
 
 /// Bytes with one text replaced by a list, as `NUMBER FROM => ENTRY` says.
-pub(crate) fn with_list(
-    alloc: Global,
-    bytes: &[u8],
-    change: &str,
-) -> Result<Option<Vec<u8>>, AllocError> {
+pub(crate) fn with_list(alloc: Global, bytes: &[u8], change: &str) -> Changed {
     let (count, change) = split(change);
     match (count.parse::<u32>(), change.split_once(" => ")) {
         (Ok(count), Some((from, entry))) => {
@@ -82,11 +72,7 @@ pub(crate) fn with_list(
 }
 
 /// The lines of a text with another one in place of that of a number, as `NUMBER LINE` says.
-pub(crate) fn with_line(
-    alloc: Global,
-    bytes: &[u8],
-    change: &str,
-) -> Result<Option<Vec<u8>>, AllocError> {
+pub(crate) fn with_line(alloc: Global, bytes: &[u8], change: &str) -> Changed {
     let (number, line) = split(change);
     let (Ok(number), Ok(text)) = (number.parse::<usize>(), std::str::from_utf8(bytes)) else {
         return Ok(None);
@@ -104,11 +90,7 @@ pub(crate) fn with_line(
 }
 
 /// Bytes with a text so often behind them, as `NUMBER TEXT` says.
-pub(crate) fn with_more(
-    alloc: Global,
-    bytes: &[u8],
-    more: &str,
-) -> Result<Option<Vec<u8>>, AllocError> {
+pub(crate) fn with_more(alloc: Global, bytes: &[u8], more: &str) -> Changed {
     let (count, text) = split(more);
     let Ok(count) = count.parse::<u32>() else {
         return Ok(None);

@@ -10,7 +10,7 @@ use std::test::Fail;
 use uc_model::NoMemory;
 
 /// An event; a commit's table is told by its scale alone.
-#[derive(Clone, Copy, Debug)]
+#[derive(Clone, Copy)]
 pub(crate) enum Act {
     Claim(u8, u32),
     Commit(u8, u32, u32, Outcome, Move),

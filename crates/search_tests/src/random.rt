@@ -12,7 +12,7 @@ const EVENTS: u32 = 10_000;
 
 // What a plain recount knows of a node: whether it is an open leaf that nobody holds, whether the bound counts it, and
 // the bound and the scale that it stores.
-#[derive(Clone, Copy, Debug)]
+#[derive(Clone, Copy)]
 struct Leaf {
     open: bool,
     counted: bool,
@@ -20,7 +20,7 @@ struct Leaf {
     scale: u32,
 }
 
-#[derive(Clone, Copy, Debug)]
+#[derive(Clone, Copy)]
 struct Held {
     worker: u8,
     unit: u32,
@@ -230,32 +230,39 @@ fn run(alloc: Global, state: &mut State, recount: &mut Recount) -> Result<u32, F
     Ok(taken)
 }
 
-#[test]
-fn a_random_run_is_as_recounted(rt: HostRuntime) -> Result<(), Fail> {
-    let alloc = rt.alloc();
-    let mut state = start(alloc, 12, 3, 4_000)?;
+// Whether the parts of a state are as recounted.
+fn is_recounted(alloc: Global, state: &State, recount: &Recount) -> Result<bool, Fail>
+    requires { length state.now.desks ≡ 3 }
+{
+    let counts = state.log().as_slice().len() == recount.commits
+        && state.tables().as_slice().len() == recount.commits.saturating_add(1);
+    let bounds = state.best() == recount.best && state.tree().bound() == least_bound(recount);
+    Ok(counts && bounds && is_each_once(alloc, state, recount)?)
+}
+
+// What is known at first.
+fn begun(alloc: Global) -> Result<Recount, AllocError> {
     let root = Leaf {
         open: true,
         counted: true,
         value: 5,
         scale: 1,
     };
-    let mut recount = Recount {
+    Ok(Recount {
         leaves: vec![in alloc; root]?,
         held: Vec::new(alloc),
         claims: 0,
         commits: 0,
         best: None,
-    };
+    })
+}
+
+#[test]
+fn a_random_run_is_as_recounted(rt: HostRuntime) -> Result<(), Fail> {
+    let alloc = rt.alloc();
+    let mut recount = begun(alloc)?;
+    let mut state = start(alloc, 12, 3, 4_000)?;
     let taken = run(alloc, &mut state, &mut recount)?;
-    assert_eq!(rt; taken, EVENTS);
-    assert_eq!(rt; state.log().as_slice().len(), recount.commits);
-    assert_eq!(rt;
-        state.tables().as_slice().len(),
-        recount.commits.saturating_add(1)
-    );
-    assert_eq!(rt; state.best(), recount.best);
-    assert_eq!(rt; state.tree().bound(), least_bound(&recount));
-    assert!(rt; is_each_once(alloc, &state, &recount)?);
+    assert!(rt; taken == EVENTS && is_recounted(alloc, &state, &recount)?);
     Ok(())
 }

@@ -1,8 +1,10 @@
 //! Events that aren't legal, each after those that lead to it.
 
+ghost use Rattle.std.specs.Prelude.{◌≡◌, length};
+
 use crate::acts::{Act, is_taken, start};
 use branch_tree::Outcome;
-use search_core::Move;
+use search_core::{Move, State};
 use std::alloc::Global;
 use std::test::Fail;
 
@@ -122,47 +124,69 @@ fn events_are_refused(rt: HostRuntime) -> Result<(), Fail> {
     Ok(())
 }
 
+// Whether each event is legal, after those before it that are, where it is to be.
+fn are_as_told(alloc: Global, state: &mut State, acts: &[(Act, bool)]) -> Result<bool, Fail>
+    ensures { length state.new.desks ≡ length state.old.desks }
+{
+    for (act, is_legal) in acts {
+        if is_taken(alloc, state, *act)? != *is_legal {
+            return Ok(false);
+        }
+    }
+    Ok(true)
+}
+
+// Ninety-nine entries of the root.
+fn again(alloc: Global, state: &mut State) -> Result<bool, Fail> {
+    for unit in 1..100u32 {
+        let commit = Act::Commit(0, unit, unit, FIVE, Move::Again);
+        if !are_as_told(alloc, state, &[(Act::Claim(0, 0), true), (commit, true)])? {
+            return Ok(false);
+        }
+    }
+    Ok(true)
+}
+
+// The hundredth entry of the root, and the first ones of a child.
+const HUNDREDTH: [(Act, bool); 6] = [
+    (Act::Claim(0, 0), true),
+    (Act::Commit(0, 100, 100, FIVE, Move::Again), false),
+    (Act::Commit(0, 100, 100, FIVE, CELL), true),
+    (Act::Claim(0, 2), true),
+    (Act::Commit(0, 101, 2, FIVE, Move::Again), false),
+    (Act::Commit(0, 101, 1, FIVE, Move::Again), true),
+];
+
 // A node may have a hundred entries, and no claim ends there in Again, while a cell is undecided; and a child's first
 // table is the one that it stores.
 #[test]
 fn the_hundredth_entry_is_no_again(rt: HostRuntime) -> Result<(), Fail> {
-    let alloc = rt.alloc();
-    let mut state = start(alloc, 2, 1, 200)?;
-    for unit in 1..100u32 {
-        assert!(rt; is_taken(alloc, &mut state, Act::Claim(0, 0))?);
-        assert!(rt;
-            is_taken(
-                alloc,
-                &mut state,
-                Act::Commit(0, unit, unit, FIVE, Move::Again)
-            )?
-        );
-    }
-    assert!(rt; is_taken(alloc, &mut state, Act::Claim(0, 0))?);
-    assert!(rt;
-        !is_taken(
-            alloc,
-            &mut state,
-            Act::Commit(0, 100, 100, FIVE, Move::Again)
-        )?
-    );
-    assert!(rt; is_taken(alloc, &mut state, Act::Commit(0, 100, 100, FIVE, CELL))?);
-    assert!(rt; is_taken(alloc, &mut state, Act::Claim(0, 2))?);
-    assert!(rt; !is_taken(alloc, &mut state, Act::Commit(0, 101, 2, FIVE, Move::Again))?);
-    assert!(rt; is_taken(alloc, &mut state, Act::Commit(0, 101, 1, FIVE, Move::Again))?);
+    let mut state = start(rt.alloc(), 2, 1, 200)?;
+    let is_refused = again(rt.alloc(), &mut state)?
+        && are_as_told(rt.alloc(), &mut state, &HUNDREDTH)?;
+    assert!(rt; is_refused);
     Ok(())
 }
 
-// One worker and a budget of one claim: the root is claimed once, and after that all is as before.
+// Whether the root is claimed once, and after that all is as before.
+fn is_claimed_once(alloc: Global, state: &mut State) -> Result<bool, Fail>
+    requires { length state.old.desks ≡ 1 }
+{
+    let claims = [(Act::Claim(0, 0), true), (Act::Claim(0, 0), false)];
+    let commit = [(Act::Commit(0, 1, 1, FIVE, Move::Again), true)];
+    Ok(
+        are_as_told(alloc, state, &claims)?
+            && state.log().as_slice().is_empty()
+            && state.hand(0).as_slice() == [0].as_slice()
+            && are_as_told(alloc, state, &commit)?
+            && state.log().as_slice().len() == 1,
+    )
+}
+
+// One worker and a budget of one claim.
 #[test]
 fn the_root_is_claimed_once(rt: HostRuntime) -> Result<(), Fail> {
-    let alloc = rt.alloc();
-    let mut state = start(alloc, 1, 1, 1)?;
-    assert!(rt; is_taken(alloc, &mut state, Act::Claim(0, 0))?);
-    assert!(rt; !is_taken(alloc, &mut state, Act::Claim(0, 0))?);
-    assert_eq!(rt; state.log().as_slice().len(), 0);
-    assert_eq!(rt; state.hand(0).as_slice(), [0].as_slice());
-    assert!(rt; is_taken(alloc, &mut state, Act::Commit(0, 1, 1, FIVE, Move::Again))?);
-    assert_eq!(rt; state.log().as_slice().len(), 1);
+    let mut state = start(rt.alloc(), 1, 1, 1)?;
+    assert!(rt; is_claimed_once(rt.alloc(), &mut state)?);
     Ok(())
 }

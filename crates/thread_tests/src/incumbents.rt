@@ -1,6 +1,6 @@
 //! One incumbent and its passes, a step after another.
 
-ghost use Rattle.std.specs.Prelude.{◌≡◌};
+ghost use Rattle.std.specs.Prelude.{◌≡◌, ◌+◌};
 ghost use Rattle.incumbent.specs.Costs.{IsScheduleCost};
 
 use incumbent::{Best, Pass};
@@ -52,11 +52,22 @@ fn take_turns(rt: &impl Abort, best: &Best, a: &mut Pass, b: &mut Pass, turns: &
     }
 }
 
+/// The least cost that two passes publish, which are the whole of their incumbent.
+fn closed(rt: &impl Abort, best: Best, mut a: Pass, mut b: Pass, turns: &[(bool, Turn)]) -> Option<i64>
+    requires first { a.object ≡ best.object }
+    requires second { b.object ≡ best.object }
+    requires parts { a.parts + b.parts ≡ best.parts }
+{
+    take_turns(rt, &best, &mut a, &mut b, turns);
+    best.join(&mut a, b);
+    best.close(a)
+}
+
 // Two passes: each sees what the other has published, and only a lower cost is one.
 #[test]
 fn passes_share_the_least(rt: HostRuntime) -> Result<(), Fail> {
     let (best, mut a) = Best::new(rt.alloc(), 2).map_err(|_| "no memory")?;
-    let mut b = best.split(&mut a, 1);
+    let b = best.split(&mut a, 1);
     let turns = [
         (true, Turn::Look(None)),
         (true, Turn::Publish(500, true)),
@@ -65,9 +76,7 @@ fn passes_share_the_least(rt: HostRuntime) -> Result<(), Fail> {
         (false, Turn::Publish(450, false)),
         (false, Turn::Publish(400, false)),
     ];
-    take_turns(&rt, &best, &mut a, &mut b, &turns);
-    best.join(&mut a, b);
-    assert_eq!(rt; best.close(a), Some(micro_dollars(400)));
+    assert_eq!(rt; closed(&rt, best, a, b, &turns), Some(micro_dollars(400)));
     Ok(())
 }
 
@@ -76,14 +85,9 @@ fn passes_share_the_least(rt: HostRuntime) -> Result<(), Fail> {
 fn a_new_pass_has_seen_the_same(rt: HostRuntime) -> Result<(), Fail> {
     let (best, mut a) = Best::new(rt.alloc(), 3).map_err(|_| "no memory")?;
     take_turn(&rt, &best, &mut a, &Turn::Publish(500, true));
-    let mut b = best.split(&mut a, 2);
-    let turns = [
-        (false, Turn::Look(Some(500))),
-        (false, Turn::Publish(600, false)),
-    ];
-    take_turns(&rt, &best, &mut a, &mut b, &turns);
-    best.join(&mut a, b);
-    assert_eq!(rt; best.close(a), Some(micro_dollars(500)));
+    let b = best.split(&mut a, 2);
+    let turns = [(false, Turn::Look(Some(500))), (false, Turn::Publish(600, false))];
+    assert_eq!(rt; closed(&rt, best, a, b, &turns), Some(micro_dollars(500)));
     Ok(())
 }
 
