@@ -9,7 +9,7 @@ use Rattle.decimal_json.specs.Value.{Value, array, object, no_items, no_members,
 use Rattle.decimal_json.specs.Characters.{is_space, depth_limit}
 use Rattle.decimal_json.specs.Open.{Member, Frame, in_array, in_object, for_key}
 use Rattle.decimal_json.specs.inside.Scan.{Spot, wanted, first_item, first_key, key_wanted, colon_wanted, ended, quoted, plain, next, stop, Outcome, fault, step, begin_step, opened, ended_step, close_step, quote_step, scan, finish, finish_value}
-use Rattle.decimal_json.specs.inside.Answer.{Leads, Reads, Breaks, MaySpace, SkipsSpace, StandsAt, IsToken, HasKeys, AddsKey, ReadsKey, BreaksKey, ReadsText, BreaksText, ReadsValue, BreaksValue, ReadsInside, BreaksInside, resumed}
+use Rattle.decimal_json.specs.inside.Answer.{Leads, Reads, Breaks, MaySpace, IsToken, FindsToken, LacksToken, PassesToken, HasKeys, AddsKey, ReadsKey, BreaksKey, ReadsText, BreaksText, ReadsValue, BreaksValue, ReadsInside, BreaksInside, ReadsMember, BreaksMember, resumed}
 use Rattle.decimal_json.proofs.Moves.{moved, stopped, stepped, finished}
 
 -- an array, up to where an item has to stand
@@ -25,24 +25,35 @@ pub record HasMembers (bytes : List ℕ) (start at room : ℕ) (ms : List Member
   pub keys : HasKeys test ms
   pub same : (outer : List Frame) → length outer + (room + 1) ≡ depth_limit → scan bytes start outer first_key ≡ scan bytes at outer (key_wanted ms)
 
+led : (e : JsonFault) (o p : Outcome) → o ≡ p → Leads e p → Leads e o
+led e o p same leads = subst (λ (o : Outcome). Leads e o) (sym same) leads
+
+led_to : (e : JsonFault) (at kind : ℕ) (o : Outcome) → e ≡ At at kind → o ≡ fault at kind → Leads e o
+led_to e at kind o is same = subst (λ (e : JsonFault). Leads e o) (sym is) same
+
 -- the fault of a byte, or of the end of the input, behind white space
-fault_here : (bytes : List ℕ) (at c : ℕ) (outer : List Frame) (spot : Spot) → IsToken bytes at c → step at outer spot c ≡ stop at 2 → scan bytes at outer spot ≡ fault at 2
-fault_here bytes at c outer spot token s = stopped bytes at c outer spot at 2 token.0 s
+lacks : (MayNot : ℕ → Type 0) (bytes : List ℕ) (start : ℕ) (outer : List Frame) (spot : Spot) (e : JsonFault) → LacksToken MayNot bytes start e
+    → MaySpace spot → ((at : ℕ) → finish at outer spot ≡ fault at 2)
+    → ((at c : ℕ) → is_space c ≡ false → MayNot c → step at outer spot c ≡ stop at 2) → Leads e (scan bytes start outer spot)
+lacks MayNot bytes start outer spot e none may ends stops =
+    led_to e none.at 2 (scan bytes start outer spot) none.is (none.skips outer spot may
+    ∙ ⊎_elim (λ (h : drop none.at bytes ≡ []). finished bytes none.at outer spot h ∙ ends none.at)
+    (λ (h : (c : ℕ) × IsToken bytes none.at c × MayNot c). stopped bytes none.at h.0 outer spot none.at 2 h.1.0 (stops none.at h.0 h.1.2 h.2)) none.fails)
 
-led_to : (e : JsonFault) (at kind : ℕ) (o p : Outcome) → e ≡ At at kind → o ≡ p → p ≡ fault at kind → Leads e o
-led_to e at kind o p is same f = subst (λ (e : JsonFault). Leads e o) (sym is) (same ∙ f)
+-- the machine goes past a byte behind white space
+passes : (bytes : List ℕ) (start at c : ℕ) (outer later : List Frame) (spot new : Spot) → FindsToken bytes start at c → MaySpace spot
+    → step at outer spot c ≡ next later new → scan bytes start outer spot ≡ scan bytes (at + 1) later new
+passes bytes start at c outer later spot new found may s =
+    found.skips outer spot may ∙ moved bytes at c outer spot later new found.token.0 s
 
-token_as : (bytes : List ℕ) (at c k : ℕ) → IsToken bytes at c → c ≡ k → StandsAt bytes at k
-token_as bytes at c k token is = subst (λ (b : ℕ). StandsAt bytes at b) is token.0
+passed : (bytes : List ℕ) (start past c : ℕ) (outer later : List Frame) (spot new : Spot) → PassesToken bytes start past c → MaySpace spot
+    → ((at : ℕ) → step at outer spot c ≡ next later new) → scan bytes start outer spot ≡ scan bytes past later new
+passed bytes start past c outer later spot new p may s =
+    subst (λ (n : ℕ). scan bytes start outer spot ≡ scan bytes n later new) (sym p.is)
+    (passes bytes start p.at c outer later spot new p.found may (s p.at))
 
--- behind a bracket: the end of the input, and the bracket that closes it
-cut_here : (bytes : List ℕ) (start at room : ℕ) (spot : Spot) (e : JsonFault) → MaySpace spot → ((outer : List Frame) → finish at outer spot ≡ fault at 2) → SkipsSpace bytes start at → e ≡ At at 2 → drop at bytes ≡ []
-    → BreaksInside bytes start spot room e
-cut_here bytes start at room spot e may ends skips is none = λ outer fits. led_to e at 2 (scan bytes start outer spot) (scan bytes at outer spot) is (skips outer spot may) (finished bytes at outer spot none ∙ ends outer)
-
-closed_here : (bytes : List ℕ) (start at c k room : ℕ) (spot : Spot) (v : Value) → MaySpace spot → ((outer : List Frame) → step at outer spot k ≡ next outer (ended v)) → SkipsSpace bytes start at → IsToken bytes at c → c ≡ k
-    → ReadsInside bytes start spot (at + 1) room v
-closed_here bytes start at c k room spot v may closes skips token is = λ outer fits. skips outer spot may ∙ moved bytes at k outer spot outer (ended v) (token_as bytes at c k token is) (closes outer)
+found_as : (bytes : List ℕ) (start at c k : ℕ) → FindsToken bytes start at c → c ≡ k → FindsToken bytes start at k
+found_as bytes start at c k found is = subst (λ (b : ℕ). FindsToken bytes start at b) is found
 
 -- arrays
 pub first_item_other : (at c : ℕ) (outer : List Frame) → is_space c ≡ false → (c ≡ 93 → ⊥) → step at outer first_item c ≡ step at (in_array [] ∷ outer) wanted c
@@ -69,53 +80,51 @@ item_ends : (at : ℕ) (outer : List Frame) (vs : List Value) (v : Value) → fi
 unfolding finish finish_value
 item_ends at outer vs v = refl
 
-pub array_cut : (bytes : List ℕ) (start at room : ℕ) (e : JsonFault) → SkipsSpace bytes start at → e ≡ At at 2 → drop at bytes ≡ [] → BreaksInside bytes start first_item room e
+pub array_cut : (bytes : List ℕ) (start room : ℕ) (e : JsonFault) → LacksToken (λ _. ⊥) bytes start e → BreaksInside bytes start first_item room e
 unfolding finish
-array_cut bytes start at room e skips is none = cut_here bytes start at room first_item e tt (λ outer. refl) skips is none
+array_cut bytes start room e none = λ outer fits. lacks (λ _. ⊥) bytes start outer first_item e none tt (λ at. refl) (λ at c space no. absurd no)
 
-pub array_empty : (bytes : List ℕ) (start at c room : ℕ) → SkipsSpace bytes start at → IsToken bytes at c → c ≡ 93 → ReadsInside bytes start first_item (at + 1) room (array no_items)
-array_empty bytes start at c room skips token is = closed_here bytes start at c 93 room first_item (array no_items) tt (λ outer. first_item_close at outer) skips token is
+pub array_empty : (bytes : List ℕ) (start at c room : ℕ) → FindsToken bytes start at c → c ≡ 93 → ReadsInside bytes start first_item (at + 1) room (array no_items)
+array_empty bytes start at c room found is = λ outer fits.
+    passes bytes start at 93 outer outer first_item (ended (array no_items)) (found_as bytes start at c 93 found is) tt (first_item_close at outer)
 
-pub items_begin : (bytes : List ℕ) (start at c room : ℕ) → SkipsSpace bytes start at → IsToken bytes at c → (c ≡ 93 → ⊥) → start ≤ at → HasItems bytes start at room []
-items_begin bytes start at c room skips token ne le = record {
+pub items_begin : (bytes : List ℕ) (start at c room : ℕ) → FindsToken bytes start at c → (c ≡ 93 → ⊥) → start ≤ at → HasItems bytes start at room []
+items_begin bytes start at c room found ne le = record {
   forward = le;
-  within = omega (arith, token.1);
-  same = λ outer fits. skips outer first_item tt ∙ (stepped bytes at c outer first_item token.0
-      ∙ (ap (resumed bytes (at + 1)) (first_item_other at c outer token.2 ne) ∙ sym (stepped bytes at c (in_array [] ∷ outer) wanted token.0)));
+  within = omega (arith, found.token.1);
+  same = λ outer fits. found.skips outer first_item tt ∙ (stepped bytes at c outer first_item found.token.0
+      ∙ (ap (resumed bytes (at + 1)) (first_item_other at c outer found.token.2 ne) ∙ sym (stepped bytes at c (in_array [] ∷ outer) wanted found.token.0)));
 }
 
--- an item, up to what stands behind it
-item_read : (bytes : List ℕ) (start at end next_at room : ℕ) (vs : List Value) (v : Value) → HasItems bytes start at room vs → ReadsValue bytes at end room v → SkipsSpace bytes end next_at
-    → (outer : List Frame) → length outer + (room + 1) ≡ depth_limit → scan bytes start outer first_item ≡ scan bytes next_at (in_array vs ∷ outer) (ended v)
-item_read bytes start at end next_at room vs v has r skips outer fits = has.same outer fits ∙ (r (in_array vs ∷ outer) (omega (arith, fits)) ∙ skips (in_array vs ∷ outer) (ended v) tt)
+-- an array, up to where an item ends
+pub record ItemRead (bytes : List ℕ) (start end room : ℕ) (vs : List Value) (v : Value) : Type 0 where
+  pub read : (outer : List Frame) → length outer + (room + 1) ≡ depth_limit → scan bytes start outer first_item ≡ scan bytes end (in_array vs ∷ outer) (ended v)
+
+pub item_read : (bytes : List ℕ) (start at end room : ℕ) (vs : List Value) (v : Value) → HasItems bytes start at room vs → ReadsValue bytes at end room v
+    → ItemRead bytes start end room vs v
+item_read bytes start at end room vs v has r =
+    record { read = λ outer fits. has.same outer fits ∙ r (in_array vs ∷ outer) (omega (arith, fits)) }
 
 pub item_breaks : (bytes : List ℕ) (start at room : ℕ) (vs : List Value) (e : JsonFault) → HasItems bytes start at room vs → BreaksValue bytes at room e → BreaksInside bytes start first_item room e
-item_breaks bytes start at room vs e has broken = λ outer fits. subst (λ (o : Outcome). Leads e o) (sym (has.same outer fits)) (broken (in_array vs ∷ outer) (omega (arith, fits)))
+item_breaks bytes start at room vs e has broken = λ outer fits. led e _ _ (has.same outer fits) (broken (in_array vs ∷ outer) (omega (arith, fits)))
 
-pub array_cut_behind : (bytes : List ℕ) (start at end next_at room : ℕ) (vs : List Value) (v : Value) (e : JsonFault) → HasItems bytes start at room vs → ReadsValue bytes at end room v → SkipsSpace bytes end next_at
-    → e ≡ At next_at 2 → drop next_at bytes ≡ [] → BreaksInside bytes start first_item room e
-array_cut_behind bytes start at end next_at room vs v e has r skips is none = λ outer fits.
-    led_to e next_at 2 (scan bytes start outer first_item) (scan bytes next_at (in_array vs ∷ outer) (ended v)) is (item_read bytes start at end next_at room vs v has r skips outer fits)
-    (finished bytes next_at (in_array vs ∷ outer) (ended v) none ∙ item_ends next_at outer vs v)
+pub array_breaks : (bytes : List ℕ) (start end room : ℕ) (vs : List Value) (v : Value) (e : JsonFault) → ItemRead bytes start end room vs v
+    → LacksToken (λ c. (c ≡ 44 → ⊥) × (c ≡ 93 → ⊥)) bytes end e → BreaksInside bytes start first_item room e
+array_breaks bytes start end room vs v e r none = λ outer fits. led e _ _ (r.read outer fits)
+    (lacks _ bytes end (in_array vs ∷ outer) (ended v) e none tt (λ at. item_ends at outer vs v) (λ at c space no. item_other at c outer vs v space no.0 no.1))
 
-pub array_closes : (bytes : List ℕ) (start at end next_at room c : ℕ) (vs : List Value) (v : Value) → HasItems bytes start at room vs → ReadsValue bytes at end room v → SkipsSpace bytes end next_at
-    → IsToken bytes next_at c → c ≡ 93 → ReadsInside bytes start first_item (next_at + 1) room (array (items_of (vs ++ v ∷ [])))
-array_closes bytes start at end next_at room c vs v has r skips token is = λ outer fits. item_read bytes start at end next_at room vs v has r skips outer fits
-    ∙ moved bytes next_at 93 (in_array vs ∷ outer) (ended v) outer (ended (array (items_of (vs ++ v ∷ [])))) (token_as bytes next_at c 93 token is) (item_close next_at outer vs v)
+pub array_closes : (bytes : List ℕ) (start end past room : ℕ) (vs : List Value) (v : Value) → ItemRead bytes start end room vs v
+    → PassesToken bytes end past 93 → ReadsInside bytes start first_item past room (array (items_of (vs ++ v ∷ [])))
+array_closes bytes start end past room vs v r p = λ outer fits. r.read outer fits
+    ∙ passed bytes end past 93 (in_array vs ∷ outer) outer (ended v) (ended (array (items_of (vs ++ v ∷ [])))) p tt (λ at. item_close at outer vs v)
 
-pub array_no_comma : (bytes : List ℕ) (start at end next_at room c : ℕ) (vs : List Value) (v : Value) (e : JsonFault) → HasItems bytes start at room vs → ReadsValue bytes at end room v
-    → SkipsSpace bytes end next_at → e ≡ At next_at 2 → IsToken bytes next_at c → (c ≡ 44 → ⊥) → (c ≡ 93 → ⊥) → BreaksInside bytes start first_item room e
-array_no_comma bytes start at end next_at room c vs v e has r skips is token comma close = λ outer fits.
-    led_to e next_at 2 (scan bytes start outer first_item) (scan bytes next_at (in_array vs ∷ outer) (ended v)) is (item_read bytes start at end next_at room vs v has r skips outer fits)
-    (fault_here bytes next_at c (in_array vs ∷ outer) (ended v) token (item_other next_at c outer vs v token.2 comma close))
-
-pub items_go_on : (bytes : List ℕ) (start at end next_at room c : ℕ) (vs : List Value) (v : Value) → HasItems bytes start at room vs → ReadsValue bytes at end room v → SkipsSpace bytes end next_at
-    → IsToken bytes next_at c → c ≡ 44 → start ≤ next_at → HasItems bytes start (next_at + 1) room (vs ++ v ∷ [])
-items_go_on bytes start at end next_at room c vs v has r skips token is le = record {
-  forward = omega (arith, le);
-  within = omega (arith, token.1);
-  same = λ outer fits. item_read bytes start at end next_at room vs v has r skips outer fits
-      ∙ moved bytes next_at 44 (in_array vs ∷ outer) (ended v) (in_array (vs ++ v ∷ []) ∷ outer) wanted (token_as bytes next_at c 44 token is) (item_comma next_at outer vs v);
+pub items_go_on : (bytes : List ℕ) (start end past room : ℕ) (vs : List Value) (v : Value) → ItemRead bytes start end room vs v
+    → PassesToken bytes end past 44 → start ≤ past → HasItems bytes start past room (vs ++ v ∷ [])
+items_go_on bytes start end past room vs v r p le = record {
+  forward = le;
+  within = omega (arith, p.is, p.found.token.1);
+  same = λ outer fits. r.read outer fits
+      ∙ passed bytes end past 44 (in_array vs ∷ outer) (in_array (vs ++ v ∷ []) ∷ outer) (ended v) wanted p tt (λ at. item_comma at outer vs v);
 }
 
 -- keys
@@ -143,21 +152,18 @@ colon_ends : (at : ℕ) (outer : List Frame) (ms : List Member) (k : List ℕ) �
 unfolding finish
 colon_ends at outer ms k = refl
 
-pub key_cut : (bytes : List ℕ) (start at : ℕ) (test : List ℕ → Bool) (e : JsonFault) → SkipsSpace bytes start at → e ≡ At at 2 → drop at bytes ≡ [] → BreaksKey test bytes start e
-key_cut bytes start at test e skips is none = λ outer ms keys. led_to e at 2 (scan bytes start outer (key_wanted ms)) (scan bytes at outer (key_wanted ms)) is (skips outer (key_wanted ms) tt)
-    (finished bytes at outer (key_wanted ms) none ∙ key_ends at outer ms)
+pub no_key : (bytes : List ℕ) (start : ℕ) (test : List ℕ → Bool) (e : JsonFault) → LacksToken (λ c. c ≡ 34 → ⊥) bytes start e → BreaksKey test bytes start e
+no_key bytes start test e none = λ outer ms keys.
+    lacks _ bytes start outer (key_wanted ms) e none tt (λ at. key_ends at outer ms) (λ at c space ne. key_other at c outer ms space ne)
 
-pub no_key : (bytes : List ℕ) (start at c : ℕ) (test : List ℕ → Bool) (e : JsonFault) → SkipsSpace bytes start at → e ≡ At at 2 → IsToken bytes at c → (c ≡ 34 → ⊥) → BreaksKey test bytes start e
-no_key bytes start at c test e skips is token ne = λ outer ms keys. led_to e at 2 (scan bytes start outer (key_wanted ms)) (scan bytes at outer (key_wanted ms)) is (skips outer (key_wanted ms) tt)
-    (fault_here bytes at c outer (key_wanted ms) token (key_other at c outer ms token.2 ne))
-
-key_begins : (bytes : List ℕ) (start at c : ℕ) → SkipsSpace bytes start at → IsToken bytes at c → c ≡ 34 → (outer : List Frame) (ms : List Member)
+key_begins : (bytes : List ℕ) (start at : ℕ) → FindsToken bytes start at 34 → (outer : List Frame) (ms : List Member)
     → scan bytes start outer (key_wanted ms) ≡ scan bytes (at + 1) outer (quoted (for_key ms at) (plain []))
-key_begins bytes start at c skips token is outer ms = skips outer (key_wanted ms) tt
-    ∙ moved bytes at 34 outer (key_wanted ms) outer (quoted (for_key ms at) (plain [])) (token_as bytes at c 34 token is) (key_quote at outer ms)
+key_begins bytes start at found outer ms =
+    passes bytes start at 34 outer outer (key_wanted ms) (quoted (for_key ms at) (plain [])) found tt (key_quote at outer ms)
 
-pub key_breaks : (bytes : List ℕ) (start at c : ℕ) (test : List ℕ → Bool) (e : JsonFault) → SkipsSpace bytes start at → IsToken bytes at c → c ≡ 34 → BreaksText bytes (at + 1) e → BreaksKey test bytes start e
-key_breaks bytes start at c test e skips token is broken = λ outer ms keys. subst (λ (o : Outcome). Leads e o) (sym (key_begins bytes start at c skips token is outer ms)) (broken outer (for_key ms at))
+pub key_breaks : (bytes : List ℕ) (start at : ℕ) (test : List ℕ → Bool) (e : JsonFault) → FindsToken bytes start at 34 → BreaksText bytes (at + 1) e
+    → BreaksKey test bytes start e
+key_breaks bytes start at test e found broken = λ outer ms keys. led e _ _ (key_begins bytes start at found outer ms) (broken outer (for_key ms at))
 
 pub quote_known : (outer : List Frame) (ms : List Member) (at : ℕ) (t : List ℕ) → has_key (members_of ms) t ≡ true → quote_step outer (for_key ms at) t ≡ stop at 4
 unfolding quote_step
@@ -167,32 +173,25 @@ pub quote_new : (outer : List Frame) (ms : List Member) (at : ℕ) (t : List ℕ
 unfolding quote_step
 quote_new outer ms at t e = rw e refl
 
-pub key_twice : (bytes : List ℕ) (start at c end : ℕ) (test : List ℕ → Bool) (t : List ℕ) (e : JsonFault) → SkipsSpace bytes start at → IsToken bytes at c → c ≡ 34 → ReadsText bytes (at + 1) end t
-    → e ≡ At at 4 → test t ≡ true → BreaksKey test bytes start e
-key_twice bytes start at c end test t e skips token is r fault_is known = λ outer ms keys. subst (λ (e : JsonFault). Leads e (scan bytes start outer (key_wanted ms))) (sym fault_is)
-    (key_begins bytes start at c skips token is outer ms ∙ (r outer (for_key ms at) ∙ ap (resumed bytes end) (quote_known outer ms at t (sym (keys t) ∙ known))))
+pub key_twice : (bytes : List ℕ) (start at end : ℕ) (test : List ℕ → Bool) (t : List ℕ) → FindsToken bytes start at 34 → ReadsText bytes (at + 1) end t
+    → test t ≡ true → BreaksKey test bytes start (At at 4)
+key_twice bytes start at end test t found r known = λ outer ms keys. key_begins bytes start at found outer ms
+    ∙ (r outer (for_key ms at) ∙ ap (resumed bytes end) (quote_known outer ms at t (sym (keys t) ∙ known)))
 
-key_is_new : (bytes : List ℕ) (start at c end colon : ℕ) (test : List ℕ → Bool) (t : List ℕ) → SkipsSpace bytes start at → IsToken bytes at c → c ≡ 34 → ReadsText bytes (at + 1) end t → test t ≡ false
-    → SkipsSpace bytes end colon → (outer : List Frame) (ms : List Member) → HasKeys test ms → scan bytes start outer (key_wanted ms) ≡ scan bytes colon outer (colon_wanted ms t)
-key_is_new bytes start at c end colon test t skips token is r new again outer ms keys = key_begins bytes start at c skips token is outer ms
-    ∙ (r outer (for_key ms at) ∙ (ap (resumed bytes end) (quote_new outer ms at t (sym (keys t) ∙ new)) ∙ again outer (colon_wanted ms t) tt))
+key_is_new : (bytes : List ℕ) (start at end : ℕ) (test : List ℕ → Bool) (t : List ℕ) → FindsToken bytes start at 34 → ReadsText bytes (at + 1) end t → test t ≡ false
+    → (outer : List Frame) (ms : List Member) → HasKeys test ms → scan bytes start outer (key_wanted ms) ≡ scan bytes end outer (colon_wanted ms t)
+key_is_new bytes start at end test t found r new outer ms keys = key_begins bytes start at found outer ms
+    ∙ (r outer (for_key ms at) ∙ ap (resumed bytes end) (quote_new outer ms at t (sym (keys t) ∙ new)))
 
-pub colon_cut : (bytes : List ℕ) (start at c end colon : ℕ) (test : List ℕ → Bool) (t : List ℕ) (e : JsonFault) → SkipsSpace bytes start at → IsToken bytes at c → c ≡ 34 → ReadsText bytes (at + 1) end t
-    → test t ≡ false → SkipsSpace bytes end colon → e ≡ At colon 2 → drop colon bytes ≡ [] → BreaksKey test bytes start e
-colon_cut bytes start at c end colon test t e skips token is r new again fault_is none = λ outer ms keys.
-    led_to e colon 2 (scan bytes start outer (key_wanted ms)) (scan bytes colon outer (colon_wanted ms t)) fault_is (key_is_new bytes start at c end colon test t skips token is r new again outer ms keys)
-    (finished bytes colon outer (colon_wanted ms t) none ∙ colon_ends colon outer ms t)
+pub no_colon : (bytes : List ℕ) (start at end : ℕ) (test : List ℕ → Bool) (t : List ℕ) (e : JsonFault) → FindsToken bytes start at 34 → ReadsText bytes (at + 1) end t
+    → test t ≡ false → LacksToken (λ c. c ≡ 58 → ⊥) bytes end e → BreaksKey test bytes start e
+no_colon bytes start at end test t e found r new none = λ outer ms keys. led e _ _ (key_is_new bytes start at end test t found r new outer ms keys)
+    (lacks _ bytes end outer (colon_wanted ms t) e none tt (λ p. colon_ends p outer ms t) (λ p c space ne. colon_other p c outer ms t space ne))
 
-pub no_colon : (bytes : List ℕ) (start at c end colon d : ℕ) (test : List ℕ → Bool) (t : List ℕ) (e : JsonFault) → SkipsSpace bytes start at → IsToken bytes at c → c ≡ 34 → ReadsText bytes (at + 1) end t
-    → test t ≡ false → SkipsSpace bytes end colon → e ≡ At colon 2 → IsToken bytes colon d → (d ≡ 58 → ⊥) → BreaksKey test bytes start e
-no_colon bytes start at c end colon d test t e skips token is r new again fault_is second ne = λ outer ms keys.
-    led_to e colon 2 (scan bytes start outer (key_wanted ms)) (scan bytes colon outer (colon_wanted ms t)) fault_is (key_is_new bytes start at c end colon test t skips token is r new again outer ms keys)
-    (fault_here bytes colon d outer (colon_wanted ms t) second (colon_other colon d outer ms t second.2 ne))
-
-pub key_read : (bytes : List ℕ) (start at c end colon d : ℕ) (test : List ℕ → Bool) (t : List ℕ) → SkipsSpace bytes start at → IsToken bytes at c → c ≡ 34 → ReadsText bytes (at + 1) end t
-    → test t ≡ false → SkipsSpace bytes end colon → IsToken bytes colon d → d ≡ 58 → ReadsKey test bytes start (colon + 1) t
-key_read bytes start at c end colon d test t skips token is r new again second colon_is = λ outer ms keys. key_is_new bytes start at c end colon test t skips token is r new again outer ms keys
-    ∙ moved bytes colon 58 outer (colon_wanted ms t) (in_object ms t ∷ outer) wanted (token_as bytes colon d 58 second colon_is) (colon_comes colon outer ms t)
+pub key_read : (bytes : List ℕ) (start at end colon : ℕ) (test : List ℕ → Bool) (t : List ℕ) → FindsToken bytes start at 34 → ReadsText bytes (at + 1) end t
+    → test t ≡ false → FindsToken bytes end colon 58 → ReadsKey test bytes start (colon + 1) t
+key_read bytes start at end colon test t found r new second = λ outer ms keys. key_is_new bytes start at end test t found r new outer ms keys
+    ∙ passes bytes end colon 58 outer (in_object ms t ∷ outer) (colon_wanted ms t) wanted second tt (colon_comes colon outer ms t)
 
 -- objects
 pub first_key_other : (at c : ℕ) (outer : List Frame) → is_space c ≡ false → (c ≡ 125 → ⊥) → step at outer first_key c ≡ step at outer (key_wanted []) c
@@ -219,58 +218,58 @@ member_ends : (at : ℕ) (outer : List Frame) (ms : List Member) (k : List ℕ) 
 unfolding finish finish_value
 member_ends at outer ms k v = refl
 
-pub object_cut : (bytes : List ℕ) (start at room : ℕ) (e : JsonFault) → SkipsSpace bytes start at → e ≡ At at 2 → drop at bytes ≡ [] → BreaksInside bytes start first_key room e
+pub object_cut : (bytes : List ℕ) (start room : ℕ) (e : JsonFault) → LacksToken (λ _. ⊥) bytes start e → BreaksInside bytes start first_key room e
 unfolding finish
-object_cut bytes start at room e skips is none = cut_here bytes start at room first_key e tt (λ outer. refl) skips is none
+object_cut bytes start room e none = λ outer fits. lacks (λ _. ⊥) bytes start outer first_key e none tt (λ at. refl) (λ at c space no. absurd no)
 
-pub object_empty : (bytes : List ℕ) (start at c room : ℕ) → SkipsSpace bytes start at → IsToken bytes at c → c ≡ 125 → ReadsInside bytes start first_key (at + 1) room (object no_members)
-object_empty bytes start at c room skips token is = closed_here bytes start at c 125 room first_key (object no_members) tt (λ outer. first_key_close at outer) skips token is
+pub object_empty : (bytes : List ℕ) (start at c room : ℕ) → FindsToken bytes start at c → c ≡ 125 → ReadsInside bytes start first_key (at + 1) room (object no_members)
+object_empty bytes start at c room found is = λ outer fits.
+    passes bytes start at 125 outer outer first_key (ended (object no_members)) (found_as bytes start at c 125 found is) tt (first_key_close at outer)
 
-pub members_begin : (bytes : List ℕ) (start at c room : ℕ) (test : List ℕ → Bool) → SkipsSpace bytes start at → IsToken bytes at c → (c ≡ 125 → ⊥) → start ≤ at → HasKeys test []
+pub members_begin : (bytes : List ℕ) (start at c room : ℕ) (test : List ℕ → Bool) → FindsToken bytes start at c → (c ≡ 125 → ⊥) → start ≤ at → HasKeys test []
     → HasMembers bytes start at room [] test
-members_begin bytes start at c room test skips token ne le keys = record {
+members_begin bytes start at c room test found ne le keys = record {
   forward = le;
-  within = omega (arith, token.1);
+  within = omega (arith, found.token.1);
   keys = keys;
-  same = λ outer fits. skips outer first_key tt ∙ (stepped bytes at c outer first_key token.0
-      ∙ (ap (resumed bytes (at + 1)) (first_key_other at c outer token.2 ne) ∙ sym (stepped bytes at c outer (key_wanted []) token.0)));
+  same = λ outer fits. found.skips outer first_key tt ∙ (stepped bytes at c outer first_key found.token.0
+      ∙ (ap (resumed bytes (at + 1)) (first_key_other at c outer found.token.2 ne) ∙ sym (stepped bytes at c outer (key_wanted []) found.token.0)));
 }
 
-pub key_at_breaks : (bytes : List ℕ) (start at room : ℕ) (ms : List Member) (test : List ℕ → Bool) (e : JsonFault) → HasMembers bytes start at room ms test → BreaksKey test bytes at e
-    → BreaksInside bytes start first_key room e
-key_at_breaks bytes start at room ms test e has broken = λ outer fits. subst (λ (o : Outcome). Leads e o) (sym (has.same outer fits)) (broken outer ms has.keys)
+-- a member
+pub member_read : (bytes : List ℕ) (start colon end room : ℕ) (test : List ℕ → Bool) (k : List ℕ) (v : Value) → ReadsKey test bytes start colon k
+    → ReadsValue bytes colon end room v → ReadsMember test bytes start end room k v
+member_read bytes start colon end room test k v key r = λ outer ms keys fits. key outer ms keys ∙ r (in_object ms k ∷ outer) (omega (arith, fits))
 
-pub member_breaks : (bytes : List ℕ) (start at colon room : ℕ) (ms : List Member) (test : List ℕ → Bool) (k : List ℕ) (e : JsonFault) → HasMembers bytes start at room ms test → ReadsKey test bytes at colon k
-    → BreaksValue bytes colon room e → BreaksInside bytes start first_key room e
-member_breaks bytes start at colon room ms test k e has key broken = λ outer fits.
-    subst (λ (o : Outcome). Leads e o) (sym (has.same outer fits ∙ key outer ms has.keys)) (broken (in_object ms k ∷ outer) (omega (arith, fits)))
+pub no_member_key : (bytes : List ℕ) (start room : ℕ) (test : List ℕ → Bool) (e : JsonFault) → BreaksKey test bytes start e → BreaksMember test bytes start room e
+no_member_key bytes start room test e broken = λ outer ms keys fits. broken outer ms keys
 
--- a member of an object, up to what stands behind it
-pub record MemberRead (bytes : List ℕ) (start next_at room : ℕ) (ms : List Member) (k : List ℕ) (v : Value) : Type 0 where
-  pub read : (outer : List Frame) → length outer + (room + 1) ≡ depth_limit → scan bytes start outer first_key ≡ scan bytes next_at (in_object ms k ∷ outer) (ended v)
+pub no_member_value : (bytes : List ℕ) (start colon room : ℕ) (test : List ℕ → Bool) (k : List ℕ) (e : JsonFault) → ReadsKey test bytes start colon k
+    → BreaksValue bytes colon room e → BreaksMember test bytes start room e
+no_member_value bytes start colon room test k e key broken = λ outer ms keys fits.
+    led e _ _ (key outer ms keys) (broken (in_object ms k ∷ outer) (omega (arith, fits)))
 
-pub member_read : (bytes : List ℕ) (start at colon end next_at room : ℕ) (ms : List Member) (test : List ℕ → Bool) (k : List ℕ) (v : Value) → HasMembers bytes start at room ms test
-    → ReadsKey test bytes at colon k → ReadsValue bytes colon end room v → SkipsSpace bytes end next_at → MemberRead bytes start next_at room ms k v
-member_read bytes start at colon end next_at room ms test k v has key r skips = record {
-  read = λ outer fits. has.same outer fits ∙ (key outer ms has.keys ∙ (r (in_object ms k ∷ outer) (omega (arith, fits)) ∙ skips (in_object ms k ∷ outer) (ended v) tt));
-}
+pub member_breaks : (bytes : List ℕ) (start at room : ℕ) (ms : List Member) (test : List ℕ → Bool) (e : JsonFault) → HasMembers bytes start at room ms test
+    → BreaksMember test bytes at room e → BreaksInside bytes start first_key room e
+member_breaks bytes start at room ms test e has broken = λ outer fits. led e _ _ (has.same outer fits) (broken outer ms has.keys fits)
 
-pub object_cut_behind : (bytes : List ℕ) (start next_at room : ℕ) (ms : List Member) (k : List ℕ) (v : Value) (e : JsonFault) → MemberRead bytes start next_at room ms k v
-    → e ≡ At next_at 2 → drop next_at bytes ≡ [] → BreaksInside bytes start first_key room e
-object_cut_behind bytes start next_at room ms k v e r is none = λ outer fits.
-    led_to e next_at 2 (scan bytes start outer first_key) (scan bytes next_at (in_object ms k ∷ outer) (ended v)) is (r.read outer fits)
-    (finished bytes next_at (in_object ms k ∷ outer) (ended v) none ∙ member_ends next_at outer ms k v)
+-- an object, up to where a member ends
+pub record MemberRead (bytes : List ℕ) (start end room : ℕ) (ms : List Member) (k : List ℕ) (v : Value) : Type 0 where
+  pub read : (outer : List Frame) → length outer + (room + 1) ≡ depth_limit → scan bytes start outer first_key ≡ scan bytes end (in_object ms k ∷ outer) (ended v)
 
-pub object_closes : (bytes : List ℕ) (start next_at room c : ℕ) (ms : List Member) (k : List ℕ) (v : Value) → MemberRead bytes start next_at room ms k v
-    → IsToken bytes next_at c → c ≡ 125 → ReadsInside bytes start first_key (next_at + 1) room (object (members_of (ms ++ (k, v) ∷ [])))
-object_closes bytes start next_at room c ms k v r token is = λ outer fits. r.read outer fits
-    ∙ moved bytes next_at 125 (in_object ms k ∷ outer) (ended v) outer (ended (object (members_of (ms ++ (k, v) ∷ [])))) (token_as bytes next_at c 125 token is) (member_close next_at outer ms k v)
+pub member_added : (bytes : List ℕ) (start at end room : ℕ) (ms : List Member) (test : List ℕ → Bool) (k : List ℕ) (v : Value) → HasMembers bytes start at room ms test
+    → ReadsMember test bytes at end room k v → MemberRead bytes start end room ms k v
+member_added bytes start at end room ms test k v has r = record { read = λ outer fits. has.same outer fits ∙ r outer ms has.keys fits }
 
-pub object_no_comma : (bytes : List ℕ) (start next_at room c : ℕ) (ms : List Member) (k : List ℕ) (v : Value) (e : JsonFault) → MemberRead bytes start next_at room ms k v
-    → e ≡ At next_at 2 → IsToken bytes next_at c → (c ≡ 44 → ⊥) → (c ≡ 125 → ⊥) → BreaksInside bytes start first_key room e
-object_no_comma bytes start next_at room c ms k v e r is token comma close = λ outer fits.
-    led_to e next_at 2 (scan bytes start outer first_key) (scan bytes next_at (in_object ms k ∷ outer) (ended v)) is (r.read outer fits)
-    (fault_here bytes next_at c (in_object ms k ∷ outer) (ended v) token (member_other next_at c outer ms k v token.2 comma close))
+pub object_breaks : (bytes : List ℕ) (start end room : ℕ) (ms : List Member) (k : List ℕ) (v : Value) (e : JsonFault) → MemberRead bytes start end room ms k v
+    → LacksToken (λ c. (c ≡ 44 → ⊥) × (c ≡ 125 → ⊥)) bytes end e → BreaksInside bytes start first_key room e
+object_breaks bytes start end room ms k v e r none = λ outer fits. led e _ _ (r.read outer fits)
+    (lacks _ bytes end (in_object ms k ∷ outer) (ended v) e none tt (λ at. member_ends at outer ms k v) (λ at c space no. member_other at c outer ms k v space no.0 no.1))
+
+pub object_closes : (bytes : List ℕ) (start end past room : ℕ) (ms : List Member) (k : List ℕ) (v : Value) → MemberRead bytes start end room ms k v
+    → PassesToken bytes end past 125 → ReadsInside bytes start first_key past room (object (members_of (ms ++ (k, v) ∷ [])))
+object_closes bytes start end past room ms k v r p = λ outer fits. r.read outer fits
+    ∙ passed bytes end past 125 (in_object ms k ∷ outer) outer (ended v) (ended (object (members_of (ms ++ (k, v) ∷ [])))) p tt (λ at. member_close at outer ms k v)
 
 or-false : (b : Bool) → (b || false) ≡ b
 or-false true = refl
@@ -284,14 +283,14 @@ pub has_key-push : (ms : List Member) (k : List ℕ) (v : Value) (q : List ℕ) 
 has_key-push [] k v q = or-false (bytes_eq k q)
 has_key-push (m ∷ ms) k v q = ap (λ b. bytes_eq m.0 q || b) (has_key-push ms k v q) ∙ or-assoc (bytes_eq m.0 q) (has_key (members_of ms) q) (bytes_eq k q)
 
-pub members_go_on : (bytes : List ℕ) (start next_at room c : ℕ) (ms : List Member) (k : List ℕ) (v : Value) (test more : List ℕ → Bool) → MemberRead bytes start next_at room ms k v
-    → HasKeys test ms → AddsKey test more k → IsToken bytes next_at c → c ≡ 44 → start ≤ next_at → HasMembers bytes start (next_at + 1) room (ms ++ (k, v) ∷ []) more
-members_go_on bytes start next_at room c ms k v test more r keys adds token is le = record {
-  forward = omega (arith, le);
-  within = omega (arith, token.1);
+pub members_go_on : (bytes : List ℕ) (start end past room : ℕ) (ms : List Member) (k : List ℕ) (v : Value) (test more : List ℕ → Bool) → MemberRead bytes start end room ms k v
+    → HasKeys test ms → AddsKey test more k → PassesToken bytes end past 44 → start ≤ past → HasMembers bytes start past room (ms ++ (k, v) ∷ []) more
+members_go_on bytes start end past room ms k v test more r keys adds p le = record {
+  forward = le;
+  within = omega (arith, p.is, p.found.token.1);
   keys = λ q. adds q ∙ (ap (λ b. b || bytes_eq k q) (keys q) ∙ sym (has_key-push ms k v q));
   same = λ outer fits. r.read outer fits
-      ∙ moved bytes next_at 44 (in_object ms k ∷ outer) (ended v) outer (key_wanted (ms ++ (k, v) ∷ [])) (token_as bytes next_at c 44 token is) (member_comma next_at outer ms k v);
+      ∙ passed bytes end past 44 (in_object ms k ∷ outer) outer (ended v) (key_wanted (ms ++ (k, v) ∷ [])) p tt (λ at. member_comma at outer ms k v);
 }
 
 -- a bracket that opens a level
@@ -311,52 +310,40 @@ opened_past : (at : ℕ) (outer : List Frame) (spot : Spot) → length outer + 0
 unfolding opened
 opened_past at outer spot fits = rw (le-ltb (length outer) 64 (omega (arith, fits))) refl
 
-pub value_cut : (bytes : List ℕ) (start at room : ℕ) (e : JsonFault) → SkipsSpace bytes start at → e ≡ At at 2 → drop at bytes ≡ [] → BreaksValue bytes start room e
+pub value_cut : (bytes : List ℕ) (start room : ℕ) (e : JsonFault) → LacksToken (λ _. ⊥) bytes start e → BreaksValue bytes start room e
 unfolding finish
-value_cut bytes start at room e skips is none = λ outer fits. led_to e at 2 (scan bytes start outer wanted) (scan bytes at outer wanted) is (skips outer wanted tt) (finished bytes at outer wanted none)
+value_cut bytes start room e none = λ outer fits. lacks (λ _. ⊥) bytes start outer wanted e none tt (λ at. refl) (λ at c space no. absurd no)
 
-pub too_deep : (bytes : List ℕ) (start at room c : ℕ) (e : JsonFault) → SkipsSpace bytes start at → e ≡ At at 3 → IsToken bytes at c → (c ≡ 91) ⊎ (c ≡ 123) → room ≡ 0 → BreaksValue bytes start room e
-too_deep bytes start at room c e skips is token which none = λ outer fits.
-    led_to e at 3 (scan bytes start outer wanted) (scan bytes at outer wanted) is (skips outer wanted tt)
-    (⊎_elim (λ (b : c ≡ 91). stopped bytes at 91 outer wanted at 3 (token_as bytes at c 91 token b) (open_array at outer ∙ opened_past at outer first_item (omega (arith, fits, none))))
-    (λ (b : c ≡ 123). stopped bytes at 123 outer wanted at 3 (token_as bytes at c 123 token b) (open_object at outer ∙ opened_past at outer first_key (omega (arith, fits, none)))) which)
+-- the bytes that open a level, and what the machine is at behind them
+abbrev pub Opens : ℕ → Spot → Type 0
+Opens k spot = (at : ℕ) (outer : List Frame) → step at outer wanted k ≡ opened at outer spot
 
--- behind the bracket
+pub too_deep : (bytes : List ℕ) (start at room c k : ℕ) (spot : Spot) (e : JsonFault) → Opens k spot → FindsToken bytes start at c → c ≡ k
+    → e ≡ At at 3 → room ≡ 0 → BreaksValue bytes start room e
+too_deep bytes start at room c k spot e opens found is kind none = λ outer fits.
+    let token = found_as bytes start at c k found is in
+    led_to e at 3 (scan bytes start outer wanted) kind (token.skips outer wanted tt
+    ∙ stopped bytes at k outer wanted at 3 token.token.0 (opens at outer ∙ opened_past at outer spot (omega (arith, fits, none))))
+
 -- what stands behind a bracket that opens one level more
-inside_opens : (bytes : List ℕ) (start at room c k : ℕ) (spot : Spot) → ((outer : List Frame) → step at outer wanted k ≡ opened at outer spot) → SkipsSpace bytes start at → IsToken bytes at c → c ≡ k
+inside_opens : (bytes : List ℕ) (start at room c k : ℕ) (spot : Spot) → Opens k spot → FindsToken bytes start at c → c ≡ k
     → (outer : List Frame) → length outer + (room + 1) ≡ depth_limit → scan bytes start outer wanted ≡ scan bytes (at + 1) outer spot
-inside_opens bytes start at room c k spot opens skips token is outer fits = skips outer wanted tt
-    ∙ moved bytes at k outer wanted outer spot (token_as bytes at c k token is) (opens outer ∙ opened_within at room outer spot fits)
+inside_opens bytes start at room c k spot opens found is outer fits =
+    passes bytes start at k outer outer wanted spot (found_as bytes start at c k found is) tt (opens at outer ∙ opened_within at room outer spot fits)
 
-inside_read : (bytes : List ℕ) (start at end room less c k : ℕ) (spot : Spot) (v : Value) → ((outer : List Frame) → step at outer wanted k ≡ opened at outer spot) → SkipsSpace bytes start at → IsToken bytes at c → c ≡ k → less + 1 ≡ room
+pub inside_read : (bytes : List ℕ) (start at end room less c k : ℕ) (spot : Spot) (v : Value) → Opens k spot → FindsToken bytes start at c → c ≡ k → less + 1 ≡ room
     → ReadsInside bytes (at + 1) spot end less v → ReadsValue bytes start end room v
-inside_read bytes start at end room less c k spot v opens skips token is one r = λ outer fits.
-    inside_opens bytes start at less c k spot opens skips token is outer (omega (arith, fits, one)) ∙ r outer (omega (arith, fits, one))
+inside_read bytes start at end room less c k spot v opens found is one r = λ outer fits.
+    inside_opens bytes start at less c k spot opens found is outer (omega (arith, fits, one)) ∙ r outer (omega (arith, fits, one))
 
-inside_breaks : (bytes : List ℕ) (start at room less c k : ℕ) (spot : Spot) (e : JsonFault) → ((outer : List Frame) → step at outer wanted k ≡ opened at outer spot) → SkipsSpace bytes start at → IsToken bytes at c → c ≡ k → less + 1 ≡ room
+pub inside_breaks : (bytes : List ℕ) (start at room less c k : ℕ) (spot : Spot) (e : JsonFault) → Opens k spot → FindsToken bytes start at c → c ≡ k → less + 1 ≡ room
     → BreaksInside bytes (at + 1) spot less e → BreaksValue bytes start room e
-inside_breaks bytes start at room less c k spot e opens skips token is one broken = λ outer fits.
-    subst (λ (o : Outcome). Leads e o) (sym (inside_opens bytes start at less c k spot opens skips token is outer (omega (arith, fits, one)))) (broken outer (omega (arith, fits, one)))
-
-pub array_value_read : (bytes : List ℕ) (start at end room less c : ℕ) (v : Value) → SkipsSpace bytes start at → IsToken bytes at c → c ≡ 91 → less + 1 ≡ room
-    → ReadsInside bytes (at + 1) first_item end less v → ReadsValue bytes start end room v
-array_value_read bytes start at end room less c v = inside_read bytes start at end room less c 91 first_item v (λ outer. open_array at outer)
-
-pub array_value_breaks : (bytes : List ℕ) (start at room less c : ℕ) (e : JsonFault) → SkipsSpace bytes start at → IsToken bytes at c → c ≡ 91 → less + 1 ≡ room
-    → BreaksInside bytes (at + 1) first_item less e → BreaksValue bytes start room e
-array_value_breaks bytes start at room less c e = inside_breaks bytes start at room less c 91 first_item e (λ outer. open_array at outer)
-
-pub object_value_read : (bytes : List ℕ) (start at end room less c : ℕ) (v : Value) → SkipsSpace bytes start at → IsToken bytes at c → c ≡ 123 → less + 1 ≡ room
-    → ReadsInside bytes (at + 1) first_key end less v → ReadsValue bytes start end room v
-object_value_read bytes start at end room less c v = inside_read bytes start at end room less c 123 first_key v (λ outer. open_object at outer)
-
-pub object_value_breaks : (bytes : List ℕ) (start at room less c : ℕ) (e : JsonFault) → SkipsSpace bytes start at → IsToken bytes at c → c ≡ 123 → less + 1 ≡ room
-    → BreaksInside bytes (at + 1) first_key less e → BreaksValue bytes start room e
-object_value_breaks bytes start at room less c e = inside_breaks bytes start at room less c 123 first_key e (λ outer. open_object at outer)
+inside_breaks bytes start at room less c k spot e opens found is one broken = λ outer fits.
+    led e _ _ (inside_opens bytes start at less c k spot opens found is outer (omega (arith, fits, one))) (broken outer (omega (arith, fits, one)))
 
 -- a value that is no array and no object
-pub scalar_read : (bytes : List ℕ) (start at end room : ℕ) (v : Value) → SkipsSpace bytes start at → Reads bytes at wanted end v → ReadsValue bytes start end room v
-scalar_read bytes start at end room v skips r = λ outer fits. skips outer wanted tt ∙ r outer
+pub scalar_read : (bytes : List ℕ) (start at c end room : ℕ) (v : Value) → FindsToken bytes start at c → Reads bytes at wanted end v → ReadsValue bytes start end room v
+scalar_read bytes start at c end room v found r = λ outer fits. found.skips outer wanted tt ∙ r outer
 
-pub scalar_breaks : (bytes : List ℕ) (start at room : ℕ) (e : JsonFault) → SkipsSpace bytes start at → Breaks bytes at wanted e → BreaksValue bytes start room e
-scalar_breaks bytes start at room e skips broken = λ outer fits. subst (λ (o : Outcome). Leads e o) (sym (skips outer wanted tt)) (broken outer)
+pub scalar_breaks : (bytes : List ℕ) (start at c room : ℕ) (e : JsonFault) → FindsToken bytes start at c → Breaks bytes at wanted e → BreaksValue bytes start room e
+scalar_breaks bytes start at c room e found broken = λ outer fits. led e _ _ (found.skips outer wanted tt) (broken outer)

@@ -4,9 +4,9 @@ ghost use Rattle.std.specs.Prelude.{◌≡◌, ◌+◌, ◌<◌, ◌≤◌, not,
 ghost use Rattle.std.specs.String.{string_bytes};
 ghost use Rattle.decimal_json.specs.inside.Answer.{knows, AddsKey, ReadsKey, BreaksKey};
 
-use crate::bytes::token_at;
 use crate::text::text;
-use crate::types::{JsonFault, no_json};
+use crate::token::token_wanted;
+use crate::types::JsonFault;
 use indexmap::IndexMap;
 use std::alloc::{AllocError, Global};
 
@@ -39,23 +39,11 @@ pub fn key(
         AddsKey (knows places.old) (knows places.new) (string_bytes r.0)) }
     ensures fault { IfErr result (BreaksKey (knows places.old) source.now start) }
 {
-    let (quote, first) = token_at(source, start);
-    let Some(first) = first else {
-        return Err(no_json(quote));
-    };
-    if first != b'"' {
-        return Err(no_json(quote));
-    }
+    let quote = token_wanted(source, start, b'"')?;
     let (key, end) = text(alloc, source, quote + 1)?;
     if !note_key(places, &key, place)? {
         return Err(JsonFault::At { at: quote, kind: 4 });
     }
-    let (colon, second) = token_at(source, end);
-    let Some(second) = second else {
-        return Err(no_json(colon));
-    };
-    if second != b':' {
-        return Err(no_json(colon));
-    }
+    let colon = token_wanted(source, end, b':')?;
     Ok((key, colon + 1))
 }

@@ -7,6 +7,7 @@ mod key;
 mod number;
 mod reader;
 mod text;
+mod token;
 mod types;
 mod value;
 

@@ -4,13 +4,14 @@ ghost use Rattle.std.specs.Prelude.{◌≡◌, ◌≢◌, ◌+◌, ◌<◌, ◌�
 ghost use Rattle.decimal_json.specs.Value.{Value, items_of, members_of, array as array_value, object as object_value};
 ghost use Rattle.decimal_json.specs.Characters.{is_space};
 ghost use Rattle.decimal_json.specs.inside.Scan.{wanted, awaited, first_item, first_key};
-ghost use Rattle.decimal_json.specs.inside.Answer.{StandsAt, Reads, Breaks, ReadsValue, BreaksValue, ReadsInside, BreaksInside};
+ghost use Rattle.decimal_json.specs.inside.Answer.{StandsAt, Reads, Breaks, ReadsValue, BreaksValue, ReadsInside, BreaksInside, ReadsMember, BreaksMember, AddsKey, knows};
 ghost use Rattle.decimal_json.specs.View.{view, pair_view};
 
-use crate::bytes::{has_byte, token_at};
+use crate::bytes::has_byte;
 use crate::key::key;
 use crate::number::{is_digit_byte, number};
 use crate::text::text;
+use crate::token::{Past, comma_or, token};
 use crate::types::{Json, JsonFault, Pair, no_json};
 use indexmap::IndexMap;
 use std::alloc::Global;
@@ -89,10 +90,7 @@ pub fn value(
     ensures read { IfOk result (λ r. ReadsValue source.now start r.1 room (view r.0)) }
     ensures fault { IfErr result (BreaksValue source.now start room) }
 {
-    let (at, first) = token_at(source, start);
-    let Some(first) = first else {
-        return Err(no_json(at));
-    };
+    let (at, first) = token(source, start)?;
     match first {
         b'[' => {
             let less = less_room(room, at)?;
@@ -123,28 +121,41 @@ fn array(
     ensures fault { IfErr result (BreaksInside source.now start first_item room) }
 {
     let mut items = Vec::new(alloc);
-    let (mut at, first) = token_at(source, start);
-    let Some(first) = first else {
-        return Err(no_json(at));
-    };
+    let (mut at, first) = token(source, start)?;
     if first == b']' {
         return Ok((items, at + 1));
     }
     loop {
         let (item, end) = value(alloc, source, at, room)?;
         items.push(item)?;
-        let (next, byte) = token_at(source, end);
-        let Some(byte) = byte else {
-            return Err(no_json(next));
-        };
-        if byte == b']' {
-            return Ok((items, next + 1));
+        match comma_or(source, end, b']')? {
+            Past::Comma(next) => at = next,
+            Past::Bracket(next) => return Ok((items, next)),
         }
-        if byte != b',' {
-            return Err(no_json(next));
-        }
-        at = next + 1;
     }
+}
+
+/// A member of an object, whose key is noted with its place among the members, and the place behind it.
+#[cycle(value)]
+fn member(
+    alloc: Global,
+    source: &str,
+    start: usize,
+    room: usize,
+    places: &mut IndexMap<String, usize>,
+    place: usize,
+) -> Result<(Pair, usize), JsonFault>
+    requires { start ≤ length source.now }
+    ensures within { IfOk result (λ r. (start < r.1) × (r.1 ≤ length source.now)) }
+    ensures read { IfOk result (λ r. ReadsMember (knows places.old) source.now start r.1 room
+        (pair_view r.0).0 (pair_view r.0).1) }
+    ensures known { IfOk result (λ r.
+        AddsKey (knows places.old) (knows places.new) (pair_view r.0).0) }
+    ensures fault { IfErr result (BreaksMember (knows places.old) source.now start room) }
+{
+    let (key, colon) = key(alloc, source, start, places, place)?;
+    let (value, end) = value(alloc, source, colon, room)?;
+    Ok((Pair { key, value }, end))
 }
 
 /// The members of an object behind its first bracket, and the place behind the last. The keys and their places
@@ -164,27 +175,16 @@ fn object(
 {
     let mut pairs = Vec::new(alloc);
     let mut places = IndexMap::new(alloc);
-    let (mut at, first) = token_at(source, start);
-    let Some(first) = first else {
-        return Err(no_json(at));
-    };
+    let (mut at, first) = token(source, start)?;
     if first == b'}' {
         return Ok((pairs, at + 1));
     }
     loop {
-        let (key, colon) = key(alloc, source, at, &mut places, pairs.len())?;
-        let (value, end) = value(alloc, source, colon, room)?;
-        pairs.push(Pair { key, value })?;
-        let (next, byte) = token_at(source, end);
-        let Some(byte) = byte else {
-            return Err(no_json(next));
-        };
-        if byte == b'}' {
-            return Ok((pairs, next + 1));
+        let (pair, end) = member(alloc, source, at, room, &mut places, pairs.len())?;
+        pairs.push(pair)?;
+        match comma_or(source, end, b'}')? {
+            Past::Comma(next) => at = next,
+            Past::Bracket(next) => return Ok((pairs, next)),
         }
-        if byte != b',' {
-            return Err(no_json(next));
-        }
-        at = next + 1;
     }
 }

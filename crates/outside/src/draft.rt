@@ -2,7 +2,7 @@
 //! target's place once it is whole.
 
 use std::fs::{Metadata, OpenFile, OpenOptions};
-use std::io::ErrorKind;
+use std::io::{ErrorKind, Write};
 use std::os::unix::fs::MetadataExt;
 use std::path::PathBuf;
 use std::{fs, io};
@@ -36,12 +36,32 @@ pub(crate) struct Draft {
     target: PathBuf,
 }
 
+/// A file of the system that is open, its draft where it is one, and what it is where it was opened to be read.
+#[derive(Drop)]
+pub(crate) struct Opened<H> {
+    pub file: H,
+    pub draft: Option<Draft>,
+    pub identity: Option<FileIdentity>,
+}
+
+impl<H: Write + OpenFile + Drop> Opened<H> {
+    /// Hands on what was written, and puts a draft in its target's place.
+    pub fn finish(&mut self, rt: &impl std::rt::Files) -> io::Result<()> {
+        self.file.flush()?;
+        if let Some(draft) = &self.draft {
+            self.file.sync_all()?;
+            draft.publish(rt)?;
+        }
+        Ok(())
+    }
+}
+
 impl Draft {
     /// A new file beside the target, by the first number that no other one has.
     fn make<R: std::rt::Files + AllocGlobal>(
         rt: &R,
         target: PathBuf,
-    ) -> io::Result<(R::File, Draft)> {
+    ) -> io::Result<Opened<R::File>> {
         for number in 0..u64::MAX {
             let name = format!(in rt.alloc(); "uc-{number}.draft")?;
             let path = target.as_path().with_file_name(rt.alloc(), name.as_str())?;
@@ -50,7 +70,13 @@ impl Draft {
                 .create_new(true)
                 .open(rt, path.as_path());
             match made {
-                Ok(file) => return Ok((file, Draft { path, target })),
+                Ok(file) => {
+                    return Ok(Opened {
+                        file,
+                        draft: Some(Draft { path, target }),
+                        identity: None,
+                    });
+                }
                 Err(error) if error.kind() == ErrorKind::AlreadyExists => {}
                 Err(error) => return Err(error),
             }
@@ -76,7 +102,7 @@ pub(crate) fn open_target<R: std::rt::Files + AllocGlobal>(
     rt: &R,
     name: &str,
     read: &[Option<FileIdentity>],
-) -> io::Result<(R::File, Option<Draft>)> {
+) -> io::Result<Opened<R::File>> {
     match OpenOptions::new().write(true).open(rt, name) {
         Ok(file) => {
             let found = file.metadata()?;
@@ -84,13 +110,16 @@ pub(crate) fn open_target<R: std::rt::Files + AllocGlobal>(
                 return Err(io::Error::from(ErrorKind::InvalidInput));
             }
             if !found.is_file() {
-                return Ok((file, None));
+                return Ok(Opened {
+                    file,
+                    draft: None,
+                    identity: None,
+                });
             }
             replacement(rt, name, &found)
         }
         Err(error) if error.kind() == ErrorKind::NotFound => {
-            let (file, draft) = Draft::make(rt, end_of_links(rt, name)?)?;
-            Ok((file, Some(draft)))
+            Draft::make(rt, end_of_links(rt, name)?)
         }
         Err(error) => Err(error),
     }
@@ -101,18 +130,20 @@ fn replacement<R: std::rt::Files + AllocGlobal>(
     rt: &R,
     name: &str,
     found: &Metadata,
-) -> io::Result<(R::File, Option<Draft>)> {
+) -> io::Result<Opened<R::File>> {
     let target = end_of_links(rt, name)?;
     let place = FileIdentity::of(&fs::symlink_metadata(rt, target.as_path())?);
     if place != FileIdentity::of(found) || is_stream(rt, place) {
         return Err(io::Error::from(ErrorKind::InvalidInput));
     }
-    let (file, draft) = Draft::make(rt, target)?;
-    if let Err(error) = file.set_permissions(found.permissions()) {
-        draft.discard(rt);
+    let opened = Draft::make(rt, target)?;
+    if let Err(error) = opened.file.set_permissions(found.permissions()) {
+        if let Some(draft) = &opened.draft {
+            draft.discard(rt);
+        }
         return Err(error);
     }
-    Ok((file, Some(draft)))
+    Ok(opened)
 }
 
 /// Whether the run's output or error output goes to the file.

@@ -7,7 +7,7 @@ ghost use Rattle.outside.specs.System.{untold_slot};
 use crate::count::{counted, counted_write};
 use crate::device::Device;
 use crate::devices::Devices;
-use crate::draft::{Draft, FileIdentity, open_target};
+use crate::draft::{FileIdentity, Opened, open_target};
 use crate::fault::Failed;
 use crate::files::Files;
 use crate::slot::Slot;
@@ -22,25 +22,6 @@ pub enum Access {
     Read,
     /// A file that is made, or replaced where it exists, to write it.
     Write,
-}
-
-/// A file of the system that is open, and its draft where it is one.
-#[derive(Drop)]
-struct Opened<H> {
-    file: H,
-    draft: Option<Draft>,
-}
-
-impl<H: Write + OpenFile + Drop> Opened<H> {
-    /// Hands on what was written, and puts a draft in its target's place.
-    fn finish(&mut self, rt: &impl std::rt::Files) -> io::Result<()> {
-        self.file.flush()?;
-        if let Some(draft) = &self.draft {
-            self.file.sync_all()?;
-            draft.publish(rt)?;
-        }
-        Ok(())
-    }
 }
 
 /// A file of the system at its stage.
@@ -98,17 +79,18 @@ impl<'a, R: std::rt::Files + AllocGlobal> SystemFile<'a, R> {
     }
 
     /// Opens the file of the system.
-    fn opened(&self, name: &str) -> io::Result<(Opened<R::File>, Option<FileIdentity>)> {
+    fn opened(&self, name: &str) -> io::Result<Opened<R::File>> {
         match self.access {
             Access::Read => {
                 let file = fs::open(self.rt, name)?;
                 let identity = FileIdentity::of(&file.metadata()?);
-                Ok((Opened { file, draft: None }, Some(identity)))
+                Ok(Opened {
+                    file,
+                    draft: None,
+                    identity: Some(identity),
+                })
             }
-            Access::Write => {
-                let (file, draft) = open_target(self.rt, name, &self.others)?;
-                Ok((Opened { file, draft }, None))
-            }
+            Access::Write => open_target(self.rt, name, &self.others),
         }
     }
 
@@ -140,8 +122,8 @@ impl<'a, R: std::rt::Files + AllocGlobal> Device for SystemFile<'a, R> {
 
     fn open(&mut self, name: &str) -> Result<(), Failed> {
         let opened = self.opened(name);
-        let (opened, identity) = counted(opened, &mut self.faults)?;
-        self.identity = identity;
+        let opened = counted(opened, &mut self.faults)?;
+        self.identity = opened.identity;
         self.handle = Handle::Open(opened);
         Ok(())
     }

@@ -4,7 +4,7 @@ ghost use Rattle.std.specs.Prelude.{◌≡◌};
 ghost use Rattle.report.specs.FaultText.{status_of};
 
 use outside::Slot;
-use uc_model::{FieldRefusal, Refusal};
+use uc_model::{FieldRefusal, NoMemory, Refusal};
 
 /// Why the program ends without an answer.
 #[derive(Debug, Drop)]
@@ -44,5 +44,16 @@ impl Fault {
             Fault::Long(Slot::Instance) | Fault::Json { .. } | Fault::Instance(_) => 4,
             Fault::Long(_) | Fault::Line { .. } | Fault::Code(_) => 9,
         }
+    }
+}
+
+impl From<NoMemory> for Fault {
+    ghost use Rattle.std.specs.Prelude.{◌≡◌};
+    ghost use Rattle.report.specs.declared.fault.Fault.TheVariants.{Memory};
+
+    ghost from_gives = { λ _ fault. fault ≡ Memory };
+
+    fn from(_: NoMemory) -> Self {
+        Fault::Memory
     }
 }

@@ -1,4 +1,6 @@
-pub mod Tested
+pub mod Endings
+pub mod Telling
+pub mod Unread
 pub mod OnlyRead
 pub mod Commands
 pub mod Verdicts

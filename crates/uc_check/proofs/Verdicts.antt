@@ -1,7 +1,7 @@
 -- How the ends of a run of `check` follow from its steps: reading the instance (from the files f to g), reading the
 -- certificate (from g to h), checking it, and the report.
 use Rattle.std.proofs.Common.{◌≡◌, ◌≤◌, ℕ, true, false, length, sym, subst, ap, ◌∙◌, refl, ⊎_elim}
-use Rattle.std.specs.Prelude.{Result, Ok, Err, IfOk, IfErr, IsErrAnd, Some, List}
+use Rattle.std.specs.Prelude.{Result, Ok, Err, IfOk, IfErr, IsErrAnd, Some, None, List}
 use Rattle.uc_model.specs.Limits.{IsLawfulInstance}
 use Rattle.uc_model.specs.declared.instance.Instance.{Instance}
 use Rattle.uc_model.proofs.PrintedCosts.{cost-le-printed}
@@ -21,8 +21,7 @@ use Rattle.report.specs.declared.fault.Fault.{Fault}
 use Rattle.report.specs.declared.fault.Fault.TheVariants.{Memory, Line, Code, Write}
 use Rattle.uc_check.specs.Outside.{Outside, outside_of}
 use Rattle.uc_check.specs.Reading.{HasInstance}
-use Rattle.uc_check.specs.Writing.{IsTold, FailsToTell}
-use Rattle.uc_check.specs.Checking.{most_certificate_bytes, HasCertificate, HasCertificateCause, IsAcceptance, IsCertificateFault, IsCheckFailure, IsCheckStopped, IsCheckUntold, IsInstanceFault, IsScheduleTrue, text_of_claims}
+use Rattle.uc_check.specs.Checking.{most_certificate_bytes, HasCertificate, HasCertificateCause, IsCertificateFault, IsCheckFailure, IsCheckStopped, IsInstanceFault, IsScheduleTrue, text_of_claims}
 use Rattle.uc_check.specs.inside.Checks.{AreVerifiedClaims, HasCertificateText, HasReadCause, IsRefusedCert, IsRefusedText}
 
 pub ok_both : {T E : Type 0} (result : Result T E) (P Q R : T → Type 0) → IfOk result P → IfOk result Q → ((x : T) → P x → Q x → R x)
@@ -129,32 +128,15 @@ refused_text old new bytes Memory told few calm refused = λ instance. tt
 refused_text old new bytes _ told few calm refused = absurd refused
 
 -- a run that stopped before anything was written failed
-pub stopped_failure : (before after : Outside) (fault : Fault) → IsCheckStopped before after fault → IsCheckFailure before after fault
+pub stopped_failure : (before after : Outside) (fault : Fault) → IsCheckStopped before after fault → IsCheckFailure before after fault None
 stopped_failure before after (Write true) stopped = absurd (⊎_elim
     (λ (early : IsInstanceFault before after (Write true)). early.cause)
     (λ (late : IsCertificateFault before after (Write true)). late.cause) stopped.cause)
 stopped_failure before after _ stopped = stopped
 
--- the claims are the certificate's
-same_text : (c : Certificate) (claims : Claims) → AreClaimsOf c claims
-    → claims_report claims.cost claims.bound claims.infeasible ≡ text_of_claims c
-same_text c claims are = rw (are.cost, are.bound, are.infeasible) refl
-
-pub untold : (f h : Slot → SlotState) (out_old out_new err_old err_new : SinkState) (claims : Claims) → AreVerifiedClaims f h claims
-    → FailsToTell (claims_report claims.cost claims.bound claims.infeasible) out_old out_new
-    → IsCheckUntold (outside_of f out_old err_old) (outside_of h out_new err_new)
-untold f h out_old out_new err_old err_new claims are fails = record {
-  certificate = are.certificate;
-  verified = are.verified;
-  report = subst (λ text. FailsToTell text out_old out_new) (same_text are.certificate claims are.claimed) fails;
-}
-
-pub accepted : (f h : Slot → SlotState) (out_old out_new err_old err_new : SinkState) (claims : Claims) → AreVerifiedClaims f h claims
-    → IsTold (claims_report claims.cost claims.bound claims.infeasible) out_old out_new
-    → IsAcceptance (outside_of f out_old err_old) (outside_of h out_new err_new)
-accepted f h out_old out_new err_old err_new claims are told = record {
-  certificate = are.certificate;
-  verified = are.verified;
-  told = subst (λ text. IsTold text out_old out_new) (same_text are.certificate claims are.claimed) told;
-  calm = are.calm;
-}
+-- what holds of the report of the claims, holds of that of the certificate
+pub of_claims : (P : List ℕ → Type 0) (c : Certificate) (claims : Claims) → AreClaimsOf c claims
+    → P (claims_report claims.cost claims.bound claims.infeasible) → P (text_of_claims c)
+of_claims P c claims are p =
+    let same : claims_report claims.cost claims.bound claims.infeasible ≡ text_of_claims c = rw (are.cost, are.bound, are.infeasible) refl in
+    subst P same p

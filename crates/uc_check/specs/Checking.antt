@@ -1,5 +1,5 @@
 -- What a run of `check` did, by how it ended. This project's own.
-use Rattle.std.specs.Prelude.{◌≡◌, ℕ, ◌^◌, ◌≤◌, ◌⊎◌, ⊤, true, false, List, Some, None, pos, ◌*ℤ◌, ◌≤ℤ◌, length}
+use Rattle.std.specs.Prelude.{◌≡◌, ℕ, ◌^◌, ◌≤◌, ◌⊎◌, ⊤, true, false, List, Option, Some, None, pos, ◌*ℤ◌, ◌≤ℤ◌, length}
 use Rattle.uc_model.specs.Cost.{cost}
 use Rattle.uc_model.specs.Rules.{Obeys}
 use Rattle.uc_model.specs.PrintedSchedule.{printed_denominator, printed_schedule}
@@ -12,6 +12,7 @@ use Rattle.outside.specs.declared.slot.Slot.TheVariants as slot
 use Rattle.outside.specs.Counts.{HasRisen}
 use Rattle.outside.specs.ToldBytes.{Tells}
 use Rattle.outside.specs.Slots.{SlotState}
+use Rattle.branch_tree.specs.declared.found.Found.{Found}
 use Rattle.cert_text.specs.CertificateText.{certificate_text, listing_of}
 use Rattle.cert_text.specs.TextConditions.{HasText}
 use Rattle.cert_text.specs.ReadFaults.{IsKindAt}
@@ -20,13 +21,13 @@ use Rattle.cert_text.specs.declared.cert.CertKind.TheVariants as kinds
 use Rattle.cert_check.specs.Answers.{cost_of, is_none}
 use Rattle.cert_check.specs.Refusals.{IsRefusedBy}
 use Rattle.report.specs.ClaimsReport.{claims_report}
-use Rattle.report.specs.FaultText as fault_text
 use Rattle.report.specs.declared.fault.Fault.{Fault}
 use Rattle.report.specs.declared.fault.Fault.TheVariants.{Read, Write, Memory, Long, Line, Code}
 use Rattle.uc_check.specs.Outside.{Outside}
 use Rattle.uc_check.specs.Command.{Check}
 use Rattle.uc_check.specs.Reading.{most_bytes, HasInstance, HasCause, IsLong, IsOpenedByNoOther, IsOnlyRead}
-use Rattle.uc_check.specs.Writing.{IsTold, FailsToTell, TellsFault}
+use Rattle.uc_check.specs.Writing.{IsTold, FailsToTell}
+use Rattle.uc_check.specs.Ending.{Ends}
 use Rattle.uc_check.specs.declared.ending.End.{End}
 
 -- the most bytes of a certificate's file: 64 TiB
@@ -137,9 +138,10 @@ pub record IsCheckUntold (before after : Outside) : Type 0 where
   pub report : FailsToTell (text_of_claims certificate) before.out after.out
 
 -- how a run of `check` ended with a fault
-abbrev pub IsCheckFailure : Outside → Outside → Fault → Type 0
-IsCheckFailure before after (Write true) = IsCheckUntold before after
-IsCheckFailure before after fault = IsCheckStopped before after fault
+abbrev pub IsCheckFailure : Outside → Outside → Fault → Option Found → Type 0
+IsCheckFailure before after (Write true) None = IsCheckUntold before after
+IsCheckFailure before after fault None = IsCheckStopped before after fault
+IsCheckFailure before after fault (Some found) = ⊥
 
 -- ---- the run
 
@@ -162,18 +164,10 @@ pub record IsAcceptance (before after : Outside) : Type 0 where
 -- the run accepted the certificate
 pub record IsAccepting (before after : Outside) (end : End) : Type 0 where
   pub code : end.code ≡ 0
+  pub nothing : end.found ≡ None
   pub done : IsAcceptance before after
-  pub silent : after.err ≡ before.err
-
--- the run met a fault, which has its cause, and told it
-pub record IsCheckFaulty (before after : Outside) (end : End) : Type 0 where
-  pub fault : Fault
-  pub code : end.code ≡ fault_text.status_of fault
-  pub failure : IsCheckFailure before after fault
-  pub told : TellsFault fault before.err after.err
 
 -- a run of `check`
 pub record IsCheckRun (asked : Check) (before after : Outside) (end : End) : Type 0 where
-  pub nothing : end.found ≡ None
   pub files : KeepsToInput asked before after
-  pub ended : IsAccepting before after end ⊎ IsCheckFaulty before after end
+  pub ended : Ends (IsAccepting before after) (IsCheckFailure before after) before.err after.err end

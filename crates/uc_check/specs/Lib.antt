@@ -4,5 +4,6 @@ pub mod Asked
 pub mod Outside
 pub mod Reading
 pub mod Writing
+pub mod Ending
 pub mod Checking
 pub mod inside

@@ -1,39 +1,22 @@
 //! Reading the certificate that is to be checked.
 
-ghost use Rattle.std.specs.Prelude.{◌≡◌, ◌≤◌, length, IfOk, IfErr};
+ghost use Rattle.std.specs.Prelude.{◌≡◌, IfOk, IfErr};
 ghost use Rattle.outside.specs.declared.slot.Slot.TheVariants.{CertIn};
 ghost use Rattle.outside.specs.declared.slot.Stage.TheVariants.{Unopened};
-ghost use Rattle.outside.specs.ToldBytes.{Tells};
 ghost use Rattle.outside.specs.Slots.{SameBut};
 ghost use Rattle.cert_text.specs.Reading.{IsTextOf};
 ghost use Rattle.uc_check.specs.Reading.{IsOpenedByNoOther, IsOnlyRead};
 ghost use Rattle.uc_check.specs.Checking.{most_certificate_bytes, kind_number};
 ghost use Rattle.uc_check.specs.inside.Checks.{HasCertificateText, HasReadCause, IsRefusedText};
 
+use crate::slot_bytes::slot_bytes;
 use cert_text::{Cert, CertFault, CertKind, read};
-use outside::{Files, Slot, SlurpFault, slurp};
+use outside::{Files, Slot};
 use report::Fault;
 use std::alloc::Global;
 
 /// The most bytes of a certificate's file.
 const CERTIFICATE_LIMIT: u64 = 1 << 46;
-
-fn certificate_bytes<F: Files>(alloc: Global, files: &mut F, name: &str) -> Result<Vec<u8>, Fault>
-    requires { (F.state files.old Slot.CertIn).stage ≡ Unopened }
-    ensures whole { IfOk result (λ bytes. Tells (F.state files.old Slot.CertIn).left bytes.items) }
-    ensures few { IfOk result (λ bytes. length bytes.items ≤ most_certificate_bytes) }
-    ensures cause { IfErr result (HasReadCause (F.state files.old Slot.CertIn) (F.state files.new Slot.CertIn)) }
-    ensures calm { IfOk result (λ _. (F.state files.new Slot.CertIn).faults ≡ (F.state files.old Slot.CertIn).faults) }
-    ensures named { IsOpenedByNoOther name.now (F.state files.old Slot.CertIn) (F.state files.new Slot.CertIn) }
-    ensures only_read { IsOnlyRead most_certificate_bytes (F.state files.old Slot.CertIn) (F.state files.new Slot.CertIn) }
-    ensures others { SameBut CertIn (F.state files.old) (F.state files.new) }
-{
-    slurp(alloc, files, Slot::CertIn, name, CERTIFICATE_LIMIT).map_err(|fault| match fault {
-        SlurpFault::Failed => Fault::Read(Slot::CertIn),
-        SlurpFault::TooLong => Fault::Long(Slot::CertIn),
-        SlurpFault::NoMemory => Fault::Memory,
-    })
-}
 
 // The number of a kind in the line of the fault.
 fn number_of(kind: CertKind) -> u8
@@ -75,6 +58,6 @@ pub(crate) fn read_certificate<F: Files>(
     ensures only_read { IsOnlyRead most_certificate_bytes (F.state files.old Slot.CertIn) (F.state files.new Slot.CertIn) }
     ensures others { SameBut CertIn (F.state files.old) (F.state files.new) }
 {
-    let bytes = certificate_bytes(alloc, files, name)?;
+    let bytes = slot_bytes(alloc, files, Slot::CertIn, name, CERTIFICATE_LIMIT)?;
     certificate_of(alloc, &bytes)
 }

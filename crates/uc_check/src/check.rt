@@ -10,15 +10,14 @@ ghost use Rattle.cert_check.specs.Answers.{IsAccepted, IsRead};
 ghost use Rattle.report.specs.ClaimsReport.{claims_report};
 ghost use Rattle.uc_check.specs.Outside.{outside_of};
 ghost use Rattle.uc_check.specs.Writing.{IsTold, FailsToTell};
-ghost use Rattle.uc_check.specs.Checking.{IsAcceptance, IsCheckFailure, IsCheckStopped, KeepsToInput, IsCheckRun};
+ghost use Rattle.uc_check.specs.Checking.{IsAccepting, IsCheckFailure, IsCheckStopped, KeepsToInput, IsCheckRun};
 ghost use Rattle.uc_check.specs.Asked.{check_asked};
 ghost use Rattle.uc_check.specs.inside.Checks.{IsRefusedCert, AreVerifiedClaims};
 
 use crate::certificate::read_certificate;
 use crate::command::Check;
-use crate::ending::End;
+use crate::ending::{End, Failure, end_of};
 use crate::input::read_instance;
-use crate::output::tell_fault;
 use cert_check::{CheckFault, Claims};
 use cert_text::Cert;
 use outside::{Failed, Files, Sink};
@@ -70,23 +69,26 @@ fn verify_and_tell<F: Files, O: Sink>(
     asked: &Check,
     files: &mut F,
     out: &mut O,
-) -> Result<(), Fault>
+) -> Result<End, Failure>
     requires { AllUnopened (F.state files.old) }
-    ensures done { (err_old err_new : SinkState) → IfOk result (λ _. IsAcceptance
+    ensures done { (err_old err_new : SinkState) → IfOk result (IsAccepting
         (outside_of (F.state files.old) (O.state out.old) err_old) (outside_of (F.state files.new) (O.state out.new) err_new)) }
-    ensures failed { (err_old err_new : SinkState) → IfErr result (IsCheckFailure
-        (outside_of (F.state files.old) (O.state out.old) err_old) (outside_of (F.state files.new) (O.state out.new) err_new)) }
+    ensures failed { (err_old err_new : SinkState) → IfErr result (λ f. IsCheckFailure
+        (outside_of (F.state files.old) (O.state out.old) err_old) (outside_of (F.state files.new) (O.state out.new) err_new) f.fault f.found) }
     ensures files { (err_old err_new : SinkState) → KeepsToInput (check_asked asked.now)
         (outside_of (F.state files.old) (O.state out.old) err_old) (outside_of (F.state files.new) (O.state out.new) err_new) }
 {
-    let claims = match verify(alloc, asked, files) {
-        Ok(claims) => claims,
-        Err(fault) => return Err(fault),
-    };
-    if tell_claims(out, &claims).is_err() {
-        return Err(Fault::Write { output: true });
+    let claims = verify(alloc, asked, files)?;
+    match tell_claims(out, &claims) {
+        Ok(()) => Ok(End {
+            code: 0,
+            found: None,
+        }),
+        Err(Failed) => Err(Failure {
+            fault: Fault::Write { output: true },
+            found: None,
+        }),
     }
-    Ok(())
 }
 
 /// A run of `check`: reads instance and certificate, checks the one against the other and reports what is claimed, or
@@ -102,17 +104,6 @@ pub fn check_certificate<F: Files, O: Sink, E: Sink>(
     ensures { IsCheckRun (check_asked asked.now) (outside_of (F.state files.old) (O.state out.old) (E.state err.old))
         (outside_of (F.state files.new) (O.state out.new) (E.state err.new)) result }
 {
-    match verify_and_tell(alloc, asked, files, out) {
-        Ok(()) => End {
-            code: 0,
-            found: None,
-        },
-        Err(fault) => {
-            tell_fault(err, &fault);
-            End {
-                code: fault.code(),
-                found: None,
-            }
-        }
-    }
+    let outcome = verify_and_tell(alloc, asked, files, out);
+    end_of(err, outcome)
 }

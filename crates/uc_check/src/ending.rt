@@ -1,10 +1,55 @@
 //! How a run ends.
 
+ghost use Rattle.uc_check.specs.Ending.{IsEndOf};
+ghost use Rattle.uc_check.specs.Writing.{TellsFault};
+
 use branch_tree::Found;
+use outside::Sink;
+use report::{Fault, write_fault};
 
 /// How a run ended: its exit status, and of `solve` and `demo` what was found where the status is 0 to 3 or 7.
 #[derive(Drop)]
 pub struct End {
     pub code: u8,
     pub found: Option<Found>,
+}
+
+/// A fault that ends a run, and what was found before it.
+#[derive(Drop)]
+pub struct Failure {
+    pub fault: Fault,
+    pub found: Option<Found>,
+}
+
+impl From<Fault> for Failure {
+    ghost use Rattle.std.specs.Prelude.{◌≡◌, None};
+
+    ghost from_gives = { λ fault failure. failure ≡ record { fault = fault; found = None } };
+
+    fn from(fault: Fault) -> Self {
+        Failure { fault, found: None }
+    }
+}
+
+// Tells a fault on the error output; that this may fail too changes nothing.
+fn tell_fault<E: Sink>(err: &mut E, fault: &Fault)
+    ensures { TellsFault fault.now (E.state err.old) (E.state err.new) }
+{
+    let _ = write_fault(err, fault);
+}
+
+/// The end of a run by what it came to: an answer as it is, or a fault, which is told on the error output.
+pub fn end_of<E: Sink>(err: &mut E, outcome: Result<End, Failure>) -> End
+    ensures { IsEndOf outcome (E.state err.old) (E.state err.new) result }
+{
+    match outcome {
+        Ok(answer) => answer,
+        Err(Failure { fault, found }) => {
+            tell_fault(err, &fault);
+            End {
+                code: fault.code(),
+                found,
+            }
+        }
+    }
 }

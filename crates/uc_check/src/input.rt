@@ -1,44 +1,22 @@
 //! Reading the instance.
 
-ghost use Rattle.std.specs.Prelude.{◌≡◌, ◌≤◌, length, IfOk, IfErr};
+ghost use Rattle.std.specs.Prelude.{◌≡◌, IfOk, IfErr};
 ghost use Rattle.outside.specs.declared.slot.Slot.TheVariants.{Instance as InstanceSlot};
 ghost use Rattle.outside.specs.declared.slot.Stage.TheVariants.{Unopened};
-ghost use Rattle.outside.specs.ToldBytes.{Tells};
 ghost use Rattle.outside.specs.Slots.{SameBut};
 ghost use Rattle.uc_model.specs.Limits.{IsLawfulInstance};
 ghost use Rattle.instance.specs.Bytes.{StandForCounted};
 ghost use Rattle.uc_check.specs.Reading.{most_bytes, HasInstance, HasCause, IsRefusal, IsOpenedByNoOther, IsOnlyRead};
 
+use crate::slot_bytes::slot_bytes;
 use instance::ReadFault;
-use outside::{Files, Slot, SlurpFault, slurp};
+use outside::{Files, Slot};
 use report::Fault;
 use std::alloc::Global;
 use uc_model::Instance;
 
 /// The most bytes of an instance file.
 const INSTANCE_LIMIT: u64 = 1 << 26;
-
-fn instance_bytes<F: Files>(
-    alloc: Global,
-    files: &mut F,
-    name: &str,
-    exact: bool,
-) -> Result<Vec<u8>, Fault>
-    requires { (F.state files.old Slot.Instance).stage ≡ Unopened }
-    ensures whole { IfOk result (λ bytes. Tells (F.state files.old Slot.Instance).left bytes.items) }
-    ensures few { IfOk result (λ bytes. length bytes.items ≤ most_bytes) }
-    ensures cause { IfErr result (HasCause exact (F.state files.old Slot.Instance) (F.state files.new Slot.Instance)) }
-    ensures calm { IfOk result (λ _. (F.state files.new Slot.Instance).faults ≡ (F.state files.old Slot.Instance).faults) }
-    ensures named { IsOpenedByNoOther name.now (F.state files.old Slot.Instance) (F.state files.new Slot.Instance) }
-    ensures only_read { IsOnlyRead most_bytes (F.state files.old Slot.Instance) (F.state files.new Slot.Instance) }
-    ensures others { SameBut InstanceSlot (F.state files.old) (F.state files.new) }
-{
-    slurp(alloc, files, Slot::Instance, name, INSTANCE_LIMIT).map_err(|fault| match fault {
-        SlurpFault::Failed => Fault::Read(Slot::Instance),
-        SlurpFault::TooLong => Fault::Long(Slot::Instance),
-        SlurpFault::NoMemory => Fault::Memory,
-    })
-}
 
 // The instance of the bytes, and how many of the numbers that were read are rounded.
 fn instance_of(alloc: Global, bytes: &[u8], exact: bool) -> Result<(Instance, u64), Fault>
@@ -69,6 +47,6 @@ pub fn read_instance<F: Files>(
     ensures only_read { IsOnlyRead most_bytes (F.state files.old Slot.Instance) (F.state files.new Slot.Instance) }
     ensures others { SameBut InstanceSlot (F.state files.old) (F.state files.new) }
 {
-    let bytes = instance_bytes(alloc, files, name, exact)?;
+    let bytes = slot_bytes(alloc, files, Slot::Instance, name, INSTANCE_LIMIT)?;
     instance_of(alloc, &bytes, exact)
 }

@@ -8,9 +8,10 @@ pub mod command;
 pub mod ending;
 mod input;
 mod output;
+mod slot_bytes;
 
 pub use check::check_certificate;
 pub use command::{Check, Command, Demo, Solve, command_of};
-pub use ending::End;
+pub use ending::{End, Failure, end_of};
 pub use input::read_instance;
-pub use output::{save, tell, tell_fault};
+pub use output::save;

@@ -1,20 +1,17 @@
-//! Writing the certificate, the report and the line of a fault.
+//! Writing the certificate.
 
-ghost use Rattle.std.specs.Prelude.{◌≡◌, ◌≤◌, OnOk, OnErr};
+ghost use Rattle.std.specs.Prelude.{◌≡◌, OnOk, OnErr};
 ghost use Rattle.uc_model.specs.declared.instance.Instance.{Instance};
 ghost use Rattle.outside.specs.declared.slot.Slot.TheVariants.{CertOut};
 ghost use Rattle.outside.specs.declared.slot.Stage.TheVariants.{Unopened};
 ghost use Rattle.outside.specs.Slots.{SameBut};
 ghost use Rattle.branch_tree.specs.Claims.{HasLayout};
 ghost use Rattle.uc_check.specs.Reading.{IsOpenedByNoOther};
-ghost use Rattle.uc_check.specs.Writing.{IsSaved, FailsToSave, IsTold, FailsToTell, TellsFault, text_of_certificate};
-ghost use Rattle.report.specs.FoundReport.{found_report};
+ghost use Rattle.uc_check.specs.Writing.{IsSaved, FailsToSave, text_of_certificate};
 
 use branch_tree::Found;
-use outside::{Failed, Files, Sink, Slot, SlotWriter};
-use report::{Fault, write_fault, write_found};
+use outside::{Failed, Files, Slot, SlotWriter};
 use uc_model::Instance;
-use uc_model::tolerance::WHOLE_GAP;
 
 /// Writes the certificate to its slot, and finishes it.
 pub fn save<F: Files>(
@@ -34,27 +31,4 @@ pub fn save<F: Files>(
     let mut writer = SlotWriter::new(files, Slot::CertOut);
     cert_text::write(found, instance, &mut writer)?;
     files.finish(Slot::CertOut)
-}
-
-/// Writes the report, by the gap in parts per million, and flushes it.
-pub fn tell<O: Sink>(
-    out: &mut O,
-    found: &Found,
-    instance: &Instance,
-    rounded: u64,
-    gap: u32,
-) -> Result<(), Failed>
-    requires { gap ≤ WHOLE_GAP }
-    ensures told { OnOk result (IsTold (found_report instance.now found.now rounded gap) (O.state out.old) (O.state out.new)) }
-    ensures failed { OnErr result (FailsToTell (found_report instance.now found.now rounded gap) (O.state out.old) (O.state out.new)) }
-{
-    write_found(out, found, instance, rounded, gap)?;
-    out.flush()
-}
-
-/// Tells a fault on the error output; that this may fail too changes nothing.
-pub fn tell_fault<E: Sink>(err: &mut E, fault: &Fault)
-    ensures { TellsFault fault.now (E.state err.old) (E.state err.new) }
-{
-    let _ = write_fault(err, fault);
 }

@@ -1,6 +1,6 @@
 -- How the ends of a run follow from its steps: reading and searching (from the files f to g), writing the
 -- certificate (from g to h) and the report.
-use Rattle.std.proofs.Common.{◌≡◌, ℕ, subst, ap, ◌∙◌, refl}
+use Rattle.std.proofs.Common.{◌≡◌, ℕ, true, false, subst, ap, ◌∙◌, refl, None}
 use Rattle.uc_model.specs.declared.instance.Instance.{Instance}
 use Rattle.outside.specs.declared.slot.Slot.{Slot}
 use Rattle.outside.specs.declared.slot.Slot.TheVariants as slot
@@ -11,11 +11,23 @@ use Rattle.uc_check.specs.Writing.{IsSaved, FailsToSave, IsTold, FailsToTell, te
 use Rattle.report.specs.FoundReport.{found_report}
 use Rattle.uc_check.specs.Command.{Solve}
 use Rattle.uc_check.specs.Outside.{outside_of}
-use Rattle.uc_cli.specs.Run.{IsAnswer, IsDone, IsUnsaved, IsUntold}
+use Rattle.uc_check.specs.Reading.{HasCause}
+use Rattle.report.specs.declared.fault.Fault.{Fault}
+use Rattle.report.specs.declared.fault.Fault.TheVariants.{Write}
+use Rattle.uc_cli.specs.Run.{IsAnswer, IsDone, IsFailure, IsUnsaved, IsUntold}
 
 -- the certificate's slot is as it was before the instance was read
 certificate_same : (f g : Slot → SlotState) → SameBut slot.Instance f g → g slot.CertOut ≡ f slot.CertOut
 certificate_same f g same = same slot.CertOut (λ e. cc)
+
+-- a fault before anything was written
+pub stopped : (asked : Solve) (f g : Slot → SlotState) (out err_old err_new : SinkState) (fault : Fault)
+    → HasCause asked.exact (f slot.Instance) (g slot.Instance) fault → SameBut slot.Instance f g
+    → IsFailure asked (outside_of f out err_old) (outside_of g out err_new) fault None
+stopped asked f g out err_old err_new (Write true) cause same = absurd cause
+stopped asked f g out err_old err_new (Write false) cause same = absurd cause
+stopped asked f g out err_old err_new fault cause same =
+    record { cause = cause; certificate = certificate_same f g same; out = refl }
 
 pub unsaved : (asked : Solve) (f g h : Slot → SlotState) (out err_old err_new : SinkState) (instance : Instance) (rounded : ℕ) (found : Found)
     → IsAnswer asked (f slot.Instance) instance rounded found → SameBut slot.Instance f g

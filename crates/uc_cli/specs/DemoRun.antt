@@ -1,5 +1,5 @@
 -- What a run of `demo` did, by how it ended. This project's own.
-use Rattle.std.specs.Prelude.{◌≡◌, ℕ, ◌⊎◌, true, Option, Some, None}
+use Rattle.std.specs.Prelude.{◌≡◌, ℕ, true, Option, Some, None}
 use Rattle.dual_model.specs.Certificate.{WrittenSchedule}
 use Rattle.dual_model.specs.Laws.{IsClaimTrue}
 use Rattle.outside.specs.Sinks.{SinkState}
@@ -10,13 +10,13 @@ use Rattle.branch_tree.specs.declared.found.Found.{Found}
 use Rattle.demo_gen.specs.Demo.{demo_instance}
 use Rattle.workers.specs.SearchResult.{IsSearchResult}
 use Rattle.report.specs.DemoReport.{demo_report}
-use Rattle.report.specs.FaultText as fault_text
 use Rattle.report.specs.declared.fault.Fault.{Fault}
 use Rattle.report.specs.declared.fault.Fault.TheVariants.{Write, Memory}
 use Rattle.uc_check.specs.Outside.{Outside}
 use Rattle.uc_check.specs.Command.{Demo}
 use Rattle.uc_check.specs.Checking.{IsScheduleTrue}
-use Rattle.uc_check.specs.Writing.{IsTold, FailsToTell, TellsFault}
+use Rattle.uc_check.specs.Ending.{Ends}
+use Rattle.uc_check.specs.Writing.{IsTold, FailsToTell}
 use Rattle.uc_check.specs.declared.ending.End.{End}
 
 -- an answer for the instance of the seed: what was found with a budget of 200 evaluations and at a gap of a thousandth of the cost; that
@@ -42,22 +42,14 @@ IsDemoFailure asked before after (Write true) (Some found) = IsDemoUntold asked 
 IsDemoFailure asked before after Memory None = after ≡ before
 IsDemoFailure asked before after _ _ = ⊥
 
--- the run answered what it was asked, and told no fault
-pub record IsDemoAnswered (asked : Demo) (before after : Outside) (end : End) : Type 0 where
+-- the run answered what it was asked
+pub record IsDemoAnswered (asked : Demo) (before after : SinkState) (end : End) : Type 0 where
   pub found : Found
   pub is_found : end.found ≡ Some found
   pub code : end.code ≡ status_of found 1000
-  pub done : IsDemoDone asked before.out after.out found
-  pub silent : after.err ≡ before.err
-
--- the run met a fault, which has its cause, and told it
-pub record IsDemoFaulty (asked : Demo) (before after : Outside) (end : End) : Type 0 where
-  pub fault : Fault
-  pub code : end.code ≡ fault_text.status_of fault
-  pub failure : IsDemoFailure asked before.out after.out fault end.found
-  pub told : TellsFault fault before.err after.err
+  pub done : IsDemoDone asked before after found
 
 -- a run of `demo`, which touches no file
 pub record IsDemoRun (asked : Demo) (before after : Outside) (end : End) : Type 0 where
   pub files : after.files ≡ before.files
-  pub ended : IsDemoAnswered asked before after end ⊎ IsDemoFaulty asked before after end
+  pub ended : Ends (IsDemoAnswered asked before.out after.out) (IsDemoFailure asked before.out after.out) before.err after.err end

@@ -1,6 +1,6 @@
 -- What a run of the program did, by how it ended: its exit status, what it leaves on the outside, and what it tells
 -- on the error output. This project's own.
-use Rattle.std.specs.Prelude.{◌≡◌, ℕ, ◌⊎◌, Bool, true, false, Option, Some, None}
+use Rattle.std.specs.Prelude.{◌≡◌, ℕ, Bool, true, false, Option, Some, None}
 use Rattle.uc_model.specs.declared.instance.Instance.{Instance}
 use Rattle.dual_model.specs.Laws.{IsClaimTrue}
 use Rattle.outside.specs.declared.slot.Slot.{Slot}
@@ -14,7 +14,6 @@ use Rattle.workers.specs.SearchResult.{IsSearchResult}
 use Rattle.cert_text.specs.CertificateText.{listing_of}
 use Rattle.cert_text.specs.TextConditions.{HasText}
 use Rattle.branch_tree.specs.declared.found.Found.{Found}
-use Rattle.report.specs.FaultText as fault_text
 use Rattle.report.specs.FoundReport.{found_report}
 use Rattle.report.specs.declared.fault.Fault.{Fault}
 use Rattle.report.specs.declared.fault.Fault.TheVariants.{Words, Write, Memory}
@@ -22,8 +21,9 @@ use Rattle.uc_check.specs.Outside.{Outside}
 use Rattle.uc_check.specs.Command.{Solve, Command, Solves, Checks, Demos}
 use Rattle.uc_check.specs.Reading.{most_bytes, HasInstance, HasCause, IsOpenedByNoOther, IsOnlyRead}
 use Rattle.uc_check.specs.Checking.{IsCheckRun, IsScheduleTrue}
+use Rattle.uc_check.specs.Ending.{Ends, IsFaulty}
 use Rattle.uc_cli.specs.DemoRun.{IsDemoRun}
-use Rattle.uc_check.specs.Writing.{text_of_certificate, IsSaved, FailsToSave, IsTold, FailsToTell, TellsFault}
+use Rattle.uc_check.specs.Writing.{text_of_certificate, IsSaved, FailsToSave, IsTold, FailsToTell}
 use Rattle.uc_check.specs.declared.ending.End.{End}
 
 -- an answer for the instance in the file: what was found, with the budget and at the gap that are asked; that its schedule obeys and
@@ -81,25 +81,17 @@ pub record KeepsToFiles (asked : Solve) (before after : Outside) : Type 0 where
   pub certificate : IsOpenedByNoOther asked.certificate (before.files slot.CertOut) (after.files slot.CertOut)
   pub other : after.files slot.CertIn ≡ before.files slot.CertIn
 
--- the run answered what it was asked, and told no fault
-pub record IsAnswered (asked : Solve) (before after : Outside) (end : End) : Type 0 where
+-- the run answered what it was asked
+pub record IsSolved (asked : Solve) (before after : Outside) (end : End) : Type 0 where
   pub found : Found
   pub is_found : end.found ≡ Some found
   pub code : end.code ≡ status_of found asked.gap
   pub done : IsDone asked before after found
-  pub silent : after.err ≡ before.err
-
--- the run met a fault, which has its cause, and told it
-pub record IsFaulty (asked : Solve) (before after : Outside) (end : End) : Type 0 where
-  pub fault : Fault
-  pub code : end.code ≡ fault_text.status_of fault
-  pub failure : IsFailure asked before after fault end.found
-  pub told : TellsFault fault before.err after.err
 
 -- a run of `solve`
 pub record IsSolveRun (asked : Solve) (before after : Outside) (end : End) : Type 0 where
   pub files : KeepsToFiles asked before after
-  pub ended : IsAnswered asked before after end ⊎ IsFaulty asked before after end
+  pub ended : Ends (IsSolved asked before after) (IsFailure asked before after) before.err after.err end
 
 -- a run of the command
 abbrev pub IsRun : Command → Outside → Outside → End → Type 0
@@ -107,14 +99,14 @@ IsRun (Solves asked) before after end = IsSolveRun asked before after end
 IsRun (Checks asked) before after end = IsCheckRun asked before after end
 IsRun (Demos asked) before after end = IsDemoRun asked before after end
 
--- the run ended at its words with this fault: it told it, and touched nothing else
-pub record IsTurnedAway (fault : Fault) (before after : Outside) (end : End) : Type 0 where
-  pub code : end.code ≡ fault_text.status_of fault
-  pub nothing : end.found ≡ None
+-- a run ends at its words because they aren't taken, or because memory was refused
+abbrev pub IsTurnedAway : Fault → Option Found → Type 0
+IsTurnedAway Words None = Unit {0}
+IsTurnedAway Memory None = Unit {0}
+IsTurnedAway fault found = ⊥
+
+-- the words aren't taken: the run tells how the program is called, or that memory was refused, and touches nothing else
+pub record IsUsage (before after : Outside) (end : End) : Type 0 where
   pub files : after.files ≡ before.files
   pub out : after.out ≡ before.out
-  pub told : TellsFault fault before.err after.err
-
--- the words aren't taken: the run tells how the program is called, or that memory was refused
-abbrev pub IsUsage : Outside → Outside → End → Type 0
-IsUsage before after end = IsTurnedAway Words before after end ⊎ IsTurnedAway Memory before after end
+  pub ended : IsFaulty IsTurnedAway before.err after.err end

@@ -6,32 +6,32 @@ ghost use Rattle.outside.specs.Slots.{SlotState};
 ghost use Rattle.report.specs.DemoReport.{demo_report};
 ghost use Rattle.uc_check.specs.Outside.{outside_of};
 ghost use Rattle.uc_check.specs.Writing.{IsTold, FailsToTell};
-ghost use Rattle.uc_cli.specs.DemoRun.{IsDemoAnswer, IsDemoDone, IsDemoFailure, IsDemoRun};
+ghost use Rattle.uc_cli.specs.DemoRun.{IsDemoAnswer, IsDemoAnswered, IsDemoFailure, IsDemoRun};
 ghost use Rattle.uc_check.specs.Asked.{demo_asked};
 
-use crate::solve::Failure;
 use branch_tree::Found;
 use outside::{Failed, Gate, Sink};
 use report::{DEMO_GAP, Fault, write_demo};
 use std::alloc::Global;
 use std::sync::Wait;
-use uc_check::{Demo, End, tell_fault};
-use uc_model::NoMemory;
+use uc_check::{Demo, End, Failure, end_of};
 use workers::{Options, search};
 
 /// The budget of a demo, in evaluations.
 const BUDGET: u32 = 200;
 
 // Searches the instance of the seed.
-fn find<R: Wait, G: Gate>(rt: &R, alloc: Global, seed: u32, gate: &G) -> Result<Found, NoMemory>
-    ensures { IfOk result (IsDemoAnswer seed) }
+fn find<R: Wait, G: Gate>(rt: &R, alloc: Global, seed: u32, gate: &G) -> Result<Found, Fault>
+    ensures answer { IfOk result (IsDemoAnswer seed) }
+    ensures memory { IfErr result (λ fault. fault ≡ Fault.Memory) }
 {
     let instance = demo_gen::instance(alloc, seed)?;
     let options = Options {
         budget: BUDGET,
         gap: DEMO_GAP,
     };
-    search(rt, alloc, &instance, &options, gate)
+    let found = search(rt, alloc, &instance, &options, gate)?;
+    Ok(found)
 }
 
 // Writes the report, and flushes it.
@@ -50,26 +50,21 @@ fn find_and_tell<R: Wait, O: Sink, G: Gate>(
     asked: &Demo,
     out: &mut O,
     gate: &G,
-) -> Result<Found, Failure>
-    ensures done { IfOk result (IsDemoDone (demo_asked asked.now) (O.state out.old) (O.state out.new)) }
+) -> Result<End, Failure>
+    ensures done { IfOk result (IsDemoAnswered (demo_asked asked.now) (O.state out.old) (O.state out.new)) }
     ensures failed { IfErr result (λ f. IsDemoFailure (demo_asked asked.now) (O.state out.old) (O.state out.new) f.fault f.found) }
 {
-    let found = match find(rt, alloc, asked.seed, gate) {
-        Ok(found) => found,
-        Err(NoMemory) => {
-            return Err(Failure {
-                fault: Fault::Memory,
-                found: None,
-            });
-        }
-    };
-    if tell_found(out, asked.seed, &found).is_err() {
-        return Err(Failure {
+    let found = find(rt, alloc, asked.seed, gate)?;
+    match tell_found(out, asked.seed, &found) {
+        Ok(()) => Ok(End {
+            code: found.status(DEMO_GAP),
+            found: Some(found),
+        }),
+        Err(Failed) => Err(Failure {
             fault: Fault::Write { output: true },
             found: Some(found),
-        });
+        }),
     }
-    Ok(found)
 }
 
 /// A run of `demo`: searches the instance of the seed and reports what was found, or tells a fault. It touches no file, whatever the
@@ -85,17 +80,6 @@ pub(crate) fn demo<R: Wait, O: Sink, E: Sink, G: Gate>(
     ensures { (files : Slot → SlotState) → IsDemoRun (demo_asked asked.now) (outside_of files (O.state out.old) (E.state err.old))
         (outside_of files (O.state out.new) (E.state err.new)) result }
 {
-    match find_and_tell(rt, alloc, asked, out, gate) {
-        Ok(found) => End {
-            code: found.status(DEMO_GAP),
-            found: Some(found),
-        },
-        Err(failure) => {
-            tell_fault(err, &failure.fault);
-            End {
-                code: failure.fault.code(),
-                found: failure.found,
-            }
-        }
-    }
+    let outcome = find_and_tell(rt, alloc, asked, out, gate);
+    end_of(err, outcome)
 }

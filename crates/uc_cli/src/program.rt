@@ -1,35 +1,19 @@
 //! The top call: a run of the program from its words.
 
-ghost use Rattle.std.specs.Prelude.{◌≡◌, map, string_bytes, true, false, None, Some};
+ghost use Rattle.std.specs.Prelude.{◌≡◌, map, string_bytes, true, false, Some};
 ghost use Rattle.outside.specs.Slots.{AllUnopened};
 ghost use Rattle.uc_check.specs.Arguments.{is_taken};
 ghost use Rattle.uc_check.specs.Command.{Command as WordsCommand, command_of as command_of_words};
 ghost use Rattle.uc_check.specs.Outside.{outside_of};
 ghost use Rattle.uc_cli.specs.Run.{IsRun, IsUsage};
-ghost use Rattle.uc_check.specs.Writing.{TellsFault};
-ghost use Rattle.report.specs.FaultText.{status_of};
 
 use crate::demo::demo;
 use crate::solve::solve;
 use outside::{Files, Gate, Sink};
-use report::Fault;
 use std::alloc::Global;
 use std::sync::Wait;
 use std::thread::Threads;
-use uc_check::{Command, End, check_certificate, command_of, tell_fault};
-
-// A run that ends at its words.
-fn turn_away<E: Sink>(err: &mut E, fault: &Fault) -> End
-    ensures code { result.code ≡ status_of fault.now }
-    ensures nothing { result.found ≡ None }
-    ensures told { TellsFault fault.now (E.state err.old) (E.state err.new) }
-{
-    tell_fault(err, fault);
-    End {
-        code: fault.code(),
-        found: None,
-    }
-}
+use uc_check::{Command, End, Failure, check_certificate, command_of, end_of};
 
 /// A run of the program. The words begin with the program's name; each slot of the files is unopened.
 ///
@@ -61,6 +45,21 @@ pub fn uc<R: Threads + Wait + Sync, F: Files, O: Sink, E: Sink, G: Gate + Sync>(
         Ok(Command::Solve(asked)) => solve(rt, alloc, &asked, files, out, err, gate),
         Ok(Command::Check(asked)) => check_certificate(alloc, &asked, files, out, err),
         Ok(Command::Demo(asked)) => demo(rt, alloc, &asked, out, err, gate),
-        Err(fault) => turn_away(err, &fault),
+        Err(fault) => end_of(err, Err(Failure { fault, found: None })),
     }
+}
+
+/// The exit status of a run of the program, which ends as [`uc`] says.
+pub fn exit_status<R: Threads + Wait + Sync, F: Files, O: Sink, E: Sink, G: Gate + Sync>(
+    rt: &R,
+    alloc: Global,
+    words: &[String],
+    files: &mut F,
+    out: &mut O,
+    err: &mut E,
+    gate: &G,
+) -> u8
+    requires { AllUnopened (F.state files.old) }
+{
+    uc(rt, alloc, words, files, out, err, gate).code
 }

@@ -1,6 +1,6 @@
 //! A run of `solve`.
 
-ghost use Rattle.std.specs.Prelude.{◌≡◌, ◌≤◌, None, Some, IfOk, IfErr};
+ghost use Rattle.std.specs.Prelude.{◌≡◌, ◌≤◌, IfOk, IfErr, OnOk, OnErr};
 ghost use Rattle.outside.specs.declared.slot.Slot.{Slot};
 ghost use Rattle.outside.specs.declared.slot.Slot.TheVariants as slot;
 ghost use Rattle.outside.specs.declared.slot.Stage.TheVariants.{Unopened};
@@ -8,18 +8,20 @@ ghost use Rattle.outside.specs.Slots.{AllUnopened, SameBut};
 ghost use Rattle.outside.specs.Sinks.{SinkState};
 ghost use Rattle.uc_check.specs.Reading.{most_bytes, HasCause, IsOpenedByNoOther, IsOnlyRead};
 ghost use Rattle.uc_check.specs.Outside.{outside_of};
-ghost use Rattle.uc_cli.specs.Run.{IsAnswer, IsDone, IsFailure, KeepsToFiles, IsSolveRun};
+ghost use Rattle.uc_check.specs.Writing.{IsTold, FailsToTell};
+ghost use Rattle.report.specs.FoundReport.{found_report};
+ghost use Rattle.uc_cli.specs.Run.{IsAnswer, IsSolved, IsFailure, KeepsToFiles, IsSolveRun};
 ghost use Rattle.uc_check.specs.Asked.{solve_asked};
 
 use branch_tree::Found;
-use outside::{Files, Gate, Sink, Slot};
-use report::Fault;
+use outside::{Failed, Files, Gate, Sink, Slot};
+use report::{Fault, write_found};
 use search_core::limits::MAX_BUDGET;
 use std::alloc::Global;
 use std::sync::Wait;
-use uc_check::{End, Solve, read_instance, save, tell, tell_fault};
+use uc_check::{End, Failure, Solve, end_of, read_instance, save};
+use uc_model::Instance;
 use uc_model::tolerance::WHOLE_GAP;
-use uc_model::{Instance, NoMemory};
 use workers::{Options, search};
 
 /// What was found for the instance of a file.
@@ -28,13 +30,6 @@ struct Answer {
     instance: Instance,
     rounded: u64,
     found: Found,
-}
-
-/// A fault that ends a run, and what was found before it.
-#[derive(Drop)]
-pub(crate) struct Failure {
-    pub fault: Fault,
-    pub found: Option<Found>,
 }
 
 // Reads the instance and searches.
@@ -60,14 +55,22 @@ fn find<R: Wait, F: Files, G: Gate>(
         budget: asked.units,
         gap: asked.gap,
     };
-    match search(rt, alloc, &instance, &options, gate) {
-        Ok(found) => Ok(Answer {
-            instance,
-            rounded,
-            found,
-        }),
-        Err(NoMemory) => Err(Fault::Memory),
-    }
+    let found = search(rt, alloc, &instance, &options, gate)?;
+    Ok(Answer {
+        instance,
+        rounded,
+        found,
+    })
+}
+
+// Writes the report, by the gap in parts per million, and flushes it.
+fn tell<O: Sink>(out: &mut O, answer: &Answer, gap: u32) -> Result<(), Failed>
+    requires { gap ≤ WHOLE_GAP }
+    ensures told { OnOk result (IsTold (found_report answer.now.instance answer.now.found answer.now.rounded gap) (O.state out.old) (O.state out.new)) }
+    ensures failed { OnErr result (FailsToTell (found_report answer.now.instance answer.now.found answer.now.rounded gap) (O.state out.old) (O.state out.new)) }
+{
+    write_found(out, &answer.found, &answer.instance, answer.rounded, gap)?;
+    out.flush()
 }
 
 // Reads, searches, writes the certificate and then the report; the error output is as it may be.
@@ -78,42 +81,37 @@ fn find_and_write<R: Wait, F: Files, O: Sink, G: Gate>(
     files: &mut F,
     out: &mut O,
     gate: &G,
-) -> Result<Found, Failure>
+) -> Result<End, Failure>
     requires unopened { AllUnopened (F.state files.old) }
     requires budget { asked.now.units ≤ MAX_BUDGET }
     requires gap { asked.now.gap ≤ WHOLE_GAP }
-    ensures done { (err_old err_new : SinkState) → IfOk result (IsDone (solve_asked asked.now)
+    ensures done { (err_old err_new : SinkState) → IfOk result (IsSolved (solve_asked asked.now)
         (outside_of (F.state files.old) (O.state out.old) err_old) (outside_of (F.state files.new) (O.state out.new) err_new)) }
     ensures failed { (err_old err_new : SinkState) → IfErr result (λ f. IsFailure (solve_asked asked.now)
         (outside_of (F.state files.old) (O.state out.old) err_old) (outside_of (F.state files.new) (O.state out.new) err_new) f.fault f.found) }
     ensures files { (err_old err_new : SinkState) → KeepsToFiles (solve_asked asked.now)
         (outside_of (F.state files.old) (O.state out.old) err_old) (outside_of (F.state files.new) (O.state out.new) err_new) }
 {
-    let answer = match find(rt, alloc, asked, files, gate) {
-        Ok(answer) => answer,
-        Err(fault) => return Err(Failure { fault, found: None }),
-    };
-    if save(files, asked.certificate, &answer.found, &answer.instance).is_err() {
-        return Err(Failure {
-            fault: Fault::Write { output: false },
-            found: Some(answer.found),
-        });
+    let answer = find(rt, alloc, asked, files, gate)?;
+    match save(files, asked.certificate, &answer.found, &answer.instance) {
+        Ok(()) => {}
+        Err(Failed) => {
+            return Err(Failure {
+                fault: Fault::Write { output: false },
+                found: Some(answer.found),
+            });
+        }
     }
-    if tell(
-        out,
-        &answer.found,
-        &answer.instance,
-        answer.rounded,
-        asked.gap,
-    )
-    .is_err()
-    {
-        return Err(Failure {
+    match tell(out, &answer, asked.gap) {
+        Ok(()) => Ok(End {
+            code: answer.found.status(asked.gap),
+            found: Some(answer.found),
+        }),
+        Err(Failed) => Err(Failure {
             fault: Fault::Write { output: true },
             found: Some(answer.found),
-        });
+        }),
     }
-    Ok(answer.found)
 }
 
 /// A run of `solve`: reads, searches, writes the certificate and then the report, or tells a fault.
@@ -132,17 +130,6 @@ pub(crate) fn solve<R: Wait, F: Files, O: Sink, E: Sink, G: Gate>(
     ensures { IsSolveRun (solve_asked asked.now) (outside_of (F.state files.old) (O.state out.old) (E.state err.old))
         (outside_of (F.state files.new) (O.state out.new) (E.state err.new)) result }
 {
-    match find_and_write(rt, alloc, asked, files, out, gate) {
-        Ok(found) => End {
-            code: found.status(asked.gap),
-            found: Some(found),
-        },
-        Err(failure) => {
-            tell_fault(err, &failure.fault);
-            End {
-                code: failure.fault.code(),
-                found: failure.found,
-            }
-        }
-    }
+    let outcome = find_and_write(rt, alloc, asked, files, out, gate);
+    end_of(err, outcome)
 }

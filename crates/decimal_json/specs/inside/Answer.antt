@@ -1,9 +1,11 @@
 -- What a part of the reader answers, beside the machine of `specs/inside/Scan.antt`.
-use Rattle.std.specs.Prelude.{◌≡◌, ℕ, ◌+◌, ◌<◌, ◌==◌, ◌||◌, ⊤, Bool, true, false, List, [], ◌∷◌, ◌++◌, length, drop, min, encode_utf8, is_some, String, Result, Ok, Err}
+use Rattle.std.specs.Prelude.{◌≡◌, ◌≢◌, ℕ, ◌+◌, ◌<◌, ◌==◌, ◌||◌, ◌⊎◌, ⊤, Bool, true, false, List, [], ◌∷◌, ◌++◌, length, drop, min, encode_utf8, is_some, String, Result, Ok, Err}
 use Rattle.std.specs.Global.{Global}
 use Rattle.std.specs.Str.{bytes_eq}
 use Rattle.indexmap.specs.IndexMap.{IndexMap, get_by_text}
 use Rattle.decimal_json.specs.declared.types.JsonFault.{JsonFault}
+use Rattle.decimal_json.specs.declared.token.Past.{Past}
+use Rattle.decimal_json.specs.declared.token.Past.TheVariants.{Comma, Bracket}
 use Rattle.decimal_json.specs.declared.types.Json.{Json}
 use Rattle.decimal_json.specs.View.{view}
 use Rattle.decimal_json.specs.declared.types.JsonFault.TheVariants.{At, NoMemory}
@@ -172,9 +174,47 @@ ReadsKey test bytes start at k = (outer : List Frame) (ms : List Member) → Has
 abbrev pub BreaksKey : (List ℕ → Bool) → List ℕ → ℕ → JsonFault → Type 0
 BreaksKey test bytes start e = (outer : List Frame) (ms : List Member) → HasKeys test ms → Leads e (scan bytes start outer (key_wanted ms))
 
+-- From one place to another stands a member whose key is none of these, where so many levels more may open.
+abbrev pub ReadsMember : (List ℕ → Bool) → List ℕ → ℕ → ℕ → ℕ → List ℕ → Value → Type 0
+ReadsMember test bytes start at room k v = (outer : List Frame) (ms : List Member) → HasKeys test ms → length outer + (room + 1) ≡ depth_limit
+    → scan bytes start outer (key_wanted ms) ≡ scan bytes at (in_object ms k ∷ outer) (ended v)
+
+-- Where a member has to stand, this is the fault.
+abbrev pub BreaksMember : (List ℕ → Bool) → List ℕ → ℕ → ℕ → JsonFault → Type 0
+BreaksMember test bytes start room e = (outer : List Frame) (ms : List Member) → HasKeys test ms → length outer + (room + 1) ≡ depth_limit
+    → Leads e (scan bytes start outer (key_wanted ms))
+
 -- This byte stands at a place of the input, and is no white space.
 abbrev pub IsToken : List ℕ → ℕ → ℕ → Type 0
 IsToken bytes at c = StandsAt bytes at c × (at < length bytes) × (is_space c ≡ false)
+
+-- Behind white space this byte stands at a place.
+pub record FindsToken (bytes : List ℕ) (start at c : ℕ) : Type 0 where
+  pub skips : SkipsSpace bytes start at
+  pub token : IsToken bytes at c
+
+-- Behind white space stands nothing, or a byte that may not stand there, and this is the fault.
+pub record LacksToken (MayNot : ℕ → Type 0) (bytes : List ℕ) (start : ℕ) (e : JsonFault) : Type 0 where
+  pub at : ℕ
+  pub skips : SkipsSpace bytes start at
+  pub is : e ≡ At at 2
+  pub fails : (drop at bytes ≡ []) ⊎ ((c : ℕ) × IsToken bytes at c × MayNot c)
+
+-- Behind white space this byte stands right before a place.
+pub record PassesToken (bytes : List ℕ) (start next c : ℕ) : Type 0 where
+  pub at : ℕ
+  pub found : FindsToken bytes start at c
+  pub is : next ≡ at + 1
+
+-- What stands behind an item or a member: a comma or a bracket right before the place, or neither, and that is the fault.
+abbrev pub IsBehind : List ℕ → ℕ → ℕ → Result Past JsonFault → Type 0
+IsBehind bytes start bracket (Ok (Comma next)) = PassesToken bytes start next 44
+IsBehind bytes start bracket (Ok (Bracket next)) = PassesToken bytes start next bracket
+IsBehind bytes start bracket (Err e) = LacksToken (λ c. (c ≢ 44) × (c ≢ bracket)) bytes start e
+
+abbrev pub place_of : Past → ℕ
+place_of (Comma next) = next
+place_of (Bracket next) = next
 
 -- the keys that a map has
 abbrev pub knows : {X S : Type 0} → IndexMap (String Global) X S → List ℕ → Bool

@@ -1,122 +1,169 @@
-use Rattle.std.proofs.Common.{◌+◌, List, [], ◌∷◌, ◌++◌, map, sym, ap, subst, ◌∙◌, arith, inl, inr}
+use Rattle.std.specs.Prelude.{Ok}
+use Rattle.std.proofs.Common.{◌+◌, ◌<◌, ◌≤◌, length, [], ◌∷◌, ◌++◌, map, sym, ap, subst, ◌∙◌, arith}
 use Rattle.std.specs.String.{string_bytes}
-use Rattle.decimal_json.specs.Value.{Value, array, object, items_of, members_of}
+use Rattle.decimal_json.specs.Value.{array, object, items_of, members_of}
 use Rattle.decimal_json.specs.Open.{Member}
 use Rattle.decimal_json.specs.inside.Scan.{first_item, first_key}
-use Rattle.decimal_json.specs.inside.Answer.{knows, BreaksValue, ReadsInside, ReadsValue}
+use Rattle.decimal_json.specs.inside.Answer.{knows, IsBehind, place_of, BreaksValue, BreaksInside, BreaksMember, ReadsMember, AddsKey, ReadsInside, ReadsValue}
 use Rattle.decimal_json.specs.View.{view, pair_view}
 use Rattle.decimal_json.proofs.Exits.{passed_on}
-use Rattle.decimal_json.proofs.Values.{token_of, end_of}
 use Rattle.decimal_json.proofs.Views.{view-array, view-object, view-pair, map-push}
 use Rattle.decimal_json.proofs.Keys.{knows_nothing}
-use Rattle.decimal_json.proofs.Inside.{HasItems, HasMembers, array_cut, array_empty, items_begin, array_cut_behind, array_closes, array_no_comma, items_go_on, object_cut, object_empty, members_begin, member_read, object_cut_behind, object_closes, object_no_comma, members_go_on, value_cut, too_deep, array_value_read, array_value_breaks, object_value_read, object_value_breaks}
+use Rattle.decimal_json.proofs.Inside.{HasItems, HasMembers, array_cut, array_empty, items_begin, item_read, item_breaks, array_breaks, array_closes, items_go_on, object_cut, object_empty, members_begin, member_breaks, member_added, member_read, no_member_key, no_member_value, object_breaks, object_closes, members_go_on, value_cut, too_deep, inside_read, inside_breaks, open_array, open_object, scalar_read, scalar_breaks}
 use Rattle.decimal_json.proofs.value.+value.Goals as goal
 
-pub array-returns-in_default-clause-fault : goal.array-returns-in_default-clause-fault
-array-returns-in_default-clause-fault t c =
-    array_cut c.args.source.now c.args.start c.token_at-at.result.0 c.args.room c.no_json.result c.token_at-at.ensures.same c.no_json.ensures (end_of c.args.source.now c.token_at-at.result.0 c.token_at-at.result.1 c.in_default.is c.token_at-at.ensures.end)
+pub array-returns-in_err-at-clause-fault : goal.array-returns-in_err-at-clause-fault
+array-returns-in_err-at-clause-fault t c =
+    passed_on c.from_residual.result c.in_err-at.field-0.0 (BreaksInside c.args.source.now c.args.start first_item c.args.room) c.from_residual.ensures.1
+    (array_cut c.args.source.now c.args.start c.args.room c.in_err-at.field-0.0 c.in_err-at.ensures.fault)
 
 pub array-returns-then-first-eq93-clause-read : goal.array-returns-then-first-eq93-clause-read
 array-returns-then-first-eq93-clause-read t c =
-    subst (λ (vs : List Value). ReadsInside c.args.source.now c.args.start first_item (c.token_at-at.result.0 + 1) c.args.room (array (items_of vs))) (sym (ap (λ xs. map view xs) c.new-items.ensures.items))
-    (array_empty c.args.source.now c.args.start c.token_at-at.result.0 c.in-Some.first c.args.room c.token_at-at.ensures.same (token_of c.args.source.now c.token_at-at.result.0 c.in-Some.first c.token_at-at.result.1 c.in-Some.is c.token_at-at.ensures.byte) c.if-first-eq93.true)
+    subst (λ vs. ReadsInside c.args.source.now c.args.start first_item (c.in_ok-at.at + 1) c.args.room (array (items_of vs))) (sym (ap (λ xs. map view xs) c.new-items.ensures.items))
+    (array_empty c.args.source.now c.args.start c.in_ok-at.at c.in_ok-at.first c.args.room c.in_ok-at.ensures.found c.if-first-eq93.true)
 
 pub array-loop-items-init : goal.array-loop-items-init
 array-loop-items-init t c =
-    subst (λ (vs : List Value). HasItems c.args.source.now c.args.start c.token_at-at.result.0 c.args.room vs) (sym (ap (λ xs. map view xs) c.new-items.ensures.items))
-    (items_begin c.args.source.now c.args.start c.token_at-at.result.0 c.in-Some.first c.args.room c.token_at-at.ensures.same (token_of c.args.source.now c.token_at-at.result.0 c.in-Some.first c.token_at-at.result.1 c.in-Some.is c.token_at-at.ensures.byte) c.if-first-eq93.false c.token_at-at.ensures.within.0)
+    subst (λ vs. HasItems c.args.source.now c.args.start c.in_ok-at.at c.args.room vs) (sym (ap (λ xs. map view xs) c.new-items.ensures.items))
+    (items_begin c.args.source.now c.args.start c.in_ok-at.at c.in_ok-at.first c.args.room c.in_ok-at.ensures.found c.if-first-eq93.false c.in_ok-at.ensures.within.0)
 
-pub array-returns-in_default-byte-clause-fault : goal.array-returns-in_default-byte-clause-fault
-array-returns-in_default-byte-clause-fault t c =
-    array_cut_behind c.args.source.now c.args.start c.loop-items.at c.in_ok-item.end c.token_at-next.result.0 c.args.room (map view c.loop-items.items.items) (view c.in_ok-item.item) c.no_json-in_default-byte.result c.loop-items.invariant c.in_ok-item.ensures.read c.token_at-next.ensures.same
-    c.no_json-in_default-byte.ensures (end_of c.args.source.now c.token_at-next.result.0 c.token_at-next.result.1 c.in_default-byte.is c.token_at-next.ensures.end)
+pub array-returns-in_err-item-clause-fault : goal.array-returns-in_err-item-clause-fault
+array-returns-in_err-item-clause-fault t c =
+    passed_on c.from_residual-in_err-item.result c.in_err-item.field-0.0 (BreaksInside c.args.source.now c.args.start first_item c.args.room) c.from_residual-in_err-item.ensures.1
+    (item_breaks c.args.source.now c.args.start c.loop-items.at c.args.room (map view c.loop-items.items.items) c.in_err-item.field-0.0 c.loop-items.invariant c.in_err-item.ensures.fault)
 
-pub array-returns-then-byte-eq93-clause-read : goal.array-returns-then-byte-eq93-clause-read
-array-returns-then-byte-eq93-clause-read t c =
-    subst (λ (vs : List Value). ReadsInside c.args.source.now c.args.start first_item (c.token_at-next.result.0 + 1) c.args.room (array (items_of vs))) (sym (ap (λ xs. map view xs) c.in_ok-push.ensures.items ∙ map-push view c.loop-items.items.items c.in_ok-item.item))
-    (array_closes c.args.source.now c.args.start c.loop-items.at c.in_ok-item.end c.token_at-next.result.0 c.args.room c.in-Some-byte.byte (map view c.loop-items.items.items) (view c.in_ok-item.item) c.loop-items.invariant c.in_ok-item.ensures.read c.token_at-next.ensures.same (token_of c.args.source.now c.token_at-next.result.0 c.in-Some-byte.byte c.token_at-next.result.1 c.in-Some-byte.is c.token_at-next.ensures.byte) c.if-byte-eq93.true)
+pub array-returns-in_err-next-clause-fault : goal.array-returns-in_err-next-clause-fault
+array-returns-in_err-next-clause-fault t c =
+    passed_on c.from_residual-in_err-next.result c.in_err-next.field-0.0 (BreaksInside c.args.source.now c.args.start first_item c.args.room) c.from_residual-in_err-next.ensures.1
+    (array_breaks c.args.source.now c.args.start c.in_ok-item.end c.args.room (map view c.loop-items.items.items) (view c.in_ok-item.item) c.in_err-next.field-0.0
+    (item_read c.args.source.now c.args.start c.loop-items.at c.in_ok-item.end c.args.room (map view c.loop-items.items.items) (view c.in_ok-item.item) c.loop-items.invariant c.in_ok-item.ensures.read) c.in_err-next.ensures.stands)
 
-pub array-returns-then-byte-ne44-clause-fault : goal.array-returns-then-byte-ne44-clause-fault
-array-returns-then-byte-ne44-clause-fault t c =
-    array_no_comma c.args.source.now c.args.start c.loop-items.at c.in_ok-item.end c.token_at-next.result.0 c.args.room c.in-Some-byte.byte (map view c.loop-items.items.items) (view c.in_ok-item.item) c.no_json-then-byte-ne44.result c.loop-items.invariant c.in_ok-item.ensures.read c.token_at-next.ensures.same
-    c.no_json-then-byte-ne44.ensures (token_of c.args.source.now c.token_at-next.result.0 c.in-Some-byte.byte c.token_at-next.result.1 c.in-Some-byte.is c.token_at-next.ensures.byte) c.if-byte-ne44.true c.if-byte-eq93.false
+pub array-returns-in-Bracket-clause-read : goal.array-returns-in-Bracket-clause-read
+array-returns-in-Bracket-clause-read t c =
+    subst (λ vs. ReadsInside c.args.source.now c.args.start first_item c.in-Bracket.next c.args.room (array (items_of vs)))
+    (sym (ap (λ xs. map view xs) c.in_ok-push.ensures.items ∙ map-push view c.loop-items.items.items c.in_ok-item.item))
+    (array_closes c.args.source.now c.args.start c.in_ok-item.end c.in-Bracket.next c.args.room (map view c.loop-items.items.items) (view c.in_ok-item.item)
+    (item_read c.args.source.now c.args.start c.loop-items.at c.in_ok-item.end c.args.room (map view c.loop-items.items.items) (view c.in_ok-item.item) c.loop-items.invariant c.in_ok-item.ensures.read) (subst (λ p. IsBehind c.args.source.now c.in_ok-item.end 93 (Ok p)) c.in-Bracket.is c.in_ok-next.ensures.stands))
 
 pub array-loop-items-preserved : goal.array-loop-items-preserved
 array-loop-items-preserved t c =
-    subst (λ (vs : List Value). HasItems c.args.source.now c.args.start (c.token_at-next.result.0 + 1) c.args.room vs) (sym (ap (λ xs. map view xs) c.in_ok-push.ensures.items ∙ map-push view c.loop-items.items.items c.in_ok-item.item))
-    (items_go_on c.args.source.now c.args.start c.loop-items.at c.in_ok-item.end c.token_at-next.result.0 c.args.room c.in-Some-byte.byte (map view c.loop-items.items.items) (view c.in_ok-item.item) c.loop-items.invariant c.in_ok-item.ensures.read c.token_at-next.ensures.same (token_of c.args.source.now c.token_at-next.result.0 c.in-Some-byte.byte c.token_at-next.result.1 c.in-Some-byte.is c.token_at-next.ensures.byte) c.if-byte-ne44.false
-    (omega (arith, c.loop-items.invariant.forward, c.in_ok-item.ensures.within.0, c.token_at-next.ensures.within.0)))
+    subst (λ vs. HasItems c.args.source.now c.args.start c.in-Comma.next c.args.room vs)
+    (sym (ap (λ xs. map view xs) c.in_ok-push.ensures.items ∙ map-push view c.loop-items.items.items c.in_ok-item.item))
+    (items_go_on c.args.source.now c.args.start c.in_ok-item.end c.in-Comma.next c.args.room (map view c.loop-items.items.items) (view c.in_ok-item.item)
+    (item_read c.args.source.now c.args.start c.loop-items.at c.in_ok-item.end c.args.room (map view c.loop-items.items.items) (view c.in_ok-item.item) c.loop-items.invariant c.in_ok-item.ensures.read) (subst (λ p. IsBehind c.args.source.now c.in_ok-item.end 93 (Ok p)) c.in-Comma.is c.in_ok-next.ensures.stands)
+    (let within = subst (λ p. (c.in_ok-item.end < place_of p) × (place_of p ≤ length c.args.source.now)) c.in-Comma.is c.in_ok-next.ensures.within in
+    omega (arith, c.loop-items.invariant.forward, c.in_ok-item.ensures.within.0, within.0)))
 
-pub object-returns-in_default-clause-fault : goal.object-returns-in_default-clause-fault
-object-returns-in_default-clause-fault t c =
-    object_cut c.args.source.now c.args.start c.token_at-at.result.0 c.args.room c.no_json.result c.token_at-at.ensures.same c.no_json.ensures (end_of c.args.source.now c.token_at-at.result.0 c.token_at-at.result.1 c.in_default.is c.token_at-at.ensures.end)
+pub object-returns-in_err-at-clause-fault : goal.object-returns-in_err-at-clause-fault
+object-returns-in_err-at-clause-fault t c =
+    passed_on c.from_residual.result c.in_err-at.field-0.0 (BreaksInside c.args.source.now c.args.start first_key c.args.room) c.from_residual.ensures.1
+    (object_cut c.args.source.now c.args.start c.args.room c.in_err-at.field-0.0 c.in_err-at.ensures.fault)
 
 pub object-returns-then-first-eq125-clause-read : goal.object-returns-then-first-eq125-clause-read
 object-returns-then-first-eq125-clause-read t c =
-    subst (λ (ms : List Member). ReadsInside c.args.source.now c.args.start first_key (c.token_at-at.result.0 + 1) c.args.room (object (members_of ms))) (sym (ap (λ xs. map pair_view xs) c.new-pairs.ensures.items))
-    (object_empty c.args.source.now c.args.start c.token_at-at.result.0 c.in-Some.first c.args.room c.token_at-at.ensures.same (token_of c.args.source.now c.token_at-at.result.0 c.in-Some.first c.token_at-at.result.1 c.in-Some.is c.token_at-at.ensures.byte) c.if-first-eq125.true)
+    subst (λ ms. ReadsInside c.args.source.now c.args.start first_key (c.in_ok-at.at + 1) c.args.room (object (members_of ms))) (sym (ap (λ xs. map pair_view xs) c.new-pairs.ensures.items))
+    (object_empty c.args.source.now c.args.start c.in_ok-at.at c.in_ok-at.first c.args.room c.in_ok-at.ensures.found c.if-first-eq125.true)
 
 pub object-loop-places-init : goal.object-loop-places-init
 object-loop-places-init t c =
-    subst (λ (ms : List Member). HasMembers c.args.source.now c.args.start c.token_at-at.result.0 c.args.room ms (knows c.new-places.result)) (sym (ap (λ xs. map pair_view xs) c.new-pairs.ensures.items))
-    (members_begin c.args.source.now c.args.start c.token_at-at.result.0 c.in-Some.first c.args.room (knows c.new-places.result) c.token_at-at.ensures.same (token_of c.args.source.now c.token_at-at.result.0 c.in-Some.first c.token_at-at.result.1 c.in-Some.is c.token_at-at.ensures.byte) c.if-first-eq125.false c.token_at-at.ensures.within.0
-    (knows_nothing c.new-places.result c.new-places.ensures.empty))
+    subst (λ ms. HasMembers c.args.source.now c.args.start c.in_ok-at.at c.args.room ms (knows c.new-places.result)) (sym (ap (λ xs. map pair_view xs) c.new-pairs.ensures.items))
+    (members_begin c.args.source.now c.args.start c.in_ok-at.at c.in_ok-at.first c.args.room (knows c.new-places.result) c.in_ok-at.ensures.found c.if-first-eq125.false
+    c.in_ok-at.ensures.within.0 (knows_nothing c.new-places.result c.new-places.ensures.empty))
 
-pub object-returns-in_default-byte-clause-fault : goal.object-returns-in_default-byte-clause-fault
-object-returns-in_default-byte-clause-fault t c =
-    object_cut_behind c.args.source.now c.args.start c.token_at-next.result.0 c.args.room (map pair_view c.loop-places.pairs.items) (string_bytes c.in_ok-key.key) (view c.in_ok-value.value) c.no_json-in_default-byte.result (member_read c.args.source.now c.args.start c.loop-places.at c.in_ok-key.colon c.in_ok-value.end c.token_at-next.result.0 c.args.room (map pair_view c.loop-places.pairs.items) (knows c.loop-places.places) (string_bytes c.in_ok-key.key) (view c.in_ok-value.value) c.loop-places.invariant c.in_ok-key.ensures.read c.in_ok-value.ensures.read c.token_at-next.ensures.same) c.no_json-in_default-byte.ensures (end_of c.args.source.now c.token_at-next.result.0 c.token_at-next.result.1 c.in_default-byte.is c.token_at-next.ensures.end)
+pub object-returns-in_err-pair-clause-fault : goal.object-returns-in_err-pair-clause-fault
+object-returns-in_err-pair-clause-fault t c =
+    passed_on c.from_residual-in_err-pair.result c.in_err-pair.field-0.0 (BreaksInside c.args.source.now c.args.start first_key c.args.room) c.from_residual-in_err-pair.ensures.1
+    (member_breaks c.args.source.now c.args.start c.loop-places.at c.args.room (map pair_view c.loop-places.pairs.items) (knows c.loop-places.places) c.in_err-pair.field-0.0
+    c.loop-places.invariant c.in_err-pair.ensures.fault)
 
-pub object-returns-then-byte-eq125-clause-read : goal.object-returns-then-byte-eq125-clause-read
-object-returns-then-byte-eq125-clause-read t c =
-    subst (λ (ms : List Member). ReadsInside c.args.source.now c.args.start first_key (c.token_at-next.result.0 + 1) c.args.room (object (members_of ms))) (sym (ap (λ xs. map pair_view xs) c.in_ok-push.ensures.items ∙ (map-push pair_view c.loop-places.pairs.items _ ∙ ap (λ p. map pair_view c.loop-places.pairs.items ++ p ∷ []) (view-pair c.in_ok-key.key c.in_ok-value.value))))
-    (object_closes c.args.source.now c.args.start c.token_at-next.result.0 c.args.room c.in-Some-byte.byte (map pair_view c.loop-places.pairs.items) (string_bytes c.in_ok-key.key) (view c.in_ok-value.value) (member_read c.args.source.now c.args.start c.loop-places.at c.in_ok-key.colon c.in_ok-value.end c.token_at-next.result.0 c.args.room (map pair_view c.loop-places.pairs.items) (knows c.loop-places.places) (string_bytes c.in_ok-key.key) (view c.in_ok-value.value) c.loop-places.invariant c.in_ok-key.ensures.read c.in_ok-value.ensures.read c.token_at-next.ensures.same) (token_of c.args.source.now c.token_at-next.result.0 c.in-Some-byte.byte c.token_at-next.result.1 c.in-Some-byte.is c.token_at-next.ensures.byte) c.if-byte-eq125.true)
+pub object-returns-in_err-next-clause-fault : goal.object-returns-in_err-next-clause-fault
+object-returns-in_err-next-clause-fault t c =
+    passed_on c.from_residual-in_err-next.result c.in_err-next.field-0.0 (BreaksInside c.args.source.now c.args.start first_key c.args.room) c.from_residual-in_err-next.ensures.1
+    (object_breaks c.args.source.now c.args.start c.in_ok-pair.end c.args.room (map pair_view c.loop-places.pairs.items) (pair_view c.in_ok-pair.pair).0 (pair_view c.in_ok-pair.pair).1 c.in_err-next.field-0.0
+    (member_added c.args.source.now c.args.start c.loop-places.at c.in_ok-pair.end c.args.room (map pair_view c.loop-places.pairs.items) (knows c.loop-places.places)
+    (pair_view c.in_ok-pair.pair).0 (pair_view c.in_ok-pair.pair).1 c.loop-places.invariant c.in_ok-pair.ensures.read)
+    c.in_err-next.ensures.stands)
 
-pub object-returns-then-byte-ne44-clause-fault : goal.object-returns-then-byte-ne44-clause-fault
-object-returns-then-byte-ne44-clause-fault t c =
-    object_no_comma c.args.source.now c.args.start c.token_at-next.result.0 c.args.room c.in-Some-byte.byte (map pair_view c.loop-places.pairs.items) (string_bytes c.in_ok-key.key) (view c.in_ok-value.value) c.no_json-then-byte-ne44.result (member_read c.args.source.now c.args.start c.loop-places.at c.in_ok-key.colon c.in_ok-value.end c.token_at-next.result.0 c.args.room (map pair_view c.loop-places.pairs.items) (knows c.loop-places.places) (string_bytes c.in_ok-key.key) (view c.in_ok-value.value) c.loop-places.invariant c.in_ok-key.ensures.read c.in_ok-value.ensures.read c.token_at-next.ensures.same) c.no_json-then-byte-ne44.ensures (token_of c.args.source.now c.token_at-next.result.0 c.in-Some-byte.byte c.token_at-next.result.1 c.in-Some-byte.is c.token_at-next.ensures.byte) c.if-byte-ne44.true c.if-byte-eq125.false
+pub object-returns-in-Bracket-clause-read : goal.object-returns-in-Bracket-clause-read
+object-returns-in-Bracket-clause-read t c =
+    subst (λ ms. ReadsInside c.args.source.now c.args.start first_key c.in-Bracket.next c.args.room (object (members_of ms)))
+    (sym (ap (λ xs. map pair_view xs) c.in_ok-push.ensures.items ∙ map-push pair_view c.loop-places.pairs.items c.in_ok-pair.pair))
+    (object_closes c.args.source.now c.args.start c.in_ok-pair.end c.in-Bracket.next c.args.room (map pair_view c.loop-places.pairs.items) (pair_view c.in_ok-pair.pair).0 (pair_view c.in_ok-pair.pair).1
+    (member_added c.args.source.now c.args.start c.loop-places.at c.in_ok-pair.end c.args.room (map pair_view c.loop-places.pairs.items) (knows c.loop-places.places)
+    (pair_view c.in_ok-pair.pair).0 (pair_view c.in_ok-pair.pair).1 c.loop-places.invariant c.in_ok-pair.ensures.read)
+    (subst (λ p. IsBehind c.args.source.now c.in_ok-pair.end 125 (Ok p)) c.in-Bracket.is c.in_ok-next.ensures.stands))
 
 pub object-loop-places-preserved : goal.object-loop-places-preserved
 object-loop-places-preserved t c =
-    subst (λ (ms : List Member). HasMembers c.args.source.now c.args.start (c.token_at-next.result.0 + 1) c.args.room ms (knows c.key.new.places)) (sym (ap (λ xs. map pair_view xs) c.in_ok-push.ensures.items ∙ (map-push pair_view c.loop-places.pairs.items _ ∙ ap (λ p. map pair_view c.loop-places.pairs.items ++ p ∷ []) (view-pair c.in_ok-key.key c.in_ok-value.value))))
-    (members_go_on c.args.source.now c.args.start c.token_at-next.result.0 c.args.room c.in-Some-byte.byte (map pair_view c.loop-places.pairs.items) (string_bytes c.in_ok-key.key) (view c.in_ok-value.value) (knows c.loop-places.places) (knows c.key.new.places) (member_read c.args.source.now c.args.start c.loop-places.at c.in_ok-key.colon c.in_ok-value.end c.token_at-next.result.0 c.args.room (map pair_view c.loop-places.pairs.items) (knows c.loop-places.places) (string_bytes c.in_ok-key.key) (view c.in_ok-value.value) c.loop-places.invariant c.in_ok-key.ensures.read c.in_ok-value.ensures.read c.token_at-next.ensures.same) c.loop-places.invariant.keys
-    c.in_ok-key.ensures.known (token_of c.args.source.now c.token_at-next.result.0 c.in-Some-byte.byte c.token_at-next.result.1 c.in-Some-byte.is c.token_at-next.ensures.byte) c.if-byte-ne44.false
-    (omega (arith, c.loop-places.invariant.forward, c.in_ok-key.ensures.within.0, c.in_ok-value.ensures.within.0, c.token_at-next.ensures.within.0)))
+    subst (λ ms. HasMembers c.args.source.now c.args.start c.in-Comma.next c.args.room ms (knows c.member.new.places))
+    (sym (ap (λ xs. map pair_view xs) c.in_ok-push.ensures.items ∙ map-push pair_view c.loop-places.pairs.items c.in_ok-pair.pair))
+    (members_go_on c.args.source.now c.args.start c.in_ok-pair.end c.in-Comma.next c.args.room (map pair_view c.loop-places.pairs.items) (pair_view c.in_ok-pair.pair).0 (pair_view c.in_ok-pair.pair).1 (knows c.loop-places.places) (knows c.member.new.places)
+    (member_added c.args.source.now c.args.start c.loop-places.at c.in_ok-pair.end c.args.room (map pair_view c.loop-places.pairs.items) (knows c.loop-places.places)
+    (pair_view c.in_ok-pair.pair).0 (pair_view c.in_ok-pair.pair).1 c.loop-places.invariant c.in_ok-pair.ensures.read)
+    c.loop-places.invariant.keys c.in_ok-pair.ensures.known (subst (λ p. IsBehind c.args.source.now c.in_ok-pair.end 125 (Ok p)) c.in-Comma.is c.in_ok-next.ensures.stands)
+    (let within = subst (λ p. (c.in_ok-pair.end < place_of p) × (place_of p ≤ length c.args.source.now)) c.in-Comma.is c.in_ok-next.ensures.within in
+    omega (arith, c.loop-places.invariant.forward, c.in_ok-pair.ensures.within.0, within.0)))
 
-pub value-returns-in_default-clause-fault : goal.value-returns-in_default-clause-fault
-value-returns-in_default-clause-fault t c =
-    value_cut c.args.source.now c.args.start c.token_at-at.result.0 c.args.room c.no_json.result c.token_at-at.ensures.same c.no_json.ensures
-    (end_of c.args.source.now c.token_at-at.result.0 c.token_at-at.result.1 c.in_default.is c.token_at-at.ensures.end)
+pub value-returns-in_err-at-clause-fault : goal.value-returns-in_err-at-clause-fault
+value-returns-in_err-at-clause-fault t c =
+    passed_on c.from_residual.result c.in_err-at.field-0.0 (BreaksValue c.args.source.now c.args.start c.args.room) c.from_residual.ensures.1
+    (value_cut c.args.source.now c.args.start c.args.room c.in_err-at.field-0.0 c.in_err-at.ensures.fault)
 
 pub value-returns-in_err-less-in-91-clause-fault : goal.value-returns-in_err-less-in-91-clause-fault
 value-returns-in_err-less-in-91-clause-fault t c =
-    passed_on c.from_residual.result c.in_err-less-in-91.field-0.0 (BreaksValue c.args.source.now c.args.start c.args.room) c.from_residual.ensures.1
-    (too_deep c.args.source.now c.args.start c.token_at-at.result.0 c.args.room c.in-Some.first c.in_err-less-in-91.field-0.0 c.token_at-at.ensures.same c.in_err-less-in-91.ensures.fault.0 (token_of c.args.source.now c.token_at-at.result.0 c.in-Some.first c.token_at-at.result.1 c.in-Some.is c.token_at-at.ensures.byte) (inl c.in-91.is) c.in_err-less-in-91.ensures.fault.1)
+    passed_on c.from_residual-in_err-less-in-91.result c.in_err-less-in-91.field-0.0 (BreaksValue c.args.source.now c.args.start c.args.room) c.from_residual-in_err-less-in-91.ensures.1
+    (too_deep c.args.source.now c.args.start c.in_ok-at.at c.args.room c.in_ok-at.first 91 first_item c.in_err-less-in-91.field-0.0 open_array c.in_ok-at.ensures.found
+    c.in-91.is c.in_err-less-in-91.ensures.fault.0 c.in_err-less-in-91.ensures.fault.1)
 
 pub value-returns-in_err-items-in-91-clause-fault : goal.value-returns-in_err-items-in-91-clause-fault
 value-returns-in_err-items-in-91-clause-fault t c =
     passed_on c.from_residual-in_err-items-in-91.result c.in_err-items-in-91.field-0.0 (BreaksValue c.args.source.now c.args.start c.args.room) c.from_residual-in_err-items-in-91.ensures.1
-    (array_value_breaks c.args.source.now c.args.start c.token_at-at.result.0 c.args.room c.in_ok-less-in-91.less c.in-Some.first c.in_err-items-in-91.field-0.0 c.token_at-at.ensures.same (token_of c.args.source.now c.token_at-at.result.0 c.in-Some.first c.token_at-at.result.1 c.in-Some.is c.token_at-at.ensures.byte) c.in-91.is c.in_ok-less-in-91.ensures.less
-    c.in_err-items-in-91.ensures.fault)
+    (inside_breaks c.args.source.now c.args.start c.in_ok-at.at c.args.room c.in_ok-less-in-91.less c.in_ok-at.first 91 first_item c.in_err-items-in-91.field-0.0 open_array
+    c.in_ok-at.ensures.found c.in-91.is c.in_ok-less-in-91.ensures.less c.in_err-items-in-91.ensures.fault)
 
 pub value-returns-in_ok-items-in-91-clause-read : goal.value-returns-in_ok-items-in-91-clause-read
 value-returns-in_ok-items-in-91-clause-read t c =
-    subst (λ (v : Value). ReadsValue c.args.source.now c.args.start c.in_ok-items-in-91.end c.args.room v) (sym (view-array c.in_ok-items-in-91.items))
-    (array_value_read c.args.source.now c.args.start c.token_at-at.result.0 c.in_ok-items-in-91.end c.args.room c.in_ok-less-in-91.less c.in-Some.first _ c.token_at-at.ensures.same (token_of c.args.source.now c.token_at-at.result.0 c.in-Some.first c.token_at-at.result.1 c.in-Some.is c.token_at-at.ensures.byte) c.in-91.is c.in_ok-less-in-91.ensures.less
-    c.in_ok-items-in-91.ensures.read)
+    subst (λ v. ReadsValue c.args.source.now c.args.start c.in_ok-items-in-91.end c.args.room v) (sym (view-array c.in_ok-items-in-91.items))
+    (inside_read c.args.source.now c.args.start c.in_ok-at.at c.in_ok-items-in-91.end c.args.room c.in_ok-less-in-91.less c.in_ok-at.first 91 first_item _ open_array
+    c.in_ok-at.ensures.found c.in-91.is c.in_ok-less-in-91.ensures.less c.in_ok-items-in-91.ensures.read)
 
 pub value-returns-in_err-less-in-123-clause-fault : goal.value-returns-in_err-less-in-123-clause-fault
 value-returns-in_err-less-in-123-clause-fault t c =
     passed_on c.from_residual-in_err-less-in-123.result c.in_err-less-in-123.field-0.0 (BreaksValue c.args.source.now c.args.start c.args.room) c.from_residual-in_err-less-in-123.ensures.1
-    (too_deep c.args.source.now c.args.start c.token_at-at.result.0 c.args.room c.in-Some.first c.in_err-less-in-123.field-0.0 c.token_at-at.ensures.same c.in_err-less-in-123.ensures.fault.0 (token_of c.args.source.now c.token_at-at.result.0 c.in-Some.first c.token_at-at.result.1 c.in-Some.is c.token_at-at.ensures.byte) (inr c.in-123.is) c.in_err-less-in-123.ensures.fault.1)
+    (too_deep c.args.source.now c.args.start c.in_ok-at.at c.args.room c.in_ok-at.first 123 first_key c.in_err-less-in-123.field-0.0 open_object c.in_ok-at.ensures.found
+    c.in-123.is c.in_err-less-in-123.ensures.fault.0 c.in_err-less-in-123.ensures.fault.1)
 
 pub value-returns-in_err-pairs-in-123-clause-fault : goal.value-returns-in_err-pairs-in-123-clause-fault
 value-returns-in_err-pairs-in-123-clause-fault t c =
     passed_on c.from_residual-in_err-pairs-in-123.result c.in_err-pairs-in-123.field-0.0 (BreaksValue c.args.source.now c.args.start c.args.room) c.from_residual-in_err-pairs-in-123.ensures.1
-    (object_value_breaks c.args.source.now c.args.start c.token_at-at.result.0 c.args.room c.in_ok-less-in-123.less c.in-Some.first c.in_err-pairs-in-123.field-0.0 c.token_at-at.ensures.same (token_of c.args.source.now c.token_at-at.result.0 c.in-Some.first c.token_at-at.result.1 c.in-Some.is c.token_at-at.ensures.byte) c.in-123.is c.in_ok-less-in-123.ensures.less
-    c.in_err-pairs-in-123.ensures.fault)
+    (inside_breaks c.args.source.now c.args.start c.in_ok-at.at c.args.room c.in_ok-less-in-123.less c.in_ok-at.first 123 first_key c.in_err-pairs-in-123.field-0.0 open_object
+    c.in_ok-at.ensures.found c.in-123.is c.in_ok-less-in-123.ensures.less c.in_err-pairs-in-123.ensures.fault)
 
 pub value-returns-in_ok-pairs-in-123-clause-read : goal.value-returns-in_ok-pairs-in-123-clause-read
 value-returns-in_ok-pairs-in-123-clause-read t c =
-    subst (λ (v : Value). ReadsValue c.args.source.now c.args.start c.in_ok-pairs-in-123.end c.args.room v) (sym (view-object c.in_ok-pairs-in-123.pairs))
-    (object_value_read c.args.source.now c.args.start c.token_at-at.result.0 c.in_ok-pairs-in-123.end c.args.room c.in_ok-less-in-123.less c.in-Some.first _ c.token_at-at.ensures.same (token_of c.args.source.now c.token_at-at.result.0 c.in-Some.first c.token_at-at.result.1 c.in-Some.is c.token_at-at.ensures.byte) c.in-123.is c.in_ok-less-in-123.ensures.less
-    c.in_ok-pairs-in-123.ensures.read)
+    subst (λ v. ReadsValue c.args.source.now c.args.start c.in_ok-pairs-in-123.end c.args.room v) (sym (view-object c.in_ok-pairs-in-123.pairs))
+    (inside_read c.args.source.now c.args.start c.in_ok-at.at c.in_ok-pairs-in-123.end c.args.room c.in_ok-less-in-123.less c.in_ok-at.first 123 first_key _ open_object
+    c.in_ok-at.ensures.found c.in-123.is c.in_ok-less-in-123.ensures.less c.in_ok-pairs-in-123.ensures.read)
+
+pub member-returns-in_err-key-clause-fault : goal.member-returns-in_err-key-clause-fault
+member-returns-in_err-key-clause-fault t c =
+    passed_on c.from_residual.result c.in_err-key.field-0.0 (BreaksMember (knows c.args.places.now) c.args.source.now c.args.start c.args.room) c.from_residual.ensures.1
+    (no_member_key c.args.source.now c.args.start c.args.room (knows c.args.places.now) c.in_err-key.field-0.0 c.in_err-key.ensures.fault)
+
+pub member-returns-in_err-value-clause-fault : goal.member-returns-in_err-value-clause-fault
+member-returns-in_err-value-clause-fault t c =
+    passed_on c.from_residual-in_err-value.result c.in_err-value.field-0.0 (BreaksMember (knows c.args.places.now) c.args.source.now c.args.start c.args.room) c.from_residual-in_err-value.ensures.1
+    (no_member_value c.args.source.now c.args.start c.in_ok-key.colon c.args.room (knows c.args.places.now) (string_bytes c.in_ok-key.key) c.in_err-value.field-0.0
+    c.in_ok-key.ensures.read c.in_err-value.ensures.fault)
+
+pub member-returns-clause-read : goal.member-returns-clause-read
+member-returns-clause-read t c =
+    subst (λ (m : Member). ReadsMember (knows c.args.places.now) c.args.source.now c.args.start c.in_ok-value.end c.args.room m.0 m.1)
+    (sym (view-pair c.in_ok-key.key c.in_ok-value.value))
+    (member_read c.args.source.now c.args.start c.in_ok-key.colon c.in_ok-value.end c.args.room (knows c.args.places.now)
+    (string_bytes c.in_ok-key.key) (view c.in_ok-value.value) c.in_ok-key.ensures.read c.in_ok-value.ensures.read)
+
+pub member-returns-clause-known : goal.member-returns-clause-known
+member-returns-clause-known t c =
+    subst (λ (m : Member). AddsKey (knows c.args.places.now) (knows c.key.new.places) m.0)
+    (sym (view-pair c.in_ok-key.key c.in_ok-value.value)) c.in_ok-key.ensures.known

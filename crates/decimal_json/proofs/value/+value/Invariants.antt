@@ -5,13 +5,16 @@ use Rattle.decimal_json.proofs.Inside.{HasItems, HasMembers}
 use Rattle.decimal_json.proofs.value.+value.Given as goal
 
 abbrev pub decreases-value : goal.decreases-value
-decreases-value l = 2 * l.room
+decreases-value l = 3 * l.room
 
 abbrev pub decreases-array : goal.decreases-array
-decreases-array l = 2 * l.room + 1
+decreases-array l = 3 * l.room + 2
 
 abbrev pub decreases-object : goal.decreases-object
-decreases-object l = 2 * l.room + 1
+decreases-object l = 3 * l.room + 2
+
+abbrev pub decreases-member : goal.decreases-member
+decreases-member l = 3 * l.room + 1
 
 abbrev pub invariant-array-loop-items : goal.invariant-array-loop-items
 invariant-array-loop-items l = HasItems l.source l.start l.at l.room (map view l.items.items)

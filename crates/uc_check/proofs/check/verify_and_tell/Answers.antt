@@ -1,31 +1,46 @@
 -- Each end from the steps before it.
-use Rattle.std.proofs.Common.{◌∙◌, sym}
-use Rattle.uc_check.proofs.Tested.{at_err, at_ok}
-use Rattle.uc_check.proofs.Verdicts.{stopped_failure, untold, accepted}
+use Rattle.std.specs.Prelude.{None, refl}
+use Rattle.uc_check.specs.Writing.{IsTold, FailsToTell}
+use Rattle.uc_check.proofs.Verdicts.{handed_up, stopped_failure, of_claims}
 use Rattle.uc_check.proofs.check.verify_and_tell.Goals as goal
+
+pub returns-in_err-claims-clause-failed : goal.returns-in_err-claims-clause-failed
+returns-in_err-claims-clause-failed g c = λ err_old err_new.
+    let fault = c.in_err-claims.field-0.0 in
+    handed_up c.from_residual.result (record { fault = fault; found = None }) _ c.from_residual.ensures.1
+    (stopped_failure _ _ fault (c.in_err-claims.ensures.stopped (g.O.Sink.state c.args.out.now) err_old err_new))
+
+pub returns-in_err-claims-clause-files : goal.returns-in_err-claims-clause-files
+returns-in_err-claims-clause-files g c = λ err_old err_new.
+    c.in_err-claims.ensures.files (g.O.Sink.state c.args.out.now) (g.O.Sink.state c.args.out.now) err_old err_new
+
+pub returns-in-Ok-clause-done : goal.returns-in-Ok-clause-done
+returns-in-Ok-clause-done g c = λ err_old err_new.
+    let verified = c.in_ok-claims.ensures.verified in
+    record {
+      code = refl;
+      nothing = refl;
+      done = record {
+        certificate = verified.certificate;
+        verified = verified.verified;
+        told = of_claims (λ text. IsTold text (g.O.Sink.state c.args.out.now) (g.O.Sink.state c.tell_claims.new.out)) verified.certificate c.in_ok-claims.claims verified.claimed c.in-Ok.ensures.told;
+        calm = verified.calm;
+      };
+    }
+
+pub returns-in-Ok-clause-files : goal.returns-in-Ok-clause-files
+returns-in-Ok-clause-files g c = λ err_old err_new.
+    c.in_ok-claims.ensures.files (g.O.Sink.state c.args.out.now) (g.O.Sink.state c.tell_claims.new.out) err_old err_new
 
 pub returns-in-Err-clause-failed : goal.returns-in-Err-clause-failed
 returns-in-Err-clause-failed g c = λ err_old err_new.
-    stopped_failure _ _ c.in-Err.fault (c.in-Err.ensures.stopped (g.O.Sink.state c.args.out.now) err_old err_new)
+    let verified = c.in_ok-claims.ensures.verified in
+    record {
+      certificate = verified.certificate;
+      verified = verified.verified;
+      report = of_claims (λ text. FailsToTell text (g.O.Sink.state c.args.out.now) (g.O.Sink.state c.tell_claims.new.out)) verified.certificate c.in_ok-claims.claims verified.claimed c.in-Err.ensures.failed;
+    }
 
 pub returns-in-Err-clause-files : goal.returns-in-Err-clause-files
 returns-in-Err-clause-files g c = λ err_old err_new.
-    c.in-Err.ensures.files (g.O.Sink.state c.args.out.now) (g.O.Sink.state c.args.out.now) err_old err_new
-
-pub returns-then-is_err-clause-failed : goal.returns-then-is_err-clause-failed
-returns-then-is_err-clause-failed g c = λ err_old err_new.
-    untold _ _ (g.O.Sink.state c.args.out.now) (g.O.Sink.state c.tell_claims.new.out) err_old err_new c.in-Ok.claims c.in-Ok.ensures.verified
-    (at_err c.tell_claims.result (sym c.is_err.ensures.value ∙ c.if-is_err.true) c.tell_claims.ensures.failed)
-
-pub returns-then-is_err-clause-files : goal.returns-then-is_err-clause-files
-returns-then-is_err-clause-files g c = λ err_old err_new.
-    c.in-Ok.ensures.files (g.O.Sink.state c.args.out.now) (g.O.Sink.state c.tell_claims.new.out) err_old err_new
-
-pub returns-clause-done : goal.returns-clause-done
-returns-clause-done g c = λ err_old err_new.
-    accepted _ _ (g.O.Sink.state c.args.out.now) (g.O.Sink.state c.tell_claims.new.out) err_old err_new c.in-Ok.claims c.in-Ok.ensures.verified
-    (at_ok c.tell_claims.result (sym c.is_err.ensures.value ∙ c.if-is_err.false) c.tell_claims.ensures.told)
-
-pub returns-clause-files : goal.returns-clause-files
-returns-clause-files g c = λ err_old err_new.
-    c.in-Ok.ensures.files (g.O.Sink.state c.args.out.now) (g.O.Sink.state c.tell_claims.new.out) err_old err_new
+    c.in_ok-claims.ensures.files (g.O.Sink.state c.args.out.now) (g.O.Sink.state c.tell_claims.new.out) err_old err_new

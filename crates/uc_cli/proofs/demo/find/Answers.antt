@@ -1,10 +1,8 @@
 -- What the search answers for the instance of the seed.
-use Rattle.std.proofs.lemmas.Result.{IfOk-weaker}
 use Rattle.uc_cli.proofs.SearchResults.{demo_answered}
 use Rattle.uc_cli.proofs.demo.find.Goals as goal
 
-pub returns : goal.returns
-returns g c =
-    IfOk-weaker c.search.result _ _
-    (λ found result. demo_answered c.args.seed c.in_ok-instance.instance found c.in_ok-instance.ensures.generated c.in_ok-instance.ensures.lawful result)
-    c.search.ensures.result
+pub returns-clause-answer : goal.returns-clause-answer
+returns-clause-answer g c =
+    demo_answered c.args.seed c.in_ok-instance.instance c.in_ok-found.found c.in_ok-instance.ensures.generated c.in_ok-instance.ensures.lawful
+    c.in_ok-found.ensures.result

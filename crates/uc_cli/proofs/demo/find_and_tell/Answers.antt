@@ -1,16 +1,24 @@
 -- Each end from the steps before it.
-use Rattle.std.proofs.Common.{◌∙◌, sym}
-use Rattle.uc_check.proofs.Tested.{at_err, at_ok}
+use Rattle.std.proofs.Common.{refl, sym, subst}
+use Rattle.std.specs.Prelude.{None}
+use Rattle.uc_check.specs.Asked.{demo_asked}
+use Rattle.uc_check.proofs.Verdicts.{handed_up}
+use Rattle.uc_cli.specs.DemoRun.{IsDemoFailure}
 use Rattle.uc_cli.proofs.demo.find_and_tell.Goals as goal
 
-pub returns-then-is_err-clause-failed : goal.returns-then-is_err-clause-failed
-returns-then-is_err-clause-failed g c = record {
-  answer = c.in-Ok.ensures;
-  report = at_err c.tell_found.result (sym c.is_err.ensures.value ∙ c.if-is_err.true) c.tell_found.ensures.failed;
+pub returns-in_err-found-clause-failed : goal.returns-in_err-found-clause-failed
+returns-in_err-found-clause-failed g c =
+    let out = g.O.Sink.state c.args.out.now in
+    handed_up c.from_residual.result (record { fault = c.in_err-found.field-0.0; found = None }) _ c.from_residual.ensures.1
+    (subst (λ fault. IsDemoFailure (demo_asked c.args.asked.now) out out fault None) (sym c.in_err-found.ensures.memory) refl)
+
+pub returns-in-Ok-clause-done : goal.returns-in-Ok-clause-done
+returns-in-Ok-clause-done g c = record {
+  found = c.in_ok-found.found;
+  is_found = refl;
+  code = c.status.ensures;
+  done = record { answer = c.in_ok-found.ensures.answer; told = c.in-Ok.ensures.told };
 }
 
-pub returns-clause-done : goal.returns-clause-done
-returns-clause-done g c = record {
-  answer = c.in-Ok.ensures;
-  told = at_ok c.tell_found.result (sym c.is_err.ensures.value ∙ c.if-is_err.false) c.tell_found.ensures.told;
-}
+pub returns-in-Err-clause-failed : goal.returns-in-Err-clause-failed
+returns-in-Err-clause-failed g c = record { answer = c.in_ok-found.ensures.answer; report = c.in-Err.ensures.failed }

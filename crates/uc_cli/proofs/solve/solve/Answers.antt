@@ -1,31 +1,12 @@
 -- The run ended with an answer, or with a fault that it told.
-use Rattle.std.proofs.Common.{inl, inr, refl}
+use Rattle.uc_check.proofs.Endings.{ended}
 use Rattle.uc_cli.proofs.solve.solve.Goals as goal
 
-pub returns-in-Ok : goal.returns-in-Ok
-returns-in-Ok g c =
-    let err = g.E.Sink.state c.args.err.now in
-    record {
-      files = c.in-Ok.ensures.files err err;
-      ended = inl (record {
-        found = c.in-Ok.found;
-        is_found = refl;
-        code = c.status.ensures;
-        done = c.in-Ok.ensures.done err err;
-        silent = refl;
-      });
-    }
-
-pub returns-in-Err : goal.returns-in-Err
-returns-in-Err g c =
+pub returns : goal.returns
+returns g c =
     let old = g.E.Sink.state c.args.err.now in
-    let new = g.E.Sink.state c.tell_fault.new.err in
+    let new = g.E.Sink.state c.end_of.new.err in
     record {
-      files = c.in-Err.ensures.files old new;
-      ended = inr (record {
-        fault = c.in-Err.failure.fault;
-        code = c.code.ensures;
-        failure = c.in-Err.ensures.failed old new;
-        told = c.tell_fault.ensures;
-      });
+      files = c.find_and_write-outcome.ensures.files old new;
+      ended = ended _ _ _ _ _ _ (c.find_and_write-outcome.ensures.done old new) (c.find_and_write-outcome.ensures.failed old new) c.end_of.ensures;
     }

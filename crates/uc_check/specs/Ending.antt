@@ -1,0 +1,31 @@
+-- How a run ends, by what it came to. This project's own.
+use Rattle.std.specs.Prelude.{◌≡◌, ◌⊎◌, Option, Result, Ok, Err}
+use Rattle.outside.specs.Sinks.{SinkState}
+use Rattle.branch_tree.specs.declared.found.Found.{Found}
+use Rattle.report.specs.FaultText.{status_of}
+use Rattle.report.specs.declared.fault.Fault.{Fault}
+use Rattle.uc_check.specs.Writing.{TellsFault}
+use Rattle.uc_check.specs.declared.ending.End.{End}
+use Rattle.uc_check.specs.declared.ending.Failure.{Failure}
+
+-- the run told no fault, and its end is such a one
+pub record IsAnswered (IsDone : End → Type 0) (before after : SinkState) (end : End) : Type 0 where
+  pub done : IsDone end
+  pub silent : after ≡ before
+
+-- the run met a fault, which has its cause, and told it
+pub record IsFaulty (HasFailed : Fault → Option Found → Type 0) (before after : SinkState) (end : End) : Type 0 where
+  pub fault : Fault
+  pub code : end.code ≡ status_of fault
+  pub failure : HasFailed fault end.found
+  pub told : TellsFault fault before after
+
+-- the run came to an end that is such a one, or to such a fault, by the error output before and after
+abbrev pub Ends : (End → Type 0) → (Fault → Option Found → Type 0) → SinkState → SinkState → End → Type 0
+Ends IsDone HasFailed before after end = IsAnswered IsDone before after end ⊎ IsFaulty HasFailed before after end
+
+-- the end of what the run came to
+abbrev pub IsEndOf : Result End Failure → SinkState → SinkState → End → Type 0
+IsEndOf (Ok answer) before after end = IsAnswered (λ e. e ≡ answer) before after end
+IsEndOf (Err failure) before after end =
+    IsFaulty (λ fault found. (fault ≡ failure.fault) × (found ≡ failure.found)) before after end

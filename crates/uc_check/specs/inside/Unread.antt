@@ -1,0 +1,15 @@
+-- Why the bytes of a slot were not read.
+use Rattle.std.specs.Prelude.{◌≡◌, ℕ, ⊤}
+use Rattle.outside.specs.declared.slot.Slot.{Slot}
+use Rattle.outside.specs.Counts.{HasRisen}
+use Rattle.outside.specs.Slots.{SlotState}
+use Rattle.report.specs.declared.fault.Fault.{Fault}
+use Rattle.report.specs.declared.fault.Fault.TheVariants.{Read, Memory, Long}
+use Rattle.uc_check.specs.Reading.{IsLong}
+
+-- the cause of a fault in reading the slot, of whose file at most so many bytes are read
+abbrev pub IsUnread : Slot → ℕ → SlotState → SlotState → Fault → Type 0
+IsUnread slot most old new (Read at) = (at ≡ slot) × HasRisen old.faults new.faults
+IsUnread slot most old new (Long at) = (at ≡ slot) × IsLong most old new
+IsUnread slot most old new Memory = ⊤
+IsUnread slot most old new _ = ⊥
