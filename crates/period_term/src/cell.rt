@@ -13,8 +13,7 @@ ghost use Rattle.period_term.specs.inside.Places.{corner_cost as corner_cost_of,
 use crate::freed::{Prices, freed};
 use cost_curves::Curve;
 use dual_model::limits::{MAX_CAP, MAX_UNIT_PRICE};
-use uc_model::limits::MAX_TERM;
-use uc_model::limits::MAX_POWER;
+use uc_model::limits::{MAX_POWER, MAX_TERM};
 use uc_model::{Point, difference, floor_div, product, scaled, sum};
 
 /// The term of a cell: the greatest whole number that is not above `k * cost + a * p + b * r` over all

@@ -53,7 +53,13 @@ fn take_turns(rt: &impl Abort, best: &Best, a: &mut Pass, b: &mut Pass, turns: &
 }
 
 /// The least cost that two passes publish, which are the whole of their incumbent.
-fn closed(rt: &impl Abort, best: Best, mut a: Pass, mut b: Pass, turns: &[(bool, Turn)]) -> Option<i64>
+fn closed(
+    rt: &impl Abort,
+    best: Best,
+    mut a: Pass,
+    mut b: Pass,
+    turns: &[(bool, Turn)],
+) -> Option<i64>
     requires first { a.object ≡ best.object }
     requires second { b.object ≡ best.object }
     requires parts { a.parts + b.parts ≡ best.parts }
@@ -86,7 +92,10 @@ fn a_new_pass_has_seen_the_same(rt: HostRuntime) -> Result<(), Fail> {
     let (best, mut a) = Best::new(rt.alloc(), 3).map_err(|_| "no memory")?;
     take_turn(&rt, &best, &mut a, &Turn::Publish(500, true));
     let b = best.split(&mut a, 2);
-    let turns = [(false, Turn::Look(Some(500))), (false, Turn::Publish(600, false))];
+    let turns = [
+        (false, Turn::Look(Some(500))),
+        (false, Turn::Publish(600, false)),
+    ];
     assert_eq!(rt; closed(&rt, best, a, b, &turns), Some(micro_dollars(500)));
     Ok(())
 }
