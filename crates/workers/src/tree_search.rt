@@ -177,12 +177,20 @@ fn turn(
     ensures no_worse { OnOk result (IsNoWorse search.old.best search.new.best) }
     ensures next { OnOk result (search.new.next ≡ None) }
 {
-    let is_repaired = search.next.is_some();
+    let is_repaired = is_repaired(&search.next);
     let trial = visit(alloc, worker, search, claim)?;
     if !is_repaired {
         improve(alloc, worker, gap, search, claim.unit, &trial)?;
     }
     publish(alloc, &mut search.state, &search.best)
+}
+
+// Whether the ascent was made, and repaired, already.
+fn is_repaired(next: &Option<Ascent>) -> bool {
+    match next {
+        Some(ascent) => ascent.ray.is_none(),
+        None => false,
+    }
 }
 
 // Takes the cheaper of the best schedule so far and of what a repair of the trial's ascent finds, unless no node is open, or the best one

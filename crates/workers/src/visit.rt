@@ -22,11 +22,13 @@ use search_core::{Event, Move, State};
 use std::alloc::Global;
 use uc_model::NoMemory;
 
-/// What a claim is evaluated at: the table that its node inherited, a ray, or the table that an ascent found.
+/// What a claim is evaluated at: the table that its node inherited, a ray of the opening, the ray of an ascent that ran off, or the table
+/// that an ascent found.
 #[derive(Drop)]
 pub(crate) enum Trial {
     Inherited(Table),
     Ray(Table),
+    RanOff { ray: Table, ascent: Ascent },
     Ascended(Ascent),
 }
 
@@ -38,6 +40,7 @@ impl Trial {
         match self {
             Trial::Inherited(table) => table,
             Trial::Ray(table) => table,
+            Trial::RanOff { ray, .. } => ray,
             Trial::Ascended(ascent) => &ascent.table,
         }
     }
@@ -45,7 +48,9 @@ impl Trial {
     /// The ascent, where there is one that tells how often units are on.
     pub(crate) fn ascent(&self) -> Option<&Ascent> {
         match self {
-            Trial::Ascended(ascent) if !ascent.shares.is_empty() => Some(ascent),
+            Trial::RanOff { ascent, .. } | Trial::Ascended(ascent) if !ascent.shares.is_empty() => {
+                Some(ascent)
+            }
             _ => None,
         }
     }
@@ -151,8 +156,8 @@ fn chosen(
         return Ok(Trial::Ray(table));
     }
     let ascent = ascent(alloc, worker, state, claim, path, next)?;
-    if let Some(table) = own_ray(alloc, worker, search, claim, path, &ascent)? {
-        return Ok(Trial::Ray(table));
+    if let Some(ray) = own_ray(alloc, worker, search, claim, path, &ascent)? {
+        return Ok(Trial::RanOff { ray, ascent });
     }
     Ok(Trial::Ascended(ascent))
 }

@@ -13,6 +13,7 @@ use Rattle.workers.specs.declared.visit.Trial.TheVariants as trial
 abbrev pub table_of : Trial → Table
 table_of (trial.Inherited table) = table
 table_of (trial.Ray table) = table
+table_of (trial.RanOff ray ascent) = ray
 table_of (trial.Ascended ascent) = ascent.table
 
 -- a lawful ray that was not tried at the node
