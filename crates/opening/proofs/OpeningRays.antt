@@ -35,12 +35,16 @@ no_ray instance q x lawful obeys n within ray =
     rays_exclude instance root (ray_table instance n) ray.value q x lawful (record { size = table.size; signs = table.signs })
     ray.is_value refl ray.positive (record { obeys = obeys; agrees = refl })
 
--- there is one first
-pub first_is_one : (instance : Instance) (m n : ℕ) → IsFirstRay instance m → IsFirstRay instance n → m ≡ n
-first_is_one instance m n one other = ⊎_elim
+-- of numbers of which something holds there is one first
+pub one_first : (P : ℕ → Type 0) (m n : ℕ) → P m → P n → ((earlier : ℕ) → earlier < m → ¬ P earlier) → ((earlier : ℕ) → earlier < n → ¬ P earlier)
+    → m ≡ n
+one_first P m n one other before_one before_other = ⊎_elim
     (λ (e : m ≡ n). e)
     (λ (apart : (m < n) ⊎ (n < m)). ⊎_elim
-    (λ (l : m < n). absurd (other.first m l one.positive))
-    (λ (l : n < m). absurd (one.first n l other.positive))
+    (λ (l : m < n). absurd (before_other m l one))
+    (λ (l : n < m). absurd (before_one n l other))
     apart)
     (cases_order m n)
+
+pub first_is_one : (instance : Instance) (m n : ℕ) → IsFirstRay instance m → IsFirstRay instance n → m ≡ n
+first_is_one instance m n one other = one_first (IsRayPositive instance) m n one.positive other.positive one.first other.first

@@ -1,9 +1,10 @@
 -- The greatest slope of the units so far, and one unit more.
-use Rattle.std.proofs.Common.{◌≡◌, ℕ, ◌+◌, ◌<◌, Bool, true, false, refl, subst, arith, ℤ, pos, ◌*ℤ◌, ◌≤ℤ◌, ◌<ℤ◌, below_more}
+use Rattle.std.proofs.Common.{◌≡◌, ℕ, ◌+◌, ◌<◌, Bool, true, false, [], get_or, refl, subst, sym, arith, ℤ, pos, ◌*ℤ◌, ◌≤ℤ◌, ◌<ℤ◌, below_more}
 use Rattle.std.specs.Prelude.{Option, Some, None, MatchOption, int_lt, if◌then◌else◌, List}
 use Rattle.std.proofs.lemmas.Int.{ints}
+use Rattle.std.proofs.lemmas.List.{get_or_read}
 use Rattle.uc_model.specs.PrintedSchedule.{cell_at}
-use Rattle.uc_model.specs.Schedule.{thermal_unit}
+use Rattle.uc_model.specs.Schedule.{thermal_count, thermal_unit}
 use Rattle.uc_model.specs.declared.instance.Instance.{Instance}
 use Rattle.uc_model.specs.declared.schedule.Printed.{Printed}
 use Rattle.uc_model.specs.declared.instance.Point.{Point}
@@ -11,6 +12,7 @@ use Rattle.uc_model.specs.declared.schedule.Cell.{Cell}
 use Rattle.uc_model.proofs.Ring.{linear}
 use Rattle.uc_model.proofs.Tests.{int_lt-true}
 use Rattle.cost_curves.specs.LowerHull.{IsLowerHull}
+use Rattle.cost_curves.specs.UnitCurves.{AreCurvesOf}
 use Rattle.cost_curves.specs.LeastCost.{IsLeftSlope}
 use Rattle.cost_curves.specs.declared.slope.Slope.{Slope}
 use Rattle.cost_curves.proofs.Lines.{flatter_trans}
@@ -29,6 +31,13 @@ at_most-trans first second third h k m a b =
     (record { products = a }) (record { products = b })).products
 
 -- ---- one unit more
+-- what is read of the curves at a unit's place is its own
+pub own_hull : (instance : Instance) (curves : List (List Point)) (g : ℕ) (own : List Point) → AreCurvesOf instance curves
+    → g < thermal_count instance → own ≡ get_or curves g own → IsLowerHull (thermal_unit instance g).points own
+own_hull instance curves g own are within is =
+    subst (IsLowerHull (thermal_unit instance g).points) (sym (get_or_read curves g own (omega (arith, within, are.count)) is []))
+    (are.curve g within)
+
 -- the unit's own slope, if it runs
 abbrev pub IsOwnSlope : Instance → Printed → ℕ → ℕ → Option Slope → Type 0
 IsOwnSlope instance printed t g own = MatchOption own (¬ IsRunning (cell_at printed g t)) (HasSlope instance printed g t)

@@ -1,11 +1,10 @@
 -- What is answered where the opening excludes the root: by a unit without an allowed pattern, or by a ray.
-use Rattle.std.proofs.Common.{◌≡◌, ◌⊎◌, ⊎_elim, inl, ℕ, ◌<◌, [], ◌∷◌, refl, ap, sym, subst, arith, Some}
+use Rattle.std.proofs.Common.{◌≡◌, inl, ℕ, ◌<◌, [], ◌∷◌, refl, ap, sym, subst, arith, Some}
 use Rattle.std.specs.Prelude.{None}
-use Rattle.std.proofs.lemmas.Bool.{cases_order}
 use Rattle.std.proofs.lemmas.List.Elements.{All-nil, All-cons}
 use Rattle.uc_model.specs.Limits.{IsLawfulInstance}
 use Rattle.uc_model.specs.declared.instance.Instance.{Instance}
-use Rattle.dual_model.specs.Fixings.{IsFirstEmpty}
+use Rattle.dual_model.specs.Fixings.{HasNoPattern, IsFirstEmpty}
 use Rattle.dual_model.specs.Opening.{ray_table}
 use Rattle.dual_model.specs.Prices.{IsLawfulTable}
 use Rattle.dual_model.specs.Tree.{Ends, root}
@@ -27,7 +26,7 @@ use Rattle.decommitment.specs.Standings.{IsDropped, ending_of}
 use Rattle.decommitment.specs.declared.pass.Standing.TheVariants as standing
 use Rattle.workers.proofs.FewRows.{few_rows}
 use Rattle.opening.proofs.Patterns.{each_pattern, not_first}
-use Rattle.opening.proofs.OpeningRays.{first_is_one as first_ray_is_one, no_ray}
+use Rattle.opening.proofs.OpeningRays.{first_is_one as first_ray_is_one, no_ray, one_first}
 
 -- ---- no pattern
 abbrev pub empty_found : Tree → Layout → Found
@@ -35,13 +34,7 @@ empty_found tree layout = record { schedule = None; tree = tree; tables = []; lo
 
 -- there is one first such unit
 first_is_one : (instance : Instance) (g h : ℕ) → IsFirstEmpty instance root g → IsFirstEmpty instance root h → g ≡ h
-first_is_one instance g h one other = ⊎_elim
-    (λ (e : g ≡ h). e)
-    (λ (apart : (g < h) ⊎ (h < g)). ⊎_elim
-    (λ (l : g < h). absurd (other.first g l one.empty))
-    (λ (l : h < g). absurd (one.first h l other.empty))
-    apart)
-    (cases_order g h)
+first_is_one instance g h one other = one_first (HasNoPattern instance root) g h one.empty other.empty one.first other.first
 
 empty_truth : (instance : Instance) (g : ℕ) (layout : Layout) → IsLayoutOf (lone_root instance (leaf.Empty g)) layout
     → IsFirstEmpty instance root g → IsTrueFound instance (empty_found (lone_root instance (leaf.Empty g)) layout)

@@ -46,22 +46,6 @@ pub fn search<R: Wait, G: Gate>(
     ensures result { IfOk result (IsSearchResult instance.now options.now.budget options.now.gap) }
     ensures writable { IfOk result (IsWritable instance.now) }
 {
-    answered(rt, alloc, instance, options, gate)
-}
-
-// The same, with both clauses in one.
-fn answered<R: Wait, G: Gate>(
-    rt: &R,
-    alloc: Global,
-    instance: &Instance,
-    options: &Options,
-    gate: &G,
-) -> Result<Found, NoMemory>
-    requires lawful { IsLawfulInstance instance.now }
-    requires budget { options.now.budget ≤ MAX_BUDGET }
-    requires gap { options.now.gap ≤ WHOLE_GAP }
-    ensures { IfOk result (IsAnswerOf instance.now options.now.budget options.now.gap) }
-{
     let mut worker = Worker::new(alloc, instance)?;
     match worker.evaluator.first_empty(alloc)? {
         Some(g) => without_pattern(alloc, instance, g),

@@ -2,6 +2,7 @@
 
 ghost use Rattle.std.specs.Prelude.{◌≡◌, ◌≢◌, ◌≤◌, ℕ, true, IsTrue, IfOk, None, OnOk};
 ghost use Rattle.uc_model.specs.Limits.{IsLawfulInstance};
+ghost use Rattle.uc_model.specs.declared.instance.Instance.{Instance};
 ghost use Rattle.uc_model.specs.declared.tolerance.TheConstants.{WHOLE_GAP};
 ghost use Rattle.branch_tree.specs.Closing.{is_schedule_within};
 ghost use Rattle.branch_tree.specs.StoredTree.{tree_bound};
@@ -10,13 +11,12 @@ ghost use Rattle.search_core.specs.Machine.{Machine};
 ghost use Rattle.search_core.specs.Runs.{HoldsAt};
 ghost use Rattle.search_core.specs.declared.limits.TheConstants.{MAX_BUDGET};
 ghost use Rattle.schedule_check.specs.Accepted.{IsAcceptedIfFound};
-ghost use Rattle.uc_model.specs.declared.instance.Instance.{Instance};
-ghost use Rattle.opening.specs.declared.root_tables.Priced.{Priced};
-ghost use Rattle.opening.specs.RootTables.{IsPricedOf};
-ghost use Rattle.workers.specs.inside.Trials.{IsNextAt};
 ghost use Rattle.claims.specs.Claims.{IsPublished};
-ghost use Rattle.workers.specs.inside.Searches.{IsGrown, IsReady, IsSearching, IsTurned, start_by};
+ghost use Rattle.opening.specs.RootTables.{IsPricedOf};
+ghost use Rattle.opening.specs.declared.root_tables.Priced.{Priced};
 ghost use Rattle.workers.specs.inside.Best.{IsNoWorse};
+ghost use Rattle.workers.specs.inside.Searches.{IsGrown, IsReady, IsSearching, IsTurned, start_by};
+ghost use Rattle.workers.specs.inside.Trials.{IsNextAt};
 
 use crate::best::{enough, improved, is_closed, moves};
 use crate::root_search::Options;

@@ -8,8 +8,8 @@ ghost use Rattle.branch_tree.specs.NumberedTree.{node_count};
 ghost use Rattle.branch_tree.specs.StoredTree.{IsNodeAt};
 ghost use Rattle.search_core.specs.Machine.{entries_of};
 ghost use Rattle.search_core.specs.declared.limits.TheConstants.{MAX_BUDGET};
-ghost use Rattle.workers.specs.inside.Trials.{IsAscentFor, IsFreshRay, IsNextAt, table_of};
 ghost use Rattle.workers.specs.inside.Searches.{IsReady, IsTableFor, IsVisited};
+ghost use Rattle.workers.specs.inside.Trials.{IsAscentFor, IsFreshRay, IsNextAt, table_of};
 
 use crate::start::first_ascent;
 use crate::tree_search::{Claim, Search};

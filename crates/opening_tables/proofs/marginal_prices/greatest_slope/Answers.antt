@@ -1,24 +1,20 @@
 -- One unit more.
-use Rattle.std.proofs.Common.{◌≡◌, ◌+◌, ◌<◌, arith, length, sym, ap, subst, ◌≤ℤ◌}
-use Rattle.std.specs.Prelude.{IsTrue, slice_index_or, []}
-use Rattle.std.proofs.lemmas.List.{get_or_read}
+use Rattle.std.proofs.Common.{◌+◌, ◌<◌, arith, length, sym, ap, subst, ◌≤ℤ◌}
+use Rattle.std.specs.Prelude.{IsTrue}
 use Rattle.uc_model.specs.PrintedSchedule.{cell_at}
 use Rattle.uc_model.specs.Schedule.{thermal_count, thermal_unit}
 use Rattle.uc_model.specs.declared.schedule.Cell.{Cell}
-use Rattle.cost_curves.specs.LowerHull.{IsLowerHull, width_of}
+use Rattle.cost_curves.specs.LowerHull.{width_of}
 use Rattle.cost_curves.proofs.HullValues.{whole_width}
 use Rattle.opening_tables.specs.inside.Slopes.{IsGreatestOf}
-use Rattle.opening_tables.proofs.GreatestSlopes.{greatest-more, own_slope}
+use Rattle.opening_tables.proofs.GreatestSlopes.{greatest-more, own_hull, own_slope}
 use Rattle.opening_tables.proofs.marginal_prices.greatest_slope.Goals as goal
 
 pub cell_slope-own-requires : goal.cell_slope-own-requires
 cell_slope-own-requires c = λ on.
     let g = c.loop-g.g in
     let within : g < thermal_count c.args.instance.now = omega (arith, c.loop-g-test.true, ap length c.as_slice-g-end.ensures) in
-    let curve : slice_index_or c.args.curves.now g [] ≡ c.index-curves-g.result =
-    sym (get_or_read c.args.curves.now g c.index-curves-g.result (omega (arith, within, c.requires.curves.count)) c.index-curves-g.is []) in
-    let hull : IsLowerHull (thermal_unit c.args.instance.now g).points c.index-curves-g.result =
-    subst (IsLowerHull (thermal_unit c.args.instance.now g).points) curve (c.requires.curves.curve g within) in
+    let hull = own_hull c.args.instance.now c.args.curves.now g c.index-curves-g.result c.requires.curves within c.index-curves-g.is in
     let output : (cell_at c.args.printed.now g c.args.t).p ≤ℤ width_of (thermal_unit c.args.instance.now g).points =
     c.requires.outputs g c.args.t within c.requires.period (subst (λ (cell : Cell). IsTrue cell.on) c.cell.ensures on) in
     subst (λ z. c.cell.result.p ≤ℤ z) (sym (whole_width (thermal_unit c.args.instance.now g).points c.index-curves-g.result hull))
@@ -28,10 +24,7 @@ pub loop-g-preserved : goal.loop-g-preserved
 loop-g-preserved c =
     let g = c.loop-g.g in
     let within : g < thermal_count c.args.instance.now = omega (arith, c.loop-g-test.true, ap length c.as_slice-g-end.ensures) in
-    let curve : slice_index_or c.args.curves.now g [] ≡ c.index-curves-g.result =
-    sym (get_or_read c.args.curves.now g c.index-curves-g.result (omega (arith, within, c.requires.curves.count)) c.index-curves-g.is []) in
-    let hull : IsLowerHull (thermal_unit c.args.instance.now g).points c.index-curves-g.result =
-    subst (IsLowerHull (thermal_unit c.args.instance.now g).points) curve (c.requires.curves.curve g within) in
+    let hull = own_hull c.args.instance.now c.args.curves.now g c.index-curves-g.result c.requires.curves within c.index-curves-g.is in
     subst (IsGreatestOf c.args.instance.now c.args.printed.now c.args.t (g + 1)) (sym c.steeper-greatest.ensures)
     (greatest-more c.args.instance.now c.args.printed.now c.args.t g c.loop-g.greatest c.cell_slope-own.result c.loop-g.invariant
     (own_slope c.args.instance.now c.args.printed.now g c.args.t c.index-curves-g.result c.cell.result c.cell_slope-own.result c.cell.ensures hull c.cell_slope-own.ensures))
