@@ -7,5 +7,5 @@ mod rays;
 mod root_tables;
 
 pub use evaluator::{Evaluator, root_node};
-pub use rays::{excluding_ray, is_excluding, node_ray};
+pub use rays::{excluding_ray, is_positive, node_ray};
 pub use root_tables::{Priced, dispatched_root, unpriced_root};

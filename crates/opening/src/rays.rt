@@ -73,26 +73,17 @@ pub fn node_ray(
     let instance = evaluator.instance();
     for n in 0..4 * instance.periods + 4 {
         let table = opening_ray(alloc, instance, n)?;
-        if is_excluding(alloc, evaluator, node, &table)? {
+        if is_positive(&evaluator.outcome(alloc, node, &table)?) {
             return Ok(Some(table));
         }
     }
     Ok(None)
 }
 
-/// Whether the node's value at the table is above 0. The only error is `NoMemory`.
-pub fn is_excluding(
-    alloc: Global,
-    evaluator: &mut Evaluator,
-    node: &Node,
-    table: &Table,
-) -> Result<bool, NoMemory>
-    requires node { IsNodeOf evaluator.old node.now }
-    requires table { IsLawfulTable evaluator.old table.now }
-    ensures kept { evaluator.new ≡ evaluator.old }
-{
-    match evaluator.outcome(alloc, node, table)? {
-        Outcome::Value(value) => Ok(value > 0),
-        Outcome::Empty(_) => Ok(false),
+/// Whether it is a value above 0, which leaves no schedule where the table is a ray.
+pub fn is_positive(outcome: &Outcome) -> bool {
+    match outcome {
+        Outcome::Value(value) => *value > 0,
+        Outcome::Empty(_) => false,
     }
 }

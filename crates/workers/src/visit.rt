@@ -16,7 +16,7 @@ use crate::tree_search::{Claim, Search};
 use crate::worker::Worker;
 use claims::{WORKER, action, stored_table, take};
 use dual_model::{Node, Table};
-use opening::{is_excluding, node_ray};
+use opening::{is_positive, node_ray};
 use prices::{Ascent, next_ascent};
 use search_core::{Event, Move, State};
 use std::alloc::Global;
@@ -221,7 +221,7 @@ fn own_ray(
     let Some(ray) = &ascent.ray else {
         return Ok(None);
     };
-    if search.best.is_some() || !is_excluding(alloc, &mut worker.evaluator, path, ray)? {
+    if search.best.is_some() || !is_positive(&worker.evaluator.outcome(alloc, path, ray)?) {
         return Ok(None);
     }
     let ray = ray.copy(alloc)?;
@@ -237,10 +237,10 @@ fn ascent(
     path: &Node,
     next: Option<Ascent>,
 ) -> Result<Ascent, NoMemory>
-    requires path { IsNodeOf worker.now.evaluator path.now }
     requires unit { claim.unit ≤ MAX_BUDGET }
-    requires ready { IsReady worker.now.evaluator state.now claim.node claim.unit }
     requires next { IsNextAt worker.now.evaluator claim.unit next }
+    requires path { IsNodeOf worker.now.evaluator path.now }
+    requires ready { IsReady worker.now.evaluator state.now claim.node claim.unit }
     ensures { IfOk result (IsAscentFor worker.now.evaluator claim.unit) }
 {
     let instance = worker.evaluator.instance();
