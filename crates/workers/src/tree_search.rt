@@ -21,7 +21,7 @@ ghost use Rattle.workers.specs.inside.Trials.{IsNextAt};
 use crate::best::{enough, improved, is_closed, moves};
 use crate::root_search::Options;
 use crate::start::Start;
-use crate::visit::{Trial, visit};
+use crate::visit::visit;
 use crate::worker::Worker;
 use claims::{Frontier, WORKER, claim_next, publish};
 use opening::Priced;
@@ -33,14 +33,15 @@ use std::alloc::Global;
 use std::sync::Wait;
 use uc_model::{Instance, NoMemory, Printed, floor_div};
 
-/// The state of the search machine, the best schedule so far with its cost in micro-dollars, the order of the open nodes, and the ascent to
-/// the table of the next claim, where it was made already.
+/// The state of the search machine, the best schedule so far with its cost in micro-dollars, the order of the open nodes, the ascent to the
+/// table of the next claim, where it was made already, and the ascent of the last claim, where it has one.
 #[derive(Drop)]
 pub(crate) struct Search {
     pub state: State,
     pub best: Option<(Printed, i64)>,
     pub frontier: Frontier,
     pub next: Option<Ascent>,
+    pub last: Option<Ascent>,
 }
 
 /// A node that is held by the claim of this unit.
@@ -80,6 +81,31 @@ fn begun(
     Ok(state)
 }
 
+// The search before any claim.
+fn searching(
+    alloc: Global,
+    instance: &Instance,
+    options: &Options,
+    start: Start,
+) -> Result<Search, NoMemory>
+    requires lawful { IsLawfulInstance instance.now }
+    requires budget { options.now.budget ≤ MAX_BUDGET }
+    requires gap { options.now.gap ≤ WHOLE_GAP }
+    requires opening { IsPricedOf instance.now start.opening }
+    ensures published { IfOk result (λ search. IsPublished start.best (start_by instance.now start.opening options.now.budget options.now.gap) search.state) }
+    ensures best { IfOk result (λ search. search.best ≡ start.best) }
+    ensures next { IfOk result (λ search. search.next ≡ start.next) }
+{
+    let state = begun(alloc, instance, options, start.opening, &start.best)?;
+    Ok(Search {
+        frontier: Frontier::of_root(alloc, &state)?,
+        state,
+        best: start.best,
+        next: start.next,
+        last: None,
+    })
+}
+
 /// What holds of the machine between claims. It does nothing.
 pub(crate) fn holds(state: &State)
     ensures whole { IsWhole state.now.tree }
@@ -109,14 +135,7 @@ pub(crate) fn search_tree<R: Wait, G: Gate>(
     ensures grown { IfOk result (λ search. IsGrown worker.old.evaluator start.opening options.now.budget options.now.gap search.state search.best) }
     ensures no_worse { IfOk result (λ search. IsNoWorse start.best search.best) }
 {
-    let instance = worker.evaluator.instance();
-    let state = begun(alloc, instance, options, start.opening, &start.best)?;
-    let mut search = Search {
-        frontier: Frontier::of_root(alloc, &state)?,
-        state,
-        best: start.best,
-        next: start.next,
-    };
+    let mut search = searching(alloc, worker.evaluator.instance(), options, start)?;
     for had in 0..options.budget {
         holds(&search.state);
         if is_finished(&search, options.gap) {
@@ -178,9 +197,9 @@ fn turn(
     ensures next { OnOk result (search.new.next ≡ None) }
 {
     let is_repaired = is_repaired(&search.next);
-    let trial = visit(alloc, worker, search, claim)?;
+    visit(alloc, worker, search, claim)?;
     if !is_repaired {
-        improve(alloc, worker, gap, search, claim.unit, &trial)?;
+        improve(alloc, worker, gap, search, claim.unit)?;
     }
     publish(alloc, &mut search.state, &search.best)
 }
@@ -193,7 +212,7 @@ fn is_repaired(next: &Option<Ascent>) -> bool {
     }
 }
 
-// Takes the cheaper of the best schedule so far and of what a repair of the trial's ascent finds, unless no node is open, or the best one
+// Takes the cheaper of the best schedule so far and of what a repair of the last claim's ascent finds, unless no node is open, or the best one
 // closes the tree already.
 fn improve(
     alloc: Global,
@@ -201,7 +220,6 @@ fn improve(
     gap: u32,
     search: &mut Search,
     unit: u32,
-    trial: &Trial,
 ) -> Result<(), NoMemory>
     requires gap { gap ≤ WHOLE_GAP }
     requires accepted { IsAcceptedIfFound worker.old.evaluator search.old.best }
@@ -211,10 +229,10 @@ fn improve(
     ensures accepted { OnOk result (IsAcceptedIfFound worker.old.evaluator search.new.best) }
     ensures no_worse { OnOk result (IsNoWorse search.old.best search.new.best) }
 {
-    let (Some(bound), Some(ascent)) = (search.frontier.least(), trial.ascent()) else {
+    let (Some(bound), Some(ascent)) = (search.frontier.least(), &search.last) else {
         return Ok(());
     };
-    if is_closed(&search.best, bound, gap) {
+    if ascent.shares.is_empty() || is_closed(&search.best, bound, gap) {
         return Ok(());
     }
     let moves = moves(worker.evaluator.instance(), unit);

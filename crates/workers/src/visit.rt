@@ -18,7 +18,7 @@ use claims::{WORKER, action, stored_table, take};
 use dual_model::{Node, Table};
 use opening::{is_positive, node_ray};
 use prices::{Ascent, next_ascent};
-use search_core::{Event, Move, State};
+use search_core::{Event, State};
 use std::alloc::Global;
 use uc_model::NoMemory;
 
@@ -45,12 +45,11 @@ impl Trial {
         }
     }
 
-    /// The ascent, where there is one that tells how often units are on.
-    pub(crate) fn ascent(&self) -> Option<&Ascent> {
+    // The ascent, where there is one.
+    fn into_ascent(self) -> Option<Ascent> {
         match self {
-            Trial::RanOff { ascent, .. } | Trial::Ascended(ascent) if !ascent.shares.is_empty() => {
-                Some(ascent)
-            }
+            Trial::RanOff { ascent, .. } => Some(ascent),
+            Trial::Ascended(ascent) => Some(ascent),
             _ => None,
         }
     }
@@ -64,55 +63,54 @@ impl Trial {
     }
 }
 
-/// Evaluates the node that is held by the claim, commits what comes out, and puts the nodes that are open then in their order. Answered is
-/// what it was evaluated at. The only error is `NoMemory`.
+/// Evaluates the node that is held by the claim, commits what comes out, and puts the nodes that are open then in their order. The only error
+/// is `NoMemory`.
 pub(crate) fn visit(
     alloc: Global,
     worker: &mut Worker,
     search: &mut Search,
     claim: Claim,
-) -> Result<Trial, NoMemory>
+) -> Result<(), NoMemory>
     requires unit { claim.unit ≤ MAX_BUDGET }
     requires ready { IsReady worker.old.evaluator search.old.state claim.node claim.unit }
     requires next { IsNextAt worker.old.evaluator claim.unit search.old.next }
     ensures kept { worker.new.evaluator ≡ worker.old.evaluator }
     ensures best { search.new.best ≡ search.old.best }
-    ensures next { search.new.next ≡ None }
+    ensures next { OnOk result (search.new.next ≡ None) }
     ensures visited { OnOk result (IsVisited worker.old.evaluator search.old.state search.new.state claim.node claim.unit) }
 {
-    let next = search.next.take();
     let path = search.state.tree().fixings(alloc, claim.node)?;
+    let next = search.next.take();
     let trial = chosen(alloc, worker, search, claim, &path, next)?;
-    let action = end(alloc, worker, &mut search.state, claim, &path, &trial)?;
-    search
-        .frontier
-        .add_after(&search.state, claim.node, &action)?;
-    Ok(trial)
+    end(alloc, worker, search, claim, &path, &trial)?;
+    search.last = trial.into_ascent();
+    Ok(())
 }
 
 // Evaluates the node at the trial's table, and commits what comes out with the move that ends the claim.
 fn end(
     alloc: Global,
     worker: &mut Worker,
-    state: &mut State,
+    search: &mut Search,
     claim: Claim,
     path: &Node,
     trial: &Trial,
-) -> Result<Move, NoMemory>
+) -> Result<(), NoMemory>
     requires path { IsNodeOf worker.old.evaluator path.now }
-    requires own { (own : _) → IsNodeAt state.old.tree claim.node own → path.now ≡ own }
-    requires ready { IsReady worker.old.evaluator state.old claim.node claim.unit }
-    requires table { IsTableFor worker.old.evaluator state.old claim.node claim.unit (table_of trial.now) }
+    requires own { (own : _) → IsNodeAt search.old.state.tree claim.node own → path.now ≡ own }
+    requires ready { IsReady worker.old.evaluator search.old.state claim.node claim.unit }
+    requires table { IsTableFor worker.old.evaluator search.old.state claim.node claim.unit (table_of trial.now) }
     ensures kept { worker.new.evaluator ≡ worker.old.evaluator }
-    ensures visited { OnOk result (IsVisited worker.old.evaluator state.old state.new claim.node claim.unit) }
+    ensures best { search.new.best ≡ search.old.best }
+    ensures next { search.new.next ≡ search.old.next }
+    ensures visited { OnOk result (IsVisited worker.old.evaluator search.old.state search.new.state claim.node claim.unit) }
 {
     let table = trial.table();
     let outcome = worker.evaluator.outcome(alloc, path, table)?;
-    let instance = worker.evaluator.instance();
     let action = action(
         alloc,
-        state,
-        instance,
+        &search.state,
+        worker.evaluator.instance(),
         claim.node,
         path,
         table,
@@ -126,8 +124,10 @@ fn end(
         outcome,
         action,
     };
-    take(alloc, state, event)?;
-    Ok(action)
+    take(alloc, &mut search.state, event)?;
+    search
+        .frontier
+        .add_after(&search.state, claim.node, &action)
 }
 
 // What to evaluate the node at: the table that it inherited, where it wasn't evaluated yet; a ray that excludes it, where no schedule is

@@ -4,7 +4,8 @@ use Rattle.uc_model.specs.declared.instance.Instance.{Instance}
 use Rattle.search_core.specs.Machine.{Machine}
 use Rattle.schedule_check.specs.Accepted.{IsAcceptedIfFound}
 use Rattle.claims.specs.Claims.{IsPublished}
-use Rattle.workers.specs.inside.Searches.{IsGrown, IsReady, IsTurned, start_by}
+use Rattle.workers.specs.inside.Searches.{IsGrown, IsReady, IsTurned, cost_of, start_by}
+use Rattle.workers.specs.SearchResult.{IsNoDearer}
 use Rattle.workers.specs.inside.Trials.{IsNextAt}
 use Rattle.workers.proofs.Searches.{better_than_none, claimed_ready, closed_by_none_open, grown_closed, published_best, published_claims, published_searching, start_searching, turned_best, turned_searching}
 use Rattle.workers.proofs.tree_search.search_tree.Goals as goal
@@ -16,18 +17,19 @@ loop-had-init g c =
     let budget = c.args.options.now.budget in
     let gap = c.args.options.now.gap in
     let best = c.args.start.best in
-    let state = c.in_ok-state.state in
+    let search = c.in_ok-search.search in
+    let made = c.in_ok-search.ensures in
     let start = start_by instance opening budget gap in
-    let published = subst (λ (i : Instance). IsPublished best (start_by i opening budget gap) state) c.instance-instance.ensures.is c.in_ok-state.ensures in
+    let published = subst (λ (i : Instance). IsPublished best (start_by i opening budget gap) search.state) c.instance.ensures.is made.published in
     let begun = start_searching instance opening budget gap c.requires.opening c.requires.budget c.requires.gap in
     record {
       kept = refl;
-      searching = published_searching instance opening budget gap start state best begun c.requires.accepted published;
-      count = published_claims start state best published;
-      published = published_best start state None best refl (better_than_none best) published;
-      accepted = c.requires.accepted;
-      no_worse = λ ending h. h;
-      next = c.requires.next;
+      searching = published_searching instance opening budget gap start search.state best begun c.requires.accepted published;
+      count = published_claims start search.state best published;
+      published = published_best start search.state None best refl (better_than_none best) published ∙ ap cost_of (sym made.best);
+      accepted = subst (IsAcceptedIfFound instance) (sym made.best) c.requires.accepted;
+      no_worse = λ ending h. subst (λ b. IsNoDearer b ending) (sym made.best) h;
+      next = subst (IsNextAt instance 1) (sym made.next) c.requires.next;
     }
 
 pub returns-then-is_finished-clause-grown : goal.returns-then-is_finished-clause-grown
@@ -47,7 +49,7 @@ returns-in_default-clause-grown g c =
     let state = c.loop-had.search.state in
     let before = c.loop-had.invariant in
     let none = c.claim_next.ensures.none (c.in_ok-node.was ∙ ap Ok c.in_default.is) in
-    let holds = c.holds.ensures.holds instance opening budget gap c.instance-instance.ensures.lawful before.searching in
+    let holds = c.holds.ensures.holds instance opening budget gap c.instance.ensures.lawful before.searching in
     subst (λ (m : Machine). IsGrown instance opening budget gap m best) (sym none.0)
     (grown_closed instance opening budget gap state best before.searching before.published before.accepted
     (closed_by_none_open instance opening budget gap state best before.searching holds before.published none.1))
@@ -65,7 +67,7 @@ turn-requires-clause-ready g c =
     let claimed = c.claim_next.ensures.claimed node (c.in_ok-node.was ∙ ap Ok c.in-Some.is) in
     subst (λ (i : Instance). IsReady i c.claim_next.new.state node unit) (sym before.kept)
     (claimed_ready instance opening budget gap state c.claim_next.new.state node unit before.searching
-    (c.holds.ensures.holds instance opening budget gap c.instance-instance.ensures.lawful before.searching) c.holds.ensures.whole claimed.0 claimed.1
+    (c.holds.ensures.holds instance opening budget gap c.instance.ensures.lawful before.searching) c.holds.ensures.whole claimed.0 claimed.1
     (omega (arith, before.count)))
 
 pub loop-had-preserved : goal.loop-had-preserved
@@ -84,7 +86,7 @@ loop-had-preserved g c =
     let claimed = c.claim_next.ensures.claimed node (c.in_ok-node.was ∙ ap Ok c.in-Some.is) in
     let unit_is : unit ≡ suc (length state.claims) = omega (arith, before.count) in
     let ready = claimed_ready instance opening budget gap state new node unit before.searching
-    (c.holds.ensures.holds instance opening budget gap c.instance-instance.ensures.lawful before.searching) c.holds.ensures.whole claimed.0 claimed.1 unit_is in
+    (c.holds.ensures.holds instance opening budget gap c.instance.ensures.lawful before.searching) c.holds.ensures.whole claimed.0 claimed.1 unit_is in
     let accepted = subst (λ (i : Instance). IsAcceptedIfFound i after.best) before.kept turn.accepted in
     let turned = subst (λ (i : Instance). IsTurned i new after.state after.best node unit) before.kept turn.turned in
     let both = turned_searching instance opening budget gap state new after.state after.best node unit before.searching claimed.0 claimed.1 unit_is
