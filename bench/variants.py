@@ -2,7 +2,7 @@
 """Makes other systems of an instance file, to measure the search on more than it was tuned on.
 
     python3 bench/variants.py CASE.json OUT.json [copies=N] [ramps=PART] [units=N] [slow=LOW:HIGH] [reserve=PART] [wind=PART]
-        [must=N] [costs=PART] [seed=N]
+        [must=N] [costs=PART] [hours=N] [seed=N]
 
 - copies=N: N of each thermal unit, with N times the demand and reserve.
 - ramps=PART: each unit's ramps are this part of its greatest output, and so are its startup and shutdown limits where that is above its
@@ -14,8 +14,9 @@
 - wind=PART: renewable units give so many times as much, at least and at most.
 - must=N: so many of the units, by chance, must run, which begin as they do.
 - costs=PART: each unit's production costs and starts are dearer or cheaper by up to this part, by chance.
+- hours=N: so many hours, the hours of the file one after another and then anew, with demand and reserve by the days of a week.
 
-All chance hangs on the seed, 0 where none is given.
+They are made in the order in which they stand. All chance hangs on the seed, 0 where none is given.
 """
 import json
 import pathlib
@@ -24,6 +25,9 @@ import sys
 
 THERMAL, RENEWABLE = "thermal_generators", "renewable_generators"
 DECIMALS = 6
+
+# How much is wanted on the days of a week, from a Monday on.
+WEEK = 1, 1.01, 1.02, 1.01, 0.99, 0.9, 0.86
 
 
 def copied(case, count):
@@ -81,6 +85,16 @@ def priced(case, part, chance):
             point["cost"] = round(point["cost"] * times, DECIMALS)
 
 
+def repeated(case, hours):
+    before = case["time_periods"]
+    case["time_periods"] = hours
+    for name in ("demand", "reserves"):
+        case[name] = [round(case[name][t % before] * WEEK[t // 24 % 7], DECIMALS) for t in range(hours)]
+    for unit in case[RENEWABLE].values():
+        for end in ("minimum", "maximum"):
+            unit[f"power_output_{end}"] = [unit[f"power_output_{end}"][t % before] for t in range(hours)]
+
+
 def main(source, target, options):
     case = json.loads(pathlib.Path(source).read_text())
     given = dict(option.split("=") for option in options)
@@ -100,6 +114,8 @@ def main(source, target, options):
             running(case, int(value), chance)
         elif name == "costs":
             priced(case, float(value), chance)
+        elif name == "hours":
+            repeated(case, int(value))
         elif name == "reserve":
             case["reserves"] = [round(float(value) * it, DECIMALS) for it in case["demand"]]
         else:
