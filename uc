@@ -8,11 +8,11 @@ program=$top/crates/uc/out/uc
 child='' work='' told='' crates=() uses=() began=() took=()
 
 # What the proof of each crate took when it was measured, in seconds of one processor.
-weights='uc_model 60 dual_model 36 outside 160 decimal_json 138 instance 228 cert_text 204 report 84 cost_curves 48
-  start_costs 30 period_term 72 ramp_duals 42 system_value 42 interval_graph 18 unit_path 96 dispatch_repair 210
-  dual_value 54 quick_value 162 prices 300 repair_state 210 schedule_repair 150 branch_tree 54 search_core 186 claims 60
-  decommitment 54 workers 378 schedule_check 114 state_walk 36 leaf_values 66 cert_check 90 demo_gen 36 uc_check 168
-  uc_cli 54 uc 102'
+weights='uc_model 54 dual_model 30 outside 186 decimal_json 132 instance 252 cert_text 228 report 96 cost_curves 48
+  start_costs 24 period_term 72 ramp_duals 48 system_value 30 interval_graph 24 unit_path 78 dispatch_repair 210
+  dual_value 54 quick_value 162 opening_tables 54 bundle 126 prices 144 repair_state 216 schedule_repair 228
+  branch_tree 48 search_core 180 claims 60 decommitment 42 opening 72 workers 270
+  schedule_check 90 state_walk 36 leaf_values 72 cert_check 84 demo_gen 42 uc_check 156 uc_cli 72 uc 108'
 
 say() { printf 'uc: %s\n' "$*" >&2; }
 is_current() {
