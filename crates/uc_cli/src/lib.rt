@@ -6,5 +6,5 @@ mod program;
 mod solve;
 
 pub use outside::{SlurpFault, slurp};
-pub use program::{exit_status, uc};
+pub use program::uc;
 pub use uc_check::End;

@@ -48,18 +48,3 @@ pub fn uc<R: Threads + Wait + Sync, F: Files, O: Sink, E: Sink, G: Gate + Sync>(
         Err(fault) => end_of(err, Err(Failure { fault, found: None })),
     }
 }
-
-/// The exit status of a run of the program, which ends as [`uc`] says.
-pub fn exit_status<R: Threads + Wait + Sync, F: Files, O: Sink, E: Sink, G: Gate + Sync>(
-    rt: &R,
-    alloc: Global,
-    words: &[String],
-    files: &mut F,
-    out: &mut O,
-    err: &mut E,
-    gate: &G,
-) -> u8
-    requires { AllUnopened (F.state files.old) }
-{
-    uc(rt, alloc, words, files, out, err, gate).code
-}
