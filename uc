@@ -12,7 +12,7 @@ weights='uc_model 54 dual_model 30 outside 186 decimal_json 132 instance 252 cer
   start_costs 24 period_term 72 ramp_duals 48 system_value 30 interval_graph 24 unit_path 78 dispatch_repair 210
   dual_value 54 quick_value 162 opening_tables 54 bundle 126 prices 144 repair_state 216 schedule_repair 228
   branch_tree 48 search_core 180 claims 60 decommitment 42 opening 72 workers 444
-  schedule_check 90 state_walk 36 leaf_values 72 cert_check 84 demo_gen 42 uc_check 156 uc_cli 72 uc 108'
+  schedule_check 90 state_walk 36 leaf_values 72 cert_check 84 demo_gen 42 command_line 78 uc_check 84 uc_cli 72 uc 108'
 
 say() { printf 'uc: %s\n' "$*" >&2; }
 is_current() {

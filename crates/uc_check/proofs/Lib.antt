@@ -2,6 +2,4 @@ pub mod Endings
 pub mod Telling
 pub mod Unread
 pub mod OnlyRead
-pub mod Commands
 pub mod Verdicts
-pub mod OptionNumbers

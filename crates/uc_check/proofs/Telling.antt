@@ -1,5 +1,5 @@
 -- A report that was written whole and could not be flushed.
-use Rattle.std.proofs.Common.{◌≡◌, ℕ, List, sym, subst, ap}
+use Rattle.std.proofs.Common.{ℕ, List, sym, subst, ap}
 use Rattle.outside.specs.Counts.{HasRisen}
 use Rattle.outside.specs.ToldBytes.{Appends}
 use Rattle.outside.specs.Sinks.{SinkState, SinkWrites, SinkCountsFault}

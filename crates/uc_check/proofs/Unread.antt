@@ -1,5 +1,5 @@
 -- The cause of a fault in reading a slot is one of the instance's file, or of the certificate's.
-use Rattle.std.proofs.Common.{◌≡◌, Bool}
+use Rattle.std.proofs.Common.{Bool}
 use Rattle.outside.specs.declared.slot.Slot.TheVariants as slot
 use Rattle.outside.specs.Slots.{SlotState}
 use Rattle.report.specs.declared.fault.Fault.{Fault}

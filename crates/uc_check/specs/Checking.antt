@@ -24,7 +24,7 @@ use Rattle.report.specs.ClaimsReport.{claims_report}
 use Rattle.report.specs.declared.fault.Fault.{Fault}
 use Rattle.report.specs.declared.fault.Fault.TheVariants.{Read, Write, Memory, Long, Line, Code}
 use Rattle.uc_check.specs.Outside.{Outside}
-use Rattle.uc_check.specs.Command.{Check}
+use Rattle.command_line.specs.Command.{Check}
 use Rattle.uc_check.specs.Reading.{most_bytes, HasInstance, HasCause, IsLong, IsOpenedByNoOther, IsOnlyRead}
 use Rattle.uc_check.specs.Writing.{IsTold, FailsToTell}
 use Rattle.uc_check.specs.Ending.{Ends}

@@ -1,6 +1,3 @@
-pub mod Arguments
-pub mod Command
-pub mod Asked
 pub mod Outside
 pub mod Reading
 pub mod Writing

@@ -11,15 +11,15 @@ ghost use Rattle.report.specs.ClaimsReport.{claims_report};
 ghost use Rattle.uc_check.specs.Outside.{outside_of};
 ghost use Rattle.uc_check.specs.Writing.{IsTold, FailsToTell};
 ghost use Rattle.uc_check.specs.Checking.{IsAccepting, IsCheckFailure, IsCheckStopped, KeepsToInput, IsCheckRun};
-ghost use Rattle.uc_check.specs.Asked.{check_asked};
+ghost use Rattle.command_line.specs.Asked.{check_asked};
 ghost use Rattle.uc_check.specs.inside.Checks.{IsRefusedCert, AreVerifiedClaims};
 
 use crate::certificate::read_certificate;
-use crate::command::Check;
 use crate::ending::{End, Failure, end_of};
 use crate::input::read_instance;
 use cert_check::{CheckFault, Claims};
 use cert_text::Cert;
+use command_line::Check;
 use outside::{Failed, Files, Sink};
 use report::{Fault, write_claims};
 use std::alloc::Global;

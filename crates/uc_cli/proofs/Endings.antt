@@ -9,7 +9,7 @@ use Rattle.outside.specs.Sinks.{SinkState}
 use Rattle.branch_tree.specs.declared.found.Found.{Found}
 use Rattle.uc_check.specs.Writing.{IsSaved, FailsToSave, IsTold, FailsToTell, text_of_certificate}
 use Rattle.report.specs.FoundReport.{found_report}
-use Rattle.uc_check.specs.Command.{Solve}
+use Rattle.command_line.specs.Command.{Solve}
 use Rattle.uc_check.specs.Outside.{outside_of}
 use Rattle.uc_check.specs.Reading.{HasCause}
 use Rattle.report.specs.declared.fault.Fault.{Fault}

@@ -18,7 +18,7 @@ use Rattle.demo_gen.specs.Demo.{demo_instance}
 use Rattle.dual_value.specs.NodeAnswer.{MAX_VALUE}
 use Rattle.workers.specs.Writable.{HasFewRows, IsWritable}
 use Rattle.workers.specs.SearchResult.{IsSearchResult}
-use Rattle.uc_check.specs.Command.{Solve}
+use Rattle.command_line.specs.Command.{Solve}
 use Rattle.uc_check.specs.Reading.{HasInstance}
 use Rattle.uc_check.specs.Checking.{IsScheduleTrue}
 use Rattle.uc_cli.specs.DemoRun.{IsDemoAnswer}

@@ -7,16 +7,16 @@ use Rattle.outside.specs.Slots.{SlotState, AllUnopened}
 use Rattle.outside.specs.Sinks.{SinkState}
 use Rattle.report.specs.declared.fault.Fault.{Fault}
 use Rattle.report.specs.declared.fault.Fault.TheVariants.{Words, Memory}
-use Rattle.uc_check.specs.Arguments.{is_taken}
+use Rattle.command_line.specs.Arguments.{is_taken}
 use Rattle.uc_check.specs.Checking.{most_certificate_bytes}
-use Rattle.uc_check.specs.Command.{Command, Solves, Checks, Demos, command_of}
+use Rattle.command_line.specs.Command.{Command, Solves, Checks, Demos, command_of}
 use Rattle.uc_check.specs.Outside.{outside_of}
 use Rattle.uc_check.specs.Reading.{most_bytes}
 use Rattle.uc_cli.specs.Run.{IsRun, IsTurnedAway, IsUsage}
 use Rattle.uc_check.specs.Ending.{IsEndOf}
 use Rattle.uc_check.specs.declared.ending.End.{End}
-use Rattle.uc_check.specs.Asked.{IsRefusal}
-use Rattle.uc_check.proofs.Commands.{names_a_command}
+use Rattle.command_line.specs.Asked.{IsRefusal}
+use Rattle.command_line.proofs.Commands.{names_a_command}
 use Rattle.uc_check.proofs.Endings.{faulty}
 use Rattle.uc_check.proofs.OnlyRead.{untouched}
 

@@ -13,7 +13,7 @@ use Rattle.report.specs.DemoReport.{demo_report}
 use Rattle.report.specs.declared.fault.Fault.{Fault}
 use Rattle.report.specs.declared.fault.Fault.TheVariants.{Write, Memory}
 use Rattle.uc_check.specs.Outside.{Outside}
-use Rattle.uc_check.specs.Command.{Demo}
+use Rattle.command_line.specs.Command.{Demo}
 use Rattle.uc_check.specs.Checking.{IsScheduleTrue}
 use Rattle.uc_check.specs.Ending.{Ends}
 use Rattle.uc_check.specs.Writing.{IsTold, FailsToTell}

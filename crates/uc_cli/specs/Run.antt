@@ -18,7 +18,7 @@ use Rattle.report.specs.FoundReport.{found_report}
 use Rattle.report.specs.declared.fault.Fault.{Fault}
 use Rattle.report.specs.declared.fault.Fault.TheVariants.{Words, Write, Memory}
 use Rattle.uc_check.specs.Outside.{Outside}
-use Rattle.uc_check.specs.Command.{Solve, Command, Solves, Checks, Demos}
+use Rattle.command_line.specs.Command.{Solve, Command, Solves, Checks, Demos}
 use Rattle.uc_check.specs.Reading.{most_bytes, HasInstance, HasCause, IsOpenedByNoOther, IsOnlyRead}
 use Rattle.uc_check.specs.Checking.{IsCheckRun, IsScheduleTrue}
 use Rattle.uc_check.specs.Ending.{Ends, IsFaulty}

@@ -7,14 +7,15 @@ ghost use Rattle.report.specs.DemoReport.{demo_report};
 ghost use Rattle.uc_check.specs.Outside.{outside_of};
 ghost use Rattle.uc_check.specs.Writing.{IsTold, FailsToTell};
 ghost use Rattle.uc_cli.specs.DemoRun.{IsDemoAnswer, IsDemoAnswered, IsDemoFailure, IsDemoRun};
-ghost use Rattle.uc_check.specs.Asked.{demo_asked};
+ghost use Rattle.command_line.specs.Asked.{demo_asked};
 
 use branch_tree::Found;
+use command_line::Demo;
 use outside::{Failed, Gate, Sink};
 use report::{DEMO_GAP, Fault, write_demo};
 use std::alloc::Global;
 use std::sync::Wait;
-use uc_check::{Demo, End, Failure, end_of};
+use uc_check::{End, Failure, end_of};
 use workers::{Options, search};
 
 /// The budget of a demo, in evaluations.

@@ -2,18 +2,19 @@
 
 ghost use Rattle.std.specs.Prelude.{◌≡◌, map, string_bytes, true, false, Some};
 ghost use Rattle.outside.specs.Slots.{AllUnopened};
-ghost use Rattle.uc_check.specs.Arguments.{is_taken};
-ghost use Rattle.uc_check.specs.Command.{Command as WordsCommand, command_of as command_of_words};
+ghost use Rattle.command_line.specs.Arguments.{is_taken};
+ghost use Rattle.command_line.specs.Command.{Command as WordsCommand, command_of as command_of_words};
 ghost use Rattle.uc_check.specs.Outside.{outside_of};
 ghost use Rattle.uc_cli.specs.Run.{IsRun, IsUsage};
 
 use crate::demo::demo;
 use crate::solve::solve;
+use command_line::{Command, command_of};
 use outside::{Files, Gate, Sink};
 use std::alloc::Global;
 use std::sync::Wait;
 use std::thread::Threads;
-use uc_check::{Command, End, Failure, check_certificate, command_of, end_of};
+use uc_check::{End, Failure, check_certificate, end_of};
 
 /// A run of the program. The words begin with the program's name; each slot of the files is unopened.
 ///

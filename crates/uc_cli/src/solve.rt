@@ -11,15 +11,16 @@ ghost use Rattle.uc_check.specs.Outside.{outside_of};
 ghost use Rattle.uc_check.specs.Writing.{IsTold, FailsToTell};
 ghost use Rattle.report.specs.FoundReport.{found_report};
 ghost use Rattle.uc_cli.specs.Run.{IsAnswer, IsSolved, IsFailure, KeepsToFiles, IsSolveRun};
-ghost use Rattle.uc_check.specs.Asked.{solve_asked};
+ghost use Rattle.command_line.specs.Asked.{solve_asked};
 
 use branch_tree::Found;
+use command_line::Solve;
 use outside::{Failed, Files, Gate, Sink, Slot};
 use report::{Fault, write_found};
 use search_core::limits::MAX_BUDGET;
 use std::alloc::Global;
 use std::sync::Wait;
-use uc_check::{End, Failure, Solve, end_of, read_instance, save};
+use uc_check::{End, Failure, end_of, read_instance, save};
 use uc_model::Instance;
 use uc_model::tolerance::WHOLE_GAP;
 use workers::{Options, search};

@@ -100,6 +100,7 @@ pub(crate) fn bounded(
     requires lawful { IsLawfulInstance instance.now }
     requires patterns { HasEachPattern instance.now }
     requires rays { HasNoRay instance.now }
+    requires whole { IsWhole search.state.tree }
     requires stored { All (λ table. table < length search.state.tables) (stored_tables (tree_of search.state.tree)) }
     ensures { (budget gap : ℕ) (stands : Standing) (opening : Priced) → IsDropped instance.now stands → most_on ≡ kept_stuck stands
         → IsBest instance.now (ending_of stands) search.best → IsRootTable instance.now (ending_of stands) opening.table opening.value
@@ -107,9 +108,10 @@ pub(crate) fn bounded(
         → All IsSizedEntry search.state.log → IsSpentUnlessClosed search.state search.best budget gap
         → IfOk result (IsAnswerOf instance.now budget gap) }
 {
+    let tables = search.state.tables().as_slice().len();
+    let layout = Layout::of(alloc, search.state.tree(), tables)?;
+    let most_on = told(search.state.tree(), &search.best, most_on);
     let (tree, tables, log) = search.state.finish();
-    let layout = Layout::of(alloc, &tree, tables.as_slice().len())?;
-    let most_on = told(&tree, &search.best, most_on);
     Ok(Found {
         schedule: search.best,
         tree,

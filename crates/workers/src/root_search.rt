@@ -1,10 +1,13 @@
 //! The search.
 
-ghost use Rattle.std.specs.Prelude.{◌≤◌, IfOk};
+ghost use Rattle.std.specs.Prelude.{◌≡◌, ℕ, ◌≤◌, IfOk, IfSome, None};
 ghost use Rattle.uc_model.specs.Limits.{IsLawfulInstance};
 ghost use Rattle.uc_model.specs.declared.tolerance.TheConstants.{WHOLE_GAP};
 ghost use Rattle.dual_model.specs.Tree.{HasEachPattern};
 ghost use Rattle.search_core.specs.declared.limits.TheConstants.{MAX_BUDGET};
+ghost use Rattle.schedule_check.specs.Accepted.{IsAcceptedIfFound};
+ghost use Rattle.decommitment.specs.Standings.{IsDropped};
+ghost use Rattle.decommitment.specs.declared.pass.Standing.{Standing};
 ghost use Rattle.opening.specs.Rays.{HasNoRay};
 ghost use Rattle.workers.specs.SearchResult.{IsSearchResult};
 ghost use Rattle.workers.specs.Writable.{IsWritable};
@@ -20,7 +23,7 @@ use opening::excluding_ray;
 use outside::Gate;
 use std::alloc::Global;
 use std::sync::Wait;
-use uc_model::{Instance, NoMemory};
+use uc_model::{Instance, NoMemory, Printed};
 
 /// How long a search goes on: at most `budget` evaluations after the opening, and only while the cost is above the bound by more
 /// than `gap` parts per million of its size.
@@ -47,9 +50,24 @@ pub fn search<R: Wait, G: Gate>(
     ensures writable { IfOk result (IsWritable instance.now) }
 {
     let mut worker = Worker::new(alloc, instance)?;
+    answered(rt, alloc, &mut worker, options, gate)
+}
+
+// The answer of a worker on the instance.
+fn answered<R: Wait, G: Gate>(
+    rt: &R,
+    alloc: Global,
+    worker: &mut Worker,
+    options: &Options,
+    gate: &G,
+) -> Result<Found, NoMemory>
+    requires budget { options.now.budget ≤ MAX_BUDGET }
+    requires gap { options.now.gap ≤ WHOLE_GAP }
+    ensures { IfOk result (IsAnswerOf worker.old.evaluator options.now.budget options.now.gap) }
+{
     match worker.evaluator.first_empty(alloc)? {
-        Some(g) => without_pattern(alloc, instance, g),
-        None => searched(rt, alloc, &mut worker, options, gate),
+        Some(g) => without_pattern(alloc, worker.evaluator.instance(), g),
+        None => searched(rt, alloc, worker, options, gate),
     }
 }
 
@@ -66,11 +84,31 @@ fn searched<R: Wait, G: Gate>(
     requires gap { options.now.gap ≤ WHOLE_GAP }
     ensures { IfOk result (IsAnswerOf worker.old.evaluator options.now.budget options.now.gap) }
 {
-    let instance = worker.evaluator.instance();
     let opened = started(alloc, worker, options.gap)?;
-    match excluding_ray(alloc, &mut worker.evaluator, &opened.start.best)? {
-        Some(n) => without_schedule(alloc, instance, n),
+    match excluded(alloc, worker, &opened.start.best) {
+        Some(answer) => answer,
         None => claimed(rt, alloc, worker, options, opened, gate),
+    }
+}
+
+// The answer where a ray of the opening excludes the root.
+fn excluded(
+    alloc: Global,
+    worker: &mut Worker,
+    best: &Option<(Printed, i64)>,
+) -> Option<Result<Found, NoMemory>>
+    requires patterns { HasEachPattern worker.old.evaluator }
+    requires accepted { IsAcceptedIfFound worker.old.evaluator best.now }
+    ensures kept { worker.new.evaluator ≡ worker.old.evaluator }
+    ensures rays { result ≡ None → HasNoRay worker.old.evaluator }
+    ensures answer { (budget gap : ℕ) (stands : Standing) → IsDropped worker.old.evaluator stands
+        → IfSome result (λ answer. IfOk answer (IsAnswerOf worker.old.evaluator budget gap)) }
+{
+    let instance = worker.evaluator.instance();
+    match excluding_ray(alloc, &mut worker.evaluator, best) {
+        Ok(None) => None,
+        Ok(Some(n)) => Some(without_schedule(alloc, instance, n)),
+        Err(NoMemory) => Some(Err(NoMemory)),
     }
 }
 

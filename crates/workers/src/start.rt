@@ -89,8 +89,7 @@ fn start_with(
             most_on: None,
         }),
         Standing::Stuck { most_on, .. } => {
-            let ascent = first_ascent(alloc, worker.evaluator.instance())?;
-            let best = first_repaired(alloc, worker, gap, &ascent)?;
+            let (ascent, best) = repaired(alloc, worker, gap)?;
             Ok(Opened {
                 start: Start {
                     opening,
@@ -101,6 +100,22 @@ fn start_with(
             })
         }
     }
+}
+
+// The first ascent, and what a repair of it finds.
+fn repaired(
+    alloc: Global,
+    worker: &mut Worker,
+    gap: u32,
+) -> Result<(Ascent, Option<(Printed, i64)>), NoMemory>
+    requires gap { gap ≤ WHOLE_GAP }
+    ensures kept { worker.new.evaluator ≡ worker.old.evaluator }
+    ensures ascent { IfOk result (λ both. IsAscentFor worker.old.evaluator 1 both.0) }
+    ensures accepted { IfOk result (λ both. IsAcceptedIfFound worker.old.evaluator both.1) }
+{
+    let ascent = first_ascent(alloc, worker.evaluator.instance())?;
+    let best = first_repaired(alloc, worker, gap, &ascent)?;
+    Ok((ascent, best))
 }
 
 // What a repair of the first ascent finds. One that ran off isn't repaired: there is hardly a schedule.

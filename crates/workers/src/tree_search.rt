@@ -16,6 +16,7 @@ ghost use Rattle.opening.specs.RootTables.{IsPricedOf};
 ghost use Rattle.opening.specs.declared.root_tables.Priced.{Priced};
 ghost use Rattle.workers.specs.inside.Best.{IsNoWorse};
 ghost use Rattle.workers.specs.inside.Searches.{IsGrown, IsReady, IsSearching, IsTurned, start_by};
+ghost use Rattle.workers.specs.inside.Starts.{IsBegun};
 ghost use Rattle.workers.specs.inside.Trials.{IsNextAt};
 
 use crate::best::{enough, improved, is_closed, moves};
@@ -51,19 +52,19 @@ pub(crate) struct Claim {
     pub unit: u32,
 }
 
-// The machine before any claim, with the cost of a schedule that may be missing.
+// The machine before any claim, with the cost of a schedule that may be missing, and the order of its open nodes.
 fn begun(
     alloc: Global,
     instance: &Instance,
     options: &Options,
     opening: Priced,
     best: &Option<(Printed, i64)>,
-) -> Result<State, NoMemory>
+) -> Result<(State, Frontier), NoMemory>
     requires lawful { IsLawfulInstance instance.now }
     requires budget { options.now.budget ≤ MAX_BUDGET }
     requires gap { options.now.gap ≤ WHOLE_GAP }
     requires opening { IsPricedOf instance.now opening }
-    ensures { IfOk result (IsPublished best.now (start_by instance.now opening options.now.budget options.now.gap)) }
+    ensures { IfOk result (λ both. IsPublished best.now (start_by instance.now opening options.now.budget options.now.gap) both.0) }
 {
     let units = instance.thermal.as_slice().len() as u32;
     let bound = floor_div(opening.value, i128::from(SCALE));
@@ -78,7 +79,8 @@ fn begun(
         bound,
     )?;
     publish(alloc, &mut state, best)?;
-    Ok(state)
+    let frontier = Frontier::of_root(alloc, &state)?;
+    Ok((state, frontier))
 }
 
 // The search before any claim.
@@ -92,16 +94,22 @@ fn searching(
     requires budget { options.now.budget ≤ MAX_BUDGET }
     requires gap { options.now.gap ≤ WHOLE_GAP }
     requires opening { IsPricedOf instance.now start.opening }
-    ensures published { IfOk result (λ search. IsPublished start.best (start_by instance.now start.opening options.now.budget options.now.gap) search.state) }
+    requires accepted { IsAcceptedIfFound instance.now start.best }
+    requires next { IsNextAt instance.now 1 start.next }
+    ensures begun { IfOk result (IsBegun instance.now start.opening options.now.budget options.now.gap) }
     ensures best { IfOk result (λ search. search.best ≡ start.best) }
-    ensures next { IfOk result (λ search. search.next ≡ start.next) }
 {
-    let state = begun(alloc, instance, options, start.opening, &start.best)?;
+    let Start {
+        opening,
+        best,
+        next,
+    } = start;
+    let (state, frontier) = begun(alloc, instance, options, opening, &best)?;
     Ok(Search {
-        frontier: Frontier::of_root(alloc, &state)?,
         state,
-        best: start.best,
-        next: start.next,
+        best,
+        frontier,
+        next,
         last: None,
     })
 }
@@ -136,22 +144,42 @@ pub(crate) fn search_tree<R: Wait, G: Gate>(
     ensures no_worse { IfOk result (λ search. IsNoWorse start.best search.best) }
 {
     let mut search = searching(alloc, worker.evaluator.instance(), options, start)?;
+    grow(rt, alloc, worker, options, &mut search, gate).and(Ok(search))
+}
+
+// Claims nodes of the search that has begun.
+fn grow<R: Wait, G: Gate>(
+    rt: &R,
+    alloc: Global,
+    worker: &mut Worker,
+    options: &Options,
+    search: &mut Search,
+    gate: &G,
+) -> Result<(), NoMemory>
+    requires budget { options.now.budget ≤ MAX_BUDGET }
+    requires gap { options.now.gap ≤ WHOLE_GAP }
+    requires begun { (opening : Priced) × IsBegun worker.old.evaluator opening options.now.budget options.now.gap search.old }
+    ensures kept { worker.new.evaluator ≡ worker.old.evaluator }
+    ensures grown { (opening : Priced) → IsBegun worker.old.evaluator opening options.now.budget options.now.gap search.old
+        → OnOk result (IsGrown worker.old.evaluator opening options.now.budget options.now.gap search.new.state search.new.best) }
+    ensures no_worse { OnOk result (IsNoWorse search.old.best search.new.best) }
+{
     for had in 0..options.budget {
         holds(&search.state);
-        if is_finished(&search, options.gap) {
-            return Ok(search);
+        if is_finished(search, options.gap) {
+            return Ok(());
         }
         let Some(node) = claim_next(alloc, &mut search.state, &mut search.frontier)? else {
-            return Ok(search);
+            return Ok(());
         };
         let claim = Claim {
             node,
             unit: had + 1,
         };
         gate.enter(rt, WORKER, claim.unit);
-        turn(alloc, worker, options.gap, &mut search, claim)?;
+        turn(alloc, worker, options.gap, search, claim)?;
     }
-    Ok(search)
+    Ok(())
 }
 
 // Whether the best schedule's cost is within the gap of the tree's bound, or no leaf has one. The whole tree is looked at only where

@@ -80,11 +80,20 @@ pub(crate) fn visit(
     ensures visited { OnOk result (IsVisited worker.old.evaluator search.old.state search.new.state claim.node claim.unit) }
 {
     let path = search.state.tree().fixings(alloc, claim.node)?;
-    let next = search.next.take();
-    let trial = chosen(alloc, worker, search, claim, &path, next)?;
-    end(alloc, worker, search, claim, &path, &trial)?;
+    let trial = chosen(alloc, worker, search, claim, &path)?;
+    let ended = end(alloc, worker, search, claim, &path, &trial);
+    remember(search, trial);
+    ended
+}
+
+// Keeps the ascent of the trial, where there is one, in the place of former ones.
+fn remember(search: &mut Search, trial: Trial)
+    ensures state { search.new.state ≡ search.old.state }
+    ensures best { search.new.best ≡ search.old.best }
+    ensures next { search.new.next ≡ None }
+{
+    search.next = None;
     search.last = trial.into_ascent();
-    Ok(())
 }
 
 // Evaluates the node at the trial's table, and commits what comes out with the move that ends the claim.
@@ -135,31 +144,53 @@ fn end(
 fn chosen(
     alloc: Global,
     worker: &mut Worker,
-    search: &Search,
+    search: &mut Search,
     claim: Claim,
     path: &Node,
-    next: Option<Ascent>,
 ) -> Result<Trial, NoMemory>
     requires path { IsNodeOf worker.old.evaluator path.now }
     requires unit { claim.unit ≤ MAX_BUDGET }
-    requires ready { IsReady worker.old.evaluator search.now.state claim.node claim.unit }
-    requires next { IsNextAt worker.old.evaluator claim.unit next }
+    requires ready { IsReady worker.old.evaluator search.old.state claim.node claim.unit }
+    requires next { IsNextAt worker.old.evaluator claim.unit search.old.next }
     ensures kept { worker.new.evaluator ≡ worker.old.evaluator }
-    ensures table { IfOk result (λ trial. IsTableFor worker.old.evaluator search.now.state claim.node claim.unit (table_of trial)) }
+    ensures state { search.new.state ≡ search.old.state }
+    ensures best { search.new.best ≡ search.old.best }
+    ensures table { IfOk result (λ trial. IsTableFor worker.old.evaluator search.old.state claim.node claim.unit (table_of trial)) }
 {
-    let state = &search.state;
-    if is_new(state, claim.node) {
-        let table = stored_table(state, claim.node).copy(alloc)?;
+    if is_new(&search.state, claim.node) {
+        let table = stored_table(&search.state, claim.node).copy(alloc)?;
         return Ok(Trial::Inherited(table));
     }
-    if let Some(table) = opening_ray(alloc, worker, search, claim, path)? {
-        return Ok(Trial::Ray(table));
+    match opening_ray(alloc, worker, search, claim, path)? {
+        Some(ray) => Ok(Trial::Ray(ray)),
+        None => ascended(alloc, worker, search, claim, path),
     }
-    let ascent = ascent(alloc, worker, state, claim, path, next)?;
-    if let Some(ray) = own_ray(alloc, worker, search, claim, path, &ascent)? {
-        return Ok(Trial::RanOff { ray, ascent });
+}
+
+// The ascent from what the node stores, with its ray where this excludes the node.
+fn ascended(
+    alloc: Global,
+    worker: &mut Worker,
+    search: &mut Search,
+    claim: Claim,
+    path: &Node,
+) -> Result<Trial, NoMemory>
+    requires path { IsNodeOf worker.old.evaluator path.now }
+    requires unit { claim.unit ≤ MAX_BUDGET }
+    requires ready { IsReady worker.old.evaluator search.old.state claim.node claim.unit }
+    requires known { entries_of search.old.state.log claim.node ≡ [] → claim.node ≢ 0 → ⊥ }
+    requires next { IsNextAt worker.old.evaluator claim.unit search.old.next }
+    ensures kept { worker.new.evaluator ≡ worker.old.evaluator }
+    ensures state { search.new.state ≡ search.old.state }
+    ensures best { search.new.best ≡ search.old.best }
+    ensures table { IfOk result (λ trial. IsTableFor worker.old.evaluator search.old.state claim.node claim.unit (table_of trial)) }
+{
+    let ascent = ascent(alloc, worker, search, claim, path)?;
+    match own_ray(alloc, worker, search, claim, path, &ascent) {
+        Ok(Some(ray)) => Ok(Trial::RanOff { ray, ascent }),
+        Ok(None) => Ok(Trial::Ascended(ascent)),
+        Err(NoMemory) => Err(NoMemory),
     }
-    Ok(Trial::Ascended(ascent))
 }
 
 // Whether the node isn't the root, and has no entry of the log.
@@ -228,30 +259,31 @@ fn own_ray(
     Ok(fresh(&search.state, claim.node, Some(ray)))
 }
 
-// The ascent to a table of this unit's scale: the first one, where it was made already, or one from what the node stores.
+// The ascent to a table of this unit's scale: the one that was made already, or one from what the node stores.
 fn ascent(
     alloc: Global,
     worker: &Worker,
-    state: &State,
+    search: &mut Search,
     claim: Claim,
     path: &Node,
-    next: Option<Ascent>,
 ) -> Result<Ascent, NoMemory>
     requires unit { claim.unit ≤ MAX_BUDGET }
-    requires next { IsNextAt worker.now.evaluator claim.unit next }
+    requires next { IsNextAt worker.now.evaluator claim.unit search.old.next }
     requires path { IsNodeOf worker.now.evaluator path.now }
-    requires ready { IsReady worker.now.evaluator state.now claim.node claim.unit }
-    ensures { IfOk result (IsAscentFor worker.now.evaluator claim.unit) }
+    requires ready { IsReady worker.now.evaluator search.old.state claim.node claim.unit }
+    ensures state { search.new.state ≡ search.old.state }
+    ensures best { search.new.best ≡ search.old.best }
+    ensures ascent { IfOk result (IsAscentFor worker.now.evaluator claim.unit) }
 {
     let instance = worker.evaluator.instance();
-    match next {
+    match search.next.take() {
         Some(ascent) => Ok(ascent),
         None if claim.unit == 1 => first_ascent(alloc, instance),
         None => next_ascent(
             alloc,
             instance,
             path,
-            stored_table(state, claim.node),
+            stored_table(&search.state, claim.node),
             claim.unit,
         ),
     }

@@ -1,12 +1,17 @@
 -- What the claims of the root begin with.
-use Rattle.std.specs.Prelude.{◌≡◌}
+use Rattle.std.specs.Prelude.{◌≡◌, ℕ, length}
+use Rattle.uc_model.specs.Limits.{IsLawfulInstance}
 use Rattle.uc_model.specs.declared.instance.Instance.{Instance}
 use Rattle.decommitment.specs.Standings.{IsDropped, ending_of}
 use Rattle.decommitment.specs.declared.pass.Standing.{Standing}
+use Rattle.schedule_check.specs.Accepted.{IsAcceptedIfFound}
 use Rattle.opening.specs.RootTables.{IsPricedOf}
+use Rattle.opening.specs.declared.root_tables.Priced.{Priced}
 use Rattle.workers.specs.Opening.{IsRootTable}
 use Rattle.workers.specs.declared.start.Opened.{Opened}
+use Rattle.workers.specs.declared.tree_search.Search.{Search}
 use Rattle.workers.specs.inside.Best.{IsBest, kept_stuck}
+use Rattle.workers.specs.inside.Searches.{IsSearching, cost_of}
 use Rattle.workers.specs.inside.Trials.{IsNextAt}
 
 -- the drop commitment, with what is known by it
@@ -18,3 +23,12 @@ pub record IsOpened (instance : Instance) (opened : Opened) : Type 0 where
   pub priced : IsPricedOf instance opened.start.opening
   pub is_best : IsBest instance (ending_of standing) opened.start.best
   pub is_next : IsNextAt instance 1 opened.start.next
+
+-- the search before any claim
+pub record IsBegun (instance : Instance) (opening : Priced) (budget gap : ℕ) (search : Search) : Type 0 where
+  pub lawful : IsLawfulInstance instance
+  pub searching : IsSearching instance opening budget gap search.state
+  pub count : length search.state.claims ≡ 0
+  pub published : search.state.best ≡ cost_of search.best
+  pub accepted : IsAcceptedIfFound instance search.best
+  pub is_next : IsNextAt instance 1 search.next

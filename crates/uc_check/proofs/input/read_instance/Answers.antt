@@ -1,5 +1,4 @@
 -- A fault in reading the slot is one of the instance's file.
-use Rattle.outside.specs.declared.slot.Slot.TheVariants.{Instance}
 use Rattle.uc_check.proofs.Unread.{instance_cause}
 use Rattle.uc_check.proofs.Verdicts.{handed_up}
 use Rattle.uc_check.proofs.input.read_instance.Goals as goal

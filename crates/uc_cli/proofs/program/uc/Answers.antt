@@ -1,7 +1,7 @@
 -- A demo touches no file, and where memory was refused at the words nothing was touched.
 use Rattle.std.proofs.Common.{◌∙◌, ap, Some}
-use Rattle.uc_check.specs.Asked.{command_asked, demo_asked}
-use Rattle.uc_check.specs.Command.{Demos}
+use Rattle.command_line.specs.Asked.{command_asked, demo_asked}
+use Rattle.command_line.specs.Command.{Demos}
 use Rattle.uc_cli.proofs.TurnedAway.{stopped_run, usage}
 use Rattle.uc_cli.proofs.program.uc.Goals as goal
 

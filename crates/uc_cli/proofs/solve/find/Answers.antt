@@ -1,7 +1,7 @@
 -- What the search answers for the instance that was read.
 use Rattle.outside.specs.declared.slot.Slot.TheVariants as slot
 use Rattle.report.specs.declared.fault.Fault.TheVariants.{Memory}
-use Rattle.uc_check.specs.Asked.{solve_asked}
+use Rattle.command_line.specs.Asked.{solve_asked}
 use Rattle.uc_check.proofs.Verdicts.{handed_up}
 use Rattle.uc_cli.proofs.SearchResults.{answered}
 use Rattle.uc_cli.proofs.solve.find.Goals as goal

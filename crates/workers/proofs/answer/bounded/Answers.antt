@@ -1,7 +1,7 @@
 -- The tree, the tables and the log are those of the machine, and the layout is the tree's.
 use Rattle.std.proofs.Common.{◌∙◌, ◌<◌, All, length, ap, subst}
 use Rattle.branch_tree.specs.Claims.{IsLayoutOf}
-use Rattle.branch_tree.specs.TreeView.{TreeView, IsWhole}
+use Rattle.branch_tree.specs.TreeView.{TreeView}
 use Rattle.workers.proofs.Answered.{searched_answer}
 use Rattle.workers.proofs.answer.bounded.Goals as goal
 
@@ -9,10 +9,9 @@ pub returns : goal.returns
 returns c = λ budget gap stands opening dropped kept best opens priced holds sized spent.
     let m = c.args.search.state in
     let layout = c.in_ok-layout.layout in
-    let whole : IsWhole m.tree = subst IsWhole (c.tree.view_is ∙ c.finish-tree.ensures.tree) c.tree.invariant.whole in
-    let of_tree : IsLayoutOf m.tree layout = subst (λ (t : TreeView). IsLayoutOf t layout) c.finish-tree.ensures.tree c.in_ok-layout.ensures.layout in
+    let of_tree : IsLayoutOf m.tree layout = subst (λ (t : TreeView). IsLayoutOf t layout) c.tree.ensures c.in_ok-layout.ensures.layout in
     let within : All (λ i. i < length m.tables) layout.tables =
-    subst (λ count. All (λ i. i < count) layout.tables) (ap length (c.as_slice.ensures ∙ c.finish-tree.ensures.tables)) c.in_ok-layout.ensures.within in
-    rw (c.told-most_on.ensures, c.finish-tree.ensures.tree, c.finish-tree.ensures.tables, c.finish-tree.ensures.log)
+    subst (λ count. All (λ i. i < count) layout.tables) (ap length (c.as_slice-tables.ensures ∙ c.tables.ensures)) c.in_ok-layout.ensures.within in
+    rw (c.told-most_on.ensures, c.tree-2.ensures, c.finish-tree.ensures.tree, c.finish-tree.ensures.tables, c.finish-tree.ensures.log)
     (searched_answer c.args.instance.now stands c.args.search.best c.args.most_on opening m layout budget gap c.requires.lawful c.requires.patterns
-    c.requires.rays dropped kept best opens priced holds sized spent whole of_tree within)
+    c.requires.rays dropped kept best opens priced holds sized spent c.requires.whole of_tree within)

@@ -2,8 +2,8 @@
 use Rattle.std.proofs.Common.{sym}
 use Rattle.clap.specs.Words.{found_of}
 use Rattle.clap.proofs.WalkLemmas.{one_text-rows}
-use Rattle.uc_check.proofs.OptionNumbers.{kept_of, kept_some, kept_none}
-use Rattle.uc_check.proofs.command.number.Goals as goal
+use Rattle.command_line.proofs.OptionNumbers.{kept_of, kept_some, kept_none}
+use Rattle.command_line.proofs.command.number.Goals as goal
 
 pub returns-in-Some-clause-value : goal.returns-in-Some-clause-value
 returns-in-Some-clause-value c =

@@ -2,18 +2,21 @@
 -- ascent that was made already is that of the next claim.
 use Rattle.std.proofs.Common.{◌≡◌, suc, length}
 use Rattle.schedule_check.specs.Accepted.{IsAcceptedIfFound}
+use Rattle.opening.specs.declared.root_tables.Priced.{Priced}
 use Rattle.workers.specs.inside.Trials.{IsNextAt}
 use Rattle.workers.specs.inside.Searches.{IsSearching, cost_of}
+use Rattle.workers.specs.inside.Starts.{IsBegun}
 use Rattle.workers.specs.inside.Best.{IsNoWorse}
-use Rattle.workers.proofs.tree_search.search_tree.Given as goal
+use Rattle.workers.proofs.tree_search.grow.Given as goal
 
 abbrev pub invariant-loop-had : goal.invariant-loop-had
 invariant-loop-had g l = record {
   kept : l.worker.evaluator ≡ l.fn.worker.evaluator;
-  searching : IsSearching l.fn.worker.evaluator l.fn.start.opening l.options.budget l.options.gap l.search.state;
+  searching : (opening : Priced) → IsBegun l.fn.worker.evaluator opening l.options.budget l.options.gap l.fn.search
+      → IsSearching l.fn.worker.evaluator opening l.options.budget l.options.gap l.search.state;
   count : length l.search.state.claims ≡ l.had;
   published : l.search.state.best ≡ cost_of l.search.best;
   accepted : IsAcceptedIfFound l.fn.worker.evaluator l.search.best;
-  no_worse : IsNoWorse l.fn.start.best l.search.best;
+  no_worse : IsNoWorse l.fn.search.best l.search.best;
   next : IsNextAt l.fn.worker.evaluator (suc l.had) l.search.next;
 }

@@ -7,7 +7,7 @@ use Rattle.clap.specs.Words.{IsUnsignedIn, ReadsOne, Text}
 use Rattle.clap.specs.ValueTests.{is_unsigned_in}
 use Rattle.clap.specs.declared.builder.value_parser.ValueParser.TheVariants.{Unsigned}
 use Rattle.clap.proofs.ValueTestLemmas.{accepts-Accepts, Accepts-accepts}
-use Rattle.uc_check.specs.Command.{whole_up_to}
+use Rattle.command_line.specs.Command.{whole_up_to}
 
 -- the number that u32 reads of the text, or none
 abbrev pub Reads : Text → Option ℕ → Type 0

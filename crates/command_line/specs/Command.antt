@@ -5,7 +5,7 @@ use Rattle.std.specs.Str.{bytes_eq}
 use Rattle.std.specs.Str.Parse.{digits_value, without_leading_plus}
 use Rattle.clap.specs.ValueTests.{is_unsigned_in}
 use Rattle.clap.specs.Words.{Row, Text, first_of, one_of, subcommand_of}
-use Rattle.uc_check.specs.Arguments.{program, is_taken}
+use Rattle.command_line.specs.Arguments.{program, is_taken}
 
 -- what `solve` is asked: the instance's file, the certificate's, the budget of evaluations, the gap in parts per million of a cost
 -- at which a search is closed, and whether a rounded number is refused

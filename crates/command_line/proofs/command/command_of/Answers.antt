@@ -1,9 +1,9 @@
 -- The parser's own rule says when words are taken, and what they name.
 use Rattle.std.proofs.Common.{sym, subst}
 use Rattle.std.specs.Prelude.{Some}
-use Rattle.uc_check.specs.Asked.{IsRefusal}
-use Rattle.uc_check.proofs.Commands.{taken, found, refused}
-use Rattle.uc_check.proofs.command.command_of.Goals as goal
+use Rattle.command_line.specs.Asked.{IsRefusal}
+use Rattle.command_line.proofs.Commands.{taken, found, refused}
+use Rattle.command_line.proofs.command.command_of.Goals as goal
 
 pub returns-in-Some-clause-taken : goal.returns-in-Some-clause-taken
 returns-in-Some-clause-taken c = taken _ _ c.in-Ok.ensures c.in-Ok-try_get_matches_from.ensures.kinds

@@ -3,7 +3,7 @@
 ghost use Rattle.std.specs.Prelude.{◌≡◌, IfOk, true, false, []};
 ghost use Rattle.clap.specs.Words.{app_of, rule_of, shape_of};
 ghost use Rattle.clap.specs.declared.builder.command.Command.TheViews.{out-Command as fields_of};
-ghost use Rattle.uc_check.specs.Arguments.{place as place_rule, needed_option as needed_rule, units_option as units_rule, one_alone as one_rule, gap_option as gap_rule, switch as switch_rule, seed_place as seed_rule, solve_shape, check_shape, demo_shape, program as program_app};
+ghost use Rattle.command_line.specs.Arguments.{place as place_rule, needed_option as needed_rule, units_option as units_rule, one_alone as one_rule, gap_option as gap_rule, switch as switch_rule, seed_place as seed_rule, solve_shape, check_shape, demo_shape, program as program_app};
 
 use clap::{Arg, ArgAction, Command, value_parser};
 use std::alloc::{AllocError, Global};

@@ -4,13 +4,13 @@ use Rattle.clap.specs.declared.error.kind.ErrorKind.{ErrorKind}
 use Rattle.clap.specs.declared.error.kind.ErrorKind.TheVariants as kind
 use Rattle.report.specs.declared.fault.Fault.{Fault}
 use Rattle.report.specs.declared.fault.Fault.TheVariants.{Words, Memory}
-use Rattle.uc_check.specs.Arguments.{is_taken}
-use Rattle.uc_check.specs.Command.{Solve, Check, Demo, Command, Solves, Checks, Demos}
-use Rattle.uc_check.specs.declared.command.Solve.{Solve as SolveWords}
-use Rattle.uc_check.specs.declared.command.Check.{Check as CheckWords}
-use Rattle.uc_check.specs.declared.command.Demo.{Demo as DemoWords}
-use Rattle.uc_check.specs.declared.command.Command.{Command as CommandWords}
-use Rattle.uc_check.specs.declared.command.Command.TheVariants as forms
+use Rattle.command_line.specs.Arguments.{is_taken}
+use Rattle.command_line.specs.Command.{Solve, Check, Demo, Command, Solves, Checks, Demos}
+use Rattle.command_line.specs.declared.command.Solve.{Solve as SolveWords}
+use Rattle.command_line.specs.declared.command.Check.{Check as CheckWords}
+use Rattle.command_line.specs.declared.command.Demo.{Demo as DemoWords}
+use Rattle.command_line.specs.declared.command.Command.{Command as CommandWords}
+use Rattle.command_line.specs.declared.command.Command.TheVariants as forms
 
 abbrev pub solve_asked : SolveWords → Solve
 solve_asked solve =

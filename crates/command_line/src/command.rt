@@ -2,9 +2,9 @@
 
 ghost use Rattle.std.specs.Prelude.{◌≡◌, ◌≤◌, map, string_bytes, true, IfOk, IfErr, IfSome, Some, option_map, option_and_then};
 ghost use Rattle.clap.specs.Words.{first_of, found_of, rows_of, kind_of, subcommand_rows_of};
-ghost use Rattle.uc_check.specs.Arguments.{is_taken};
-ghost use Rattle.uc_check.specs.Command.{named, command_of as command_of_words, value_of, is_on, number_of, solve_of as solve_of_rows, check_of as check_of_rows, demo_of as demo_of_rows};
-ghost use Rattle.uc_check.specs.Asked.{command_asked, solve_asked, check_asked, demo_asked, refusal_of, HasNumbers, IsRefusal};
+ghost use Rattle.command_line.specs.Arguments.{is_taken};
+ghost use Rattle.command_line.specs.Command.{named, command_of as command_of_words, value_of, is_on, number_of, solve_of as solve_of_rows, check_of as check_of_rows, demo_of as demo_of_rows};
+ghost use Rattle.command_line.specs.Asked.{command_asked, solve_asked, check_asked, demo_asked, refusal_of, HasNumbers, IsRefusal};
 
 use crate::arguments::program;
 use clap::error::ErrorKind;

@@ -12,10 +12,10 @@ use Rattle.clap.specs.Kinds.{check_kinds, or_else}
 use Rattle.clap.specs.Faults.{level_fault, entered_fault, defaults_fault, settle_fault, walk_fault}
 use Rattle.clap.specs.Simple.{argument_words, built, entered, label_of, names_of, rows_at, Shape}
 use Rattle.clap.specs.Walk.{Names, answers_to, finished, nothing_held, settled, stop_after, walk, walk_from}
-use Rattle.uc_check.specs.Arguments.{program, is_none, is_taken}
-use Rattle.uc_check.specs.Command.{command_of, named}
-use Rattle.uc_check.specs.declared.command.Command.{Command as CommandWords}
-use Rattle.uc_check.specs.Asked.{command_asked, refusal_of, IsRefusal}
+use Rattle.command_line.specs.Arguments.{program, is_none, is_taken}
+use Rattle.command_line.specs.Command.{command_of, named}
+use Rattle.command_line.specs.declared.command.Command.{Command as CommandWords}
+use Rattle.command_line.specs.Asked.{command_asked, refusal_of, IsRefusal}
 
 -- where neither of two steps fails, the second doesn't
 second : (a b : Kinds) → or_else a b ≡ [] → b ≡ []

@@ -1,0 +1,7 @@
+//! The words of the command line: which are taken, and what they ask for.
+#![tactic(auto)]
+
+mod arguments;
+pub mod command;
+
+pub use command::{Check, Command, Demo, Solve, command_of};

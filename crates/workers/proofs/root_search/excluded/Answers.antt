@@ -1,0 +1,13 @@
+-- The root's leaf has the ray.
+use Rattle.std.proofs.Common.{subst, sym}
+use Rattle.std.specs.Prelude.{IfOk}
+use Rattle.uc_model.specs.declared.instance.Instance.{Instance}
+use Rattle.decommitment.specs.Standings.{IsDropped}
+use Rattle.workers.specs.inside.Answers.{IsAnswerOf}
+use Rattle.workers.proofs.root_search.excluded.Goals as goal
+
+pub returns-in-Ok-Some-clause-answer : goal.returns-in-Ok-Some-clause-answer
+returns-in-Ok-Some-clause-answer c = λ budget gap stands dropped.
+    let own = c.instance-instance.ensures.is in
+    subst (λ (instance : Instance). IfOk c.without_schedule.result (IsAnswerOf instance budget gap)) own
+    (c.without_schedule.ensures budget gap stands (subst (λ (instance : Instance). IsDropped instance stands) (sym own) dropped))

@@ -1,0 +1,97 @@
+-- Each turn is a claim and its commit, and at the end the search is closed, no node is open, or the budget is spent.
+use Rattle.std.proofs.Common.{◌≡◌, ◌∙◌, suc, ◌+◌, length, Ok, ap, arith, refl, subst, sym}
+use Rattle.uc_model.specs.declared.instance.Instance.{Instance}
+use Rattle.search_core.specs.Machine.{Machine}
+use Rattle.schedule_check.specs.Accepted.{IsAcceptedIfFound}
+use Rattle.workers.specs.inside.Searches.{IsGrown, IsReady, IsTurned}
+use Rattle.opening.specs.declared.root_tables.Priced.{Priced}
+use Rattle.workers.specs.inside.Starts.{IsBegun}
+use Rattle.workers.specs.inside.Trials.{IsNextAt}
+use Rattle.workers.proofs.Searches.{claimed_ready, closed_by_none_open, grown_closed, turned_best, turned_searching}
+use Rattle.workers.proofs.tree_search.grow.Goals as goal
+
+pub loop-had-init : goal.loop-had-init
+loop-had-init g c =
+    let begun = c.requires.begun.1 in
+    record {
+      kept = refl;
+      searching = λ opening is. is.searching;
+      count = begun.count;
+      published = begun.published;
+      accepted = begun.accepted;
+      no_worse = λ ending h. h;
+      next = begun.is_next;
+    }
+
+pub returns-then-is_finished-clause-grown : goal.returns-then-is_finished-clause-grown
+returns-then-is_finished-clause-grown g c = λ opening begun.
+    let before = c.loop-had.invariant in
+    grown_closed c.args.worker.now.evaluator opening c.args.options.now.budget c.args.options.now.gap c.loop-had.search.state
+    c.loop-had.search.best (before.searching opening begun) before.published before.accepted
+    (c.is_finished.ensures c.if-is_finished.true)
+
+pub returns-in_default-clause-grown : goal.returns-in_default-clause-grown
+returns-in_default-clause-grown g c = λ opening begun.
+    let instance = c.args.worker.now.evaluator in
+    let budget = c.args.options.now.budget in
+    let gap = c.args.options.now.gap in
+    let best = c.loop-had.search.best in
+    let state = c.loop-had.search.state in
+    let before = c.loop-had.invariant in
+    let searching = before.searching opening begun in
+    let none = c.claim_next.ensures.none (c.in_ok-node.was ∙ ap Ok c.in_default.is) in
+    let holds = c.holds.ensures.holds instance opening budget gap begun.lawful searching in
+    subst (λ (m : Machine). IsGrown instance opening budget gap m best) (sym none.0)
+    (grown_closed instance opening budget gap state best searching before.published before.accepted
+    (closed_by_none_open instance opening budget gap state best searching holds before.published none.1))
+
+pub turn-requires-clause-ready : goal.turn-requires-clause-ready
+turn-requires-clause-ready g c =
+    let instance = c.args.worker.now.evaluator in
+    let opening = c.requires.begun.0 in
+    let begun = c.requires.begun.1 in
+    let budget = c.args.options.now.budget in
+    let gap = c.args.options.now.gap in
+    let state = c.loop-had.search.state in
+    let before = c.loop-had.invariant in
+    let searching = before.searching opening begun in
+    let node = c.in-Some.node in
+    let unit = c.loop-had.had + 1 in
+    let claimed = c.claim_next.ensures.claimed node (c.in_ok-node.was ∙ ap Ok c.in-Some.is) in
+    subst (λ (i : Instance). IsReady i c.claim_next.new.state node unit) (sym before.kept)
+    (claimed_ready instance opening budget gap state c.claim_next.new.state node unit searching
+    (c.holds.ensures.holds instance opening budget gap begun.lawful searching) c.holds.ensures.whole claimed.0 claimed.1
+    (omega (arith, before.count)))
+
+pub loop-had-preserved : goal.loop-had-preserved
+loop-had-preserved g c =
+    let instance = c.args.worker.now.evaluator in
+    let opening = c.requires.begun.0 in
+    let begun = c.requires.begun.1 in
+    let budget = c.args.options.now.budget in
+    let gap = c.args.options.now.gap in
+    let state = c.loop-had.search.state in
+    let new = c.claim_next.new.state in
+    let node = c.in-Some.node in
+    let unit = c.loop-had.had + 1 in
+    let before = c.loop-had.invariant in
+    let searching = before.searching opening begun in
+    let after = c.turn.new.search in
+    let turn = c.in_ok-turn.ensures in
+    let claimed = c.claim_next.ensures.claimed node (c.in_ok-node.was ∙ ap Ok c.in-Some.is) in
+    let unit_is : unit ≡ suc (length state.claims) = omega (arith, before.count) in
+    let ready = claimed_ready instance opening budget gap state new node unit searching
+    (c.holds.ensures.holds instance opening budget gap begun.lawful searching) c.holds.ensures.whole claimed.0 claimed.1 unit_is in
+    let accepted = subst (λ (i : Instance). IsAcceptedIfFound i after.best) before.kept turn.accepted in
+    let turned = subst (λ (i : Instance). IsTurned i new after.state after.best node unit) before.kept turn.turned in
+    let both = λ (o : Priced) (is : IsBegun instance o budget gap c.args.search.now). turned_searching instance o budget gap state new after.state after.best node
+    unit (before.searching o is) claimed.0 claimed.1 unit_is ready accepted turned in
+    record {
+      kept = turn.kept ∙ before.kept;
+      searching = λ o is. (both o is).0;
+      count = (both opening begun).1;
+      published = turned_best instance state new after.state c.loop-had.search.best after.best node unit claimed.1 ready before.published turn.no_worse turned;
+      accepted = accepted;
+      no_worse = λ ending h. turn.no_worse ending (before.no_worse ending h);
+      next = subst (IsNextAt instance (suc unit)) (sym turn.next) tt;
+    }
