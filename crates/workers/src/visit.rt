@@ -17,7 +17,7 @@ use crate::worker::Worker;
 use claims::{WORKER, action, stored_table, take};
 use dual_model::{Node, Table};
 use opening::{is_positive, node_ray};
-use prices::{Ascent, next_ascent};
+use prices::{Ascent, next_ascent, with_ray};
 use search_core::{Event, State};
 use std::alloc::Global;
 use uc_model::NoMemory;
@@ -155,7 +155,7 @@ fn chosen(
     if let Some(table) = opening_ray(alloc, worker, search, claim, path)? {
         return Ok(Trial::Ray(table));
     }
-    let ascent = ascent(alloc, worker, state, claim, path, next)?;
+    let ascent = sought(alloc, worker, search, claim, path, next)?;
     if let Some(ray) = own_ray(alloc, worker, search, claim, path, &ascent)? {
         return Ok(Trial::RanOff { ray, ascent });
     }
@@ -226,6 +226,28 @@ fn own_ray(
     }
     let ray = ray.copy(alloc)?;
     Ok(fresh(&search.state, claim.node, Some(ray)))
+}
+
+// The ascent to a table of this unit's scale; where no schedule is known after the first claim, with a ray that is looked for.
+fn sought(
+    alloc: Global,
+    worker: &Worker,
+    search: &Search,
+    claim: Claim,
+    path: &Node,
+    next: Option<Ascent>,
+) -> Result<Ascent, NoMemory>
+    requires unit { claim.unit ≤ MAX_BUDGET }
+    requires next { IsNextAt worker.now.evaluator claim.unit next }
+    requires path { IsNodeOf worker.now.evaluator path.now }
+    requires ready { IsReady worker.now.evaluator search.now.state claim.node claim.unit }
+    ensures { IfOk result (IsAscentFor worker.now.evaluator claim.unit) }
+{
+    let ascent = ascent(alloc, worker, &search.state, claim, path, next)?;
+    if search.best.is_some() || claim.unit == 1 || ascent.ray.is_some() {
+        return Ok(ascent);
+    }
+    with_ray(alloc, worker.evaluator.instance(), path, ascent)
 }
 
 // The ascent to a table of this unit's scale: the first one, where it was made already, or one from what the node stores.
