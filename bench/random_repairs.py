@@ -1,11 +1,12 @@
 #!/usr/bin/env python3
 """Repairs of small random instances beside their best schedules, which are found by enumeration.
 
-    python3 bench/random_repairs.py [COUNT [SEED]]     # at the top of the repository, with `rt` on the path
+    python3 bench/random_repairs.py [COUNT [SEED]] [falling]     # at the top of the repository, with `rt` on the path
 
 An instance has up to three units and four hours, and whole megawatts. Its best schedule in whole megawatts is the least over all allowed
 patterns of all outputs that keep the rules. Told are of how many instances with such a schedule a repair found one, and how many of those
-cost no more. A repair may also find cheaper ones, between whole megawatts. Nothing is proved here, see `unproved.py`.
+cost no more. A repair may also find cheaper ones, between whole megawatts. With `falling` costs may fall as outputs rise, and there is
+always a renewable unit, of up to 8 MW. Nothing is proved here, see `unproved.py`.
 """
 import itertools
 import json
@@ -57,14 +58,14 @@ fn main(rt: HostRuntime) -> io::Result<()> {
 """
 
 
-def random_unit(chance):
+def random_unit(chance, falling):
     low = chance.randint(1, 3)
     high = low + chance.randint(0, 4)
     outputs = sorted(chance.sample(range(low, high + 1), min(chance.randint(1, 3), high - low + 1)) + [low, high])
     cost, points = chance.randint(0, 30), []
     for output in sorted(set(outputs)):
         points.append({"mw": output, "cost": cost})
-        cost += chance.randint(0, 60)
+        cost += chance.randint(-40 if falling else 0, 60)
     on = chance.random() < 0.6
     startup = [{"lag": chance.randint(1, 2), "cost": chance.randint(0, 40)}]
     if chance.random() < 0.5:
@@ -80,13 +81,14 @@ def random_unit(chance):
     }
 
 
-def random_instance(chance):
+def random_instance(chance, falling=False):
     periods, units = chance.choice([(1, 1), (1, 3), (2, 2), (2, 3), (3, 1), (3, 2), (4, 1), (4, 2)])
-    thermal = {f"g{g}": random_unit(chance) for g in range(units)}
+    thermal = {f"g{g}": random_unit(chance, falling) for g in range(units)}
     most = sum(it["power_output_maximum"] for it in thermal.values())
     renewable = {}
-    if chance.random() < 0.4:
-        renewable["w"] = {"power_output_minimum": [0] * periods, "power_output_maximum": [chance.randint(0, 3) for _ in range(periods)]}
+    if falling or chance.random() < 0.4:
+        free = [chance.randint(0, 8 if falling else 3) for _ in range(periods)]
+        renewable["w"] = {"power_output_minimum": [0] * periods, "power_output_maximum": free}
     return {
         "time_periods": periods, "demand": random_demand(chance, thermal, periods, most),
         "reserves": [chance.choice([0, 0, 1, 2]) for _ in range(periods)],
@@ -210,9 +212,9 @@ def next_states(instance, units, hulls, commitment, free, t, states):
     return found
 
 
-def main(count, seed):
+def main(count, seed, falling):
     chance = random.Random(seed)
-    instances = [random_instance(chance) for _ in range(count)]
+    instances = [random_instance(chance, falling) for _ in range(count)]
     with tempfile.TemporaryDirectory() as made:
         folder = pathlib.Path(made)
         program = unproved.build(folder, LIBRARIES, PROGRAM.replace("COUNT_u32", f"{count}_u32"), checks=True)
@@ -237,4 +239,5 @@ def main(count, seed):
 
 
 if __name__ == "__main__":
-    main(*(int(it) for it in (sys.argv[1:] + ["1000", "1"][len(sys.argv) - 1:])))
+    words = [it for it in sys.argv[1:] if it != "falling"]
+    main(*(int(it) for it in (words + ["1000", "1"][len(words):])), "falling" in sys.argv)

@@ -34,6 +34,9 @@ const MOST_CUTS: usize = 24;
 
 const FEW_CUTS: usize = 4;
 
+/// The most where more are asked for.
+const MORE_CUTS: usize = 64;
+
 const MANY_CELLS: usize = 8000;
 
 /// The most doublings of the unit of slopes.
@@ -101,6 +104,13 @@ impl Bundle {
                 FEW_CUTS
             },
         })
+    }
+
+    /// Keeps more cuts, unless there are many cells.
+    pub fn keep_more(&mut self) {
+        if !self.has_few_cuts() {
+            self.most = MORE_CUTS;
+        }
     }
 
     /// Whether few cuts are kept.

@@ -30,7 +30,7 @@ const STALLS: u32 = 10;
 /// A step has to promise this part of the value.
 const PROMISE: i128 = 1_000_000;
 
-/// The part of the value by which the first step is to raise it, from prices in order of merit.
+/// The part of the value by which the first step is to raise it, from prices in order of merit, and where nothing costs anything.
 const RISE_BY_MERIT: i128 = 100;
 
 /// The same from the prices of a table.
@@ -38,6 +38,9 @@ const RISE_BY_TABLE: i128 = 400;
 
 /// A value counts as no less in size than this part of what the dearest unit costs at full load in all periods.
 const LEAST_SIZE: i128 = 4;
+
+/// The most evaluations of an ascent where nothing costs anything.
+const RAY_EVALUATIONS: u32 = 150;
 
 /// What an ascent found: the best table, how often each unit was on in each period among the cuts that give the best move, unit by unit,
 /// in parts of 2^16, and what it takes the bound for, in micro-dollars, of which nothing is proved. Where this is above all that a schedule
@@ -61,6 +64,16 @@ struct Center {
     shares: Vec<i64>,
 }
 
+// Where an ascent starts: prices at the scale `SCALE`, the part of the value by which its first step is to raise it, after how many
+// evaluations it ends, and whether it keeps more cuts.
+#[derive(Drop)]
+struct Start {
+    prices: Vec<i64>,
+    part: i128,
+    evaluations: u32,
+    keeps_more: bool,
+}
+
 // Where an ascent ended: prices at the scale `SCALE`, their value, and how often units are on.
 #[derive(Drop)]
 struct Top {
@@ -69,7 +82,7 @@ struct Top {
     shares: Vec<i64>,
 }
 
-// How large values are, at the scale `SCALE`: as how much one counts at least, and what no schedule can cost.
+// How large values are, at the scale `SCALE`: as how much one counts at least, and what no schedule can cost, above which an ascent ends.
 #[derive(Clone, Copy)]
 struct Sizes {
     least: i128,
@@ -92,6 +105,14 @@ impl Sizes {
         Sizes {
             least: whole.saturating_mul(i128::from(full)) / LEAST_SIZE,
             most: whole.saturating_mul(2).saturating_mul(hourly),
+        }
+    }
+
+    // The same where nothing costs anything.
+    fn without_costs(instance: &Instance) -> Sizes {
+        Sizes {
+            most: 0,
+            ..Sizes::of(instance)
         }
     }
 
@@ -133,37 +154,98 @@ pub fn ascend(
     ensures ray_scale { IfOk result (λ ascent. IfSome ascent.ray (λ ray. ray.k ≡ pos 0)) }
 {
     let mut evaluator = Evaluator::new(alloc, instance)?;
-    let decisions = Decisions::of(alloc, instance, node)?;
     let ramped = evaluator.ramped(alloc)?;
     let sizes = Sizes::of(instance);
-    let prices = first_prices(alloc, instance, table, &ramped)?;
-    let top = match evaluator.evaluate(alloc, instance, &decisions, &prices)? {
-        None => Top {
-            prices,
+    let start = Start {
+        prices: first_prices(alloc, instance, table, &ramped)?,
+        part: first_part(table),
+        evaluations,
+        keeps_more: false,
+    };
+    let top = top_from(alloc, &mut evaluator, instance, node, &ramped, start, sizes)?;
+    ended(alloc, instance, top, &ramped, sizes, k)
+}
+
+/// The ascent with a ray, which is looked for at its node by another ascent in which nothing costs anything, from no prices until the value
+/// is above 0: then it should show that there is no schedule. Where there is none the shares are those of the other ascent, whose cuts
+/// say so. The only error is `NoMemory`.
+pub fn with_ray(
+    alloc: Global,
+    instance: &Instance,
+    node: &Node,
+    ascent: Ascent,
+) -> Result<Ascent, NoMemory>
+    requires lawful { IsLawfulInstance instance.now }
+    ensures table { IfOk result (λ sought. sought.table ≡ ascent.table) }
+    ensures ray { IfOk result (λ sought. IfSome sought.ray (IsLawfulTable instance.now)) }
+    ensures ray_scale { IfOk result (λ sought. IfSome sought.ray (λ ray. ray.k ≡ pos 0)) }
+{
+    let mut evaluator = Evaluator::without_costs(alloc, instance)?;
+    let ramped = evaluator.ramped(alloc)?;
+    let sizes = Sizes::without_costs(instance);
+    let start = Start {
+        prices: no_prices(alloc, instance, &ramped)?,
+        part: RISE_BY_MERIT,
+        evaluations: RAY_EVALUATIONS,
+        keeps_more: true,
+    };
+    let top = top_from(alloc, &mut evaluator, instance, node, &ramped, start, sizes)?;
+    let ray = ray(alloc, instance, &top, &ramped, sizes)?;
+    Ok(Ascent {
+        table: ascent.table,
+        shares: shares(ascent.shares, top.shares, ray.is_some()),
+        bound: ascent.bound,
+        ray,
+    })
+}
+
+// The shares of an ascent where there is a ray, or the other ascent has none; or else those of the other.
+fn shares(own: Vec<i64>, other: Vec<i64>, has_ray: bool) -> Vec<i64> {
+    if has_ray || other.is_empty() {
+        own
+    } else {
+        other
+    }
+}
+
+// Where the ascent from a start ends.
+fn top_from(
+    alloc: Global,
+    evaluator: &mut Evaluator,
+    instance: &Instance,
+    node: &Node,
+    ramped: &[u32],
+    start: Start,
+    sizes: Sizes,
+) -> Result<Top, NoMemory> {
+    let decisions = Decisions::of(alloc, instance, node)?;
+    let Some(first) = evaluator.evaluate(alloc, instance, &decisions, &start.prices)? else {
+        return Ok(Top {
+            prices: start.prices,
             value: 0,
             shares: Vec::new(alloc),
-        },
-        Some(first) => {
-            let rise = first_rise(table, sizes.of_value(first.value));
-            let mut center = begin(alloc, instance, prices, first, rise, &ramped)?;
-            climb(
-                alloc,
-                &mut evaluator,
-                instance,
-                &decisions,
-                &mut center,
-                evaluations,
-                sizes,
-            )?;
-            settle(alloc, &mut center)?;
-            Top {
-                prices: center.prices,
-                value: center.value,
-                shares: center.shares,
-            }
-        }
+        });
     };
-    ended(alloc, instance, top, &ramped, sizes, k)
+    let rise = sizes.of_value(first.value) / start.part.max(1);
+    let mut center = begin(alloc, instance, start.prices, first, rise, ramped)?;
+    if start.keeps_more {
+        center.bundle.keep_more();
+    }
+    climb(
+        alloc,
+        evaluator,
+        instance,
+        &decisions,
+        &mut center,
+        start.evaluations,
+        sizes,
+    )?;
+    settle(alloc, &mut center)?;
+    Ok(Top {
+        prices: center.prices,
+        value: center.value,
+        shares: center.shares,
+    })
 }
 
 // The ascent that ended there, with its table at the scale `k`.
@@ -182,11 +264,7 @@ fn ended(
     ensures ray { IfOk result (λ ascent. IfSome ascent.ray (IsLawfulTable instance.now)) }
     ensures ray_scale { IfOk result (λ ascent. IfSome ascent.ray (λ ray. ray.k ≡ pos 0)) }
 {
-    let ray = if top.value > sizes.most {
-        Some(table_of(alloc, instance, &top.prices, ramped, 0)?)
-    } else {
-        None
-    };
+    let ray = ray(alloc, instance, &top, ramped, sizes)?;
     rescale(&mut top.prices, SCALE, k);
     Ok(Ascent {
         table: table_of(alloc, instance, &top.prices, ramped, k)?,
@@ -196,7 +274,27 @@ fn ended(
     })
 }
 
-// Steps from the centre, until no step promises a gain, or many in a row have gained nothing.
+// The ray of the top's prices, where its value is above all that a schedule could cost.
+fn ray(
+    alloc: Global,
+    instance: &Instance,
+    top: &Top,
+    ramped: &[u32],
+    sizes: Sizes,
+) -> Result<Option<Table>, NoMemory>
+    requires lawful { IsLawfulInstance instance.now }
+    ensures lawful { IfOk result (λ ray. IfSome ray (IsLawfulTable instance.now)) }
+    ensures scale { IfOk result (λ ray. IfSome ray (λ table. table.k ≡ pos 0)) }
+{
+    if top.value > sizes.most {
+        Ok(Some(table_of(alloc, instance, &top.prices, ramped, 0)?))
+    } else {
+        Ok(None)
+    }
+}
+
+// Steps from the centre, until no step promises a gain, or many in a row have gained nothing, or the value is above all that a schedule
+// could cost.
 fn climb(
     alloc: Global,
     evaluator: &mut Evaluator,
@@ -228,6 +326,11 @@ fn climb(
         } else {
             let prices = moved(alloc, &center.prices, &step.moves)?;
             match evaluator.evaluate(alloc, instance, decisions, &prices)? {
+                Some(found) if found.value > sizes.most => {
+                    center.prices = prices;
+                    center.value = found.value;
+                    break;
+                }
                 Some(found) => take(alloc, center, prices, found, &step)?,
                 None => break,
             }
@@ -271,13 +374,22 @@ fn rescale(prices: &mut [i64], from: i64, to: i64) {
     }
 }
 
-// By how much the first step is to raise a value of some size, of which prices in order of merit leave more to gain.
-fn first_rise(table: &Table, size: i128) -> i128 {
+// The part of the value by which the first step from a table is to raise it, of which prices in order of merit leave more to gain.
+fn first_part(table: &Table) -> i128 {
     if is_unpriced(table) {
-        size / RISE_BY_MERIT
+        RISE_BY_MERIT
     } else {
-        size / RISE_BY_TABLE
+        RISE_BY_TABLE
     }
+}
+
+// Prices of 0.
+fn no_prices(alloc: Global, instance: &Instance, ramped: &[u32]) -> Result<Vec<i64>, NoMemory> {
+    let rows = ramped.len().saturating_add(1);
+    let count = (instance.periods as usize)
+        .saturating_mul(2)
+        .saturating_mul(rows);
+    Ok(vec![in alloc; 0_i64; count]?)
 }
 
 // The centre at the first prices, from where the first step is to raise the value by so much.

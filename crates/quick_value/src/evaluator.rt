@@ -49,6 +49,17 @@ impl Evaluator {
         })
     }
 
+    /// The evaluator of an instance in which nothing costs anything: its values are those at the scale 0. The only error is `NoMemory`.
+    pub fn without_costs(alloc: Global, instance: &Instance) -> Result<Evaluator, NoMemory>
+        requires { IsLawfulInstance instance.now }
+    {
+        let mut evaluator = Evaluator::new(alloc, instance)?;
+        for unit in evaluator.units.iter_mut() {
+            unit.forget_costs();
+        }
+        Ok(evaluator)
+    }
+
     /// The units, from 0, whose ramps can bind. The only error is `NoMemory`.
     pub fn ramped(&self, alloc: Global) -> Result<Vec<u32>, NoMemory> {
         let mut ramped = Vec::new(alloc);

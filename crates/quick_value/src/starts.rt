@@ -44,6 +44,14 @@ impl Starts {
         }
         Ok(Starts { always, warm })
     }
+
+    /// Makes all starts cost nothing.
+    pub(crate) fn forget_costs(&mut self) {
+        for amount in self.always.iter_mut() {
+            *amount = 0;
+        }
+        self.warm.clear();
+    }
 }
 
 // The amount of a cost in micro-dollars.

@@ -81,6 +81,37 @@ impl Unit {
             may_stop_at_once: unit.p0 <= unit.pmax && unit.p0 <= unit.sd,
         })
     }
+
+    /// Makes all outputs and starts cost nothing.
+    pub(crate) fn forget_costs(&mut self) {
+        for corner in self.corners.iter_mut() {
+            corner.forget_cost();
+        }
+        self.full.forget_cost();
+        self.start.forget_cost();
+        self.stop.forget_cost();
+        self.both.forget_cost();
+        self.starts.forget_costs();
+    }
+}
+
+impl Corner {
+    // Makes it cost nothing, so that behind it, if it isn't the last one, a watt more earns at any price.
+    fn forget_cost(&mut self) {
+        self.cost = 0;
+        if self.price != i64::MAX {
+            self.price = 1;
+        }
+    }
+}
+
+impl Cap {
+    // Makes it cost nothing, if it leaves anything.
+    fn forget_cost(&mut self) {
+        if self.most >= 0 {
+            self.cost = 0;
+        }
+    }
 }
 
 /// What the unit gives initially above its minimum.

@@ -45,7 +45,7 @@ pub const WAYS: usize = 2;
 pub fn cells_of(market: &Market, period: &Period, unit: &Unit) -> Cells {
     let off = period.cost_with(market, &NOTHING);
     let plain = unit.limits(false, false);
-    let power = merit_power(market, period, unit);
+    let power = merit_power(market, period, unit, plain.head);
     let on = on_cost(market, period, unit, &plain, power).saturating_sub(off);
     let other = |limits: Limits| {
         if limits.head == plain.head && power <= limits.most {
@@ -75,9 +75,9 @@ pub(crate) fn cost_at(market: &Market, period: &Period, unit: &Unit, power: i64,
         .saturating_add(period.cost_with(market, &unit.addition(power, head)))
 }
 
-// What the unit gives above its minimum in the order of merit.
-fn merit_power(market: &Market, period: &Period, unit: &Unit) -> i64 {
-    let least = unit.addition(0, 0);
+// What the unit gives above its minimum in the order of merit, with so high a head.
+fn merit_power(market: &Market, period: &Period, unit: &Unit, head: i64) -> i64 {
+    let least = unit.addition(0, head);
     let needed = period.needed_with(&least);
     let room = period.room_with(&least).max(needed);
     let mut power: i64 = 0;

@@ -218,9 +218,9 @@ impl Period {
         self.bearable.saturating_sub(floor).min(spare)
     }
 
-    // The watts that are given above the floor with another unit: those that are needed, or as far as there is room all that cost less
-    // than nothing.
-    fn given_with(&self, market: &Market, other: &Addition) -> i64 {
+    /// The watts that are given above the floor with another unit: those that are needed, or as far as there is room all that cost less
+    /// than nothing.
+    pub(crate) fn given_with(&self, market: &Market, other: &Addition) -> i64 {
         let needed = self.needed_with(other);
         if market.gainful == 0 {
             return needed;

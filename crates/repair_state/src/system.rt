@@ -150,7 +150,7 @@ fn open_all(plant: &Plant, patterns: &[Pattern], count: u32, rows: &mut [Vec<Win
 // Fills each period in the order of merit, and marks it where hardly any reserve is left.
 fn fill_periods(market: &Market, periods: &mut [Period], fills: &mut [Fill]) {
     for (fill, period) in fills.iter_mut().zip(periods.iter_mut()) {
-        *fill = period.fill(market, period.needed_with(&NOTHING));
+        *fill = period.fill(market, period.given_with(market, &NOTHING));
         period.is_tight = period.is_tight || period.is_short_soon();
     }
 }

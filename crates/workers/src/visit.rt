@@ -17,7 +17,7 @@ use crate::worker::Worker;
 use claims::{WORKER, action, stored_table, take};
 use dual_model::{Node, Table};
 use opening::{is_positive, node_ray};
-use prices::{Ascent, next_ascent};
+use prices::{Ascent, next_ascent, with_ray};
 use search_core::{Event, State};
 use std::alloc::Global;
 use uc_model::NoMemory;
@@ -185,7 +185,7 @@ fn ascended(
     ensures best { search.new.best ≡ search.old.best }
     ensures table { IfOk result (λ trial. IsTableFor worker.old.evaluator search.old.state claim.node claim.unit (table_of trial)) }
 {
-    let ascent = ascent(alloc, worker, search, claim, path)?;
+    let ascent = sought(alloc, worker, search, claim, path)?;
     match own_ray(alloc, worker, search, claim, path, &ascent) {
         Ok(Some(ray)) => Ok(Trial::RanOff { ray, ascent }),
         Ok(None) => Ok(Trial::Ascended(ascent)),
@@ -257,6 +257,29 @@ fn own_ray(
     }
     let ray = ray.copy(alloc)?;
     Ok(fresh(&search.state, claim.node, Some(ray)))
+}
+
+// The ascent to a table of this unit's scale; where no schedule is known after the first claim, with a ray that is looked for.
+fn sought(
+    alloc: Global,
+    worker: &Worker,
+    search: &mut Search,
+    claim: Claim,
+    path: &Node,
+) -> Result<Ascent, NoMemory>
+    requires unit { claim.unit ≤ MAX_BUDGET }
+    requires next { IsNextAt worker.now.evaluator claim.unit search.old.next }
+    requires path { IsNodeOf worker.now.evaluator path.now }
+    requires ready { IsReady worker.now.evaluator search.old.state claim.node claim.unit }
+    ensures state { search.new.state ≡ search.old.state }
+    ensures best { search.new.best ≡ search.old.best }
+    ensures ascent { IfOk result (IsAscentFor worker.now.evaluator claim.unit) }
+{
+    let ascent = ascent(alloc, worker, search, claim, path)?;
+    if search.best.is_some() || claim.unit == 1 || ascent.ray.is_some() {
+        return Ok(ascent);
+    }
+    with_ray(alloc, worker.evaluator.instance(), path, ascent)
 }
 
 // The ascent to a table of this unit's scale: the one that was made already, or one from what the node stores.
