@@ -1,6 +1,5 @@
 -- The least stored bound: below each leaf's, and the greatest such.
-use Rattle.std.proofs.Common.{◌≡◌, ℕ, ◌+◌, ◌<◌, ◌≤◌, ◌⊎◌, true, false, List, length, ℤ, refl, ap, sym, ◌∙◌, subst, arith, ⊎_elim, Option, Some, None}
-use Rattle.std.specs.Prelude.{slice_get}
+use Rattle.std.proofs.Common.{◌≡◌, ℕ, ◌+◌, ◌<◌, ◌≤◌, ◌⊎◌, true, false, List, length, ℤ, refl, ap, sym, ◌∙◌, subst, arith, ⊎_elim, Option, Some, None, slice_get}
 use Rattle.std.proofs.lemmas.Int.{ints, int_min_is}
 use Rattle.std.proofs.lemmas.Bool.{cases_lt}
 use Rattle.std.proofs.lemmas.Option.{slice_get_within}
@@ -9,9 +8,8 @@ use Rattle.dual_model.specs.declared.node.Node.{Node}
 use Rattle.branch_tree.specs.NumberedTree.{NumberedTree, EndAt, SplitAt, Subtree, unnumbered, spot_of, subtree_below}
 pub use Rattle.branch_tree.specs.StoredTree.{AtMost}
 use Rattle.branch_tree.specs.StoredTree.{leaf_bound, spot_bound, lesser_bound, least_bound}
-use Rattle.branch_tree.specs.Places.{HasPlaces, ArePlacesOf, AreWellPlaced, tree_from}
+use Rattle.branch_tree.specs.Places.{Place, HasPlaces, ArePlacesOf, AreWellPlaced, tree_from}
 use Rattle.branch_tree.specs.declared.tree.Spot.TheVariants as spot
-use Rattle.branch_tree.specs.declared.places.Place.{Place}
 use Rattle.branch_tree.proofs.Subtrees.{IsHere, subtree_cases, leaf_case}
 use Rattle.branch_tree.proofs.Placed.{place_part, part_place}
 

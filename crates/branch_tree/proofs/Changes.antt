@@ -1,19 +1,16 @@
 -- What `close` and `split` make of the places and of the cover.
-use Rattle.std.proofs.Common.{◌≡◌, ◌≢◌, ℕ, zero, suc, ◌+◌, ◌<◌, true, false, cond, List, [], ◌∷◌, ◌++◌, length, set, refl, ap, sym, ◌∙◌, subst, arith, ⊎_elim, Some, length-append, length-set}
-use Rattle.std.specs.Prelude.{◌==◌, IsTrue, not, slice_get}
+use Rattle.std.proofs.Common.{◌≡◌, ◌≢◌, ℕ, zero, suc, ◌+◌, ◌<◌, true, false, cond, List, [], ◌∷◌, ◌++◌, length, set, refl, ap, sym, ◌∙◌, subst, arith, ⊎_elim, Some, length-append, length-set, ◌==◌, IsTrue, not, slice_get}
 use Rattle.std.proofs.lemmas.Bool.{cases_eq, eq-eqb, ne_eqb}
 use Rattle.std.proofs.lemmas.Option.{slice_get_within}
 use Rattle.uc_model.specs.declared.instance.Instance.{Instance}
 use Rattle.dual_model.specs.Fixings.{IsCell}
 use Rattle.dual_model.specs.Tree.{root, child, is_decided, IsCoverBelow, IsCover}
 use Rattle.dual_model.specs.declared.node.Node.{Node}
-use Rattle.branch_tree.specs.NumberedTree.{NumberedTree, EndAt, SplitAt, Subtree, unnumbered, spot_of, subtree_below, subtree_at, replaced, split_leaf}
+use Rattle.branch_tree.specs.NumberedTree.{Leaf, NumberedTree, EndAt, SplitAt, Subtree, unnumbered, spot_of, subtree_below, subtree_at, replaced, split_leaf}
 use Rattle.branch_tree.specs.TreeView.{TreeView, IsSizeOf, IsOpenAt, IsFreeAt, tree_of}
-use Rattle.branch_tree.specs.Places.{ArePlacesOf}
-use Rattle.branch_tree.specs.declared.tree.Leaf.{Leaf}
+use Rattle.branch_tree.specs.Places.{Place, ArePlacesOf}
 use Rattle.branch_tree.specs.declared.tree.Leaf.TheVariants as leaf
 use Rattle.branch_tree.specs.declared.tree.Spot.TheVariants as spot
-use Rattle.branch_tree.specs.declared.places.Place.{Place}
 use Rattle.branch_tree.proofs.Weights.{same_or_not, one_if, replaced_nowhere}
 use Rattle.branch_tree.proofs.Subtrees.{AreApart, IsOff, IsOn, apart_off, apart_on, leaf_at, leaf_sides}
 use Rattle.branch_tree.proofs.Placed.{are_apart, part_place, from_some}
@@ -21,11 +18,9 @@ use Rattle.branch_tree.proofs.Replaced.{are_changed}
 
 -- ---- reading a list that was written
 pub get-set_other : {A : Type 0} (xs : List A) (i j : ℕ) (x y : A) → j ≢ i → slice_get xs j ≡ Some y → slice_get (set xs i x) j ≡ Some y
-get-set_other [] i j x y differ e = e
 get-set_other (z ∷ xs) zero zero x y differ e = absurd (differ refl)
-get-set_other (z ∷ xs) zero (suc j) x y differ e = e
-get-set_other (z ∷ xs) (suc i) zero x y differ e = e
 get-set_other (z ∷ xs) (suc i) (suc j) x y differ e = get-set_other xs i j x y (λ same. differ (ap suc same)) e
+get-set_other _ _ _ x y differ e = e
 
 pub get-set_same : {A : Type 0} (xs : List A) (i : ℕ) (x y : A) → slice_get xs i ≡ Some y → slice_get (set xs i x) i ≡ Some x
 get-set_same [] i x y e = absurd (cc)

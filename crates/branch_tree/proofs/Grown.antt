@@ -1,21 +1,17 @@
 -- A placed tree after an open leaf of it was closed or split: it is placed again, what stands elsewhere stays, and what holds
 -- of each leaf holds again where it holds of what was grown.
-use Rattle.std.proofs.Common.{◌≡◌, ◌≢◌, ℕ, suc, ◌+◌, ◌<◌, ◌≤◌, ◌⊎◌, true, false, cond, List, [], ◌∷◌, ◌++◌, set, refl, ap, sym, ◌∙◌, subst, arith, ⊎_elim, Some, None, Option, length-append, length-set}
-use Rattle.std.specs.Prelude.{slice_get}
+use Rattle.std.proofs.Common.{◌≡◌, ◌≢◌, ℕ, suc, ◌+◌, ◌<◌, ◌≤◌, ◌⊎◌, true, false, cond, List, [], ◌∷◌, ◌++◌, set, refl, ap, sym, ◌∙◌, subst, arith, ⊎_elim, Some, None, Option, length-append, length-set, slice_get}
 use Rattle.std.specs.Option.{option_or, option_map}
 use Rattle.std.proofs.lemmas.Bool.{eq-eqb, ne_eqb, cases_lt}
 use Rattle.std.proofs.lemmas.Option.{slice_get-get_or}
 use Rattle.dual_model.specs.Tree.{root, child, EachLeaf}
 use Rattle.dual_model.specs.Tree as branch
 use Rattle.dual_model.specs.declared.node.Node.{Node}
-use Rattle.branch_tree.specs.NumberedTree.{NumberedTree, EndAt, SplitAt, Subtree, IsNumbered, unnumbered, number_of, spot_of, node_count, times, subtree_below, subtree_at, spot_at, node_at, replaced, split_leaf}
+use Rattle.branch_tree.specs.NumberedTree.{Spot, Leaf, NumberedTree, EndAt, SplitAt, Subtree, IsNumbered, unnumbered, number_of, spot_of, node_count, times, subtree_below, subtree_at, spot_at, node_at, replaced, split_leaf}
 use Rattle.branch_tree.specs.TreeView.{IsOpenAt}
-use Rattle.branch_tree.specs.Places.{ArePlacesOf, IsPlaced}
-use Rattle.branch_tree.specs.declared.tree.Leaf.{Leaf}
+use Rattle.branch_tree.specs.Places.{Place, ArePlacesOf, IsPlaced}
 use Rattle.branch_tree.specs.declared.tree.Leaf.TheVariants as leaf
-use Rattle.branch_tree.specs.declared.tree.Spot.{Spot}
 use Rattle.branch_tree.specs.declared.tree.Spot.TheVariants as spot
-use Rattle.branch_tree.specs.declared.places.Place.{Place}
 use Rattle.branch_tree.proofs.Weights.{replaced_nowhere}
 use Rattle.branch_tree.proofs.Subtrees.{AreApart, IsHere, IsOff, IsOn, apart_off, apart_on, at_root, subtree_cases, leaf_at, leaf_case, leaf_sides, not_root, part_counted, no_part, side_part}
 use Rattle.branch_tree.proofs.Placed.{are_apart, part_place, spot_is, from_some}
@@ -249,9 +245,7 @@ each_leaf_replaced P Q turn here (SplitAt number g t off on) wanted grow part ol
 -- ---- where no leaf is open
 abbrev pub IsClosedLeaf : Leaf → Type 0
 IsClosedLeaf (leaf.Live table value) = ⊥
-IsClosedLeaf (leaf.Bound table value) = Unit {0}
-IsClosedLeaf (leaf.Ray table) = Unit {0}
-IsClosedLeaf (leaf.Empty g) = Unit {0}
+IsClosedLeaf _ = Unit {0}
 
 closed_below : (whole tree : NumberedTree) → IsNumbered whole → IsPart whole tree → ((number : ℕ) → ¬ IsOpenAt whole number)
     → (here : Node) → EachLeaf (λ n l. IsClosedLeaf l) here (unnumbered tree)
@@ -261,8 +255,7 @@ closed_below whole (EndAt number l) numbered part none here = by_leaf l refl
     by_leaf (leaf.Live table value) e =
         absurd (none number (record { table = table; value = value; live = part_spot whole (EndAt number l) part ∙ ap (λ (y : Leaf). Some (spot.Leaf y)) e }))
     by_leaf (leaf.Bound table value) e = subst IsClosedLeaf (sym e) tt
-    by_leaf (leaf.Ray table) e = subst IsClosedLeaf (sym e) tt
-    by_leaf (leaf.Empty g) e = subst IsClosedLeaf (sym e) tt
+    by_leaf _ e = subst IsClosedLeaf (sym e) tt
 closed_below whole (SplitAt number g t off on) numbered part none here = (
   closed_below whole off numbered (off_side whole number g t off on numbered part) none (child here g t false),
   closed_below whole on numbered (on_side whole number g t off on numbered part) none (child here g t true),

@@ -1,16 +1,15 @@
 -- The way up from a node: its parent's place, and the decision between them.
-use Rattle.std.proofs.Common.{◌≡◌, ◌≢◌, ℕ, ◌<◌, ◌⊎◌, Bool, true, false, List, [], ◌∷◌, ◌++◌, length, reverse, ap, sym, ◌∙◌, subst, inl, inr, ⊎_elim, Option, Some, append_assoc, append-nil}
-use Rattle.std.specs.Prelude.{◌==◌, slice_get}
+use Rattle.std.proofs.Common.{◌≡◌, ◌≢◌, ℕ, ◌<◌, ◌⊎◌, Bool, true, false, List, [], ◌∷◌, ◌++◌, length, reverse, ap, sym, ◌∙◌, subst, inl, inr, ⊎_elim, Option, Some, append_assoc, append-nil, ◌==◌, slice_get}
 use Rattle.std.proofs.lemmas.Bool.{cases_eq, eq-eqb, ne_eqb, true≢false}
 use Rattle.std.proofs.lemmas.List.{reverse-append, same_from_push}
 use Rattle.std.specs.Option.{option_map}
+use Rattle.std.proofs.lemmas.Option.{same_Some}
 use Rattle.dual_model.specs.Tree.{root, child}
 use Rattle.dual_model.specs.declared.node.Fixing.{Fixing}
 use Rattle.dual_model.specs.declared.node.Node.{Node}
 use Rattle.branch_tree.specs.NumberedTree.{NumberedTree, EndAt, SplitAt, Subtree, number_of, spot_of, subtree_below, subtree_at, node_at}
-use Rattle.branch_tree.specs.Places.{HasPlaces, ArePlacesOf}
+use Rattle.branch_tree.specs.Places.{Place, HasPlaces, ArePlacesOf}
 use Rattle.branch_tree.specs.declared.tree.Spot.TheVariants as spot
-use Rattle.branch_tree.specs.declared.places.Place.{Place}
 use Rattle.branch_tree.proofs.Subtrees.{AreApart, IsHere, apart_off, apart_on, at_root, off_part, on_part, subtree_cases, leaf_case, part_number, children_hang}
 use Rattle.branch_tree.proofs.Placed.{are_apart, part_placed, part_place, root_place, place_part}
 
@@ -35,19 +34,16 @@ pub record HasParent (places : List Place) (here : Node) (tree : NumberedTree) (
   pub is_child : IsChild node g t off on part
   pub named : (place : Place) → slice_get places wanted ≡ Some place → place.parent ≡ number
 
-some_is : {A : Type 0} (x y : A) → Some x ≡ Some y → x ≡ y
-some_is x y e = cc
-
 parent_named : (places : List Place) (parent : ℕ) (tree : NumberedTree) (wanted : ℕ) → HasPlaces places parent tree → number_of tree ≡ wanted
     → (place : Place) → slice_get places wanted ≡ Some place → place.parent ≡ parent
 parent_named places parent tree wanted has is place e =
     ap (λ (p : Place). p.parent)
-    (some_is place (record { parent = parent; spot = spot_of tree }) (sym e ∙ (ap (slice_get places) (sym is) ∙ (root_place places parent tree has).place)))
+    (same_Some place (record { parent = parent; spot = spot_of tree }) (sym e ∙ (ap (slice_get places) (sym is) ∙ (root_place places parent tree has).place)))
 
 root_part : (here : Node) (tree : NumberedTree) (wanted : ℕ) (part : Subtree) → number_of tree ≡ wanted → subtree_below here tree wanted ≡ Some part
     → part ≡ record { node = here; tree = tree }
 root_part here tree wanted part is e =
-    some_is part (record { node = here; tree = tree }) (sym e ∙ (ap (subtree_below here tree) (sym is) ∙ at_root here tree))
+    same_Some part (record { node = here; tree = tree }) (sym e ∙ (ap (subtree_below here tree) (sym is) ∙ at_root here tree))
 
 -- a split is the parent of its children
 parent_here : (places : List Place) (here : Node) (m a b : ℕ) (left right : NumberedTree) (wanted : ℕ) (part : Subtree) → IsChild here a b left right part
@@ -121,7 +117,7 @@ children_differ tree node number g t off on apart split same =
     let off_fixing : Fixing = record { g = g; t = t; on = false } in
     let on_fixing : Fixing = record { g = g; t = t; on = true } in
     let parts : off_child ≡ on_child =
-    some_is off_child on_child (sym below.off_child ∙ (ap (subtree_at tree) (sym same) ∙ below.on_child)) in
+    same_Some off_child on_child (sym below.off_child ∙ (ap (subtree_at tree) (sym same) ∙ below.on_child)) in
     let last = same_from_push node.fixings node.fixings off_fixing on_fixing (ap (λ (p : Subtree). p.node.fixings) parts) in
     true≢false (sym (ap (λ (f : Fixing). f.on) last.1))
 
@@ -142,12 +138,6 @@ way_begins places tree wanted are within =
       way = ap (λ (o : Option Subtree). option_map (λ (p : Subtree). p.node) o) part.1
           ∙ (λ i. Some (record { fixings = sym (append-nil part.0.node.fixings) i }));
     }
-
-pub way_ends : (tree : NumberedTree) (wanted reached : ℕ) (found : List Fixing) → number_of tree ≡ 0 → reached ≡ 0
-    → IsWayUp tree wanted reached found → node_at tree wanted ≡ Some (record { fixings = reverse found })
-way_ends tree wanted reached found rooted is up =
-    let all = root_part root tree reached up.part (rooted ∙ sym is) up.is_part in
-    up.way ∙ (λ i. Some (record { fixings = (all i).node.fixings ++ reverse found }))
 
 -- a step up: which split stands at the parent, and what is found
 pub record IsStepUp (places : List Place) (tree : NumberedTree) (wanted reached : ℕ) (found : List Fixing) (parent : ℕ) : Type 0 where

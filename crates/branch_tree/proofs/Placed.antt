@@ -1,17 +1,13 @@
 -- The places of a tree: which tree they stand for, and what stands at a place.
-use Rattle.std.proofs.Common.{◌≡◌, ℕ, zero, suc, ◌+◌, ◌-◌, ◌<◌, ◌≤◌, ◌⊎◌, true, false, List, [], ◌∷◌, length, get_or, drop, refl, ap, sym, ◌∙◌, subst, arith, ⊎_elim, Option, Some, None}
-use Rattle.std.specs.Prelude.{◌==◌, slice_get}
+use Rattle.std.proofs.Common.{◌≡◌, ℕ, zero, suc, ◌+◌, ◌-◌, ◌<◌, ◌≤◌, ◌⊎◌, true, false, List, [], ◌∷◌, length, get_or, drop, refl, ap, sym, ◌∙◌, subst, arith, ⊎_elim, Option, Some, None, ◌==◌, slice_get, get_or-drop}
 use Rattle.std.specs.Option.{option_map}
 use Rattle.std.proofs.lemmas.Bool.{cases_lt}
-use Rattle.std.proofs.lemmas.List.{get_or-drop}
 use Rattle.std.proofs.lemmas.Option.{slice_get_within}
 use Rattle.dual_model.specs.Tree.{root, child}
 use Rattle.dual_model.specs.declared.node.Node.{Node}
-use Rattle.branch_tree.specs.NumberedTree.{NumberedTree, EndAt, SplitAt, Subtree, no_tree, number_of, spot_of, node_count, times, subtree_below, subtree_at, spot_at}
-use Rattle.branch_tree.specs.Places.{HasPlace, HasPlaces, ArePlacesOf, grown_from, trees_of, tree_from}
-use Rattle.branch_tree.specs.declared.tree.Spot.{Spot}
+use Rattle.branch_tree.specs.NumberedTree.{Spot, NumberedTree, EndAt, SplitAt, Subtree, no_tree, number_of, spot_of, node_count, times, subtree_below, subtree_at, spot_at}
+use Rattle.branch_tree.specs.Places.{Place, HasPlace, HasPlaces, ArePlacesOf, grown_from, trees_of, tree_from}
 use Rattle.branch_tree.specs.declared.tree.Spot.TheVariants as spot
-use Rattle.branch_tree.specs.declared.places.Place.{Place}
 use Rattle.branch_tree.proofs.Weights.{same_or_not, none_here}
 use Rattle.branch_tree.proofs.Subtrees.{AreApart, IsHere, subtree_cases, leaf_case, part_number, some_part}
 

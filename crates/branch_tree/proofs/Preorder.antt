@@ -3,12 +3,12 @@ use Rattle.std.proofs.Common.{◌≡◌, ℕ, ◌<◌, ◌≤◌, true, false, A
 use Rattle.std.specs.Option.{option_map}
 use Rattle.std.specs.List.{flat_map}
 use Rattle.std.proofs.lemmas.Bool.{cases_lt}
-use Rattle.std.proofs.lemmas.List.{length-reverse, reverse-append, same_from_push, map-append}
+use Rattle.std.proofs.lemmas.List.{length-reverse, reverse-append, same_from_push}
 use Rattle.std.proofs.lemmas.List.Elements.{All-nil, All-cons, All-append}
+use Rattle.std.proofs.lemmas.Option.{same_Some}
 use Rattle.dual_model.specs.Tree.{root, child}
 use Rattle.dual_model.specs.declared.node.Node.{Node}
-use Rattle.branch_tree.specs.NumberedTree.{NumberedTree, EndAt, SplitAt, Subtree, IsNumbered, number_of, spot_of, children_of, numbers, node_count, subtree_at, spot_at}
-use Rattle.branch_tree.specs.declared.tree.Spot.{Spot}
+use Rattle.branch_tree.specs.NumberedTree.{Spot, NumberedTree, EndAt, SplitAt, Subtree, IsNumbered, number_of, spot_of, children_of, numbers, node_count, subtree_at, spot_at}
 use Rattle.branch_tree.specs.declared.tree.Spot.TheVariants as spot
 use Rattle.branch_tree.proofs.Subtrees.{AreApart, part_counted, at_root, children_hang}
 
@@ -53,19 +53,6 @@ pub part_spot : (whole tree : NumberedTree) → IsPart whole tree → spot_at wh
 part_spot whole tree part = ap (λ (o : Option Subtree). option_map (λ (p : Subtree). spot_of p.tree) o) part.hangs
 
 -- ---- what stands at the nodes in preorder
-abbrev pub spots : NumberedTree → List Spot
-spots (EndAt number leaf) = spot.Leaf leaf ∷ []
-spots (SplitAt number g t off on) = spot.Inner g t (number_of off) (number_of on) ∷ (spots off ++ spots on)
-
-pub spots_listed : (whole tree : NumberedTree) → IsNumbered whole → IsPart whole tree
-    → map (spot_at whole) (numbers tree) ≡ map (λ s. Some s) (spots tree)
-spots_listed whole (EndAt number leaf) numbered part = ap (λ s. s ∷ []) (part_spot whole (EndAt number leaf) part)
-spots_listed whole (SplitAt number g t off on) numbered part =
-    let left = spots_listed whole off numbered (off_side whole number g t off on numbered part) in
-    let right = spots_listed whole on numbered (on_side whole number g t off on numbered part) in
-    (λ i. part_spot whole (SplitAt number g t off on) part i ∷ map-append (spot_at whole) (numbers off) (numbers on) i)
-    ∙ ((λ i. Some (spot.Inner g t (number_of off) (number_of on)) ∷ (left i ++ right i))
-    ∙ ap (λ rest. Some (spot.Inner g t (number_of off) (number_of on)) ∷ rest) (sym (map-append (λ (s : Spot). Some s) (spots off) (spots on))))
 
 pub numbers_within : (whole tree : NumberedTree) → IsNumbered whole → IsPart whole tree → All (λ number. number < node_count whole) (numbers tree)
 numbers_within whole (EndAt number leaf) numbered part =
@@ -151,9 +138,6 @@ next_within whole number rest found next =
     one_node (EndAt n leaf) = omega arith
     one_node (SplitAt n g t off on) = omega arith
 
-some_is : {A : Type 0} (x y : A) → Some x ≡ Some y → x ≡ y
-some_is x y e = cc
-
 -- what is to be walked of a node: the children of a split, the off-child last
 pub walk_on : (whole : NumberedTree) (number : ℕ) (rest found : List ℕ) (stands : Spot) → IsNumbered whole → IsNext whole number rest found
     → spot_at whole number ≡ Some stands → IsWalked whole (rest ++ children_of stands) (found ++ number ∷ [])
@@ -166,7 +150,7 @@ walk_on whole number rest found stands numbered next is_spot = of_tree next.tree
         → IsWalked whole (rest ++ children_of stands) (found ++ number ∷ [])
     of_tree (EndAt n l) part is walked =
         let same : stands ≡ spot.Leaf l =
-        some_is stands (spot.Leaf l) (sym is_spot ∙ (ap (spot_at whole) (sym is) ∙ part_spot whole (EndAt n l) part)) in
+        same_Some stands (spot.Leaf l) (sym is_spot ∙ (ap (spot_at whole) (sym is) ∙ part_spot whole (EndAt n l) part)) in
         record {
           trees = next.trees;
           parts = next.parts;
@@ -176,7 +160,7 @@ walk_on whole number rest found stands numbered next is_spot = of_tree next.tree
     of_tree (SplitAt n g t off on) part is walked =
         let trees = next.trees in
         let same : stands ≡ spot.Inner g t (number_of off) (number_of on) =
-        some_is stands (spot.Inner g t (number_of off) (number_of on))
+        same_Some stands (spot.Inner g t (number_of off) (number_of on))
         (sym is_spot ∙ (ap (spot_at whole) (sym is) ∙ part_spot whole (SplitAt n g t off on) part)) in
         record {
           trees = off ∷ (on ∷ trees);

@@ -1,20 +1,14 @@
 -- What a tree with a replaced leaf is stored as: its places, and that it is whole.
-use Rattle.std.proofs.Common.{◌≡◌, ◌≢◌, ℕ, ◌+◌, ◌*◌, ◌<◌, ◌≤◌, true, false, cond, List, length, refl, ap, sym, ◌∙◌, subst, arith, ⊎_elim, Some}
-use Rattle.std.specs.Prelude.{◌==◌, slice_get}
+use Rattle.std.proofs.Common.{◌≡◌, ◌≢◌, ℕ, ◌+◌, ◌*◌, ◌<◌, ◌≤◌, true, false, cond, List, length, refl, ap, sym, ◌∙◌, subst, arith, ⊎_elim, Some, ◌==◌, slice_get}
 use Rattle.std.proofs.lemmas.Bool.{cases_lt}
-use Rattle.std.proofs.lemmas.Option.{slice_get_within}
-use Rattle.branch_tree.specs.NumberedTree.{NumberedTree, EndAt, SplitAt, number_of, node_count, times, replaced}
-use Rattle.branch_tree.specs.Places.{HasPlaces, ArePlacesOf}
-use Rattle.branch_tree.specs.declared.tree.Leaf.{Leaf}
+use Rattle.std.proofs.lemmas.Option.{slice_get_within, same_Some}
+use Rattle.branch_tree.specs.NumberedTree.{Leaf, NumberedTree, EndAt, SplitAt, number_of, node_count, times, replaced}
+use Rattle.branch_tree.specs.Places.{Place, HasPlaces, ArePlacesOf}
 use Rattle.branch_tree.specs.declared.tree.Spot.TheVariants as spot
-use Rattle.branch_tree.specs.declared.places.Place.{Place}
 use Rattle.branch_tree.proofs.Weights.{same_or_not, one_if, none_here, leaves_at, number_of-replaced, total-replaced}
 use Rattle.branch_tree.proofs.Placed.{times_past}
 
 -- ---- the places
-some_is : {A : Type 0} (x y : A) → Some x ≡ Some y → x ≡ y
-some_is x y e = cc
-
 -- one place of a leaf was changed for what is grown there, and others were added
 pub record IsChanged (old new : List Place) (wanted : ℕ) (was : Place) (grow : Leaf → NumberedTree) : Type 0 where
   pub leaf : Leaf
@@ -30,7 +24,7 @@ places_changed old new wanted was grow change parent (EndAt number leaf) has = �
     (λ (h : (number ≡ wanted) × ((number == wanted) ≡ true)).
     let here : Place = record { parent = parent; spot = spot.Leaf leaf } in
     let stood : slice_get old wanted ≡ Some here = subst (λ n. slice_get old n ≡ Some here) h.0 has.place in
-    let same : was ≡ here = some_is was here (sym change.at_leaf ∙ stood) in
+    let same : was ≡ here = same_Some was here (sym change.at_leaf ∙ stood) in
     let spots : spot.Leaf change.leaf ≡ spot.Leaf leaf = sym change.is_leaf ∙ ap (λ (p : Place). p.spot) same in
     let leaves : change.leaf ≡ leaf = cc in
     let parents : was.parent ≡ parent = ap (λ (p : Place). p.parent) same in
@@ -44,7 +38,7 @@ places_changed old new wanted was grow change parent (SplitAt number g t off on)
     let here : Place = record { parent = parent; spot = spot.Inner g t (number_of off) (number_of on) } in
     let elsewhere : number ≢ wanted = λ e.
     let stood : slice_get old wanted ≡ Some here = subst (λ n. slice_get old n ≡ Some here) e has.0.place in
-    let same : was ≡ here = some_is was here (sym change.at_leaf ∙ stood) in
+    let same : was ≡ here = same_Some was here (sym change.at_leaf ∙ stood) in
     let spots : spot.Leaf change.leaf ≡ spot.Inner g t (number_of off) (number_of on) = sym change.is_leaf ∙ ap (λ (p : Place). p.spot) same in
     cc in
     let left = number_of-replaced wanted grow change.number off in
@@ -71,7 +65,7 @@ leaves_there places parent (SplitAt number g t off on) wanted was leaf has stand
     (λ (h : (number ≡ wanted) × ((number == wanted) ≡ true)).
     let here : Place = record { parent = parent; spot = spot.Inner g t (number_of off) (number_of on) } in
     let stood : slice_get places wanted ≡ Some here = subst (λ n. slice_get places n ≡ Some here) h.0 has.0.place in
-    let same : was ≡ here = some_is was here (sym stands ∙ stood) in
+    let same : was ≡ here = same_Some was here (sym stands ∙ stood) in
     let spots : spot.Leaf leaf ≡ spot.Inner g t (number_of off) (number_of on) = sym is ∙ ap (λ (p : Place). p.spot) same in
     absurd (cc))
     (λ (h : ((number ≡ wanted) → ⊥) × ((number == wanted) ≡ false)). omega (arith, none_here number wanted h.1))

@@ -1,12 +1,11 @@
 -- Where the parts of a tree hang, by their numbers.
-use Rattle.std.proofs.Common.{◌≡◌, ℕ, ◌+◌, ◌<◌, ◌≤◌, ◌⊎◌, true, false, cond, refl, ap, sym, ◌∙◌, subst, arith, inl, inr, ⊎_elim, Option, Some, None}
-use Rattle.std.specs.Prelude.{◌==◌}
+use Rattle.std.proofs.Common.{◌≡◌, ℕ, ◌+◌, ◌<◌, ◌≤◌, ◌⊎◌, true, false, cond, refl, ap, sym, ◌∙◌, subst, arith, inl, inr, ⊎_elim, Option, Some, None, ◌==◌}
 use Rattle.std.specs.Option.{option_or}
 use Rattle.std.proofs.lemmas.Bool.{eq-eqb, ne_eqb, cases_lt}
+use Rattle.std.proofs.lemmas.Option.{same_Some}
 use Rattle.dual_model.specs.Tree.{child}
 use Rattle.dual_model.specs.declared.node.Node.{Node}
-use Rattle.branch_tree.specs.NumberedTree.{NumberedTree, EndAt, SplitAt, Subtree, number_of, spot_of, times, subtree_below}
-use Rattle.branch_tree.specs.declared.tree.Leaf.{Leaf}
+use Rattle.branch_tree.specs.NumberedTree.{Leaf, NumberedTree, EndAt, SplitAt, Subtree, number_of, spot_of, times, subtree_below}
 use Rattle.branch_tree.specs.declared.tree.Spot.TheVariants as spot
 use Rattle.branch_tree.proofs.Weights.{same_or_not, one_here, none_here, times_root}
 
@@ -33,9 +32,6 @@ at_root here (SplitAt number g t off on) =
     (option_or (subtree_below (child here g t false) off number) (subtree_below (child here g t true) on number)))
     (eq-eqb number number refl)
 
-some_is : {A : Type 0} (x y : A) → Some x ≡ Some y → x ≡ y
-some_is x y e = cc
-
 or_cases : {A : Type 0} (a b : Option A) (x : A) → option_or a b ≡ Some x → (a ≡ Some x) ⊎ ((a ≡ None) × (b ≡ Some x))
 or_cases None b x e = inr (refl, e)
 or_cases (Some y) b x e = inl e
@@ -50,7 +46,7 @@ subtree_cases here number g t off on wanted part e =
     let all : Subtree = record { node = here; tree = SplitAt number g t off on } in
     ⊎_elim
     (λ (h : (number ≡ wanted) × ((number == wanted) ≡ true)).
-    inl (record { number = h.0; whole = sym (some_is all part (subst (λ b. cond b (Some all) (option_or left right) ≡ Some part) h.1 e)) }))
+    inl (record { number = h.0; whole = sym (same_Some all part (subst (λ b. cond b (Some all) (option_or left right) ≡ Some part) h.1 e)) }))
     (λ (h : ((number ≡ wanted) → ⊥) × ((number == wanted) ≡ false)).
     let below : option_or left right ≡ Some part = subst (λ b. cond b (Some all) (option_or left right) ≡ Some part) h.1 e in
     ⊎_elim (λ (l : left ≡ Some part). inr (inl l)) (λ (r : (left ≡ None) × (right ≡ Some part)). inr (inr r.1)) (or_cases left right part below))
@@ -62,7 +58,7 @@ leaf_case here number leaf wanted part e =
     let all : Subtree = record { node = here; tree = EndAt number leaf } in
     ⊎_elim
     (λ (h : (number ≡ wanted) × ((number == wanted) ≡ true)).
-    record { number = h.0; whole = sym (some_is all part (subst (λ b. cond b (Some all) None ≡ Some part) h.1 e)) })
+    record { number = h.0; whole = sym (same_Some all part (subst (λ b. cond b (Some all) None ≡ Some part) h.1 e)) })
     (λ (h : ((number ≡ wanted) → ⊥) × ((number == wanted) ≡ false)).
     let none : None ≡ Some part = subst (λ b. cond b (Some all) None ≡ Some part) h.1 e in absurd (cc))
     (same_or_not number wanted)

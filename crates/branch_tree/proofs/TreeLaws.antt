@@ -26,13 +26,10 @@ lower_bound instance tables node table value b below h = record {
   scale = h.scale;
   bounds = ⊎_elim
       (λ (has : HasBoundOf instance node h.table value).
-      inl (record { bound = has.bound; is_bound = has.is_bound; enough = within has.bound has.enough }))
+      inl (record { bound = has.bound; is_bound = has.is_bound; enough = (omega (arith, linear, has.enough)) }))
       (λ (empty : HasEmptyUnit instance node). inr empty)
       h.bounds;
 }
-  where
-    within : (bound : ℤ) → value ≤ℤ bound → b ≤ℤ bound
-    within bound enough = omega (arith, linear)
 
 leaf_holds : (instance : Instance) (tables : List Table) (node : Node) (b : ℤ) (leaf : Leaf) → AtMost (Some b) (least_bound (Ends leaf))
     → StoredHolds instance tables node leaf → LeafHolds instance tables b node (own_claim leaf)

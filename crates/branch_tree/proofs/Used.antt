@@ -1,6 +1,6 @@
 -- The tables that a tree uses, found along its nodes in preorder.
-use Rattle.std.proofs.Common.{◌≡◌, ℕ, suc, ◌+◌, ◌<◌, ◌≤◌, Bool, true, false, not, ◌||◌, cond, All, List, [], ◌∷◌, ◌++◌, length, set, get_or, drop, refl, ap, sym, ◌∙◌, subst, arith, ⊎_elim, Option, Some, append_assoc, append-nil, length-append, length-set}
-use Rattle.std.specs.Prelude.{◌==◌, filter}
+use Rattle.std.proofs.Common.{◌≡◌, ℕ, suc, ◌+◌, ◌<◌, ◌≤◌, Bool, true, false, not, ◌||◌, cond, All, List, [], ◌∷◌, ◌++◌, length, set, get_or, drop, refl, ap, sym, ◌∙◌, subst, arith, ⊎_elim, Option, Some, append_assoc, append-nil, length-append, length-set, ◌==◌, filter}
+use mathlib.Core.Bool.{or-true, or-false}
 use Rattle.std.specs.Option.{option_map_or}
 use Rattle.std.specs.List.{flat_map, list_any}
 use Rattle.std.proofs.lemmas.Bool.{cases_eq, cases_Bool, eq-eqb, ne_eqb}
@@ -8,11 +8,9 @@ use Rattle.std.proofs.lemmas.List.{get_or-set_same, get_or-set_other, get_or_at,
 use Rattle.std.proofs.lemmas.List.Concat.{flat_map-append}
 use Rattle.std.proofs.lemmas.List.Elements.{All-nil, All-cons, filter-append}
 use Rattle.std.proofs.lemmas.List.Folds.{list_any-append}
-use Rattle.branch_tree.specs.NumberedTree.{NumberedTree, EndAt, SplitAt, IsNumbered, unnumbered, numbers, node_count, spot_at}
+use Rattle.branch_tree.specs.NumberedTree.{Spot, Leaf, NumberedTree, EndAt, SplitAt, IsNumbered, unnumbered, numbers, node_count, spot_at}
 use Rattle.branch_tree.specs.UsedTables.{leaves, leaf_tables, spot_tables, stored_tables, each_once}
-use Rattle.branch_tree.specs.declared.tree.Leaf.{Leaf}
 use Rattle.branch_tree.specs.declared.tree.Leaf.TheVariants as leaf
-use Rattle.branch_tree.specs.declared.tree.Spot.{Spot}
 use Rattle.branch_tree.proofs.Preorder.{IsPart, off_side, on_side, part_spot}
 
 -- ---- the tables along the nodes
@@ -46,7 +44,7 @@ each_once-push (first ∷ numbers) number =
     let one = each_once-push numbers number in
     ⊎_elim
     (λ (among : is_among numbers number ≡ true).
-    let any : is_among (first ∷ numbers) number ≡ true = ap (λ b. (first == number) || b) among ∙ or_true (first == number) in
+    let any : is_among (first ∷ numbers) number ≡ true = ap (λ b. (first == number) || b) among ∙ or-true (first == number) in
     ap (λ rest. first ∷ filter (unlike first) rest) (one ∙ ap (λ b. cond b later (later ++ number ∷ [])) among)
     ∙ sym (ap (λ b. cond b (first ∷ filter (unlike first) later) ((first ∷ filter (unlike first) later) ++ number ∷ [])) any))
     (λ (new : is_among numbers number ≡ false).
@@ -68,10 +66,6 @@ each_once-push (first ∷ numbers) number =
     ∙ sym (ap (λ b. cond b (first ∷ filter (unlike first) later) ((first ∷ filter (unlike first) later) ++ number ∷ [])) any)))
     (cases_eq first number))
     (cases_Bool (is_among numbers number))
-  where
-    or_true : (b : Bool) → (b || true) ≡ true
-    or_true true = refl
-    or_true false = refl
 
 -- what holds of all numbers holds of each once
 All-filter : (P : ℕ → Type 0) (test : ℕ → Bool) (numbers : List ℕ) → All P numbers → All P (filter test numbers)
@@ -105,10 +99,6 @@ pub used_begins : (stored : List ℕ) (seen : List Bool) (tables : ℕ) → leng
     → ((table : ℕ) → table < tables → get_or seen table false ≡ false) → IsUsedSoFar stored stored [] seen tables
 used_begins stored seen tables marks none = record { before = []; parted = refl; listed = refl; marked = none; marks = marks }
 
-pub used_ends : (stored used : List ℕ) (seen : List Bool) (tables : ℕ) → IsUsedSoFar stored [] used seen tables → used ≡ each_once stored
-used_ends stored used seen tables so_far =
-    so_far.listed ∙ ap each_once (sym (append-nil so_far.before) ∙ so_far.parted)
-
 -- the next table is one of the list
 pub next_table : (stored rest used : List ℕ) (seen : List Bool) (tables table : ℕ) → All (λ t. t < tables) stored
     → IsUsedSoFar stored (table ∷ rest) used seen tables → table < tables
@@ -132,25 +122,17 @@ used_more stored rest used used' seen seen' tables table within so_far is_seen i
   marks = ap length is_seen ∙ (length-set seen table true ∙ so_far.marks);
 }
   where
-    or_false : (b : Bool) → (b || false) ≡ b
-    or_false true = refl
-    or_false false = refl
-
-    or_true : (b : Bool) → (b || true) ≡ true
-    or_true true = refl
-    or_true false = refl
-
     mark : (other : ℕ) → other < tables → get_or (set seen table true) other false ≡ (is_among so_far.before other || ((table == other) || false))
     mark other below = ⊎_elim
         (λ (same : table ≡ other).
         let inside : table < length seen = omega (arith, so_far.marks) in
         subst (λ n. get_or (set seen table true) n false ≡ (is_among so_far.before n || ((table == n) || false))) same
         (get_or-set_same seen table true false inside
-        ∙ sym (ap (λ b. is_among so_far.before table || (b || false)) (eq-eqb table table refl) ∙ or_true (is_among so_far.before table))))
+        ∙ sym (ap (λ b. is_among so_far.before table || (b || false)) (eq-eqb table table refl) ∙ or-true (is_among so_far.before table))))
         (λ (differ : table ≡ other → ⊥).
         get_or-set_other seen table other true false (λ e. differ (sym e))
         ∙ (so_far.marked other below
-        ∙ sym (ap (λ b. is_among so_far.before other || (b || false)) (ne_eqb table other differ) ∙ or_false (is_among so_far.before other))))
+        ∙ sym (ap (λ b. is_among so_far.before other || (b || false)) (ne_eqb table other differ) ∙ or-false (is_among so_far.before other))))
         (cases_eq table other)
 
 -- the tables of the nodes from one on are those of this node and of the nodes after it
@@ -178,9 +160,7 @@ length-each_once (number ∷ numbers) =
 
 leaf_count : (l : Leaf) → length (leaf_tables l ++ []) ≤ 1
 leaf_count (leaf.Live table value) = omega arith
-leaf_count (leaf.Bound table value) = omega arith
-leaf_count (leaf.Ray table) = omega arith
-leaf_count (leaf.Empty g) = omega arith
+leaf_count _ = omega arith
 
 -- a tree has no more tables than nodes
 pub length-stored_tables : (tree : NumberedTree) → length (stored_tables (unnumbered tree)) ≤ node_count tree

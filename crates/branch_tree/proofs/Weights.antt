@@ -1,9 +1,7 @@
 -- What a replaced leaf changes in the numbers of a tree.
-use Rattle.std.proofs.Common.{◌≡◌, ℕ, ◌+◌, ◌*◌, ◌≤◌, ◌⊎◌, Bool, true, false, cond, refl, ap, sym, ◌∙◌, subst, arith, inl, inr, ⊎_elim}
-use Rattle.std.specs.Prelude.{◌==◌}
+use Rattle.std.proofs.Common.{◌≡◌, ℕ, ◌+◌, ◌*◌, ◌≤◌, ◌⊎◌, Bool, true, false, cond, refl, ap, sym, ◌∙◌, subst, arith, inl, inr, ⊎_elim, ◌==◌}
 use Rattle.std.proofs.lemmas.Bool.{cases_Bool, eqb-true, eqb-false, eq-eqb}
-use Rattle.branch_tree.specs.NumberedTree.{NumberedTree, EndAt, SplitAt, number_of, total, times, replaced}
-use Rattle.branch_tree.specs.declared.tree.Leaf.{Leaf}
+use Rattle.branch_tree.specs.NumberedTree.{Leaf, NumberedTree, EndAt, SplitAt, number_of, total, times, replaced}
 
 -- two numbers are the same, or a test tells them apart
 pub same_or_not : (a b : ℕ) → ((a ≡ b) × ((a == b) ≡ true)) ⊎ (((a ≡ b) → ⊥) × ((a == b) ≡ false))

@@ -8,11 +8,10 @@ use Rattle.dual_model.specs.Cover.{Bound, Ray, Empty}
 use Rattle.dual_model.specs.Cover as cover
 use Rattle.dual_model.specs.Certificate.{Certificate, WrittenSchedule}
 use Rattle.dual_model.specs.declared.table.Table.{Table}
-use Rattle.branch_tree.specs.NumberedTree.{numbers}
+use Rattle.branch_tree.specs.NumberedTree.{Leaf, numbers}
 use Rattle.branch_tree.specs.TreeView.{tree_of}
 use Rattle.branch_tree.specs.StoredTree.{tree_bound}
 use Rattle.branch_tree.specs.UsedTables.{used_tables, place_of}
-use Rattle.branch_tree.specs.declared.tree.Leaf.{Leaf}
 use Rattle.branch_tree.specs.declared.tree.Leaf.TheVariants as leaf
 use Rattle.branch_tree.specs.declared.tree.Tree.{Tree}
 use Rattle.branch_tree.specs.declared.layout.Layout.{Layout}

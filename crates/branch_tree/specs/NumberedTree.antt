@@ -5,9 +5,9 @@ use Rattle.std.specs.Option.{option_or, option_map}
 use Rattle.dual_model.specs.Tree.{Ends, Splits, root, child}
 use Rattle.dual_model.specs.Tree as branch
 use Rattle.dual_model.specs.declared.node.Node.{Node}
-use Rattle.branch_tree.specs.declared.tree.Leaf.{Leaf}
+pub use Rattle.branch_tree.specs.declared.tree.Leaf.{Leaf}
 use Rattle.branch_tree.specs.declared.tree.Leaf.TheVariants as leaf
-use Rattle.branch_tree.specs.declared.tree.Spot.{Spot}
+pub use Rattle.branch_tree.specs.declared.tree.Spot.{Spot}
 use Rattle.branch_tree.specs.declared.tree.Spot.TheVariants as spot
 
 -- a leaf, or a split on a unit and a period into the off-child and the on-child, each with its number first

@@ -2,11 +2,10 @@
 -- their parent.
 use Rattle.std.specs.Prelude.{◌≡◌, ℕ, suc, ◌-◌, ◌<◌, List, [], ◌∷◌, Some, length, slice_get, slice_index_or}
 use Rattle.std.specs.Vec.{vec_capacity}
-use Rattle.branch_tree.specs.NumberedTree.{NumberedTree, EndAt, SplitAt, IsNumbered, no_tree, number_of, spot_of, node_count}
+use Rattle.branch_tree.specs.NumberedTree.{Spot, NumberedTree, EndAt, SplitAt, IsNumbered, no_tree, number_of, spot_of, node_count}
 use Rattle.branch_tree.specs.TreeView.{TreeView, IsWhole}
-use Rattle.branch_tree.specs.declared.tree.Spot.{Spot}
 use Rattle.branch_tree.specs.declared.tree.Spot.TheVariants as spot
-use Rattle.branch_tree.specs.declared.places.Place.{Place}
+pub use Rattle.branch_tree.specs.declared.places.Place.{Place}
 use Rattle.branch_tree.specs.declared.tree.Tree.TheInside.{Inside}
 
 -- the tree of a place of this number, by those of the later places

@@ -4,11 +4,9 @@ use Rattle.std.specs.Int.{int_min}
 use Rattle.dual_model.specs.Tree.{Ends, Splits}
 use Rattle.dual_model.specs.Tree as branch
 use Rattle.dual_model.specs.declared.node.Node.{Node}
-use Rattle.branch_tree.specs.NumberedTree.{node_at}
+use Rattle.branch_tree.specs.NumberedTree.{Spot, Leaf, node_at}
 use Rattle.branch_tree.specs.TreeView.{TreeView, tree_of}
-use Rattle.branch_tree.specs.declared.tree.Leaf.{Leaf}
 use Rattle.branch_tree.specs.declared.tree.Leaf.TheVariants as leaf
-use Rattle.branch_tree.specs.declared.tree.Spot.{Spot}
 use Rattle.branch_tree.specs.declared.tree.Spot.TheVariants as spot
 
 -- the node that has this number: numbers count from 0, which is the root

@@ -1,10 +1,8 @@
 -- By what a proof tells two trees apart: each stands as the list of its nodes in preorder, which gives the tree back.
-use Rattle.std.specs.Prelude.{◌≡◌, ℕ, List, [], ◌∷◌, ◌++◌, ◌⊎◌, ℤ, slice_index_or, refl}
-use Rattle.std.proofs.Common.{inl, inr, ap, sym, ◌∙◌, append_assoc, append-nil}
+use Rattle.std.proofs.Common.{inl, inr, ap, sym, ◌∙◌, append_assoc, append-nil, ◌≡◌, ℕ, List, [], ◌∷◌, ◌++◌, ◌⊎◌, ℤ, slice_index_or, refl}
 use Rattle.std.specs.Coded.{Coded, code_by, coded_ℕ, coded_ℤ, coded_list, coded×, coded⊎}
-use Rattle.branch_tree.specs.NumberedTree.{NumberedTree, EndAt, SplitAt, no_tree}
+use Rattle.branch_tree.specs.NumberedTree.{Leaf, NumberedTree, EndAt, SplitAt, no_tree}
 use Rattle.branch_tree.specs.TreeView.{TreeView}
-use Rattle.branch_tree.specs.declared.tree.Leaf.{Leaf}
 use Rattle.branch_tree.specs.declared.tree.Leaf.TheVariants as leaf
 
 abbrev pub LeafParts : Type 0

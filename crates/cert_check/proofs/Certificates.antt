@@ -1,6 +1,6 @@
 -- From what the steps of the check say to whether the certificate holds, and back.
-use Rattle.std.proofs.Common.{◌≡◌, ℕ, ◌+◌, ◌-◌, ◌<◌, Bool, true, false, ◌||◌, refl, ap, subst, ◌∙◌, arith, List, [], ◌++◌, length, length-append, get_or, All, ℤ}
-use Rattle.std.specs.Prelude.{Option, Some, None}
+use Rattle.std.proofs.Common.{◌≡◌, ℕ, ◌+◌, ◌-◌, ◌<◌, Bool, true, false, ◌||◌, refl, ap, subst, ◌∙◌, arith, List, [], ◌++◌, length, length-append, get_or, All, ℤ, Option, Some, None}
+use mathlib.Core.Bool.{or-false}
 use Rattle.std.specs.List.{list_any}
 use Rattle.std.proofs.Math.Seq.{get_or-append_right}
 use Rattle.std.proofs.lemmas.List.{get_or_append_left}
@@ -32,12 +32,8 @@ abbrev pub is_bound_node : TreeNode → Bool
 is_bound_node (LeafNode leaf) = is_bound leaf
 is_bound_node (SplitNode g t) = false
 
-or-none : (b : Bool) → (b || false) ≡ b
-or-none true = refl
-or-none false = refl
-
 pub any-preorder : (tree : Tree Leaf) → list_any is_bound_node (preorder tree) ≡ any_leaf is_bound tree
-any-preorder (Ends leaf) = or-none (is_bound leaf)
+any-preorder (Ends leaf) = or-false (is_bound leaf)
 any-preorder (Splits g t off on) =
     list_any-append is_bound_node (preorder off) (preorder on) ∙ (λ i. any-preorder off i || any-preorder on i)
 

@@ -1,6 +1,5 @@
 -- What the tests of a leaf's numbers say of the leaf: a node with a value has no empty unit, and its value is one.
-use Rattle.std.proofs.Common.{◌≡◌, ℕ, ◌<◌, ◌⊎◌, Bool, true, false, IsTrue, inl, inr, List, sym, subst, ◌∙◌, ℤ, pos, ◌<ℤ◌}
-use Rattle.std.specs.Prelude.{Option, Some, None, slice_get, MatchOption, ◌↔◌, if◌then◌else◌}
+use Rattle.std.proofs.Common.{◌≡◌, ℕ, ◌<◌, ◌⊎◌, Bool, true, false, IsTrue, inl, inr, List, sym, subst, ◌∙◌, ℤ, pos, ◌<ℤ◌, Option, Some, None, slice_get, MatchOption, ◌↔◌, if◌then◌else◌}
 use Rattle.std.proofs.lemmas.Option.{same_Some}
 use Rattle.uc_model.specs.Schedule.{thermal_count}
 use Rattle.uc_model.specs.declared.instance.Instance.{Instance}

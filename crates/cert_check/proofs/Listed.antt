@@ -1,10 +1,8 @@
 -- What the steps of the check say of any certificate that has the listing that was read.
-use Rattle.std.proofs.Common.{◌≡◌, ℕ, suc, ◌||◌, refl, sym, ap, subst, ◌∙◌, List, [], ◌∷◌, length, All, ℤ}
-use Rattle.std.specs.Prelude.{Option, Some, None, map, take, slice_get}
+use Rattle.std.proofs.Common.{◌≡◌, ℕ, suc, ◌||◌, refl, sym, ap, subst, ◌∙◌, List, [], ◌∷◌, length, All, ℤ, Option, Some, None, map, slice_get, append-nil, true≢false}
 use Rattle.std.specs.List.{list_any}
-use Rattle.std.proofs.lemmas.List.{append-nil}
 use Rattle.std.proofs.lemmas.Option.{none-some, same_Some, get_or_from_slice_get, slice_get_within}
-use Rattle.std.proofs.lemmas.List.Elements.{All-get_or, All-take}
+use Rattle.std.proofs.lemmas.List.Elements.{All-get_or}
 use Rattle.uc_model.specs.declared.instance.Instance.{Instance}
 use Rattle.uc_model.specs.declared.refusal.Refusal.{Refusal}
 use Rattle.uc_model.specs.declared.refusal.Refusal.TheVariants as codes
@@ -12,15 +10,14 @@ use Rattle.uc_model.specs.Rules.{Obeys}
 use Rattle.uc_model.specs.PrintedSchedule.{printed_denominator, printed_schedule}
 use Rattle.uc_model.proofs.Obeyed.{rule_at}
 use Rattle.schedule_check.specs.FirstBroken.{IsFirstBroken}
-use Rattle.std.proofs.lemmas.Bool.{true≢false}
 use Rattle.dual_model.specs.Prices.{IsLawfulTable}
 use Rattle.dual_model.specs.Tree.{root}
-use Rattle.dual_model.specs.Cover.{Bound, Ray, Empty, has_bound}
+use Rattle.dual_model.specs.Cover.{Bound, has_bound}
 use Rattle.dual_model.specs.Certificate.{Certificate, CertificateHolds, WrittenSchedule, ScheduleHolds}
 use Rattle.branch_tree.specs.Claims.{written_of}
 use Rattle.cert_text.specs.CertificateText.{Listing, listing_of}
-use Rattle.cert_text.specs.Nodes.{TreeNode, LeafNode, SplitNode, preorder, IsNodeWithin}
-use Rattle.cert_text.specs.TextConditions.{HasText, IsTableText}
+use Rattle.cert_text.specs.Nodes.{TreeNode, LeafNode, preorder, IsNodeWithin}
+use Rattle.cert_text.specs.TextConditions.{HasText}
 use Rattle.cert_text.specs.Reading.{listing_read, node_of}
 use Rattle.cert_text.specs.declared.cert.Cert.{Cert}
 use Rattle.cert_text.specs.declared.cert.CertNode.{CertNode}
@@ -29,13 +26,13 @@ use Rattle.cert_check.specs.Answers.{IsRead, cost_of}
 use Rattle.cert_check.specs.Visits.{visits, IsSound}
 use Rattle.cert_check.specs.Refusals.{HasSize, HasTables, HasSchedule, ClaimFits, HasClaim, IsFirstUnsound, IsUnsoundAt, IsRefusedBy, refusal_of}
 use Rattle.cert_check.specs.inside.Nodes.{AreCheckable, IsCodeOf}
-use Rattle.cert_check.specs.inside.Numbers.{HasLawfulNumbers, IsFirstOff}
+use Rattle.cert_check.specs.inside.Numbers.{HasLawfulNumbers}
 use Rattle.cert_check.specs.inside.Schedules.{IsCostOf, IsScheduleFault}
 use Rattle.cert_check.specs.inside.Steps.{FitsInstance, ReadClaimFits, is_bound_leaf}
 use Rattle.cert_check.specs.inside.Walks.{walk, all_visits}
 use Rattle.cert_check.proofs.Certificates.{is_bound_node, any-preorder, holds-from, size-of, fits-of, sound-of}
 use Rattle.cert_check.proofs.Pending.{walk-preorder}
-use Rattle.cert_check.proofs.TextFacts.{lawful-table, numbers-of}
+use Rattle.cert_check.proofs.TextFacts.{lawful-table}
 
 -- the certificate has the listing
 abbrev Listed : Certificate → Cert → Type 0
@@ -93,9 +90,7 @@ schedule-from instance c cert e read fits numbers cost is = record {
 -- ---- the claim
 leaf-bound : (node : CertNode) → is_bound_leaf node ≡ is_bound_node (node_of node)
 leaf-bound (nodes.Split g t) = refl
-leaf-bound (nodes.Bound table) = refl
-leaf-bound (nodes.Ray table) = refl
-leaf-bound (nodes.Empty g) = refl
+leaf-bound _ = refl
 
 any-bound : (cert : List CertNode) → list_any is_bound_leaf cert ≡ list_any is_bound_node (map node_of cert)
 any-bound [] = refl
@@ -168,29 +163,6 @@ pub refused-9 : (instance : Instance) (c : Certificate) (cert : Cert) → Listed
 refused-9 instance c cert e unfit =
     (λ size. unfit (fits-from instance c cert e size), λ holds. unfit (fits-from instance c cert e (size-of instance c holds)))
 
-pub refused-1 : (instance : Instance) (c : Certificate) (cert : Cert) (i number : ℕ) → Listed c cert → IsRead cert → FitsInstance instance cert
-    → IsFirstOff cert.tables i → number ≡ suc i → IsRefusedBy instance c (codes.C1 number) × (¬ CertificateHolds instance c)
-refused-1 instance c cert i number e read fits first is =
-    let size = size-from instance c cert e fits in
-    let same = tables-is c cert e in
-    let at = ap (λ xs. slice_get xs i) same ∙ first.is_table in
-    let unlawful : ¬ IsLawfulTable instance first.table = λ lawful. first.off (numbers-of instance first.table lawful) in (
-      (
-        size,
-        i,
-        is,
-        record {
-          table = first.table;
-          is_table = at;
-          unlawful = unlawful;
-          before = λ k d h. lawful-table instance c.periods c.thermal _ size.periods size.thermal
-              (All-take (IsTableText c.periods c.thermal) i c.tables (text-of c cert e read).tables k d h)
-              (subst (λ xs. All HasLawfulNumbers (take i xs)) (sym same) first.before k d h);
-        },
-      ),
-      λ holds. not-all (IsLawfulTable instance) c.tables i first.table at unlawful holds.tables,
-    )
-
 pub refused-schedule : (instance : Instance) (c : Certificate) (schedule : Option WrittenSchedule) (code : Refusal) → HasTables instance c → c.schedule ≡ schedule
     → IsScheduleFault instance schedule code → IsRefusedBy instance c code × (¬ CertificateHolds instance c)
 refused-schedule instance c None code tables e fault = absurd fault
@@ -203,12 +175,7 @@ refused-schedule instance c (Some written) (codes.C3 cost computed) tables e fau
   λ holds. fault.differs (sym fault.is_cost ∙ (holds.schedule written e).cost ∙ sym fault.is_computed),
 )
 refused-schedule instance c (Some written) (codes.C1 table) tables e fault = absurd fault
-refused-schedule instance c (Some written) (codes.C4 node) tables e fault = absurd fault
-refused-schedule instance c (Some written) (codes.C5 node) tables e fault = absurd fault
-refused-schedule instance c (Some written) (codes.C6 node) tables e fault = absurd fault
-refused-schedule instance c (Some written) (codes.C7 node) tables e fault = absurd fault
-refused-schedule instance c (Some written) codes.C8 tables e fault = absurd fault
-refused-schedule instance c (Some written) codes.C9 tables e fault = absurd fault
+refused-schedule instance c (Some written) _ tables e fault = absurd fault
 
 pub refused-8 : (instance : Instance) (c : Certificate) (cert : Cert) → Listed c cert → HasSchedule instance c → ¬ ReadClaimFits cert cert.bound
     → IsRefusedBy instance c codes.C8 × (¬ CertificateHolds instance c)
@@ -220,9 +187,7 @@ refused-8 instance c cert e schedule misfits =
 code-of : (instance : Instance) (c : Certificate) (node : TreeNode) (number : ℕ) → IsUnsoundAt instance c (refusal_of node number)
     → IsRefusedBy instance c (refusal_of node number)
 code-of instance c (LeafNode (Bound table)) number at = at
-code-of instance c (LeafNode (Ray table)) number at = at
-code-of instance c (LeafNode (Empty g)) number at = at
-code-of instance c (SplitNode g t) number at = at
+code-of instance c _ number at = at
 
 pub refused-node : (instance : Instance) (c : Certificate) (cert : Cert) (code : Refusal) → Listed c cert → HasClaim instance c → IsCodeOf instance cert code
     → IsRefusedBy instance c code × (¬ CertificateHolds instance c)

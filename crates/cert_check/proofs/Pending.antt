@@ -1,12 +1,10 @@
 -- The places that are to come on a path, by its last decision; and the walk over the nodes of a tree in preorder.
-use Rattle.std.proofs.Common.{◌≡◌, ℕ, true, false, refl, sym, ap, ◌∙◌, List, [], ◌∷◌, ◌++◌, append_assoc}
-use Rattle.std.specs.Prelude.{if◌then◌else◌}
-use Rattle.std.proofs.lemmas.List.{append-nil}
+use Rattle.std.proofs.Common.{◌≡◌, ℕ, true, false, refl, sym, ap, ◌∙◌, List, [], ◌∷◌, ◌++◌, append_assoc, append-nil, if◌then◌else◌}
 use Rattle.dual_model.specs.Tree.{Tree, Ends, Splits, child}
 use Rattle.dual_model.specs.Cover.{Leaf}
 use Rattle.dual_model.specs.declared.node.Fixing.{Fixing}
 use Rattle.dual_model.specs.declared.node.Node.{Node}
-use Rattle.cert_text.specs.Nodes.{TreeNode, LeafNode, SplitNode, preorder}
+use Rattle.cert_text.specs.Nodes.{TreeNode, SplitNode, preorder}
 use Rattle.cert_check.specs.Visits.{visits}
 use Rattle.cert_check.specs.inside.Walks.{walk, other_child, pending, places}
 
@@ -64,12 +62,3 @@ below path next g t n nodes =
     ap (λ more. (record { place = record { fixings = path }; node = SplitNode g t }) ∷ walk (record { fixings = path ++ last ∷ [] } ∷ more) nodes)
     (sym (pending-push [] path last ∙ ap (λ more. more ++ pending [] path) (other-off path last refl)))
     ∙ ap (λ p. (record { place = record { fixings = path }; node = SplitNode g t }) ∷ walk (places p) nodes) (sym n)
-
--- behind a leaf comes the next place
-pub behind : (path next : List Fixing) (leaf : Leaf) → pending [] path ≡ places next → (nodes : List TreeNode)
-    → walk (places path) (LeafNode leaf ∷ nodes) ≡ (record { place = record { fixings = path }; node = LeafNode leaf }) ∷ walk (places next) nodes
-behind path next leaf e nodes = ap (λ more. (record { place = record { fixings = path }; node = LeafNode leaf }) ∷ walk more nodes) e
-
-pub at_end : (path : List Fixing) (leaf : Leaf) → pending [] path ≡ [] → (nodes : List TreeNode)
-    → walk (places path) (LeafNode leaf ∷ nodes) ≡ (record { place = record { fixings = path }; node = LeafNode leaf }) ∷ []
-at_end path leaf e nodes = ap (λ more. (record { place = record { fixings = path }; node = LeafNode leaf }) ∷ walk more nodes) e

@@ -1,6 +1,5 @@
 -- Facts of each element up to a place of a list.
-use Rattle.std.proofs.Common.{◌≡◌, ℕ, zero, suc, ◌+◌, ◌<◌, ◌≤◌, ⊎_elim, sym, subst, ◌∙◌, ap, refl, arith, List, [], ◌∷◌, ◌++◌, length, length-append, take, get_or, All}
-use Rattle.std.specs.Prelude.{slice_get, Some}
+use Rattle.std.proofs.Common.{◌≡◌, ℕ, zero, suc, ◌+◌, ◌<◌, ◌≤◌, ⊎_elim, sym, subst, ◌∙◌, ap, refl, arith, List, [], ◌∷◌, ◌++◌, length, length-append, take, get_or, All, slice_get, Some}
 use Rattle.std.proofs.Math.Seq.{get_or-append_seam}
 use Rattle.std.proofs.lemmas.List.{get_or-take, get_or_append_left, get_or_read, length-take-le, take-append-le, take_all}
 use Rattle.std.proofs.lemmas.Option.{slice_get_read}

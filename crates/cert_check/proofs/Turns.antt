@@ -1,6 +1,5 @@
 -- A turn of the walk over a certificate's nodes: the visits so far and the one at hand, with those to come, are the visits.
-use Rattle.std.proofs.Common.{◌≡◌, ℕ, suc, ◌+◌, ◌<◌, ◌≤◌, List, [], ◌∷◌, ◌++◌, length, map, drop, get_or, All, refl, sym, ap, subst, ◌∙◌, arith, append_assoc, true, false, ℤ}
-use Rattle.std.specs.Prelude.{Option}
+use Rattle.std.proofs.Common.{◌≡◌, ℕ, suc, ◌+◌, ◌<◌, ◌≤◌, List, [], ◌∷◌, ◌++◌, length, map, drop, get_or, All, refl, sym, ap, subst, ◌∙◌, arith, append_assoc, true, false, ℤ, Option}
 use Rattle.std.proofs.Math.Seq.{drop-cons}
 use Rattle.std.proofs.lemmas.List.{append-nil, drop_all, get_or-map, length-append, length-map}
 use Rattle.uc_model.specs.Schedule.{thermal_count}
@@ -106,6 +105,4 @@ pub may_go_on : (instance : Instance) (tables : List Table) (bound : Option ℤ)
     → IsNodeWithin instance.periods (thermal_count instance) count (node_of node) → IsSound instance tables bound (visit_of path node)
     → MayGoOn instance path node
 may_go_on instance tables bound path count (nodes.Split g t) within sound = (record { unit = within.0; period = within.1 }, sound)
-may_go_on instance tables bound path count (nodes.Bound table) within sound = tt
-may_go_on instance tables bound path count (nodes.Ray table) within sound = tt
-may_go_on instance tables bound path count (nodes.Empty g) within sound = tt
+may_go_on instance tables bound path count _ within sound = tt

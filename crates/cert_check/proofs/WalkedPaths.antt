@@ -1,7 +1,6 @@
 -- A walk's path goes on as one: below a split on a cell that it hasn't decided, and where its last decision is left or
 -- turned.
-use Rattle.std.proofs.Common.{◌≡◌, ◌<◌, Bool, not, List, [], ◌∷◌, ◌++◌, length, take, get_or, subst, ◌∙◌, arith}
-use Rattle.std.specs.Prelude.{IsTrue}
+use Rattle.std.proofs.Common.{◌≡◌, ◌<◌, Bool, not, List, [], ◌∷◌, ◌++◌, length, take, get_or, subst, ◌∙◌, arith, IsTrue}
 use Rattle.std.proofs.Math.Seq.{get_or-append_seam}
 use Rattle.std.proofs.lemmas.List.{get_or_append_left, length-append, take-append-le, take_all}
 use Rattle.uc_model.specs.declared.instance.Instance.{Instance}

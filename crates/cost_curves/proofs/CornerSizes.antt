@@ -1,7 +1,6 @@
 -- The sizes of outputs and costs between corners.
 -- Cite from a crate above by `use Rattle.cost_curves.proofs.CornerSizes.{output-size}`.
-use Rattle.std.proofs.Common.{◌≡◌, ℕ, ◌+◌, ◌-◌, ◌*◌, ◌<◌, ◌≤◌, ◌^◌, sym, ap, subst, ◌∙◌, arith, lit<, List, length, to_z, of_z, FitsSigned, ℤ, pos, ◌+ℤ◌, ◌-ℤ◌, ◌*ℤ◌, neg_ℤ, ◌≤ℤ◌, ◌<ℤ◌}
-use Rattle.std.specs.Prelude.{unsigned_abs}
+use Rattle.std.proofs.Common.{◌≡◌, ℕ, ◌+◌, ◌-◌, ◌*◌, ◌<◌, ◌≤◌, ◌^◌, sym, ap, subst, ◌∙◌, arith, lit<, List, length, to_z, of_z, FitsSigned, ℤ, pos, ◌+ℤ◌, ◌-ℤ◌, ◌*ℤ◌, neg_ℤ, ◌≤ℤ◌, ◌<ℤ◌, unsigned_abs}
 use Rattle.std.specs.Int.{w64, w128}
 use Rattle.std.proofs.lemmas.Int.{ints, fits_signed_from_abs}
 use Rattle.uc_model.specs.Division.{IsCeiling}
@@ -26,26 +25,14 @@ between-size p x m low high size = omega (arith, ints)
 -- the part of a rise, rounded up, is no greater in size
 pub ceiling-size : (r v w n : ℤ) (m : ℕ) → unsigned_abs r ≤ m → pos 0 ≤ℤ v → v ≤ℤ w → pos 0 <ℤ w → IsCeiling (r *ℤ v) w n → unsigned_abs n ≤ m
 ceiling-size r v w n m size low high positive ceiling =
-    let up = above r m size in
-    let down = below r m size in
+    let up : r ≤ℤ pos m = omega (arith, ints) in
+    let down : neg_ℤ (pos m) ≤ℤ r = omega (arith, ints) in
     let most : (r *ℤ v) ≤ℤ (pos m *ℤ w) = le_trans _ _ _ (mul-le-mul_right v r (pos m) low up) (scale-le-scale m v w high) in
     let least : (neg_ℤ (pos m) *ℤ w) ≤ℤ (n *ℤ w) =
-    le_trans _ _ _ (mul-le-mul_turned (neg_ℤ (pos m)) v w (negative m) high) (le_trans _ _ _ (mul-le-mul_right v (neg_ℤ (pos m)) r low down) ceiling.above) in
+    le_trans _ _ _ (mul-le-mul_turned (neg_ℤ (pos m)) v w (omega (arith, linear)) high) (le_trans _ _ _ (mul-le-mul_right v (neg_ℤ (pos m)) r low down) ceiling.above) in
     let first = IsCeiling-least (r *ℤ v) w n (pos m) positive ceiling most in
     let second = le_from_mul w (neg_ℤ (pos m)) n positive (rw (mul_comm w (neg_ℤ (pos m)), mul_comm w n) least) in
-    within n m first second
-  where
-    above : (r : ℤ) (m : ℕ) → unsigned_abs r ≤ m → r ≤ℤ pos m
-    above r m h = omega (arith, ints)
-
-    below : (r : ℤ) (m : ℕ) → unsigned_abs r ≤ m → neg_ℤ (pos m) ≤ℤ r
-    below r m h = omega (arith, ints)
-
-    negative : (m : ℕ) → neg_ℤ (pos m) ≤ℤ pos 0
-    negative m = omega (arith, linear)
-
-    within : (n : ℤ) (m : ℕ) → n ≤ℤ pos m → neg_ℤ (pos m) ≤ℤ n → unsigned_abs n ≤ m
-    within n m h k = omega (arith, ints)
+    omega (arith, ints)
 
 -- what the calls give for a quotient rounded up
 pub ceiling-is : (left right over rise rising run width n : ℤ) (r w : ℤ) → rise ≡ r → unsigned_abs rise ≤ 2 * MAX_COST → run ≡ w → unsigned_abs run ≤ 2 * MAX_POWER
@@ -71,20 +58,14 @@ pub cost-sum : (cost rise : ℤ) → unsigned_abs cost ≤ MAX_COST → unsigned
     → to_z w64 (of_z w64 (to_z w64 (of_z w64 cost) +ℤ to_z w64 (of_z w64 rise))) ≡ cost +ℤ rise
 cost-sum cost rise h k =
     ap (λ z. to_z w64 (of_z w64 z)) (λ t. narrow cost MAX_COST h (lit< tt) t +ℤ narrow rise (2 * MAX_COST) k (lit< tt) t)
-    ∙ narrow (cost +ℤ rise) (3 * MAX_COST) (total cost rise h k) (lit< tt)
-  where
-    total : (a b : ℤ) → unsigned_abs a ≤ MAX_COST → unsigned_abs b ≤ 2 * MAX_COST → unsigned_abs (a +ℤ b) ≤ 3 * MAX_COST
-    total a b h k = omega (arith, ints)
+    ∙ narrow (cost +ℤ rise) (3 * MAX_COST) (omega (arith, ints)) (lit< tt)
 
 -- how far an output between two others lies right of the left one
 pub over-is : (p x y : ℤ) → pos 0 ≤ℤ p → x ≤ℤ p → p ≤ℤ y → unsigned_abs x ≤ 2 * MAX_POWER → unsigned_abs y ≤ 2 * MAX_POWER
     → (to_z w64 (of_z w64 p) -ℤ to_z w64 (of_z w64 x) ≡ p -ℤ x) × (unsigned_abs (p -ℤ x) ≤ 4 * MAX_POWER)
 over-is p x y low begins reaches left right =
     let small = between-size p y (2 * MAX_POWER) low reaches right in
-    ((λ t. narrow p (2 * MAX_POWER) small (lit< tt) t -ℤ narrow x (2 * MAX_POWER) left (lit< tt) t), total p x small left)
-  where
-    total : (a b : ℤ) → unsigned_abs a ≤ 2 * MAX_POWER → unsigned_abs b ≤ 2 * MAX_POWER → unsigned_abs (a -ℤ b) ≤ 4 * MAX_POWER
-    total a b h k = omega (arith, ints)
+    ((λ t. narrow p (2 * MAX_POWER) small (lit< tt) t -ℤ narrow x (2 * MAX_POWER) left (lit< tt) t), omega (arith, ints))
 
 -- the same of the segment that holds it, as a call gives it
 over-parts : (corners : List Point) (p x : ℤ) (left right : ℕ) → AreLawfulCorners corners → pos 0 ≤ℤ p → HoldsOutput corners p left right → x ≡ output_of corners left
@@ -110,15 +91,6 @@ over-fits corners p x left right lawful low holds e =
 pub next-bits : (corners : List Point) (p : ℤ) → AreLawfulCorners corners → pos 0 ≤ℤ p → p <ℤ width_of corners
     → to_z w64 (of_z w64 (to_z w64 (of_z w64 p) +ℤ pos 1)) ≡ p +ℤ pos 1
 next-bits corners p lawful low high =
-    let size = output-size corners lawful (length corners - 1) (last (length corners) lawful.some) in
-    let small = between-size p (width_of corners) (2 * MAX_POWER) low (less p (width_of corners) high) size in
-    ap (λ z. to_z w64 (of_z w64 (z +ℤ pos 1))) (narrow p (2 * MAX_POWER) small (lit< tt)) ∙ narrow (p +ℤ pos 1) (2 * MAX_POWER + 1) (more p small) (lit< tt)
-  where
-    last : (n : ℕ) → 0 < n → n - 1 < n
-    last n h = omega arith
-
-    less : (x y : ℤ) → x <ℤ y → x ≤ℤ y
-    less x y h = omega (arith, linear)
-
-    more : (x : ℤ) → unsigned_abs x ≤ 2 * MAX_POWER → unsigned_abs (x +ℤ pos 1) ≤ 2 * MAX_POWER + 1
-    more x h = omega (arith, ints)
+    let size = output-size corners lawful (length corners - 1) (omega (arith, lawful.some)) in
+    let small = between-size p (width_of corners) (2 * MAX_POWER) low (omega (arith, linear)) size in
+    ap (λ z. to_z w64 (of_z w64 (z +ℤ pos 1))) (narrow p (2 * MAX_POWER) small (lit< tt)) ∙ narrow (p +ℤ pos 1) (2 * MAX_POWER + 1) (omega (arith, ints)) (lit< tt)

@@ -1,7 +1,6 @@
 -- The first segment of the hull that holds an output is there, and the hull's value on it is the least cost rounded up.
 -- Cite from a crate above by `use Rattle.cost_curves.proofs.FirstSegments.{hull_cost-least}`.
-use Rattle.std.proofs.Common.{◌≡◌, ℕ, zero, suc, ◌≢◌, ◌*◌, ◌<◌, ◌≤◌, ◌⊎◌, ⊎_elim, Bool, refl, sym, ap, subst, ◌∙◌, arith, List, length, ℤ, pos, ◌+ℤ◌, ◌-ℤ◌, ◌*ℤ◌, ◌≤ℤ◌, ◌<ℤ◌}
-use Rattle.std.specs.Prelude.{IsTrue, Option, Some, None, int_le, int_lt, ◌==◌, ◌&&◌, if◌then◌else◌}
+use Rattle.std.proofs.Common.{◌≡◌, ℕ, zero, suc, ◌≢◌, ◌*◌, ◌<◌, ◌≤◌, ◌⊎◌, ⊎_elim, Bool, refl, sym, ap, subst, ◌∙◌, arith, List, length, ℤ, pos, ◌-ℤ◌, ◌*ℤ◌, ◌≤ℤ◌, IsTrue, Option, Some, None, int_le, int_lt, ◌==◌, ◌&&◌, if◌then◌else◌}
 use Rattle.std.proofs.Math.Nat.{le-max_left}
 use Rattle.std.proofs.lemmas.Bool.{and_parts, or_cases, cond-true, eqb-true}
 use Rattle.uc_model.specs.Division.{IsCeiling, quotient_up}
@@ -23,11 +22,8 @@ first_below-some (suc n) test k h e = ⊎_elim
     (λ (less : k < n). let found = first_below-some n test k less e in
     (found.0, ap (λ o. or_else o (if test n then Some n else None)) found.1))
     (λ (last : k ≡ n). here (first_below n test) (cond-true (test n) (Some n) None (subst (λ i. IsTrue (test i)) last e)))
-    (below_or_last n k h)
+    (grind arith)
   where
-    below_or_last : (n k : ℕ) → k < suc n → (k < n) ⊎ (k ≡ n)
-    below_or_last n k h = grind arith
-
     here : (o : Option ℕ) → (if test n then Some n else None) ≡ Some n → (j : ℕ) × (or_else o (if test n then Some n else None) ≡ Some j)
     here None is = (n, is)
     here (Some j) is = (j, refl)
@@ -41,11 +37,8 @@ first_segment-some points p (suc n) i j h hj e = ⊎_elim
     (λ (last : i ≡ n).
     let found = first_below-some (length points) (segment_holds points 1 p n) j hj (subst (λ k. IsTrue (segment_holds points 1 p k j)) last e) in
     here (first_segment points 1 p n) found.0 (ap (λ o. segment_from n o) found.1))
-    (below_or_last n i h)
+    (grind arith)
   where
-    below_or_last : (n k : ℕ) → k < suc n → (k < n) ⊎ (k ≡ n)
-    below_or_last n k h = grind arith
-
     here : (o : Option Segment) (k : ℕ) → segment_from n (first_below (length points) (segment_holds points 1 p n)) ≡ Some (record { left = n; right = k })
         → (s : Segment) × (or_else o (segment_from n (first_below (length points) (segment_holds points 1 p n))) ≡ Some s)
     here None k is = (record { left = n; right = k }, is)
@@ -68,16 +61,11 @@ quotient_is points p s =
     let over : from_left points 1 p s ≡ p -ℤ output_of points s.left = ap (λ z. p -ℤ z) (one-mul (output_of points s.left)) in
     let width : pos (1 * segment_width points s) ≡ pos (segment_width points s) = one-mul (pos (segment_width points s)) in
     let q = quotient_up (r *ℤ from_left points 1 p s) (pos (1 * segment_width points s)) in
-    subst (λ z. IsCeiling (r *ℤ (p -ℤ output_of points s.left)) (pos (segment_width points s)) z) (rest (point_of points s.left).cost q)
+    subst (λ z. IsCeiling (r *ℤ (p -ℤ output_of points s.left)) (pos (segment_width points s)) z) (omega (arith, linear))
     (subst (λ z. IsCeiling (r *ℤ (p -ℤ output_of points s.left)) z q) width
     (subst (λ z. IsCeiling (r *ℤ z) (pos (1 * segment_width points s)) q) over
-    (quotient_up-is (r *ℤ from_left points 1 p s) (pos (1 * segment_width points s)) (positive (segment_width points s) (le-max_left 1 _)))))
-  where
-    rest : (x y : ℤ) → y ≡ (x +ℤ y) -ℤ x
-    rest x y = omega (arith, linear)
-
-    positive : (w : ℕ) → 1 ≤ w → pos 0 <ℤ pos (1 * w)
-    positive w h = omega (arith, linear)
+    (quotient_up-is (r *ℤ from_left points 1 p s) (pos (1 * segment_width points s))
+    (let wide : 1 ≤ segment_width points s = le-max_left 1 _ in omega (arith, linear)))))
 
 segment_least : (points : List Point) (p : ℤ) (s : Segment) → Holds points 1 p s → IsLeastCostUp points p (segment_cost points 1 p (Some s))
 segment_least points p s holds =
@@ -89,8 +77,8 @@ segment_least points p s holds =
     (λ (segment : IsTrue (is_hull_segment points s.left s.right)).
     let parts = and_parts (int_lt (pos 0) (run points s.left s.right)) (all_below (length points) (is_above_line points s.left s.right)) segment in
     let rising = int_lt-true (pos 0) (run points s.left s.right) parts.0 in
-    let apart : s.left ≢ s.right = λ e. none _ _ (ap (λ l. output_of points l) e) rising in
-    between_least points p (segment_cost points 1 p (Some s)) s.left s.right holds.left holds.right (less _ _ rising) begins reaches
+    let apart : s.left ≢ s.right = λ e. (omega (arith, linear, ap (λ l. output_of points l) e)) in
+    between_least points p (segment_cost points 1 p (Some s)) s.left s.right holds.left holds.right (omega (arith, linear)) begins reaches
     (λ l h. int_le-true _ _ (all_below-at (length points) (is_above_line points s.left s.right) parts.1 l h))
     (subst (λ z. IsCeiling (rise points s.left s.right *ℤ (p -ℤ output_of points s.left)) z (segment_cost points 1 p (Some s) -ℤ (point_of points s.left).cost))
     ((lies_on points 1 p s holds).width apart) (quotient_is points p s)))
@@ -99,33 +87,17 @@ segment_least points p s holds =
     let same = eqb-true s.left s.right parts.0 in
     let tests = and_parts (all_below (length points) (λ l. int_le (run points s.left l) (pos 0) && int_le (pos 0) (run points s.left l))) (all_below (length points) (λ l. int_le (pos 0) (rise points s.left l))) parts.1 in
     let here : output_of points s.left ≡ p = le_antisymm _ _ begins (subst (λ k. p ≤ℤ output_of points k) (sym same) reaches) in
+    let gone : rise points s.left s.right ≡ pos 0 = omega (arith, linear, ap (λ k. (point_of points k).cost) (sym same)) in
     let level : rise points s.left s.right *ℤ (p -ℤ output_of points s.left) ≡ pos 0 =
-    ap (λ z. z *ℤ (p -ℤ output_of points s.left)) (gone _ _ (ap (λ k. (point_of points k).cost) (sym same))) ∙ zero-mul (p -ℤ output_of points s.left) in
+    ap (λ z. z *ℤ (p -ℤ output_of points s.left)) gone ∙ zero-mul (p -ℤ output_of points s.left) in
+    let wide : 1 ≤ segment_width points s = le-max_left 1 _ in
     let nought = subst (λ z. IsCeiling z (pos (segment_width points s)) (segment_cost points 1 p (Some s) -ℤ (point_of points s.left).cost)) level (quotient_is points p s) in
     subst (λ z. IsLeastCostUp points p z)
-    (cost_is _ _ (IsCeiling_unique (pos 0) (pos (segment_width points s)) _ (pos 0) (wide (segment_width points s) (le-max_left 1 _)) nought (zero_ceiling (segment_width points s) (le-max_left 1 _))))
+    (omega (arith, linear, IsCeiling_unique (pos 0) (pos (segment_width points s)) _ (pos 0) (omega (arith, linear)) nought (zero_ceiling (segment_width points s) wide)))
     (subst (λ z. IsLeastCostUp points z (point_of points s.left).cost) here
-    (level_least points s.left holds.left (λ l h. higher _ _ (int_le-true _ _ (all_below-at (length points) (λ l. int_le (pos 0) (rise points s.left l)) tests.1 l h))))))
+    (level_least points s.left holds.left (λ l h. omega (arith, linear, int_le-true (pos 0) (rise points s.left l) (all_below-at (length points) (λ l. int_le (pos 0) (rise points s.left l)) tests.1 l h))))))
     (or_cases (is_hull_segment points s.left s.right) _ first.0)
   where
-    none : (x y : ℤ) → x ≡ y → pos 0 <ℤ (y -ℤ x) → ⊥
-    none x y e h = omega (arith, linear)
-
-    less : (x y : ℤ) → pos 0 <ℤ (y -ℤ x) → x <ℤ y
-    less x y h = omega (arith, linear)
-
-    gone : (x y : ℤ) → x ≡ y → x -ℤ y ≡ pos 0
-    gone x y e = omega (arith, linear)
-
-    higher : (x y : ℤ) → pos 0 ≤ℤ (y -ℤ x) → x ≤ℤ y
-    higher x y h = omega (arith, linear)
-
-    cost_is : (x y : ℤ) → x -ℤ y ≡ pos 0 → y ≡ x
-    cost_is x y e = omega (arith, linear)
-
-    wide : (w : ℕ) → 1 ≤ w → pos 0 <ℤ pos w
-    wide w h = omega (arith, linear)
-
     zero_ceiling : (w : ℕ) → 1 ≤ w → IsCeiling (pos 0) (pos w) (pos 0)
     zero_ceiling w h = let e = zero-mul (pos w) in record { above = omega (arith, linear, e); before = omega (arith, linear, e) }
 

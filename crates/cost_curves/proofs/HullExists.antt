@@ -1,7 +1,6 @@
 -- Every lawful list of points has a lower hull, and a segment of it holds each output up to its width and no other.
 -- Cite from a crate above by `use Rattle.cost_curves.proofs.HullExists.{segment-there, segment-within}`.
-use Rattle.std.proofs.Common.{◌≡◌, ℕ, zero, suc, ◌-◌, ◌<◌, ◌≤◌, ◌⊎◌, inl, inr, ⊎_elim, Bool, false, refl, sym, ap, subst, arith, List, [], ◌∷◌, ◌++◌, take, length, ℤ, pos, ◌-ℤ◌, ◌≤ℤ◌, ◌<ℤ◌}
-use Rattle.std.specs.Prelude.{IsTrue, int_le, Some}
+use Rattle.std.proofs.Common.{◌≡◌, ℕ, zero, suc, ◌-◌, ◌<◌, ◌≤◌, ◌⊎◌, inl, inr, ⊎_elim, Bool, false, refl, sym, ap, subst, arith, List, [], ◌∷◌, ◌++◌, take, length, ℤ, pos, ◌≤ℤ◌, ◌<ℤ◌, IsTrue, int_le, Some}
 use Rattle.std.proofs.lemmas.Bool.{and_parts, cases_Bool}
 use Rattle.uc_model.specs.Points.{point_of, output_of}
 use Rattle.uc_model.specs.Hull.{Segment, segment_at}
@@ -184,10 +183,4 @@ segment-within points p s lawful e =
     let first = and_parts _ _ both.0 in
     let begins = begins_at points p s.left first.1 in
     let reaches = reaches_at points p s.right both.1 in
-    (above _ _ _ low begins, below _ _ _ _ reaches high)
-  where
-    above : (a b p : ℤ) → a ≤ℤ b → (b -ℤ a) ≤ℤ p → pos 0 ≤ℤ p
-    above a b p h k = omega (arith, linear)
-
-    below : (a b c p : ℤ) → p ≤ℤ (b -ℤ a) → b ≤ℤ c → p ≤ℤ (c -ℤ a)
-    below a b c p h k = omega (arith, linear)
+    ((omega (arith, linear, begins)), omega (arith, linear, reaches))

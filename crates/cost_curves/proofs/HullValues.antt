@@ -1,7 +1,6 @@
 -- What the corners of a lower hull say about the points.
 -- Cite from a crate above by `use Rattle.cost_curves.proofs.HullValues.{segment_is}`.
-use Rattle.std.proofs.Common.{◌≡◌, ℕ, suc, ◌-◌, ◌<◌, ⊎_elim, refl, sym, subst, ◌∙◌, arith, List, length, ℤ, pos, ◌+ℤ◌, ◌-ℤ◌, ◌*ℤ◌, ◌≤ℤ◌, ◌<ℤ◌}
-use Rattle.std.specs.Prelude.{IsTrue, int_le, int_lt, ◌==◌, ◌&&◌, ◌||◌}
+use Rattle.std.proofs.Common.{◌≡◌, ℕ, suc, ◌-◌, ◌<◌, ⊎_elim, refl, sym, subst, ◌∙◌, arith, List, length, ℤ, pos, ◌+ℤ◌, ◌-ℤ◌, ◌*ℤ◌, ◌≤ℤ◌, ◌<ℤ◌, IsTrue, int_le, int_lt, ◌==◌, ◌&&◌, ◌||◌}
 use Rattle.std.proofs.lemmas.Bool.{and_from, or_left, or_right, eq-eqb}
 use Rattle.uc_model.specs.Sums.{all_below}
 use Rattle.uc_model.specs.Points.{point_of, output_of}
@@ -25,16 +24,10 @@ pub record LiesBetween (corners : List Point) (p : ℤ) (low high : ℕ) : Type 
 
 -- ---- where the corners lie
 pub output-first : (points : List Point) → output_of points 0 ≡ pos 0
-output-first points = gone (point_of points 0).mw
-  where
-    gone : (x : ℤ) → x -ℤ x ≡ pos 0
-    gone x = omega (arith, linear)
+output-first points = omega (arith, linear)
 
 pub run_is : (points : List Point) (a b : ℕ) → run points a b ≡ (point_of points b).mw -ℤ (point_of points a).mw
-run_is points a b = apart (point_of points b).mw (point_of points a).mw (point_of points 0).mw
-  where
-    apart : (x y z : ℤ) → (x -ℤ z) -ℤ (y -ℤ z) ≡ x -ℤ y
-    apart x y z = omega (arith, linear)
+run_is points a b = omega (arith, linear)
 
 -- the first corner has the first point's output
 pub starts : (points corners : List Point) → IsLowerHull points corners → 0 < length corners → (point_of corners 0).mw ≡ (point_of points 0).mw
@@ -117,16 +110,10 @@ alone-point points corners whole only a e =
     and_from (all_below (length points) (λ l. int_le (run points a l) (pos 0) && int_le (pos 0) (run points a l))) (all_below (length points) (λ l. int_le (pos 0) (rise points a l)))
     (all_below-from (length points) (λ l. int_le (run points a l) (pos 0) && int_le (pos 0) (run points a l))
     (λ l h. and_from (int_le (run points a l) (pos 0)) (int_le (pos 0) (run points a l))
-    (le-int_le _ _ (subst (λ z. z ≤ℤ pos 0) (sym (run_is points a l)) (none (point_of points l).mw (point_of points a).mw (below l h))))
-    (le-int_le _ _ (subst (λ z. pos 0 ≤ℤ z) (sym (run_is points a l)) (some (point_of points a).mw (point_of points l).mw (right l h))))))
-    (all_below-from (length points) (λ l. int_le (pos 0) (rise points a l)) (λ l h. le-int_le _ _ (some (point_of points a).cost (point_of points l).cost (lowest l h))))
+    (le-int_le (run points a l) (pos 0) (subst (λ z. z ≤ℤ pos 0) (sym (run_is points a l)) (omega (arith, linear, below l h))))
+    (le-int_le (pos 0) (run points a l) (subst (λ z. pos 0 ≤ℤ z) (sym (run_is points a l)) (omega (arith, linear, right l h))))))
+    (all_below-from (length points) (λ l. int_le (pos 0) (rise points a l)) (λ l h. le-int_le (pos 0) (rise points a l) (omega (arith, linear, lowest l h))))
   where
-    none : (x y : ℤ) → x ≤ℤ y → (x -ℤ y) ≤ℤ pos 0
-    none x y h = omega (arith, linear)
-
-    some : (x y : ℤ) → x ≤ℤ y → pos 0 ≤ℤ (y -ℤ x)
-    some x y h = omega (arith, linear)
-
     right : (l : ℕ) → l < length points → (point_of points a).mw ≤ℤ (point_of points l).mw
     right l h = subst (λ (x : Point). x.mw ≤ℤ (point_of points l).mw) e (whole.hull.first l h)
 
@@ -219,20 +206,11 @@ slope_right points p slope left = record {
   left = left.left;
   right = left.right;
   segment = left.segment;
-  begins = before _ left.begins;
-  reaches = after _ left.reaches;
+  begins = omega (arith, linear, left.begins);
+  reaches = omega (arith, linear, left.reaches);
 }
-  where
-    before : (x : ℤ) → x <ℤ (p +ℤ pos 1) → x ≤ℤ p
-    before x h = omega (arith, linear)
-
-    after : (x : ℤ) → (p +ℤ pos 1) ≤ℤ x → p <ℤ x
-    after x h = omega (arith, linear)
 
 pub whole_width : (points corners : List Point) → IsLowerHull points corners → width_of corners ≡ width_of points
 whole_width points corners whole =
     width_is points corners whole (length corners - 1) (length points - 1)
-    (last (length corners) (whole.hull.some whole.lawful.some)) (last (length points) whole.lawful.some)
-  where
-    last : (n : ℕ) → 0 < n → suc (n - 1) ≡ n
-    last n h = omega arith
+    (omega (arith, whole.hull.some whole.lawful.some)) (omega (arith, whole.lawful.some))

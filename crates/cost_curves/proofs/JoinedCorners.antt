@@ -1,6 +1,5 @@
 -- How a point joins the corners of the lower hull of the points before it.
-use Rattle.std.proofs.Common.{◌≡◌, ℕ, zero, suc, ◌-◌, ◌<◌, ◌≤◌, ◌⊎◌, ⊎_elim, Bool, true, false, refl, sym, ap, subst, ◌∙◌, arith, List, [], ◌∷◌, ◌++◌, take, length, length-append, ℤ, pos, ◌-ℤ◌, ◌*ℤ◌, ◌≤ℤ◌, ◌<ℤ◌}
-use Rattle.std.specs.Prelude.{IsTrue, int_le}
+use Rattle.std.proofs.Common.{◌≡◌, ℕ, zero, suc, ◌-◌, ◌<◌, ◌≤◌, ◌⊎◌, ⊎_elim, Bool, true, false, refl, sym, ap, subst, ◌∙◌, arith, List, [], ◌∷◌, ◌++◌, take, length, length-append, ℤ, pos, ◌-ℤ◌, ◌*ℤ◌, ◌≤ℤ◌, ◌<ℤ◌, IsTrue, int_le}
 use Rattle.std.proofs.Math.Seq.{get_or-append_seam}
 use Rattle.std.proofs.lemmas.List.{get_or_append_left, get_or-take, length-take-le}
 use Rattle.std.proofs.lemmas.Int.{ints}
@@ -54,38 +53,29 @@ corner_above points count corners hull i hi j hj =
 level_above : (a p l : Point) → a.mw ≤ℤ p.mw → l.mw ≡ a.mw → a.cost ≤ℤ l.cost → IsAbove a p l
 level_above a p l right same higher =
     let none : (p.cost -ℤ a.cost) *ℤ (l.mw -ℤ a.mw) ≡ pos 0 =
-    ap (λ z. (p.cost -ℤ a.cost) *ℤ z) (gone l.mw a.mw same) ∙ mul-zero (p.cost -ℤ a.cost) in
+    ap (λ z. (p.cost -ℤ a.cost) *ℤ z) (omega (arith, linear)) ∙ mul-zero (p.cost -ℤ a.cost) in
     let more = mul_nonneg (l.cost -ℤ a.cost) (p.mw -ℤ a.mw) (sub_nonneg a.cost l.cost higher) (sub_nonneg a.mw p.mw right) in
     omega (arith, linear, none, more)
-  where
-    gone : (x y : ℤ) → x ≡ y → x -ℤ y ≡ pos 0
-    gone x y e = omega (arith, linear)
 
 -- of a point that lies above the line from a to b, each one above it at its output does
 raise_above : (a b p l : Point) → a.mw ≤ℤ b.mw → IsAbove a b p → p.mw ≡ l.mw → p.cost ≤ℤ l.cost → IsAbove a b l
 raise_above a b p l right above same higher =
     let first : (b.cost -ℤ a.cost) *ℤ (p.mw -ℤ a.mw) ≡ (b.cost -ℤ a.cost) *ℤ (l.mw -ℤ a.mw) = ap (λ z. (b.cost -ℤ a.cost) *ℤ (z -ℤ a.mw)) same in
-    let more = mul-le-mul_right (b.mw -ℤ a.mw) (p.cost -ℤ a.cost) (l.cost -ℤ a.cost) (sub_nonneg a.mw b.mw right) (up p.cost l.cost a.cost higher) in
+    let more = mul-le-mul_right (b.mw -ℤ a.mw) (p.cost -ℤ a.cost) (l.cost -ℤ a.cost) (sub_nonneg a.mw b.mw right) (omega (arith, linear)) in
     omega (arith, linear, first, more, above)
-  where
-    up : (x y z : ℤ) → x ≤ℤ y → (x -ℤ z) ≤ℤ (y -ℤ z)
-    up x y z h = omega (arith, linear)
 
 -- b lies above the line from a to p. A point right of b that lies above the line from b to p lies above that from a
 beyond_above : (a b p l : Point) → a.mw <ℤ b.mw → b.mw ≤ℤ p.mw → l.mw ≤ℤ p.mw → b.mw ≤ℤ l.mw
     → (p.mw ≤ℤ b.mw → p.cost <ℤ b.cost) → (p.mw ≤ℤ l.mw → p.cost <ℤ l.cost) → IsAbove a p b → IsAbove b p l → IsAbove a p l
 beyond_above a b p l first second third fourth low lower over above = ⊎_elim
     (λ (reached : p.mw ≤ℤ b.mw). let same : p.mw ≡ l.mw = le_antisymm p.mw l.mw (le_trans p.mw b.mw l.mw reached fourth) third in
-    raise_above a p p l (le_trans a.mw b.mw p.mw (less_le a.mw b.mw first) second) (le_refl _) same (less_le p.cost l.cost (lower (equal_le p.mw l.mw same))))
+    raise_above a p p l (le_trans a.mw b.mw p.mw (less_le a.mw b.mw first) second) (le_refl _) same (less_le p.cost l.cost (lower (omega (arith, linear)))))
     (λ (apart : b.mw <ℤ p.mw).
     flatter_end-above a l p
     (flatter_trans (right_of l p) (above_of l p) (right_of b p) (above_of b p) (right_of a p) (above_of a p)
     (sub_nonneg l.mw p.mw third) (sub_positive b.mw p.mw apart) (sub_nonneg a.mw p.mw (le_trans a.mw b.mw p.mw (less_le a.mw b.mw first) second))
     (above-flatter_end b l p above) (above-flatter_end a b p over)))
     (le_or_lt p.mw b.mw)
-  where
-    equal_le : (x y : ℤ) → x ≡ y → x ≤ℤ y
-    equal_le x y h = omega (arith, linear)
 
 -- b lies above the line from a to p. A point right of a that lies above the line from a to b lies above that to p
 between_above : (a b p l : Point) → a.mw <ℤ b.mw → b.mw ≤ℤ p.mw → a.mw ≤ℤ l.mw → IsAbove a p b → IsAbove a b l → IsAbove a p l
@@ -141,7 +131,7 @@ covers-more points count corners point i hull next covers e =
     record {
       within = omega (arith, covers.within);
       covered = λ j same l hl after.
-          subst (λ k. (point_of corners k).mw ≤ℤ (point_of points l).mw → IsAbove (point_of corners k) point (point_of points l)) (lower j i same)
+          subst (λ k. (point_of corners k).mw ≤ℤ (point_of points l).mw → IsAbove (point_of corners k) point (point_of points l)) (omega arith)
           (λ near. ⊎_elim
           (λ (beyond : (point_of corners (suc i)).mw ≤ℤ (point_of points l).mw).
           beyond_above (point_of corners i) (point_of corners (suc i)) point (point_of points l) rising right (next.right l hl) beyond
@@ -152,9 +142,6 @@ covers-more points count corners point i hull next covers e =
           after;
       alone = λ none. absurd (omega arith);
     }
-  where
-    lower : (j i : ℕ) → suc j ≡ suc i → i ≡ j
-    lower j i e = omega arith
 
 -- ---- the corners that are left
 pub joins-none : (points : List Point) (count : ℕ) (corners : List Point) (point : Point) → Covers points count corners point 0
@@ -170,24 +157,18 @@ pub joins-one : (points : List Point) (count : ℕ) (corners : List Point) (poin
     → Covers points count corners point 1 → int_le point.mw (point_of corners 0).mw ≡ false → Joins points count corners point 1
 joins-one points count corners point hull covers e = record {
   over = λ i h. absurd (omega arith);
-  right = λ i same. subst (λ k. (point_of corners k).mw <ℤ point.mw) (lower i same) (false_lt _ _ e);
+  right = λ i same. subst (λ k. (point_of corners k).mw <ℤ point.mw) (omega arith) (false_lt _ _ e);
   above = λ i same l hl.
-      covers.covered i same l hl (subst (λ k. (point_of corners k).mw ≤ℤ (point_of points l).mw) (lower i same) (hull.first l hl));
+      covers.covered i same l hl (subst (λ k. (point_of corners k).mw ≤ℤ (point_of points l).mw) (omega arith) (hull.first l hl));
   alone = λ none. absurd (omega arith);
 }
-  where
-    lower : (i : ℕ) → suc i ≡ 1 → 0 ≡ i
-    lower i e = omega arith
 
 -- the point lies above the lines from corner to corner, from the last one down
 over_below : (points : List Point) (count : ℕ) (corners : List Point) (point : Point) (i : ℕ) → HullOfFirst points count corners
     → IsNext points count point → suc i < length corners → IsAbove (point_of corners i) (point_of corners (suc i)) point
     → (j : ℕ) → j ≤ i → IsAbove (point_of corners j) (point_of corners (suc j)) point
 over_below points count corners point zero hull next inside over j h =
-    subst (λ k. IsAbove (point_of corners k) (point_of corners (suc k)) point) (none j h) over
-  where
-    none : (j : ℕ) → j ≤ 0 → 0 ≡ j
-    none j h = omega arith
+    subst (λ k. IsAbove (point_of corners k) (point_of corners (suc k)) point) (omega arith) over
 over_below points count corners point (suc i) hull next inside over j h = ⊎_elim
     (λ (last : suc i ≡ j). subst (λ k. IsAbove (point_of corners k) (point_of corners (suc k)) point) last over)
     (λ (below : j ≤ i).
@@ -196,10 +177,7 @@ over_below points count corners point (suc i) hull next inside over j h = ⊎_el
     (hull.rising i (omega arith)) (hull.rising (suc i) inside) (corner_right points count corners point hull next (suc (suc i)) inside)
     over (corner_above points count corners hull i (omega arith) (suc (suc i)) inside))
     j below)
-    (last_or_below i j h)
-  where
-    last_or_below : (i j : ℕ) → j ≤ suc i → (suc i ≡ j) ⊎ (j ≤ i)
-    last_or_below i j h = grind arith
+    (grind arith)
 
 pub joins-more : (points : List Point) (count : ℕ) (corners : List Point) (point : Point) (i : ℕ) → HullOfFirst points count corners
     → IsNext points count point → Covers points count corners point (suc (suc i))
@@ -214,8 +192,8 @@ joins-more points count corners point i hull next covers e =
     let over : IsAbove a b point = omega (arith, linear, below) in
     record {
       over = λ j h. over_below points count corners point i hull next inside over j (omega arith);
-      right = λ j same. subst (λ k. (point_of corners k).mw <ℤ point.mw) (lower j same) (beside a b point rising right below (corner_below points count corners point hull next (suc i) inside));
-      above = λ j same l hl. subst (λ k. IsAbove (point_of corners k) point (point_of points l)) (lower j same)
+      right = λ j same. subst (λ k. (point_of corners k).mw <ℤ point.mw) (omega arith) (beside a b point rising right below (corner_below points count corners point hull next (suc i) inside));
+      above = λ j same l hl. subst (λ k. IsAbove (point_of corners k) point (point_of points l)) (omega arith)
           (⊎_elim
           (λ (after : b.mw ≤ℤ (point_of points l).mw). covers.covered (suc i) refl l hl after)
           (λ (before : (point_of points l).mw <ℤ b.mw).
@@ -224,9 +202,6 @@ joins-more points count corners point i hull next covers e =
       alone = λ none. absurd (omega arith);
     }
   where
-    lower : (j : ℕ) → suc j ≡ suc (suc i) → suc i ≡ j
-    lower j e = omega arith
-
     -- a point below the last corner at its output would cover it
     beside : (a b p : Point) → a.mw <ℤ b.mw → b.mw ≤ℤ p.mw → ((b.cost -ℤ a.cost) *ℤ (p.mw -ℤ a.mw)) <ℤ ((p.cost -ℤ a.cost) *ℤ (b.mw -ℤ a.mw))
         → (p.mw ≤ℤ b.mw → p.cost <ℤ b.cost) → b.mw <ℤ p.mw
@@ -254,11 +229,8 @@ covers_next points count corners point zero result hull next covers tested e = a
     clash : result ≡ false → result ≡ true → ⊥
     clash h k = cc
 covers_next points count corners point (suc zero) result hull next covers tested e =
-    subst (λ k. Covers points count corners point k) (lower tt)
+    subst (λ k. Covers points count corners point k) (omega arith)
     (covers-one points count corners point hull (sym (tested.one refl) ∙ e))
-  where
-    lower : Unit {0} → 0 ≡ 1 - 1
-    lower u = omega arith
 covers_next points count corners point (suc (suc i)) result hull next covers tested e =
     subst (λ k. Covers points count corners point k) (lower i)
     (covers-more points count corners point i hull next covers (sym (tested.more i refl) ∙ e))
@@ -278,17 +250,11 @@ joins points count corners point (suc (suc i)) result hull next covers tested e 
 -- ---- the points before the next one
 -- outputs rise from each point to each later one
 pub outputs-le : (points : List Point) → AreLawfulPoints points → (l k : ℕ) → l ≤ k → k < length points → (point_of points l).mw ≤ℤ (point_of points k).mw
-outputs-le points lawful l zero h inside = subst (λ i. (point_of points l).mw ≤ℤ (point_of points i).mw) (only l h) (le_refl (point_of points l).mw)
-  where
-    only : (l : ℕ) → l ≤ 0 → l ≡ 0
-    only l h = omega arith
+outputs-le points lawful l zero h inside = subst (λ i. (point_of points l).mw ≤ℤ (point_of points i).mw) (omega arith) (le_refl (point_of points l).mw)
 outputs-le points lawful l (suc k) h inside = ⊎_elim
     (λ (last : l ≡ suc k). subst (λ i. (point_of points l).mw ≤ℤ (point_of points i).mw) last (le_refl (point_of points l).mw))
     (λ (below : l ≤ k). le_trans _ _ _ (outputs-le points lawful l k below (omega arith)) (lawful.rising k inside))
-    (last_or_below l k h)
-  where
-    last_or_below : (l k : ℕ) → l ≤ suc k → (l ≡ suc k) ⊎ (l ≤ k)
-    last_or_below l k h = grind arith
+    (grind arith)
 
 -- the test of the last corner, by the number of corners
 pub record TestedLast (corners : List Point) (point : Point) (result : Bool) : Type 0 where
@@ -298,9 +264,6 @@ pub record TestedLast (corners : List Point) (point : Point) (result : Bool) : T
 last_place : (n : ℕ) → 0 < n → (i : ℕ) × (n ≡ suc i)
 last_place zero h = absurd (omega arith)
 last_place (suc i) h = (i, refl)
-
-lt_false : (a b : ℤ) → b <ℤ a → int_le a b ≡ false
-lt_false a b h = grind (arith, ints)
 
 not_over : (corner point : Point) → is_over corner point ≡ false → point.mw ≤ℤ corner.mw → point.cost <ℤ corner.cost
 not_over corner point e h = false_lt corner.cost point.cost (sym (cond-true (int_le point.mw corner.mw) (int_le corner.cost point.cost) false (le-int_le _ _ h)) ∙ e)
@@ -316,7 +279,7 @@ over_parts corner point e = ⊎_elim
     clash h = cc
 
     beyond : corner.mw <ℤ point.mw → int_le point.mw corner.mw ≡ false
-    beyond h = lt_false point.mw corner.mw h
+    beyond h = grind (arith, ints)
 
 corner_low : (points : List Point) (count : ℕ) (corners : List Point) → AreLawfulPoints points → count < length points → HullOfFirst points count corners
     → (i : ℕ) → i < length corners → (point_of corners i).mw ≤ℤ (point_of points count).mw
@@ -375,14 +338,11 @@ hull_over points count corners result lawful inside hull tested e =
           (raise_above (point_of corners i) (point_of corners (suc i)) corner point (less_le _ _ (hull.rising i h)) (corner_above points count corners hull i h last.0 within) level over.1);
       first = each_next (λ l. (point_of corners 0).mw ≤ℤ l.mw) points count hull.first (corner_low points count corners lawful inside hull 0 (omega arith));
       last = λ i same. each_next (λ l. l.mw ≤ℤ (point_of corners i).mw) points count (hull.last i same)
-          (subst (λ k. point.mw ≤ℤ (point_of corners k).mw) (end_is last.0 i (length corners) end same) over.0);
+          (subst (λ k. point.mw ≤ℤ (point_of corners k).mw) (omega arith) over.0);
       lowest = λ i same. each_next (λ l. (point_of corners i).mw ≤ℤ l.mw → (point_of corners i).cost ≤ℤ l.cost) points count (hull.lowest i same)
-          (λ near. subst (λ k. (point_of corners k).cost ≤ℤ point.cost) (end_is last.0 i (length corners) end same) over.1);
+          (λ near. subst (λ k. (point_of corners k).cost ≤ℤ point.cost) (omega arith) over.1);
     }
   where
-    end_is : (k i n : ℕ) → suc k ≡ n → suc i ≡ n → k ≡ i
-    end_is k i n h j = omega arith
-
     clash : result ≡ false → ⊥
     clash h = cc
 

@@ -1,6 +1,5 @@
 -- The cost on the line between two neighbouring corners is the least cost of weights at an output, rounded up.
-use Rattle.std.proofs.Common.{◌≡◌, ◌≢◌, ℕ, suc, ◌<◌, ⊎_elim, refl, sym, ap, subst, ◌∙◌, arith, List, length, ℤ, pos, ◌+ℤ◌, ◌-ℤ◌, ◌*ℤ◌, ◌≤ℤ◌, ◌<ℤ◌}
-use Rattle.std.specs.Prelude.{◌==◌, if◌then◌else◌}
+use Rattle.std.proofs.Common.{◌≡◌, ◌≢◌, ℕ, suc, ◌<◌, ⊎_elim, refl, sym, ap, subst, ◌∙◌, arith, List, length, ℤ, pos, ◌+ℤ◌, ◌-ℤ◌, ◌*ℤ◌, ◌≤ℤ◌, ◌<ℤ◌, ◌==◌, if◌then◌else◌}
 use Rattle.std.proofs.lemmas.Bool.{cond-true, cond-false, eq-eqb, ne_eqb}
 use Rattle.uc_model.specs.Division.{IsCeiling}
 use Rattle.uc_model.specs.Sums.{sum_below}
@@ -57,33 +56,24 @@ line_reached points p n a b ha hb rising begins reaches cost =
       weight = λ l. if l == a then left.0 else (if l == b then right.0 else 0);
       positive = some whole.0 (xb -ℤ xa) whole.1 (sub_positive xa xb rising);
       total = pair_sum (length points) a b left.0 right.0 (λ l w. pos w) ha hb apart (λ l. refl)
-          ∙ parts xa xb p (pos left.0) (pos right.0) (pos whole.0) left.1 right.1 whole.1;
+          ∙ (omega (arith, linear, left.1, right.1, whole.1));
       output = pair_sum (length points) a b left.0 right.0 (λ l w. output_of points l *ℤ pos w) ha hb apart (λ l. mul-zero (output_of points l))
           ∙ (λ t. xa *ℤ sym left.1 t +ℤ xb *ℤ sym right.1 t) ∙ line_output xa xb p ∙ ap (λ z. z *ℤ p) whole.1;
       cost = subst (λ z. z ≤ℤ (pos whole.0 *ℤ n))
           (sym (pair_sum (length points) a b left.0 right.0 (λ l w. (point_of points l).cost *ℤ pos w) ha hb apart (λ l. mul-zero (point_of points l).cost)
           ∙ (λ t. (point_of points a).cost *ℤ sym left.1 t +ℤ (point_of points b).cost *ℤ sym right.1 t)))
           (subst (λ z. ((point_of points a).cost *ℤ (xb -ℤ p) +ℤ (point_of points b).cost *ℤ (p -ℤ xa)) ≤ℤ (z *ℤ n)) whole.1
-          (subst (λ z. ((point_of points a).cost *ℤ z +ℤ (point_of points b).cost *ℤ (p -ℤ xa)) ≤ℤ ((xb -ℤ xa) *ℤ n)) (rest xa xb p)
+          (subst (λ z. ((point_of points a).cost *ℤ z +ℤ (point_of points b).cost *ℤ (p -ℤ xa)) ≤ℤ ((xb -ℤ xa) *ℤ n)) (omega (arith, linear))
           (line_cost (point_of points a).cost (point_of points b).cost (xb -ℤ xa) (p -ℤ xa) n cost)));
     }
   where
-    rest : (x y z : ℤ) → (y -ℤ x) -ℤ (z -ℤ x) ≡ y -ℤ z
-    rest x y z = omega (arith, linear)
-
     some : (n : ℕ) (z : ℤ) → z ≡ pos n → pos 0 <ℤ z → 0 < n
     some n z e h = let same = subst (λ y. pos 0 <ℤ y) e h in omega (arith, linear)
-
-    parts : (xa xb p u v w : ℤ) → xb -ℤ p ≡ u → p -ℤ xa ≡ v → xb -ℤ xa ≡ w → u +ℤ v ≡ w
-    parts xa xb p u v w e f g = omega (arith, linear)
-
-    clash : (x y : ℤ) → x ≡ y → x <ℤ y → ⊥
-    clash x y e h = omega (arith, linear)
 
     level : (a b : ℕ) → a ≡ b → output_of points a <ℤ output_of points b → ⊥
     level a b e h =
         let same : output_of points a ≡ output_of points b = ap (λ l. output_of points l) e in
-        clash _ _ same h
+        omega (arith, linear)
 
 -- ---- and nothing costs less
 -- the sum of differences from a number, by weights, all times a number
@@ -114,22 +104,16 @@ divided : (q : ℕ) (r w p xa m ca total : ℤ) → 0 < q → pos 0 ≤ℤ w →
 divided q r w p xa m ca total some nonneg cost h =
     let more : (w *ℤ (total -ℤ ca *ℤ pos q)) ≤ℤ (w *ℤ (pos q *ℤ m -ℤ ca *ℤ pos q)) =
     rw (mul_comm w (total -ℤ ca *ℤ pos q), mul_comm w (pos q *ℤ m -ℤ ca *ℤ pos q))
-    (mul-le-mul_right w _ _ nonneg (less total (pos q *ℤ m) (ca *ℤ pos q) cost)) in
+    (mul-le-mul_right w _ _ nonneg (omega (arith, linear))) in
     let left : r *ℤ (pos q *ℤ p -ℤ xa *ℤ pos q) ≡ pos q *ℤ (r *ℤ (p -ℤ xa)) =
     ap (λ z. r *ℤ z) (factor p xa) ∙ mul_left_comm r (pos q) (p -ℤ xa) in
     let right : w *ℤ (pos q *ℤ m -ℤ ca *ℤ pos q) ≡ pos q *ℤ ((m -ℤ ca) *ℤ w) =
     ap (λ z. w *ℤ z) (factor m ca) ∙ mul_left_comm w (pos q) (m -ℤ ca) ∙ ap (λ z. pos q *ℤ z) (mul_comm w (m -ℤ ca)) in
     let whole : (pos q *ℤ (r *ℤ (p -ℤ xa))) ≤ℤ (pos q *ℤ ((m -ℤ ca) *ℤ w)) = omega (arith, linear, h, more, left, right) in
-    le_from_mul (pos q) _ _ (positive some) whole
+    le_from_mul (pos q) _ _ (omega (arith, linear, some)) whole
   where
-    less : (x y z : ℤ) → x ≤ℤ y → (x -ℤ z) ≤ℤ (y -ℤ z)
-    less x y z h = omega (arith, linear)
-
     factor : (x y : ℤ) → pos q *ℤ x -ℤ y *ℤ pos q ≡ pos q *ℤ (x -ℤ y)
     factor x y = ap (λ z. pos q *ℤ x -ℤ z) (mul_comm y (pos q)) ∙ sym (mul-sub (pos q) x y)
-
-    positive : 0 < q → pos 0 <ℤ pos q
-    positive h = omega (arith, linear)
 
 -- a line with slope r over w through a point, below all points, is below all weights
 pub below_weights : (points : List Point) (p m r w xa ca : ℤ) → pos 0 ≤ℤ w
@@ -157,13 +141,8 @@ pub between_least : (points : List Point) (p n : ℤ) (a b : ℕ) → a < length
 between_least points p n a b ha hb rising begins reaches above ceiling = record {
   reached = line_reached points p n a b ha hb rising begins reaches ceiling.above;
   least = λ m costs.
-      cancel n m (point_of points a).cost (IsCeiling-least (rise points a b *ℤ (p -ℤ output_of points a)) (run points a b) (n -ℤ (point_of points a).cost) (m -ℤ (point_of points a).cost)
-      (sub_positive _ _ rising) ceiling
-      (below_weights points p m (rise points a b) (run points a b) (output_of points a) (point_of points a).cost (sub_nonneg _ _ (less_le _ _ rising)) above costs));
+      omega (arith, linear, IsCeiling-least (rise points a b *ℤ (p -ℤ output_of points a)) (run points a b) (n -ℤ (point_of points a).cost) (m -ℤ (point_of points a).cost) (sub_positive _ _ rising) ceiling (below_weights points p m (rise points a b) (run points a b) (output_of points a) (point_of points a).cost (sub_nonneg _ _ (less_le _ _ rising)) above costs));
 }
-  where
-    cancel : (n m c : ℤ) → (n -ℤ c) ≤ℤ (m -ℤ c) → n ≤ℤ m
-    cancel n m c h = omega (arith, linear)
 
 -- the line from a corner to the next
 line_least : (points corners : List Point) (p n : ℤ) (i : ℕ) → IsLowerHull points corners → suc i < length corners
@@ -180,7 +159,7 @@ line_least points corners p n i whole h begins reaches ceiling =
     λ t. ((found.right_is t).cost -ℤ (found.left_is t).cost) *ℤ (p -ℤ left t) in
     let width : (point_of corners (suc i)).mw -ℤ (point_of corners i).mw ≡ run points found.left found.right =
     (λ t. (found.right_is t).mw -ℤ (found.left_is t).mw) ∙ sym (run_is points found.left found.right) in
-    between_least points p n found.left found.right found.left_within found.right_within (rises _ _ _ found.rising)
+    between_least points p n found.left found.right found.left_within found.right_within (omega (arith, linear, found.rising))
     (subst (λ z. z ≤ℤ p) left begins) (subst (λ z. p ≤ℤ z) right reaches)
     (λ l hl.
     subst (λ z. (rise points found.left found.right *ℤ run points found.left l) ≤ℤ (rise points found.left l *ℤ z)) (sym (run_is points found.left found.right))
@@ -189,9 +168,6 @@ line_least points corners p n i whole h begins reaches ceiling =
     (subst (λ (x : Point). IsCeiling (rise points found.left found.right *ℤ (p -ℤ output_of points found.left)) (run points found.left found.right) (n -ℤ x.cost)) found.left_is
     (subst (λ z. IsCeiling (rise points found.left found.right *ℤ (p -ℤ output_of points found.left)) z (n -ℤ (point_of corners i).cost)) width
     (subst (λ z. IsCeiling z ((point_of corners (suc i)).mw -ℤ (point_of corners i).mw) (n -ℤ (point_of corners i).cost)) height ceiling)))
-  where
-    rises : (x y z : ℤ) → x <ℤ y → (x -ℤ z) <ℤ (y -ℤ z)
-    rises x y z h = omega (arith, linear)
 
 -- ---- the cost of a point
 -- at a point's output, where none costs less
@@ -205,17 +181,13 @@ level_least points a h lowest = record {
     total = single_sum (length points) a (λ l w. pos w) h (λ l. refl);
     output = single_sum (length points) a (λ l w. output_of points l *ℤ pos w) h (λ l. mul-zero (output_of points l))
         ∙ mul_comm (output_of points a) (pos 1);
-    cost = same_le _ _ (single_sum (length points) a (λ l w. (point_of points l).cost *ℤ pos w) h (λ l. mul-zero (point_of points l).cost)
-        ∙ mul_comm (point_of points a).cost (pos 1));
+    cost = omega (arith, linear, single_sum (length points) a (λ l w. (point_of points l).cost *ℤ pos w) h (λ l. mul-zero (point_of points l).cost) ∙ mul_comm (point_of points a).cost (pos 1));
   };
   least = λ m costs.
       ended m (point_of points a).cost (output_of points a -ℤ pos 0) (below_weights points (output_of points a) m (pos 0) (pos 1) (pos 0) (point_of points a).cost (pos_nonneg 1)
       (λ l hl. flat (output_of points l) (point_of points l).cost (point_of points a).cost (lowest l hl)) costs);
 }
   where
-    same_le : (x y : ℤ) → x ≡ y → x ≤ℤ y
-    same_le x y e = omega (arith, linear)
-
     flat : (x c ca : ℤ) → ca ≤ℤ c → (pos 0 *ℤ (x -ℤ pos 0)) ≤ℤ ((c -ℤ ca) *ℤ pos 1)
     flat x c ca h = let left = zero-mul (x -ℤ pos 0) in let right = mul-one (c -ℤ ca) in omega (arith, linear)
 
@@ -247,7 +219,7 @@ least_is points corners p n i j whole holds level rising = ⊎_elim
     let begins = subst (λ k. output_of corners k ≤ℤ p) (sym first) holds.begins in
     let reaches = subst (λ k. p ≤ℤ output_of corners k) (sym second) holds.reaches in
     subst (λ z. IsLeastCostUp points p z) (ap (λ k. (point_of corners k).cost) first ∙ sym here)
-    (alone_least points corners p whole alone.1 (nought p (output_of corners 0) (output-first corners) begins reaches)))
+    (alone_least points corners p whole alone.1 (omega (arith, linear, output-first corners))))
     (λ (next : j ≡ suc i).
     let inside = subst (λ k. k < length corners) next holds.right_within in
     let reaches = subst (λ k. p ≤ℤ output_of corners k) next holds.reaches in
@@ -255,6 +227,3 @@ least_is points corners p n i j whole holds level rising = ⊎_elim
     → IsCeiling (((point_of corners k).cost -ℤ (point_of corners i).cost) *ℤ (p -ℤ output_of corners i)) ((point_of corners k).mw -ℤ (point_of corners i).mw) (n -ℤ (point_of corners i).cost)) next rising in
     line_least points corners p n i whole inside holds.begins reaches (ceiling (whole.hull.rising i inside)))
     holds.beside
-  where
-    nought : (p x : ℤ) → x ≡ pos 0 → x ≤ℤ p → p ≤ℤ x → p ≡ pos 0
-    nought p x e h k = omega (arith, linear)

@@ -1,8 +1,7 @@
 -- The slopes of a lower hull rise: a segment that begins left of where another ends is no steeper. So an output has one slope on
 -- its left, as a fraction of whatever numbers.
 -- Cite from a crate above by `use Rattle.cost_curves.proofs.Slopes.{slopes_rise}`.
-use Rattle.std.proofs.Common.{◌≡◌, ℕ, ◌<◌, sym, ap, subst, ◌∙◌, arith, List, length, ℤ, pos, ◌+ℤ◌, ◌*ℤ◌, ◌≤ℤ◌, ◌<ℤ◌}
-use Rattle.std.specs.Prelude.{IsTrue, int_lt}
+use Rattle.std.proofs.Common.{◌≡◌, ℕ, ◌<◌, sym, ap, subst, ◌∙◌, arith, List, length, ℤ, pos, ◌+ℤ◌, ◌*ℤ◌, ◌≤ℤ◌, ◌<ℤ◌, IsTrue, int_lt}
 use Rattle.std.proofs.lemmas.Bool.{and_parts}
 use Rattle.uc_model.specs.Points.{output_of}
 use Rattle.uc_model.specs.Hull.{rise, run, is_hull_segment, is_above_line}

@@ -1,21 +1,18 @@
 -- The turns of the drop pass.
-use Rattle.std.proofs.Common.{◌≡◌, ◌⊎◌, ◌∙◌, ⊎_elim, ℕ, zero, suc, ◌<ℤ◌, false, true, List, get_or, set, length-set, inl, inr, refl, sym, subst, ap, arith, ℤ}
-use Rattle.std.specs.Prelude.{IsTrue, int_lt, nat_lt}
+use Rattle.std.proofs.Common.{◌≡◌, ◌⊎◌, ◌∙◌, ⊎_elim, ℕ, zero, suc, false, true, List, get_or, set, length-set, inl, inr, refl, sym, subst, ap, arith, ℤ, IsTrue, int_lt, nat_lt}
 use Rattle.std.proofs.lemmas.Bool.{cases_Bool, ltb-true}
 use Rattle.std.proofs.lemmas.List.{set-get_or}
 use Rattle.uc_model.proofs.Ring.{linear}
 use Rattle.uc_model.proofs.Tests.{int_lt-true}
-use Rattle.uc_model.specs.Schedule.{thermal_count}
 use Rattle.uc_model.specs.declared.instance.Instance.{Instance}
 use Rattle.uc_model.specs.declared.pattern.Pattern.{Pattern}
-use Rattle.dispatch_repair.specs.MostOn.{AreMostOn}
 use Rattle.decommitment.specs.DropCommitment.{Ending, Dispatched, StuckIn, IsDropPass, IsEndingOf, IsFewestOnOf, IsTaken, is_better}
 use Rattle.decommitment.specs.declared.pass.Standing.{Standing}
 use Rattle.decommitment.specs.declared.pass.Standing.TheVariants as standing
 use Rattle.decommitment.specs.declared.trial.Trial.{Trial}
 use Rattle.decommitment.specs.declared.trial.Trial.TheVariants as trial
-use Rattle.decommitment.specs.Standings.{ending_of, IsAcceptedEnding, KeepsMostOn, IsDropped}
-use Rattle.decommitment.specs.inside.Turns.{ending_of_trial, IsTrialOf, IsDroppedBelow, IsFirstOf, IsReplaced}
+use Rattle.decommitment.specs.Standings.{ending_of, IsAcceptedEnding, KeepsMostOn}
+use Rattle.decommitment.specs.inside.Turns.{ending_of_trial, IsTrialOf, IsDroppedBelow, IsReplaced}
 
 -- ---- a trial
 ended : (instance : Instance) (patterns : List Pattern) (tried : Trial) → IsTrialOf instance patterns tried
@@ -33,10 +30,7 @@ accepted instance patterns (trial.Stuck stuck) h = tt
 -- ---- a turn
 -- a number isn't below itself
 int_not_below : (z : ℤ) → int_lt z z ≡ false
-int_not_below z = ⊎_elim (λ (e : int_lt z z ≡ true). absurd (itself (int_lt-true z z e))) (λ (e : int_lt z z ≡ false). e) (cases_Bool (int_lt z z))
-  where
-    itself : z <ℤ z → ⊥
-    itself l = omega (arith, linear)
+int_not_below z = ⊎_elim (λ (e : int_lt z z ≡ true). absurd (omega (arith, linear, int_lt-true z z e))) (λ (e : int_lt z z ≡ false). e) (cases_Bool (int_lt z z))
 
 -- no ending is better than itself
 not_better : (ending : Ending) → is_better ending ending ≡ false

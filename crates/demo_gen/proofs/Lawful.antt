@@ -1,6 +1,5 @@
 -- The instance of each seed is lawful, and its units may be on throughout.
-use Rattle.std.proofs.Common.{ℕ, zero, suc, ◌+◌, ◌-◌, ◌*◌, ◌/◌, ◌<◌, ◌≤◌, [], ◌∷◌, refl, sym, subst, arith, rules, pos, ◌≤ℤ◌}
-use Rattle.std.specs.Prelude.{◌≡◌, All, IsTrue, true, slice_index_or}
+use Rattle.std.proofs.Common.{ℕ, zero, suc, ◌+◌, ◌-◌, ◌*◌, ◌/◌, ◌<◌, ◌≤◌, [], ◌∷◌, refl, sym, subst, arith, rules, pos, ◌≤ℤ◌, ◌≡◌, All, IsTrue, true, slice_index_or}
 use Rattle.std.specs.Int.{int_max}
 use Rattle.std.proofs.lemmas.List.{get_or-replicate}
 use Rattle.std.proofs.lemmas.List.Elements.{All-map, All-replicate, All-weaker}
@@ -21,11 +20,9 @@ use Rattle.demo_gen.specs.declared.numbers.Numbers.{Numbers}
 use Rattle.demo_gen.proofs.FirstUnits.{minimum-size, numbers_small, range-size, units-at, units-count}
 
 -- ---- a unit
-above : (k : ℕ) → pos 0 ≤ℤ pos k
-above k = omega (arith, linear)
 
 limit_is : (k : ℕ) → k ≤ 10000000 → IsLimit (millions k)
-limit_is k h = record { low = above (k * 1000000); power = omega (arith, h) }
+limit_is k h = record { low = omega (arith, linear); power = omega (arith, h) }
 
 -- the costs of the points
 pub costs_small : (n : Numbers) → IsSmall n → (minimum_cost n ≤ 2200) × (middle_cost n ≤ 6100) × (maximum_cost n ≤ 15900)
@@ -115,7 +112,7 @@ renewable_lawful seed zero h = record {
   maximum = λ t k. subst IsPower (sym (get_or-replicate 24 t (millions 30) (pos 0) k)) (small_power 30 (omega arith));
   range = λ t k.
       subst (λ z. int_max z (pos 0) ≤ℤ renewable_maximum (demo_instance seed) 0 t) (sym (get_or-replicate 24 t (pos 0) (pos 0) k))
-      (subst (λ z. pos 0 ≤ℤ z) (sym (get_or-replicate 24 t (millions 30) (pos 0) k)) (above 30000000));
+      (subst (λ z. pos 0 ≤ℤ z) (sym (get_or-replicate 24 t (millions 30) (pos 0) k)) (omega (arith, linear)));
 }
 renewable_lawful seed (suc w) h = absurd (omega (arith, h))
 

@@ -1,6 +1,5 @@
 -- Powers in watts are what their bits say.
-use Rattle.std.proofs.Common.{◌≡◌, ℕ, ◌*◌, ◌≤◌, sym, subst, ◌∙◌, arith, ℤ, to_z, of_z}
-use Rattle.std.specs.Prelude.{unsigned_abs}
+use Rattle.std.proofs.Common.{◌≡◌, ℕ, ◌*◌, ◌≤◌, sym, subst, ◌∙◌, arith, ℤ, to_z, of_z, unsigned_abs}
 use Rattle.std.specs.Int.{w64}
 use Rattle.uc_model.proofs.Sizes.{narrow}
 use Rattle.demo_gen.specs.Demo.{millions}

@@ -1,7 +1,6 @@
 -- From the first rule that a unit's row breaks to the first that the commitment breaks.
 -- Cite by `use Rattle.dispatch_repair.proofs.BrokenRules.{broken_first, regular}`.
-use Rattle.std.proofs.Common.{◌≡◌, ℕ, ◌+◌, ◌<◌, ◌≤◌, ⊎_elim, sym, ap, subst, arith, below_more, List, length}
-use Rattle.std.specs.Prelude.{nat_lt, Option, Some, None}
+use Rattle.std.proofs.Common.{◌≡◌, ℕ, ◌+◌, ◌<◌, ◌≤◌, ⊎_elim, sym, ap, subst, arith, below_more, List, length, nat_lt, Option, Some, None}
 use Rattle.std.proofs.lemmas.Bool.{cases_Bool, ltb-true, ltb-false}
 use Rattle.uc_model.specs.Rules.{Rule, rule_number}
 use Rattle.uc_model.specs.Schedule.{thermal_unit, thermal_count}

@@ -1,6 +1,5 @@
 -- The segments of each source: the one of a renewable unit, and those between the corners of a thermal unit's curve.
-use Rattle.std.proofs.Common.{◌≡◌, ℕ, suc, ◌+◌, ◌-◌, ◌<◌, ◌≤◌, ⊎_elim, refl, sym, ap, subst, ◌∙◌, arith, List, [], ◌∷◌, ◌++◌, length, ℤ, pos, ◌-ℤ◌, ◌*ℤ◌, ◌≤ℤ◌, ◌<ℤ◌}
-use Rattle.std.specs.Prelude.{nat_lt}
+use Rattle.std.proofs.Common.{◌≡◌, ℕ, suc, ◌+◌, ◌-◌, ◌<◌, ◌≤◌, ⊎_elim, refl, sym, ap, subst, ◌∙◌, arith, List, [], ◌∷◌, ◌++◌, length, ℤ, pos, ◌-ℤ◌, ◌*ℤ◌, ◌≤ℤ◌, ◌<ℤ◌, nat_lt}
 use Rattle.std.specs.List.{All, Contains}
 use Rattle.std.proofs.lemmas.Bool.{lt-ltb, le-ltb, cond-true, cond-false, cases_lt}
 use Rattle.std.proofs.lemmas.List.Elements.{All-append, All-nil, All-cons, Contains-append_left, Contains-push}
@@ -18,8 +17,7 @@ use Rattle.cost_curves.proofs.Lines.{sub_positive}
 use Rattle.cost_curves.proofs.Slopes.{slopes_rise}
 use Rattle.dispatch_repair.specs.Period.{FromRenewable, FromThermal}
 use Rattle.dispatch_repair.specs.MeritOrder.{HasNextSlope}
-use Rattle.dispatch_repair.specs.inside.Segments.{IsAtMost, free_segment, corner_segment, IsSegmentOf, IsNextOn, IsCovered, AreSegmentsOf, source_at, width_at}
-use Rattle.dispatch_repair.specs.declared.segment.Segment.{Segment}
+use Rattle.dispatch_repair.specs.inside.Segments.{Segment, IsAtMost, free_segment, corner_segment, IsSegmentOf, IsNextOn, IsCovered, AreSegmentsOf, source_at, width_at}
 
 -- ---- places of sources
 pub renewable_at : (instance : Instance) (w : ℕ) → w < renewable_count instance → source_at instance w ≡ FromRenewable w
@@ -28,10 +26,7 @@ renewable_at instance w h = cond-true (nat_lt w (renewable_count instance)) _ _ 
 pub thermal_at : (instance : Instance) (g : ℕ) → source_at instance (renewable_count instance + g) ≡ FromThermal g
 thermal_at instance g =
     cond-false (nat_lt (renewable_count instance + g) (renewable_count instance)) _ _ (le-ltb (renewable_count instance + g) (renewable_count instance) (omega arith))
-    ∙ ap FromThermal (back (renewable_count instance) g)
-  where
-    back : (m n : ℕ) → (m + n) - m ≡ n
-    back m n = omega arith
+    ∙ ap FromThermal (omega arith)
 
 -- ---- a segment more
 
@@ -53,21 +48,15 @@ renewable_more instance w segments h are = record {
       (λ (early : m < w). λ amount low high.
       let found = are.covered m early amount low high in
       (found.0, Contains-append_left segments (free_segment w ∷ []) found.0 found.1, found.2))
-      (λ (late : w ≤ m). subst (IsCovered instance (segments ++ free_segment w ∷ [])) (last m hm late) own) (cases_lt m w);
+      (λ (late : w ≤ m). subst (IsCovered instance (segments ++ free_segment w ∷ [])) (omega arith) own) (cases_lt m w);
 }
   where
-    last : (m : ℕ) → m < suc w → w ≤ m → w ≡ m
-    last m a b = omega arith
-
     free : IsSegmentOf instance (free_segment w)
     free = record {
-      source = inside (thermal_count instance);
+      source = omega (arith, h);
       run = omega (arith, linear);
       below = λ amount slope less next. free_slopes slope (free_segment w).slope (subst (λ s. HasNextSlope instance s amount slope) (renewable_at instance w h) next).0 refl;
     }
-      where
-        inside : (n : ℕ) → w < renewable_count instance + n
-        inside n = omega (arith, h)
 
     own : IsCovered instance (segments ++ free_segment w ∷ []) w
     own amount low high = (
@@ -97,28 +86,19 @@ between points corners n i whole h =
     let rising : (point_of corners (suc i)).cost -ℤ (point_of corners i).cost ≡ rise points its.left its.right =
     λ t. (its.right_is t).cost -ℤ (its.left_is t).cost in
     let running : (point_of corners (suc i)).mw -ℤ (point_of corners i).mw ≡ run points its.left its.right =
-    (λ t. (its.right_is t).mw -ℤ (its.left_is t).mw) ∙ apart (point_of points its.right).mw (point_of points its.left).mw (point_of points 0).mw in
+    (λ t. (its.right_is t).mw -ℤ (its.left_is t).mw) ∙ (omega (arith, linear)) in
     record {
       wide = sub_positive (point_of corners i).mw (point_of corners (suc i)).mw (whole.hull.rising i h);
       below = λ amount other less is.
           at_most_by other _ rising running is.segment.rise is.segment.run
           (slopes_rise points its.left its.right is.left is.right its.right_within is.segment.left_within hull is.segment.segment
-          (first (output_of points is.left) amount (output_of corners (suc i)) (output_of points its.right) is.begins less right));
+          (omega (arith, linear, is.begins)));
       above = λ amount other least is.
           at_least_by other _ rising running is.segment.rise is.segment.run
           (slopes_rise points is.left is.right its.left its.right is.segment.right_within its.left_within is.segment.segment hull
-          (second (output_of points its.left) (output_of corners i) amount (output_of points is.right) left least is.reaches));
+          (omega (arith, linear, is.reaches)));
     }
   where
-    apart : (x y z : ℤ) → x -ℤ y ≡ (x -ℤ z) -ℤ (y -ℤ z)
-    apart x y z = omega (arith, linear)
-
-    first : (k a c j : ℤ) → k ≤ℤ a → a <ℤ c → c ≡ j → k <ℤ j
-    first k a c j h g e = omega (arith, linear)
-
-    second : (k c a m : ℤ) → c ≡ k → c ≤ℤ a → a <ℤ m → k <ℤ m
-    second k c a m e h g = omega (arith, linear)
-
     at_most_by : (other slope : Slope) {r w s v : ℤ} → slope.rise ≡ r → slope.run ≡ w → other.rise ≡ s → other.run ≡ v → (s *ℤ w) ≤ℤ (r *ℤ v) → IsAtMost other slope
     at_most_by other slope er ew es ev h = subst (λ z. z) (λ t. (sym es t *ℤ sym ew t) ≤ℤ (sym er t *ℤ sym ev t)) h
 
@@ -141,7 +121,7 @@ pushed_more instance g i corners segments hg whole hi are =
     let its = between (thermal_unit instance g).points corners n i whole hi in
     let segment = corner_segment n corners i in
     let own : IsSegmentOf instance segment = record {
-      source = inside (renewable_count instance) g (thermal_count instance) hg;
+      source = omega arith;
       run = its.wide;
       below = λ amount slope less next. its.below amount slope less (subst (λ s. HasNextSlope instance s amount slope) (thermal_at instance g) next);
     } in
@@ -165,9 +145,6 @@ pushed_more instance g i corners segments hg whole hi are =
           (found.0, Contains-append_left segments (segment ∷ []) found.0 found.1, found.2))
           (le_or_lt (output_of corners i) amount);
     }
-  where
-    inside : (w k n : ℕ) → k < n → w + k < w + n
-    inside w k n h = omega arith
 
 -- after the last corner all watts of the unit are covered
 pub pushed_all : (instance : Instance) (g i : ℕ) (corners : List Point) (segments : List Segment)
@@ -176,12 +153,9 @@ pub pushed_all : (instance : Instance) (g i : ℕ) (corners : List Point) (segme
 pushed_all instance g i corners segments whole last are = record {
   each = are.each;
   covered = λ m hm. ⊎_elim (λ (early : m < renewable_count instance + g). are.covered m early)
-      (λ (late : renewable_count instance + g ≤ m). subst (IsCovered instance segments) (same m hm late) own) (cases_lt m (renewable_count instance + g));
+      (λ (late : renewable_count instance + g ≤ m). subst (IsCovered instance segments) (omega arith) own) (cases_lt m (renewable_count instance + g));
 }
   where
-    same : (m : ℕ) → m < suc (renewable_count instance + g) → renewable_count instance + g ≤ m → renewable_count instance + g ≡ m
-    same m a b = omega arith
-
     own : IsCovered instance segments (renewable_count instance + g)
     own amount low high =
         are.reached amount low

@@ -1,8 +1,7 @@
 -- What the sources of a filled period keep: each unit's output lies on its curve and falls within its ramp limit, its output and
 -- reserve stay within its head and cap, and all reserve reaches what is needed.
 -- Cite by `use Rattle.dispatch_repair.proofs.Filled.{cell_within}`.
-use Rattle.std.proofs.Common.{◌≡◌, ℕ, zero, suc, ◌-◌, ◌<◌, ◌≤◌, ◌⊎◌, inl, inr, ⊎_elim, Bool, false, sym, ap, subst, ◌∙◌, arith, List, ℤ, pos, ◌+ℤ◌, ◌-ℤ◌, ◌*ℤ◌, ◌≤ℤ◌, ◌<ℤ◌}
-use Rattle.std.specs.Prelude.{IsTrue, nat_lt, if◌then◌else◌}
+use Rattle.std.proofs.Common.{◌≡◌, ℕ, zero, suc, ◌-◌, ◌<◌, ◌≤◌, ◌⊎◌, inl, inr, ⊎_elim, Bool, false, sym, ap, subst, ◌∙◌, arith, List, ℤ, pos, ◌+ℤ◌, ◌-ℤ◌, ◌*ℤ◌, ◌≤ℤ◌, ◌<ℤ◌, IsTrue, nat_lt, if◌then◌else◌}
 use Rattle.std.specs.Int.{int_min, int_max}
 use Rattle.std.proofs.lemmas.Int.{ints}
 use Rattle.std.proofs.lemmas.Bool.{cond_both, cond-true}
@@ -17,19 +16,14 @@ use Rattle.uc_model.specs.declared.schedule.Printed.{Printed}
 use Rattle.uc_model.proofs.Ring.{linear, le_or_lt, le_trans, le_antisymm, mul_nonneg, mul-zero}
 use Rattle.uc_model.proofs.Sums.{sum_below-sub}
 use Rattle.uc_model.proofs.MinimumTimes.{bit_nonneg}
+use Rattle.uc_model.proofs.Tests.{int_min_left, int_min_right}
 use Rattle.schedule_check.specs.SizedNumbers.{output_at}
 use Rattle.dispatch_repair.specs.Period.{Period, Source, FromThermal, commitment_at, output_before, head_of, need_of}
 use Rattle.dispatch_repair.specs.MeritOrder.{IsInMeritOrder, IsReserveInOrder}
 use Rattle.dispatch_repair.specs.Dispatch.{IsFilled, amounts, period_after}
 
 -- ---- least and greatest numbers
-min_left : (a b : ℤ) → int_min a b ≤ℤ a
-min_left a b = grind (arith, ints)
-
-min_right : (a b : ℤ) → int_min a b ≤ℤ b
-min_right a b = grind (arith, ints)
-
-max_left : (a b : ℤ) → a ≤ℤ int_max a b
+pub max_left : (a b : ℤ) → a ≤ℤ int_max a b
 max_left a b = grind (arith, ints)
 
 pub max_right : (a b : ℤ) → b ≤ℤ int_max a b
@@ -42,12 +36,12 @@ above_min k a b h l = grind (arith, ints)
 pub cap-le-start_cap : (periods : ℕ) (unit : Thermal) (on : Commitment) (t : ℕ) → cap periods unit on t ≤ℤ start_cap unit on t
 cap-le-start_cap periods unit on t =
     cond_both (nat_lt (suc t) periods) _ _ (λ c. c ≤ℤ start_cap unit on t)
-    (λ more. min_left (start_cap unit on t) (stop_cap unit on t)) (λ last. omega (arith, linear))
+    (λ more. int_min_left (start_cap unit on t) (stop_cap unit on t)) (λ last. omega (arith, linear))
 
 pub cap-le-stop_cap : (periods : ℕ) (unit : Thermal) (on : Commitment) (t : ℕ) → IsTrue (nat_lt (suc t) periods)
     → cap periods unit on t ≤ℤ stop_cap unit on t
 cap-le-stop_cap periods unit on t more =
-    subst (λ c. c ≤ℤ stop_cap unit on t) (sym (cond-true (nat_lt (suc t) periods) _ _ more)) (min_right (start_cap unit on t) (stop_cap unit on t))
+    subst (λ c. c ≤ℤ stop_cap unit on t) (sym (cond-true (nat_lt (suc t) periods) _ _ more)) (int_min_right (start_cap unit on t) (stop_cap unit on t))
 
 -- it is at most the unit's range, and nothing where the unit is off
 pub cap-le-range : (periods : ℕ) (unit : Thermal) (on : Commitment) (t : ℕ) → cap periods unit on t ≤ℤ ((unit.pmax -ℤ unit.pmin) *ℤ bit (on t))
@@ -71,7 +65,7 @@ pub record IsWithin (period : Period) (g : ℕ) (p r : ℤ) : Type 0 where
 
 -- the end of a range, with a stop ahead or not
 most-le : (stop : Bool) (most fall : ℤ) → (if stop then int_min most fall else most) ≤ℤ most
-most-le stop most fall = cond_both stop _ _ (λ z. z ≤ℤ most) (λ e. min_left most fall) (λ e. omega (arith, linear))
+most-le stop most fall = cond_both stop _ _ (λ z. z ≤ℤ most) (λ e. int_min_left most fall) (λ e. omega (arith, linear))
 
 -- a step of the reserve in order: the room is taken whole, or what is needed is reached
 reserve_step : (room need sofar : ℤ) → pos 0 ≤ℤ room → (room ≤ℤ int_min room (int_max (need -ℤ sofar) (pos 0)))
@@ -89,7 +83,7 @@ module _ (period : Period) (amount : Source → ℤ) (reserve : ℕ → ℤ) (me
   output-le-head g hg =
       let unit = thermal_unit period.instance g in
       le_trans _ _ _ (merit.high (FromThermal g) hg)
-      (le_trans _ _ _ (most-le _ _ unit.rd) (min_left (head_of period g) (point_p unit (point_count unit - 1))))
+      (le_trans _ _ _ (most-le _ _ unit.rd) (int_min_left (head_of period g) (point_p unit (point_count unit - 1))))
 
   pub within : (g : ℕ) → g < thermal_count period.instance → IsWithin period g (amount (FromThermal g)) (reserve g)
   within g hg =
@@ -101,10 +95,10 @@ module _ (period : Period) (amount : Source → ℤ) (reserve : ℕ → ℤ) (me
         low = le_trans _ _ _ (max_left (pos 0) (period.before g -ℤ unit.rd)) low;
         fall = omega (arith, linear, low, max_right (pos 0) (period.before g -ℤ unit.rd));
         curve = le_trans _ _ _ (merit.high (FromThermal g) hg)
-            (le_trans _ _ _ (most-le _ _ unit.rd) (min_right (head_of period g) (point_p unit (point_count unit - 1))));
+            (le_trans _ _ _ (most-le _ _ unit.rd) (int_min_right (head_of period g) (point_p unit (point_count unit - 1))));
         reserve = subst (λ r. pos 0 ≤ℤ r) (sym given)
             (above_min (pos 0) room _ (omega (arith, linear, output-le-head g hg)) (max_right (need_of period -ℤ sum_below g reserve) (pos 0)));
-        head = omega (arith, linear, given, min_left room (int_max (need_of period -ℤ sum_below g reserve) (pos 0)));
+        head = omega (arith, linear, given, int_min_left room (int_max (need_of period -ℤ sum_below g reserve) (pos 0)));
       }
 
   -- the first units' reserve takes all their room, or is what is needed
@@ -158,14 +152,14 @@ module _ (instance : Instance) (patterns : List Pattern) (printed : Printed) (t 
   cell-le-cap =
       let unit = thermal_unit instance g in
       le_trans _ _ _ cell_within.head
-      (min_left (cap instance.periods unit (commitment_at patterns g) t) (output_before instance printed g t +ℤ unit.ru))
+      (int_min_left (cap instance.periods unit (commitment_at patterns g) t) (output_before instance printed g t +ℤ unit.ru))
 
   pub cell-le-ramp : ((cell_at printed g t).p +ℤ (cell_at printed g t).r)
       ≤ℤ (output_before instance printed g t +ℤ (thermal_unit instance g).ru)
   cell-le-ramp =
       let unit = thermal_unit instance g in
       le_trans _ _ _ cell_within.head
-      (min_right (cap instance.periods unit (commitment_at patterns g) t) (output_before instance printed g t +ℤ unit.ru))
+      (int_min_right (cap instance.periods unit (commitment_at patterns g) t) (output_before instance printed g t +ℤ unit.ru))
 
   -- an off unit gives nothing
   pub cell_idle : commitment_at patterns g t ≡ false → ((cell_at printed g t).p ≡ pos 0) × ((cell_at printed g t).r ≡ pos 0)

@@ -1,6 +1,6 @@
 -- Raising the source of one segment more keeps the order of merit.
 use Rattle.std.proofs.Common.{◌≡◌, ◌≢◌, ℕ, suc, ◌+◌, ◌-◌, ◌<◌, ◌≤◌, ◌⊎◌, inl, inr, ⊎_elim, sym, ap, subst, ◌∙◌, false, arith, List, length, ℤ, pos, ◌+ℤ◌, ◌-ℤ◌, ◌*ℤ◌, ◌≤ℤ◌, ◌<ℤ◌}
-use Rattle.std.specs.Int.{int_min, int_max}
+use Rattle.std.specs.Int.{int_max}
 use Rattle.std.proofs.lemmas.Int.{ints}
 use Rattle.std.proofs.lemmas.Bool.{cases_lt, cases_eq}
 use Rattle.uc_model.specs.Sums.{sum_below}
@@ -11,12 +11,10 @@ use Rattle.uc_model.proofs.Sums.{sum_below-same, sum_below-add, sum_below-single
 use Rattle.cost_curves.specs.declared.slope.Slope.{Slope}
 use Rattle.cost_curves.proofs.Lines.{flatter_trans}
 use Rattle.dispatch_repair.specs.MeritOrder.{HasNextSlope}
-use Rattle.dispatch_repair.specs.inside.Amounts.{range_at, amount_at, thermal_amount}
-use Rattle.dispatch_repair.specs.inside.Filling.{IsOpen, end_of, IsFull, IsSpent, IsRaise, CostsUpTo, IsWorth, IsTaken, AddsUp, IsFilledTo}
-use Rattle.dispatch_repair.specs.inside.Segments.{comes_before, IsAtMost, source_at, source_count, segment_at, no_segment, IsSegmentOf, AreInMeritOrder}
+use Rattle.dispatch_repair.specs.inside.Amounts.{Range, range_at, amount_at, thermal_amount}
+use Rattle.dispatch_repair.specs.inside.Filling.{IsOpen, IsFull, IsSpent, IsRaise, CostsUpTo, IsWorth, IsTaken, AddsUp, IsFilledTo}
+use Rattle.dispatch_repair.specs.inside.Segments.{Segment, comes_before, IsAtMost, source_at, source_count, segment_at, no_segment, IsSegmentOf, AreInMeritOrder}
 use Rattle.dispatch_repair.specs.declared.fill.Left.{Left}
-use Rattle.dispatch_repair.specs.declared.range.Range.{Range}
-use Rattle.dispatch_repair.specs.declared.segment.Segment.{Segment}
 use Rattle.dispatch_repair.proofs.MeritSegments.{up_to-from}
 
 -- ---- sums with one term changed
@@ -25,51 +23,33 @@ pub sum_below-raised : (n k : ℕ) (f g : ℕ → ℤ) (more : ℤ) → k < n �
 sum_below-raised n k f g more h here others =
     let gap : ℕ → ℤ = λ j. g j -ℤ f j in
     let one : sum_below n gap ≡ more =
-    sum_below-single n gap k h (λ j hj ne. level (g j) (f j) (others j ne)) ∙ step (g k) (f k) more here in
-    sum_below-same n g (λ j. f j +ℤ gap j) (λ j hj. whole (g j) (f j)) ∙ sum_below-add n f gap ∙ ap (λ z. sum_below n f +ℤ z) one
-  where
-    level : (a b : ℤ) → a ≡ b → a -ℤ b ≡ pos 0
-    level a b e = omega (arith, linear)
-
-    step : (a b m : ℤ) → a ≡ b +ℤ m → a -ℤ b ≡ m
-    step a b m e = omega (arith, linear)
-
-    whole : (a b : ℤ) → a ≡ b +ℤ (a -ℤ b)
-    whole a b = omega (arith, linear)
+    sum_below-single n gap k h (λ j hj ne. omega (arith, linear, others j ne)) ∙ (omega (arith, linear, here)) in
+    sum_below-same n g (λ j. f j +ℤ gap j) (λ j hj. omega (arith, linear)) ∙ sum_below-add n f gap ∙ ap (λ z. sum_below n f +ℤ z) one
 
 -- ---- slopes one after another
 pub costs_trans : (a b c : Slope) (n m k : ℕ) → pos 0 <ℤ a.run → pos 0 <ℤ b.run → pos 0 <ℤ c.run
     → CostsUpTo a n b m → CostsUpTo b m c k → CostsUpTo a n c k
 costs_trans a b c n m k ha hb hc first second = record {
   slope = chain a b c ha hb hc first.slope second.slope;
-  source = λ back. after (first.source (chain b c a hb hc ha second.slope back)) (second.source (chain c a b hc ha hb back first.slope));
+  source = λ back. omega (arith, first.source (chain b c a hb hc ha second.slope back), second.source (chain c a b hc ha hb back first.slope));
 }
   where
-    weak : (z : ℤ) → pos 0 <ℤ z → pos 0 ≤ℤ z
-    weak z h = omega (arith, linear)
-
     chain : (x y z : Slope) → pos 0 <ℤ x.run → pos 0 <ℤ y.run → pos 0 <ℤ z.run → IsAtMost x y → IsAtMost y z → IsAtMost x z
     chain x y z hx hy hz h g =
-        (flatter_trans x.run x.rise y.run y.rise z.run z.rise (weak x.run hx) hy (weak z.run hz)
+        (flatter_trans x.run x.rise y.run y.rise z.run z.rise (omega (arith, linear)) hy (omega (arith, linear))
         (record { products = h }) (record { products = g })).products
-
-    after : n ≤ m → m ≤ k → n ≤ k
-    after h g = omega arith
 
 -- a segment before another costs up to it
 sorted_costs : (first second : Segment) → pos 0 <ℤ first.slope.run → pos 0 <ℤ second.slope.run → comes_before second first ≡ false
     → CostsUpTo first.slope first.source second.slope second.source
 sorted_costs first second hf hs h =
     let up = up_to-from first second h in
-    let a = width first.slope.run hf in
-    let b = width second.slope.run hs in
+    let a : int_max first.slope.run (pos 1) ≡ first.slope.run = grind (arith, ints) in
+    let b : int_max second.slope.run (pos 1) ≡ second.slope.run = grind (arith, ints) in
     record {
       slope = subst (λ z. z) (λ t. (first.slope.rise *ℤ b t) ≤ℤ (second.slope.rise *ℤ a t)) up.slope;
       source = λ back. up.source (subst (λ z. z) (λ t. (second.slope.rise *ℤ sym a t) ≤ℤ (first.slope.rise *ℤ sym b t)) back);
     }
-  where
-    width : (run : ℤ) → pos 0 <ℤ run → int_max run (pos 1) ≡ run
-    width run h = grind (arith, ints)
 
 pub run_positive : (instance : Instance) (order : List Segment) (j : ℕ) → AreInMeritOrder instance order → j < length order → pos 0 <ℤ (segment_at order j).slope.run
 run_positive instance order j are h = (are.segments.each j no_segment h).run
@@ -89,7 +69,7 @@ pub step : (instance : Instance) (order : List Segment) (ranges : List Range) (s
     → IsFilledTo instance order ranges start (suc i) new after
 step instance order ranges start i old new before after are hi ends runs was raise = record {
   count = raise.count ∙ was.count;
-  low = λ n h. lower (range_at ranges n).low (amount_at old n) (amount_at new n) (was.low n h) (rises n);
+  low = λ n h. omega (arith, linear, was.low n h, rises n);
   high = high;
   sums = sums;
   left = raise.left;
@@ -110,19 +90,10 @@ step instance order ranges start i old new before after are hi ends runs was rai
     own : IsSegmentOf instance segment
     own = are.segments.each i no_segment hi
 
-    lower : (a b c : ℤ) → a ≤ℤ b → b ≤ℤ c → a ≤ℤ c
-    lower a b c h k = omega (arith, linear)
-
-    plus : (a m b : ℤ) → pos 0 ≤ℤ m → b ≡ a +ℤ m → a ≤ℤ b
-    plus a m b h e = omega (arith, linear)
-
-    level : (a b : ℤ) → b ≡ a → a ≤ℤ b
-    level a b e = omega (arith, linear)
-
     rises : (n : ℕ) → amount_at old n ≤ℤ amount_at new n
     rises n = ⊎_elim
-        (λ (same : n ≡ s). subst (λ m. amount_at old m ≤ℤ amount_at new m) (sym same) (plus (amount_at old s) raise.more (amount_at new s) raise.up raise.amount))
-        (λ other. level (amount_at old n) (amount_at new n) (raise.others n other))
+        (λ (same : n ≡ s). subst (λ m. amount_at old m ≤ℤ amount_at new m) (sym same) (omega (arith, linear, raise.up, raise.amount)))
+        (λ other. omega (arith, linear, raise.others n other))
         (cases_eq n s)
 
     none : (m : ℤ) → pos 0 ≤ℤ m → m ≤ℤ pos 0 → m ≡ pos 0
@@ -130,15 +101,9 @@ step instance order ranges start i old new before after are hi ends runs was rai
 
     high_here : amount_at old s ≤ℤ (range_at ranges s).high → amount_at new s ≤ℤ (range_at ranges s).high
     high_here h = ⊎_elim
-        (λ (flat : raise.more ≤ℤ pos 0). same (amount_at old s) raise.more (amount_at new s) (range_at ranges s).high h flat raise.amount)
-        (λ (up : pos 0 <ℤ raise.more). within (amount_at new s) segment.end (range_at ranges s).high (raise.within up))
+        (λ (flat : raise.more ≤ℤ pos 0). omega (arith, linear, raise.amount))
+        (λ (up : pos 0 <ℤ raise.more). grind (arith, ints, raise.within up))
         (le_or_lt raise.more (pos 0))
-      where
-        same : (a m b c : ℤ) → a ≤ℤ c → m ≤ℤ pos 0 → b ≡ a +ℤ m → b ≤ℤ c
-        same a m b c h k e = omega (arith, linear)
-
-        within : (a e c : ℤ) → a ≤ℤ int_min e c → a ≤ℤ c
-        within a e c h = grind (arith, ints)
 
     high : (n : ℕ) → n < source_count instance → amount_at new n ≤ℤ (range_at ranges n).high
     high n h = ⊎_elim
@@ -150,42 +115,24 @@ step instance order ranges start i old new before after are hi ends runs was rai
     need_sum : after.need +ℤ sum_below (source_count instance) (amount_at new) ≡ start.need +ℤ sum_below (source_count instance) (λ n. (range_at ranges n).low)
     need_sum =
         let total = sum_below-raised (source_count instance) s (amount_at old) (amount_at new) raise.more own.source raise.amount raise.others in
-        balance before.need after.need raise.more (sum_below (source_count instance) (amount_at old)) (sum_below (source_count instance) (amount_at new)) raise.need total ∙ was.sums.need
-      where
-        balance : (b a m x y : ℤ) → a ≡ b -ℤ m → y ≡ x +ℤ m → a +ℤ y ≡ b +ℤ x
-        balance b a m x y e k = omega (arith, linear)
+        (omega (arith, linear, raise.need)) ∙ was.sums.need
 
     room_free : s < renewables → after.room +ℤ sum_below (thermal_count instance) (thermal_amount instance new)
         ≡ before.room +ℤ sum_below (thermal_count instance) (thermal_amount instance old)
     room_free free =
         let same = sum_below-same (thermal_count instance) (thermal_amount instance new) (thermal_amount instance old)
-        (λ g hg. raise.others (renewables + g) (λ e. beyond renewables g s e free)) in
+        (λ g hg. raise.others (renewables + g) (λ e. omega arith)) in
         λ t. raise.free free t +ℤ same t
-      where
-        beyond : (w k n : ℕ) → w + k ≡ n → n < w → ⊥
-        beyond w k n e h = omega arith
 
     room_thermal : renewables ≤ s → after.room +ℤ sum_below (thermal_count instance) (thermal_amount instance new)
         ≡ before.room +ℤ sum_below (thermal_count instance) (thermal_amount instance old)
     room_thermal thermal =
-        let place : renewables + (s - renewables) ≡ s = back renewables s thermal in
+        let place : renewables + (s - renewables) ≡ s = omega arith in
         let total = sum_below-raised (thermal_count instance) (s - renewables) (thermal_amount instance old) (thermal_amount instance new) raise.more
-        (inside renewables s (thermal_count instance) thermal own.source)
+        (omega (arith, own.source))
         (subst (λ m. amount_at new m ≡ amount_at old m +ℤ raise.more) (sym place) raise.amount)
-        (λ j ne. raise.others (renewables + j) (λ e. ne (cancel renewables j s e))) in
-        balance before.room after.room raise.more (sum_below (thermal_count instance) (thermal_amount instance old)) (sum_below (thermal_count instance) (thermal_amount instance new)) (raise.thermal thermal) total
-      where
-        back : (w n : ℕ) → w ≤ n → w + (n - w) ≡ n
-        back w n h = omega arith
-
-        inside : (w n c : ℕ) → w ≤ n → n < w + c → n - w < c
-        inside w n c h k = omega arith
-
-        cancel : (w j n : ℕ) → w + j ≡ n → j ≡ n - w
-        cancel w j n e = omega arith
-
-        balance : (b a m x y : ℤ) → a ≡ b -ℤ m → y ≡ x +ℤ m → a +ℤ y ≡ b +ℤ x
-        balance b a m x y e k = omega (arith, linear)
+        (λ j ne. raise.others (renewables + j) (λ e. ne (omega arith))) in
+        omega (arith, linear, raise.thermal thermal)
 
     sums : AddsUp instance ranges start after new
     sums = record {
@@ -195,31 +142,19 @@ step instance order ranges start i old new before after are hi ends runs was rai
 
     -- ---- what is spent stays so
     full_stays : (other : Segment) → IsFull ranges old other → IsFull ranges new other
-    full_stays other h = lower (end_of ranges other) (amount_at old other.source) (amount_at new other.source) h (rises other.source)
-
-    need_stays : before.need ≡ pos 0 → after.need ≡ pos 0
-    need_stays e = gone before.need after.need raise.more e raise.need raise.up raise.left.need
-      where
-        gone : (b a m : ℤ) → b ≡ pos 0 → a ≡ b -ℤ m → pos 0 ≤ℤ m → pos 0 ≤ℤ a → a ≡ pos 0
-        gone b a m e h u l = omega (arith, linear)
+    full_stays other h = omega (arith, linear, rises other.source)
 
     room_stays : before.room ≡ pos 0 → after.room ≡ pos 0
-    room_stays e = ⊎_elim (λ free. raise.free free ∙ e) (λ thermal. gone before.room after.room raise.more e (raise.thermal thermal) raise.up raise.left.room) (cases_lt s renewables)
-      where
-        gone : (b a m : ℤ) → b ≡ pos 0 → a ≡ b -ℤ m → pos 0 ≤ℤ m → pos 0 ≤ℤ a → a ≡ pos 0
-        gone b a m e h u l = omega (arith, linear)
+    room_stays e = ⊎_elim (λ free. raise.free free ∙ e) (λ thermal. omega (arith, linear, raise.thermal thermal, raise.up, raise.left.room)) (cases_lt s renewables)
 
     spent_stays : (other : Segment) → IsSpent renewables before other → IsSpent renewables after other
-    spent_stays other h = ⊎_elim (λ need. inl (need_stays need)) (λ room. inr (room.0, room_stays room.1)) h
+    spent_stays other h = ⊎_elim (λ need. inl (omega (arith, linear, raise.need, raise.up, raise.left.need))) (λ room. inr (room.0, room_stays room.1)) h
 
     spent : (j : ℕ) → j < suc i → IsFull ranges new (segment_at order j) ⊎ IsSpent renewables after (segment_at order j)
     spent j h = ⊎_elim
         (λ (early : j < i). ⊎_elim (λ full. inl (full_stays (segment_at order j) full)) (λ gone. inr (spent_stays (segment_at order j) gone)) (was.spent j early))
-        (λ (late : i ≤ j). subst (λ k. IsFull ranges new (segment_at order k) ⊎ IsSpent renewables after (segment_at order k)) (last j h late) raise.done)
+        (λ (late : i ≤ j). subst (λ k. IsFull ranges new (segment_at order k) ⊎ IsSpent renewables after (segment_at order k)) (omega arith) raise.done)
         (cases_lt j i)
-      where
-        last : (k : ℕ) → k < suc i → i ≤ k → i ≡ k
-        last k a b = omega arith
 
     -- ---- watts
     -- a watt that was taken before, or now by the segment's source
@@ -232,66 +167,34 @@ step instance order ranges start i old new before after are hi ends runs was rai
         (λ (early : watt <ℤ amount_at old n). inl (record { source = taken.source; low = taken.low; high = early }))
         (le_or_lt (amount_at old n) watt)
       where
-        moved : amount_at old n ≤ℤ watt → n ≢ s → ⊥
-        moved late other = clash (amount_at old n) (amount_at new n) watt late taken.high (raise.others n other)
-          where
-            clash : (a b w : ℤ) → a ≤ℤ w → w <ℤ b → b ≡ a → ⊥
-            clash a b w h k e = omega (arith, linear)
-
         fresh : amount_at old n ≤ℤ watt → IsNew n watt
-        fresh late = ⊎_elim (λ (same : n ≡ s). made same) (λ other. absurd (moved late other)) (cases_eq n s)
+        fresh late = ⊎_elim (λ (same : n ≡ s). made same) (λ other. absurd (omega (arith, linear, taken.high, raise.others n other))) (cases_eq n s)
           where
             made : n ≡ s → IsNew n watt
             made same =
                 let low : amount_at old s ≤ℤ watt = subst (λ m. amount_at old m ≤ℤ watt) same late in
                 let top : watt <ℤ amount_at new s = subst (λ m. watt <ℤ amount_at new m) same taken.high in
-                let up : pos 0 <ℤ raise.more = positive (amount_at old s) raise.more (amount_at new s) watt low top raise.amount in
-                record { here = same; end = inside watt (amount_at new s) segment.end (range_at ranges s).high top (raise.within up); up = up }
-              where
-                positive : (a m b w : ℤ) → a ≤ℤ w → w <ℤ b → b ≡ a +ℤ m → pos 0 <ℤ m
-                positive a m b w h k e = omega (arith, linear)
-
-                inside : (w b e c : ℤ) → w <ℤ b → b ≤ℤ int_min e c → w <ℤ e
-                inside w b e c h k = grind (arith, ints)
+                let up : pos 0 <ℤ raise.more = omega (arith, linear, raise.amount) in
+                record { here = same; end = grind (arith, ints, raise.within up); up = up }
 
     -- a new watt costs up to the segment
     new_costs : (n : ℕ) (watt : ℤ) → IsNew n watt → (slope : Slope) → HasNextSlope instance (source_at instance n) watt slope
         → CostsUpTo slope n segment.slope s
     new_costs n watt it slope next = record {
       slope = own.below watt slope it.end (subst (λ m. HasNextSlope instance (source_at instance m) watt slope) it.here next);
-      source = λ back. subst (λ m. n ≤ m) it.here (reflexive n);
+      source = λ back. subst (λ m. n ≤ m) it.here (omega arith);
     }
-      where
-        reflexive : (m : ℕ) → m ≤ m
-        reflexive m = omega arith
 
     ahead : (j : ℕ) → suc i ≤ j → j < length order → (n : ℕ) (watt : ℤ) → IsTaken instance ranges new n watt
         → (slope : Slope) → HasNextSlope instance (source_at instance n) watt slope → CostsUpTo slope n (segment_at order j).slope (segment_at order j).source
     ahead j h hj n watt taken slope next = ⊎_elim
-        (λ early. was.ahead j (less i j h) hj n watt early slope next)
+        (λ early. was.ahead j (omega arith) hj n watt early slope next)
         (λ late. costs_trans slope segment.slope (segment_at order j).slope n s (segment_at order j).source
         (runs n watt slope next) own.run (run_positive instance order j are hj) (new_costs n watt late slope next)
-        (sorted_costs segment (segment_at order j) own.run (run_positive instance order j are hj) (are.sorted i j (less i j h) hj)))
+        (sorted_costs segment (segment_at order j) own.run (run_positive instance order j are hj) (are.sorted i j (omega arith) hj)))
         (parted n watt taken)
-      where
-        less : (a b : ℕ) → suc a ≤ b → a ≤ b
-        less a b h = omega arith
 
     -- nothing is given any more to a source for which nothing is left
-    still : before.need ≡ pos 0 → raise.more ≡ pos 0
-    still e = gone before.need after.need raise.more e raise.need raise.up raise.left.need
-      where
-        gone : (b a m : ℤ) → b ≡ pos 0 → a ≡ b -ℤ m → pos 0 ≤ℤ m → pos 0 ≤ℤ a → m ≡ pos 0
-        gone b a m e h u l = omega (arith, linear)
-
-    shut : renewables ≤ s → before.room ≡ pos 0 → raise.more ≡ pos 0
-    shut thermal e = gone before.room after.room raise.more e (raise.thermal thermal) raise.up raise.left.room
-      where
-        gone : (b a m : ℤ) → b ≡ pos 0 → a ≡ b -ℤ m → pos 0 ≤ℤ m → pos 0 ≤ℤ a → m ≡ pos 0
-        gone b a m e h u l = omega (arith, linear)
-
-    no_rise : (m : ℤ) → m ≡ pos 0 → pos 0 <ℤ m → ⊥
-    no_rise m e h = omega (arith, linear)
 
     kept : (other : Segment) → IsSpent renewables before other
         → ((n : ℕ) (watt : ℤ) → IsTaken instance ranges old n watt → IsWorth instance other before n watt)
@@ -299,22 +202,19 @@ step instance order ranges start i old new before after are hi ends runs was rai
     kept other gone worth n watt taken = ⊎_elim
         (λ early. ⊎_elim (λ costs. inl costs) (λ exempt. inr (exempt.0, exempt.1, room_stays exempt.2)) (worth n watt early))
         (λ late. ⊎_elim
-        (λ need. absurd (no_rise raise.more (still need) late.up))
+        (λ need. absurd (omega (arith, linear, raise.need, raise.up, raise.left.need, late.up)))
         (λ room. ⊎_elim
         (λ (free : s < renewables). inr (subst (λ m. m < renewables) (sym late.here) free, room.0, room_stays room.1))
-        (λ thermal. absurd (no_rise raise.more (shut thermal room.1) late.up))
+        (λ thermal. absurd (omega (arith, linear, raise.thermal thermal, raise.up, raise.left.room, room.1, late.up)))
         (cases_lt s renewables))
         gone)
         (parted n watt taken)
 
     here_worth : (n : ℕ) (watt : ℤ) → IsTaken instance ranges new n watt → IsWorth instance segment after n watt
     here_worth n watt taken = ⊎_elim
-        (λ early. inl (λ slope next. was.ahead i (reflexive i) hi n watt early slope next))
+        (λ early. inl (λ slope next. was.ahead i (omega arith) hi n watt early slope next))
         (λ late. inl (λ slope next. new_costs n watt late slope next))
         (parted n watt taken)
-      where
-        reflexive : (m : ℕ) → m ≤ m
-        reflexive m = omega arith
 
     merit : (j : ℕ) → j < suc i → IsFull ranges new (segment_at order j)
         ⊎ ((n : ℕ) (watt : ℤ) → IsTaken instance ranges new n watt → IsWorth instance (segment_at order j) after n watt)
@@ -324,8 +224,5 @@ step instance order ranges start i old new before after are hi ends runs was rai
         (λ gone. ⊎_elim (λ full. inl (full_stays (segment_at order j) full)) (λ worth. inr (kept (segment_at order j) gone worth)) (was.merit j early))
         (was.spent j early))
         (λ (late : i ≤ j). subst (λ k. IsFull ranges new (segment_at order k) ⊎ ((n : ℕ) (watt : ℤ) → IsTaken instance ranges new n watt → IsWorth instance (segment_at order k) after n watt))
-        (last j h late) (inr here_worth))
+        (omega arith) (inr here_worth))
         (cases_lt j i)
-      where
-        last : (k : ℕ) → k < suc i → i ≤ k → i ≡ k
-        last k a b = omega arith

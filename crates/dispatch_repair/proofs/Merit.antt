@@ -1,63 +1,41 @@
 -- What is filled to the end is in order of merit, and meets demand.
-use Rattle.std.proofs.Common.{◌≡◌, ℕ, ◌+◌, ◌-◌, ◌<◌, ◌≤◌, ◌⊎◌, inl, inr, ⊎_elim, refl, sym, ap, subst, ◌∙◌, arith, List, length, ℤ, pos, ◌+ℤ◌, ◌-ℤ◌, ◌*ℤ◌, ◌≤ℤ◌, ◌<ℤ◌}
-use Rattle.std.specs.Prelude.{nat_lt}
+use Rattle.std.proofs.Common.{◌≡◌, ℕ, ◌+◌, ◌-◌, ◌<◌, ◌≤◌, ◌⊎◌, inl, inr, ⊎_elim, refl, sym, ap, subst, ◌∙◌, arith, List, length, ℤ, pos, ◌+ℤ◌, ◌-ℤ◌, ◌≤ℤ◌, ◌<ℤ◌, nat_lt}
 use Rattle.std.specs.Int.{int_min, int_max}
 use Rattle.std.proofs.lemmas.Int.{ints}
 use Rattle.std.proofs.lemmas.Bool.{cases_lt, lt-ltb, cond-true, cond_both}
 use Rattle.std.proofs.lemmas.List.{get_or_default}
 use Rattle.uc_model.specs.Limits.{IsLawfulInstance, IsPower}
 use Rattle.uc_model.specs.Sums.{sum_below}
-use Rattle.uc_model.specs.Schedule.{thermal_unit, thermal_count, renewable_count, renewable_maximum, renewable_minimum, point, point_p, point_count}
+use Rattle.uc_model.specs.Schedule.{thermal_unit, thermal_count, renewable_count, point, point_p, point_count}
 use Rattle.uc_model.specs.declared.instance.Instance.{Instance}
-use Rattle.uc_model.specs.declared.limits.TheConstants.{MAX_POWER}
-use Rattle.uc_model.proofs.Ring.{linear, le_or_lt, le_antisymm}
+use Rattle.uc_model.proofs.Ring.{linear, le_or_lt, le_antisymm, le_trans}
 use Rattle.uc_model.proofs.Sums.{sum_below-same, sum_below-le, sum_below-split}
+use Rattle.uc_model.proofs.Tests.{int_min_left, int_min_right}
 use Rattle.cost_curves.specs.declared.slope.Slope.{Slope}
-use Rattle.dispatch_repair.specs.Period.{Period, Source, FromRenewable, FromThermal, IsSourceOf, low_of, high_of, head_of, heads, minimums, thermal_sum, renewable_sum, total_output, demand_of, need_of, thermal_limit, is_off_next}
+use Rattle.dispatch_repair.specs.Period.{Period, Source, FromRenewable, FromThermal, IsSourceOf, low_of, high_of, head_of, heads, minimums, thermal_sum, renewable_sum, demand_of, thermal_limit, is_off_next}
 use Rattle.dispatch_repair.specs.MeritOrder.{HasNextSlope, HasLastSlope, ComesBefore, IsPreferred, CanMove, IsInMeritOrder, thermal_part}
 use Rattle.dispatch_repair.specs.Stuck.{HaveRanges, IsFree}
-use Rattle.dispatch_repair.specs.inside.Amounts.{range_at, amount_at, amount_of, thermal_amount, AreRangesOf, AreHeadsOf, IsSizedOutput}
+use Rattle.dispatch_repair.specs.inside.Amounts.{Range, range_at, amount_at, amount_of, thermal_amount, AreRangesOf, AreHeadsOf, IsSizedOutput}
 use Rattle.dispatch_repair.specs.inside.Filled.{IsDispatchedFrom}
 use Rattle.dispatch_repair.specs.inside.Filling.{IsOpen, IsFull, CostsUpTo, IsWorth, IsTaken, IsFilledTo, IsFirstLeft}
-use Rattle.dispatch_repair.specs.inside.Segments.{IsNextOn, source_at, source_count, segment_at, no_segment, width_at, AreInMeritOrder}
+use Rattle.dispatch_repair.specs.inside.Segments.{Segment, IsNextOn, source_at, source_count, segment_at, no_segment, width_at, AreInMeritOrder}
 use Rattle.dispatch_repair.specs.declared.fill.Left.{Left}
-use Rattle.dispatch_repair.specs.declared.range.Range.{Range}
-use Rattle.dispatch_repair.specs.declared.segment.Segment.{Segment}
 use Rattle.dispatch_repair.proofs.CurveSegments.{renewable_at, thermal_at}
 use Rattle.dispatch_repair.proofs.NextSlopes.{next_run}
+use Rattle.dispatch_repair.proofs.Filled.{max_left}
 use Rattle.dispatch_repair.proofs.Filling.{run_positive, costs_trans}
 
 -- ---- ranges
-least_max : (a b : ℤ) → a ≤ℤ int_max b a
-least_max a b = grind (arith, ints)
-
-first_max : (a b : ℤ) → a ≤ℤ int_max a b
-first_max a b = grind (arith, ints)
-
-power-le : (z : ℤ) → IsPower z → z ≤ℤ pos MAX_POWER
-power-le z h = grind (arith, ints, h)
 
 pub high-le-head : (period : Period) (g : ℕ) → high_of period (FromThermal g) ≤ℤ head_of period g
 high-le-head period g =
     cond_both (is_off_next period.instance.periods (period.on g) period.t) _ _ (λ z. z ≤ℤ head_of period g)
-    (λ off. falling (head_of period g) _ (thermal_unit period.instance g).rd) (λ on. staying (head_of period g) _)
-  where
-    falling : (h w d : ℤ) → int_min (int_min h w) d ≤ℤ h
-    falling h w d = grind (arith, ints)
-
-    staying : (h w : ℤ) → int_min h w ≤ℤ h
-    staying h w = grind (arith, ints)
+    (λ off. le_trans _ _ _ (int_min_left _ _) (int_min_left _ _)) (λ on. int_min_left _ _)
 
 high-le-width : (period : Period) (g : ℕ) → high_of period (FromThermal g) ≤ℤ width_at period.instance (FromThermal g)
 high-le-width period g =
     cond_both (is_off_next period.instance.periods (period.on g) period.t) _ _ (λ z. z ≤ℤ width_at period.instance (FromThermal g))
-    (λ off. falling _ (width_at period.instance (FromThermal g)) (thermal_unit period.instance g).rd) (λ on. staying _ (width_at period.instance (FromThermal g)))
-  where
-    falling : (h w d : ℤ) → int_min (int_min h w) d ≤ℤ w
-    falling h w d = grind (arith, ints)
-
-    staying : (h w : ℤ) → int_min h w ≤ℤ w
-    staying h w = grind (arith, ints)
+    (λ off. le_trans _ _ _ (int_min_left _ _) (int_min_right _ _)) (λ on. int_min_right _ _)
 
 -- a place is that of a renewable unit, or of a thermal one
 pub data IsPlace (instance : Instance) (n : ℕ) : Type 0 where
@@ -66,14 +44,8 @@ pub data IsPlace (instance : Instance) (n : ℕ) : Type 0 where
 
 place : (instance : Instance) (n : ℕ) → n < source_count instance → IsPlace instance n
 place instance n h = ⊎_elim (λ low. at_renewable low)
-    (λ high. at_thermal (n - renewable_count instance) (inside (renewable_count instance) n (thermal_count instance) high h) (back (renewable_count instance) n high))
+    (λ high. at_thermal (n - renewable_count instance) (omega arith) (omega arith))
     (cases_lt n (renewable_count instance))
-  where
-    inside : (w m c : ℕ) → w ≤ m → m < w + c → m - w < c
-    inside w m c a b = omega arith
-
-    back : (w m : ℕ) → w ≤ m → m ≡ w + (m - w)
-    back w m a = omega arith
 
 -- the range of each source is one on which its cost is known
 record IsGood (period : Period) (s : Source) : Type 0 where
@@ -84,14 +56,14 @@ record IsGood (period : Period) (s : Source) : Type 0 where
 good_renewable : (period : Period) (w : ℕ) → IsLawfulInstance period.instance → period.t < period.instance.periods → w < renewable_count period.instance
     → IsGood period (FromRenewable w)
 good_renewable period w lawful ht hw = record {
-  low = least_max (pos 0) (renewable_minimum period.instance w period.t);
+  low = grind (arith, ints);
   order = (lawful.renewable w hw).range period.t ht;
-  known = power-le (renewable_maximum period.instance w period.t) ((lawful.renewable w hw).maximum period.t ht);
+  known = grind (arith, ints, (lawful.renewable w hw).maximum period.t ht);
 }
 
 good_thermal : (period : Period) (g : ℕ) → HaveRanges period (thermal_count period.instance) → g < thermal_count period.instance → IsGood period (FromThermal g)
 good_thermal period g ranges hg = record {
-  low = first_max (pos 0) (period.before g -ℤ (thermal_unit period.instance g).rd);
+  low = max_left (pos 0) (period.before g -ℤ (thermal_unit period.instance g).rd);
   order = ranges g hg;
   known = high-le-width period g;
 }
@@ -121,44 +93,29 @@ open_ranges period ranges lawful ht have are n hn =
 thermal_lows : (period : Period) (ranges : List Range) → AreRangesOf period ranges
     → sum_below (thermal_count period.instance) (λ g. (range_at ranges (renewable_count period.instance + g)).low) ≡ thermal_sum period (low_of period)
 thermal_lows period ranges are = sum_below-same (thermal_count period.instance) _ _ (λ g hg.
-    (are (renewable_count period.instance + g) (inside (renewable_count period.instance) g (thermal_count period.instance) hg)).low ∙ ap (low_of period) (thermal_at period.instance g))
-  where
-    inside : (w k n : ℕ) → k < n → w + k < w + n
-    inside w k n h = omega arith
+    (are (renewable_count period.instance + g) (omega arith)).low ∙ ap (low_of period) (thermal_at period.instance g))
 
 renewable_lows : (period : Period) (ranges : List Range) → AreRangesOf period ranges
     → sum_below (renewable_count period.instance) (λ w. (range_at ranges w).low) ≡ renewable_sum period (low_of period)
 renewable_lows period ranges are = sum_below-same (renewable_count period.instance) _ _ (λ w hw.
-    (are w (inside w (renewable_count period.instance) (thermal_count period.instance) hw)).low ∙ ap (low_of period) (renewable_at period.instance w hw))
-  where
-    inside : (k w n : ℕ) → k < w → k < w + n
-    inside k w n h = omega arith
+    (are w (omega arith)).low ∙ ap (low_of period) (renewable_at period.instance w hw))
 
 -- the limit on the thermal units leaves what they have to give at least, and what renewable units can't
 pub limit-covers : (period : Period) → IsFree period → (z : ℤ) → z ≤ℤ int_max (thermal_sum period (low_of period)) (demand_of period -ℤ minimums period -ℤ renewable_sum period (high_of period))
     → z ≤ℤ thermal_sum period (high_of period) → z ≤ℤ thermal_limit period
 limit-covers period free z low high =
-    by z (heads period) (need_of period) (int_max (thermal_sum period (low_of period)) (demand_of period -ℤ minimums period -ℤ renewable_sum period (high_of period)))
-    (thermal_sum period (high_of period)) low high free.reserve (sum_below-le (thermal_count period.instance) _ _ (λ g hg. high-le-head period g))
-  where
-    by : (y h r m t : ℤ) → y ≤ℤ m → y ≤ℤ t → r ≤ℤ (h -ℤ m) → t ≤ℤ h → y ≤ℤ (h -ℤ int_max r (pos 0))
-    by y h r m t a b c d = grind (arith, ints)
+    let tops : thermal_sum period (high_of period) ≤ℤ heads period = sum_below-le (thermal_count period.instance) _ _ (λ g hg. high-le-head period g) in
+    grind (arith, ints, free.reserve)
 
 -- ---- what is left at first
 pub first_need : (period : Period) (left : Left) → IsFree period → IsFirstLeft period left → pos 0 ≤ℤ left.need
-first_need period left free first = by (demand_of period) (total_output period (low_of period)) left.need free.balance.least first.need
-  where
-    by : (d t n : ℤ) → t ≤ℤ d → n ≡ d -ℤ t → pos 0 ≤ℤ n
-    by d t n h e = omega (arith, linear)
+first_need period left free first = omega (arith, linear, free.balance.least, first.need)
 
 pub first_room : (period : Period) (left : Left) → IsFree period → IsFirstLeft period left → pos 0 ≤ℤ left.room
 first_room period left free first =
-    by (thermal_limit period) (thermal_sum period (low_of period)) left.room
-    (limit-covers period free (thermal_sum period (low_of period)) (first_max _ _)
-    (sum_below-le (thermal_count period.instance) _ _ (λ g hg. free.balance.ranges g hg))) first.room
-  where
-    by : (l t n : ℤ) → t ≤ℤ l → n ≡ l -ℤ t → pos 0 ≤ℤ n
-    by l t n h e = omega (arith, linear)
+    let within : thermal_sum period (low_of period) ≤ℤ thermal_sum period (high_of period) =
+    sum_below-le (thermal_count period.instance) _ _ (λ g hg. free.balance.ranges g hg) in
+    omega (arith, linear, limit-covers period free (thermal_sum period (low_of period)) (grind (arith, ints)) within, first.room)
 
 -- ---- a period that was filled to the last segment
 -- all that is known of it
@@ -193,29 +150,19 @@ module _ (period : Period) (order : List Segment) (ranges : List Range) (start :
 
   segment_of : (n : ℕ) → n < source_count instance → amount_at amounts n <ℤ (range_at ranges n).high → HasSegment n
   segment_of n hn less =
-      let low : pos 0 ≤ℤ amount_at amounts n = chain (pos 0) (range_at ranges n).low (amount_at amounts n) (opened n hn).low (all.filled.low n hn) in
-      let known : amount_at amounts n <ℤ width_at instance (source_at instance n) = before (amount_at amounts n) (range_at ranges n).high _ less (opened n hn).known in
+      let low : pos 0 ≤ℤ amount_at amounts n = omega (arith, linear, (opened n hn).low, all.filled.low n hn) in
+      let known : amount_at amounts n <ℤ width_at instance (source_at instance n) = omega (arith, linear, less, (opened n hn).known) in
       let found = all.order.segments.covered n hn (amount_at amounts n) low known in
       record {
         j = found.1.0;
         below = found.1.1;
         next = subst (IsNextOn instance n (amount_at amounts n)) (sym (get_or_default order found.1.0 no_segment found.0 found.1.1 ∙ found.1.2)) found.2;
       }
-    where
-      chain : (a b c : ℤ) → a ≤ℤ b → b ≤ℤ c → a ≤ℤ c
-      chain a b c h k = omega (arith, linear)
-
-      before : (a b c : ℤ) → a <ℤ b → b ≤ℤ c → a <ℤ c
-      before a b c h k = omega (arith, linear)
 
   -- its part isn't full
   not_full : (n : ℕ) (it : HasSegment n) → amount_at amounts n <ℤ (range_at ranges n).high → ¬ IsFull ranges amounts (segment_at order it.j)
   not_full n it less full =
-      clash (segment_at order it.j).end (range_at ranges n).high (amount_at amounts n)
-      (subst (λ m. int_min (segment_at order it.j).end (range_at ranges m).high ≤ℤ amount_at amounts m) it.next.source full) it.next.end less
-    where
-      clash : (e h a : ℤ) → int_min e h ≤ℤ a → a <ℤ e → a <ℤ h → ⊥
-      clash e h a k l m = grind (arith, ints)
+      grind (arith, ints, subst (λ m. int_min (segment_at order it.j).end (range_at ranges m).high ≤ℤ amount_at amounts m) it.next.source full, it.next.end, less)
 
   -- while demand isn't met, a source for which something is left is at the high end of its range
   topped : (n : ℕ) → n < source_count instance → pos 0 <ℤ rest.need → (n < W) ⊎ (pos 0 <ℤ rest.room) → (range_at ranges n).high ≤ℤ amount_at amounts n
@@ -225,15 +172,9 @@ module _ (period : Period) (order : List Segment) (ranges : List Range) (start :
       clash less =
           let it = segment_of n hn less in
           ⊎_elim (λ full. not_full n it less full)
-          (λ gone. ⊎_elim (λ need. no_need rest.need open_need need)
-          (λ room. ⊎_elim (λ (free : n < W). late n W free (subst (λ m. W ≤ m) it.next.source room.0)) (λ up. no_need rest.room up room.1) some) gone)
+          (λ gone. ⊎_elim (λ need. omega (arith, linear))
+          (λ room. ⊎_elim (λ (free : n < W). omega (arith, free, subst (λ m. W ≤ m) it.next.source room.0)) (λ up. omega (arith, linear, up, room.1)) some) gone)
           (all.filled.spent it.j it.below)
-        where
-          no_need : (z : ℤ) → pos 0 <ℤ z → z ≡ pos 0 → ⊥
-          no_need z h e = omega (arith, linear)
-
-          late : (m w : ℕ) → m < w → w ≤ m → ⊥
-          late m w h k = omega arith
 
   -- ---- sums
   abbrev thermal_amounts : ℤ
@@ -246,36 +187,21 @@ module _ (period : Period) (order : List Segment) (ranges : List Range) (start :
   need_is =
       let split = sum_below-split W G (amount_at amounts) in
       let lows = sum_below-split W G (λ n. (range_at ranges n).low) in
-      by rest.need start.need (demand_of period) (minimums period) (thermal_sum period (low_of period)) (renewable_sum period (low_of period))
-      (sum_below (source_count instance) (amount_at amounts)) (sum_below (source_count instance) (λ n. (range_at ranges n).low)) renewable_amounts thermal_amounts
-      _ _ all.filled.sums.need all.first.need split lows (renewable_lows period ranges all.ranges) (thermal_lows period ranges all.ranges)
-    where
-      by : (n s d m tl rl a l ra ta rs ts : ℤ) → n +ℤ a ≡ s +ℤ l → s ≡ d -ℤ (m +ℤ tl +ℤ rl) → a ≡ ra +ℤ ta → l ≡ rs +ℤ ts → rs ≡ rl → ts ≡ tl
-          → n ≡ (d -ℤ m) -ℤ (ra +ℤ ta)
-      by n s d m tl rl a l ra ta rs ts h1 h2 h3 h4 h5 h6 = omega (arith, linear)
+      omega (arith, linear, all.filled.sums.need, all.first.need, renewable_lows period ranges all.ranges, thermal_lows period ranges all.ranges)
 
   room_is : rest.room ≡ thermal_limit period -ℤ thermal_amounts
   room_is =
-      by rest.room start.room (thermal_limit period) (thermal_sum period (low_of period)) thermal_amounts _ all.filled.sums.room all.first.room (thermal_lows period ranges all.ranges)
-    where
-      by : (r s l tl ta ts : ℤ) → r +ℤ ta ≡ s +ℤ ts → s ≡ l -ℤ tl → ts ≡ tl → r ≡ l -ℤ ta
-      by r s l tl ta ts h1 h2 h3 = omega (arith, linear)
+      omega (arith, linear, all.filled.sums.room, all.first.room, thermal_lows period ranges all.ranges)
 
   renewable_tops : pos 0 <ℤ rest.need → renewable_sum period (high_of period) ≤ℤ renewable_amounts
   renewable_tops up = sum_below-le W _ _ (λ w hw.
-      let hn = inside w W G hw in
+      let hn : w < W + G = omega arith in
       subst (λ z. z ≤ℤ amount_at amounts w) ((all.ranges w hn).high ∙ ap (high_of period) (renewable_at instance w hw)) (topped w hn up (inl hw)))
-    where
-      inside : (k w n : ℕ) → k < w → k < w + n
-      inside k w n h = omega arith
 
   thermal_tops : pos 0 <ℤ rest.need → pos 0 <ℤ rest.room → thermal_sum period (high_of period) ≤ℤ thermal_amounts
   thermal_tops up some = sum_below-le G _ _ (λ g hg.
-      let hn = inside W g G hg in
+      let hn : W + g < W + G = omega arith in
       subst (λ z. z ≤ℤ amount_at amounts (W + g)) ((all.ranges (W + g) hn).high ∙ ap (high_of period) (thermal_at instance g)) (topped (W + g) hn up (inr some)))
-    where
-      inside : (w k n : ℕ) → k < n → w + k < w + n
-      inside w k n h = omega arith
 
   -- demand is met
   met : rest.need ≡ pos 0
@@ -284,23 +210,10 @@ module _ (period : Period) (order : List Segment) (ranges : List Range) (start :
       short : pos 0 <ℤ rest.need → ⊥
       short up = ⊎_elim
           (λ (none : rest.room ≤ℤ pos 0).
-          closed rest.need rest.room (demand_of period) (minimums period) renewable_amounts thermal_amounts (renewable_sum period (high_of period)) (thermal_limit period)
-          up none need_is room_is (renewable_tops up)
-          (limit-covers period all.free ((demand_of period -ℤ minimums period) -ℤ renewable_sum period (high_of period)) (least_max _ _)
-          (balance (demand_of period) (minimums period) (thermal_sum period (high_of period)) (renewable_sum period (high_of period)) all.free.balance.most)))
+          omega (arith, linear, up, need_is, room_is, renewable_tops up, limit-covers period all.free ((demand_of period -ℤ minimums period) -ℤ renewable_sum period (high_of period)) (grind (arith, ints)) (omega (arith, linear, all.free.balance.most))))
           (λ some.
-          opened_up rest.need (demand_of period) (minimums period) renewable_amounts thermal_amounts (renewable_sum period (high_of period)) (thermal_sum period (high_of period))
-          up need_is (renewable_tops up) (thermal_tops up some) all.free.balance.most)
+          omega (arith, linear, up, need_is, renewable_tops up, thermal_tops up some, all.free.balance.most))
           (le_or_lt rest.room (pos 0))
-        where
-          balance : (d m t r : ℤ) → d ≤ℤ (m +ℤ t +ℤ r) → ((d -ℤ m) -ℤ r) ≤ℤ t
-          balance d m t r h = omega (arith, linear)
-
-          closed : (n o d m ra ta rh l : ℤ) → pos 0 <ℤ n → o ≤ℤ pos 0 → n ≡ (d -ℤ m) -ℤ (ra +ℤ ta) → o ≡ l -ℤ ta → rh ≤ℤ ra → ((d -ℤ m) -ℤ rh) ≤ℤ l → ⊥
-          closed n o d m ra ta rh l h1 h2 h3 h4 h5 h6 = omega (arith, linear)
-
-          opened_up : (n d m ra ta rh th : ℤ) → pos 0 <ℤ n → n ≡ (d -ℤ m) -ℤ (ra +ℤ ta) → rh ≤ℤ ra → th ≤ℤ ta → d ≤ℤ (m +ℤ th +ℤ rh) → ⊥
-          opened_up n d m ra ta rh th h1 h2 h3 h4 h5 = omega (arith, linear)
 
   -- ---- sources
   abbrev place_of : Source → ℕ
@@ -308,10 +221,7 @@ module _ (period : Period) (order : List Segment) (ranges : List Range) (start :
   place_of (FromThermal g) = W + g
 
   place_within : (s : Source) → IsSourceOf instance s → place_of s < source_count instance
-  place_within (FromRenewable w) h = inside w W G h
-    where
-      inside : (k w' n : ℕ) → k < w' → k < w' + n
-      inside k w' n h = omega arith
+  place_within (FromRenewable w) h = omega arith
   place_within (FromThermal g) h = inside W g G h
     where
       inside : (w' k n : ℕ) → k < n → w' + k < w' + n
@@ -335,10 +245,7 @@ module _ (period : Period) (order : List Segment) (ranges : List Range) (start :
   renewables_are = sum_below-same W _ _ (λ w hw. amount_is (FromRenewable w) hw)
 
   later : (to from : Source) → IsSourceOf instance to → ComesBefore to from → place_of from ≤ place_of to → ⊥
-  later (FromRenewable v) (FromRenewable w) h before le = no v w before le
-    where
-      no : (a b : ℕ) → a < b → b ≤ a → ⊥
-      no a b h k = omega arith
+  later (FromRenewable v) (FromRenewable w) h before le = omega (arith, before)
   later (FromRenewable v) (FromThermal g) h before le = no v W g h le
     where
       no : (a w k : ℕ) → a < w → w + k ≤ a → ⊥
@@ -356,15 +263,9 @@ module _ (period : Period) (order : List Segment) (ranges : List Range) (start :
     left = h.left;
     right = h.right;
     segment = h.segment;
-    begins = down _ amount h.begins;
-    reaches = under amount _ h.reaches;
+    begins = omega (arith, linear, h.begins);
+    reaches = omega (arith, linear, h.reaches);
   }
-    where
-      down : (x a : ℤ) → x <ℤ a → x ≤ℤ (a -ℤ pos 1)
-      down x a h = omega (arith, linear)
-
-      under : (a y : ℤ) → a ≤ℤ y → (a -ℤ pos 1) <ℤ y
-      under a y h = omega (arith, linear)
 
   no_move : (from to : Source) (last next : Slope) → CanMove period (amount_of instance amounts) from to
       → HasLastSlope instance from (amount_of instance amounts from) last → HasNextSlope instance to (amount_of instance amounts to) next
@@ -397,15 +298,9 @@ module _ (period : Period) (order : List Segment) (ranges : List Range) (start :
       taken : IsTaken instance ranges amounts m watt
       taken = record {
         source = place_within from move.source;
-        low = under _ (amount_at amounts m) (subst (λ z. z) (λ t. sym (low_is from move.source) t <ℤ amount_is from move.source t) move.down);
-        high = less (amount_at amounts m);
+        low = omega (arith, linear, subst (λ z. z) (λ t. sym (low_is from move.source) t <ℤ amount_is from move.source t) move.down);
+        high = omega (arith, linear);
       }
-        where
-          under : (l a : ℤ) → l <ℤ a → l ≤ℤ (a -ℤ pos 1)
-          under l a h = omega (arith, linear)
-
-          less : (a : ℤ) → (a -ℤ pos 1) <ℤ a
-          less a = omega (arith, linear)
 
       last_at : HasNextSlope instance (source_at instance m) watt last
       last_at = subst (λ s. HasNextSlope instance s watt last) (sym (source_is from move.source))
@@ -416,45 +311,24 @@ module _ (period : Period) (order : List Segment) (ranges : List Range) (start :
           (subst (λ z. HasNextSlope instance to z next) (amount_is to move.target) has_next)
 
       seg_costs : CostsUpTo seg.slope seg.source next n
-      seg_costs = record { slope = it.next.above next next_at; source = λ back. same seg.source n it.next.source }
-        where
-          same : (a b : ℕ) → a ≡ b → a ≤ b
-          same a b e = omega arith
+      seg_costs = record { slope = it.next.above next next_at; source = λ back. (omega (arith, it.next.source)) }
 
       against : CostsUpTo last m next n → ⊥
       against costs = ⊎_elim
-          (λ lower. clash (next.rise *ℤ last.run) (last.rise *ℤ next.run) lower costs.slope)
-          (λ even. later to from move.target even.1 (costs.source (equal (next.rise *ℤ last.run) (last.rise *ℤ next.run) even.0)))
+          (λ lower. omega (arith, linear, costs.slope))
+          (λ even. later to from move.target even.1 (costs.source (omega (arith, linear, even.0))))
           preferred
-        where
-          clash : (a b : ℤ) → a <ℤ b → b ≤ℤ a → ⊥
-          clash a b h k = omega (arith, linear)
-
-          equal : (a b : ℤ) → a ≡ b → a ≤ℤ b
-          equal a b e = omega (arith, linear)
 
       no_room : m < W → W ≤ n → rest.room ≡ pos 0 → ⊥
-      no_room free thermal none = over (thermal_sum period (amount_of instance amounts)) (thermal_limit period) rest.room (part_to to thermal move.target) (part_from from free move.source)
+      no_room free thermal none = omega (arith, linear, move.limit, room_is, part_to to thermal move.target, part_from from free move.source)
         where
           part_to : (s : Source) → W ≤ place_of s → IsSourceOf instance s → thermal_part s ≡ pos 1
-          part_to (FromRenewable w) h k = absurd (no w W h k)
-            where
-              no : (a b : ℕ) → b ≤ a → a < b → ⊥
-              no a b h k = omega arith
+          part_to (FromRenewable w) h k = absurd (omega arith)
           part_to (FromThermal g) h k = refl
 
           part_from : (s : Source) → place_of s < W → IsSourceOf instance s → thermal_part s ≡ pos 0
           part_from (FromRenewable w) h k = refl
-          part_from (FromThermal g) h k = absurd (no W g h)
-            where
-              no : (w a : ℕ) → w + a < w → ⊥
-              no w a h = omega arith
-
-          over : (t l r : ℤ) → thermal_part to ≡ pos 1 → thermal_part from ≡ pos 0 → ⊥
-          over t l r a b = clash (thermal_sum period (amount_of instance amounts)) (thermal_limit period) rest.room (thermal_part to) (thermal_part from) a b move.limit room_is none
-            where
-              clash : (t' l' r' x y : ℤ) → x ≡ pos 1 → y ≡ pos 0 → (t' +ℤ x -ℤ y) ≤ℤ l' → r' ≡ l' -ℤ t' → r' ≡ pos 0 → ⊥
-              clash t' l' r' x y a b h e z = omega (arith, linear)
+          part_from (FromThermal g) h k = absurd (omega arith)
 
       refuse : ((k : ℕ) (w : ℤ) → IsTaken instance ranges amounts k w → IsWorth instance seg rest k w) → ⊥
       refuse worth = ⊎_elim
@@ -467,39 +341,24 @@ module _ (period : Period) (order : List Segment) (ranges : List Range) (start :
   in_merit_order = record {
     low = λ s h. subst (λ z. z) (λ t. low_is s h t ≤ℤ sym (amount_is s h) t) (all.filled.low (place_of s) (place_within s h));
     high = λ s h. subst (λ z. z) (λ t. sym (amount_is s h) t ≤ℤ high_is s h t) (all.filled.high (place_of s) (place_within s h));
-    demand = total (demand_of period) (minimums period) renewable_amounts thermal_amounts (renewable_sum period (amount_of instance amounts)) renewables_are (sym met ∙ need_is);
-    limit = under (thermal_limit period) thermal_amounts rest.room room_is all.filled.left.room;
+    demand = omega (arith, linear, renewables_are, sym met ∙ need_is);
+    limit = omega (arith, linear, room_is, all.filled.left.room);
     merit = no_move;
   }
-    where
-      total : (d m ra ta rs : ℤ) → rs ≡ ra → pos 0 ≡ (d -ℤ m) -ℤ (ra +ℤ ta) → m +ℤ ta +ℤ rs ≡ d
-      total d m ra ta rs e h = omega (arith, linear)
-
-      under : (l t r : ℤ) → r ≡ l -ℤ t → pos 0 ≤ℤ r → t ≤ℤ l
-      under l t r e h = omega (arith, linear)
 
   -- a thermal unit gives no more than its curve is wide
   width_size : (g : ℕ) → g < G → IsSizedOutput (thermal_amount instance amounts g)
   width_size g hg =
       let n = W + g in
-      let hn = inside W g G hg in
+      let hn : W + g < W + G = omega arith in
       let its = opened n hn in
       let unit = thermal_unit instance g in
       let thermal = all.lawful.thermal g hg in
       let most : amount_at amounts n ≤ℤ point_p unit (point_count unit - 1) =
-      chain (amount_at amounts n) (range_at ranges n).high _ (all.filled.high n hn) (subst (λ s. (range_at ranges n).high ≤ℤ width_at instance s) (thermal_at instance g) its.known) in
-      size (amount_at amounts n) (point unit (point_count unit - 1)).mw (point unit 0).mw (chain (pos 0) (range_at ranges n).low (amount_at amounts n) its.low (all.filled.low n hn)) most
-      (thermal.outputs (point_count unit - 1) (last (point_count unit) thermal.points.0)) (thermal.outputs 0 thermal.points.0)
+      omega (arith, linear, all.filled.high n hn, subst (λ s. (range_at ranges n).high ≤ℤ width_at instance s) (thermal_at instance g) its.known) in
+      size (amount_at amounts n) (point unit (point_count unit - 1)).mw (point unit 0).mw (omega (arith, linear, its.low, all.filled.low n hn)) most
+      (thermal.outputs (point_count unit - 1) (omega (arith, thermal.points.0))) (thermal.outputs 0 thermal.points.0)
     where
-      inside : (w' k n : ℕ) → k < n → w' + k < w' + n
-      inside w' k n h = omega arith
-
-      chain : (a b c : ℤ) → a ≤ℤ b → b ≤ℤ c → a ≤ℤ c
-      chain a b c h k = omega (arith, linear)
-
-      last : (n : ℕ) → 1 ≤ n → n - 1 < n
-      last n h = omega arith
-
       size : (z a b : ℤ) → pos 0 ≤ℤ z → z ≤ℤ (a -ℤ b) → IsPower a → IsPower b → IsSizedOutput z
       size z a b low high ha hb = grind (arith, ints, low, high, ha, hb)
 

@@ -1,7 +1,5 @@
 -- The order of segments by merit is one, and sorting keeps the segments of each source.
-use Rattle.std.proofs.Common.{◌≡◌, ℕ, zero, suc, ◌+◌, ◌-◌, ◌<◌, ◌≤◌, ⊎_elim, Bool, true, false, sym, subst, arith, List, length, ℤ, pos, ◌*ℤ◌, ◌≤ℤ◌, ◌<ℤ◌}
-use Rattle.std.specs.Prelude.{int_lt, nat_lt, ◌&&◌, ◌||◌}
-use Rattle.std.specs.Int.{int_max}
+use Rattle.std.proofs.Common.{◌≡◌, ℕ, zero, suc, ◌+◌, ◌-◌, ◌<◌, ◌≤◌, ⊎_elim, Bool, true, false, sym, subst, arith, List, length, ℤ, pos, ◌*ℤ◌, ◌≤ℤ◌, ◌<ℤ◌, int_lt, nat_lt, ◌&&◌, ◌||◌}
 use Rattle.std.specs.Ordering.{int_eq}
 use Rattle.std.specs.Cmp.{IsStrictWeakOrder}
 use Rattle.std.specs.List.Sorted.{IsPermutation, IsSortedBy}
@@ -12,8 +10,7 @@ use Rattle.uc_model.proofs.Ring.{linear, le_antisymm, le_or_lt}
 use Rattle.uc_model.proofs.Tests.{int_lt-true, lt-int_lt, int_eq-true, eq-int_eq}
 use Rattle.uc_model.specs.declared.instance.Instance.{Instance}
 use Rattle.cost_curves.proofs.Lines.{flatter_trans}
-use Rattle.dispatch_repair.specs.inside.Segments.{width_of, comes_before, segment_at, no_segment, IsSegmentOf, AreSegmentsOf, AreInMeritOrder, source_count}
-use Rattle.dispatch_repair.specs.declared.segment.Segment.{Segment}
+use Rattle.dispatch_repair.specs.inside.Segments.{Segment, width_of, comes_before, segment_at, no_segment, IsSegmentOf, AreSegmentsOf, AreInMeritOrder, source_count}
 
 -- ---- the test of products and places
 abbrev is_less : ℤ → ℤ → ℕ → ℕ → Bool
@@ -34,26 +31,14 @@ less_false-place x y m n h same =
 less_false : (x y : ℤ) (m n : ℕ) → y ≤ℤ x → (x ≤ℤ y → n ≤ m) → is_less x y m n ≡ false
 less_false x y m n product place = false_from_ne_true _ (λ h.
     ⊎_elim
-    (λ less. no_less x y product (int_lt-true x y less))
+    (λ less. omega (arith, linear, int_lt-true x y less))
     (λ both. let parts = and_parts (int_eq x y) (nat_lt m n) both in
-    late m n (place (same x y (int_eq-true x y parts.0))) (ltb-true m n parts.1))
+    omega (arith, place (omega (arith, linear, int_eq-true x y parts.0)), ltb-true m n parts.1))
     (or_cases (int_lt x y) (int_eq x y && nat_lt m n) h))
-  where
-    no_less : (a b : ℤ) → b ≤ℤ a → a <ℤ b → ⊥
-    no_less a b h k = omega (arith, linear)
-
-    same : (a b : ℤ) → a ≡ b → a ≤ℤ b
-    same a b h = omega (arith, linear)
-
-    late : (a b : ℕ) → b ≤ a → a < b → ⊥
-    late a b h k = omega arith
 
 -- ---- segments by merit
 width_positive : (segment : Segment) → pos 0 <ℤ width_of segment.slope
-width_positive segment = positive segment.slope.run
-  where
-    positive : (run : ℤ) → pos 0 <ℤ int_max run (pos 1)
-    positive run = grind (arith, ints)
+width_positive segment = grind (arith, ints)
 
 abbrev cross : Segment → Segment → ℤ
 cross first second = first.slope.rise *ℤ width_of second.slope
@@ -75,20 +60,14 @@ up_to first second h = less_false (cross second first) (cross first second) seco
 slope_trans : (a b c : Segment) → cross a b ≤ℤ cross b a → cross b c ≤ℤ cross c b → cross a c ≤ℤ cross c a
 slope_trans a b c first second =
     (flatter_trans (width_of a.slope) a.slope.rise (width_of b.slope) b.slope.rise (width_of c.slope) c.slope.rise
-    (weak _ (width_positive a)) (width_positive b) (weak _ (width_positive c))
+    (omega (arith, linear, width_positive a)) (width_positive b) (omega (arith, linear, width_positive c))
     (record { products = first }) (record { products = second })).products
-  where
-    weak : (z : ℤ) → pos 0 <ℤ z → pos 0 ≤ℤ z
-    weak z h = omega (arith, linear)
 
 up_to_trans : (a b c : Segment) → IsUpTo a b → IsUpTo b c → IsUpTo a c
 up_to_trans a b c first second = record {
   slope = slope_trans a b c first.slope second.slope;
-  source = λ back. after (first.source (slope_trans b c a second.slope back)) (second.source (slope_trans c a b back first.slope));
+  source = λ back. omega (arith, first.source (slope_trans b c a second.slope back), second.source (slope_trans c a b back first.slope));
 }
-  where
-    after : a.source ≤ b.source → b.source ≤ c.source → a.source ≤ c.source
-    after h k = omega arith
 
 pub merit_is_order : IsStrictWeakOrder comes_before
 merit_is_order = record {
@@ -100,55 +79,28 @@ merit_is_order = record {
 }
   where
     weak : (p q : ℤ) (m n : ℕ) → is_less p q m n ≡ true → p ≤ℤ q
-    weak p q m n h = ⊎_elim (λ less. below p q (int_lt-true p q less)) (λ both. equal p q (int_eq-true p q (and_parts (int_eq p q) (nat_lt m n) both).0))
+    weak p q m n h = ⊎_elim (λ less. omega (arith, linear, int_lt-true p q less)) (λ both. omega (arith, linear, int_eq-true p q (and_parts (int_eq p q) (nat_lt m n) both).0))
         (or_cases (int_lt p q) (int_eq p q && nat_lt m n) h)
-      where
-        below : (a b : ℤ) → a <ℤ b → a ≤ℤ b
-        below a b h = omega (arith, linear)
-
-        equal : (a b : ℤ) → a ≡ b → a ≤ℤ b
-        equal a b h = omega (arith, linear)
 
     early : (p q : ℤ) (m n : ℕ) → is_less p q m n ≡ true → q ≤ℤ p → m ≤ n
-    early p q m n h back = ⊎_elim (λ less. absurd (none p q back (int_lt-true p q less))) (λ both. before m n (ltb-true m n (and_parts (int_eq p q) (nat_lt m n) both).1))
+    early p q m n h back = ⊎_elim (λ less. absurd (omega (arith, linear, int_lt-true p q less))) (λ both. omega (arith, ltb-true m n (and_parts (int_eq p q) (nat_lt m n) both).1))
         (or_cases (int_lt p q) (int_eq p q && nat_lt m n) h)
-      where
-        none : (a b : ℤ) → b ≤ℤ a → a <ℤ b → ⊥
-        none a b h k = omega (arith, linear)
-
-        before : (a b : ℕ) → a < b → a ≤ b
-        before a b h = omega arith
 
 -- ---- sorted segments
 -- neighbors in order are in order however far apart
 sorted_by : (order : List Segment) → IsSortedBy comes_before order → (i more : ℕ) → i + more < length order
     → comes_before (segment_at order (i + more)) (segment_at order i) ≡ false
 sorted_by order sorted i zero h =
-    subst (λ n. comes_before (segment_at order n) (segment_at order i) ≡ false) (sym (none i)) (up_to (segment_at order i) (segment_at order i) (record { slope = same _; source = λ k. level _ }))
-  where
-    none : (n : ℕ) → n + 0 ≡ n
-    none n = omega arith
-
-    same : (z : ℤ) → z ≤ℤ z
-    same z = omega (arith, linear)
-
-    level : (n : ℕ) → n ≤ n
-    level n = omega arith
+    subst (λ n. comes_before (segment_at order n) (segment_at order i) ≡ false) (sym (omega arith)) (up_to (segment_at order i) (segment_at order i) (record { slope = omega (arith, linear); source = λ k. (omega arith) }))
 sorted_by order sorted i (suc more) h =
     let next : comes_before (segment_at order ((i + more) + 1)) (segment_at order (i + more)) ≡ false = sorted (i + more) no_segment (omega arith) (omega arith) in
     let rest = sorted_by order sorted i more (omega arith) in
-    subst (λ n. comes_before (segment_at order n) (segment_at order i) ≡ false) (shift i more) (merit_is_order.chain (segment_at order ((i + more) + 1)) (segment_at order (i + more)) (segment_at order i) next rest)
-  where
-    shift : (m n : ℕ) → (m + n) + 1 ≡ m + suc n
-    shift m n = omega arith
+    subst (λ n. comes_before (segment_at order n) (segment_at order i) ≡ false) (omega arith) (merit_is_order.chain (segment_at order ((i + more) + 1)) (segment_at order (i + more)) (segment_at order i) next rest)
 
 pub sorted_apart : (order : List Segment) → IsSortedBy comes_before order → (i j : ℕ) → i ≤ j → j < length order
     → comes_before (segment_at order j) (segment_at order i) ≡ false
 sorted_apart order sorted i j h k =
-    subst (λ n. comes_before (segment_at order n) (segment_at order i) ≡ false) (whole i j h) (sorted_by order sorted i (j - i) (subst (λ n. n < length order) (sym (whole i j h)) k))
-  where
-    whole : (m n : ℕ) → m ≤ n → m + (n - m) ≡ n
-    whole m n h = omega arith
+    subst (λ n. comes_before (segment_at order n) (segment_at order i) ≡ false) (omega arith) (sorted_by order sorted i (j - i) (subst (λ n. n < length order) (sym (omega arith)) k))
 
 -- the same segments in another order
 pub segments_moved : (instance : Instance) (n : ℕ) (all order : List Segment) → IsPermutation all order → AreSegmentsOf instance n all → AreSegmentsOf instance n order

@@ -1,7 +1,6 @@
 -- What a test of two whole numbers says, also where they stand as their bits.
 -- Cite by `use Rattle.dispatch_repair.proofs.Numbers.{at_most}`.
-use Rattle.std.proofs.Common.{◌≡◌, arith, ℤ, ◌≤ℤ◌, ◌<ℤ◌, true, false, to_z, of_z}
-use Rattle.std.specs.Prelude.{int_lt}
+use Rattle.std.proofs.Common.{◌≡◌, arith, ℤ, ◌≤ℤ◌, ◌<ℤ◌, true, false, to_z, of_z, int_lt}
 use Rattle.std.specs.Int.{w64}
 use Rattle.std.proofs.lemmas.Int.{ints}
 use Rattle.uc_model.proofs.Ring.{linear}

@@ -1,7 +1,6 @@
 -- A dispatch obeys: each rule holds of its whole watts, since its commitment keeps the rules on commitments and each period is filled.
 -- Cite by `use Rattle.dispatch_repair.proofs.Obeying.{obeying}`.
-use Rattle.std.proofs.Common.{◌≡◌, ℕ, zero, suc, ◌<◌, ⊎_elim, false, not, refl, sym, ap, subst, ◌∙◌, arith, List, ◌+ℤ◌, ◌-ℤ◌, ◌*ℤ◌, ◌≤ℤ◌}
-use Rattle.std.specs.Prelude.{IsTrue, nat_lt, ◌==◌}
+use Rattle.std.proofs.Common.{◌≡◌, ℕ, zero, suc, ◌<◌, ⊎_elim, false, not, refl, sym, ap, subst, ◌∙◌, arith, List, ◌+ℤ◌, ◌-ℤ◌, ◌*ℤ◌, ◌≤ℤ◌, IsTrue, nat_lt, ◌==◌}
 use Rattle.std.proofs.lemmas.Bool.{and_from, or_left, or_right, cases_Bool, cond-true, cond-false}
 use Rattle.uc_model.specs.Sums.{sum_below, bit}
 use Rattle.uc_model.specs.Commitment.{Commitment, starts, cap}

@@ -1,13 +1,12 @@
 -- From one period to the next: what was filled stays filled, and what is written fills the period.
-use Rattle.std.proofs.Common.{◌≡◌, ◌≢◌, ℕ, zero, suc, ◌+◌, ◌<◌, ◌≤◌, ⊎_elim, Bool, true, false, refl, sym, ap, subst, ◌∙◌, arith, List, [], length, ℤ, pos, ◌-ℤ◌, ◌*ℤ◌}
-use Rattle.std.specs.Prelude.{nat_lt, slice_index_or}
+use Rattle.std.proofs.Common.{◌≡◌, ℕ, zero, suc, ◌+◌, ◌<◌, ◌≤◌, ⊎_elim, Bool, true, false, refl, sym, ap, subst, ◌∙◌, arith, List, [], length, ℤ, pos, ◌-ℤ◌, ◌*ℤ◌, nat_lt, slice_index_or}
 use Rattle.std.specs.Int.{int_min, int_max}
 use Rattle.std.proofs.lemmas.Bool.{cases_lt, cases_eq, lt-ltb, le-ltb, cond-true, cond-false}
 use Rattle.std.proofs.Math.ListN.{get_or-eq_default}
 use Rattle.std.proofs.lemmas.Int.{ints}
 use Rattle.uc_model.specs.Sums.{sum_below, bit}
 use Rattle.uc_model.specs.Commitment.{initial_p}
-use Rattle.uc_model.specs.Limits.{IsLawfulThermal, IsPower}
+use Rattle.uc_model.specs.Limits.{IsLawfulThermal}
 use Rattle.uc_model.specs.declared.instance.Thermal.{Thermal}
 use Rattle.uc_model.proofs.Ring.{one-mul, zero-mul}
 use Rattle.uc_model.specs.StartCategory.{category_cost}
@@ -63,24 +62,18 @@ same_below instance periods t old new same h = record {
 same_but : (instance : Instance) (t k : ℕ) (old new : Printed) → AreSameBut t old new → k < t → AreSameAt instance k old new
 same_but instance t k old new same h = record {
   before = λ g. before g k h;
-  cells = λ g. sym (same.cells g k (apart k t h));
-  outputs = λ w. sym (same.outputs w k (apart k t h));
+  cells = λ g. sym (same.cells g k (omega arith));
+  outputs = λ w. sym (same.outputs w k (omega arith));
 }
   where
-    apart : (a b : ℕ) → a < b → a ≢ b
-    apart a b h e = omega arith
-
     before : (g j : ℕ) → j < t → output_before instance old g j ≡ output_before instance new g j
     before g zero hj = refl
-    before g (suc j) hj = ap (λ (c : Cell). c.p) (sym (same.cells g j (apart j t (omega arith))))
+    before g (suc j) hj = ap (λ (c : Cell). c.p) (sym (same.cells g j (omega arith)))
 
 -- what came before a period stands when it is written
 before_same : (instance : Instance) (t : ℕ) (old new : Printed) (g : ℕ) → AreSameBut t old new → output_before instance old g t ≡ output_before instance new g t
 before_same instance zero old new g same = refl
-before_same instance (suc t) old new g same = ap (λ (c : Cell). c.p) (sym (same.cells g t (apart t)))
-  where
-    apart : (k : ℕ) → k ≢ suc k
-    apart k e = omega arith
+before_same instance (suc t) old new g same = ap (λ (c : Cell). c.p) (sym (same.cells g t (omega arith)))
 
 -- ---- past the last unit
 no_cells : (instance : Instance) (periods : ℕ) (printed : Printed) (g t : ℕ) → HasPeriods instance periods printed → thermal_count instance ≤ g → (cell_at printed g t).p ≡ pos 0
@@ -97,10 +90,7 @@ no_outputs instance periods printed w t shape h =
     ap (λ (row : List ℤ). slice_index_or row t (pos 0)) none
 
 no_amount : (instance : Instance) (numbers : List ℤ) (g : ℕ) → length numbers ≡ source_count instance → thermal_count instance ≤ g → thermal_amount instance numbers g ≡ pos 0
-no_amount instance numbers g count h = get_or-eq_default numbers (pos 0) (subst (λ n. n ≤ renewable_count instance + g) (sym count) (more (renewable_count instance) (thermal_count instance) g h))
-  where
-    more : (w n k : ℕ) → n ≤ k → w + n ≤ w + k
-    more w n k h = omega arith
+no_amount instance numbers g count h = get_or-eq_default numbers (pos 0) (subst (λ n. n ≤ renewable_count instance + g) (sym count) (omega arith))
 
 no_initial : (instance : Instance) (g : ℕ) → thermal_count instance ≤ g → initial_p (thermal_unit instance g) ≡ pos 0
 no_initial instance g h = ap initial_p (get_or-eq_default instance.thermal no_unit h)
@@ -188,15 +178,12 @@ next_filled instance patterns t old new was is below within room shape dispatche
   committed = committed_still instance patterns t old new was.amounts.items is.amounts.items is.heads.items shape room.amounts below.before below.committed within dispatched written;
   filled = λ k h. ⊎_elim
       (λ (early : k < t). filled_moved instance patterns k old new (same_but instance t k old new written.others early) (below.filled k early))
-      (λ (late : t ≤ k). subst (IsFilled instance patterns new) (last k h late)
+      (λ (late : t ≤ k). subst (IsFilled instance patterns new) (omega arith)
       (filled_period instance patterns t old new was.amounts.items is.amounts.items is.heads.items shape room.amounts below.before below.committed within dispatched written))
       (cases_lt k t);
   room = room;
   before = before_next instance patterns t old new was.amounts.items is.amounts.items is.heads.items shape room.amounts below.before below.committed within dispatched written;
 }
-  where
-    last : (k : ℕ) → k < suc t → t ≤ k → t ≡ k
-    last k a b = omega arith
 
 -- ---- the end
 pub through : (instance : Instance) (patterns : List Pattern) (printed : Printed) (room : Room) → AreFilledBelow instance patterns instance.periods printed room
@@ -212,16 +199,13 @@ stuck_period_is instance patterns t printed room reason stuck regular below with
   regular = regular;
   within = subst (λ k. k < instance.periods) (sym is.is_period) within;
   prefix = subst (λ k. IsDispatchThrough instance patterns k stuck.prefix) (sym is.is_period) (record {
-    shape = is.prefix.shape instance below.committed.shape (less t instance.periods within);
+    shape = is.prefix.shape instance below.committed.shape (omega arith);
     filled = λ k h. filled_moved instance patterns k printed stuck.prefix (same_below instance t k printed stuck.prefix is.prefix.same h) (below.filled k h);
   });
   obstacle = found;
   impossible = impossible (stuck_period instance patterns stuck) stuck.why (subst (λ k. k < instance.periods) (sym is.is_period) within) found;
 }
   where
-    less : (a b : ℕ) → a < b → a ≤ b
-    less a b h = omega arith
-
     before : (g k : ℕ) → k ≡ t → output_before instance printed g k ≡ output_before instance stuck.prefix g k
     before g zero e = refl
     before g (suc k) e = ap (λ (c : Cell). c.p) (sym (is.prefix.same.cells g k (omega (arith, e))))
@@ -240,10 +224,7 @@ stuck_of instance patterns stuck is = by stuck.why is.obstacle
   where
     by : (reason : Why) → IsFirstObstacle (stuck_period instance patterns stuck) reason → IsStuckBy instance patterns stuck reason
     by (why.Rule number unit) none = absurd none
-    by (why.Box unit low high) found = is
-    by (why.Over least demand) found = is
-    by (why.Under most demand) found = is
-    by (why.Reserve room need) found = is
+    by _ found = is
 
 -- the answer of a dispatch that is stuck in period t, or to which memory was refused
 pub stuck_fault : (instance : Instance) (patterns : List Pattern) (t : ℕ) (printed : Printed) (room : Room) (reason : Why) (answer : DispatchFault)
@@ -268,11 +249,8 @@ broken_fault instance patterns printed number unit fault.NoMemory shape broken i
 
 -- the size of what a unit gives initially
 pub initial_size : (unit : Thermal) → IsLawfulThermal unit → IsSizedOutput (initial_p unit)
-initial_size unit lawful = by unit.on0 (unit.p0 -ℤ unit.pmin) (gap unit.p0 unit.pmin lawful.initial_output lawful.minimum.power)
+initial_size unit lawful = by unit.on0 (unit.p0 -ℤ unit.pmin) (grind (arith, ints, lawful.initial_output, lawful.minimum.power))
   where
-    gap : (a b : ℤ) → IsPower a → IsPower b → IsSizedOutput (a -ℤ b)
-    gap a b ha hb = grind (arith, ints, ha, hb)
-
     by : (b : Bool) (z : ℤ) → IsSizedOutput z → IsSizedOutput (bit b *ℤ z)
     by true z h = subst IsSizedOutput (sym (one-mul z)) h
     by false z h = subst IsSizedOutput (sym (zero-mul z)) (omega arith)

@@ -7,9 +7,8 @@ use Rattle.uc_model.specs.Schedule.{thermal_count, thermal_unit, no_unit, renewa
 use Rattle.uc_model.specs.declared.instance.Instance.{Instance}
 use Rattle.uc_model.specs.declared.instance.Thermal.{Thermal}
 use Rattle.dispatch_repair.specs.Period.{Period, Source, FromRenewable, FromThermal, low_of, high_of}
-use Rattle.dispatch_repair.specs.inside.Amounts.{IsSizedEnd, IsRangeOf, AreRangesOf, range_at}
+use Rattle.dispatch_repair.specs.inside.Amounts.{Range, IsSizedEnd, IsRangeOf, AreRangesOf, range_at}
 use Rattle.dispatch_repair.specs.inside.Segments.{source_at}
-use Rattle.dispatch_repair.specs.declared.range.Range.{Range}
 use Rattle.dispatch_repair.proofs.CurveSegments.{renewable_at, thermal_at}
 
 -- a unit that was read is the instance's
@@ -54,19 +53,13 @@ thermal_range period g range = range_of period (renewable_count period.instance 
 pub renewable_ends : (period : Period) (ranges : List Range) (w : ℕ) → w < renewable_count period.instance → AreRangesOf period ranges
     → HasEnds period (FromRenewable w) (range_at ranges w)
 renewable_ends period ranges w h are =
-    ends period w (range_at ranges w) (FromRenewable w) (renewable_at period.instance w h) (are w (inside (renewable_count period.instance) (thermal_count period.instance) h))
-  where
-    inside : (m n : ℕ) → w < m → w < m + n
-    inside m n h = omega arith
+    ends period w (range_at ranges w) (FromRenewable w) (renewable_at period.instance w h) (are w (omega arith))
 
 pub thermal_ends : (period : Period) (ranges : List Range) (g : ℕ) → g < thermal_count period.instance → AreRangesOf period ranges
     → HasEnds period (FromThermal g) (range_at ranges (renewable_count period.instance + g))
 thermal_ends period ranges g h are =
     ends period (renewable_count period.instance + g) (range_at ranges (renewable_count period.instance + g)) (FromThermal g)
-    (thermal_at period.instance g) (are (renewable_count period.instance + g) (inside (renewable_count period.instance) (thermal_count period.instance) h))
-  where
-    inside : (m n : ℕ) → g < n → m + g < m + n
-    inside m n h = omega arith
+    (thermal_at period.instance g) (are (renewable_count period.instance + g) (omega arith))
 
 -- the ranges of both kinds are those of all sources
 pub ranges_from : (period : Period) (ranges : List Range)
@@ -77,12 +70,6 @@ pub ranges_from : (period : Period) (ranges : List Range)
 ranges_from period ranges renewable thermal n hn = ⊎_elim
     (λ (early : n < renewable_count period.instance). renewable n early)
     (λ (late : renewable_count period.instance ≤ n).
-    subst (λ k. IsRangeOf period k (range_at ranges k)) (back (renewable_count period.instance) late)
-    (thermal (n - renewable_count period.instance) (behind (renewable_count period.instance) (thermal_count period.instance) late hn)))
+    subst (λ k. IsRangeOf period k (range_at ranges k)) (omega arith)
+    (thermal (n - renewable_count period.instance) (omega arith)))
     (cases_lt n (renewable_count period.instance))
-  where
-    back : (m : ℕ) → m ≤ n → m + (n - m) ≡ n
-    back m h = omega arith
-
-    behind : (m k : ℕ) → m ≤ n → n < m + k → n - m < k
-    behind m k h l = omega arith

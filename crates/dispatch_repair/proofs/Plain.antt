@@ -1,7 +1,6 @@
 -- The numbers of a dispatch are plain: a unit's output and reserve stay within its range, which the limits on an instance bound.
 -- Cite by `use Rattle.dispatch_repair.proofs.Plain.{plain}`.
-use Rattle.std.proofs.Common.{◌≡◌, ℕ, ◌<◌, ◌≤◌, ⊎_elim, Bool, true, false, not, sym, ◌∙◌, arith, List, [], length, get_or, ℤ, pos, ◌+ℤ◌, ◌-ℤ◌, ◌*ℤ◌, ◌≤ℤ◌}
-use Rattle.std.specs.Prelude.{IsTrue, All}
+use Rattle.std.proofs.Common.{◌≡◌, ℕ, ◌<◌, ◌≤◌, ⊎_elim, Bool, true, false, not, sym, ◌∙◌, arith, List, [], length, get_or, ℤ, pos, ◌+ℤ◌, ◌-ℤ◌, ◌*ℤ◌, ◌≤ℤ◌, IsTrue, All}
 use Rattle.std.proofs.lemmas.Bool.{cases_Bool, and_right}
 use Rattle.std.proofs.lemmas.List.Elements.{All-get_or}
 use Rattle.uc_model.specs.Sums.{bit}

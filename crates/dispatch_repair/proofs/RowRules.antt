@@ -1,7 +1,6 @@
 -- A rule on commitments says the same of a unit's row as of the unit's pattern, where the row is on in the same periods.
 -- Rules go by their turn: M1 to M5, and M7. Cite by `use Rattle.dispatch_repair.proofs.RowRules.{turn_rule}`.
-use Rattle.std.proofs.Common.{◌≡◌, ℕ, zero, suc, ◌-◌, ◌<◌, Bool, true, false, not, ◌&&◌, ◌||◌, sym, ap, subst, ◌∙◌, arith, List, length}
-use Rattle.std.specs.Prelude.{IsTrue, nat_lt, min, ◌==◌, if◌then◌else◌}
+use Rattle.std.proofs.Common.{◌≡◌, ℕ, zero, suc, ◌-◌, ◌<◌, Bool, true, false, not, ◌&&◌, ◌||◌, sym, ap, subst, ◌∙◌, arith, List, length, IsTrue, nat_lt, min, ◌==◌, if◌then◌else◌}
 use Rattle.uc_model.specs.Commitment.{starts, stops}
 use Rattle.uc_model.specs.Schedule.{thermal_unit}
 use Rattle.uc_model.specs.Rules.{holds_at, rule_number}
@@ -19,13 +18,9 @@ use Rattle.dispatch_repair.specs.Stuck.{KeepsRule, committed}
 -- what the row keeps holds in each period; M7 says the same of each
 holds_in : (k : ℕ) → k < 6 → (unit : Thermal) (row : List Cell) → RowKeeps unit row (turn k) → (t : ℕ) → t < length row
     → IsTrue (unit_holds (turn k) (length row) unit row t)
-holds_in zero h unit row keeps t ht = keeps t ht
-holds_in (suc zero) h unit row keeps t ht = keeps t ht
-holds_in (suc (suc zero)) h unit row keeps t ht = keeps t ht
-holds_in (suc (suc (suc zero))) h unit row keeps t ht = keeps t ht
-holds_in (suc (suc (suc (suc zero)))) h unit row keeps t ht = keeps t ht
 holds_in (suc (suc (suc (suc (suc zero))))) h unit row keeps t ht = keeps 0 (omega arith)
 holds_in (suc (suc (suc (suc (suc (suc k)))))) h unit row keeps t ht = absurd (omega arith)
+holds_in _ h unit row keeps t ht = keeps t ht
 
 -- one of one period, or of all, is one of all
 one_or_all : (b : Bool) (n t : ℕ) → 0 < n → t < (if b then 1 else n) → t < n

@@ -1,6 +1,5 @@
 -- Writes into rows.
-use Rattle.std.proofs.Common.{◌≡◌, ℕ, ◌+◌, ◌<◌, ◌≤◌, get_or, length, take, drop, sym, ap, subst, ◌∙◌, List, [], ◌++◌}
-use Rattle.std.specs.Prelude.{All, map, slice_set, slice_index_or}
+use Rattle.std.proofs.Common.{◌≡◌, ℕ, ◌+◌, ◌<◌, ◌≤◌, get_or, length, take, drop, sym, ap, subst, ◌∙◌, List, [], ◌++◌, All, map, slice_set, slice_index_or}
 use Rattle.std.specs.Vec.{with_item}
 use Rattle.std.specs.declared.alloc.Global.{Global}
 use Rattle.std.specs.declared.vec.Vec.{Vec}

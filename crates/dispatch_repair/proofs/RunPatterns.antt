@@ -1,6 +1,5 @@
 -- What is said of a run of periods, as said of the pattern that is on in them.
-use Rattle.std.proofs.Common.{◌≡◌, ℕ, ◌≤◌, Option, Some, None, true, sym, ap, subst, ◌∙◌, arith}
-use Rattle.std.specs.Prelude.{MatchOption}
+use Rattle.std.proofs.Common.{◌≡◌, ℕ, ◌≤◌, Option, Some, None, true, sym, ap, subst, ◌∙◌, arith, MatchOption}
 use Rattle.uc_model.specs.PatternBits.{commitment_of}
 use Rattle.uc_model.specs.ExtremePatterns.{IsMostOn, IsFewestOn, HasNoAllowedPattern, on_during}
 use Rattle.uc_model.specs.declared.instance.Thermal.{Thermal}

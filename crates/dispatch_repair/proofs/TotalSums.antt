@@ -1,17 +1,15 @@
 -- The sums over the two parts of a list of ranges, and over a list of heads, are those over the period's sources.
 -- Cite by `use Rattle.dispatch_repair.proofs.TotalSums.{renewable_part}`.
-use Rattle.std.proofs.Common.{◌≡◌, ℕ, ◌+◌, ◌-◌, ◌<◌, arith, sym, ap, subst, ◌∙◌, List, length, take, drop, ℤ, pos, to_z, of_z, length-take, length-drop}
+use Rattle.std.proofs.Common.{◌≡◌, ℕ, ◌+◌, ◌-◌, ◌<◌, arith, sym, ap, subst, ◌∙◌, List, length, take, drop, ℤ, pos, to_z, of_z, length-take, length-drop, get_or-take, get_or-drop}
 use Rattle.std.specs.Int.{w64}
-use Rattle.std.proofs.lemmas.List.{get_or-take, get_or-drop}
 use Rattle.uc_model.specs.Schedule.{thermal_count, renewable_count}
 use Rattle.uc_model.specs.Sums.{sum_below}
 use Rattle.uc_model.proofs.Sizes.{narrow}
 use Rattle.uc_model.proofs.Sums.{sum_below-same}
 use Rattle.dispatch_repair.specs.Period.{Period, Source, FromRenewable, FromThermal, head_of, heads, renewable_sum, thermal_sum}
-use Rattle.dispatch_repair.specs.inside.Amounts.{AreHeadsOf, AreRangesOf, amount_at, range_at}
+use Rattle.dispatch_repair.specs.inside.Amounts.{Range, AreHeadsOf, AreRangesOf, amount_at, range_at}
 use Rattle.dispatch_repair.specs.inside.Segments.{source_count}
 use Rattle.dispatch_repair.specs.inside.Totals.{IsSizedSum, IsSum}
-use Rattle.dispatch_repair.specs.declared.range.Range.{Range}
 use Rattle.dispatch_repair.proofs.Places.{HasEnds, renewable_ends, thermal_ends}
 
 abbrev no_range : Range
@@ -48,15 +46,12 @@ thermal_part period ranges n pick end is long first are =
     part_sum (take (length ranges - n) (drop n ranges)) (thermal_count period.instance) pick (λ g. end (FromThermal g))
     (count (renewable_count period.instance) (thermal_count period.instance) long first)
     (λ (g : ℕ) (h : g < thermal_count period.instance).
-    ap pick (get_or-take (length ranges - n) (drop n ranges) g no_range (inside (renewable_count period.instance) (thermal_count period.instance) g long first h)
+    ap pick (get_or-take (length ranges - n) (drop n ranges) g no_range (omega arith)
     ∙ get_or-drop n ranges g no_range ∙ ap (λ m. range_at ranges (m + g)) first)
     ∙ is (FromThermal g) (range_at ranges (renewable_count period.instance + g)) (thermal_ends period ranges g h are))
   where
     count : (a b : ℕ) → length ranges ≡ a + b → n ≡ a → length (take (length ranges - n) (drop n ranges)) ≡ b
     count a b e f = simp (length-take, length-drop) (omega arith)
-
-    inside : (a b g : ℕ) → length ranges ≡ a + b → n ≡ a → g < b → g < length ranges - n
-    inside a b g e f h = omega arith
 
 pub heads_sum : (period : Period) (numbers : List ℤ) → length numbers ≡ thermal_count period.instance → AreHeadsOf period numbers
     → sum_below (length numbers) (amount_at numbers) ≡ heads period

@@ -1,6 +1,5 @@
 -- What agreement with a node says of each unit.
-use Rattle.std.proofs.Common.{◌≡◌, ℕ, ◌<◌, List, [], ◌∷◌, false, not, ◌==◌, refl, ap, subst, ⊎_elim, ◌≤◌}
-use Rattle.std.specs.Prelude.{IsTrue}
+use Rattle.std.proofs.Common.{◌≡◌, ℕ, ◌<◌, List, [], ◌∷◌, false, not, ◌==◌, refl, ap, subst, ⊎_elim, ◌≤◌, IsTrue}
 use Rattle.std.specs.List.{list_all}
 use Rattle.std.proofs.lemmas.Bool.{and_parts, and_from, or_left, or_right, cases_Bool, eqb-true}
 use Rattle.uc_model.specs.Schedule.{Schedule, thermal_unit, thermal_count}
@@ -8,9 +7,8 @@ use Rattle.uc_model.specs.Rules.{Obeys}
 use Rattle.uc_model.specs.Limits.{IsLawfulThermal}
 use Rattle.uc_model.specs.declared.instance.Instance.{Instance}
 use Rattle.uc_model.proofs.Obeyed.{is_allowed-obeying}
-use Rattle.dual_model.specs.Fixings.{keeps, keeps_of, unit_agrees, agrees, IsPatternAt}
+use Rattle.dual_model.specs.Fixings.{Node, keeps, keeps_of, unit_agrees, agrees, IsPatternAt}
 use Rattle.dual_model.specs.declared.node.Fixing.{Fixing}
-use Rattle.dual_model.specs.declared.node.Node.{Node}
 
 kept_by_unit : (x : Schedule) (g : ℕ) (fixing : Fixing) → IsTrue (keeps fixing (x.thermal fixing.g).on)
     → IsTrue (keeps_of g (x.thermal g).on fixing)

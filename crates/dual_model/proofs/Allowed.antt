@@ -1,6 +1,6 @@
 -- A commitment is a pattern, allowed and as decided, exactly where each move of its way may be made.
-use Rattle.std.proofs.Common.{◌≡◌, ℕ, zero, suc, ◌+◌, ◌-◌, ◌<◌, ◌≤◌, ⊎_elim, min, Bool, true, false, not, ◌&&◌, ◌||◌, refl, sym, ap, subst, ◌∙◌, arith, ℤ, pos, ◌≤ℤ◌}
-use Rattle.std.specs.Prelude.{IsTrue, Option, Some, None, nat_lt, int_le, if◌then◌else◌}
+use Rattle.std.proofs.Common.{◌≡◌, ℕ, zero, suc, ◌+◌, ◌-◌, ◌<◌, ◌≤◌, ⊎_elim, min, Bool, true, false, not, ◌&&◌, ◌||◌, refl, sym, ap, subst, ◌∙◌, arith, ℤ, pos, ◌≤ℤ◌, IsTrue, Option, Some, None, nat_lt, int_le, if◌then◌else◌}
+use mathlib.Core.Bool.{not-not}
 use Rattle.std.proofs.lemmas.Bool.{and_parts, and_from, or_cases, or_left, or_right, true≢false, not-true, not_from_false, ltb-true, lt-ltb, cond-true, cond-false}
 use Rattle.uc_model.specs.Sums.{bit, all_below}
 use Rattle.uc_model.specs.Commitment.{Commitment, state_before, was_on, starts, stops, keeps_minimum_at, must_run_at, initial_up_at, initial_down_at, minimum_up_at, minimum_down_at, cap, is_allowed_at, initial_stop_holds}
@@ -11,11 +11,10 @@ use Rattle.uc_model.specs.declared.terms.Terms.{Terms}
 use Rattle.uc_model.proofs.Ring.{linear}
 use Rattle.uc_model.proofs.Sums.{sum_below-same}
 use Rattle.uc_model.proofs.Tests.{int_le-true, le-int_le, all_below-at, all_below-from}
-use Rattle.dual_model.specs.declared.node.Fix.{Fix}
 use Rattle.uc_model.specs.Terms.{period_count, term_at}
 use Rattle.dual_model.specs.UnitTerms.{AreSizedTerms, IsSized}
 use Rattle.dual_model.specs.PatternValue.{IsPattern, is_followed}
-use Rattle.dual_model.specs.Moves.{holds_initially, initial_limit, has_lasted, hour_cost}
+use Rattle.dual_model.specs.Moves.{Fix, holds_initially, initial_limit, has_lasted, hour_cost}
 use Rattle.dual_model.specs.CostToGo.{since_after}
 use Rattle.dual_model.proofs.Switches.{since}
 use Rattle.dual_model.proofs.Lasting.{enters, leaves, LeavesInTime, window-from_lasting, initial-from_lasting, lasting-from_windows}
@@ -108,10 +107,6 @@ up_from periods unit on some leave t within = (
 abbrev off_state : Commitment → Commitment
 off_state on t = not (on t)
 
-not-not : (b : Bool) → not (not b) ≡ b
-not-not true = refl
-not-not false = refl
-
 before-off : (unit : Thermal) (on : Commitment) (t : ℕ) → state_before (not unit.on0) (off_state on) t ≡ not (was_on unit on t)
 before-off unit on zero = refl
 before-off unit on (suc t) = refl
@@ -162,7 +157,7 @@ down_from periods unit on some leave t within = (
 
 -- ---- the terms of the cells
 -- the cell of an on period has a term exactly where its cap is at least 0
-sized-there : (c : ℤ) (term : Option ℤ) → IsSized c term → pos 0 ≤ℤ c → IsThere term
+pub sized-there : (c : ℤ) (term : Option ℤ) → IsSized c term → pos 0 ≤ℤ c → IsThere term
 sized-there c None size h = absurd (omega (arith, linear))
 sized-there c (Some m) size h = (m, refl)
 

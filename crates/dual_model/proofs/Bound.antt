@@ -11,12 +11,10 @@ use Rattle.uc_model.specs.declared.instance.Instance.{Instance}
 use Rattle.uc_model.proofs.Ring.{linear, scale-le-scale}
 use Rattle.uc_model.proofs.Tests.{int_le-true, int_eq-true}
 use Rattle.uc_model.proofs.Obeyed.{rule_at}
-use Rattle.dual_model.specs.Prices.{pi_at, mu_at, up_at, down_at, HasSizeOf, HasLawfulSigns}
-use Rattle.dual_model.specs.Fixings.{IsPatternAt}
+use Rattle.dual_model.specs.Prices.{Table, pi_at, mu_at, up_at, down_at, HasSizeOf, HasLawfulSigns}
+use Rattle.dual_model.specs.Fixings.{Node, IsPatternAt}
 use Rattle.dual_model.specs.UnitValue.{period_value, IsPatternValue}
 use Rattle.dual_model.specs.NodeValue.{constant_at, renewable_value, IsNodeValue}
-use Rattle.dual_model.specs.declared.node.Node.{Node}
-use Rattle.dual_model.specs.declared.table.Table.{Table}
 use Rattle.dual_model.proofs.Lagrange.{unit_priced, bound_priced}
 use Rattle.dual_model.proofs.Multipliers.{mu_at_nonneg, signed_at, up_at_past, down_at_past}
 use Rattle.dual_model.proofs.PricedRules.{period_priced, renewable_priced}

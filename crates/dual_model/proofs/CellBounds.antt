@@ -3,8 +3,7 @@
 -- the reserve that is left, and a point at or left of the cap with one right of it that together meet the cap.
 --
 -- Over plain functions of the point: f is its reduced cost, d how far it lies left of the cap.
-use Rattle.std.proofs.Common.{◌≡◌, ℕ, ◌<◌, true, false, cond, refl, sym, ap, subst, ◌∙◌, arith, ℤ, pos, ◌+ℤ◌, ◌-ℤ◌, ◌*ℤ◌, neg_ℤ, ◌≤ℤ◌, ◌<ℤ◌}
-use Rattle.std.specs.Prelude.{int_le}
+use Rattle.std.proofs.Common.{◌≡◌, ℕ, ◌<◌, true, false, cond, refl, sym, ap, subst, ◌∙◌, arith, ℤ, pos, ◌+ℤ◌, ◌-ℤ◌, ◌*ℤ◌, neg_ℤ, ◌≤ℤ◌, ◌<ℤ◌, int_le}
 use Rattle.std.proofs.lemmas.Int.{ints, by_lt_z}
 use Rattle.uc_model.specs.Sums.{sum_below}
 use Rattle.uc_model.proofs.Ring.{linear, spread, mul_comm, mul_assoc, mul_nonneg, sub_nonneg, mul-zero, zero-mul, mul-le-mul_left, mul-le-mul_turned, le_from_mul, pos_nonneg, mul-add, add-mul, neg-mul, one-mul, sub-mul}
@@ -24,20 +23,14 @@ left d w = cond (int_le (pos 0) d) w (pos 0)
 right : ℤ → ℤ → ℤ
 right d w = cond (int_le (pos 0) d) (pos 0) w
 
-not_left : (d : ℤ) → int_le (pos 0) d ≡ false → d <ℤ pos 0
-not_left d h = grind (arith, ints)
-
-is_left : (d : ℤ) → int_le (pos 0) d ≡ true → pos 0 ≤ℤ d
-is_left d h = grind (arith, ints)
-
 -- what holds of a point on either side
 sides : (d w : ℤ) (P : ℤ → ℤ → Type 0) → (pos 0 ≤ℤ d → P w (pos 0)) → (d <ℤ pos 0 → P (pos 0) w)
     → P (left d w) (right d w)
 unfolding left right
 sides d w P here there =
     elim (int_le (pos 0) d) as (λ v. (int_le (pos 0) d ≡ v) → P (cond v w (pos 0)) (cond v (pos 0) w)) [
-      | true ↦ λ h. here (is_left d h)
-      | false ↦ λ h. there (not_left d h)
+      | true ↦ λ h. here (grind (arith, ints))
+      | false ↦ λ h. there (grind (arith, ints))
     ] refl
 
 parted : (x d w : ℤ) → x *ℤ w ≡ x *ℤ left d w +ℤ x *ℤ right d w

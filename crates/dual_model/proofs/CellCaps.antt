@@ -1,10 +1,8 @@
 -- The caps of an allowed pattern's cells are those that the terms are of.
 -- Cite from a crate above by `use Rattle.dual_model.proofs.CellCaps.{cell_cap-cap}`.
-use Rattle.std.proofs.Common.{◌≡◌, ℕ, zero, suc, Bool, true, false, not, ◌&&◌, refl, sym, ap, ◌∙◌, arith, ℤ, pos, ◌-ℤ◌, ◌*ℤ◌, ◌≤ℤ◌}
-use Rattle.std.specs.Prelude.{◌==◌, nat_lt, if◌then◌else◌}
-use Rattle.std.specs.Int.{int_min, int_max}
+use Rattle.std.proofs.Common.{◌≡◌, ℕ, zero, suc, Bool, true, false, not, ◌&&◌, refl, sym, ap, ◌∙◌, arith, ℤ, pos, ◌-ℤ◌, ◌*ℤ◌, ◌≤ℤ◌, ◌==◌, nat_lt, ne_eqb, if◌then◌else◌}
+use Rattle.std.specs.Int.{int_min}
 use Rattle.std.proofs.lemmas.Int.{ints}
-use Rattle.std.proofs.lemmas.Bool.{ne_eqb}
 use Rattle.uc_model.specs.Sums.{bit}
 use Rattle.uc_model.specs.Commitment.{Commitment, starts, stops, start_reduction, stop_reduction, cap}
 use Rattle.uc_model.specs.declared.instance.Thermal.{Thermal}
@@ -15,9 +13,6 @@ use Rattle.dual_model.specs.PatternValue.{is_followed}
 
 min_of_more : (a b : ℤ) → a ≤ℤ b → int_min a b ≡ a
 min_of_more a b h = grind (arith, ints)
-
-max_nonneg : (a : ℤ) → pos 0 ≤ℤ int_max a (pos 0)
-max_nonneg a = grind (arith, ints)
 
 -- a start in the first period is one of a unit that is off initially
 start_counts : (unit : Thermal) (on : Commitment) (t : ℕ) → (starts unit on t && not (unit.on0 && (t == 0))) ≡ starts unit on t
@@ -57,8 +52,8 @@ cell_cap-cap periods unit on t e =
     (full -ℤ start_reduction unit *ℤ bit (start_counts unit on t i))
     (full -ℤ stop_reduction unit *ℤ bit (followed_counts (stops unit on (suc t)) (nat_lt (suc t) periods) i)))
     ∙ both_caps full (start_reduction unit *ℤ bit (starts unit on t)) (stop_reduction unit) (nat_lt (suc t) periods) (stops unit on (suc t))
-    (mul_nonneg (start_reduction unit) (bit (starts unit on t)) (max_nonneg (unit.pmax -ℤ unit.su)) (bit_nonneg (starts unit on t)))
-    (max_nonneg (unit.pmax -ℤ unit.sd))
+    (mul_nonneg (start_reduction unit) (bit (starts unit on t)) (grind (arith, ints)) (bit_nonneg (starts unit on t)))
+    (grind (arith, ints))
     ∙ (λ i. if nat_lt (suc t) periods
     then int_min (whole (sym full_is i) (starts unit on t)) (rest (sym full_is i) (stops unit on (suc t)))
     else whole (sym full_is i) (starts unit on t))

@@ -1,15 +1,12 @@
 -- Values of nodes by computing them.
-use Rattle.std.proofs.Common.{◌≡◌, length, subst, ℤ, Bool, ◌&&◌}
-use Rattle.std.specs.Prelude.{IsTrue, nat_lt, Some, None}
+use Rattle.std.proofs.Common.{◌≡◌, length, subst, ℤ, Bool, ◌&&◌, IsTrue, nat_lt, Some, None}
 use Rattle.std.proofs.lemmas.Bool.{and_parts, ltb-true}
 use Rattle.uc_model.specs.Sums.{all_below}
 use Rattle.uc_model.specs.Schedule.{thermal_unit, thermal_count}
 use Rattle.uc_model.specs.declared.instance.Instance.{Instance}
 use Rattle.uc_model.proofs.Tests.{all_below-at}
-use Rattle.dual_model.specs.Fixings.{HasEmptyUnit}
-use Rattle.dual_model.specs.NodeValue.{IsNodeValue}
-use Rattle.dual_model.specs.declared.node.Node.{Node}
-use Rattle.dual_model.specs.declared.table.Table.{Table}
+use Rattle.dual_model.specs.Fixings.{Node, HasEmptyUnit}
+use Rattle.dual_model.specs.NodeValue.{Table, IsNodeValue}
 use Rattle.dual_model.proofs.NodeValues.{HasPoints, IsNodeAnswer, node_value_of, node_value_is}
 
 -- what a value needs of the instance, as a test

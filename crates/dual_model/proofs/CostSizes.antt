@@ -1,21 +1,18 @@
 -- The costs of the walk are far below the ends of 128 bits.
-use Rattle.std.proofs.Common.{ℕ, zero, suc, ◌+◌, ◌*◌, ◌^◌, ◌<◌, ◌≤◌, Bool, true, false, arith, ℤ, pos, ◌*ℤ◌}
-use Rattle.std.specs.Prelude.{Option, Some, None, unsigned_abs, ◌==◌, if◌then◌else◌}
+use Rattle.std.proofs.Common.{ℕ, zero, suc, ◌+◌, ◌*◌, ◌^◌, ◌<◌, ◌≤◌, Bool, true, false, arith, ℤ, pos, ◌*ℤ◌, Option, Some, None, unsigned_abs, ◌==◌, if◌then◌else◌}
 use Rattle.std.proofs.lemmas.Int.{ints}
 use Rattle.std.proofs.lemmas.Bool.{cond_both}
 use Rattle.uc_model.specs.StartCategory.{sigma}
 use Rattle.uc_model.specs.Limits.{IsLawfulThermal}
-use Rattle.uc_model.specs.declared.limits.TheConstants.{MAX_COST, MAX_POWER}
+use Rattle.uc_model.specs.declared.limits.TheConstants.{MAX_COST, MAX_POWER, MAX_TERM}
 use Rattle.uc_model.specs.declared.instance.Thermal.{Thermal}
 use Rattle.uc_model.specs.declared.terms.Terms.{Terms}
-use Rattle.dual_model.specs.declared.node.Fix.{Fix}
 use Rattle.uc_model.proofs.Sizes.{abs_add, abs_sub, abs_mul, abs_min}
 use Rattle.uc_model.proofs.StartCosts.{sigma-size}
-use Rattle.uc_model.specs.declared.limits.TheConstants.{MAX_TERM}
 use Rattle.dual_model.specs.declared.limits.TheConstants.{MAX_UNIT_PRICE}
 use Rattle.uc_model.specs.Terms.{period_count, price_at}
 use Rattle.dual_model.specs.UnitTerms.{AreSizedTerms, IsSized}
-use Rattle.dual_model.specs.Moves.{stop_since, hour_cost, hour_before, move}
+use Rattle.dual_model.specs.Moves.{Fix, stop_since, hour_cost, hour_before, move}
 use Rattle.dual_model.specs.CostToGo.{total_of, lesser_of, end_cost, since_after, cost_to_go, IsWithin, MAX_MOVE, MAX_COST_TO_GO}
 
 -- ---- moves
@@ -54,12 +51,12 @@ move-size unit terms fix lawful sized t h false since true =
 move-size unit terms fix lawful sized t h false since false = only_where _ (Some (pos 0)) MAX_MOVE (omega arith)
 
 -- ---- the way to the end
-total_of-size : (a b : Option ℤ) (m n : ℕ) → IsWithin m a → IsWithin n b → IsWithin (m + n) (total_of a b)
+pub total_of-size : (a b : Option ℤ) (m n : ℕ) → IsWithin m a → IsWithin n b → IsWithin (m + n) (total_of a b)
 total_of-size None b m n h k = tt
 total_of-size (Some a) None m n h k = tt
 total_of-size (Some a) (Some b) m n h k = abs_add a b m n h k
 
-lesser_of-size : (a b : Option ℤ) (m : ℕ) → IsWithin m a → IsWithin m b → IsWithin m (lesser_of a b)
+pub lesser_of-size : (a b : Option ℤ) (m : ℕ) → IsWithin m a → IsWithin m b → IsWithin m (lesser_of a b)
 lesser_of-size None b m h k = k
 lesser_of-size (Some a) None m h k = h
 lesser_of-size (Some a) (Some b) m h k = abs_min a b m h k

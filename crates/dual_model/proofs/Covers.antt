@@ -1,6 +1,5 @@
 -- Covers: every schedule agrees with exactly one leaf, so what each leaf claims of its own schedules holds of all.
-use Rattle.std.proofs.Common.{◌≡◌, ℕ, ◌+◌, List, [], ◌∷◌, Bool, true, false, not, ◌&&◌, cond, refl, ap, subst, ◌∙◌, arith, ⊎_elim, ℤ, pos, ◌*ℤ◌, ◌≤ℤ◌, ◌<ℤ◌}
-use Rattle.std.specs.Prelude.{IsTrue, Option, Some, None, slice_get, All}
+use Rattle.std.proofs.Common.{◌≡◌, ℕ, ◌+◌, List, [], ◌∷◌, Bool, true, false, not, ◌&&◌, cond, refl, ap, subst, ◌∙◌, arith, ⊎_elim, ℤ, pos, ◌*ℤ◌, ◌≤ℤ◌, ◌<ℤ◌, IsTrue, Option, Some, None, slice_get, All}
 use Rattle.std.proofs.lemmas.Bool.{and_from, cases_Bool}
 use Rattle.std.proofs.lemmas.List.Folds.{list_all-append}
 use Rattle.std.proofs.lemmas.Option.{get_or_from_slice_get, slice_get_within}
@@ -10,15 +9,13 @@ use Rattle.uc_model.specs.Rules.{Obeys}
 use Rattle.uc_model.specs.Limits.{IsLawfulInstance}
 use Rattle.uc_model.specs.declared.instance.Instance.{Instance}
 use Rattle.uc_model.proofs.Ring.{linear, le_from_mul, mul-le-mul_right, mul_left_comm, mul_comm, scale-le-scale}
-use Rattle.dual_model.specs.Prices.{IsLawfulTable}
-use Rattle.dual_model.specs.Fixings.{keeps, agrees, HasEmptyUnit}
+use Rattle.dual_model.specs.Prices.{Table, IsLawfulTable}
+use Rattle.dual_model.specs.Fixings.{Node, keeps, agrees, HasEmptyUnit}
 use Rattle.dual_model.specs.Tree.{Tree, Ends, Splits, root, child, agreeing_leaves, EachLeaf}
 use Rattle.dual_model.specs.Cover.{Leaf, Bound, Ray, Empty, IsExcluded, LeafHolds, HasBoundOf, HasPositiveValue}
 use Rattle.dual_model.specs.Certificate.{ClaimHolds}
 use Rattle.dual_model.specs.Laws.{IsBoundTable, IsScheduleAt, LeavesPart, HasLawfulTable, CoversBound, CoversExclude, CertificatesClaimTruly, IsClaimTrue, AreTablesLawful}
 use Rattle.dual_model.specs.declared.node.Fixing.{Fixing}
-use Rattle.dual_model.specs.declared.node.Node.{Node}
-use Rattle.dual_model.specs.declared.table.Table.{Table}
 use Rattle.dual_model.proofs.NodeValues.{weak_duality, rays_exclude, not_empty}
 
 -- ---- the leaves part the schedules

@@ -1,6 +1,5 @@
 -- M7 by the greatest initial output.
-use Rattle.std.proofs.Common.{◌≡◌, Bool, true, false, not, ◌&&◌, refl, sym, subst, arith, ℤ, pos, ◌-ℤ◌, ◌*ℤ◌, ◌≤ℤ◌}
-use Rattle.std.specs.Prelude.{IsTrue, int_le, if◌then◌else◌}
+use Rattle.std.proofs.Common.{◌≡◌, Bool, true, false, not, ◌&&◌, refl, sym, subst, arith, ℤ, pos, ◌-ℤ◌, ◌*ℤ◌, ◌≤ℤ◌, IsTrue, int_le, if◌then◌else◌}
 use Rattle.std.specs.Int.{int_min, int_max}
 use Rattle.std.proofs.lemmas.Int.{ints, clamps}
 use Rattle.uc_model.specs.Sums.{bit}
@@ -10,42 +9,28 @@ use Rattle.uc_model.proofs.Ring.{linear, mul-one, mul-zero, one-mul, zero-mul}
 use Rattle.uc_model.proofs.Tests.{int_le-true, le-int_le}
 use Rattle.dual_model.specs.Moves.{initial_limit}
 
+limit_at : (pmin pmax sd : ℤ) (now : Bool) → (bit true *ℤ (pmax -ℤ pmin) -ℤ int_max (pmax -ℤ sd) (pos 0) *ℤ bit (not now))
+    ≡ (if now then pmax else int_min pmax sd) -ℤ pmin
+limit_at pmin pmax sd true =
+    let whole = one-mul (pmax -ℤ pmin) in
+    let none = mul-zero (int_max (pmax -ℤ sd) (pos 0)) in
+    omega (arith, linear)
+limit_at pmin pmax sd false =
+    let whole = one-mul (pmax -ℤ pmin) in
+    let all = mul-one (int_max (pmax -ℤ sd) (pos 0)) in
+    omega (arith, ints, clamps)
+
 limit_from : (p0 pmin pmax sd : ℤ) (first now : Bool) → first ≡ true
     → (bit first *ℤ (p0 -ℤ pmin)) ≤ℤ (bit first *ℤ (pmax -ℤ pmin) -ℤ int_max (pmax -ℤ sd) (pos 0) *ℤ bit (first && not now))
     → p0 ≤ℤ (if now then pmax else int_min pmax sd)
-limit_from p0 pmin pmax sd true true e h =
-    let a = one-mul (p0 -ℤ pmin) in
-    let b = one-mul (pmax -ℤ pmin) in
-    let c = mul-zero (int_max (pmax -ℤ sd) (pos 0)) in
-    omega (arith, linear)
-limit_from p0 pmin pmax sd true false e h =
-    let a = one-mul (p0 -ℤ pmin) in
-    let b = one-mul (pmax -ℤ pmin) in
-    let c = mul-one (int_max (pmax -ℤ sd) (pos 0)) in
-    let sum : (p0 -ℤ pmin) ≤ℤ ((pmax -ℤ pmin) -ℤ int_max (pmax -ℤ sd) (pos 0)) = omega (arith, linear) in
-    omega (arith, ints, clamps)
+limit_from p0 pmin pmax sd true now e h = omega (arith, linear, one-mul (p0 -ℤ pmin), limit_at pmin pmax sd now)
 limit_from p0 pmin pmax sd false now e h = cc
 
 limit_to : (p0 pmin pmax sd : ℤ) (first now : Bool) → (first ≡ true → p0 ≤ℤ (if now then pmax else int_min pmax sd))
     → (bit first *ℤ (p0 -ℤ pmin)) ≤ℤ (bit first *ℤ (pmax -ℤ pmin) -ℤ int_max (pmax -ℤ sd) (pos 0) *ℤ bit (first && not now))
-limit_to p0 pmin pmax sd true true h =
-    let at = h refl in
-    let a = one-mul (p0 -ℤ pmin) in
-    let b = one-mul (pmax -ℤ pmin) in
-    let c = mul-zero (int_max (pmax -ℤ sd) (pos 0)) in
-    omega (arith, linear)
-limit_to p0 pmin pmax sd true false h =
-    let at = h refl in
-    let a = one-mul (p0 -ℤ pmin) in
-    let b = one-mul (pmax -ℤ pmin) in
-    let c = mul-one (int_max (pmax -ℤ sd) (pos 0)) in
-    let sum : (p0 -ℤ pmin) ≤ℤ ((pmax -ℤ pmin) -ℤ int_max (pmax -ℤ sd) (pos 0)) = omega (arith, ints, clamps) in
-    omega (arith, linear)
+limit_to p0 pmin pmax sd true now h = omega (arith, linear, h refl, one-mul (p0 -ℤ pmin), limit_at pmin pmax sd now)
 limit_to p0 pmin pmax sd false now h =
-    let a = zero-mul (p0 -ℤ pmin) in
-    let b = zero-mul (pmax -ℤ pmin) in
-    let c = mul-zero (int_max (pmax -ℤ sd) (pos 0)) in
-    omega (arith, linear)
+    omega (arith, linear, zero-mul (p0 -ℤ pmin), zero-mul (pmax -ℤ pmin), mul-zero (int_max (pmax -ℤ sd) (pos 0)))
 
 limit_is : (unit : Thermal) (now : Bool) → (if now then unit.pmax else int_min unit.pmax unit.sd) ≡ initial_limit unit (not now)
 limit_is unit true = refl

@@ -1,6 +1,5 @@
 -- What the walk's recursion gives is the least value of a pattern, or that there is none.
-use Rattle.std.proofs.Common.{◌≡◌, sym, ◌∙◌, arith, ℤ}
-use Rattle.std.specs.Prelude.{Option, Some, None}
+use Rattle.std.proofs.Common.{◌≡◌, sym, ◌∙◌, arith, ℤ, Option, Some, None}
 use Rattle.uc_model.specs.Commitment.{Commitment}
 use Rattle.uc_model.specs.Limits.{IsLawfulThermal}
 use Rattle.uc_model.specs.declared.instance.Thermal.{Thermal}

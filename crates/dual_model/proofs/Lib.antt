@@ -22,3 +22,4 @@ pub mod Ways
 pub mod InitialLimits
 pub mod Allowed
 pub mod LeastValues
+pub mod Hourly

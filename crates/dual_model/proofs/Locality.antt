@@ -1,9 +1,7 @@
 -- A unit's rules and costs depend on its commitment in the periods of the instance alone.
-use Rattle.std.proofs.Common.{◌≡◌, ℕ, zero, suc, ◌+◌, ◌-◌, ◌<◌, ◌≤◌, Bool, true, false, not, ◌&&◌, ◌||◌, cond, refl, ap, arith, List, [], ◌∷◌, pos, ◌-ℤ◌, ◌*ℤ◌}
-use Rattle.std.specs.Prelude.{nat_lt, nat_le, int_le, min, max, Some, ◌==◌}
+use Rattle.std.proofs.Common.{◌≡◌, ℕ, zero, suc, ◌+◌, ◌-◌, ◌<◌, ◌≤◌, Bool, true, false, not, ◌&&◌, ◌||◌, cond, refl, ap, arith, List, [], ◌∷◌, pos, ◌-ℤ◌, ◌*ℤ◌, nat_lt, nat_le, int_le, min, max, Some, ◌==◌, ltb-true, ltb-false}
 use Rattle.std.specs.List.{list_all}
 use Rattle.std.specs.Int.{int_min}
-use Rattle.std.proofs.lemmas.Bool.{ltb-true, ltb-false}
 use Rattle.uc_model.specs.Sums.{sum_below, all_below, any_below, bit}
 use Rattle.uc_model.specs.Commitment.{Commitment, was_on, starts, stops, keeps_minimum_at, start_cap, stop_cap, cap, is_allowed_at, is_allowed, initial_stop_holds, stop_reduction, start_reduction}
 use Rattle.uc_model.specs.StartCategory.{last_stop, sigma, category_lag, category_count, is_barred, is_category_allowed}
@@ -25,7 +23,7 @@ or_same : (b x y : Bool) → (b ≡ false → x ≡ y) → (b || x) ≡ (b || y)
 or_same true x y h = refl
 or_same false x y h = h refl
 
-all_below-same : (n : ℕ) (f g : ℕ → Bool) → ((k : ℕ) → k < n → f k ≡ g k) → all_below n f ≡ all_below n g
+pub all_below-same : (n : ℕ) (f g : ℕ → Bool) → ((k : ℕ) → k < n → f k ≡ g k) → all_below n f ≡ all_below n g
 all_below-same zero f g e = refl
 all_below-same (suc n) f g e = λ i. e n (omega arith) i && all_below-same n f g (λ k h. e k (omega arith)) i
 

@@ -1,22 +1,17 @@
 -- The look-ups of a table: its multipliers keep the signs of its lists, and are 0 past the last period.
-use Rattle.std.proofs.Common.{◌≡◌, ℕ, suc, ◌<◌, ◌≤◌, List, [], ◌∷◌, length, refl, sym, ap, subst, arith, ⊎_elim, ◌⊎◌, ℤ, pos, ◌≤ℤ◌, ◌&&◌, ◌==◌}
-use Rattle.std.specs.Prelude.{All, slice_index_or}
+use Rattle.std.proofs.Common.{◌≡◌, ℕ, suc, ◌<◌, ◌≤◌, List, [], ◌∷◌, length, refl, sym, ap, subst, arith, ⊎_elim, ◌⊎◌, ℤ, pos, ◌≤ℤ◌, ◌&&◌, ◌==◌, All, slice_index_or}
 use Rattle.std.proofs.lemmas.Bool.{and_parts, cond_both, eqb-true}
 use Rattle.std.proofs.lemmas.List.{get_or_past}
 use Rattle.uc_model.proofs.Ring.{le_refl}
-use Rattle.dual_model.specs.Prices.{mu_at, up_at, down_at, row_of, IsRowSigned, IsRowWithin, HasLawfulSigns}
-use Rattle.dual_model.specs.declared.table.Table.{Table}
+use Rattle.dual_model.specs.Prices.{Table, mu_at, up_at, down_at, row_of, IsRowSigned, IsRowWithin, HasLawfulSigns}
 use Rattle.dual_model.specs.declared.table.RampRow.{RampRow}
-
-below_or_past : (k n : ℕ) → (k < n) ⊎ (n ≤ k)
-below_or_past k n = grind arith
 
 -- what holds of each element and of the default holds of each look-up
 pub look_up : (P : ℤ → Type 0) (xs : List ℤ) (d : ℤ) (k : ℕ) → All P xs → P d → P (slice_index_or xs k d)
 look_up P xs d k each other = ⊎_elim
     (λ (within : k < length xs). each k d within)
     (λ (past : length xs ≤ k). subst P (sym (get_or_past xs k d past)) other)
-    (below_or_past k (length xs))
+    (grind arith)
 
 pub mu_at_nonneg : (table : Table) → HasLawfulSigns table → (t : ℕ) → pos 0 ≤ℤ mu_at table t
 mu_at_nonneg table signs t = look_up (λ n. pos 0 ≤ℤ n) table.mu (pos 0) t signs.mu (le_refl (pos 0))
@@ -35,9 +30,6 @@ pub signed_at : (table : Table) → HasLawfulSigns table → (g t : ℕ) → IsR
 signed_at table signs g t =
     row_of_each IsRowSigned table.ramps g t signs.ramps (record { up = le_refl (pos 0); down = le_refl (pos 0) })
 
-not_within : (s t periods : ℕ) → s < periods → s ≡ t → periods ≤ t → ⊥
-not_within s t periods inside same past = omega arith
-
 -- there is no row past the last period
 absent : (units periods : ℕ) (rows : List RampRow) (g t : ℕ)
     → ((k : ℕ) (d : RampRow) → k < length rows → IsRowWithin units periods (slice_index_or rows k d))
@@ -47,8 +39,7 @@ absent units periods (row ∷ rows) g t each past =
     let none : RampRow = record { g = g; t = t; up = pos 0; down = pos 0 } in
     cond_both ((row.g == g) && (row.t == t)) row (row_of rows g t) (λ r. r ≡ none)
     (λ here.
-    absurd (not_within row.t t periods (each 0 row (omega arith)).period (eqb-true row.t t (and_parts _ _ here).1)
-    past))
+    absurd (omega (arith, (each 0 row (omega arith)).period, eqb-true row.t t (and_parts _ _ here).1)))
     (λ later. absent units periods rows g t (λ k d l. each (suc k) d (omega arith)) past)
 
 pub up_at_past : (table : Table) (units periods g t : ℕ) → All (IsRowWithin units periods) table.ramps

@@ -1,7 +1,6 @@
 -- The value of a node: it is unique, it exists where each unit has a pattern, it bounds the cost of each of the node's
 -- schedules, and a child's is at least its parent's.
-use Rattle.std.proofs.Common.{◌≡◌, ℕ, zero, suc, ◌<◌, ◌≤◌, ◌⊎◌, inl, inr, [], ◌∷◌, length, Bool, refl, sym, ap, subst, ◌∙◌, arith, ⊎_elim, ℤ, pos, ◌+ℤ◌, ◌*ℤ◌, ◌≤ℤ◌}
-use Rattle.std.specs.Prelude.{IsTrue, Option, Some, None, option_map, unwrap_or}
+use Rattle.std.proofs.Common.{◌≡◌, ℕ, zero, suc, ◌<◌, ◌≤◌, ◌⊎◌, inl, inr, [], ◌∷◌, length, Bool, refl, sym, ap, subst, ◌∙◌, arith, ⊎_elim, ℤ, pos, ◌+ℤ◌, ◌*ℤ◌, ◌≤ℤ◌, IsTrue, Option, Some, None, option_map, unwrap_or}
 use Rattle.std.proofs.lemmas.Bool.{and_parts}
 use Rattle.std.proofs.lemmas.List.Folds.{list_all-append}
 use Rattle.uc_model.specs.Sums.{sum_below}
@@ -12,13 +11,11 @@ use Rattle.uc_model.specs.Limits.{IsLawfulInstance}
 use Rattle.uc_model.specs.declared.instance.Instance.{Instance}
 use Rattle.uc_model.proofs.Ring.{linear, le_antisymm, zero-mul, mul-lt-mul_left, mul-zero}
 use Rattle.uc_model.proofs.Sums.{sum_below-same, sum_below-le}
-use Rattle.dual_model.specs.Fixings.{keeps_of, unit_agrees, HasEmptyUnit}
+use Rattle.dual_model.specs.Fixings.{Node, keeps_of, unit_agrees, HasEmptyUnit}
 use Rattle.dual_model.specs.UnitValue.{IsUnitValue}
-use Rattle.dual_model.specs.NodeValue.{constant_at, unit_part, system_value, renewables_value, IsNodeValue}
+use Rattle.dual_model.specs.NodeValue.{Table, constant_at, unit_part, system_value, renewables_value, IsNodeValue}
 use Rattle.dual_model.specs.Tree.{child}
 use Rattle.dual_model.specs.Laws.{IsScheduleAt, WeakDuality, RaysExclude, ValuesAreUnique, ValuesExist, ValuesExistAtSchedules, ChildBound}
-use Rattle.dual_model.specs.declared.node.Node.{Node}
-use Rattle.dual_model.specs.declared.table.Table.{Table}
 use Rattle.dual_model.proofs.Agreement.{pattern-obeying}
 use Rattle.dual_model.proofs.Bound.{bound_from}
 use Rattle.dual_model.proofs.UnitValues.{unit_value_of, IsUnitAnswer, unit_value_is, allowed_value}
@@ -82,9 +79,6 @@ abbrev AreUnitsAnswer : Instance → Node → Table → ℕ → Option ℤ → T
 AreUnitsAnswer instance node table n None = HasEmptyUnit instance node
 AreUnitsAnswer instance node table n (Some s) = HaveValues instance node table n s
 
-below_or_last : (g n : ℕ) → g < suc n → (g < n) ⊎ (n ≡ g)
-below_or_last g n l = grind arith
-
 one_more : (instance : Instance) (node : Node) (table : Table) (n : ℕ) → n < thermal_count instance
     → (before own : Option ℤ)
     → AreUnitsAnswer instance node table n before → IsUnitAnswer instance node table n own
@@ -101,7 +95,7 @@ one_more instance node table n within (Some s) (Some v) values value same =
           (λ (last : n ≡ g).
           subst (λ k. IsUnitValue instance node table k (unit_value_or_zero instance node table k)) last
           (subst (λ z. IsUnitValue instance node table n z) (sym is_own) value))
-          (below_or_last g n l);
+          (grind arith);
       total = λ i. values.total i +ℤ unit_part instance table n (sym is_own i);
     }
 

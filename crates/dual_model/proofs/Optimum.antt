@@ -1,6 +1,5 @@
 -- The recursion of the walk gives the least cost of a way: one that each commitment reaches at least, and that one attains.
-use Rattle.std.proofs.Common.{◌≡◌, ℕ, zero, suc, ◌≤◌, ◌⊎◌, inl, inr, ⊎_elim, Bool, true, false, refl, sym, ap, ◌∙◌, arith, ℤ, ◌+ℤ◌, ◌≤ℤ◌}
-use Rattle.std.specs.Prelude.{Option, Some, None, ◌==◌, if◌then◌else◌}
+use Rattle.std.proofs.Common.{◌≡◌, ℕ, zero, suc, ◌≤◌, ◌⊎◌, inl, inr, ⊎_elim, Bool, true, false, refl, sym, ap, ◌∙◌, arith, ℤ, ◌+ℤ◌, ◌≤ℤ◌, Option, Some, None, ◌==◌, if◌then◌else◌}
 use Rattle.std.specs.Int.{int_min}
 use Rattle.std.proofs.lemmas.Int.{ints}
 use Rattle.std.proofs.lemmas.Bool.{cond_both, cond-true, cond-false, eq-eqb, ne_eqb}
@@ -8,8 +7,7 @@ use Rattle.uc_model.specs.Commitment.{Commitment}
 use Rattle.uc_model.specs.declared.instance.Thermal.{Thermal}
 use Rattle.uc_model.specs.declared.terms.Terms.{Terms}
 use Rattle.uc_model.proofs.Ring.{linear}
-use Rattle.dual_model.specs.declared.node.Fix.{Fix}
-use Rattle.dual_model.specs.Moves.{move}
+use Rattle.dual_model.specs.Moves.{Fix, move}
 use Rattle.dual_model.specs.CostToGo.{total_of, lesser_of, end_cost, since_after, cost_to_go}
 
 -- the cost of the way that a commitment takes from a state before period t, with n periods left
@@ -37,18 +35,12 @@ pub record AtMost (a : Option ℤ) (v : ℤ) : Type 0 where
   pub is : a ≡ Some cost
   pub below : cost ≤ℤ v
 
-min_left : (a b : ℤ) → int_min a b ≤ℤ a
-min_left a b = grind (arith, ints)
-
-min_right : (a b : ℤ) → int_min a b ≤ℤ b
-min_right a b = grind (arith, ints)
-
 lesser_left : (a b : Option ℤ) (v : ℤ) → AtMost a v → AtMost (lesser_of a b) v
 lesser_left None b v h = absurd (let e = h.is in cc)
 lesser_left (Some a) None v h = h
 lesser_left (Some a) (Some b) v h =
     let same : a ≡ h.cost = (let e = h.is in cc) in
-    let le = min_left a b in
+    let le : int_min a b ≤ℤ a = grind (arith, ints) in
     let below = h.below in
     record { cost = int_min a b; is = refl; below = omega (arith, linear) }
 
@@ -57,7 +49,7 @@ lesser_right None b v h = h
 lesser_right (Some a) None v h = absurd (let e = h.is in cc)
 lesser_right (Some a) (Some b) v h =
     let same : b ≡ h.cost = (let e = h.is in cc) in
-    let le = min_right a b in
+    let le : int_min a b ≤ℤ b = grind (arith, ints) in
     let below = h.below in
     record { cost = int_min a b; is = refl; below = omega (arith, linear) }
 

@@ -1,6 +1,5 @@
 -- Of finitely many patterns that pass a test one has the least value, or none passes.
-use Rattle.std.proofs.Common.{◌≡◌, ℕ, zero, suc, ◌<◌, ◌⊎◌, Bool, true, false, ◌==◌, sym, ap, ◌∙◌, arith, ⊎_elim, ℤ, ◌≤ℤ◌, eq-eqb}
-use Rattle.std.specs.Prelude.{IsTrue, int_le, if◌then◌else◌, Option, Some, None}
+use Rattle.std.proofs.Common.{◌≡◌, ℕ, zero, suc, ◌<◌, ◌⊎◌, Bool, true, false, ◌==◌, sym, ap, ◌∙◌, arith, ⊎_elim, ℤ, ◌≤ℤ◌, eq-eqb, IsTrue, int_le, Option, Some, None, if◌then◌else◌}
 use Rattle.std.proofs.lemmas.Int.{ints}
 use Rattle.std.proofs.lemmas.Bool.{cases_Bool, true≢false, cond_both, cond-true, cond-false, eqb-true}
 use Rattle.uc_model.specs.Commitment.{Commitment}
@@ -25,14 +24,11 @@ pub record PassesNone (test : Commitment → Bool) : Type 0 where
 abbrev pub with_bit : ℕ → Bool → Commitment → Commitment
 with_bit n b on t = if t == n then b else on t
 
-below_or_last : (t n : ℕ) → t < suc n → (t < n) ⊎ (t ≡ n)
-below_or_last t n l = grind arith
-
 below : (t n : ℕ) → t < suc n → (t == n) ≡ false → t < n
 below t n l apart = ⊎_elim
     (λ (less : t < n). less)
     (λ (same : t ≡ n). absurd (true≢false (sym (eq-eqb t n same) ∙ apart)))
-    (below_or_last t n l)
+    (grind arith)
 
 with_bit-same : (n : ℕ) (b : Bool) (on other : Commitment) → SameBelow n on other
     → SameBelow (suc n) (with_bit n b on) (with_bit n b other)
@@ -147,12 +143,9 @@ better_is n test value h (Some first) (Some second) left right =
     (λ more. record {
       passes = right.passes;
       least = λ other passes. by_bit (other n)
-          (λ own. le_trans _ _ _ (turned _ _ more) (below_half n test value true first other h left own passes))
+          (λ own. le_trans _ _ _ (grind (arith, ints)) (below_half n test value true first other h left own passes))
           (λ own. below_half n test value false second other h right own passes);
     })
-  where
-    turned : (a b : ℤ) → int_le a b ≡ false → b ≤ℤ a
-    turned a b e = grind (arith, ints)
 
 pub best_pattern_is : (n : ℕ) (test : Commitment → Bool) (value : Commitment → ℤ) → IsLocal n test value
     → IsBestOf test value (best_pattern n test value)

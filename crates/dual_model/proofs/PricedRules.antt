@@ -1,7 +1,6 @@
 -- What the rules give at their prices, for a schedule that obeys: each unit's periods are `Priced`, and the whole is
 -- `Balanced`.
-use Rattle.std.proofs.Common.{◌≡◌, ℕ, suc, ◌<◌, true, false, not, ◌&&◌, cond, sym, ap, ◌∙◌, arith, ⊎_elim, ℤ, pos, ◌+ℤ◌, ◌-ℤ◌, ◌*ℤ◌, neg_ℤ, ◌≤ℤ◌}
-use Rattle.std.specs.Prelude.{IsTrue, nat_lt, int_lt, int_le}
+use Rattle.std.proofs.Common.{◌≡◌, ℕ, suc, ◌<◌, false, not, ◌&&◌, cond, sym, ap, ◌∙◌, arith, ⊎_elim, ℤ, pos, ◌+ℤ◌, ◌-ℤ◌, ◌*ℤ◌, neg_ℤ, ◌≤ℤ◌, IsTrue, nat_lt, int_lt, int_le}
 use Rattle.std.specs.Int.{int_min, int_max}
 use Rattle.std.proofs.lemmas.Int.{ints}
 use Rattle.std.proofs.lemmas.Bool.{and_parts, or_cases, cases_Bool, cond_both, cond-true, cond-false, not_from_true, true≢false, eqb-true}
@@ -18,11 +17,10 @@ use Rattle.uc_model.proofs.Sums.{sum_below-zero, term-le-sum_below}
 use Rattle.uc_model.proofs.Tests.{int_le-true}
 use Rattle.uc_model.proofs.Obeyed.{rule_at, Produces, production_parts}
 use Rattle.uc_model.proofs.StartCosts.{sigma-le-allowed}
-use Rattle.dual_model.specs.Prices.{pi_at}
+use Rattle.dual_model.specs.Prices.{Table, pi_at}
 use Rattle.dual_model.specs.Term.{IsCellBound, output_price, reserve_price}
 use Rattle.dual_model.specs.UnitValue.{period_value}
 use Rattle.dual_model.specs.NodeValue.{renewable_value}
-use Rattle.dual_model.specs.declared.table.Table.{Table}
 
 -- ---- start costs
 -- K times the least start cost of a start is at most that of its category, and a cell without a start has none
@@ -136,23 +134,18 @@ period_priced instance q x table g t term obeys hg ht sign bound =
     (cases_Bool (row.on t))
 
 -- ---- a renewable cell
-not_positive : (a : ℤ) → int_lt (pos 0) a ≡ false → a ≤ℤ pos 0
-not_positive a h = grind (arith, ints)
-
-positive : (a : ℤ) → int_lt (pos 0) a ≡ true → pos 0 ≤ℤ a
-positive a h = grind (arith, ints)
 
 renewable_bounds : (q pi low high output : ℤ) → (q *ℤ low) ≤ℤ output → output ≤ℤ (q *ℤ high)
     → (q *ℤ cond (int_lt (pos 0) pi) (neg_ℤ (pi *ℤ high)) (neg_ℤ (pi *ℤ low))) ≤ℤ neg_ℤ (pi *ℤ output)
 renewable_bounds q pi low high output above below =
     cond_both (int_lt (pos 0) pi) (neg_ℤ (pi *ℤ high)) (neg_ℤ (pi *ℤ low)) (λ v. (q *ℤ v) ≤ℤ neg_ℤ (pi *ℤ output))
     (λ up.
-    let most = mul-le-mul_left pi _ _ (positive pi up) below in
+    let most = mul-le-mul_left pi _ _ (grind (arith, ints)) below in
     let order = mul_left_comm pi q high in
     let turned = mul-neg q (pi *ℤ high) in
     omega (arith, linear))
     (λ down.
-    let least = mul-le-mul_turned pi _ _ (not_positive pi down) above in
+    let least = mul-le-mul_turned pi _ _ (grind (arith, ints)) above in
     let order = mul_left_comm pi q low in
     let turned = mul-neg q (pi *ℤ low) in
     omega (arith, linear))

@@ -1,10 +1,8 @@
 -- The least value by a unit's terms is the unit's value at the table that the terms are of.
-use Rattle.std.proofs.Common.{◌≡◌, ℕ, ◌<◌, ⊎_elim, Bool, true, false, not, ◌||◌, refl, sym, ap, subst, ◌∙◌, arith, ℤ, pos, ◌+ℤ◌, ◌-ℤ◌, ◌*ℤ◌, ◌≤ℤ◌}
-use Rattle.std.specs.Prelude.{IsTrue, Option, Some, None, unwrap_or, int_le, List, if◌then◌else◌}
-use Rattle.std.proofs.lemmas.Bool.{and_parts, or_cases, true≢false, not-true}
+use Rattle.std.proofs.Common.{◌≡◌, ℕ, ◌<◌, Bool, true, false, refl, sym, ap, subst, ◌∙◌, arith, ℤ, pos, ◌+ℤ◌, ◌-ℤ◌, ◌*ℤ◌, ◌≤ℤ◌, IsTrue, Option, Some, None, unwrap_or, List, if◌then◌else◌}
+use Rattle.std.proofs.lemmas.Bool.{true≢false}
 use Rattle.uc_model.specs.Sums.{sum_below}
-use Rattle.uc_model.specs.Commitment.{Commitment, starts, cap, is_allowed, is_allowed_at, initial_stop_holds}
-use Rattle.uc_model.specs.Sums.{all_below}
+use Rattle.uc_model.specs.Commitment.{Commitment, starts, cap, is_allowed}
 use Rattle.uc_model.specs.StartCategory.{last_stop, sigma}
 use Rattle.uc_model.specs.Schedule.{thermal_unit}
 use Rattle.uc_model.specs.declared.instance.Thermal.{Thermal}
@@ -13,15 +11,12 @@ use Rattle.uc_model.specs.declared.instance.Point.{Point}
 use Rattle.uc_model.specs.declared.terms.Terms.{Terms}
 use Rattle.uc_model.proofs.Ring.{linear}
 use Rattle.uc_model.proofs.Sums.{sum_below-same}
-use Rattle.uc_model.proofs.Tests.{int_le-true, all_below-at}
-use Rattle.dual_model.specs.Prices.{pi_at}
-use Rattle.dual_model.specs.Fixings.{IsPatternAt, IsFixOf, HasNoPattern}
+use Rattle.dual_model.specs.Prices.{Table, pi_at}
+use Rattle.dual_model.specs.Fixings.{Node, IsPatternAt, IsFixOf, HasNoPattern}
 use Rattle.dual_model.specs.Term.{IsTerm, IsTermAt, output_price, reserve_price}
 use Rattle.dual_model.specs.UnitValue.{IsPatternValue, IsUnitValue, period_value}
 use Rattle.dual_model.specs.declared.node.Fix.{Fix}
-use Rattle.dual_model.specs.declared.node.Node.{Node}
-use Rattle.dual_model.specs.declared.table.Table.{Table}
-use Rattle.dual_model.proofs.UnitValues.{term_unique}
+use Rattle.dual_model.proofs.UnitValues.{term_unique, cap-allowed}
 use Rattle.uc_model.specs.Terms.{term_at, price_at}
 use Rattle.dual_model.specs.PatternValue.{IsPattern, IsLeastValue, is_followed, term_of, pattern_value}
 use Rattle.dual_model.specs.PatternValue as by_terms
@@ -38,17 +33,6 @@ from_node : (instance : Instance) (node : Node) (g : ℕ) (fix : Fix) → IsFixO
 from_node instance node g fix same on p = record { allowed = p.allowed; agrees = sym (same.same on) ∙ p.agrees }
 
 -- ---- terms
--- each on cell of an allowed pattern has a cap of at least 0
-cap-allowed : (periods : ℕ) (unit : Thermal) (on : Commitment) → IsTrue (is_allowed periods unit on) → (t : ℕ) → t < periods → IsTrue (on t)
-    → pos 0 ≤ℤ cap periods unit on t
-cap-allowed periods unit on allowed t within here =
-    let parts = and_parts (initial_stop_holds unit on) (all_below periods (is_allowed_at periods unit on)) allowed in
-    let last = and_parts _ (not (on t) || int_le (pos 0) (cap periods unit on t)) (all_below-at periods (is_allowed_at periods unit on) parts.1 t within) in
-    ⊎_elim
-    (λ (off : IsTrue (not (on t))). absurd (true≢false (sym here ∙ not-true (on t) off)))
-    (λ (le : IsTrue (int_le (pos 0) (cap periods unit on t))). int_le-true _ _ le)
-    (or_cases (not (on t)) (int_le (pos 0) (cap periods unit on t)) last.1)
-
 cell_term-at : (points : List Point) (k a b c : ℤ) (term : Option ℤ) → IsCellTerm points k a b c term → pos 0 ≤ℤ c
     → IsTerm points k a b c (unwrap_or term (pos 0))
 cell_term-at points k a b c None is h = absurd (omega (arith, linear))

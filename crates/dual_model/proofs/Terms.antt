@@ -1,7 +1,6 @@
 -- The term of a cell exists where its cap is at least 0: a number bounds a cell exactly where it bounds the corners,
 -- and the greatest one that does is the least of the corners' costs, rounded down.
-use Rattle.std.proofs.Common.{◌≡◌, ℕ, zero, suc, ◌+◌, ◌<◌, ◌≢◌, List, length, Bool, false, ◌==◌, refl, sym, ap, subst, ◌∙◌, arith, ⊎_elim, ℤ, pos, ◌+ℤ◌, ◌-ℤ◌, ◌*ℤ◌, neg_ℤ, ◌≤ℤ◌, ◌<ℤ◌, eq-eqb}
-use Rattle.std.specs.Prelude.{IsTrue, int_le, int_lt, if◌then◌else◌}
+use Rattle.std.proofs.Common.{◌≡◌, ℕ, zero, suc, ◌+◌, ◌<◌, ◌≢◌, List, length, Bool, false, ◌==◌, refl, sym, ap, subst, ◌∙◌, arith, ⊎_elim, ℤ, pos, ◌+ℤ◌, ◌-ℤ◌, ◌*ℤ◌, neg_ℤ, ◌≤ℤ◌, ◌<ℤ◌, eq-eqb, IsTrue, int_le, int_lt, if◌then◌else◌}
 use Rattle.std.specs.Int.{int_min, int_div_euclid}
 use Rattle.std.proofs.lemmas.Int.{ints}
 use Rattle.std.proofs.lemmas.Bool.{cases_Bool, cond_both, cond-true, cond-false, eqb-true}
@@ -28,15 +27,6 @@ corner_least n f d b l = int_min (pair_least n f d l) (f l +ℤ b *ℤ d l)
 unfoldable pub greatest_bound : ℕ → (ℕ → ℤ) → (ℕ → ℤ) → ℤ → ℤ
 greatest_bound n f d b = least_below n (λ l. int_le (pos 0) (d l)) (corner_least n f d b) (f 0)
 
-min_left : (a b : ℤ) → int_min a b ≤ℤ a
-min_left a b = grind (arith, ints)
-
-min_right : (a b : ℤ) → int_min a b ≤ℤ b
-min_right a b = grind (arith, ints)
-
-above_min : (k a b : ℤ) → k ≤ℤ a → k ≤ℤ b → k ≤ℤ int_min a b
-above_min k a b h l = grind (arith, ints)
-
 -- a number at most each value is at most the least of them
 le-least_below : (n : ℕ) (test : ℕ → Bool) (f : ℕ → ℤ) (other k : ℤ) → k ≤ℤ other
     → ((i : ℕ) → i < n → IsTrue (test i) → k ≤ℤ f i) → k ≤ℤ least_below n test f other
@@ -44,7 +34,7 @@ le-least_below zero test f other k last each = last
 le-least_below (suc n) test f other k last each =
     let rest = le-least_below n test f other k last (λ i l. each i (omega arith)) in
     cond_both (test n) (int_min (f n) (least_below n test f other)) (least_below n test f other) (λ z. k ≤ℤ z)
-    (λ here. above_min k (f n) (least_below n test f other) (each n (omega arith) here) rest)
+    (λ here. grind (arith, ints, each n (omega arith) here))
     (λ away. rest)
 
 greatest-le-corner : (n : ℕ) (f d : ℕ → ℤ) (b : ℤ) (l : ℕ) → l < n → pos 0 ≤ℤ d l
@@ -58,12 +48,12 @@ unfolding corner_least pair_least
 bounds_corners n f d b = record {
   point = λ l hl near.
       le_trans _ _ _ (greatest-le-corner n f d b l hl near)
-      (le_trans _ _ _ (min_left _ _) (least_below-le-other n (λ j. int_lt (d j) (pos 0)) (pair_cost l) (f l)));
-  reserve = λ l hl near. le_trans _ _ _ (greatest-le-corner n f d b l hl near) (min_right _ _);
+      (le_trans _ _ _ (grind (arith, ints)) (least_below-le-other n (λ j. int_lt (d j) (pos 0)) (pair_cost l) (f l)));
+  reserve = λ l hl near. le_trans _ _ _ (greatest-le-corner n f d b l hl near) (grind (arith, ints));
   pair = λ l j hl hj near far.
       let below : greatest_bound n f d b ≤ℤ pair_cost l j =
       le_trans _ _ _ (greatest-le-corner n f d b l hl near)
-      (le_trans _ _ _ (min_left _ _)
+      (le_trans _ _ _ (grind (arith, ints))
       (least_below-le n (λ i. int_lt (d i) (pos 0)) (pair_cost l) (f l) j hj (lt-int_lt _ _ far))) in
       scaled (d l) (d j) (f l) (f j) (greatest_bound n f d b) near far below;
 }
@@ -89,13 +79,7 @@ unfolding greatest_bound corner_least pair_least
 greatest_of_bounds n f d b k some near corners =
     le-least_below n (λ l. int_le (pos 0) (d l)) (corner_least n f d b) (f 0) k (corners.point 0 some near)
     (λ l hl left.
-    above_min k (pair_least n f d l) (f l +ℤ b *ℤ d l)
-    (le-least_below n (λ j. int_lt (d j) (pos 0))
-    (λ j. int_div_euclid (neg_ℤ (d j) *ℤ f l +ℤ d l *ℤ f j) (d l -ℤ d j)) (f l) k
-    (corners.point l hl (int_le-true _ _ left)) (λ j hj right.
-    divided (d l) (d j) (f l) (f j) (int_le-true _ _ left) (int_lt-true _ _ right)
-    (corners.pair l j hl hj (int_le-true _ _ left) (int_lt-true _ _ right))))
-    (corners.reserve l hl (int_le-true _ _ left)))
+    grind (arith, ints, le-least_below n (λ j. int_lt (d j) (pos 0)) (λ j. int_div_euclid (neg_ℤ (d j) *ℤ f l +ℤ d l *ℤ f j) (d l -ℤ d j)) (f l) k (corners.point l hl (int_le-true _ _ left)) (λ j hj right. divided (d l) (d j) (f l) (f j) (int_le-true _ _ left) (int_lt-true _ _ right) (corners.pair l j hl hj (int_le-true _ _ left) (int_lt-true _ _ right))), corners.reserve l hl (int_le-true _ _ left)))
   where
     divided : (dl dj fl fj : ℤ) → pos 0 ≤ℤ dl → dj <ℤ pos 0 → ((dl -ℤ dj) *ℤ k) ≤ℤ (neg_ℤ dj *ℤ fl +ℤ dl *ℤ fj)
         → k ≤ℤ int_div_euclid (neg_ℤ dj *ℤ fl +ℤ dl *ℤ fj) (dl -ℤ dj)
@@ -254,16 +238,13 @@ corners-cell_bound points k a b cap m bound = record {
       omega (arith, linear);
   reserve = λ l hl near. at_one points k a b cap m bound l (distance points cap l) hl near (le_refl _);
   pair = λ l j hl hj near far.
-      let u = pos_of_nonneg (neg_ℤ (distance points cap j)) (negated (distance points cap j) far) in
+      let u = pos_of_nonneg (neg_ℤ (distance points cap j)) (omega (arith, linear)) in
       let v = pos_of_nonneg (distance points cap l) near in
       pair_bound (distance points cap l) (distance points cap j) (reduced_cost points k a l)
       (reduced_cost points k a j) b m u.0 v.0 u.1 v.1
       (at_two points k a b cap m bound l u.0 j v.0 (pos 0) hl hj (le_refl (pos 0))
       (pair_room (distance points cap l) (distance points cap j) u.0 v.0 u.1 v.1));
 }
-  where
-    negated : (d : ℤ) → d <ℤ pos 0 → pos 0 ≤ℤ neg_ℤ d
-    negated d h = omega (arith, linear)
 
 -- the term of a cell, computed at the corners
 unfoldable pub least_reduced_cost : List Point → ℤ → ℤ → ℤ → ℤ → ℤ

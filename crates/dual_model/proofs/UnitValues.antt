@@ -1,6 +1,5 @@
 -- The value of a unit, computed over all its patterns: it is there exactly where the unit has a pattern at the node.
-use Rattle.std.proofs.Common.{◌≡◌, ℕ, ◌<◌, List, length, Bool, true, false, not, ◌&&◌, cond, refl, sym, ap, subst, ◌∙◌, arith, ⊎_elim, ℤ, pos, ◌+ℤ◌, ◌-ℤ◌, ◌*ℤ◌, ◌≤ℤ◌}
-use Rattle.std.specs.Prelude.{IsTrue, int_le, max, Option, Some, None, option_map}
+use Rattle.std.proofs.Common.{◌≡◌, ℕ, ◌<◌, List, length, Bool, true, false, not, ◌&&◌, cond, refl, sym, ap, subst, ◌∙◌, arith, ⊎_elim, ℤ, pos, ◌+ℤ◌, ◌-ℤ◌, ◌*ℤ◌, ◌≤ℤ◌, IsTrue, int_le, max, Option, Some, None, option_map}
 use Rattle.std.proofs.lemmas.Bool.{and_parts, and_from, or_cases, not_from_true, true≢false}
 use Rattle.uc_model.specs.Sums.{sum_below}
 use Rattle.uc_model.specs.Commitment.{Commitment, starts, cap, is_allowed, is_allowed_at}
@@ -12,12 +11,10 @@ use Rattle.uc_model.specs.declared.instance.Instance.{Instance}
 use Rattle.uc_model.proofs.Ring.{le_antisymm}
 use Rattle.uc_model.proofs.Sums.{sum_below-same}
 use Rattle.uc_model.proofs.Tests.{int_le-true, all_below-at}
-use Rattle.dual_model.specs.Prices.{pi_at}
-use Rattle.dual_model.specs.Fixings.{unit_agrees, HasNoPattern}
+use Rattle.dual_model.specs.Prices.{Table, pi_at}
+use Rattle.dual_model.specs.Fixings.{Node, unit_agrees, HasNoPattern}
 use Rattle.dual_model.specs.Term.{IsTerm, IsTermAt, output_price, reserve_price}
 use Rattle.dual_model.specs.UnitValue.{period_value, IsPatternValue, IsUnitValue}
-use Rattle.dual_model.specs.declared.node.Node.{Node}
-use Rattle.dual_model.specs.declared.table.Table.{Table}
 use Rattle.dual_model.proofs.Terms.{least_reduced_cost, is_term}
 use Rattle.dual_model.proofs.Locality.{SameBelow, starts-same, cap-same, sigma-same, is_allowed-same, fixed_below, kept-same}
 use Rattle.dual_model.proofs.Patterns.{IsLocal, IsBestOf, best_pattern, best_pattern_is}
@@ -37,7 +34,7 @@ term_of instance table g on t =
     (cap instance.periods unit on t)
 
 -- an allowed pattern's on cells have caps of at least 0
-cap-allowed : (periods : ℕ) (unit : Thermal) (on : Commitment) → IsTrue (is_allowed periods unit on) → (t : ℕ)
+pub cap-allowed : (periods : ℕ) (unit : Thermal) (on : Commitment) → IsTrue (is_allowed periods unit on) → (t : ℕ)
     → t < periods → IsTrue (on t)
     → pos 0 ≤ℤ cap periods unit on t
 cap-allowed periods unit on allowed t l here =

@@ -1,6 +1,6 @@
 -- The way that a commitment takes from the initial state: in which case there is one, and that its cost is the pattern's value.
-use Rattle.std.proofs.Common.{◌≡◌, ℕ, zero, suc, ◌+◌, ◌<◌, ◌≤◌, ◌⊎◌, ⊎_elim, Bool, true, false, not, ◌&&◌, refl, sym, ap, subst, ◌∙◌, arith, ℤ, pos, ◌+ℤ◌, ◌-ℤ◌, ◌*ℤ◌}
-use Rattle.std.specs.Prelude.{IsTrue, Option, Some, None, unwrap_or, ◌==◌, if◌then◌else◌}
+use Rattle.std.proofs.Common.{◌≡◌, ℕ, zero, suc, ◌+◌, ◌<◌, ◌≤◌, ◌⊎◌, ⊎_elim, Bool, true, false, not, ◌&&◌, refl, sym, ap, subst, ◌∙◌, arith, ℤ, pos, ◌+ℤ◌, ◌-ℤ◌, ◌*ℤ◌, IsTrue, Option, Some, None, unwrap_or, ◌==◌, if◌then◌else◌}
+use mathlib.Core.Bool.{and-true, and-false}
 use Rattle.std.proofs.lemmas.Bool.{cond-true, cond-false, and_parts, and_from, true≢false, lt-ltb, le-ltb}
 use Rattle.uc_model.specs.Sums.{sum_below}
 use Rattle.uc_model.specs.Commitment.{Commitment, was_on, starts, stops}
@@ -9,10 +9,9 @@ use Rattle.uc_model.specs.declared.instance.Thermal.{Thermal}
 use Rattle.uc_model.specs.declared.terms.Terms.{Terms}
 use Rattle.uc_model.proofs.Ring.{linear}
 use Rattle.uc_model.proofs.Sums.{sum_below-first, sum_below-same}
-use Rattle.dual_model.specs.declared.node.Fix.{Fix}
 use Rattle.uc_model.specs.Terms.{period_count, term_at, price_at}
 use Rattle.dual_model.specs.PatternValue.{is_followed, term_of, period_value, pattern_value}
-use Rattle.dual_model.specs.Moves.{may_be_on, may_be_off, holds_initially, may_stop, may_start, stop_since, hour_cost, hour_before, move}
+use Rattle.dual_model.specs.Moves.{Fix, may_be_on, may_be_off, holds_initially, may_stop, may_start, stop_since, hour_cost, hour_before, move}
 use Rattle.dual_model.specs.CostToGo.{total_of, end_cost}
 use Rattle.dual_model.proofs.Optimum.{way, total_of-parts}
 use Rattle.dual_model.proofs.Switches.{since, since-start, last_stop-since}
@@ -37,11 +36,7 @@ pub hour-on : (terms : Terms) (unit : Thermal) (on : Commitment) (t : ℕ) → t
 hour-on terms unit on zero h e = refl
 hour-on terms unit on (suc t) h e =
     hour-last terms unit on t _ e
-    (sym ((λ i. (e i && not (on (suc t))) && lt-ltb (suc t) (period_count terms) h i) ∙ and_true (not (on (suc t)))))
-  where
-    and_true : (b : Bool) → (b && true) ≡ b
-    and_true true = refl
-    and_true false = refl
+    (sym ((λ i. (e i && not (on (suc t))) && lt-ltb (suc t) (period_count terms) h i) ∙ and-true (not (on (suc t)))))
 
 pub hour-end : (terms : Terms) (unit : Thermal) (on : Commitment) (t : ℕ) → t ≡ period_count terms → was_on unit on t ≡ true
     → hour_before terms unit t (since unit.on0 on t == t) false ≡ hour terms unit on t
@@ -49,11 +44,7 @@ hour-end terms unit on zero h e = refl
 hour-end terms unit on (suc t) h e =
     let past : period_count terms ≤ suc t = omega arith in
     hour-last terms unit on t false e
-    (sym ((λ i. stops unit on (suc t) && le-ltb (suc t) (period_count terms) past i) ∙ and_false (stops unit on (suc t))))
-  where
-    and_false : (b : Bool) → (b && false) ≡ false
-    and_false true = refl
-    and_false false = refl
+    (sym ((λ i. stops unit on (suc t) && le-ltb (suc t) (period_count terms) past i) ∙ and-false (stops unit on (suc t))))
 
 pub hour-off : (terms : Terms) (unit : Thermal) (on : Commitment) (t : ℕ) → was_on unit on t ≡ false → hour terms unit on t ≡ Some (pos 0)
 hour-off terms unit on zero e = refl
@@ -226,15 +217,12 @@ own_way-right terms unit fix on (suc n) t v h e =
       right = λ k a b. ⊎_elim
           (λ (now : t ≡ k). subst (λ i. IsRight unit fix on i) now here.0)
           (λ (later : suc t ≤ k). rest.right k later b)
-          (here_or_later t k a);
+          (grind arith);
       there = λ k a b. ⊎_elim
           (λ (now : t ≡ k). subst (λ i. IsThere (hour terms unit on i)) now here.1)
           (λ (later : suc t ≤ k). rest.there k later b)
-          (here_or_later t k a);
+          (grind arith);
     }
-  where
-    here_or_later : (i k : ℕ) → i ≤ k → (i ≡ k) ⊎ (suc i ≤ k)
-    here_or_later i k l = grind arith
 
 -- the value of the hour before a period
 abbrev pub hour_value : Terms → Thermal → Commitment → ℕ → ℤ

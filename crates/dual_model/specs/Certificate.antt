@@ -6,10 +6,9 @@ use Rattle.uc_model.specs.Rules.{Obeys}
 use Rattle.uc_model.specs.PrintedSchedule.{HasShapeOf, printed_schedule, printed_denominator, printed_cost}
 use Rattle.uc_model.specs.declared.instance.Instance.{Instance}
 use Rattle.uc_model.specs.declared.schedule.Printed.{Printed}
-use Rattle.dual_model.specs.Prices.{IsLawfulTable}
+use Rattle.dual_model.specs.Prices.{Table, IsLawfulTable}
 use Rattle.dual_model.specs.Tree.{Tree, IsCover}
 use Rattle.dual_model.specs.Cover.{Leaf, Holds, AllExcluded, has_bound}
-use Rattle.dual_model.specs.declared.table.Table.{Table}
 
 -- a schedule with its cost in micro-dollars, as written
 pub record WrittenSchedule : Type 0 where

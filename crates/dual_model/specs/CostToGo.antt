@@ -4,8 +4,7 @@ use Rattle.std.specs.Prelude.{ℕ, zero, suc, ◌*◌, ◌^◌, ◌≤◌, Bool,
 use Rattle.std.specs.Int.{int_min}
 use Rattle.uc_model.specs.declared.instance.Thermal.{Thermal}
 use Rattle.uc_model.specs.declared.terms.Terms.{Terms}
-use Rattle.dual_model.specs.declared.node.Fix.{Fix}
-use Rattle.dual_model.specs.Moves.{hour_before, move}
+use Rattle.dual_model.specs.Moves.{Fix, hour_before, move}
 
 -- the total of two costs, and the lesser of them; None is what may not be
 abbrev pub total_of : Option ℤ → Option ℤ → Option ℤ

@@ -6,11 +6,9 @@ use Rattle.std.specs.Prelude.{◌≡◌, ℕ, ◌<◌, ◌⊎◌, Bool, true, fa
 use Rattle.uc_model.specs.Division.{IsFloor}
 use Rattle.uc_model.specs.Schedule.{thermal_count}
 use Rattle.uc_model.specs.declared.instance.Instance.{Instance}
-use Rattle.dual_model.specs.Fixings.{HasNoPattern, HasEmptyUnit}
-use Rattle.dual_model.specs.NodeValue.{IsNodeValue}
+use Rattle.dual_model.specs.Fixings.{Node, HasNoPattern, HasEmptyUnit}
+use Rattle.dual_model.specs.NodeValue.{Table, IsNodeValue}
 use Rattle.dual_model.specs.Tree.{Tree, root, EachLeaf, any_leaf}
-use Rattle.dual_model.specs.declared.node.Node.{Node}
-use Rattle.dual_model.specs.declared.table.Table.{Table}
 
 -- what a leaf claims: a bound at the table of that number, that the table of that number is a ray that
 -- excludes every schedule of the leaf, or that the unit of that number has no pattern there

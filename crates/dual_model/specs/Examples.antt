@@ -6,11 +6,10 @@ use Rattle.uc_model.specs.declared.instance.Thermal.{Thermal}
 use Rattle.uc_model.specs.declared.instance.Renewable.{Renewable}
 use Rattle.uc_model.specs.declared.instance.Instance.{Instance}
 use Rattle.uc_model.specs.declared.instance.Point.{Point}
-use Rattle.dual_model.specs.NodeValue.{IsNodeValue}
+use Rattle.dual_model.specs.NodeValue.{Table, IsNodeValue}
 use Rattle.dual_model.specs.Tree.{root}
 use Rattle.dual_model.specs.declared.node.Node.{Node}
 use Rattle.dual_model.specs.declared.node.Fixing.{Fixing}
-use Rattle.dual_model.specs.declared.table.Table.{Table}
 use Rattle.dual_model.specs.declared.table.RampRow.{RampRow}
 
 -- a system over as many periods as there are demands

@@ -12,7 +12,7 @@ use Rattle.uc_model.specs.Schedule.{Schedule, thermal_unit, thermal_count}
 use Rattle.uc_model.specs.declared.instance.Instance.{Instance}
 use Rattle.dual_model.specs.declared.node.Fix.{Fix}
 use Rattle.dual_model.specs.declared.node.Fixing.{Fixing}
-use Rattle.dual_model.specs.declared.node.Node.{Node}
+pub use Rattle.dual_model.specs.declared.node.Node.{Node}
 
 -- the commitment of the fixing's unit is as the fixing says
 abbrev pub keeps : Fixing → Commitment → Bool

@@ -6,14 +6,12 @@ use Rattle.uc_model.specs.Cost.{cost}
 use Rattle.uc_model.specs.Rules.{Obeys}
 use Rattle.uc_model.specs.Limits.{IsLawfulInstance}
 use Rattle.uc_model.specs.declared.instance.Instance.{Instance}
-use Rattle.dual_model.specs.Prices.{HasSizeOf, HasLawfulSigns, IsLawfulTable}
-use Rattle.dual_model.specs.Fixings.{HasEmptyUnit, agrees}
+use Rattle.dual_model.specs.Prices.{Table, HasSizeOf, HasLawfulSigns, IsLawfulTable}
+use Rattle.dual_model.specs.Fixings.{Node, HasEmptyUnit, agrees}
 use Rattle.dual_model.specs.NodeValue.{IsNodeValue}
 use Rattle.dual_model.specs.Tree.{Tree, root, child, agreeing_leaves, EachLeaf}
 use Rattle.dual_model.specs.Cover.{Leaf, Bound, Ray, Empty, Holds, AllExcluded}
 use Rattle.dual_model.specs.Certificate.{Certificate, CertificateHolds}
-use Rattle.dual_model.specs.declared.node.Node.{Node}
-use Rattle.dual_model.specs.declared.table.Table.{Table}
 
 -- the table's value is a bound: it has the instance's size and the signs of a bound
 pub record IsBoundTable (instance : Instance) (table : Table) : Type 0 where

@@ -8,7 +8,7 @@ use Rattle.uc_model.specs.PatternBits.{commitment_of}
 use Rattle.uc_model.specs.StartCategory.{sigma}
 use Rattle.uc_model.specs.declared.instance.Thermal.{Thermal}
 use Rattle.uc_model.specs.declared.terms.Terms.{Terms}
-use Rattle.dual_model.specs.declared.node.Fix.{Fix}
+pub use Rattle.dual_model.specs.declared.node.Fix.{Fix}
 use Rattle.uc_model.specs.Terms.{term_at, price_at}
 
 -- nothing that is decided wants the unit off in period t

@@ -11,7 +11,7 @@ use Rattle.uc_model.specs.declared.instance.Instance.{Instance}
 use Rattle.dual_model.specs.Prices.{pi_at, mu_at, up_at, down_at}
 use Rattle.dual_model.specs.UnitValue.{IsUnitValue}
 use Rattle.dual_model.specs.declared.node.Node.{Node}
-use Rattle.dual_model.specs.declared.table.Table.{Table}
+pub use Rattle.dual_model.specs.declared.table.Table.{Table}
 
 -- pi(t)*D(t) + mu(t)*R(t) over the periods
 abbrev pub system_value : Instance → Table → ℤ

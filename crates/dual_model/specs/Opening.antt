@@ -9,8 +9,7 @@ use Rattle.uc_model.specs.Commitment.{initial_p}
 use Rattle.uc_model.specs.Schedule.{thermal_count, thermal_unit}
 use Rattle.uc_model.specs.declared.instance.Instance.{Instance}
 use Rattle.uc_model.specs.declared.instance.Thermal.{Thermal}
-use Rattle.dual_model.specs.Prices.{pi_at, mu_at, up_at, down_at}
-use Rattle.dual_model.specs.declared.table.Table.{Table}
+use Rattle.dual_model.specs.Prices.{Table, pi_at, mu_at, up_at, down_at}
 use Rattle.dual_model.specs.declared.table.RampRow.{RampRow}
 
 -- the scale at which a price is in micro-dollars for a megawatt

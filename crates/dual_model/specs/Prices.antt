@@ -7,7 +7,7 @@ use Rattle.std.specs.Prelude.{◌≡◌, ℕ, suc, ◌<◌, ◌≤◌, ◌⊎◌
 use Rattle.uc_model.specs.Schedule.{thermal_count}
 use Rattle.uc_model.specs.declared.instance.Instance.{Instance}
 pub use Rattle.dual_model.specs.declared.limits.TheConstants.{MAX_SCALE, MAX_PRICE}
-use Rattle.dual_model.specs.declared.table.Table.{Table}
+pub use Rattle.dual_model.specs.declared.table.Table.{Table}
 use Rattle.dual_model.specs.declared.table.RampRow.{RampRow}
 
 -- the multiplier of demand in period t, and that of reserve; past the last period they are 0

@@ -6,13 +6,10 @@ use Rattle.uc_model.specs.declared.instance.Instance.{Instance}
 use Rattle.uc_model.specs.declared.instance.Point.{Point}
 use Rattle.uc_model.specs.declared.instance.Thermal.{Thermal}
 use Rattle.uc_model.specs.declared.terms.Terms.{Terms}
-use Rattle.dual_model.specs.Prices.{pi_at}
-use Rattle.dual_model.specs.Fixings.{HasNoPattern}
+use Rattle.dual_model.specs.Prices.{Table, MAX_SCALE, pi_at}
+use Rattle.dual_model.specs.Fixings.{Node, HasNoPattern}
 use Rattle.dual_model.specs.Term.{IsTerm, output_price, reserve_price}
 use Rattle.dual_model.specs.UnitValue.{IsUnitValue}
-use Rattle.dual_model.specs.declared.limits.TheConstants.{MAX_SCALE}
-use Rattle.dual_model.specs.declared.node.Node.{Node}
-use Rattle.dual_model.specs.declared.table.Table.{Table}
 use Rattle.uc_model.specs.declared.limits.TheConstants.{MAX_TERM}
 use Rattle.dual_model.specs.declared.limits.TheConstants.{MAX_UNIT_PRICE}
 use Rattle.uc_model.specs.Terms.{period_count, term_at, price_at, place}

@@ -8,8 +8,7 @@ use Rattle.uc_model.specs.Commitment.{Commitment, cap}
 use Rattle.uc_model.specs.Schedule.{thermal_unit}
 use Rattle.uc_model.specs.declared.instance.Point.{Point}
 use Rattle.uc_model.specs.declared.instance.Instance.{Instance}
-use Rattle.dual_model.specs.Prices.{pi_at, mu_at, up_at, down_at}
-use Rattle.dual_model.specs.declared.table.Table.{Table}
+use Rattle.dual_model.specs.Prices.{Table, pi_at, mu_at, up_at, down_at}
 
 -- m bounds the reduced cost K*cost + A*p + B*r of each output p and reserve r >= 0 with p + r <= cap
 pub record IsCellBound (points : List Point) (k a b cap m : ℤ) : Type 0 where

@@ -3,19 +3,15 @@
 -- whose caps (M9, M10) depend on the starts and stops beside a cell. The limits in size are this project's.
 --
 -- Periods count from 0 here.
-use Rattle.std.specs.Prelude.{◌≡◌, ℕ, suc, ◌<◌, ◌≤◌, Bool, true, false, not, ◌&&◌, ◌==◌, nat_lt, List, [], ℤ, pos, ◌-ℤ◌, ◌*ℤ◌, ◌≤ℤ◌, ◌<ℤ◌, unsigned_abs, length, slice_index_or, Option, None, MatchOption}
+use Rattle.std.specs.Prelude.{◌≡◌, ℕ, suc, ◌<◌, ◌≤◌, Bool, not, ◌&&◌, ◌==◌, nat_lt, ℤ, pos, ◌-ℤ◌, ◌*ℤ◌, ◌≤ℤ◌, ◌<ℤ◌, unsigned_abs, length, Option, MatchOption}
 use Rattle.std.specs.Int.{int_min}
 use Rattle.uc_model.specs.Sums.{bit}
 use Rattle.uc_model.specs.Commitment.{start_reduction, stop_reduction}
-use Rattle.uc_model.specs.Points.{point_of}
-use Rattle.uc_model.specs.declared.limits.TheConstants.{MAX_PERIODS, MAX_POINTS, MAX_POWER, MAX_COST}
-use Rattle.uc_model.specs.declared.instance.Point.{Point}
+use Rattle.uc_model.specs.declared.limits.TheConstants.{MAX_PERIODS, MAX_TERM}
 use Rattle.uc_model.specs.declared.instance.Thermal.{Thermal}
 use Rattle.uc_model.specs.Terms.{period_count, price_at, term_at}
 use Rattle.uc_model.specs.declared.terms.Terms.{Terms}
-use Rattle.dual_model.specs.declared.limits.TheConstants.{MAX_SCALE}
-use Rattle.uc_model.specs.declared.limits.TheConstants.{MAX_TERM}
-use Rattle.dual_model.specs.declared.limits.TheConstants.{MAX_UNIT_PRICE, MAX_CAP}
+use Rattle.dual_model.specs.declared.limits.TheConstants.{MAX_SCALE, MAX_UNIT_PRICE}
 
 -- the cap of a cell, by whether it is a start and whether a stop follows: a unit that is on initially has no start in the first period, and after the last
 -- period there is no stop
@@ -38,13 +34,3 @@ pub record AreSizedTerms (unit : Thermal) (terms : Terms) : Type 0 where
   pub price : (t : ℕ) → t < period_count terms → unsigned_abs (price_at terms t) ≤ MAX_UNIT_PRICE
   pub term : (t : ℕ) (start stop : Bool) → t < period_count terms →
       IsSized (cell_cap (period_count terms) unit t start stop) (term_at terms t start stop)
-
--- points, prices and a cap within the limits
-pub record IsLawfulCell (points : List Point) (k a b cap : ℤ) : Type 0 where
-  pub count : (1 ≤ length points) × (length points ≤ MAX_POINTS)
-  pub outputs : (l : ℕ) → l < length points → unsigned_abs (point_of points l).mw ≤ MAX_POWER
-  pub costs : (l : ℕ) → l < length points → unsigned_abs (point_of points l).cost ≤ MAX_COST
-  pub scale : (pos 0 ≤ℤ k) × (k ≤ℤ MAX_SCALE)
-  pub output_price : unsigned_abs a ≤ MAX_UNIT_PRICE
-  pub reserve_price : unsigned_abs b ≤ MAX_UNIT_PRICE
-  pub cap_size : unsigned_abs cap ≤ MAX_CAP

@@ -8,11 +8,9 @@ use Rattle.uc_model.specs.StartCategory.{last_stop, sigma}
 use Rattle.uc_model.specs.Schedule.{thermal_unit}
 use Rattle.uc_model.specs.declared.instance.Thermal.{Thermal}
 use Rattle.uc_model.specs.declared.instance.Instance.{Instance}
-use Rattle.dual_model.specs.Prices.{pi_at}
-use Rattle.dual_model.specs.Fixings.{IsPatternAt}
+use Rattle.dual_model.specs.Prices.{Table, pi_at}
+use Rattle.dual_model.specs.Fixings.{Node, IsPatternAt}
 use Rattle.dual_model.specs.Term.{IsTermAt}
-use Rattle.dual_model.specs.declared.node.Node.{Node}
-use Rattle.dual_model.specs.declared.table.Table.{Table}
 
 -- the value of a period, given the term of each on cell: the term less the price of the minimum output where
 -- the unit is on, and K times the least start cost at a start

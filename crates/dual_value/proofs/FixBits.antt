@@ -1,7 +1,6 @@
 -- One decision more: the commitments that agree are those that agreed and keep it.
-use Rattle.std.proofs.Common.{◌≡◌, ◌≢◌, ℕ, zero, suc, ◌<◌, ◌≤◌, ◌⊎◌, ⊎_elim, Bool, true, false, not, ◌&&◌, ◌||◌, List, drop, length, refl, sym, ap, ◌∙◌, arith}
-use mathlib.Core.Bool.{beq}
-use Rattle.std.specs.Prelude.{Some, None, slice_index_or, if◌then◌else◌}
+use Rattle.std.proofs.Common.{◌≡◌, ◌≢◌, ℕ, zero, suc, ◌<◌, ◌≤◌, ◌⊎◌, ⊎_elim, Bool, true, false, not, ◌&&◌, ◌||◌, List, drop, length, refl, sym, ap, ◌∙◌, arith, Some, None, slice_index_or, if◌then◌else◌}
+use mathlib.Core.Bool.{beq, and-true, and_assoc, and_comm}
 use Rattle.std.specs.List.{list_all}
 use Rattle.std.proofs.Math.Seq.{drop-cons}
 use Rattle.std.proofs.lemmas.List.{drop_all}
@@ -14,6 +13,7 @@ use Rattle.dual_model.specs.Fixings.{fix_agrees, keeps, keeps_of, unit_agrees}
 use Rattle.dual_model.specs.declared.node.Fix.{Fix}
 use Rattle.dual_model.specs.declared.node.Fixing.{Fixing}
 use Rattle.dual_model.specs.declared.node.Node.{Node}
+use Rattle.dual_model.proofs.Locality.{all_below-same}
 use Rattle.dual_value.specs.inside.Fixes.{IsFixWith, IsPlain}
 
 -- ---- tests
@@ -30,33 +30,18 @@ agree false true h = absurd (true≢false h)
 agree false false h = refl
 
 and_swap : (a b c : Bool) → ((a && b) && c) ≡ ((a && c) && b)
-and_swap true true c = and_true c
-  where
-    and_true : (b : Bool) → b ≡ (b && true)
-    and_true true = refl
-    and_true false = refl
-and_swap true false true = refl
-and_swap true false false = refl
-and_swap false b c = refl
-
-and_move : (a b c : Bool) → ((a && b) && c) ≡ (a && (b && c))
-and_move true b c = refl
-and_move false b c = refl
-
-all-same : (n : ℕ) (f g : ℕ → Bool) → ((k : ℕ) → k < n → f k ≡ g k) → all_below n f ≡ all_below n g
-all-same zero f g e = refl
-all-same (suc n) f g e = λ i. e n (omega arith) i && all-same n f g (λ k h. e k (omega arith)) i
+and_swap a b c = and_assoc a b c ∙ ap (λ x. a && x) (and_comm b c) ∙ sym (and_assoc a c b)
 
 all-with : (n s : ℕ) (f g : ℕ → Bool) (k : Bool) → s < n → ((t : ℕ) → t ≢ s → f t ≡ g t) → (f s && k) ≡ g s → (all_below n f && k) ≡ all_below n g
 all-with zero s f g k h same here = absurd (omega arith)
 all-with (suc n) s f g k h same here =
     ⊎_elim
-    (λ (before : s < n). and_move (f n) (all_below n f) k
+    (λ (before : s < n). and_assoc (f n) (all_below n f) k
     ∙ (λ i. same n (λ e. omega arith) i && all-with n s f g k before same here i))
     (λ (last : n ≤ s).
     let e : n ≡ s = omega arith in
     and_swap (f n) (all_below n f) k
-    ∙ (λ i. (ap (λ t. f t && k) e ∙ here ∙ ap g (sym e)) i && all-same n f g (λ t l. same t (λ q. omega arith)) i))
+    ∙ (λ i. (ap (λ t. f t && k) e ∙ here ∙ ap g (sym e)) i && all_below-same n f g (λ t l. same t (λ q. omega arith)) i))
     (cases_lt s n)
 
 all-none : (n s : ℕ) (f : ℕ → Bool) (k : Bool) → s < n → (f s && k) ≡ false → (all_below n f && k) ≡ false
@@ -127,10 +112,7 @@ plain-more fix fixing more plain bits t on =
     ⊎_elim
     (λ (here : t ≡ fixing.t). ap (commitment_of more.known) here ∙ bits.known)
     (λ (other : t ≡ fixing.t → ⊥). bits.known_others t other ∙ plain t (sym (bits.on_others t other) ∙ on))
-    (here_or_not t fixing.t)
-  where
-    here_or_not : (a b : ℕ) → (a ≡ b) ⊎ (a ≡ b → ⊥)
-    here_or_not a b = grind arith
+    (grind arith)
 
 -- ---- the fixings of a node, one after the other
 abbrev pub fixing_at : List Fixing → ℕ → Fixing
@@ -150,7 +132,7 @@ fixing-of node g i before after on h e decided so_far =
     let here : keeps_of g on x ≡ keeps x on = ap (λ b. not b || keeps x on) (eq-eqb x.g g e) in
     so_far
     ∙ ap (λ b. before && b) (rest-split (keeps_of g on) node.fixings i h ∙ ap (λ b. b && rest) here)
-    ∙ sym (and_move before (keeps x on) rest)
+    ∙ sym (and_assoc before (keeps x on) rest)
     ∙ ap (λ b. b && rest) decided
 
 pub fixing-other : (node : Node) (g i : ℕ) (before : Bool) (on : Commitment) → i < length node.fixings → ((fixing_at node.fixings i).g ≡ g → ⊥)
@@ -170,8 +152,4 @@ nothing-agrees periods fix on none =
 -- and at the end nothing is left
 pub none-left : (node : Node) (g i : ℕ) (before : Bool) (on : Commitment) → length node.fixings ≤ i
     → unit_agrees node g on ≡ (before && list_all (keeps_of g on) (drop i node.fixings)) → unit_agrees node g on ≡ before
-none-left node g i before on h so_far = so_far ∙ ap (λ xs. before && list_all (keeps_of g on) xs) (drop_all i node.fixings h) ∙ and_true before
-  where
-    and_true : (b : Bool) → (b && true) ≡ b
-    and_true true = refl
-    and_true false = refl
+none-left node g i before on h so_far = so_far ∙ ap (λ xs. before && list_all (keeps_of g on) xs) (drop_all i node.fixings h) ∙ and-true before

@@ -1,7 +1,5 @@
 -- A unit's part of a value, or that it has none, by what the unit's own calls say.
-use Rattle.std.proofs.Common.{◌≡◌, ℕ, sym, ap, subst, ◌∙◌, ℤ, ◌+ℤ◌}
-use Rattle.std.specs.Prelude.{Option, Some, None, MatchOption}
-use Rattle.std.proofs.lemmas.Bool.{true≢false}
+use Rattle.std.proofs.Common.{◌≡◌, ℕ, sym, ap, subst, ◌∙◌, ℤ, ◌+ℤ◌, Option, Some, None, MatchOption, true≢false}
 use Rattle.uc_model.specs.PatternBits.{commitment_of}
 use Rattle.uc_model.specs.Schedule.{thermal_unit}
 use Rattle.uc_model.specs.declared.instance.Instance.{Instance}

@@ -1,7 +1,6 @@
 -- The order of words is that of the costs that they stand for.
 use Rattle.std.proofs.Common.{◌≡◌, ℕ, ◌+◌, ◌<◌, ◌≤◌, min, cond, ℤ, pos, ◌-ℤ◌, Some, None, refl, sym, ap, ◌∙◌, subst, ne_eqb, arith}
 use Rattle.std.proofs.lemmas.Int.{ints, clamps}
-use Rattle.std.specs.Int.{int_min}
 use mathlib.Core.Logic.{dite}
 use native.Mathlib.Decide.{dec_le}
 use Rattle.atomic_table.specs.Table.{Me}
@@ -24,9 +23,6 @@ some_cost a h = ap (λ b. cond b None (Some (pos a -ℤ pos HALF))) (ne_eqb a NO
 no_cost : (a : ℕ) → NOTHING ≤ a → a ≤ NOTHING → cost_of a ≡ None
 no_cost a h fits = let e : a ≡ NOTHING = omega arith in ap cost_of e
 
-min_of_costs : (a b : ℕ) → pos (min a b) -ℤ pos HALF ≡ int_min (pos a -ℤ pos HALF) (pos b -ℤ pos HALF)
-min_of_costs a b = omega (arith, ints, clamps)
-
 least_of_words : (a b : ℕ) → b ≤ NOTHING → Dec (NOTHING ≤ a) → Dec (NOTHING ≤ b) → a ≤ NOTHING → cost_of (min a b) ≡ least (cost_of a) (cost_of b)
 least_of_words a b fits' (yes ha) d fits =
     let e : min a b ≡ b = omega arith in ap cost_of e ∙ sym (ap (λ c. least c (cost_of b)) (no_cost a ha fits))
@@ -38,7 +34,7 @@ least_of_words a b fits' (no ha) (no hb) fits =
     let one = some_cost a (omega arith) in
     let two = some_cost b (omega arith) in
     some_cost (min a b) (omega arith)
-    ∙ (ap (λ z. Some z) (min_of_costs a b)
+    ∙ (ap (λ z. Some z) (omega (arith, ints, clamps))
     ∙ sym (ap (λ c. least c (cost_of b)) one ∙ ap (λ c. least (Some (pos a -ℤ pos HALF)) c) two))
 
 -- the least of two words stands for the least of the two costs

@@ -1,6 +1,5 @@
 -- Rows of terms of which each is 0, and what a read of a row gives.
-use Rattle.std.proofs.Common.{◌≡◌, ℕ, ◌<◌, ◌≤◌, Bool, true, false, List, [], length, sym, subst, ◌∙◌, arith, ℤ, pos}
-use Rattle.std.specs.Prelude.{Option, Some, None, IfSome, unsigned_abs, slice_index_or, replicate}
+use Rattle.std.proofs.Common.{◌≡◌, ℕ, ◌<◌, ◌≤◌, Bool, true, false, List, [], length, sym, subst, ◌∙◌, arith, ℤ, pos, Option, Some, None, IfSome, unsigned_abs, slice_index_or, replicate}
 use Rattle.std.proofs.lemmas.List.{get_or-replicate, length-replicate}
 use Rattle.uc_model.specs.declared.limits.TheConstants.{MAX_PERIODS}
 use Rattle.uc_model.specs.Terms.{place}

@@ -1,10 +1,9 @@
 -- What a path decides of each unit, decision by decision: the commitments that agree with one decision more are those
 -- that agreed and keep it.
-use Rattle.std.proofs.Common.{◌≡◌, ℕ, zero, suc, ◌+◌, ◌<◌, ◌≤◌, ◌≢◌, ◌⊎◌, ⊎_elim, Bool, true, false, List, [], ◌∷◌, ◌++◌, length, take, get_or, refl, sym, ap, subst, ◌∙◌, add-one, arith, get_or-set_other, get_or-set_same, ◌||◌, ◌&&◌, ◌==◌, not}
-use Rattle.std.specs.Prelude.{All, slice_set, if◌then◌else◌}
+use Rattle.std.proofs.Common.{◌≡◌, ℕ, zero, suc, ◌+◌, ◌<◌, ◌≤◌, ◌≢◌, ◌⊎◌, ⊎_elim, Bool, true, false, List, [], ◌∷◌, ◌++◌, length, take, get_or, refl, sym, ap, subst, ◌∙◌, add-one, arith, get_or-set_other, get_or-set_same, ◌||◌, ◌&&◌, ◌==◌, not, All, slice_set, length-set, take_all, if◌then◌else◌}
+use mathlib.Core.Bool.{and_assoc}
 use Rattle.std.proofs.Math.Seq.{take-suc}
 use Rattle.std.proofs.lemmas.Bool.{eq-eqb, ne_eqb, not-true, not_from_false, or_left}
-use Rattle.std.proofs.lemmas.List.{length-set, take_all}
 use Rattle.std.proofs.lemmas.List.Folds.{list_all-append, list_any-append}
 use Rattle.uc_model.specs.Commitment.{Commitment}
 use Rattle.uc_model.specs.PatternBits.{commitment_of}
@@ -73,13 +72,6 @@ swap_and true b false e = ap (λ x. (x && true) && false) (sym e)
 swap_and false b true e = ap (λ x. (x && false) && true) (sym e)
 swap_and false b false e = ap (λ x. (x && false) && false) (sym e)
 
-and_assoc : (a b c : Bool) → (a && (b && c)) ≡ ((a && b) && c)
-and_assoc true b c = refl
-and_assoc false b c = refl
-
-below_or_last : (k n : ℕ) → k < suc n → (k < n) ⊎ (k ≡ n)
-below_or_last k n l = grind arith
-
 all_below-same : (n : ℕ) (old new : ℕ → Bool) → ((t : ℕ) → t < n → new t ≡ old t) → all_below n new ≡ all_below n old
 all_below-same zero old new e = refl
 all_below-same (suc n) old new e =
@@ -93,12 +85,12 @@ all_below-with (suc n) k old new h held other =
     ⊎_elim
     (λ (less : k < n).
     (λ i. other n (omega arith) i && all_below-with n k old new less held other i)
-    ∙ and_assoc (old n) (all_below n old) (new k))
+    ∙ sym (and_assoc (old n) (all_below n old) (new k)))
     (λ (last : k ≡ n).
     ap (λ x. new n && x) (all_below-same n old new (λ t l. other t (omega arith)))
     ∙ swap_and (all_below n old) (old n) (new n) (subst (λ j. old j ≡ true) last held)
     ∙ ap (λ j. (old n && all_below n old) && new j) (sym last))
-    (below_or_last k n h)
+    (grind arith)
 
 -- what an element behind a list adds to a test of some and to a test of all
 some_more : (path : List Fixing) (fixing : Fixing) (g t : ℕ)
@@ -207,9 +199,6 @@ own_unit path n fixing old new after with free so_far =
           ∙ sym (agrees-with periods fixing old new on with (after.placed periods inside) free (so_far.off fixing.t free));
     }
 
-this_or_other : (g k : ℕ) → (g ≡ k) ⊎ (g ≢ k)
-this_or_other g k = grind arith
-
 pub decided_more : (path : List Fixing) (n : ℕ) (fixing : Fixing) (fixes : List Fix) (new : Fix) → n < length path
     → fixing ≡ get_or path n fixing → fixing.g < length fixes → IsFixWith fixing (fix_at fixes fixing.g) new
     → commitment_of (fix_at fixes fixing.g).known fixing.t ≡ false
@@ -223,7 +212,7 @@ decided_more path n fixing fixes new within read placed with free so_far = recor
       (λ (other : g ≢ fixing.g).
       let before : g < length fixes = subst (λ k. g < k) (length-set fixes fixing.g new) h in
       rw get_or-set_other (other_unit path n fixing g (fix_at fixes g) (follows path n fixing within read) other (so_far.fix g before)))
-      (this_or_other g fixing.g);
+      (grind arith);
 }
 
 -- the next decision of a path that decides each cell once is of a cell that isn't decided so far

@@ -1,22 +1,20 @@
 -- What entries that were reckoned for a node's fixes add up to is the node's value.
-use Rattle.std.proofs.Common.{◌≡◌, ℕ, ◌<◌, ◌≤◌, List, Some, None, Option, refl, sym, ap, subst, ◌∙◌, arith, ℤ, ◌+ℤ◌}
-use Rattle.std.specs.Prelude.{MatchOption, unsigned_abs}
+use Rattle.std.proofs.Common.{◌≡◌, ℕ, ◌<◌, ◌≤◌, List, Some, None, Option, refl, sym, ap, subst, ◌∙◌, arith, ℤ, ◌+ℤ◌, MatchOption, unsigned_abs}
 use Rattle.uc_model.specs.Schedule.{thermal_count, thermal_unit}
 use Rattle.uc_model.specs.declared.instance.Instance.{Instance}
 use Rattle.uc_model.proofs.Ring.{linear}
 use Rattle.uc_model.proofs.Sums.{sum_below-same}
 use Rattle.dual_model.specs.Fixings.{HasEmptyUnit, IsFixOf}
-use Rattle.dual_model.specs.NodeValue.{IsNodeValue, constant_at, renewables_value, system_value}
+use Rattle.dual_model.specs.NodeValue.{IsNodeValue, constant_at}
 use Rattle.dual_model.specs.PatternValue.{HasNoPattern, IsLeastValue}
 use Rattle.dual_model.specs.TableValue.{AreTermsOf, IsUnitValueOf}
 use Rattle.dual_model.specs.declared.node.Fix.{Fix}
 use Rattle.dual_model.specs.declared.node.Node.{Node}
 use Rattle.dual_model.specs.declared.table.Table.{Table}
 use Rattle.dual_model.proofs.TableValues.{unit_value-of}
-use Rattle.leaf_values.specs.Entries.{AreEntriesOf, AreUnitsReckoned, MAX_REST, IsEntryOf, IsReckoned, entry_at}
+use Rattle.leaf_values.specs.Entries.{UnitEntry, AreEntriesOf, AreUnitsReckoned, MAX_REST, IsEntryOf, IsReckoned, entry_at}
 use Rattle.leaf_values.specs.Paths.{AreFixesOf, fix_at}
 use Rattle.leaf_values.specs.inside.Totals.{AreReckonedFor, HasNoValue, IsReckonedFor, IsTotal, part_of, value_of}
-use Rattle.leaf_values.specs.declared.entries.UnitEntry.{UnitEntry}
 use Rattle.leaf_values.specs.declared.entries.TableEntries.{TableEntries}
 
 -- ---- the entries are those of the table as before
@@ -77,9 +75,6 @@ values_at instance table node fixes old new are after decided = record {
       unit_value instance node table g (fix_at fixes g) (entry_at new g) (are.unit g h).terms (after.unit g h).reckoned (after.unit g h).fix (decided.fix g h);
 }
 
-node_sum : (system renewables rest units parts v : ℤ) → rest ≡ system +ℤ renewables → v ≡ rest +ℤ parts → parts ≡ units → v ≡ system +ℤ units +ℤ renewables
-node_sum system renewables rest units parts v e f h = omega (arith, linear)
-
 node_value : (instance : Instance) (table : Table) (node : Node) (entries : TableEntries) (v : ℤ) → AreValuesAt instance table node entries
     → IsTotal entries (thermal_count instance) v → IsNodeValue instance node table v
 node_value instance table node entries v at sum =
@@ -89,7 +84,7 @@ node_value instance table node entries v at sum =
     record {
       unit_value = value;
       units = λ g h. subst (IsUnitValueOf instance node table g) (sum.each g h) (at.value g h);
-      total = node_sum (system_value instance table) (renewables_value instance table) entries.rest _ _ v at.are.rest sum.total parts;
+      total = omega (arith, linear, at.are.rest, sum.total);
     }
 
 empty_unit : (instance : Instance) (table : Table) (node : Node) (entries : TableEntries) → AreValuesAt instance table node entries

@@ -1,8 +1,7 @@
 -- Paths that a walk over a tree makes: their decisions are placed, and a path decides each cell once if each split is on a
 -- cell that the path to it hasn't decided.
 -- Cite from a crate above by `use Rattle.leaf_values.proofs.PathsOfNodes.{placed, decides_once-more}`.
-use Rattle.std.proofs.Common.{◌≡◌, ℕ, ◌+◌, ◌<◌, ◌≤◌, ◌⊎◌, ⊎_elim, not, List, [], ◌∷◌, ◌++◌, length, take, sym, arith}
-use Rattle.std.specs.Prelude.{All, IsTrue}
+use Rattle.std.proofs.Common.{◌≡◌, ℕ, ◌+◌, ◌<◌, ◌≤◌, ◌⊎◌, ⊎_elim, not, List, [], ◌∷◌, ◌++◌, length, take, sym, arith, All, IsTrue}
 use Rattle.std.proofs.lemmas.List.{get_or-take, get_or_append_left, get_or_push, length-append, length-take, take-append-le, take-take, take_all}
 use Rattle.uc_model.specs.Limits.{IsLawfulInstance}
 use Rattle.uc_model.specs.Schedule.{thermal_count}
@@ -20,8 +19,6 @@ placed instance path units lawful inside count i d h = record {
 }
 
 -- ---- each cell once
-abbrev IsFresh : List Fixing → Fixing → Type 0
-IsFresh before fixing = IsTrue (not (is_decided (node_of before) fixing.g fixing.t))
 
 pub decides_once-nil : DecidesOnce []
 decides_once-nil = record { fresh = λ i d h. absurd (omega arith) }

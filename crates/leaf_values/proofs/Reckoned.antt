@@ -1,8 +1,6 @@
 -- Entries one after the other: those that were reckoned so far, and the sum of what they add.
-use Rattle.std.proofs.Common.{◌≡◌, ℕ, suc, ◌+◌, ◌*◌, ◌<◌, ◌≤◌, ◌≢◌, List, length, Some, sym, ap, subst, ◌∙◌, arith, add-one, below_more, get_or-set_other, get_or-set_same, ℤ, ◌+ℤ◌, to_z, of_z}
-use Rattle.std.specs.Prelude.{slice_set, unsigned_abs}
+use Rattle.std.proofs.Common.{◌≡◌, ℕ, suc, ◌+◌, ◌*◌, ◌<◌, ◌≤◌, ◌≢◌, List, length, Some, sym, ap, subst, ◌∙◌, arith, add-one, below_more, get_or-set_other, get_or-set_same, ℤ, ◌+ℤ◌, to_z, of_z, slice_set, unsigned_abs, length-set}
 use Rattle.std.specs.Int.{w128}
-use Rattle.std.proofs.lemmas.List.{length-set}
 use Rattle.uc_model.specs.Schedule.{thermal_unit}
 use Rattle.uc_model.specs.Sums.{sum_below}
 use Rattle.uc_model.specs.declared.instance.Instance.{Instance}
@@ -12,10 +10,9 @@ use Rattle.uc_model.proofs.Ring.{linear}
 use Rattle.uc_model.proofs.Sizes.{abs_add, wide}
 use Rattle.dual_model.specs.declared.node.Fix.{Fix}
 use Rattle.dual_model.specs.CostToGo.{MAX_COST_TO_GO}
-use Rattle.leaf_values.specs.Entries.{MAX_CONSTANT, MAX_REST, entry_at, entry_in}
+use Rattle.leaf_values.specs.Entries.{UnitEntry, MAX_CONSTANT, MAX_REST, entry_at, entry_in}
 use Rattle.leaf_values.specs.Paths.{fix_at}
 use Rattle.leaf_values.specs.inside.Totals.{AreReckonedFor, IsReckonedFor, IsTotal, part_of, value_of}
-use Rattle.leaf_values.specs.declared.entries.UnitEntry.{UnitEntry}
 use Rattle.leaf_values.specs.declared.entries.TableEntries.{TableEntries}
 
 -- ---- reckoned one after the other
@@ -54,9 +51,6 @@ pub record OneMore (entries : TableEntries) (n : ℕ) (result : ℤ) : Type 0 wh
   pub sum : IsTotal entries (n + 1) (to_z w128 (of_z w128 result))
   pub size : unsigned_abs (to_z w128 (of_z w128 result)) ≤ MAX_REST + (n + 1) * (MAX_COST_TO_GO + MAX_CONSTANT)
 
-added : (rest before total part next result : ℤ) → total ≡ rest +ℤ before → part ≡ next → result ≡ total +ℤ part → result ≡ rest +ℤ (before +ℤ next)
-added rest before total part next result e f h = omega (arith, linear)
-
 pub one_more : (entries : TableEntries) (n : ℕ) (total part result : ℤ) → n < MAX_UNITS → IsTotal entries n total
     → (entry_at entries n).value ≡ Some (value_of (entry_at entries n)) → part ≡ part_of (entry_at entries n)
     → result ≡ total +ℤ to_z w128 (of_z w128 part)
@@ -71,7 +65,7 @@ one_more entries n total part result few so_far valued is e most small =
     let kept = wide result (MAX_REST + (n + 1) * (MAX_COST_TO_GO + MAX_CONSTANT)) size (omega arith) in
     let terms = λ (g : ℕ). part_of (entry_at entries g) in
     let next : result ≡ entries.rest +ℤ sum_below (suc n) terms =
-    added entries.rest (sum_below n terms) total part (terms n) result so_far.total is sum in
+    omega (arith, linear, so_far.total, sum) in
     record {
       sum = record {
         each = below_more _ _ so_far.each valued;

@@ -15,7 +15,7 @@ use Rattle.dual_model.specs.UnitTerms.{AreSizedTerms}
 use Rattle.dual_model.specs.declared.table.Table.{Table}
 use Rattle.dual_model.specs.CostToGo.{IsWithin, MAX_COST_TO_GO}
 use Rattle.system_value.specs.Sizes.{MAX_RENEWABLES, MAX_SYSTEM}
-use Rattle.leaf_values.specs.declared.entries.UnitEntry.{UnitEntry}
+pub use Rattle.leaf_values.specs.declared.entries.UnitEntry.{UnitEntry}
 use Rattle.leaf_values.specs.declared.entries.TableEntries.{TableEntries}
 
 -- what doesn't hang on thermal units is at most this in size, and a node's value this

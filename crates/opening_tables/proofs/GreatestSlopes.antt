@@ -1,6 +1,5 @@
 -- The greatest slope of the units so far, and one unit more.
-use Rattle.std.proofs.Common.{◌≡◌, ℕ, ◌+◌, ◌<◌, Bool, true, false, [], get_or, refl, subst, sym, arith, ℤ, pos, ◌*ℤ◌, ◌≤ℤ◌, ◌<ℤ◌, below_more}
-use Rattle.std.specs.Prelude.{Option, Some, None, MatchOption, int_lt, if◌then◌else◌, List}
+use Rattle.std.proofs.Common.{◌≡◌, ℕ, ◌+◌, ◌<◌, Bool, true, false, [], get_or, refl, subst, sym, arith, ℤ, pos, ◌*ℤ◌, ◌≤ℤ◌, ◌<ℤ◌, below_more, Option, Some, None, MatchOption, int_lt, List, if◌then◌else◌}
 use Rattle.std.proofs.lemmas.Int.{ints}
 use Rattle.std.proofs.lemmas.List.{get_or_read}
 use Rattle.uc_model.specs.PrintedSchedule.{cell_at}
@@ -61,9 +60,6 @@ own_greatest instance printed t n slope other has is = left_slope-same (thermal_
 less_le : (x y : ℤ) → int_lt x y ≡ true → x ≤ℤ y
 less_le x y e = let less : x <ℤ y = int_lt-true x y e in omega (arith, linear)
 
-not_less : (x y : ℤ) → int_lt x y ≡ false → y ≤ℤ x
-not_less x y e = grind (arith, ints)
-
 -- the greater of the best slope and the unit's own
 chosen : (instance : Instance) (printed : Printed) (t n : ℕ) (best own : Slope) (b : Bool)
     → int_lt (best.rise *ℤ own.run) (own.rise *ℤ best.run) ≡ b → IsGreatestSlope instance printed t n best → HasSlope instance printed n t own
@@ -78,7 +74,7 @@ chosen instance printed t n best own false e greatest has =
     greatest_of instance printed t n greatest.unit best (omega (arith, greatest.within)) greatest.attained greatest.greatest
     (λ other is.
     at_most-trans other own best (run_of instance printed n t other is) (run_of instance printed n t own has)
-    (run_of instance printed greatest.unit t best greatest.attained) (own_greatest instance printed t n own other has is) (not_less _ _ e))
+    (run_of instance printed greatest.unit t best greatest.attained) (own_greatest instance printed t n own other has is) (grind (arith, ints)))
 
 pub greatest-more : (instance : Instance) (printed : Printed) (t n : ℕ) (before own : Option Slope) → IsGreatestOf instance printed t n before
     → IsOwnSlope instance printed t n own → IsGreatestOf instance printed t (n + 1) (steeper_of before own)

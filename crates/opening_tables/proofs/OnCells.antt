@@ -1,6 +1,5 @@
 -- An on cell of a printed schedule that obeys has an output on its unit's curve.
-use Rattle.std.proofs.Common.{◌≡◌, ℕ, ◌<◌, ◌≤◌, Bool, true, false, true≢false, refl, sym, arith, length, ℤ, ◌≤ℤ◌, List}
-use Rattle.std.specs.Prelude.{Option, Some, None, IsTrue, if◌then◌else◌}
+use Rattle.std.proofs.Common.{◌≡◌, ℕ, ◌<◌, ◌≤◌, Bool, true, false, true≢false, refl, sym, arith, length, ℤ, ◌≤ℤ◌, List, Option, Some, None, IsTrue, if◌then◌else◌}
 use Rattle.uc_model.specs.Hull.{Segment, segment_at}
 use Rattle.uc_model.specs.Limits.{IsLawfulInstance}
 use Rattle.uc_model.specs.PrintedSchedule.{cell_at, printed_denominator, printed_schedule, segment_weight}

@@ -1,6 +1,5 @@
 -- The prices of the first periods, and one more; and that the table of all of them is lawful.
-use Rattle.std.proofs.Common.{◌≡◌, ◌≢◌, ℕ, ◌+◌, ◌<◌, arith, List, length, get_or, sym, subst, ◌∙◌, below_more, get_or-set_other, get_or-set_same, ℤ, pos, ◌≤ℤ◌, []}
-use Rattle.std.specs.Prelude.{slice_set, replicate, All}
+use Rattle.std.proofs.Common.{◌≡◌, ◌≢◌, ℕ, ◌+◌, ◌<◌, arith, List, length, get_or, sym, subst, ◌∙◌, below_more, get_or-set_other, get_or-set_same, ℤ, pos, ◌≤ℤ◌, [], slice_set, replicate, All}
 use Rattle.std.proofs.lemmas.Int.{ints}
 use Rattle.std.proofs.lemmas.List.{length-replicate}
 use Rattle.std.proofs.lemmas.List.Elements.{All-from_get_or, All-replicate}

@@ -1,6 +1,5 @@
 -- The table of a ray has the numbers that the ray names.
-use Rattle.std.proofs.Common.{◌≡◌, ◌≢◌, ℕ, zero, suc, ◌*◌, ◌/◌, ◌<◌, ◌≤◌, ⊎_elim, Bool, true, false, List, [], ◌∷◌, ◌++◌, length, get_or-set_other, get_or-set_same, refl, sym, ap, ◌∙◌, arith, ◌==◌, ℤ, pos}
-use Rattle.std.specs.Prelude.{◌&&◌, nat_lt, slice_index_or, replicate, All, if◌then◌else◌}
+use Rattle.std.proofs.Common.{◌≡◌, ◌≢◌, ℕ, zero, suc, ◌*◌, ◌/◌, ◌<◌, ◌≤◌, ⊎_elim, Bool, true, false, List, [], ◌∷◌, ◌++◌, length, get_or-set_other, get_or-set_same, refl, sym, ap, ◌∙◌, arith, ◌==◌, ℤ, pos, ◌&&◌, nat_lt, slice_index_or, replicate, All, if◌then◌else◌}
 use Rattle.std.proofs.lemmas.Bool.{cases_lt, true≢false, eq-eqb, eqb-true, ltb-true, ne_eqb}
 use Rattle.std.proofs.lemmas.List.{get_or-replicate, length-replicate}
 use Rattle.std.proofs.lemmas.List.Elements.{All-head, All-tail, All-weaker}
@@ -86,10 +85,8 @@ own_down n t false true = down_by ((n == n) && (0 == t)) _ _ ∙ ap (λ b. if b 
 own_down n t false false = idle_by (t == 0)
 
 others_none : (n g t : ℕ) (up down : Bool) → n ≢ g → row_of (first_row n up down) g t ≡ row_of [] g t
-others_none n g t true true other = other_unit _ _ g t other
-others_none n g t true false other = other_unit _ _ g t other
-others_none n g t false true other = other_unit _ _ g t other
 others_none n g t false false other = refl
+others_none n g t _ _ other = other_unit _ _ g t other
 
 -- the row of unit g is its own
 row_of-first : (instance : Instance) (up down : Thermal → Bool) (n g t : ℕ) → g < n

@@ -1,6 +1,5 @@
 -- The tables of the opening's rays: their rows, and that they are lawful.
-use Rattle.std.proofs.Common.{◌≡◌, ◌≢◌, ℕ, zero, suc, ◌+◌, ◌-◌, ◌*◌, ◌%◌, ◌<◌, ◌≤◌, ⊎_elim, inl, inr, Bool, true, false, List, [], ◌∷◌, ◌++◌, length, get_or, refl, sym, ap, subst, ◌∙◌, arith, ℤ, pos, neg_ℤ, ◌≤ℤ◌}
-use Rattle.std.specs.Prelude.{◌⊎◌, nat_lt, unsigned_abs, slice_index_or, replicate, All, if◌then◌else◌}
+use Rattle.std.proofs.Common.{◌≡◌, ◌≢◌, ℕ, zero, suc, ◌+◌, ◌-◌, ◌*◌, ◌%◌, ◌<◌, ◌≤◌, ⊎_elim, inl, inr, Bool, true, false, List, [], ◌∷◌, ◌++◌, length, get_or, refl, sym, ap, subst, ◌∙◌, arith, ℤ, pos, neg_ℤ, ◌≤ℤ◌, ◌⊎◌, nat_lt, unsigned_abs, slice_index_or, replicate, All, if◌then◌else◌}
 use Rattle.std.proofs.lemmas.Bool.{cases_lt}
 use Rattle.std.proofs.lemmas.Int.{ints}
 use Rattle.std.proofs.lemmas.List.{append-nil, get_or_append_left, get_or_push, length-append, length-replicate, length-set}
@@ -22,13 +21,11 @@ use Rattle.opening_tables.specs.declared.rays.Ray.{Ray}
 pub rows-more : (instance : Instance) (up down : Thermal → Bool) (g : ℕ) (unit : Thermal) (rows : List RampRow) → thermal_unit instance g ≡ unit
     → rows ≡ first_rows instance up down g → rows ++ first_row g (up unit) (down unit) ≡ first_rows instance up down (g + 1)
 rows-more instance up down g unit rows is before =
-    let whole : first_rows instance up down (suc g) ≡ first_rows instance up down (g + 1) = ap (first_rows instance up down) (next g) in
+    let next : suc g ≡ g + 1 = omega arith in
+    let whole = ap (first_rows instance up down) next in
     ap (λ xs. xs ++ first_row g (up unit) (down unit)) before
     ∙ ap (λ (u : Thermal). first_rows instance up down g ++ first_row g (up u) (down u)) (sym is)
     ∙ whole
-  where
-    next : (n : ℕ) → suc n ≡ n + 1
-    next n = omega arith
 
 -- a row of a unit below n in the first period, with multipliers of 0 and 1 that aren't both 0
 pub record IsFirstRow (n : ℕ) (row : RampRow) : Type 0 where
@@ -101,10 +98,8 @@ rises_push n rows row within last rises i d h =
     (cases_lt (suc i) (length rows))
 
 rises_row : (n : ℕ) (rows : List RampRow) (up down : Bool) → All (IsFirstRow n) rows → Rises rows → Rises (rows ++ first_row n up down)
-rises_row n rows true true within rises = rises_push n rows _ within refl rises
-rises_row n rows true false within rises = rises_push n rows _ within refl rises
-rises_row n rows false true within rises = rises_push n rows _ within refl rises
 rises_row n rows false false within rises = subst Rises (sym (append-nil rows)) rises
+rises_row n rows _ _ within rises = rises_push n rows _ within refl rises
 
 rows_rise : (instance : Instance) (up down : Thermal → Bool) (n : ℕ) → Rises (first_rows instance up down n)
 rows_rise instance up down zero = λ i d h. absurd (omega arith)

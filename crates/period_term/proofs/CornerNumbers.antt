@@ -1,6 +1,5 @@
 -- The sizes of the numbers at corners, and what the calls give.
-use Rattle.std.proofs.Common.{◌≡◌, ℕ, ◌+◌, ◌*◌, ◌<◌, ◌≤◌, ◌^◌, List, length, sym, ap, subst, ◌∙◌, arith, lit<, to_z, of_z, ℤ, pos, ◌+ℤ◌, ◌-ℤ◌, ◌*ℤ◌, neg_ℤ, ◌≤ℤ◌, ◌<ℤ◌}
-use Rattle.std.specs.Prelude.{unsigned_abs}
+use Rattle.std.proofs.Common.{◌≡◌, ℕ, ◌+◌, ◌*◌, ◌<◌, ◌≤◌, ◌^◌, List, length, sym, ap, subst, ◌∙◌, arith, lit<, to_z, of_z, ℤ, pos, ◌+ℤ◌, ◌-ℤ◌, ◌*ℤ◌, neg_ℤ, ◌≤ℤ◌, ◌<ℤ◌, unsigned_abs}
 use Rattle.std.specs.Int.{w64, w128}
 use Rattle.std.proofs.lemmas.Int.{ints}
 use Rattle.uc_model.specs.Division.{IsFloor, IsCeiling}
@@ -34,13 +33,7 @@ scaled_cost-is corners k r i lawful scale h e =
 pub floor_part-size : (r v w n : ℤ) (m : ℕ) → unsigned_abs r ≤ m → pos 0 ≤ℤ v → v ≤ℤ w → pos 0 <ℤ w → IsFloor (r *ℤ v) w n → unsigned_abs n ≤ m
 floor_part-size r v w n m size low high positive floor =
     let turned = subst (λ z. IsCeiling z w (neg_ℤ n)) (sym (neg-mul r v)) (IsCeiling-neg (r *ℤ v) w n floor) in
-    back n m (ceiling-size (neg_ℤ r) v w (neg_ℤ n) m (there r m size) low high positive turned)
-  where
-    there : (x : ℤ) (m : ℕ) → unsigned_abs x ≤ m → unsigned_abs (neg_ℤ x) ≤ m
-    there x m h = omega (arith, ints)
-
-    back : (x : ℤ) (m : ℕ) → unsigned_abs (neg_ℤ x) ≤ m → unsigned_abs x ≤ m
-    back x m h = omega (arith, ints)
+    omega (arith, ints, ceiling-size (neg_ℤ r) v w (neg_ℤ n) m (omega (arith, ints)) low high positive turned)
 
 -- the reduced cost on a segment, with the price of the output outside the quotient
 pub priced_floor : (k a c d x y over q : ℤ) → IsFloor ((k *ℤ (d -ℤ c)) *ℤ over) (y -ℤ x) q
@@ -106,8 +99,5 @@ level_is a v f over price level a_size over_is over_size f_size e g =
 pub segment_floor : (k a c d x y over f q r : ℤ) → f ≡ k *ℤ c +ℤ a *ℤ x → r ≡ (f +ℤ a *ℤ over) +ℤ q → IsFloor ((k *ℤ (d -ℤ c)) *ℤ over) (y -ℤ x) q
     → IsFloor (((k *ℤ d +ℤ a *ℤ y) -ℤ (k *ℤ c +ℤ a *ℤ x)) *ℤ over) (y -ℤ x) (r -ℤ (k *ℤ c +ℤ a *ℤ x))
 segment_floor k a c d x y over f q r e is floor =
-    subst (λ z. IsFloor (((k *ℤ d +ℤ a *ℤ y) -ℤ (k *ℤ c +ℤ a *ℤ x)) *ℤ over) (y -ℤ x) z) (rest f (k *ℤ c +ℤ a *ℤ x) q (a *ℤ over) r e is)
+    subst (λ z. IsFloor (((k *ℤ d +ℤ a *ℤ y) -ℤ (k *ℤ c +ℤ a *ℤ x)) *ℤ over) (y -ℤ x) z) (omega (arith, linear))
     (priced_floor k a c d x y over q floor)
-  where
-    rest : (f g q p r : ℤ) → f ≡ g → r ≡ (f +ℤ p) +ℤ q → q +ℤ p ≡ r -ℤ g
-    rest f g q p r e is = omega (arith, linear)

@@ -1,6 +1,5 @@
 -- The term of a cell by that without reserve, at prices that are freed of it.
-use Rattle.std.proofs.Common.{◌≡◌, ℕ, zero, suc, ◌<◌, ⊎_elim, refl, sym, ap, subst, ◌∙◌, arith, FitsSigned, to_z, of_z, List, ℤ, pos, ◌+ℤ◌, ◌-ℤ◌, ◌*ℤ◌, ◌≤ℤ◌, ◌<ℤ◌}
-use Rattle.std.specs.Prelude.{Option, None, slice_index_or, [], ◌∷◌}
+use Rattle.std.proofs.Common.{◌≡◌, ℕ, zero, suc, ◌<◌, ⊎_elim, refl, sym, ap, subst, ◌∙◌, arith, FitsSigned, to_z, of_z, List, ℤ, pos, ◌+ℤ◌, ◌-ℤ◌, ◌*ℤ◌, ◌≤ℤ◌, ◌<ℤ◌, Option, None, slice_index_or, [], ◌∷◌}
 use Rattle.std.specs.Int.{int_min, w64, w128}
 use Rattle.std.proofs.lemmas.Int.{ints, to_z-of_z}
 use Rattle.uc_model.specs.declared.instance.Point.{Point}
@@ -8,18 +7,6 @@ use Rattle.uc_model.proofs.Ring.{linear, le_or_lt, mul_left_comm, mul-zero, zero
 use Rattle.dual_model.specs.Term.{IsTerm, weighted_output, weighted_cost}
 use Rattle.dual_model.specs.TableValue.{IsCellTerm}
 use Rattle.period_term.specs.inside.Freed.{AreFreed}
-
-min_le : (b : ℤ) → int_min b (pos 0) ≤ℤ b
-min_le b = grind (arith, ints)
-
-min_low : (b : ℤ) → int_min b (pos 0) ≤ℤ pos 0
-min_low b = grind (arith, ints)
-
-min_below : (b : ℤ) → b ≤ℤ pos 0 → int_min b (pos 0) ≡ b
-min_below b h = grind (arith, ints)
-
-min_above : (b : ℤ) → pos 0 <ℤ b → int_min b (pos 0) ≡ pos 0
-min_above b h = grind (arith, ints)
 
 -- the costs of weights, of cost `cost` and output `p`
 more : (q h k cost p r a b cap output reserve : ℤ) → output ≡ a -ℤ reserve → reserve ≤ℤ b → reserve ≤ℤ pos 0 → pos 0 ≤ℤ r → (p +ℤ r) ≤ℤ (q *ℤ cap)
@@ -29,14 +16,11 @@ more q h k cost p r a b cap output reserve is less low sign fits base =
     let e1 = mul-le-mul_right r reserve b sign less in
     let e2 = mul-le-mul_turned reserve (p +ℤ r) (q *ℤ cap) low fits in
     let e3 = mul-add reserve p r in
-    let e4 : a *ℤ p ≡ output *ℤ p +ℤ reserve *ℤ p = ap (λ z. z *ℤ p) (whole a output reserve is) ∙ add-mul output reserve p in
+    let e4 : a *ℤ p ≡ output *ℤ p +ℤ reserve *ℤ p = ap (λ z. z *ℤ p) (omega (arith, linear)) ∙ add-mul output reserve p in
     let e5 = zero-mul r in
     let e6 = mul-add q h (reserve *ℤ cap) in
     let e7 = mul_left_comm q reserve cap in
     omega (arith, linear)
-  where
-    whole : (a output reserve : ℤ) → output ≡ a -ℤ reserve → a ≡ output +ℤ reserve
-    whole a output reserve e = omega (arith, linear)
 
 -- what bounds them with all the room as reserve, and with none
 with_all : (q n k cost p r a b cap output reserve : ℤ) → output ≡ a -ℤ reserve → reserve ≡ b
@@ -46,14 +30,11 @@ with_all q n k cost p r a b cap output reserve is same base =
     let e1 = mul-sub q n (reserve *ℤ cap) in
     let e2 = mul_left_comm q reserve cap in
     let e3 = mul-sub b (q *ℤ cap) p in
-    let e4 : a *ℤ p ≡ output *ℤ p +ℤ reserve *ℤ p = ap (λ z. z *ℤ p) (whole a output reserve is) ∙ add-mul output reserve p in
+    let e4 : a *ℤ p ≡ output *ℤ p +ℤ reserve *ℤ p = ap (λ z. z *ℤ p) (omega (arith, linear)) ∙ add-mul output reserve p in
     let e5 = zero-mul r in
     let e6 = ap (λ z. z *ℤ p) same in
     let e7 = ap (λ z. z *ℤ (q *ℤ cap)) same in
     omega (arith, linear)
-  where
-    whole : (a output reserve : ℤ) → output ≡ a -ℤ reserve → a ≡ output +ℤ reserve
-    whole a output reserve e = omega (arith, linear)
 
 with_none : (q n k cost p r a b cap output reserve : ℤ) → output ≡ a -ℤ reserve → reserve ≡ pos 0
     → (q *ℤ n) ≤ℤ (k *ℤ cost +ℤ a *ℤ p +ℤ b *ℤ pos 0)
@@ -62,12 +43,9 @@ with_none q n k cost p r a b cap output reserve is none base =
     let e1 = mul-sub q n (reserve *ℤ cap) in
     let e2 = ap (λ z. q *ℤ (z *ℤ cap)) none ∙ ap (λ z. q *ℤ z) (zero-mul cap) ∙ mul-zero q in
     let e3 = mul-zero b in
-    let e4 : a *ℤ p ≡ output *ℤ p = ap (λ z. z *ℤ p) (whole a output reserve is none) in
+    let e4 : a *ℤ p ≡ output *ℤ p = ap (λ z. z *ℤ p) (omega (arith, linear, none)) in
     let e5 = zero-mul r in
     omega (arith, linear)
-  where
-    whole : (a output reserve : ℤ) → output ≡ a -ℤ reserve → reserve ≡ pos 0 → a ≡ output
-    whole a output reserve e none = omega (arith, linear)
 
 pub freed_term : (points : List Point) (k a b cap output reserve h : ℤ) → AreFreed k a b k output reserve → IsTerm points k output (pos 0) cap h
     → IsTerm points k a b cap (h +ℤ reserve *ℤ cap)
@@ -76,41 +54,14 @@ freed_term points k a b cap output reserve h freed term = record {
   bound = record {
     below = λ q weight r total sign fits.
         more (pos q) h k (weighted_cost points weight) (weighted_output points weight) r a b cap output reserve output_is
-        (subst (λ z. z ≤ℤ b) (sym freed.reserve_is) (min_le b)) (subst (λ z. z ≤ℤ pos 0) (sym freed.reserve_is) (min_low b)) sign fits
+        (subst (λ z. z ≤ℤ b) (sym freed.reserve_is) (grind (arith, ints))) (subst (λ z. z ≤ℤ pos 0) (sym freed.reserve_is) (grind (arith, ints))) sign fits
         (term.bound.below q weight r total sign fits);
   };
-  greatest = λ n bound. back n (reserve *ℤ cap) (term.greatest (n -ℤ reserve *ℤ cap) (record {
-    below = λ q weight r total sign fits. ⊎_elim
-        (λ (low : b ≤ℤ pos 0).
-        with_all (pos q) n k (weighted_cost points weight) (weighted_output points weight) r a b cap output reserve output_is
-        (freed.reserve_is ∙ min_below b low)
-        (bound.below q weight (pos q *ℤ cap -ℤ weighted_output points weight) total
-        (left (weighted_output points weight) r (pos q *ℤ cap) sign fits) (whole (weighted_output points weight) (pos q *ℤ cap))))
-        (λ (high : pos 0 <ℤ b).
-        with_none (pos q) n k (weighted_cost points weight) (weighted_output points weight) r a b cap output reserve output_is
-        (freed.reserve_is ∙ min_above b high)
-        (bound.below q weight (pos 0) total (nothing tt) (none (weighted_output points weight) r (pos q *ℤ cap) sign fits)))
-        (le_or_lt b (pos 0));
-  }));
+  greatest = λ n bound. omega (arith, linear, term.greatest (n -ℤ reserve *ℤ cap) (record { below = λ q weight r total sign fits. ⊎_elim (λ (low : b ≤ℤ pos 0). with_all (pos q) n k (weighted_cost points weight) (weighted_output points weight) r a b cap output reserve output_is (freed.reserve_is ∙ (grind (arith, ints))) (bound.below q weight (pos q *ℤ cap -ℤ weighted_output points weight) total (omega (arith, linear)) (omega (arith, linear)))) (λ (high : pos 0 <ℤ b). with_none (pos q) n k (weighted_cost points weight) (weighted_output points weight) r a b cap output reserve output_is (freed.reserve_is ∙ (grind (arith, ints))) (bound.below q weight (pos 0) total (omega (arith, linear)) (omega (arith, linear)))) (le_or_lt b (pos 0)) }));
 }
   where
     output_is : output ≡ a -ℤ reserve
     output_is = freed.output_is ∙ ap (λ z. a -ℤ z) (sym freed.reserve_is)
-
-    back : (n x : ℤ) → (n -ℤ x) ≤ℤ h → n ≤ℤ (h +ℤ x)
-    back n x l = omega (arith, linear)
-
-    left : (p r room : ℤ) → pos 0 ≤ℤ r → (p +ℤ r) ≤ℤ room → pos 0 ≤ℤ (room -ℤ p)
-    left p r room sign fits = omega (arith, linear)
-
-    whole : (p room : ℤ) → (p +ℤ (room -ℤ p)) ≤ℤ room
-    whole p room = omega (arith, linear)
-
-    none : (p r room : ℤ) → pos 0 ≤ℤ r → (p +ℤ r) ≤ℤ room → (p +ℤ pos 0) ≤ℤ room
-    none p r room sign fits = omega (arith, linear)
-
-    nothing : Unit {0} → pos 0 ≤ℤ pos 0
-    nothing u = omega (arith, linear)
 
 -- prices that are freed of those that a call's bits say
 pub freed_bits : (k a b scale output reserve : ℤ) → FitsSigned w64 k → FitsSigned w128 a → FitsSigned w128 b

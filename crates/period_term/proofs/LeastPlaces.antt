@@ -1,6 +1,5 @@
 -- The least reduced cost without reserve, at a corner or on the segment that holds the cap.
-use Rattle.std.proofs.Common.{◌≡◌, ℕ, zero, suc, ◌<◌, ◌≤◌, ◌⊎◌, ⊎_elim, true, false, refl, sym, ap, subst, arith, List, length, ℤ, pos, ◌+ℤ◌, ◌-ℤ◌, ◌*ℤ◌, neg_ℤ, ◌≤ℤ◌, ◌<ℤ◌}
-use Rattle.std.specs.Prelude.{int_le, int_lt}
+use Rattle.std.proofs.Common.{◌≡◌, ℕ, zero, suc, ◌<◌, ◌≤◌, ◌⊎◌, ⊎_elim, true, false, refl, sym, ap, subst, arith, List, length, ℤ, pos, ◌+ℤ◌, ◌-ℤ◌, ◌*ℤ◌, neg_ℤ, ◌≤ℤ◌, ◌<ℤ◌, int_le, int_lt}
 use Rattle.std.proofs.lemmas.Int.{ints}
 use Rattle.uc_model.specs.Division.{IsFloor}
 use Rattle.uc_model.specs.Points.{point_of, output_of}
@@ -118,9 +117,6 @@ from_right e f g x y z falls rising left h =
     let apart : ((y -ℤ x) *ℤ f) ≤ℤ ((y -ℤ x) *ℤ g) = simp spread (omega (arith, linear, product, whole, e1, e2, e3, e4)) in
     le_from_mul (y -ℤ x) f g (omega (arith, linear)) apart
 
-inner_or_last : (i n : ℕ) → i < n → (suc i < n) ⊎ (suc i ≡ n)
-inner_or_last i n h = grind arith
-
 least_right : (points corners : List Point) (k a : ℤ) (i : ℕ) → IsLowerHull points corners → pos 0 ≤ℤ k → IsLeastPlace corners k a i
     → (l : ℕ) → l < length points → (point_of corners i).mw ≤ℤ (point_of points l).mw
     → corner_cost corners k a i ≤ℤ cost_at k a (point_of corners 0).mw (point_of points l)
@@ -131,7 +127,7 @@ least_right points corners k a i whole sign least l hl right = ⊎_elim
     (λ (last : suc i ≡ length corners).
     level (point_of corners i).cost (point_of points l).cost (point_of corners i).mw (point_of points l).mw (point_of corners 0).mw
     (whole.hull.lowest i last l hl right) (le_antisymm _ _ right (whole.hull.last i last l hl)))
-    (inner_or_last i (length corners) least.within)
+    (grind (arith, least.within))
   where
     level : (c d m n z : ℤ) → c ≤ℤ d → m ≡ n → (k *ℤ c +ℤ a *ℤ (m -ℤ z)) ≤ℤ (k *ℤ d +ℤ a *ℤ (n -ℤ z))
     level c d m n z h e =
@@ -142,10 +138,7 @@ least_right points corners k a i whole sign least l hl right = ⊎_elim
 least_left : (points corners : List Point) (k a : ℤ) (i : ℕ) → IsLowerHull points corners → pos 0 ≤ℤ k → IsLeastPlace corners k a i
     → (l : ℕ) → l < length points → (point_of points l).mw <ℤ (point_of corners i).mw
     → corner_cost corners k a i ≤ℤ cost_at k a (point_of corners 0).mw (point_of points l)
-least_left points corners k a zero whole sign least l hl left = absurd (clash _ _ (whole.hull.first l hl) left)
-  where
-    clash : (x y : ℤ) → x ≤ℤ y → y <ℤ x → ⊥
-    clash x y h k = omega (arith, linear)
+least_left points corners k a zero whole sign least l hl left = absurd (omega (arith, linear, whole.hull.first l hl, left))
 least_left points corners k a (suc i) whole sign least l hl left =
     from_right _ _ _ _ _ _ (least.left i refl) (whole.hull.rising i least.within) (less_le _ _ left)
     (priced_above k a (point_of corners 0).mw (point_of corners i) (point_of corners (suc i)) (point_of points l) sign (whole.hull.above i least.within l hl))
@@ -169,7 +162,7 @@ corner_term points corners k a cap i whole sign room least near =
     let zero_at = base points corners whole in
     record {
       reachable = room;
-      bound = supported points k a cap (corner_cost corners k a i) (pos 1) (pos 0) (corner_cost corners k a i) (one tt) (none tt)
+      bound = supported points k a cap (corner_cost corners k a i) (pos 1) (pos 0) (corner_cost corners k a i) (omega (arith, linear)) (omega (arith, linear))
           (λ l hl. flat (corner_cost corners k a i) _ (cap -ℤ output_of points l)
           (subst (λ z. corner_cost corners k a i ≤ℤ cost_at k a z (point_of points l)) zero_at (least_over points corners k a i whole sign least l hl)))
           (once (corner_cost corners k a i));
@@ -181,12 +174,6 @@ corner_term points corners k a cap i whole sign room least near =
           (subst (λ (x : Point). (x.mw -ℤ (point_of corners 0).mw) ≤ℤ cap) found.2 near)))));
     }
   where
-    one : Unit {0} → pos 0 <ℤ pos 1
-    one u = omega (arith, linear)
-
-    none : Unit {0} → pos 0 ≤ℤ pos 0
-    none u = omega (arith, linear)
-
     flat : (f g d : ℤ) → f ≤ℤ g → (f -ℤ pos 0 *ℤ d) ≤ℤ (pos 1 *ℤ g)
     flat f g d h = let e1 = zero-mul d in let e2 = one-mul g in omega (arith, linear)
 
@@ -244,11 +231,12 @@ segment_term points corners k a cap h i place whole sign room least beyond holds
     let bottom = (point_of corners 0).mw in
     let f = corner_cost corners k a i in
     let s = corner_cost corners k a (suc i) -ℤ f in
-    let width = apart (point_of corners (suc i)).mw (point_of corners i).mw bottom in
+    let width : ((point_of corners (suc i)).mw -ℤ bottom) -ℤ ((point_of corners i).mw -ℤ bottom) ≡ (point_of corners (suc i)).mw -ℤ (point_of corners i).mw = omega (arith, linear) in
     let positive : pos 0 <ℤ run_of corners i = subst (λ z. pos 0 <ℤ z) (sym width) (sub_positive _ _ (whole.hull.rising i inner)) in
     let above : (p : Point) → IsAbove (point_of corners i) (point_of corners (suc i)) p
     → (s *ℤ ((p.mw -ℤ bottom) -ℤ output_of corners i)) ≤ℤ ((cost_at k a bottom p -ℤ f) *ℤ run_of corners i) =
-    λ p h. subst (λ z. (s *ℤ z) ≤ℤ ((cost_at k a bottom p -ℤ f) *ℤ run_of corners i)) (sym (apart p.mw (point_of corners i).mw bottom))
+    λ p h. let apart : p.mw -ℤ (point_of corners i).mw ≡ (p.mw -ℤ bottom) -ℤ output_of corners i = omega (arith, linear) in
+    subst (λ z. (s *ℤ z) ≤ℤ ((cost_at k a bottom p -ℤ f) *ℤ run_of corners i)) apart
     (subst (λ z. (s *ℤ (p.mw -ℤ (point_of corners i).mw)) ≤ℤ ((cost_at k a bottom p -ℤ f) *ℤ z)) (sym width)
     (priced_above k a bottom (point_of corners i) (point_of corners (suc i)) p sign h)) in
     let last = whole.hull.place place least.within in
@@ -257,7 +245,7 @@ segment_term points corners k a cap h i place whole sign room least beyond holds
     let no_more = subst (λ (x : Point). corner_cost corners k a place ≤ℤ cost_at k a bottom x) (sym first.2)
     (least_over points corners k a place whole sign least first.0 first.1) in
     let falls : s ≤ℤ pos 0 =
-    falls_to s _ f (corner_cost corners k a place) (run_of corners i) (sub_positive _ _ (before _ _ _ holds.begins beyond)) positive no_more
+    falls_to s _ f (corner_cost corners k a place) (run_of corners i) (sub_positive (output_of corners i) (output_of corners place) (omega (arith, linear, holds.begins, beyond))) positive no_more
     (above (point_of corners place) (subst (λ x. IsAbove (point_of corners i) (point_of corners (suc i)) x) (sym last.2) (whole.hull.above i inner last.0 last.1))) in
     record {
       reachable = room;
@@ -269,27 +257,15 @@ segment_term points corners k a cap h i place whole sign room least beyond holds
       greatest = λ n bound.
           let near = subst (λ z. ((point_of points first.0).mw -ℤ z) ≤ℤ cap) zero_at (subst (λ (x : Point). (x.mw -ℤ bottom) ≤ℤ cap) first.2 holds.begins) in
           let far = subst (λ z. cap <ℤ ((point_of points second.0).mw -ℤ z)) zero_at (subst (λ (x : Point). cap <ℤ (x.mw -ℤ bottom)) second.2 holds.reaches) in
-          let pair = (corners-cell_bound points k a (pos 0) cap n bound).pair first.0 second.0 first.1 second.1 (sub_nonneg _ _ near) (negative _ _ far) in
+          let pair = (corners-cell_bound points k a (pos 0) cap n bound).pair first.0 second.0 first.1 second.1 (sub_nonneg _ _ near) (omega (arith, linear)) in
           let back = subst (λ z. (((cap -ℤ ((point_of points first.0).mw -ℤ z)) -ℤ (cap -ℤ ((point_of points second.0).mw -ℤ z))) *ℤ n)
           ≤ℤ (neg_ℤ (cap -ℤ ((point_of points second.0).mw -ℤ z)) *ℤ cost_at k a z (point_of points first.0) +ℤ (cap -ℤ ((point_of points first.0).mw -ℤ z)) *ℤ cost_at k a z (point_of points second.0))) (sym zero_at) pair in
           let left = subst (λ (x : Point). (((cap -ℤ (x.mw -ℤ bottom)) -ℤ (cap -ℤ ((point_of points second.0).mw -ℤ bottom))) *ℤ n)
           ≤ℤ (neg_ℤ (cap -ℤ ((point_of points second.0).mw -ℤ bottom)) *ℤ cost_at k a bottom x +ℤ (cap -ℤ (x.mw -ℤ bottom)) *ℤ cost_at k a bottom (point_of points second.0))) (sym first.2) back in
           let both = subst (λ (x : Point). (((cap -ℤ output_of corners i) -ℤ (cap -ℤ (x.mw -ℤ bottom))) *ℤ n)
           ≤ℤ (neg_ℤ (cap -ℤ (x.mw -ℤ bottom)) *ℤ f +ℤ (cap -ℤ output_of corners i) *ℤ cost_at k a bottom x)) (sym second.2) left in
-          cancel n h f (IsFloor-greatest _ _ _ (n -ℤ f) positive floor (pair_line (output_of corners i) (output_of corners (suc i)) cap f (corner_cost corners k a (suc i)) n both));
+          omega (arith, linear, IsFloor-greatest _ _ _ (n -ℤ f) positive floor (pair_line (output_of corners i) (output_of corners (suc i)) cap f (corner_cost corners k a (suc i)) n both));
     }
-  where
-    apart : (x y z : ℤ) → (x -ℤ z) -ℤ (y -ℤ z) ≡ x -ℤ y
-    apart x y z = omega (arith, linear)
-
-    before : (x y z : ℤ) → x ≤ℤ y → y <ℤ z → x <ℤ z
-    before x y z h k = omega (arith, linear)
-
-    negative : (x y : ℤ) → x <ℤ y → (x -ℤ y) <ℤ pos 0
-    negative x y h = omega (arith, linear)
-
-    cancel : (n m c : ℤ) → (n -ℤ c) ≤ℤ (m -ℤ c) → n ≤ℤ m
-    cancel n m c h = omega (arith, linear)
 
 -- ---- the halving
 pub lies_right : (corners : List Point) (k a : ℤ) (low high m n : ℕ) → LiesWithin corners k a low high → n ≡ suc m → m < high
@@ -298,12 +274,9 @@ lies_right corners k a low high m n lies e below falls = record {
   order = omega arith;
   within = lies.within;
   left = λ j h. subst (λ i. corner_cost corners k a i ≤ℤ corner_cost corners k a j) (sym e)
-      (subst (λ i. corner_cost corners k a (suc m) ≤ℤ corner_cost corners k a i) (same j h) (less_le _ _ (int_lt-true _ _ falls)));
+      (subst (λ i. corner_cost corners k a (suc m) ≤ℤ corner_cost corners k a i) (omega (arith, e)) (less_le _ _ (int_lt-true _ _ falls)));
   right = lies.right;
 }
-  where
-    same : (j : ℕ) → suc j ≡ n → m ≡ j
-    same j h = omega (arith, e)
 
 pub lies_left : (corners : List Point) (k a : ℤ) (low high m : ℕ) → LiesWithin corners k a low high → low ≤ m → m < high
     → int_lt (corner_cost corners k a (suc m)) (corner_cost corners k a m) ≡ false → LiesWithin corners k a low m
@@ -311,11 +284,8 @@ lies_left corners k a low high m lies order below rises = record {
   order = order;
   within = omega (arith, lies.within, below);
   left = lies.left;
-  right = λ h. not_less _ _ rises;
+  right = λ h. grind (arith, ints);
 }
-  where
-    not_less : (x y : ℤ) → int_lt x y ≡ false → y ≤ℤ x
-    not_less x y h = grind (arith, ints)
 
 -- what a test that fails says
 pub beyond : (x y : ℤ) → int_le x y ≡ false → y <ℤ x

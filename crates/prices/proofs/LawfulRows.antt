@@ -1,23 +1,11 @@
 -- Rows that are put one behind the other stay lawful, and the table that they make with lawful prices is lawful.
-use Rattle.std.proofs.Common.{◌≡◌, ◌∙◌, ℕ, suc, ◌+◌, ◌<◌, ◌≤◌, ⊎_elim, List, [], ◌∷◌, ◌++◌, length, get_or, refl, sym, subst, arith, ℤ, pos, ◌≤ℤ◌}
-use Rattle.std.specs.Prelude.{All}
+use Rattle.std.proofs.Common.{◌≡◌, ℕ, suc, ◌+◌, ◌<◌, ◌≤◌, ⊎_elim, List, [], ◌∷◌, ◌++◌, length, get_or, refl, sym, subst, arith}
 use Rattle.std.proofs.lemmas.Bool.{cases_lt}
 use Rattle.std.proofs.lemmas.List.{get_or_append_left, get_or_push, length_push}
-use Rattle.std.proofs.lemmas.List.Elements.{All-nil, All-push, All-weaker}
-use Rattle.uc_model.specs.Schedule.{thermal_count}
-use Rattle.uc_model.specs.declared.instance.Instance.{Instance}
-use Rattle.dual_model.specs.Prices.{IsLawfulTable, IsPrice, IsRowBefore, IsRowPriced, IsRowSigned, IsRowWithin}
-use Rattle.dual_model.specs.TableValue.{IsLawfulScale}
+use Rattle.std.proofs.lemmas.List.Elements.{All-push}
+use Rattle.dual_model.specs.Prices.{IsRowBefore, IsRowPriced, IsRowSigned, IsRowWithin}
 use Rattle.dual_model.specs.declared.table.RampRow.{RampRow}
 use Rattle.prices.specs.inside.Moves.{AreLawfulRows, IsBehind, IsMultiplier}
-
-pub no_rows : (units periods : ℕ) → AreLawfulRows units periods []
-no_rows units periods = record {
-  within = All-nil (IsRowWithin units periods);
-  rising = λ i d h. absurd (omega arith);
-  signed = All-nil IsRowSigned;
-  priced = All-nil IsRowPriced;
-}
 
 rising_more : (rows : List RampRow) (row : RampRow) (i : ℕ) (d : RampRow)
     → ((k : ℕ) (e : RampRow) → suc k < length rows → IsRowBefore (get_or rows k e) (get_or rows (suc k) e)) → IsBehind rows row
@@ -44,30 +32,4 @@ rows_more units periods rows row lawful within behind up down = record {
   rising = λ i d h. rising_more rows row i d lawful.rising behind h;
   signed = All-push IsRowSigned rows row lawful.signed (record { up = up.low; down = down.low });
   priced = All-push IsRowPriced rows row lawful.priced (record { up = up.size; down = down.size });
-}
-
-pub lawful_table : (instance : Instance) (k : ℤ) (pi mu : List ℤ) (rows : List RampRow) → IsLawfulScale k → length pi ≡ instance.periods
-    → length mu ≡ instance.periods → All IsPrice pi → All IsMultiplier mu → AreLawfulRows (thermal_count instance) instance.periods rows
-    → IsLawfulTable instance (record { units = thermal_count instance; k = k; pi = pi; mu = mu; ramps = rows })
-lawful_table instance k pi mu rows scale demand_count reserve_count demand reserve ramps = record {
-  size = record {
-    form = record {
-      scale = scale.low;
-      lengths = reserve_count ∙ sym demand_count;
-      rows = subst (λ n. All (IsRowWithin (thermal_count instance) n) rows) (sym demand_count) ramps.within;
-      rising = ramps.rising;
-    };
-    units = refl;
-    periods = demand_count;
-  };
-  signs = record {
-    mu = All-weaker IsMultiplier (λ n. pos 0 ≤ℤ n) (λ n h. h.low) mu reserve;
-    ramps = ramps.signed;
-  };
-  limits = record {
-    scale = scale.high;
-    pi = demand;
-    mu = All-weaker IsMultiplier IsPrice (λ n h. h.size) mu reserve;
-    ramps = ramps.priced;
-  };
 }

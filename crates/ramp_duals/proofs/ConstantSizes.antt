@@ -1,6 +1,5 @@
 -- How large a unit's constant is.
-use Rattle.std.proofs.Common.{ℕ, zero, suc, ◌+◌, ◌*◌, ◌<◌, ◌≤◌, arith, Bool, true, false, ℤ, ◌-ℤ◌, ◌*ℤ◌}
-use Rattle.std.specs.Prelude.{unsigned_abs, neg_ℤ}
+use Rattle.std.proofs.Common.{ℕ, zero, suc, ◌+◌, ◌*◌, ◌<◌, ◌≤◌, arith, Bool, true, false, ℤ, ◌-ℤ◌, ◌*ℤ◌, unsigned_abs, neg_ℤ}
 use Rattle.std.proofs.lemmas.Int.{ints}
 use Rattle.uc_model.specs.Commitment.{initial_p}
 use Rattle.uc_model.specs.Limits.{IsLawfulThermal}
@@ -9,11 +8,11 @@ use Rattle.uc_model.specs.declared.limits.TheConstants.{MAX_PERIODS, MAX_POWER}
 use Rattle.uc_model.specs.declared.instance.Thermal.{Thermal}
 use Rattle.uc_model.proofs.Sizes.{abs_add, abs_mul, abs_sub}
 use Rattle.dual_model.specs.NodeValue.{unit_constant}
-use Rattle.dual_model.specs.Prices.{IsRowPriced, IsWithinLimits, down_at, row_of, up_at}
+use Rattle.dual_model.specs.Prices.{IsWithinLimits, down_at, up_at}
 use Rattle.dual_model.specs.declared.limits.TheConstants.{MAX_PRICE}
 use Rattle.dual_model.specs.declared.table.Table.{Table}
-use Rattle.dual_model.proofs.Multipliers.{row_of_each}
 use Rattle.ramp_duals.specs.Sizes.{MAX_CONSTANT}
+use Rattle.ramp_duals.proofs.PriceSizes.{priced_at}
 
 -- the size of a sum of as many terms of this size
 pub sum_below-size : (n m : ℕ) (f : ℕ → ℤ) → ((k : ℕ) → k < n → unsigned_abs (f k) ≤ m) → unsigned_abs (sum_below n f) ≤ n * m
@@ -21,12 +20,6 @@ sum_below-size zero m f h = omega arith
 sum_below-size (suc n) m f h =
     let before = sum_below-size n m f (λ k l. h k (omega arith)) in
     omega (arith, abs_add (sum_below n f) (f n) (n * m) m before (h n (omega arith)))
-
-priced_at : (table : Table) → IsWithinLimits table → (g t : ℕ) → IsRowPriced (row_of table.ramps g t)
-priced_at table limits g t = row_of_each IsRowPriced table.ramps g t limits.ramps (record { up = omega arith; down = omega arith })
-
-neg_size : (a : ℤ) (m : ℕ) → unsigned_abs a ≤ m → unsigned_abs (neg_ℤ a) ≤ m
-neg_size a m h = omega (arith, ints)
 
 bit_size : (b : Bool) (a : ℤ) (m : ℕ) → unsigned_abs a ≤ m → unsigned_abs (bit b *ℤ a) ≤ m
 bit_size true a m h = omega (arith, ints)
@@ -47,7 +40,7 @@ constant_size periods table unit g few limits lawful =
     omega (
       arith,
       abs_sub (neg_ℤ (up_at table g t *ℤ unit.ru)) (down_at table g t *ℤ unit.rd) most most
-          (neg_size (up_at table g t *ℤ unit.ru) most (abs_mul (up_at table g t) unit.ru MAX_PRICE MAX_POWER (priced_at table limits g t).up lawful.ramp_up.power))
+          (omega (arith, ints, abs_mul (up_at table g t) unit.ru MAX_PRICE MAX_POWER (priced_at table limits g t).up lawful.ramp_up.power))
           (abs_mul (down_at table g t) unit.rd MAX_PRICE MAX_POWER (priced_at table limits g t).down lawful.ramp_down.power),
     ) in
     let ramps = sum_below-size periods (2 * most) part each in

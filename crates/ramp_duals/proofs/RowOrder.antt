@@ -1,17 +1,14 @@
 -- Rows that rise by unit and then by period: what stands before a cell, and which row is the cell's.
-use Rattle.std.proofs.Common.{◌≡◌, ℕ, zero, suc, ◌<◌, ◌≤◌, ◌⊎◌, ⊎_elim, inl, inr, Bool, true, false, ◌&&◌, List, [], ◌∷◌, length, refl, sym, subst, ◌∙◌, arith, pos}
-use Rattle.std.specs.Prelude.{IsTrue, ◌==◌}
+use Rattle.std.proofs.Common.{◌≡◌, ℕ, zero, suc, ◌<◌, ◌≤◌, ◌⊎◌, ⊎_elim, inl, inr, Bool, true, false, ◌&&◌, List, [], ◌∷◌, length, refl, sym, subst, ◌∙◌, arith, pos, IsTrue, ◌==◌}
 use Rattle.std.proofs.lemmas.Bool.{and_parts, and_from, eqb-true, eq-eqb, cond-true, cond-false}
 use Rattle.dual_model.specs.Prices.{row_of, IsRowBefore}
 use Rattle.dual_model.specs.declared.table.RampRow.{RampRow}
 use Rattle.ramp_duals.specs.RampRows.{AreRising, row_in, IsBefore, IsPlace}
+use Rattle.uc_model.proofs.Sums.{below_or_last}
 
 -- a row before another one that stands before a cell stands before it too
 before-before : (first second : RampRow) (g t : ℕ) → IsRowBefore first second → IsBefore second g t → IsBefore first g t
 before-before first second g t h k = let order = h.before in grind arith
-
-reached_or_later : (i j : ℕ) → i ≤ suc j → (i ≡ suc j) ⊎ (i ≤ j)
-reached_or_later i j h = grind arith
 
 -- rows before a row that stands before a cell do too
 pub before-earlier : (rows : List RampRow) → AreRising rows → (g t i j : ℕ) → i ≤ j → j < length rows
@@ -25,7 +22,7 @@ before-earlier rows rising g t i (suc j) h k l =
     before-earlier rows rising g t i j earlier (omega arith)
     (before-before (row_in rows j) (row_in rows (suc j)) g t
     (rising j (record { g = 0; t = 0; up = pos 0; down = pos 0 }) k) l))
-    (reached_or_later i j h)
+    (grind arith)
 
 -- ---- the row of a cell among all
 not_true : (b : Bool) → (IsTrue b → ⊥) → b ≡ false
@@ -66,12 +63,6 @@ from_both row g t h k = and_from (row.g == g) (row.t == t) (eq-eqb _ _ h) (eq-eq
 before-not_of : (row : RampRow) (g t : ℕ) → IsBefore row g t → IsTrue (IsOf row g t) → ⊥
 before-not_of row g t h k = let both = of_both row g t k in grind arith
 
-before-next : (row : RampRow) (g t : ℕ) → IsBefore row g t → IsBefore row g (suc t)
-before-next row g t h = grind arith
-
-below_or_last : (n k : ℕ) → k < suc n → (k < n) ⊎ (k ≡ n)
-below_or_last n k l = grind arith
-
 -- a row that isn't before the cell, nor the cell's, isn't before the next one
 not_before-next : (row : RampRow) (g t : ℕ) → (IsBefore row g t → ⊥) → (row.g ≡ g → row.t ≡ t → ⊥) → IsBefore row g (suc t) → ⊥
 not_before-next row g t h k l =
@@ -98,9 +89,6 @@ later-not_of rows rising g t i (suc j) h l first unit period =
     (row_before-cell (row_in rows j) (row_in rows (suc j)) g t
     (rising j (record { g = 0; t = 0; up = pos 0; down = pos 0 }) l) unit period))
 
-three_ways : (i n : ℕ) → ((i < n) ⊎ (i ≡ n)) ⊎ (n < i)
-three_ways i n = grind arith
-
 -- where the row at the cell's place isn't the cell's, no row is
 pub none_at : (rows : List RampRow) → AreRising rows → (g t place : ℕ) → IsPlace rows g t place
     → (place < length rows → IsTrue (IsOf (row_in rows place) g t) → ⊥)
@@ -116,14 +104,14 @@ none_at rows rising g t place is here i l h =
     (λ (later : place < i).
     let both = of_both (row_in rows i) g t h in
     later-not_of rows rising g t place i later l (is.later place (omega arith) (omega arith)) both.0 both.1)
-    (three_ways i place)
+    (grind arith)
 
 -- it is then the next cell's place too
 pub same_place : (rows : List RampRow) → AreRising rows → (g t place : ℕ) → IsPlace rows g t place
     → (place < length rows → IsTrue (IsOf (row_in rows place) g t) → ⊥) → IsPlace rows g (suc t) place
 same_place rows rising g t place is here = record {
   within = is.within;
-  before = λ i l. before-next (row_in rows i) g t (is.before i l);
+  before = λ i l. grind (arith, is.before i l);
   later = λ i low l. not_before-next (row_in rows i) g t (is.later i low l)
       (λ unit period. none_at rows rising g t place is here i l (from_both (row_in rows i) g t unit period));
 }
@@ -134,7 +122,7 @@ pub next_place : (rows : List RampRow) → AreRising rows → (g t place next : 
 next_place rows rising g t place next e is below here = record {
   within = omega arith;
   before = λ i l. ⊎_elim
-      (λ (earlier : i < place). before-next (row_in rows i) g t (is.before i earlier))
+      (λ (earlier : i < place). grind (arith, is.before i earlier))
       (λ (same : i ≡ place).
       let both = of_both (row_in rows place) g t here in
       subst (λ n. IsBefore (row_in rows n) g (suc t)) (sym same) (inr (both.0, omega (arith, both.1))))

@@ -1,6 +1,5 @@
 -- A sum over the indexes so far with the next term.
-use Rattle.std.proofs.Common.{◌≡◌, ℕ, suc, ◌+◌, ◌*◌, ◌<◌, ◌≤◌, ◌^◌, sym, ap, subst, ◌∙◌, arith, ℤ, ◌+ℤ◌, to_z, of_z}
-use Rattle.std.specs.Prelude.{unsigned_abs}
+use Rattle.std.proofs.Common.{◌≡◌, ℕ, suc, ◌+◌, ◌*◌, ◌<◌, ◌≤◌, ◌^◌, sym, ap, subst, ◌∙◌, arith, ℤ, ◌+ℤ◌, to_z, of_z, unsigned_abs}
 use Rattle.std.specs.Int.{w128}
 use Rattle.uc_model.specs.Sums.{sum_below}
 use Rattle.uc_model.proofs.Sizes.{abs_add, wide}

@@ -1,15 +1,13 @@
 -- The rules on commitments are M1 to M5 and M7, in the order in which they are tried.
-use Rattle.std.proofs.Common.{◌≡◌, ℕ, zero, suc, ◌<◌, ◌≤◌, ◌⊎◌, inl, inr, ⊎_elim, List, length, refl, sym, subst, ◌∙◌, arith, get_or}
-use Rattle.std.proofs.lemmas.Bool.{true≢false}
+use Rattle.std.proofs.Common.{◌≡◌, ℕ, zero, suc, ◌<◌, ◌≤◌, ◌⊎◌, inl, inr, ⊎_elim, List, length, refl, sym, subst, ◌∙◌, arith, get_or, true≢false}
 use Rattle.uc_model.specs.Rules.{rule_number}
 use Rattle.uc_model.specs.declared.instance.Thermal.{Thermal}
 use Rattle.uc_model.specs.declared.schedule.Cell.{Cell}
 use Rattle.schedule_check.specs.CommitmentRules.{IsOnCommitments, RowKeeps, BreaksFirst}
 use Rattle.schedule_check.specs.inside.Failures.{FailsFirstAt}
-use Rattle.schedule_check.specs.WholeWatts.{rule_of, unit_holds, unit_periods}
+use Rattle.schedule_check.specs.WholeWatts.{UnitRule, rule_of, unit_holds, unit_periods}
 use Rattle.schedule_check.specs.declared.unit_rule.TheConstants.{COMMITMENT_RULES}
-use Rattle.schedule_check.specs.declared.unit_rule.UnitRule.{UnitRule}
-use Rattle.schedule_check.specs.declared.unit_rule.UnitRule.TheVariants.{MustRun, InitialUp, InitialDown, MinimumUp, MinimumDown, Category, InitialStop, Production, StartCap, StopCap, RampUp, RampDown}
+use Rattle.schedule_check.specs.declared.unit_rule.UnitRule.TheVariants.{MustRun, InitialUp, InitialDown, MinimumUp, MinimumDown, InitialStop}
 
 -- the rule tried in turn k, from 0
 abbrev pub turn : ℕ → UnitRule
@@ -20,13 +18,9 @@ number k = rule_number (rule_of (turn k))
 
 -- the numbers of the turns: 1 to 5, and 7
 pub number-is : (k : ℕ) → k < 6 → ((k < 5) × (number k ≡ suc k)) ⊎ ((k ≡ 5) × (number k ≡ 7))
-number-is zero h = inl ((omega arith), refl)
-number-is (suc zero) h = inl ((omega arith), refl)
-number-is (suc (suc zero)) h = inl ((omega arith), refl)
-number-is (suc (suc (suc zero))) h = inl ((omega arith), refl)
-number-is (suc (suc (suc (suc zero)))) h = inl ((omega arith), refl)
 number-is (suc (suc (suc (suc (suc zero))))) h = inr (refl, refl)
 number-is (suc (suc (suc (suc (suc (suc k)))))) h = absurd (omega arith)
+number-is _ h = inl ((omega arith), refl)
 
 pub on_commitments : (k : ℕ) → k < 6 → IsOnCommitments (turn k)
 on_commitments k h = ⊎_elim (λ low. inl (omega (arith, low.1, low.0))) (λ last. inr last.1) (number-is k h)
@@ -51,13 +45,8 @@ turn_of InitialUp h = record { k = 1; within = omega arith; is = refl }
 turn_of InitialDown h = record { k = 2; within = omega arith; is = refl }
 turn_of MinimumUp h = record { k = 3; within = omega arith; is = refl }
 turn_of MinimumDown h = record { k = 4; within = omega arith; is = refl }
-turn_of Category h = ⊎_elim (λ a. absurd (omega (arith, a))) (λ a. absurd (omega (arith, a))) h
 turn_of InitialStop h = record { k = 5; within = omega arith; is = refl }
-turn_of Production h = ⊎_elim (λ a. absurd (omega (arith, a))) (λ a. absurd (omega (arith, a))) h
-turn_of StartCap h = ⊎_elim (λ a. absurd (omega (arith, a))) (λ a. absurd (omega (arith, a))) h
-turn_of StopCap h = ⊎_elim (λ a. absurd (omega (arith, a))) (λ a. absurd (omega (arith, a))) h
-turn_of RampUp h = ⊎_elim (λ a. absurd (omega (arith, a))) (λ a. absurd (omega (arith, a))) h
-turn_of RampDown h = ⊎_elim (λ a. absurd (omega (arith, a))) (λ a. absurd (omega (arith, a))) h
+turn_of _ h = ⊎_elim (λ a. absurd (omega (arith, a))) (λ a. absurd (omega (arith, a))) h
 
 -- where the row keeps the rules of the first n turns, it keeps each rule whose turn is one of them
 pub kept_before : (unit : Thermal) (row : List Cell) (n : ℕ) → ((k : ℕ) → k < n → RowKeeps unit row (turn k))

@@ -1,9 +1,7 @@
 -- Counts of the indexes below a number at which a test holds: what the windows of minimum times and the stops between
 -- two lags are by them.
-use Rattle.std.proofs.Common.{◌≡◌, ℕ, zero, suc, ◌+◌, ◌-◌, ◌<◌, ◌≤◌, ⊎_elim, Bool, true, false, ◌&&◌, ◌||◌, refl, sym, ap, subst, ◌∙◌, arith, List, length, get_or, pos}
-use Rattle.std.specs.Prelude.{IsTrue, nat_le, nat_lt, slice_set, int_le, if◌then◌else◌}
+use Rattle.std.proofs.Common.{◌≡◌, ℕ, zero, suc, ◌+◌, ◌-◌, ◌<◌, ◌≤◌, ⊎_elim, Bool, true, false, ◌&&◌, ◌||◌, refl, sym, ap, subst, ◌∙◌, arith, List, length, get_or, pos, IsTrue, nat_le, nat_lt, slice_set, int_le, get_or-set_same, get_or-set_other, if◌then◌else◌}
 use mir.Val.{bool_byte}
-use Rattle.std.proofs.lemmas.List.{get_or-set_same, get_or-set_other}
 use Rattle.std.proofs.lemmas.Bool.{cases_lt, cases_Bool, and_parts, and_from, leb-true, le-leb, ltb-true, lt-ltb, le-ltb, true≢false}
 use Rattle.uc_model.specs.Sums.{sum_below, any_below, bit}
 use Rattle.uc_model.proofs.Ring.{linear}

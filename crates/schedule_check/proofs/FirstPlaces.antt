@@ -1,6 +1,5 @@
 -- From the first place of one rule to the first of all, in their order; and from whole watts to what they stand for.
-use Rattle.std.proofs.Common.{◌≡◌, ℕ, ◌-◌, ◌<◌, ◌≤◌, Bool, refl, sym, subst, ◌∙◌, arith}
-use Rattle.std.specs.Prelude.{IsTrue}
+use Rattle.std.proofs.Common.{◌≡◌, ℕ, ◌-◌, ◌<◌, ◌≤◌, Bool, refl, sym, subst, ◌∙◌, arith, IsTrue}
 use Rattle.uc_model.specs.Rules as model
 use Rattle.uc_model.specs.Rules.{Obeys}
 use Rattle.uc_model.specs.Schedule.{thermal_unit, thermal_count}
@@ -12,10 +11,9 @@ use Rattle.uc_model.proofs.Tests.{all_below-from}
 use Rattle.schedule_check.specs.FirstBroken.{HoldsThroughout, FailsFirst, IsFirstBroken}
 use Rattle.schedule_check.specs.declared.broken.Broken.{Broken}
 use Rattle.schedule_check.specs.declared.broken.Place.{Place}
-use Rattle.schedule_check.specs.declared.unit_rule.UnitRule.{UnitRule}
 use Rattle.schedule_check.specs.declared.unit_rule.UnitRule.TheVariants.{MustRun, InitialUp, InitialDown, MinimumUp, MinimumDown, Category, InitialStop, Production, StartCap, StopCap, RampUp, RampDown}
 use Rattle.schedule_check.specs.inside.Failures.{FailsFirstAt, FailsFirstIn}
-use Rattle.schedule_check.specs.WholeWatts.{holds_at, rule_of, row_of, unit_holds, unit_periods}
+use Rattle.schedule_check.specs.WholeWatts.{UnitRule, holds_at, rule_of, row_of, unit_holds, unit_periods}
 use Rattle.schedule_check.proofs.RuleOrder.{tried, number-tried, tried-number, number_within}
 use Rattle.schedule_check.proofs.SameRules.{AllProduced, same_rule}
 use Rattle.schedule_check.proofs.Produced.{denominator_positive}
@@ -47,45 +45,12 @@ all_tried instance printed turn last before rule less =
 same_unit : (rule : UnitRule) (instance : Instance) (printed : Printed) (g t : ℕ)
     → watts instance printed (rule_of rule) g t ≡ unit_holds rule instance.periods (thermal_unit instance g) (row_of printed g) t
 same_unit MustRun instance printed g t = refl
-same_unit InitialUp instance printed g t = refl
-same_unit InitialDown instance printed g t = refl
-same_unit MinimumUp instance printed g t = refl
-same_unit MinimumDown instance printed g t = refl
-same_unit Category instance printed g t = refl
-same_unit InitialStop instance printed g t = refl
-same_unit Production instance printed g t = refl
-same_unit StartCap instance printed g t = refl
-same_unit StopCap instance printed g t = refl
-same_unit RampUp instance printed g t = refl
-same_unit RampDown instance printed g t = refl
+same_unit _ instance printed g t = refl
 
-units_of : (rule : UnitRule) (instance : Instance) → model.rule_units (rule_of rule) instance ≡ thermal_count instance
-units_of MustRun instance = refl
-units_of InitialUp instance = refl
-units_of InitialDown instance = refl
-units_of MinimumUp instance = refl
-units_of MinimumDown instance = refl
-units_of Category instance = refl
-units_of InitialStop instance = refl
-units_of Production instance = refl
-units_of StartCap instance = refl
-units_of StopCap instance = refl
-units_of RampUp instance = refl
-units_of RampDown instance = refl
-
-periods_of : (rule : UnitRule) (instance : Instance) → model.rule_periods (rule_of rule) instance ≡ unit_periods rule instance.periods
-periods_of MustRun instance = refl
-periods_of InitialUp instance = refl
-periods_of InitialDown instance = refl
-periods_of MinimumUp instance = refl
-periods_of MinimumDown instance = refl
-periods_of Category instance = refl
-periods_of InitialStop instance = refl
-periods_of Production instance = refl
-periods_of StartCap instance = refl
-periods_of StopCap instance = refl
-periods_of RampUp instance = refl
-periods_of RampDown instance = refl
+shape_of : (rule : UnitRule) (instance : Instance)
+    → (model.rule_units (rule_of rule) instance ≡ thermal_count instance) × (model.rule_periods (rule_of rule) instance ≡ unit_periods rule instance.periods)
+shape_of MustRun instance = (refl, refl)
+shape_of _ instance = (refl, refl)
 
 -- a rule on thermal units that is broken nowhere
 pub unit_throughout : (rule : UnitRule) (instance : Instance) (printed : Printed)
@@ -94,7 +59,7 @@ pub unit_throughout : (rule : UnitRule) (instance : Instance) (printed : Printed
     → HoldsThroughout instance (watts instance printed) (rule_of rule)
 unit_throughout rule instance printed all g t hg ht =
     same_unit rule instance printed g t
-    ∙ all g t (subst (λ n. g < n) (units_of rule instance) hg) (subst (λ n. t < n) (periods_of rule instance) ht)
+    ∙ all g t (subst (λ n. g < n) (shape_of rule instance).0 hg) (subst (λ n. t < n) (shape_of rule instance).1 ht)
 
 -- one that is broken first there
 pub unit_fails : (rule : UnitRule) (instance : Instance) (printed : Printed) (place : Place) (number : ℕ)
@@ -106,11 +71,11 @@ pub unit_fails : (rule : UnitRule) (instance : Instance) (printed : Printed) (pl
 unit_fails rule instance printed place number first is earlier = record {
   rule = rule_of rule;
   number = is;
-  unit = subst (λ n. place.unit < n) (sym (units_of rule instance)) first.unit;
-  period = subst (λ n. place.period < n) (sym (periods_of rule instance)) first.period.within;
+  unit = subst (λ n. place.unit < n) (sym (shape_of rule instance).0) first.unit;
+  period = subst (λ n. place.period < n) (sym (shape_of rule instance).1) first.period.within;
   fails = same_unit rule instance printed place.unit place.period ∙ first.period.fails;
   rules = earlier;
-  units = λ g t hg ht. same_unit rule instance printed g t ∙ first.before g t hg (subst (λ n. t < n) (periods_of rule instance) ht);
+  units = λ g t hg ht. same_unit rule instance printed g t ∙ first.before g t hg (subst (λ n. t < n) (shape_of rule instance).1 ht);
   periods = λ t ht. same_unit rule instance printed place.unit t ∙ first.period.before t ht;
 }
 

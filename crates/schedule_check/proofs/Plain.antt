@@ -1,7 +1,6 @@
 -- Plain numbers are of a size, and stand everywhere where each of the schedule's own numbers is plain.
 -- Cite by `use Rattle.schedule_check.proofs.Plain.{power_below, sized, plain}`.
-use Rattle.std.proofs.Common.{ℕ, ◌<◌, ◌≤◌, ⊎_elim, List, [], length, get_or, sym, subst, refl, ℤ, pos, ◌+ℤ◌, ◌≤ℤ◌, arith}
-use Rattle.std.specs.Prelude.{false}
+use Rattle.std.proofs.Common.{ℕ, ◌<◌, ◌≤◌, ⊎_elim, List, [], length, get_or, sym, subst, refl, ℤ, pos, ◌+ℤ◌, ◌≤ℤ◌, arith, false}
 use Rattle.std.proofs.lemmas.Bool.{cases_lt}
 use Rattle.std.proofs.lemmas.List.{get_or_past}
 use Rattle.uc_model.specs.PrintedSchedule.{cell_at}

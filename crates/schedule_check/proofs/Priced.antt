@@ -1,7 +1,6 @@
 -- The cells of a schedule that obeys can be priced: by M8 an output lies on the hull, and by M6 a category is one of the
 -- unit's.
-use Rattle.std.proofs.Common.{◌≡◌, ℕ, zero, suc, ◌<◌, ◌≤◌, ⊎_elim, false, ◌∙◌, sym, arith}
-use Rattle.std.specs.Prelude.{IsTrue, nat_lt, ◌==◌}
+use Rattle.std.proofs.Common.{◌≡◌, ℕ, zero, suc, ◌<◌, ◌≤◌, ⊎_elim, false, ◌∙◌, sym, arith, IsTrue, nat_lt, ◌==◌}
 use Rattle.std.proofs.lemmas.Bool.{and_parts, or_cases, cases_Bool, cond-true, cond-false, eqb-true, ltb-true}
 use Rattle.uc_model.specs.Commitment.{Commitment, starts}
 use Rattle.uc_model.specs.StartCategory.{category_count, is_category_allowed, category_holds_at}

@@ -1,7 +1,6 @@
 -- M8 of the schedule that a printed one stands for, cell by cell: it holds exactly where the cell's output lies on the
 -- hull and its reserve isn't below 0, and the weights then give the output over the denominator.
-use Rattle.std.proofs.Common.{◌≡◌, ℕ, zero, suc, ◌*◌, ◌<◌, ◌≤◌, ⊎_elim, true, false, refl, sym, ap, subst, ◌∙◌, arith, List, length, ℤ, pos, ◌*ℤ◌, ◌≤ℤ◌}
-use Rattle.std.specs.Prelude.{IsTrue, Option, Some, None, nat_le, if◌then◌else◌}
+use Rattle.std.proofs.Common.{◌≡◌, ℕ, zero, suc, ◌*◌, ◌<◌, ◌≤◌, ⊎_elim, true, false, refl, sym, ap, subst, ◌∙◌, arith, List, length, ℤ, pos, ◌*ℤ◌, ◌≤ℤ◌, IsTrue, Option, Some, None, nat_le, if◌then◌else◌}
 use Rattle.std.specs.Ordering.{int_eq}
 use Rattle.std.proofs.Math.Nat.{le-max_left}
 use Rattle.std.proofs.lemmas.Bool.{and_parts, and_from, or_left, or_right, cases_Bool, cond-true, cond-false, cond_both, true≢false, le-leb}

@@ -1,9 +1,8 @@
 -- The rules on thermal units are the first twelve of the model's, in the order in which they are tried.
 use Rattle.std.proofs.Common.{◌≡◌, ℕ, zero, suc, ◌-◌, ◌<◌, refl, arith, get_or}
 use Rattle.uc_model.specs.Rules as model
-use Rattle.schedule_check.specs.WholeWatts.{rule_of}
+use Rattle.schedule_check.specs.WholeWatts.{UnitRule, rule_of}
 use Rattle.schedule_check.specs.declared.unit_rule.TheConstants.{UNIT_RULES}
-use Rattle.schedule_check.specs.declared.unit_rule.UnitRule.{UnitRule}
 use Rattle.schedule_check.specs.declared.unit_rule.UnitRule.TheVariants.{MustRun, InitialUp, InitialDown, MinimumUp, MinimumDown, Category, InitialStop, Production, StartCap, StopCap, RampUp, RampDown}
 
 -- the rule tried in turn k, from 0
@@ -11,55 +10,20 @@ abbrev pub tried : ℕ → UnitRule
 tried k = get_or UNIT_RULES k MustRun
 
 pub number-tried : (k : ℕ) → k < 12 → model.rule_number (rule_of (tried k)) ≡ suc k
-number-tried zero h = refl
-number-tried (suc zero) h = refl
-number-tried (suc (suc zero)) h = refl
-number-tried (suc (suc (suc zero))) h = refl
-number-tried (suc (suc (suc (suc zero)))) h = refl
-number-tried (suc (suc (suc (suc (suc zero))))) h = refl
-number-tried (suc (suc (suc (suc (suc (suc zero)))))) h = refl
-number-tried (suc (suc (suc (suc (suc (suc (suc zero))))))) h = refl
-number-tried (suc (suc (suc (suc (suc (suc (suc (suc zero)))))))) h = refl
-number-tried (suc (suc (suc (suc (suc (suc (suc (suc (suc zero))))))))) h = refl
-number-tried (suc (suc (suc (suc (suc (suc (suc (suc (suc (suc zero)))))))))) h = refl
-number-tried (suc (suc (suc (suc (suc (suc (suc (suc (suc (suc (suc zero))))))))))) h = refl
 number-tried (suc (suc (suc (suc (suc (suc (suc (suc (suc (suc (suc (suc k)))))))))))) h = absurd (omega arith)
+number-tried _ h = refl
 
 -- the turn of a rule is its number less 1
 pub tried-number : (rule : model.Rule) → model.rule_number rule < 13 → rule_of (tried (model.rule_number rule - 1)) ≡ rule
-tried-number model.MustRun h = refl
-tried-number model.InitialUp h = refl
-tried-number model.InitialDown h = refl
-tried-number model.MinimumUp h = refl
-tried-number model.MinimumDown h = refl
-tried-number model.Category h = refl
-tried-number model.InitialStop h = refl
-tried-number model.Production h = refl
-tried-number model.StartCap h = refl
-tried-number model.StopCap h = refl
-tried-number model.RampUp h = refl
-tried-number model.RampDown h = refl
 tried-number model.RenewableRange h = absurd (omega arith)
 tried-number model.Demand h = absurd (omega arith)
 tried-number model.Reserve h = absurd (omega arith)
+tried-number _ h = refl
 
 -- a rule's number lies between 1 and 15
 pub number_within : (rule : model.Rule) → (0 < model.rule_number rule) × (model.rule_number rule < 16)
 number_within model.MustRun = (omega arith, omega arith)
-number_within model.InitialUp = (omega arith, omega arith)
-number_within model.InitialDown = (omega arith, omega arith)
-number_within model.MinimumUp = (omega arith, omega arith)
-number_within model.MinimumDown = (omega arith, omega arith)
-number_within model.Category = (omega arith, omega arith)
-number_within model.InitialStop = (omega arith, omega arith)
-number_within model.Production = (omega arith, omega arith)
-number_within model.StartCap = (omega arith, omega arith)
-number_within model.StopCap = (omega arith, omega arith)
-number_within model.RampUp = (omega arith, omega arith)
-number_within model.RampDown = (omega arith, omega arith)
-number_within model.RenewableRange = (omega arith, omega arith)
-number_within model.Demand = (omega arith, omega arith)
-number_within model.Reserve = (omega arith, omega arith)
+number_within _ = (omega arith, omega arith)
 
 -- a fact of the rules on thermal units is one of the first twelve
 pub of_first : (P : model.Rule → Type 0) → ((rule : UnitRule) → P (rule_of rule)) → (rule : model.Rule) → model.rule_number rule < 13 → P rule
@@ -75,20 +39,8 @@ of_first P each model.StartCap h = each StartCap
 of_first P each model.StopCap h = each StopCap
 of_first P each model.RampUp h = each RampUp
 of_first P each model.RampDown h = each RampDown
-of_first P each model.RenewableRange h = absurd (omega arith)
-of_first P each model.Demand h = absurd (omega arith)
-of_first P each model.Reserve h = absurd (omega arith)
+of_first P each _ h = absurd (omega arith)
 
 pub number_unit : (rule : UnitRule) → model.rule_number (rule_of rule) < 13
 number_unit MustRun = omega arith
-number_unit InitialUp = omega arith
-number_unit InitialDown = omega arith
-number_unit MinimumUp = omega arith
-number_unit MinimumDown = omega arith
-number_unit Category = omega arith
-number_unit InitialStop = omega arith
-number_unit Production = omega arith
-number_unit StartCap = omega arith
-number_unit StopCap = omega arith
-number_unit RampUp = omega arith
-number_unit RampDown = omega arith
+number_unit _ = omega arith

@@ -1,7 +1,6 @@
 -- Each rule says the same of a printed schedule in whole watts as of the schedule that it stands for: M1 to M8 always,
 -- and the others where M8 holds in every cell.
-use Rattle.std.proofs.Common.{◌≡◌, ℕ, zero, suc, ◌/◌, ◌<◌, ◌≤◌, not, ◌&&◌, ◌||◌, refl, sym, ap, ◌∙◌, arith, List, ℤ, pos, ◌+ℤ◌, ◌-ℤ◌, ◌*ℤ◌}
-use Rattle.std.specs.Prelude.{IsTrue, int_le, nat_lt, slice_index_or}
+use Rattle.std.proofs.Common.{◌≡◌, ℕ, zero, suc, ◌/◌, ◌<◌, ◌≤◌, not, ◌&&◌, ◌||◌, refl, sym, ap, ◌∙◌, arith, List, ℤ, pos, ◌+ℤ◌, ◌-ℤ◌, ◌*ℤ◌, IsTrue, int_le, nat_lt, slice_index_or}
 use Rattle.std.specs.Int.{int_max}
 use Rattle.std.specs.Ordering.{int_eq}
 use Rattle.uc_model.specs.Sums.{bit}
@@ -154,13 +153,6 @@ pub same_rule : (rule : model.Rule) (instance : Instance) (printed : Printed) (g
     → (8 < model.rule_number rule → AllProduced instance printed)
     → model.holds_at rule instance (printed_denominator instance printed) (printed_schedule instance printed (printed_denominator instance printed)) g t
     ≡ watts.holds_at rule instance printed g t
-same_rule model.MustRun instance printed g t lawful place all = refl
-same_rule model.InitialUp instance printed g t lawful place all = refl
-same_rule model.InitialDown instance printed g t lawful place all = refl
-same_rule model.MinimumUp instance printed g t lawful place all = refl
-same_rule model.MinimumDown instance printed g t lawful place all = refl
-same_rule model.Category instance printed g t lawful place all = refl
-same_rule model.InitialStop instance printed g t lawful place all = refl
 same_rule model.Production instance printed g t lawful place all = production-is instance printed g t lawful place.unit place.period
 same_rule model.StartCap instance printed g t lawful place all =
     limit_by _ _ _ _ (denominator_positive instance printed) (head-is _ _ _ _ t (row_is instance printed g t lawful (all (omega arith)) place.unit place.period))
@@ -189,3 +181,4 @@ same_rule model.Reserve instance printed g t lawful place all =
     let q = printed_denominator instance printed in
     ap (λ z. int_le (pos q *ℤ reserve_at instance t) z) (reserve-is instance printed q t)
     ∙ scale-int_le q (reserve_at instance t) (watts.reserve_supply_at instance printed t) (denominator_positive instance printed)
+same_rule _ instance printed g t lawful place all = refl

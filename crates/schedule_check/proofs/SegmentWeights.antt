@@ -1,8 +1,7 @@
 -- The weights that stand for an output on a segment of the hull: each is at most their sum, which is q, and they give
 -- q times the output.
-use Rattle.std.proofs.Common.{◌≡◌, ℕ, ◌*◌, ◌/◌, ◌<◌, ◌≤◌, ◌≢◌, ⊎_elim, false, refl, sym, ap, subst, ◌∙◌, arith, List, length, ℤ, pos, negsuc, ◌+ℤ◌, ◌-ℤ◌, ◌*ℤ◌, ◌≤ℤ◌}
-use Rattle.std.specs.Prelude.{IsTrue, Some, unsigned_abs, ◌==◌, if◌then◌else◌}
-use Rattle.std.proofs.Math.Nat.{le-max_left, mul-div_cancel}
+use Rattle.std.proofs.Common.{◌≡◌, ℕ, ◌*◌, ◌/◌, ◌<◌, ◌≤◌, ◌≢◌, ⊎_elim, false, refl, sym, ap, subst, ◌∙◌, arith, List, length, ℤ, pos, ◌+ℤ◌, ◌-ℤ◌, ◌*ℤ◌, ◌≤ℤ◌, IsTrue, Some, unsigned_abs, ◌==◌, if◌then◌else◌}
+use Rattle.std.proofs.Math.Nat.{le-max_left}
 use Rattle.std.proofs.lemmas.Bool.{cases_Bool, cond-true, cond-false, eqb-true, eqb-false, eq-eqb, ne_eqb}
 use Rattle.uc_model.specs.Points.{output_of, weighted_total, weighted_output}
 use Rattle.uc_model.specs.Hull.{run, Segment, segment_at, segment_width, from_left, to_right}
@@ -10,17 +9,14 @@ use Rattle.uc_model.specs.PrintedSchedule.{segment_weight}
 use Rattle.uc_model.specs.declared.instance.Point.{Point}
 use Rattle.uc_model.proofs.Ring.{linear, mul_comm, mul_assoc, add-mul, mul-sub, sub-mul, mul-zero, one-mul, pos-mul}
 use Rattle.uc_model.proofs.Sums.{sum_below-single, sum_below-pair}
-use Rattle.uc_model.proofs.HullPoints.{Holds, LiesOn, segment_at-holds, lies_on}
+use Rattle.uc_model.proofs.HullPoints.{Holds, LiesOn, segment_at-holds, lies_on, abs_is}
+use Rattle.uc_model.proofs.PrintedCosts.{share_is}
 
 -- weights of at most q that sum to q and give the output p
 pub record StandFor (q : ℕ) (points : List Point) (p : ℤ) (weight : ℕ → ℕ) : Type 0 where
   pub each : (l : ℕ) → l < length points → weight l ≤ q
   pub total : weighted_total points weight ≡ pos q
   pub output : weighted_output points weight ≡ pos q *ℤ p
-
-abs_is : (z : ℤ) → pos 0 ≤ℤ z → pos (unsigned_abs z) ≡ z
-abs_is (pos n) h = refl
-abs_is (negsuc n) h = absurd (omega (arith, linear))
 
 -- ---- all on one point
 alone : (q : ℕ) (points : List Point) (p : ℤ) (s : Segment) → Holds points 1 p s → LiesOn points 1 p s → s.left ≡ s.right
@@ -30,8 +26,7 @@ alone q points p s holds lies same =
     let here = λ (l : ℕ). cond-true (s.left == s.right) (if l == s.left then q else 0) _ (eq-eqb s.left s.right same) in
     let at_left : weight s.left ≡ q = here s.left ∙ cond-true (s.left == s.left) q 0 (eq-eqb s.left s.left refl) in
     let elsewhere = λ (l : ℕ) (other : l ≢ s.left). here l ∙ cond-false (l == s.left) q 0 (ne_eqb l s.left other) in
-    let place : output_of points s.left ≡ p = placed _ _ _ lies.after (subst (λ k. pos 0 ≤ℤ (pos 1 *ℤ output_of points k -ℤ p)) (sym same) lies.before)
-    (one-mul (output_of points s.left)) in
+    let place : output_of points s.left ≡ p = omega (arith, linear, lies.after, subst (λ k. pos 0 ≤ℤ (pos 1 *ℤ output_of points k -ℤ p)) (sym same) lies.before, one-mul (output_of points s.left)) in
     record {
       each = λ l h. ⊎_elim
           (λ (is : IsTrue (l == s.left)). let e = at_left ∙ refl in let l_is = eqb-true l s.left is in subst (λ k. weight k ≤ q) (sym l_is) (omega (arith, at_left)))
@@ -42,9 +37,6 @@ alone q points p s holds lies same =
           (λ l h other. ap (λ w. output_of points l *ℤ pos w) (elsewhere l other) ∙ mul-zero (output_of points l))
           ∙ ap (λ w. output_of points s.left *ℤ pos w) at_left ∙ mul_comm (output_of points s.left) (pos q) ∙ ap (λ z. pos q *ℤ z) place;
     }
-  where
-    placed : (x p y : ℤ) → pos 0 ≤ℤ (p -ℤ y) → pos 0 ≤ℤ (y -ℤ p) → y ≡ x → x ≡ p
-    placed x p y h k e = omega (arith, linear)
 
 -- ---- on two points
 -- the output between x and y, with the parts a and b of the width on both sides of it
@@ -154,6 +146,3 @@ stand_for q c points p s e some factor =
     (λ (apart : (s.left == s.right) ≡ false).
     on_two q c points p s holds lies (eqb-false s.left s.right apart) factor (share_is q c (1 * segment_width points s) positive factor))
     (cases_Bool (s.left == s.right))
-  where
-    share_is : (q c n : ℕ) → 0 < n → q ≡ c * n → q / n ≡ c
-    share_is q c n some e = ap (λ m. m / n) e ∙ mul-div_cancel c some

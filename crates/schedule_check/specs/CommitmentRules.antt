@@ -4,8 +4,7 @@ use Rattle.std.specs.Prelude.{◌≡◌, ℕ, ◌<◌, ◌⊎◌, List, length, 
 use Rattle.uc_model.specs.Rules.{rule_number}
 use Rattle.uc_model.specs.declared.instance.Thermal.{Thermal}
 use Rattle.uc_model.specs.declared.schedule.Cell.{Cell}
-use Rattle.schedule_check.specs.WholeWatts.{rule_of, unit_holds, unit_periods}
-use Rattle.schedule_check.specs.declared.unit_rule.UnitRule.{UnitRule}
+use Rattle.schedule_check.specs.WholeWatts.{UnitRule, rule_of, unit_holds, unit_periods}
 
 abbrev pub IsOnCommitments : UnitRule → Type 0
 IsOnCommitments rule = (rule_number (rule_of rule) < 6) ⊎ (rule_number (rule_of rule) ≡ 7)

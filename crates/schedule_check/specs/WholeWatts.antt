@@ -19,7 +19,7 @@ use Rattle.uc_model.specs.declared.schedule.Printed.{Printed}
 use Rattle.schedule_check.specs.FirstBroken.{HoldsThroughout, FailsFirst}
 use Rattle.schedule_check.specs.SizedNumbers.{IsSizedCell, output_at}
 use Rattle.schedule_check.specs.declared.broken.Broken.{Broken}
-use Rattle.schedule_check.specs.declared.unit_rule.UnitRule.{UnitRule}
+pub use Rattle.schedule_check.specs.declared.unit_rule.UnitRule.{UnitRule}
 use Rattle.schedule_check.specs.declared.unit_rule.UnitRule.TheVariants.{MustRun, InitialUp, InitialDown, MinimumUp, MinimumDown, Category, InitialStop, Production, StartCap, StopCap, RampUp, RampDown}
 
 -- a unit's row, its cell in period t, and the commitment that it says; past its end the unit is off

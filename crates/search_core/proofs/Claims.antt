@@ -1,13 +1,11 @@
 -- The claims after one more, and after one that ended.
-use Rattle.std.proofs.Common.{◌≡◌, ◌≢◌, ℕ, zero, suc, ◌+◌, ◌⊎◌, cond, List, [], ◌∷◌, ◌++◌, length, set, refl, ap, sym, ◌∙◌, subst, arith, inl, inr, ⊎_elim, Option, Some, None}
-use Rattle.std.specs.Prelude.{slice_get, slice_index_or, is_some}
+use Rattle.std.proofs.Common.{◌≡◌, ◌≢◌, ℕ, zero, suc, ◌+◌, ◌⊎◌, cond, List, [], ◌∷◌, ◌++◌, length, set, refl, ap, sym, ◌∙◌, subst, arith, inl, inr, ⊎_elim, Option, Some, None, slice_get, slice_index_or, is_some}
 use Rattle.std.proofs.lemmas.List.Sums.{sum_by_push, sum_by-set}
 use Rattle.std.proofs.lemmas.Option.{slice_get_within, get_or_from_slice_get}
 use Rattle.branch_tree.specs.NumberedTree.{NumberedTree}
 use Rattle.branch_tree.specs.TreeView.{IsOpenAt}
 use Rattle.branch_tree.proofs.Changes.{get-set_other, get-append}
-use Rattle.search_core.specs.declared.holder.Holder.{Holder}
-use Rattle.search_core.specs.Machine.{holder_in, IsHeldIn}
+use Rattle.search_core.specs.Machine.{Holder, holder_in, IsHeldIn}
 use Rattle.search_core.specs.Orderly.{AreHoldersApart, held_count}
 
 -- ---- reading a list that was changed

@@ -5,14 +5,11 @@ use Rattle.branch_tree.specs.NumberedTree.{node_count}
 use Rattle.branch_tree.specs.TreeView.{TreeView}
 use Rattle.branch_tree.specs.declared.found.Entry.{Entry}
 use Rattle.branch_tree.specs.declared.found.Outcome.{Outcome}
-use Rattle.search_core.specs.declared.holder.Holder.{Holder}
-use Rattle.search_core.specs.declared.notes.Note.{Note}
-use Rattle.search_core.specs.declared.event.Move.{Move}
-use Rattle.search_core.specs.declared.event.Move.TheVariants.{Again, Split, Prune, Ray, Empty}
-use Rattle.search_core.specs.Machine.{Machine, Stored, IsHolding}
-use Rattle.search_core.specs.Moves.{children_by, tree_after, IsFreeFor}
+use Rattle.search_core.specs.declared.event.Move.TheVariants.{Again}
+use Rattle.search_core.specs.Machine.{Holder, Machine, Stored, IsHolding}
+use Rattle.search_core.specs.Moves.{Move, children_by, tree_after, IsFreeFor}
 use Rattle.search_core.specs.Steps.{IsCommittable}
-use Rattle.search_core.specs.Notes.{no_note, with_note, with_entry, AreNotesOf}
+use Rattle.search_core.specs.Notes.{Note, no_note, with_note, with_entry, AreNotesOf}
 use Rattle.search_core.specs.Orderly.{IsOrderly}
 use Rattle.search_core.proofs.Growth.{tree_grows}
 use Rattle.search_core.proofs.Holding.{holdable}
@@ -22,10 +19,7 @@ use Rattle.search_core.proofs.OrderlySteps.{free_for, sound_of}
 -- a move adds as many nodes, whichever numbers they have
 same_count : (a b c d : ℕ) (action : Move) → length (children_by (a ∷ b ∷ []) action) ≡ length (children_by (c ∷ d ∷ []) action)
 same_count a b c d Again = refl
-same_count a b c d (Split g t) = refl
-same_count a b c d (Prune seen) = refl
-same_count a b c d Ray = refl
-same_count a b c d Empty = refl
+same_count a b c d _ = refl
 
 -- of the node that is held a split is free
 pub free_of_commit : (m : Machine) (worker unit node : ℕ) (table : Table) (outcome : Outcome) (action : Move) → IsHolding m worker unit node

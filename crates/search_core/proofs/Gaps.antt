@@ -1,6 +1,5 @@
 -- What lies within the gap of a cost lies within the gap of each lesser one; and the tree's bound does where each leaf's does.
-use Rattle.std.proofs.Common.{◌≡◌, ℕ, ◌≤◌, ◌⊎◌, true, false, refl, arith, inl, inr, ⊎_elim, ℤ, pos, ◌-ℤ◌, ◌≤ℤ◌, Option, Some, None}
-use Rattle.std.specs.Prelude.{IsTrue, int_le}
+use Rattle.std.proofs.Common.{◌≡◌, ℕ, ◌≤◌, ◌⊎◌, true, false, refl, arith, inl, inr, ⊎_elim, ℤ, pos, ◌-ℤ◌, ◌≤ℤ◌, Option, Some, None, IsTrue, int_le}
 use Rattle.std.specs.Int.{int_min}
 use Rattle.std.proofs.lemmas.Int.{ints, int_min_is}
 use Rattle.uc_model.specs.Tolerance.{tolerance_of}
@@ -45,10 +44,8 @@ lesser_within law (Some best) cost value gap whole within =
 -- a pruned leaf stays within the gap
 pub pruned_lesser : NeverDecreases → (best : Option ℤ) (cost : ℤ) (gap : ℕ) → gap ≤ WHOLE_GAP → (l : Leaf) → IsPrunedWithin best gap l
     → IsPrunedWithin (lesser_bound best (Some cost)) gap l
-pruned_lesser law best cost gap whole (leaf.Live table value) h = tt
 pruned_lesser law best cost gap whole (leaf.Bound table value) h = lesser_within law best cost value gap whole h
-pruned_lesser law best cost gap whole (leaf.Ray table) h = tt
-pruned_lesser law best cost gap whole (leaf.Empty g) h = tt
+pruned_lesser law best cost gap whole _ h = tt
 
 -- ---- the whole tree
 both_within : (best : Option ℤ) (gap : ℕ) (a b : Option ℤ) → (a ≡ None) ⊎ IsBestWithin best gap a → (b ≡ None) ⊎ IsBestWithin best gap b
@@ -64,12 +61,9 @@ both_within (Some best) gap (Some a) (Some b) first second = ⊎_elim
     (λ (k : IsTrue (int_le (best -ℤ b) (pos (tolerance_of best gap)))).
     let one = int_le-true (best -ℤ a) (pos (tolerance_of best gap)) h in
     let two = int_le-true (best -ℤ b) (pos (tolerance_of best gap)) k in
-    inr (le-int_le (best -ℤ int_min a b) (pos (tolerance_of best gap)) (least (pos (tolerance_of best gap)) one two)))
+    inr (le-int_le (best -ℤ int_min a b) (pos (tolerance_of best gap)) (omega (arith, ints, int_min_is a b))))
     second)
     first
-  where
-    least : (t : ℤ) → (best -ℤ a) ≤ℤ t → (best -ℤ b) ≤ℤ t → (best -ℤ int_min a b) ≤ℤ t
-    least t one two = omega (arith, ints, int_min_is a b)
 
 pub closed_within : (best : Option ℤ) (gap : ℕ) (here : Node) (tree : branch.Tree Leaf) → EachLeaf (λ n l. IsClosedLeaf l) here tree
     → EachLeaf (λ n l. IsPrunedWithin best gap l) here tree → (least_bound tree ≡ None) ⊎ IsBestWithin best gap (least_bound tree)

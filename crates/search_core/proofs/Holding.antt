@@ -1,6 +1,5 @@
 -- What a claim that is held means for its node and for the room that is left.
-use Rattle.std.proofs.Common.{◌≡◌, ℕ, suc, ◌+◌, ◌<◌, ◌≤◌, length, arith, Some}
-use Rattle.std.specs.Prelude.{slice_get}
+use Rattle.std.proofs.Common.{◌≡◌, ℕ, suc, ◌+◌, ◌<◌, ◌≤◌, length, arith, Some, slice_get}
 use Rattle.std.proofs.lemmas.Option.{slice_get_within}
 use Rattle.branch_tree.specs.NumberedTree.{node_count}
 use Rattle.branch_tree.specs.TreeView.{IsOpenAt}

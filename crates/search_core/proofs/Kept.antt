@@ -4,15 +4,12 @@ use Rattle.dual_model.specs.declared.table.Table.{Table}
 use Rattle.branch_tree.specs.NumberedTree.{node_count}
 use Rattle.branch_tree.specs.TreeView.{TreeView}
 use Rattle.branch_tree.specs.declared.found.Outcome.{Outcome}
-use Rattle.search_core.specs.declared.holder.Holder.{Holder}
-use Rattle.search_core.specs.declared.event.Move.{Move}
-use Rattle.search_core.specs.declared.event.Move.TheVariants.{Again, Split, Prune, Ray, Empty}
-use Rattle.search_core.specs.declared.event.Event.{Event}
-use Rattle.search_core.specs.declared.event.Event.TheVariants.{Claim, Commit, Publish, Look, Push, Pop, Steal}
+use Rattle.search_core.specs.declared.event.Move.TheVariants.{Again}
+use Rattle.search_core.specs.declared.event.Event.TheVariants.{Commit}
 use Rattle.search_core.specs.declared.state.State.TheInside.{Inside}
-use Rattle.search_core.specs.Machine.{Machine, Stored, holder_of}
-use Rattle.search_core.specs.Moves.{kept, tree_after}
-use Rattle.search_core.specs.Steps.{IsLegal, committed_by, after}
+use Rattle.search_core.specs.Machine.{Holder, Machine, Stored, holder_of}
+use Rattle.search_core.specs.Moves.{Move, kept, tree_after}
+use Rattle.search_core.specs.Steps.{Event, IsLegal, committed_by, after}
 use Rattle.search_core.specs.Orderly.{IsOrderly}
 use Rattle.search_core.specs.Notes.{AreNotesOf, AreScalesNoted}
 use Rattle.search_core.specs.Inside.{view_of, IsKept}
@@ -26,10 +23,7 @@ pub record IsAsLarge (new old : TreeView) : Type 0 where
 tree_as_large : (tree : TreeView) (node : ℕ) (stored : Stored) (number : ℕ) (outcome : Outcome) (action : Move)
     → IsAsLarge (tree_after tree node stored number outcome action) tree
 tree_as_large tree node stored number outcome Again = record { units = refl; periods = refl }
-tree_as_large tree node stored number outcome (Split g t) = record { units = refl; periods = refl }
-tree_as_large tree node stored number outcome (Prune seen) = record { units = refl; periods = refl }
-tree_as_large tree node stored number outcome Ray = record { units = refl; periods = refl }
-tree_as_large tree node stored number outcome Empty = record { units = refl; periods = refl }
+tree_as_large tree node stored number outcome _ = record { units = refl; periods = refl }
 
 committed_as_large : (m : Machine) (worker unit : ℕ) (table : Table) (outcome : Outcome) (action : Move) (holder : Option Holder)
     → IsAsLarge (committed_by m worker unit table outcome action holder).tree m.tree
@@ -38,14 +32,9 @@ committed_as_large m worker unit table outcome action (Some holder) =
     tree_as_large m.tree holder.node (kept m holder.node table outcome) _ outcome action
 
 pub as_large_after : (m : Machine) (event : Event) → IsAsLarge (after m event).tree m.tree
-as_large_after m (Claim worker node) = record { units = refl; periods = refl }
 as_large_after m (Commit worker unit table outcome action) =
     committed_as_large m worker unit table outcome action (holder_of m unit)
-as_large_after m (Publish worker cost) = record { units = refl; periods = refl }
-as_large_after m (Look worker) = record { units = refl; periods = refl }
-as_large_after m (Push worker node) = record { units = refl; periods = refl }
-as_large_after m (Pop worker) = record { units = refl; periods = refl }
-as_large_after m (Steal worker victim) = record { units = refl; periods = refl }
+as_large_after m _ = record { units = refl; periods = refl }
 
 -- ---- the fields
 pub kept_by : (a b : Inside) (m : Machine) (event : Event) → view_of a ≡ m → IsKept a → IsLegal m event

@@ -11,10 +11,9 @@ use Rattle.branch_tree.specs.declared.tree.Spot.TheVariants as spot
 use Rattle.branch_tree.specs.declared.found.Outcome.{Outcome}
 use Rattle.branch_tree.proofs.Placed.{are_apart, from_some}
 use Rattle.branch_tree.proofs.Grown.{part_there, leaf_there, each_leaf_replaced}
-use Rattle.search_core.specs.declared.event.Move.{Move}
 use Rattle.search_core.specs.declared.event.Move.TheVariants.{Again, Split, Prune, Ray, Empty}
 use Rattle.search_core.specs.Machine.{Stored}
-use Rattle.search_core.specs.Moves.{closed, tree_after, unit_of}
+use Rattle.search_core.specs.Moves.{Move, closed, tree_after, unit_of}
 use Rattle.search_core.proofs.Growth.{IsSound, closed_grows}
 
 -- the part that an open leaf is

@@ -1,14 +1,12 @@
 -- The entries of a log with one more: those of each node, the pairs, and the claims that ended.
-use Rattle.std.proofs.Common.{◌≡◌, ◌≢◌, ℕ, suc, ◌<◌, ◌≤◌, true, false, cond, All, List, [], ◌∷◌, ◌++◌, length, get_or, set, ap, sym, ◌∙◌, subst, arith, ⊎_elim, Option, Some, None, append-nil}
-use Rattle.std.specs.Prelude.{◌==◌, slice_get, AllPairs}
+use Rattle.std.proofs.Common.{◌≡◌, ◌≢◌, ℕ, suc, ◌<◌, ◌≤◌, true, false, cond, All, List, [], ◌∷◌, ◌++◌, length, get_or, set, ap, sym, ◌∙◌, subst, arith, ⊎_elim, Option, Some, None, append-nil, ◌==◌, slice_get, AllPairs}
 use Rattle.std.proofs.lemmas.Bool.{cases_eq, cases_lt, eq-eqb, ne_eqb}
 use Rattle.std.proofs.lemmas.List.{get_or_append_left, get_or_push, length-append}
 use Rattle.std.proofs.lemmas.List.Elements.{All-nil, All-cons, All-head, All-tail, filter-append}
 use Rattle.branch_tree.specs.declared.found.Entry.{Entry}
 use Rattle.branch_tree.proofs.Changes.{get-append, get-set_other, get-set_same}
 use Rattle.branch_tree.proofs.Weights.{same_or_not}
-use Rattle.search_core.specs.declared.holder.Holder.{Holder}
-use Rattle.search_core.specs.Machine.{holder_in, entries_of}
+use Rattle.search_core.specs.Machine.{Holder, holder_in, entries_of}
 use Rattle.search_core.proofs.Claims.{holder_place}
 
 -- ---- those of a node

@@ -1,8 +1,6 @@
 -- Every legal and true event keeps what is true of the log, of the tables, and of what each node stores by its own entries.
-use Rattle.std.proofs.Common.{◌≡◌, ◌≢◌, ℕ, suc, ◌-◌, ◌<◌, ◌≤◌, All, List, [], ◌∷◌, ◌++◌, length, set, refl, ap, sym, ◌∙◌, subst, arith, ⊎_elim, ℤ, Option, Some, None}
-use Rattle.std.specs.Prelude.{slice_get, AllPairs}
+use Rattle.std.proofs.Common.{◌≡◌, ◌≢◌, ℕ, suc, ◌-◌, ◌<◌, ◌≤◌, All, List, [], ◌∷◌, ◌++◌, length, set, refl, ap, sym, ◌∙◌, subst, arith, ⊎_elim, ℤ, Option, Some, None, slice_get, AllPairs, length-append}
 use Rattle.std.proofs.lemmas.Bool.{cases_eq, cases_lt}
-use Rattle.std.proofs.lemmas.List.{length-append}
 use Rattle.std.proofs.lemmas.List.Elements.{All-nil, All-push}
 use Rattle.std.proofs.lemmas.Option.{slice_get_within, slice_get-get_or}
 use Rattle.uc_model.specs.declared.instance.Instance.{Instance}
@@ -16,14 +14,11 @@ use Rattle.branch_tree.specs.declared.found.Entry.{Entry}
 use Rattle.branch_tree.specs.declared.found.Outcome.{Outcome}
 use Rattle.branch_tree.specs.declared.tree.Leaf.TheVariants as leaf
 use Rattle.branch_tree.proofs.Changes.{get-append, get-set_same}
-use Rattle.search_core.specs.declared.event.Move.{Move}
-use Rattle.search_core.specs.declared.event.Move.TheVariants.{Again, Split, Prune, Ray, Empty}
-use Rattle.search_core.specs.declared.event.Event.{Event}
-use Rattle.search_core.specs.declared.event.Event.TheVariants.{Claim, Commit, Publish, Look, Push, Pop, Steal}
-use Rattle.search_core.specs.declared.holder.Holder.{Holder}
-use Rattle.search_core.specs.Machine.{Machine, IsHolding, entries_of, stored_at, start_of}
-use Rattle.search_core.specs.Moves.{HasFreeCell, MayGoOn, IsMoveLegal, kept, tree_after}
-use Rattle.search_core.specs.Steps.{IsFresh, IsStoredTable, IsLegal, committed, committed_by, after}
+use Rattle.search_core.specs.declared.event.Move.TheVariants.{Again}
+use Rattle.search_core.specs.declared.event.Event.TheVariants.{Claim, Commit, Publish}
+use Rattle.search_core.specs.Machine.{Holder, Machine, IsHolding, entries_of, stored_at, start_of}
+use Rattle.search_core.specs.Moves.{Move, HasFreeCell, MayGoOn, IsMoveLegal, kept, tree_after}
+use Rattle.search_core.specs.Steps.{Event, IsFresh, IsStoredTable, IsLegal, committed, committed_by, after}
 use Rattle.search_core.specs.Orderly.{IsOrderly}
 use Rattle.search_core.specs.OwnTables.{Owns, HasFewEntries}
 use Rattle.search_core.specs.Runs.{IsTrueEvent, IsTrueStart}
@@ -131,10 +126,7 @@ apart_new m worker unit node table result entry ended holds within fresh = recor
 may_go_on : (m : Machine) (worker node : ℕ) (table : Table) (result : Outcome) (action : Move) → IsMoveLegal m worker node table result action
     → IsAgain action → MayGoOn m node
 may_go_on m worker node table result Again legal is = legal.1
-may_go_on m worker node table result (Split g t) legal is = absurd is
-may_go_on m worker node table result (Prune seen) legal is = absurd is
-may_go_on m worker node table result Ray legal is = absurd is
-may_go_on m worker node table result Empty legal is = absurd is
+may_go_on m worker node table result _ legal is = absurd is
 
 logged_committed : (instance : Instance) (start m : Machine) (worker unit node : ℕ) (table : Table) (result : Outcome) (action : Move)
     → IsOrderly m → IsHolding m worker unit node → IsFresh m (entries_of m.log node) table
@@ -234,7 +226,4 @@ logged_after instance start m (Commit worker unit table result action) orderly l
     (logged_committed instance start m worker unit legal.1.node table result action orderly legal.1.holds legal.1.fresh legal.1.first
     legal.1.legal told is)
 logged_after instance start m (Publish worker cost) orderly legal told is = is
-logged_after instance start m (Look worker) orderly legal told is = is
-logged_after instance start m (Push worker node) orderly legal told is = is
-logged_after instance start m (Pop worker) orderly legal told is = is
-logged_after instance start m (Steal worker victim) orderly legal told is = is
+logged_after instance start m _ orderly legal told is = is

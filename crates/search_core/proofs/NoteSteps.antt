@@ -1,7 +1,5 @@
 -- The notes of the nodes after a claim and after a commit.
-use Rattle.std.proofs.Common.{◌≡◌, ◌≢◌, ℕ, zero, suc, ◌+◌, ◌<◌, ◌≤◌, ◌⊎◌, true, false, cond, All, List, [], ◌∷◌, ◌++◌, length, map, replicate, set, refl, ap, sym, ◌∙◌, subst, arith, inl, inr, ⊎_elim, Option, Some, None, ℤ, length-append, length-set, append-nil}
-use Rattle.std.specs.Prelude.{◌==◌, slice_get}
-use Rattle.std.proofs.lemmas.Bool.{eq-eqb, ne_eqb}
+use Rattle.std.proofs.Common.{◌≡◌, ◌≢◌, ℕ, zero, suc, ◌+◌, ◌<◌, ◌≤◌, ◌⊎◌, true, false, cond, All, List, [], ◌∷◌, ◌++◌, length, map, replicate, set, refl, ap, sym, ◌∙◌, subst, arith, inl, inr, ⊎_elim, Option, Some, None, ℤ, length-append, length-set, append-nil, ◌==◌, slice_get, eq-eqb, ne_eqb}
 use Rattle.std.proofs.lemmas.List.{map-append, get_or-set_same, length-replicate}
 use Rattle.std.proofs.lemmas.List.Elements.{filter-append}
 use Rattle.std.proofs.lemmas.Option.{slice_get-get_or}
@@ -9,10 +7,8 @@ use Rattle.branch_tree.specs.NumberedTree.{NumberedTree, node_count}
 use Rattle.branch_tree.specs.Places.{IsPlaced}
 use Rattle.branch_tree.specs.declared.found.Entry.{Entry}
 use Rattle.branch_tree.proofs.Grown.{open_numbered}
-use Rattle.search_core.specs.declared.holder.Holder.{Holder}
-use Rattle.search_core.specs.declared.notes.Note.{Note}
-use Rattle.search_core.specs.Machine.{entries_of}
-use Rattle.search_core.specs.Notes.{no_note, note_in, with_note, with_entry, entry_tables, IsNoteOf, AreNotesOf}
+use Rattle.search_core.specs.Machine.{Holder, entries_of}
+use Rattle.search_core.specs.Notes.{Note, no_note, note_in, with_note, with_entry, entry_tables, IsNoteOf, AreNotesOf}
 use Rattle.search_core.specs.Orderly.{AreHoldersApart}
 use Rattle.search_core.proofs.Claims.{get_set_cases, held_more, held_new, held_before, unheld_ended, still_held, was_held}
 

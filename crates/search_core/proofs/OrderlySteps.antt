@@ -9,15 +9,11 @@ use Rattle.branch_tree.specs.StoredTree.{lesser_bound}
 use Rattle.branch_tree.specs.declared.found.Entry.{Entry}
 use Rattle.branch_tree.specs.declared.found.Outcome.{Outcome}
 use Rattle.branch_tree.proofs.Grown.{open_numbered}
-use Rattle.search_core.specs.declared.desk.Desk.{Desk}
-use Rattle.search_core.specs.declared.holder.Holder.{Holder}
-use Rattle.search_core.specs.declared.event.Move.{Move}
-use Rattle.search_core.specs.declared.event.Move.TheVariants.{Again, Split, Prune, Ray, Empty}
-use Rattle.search_core.specs.declared.event.Event.{Event}
+use Rattle.search_core.specs.declared.event.Move.TheVariants.{Again, Split}
 use Rattle.search_core.specs.declared.event.Event.TheVariants.{Claim, Commit, Publish, Look, Push, Pop, Steal}
-use Rattle.search_core.specs.Machine.{Machine, holder_of, IsWorker, desk_in}
-use Rattle.search_core.specs.Moves.{kept, tree_after, tickets_of, IsFreeFor, IsMoveLegal}
-use Rattle.search_core.specs.Steps.{IsLegal, committed, committed_by, after, with_desk, with_tickets}
+use Rattle.search_core.specs.Machine.{Holder, Desk, Machine, holder_of, IsWorker, desk_in}
+use Rattle.search_core.specs.Moves.{Move, kept, tree_after, tickets_of, IsFreeFor, IsMoveLegal}
+use Rattle.search_core.specs.Steps.{Event, IsLegal, committed, committed_by, after, with_desk, with_tickets}
 use Rattle.search_core.specs.Orderly.{IsOrderly, AreHoldersApart, IsEachTicketOnce, held_count, times_at}
 use Rattle.search_core.proofs.Claims.{holder_place, held_push, held_ended, holders_push, holders_ended}
 use Rattle.search_core.proofs.Tickets.{times_kept, tickets_queued, tickets_taken, tickets_more, tickets_same}
@@ -75,19 +71,13 @@ claimed m worker node orderly legal =
 -- ---- a commit
 pub free_for : (m : Machine) (worker node : ℕ) (table : Table) (outcome : Outcome) (action : Move)
     → IsMoveLegal m worker node table outcome action → IsFreeFor m.tree node action
-free_for m worker node table outcome Again legal = tt
 free_for m worker node table outcome (Split g t) legal = legal.1
-free_for m worker node table outcome (Prune seen) legal = tt
-free_for m worker node table outcome Ray legal = tt
-free_for m worker node table outcome Empty legal = tt
+free_for m worker node table outcome _ legal = tt
 
 -- at most two tickets, and those of the nodes that the move adds
 few_tickets : (tree : TreeView) (action : Move) → length (tickets_of tree action) ≤ 2
 few_tickets tree Again = omega arith
-few_tickets tree (Split g t) = omega arith
-few_tickets tree (Prune seen) = omega arith
-few_tickets tree Ray = omega arith
-few_tickets tree Empty = omega arith
+few_tickets tree _ = omega arith
 
 no_tickets : (m : Machine) (worker : ℕ) → IsOrderly m → IsWorker m worker
     → IsEachTicketOnce (with_desk m.desks worker (λ desk. with_tickets desk [])) (node_count m.tree.nodes + 0)
@@ -99,11 +89,8 @@ no_tickets m worker orderly within =
 new_tickets : (m : Machine) (worker : ℕ) (action : Move) → IsOrderly m → IsWorker m worker
     → IsEachTicketOnce (with_desk m.desks worker (λ desk. with_tickets desk (tickets_of m.tree action)))
     (node_count m.tree.nodes + length (tickets_of m.tree action))
-new_tickets m worker Again orderly within = no_tickets m worker orderly within
 new_tickets m worker (Split g t) orderly within = tickets_more m.desks (node_count m.tree.nodes) worker orderly.tickets within
-new_tickets m worker (Prune seen) orderly within = no_tickets m worker orderly within
-new_tickets m worker Ray orderly within = no_tickets m worker orderly within
-new_tickets m worker Empty orderly within = no_tickets m worker orderly within
+new_tickets m worker _ orderly within = no_tickets m worker orderly within
 
 pub sound_of : (m : Machine) → IsOrderly m → IsSound m.tree
 sound_of m orderly = record { placed = orderly.placed; cover = orderly.cover }

@@ -1,6 +1,5 @@
 -- What each node stores is what its entries leave again, after the commit of one more.
-use Rattle.std.proofs.Common.{◌≡◌, ◌≢◌, ℕ, suc, ◌<◌, ◌≤◌, Bool, true, false, ℤ, All, List, [], ◌∷◌, ◌++◌, length, refl, ap, sym, ◌∙◌, subst, arith, Some}
-use Rattle.std.specs.Prelude.{◌==◌, slice_get}
+use Rattle.std.proofs.Common.{◌≡◌, ◌≢◌, ℕ, suc, ◌<◌, ◌≤◌, Bool, true, false, ℤ, All, List, [], ◌∷◌, ◌++◌, length, refl, ap, sym, ◌∙◌, subst, arith, Some, ◌==◌, slice_get}
 use Rattle.std.proofs.lemmas.List.{get_or_append_left, get_or_push}
 use Rattle.std.proofs.lemmas.List.Elements.{All-filter}
 use Rattle.std.proofs.lemmas.Option.{get_or_from_slice_get}
@@ -16,10 +15,9 @@ use Rattle.branch_tree.specs.declared.tree.Leaf.{Leaf}
 use Rattle.branch_tree.specs.declared.tree.Leaf.TheVariants as leaf
 use Rattle.branch_tree.proofs.Grown.{closed_count, open_numbered}
 use Rattle.branch_tree.proofs.Placed.{are_apart}
-use Rattle.search_core.specs.declared.event.Move.{Move}
 use Rattle.search_core.specs.declared.event.Move.TheVariants.{Again, Split, Prune, Ray, Empty}
 use Rattle.search_core.specs.Machine.{Machine, Stored, entries_of, stored_at, spot_stored}
-use Rattle.search_core.specs.Moves.{HasFreeCell, kept, kept_after, closed, split, tree_after, unit_of}
+use Rattle.search_core.specs.Moves.{Move, HasFreeCell, kept, kept_after, closed, split, tree_after, unit_of}
 use Rattle.search_core.specs.OwnTables.{HasFreeCellAt, StartsAt, HoldsStored, OwnsBelow, Owns, stored_after, stored_by}
 use Rattle.search_core.specs.Orderly.{IsOrderly}
 use Rattle.search_core.specs.Steps.{IsStoredTable}

@@ -1,6 +1,5 @@
 -- What each node stores by its own entries, after an entry more and the move of its claim.
-use Rattle.std.proofs.Common.{◌≡◌, ◌≢◌, ℕ, ◌<◌, true, false, cond, List, length, ap, sym, ◌∙◌, subst, arith, ⊎_elim, Some}
-use Rattle.std.proofs.lemmas.Bool.{eq-eqb}
+use Rattle.std.proofs.Common.{◌≡◌, ◌≢◌, ℕ, ◌<◌, true, false, cond, List, length, ap, sym, ◌∙◌, subst, arith, ⊎_elim, Some, eq-eqb}
 use Rattle.dual_model.specs.Tree.{child}
 use Rattle.dual_model.specs.declared.node.Node.{Node}
 use Rattle.dual_model.specs.declared.table.Table.{Table}

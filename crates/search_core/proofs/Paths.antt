@@ -14,10 +14,9 @@ use Rattle.branch_tree.proofs.Weights.{number_of-replaced}
 use Rattle.branch_tree.proofs.Subtrees.{AreApart, IsHere, apart_off, apart_on, at_root, subtree_cases, leaf_case, off_part, on_part}
 use Rattle.branch_tree.proofs.Placed.{are_apart, place_part, from_some}
 use Rattle.branch_tree.proofs.Grown.{part_there, closed_there, closed_elsewhere, split_elsewhere}
-use Rattle.search_core.specs.declared.event.Move.{Move}
 use Rattle.search_core.specs.declared.event.Move.TheVariants.{Again, Split, Prune, Ray, Empty}
 use Rattle.search_core.specs.Machine.{Stored}
-use Rattle.search_core.specs.Moves.{HasFreeCell, IsFreeFor, closed, split, tree_after, unit_of}
+use Rattle.search_core.specs.Moves.{Move, HasFreeCell, IsFreeFor, closed, split, tree_after, unit_of}
 use Rattle.search_core.proofs.Growth.{IsSound, closed_grows, open_again, tree_grows}
 use Rattle.search_core.proofs.Leaves.{leaf_part}
 
@@ -153,10 +152,7 @@ free_before tree wanted stored table outcome action sound at free number within 
 -- ---- the node of the move is open afterwards only where the move is Again
 abbrev pub IsAgain : Move → Type 0
 IsAgain Again = Unit {0}
-IsAgain (Split g t) = ⊥
-IsAgain (Prune seen) = ⊥
-IsAgain Ray = ⊥
-IsAgain Empty = ⊥
+IsAgain _ = ⊥
 
 not_open : (tree : NumberedTree) (number : ℕ) (s : Spot) → spot_at tree number ≡ Some s
     → ((table : ℕ) (value : ℤ) → s ≢ spot.Leaf (leaf.Live table value)) → ¬ IsOpenAt tree number

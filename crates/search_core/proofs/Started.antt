@@ -1,6 +1,5 @@
 -- The start is orderly.
-use Rattle.std.proofs.Common.{◌≡◌, ℕ, zero, suc, ◌-◌, ◌*◌, ◌<◌, ◌≤◌, List, [], ◌∷◌, replicate, refl, sym, subst, arith, Option, Some, ℤ}
-use Rattle.std.specs.Prelude.{◌==◌, nat_lt, slice_get}
+use Rattle.std.proofs.Common.{◌≡◌, ℕ, zero, suc, ◌-◌, ◌*◌, ◌<◌, ◌≤◌, List, [], ◌∷◌, replicate, refl, sym, subst, arith, Option, Some, ℤ, ◌==◌, nat_lt, slice_get}
 use Rattle.std.proofs.lemmas.List.Elements.{All-nil}
 use Rattle.std.proofs.lemmas.List.Folds.{sum_by-replicate}
 use Rattle.std.proofs.lemmas.List.Sums.{sum_by-cons}
@@ -11,12 +10,9 @@ use Rattle.branch_tree.specs.declared.found.Entry.{Entry}
 use Rattle.branch_tree.specs.declared.tree.Leaf.TheVariants as leaf
 use Rattle.branch_tree.proofs.Grown.{root_placed}
 use Rattle.branch_tree.proofs.Weights.{one_if}
-use Rattle.search_core.specs.declared.desk.Desk.{Desk}
-use Rattle.search_core.specs.declared.holder.Holder.{Holder}
 use Rattle.search_core.specs.declared.limits.TheConstants.{MAX_BUDGET}
-use Rattle.search_core.specs.declared.notes.Note.{Note}
-use Rattle.search_core.specs.Machine.{IsHeldIn, no_desk, first_desk, start_of}
-use Rattle.search_core.specs.Notes.{no_note, AreNotesOf, IsNoteOf}
+use Rattle.search_core.specs.Machine.{Holder, Desk, IsHeldIn, no_desk, first_desk, start_of}
+use Rattle.search_core.specs.Notes.{Note, no_note, AreNotesOf, IsNoteOf}
 use Rattle.search_core.specs.Orderly.{IsOrderly, IsEachTicketOnce, times_at}
 
 first_tickets : (workers : ℕ) → IsEachTicketOnce (first_desk ∷ replicate workers no_desk) 1

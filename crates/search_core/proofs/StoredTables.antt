@@ -1,6 +1,5 @@
 -- What entries leave of what is stored, when the tables are those of before and some more, and after one entry more.
-use Rattle.std.proofs.Common.{◌≡◌, ◌∙◌, ℕ, ◌<◌, true, false, cond, List, [], ◌∷◌, ◌++◌, All, length, refl, ap, sym, subst, ⊎_elim, ℤ, pos}
-use Rattle.std.specs.Prelude.{fold, int_lt, ◌&&◌}
+use Rattle.std.proofs.Common.{◌≡◌, ◌∙◌, ℕ, ◌<◌, true, false, cond, List, [], ◌∷◌, ◌++◌, All, length, refl, ap, sym, subst, ⊎_elim, ℤ, pos, fold, int_lt, ◌&&◌}
 use Rattle.std.proofs.lemmas.Bool.{cases_Bool}
 use Rattle.std.proofs.lemmas.List.{get_or_append_left}
 use Rattle.std.proofs.lemmas.List.Elements.{All-head, All-tail}

@@ -1,14 +1,11 @@
 -- How often a ticket is in a hand or a queue, after each change of a desk.
-use Rattle.std.proofs.Common.{◌≡◌, ◌≢◌, ℕ, suc, ◌+◌, ◌<◌, ◌≤◌, true, false, not, ◌||◌, cond, List, [], ◌∷◌, length, set, drop, refl, ap, sym, ◌∙◌, subst, arith, ⊎_elim}
-use Rattle.std.specs.Prelude.{◌==◌, IsTrue, nat_lt, filter, count_by, slice_index_or}
+use Rattle.std.proofs.Common.{◌≡◌, ◌≢◌, ℕ, suc, ◌+◌, ◌<◌, ◌≤◌, true, false, not, ◌||◌, cond, List, [], ◌∷◌, length, set, drop, refl, ap, sym, ◌∙◌, subst, arith, ⊎_elim, ◌==◌, IsTrue, nat_lt, filter, count_by, slice_index_or, get_or-set_same, get_or-set_other, length-set}
 use Rattle.std.specs.List.{list_any}
 use Rattle.std.proofs.lemmas.Bool.{cases_eq, cases_Bool, eq-eqb, ne_eqb, eqb-true}
 use Rattle.std.proofs.lemmas.Bool.Decides.{nat_tests}
-use Rattle.std.proofs.lemmas.List.{get_or-set_same, get_or-set_other, length-set}
 use Rattle.std.proofs.lemmas.List.Sums.{sum_by-cons, sum_by-append, sum_by-set, get_or-le-sum_by}
 use Rattle.branch_tree.proofs.Weights.{one_here, none_here}
-use Rattle.search_core.specs.declared.desk.Desk.{Desk}
-use Rattle.search_core.specs.Machine.{no_desk, desk_in}
+use Rattle.search_core.specs.Machine.{Desk, no_desk, desk_in}
 use Rattle.search_core.specs.Orderly.{times_at, times_in, IsEachTicketOnce}
 use Rattle.search_core.specs.Steps.{with_desk, with_tickets, with_queued, without_first, first_queued, is_in_hand, taken}
 

@@ -1,5 +1,5 @@
 -- A true start is true, what is true of a state is what holds there, and so runs hold.
-use Rattle.std.proofs.Common.{◌≡◌, ℕ, ◌⊎◌, All, List, [], ◌∷◌, ◌++◌, replicate, refl, ap, sym, ◌∙◌, subst, arith, false, true, inl, inr, ⊎_elim, ℤ, ◌≤ℤ◌, Option, Some, None}
+use Rattle.std.proofs.Common.{◌≡◌, ℕ, ◌⊎◌, All, List, [], ◌∷◌, ◌++◌, replicate, refl, ap, sym, ◌∙◌, subst, arith, false, true, inl, inr, ⊎_elim, Option, Some, None}
 use Rattle.std.proofs.lemmas.List.{get_or-replicate, length-replicate}
 use Rattle.std.proofs.lemmas.List.Elements.{All-nil, All-cons}
 use Rattle.std.proofs.lemmas.Option.{get_or_from_slice_get, slice_get_within}
@@ -22,12 +22,9 @@ use Rattle.branch_tree.specs.declared.tree.Leaf.TheVariants as leaf
 use Rattle.branch_tree.proofs.Bounds.{at_most_itself, lesser_first}
 use Rattle.branch_tree.proofs.Grown.{all_closed}
 use Rattle.branch_tree.proofs.TreeLaws.{stored_bounds_hold, excluded_below}
-use Rattle.search_core.specs.declared.desk.Desk.{Desk}
-use Rattle.search_core.specs.declared.event.Event.{Event}
-use Rattle.search_core.specs.declared.event.Event.TheVariants.{Claim, Commit, Publish, Look, Push, Pop, Steal}
-use Rattle.search_core.specs.declared.holder.Holder.{Holder}
-use Rattle.search_core.specs.Machine.{Machine, no_desk, first_desk, holder_of}
-use Rattle.search_core.specs.Steps.{IsLegal, committed_by, after}
+use Rattle.search_core.specs.declared.event.Event.TheVariants.{Claim, Commit, Publish}
+use Rattle.search_core.specs.Machine.{Holder, Desk, Machine, no_desk, first_desk, holder_of}
+use Rattle.search_core.specs.Steps.{Event, IsLegal, committed_by, after}
 use Rattle.search_core.specs.Runs.{IsTrueEvent, IsTrueStart, IsTrueRun, IsBestWithin, IsSettled, HoldsAt, HoldsAlong, RunsHold, StartsAreReached, StepsReach, ReachedStatesHold, after_all}
 use Rattle.search_core.proofs.Gaps.{NeverDecreases, closed_within}
 use Rattle.search_core.proofs.Logs.{HasTrueLog, start_logged, logged_after}
@@ -51,15 +48,12 @@ start_true instance m start = subst (IsTrueState instance) (sym start.is_start) 
     table = start.table;
     is_table = refl;
     scale = start.scale;
-    bounds = inl (record { bound = start.value; is_bound = start.bound; enough = itself start.value });
+    bounds = inl (record { bound = start.value; is_bound = start.bound; enough = (omega (arith, linear)) });
   };
   least = desks_see_nothing _;
   priced = tt;
   pruned = tt;
 })
-  where
-    itself : (b : ℤ) → b ≤ℤ b
-    itself b = omega (arith, linear)
 
 -- ---- what holds
 -- a table of a list of lawful ones is lawful
@@ -118,10 +112,7 @@ never_rises m (Commit worker unit table outcome action) = by_holder (holder_of m
     by_holder None = at_most_itself m.best
     by_holder (Some holder) = at_most_itself m.best
 never_rises m (Publish worker cost) = lesser_first m.best (Some cost)
-never_rises m (Look worker) = at_most_itself m.best
-never_rises m (Push worker node) = at_most_itself m.best
-never_rises m (Pop worker) = at_most_itself m.best
-never_rises m (Steal worker victim) = at_most_itself m.best
+never_rises m _ = at_most_itself m.best
 
 -- ---- runs
 along : NeverDecreases → (instance : Instance) (start m : Machine) (events : List Event) → IsLawfulInstance instance → IsTrueState instance m

@@ -1,10 +1,8 @@
 -- Every legal and true event keeps what is true of the state.
-use Rattle.std.proofs.Common.{◌≡◌, ℕ, ◌<◌, false, true, All, List, [], ◌∷◌, ◌++◌, length, get_or, set, refl, ap, sym, ◌∙◌, subst, arith, ⊎_elim, ◌⊎◌, ℤ, Option, Some, None, length-set}
-use Rattle.std.specs.Prelude.{IfSome}
+use Rattle.std.proofs.Common.{◌≡◌, ℕ, ◌<◌, false, true, All, List, [], ◌∷◌, ◌++◌, length, get_or, set, refl, ap, sym, ◌∙◌, subst, arith, ⊎_elim, ◌⊎◌, ℤ, Option, Some, None, length-set, IfSome, get_or-set_same, get_or-set_other}
 use Rattle.std.specs.Int.{int_min}
 use Rattle.std.proofs.lemmas.Bool.{cases_eq}
 use Rattle.std.proofs.lemmas.Int.{ints, int_min_is}
-use Rattle.std.proofs.lemmas.List.{get_or-set_same, get_or-set_other}
 use Rattle.std.proofs.lemmas.List.Elements.{All-nil, All-cons, All-append}
 use Rattle.uc_model.specs.Limits.{IsLawfulInstance}
 use Rattle.uc_model.specs.declared.instance.Instance.{Instance}
@@ -21,14 +19,11 @@ use Rattle.branch_tree.specs.declared.found.Outcome.{Outcome}
 use Rattle.branch_tree.specs.declared.found.Outcome.TheVariants as outcome
 use Rattle.branch_tree.proofs.Bounds.{at_most_itself, at_most_through, lesser_first, lesser_second, lesser_greatest}
 use Rattle.branch_tree.proofs.Grown.{each_leaf_map}
-use Rattle.search_core.specs.declared.desk.Desk.{Desk}
-use Rattle.search_core.specs.declared.event.Move.{Move}
 use Rattle.search_core.specs.declared.event.Move.TheVariants.{Again, Split, Prune, Ray, Empty}
-use Rattle.search_core.specs.declared.event.Event.{Event}
 use Rattle.search_core.specs.declared.event.Event.TheVariants.{Claim, Commit, Publish, Look, Push, Pop, Steal}
-use Rattle.search_core.specs.Machine.{Machine, Stored, IsWorker, IsHolding, no_desk, desk_in, stored_at, spot_stored}
-use Rattle.search_core.specs.Moves.{kept, tickets_of, IsMoveLegal}
-use Rattle.search_core.specs.Steps.{IsLegal, committed, committed_by, after, with_desk, with_tickets, with_queued, without_first, first_queued, taken}
+use Rattle.search_core.specs.Machine.{Desk, Machine, Stored, IsWorker, IsHolding, no_desk, desk_in, stored_at, spot_stored}
+use Rattle.search_core.specs.Moves.{Move, kept, tickets_of, IsMoveLegal}
+use Rattle.search_core.specs.Steps.{Event, IsLegal, committed, committed_by, after, with_desk, with_tickets, with_queued, without_first, first_queued, taken}
 use Rattle.search_core.specs.Orderly.{IsOrderly}
 use Rattle.search_core.specs.Runs.{IsTrueOutcome, IsTrueCost, IsTrueEvent, IsPrunedWithin}
 use Rattle.search_core.proofs.Holding.{holdable}
@@ -98,12 +93,10 @@ moved instance m event desks is orderly least = record {
 pruned_new : NeverDecreases → (m : Machine) (worker node : ℕ) (here : Node) (table : Table) (result : Outcome) (action : Move) → IsOrderly m
     → AtMost m.best (desk_in m.desks worker).seen → IsMoveLegal m worker node table result action
     → HoldsOfNew (λ n l. IsPrunedWithin m.best m.gap l) here (kept m node table result) (length m.tables) result action
-pruned_new law m worker node here table result Again orderly least legal = tt
 pruned_new law m worker node here table result (Split g t) orderly least legal = (tt, tt, tt)
 pruned_new law m worker node here table result (Prune seen) orderly least legal =
     best_within law m.best seen (kept m node table result).value m.gap orderly.amounts.gap (subst (AtMost m.best) legal.1.looked least) legal.1.within
-pruned_new law m worker node here table result Ray orderly least legal = tt
-pruned_new law m worker node here table result Empty orderly least legal = tt
+pruned_new law m worker node here table result _ orderly least legal = tt
 
 stored_new : (instance : Instance) (m : Machine) (worker node : ℕ) (here : Node) (table : Table) (result : Outcome) (action : Move)
     → IsLawfulInstance instance → IsTrueOutcome instance here table result

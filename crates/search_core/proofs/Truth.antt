@@ -1,6 +1,5 @@
 -- What a true evaluation leaves at its node holds there, and at the node's children.
-use Rattle.std.proofs.Common.{◌≡◌, ℕ, ◌⊎◌, Bool, true, false, cond, List, [], ◌∷◌, ◌++◌, length, sym, subst, arith, inl, inr, ⊎_elim, ℤ, pos, ◌≤ℤ◌, ◌<ℤ◌}
-use Rattle.std.specs.Prelude.{int_lt, ◌&&◌}
+use Rattle.std.proofs.Common.{◌≡◌, ℕ, ◌⊎◌, Bool, true, false, cond, List, [], ◌∷◌, ◌++◌, length, sym, subst, arith, inl, inr, ⊎_elim, ℤ, pos, ◌≤ℤ◌, ◌<ℤ◌, int_lt, ◌&&◌}
 use Rattle.std.proofs.lemmas.Bool.{and_parts, cases_Bool}
 use Rattle.uc_model.specs.Limits.{IsLawfulInstance}
 use Rattle.uc_model.specs.declared.instance.Instance.{Instance}
@@ -57,12 +56,9 @@ own_bound instance tables new node v scale is_value = record {
   bounds = inl (record {
     bound = bound_of v new.k;
     is_bound = record { value = v; is_value = is_value; quotient = IsFloor-int_div_euclid v new.k scale };
-    enough = itself (bound_of v new.k);
+    enough = omega (arith, linear);
   });
 }
-  where
-    itself : (b : ℤ) → b ≤ℤ b
-    itself b = omega (arith, linear)
 
 pub kept_bounded : (instance : Instance) (tables : List Table) (new : Table) (node : Node) (old : Stored) (result : Outcome)
     → IsBoundedBy instance tables node old.table old.value → IsTrueOutcome instance node new result
@@ -95,17 +91,14 @@ child_has_bound instance node g t on table b lawful scale has = ⊎_elim
     (λ (found : (w : ℤ) × IsNodeValue instance (child node g t on) table w × (has.is_bound.value ≤ℤ w)).
     let floor = IsFloor-int_div_euclid found.0 table.k scale in
     let above : has.bound ≤ℤ bound_of found.0 table.k =
-    IsFloor-greatest found.0 table.k (bound_of found.0 table.k) has.bound scale floor (through _ _ _ has.is_bound.quotient.below found.2) in
+    IsFloor-greatest found.0 table.k (bound_of found.0 table.k) has.bound scale floor (omega (arith, linear, has.is_bound.quotient.below, found.2)) in
     inl (record {
       bound = bound_of found.0 table.k;
       is_bound = record { value = found.0; is_value = found.1; quotient = floor };
-      enough = through _ _ _ has.enough above;
+      enough = omega (arith, linear, has.enough);
     }))
     (λ (empty : HasEmptyUnit instance (child node g t on)). inr empty)
     (child_bound instance node g t on table has.is_bound.value lawful has.is_bound.is_value)
-  where
-    through : (x y z : ℤ) → x ≤ℤ y → y ≤ℤ z → x ≤ℤ z
-    through x y z first second = omega (arith, linear)
 
 pub child_bounded : (instance : Instance) (tables : List Table) (node : Node) (g t : ℕ) (on : Bool) (number : ℕ) (b : ℤ) → IsLawfulInstance instance
     → IsBoundedBy instance tables node number b → IsBoundedBy instance tables (child node g t on) number b

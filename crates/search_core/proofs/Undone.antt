@@ -1,11 +1,8 @@
 -- What was put at the end of a list of a note or of a desk, and taken off again.
-use Rattle.std.proofs.Common.{◌≡◌, ℕ, ◌<◌, List, [], ◌∷◌, ◌++◌, length, take, ap, sym, ◌∙◌}
-use Rattle.std.specs.Prelude.{slice_index_or, slice_set}
+use Rattle.std.proofs.Common.{◌≡◌, ℕ, ◌<◌, List, [], ◌∷◌, ◌++◌, length, take, ap, sym, ◌∙◌, slice_index_or, slice_set}
 use Rattle.std.proofs.lemmas.List.{set-set, set-get_or, get_or-set_same, take_at}
-use Rattle.search_core.specs.declared.desk.Desk.{Desk}
-use Rattle.search_core.specs.declared.notes.Note.{Note}
-use Rattle.search_core.specs.Machine.{no_desk, desk_in}
-use Rattle.search_core.specs.Notes.{no_note, note_in, with_note}
+use Rattle.search_core.specs.Machine.{Desk, no_desk, desk_in}
+use Rattle.search_core.specs.Notes.{Note, no_note, note_in, with_note}
 use Rattle.search_core.specs.Steps.{with_desk, with_tickets}
 
 -- an item that was changed, and changed back

@@ -9,8 +9,8 @@ use Rattle.branch_tree.specs.declared.tree.Leaf.TheVariants as leaf
 use Rattle.branch_tree.specs.declared.tree.Spot.{Spot}
 use Rattle.branch_tree.specs.declared.tree.Spot.TheVariants as spot
 use Rattle.branch_tree.specs.declared.found.Entry.{Entry}
-use Rattle.search_core.specs.declared.desk.Desk.{Desk}
-use Rattle.search_core.specs.declared.holder.Holder.{Holder}
+pub use Rattle.search_core.specs.declared.desk.Desk.{Desk}
+pub use Rattle.search_core.specs.declared.holder.Holder.{Holder}
 pub use Rattle.search_core.specs.declared.stored.Stored.{Stored}
 
 pub record Machine : Type 0 where

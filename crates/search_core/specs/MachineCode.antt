@@ -7,11 +7,9 @@ use Rattle.branch_tree.specs.TreeView.{TreeView}
 use Rattle.branch_tree.specs.TreeCode.{tree_view_code}
 use Rattle.branch_tree.specs.declared.found.Entry.{Entry}
 use Rattle.branch_tree.specs.contracts.found.Entry as entry
-use Rattle.search_core.specs.declared.desk.Desk.{Desk}
 use Rattle.search_core.specs.contracts.desk.Desk as desk
-use Rattle.search_core.specs.declared.holder.Holder.{Holder}
 use Rattle.search_core.specs.contracts.holder.Holder as holder
-use Rattle.search_core.specs.Machine.{Machine}
+use Rattle.search_core.specs.Machine.{Holder, Desk, Machine}
 
 abbrev pub MachineParts : Type 0
 MachineParts = ℕ × (ℕ × (TreeView × (List Table × (List (Option Holder) × (List Entry × (Option ℤ × List Desk))))))

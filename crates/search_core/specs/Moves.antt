@@ -10,7 +10,7 @@ use Rattle.branch_tree.specs.declared.found.Outcome.{Outcome}
 use Rattle.branch_tree.specs.declared.found.Outcome.TheVariants as outcome
 use Rattle.branch_tree.specs.declared.tree.Leaf.{Leaf}
 use Rattle.branch_tree.specs.declared.tree.Leaf.TheVariants as leaf
-use Rattle.search_core.specs.declared.event.Move.{Move}
+pub use Rattle.search_core.specs.declared.event.Move.{Move}
 use Rattle.search_core.specs.declared.event.Move.TheVariants.{Again, Split, Prune, Ray, Empty}
 use Rattle.search_core.specs.Machine.{Machine, Stored, desk_of, entries_of, stored_at}
 

@@ -7,9 +7,8 @@ use Rattle.branch_tree.specs.declared.tree.Leaf.TheVariants as leaf
 use Rattle.branch_tree.specs.declared.tree.Spot.{Spot}
 use Rattle.branch_tree.specs.declared.tree.Spot.TheVariants as spot
 use Rattle.branch_tree.specs.declared.found.Entry.{Entry}
-use Rattle.search_core.specs.declared.notes.Note.{Note}
-use Rattle.search_core.specs.declared.holder.Holder.{Holder}
-use Rattle.search_core.specs.Machine.{IsHeldIn, entries_of}
+pub use Rattle.search_core.specs.declared.notes.Note.{Note}
+use Rattle.search_core.specs.Machine.{Holder, IsHeldIn, entries_of}
 
 abbrev pub no_note : Note
 no_note = record { held = false; tables = []; greatest = pos 0 }

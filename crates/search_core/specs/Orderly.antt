@@ -7,10 +7,8 @@ use Rattle.dual_model.specs.Tree.{IsCover}
 use Rattle.branch_tree.specs.NumberedTree.{NumberedTree, node_count}
 use Rattle.branch_tree.specs.TreeView.{IsSizeOf, IsOpenAt, tree_of}
 use Rattle.branch_tree.specs.Places.{IsPlaced}
-use Rattle.search_core.specs.declared.desk.Desk.{Desk}
-use Rattle.search_core.specs.declared.holder.Holder.{Holder}
 use Rattle.search_core.specs.declared.limits.TheConstants.{MAX_BUDGET}
-use Rattle.search_core.specs.Machine.{Machine, room_for}
+use Rattle.search_core.specs.Machine.{Holder, Desk, Machine, room_for}
 
 -- how often the ticket of the node is in a hand or a queue
 abbrev pub times_at : Desk → ℕ → ℕ

@@ -24,12 +24,11 @@ use Rattle.branch_tree.specs.declared.found.Outcome.{Outcome}
 use Rattle.branch_tree.specs.declared.tree.Leaf.{Leaf}
 use Rattle.branch_tree.specs.declared.tree.Leaf.TheVariants as leaf
 use Rattle.search_core.specs.declared.limits.TheConstants.{MAX_BUDGET}
-use Rattle.search_core.specs.declared.event.Event.{Event}
 use Rattle.search_core.specs.declared.event.Event.TheVariants.{Claim, Commit, Publish, Look, Push, Pop, Steal}
 use Rattle.search_core.specs.Machine.{Machine, IsHolding, IsHeld, IsOpen, start_of, stored_at}
 use Rattle.search_core.specs.Orderly.{IsEachTicketOnce}
 use Rattle.search_core.specs.OwnTables.{Owns, HasFewEntries}
-use Rattle.search_core.specs.Steps.{IsLegal, after}
+use Rattle.search_core.specs.Steps.{Event, IsLegal, after}
 
 -- ---- true events
 -- the outcome is true of the node and the table: all that the machine asks of a value

@@ -6,13 +6,10 @@ use Rattle.dual_model.specs.declared.table.Table.{Table}
 use Rattle.branch_tree.specs.StoredTree.{lesser_bound}
 use Rattle.branch_tree.specs.declared.found.Entry.{Entry}
 use Rattle.branch_tree.specs.declared.found.Outcome.{Outcome}
-use Rattle.search_core.specs.declared.desk.Desk.{Desk}
-use Rattle.search_core.specs.declared.holder.Holder.{Holder}
-use Rattle.search_core.specs.declared.event.Move.{Move}
-use Rattle.search_core.specs.declared.event.Event.{Event}
+pub use Rattle.search_core.specs.declared.event.Event.{Event}
 use Rattle.search_core.specs.declared.event.Event.TheVariants.{Claim, Commit, Publish, Look, Push, Pop, Steal}
-use Rattle.search_core.specs.Machine.{Machine, IsWorker, desk_in, desk_of, holder_of, IsHolding, IsOpen, entries_of, stored_at}
-use Rattle.search_core.specs.Moves.{kept, tree_after, tickets_of, HasFreeCell, IsMoveLegal}
+use Rattle.search_core.specs.Machine.{Holder, Desk, Machine, IsWorker, desk_in, desk_of, holder_of, IsHolding, IsOpen, entries_of, stored_at}
+use Rattle.search_core.specs.Moves.{Move, kept, tree_after, tickets_of, HasFreeCell, IsMoveLegal}
 
 -- ---- where an event is legal
 -- a claim is left, and the node is open

@@ -1,11 +1,8 @@
 -- What a step tells of a whole seat.
-use Rattle.std.proofs.Common.{◌≡◌, ◌≢◌, ℕ, zero, suc, ◌<◌, ◌≤◌, List, [], ◌∷◌, ◌++◌, length, get_or, set, Option, Some, None, sym, refl, ap, ◌∙◌, subst, arith}
-use Rattle.std.specs.Prelude.{IfSome, MatchOption}
+use Rattle.std.proofs.Common.{◌≡◌, ◌≢◌, ℕ, zero, suc, ◌<◌, ◌≤◌, List, [], ◌∷◌, ◌++◌, length, get_or, set, Option, Some, None, sym, refl, ap, ◌∙◌, subst, arith, IfSome, MatchOption, get_or-set_same}
 use Rattle.std.proofs.lemmas.Bool.Decides.{nat_tests}
-use Rattle.std.proofs.lemmas.List.{get_or-set_same}
-use Rattle.steal_pool.specs.Line.{take_of, takes, IsNext}
+use Rattle.steal_pool.specs.Line.{Log, take_of, takes, IsNext}
 use Rattle.steal_pool.specs.Seats.{TheftOf, SeatOf, own_log, place_among, no_theft, theft_at, Pops}
-use Rattle.steal_pool.specs.declared.rule.Log.{Log}
 
 -- another worker's deque stands among those of the others
 pub place_within : (me victim n : ℕ) → victim ≤ n → victim ≢ me → me ≤ n → place_among me victim < n

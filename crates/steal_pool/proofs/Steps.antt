@@ -1,17 +1,15 @@
 -- Each step of a deque keeps its rule.
-use Rattle.std.proofs.Common.{◌≡◌, ◌≢◌, ℕ, zero, suc, ◌+◌, ◌<◌, true, false, true≢false, cond, eqb, List, [], ◌∷◌, ◌++◌, length, set, Some, sym, refl, ap, ◌∙◌, subst, ⊎_elim, append_assoc, length-append, arith}
-use Rattle.std.specs.Prelude.{sum_by, slice_get, All}
+use Rattle.std.proofs.Common.{◌≡◌, ◌≢◌, ℕ, zero, suc, ◌+◌, ◌<◌, true, false, true≢false, cond, eqb, List, [], ◌∷◌, ◌++◌, length, set, Some, sym, refl, ap, ◌∙◌, subst, ⊎_elim, append_assoc, length-append, arith, sum_by, slice_get, All}
 use Rattle.std.proofs.lemmas.Bool.Decides.{nat_tests}
 use Rattle.std.proofs.lemmas.List.Elements.{All-weaker, All-append, All-cons, All-nil}
 use Rattle.std.proofs.lemmas.List.Sums.{sum_by-cons, sum_by-append}
 use Rattle.std.proofs.lemmas.Option.{slice_get_within}
 use mathlib.Core.Option.{some, some-injective, some-ne-none}
-use lib.ListN.{get_elem?}
 use Rattle.crossbeam_deque.specs.Tasks.{Pushes, Takes, Admits}
 use Rattle.crossbeam_deque.proofs.Lists.{at_set, at_snoc}
-use Rattle.steal_pool.specs.Line.{log, take_of, times_taken, once_below, IsLogOf, IsInLine, InLine, IsNext, puts, takes}
+use lib.ListN.{get_elem?}
+use Rattle.steal_pool.specs.Line.{Log, log, take_of, times_taken, once_below, IsLogOf, IsInLine, InLine, IsNext, puts, takes}
 use Rattle.steal_pool.specs.declared.rule.Take.{Take}
-use Rattle.steal_pool.specs.declared.rule.Log.{Log}
 
 module _ {A : Type 0} where
   -- what stands in a list stands there in a longer one
@@ -49,9 +47,6 @@ times_more : (place : ℕ) (took : List Take) (take : Take) → times_taken plac
 times_more place took take =
     let one = sum_by-append (λ (t : Take). cond (eqb t.place place) 1 0) took (take ∷ []) in
     one ∙ ap (λ n. times_taken place took + n) (sum_by-cons (λ (t : Take). cond (eqb t.place place) 1 0) take [] ∙ omega arith)
-
-once_more : (place n : ℕ) → once_below place n + cond (eqb n place) 1 0 ≡ once_below place (n + 1)
-once_more place n = grind (arith, nat_tests)
 
 -- takes stay right where more was taken
 takes_longer : (got more : List ℕ) (took : List Take) → All (λ take. slice_get got take.place ≡ Some take.node) took
@@ -113,7 +108,7 @@ take_kept got items views port v node kept at =
           let more = total_changes place views port v w at in
           let mine = times_more place v.took (take_of (length got) node) in
           let before = kept.once place in
-          let next = once_more place (length got) in
+          let next : once_below place (length got) + cond (eqb (length got) place) 1 0 ≡ once_below place ((length got) + 1) = grind (arith, nat_tests) in
           let len : length (got ++ node ∷ []) ≡ length got + 1 = length-append got (node ∷ []) in
           let sum : total place (set views port w) ≡ once_below place (length got) + cond (eqb (length got) place) 1 0 = omega arith in
           sum ∙ (next ∙ ap (once_below place) (sym len));

@@ -4,9 +4,8 @@ use Rattle.std.specs.declared.alloc.Global.{Global}
 use Rattle.crossbeam_deque.specs.Handles.{worker_deque, stealer_deque, stealer_flavor, worker_flavor, worker_view, worker_capacity, worker_index}
 use Rattle.crossbeam_deque.specs.declared.handles.Worker.{Worker}
 use Rattle.crossbeam_deque.specs.declared.handles.Stealer.{Stealer}
-use Rattle.steal_pool.specs.Line.{log}
+use Rattle.steal_pool.specs.Line.{Log, log}
 use Rattle.steal_pool.specs.Seats.{DequeId}
-use Rattle.steal_pool.specs.declared.rule.Log.{Log}
 use Rattle.steal_pool.specs.declared.rule.InLine.{InLine}
 
 abbrev pub Own : Type 0

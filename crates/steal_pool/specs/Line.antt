@@ -4,7 +4,7 @@ use Rattle.std.specs.Prelude.{◌≡◌, ℕ, ◌<◌, ◌==◌, nat_lt, Bool, t
 use mathlib.Core.Option.{some}
 use lib.ListN.{get_elem?}
 use Rattle.steal_pool.specs.declared.rule.Take.{Take}
-use Rattle.steal_pool.specs.declared.rule.Log.{Log}
+pub use Rattle.steal_pool.specs.declared.rule.Log.{Log}
 
 abbrev pub log : Bool → List ℕ → List Take → Log
 log owns put took = record { owns = owns; put = put; took = took }

@@ -1,13 +1,11 @@
 -- What an allowed pattern keeps, in parts: M1 to M5 in each period, and M7 and the caps by the limits in watts.
 -- Cite from a crate above by `use Rattle.uc_model.proofs.AllowedParts.{allowed-parts}`.
-use Rattle.std.proofs.Common.{◌≡◌, ℕ, suc, ◌-◌, ◌<◌, ⊎_elim, Bool, true, false, not, ◌&&◌, ◌||◌, refl, sym, subst, arith, ℤ, pos, ◌-ℤ◌, ◌*ℤ◌, ◌≤ℤ◌}
-use Rattle.std.specs.Prelude.{IsTrue, nat_lt}
+use Rattle.std.proofs.Common.{◌≡◌, ℕ, suc, ◌-◌, ◌<◌, ⊎_elim, Bool, true, false, not, ◌&&◌, ◌||◌, refl, sym, subst, arith, ℤ, pos, ◌-ℤ◌, ◌*ℤ◌, ◌≤ℤ◌, IsTrue, nat_lt}
 use Rattle.std.specs.Int.{int_min, int_max}
 use Rattle.std.proofs.lemmas.Int.{ints, clamps}
 use Rattle.std.proofs.lemmas.Bool.{and_parts, and_from, cases_Bool, true≢false, not-true, not_from_false, ltb-true, lt-ltb, cond-true, cond-false, cond_both}
 use Rattle.uc_model.specs.Sums.{bit, all_below}
-use Rattle.uc_model.specs.Commitment.{Commitment, starts, stops, minimum_up_at, minimum_down_at, initial_stop_holds, start_cap, stop_cap, cap, is_allowed_at, is_allowed}
-use Rattle.uc_model.specs.declared.instance.Thermal.{Thermal}
+use Rattle.uc_model.specs.Commitment.{Thermal, Commitment, starts, stops, minimum_up_at, minimum_down_at, initial_stop_holds, start_cap, stop_cap, cap, is_allowed_at, is_allowed}
 use Rattle.uc_model.proofs.Ring.{linear, le_trans, mul-one, mul-zero, one-mul, zero-mul}
 use Rattle.uc_model.proofs.Tests.{int_le-true, le-int_le, all_below-at, all_below-from, int_min_left, int_min_right}
 use Rattle.uc_model.proofs.Obeyed.{min_nonneg}

@@ -1,17 +1,14 @@
 -- The cost of a schedule that obeys is at most q * COST_MAX in size.
 -- Cite from a crate above by `use Rattle.uc_model.proofs.CostBound.{cost_fits}`.
-use Rattle.std.proofs.Common.{◌≡◌, ℕ, zero, suc, ◌*◌, ◌<◌, ◌≤◌, ⊎_elim, false, sym, ap, subst, ◌∙◌, arith, ℤ, pos, negsuc, ◌+ℤ◌, ◌*ℤ◌, neg_ℤ, ◌≤ℤ◌}
-use Rattle.std.specs.Prelude.{IsTrue, unsigned_abs, ◌==◌, nat_lt}
+use Rattle.std.proofs.Common.{◌≡◌, ℕ, zero, suc, ◌*◌, ◌<◌, ◌≤◌, ⊎_elim, false, sym, ap, subst, ◌∙◌, arith, ℤ, pos, negsuc, ◌+ℤ◌, ◌*ℤ◌, neg_ℤ, ◌≤ℤ◌, IsTrue, unsigned_abs, ◌==◌, nat_lt}
 use Rattle.std.proofs.lemmas.Bool.{and_parts, or_cases, cases_Bool, eqb-true, ltb-true, true≢false, cond-true, cond-false}
 use Rattle.uc_model.specs.Sums.{sum_below, bit}
-use Rattle.uc_model.specs.Commitment.{Commitment, starts}
+use Rattle.uc_model.specs.Commitment.{Thermal, Commitment, starts}
 use Rattle.uc_model.specs.StartCategory.{category_count, category_cost, is_category_allowed, category_holds_at}
-use Rattle.uc_model.specs.Schedule.{Row, Schedule, thermal_unit, thermal_count, point, point_count}
+use Rattle.uc_model.specs.Schedule.{Instance, Row, Schedule, thermal_unit, thermal_count, point, point_count}
 use Rattle.uc_model.specs.Rules.{Category, Production, Obeys}
 use Rattle.uc_model.specs.Cost.{production_cost, cell_cost, unit_cost, cost}
 use Rattle.uc_model.specs.Limits.{IsLawfulThermal, IsLawfulInstance, MAX_COST, COST_MAX}
-use Rattle.uc_model.specs.declared.instance.Thermal.{Thermal}
-use Rattle.uc_model.specs.declared.instance.Instance.{Instance}
 use Rattle.uc_model.proofs.Ring.{linear, scale-le-scale, mul-neg, mul_comm, mul-add, mul-one, pos-le-pos}
 use Rattle.uc_model.proofs.Sums.{sum_below-le, sum_below-mul_left, sum_below-const}
 use Rattle.uc_model.proofs.Obeyed.{rule_at, Produces, production_parts}
@@ -131,7 +128,4 @@ cost_fits instance q x lawful obeys =
     in
     let all = within_const_sum (thermal_count instance) (λ g. unit_cost instance.periods q (thermal_unit instance g) (x.thermal g)) (pos instance.periods *ℤ cell) units in
     abs_of_within _ _ (within_more _ _ _ all
-    (pos-le-pos _ _ (counted (thermal_count instance) instance.periods q lawful.thermal_units lawful.periods.1)))
-  where
-    counted : (g t n : ℕ) → g ≤ 4096 → t ≤ 168 → g * (t * (n * 10000000000000)) ≤ n * 6881280000000000000
-    counted g t n hg ht = grind arith
+    (pos-le-pos _ _ (grind (arith, lawful.thermal_units, lawful.periods.1))))

@@ -1,6 +1,6 @@
 -- The text of a whole number: `whole_text n` of a natural number, `signed_text z` of any.
 -- Cite from a crate above by `use Rattle.uc_model.proofs.DecimalText.{whole_text_injective}`.
-use Rattle.std.proofs.Common.{◌≡◌, ℕ, zero, suc, ◌+◌, ◌*◌, ◌/◌, ◌%◌, ◌^◌, ◌<◌, ◌≤◌, List, [], ◌∷◌, ◌++◌, map, length, get_or, drop, decimal, All, ⊎_elim, refl, sym, ap, subst, ◌∙◌, arith, ℤ, pos, negsuc, unsigned_abs, append_assoc}
+use Rattle.std.proofs.Common.{◌≡◌, ℕ, zero, suc, ◌+◌, ◌*◌, ◌/◌, ◌%◌, ◌^◌, ◌<◌, ◌≤◌, List, [], ◌∷◌, ◌++◌, map, length, get_or, decimal, All, ⊎_elim, refl, sym, ap, subst, ◌∙◌, arith, ℤ, pos, negsuc, unsigned_abs, append_assoc}
 use Rattle.std.specs.Int.Digits.{digits_of}
 use Rattle.std.specs.Char.{digit_value}
 use Rattle.std.specs.Fmt.{signed_decimal}
@@ -78,10 +78,6 @@ digits_value-whole_text = whole_text_by_steps (λ n ds. digits_value 10 ds ≡ n
     (λ n small. omega (arith, digit_value-digit_byte n small))
     (λ n ds large value. omega (arith, digits_value_push 10 ds (digit_byte (n % 10)), digit_value-digit_byte (n % 10) (omega arith)))
 
--- two numbers with one text are one
-pub whole_text_injective : (m n : ℕ) → whole_text m ≡ whole_text n → m ≡ n
-whole_text_injective m n e = sym (digits_value-whole_text m) ∙ ap (digits_value 10) e ∙ digits_value-whole_text n
-
 -- no leading zero
 pub first_whole_text : (n : ℕ) → 0 < n → 48 < get_or (whole_text n) 0 0
 first_whole_text n positive = (whole_text_by_steps (λ n ds. (0 < length ds) × (0 < n → 48 < get_or ds 0 0))
@@ -103,13 +99,9 @@ length-whole_text-le (suc k) n some small = ⊎_elim
     omega (arith, ap length (whole_text_step n large), length-append (whole_text (n / 10)) (digit_byte (n % 10) ∷ [])))
     (cases_lt n 10)
 
--- each byte of a text of digits is one of `0` to `9`
-digit_from_value : (c : ℕ) → digit_value c < 10 → (48 ≤ c) × (c ≤ 57)
-digit_from_value c small = grind arith
-
 pub digit_bytes : (ds : List ℕ) → AllDigits 10 ds → All (λ c. (48 ≤ c) × (c ≤ 57)) ds
 digit_bytes [] all = All-nil (λ c. (48 ≤ c) × (c ≤ 57))
-digit_bytes (c ∷ cs) all = All-cons (λ c. (48 ≤ c) × (c ≤ 57)) c cs (digit_from_value c all.0) (digit_bytes cs all.1)
+digit_bytes (c ∷ cs) all = All-cons (λ c. (48 ≤ c) × (c ≤ 57)) c cs (grind (arith, all.0)) (digit_bytes cs all.1)
 
 pub whole_text_bytes : (n : ℕ) → All (λ c. (48 ≤ c) × (c ≤ 57)) (whole_text n)
 whole_text_bytes n = digit_bytes (whole_text n) (whole_text_digits n)
@@ -154,29 +146,6 @@ pub signed_decimal-signed_text : (z : ℤ) → unsigned_abs z < 10 ^ 64 → sign
 unfolding signed_text
 signed_decimal-signed_text (pos n) small = decimal-whole_text n small
 signed_decimal-signed_text (negsuc n) small = ap (λ ds. 45 ∷ ds) (decimal-whole_text (suc n) small)
-
-pub signed_text_nonempty : (z : ℤ) → 0 < length (signed_text z)
-unfolding signed_text
-signed_text_nonempty (pos n) = whole_text_nonempty n
-signed_text_nonempty (negsuc n) = omega arith
-
--- a minus is no digit: the text of digits, and more behind it, tells itself from a text behind a minus
-pub whole_text_no_minus : (n : ℕ) (rest other : List ℕ) → whole_text n ++ rest ≡ 45 ∷ other → ⊥
-whole_text_no_minus n rest other e =
-    let first = whole_text_bytes n 0 0 (whole_text_nonempty n) in
-    let same = get_or_append_left (whole_text n) rest 0 0 (whole_text_nonempty n) in
-    let byte = ap (λ bs. get_or bs 0 0) e in
-    omega arith
-
-pub signed_text_injective : (y z : ℤ) → signed_text y ≡ signed_text z → y ≡ z
-unfolding signed_text
-signed_text_injective (pos m) (pos n) e = ap pos (whole_text_injective m n e)
-signed_text_injective (pos m) (negsuc n) e = absurd (whole_text_no_minus m [] (whole_text (suc n)) (append-nil (whole_text m) ∙ e))
-signed_text_injective (negsuc m) (pos n) e = absurd (whole_text_no_minus n [] (whole_text (suc m)) (append-nil (whole_text n) ∙ sym e))
-signed_text_injective (negsuc m) (negsuc n) e = ap negsuc (suc_injective m n (whole_text_injective (suc m) (suc n) (ap (drop 1) e)))
-  where
-    suc_injective : (m n : ℕ) → suc m ≡ suc n → m ≡ n
-    suc_injective m n e = omega arith
 
 -- each byte is a minus or a digit, so no space and no line feed
 pub minus_text_bytes : (z : ℤ) → All (λ c. (45 ≤ c) × (c ≤ 57)) (minus_text z)

@@ -2,14 +2,12 @@
 -- the other one from there to the end: the most one of a unit that is on is on throughout, and the fewest one stops as
 -- early as it may; so with starts where it is off. Every allowed pattern lies between the two, period by period.
 -- Cite from a crate above by `use Rattle.uc_model.proofs.ExtremePatterns.{most-from_highest}`.
-use Rattle.std.proofs.Common.{◌≡◌, ℕ, zero, suc, ◌-◌, ◌<◌, ◌≤◌, ◌⊎◌, inl, inr, ⊎_elim, min, max, Bool, true, false, not, refl, sym, ap, ◌∙◌, arith, ◌≤ℤ◌, ◌<ℤ◌}
-use Rattle.std.specs.Prelude.{IsTrue}
+use Rattle.std.proofs.Common.{◌≡◌, ℕ, zero, suc, ◌-◌, ◌<◌, ◌≤◌, ◌⊎◌, inl, inr, ⊎_elim, min, max, Bool, true, false, not, refl, sym, ap, ◌∙◌, arith, ◌≤ℤ◌, ◌<ℤ◌, IsTrue}
 use Rattle.std.proofs.lemmas.Bool.{and_from, cases_Bool, cases_lt, true≢false, not_from_false, true_from_ne_false, false_from_ne_true}
 use Rattle.uc_model.specs.Sums.{bit}
-use Rattle.uc_model.specs.Commitment.{Commitment, starts, stops, is_allowed}
+use Rattle.uc_model.specs.Commitment.{Thermal, Commitment, starts, stops, is_allowed}
 use Rattle.uc_model.specs.ExtremePatterns.{on_periods, on_during, IsMostOn, IsFewestOn, HasNoAllowedPattern, HasExactlyOne}
 use Rattle.uc_model.specs.Limits.{IsLawfulThermal}
-use Rattle.uc_model.specs.declared.instance.Thermal.{Thermal}
 use Rattle.uc_model.proofs.Ring.{linear, le_or_lt}
 use Rattle.uc_model.proofs.Sums.{sum_below-le}
 use Rattle.uc_model.proofs.MinimumTimes.{bit_nonneg}

@@ -1,15 +1,13 @@
 -- What the segment that holds an output says, and the cost of the weights on its ends.
 -- Cite from a crate above by `use Rattle.uc_model.proofs.HullPoints.{segment_at-holds}`.
-use Rattle.std.proofs.Common.{◌≡◌, ℕ, zero, suc, ◌*◌, ◌/◌, ◌<◌, ◌≤◌, ◌≢◌, ◌⊎◌, inl, inr, ⊎_elim, Bool, true, false, refl, sym, ap, subst, ◌∙◌, arith, List, length, max, ℤ, pos, negsuc, ◌+ℤ◌, ◌-ℤ◌, ◌*ℤ◌, ◌≤ℤ◌, ◌<ℤ◌}
-use Rattle.std.specs.Prelude.{IsTrue, Option, Some, None, unsigned_abs, ◌==◌, if◌then◌else◌}
+use Rattle.std.proofs.Common.{◌≡◌, ℕ, zero, suc, ◌*◌, ◌/◌, ◌<◌, ◌≤◌, ◌≢◌, ◌⊎◌, inl, inr, ⊎_elim, Bool, true, false, refl, sym, ap, subst, ◌∙◌, arith, List, length, max, ℤ, pos, negsuc, ◌+ℤ◌, ◌-ℤ◌, ◌*ℤ◌, ◌≤ℤ◌, ◌<ℤ◌, IsTrue, Option, Some, None, unsigned_abs, ◌==◌, if◌then◌else◌}
 use Rattle.std.proofs.Math.Nat.{le-max_left}
 use Rattle.std.proofs.lemmas.Option.{none-some, same_Some}
 use Rattle.std.proofs.lemmas.Bool.{and_parts, or_cases, cases_Bool, cond-true, cond-false, eqb-true, eqb-false, eq-eqb, ne_eqb}
-use Rattle.uc_model.specs.Points.{point_of, output_of, weighted_cost}
+use Rattle.uc_model.specs.Points.{Point, point_of, output_of, weighted_cost}
 use Rattle.uc_model.specs.Division.{quotient_up}
 use Rattle.uc_model.specs.Hull.{run, rise, is_hull_segment, is_hull_point, segment_holds, or_else, first_below, Segment, segment_from, first_segment, segment_at, segment_width, from_left, to_right, segment_cost}
 use Rattle.uc_model.specs.PrintedSchedule.{segment_weight}
-use Rattle.uc_model.specs.declared.instance.Point.{Point}
 use Rattle.uc_model.proofs.Ring.{linear, spread, mul_comm, mul_assoc, mul-add, mul-sub, mul-zero, zero-mul, pos-mul, scale-le-scale, le_from_mul, sub_nonneg, pos_nonneg}
 use Rattle.uc_model.proofs.Sums.{sum_below-single, sum_below-pair}
 use Rattle.uc_model.proofs.Tests.{int_le-true, int_lt-true}
@@ -66,7 +64,7 @@ pub segment_at-holds : (points : List Point) (d : ℕ) (p : ℤ) (s : Segment) �
 segment_at-holds points d p s e = first_segment-holds points d p (length points) s (omega arith) e
 
 -- ---- where p over d lies, and the width
-abs_is : (z : ℤ) → pos 0 ≤ℤ z → pos (unsigned_abs z) ≡ z
+pub abs_is : (z : ℤ) → pos 0 ≤ℤ z → pos (unsigned_abs z) ≡ z
 abs_is (pos n) h = refl
 abs_is (negsuc n) h = absurd (omega (arith, linear))
 
@@ -144,6 +142,9 @@ up_nonneg a b some none =
 abbrev over_left : List Point → ℕ → ℤ → Segment → ℤ
 over_left points d p s = quotient_up (rise points s.left s.right *ℤ from_left points d p s) (pos (d * segment_width points s))
 
+pub wide : (d : ℕ) (points : List Point) (s : Segment) → 0 < d → 0 < d * segment_width points s
+wide d points s some = let width : 1 ≤ segment_width points s = le-max_left 1 _ in grind arith
+
 -- a segment of one point
 cost-point : (q : ℕ) (points : List Point) (d : ℕ) (p : ℤ) (s : Segment) → 0 < d → s.left < length points → s.left ≡ s.right
     → weighted_cost points (segment_weight q points d p (Some s)) ≤ℤ (pos q *ℤ segment_cost points d p (Some s))
@@ -159,13 +160,10 @@ cost-point q points d p s some within same =
     ap (λ l. (point_of points l).cost -ℤ (point_of points s.left).cost) (sym same) ∙ omega (arith, linear) in
     let none : rise points s.left s.right *ℤ from_left points d p s ≡ pos 0 =
     ap (λ z. z *ℤ from_left points d p s) level ∙ zero-mul (from_left points d p s) in
-    let more = up_nonneg _ (d * segment_width points s) (positive d (segment_width points s) some (le-max_left 1 _)) none in
+    let more = up_nonneg _ (d * segment_width points s) (wide d points s some) none in
     let greater : cost s.left ≤ℤ segment_cost points d p (Some s) = omega (arith, linear, more) in
     let times = scale-le-scale q _ _ greater in
     omega (arith, linear, total, first, times, mul_comm (cost s.left) (pos q))
-  where
-    positive : (m n : ℕ) → 0 < m → 1 ≤ n → 0 < m * n
-    positive m n h k = grind arith
 
 -- a segment between two points
 cost-ends : (q c : ℕ) (points : List Point) (d : ℕ) (p : ℤ) (s : Segment) → Holds points d p s → LiesOn points d p s
@@ -193,16 +191,13 @@ cost-ends q c points d p s holds lies factor share apart some =
     let whole : a +ℤ b ≡ pos (d * segment_width points s) =
     parts_sum points d p s ∙ sym (pos-mul d (segment_width points s) ∙ ap (λ z. pos d *ℤ z) (lies.width apart)) in
     let above = (quotient_up-is (rise points s.left s.right *ℤ b) (pos (d * segment_width points s))
-    (positive d (segment_width points s) some (le-max_left 1 _))).above in
+    (let width = wide d points s some in omega (arith, linear))).above in
     let bound = ends_cost c (d * segment_width points s) (cost s.left) (cost s.right) a b (over_left points d p s) whole above in
     subst (λ n. weighted_cost points weight ≤ℤ (pos n *ℤ segment_cost points d p (Some s))) (sym factor)
     (omega (arith, linear, total, first, second, bound))
   where
     part : (z : ℤ) (c : ℕ) → pos 0 ≤ℤ z → pos (unsigned_abs z * c) ≡ z *ℤ pos c
     part z c h = pos-mul (unsigned_abs z) c ∙ ap (λ x. x *ℤ pos c) (abs_is z h)
-
-    positive : (m n : ℕ) → 0 < m → 1 ≤ n → pos 0 <ℤ pos (m * n)
-    positive m n h k = let some : 0 < m * n = grind arith in omega (arith, linear)
 
 -- the weights on the ends cost at most q times the hull's value rounded up
 pub cost-segment : (q c : ℕ) (points : List Point) (d : ℕ) (p : ℤ) (s : Segment) → segment_at points d p ≡ Some s

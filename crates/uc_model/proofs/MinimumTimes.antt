@@ -1,8 +1,8 @@
 -- Minimum up and down times of at least 1 exclude a start and a stop in one period, even where starts and
 -- stops are variables of their own, as in the reference model, tied to the state only by
 -- u(t) - u(t-1) = v(t) - w(t).
-use Rattle.std.proofs.Common.{◌≡◌, ℕ, zero, suc, ◌+◌, ◌-◌, ◌<◌, ◌≤◌, ◌≢◌, ◌⊎◌, ⊎_elim, min, max, Bool, true, false, not, ◌&&◌, refl, sym, ap, ◌∙◌, arith, ℤ, pos, ◌+ℤ◌, ◌-ℤ◌, ◌≤ℤ◌}
-use Rattle.std.specs.Prelude.{IsTrue, int_le, nat_lt}
+use Rattle.std.proofs.Common.{◌≡◌, ℕ, zero, suc, ◌+◌, ◌-◌, ◌<◌, ◌≤◌, ◌≢◌, ◌⊎◌, ⊎_elim, min, max, Bool, true, false, not, ◌&&◌, refl, sym, ap, ◌∙◌, arith, ℤ, pos, ◌+ℤ◌, ◌-ℤ◌, ◌≤ℤ◌, IsTrue, int_le, nat_lt}
+use mathlib.Core.Bool.{and_comm}
 use Rattle.std.proofs.lemmas.Bool.{or_cases, cases_Bool, cases_order, ltb-true, true≢false, not-true, not-false, not_from_true}
 use Rattle.uc_model.specs.Sums.{sum_below, bit}
 use Rattle.uc_model.specs.Commitment.{Commitment, state_before, keeps_minimum_at, KeepsMinimumTimes}
@@ -21,7 +21,7 @@ bit-le-one false = omega (arith, linear)
 bit-true : (b : Bool) → IsTrue b → bit b ≡ pos 1
 bit-true b h = ap bit h
 
-one-le-bit : (b : Bool) → pos 1 ≤ℤ bit b → IsTrue b
+pub one-le-bit : (b : Bool) → pos 1 ≤ℤ bit b → IsTrue b
 one-le-bit true h = refl
 one-le-bit false h = absurd (omega (arith, linear))
 
@@ -38,10 +38,7 @@ two_terms-le-sum_below (suc n) f j k l h nonneg =
     let first = term-le-sum_below n f j (omega arith) (λ i m. nonneg i (omega arith)) in
     let same = ap f last in
     omega (arith, linear))
-    (below_or_last n k h)
-  where
-    below_or_last : (m i : ℕ) → i < suc m → (i < m) ⊎ (i ≡ m)
-    below_or_last m i b = grind arith
+    (grind arith)
 
 -- what a whole window says of a change within it: the state is there at its end, and there is no other change
 pub record OneChange (window : ℕ) (changes state : Commitment) (k end : ℕ) : Type 0 where
@@ -61,11 +58,8 @@ one_change window changes state k end whole since until change keeps =
         int_le-true _ _ sum)
         (or_cases (nat_lt (suc end) window) _ keeps)
 
-    at_place : (j : ℕ) → suc end - window ≤ j → suc end - window + (j - (suc end - window)) ≡ j
-    at_place j h = omega arith
-
     one_at : (j : ℕ) → suc end - window ≤ j → IsTrue (changes j) → bit (changes (suc end - window + (j - (suc end - window)))) ≡ pos 1
-    one_at j h c = ap (λ i. bit (changes i)) (at_place j h) ∙ bit-true (changes j) c
+    one_at j h c = ap (λ i. bit (changes i)) (omega arith) ∙ bit-true (changes j) c
 
     nonneg : (i : ℕ) → i < window → pos 0 ≤ℤ bit (changes (suc end - window + i))
     nonneg i h = bit_nonneg (changes (suc end - window + i))
@@ -198,16 +192,7 @@ start_is false false false down e apart = refl
 stop_is : (now before up down : Bool) → bit now -ℤ bit before ≡ bit up -ℤ bit down → (IsTrue up → IsTrue down → ⊥)
     → down ≡ (before && not now)
 stop_is now before up down e apart =
-    start_is before now down up (turned now before up down e) (λ d u. apart u d) ∙ both_orders now before
-  where
-    turned : (n b u d : Bool) → bit n -ℤ bit b ≡ bit u -ℤ bit d → bit b -ℤ bit n ≡ bit d -ℤ bit u
-    turned n b u d h = omega (arith, linear)
-
-    both_orders : (n b : Bool) → (not n && b) ≡ (b && not n)
-    both_orders true true = refl
-    both_orders true false = refl
-    both_orders false true = refl
-    both_orders false false = refl
+    start_is before now down up (omega (arith, linear)) (λ d u. apart u d) ∙ and_comm (not now) before
 
 pub starts-follow : (initial : Bool) (on up down : Commitment) (periods time_up time_down : ℕ) → 1 ≤ time_up → 1 ≤ time_down
     → KeepsMinimumTimes initial on up down periods time_up time_down

@@ -1,13 +1,11 @@
 -- The text of money and of power, `money_text n`.
 -- Cite from a crate above by `use Rattle.uc_model.proofs.MoneyText.{money_text_injective}`.
-use Rattle.std.proofs.Common.{◌≡◌, ℕ, suc, ◌+◌, ◌*◌, ◌/◌, ◌%◌, ◌^◌, ◌<◌, ◌≤◌, List, [], ◌∷◌, ◌++◌, length, All, get_or, take, drop, refl, sym, ap, ◌∙◌, arith, ℤ, pos, negsuc, unsigned_abs}
-use Rattle.std.proofs.lemmas.List.{length-append, take_at, drop_at}
+use Rattle.std.proofs.Common.{◌≡◌, ℕ, suc, ◌+◌, ◌*◌, ◌/◌, ◌%◌, ◌^◌, ◌<◌, ◌≤◌, List, [], ◌∷◌, ◌++◌, length, All, get_or, refl, sym, ap, ◌∙◌, arith, ℤ, pos, negsuc, unsigned_abs, length-append}
 use Rattle.std.proofs.lemmas.List.Elements.{All-append, All-cons, All-weaker, All-from_recursion}
 use Rattle.std.specs.Str.Parse.{AllDigits, digits_value}
-use Rattle.std.proofs.lemmas.Int.Digits.{digits_value-lt}
 use Rattle.uc_model.specs.Decimal.{digit_byte, minus_text, whole_text}
 use Rattle.uc_model.specs.Money.{digit_at, millionths_text, money_text, six_digits}
-use Rattle.uc_model.proofs.DecimalText.{digit_byte-digit_value, length-whole_text-le, minus_text_bytes, whole_text_bytes, whole_text-digits_value, whole_text_injective, whole_text_no_minus}
+use Rattle.uc_model.proofs.DecimalText.{digit_byte-digit_value, length-whole_text-le, minus_text_bytes, whole_text_bytes}
 
 -- ---- the six decimals
 pub length-six_digits : (n : ℕ) → length (six_digits n) ≡ 6
@@ -54,38 +52,6 @@ unfolding millionths_text
 length-millionths_text n =
     omega (arith, length-append (whole_text (n / 1000000)) (46 ∷ six_digits (n % 1000000)), length-six_digits (n % 1000000))
 
-pub millionths_text_injective : (m n : ℕ) → millionths_text m ≡ millionths_text n → m ≡ n
-unfolding millionths_text
-millionths_text_injective m n e =
-    let first = whole_text (m / 1000000) in
-    let second = whole_text (n / 1000000) in
-    let long : length first ≡ length second = omega (arith, length-millionths_text m, length-millionths_text n, ap length e) in
-    let wholes : first ≡ second =
-    sym (take_at first _ (length first) refl) ∙ ap (take (length first)) e ∙ take_at second _ (length first) (sym long) in
-    let rests =
-    sym (drop_at first (46 ∷ six_digits (m % 1000000)) (length first) refl) ∙ ap (drop (length first)) e
-    ∙ drop_at second (46 ∷ six_digits (n % 1000000)) (length first) (sym long) in
-    let whole = whole_text_injective (m / 1000000) (n / 1000000) wholes in
-    let rest = six_digits_injective (m % 1000000) (n % 1000000) (omega arith) (omega arith) (ap (drop 1) rests) in
-    omega arith
-
--- digits, a point and six digits are the text of the number that they write, where no zero leads but a single one
-pub millionths_text-digits_value : (ds fs : List ℕ) → AllDigits 10 ds → 0 < length ds → (get_or ds 0 0 ≡ 48 → length ds ≡ 1)
-    → AllDigits 10 fs → length fs ≡ 6
-    → millionths_text (digits_value 10 ds * 1000000 + digits_value 10 fs) ≡ ds ++ 46 ∷ fs
-unfolding millionths_text
-millionths_text-digits_value ds fs whole some lead decimals six =
-    let small = digits_value-lt 10 fs decimals in
-    let below : digits_value 10 fs < 1000000 = omega (arith, ap (λ k. 10 ^ k) six) in
-    let front : (digits_value 10 ds * 1000000 + digits_value 10 fs) / 1000000 ≡ digits_value 10 ds = omega arith in
-    let rest : (digits_value 10 ds * 1000000 + digits_value 10 fs) % 1000000 ≡ digits_value 10 fs = omega arith in
-    (λ i. whole_text (front i) ++ 46 ∷ six_digits (rest i))
-    ∙ (λ i. whole_text-digits_value ds whole some lead i ++ 46 ∷ six_digits-digits_value fs six decimals i)
-
-millionths_text_no_minus : (n : ℕ) (rest : List ℕ) → millionths_text n ≡ 45 ∷ rest → ⊥
-unfolding millionths_text
-millionths_text_no_minus n rest e = whole_text_no_minus (n / 1000000) (46 ∷ six_digits (n % 1000000)) rest e
-
 -- ---- money
 pub length-money_text : (n : ℤ) → length (money_text n) ≡ length (minus_text n) + length (whole_text (unsigned_abs n / 1000000)) + 7
 unfolding money_text
@@ -102,17 +68,6 @@ length-money_text-le k n some small =
 
 pub money_text_nonempty : (n : ℤ) → 0 < length (money_text n)
 money_text_nonempty n = omega (arith, length-money_text n)
-
--- two numbers with one text are one
-pub money_text_injective : (m n : ℤ) → money_text m ≡ money_text n → m ≡ n
-unfolding money_text
-money_text_injective (pos m) (pos n) e = ap pos (millionths_text_injective m n e)
-money_text_injective (pos m) (negsuc n) e = absurd (millionths_text_no_minus m (millionths_text (suc n)) e)
-money_text_injective (negsuc m) (pos n) e = absurd (millionths_text_no_minus n (millionths_text (suc m)) (sym e))
-money_text_injective (negsuc m) (negsuc n) e = ap negsuc (suc_injective m n (millionths_text_injective (suc m) (suc n) (ap (drop 1) e)))
-  where
-    suc_injective : (m n : ℕ) → suc m ≡ suc n → m ≡ n
-    suc_injective m n e = omega arith
 
 -- each byte is a minus, a point or a digit, so no space and no line feed
 pub money_text_bytes : (n : ℤ) → All (λ c. (45 ≤ c) × (c ≤ 57)) (money_text n)

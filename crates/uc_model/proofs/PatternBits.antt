@@ -1,7 +1,6 @@
 -- A pattern's commitment by its two words.
 -- Cite from a crate above by `use Rattle.uc_model.proofs.PatternBits.{commitment-low}`.
-use Rattle.std.proofs.Common.{◌≡◌, ℕ, zero, suc, ◌+◌, ◌-◌, ◌/◌, ◌^◌, ◌<◌, ◌≤◌, lt-ltb, le-ltb, sym, ap, ◌∙◌, arith}
-use Rattle.std.specs.Prelude.{◌==◌}
+use Rattle.std.proofs.Common.{◌≡◌, ℕ, zero, suc, ◌+◌, ◌-◌, ◌/◌, ◌^◌, ◌<◌, ◌≤◌, lt-ltb, le-ltb, sym, ap, ◌∙◌, arith, ◌==◌}
 use Rattle.std.specs.Int.{bit_at}
 use Rattle.std.proofs.lemmas.Bool.{cond-true, cond-false}
 use Rattle.std.proofs.lemmas.Nat.Bits.{bit_at-lt, bit_at_lowest, bit_at-suc}
@@ -25,19 +24,13 @@ same_bits (suc k) a b small other same =
     let lowest = sym (bit_at_lowest a) ∙ same 0 (omega arith) ∙ bit_at_lowest b in
     omega (arith, half, lowest)
 
--- a bit by whether it is 1
-bit-from_test : (m n : ℕ) → m < 2 → n < 2 → (m == 1) ≡ (n == 1) → m ≡ n
-bit-from_test m n small other same = grind arith
-
 pub pattern_unique : (a b : Pattern) → a.low < 2 ^ 128 → b.low < 2 ^ 128 → a.high < 2 ^ 64 → b.high < 2 ^ 64
     → ((t : ℕ) → commitment_of a t ≡ commitment_of b t) → a ≡ b
 pattern_unique a b low_a low_b high_a high_b same =
     let low = same_bits 128 a.low b.low low_a low_b
-    (λ i h. bit-from_test _ _ (bit_at-lt a.low i) (bit_at-lt b.low i)
-    (sym (commitment-low a i h) ∙ same i ∙ commitment-low b i h)) in
+    (λ i h. grind (arith, bit_at-lt a.low i, bit_at-lt b.low i, sym (commitment-low a i h) ∙ same i ∙ commitment-low b i h)) in
     let high = same_bits 64 a.high b.high high_a high_b
-    (λ i h. bit-from_test _ _ (bit_at-lt a.high i) (bit_at-lt b.high i)
-    (sym (late a i) ∙ same (128 + i) ∙ late b i)) in
+    (λ i h. grind (arith, bit_at-lt a.high i, bit_at-lt b.high i, sym (late a i) ∙ same (128 + i) ∙ late b i)) in
     λ i. record { low = low i; high = high i }
   where
     late : (pattern : Pattern) (i : ℕ) → commitment_of pattern (128 + i) ≡ (bit_at pattern.high i == 1)

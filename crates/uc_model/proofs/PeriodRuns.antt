@@ -1,12 +1,10 @@
 -- Commitments that are on in one run of periods, up to some period or from it on: where they start and stop, and that
 -- they keep the minimum times.
-use Rattle.std.proofs.Common.{◌≡◌, ℕ, zero, suc, ◌+◌, ◌-◌, ◌<◌, ◌≤◌, ⊎_elim, true, false, sym, ap, ◌∙◌, arith, pos, ◌≤ℤ◌}
-use Rattle.std.specs.Prelude.{IsTrue, nat_lt}
+use Rattle.std.proofs.Common.{◌≡◌, ℕ, zero, suc, ◌+◌, ◌-◌, ◌<◌, ◌≤◌, ⊎_elim, true, false, sym, ap, ◌∙◌, arith, pos, ◌≤ℤ◌, IsTrue, nat_lt}
 use Rattle.std.proofs.lemmas.Bool.{and_parts, and_from, and_left, and_right, or_left, or_right, cases_Bool, cases_lt, true≢false, not-true, false_from_ne_true, ltb-true, leb-true, lt-ltb, le-ltb, lt-leb, le-leb}
 use Rattle.uc_model.specs.Sums.{sum_below, bit}
-use Rattle.uc_model.specs.Commitment.{Commitment, was_on, starts, stops, keeps_minimum_at}
+use Rattle.uc_model.specs.Commitment.{Thermal, Commitment, was_on, starts, stops, keeps_minimum_at}
 use Rattle.uc_model.specs.ExtremePatterns.{on_during}
-use Rattle.uc_model.specs.declared.instance.Thermal.{Thermal}
 use Rattle.uc_model.proofs.Ring.{linear}
 use Rattle.uc_model.proofs.Sums.{sum_below-zero}
 use Rattle.uc_model.proofs.MinimumTimes.{bit_nonneg}

@@ -1,30 +1,26 @@
 -- A printed schedule that obeys costs at most its printed cost, which is at most COST_MAX in size.
 -- Cite from a crate above by `use Rattle.uc_model.proofs.PrintedCosts.{cost-le-printed}`.
-use Rattle.std.proofs.Common.{◌≡◌, ℕ, zero, suc, ◌*◌, ◌/◌, ◌<◌, ◌≤◌, ⊎_elim, Bool, true, false, refl, ap, subst, ◌∙◌, arith, length, ℤ, pos, ◌+ℤ◌, ◌-ℤ◌, ◌*ℤ◌, ◌≤ℤ◌, ◌<ℤ◌, List}
-use Rattle.std.specs.Prelude.{Option, Some, None, unsigned_abs, if◌then◌else◌}
+use Rattle.std.proofs.Common.{◌≡◌, ℕ, zero, suc, ◌*◌, ◌/◌, ◌<◌, ◌≤◌, ⊎_elim, Bool, true, false, refl, ap, subst, ◌∙◌, arith, length, ℤ, pos, ◌+ℤ◌, ◌-ℤ◌, ◌*ℤ◌, ◌≤ℤ◌, ◌<ℤ◌, List, Option, Some, None, unsigned_abs, if◌then◌else◌}
 use Rattle.std.specs.Ordering.{int_eq}
-use Rattle.std.proofs.Math.Nat.{le-max_left, mul-div_cancel}
+use Rattle.std.proofs.Math.Nat.{mul-div_cancel}
 use Rattle.std.proofs.lemmas.Bool.{cases_lt}
 use Rattle.uc_model.specs.Sums.{sum_below}
-use Rattle.uc_model.specs.Points.{point_of, weighted_cost}
-use Rattle.uc_model.specs.StartCategory.{category_cost}
-use Rattle.uc_model.specs.Schedule.{thermal_unit, thermal_count}
+use Rattle.uc_model.specs.Points.{Point, point_of, weighted_cost}
+use Rattle.uc_model.specs.StartCategory.{Thermal, category_cost}
+use Rattle.uc_model.specs.Schedule.{Instance, thermal_unit, thermal_count}
 use Rattle.uc_model.specs.Rules.{Category, Production, Obeys}
 use Rattle.uc_model.specs.Cost.{cell_cost, unit_cost, cost}
 use Rattle.uc_model.specs.Hull.{Segment, segment_at, segment_width, segment_cost, hull_cost, rise, from_left}
 use Rattle.uc_model.specs.PrintedSchedule.{watt_denominator, cell_at, product_below, width_on, cell_width, printed_denominator, refused_weight, segment_weight, printed_schedule, printed_cell_cost, printed_cost}
 use Rattle.uc_model.specs.Limits.{IsLawfulThermal, IsLawfulInstance, MAX_COST, COST_MAX}
-use Rattle.uc_model.specs.declared.instance.Thermal.{Thermal}
-use Rattle.uc_model.specs.declared.instance.Instance.{Instance}
 use Rattle.uc_model.specs.declared.schedule.Printed.{Printed}
 use Rattle.uc_model.proofs.Ring.{linear, mul-add, mul-zero, zero-mul, mul_comm, mul_nonneg, mul-le-mul_left, mul-le-mul_turned, le_from_mul, le_or_lt, sub_nonneg, pos-le-pos}
 use Rattle.uc_model.proofs.Sums.{sum_below-le, sum_below-mul_left, sum_below-zero}
 use Rattle.uc_model.proofs.Obeyed.{rule_at, production_parts}
-use Rattle.uc_model.proofs.HullPoints.{segment_at-holds, lies_on, from_left-le, cost-segment}
+use Rattle.uc_model.proofs.HullPoints.{segment_at-holds, lies_on, from_left-le, cost-segment, wide}
 use Rattle.uc_model.proofs.CostBound.{IsWithin, within_of_abs, abs_of_within, within_add, within_more, within_const_sum, category_cost_fits}
 use Rattle.uc_model.proofs.Quotients.{IsCeiling-least, quotient_up-is}
 use Rattle.uc_model.specs.Division.{IsCeiling}
-use Rattle.uc_model.specs.declared.instance.Point.{Point}
 
 -- ---- the denominator is a multiple of each cell's
 product_below-factor : (n : ℕ) (f : ℕ → ℕ) (k : ℕ) → k < n → (c : ℕ) × (product_below n f ≡ c * f k)
@@ -33,14 +29,11 @@ product_below-factor (suc n) f k h =
     ⊎_elim
     (λ (less : k < n).
     let before = product_below-factor n f k less in
-    (before.0 * f n, ap (λ m. m * f n) before.1 ∙ turned before.0 (f k) (f n)))
+    (before.0 * f n, ap (λ m. m * f n) before.1 ∙ (grind arith)))
     (λ (last : n ≤ k).
     let same : n ≡ k = omega arith in
     (product_below n f, ap (λ i. product_below n f * f i) same))
     (cases_lt k n)
-  where
-    turned : (a b c : ℕ) → a * b * c ≡ a * c * b
-    turned a b c = grind arith
 
 pub denominator-factor : (instance : Instance) (printed : Printed) (g t : ℕ) → g < thermal_count instance → t < instance.periods
     → (c : ℕ) × (printed_denominator instance printed ≡ c * (watt_denominator printed * cell_width (thermal_unit instance g).points (watt_denominator printed) (cell_at printed g t)))
@@ -50,13 +43,10 @@ denominator-factor instance printed g t hg ht =
     let outer = product_below-factor (thermal_count instance) (λ i. product_below instance.periods (widths i)) g hg in
     let inner = product_below-factor instance.periods (widths g) t ht in (
       outer.0 * inner.0,
-      ap (λ m. d * m) (outer.1 ∙ ap (λ m. outer.0 * m) inner.1) ∙ turned d outer.0 inner.0 (widths g t),
+      ap (λ m. d * m) (outer.1 ∙ ap (λ m. outer.0 * m) inner.1) ∙ (grind arith),
     )
-  where
-    turned : (d a b w : ℕ) → d * (a * (b * w)) ≡ a * b * (d * w)
-    turned d a b w = grind arith
 
-share_is : (q c n : ℕ) → 0 < n → q ≡ c * n → q / n ≡ c
+pub share_is : (q c n : ℕ) → 0 < n → q ≡ c * n → q / n ≡ c
 share_is q c n some e = ap (λ m. m / n) e ∙ mul-div_cancel c some
 
 -- ---- a cell
@@ -69,10 +59,7 @@ on_cell : (q c : ℕ) (points : List Point) (d : ℕ) (p : ℤ) (s : Option Segm
     → weighted_cost points (segment_weight q points d p s) ≤ℤ (pos q *ℤ segment_cost points d p s)
 on_cell q c points d p None e some positive within factor = no_refused q (length points) some within
 on_cell q c points d p (Some s) e some positive within factor =
-    cost-segment q c points d p s e factor (share_is q c (d * segment_width points s) (wide d (segment_width points s) positive (le-max_left 1 _)) factor) positive
-  where
-    wide : (m n : ℕ) → 0 < m → 1 ≤ n → 0 < m * n
-    wide m n h k = grind arith
+    cost-segment q c points d p s e factor (share_is q c (d * segment_width points s) (wide d points s positive) factor) positive
 
 off_cell : (q : ℕ) (points : List Point) (idle : Bool) → 0 < length points
     → ((l : ℕ) → l < length points → (if idle then 0 else refused_weight q l) ≤ q)
@@ -155,14 +142,11 @@ hull_cost-within unit d p (Some s) lawful some e =
     let points = unit.points in
     let holds = segment_at-holds points d p s e in
     let lies = lies_on points d p s holds in
-    let positive : 0 < d * segment_width points s = wide d (segment_width points s) some (le-max_left 1 _) in
+    let positive : 0 < d * segment_width points s = wide d points s some in
     between (point_of points s.left).cost (point_of points s.right).cost (from_left points d p s) _ MAX_COST (d * segment_width points s)
     positive lies.after (from_left-le points d p s lies)
     (quotient_up-is (rise points s.left s.right *ℤ from_left points d p s) (pos (d * segment_width points s)) (omega (arith, linear)))
     (within_of_abs _ _ (lawful.costs s.left holds.left)) (within_of_abs _ _ (lawful.costs s.right holds.right))
-  where
-    wide : (m n : ℕ) → 0 < m → 1 ≤ n → 0 < m * n
-    wide m n h k = grind arith
 
 printed_hull-within : (unit : Thermal) (d : ℕ) (on : Bool) (p : ℤ) → IsLawfulThermal unit → 0 < d
     → IsWithin (pos MAX_COST) (if on then hull_cost unit.points d p else pos 0)
@@ -182,7 +166,4 @@ printed_cost-fits instance printed q lawful obeys =
     let units = λ (g : ℕ) (hg : g < thermal_count instance).
     within_const_sum instance.periods (λ t. printed_cell_cost (thermal_unit instance g) d (cell_at printed g t)) (pos (2 * MAX_COST)) (λ t ht. cell g t hg ht) in
     let all = within_const_sum (thermal_count instance) _ (pos instance.periods *ℤ pos (2 * MAX_COST)) units in
-    abs_of_within _ _ (within_more _ _ _ all (pos-le-pos _ _ (counted (thermal_count instance) instance.periods lawful.thermal_units lawful.periods.1)))
-  where
-    counted : (g t : ℕ) → g ≤ 4096 → t ≤ 168 → g * (t * 10000000000000) ≤ 6881280000000000000
-    counted g t hg ht = grind arith
+    abs_of_within _ _ (within_more _ _ _ all (pos-le-pos _ _ (grind (arith, lawful.thermal_units, lawful.periods.1))))

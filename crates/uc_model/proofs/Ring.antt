@@ -157,10 +157,7 @@ le_from_mul q a b h k = by_lt_z b a (λ less. absurd (below less)) (λ le. le)
         omega (arith, linear)
 
 pub mul-lt-mul_left : (q a b : ℤ) → pos 0 <ℤ q → a <ℤ b → (q *ℤ a) <ℤ (q *ℤ b)
-mul-lt-mul_left q a b h k = by_lt_z (q *ℤ a) (q *ℤ b) (λ less. less) (λ le. absurd (turned (le_from_mul q b a h le)))
-  where
-    turned : b ≤ℤ a → ⊥
-    turned le = omega (arith, linear)
+mul-lt-mul_left q a b h k = by_lt_z (q *ℤ a) (q *ℤ b) (λ less. less) (λ le. absurd (omega (arith, linear, le_from_mul q b a h le)))
 
 -- one more of a number
 pub suc-mul : (n : ℕ) (a : ℤ) → pos (suc n) *ℤ a ≡ pos n *ℤ a +ℤ a
@@ -173,8 +170,3 @@ pub pos-mul : (m n : ℕ) → pos (m * n) ≡ pos m *ℤ pos n
 pos-mul m n = refl
 
 -- ---- how the two sets are used
-priced : (q d p r : ℤ) → (q *ℤ (d -ℤ p +ℤ r)) +ℤ (q *ℤ (p -ℤ r)) ≡ q *ℤ d
-priced q d p r = simp spread (omega (arith, linear))
-
-less_room : (q a b c : ℤ) → pos 0 ≤ℤ q → (a +ℤ b) ≤ℤ c → (q *ℤ a) ≤ℤ (q *ℤ c -ℤ q *ℤ b)
-less_room q a b c h k = let times = simp spread at (mul-le-mul_left q (a +ℤ b) c h k) in omega (arith, linear)

@@ -1,18 +1,13 @@
 -- The least start cost is never above the cost of a category that M6 allows, and its size.
 -- Cite from a crate above by `use Rattle.uc_model.proofs.StartCosts.{sigma-le-allowed, sigma-size}`.
-use Rattle.std.proofs.Common.{◌≡◌, ℕ, zero, suc, ◌-◌, ◌<◌, ◌≤◌, ◌≢◌, ◌⊎◌, ⊎_elim, false, not, ◌&&◌, cond, sym, ap, subst, ◌∙◌, arith, ℤ, ◌≤ℤ◌, Bool}
-use Rattle.std.specs.Prelude.{IsTrue, nat_lt, nat_le, ◌==◌, Option, Some, unsigned_abs}
+use Rattle.std.proofs.Common.{◌≡◌, ℕ, zero, suc, ◌-◌, ◌<◌, ◌≤◌, ◌≢◌, ◌⊎◌, ⊎_elim, false, not, ◌&&◌, cond, sym, ap, subst, ◌∙◌, arith, ℤ, ◌≤ℤ◌, Bool, IsTrue, nat_lt, nat_le, ◌==◌, Option, Some, unsigned_abs}
 use Rattle.std.proofs.lemmas.Bool.{and_parts, and_from, or_cases, cases_Bool, cond_both, cond-true, cond-false, not-true, true≢false, leb-true, ltb-true, eqb-true, le-leb, lt-ltb}
 use Rattle.uc_model.specs.Sums.{least_below}
-use Rattle.uc_model.specs.Commitment.{Commitment, was_on, starts, stops}
+use Rattle.uc_model.specs.Commitment.{Thermal, Commitment, was_on, starts, stops}
 use Rattle.uc_model.specs.StartCategory.{category_count, category_lag, category_cost, has_stop_within, is_barred, is_category_allowed, last_stop, stopped_within, may_cost_as, sigma}
 use Rattle.uc_model.specs.Limits.{IsLawfulThermal, MAX_COST}
-use Rattle.uc_model.specs.declared.instance.Thermal.{Thermal}
 use Rattle.uc_model.proofs.Sizes.{abs_min}
 use Rattle.uc_model.proofs.Tests.{any_below-at, least_below-le, least_below-le-other}
-
-below_or_last : (n k : ℕ) → k < suc n → (k < n) ⊎ (k ≡ n)
-below_or_last n k l = grind arith
 
 -- where there is a stop before t, the last one is no earlier
 pub last_stop-after : (unit : Thermal) (on : Commitment) (t k : ℕ) → k < t → IsTrue (stops unit on k)
@@ -26,7 +21,7 @@ last_stop-after unit on (suc t) k h s =
     ⊎_elim
     (λ (less : k < t). less)
     (λ (same : k ≡ t). absurd (true≢false (sym s ∙ ap (λ i. stops unit on i) same ∙ other)))
-    (below_or_last t k h)
+    (grind arith)
     in
     let found = last_stop-after unit on t k earlier s in
     (found.0, cond-false _ (Some t) (last_stop unit on t) other ∙ found.1, found.2))

@@ -6,7 +6,7 @@ use Rattle.uc_model.specs.Sums.{sum_below}
 use Rattle.uc_model.proofs.Ring.{linear, add-zero, add-le-add, le_refl, mul-add, add-mul, mul-zero, zero-mul, suc-mul}
 
 -- a place below n + 1
-below_or_last : (n k : ℕ) → k < suc n → (k < n) ⊎ (k ≡ n)
+pub below_or_last : (n k : ℕ) → k < suc n → (k < n) ⊎ (k ≡ n)
 below_or_last n k l = grind arith
 
 -- equal terms give equal sums
@@ -115,11 +115,6 @@ sum_below-pair (suc n) f i j h l apart none = ⊎_elim
     let same = ap f end in
     omega (arith, linear))
     (below_or_last n i h)
-
--- differences of neighbours telescope
-pub sum_below-telescope : (n : ℕ) (f : ℕ → ℤ) → sum_below n (λ k. f (suc k) -ℤ f k) ≡ f n -ℤ f 0
-sum_below-telescope zero f = omega (arith, linear)
-sum_below-telescope (suc n) f = let before = sum_below-telescope n f in omega (arith, linear)
 
 -- two sums change places
 pub sum_below-swap : (m n : ℕ) (f : ℕ → ℕ → ℤ)

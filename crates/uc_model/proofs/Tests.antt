@@ -1,13 +1,13 @@
 -- What the tests over indexes say, as facts, and laws of the least value.
 -- Cite from a crate above by `use Rattle.uc_model.proofs.Tests.{all_below-at}`.
-use Rattle.std.proofs.Common.{◌≡◌, ℕ, zero, suc, ◌<◌, ◌⊎◌, ⊎_elim, Bool, cond, refl, sym, subst, arith, ℤ, ◌≤ℤ◌, ◌<ℤ◌}
-use Rattle.std.specs.Prelude.{IsTrue, int_le, int_lt}
+use Rattle.std.proofs.Common.{◌≡◌, ℕ, zero, suc, ◌<◌, ◌⊎◌, ⊎_elim, Bool, cond, refl, sym, subst, arith, ℤ, ◌≤ℤ◌, ◌<ℤ◌, IsTrue, int_le, int_lt}
 use Rattle.std.specs.Int.{int_min}
 use Rattle.std.specs.Ordering.{int_eq}
 use Rattle.std.proofs.lemmas.Int.{ints}
 use Rattle.std.proofs.lemmas.Bool.{and_parts, and_from, or_cases, or_left, or_right, cond-true, cond_both}
 use Rattle.std.proofs.lemmas.Bool.Decides.{Decides-int_eq}
 use Rattle.uc_model.specs.Sums.{all_below, any_below, least_below}
+use Rattle.uc_model.proofs.Sums.{below_or_last}
 
 -- ---- tests of whole numbers
 pub int_le-true : (a b : ℤ) → IsTrue (int_le a b) → a ≤ℤ b
@@ -29,9 +29,6 @@ pub eq-int_eq : (a b : ℤ) → a ≡ b → IsTrue (int_eq a b)
 eq-int_eq a b e = (Decides-int_eq a b).1 e
 
 -- ---- a test of every index, and of some index
-below_or_last : (n k : ℕ) → k < suc n → (k < n) ⊎ (k ≡ n)
-below_or_last n k l = grind arith
-
 pub all_below-at : (n : ℕ) (test : ℕ → Bool) → IsTrue (all_below n test) → (k : ℕ) → k < n → IsTrue (test k)
 all_below-at zero test h k l = absurd (omega arith)
 all_below-at (suc n) test h k l =
@@ -75,24 +72,17 @@ step_left b x y h = subst (λ z. z ≤ℤ x) (sym (cond-true b (int_min x y) y h
 step_right : (b : Bool) (x y : ℤ) → cond b (int_min x y) y ≤ℤ y
 step_right b x y = cond_both b (int_min x y) y (λ z. z ≤ℤ y) (λ e. int_min_right x y) (λ e. omega (arith, ints))
 
-le_through : (a b c : ℤ) → a ≤ℤ b → b ≤ℤ c → a ≤ℤ c
-le_through a b c h k = omega (arith, ints)
-
 pub least_below-le-other : (n : ℕ) (test : ℕ → Bool) (f : ℕ → ℤ) (other : ℤ) → least_below n test f other ≤ℤ other
 least_below-le-other zero test f other = omega (arith, ints)
 least_below-le-other (suc n) test f other =
-    le_through _ _ _
-    (step_right (test n) (f n) (least_below n test f other))
-    (least_below-le-other n test f other)
+    omega (arith, ints, step_right (test n) (f n) (least_below n test f other), least_below-le-other n test f other)
 
 pub least_below-le : (n : ℕ) (test : ℕ → Bool) (f : ℕ → ℤ) (other : ℤ) (k : ℕ) → k < n → IsTrue (test k) → least_below n test f other ≤ℤ f k
 least_below-le zero test f other k l h = absurd (omega arith)
 least_below-le (suc n) test f other k l h =
     ⊎_elim
     (λ (less : k < n).
-    le_through _ _ _
-    (step_right (test n) (f n) (least_below n test f other))
-    (least_below-le n test f other k less h))
+    omega (arith, ints, step_right (test n) (f n) (least_below n test f other), least_below-le n test f other k less h))
     (λ (last : k ≡ n).
     subst (λ i. least_below (suc n) test f other ≤ℤ f i) (sym last)
     (step_left (test n) (f n) (least_below n test f other) (subst (λ i. IsTrue (test i)) last h)))

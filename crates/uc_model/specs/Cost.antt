@@ -3,10 +3,8 @@
 use Rattle.std.specs.Prelude.{ℕ, ℤ, pos, ◌+ℤ◌, ◌*ℤ◌}
 use Rattle.uc_model.specs.Sums.{sum_below}
 use Rattle.uc_model.specs.Points.{weighted_cost}
-use Rattle.uc_model.specs.StartCategory.{category_cost}
-use Rattle.uc_model.specs.Schedule.{Row, Schedule, thermal_unit, thermal_count}
-use Rattle.uc_model.specs.declared.instance.Thermal.{Thermal}
-use Rattle.uc_model.specs.declared.instance.Instance.{Instance}
+use Rattle.uc_model.specs.StartCategory.{Thermal, category_cost}
+use Rattle.uc_model.specs.Schedule.{Instance, Row, Schedule, thermal_unit, thermal_count}
 
 -- the weighted point costs in period t, q times micro-dollars
 abbrev pub production_cost : Thermal → Row → ℕ → ℤ

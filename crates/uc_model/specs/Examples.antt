@@ -3,12 +3,10 @@
 -- of 10 to 50 MW and one renewable unit of at most 5 MW.
 use Rattle.std.specs.Prelude.{ℕ, ◌*◌, Bool, true, false, not, ◌&&◌, ◌||◌, List, [], ◌∷◌, ℤ, pos, negsuc, ◌+ℤ◌, ◌-ℤ◌, ◌*ℤ◌, int_le, length, slice_index_or, filter}
 use Rattle.uc_model.specs.Sums.{bit}
-use Rattle.uc_model.specs.Commitment.{Commitment, was_on, stops, stop_reduction}
+use Rattle.uc_model.specs.Commitment.{Thermal, Commitment, was_on, stops, stop_reduction}
 use Rattle.uc_model.specs.Rules.{Rule, MustRun, InitialUp, InitialDown, MinimumUp, MinimumDown, Category, InitialStop, Production, StartCap, StopCap, RampUp, RampDown, RenewableRange, Demand, Reserve, holds, holds_at}
-use Rattle.uc_model.specs.Schedule.{no_unit, thermal_unit}
+use Rattle.uc_model.specs.Schedule.{Instance, no_unit, thermal_unit}
 use Rattle.uc_model.specs.PrintedSchedule.{printed_schedule, printed_denominator, printed_cost, cell_at}
-use Rattle.uc_model.specs.declared.instance.Thermal.{Thermal}
-use Rattle.uc_model.specs.declared.instance.Instance.{Instance}
 use Rattle.uc_model.specs.declared.instance.StartRow.{StartRow}
 use Rattle.uc_model.specs.declared.instance.Point.{Point}
 use Rattle.uc_model.specs.declared.schedule.Cell.{Cell}

@@ -5,8 +5,7 @@
 -- Periods count from 0 here.
 use Rattle.std.specs.Prelude.{◌≡◌, ℕ, ◌<◌, ◌&&◌, nat_lt, nat_le, IsTrue, ℤ, ◌≤ℤ◌}
 use Rattle.uc_model.specs.Sums.{sum_below, bit}
-use Rattle.uc_model.specs.Commitment.{Commitment, is_allowed}
-use Rattle.uc_model.specs.declared.instance.Thermal.{Thermal}
+use Rattle.uc_model.specs.Commitment.{Thermal, Commitment, is_allowed}
 
 -- in how many of the periods the unit is on
 abbrev pub on_periods : ℕ → Commitment → ℤ

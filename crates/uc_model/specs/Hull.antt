@@ -6,8 +6,7 @@
 use Rattle.std.specs.Prelude.{ℕ, zero, suc, ◌*◌, max, Bool, ◌&&◌, ◌||◌, ◌==◌, List, ℤ, pos, ◌+ℤ◌, ◌-ℤ◌, ◌*ℤ◌, unsigned_abs, int_lt, int_le, length, Option, Some, None, if◌then◌else◌}
 use Rattle.uc_model.specs.Division.{quotient_up}
 use Rattle.uc_model.specs.Sums.{all_below}
-use Rattle.uc_model.specs.Points.{point_of, output_of}
-use Rattle.uc_model.specs.declared.instance.Point.{Point}
+use Rattle.uc_model.specs.Points.{Point, point_of, output_of}
 
 -- how far point j lies right of point i, and how far above
 abbrev pub run : List Point → ℕ → ℕ → ℤ

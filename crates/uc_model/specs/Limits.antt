@@ -2,11 +2,9 @@
 -- this project's limits in size.
 use Rattle.std.specs.Prelude.{◌≡◌, ℕ, suc, ◌<◌, ◌≤◌, ℤ, pos, ◌≤ℤ◌, unsigned_abs, length, All}
 use Rattle.std.specs.Int.{int_max}
-use Rattle.uc_model.specs.Schedule.{point, point_count, thermal_unit, thermal_count, renewable_unit, renewable_count, renewable_minimum, renewable_maximum}
-use Rattle.uc_model.specs.StartCategory.{start_row, category_count}
+use Rattle.uc_model.specs.Schedule.{Instance, point, point_count, thermal_unit, thermal_count, renewable_unit, renewable_count, renewable_minimum, renewable_maximum}
+use Rattle.uc_model.specs.StartCategory.{Thermal, start_row, category_count}
 pub use Rattle.uc_model.specs.declared.limits.TheConstants.{MAX_PERIODS, MAX_UNITS, MAX_POINTS, MAX_START_ROWS, MAX_POWER, MAX_COST, MAX_TIME, COST_MAX}
-use Rattle.uc_model.specs.declared.instance.Thermal.{Thermal}
-use Rattle.uc_model.specs.declared.instance.Instance.{Instance}
 
 abbrev pub IsPower : ℤ → Type 0
 IsPower z = unsigned_abs z ≤ MAX_POWER

@@ -2,7 +2,7 @@
 -- format, which the reference model by Knueven, Ostrowski and Watson takes as weights on the points.
 use Rattle.std.specs.Prelude.{ℕ, List, ℤ, pos, ◌-ℤ◌, ◌*ℤ◌, length, slice_index_or}
 use Rattle.uc_model.specs.Sums.{sum_below}
-use Rattle.uc_model.specs.declared.instance.Point.{Point}
+pub use Rattle.uc_model.specs.declared.instance.Point.{Point}
 
 -- point l, from 0, and its output above the first point's
 abbrev pub point_of : List Point → ℕ → Point

@@ -4,12 +4,10 @@
 use Rattle.std.specs.Prelude.{◌≡◌, ℕ, zero, suc, ◌*◌, ◌/◌, ◌==◌, false, List, [], ℤ, pos, ◌+ℤ◌, ◌*ℤ◌, unsigned_abs, length, All, slice_index_or, Option, Some, None, if◌then◌else◌}
 use Rattle.std.specs.Ordering.{int_eq}
 use Rattle.uc_model.specs.Sums.{sum_below}
-use Rattle.uc_model.specs.StartCategory.{category_cost}
-use Rattle.uc_model.specs.Schedule.{Schedule, thermal_unit, thermal_count, renewable_count}
+use Rattle.uc_model.specs.StartCategory.{Thermal, category_cost}
+use Rattle.uc_model.specs.Schedule.{Instance, Schedule, thermal_unit, thermal_count, renewable_count}
 use Rattle.uc_model.specs.Hull.{Segment, segment_at, segment_width, from_left, to_right, hull_cost}
 use Rattle.uc_model.specs.declared.instance.Point.{Point}
-use Rattle.uc_model.specs.declared.instance.Thermal.{Thermal}
-use Rattle.uc_model.specs.declared.instance.Instance.{Instance}
 use Rattle.uc_model.specs.declared.schedule.Cell.{Cell}
 use Rattle.uc_model.specs.declared.schedule.Printed.{Printed}
 

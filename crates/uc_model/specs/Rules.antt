@@ -8,11 +8,9 @@ use Rattle.std.specs.Prelude.{ℕ, suc, ◌≤◌, Bool, not, ◌&&◌, ◌||◌
 use Rattle.std.specs.Int.{int_max}
 use Rattle.std.specs.Ordering.{int_eq}
 use Rattle.uc_model.specs.Sums.{sum_below, all_below, bit}
-use Rattle.uc_model.specs.Commitment.{must_run_at, initial_up_at, initial_down_at, minimum_up_at, minimum_down_at, initial_stop_holds, start_cap, stop_cap}
+use Rattle.uc_model.specs.Commitment.{Thermal, must_run_at, initial_up_at, initial_down_at, minimum_up_at, minimum_down_at, initial_stop_holds, start_cap, stop_cap}
 use Rattle.uc_model.specs.StartCategory.{category_holds_at}
-use Rattle.uc_model.specs.Schedule.{Row, Schedule, thermal_unit, thermal_count, renewable_count, renewable_minimum, renewable_maximum, demand_at, reserve_at, point_count, p_at, p_before, weight_sum}
-use Rattle.uc_model.specs.declared.instance.Thermal.{Thermal}
-use Rattle.uc_model.specs.declared.instance.Instance.{Instance}
+use Rattle.uc_model.specs.Schedule.{Instance, Row, Schedule, thermal_unit, thermal_count, renewable_count, renewable_minimum, renewable_maximum, demand_at, reserve_at, point_count, p_at, p_before, weight_sum}
 
 -- the rules by their names, in the order M1 to M15
 pub data Rule : Type 0 where

@@ -2,11 +2,9 @@
 -- of the reference model by Knueven, Ostrowski and Watson, with the piecewise production cost as
 -- weights on a unit's points.
 use Rattle.std.specs.Prelude.{ℕ, zero, suc, Bool, false, [], ℤ, pos, ◌*ℤ◌, length, slice_index_or}
-use Rattle.uc_model.specs.Points.{point_of, output_of, weighted_total, weighted_output}
-use Rattle.uc_model.specs.Commitment.{initial_p}
-use Rattle.uc_model.specs.declared.instance.Thermal.{Thermal}
-use Rattle.uc_model.specs.declared.instance.Point.{Point}
-use Rattle.uc_model.specs.declared.instance.Instance.{Instance}
+use Rattle.uc_model.specs.Points.{Point, point_of, output_of, weighted_total, weighted_output}
+use Rattle.uc_model.specs.Commitment.{Thermal, initial_p}
+pub use Rattle.uc_model.specs.declared.instance.Instance.{Instance}
 use Rattle.uc_model.specs.declared.instance.Renewable.{Renewable}
 
 -- one thermal unit's part: in each period, from 0, whether it is on, the category of a start (from 1; 0 is

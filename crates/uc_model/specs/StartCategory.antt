@@ -5,7 +5,7 @@
 use Rattle.std.specs.Prelude.{ℕ, zero, suc, ◌-◌, max, Bool, false, not, ◌&&◌, ◌||◌, ◌==◌, nat_lt, nat_le, ℤ, pos, length, slice_index_or, Option, Some, None, if◌then◌else◌}
 use Rattle.uc_model.specs.Sums.{any_below, least_below}
 use Rattle.uc_model.specs.Commitment.{Commitment, starts, stops}
-use Rattle.uc_model.specs.declared.instance.Thermal.{Thermal}
+pub use Rattle.uc_model.specs.declared.instance.Thermal.{Thermal}
 use Rattle.uc_model.specs.declared.instance.StartRow.{StartRow}
 
 -- the row of category s + 1; past the last one a row that costs nothing

@@ -1,6 +1,5 @@
 -- A pattern that attains the least value by a unit's terms attains the unit's value at the table that the terms are of.
-use Rattle.std.proofs.Common.{◌≡◌, ℕ, sym, ap, subst, ◌∙◌, ℤ}
-use Rattle.std.specs.Prelude.{Some}
+use Rattle.std.proofs.Common.{◌≡◌, ℕ, sym, ap, subst, ◌∙◌, ℤ, Some}
 use Rattle.uc_model.specs.Commitment.{Commitment}
 use Rattle.uc_model.specs.Schedule.{thermal_unit}
 use Rattle.uc_model.specs.declared.instance.Thermal.{Thermal}

@@ -1,6 +1,5 @@
 -- A pattern whose way is the least one is allowed and as is decided, and its value is the way's cost.
-use Rattle.std.proofs.Common.{◌≡◌, ℕ, zero, suc, ◌≤◌, Bool, false, refl, sym, ap, subst, ◌∙◌, arith, ℤ}
-use Rattle.std.specs.Prelude.{Option, Some, None, MatchOption, IfSome, IfNone, unsigned_abs}
+use Rattle.std.proofs.Common.{◌≡◌, ℕ, zero, suc, ◌≤◌, Bool, false, refl, sym, ap, subst, ◌∙◌, arith, ℤ, Option, Some, None, MatchOption, IfSome, IfNone, unsigned_abs}
 use Rattle.uc_model.specs.Commitment.{Commitment}
 use Rattle.uc_model.specs.Limits.{IsLawfulThermal}
 use Rattle.uc_model.specs.PatternBits.{commitment_of}

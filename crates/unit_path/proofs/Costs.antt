@@ -1,11 +1,8 @@
 -- Laws of the total and the lesser of costs that may not be there.
-use Rattle.std.proofs.Common.{◌≡◌, ℕ, ◌+◌, refl, ap, arith, ℤ, pos, ◌+ℤ◌}
-use Rattle.std.specs.Prelude.{Option, Some, None}
-use Rattle.std.specs.Int.{int_min}
+use Rattle.std.proofs.Common.{◌≡◌, ◌+◌, refl, ap, arith, ℤ, pos, ◌+ℤ◌, Option, Some, None}
 use Rattle.std.proofs.lemmas.Int.{ints}
 use Rattle.uc_model.proofs.Ring.{linear}
-use Rattle.uc_model.proofs.Sizes.{abs_add, abs_min}
-use Rattle.dual_model.specs.CostToGo.{lesser_of, total_of, IsWithin}
+use Rattle.dual_model.specs.CostToGo.{lesser_of, total_of}
 
 -- ---- totals
 pub total-none : (a : Option ℤ) → total_of a None ≡ None
@@ -27,11 +24,6 @@ total-assoc (Some a) (Some b) None = refl
 total-assoc (Some a) (Some b) (Some c) = ap Some (let e : (a +ℤ b) +ℤ c ≡ a +ℤ (b +ℤ c) = omega (arith, linear) in e)
 
 -- ---- the lesser one
-min_comm : (a b : ℤ) → int_min a b ≡ int_min b a
-min_comm a b = grind (arith, ints)
-
-min_assoc : (a b c : ℤ) → int_min (int_min a b) c ≡ int_min a (int_min b c)
-min_assoc a b c = grind (arith, ints)
 
 pub lesser-none : (a : Option ℤ) → lesser_of a None ≡ a
 lesser-none None = refl
@@ -41,21 +33,10 @@ pub lesser-comm : (a b : Option ℤ) → lesser_of a b ≡ lesser_of b a
 lesser-comm None None = refl
 lesser-comm None (Some b) = refl
 lesser-comm (Some a) None = refl
-lesser-comm (Some a) (Some b) = ap Some (min_comm a b)
+lesser-comm (Some a) (Some b) = ap Some (grind (arith, ints))
 
 pub lesser-assoc : (a b c : Option ℤ) → lesser_of (lesser_of a b) c ≡ lesser_of a (lesser_of b c)
 lesser-assoc None b c = refl
 lesser-assoc (Some a) None c = refl
 lesser-assoc (Some a) (Some b) None = refl
-lesser-assoc (Some a) (Some b) (Some c) = ap Some (min_assoc a b c)
-
--- ---- sizes
-pub total_of-size : (a b : Option ℤ) (m n : ℕ) → IsWithin m a → IsWithin n b → IsWithin (m + n) (total_of a b)
-total_of-size None b m n h k = tt
-total_of-size (Some a) None m n h k = tt
-total_of-size (Some a) (Some b) m n h k = abs_add a b m n h k
-
-pub lesser_of-size : (a b : Option ℤ) (m : ℕ) → IsWithin m a → IsWithin m b → IsWithin m (lesser_of a b)
-lesser_of-size None b m h k = k
-lesser_of-size (Some a) None m h k = h
-lesser_of-size (Some a) (Some b) m h k = abs_min a b m h k
+lesser-assoc (Some a) (Some b) (Some c) = ap Some (grind (arith, ints))

@@ -1,7 +1,6 @@
 -- What the last stop adds to the start categories: those whose lags the gap since then lies between. So a start costs the least
 -- of what it costs without a stop in the horizon and of these, and after a longer gap than any lag nothing is added.
-use Rattle.std.proofs.Common.{◌≡◌, ℕ, zero, suc, ◌+◌, ◌-◌, ◌<◌, ◌≤◌, ⊎_elim, Bool, true, false, not, ◌&&◌, ◌||◌, cond, refl, sym, ap, ◌∙◌, arith, ℤ}
-use Rattle.std.specs.Prelude.{Some, None, nat_lt, nat_le}
+use Rattle.std.proofs.Common.{◌≡◌, ℕ, zero, suc, ◌+◌, ◌-◌, ◌<◌, ◌≤◌, ⊎_elim, Bool, true, false, not, ◌&&◌, ◌||◌, cond, refl, sym, ap, ◌∙◌, arith, ℤ, Some, None, nat_lt, nat_le}
 use Rattle.std.specs.Int.{int_min}
 use Rattle.std.proofs.lemmas.Int.{ints}
 use Rattle.std.proofs.lemmas.Bool.{cases_lt, le-leb, lt-leb, lt-ltb, le-ltb, ltb-true}
@@ -12,11 +11,6 @@ use Rattle.dual_model.specs.Moves.{stop_since}
 use Rattle.unit_path.specs.inside.StartCosts.{is_within_lags, row_of}
 
 -- ---- least values by two tests
-min_swap : (a b c : ℤ) → int_min a (int_min b c) ≡ int_min b (int_min a c)
-min_swap a b c = grind (arith, ints)
-
-min_twice : (a b : ℤ) → int_min a b ≡ int_min a (int_min a b)
-min_twice a b = grind (arith, ints)
 
 least-test : (n : ℕ) (p q : ℕ → Bool) (f : ℕ → ℤ) (other : ℤ) → ((k : ℕ) → k < n → p k ≡ q k) → least_below n p f other ≡ least_below n q f other
 least-test zero p q f other e = refl
@@ -24,7 +18,7 @@ least-test (suc n) p q f other e =
     λ i. cond (e n (omega arith) i) (int_min (f n) (least-test n p q f other (λ k h. e k (omega arith)) i)) (least-test n p q f other (λ k h. e k (omega arith)) i)
 
 chosen-first : (b : Bool) (x y r s : ℤ) → s ≡ int_min x r → cond b (int_min y s) s ≡ int_min x (cond b (int_min y r) r)
-chosen-first true x y r s e = ap (int_min y) e ∙ min_swap y x r
+chosen-first true x y r s e = ap (int_min y) e ∙ (grind (arith, ints))
 chosen-first false x y r s e = e
 
 -- a number less than `other` may as well be taken last
@@ -34,7 +28,7 @@ least-first (suc n) p f x other = chosen-first (p n) x (f n) (least_below n p f 
 
 chosen-either : (p q : Bool) (x a l : ℤ) (by_q : ℤ → ℤ) → ((y z : ℤ) → by_q (int_min y z) ≡ int_min y (by_q z)) → a ≡ by_q l
     → cond (p || q) (int_min x a) a ≡ cond q (int_min x (by_q (cond p (int_min x l) l))) (by_q (cond p (int_min x l) l))
-chosen-either true true x a l by_q first e = ap (int_min x) e ∙ min_twice x (by_q l) ∙ ap (int_min x) (sym (first x l))
+chosen-either true true x a l by_q first e = ap (int_min x) e ∙ (grind (arith, ints)) ∙ ap (int_min x) (sym (first x l))
 chosen-either true false x a l by_q first e = ap (int_min x) e ∙ sym (first x l)
 chosen-either false true x a l by_q first e = ap (int_min x) e
 chosen-either false false x a l by_q first e = e

@@ -1,6 +1,5 @@
 -- One period of the least cost of going on, with the period in place of the number of periods left.
-use Rattle.std.proofs.Common.{◌≡◌, ℕ, suc, ◌-◌, ◌<◌, ◌≤◌, Bool, true, false, sym, ap, ◌∙◌, arith, ℤ}
-use Rattle.std.specs.Prelude.{Option}
+use Rattle.std.proofs.Common.{◌≡◌, ℕ, suc, ◌-◌, ◌<◌, ◌≤◌, Bool, true, false, sym, ap, ◌∙◌, arith, ℤ, Option}
 use Rattle.std.proofs.lemmas.Bool.{cond-true, cond-false, eq-eqb, ne_eqb}
 use Rattle.uc_model.specs.Limits.{IsLawfulThermal}
 use Rattle.uc_model.specs.declared.instance.Thermal.{Thermal}

@@ -1,6 +1,5 @@
 -- The least way of a unit that is off: of one that has just been switched off, and of one whose starts are cold.
-use Rattle.std.proofs.Common.{◌≡◌, ℕ, suc, ◌+◌, ◌-◌, ◌<◌, ◌≤◌, ◌⊎◌, ⊎_elim, true, false, sym, ap, subst, ◌∙◌, arith, ℤ, pos, ◌*ℤ◌}
-use Rattle.std.specs.Prelude.{Option, Some, None, IfSome}
+use Rattle.std.proofs.Common.{◌≡◌, ℕ, suc, ◌+◌, ◌-◌, ◌<◌, ◌≤◌, ◌⊎◌, ⊎_elim, true, false, sym, ap, subst, ◌∙◌, arith, ℤ, pos, ◌*ℤ◌, Option, Some, None, IfSome}
 use Rattle.std.proofs.lemmas.Bool.{cases_Bool}
 use Rattle.uc_model.specs.Limits.{IsLawfulThermal}
 use Rattle.uc_model.specs.StartCategory.{sigma}
@@ -11,9 +10,8 @@ use Rattle.uc_model.specs.Terms.{period_count}
 use Rattle.dual_model.specs.UnitTerms.{AreSizedTerms}
 use Rattle.dual_model.specs.Moves.{may_be_off, may_start, stop_since}
 use Rattle.dual_model.specs.CostToGo.{lesser_of, total_of, IsWithin, MAX_COST_TO_GO}
-use Rattle.unit_path.specs.inside.Choices.{choice_cost, rests, start_total, IsLeastStart, IsOneOf, IsStart}
+use Rattle.unit_path.specs.inside.Choices.{Choice, choice_cost, rests, start_total, IsLeastStart, IsOneOf, IsStart}
 use Rattle.unit_path.specs.inside.Hours.{IsCold, IsColdStart, IsStartIn}
-use Rattle.unit_path.specs.declared.hour.Choice.{Choice}
 use Rattle.unit_path.proofs.Costs.{lesser-assoc, lesser-comm, total-zero}
 use Rattle.unit_path.proofs.Going.{start_total-end, to_go, to_go-end, to_go-fits}
 use Rattle.unit_path.proofs.RestLaws.{lasted-later, off-barred, off-free, rest-until, rests-barred, rests-free, rests-split}

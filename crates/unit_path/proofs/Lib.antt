@@ -4,7 +4,6 @@ pub mod Costs
 pub mod Entries
 pub mod Gaps
 pub mod Going
-pub mod Hourly
 pub mod LeastStarts
 pub mod LeastStops
 pub mod RestLaws

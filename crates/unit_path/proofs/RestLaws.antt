@@ -1,6 +1,6 @@
 -- A rest on the least way: how it splits, and that until it may end it has to go on.
-use Rattle.std.proofs.Common.{◌≡◌, ℕ, zero, suc, ◌+◌, ◌-◌, ◌<◌, ◌≤◌, true, false, ◌&&◌, refl, sym, ap, ◌∙◌, arith, pos}
-use Rattle.std.specs.Prelude.{Some, None, if◌then◌else◌}
+use Rattle.std.proofs.Common.{◌≡◌, ℕ, zero, suc, ◌+◌, ◌-◌, ◌<◌, ◌≤◌, true, false, ◌&&◌, refl, sym, ap, ◌∙◌, arith, pos, Some, None, if◌then◌else◌}
+use mathlib.Core.Bool.{and-false}
 use Rattle.std.proofs.lemmas.Bool.{cond-true, cond-false, le-leb, leb-true}
 use Rattle.uc_model.specs.declared.instance.Thermal.{Thermal}
 use Rattle.uc_model.specs.declared.terms.Terms.{Terms}
@@ -11,7 +11,6 @@ use Rattle.dual_model.specs.CostToGo.{lesser_of, total_of}
 use Rattle.unit_path.specs.inside.Choices.{rests, start_total}
 use Rattle.unit_path.proofs.Costs.{lesser-none, total-assoc, total-none, total-zero, zero-total}
 use Rattle.unit_path.proofs.Going.{off-step, start_total-at, to_go}
-use Rattle.unit_path.proofs.RunLaws.{and_false}
 
 -- a state that has lasted for long enough has so in a later period
 pub lasted-later : (left most since t k : ℕ) → t ≤ k → has_lasted left most since t ≡ true → has_lasted left most since k ≡ true
@@ -30,7 +29,7 @@ pub start-barred : (terms : Terms) (unit : Thermal) (fix : Fix) (since t : ℕ) 
 start-barred terms unit fix since t h e =
     start_total-at terms unit fix since t h
     ∙ ap (λ x. total_of x (to_go terms unit fix (suc t) true (suc t)))
-    (cond-false (may_be_on fix t && may_start unit since t) _ _ (ap (λ b. may_be_on fix t && b) e ∙ and_false (may_be_on fix t)))
+    (cond-false (may_be_on fix t && may_start unit since t) _ _ (ap (λ b. may_be_on fix t && b) e ∙ and-false (may_be_on fix t)))
 
 -- ---- rests
 pub rests-split : (unit : Thermal) (fix : Fix) (t m n : ℕ) → rests unit fix t (m + n) ≡ total_of (rests unit fix t m) (rests unit fix (t + m) n)

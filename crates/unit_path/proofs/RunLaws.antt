@@ -1,6 +1,6 @@
 -- A run of on hours on the least way: how it splits, and that until it may end it has to go on.
-use Rattle.std.proofs.Common.{◌≡◌, ℕ, zero, suc, ◌+◌, ◌-◌, ◌*◌, ◌<◌, ◌≤◌, Bool, true, false, ◌&&◌, cond, refl, sym, ap, subst, ◌∙◌, lit<, arith, ℤ, pos, ◌+ℤ◌, to_z, of_z, FitsSigned}
-use Rattle.std.specs.Prelude.{Some, None, ◌==◌, nat_lt, unsigned_abs}
+use Rattle.std.proofs.Common.{◌≡◌, ℕ, zero, suc, ◌+◌, ◌-◌, ◌*◌, ◌<◌, ◌≤◌, Bool, true, false, ◌&&◌, cond, refl, sym, ap, subst, ◌∙◌, lit<, arith, ℤ, pos, ◌+ℤ◌, to_z, of_z, FitsSigned, Some, None, ◌==◌, nat_lt, unsigned_abs}
+use mathlib.Core.Bool.{and-true, and-false}
 use Rattle.std.specs.Int.{w128}
 use Rattle.std.proofs.lemmas.Int.{fits_signed_from_abs}
 use Rattle.std.proofs.lemmas.Bool.{and_from, cond-true, cond-false, lt-ltb, ne_eqb, or_left}
@@ -17,15 +17,6 @@ use Rattle.unit_path.specs.inside.Hours.{leave_cost, stay_cost}
 use Rattle.unit_path.proofs.Costs.{lesser-comm, lesser-none, total-assoc, total-none, total-zero, zero-total}
 use Rattle.unit_path.proofs.Going.{on-step, stop_cost-at, to_go}
 
--- ---- tests
-pub and_false : (b : Bool) → (b && false) ≡ false
-and_false true = refl
-and_false false = refl
-
-pub and_true : (b : Bool) → (b && true) ≡ b
-and_true true = refl
-and_true false = refl
-
 -- ---- one period
 -- a unit that may not be on doesn't stay on
 pub stay-barred : (terms : Terms) (unit : Thermal) (fix : Fix) (since t : ℕ) → may_be_on fix t ≡ false → move terms unit fix t true since true ≡ None
@@ -35,23 +26,18 @@ stay-barred terms unit fix since t e = cond-false (may_be_on fix t && holds_init
 pub stop-barred : (terms : Terms) (unit : Thermal) (fix : Fix) (since t : ℕ) → may_stop unit since t ≡ false → move terms unit fix t true since false ≡ None
 stop-barred terms unit fix since t e =
     cond-false ((may_be_off unit fix t && holds_initially unit t true) && may_stop unit since t) _ _
-    (ap (λ b. (may_be_off unit fix t && holds_initially unit t true) && b) e ∙ and_false (may_be_off unit fix t && holds_initially unit t true))
+    (ap (λ b. (may_be_off unit fix t && holds_initially unit t true) && b) e ∙ and-false (may_be_off unit fix t && holds_initially unit t true))
 
 pub stop-allowed : (terms : Terms) (unit : Thermal) (fix : Fix) (since t : ℕ) → may_stop unit since t ≡ true
     → move terms unit fix t true since false ≡ leave_cost terms unit fix t (since == t)
 stop-allowed terms unit fix since t e =
     ap (λ b. cond b (hour_before terms unit t (since == t) true) None)
-    (ap (λ b. (may_be_off unit fix t && holds_initially unit t true) && b) e ∙ and_true (may_be_off unit fix t && holds_initially unit t true))
+    (ap (λ b. (may_be_off unit fix t && holds_initially unit t true) && b) e ∙ and-true (may_be_off unit fix t && holds_initially unit t true))
 
 -- the moves of a unit that has been on since an earlier period
 pub stay-later : (terms : Terms) (unit : Thermal) (fix : Fix) (since t : ℕ) → since < t
     → move terms unit fix t true since true ≡ stay_cost terms unit fix t false
 stay-later terms unit fix since t h = ap (λ b. stay_cost terms unit fix t b) (ne_eqb since t (λ e. omega arith))
-
-pub stop-later : (terms : Terms) (unit : Thermal) (fix : Fix) (since t : ℕ) → since < t → may_stop unit since t ≡ true
-    → move terms unit fix t true since false ≡ leave_cost terms unit fix t false
-stop-later terms unit fix since t h e =
-    stop-allowed terms unit fix since t e ∙ ap (λ b. leave_cost terms unit fix t b) (ne_eqb since t (λ e. omega arith))
 
 -- M7 says something of the first period alone
 pub holds-later : (unit : Thermal) (t : ℕ) (stop : Bool) → 0 < t → holds_initially unit t stop ≡ true

@@ -1,8 +1,5 @@
 -- Terms that are sized for a unit are rows of terms, with one at the full cap.
-use Rattle.std.proofs.Common.{ℕ, ◌≤◌, false, refl, arith, ℤ, pos, ◌-ℤ◌, ◌*ℤ◌, ◌≤ℤ◌}
-use Rattle.std.specs.Prelude.{Option, Some, None, IfSome, unsigned_abs}
-use Rattle.std.specs.Int.{int_min}
-use Rattle.std.proofs.lemmas.Bool.{cond_both}
+use Rattle.std.proofs.Common.{ℕ, ◌≤◌, false, refl, arith, ℤ, pos, ◌-ℤ◌, ◌*ℤ◌, ◌≤ℤ◌, Option, Some, None, IfSome, unsigned_abs}
 use Rattle.uc_model.specs.Commitment.{start_reduction, stop_reduction}
 use Rattle.uc_model.specs.Limits.{IsLawfulThermal}
 use Rattle.uc_model.specs.declared.instance.Thermal.{Thermal}
@@ -10,19 +7,14 @@ use Rattle.uc_model.specs.declared.terms.Terms.{Terms}
 use Rattle.uc_model.proofs.Ring.{linear, mul-zero}
 use Rattle.uc_model.specs.Terms.{period_count}
 use Rattle.dual_model.specs.UnitTerms.{cell_cap, AreSizedTerms, IsSized}
+use Rattle.dual_model.proofs.Allowed.{sized-there}
 use Rattle.uc_model.specs.declared.limits.TheConstants.{MAX_TERM}
-use Rattle.interval_graph.specs.Intervals.{AreTermRows, IsThere}
+use Rattle.uc_model.proofs.Obeyed.{min_nonneg}
+use Rattle.interval_graph.specs.Intervals.{AreTermRows}
 
 sized-size : (cap : ℤ) (term : Option ℤ) → IsSized cap term → IfSome term (λ m. unsigned_abs m ≤ MAX_TERM)
 sized-size cap None is = tt
 sized-size cap (Some m) is = is.1
-
-sized-there : (cap : ℤ) (term : Option ℤ) → IsSized cap term → pos 0 ≤ℤ cap → IsThere term
-sized-there cap None is h = absurd (omega (arith, linear))
-sized-there cap (Some m) is h = (m, refl)
-
-min_nonneg : (a b : ℤ) → pos 0 ≤ℤ a → pos 0 ≤ℤ b → pos 0 ≤ℤ int_min a b
-min_nonneg a b h k = cond_both _ b a (λ x. pos 0 ≤ℤ x) (λ e. k) (λ e. h)
 
 full-cap : (periods : ℕ) (unit : Thermal) (t : ℕ) → IsLawfulThermal unit → pos 0 ≤ℤ cell_cap periods unit t false false
 full-cap periods unit t lawful =

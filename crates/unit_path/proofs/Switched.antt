@@ -1,6 +1,5 @@
 -- The entries of a switch in the table, as the least ways behind them.
-use Rattle.std.proofs.Common.{◌≡◌, ℕ, suc, ◌<◌, ⊎_elim, Bool, true, false, ◌&&◌, sym, ap, subst, ◌∙◌, ℤ, ◌*ℤ◌}
-use Rattle.std.specs.Prelude.{Option, Some, None, ◌==◌}
+use Rattle.std.proofs.Common.{◌≡◌, ℕ, suc, ◌<◌, ⊎_elim, Bool, true, false, ◌&&◌, sym, ap, subst, ◌∙◌, ℤ, ◌*ℤ◌, Option, Some, None, ◌==◌}
 use Rattle.std.proofs.lemmas.Bool.{cases_Bool, cond-true, cond-false}
 use Rattle.uc_model.specs.StartCategory.{sigma}
 use Rattle.uc_model.specs.declared.instance.Thermal.{Thermal}
@@ -9,9 +8,8 @@ use Rattle.dual_model.specs.declared.node.Fix.{Fix}
 use Rattle.uc_model.specs.Terms.{period_count}
 use Rattle.dual_model.specs.Moves.{holds_initially, may_be_off, may_be_on, may_start, may_stop, move, stop_since}
 use Rattle.dual_model.specs.CostToGo.{total_of, IsWithin, MAX_COST_TO_GO}
-use Rattle.unit_path.specs.inside.Choices.{choice_cost, start_total, stop_cost}
+use Rattle.unit_path.specs.inside.Choices.{Choice, choice_cost, start_total, stop_cost}
 use Rattle.unit_path.specs.inside.Hours.{leave_cost, IsStartIn, IsStopIn}
-use Rattle.unit_path.specs.declared.hour.Choice.{Choice}
 use Rattle.unit_path.proofs.Going.{start_total-at, stop_cost-at, to_go}
 use Rattle.unit_path.proofs.RunLaws.{stop-allowed}
 
@@ -38,14 +36,6 @@ stop-total terms unit fix since t choice h may entry =
     stop-in terms unit fix t (since == t) choice entry
     ∙ ap (λ x. total_of x (to_go terms unit fix (suc t) false (suc t))) (sym (stop-allowed terms unit fix since t may))
     ∙ sym (stop_cost-at terms unit fix since t h)
-
--- the size of an entry of a switch
-pub stop-fits : (terms : Terms) (unit : Thermal) (fix : Fix) (t : ℕ) (choice : Option Choice) → IsStopIn terms unit fix t choice → IsWithin MAX_COST_TO_GO (choice_cost choice)
-stop-fits terms unit fix t choice entry =
-    ⊎_elim
-    (λ (may : may_be_off unit fix t ≡ true). (entry.least may).size)
-    (λ (barred : may_be_off unit fix t ≡ false). subst (λ o. IsWithin MAX_COST_TO_GO (choice_cost o)) (sym (entry.none barred)) tt)
-    (cases_Bool (may_be_off unit fix t))
 
 pub start-fits : (terms : Terms) (unit : Thermal) (fix : Fix) (t : ℕ) (choice : Option Choice) → IsStartIn terms unit fix t choice → IsWithin MAX_COST_TO_GO (choice_cost choice)
 start-fits terms unit fix t choice entry =

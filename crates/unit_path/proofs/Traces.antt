@@ -1,6 +1,5 @@
 -- The pattern that is read from the table, from switch to switch: what it has of the least way so far, and one switch more.
-use Rattle.std.proofs.Common.{◌≡◌, ℕ, suc, ◌-◌, ◌<◌, ◌≤◌, ⊎_elim, Bool, true, false, not, ◌&&◌, refl, sym, ap, subst, ◌∙◌, arith, ℤ}
-use Rattle.std.specs.Prelude.{Option, Some, None, IfSome, if◌then◌else◌}
+use Rattle.std.proofs.Common.{◌≡◌, ℕ, suc, ◌-◌, ◌<◌, ◌≤◌, ⊎_elim, Bool, true, false, not, ◌&&◌, refl, sym, ap, subst, ◌∙◌, arith, ℤ, Option, Some, None, IfSome, if◌then◌else◌}
 use Rattle.std.proofs.lemmas.Bool.{cases_Bool, cond-false}
 use Rattle.uc_model.specs.Commitment.{Commitment}
 use Rattle.uc_model.specs.PatternBits.{commitment_of}
@@ -12,10 +11,9 @@ use Rattle.uc_model.specs.Terms.{period_count}
 use Rattle.dual_model.specs.Moves.{holds_initially, may_be_off, may_be_on, may_start, may_stop, move}
 use Rattle.dual_model.specs.CostToGo.{end_cost, total_of}
 use Rattle.dual_model.proofs.Optimum.{total_of-parts}
-use Rattle.unit_path.specs.inside.Choices.{choice_cost, rests, start_total, stays, stop_cost, switch_after, IsStart, IsStop, IsSwitch}
-use Rattle.unit_path.specs.inside.Hours.{IsHour, IsStartIn, IsStopIn}
+use Rattle.unit_path.specs.inside.Choices.{Choice, choice_cost, rests, start_total, stays, stop_cost, switch_after, IsStart, IsStop, IsSwitch}
+use Rattle.unit_path.specs.inside.Hours.{IsHour}
 use Rattle.unit_path.specs.inside.Ways.{way_of, IsWay}
-use Rattle.unit_path.specs.declared.hour.Choice.{Choice}
 use Rattle.unit_path.specs.declared.hour.Hour.{Hour}
 use Rattle.unit_path.proofs.Going.{start_total-at, start_total-end, stop_cost-at, stop_cost-end, to_go}
 use Rattle.unit_path.proofs.WayLaws.{ended, lasting, switched, way_from}
@@ -54,65 +52,27 @@ choice-there P (Some choice) cost e h = record { chosen = choice; is = refl; hol
 not-none : (o : Option ℤ) (v : ℤ) → o ≡ None → o ≡ Some v → ⊥
 not-none o v e h = cc
 
--- the start behind a chosen stop
+-- the choice behind a chosen one
 record Behind (P : Choice → Type 0) (choice : Option Choice) (switch : Option ℤ → Option ℤ) (cost : ℤ) : Type 0 where
   chosen : Choice
   is : choice ≡ Some chosen
   holds : P chosen
   whole : (rest : Option ℤ) → rest ≡ Some chosen.cost → switch rest ≡ Some cost
 
-stop-behind : (terms : Terms) (unit : Thermal) (fix : Fix) (since to : ℕ) (cost : ℤ) (stop : Option Choice) → to < period_count terms
-    → IsStop terms unit fix since since (record { cost = cost; at = to }) → IsStopIn terms unit fix to stop
-    → Behind (IsStart terms unit fix (suc to) (suc to)) stop
-    (λ rest. total_of (stays terms unit fix since since (to - since)) (total_of (move terms unit fix to true since false) rest)) cost
-stop-behind terms unit fix since to cost stop h is entry =
-    let whole = total_of-parts (stays terms unit fix since since (to - since)) (stop_cost terms unit fix since to) cost is.attained in
-    let at = stop_cost-at terms unit fix since to h in
-    let rest = total_of-parts (move terms unit fix to true since false) (to_go terms unit fix (suc to) false (suc to)) whole.second (sym at ∙ whole.second_is) in
-    ⊎_elim
-    (λ (may : may_be_off unit fix to ≡ true).
-    let least = entry.least may in
-    let there = choice-there (IsStart terms unit fix (suc to) (suc to)) stop rest.second (least.cost ∙ rest.second_is) least.start in
+next-behind : (P : Choice → Type 0) (choice : Option Choice) (run here rest : Option ℤ) (cost : ℤ) → total_of run (total_of here rest) ≡ Some cost
+    → ((v : ℤ) → here ≡ Some v → (choice_cost choice ≡ rest) × IfSome choice P)
+    → Behind P choice (λ r. total_of run (total_of here r)) cost
+next-behind P choice run here rest cost is entry =
+    let whole = total_of-parts run (total_of here rest) cost is in
+    let parts = total_of-parts here rest whole.second whole.second_is in
+    let least = entry parts.first parts.first_is in
+    let there = choice-there P choice parts.second (least.0 ∙ parts.second_is) least.1 in
     record {
       chosen = there.chosen;
       is = there.is;
       holds = there.holds;
-      whole = λ r e.
-          ap (λ x. total_of (stays terms unit fix since since (to - since)) (total_of (move terms unit fix to true since false) x))
-          (e ∙ ap Some there.same ∙ sym rest.second_is)
-          ∙ ap (total_of (stays terms unit fix since since (to - since))) (sym at) ∙ is.attained;
-    })
-    (λ (barred : may_be_off unit fix to ≡ false).
-    absurd (not-none (move terms unit fix to true since false) rest.first
-    (cond-false ((may_be_off unit fix to && holds_initially unit to true) && may_stop unit since to) _ _
-    (ap (λ b. (b && holds_initially unit to true) && may_stop unit since to) barred)) rest.first_is))
-    (cases_Bool (may_be_off unit fix to))
-
-start-behind : (terms : Terms) (unit : Thermal) (fix : Fix) (since to : ℕ) (cost : ℤ) (start : Option Choice) → to < period_count terms
-    → IsStart terms unit fix since since (record { cost = cost; at = to }) → IsStartIn terms unit fix to start
-    → Behind (IsStop terms unit fix (suc to) (suc to)) start
-    (λ rest. total_of (rests unit fix since (to - since)) (total_of (move terms unit fix to false since true) rest)) cost
-start-behind terms unit fix since to cost start h is entry =
-    let whole = total_of-parts (rests unit fix since (to - since)) (start_total terms unit fix since to) cost is.attained in
-    let at = start_total-at terms unit fix since to h in
-    let rest = total_of-parts (move terms unit fix to false since true) (to_go terms unit fix (suc to) true (suc to)) whole.second (sym at ∙ whole.second_is) in
-    ⊎_elim
-    (λ (may : may_be_on fix to ≡ true).
-    let least = entry.least may in
-    let there = choice-there (IsStop terms unit fix (suc to) (suc to)) start rest.second (least.cost ∙ rest.second_is) least.stop in
-    record {
-      chosen = there.chosen;
-      is = there.is;
-      holds = there.holds;
-      whole = λ r e.
-          ap (λ x. total_of (rests unit fix since (to - since)) (total_of (move terms unit fix to false since true) x))
-          (e ∙ ap Some there.same ∙ sym rest.second_is)
-          ∙ ap (total_of (rests unit fix since (to - since))) (sym at) ∙ is.attained;
-    })
-    (λ (barred : may_be_on fix to ≡ false).
-    absurd (not-none (move terms unit fix to false since true) rest.first
-    (cond-false (may_be_on fix to && may_start unit since to) _ _ (ap (λ b. b && may_start unit since to) barred)) rest.first_is))
-    (cases_Bool (may_be_on fix to))
+      whole = λ r e. ap (λ x. total_of run (total_of here x)) (e ∙ ap Some there.same ∙ sym parts.second_is) ∙ is;
+    }
 
 -- what a switch in period t costs with all that follows
 abbrev switch_total : Terms → Thermal → Fix → Bool → ℕ → ℕ → Option ℤ
@@ -141,8 +101,27 @@ switch-behind : (terms : Terms) (unit : Thermal) (fix : Fix) (on : Bool) (since 
     → IsSwitch terms unit fix on since (record { cost = cost; at = to }) → IsHour terms unit fix to hour
     → Behind (IsSwitch terms unit fix (not on) (suc to)) (if not on then hour.start else hour.stop)
     (λ rest. total_of (lasting terms unit fix on since since (to - since)) (total_of (move terms unit fix to on since (not on)) rest)) cost
-switch-behind terms unit fix true since to cost hour h switch is = stop-behind terms unit fix since to cost hour.stop h switch is.stop
-switch-behind terms unit fix false since to cost hour h switch is = start-behind terms unit fix since to cost hour.start h switch is.start
+switch-behind terms unit fix true since to cost hour h switch is =
+    next-behind (IsStart terms unit fix (suc to) (suc to)) hour.stop (stays terms unit fix since since (to - since)) (move terms unit fix to true since false)
+    (to_go terms unit fix (suc to) false (suc to)) cost
+    (ap (total_of (stays terms unit fix since since (to - since))) (sym (stop_cost-at terms unit fix since to h)) ∙ switch.attained)
+    (λ v moves. ⊎_elim
+    (λ (may : may_be_off unit fix to ≡ true). let least = is.stop.least may in (least.cost, least.start))
+    (λ (barred : may_be_off unit fix to ≡ false).
+    absurd (not-none (move terms unit fix to true since false) v
+    (cond-false ((may_be_off unit fix to && holds_initially unit to true) && may_stop unit since to) _ _
+    (ap (λ b. (b && holds_initially unit to true) && may_stop unit since to) barred)) moves))
+    (cases_Bool (may_be_off unit fix to)))
+switch-behind terms unit fix false since to cost hour h switch is =
+    next-behind (IsStop terms unit fix (suc to) (suc to)) hour.start (rests unit fix since (to - since)) (move terms unit fix to false since true)
+    (to_go terms unit fix (suc to) true (suc to)) cost
+    (ap (total_of (rests unit fix since (to - since))) (sym (start_total-at terms unit fix since to h)) ∙ switch.attained)
+    (λ v moves. ⊎_elim
+    (λ (may : may_be_on fix to ≡ true). let least = is.start.least may in (least.cost, least.stop))
+    (λ (barred : may_be_on fix to ≡ false).
+    absurd (not-none (move terms unit fix to false since true) v
+    (cond-false (may_be_on fix to && may_start unit since to) _ _ (ap (λ b. b && may_start unit since to) barred)) moves))
+    (cases_Bool (may_be_on fix to)))
 
 -- ---- one switch more
 pub trace-more : (terms : Terms) (unit : Thermal) (fix : Fix) (total : ℤ) (old new : Pattern) (on : Bool) (from to next end : ℕ) (hour : Hour)

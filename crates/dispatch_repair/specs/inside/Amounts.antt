@@ -8,7 +8,7 @@ use Rattle.uc_model.specs.declared.pattern.Pattern.{Pattern}
 use Rattle.dispatch_repair.specs.Dispatch.{period_after}
 use Rattle.dispatch_repair.specs.Period.{Period, Source, FromRenewable, FromThermal, low_of, high_of, head_of}
 use Rattle.dispatch_repair.specs.inside.Segments.{source_at, source_count}
-use Rattle.dispatch_repair.specs.declared.range.Range.{Range}
+pub use Rattle.dispatch_repair.specs.declared.range.Range.{Range}
 
 abbrev pub range_at : List Range → ℕ → Range
 range_at ranges n = slice_index_or ranges n (record { low = pos 0; high = pos 0 })

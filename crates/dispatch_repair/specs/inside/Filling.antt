@@ -9,11 +9,9 @@ use Rattle.cost_curves.specs.declared.slope.Slope.{Slope}
 use Rattle.dispatch_repair.specs.Period.{Period, demand_of, low_of, thermal_limit, thermal_sum, total_output}
 use Rattle.dispatch_repair.specs.MeritOrder.{HasNextSlope}
 use Rattle.dispatch_repair.specs.Stuck.{IsFree}
-use Rattle.dispatch_repair.specs.inside.Amounts.{range_at, amount_at, thermal_amount, IsSizedEnd}
-use Rattle.dispatch_repair.specs.inside.Segments.{IsAtMost, source_at, source_count, width_at, segment_at}
+use Rattle.dispatch_repair.specs.inside.Amounts.{Range, range_at, amount_at, thermal_amount, IsSizedEnd}
+use Rattle.dispatch_repair.specs.inside.Segments.{Segment, IsAtMost, source_at, source_count, width_at, segment_at}
 use Rattle.dispatch_repair.specs.declared.fill.Left.{Left}
-use Rattle.dispatch_repair.specs.declared.range.Range.{Range}
-use Rattle.dispatch_repair.specs.declared.segment.Segment.{Segment}
 
 -- what is left isn't negative, and has the size of a sum over units
 pub record IsLeft (left : Left) : Type 0 where

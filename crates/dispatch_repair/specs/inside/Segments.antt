@@ -12,7 +12,7 @@ use Rattle.uc_model.specs.declared.instance.Point.{Point}
 use Rattle.cost_curves.specs.declared.slope.Slope.{Slope}
 use Rattle.dispatch_repair.specs.Period.{Source, FromRenewable, FromThermal}
 use Rattle.dispatch_repair.specs.MeritOrder.{HasNextSlope}
-use Rattle.dispatch_repair.specs.declared.segment.Segment.{Segment}
+pub use Rattle.dispatch_repair.specs.declared.segment.Segment.{Segment}
 
 -- the sources in their places: renewable units, then thermal ones
 abbrev pub source_count : Instance → ℕ

@@ -5,9 +5,8 @@ use Rattle.uc_model.specs.Schedule.{thermal_unit}
 use Rattle.uc_model.specs.declared.instance.Instance.{Instance}
 use Rattle.uc_model.specs.declared.instance.Thermal.{Thermal}
 use Rattle.dual_model.specs.declared.node.Fix.{Fix}
-use Rattle.leaf_values.specs.Entries.{IsReckoned, entry_at, entry_in}
+use Rattle.leaf_values.specs.Entries.{UnitEntry, IsReckoned, entry_at, entry_in}
 use Rattle.leaf_values.specs.Paths.{fix_at}
-use Rattle.leaf_values.specs.declared.entries.UnitEntry.{UnitEntry}
 use Rattle.leaf_values.specs.declared.entries.TableEntries.{TableEntries}
 
 -- the entry was reckoned for the fix, and is otherwise as before

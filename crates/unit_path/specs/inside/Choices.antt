@@ -7,7 +7,7 @@ use Rattle.uc_model.specs.Terms.{period_count}
 use Rattle.dual_model.specs.declared.node.Fix.{Fix}
 use Rattle.dual_model.specs.Moves.{may_be_off, move}
 use Rattle.dual_model.specs.CostToGo.{cost_to_go, end_cost, total_of, IsWithin, MAX_COST_TO_GO}
-use Rattle.unit_path.specs.declared.hour.Choice.{Choice}
+pub use Rattle.unit_path.specs.declared.hour.Choice.{Choice}
 
 abbrev pub choice_cost : Option Choice → Option ℤ
 choice_cost None = None

@@ -8,8 +8,7 @@ use Rattle.uc_model.specs.Terms.{period_count}
 use Rattle.dual_model.specs.declared.node.Fix.{Fix}
 use Rattle.dual_model.specs.Moves.{holds_initially, hour_before, may_be_off, may_be_on, may_start, may_stop, stop_since}
 use Rattle.dual_model.specs.CostToGo.{IsWithin, MAX_MOVE}
-use Rattle.unit_path.specs.inside.Choices.{choice_cost, IsLeastStart, IsLeastStop}
-use Rattle.unit_path.specs.declared.hour.Choice.{Choice}
+use Rattle.unit_path.specs.inside.Choices.{Choice, choice_cost, IsLeastStart, IsLeastStop}
 use Rattle.unit_path.specs.declared.hour.Hour.{Hour}
 
 -- what it costs a unit that is on to stay on in period t, and to stop in it where it has been on for long enough, by

@@ -2,8 +2,7 @@
 use Rattle.std.proofs.Common.{◌++◌, ◌∷◌, [], ap, sym, subst, ◌∙◌}
 use Rattle.std.proofs.lemmas.Option.{slice_get-get_or, get_or_from_slice_get, slice_get_within}
 use Rattle.dual_model.specs.declared.node.Fixing.{Fixing}
-use Rattle.branch_tree.specs.Places.{IsInner, tree_from}
-use Rattle.branch_tree.specs.declared.places.Place.{Place}
+use Rattle.branch_tree.specs.Places.{Place, IsInner, tree_from}
 use Rattle.branch_tree.proofs.Paths.{IsWayUp, way_begins, step_up}
 use Rattle.branch_tree.proofs.places.path.Goals as goal
 

@@ -1,6 +1,5 @@
 -- The entries that were kept are those of the table of their number, and so are new ones.
-use Rattle.std.proofs.Common.{sym, subst, ◌∙◌, length, refl}
-use Rattle.std.specs.Prelude.{Option}
+use Rattle.std.proofs.Common.{sym, subst, ◌∙◌, length, refl, Option}
 use Rattle.std.proofs.lemmas.Option.{same_Some, slice_get_read}
 use Rattle.std.proofs.lemmas.Result.{IfOk-weaker}
 use Rattle.leaf_values.specs.Entries.{AreEntriesOf}

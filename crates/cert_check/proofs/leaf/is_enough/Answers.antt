@@ -1,6 +1,5 @@
 -- The numbers that are passed are those that were read.
-use Rattle.std.proofs.Common.{◌≡◌, rules, subst, sym, to_z, of_z, FitsSigned}
-use Rattle.std.specs.Prelude.{◌↔◌, IsTrue}
+use Rattle.std.proofs.Common.{◌≡◌, rules, subst, sym, to_z, of_z, FitsSigned, ◌↔◌, IsTrue}
 use Rattle.std.specs.Int.{w128}
 use Rattle.std.proofs.lemmas.Int.{to_z-of_z}
 use Rattle.cert_check.specs.inside.Leaves.{HasFloorOf, IsEnough}

@@ -1,7 +1,6 @@
 -- The table of each turn is the list's.
-use Rattle.std.proofs.Common.{refl, arith, length, sym, ◌∙◌}
+use Rattle.std.proofs.Common.{refl, arith, length, sym, ◌∙◌, true≢false}
 use Rattle.std.proofs.lemmas.Option.{slice_get_read}
-use Rattle.std.proofs.lemmas.Bool.{true≢false}
 use Rattle.cert_check.specs.inside.Numbers.{HasLawfulNumbers}
 use Rattle.cert_check.proofs.Places.{each-next, each-all}
 use Rattle.cert_check.proofs.numbers.first_off.Goals as goal

@@ -1,6 +1,5 @@
 -- The corners with the next point: the same where it lies over the last one, else those that stay, and the point.
-use Rattle.std.proofs.Common.{◌≡◌, ◌+◌, sym, ap, subst, arith, suc, [], ◌∷◌, ◌++◌, take, length, ◌∙◌}
-use Rattle.std.specs.Prelude.{slice_set}
+use Rattle.std.proofs.Common.{◌≡◌, ◌+◌, sym, ap, subst, arith, suc, [], ◌∷◌, ◌++◌, take, length, ◌∙◌, slice_set}
 use Rattle.std.proofs.lemmas.List.{take_more_set, take-take, length-take-le}
 use Rattle.uc_model.specs.Points.{point_of}
 use Rattle.cost_curves.specs.LowerHull.{HullOfFirst}

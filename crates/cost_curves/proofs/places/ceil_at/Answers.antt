@@ -1,5 +1,5 @@
 -- The cost between the ends of the segment is the least one.
-use Rattle.std.proofs.Common.{sym, subst, arith, ℤ, pos, ◌-ℤ◌, ◌*ℤ◌, ◌≤ℤ◌}
+use Rattle.std.proofs.Common.{sym, subst, arith, pos, ◌-ℤ◌, ◌*ℤ◌, ◌≤ℤ◌}
 use Rattle.std.specs.Int.{w64}
 use Rattle.std.proofs.lemmas.Int.{to_z-of_z}
 use Rattle.uc_model.specs.Division.{IsCeiling}
@@ -21,16 +21,13 @@ pub cost_between-requires-clause-low : goal.cost_between-requires-clause-low
 cost_between-requires-clause-low c =
     subst (λ z. pos 0 ≤ℤ z) (sym (over-bits c.args.corners.now c.args.p.now c.output.result c.ends_at-found.result.left c.ends_at-found.result.right c.requires.lawful c.requires.low c.ends_at-found.ensures c.output.ensures.value)) (sub_nonneg (output_of c.args.corners.now c.ends_at-found.result.left) c.args.p.now c.ends_at-found.ensures.begins)
 
-within : (p x y z : ℤ) → p ≤ℤ (y -ℤ z) → (p -ℤ (x -ℤ z)) ≤ℤ (y -ℤ x)
-within p x y z h = omega (arith, linear)
-
 pub cost_between-requires-clause-high : goal.cost_between-requires-clause-high
 cost_between-requires-clause-high c =
     let corners = c.args.corners.now in
     let left = c.ends_at-found.result.left in
     let right = c.ends_at-found.result.right in
     subst (λ z. z ≤ℤ ((point_of corners right).mw -ℤ (point_of corners left).mw)) (sym (over-bits c.args.corners.now c.args.p.now c.output.result c.ends_at-found.result.left c.ends_at-found.result.right c.requires.lawful c.requires.low c.ends_at-found.ensures c.output.ensures.value))
-    (within c.args.p.now (point_of corners left).mw (point_of corners right).mw (point_of corners 0).mw c.ends_at-found.ensures.reaches)
+    (omega (arith, linear, c.ends_at-found.ensures.reaches))
 
 pub returns-clause-least : goal.returns-clause-least
 returns-clause-least c = λ points whole.

@@ -1,6 +1,5 @@
 -- The quotient is that of the rise, and no greater.
-use Rattle.std.proofs.Common.{◌≡◌, ◌*◌, ◌<◌, ◌≤◌, ◌^◌, ◌∙◌, sym, ap, subst, arith, lit<, to_z, of_z, pos, ◌-ℤ◌, ◌*ℤ◌, ◌<ℤ◌, ℤ}
-use Rattle.std.specs.Prelude.{unsigned_abs}
+use Rattle.std.proofs.Common.{◌≡◌, ◌*◌, ◌<◌, ◌≤◌, ◌^◌, ◌∙◌, sym, ap, subst, arith, lit<, to_z, of_z, pos, ◌-ℤ◌, ◌*ℤ◌, unsigned_abs}
 use Rattle.std.specs.Int.{w64, w128}
 use Rattle.std.proofs.lemmas.Int.{fits_signed_from_abs}
 use Rattle.uc_model.specs.Division.{IsCeiling}
@@ -14,11 +13,8 @@ found : (c : goal.After-ceil_div) → IsCeiling ((c.args.right.now.cost -ℤ c.a
     × (unsigned_abs c.ceil_div.result ≤ 2 * MAX_COST)
 found c =
     ceiling-is (pos 0) (pos 0) c.args.over.now c.rise.result c.scaled-rising.result c.run.result c.from-width.result c.ceil_div.result _ _ c.rise.ensures.value c.rise.ensures.size
-    c.run.ensures.value c.run.ensures.size c.requires.low c.requires.high (wider c.args.left.now.mw c.args.right.now.mw c.requires.apart)
+    c.run.ensures.value c.run.ensures.size c.requires.low c.requires.high (omega (arith, linear, c.requires.apart))
     c.scaled-rising.ensures c.from-width.ensures c.ceil_div.ensures
-  where
-    wider : (x y : ℤ) → x <ℤ y → pos 0 <ℤ (y -ℤ x)
-    wider x y h = omega (arith, linear)
 
 same : (c : goal.After-ceil_div) → to_z w64 (of_z w64 (to_z w128 (of_z w128 c.ceil_div.result))) ≡ c.ceil_div.result
 same c =

@@ -1,6 +1,5 @@
 -- One curve more.
-use Rattle.std.proofs.Common.{◌≡◌, ◌+◌, ◌<◌, length, List, sym, ap, subst, ◌∙◌, arith}
-use Rattle.std.specs.Prelude.{slice_index_or}
+use Rattle.std.proofs.Common.{◌≡◌, ◌+◌, ◌<◌, length, List, sym, ap, subst, ◌∙◌, arith, slice_index_or}
 use Rattle.std.proofs.lemmas.List.{get_or_default}
 use Rattle.uc_model.specs.Schedule.{no_unit, thermal_unit}
 use Rattle.uc_model.specs.declared.instance.Thermal.{Thermal}

@@ -1,6 +1,5 @@
 -- Each unit has an allowed pattern.
-use Rattle.std.proofs.Common.{◌≡◌, ap, arith, length, subst, sym, ◌∙◌}
-use Rattle.std.specs.Prelude.{slice_index_or}
+use Rattle.std.proofs.Common.{◌≡◌, ap, arith, length, subst, sym, ◌∙◌, slice_index_or}
 use Rattle.std.proofs.lemmas.List.{get_or_read}
 use Rattle.uc_model.specs.ExtremePatterns.{HasNoAllowedPattern}
 use Rattle.uc_model.specs.Schedule.{no_unit, thermal_unit}

@@ -1,6 +1,5 @@
 -- The commitment with the unit's pattern of the fewest on periods was tried, or stands already.
-use Rattle.std.proofs.Common.{◌≡◌, ◌<◌, ◌∙◌, ap, arith, length, set, subst, suc, sym}
-use Rattle.std.specs.Prelude.{slice_index_or}
+use Rattle.std.proofs.Common.{◌≡◌, ◌<◌, ◌∙◌, ap, arith, length, set, subst, suc, sym, slice_index_or}
 use Rattle.std.proofs.lemmas.List.{get_or_read, set-get_or, set-set}
 use Rattle.decommitment.specs.inside.Turns.{IsDroppedBelow, IsTrialOf}
 use Rattle.decommitment.proofs.Drops.{turn_replaces, turn_spared, turn_stays}

@@ -1,6 +1,5 @@
 -- The dispatch obeys, and its cost is within the limit on costs.
-use Rattle.std.proofs.Common.{FitsSigned, rules, subst, sym, ◌≤◌}
-use Rattle.std.specs.Prelude.{unsigned_abs}
+use Rattle.std.proofs.Common.{FitsSigned, rules, subst, sym, ◌≤◌, unsigned_abs}
 use Rattle.std.specs.Int.{w64}
 use Rattle.std.proofs.lemmas.Int.{to_z-of_z}
 use Rattle.uc_model.specs.PrintedSchedule.{printed_cost, printed_denominator}

@@ -1,6 +1,5 @@
 -- The percents before the place have their demand.
-use Rattle.std.proofs.Common.{◌≡◌, take}
-use Rattle.std.specs.Prelude.{map}
+use Rattle.std.proofs.Common.{◌≡◌, take, map}
 use Rattle.demo_gen.specs.Demo.{demand_at}
 use Rattle.demo_gen.proofs.system.demand.Given as goal
 

@@ -1,7 +1,6 @@
 -- The unit's patterns by whether it is strong enough to start, and whether it must run.
-use Rattle.std.proofs.Common.{◌≡◌, ◌-◌, min, sym, subst, ◌∙◌, arith}
+use Rattle.std.proofs.Common.{◌≡◌, ◌-◌, min, sym, subst, ◌∙◌, arith, true≢false}
 use Rattle.std.proofs.lemmas.Int.{ints}
-use Rattle.std.proofs.lemmas.Bool.{true≢false}
 use Rattle.uc_model.specs.ExtremePatterns.{IsMostOn, on_during}
 use Rattle.uc_model.proofs.ExtremePatterns.{most-from_highest, highest-started, highest-kept_off, none-held_off, none-too_weak}
 use Rattle.dispatch_repair.proofs.extreme_patterns.first_start.Goals as goal

@@ -1,5 +1,5 @@
 -- One segment more, by what raising its source does.
-use Rattle.std.proofs.Common.{◌≡◌, ℕ, ◌≤◌, ◌+◌, arith, subst, ap, length, suc}
+use Rattle.std.proofs.Common.{arith, subst, ap, length, suc}
 use Rattle.dispatch_repair.specs.inside.Filling.{IsFilledTo, IsRaise}
 use Rattle.dispatch_repair.specs.inside.Segments.{segment_at}
 use Rattle.dispatch_repair.proofs.Filling.{step}
@@ -9,17 +9,11 @@ use Rattle.dispatch_repair.proofs.fill.fill.Goals as goal
 pub loop-segment-preserved : goal.loop-segment-preserved
 loop-segment-preserved c =
     let i = c.loop-segment.segment-index in
-    subst (λ k. IsFilledTo c.args.instance.now c.args.order.now c.args.ranges.now c.args.left.now k c.raise.new.amounts c.raise.new.left) (more i)
+    subst (λ k. IsFilledTo c.args.instance.now c.args.order.now c.args.ranges.now c.args.left.now k c.raise.new.amounts c.raise.new.left) (omega arith)
     (step c.args.instance.now c.args.order.now c.args.ranges.now c.args.left.now i c.loop-segment.amounts c.raise.new.amounts c.loop-segment.left c.raise.new.left
     c.requires.order c.loop-segment-test.true c.requires.sources (next_run c.args.instance.now) c.loop-segment.invariant
     (subst (λ w. IsRaise w c.args.ranges.now (segment_at c.args.order.now i) c.loop-segment.amounts c.raise.new.amounts c.loop-segment.left c.raise.new.left)
     (ap length c.as_slice-renewables.ensures) c.raise.ensures))
-  where
-    more : (k : ℕ) → suc k ≡ k + 1
-    more k = omega arith
 
 pub returns : goal.returns
-returns c = subst (λ k. IsFilledTo c.args.instance.now c.args.order.now c.args.ranges.now c.args.left.now k c.loop-segment.amounts c.loop-segment.left) (last c.loop-segment.segment-index (length c.args.order.now) c.loop-segment-test.false c.loop-segment.auto.segment-index-end) c.loop-segment.invariant
-  where
-    last : (i n : ℕ) → n ≤ i → i ≤ n → i ≡ n
-    last i n h k = omega arith
+returns c = subst (λ k. IsFilledTo c.args.instance.now c.args.order.now c.args.ranges.now c.args.left.now k c.loop-segment.amounts c.loop-segment.left) (omega (arith, c.loop-segment-test.false, c.loop-segment.auto.segment-index-end)) c.loop-segment.invariant

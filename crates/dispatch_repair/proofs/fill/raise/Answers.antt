@@ -1,10 +1,8 @@
 -- The source rises by what the function gives it, and nothing else changes.
-use Rattle.std.proofs.Common.{◌≡◌, ℕ, sym, ap, subst, ◌∙◌, arith, pos, ℤ, ◌+ℤ◌, ◌-ℤ◌, ◌≤ℤ◌, ◌<ℤ◌, ◌<◌, ◌≤◌, inl, inr, ⊎_elim, cond, w64, to_z, of_z}
-use Rattle.std.specs.Prelude.{nat_lt, slice_set}
+use Rattle.std.proofs.Common.{◌≡◌, ℕ, sym, ap, subst, ◌∙◌, arith, pos, ℤ, ◌+ℤ◌, ◌-ℤ◌, ◌≤ℤ◌, ◌<ℤ◌, ◌<◌, ◌≤◌, inl, inr, ⊎_elim, cond, w64, to_z, of_z, nat_lt, slice_set, get_or-set_same, get_or-set_other, length-set}
 use Rattle.std.specs.Int.{int_min}
 use Rattle.std.proofs.lemmas.Int.{ints, to_z-of_z}
 use Rattle.std.proofs.lemmas.Bool.{cases_lt, lt-ltb, le-ltb, cond-true, cond-false}
-use Rattle.std.proofs.lemmas.List.{get_or-set_same, get_or-set_other, length-set}
 use Rattle.uc_model.proofs.Ring.{linear, le_or_lt}
 use Rattle.dispatch_repair.specs.inside.Amounts.{amount_at}
 use Rattle.dispatch_repair.specs.inside.Filling.{IsSpent, end_of}
@@ -61,20 +59,15 @@ returns c = record {
 
     gone : more ≡ spare → IsSpent c.args.renewables c.rest.result c.args.segment.now
     gone all = ⊎_elim
-        (λ (h : s < c.args.renewables). inl (nothing c.args.left.now.need more c.rest.result.need (all ∙ cond-true (nat_lt s c.args.renewables) _ _ (lt-ltb s c.args.renewables h)) need))
+        (λ (h : s < c.args.renewables). inl (omega (arith, linear, all ∙ cond-true (nat_lt s c.args.renewables) _ _ (lt-ltb s c.args.renewables h), need)))
         (λ (h : c.args.renewables ≤ s).
         let least : more ≡ int_min c.args.left.now.need c.args.left.now.room = all ∙ cond-false (nat_lt s c.args.renewables) _ _ (le-ltb s c.args.renewables h) in
         ⊎_elim
-        (λ (low : c.args.left.now.need ≤ℤ c.args.left.now.room). inl (nothing c.args.left.now.need more c.rest.result.need (least ∙ first c.args.left.now.need c.args.left.now.room low) need))
-        (λ (high : c.args.left.now.room <ℤ c.args.left.now.need). inr (h, nothing c.args.left.now.room more c.rest.result.room (least ∙ second c.args.left.now.need c.args.left.now.room high) (thermal h)))
+        (λ (low : c.args.left.now.need ≤ℤ c.args.left.now.room).
+        let first : int_min c.args.left.now.need c.args.left.now.room ≡ c.args.left.now.need = grind (arith, ints) in
+        inl (omega (arith, linear, need)))
+        (λ (high : c.args.left.now.room <ℤ c.args.left.now.need).
+        let second : int_min c.args.left.now.need c.args.left.now.room ≡ c.args.left.now.room = grind (arith, ints) in
+        inr (h, omega (arith, linear, thermal h)))
         (le_or_lt c.args.left.now.need c.args.left.now.room))
         (cases_lt s c.args.renewables)
-      where
-        nothing : (b m a : ℤ) → m ≡ b → a ≡ b -ℤ m → a ≡ pos 0
-        nothing b m a e k = omega (arith, linear)
-
-        first : (a b : ℤ) → a ≤ℤ b → int_min a b ≡ a
-        first a b h = grind (arith, ints)
-
-        second : (a b : ℤ) → b <ℤ a → int_min a b ≡ b
-        second a b h = grind (arith, ints)

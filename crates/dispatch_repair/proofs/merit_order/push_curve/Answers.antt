@@ -1,8 +1,7 @@
 -- The segment between two corners covers the watts between them.
-use Rattle.std.proofs.Common.{◌≡◌, ℕ, suc, ◌+◌, ◌∷◌, [], ◌++◌, arith, sym, subst, ap, ◌∙◌}
+use Rattle.std.proofs.Common.{◌≡◌, suc, ◌+◌, ◌∷◌, [], ◌++◌, arith, sym, subst, ap, ◌∙◌}
 use Rattle.uc_model.specs.Schedule.{renewable_count}
-use Rattle.dispatch_repair.specs.inside.Segments.{AreSegmentsOf, corner_segment}
-use Rattle.dispatch_repair.specs.declared.segment.Segment.{Segment}
+use Rattle.dispatch_repair.specs.inside.Segments.{Segment, AreSegmentsOf, corner_segment}
 use Rattle.dispatch_repair.proofs.CurveSegments.{ArePushed, pushed_more, pushed_all}
 use Rattle.dispatch_repair.proofs.merit_order.push_curve.Goals as goal
 
@@ -17,11 +16,8 @@ loop-i-preserved c = λ instance g source hg whole are.
     let items : c.push.new.self.items ≡ c.loop-i.segments.items ++ c.between.result ∷ [] = c.in_ok-push.ensures.items in
     subst (λ m. ArePushed instance m c.args.corners.now (i + 1) c.push.new.self.items) (sym source)
     (subst (ArePushed instance n c.args.corners.now (i + 1)) (sym (items ∙ ap (λ (s : Segment). c.loop-i.segments.items ++ s ∷ []) made))
-    (subst (λ k. ArePushed instance n c.args.corners.now k (c.loop-i.segments.items ++ corner_segment n c.args.corners.now i ∷ [])) (more i)
+    (subst (λ k. ArePushed instance n c.args.corners.now k (c.loop-i.segments.items ++ corner_segment n c.args.corners.now i ∷ [])) (omega arith)
     (pushed_more instance g i c.args.corners.now c.loop-i.segments.items hg whole (omega (arith, c.loop-i-test.true, c.requires.corners.some)) before)))
-  where
-    more : (k : ℕ) → suc k ≡ k + 1
-    more k = omega arith
 
 pub returns : goal.returns
 returns c = λ instance g source hg whole are.

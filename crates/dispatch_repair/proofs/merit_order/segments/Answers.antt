@@ -1,6 +1,5 @@
 -- A thermal unit has the segments of its curve.
-use Rattle.std.proofs.Common.{◌≡◌, ℕ, suc, ◌+◌, ◌<◌, length, arith, sym, subst, ap, ◌∙◌}
-use Rattle.std.specs.Prelude.{slice_index_or}
+use Rattle.std.proofs.Common.{◌≡◌, suc, ◌+◌, ◌<◌, length, arith, sym, subst, ap, ◌∙◌, slice_index_or}
 use Rattle.std.proofs.lemmas.List.{get_or_read}
 use Rattle.uc_model.specs.Schedule.{thermal_unit, renewable_count, no_unit}
 use Rattle.uc_model.specs.declared.instance.Thermal.{Thermal}
@@ -21,7 +20,4 @@ loop-g-preserved c =
     subst (λ points. IsLowerHull points c.corners.result.now) (c.as_slice.ensures ∙ ap (λ (u : Thermal). u.points) (sym c.index-units-g.is ∙ unit))
     (subst (IsLowerHull c.as_slice.result.now) (sym c.corners.ensures.value) c.in_ok-curve.ensures.hull) in
     let done = c.in_ok-push_curve.ensures instance g source within hull c.loop-g.invariant in
-    subst (λ k. AreSegmentsOf instance k c.push_curve.new.segments.items) (more (length c.as_slice-renewables.result.now) g) done
-  where
-    more : (m k : ℕ) → suc (m + k) ≡ m + (k + 1)
-    more m k = omega arith
+    subst (λ k. AreSegmentsOf instance k c.push_curve.new.segments.items) (omega arith) done

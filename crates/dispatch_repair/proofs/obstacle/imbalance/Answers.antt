@@ -1,6 +1,5 @@
 -- A test that fails is the fact that the next obstacle stands on.
-use Rattle.std.proofs.Common.{◌≡◌, ◌≤ℤ◌, ◌<ℤ◌, ℤ, ◌*◌, ◌≤◌, arith, ◌∙◌}
-use Rattle.std.specs.Prelude.{unsigned_abs}
+use Rattle.std.proofs.Common.{◌≡◌, ◌≤ℤ◌, ◌<ℤ◌, ℤ, ◌*◌, ◌≤◌, arith, ◌∙◌, unsigned_abs}
 use Rattle.uc_model.specs.Limits.{IsPower}
 use Rattle.uc_model.specs.declared.limits.TheConstants.{MAX_POWER, MAX_UNITS}
 use Rattle.uc_model.proofs.Ring.{linear}

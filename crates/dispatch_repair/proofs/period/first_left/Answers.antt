@@ -1,6 +1,5 @@
 -- Without an obstacle, what is left at first isn't below 0.
-use Rattle.std.proofs.Common.{ap, length, pos, sym, subst, ◌∙◌}
-use Rattle.std.specs.Prelude.{slice_index_or}
+use Rattle.std.proofs.Common.{ap, length, pos, sym, subst, ◌∙◌, slice_index_or}
 use Rattle.dispatch_repair.specs.Dispatch.{period_after}
 use Rattle.dispatch_repair.specs.inside.Amounts.{AreRangesOf, AreHeadsOf}
 use Rattle.dispatch_repair.proofs.Merit.{first_need, first_room}

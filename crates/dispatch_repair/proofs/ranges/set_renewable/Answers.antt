@@ -1,21 +1,18 @@
 -- A range more.
-use Rattle.std.proofs.Common.{◌≡◌, ℕ, ◌<◌, arith, pos, length, subst, ap, ◌+◌, ◌∙◌}
-use Rattle.uc_model.specs.Schedule.{renewable_count, thermal_count}
+use Rattle.std.proofs.Common.{◌≡◌, ◌<◌, arith, pos, length, subst, ap, ◌∙◌}
+use Rattle.uc_model.specs.Schedule.{renewable_count}
 use Rattle.dispatch_repair.specs.Dispatch.{period_after}
 use Rattle.dispatch_repair.specs.inside.Amounts.{IsRangeOf}
 use Rattle.dispatch_repair.proofs.Places.{renewable_range}
 use Rattle.dispatch_repair.proofs.Written.{below_set}
 use Rattle.dispatch_repair.proofs.ranges.set_renewable.Goals as goal
 
-inside : (m n k w : ℕ) → w < m → k ≡ m + n → w < k
-inside m n k w h e = omega arith
-
 pub loop-w-preserved : goal.loop-w-preserved
 loop-w-preserved c = λ patterns before.
     let period = period_after c.args.instance.now patterns c.args.t before in
     let made = c.renewable_range.ensures in
     let h : c.loop-w.w < renewable_count c.args.instance.now = subst (λ xs. c.loop-w.w < length xs) c.as_slice-w-end.ensures c.loop-w-test.true in
-    below_set (IsRangeOf period) c.loop-w.ranges c.loop-w.w c.renewable_range.result (record { low = pos 0; high = pos 0 }) (inside (renewable_count c.args.instance.now) (thermal_count c.args.instance.now) (length c.loop-w.ranges) c.loop-w.w h (c.loop-w.auto.ranges ∙ c.requires.ranges))
+    below_set (IsRangeOf period) c.loop-w.ranges c.loop-w.w c.renewable_range.result (record { low = pos 0; high = pos 0 }) (omega (arith, c.loop-w.auto.ranges ∙ c.requires.ranges))
     (c.loop-w.invariant patterns before)
     (renewable_range period c.loop-w.w c.renewable_range.result h (record { low = made.low; high = made.high; low_size = made.low_size; high_size = made.high_size }))
 

@@ -7,9 +7,6 @@ use Rattle.dispatch_repair.specs.inside.Amounts.{IsRangeOf, thermal_amount, rang
 use Rattle.dispatch_repair.proofs.Written.{below_set_after, set_after}
 use Rattle.dispatch_repair.proofs.ranges.set_thermal.Goals as goal
 
-inside : (m n k g : ℕ) → g < n → k ≡ m + n → m + g < k
-inside m n k g h e = omega arith
-
 pub loop-g-preserved : goal.loop-g-preserved
 loop-g-preserved c =
     let instance = c.args.instance.now in
@@ -17,7 +14,7 @@ loop-g-preserved c =
     let before = c.loop-g.invariant in
     let count : length c.as_slice-renewables.result.now ≡ renewable_count instance = ap length c.as_slice-renewables.ensures in
     let h : c.loop-g.g < thermal_count instance = subst (λ xs. c.loop-g.g < length xs) c.as_slice-g-end.ensures c.loop-g-test.true in
-    let within = inside (renewable_count instance) (thermal_count instance) (length c.loop-g.ranges) c.loop-g.g h (c.loop-g.auto.ranges ∙ c.requires.ranges) in
+    let within : (renewable_count instance) + c.loop-g.g < (length c.loop-g.ranges) = omega (arith, c.loop-g.auto.ranges ∙ c.requires.ranges) in
     subst
     (λ m. record {
       others : (w : ℕ) → w < renewable_count instance → range_at (set c.loop-g.ranges (m + c.loop-g.g) c.unit_range.result) w ≡ range_at c.args.ranges.now w;

@@ -1,6 +1,5 @@
 -- The row in turn is the unit's, of the commitment; so what the row breaks the unit's pattern does.
-use Rattle.std.proofs.Common.{◌≡◌, ℕ, ◌+◌, ◌<◌, ◌≤◌, ⊎_elim, [], length, sym, ap, subst, ◌∙◌, arith, Vec, Global, pos, false}
-use Rattle.std.specs.Prelude.{slice_index_or, Some, None}
+use Rattle.std.proofs.Common.{◌≡◌, ℕ, ◌+◌, ◌<◌, ◌≤◌, ⊎_elim, [], length, sym, ap, subst, ◌∙◌, arith, Vec, Global, pos, false, slice_index_or, Some, None}
 use Rattle.std.proofs.lemmas.List.{get_or_read, get_or-map, length-map}
 use Rattle.std.proofs.lemmas.Bool.{cases_lt}
 use Rattle.std.proofs.Math.ListN.{get_or-eq_default}
@@ -101,8 +100,5 @@ loop-unit-preserved c =
 pub returns : goal.returns
 returns c =
     subst (λ n. IsFirstOf c.args.instance.now c.args.patterns.now n c.loop-unit.first)
-    (last c.loop-unit.unit (length c.as_slice-units.result.now) c.loop-unit-test.false c.loop-unit.auto.unit-end ∙ ap length c.as_slice-units.ensures)
+    ((omega (arith, c.loop-unit-test.false, c.loop-unit.auto.unit-end)) ∙ ap length c.as_slice-units.ensures)
     c.loop-unit.invariant
-  where
-    last : (i n : ℕ) → n ≤ i → i ≤ n → i ≡ n
-    last i n h k = omega arith

@@ -1,6 +1,5 @@
 -- The unit at the place is the instance's.
-use Rattle.std.proofs.Common.{◌≡◌, ◌<◌, length, sym, ap, subst, ◌∙◌}
-use Rattle.std.specs.Prelude.{slice_index_or}
+use Rattle.std.proofs.Common.{◌≡◌, ◌<◌, length, sym, ap, subst, ◌∙◌, slice_index_or}
 use Rattle.std.proofs.lemmas.List.{get_or_read}
 use Rattle.uc_model.specs.Limits.{IsLawfulThermal}
 use Rattle.uc_model.specs.Schedule.{thermal_unit, no_unit}

@@ -1,6 +1,5 @@
 -- Each row is cut to the periods.
-use Rattle.std.proofs.Common.{◌≡◌, sym, subst, take, ◌∙◌}
-use Rattle.std.specs.Prelude.{map}
+use Rattle.std.proofs.Common.{◌≡◌, sym, subst, take, ◌∙◌, map}
 use Rattle.std.proofs.lemmas.Result.{IfOk-weaker}
 use Rattle.uc_model.specs.declared.schedule.Printed.{Printed}
 use Rattle.dispatch_repair.specs.Dispatch.{HasPeriods}

@@ -1,5 +1,5 @@
 -- A broken rule comes before any period; a dispatch obeys, and has plain numbers.
-use Rattle.std.proofs.Common.{ℕ, ◌≤◌, arith, sym, subst}
+use Rattle.std.proofs.Common.{arith, sym, subst}
 use Rattle.std.proofs.lemmas.Result.{IfOk-weaker}
 use Rattle.uc_model.specs.PrintedSchedule.{printed_denominator, printed_schedule}
 use Rattle.uc_model.specs.Rules.{Obeys}
@@ -32,7 +32,4 @@ returns-clause-obeys c =
 pub returns-clause-numbers : goal.returns-clause-numbers
 returns-clause-numbers c =
     IfOk-weaker c.dispatch_periods.result (IsDispatchOf c.args.instance.now c.args.patterns.now) HasPlainNumbers
-    (λ printed is. plain c.args.instance.now c.args.patterns.now c.args.instance.now.periods printed c.requires.lawful (same c.args.instance.now.periods) is.periods) c.dispatch_periods.ensures.dispatch
-  where
-    same : (n : ℕ) → n ≤ n
-    same n = omega arith
+    (λ printed is. plain c.args.instance.now c.args.patterns.now c.args.instance.now.periods printed c.requires.lawful (omega arith) is.periods) c.dispatch_periods.ensures.dispatch

@@ -1,6 +1,5 @@
 -- A period more is filled, or the dispatch is stuck in it.
-use Rattle.std.proofs.Common.{◌≡◌, ℕ, suc, ◌+◌, ◌≤◌, arith, sym, subst, ap, pos}
-use Rattle.std.specs.Prelude.{slice_index_or}
+use Rattle.std.proofs.Common.{suc, arith, sym, subst, ap, pos, slice_index_or}
 use Rattle.dispatch_repair.specs.Stuck.{IsDispatchOf}
 use Rattle.dispatch_repair.specs.inside.Progress.{AreFilledBelow}
 use Rattle.dispatch_repair.specs.inside.Rows.{printed_of, IsWritten}
@@ -23,14 +22,11 @@ dispatch_period-requires-clause-before c = record {
 
 pub loop-t-preserved : goal.loop-t-preserved
 loop-t-preserved c =
-    subst (λ k. AreFilledBelow c.args.instance.now c.args.patterns.now k (printed_of c.write_period.new.rows) c.dispatch_period.new.room) (more c.loop-t.t)
+    subst (λ k. AreFilledBelow c.args.instance.now c.args.patterns.now k (printed_of c.write_period.new.rows) c.dispatch_period.new.room) (omega arith)
     (next_filled c.args.instance.now c.args.patterns.now c.loop-t.t (printed_of c.loop-t.rows) (printed_of c.write_period.new.rows) c.loop-t.room c.dispatch_period.new.room
     c.loop-t.invariant c.loop-t-test.true c.dispatch_period.ensures.room c.write_period.ensures.shape c.in_default.ensures.dispatched
     (subst (λ need. IsWritten c.args.instance.now c.dispatch_period.new.room.amounts.items c.dispatch_period.new.room.heads.items need c.loop-t.t (printed_of c.loop-t.rows) (printed_of c.write_period.new.rows))
     (ap (λ xs. slice_index_or xs c.loop-t.t (pos 0)) c.as_slice.ensures) c.write_period.ensures.written))
-  where
-    more : (k : ℕ) → suc k ≡ k + 1
-    more k = omega arith
 
 pub returns-clause-dispatch : goal.returns-clause-dispatch
 returns-clause-dispatch c =
@@ -39,8 +35,5 @@ returns-clause-dispatch c =
       regular = c.requires.regular;
       periods = through c.args.instance.now c.args.patterns.now (printed_of c.loop-t.rows) c.loop-t.room
           (subst (λ k. AreFilledBelow c.args.instance.now c.args.patterns.now k (printed_of c.loop-t.rows) c.loop-t.room)
-          (last c.loop-t.t c.args.instance.now.periods c.loop-t-test.false c.loop-t.auto.t-end) c.loop-t.invariant);
+          (omega (arith, c.loop-t-test.false, c.loop-t.auto.t-end)) c.loop-t.invariant);
     })
-  where
-    last : (i n : ℕ) → n ≤ i → i ≤ n → i ≡ n
-    last i n h k = omega arith

@@ -1,6 +1,5 @@
 -- The sum over the units so far, and its size.
-use Rattle.std.proofs.Common.{◌≡◌, ◌*◌, ◌≤◌, ◌*ℤ◌}
-use Rattle.std.specs.Prelude.{unsigned_abs}
+use Rattle.std.proofs.Common.{◌≡◌, ◌*◌, ◌≤◌, ◌*ℤ◌, unsigned_abs}
 use Rattle.uc_model.specs.Schedule.{thermal_unit}
 use Rattle.uc_model.specs.Sums.{bit, sum_below}
 use Rattle.uc_model.specs.declared.limits.TheConstants.{MAX_POWER}

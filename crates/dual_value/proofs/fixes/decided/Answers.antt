@@ -1,6 +1,5 @@
 -- The decision against it, or one more.
-use Rattle.std.proofs.Common.{◌≡◌, true, sym, ◌∙◌, refl}
-use Rattle.std.proofs.lemmas.Bool.{true≢false}
+use Rattle.std.proofs.Common.{◌≡◌, true, sym, ◌∙◌, refl, true≢false}
 use Rattle.uc_model.specs.PatternBits.{commitment_of}
 use Rattle.dual_value.proofs.FixBits.{agree, decided-against, decided-with, differ, off-before, plain-more, IsMore}
 use Rattle.dual_value.proofs.fixes.decided.Goals as goal

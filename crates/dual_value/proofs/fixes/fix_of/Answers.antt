@@ -1,8 +1,6 @@
 -- One fixing more, of the unit or of another one.
-use Rattle.std.proofs.Common.{◌≡◌, ℕ, suc, ◌<◌, ◌≤◌, ◌&&◌, add-one, false, drop, length, sym, ap, subst, ◌∙◌}
-use Rattle.std.specs.Prelude.{Option, Some, None, IfSome}
+use Rattle.std.proofs.Common.{◌≡◌, ℕ, suc, ◌<◌, ◌≤◌, ◌&&◌, add-one, false, drop, length, sym, ap, subst, ◌∙◌, Option, Some, None, IfSome, true≢false}
 use Rattle.std.specs.List.{list_all}
-use Rattle.std.proofs.lemmas.Bool.{true≢false}
 use Rattle.uc_model.specs.Commitment.{Commitment}
 use Rattle.dual_model.specs.Fixings.{fix_agrees, keeps_of, unit_agrees}
 use Rattle.dual_model.specs.declared.node.Fix.{Fix}

@@ -1,6 +1,5 @@
 -- One unit more, the first one without a pattern, or the whole.
-use Rattle.std.proofs.Common.{◌≡◌, ◌+◌, ◌*◌, ◌<◌, ◌≤◌, length, refl, sym, ap, subst, ◌∙◌, lit<, arith, ◌+ℤ◌, to_z, of_z}
-use Rattle.std.specs.Prelude.{slice_index_or, unsigned_abs, Result, Ok, Err, IfErr, IsErrAnd}
+use Rattle.std.proofs.Common.{◌≡◌, ◌+◌, ◌*◌, ◌<◌, ◌≤◌, length, refl, sym, ap, subst, ◌∙◌, lit<, arith, ◌+ℤ◌, to_z, of_z, slice_index_or, unsigned_abs, Result, Ok, Err, IfErr, IsErrAnd}
 use Rattle.dual_model.specs.declared.valued.Valued.{Valued}
 use Rattle.dual_value.specs.declared.valued.ValueFault.{ValueFault}
 use Rattle.std.specs.Int.{w128}

@@ -1,6 +1,5 @@
 -- One bit more is set.
-use Rattle.std.proofs.Common.{◌≡◌, ◌≢◌, ℕ, Bool, true, ⊎_elim, ap, sym, ◌∙◌}
-use Rattle.std.specs.Prelude.{◌==◌, ◌&&◌, ◌||◌}
+use Rattle.std.proofs.Common.{◌≡◌, ◌≢◌, ℕ, Bool, true, ⊎_elim, ap, sym, ◌∙◌, ◌==◌, ◌&&◌, ◌||◌}
 use Rattle.std.proofs.lemmas.Bool.{cases_eq, eq-eqb, ne_eqb}
 use Rattle.uc_model.specs.PatternBits.{commitment_of}
 use Rattle.leaf_values.proofs.fixes.decide.Goals as goal

@@ -1,6 +1,5 @@
 -- The walk gives the least value of the patterns, where there is one.
-use Rattle.std.proofs.Common.{ℤ, Some, None, Option, subst}
-use Rattle.std.specs.Prelude.{IfSome, IfNone, MatchOption}
+use Rattle.std.proofs.Common.{ℤ, Some, None, Option, subst, IfSome, IfNone, MatchOption}
 use Rattle.uc_model.specs.declared.instance.Thermal.{Thermal}
 use Rattle.uc_model.proofs.Sizes.{wide-size}
 use Rattle.dual_model.specs.PatternValue.{HasNoPattern, IsLeastValue}

@@ -1,8 +1,7 @@
 -- One unit more.
 use Rattle.std.proofs.Common.{◌≡◌, ℕ, ◌+◌, ◌<◌, List, length, arith, sym, subst, ◌∙◌, below_more, rules, ◌++◌, ◌∷◌, [], take, drop, ℤ}
 use Rattle.uc_model.specs.Schedule.{thermal_unit}
-use Rattle.leaf_values.specs.Entries.{IsEntryOf, IsReckoned, entry_in}
-use Rattle.leaf_values.specs.declared.entries.UnitEntry.{UnitEntry}
+use Rattle.leaf_values.specs.Entries.{UnitEntry, IsEntryOf, IsReckoned, entry_in}
 use Rattle.std.proofs.lemmas.List.{get_or_append_left, get_or_push, length-append, length-take, length-drop}
 use Rattle.leaf_values.proofs.loading.load.Goals as goal
 

@@ -1,6 +1,5 @@
 -- One unit more.
-use Rattle.std.proofs.Common.{◌+◌, ◌<◌, arith, length, sym, ap, subst, ◌≤ℤ◌}
-use Rattle.std.specs.Prelude.{IsTrue}
+use Rattle.std.proofs.Common.{◌+◌, ◌<◌, arith, length, sym, ap, subst, ◌≤ℤ◌, IsTrue}
 use Rattle.uc_model.specs.PrintedSchedule.{cell_at}
 use Rattle.uc_model.specs.Schedule.{thermal_count, thermal_unit}
 use Rattle.uc_model.specs.declared.schedule.Cell.{Cell}

@@ -1,6 +1,5 @@
 -- One period more.
-use Rattle.std.proofs.Common.{arith, lit<, ◌∙◌}
-use Rattle.std.proofs.lemmas.List.{length-set}
+use Rattle.std.proofs.Common.{arith, lit<, ◌∙◌, length-set}
 use Rattle.dual_model.specs.declared.limits.TheConstants.{MAX_PRICE}
 use Rattle.uc_model.proofs.Sizes.{narrow}
 use Rattle.opening_tables.proofs.PricedPeriods.{priced-more}

@@ -1,6 +1,5 @@
 -- The part of the rise is no greater than the rise.
-use Rattle.std.proofs.Common.{suc, ◌≤◌, ◌-ℤ◌, ◌*ℤ◌, ◌≤ℤ◌, ◌<ℤ◌, ℤ, pos, arith, to_z, of_z}
-use Rattle.std.specs.Prelude.{unsigned_abs}
+use Rattle.std.proofs.Common.{suc, ◌≤◌, ◌*ℤ◌, arith, to_z, of_z, unsigned_abs}
 use Rattle.std.specs.Int.{w128}
 use Rattle.uc_model.specs.Division.{IsFloor}
 use Rattle.uc_model.specs.Points.{output_of}
@@ -18,15 +17,9 @@ part c =
     rise_down-is (c.args.prices.now.k *ℤ rise_of corners i) (over_of corners c.args.cap.now i) (run_of corners i)
     c.rise.result c.over.result c.run.result c.product-rising.result c.floor_div.result
     c.rise.ensures.value c.rise.ensures.size c.over.ensures.value c.over.ensures.size c.run.ensures.value c.run.ensures.size
-    (sub_nonneg (output_of corners i) c.args.cap.now c.requires.segment.begins) (within (output_of corners i) c.args.cap.now (output_of corners (suc i)) c.requires.segment.reaches)
-    (wider (output_of corners i) c.args.cap.now (output_of corners (suc i)) c.requires.segment.begins c.requires.segment.reaches)
+    (sub_nonneg (output_of corners i) c.args.cap.now c.requires.segment.begins) (omega (arith, linear, c.requires.segment.reaches))
+    (omega (arith, linear, c.requires.segment.begins, c.requires.segment.reaches))
     c.product-rising.ensures c.floor_div.ensures
-  where
-    within : (x y z : ℤ) → y <ℤ z → (y -ℤ x) ≤ℤ (z -ℤ x)
-    within x y z h = omega (arith, linear)
-
-    wider : (x y z : ℤ) → x ≤ℤ y → y <ℤ z → pos 0 <ℤ (z -ℤ x)
-    wider x y z h k = omega (arith, linear)
 
 pub returns-clause-floor : goal.returns-clause-floor
 returns-clause-floor c = (part c).0

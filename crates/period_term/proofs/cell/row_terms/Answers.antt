@@ -1,6 +1,5 @@
 -- Each of the four terms, by the place that was found once.
-use Rattle.std.proofs.Common.{sym, subst}
-use Rattle.std.specs.Prelude.{slice_index_or, pos, ◌≤◌, IfSome, unsigned_abs}
+use Rattle.std.proofs.Common.{sym, subst, slice_index_or, pos, ◌≤◌, IfSome, unsigned_abs}
 use Rattle.dual_model.specs.TableValue.{IsCellTerm}
 use Rattle.uc_model.specs.declared.limits.TheConstants.{MAX_TERM}
 use Rattle.cost_curves.specs.LowerHull.{IsLowerHull}

@@ -1,6 +1,5 @@
 -- The cost at the left end, the price of what lies between, and the part of the rise.
-use Rattle.std.proofs.Common.{◌≡◌, ◌+◌, ◌*◌, ◌≤◌, suc, ap, ◌∙◌, arith, lit<, to_z, of_z, ◌+ℤ◌, ◌*ℤ◌}
-use Rattle.std.specs.Prelude.{unsigned_abs}
+use Rattle.std.proofs.Common.{◌≡◌, ◌+◌, ◌*◌, ◌≤◌, suc, ap, ◌∙◌, arith, lit<, to_z, of_z, ◌+ℤ◌, ◌*ℤ◌, unsigned_abs}
 use Rattle.std.specs.Int.{w128}
 use Rattle.uc_model.specs.Points.{point_of, output_of}
 use Rattle.uc_model.proofs.Sizes.{sum-fits}

@@ -1,6 +1,5 @@
 -- The lesser of both caps is as small as both.
-use Rattle.std.proofs.Common.{◌≤◌, sym, subst, arith, to_z, of_z}
-use Rattle.std.specs.Prelude.{unsigned_abs}
+use Rattle.std.proofs.Common.{◌≤◌, sym, subst, arith, to_z, of_z, unsigned_abs}
 use Rattle.std.specs.Int.{w64}
 use Rattle.dual_model.specs.declared.limits.TheConstants.{MAX_CAP}
 use Rattle.uc_model.proofs.Sizes.{abs_min, abs_narrow}

@@ -1,6 +1,5 @@
 -- One period more.
-use Rattle.std.proofs.Common.{◌≡◌, ℕ, ◌+◌, ◌<◌, ◌≢◌, ◌⊎◌, ⊎_elim, Bool, List, [], length, arith, sym, subst, lit<, to_z, of_z, ℤ, pos, get_or-set_other, get_or-set_same}
-use Rattle.std.specs.Prelude.{None, slice_index_or, slice_set, Option}
+use Rattle.std.proofs.Common.{◌≡◌, ℕ, ◌+◌, ◌<◌, ◌≢◌, ◌⊎◌, ⊎_elim, Bool, List, [], length, arith, sym, subst, lit<, to_z, of_z, ℤ, pos, get_or-set_other, get_or-set_same, None, slice_index_or, slice_set, Option}
 use Rattle.std.specs.Int.{w64}
 use Rattle.std.proofs.lemmas.Int.{to_z-of_z}
 use Rattle.uc_model.specs.declared.instance.Thermal.{Thermal}
@@ -10,9 +9,6 @@ use Rattle.dual_model.specs.TableValue.{row_at, ArePricesOf, AreTermsOfRows, IsT
 use Rattle.uc_model.proofs.Sizes.{wide}
 use Rattle.period_term.proofs.unit_terms.fill.Goals as goal
 
-here_or_before : (i t : ℕ) → i < t + 1 → (i < t) ⊎ (i ≡ t)
-here_or_before i t h = grind arith
-
 more_prices : (rows : List (ℤ × ℤ × ℤ)) (t : ℕ) (prices : List ℤ) (v : ℤ) → t < length prices → v ≡ (row_at rows t).2
     → ArePricesOf rows t prices → ArePricesOf rows (t + 1) (slice_set prices t v)
 more_prices rows t prices v inside is before i h =
@@ -20,7 +16,7 @@ more_prices rows t prices v inside is before i h =
     (λ (earlier : i < t). let other : i ≢ t = omega arith in rw get_or-set_other (before i earlier))
     (λ (here : i ≡ t).
     subst (λ k. slice_index_or (slice_set prices t v) k (pos 0) ≡ (row_at rows k).2) (sym here) (rw get_or-set_same is))
-    (here_or_before i t h)
+    (grind arith)
 
 more_terms : (unit : Thermal) (k : ℤ) (rows : List (ℤ × ℤ × ℤ)) (t : ℕ) (terms : List (List (Option ℤ))) (row : List (Option ℤ)) → t < length terms
     → ((start stop : Bool) → IsTermOfRow (length rows) unit k (row_at rows t) t start stop (slice_index_or row (place start stop) None))
@@ -31,7 +27,7 @@ more_terms unit k rows t terms row inside is before i start stop h =
     (λ (here : i ≡ t).
     subst (λ j. IsTermOfRow (length rows) unit k (row_at rows j) j start stop (slice_index_or (slice_index_or (slice_set terms t row) j []) (place start stop) None))
     (sym here) (rw get_or-set_same (is start stop)))
-    (here_or_before i t h)
+    (grind arith)
 
 pub loop-t-preserved : goal.loop-t-preserved
 loop-t-preserved c = (

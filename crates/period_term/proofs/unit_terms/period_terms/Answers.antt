@@ -1,6 +1,5 @@
 -- Each place holds its cell's term.
-use Rattle.std.proofs.Common.{◌≡◌, ℕ, ◌<◌, ◌≤◌, Bool, true, false, subst, ℤ, pos, lit<}
-use Rattle.std.specs.Prelude.{Option, None, IfSome, List, slice_index_or, unsigned_abs}
+use Rattle.std.proofs.Common.{◌≡◌, ℕ, ◌<◌, ◌≤◌, Bool, true, false, subst, ℤ, pos, lit<, Option, None, IfSome, List, slice_index_or, unsigned_abs}
 use Rattle.std.specs.Int.{w64}
 use Rattle.std.proofs.lemmas.Int.{to_z-of_z}
 use Rattle.uc_model.specs.declared.instance.Thermal.{Thermal}

@@ -5,9 +5,6 @@ use Rattle.dual_model.specs.declared.table.Table.{Table}
 use Rattle.prices.specs.Steps.{IsGreatestSize, IsStepFor}
 use Rattle.prices.proofs.laws.steps_differ.Goals as goal
 
-same_scale : (table : Table) (first second : ℕ) → table.k ≡ pos (1000000 + first) → table.k ≡ pos (1000000 + second) → first ≡ second
-same_scale table first second e f = omega (arith, linear, e, f)
-
 no_ray : (table : Table) (number : ℕ) → table.k ≡ pos (1000000 + number) → table.k ≡ pos 0 → ⊥
 no_ray table number e f = absurd (omega (arith, linear, e, f))
 
@@ -22,7 +19,7 @@ differ table first second a b =
     ⊎_elim
     (λ (e : table.k ≡ pos (1000000 + first)).
     ⊎_elim
-    (λ (f : table.k ≡ pos (1000000 + second)). same_scale table first second e f)
+    (λ (f : table.k ≡ pos (1000000 + second)). omega (arith, linear))
     (λ (f : (table.k ≡ pos 0) × IsGreatestSize table (2 ^ 40 + second)). absurd (no_ray table first e f.0))
     b)
     (λ (e : (table.k ≡ pos 0) × IsGreatestSize table (2 ^ 40 + first)).

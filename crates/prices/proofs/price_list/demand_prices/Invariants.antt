@@ -1,6 +1,5 @@
 -- The periods before have their prices.
-use Rattle.std.proofs.Common.{◌≡◌, length}
-use Rattle.std.specs.Prelude.{All}
+use Rattle.std.proofs.Common.{◌≡◌, length, All}
 use Rattle.dual_model.specs.Prices.{IsPrice}
 use Rattle.prices.proofs.price_list.demand_prices.Given as goal
 

@@ -1,7 +1,5 @@
 -- The row at the cell's place is the cell's, or no row is.
-use Rattle.std.proofs.Common.{◌≡◌, ◌<◌, length, sym, ap, ◌∙◌, add-one, arith, to_z, of_z, w64}
-use Rattle.std.specs.Prelude.{IsTrue}
-use Rattle.std.proofs.lemmas.Bool.{true≢false}
+use Rattle.std.proofs.Common.{◌≡◌, ◌<◌, length, sym, ap, ◌∙◌, add-one, arith, to_z, of_z, w64, IsTrue, true≢false}
 use Rattle.std.proofs.lemmas.Int.{to_z-of_z}
 use Rattle.dual_model.specs.Prices.{row_of}
 use Rattle.dual_model.specs.declared.table.RampRow.{RampRow}

@@ -1,15 +1,10 @@
 -- One period more.
-use Rattle.std.proofs.Common.{◌≡◌, ℕ, suc, ◌+◌, ◌<◌, ◌≢◌, ◌⊎◌, ⊎_elim, List, length, add-one, arith, sym, subst, ℤ, get_or-set_other, get_or-set_same}
-use Rattle.std.specs.Prelude.{slice_set}
-use Rattle.std.proofs.lemmas.List.{length-set}
+use Rattle.std.proofs.Common.{◌≡◌, ℕ, suc, ◌+◌, ◌<◌, ◌≢◌, ◌⊎◌, ⊎_elim, List, length, add-one, arith, sym, subst, ℤ, get_or-set_other, get_or-set_same, slice_set, length-set}
 use Rattle.dual_model.specs.TableValue.{row_at}
 use Rattle.dual_model.specs.declared.table.Table.{Table}
 use Rattle.ramp_duals.specs.RampRows.{AreOf, IsRowOf}
 use Rattle.ramp_duals.proofs.PriceSizes.{row-size}
 use Rattle.ramp_duals.proofs.prices.fill.Goals as goal
-
-here_or_before : (i t : ℕ) → i < t + 1 → (i < t) ⊎ (i ≡ t)
-here_or_before i t h = grind arith
 
 more_rows : (table : Table) (g t : ℕ) (rows : List (ℤ × ℤ × ℤ)) (row : ℤ × ℤ × ℤ) → t < length rows → IsRowOf table g t row
     → ((k : ℕ) → k < t → IsRowOf table g k (row_at rows k))
@@ -19,7 +14,7 @@ more_rows table g t rows row inside is before k h =
     (λ (earlier : k < t). let other : k ≢ t = omega arith in rw get_or-set_other (before k earlier))
     (λ (here : k ≡ t).
     subst (λ j. IsRowOf table g j (row_at (slice_set rows t row) j)) (sym here) (rw get_or-set_same is))
-    (here_or_before k t h)
+    (grind arith)
 
 pub loop-t-preserved : goal.loop-t-preserved
 loop-t-preserved c =

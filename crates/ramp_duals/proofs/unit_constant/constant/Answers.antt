@@ -1,6 +1,5 @@
 -- One period more, and the initial output at the end.
-use Rattle.std.proofs.Common.{◌≡◌, ℕ, suc, ◌+◌, ◌*◌, ◌^◌, ◌≤◌, length, add-one, sym, ap, subst, ◌∙◌, lit<, arith, ◌+ℤ◌, ◌-ℤ◌, ◌*ℤ◌, to_z, of_z}
-use Rattle.std.specs.Prelude.{neg_ℤ, unsigned_abs}
+use Rattle.std.proofs.Common.{◌≡◌, ℕ, suc, ◌+◌, ◌*◌, ◌^◌, ◌≤◌, length, add-one, sym, ap, subst, ◌∙◌, lit<, arith, ◌+ℤ◌, ◌-ℤ◌, ◌*ℤ◌, to_z, of_z, neg_ℤ, unsigned_abs}
 use Rattle.std.specs.Int.{w128}
 use Rattle.uc_model.specs.Commitment.{initial_p}
 use Rattle.uc_model.specs.Sums.{sum_below}

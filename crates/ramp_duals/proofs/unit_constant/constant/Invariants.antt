@@ -1,6 +1,5 @@
 -- The sum over the periods before t, its size, and the multipliers of period t.
-use Rattle.std.proofs.Common.{◌≡◌, ◌*◌, ◌^◌, ◌≤◌, ◌-ℤ◌, ◌*ℤ◌, neg_ℤ}
-use Rattle.std.specs.Prelude.{unsigned_abs}
+use Rattle.std.proofs.Common.{◌≡◌, ◌*◌, ◌^◌, ◌≤◌, ◌-ℤ◌, ◌*ℤ◌, neg_ℤ, unsigned_abs}
 use Rattle.uc_model.specs.Sums.{sum_below}
 use Rattle.dual_model.specs.Prices.{up_at, down_at}
 use Rattle.ramp_duals.specs.RampRows.{AreOf}

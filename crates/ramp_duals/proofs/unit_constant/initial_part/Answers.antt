@@ -1,6 +1,5 @@
 -- The difference has 65 bits, and the initial output fewer than 46.
-use Rattle.std.proofs.Common.{◌*◌, ◌^◌, ◌≤◌, lit<, arith}
-use Rattle.std.specs.Prelude.{unsigned_abs}
+use Rattle.std.proofs.Common.{◌*◌, ◌^◌, ◌≤◌, lit<, arith, unsigned_abs}
 use Rattle.uc_model.specs.declared.limits.TheConstants.{MAX_POWER}
 use Rattle.uc_model.proofs.Sizes.{from-size, product-fits, product-size, wide-size}
 use Rattle.ramp_duals.proofs.unit_constant.initial_part.Goals as goal

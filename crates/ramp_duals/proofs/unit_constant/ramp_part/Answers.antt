@@ -1,12 +1,8 @@
 -- The products, taken away from nothing.
-use Rattle.std.proofs.Common.{◌≡◌, ◌^◌, ◌≤◌, ◌∙◌, lit<, arith, ℤ, pos, ◌+ℤ◌, ◌-ℤ◌}
-use Rattle.std.specs.Prelude.{neg_ℤ, unsigned_abs}
+use Rattle.std.proofs.Common.{◌^◌, ◌≤◌, ◌∙◌, lit<, arith, pos, unsigned_abs}
 use Rattle.std.proofs.lemmas.Int.{ints}
 use Rattle.uc_model.proofs.Sizes.{difference-is, difference-size, sum-is, sum-size, wide, wide-size}
 use Rattle.ramp_duals.proofs.unit_constant.ramp_part.Goals as goal
-
-taken_away : (rise fall both all a b : ℤ) → rise ≡ a → fall ≡ b → both ≡ rise +ℤ fall → all ≡ pos 0 -ℤ both → all ≡ neg_ℤ a -ℤ b
-taken_away rise fall both all a b d e f h = omega (arith, ints)
 
 pub returns-clause-value : goal.returns-clause-value
 returns-clause-value c =
@@ -16,8 +12,7 @@ returns-clause-value c =
     let all = difference-is (pos 0) c.sum.result c.difference.result 0 (2 ^ 108) c.difference.ensures (omega arith) size (lit< tt) in
     let all_size = difference-size (pos 0) c.sum.result c.difference.result 0 (2 ^ 108) c.difference.ensures (omega arith) size in
     wide c.difference.result (2 ^ 108) all_size (lit< tt)
-    ∙ taken_away c.priced-rise.result c.priced-fall.result c.sum.result c.difference.result _ _
-    c.priced-rise.ensures.value c.priced-fall.ensures.value both all
+    ∙ (omega (arith, ints, c.priced-rise.ensures.value, c.priced-fall.ensures.value))
 
 pub returns-clause-size : goal.returns-clause-size
 returns-clause-size c =

@@ -1,6 +1,5 @@
 -- The rule holds in each of the periods so far.
-use Rattle.std.proofs.Common.{ℕ, ◌<◌}
-use Rattle.std.specs.Prelude.{IsTrue}
+use Rattle.std.proofs.Common.{ℕ, ◌<◌, IsTrue}
 use Rattle.schedule_check.specs.WholeWatts.{demand_holds}
 use Rattle.schedule_check.proofs.balance.first_unbalanced.Given as goal
 

@@ -1,6 +1,5 @@
 -- The sum over the units so far, and its size.
-use Rattle.std.proofs.Common.{◌≡◌, ◌*◌, ◌≤◌}
-use Rattle.std.specs.Prelude.{unsigned_abs}
+use Rattle.std.proofs.Common.{◌≡◌, ◌*◌, ◌≤◌, unsigned_abs}
 use Rattle.uc_model.specs.Sums.{sum_below}
 use Rattle.schedule_check.specs.inside.Supplies.{given_at}
 use Rattle.schedule_check.specs.declared.balance.TheConstants.{MOST_OUTPUT}

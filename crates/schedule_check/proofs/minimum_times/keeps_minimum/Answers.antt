@@ -1,6 +1,5 @@
 -- The sum over the window is the difference of two counts.
-use Rattle.std.proofs.Common.{ap, ◌∙◌, arith}
-use Rattle.std.specs.Prelude.{nat_le}
+use Rattle.std.proofs.Common.{ap, ◌∙◌, arith, nat_le}
 use Rattle.schedule_check.proofs.Counting.{keeps}
 use Rattle.schedule_check.proofs.minimum_times.keeps_minimum.Goals as goal
 

@@ -1,6 +1,5 @@
 -- The sum over the periods so far, and its size.
-use Rattle.std.proofs.Common.{◌≡◌, ◌*◌, ◌≤◌}
-use Rattle.std.specs.Prelude.{unsigned_abs}
+use Rattle.std.proofs.Common.{◌≡◌, ◌*◌, ◌≤◌, unsigned_abs}
 use Rattle.uc_model.specs.Sums.{sum_below}
 use Rattle.uc_model.specs.PrintedSchedule.{printed_cell_cost}
 use Rattle.schedule_check.specs.WholeWatts.{cell}

@@ -1,6 +1,5 @@
 -- The test holds in each of the periods so far.
-use Rattle.std.proofs.Common.{ℕ, ◌<◌}
-use Rattle.std.specs.Prelude.{IsTrue}
+use Rattle.std.proofs.Common.{ℕ, ◌<◌, IsTrue}
 use Rattle.schedule_check.specs.WholeWatts.{is_output_within}
 use Rattle.schedule_check.proofs.renewable.first_period.Given as goal
 

@@ -1,6 +1,5 @@
 -- The rule holds for each of the units so far.
-use Rattle.std.proofs.Common.{ℕ, ◌<◌}
-use Rattle.std.specs.Prelude.{IsTrue}
+use Rattle.std.proofs.Common.{ℕ, ◌<◌, IsTrue}
 use Rattle.schedule_check.specs.WholeWatts.{renewable_range_at}
 use Rattle.schedule_check.proofs.renewable.first_place.Given as goal
 

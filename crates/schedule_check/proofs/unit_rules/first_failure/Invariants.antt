@@ -1,6 +1,5 @@
 -- The test holds in each of the periods so far.
-use Rattle.std.proofs.Common.{ℕ, ◌<◌, length}
-use Rattle.std.specs.Prelude.{IsTrue}
+use Rattle.std.proofs.Common.{ℕ, ◌<◌, length, IsTrue}
 use Rattle.schedule_check.specs.WholeWatts.{unit_holds}
 use Rattle.schedule_check.proofs.unit_rules.first_failure.Given as goal
 

@@ -1,6 +1,5 @@
 -- The rule holds for each of the units so far.
-use Rattle.std.proofs.Common.{ℕ, ◌<◌}
-use Rattle.std.specs.Prelude.{IsTrue}
+use Rattle.std.proofs.Common.{ℕ, ◌<◌, IsTrue}
 use Rattle.uc_model.specs.Schedule.{thermal_unit}
 use Rattle.schedule_check.specs.WholeWatts.{row_of, unit_holds, unit_periods}
 use Rattle.schedule_check.proofs.unit_rules.first_place.Given as goal

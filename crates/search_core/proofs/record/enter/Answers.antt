@@ -2,8 +2,7 @@
 use Rattle.std.proofs.Common.{◌≡◌, length, ap, ◌∙◌, arith, rules}
 use Rattle.std.specs.Int.{int_max}
 use Rattle.std.proofs.lemmas.List.{get_or_read}
-use Rattle.search_core.specs.declared.notes.Note.{Note}
-use Rattle.search_core.specs.Notes.{no_note, with_note}
+use Rattle.search_core.specs.Notes.{Note, no_note, with_note}
 use Rattle.search_core.proofs.Undone.{note_put_back}
 use Rattle.search_core.proofs.Scales.{note_entered}
 use Rattle.search_core.proofs.record.enter.Goals as goal

@@ -1,8 +1,7 @@
 -- What was put into the hand was taken off again.
 use Rattle.std.proofs.Common.{length, ap, ◌∙◌, arith}
 use Rattle.std.proofs.lemmas.List.{get_or_read}
-use Rattle.search_core.specs.declared.desk.Desk.{Desk}
-use Rattle.search_core.specs.Machine.{no_desk}
+use Rattle.search_core.specs.Machine.{Desk, no_desk}
 use Rattle.search_core.proofs.Undone.{desk_put_back}
 use Rattle.search_core.proofs.record.record.Goals as goal
 

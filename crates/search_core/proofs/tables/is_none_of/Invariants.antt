@@ -1,6 +1,5 @@
 -- None of the tables so far is this one.
-use Rattle.std.proofs.Common.{◌≢◌, ℕ, ◌<◌, get_or, Some}
-use Rattle.std.specs.Prelude.{slice_get}
+use Rattle.std.proofs.Common.{◌≢◌, ℕ, ◌<◌, get_or, Some, slice_get}
 use Rattle.search_core.proofs.tables.is_none_of.Given as goal
 
 abbrev pub invariant-loop-number : goal.invariant-loop-number

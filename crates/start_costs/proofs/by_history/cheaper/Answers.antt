@@ -1,8 +1,6 @@
 -- Category s + 1 is the cheapest of those above s where it is allowed and no dearer than the cheapest of the
 -- later ones, and else that one is.
-use Rattle.std.proofs.Common.{◌≡◌, ℕ, suc, ◌<◌, ◌⊎◌, ⊎_elim, sym, ap, subst, ◌∙◌, arith, ℤ, ◌≤ℤ◌, ◌<ℤ◌}
-use Rattle.std.specs.Prelude.{IsTrue}
-use Rattle.std.proofs.lemmas.Bool.{true≢false}
+use Rattle.std.proofs.Common.{◌≡◌, ℕ, suc, ◌<◌, ◌⊎◌, ⊎_elim, sym, ap, subst, ◌∙◌, arith, ℤ, ◌≤ℤ◌, ◌<ℤ◌, IsTrue, true≢false}
 use Rattle.std.proofs.lemmas.Int.{ints, to_z-of_z}
 use Rattle.uc_model.specs.Commitment.{Commitment}
 use Rattle.uc_model.specs.PatternBits.{commitment_of}
@@ -15,18 +13,6 @@ use Rattle.start_costs.proofs.by_history.cheaper.Goals.{else-is_allowed-via-then
 next_or_later : (s j : ℕ) → s < j → (j ≡ suc s) ⊎ (suc s < j)
 next_or_later s j h = grind arith
 
-le_through : (a b c : ℤ) → a ≤ℤ b → b ≤ℤ c → a ≤ℤ c
-le_through a b c h k = omega (arith, ints)
-
-lt-le : (a b : ℤ) → a <ℤ b → a ≤ℤ b
-lt-le a b h = omega (arith, ints)
-
-le_at : (a b c : ℤ) → a ≡ b → b ≡ c → a ≤ℤ c
-le_at a b c h k = omega (arith, ints)
-
-lt_at : (a b c : ℤ) → a <ℤ b → b ≡ c → a <ℤ c
-lt_at a b c h k = omega (arith, ints)
-
 with_next : (unit : Thermal) (on : Commitment) (t s : ℕ) (own least : ℕ × ℤ)
     → own.0 ≡ suc s → own.1 ≡ category_cost unit (suc s) → IsTrue (is_category_allowed unit on (suc s) t)
     → own.1 ≤ℤ least.1 → IsCheapestAbove unit on t (suc s) least → IsCheapestAbove unit on t s own
@@ -35,8 +21,8 @@ with_next unit on t s own least number cost allowed low later = record {
   allowed = subst (λ k. IsTrue (is_category_allowed unit on k t)) (sym number) allowed;
   cost = cost ∙ ap (λ k. category_cost unit k) (sym number);
   cheapest = λ j above h. ⊎_elim
-      (λ (same : j ≡ suc s). le_at _ _ _ cost (ap (λ k. category_cost unit k) (sym same)))
-      (λ (beyond : suc s < j). le_through _ _ _ low (later.cheapest j beyond h))
+      (λ (same : j ≡ suc s). omega (arith, ints, ap (λ k. category_cost unit k) (sym same)))
+      (λ (beyond : suc s < j). omega (arith, ints, low, later.cheapest j beyond h))
       (next_or_later s j above);
   first = λ j above below h. absurd (omega (arith, number));
 }
@@ -49,7 +35,7 @@ without_next unit on t s least dearer later = record {
   allowed = later.allowed;
   cost = later.cost;
   cheapest = λ j above h. ⊎_elim
-      (λ (same : j ≡ suc s). lt-le _ _ (at_next j same h))
+      (λ (same : j ≡ suc s). omega (arith, ints, at_next j same h))
       (λ (beyond : suc s < j). later.cheapest j beyond h)
       (next_or_later s j above);
   first = λ j above below h. ⊎_elim
@@ -60,7 +46,7 @@ without_next unit on t s least dearer later = record {
   where
     at_next : (j : ℕ) → j ≡ suc s → IsTrue (is_category_allowed unit on j t) → least.1 <ℤ category_cost unit j
     at_next j same h =
-        lt_at _ _ _ (dearer (subst (λ k. IsTrue (is_category_allowed unit on k t)) same h)) (ap (λ k. category_cost unit k) (sym same))
+        omega (arith, ints, dearer (subst (λ k. IsTrue (is_category_allowed unit on k t)) same h), ap (λ k. category_cost unit k) (sym same))
 
 pub returns-then-own-least : goal.returns-then-own-least
 returns-then-own-least c =
@@ -79,6 +65,6 @@ returns-else-is_allowed c =
         → c.args.least.1 <ℤ category_cost c.args.unit.now (suc c.args.s)
     dearer h = elim c.else-is_allowed.branch [
       | else-is_allowed-via-then-is_allowed+else-own-least w ↦ let above : c.args.least.1 <ℤ c.category-own.result.1 = grind (arith, ints, to_z-of_z) in
-          lt_at _ _ _ above c.category-own.ensures.cost
+          omega (arith, ints, c.category-own.ensures.cost)
       | else-is_allowed-via-else-is_allowed w ↦ absurd (true≢false (sym h ∙ sym c.is_allowed.ensures ∙ w.if-is_allowed.false))
     ]

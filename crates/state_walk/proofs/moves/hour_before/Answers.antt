@@ -1,27 +1,14 @@
 -- The hour's cost, of a term that is there.
-use Rattle.std.proofs.Common.{◌≡◌, lit<, arith, rules, sym, ap, subst, ◌∙◌, ℕ, suc, zero, ◌<◌, ◌-◌, ◌≤◌, ◌-ℤ◌, ◌*ℤ◌, ℤ, pos, to_z, of_z, FitsSigned}
-use Rattle.std.specs.Prelude.{Some, Bool, unsigned_abs, slice_index_or}
+use Rattle.std.proofs.Common.{◌≡◌, lit<, arith, rules, sym, ap, subst, ◌∙◌, ◌<◌, ◌-◌, ◌≤◌, ◌-ℤ◌, ◌*ℤ◌, pos, to_z, of_z, FitsSigned, Some, unsigned_abs, slice_index_or}
 use Rattle.std.specs.Int.{w128}
 use Rattle.std.proofs.lemmas.Int.{to_z-of_z}
 use Rattle.std.proofs.lemmas.Option.{MatchOption-at_some}
-use Rattle.uc_model.specs.declared.instance.Thermal.{Thermal}
-use Rattle.uc_model.specs.declared.terms.Terms.{Terms}
-use Rattle.uc_model.specs.declared.limits.TheConstants.{MAX_POWER}
+use Rattle.uc_model.specs.declared.limits.TheConstants.{MAX_POWER, MAX_TERM}
 use Rattle.uc_model.proofs.Sizes.{abs_narrow, narrow, wide, wide-size}
-use Rattle.uc_model.specs.declared.limits.TheConstants.{MAX_TERM}
 use Rattle.dual_model.specs.declared.limits.TheConstants.{MAX_UNIT_PRICE}
 use Rattle.uc_model.specs.Terms.{term_at, price_at, period_count}
-use Rattle.dual_model.specs.Moves.{hour_before, hour_cost}
+use Rattle.dual_model.proofs.Hourly.{hour-of_term}
 use Rattle.state_walk.proofs.moves.hour_before.Goals as goal
-
-made : (terms : Terms) (unit : Thermal) (t : ℕ) (start stop : Bool) (m : ℤ) → 0 < t
-    → term_at terms (t - 1) start stop ≡ Some m
-    → Some (m -ℤ price_at terms (t - 1) *ℤ unit.pmin) ≡ hour_before terms unit t start stop
-made terms unit zero start stop m h e = absurd (omega arith)
-made terms unit (suc t) start stop m h e =
-    let same : suc t - 1 ≡ t = omega arith in
-    (λ i. Some (m -ℤ price_at terms (same i) *ℤ unit.pmin))
-    ∙ ap (hour_cost terms unit t) (sym (ap (λ k. term_at terms k start stop) (sym same) ∙ e))
 
 pub hour_cost-requires : goal.hour_cost-requires
 hour_cost-requires c =
@@ -51,4 +38,4 @@ returns-in-Some c =
     ∙ (λ i. wide c.in-Some.term MAX_TERM size (lit< tt) i -ℤ price_is i *ℤ narrow c.args.unit.now.pmin MAX_POWER c.requires.lawful.minimum.power (lit< tt) i) in
     let result_fits : FitsSigned w128 c.hour_cost.result = search rules in
     ap Some (to_z-of_z w128 _ result_fits ∙ result_is)
-    ∙ made c.args.terms.now c.args.unit.now c.args.t c.args.start c.args.stop c.in-Some.term (omega (arith, c.if-t-eq0.false)) found
+    ∙ hour-of_term c.args.terms.now c.args.unit.now c.args.t c.args.start c.args.stop c.in-Some.term (omega (arith, c.if-t-eq0.false)) found

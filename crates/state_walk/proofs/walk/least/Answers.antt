@@ -1,6 +1,5 @@
 -- The table's answer is the recursion's from the beginning.
-use Rattle.std.proofs.Common.{◌≡◌, ℤ, subst, sym, ◌∙◌, arith}
-use Rattle.std.specs.Prelude.{Option, Some, None, IfSome, IfNone}
+use Rattle.std.proofs.Common.{◌≡◌, ℤ, subst, sym, ◌∙◌, arith, Option, Some, None, IfSome, IfNone}
 use Rattle.uc_model.specs.Limits.{IsLawfulThermal}
 use Rattle.uc_model.specs.declared.instance.Thermal.{Thermal}
 use Rattle.uc_model.specs.declared.terms.Terms.{Terms}

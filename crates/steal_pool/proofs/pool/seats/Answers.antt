@@ -1,5 +1,4 @@
-use Rattle.std.proofs.Common.{◌≡◌, ◌<◌, length, map, [], ap, ◌∙◌, sym, arith}
-use Rattle.std.specs.Prelude.{remove}
+use Rattle.std.proofs.Common.{◌≡◌, ◌<◌, length, map, [], ap, ◌∙◌, sym, arith, remove}
 use Rattle.std.proofs.lemmas.List.{length-map}
 use Rattle.steal_pool.specs.Seats.{untouched}
 use Rattle.steal_pool.specs.Ends.{own_id, victim_id}

@@ -1,6 +1,5 @@
 -- The product is as small as its parts allow.
-use Rattle.std.proofs.Common.{◌≤◌, ◌∙◌, lit<, ◌*ℤ◌}
-use Rattle.std.specs.Prelude.{unsigned_abs}
+use Rattle.std.proofs.Common.{◌≤◌, ◌∙◌, lit<, ◌*ℤ◌, unsigned_abs}
 use Rattle.uc_model.specs.declared.limits.TheConstants.{MAX_POWER}
 use Rattle.uc_model.proofs.Sizes.{narrow, scaled-size, wide, wide-size}
 use Rattle.dual_model.specs.declared.limits.TheConstants.{MAX_PRICE}

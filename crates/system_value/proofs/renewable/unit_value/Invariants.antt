@@ -1,6 +1,5 @@
 -- The sum over the periods so far, and its size.
-use Rattle.std.proofs.Common.{◌≡◌, ◌*◌, ◌≤◌}
-use Rattle.std.specs.Prelude.{unsigned_abs}
+use Rattle.std.proofs.Common.{◌≡◌, ◌*◌, ◌≤◌, unsigned_abs}
 use Rattle.uc_model.specs.Sums.{sum_below}
 use Rattle.dual_model.specs.NodeValue.{renewable_value}
 use Rattle.system_value.specs.Sizes.{MAX_CELL}

@@ -1,6 +1,5 @@
 -- It is as large as the product of the sizes.
-use Rattle.std.proofs.Common.{to_z, of_z}
-use Rattle.std.specs.Prelude.{unsigned_abs}
+use Rattle.std.proofs.Common.{to_z, of_z, unsigned_abs}
 use Rattle.std.specs.Int.{w128}
 use Rattle.std.proofs.lemmas.Int.{fits_signed_mul}
 use Rattle.uc_model.proofs.Sizes.{abs_wide}

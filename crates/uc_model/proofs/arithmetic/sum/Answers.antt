@@ -1,6 +1,5 @@
 -- It is no greater in size than the two sizes together.
-use Rattle.std.proofs.Common.{arith, ◌+ℤ◌, to_z, of_z}
-use Rattle.std.specs.Prelude.{unsigned_abs}
+use Rattle.std.proofs.Common.{arith, ◌+ℤ◌, to_z, of_z, unsigned_abs}
 use Rattle.std.specs.Int.{w128}
 use Rattle.std.proofs.lemmas.Int.{fits_signed_from_abs}
 use Rattle.uc_model.proofs.Sizes.{abs_add, abs_wide}

@@ -1,6 +1,5 @@
 -- The text is the minus and the size.
-use Rattle.std.proofs.Common.{◌+◌, ◌/◌, ◌<◌, ◌^◌, ◌++◌, length, unsigned_abs, sym, ◌∙◌, arith, to_z-of_z}
-use Rattle.std.proofs.lemmas.List.{length-append}
+use Rattle.std.proofs.Common.{◌+◌, ◌/◌, ◌<◌, ◌^◌, ◌++◌, length, unsigned_abs, sym, ◌∙◌, arith, to_z-of_z, length-append}
 use Rattle.uc_model.specs.Decimal.{minus_text}
 use Rattle.uc_model.specs.Money.{millionths_text, money_text}
 use Rattle.uc_model.proofs.MoneyText.{length-money_text-le}

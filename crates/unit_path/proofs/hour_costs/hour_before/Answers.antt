@@ -1,15 +1,13 @@
 -- The hour's cost, of a term that is there.
-use Rattle.std.proofs.Common.{◌≡◌, lit<, arith, sym, ap, subst, ◌∙◌, ◌<◌, ◌-◌, ◌≤◌, ◌-ℤ◌, ◌*ℤ◌, pos, to_z, of_z}
-use Rattle.std.specs.Prelude.{Some, unsigned_abs, slice_index_or}
+use Rattle.std.proofs.Common.{◌≡◌, lit<, arith, sym, ap, subst, ◌∙◌, ◌<◌, ◌-◌, ◌≤◌, ◌-ℤ◌, ◌*ℤ◌, pos, to_z, of_z, Some, unsigned_abs, slice_index_or}
 use Rattle.std.specs.Int.{w128}
-use Rattle.uc_model.specs.declared.limits.TheConstants.{MAX_POWER}
+use Rattle.uc_model.specs.declared.limits.TheConstants.{MAX_POWER, MAX_TERM}
 use Rattle.uc_model.proofs.Sizes.{abs_narrow, narrow, wide, wide-size}
-use Rattle.uc_model.specs.declared.limits.TheConstants.{MAX_TERM}
 use Rattle.dual_model.specs.declared.limits.TheConstants.{MAX_UNIT_PRICE}
 use Rattle.uc_model.specs.Terms.{term_at, price_at, period_count}
 use Rattle.dual_model.specs.CostToGo.{MAX_MOVE}
 use Rattle.interval_graph.specs.Intervals.{term_in}
-use Rattle.unit_path.proofs.Hourly.{hour-of_term}
+use Rattle.dual_model.proofs.Hourly.{hour-of_term}
 use Rattle.unit_path.proofs.hour_costs.hour_before.Goals as goal
 
 pub hour_cost-requires : goal.hour_cost-requires

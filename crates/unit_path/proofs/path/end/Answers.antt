@@ -1,7 +1,5 @@
 -- The last hour of a unit that is on, whose term is at the full cap.
-use Rattle.std.proofs.Common.{◌≡◌, length, false, refl, sym, ap, subst, ◌∙◌, arith, lit<}
-use Rattle.std.specs.Prelude.{Some}
-use Rattle.std.proofs.lemmas.Bool.{ne_eqb}
+use Rattle.std.proofs.Common.{◌≡◌, length, false, refl, sym, ap, subst, ◌∙◌, arith, lit<, Some, ne_eqb}
 use Rattle.uc_model.proofs.Sizes.{wide, wide-size}
 use Rattle.uc_model.specs.Terms.{period_count}
 use Rattle.dual_model.specs.CostToGo.{IsWithin, MAX_MOVE}

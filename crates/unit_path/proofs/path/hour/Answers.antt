@@ -1,6 +1,5 @@
 -- The entry of a period, from the later ones.
-use Rattle.std.proofs.Common.{◌≡◌, suc, ◌-◌, ◌≤◌, add-one, true, false, refl, sym, ap, subst, ◌∙◌, arith, lit<, ◌*ℤ◌, to_z, of_z}
-use Rattle.std.specs.Prelude.{Some, None, unsigned_abs}
+use Rattle.std.proofs.Common.{◌≡◌, suc, ◌-◌, ◌≤◌, add-one, true, false, refl, sym, ap, subst, ◌∙◌, arith, lit<, ◌*ℤ◌, to_z, of_z, Some, None, unsigned_abs}
 use Rattle.std.specs.Int.{w64, w128}
 use Rattle.uc_model.specs.StartCategory.{sigma}
 use Rattle.uc_model.specs.declared.limits.TheConstants.{MAX_COST}

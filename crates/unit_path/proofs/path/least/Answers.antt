@@ -1,6 +1,5 @@
 -- The least way is a pattern's, from whose way the clauses follow.
-use Rattle.std.proofs.Common.{◌≡◌, ◌≤◌, sym, ap, subst, ◌∙◌, lit<, arith, ℤ, to_z, of_z}
-use Rattle.std.specs.Prelude.{Option, Some, unsigned_abs}
+use Rattle.std.proofs.Common.{◌≡◌, ◌≤◌, sym, ap, subst, ◌∙◌, lit<, arith, ℤ, to_z, of_z, Option, Some, unsigned_abs}
 use Rattle.std.specs.Int.{w128}
 use Rattle.uc_model.specs.Limits.{IsLawfulThermal}
 use Rattle.uc_model.specs.declared.instance.Thermal.{Thermal}
@@ -14,8 +13,7 @@ use Rattle.dual_model.specs.CostToGo.{IsWithin, MAX_COST_TO_GO}
 use Rattle.dual_model.proofs.CostSizes.{cost_to_go-fits}
 use Rattle.dual_model.proofs.LeastValues.{from_start}
 use Rattle.unit_path.specs.inside.Ways.{IsWay}
-use Rattle.unit_path.specs.declared.hour.Choice.{Choice}
-use Rattle.unit_path.specs.inside.Choices.{choice_cost}
+use Rattle.unit_path.specs.inside.Choices.{Choice, choice_cost}
 use Rattle.unit_path.proofs.BestWays.{answer-at_table, answer-attained, answer-none, answer-pattern, answer-size, answer-value, answer-within, IsAnswer}
 use Rattle.unit_path.proofs.SizedRows.{sized-rows}
 use Rattle.unit_path.proofs.path.least.Goals as goal

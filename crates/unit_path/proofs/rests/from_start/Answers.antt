@@ -1,6 +1,5 @@
 -- A start cost is within its limit.
-use Rattle.std.proofs.Common.{◌≤◌, refl, subst, sym}
-use Rattle.std.specs.Prelude.{unsigned_abs}
+use Rattle.std.proofs.Common.{◌≤◌, refl, subst, sym, unsigned_abs}
 use Rattle.uc_model.specs.declared.limits.TheConstants.{MAX_COST}
 use Rattle.uc_model.proofs.Sizes.{from-size}
 use Rattle.uc_model.proofs.StartCosts.{sigma-size}

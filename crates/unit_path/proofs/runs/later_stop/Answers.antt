@@ -1,6 +1,5 @@
 -- The run goes on until it may end, or to a period in which the unit may not be on.
-use Rattle.std.proofs.Common.{◌≡◌, ◌+◌, ◌-◌, ◌⊎◌, true, ap, subst, ◌∙◌, arith, lit<}
-use Rattle.std.specs.Prelude.{None}
+use Rattle.std.proofs.Common.{◌≡◌, ◌+◌, ◌-◌, ◌⊎◌, true, ap, subst, ◌∙◌, arith, lit<, None}
 use Rattle.std.proofs.lemmas.Bool.{le-leb, lt-leb}
 use Rattle.uc_model.proofs.Sizes.{wide}
 use Rattle.dual_model.specs.CostToGo.{lesser_of, total_of, MAX_COST_TO_GO}

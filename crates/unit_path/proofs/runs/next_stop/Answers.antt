@@ -1,7 +1,5 @@
 -- A stop at once, or a run that goes on; at the end of the horizon the last hour.
-use Rattle.std.proofs.Common.{◌≡◌, suc, ◌-◌, length, true, false, refl, sym, ap, ◌∙◌, arith, lit<}
-use Rattle.std.specs.Prelude.{Some, None}
-use Rattle.std.proofs.lemmas.Bool.{eq-eqb}
+use Rattle.std.proofs.Common.{◌≡◌, suc, ◌-◌, length, true, false, refl, sym, ap, ◌∙◌, arith, lit<, Some, None, eq-eqb}
 use Rattle.uc_model.proofs.Sizes.{wide}
 use Rattle.dual_model.specs.Moves.{hour_before, move}
 use Rattle.dual_model.specs.CostToGo.{lesser_of, total_of, MAX_MOVE}

@@ -1,6 +1,5 @@
 -- One period more.
-use Rattle.std.proofs.Common.{◌≡◌, ◌+◌, ◌-◌, ◌≤◌, add-one, sym, subst, lit<, arith, ◌+ℤ◌, to_z, of_z}
-use Rattle.std.specs.Prelude.{true, Some, unsigned_abs}
+use Rattle.std.proofs.Common.{◌≡◌, ◌+◌, ◌-◌, ◌≤◌, add-one, sym, subst, lit<, arith, ◌+ℤ◌, to_z, of_z, true, Some, unsigned_abs}
 use Rattle.std.specs.Int.{w128}
 use Rattle.uc_model.proofs.Sizes.{wide}
 use Rattle.dual_model.specs.CostToGo.{IsWithin, MAX_MOVE}

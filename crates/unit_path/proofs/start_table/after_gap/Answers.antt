@@ -1,6 +1,5 @@
 -- The categories that the gap allows, after those without a stop.
-use Rattle.std.proofs.Common.{◌≡◌, suc, ◌-◌, add-one, sym, ap, subst, ◌∙◌, arith, rules, to_z, of_z, FitsSigned, length}
-use Rattle.std.specs.Prelude.{None, if◌then◌else◌}
+use Rattle.std.proofs.Common.{◌≡◌, suc, ◌-◌, add-one, sym, ap, subst, ◌∙◌, arith, rules, to_z, of_z, FitsSigned, length, None, if◌then◌else◌}
 use Rattle.std.specs.Int.{w64, int_min}
 use Rattle.std.proofs.lemmas.Int.{to_z-of_z}
 use Rattle.uc_model.specs.Sums.{least_below}

@@ -1,7 +1,6 @@
 -- What is told of the number of a leaf is told of the leaf.
-use Rattle.std.proofs.Common.{◌≡◌, ◌<◌, Bool, List, ℤ, length, sym, subst}
+use Rattle.std.proofs.Common.{◌≡◌, ◌<◌, Bool, List, ℤ, length, sym, subst, ◌↔◌, IfOk, IsTrue, Option, Result}
 use Rattle.std.proofs.lemmas.List.{get_or_read}
-use Rattle.std.specs.Prelude.{◌↔◌, IfOk, IsTrue, Option, Result}
 use Rattle.std.proofs.lemmas.Result.{IfOk-weaker}
 use Rattle.uc_model.specs.Schedule.{thermal_count}
 use Rattle.dual_model.specs.Fixings.{IsFixOf}

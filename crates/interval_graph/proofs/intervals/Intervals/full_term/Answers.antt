@@ -1,6 +1,5 @@
 -- There is a term at the full cap, within the limits.
-use Rattle.std.proofs.Common.{◌≡◌, ◌<◌, ◌≤◌, [], length, false, sym, subst, ap, ◌∙◌, ℤ}
-use Rattle.std.specs.Prelude.{Option, None, IfSome, unsigned_abs, slice_index_or}
+use Rattle.std.proofs.Common.{◌≡◌, ◌<◌, ◌≤◌, [], length, false, sym, subst, ap, ◌∙◌, ℤ, Option, None, IfSome, unsigned_abs, slice_index_or}
 use Rattle.std.proofs.lemmas.List.{get_or_read}
 use Rattle.uc_model.proofs.Sizes.{wide-size}
 use Rattle.uc_model.specs.declared.limits.TheConstants.{MAX_TERM}

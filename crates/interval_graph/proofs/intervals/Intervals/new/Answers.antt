@@ -1,6 +1,5 @@
 -- Each term is 0.
-use Rattle.std.proofs.Common.{◌≡◌, sym, subst, rules, pos}
-use Rattle.std.specs.Prelude.{Some, replicate}
+use Rattle.std.proofs.Common.{◌≡◌, sym, subst, rules, pos, Some, replicate}
 use Rattle.interval_graph.specs.Intervals.{AreTermRows}
 use Rattle.interval_graph.proofs.TermRows.{zero-rows}
 use Rattle.interval_graph.proofs.intervals.Intervals.new.Goals as goal

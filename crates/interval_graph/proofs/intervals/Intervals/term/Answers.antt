@@ -1,6 +1,5 @@
 -- The rows' invariant, read at the place.
-use Rattle.std.proofs.Common.{◌<◌, ◌≤◌, [], length, sym, subst}
-use Rattle.std.specs.Prelude.{None, IfSome, unsigned_abs, slice_index_or}
+use Rattle.std.proofs.Common.{◌<◌, ◌≤◌, [], length, sym, subst, None, IfSome, unsigned_abs, slice_index_or}
 use Rattle.std.proofs.lemmas.List.{get_or_read}
 use Rattle.uc_model.specs.declared.limits.TheConstants.{MAX_TERM}
 use Rattle.interval_graph.proofs.intervals.Intervals.term.Goals as goal

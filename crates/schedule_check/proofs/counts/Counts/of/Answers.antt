@@ -1,6 +1,5 @@
 -- A count is at most its index, and the next one is one more where there is a change.
-use Rattle.std.proofs.Common.{◌≤◌, subst, sym, arith, ◌∙◌}
-use Rattle.std.proofs.lemmas.List.{length-set}
+use Rattle.std.proofs.Common.{◌≤◌, subst, sym, arith, ◌∙◌, length-set}
 use Rattle.schedule_check.specs.inside.Changes.{change_at}
 use Rattle.schedule_check.specs.WholeWatts.{commitment}
 use Rattle.schedule_check.proofs.Counting.{count-le, counted, byte_is, one_more}

@@ -1,11 +1,9 @@
 -- The note tells of the entries, and the place of the table it stores.
-use Rattle.std.proofs.Common.{◌≡◌, ◌<◌, ap, sym, ◌∙◌, subst, arith, rules, length, []}
+use Rattle.std.proofs.Common.{◌≡◌, ◌<◌, ap, sym, ◌∙◌, subst, arith, rules, length, [], slice_get}
 use Rattle.branch_tree.specs.NumberedTree.{node_count}
-use Rattle.std.specs.Prelude.{slice_get}
 use Rattle.std.proofs.lemmas.List.{get_or_read, nil_from_length}
-use Rattle.search_core.specs.declared.notes.Note.{Note}
 use Rattle.search_core.specs.Machine.{Machine, entries_of}
-use Rattle.search_core.specs.Notes.{no_note, entry_tables}
+use Rattle.search_core.specs.Notes.{Note, no_note, entry_tables}
 use Rattle.search_core.specs.Steps.{IsStoredTable}
 use Rattle.search_core.proofs.Opened.{kept_note}
 use Rattle.search_core.proofs.Entries.{no_tables}

@@ -3,10 +3,9 @@ use Rattle.std.proofs.Common.{◌≡◌, ◌<◌, ◌↔◌, ℕ, List, ap, sym,
 use Rattle.std.proofs.lemmas.List.{get_or_read}
 use Rattle.dual_model.specs.declared.table.Table.{Table}
 use Rattle.branch_tree.specs.NumberedTree.{node_count}
-use Rattle.search_core.specs.declared.notes.Note.{Note}
 use Rattle.search_core.specs.declared.state.State.TheInside.{Inside}
 use Rattle.search_core.specs.Machine.{Machine, entries_of}
-use Rattle.search_core.specs.Notes.{no_note, note_in, entry_tables, AreScalesAtMost}
+use Rattle.search_core.specs.Notes.{Note, no_note, note_in, entry_tables, AreScalesAtMost}
 use Rattle.search_core.specs.Steps.{IsFresh}
 use Rattle.search_core.specs.Inside.{view_of, IsKept}
 use Rattle.search_core.proofs.Opened.{kept_note}

@@ -1,5 +1,4 @@
-use Rattle.std.proofs.Common.{ap, ◌∙◌, arith}
-use Rattle.std.specs.Prelude.{IfSome, IfNone}
+use Rattle.std.proofs.Common.{ap, ◌∙◌, arith, IfSome, IfNone}
 use Rattle.steal_pool.specs.Seats.{SeatOf, place_among, Takes, TakesNone}
 use Rattle.steal_pool.proofs.SeatLaws.{seat_place_within, theft_tells}
 use Rattle.steal_pool.proofs.seat.Seat.steal.Goals as goal

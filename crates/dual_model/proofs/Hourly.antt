@@ -1,6 +1,5 @@
 -- The hour before a period, of a term that is there.
-use Rattle.std.proofs.Common.{◌≡◌, ℕ, zero, suc, ◌-◌, ◌<◌, Bool, sym, ap, ◌∙◌, arith, ℤ, ◌-ℤ◌, ◌*ℤ◌}
-use Rattle.std.specs.Prelude.{Some}
+use Rattle.std.proofs.Common.{◌≡◌, ℕ, zero, suc, ◌-◌, ◌<◌, Bool, sym, ap, ◌∙◌, arith, ℤ, ◌-ℤ◌, ◌*ℤ◌, Some}
 use Rattle.uc_model.specs.declared.instance.Thermal.{Thermal}
 use Rattle.uc_model.specs.declared.terms.Terms.{Terms}
 use Rattle.uc_model.specs.Terms.{term_at, price_at}
