@@ -13,13 +13,13 @@ small-from-digits digits n short =
     let power : 10 ^ length (whole_text n) ≤ 10 ^ digits = pow-le-pow_right {n = 10} (omega arith) short in
     omega (arith, value, digits_value-whole_text n, power)
 
-pub digits-range : (digits n : ℕ) → 0 < digits → (length (whole_text n) ≤ digits) ↔ (n < 10 ^ digits)
-digits-range digits n some = (small-from-digits digits n, length-whole_text-le digits n some)
+pub digits_range : (digits n : ℕ) → 0 < digits → (length (whole_text n) ≤ digits) ↔ (n < 10 ^ digits)
+digits_range digits n some = (small-from-digits digits n, length-whole_text-le digits n some)
 
-pub money-range : (n : ℤ) → (length (whole_text (unsigned_abs n / 1000000)) + 6 ≤ 38) ↔ (unsigned_abs n < 10 ^ 38)
-money-range n =
+pub money_range : (n : ℤ) → (length (whole_text (unsigned_abs n / 1000000)) + 6 ≤ 38) ↔ (unsigned_abs n < 10 ^ 38)
+money_range n =
     let dollars = unsigned_abs n / 1000000 in
-    let range = digits-range 32 dollars (omega arith) in (
+    let range = digits_range 32 dollars (omega arith) in (
       λ short. let small : dollars < 10 ^ 32 = range.0 (omega arith) in omega arith,
       λ small. let few : length (whole_text dollars) ≤ 32 = range.1 (omega arith) in omega arith,
     )

@@ -1,5 +1,5 @@
 -- A form reads what it writes, and nothing else: the law of a long form from those of the short ones that it is made of.
-use Rattle.std.proofs.Common.{◌≡◌, ℕ, zero, suc, Bool, true, List, [], ◌∷◌, ◌++◌, length, drop, All, Option, Some, None, refl, sym, ap, subst, ◌∙◌, append_assoc, arith, cond, ⊎_elim, ◌⊎◌}
+use Rattle.std.proofs.Common.{◌≡◌, ℕ, zero, suc, Bool, true, List, [], ◌∷◌, ◌++◌, length, drop, All, Option, Some, None, refl, sym, ap, subst, ◌∙◌, append_assoc, arith, cond, inl, inr, ◌⊎◌}
 use Rattle.std.specs.Prelude.{nat_eq}
 use Rattle.std.specs.List.{flat_map, starts_with}
 use Rattle.std.proofs.lemmas.Bool.Decides.{Decides-eqb}
@@ -84,25 +84,36 @@ both-form {A} {B} {first} {second} {V} {W} {t} {s} {F} {G} h k follows = record 
       ∙ rw (h.again p.0 (s p.1 ++ rest) v.0 (follows p.1 rest v.1 g), k.again p.1 rest v.1 g) refl;
 }
 
--- the same form read as another type, which can be read back
+-- the same condition or text in other words
+pub form-as : {A : Type 0} {form : Form A} {V : A → Type 0} {t : A → List ℕ} {F : List ℕ → Type 0} → IsForm form V t F
+    → (W : A → Type 0) (s : A → List ℕ) → ((a : A) → V a → W a) → ((a : A) → W a → V a) → ((a : A) → V a → t a ≡ s a) → IsForm form W s F
+form-as {A} {form} {V} {t} {F} h W s there back same = record {
+  takes = λ bytes x e. let one = h.takes bytes x e in (there x.0 one.0, one.1 ∙ ap (λ text. text ++ x.1) (same x.0 one.0));
+  again = λ a rest w f. ap (λ text. form (text ++ rest)) (sym (same a (back a w))) ∙ h.again a rest (back a w) f;
+}
+
+-- the same form read as another type
+pub image-form : {A B : Type 0} {form : Form A} {V : A → Type 0} {t : A → List ℕ} {F : List ℕ → Type 0} → IsForm form V t F
+    → (f : A → B) (s : B → List ℕ) → ((a : A) → V a → t a ≡ s (f a)) → IsForm (mapped f form) (λ b. (a : A) × V a × (f a ≡ b)) s F
+image-form {A} {B} {form} {V} {t} {F} h f s same = record {
+  takes = λ bytes x e.
+      let b = bind_some (form bytes) (λ x. Some (f x.0, x.1)) x e in
+      let one = h.takes bytes b.0 b.1 in
+      subst (λ (x : B × List ℕ). ((a : A) × V a × (f a ≡ x.0)) × (bytes ≡ s x.0 ++ x.1)) (same_Some (f b.0.0, b.0.1) x b.2)
+      ((b.0.0, one.0, refl), one.1 ∙ ap (λ text. text ++ b.0.1) (same b.0.0 one.0));
+  again = λ b rest w follows.
+      ap (λ text. mapped f form (text ++ rest)) (ap s (sym w.2) ∙ sym (same w.0 w.1)) ∙ rw (h.again w.0 rest w.1 follows) (ap (λ (b : B). Some (b, rest)) w.2);
+}
+
+-- where the other type can be read back
 pub record IsRetold {A B : Type 0} (f : A → B) (g : B → A) (V : A → Type 0) (W : B → Type 0) (t : A → List ℕ) (s : B → List ℕ) : Type 0 where
   pub there : (a : A) → V a → W (f a) × (t a ≡ s (f a))
   pub back : (b : B) → W b → V (g b) × (f (g b) ≡ b)
 
 pub mapped-form : {A B : Type 0} {form : Form A} {V : A → Type 0} {t : A → List ℕ} {F : List ℕ → Type 0} → IsForm form V t F
     → (f : A → B) (g : B → A) (W : B → Type 0) (s : B → List ℕ) → IsRetold f g V W t s → IsForm (mapped f form) W s F
-mapped-form {A} {B} {form} {V} {t} {F} h f g W s retold = record {
-  takes = λ bytes x e.
-      let b = bind_some (form bytes) (λ x. Some (f x.0, x.1)) x e in
-      let one = h.takes bytes b.0 b.1 in
-      let there = retold.there b.0.0 one.0 in
-      subst (λ (x : B × List ℕ). W x.0 × (bytes ≡ s x.0 ++ x.1)) (same_Some (f b.0.0, b.0.1) x b.2)
-      (there.0, one.1 ∙ ap (λ text. text ++ b.0.1) there.1);
-  again = λ b rest w follows.
-      let back = retold.back b w in
-      let same : s b ≡ t (g b) = ap s (sym back.1) ∙ sym (retold.there (g b) back.0).1 in
-      ap (λ text. mapped f form (text ++ rest)) same ∙ rw (h.again (g b) rest back.0 follows) (ap (λ (b : B). Some (b, rest)) back.1);
-}
+mapped-form h f g W s retold =
+    form-as (image-form h f s (λ a v. (retold.there a v).1)) W s (λ b w. subst W w.2 (retold.there w.0 w.1).0) (λ b w. let back = retold.back b w in (g b, back.0, back.1)) (λ b v. refl)
 
 -- a test of what is read
 pub passing-form : {A : Type 0} {form : Form A} {V : A → Type 0} {t : A → List ℕ} {F : List ℕ → Type 0} → IsForm form V t F
@@ -114,14 +125,6 @@ passing-form {A} {form} {V} {t} {F} h test W there back = record {
       let passed = cond_some (test b.0.0) b.0 x b.2 in
       subst (λ (x : A × List ℕ). W x.0 × (bytes ≡ t x.0 ++ x.1)) passed.1 (there b.0.0 one.0 passed.0, one.1);
   again = λ a rest w f. rw (h.again a rest (back a w).0 f, (back a w).1) refl;
-}
-
--- the same condition or text in other words
-pub form-as : {A : Type 0} {form : Form A} {V : A → Type 0} {t : A → List ℕ} {F : List ℕ → Type 0} → IsForm form V t F
-    → (W : A → Type 0) (s : A → List ℕ) → ((a : A) → V a → W a) → ((a : A) → W a → V a) → ((a : A) → t a ≡ s a) → IsForm form W s F
-form-as {A} {form} {V} {t} {F} h W s there back same = record {
-  takes = λ bytes x e. let one = h.takes bytes x e in (there x.0 one.0, one.1 ∙ ap (λ text. text ++ x.1) (same x.0));
-  again = λ a rest w f. ap (λ text. form (text ++ rest)) (sym (same a)) ∙ h.again a rest (back a w) f;
 }
 
 -- the form so many times, where what follows it may be itself
@@ -147,11 +150,10 @@ times-form {A} {form} {V} {t} {F} h follows n = record { takes = taken n; again 
 
     read : (n : ℕ) (xs : List A) (rest : List ℕ) → (length xs ≡ n) × All V xs → F rest → times n form (flat_map t xs ++ rest) ≡ Some (xs, rest)
     read zero [] rest v f = refl
-    read zero (x ∷ xs) rest v f = absurd (omega arith)
-    read (suc n) [] rest v f = absurd (omega arith)
     read (suc n) (x ∷ xs) rest v f =
         ap (times (suc n) form) (append_assoc (t x) (flat_map t xs) rest)
         ∙ rw (h.again x (flat_map t xs ++ rest) (All-head V x xs v.1) (goes_on xs rest f), read n xs rest (omega arith, All-tail V x xs v.1) f) refl
+    read _ _ rest v f = absurd (omega arith)
 
 -- nothing stands for the value
 pub empty-form : {A : Type 0} (value : A) → IsForm (λ rest. Some (value, rest)) (λ a. a ≡ value) (λ _. []) Anything
@@ -160,33 +162,28 @@ empty-form {A} value = record {
   again = λ a rest v f. ap (λ (a : A). Some (a, rest)) (sym v);
 }
 
--- a form behind a text, or else another one, whose texts don't begin with this text
-pub record IsChoice {A : Type 0} (text : List ℕ) (V W U : A → Type 0) (t s u : A → List ℕ) : Type 0 where
-  pub first : (a : A) → V a → U a × (text ++ t a ≡ u a)
-  pub second : (a : A) → W a → U a × (s a ≡ u a)
-  pub cases : (a : A) → U a → V a ⊎ W a
-  pub apart : (a : A) (rest : List ℕ) → W a → text_at text (s a ++ rest) ≡ None
+-- made of a value, or another one
+abbrev pub IsChosen : {A B : Type 0} → (B → Type 0) → (B → A) → (A → Type 0) → A → Type 0
+IsChosen {A} {B} V f W a = ((b : B) × V b × (f b ≡ a)) ⊎ W a
 
-pub when-form : {A : Type 0} {form other : Form A} {V W U : A → Type 0} {t s u : A → List ℕ} → IsForm form V t Anything → IsForm other W s Anything
-    → (text : List ℕ) → IsChoice text V W U t s u → IsForm (λ bytes. when (text_at text bytes) form (other bytes)) U u Anything
-when-form {A} {form} {other} {V} {W} {U} {t} {s} {u} h k text choice = record { takes = λ bytes x e. taken bytes x (text_at text bytes) refl e; again = read }
+-- a form behind a text, read as another type, or else another form, whose texts don't begin with this text
+pub choice-form : {A B : Type 0} {form : Form B} {other : Form A} {V : B → Type 0} {W : A → Type 0} {t : B → List ℕ} {u : A → List ℕ} → IsForm form V t Anything → (f : B → A) → IsForm other W u Anything
+    → (text : List ℕ) → ((b : B) → V b → text ++ t b ≡ u (f b)) → ((a : A) (rest : List ℕ) → W a → text_at text (u a ++ rest) ≡ None)
+    → IsForm (λ bytes. when (text_at text bytes) (mapped f form) (other bytes)) (IsChosen V f W) u Anything
+choice-form {A} {B} {form} {other} {V} {W} {t} {u} h f k text same apart = record { takes = λ bytes x e. taken bytes x (text_at text bytes) refl e; again = read }
   where
-    taken : (bytes : List ℕ) (x : A × List ℕ) (o : Option (List ℕ)) → text_at text bytes ≡ o → when o form (other bytes) ≡ Some x → U x.0 × (bytes ≡ u x.0 ++ x.1)
-    taken bytes x None e f =
-        let one = k.takes bytes x f in
-        let there = choice.second x.0 one.0 in
-        (there.0, one.1 ∙ ap (λ text. text ++ x.1) there.1)
-    taken bytes x (Some rest) e f =
-        let one = h.takes rest x f in
-        let there = choice.first x.0 one.0 in
-        (there.0, text_at-takes text bytes rest e ∙ ap (λ rest. text ++ rest) one.1 ∙ sym (append_assoc text (t x.0) x.1) ∙ ap (λ text. text ++ x.1) there.1)
+    taken : (bytes : List ℕ) (x : A × List ℕ) (o : Option (List ℕ)) → text_at text bytes ≡ o → when o (mapped f form) (other bytes) ≡ Some x → IsChosen V f W x.0 × (bytes ≡ u x.0 ++ x.1)
+    taken bytes x None e g = let one = k.takes bytes x g in (inr one.0, one.1)
+    taken bytes x (Some rest) e g =
+        let b = bind_some (form rest) (λ y. Some (f y.0, y.1)) x g in
+        let one = h.takes rest b.0 b.1 in
+        subst (λ (x : A × List ℕ). IsChosen V f W x.0 × (bytes ≡ u x.0 ++ x.1)) (same_Some (f b.0.0, b.0.1) x b.2) (
+          inl (b.0.0, one.0, refl),
+          text_at-takes text bytes rest e ∙ ap (λ rest. text ++ rest) one.1 ∙ sym (append_assoc text (t b.0.0) b.0.1) ∙ ap (λ text. text ++ b.0.1) (same b.0.0 one.0),
+        )
 
-    read : (a : A) (rest : List ℕ) → U a → Anything rest → when (text_at text (u a ++ rest)) form (other (u a ++ rest)) ≡ Some (a, rest)
-    read a rest v f = ⊎_elim
-        (λ (one : V a).
-        let same : u a ++ rest ≡ text ++ (t a ++ rest) = ap (λ text. text ++ rest) (sym (choice.first a one).1) ∙ append_assoc text (t a) rest in
-        ap (λ bytes. when (text_at text bytes) form (other bytes)) same ∙ rw (text_at-again text (t a ++ rest)) (h.again a rest one f))
-        (λ (two : W a).
-        let same : u a ++ rest ≡ s a ++ rest = ap (λ text. text ++ rest) (sym (choice.second a two).1) in
-        ap (λ bytes. when (text_at text bytes) form (other bytes)) same ∙ rw (choice.apart a rest two) (k.again a rest two f))
-        (choice.cases a v)
+    read : (a : A) (rest : List ℕ) → IsChosen V f W a → Anything rest → when (text_at text (u a ++ rest)) (mapped f form) (other (u a ++ rest)) ≡ Some (a, rest)
+    read a rest (inl (b, v, e)) g =
+        let parts : u a ++ rest ≡ text ++ (t b ++ rest) = ap (λ a. u a ++ rest) (sym e) ∙ ap (λ text. text ++ rest) (sym (same b v)) ∙ append_assoc text (t b) rest in
+        ap (λ bytes. when (text_at text bytes) (mapped f form) (other bytes)) parts ∙ rw (text_at-again text (t b ++ rest), h.again b rest v g) (ap (λ (a : A). Some (a, rest)) e)
+    read a rest (inr w) g = rw (apart a rest w) (k.again a rest w g)

@@ -96,13 +96,13 @@ few-tables instance found whole =
     let same = length-map used (table_at found.tables) in
     omega (arith, length-each_once (stored_tables (tree_of found.tree)), length-stored_tables found.tree.nodes, whole.within, whole.countable)
 
-pub found-has-text : (instance : Instance) (found : Found) → IsLawfulInstance instance → IsWhole found.tree
+pub found_has_text : (instance : Instance) (found : Found) → IsLawfulInstance instance → IsWhole found.tree
     → CertificateHolds instance (certificate_of instance found)
     → IfSome (written_of found.schedule) (IsScheduleText instance.periods (thermal_count instance) (renewable_count instance))
     → IfSome (tree_bound found.tree) IsMoney
     → All (λ table. length table.ramps < 10 ^ 18) (written_tables found)
     → HasText (listing_of (certificate_of instance found))
-found-has-text instance found lawful whole holds schedule bound few = record {
+found_has_text instance found lawful whole holds schedule bound few = record {
   some_period = lawful.periods.0;
   periods = lawful.periods.1;
   thermal = lawful.thermal_units;

@@ -91,17 +91,12 @@ pub next_lawful : (kind : Symbol) (text : List ℕ) (next : List Symbol) → IsL
 next_lawful Version text next h p = subst AreLawful (sym p.1) (tt, tt)
 next_lawful Size text next h p =
     subst AreLawful (sym p.3) (tt, (p.1, both_lawful (replicate p.0.tables (Scale p.0)) (Node p.0 ∷ End ∷ []) (many_lawful p.0.tables (Scale p.0) p.1) (p.1, (tt, tt))))
-next_lawful Claim text next h p = subst AreLawful (sym p.3) tt
 next_lawful (Schedule size) text next h p = subst AreLawful (sym p.3) (rows p.0)
   where
     rows : (cost : Option ℤ) → AreLawful (schedule_rows size cost)
     rows None = tt
     rows (Some cost) = both_lawful (replicate size.thermal (ThermalRow size)) (replicate size.renewable (RenewableRow size)) (many_lawful size.thermal (ThermalRow size) h) (many_lawful size.renewable (RenewableRow size) h)
-next_lawful (ThermalRow size) text next h p = subst AreLawful (sym p.3) tt
-next_lawful (RenewableRow size) text next h p = subst AreLawful (sym p.3) tt
 next_lawful (Scale size) text next h p = subst AreLawful (sym p.3) (h, (h, (h, tt)))
-next_lawful (Pi size) text next h p = subst AreLawful (sym p.3) tt
-next_lawful (Mu size) text next h p = subst AreLawful (sym p.3) tt
 next_lawful (Ramps size) text next h p = subst AreLawful (sym p.3) (ramps_lawful size p.0 None h)
 next_lawful (Ramp size more before) text next h p = subst AreLawful (sym p.3) (ramps_lawful size more (Some p.0) h)
 next_lawful (Node size) text next h p = subst AreLawful (sym p.3) (behind p.0)
@@ -110,6 +105,7 @@ next_lawful (Node size) text next h p = subst AreLawful (sym p.3) (behind p.0)
     behind (LeafNode leaf) = tt
     behind (SplitNode g t) = (h, (h, tt))
 next_lawful End text next h p = subst AreLawful (sym p.1) tt
+next_lawful _ text next h p = subst AreLawful (sym p.3) tt
 
 -- ---- runs over the same bytes
 -- of two runs the second one goes on where the first ends

@@ -12,9 +12,9 @@ use Rattle.outside.specs.Lines.{line, list_line}
 use Rattle.cert_text.specs.TextConditions.{HasDigits, IsMoney, IsOnCell, IsOffCell, IsCellText, IsThermalRow, IsRenewableRow}
 use Rattle.cert_text.specs.CertificateText.{version_line, size_line, claim_line, cell_text, thermal_line, renewable_line, scale_line, prices_line, end_line}
 use Rattle.cert_text.specs.Grammar.{Sizes, AreSizes, schedule_line, ramp_count_line}
-use Rattle.cert_text.specs.inside.Forms.{Form, text_at, fixed, or_else, whole_at, signed_at, money_at, is_digit, ended, mapped}
+use Rattle.cert_text.specs.inside.Forms.{Form, text_at, after, fixed, or_else, whole_at, signed_at, money_at, is_digit, ended, mapped}
 use Rattle.cert_text.specs.inside.LineForms.{version_at, sizes_of, are_sizes, size_at, claim_at, schedule_at, on_cell, off_cell, on_cell_at, cell_at, row_at, scale_at, ramp_count_at, end_at}
-use Rattle.cert_text.proofs.FormLaws.{IsForm, Anything, text_at-takes, fixed-form, empty-form, after-form, ended-form, both-form, mapped-form, passing-form, form-as, times-form, when-form}
+use Rattle.cert_text.proofs.FormLaws.{IsForm, Anything, text_at-takes, fixed-form, empty-form, after-form, ended-form, both-form, image-form, mapped-form, passing-form, form-as, times-form, choice-form}
 use Rattle.cert_text.proofs.NumberLaws.{NoDigit, whole-form, signed-form, money-form}
 
 -- ---- lines of one number
@@ -39,11 +39,11 @@ last_money = ended-form money-form (codes "\n") (λ rest. refl)
 -- ---- the heading
 pub version-form : IsForm version_at (λ _. Unit {0}) (λ _. version_line 1) Anything
 unfolding version_at line
-version-form = form-as (fixed-form _ tt) (λ _. Unit {0}) (λ _. version_line 1) (λ a v. tt) (λ a v. refl) (λ a. rw (whole_text_digit 1 (omega arith)) refl)
+version-form = form-as (fixed-form _ tt) (λ _. Unit {0}) (λ _. version_line 1) (λ a v. tt) (λ a v. refl) (λ a v. rw (whole_text_digit 1 (omega arith)) refl)
 
 pub end-form : IsForm end_at (λ _. Unit {0}) (λ _. end_line) Anything
 unfolding end_at line
-end-form = form-as (fixed-form _ tt) (λ _. Unit {0}) (λ _. end_line) (λ a v. tt) (λ a v. refl) (λ a. refl)
+end-form = form-as (fixed-form _ tt) (λ _. Unit {0}) (λ _. end_line) (λ a v. tt) (λ a v. refl) (λ a v. refl)
 
 sizes_from_test : (size : Sizes) → are_sizes size ≡ true → AreSizes size
 sizes_from_test size e =
@@ -77,37 +77,25 @@ size-form =
     are_sizes AreSizes (λ size v e. sizes_from_test size e)
     (λ size w. ((omega (arith, w.periods), omega (arith, w.thermal), omega (arith, w.renewable), omega (arith, w.tables)), sizes_pass size w))
 
--- money, or nothing
+-- money that there is
 abbrev IsMoneyOf : Option ℤ → Type 0
-IsMoneyOf None = ⊥
-IsMoneyOf (Some z) = IsMoney z
+IsMoneyOf o = (z : ℤ) × IsMoney z × (Some z ≡ o)
 
-abbrev money_of : Option ℤ → ℤ
-money_of None = pos 0
-money_of (Some z) = z
+if_some : (o : Option ℤ) → IsMoneyOf o ⊎ (o ≡ None) → IfSome o IsMoney
+if_some o (inl v) = subst (λ (o : Option ℤ). IfSome o IsMoney) v.2 v.1
+if_some o (inr none) = rw none tt
 
-some_money : IsForm (mapped Some (ended money_at (codes "\n"))) IsMoneyOf (λ o. money_text (money_of o) ++ codes "\n") Anything
-some_money = mapped-form last_money Some money_of IsMoneyOf (λ o. money_text (money_of o) ++ codes "\n") (record { there = λ z v. (v, refl); back = back })
-  where
-    back : (o : Option ℤ) → IsMoneyOf o → IsMoney (money_of o) × (Some (money_of o) ≡ o)
-    back None w = absurd w
-    back (Some z) w = (w, refl)
+money_or_none : (o : Option ℤ) → IfSome o IsMoney → IsMoneyOf o ⊎ (o ≡ None)
+money_or_none None v = inr refl
+money_or_none (Some z) v = inl (z, v, refl)
 
 pub claim-form : IsForm claim_at (λ bound. IfSome bound IsMoney) claim_line Anything
 unfolding claim_at line text_at
-claim-form = when-form some_money (fixed-form (codes "claim infeasible\n") None) (codes "claim bound ") (record { first = first; second = second; cases = cases; apart = λ o rest w. refl })
+claim-form =
+    form-as (choice-form last_money Some infeasible (codes "claim bound ") (λ z v. refl) (λ o rest w. rw w refl)) (λ bound. IfSome bound IsMoney) claim_line if_some money_or_none (λ o v. refl)
   where
-    first : (o : Option ℤ) → IsMoneyOf o → IfSome o IsMoney × (codes "claim bound " ++ (money_text (money_of o) ++ codes "\n") ≡ claim_line o)
-    first None v = absurd v
-    first (Some z) v = (v, refl)
-
-    second : (o : Option ℤ) → o ≡ None → IfSome o IsMoney × (codes "claim infeasible\n" ≡ claim_line o)
-    second None w = (tt, refl)
-    second (Some z) w = absurd cc
-
-    cases : (o : Option ℤ) → IfSome o IsMoney → IsMoneyOf o ⊎ (o ≡ None)
-    cases None v = inr refl
-    cases (Some z) v = inl v
+    infeasible : IsForm (fixed (codes "claim infeasible\n") None) (λ o. o ≡ None) claim_line Anything
+    infeasible = form-as (fixed-form (codes "claim infeasible\n") None) (λ o. o ≡ None) claim_line (λ o v. v) (λ o w. w) (λ o v. rw v refl)
 
 none_from : {A : Type 0} (o : Option A) → ((a : A) → o ≡ Some a → ⊥) → o ≡ None
 none_from None h = refl
@@ -127,22 +115,29 @@ no_schedule_text z more rest r e =
     let same : bytes ≡ codes "schedule none\n" ++ r = text_at-takes (codes "schedule none\n") bytes r e in
     money_is_no_word z more rest (codes "one\n" ++ r) (ap (drop 9) same)
 
+abbrev money_line : Option ℤ → List ℕ
+money_line None = []
+money_line (Some z) = money_text z ++ codes "\n"
+
 pub schedule-form : IsForm schedule_at (λ cost. IfSome cost IsMoney) schedule_line Anything
 unfolding schedule_at line text_at
-schedule-form = when-form (empty-form None) (after-form some_money (codes "schedule ")) (codes "schedule none\n")
-    (record { first = first; second = second; cases = cases; apart = λ o rest w. none_from _ (λ r e. no_schedule_text (money_of o) (codes "\n") rest r e) })
+schedule-form =
+    form-as (choice-form (empty-form tt) (λ _. None) second (codes "schedule none\n") (λ _ v. refl) apart) (λ cost. IfSome cost IsMoney) schedule_line there back (λ o v. refl)
   where
-    first : (o : Option ℤ) → o ≡ None → IfSome o IsMoney × (codes "schedule none\n" ≡ schedule_line o)
-    first None v = (tt, refl)
-    first (Some z) v = absurd cc
+    second : IsForm (after (codes "schedule ") (mapped Some (ended money_at (codes "\n")))) IsMoneyOf schedule_line Anything
+    second = form-as (after-form (image-form last_money Some money_line (λ z v. refl)) (codes "schedule ")) IsMoneyOf schedule_line (λ o v. v) (λ o w. w)
+        (λ o v. subst (λ (o : Option ℤ). codes "schedule " ++ money_line o ≡ schedule_line o) v.2 refl)
 
-    second : (o : Option ℤ) → IsMoneyOf o → IfSome o IsMoney × (codes "schedule " ++ (money_text (money_of o) ++ codes "\n") ≡ schedule_line o)
-    second None w = absurd w
-    second (Some z) w = (w, refl)
+    apart : (o : Option ℤ) (rest : List ℕ) → IsMoneyOf o → text_at (codes "schedule none\n") (schedule_line o ++ rest) ≡ None
+    apart o rest v = subst (λ (o : Option ℤ). text_at (codes "schedule none\n") (schedule_line o ++ rest) ≡ None) v.2 (none_from _ (λ r e. no_schedule_text v.0 (codes "\n") rest r e))
 
-    cases : (o : Option ℤ) → IfSome o IsMoney → (o ≡ None) ⊎ IsMoneyOf o
-    cases None v = inl refl
-    cases (Some z) v = inr v
+    there : (o : Option ℤ) → ((b : Unit {0}) × (b ≡ tt) × (None ≡ o)) ⊎ IsMoneyOf o → IfSome o IsMoney
+    there o (inl v) = subst (λ (o : Option ℤ). IfSome o IsMoney) v.2 tt
+    there o (inr v) = if_some o (inl v)
+
+    back : (o : Option ℤ) → IfSome o IsMoney → ((b : Unit {0}) × (b ≡ tt) × (None ≡ o)) ⊎ IsMoneyOf o
+    back None v = inl (tt, refl, refl)
+    back (Some z) v = inr (z, v, refl)
 
 -- ---- cells
 pub spaced_signed : (digits : ℕ) → 0 < digits → (end : ℕ) → is_digit end ≡ false → IsForm (ended (signed_at digits) (end ∷ [])) (HasDigits digits) (λ z. signed_text z ++ end ∷ []) Anything
@@ -209,11 +204,11 @@ unfolding list_line
 row-form h first n = after-form (ended-form (times-form (after-form h (codes " ")) (λ a rest. refl) n) (codes "\n") (λ rest. refl)) first
 
 pub thermal-form : (periods : ℕ) → IsForm (row_at (codes "t") periods cell_at) (IsThermalRow periods) thermal_line Anything
-thermal-form periods = form-as (row-form cell-form (codes "t") periods) (IsThermalRow periods) thermal_line (λ row v. record { cells = v.0; written = v.1 }) (λ row w. (w.cells, w.written)) (λ row. refl)
+thermal-form periods = form-as (row-form cell-form (codes "t") periods) (IsThermalRow periods) thermal_line (λ row v. record { cells = v.0; written = v.1 }) (λ row w. (w.cells, w.written)) (λ row v. refl)
 
 pub renewable-form : (periods : ℕ) → IsForm (row_at (codes "w") periods (signed_at 15)) (IsRenewableRow periods) renewable_line Anything
 renewable-form periods =
-    form-as (row-form (signed-form 15 (omega arith)) (codes "w") periods) (IsRenewableRow periods) renewable_line (λ row v. record { outputs = v.0; written = v.1 }) (λ row w. (w.outputs, w.written)) (λ row. refl)
+    form-as (row-form (signed-form 15 (omega arith)) (codes "w") periods) (IsRenewableRow periods) renewable_line (λ row v. record { outputs = v.0; written = v.1 }) (λ row w. (w.outputs, w.written)) (λ row v. refl)
 
 pub prices-form : (word : List ℕ) (periods : ℕ) → IsForm (row_at word periods (signed_at 18)) (λ prices. (length prices ≡ periods) × All (HasDigits 18) prices) (prices_line word) Anything
 prices-form word periods = row-form (signed-form 18 (omega arith)) word periods

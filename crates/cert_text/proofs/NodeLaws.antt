@@ -1,5 +1,5 @@
 -- The forms of ramp rows and of nodes read their lines.
-use Rattle.std.proofs.Common.{◌≡◌, ◌≢◌, ℕ, suc, ◌^◌, ◌<◌, ◌≤◌, true, false, List, [], ◌∷◌, ◌++◌, Option, Some, None, ℤ, pos, refl, sym, ◌∙◌, append_assoc, arith, inl, inr, ⊎_elim, ◌⊎◌, not, ◌&&◌, ◌||◌, nat_eq, nat_lt}
+use Rattle.std.proofs.Common.{◌≡◌, ◌≢◌, ℕ, suc, ◌^◌, ◌<◌, ◌≤◌, true, false, List, [], ◌∷◌, ◌++◌, Option, Some, None, ℤ, pos, refl, sym, subst, ◌∙◌, append_assoc, arith, inl, inr, ⊎_elim, ◌⊎◌, not, ◌&&◌, ◌||◌, nat_eq, nat_lt}
 use Rattle.std.specs.Prelude.{IfSome, codes}
 use Rattle.std.specs.Ordering.{int_eq}
 use Rattle.std.proofs.lemmas.Bool.{false≢true, ltb-true, lt-ltb, eqb-true, eq-eqb, and_parts, and_from, or_cases, or_left, or_right, not-true, not_from_false, false_from_ne_true}
@@ -15,7 +15,7 @@ use Rattle.cert_text.specs.Nodes.{TreeNode, LeafNode, SplitNode, node_line, IsNo
 use Rattle.cert_text.specs.Grammar.{Sizes, AreSizes, IsRampAfter}
 use Rattle.cert_text.specs.inside.Forms.{text_at, when, ended, ordinal_at, mapped, after, is_digit}
 use Rattle.cert_text.specs.inside.LineForms.{ramp_row, rises, is_ramp, ramp_at, named_at, split_at, node_at}
-use Rattle.cert_text.proofs.FormLaws.{IsForm, Anything, after-form, ended-form, both-form, mapped-form, passing-form, when-form}
+use Rattle.cert_text.proofs.FormLaws.{IsForm, Anything, after-form, ended-form, both-form, image-form, mapped-form, passing-form, form-as, choice-form}
 use Rattle.cert_text.proofs.NumberLaws.{ordinal-form}
 use Rattle.cert_text.proofs.LineLaws.{spaced_signed}
 
@@ -105,177 +105,49 @@ split-form size lawful =
     (λ p v e. let both = and_parts (nat_lt p.0 size.thermal) (nat_lt p.1 size.periods) e in (ltb-true p.0 size.thermal both.0, ltb-true p.1 size.periods both.1))
     (λ p w. ((omega (arith, lawful.thermal), omega (arith, lawful.periods)), and_from (nat_lt p.0 size.thermal) (nat_lt p.1 size.periods) (lt-ltb p.0 size.thermal w.0) (lt-ltb p.1 size.periods w.1)))
 
--- the kinds of nodes, and the numbers in them
-abbrev IsBoundNode : ℕ → TreeNode → Type 0
-IsBoundNode count (LeafNode (Bound n)) = n < count
-IsBoundNode count (LeafNode (Ray n)) = ⊥
-IsBoundNode count (LeafNode (Empty n)) = ⊥
-IsBoundNode count (SplitNode g t) = ⊥
+-- a node made of a number that is small enough, and one of a unit and a period
+abbrev IsMade : (ℕ → TreeNode) → ℕ → TreeNode → Type 0
+IsMade make count node = (n : ℕ) × (n < count) × (make n ≡ node)
 
-abbrev IsRayNode : ℕ → TreeNode → Type 0
-IsRayNode count (LeafNode (Bound n)) = ⊥
-IsRayNode count (LeafNode (Ray n)) = n < count
-IsRayNode count (LeafNode (Empty n)) = ⊥
-IsRayNode count (SplitNode g t) = ⊥
+abbrev IsSplit : Sizes → TreeNode → Type 0
+IsSplit size node = (p : ℕ × ℕ) × ((p.0 < size.thermal) × (p.1 < size.periods)) × (SplitNode p.0 p.1 ≡ node)
 
-abbrev IsEmptyNode : ℕ → TreeNode → Type 0
-IsEmptyNode count (LeafNode (Bound n)) = ⊥
-IsEmptyNode count (LeafNode (Ray n)) = ⊥
-IsEmptyNode count (LeafNode (Empty n)) = n < count
-IsEmptyNode count (SplitNode g t) = ⊥
+abbrev IsEmptyOrSplit : Sizes → TreeNode → Type 0
+IsEmptyOrSplit size node = IsMade (λ n. LeafNode (Empty n)) size.thermal node ⊎ IsSplit size node
 
-abbrev IsSplitNode : ℕ → ℕ → TreeNode → Type 0
-IsSplitNode units periods (LeafNode leaf) = ⊥
-IsSplitNode units periods (SplitNode g t) = (g < units) × (t < periods)
-
-abbrev number_in : TreeNode → ℕ
-number_in (LeafNode (Bound n)) = n
-number_in (LeafNode (Ray n)) = n
-number_in (LeafNode (Empty n)) = n
-number_in (SplitNode g t) = g
-
-abbrev cell_in : TreeNode → ℕ × ℕ
-cell_in (LeafNode leaf) = (0, 0)
-cell_in (SplitNode g t) = (g, t)
-
-abbrev named_text : TreeNode → List ℕ
-named_text node = whole_text (suc (number_in node)) ++ codes "\n"
-
-bound-form : (count : ℕ) → count ≤ 4294967296 → IsForm (mapped (λ n. LeafNode (Bound n)) (named_at count)) (IsBoundNode count) named_text Anything
-bound-form count few = mapped-form (named-form count few) (λ n. LeafNode (Bound n)) number_in (IsBoundNode count) named_text (record { there = λ n v. (v, refl); back = back })
-  where
-    back : (node : TreeNode) → IsBoundNode count node → (number_in node < count) × (LeafNode (Bound (number_in node)) ≡ node)
-    back (LeafNode (Bound n)) w = (w, refl)
-    back (LeafNode (Ray n)) w = absurd w
-    back (LeafNode (Empty n)) w = absurd w
-    back (SplitNode g t) w = absurd w
-
-ray-form : (count : ℕ) → count ≤ 4294967296 → IsForm (mapped (λ n. LeafNode (Ray n)) (named_at count)) (IsRayNode count) named_text Anything
-ray-form count few = mapped-form (named-form count few) (λ n. LeafNode (Ray n)) number_in (IsRayNode count) named_text (record { there = λ n v. (v, refl); back = back })
-  where
-    back : (node : TreeNode) → IsRayNode count node → (number_in node < count) × (LeafNode (Ray (number_in node)) ≡ node)
-    back (LeafNode (Bound n)) w = absurd w
-    back (LeafNode (Ray n)) w = (w, refl)
-    back (LeafNode (Empty n)) w = absurd w
-    back (SplitNode g t) w = absurd w
-
-empty_unit-form : (count : ℕ) → count ≤ 4294967296 → IsForm (mapped (λ n. LeafNode (Empty n)) (named_at count)) (IsEmptyNode count) named_text Anything
-empty_unit-form count few = mapped-form (named-form count few) (λ n. LeafNode (Empty n)) number_in (IsEmptyNode count) named_text (record { there = λ n v. (v, refl); back = back })
-  where
-    back : (node : TreeNode) → IsEmptyNode count node → (number_in node < count) × (LeafNode (Empty (number_in node)) ≡ node)
-    back (LeafNode (Bound n)) w = absurd w
-    back (LeafNode (Ray n)) w = absurd w
-    back (LeafNode (Empty n)) w = (w, refl)
-    back (SplitNode g t) w = absurd w
-
-abbrev split_text : TreeNode → List ℕ
-split_text node = codes "split " ++ ((whole_text (suc (cell_in node).0) ++ codes " ") ++ (whole_text (suc (cell_in node).1) ++ codes "\n"))
-
-split_line-form : (size : Sizes) → AreSizes size → IsForm (mapped (λ p. SplitNode p.0 p.1) (after (codes "split ") (split_at size))) (IsSplitNode size.thermal size.periods) split_text Anything
-split_line-form size lawful = mapped-form (after-form (split-form size lawful) (codes "split ")) (λ p. SplitNode p.0 p.1) cell_in (IsSplitNode size.thermal size.periods) split_text (record { there = λ p v. (v, refl); back = back })
-  where
-    back : (node : TreeNode) → IsSplitNode size.thermal size.periods node → (((cell_in node).0 < size.thermal) × ((cell_in node).1 < size.periods)) × (SplitNode (cell_in node).0 (cell_in node).1 ≡ node)
-    back (LeafNode leaf) w = absurd w
-    back (SplitNode g t) w = (w, refl)
-
--- nodes but for those that come first
-abbrev IsUnitNode : Sizes → TreeNode → Type 0
-IsUnitNode size (LeafNode (Bound n)) = ⊥
-IsUnitNode size (LeafNode (Ray n)) = ⊥
-IsUnitNode size (LeafNode (Empty n)) = n < size.thermal
-IsUnitNode size (SplitNode g t) = (g < size.thermal) × (t < size.periods)
-
-abbrev IsLaterNode : Sizes → TreeNode → Type 0
-IsLaterNode size (LeafNode (Bound n)) = ⊥
-IsLaterNode size (LeafNode (Ray n)) = n < size.tables
-IsLaterNode size (LeafNode (Empty n)) = n < size.thermal
-IsLaterNode size (SplitNode g t) = (g < size.thermal) × (t < size.periods)
-
-split_text_is : (size : Sizes) (node : TreeNode) → IsSplitNode size.thermal size.periods node → split_text node ≡ node_line node
-unfolding line
-split_text_is size (LeafNode leaf) w = absurd w
-split_text_is size (SplitNode g t) w = simp append_assoc
-
-unit_node-form : (size : Sizes) → AreSizes size
-    → IsForm (λ bytes. when (text_at (codes "empty ") bytes) (mapped (λ n. LeafNode (Empty n)) (named_at size.thermal)) (mapped (λ p. SplitNode p.0 p.1) (after (codes "split ") (split_at size)) bytes))
-    (IsUnitNode size) node_line Anything
-unfolding line text_at
-unit_node-form size lawful =
-    when-form (empty_unit-form size.thermal (omega (arith, lawful.thermal))) (split_line-form size lawful) (codes "empty ") (record { first = first; second = second; cases = cases; apart = λ node rest w. refl })
-  where
-    first : (node : TreeNode) → IsEmptyNode size.thermal node → IsUnitNode size node × (codes "empty " ++ named_text node ≡ node_line node)
-    first (LeafNode (Bound n)) v = absurd v
-    first (LeafNode (Ray n)) v = absurd v
-    first (LeafNode (Empty n)) v = (v, refl)
-    first (SplitNode g t) v = absurd v
-
-    second : (node : TreeNode) → IsSplitNode size.thermal size.periods node → IsUnitNode size node × (split_text node ≡ node_line node)
-    second (LeafNode leaf) w = absurd w
-    second (SplitNode g t) w = (w, split_text_is size (SplitNode g t) w)
-
-    cases : (node : TreeNode) → IsUnitNode size node → IsEmptyNode size.thermal node ⊎ IsSplitNode size.thermal size.periods node
-    cases (LeafNode (Bound n)) v = absurd v
-    cases (LeafNode (Ray n)) v = absurd v
-    cases (LeafNode (Empty n)) v = inl v
-    cases (SplitNode g t) v = inr v
-
-later_node-form : (size : Sizes) → AreSizes size
-    → IsForm (λ bytes. when (text_at (codes "ray ") bytes) (mapped (λ n. LeafNode (Ray n)) (named_at size.tables))
-    (when (text_at (codes "empty ") bytes) (mapped (λ n. LeafNode (Empty n)) (named_at size.thermal)) (mapped (λ p. SplitNode p.0 p.1) (after (codes "split ") (split_at size)) bytes)))
-    (IsLaterNode size) node_line Anything
-unfolding line text_at
-later_node-form size lawful =
-    when-form (ray-form size.tables (omega (arith, lawful.tables))) (unit_node-form size lawful) (codes "ray ") (record { first = first; second = second; cases = cases; apart = apart })
-  where
-    first : (node : TreeNode) → IsRayNode size.tables node → IsLaterNode size node × (codes "ray " ++ named_text node ≡ node_line node)
-    first (LeafNode (Bound n)) v = absurd v
-    first (LeafNode (Ray n)) v = (v, refl)
-    first (LeafNode (Empty n)) v = absurd v
-    first (SplitNode g t) v = absurd v
-
-    second : (node : TreeNode) → IsUnitNode size node → IsLaterNode size node × (node_line node ≡ node_line node)
-    second (LeafNode (Bound n)) w = absurd w
-    second (LeafNode (Ray n)) w = absurd w
-    second (LeafNode (Empty n)) w = (w, refl)
-    second (SplitNode g t) w = (w, refl)
-
-    cases : (node : TreeNode) → IsLaterNode size node → IsRayNode size.tables node ⊎ IsUnitNode size node
-    cases (LeafNode (Bound n)) v = absurd v
-    cases (LeafNode (Ray n)) v = inl v
-    cases (LeafNode (Empty n)) v = inr v
-    cases (SplitNode g t) v = inr v
-
-    apart : (node : TreeNode) (rest : List ℕ) → IsUnitNode size node → text_at (codes "ray ") (node_line node ++ rest) ≡ None
-    apart (LeafNode (Bound n)) rest w = absurd w
-    apart (LeafNode (Ray n)) rest w = absurd w
-    apart (LeafNode (Empty n)) rest w = refl
-    apart (SplitNode g t) rest w = refl
+abbrev IsNoBound : Sizes → TreeNode → Type 0
+IsNoBound size node = IsMade (λ n. LeafNode (Ray n)) size.tables node ⊎ IsEmptyOrSplit size node
 
 pub node-form : (size : Sizes) → AreSizes size → IsForm (node_at size) (IsNodeWithin size.periods size.thermal size.tables) node_line Anything
 unfolding node_at line text_at
 node-form size lawful =
-    when-form (bound-form size.tables (omega (arith, lawful.tables))) (later_node-form size lawful) (codes "bound ") (record { first = first; second = second; cases = cases; apart = apart })
+    let table = named-form size.tables (omega (arith, lawful.tables)) in
+    let unit = named-form size.thermal (omega (arith, lawful.thermal)) in
+    let split = image-form (after-form (split-form size lawful) (codes "split ")) (λ p. SplitNode p.0 p.1) node_line (λ p v. simp append_assoc) in
+    let empty = choice-form unit (λ n. LeafNode (Empty n)) split (codes "empty ") (λ n v. refl) no_empty in
+    let ray = choice-form table (λ n. LeafNode (Ray n)) empty (codes "ray ") (λ n v. refl) no_ray in
+    form-as (choice-form table (λ n. LeafNode (Bound n)) ray (codes "bound ") (λ n v. refl) no_bound) (IsNodeWithin size.periods size.thermal size.tables) node_line within made (λ node v. refl)
   where
-    first : (node : TreeNode) → IsBoundNode size.tables node → IsNodeWithin size.periods size.thermal size.tables node × (codes "bound " ++ named_text node ≡ node_line node)
-    first (LeafNode (Bound n)) v = (v, refl)
-    first (LeafNode (Ray n)) v = absurd v
-    first (LeafNode (Empty n)) v = absurd v
-    first (SplitNode g t) v = absurd v
+    no_empty : (node : TreeNode) (rest : List ℕ) → IsSplit size node → text_at (codes "empty ") (node_line node ++ rest) ≡ None
+    no_empty node rest v = subst (λ (node : TreeNode). text_at (codes "empty ") (node_line node ++ rest) ≡ None) v.2 refl
 
-    second : (node : TreeNode) → IsLaterNode size node → IsNodeWithin size.periods size.thermal size.tables node × (node_line node ≡ node_line node)
-    second (LeafNode (Bound n)) w = absurd w
-    second (LeafNode (Ray n)) w = (w, refl)
-    second (LeafNode (Empty n)) w = (w, refl)
-    second (SplitNode g t) w = (w, refl)
+    no_ray : (node : TreeNode) (rest : List ℕ) → IsEmptyOrSplit size node → text_at (codes "ray ") (node_line node ++ rest) ≡ None
+    no_ray node rest (inl v) = subst (λ (node : TreeNode). text_at (codes "ray ") (node_line node ++ rest) ≡ None) v.2 refl
+    no_ray node rest (inr v) = subst (λ (node : TreeNode). text_at (codes "ray ") (node_line node ++ rest) ≡ None) v.2 refl
 
-    cases : (node : TreeNode) → IsNodeWithin size.periods size.thermal size.tables node → IsBoundNode size.tables node ⊎ IsLaterNode size node
-    cases (LeafNode (Bound n)) v = inl v
-    cases (LeafNode (Ray n)) v = inr v
-    cases (LeafNode (Empty n)) v = inr v
-    cases (SplitNode g t) v = inr v
+    no_bound : (node : TreeNode) (rest : List ℕ) → IsNoBound size node → text_at (codes "bound ") (node_line node ++ rest) ≡ None
+    no_bound node rest (inl v) = subst (λ (node : TreeNode). text_at (codes "bound ") (node_line node ++ rest) ≡ None) v.2 refl
+    no_bound node rest (inr (inl v)) = subst (λ (node : TreeNode). text_at (codes "bound ") (node_line node ++ rest) ≡ None) v.2 refl
+    no_bound node rest (inr (inr v)) = subst (λ (node : TreeNode). text_at (codes "bound ") (node_line node ++ rest) ≡ None) v.2 refl
 
-    apart : (node : TreeNode) (rest : List ℕ) → IsLaterNode size node → text_at (codes "bound ") (node_line node ++ rest) ≡ None
-    apart (LeafNode (Bound n)) rest w = absurd w
-    apart (LeafNode (Ray n)) rest w = refl
-    apart (LeafNode (Empty n)) rest w = refl
-    apart (SplitNode g t) rest w = refl
+    within : (node : TreeNode) → IsMade (λ n. LeafNode (Bound n)) size.tables node ⊎ IsNoBound size node → IsNodeWithin size.periods size.thermal size.tables node
+    within node (inl v) = subst (IsNodeWithin size.periods size.thermal size.tables) v.2 v.1
+    within node (inr (inl v)) = subst (IsNodeWithin size.periods size.thermal size.tables) v.2 v.1
+    within node (inr (inr (inl v))) = subst (IsNodeWithin size.periods size.thermal size.tables) v.2 v.1
+    within node (inr (inr (inr v))) = subst (IsNodeWithin size.periods size.thermal size.tables) v.2 v.1
+
+    made : (node : TreeNode) → IsNodeWithin size.periods size.thermal size.tables node → IsMade (λ n. LeafNode (Bound n)) size.tables node ⊎ IsNoBound size node
+    made (LeafNode (Bound n)) w = inl (n, w, refl)
+    made (LeafNode (Ray n)) w = inr (inl (n, w, refl))
+    made (LeafNode (Empty n)) w = inr (inr (inl (n, w, refl)))
+    made (SplitNode g t) w = inr (inr (inr ((g, t), w, refl)))

@@ -148,12 +148,10 @@ line_has_feed text rest h =
 -- no line may stand at a fault
 no_line : (kind : CertKind) (left : List Symbol) (rest : List ℕ) → IsPoint kind left rest → (more : List (List ℕ)) (another : List Symbol) (y : List ℕ) → Reaches left more another → rest ≡ joined more ++ y → more ≡ []
 no_line kind left rest h [] another y run e = refl
-no_line kinds.Tail [] rest h (text ∷ more) another y run e = absurd run
+no_line kind [] rest h (text ∷ more) another y run e = absurd run
 no_line kinds.Tail (symbol ∷ left) rest h (text ∷ more) another y run e = absurd (let f = h.0 in cc)
-no_line kinds.Cut [] rest h (text ∷ more) another y run e = absurd run
 no_line kinds.Cut (symbol ∷ left) rest h (text ∷ more) another y run e =
     absurd (h.3 (subst HasLineFeed (sym (e ∙ ap (λ bytes. bytes ++ y) (joined-cons text more) ∙ append_assoc text (joined more) y)) (line_has_feed text (joined more ++ y) (produced_whole symbol text run.0 run.1))))
-no_line kinds.Form [] rest h (text ∷ more) another y run e = absurd run
 no_line kinds.Form (symbol ∷ left) rest h (text ∷ more) another y run e =
     let same = same_line h.2 text h.3 (joined more ++ y) h.6 (produced_whole symbol text run.0 run.1) (sym h.5 ∙ e ∙ ap (λ bytes. bytes ++ y) (joined-cons text more) ∙ append_assoc text (joined more) y) in
     let kind_same : symbol ≡ h.0 = ap (head_or symbol) h.4 in
@@ -165,15 +163,13 @@ no_line kinds.Form (symbol ∷ left) rest h (text ∷ more) another y run e =
 
 -- and at one place there is one kind
 one_kind : (kind another : CertKind) (left : List Symbol) (rest : List ℕ) → IsPoint kind left rest → IsPoint another left rest → kind ≡ another
-one_kind kinds.Form kinds.Form left rest h k = refl
 one_kind kinds.Form kinds.Cut left rest h k = absurd (k.3 (subst HasLineFeed (sym h.5) (line_has_feed h.2 h.3 h.6)))
 one_kind kinds.Form kinds.Tail left rest h k = absurd (let e = sym h.4 ∙ k.0 in cc)
 one_kind kinds.Cut kinds.Form left rest h k = absurd (h.3 (subst HasLineFeed (sym k.5) (line_has_feed k.2 k.3 k.6)))
-one_kind kinds.Cut kinds.Cut left rest h k = refl
 one_kind kinds.Cut kinds.Tail left rest h k = absurd (let e = sym h.2 ∙ k.0 in cc)
 one_kind kinds.Tail kinds.Form left rest h k = absurd (let e = sym k.4 ∙ h.0 in cc)
 one_kind kinds.Tail kinds.Cut left rest h k = absurd (let e = sym k.2 ∙ h.0 in cc)
-one_kind kinds.Tail kinds.Tail left rest h k = refl
+one_kind _ _ left rest h k = refl
 
 -- the first goes as far as the second
 as_far : (bytes : List ℕ) (line other : ℕ) (kind another : CertKind) (p : FaultPoint bytes line kind) (q : FaultPoint bytes other another)

@@ -217,6 +217,17 @@ told_then {A} {B} {C} f first second bytes = by_first (first bytes)
     by_first (Ok x) = by_second x (second x.0 x.1)
     by_first (Err rest) = refl
 
+pub same_read : {A : Type 0} (r : Result (A × List ℕ) (List ℕ)) → (r >>= λ y. ok_of A y.0 y.1) ≡ r
+same_read (Ok y) = refl
+same_read (Err rest) = refl
+
+pub told_second : {A B : Type 0} (first : Part A) (second : A → Part B) (bytes : List ℕ) → told (λ p. p.1) (then first second) bytes ≡ (first bytes >>= λ x. second x.0 x.1)
+told_second {A} {B} first second bytes = told_then (λ p. p.1) first second bytes ∙ by_first (first bytes)
+  where
+    by_first : (r : Result (A × List ℕ) (List ℕ)) → (r >>= λ x. second x.0 x.1 >>= λ y. ok_of B y.0 y.1) ≡ (r >>= λ x. second x.0 x.1)
+    by_first (Ok x) = same_read (second x.0 x.1)
+    by_first (Err rest) = refl
+
 -- nothing to read
 pub nothing-part : {A : Type 0} (value : A) → IsPart (λ bytes. ok_of A value bytes) (λ a. a ≡ value) (λ _. []) [] Done
 nothing-part {A} value = record {

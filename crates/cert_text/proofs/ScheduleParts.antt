@@ -9,7 +9,7 @@ use Rattle.cert_text.specs.Grammar.{Sizes, Schedule, ThermalRow, RenewableRow, s
 use Rattle.cert_text.specs.inside.LineForms.{schedule_at}
 use Rattle.cert_text.specs.inside.Parts.{◌>>=◌, line_of, printed_part, written, rows_behind, schedule_part}
 use Rattle.cert_text.proofs.LineLaws.{thermal-form, renewable-form, schedule-form}
-use Rattle.cert_text.proofs.PartLaws.{IsPart, Done, line-part, then-part, told-part, told_then, part-as, before-part, nothing-part, repeated-part}
+use Rattle.cert_text.proofs.PartLaws.{IsPart, Done, line-part, then-part, told-part, same_read, told_second, part-as, before-part, nothing-part, repeated-part}
 use Rattle.cert_text.proofs.TableParts.{map_as_flat}
 
 -- rows for all units
@@ -30,11 +30,7 @@ printed-part size =
       there = λ p v. (record { thermal_rows = v.0.0; cells = v.0.1; renewable_rows = v.1.0; outputs = v.1.1 }, (λ i. map_as_flat thermal_line p.0 i ++ map_as_flat renewable_line p.1 i), refl);
       back = λ rows w. (rows, ((w.thermal_rows, w.cells), (w.renewable_rows, w.outputs)), refl);
     }))
-    (λ bytes. same _)
-  where
-    same : (r : Result ((List (List Cell) × List (List ℤ)) × List ℕ) (List ℕ)) → (r >>= λ x. Ok (x.0, x.1)) ≡ r
-    same (Ok x) = refl
-    same (Err rest) = refl
+    (λ bytes. same_read _)
 
 -- what stands behind the schedule's line
 abbrev IsBehind : Sizes → Option ℤ → Option WrittenSchedule → Type 0
@@ -66,7 +62,7 @@ unfolding schedule_part
 schedule-part size =
     part-as (told-part (then-part (line-part schedule-form (Schedule size) (schedule_rows size) (λ cost v. (cost, v, refl, refl)) (λ text others p. (p.0, p.1, p.2))) (λ cost v. rows_behind-part size cost))
     (λ p. p.1) (λ schedule. IfSome schedule (IsScheduleText size.periods size.thermal size.renewable)) schedule_lines Done (record { there = λ p v. there p.0 p.1 v; back = back }))
-    (λ bytes. told_then (λ p. p.1) (line_of schedule_at) (rows_behind size) bytes ∙ just_second (line_of schedule_at bytes))
+    (told_second (line_of schedule_at) (rows_behind size))
   where
     there : (cost : Option ℤ) (schedule : Option WrittenSchedule) → IfSome cost IsMoney × IsBehind size cost schedule
         → IfSome schedule (IsScheduleText size.periods size.thermal size.renewable) × (schedule_line cost ∷ row_lines schedule ≡ schedule_lines schedule) × ([] ≡ Done schedule)
@@ -83,11 +79,3 @@ schedule-part size =
         → (p : Option ℤ × Option WrittenSchedule) × (IfSome p.0 IsMoney × IsBehind size p.0 p.1) × (p.1 ≡ schedule)
     back None w = ((None, None), (tt, refl), refl)
     back (Some w) v = ((Some w.cost, Some w), (v.cost, (refl, record { thermal_rows = v.thermal_rows; cells = v.cells; renewable_rows = v.renewable_rows; outputs = v.outputs })), refl)
-
-    same_rest : (r : Result (Option WrittenSchedule × List ℕ) (List ℕ)) → (r >>= λ y. Ok (y.0, y.1)) ≡ r
-    same_rest (Ok y) = refl
-    same_rest (Err rest) = refl
-
-    just_second : (r : Result (Option ℤ × List ℕ) (List ℕ)) → (r >>= λ x. rows_behind size x.0 x.1 >>= λ y. Ok (y.0, y.1)) ≡ (r >>= λ x. rows_behind size x.0 x.1)
-    just_second (Ok x) = same_rest (rows_behind size x.0 x.1)
-    just_second (Err rest) = refl

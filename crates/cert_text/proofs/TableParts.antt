@@ -17,7 +17,7 @@ use Rattle.cert_text.specs.inside.Parts.{◌>>=◌, line_of, written, ramp_rows_
 use Rattle.cert_text.proofs.LineLaws.{prices-form, scale-form, ramp_count-form}
 use Rattle.cert_text.proofs.NodeLaws.{ramp-form}
 use Rattle.cert_text.proofs.FormLaws.{IsForm, Anything, form-as}
-use Rattle.cert_text.proofs.PartLaws.{IsPart, Done, line-part, then-part, told-part, told_then, part-as, before-part, nothing-part}
+use Rattle.cert_text.proofs.PartLaws.{IsPart, Done, line-part, then-part, told-part, told_then, told_second, part-as, before-part, nothing-part}
 
 pub map_as_flat : {A B : Type 0} (f : A → B) (xs : List A) → flat_map (λ x. f x ∷ []) xs ≡ map f xs
 map_as_flat f [] = refl
@@ -63,15 +63,7 @@ ramps-part size lawful =
       there = λ p v. ((omega (arith, v.0, v.1.0), v.1.1), ap (λ count. ramp_count_line count ∷ map ramp_line p.1) (sym v.1.0), refl);
       back = λ rows w. ((length rows, rows), (w.0, (refl, w.1)), refl);
     }))
-    (λ bytes. told_then (λ p. p.1) (line_of ramp_count_at) (λ count. ramp_rows_part size count None) bytes ∙ just_second (line_of ramp_count_at bytes))
-  where
-    same_rest : (r : Result (List RampRow × List ℕ) (List ℕ)) → (r >>= λ y. Ok (y.0, y.1)) ≡ r
-    same_rest (Ok y) = refl
-    same_rest (Err rest) = refl
-
-    just_second : (r : Result (ℕ × List ℕ) (List ℕ)) → (r >>= λ x. ramp_rows_part size x.0 None x.1 >>= λ y. Ok (y.0, y.1)) ≡ (r >>= λ x. ramp_rows_part size x.0 None x.1)
-    just_second (Ok x) = same_rest (ramp_rows_part size x.0 None x.1)
-    just_second (Err rest) = refl
+    (told_second (line_of ramp_count_at) (λ count. ramp_rows_part size count None))
 
 -- rows that follow each other are within the size, of few digits, and rise
 ramps_within : (size : Sizes) (before : Option RampRow) (rows : List RampRow) → AreRamps size before rows → All (IsRowWithin size.thermal size.periods) rows
@@ -84,10 +76,9 @@ ramps_written size before (row ∷ rows) h = All-cons IsRampText row rows h.0.wr
 
 ramps_rise : (size : Sizes) (before : Option RampRow) (rows : List RampRow) → AreRamps size before rows
     → (i : ℕ) (d : RampRow) → suc i < length rows → IsRowBefore (get_or rows i d) (get_or rows (suc i) d)
-ramps_rise size before [] h i d lt = absurd (omega arith)
-ramps_rise size before (row ∷ []) h i d lt = absurd (omega arith)
 ramps_rise size before (row ∷ next ∷ rows) h zero d lt = h.1.0.rises
 ramps_rise size before (row ∷ next ∷ rows) h (suc i) d lt = ramps_rise size (Some row) (next ∷ rows) h.1 i d (omega arith)
+ramps_rise size before _ h i d lt = absurd (omega arith)
 
 ramps_from : (size : Sizes) (before : Option RampRow) (rows : List RampRow) → All (IsRowWithin size.thermal size.periods) rows → All IsRampText rows
     → ((i : ℕ) (d : RampRow) → suc i < length rows → IsRowBefore (get_or rows i d) (get_or rows (suc i) d))
@@ -107,7 +98,7 @@ ramps_from size before (row ∷ rows) within written rising first = (
 -- ---- tables
 pub prices_as : (word : List ℕ) (size : Sizes) → IsForm (row_at word size.periods (signed_at 18)) (ArePrices size) (prices_line word) Anything
 prices_as word size =
-    form-as (prices-form word size.periods) (ArePrices size) (prices_line word) (λ prices v. record { periods = v.0; written = v.1 }) (λ prices w. (w.periods, w.written)) (λ prices. refl)
+    form-as (prices-form word size.periods) (ArePrices size) (prices_line word) (λ prices v. record { periods = v.0; written = v.1 }) (λ prices w. (w.periods, w.written)) (λ prices v. refl)
 
 pub table-part : (size : Sizes) → AreSizes size → IsPart (table_part size) (IsTableText size.periods size.thermal) table_lines (Scale size ∷ []) Done
 unfolding table_part numbers_part

@@ -1,14 +1,13 @@
 -- Reading the nodes of trees that are owed, as a loop does.
 use Rattle.std.proofs.Common.{◌≡◌, ℕ, zero, suc, ◌+◌, ◌-◌, ◌<◌, ◌≤◌, List, [], ◌∷◌, ◌++◌, length, Some, None, Result, Ok, Err, refl, sym, ap, ◌∙◌, arith}
 use Rattle.std.proofs.lemmas.List.{length-append, append-nil}
-use Rattle.dual_model.specs.Cover.{Bound, Ray, Empty}
-use Rattle.outside.specs.Lines.{line}
 use Rattle.cert_text.specs.Nodes.{TreeNode, LeafNode, SplitNode, node_line}
 use Rattle.cert_text.specs.Grammar.{Sizes, AreSizes}
 use Rattle.cert_text.specs.inside.LineForms.{node_at}
 use Rattle.cert_text.specs.inside.Parts.{owed_after, nodes_part}
 use Rattle.cert_text.proofs.Loops.{behind_parts, regroup_parts}
 use Rattle.cert_text.proofs.NodeLaws.{node-form}
+use Rattle.cert_text.proofs.TreeParts.{line_long}
 
 pub node_more : (size : Sizes) (front grown : List TreeNode) (most fewer owed : ℕ) (bytes rest : List ℕ) (node : TreeNode) (total : Result (List TreeNode × List ℕ) (List ℕ))
     → 0 < owed → most ≡ suc fewer → node_at size bytes ≡ Some (node, rest) → grown ≡ front ++ node ∷ []
@@ -34,14 +33,6 @@ pub nodes_done : (size : Sizes) (front : List TreeNode) (most owed : ℕ) (bytes
 unfolding nodes_part
 nodes_done size front most zero bytes total none so_far = sym so_far ∙ ap (λ (xs : List TreeNode). Ok (xs, bytes)) (append-nil front)
 nodes_done size front most (suc others) bytes total none so_far = absurd (omega arith)
-
--- a node takes more than one byte
-line_long : (node : TreeNode) → 2 ≤ length (node_line node)
-unfolding line
-line_long (LeafNode (Bound n)) = omega arith
-line_long (LeafNode (Ray n)) = omega arith
-line_long (LeafNode (Empty n)) = omega arith
-line_long (SplitNode g t) = omega arith
 
 pub node_shorter : (size : Sizes) → AreSizes size → (bytes rest : List ℕ) (node : TreeNode) → node_at size bytes ≡ Some (node, rest) → length rest + 2 ≤ length bytes
 node_shorter size lawful bytes rest node e =

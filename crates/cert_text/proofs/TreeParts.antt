@@ -6,7 +6,7 @@ use Rattle.std.proofs.lemmas.List.Elements.{All-nil, All-cons, All-head, All-tai
 use Rattle.outside.specs.Lines.{joined, line}
 use Rattle.outside.proofs.Joining.{joined-cons}
 use Rattle.dual_model.specs.Tree.{Tree, Ends, Splits}
-use Rattle.dual_model.specs.Cover.{Leaf, Bound, Ray, Empty}
+use Rattle.dual_model.specs.Cover.{Leaf, Bound}
 use Rattle.cert_text.specs.Nodes.{TreeNode, LeafNode, SplitNode, preorder, node_line, IsNodeWithin}
 use Rattle.cert_text.specs.Grammar.{Sizes, AreSizes, Symbol, Node, Reaches, children}
 use Rattle.cert_text.specs.inside.Forms.{text_at}
@@ -18,9 +18,8 @@ use Rattle.cert_text.proofs.PartLaws.{IsPart, Done, Stops, StopsAt, AtFirst, AtS
 -- the nodes are those of so many trees
 abbrev pub AreOwed : ℕ → List TreeNode → Type 0
 AreOwed zero [] = Unit {0}
-AreOwed zero (node ∷ nodes) = ⊥
-AreOwed (suc others) [] = ⊥
 AreOwed (suc others) (node ∷ nodes) = AreOwed (owed_after others node) nodes
+AreOwed _ _ = ⊥
 
 -- ---- nodes that are owed are those of trees, in preorder
 record AreTrees (n : ℕ) (nodes : List TreeNode) : Type 0 where
@@ -32,27 +31,24 @@ leaf_before : (n : ℕ) (leaf : Leaf) (nodes : List TreeNode) → AreTrees n nod
 leaf_before n leaf nodes h = record { trees = Ends leaf ∷ h.trees; count = ap suc h.count; order = ap (λ nodes. LeafNode leaf ∷ nodes) h.order }
 
 split_before : (n g t : ℕ) (nodes : List TreeNode) (trees : List (Tree Leaf)) → length trees ≡ suc (suc n) → flat_map preorder trees ≡ nodes → AreTrees (suc n) (SplitNode g t ∷ nodes)
-split_before n g t nodes [] long order = absurd (omega arith)
-split_before n g t nodes (off ∷ []) long order = absurd (omega arith)
 split_before n g t nodes (off ∷ on ∷ trees) long order = record {
   trees = Splits g t off on ∷ trees;
   count = omega arith;
   order = ap (λ nodes. SplitNode g t ∷ nodes) (append_assoc (preorder off) (preorder on) (flat_map preorder trees) ∙ order);
 }
+split_before n g t nodes _ long order = absurd (omega arith)
 
 owed_are_trees : (n : ℕ) (nodes : List TreeNode) → AreOwed n nodes → AreTrees n nodes
 owed_are_trees zero [] h = record { trees = []; count = refl; order = refl }
-owed_are_trees zero (node ∷ nodes) h = absurd h
-owed_are_trees (suc others) [] h = absurd h
 owed_are_trees (suc others) (LeafNode leaf ∷ nodes) h = leaf_before others leaf nodes (owed_are_trees others nodes h)
 owed_are_trees (suc others) (SplitNode g t ∷ nodes) h =
     let behind = owed_are_trees (suc (suc others)) nodes h in
     split_before others g t nodes behind.trees behind.count behind.order
+owed_are_trees _ _ h = absurd h
 
 one_tree : (nodes : List TreeNode) (trees : List (Tree Leaf)) → length trees ≡ 1 → flat_map preorder trees ≡ nodes → (tree : Tree Leaf) × (preorder tree ≡ nodes)
-one_tree nodes [] long order = absurd (omega arith)
 one_tree nodes (tree ∷ []) long order = (tree, sym (append-nil (preorder tree)) ∙ order)
-one_tree nodes (tree ∷ next ∷ trees) long order = absurd (omega arith)
+one_tree nodes _ long order = absurd (omega arith)
 
 pub owed_is_tree : (nodes : List TreeNode) → AreOwed 1 nodes → (tree : Tree Leaf) × (preorder tree ≡ nodes)
 owed_is_tree nodes h = let behind = owed_are_trees 1 nodes h in one_tree nodes behind.trees behind.count behind.order
@@ -70,12 +66,11 @@ tree_is_owed tree = subst (AreOwed 1) (append-nil (preorder tree)) (tree_before 
 abbrev WithinSize : Sizes → TreeNode → Type 0
 WithinSize size node = IsNodeWithin size.periods size.thermal size.tables node
 
-node_line_some : (node : TreeNode) → 0 < length (node_line node)
+-- a node takes more than one byte
+pub line_long : (node : TreeNode) → 2 ≤ length (node_line node)
 unfolding line
-node_line_some (LeafNode (Bound n)) = omega arith
-node_line_some (LeafNode (Ray n)) = omega arith
-node_line_some (LeafNode (Empty n)) = omega arith
-node_line_some (SplitNode g t) = omega arith
+line_long (LeafNode (Bound n)) = omega arith
+line_long _ = omega arith
 
 node-part : (size : Sizes) → AreSizes size → IsPart (line_of (node_at size)) (WithinSize size) (λ node. node_line node ∷ []) (Node size ∷ []) (children size)
 node-part size lawful = line-part (node-form size lawful) (Node size) (children size) (λ node v. (node, v, refl, refl)) (λ text others p. (p.0, p.1, p.2))
@@ -87,13 +82,12 @@ owed_kinds size others (SplitNode g t) = refl
 
 nodes_runs : (size : Sizes) (n : ℕ) (nodes : List TreeNode) → AreOwed n nodes → All (WithinSize size) nodes → Reaches (replicate n (Node size)) (map node_line nodes) []
 nodes_runs size zero [] h v = refl
-nodes_runs size zero (node ∷ nodes) h v = absurd h
-nodes_runs size (suc others) [] h v = absurd h
 nodes_runs size (suc others) (node ∷ nodes) h v = (
   children size node,
   (node, All-head (WithinSize size) node nodes v, refl, refl),
   subst (λ (kinds : List Symbol). Reaches kinds (map node_line nodes) []) (sym (owed_kinds size others node)) (nodes_runs size (owed_after others node) nodes h (All-tail (WithinSize size) node nodes v)),
 )
+nodes_runs size _ _ h v = absurd h
 
 abbrev grown : TreeNode → Result (List TreeNode × List ℕ) (List ℕ) → Result (List TreeNode × List ℕ) (List ℕ)
 grown node r = r >>= λ xs. ok_of (List TreeNode) (node ∷ xs.0) xs.1
@@ -121,11 +115,11 @@ nodes_again size lawful most zero [] rest few h v = refl
 nodes_again size lawful most zero (node ∷ nodes) rest few h v = absurd h
 nodes_again size lawful most (suc others) [] rest few h v = absurd h
 nodes_again size lawful zero (suc others) (node ∷ nodes) rest few h v =
-    absurd (omega (arith, node_line_some node, ap length (joined-cons (node_line node) (map node_line nodes)), length-append (node_line node) (joined (map node_line nodes)), length-append (joined (node_line node ∷ map node_line nodes)) rest))
+    absurd (omega (arith, line_long node, ap length (joined-cons (node_line node) (map node_line nodes)), length-append (node_line node) (joined (map node_line nodes)), length-append (joined (node_line node ∷ map node_line nodes)) rest))
 nodes_again size lawful (suc most) (suc others) (node ∷ nodes) rest few h v =
     let behind = joined (map node_line nodes) ++ rest in
     let regrouped : joined (map node_line (node ∷ nodes)) ++ rest ≡ node_line node ++ behind = ap (λ text. text ++ rest) (joined-cons (node_line node) (map node_line nodes)) ∙ append_assoc (node_line node) (joined (map node_line nodes)) rest in
-    let short : length behind ≤ most = omega (arith, node_line_some node, ap length regrouped, length-append (node_line node) behind) in
+    let short : length behind ≤ most = omega (arith, line_long node, ap length regrouped, length-append (node_line node) behind) in
     ap (nodes_part size (suc most) (suc others)) regrouped
     ∙ rw ((node-part size lawful).again node behind (All-head (WithinSize size) node nodes v), nodes_again size lawful most (owed_after others node) nodes rest short h (All-tail (WithinSize size) node nodes v)) refl
 
@@ -147,7 +141,7 @@ nodes_stop size lawful (suc most) (suc others) bytes rest few e =
         → Stops (Node size ∷ replicate others (Node size)) bytes rest
     by_second later x e (AtFirst f) =
         let one = (node-part size lawful).takes bytes x e in
-        let short : length x.1 ≤ most = omega (arith, node_line_some x.0, ap length one.1, length-append (node_line x.0) x.1) in
+        let short : length x.1 ≤ most = omega (arith, line_long x.0, ap length one.1, length-append (node_line x.0) x.1) in
         let behind = later (owed_after others x.0) x.1 short f in
         Stops-behind (Node size ∷ replicate others (Node size)) (replicate (owed_after others x.0) (Node size)) (node_line x.0 ∷ []) bytes x.1 rest
         (children size x.0, (x.0, one.0, refl, refl), owed_kinds size others x.0) one.1 behind
