@@ -101,9 +101,6 @@ close (in_object ms k ∷ outer) front f v core behind s sp =
     regroup p k b m t e = simp append_assoc
 
 -- a number that stands for any value
-zero_value : Value
-zero_value = number (decimal_from false (0 ∷ []) [] false 0)
-
 zero_spells : (limited : Bool) (level : ℕ) → Spells limited level (number (decimal_from false (0 ∷ []) [] false 0)) (48 ∷ [])
 zero_spells limited level = record { negative = false; ds = 0 ∷ []; fs = []; exponent = no_power; is_whole = lit< tt; are_digits = tt; is_power = tt; value = refl; spelled = refl }
 

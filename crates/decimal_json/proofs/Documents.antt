@@ -15,23 +15,17 @@ whole_scan : (bytes : List ℕ) → whole_outcome bytes ≡ scan bytes 0 [] want
 unfolding whole_outcome scan
 whole_scan bytes = refl
 
-value_end : (at : ℕ) (v : Value) → finish at [] (ended v) ≡ done v
-unfolding finish finish_value
-value_end at v = refl
-
-behind_value : (at c : ℕ) (v : Value) → is_space c ≡ false → step at [] (ended v) c ≡ stop at 2
-unfolding step ended_step close_step
-behind_value at c v space = rw space refl
-
 pub document_breaks : (bytes : List ℕ) (e : JsonFault) → BreaksValue bytes 0 64 e → Leads e (whole_outcome bytes)
 document_breaks bytes e broken = subst (λ (o : Outcome). Leads e o) (sym (whole_scan bytes)) (broken [] refl)
 
 pub document_ends : (bytes : List ℕ) (end at : ℕ) (v : Value) → ReadsValue bytes 0 end 64 v → SkipsSpace bytes end at → drop at bytes ≡ [] → whole_outcome bytes ≡ done v
-document_ends bytes end at v r skips none = whole_scan bytes ∙ (r [] refl ∙ (skips [] (ended v) tt ∙ (finished bytes at [] (ended v) none ∙ value_end at v)))
+unfolding finish finish_value
+document_ends bytes end at v r skips none = whole_scan bytes ∙ (r [] refl ∙ (skips [] (ended v) tt ∙ (finished bytes at [] (ended v) none)))
 
 pub document_goes_on : (bytes : List ℕ) (end at c : ℕ) (v : Value) (e : JsonFault) → ReadsValue bytes 0 end 64 v → SkipsSpace bytes end at → IsToken bytes at c → e ≡ At at 2 → Leads e (whole_outcome bytes)
+unfolding step ended_step close_step
 document_goes_on bytes end at c v e r skips token is = subst (λ (e : JsonFault). Leads e (whole_outcome bytes)) (sym is)
-    (whole_scan bytes ∙ (r [] refl ∙ (skips [] (ended v) tt ∙ stopped bytes at c [] (ended v) at 2 token.0 (behind_value at c v token.2))))
+    (whole_scan bytes ∙ (r [] refl ∙ (skips [] (ended v) tt ∙ stopped bytes at c [] (ended v) at 2 token.0 (rw token.2 refl))))
 
 pub gives_fault : (r : Result Json JsonFault) (e : JsonFault) (o : Outcome) → IsErrAnd r (λ d. d ≡ e) → Leads e o → Gives r o
 gives_fault (Ok j) e o h l = absurd h

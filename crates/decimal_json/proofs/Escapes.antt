@@ -10,7 +10,7 @@ use Rattle.decimal_json.specs.Escape.{is_hex, hex_of, unit_of, short_escape}
 use Rattle.decimal_json.specs.Open.{Frame, Purpose}
 use Rattle.decimal_json.specs.inside.Scan.{Spot, Hex, no_digit, one_digit, two_digits, three_digits, Quoted, quoted, plain, escaped, unit, high, high_escaped, high_unit, Step, next, stop, Outcome, fault, step, quoted_step, more_hex, unit_step, pair_step, escape_step, outcome, scan, finish}
 use Rattle.decimal_json.specs.inside.Answer.{Leads, FailsAt, StandsAt, HexAt, ReadsUnit, BreaksUnit, ReadsEscape, BreaksEscape, resumed}
-use Rattle.decimal_json.proofs.Moves.{moved, stopped, stepped, finished}
+use Rattle.decimal_json.proofs.Moves.{moved, stopped, stepped, finished, fails_there}
 
 -- one place under two names
 pub placed : (bytes : List ℕ) (i j : ℕ) (outer : List Frame) (spot : Spot) → i ≡ j → scan bytes i outer spot ≡ scan bytes j outer spot
@@ -89,19 +89,13 @@ second_each outer p t back u at c h e = rw e refl
 
 unit_fails : (bytes : List ℕ) (outer : List Frame) (p : Purpose) (t : List ℕ) (back at : ℕ) (h : Hex) → FailsAt is_hex bytes at
     → scan bytes at outer (quoted p (unit t back h)) ≡ fault at 2
-unfolding scan outcome step quoted_step finish
-unit_fails bytes outer p t back at h fails = go (drop at bytes) (λ c cs e. fails c cs e) where
-  go : (rest : List ℕ) → ((c : ℕ) (cs : List ℕ) → rest ≡ c ∷ cs → is_hex c ≡ false) → outcome at outer (quoted p (unit t back h)) rest ≡ fault at 2
-  go [] same = refl
-  go (c ∷ cs) same = rw (same c cs refl) refl
+unfolding step quoted_step finish
+unit_fails bytes outer p t back at h fails = fails_there bytes at at 2 outer (quoted p (unit t back h)) is_hex fails refl (λ c e. rw e refl)
 
 second_fails : (bytes : List ℕ) (outer : List Frame) (p : Purpose) (t : List ℕ) (back u at : ℕ) (h : Hex) → FailsAt is_hex bytes at
     → scan bytes at outer (quoted p (high_unit t back u h)) ≡ fault back 5
-unfolding scan outcome step quoted_step finish
-second_fails bytes outer p t back u at h fails = go (drop at bytes) (λ c cs e. fails c cs e) where
-  go : (rest : List ℕ) → ((c : ℕ) (cs : List ℕ) → rest ≡ c ∷ cs → is_hex c ≡ false) → outcome at outer (quoted p (high_unit t back u h)) rest ≡ fault back 5
-  go [] same = refl
-  go (c ∷ cs) same = rw (same c cs refl) refl
+unfolding step quoted_step finish
+second_fails bytes outer p t back u at h fails = fails_there bytes at back 5 outer (quoted p (high_unit t back u h)) is_hex fails refl (λ c e. rw e refl)
 
 pub reads_unit : (bytes : List ℕ) (start a b d f : ℕ) → HexAt bytes start a → HexAt bytes (start + 1) b → HexAt bytes (start + 2) d → HexAt bytes (start + 3) f
     → ReadsUnit bytes start (((a * 16 + b) * 16 + d) * 16 + f)
@@ -142,37 +136,20 @@ breaks_after_3 bytes start a b d e is h i j k = breaks_unit bytes start (start +
     (λ outer p t back u. breaks_3 bytes start outer p (high_unit t back u) (λ v. pair_step outer p t back u v) (λ at. fault back 5) (second_each outer p t back u) (second_fails bytes outer p t back u) h i j k)
 
 -- the second escape of a pair
-pub high_leads : (at : ℕ) (outer : List Frame) (p : Purpose) (t : List ℕ) (back u : ℕ) → step at outer (quoted p (high t back u)) 92 ≡ next outer (quoted p (high_escaped t back u))
-unfolding step quoted_step
-high_leads at outer p t back u = refl
-
-pub high_escaped_leads : (at : ℕ) (outer : List Frame) (p : Purpose) (t : List ℕ) (back u : ℕ)
-    → step at outer (quoted p (high_escaped t back u)) 117 ≡ next outer (quoted p (high_unit t back u no_digit))
-unfolding step quoted_step
-high_escaped_leads at outer p t back u = refl
-
--- Where no byte passes a test, and none leads on that doesn't, there is a fault.
-no_more : (bytes : List ℕ) (at back : ℕ) (outer : List Frame) (spot : Spot) (test : ℕ → Bool) → FailsAt test bytes at → finish at outer spot ≡ fault back 5
-    → ((c : ℕ) → test c ≡ false → step at outer spot c ≡ stop back 5) → scan bytes at outer spot ≡ fault back 5
-unfolding scan outcome
-no_more bytes at back outer spot test fails ends stops = go (drop at bytes) (λ c cs e. fails c cs e) where
-  go : (rest : List ℕ) → ((c : ℕ) (cs : List ℕ) → rest ≡ c ∷ cs → test c ≡ false) → outcome at outer spot rest ≡ fault back 5
-  go [] same = ends
-  go (c ∷ cs) same = rw (stops c (same c cs refl)) refl
-
 pub no_backslash : (bytes : List ℕ) (at : ℕ) (outer : List Frame) (p : Purpose) (t : List ℕ) (back u : ℕ) → FailsAt (λ c. c == 92) bytes at
     → scan bytes at outer (quoted p (high t back u)) ≡ fault back 5
 unfolding step quoted_step finish
-no_backslash bytes at outer p t back u fails = no_more bytes at back outer (quoted p (high t back u)) (λ c. c == 92) fails refl (λ c no_test. rw no_test refl)
+no_backslash bytes at outer p t back u fails = fails_there bytes at back 5 outer (quoted p (high t back u)) (λ c. c == 92) fails refl (λ c no_test. rw no_test refl)
 
 no_letter : (bytes : List ℕ) (at : ℕ) (outer : List Frame) (p : Purpose) (t : List ℕ) (back u : ℕ) → FailsAt (λ c. c == 117) bytes at
     → scan bytes at outer (quoted p (high_escaped t back u)) ≡ fault back 5
 unfolding step quoted_step finish
-no_letter bytes at outer p t back u fails = no_more bytes at back outer (quoted p (high_escaped t back u)) (λ c. c == 117) fails refl (λ c no_test. rw no_test refl)
+no_letter bytes at outer p t back u fails = fails_there bytes at back 5 outer (quoted p (high_escaped t back u)) (λ c. c == 117) fails refl (λ c no_test. rw no_test refl)
 
 high_backslash : (bytes : List ℕ) (at : ℕ) (outer : List Frame) (p : Purpose) (t : List ℕ) (back u : ℕ) → StandsAt bytes at 92
     → scan bytes at outer (quoted p (high t back u)) ≡ scan bytes (at + 1) outer (quoted p (high_escaped t back u))
-high_backslash bytes at outer p t back u e = moved bytes at 92 outer (quoted p (high t back u)) outer (quoted p (high_escaped t back u)) e (high_leads at outer p t back u)
+unfolding step quoted_step
+high_backslash bytes at outer p t back u e = moved bytes at 92 outer (quoted p (high t back u)) outer (quoted p (high_escaped t back u)) e refl
 
 pub no_u : (bytes : List ℕ) (at : ℕ) (outer : List Frame) (p : Purpose) (t : List ℕ) (back u : ℕ) → StandsAt bytes at 92 → FailsAt (λ c. c == 117) bytes (at + 1)
     → scan bytes at outer (quoted p (high t back u)) ≡ fault back 5
@@ -180,8 +157,9 @@ no_u bytes at outer p t back u e fails = high_backslash bytes at outer p t back 
 
 second_begins : (bytes : List ℕ) (at : ℕ) (outer : List Frame) (p : Purpose) (t : List ℕ) (back u : ℕ) → StandsAt bytes at 92 → StandsAt bytes (at + 1) 117
     → scan bytes at outer (quoted p (high t back u)) ≡ scan bytes (at + 2) outer (quoted p (high_unit t back u no_digit))
+unfolding step quoted_step
 second_begins bytes at outer p t back u e f = high_backslash bytes at outer p t back u e
-    ∙ (moved bytes (at + 1) 117 outer (quoted p (high_escaped t back u)) outer (quoted p (high_unit t back u no_digit)) f (high_escaped_leads (at + 1) outer p t back u)
+    ∙ (moved bytes (at + 1) 117 outer (quoted p (high_escaped t back u)) outer (quoted p (high_unit t back u no_digit)) f refl
     ∙ placed bytes (at + 1 + 1) (at + 2) outer (quoted p (high_unit t back u no_digit)) (omega arith))
 
 pub second_broken : (bytes : List ℕ) (at : ℕ) (e : JsonFault) (outer : List Frame) (p : Purpose) (t : List ℕ) (back u : ℕ) → StandsAt bytes at 92 → StandsAt bytes (at + 1) 117
@@ -217,22 +195,16 @@ scalar_no_surrogate u s = ⊎_elim
     (λ (lt : u < 0xD800). (and_left (nat_le 0xD800 u) (nat_lt u 0xDC00) (lt-leb 0xD800 u lt), and_left (nat_le 0xDC00 u) (nat_lt u 0xE000) (lt-leb 0xDC00 u (omega arith))))
     (λ (le : 0xE000 ≤ u). (and_right (nat_le 0xD800 u) (nat_lt u 0xDC00) (le-ltb u 0xDC00 (omega arith)), and_right (nat_le 0xDC00 u) (nat_lt u 0xE000) (le-ltb u 0xE000 le))) s
 
-pub plain_backslash : (at : ℕ) (outer : List Frame) (p : Purpose) (t : List ℕ) → step at outer (quoted p (plain t)) 92 ≡ next outer (quoted p (escaped t at))
-unfolding step quoted_step
-plain_backslash at outer p t = refl
-
-pub escaped_u : (at : ℕ) (outer : List Frame) (p : Purpose) (t : List ℕ) (back : ℕ) → step at outer (quoted p (escaped t back)) 117 ≡ next outer (quoted p (unit t back no_digit))
-unfolding step quoted_step escape_step
-escaped_u at outer p t back = refl
-
 escape_begins : (bytes : List ℕ) (back : ℕ) (outer : List Frame) (p : Purpose) (t : List ℕ) → StandsAt bytes back 92
     → scan bytes back outer (quoted p (plain t)) ≡ scan bytes (back + 1) outer (quoted p (escaped t back))
-escape_begins bytes back outer p t e = moved bytes back 92 outer (quoted p (plain t)) outer (quoted p (escaped t back)) e (plain_backslash back outer p t)
+unfolding step quoted_step
+escape_begins bytes back outer p t e = moved bytes back 92 outer (quoted p (plain t)) outer (quoted p (escaped t back)) e refl
 
 unicode_begins : (bytes : List ℕ) (back : ℕ) (outer : List Frame) (p : Purpose) (t : List ℕ) → StandsAt bytes back 92 → StandsAt bytes (back + 1) 117
     → scan bytes back outer (quoted p (plain t)) ≡ scan bytes (back + 2) outer (quoted p (unit t back no_digit))
+unfolding step quoted_step escape_step
 unicode_begins bytes back outer p t e f = escape_begins bytes back outer p t e
-    ∙ (moved bytes (back + 1) 117 outer (quoted p (escaped t back)) outer (quoted p (unit t back no_digit)) f (escaped_u (back + 1) outer p t back)
+    ∙ (moved bytes (back + 1) 117 outer (quoted p (escaped t back)) outer (quoted p (unit t back no_digit)) f refl
     ∙ placed bytes (back + 1 + 1) (back + 2) outer (quoted p (unit t back no_digit)) (omega arith))
 
 pub unicode_broken : (bytes : List ℕ) (back : ℕ) (e : JsonFault) → StandsAt bytes back 92 → StandsAt bytes (back + 1) 117 → BreaksUnit bytes (back + 2) e → BreaksEscape bytes back e

@@ -60,33 +60,18 @@ pub first_item_other : (at c : ℕ) (outer : List Frame) → is_space c ≡ fals
 unfolding step
 first_item_other at c outer space ne = rw (space, ne_eqb c 93 ne) refl
 
-pub first_item_close : (at : ℕ) (outer : List Frame) → step at outer first_item 93 ≡ next outer (ended (array no_items))
-unfolding step
-first_item_close at outer = refl
-
 pub item_comma : (at : ℕ) (outer : List Frame) (vs : List Value) (v : Value) → step at (in_array vs ∷ outer) (ended v) 44 ≡ next (in_array (vs ++ v ∷ []) ∷ outer) wanted
 unfolding step ended_step close_step
 item_comma at outer vs v = refl
-
-pub item_close : (at : ℕ) (outer : List Frame) (vs : List Value) (v : Value) → step at (in_array vs ∷ outer) (ended v) 93 ≡ next outer (ended (array (items_of (vs ++ v ∷ []))))
-unfolding step ended_step close_step
-item_close at outer vs v = refl
-
-item_other : (at c : ℕ) (outer : List Frame) (vs : List Value) (v : Value) → is_space c ≡ false → (c ≡ 44 → ⊥) → (c ≡ 93 → ⊥) → step at (in_array vs ∷ outer) (ended v) c ≡ stop at 2
-unfolding step ended_step close_step
-item_other at c outer vs v space comma close = rw (space, ne_eqb c 44 comma, ne_eqb c 93 close) refl
-
-item_ends : (at : ℕ) (outer : List Frame) (vs : List Value) (v : Value) → finish at (in_array vs ∷ outer) (ended v) ≡ fault at 2
-unfolding finish finish_value
-item_ends at outer vs v = refl
 
 pub array_cut : (bytes : List ℕ) (start room : ℕ) (e : JsonFault) → LacksToken (λ _. ⊥) bytes start e → BreaksInside bytes start first_item room e
 unfolding finish
 array_cut bytes start room e none = λ outer fits. lacks (λ _. ⊥) bytes start outer first_item e none tt (λ at. refl) (λ at c space no. absurd no)
 
 pub array_empty : (bytes : List ℕ) (start at c room : ℕ) → FindsToken bytes start at c → c ≡ 93 → ReadsInside bytes start first_item (at + 1) room (array no_items)
+unfolding step
 array_empty bytes start at c room found is = λ outer fits.
-    passes bytes start at 93 outer outer first_item (ended (array no_items)) (found_as bytes start at c 93 found is) tt (first_item_close at outer)
+    passes bytes start at 93 outer outer first_item (ended (array no_items)) (found_as bytes start at c 93 found is) tt refl
 
 pub items_begin : (bytes : List ℕ) (start at c room : ℕ) → FindsToken bytes start at c → (c ≡ 93 → ⊥) → start ≤ at → HasItems bytes start at room []
 items_begin bytes start at c room found ne le = record {
@@ -110,13 +95,15 @@ item_breaks bytes start at room vs e has broken = λ outer fits. led e _ _ (has.
 
 pub array_breaks : (bytes : List ℕ) (start end room : ℕ) (vs : List Value) (v : Value) (e : JsonFault) → ItemRead bytes start end room vs v
     → LacksToken (λ c. (c ≡ 44 → ⊥) × (c ≡ 93 → ⊥)) bytes end e → BreaksInside bytes start first_item room e
+unfolding step ended_step close_step finish finish_value
 array_breaks bytes start end room vs v e r none = λ outer fits. led e _ _ (r.read outer fits)
-    (lacks _ bytes end (in_array vs ∷ outer) (ended v) e none tt (λ at. item_ends at outer vs v) (λ at c space no. item_other at c outer vs v space no.0 no.1))
+    (lacks _ bytes end (in_array vs ∷ outer) (ended v) e none tt (λ at. refl) (λ at c space no. rw (space, ne_eqb c 44 no.0, ne_eqb c 93 no.1) refl))
 
 pub array_closes : (bytes : List ℕ) (start end past room : ℕ) (vs : List Value) (v : Value) → ItemRead bytes start end room vs v
     → PassesToken bytes end past 93 → ReadsInside bytes start first_item past room (array (items_of (vs ++ v ∷ [])))
+unfolding step ended_step close_step
 array_closes bytes start end past room vs v r p = λ outer fits. r.read outer fits
-    ∙ passed bytes end past 93 (in_array vs ∷ outer) outer (ended v) (ended (array (items_of (vs ++ v ∷ [])))) p tt (λ at. item_close at outer vs v)
+    ∙ passed bytes end past 93 (in_array vs ∷ outer) outer (ended v) (ended (array (items_of (vs ++ v ∷ [])))) p tt (λ at. refl)
 
 pub items_go_on : (bytes : List ℕ) (start end past room : ℕ) (vs : List Value) (v : Value) → ItemRead bytes start end room vs v
     → PassesToken bytes end past 44 → start ≤ past → HasItems bytes start past room (vs ++ v ∷ [])
@@ -128,38 +115,16 @@ items_go_on bytes start end past room vs v r p le = record {
 }
 
 -- keys
-key_other : (at c : ℕ) (outer : List Frame) (ms : List Member) → is_space c ≡ false → (c ≡ 34 → ⊥) → step at outer (key_wanted ms) c ≡ stop at 2
-unfolding step
-key_other at c outer ms space ne = rw (space, ne_eqb c 34 ne) refl
-
-pub key_quote : (at : ℕ) (outer : List Frame) (ms : List Member) → step at outer (key_wanted ms) 34 ≡ next outer (quoted (for_key ms at) (plain []))
-unfolding step
-key_quote at outer ms = refl
-
-key_ends : (at : ℕ) (outer : List Frame) (ms : List Member) → finish at outer (key_wanted ms) ≡ fault at 2
-unfolding finish
-key_ends at outer ms = refl
-
-colon_other : (at c : ℕ) (outer : List Frame) (ms : List Member) (k : List ℕ) → is_space c ≡ false → (c ≡ 58 → ⊥) → step at outer (colon_wanted ms k) c ≡ stop at 2
-unfolding step
-colon_other at c outer ms k space ne = rw (space, ne_eqb c 58 ne) refl
-
-pub colon_comes : (at : ℕ) (outer : List Frame) (ms : List Member) (k : List ℕ) → step at outer (colon_wanted ms k) 58 ≡ next (in_object ms k ∷ outer) wanted
-unfolding step
-colon_comes at outer ms k = refl
-
-colon_ends : (at : ℕ) (outer : List Frame) (ms : List Member) (k : List ℕ) → finish at outer (colon_wanted ms k) ≡ fault at 2
-unfolding finish
-colon_ends at outer ms k = refl
-
 pub no_key : (bytes : List ℕ) (start : ℕ) (test : List ℕ → Bool) (e : JsonFault) → LacksToken (λ c. c ≡ 34 → ⊥) bytes start e → BreaksKey test bytes start e
+unfolding step finish
 no_key bytes start test e none = λ outer ms keys.
-    lacks _ bytes start outer (key_wanted ms) e none tt (λ at. key_ends at outer ms) (λ at c space ne. key_other at c outer ms space ne)
+    lacks _ bytes start outer (key_wanted ms) e none tt (λ at. refl) (λ at c space ne. rw (space, ne_eqb c 34 ne) refl)
 
 key_begins : (bytes : List ℕ) (start at : ℕ) → FindsToken bytes start at 34 → (outer : List Frame) (ms : List Member)
     → scan bytes start outer (key_wanted ms) ≡ scan bytes (at + 1) outer (quoted (for_key ms at) (plain []))
+unfolding step
 key_begins bytes start at found outer ms =
-    passes bytes start at 34 outer outer (key_wanted ms) (quoted (for_key ms at) (plain [])) found tt (key_quote at outer ms)
+    passes bytes start at 34 outer outer (key_wanted ms) (quoted (for_key ms at) (plain [])) found tt refl
 
 pub key_breaks : (bytes : List ℕ) (start at : ℕ) (test : List ℕ → Bool) (e : JsonFault) → FindsToken bytes start at 34 → BreaksText bytes (at + 1) e
     → BreaksKey test bytes start e
@@ -185,46 +150,29 @@ key_is_new bytes start at end test t found r new outer ms keys = key_begins byte
 
 pub no_colon : (bytes : List ℕ) (start at end : ℕ) (test : List ℕ → Bool) (t : List ℕ) (e : JsonFault) → FindsToken bytes start at 34 → ReadsText bytes (at + 1) end t
     → test t ≡ false → LacksToken (λ c. c ≡ 58 → ⊥) bytes end e → BreaksKey test bytes start e
+unfolding step finish
 no_colon bytes start at end test t e found r new none = λ outer ms keys. led e _ _ (key_is_new bytes start at end test t found r new outer ms keys)
-    (lacks _ bytes end outer (colon_wanted ms t) e none tt (λ p. colon_ends p outer ms t) (λ p c space ne. colon_other p c outer ms t space ne))
+    (lacks _ bytes end outer (colon_wanted ms t) e none tt (λ p. refl) (λ p c space ne. rw (space, ne_eqb c 58 ne) refl))
 
 pub key_read : (bytes : List ℕ) (start at end colon : ℕ) (test : List ℕ → Bool) (t : List ℕ) → FindsToken bytes start at 34 → ReadsText bytes (at + 1) end t
     → test t ≡ false → FindsToken bytes end colon 58 → ReadsKey test bytes start (colon + 1) t
+unfolding step
 key_read bytes start at end colon test t found r new second = λ outer ms keys. key_is_new bytes start at end test t found r new outer ms keys
-    ∙ passes bytes end colon 58 outer (in_object ms t ∷ outer) (colon_wanted ms t) wanted second tt (colon_comes colon outer ms t)
+    ∙ passes bytes end colon 58 outer (in_object ms t ∷ outer) (colon_wanted ms t) wanted second tt refl
 
 -- objects
 pub first_key_other : (at c : ℕ) (outer : List Frame) → is_space c ≡ false → (c ≡ 125 → ⊥) → step at outer first_key c ≡ step at outer (key_wanted []) c
 unfolding step
 first_key_other at c outer space ne = rw (space, ne_eqb c 125 ne) refl
 
-pub first_key_close : (at : ℕ) (outer : List Frame) → step at outer first_key 125 ≡ next outer (ended (object no_members))
-unfolding step
-first_key_close at outer = refl
-
-pub member_comma : (at : ℕ) (outer : List Frame) (ms : List Member) (k : List ℕ) (v : Value) → step at (in_object ms k ∷ outer) (ended v) 44 ≡ next outer (key_wanted (ms ++ (k, v) ∷ []))
-unfolding step ended_step close_step
-member_comma at outer ms k v = refl
-
-pub member_close : (at : ℕ) (outer : List Frame) (ms : List Member) (k : List ℕ) (v : Value) → step at (in_object ms k ∷ outer) (ended v) 125 ≡ next outer (ended (object (members_of (ms ++ (k, v) ∷ []))))
-unfolding step ended_step close_step
-member_close at outer ms k v = refl
-
-member_other : (at c : ℕ) (outer : List Frame) (ms : List Member) (k : List ℕ) (v : Value) → is_space c ≡ false → (c ≡ 44 → ⊥) → (c ≡ 125 → ⊥) → step at (in_object ms k ∷ outer) (ended v) c ≡ stop at 2
-unfolding step ended_step close_step
-member_other at c outer ms k v space comma close = rw (space, ne_eqb c 44 comma, ne_eqb c 125 close) refl
-
-member_ends : (at : ℕ) (outer : List Frame) (ms : List Member) (k : List ℕ) (v : Value) → finish at (in_object ms k ∷ outer) (ended v) ≡ fault at 2
-unfolding finish finish_value
-member_ends at outer ms k v = refl
-
 pub object_cut : (bytes : List ℕ) (start room : ℕ) (e : JsonFault) → LacksToken (λ _. ⊥) bytes start e → BreaksInside bytes start first_key room e
 unfolding finish
 object_cut bytes start room e none = λ outer fits. lacks (λ _. ⊥) bytes start outer first_key e none tt (λ at. refl) (λ at c space no. absurd no)
 
 pub object_empty : (bytes : List ℕ) (start at c room : ℕ) → FindsToken bytes start at c → c ≡ 125 → ReadsInside bytes start first_key (at + 1) room (object no_members)
+unfolding step
 object_empty bytes start at c room found is = λ outer fits.
-    passes bytes start at 125 outer outer first_key (ended (object no_members)) (found_as bytes start at c 125 found is) tt (first_key_close at outer)
+    passes bytes start at 125 outer outer first_key (ended (object no_members)) (found_as bytes start at c 125 found is) tt refl
 
 pub members_begin : (bytes : List ℕ) (start at c room : ℕ) (test : List ℕ → Bool) → FindsToken bytes start at c → (c ≡ 125 → ⊥) → start ≤ at → HasKeys test []
     → HasMembers bytes start at room [] test
@@ -263,13 +211,15 @@ member_added bytes start at end room ms test k v has r = record { read = λ oute
 
 pub object_breaks : (bytes : List ℕ) (start end room : ℕ) (ms : List Member) (k : List ℕ) (v : Value) (e : JsonFault) → MemberRead bytes start end room ms k v
     → LacksToken (λ c. (c ≡ 44 → ⊥) × (c ≡ 125 → ⊥)) bytes end e → BreaksInside bytes start first_key room e
+unfolding step ended_step close_step finish finish_value
 object_breaks bytes start end room ms k v e r none = λ outer fits. led e _ _ (r.read outer fits)
-    (lacks _ bytes end (in_object ms k ∷ outer) (ended v) e none tt (λ at. member_ends at outer ms k v) (λ at c space no. member_other at c outer ms k v space no.0 no.1))
+    (lacks _ bytes end (in_object ms k ∷ outer) (ended v) e none tt (λ at. refl) (λ at c space no. rw (space, ne_eqb c 44 no.0, ne_eqb c 125 no.1) refl))
 
 pub object_closes : (bytes : List ℕ) (start end past room : ℕ) (ms : List Member) (k : List ℕ) (v : Value) → MemberRead bytes start end room ms k v
     → PassesToken bytes end past 125 → ReadsInside bytes start first_key past room (object (members_of (ms ++ (k, v) ∷ [])))
+unfolding step ended_step close_step
 object_closes bytes start end past room ms k v r p = λ outer fits. r.read outer fits
-    ∙ passed bytes end past 125 (in_object ms k ∷ outer) outer (ended v) (ended (object (members_of (ms ++ (k, v) ∷ [])))) p tt (λ at. member_close at outer ms k v)
+    ∙ passed bytes end past 125 (in_object ms k ∷ outer) outer (ended v) (ended (object (members_of (ms ++ (k, v) ∷ [])))) p tt (λ at. refl)
 
 or-false : (b : Bool) → (b || false) ≡ b
 or-false true = refl
@@ -285,12 +235,13 @@ has_key-push (m ∷ ms) k v q = ap (λ b. bytes_eq m.0 q || b) (has_key-push ms 
 
 pub members_go_on : (bytes : List ℕ) (start end past room : ℕ) (ms : List Member) (k : List ℕ) (v : Value) (test more : List ℕ → Bool) → MemberRead bytes start end room ms k v
     → HasKeys test ms → AddsKey test more k → PassesToken bytes end past 44 → start ≤ past → HasMembers bytes start past room (ms ++ (k, v) ∷ []) more
+unfolding step ended_step close_step
 members_go_on bytes start end past room ms k v test more r keys adds p le = record {
   forward = le;
   within = omega (arith, p.is, p.found.token.1);
   keys = λ q. adds q ∙ (ap (λ b. b || bytes_eq k q) (keys q) ∙ sym (has_key-push ms k v q));
   same = λ outer fits. r.read outer fits
-      ∙ passed bytes end past 44 (in_object ms k ∷ outer) outer (ended v) (key_wanted (ms ++ (k, v) ∷ [])) p tt (λ at. member_comma at outer ms k v);
+      ∙ passed bytes end past 44 (in_object ms k ∷ outer) outer (ended v) (key_wanted (ms ++ (k, v) ∷ [])) p tt (λ at. refl);
 }
 
 -- a bracket that opens a level
@@ -302,14 +253,6 @@ pub open_object : (at : ℕ) (outer : List Frame) → step at outer wanted 123 �
 unfolding step begin_step
 open_object at outer = refl
 
-opened_within : (at room : ℕ) (outer : List Frame) (spot : Spot) → length outer + (room + 1) ≡ depth_limit → opened at outer spot ≡ next outer spot
-unfolding opened
-opened_within at room outer spot fits = rw (lt-ltb (length outer) 64 (omega (arith, fits))) refl
-
-opened_past : (at : ℕ) (outer : List Frame) (spot : Spot) → length outer + 0 ≡ depth_limit → opened at outer spot ≡ stop at 3
-unfolding opened
-opened_past at outer spot fits = rw (le-ltb (length outer) 64 (omega (arith, fits))) refl
-
 pub value_cut : (bytes : List ℕ) (start room : ℕ) (e : JsonFault) → LacksToken (λ _. ⊥) bytes start e → BreaksValue bytes start room e
 unfolding finish
 value_cut bytes start room e none = λ outer fits. lacks (λ _. ⊥) bytes start outer wanted e none tt (λ at. refl) (λ at c space no. absurd no)
@@ -320,16 +263,18 @@ Opens k spot = (at : ℕ) (outer : List Frame) → step at outer wanted k ≡ op
 
 pub too_deep : (bytes : List ℕ) (start at room c k : ℕ) (spot : Spot) (e : JsonFault) → Opens k spot → FindsToken bytes start at c → c ≡ k
     → e ≡ At at 3 → room ≡ 0 → BreaksValue bytes start room e
+unfolding opened
 too_deep bytes start at room c k spot e opens found is kind none = λ outer fits.
     let token = found_as bytes start at c k found is in
     led_to e at 3 (scan bytes start outer wanted) kind (token.skips outer wanted tt
-    ∙ stopped bytes at k outer wanted at 3 token.token.0 (opens at outer ∙ opened_past at outer spot (omega (arith, fits, none))))
+    ∙ stopped bytes at k outer wanted at 3 token.token.0 (opens at outer ∙ rw (le-ltb (length outer) 64 (omega (arith, fits, none))) refl))
 
 -- what stands behind a bracket that opens one level more
 inside_opens : (bytes : List ℕ) (start at room c k : ℕ) (spot : Spot) → Opens k spot → FindsToken bytes start at c → c ≡ k
     → (outer : List Frame) → length outer + (room + 1) ≡ depth_limit → scan bytes start outer wanted ≡ scan bytes (at + 1) outer spot
+unfolding opened
 inside_opens bytes start at room c k spot opens found is outer fits =
-    passes bytes start at k outer outer wanted spot (found_as bytes start at c k found is) tt (opens at outer ∙ opened_within at room outer spot fits)
+    passes bytes start at k outer outer wanted spot (found_as bytes start at c k found is) tt (opens at outer ∙ rw (lt-ltb (length outer) 64 (omega (arith, fits))) refl)
 
 pub inside_read : (bytes : List ℕ) (start at end room less c k : ℕ) (spot : Spot) (v : Value) → Opens k spot → FindsToken bytes start at c → c ≡ k → less + 1 ≡ room
     → ReadsInside bytes (at + 1) spot end less v → ReadsValue bytes start end room v

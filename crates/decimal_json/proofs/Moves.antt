@@ -1,9 +1,9 @@
 -- One byte more: what the machine of `specs/inside/Scan.antt` does at the bytes of an input from a place on.
-use Rattle.std.proofs.Common.{◌≡◌, ℕ, ◌+◌, ◌<◌, suc, List, [], ◌∷◌, drop, length, get_or, refl, sym, ap, ◌∙◌, add-one, drop-cons, true}
+use Rattle.std.proofs.Common.{◌≡◌, ℕ, ◌+◌, ◌<◌, suc, List, [], ◌∷◌, drop, length, get_or, refl, sym, ap, ◌∙◌, add-one, drop-cons, Bool, true, false}
 use Rattle.decimal_json.specs.Characters.{is_space}
 use Rattle.decimal_json.specs.Open.{Frame}
 use Rattle.decimal_json.specs.inside.Scan.{Spot, wanted, first_item, first_key, key_wanted, colon_wanted, ended, literal, numeral, quoted, next, stop, fault, step, ended_step, begin_step, minus, finish, after, outcome, scan}
-use Rattle.decimal_json.specs.inside.Answer.{resumed, MaySpace}
+use Rattle.decimal_json.specs.inside.Answer.{resumed, FailsAt, MaySpace}
 
 -- a step at the next byte
 pub stepped : (bytes : List ℕ) (at c : ℕ) (outer : List Frame) (spot : Spot) → drop at bytes ≡ c ∷ drop (at + 1) bytes
@@ -27,6 +27,15 @@ pub finished : (bytes : List ℕ) (at : ℕ) (outer : List Frame) (spot : Spot) 
 unfolding scan outcome
 finished bytes at outer spot e = ap (outcome at outer spot) e
 
+-- where no byte passes a test, and none that fails it leads on
+pub fails_there : (bytes : List ℕ) (at k kind : ℕ) (outer : List Frame) (spot : Spot) (test : ℕ → Bool) → FailsAt test bytes at → finish at outer spot ≡ fault k kind
+    → ((c : ℕ) → test c ≡ false → step at outer spot c ≡ stop k kind) → scan bytes at outer spot ≡ fault k kind
+unfolding scan outcome
+fails_there bytes at k kind outer spot test fails ends stops = go (drop at bytes) (λ c cs e. fails c cs e) where
+  go : (rest : List ℕ) → ((c : ℕ) (cs : List ℕ) → rest ≡ c ∷ cs → test c ≡ false) → outcome at outer spot rest ≡ fault k kind
+  go [] same = ends
+  go (c ∷ cs) same = ap (λ s. after s (λ o t. outcome (suc at) o t cs)) (stops c (same c cs refl))
+
 -- white space leaves the spot as it is
 pub spaced : (at c : ℕ) (outer : List Frame) (spot : Spot) → MaySpace spot → is_space c ≡ true → step at outer spot c ≡ next outer spot
 unfolding step ended_step
@@ -36,9 +45,7 @@ spaced at c outer first_key may e = rw e refl
 spaced at c outer (key_wanted ms) may e = rw e refl
 spaced at c outer (colon_wanted ms k) may e = rw e refl
 spaced at c outer (ended v) may e = rw e refl
-spaced at c outer (literal v ls) may e = absurd may
-spaced at c outer (numeral n) may e = absurd may
-spaced at c outer (quoted p q) may e = absurd may
+spaced at c outer _ may e = absurd may
 
 -- the byte at a place, and what follows it
 pub byte_and_rest : (bytes : List ℕ) (at : ℕ) → at < length bytes → drop at bytes ≡ get_or bytes at 0 ∷ drop (at + 1) bytes
@@ -57,11 +64,6 @@ same_scan bytes at outer spot other each last = go (drop at bytes) (λ c cs e. e
   go : (rest : List ℕ) → ((c : ℕ) (cs : List ℕ) → rest ≡ c ∷ cs → step at outer spot c ≡ step at outer other c) → outcome at outer spot rest ≡ outcome at outer other rest
   go [] same = last
   go (c ∷ cs) same = ap (λ s. after s (λ o t. outcome (suc at) o t cs)) (same c cs refl)
-
--- where a number starts
-pub minus_begins : (at : ℕ) (outer : List Frame) → step at outer wanted 45 ≡ next outer (numeral minus)
-unfolding step begin_step
-minus_begins at outer = refl
 
 -- the byte at a place, where it is known
 pub byte_is : (bytes : List ℕ) (at c : ℕ) → at < length bytes → get_or bytes at 0 ≡ c → drop at bytes ≡ c ∷ drop (at + 1) bytes

@@ -7,38 +7,20 @@ use Rattle.decimal_json.specs.Open.{Frame}
 use Rattle.decimal_json.specs.inside.Scan.{Spot, numeral, minus, zero_first, whole, point, fraction, mark, signed, exponent, ended, so_far, next, stop, step, numeral_step, begin_step, scan, finish, outcome, after, fault}
 use Rattle.decimal_json.specs.inside.Answer.{AddsDigits, ReadsWhole, ReadsFraction, AddsExponent, ReadsExponent, kept, begun, AfterWhole, MayEnd, FailsAt, StandsAt}
 use Rattle.std.proofs.lemmas.Bool.{and_parts, leb-true, ne_eqb, eqb-true, false≢true, or_cases}
-use Rattle.decimal_json.proofs.Moves.{same_scan, moved, byte_and_rest}
-
-pub digit_whole : (at c : ℕ) (outer : List Frame) (n : Bool) (ds : List ℕ) → is_digit c ≡ true
-    → step at outer (numeral (whole n ds)) c ≡ next outer (numeral (whole n (ds ++ digit_of c ∷ [])))
-unfolding step numeral_step
-digit_whole at c outer n ds e = rw e refl
-
-pub digit_fraction : (at c : ℕ) (outer : List Frame) (n : Bool) (ds fs : List ℕ) → is_digit c ≡ true
-    → step at outer (numeral (fraction n ds fs)) c ≡ next outer (numeral (fraction n ds (fs ++ digit_of c ∷ [])))
-unfolding step numeral_step
-digit_fraction at c outer n ds fs e = rw e refl
-
-pub adds_none : (bytes : List ℕ) (start : ℕ) (old : List ℕ) → AddsDigits bytes start start old old
-adds_none bytes start old = record {
-  digits = [];
-  added = sym (append-nil old);
-  count = omega arith;
-  before_point = λ outer n ds. ap (λ xs. scan bytes start outer (numeral (whole n xs))) (sym (append-nil ds));
-  after_point = λ outer n ds fs. ap (λ xs. scan bytes start outer (numeral (fraction n ds xs))) (sym (append-nil fs));
-}
+use Rattle.decimal_json.proofs.Moves.{same_scan, moved, byte_and_rest, fails_there}
 
 pub adds_more : (bytes : List ℕ) (start at : ℕ) (old new : List ℕ) → AddsDigits bytes start at old new → at < length bytes
     → is_digit (get_or bytes at 0) ≡ true → AddsDigits bytes start (at + 1) old (new ++ digit_of (get_or bytes at 0) ∷ [])
+unfolding step numeral_step
 adds_more bytes start at old new r h e = record {
   digits = r.digits ++ d ∷ [];
   added = ap (λ xs. xs ++ d ∷ []) r.added ∙ append_assoc old r.digits (d ∷ []);
   count = omega (arith, r.count, length-append r.digits (d ∷ []));
   before_point = λ outer n ds. r.before_point outer n ds
-      ∙ (moved bytes at c outer (numeral (whole n (ds ++ r.digits))) outer (numeral (whole n ((ds ++ r.digits) ++ d ∷ []))) (byte_and_rest bytes at h) (digit_whole at c outer n (ds ++ r.digits) e)
+      ∙ (moved bytes at c outer (numeral (whole n (ds ++ r.digits))) outer (numeral (whole n ((ds ++ r.digits) ++ d ∷ []))) (byte_and_rest bytes at h) (rw e refl)
       ∙ ap (λ xs. scan bytes (at + 1) outer (numeral (whole n xs))) (append_assoc ds r.digits (d ∷ [])));
   after_point = λ outer n ds fs. r.after_point outer n ds fs
-      ∙ (moved bytes at c outer (numeral (fraction n ds (fs ++ r.digits))) outer (numeral (fraction n ds ((fs ++ r.digits) ++ d ∷ []))) (byte_and_rest bytes at h) (digit_fraction at c outer n ds (fs ++ r.digits) e)
+      ∙ (moved bytes at c outer (numeral (fraction n ds (fs ++ r.digits))) outer (numeral (fraction n ds ((fs ++ r.digits) ++ d ∷ []))) (byte_and_rest bytes at h) (rw e refl)
       ∙ ap (λ xs. scan bytes (at + 1) outer (numeral (fraction n ds xs))) (append_assoc fs r.digits (d ∷ [])));
 } where
   c : ℕ
@@ -82,17 +64,10 @@ unfolding step numeral_step begin_step
 zero_starts at outer true = refl
 zero_starts at outer false = refl
 
-minus_fails : (at c : ℕ) (outer : List Frame) → is_digit c ≡ false → step at outer (numeral minus) c ≡ stop at 2
-unfolding step numeral_step
-minus_fails at c outer h = rw (ne_eqb c 48 (λ e. false≢true (sym h ∙ ap is_digit e)), h) refl
-
 -- a sign with no digit behind it
 pub no_whole : (bytes : List ℕ) (at : ℕ) (outer : List Frame) → FailsAt is_digit bytes at → scan bytes at outer (numeral minus) ≡ fault at 2
-unfolding scan outcome finish
-no_whole bytes at outer fails = go (drop at bytes) (λ c cs e. fails c cs e) where
-  go : (rest : List ℕ) → ((c : ℕ) (cs : List ℕ) → rest ≡ c ∷ cs → is_digit c ≡ false) → outcome at outer (numeral minus) rest ≡ fault at 2
-  go [] same = refl
-  go (c ∷ cs) same = ap (λ s. after s (λ o t. outcome (suc at) o t cs)) (minus_fails at c outer (same c cs refl))
+unfolding step numeral_step finish
+no_whole bytes at outer fails = fails_there bytes at at 2 outer (numeral minus) is_digit fails refl (λ c h. rw (ne_eqb c 48 (λ e. false≢true (sym h ∙ ap is_digit e)), h) refl)
 
 pub mark_is : (c : ℕ) (P : ℕ → Type 0) → is_mark c ≡ true → P 101 → P 69 → P c
 mark_is c P h small large = ⊎_elim (λ e. subst P (sym (eqb-true c 101 e)) small) (λ e. subst P (sym (eqb-true c 69 e)) large) (or_cases (c == 101) (c == 69) h)
@@ -183,88 +158,43 @@ no_fraction bytes start old fails = record {
   read = λ outer spot n behind. (spot, refl, behind.unpointed fails);
 }
 
-pub point_starts : (at c : ℕ) (outer : List Frame) (n : Bool) (ds : List ℕ) → is_digit c ≡ true
-    → step at outer (numeral (point n ds)) c ≡ next outer (numeral (fraction n ds (digit_of c ∷ [])))
-unfolding step numeral_step
-point_starts at c outer n ds h = rw h refl
-
-point_fails : (at c : ℕ) (outer : List Frame) (n : Bool) (ds : List ℕ) → is_digit c ≡ false → step at outer (numeral (point n ds)) c ≡ stop at 2
-unfolding step numeral_step
-point_fails at c outer n ds h = rw h refl
-
--- a spot at which only a digit may come, and none comes
-pub no_digit_here : (bytes : List ℕ) (at : ℕ) (outer : List Frame) (spot : Spot) → ((c : ℕ) → is_digit c ≡ false → step at outer spot c ≡ stop at 2)
-    → finish at outer spot ≡ fault at 2 → FailsAt is_digit bytes at → scan bytes at outer spot ≡ fault at 2
-unfolding scan outcome
-no_digit_here bytes at outer spot each last fails = go (drop at bytes) (λ c cs e. fails c cs e) where
-  go : (rest : List ℕ) → ((c : ℕ) (cs : List ℕ) → rest ≡ c ∷ cs → is_digit c ≡ false) → outcome at outer spot rest ≡ fault at 2
-  go [] same = last
-  go (c ∷ cs) same = ap (λ s. after s (λ o t. outcome (suc at) o t cs)) (each c (same c cs refl))
-
-point_ends : (at : ℕ) (outer : List Frame) (n : Bool) (ds : List ℕ) → finish at outer (numeral (point n ds)) ≡ fault at 2
-unfolding finish
-point_ends at outer n ds = refl
-
 pub no_digit_after_point : (bytes : List ℕ) (start : ℕ) (outer : List Frame) (spot : Spot) (n : Bool) (ds : List ℕ) → StandsAt bytes start 46
     → FailsAt is_digit bytes (start + 1) → AfterWhole bytes start outer spot n ds → scan bytes start outer spot ≡ fault (start + 1) 2
+unfolding step numeral_step finish
 no_digit_after_point bytes start outer spot n ds e fails behind =
-    behind.pointed e ∙ no_digit_here bytes (start + 1) outer (numeral (point n ds)) (λ c h. point_fails (start + 1) c outer n ds h) (point_ends (start + 1) outer n ds) fails
+    behind.pointed e ∙ fails_there bytes (start + 1) (start + 1) 2 outer (numeral (point n ds)) is_digit fails refl (λ c h. rw h refl)
 
 pub reads_fraction : (bytes : List ℕ) (start at c places : ℕ) (old new : List ℕ) → StandsAt bytes start 46 → StandsAt bytes (start + 1) c → is_digit c ≡ true
     → AddsDigits bytes (start + 2) at (old ++ digit_of c ∷ []) new → FailsAt is_digit bytes at → places + (start + 1) ≡ at
     → ReadsFraction bytes start at places old new
+unfolding step numeral_step
 reads_fraction bytes start at c places old new e f h r fails count = record {
   digits = digit_of c ∷ r.digits;
   added = r.added ∙ append_assoc old (digit_of c ∷ []) r.digits;
   count = omega (arith, r.count);
   read = λ outer spot n behind. (
     numeral (fraction n old (digit_of c ∷ r.digits)),
-    behind.pointed e ∙ (moved bytes (start + 1) c outer (numeral (point n old)) outer (numeral (fraction n old (digit_of c ∷ []))) f (point_starts (start + 1) c outer n old h)
+    behind.pointed e ∙ (moved bytes (start + 1) c outer (numeral (point n old)) outer (numeral (fraction n old (digit_of c ∷ []))) f (rw h refl)
         ∙ subst (λ (k : ℕ). scan bytes k outer (numeral (fraction n old (digit_of c ∷ []))) ≡ scan bytes at outer (numeral (fraction n old (digit_of c ∷ r.digits)))) (omega arith) (r.after_point outer n old (digit_of c ∷ []))),
     after_fraction bytes at outer n old (digit_of c ∷ r.digits) fails,
   );
 }
 
 -- the sign of an exponent, or none
-pub mark_plus : (at : ℕ) (outer : List Frame) (n : Bool) (ds fs : List ℕ) → step at outer (numeral (mark n ds fs)) 43 ≡ next outer (numeral (signed n ds fs false))
-unfolding step numeral_step
-mark_plus at outer n ds fs = refl
-
-pub mark_minus : (at : ℕ) (outer : List Frame) (n : Bool) (ds fs : List ℕ) → step at outer (numeral (mark n ds fs)) 45 ≡ next outer (numeral (signed n ds fs true))
-unfolding step numeral_step
-mark_minus at outer n ds fs = refl
-
 pub plus_sign : (bytes : List ℕ) (at : ℕ) (outer : List Frame) (n : Bool) (ds fs : List ℕ) → StandsAt bytes at 43
     → scan bytes at outer (numeral (mark n ds fs)) ≡ scan bytes (at + 1) outer (numeral (signed n ds fs false))
-plus_sign bytes at outer n ds fs e = moved bytes at 43 outer (numeral (mark n ds fs)) outer (numeral (signed n ds fs false)) e (mark_plus at outer n ds fs)
+unfolding step numeral_step
+plus_sign bytes at outer n ds fs e = moved bytes at 43 outer (numeral (mark n ds fs)) outer (numeral (signed n ds fs false)) e refl
 
 pub minus_sign : (bytes : List ℕ) (at : ℕ) (outer : List Frame) (n : Bool) (ds fs : List ℕ) → StandsAt bytes at 45
     → scan bytes at outer (numeral (mark n ds fs)) ≡ scan bytes (at + 1) outer (numeral (signed n ds fs true))
-minus_sign bytes at outer n ds fs e = moved bytes at 45 outer (numeral (mark n ds fs)) outer (numeral (signed n ds fs true)) e (mark_minus at outer n ds fs)
+unfolding step numeral_step
+minus_sign bytes at outer n ds fs e = moved bytes at 45 outer (numeral (mark n ds fs)) outer (numeral (signed n ds fs true)) e refl
 
 pub no_sign : (bytes : List ℕ) (at : ℕ) (outer : List Frame) (n : Bool) (ds fs : List ℕ) → FailsAt (λ c. c == 43) bytes at → FailsAt (λ c. c == 45) bytes at
     → scan bytes at outer (numeral (mark n ds fs)) ≡ scan bytes at outer (numeral (signed n ds fs false))
 unfolding step numeral_step finish
 no_sign bytes at outer n ds fs no_plus no_minus = same_scan bytes at outer (numeral (mark n ds fs)) (numeral (signed n ds fs false)) (λ c cs e. rw (no_plus c cs e, no_minus c cs e) refl) refl
-
-pub signed_starts : (at c : ℕ) (outer : List Frame) (n : Bool) (ds fs : List ℕ) (down : Bool) → is_digit c ≡ true
-    → step at outer (numeral (signed n ds fs down)) c ≡ next outer (numeral (exponent n ds fs down (digit_of c)))
-unfolding step numeral_step
-signed_starts at c outer n ds fs down h = rw h refl
-
-signed_fails : (at c : ℕ) (outer : List Frame) (n : Bool) (ds fs : List ℕ) (down : Bool) → is_digit c ≡ false
-    → step at outer (numeral (signed n ds fs down)) c ≡ stop at 2
-unfolding step numeral_step
-signed_fails at c outer n ds fs down h = rw h refl
-
-signed_ends : (at : ℕ) (outer : List Frame) (n : Bool) (ds fs : List ℕ) (down : Bool) → finish at outer (numeral (signed n ds fs down)) ≡ fault at 2
-unfolding finish
-signed_ends at outer n ds fs down = refl
-
-pub exponent_more : (at c : ℕ) (outer : List Frame) (n : Bool) (ds fs : List ℕ) (down : Bool) (w : ℕ) → is_digit c ≡ true
-    → step at outer (numeral (exponent n ds fs down w)) c ≡ next outer (numeral (exponent n ds fs down (w * 10 + digit_of c)))
-unfolding step numeral_step
-exponent_more at c outer n ds fs down w h = rw h refl
 
 pub exponent_ends : (bytes : List ℕ) (at : ℕ) (outer : List Frame) (n : Bool) (ds fs : List ℕ) (down : Bool) (w : ℕ) → FailsAt is_digit bytes at
     → scan bytes at outer (numeral (exponent n ds fs down w)) ≡ scan bytes at outer (ended (so_far n ds fs down w))
@@ -275,12 +205,13 @@ exponent_ends bytes at outer n ds fs down w fails =
 pub adds_exponent : (bytes : List ℕ) (start at first written new : ℕ) → AddsExponent bytes start at first written → at < length bytes
     → is_digit (get_or bytes at 0) ≡ true → ((w : ℕ) → written ≡ kept w → new ≡ kept (w * 10 + digit_of (get_or bytes at 0)))
     → AddsExponent bytes start (at + 1) first new
+unfolding step numeral_step
 adds_exponent bytes start at first written new r h e more = (
   r.0 * 10 + digit_of (get_or bytes at 0),
   more r.0 r.1,
   λ outer n ds fs down. r.2 outer n ds fs down
       ∙ moved bytes at (get_or bytes at 0) outer (numeral (exponent n ds fs down r.0)) outer (numeral (exponent n ds fs down (r.0 * 10 + digit_of (get_or bytes at 0)))) (byte_and_rest bytes at h)
-      (exponent_more at (get_or bytes at 0) outer n ds fs down r.0 e),
+      (rw e refl),
 )
 
 -- an exponent from its mark on
@@ -288,23 +219,22 @@ pub reads_exponent : (bytes : List ℕ) (start at end m c written : ℕ) (down :
     → ((outer : List Frame) (n : Bool) (ds fs : List ℕ) → scan bytes (start + 1) outer (numeral (mark n ds fs)) ≡ scan bytes at outer (numeral (signed n ds fs down)))
     → StandsAt bytes at c → is_digit c ≡ true → AddsExponent bytes (at + 1) end (digit_of c) written → FailsAt is_digit bytes end
     → ReadsExponent bytes start end down written
+unfolding step numeral_step
 reads_exponent bytes start at end m c written down e is_m sign f h r fails = (
   r.0,
   r.1,
   λ outer spot n ds fs behind. behind.marked m e is_m ∙ (sign outer n ds fs
-      ∙ (moved bytes at c outer (numeral (signed n ds fs down)) outer (numeral (exponent n ds fs down (digit_of c))) f (signed_starts at c outer n ds fs down h)
+      ∙ (moved bytes at c outer (numeral (signed n ds fs down)) outer (numeral (exponent n ds fs down (digit_of c))) f (rw h refl)
       ∙ (r.2 outer n ds fs down ∙ exponent_ends bytes end outer n ds fs down r.0 fails))),
 )
 
 pub no_digit_after_sign : (bytes : List ℕ) (start at m : ℕ) (down : Bool) → StandsAt bytes start m → is_mark m ≡ true
     → ((outer : List Frame) (n : Bool) (ds fs : List ℕ) → scan bytes (start + 1) outer (numeral (mark n ds fs)) ≡ scan bytes at outer (numeral (signed n ds fs down)))
     → FailsAt is_digit bytes at → (outer : List Frame) (spot : Spot) (n : Bool) (ds fs : List ℕ) → MayEnd bytes start outer spot n ds fs → scan bytes start outer spot ≡ fault at 2
+unfolding step numeral_step finish
 no_digit_after_sign bytes start at m down e is_m sign fails outer spot n ds fs behind =
     behind.marked m e is_m ∙ (sign outer n ds fs
-    ∙ no_digit_here bytes at outer (numeral (signed n ds fs down)) (λ c h. signed_fails at c outer n ds fs down h) (signed_ends at outer n ds fs down) fails)
-
-pub no_exponent : (bytes : List ℕ) (start : ℕ) → FailsAt is_mark bytes start → ReadsExponent bytes start start false 0
-no_exponent bytes start fails = (0, refl, λ outer spot n ds fs behind. behind.unmarked fails)
+    ∙ fails_there bytes at at 2 outer (numeral (signed n ds fs down)) is_digit fails refl (λ c h. rw h refl))
 
 -- a whole number of the text: its three parts, and what they say together
 pub reads_number : (bytes : List ℕ) (start whole_end point_end end places written : ℕ) (outer : List Frame) (n down : Bool) (ds new : List ℕ) (held_to : ℤ)

@@ -6,22 +6,23 @@ use Rattle.std.proofs.lemmas.List.{append-nil}
 use Rattle.std.proofs.lemmas.Bool.{cases_Bool, eqb-true}
 use Rattle.decimal_json.specs.Escape.{is_hex, unit_of}
 use Rattle.decimal_json.specs.Open.{Member, Frame, Purpose, for_value, for_key}
-use Rattle.decimal_json.specs.inside.Scan.{wanted, key_wanted, quoted, plain, escaped, high, high_escaped, high_unit, Hex, no_digit, one_digit, two_digits, three_digits, next, stop, fault, step, quoted_step, quote_step, more_hex, finish, outcome, whole_outcome}
+use Rattle.decimal_json.specs.inside.Scan.{wanted, key_wanted, quoted, plain, escaped, high, high_escaped, high_unit, Hex, no_digit, one_digit, two_digits, three_digits, next, stop, fault, step, quoted_step, quote_step, more_hex, finish, outcome, whole_outcome, begin_step, pair_step}
 use Rattle.decimal_json.specs.Grammar.{Character, itself, short, alone, pair, character_text, meaning, AreHex, AreCharacters}
 use Rattle.decimal_json.specs.Fronts.{IsStringFront, RepeatsKey, LacksSecond, LacksPartner}
 use Rattle.decimal_json.proofs.Runs.{Refuses, placed_at}
-use Rattle.decimal_json.proofs.Values.{quote_leads}
-use Rattle.decimal_json.proofs.Inside.{key_quote, quote_known}
+use Rattle.decimal_json.proofs.Inside.{quote_known}
 use Rattle.decimal_json.proofs.Texts.{plain_leads}
-use Rattle.decimal_json.proofs.Escapes.{plain_backslash, escaped_some, second_each, high_leads, high_escaped_leads}
-use Rattle.decimal_json.proofs.RunStrings.{go_on, byte_run, StringRun, string_run, tail_text, unit_run, second_run, unit_scalar, unit_low, unit_high, pair_low, pair_other, high_other, high_letter}
+use Rattle.decimal_json.proofs.Escapes.{escaped_some, second_each}
+use Rattle.decimal_json.proofs.RunStrings.{go_on, byte_run, StringRun, string_run, tail_text, unit_run, second_run, unit_scalar, unit_low, unit_high, pair_low}
 use Rattle.decimal_json.proofs.RunFronts.{front_runs, key_front_runs}
+use Rattle.decimal_json.proofs.Stands.{hex_text, AreHexSoFar}
 
 string_surely : (at : ℕ) (outer : List Frame) (p : Purpose) (t : List ℕ) (cs : List Character) (rest : List ℕ) → StringRun true at outer p t cs rest
     → outcome at outer (quoted p (plain t)) (tail_text cs ++ rest) ≡ go_on (at + length (tail_text cs)) rest (quote_step outer p (t ++ flat_map meaning cs))
 string_surely at outer p t cs rest r = ⊎_elim (λ e. e) (λ (f : Refuses true (outcome at outer (quoted p (plain t)) (tail_text cs ++ rest))). absurd (f.limits refl)) r
 
 pub repeated_fault : (bytes : List ℕ) (at : ℕ) → RepeatsKey bytes at → whole_outcome bytes ≡ fault at 4
+unfolding step
 repeated_fault bytes at r =
     let outer : List Frame = r.0 in
     let ms : List Member = r.1 in
@@ -29,7 +30,7 @@ repeated_fault bytes at r =
     let cs : List Character = r.7.0 in
     ap whole_outcome (r.10 ∙ ap (λ x. r.2 ++ (x ++ r.5)) r.7.3)
     ∙ (key_front_runs outer ms r.2 (λ f h. front_runs outer f h) r.6 (tail_text cs ++ r.5)
-    ∙ (byte_run k 34 outer (key_wanted ms) (tail_text cs ++ r.5) (next outer (quoted (for_key ms k) (plain []))) (key_quote k outer ms)
+    ∙ (byte_run k 34 outer (key_wanted ms) (tail_text cs ++ r.5) (next outer (quoted (for_key ms k) (plain []))) refl
     ∙ (string_surely (suc k) outer (for_key ms k) [] cs r.5 (string_run true (suc k) outer (for_key ms k) [] cs r.5 r.7.1)
     ∙ (ap (go_on (suc k + length (tail_text cs)) r.5) (ap (quote_step outer (for_key ms k)) (sym r.7.2) ∙ quote_known outer ms k r.4 r.8) ∙ ap (λ j. fault j 4) (sym r.9)))))
 
@@ -42,12 +43,13 @@ moved_to later place outer p t m cs xs e =
 -- the characters of a string within the limits
 characters_run : (cs : List Character) → AreCharacters true cs → (at : ℕ) (outer : List Frame) (p : Purpose) (t xs : List ℕ)
     → outcome at outer (quoted p (plain t)) (flat_map character_text cs ++ xs) ≡ outcome (at + length (flat_map character_text cs)) outer (quoted p (plain (t ++ flat_map meaning cs))) xs
+unfolding step quoted_step
 characters_run [] are at outer p t xs = placed_at at (at + 0) outer (quoted p (plain t)) xs (omega arith) ∙ ap (λ y. outcome (at + 0) outer (quoted p (plain y)) xs) (sym (append-nil t))
 characters_run (itself c ∷ cs) are at outer p t xs =
     byte_run at c outer (quoted p (plain t)) (flat_map character_text cs ++ xs) (next outer (quoted p (plain (t ++ c ∷ [])))) (plain_leads at c outer p t are.0)
     ∙ (characters_run cs are.2 (suc at) outer p (t ++ c ∷ []) xs ∙ moved_to (suc at) (at + length (flat_map character_text (itself c ∷ cs))) outer p t (c ∷ []) cs xs (omega arith))
 characters_run (short l b ∷ cs) are at outer p t xs =
-    byte_run at 92 outer (quoted p (plain t)) (l ∷ flat_map character_text cs ++ xs) (next outer (quoted p (escaped t at))) (plain_backslash at outer p t)
+    byte_run at 92 outer (quoted p (plain t)) (l ∷ flat_map character_text cs ++ xs) (next outer (quoted p (escaped t at))) refl
     ∙ (byte_run (suc at) l outer (quoted p (escaped t at)) (flat_map character_text cs ++ xs) (next outer (quoted p (plain (t ++ b ∷ [])))) (escaped_some (suc at) outer p t at l b are.0)
     ∙ (characters_run cs are.2 (suc (suc at)) outer p (t ++ b ∷ []) xs ∙ moved_to (suc (suc at)) (at + length (flat_map character_text (short l b ∷ cs))) outer p t (b ∷ []) cs xs (omega arith)))
 characters_run (alone a b c d ∷ cs) are at outer p t xs =
@@ -66,84 +68,55 @@ characters_run (pair a b c d e f g h ∷ cs) are at outer p t xs =
     ∙ (ap (go_on twelve (flat_map character_text cs ++ xs)) (pair_low outer p t at (unit_of a b c d) (unit_of e f g h) are.0.3)
     ∙ (characters_run cs are.2 twelve outer p (t ++ m) xs ∙ moved_to twelve (at + length (flat_map character_text (pair a b c d e f g h ∷ cs))) outer p t m cs xs (omega arith)))))
 
--- behind the first unit of a pair
-second_stop : (at c : ℕ) (outer : List Frame) (p : Purpose) (t : List ℕ) (back u : ℕ) (h : Hex) → is_hex c ≡ false → step at outer (quoted p (high_unit t back u h)) c ≡ stop back 5
+-- behind the first unit of a pair, where these digits of the second have come
+no_more_hex : (at c : ℕ) (outer : List Frame) (p : Purpose) (t : List ℕ) (back u : ℕ) (h : Hex) (xs : List ℕ) → (is_hex c ≡ true → outcome at outer (quoted p (high_unit t back u h)) (c ∷ xs) ≡ fault back 5)
+    → outcome at outer (quoted p (high_unit t back u h)) (c ∷ xs) ≡ fault back 5
 unfolding step quoted_step
-second_stop at c outer p t back u h e = rw e refl
+no_more_hex at c outer p t back u h xs later =
+    ⊎_elim later (λ (e : is_hex c ≡ false). byte_run at c outer (quoted p (high_unit t back u h)) xs (stop back 5) (rw e refl)) (cases_Bool (is_hex c))
 
-cut_there : (at : ℕ) (outer : List Frame) (p : Purpose) (t : List ℕ) (back u : ℕ) (h : Hex) → outcome at outer (quoted p (high_unit t back u h)) [] ≡ fault back 5
-unfolding outcome finish
-cut_there at outer p t back u h = refl
-
-lack_3 : (at : ℕ) (outer : List Frame) (p : Purpose) (t : List ℕ) (back u a b c : ℕ) (xs : List ℕ) → ((d : ℕ) (rest : List ℕ) → is_hex d ≡ true → is_low_surrogate (unit_of a b c d) ≡ true → xs ≡ d ∷ rest → ⊥)
-    → outcome at outer (quoted p (high_unit t back u (three_digits a b c))) xs ≡ fault back 5
-unfolding more_hex
-lack_3 at outer p t back u a b c [] no_such = cut_there at outer p t back u (three_digits a b c)
-lack_3 at outer p t back u a b c (d ∷ xs) no_such =
-    ⊎_elim (λ (e : is_hex d ≡ true). ⊎_elim (λ (low : is_low_surrogate (unit_of a b c d) ≡ true). absurd (no_such d xs e low refl))
-    (λ (low : is_low_surrogate (unit_of a b c d) ≡ false). byte_run at d outer (quoted p (high_unit t back u (three_digits a b c))) xs (stop back 5)
-    (second_each outer p t back u at d (three_digits a b c) e ∙ pair_other outer p t back u (unit_of a b c d) low)) (cases_Bool (is_low_surrogate (unit_of a b c d))))
-    (λ (e : is_hex d ≡ false). byte_run at d outer (quoted p (high_unit t back u (three_digits a b c))) xs (stop back 5) (second_stop at d outer p t back u (three_digits a b c) e)) (cases_Bool (is_hex d))
-
-lack_2 : (at : ℕ) (outer : List Frame) (p : Purpose) (t : List ℕ) (back u a b : ℕ) (xs : List ℕ)
-    → ((c d : ℕ) (rest : List ℕ) → is_hex c ≡ true → is_hex d ≡ true → is_low_surrogate (unit_of a b c d) ≡ true → xs ≡ c ∷ d ∷ rest → ⊥)
-    → outcome at outer (quoted p (high_unit t back u (two_digits a b))) xs ≡ fault back 5
-unfolding more_hex
-lack_2 at outer p t back u a b [] no_such = cut_there at outer p t back u (two_digits a b)
-lack_2 at outer p t back u a b (c ∷ xs) no_such =
-    ⊎_elim (λ (e : is_hex c ≡ true). byte_run at c outer (quoted p (high_unit t back u (two_digits a b))) xs (next outer (quoted p (high_unit t back u (three_digits a b c)))) (second_each outer p t back u at c (two_digits a b) e)
-    ∙ lack_3 (suc at) outer p t back u a b c xs (λ d rest g low f. no_such c d rest e g low (ap (λ y. c ∷ y) f)))
-    (λ (e : is_hex c ≡ false). byte_run at c outer (quoted p (high_unit t back u (two_digits a b))) xs (stop back 5) (second_stop at c outer p t back u (two_digits a b) e)) (cases_Bool (is_hex c))
-
-lack_1 : (at : ℕ) (outer : List Frame) (p : Purpose) (t : List ℕ) (back u a : ℕ) (xs : List ℕ)
-    → ((b c d : ℕ) (rest : List ℕ) → is_hex b ≡ true → is_hex c ≡ true → is_hex d ≡ true → is_low_surrogate (unit_of a b c d) ≡ true → xs ≡ b ∷ c ∷ d ∷ rest → ⊥)
-    → outcome at outer (quoted p (high_unit t back u (one_digit a))) xs ≡ fault back 5
-unfolding more_hex
-lack_1 at outer p t back u a [] no_such = cut_there at outer p t back u (one_digit a)
-lack_1 at outer p t back u a (b ∷ xs) no_such =
-    ⊎_elim (λ (e : is_hex b ≡ true). byte_run at b outer (quoted p (high_unit t back u (one_digit a))) xs (next outer (quoted p (high_unit t back u (two_digits a b)))) (second_each outer p t back u at b (one_digit a) e)
-    ∙ lack_2 (suc at) outer p t back u a b xs (λ c d rest g h low f. no_such b c d rest e g h low (ap (λ y. b ∷ y) f)))
-    (λ (e : is_hex b ≡ false). byte_run at b outer (quoted p (high_unit t back u (one_digit a))) xs (stop back 5) (second_stop at b outer p t back u (one_digit a) e)) (cases_Bool (is_hex b))
-
-lack_0 : (at : ℕ) (outer : List Frame) (p : Purpose) (t : List ℕ) (back u : ℕ) (xs : List ℕ)
-    → ((a b c d : ℕ) (rest : List ℕ) → AreHex a b c d → is_low_surrogate (unit_of a b c d) ≡ true → xs ≡ a ∷ b ∷ c ∷ d ∷ rest → ⊥)
-    → outcome at outer (quoted p (high_unit t back u no_digit)) xs ≡ fault back 5
-unfolding more_hex
-lack_0 at outer p t back u [] no_such = cut_there at outer p t back u no_digit
-lack_0 at outer p t back u (a ∷ xs) no_such =
-    ⊎_elim (λ (e : is_hex a ≡ true). byte_run at a outer (quoted p (high_unit t back u no_digit)) xs (next outer (quoted p (high_unit t back u (one_digit a)))) (second_each outer p t back u at a no_digit e)
-    ∙ lack_1 (suc at) outer p t back u a xs (λ b c d rest g h i low f. no_such a b c d rest (e, g, h, i) low (ap (λ y. a ∷ y) f)))
-    (λ (e : is_hex a ≡ false). byte_run at a outer (quoted p (high_unit t back u no_digit)) xs (stop back 5) (second_stop at a outer p t back u no_digit e)) (cases_Bool (is_hex a))
-
-high_cut : (at : ℕ) (outer : List Frame) (p : Purpose) (t : List ℕ) (back u : ℕ) → outcome at outer (quoted p (high t back u)) [] ≡ fault back 5
-unfolding outcome finish
-high_cut at outer p t back u = refl
-
-escaped_cut : (at : ℕ) (outer : List Frame) (p : Purpose) (t : List ℕ) (back u : ℕ) → outcome at outer (quoted p (high_escaped t back u)) [] ≡ fault back 5
-unfolding outcome finish
-escaped_cut at outer p t back u = refl
+lack_digits : (h : Hex) → AreHexSoFar h → (at : ℕ) (outer : List Frame) (p : Purpose) (t : List ℕ) (back u : ℕ) (xs : List ℕ) → LacksSecond (92 ∷ 117 ∷ hex_text h ++ xs)
+    → outcome at outer (quoted p (high_unit t back u h)) xs ≡ fault back 5
+unfolding more_hex outcome finish pair_step
+lack_digits h are at outer p t back u [] l = refl
+lack_digits no_digit are at outer p t back u (c ∷ xs) l = no_more_hex at c outer p t back u no_digit xs (λ e.
+    byte_run at c outer (quoted p (high_unit t back u no_digit)) xs (next outer (quoted p (high_unit t back u (one_digit c)))) (second_each outer p t back u at c no_digit e)
+    ∙ lack_digits (one_digit c) e (suc at) outer p t back u xs l)
+lack_digits (one_digit a) are at outer p t back u (c ∷ xs) l = no_more_hex at c outer p t back u (one_digit a) xs (λ e.
+    byte_run at c outer (quoted p (high_unit t back u (one_digit a))) xs (next outer (quoted p (high_unit t back u (two_digits a c)))) (second_each outer p t back u at c (one_digit a) e)
+    ∙ lack_digits (two_digits a c) (are, e) (suc at) outer p t back u xs l)
+lack_digits (two_digits a b) are at outer p t back u (c ∷ xs) l = no_more_hex at c outer p t back u (two_digits a b) xs (λ e.
+    byte_run at c outer (quoted p (high_unit t back u (two_digits a b))) xs (next outer (quoted p (high_unit t back u (three_digits a b c)))) (second_each outer p t back u at c (two_digits a b) e)
+    ∙ lack_digits (three_digits a b c) (are.0, are.1, e) (suc at) outer p t back u xs l)
+lack_digits (three_digits a b d) are at outer p t back u (c ∷ xs) l = no_more_hex at c outer p t back u (three_digits a b d) xs (λ e.
+    ⊎_elim (λ (low : is_low_surrogate (unit_of a b d c) ≡ true). absurd (l a b d c xs (are.0, are.1, are.2, e) low refl))
+    (λ (low : is_low_surrogate (unit_of a b d c) ≡ false). byte_run at c outer (quoted p (high_unit t back u (three_digits a b d))) xs (stop back 5)
+    (second_each outer p t back u at c (three_digits a b d) e ∙ rw low refl)) (cases_Bool (is_low_surrogate (unit_of a b d c))))
 
 lack_letter : (at : ℕ) (outer : List Frame) (p : Purpose) (t : List ℕ) (back u : ℕ) (xs : List ℕ) → LacksSecond (92 ∷ xs) → outcome at outer (quoted p (high_escaped t back u)) xs ≡ fault back 5
-lack_letter at outer p t back u [] l = escaped_cut at outer p t back u
+unfolding outcome finish step quoted_step
+lack_letter at outer p t back u [] l = refl
 lack_letter at outer p t back u (c ∷ xs) l =
     ⊎_elim (λ (e : (c == 117) ≡ true). byte_run at c outer (quoted p (high_escaped t back u)) xs (next outer (quoted p (high_unit t back u no_digit)))
-    (ap (λ b. step at outer (quoted p (high_escaped t back u)) b) (eqb-true c 117 e) ∙ high_escaped_leads at outer p t back u)
-    ∙ lack_0 (suc at) outer p t back u xs (λ a b d f rest hex low g. l a b d f rest hex low (ap (λ y. 92 ∷ c ∷ y) g ∙ ap (λ k. 92 ∷ k ∷ a ∷ b ∷ d ∷ f ∷ rest) (eqb-true c 117 e))))
-    (λ (e : (c == 117) ≡ false). byte_run at c outer (quoted p (high_escaped t back u)) xs (stop back 5) (high_letter at c outer p t back u e)) (cases_Bool (c == 117))
+    (ap (λ b. step at outer (quoted p (high_escaped t back u)) b) (eqb-true c 117 e))
+    ∙ lack_digits no_digit tt (suc at) outer p t back u xs (subst (λ (k : ℕ). LacksSecond (92 ∷ k ∷ xs)) (eqb-true c 117 e) l))
+    (λ (e : (c == 117) ≡ false). byte_run at c outer (quoted p (high_escaped t back u)) xs (stop back 5) (rw e refl)) (cases_Bool (c == 117))
 
 high_lacks : (at : ℕ) (outer : List Frame) (p : Purpose) (t : List ℕ) (back u : ℕ) (xs : List ℕ) → LacksSecond xs → outcome at outer (quoted p (high t back u)) xs ≡ fault back 5
-high_lacks at outer p t back u [] l = high_cut at outer p t back u
+unfolding outcome finish step quoted_step
+high_lacks at outer p t back u [] l = refl
 high_lacks at outer p t back u (c ∷ xs) l =
     ⊎_elim (λ (e : (c == 92) ≡ true). byte_run at c outer (quoted p (high t back u)) xs (next outer (quoted p (high_escaped t back u)))
-    (ap (λ b. step at outer (quoted p (high t back u)) b) (eqb-true c 92 e) ∙ high_leads at outer p t back u)
+    (ap (λ b. step at outer (quoted p (high t back u)) b) (eqb-true c 92 e))
     ∙ lack_letter (suc at) outer p t back u xs (subst (λ (k : ℕ). LacksSecond (k ∷ xs)) (eqb-true c 92 e) l))
-    (λ (e : (c == 92) ≡ false). byte_run at c outer (quoted p (high t back u)) xs (stop back 5) (high_other at c outer p t back u e)) (cases_Bool (c == 92))
+    (λ (e : (c == 92) ≡ false). byte_run at c outer (quoted p (high t back u)) xs (stop back 5) (rw e refl)) (cases_Bool (c == 92))
 
 string_front_runs : (outer : List Frame) (p : Purpose) (front xs : List ℕ) → IsStringFront outer p front → whole_outcome (front ++ 34 ∷ xs) ≡ outcome (suc (length front)) outer (quoted p (plain [])) xs
+unfolding step begin_step
 string_front_runs outer for_value front xs f = front_runs outer front f 34 xs refl (λ e. absurd (omega arith))
-    ∙ byte_run (length front) 34 outer wanted xs (next outer (quoted for_value (plain []))) (quote_leads (length front) outer)
+    ∙ byte_run (length front) 34 outer wanted xs (next outer (quoted for_value (plain []))) refl
 string_front_runs outer (for_key ms at) front xs f = key_front_runs outer ms front (λ g h. front_runs outer g h) f.0 xs
-    ∙ (byte_run (length front) 34 outer (key_wanted ms) xs (next outer (quoted (for_key ms (length front)) (plain []))) (key_quote (length front) outer ms)
+    ∙ (byte_run (length front) 34 outer (key_wanted ms) xs (next outer (quoted (for_key ms (length front)) (plain []))) refl
     ∙ ap (λ k. outcome (suc (length front)) outer (quoted (for_key ms k) (plain [])) xs) (sym f.1))
 
 pub lacks_fault : (bytes : List ℕ) (at : ℕ) → LacksPartner bytes at → whole_outcome bytes ≡ fault at 5

@@ -2,18 +2,18 @@
 use Rattle.std.proofs.Common.{◌≡◌, ℕ, ◌+◌, suc, List, [], ◌∷◌, ◌++◌, length, refl, sym, ap, subst, ◌∙◌, arith, true, false, append_assoc, length-append, ⊎_elim}
 use Rattle.std.specs.Prelude.{nat_lt}
 use Rattle.std.proofs.lemmas.List.{append-nil}
-use Rattle.std.proofs.lemmas.Bool.{le-ltb}
+use Rattle.std.proofs.lemmas.Bool.{le-ltb, lt-ltb}
 use Rattle.decimal_json.specs.Value.{Value, member, members_of, has_key}
 use Rattle.decimal_json.specs.Characters.{is_space}
 use Rattle.decimal_json.specs.Open.{Member, Frame, in_array, in_object}
-use Rattle.decimal_json.specs.inside.Scan.{Spot, wanted, first_item, first_key, key_wanted, colon_wanted, ended, next, stop, fault, step, outcome, whole_outcome}
+use Rattle.decimal_json.specs.inside.Scan.{Spot, wanted, first_item, first_key, key_wanted, colon_wanted, ended, next, stop, fault, step, outcome, whole_outcome, begin_step, ended_step, close_step, opened}
 use Rattle.decimal_json.specs.Grammar.{IsSpace, HasUniqueKeys}
 use Rattle.decimal_json.specs.Fronts.{FrontItems, FrontMembers, IsFront, IsKeyFront, OpensTooDeep}
-use Rattle.decimal_json.proofs.Inside.{item_comma, member_comma, colon_comes, open_array, open_object}
+use Rattle.decimal_json.proofs.Inside.{item_comma}
 use Rattle.decimal_json.proofs.Uniques.{members_onto, new_key}
 use Rattle.decimal_json.proofs.Runs.{moves_none, moves_byte, space_moves, Refuses, Arrives, arrives_then, arrives_by, placed_at, Delimits}
 use Rattle.decimal_json.proofs.RunStrings.{byte_run}
-use Rattle.decimal_json.proofs.RunValues.{arrives_as, first_as, value_begins, padded, keyed, delimits_behind, first_key_is, first_item_as, first_key_as, string_key, value_arrives, opened_next, opened_stop, four, seven}
+use Rattle.decimal_json.proofs.RunValues.{arrives_as, first_as, value_begins, padded, keyed, delimits_behind, first_key_is, first_item_as, first_key_as, string_key, value_arrives, four, seven}
 
 surely : (at : ℕ) (outer : List Frame) (spot : Spot) (bs : List ℕ) (o : List Frame) (s : Spot) (rest : List ℕ) → Arrives true at outer spot bs o s rest → outcome at outer spot (bs ++ rest) ≡ outcome (at + length bs) o s rest
 surely at outer spot bs o s rest a = ⊎_elim (λ e. e) (λ (r : Refuses true (outcome at outer spot (bs ++ rest))). absurd (r.limits refl)) a
@@ -74,9 +74,10 @@ is_new earlier m ms u = new_key earlier m.0 m.1 (members_of ms) (subst HasUnique
 
 members_comma : (outer : List Frame) (earlier : List Member) (m : Member) (k : ℕ) (more : List ℕ) (o : List Frame) (s : Spot) (rest : List ℕ)
     → Arrives true (k + 1) outer (key_wanted (earlier ++ m ∷ [])) more o s rest → Arrives true k (in_object earlier m.0 ∷ outer) (ended m.1) (44 ∷ more) o s rest
+unfolding step ended_step close_step
 members_comma outer earlier m k more o s rest a = arrives_then true k (in_object earlier m.0 ∷ outer) (ended m.1) (44 ∷ []) outer (key_wanted (earlier ++ m ∷ [])) more o s rest
     (arrives_by true k (in_object earlier m.0 ∷ outer) (ended m.1) (44 ∷ []) outer (key_wanted (earlier ++ m ∷ [])) (more ++ rest)
-    (moves_byte k 44 (in_object earlier m.0 ∷ outer) (ended m.1) outer (key_wanted (earlier ++ m ∷ [])) (member_comma k outer earlier m.0 m.1))) a
+    (moves_byte k 44 (in_object earlier m.0 ∷ outer) (ended m.1) outer (key_wanted (earlier ++ m ∷ [])) refl)) a
 
 members_go : (outer : List Frame) (ms : List Member) (inside : List ℕ) → FrontMembers true (length outer + 1) ms inside → (at : ℕ) (earlier : List Member) (rest : List ℕ) → HasUniqueKeys (members_of (earlier ++ ms))
     → Arrives true at outer (key_wanted earlier) inside outer (key_wanted (earlier ++ ms)) rest
@@ -126,6 +127,7 @@ opens_at at outer c spot rest e = byte_run at c outer wanted rest (next outer sp
 
 pub key_front_runs : (outer : List Frame) (ms : List Member) (front : List ℕ) → ((f : List ℕ) → IsFront outer f → FrontRuns outer f) → IsKeyFront outer ms front → (cs : List ℕ)
     → whole_outcome (front ++ 34 ∷ cs) ≡ outcome (length front) outer (key_wanted ms) (34 ∷ cs)
+unfolding step begin_step opened
 key_front_runs outer ms front runs f cs =
     let o = f.2 in
     let is : front ≡ (o.0 ++ 123 ∷ o.1) ++ f.1 = f.4 ∙ ap (λ x. x ++ f.1) o.6 in
@@ -133,11 +135,11 @@ key_front_runs outer ms front runs f cs =
     ap length (is ∙ append_assoc o.0 (123 ∷ o.1) f.1) ∙ (length-append o.0 (123 ∷ o.1 ++ f.1) ∙ omega arith) in
     ap (λ x. whole_outcome (x ++ 34 ∷ cs)) is ∙ (ap whole_outcome (brackets_regroup o.0 (123 ∷ o.1) f.1 (34 ∷ cs) ∙ ap (λ x. o.0 ++ (123 ∷ x)) (sym (append_assoc o.1 f.1 (34 ∷ cs))))
     ∙ (runs o.0 o.2 123 ((o.1 ++ f.1) ++ 34 ∷ cs) refl (λ e. absurd (omega arith))
-    ∙ (opens_at (length o.0) outer 123 first_key ((o.1 ++ f.1) ++ 34 ∷ cs) (open_object (length o.0) outer ∙ opened_next (length o.0) outer first_key o.3)
+    ∙ (opens_at (length o.0) outer 123 first_key ((o.1 ++ f.1) ++ 34 ∷ cs) (rw (lt-ltb (length outer) 64 o.3) refl)
     ∙ (object_runs outer ms o.1 f.1 o.4 o.5 f.3 (suc (length o.0)) cs ∙ placed_at (suc (length o.0) + length (o.1 ++ f.1)) (length front) outer (key_wanted ms) (34 ∷ cs) (sym size)))))
 
 pub front_runs : (outer : List Frame) (front : List ℕ) → IsFront outer front → FrontRuns outer front
-unfolding whole_outcome
+unfolding whole_outcome step begin_step opened
 front_runs [] front f c cs ns nb = space_moves 0 [] wanted front f tt (c ∷ cs) ∙ placed_at (0 + length front) (length front) [] wanted (c ∷ cs) (omega arith)
 front_runs (in_array vs ∷ outer) front f c cs ns nb =
     let a = f.2 in
@@ -146,7 +148,7 @@ front_runs (in_array vs ∷ outer) front f c cs ns nb =
     ap length (is ∙ append_assoc a.0 (91 ∷ a.1) f.1) ∙ (length-append a.0 (91 ∷ a.1 ++ f.1) ∙ omega arith) in
     ap (λ x. whole_outcome (x ++ c ∷ cs)) is ∙ (ap whole_outcome (brackets_regroup a.0 (91 ∷ a.1) f.1 (c ∷ cs) ∙ ap (λ x. a.0 ++ (91 ∷ x)) (sym (append_assoc a.1 f.1 (c ∷ cs))))
     ∙ (front_runs outer a.0 a.2 91 ((a.1 ++ f.1) ++ c ∷ cs) refl (λ e. absurd (omega arith))
-    ∙ (opens_at (length a.0) outer 91 first_item ((a.1 ++ f.1) ++ c ∷ cs) (open_array (length a.0) outer ∙ opened_next (length a.0) outer first_item a.3)
+    ∙ (opens_at (length a.0) outer 91 first_item ((a.1 ++ f.1) ++ c ∷ cs) (rw (lt-ltb (length outer) 64 a.3) refl)
     ∙ (array_runs outer vs a.1 f.1 a.4 f.3 (suc (length a.0)) c cs ns nb ∙ placed_at (suc (length a.0) + length (a.1 ++ f.1)) (length front) (in_array vs ∷ outer) wanted (c ∷ cs) (sym size)))))
 front_runs (in_object ms k ∷ outer) front f c cs ns nb =
     let colon = f.2 in
@@ -164,7 +166,7 @@ front_runs (in_object ms k ∷ outer) front f c cs ns nb =
     (arrives_by true (length keyed.0 + length key) outer (colon_wanted ms k) colon.1.1 outer (colon_wanted ms k) ((58 ∷ f.1) ++ rest) (space_moves (length keyed.0 + length key) outer (colon_wanted ms k) colon.1.1 colon.1.3 tt))
     (arrives_then true (length keyed.0 + length key + length colon.1.1) outer (colon_wanted ms k) (58 ∷ []) frames wanted f.1 frames wanted rest
     (arrives_by true (length keyed.0 + length key + length colon.1.1) outer (colon_wanted ms k) (58 ∷ []) frames wanted (f.1 ++ rest)
-    (moves_byte (length keyed.0 + length key + length colon.1.1) 58 outer (colon_wanted ms k) frames wanted (colon_comes (length keyed.0 + length key + length colon.1.1) outer ms k)))
+    (moves_byte (length keyed.0 + length key + length colon.1.1) 58 outer (colon_wanted ms k) frames wanted refl))
     (arrives_by true (length keyed.0 + length key + length colon.1.1 + 1) frames wanted f.1 frames wanted rest (space_moves (length keyed.0 + length key + length colon.1.1 + 1) frames wanted f.1 f.3 tt)))) in
     let begun : (ys : List ℕ) × (part ++ rest ≡ 34 ∷ ys) = (_, ap (λ x. (x ++ (colon.1.1 ++ (58 ∷ f.1))) ++ rest) keyed.3.3) in
     ap (λ x. whole_outcome (x ++ rest)) is ∙ (ap whole_outcome (append_assoc keyed.0 part rest ∙ ap (λ x. keyed.0 ++ x) begun.1)
@@ -178,11 +180,12 @@ front_runs (in_object ms k ∷ outer) front f c cs ns nb =
 
 -- a bracket that opens a level too much
 pub deep_fault : (bytes : List ℕ) (at : ℕ) → OpensTooDeep bytes at → whole_outcome bytes ≡ fault at 3
+unfolding step begin_step opened
 deep_fault bytes at d =
     let full : nat_lt (length d.0) 64 ≡ false = le-ltb (length d.0) 64 (omega (arith, d.5)) in
     ap whole_outcome d.8 ∙ (⊎_elim
     (λ (e : d.2 ≡ 91). ap (λ b. whole_outcome (d.1 ++ b ∷ d.3)) e ∙ (front_runs d.0 d.1 d.4 91 d.3 refl (λ g. absurd (omega arith))
-    ∙ byte_run (length d.1) 91 d.0 wanted d.3 (stop (length d.1) 3) (open_array (length d.1) d.0 ∙ opened_stop (length d.1) d.0 first_item full)))
+    ∙ byte_run (length d.1) 91 d.0 wanted d.3 (stop (length d.1) 3) (rw full refl)))
     (λ (e : d.2 ≡ 123). ap (λ b. whole_outcome (d.1 ++ b ∷ d.3)) e ∙ (front_runs d.0 d.1 d.4 123 d.3 refl (λ g. absurd (omega arith))
-    ∙ byte_run (length d.1) 123 d.0 wanted d.3 (stop (length d.1) 3) (open_object (length d.1) d.0 ∙ opened_stop (length d.1) d.0 first_key full))) d.6
+    ∙ byte_run (length d.1) 123 d.0 wanted d.3 (stop (length d.1) 3) (rw full refl))) d.6
     ∙ ap (λ k. fault k 3) (sym d.7))

@@ -6,12 +6,11 @@ use Rattle.std.proofs.lemmas.Bool.{and_from, le-leb, cases_eq, ne_eqb}
 use Rattle.decimal_json.specs.Value.{Decimal, number}
 use Rattle.decimal_json.specs.Number.{is_digit, digit_of, is_mark, whole_of}
 use Rattle.decimal_json.specs.Open.{Frame}
-use Rattle.decimal_json.specs.inside.Scan.{Spot, wanted, ended, numeral, zero_first, whole, point, fraction, mark, signed, exponent, so_far, next, step, numeral_step, finish, after, outcome}
+use Rattle.decimal_json.specs.inside.Scan.{Spot, wanted, ended, numeral, zero_first, whole, point, fraction, mark, signed, exponent, so_far, next, step, begin_step, numeral_step, finish, after, outcome}
 use Rattle.decimal_json.specs.inside.Answer.{begun}
 use Rattle.decimal_json.specs.Grammar.{AreDigits, numerals, IsWhole, fraction_text, Power, no_power, power, Sign, no_sign, plus, minus, sign_text, is_minus, power_text, is_down, written, IsPower, negative_text, IsNumber}
 use Rattle.decimal_json.proofs.Runs.{Moves, moves_none, moves_byte, moves_then, moves_on, placed_at, Delimits, delimiter_is}
-use Rattle.decimal_json.proofs.Numerals.{digit_whole, digit_fraction, whole_starts, zero_starts, point_starts, mark_is, mark_plus, mark_minus, signed_starts, exponent_more}
-use Rattle.decimal_json.proofs.Values.{minus_leads}
+use Rattle.decimal_json.proofs.Numerals.{whole_starts, zero_starts, mark_is}
 
 digit_written : (d : ℕ) → d < 10 → is_digit (48 + d) ≡ true
 digit_written d small = and_from (nat_le 48 (48 + d)) (nat_le (48 + d) 57) (le-leb 48 (48 + d) (omega arith)) (le-leb (48 + d) 57 (omega arith))
@@ -20,25 +19,28 @@ digit_read : (d : ℕ) → digit_of (48 + d) ≡ d
 digit_read d = omega arith
 
 whole_moves : (at : ℕ) (outer : List Frame) (n : Bool) (xs ds : List ℕ) → AreDigits ds → Moves at outer (numeral (whole n xs)) (numerals ds) outer (numeral (whole n (xs ++ ds)))
+unfolding step numeral_step
 whole_moves at outer n xs [] are = subst (λ (ys : List ℕ). Moves at outer (numeral (whole n xs)) [] outer (numeral (whole n ys))) (sym (append-nil xs)) (moves_none at outer (numeral (whole n xs)))
 whole_moves at outer n xs (d ∷ ds) are =
     moves_on at (48 + d) outer (numeral (whole n xs)) outer (numeral (whole n (xs ++ d ∷ []))) (numerals ds) outer (numeral (whole n (xs ++ d ∷ ds)))
-    (digit_whole at (48 + d) outer n xs (digit_written d are.0) ∙ ap (λ e. next outer (numeral (whole n (xs ++ e ∷ [])))) (digit_read d))
+    (rw (digit_written d are.0) (ap (λ e. next outer (numeral (whole n (xs ++ e ∷ [])))) (digit_read d)))
     (subst (λ (ys : List ℕ). Moves (at + 1) outer (numeral (whole n (xs ++ d ∷ []))) (numerals ds) outer (numeral (whole n ys))) (append_assoc xs (d ∷ []) ds) (whole_moves (at + 1) outer n (xs ++ d ∷ []) ds are.1))
 
 fraction_moves : (at : ℕ) (outer : List Frame) (n : Bool) (ws xs ds : List ℕ) → AreDigits ds → Moves at outer (numeral (fraction n ws xs)) (numerals ds) outer (numeral (fraction n ws (xs ++ ds)))
+unfolding step numeral_step
 fraction_moves at outer n ws xs [] are = subst (λ (ys : List ℕ). Moves at outer (numeral (fraction n ws xs)) [] outer (numeral (fraction n ws ys))) (sym (append-nil xs)) (moves_none at outer (numeral (fraction n ws xs)))
 fraction_moves at outer n ws xs (d ∷ ds) are =
     moves_on at (48 + d) outer (numeral (fraction n ws xs)) outer (numeral (fraction n ws (xs ++ d ∷ []))) (numerals ds) outer (numeral (fraction n ws (xs ++ d ∷ ds)))
-    (digit_fraction at (48 + d) outer n ws xs (digit_written d are.0) ∙ ap (λ e. next outer (numeral (fraction n ws (xs ++ e ∷ [])))) (digit_read d))
+    (rw (digit_written d are.0) (ap (λ e. next outer (numeral (fraction n ws (xs ++ e ∷ [])))) (digit_read d)))
     (subst (λ (ys : List ℕ). Moves (at + 1) outer (numeral (fraction n ws (xs ++ d ∷ []))) (numerals ds) outer (numeral (fraction n ws ys))) (append_assoc xs (d ∷ []) ds) (fraction_moves (at + 1) outer n ws (xs ++ d ∷ []) ds are.1))
 
 exponent_moves : (at : ℕ) (outer : List Frame) (n : Bool) (ws fs : List ℕ) (down : Bool) (w : ℕ) (ds : List ℕ) → AreDigits ds
     → Moves at outer (numeral (exponent n ws fs down w)) (numerals ds) outer (numeral (exponent n ws fs down (fold (λ k d. k * 10 + d) w ds)))
+unfolding step numeral_step
 exponent_moves at outer n ws fs down w [] are = moves_none at outer (numeral (exponent n ws fs down w))
 exponent_moves at outer n ws fs down w (d ∷ ds) are =
     moves_on at (48 + d) outer (numeral (exponent n ws fs down w)) outer (numeral (exponent n ws fs down (w * 10 + d))) (numerals ds) outer (numeral (exponent n ws fs down (fold (λ k d. k * 10 + d) (w * 10 + d) ds)))
-    (exponent_more at (48 + d) outer n ws fs down w (digit_written d are.0) ∙ ap (λ e. next outer (numeral (exponent n ws fs down (w * 10 + e)))) (digit_read d))
+    (rw (digit_written d are.0) (ap (λ e. next outer (numeral (exponent n ws fs down (w * 10 + e)))) (digit_read d)))
     (exponent_moves (at + 1) outer n ws fs down (w * 10 + d) ds are.1)
 
 -- a spot where a number may end, with these digits before and after the point
@@ -123,12 +125,13 @@ record FractionRun (at : ℕ) (outer : List Frame) (spot : Spot) (n : Bool) (ds 
 
 fraction_run : (at : ℕ) (outer : List Frame) (spot : Spot) (n : Bool) (ds fs : List ℕ) → AreDigits fs → CanEnd n ds [] spot → ((k : ℕ) → step k outer spot 46 ≡ next outer (numeral (point n ds)))
     → FractionRun at outer spot n ds fs
+unfolding step numeral_step
 fraction_run at outer spot n ds [] are end pointed = record { then = spot; moves = moves_none at outer spot; can_end = end }
 fraction_run at outer spot n ds (f ∷ fs) are end pointed = record {
   then = numeral (fraction n ds (f ∷ fs));
   moves = moves_on at 46 outer spot outer (numeral (point n ds)) (numerals (f ∷ fs)) outer (numeral (fraction n ds (f ∷ fs))) (pointed at)
       (moves_on (at + 1) (48 + f) outer (numeral (point n ds)) outer (numeral (fraction n ds (f ∷ []))) (numerals fs) outer (numeral (fraction n ds (f ∷ fs)))
-      (point_starts (at + 1) (48 + f) outer n ds (digit_written f are.0) ∙ ap (λ e. next outer (numeral (fraction n ds (e ∷ [])))) (digit_read f))
+      (rw (digit_written f are.0) (ap (λ e. next outer (numeral (fraction n ds (e ∷ [])))) (digit_read f)))
       (fraction_moves (at + 1 + 1) outer n ds (f ∷ []) fs are.1));
   can_end = fraction_can_end n ds (f ∷ fs);
 }
@@ -141,16 +144,18 @@ unsigned at outer n ds fs d small = rw (ne_eqb (48 + d) 43 (λ e. omega arith), 
 
 sign_run : (at : ℕ) (outer : List Frame) (n : Bool) (ds fs : List ℕ) (s : Sign) (d : ℕ) → d < 10
     → Moves at outer (numeral (mark n ds fs)) (sign_text s ++ (48 + d) ∷ []) outer (numeral (exponent n ds fs (is_minus s) d))
+unfolding step numeral_step
 sign_run at outer n ds fs no_sign d small = moves_byte at (48 + d) outer (numeral (mark n ds fs)) outer (numeral (exponent n ds fs false d)) (unsigned at outer n ds fs d small)
-sign_run at outer n ds fs plus d small = moves_on at 43 outer (numeral (mark n ds fs)) outer (numeral (signed n ds fs false)) ((48 + d) ∷ []) outer (numeral (exponent n ds fs false d)) (mark_plus at outer n ds fs)
+sign_run at outer n ds fs plus d small = moves_on at 43 outer (numeral (mark n ds fs)) outer (numeral (signed n ds fs false)) ((48 + d) ∷ []) outer (numeral (exponent n ds fs false d)) refl
     (moves_byte (at + 1) (48 + d) outer (numeral (signed n ds fs false)) outer (numeral (exponent n ds fs false d))
-    (signed_starts (at + 1) (48 + d) outer n ds fs false (digit_written d small) ∙ ap (λ e. next outer (numeral (exponent n ds fs false e))) (digit_read d)))
-sign_run at outer n ds fs minus d small = moves_on at 45 outer (numeral (mark n ds fs)) outer (numeral (signed n ds fs true)) ((48 + d) ∷ []) outer (numeral (exponent n ds fs true d)) (mark_minus at outer n ds fs)
+    (rw (digit_written d small) (ap (λ e. next outer (numeral (exponent n ds fs false e))) (digit_read d))))
+sign_run at outer n ds fs minus d small = moves_on at 45 outer (numeral (mark n ds fs)) outer (numeral (signed n ds fs true)) ((48 + d) ∷ []) outer (numeral (exponent n ds fs true d)) refl
     (moves_byte (at + 1) (48 + d) outer (numeral (signed n ds fs true)) outer (numeral (exponent n ds fs true d))
-    (signed_starts (at + 1) (48 + d) outer n ds fs true (digit_written d small) ∙ ap (λ e. next outer (numeral (exponent n ds fs true e))) (digit_read d)))
+    (rw (digit_written d small) (ap (λ e. next outer (numeral (exponent n ds fs true e))) (digit_read d))))
 
 sign_moves : (at : ℕ) (outer : List Frame) (n : Bool) → Moves at outer wanted (negative_text n) outer (begun n)
-sign_moves at outer true = moves_byte at 45 outer wanted outer (begun true) (minus_leads at outer)
+unfolding step begin_step
+sign_moves at outer true = moves_byte at 45 outer wanted outer (begun true) refl
 sign_moves at outer false = moves_none at outer wanted
 
 power_as : (m : ℕ) (s : Sign) (e : ℕ) (es : List ℕ) → power_text (power m s e es) ≡ (m ∷ (sign_text s ++ (48 + e) ∷ [])) ++ numerals es

@@ -7,10 +7,10 @@ use Rattle.std.proofs.lemmas.List.{append-nil}
 use Rattle.std.proofs.lemmas.Bool.{cases_Bool, or_cases, or_parts, ne_eqb, false≢true}
 use Rattle.decimal_json.specs.Escape.{short_escape, is_hex, unit_of}
 use Rattle.decimal_json.specs.Open.{Frame, Purpose}
-use Rattle.decimal_json.specs.inside.Scan.{Spot, quoted, Quoted, plain, escaped, unit, high, high_escaped, high_unit, Hex, no_digit, one_digit, two_digits, three_digits, Step, next, stop, Outcome, fault, step, quoted_step, quote_step, unit_step, pair_step, more_hex, after, outcome}
+use Rattle.decimal_json.specs.inside.Scan.{Spot, quoted, Quoted, plain, escaped, unit, high, high_escaped, high_unit, Hex, no_digit, one_digit, two_digits, three_digits, Step, next, stop, Outcome, fault, step, quoted_step, quote_step, unit_step, pair_step, more_hex, after, outcome, escape_step}
 use Rattle.decimal_json.specs.Grammar.{Character, itself, short, alone, pair, character_text, meaning, AreHex, is_surrogate, begins_with_second, AreCharacters}
 use Rattle.decimal_json.proofs.Runs.{Refuses, refuses_along}
-use Rattle.decimal_json.proofs.Escapes.{unit_each, second_each, plain_backslash, escaped_u, escaped_some, high_leads, high_escaped_leads, low_not_high}
+use Rattle.decimal_json.proofs.Escapes.{unit_each, second_each, escaped_some, low_not_high}
 use Rattle.decimal_json.proofs.Texts.{plain_leads, plain_quote, plain_parts}
 
 -- what comes after a step, at a place
@@ -35,17 +35,19 @@ hex_run at outer p inside full a b c d rest each h =
 -- the six bytes of a unit, from its backslash on
 pub unit_run : (at : ℕ) (outer : List Frame) (p : Purpose) (t : List ℕ) (a b c d : ℕ) (rest : List ℕ) → AreHex a b c d
     → outcome at outer (quoted p (plain t)) (92 ∷ 117 ∷ a ∷ b ∷ c ∷ d ∷ rest) ≡ go_on (suc (suc (suc (suc (suc (suc at)))))) rest (unit_step outer p t at (unit_of a b c d))
+unfolding step quoted_step escape_step
 unit_run at outer p t a b c d rest h =
-    byte_run at 92 outer (quoted p (plain t)) (117 ∷ a ∷ b ∷ c ∷ d ∷ rest) (next outer (quoted p (escaped t at))) (plain_backslash at outer p t)
-    ∙ (byte_run (suc at) 117 outer (quoted p (escaped t at)) (a ∷ b ∷ c ∷ d ∷ rest) (next outer (quoted p (unit t at no_digit))) (escaped_u (suc at) outer p t at)
+    byte_run at 92 outer (quoted p (plain t)) (117 ∷ a ∷ b ∷ c ∷ d ∷ rest) (next outer (quoted p (escaped t at))) refl
+    ∙ (byte_run (suc at) 117 outer (quoted p (escaped t at)) (a ∷ b ∷ c ∷ d ∷ rest) (next outer (quoted p (unit t at no_digit))) refl
     ∙ hex_run (suc (suc at)) outer p (unit t at) (λ u. unit_step outer p t at u) a b c d rest (unit_each outer p t at) h)
 
 -- the same of the second unit of a pair
 pub second_run : (at : ℕ) (outer : List Frame) (p : Purpose) (t : List ℕ) (back u a b c d : ℕ) (rest : List ℕ) → AreHex a b c d
     → outcome at outer (quoted p (high t back u)) (92 ∷ 117 ∷ a ∷ b ∷ c ∷ d ∷ rest) ≡ go_on (suc (suc (suc (suc (suc (suc at)))))) rest (pair_step outer p t back u (unit_of a b c d))
+unfolding step quoted_step
 second_run at outer p t back u a b c d rest h =
-    byte_run at 92 outer (quoted p (high t back u)) (117 ∷ a ∷ b ∷ c ∷ d ∷ rest) (next outer (quoted p (high_escaped t back u))) (high_leads at outer p t back u)
-    ∙ (byte_run (suc at) 117 outer (quoted p (high_escaped t back u)) (a ∷ b ∷ c ∷ d ∷ rest) (next outer (quoted p (high_unit t back u no_digit))) (high_escaped_leads (suc at) outer p t back u)
+    byte_run at 92 outer (quoted p (high t back u)) (117 ∷ a ∷ b ∷ c ∷ d ∷ rest) (next outer (quoted p (high_escaped t back u))) refl
+    ∙ (byte_run (suc at) 117 outer (quoted p (high_escaped t back u)) (a ∷ b ∷ c ∷ d ∷ rest) (next outer (quoted p (high_unit t back u no_digit))) refl
     ∙ hex_run (suc (suc at)) outer p (high_unit t back u) (λ v. pair_step outer p t back u v) a b c d rest (second_each outer p t back u) h)
 
 pub unit_scalar : (outer : List Frame) (p : Purpose) (t : List ℕ) (back u : ℕ) → is_surrogate u ≡ false → unit_step outer p t back u ≡ next outer (quoted p (plain (t ++ encode_utf8 u)))
@@ -64,17 +66,9 @@ pub pair_low : (outer : List Frame) (p : Purpose) (t : List ℕ) (back u v : ℕ
 unfolding pair_step
 pair_low outer p t back u v e = rw e refl
 
-pub pair_other : (outer : List Frame) (p : Purpose) (t : List ℕ) (back u v : ℕ) → is_low_surrogate v ≡ false → pair_step outer p t back u v ≡ stop back 5
+pair_other : (outer : List Frame) (p : Purpose) (t : List ℕ) (back u v : ℕ) → is_low_surrogate v ≡ false → pair_step outer p t back u v ≡ stop back 5
 unfolding pair_step
 pair_other outer p t back u v e = rw e refl
-
-pub high_other : (at c : ℕ) (outer : List Frame) (p : Purpose) (t : List ℕ) (back u : ℕ) → (c == 92) ≡ false → step at outer (quoted p (high t back u)) c ≡ stop back 5
-unfolding step quoted_step
-high_other at c outer p t back u e = rw e refl
-
-pub high_letter : (at c : ℕ) (outer : List Frame) (p : Purpose) (t : List ℕ) (back u : ℕ) → (c == 117) ≡ false → step at outer (quoted p (high_escaped t back u)) c ≡ stop back 5
-unfolding step quoted_step
-high_letter at c outer p t back u e = rw e refl
 
 no_such_letter : (l b : ℕ) → short_escape l ≡ Some b → l ≡ 117 → ⊥
 no_such_letter l b e is = none_some b (sym (ap short_escape is) ∙ e) where
@@ -91,12 +85,13 @@ tail_text cs = flat_map character_text cs ++ 34 ∷ []
 -- A first unit with no second one behind it is a fault.
 high_alone : (limited : Bool) (at : ℕ) (outer : List Frame) (p : Purpose) (t : List ℕ) (back u : ℕ) (cs : List Character) (rest : List ℕ) → AreCharacters limited cs → begins_with_second cs ≡ false
     → outcome at outer (quoted p (high t back u)) (tail_text cs ++ rest) ≡ fault back 5
-high_alone limited at outer p t back u [] rest are e = byte_run at 34 outer (quoted p (high t back u)) rest (stop back 5) (high_other at 34 outer p t back u refl)
+unfolding step quoted_step
+high_alone limited at outer p t back u [] rest are e = byte_run at 34 outer (quoted p (high t back u)) rest (stop back 5) refl
 high_alone limited at outer p t back u (itself c ∷ cs) rest are e =
-    byte_run at c outer (quoted p (high t back u)) (tail_text cs ++ rest) (stop back 5) (high_other at c outer p t back u (plain_parts c are.0).1)
+    byte_run at c outer (quoted p (high t back u)) (tail_text cs ++ rest) (stop back 5) (rw (plain_parts c are.0).1 refl)
 high_alone limited at outer p t back u (short l b ∷ cs) rest are e =
-    byte_run at 92 outer (quoted p (high t back u)) (l ∷ tail_text cs ++ rest) (next outer (quoted p (high_escaped t back u))) (high_leads at outer p t back u)
-    ∙ byte_run (suc at) l outer (quoted p (high_escaped t back u)) (tail_text cs ++ rest) (stop back 5) (high_letter (suc at) l outer p t back u (ne_eqb l 117 (no_such_letter l b are.0)))
+    byte_run at 92 outer (quoted p (high t back u)) (l ∷ tail_text cs ++ rest) (next outer (quoted p (high_escaped t back u))) refl
+    ∙ byte_run (suc at) l outer (quoted p (high_escaped t back u)) (tail_text cs ++ rest) (stop back 5) (rw (ne_eqb l 117 (no_such_letter l b are.0)) refl)
 high_alone limited at outer p t back u (alone a b c d ∷ cs) rest are e =
     second_run at outer p t back u a b c d (tail_text cs ++ rest) are.0.0 ∙ ap (go_on (suc (suc (suc (suc (suc (suc at)))))) (tail_text cs ++ rest)) (pair_other outer p t back u (unit_of a b c d) e)
 high_alone limited at outer p t back u (pair a b c d f g h i ∷ cs) rest are e =
@@ -126,6 +121,7 @@ string_refuses : (limited : Bool) (at back : ℕ) (outer : List Frame) (p : Purp
 string_refuses limited at back outer p t cs rest e no_limits = inr (record { place = back; kind = 5; is = e; later = lit< tt; limits = no_limits })
 
 pub string_run : (limited : Bool) (at : ℕ) (outer : List Frame) (p : Purpose) (t : List ℕ) (cs : List Character) (rest : List ℕ) → AreCharacters limited cs → StringRun limited at outer p t cs rest
+unfolding step quoted_step
 string_run limited at outer p t [] rest are =
     inl (byte_run at 34 outer (quoted p (plain t)) rest (quote_step outer p t) (plain_quote at outer p t)
     ∙ (ap (λ k. go_on k rest (quote_step outer p t)) (omega arith) ∙ ap (λ xs. go_on (at + 1) rest (quote_step outer p xs)) (sym (append-nil t))))
@@ -135,7 +131,7 @@ string_run limited at outer p t (itself c ∷ cs) rest are =
     (omega arith) (string_run limited (suc at) outer p (t ++ c ∷ []) cs rest are.2)
 string_run limited at outer p t (short l b ∷ cs) rest are =
     string_more limited at (suc (suc at)) outer p t (short l b) cs rest
-    (byte_run at 92 outer (quoted p (plain t)) (l ∷ tail_text cs ++ rest) (next outer (quoted p (escaped t at))) (plain_backslash at outer p t)
+    (byte_run at 92 outer (quoted p (plain t)) (l ∷ tail_text cs ++ rest) (next outer (quoted p (escaped t at))) refl
     ∙ byte_run (suc at) l outer (quoted p (escaped t at)) (tail_text cs ++ rest) (next outer (quoted p (plain (t ++ b ∷ [])))) (escaped_some (suc at) outer p t at l b are.0))
     (omega arith) (string_run limited (suc (suc at)) outer p (t ++ b ∷ []) cs rest are.2)
 string_run limited at outer p t (alone a b c d ∷ cs) rest are =

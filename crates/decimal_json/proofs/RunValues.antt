@@ -7,38 +7,23 @@ use Rattle.std.proofs.lemmas.Bool.{cases_Bool, or_left, lt-ltb, ltb-true, ne_eqb
 use Rattle.decimal_json.specs.Value.{Decimal, Value, null, boolean, number, text, array, object, Items, no_items, item, Members, no_members, member, members_of, has_key}
 use Rattle.decimal_json.specs.Characters.{is_space, rue, alse, ull, depth_limit}
 use Rattle.decimal_json.specs.Open.{Member, Frame, in_array, in_object, for_value, for_key}
-use Rattle.decimal_json.specs.inside.Scan.{Spot, wanted, first_item, first_key, key_wanted, colon_wanted, ended, literal, quoted, plain, next, stop, done, step, opened, quote_step, finish, finish_value, outcome, whole_outcome}
+use Rattle.decimal_json.specs.inside.Scan.{Spot, wanted, first_item, first_key, key_wanted, colon_wanted, ended, literal, quoted, plain, next, stop, done, step, begin_step, literal_step, opened, quote_step, finish, finish_value, outcome, whole_outcome, ended_step, close_step}
 use Rattle.decimal_json.specs.Grammar.{Character, meaning, fraction_text, power_text, negative_text, IsSpace, IsString, IsNumber, IsWhole, numerals, HasUniqueKeys, Spells, SpellsItems, SpellsMoreItems, SpellsMembers, SpellsMoreMembers, SpellsText}
 use Rattle.decimal_json.proofs.Runs.{Moves, moves_none, moves_byte, moves_on, space_moves, Refuses, refuses_along, Arrives, arrives_then, arrives_by, placed_at, Delimits}
 use Rattle.decimal_json.proofs.RunNumbers.{number_run}
 use Rattle.decimal_json.proofs.RunStrings.{go_on, byte_run, string_run, tail_text}
-use Rattle.decimal_json.proofs.Values.{quote_leads, true_leads, false_leads, null_leads, letter_comes}
-use Rattle.decimal_json.proofs.Inside.{first_item_other, first_key_other, first_item_close, item_comma, item_close, key_quote, colon_comes, first_key_close, member_comma, member_close, open_array, open_object, quote_known, quote_new}
+use Rattle.decimal_json.proofs.Inside.{first_item_other, first_key_other, item_comma, quote_known, quote_new}
 use Rattle.decimal_json.proofs.Uniques.{items_onto, members_onto, items_of-push, items_onto-push, members_of-push, members_onto-push, new_key}
 
 -- literals
 null_moves : (at : ℕ) (outer : List Frame) → Moves at outer wanted (110 ∷ ull) outer (ended null)
-null_moves at outer = moves_on at 110 outer wanted outer (literal null ull) ull outer (ended null) (null_leads at outer)
-    (moves_on (at + 1) 117 outer (literal null ull) outer (literal null (108 ∷ 108 ∷ [])) (108 ∷ 108 ∷ []) outer (ended null) (letter_comes (at + 1) 117 outer null (108 ∷ 108 ∷ []))
-    (moves_on (at + 1 + 1) 108 outer (literal null (108 ∷ 108 ∷ [])) outer (literal null (108 ∷ [])) (108 ∷ []) outer (ended null) (letter_comes (at + 1 + 1) 108 outer null (108 ∷ []))
-    (moves_byte (at + 1 + 1 + 1) 108 outer (literal null (108 ∷ [])) outer (ended null) (letter_comes (at + 1 + 1 + 1) 108 outer null []))))
-
-true_moves : (at : ℕ) (outer : List Frame) → Moves at outer wanted (116 ∷ rue) outer (ended (boolean true))
-true_moves at outer = moves_on at 116 outer wanted outer (literal (boolean true) rue) rue outer (ended (boolean true)) (true_leads at outer)
-    (moves_on (at + 1) 114 outer (literal (boolean true) rue) outer (literal (boolean true) (117 ∷ 101 ∷ [])) (117 ∷ 101 ∷ []) outer (ended (boolean true)) (letter_comes (at + 1) 114 outer (boolean true) (117 ∷ 101 ∷ []))
-    (moves_on (at + 1 + 1) 117 outer (literal (boolean true) (117 ∷ 101 ∷ [])) outer (literal (boolean true) (101 ∷ [])) (101 ∷ []) outer (ended (boolean true)) (letter_comes (at + 1 + 1) 117 outer (boolean true) (101 ∷ []))
-    (moves_byte (at + 1 + 1 + 1) 101 outer (literal (boolean true) (101 ∷ [])) outer (ended (boolean true)) (letter_comes (at + 1 + 1 + 1) 101 outer (boolean true) []))))
-
-false_moves : (at : ℕ) (outer : List Frame) → Moves at outer wanted (102 ∷ alse) outer (ended (boolean false))
-false_moves at outer = moves_on at 102 outer wanted outer (literal (boolean false) alse) alse outer (ended (boolean false)) (false_leads at outer)
-    (moves_on (at + 1) 97 outer (literal (boolean false) alse) outer (literal (boolean false) (108 ∷ 115 ∷ 101 ∷ [])) (108 ∷ 115 ∷ 101 ∷ []) outer (ended (boolean false)) (letter_comes (at + 1) 97 outer (boolean false) (108 ∷ 115 ∷ 101 ∷ []))
-    (moves_on (at + 1 + 1) 108 outer (literal (boolean false) (108 ∷ 115 ∷ 101 ∷ [])) outer (literal (boolean false) (115 ∷ 101 ∷ [])) (115 ∷ 101 ∷ []) outer (ended (boolean false)) (letter_comes (at + 1 + 1) 108 outer (boolean false) (115 ∷ 101 ∷ []))
-    (moves_on (at + 1 + 1 + 1) 115 outer (literal (boolean false) (115 ∷ 101 ∷ [])) outer (literal (boolean false) (101 ∷ [])) (101 ∷ []) outer (ended (boolean false)) (letter_comes (at + 1 + 1 + 1) 115 outer (boolean false) (101 ∷ []))
-    (moves_byte (at + 1 + 1 + 1 + 1) 101 outer (literal (boolean false) (101 ∷ [])) outer (ended (boolean false)) (letter_comes (at + 1 + 1 + 1 + 1) 101 outer (boolean false) [])))))
+unfolding outcome step begin_step literal_step
+null_moves at outer = λ rest. placed_at (suc (suc (suc (suc at)))) (at + 4) outer (ended null) rest (omega arith)
 
 boolean_moves : (b : Bool) (at : ℕ) (outer : List Frame) → Moves at outer wanted (cond b (116 ∷ rue) (102 ∷ alse)) outer (ended (boolean b))
-boolean_moves true at outer = true_moves at outer
-boolean_moves false at outer = false_moves at outer
+unfolding outcome step begin_step literal_step
+boolean_moves true at outer = λ rest. placed_at (suc (suc (suc (suc at)))) (at + 4) outer (ended (boolean true)) rest (omega arith)
+boolean_moves false at outer = λ rest. placed_at (suc (suc (suc (suc (suc at))))) (at + 5) outer (ended (boolean false)) rest (omega arith)
 
 -- the same bytes under another name
 pub arrives_as : (limited : Bool) (at : ℕ) (outer : List Frame) (spot : Spot) (xs ys : List ℕ) (o : List Frame) (s : Spot) (rest : List ℕ) → xs ≡ ys
@@ -47,10 +32,10 @@ arrives_as limited at outer spot xs ys o s rest e a = subst (λ (bs : List ℕ).
 
 -- strings
 string_value : (limited : Bool) (at : ℕ) (outer : List Frame) (t bs rest : List ℕ) → IsString limited t bs → Arrives limited at outer wanted bs outer (ended (text t)) rest
-unfolding quote_step
+unfolding quote_step step begin_step
 string_value limited at outer t bs rest is =
     let led : outcome at outer wanted (34 ∷ tail_text is.0 ++ rest) ≡ outcome (suc at) outer (quoted for_value (plain [])) (tail_text is.0 ++ rest) =
-    byte_run at 34 outer wanted (tail_text is.0 ++ rest) (next outer (quoted for_value (plain []))) (quote_leads at outer) in
+    byte_run at 34 outer wanted (tail_text is.0 ++ rest) (next outer (quoted for_value (plain []))) refl in
     arrives_as limited at outer wanted (34 ∷ tail_text is.0) bs outer (ended (text t)) rest (sym is.3)
     (⊎_elim (λ e. inl (led ∙ (e ∙ (placed_at (suc at + length (tail_text is.0)) (at + length (34 ∷ tail_text is.0)) outer (ended (text (flat_map meaning is.0))) rest (omega arith)
     ∙ ap (λ xs. outcome (at + length (34 ∷ tail_text is.0)) outer (ended (text xs)) rest) (sym is.2)))))
@@ -59,10 +44,11 @@ string_value limited at outer t bs rest is =
 
 pub string_key : (limited : Bool) (at : ℕ) (outer : List Frame) (ms : List Member) (k bs rest : List ℕ) → IsString limited k bs → (limited ≡ true → has_key (members_of ms) k ≡ false)
     → Arrives limited at outer (key_wanted ms) bs outer (colon_wanted ms k) rest
+unfolding step
 string_key limited at outer ms k bs rest is new =
     let cs : List Character = is.0 in
     let led : outcome at outer (key_wanted ms) (34 ∷ tail_text cs ++ rest) ≡ outcome (suc at) outer (quoted (for_key ms at) (plain [])) (tail_text cs ++ rest) =
-    byte_run at 34 outer (key_wanted ms) (tail_text cs ++ rest) (next outer (quoted (for_key ms at) (plain []))) (key_quote at outer ms) in
+    byte_run at 34 outer (key_wanted ms) (tail_text cs ++ rest) (next outer (quoted (for_key ms at) (plain []))) refl in
     let place : ℕ = suc at + length (tail_text cs) in
     let named : quote_step outer (for_key ms at) (flat_map meaning cs) ≡ quote_step outer (for_key ms at) k = ap (quote_step outer (for_key ms at)) (sym is.2) in
     arrives_as limited at outer (key_wanted ms) (34 ∷ tail_text cs) bs outer (colon_wanted ms k) rest (sym is.3)
@@ -107,6 +93,7 @@ pub keyed : (limited : Bool) (at : ℕ) (outer : List Frame) (ms : List Member) 
     → ((j : ℕ) → Arrives limited j (in_object ms k ∷ outer) wanted core (in_object ms k ∷ outer) (ended v) ((behind ++ tail) ++ rest))
     → ((j : ℕ) → Arrives limited j (in_object ms k ∷ outer) (ended v) tail o s rest)
     → Arrives limited at outer (key_wanted ms) (first ++ (key ++ (second ++ (58 ∷ third ++ (core ++ (behind ++ tail)))))) o s rest
+unfolding step
 keyed limited at outer ms k v first key second third core behind tail o s rest s1 is s2 s3 s4 new value follow =
     let frames : List Frame = in_object ms k ∷ outer in
     let at1 : ℕ = at + length first in
@@ -119,30 +106,23 @@ keyed limited at outer ms k v first key second third core behind tail o s rest s
     (arrives_then limited at2 outer (colon_wanted ms k) second outer (colon_wanted ms k) (58 ∷ third ++ (core ++ (behind ++ tail))) o s rest
     (arrives_by limited at2 outer (colon_wanted ms k) second outer (colon_wanted ms k) ((58 ∷ third ++ (core ++ (behind ++ tail))) ++ rest) (space_moves at2 outer (colon_wanted ms k) second s2 tt))
     (arrives_then limited at3 outer (colon_wanted ms k) (58 ∷ []) frames wanted (third ++ (core ++ (behind ++ tail))) o s rest
-    (arrives_by limited at3 outer (colon_wanted ms k) (58 ∷ []) frames wanted ((third ++ (core ++ (behind ++ tail))) ++ rest) (moves_byte at3 58 outer (colon_wanted ms k) frames wanted (colon_comes at3 outer ms k)))
+    (arrives_by limited at3 outer (colon_wanted ms k) (58 ∷ []) frames wanted ((third ++ (core ++ (behind ++ tail))) ++ rest) (moves_byte at3 58 outer (colon_wanted ms k) frames wanted refl))
     (padded limited (at3 + 1) frames v third core behind tail o s rest s3 s4 value follow))))
 
 -- a bracket opens a level, or there may be none more
-pub opened_next : (at : ℕ) (outer : List Frame) (spot : Spot) → length outer < 64 → opened at outer spot ≡ next outer spot
-unfolding opened
-opened_next at outer spot lt = rw (lt-ltb (length outer) 64 lt) refl
-
-pub opened_stop : (at : ℕ) (outer : List Frame) (spot : Spot) → nat_lt (length outer) 64 ≡ false → opened at outer spot ≡ stop at 3
-unfolding opened
-opened_stop at outer spot e = rw e refl
-
 brackets : (limited : Bool) (at level c d : ℕ) (outer : List Frame) (spot : Spot) (inside : List ℕ) (v : Value) (rest : List ℕ) → step at outer wanted c ≡ opened at outer spot → length outer ≡ level
     → (limited ≡ true → level < depth_limit) → ((k : ℕ) → Arrives limited k outer spot (inside ++ d ∷ []) outer (ended v) rest) → Arrives limited at outer wanted (c ∷ inside ++ d ∷ []) outer (ended v) rest
+unfolding opened
 brackets limited at level c d outer spot inside v rest opens size limits within =
     ⊎_elim (λ (room : nat_lt (length outer) 64 ≡ true).
     arrives_then limited at outer wanted (c ∷ []) outer spot (inside ++ d ∷ []) outer (ended v) rest
-    (arrives_by limited at outer wanted (c ∷ []) outer spot ((inside ++ d ∷ []) ++ rest) (moves_byte at c outer wanted outer spot (opens ∙ opened_next at outer spot (ltb-true (length outer) 64 room))))
+    (arrives_by limited at outer wanted (c ∷ []) outer spot ((inside ++ d ∷ []) ++ rest) (moves_byte at c outer wanted outer spot (opens ∙ rw (lt-ltb (length outer) 64 (ltb-true (length outer) 64 room)) refl)))
     (within (at + 1)))
     (λ (full : nat_lt (length outer) 64 ≡ false).
     inr (record {
       place = at;
       kind = 3;
-      is = byte_run at c outer wanted ((inside ++ d ∷ []) ++ rest) (stop at 3) (opens ∙ opened_stop at outer spot full);
+      is = byte_run at c outer wanted ((inside ++ d ∷ []) ++ rest) (stop at 3) (opens ∙ rw full refl);
       later = lit< tt;
       limits = λ l. false≢true (sym full ∙ lt-ltb (length outer) 64 (omega (arith, limits l, size)));
     }))
@@ -213,13 +193,15 @@ seven a b c d f g h e = sym (append_assoc a (b ++ (c ++ (58 ∷ d ++ (f ++ (g ++
 
 close_items : (limited : Bool) (at : ℕ) (outer : List Frame) (vs : List Value) (v : Value) (rest : List ℕ)
     → Arrives limited at (in_array vs ∷ outer) (ended v) (93 ∷ []) outer (ended (array (items_onto vs (item v no_items)))) rest
+unfolding step ended_step close_step
 close_items limited at outer vs v rest = arrives_by limited at (in_array vs ∷ outer) (ended v) (93 ∷ []) outer (ended (array (items_onto vs (item v no_items)))) rest
-    (moves_byte at 93 (in_array vs ∷ outer) (ended v) outer (ended (array (items_onto vs (item v no_items)))) (item_close at outer vs v ∙ ap (λ is. next outer (ended (array is))) (items_of-push vs v)))
+    (moves_byte at 93 (in_array vs ∷ outer) (ended v) outer (ended (array (items_onto vs (item v no_items)))) (ap (λ is. next outer (ended (array is))) (items_of-push vs v)))
 
 close_members : (limited : Bool) (at : ℕ) (outer : List Frame) (ms : List Member) (k : List ℕ) (v : Value) (rest : List ℕ)
     → Arrives limited at (in_object ms k ∷ outer) (ended v) (125 ∷ []) outer (ended (object (members_onto ms (member k v no_members)))) rest
+unfolding step ended_step close_step
 close_members limited at outer ms k v rest = arrives_by limited at (in_object ms k ∷ outer) (ended v) (125 ∷ []) outer (ended (object (members_onto ms (member k v no_members)))) rest
-    (moves_byte at 125 (in_object ms k ∷ outer) (ended v) outer (ended (object (members_onto ms (member k v no_members)))) (member_close at outer ms k v ∙ ap (λ is. next outer (ended (object is))) (members_of-push ms k v)))
+    (moves_byte at 125 (in_object ms k ∷ outer) (ended v) outer (ended (object (members_onto ms (member k v no_members)))) (ap (λ is. next outer (ended (object is))) (members_of-push ms k v)))
 
 tail_delimits : (limited : Bool) (level : ℕ) (vs : Items) (behind more rest : List ℕ) → IsSpace behind → SpellsMoreItems limited level vs more → Delimits ((behind ++ (more ++ 93 ∷ [])) ++ rest)
 tail_delimits limited level vs behind more rest space s =
@@ -230,6 +212,7 @@ tail_separates limited level ms behind more rest space s =
     subst (λ (bs : List ℕ). Delimits bs) (sym (append_assoc behind (more ++ 125 ∷ []) rest)) (delimits_behind behind ((more ++ 125 ∷ []) ++ rest) space (delimits_members limited level ms more rest s))
 
 mutual
+  unfolding step begin_step ended_step close_step
   pub value_arrives : (limited : Bool) (level : ℕ) (v : Value) (bs : List ℕ) → Spells limited level v bs → (at : ℕ) (outer : List Frame) (rest : List ℕ) → length outer ≡ level → Delimits rest
       → Arrives limited at outer wanted bs outer (ended v) rest
   value_arrives limited level null bs s at outer rest size d =
@@ -241,11 +224,11 @@ mutual
   value_arrives limited level (text t) bs s at outer rest size d = string_value limited at outer t bs rest s
   value_arrives limited level (array vs) bs s at outer rest size d =
       arrives_as limited at outer wanted (91 ∷ s.0 ++ 93 ∷ []) bs outer (ended (array vs)) rest (sym s.3)
-      (brackets limited at level 91 93 outer first_item s.0 (array vs) rest (open_array at outer) size s.1
+      (brackets limited at level 91 93 outer first_item s.0 (array vs) rest refl size s.1
       (λ k. items_arrive limited (level + 1) vs s.0 s.2 k outer rest (omega (arith, size))))
   value_arrives limited level (object ms) bs s at outer rest size d =
       arrives_as limited at outer wanted (123 ∷ s.0 ++ 125 ∷ []) bs outer (ended (object ms)) rest (sym s.4)
-      (brackets limited at level 123 125 outer first_key s.0 (object ms) rest (open_object at outer) size s.1
+      (brackets limited at level 123 125 outer first_key s.0 (object ms) rest refl size s.1
       (λ k. members_arrive limited (level + 1) ms s.0 s.3 k outer rest (omega (arith, size)) s.2))
 
   items_arrive : (limited : Bool) (level : ℕ) (vs : Items) (inside : List ℕ) → SpellsItems limited level vs inside → (at : ℕ) (outer : List Frame) (rest : List ℕ) → length outer + 1 ≡ level
@@ -253,7 +236,7 @@ mutual
   items_arrive limited level no_items inside s at outer rest size =
       arrives_then limited at outer first_item inside outer first_item (93 ∷ []) outer (ended (array no_items)) rest
       (arrives_by limited at outer first_item inside outer first_item ((93 ∷ []) ++ rest) (space_moves at outer first_item inside s tt))
-      (arrives_by limited (at + length inside) outer first_item (93 ∷ []) outer (ended (array no_items)) rest (moves_byte (at + length inside) 93 outer first_item outer (ended (array no_items)) (first_item_close (at + length inside) outer)))
+      (arrives_by limited (at + length inside) outer first_item (93 ∷ []) outer (ended (array no_items)) rest (moves_byte (at + length inside) 93 outer first_item outer (ended (array no_items)) refl))
   items_arrive limited level (item v vs) inside s at outer rest size =
       let tail : List ℕ = s.3 ++ 93 ∷ [] in
       let frames : List Frame = in_array [] ∷ outer in
@@ -287,7 +270,7 @@ mutual
   members_arrive limited level no_members inside s at outer rest size unique =
       arrives_then limited at outer first_key inside outer first_key (125 ∷ []) outer (ended (object no_members)) rest
       (arrives_by limited at outer first_key inside outer first_key ((125 ∷ []) ++ rest) (space_moves at outer first_key inside s tt))
-      (arrives_by limited (at + length inside) outer first_key (125 ∷ []) outer (ended (object no_members)) rest (moves_byte (at + length inside) 125 outer first_key outer (ended (object no_members)) (first_key_close (at + length inside) outer)))
+      (arrives_by limited (at + length inside) outer first_key (125 ∷ []) outer (ended (object no_members)) rest (moves_byte (at + length inside) 125 outer first_key outer (ended (object no_members)) refl))
   members_arrive limited level (member k v ms) inside s at outer rest size unique =
       let tail : List ℕ = s.6 ++ 125 ∷ [] in
       let frames : List Frame = in_object [] k ∷ outer in
@@ -317,7 +300,7 @@ mutual
       arrives_as limited at (in_object earlier k ∷ outer) (ended v) (44 ∷ x) (more ++ 125 ∷ []) outer last rest
       (ap (λ bs. 44 ∷ bs) (seven s.0 s.1 s.2 s.3 s.4 s.5 s.6 (125 ∷ [])) ∙ ap (λ bs. bs ++ 125 ∷ []) (sym s.14))
       (arrives_then limited at (in_object earlier k ∷ outer) (ended v) (44 ∷ []) outer (key_wanted so_far) x outer last rest
-      (arrives_by limited at (in_object earlier k ∷ outer) (ended v) (44 ∷ []) outer (key_wanted so_far) (x ++ rest) (moves_byte at 44 (in_object earlier k ∷ outer) (ended v) outer (key_wanted so_far) (member_comma at outer earlier k v)))
+      (arrives_by limited at (in_object earlier k ∷ outer) (ended v) (44 ∷ []) outer (key_wanted so_far) (x ++ rest) (moves_byte at 44 (in_object earlier k ∷ outer) (ended v) outer (key_wanted so_far) refl))
       (keyed limited (at + 1) outer so_far j w s.0 s.1 s.2 s.3 s.4 s.5 tail outer last rest s.7 s.8 s.9 s.10 s.12 (λ l. new_key so_far j w ms (unique_here l))
       (λ i. value_arrives limited level w s.4 s.11 i frames ((s.5 ++ tail) ++ rest) (omega (arith, size)) (tail_separates limited level ms s.5 s.6 rest s.12 s.13))
       (λ i. subst (λ (is : Members). Arrives limited i frames (ended w) tail outer (ended (object is)) rest) (members_onto-push earlier k v (member j w ms))

@@ -21,10 +21,8 @@ flat_map-push f [] x = append-nil (f x)
 flat_map-push f (y ∷ xs) x = ap (λ zs. f y ++ zs) (flat_map-push f xs x) ∙ sym (append_assoc (f y) (flat_map f xs) (f x))
 
 pub none_alone : (c : Character) → IsCharacter true c → is_first_alone c ≡ false
-none_alone (itself c) is = refl
-none_alone (short l b) is = refl
 none_alone (alone a b c d) is = (or_parts (is_high_surrogate (unit_of a b c d)) (is_low_surrogate (unit_of a b c d)) (is.1 refl)).0
-none_alone (pair a b c d e f g h) is = refl
+none_alone _ is = refl
 
 characters_more : (cs : List Character) (c : Character) → AreCharacters true cs → IsCharacter true c → AreCharacters true (cs ++ c ∷ [])
 characters_more [] c are is = (is, and_left (is_first_alone c) (begins_with_second []) (none_alone c is), tt)

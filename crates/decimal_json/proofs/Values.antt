@@ -15,29 +15,19 @@ use Rattle.decimal_json.specs.Open.{Frame, for_value}
 use Rattle.decimal_json.specs.inside.Scan.{Spot, wanted, literal, awaited, numeral, minus, quoted, plain, next, stop, Outcome, fault, step, begin_step, literal_step, quote_step, after, outcome, scan, finish}
 use Rattle.decimal_json.specs.inside.Answer.{Leads, FailsAt, StandsAt, IsToken, Reads, Breaks, ReadsText, BreaksText}
 use Rattle.decimal_json.proofs.Exits.{passed_on, some_of, none_of}
-use Rattle.decimal_json.proofs.Moves.{moved, stopped, finished, byte_and_rest}
+use Rattle.decimal_json.proofs.Moves.{moved, stopped, finished, byte_and_rest, fails_there}
 
 -- the letters of a literal
-pub letter_comes : (at l : ℕ) (outer : List Frame) (v : Value) (ls : List ℕ) → step at outer (literal v (l ∷ ls)) l ≡ next outer (awaited v ls)
-unfolding step literal_step
-letter_comes at l outer v ls = rw (eq-eqb l l refl) refl
-
-letter_misses : (at l c : ℕ) (outer : List Frame) (v : Value) (ls : List ℕ) → (c == l) ≡ false → step at outer (literal v (l ∷ ls)) c ≡ stop at 2
-unfolding step literal_step
-letter_misses at l c outer v ls e = rw e refl
-
 pub letter_read : (bytes : List ℕ) (at i : ℕ) (letters : List ℕ) (outer : List Frame) (v : Value) → i < length letters → StandsAt bytes at (get_or letters i 0)
     → scan bytes at outer (awaited v (drop i letters)) ≡ scan bytes (at + 1) outer (awaited v (drop (i + 1) letters))
+unfolding step literal_step
 letter_read bytes at i letters outer v lt e =
     ap (λ ls. scan bytes at outer (awaited v ls)) (byte_and_rest letters i lt)
-    ∙ moved bytes at (get_or letters i 0) outer (literal v (get_or letters i 0 ∷ drop (i + 1) letters)) outer (awaited v (drop (i + 1) letters)) e (letter_comes at (get_or letters i 0) outer v (drop (i + 1) letters))
+    ∙ moved bytes at (get_or letters i 0) outer (literal v (get_or letters i 0 ∷ drop (i + 1) letters)) outer (awaited v (drop (i + 1) letters)) e (rw (eq-eqb (get_or letters i 0) (get_or letters i 0) refl) refl)
 
 misses : (bytes : List ℕ) (at l : ℕ) (outer : List Frame) (v : Value) (ls : List ℕ) → FailsAt (λ c. c == l) bytes at → scan bytes at outer (literal v (l ∷ ls)) ≡ fault at 2
-unfolding scan outcome finish
-misses bytes at l outer v ls fails = go (drop at bytes) (λ c cs e. fails c cs e) where
-  go : (rest : List ℕ) → ((c : ℕ) (cs : List ℕ) → rest ≡ c ∷ cs → (c == l) ≡ false) → outcome at outer (literal v (l ∷ ls)) rest ≡ fault at 2
-  go [] same = refl
-  go (c ∷ cs) same = ap (λ s. after s (λ o t. outcome (suc at) o t cs)) (letter_misses at l c outer v ls (same c cs refl))
+unfolding finish step literal_step
+misses bytes at l outer v ls fails = fails_there bytes at at 2 outer (literal v (l ∷ ls)) (λ c. c == l) fails refl (λ c e. rw e refl)
 
 pub letter_missing : (bytes : List ℕ) (at i : ℕ) (letters : List ℕ) (outer : List Frame) (v : Value) → i < length letters → FailsAt (λ c. c == get_or letters i 0) bytes at
     → scan bytes at outer (awaited v (drop i letters)) ≡ fault at 2
@@ -47,46 +37,28 @@ letter_missing bytes at i letters outer v lt fails = ap (λ ls. scan bytes at ou
 abbrev pub Led : List ℕ → ℕ → ℕ → Spot → Type 0
 Led bytes start at spot = (outer : List Frame) → scan bytes start outer wanted ≡ scan bytes at outer spot
 
-pub quote_leads : (at : ℕ) (outer : List Frame) → step at outer wanted 34 ≡ next outer (quoted for_value (plain []))
-unfolding step begin_step
-quote_leads at outer = refl
-
-pub true_leads : (at : ℕ) (outer : List Frame) → step at outer wanted 116 ≡ next outer (literal (boolean true) rue)
-unfolding step begin_step
-true_leads at outer = refl
-
-pub false_leads : (at : ℕ) (outer : List Frame) → step at outer wanted 102 ≡ next outer (literal (boolean false) alse)
-unfolding step begin_step
-false_leads at outer = refl
-
-pub null_leads : (at : ℕ) (outer : List Frame) → step at outer wanted 110 ≡ next outer (literal null ull)
-unfolding step begin_step
-null_leads at outer = refl
-
-pub minus_leads : (at : ℕ) (outer : List Frame) → step at outer wanted 45 ≡ next outer (numeral minus)
-unfolding step begin_step
-minus_leads at outer = refl
-
-leads_at : (bytes : List ℕ) (start c : ℕ) (spot : Spot) → ((outer : List Frame) → step start outer wanted c ≡ next outer spot) → StandsAt bytes start c → Led bytes start (start + 1) spot
-leads_at bytes start c spot each e = λ outer. moved bytes start c outer wanted outer spot e (each outer)
-
-stands_as : (bytes : List ℕ) (start c k : ℕ) → StandsAt bytes start c → c ≡ k → StandsAt bytes start k
-stands_as bytes start c k e is = subst (λ (b : ℕ). StandsAt bytes start b) is e
+leads_at : (bytes : List ℕ) (start c k : ℕ) (spot : Spot) → ((outer : List Frame) → step start outer wanted k ≡ next outer spot) → StandsAt bytes start c → c ≡ k → Led bytes start (start + 1) spot
+leads_at bytes start c k spot each e is = λ outer. moved bytes start k outer wanted outer spot (subst (λ (b : ℕ). StandsAt bytes start b) is e) (each outer)
 
 pub quote_led : (bytes : List ℕ) (start c : ℕ) → StandsAt bytes start c → c ≡ 34 → Led bytes start (start + 1) (quoted for_value (plain []))
-quote_led bytes start c e is = leads_at bytes start 34 (quoted for_value (plain [])) (quote_leads start) (stands_as bytes start c 34 e is)
+unfolding step begin_step
+quote_led bytes start c e is = leads_at bytes start c 34 (quoted for_value (plain [])) (λ outer. refl) e is
 
 pub true_led : (bytes : List ℕ) (start c : ℕ) → StandsAt bytes start c → c ≡ 116 → Led bytes start (start + 1) (literal (boolean true) rue)
-true_led bytes start c e is = leads_at bytes start 116 (literal (boolean true) rue) (true_leads start) (stands_as bytes start c 116 e is)
+unfolding step begin_step
+true_led bytes start c e is = leads_at bytes start c 116 (literal (boolean true) rue) (λ outer. refl) e is
 
 pub false_led : (bytes : List ℕ) (start c : ℕ) → StandsAt bytes start c → c ≡ 102 → Led bytes start (start + 1) (literal (boolean false) alse)
-false_led bytes start c e is = leads_at bytes start 102 (literal (boolean false) alse) (false_leads start) (stands_as bytes start c 102 e is)
+unfolding step begin_step
+false_led bytes start c e is = leads_at bytes start c 102 (literal (boolean false) alse) (λ outer. refl) e is
 
 pub null_led : (bytes : List ℕ) (start c : ℕ) → StandsAt bytes start c → c ≡ 110 → Led bytes start (start + 1) (literal null ull)
-null_led bytes start c e is = leads_at bytes start 110 (literal null ull) (null_leads start) (stands_as bytes start c 110 e is)
+unfolding step begin_step
+null_led bytes start c e is = leads_at bytes start c 110 (literal null ull) (λ outer. refl) e is
 
 pub minus_led : (bytes : List ℕ) (start c : ℕ) → StandsAt bytes start c → c ≡ 45 → Led bytes start (start + 1) (numeral minus)
-minus_led bytes start c e is = leads_at bytes start 45 (numeral minus) (minus_leads start) (stands_as bytes start c 45 e is)
+unfolding step begin_step
+minus_led bytes start c e is = leads_at bytes start c 45 (numeral minus) (λ outer. refl) e is
 
 -- what comes behind it, read from a copy of the bytes
 pub read_behind : (bytes source : List ℕ) (start at end : ℕ) (spot : Spot) (v : Value) → bytes ≡ source → Led source start at spot → Reads bytes at spot end v → Reads source start wanted end v
@@ -117,10 +89,6 @@ no_value source start c e is stands space q b o t f n m d = λ outer. subst (λ 
     (stopped source start c outer wanted start 2 stands (stops outer)) where
       stops : (outer : List Frame) → step start outer wanted c ≡ stop start 2
       stops outer = fails_to_begin start c outer space q b o t f n m d
-
-pub no_value_at_end : (source : List ℕ) (start : ℕ) (e : JsonFault) → e ≡ At start 2 → drop start source ≡ [] → Breaks source start wanted e
-unfolding finish
-no_value_at_end source start e is none = λ outer. subst (λ (e : JsonFault). Leads e (scan source start outer wanted)) (sym is) (finished source start outer wanted none)
 
 -- the byte that stands at a place, by its index
 pub stands_index : (bytes : List ℕ) (at c : ℕ) → at < length bytes → StandsAt bytes at c → get_or bytes at 0 ≡ c

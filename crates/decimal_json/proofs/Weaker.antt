@@ -7,10 +7,8 @@ use Rattle.decimal_json.specs.Grammar.{Character, itself, short, alone, pair, Is
 use Rattle.decimal_json.specs.Fronts.{FrontItems, FrontMembers}
 
 weaker_character : (c : Character) → IsCharacter true c → IsCharacter false c
-weaker_character (itself c) is = is
-weaker_character (short l b) is = is
 weaker_character (alone a b c d) is = (is.0, λ e. absurd (false≢true e))
-weaker_character (pair a b c d e f g h) is = is
+weaker_character _ is = is
 
 pub weaker_characters : (cs : List Character) → AreCharacters true cs → AreCharacters false cs
 weaker_characters [] are = tt
@@ -21,12 +19,10 @@ weaker_string t bs s = (s.0, weaker_characters s.0 s.1, s.2, s.3)
 
 mutual
   pub weaker : (level : ℕ) (v : Value) (bs : List ℕ) → Spells true level v bs → Spells false level v bs
-  weaker level null bs s = s
-  weaker level (boolean b) bs s = s
-  weaker level (number n) bs s = s
   weaker level (text t) bs s = weaker_string t bs s
   weaker level (array vs) bs s = (s.0, λ e. absurd (false≢true e), weaker_items _ vs s.0 s.2, s.3)
   weaker level (object ms) bs s = (s.0, λ e. absurd (false≢true e), λ e. absurd (false≢true e), weaker_members _ ms s.0 s.3, s.4)
+  weaker level _ bs s = s
 
   weaker_items : (level : ℕ) (vs : Items) (bs : List ℕ) → SpellsItems true level vs bs → SpellsItems false level vs bs
   weaker_items level no_items bs s = s
