@@ -6,8 +6,7 @@ use Rattle.dual_model.specs.Certificate.{Certificate}
 use Rattle.cert_text.specs.CertificateText.{Listing, listing_of, certificate_lines, certificate_text}
 use Rattle.cert_text.specs.TextConditions.{HasText}
 use Rattle.cert_text.specs.inside.Parts.{certificate_part}
-use Rattle.cert_text.proofs.PartLaws.{same_Ok}
-use Rattle.cert_text.proofs.CertificateParts.{certificate-part, certificate_whole, certificate_again}
+use Rattle.cert_text.proofs.PartLaws.{same_Ok, certificate-part, certificate_whole, certificate_again}
 
 pub rest_shorter : (bytes rest : List ℕ) (c : Listing) → certificate_part bytes ≡ Ok (c, rest) → length rest ≤ length bytes
 rest_shorter bytes rest c e =

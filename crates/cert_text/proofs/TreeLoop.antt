@@ -6,8 +6,8 @@ use Rattle.cert_text.specs.Grammar.{Sizes, AreSizes}
 use Rattle.cert_text.specs.inside.LineForms.{node_at}
 use Rattle.cert_text.specs.inside.Parts.{owed_after, nodes_part}
 use Rattle.cert_text.proofs.Loops.{behind_parts, regroup_parts}
-use Rattle.cert_text.proofs.NodeLaws.{node-form}
-use Rattle.cert_text.proofs.TreeParts.{line_long}
+use Rattle.cert_text.proofs.FormLaws.{node-form}
+use Rattle.cert_text.proofs.PartLaws.{line_long}
 
 pub node_more : (size : Sizes) (front grown : List TreeNode) (most fewer owed : ℕ) (bytes rest : List ℕ) (node : TreeNode) (total : Result (List TreeNode × List ℕ) (List ℕ))
     → 0 < owed → most ≡ suc fewer → node_at size bytes ≡ Some (node, rest) → grown ≡ front ++ node ∷ []

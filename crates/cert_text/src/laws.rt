@@ -54,7 +54,7 @@ pub fn lines_that_may_stand_make_certificates()
 {}
 
 /// Bytes have at most one fault that is told by its line.
-#[tactic(auto, using(crate::proofs::OneFault::one_fault))]
+#[tactic(auto, using(crate::proofs::GrammarLaws::one_fault))]
 pub fn bytes_have_one_fault()
     ensures { (bytes : List ℕ) (line other : ℕ) (kind another : CertKind)
         → IsKindAt bytes line kind → IsKindAt bytes other another → (line ≡ other) × (kind ≡ another) }
