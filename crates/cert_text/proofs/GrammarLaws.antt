@@ -68,15 +68,34 @@ cell_feeds cell = by_state cell.on
 abbrev HasNone : List ℕ → Type 0
 HasNone text = line_feeds text ≡ 0
 
-spaced_feeds : (words : List (List ℕ)) → AllByRecursion HasNone words → line_feeds (spaced words (10 ∷ [])) ≡ 1
-spaced_feeds [] none = refl
-spaced_feeds (word ∷ words) none =
-    line_feeds-append (32 ∷ []) (word ++ spaced words (10 ∷ []))
-    ∙ omega (arith, line_feeds-append word (spaced words (10 ∷ [])), none.0, spaced_feeds words none.1)
+-- a line feed, and before it none
+record IsOne (text : List ℕ) : Type 0 where
+  front : List ℕ
+  ends : text ≡ front ++ 10 ∷ []
+  none : line_feeds front ≡ 0
 
-line_one : (first : List ℕ) (words : List (List ℕ)) → HasNone first → AllByRecursion HasNone words → line_feeds (line first words) ≡ 1
+one_feed : (text : List ℕ) → IsOne text → line_feeds text ≡ 1
+one_feed text h = ap line_feeds h.ends ∙ line_feeds-append h.front (10 ∷ []) ∙ omega (arith, h.none)
+
+spaced_one : (words : List (List ℕ)) → AllByRecursion HasNone words → IsOne (spaced words (10 ∷ []))
+spaced_one [] none = record { front = []; ends = refl; none = refl }
+spaced_one (word ∷ words) none =
+    let behind = spaced_one words none.1 in
+    record {
+      front = 32 ∷ (word ++ behind.front);
+      ends = ap (λ rest. 32 ∷ rest) (ap (λ rest. word ++ rest) behind.ends ∙ sym (append_assoc word behind.front (10 ∷ [])));
+      none = line_feeds-append (32 ∷ []) (word ++ behind.front) ∙ omega (arith, line_feeds-append word behind.front, none.0, behind.none);
+    }
+
+line_one : (first : List ℕ) (words : List (List ℕ)) → HasNone first → AllByRecursion HasNone words → IsOne (line first words)
 unfolding line
-line_one first words none all = line_feeds-append first (spaced words (10 ∷ [])) ∙ omega (arith, none, spaced_feeds words all)
+line_one first words none all =
+    let behind = spaced_one words all in
+    record {
+      front = first ++ behind.front;
+      ends = ap (λ rest. first ++ rest) behind.ends ∙ sym (append_assoc first behind.front (10 ∷ []));
+      none = line_feeds-append first behind.front ∙ omega (arith, none, behind.none);
+    }
 
 words_feeds : {A : Type 0} (word : A → List ℕ) → ((a : A) → HasNone (word a)) → (xs : List A) → line_feeds (words_of word xs) ≡ 0
 words_feeds word none [] = refl
@@ -84,44 +103,46 @@ words_feeds word none (x ∷ xs) =
     line_feeds-append (32 ∷ word x) (words_of word xs)
     ∙ omega (arith, line_feeds-append (32 ∷ []) (word x), none x, words_feeds word none xs)
 
-list_line_one : {A : Type 0} (first : List ℕ) (word : A → List ℕ) → HasNone first → ((a : A) → HasNone (word a)) → (xs : List A) → line_feeds (list_line first word xs) ≡ 1
+list_line_one : {A : Type 0} (first : List ℕ) (word : A → List ℕ) → HasNone first → ((a : A) → HasNone (word a)) → (xs : List A) → IsOne (list_line first word xs)
 unfolding list_line
-list_line_one first word none each xs =
-    line_feeds-append first (words_of word xs ++ 10 ∷ [])
-    ∙ omega (arith, none, line_feeds-append (words_of word xs) (10 ∷ []), words_feeds word each xs)
+list_line_one first word none each xs = record {
+  front = first ++ words_of word xs;
+  ends = sym (append_assoc first (words_of word xs) (10 ∷ []));
+  none = line_feeds-append first (words_of word xs) ∙ omega (arith, none, words_feeds word each xs);
+}
 
-claim_one : (bound : Option ℤ) → line_feeds (claim_line bound) ≡ 1
+claim_one : (bound : Option ℤ) → IsOne (claim_line bound)
 claim_one None = line_one (codes "claim infeasible") [] refl tt
 claim_one (Some z) = line_one (codes "claim bound") (money_text z ∷ []) refl (money_feeds z, tt)
 
-schedule_one : (cost : Option ℤ) → line_feeds (schedule_line cost) ≡ 1
+schedule_one : (cost : Option ℤ) → IsOne (schedule_line cost)
 schedule_one None = line_one (codes "schedule none") [] refl tt
 schedule_one (Some z) = line_one (codes "schedule") (money_text z ∷ []) refl (money_feeds z, tt)
 
-node_one : (node : TreeNode) → line_feeds (node_line node) ≡ 1
+node_one : (node : TreeNode) → IsOne (node_line node)
 node_one (LeafNode (Bound n)) = line_one (codes "bound") (whole_text (suc n) ∷ []) refl (whole_feeds (suc n), tt)
 node_one (LeafNode (Ray n)) = line_one (codes "ray") (whole_text (suc n) ∷ []) refl (whole_feeds (suc n), tt)
 node_one (LeafNode (Empty n)) = line_one (codes "empty") (whole_text (suc n) ∷ []) refl (whole_feeds (suc n), tt)
 node_one (SplitNode g t) = line_one (codes "split") (whole_text (suc g) ∷ whole_text (suc t) ∷ []) refl (whole_feeds (suc g), (whole_feeds (suc t), tt))
 
-pub produced_one : (kind : Symbol) (text : List ℕ) (next : List Symbol) → Produces kind text next → line_feeds text ≡ 1
-produced_one Version text next p = ap line_feeds p.0 ∙ line_one (codes "uc-certificate") (whole_text 1 ∷ []) refl (whole_feeds 1, tt)
+produced_one : (kind : Symbol) (text : List ℕ) (next : List Symbol) → Produces kind text next → IsOne text
+produced_one Version text next p = subst IsOne (sym p.0) (line_one (codes "uc-certificate") (whole_text 1 ∷ []) refl (whole_feeds 1, tt))
 produced_one Size text next p =
-    ap line_feeds p.2 ∙ line_one (codes "size") (whole_text p.0.periods ∷ whole_text p.0.thermal ∷ whole_text p.0.renewable ∷ whole_text p.0.tables ∷ []) refl
-    (whole_feeds p.0.periods, (whole_feeds p.0.thermal, (whole_feeds p.0.renewable, (whole_feeds p.0.tables, tt))))
-produced_one Claim text next p = ap line_feeds p.2 ∙ claim_one p.0
-produced_one (Schedule size) text next p = ap line_feeds p.2 ∙ schedule_one p.0
-produced_one (ThermalRow size) text next p = ap line_feeds p.2 ∙ list_line_one (codes "t") cell_text refl cell_feeds p.0
-produced_one (RenewableRow size) text next p = ap line_feeds p.2 ∙ list_line_one (codes "w") signed_text refl signed_feeds p.0
-produced_one (Scale size) text next p = ap line_feeds p.2 ∙ line_one (codes "table") (signed_text (pos p.0) ∷ []) refl (signed_feeds (pos p.0), tt)
-produced_one (Pi size) text next p = ap line_feeds p.2 ∙ list_line_one (codes "pi") signed_text refl signed_feeds p.0
-produced_one (Mu size) text next p = ap line_feeds p.2 ∙ list_line_one (codes "mu") signed_text refl signed_feeds p.0
-produced_one (Ramps size) text next p = ap line_feeds p.2 ∙ line_one (codes "ramps") (whole_text p.0 ∷ []) refl (whole_feeds p.0, tt)
+    subst IsOne (sym p.2) (line_one (codes "size") (whole_text p.0.periods ∷ whole_text p.0.thermal ∷ whole_text p.0.renewable ∷ whole_text p.0.tables ∷ []) refl
+    (whole_feeds p.0.periods, (whole_feeds p.0.thermal, (whole_feeds p.0.renewable, (whole_feeds p.0.tables, tt)))))
+produced_one Claim text next p = subst IsOne (sym p.2) (claim_one p.0)
+produced_one (Schedule size) text next p = subst IsOne (sym p.2) (schedule_one p.0)
+produced_one (ThermalRow size) text next p = subst IsOne (sym p.2) (list_line_one (codes "t") cell_text refl cell_feeds p.0)
+produced_one (RenewableRow size) text next p = subst IsOne (sym p.2) (list_line_one (codes "w") signed_text refl signed_feeds p.0)
+produced_one (Scale size) text next p = subst IsOne (sym p.2) (line_one (codes "table") (signed_text (pos p.0) ∷ []) refl (signed_feeds (pos p.0), tt))
+produced_one (Pi size) text next p = subst IsOne (sym p.2) (list_line_one (codes "pi") signed_text refl signed_feeds p.0)
+produced_one (Mu size) text next p = subst IsOne (sym p.2) (list_line_one (codes "mu") signed_text refl signed_feeds p.0)
+produced_one (Ramps size) text next p = subst IsOne (sym p.2) (line_one (codes "ramps") (whole_text p.0 ∷ []) refl (whole_feeds p.0, tt))
 produced_one (Ramp size more before) text next p =
-    ap line_feeds p.2 ∙ line_one (codes "ramp") (whole_text (suc p.0.g) ∷ whole_text (suc p.0.t) ∷ signed_text p.0.up ∷ signed_text p.0.down ∷ []) refl
-    (whole_feeds (suc p.0.g), (whole_feeds (suc p.0.t), (signed_feeds p.0.up, (signed_feeds p.0.down, tt))))
-produced_one (Node size) text next p = ap line_feeds p.2 ∙ node_one p.0
-produced_one End text next p = ap line_feeds p.0 ∙ line_one (codes "end") [] refl tt
+    subst IsOne (sym p.2) (line_one (codes "ramp") (whole_text (suc p.0.g) ∷ whole_text (suc p.0.t) ∷ signed_text p.0.up ∷ signed_text p.0.down ∷ []) refl
+    (whole_feeds (suc p.0.g), (whole_feeds (suc p.0.t), (signed_feeds p.0.up, (signed_feeds p.0.down, tt)))))
+produced_one (Node size) text next p = subst IsOne (sym p.2) (node_one p.0)
+produced_one End text next p = subst IsOne (sym p.0) (line_one (codes "end") [] refl tt)
 
 -- as many line feeds as lines
 pub reached_feeds : (kinds : List Symbol) (texts : List (List ℕ)) (left : List Symbol) → Reaches kinds texts left → line_feeds (joined texts) ≡ length texts
@@ -129,7 +150,7 @@ reached_feeds kinds [] left e = refl
 reached_feeds [] (text ∷ texts) left e = absurd e
 reached_feeds (kind ∷ kinds) (text ∷ texts) left e =
     ap line_feeds (joined-cons text texts) ∙ line_feeds-append text (joined texts)
-    ∙ omega (arith, produced_one kind text e.0 e.1, reached_feeds (e.0 ++ kinds) texts left e.2)
+    ∙ omega (arith, one_feed text (produced_one kind text e.0 e.1), reached_feeds (e.0 ++ kinds) texts left e.2)
 
 -- ---- Where reading stops, the line that begins there is the first at fault.
 -- ---- the first line of bytes
@@ -389,57 +410,6 @@ pub certificate_runs : (c : Certificate) → HasText (listing_of c) → Reaches 
 certificate_runs c h = certificate-part.runs (listing_of c) (certificate_listed c h)
 
 -- ---- Bytes have at most one fault: the lines before it may stand, so two faults have the same lines before them.
--- ---- lines end with their line feeds
-record Ends (text : List ℕ) : Type 0 where
-  front : List ℕ
-  ends : text ≡ front ++ 10 ∷ []
-
-spaced_ends : (words : List (List ℕ)) → Ends (spaced words (10 ∷ []))
-spaced_ends [] = record { front = []; ends = refl }
-spaced_ends (word ∷ words) =
-    let behind = spaced_ends words in
-    record { front = 32 ∷ (word ++ behind.front); ends = ap (λ rest. 32 ∷ rest) (ap (λ rest. word ++ rest) behind.ends ∙ sym (append_assoc word behind.front (10 ∷ []))) }
-
-line_ends : (first : List ℕ) (words : List (List ℕ)) → Ends (line first words)
-unfolding line
-line_ends first words =
-    let behind = spaced_ends words in
-    record { front = first ++ behind.front; ends = ap (λ rest. first ++ rest) behind.ends ∙ sym (append_assoc first behind.front (10 ∷ [])) }
-
-list_line_ends : {A : Type 0} (first : List ℕ) (word : A → List ℕ) (xs : List A) → Ends (list_line first word xs)
-unfolding list_line
-list_line_ends first word xs = record { front = first ++ words_of word xs; ends = sym (append_assoc first (words_of word xs) (10 ∷ [])) }
-
-claim_ends : (bound : Option ℤ) → Ends (claim_line bound)
-claim_ends None = line_ends (codes "claim infeasible") []
-claim_ends (Some z) = line_ends (codes "claim bound") (money_text z ∷ [])
-
-schedule_ends : (cost : Option ℤ) → Ends (schedule_line cost)
-schedule_ends None = line_ends (codes "schedule none") []
-schedule_ends (Some z) = line_ends (codes "schedule") (money_text z ∷ [])
-
-node_ends : (node : TreeNode) → Ends (node_line node)
-node_ends (LeafNode (Bound n)) = line_ends (codes "bound") (whole_text (suc n) ∷ [])
-node_ends (LeafNode (Ray n)) = line_ends (codes "ray") (whole_text (suc n) ∷ [])
-node_ends (LeafNode (Empty n)) = line_ends (codes "empty") (whole_text (suc n) ∷ [])
-node_ends (SplitNode g t) = line_ends (codes "split") (whole_text (suc g) ∷ whole_text (suc t) ∷ [])
-
-produced_ends : (kind : Symbol) (text : List ℕ) (next : List Symbol) → Produces kind text next → Ends text
-produced_ends Version text next p = subst Ends (sym p.0) (line_ends (codes "uc-certificate") (whole_text 1 ∷ []))
-produced_ends Size text next p = subst Ends (sym p.2) (line_ends (codes "size") (whole_text p.0.periods ∷ whole_text p.0.thermal ∷ whole_text p.0.renewable ∷ whole_text p.0.tables ∷ []))
-produced_ends Claim text next p = subst Ends (sym p.2) (claim_ends p.0)
-produced_ends (Schedule size) text next p = subst Ends (sym p.2) (schedule_ends p.0)
-produced_ends (ThermalRow size) text next p = subst Ends (sym p.2) (list_line_ends (codes "t") cell_text p.0)
-produced_ends (RenewableRow size) text next p = subst Ends (sym p.2) (list_line_ends (codes "w") signed_text p.0)
-produced_ends (Scale size) text next p = subst Ends (sym p.2) (line_ends (codes "table") _)
-produced_ends (Pi size) text next p = subst Ends (sym p.2) (list_line_ends (codes "pi") signed_text p.0)
-produced_ends (Mu size) text next p = subst Ends (sym p.2) (list_line_ends (codes "mu") signed_text p.0)
-produced_ends (Ramps size) text next p = subst Ends (sym p.2) (line_ends (codes "ramps") (whole_text p.0 ∷ []))
-produced_ends (Ramp size more before) text next p =
-    subst Ends (sym p.2) (line_ends (codes "ramp") (whole_text (suc p.0.g) ∷ whole_text (suc p.0.t) ∷ signed_text p.0.up ∷ signed_text p.0.down ∷ []))
-produced_ends (Node size) text next p = subst Ends (sym p.2) (node_ends p.0)
-produced_ends End text next p = subst Ends (sym p.0) (line_ends (codes "end") [])
-
 none_counted : (bytes : List ℕ) → line_feeds bytes ≡ 0 → HasLineFeed bytes → ⊥
 none_counted [] e (k, lt, same) = omega arith
 none_counted (b ∷ bytes) e has =
@@ -449,10 +419,8 @@ none_counted (b ∷ bytes) e has =
     (λ (other : b ≡ 10 → ⊥). none_counted bytes (omega (arith, parts, e)) (later_feed b bytes other has))
     (cases_eq b 10)
 
-pub produced_whole : (kind : Symbol) (text : List ℕ) (next : List Symbol) → Produces kind text next → IsWholeLine text
-produced_whole kind text next p =
-    let h = produced_ends kind text next p in
-    record { front = h.front; ends = h.ends; first = none_counted h.front (omega (arith, produced_one kind text next p, ap line_feeds h.ends, line_feeds-append h.front (10 ∷ []))) }
+produced_whole : (kind : Symbol) (text : List ℕ) (next : List Symbol) → Produces kind text next → IsWholeLine text
+produced_whole kind text next p = let h = produced_one kind text next p in record { front = h.front; ends = h.ends; first = none_counted h.front h.none }
 
 -- ---- the first line of bytes is one
 one_later : (b : ℕ) (bytes : List ℕ) → HasLineFeed bytes → HasLineFeed (b ∷ bytes)
