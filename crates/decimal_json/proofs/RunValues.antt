@@ -1,20 +1,365 @@
--- The machine at values of the grammar.
-use Rattle.std.proofs.Common.{◌≡◌, ℕ, ◌+◌, ◌==◌, ◌<◌, ◌||◌, cond, suc, List, [], ◌∷◌, ◌++◌, length, refl, sym, ap, subst, ◌∙◌, arith, Bool, true, false, append_assoc, ⊎_elim, inl, inr, lit<}
-use Rattle.std.specs.Prelude.{◌⊎◌, nat_lt}
-use Rattle.std.specs.List.{flat_map}
+-- The machine at a number of the grammar.
+use Rattle.std.proofs.Common.{◌≡◌, ℕ, ◌+◌, ◌*◌, ◌<◌, suc, List, [], ◌∷◌, ◌++◌, length, refl, sym, ap, subst, ◌∙◌, arith, Bool, true, false, append_assoc, length-append, fold, ⊎_elim, ◌==◌, inl, inr, lit<, Some, None, ◌||◌, cond}
+use Rattle.std.specs.Prelude.{nat_le, ◌⊎◌, encode_utf8, nat_lt}
 use Rattle.std.proofs.lemmas.List.{append-nil}
-use Rattle.std.proofs.lemmas.Bool.{cases_Bool, or_left, lt-ltb, ltb-true, ne_eqb, false≢true}
-use Rattle.decimal_json.specs.Value.{Decimal, Value, null, boolean, number, text, array, object, Items, no_items, item, Members, no_members, member, members_of, has_key}
+use Rattle.std.proofs.lemmas.Bool.{and_from, le-leb, cases_eq, ne_eqb, cases_Bool, or_cases, or_parts, false≢true, or_left, lt-ltb, ltb-true}
+use Rattle.decimal_json.specs.Value.{Decimal, number, Value, null, boolean, text, array, object, Items, no_items, item, Members, no_members, member, members_of, has_key}
+use Rattle.decimal_json.specs.Number.{is_digit, digit_of, is_mark, whole_of}
+use Rattle.decimal_json.specs.Open.{Frame, Purpose, Member, in_array, in_object, for_value, for_key}
+use Rattle.decimal_json.specs.inside.Scan.{Spot, wanted, ended, numeral, zero_first, whole, point, fraction, mark, signed, exponent, so_far, next, step, begin_step, numeral_step, finish, after, outcome, quoted, Quoted, plain, escaped, unit, high, high_escaped, high_unit, Hex, no_digit, one_digit, two_digits, three_digits, Step, stop, Outcome, fault, quoted_step, quote_step, unit_step, pair_step, more_hex, escape_step, first_item, first_key, key_wanted, colon_wanted, literal, done, literal_step, opened, finish_value, whole_outcome, ended_step, close_step}
+use Rattle.decimal_json.specs.inside.Answer.{begun}
+use Rattle.decimal_json.specs.Grammar.{AreDigits, numerals, IsWhole, fraction_text, Power, no_power, power, Sign, no_sign, plus, minus, sign_text, is_minus, power_text, is_down, written, IsPower, negative_text, IsNumber, Character, itself, short, alone, pair, character_text, meaning, AreHex, is_surrogate, begins_with_second, AreCharacters, IsSpace, IsString, HasUniqueKeys, Spells, SpellsItems, SpellsMoreItems, SpellsMembers, SpellsMoreMembers, SpellsText}
+use Rattle.decimal_json.proofs.Moves.{Moves, moves_none, moves_byte, moves_then, moves_on, placed_at, Delimits, delimiter_is, Refuses, refuses_along, space_moves, Arrives, arrives_then, arrives_by}
+use Rattle.decimal_json.proofs.Numerals.{whole_starts, zero_starts, mark_is, unit_each, second_each, escaped_some, low_not_high, plain_leads, plain_quote, plain_parts}
+use Rattle.std.specs.List.{flat_map}
+use Rattle.std.specs.Char.Utf16.{is_low_surrogate, is_high_surrogate, surrogate_pair_char}
+use Rattle.decimal_json.specs.Escape.{short_escape, is_hex, unit_of}
 use Rattle.decimal_json.specs.Characters.{is_space, rue, alse, ull, depth_limit}
-use Rattle.decimal_json.specs.Open.{Member, Frame, in_array, in_object, for_value, for_key}
-use Rattle.decimal_json.specs.inside.Scan.{Spot, wanted, first_item, first_key, key_wanted, colon_wanted, ended, literal, quoted, plain, next, stop, done, step, begin_step, literal_step, opened, quote_step, finish, finish_value, outcome, whole_outcome, ended_step, close_step}
-use Rattle.decimal_json.specs.Grammar.{Character, meaning, fraction_text, power_text, negative_text, IsSpace, IsString, IsNumber, IsWhole, numerals, HasUniqueKeys, Spells, SpellsItems, SpellsMoreItems, SpellsMembers, SpellsMoreMembers, SpellsText}
-use Rattle.decimal_json.proofs.Runs.{Moves, moves_none, moves_byte, moves_on, space_moves, Refuses, refuses_along, Arrives, arrives_then, arrives_by, placed_at, Delimits}
-use Rattle.decimal_json.proofs.RunNumbers.{number_run}
-use Rattle.decimal_json.proofs.RunStrings.{go_on, byte_run, string_run, tail_text}
-use Rattle.decimal_json.proofs.Inside.{first_item_other, first_key_other, item_comma, quote_known, quote_new}
-use Rattle.decimal_json.proofs.Uniques.{items_onto, members_onto, items_of-push, items_onto-push, members_of-push, members_onto-push, new_key}
+use Rattle.decimal_json.proofs.Values.{first_item_other, first_key_other, item_comma, quote_known, quote_new, items_onto, members_onto, items_of-push, items_onto-push, members_of-push, members_onto-push, new_key}
 
+digit_written : (d : ℕ) → d < 10 → is_digit (48 + d) ≡ true
+digit_written d small = and_from (nat_le 48 (48 + d)) (nat_le (48 + d) 57) (le-leb 48 (48 + d) (omega arith)) (le-leb (48 + d) 57 (omega arith))
+
+digit_read : (d : ℕ) → digit_of (48 + d) ≡ d
+digit_read d = omega arith
+
+whole_moves : (at : ℕ) (outer : List Frame) (n : Bool) (xs ds : List ℕ) → AreDigits ds → Moves at outer (numeral (whole n xs)) (numerals ds) outer (numeral (whole n (xs ++ ds)))
+unfolding step numeral_step
+whole_moves at outer n xs [] are = subst (λ (ys : List ℕ). Moves at outer (numeral (whole n xs)) [] outer (numeral (whole n ys))) (sym (append-nil xs)) (moves_none at outer (numeral (whole n xs)))
+whole_moves at outer n xs (d ∷ ds) are =
+    moves_on at (48 + d) outer (numeral (whole n xs)) outer (numeral (whole n (xs ++ d ∷ []))) (numerals ds) outer (numeral (whole n (xs ++ d ∷ ds)))
+    (rw (digit_written d are.0) (ap (λ e. next outer (numeral (whole n (xs ++ e ∷ [])))) (digit_read d)))
+    (subst (λ (ys : List ℕ). Moves (at + 1) outer (numeral (whole n (xs ++ d ∷ []))) (numerals ds) outer (numeral (whole n ys))) (append_assoc xs (d ∷ []) ds) (whole_moves (at + 1) outer n (xs ++ d ∷ []) ds are.1))
+
+fraction_moves : (at : ℕ) (outer : List Frame) (n : Bool) (ws xs ds : List ℕ) → AreDigits ds → Moves at outer (numeral (fraction n ws xs)) (numerals ds) outer (numeral (fraction n ws (xs ++ ds)))
+unfolding step numeral_step
+fraction_moves at outer n ws xs [] are = subst (λ (ys : List ℕ). Moves at outer (numeral (fraction n ws xs)) [] outer (numeral (fraction n ws ys))) (sym (append-nil xs)) (moves_none at outer (numeral (fraction n ws xs)))
+fraction_moves at outer n ws xs (d ∷ ds) are =
+    moves_on at (48 + d) outer (numeral (fraction n ws xs)) outer (numeral (fraction n ws (xs ++ d ∷ []))) (numerals ds) outer (numeral (fraction n ws (xs ++ d ∷ ds)))
+    (rw (digit_written d are.0) (ap (λ e. next outer (numeral (fraction n ws (xs ++ e ∷ [])))) (digit_read d)))
+    (subst (λ (ys : List ℕ). Moves (at + 1) outer (numeral (fraction n ws (xs ++ d ∷ []))) (numerals ds) outer (numeral (fraction n ws ys))) (append_assoc xs (d ∷ []) ds) (fraction_moves (at + 1) outer n ws (xs ++ d ∷ []) ds are.1))
+
+exponent_moves : (at : ℕ) (outer : List Frame) (n : Bool) (ws fs : List ℕ) (down : Bool) (w : ℕ) (ds : List ℕ) → AreDigits ds
+    → Moves at outer (numeral (exponent n ws fs down w)) (numerals ds) outer (numeral (exponent n ws fs down (fold (λ k d. k * 10 + d) w ds)))
+unfolding step numeral_step
+exponent_moves at outer n ws fs down w [] are = moves_none at outer (numeral (exponent n ws fs down w))
+exponent_moves at outer n ws fs down w (d ∷ ds) are =
+    moves_on at (48 + d) outer (numeral (exponent n ws fs down w)) outer (numeral (exponent n ws fs down (w * 10 + d))) (numerals ds) outer (numeral (exponent n ws fs down (fold (λ k d. k * 10 + d) (w * 10 + d) ds)))
+    (rw (digit_written d are.0) (ap (λ e. next outer (numeral (exponent n ws fs down (w * 10 + e)))) (digit_read d)))
+    (exponent_moves (at + 1) outer n ws fs down (w * 10 + d) ds are.1)
+
+-- a spot where a number may end, with these digits before and after the point
+record CanEnd (n : Bool) (ds fs : List ℕ) (spot : Spot) : Type 0 where
+  marked : (at m : ℕ) (outer : List Frame) → is_mark m ≡ true → step at outer spot m ≡ next outer (numeral (mark n ds fs))
+  last : (at : ℕ) (outer : List Frame) (rest : List ℕ) → Delimits rest → outcome at outer spot rest ≡ outcome at outer (ended (so_far n ds fs false 0)) rest
+
+same_at : (at : ℕ) (outer : List Frame) (spot other : Spot) (rest : List ℕ) → ((c : ℕ) → Delimits (c ∷ []) → step at outer spot c ≡ step at outer other c) → finish at outer spot ≡ finish at outer other
+    → Delimits rest → outcome at outer spot rest ≡ outcome at outer other rest
+unfolding outcome
+same_at at outer spot other [] each end d = end
+same_at at outer spot other (c ∷ cs) each end d = ap (λ s. after s (λ o t. outcome (suc at) o t cs)) (each c d)
+
+zero_can_end : (n : Bool) → CanEnd n (0 ∷ []) [] (numeral (zero_first n))
+unfolding step numeral_step finish
+zero_can_end n = record {
+  marked = λ at m outer e. mark_is m (λ m. step at outer (numeral (zero_first n)) m ≡ next outer (numeral (mark n (0 ∷ []) []))) e refl refl;
+  last = λ at outer rest d. same_at at outer (numeral (zero_first n)) (ended (so_far n (0 ∷ []) [] false 0)) rest
+      (λ c e. delimiter_is c (λ c. step at outer (numeral (zero_first n)) c ≡ step at outer (ended (so_far n (0 ∷ []) [] false 0)) c) e refl refl refl refl refl refl refl) refl d;
+}
+
+whole_can_end : (n : Bool) (ds : List ℕ) → CanEnd n ds [] (numeral (whole n ds))
+unfolding step numeral_step finish
+whole_can_end n ds = record {
+  marked = λ at m outer e. mark_is m (λ m. step at outer (numeral (whole n ds)) m ≡ next outer (numeral (mark n ds []))) e refl refl;
+  last = λ at outer rest d. same_at at outer (numeral (whole n ds)) (ended (so_far n ds [] false 0)) rest
+      (λ c e. delimiter_is c (λ c. step at outer (numeral (whole n ds)) c ≡ step at outer (ended (so_far n ds [] false 0)) c) e refl refl refl refl refl refl refl) refl d;
+}
+
+fraction_can_end : (n : Bool) (ds fs : List ℕ) → CanEnd n ds fs (numeral (fraction n ds fs))
+unfolding step numeral_step finish
+fraction_can_end n ds fs = record {
+  marked = λ at m outer e. mark_is m (λ m. step at outer (numeral (fraction n ds fs)) m ≡ next outer (numeral (mark n ds fs))) e refl refl;
+  last = λ at outer rest d. same_at at outer (numeral (fraction n ds fs)) (ended (so_far n ds fs false 0)) rest
+      (λ c e. delimiter_is c (λ c. step at outer (numeral (fraction n ds fs)) c ≡ step at outer (ended (so_far n ds fs false 0)) c) e refl refl refl refl refl refl refl) refl d;
+}
+
+exponent_last : (at : ℕ) (outer : List Frame) (n : Bool) (ds fs : List ℕ) (down : Bool) (w : ℕ) (rest : List ℕ) → Delimits rest
+    → outcome at outer (numeral (exponent n ds fs down w)) rest ≡ outcome at outer (ended (so_far n ds fs down w)) rest
+unfolding step numeral_step finish
+exponent_last at outer n ds fs down w rest d = same_at at outer (numeral (exponent n ds fs down w)) (ended (so_far n ds fs down w)) rest
+    (λ c e. delimiter_is c (λ c. step at outer (numeral (exponent n ds fs down w)) c ≡ step at outer (ended (so_far n ds fs down w)) c) e refl refl refl refl refl refl refl) refl d
+
+-- the digits before the point
+record WholeRun (at : ℕ) (outer : List Frame) (n : Bool) (ds : List ℕ) : Type 0 where
+  spot : Spot
+  moves : Moves at outer (begun n) (numerals ds) outer spot
+  can_end : CanEnd n ds [] spot
+  pointed : (k : ℕ) → step k outer spot 46 ≡ next outer (numeral (point n ds))
+
+whole_spot : (at : ℕ) (outer : List Frame) (n : Bool) (d : ℕ) (ds : List ℕ) → 0 < d → AreDigits (d ∷ ds) → WholeRun at outer n (d ∷ ds)
+unfolding step numeral_step
+whole_spot at outer n d ds more are = record {
+  spot = numeral (whole n (d ∷ ds));
+  moves = moves_on at (48 + d) outer (begun n) outer (numeral (whole n (d ∷ []))) (numerals ds) outer (numeral (whole n (d ∷ ds)))
+      (whole_starts at (48 + d) outer n (digit_written d are.0) (λ e. omega arith) ∙ ap (λ e. next outer (numeral (whole n (e ∷ [])))) (digit_read d))
+      (whole_moves (at + 1) outer n (d ∷ []) ds are.1);
+  can_end = whole_can_end n (d ∷ ds);
+  pointed = λ k. refl;
+}
+
+zero_spot : (at : ℕ) (outer : List Frame) (n : Bool) → WholeRun at outer n (0 ∷ [])
+unfolding step numeral_step
+zero_spot at outer n = record {
+  spot = numeral (zero_first n);
+  moves = moves_byte at 48 outer (begun n) outer (numeral (zero_first n)) (zero_starts at outer n);
+  can_end = zero_can_end n;
+  pointed = λ k. refl;
+}
+
+whole_run : (at : ℕ) (outer : List Frame) (n : Bool) (ds : List ℕ) → IsWhole ds → WholeRun at outer n ds
+whole_run at outer n [] is = absurd is
+whole_run at outer n (d ∷ []) is = ⊎_elim (λ (e : d ≡ 0). subst (λ (k : ℕ). WholeRun at outer n (k ∷ [])) (sym e) (zero_spot at outer n))
+    (λ (ne : d ≡ 0 → ⊥). whole_spot at outer n d [] (omega arith) (is, tt)) (cases_eq d 0)
+whole_run at outer n (d ∷ e ∷ ds) is = whole_spot at outer n d (e ∷ ds) is.0 is.1
+
+-- the digits behind the point
+record FractionRun (at : ℕ) (outer : List Frame) (spot : Spot) (n : Bool) (ds fs : List ℕ) : Type 0 where
+  then : Spot
+  moves : Moves at outer spot (fraction_text fs) outer then
+  can_end : CanEnd n ds fs then
+
+fraction_run : (at : ℕ) (outer : List Frame) (spot : Spot) (n : Bool) (ds fs : List ℕ) → AreDigits fs → CanEnd n ds [] spot → ((k : ℕ) → step k outer spot 46 ≡ next outer (numeral (point n ds)))
+    → FractionRun at outer spot n ds fs
+unfolding step numeral_step
+fraction_run at outer spot n ds [] are end pointed = record { then = spot; moves = moves_none at outer spot; can_end = end }
+fraction_run at outer spot n ds (f ∷ fs) are end pointed = record {
+  then = numeral (fraction n ds (f ∷ fs));
+  moves = moves_on at 46 outer spot outer (numeral (point n ds)) (numerals (f ∷ fs)) outer (numeral (fraction n ds (f ∷ fs))) (pointed at)
+      (moves_on (at + 1) (48 + f) outer (numeral (point n ds)) outer (numeral (fraction n ds (f ∷ []))) (numerals fs) outer (numeral (fraction n ds (f ∷ fs)))
+      (rw (digit_written f are.0) (ap (λ e. next outer (numeral (fraction n ds (e ∷ [])))) (digit_read f)))
+      (fraction_moves (at + 1 + 1) outer n ds (f ∷ []) fs are.1));
+  can_end = fraction_can_end n ds (f ∷ fs);
+}
+
+unsigned : (at : ℕ) (outer : List Frame) (n : Bool) (ds fs : List ℕ) (d : ℕ) → d < 10
+    → step at outer (numeral (mark n ds fs)) (48 + d) ≡ next outer (numeral (exponent n ds fs false d))
+unfolding step numeral_step
+unsigned at outer n ds fs d small = rw (ne_eqb (48 + d) 43 (λ e. omega arith), ne_eqb (48 + d) 45 (λ e. omega arith), digit_written d small)
+    (ap (λ e. next outer (numeral (exponent n ds fs false e))) (digit_read d))
+
+sign_run : (at : ℕ) (outer : List Frame) (n : Bool) (ds fs : List ℕ) (s : Sign) (d : ℕ) → d < 10
+    → Moves at outer (numeral (mark n ds fs)) (sign_text s ++ (48 + d) ∷ []) outer (numeral (exponent n ds fs (is_minus s) d))
+unfolding step numeral_step
+sign_run at outer n ds fs no_sign d small = moves_byte at (48 + d) outer (numeral (mark n ds fs)) outer (numeral (exponent n ds fs false d)) (unsigned at outer n ds fs d small)
+sign_run at outer n ds fs plus d small = moves_on at 43 outer (numeral (mark n ds fs)) outer (numeral (signed n ds fs false)) ((48 + d) ∷ []) outer (numeral (exponent n ds fs false d)) refl
+    (moves_byte (at + 1) (48 + d) outer (numeral (signed n ds fs false)) outer (numeral (exponent n ds fs false d))
+    (rw (digit_written d small) (ap (λ e. next outer (numeral (exponent n ds fs false e))) (digit_read d))))
+sign_run at outer n ds fs minus d small = moves_on at 45 outer (numeral (mark n ds fs)) outer (numeral (signed n ds fs true)) ((48 + d) ∷ []) outer (numeral (exponent n ds fs true d)) refl
+    (moves_byte (at + 1) (48 + d) outer (numeral (signed n ds fs true)) outer (numeral (exponent n ds fs true d))
+    (rw (digit_written d small) (ap (λ e. next outer (numeral (exponent n ds fs true e))) (digit_read d))))
+
+sign_moves : (at : ℕ) (outer : List Frame) (n : Bool) → Moves at outer wanted (negative_text n) outer (begun n)
+unfolding step begin_step
+sign_moves at outer true = moves_byte at 45 outer wanted outer (begun true) refl
+sign_moves at outer false = moves_none at outer wanted
+
+power_as : (m : ℕ) (s : Sign) (e : ℕ) (es : List ℕ) → power_text (power m s e es) ≡ (m ∷ (sign_text s ++ (48 + e) ∷ [])) ++ numerals es
+power_as m no_sign e es = refl
+power_as m plus e es = refl
+power_as m minus e es = refl
+
+power_run : (at : ℕ) (outer : List Frame) (spot : Spot) (n : Bool) (ds fs : List ℕ) (p : Power) (rest : List ℕ) → IsPower p → CanEnd n ds fs spot → Delimits rest
+    → outcome at outer spot (power_text p ++ rest) ≡ outcome (at + length (power_text p)) outer (ended (so_far n ds fs (is_down p) (written p))) rest
+power_run at outer spot n ds fs no_power rest is end d = end.last at outer rest d ∙ placed_at at (at + 0) outer (ended (so_far n ds fs false 0)) rest (omega arith)
+power_run at outer spot n ds fs (power m s e es) rest is end d =
+    let moves : Moves at outer spot (m ∷ (sign_text s ++ (48 + e) ∷ []) ++ numerals es) outer (numeral (exponent n ds fs (is_minus s) (fold (λ k d. k * 10 + d) e es))) =
+    moves_then at outer spot (m ∷ (sign_text s ++ (48 + e) ∷ [])) outer (numeral (exponent n ds fs (is_minus s) e)) (numerals es) outer (numeral (exponent n ds fs (is_minus s) (fold (λ k d. k * 10 + d) e es)))
+    (moves_on at m outer spot outer (numeral (mark n ds fs)) (sign_text s ++ (48 + e) ∷ []) outer (numeral (exponent n ds fs (is_minus s) e)) (end.marked at m outer is.0) (sign_run (at + 1) outer n ds fs s e is.1.0))
+    (exponent_moves (at + length (m ∷ (sign_text s ++ (48 + e) ∷ []))) outer n ds fs (is_minus s) e es is.1.1) in
+    let same : power_text (power m s e es) ≡ (m ∷ (sign_text s ++ (48 + e) ∷ [])) ++ numerals es = power_as m s e es in
+    let size : length (power_text (power m s e es)) ≡ length ((m ∷ (sign_text s ++ (48 + e) ∷ [])) ++ numerals es) = ap length same in
+    let value : fold (λ k d. k * 10 + d) e es ≡ whole_of (e ∷ es) = ap (λ w. fold (λ k d. k * 10 + d) w es) (omega arith) in
+    let place : ℕ = at + length ((m ∷ (sign_text s ++ (48 + e) ∷ [])) ++ numerals es) in
+    ap (λ xs. outcome at outer spot (xs ++ rest)) same ∙ (moves rest
+    ∙ (exponent_last place outer n ds fs (is_minus s) (fold (λ k d. k * 10 + d) e es) rest d
+    ∙ (ap (λ w. outcome place outer (ended (so_far n ds fs (is_minus s) w)) rest) value
+    ∙ placed_at place (at + length (power_text (power m s e es))) outer (ended (so_far n ds fs (is_minus s) (whole_of (e ∷ es)))) rest (omega (arith, size)))))
+
+-- a number, with what says where it ends
+pub number_run : (at : ℕ) (outer : List Frame) (n : Decimal) (bs rest : List ℕ) → IsNumber n bs → Delimits rest
+    → outcome at outer wanted (bs ++ rest) ≡ outcome (at + length bs) outer (ended (number n)) rest
+number_run at outer n bs rest is d =
+    let sign = sign_moves at outer is.negative in
+    let at1 : ℕ = at + length (negative_text is.negative) in
+    let first = whole_run at1 outer is.negative is.ds is.is_whole in
+    let at2 : ℕ = at1 + length (numerals is.ds) in
+    let second = fraction_run at2 outer first.spot is.negative is.ds is.fs is.are_digits first.can_end first.pointed in
+    let at3 : ℕ = at2 + length (fraction_text is.fs) in
+    let third = power_run at3 outer second.then is.negative is.ds is.fs is.exponent rest is.is_power second.can_end d in
+    let front : Moves at outer wanted (negative_text is.negative ++ (numerals is.ds ++ fraction_text is.fs)) outer second.then =
+    moves_then at outer wanted (negative_text is.negative) outer (begun is.negative) (numerals is.ds ++ fraction_text is.fs) outer second.then sign
+    (moves_then at1 outer (begun is.negative) (numerals is.ds) outer first.spot (fraction_text is.fs) outer second.then first.moves second.moves) in
+    let f : List ℕ = negative_text is.negative ++ (numerals is.ds ++ fraction_text is.fs) in
+    let p : List ℕ = power_text is.exponent in
+    let grouped : bs ≡ f ++ p = is.spelled ∙ sym (append_assoc (negative_text is.negative) (numerals is.ds ++ fraction_text is.fs) p ∙ ap (λ xs. negative_text is.negative ++ xs) (append_assoc (numerals is.ds) (fraction_text is.fs) p)) in
+    let sizes : length f ≡ length (negative_text is.negative) + (length (numerals is.ds) + length (fraction_text is.fs)) =
+    length-append (negative_text is.negative) (numerals is.ds ++ fraction_text is.fs) ∙ ap (λ k. length (negative_text is.negative) + k) (length-append (numerals is.ds) (fraction_text is.fs)) in
+    let whole_size : length bs ≡ length f + length p = ap length grouped ∙ length-append f p in
+    ap (λ xs. outcome at outer wanted (xs ++ rest)) grouped ∙ (ap (outcome at outer wanted) (append_assoc f p rest)
+    ∙ (front (p ++ rest) ∙ (placed_at (at + length f) at3 outer second.then (p ++ rest) (omega (arith, sizes))
+    ∙ (third ∙ (ap (λ v. outcome (at3 + length p) outer (ended (number v)) rest) (sym is.value)
+    ∙ placed_at (at3 + length p) (at + length bs) outer (ended (number n)) rest (omega (arith, sizes, whole_size)))))))
+
+-- ---- The machine at a string of the grammar.
+-- what comes after a step, at a place
+abbrev pub go_on : ℕ → List ℕ → Step → Outcome
+go_on at rest s = after s (λ o t. outcome at o t rest)
+
+-- one byte
+pub byte_run : (at c : ℕ) (outer : List Frame) (spot : Spot) (rest : List ℕ) (s : Step) → step at outer spot c ≡ s → outcome at outer spot (c ∷ rest) ≡ go_on (suc at) rest s
+unfolding outcome
+byte_run at c outer spot rest s e = ap (go_on (suc at) rest) e
+
+hex_run : (at : ℕ) (outer : List Frame) (p : Purpose) (inside : Hex → Quoted) (full : ℕ → Step) (a b c d : ℕ) (rest : List ℕ)
+    → ((at c : ℕ) (h : Hex) → is_hex c ≡ true → step at outer (quoted p (inside h)) c ≡ more_hex h c (λ m. next outer (quoted p (inside m))) full) → AreHex a b c d
+    → outcome at outer (quoted p (inside no_digit)) (a ∷ b ∷ c ∷ d ∷ rest) ≡ go_on (suc (suc (suc (suc at)))) rest (full (unit_of a b c d))
+unfolding more_hex
+hex_run at outer p inside full a b c d rest each h =
+    byte_run at a outer (quoted p (inside no_digit)) (b ∷ c ∷ d ∷ rest) (next outer (quoted p (inside (one_digit a)))) (each at a no_digit h.0)
+    ∙ (byte_run (suc at) b outer (quoted p (inside (one_digit a))) (c ∷ d ∷ rest) (next outer (quoted p (inside (two_digits a b)))) (each (suc at) b (one_digit a) h.1)
+    ∙ (byte_run (suc (suc at)) c outer (quoted p (inside (two_digits a b))) (d ∷ rest) (next outer (quoted p (inside (three_digits a b c)))) (each (suc (suc at)) c (two_digits a b) h.2)
+    ∙ byte_run (suc (suc (suc at))) d outer (quoted p (inside (three_digits a b c))) rest (full (unit_of a b c d)) (each (suc (suc (suc at))) d (three_digits a b c) h.3)))
+
+-- the six bytes of a unit, from its backslash on
+pub unit_run : (at : ℕ) (outer : List Frame) (p : Purpose) (t : List ℕ) (a b c d : ℕ) (rest : List ℕ) → AreHex a b c d
+    → outcome at outer (quoted p (plain t)) (92 ∷ 117 ∷ a ∷ b ∷ c ∷ d ∷ rest) ≡ go_on (suc (suc (suc (suc (suc (suc at)))))) rest (unit_step outer p t at (unit_of a b c d))
+unfolding step quoted_step escape_step
+unit_run at outer p t a b c d rest h =
+    byte_run at 92 outer (quoted p (plain t)) (117 ∷ a ∷ b ∷ c ∷ d ∷ rest) (next outer (quoted p (escaped t at))) refl
+    ∙ (byte_run (suc at) 117 outer (quoted p (escaped t at)) (a ∷ b ∷ c ∷ d ∷ rest) (next outer (quoted p (unit t at no_digit))) refl
+    ∙ hex_run (suc (suc at)) outer p (unit t at) (λ u. unit_step outer p t at u) a b c d rest (unit_each outer p t at) h)
+
+-- the same of the second unit of a pair
+pub second_run : (at : ℕ) (outer : List Frame) (p : Purpose) (t : List ℕ) (back u a b c d : ℕ) (rest : List ℕ) → AreHex a b c d
+    → outcome at outer (quoted p (high t back u)) (92 ∷ 117 ∷ a ∷ b ∷ c ∷ d ∷ rest) ≡ go_on (suc (suc (suc (suc (suc (suc at)))))) rest (pair_step outer p t back u (unit_of a b c d))
+unfolding step quoted_step
+second_run at outer p t back u a b c d rest h =
+    byte_run at 92 outer (quoted p (high t back u)) (117 ∷ a ∷ b ∷ c ∷ d ∷ rest) (next outer (quoted p (high_escaped t back u))) refl
+    ∙ (byte_run (suc at) 117 outer (quoted p (high_escaped t back u)) (a ∷ b ∷ c ∷ d ∷ rest) (next outer (quoted p (high_unit t back u no_digit))) refl
+    ∙ hex_run (suc (suc at)) outer p (high_unit t back u) (λ v. pair_step outer p t back u v) a b c d rest (second_each outer p t back u) h)
+
+pub unit_scalar : (outer : List Frame) (p : Purpose) (t : List ℕ) (back u : ℕ) → is_surrogate u ≡ false → unit_step outer p t back u ≡ next outer (quoted p (plain (t ++ encode_utf8 u)))
+unfolding unit_step
+unit_scalar outer p t back u e = let parts = or_parts (is_high_surrogate u) (is_low_surrogate u) e in rw (parts.0, parts.1) refl
+
+pub unit_low : (outer : List Frame) (p : Purpose) (t : List ℕ) (back u : ℕ) → is_low_surrogate u ≡ true → unit_step outer p t back u ≡ stop back 5
+unfolding unit_step
+unit_low outer p t back u e = rw (low_not_high u e, e) refl
+
+pub unit_high : (outer : List Frame) (p : Purpose) (t : List ℕ) (back u : ℕ) → is_high_surrogate u ≡ true → unit_step outer p t back u ≡ next outer (quoted p (high t back u))
+unfolding unit_step
+unit_high outer p t back u e = rw e refl
+
+pub pair_low : (outer : List Frame) (p : Purpose) (t : List ℕ) (back u v : ℕ) → is_low_surrogate v ≡ true → pair_step outer p t back u v ≡ next outer (quoted p (plain (t ++ encode_utf8 (surrogate_pair_char u v))))
+unfolding pair_step
+pair_low outer p t back u v e = rw e refl
+
+pair_other : (outer : List Frame) (p : Purpose) (t : List ℕ) (back u v : ℕ) → is_low_surrogate v ≡ false → pair_step outer p t back u v ≡ stop back 5
+unfolding pair_step
+pair_other outer p t back u v e = rw e refl
+
+no_such_letter : (l b : ℕ) → short_escape l ≡ Some b → l ≡ 117 → ⊥
+no_such_letter l b e is = none_some b (sym (ap short_escape is) ∙ e) where
+  none_some : (b : ℕ) → None ≡ Some b → ⊥
+  none_some b f = cc
+
+high_not_low : (u : ℕ) → is_high_surrogate u ≡ true → is_low_surrogate u ≡ false
+high_not_low u e = ⊎_elim (λ (f : is_low_surrogate u ≡ true). absurd (false≢true (sym (low_not_high u f) ∙ e))) (λ (f : is_low_surrogate u ≡ false). f) (cases_Bool (is_low_surrogate u))
+
+-- the bytes of a string behind its first quote
+abbrev pub tail_text : List Character → List ℕ
+tail_text cs = flat_map character_text cs ++ 34 ∷ []
+
+-- A first unit with no second one behind it is a fault.
+high_alone : (limited : Bool) (at : ℕ) (outer : List Frame) (p : Purpose) (t : List ℕ) (back u : ℕ) (cs : List Character) (rest : List ℕ) → AreCharacters limited cs → begins_with_second cs ≡ false
+    → outcome at outer (quoted p (high t back u)) (tail_text cs ++ rest) ≡ fault back 5
+unfolding step quoted_step
+high_alone limited at outer p t back u [] rest are e = byte_run at 34 outer (quoted p (high t back u)) rest (stop back 5) refl
+high_alone limited at outer p t back u (itself c ∷ cs) rest are e =
+    byte_run at c outer (quoted p (high t back u)) (tail_text cs ++ rest) (stop back 5) (rw (plain_parts c are.0).1 refl)
+high_alone limited at outer p t back u (short l b ∷ cs) rest are e =
+    byte_run at 92 outer (quoted p (high t back u)) (l ∷ tail_text cs ++ rest) (next outer (quoted p (high_escaped t back u))) refl
+    ∙ byte_run (suc at) l outer (quoted p (high_escaped t back u)) (tail_text cs ++ rest) (stop back 5) (rw (ne_eqb l 117 (no_such_letter l b are.0)) refl)
+high_alone limited at outer p t back u (alone a b c d ∷ cs) rest are e =
+    second_run at outer p t back u a b c d (tail_text cs ++ rest) are.0.0 ∙ ap (go_on (suc (suc (suc (suc (suc (suc at)))))) (tail_text cs ++ rest)) (pair_other outer p t back u (unit_of a b c d) e)
+high_alone limited at outer p t back u (pair a b c d f g h i ∷ cs) rest are e =
+    second_run at outer p t back u a b c d (92 ∷ 117 ∷ f ∷ g ∷ h ∷ i ∷ tail_text cs ++ rest) are.0.0
+    ∙ ap (go_on (suc (suc (suc (suc (suc (suc at)))))) (92 ∷ 117 ∷ f ∷ g ∷ h ∷ i ∷ tail_text cs ++ rest)) (pair_other outer p t back u (unit_of a b c d) (high_not_low (unit_of a b c d) are.0.2))
+
+-- a string behind its first quote, up to behind its last
+abbrev pub StringRun : Bool → ℕ → List Frame → Purpose → List ℕ → List Character → List ℕ → Type 0
+StringRun limited at outer p t cs rest =
+    (outcome at outer (quoted p (plain t)) (tail_text cs ++ rest) ≡ go_on (at + length (tail_text cs)) rest (quote_step outer p (t ++ flat_map meaning cs)))
+    ⊎ Refuses limited (outcome at outer (quoted p (plain t)) (tail_text cs ++ rest))
+
+-- one character more
+string_more : (limited : Bool) (at later : ℕ) (outer : List Frame) (p : Purpose) (t : List ℕ) (c : Character) (cs : List Character) (rest : List ℕ)
+    → outcome at outer (quoted p (plain t)) (tail_text (c ∷ cs) ++ rest) ≡ outcome later outer (quoted p (plain (t ++ meaning c))) (tail_text cs ++ rest)
+    → later + length (tail_text cs) ≡ at + length (tail_text (c ∷ cs)) → StringRun limited later outer p (t ++ meaning c) cs rest → StringRun limited at outer p t (c ∷ cs) rest
+string_more limited at later outer p t c cs rest e place run =
+    ⊎_elim (λ (f : outcome later outer (quoted p (plain (t ++ meaning c))) (tail_text cs ++ rest) ≡ go_on (later + length (tail_text cs)) rest (quote_step outer p ((t ++ meaning c) ++ flat_map meaning cs))).
+    inl (e ∙ (f ∙ (ap (λ k. go_on k rest (quote_step outer p ((t ++ meaning c) ++ flat_map meaning cs))) place
+    ∙ ap (λ xs. go_on (at + length (tail_text (c ∷ cs))) rest (quote_step outer p xs)) (append_assoc t (meaning c) (flat_map meaning cs))))))
+    (λ (r : Refuses limited (outcome later outer (quoted p (plain (t ++ meaning c))) (tail_text cs ++ rest))).
+    inr (refuses_along limited (outcome at outer (quoted p (plain t)) (tail_text (c ∷ cs) ++ rest)) (outcome later outer (quoted p (plain (t ++ meaning c))) (tail_text cs ++ rest)) e r)) run
+
+-- a unit that stands alone though it is half of a pair
+string_refuses : (limited : Bool) (at back : ℕ) (outer : List Frame) (p : Purpose) (t : List ℕ) (cs : List Character) (rest : List ℕ)
+    → outcome at outer (quoted p (plain t)) (tail_text cs ++ rest) ≡ fault back 5 → (limited ≡ true → ⊥) → StringRun limited at outer p t cs rest
+string_refuses limited at back outer p t cs rest e no_limits = inr (record { place = back; kind = 5; is = e; later = lit< tt; limits = no_limits })
+
+pub string_run : (limited : Bool) (at : ℕ) (outer : List Frame) (p : Purpose) (t : List ℕ) (cs : List Character) (rest : List ℕ) → AreCharacters limited cs → StringRun limited at outer p t cs rest
+unfolding step quoted_step
+string_run limited at outer p t [] rest are =
+    inl (byte_run at 34 outer (quoted p (plain t)) rest (quote_step outer p t) (plain_quote at outer p t)
+    ∙ (ap (λ k. go_on k rest (quote_step outer p t)) (omega arith) ∙ ap (λ xs. go_on (at + 1) rest (quote_step outer p xs)) (sym (append-nil t))))
+string_run limited at outer p t (itself c ∷ cs) rest are =
+    string_more limited at (suc at) outer p t (itself c) cs rest
+    (byte_run at c outer (quoted p (plain t)) (tail_text cs ++ rest) (next outer (quoted p (plain (t ++ c ∷ [])))) (plain_leads at c outer p t are.0))
+    (omega arith) (string_run limited (suc at) outer p (t ++ c ∷ []) cs rest are.2)
+string_run limited at outer p t (short l b ∷ cs) rest are =
+    string_more limited at (suc (suc at)) outer p t (short l b) cs rest
+    (byte_run at 92 outer (quoted p (plain t)) (l ∷ tail_text cs ++ rest) (next outer (quoted p (escaped t at))) refl
+    ∙ byte_run (suc at) l outer (quoted p (escaped t at)) (tail_text cs ++ rest) (next outer (quoted p (plain (t ++ b ∷ [])))) (escaped_some (suc at) outer p t at l b are.0))
+    (omega arith) (string_run limited (suc (suc at)) outer p (t ++ b ∷ []) cs rest are.2)
+string_run limited at outer p t (alone a b c d ∷ cs) rest are =
+    let u : ℕ = unit_of a b c d in
+    let six : ℕ = suc (suc (suc (suc (suc (suc at))))) in
+    let unit_read = unit_run at outer p t a b c d (tail_text cs ++ rest) are.0.0 in
+    ⊎_elim (λ (e : is_surrogate u ≡ true). ⊎_elim
+    (λ (h : is_high_surrogate u ≡ true).
+    string_refuses limited at at outer p t (alone a b c d ∷ cs) rest
+    (unit_read ∙ (ap (go_on six (tail_text cs ++ rest)) (unit_high outer p t at u h) ∙ high_alone limited six outer p t at u cs rest are.2 (rw h at are.1)))
+    (λ l. false≢true (sym (are.0.1 l) ∙ e)))
+    (λ (w : is_low_surrogate u ≡ true).
+    string_refuses limited at at outer p t (alone a b c d ∷ cs) rest (unit_read ∙ ap (go_on six (tail_text cs ++ rest)) (unit_low outer p t at u w))
+    (λ l. false≢true (sym (are.0.1 l) ∙ e)))
+    (or_cases (is_high_surrogate u) (is_low_surrogate u) e))
+    (λ (e : is_surrogate u ≡ false).
+    string_more limited at six outer p t (alone a b c d) cs rest (unit_read ∙ ap (go_on six (tail_text cs ++ rest)) (unit_scalar outer p t at u e))
+    (omega arith) (string_run limited six outer p (t ++ encode_utf8 u) cs rest are.2)) (cases_Bool (is_surrogate u))
+string_run limited at outer p t (pair a b c d e f g h ∷ cs) rest are =
+    let u : ℕ = unit_of a b c d in
+    let v : ℕ = unit_of e f g h in
+    let six : ℕ = suc (suc (suc (suc (suc (suc at))))) in
+    let twelve : ℕ = suc (suc (suc (suc (suc (suc six))))) in
+    string_more limited at twelve outer p t (pair a b c d e f g h) cs rest
+    (unit_run at outer p t a b c d (92 ∷ 117 ∷ e ∷ f ∷ g ∷ h ∷ tail_text cs ++ rest) are.0.0
+    ∙ (ap (go_on six (92 ∷ 117 ∷ e ∷ f ∷ g ∷ h ∷ tail_text cs ++ rest)) (unit_high outer p t at u are.0.2)
+    ∙ (second_run six outer p t at u e f g h (tail_text cs ++ rest) are.0.1 ∙ ap (go_on twelve (tail_text cs ++ rest)) (pair_low outer p t at u v are.0.3))))
+    (omega arith) (string_run limited twelve outer p (t ++ encode_utf8 (surrogate_pair_char u v)) cs rest are.2)
+
+-- ---- The machine at values of the grammar.
 -- literals
 null_moves : (at : ℕ) (outer : List Frame) → Moves at outer wanted (110 ∷ ull) outer (ended null)
 unfolding outcome step begin_step literal_step
@@ -188,8 +533,7 @@ pub four : (a b c d e : List ℕ) → a ++ (b ++ (c ++ (d ++ e))) ≡ (a ++ (b +
 four a b c d e = sym (append_assoc a (b ++ (c ++ d)) e ∙ ap (λ x. a ++ x) (append_assoc b (c ++ d) e ∙ ap (λ x. b ++ x) (append_assoc c d e)))
 
 pub seven : (a b c d f g h e : List ℕ) → a ++ (b ++ (c ++ (58 ∷ d ++ (f ++ (g ++ (h ++ e)))))) ≡ (a ++ (b ++ (c ++ (58 ∷ d ++ (f ++ (g ++ h)))))) ++ e
-seven a b c d f g h e = sym (append_assoc a (b ++ (c ++ (58 ∷ d ++ (f ++ (g ++ h))))) e ∙ ap (λ x. a ++ x) (append_assoc b (c ++ (58 ∷ d ++ (f ++ (g ++ h)))) e
-    ∙ ap (λ x. b ++ x) (append_assoc c (58 ∷ d ++ (f ++ (g ++ h))) e ∙ ap (λ x. c ++ (58 ∷ x)) (sym (four d f g h e)))))
+seven a b c d f g h e = simp append_assoc
 
 close_items : (limited : Bool) (at : ℕ) (outer : List Frame) (vs : List Value) (v : Value) (rest : List ℕ)
     → Arrives limited at (in_array vs ∷ outer) (ended v) (93 ∷ []) outer (ended (array (items_onto vs (item v no_items)))) rest
