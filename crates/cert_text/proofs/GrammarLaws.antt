@@ -1,5 +1,12 @@
--- Each line that may stand has one line feed, at its end; so lines are counted by their line feeds.
-use Rattle.std.proofs.Common.{◌≡◌, ℕ, suc, ◌+◌, ◌≤◌, Bool, true, false, List, [], ◌∷◌, ◌++◌, length, All, Option, Some, None, ℤ, pos, refl, ap, ◌∙◌, arith, cond, nat_eq, ◌≢◌, zero, ◌-◌, take, Ok, Err, sym, subst, append-nil, ⊎_elim, replicate, Result, append_assoc, inl, inr, ◌⊎◌, get_or, drop}
+-- What the answer of the reader says, from what reading the bytes as a whole gives.
+use Rattle.std.proofs.Common.{◌≡◌, ℕ, ◌≤◌, List, [], ◌++◌, length, Ok, Err, sym, ap, ◌∙◌, arith, suc, ◌+◌, Bool, true, false, ◌∷◌, All, Option, Some, None, ℤ, pos, refl, cond, nat_eq, ◌≢◌, zero, ◌-◌, take, subst, append-nil, ⊎_elim, replicate, Result, append_assoc, inl, inr, ◌⊎◌, get_or, drop}
+use Rattle.std.proofs.lemmas.List.{length-append, take_at}
+use Rattle.outside.specs.Lines.{joined, spaced, line, words_of, list_line}
+use Rattle.dual_model.specs.Certificate.{Certificate}
+use Rattle.cert_text.specs.CertificateText.{Listing, listing_of, certificate_lines, certificate_text, claim_line, cell_text}
+use Rattle.cert_text.specs.TextConditions.{HasText}
+use Rattle.cert_text.specs.inside.Parts.{certificate_part}
+use Rattle.cert_text.proofs.PartLaws.{same_Ok, certificate-part, certificate_whole, certificate_again, owed_is_tree, Stops, Done, prices_as, IsListed, certificate_listed}
 use Rattle.std.specs.Prelude.{codes}
 use Rattle.std.specs.List.{AllByRecursion, list_any}
 use Rattle.std.proofs.lemmas.Bool.{ne_eqb, cases_Bool, cases_eq, eq-eqb, false≢true}
@@ -11,18 +18,11 @@ use Rattle.uc_model.specs.declared.schedule.Cell.{Cell}
 use Rattle.uc_model.proofs.DecimalText.{whole_text_bytes, signed_text_bytes}
 use Rattle.uc_model.proofs.MoneyText.{money_text_bytes}
 use Rattle.dual_model.specs.Cover.{Bound, Ray, Empty}
-use Rattle.outside.specs.Lines.{joined, spaced, line, words_of, list_line}
 use Rattle.outside.proofs.Joining.{joined-cons}
 use Rattle.cert_text.specs.Nodes.{TreeNode, LeafNode, SplitNode, node_line}
-use Rattle.cert_text.specs.CertificateText.{claim_line, cell_text, Listing, listing_of, certificate_lines, certificate_text}
 use Rattle.cert_text.specs.Grammar.{Symbol, Version, Size, Claim, Schedule, ThermalRow, RenewableRow, Scale, Pi, Mu, Ramps, Ramp, Node, End, Produces, Reaches, schedule_line, Sizes, AreSizes, after_size, schedule_rows, ramp_rows, children}
 use Rattle.cert_text.specs.inside.LineCount.{line_feeds, line_number, stop_kind}
-use Rattle.std.proofs.lemmas.List.{take_at, length-append}
-use Rattle.dual_model.specs.Certificate.{Certificate}
-use Rattle.cert_text.specs.TextConditions.{HasText}
 use Rattle.cert_text.specs.ReadFaults.{HasLineFeed, IsWholeLine, IsFormAt, IsCutAt, IsFaultOf, MayStand, IsKindAt}
-use Rattle.cert_text.specs.inside.Parts.{certificate_part}
-use Rattle.cert_text.proofs.PartLaws.{owed_is_tree, certificate-part, Stops, Done, prices_as, IsListed, certificate_listed}
 use Rattle.std.proofs.lemmas.Option.{some_pair_parts}
 use Rattle.dual_model.specs.declared.table.RampRow.{RampRow}
 use Rattle.cert_text.specs.inside.Forms.{Form}
@@ -31,6 +31,34 @@ use Rattle.cert_text.specs.declared.cert.CertKind.{CertKind}
 use Rattle.cert_text.specs.declared.cert.CertFault.TheVariants as faults
 use Rattle.cert_text.specs.declared.cert.CertKind.TheVariants as kinds
 
+pub rest_shorter : (bytes rest : List ℕ) (c : Listing) → certificate_part bytes ≡ Ok (c, rest) → length rest ≤ length bytes
+rest_shorter bytes rest c e =
+    let parts = (certificate-part.takes bytes (c, rest) e).1 in
+    omega (arith, ap length parts, length-append (joined (certificate_lines 1 c)) rest)
+
+pub stop_shorter : (bytes rest : List ℕ) → certificate_part bytes ≡ Err rest → length rest ≤ length bytes
+stop_shorter bytes rest e =
+    let h = certificate-part.stops bytes rest e in
+    omega (arith, ap length h.parts, length-append (joined h.lines) rest)
+
+-- a certificate's text is read as its listing, and as nothing else
+pub read_as : (bytes rest : List ℕ) (c : Listing) → certificate_part bytes ≡ Ok (c, rest)
+    → (certificate : Certificate) → HasText (listing_of certificate) → bytes ≡ certificate_text certificate → (c ≡ listing_of certificate) × (rest ≡ [])
+read_as bytes rest c e certificate h text =
+    let same = same_Ok (c, rest) (listing_of certificate, []) (sym e ∙ ap certificate_part text ∙ certificate_whole certificate h) in
+    (ap (λ (x : Listing × List ℕ). x.0) same, ap (λ (x : Listing × List ℕ). x.1) same)
+
+pub no_stop : (bytes rest : List ℕ) → certificate_part bytes ≡ Err rest → (certificate : Certificate) → HasText (listing_of certificate) → bytes ≡ certificate_text certificate → ⊥
+no_stop bytes rest e certificate h text =
+    let whole : certificate_part bytes ≡ Ok (listing_of certificate, []) = ap certificate_part text ∙ certificate_whole certificate h in
+    cc
+
+-- no text is a front of another one, and texts that are one have one listing
+pub texts_apart : (c d : Certificate) (more : List ℕ) → HasText (listing_of c) → HasText (listing_of d) → certificate_text c ++ more ≡ certificate_text d
+    → (listing_of c ≡ listing_of d) × (more ≡ [])
+texts_apart c d more h k e = read_as (certificate_text c ++ more) more (listing_of c) (certificate_again c more h) d k e
+
+-- ---- Each line that may stand has one line feed, at its end; so lines are counted by their line feeds.
 pub line_feeds-append : (xs ys : List ℕ) → line_feeds (xs ++ ys) ≡ line_feeds xs + line_feeds ys
 line_feeds-append xs ys = sum_by-append (λ c. cond (nat_eq c 10) 1 0) xs ys
 

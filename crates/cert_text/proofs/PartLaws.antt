@@ -1,6 +1,6 @@
 -- A part reads the lines of what is valid and nothing else, as the grammar has them; and where it stops, no line of the kind
 -- that is to come begins the bytes that are left.
-use Rattle.std.proofs.Common.{◌≡◌, ℕ, zero, suc, List, [], ◌∷◌, ◌++◌, length, replicate, All, Option, Some, None, Result, Ok, Err, refl, sym, ap, subst, ◌∙◌, append_assoc, arith, ◌^◌, ◌<◌, map, get_or, ℤ, pos, negsuc, unsigned_abs, ◌≤ℤ◌, ◌≤◌, append-nil}
+use Rattle.std.proofs.Common.{◌≡◌, ℕ, zero, suc, List, [], ◌∷◌, ◌++◌, length, replicate, All, Option, Some, None, Result, Ok, Err, refl, sym, ap, subst, ◌∙◌, append_assoc, arith, ◌^◌, ◌<◌, map, get_or, ℤ, pos, negsuc, unsigned_abs, ◌≤ℤ◌, ◌≤◌, append-nil, ◌+◌, ◌-◌}
 use Rattle.std.specs.List.{flat_map}
 use Rattle.std.specs.Option.{ok_or}
 use Rattle.std.proofs.lemmas.List.{length-append}
@@ -25,6 +25,7 @@ use Rattle.dual_model.specs.Certificate.{WrittenSchedule, Certificate}
 use Rattle.dual_model.specs.Tree.{Tree, Ends, Splits}
 use Rattle.dual_model.specs.Cover.{Leaf, Bound}
 use Rattle.cert_text.specs.Nodes.{TreeNode, LeafNode, SplitNode, preorder, node_line, IsNodeWithin}
+use Rattle.cert_text.proofs.Loops.{behind_parts, regroup_parts}
 
 -- lines of these kinds were to come, and behind the lines that may stand there comes none that may
 pub record Stops (kinds : List Symbol) (bytes rest : List ℕ) : Type 0 where
@@ -720,3 +721,38 @@ certificate_again c rest h = certificate-part.again (listing_of c) rest (certifi
 
 pub certificate_whole : (c : Certificate) → HasText (listing_of c) → certificate_part (certificate_text c) ≡ Ok (listing_of c, [])
 certificate_whole c h = ap certificate_part (sym (append-nil (certificate_text c))) ∙ certificate_again c [] h
+
+-- ---- Reading the nodes of trees that are owed, as a loop does.
+pub node_more : (size : Sizes) (front grown : List TreeNode) (most fewer owed : ℕ) (bytes rest : List ℕ) (node : TreeNode) (total : Result (List TreeNode × List ℕ) (List ℕ))
+    → 0 < owed → most ≡ suc fewer → node_at size bytes ≡ Some (node, rest) → grown ≡ front ++ node ∷ []
+    → behind_parts front (nodes_part size most owed bytes) ≡ total → behind_parts grown (nodes_part size fewer (owed_after (owed - 1) node) rest) ≡ total
+unfolding nodes_part
+node_more size front grown most fewer owed bytes rest node total some more e g so_far =
+    let k : owed ≡ suc (owed - 1) = omega arith in
+    let left = nodes_part size fewer (owed_after (owed - 1) node) rest in
+    let one : behind_parts front (nodes_part size (suc fewer) (suc (owed - 1)) bytes) ≡ behind_parts (front ++ node ∷ []) left = rw e (regroup_parts front node left) in
+    ap (λ nodes. behind_parts nodes left) g ∙ sym one ∙ sym (λ i. behind_parts front (nodes_part size (more i) (k i) bytes)) ∙ so_far
+
+pub no_node : (size : Sizes) (front : List TreeNode) (most owed : ℕ) (bytes : List ℕ) (total : Result (List TreeNode × List ℕ) (List ℕ))
+    → 0 < owed → node_at size bytes ≡ None → behind_parts front (nodes_part size most owed bytes) ≡ total → total ≡ Err bytes
+unfolding nodes_part
+no_node size front most zero bytes total some e so_far = absurd (omega arith)
+no_node size front zero (suc others) bytes total some e so_far = sym so_far
+no_node size front (suc fewer) (suc others) bytes total some e so_far =
+    let one : behind_parts front (nodes_part size (suc fewer) (suc others) bytes) ≡ Err bytes = rw e refl in
+    sym so_far ∙ one
+
+pub nodes_done : (size : Sizes) (front : List TreeNode) (most owed : ℕ) (bytes : List ℕ) (total : Result (List TreeNode × List ℕ) (List ℕ))
+    → owed ≤ 0 → behind_parts front (nodes_part size most owed bytes) ≡ total → total ≡ Ok (front, bytes)
+unfolding nodes_part
+nodes_done size front most zero bytes total none so_far = sym so_far ∙ ap (λ (xs : List TreeNode). Ok (xs, bytes)) (append-nil front)
+nodes_done size front most (suc others) bytes total none so_far = absurd (omega arith)
+
+pub node_shorter : (size : Sizes) → AreSizes size → (bytes rest : List ℕ) (node : TreeNode) → node_at size bytes ≡ Some (node, rest) → length rest + 2 ≤ length bytes
+node_shorter size lawful bytes rest node e =
+    let parts = ((node-form size lawful).takes bytes (node, rest) e).1 in
+    omega (arith, line_long node, ap length parts, length-append (node_line node) rest)
+
+pub owed_few : (others : ℕ) (node : TreeNode) → owed_after others node ≤ others + 2
+owed_few others (LeafNode leaf) = omega arith
+owed_few others (SplitNode g t) = omega arith

@@ -38,7 +38,7 @@ pub fn found_certificates_have_text()
 
 /// The text of a certificate tells where it ends, and all that it lists: no certificate's text is a front of
 /// another's, and two with one text have one listing.
-#[tactic(auto, using(crate::proofs::ReadLaws::texts_apart))]
+#[tactic(auto, using(crate::proofs::GrammarLaws::texts_apart))]
 pub fn texts_tell_certificates_apart()
     ensures { (c d : Certificate) (more : List ℕ) → HasText (listing_of c) → HasText (listing_of d)
         → certificate_text c ++ more ≡ certificate_text d → (listing_of c ≡ listing_of d) × (more ≡ []) }
