@@ -1,10 +1,10 @@
 -- A value is read the same with each of its numbers changed to one that says the same.
-use Rattle.std.proofs.Common.{◌≡◌, ℕ, ◌%◌, ◌^◌, ◌<◌, Bool, true, false, cond, List, [], ◌∷◌, ◌++◌, length, take, map, Option, Some, None, Result, Ok, Err, refl, sym, ap, ◌∙◌, inl, inr, arith}
-use Rattle.std.specs.Prelude.{◌&&◌, ◌||◌, ◌==◌, nat_lt, ℤ, pos}
+use Rattle.std.proofs.Common.{◌≡◌, ℕ, ◌%◌, ◌^◌, ◌<◌, Bool, true, false, cond, List, [], ◌∷◌, ◌++◌, length, take, map, Option, Some, None, Result, Ok, Err, refl, sym, ap, ◌∙◌, inl, inr, arith, ◌+◌}
+use Rattle.std.specs.Prelude.{◌&&◌, ◌||◌, ◌==◌, nat_lt, ℤ, pos, sum_by, fold, unwrap_or, option_and_then, nat_le}
 use Rattle.std.specs.Option.{option_map}
 use Rattle.std.specs.Str.{bytes_eq}
 use Rattle.std.proofs.Math.Bool.{or-true}
-use Rattle.std.proofs.lemmas.Bool.{lt-ltb}
+use Rattle.std.proofs.lemmas.Bool.{lt-ltb, cases_lt, le-leb, lt-leb}
 use Rattle.std.proofs.lemmas.List.{length-map, take-map}
 use Rattle.uc_model.specs.declared.limits.TheConstants.{MAX_PERIODS, MAX_UNITS, MAX_POINTS, MAX_START_ROWS, MAX_POWER, MAX_COST, MAX_TIME}
 use Rattle.uc_model.specs.declared.field.Field.{Field}
@@ -14,7 +14,7 @@ use Rattle.uc_model.specs.declared.instance.StartRow.{StartRow}
 use Rattle.uc_model.specs.declared.instance.Thermal.{Thermal}
 use Rattle.uc_model.specs.declared.instance.Renewable.{Renewable}
 use Rattle.uc_model.specs.declared.instance.Instance.{Instance}
-use Rattle.decimal_json.specs.Value.{Decimal, Value, number, array, object, Items, no_items, item, Members, no_members, member}
+use Rattle.decimal_json.specs.Value.{Decimal, Value, number, array, object, Items, no_items, item, Members, no_members, member, null, boolean, text}
 use Rattle.instance.specs.Fields.{key_of, entries_of, pairs_of, entries_in, pairs_in, field_of}
 use Rattle.instance.specs.Scaled.{MILLION, size_of, scaled, is_rounded, wholes_of, is_below_zero}
 use Rattle.instance.specs.Points.{last_output}
@@ -24,11 +24,15 @@ use Rattle.instance.specs.declared.fault.Refusal.{Refusal}
 use Rattle.instance.specs.declared.reader.totals.Totals.{Totals}
 use Rattle.instance.specs.declared.reader.thermal.Outputs.{Outputs}
 use Rattle.instance.specs.FirstFault.{◌>>=◌, refusal, whole, wanted, refused_if, number_at, amount_at, power_at, power_from, cost_at, whole_at, time_at, flag_at, periods_at, field_at, object_at, array_at, entries_at, rows_at, each_at, next_entry, power_entry, powers_at, maximum_entry, start_row, point_row, flag_field, time_field, power_field, output_field, outputs_at, ramps_at, times_at, initial_at, startup_at, points_at, thermal_at, maxima_at, renewable_at, in_unit, outside, units_at, thermal_member, renewable_member, thermal_units_at, renewable_units_at, totals_at, instance_at}
-use Rattle.instance.specs.InstanceOf.{Pairs}
+use Rattle.instance.specs.InstanceOf.{Pairs, IsInstanceOf}
 use Rattle.instance.specs.Held.{PAST_LIMITS}
-use Rattle.instance.specs.SameNumber.{SaySame}
-use Rattle.instance.specs.Numbers.{with_numbers, items_with, members_with}
-use Rattle.instance.proofs.NumberLaws.{not_zero_again}
+use Rattle.instance.specs.SameNumber.{SaySame, MOST_DIGITS, IsShort}
+use Rattle.instance.specs.Numbers.{with_numbers, items_with, members_with, AllNumbers, AllItems, AllMembers}
+use Rattle.instance.proofs.Steps.{not_zero_again}
+use Rattle.instance.specs.Rounded.{rounded_value, rounded_field, entries_field, members_field, members_of_value, rounded_array, rounded_start_row, rounded_point, rounded_startup, rounded_points, rounded_outputs, rounded_ramps, rounded_times, rounded_initial, rounded_thermal, rounded_renewable, rounded_thermal_units, rounded_renewable_units, rounded_totals, rounded_instance}
+use Rattle.decimal_json.specs.Number.{held_decimal}
+use Rattle.instance.proofs.Sizes.{itself, held_says_same}
+use Rattle.instance.proofs.UnitLaws.{instance_is, instance_again}
 
 -- ---- results
 
@@ -254,3 +258,131 @@ module _ (f : Decimal → Decimal) (same : Keeps f) where
   pub instance_changed : (exact : Bool) (v : Value) → instance_at exact (with_numbers f v) ≡ instance_at exact v
   unfolding instance_at
   instance_changed exact v = simp (looked_up, in_unit_map, totals_changed, thermal_units_changed, renewable_units_changed)
+
+-- ---- As many numbers of a value are rounded with each of them changed to one that says the same.
+sum_from : {A : Type 0} (g : A → ℕ) (h : A → A) → ((x : A) → g (h x) ≡ g x) → (n : ℕ) (xs : List A) → fold (λ a x. a + g x) n (map h xs) ≡ fold (λ a x. a + g x) n xs
+sum_from g h e n [] = refl
+sum_from g h e n (x ∷ xs) = ap (λ (m : ℕ). fold (λ a y. a + g y) (n + m) (map h xs)) (e x) ∙ sum_from g h e (n + g x) xs
+
+sum_changed : {A : Type 0} (g : A → ℕ) (h : A → A) → ((x : A) → g (h x) ≡ g x) → (xs : List A) → sum_by g (map h xs) ≡ sum_by g xs
+sum_changed g h e xs = sum_from g h e 0 xs
+
+abbrev rounded_found : Option Value → ℕ
+rounded_found None = 0
+rounded_found (Some v) = rounded_value v
+
+-- the list inside a value, or none
+unwrapped : {X : Type 0} (g : X → X) (o : Option (List X)) → unwrap_or (option_map (map g) o) [] ≡ map g (unwrap_or o [])
+unwrapped g None = refl
+unwrapped g (Some xs) = refl
+
+inside_changed : {X : Type 0} (f : Decimal → Decimal) (look : Value → Option (List X)) (g : X → X) → ((v : Value) → look (with_numbers f v) ≡ option_map (map g) (look v))
+    → (o : Option Value) → unwrap_or (option_and_then look (option_map (with_numbers f) o)) [] ≡ map g (unwrap_or (option_and_then look o) [])
+inside_changed f look g e None = refl
+inside_changed f look g e (Some v) = rw (e v) (unwrapped g (look v))
+
+entries_same : (f : Decimal → Decimal) (field : Field) (ms : Pairs) → entries_field field (pairs_with f ms) ≡ map (with_numbers f) (entries_field field ms)
+entries_same f field ms = rw (field_changed f (key_of field) ms) (inside_changed f entries_in (with_numbers f) (entries_in_changed f) (field_of (key_of field) ms))
+
+members_same : (f : Decimal → Decimal) (field : Field) (ms : Pairs) → members_field field (pairs_with f ms) ≡ pairs_with f (members_field field ms)
+members_same f field ms = rw (field_changed f (key_of field) ms) (inside_changed f pairs_in (pair_with f) (pairs_in_changed f) (field_of (key_of field) ms))
+
+members_changed : (f : Decimal → Decimal) (v : Value) → members_of_value (with_numbers f v) ≡ pairs_with f (members_of_value v)
+members_changed f v = rw (pairs_in_changed f v) (unwrapped (pair_with f) (pairs_in v))
+
+module _ (f : Decimal → Decimal) (same : Keeps f) where
+  value_changed : (v : Value) → rounded_value (with_numbers f v) ≡ rounded_value v
+  unfolding rounded_value
+  value_changed (number d) = rw ((same d).rounded) refl
+  value_changed v = refl
+
+  found_same : (o : Option Value) → rounded_found (option_map (with_numbers f) o) ≡ rounded_found o
+  found_same None = refl
+  found_same (Some v) = value_changed v
+
+  field_same : (field : Field) (ms : Pairs) → rounded_field field (pairs_with f ms) ≡ rounded_field field ms
+  unfolding rounded_field
+  field_same field ms = ap rounded_found (field_changed f (key_of field) ms) ∙ found_same (field_of (key_of field) ms)
+
+  array_same : (field : Field) (periods : ℕ) (ms : Pairs) → rounded_array field periods (pairs_with f ms) ≡ rounded_array field periods ms
+  unfolding rounded_array
+  array_same field periods ms = simp (entries_same, take-map, sum_changed rounded_value (with_numbers f) value_changed)
+
+  start_row_same : (v : Value) → rounded_start_row (with_numbers f v) ≡ rounded_start_row v
+  unfolding rounded_start_row
+  start_row_same v = simp (members_changed, field_same)
+
+  point_same : (v : Value) → rounded_point (with_numbers f v) ≡ rounded_point v
+  unfolding rounded_point
+  point_same v = simp (members_changed, field_same)
+
+  startup_same : (ms : Pairs) → rounded_startup (pairs_with f ms) ≡ rounded_startup ms
+  unfolding rounded_startup
+  startup_same ms = simp (entries_same, sum_changed rounded_start_row (with_numbers f) start_row_same)
+
+  points_same : (ms : Pairs) → rounded_points (pairs_with f ms) ≡ rounded_points ms
+  unfolding rounded_points
+  points_same ms = simp (entries_same, sum_changed rounded_point (with_numbers f) point_same)
+
+  thermal_same : (v : Value) → rounded_thermal (with_numbers f v) ≡ rounded_thermal v
+  unfolding rounded_thermal rounded_outputs rounded_ramps rounded_times rounded_initial
+  thermal_same v = simp (members_changed, field_same, startup_same, points_same)
+
+  renewable_same : (periods : ℕ) (v : Value) → rounded_renewable periods (with_numbers f v) ≡ rounded_renewable periods v
+  unfolding rounded_renewable
+  renewable_same periods v = simp (members_changed, array_same)
+
+  thermal_units_same : (ms : Pairs) → rounded_thermal_units (pairs_with f ms) ≡ rounded_thermal_units ms
+  unfolding rounded_thermal_units
+  thermal_units_same ms = simp (members_same, sum_changed (λ (m : List ℕ × Value). rounded_thermal m.1) (pair_with f) (λ m. thermal_same m.1))
+
+  renewable_units_same : (periods : ℕ) (ms : Pairs) → rounded_renewable_units periods (pairs_with f ms) ≡ rounded_renewable_units periods ms
+  unfolding rounded_renewable_units
+  renewable_units_same periods ms = simp (members_same, sum_changed (λ (m : List ℕ × Value). rounded_renewable periods m.1) (pair_with f) (λ m. renewable_same periods m.1))
+
+  pub rounded_changed : (periods : ℕ) (v : Value) → rounded_instance periods (with_numbers f v) ≡ rounded_instance periods v
+  unfolding rounded_instance rounded_totals
+  rounded_changed periods v = simp (members_changed, field_same, array_same, thermal_units_same, renewable_units_same)
+
+-- ---- A value whose exponents are held is the same instance as the value as it is written.
+-- a short number with its exponent held, and any other as it is
+held_if_short : Decimal → Decimal
+held_if_short d = cond (nat_le (length d.digits) MOST_DIGITS) (held_decimal d) d
+
+keeps : Keeps held_if_short
+unfolding held_if_short
+keeps d = elim (cases_lt MOST_DIGITS (length d.digits)) [
+  | inl more ↦ rw (lt-leb (length d.digits) MOST_DIGITS more) (itself d)
+  | inr few ↦ rw (le-leb (length d.digits) MOST_DIGITS few) (held_says_same d few)
+]
+
+short_is : (d : Decimal) → IsShort d → held_if_short d ≡ held_decimal d
+unfolding held_if_short
+short_is d few = rw (le-leb (length d.digits) MOST_DIGITS few) refl
+
+mutual
+  short_values : (v : Value) → AllNumbers IsShort v → with_numbers held_if_short v ≡ with_numbers held_decimal v
+  short_values (number d) few = ap (λ (x : Decimal). number x) (short_is d few)
+  short_values (array vs) few = ap (λ (x : Items). array x) (short_items vs few)
+  short_values (object ms) few = ap (λ (x : Members). object x) (short_members ms few)
+  short_values _ few = refl
+
+  short_items : (vs : Items) → AllItems IsShort vs → items_with held_if_short vs ≡ items_with held_decimal vs
+  short_items no_items few = refl
+  short_items (item v vs) few = rw (short_values v few.0, short_items vs few.1) refl
+
+  short_members : (ms : Members) → AllMembers IsShort ms → members_with held_if_short ms ≡ members_with held_decimal ms
+  short_members no_members few = refl
+  short_members (member key v ms) few = rw (short_values v few.0, short_members ms few.1) refl
+
+pub held_instance : (exact : Bool) (v : Value) → AllNumbers IsShort v → instance_at exact (with_numbers held_decimal v) ≡ instance_at exact v
+held_instance exact v few = ap (λ (x : Value). instance_at exact x) (sym (short_values v few)) ∙ instance_changed held_if_short keeps exact v
+
+pub held_rounded : (periods : ℕ) (v : Value) → AllNumbers IsShort v → rounded_instance periods (with_numbers held_decimal v) ≡ rounded_instance periods v
+held_rounded periods v few = ap (λ (x : Value). rounded_instance periods x) (sym (short_values v few)) ∙ rounded_changed held_if_short keeps periods v
+
+pub held_is : (exact : Bool) (v : Value) (i : Instance) → AllNumbers IsShort v → IsInstanceOf exact (with_numbers held_decimal v) i → IsInstanceOf exact v i
+held_is exact v i few h = instance_is exact v i (sym (held_instance exact v few) ∙ instance_again exact (with_numbers held_decimal v) i h)
+
+pub held_again : (exact : Bool) (v : Value) (i : Instance) → AllNumbers IsShort v → IsInstanceOf exact v i → IsInstanceOf exact (with_numbers held_decimal v) i
+held_again exact v i few h = instance_is exact (with_numbers held_decimal v) i (held_instance exact v few ∙ instance_again exact v i h)

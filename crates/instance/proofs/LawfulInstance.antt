@@ -1,6 +1,6 @@
 -- An instance that a value stands for is within the limits.
-use Rattle.std.proofs.Common.{◌≡◌, ℕ, zero, suc, ◌*◌, ◌<◌, ◌≤◌, false, List, [], ◌∷◌, length, get_or, take, arith}
-use Rattle.std.specs.Prelude.{Bool, IsTrue, ℤ, pos, ◌≤ℤ◌}
+use Rattle.std.proofs.Common.{◌≡◌, ℕ, zero, suc, ◌*◌, ◌<◌, ◌≤◌, false, List, [], ◌∷◌, length, get_or, take, arith, Bool, Result, Ok, Err, subst}
+use Rattle.std.specs.Prelude.{IsTrue, ℤ, pos, ◌≤ℤ◌, IfOk}
 use Rattle.std.specs.List.{All, AllZip}
 use Rattle.std.proofs.lemmas.Int.{ints}
 use Rattle.std.proofs.lemmas.List.{length-take}
@@ -20,9 +20,13 @@ use Rattle.instance.specs.Scaled.{MILLION, scaled, is_rounded}
 use Rattle.uc_model.specs.declared.field.Field.{Field}
 use Rattle.uc_model.specs.declared.field.Field.TheVariants.{TimePeriods, Demand, Reserves, ThermalGenerators, RenewableGenerators, PowerOutputMinimum, PowerOutputMaximum, RampUpLimit, RampDownLimit, RampStartupLimit, RampShutdownLimit, TimeUpMinimum, TimeDownMinimum, PowerOutputT0, TimeUpT0, TimeDownT0, Startup, StartupLag, StartupCost, PiecewiseProduction, PiecewiseProductionMw, PiecewiseProductionCost}
 use Rattle.instance.specs.InstanceOf.{Pairs, Has, IsObject, IsNumber, IsPowerOf, IsCostOf, IsTimeOf, IsPeriodsOf, IsPowersOf, AreRowsOf, IsStartRowOf, IsPointOf, IsRising, IsLimitOf, IsMinimumTimeOf, IsThermalOf, IsRenewableOf, AreUnitsOf, HasFields, IsInstanceOf}
-use Rattle.instance.proofs.Steps.{some_is, some_split}
-use Rattle.instance.proofs.EachLaws.{Above}
-use Rattle.instance.proofs.UnitLaws.{written_time}
+use Rattle.instance.proofs.Steps.{some_is, some_split, Above}
+use Rattle.instance.proofs.UnitLaws.{written_time, instance_is, instance_again}
+use Rattle.instance.specs.FirstFault.{instance_at}
+use Rattle.instance.specs.Answer.{Gives}
+use Rattle.uc_model.specs.declared.field_refusal.FieldRefusal.{FieldRefusal}
+use Rattle.instance.specs.declared.fault.Fault.{Fault}
+use Rattle.uc_model.specs.declared.instance.Instance as memory
 
 -- ---- one number
 
@@ -171,3 +175,18 @@ fields_lawful exact i ms h =
 
 pub instance_lawful : (exact : Bool) (v : Value) (i : Instance) → IsInstanceOf exact v i → IsLawfulInstance i
 instance_lawful exact v i h = let a = some_is (HasFields exact i) (pairs_in v) h in fields_lawful exact i a.0 a.2
+
+-- ---- What `from_json` says beside the first fault follows from it.
+abbrev Answer : Type 0
+Answer = Result (memory.Instance × ℕ) (Fault FieldRefusal)
+
+pub answer_found : (exact : Bool) (v : Value) (r : Answer) → Gives (λ x. x.0) r (instance_at exact v) → IfOk r (λ x. IsInstanceOf exact v x.0)
+answer_found exact v (Ok x) h = instance_is exact v x.0 h
+answer_found exact v (Err e) h = tt
+
+pub answer_lawful : (exact : Bool) (v : Value) (r : Answer) → Gives (λ x. x.0) r (instance_at exact v) → IfOk r (λ x. IsLawfulInstance x.0)
+answer_lawful exact v (Ok x) h = instance_lawful exact v x.0 (instance_is exact v x.0 h)
+answer_lawful exact v (Err e) h = tt
+
+pub answer_only : (exact : Bool) (v : Value) (r : Answer) → Gives (λ x. x.0) r (instance_at exact v) → (i : memory.Instance) → IsInstanceOf exact v i → Gives (λ x. x.0) r (Ok i)
+answer_only exact v r h i is = subst (λ (read : Result memory.Instance _). Gives (λ x. x.0) r read) (instance_again exact v i is) h
