@@ -6,13 +6,18 @@ use Rattle.decimal_json.specs.Characters.{is_space}
 use Rattle.decimal_json.specs.Open.{Member, Frame, in_array, in_object, Purpose}
 use Rattle.decimal_json.specs.Grammar.{IsSpace, IsString, Spells, SpellsItems, SpellsMoreItems, SpellsMembers, SpellsMoreMembers, Character, character_text, meaning, AreCharacters, AreHex, AreDigits, IsWhole, numerals, negative_text, fraction_text, Sign, sign_text, is_minus}
 use Rattle.decimal_json.specs.Fronts.{FrontItems, FrontMembers, Spaced, IsFront, IsKeyFront, IsStringFront, BehindKey, OpensTooDeep, RepeatsKey, LacksPartner}
-use Rattle.decimal_json.proofs.RunValues.{four, seven}
 use Rattle.std.specs.Prelude.{◌⊎◌}
 use Rattle.std.specs.List.{flat_map}
 use Rattle.std.specs.Char.Utf16.{is_high_surrogate}
 use Rattle.decimal_json.specs.Number.{is_mark, whole_of}
 use Rattle.decimal_json.specs.Escape.{is_hex, unit_of}
 use Rattle.decimal_json.specs.inside.Scan.{Spot, wanted, first_item, first_key, key_wanted, colon_wanted, ended, literal, numeral, quoted, Numeral, minus, zero_first, whole, point, fraction, mark, signed, exponent, Quoted, plain, escaped, unit, high, high_escaped, high_unit, Hex, no_digit, one_digit, two_digits, three_digits, Step, next, stop}
+
+pub four : (a b c d e : List ℕ) → a ++ (b ++ (c ++ (d ++ e))) ≡ (a ++ (b ++ (c ++ d))) ++ e
+four a b c d e = sym (append_assoc a (b ++ (c ++ d)) e ∙ ap (λ x. a ++ x) (append_assoc b (c ++ d) e ∙ ap (λ x. b ++ x) (append_assoc c d e)))
+
+pub seven : (a b c d f g h e : List ℕ) → a ++ (b ++ (c ++ (58 ∷ d ++ (f ++ (g ++ (h ++ e)))))) ≡ (a ++ (b ++ (c ++ (58 ∷ d ++ (f ++ (g ++ h)))))) ++ e
+seven a b c d f g h e = simp append_assoc
 
 pub one_more : (bs a b : List ℕ) (c : ℕ) → bs ≡ a ++ b → bs ++ c ∷ [] ≡ a ++ (b ++ c ∷ [])
 one_more bs a b c e = ap (λ x. x ++ c ∷ []) e ∙ append_assoc a b (c ∷ [])

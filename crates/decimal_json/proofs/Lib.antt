@@ -4,8 +4,7 @@ pub mod Views
 pub mod Keys
 pub mod Moves
 pub mod Values
-pub mod RunValues
 pub mod Growth
 pub mod SoundValues
 pub mod Readings
-pub mod RunFaults
+pub mod RunValues

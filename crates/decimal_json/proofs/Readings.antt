@@ -19,8 +19,7 @@ use Rattle.std.proofs.lemmas.Str.{IsCharBoundary-start, IsCharBoundary-after_asc
 use Rattle.decimal_json.specs.Characters.{is_space}
 use Rattle.decimal_json.specs.Reading.{BeginsText, IsNoJson, IsText, IsTextFault, IsFault, HasCause}
 use Rattle.decimal_json.proofs.Moves.{Refuses}
-use Rattle.decimal_json.proofs.RunValues.{text_arrives}
-use Rattle.decimal_json.proofs.RunFaults.{deep_fault, repeated_fault, lacks_fault}
+use Rattle.decimal_json.proofs.RunValues.{text_arrives, deep_fault, repeated_fault, lacks_fault}
 use Rattle.std.specs.Result.{MatchResult, IfOk, IfErr}
 use Rattle.decimal_json.specs.declared.types.Json.{Json}
 use Rattle.decimal_json.specs.declared.types.JsonFault.{JsonFault}
@@ -173,38 +172,30 @@ token_begins outer front begun filler bs v f s e ascii =
     let r = close outer front f v (begun ++ filler) [] s tt in
     (r.0, filler ++ r.1, completes_as (front ++ ((begun ++ filler) ++ r.1)) (bs ++ (filler ++ r.1)) r.0 (rw e (simp append_assoc)) r.2, ascii-append filler r.1 ascii r.3)
 
--- a key that its bytes begin
-key_begins : (outer : List Frame) (ms : List Member) (front begun filler bs k : List ℕ) → IsKeyFront outer ms front → IsString false k (begun ++ filler) → bs ≡ front ++ begun → AreAscii filler → Begins bs
-key_begins outer ms front begun filler bs k f s e ascii =
+-- a key that its bytes begin, or a key and white space
+key_begins : (outer : List Frame) (ms : List Member) (front begun filler key space bs k : List ℕ) → IsKeyFront outer ms front → IsString false k key → IsSpace space → begun ++ filler ≡ key ++ space
+    → bs ≡ front ++ begun → AreAscii filler → Begins bs
+key_begins outer ms front begun filler key space bs k f s sp same e ascii =
     let o = f.2 in
-    let r = object_close outer o.0 o.1 ms k (number (decimal_from false (0 ∷ []) [] false 0)) f.1 (begun ++ filler) [] [] (48 ∷ []) []
-    (λ w xs t. let q = close outer o.0 o.2 w xs [] t tt in (q.0, q.1, q.2, q.3)) o.4 f.3 s tt tt (zero_spells false (length outer + 1)) tt in (
+    let r = object_close outer o.0 o.1 ms k (number (decimal_from false (0 ∷ []) [] false 0)) f.1 key space [] (48 ∷ []) []
+    (λ w xs t. let q = close outer o.0 o.2 w xs [] t tt in (q.0, q.1, q.2, q.3)) o.4 f.3 s sp tt (zero_spells false (length outer + 1)) tt in
+    let last : List ℕ = 58 ∷ 48 ∷ 125 ∷ r.1 in
+    let before : List ℕ = (o.0 ++ 123 ∷ o.1) ++ f.1 in (
       r.0,
-      filler ++ (58 ∷ 48 ∷ 125 ∷ r.1),
-      completes_as _ (bs ++ (filler ++ (58 ∷ 48 ∷ 125 ∷ r.1))) r.0
-          (regroup ((o.0 ++ 123 ∷ o.1) ++ f.1) begun filler (58 ∷ 48 ∷ 125 ∷ r.1) ∙ ap (λ x. x ++ (filler ++ (58 ∷ 48 ∷ 125 ∷ r.1))) (sym (e ∙ ap (λ x. x ++ begun) (f.4 ∙ ap (λ x. x ++ f.1) o.6)))) r.2,
-      ascii-append filler (58 ∷ 48 ∷ 125 ∷ r.1) ascii (lit< tt, (lit< tt, (lit< tt, r.3))),
+      filler ++ last,
+      completes_as (before ++ (key ++ (space ++ last))) (bs ++ (filler ++ last)) r.0
+          (ap (λ x. before ++ x) (sym (append_assoc key space last) ∙ ap (λ x. x ++ last) (sym same)) ∙ (regroup before begun filler last
+          ∙ ap (λ x. x ++ (filler ++ last)) (sym (e ∙ ap (λ x. x ++ begun) (f.4 ∙ ap (λ x. x ++ f.1) o.6))))) r.2,
+      ascii-append filler last ascii (lit< tt, (lit< tt, (lit< tt, r.3))),
     )
   where
     regroup : (a b c d : List ℕ) → a ++ ((b ++ c) ++ d) ≡ (a ++ b) ++ (c ++ d)
     regroup a b c d = simp append_assoc
 
 colon_begins : (outer : List Frame) (ms : List Member) (k bs : List ℕ) → Stands outer (colon_wanted ms k) bs → Begins bs
-colon_begins outer ms k bs s =
-    let keyed = s.2 in
-    let o = keyed.2.2 in
-    let r = object_close outer o.0 o.1 ms k (number (decimal_from false (0 ∷ []) [] false 0)) keyed.2.1 keyed.1 s.1 [] (48 ∷ []) []
-    (λ w xs t. let q = close outer o.0 o.2 w xs [] t tt in (q.0, q.1, q.2, q.3)) o.4 keyed.2.3 (weaker_string k keyed.1 keyed.3) s.3 tt (zero_spells false (length outer + 1)) tt in (
-      r.0,
-      58 ∷ 48 ∷ 125 ∷ r.1,
-      completes_as _ (bs ++ (58 ∷ 48 ∷ 125 ∷ r.1)) r.0
-          (regroup ((o.0 ++ 123 ∷ o.1) ++ keyed.2.1) keyed.1 s.1 (58 ∷ 48 ∷ 125 ∷ r.1)
-          ∙ ap (λ x. x ++ (58 ∷ 48 ∷ 125 ∷ r.1)) (sym (s.4 ∙ ap (λ x. x ++ s.1) (keyed.5 ∙ ap (λ x. x ++ keyed.1) (keyed.2.4 ∙ ap (λ x. x ++ keyed.2.1) o.6))))) r.2,
-      (lit< tt, (lit< tt, (lit< tt, r.3))),
-    )
-  where
-    regroup : (a b c d : List ℕ) → a ++ (b ++ (c ++ d)) ≡ ((a ++ b) ++ c) ++ d
-    regroup a b c d = simp append_assoc
+colon_begins outer ms k bs s = let keyed = s.2 in
+    key_begins outer ms keyed.0 (keyed.1 ++ s.1) [] keyed.1 s.1 bs k keyed.2 (weaker_string k keyed.1 keyed.3) s.3 (append-nil (keyed.1 ++ s.1))
+    (s.4 ∙ (ap (λ x. x ++ s.1) keyed.5 ∙ append_assoc keyed.0 keyed.1 s.1)) tt
 
 value_begins : (outer : List Frame) (v : Value) (bs : List ℕ) → Spaced (BehindValue outer v) bs → Begins bs
 value_begins outer v bs t =
@@ -267,8 +258,8 @@ string_begins outer for_value t base partial filler bs es r more e f ascii =
     (r.cs ++ es, characters_then r.cs es r.are more, refl, closes_as (flat_map character_text r.cs) partial filler (flat_map character_text es) (flat_map character_text (r.cs ++ es)) (flat_map-append character_text r.cs es) e)
     (f ∙ (ap (λ x. x ++ partial) r.is ∙ append_assoc r.front (34 ∷ flat_map character_text r.cs) partial)) ascii
 string_begins outer (for_key ms at) t base partial filler bs es r more e f ascii =
-    key_begins outer ms r.front ((34 ∷ flat_map character_text r.cs) ++ partial) filler bs (flat_map meaning (r.cs ++ es)) r.is_front.0
-    (r.cs ++ es, characters_then r.cs es r.are more, refl, closes_as (flat_map character_text r.cs) partial filler (flat_map character_text es) (flat_map character_text (r.cs ++ es)) (flat_map-append character_text r.cs es) e)
+    key_begins outer ms r.front ((34 ∷ flat_map character_text r.cs) ++ partial) filler (((34 ∷ flat_map character_text r.cs) ++ partial) ++ filler) [] bs (flat_map meaning (r.cs ++ es)) r.is_front.0
+    (r.cs ++ es, characters_then r.cs es r.are more, refl, closes_as (flat_map character_text r.cs) partial filler (flat_map character_text es) (flat_map character_text (r.cs ++ es)) (flat_map-append character_text r.cs es) e) tt (sym (append-nil (((34 ∷ flat_map character_text r.cs) ++ partial) ++ filler)))
     (f ∙ (ap (λ x. x ++ partial) r.is ∙ append_assoc r.front (34 ∷ flat_map character_text r.cs) partial)) ascii
 
 unit_begins : (outer : List Frame) (p : Purpose) (t base bs filler : List ℕ) (a b c d : ℕ) (partial : List ℕ) → InString outer p t base → AreHex a b c d → partial ++ filler ≡ 92 ∷ 117 ∷ a ∷ b ∷ c ∷ d ∷ 34 ∷ [] → bs ≡ base ++ partial → AreAscii filler → Begins bs
@@ -315,8 +306,8 @@ quoted_begins outer p (high_unit t back u (three_digits x y z)) bs r =
 pub begins : (outer : List Frame) (spot : Spot) (bs : List ℕ) → Stands outer spot bs → Begins bs
 begins outer wanted bs s = front_begins outer bs s
 begins outer first_item bs s = front_begins (in_array [] ∷ outer) bs s
-begins outer first_key bs s = key_begins outer [] bs [] (34 ∷ 34 ∷ []) bs [] s ([], tt, refl, refl) (sym (append-nil bs)) (lit< tt, (lit< tt, tt))
-begins outer (key_wanted ms) bs s = key_begins outer ms bs [] (34 ∷ 34 ∷ []) bs [] s ([], tt, refl, refl) (sym (append-nil bs)) (lit< tt, (lit< tt, tt))
+begins outer first_key bs s = key_begins outer [] bs [] (34 ∷ 34 ∷ []) (34 ∷ 34 ∷ []) [] bs [] s ([], tt, refl, refl) tt refl (sym (append-nil bs)) (lit< tt, (lit< tt, tt))
+begins outer (key_wanted ms) bs s = key_begins outer ms bs [] (34 ∷ 34 ∷ []) (34 ∷ 34 ∷ []) [] bs [] s ([], tt, refl, refl) tt refl (sym (append-nil bs)) (lit< tt, (lit< tt, tt))
 begins outer (colon_wanted ms k) bs s = colon_begins outer ms k bs s
 begins outer (ended v) bs s = value_begins outer v bs s
 begins outer (literal v ls) bs s = token_begins outer s.front s.begun ls bs v s.is_front (weaker (length outer) v (s.begun ++ ls) s.spells) s.is s.ascii

@@ -2,7 +2,7 @@
 use Rattle.std.proofs.Common.{◌≡◌, ℕ, ◌+◌, ◌*◌, ◌<◌, suc, List, [], ◌∷◌, ◌++◌, length, refl, sym, ap, subst, ◌∙◌, arith, Bool, true, false, append_assoc, length-append, fold, ⊎_elim, ◌==◌, inl, inr, lit<, Some, None, ◌||◌, cond}
 use Rattle.std.specs.Prelude.{nat_le, ◌⊎◌, encode_utf8, nat_lt}
 use Rattle.std.proofs.lemmas.List.{append-nil}
-use Rattle.std.proofs.lemmas.Bool.{and_from, le-leb, cases_eq, ne_eqb, cases_Bool, or_cases, or_parts, false≢true, or_left, lt-ltb, ltb-true}
+use Rattle.std.proofs.lemmas.Bool.{and_from, le-leb, cases_eq, ne_eqb, cases_Bool, or_cases, or_parts, false≢true, or_left, lt-ltb, ltb-true, le-ltb, eqb-true}
 use Rattle.decimal_json.specs.Value.{Decimal, number, Value, null, boolean, text, array, object, Items, no_items, item, Members, no_members, member, members_of, has_key}
 use Rattle.decimal_json.specs.Number.{is_digit, digit_of, is_mark, whole_of}
 use Rattle.decimal_json.specs.Open.{Frame, Purpose, Member, in_array, in_object, for_value, for_key}
@@ -16,6 +16,8 @@ use Rattle.std.specs.Char.Utf16.{is_low_surrogate, is_high_surrogate, surrogate_
 use Rattle.decimal_json.specs.Escape.{short_escape, is_hex, unit_of}
 use Rattle.decimal_json.specs.Characters.{is_space, rue, alse, ull, depth_limit}
 use Rattle.decimal_json.proofs.Values.{first_item_other, first_key_other, item_comma, quote_known, quote_new, items_onto, members_onto, items_of-push, items_onto-push, members_of-push, members_onto-push, new_key}
+use Rattle.decimal_json.specs.Fronts.{FrontItems, FrontMembers, IsFront, IsKeyFront, OpensTooDeep, IsStringFront, RepeatsKey, LacksSecond, LacksPartner}
+use Rattle.decimal_json.proofs.Growth.{hex_text, AreHexSoFar, four, seven}
 
 digit_written : (d : ℕ) → d < 10 → is_digit (48 + d) ≡ true
 digit_written d small = and_from (nat_le 48 (48 + d)) (nat_le (48 + d) 57) (le-leb 48 (48 + d) (omega arith)) (le-leb (48 + d) 57 (omega arith))
@@ -282,19 +284,19 @@ tail_text cs = flat_map character_text cs ++ 34 ∷ []
 
 -- A first unit with no second one behind it is a fault.
 high_alone : (limited : Bool) (at : ℕ) (outer : List Frame) (p : Purpose) (t : List ℕ) (back u : ℕ) (cs : List Character) (rest : List ℕ) → AreCharacters limited cs → begins_with_second cs ≡ false
-    → outcome at outer (quoted p (high t back u)) (tail_text cs ++ rest) ≡ fault back 5
+    → outcome at outer (quoted p (high t back u)) (flat_map character_text cs ++ 34 ∷ rest) ≡ fault back 5
 unfolding step quoted_step
 high_alone limited at outer p t back u [] rest are e = byte_run at 34 outer (quoted p (high t back u)) rest (stop back 5) refl
 high_alone limited at outer p t back u (itself c ∷ cs) rest are e =
-    byte_run at c outer (quoted p (high t back u)) (tail_text cs ++ rest) (stop back 5) (rw (plain_parts c are.0).1 refl)
+    byte_run at c outer (quoted p (high t back u)) (flat_map character_text cs ++ 34 ∷ rest) (stop back 5) (rw (plain_parts c are.0).1 refl)
 high_alone limited at outer p t back u (short l b ∷ cs) rest are e =
-    byte_run at 92 outer (quoted p (high t back u)) (l ∷ tail_text cs ++ rest) (next outer (quoted p (high_escaped t back u))) refl
-    ∙ byte_run (suc at) l outer (quoted p (high_escaped t back u)) (tail_text cs ++ rest) (stop back 5) (rw (ne_eqb l 117 (no_such_letter l b are.0)) refl)
+    byte_run at 92 outer (quoted p (high t back u)) (l ∷ flat_map character_text cs ++ 34 ∷ rest) (next outer (quoted p (high_escaped t back u))) refl
+    ∙ byte_run (suc at) l outer (quoted p (high_escaped t back u)) (flat_map character_text cs ++ 34 ∷ rest) (stop back 5) (rw (ne_eqb l 117 (no_such_letter l b are.0)) refl)
 high_alone limited at outer p t back u (alone a b c d ∷ cs) rest are e =
-    second_run at outer p t back u a b c d (tail_text cs ++ rest) are.0.0 ∙ ap (go_on (suc (suc (suc (suc (suc (suc at)))))) (tail_text cs ++ rest)) (pair_other outer p t back u (unit_of a b c d) e)
+    second_run at outer p t back u a b c d (flat_map character_text cs ++ 34 ∷ rest) are.0.0 ∙ ap (go_on (suc (suc (suc (suc (suc (suc at)))))) (flat_map character_text cs ++ 34 ∷ rest)) (pair_other outer p t back u (unit_of a b c d) e)
 high_alone limited at outer p t back u (pair a b c d f g h i ∷ cs) rest are e =
-    second_run at outer p t back u a b c d (92 ∷ 117 ∷ f ∷ g ∷ h ∷ i ∷ tail_text cs ++ rest) are.0.0
-    ∙ ap (go_on (suc (suc (suc (suc (suc (suc at)))))) (92 ∷ 117 ∷ f ∷ g ∷ h ∷ i ∷ tail_text cs ++ rest)) (pair_other outer p t back u (unit_of a b c d) (high_not_low (unit_of a b c d) are.0.2))
+    second_run at outer p t back u a b c d (92 ∷ 117 ∷ f ∷ g ∷ h ∷ i ∷ flat_map character_text cs ++ 34 ∷ rest) are.0.0
+    ∙ ap (go_on (suc (suc (suc (suc (suc (suc at)))))) (92 ∷ 117 ∷ f ∷ g ∷ h ∷ i ∷ flat_map character_text cs ++ 34 ∷ rest)) (pair_other outer p t back u (unit_of a b c d) (high_not_low (unit_of a b c d) are.0.2))
 
 -- a string behind its first quote, up to behind its last
 abbrev pub StringRun : Bool → ℕ → List Frame → Purpose → List ℕ → List Character → List ℕ → Type 0
@@ -303,61 +305,74 @@ StringRun limited at outer p t cs rest =
     ⊎ Refuses limited (outcome at outer (quoted p (plain t)) (tail_text cs ++ rest))
 
 -- one character more
-string_more : (limited : Bool) (at later : ℕ) (outer : List Frame) (p : Purpose) (t : List ℕ) (c : Character) (cs : List Character) (rest : List ℕ)
-    → outcome at outer (quoted p (plain t)) (tail_text (c ∷ cs) ++ rest) ≡ outcome later outer (quoted p (plain (t ++ meaning c))) (tail_text cs ++ rest)
-    → later + length (tail_text cs) ≡ at + length (tail_text (c ∷ cs)) → StringRun limited later outer p (t ++ meaning c) cs rest → StringRun limited at outer p t (c ∷ cs) rest
-string_more limited at later outer p t c cs rest e place run =
-    ⊎_elim (λ (f : outcome later outer (quoted p (plain (t ++ meaning c))) (tail_text cs ++ rest) ≡ go_on (later + length (tail_text cs)) rest (quote_step outer p ((t ++ meaning c) ++ flat_map meaning cs))).
-    inl (e ∙ (f ∙ (ap (λ k. go_on k rest (quote_step outer p ((t ++ meaning c) ++ flat_map meaning cs))) place
-    ∙ ap (λ xs. go_on (at + length (tail_text (c ∷ cs))) rest (quote_step outer p xs)) (append_assoc t (meaning c) (flat_map meaning cs))))))
-    (λ (r : Refuses limited (outcome later outer (quoted p (plain (t ++ meaning c))) (tail_text cs ++ rest))).
-    inr (refuses_along limited (outcome at outer (quoted p (plain t)) (tail_text (c ∷ cs) ++ rest)) (outcome later outer (quoted p (plain (t ++ meaning c))) (tail_text cs ++ rest)) e r)) run
+character_more : (limited : Bool) (at later : ℕ) (outer : List Frame) (p : Purpose) (t : List ℕ) (c : Character) (cs : List Character) (xs : List ℕ)
+    → outcome at outer (quoted p (plain t)) (flat_map character_text (c ∷ cs) ++ xs) ≡ outcome later outer (quoted p (plain (t ++ meaning c))) (flat_map character_text cs ++ xs)
+    → later + length (flat_map character_text cs) ≡ at + length (flat_map character_text (c ∷ cs))
+    → Arrives limited later outer (quoted p (plain (t ++ meaning c))) (flat_map character_text cs) outer (quoted p (plain ((t ++ meaning c) ++ flat_map meaning cs))) xs
+    → Arrives limited at outer (quoted p (plain t)) (flat_map character_text (c ∷ cs)) outer (quoted p (plain (t ++ flat_map meaning (c ∷ cs)))) xs
+character_more limited at later outer p t c cs xs e place run =
+    let last : ℕ = at + length (flat_map character_text (c ∷ cs)) in
+    ⊎_elim (λ (f : outcome later outer (quoted p (plain (t ++ meaning c))) (flat_map character_text cs ++ xs) ≡ outcome (later + length (flat_map character_text cs)) outer (quoted p (plain ((t ++ meaning c) ++ flat_map meaning cs))) xs).
+    inl (e ∙ (f ∙ (placed_at (later + length (flat_map character_text cs)) last outer (quoted p (plain ((t ++ meaning c) ++ flat_map meaning cs))) xs place
+    ∙ ap (λ ys. outcome last outer (quoted p (plain ys)) xs) (append_assoc t (meaning c) (flat_map meaning cs))))))
+    (λ (r : Refuses limited (outcome later outer (quoted p (plain (t ++ meaning c))) (flat_map character_text cs ++ xs))).
+    inr (refuses_along limited (outcome at outer (quoted p (plain t)) (flat_map character_text (c ∷ cs) ++ xs)) (outcome later outer (quoted p (plain (t ++ meaning c))) (flat_map character_text cs ++ xs)) e r)) run
 
--- a unit that stands alone though it is half of a pair
-string_refuses : (limited : Bool) (at back : ℕ) (outer : List Frame) (p : Purpose) (t : List ℕ) (cs : List Character) (rest : List ℕ)
-    → outcome at outer (quoted p (plain t)) (tail_text cs ++ rest) ≡ fault back 5 → (limited ≡ true → ⊥) → StringRun limited at outer p t cs rest
-string_refuses limited at back outer p t cs rest e no_limits = inr (record { place = back; kind = 5; is = e; later = lit< tt; limits = no_limits })
-
-pub string_run : (limited : Bool) (at : ℕ) (outer : List Frame) (p : Purpose) (t : List ℕ) (cs : List Character) (rest : List ℕ) → AreCharacters limited cs → StringRun limited at outer p t cs rest
+-- The characters of a string within the limits, or up to its last quote, where half of a pair may stand alone.
+pub characters_run : (limited : Bool) (at : ℕ) (outer : List Frame) (p : Purpose) (t : List ℕ) (cs : List Character) (xs : List ℕ) → AreCharacters limited cs
+    → (limited ≡ true) ⊎ ((rest : List ℕ) × (xs ≡ 34 ∷ rest))
+    → Arrives limited at outer (quoted p (plain t)) (flat_map character_text cs) outer (quoted p (plain (t ++ flat_map meaning cs))) xs
 unfolding step quoted_step
-string_run limited at outer p t [] rest are =
-    inl (byte_run at 34 outer (quoted p (plain t)) rest (quote_step outer p t) (plain_quote at outer p t)
-    ∙ (ap (λ k. go_on k rest (quote_step outer p t)) (omega arith) ∙ ap (λ xs. go_on (at + 1) rest (quote_step outer p xs)) (sym (append-nil t))))
-string_run limited at outer p t (itself c ∷ cs) rest are =
-    string_more limited at (suc at) outer p t (itself c) cs rest
-    (byte_run at c outer (quoted p (plain t)) (tail_text cs ++ rest) (next outer (quoted p (plain (t ++ c ∷ [])))) (plain_leads at c outer p t are.0))
-    (omega arith) (string_run limited (suc at) outer p (t ++ c ∷ []) cs rest are.2)
-string_run limited at outer p t (short l b ∷ cs) rest are =
-    string_more limited at (suc (suc at)) outer p t (short l b) cs rest
-    (byte_run at 92 outer (quoted p (plain t)) (l ∷ tail_text cs ++ rest) (next outer (quoted p (escaped t at))) refl
-    ∙ byte_run (suc at) l outer (quoted p (escaped t at)) (tail_text cs ++ rest) (next outer (quoted p (plain (t ++ b ∷ [])))) (escaped_some (suc at) outer p t at l b are.0))
-    (omega arith) (string_run limited (suc (suc at)) outer p (t ++ b ∷ []) cs rest are.2)
-string_run limited at outer p t (alone a b c d ∷ cs) rest are =
+characters_run limited at outer p t [] xs are behind =
+    inl (placed_at at (at + 0) outer (quoted p (plain t)) xs (omega arith) ∙ ap (λ y. outcome (at + 0) outer (quoted p (plain y)) xs) (sym (append-nil t)))
+characters_run limited at outer p t (itself c ∷ cs) xs are behind =
+    character_more limited at (suc at) outer p t (itself c) cs xs
+    (byte_run at c outer (quoted p (plain t)) (flat_map character_text cs ++ xs) (next outer (quoted p (plain (t ++ c ∷ [])))) (plain_leads at c outer p t are.0))
+    (omega arith) (characters_run limited (suc at) outer p (t ++ c ∷ []) cs xs are.2 behind)
+characters_run limited at outer p t (short l b ∷ cs) xs are behind =
+    character_more limited at (suc (suc at)) outer p t (short l b) cs xs
+    (byte_run at 92 outer (quoted p (plain t)) (l ∷ flat_map character_text cs ++ xs) (next outer (quoted p (escaped t at))) refl
+    ∙ byte_run (suc at) l outer (quoted p (escaped t at)) (flat_map character_text cs ++ xs) (next outer (quoted p (plain (t ++ b ∷ [])))) (escaped_some (suc at) outer p t at l b are.0))
+    (omega arith) (characters_run limited (suc (suc at)) outer p (t ++ b ∷ []) cs xs are.2 behind)
+characters_run limited at outer p t (alone a b c d ∷ cs) xs are behind =
     let u : ℕ = unit_of a b c d in
     let six : ℕ = suc (suc (suc (suc (suc (suc at))))) in
-    let unit_read = unit_run at outer p t a b c d (tail_text cs ++ rest) are.0.0 in
-    ⊎_elim (λ (e : is_surrogate u ≡ true). ⊎_elim
-    (λ (h : is_high_surrogate u ≡ true).
-    string_refuses limited at at outer p t (alone a b c d ∷ cs) rest
-    (unit_read ∙ (ap (go_on six (tail_text cs ++ rest)) (unit_high outer p t at u h) ∙ high_alone limited six outer p t at u cs rest are.2 (rw h at are.1)))
-    (λ l. false≢true (sym (are.0.1 l) ∙ e)))
-    (λ (w : is_low_surrogate u ≡ true).
-    string_refuses limited at at outer p t (alone a b c d ∷ cs) rest (unit_read ∙ ap (go_on six (tail_text cs ++ rest)) (unit_low outer p t at u w))
-    (λ l. false≢true (sym (are.0.1 l) ∙ e)))
-    (or_cases (is_high_surrogate u) (is_low_surrogate u) e))
+    let ys : List ℕ = flat_map character_text cs ++ xs in
+    let unit_read = unit_run at outer p t a b c d ys are.0.0 in
+    let lacks : is_surrogate u ≡ true → is_high_surrogate u ≡ true → outcome six outer (quoted p (high t at u)) ys ≡ fault at 5 = λ e h. ⊎_elim
+    (λ (l : limited ≡ true). absurd (false≢true (sym (are.0.1 l) ∙ e)))
+    (λ (q : (rest : List ℕ) × (xs ≡ 34 ∷ rest)).
+    ap (λ zs. outcome six outer (quoted p (high t at u)) (flat_map character_text cs ++ zs)) q.1 ∙ high_alone limited six outer p t at u cs q.0 are.2 (rw h at are.1)) behind in
+    let refused : is_surrogate u ≡ true → go_on six ys (unit_step outer p t at u) ≡ fault at 5 = λ e. ⊎_elim
+    (λ (h : is_high_surrogate u ≡ true). ap (go_on six ys) (unit_high outer p t at u h) ∙ lacks e h)
+    (λ (w : is_low_surrogate u ≡ true). ap (go_on six ys) (unit_low outer p t at u w)) (or_cases (is_high_surrogate u) (is_low_surrogate u) e) in
+    ⊎_elim
+    (λ (e : is_surrogate u ≡ true). inr (record { place = at; kind = 5; is = unit_read ∙ refused e; later = lit< tt; limits = λ l. false≢true (sym (are.0.1 l) ∙ e) }))
     (λ (e : is_surrogate u ≡ false).
-    string_more limited at six outer p t (alone a b c d) cs rest (unit_read ∙ ap (go_on six (tail_text cs ++ rest)) (unit_scalar outer p t at u e))
-    (omega arith) (string_run limited six outer p (t ++ encode_utf8 u) cs rest are.2)) (cases_Bool (is_surrogate u))
-string_run limited at outer p t (pair a b c d e f g h ∷ cs) rest are =
+    character_more limited at six outer p t (alone a b c d) cs xs (unit_read ∙ ap (go_on six ys) (unit_scalar outer p t at u e))
+    (omega arith) (characters_run limited six outer p (t ++ encode_utf8 u) cs xs are.2 behind)) (cases_Bool (is_surrogate u))
+characters_run limited at outer p t (pair a b c d e f g h ∷ cs) xs are behind =
     let u : ℕ = unit_of a b c d in
     let v : ℕ = unit_of e f g h in
     let six : ℕ = suc (suc (suc (suc (suc (suc at))))) in
     let twelve : ℕ = suc (suc (suc (suc (suc (suc six))))) in
-    string_more limited at twelve outer p t (pair a b c d e f g h) cs rest
-    (unit_run at outer p t a b c d (92 ∷ 117 ∷ e ∷ f ∷ g ∷ h ∷ tail_text cs ++ rest) are.0.0
-    ∙ (ap (go_on six (92 ∷ 117 ∷ e ∷ f ∷ g ∷ h ∷ tail_text cs ++ rest)) (unit_high outer p t at u are.0.2)
-    ∙ (second_run six outer p t at u e f g h (tail_text cs ++ rest) are.0.1 ∙ ap (go_on twelve (tail_text cs ++ rest)) (pair_low outer p t at u v are.0.3))))
-    (omega arith) (string_run limited twelve outer p (t ++ encode_utf8 (surrogate_pair_char u v)) cs rest are.2)
+    let ys : List ℕ = flat_map character_text cs ++ xs in
+    character_more limited at twelve outer p t (pair a b c d e f g h) cs xs
+    (unit_run at outer p t a b c d (92 ∷ 117 ∷ e ∷ f ∷ g ∷ h ∷ ys) are.0.0
+    ∙ (ap (go_on six (92 ∷ 117 ∷ e ∷ f ∷ g ∷ h ∷ ys)) (unit_high outer p t at u are.0.2)
+    ∙ (second_run six outer p t at u e f g h ys are.0.1 ∙ ap (go_on twelve ys) (pair_low outer p t at u v are.0.3))))
+    (omega arith) (characters_run limited twelve outer p (t ++ encode_utf8 (surrogate_pair_char u v)) cs xs are.2 behind)
+
+pub string_run : (limited : Bool) (at : ℕ) (outer : List Frame) (p : Purpose) (t : List ℕ) (cs : List Character) (rest : List ℕ) → AreCharacters limited cs → StringRun limited at outer p t cs rest
+string_run limited at outer p t cs rest are =
+    let flat : List ℕ = flat_map character_text cs in
+    let spelled : List ℕ = t ++ flat_map meaning cs in
+    let same : outcome at outer (quoted p (plain t)) (tail_text cs ++ rest) ≡ outcome at outer (quoted p (plain t)) (flat ++ 34 ∷ rest) = ap (outcome at outer (quoted p (plain t))) (append_assoc flat (34 ∷ []) rest) in
+    ⊎_elim (λ (e : outcome at outer (quoted p (plain t)) (flat ++ 34 ∷ rest) ≡ outcome (at + length flat) outer (quoted p (plain spelled)) (34 ∷ rest)).
+    inl (same ∙ (e ∙ (byte_run (at + length flat) 34 outer (quoted p (plain spelled)) rest (quote_step outer p spelled) (plain_quote (at + length flat) outer p spelled)
+    ∙ ap (λ k. go_on k rest (quote_step outer p spelled)) (omega (arith, length-append flat (34 ∷ [])))))))
+    (λ r. inr (refuses_along limited (outcome at outer (quoted p (plain t)) (tail_text cs ++ rest)) (outcome at outer (quoted p (plain t)) (flat ++ 34 ∷ rest)) same r))
+    (characters_run limited at outer p t cs (34 ∷ rest) are (inr (rest, refl)))
 
 -- ---- The machine at values of the grammar.
 -- literals
@@ -529,12 +544,6 @@ first_key_is limited at outer k key x o s rest is a =
     ⊎_elim (λ e. inl (same ∙ e)) (λ r. inr (refuses_along limited (outcome at outer first_key ((key ++ x) ++ rest)) (outcome at outer (key_wanted []) ((key ++ x) ++ rest)) same r)) a
 
 -- lists under other brackets
-pub four : (a b c d e : List ℕ) → a ++ (b ++ (c ++ (d ++ e))) ≡ (a ++ (b ++ (c ++ d))) ++ e
-four a b c d e = sym (append_assoc a (b ++ (c ++ d)) e ∙ ap (λ x. a ++ x) (append_assoc b (c ++ d) e ∙ ap (λ x. b ++ x) (append_assoc c d e)))
-
-pub seven : (a b c d f g h e : List ℕ) → a ++ (b ++ (c ++ (58 ∷ d ++ (f ++ (g ++ (h ++ e)))))) ≡ (a ++ (b ++ (c ++ (58 ∷ d ++ (f ++ (g ++ h)))))) ++ e
-seven a b c d f g h e = simp append_assoc
-
 close_items : (limited : Bool) (at : ℕ) (outer : List Frame) (vs : List Value) (v : Value) (rest : List ℕ)
     → Arrives limited at (in_array vs ∷ outer) (ended v) (93 ∷ []) outer (ended (array (items_onto vs (item v no_items)))) rest
 unfolding step ended_step close_step
@@ -557,6 +566,7 @@ tail_separates limited level ms behind more rest space s =
 
 mutual
   unfolding step begin_step ended_step close_step
+
   pub value_arrives : (limited : Bool) (level : ℕ) (v : Value) (bs : List ℕ) → Spells limited level v bs → (at : ℕ) (outer : List Frame) (rest : List ℕ) → length outer ≡ level → Delimits rest
       → Arrives limited at outer wanted bs outer (ended v) rest
   value_arrives limited level null bs s at outer rest size d =
@@ -665,3 +675,264 @@ text_arrives limited v bs s =
     let same : (s.0 ++ (s.1 ++ (s.2 ++ []))) ++ [] ≡ bs = append-nil (s.0 ++ (s.1 ++ (s.2 ++ []))) ∙ (ap (λ x. s.0 ++ (s.1 ++ x)) (append-nil s.2) ∙ sym s.6) in
     ⊎_elim (λ e. inl (ap (outcome 0 [] wanted) (sym same) ∙ (e ∙ text_end (0 + length (s.0 ++ (s.1 ++ (s.2 ++ [])))) v)))
     (λ r. inr (refuses_along limited (outcome 0 [] wanted bs) (outcome 0 [] wanted ((s.0 ++ (s.1 ++ (s.2 ++ []))) ++ [])) (ap (outcome 0 [] wanted) (sym same)) r)) a
+
+-- ---- The machine at fronts of texts, and at what may stand behind them.
+surely : (at : ℕ) (outer : List Frame) (spot : Spot) (bs : List ℕ) (o : List Frame) (s : Spot) (rest : List ℕ) → Arrives true at outer spot bs o s rest → outcome at outer spot (bs ++ rest) ≡ outcome (at + length bs) o s rest
+surely at outer spot bs o s rest a = ⊎_elim (λ e. e) (λ (r : Refuses true (outcome at outer spot (bs ++ rest))). absurd (r.limits refl)) a
+
+delimited : (behind more rest : List ℕ) → IsSpace behind → Delimits ((behind ++ 44 ∷ more) ++ rest)
+delimited behind more rest s = subst (λ (x : List ℕ). Delimits x) (sym (append_assoc behind (44 ∷ more) rest)) (delimits_behind behind ((44 ∷ more) ++ rest) s refl)
+
+-- arrays
+items_comma : (outer : List Frame) (earlier : List Value) (v : Value) (k : ℕ) (more : List ℕ) (o : List Frame) (s : Spot) (rest : List ℕ)
+    → Arrives true (k + 1) (in_array (earlier ++ v ∷ []) ∷ outer) wanted more o s rest → Arrives true k (in_array earlier ∷ outer) (ended v) (44 ∷ more) o s rest
+items_comma outer earlier v k more o s rest a = arrives_then true k (in_array earlier ∷ outer) (ended v) (44 ∷ []) (in_array (earlier ++ v ∷ []) ∷ outer) wanted more o s rest
+    (arrives_by true k (in_array earlier ∷ outer) (ended v) (44 ∷ []) (in_array (earlier ++ v ∷ []) ∷ outer) wanted (more ++ rest)
+    (moves_byte k 44 (in_array earlier ∷ outer) (ended v) (in_array (earlier ++ v ∷ []) ∷ outer) wanted (item_comma k outer earlier v))) a
+
+items_go : (outer : List Frame) (vs : List Value) (inside : List ℕ) → FrontItems true (length outer + 1) vs inside → (at : ℕ) (earlier : List Value) (rest : List ℕ)
+    → Arrives true at (in_array earlier ∷ outer) wanted inside (in_array (earlier ++ vs) ∷ outer) wanted rest
+items_go outer [] inside f at earlier rest =
+    arrives_as true at (in_array earlier ∷ outer) wanted [] inside (in_array (earlier ++ []) ∷ outer) wanted rest (sym f)
+    (subst (λ (vs : List Value). Arrives true at (in_array earlier ∷ outer) wanted [] (in_array vs ∷ outer) wanted rest) (sym (append-nil earlier))
+    (arrives_by true at (in_array earlier ∷ outer) wanted [] (in_array earlier ∷ outer) wanted rest (moves_none at (in_array earlier ∷ outer) wanted)))
+items_go outer (v ∷ vs) inside f at earlier rest =
+    arrives_as true at (in_array earlier ∷ outer) wanted (f.0 ++ (f.1 ++ (f.2 ++ 44 ∷ f.3))) inside (in_array (earlier ++ v ∷ vs) ∷ outer) wanted rest (sym f.8)
+    (padded true at (in_array earlier ∷ outer) v f.0 f.1 f.2 (44 ∷ f.3) (in_array (earlier ++ v ∷ vs) ∷ outer) wanted rest f.4 f.6
+    (λ k. value_arrives true (length outer + 1) v f.1 f.5 k (in_array earlier ∷ outer) ((f.2 ++ 44 ∷ f.3) ++ rest) (omega arith) (delimited f.2 f.3 rest f.6))
+    (λ k. items_comma outer earlier v k f.3 (in_array (earlier ++ v ∷ vs) ∷ outer) wanted rest
+    (subst (λ (ws : List Value). Arrives true (k + 1) (in_array (earlier ++ v ∷ []) ∷ outer) wanted f.3 (in_array ws ∷ outer) wanted rest) (append_assoc earlier (v ∷ []) vs)
+    (items_go outer vs f.3 f.7 (k + 1) (earlier ++ v ∷ []) rest))))
+
+array_runs : (outer : List Frame) (vs : List Value) (inside space : List ℕ) → FrontItems true (length outer + 1) vs inside → IsSpace space → (at c : ℕ) (cs : List ℕ) → is_space c ≡ false → (c ≡ 93 → ⊥)
+    → outcome at outer first_item ((inside ++ space) ++ c ∷ cs) ≡ outcome (at + length (inside ++ space)) (in_array vs ∷ outer) wanted (c ∷ cs)
+array_runs outer [] inside space f sp at c cs ns nb =
+    subst (λ (i : List ℕ). outcome at outer first_item ((i ++ space) ++ c ∷ cs) ≡ outcome (at + length (i ++ space)) (in_array [] ∷ outer) wanted (c ∷ cs)) (sym f)
+    (space_moves at outer first_item space sp tt (c ∷ cs) ∙ first_item_as (at + length space) c outer cs ns nb)
+array_runs outer (v ∷ vs) inside space f sp at c cs ns nb =
+    let frames : List Frame = in_array (v ∷ vs) ∷ outer in
+    let tail : List ℕ = 44 ∷ f.3 ++ space in
+    let rest : List ℕ = c ∷ cs in
+    surely at outer first_item (inside ++ space) frames wanted rest
+    (arrives_as true at outer first_item (f.0 ++ (f.1 ++ (f.2 ++ tail))) (inside ++ space) frames wanted rest (four f.0 f.1 f.2 (44 ∷ f.3) space ∙ ap (λ x. x ++ space) (sym f.8))
+    (arrives_then true at outer first_item f.0 outer first_item (f.1 ++ (f.2 ++ tail)) frames wanted rest
+    (arrives_by true at outer first_item f.0 outer first_item ((f.1 ++ (f.2 ++ tail)) ++ rest) (space_moves at outer first_item f.0 f.4 tt))
+    (first_as true (at + length f.0) outer f.1 (f.2 ++ tail) frames wanted rest (value_begins true (length outer + 1) v f.1 f.5)
+    (padded true (at + length f.0) (in_array [] ∷ outer) v [] f.1 f.2 tail frames wanted rest tt f.6
+    (λ k. value_arrives true (length outer + 1) v f.1 f.5 k (in_array [] ∷ outer) ((f.2 ++ tail) ++ rest) (omega arith) (delimited f.2 (f.3 ++ space) rest f.6))
+    (λ k. arrives_then true k (in_array [] ∷ outer) (ended v) (44 ∷ []) (in_array (v ∷ []) ∷ outer) wanted (f.3 ++ space) frames wanted rest
+    (arrives_by true k (in_array [] ∷ outer) (ended v) (44 ∷ []) (in_array (v ∷ []) ∷ outer) wanted ((f.3 ++ space) ++ rest) (moves_byte k 44 (in_array [] ∷ outer) (ended v) (in_array (v ∷ []) ∷ outer) wanted (item_comma k outer [] v)))
+    (arrives_then true (k + 1) (in_array (v ∷ []) ∷ outer) wanted f.3 frames wanted space frames wanted rest
+    (items_go outer vs f.3 f.7 (k + 1) (v ∷ []) (space ++ rest))
+    (arrives_by true (k + 1 + length f.3) frames wanted space frames wanted rest (space_moves (k + 1 + length f.3) frames wanted space sp tt))))))))
+
+-- objects
+members_split : (earlier : List Member) (m : Member) (ms : List Member) → members_of (earlier ++ m ∷ ms) ≡ members_onto earlier (member m.0 m.1 (members_of ms))
+members_split [] m ms = refl
+members_split (e ∷ earlier) m ms = ap (member e.0 e.1) (members_split earlier m ms)
+
+is_new : (earlier : List Member) (m : Member) (ms : List Member) → HasUniqueKeys (members_of (earlier ++ m ∷ ms)) → has_key (members_of earlier) m.0 ≡ false
+is_new earlier m ms u = new_key earlier m.0 m.1 (members_of ms) (subst HasUniqueKeys (members_split earlier m ms) u)
+
+members_comma : (outer : List Frame) (earlier : List Member) (m : Member) (k : ℕ) (more : List ℕ) (o : List Frame) (s : Spot) (rest : List ℕ)
+    → Arrives true (k + 1) outer (key_wanted (earlier ++ m ∷ [])) more o s rest → Arrives true k (in_object earlier m.0 ∷ outer) (ended m.1) (44 ∷ more) o s rest
+unfolding step ended_step close_step
+members_comma outer earlier m k more o s rest a = arrives_then true k (in_object earlier m.0 ∷ outer) (ended m.1) (44 ∷ []) outer (key_wanted (earlier ++ m ∷ [])) more o s rest
+    (arrives_by true k (in_object earlier m.0 ∷ outer) (ended m.1) (44 ∷ []) outer (key_wanted (earlier ++ m ∷ [])) (more ++ rest)
+    (moves_byte k 44 (in_object earlier m.0 ∷ outer) (ended m.1) outer (key_wanted (earlier ++ m ∷ [])) refl)) a
+
+members_go : (outer : List Frame) (ms : List Member) (inside : List ℕ) → FrontMembers true (length outer + 1) ms inside → (at : ℕ) (earlier : List Member) (rest : List ℕ) → HasUniqueKeys (members_of (earlier ++ ms))
+    → Arrives true at outer (key_wanted earlier) inside outer (key_wanted (earlier ++ ms)) rest
+members_go outer [] inside f at earlier rest u =
+    arrives_as true at outer (key_wanted earlier) [] inside outer (key_wanted (earlier ++ [])) rest (sym f)
+    (subst (λ (ms : List Member). Arrives true at outer (key_wanted earlier) [] outer (key_wanted ms) rest) (sym (append-nil earlier))
+    (arrives_by true at outer (key_wanted earlier) [] outer (key_wanted earlier) rest (moves_none at outer (key_wanted earlier))))
+members_go outer (m ∷ ms) inside f at earlier rest u =
+    arrives_as true at outer (key_wanted earlier) (f.0 ++ (f.1 ++ (f.2 ++ (58 ∷ f.3 ++ (f.4 ++ (f.5 ++ 44 ∷ f.6)))))) inside outer (key_wanted (earlier ++ m ∷ ms)) rest (sym f.14)
+    (keyed true at outer earlier m.0 m.1 f.0 f.1 f.2 f.3 f.4 f.5 (44 ∷ f.6) outer (key_wanted (earlier ++ m ∷ ms)) rest f.7 f.8 f.9 f.10 f.12 (λ _. is_new earlier m ms u)
+    (λ k. value_arrives true (length outer + 1) m.1 f.4 f.11 k (in_object earlier m.0 ∷ outer) ((f.5 ++ 44 ∷ f.6) ++ rest) (omega arith) (delimited f.5 f.6 rest f.12))
+    (λ k. members_comma outer earlier m k f.6 outer (key_wanted (earlier ++ m ∷ ms)) rest
+    (subst (λ (ns : List Member). Arrives true (k + 1) outer (key_wanted (earlier ++ m ∷ [])) f.6 outer (key_wanted ns) rest) (append_assoc earlier (m ∷ []) ms)
+    (members_go outer ms f.6 f.13 (k + 1) (earlier ++ m ∷ []) rest (subst (λ (ns : List Member). HasUniqueKeys (members_of ns)) (sym (append_assoc earlier (m ∷ []) ms)) u)))))
+
+object_runs : (outer : List Frame) (ms : List Member) (inside space : List ℕ) → FrontMembers true (length outer + 1) ms inside → HasUniqueKeys (members_of ms) → IsSpace space → (at : ℕ) (cs : List ℕ)
+    → outcome at outer first_key ((inside ++ space) ++ 34 ∷ cs) ≡ outcome (at + length (inside ++ space)) outer (key_wanted ms) (34 ∷ cs)
+object_runs outer [] inside space f u sp at cs =
+    subst (λ (i : List ℕ). outcome at outer first_key ((i ++ space) ++ 34 ∷ cs) ≡ outcome (at + length (i ++ space)) outer (key_wanted []) (34 ∷ cs)) (sym f)
+    (space_moves at outer first_key space sp tt (34 ∷ cs) ∙ first_key_as (at + length space) outer cs)
+object_runs outer (m ∷ ms) inside space f u sp at cs =
+    let tail : List ℕ = 44 ∷ f.6 ++ space in
+    let rest : List ℕ = 34 ∷ cs in
+    let last : Spot = key_wanted (m ∷ ms) in
+    let x : List ℕ = f.2 ++ (58 ∷ f.3 ++ (f.4 ++ (f.5 ++ tail))) in
+    surely at outer first_key (inside ++ space) outer last rest
+    (arrives_as true at outer first_key (f.0 ++ (f.1 ++ x)) (inside ++ space) outer last rest (seven f.0 f.1 f.2 f.3 f.4 f.5 (44 ∷ f.6) space ∙ ap (λ y. y ++ space) (sym f.14))
+    (arrives_then true at outer first_key f.0 outer first_key (f.1 ++ x) outer last rest
+    (arrives_by true at outer first_key f.0 outer first_key ((f.1 ++ x) ++ rest) (space_moves at outer first_key f.0 f.7 tt))
+    (first_key_is true (at + length f.0) outer m.0 f.1 x outer last rest f.8
+    (keyed true (at + length f.0) outer [] m.0 m.1 [] f.1 f.2 f.3 f.4 f.5 tail outer last rest tt f.8 f.9 f.10 f.12 (λ _. refl)
+    (λ k. value_arrives true (length outer + 1) m.1 f.4 f.11 k (in_object [] m.0 ∷ outer) ((f.5 ++ tail) ++ rest) (omega arith) (delimited f.5 (f.6 ++ space) rest f.12))
+    (λ k. members_comma outer [] m k (f.6 ++ space) outer last rest
+    (arrives_then true (k + 1) outer (key_wanted (m ∷ [])) f.6 outer last space outer last rest
+    (members_go outer ms f.6 f.13 (k + 1) (m ∷ []) (space ++ rest) u)
+    (arrives_by true (k + 1 + length f.6) outer last space outer last rest (space_moves (k + 1 + length f.6) outer last space sp tt))))))))
+
+-- The machine comes to where a value may begin.
+abbrev pub FrontRuns : List Frame → List ℕ → Type 0
+FrontRuns outer front = (c : ℕ) (cs : List ℕ) → is_space c ≡ false → (c ≡ 93 → ⊥) → whole_outcome (front ++ c ∷ cs) ≡ outcome (length front) outer wanted (c ∷ cs)
+
+brackets_regroup : (f i s e : List ℕ) → ((f ++ i) ++ s) ++ e ≡ f ++ (i ++ (s ++ e))
+brackets_regroup f i s e = simp append_assoc
+
+opens_at : (at : ℕ) (outer : List Frame) (c : ℕ) (spot : Spot) (rest : List ℕ) → step at outer wanted c ≡ next outer spot → outcome at outer wanted (c ∷ rest) ≡ outcome (suc at) outer spot rest
+opens_at at outer c spot rest e = byte_run at c outer wanted rest (next outer spot) e
+
+pub key_front_runs : (outer : List Frame) (ms : List Member) (front : List ℕ) → ((f : List ℕ) → IsFront outer f → FrontRuns outer f) → IsKeyFront outer ms front → (cs : List ℕ)
+    → whole_outcome (front ++ 34 ∷ cs) ≡ outcome (length front) outer (key_wanted ms) (34 ∷ cs)
+unfolding step begin_step opened
+key_front_runs outer ms front runs f cs =
+    let o = f.2 in
+    let is : front ≡ (o.0 ++ 123 ∷ o.1) ++ f.1 = f.4 ∙ ap (λ x. x ++ f.1) o.6 in
+    let size : length front ≡ suc (length o.0) + length (o.1 ++ f.1) =
+    ap length (is ∙ append_assoc o.0 (123 ∷ o.1) f.1) ∙ (length-append o.0 (123 ∷ o.1 ++ f.1) ∙ omega arith) in
+    ap (λ x. whole_outcome (x ++ 34 ∷ cs)) is ∙ (ap whole_outcome (brackets_regroup o.0 (123 ∷ o.1) f.1 (34 ∷ cs) ∙ ap (λ x. o.0 ++ (123 ∷ x)) (sym (append_assoc o.1 f.1 (34 ∷ cs))))
+    ∙ (runs o.0 o.2 123 ((o.1 ++ f.1) ++ 34 ∷ cs) refl (λ e. absurd (omega arith))
+    ∙ (opens_at (length o.0) outer 123 first_key ((o.1 ++ f.1) ++ 34 ∷ cs) (rw (lt-ltb (length outer) 64 o.3) refl)
+    ∙ (object_runs outer ms o.1 f.1 o.4 o.5 f.3 (suc (length o.0)) cs ∙ placed_at (suc (length o.0) + length (o.1 ++ f.1)) (length front) outer (key_wanted ms) (34 ∷ cs) (sym size)))))
+
+pub front_runs : (outer : List Frame) (front : List ℕ) → IsFront outer front → FrontRuns outer front
+unfolding whole_outcome step begin_step opened
+front_runs [] front f c cs ns nb = space_moves 0 [] wanted front f tt (c ∷ cs) ∙ placed_at (0 + length front) (length front) [] wanted (c ∷ cs) (omega arith)
+front_runs (in_array vs ∷ outer) front f c cs ns nb =
+    let a = f.2 in
+    let is : front ≡ (a.0 ++ 91 ∷ a.1) ++ f.1 = f.4 ∙ ap (λ x. x ++ f.1) a.5 in
+    let size : length front ≡ suc (length a.0) + length (a.1 ++ f.1) =
+    ap length (is ∙ append_assoc a.0 (91 ∷ a.1) f.1) ∙ (length-append a.0 (91 ∷ a.1 ++ f.1) ∙ omega arith) in
+    ap (λ x. whole_outcome (x ++ c ∷ cs)) is ∙ (ap whole_outcome (brackets_regroup a.0 (91 ∷ a.1) f.1 (c ∷ cs) ∙ ap (λ x. a.0 ++ (91 ∷ x)) (sym (append_assoc a.1 f.1 (c ∷ cs))))
+    ∙ (front_runs outer a.0 a.2 91 ((a.1 ++ f.1) ++ c ∷ cs) refl (λ e. absurd (omega arith))
+    ∙ (opens_at (length a.0) outer 91 first_item ((a.1 ++ f.1) ++ c ∷ cs) (rw (lt-ltb (length outer) 64 a.3) refl)
+    ∙ (array_runs outer vs a.1 f.1 a.4 f.3 (suc (length a.0)) c cs ns nb ∙ placed_at (suc (length a.0) + length (a.1 ++ f.1)) (length front) (in_array vs ∷ outer) wanted (c ∷ cs) (sym size)))))
+front_runs (in_object ms k ∷ outer) front f c cs ns nb =
+    let colon = f.2 in
+    let keyed = colon.1.2 in
+    let key : List ℕ = keyed.1 in
+    let frames : List Frame = in_object ms k ∷ outer in
+    let rest : List ℕ = c ∷ cs in
+    let part : List ℕ = key ++ (colon.1.1 ++ (58 ∷ f.1)) in
+    let is : front ≡ keyed.0 ++ part =
+    f.4 ∙ (ap (λ x. x ++ f.1) (colon.2 ∙ ap (λ x. x ++ 58 ∷ []) (colon.1.4 ∙ ap (λ x. x ++ colon.1.1) keyed.5)) ∙ colon_regroup keyed.0 key colon.1.1 (58 ∷ []) f.1) in
+    let arrives : Arrives true (length keyed.0) outer (key_wanted ms) part frames wanted rest =
+    arrives_then true (length keyed.0) outer (key_wanted ms) key outer (colon_wanted ms k) (colon.1.1 ++ (58 ∷ f.1)) frames wanted rest
+    (string_key true (length keyed.0) outer ms k key ((colon.1.1 ++ (58 ∷ f.1)) ++ rest) keyed.3 (λ _. keyed.4))
+    (arrives_then true (length keyed.0 + length key) outer (colon_wanted ms k) colon.1.1 outer (colon_wanted ms k) (58 ∷ f.1) frames wanted rest
+    (arrives_by true (length keyed.0 + length key) outer (colon_wanted ms k) colon.1.1 outer (colon_wanted ms k) ((58 ∷ f.1) ++ rest) (space_moves (length keyed.0 + length key) outer (colon_wanted ms k) colon.1.1 colon.1.3 tt))
+    (arrives_then true (length keyed.0 + length key + length colon.1.1) outer (colon_wanted ms k) (58 ∷ []) frames wanted f.1 frames wanted rest
+    (arrives_by true (length keyed.0 + length key + length colon.1.1) outer (colon_wanted ms k) (58 ∷ []) frames wanted (f.1 ++ rest)
+    (moves_byte (length keyed.0 + length key + length colon.1.1) 58 outer (colon_wanted ms k) frames wanted refl))
+    (arrives_by true (length keyed.0 + length key + length colon.1.1 + 1) frames wanted f.1 frames wanted rest (space_moves (length keyed.0 + length key + length colon.1.1 + 1) frames wanted f.1 f.3 tt)))) in
+    let begun : (ys : List ℕ) × (part ++ rest ≡ 34 ∷ ys) = (_, ap (λ x. (x ++ (colon.1.1 ++ (58 ∷ f.1))) ++ rest) keyed.3.3) in
+    ap (λ x. whole_outcome (x ++ rest)) is ∙ (ap whole_outcome (append_assoc keyed.0 part rest ∙ ap (λ x. keyed.0 ++ x) begun.1)
+    ∙ (key_front_runs outer ms keyed.0 (λ g h. front_runs outer g h) keyed.2 begun.0
+    ∙ (ap (λ x. outcome (length keyed.0) outer (key_wanted ms) x) (sym begun.1)
+    ∙ (surely (length keyed.0) outer (key_wanted ms) part frames wanted rest arrives
+    ∙ placed_at (length keyed.0 + length part) (length front) frames wanted rest (sym (ap length is ∙ length-append keyed.0 part))))))
+  where
+    colon_regroup : (a k s m t : List ℕ) → (((a ++ k) ++ s) ++ m) ++ t ≡ a ++ (k ++ (s ++ (m ++ t)))
+    colon_regroup a k s m t = simp append_assoc
+
+-- a bracket that opens a level too much
+pub deep_fault : (bytes : List ℕ) (at : ℕ) → OpensTooDeep bytes at → whole_outcome bytes ≡ fault at 3
+unfolding step begin_step opened
+deep_fault bytes at d =
+    let full : nat_lt (length d.0) 64 ≡ false = le-ltb (length d.0) 64 (omega (arith, d.5)) in
+    ap whole_outcome d.8 ∙ (⊎_elim
+    (λ (e : d.2 ≡ 91). ap (λ b. whole_outcome (d.1 ++ b ∷ d.3)) e ∙ (front_runs d.0 d.1 d.4 91 d.3 refl (λ g. absurd (omega arith))
+    ∙ byte_run (length d.1) 91 d.0 wanted d.3 (stop (length d.1) 3) (rw full refl)))
+    (λ (e : d.2 ≡ 123). ap (λ b. whole_outcome (d.1 ++ b ∷ d.3)) e ∙ (front_runs d.0 d.1 d.4 123 d.3 refl (λ g. absurd (omega arith))
+    ∙ byte_run (length d.1) 123 d.0 wanted d.3 (stop (length d.1) 3) (rw full refl))) d.6
+    ∙ ap (λ k. fault k 3) (sym d.7))
+
+-- ---- The machine at a key that comes twice, and at a surrogate without its partner.
+pub repeated_fault : (bytes : List ℕ) (at : ℕ) → RepeatsKey bytes at → whole_outcome bytes ≡ fault at 4
+unfolding step
+repeated_fault bytes at r =
+    let outer : List Frame = r.0 in
+    let ms : List Member = r.1 in
+    let k : ℕ = length r.2 in
+    let cs : List Character = r.7.0 in
+    let run : outcome (suc k) outer (quoted (for_key ms k) (plain [])) (tail_text cs ++ r.5) ≡ go_on (suc k + length (tail_text cs)) r.5 (quote_step outer (for_key ms k) (flat_map meaning cs)) =
+    ⊎_elim (λ e. e) (λ (f : Refuses true (outcome (suc k) outer (quoted (for_key ms k) (plain [])) (tail_text cs ++ r.5))). absurd (f.limits refl)) (string_run true (suc k) outer (for_key ms k) [] cs r.5 r.7.1) in
+    ap whole_outcome (r.10 ∙ ap (λ x. r.2 ++ (x ++ r.5)) r.7.3)
+    ∙ (key_front_runs outer ms r.2 (λ f h. front_runs outer f h) r.6 (tail_text cs ++ r.5)
+    ∙ (byte_run k 34 outer (key_wanted ms) (tail_text cs ++ r.5) (next outer (quoted (for_key ms k) (plain []))) refl
+    ∙ (run
+    ∙ (ap (go_on (suc k + length (tail_text cs)) r.5) (ap (quote_step outer (for_key ms k)) (sym r.7.2) ∙ quote_known outer ms k r.4 r.8) ∙ ap (λ j. fault j 4) (sym r.9)))))
+
+-- behind the first unit of a pair, where these digits of the second have come
+no_more_hex : (at c : ℕ) (outer : List Frame) (p : Purpose) (t : List ℕ) (back u : ℕ) (h : Hex) (xs : List ℕ) → (is_hex c ≡ true → outcome at outer (quoted p (high_unit t back u h)) (c ∷ xs) ≡ fault back 5)
+    → outcome at outer (quoted p (high_unit t back u h)) (c ∷ xs) ≡ fault back 5
+unfolding step quoted_step
+no_more_hex at c outer p t back u h xs later =
+    ⊎_elim later (λ (e : is_hex c ≡ false). byte_run at c outer (quoted p (high_unit t back u h)) xs (stop back 5) (rw e refl)) (cases_Bool (is_hex c))
+
+lack_digits : (h : Hex) → AreHexSoFar h → (at : ℕ) (outer : List Frame) (p : Purpose) (t : List ℕ) (back u : ℕ) (xs : List ℕ) → LacksSecond (92 ∷ 117 ∷ hex_text h ++ xs)
+    → outcome at outer (quoted p (high_unit t back u h)) xs ≡ fault back 5
+unfolding more_hex outcome finish pair_step
+lack_digits h are at outer p t back u [] l = refl
+lack_digits no_digit are at outer p t back u (c ∷ xs) l = no_more_hex at c outer p t back u no_digit xs (λ e.
+    byte_run at c outer (quoted p (high_unit t back u no_digit)) xs (next outer (quoted p (high_unit t back u (one_digit c)))) (second_each outer p t back u at c no_digit e)
+    ∙ lack_digits (one_digit c) e (suc at) outer p t back u xs l)
+lack_digits (one_digit a) are at outer p t back u (c ∷ xs) l = no_more_hex at c outer p t back u (one_digit a) xs (λ e.
+    byte_run at c outer (quoted p (high_unit t back u (one_digit a))) xs (next outer (quoted p (high_unit t back u (two_digits a c)))) (second_each outer p t back u at c (one_digit a) e)
+    ∙ lack_digits (two_digits a c) (are, e) (suc at) outer p t back u xs l)
+lack_digits (two_digits a b) are at outer p t back u (c ∷ xs) l = no_more_hex at c outer p t back u (two_digits a b) xs (λ e.
+    byte_run at c outer (quoted p (high_unit t back u (two_digits a b))) xs (next outer (quoted p (high_unit t back u (three_digits a b c)))) (second_each outer p t back u at c (two_digits a b) e)
+    ∙ lack_digits (three_digits a b c) (are.0, are.1, e) (suc at) outer p t back u xs l)
+lack_digits (three_digits a b d) are at outer p t back u (c ∷ xs) l = no_more_hex at c outer p t back u (three_digits a b d) xs (λ e.
+    ⊎_elim (λ (low : is_low_surrogate (unit_of a b d c) ≡ true). absurd (l a b d c xs (are.0, are.1, are.2, e) low refl))
+    (λ (low : is_low_surrogate (unit_of a b d c) ≡ false). byte_run at c outer (quoted p (high_unit t back u (three_digits a b d))) xs (stop back 5)
+    (second_each outer p t back u at c (three_digits a b d) e ∙ rw low refl)) (cases_Bool (is_low_surrogate (unit_of a b d c))))
+
+lack_letter : (at : ℕ) (outer : List Frame) (p : Purpose) (t : List ℕ) (back u : ℕ) (xs : List ℕ) → LacksSecond (92 ∷ xs) → outcome at outer (quoted p (high_escaped t back u)) xs ≡ fault back 5
+unfolding outcome finish step quoted_step
+lack_letter at outer p t back u [] l = refl
+lack_letter at outer p t back u (c ∷ xs) l =
+    ⊎_elim (λ (e : (c == 117) ≡ true). byte_run at c outer (quoted p (high_escaped t back u)) xs (next outer (quoted p (high_unit t back u no_digit)))
+    (ap (λ b. step at outer (quoted p (high_escaped t back u)) b) (eqb-true c 117 e))
+    ∙ lack_digits no_digit tt (suc at) outer p t back u xs (subst (λ (k : ℕ). LacksSecond (92 ∷ k ∷ xs)) (eqb-true c 117 e) l))
+    (λ (e : (c == 117) ≡ false). byte_run at c outer (quoted p (high_escaped t back u)) xs (stop back 5) (rw e refl)) (cases_Bool (c == 117))
+
+high_lacks : (at : ℕ) (outer : List Frame) (p : Purpose) (t : List ℕ) (back u : ℕ) (xs : List ℕ) → LacksSecond xs → outcome at outer (quoted p (high t back u)) xs ≡ fault back 5
+unfolding outcome finish step quoted_step
+high_lacks at outer p t back u [] l = refl
+high_lacks at outer p t back u (c ∷ xs) l =
+    ⊎_elim (λ (e : (c == 92) ≡ true). byte_run at c outer (quoted p (high t back u)) xs (next outer (quoted p (high_escaped t back u)))
+    (ap (λ b. step at outer (quoted p (high t back u)) b) (eqb-true c 92 e))
+    ∙ lack_letter (suc at) outer p t back u xs (subst (λ (k : ℕ). LacksSecond (k ∷ xs)) (eqb-true c 92 e) l))
+    (λ (e : (c == 92) ≡ false). byte_run at c outer (quoted p (high t back u)) xs (stop back 5) (rw e refl)) (cases_Bool (c == 92))
+
+string_front_runs : (outer : List Frame) (p : Purpose) (front xs : List ℕ) → IsStringFront outer p front → whole_outcome (front ++ 34 ∷ xs) ≡ outcome (suc (length front)) outer (quoted p (plain [])) xs
+unfolding step begin_step
+string_front_runs outer for_value front xs f = front_runs outer front f 34 xs refl (λ e. absurd (omega arith))
+    ∙ byte_run (length front) 34 outer wanted xs (next outer (quoted for_value (plain []))) refl
+string_front_runs outer (for_key ms at) front xs f = key_front_runs outer ms front (λ g h. front_runs outer g h) f.0 xs
+    ∙ (byte_run (length front) 34 outer (key_wanted ms) xs (next outer (quoted (for_key ms (length front)) (plain []))) refl
+    ∙ ap (λ k. outcome (suc (length front)) outer (quoted (for_key ms k) (plain [])) xs) (sym f.1))
+
+pub lacks_fault : (bytes : List ℕ) (at : ℕ) → LacksPartner bytes at → whole_outcome bytes ≡ fault at 5
+lacks_fault bytes at l =
+    let outer : List Frame = l.0 in
+    let p : Purpose = l.1 in
+    let flat : List ℕ = flat_map character_text l.3 in
+    let escape : List ℕ = 92 ∷ 117 ∷ l.4 ∷ l.5 ∷ l.6 ∷ l.7 ∷ l.8 in
+    let t : List ℕ = flat_map meaning l.3 in
+    let place : ℕ = suc (length l.2) + length flat in
+    let six : ℕ = suc (suc (suc (suc (suc (suc place))))) in
+    let u : ℕ = unit_of l.4 l.5 l.6 l.7 in
+    let size : at ≡ place = l.13 ∙ (length-append l.2 (34 ∷ flat) ∙ omega arith) in
+    ap whole_outcome (l.14 ∙ append_assoc l.2 (34 ∷ flat) escape) ∙ (string_front_runs outer p l.2 (flat ++ escape) l.9
+    ∙ (surely (suc (length l.2)) outer (quoted p (plain [])) flat outer (quoted p (plain t)) escape (characters_run true (suc (length l.2)) outer p [] l.3 escape l.10 (inl refl))
+    ∙ (unit_run place outer p t l.4 l.5 l.6 l.7 l.8 l.11
+    ∙ (⊎_elim (λ (low : is_low_surrogate u ≡ true). ap (go_on six l.8) (unit_low outer p t place u low))
+    (λ (h : (is_high_surrogate u ≡ true) × LacksSecond l.8). ap (go_on six l.8) (unit_high outer p t place u h.0) ∙ high_lacks six outer p t place u l.8 h.1) l.12
+    ∙ ap (λ k. fault k 5) (sym size)))))

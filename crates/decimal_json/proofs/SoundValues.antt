@@ -11,8 +11,7 @@ use Rattle.decimal_json.specs.inside.Scan.{Spot, wanted, first_item, first_key, 
 use Rattle.decimal_json.specs.Grammar.{Spells, IsNumber, AreDigits, IsWhole, numerals, negative_text, fraction_text, Sign, no_sign, plus, sign_text, is_minus, Power, no_power, power, power_text, is_down, written, IsPower, Character, itself, short, alone, pair, character_text, meaning, AreHex, IsCharacter, is_first_alone, begins_with_second, AreCharacters, SpellsText}
 use Rattle.decimal_json.specs.Fronts.{InArray, InObject, BehindKey, BehindColon, IsFront, IsKeyFront, IsStringFront, LacksSecond, OpensTooDeep, RepeatsKey, LacksPartner}
 use Rattle.decimal_json.proofs.Values.{unique_more}
-use Rattle.decimal_json.proofs.RunValues.{four}
-use Rattle.decimal_json.proofs.Growth.{one_more, space_more, spaced_more, spaced_none, front_depth, front_items-push, items_close, front_members-push, members_close, BehindValue, InString, AreAscii, LiteralText, Stands, Good, IsOpenWhole, IsSomeDigits, NumeralText, QuotedText, hex_text, Caught}
+use Rattle.decimal_json.proofs.Growth.{one_more, space_more, spaced_more, spaced_none, front_depth, front_items-push, items_close, front_members-push, members_close, BehindValue, InString, AreAscii, LiteralText, Stands, Good, IsOpenWhole, IsSomeDigits, NumeralText, QuotedText, hex_text, Caught, four}
 use Rattle.decimal_json.proofs.Views.{map-push}
 use Rattle.std.specs.List.{flat_map}
 use Rattle.std.specs.Char.Utf16.{is_low_surrogate, is_high_surrogate, surrogate_pair_char}

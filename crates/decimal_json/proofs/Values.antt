@@ -184,35 +184,31 @@ items_begin bytes start at c room found ne le = record {
 }
 
 -- an array, up to where an item ends
-pub record ItemRead (bytes : List ℕ) (start end room : ℕ) (vs : List Value) (v : Value) : Type 0 where
-  pub read : (outer : List Frame) → length outer + (room + 1) ≡ depth_limit → scan bytes start outer first_item ≡ scan bytes end (in_array vs ∷ outer) (ended v)
-
-pub item_read : (bytes : List ℕ) (start at end room : ℕ) (vs : List Value) (v : Value) → HasItems bytes start at room vs → ReadsValue bytes at end room v
-    → ItemRead bytes start end room vs v
-item_read bytes start at end room vs v has r =
-    record { read = λ outer fits. has.same outer fits ∙ r (in_array vs ∷ outer) (omega (arith, fits)) }
+item_read : (bytes : List ℕ) (start at end room : ℕ) (vs : List Value) (v : Value) → HasItems bytes start at room vs → ReadsValue bytes at end room v
+    → (outer : List Frame) → length outer + (room + 1) ≡ depth_limit → scan bytes start outer first_item ≡ scan bytes end (in_array vs ∷ outer) (ended v)
+item_read bytes start at end room vs v has r outer fits = has.same outer fits ∙ r (in_array vs ∷ outer) (omega (arith, fits))
 
 pub item_breaks : (bytes : List ℕ) (start at room : ℕ) (vs : List Value) (e : JsonFault) → HasItems bytes start at room vs → BreaksValue bytes at room e → BreaksInside bytes start first_item room e
 item_breaks bytes start at room vs e has broken = λ outer fits. led e _ _ (has.same outer fits) (broken (in_array vs ∷ outer) (omega (arith, fits)))
 
-pub array_breaks : (bytes : List ℕ) (start end room : ℕ) (vs : List Value) (v : Value) (e : JsonFault) → ItemRead bytes start end room vs v
+pub array_breaks : (bytes : List ℕ) (start at end room : ℕ) (vs : List Value) (v : Value) (e : JsonFault) → HasItems bytes start at room vs → ReadsValue bytes at end room v
     → LacksToken (λ c. (c ≡ 44 → ⊥) × (c ≡ 93 → ⊥)) bytes end e → BreaksInside bytes start first_item room e
 unfolding step ended_step close_step finish finish_value
-array_breaks bytes start end room vs v e r none = λ outer fits. led e _ _ (r.read outer fits)
+array_breaks bytes start at end room vs v e has r none = λ outer fits. led e _ _ (item_read bytes start at end room vs v has r outer fits)
     (lacks _ bytes end (in_array vs ∷ outer) (ended v) e none tt (λ at. refl) (λ at c space no. rw (space, ne_eqb c 44 no.0, ne_eqb c 93 no.1) refl))
 
-pub array_closes : (bytes : List ℕ) (start end past room : ℕ) (vs : List Value) (v : Value) → ItemRead bytes start end room vs v
+pub array_closes : (bytes : List ℕ) (start at end past room : ℕ) (vs : List Value) (v : Value) → HasItems bytes start at room vs → ReadsValue bytes at end room v
     → PassesToken bytes end past 93 → ReadsInside bytes start first_item past room (array (items_of (vs ++ v ∷ [])))
 unfolding step ended_step close_step
-array_closes bytes start end past room vs v r p = λ outer fits. r.read outer fits
+array_closes bytes start at end past room vs v has r p = λ outer fits. item_read bytes start at end room vs v has r outer fits
     ∙ passed bytes end past 93 (in_array vs ∷ outer) outer (ended v) (ended (array (items_of (vs ++ v ∷ [])))) p tt (λ at. refl)
 
-pub items_go_on : (bytes : List ℕ) (start end past room : ℕ) (vs : List Value) (v : Value) → ItemRead bytes start end room vs v
+pub items_go_on : (bytes : List ℕ) (start at end past room : ℕ) (vs : List Value) (v : Value) → HasItems bytes start at room vs → ReadsValue bytes at end room v
     → PassesToken bytes end past 44 → start ≤ past → HasItems bytes start past room (vs ++ v ∷ [])
-items_go_on bytes start end past room vs v r p le = record {
+items_go_on bytes start at end past room vs v has r p le = record {
   forward = le;
   within = omega (arith, p.is, p.found.token.1);
-  same = λ outer fits. r.read outer fits
+  same = λ outer fits. item_read bytes start at end room vs v has r outer fits
       ∙ passed bytes end past 44 (in_array vs ∷ outer) (in_array (vs ++ v ∷ []) ∷ outer) (ended v) wanted p tt (λ at. item_comma at outer vs v);
 }
 
@@ -304,23 +300,20 @@ pub member_breaks : (bytes : List ℕ) (start at room : ℕ) (ms : List Member) 
 member_breaks bytes start at room ms test e has broken = λ outer fits. led e _ _ (has.same outer fits) (broken outer ms has.keys fits)
 
 -- an object, up to where a member ends
-pub record MemberRead (bytes : List ℕ) (start end room : ℕ) (ms : List Member) (k : List ℕ) (v : Value) : Type 0 where
-  pub read : (outer : List Frame) → length outer + (room + 1) ≡ depth_limit → scan bytes start outer first_key ≡ scan bytes end (in_object ms k ∷ outer) (ended v)
+member_added : (bytes : List ℕ) (start at end room : ℕ) (ms : List Member) (test : List ℕ → Bool) (k : List ℕ) (v : Value) → HasMembers bytes start at room ms test
+    → ReadsMember test bytes at end room k v → (outer : List Frame) → length outer + (room + 1) ≡ depth_limit → scan bytes start outer first_key ≡ scan bytes end (in_object ms k ∷ outer) (ended v)
+member_added bytes start at end room ms test k v has r outer fits = has.same outer fits ∙ r outer ms has.keys fits
 
-pub member_added : (bytes : List ℕ) (start at end room : ℕ) (ms : List Member) (test : List ℕ → Bool) (k : List ℕ) (v : Value) → HasMembers bytes start at room ms test
-    → ReadsMember test bytes at end room k v → MemberRead bytes start end room ms k v
-member_added bytes start at end room ms test k v has r = record { read = λ outer fits. has.same outer fits ∙ r outer ms has.keys fits }
-
-pub object_breaks : (bytes : List ℕ) (start end room : ℕ) (ms : List Member) (k : List ℕ) (v : Value) (e : JsonFault) → MemberRead bytes start end room ms k v
+pub object_breaks : (bytes : List ℕ) (start at end room : ℕ) (ms : List Member) (test : List ℕ → Bool) (k : List ℕ) (v : Value) (e : JsonFault) → HasMembers bytes start at room ms test → ReadsMember test bytes at end room k v
     → LacksToken (λ c. (c ≡ 44 → ⊥) × (c ≡ 125 → ⊥)) bytes end e → BreaksInside bytes start first_key room e
 unfolding step ended_step close_step finish finish_value
-object_breaks bytes start end room ms k v e r none = λ outer fits. led e _ _ (r.read outer fits)
+object_breaks bytes start at end room ms test k v e has r none = λ outer fits. led e _ _ (member_added bytes start at end room ms test k v has r outer fits)
     (lacks _ bytes end (in_object ms k ∷ outer) (ended v) e none tt (λ at. refl) (λ at c space no. rw (space, ne_eqb c 44 no.0, ne_eqb c 125 no.1) refl))
 
-pub object_closes : (bytes : List ℕ) (start end past room : ℕ) (ms : List Member) (k : List ℕ) (v : Value) → MemberRead bytes start end room ms k v
+pub object_closes : (bytes : List ℕ) (start at end past room : ℕ) (ms : List Member) (test : List ℕ → Bool) (k : List ℕ) (v : Value) → HasMembers bytes start at room ms test → ReadsMember test bytes at end room k v
     → PassesToken bytes end past 125 → ReadsInside bytes start first_key past room (object (members_of (ms ++ (k, v) ∷ [])))
 unfolding step ended_step close_step
-object_closes bytes start end past room ms k v r p = λ outer fits. r.read outer fits
+object_closes bytes start at end past room ms test k v has r p = λ outer fits. member_added bytes start at end room ms test k v has r outer fits
     ∙ passed bytes end past 125 (in_object ms k ∷ outer) outer (ended v) (ended (object (members_of (ms ++ (k, v) ∷ [])))) p tt (λ at. refl)
 
 or-false : (b : Bool) → (b || false) ≡ b
@@ -335,14 +328,14 @@ pub has_key-push : (ms : List Member) (k : List ℕ) (v : Value) (q : List ℕ) 
 has_key-push [] k v q = or-false (bytes_eq k q)
 has_key-push (m ∷ ms) k v q = ap (λ b. bytes_eq m.0 q || b) (has_key-push ms k v q) ∙ or-assoc (bytes_eq m.0 q) (has_key (members_of ms) q) (bytes_eq k q)
 
-pub members_go_on : (bytes : List ℕ) (start end past room : ℕ) (ms : List Member) (k : List ℕ) (v : Value) (test more : List ℕ → Bool) → MemberRead bytes start end room ms k v
-    → HasKeys test ms → AddsKey test more k → PassesToken bytes end past 44 → start ≤ past → HasMembers bytes start past room (ms ++ (k, v) ∷ []) more
+pub members_go_on : (bytes : List ℕ) (start at end past room : ℕ) (ms : List Member) (test more : List ℕ → Bool) (k : List ℕ) (v : Value) → HasMembers bytes start at room ms test → ReadsMember test bytes at end room k v
+    → AddsKey test more k → PassesToken bytes end past 44 → start ≤ past → HasMembers bytes start past room (ms ++ (k, v) ∷ []) more
 unfolding step ended_step close_step
-members_go_on bytes start end past room ms k v test more r keys adds p le = record {
+members_go_on bytes start at end past room ms test more k v has r adds p le = record {
   forward = le;
   within = omega (arith, p.is, p.found.token.1);
-  keys = λ q. adds q ∙ (ap (λ b. b || bytes_eq k q) (keys q) ∙ sym (has_key-push ms k v q));
-  same = λ outer fits. r.read outer fits
+  keys = λ q. adds q ∙ (ap (λ b. b || bytes_eq k q) (has.keys q) ∙ sym (has_key-push ms k v q));
+  same = λ outer fits. member_added bytes start at end room ms test k v has r outer fits
       ∙ passed bytes end past 44 (in_object ms k ∷ outer) outer (ended v) (key_wanted (ms ++ (k, v) ∷ [])) p tt (λ at. refl);
 }
 
