@@ -1,25 +1,26 @@
--- A form reads what it writes, and nothing else: the law of a long form from those of the short ones that it is made of.
-use Rattle.std.proofs.Common.{◌≡◌, ℕ, zero, suc, Bool, true, List, [], ◌∷◌, ◌++◌, length, drop, All, Option, Some, None, refl, sym, ap, subst, ◌∙◌, append_assoc, arith, cond, inl, inr, ◌⊎◌, ◌+◌, ◌-◌, ◌/◌, ◌%◌, ◌^◌, ◌<◌, ◌≤◌, false, get_or, take, ℤ, pos, negsuc, unsigned_abs, ⊎_elim, not, ◌&&◌, ◌||◌, nat_eq, nat_lt, nat_le, ◌≢◌}
-use Rattle.std.specs.Prelude.{IfSome, codes}
+-- How many digits a number's text has.
+use Rattle.std.proofs.Common.{ℕ, ℤ, ◌+◌, ◌/◌, ◌^◌, ◌<◌, ◌≤◌, length, unsigned_abs, arith, ◌≡◌, zero, suc, ◌-◌, ◌*◌, true, false, List, [], ◌∷◌, get_or, take, sym, ap, ◌∙◌, Bool, ◌++◌, drop, All, Option, Some, None, refl, subst, append_assoc, cond, inl, inr, ◌⊎◌, ◌%◌, pos, negsuc, ⊎_elim, not, ◌&&◌, ◌||◌, nat_eq, nat_lt, nat_le, ◌≢◌}
+use Rattle.std.specs.Prelude.{◌↔◌, IfSome, codes}
+use Rattle.std.proofs.Math.Nat.{pow-le-pow_right}
+use Rattle.std.proofs.lemmas.Int.Digits.{digits_value-lt, digits_value_more}
+use Rattle.uc_model.specs.Decimal.{whole_text, minus_text, signed_text, digit_byte}
+use Rattle.uc_model.proofs.DecimalText.{whole_text_digits, digits_value-whole_text, length-whole_text-le, whole_text_nonempty, whole_text-digits_value, first_whole_text, whole_text_digit, whole_text_bytes, digit_value-digit_byte}
+use Rattle.std.specs.Char.{digit_value}
+use Rattle.std.specs.Str.Parse.{digits_value, AllDigits}
+use Rattle.std.proofs.lemmas.List.Sums.{prefix_len_is, prefix_len-le-length}
+use Rattle.std.proofs.lemmas.Grind.{common_steps}
+use Rattle.cert_text.specs.inside.Forms.{is_digit, run, run_value, ◌>>=◌, Form, text_at, after, ended, both, mapped, passing, fixed, when, times, begins_with, is_whole, whole_at, decimals_at, signed_at, with_sign, negative, millionths, millionths_at, money_at, ordinal_at, or_else}
 use Rattle.std.specs.List.{flat_map, starts_with}
 use Rattle.std.proofs.lemmas.Bool.Decides.{Decides-eqb, Decides-int_eq}
 use Rattle.std.proofs.lemmas.List.{drop_at, take_at, take-append-drop, length-append, length-take-le, get_or-take, get_or_append_left}
 use Rattle.std.proofs.lemmas.List.Elements.{All-nil, All-cons, All-head, All-tail}
 use Rattle.std.proofs.lemmas.Option.{same_Some, cond_some}
 use Rattle.std.proofs.lemmas.Slice.Eq.{starts_is}
-use Rattle.cert_text.specs.inside.Forms.{◌>>=◌, Form, text_at, after, ended, both, mapped, passing, fixed, when, times, is_digit, run, run_value, begins_with, is_whole, whole_at, decimals_at, signed_at, with_sign, negative, millionths, millionths_at, money_at, ordinal_at, or_else}
 use Rattle.cert_text.proofs.Loops.{after_text}
-use Rattle.std.specs.Char.{digit_value}
-use Rattle.std.specs.Str.Parse.{digits_value, AllDigits}
 use Rattle.std.proofs.lemmas.Bool.{ltb-true, leb-true, lt-ltb, le-leb, eqb-true, ne_eqb, cases_eq, and_parts, eq-eqb, false≢true, and_from, or_cases, or_left, or_right, not-true, not_from_false, false_from_ne_true}
-use Rattle.std.proofs.lemmas.Int.Digits.{digits_value-lt}
-use Rattle.std.proofs.lemmas.List.Sums.{prefix_len-le-length}
-use Rattle.uc_model.specs.Decimal.{whole_text, minus_text, signed_text, digit_byte}
 use Rattle.uc_model.specs.Money.{six_digits, millionths_text, money_text}
-use Rattle.uc_model.proofs.DecimalText.{whole_text_digits, whole_text_nonempty, digits_value-whole_text, length-whole_text-le, whole_text-digits_value, first_whole_text, whole_text_digit, whole_text_bytes, digit_value-digit_byte}
 use Rattle.uc_model.proofs.MoneyText.{length-six_digits, six_digits-digits_value, six_digits_injective, money_text_bytes, money_text_nonempty}
 use Rattle.cert_text.specs.TextConditions.{HasDigits, IsMoney, IsOnCell, IsOffCell, IsCellText, IsThermalRow, IsRenewableRow, IsRampText}
-use Rattle.std.proofs.Math.Nat.{pow-le-pow_right}
 use Rattle.uc_model.specs.declared.schedule.Cell.{Cell}
 use Rattle.outside.specs.Lines.{line, list_line}
 use Rattle.cert_text.specs.CertificateText.{version_line, size_line, claim_line, cell_text, thermal_line, renewable_line, scale_line, prices_line, end_line, ramp_line}
@@ -31,6 +32,64 @@ use Rattle.dual_model.specs.Prices.{IsRowBefore}
 use Rattle.dual_model.specs.declared.table.RampRow.{RampRow}
 use Rattle.cert_text.specs.Nodes.{TreeNode, LeafNode, SplitNode, node_line, IsNodeWithin}
 
+-- a text of few digits is one of a small number
+small-from-digits : (digits n : ℕ) → length (whole_text n) ≤ digits → n < 10 ^ digits
+small-from-digits digits n short =
+    let value = digits_value-lt 10 (whole_text n) (whole_text_digits n) in
+    let power : 10 ^ length (whole_text n) ≤ 10 ^ digits = pow-le-pow_right {n = 10} (omega arith) short in
+    omega (arith, value, digits_value-whole_text n, power)
+
+pub digits_range : (digits n : ℕ) → 0 < digits → (length (whole_text n) ≤ digits) ↔ (n < 10 ^ digits)
+digits_range digits n some = (small-from-digits digits n, length-whole_text-le digits n some)
+
+pub money_range : (n : ℤ) → (length (whole_text (unsigned_abs n / 1000000)) + 6 ≤ 38) ↔ (unsigned_abs n < 10 ^ 38)
+money_range n =
+    let dollars = unsigned_abs n / 1000000 in
+    let range = digits_range 32 dollars (omega arith) in (
+      λ short. let small : dollars < 10 ^ 32 = range.0 (omega arith) in omega arith,
+      λ small. let few : length (whole_text dollars) ≤ 32 = range.1 (omega arith) in omega arith,
+    )
+
+-- ---- The digits at the front of bytes.
+-- a digit of a byte is the byte less that of `0`
+digit_value_is : (c : ℕ) → is_digit c ≡ true → (digit_value c ≡ c - 48) × (c - 48 < 10)
+digit_value_is c e = grind arith
+
+-- a digit more
+pub number_more : (bytes : List ℕ) (count value digit : ℕ) → count < length bytes → is_digit (get_or bytes count 0) ≡ true
+    → value ≡ digits_value 10 (take count bytes) → digit ≡ get_or bytes count 0 - 48
+    → value * 10 + digit ≡ digits_value 10 (take (count + 1) bytes)
+number_more bytes count value digit lt e number is =
+    let d = digit_value_is (get_or bytes count 0) e in
+    omega (arith, digits_value_more 10 bytes count lt, d)
+
+pub digit_bound : (c digit : ℕ) → is_digit c ≡ true → digit ≡ c - 48 → digit < 10
+digit_bound c digit e is = omega (arith, digit_value_is c e)
+
+pub power_more : (k : ℕ) → 10 ^ (k + 1) ≡ 10 * 10 ^ k
+power_more k = grind (arith, common_steps)
+
+-- a number of less than 38 digits is far below the greatest of 128 bits
+pub small_power : (k : ℕ) → k ≤ 37 → 10 ^ k ≤ 10 ^ 37
+small_power k few = pow-le-pow_right {n = 10} (omega arith) few
+
+-- where the digits end
+pub run_is : (bytes : List ℕ) (count value : ℕ) → count ≤ length bytes → ((k : ℕ) → k < count → is_digit (get_or bytes k 0) ≡ true)
+    → (count < length bytes → is_digit (get_or bytes count 0) ≡ false) → value ≡ digits_value 10 (take count bytes)
+    → (count ≡ run bytes) × (value ≡ run_value bytes)
+run_is bytes count value within digits stops number =
+    let e = prefix_len_is is_digit bytes count 0 within digits stops in
+    (sym e, number ∙ ap (λ n. digits_value 10 (take n bytes)) (sym e))
+
+pub run_longer : (bytes : List ℕ) (count : ℕ) → count ≤ length bytes → ((k : ℕ) → k < count → is_digit (get_or bytes k 0) ≡ true) → count ≤ run bytes
+run_longer bytes zero within digits = omega arith
+run_longer [] (suc count) within digits = absurd (omega arith)
+run_longer (b ∷ bytes) (suc count) within digits = rw (digits 0 (omega arith)) (omega (arith, run_longer bytes count (omega arith) (λ k lt. digits (suc k) (omega arith))))
+
+pub power_of_18 : (k : ℕ) → k ≤ 18 → 10 ^ k ≤ 1000000000000000000
+power_of_18 k few = let power : 10 ^ k ≤ 10 ^ 18 = pow-le-pow_right {n = 10} (omega arith) few in omega (arith, power)
+
+-- ---- A form reads what it writes, and nothing else: the law of a long form from those of the short ones that it is made of.
 -- what is read is valid, and its text is what stood there; and the text of what is valid is read, whatever follows as it may
 pub record IsForm {A : Type 0} (form : Form A) (Valid : A → Type 0) (text : A → List ℕ) (Follows : List ℕ → Type 0) : Type 0 where
   pub takes : (bytes : List ℕ) (x : A × List ℕ) → form bytes ≡ Some x → Valid x.0 × (bytes ≡ text x.0 ++ x.1)

@@ -18,7 +18,7 @@ ghost use Rattle.cert_text.specs.TextConditions.{IsMoney, IsScheduleText, HasTex
 
 /// A number is within its range exactly where its text has no more digits than the range says, those of the
 /// decimals of money among them.
-#[tactic(auto, using(crate::proofs::Digits::digits_range, crate::proofs::Digits::money_range))]
+#[tactic(auto, using(crate::proofs::FormLaws::digits_range, crate::proofs::FormLaws::money_range))]
 pub fn ranges_count_digits()
     ensures whole { (digits n : ℕ) → 0 < digits → (length (whole_text n) ≤ digits) ↔ (n < 10 ^ digits) }
     ensures money { (n : ℤ) → (length (whole_text (unsigned_abs n / 1000000)) + 6 ≤ 38) ↔ IsMoney n }
@@ -26,7 +26,7 @@ pub fn ranges_count_digits()
 
 /// The certificate of an answer, whose tree keeps what every tree keeps, has a text where its schedule has one, its bound is in
 /// the range of money, and the rows of its tables can be counted.
-#[tactic(auto, using(crate::proofs::FoundTexts::found_has_text))]
+#[tactic(auto, using(crate::proofs::Parts::found_has_text))]
 pub fn found_certificates_have_text()
     ensures { (instance : Instance) (found : Found) → IsLawfulInstance instance → IsWhole found.tree
         → CertificateHolds instance (certificate_of instance found)
