@@ -28,11 +28,10 @@ use Rattle.instance.specs.InstanceOf.{Pairs, IsInstanceOf}
 use Rattle.instance.specs.Held.{PAST_LIMITS}
 use Rattle.instance.specs.SameNumber.{SaySame, MOST_DIGITS, IsShort}
 use Rattle.instance.specs.Numbers.{with_numbers, items_with, members_with, AllNumbers, AllItems, AllMembers}
-use Rattle.instance.proofs.Steps.{not_zero_again}
+use Rattle.instance.proofs.UnitLaws.{not_zero_again, instance_is, instance_again}
 use Rattle.instance.specs.Rounded.{rounded_value, rounded_field, entries_field, members_field, members_of_value, rounded_array, rounded_start_row, rounded_point, rounded_startup, rounded_points, rounded_outputs, rounded_ramps, rounded_times, rounded_initial, rounded_thermal, rounded_renewable, rounded_thermal_units, rounded_renewable_units, rounded_totals, rounded_instance}
 use Rattle.decimal_json.specs.Number.{held_decimal}
 use Rattle.instance.proofs.Sizes.{itself, held_says_same}
-use Rattle.instance.proofs.UnitLaws.{instance_is, instance_again}
 
 -- ---- results
 

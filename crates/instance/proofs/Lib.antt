@@ -1,7 +1,6 @@
 pub mod Views
 pub mod Lists
 pub mod Loops
-pub mod Steps
 pub mod UnitLaws
 pub mod LawfulInstance
 pub mod Sizes
