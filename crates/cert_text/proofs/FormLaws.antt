@@ -1,15 +1,95 @@
--- A form reads what it writes, and nothing else: the law of a long form from those of the short ones that it is made of.
-use Rattle.std.proofs.Common.{◌≡◌, ℕ, zero, suc, Bool, true, List, [], ◌∷◌, ◌++◌, length, drop, All, Option, Some, None, refl, sym, ap, subst, ◌∙◌, append_assoc, arith, cond, ⊎_elim, ◌⊎◌}
-use Rattle.std.specs.Prelude.{nat_eq}
+-- How many digits a number's text has.
+use Rattle.std.proofs.Common.{ℕ, ℤ, ◌+◌, ◌/◌, ◌^◌, ◌<◌, ◌≤◌, length, unsigned_abs, arith, ◌≡◌, zero, suc, ◌-◌, ◌*◌, true, false, List, [], ◌∷◌, get_or, take, sym, ap, ◌∙◌, Bool, ◌++◌, drop, All, Option, Some, None, refl, subst, append_assoc, cond, inl, inr, ◌⊎◌, ◌%◌, pos, negsuc, ⊎_elim, not, ◌&&◌, ◌||◌, nat_eq, nat_lt, nat_le, ◌≢◌}
+use Rattle.std.specs.Prelude.{◌↔◌, IfSome, codes}
+use Rattle.std.proofs.Math.Nat.{pow-le-pow_right}
+use Rattle.std.proofs.lemmas.Int.Digits.{digits_value-lt, digits_value_more}
+use Rattle.uc_model.specs.Decimal.{whole_text, minus_text, signed_text, digit_byte}
+use Rattle.uc_model.proofs.DecimalText.{whole_text_digits, digits_value-whole_text, length-whole_text-le, whole_text_nonempty, whole_text-digits_value, first_whole_text, whole_text_digit, whole_text_bytes, digit_value-digit_byte}
+use Rattle.std.specs.Char.{digit_value}
+use Rattle.std.specs.Str.Parse.{digits_value, AllDigits}
+use Rattle.std.proofs.lemmas.List.Sums.{prefix_len_is, prefix_len-le-length}
+use Rattle.std.proofs.lemmas.Grind.{common_steps}
+use Rattle.cert_text.specs.inside.Forms.{is_digit, run, run_value, ◌>>=◌, Form, text_at, after, ended, both, mapped, passing, fixed, when, times, begins_with, is_whole, whole_at, decimals_at, signed_at, with_sign, negative, millionths, millionths_at, money_at, ordinal_at, or_else}
 use Rattle.std.specs.List.{flat_map, starts_with}
-use Rattle.std.proofs.lemmas.Bool.Decides.{Decides-eqb}
-use Rattle.std.proofs.lemmas.List.{drop_at}
+use Rattle.std.proofs.lemmas.Bool.Decides.{Decides-eqb, Decides-int_eq}
+use Rattle.std.proofs.lemmas.List.{drop_at, take_at, take-append-drop, length-append, length-take-le, get_or-take, get_or_append_left}
 use Rattle.std.proofs.lemmas.List.Elements.{All-nil, All-cons, All-head, All-tail}
 use Rattle.std.proofs.lemmas.Option.{same_Some, cond_some}
 use Rattle.std.proofs.lemmas.Slice.Eq.{starts_is}
-use Rattle.cert_text.specs.inside.Forms.{◌>>=◌, Form, text_at, after, ended, both, mapped, passing, fixed, when, times}
 use Rattle.cert_text.proofs.Loops.{after_text}
+use Rattle.std.proofs.lemmas.Bool.{ltb-true, leb-true, lt-ltb, le-leb, eqb-true, ne_eqb, cases_eq, and_parts, eq-eqb, false≢true, and_from, or_cases, or_left, or_right, not-true, not_from_false, false_from_ne_true}
+use Rattle.uc_model.specs.Money.{six_digits, millionths_text, money_text}
+use Rattle.uc_model.proofs.MoneyText.{length-six_digits, six_digits-digits_value, six_digits_injective, money_text_bytes, money_text_nonempty}
+use Rattle.cert_text.specs.TextConditions.{HasDigits, IsMoney, IsOnCell, IsOffCell, IsCellText, IsThermalRow, IsRenewableRow, IsRampText}
+use Rattle.uc_model.specs.declared.schedule.Cell.{Cell}
+use Rattle.outside.specs.Lines.{line, list_line}
+use Rattle.cert_text.specs.CertificateText.{version_line, size_line, claim_line, cell_text, thermal_line, renewable_line, scale_line, prices_line, end_line, ramp_line}
+use Rattle.cert_text.specs.Grammar.{Sizes, AreSizes, schedule_line, ramp_count_line, IsRampAfter}
+use Rattle.cert_text.specs.inside.LineForms.{version_at, sizes_of, are_sizes, size_at, claim_at, schedule_at, on_cell, off_cell, on_cell_at, cell_at, row_at, scale_at, ramp_count_at, end_at, ramp_row, rises, is_ramp, ramp_at, named_at, split_at, node_at}
+use Rattle.std.specs.Ordering.{int_eq}
+use Rattle.dual_model.specs.Cover.{Bound, Ray, Empty}
+use Rattle.dual_model.specs.Prices.{IsRowBefore}
+use Rattle.dual_model.specs.declared.table.RampRow.{RampRow}
+use Rattle.cert_text.specs.Nodes.{TreeNode, LeafNode, SplitNode, node_line, IsNodeWithin}
 
+-- a text of few digits is one of a small number
+small-from-digits : (digits n : ℕ) → length (whole_text n) ≤ digits → n < 10 ^ digits
+small-from-digits digits n short =
+    let value = digits_value-lt 10 (whole_text n) (whole_text_digits n) in
+    let power : 10 ^ length (whole_text n) ≤ 10 ^ digits = pow-le-pow_right {n = 10} (omega arith) short in
+    omega (arith, value, digits_value-whole_text n, power)
+
+pub digits_range : (digits n : ℕ) → 0 < digits → (length (whole_text n) ≤ digits) ↔ (n < 10 ^ digits)
+digits_range digits n some = (small-from-digits digits n, length-whole_text-le digits n some)
+
+pub money_range : (n : ℤ) → (length (whole_text (unsigned_abs n / 1000000)) + 6 ≤ 38) ↔ (unsigned_abs n < 10 ^ 38)
+money_range n =
+    let dollars = unsigned_abs n / 1000000 in
+    let range = digits_range 32 dollars (omega arith) in (
+      λ short. let small : dollars < 10 ^ 32 = range.0 (omega arith) in omega arith,
+      λ small. let few : length (whole_text dollars) ≤ 32 = range.1 (omega arith) in omega arith,
+    )
+
+-- ---- The digits at the front of bytes.
+-- a digit of a byte is the byte less that of `0`
+digit_value_is : (c : ℕ) → is_digit c ≡ true → (digit_value c ≡ c - 48) × (c - 48 < 10)
+digit_value_is c e = grind arith
+
+-- a digit more
+pub number_more : (bytes : List ℕ) (count value digit : ℕ) → count < length bytes → is_digit (get_or bytes count 0) ≡ true
+    → value ≡ digits_value 10 (take count bytes) → digit ≡ get_or bytes count 0 - 48
+    → value * 10 + digit ≡ digits_value 10 (take (count + 1) bytes)
+number_more bytes count value digit lt e number is =
+    let d = digit_value_is (get_or bytes count 0) e in
+    omega (arith, digits_value_more 10 bytes count lt, d)
+
+pub digit_bound : (c digit : ℕ) → is_digit c ≡ true → digit ≡ c - 48 → digit < 10
+digit_bound c digit e is = omega (arith, digit_value_is c e)
+
+pub power_more : (k : ℕ) → 10 ^ (k + 1) ≡ 10 * 10 ^ k
+power_more k = grind (arith, common_steps)
+
+-- a number of less than 38 digits is far below the greatest of 128 bits
+pub small_power : (k : ℕ) → k ≤ 37 → 10 ^ k ≤ 10 ^ 37
+small_power k few = pow-le-pow_right {n = 10} (omega arith) few
+
+-- where the digits end
+pub run_is : (bytes : List ℕ) (count value : ℕ) → count ≤ length bytes → ((k : ℕ) → k < count → is_digit (get_or bytes k 0) ≡ true)
+    → (count < length bytes → is_digit (get_or bytes count 0) ≡ false) → value ≡ digits_value 10 (take count bytes)
+    → (count ≡ run bytes) × (value ≡ run_value bytes)
+run_is bytes count value within digits stops number =
+    let e = prefix_len_is is_digit bytes count 0 within digits stops in
+    (sym e, number ∙ ap (λ n. digits_value 10 (take n bytes)) (sym e))
+
+pub run_longer : (bytes : List ℕ) (count : ℕ) → count ≤ length bytes → ((k : ℕ) → k < count → is_digit (get_or bytes k 0) ≡ true) → count ≤ run bytes
+run_longer bytes zero within digits = omega arith
+run_longer [] (suc count) within digits = absurd (omega arith)
+run_longer (b ∷ bytes) (suc count) within digits = rw (digits 0 (omega arith)) (omega (arith, run_longer bytes count (omega arith) (λ k lt. digits (suc k) (omega arith))))
+
+pub power_of_18 : (k : ℕ) → k ≤ 18 → 10 ^ k ≤ 1000000000000000000
+power_of_18 k few = let power : 10 ^ k ≤ 10 ^ 18 = pow-le-pow_right {n = 10} (omega arith) few in omega (arith, power)
+
+-- ---- A form reads what it writes, and nothing else: the law of a long form from those of the short ones that it is made of.
 -- what is read is valid, and its text is what stood there; and the text of what is valid is read, whatever follows as it may
 pub record IsForm {A : Type 0} (form : Form A) (Valid : A → Type 0) (text : A → List ℕ) (Follows : List ℕ → Type 0) : Type 0 where
   pub takes : (bytes : List ℕ) (x : A × List ℕ) → form bytes ≡ Some x → Valid x.0 × (bytes ≡ text x.0 ++ x.1)
@@ -84,25 +164,36 @@ both-form {A} {B} {first} {second} {V} {W} {t} {s} {F} {G} h k follows = record 
       ∙ rw (h.again p.0 (s p.1 ++ rest) v.0 (follows p.1 rest v.1 g), k.again p.1 rest v.1 g) refl;
 }
 
--- the same form read as another type, which can be read back
+-- the same condition or text in other words
+pub form-as : {A : Type 0} {form : Form A} {V : A → Type 0} {t : A → List ℕ} {F : List ℕ → Type 0} → IsForm form V t F
+    → (W : A → Type 0) (s : A → List ℕ) → ((a : A) → V a → W a) → ((a : A) → W a → V a) → ((a : A) → V a → t a ≡ s a) → IsForm form W s F
+form-as {A} {form} {V} {t} {F} h W s there back same = record {
+  takes = λ bytes x e. let one = h.takes bytes x e in (there x.0 one.0, one.1 ∙ ap (λ text. text ++ x.1) (same x.0 one.0));
+  again = λ a rest w f. ap (λ text. form (text ++ rest)) (sym (same a (back a w))) ∙ h.again a rest (back a w) f;
+}
+
+-- the same form read as another type
+pub image-form : {A B : Type 0} {form : Form A} {V : A → Type 0} {t : A → List ℕ} {F : List ℕ → Type 0} → IsForm form V t F
+    → (f : A → B) (s : B → List ℕ) → ((a : A) → V a → t a ≡ s (f a)) → IsForm (mapped f form) (λ b. (a : A) × V a × (f a ≡ b)) s F
+image-form {A} {B} {form} {V} {t} {F} h f s same = record {
+  takes = λ bytes x e.
+      let b = bind_some (form bytes) (λ x. Some (f x.0, x.1)) x e in
+      let one = h.takes bytes b.0 b.1 in
+      subst (λ (x : B × List ℕ). ((a : A) × V a × (f a ≡ x.0)) × (bytes ≡ s x.0 ++ x.1)) (same_Some (f b.0.0, b.0.1) x b.2)
+      ((b.0.0, one.0, refl), one.1 ∙ ap (λ text. text ++ b.0.1) (same b.0.0 one.0));
+  again = λ b rest w follows.
+      ap (λ text. mapped f form (text ++ rest)) (ap s (sym w.2) ∙ sym (same w.0 w.1)) ∙ rw (h.again w.0 rest w.1 follows) (ap (λ (b : B). Some (b, rest)) w.2);
+}
+
+-- where the other type can be read back
 pub record IsRetold {A B : Type 0} (f : A → B) (g : B → A) (V : A → Type 0) (W : B → Type 0) (t : A → List ℕ) (s : B → List ℕ) : Type 0 where
   pub there : (a : A) → V a → W (f a) × (t a ≡ s (f a))
   pub back : (b : B) → W b → V (g b) × (f (g b) ≡ b)
 
 pub mapped-form : {A B : Type 0} {form : Form A} {V : A → Type 0} {t : A → List ℕ} {F : List ℕ → Type 0} → IsForm form V t F
     → (f : A → B) (g : B → A) (W : B → Type 0) (s : B → List ℕ) → IsRetold f g V W t s → IsForm (mapped f form) W s F
-mapped-form {A} {B} {form} {V} {t} {F} h f g W s retold = record {
-  takes = λ bytes x e.
-      let b = bind_some (form bytes) (λ x. Some (f x.0, x.1)) x e in
-      let one = h.takes bytes b.0 b.1 in
-      let there = retold.there b.0.0 one.0 in
-      subst (λ (x : B × List ℕ). W x.0 × (bytes ≡ s x.0 ++ x.1)) (same_Some (f b.0.0, b.0.1) x b.2)
-      (there.0, one.1 ∙ ap (λ text. text ++ b.0.1) there.1);
-  again = λ b rest w follows.
-      let back = retold.back b w in
-      let same : s b ≡ t (g b) = ap s (sym back.1) ∙ sym (retold.there (g b) back.0).1 in
-      ap (λ text. mapped f form (text ++ rest)) same ∙ rw (h.again (g b) rest back.0 follows) (ap (λ (b : B). Some (b, rest)) back.1);
-}
+mapped-form h f g W s retold =
+    form-as (image-form h f s (λ a v. (retold.there a v).1)) W s (λ b w. subst W w.2 (retold.there w.0 w.1).0) (λ b w. let back = retold.back b w in (g b, back.0, back.1)) (λ b v. refl)
 
 -- a test of what is read
 pub passing-form : {A : Type 0} {form : Form A} {V : A → Type 0} {t : A → List ℕ} {F : List ℕ → Type 0} → IsForm form V t F
@@ -114,14 +205,6 @@ passing-form {A} {form} {V} {t} {F} h test W there back = record {
       let passed = cond_some (test b.0.0) b.0 x b.2 in
       subst (λ (x : A × List ℕ). W x.0 × (bytes ≡ t x.0 ++ x.1)) passed.1 (there b.0.0 one.0 passed.0, one.1);
   again = λ a rest w f. rw (h.again a rest (back a w).0 f, (back a w).1) refl;
-}
-
--- the same condition or text in other words
-pub form-as : {A : Type 0} {form : Form A} {V : A → Type 0} {t : A → List ℕ} {F : List ℕ → Type 0} → IsForm form V t F
-    → (W : A → Type 0) (s : A → List ℕ) → ((a : A) → V a → W a) → ((a : A) → W a → V a) → ((a : A) → t a ≡ s a) → IsForm form W s F
-form-as {A} {form} {V} {t} {F} h W s there back same = record {
-  takes = λ bytes x e. let one = h.takes bytes x e in (there x.0 one.0, one.1 ∙ ap (λ text. text ++ x.1) (same x.0));
-  again = λ a rest w f. ap (λ text. form (text ++ rest)) (sym (same a)) ∙ h.again a rest (back a w) f;
 }
 
 -- the form so many times, where what follows it may be itself
@@ -147,11 +230,10 @@ times-form {A} {form} {V} {t} {F} h follows n = record { takes = taken n; again 
 
     read : (n : ℕ) (xs : List A) (rest : List ℕ) → (length xs ≡ n) × All V xs → F rest → times n form (flat_map t xs ++ rest) ≡ Some (xs, rest)
     read zero [] rest v f = refl
-    read zero (x ∷ xs) rest v f = absurd (omega arith)
-    read (suc n) [] rest v f = absurd (omega arith)
     read (suc n) (x ∷ xs) rest v f =
         ap (times (suc n) form) (append_assoc (t x) (flat_map t xs) rest)
         ∙ rw (h.again x (flat_map t xs ++ rest) (All-head V x xs v.1) (goes_on xs rest f), read n xs rest (omega arith, All-tail V x xs v.1) f) refl
+    read _ _ rest v f = absurd (omega arith)
 
 -- nothing stands for the value
 pub empty-form : {A : Type 0} (value : A) → IsForm (λ rest. Some (value, rest)) (λ a. a ≡ value) (λ _. []) Anything
@@ -160,33 +242,549 @@ empty-form {A} value = record {
   again = λ a rest v f. ap (λ (a : A). Some (a, rest)) (sym v);
 }
 
--- a form behind a text, or else another one, whose texts don't begin with this text
-pub record IsChoice {A : Type 0} (text : List ℕ) (V W U : A → Type 0) (t s u : A → List ℕ) : Type 0 where
-  pub first : (a : A) → V a → U a × (text ++ t a ≡ u a)
-  pub second : (a : A) → W a → U a × (s a ≡ u a)
-  pub cases : (a : A) → U a → V a ⊎ W a
-  pub apart : (a : A) (rest : List ℕ) → W a → text_at text (s a ++ rest) ≡ None
+-- made of a value, or another one
+abbrev pub IsChosen : {A B : Type 0} → (B → Type 0) → (B → A) → (A → Type 0) → A → Type 0
+IsChosen {A} {B} V f W a = ((b : B) × V b × (f b ≡ a)) ⊎ W a
 
-pub when-form : {A : Type 0} {form other : Form A} {V W U : A → Type 0} {t s u : A → List ℕ} → IsForm form V t Anything → IsForm other W s Anything
-    → (text : List ℕ) → IsChoice text V W U t s u → IsForm (λ bytes. when (text_at text bytes) form (other bytes)) U u Anything
-when-form {A} {form} {other} {V} {W} {U} {t} {s} {u} h k text choice = record { takes = λ bytes x e. taken bytes x (text_at text bytes) refl e; again = read }
+-- a form behind a text, read as another type, or else another form, whose texts don't begin with this text
+pub choice-form : {A B : Type 0} {form : Form B} {other : Form A} {V : B → Type 0} {W : A → Type 0} {t : B → List ℕ} {u : A → List ℕ} → IsForm form V t Anything → (f : B → A) → IsForm other W u Anything
+    → (text : List ℕ) → ((b : B) → V b → text ++ t b ≡ u (f b)) → ((a : A) (rest : List ℕ) → W a → text_at text (u a ++ rest) ≡ None)
+    → IsForm (λ bytes. when (text_at text bytes) (mapped f form) (other bytes)) (IsChosen V f W) u Anything
+choice-form {A} {B} {form} {other} {V} {W} {t} {u} h f k text same apart = record { takes = λ bytes x e. taken bytes x (text_at text bytes) refl e; again = read }
   where
-    taken : (bytes : List ℕ) (x : A × List ℕ) (o : Option (List ℕ)) → text_at text bytes ≡ o → when o form (other bytes) ≡ Some x → U x.0 × (bytes ≡ u x.0 ++ x.1)
-    taken bytes x None e f =
-        let one = k.takes bytes x f in
-        let there = choice.second x.0 one.0 in
-        (there.0, one.1 ∙ ap (λ text. text ++ x.1) there.1)
-    taken bytes x (Some rest) e f =
-        let one = h.takes rest x f in
-        let there = choice.first x.0 one.0 in
-        (there.0, text_at-takes text bytes rest e ∙ ap (λ rest. text ++ rest) one.1 ∙ sym (append_assoc text (t x.0) x.1) ∙ ap (λ text. text ++ x.1) there.1)
+    taken : (bytes : List ℕ) (x : A × List ℕ) (o : Option (List ℕ)) → text_at text bytes ≡ o → when o (mapped f form) (other bytes) ≡ Some x → IsChosen V f W x.0 × (bytes ≡ u x.0 ++ x.1)
+    taken bytes x None e g = let one = k.takes bytes x g in (inr one.0, one.1)
+    taken bytes x (Some rest) e g =
+        let b = bind_some (form rest) (λ y. Some (f y.0, y.1)) x g in
+        let one = h.takes rest b.0 b.1 in
+        subst (λ (x : A × List ℕ). IsChosen V f W x.0 × (bytes ≡ u x.0 ++ x.1)) (same_Some (f b.0.0, b.0.1) x b.2) (
+          inl (b.0.0, one.0, refl),
+          text_at-takes text bytes rest e ∙ ap (λ rest. text ++ rest) one.1 ∙ sym (append_assoc text (t b.0.0) b.0.1) ∙ ap (λ text. text ++ b.0.1) (same b.0.0 one.0),
+        )
 
-    read : (a : A) (rest : List ℕ) → U a → Anything rest → when (text_at text (u a ++ rest)) form (other (u a ++ rest)) ≡ Some (a, rest)
-    read a rest v f = ⊎_elim
-        (λ (one : V a).
-        let same : u a ++ rest ≡ text ++ (t a ++ rest) = ap (λ text. text ++ rest) (sym (choice.first a one).1) ∙ append_assoc text (t a) rest in
-        ap (λ bytes. when (text_at text bytes) form (other bytes)) same ∙ rw (text_at-again text (t a ++ rest)) (h.again a rest one f))
-        (λ (two : W a).
-        let same : u a ++ rest ≡ s a ++ rest = ap (λ text. text ++ rest) (sym (choice.second a two).1) in
-        ap (λ bytes. when (text_at text bytes) form (other bytes)) same ∙ rw (choice.apart a rest two) (k.again a rest two f))
-        (choice.cases a v)
+    read : (a : A) (rest : List ℕ) → IsChosen V f W a → Anything rest → when (text_at text (u a ++ rest)) (mapped f form) (other (u a ++ rest)) ≡ Some (a, rest)
+    read a rest (inl (b, v, e)) g =
+        let parts : u a ++ rest ≡ text ++ (t b ++ rest) = ap (λ a. u a ++ rest) (sym e) ∙ ap (λ text. text ++ rest) (sym (same b v)) ∙ append_assoc text (t b) rest in
+        ap (λ bytes. when (text_at text bytes) (mapped f form) (other bytes)) parts ∙ rw (text_at-again text (t b ++ rest), h.again b rest v g) (ap (λ (a : A). Some (a, rest)) e)
+    read a rest (inr w) g = rw (apart a rest w) (k.again a rest w g)
+
+-- ---- The forms of numbers read their texts.
+-- what stands there doesn't begin with a digit
+abbrev pub NoDigit : List ℕ → Type 0
+NoDigit rest = run rest ≡ 0
+
+-- ---- runs of digits
+run-digits : (ds rest : List ℕ) → AllDigits 10 ds → NoDigit rest → run (ds ++ rest) ≡ length ds
+run-digits [] rest all none = none
+run-digits (d ∷ ds) rest all none =
+    let yes : is_digit d ≡ true = grind (arith, all.0) in
+    rw yes (omega (arith, run-digits ds rest all.1 none))
+
+digits_of_run : (bytes : List ℕ) → AllDigits 10 (take (run bytes) bytes)
+digits_of_run [] = tt
+digits_of_run (b ∷ bytes) = by_test (is_digit b) (digits_of_run bytes) refl
+  where
+    by_test : (t : Bool) → AllDigits 10 (take (run bytes) bytes) → is_digit b ≡ t → AllDigits 10 (take (cond t (1 + run bytes) 0) (b ∷ bytes))
+    by_test true more e = let one : 1 + run bytes ≡ suc (run bytes) = omega arith in rw one (ltb-true (digit_value b) 10 e, more)
+    by_test false more e = tt
+
+run-le : (bytes : List ℕ) → run bytes ≤ length bytes
+run-le bytes = prefix_len-le-length is_digit bytes
+
+begins_with-get_or : (c : ℕ) (bytes : List ℕ) → 0 < length bytes → begins_with c bytes ≡ nat_eq (get_or bytes 0 0) c
+begins_with-get_or c [] some = absurd (omega arith)
+begins_with-get_or c (b ∷ bytes) some = refl
+
+-- a zero before another digit fails the test
+lead_from_test : (bytes : List ℕ) → 0 < run bytes → (not (begins_with 48 bytes) || nat_eq (run bytes) 1) ≡ true
+    → get_or (take (run bytes) bytes) 0 0 ≡ 48 → length (take (run bytes) bytes) ≡ 1
+lead_from_test bytes some test zero_first =
+    let first : get_or bytes 0 0 ≡ 48 = sym (get_or-take (run bytes) bytes 0 0 some) ∙ zero_first in
+    let begins : begins_with 48 bytes ≡ true = begins_with-get_or 48 bytes (omega (arith, run-le bytes)) ∙ rw first refl in
+    let one : nat_eq (run bytes) 1 ≡ true = sym (ap (λ b. not b || nat_eq (run bytes) 1) begins) ∙ test in
+    length-take-le (run bytes) bytes (run-le bytes) ∙ eqb-true (run bytes) 1 one
+
+-- and the text of a number passes it
+lead_of_text : (n : ℕ) (rest : List ℕ) → (not (begins_with 48 (whole_text n ++ rest)) || nat_eq (length (whole_text n)) 1) ≡ true
+lead_of_text zero rest = rw (whole_text_digit 0 (omega arith)) refl
+lead_of_text (suc n) rest =
+    let some : 0 < length (whole_text (suc n) ++ rest) = omega (arith, length-append (whole_text (suc n)) rest, whole_text_nonempty (suc n)) in
+    let first = get_or_append_left (whole_text (suc n)) rest 0 0 (whole_text_nonempty (suc n)) in
+    let large = first_whole_text (suc n) (omega arith) in
+    let other : nat_eq (get_or (whole_text (suc n) ++ rest) 0 0) 48 ≡ false = ne_eqb (get_or (whole_text (suc n) ++ rest) 0 0) 48 (λ e. omega arith) in
+    rw (begins_with-get_or 48 (whole_text (suc n) ++ rest) some ∙ other) refl
+
+pub whole-form : (digits : ℕ) → 0 < digits → IsForm (whole_at digits) (λ n. n < 10 ^ digits) whole_text NoDigit
+unfolding whole_at
+whole-form digits some = record {
+  takes = λ bytes x e.
+      let passed = cond_some (is_whole digits bytes) (run_value bytes, drop (run bytes) bytes) x e in
+      let tests = and_parts (nat_lt 0 (run bytes) && nat_le (run bytes) digits) (not (begins_with 48 bytes) || nat_eq (run bytes) 1) passed.0 in
+      let sizes = and_parts (nat_lt 0 (run bytes)) (nat_le (run bytes) digits) tests.0 in
+      let positive : 0 < run bytes = ltb-true 0 (run bytes) sizes.0 in
+      let few : run bytes ≤ digits = leb-true (run bytes) digits sizes.1 in
+      let ds = take (run bytes) bytes in
+      let long : length ds ≡ run bytes = length-take-le (run bytes) bytes (run-le bytes) in
+      let text = whole_text-digits_value ds (digits_of_run bytes) (omega arith) (lead_from_test bytes positive tests.1) in
+      let power : 10 ^ length ds ≤ 10 ^ digits = pow-le-pow_right {n = 10} (omega arith) (omega arith) in
+      subst (λ (x : ℕ × List ℕ). (x.0 < 10 ^ digits) × (bytes ≡ whole_text x.0 ++ x.1)) passed.1 (
+        omega (arith, digits_value-lt 10 ds (digits_of_run bytes), power),
+        sym (take-append-drop (run bytes) bytes) ∙ ap (λ text. text ++ drop (run bytes) bytes) (sym text),
+      );
+  again = λ n rest small none.
+      let ds = whole_text n in
+      let long : run (ds ++ rest) ≡ length ds = run-digits ds rest (whole_text_digits n) none in
+      let positive = whole_text_nonempty n in
+      let few = length-whole_text-le digits n some small in
+      let test : is_whole digits (ds ++ rest) ≡ true = rw (long, lt-ltb 0 (length ds) positive, le-leb (length ds) digits few) (lead_of_text n rest) in
+      let value : run_value (ds ++ rest) ≡ n = rw (long, take_at ds rest (length ds) refl) (digits_value-whole_text n) in
+      let after : drop (run (ds ++ rest)) (ds ++ rest) ≡ rest = rw (long, drop_at ds rest (length ds) refl) refl in
+      rw test (λ i. Some (value i, after i));
+}
+
+-- ---- decimals
+decimals_are_digits : (n : ℕ) → AllDigits 10 (six_digits n)
+unfolding six_digits
+decimals_are_digits n = (digit 5, (digit 4, (digit 3, (digit 2, (digit 1, (digit 0, tt))))))
+  where
+    digit : (power : ℕ) → digit_value (digit_byte (n / 10 ^ power % 10)) < 10
+    digit power = omega (arith, digit_value-digit_byte (n / 10 ^ power % 10) (omega arith))
+
+decimals_value : (n : ℕ) → n < 1000000 → digits_value 10 (six_digits n) ≡ n
+decimals_value n small =
+    let bound = digits_value-lt 10 (six_digits n) (decimals_are_digits n) in
+    let power : 10 ^ length (six_digits n) ≡ 1000000 = ap (λ k. 10 ^ k) (length-six_digits n) in
+    six_digits_injective (digits_value 10 (six_digits n)) n (omega arith) small
+    (six_digits-digits_value (six_digits n) (length-six_digits n) (decimals_are_digits n))
+
+pub decimals-form : IsForm decimals_at (λ n. n < 1000000) six_digits NoDigit
+unfolding decimals_at
+decimals-form = record {
+  takes = λ bytes x e.
+      let passed = cond_some (nat_eq (run bytes) 6) (run_value bytes, drop (run bytes) bytes) x e in
+      let six : run bytes ≡ 6 = eqb-true (run bytes) 6 passed.0 in
+      let ds = take (run bytes) bytes in
+      let long : length ds ≡ 6 = length-take-le (run bytes) bytes (run-le bytes) ∙ six in
+      let power : 10 ^ length ds ≡ 1000000 = ap (λ k. 10 ^ k) long in
+      let text = six_digits-digits_value ds long (digits_of_run bytes) in
+      subst (λ (x : ℕ × List ℕ). (x.0 < 1000000) × (bytes ≡ six_digits x.0 ++ x.1)) passed.1 (
+        omega (arith, digits_value-lt 10 ds (digits_of_run bytes), power),
+        sym (take-append-drop (run bytes) bytes) ∙ ap (λ text. text ++ drop (run bytes) bytes) (sym text),
+      );
+  again = λ n rest small none.
+      let ds = six_digits n in
+      let long : run (ds ++ rest) ≡ 6 = run-digits ds rest (decimals_are_digits n) none ∙ length-six_digits n in
+      let value : run_value (ds ++ rest) ≡ n = rw (long, take_at ds rest 6 (length-six_digits n)) (decimals_value n small) in
+      let after : drop (run (ds ++ rest)) (ds ++ rest) ≡ rest = rw (long, drop_at ds rest 6 (length-six_digits n)) refl in
+      rw (eq-eqb (run (ds ++ rest)) 6 long) (λ i. Some (value i, after i));
+}
+
+-- ---- signs
+-- a form with a minus before it or not, where its own texts begin with none
+pub with_sign-form : {form : Form ℕ} {V : ℕ → Type 0} {t : ℕ → List ℕ} {F : List ℕ → Type 0} → IsForm form V t F
+    → ((n : ℕ) (rest : List ℕ) → begins_with 45 (t n ++ rest) ≡ false)
+    → IsForm (with_sign form) (λ z. V (unsigned_abs z)) (λ z. minus_text z ++ t (unsigned_abs z)) F
+with_sign-form {form} {V} {t} {F} h no_minus = record { takes = taken; again = read }
+  where
+    plain : (bytes : List ℕ) (x : ℤ × List ℕ) → (form bytes >>= λ x. Some (pos x.0, x.1)) ≡ Some x
+        → V (unsigned_abs x.0) × (bytes ≡ (minus_text x.0 ++ t (unsigned_abs x.0)) ++ x.1)
+    plain bytes x e =
+        let b = bind_some (form bytes) (λ x. Some (pos x.0, x.1)) x e in
+        subst (λ (x : ℤ × List ℕ). V (unsigned_abs x.0) × (bytes ≡ (minus_text x.0 ++ t (unsigned_abs x.0)) ++ x.1)) (same_Some (pos b.0.0, b.0.1) x b.2) (h.takes bytes b.0 b.1)
+
+    minus : (n : ℕ) (bytes rest : List ℕ) (x : ℤ × List ℕ) → (negative n >>= λ z. Some (z, rest)) ≡ Some x → V n → bytes ≡ t n ++ rest
+        → V (unsigned_abs x.0) × (45 ∷ bytes ≡ (minus_text x.0 ++ t (unsigned_abs x.0)) ++ x.1)
+    minus zero bytes rest x e v parts = absurd cc
+    minus (suc n) bytes rest x e v parts =
+        subst (λ (x : ℤ × List ℕ). V (unsigned_abs x.0) × (45 ∷ bytes ≡ (minus_text x.0 ++ t (unsigned_abs x.0)) ++ x.1)) (same_Some (negsuc n, rest) x e)
+        (v, ap (λ (bs : List ℕ). 45 ∷ bs) parts)
+
+    taken : (bytes : List ℕ) (x : ℤ × List ℕ) → with_sign form bytes ≡ Some x
+        → V (unsigned_abs x.0) × (bytes ≡ (minus_text x.0 ++ t (unsigned_abs x.0)) ++ x.1)
+    taken [] x e = plain [] x e
+    taken (c ∷ bytes) x e = ⊎_elim
+        (λ (same : c ≡ 45).
+        let with_minus : (form bytes >>= λ x. negative x.0 >>= λ z. Some (z, x.1)) ≡ Some x = rw (eq-eqb c 45 same) at e in
+        let b = bind_some (form bytes) (λ x. negative x.0 >>= λ z. Some (z, x.1)) x with_minus in
+        let one = h.takes bytes b.0 b.1 in
+        rw same (minus b.0.0 bytes b.0.1 x b.2 one.0 one.1))
+        (λ (other : c ≡ 45 → ⊥). plain (c ∷ bytes) x (rw (ne_eqb c 45 other) at e))
+        (cases_eq c 45)
+
+    read : (z : ℤ) (rest : List ℕ) → V (unsigned_abs z) → F rest → with_sign form ((minus_text z ++ t (unsigned_abs z)) ++ rest) ≡ Some (z, rest)
+    read (pos n) rest v f = rw (no_minus n rest, h.again n rest v f) refl
+    read (negsuc n) rest v f = rw (h.again (suc n) rest v f) refl
+
+whole_begins : (n : ℕ) (rest : List ℕ) → begins_with 45 (whole_text n ++ rest) ≡ false
+whole_begins n rest =
+    let some : 0 < length (whole_text n ++ rest) = omega (arith, length-append (whole_text n) rest, whole_text_nonempty n) in
+    let first = get_or_append_left (whole_text n) rest 0 0 (whole_text_nonempty n) in
+    let byte = whole_text_bytes n 0 0 (whole_text_nonempty n) in
+    begins_with-get_or 45 (whole_text n ++ rest) some ∙ ne_eqb (get_or (whole_text n ++ rest) 0 0) 45 (λ e. omega arith)
+
+pub signed-form : (digits : ℕ) → 0 < digits → IsForm (signed_at digits) (HasDigits digits) signed_text NoDigit
+unfolding signed_at signed_text
+signed-form digits some = with_sign-form (whole-form digits some) whole_begins
+
+-- ---- money
+pub millionths-form : IsForm millionths_at (λ n. n < 10 ^ 38) millionths_text NoDigit
+unfolding millionths_at millionths_text
+millionths-form =
+    mapped-form (both-form (ended-form (whole-form 32 (omega arith)) (46 ∷ []) (λ rest. refl)) decimals-form (λ n rest v none. tt))
+    millionths (λ n. (n / 1000000, n % 1000000)) (λ n. n < 10 ^ 38) millionths_text (record {
+      there = λ p v.
+          let whole : millionths p / 1000000 ≡ p.0 = omega (arith, v.1) in
+          let rest : millionths p % 1000000 ≡ p.1 = omega (arith, v.1) in
+          (omega (arith, v.0, v.1), append_assoc (whole_text p.0) (46 ∷ []) (six_digits p.1) ∙ (λ i. whole_text (sym whole i) ++ 46 ∷ six_digits (sym rest i)));
+      back = λ n v. ((omega (arith, v), omega arith), omega arith);
+    })
+
+millionths_begin : (n : ℕ) (rest : List ℕ) → begins_with 45 (millionths_text n ++ rest) ≡ false
+unfolding millionths_text
+millionths_begin n rest =
+    ap (begins_with 45) (append_assoc (whole_text (n / 1000000)) (46 ∷ six_digits (n % 1000000)) rest) ∙ whole_begins (n / 1000000) (46 ∷ (six_digits (n % 1000000) ++ rest))
+
+pub money-form : IsForm money_at IsMoney money_text NoDigit
+unfolding money_at money_text
+money-form = with_sign-form millionths-form millionths_begin
+
+-- ---- numbers from 1 on
+pub ordinal-form : IsForm ordinal_at (λ n. suc n < 10 ^ 18) (λ n. whole_text (suc n)) NoDigit
+unfolding ordinal_at
+ordinal-form =
+    mapped-form (passing-form (whole-form 18 (omega arith)) (λ n. nat_lt 0 n) (λ n. (0 < n) × (n < 10 ^ 18)) (λ n v e. (ltb-true 0 n e, v)) (λ n w. (w.1, lt-ltb 0 n w.0)))
+    (λ n. n - 1) suc (λ n. suc n < 10 ^ 18) (λ n. whole_text (suc n)) (record {
+      there = λ n v. let one : n ≡ suc (n - 1) = omega (arith, v.0) in (omega (arith, v.0, v.1), ap whole_text one);
+      back = λ n w. ((omega arith, w), omega arith);
+    })
+
+-- ---- The forms of single lines read the lines of the grammar.
+-- ---- lines of one number
+-- a number up to a space or the end of its line
+pub last_whole : IsForm (ended (whole_at 18) (codes "\n")) (λ n. n < 10 ^ 18) (λ n. whole_text n ++ codes "\n") Anything
+last_whole = ended-form (whole-form 18 (omega arith)) (codes "\n") (λ rest. refl)
+
+spaced_whole : IsForm (ended (whole_at 18) (codes " ")) (λ n. n < 10 ^ 18) (λ n. whole_text n ++ codes " ") Anything
+spaced_whole = ended-form (whole-form 18 (omega arith)) (codes " ") (λ rest. refl)
+
+pub scale-form : IsForm scale_at (λ k. k < 10 ^ 18) (λ k. scale_line (pos k)) Anything
+unfolding scale_at line signed_text
+scale-form = after-form last_whole (codes "table ")
+
+pub ramp_count-form : IsForm ramp_count_at (λ count. count < 10 ^ 18) ramp_count_line Anything
+unfolding ramp_count_at line
+ramp_count-form = after-form last_whole (codes "ramps ")
+
+last_money : IsForm (ended money_at (codes "\n")) IsMoney (λ z. money_text z ++ codes "\n") Anything
+last_money = ended-form money-form (codes "\n") (λ rest. refl)
+
+-- ---- the heading
+pub version-form : IsForm version_at (λ _. Unit {0}) (λ _. version_line 1) Anything
+unfolding version_at line
+version-form = form-as (fixed-form _ tt) (λ _. Unit {0}) (λ _. version_line 1) (λ a v. tt) (λ a v. refl) (λ a v. rw (whole_text_digit 1 (omega arith)) refl)
+
+pub end-form : IsForm end_at (λ _. Unit {0}) (λ _. end_line) Anything
+unfolding end_at line
+end-form = form-as (fixed-form _ tt) (λ _. Unit {0}) (λ _. end_line) (λ a v. tt) (λ a v. refl) (λ a v. refl)
+
+sizes_from_test : (size : Sizes) → are_sizes size ≡ true → AreSizes size
+sizes_from_test size e =
+    let a = and_parts (nat_le 1 size.periods) (nat_le size.periods 168 && (nat_le size.thermal 4096 && (nat_le size.renewable 4096 && nat_lt size.tables 4294967296))) e in
+    let b = and_parts (nat_le size.periods 168) (nat_le size.thermal 4096 && (nat_le size.renewable 4096 && nat_lt size.tables 4294967296)) a.1 in
+    let c = and_parts (nat_le size.thermal 4096) (nat_le size.renewable 4096 && nat_lt size.tables 4294967296) b.1 in
+    let d = and_parts (nat_le size.renewable 4096) (nat_lt size.tables 4294967296) c.1 in
+    record {
+      some_period = leb-true 1 size.periods a.0;
+      periods = leb-true size.periods 168 b.0;
+      thermal = leb-true size.thermal 4096 c.0;
+      renewable = leb-true size.renewable 4096 d.0;
+      tables = omega (arith, ltb-true size.tables 4294967296 d.1);
+    }
+
+sizes_pass : (size : Sizes) → AreSizes size → are_sizes size ≡ true
+sizes_pass size h =
+    rw (le-leb 1 size.periods h.some_period, le-leb size.periods 168 h.periods, le-leb size.thermal 4096 h.thermal, le-leb size.renewable 4096 h.renewable)
+    (lt-ltb size.tables 4294967296 (omega (arith, h.tables)))
+
+pub size-form : IsForm size_at AreSizes (λ size. size_line size.periods size.thermal size.renewable size.tables) Anything
+unfolding size_at line
+size-form =
+    passing-form (mapped-form (after-form (both-form spaced_whole (both-form spaced_whole (both-form spaced_whole last_whole (λ b rest v f. tt)) (λ b rest v f. tt)) (λ b rest v f. tt)) (codes "size "))
+    sizes_of (λ size. (size.periods, (size.thermal, (size.renewable, size.tables))))
+    (λ size. (size.periods < 10 ^ 18) × (size.thermal < 10 ^ 18) × (size.renewable < 10 ^ 18) × (size.tables < 10 ^ 18))
+    (λ size. size_line size.periods size.thermal size.renewable size.tables) (record {
+      there = λ p v. ((v.0, v.1.0, v.1.1.0, v.1.1.1), simp append_assoc);
+      back = λ size w. ((w.0, (w.1, (w.2, w.3))), refl);
+    }))
+    are_sizes AreSizes (λ size v e. sizes_from_test size e)
+    (λ size w. ((omega (arith, w.periods), omega (arith, w.thermal), omega (arith, w.renewable), omega (arith, w.tables)), sizes_pass size w))
+
+-- money that there is
+abbrev IsMoneyOf : Option ℤ → Type 0
+IsMoneyOf o = (z : ℤ) × IsMoney z × (Some z ≡ o)
+
+if_some : (o : Option ℤ) → IsMoneyOf o ⊎ (o ≡ None) → IfSome o IsMoney
+if_some o (inl v) = subst (λ (o : Option ℤ). IfSome o IsMoney) v.2 v.1
+if_some o (inr none) = rw none tt
+
+money_or_none : (o : Option ℤ) → IfSome o IsMoney → IsMoneyOf o ⊎ (o ≡ None)
+money_or_none None v = inr refl
+money_or_none (Some z) v = inl (z, v, refl)
+
+pub claim-form : IsForm claim_at (λ bound. IfSome bound IsMoney) claim_line Anything
+unfolding claim_at line text_at
+claim-form =
+    form-as (choice-form last_money Some infeasible (codes "claim bound ") (λ z v. refl) (λ o rest w. rw w refl)) (λ bound. IfSome bound IsMoney) claim_line if_some money_or_none (λ o v. refl)
+  where
+    infeasible : IsForm (fixed (codes "claim infeasible\n") None) (λ o. o ≡ None) claim_line Anything
+    infeasible = form-as (fixed-form (codes "claim infeasible\n") None) (λ o. o ≡ None) claim_line (λ o v. v) (λ o w. w) (λ o v. rw v refl)
+
+none_from : {A : Type 0} (o : Option A) → ((a : A) → o ≡ Some a → ⊥) → o ≡ None
+none_from None h = refl
+none_from (Some a) h = absurd (h a refl)
+
+-- money doesn't begin with a letter
+money_is_no_word : (z : ℤ) (more rest other : List ℕ) → (money_text z ++ more) ++ rest ≡ 110 ∷ other → ⊥
+money_is_no_word z more rest other e =
+    let byte = money_text_bytes z 0 0 (money_text_nonempty z) in
+    let first = get_or_append_left (money_text z) (more ++ rest) 0 0 (money_text_nonempty z) in
+    let same = ap (λ bs. get_or bs 0 0) (sym (append_assoc (money_text z) more rest) ∙ e) in
+    omega arith
+
+no_schedule_text : (z : ℤ) (more rest r : List ℕ) → text_at (codes "schedule none\n") ((codes "schedule " ++ (money_text z ++ more)) ++ rest) ≡ Some r → ⊥
+no_schedule_text z more rest r e =
+    let bytes : List ℕ = (codes "schedule " ++ (money_text z ++ more)) ++ rest in
+    let same : bytes ≡ codes "schedule none\n" ++ r = text_at-takes (codes "schedule none\n") bytes r e in
+    money_is_no_word z more rest (codes "one\n" ++ r) (ap (drop 9) same)
+
+abbrev money_line : Option ℤ → List ℕ
+money_line None = []
+money_line (Some z) = money_text z ++ codes "\n"
+
+pub schedule-form : IsForm schedule_at (λ cost. IfSome cost IsMoney) schedule_line Anything
+unfolding schedule_at line text_at
+schedule-form =
+    form-as (choice-form (empty-form tt) (λ _. None) second (codes "schedule none\n") (λ _ v. refl) apart) (λ cost. IfSome cost IsMoney) schedule_line there back (λ o v. refl)
+  where
+    second : IsForm (after (codes "schedule ") (mapped Some (ended money_at (codes "\n")))) IsMoneyOf schedule_line Anything
+    second = form-as (after-form (image-form last_money Some money_line (λ z v. refl)) (codes "schedule ")) IsMoneyOf schedule_line (λ o v. v) (λ o w. w)
+        (λ o v. subst (λ (o : Option ℤ). codes "schedule " ++ money_line o ≡ schedule_line o) v.2 refl)
+
+    apart : (o : Option ℤ) (rest : List ℕ) → IsMoneyOf o → text_at (codes "schedule none\n") (schedule_line o ++ rest) ≡ None
+    apart o rest v = subst (λ (o : Option ℤ). text_at (codes "schedule none\n") (schedule_line o ++ rest) ≡ None) v.2 (none_from _ (λ r e. no_schedule_text v.0 (codes "\n") rest r e))
+
+    there : (o : Option ℤ) → ((b : Unit {0}) × (b ≡ tt) × (None ≡ o)) ⊎ IsMoneyOf o → IfSome o IsMoney
+    there o (inl v) = subst (λ (o : Option ℤ). IfSome o IsMoney) v.2 tt
+    there o (inr v) = if_some o (inl v)
+
+    back : (o : Option ℤ) → IfSome o IsMoney → ((b : Unit {0}) × (b ≡ tt) × (None ≡ o)) ⊎ IsMoneyOf o
+    back None v = inl (tt, refl, refl)
+    back (Some z) v = inr (z, v, refl)
+
+-- ---- cells
+pub spaced_signed : (digits : ℕ) → 0 < digits → (end : ℕ) → is_digit end ≡ false → IsForm (ended (signed_at digits) (end ∷ [])) (HasDigits digits) (λ z. signed_text z ++ end ∷ []) Anything
+spaced_signed digits some end none = ended-form (signed-form digits some) (end ∷ []) (λ rest. rw none refl)
+
+abbrev on_text : Cell → List ℕ
+on_text cell = (signed_text cell.p ++ codes ":") ++ ((signed_text cell.r ++ codes ":") ++ whole_text cell.category)
+
+pub on_cell-form : IsForm on_cell_at (λ cell. (cell.on ≡ true) × IsOnCell cell) on_text NoDigit
+unfolding on_cell_at
+on_cell-form =
+    mapped-form (both-form (spaced_signed 15 (omega arith) 58 refl)
+    (both-form (spaced_signed 15 (omega arith) 58 refl)
+    (passing-form (whole-form 18 (omega arith)) (λ n. nat_le n 255) (λ n. n ≤ 255) (λ n v e. leb-true n 255 e) (λ n w. (omega (arith, w), le-leb n 255 w)))
+    (λ b rest v f. tt)) (λ b rest v f. tt))
+    on_cell (λ cell. (cell.p, (cell.r, cell.category))) (λ cell. (cell.on ≡ true) × IsOnCell cell) on_text (record {
+      there = λ p v. ((refl, record { output = v.0; reserve = v.1.0; category = v.1.1 }), refl);
+      back = λ cell w. ((w.1.output, (w.1.reserve, w.1.category)), λ i. record { on = sym w.0 i; p = cell.p; r = cell.r; category = cell.category });
+    })
+
+-- a minus before no digit begins no cell that is on
+no_on_cell : (rest : List ℕ) → NoDigit rest → on_cell_at (45 ∷ rest) ≡ None
+unfolding on_cell_at signed_at whole_at
+no_on_cell rest none = rw none refl
+
+pub cell-form : IsForm cell_at IsCellText cell_text NoDigit
+unfolding cell_at
+cell-form = record { takes = λ bytes x e. taken bytes x (on_cell_at bytes) refl e; again = read }
+  where
+    on_is : (cell : Cell) → cell.on ≡ true → on_text cell ≡ cell_text cell
+    on_is cell on = rw on (simp append_assoc)
+
+    taken : (bytes : List ℕ) (x : Cell × List ℕ) (o : Option (Cell × List ℕ)) → on_cell_at bytes ≡ o → or_else o (fixed (codes "-") off_cell bytes) ≡ Some x
+        → IsCellText x.0 × (bytes ≡ cell_text x.0 ++ x.1)
+    taken bytes x None e f =
+        let off = (fixed-form (codes "-") off_cell).takes bytes x f in
+        subst (λ (cell : Cell). IsCellText cell × (bytes ≡ cell_text cell ++ x.1)) (sym off.0)
+        (record { on = λ e. absurd (false≢true e); off = λ e. record { output = refl; reserve = refl; category = refl } }, off.1)
+    taken bytes x (Some y) e f =
+        let on = on_cell-form.takes bytes x (e ∙ f) in
+        (record { on = λ e. on.0.1; off = λ e. absurd (false≢true (sym e ∙ on.0.0)) }, on.1 ∙ ap (λ text. text ++ x.1) (on_is x.0 on.0.0))
+
+    off_is : (cell : Cell) → cell.on ≡ false → IsOffCell cell → off_cell ≡ cell
+    off_is cell off blank = λ i. record { on = sym off i; p = sym blank.output i; r = sym blank.reserve i; category = sym blank.category i }
+
+    read_by : (cell : Cell) (rest : List ℕ) (on : Bool) → cell.on ≡ on → IsCellText cell → NoDigit rest
+        → or_else (on_cell_at (cell_text cell ++ rest)) (fixed (codes "-") off_cell (cell_text cell ++ rest)) ≡ Some (cell, rest)
+    read_by cell rest true e v f =
+        ap (λ text. or_else (on_cell_at (text ++ rest)) (fixed (codes "-") off_cell (text ++ rest))) (sym (on_is cell e))
+        ∙ rw (on_cell-form.again cell rest (e, v.on e) f) refl
+    read_by cell rest false e v f =
+        let same = off_is cell e (v.off e) in
+        subst (λ (cell : Cell). or_else (on_cell_at (cell_text cell ++ rest)) (fixed (codes "-") off_cell (cell_text cell ++ rest)) ≡ Some (cell, rest)) same
+        (rw (no_on_cell rest f) ((fixed-form (codes "-") off_cell).again off_cell rest refl tt))
+
+    read : (cell : Cell) (rest : List ℕ) → IsCellText cell → NoDigit rest
+        → or_else (on_cell_at (cell_text cell ++ rest)) (fixed (codes "-") off_cell (cell_text cell ++ rest)) ≡ Some (cell, rest)
+    read cell rest v f = read_by cell rest cell.on refl v f
+
+-- ---- lines of words
+pub row-form : {A : Type 0} {word : Form A} {V : A → Type 0} {t : A → List ℕ} → IsForm word V t NoDigit → (first : List ℕ) (n : ℕ)
+    → IsForm (row_at first n word) (λ xs. (length xs ≡ n) × All V xs) (list_line first t) Anything
+unfolding list_line
+row-form h first n = after-form (ended-form (times-form (after-form h (codes " ")) (λ a rest. refl) n) (codes "\n") (λ rest. refl)) first
+
+pub thermal-form : (periods : ℕ) → IsForm (row_at (codes "t") periods cell_at) (IsThermalRow periods) thermal_line Anything
+thermal-form periods = form-as (row-form cell-form (codes "t") periods) (IsThermalRow periods) thermal_line (λ row v. record { cells = v.0; written = v.1 }) (λ row w. (w.cells, w.written)) (λ row v. refl)
+
+pub renewable-form : (periods : ℕ) → IsForm (row_at (codes "w") periods (signed_at 15)) (IsRenewableRow periods) renewable_line Anything
+renewable-form periods =
+    form-as (row-form (signed-form 15 (omega arith)) (codes "w") periods) (IsRenewableRow periods) renewable_line (λ row v. record { outputs = v.0; written = v.1 }) (λ row w. (w.outputs, w.written)) (λ row v. refl)
+
+pub prices-form : (word : List ℕ) (periods : ℕ) → IsForm (row_at word periods (signed_at 18)) (λ prices. (length prices ≡ periods) × All (HasDigits 18) prices) (prices_line word) Anything
+prices-form word periods = row-form (signed-form 18 (omega arith)) word periods
+
+-- ---- The forms of ramp rows and of nodes read their lines.
+spaced_ordinal : (end : ℕ) → is_digit end ≡ false → IsForm (ended ordinal_at (end ∷ [])) (λ n. suc n < 10 ^ 18) (λ n. whole_text (suc n) ++ end ∷ []) Anything
+spaced_ordinal end none = ended-form ordinal-form (end ∷ []) (λ rest. rw none refl)
+
+-- ---- ramp rows
+is_present : (up down : ℤ) → (not (int_eq up (pos 0)) || not (int_eq down (pos 0))) ≡ true → (up ≢ pos 0) ⊎ (down ≢ pos 0)
+is_present up down e = ⊎_elim
+    (λ (u : not (int_eq up (pos 0)) ≡ true). inl (λ z. false≢true (sym (not-true (int_eq up (pos 0)) u) ∙ (Decides-int_eq up (pos 0)).1 z)))
+    (λ (d : not (int_eq down (pos 0)) ≡ true). inr (λ z. false≢true (sym (not-true (int_eq down (pos 0)) d) ∙ (Decides-int_eq down (pos 0)).1 z)))
+    (or_cases (not (int_eq up (pos 0))) (not (int_eq down (pos 0))) e)
+
+present_passes : (up down : ℤ) → (up ≢ pos 0) ⊎ (down ≢ pos 0) → (not (int_eq up (pos 0)) || not (int_eq down (pos 0))) ≡ true
+present_passes up down h = ⊎_elim
+    (λ (u : up ≢ pos 0). or_left (not (int_eq up (pos 0))) (not (int_eq down (pos 0))) (not_from_false (int_eq up (pos 0)) (false_from_ne_true (int_eq up (pos 0)) (λ e. u ((Decides-int_eq up (pos 0)).0 e)))))
+    (λ (d : down ≢ pos 0). or_right (not (int_eq up (pos 0))) (not (int_eq down (pos 0))) (not_from_false (int_eq down (pos 0)) (false_from_ne_true (int_eq down (pos 0)) (λ e. d ((Decides-int_eq down (pos 0)).0 e)))))
+    h
+
+rises_from_test : (before : Option RampRow) (row : RampRow) → rises before row ≡ true → IfSome before (λ earlier. IsRowBefore earlier row)
+rises_from_test None row e = tt
+rises_from_test (Some earlier) row e = record {
+  before = ⊎_elim
+      (λ (one : nat_lt earlier.g row.g ≡ true). inl (ltb-true earlier.g row.g one))
+      (λ (two : (nat_eq earlier.g row.g && nat_lt earlier.t row.t) ≡ true).
+      let both = and_parts (nat_eq earlier.g row.g) (nat_lt earlier.t row.t) two in
+      inr (eqb-true earlier.g row.g both.0, ltb-true earlier.t row.t both.1))
+      (or_cases (nat_lt earlier.g row.g) (nat_eq earlier.g row.g && nat_lt earlier.t row.t) e);
+}
+
+rise_passes : (before : Option RampRow) (row : RampRow) → IfSome before (λ earlier. IsRowBefore earlier row) → rises before row ≡ true
+rise_passes None row h = refl
+rise_passes (Some earlier) row h = ⊎_elim
+    (λ (one : earlier.g < row.g). or_left (nat_lt earlier.g row.g) (nat_eq earlier.g row.g && nat_lt earlier.t row.t) (lt-ltb earlier.g row.g one))
+    (λ (two : (earlier.g ≡ row.g) × (earlier.t < row.t)).
+    or_right (nat_lt earlier.g row.g) (nat_eq earlier.g row.g && nat_lt earlier.t row.t)
+    (and_from (nat_eq earlier.g row.g) (nat_lt earlier.t row.t) (eq-eqb earlier.g row.g two.0) (lt-ltb earlier.t row.t two.1)))
+    h.before
+
+-- a row as it is written, before it is tested
+record IsRowText (row : RampRow) : Type 0 where
+  g : suc row.g < 10 ^ 18
+  t : suc row.t < 10 ^ 18
+  numbers : IsRampText row
+
+ramp_from_test : (size : Sizes) (before : Option RampRow) (row : RampRow) → IsRowText row → is_ramp size before row ≡ true → IsRampAfter size before row
+ramp_from_test size before row h e =
+    let present = not (int_eq row.up (pos 0)) || not (int_eq row.down (pos 0)) in
+    let a = and_parts (nat_lt row.g size.thermal) (nat_lt row.t size.periods && (present && rises before row)) e in
+    let b = and_parts (nat_lt row.t size.periods) (present && rises before row) a.1 in
+    let c = and_parts present (rises before row) b.1 in
+    record {
+      within = record { unit = ltb-true row.g size.thermal a.0; period = ltb-true row.t size.periods b.0; present = is_present row.up row.down c.0 };
+      written = h.numbers;
+      rises = rises_from_test before row c.1;
+    }
+
+ramp_passes : (size : Sizes) (before : Option RampRow) (row : RampRow) → IsRampAfter size before row → is_ramp size before row ≡ true
+ramp_passes size before row h =
+    rw (lt-ltb row.g size.thermal h.within.unit, lt-ltb row.t size.periods h.within.period, present_passes row.up row.down h.within.present)
+    (rise_passes before row h.rises)
+
+pub ramp-form : (size : Sizes) → AreSizes size → (before : Option RampRow) → IsForm (ramp_at size before) (IsRampAfter size before) ramp_line Anything
+unfolding ramp_at line
+ramp-form size lawful before =
+    passing-form (mapped-form
+    (after-form (both-form (spaced_ordinal 32 refl) (both-form (spaced_ordinal 32 refl) (both-form (spaced_signed 18 (omega arith) 32 refl) (spaced_signed 18 (omega arith) 10 refl)
+    (λ b rest v f. tt)) (λ b rest v f. tt)) (λ b rest v f. tt)) (codes "ramp "))
+    ramp_row (λ row. (row.g, (row.t, (row.up, row.down)))) IsRowText ramp_line (record {
+      there = λ p v. (record { g = v.0; t = v.1.0; numbers = record { up = v.1.1.0; down = v.1.1.1 } }, simp append_assoc);
+      back = λ row w. ((w.g, (w.t, (w.numbers.up, w.numbers.down))), refl);
+    }))
+    (is_ramp size before) (IsRampAfter size before) (ramp_from_test size before)
+    (λ row w. (record { g = omega (arith, w.within.unit, lawful.thermal); t = omega (arith, w.within.period, lawful.periods); numbers = w.written }, ramp_passes size before row w))
+
+-- ---- nodes
+named-form : (count : ℕ) → count ≤ 4294967296 → IsForm (named_at count) (λ n. n < count) (λ n. whole_text (suc n) ++ codes "\n") Anything
+unfolding named_at
+named-form count few =
+    passing-form (spaced_ordinal 10 refl) (λ n. nat_lt n count) (λ n. n < count) (λ n v e. ltb-true n count e) (λ n w. (omega arith, lt-ltb n count w))
+
+split-form : (size : Sizes) → AreSizes size → IsForm (split_at size) (λ p. (p.0 < size.thermal) × (p.1 < size.periods)) (λ p. (whole_text (suc p.0) ++ codes " ") ++ (whole_text (suc p.1) ++ codes "\n")) Anything
+unfolding split_at
+split-form size lawful =
+    passing-form (both-form (spaced_ordinal 32 refl) (spaced_ordinal 10 refl) (λ b rest v f. tt)) (λ p. nat_lt p.0 size.thermal && nat_lt p.1 size.periods)
+    (λ p. (p.0 < size.thermal) × (p.1 < size.periods))
+    (λ p v e. let both = and_parts (nat_lt p.0 size.thermal) (nat_lt p.1 size.periods) e in (ltb-true p.0 size.thermal both.0, ltb-true p.1 size.periods both.1))
+    (λ p w. ((omega (arith, lawful.thermal), omega (arith, lawful.periods)), and_from (nat_lt p.0 size.thermal) (nat_lt p.1 size.periods) (lt-ltb p.0 size.thermal w.0) (lt-ltb p.1 size.periods w.1)))
+
+-- a node made of a number that is small enough, and one of a unit and a period
+abbrev IsMade : (ℕ → TreeNode) → ℕ → TreeNode → Type 0
+IsMade make count node = (n : ℕ) × (n < count) × (make n ≡ node)
+
+abbrev IsSplit : Sizes → TreeNode → Type 0
+IsSplit size node = (p : ℕ × ℕ) × ((p.0 < size.thermal) × (p.1 < size.periods)) × (SplitNode p.0 p.1 ≡ node)
+
+abbrev IsEmptyOrSplit : Sizes → TreeNode → Type 0
+IsEmptyOrSplit size node = IsMade (λ n. LeafNode (Empty n)) size.thermal node ⊎ IsSplit size node
+
+abbrev IsNoBound : Sizes → TreeNode → Type 0
+IsNoBound size node = IsMade (λ n. LeafNode (Ray n)) size.tables node ⊎ IsEmptyOrSplit size node
+
+pub node-form : (size : Sizes) → AreSizes size → IsForm (node_at size) (IsNodeWithin size.periods size.thermal size.tables) node_line Anything
+unfolding node_at line text_at
+node-form size lawful =
+    let table = named-form size.tables (omega (arith, lawful.tables)) in
+    let unit = named-form size.thermal (omega (arith, lawful.thermal)) in
+    let split = image-form (after-form (split-form size lawful) (codes "split ")) (λ p. SplitNode p.0 p.1) node_line (λ p v. simp append_assoc) in
+    let empty = choice-form unit (λ n. LeafNode (Empty n)) split (codes "empty ") (λ n v. refl) no_empty in
+    let ray = choice-form table (λ n. LeafNode (Ray n)) empty (codes "ray ") (λ n v. refl) no_ray in
+    form-as (choice-form table (λ n. LeafNode (Bound n)) ray (codes "bound ") (λ n v. refl) no_bound) (IsNodeWithin size.periods size.thermal size.tables) node_line within made (λ node v. refl)
+  where
+    no_empty : (node : TreeNode) (rest : List ℕ) → IsSplit size node → text_at (codes "empty ") (node_line node ++ rest) ≡ None
+    no_empty node rest v = subst (λ (node : TreeNode). text_at (codes "empty ") (node_line node ++ rest) ≡ None) v.2 refl
+
+    no_ray : (node : TreeNode) (rest : List ℕ) → IsEmptyOrSplit size node → text_at (codes "ray ") (node_line node ++ rest) ≡ None
+    no_ray node rest (inl v) = subst (λ (node : TreeNode). text_at (codes "ray ") (node_line node ++ rest) ≡ None) v.2 refl
+    no_ray node rest (inr v) = subst (λ (node : TreeNode). text_at (codes "ray ") (node_line node ++ rest) ≡ None) v.2 refl
+
+    no_bound : (node : TreeNode) (rest : List ℕ) → IsNoBound size node → text_at (codes "bound ") (node_line node ++ rest) ≡ None
+    no_bound node rest (inl v) = subst (λ (node : TreeNode). text_at (codes "bound ") (node_line node ++ rest) ≡ None) v.2 refl
+    no_bound node rest (inr (inl v)) = subst (λ (node : TreeNode). text_at (codes "bound ") (node_line node ++ rest) ≡ None) v.2 refl
+    no_bound node rest (inr (inr v)) = subst (λ (node : TreeNode). text_at (codes "bound ") (node_line node ++ rest) ≡ None) v.2 refl
+
+    within : (node : TreeNode) → IsMade (λ n. LeafNode (Bound n)) size.tables node ⊎ IsNoBound size node → IsNodeWithin size.periods size.thermal size.tables node
+    within node (inl v) = subst (IsNodeWithin size.periods size.thermal size.tables) v.2 v.1
+    within node (inr (inl v)) = subst (IsNodeWithin size.periods size.thermal size.tables) v.2 v.1
+    within node (inr (inr (inl v))) = subst (IsNodeWithin size.periods size.thermal size.tables) v.2 v.1
+    within node (inr (inr (inr v))) = subst (IsNodeWithin size.periods size.thermal size.tables) v.2 v.1
+
+    made : (node : TreeNode) → IsNodeWithin size.periods size.thermal size.tables node → IsMade (λ n. LeafNode (Bound n)) size.tables node ⊎ IsNoBound size node
+    made (LeafNode (Bound n)) w = inl (n, w, refl)
+    made (LeafNode (Ray n)) w = inr (inl (n, w, refl))
+    made (LeafNode (Empty n)) w = inr (inr (inl (n, w, refl)))
+    made (SplitNode g t) w = inr (inr (inr ((g, t), w, refl)))

@@ -1,27 +1,289 @@
--- The grammar goes one way: bytes have at most one line of a kind at their front. So lines that may stand meet the reader's, and
--- whole ones are those of a certificate.
-use Rattle.std.proofs.Common.{◌≡◌, ℤ, ℕ, zero, suc, List, [], ◌∷◌, ◌++◌, replicate, Option, Some, None, Result, Ok, Err, refl, sym, ap, subst, ◌∙◌, append_assoc, append-nil, inl, inr, ◌⊎◌, ⊎_elim}
-use Rattle.std.specs.Prelude.{codes}
-use Rattle.std.specs.List.{AllByRecursion}
-use Rattle.std.proofs.lemmas.Option.{some_pair_parts}
-use Rattle.outside.specs.Lines.{joined}
-use Rattle.outside.proofs.Joining.{joined-cons}
+-- What the answer of the reader says, from what reading the bytes as a whole gives.
+use Rattle.std.proofs.Common.{◌≡◌, ℕ, ◌≤◌, List, [], ◌++◌, length, Ok, Err, sym, ap, ◌∙◌, arith, suc, ◌+◌, Bool, true, false, ◌∷◌, All, Option, Some, None, ℤ, pos, refl, cond, nat_eq, ◌≢◌, zero, ◌-◌, take, subst, append-nil, ⊎_elim, replicate, Result, append_assoc, inl, inr, ◌⊎◌, get_or, drop}
+use Rattle.std.proofs.lemmas.List.{length-append, take_at}
+use Rattle.outside.specs.Lines.{joined, spaced, line, words_of, list_line}
 use Rattle.dual_model.specs.Certificate.{Certificate}
-use Rattle.dual_model.specs.declared.table.RampRow.{RampRow}
-use Rattle.cert_text.specs.Nodes.{TreeNode, LeafNode, SplitNode}
+use Rattle.cert_text.specs.CertificateText.{Listing, listing_of, certificate_lines, certificate_text, claim_line, cell_text}
 use Rattle.cert_text.specs.TextConditions.{HasText}
-use Rattle.cert_text.specs.CertificateText.{Listing, listing_of, certificate_lines}
-use Rattle.cert_text.specs.Grammar.{Sizes, AreSizes, Symbol, Version, Size, Claim, Schedule, ThermalRow, RenewableRow, Scale, Pi, Mu, Ramps, Ramp, Node, End, Produces, Reaches, after_size, schedule_rows, ramp_rows, children}
-use Rattle.cert_text.specs.inside.Forms.{Form}
 use Rattle.cert_text.specs.inside.Parts.{certificate_part}
-use Rattle.cert_text.proofs.FormLaws.{IsForm, Anything}
-use Rattle.cert_text.proofs.LineLaws.{version-form, size-form, claim-form, schedule-form, thermal-form, renewable-form, scale-form, ramp_count-form, end-form}
-use Rattle.cert_text.proofs.NodeLaws.{ramp-form, node-form}
-use Rattle.cert_text.proofs.PartLaws.{Stops, Done}
-use Rattle.cert_text.proofs.TableParts.{prices_as}
-use Rattle.cert_text.proofs.TreeParts.{owed_is_tree}
-use Rattle.cert_text.proofs.CertificateParts.{IsListed, certificate-part, certificate_listed}
+use Rattle.cert_text.proofs.PartLaws.{same_Ok, certificate-part, certificate_whole, certificate_again, owed_is_tree, Stops, Done, prices_as, IsListed, certificate_listed}
+use Rattle.std.specs.Prelude.{codes}
+use Rattle.std.specs.List.{AllByRecursion, list_any}
+use Rattle.std.proofs.lemmas.Bool.{ne_eqb, cases_Bool, cases_eq, eq-eqb, false≢true}
+use Rattle.std.proofs.lemmas.List.Elements.{All-head, All-tail, All-weaker, Contains-append_right}
+use Rattle.std.proofs.lemmas.List.Sums.{sum_by-append}
+use Rattle.uc_model.specs.Decimal.{whole_text, signed_text}
+use Rattle.uc_model.specs.Money.{money_text}
+use Rattle.uc_model.specs.declared.schedule.Cell.{Cell}
+use Rattle.uc_model.proofs.DecimalText.{whole_text_bytes, signed_text_bytes}
+use Rattle.uc_model.proofs.MoneyText.{money_text_bytes}
+use Rattle.dual_model.specs.Cover.{Bound, Ray, Empty}
+use Rattle.outside.proofs.Joining.{joined-cons}
+use Rattle.cert_text.specs.Nodes.{TreeNode, LeafNode, SplitNode, node_line}
+use Rattle.cert_text.specs.Grammar.{Symbol, Version, Size, Claim, Schedule, ThermalRow, RenewableRow, Scale, Pi, Mu, Ramps, Ramp, Node, End, Produces, Reaches, schedule_line, Sizes, AreSizes, after_size, schedule_rows, ramp_rows, children}
+use Rattle.cert_text.specs.inside.LineCount.{line_feeds, line_number, stop_kind}
+use Rattle.cert_text.specs.ReadFaults.{HasLineFeed, IsWholeLine, IsFormAt, IsCutAt, IsFaultOf, MayStand, IsKindAt}
+use Rattle.std.proofs.lemmas.Option.{some_pair_parts}
+use Rattle.dual_model.specs.declared.table.RampRow.{RampRow}
+use Rattle.cert_text.specs.inside.Forms.{Form}
+use Rattle.cert_text.proofs.FormLaws.{IsForm, Anything, version-form, size-form, claim-form, schedule-form, thermal-form, renewable-form, scale-form, ramp_count-form, end-form, ramp-form, node-form}
+use Rattle.cert_text.specs.declared.cert.CertKind.{CertKind}
+use Rattle.cert_text.specs.declared.cert.CertFault.TheVariants as faults
+use Rattle.cert_text.specs.declared.cert.CertKind.TheVariants as kinds
 
+pub rest_shorter : (bytes rest : List ℕ) (c : Listing) → certificate_part bytes ≡ Ok (c, rest) → length rest ≤ length bytes
+rest_shorter bytes rest c e =
+    let parts = (certificate-part.takes bytes (c, rest) e).1 in
+    omega (arith, ap length parts, length-append (joined (certificate_lines 1 c)) rest)
+
+pub stop_shorter : (bytes rest : List ℕ) → certificate_part bytes ≡ Err rest → length rest ≤ length bytes
+stop_shorter bytes rest e =
+    let h = certificate-part.stops bytes rest e in
+    omega (arith, ap length h.parts, length-append (joined h.lines) rest)
+
+-- a certificate's text is read as its listing, and as nothing else
+pub read_as : (bytes rest : List ℕ) (c : Listing) → certificate_part bytes ≡ Ok (c, rest)
+    → (certificate : Certificate) → HasText (listing_of certificate) → bytes ≡ certificate_text certificate → (c ≡ listing_of certificate) × (rest ≡ [])
+read_as bytes rest c e certificate h text =
+    let same = same_Ok (c, rest) (listing_of certificate, []) (sym e ∙ ap certificate_part text ∙ certificate_whole certificate h) in
+    (ap (λ (x : Listing × List ℕ). x.0) same, ap (λ (x : Listing × List ℕ). x.1) same)
+
+pub no_stop : (bytes rest : List ℕ) → certificate_part bytes ≡ Err rest → (certificate : Certificate) → HasText (listing_of certificate) → bytes ≡ certificate_text certificate → ⊥
+no_stop bytes rest e certificate h text =
+    let whole : certificate_part bytes ≡ Ok (listing_of certificate, []) = ap certificate_part text ∙ certificate_whole certificate h in
+    cc
+
+-- no text is a front of another one, and texts that are one have one listing
+pub texts_apart : (c d : Certificate) (more : List ℕ) → HasText (listing_of c) → HasText (listing_of d) → certificate_text c ++ more ≡ certificate_text d
+    → (listing_of c ≡ listing_of d) × (more ≡ [])
+texts_apart c d more h k e = read_as (certificate_text c ++ more) more (listing_of c) (certificate_again c more h) d k e
+
+-- ---- Each line that may stand has one line feed, at its end; so lines are counted by their line feeds.
+pub line_feeds-append : (xs ys : List ℕ) → line_feeds (xs ++ ys) ≡ line_feeds xs + line_feeds ys
+line_feeds-append xs ys = sum_by-append (λ c. cond (nat_eq c 10) 1 0) xs ys
+
+-- ---- words have none
+no_feed : (text : List ℕ) → All (λ c. (45 ≤ c) × (c ≤ 57)) text → line_feeds text ≡ 0
+no_feed [] all = refl
+no_feed (c ∷ text) all =
+    let here = All-head (λ c. (45 ≤ c) × (c ≤ 57)) c text all in
+    let more = no_feed text (All-tail (λ c. (45 ≤ c) × (c ≤ 57)) c text all) in
+    line_feeds-append (c ∷ []) text ∙ rw (ne_eqb c 10 (λ e. omega arith), more) refl
+
+whole_feeds : (n : ℕ) → line_feeds (whole_text n) ≡ 0
+whole_feeds n = no_feed (whole_text n) (All-weaker (λ c. (48 ≤ c) × (c ≤ 57)) (λ c. (45 ≤ c) × (c ≤ 57)) (λ c h. omega arith) (whole_text n) (whole_text_bytes n))
+
+signed_feeds : (z : ℤ) → line_feeds (signed_text z) ≡ 0
+signed_feeds z = no_feed (signed_text z) (signed_text_bytes z)
+
+money_feeds : (z : ℤ) → line_feeds (money_text z) ≡ 0
+money_feeds z = no_feed (money_text z) (money_text_bytes z)
+
+cell_feeds : (cell : Cell) → line_feeds (cell_text cell) ≡ 0
+cell_feeds cell = by_state cell.on
+  where
+    on : line_feeds (joined (signed_text cell.p ∷ codes ":" ∷ signed_text cell.r ∷ codes ":" ∷ whole_text cell.category ∷ [])) ≡ 0
+    on =
+        rw (line_feeds-append (signed_text cell.p), signed_feeds cell.p)
+        (rw (line_feeds-append (codes ":") (signed_text cell.r ++ (codes ":" ++ whole_text cell.category)), line_feeds-append (signed_text cell.r), signed_feeds cell.r)
+        (rw (line_feeds-append (codes ":") (whole_text cell.category), whole_feeds cell.category) refl))
+
+    by_state : (on : Bool) → line_feeds (cond on (joined (signed_text cell.p ∷ codes ":" ∷ signed_text cell.r ∷ codes ":" ∷ whole_text cell.category ∷ [])) (codes "-")) ≡ 0
+    by_state true = on
+    by_state false = refl
+
+-- ---- lines have one
+abbrev HasNone : List ℕ → Type 0
+HasNone text = line_feeds text ≡ 0
+
+-- a line feed, and before it none
+record IsOne (text : List ℕ) : Type 0 where
+  front : List ℕ
+  ends : text ≡ front ++ 10 ∷ []
+  none : line_feeds front ≡ 0
+
+one_feed : (text : List ℕ) → IsOne text → line_feeds text ≡ 1
+one_feed text h = ap line_feeds h.ends ∙ line_feeds-append h.front (10 ∷ []) ∙ omega (arith, h.none)
+
+spaced_one : (words : List (List ℕ)) → AllByRecursion HasNone words → IsOne (spaced words (10 ∷ []))
+spaced_one [] none = record { front = []; ends = refl; none = refl }
+spaced_one (word ∷ words) none =
+    let behind = spaced_one words none.1 in
+    record {
+      front = 32 ∷ (word ++ behind.front);
+      ends = ap (λ rest. 32 ∷ rest) (ap (λ rest. word ++ rest) behind.ends ∙ sym (append_assoc word behind.front (10 ∷ [])));
+      none = line_feeds-append (32 ∷ []) (word ++ behind.front) ∙ omega (arith, line_feeds-append word behind.front, none.0, behind.none);
+    }
+
+line_one : (first : List ℕ) (words : List (List ℕ)) → HasNone first → AllByRecursion HasNone words → IsOne (line first words)
+unfolding line
+line_one first words none all =
+    let behind = spaced_one words all in
+    record {
+      front = first ++ behind.front;
+      ends = ap (λ rest. first ++ rest) behind.ends ∙ sym (append_assoc first behind.front (10 ∷ []));
+      none = line_feeds-append first behind.front ∙ omega (arith, none, behind.none);
+    }
+
+words_feeds : {A : Type 0} (word : A → List ℕ) → ((a : A) → HasNone (word a)) → (xs : List A) → line_feeds (words_of word xs) ≡ 0
+words_feeds word none [] = refl
+words_feeds word none (x ∷ xs) =
+    line_feeds-append (32 ∷ word x) (words_of word xs)
+    ∙ omega (arith, line_feeds-append (32 ∷ []) (word x), none x, words_feeds word none xs)
+
+list_line_one : {A : Type 0} (first : List ℕ) (word : A → List ℕ) → HasNone first → ((a : A) → HasNone (word a)) → (xs : List A) → IsOne (list_line first word xs)
+unfolding list_line
+list_line_one first word none each xs = record {
+  front = first ++ words_of word xs;
+  ends = sym (append_assoc first (words_of word xs) (10 ∷ []));
+  none = line_feeds-append first (words_of word xs) ∙ omega (arith, none, words_feeds word each xs);
+}
+
+claim_one : (bound : Option ℤ) → IsOne (claim_line bound)
+claim_one None = line_one (codes "claim infeasible") [] refl tt
+claim_one (Some z) = line_one (codes "claim bound") (money_text z ∷ []) refl (money_feeds z, tt)
+
+schedule_one : (cost : Option ℤ) → IsOne (schedule_line cost)
+schedule_one None = line_one (codes "schedule none") [] refl tt
+schedule_one (Some z) = line_one (codes "schedule") (money_text z ∷ []) refl (money_feeds z, tt)
+
+node_one : (node : TreeNode) → IsOne (node_line node)
+node_one (LeafNode (Bound n)) = line_one (codes "bound") (whole_text (suc n) ∷ []) refl (whole_feeds (suc n), tt)
+node_one (LeafNode (Ray n)) = line_one (codes "ray") (whole_text (suc n) ∷ []) refl (whole_feeds (suc n), tt)
+node_one (LeafNode (Empty n)) = line_one (codes "empty") (whole_text (suc n) ∷ []) refl (whole_feeds (suc n), tt)
+node_one (SplitNode g t) = line_one (codes "split") (whole_text (suc g) ∷ whole_text (suc t) ∷ []) refl (whole_feeds (suc g), (whole_feeds (suc t), tt))
+
+produced_one : (kind : Symbol) (text : List ℕ) (next : List Symbol) → Produces kind text next → IsOne text
+produced_one Version text next p = subst IsOne (sym p.0) (line_one (codes "uc-certificate") (whole_text 1 ∷ []) refl (whole_feeds 1, tt))
+produced_one Size text next p =
+    subst IsOne (sym p.2) (line_one (codes "size") (whole_text p.0.periods ∷ whole_text p.0.thermal ∷ whole_text p.0.renewable ∷ whole_text p.0.tables ∷ []) refl
+    (whole_feeds p.0.periods, (whole_feeds p.0.thermal, (whole_feeds p.0.renewable, (whole_feeds p.0.tables, tt)))))
+produced_one Claim text next p = subst IsOne (sym p.2) (claim_one p.0)
+produced_one (Schedule size) text next p = subst IsOne (sym p.2) (schedule_one p.0)
+produced_one (ThermalRow size) text next p = subst IsOne (sym p.2) (list_line_one (codes "t") cell_text refl cell_feeds p.0)
+produced_one (RenewableRow size) text next p = subst IsOne (sym p.2) (list_line_one (codes "w") signed_text refl signed_feeds p.0)
+produced_one (Scale size) text next p = subst IsOne (sym p.2) (line_one (codes "table") (signed_text (pos p.0) ∷ []) refl (signed_feeds (pos p.0), tt))
+produced_one (Pi size) text next p = subst IsOne (sym p.2) (list_line_one (codes "pi") signed_text refl signed_feeds p.0)
+produced_one (Mu size) text next p = subst IsOne (sym p.2) (list_line_one (codes "mu") signed_text refl signed_feeds p.0)
+produced_one (Ramps size) text next p = subst IsOne (sym p.2) (line_one (codes "ramps") (whole_text p.0 ∷ []) refl (whole_feeds p.0, tt))
+produced_one (Ramp size more before) text next p =
+    subst IsOne (sym p.2) (line_one (codes "ramp") (whole_text (suc p.0.g) ∷ whole_text (suc p.0.t) ∷ signed_text p.0.up ∷ signed_text p.0.down ∷ []) refl
+    (whole_feeds (suc p.0.g), (whole_feeds (suc p.0.t), (signed_feeds p.0.up, (signed_feeds p.0.down, tt)))))
+produced_one (Node size) text next p = subst IsOne (sym p.2) (node_one p.0)
+produced_one End text next p = subst IsOne (sym p.0) (line_one (codes "end") [] refl tt)
+
+-- as many line feeds as lines
+pub reached_feeds : (kinds : List Symbol) (texts : List (List ℕ)) (left : List Symbol) → Reaches kinds texts left → line_feeds (joined texts) ≡ length texts
+reached_feeds kinds [] left e = refl
+reached_feeds [] (text ∷ texts) left e = absurd e
+reached_feeds (kind ∷ kinds) (text ∷ texts) left e =
+    ap line_feeds (joined-cons text texts) ∙ line_feeds-append text (joined texts)
+    ∙ omega (arith, one_feed text (produced_one kind text e.0 e.1), reached_feeds (e.0 ++ kinds) texts left e.2)
+
+-- ---- Where reading stops, the line that begins there is the first at fault.
+-- ---- the first line of bytes
+pub later_feed : (b : ℕ) (bytes : List ℕ) → (b ≡ 10 → ⊥) → HasLineFeed (b ∷ bytes) → HasLineFeed bytes
+later_feed b bytes other (zero, lt, same) = absurd (other same)
+later_feed b bytes other (suc k, lt, same) = (k, omega arith, same)
+
+no_line_feed : (bytes : List ℕ) → list_any (λ c. nat_eq c 10) bytes ≡ false → ¬ HasLineFeed bytes
+no_line_feed [] e (k, lt, same) = omega arith
+no_line_feed (b ∷ bytes) e has = ⊎_elim
+    (λ (feed : b ≡ 10). false≢true (sym e ∙ rw (eq-eqb b 10 feed) refl))
+    (λ (other : b ≡ 10 → ⊥). no_line_feed bytes (rw (ne_eqb b 10 other) at e) (later_feed b bytes other has))
+    (cases_eq b 10)
+
+record Begins (bytes : List ℕ) : Type 0 where
+  text : List ℕ
+  more : List ℕ
+  parts : bytes ≡ text ++ more
+  whole : IsWholeLine text
+
+first_line : (bytes : List ℕ) → list_any (λ c. nat_eq c 10) bytes ≡ true → Begins bytes
+first_line [] e = absurd (false≢true e)
+first_line (b ∷ bytes) e = ⊎_elim
+    (λ (feed : b ≡ 10). record { text = 10 ∷ []; more = bytes; parts = ap (λ b. b ∷ bytes) feed; whole = record { front = []; ends = refl; first = no_line_feed [] refl } })
+    (λ (other : b ≡ 10 → ⊥).
+    let later = first_line bytes (rw (ne_eqb b 10 other) at e) in
+    record {
+      text = b ∷ later.text;
+      more = later.more;
+      parts = ap (λ bytes. b ∷ bytes) later.parts;
+      whole = record { front = b ∷ later.whole.front; ends = ap (λ bytes. b ∷ bytes) later.whole.ends; first = λ has. later.whole.first (later_feed b later.whole.front other has) };
+    })
+    (cases_eq b 10)
+
+-- ---- the number of a line
+line_after : (lines : List (List ℕ)) (bytes rest : List ℕ) (left : List Symbol) → Reaches (Version ∷ []) lines left → bytes ≡ joined lines ++ rest → line_number bytes rest ≡ suc (length lines)
+line_after lines bytes rest left run parts =
+    let long : length bytes - length rest ≡ length (joined lines) = omega (arith, ap length parts, length-append (joined lines) rest) in
+    let front : take (length bytes - length rest) bytes ≡ joined lines = (λ i. take (long i) (parts i)) ∙ take_at (joined lines) rest (length (joined lines)) refl in
+    omega (arith, ap line_feeds front, reached_feeds (Version ∷ []) lines left run)
+
+-- ---- faults
+pub stop_is_fault : (bytes rest : List ℕ) → certificate_part bytes ≡ Err rest → IsFaultOf bytes (faults.At (line_number bytes rest) (stop_kind rest))
+stop_is_fault bytes rest e =
+    let h = certificate-part.stops bytes rest e in
+    let number = line_after h.lines bytes rest (h.kind ∷ h.others) h.run h.parts in
+    ⊎_elim
+    (λ (has : list_any (λ c. nat_eq c 10) rest ≡ true).
+    let line = first_line rest has in
+    let form : IsFormAt bytes (line_number bytes rest) = record {
+      kind = h.kind;
+      text = line.text;
+      more = line.more;
+      comes = record { before = h.lines; number = number; parts = h.parts ∙ ap (λ rest. joined h.lines ++ rest) line.parts; others = h.others; stand = h.run };
+      whole = line.whole;
+      barred = λ p. h.barred line.text line.more p.0 p.1 line.parts;
+    } in
+    rw has form)
+    (λ (none : list_any (λ c. nat_eq c 10) rest ≡ false).
+    let cut : IsCutAt bytes (line_number bytes rest) = record {
+      kind = h.kind;
+      rest = rest;
+      comes = record { before = h.lines; number = number; parts = h.parts; others = h.others; stand = h.run };
+      open_ended = no_line_feed rest none;
+    } in
+    rw none cut)
+    (cases_Bool (list_any (λ c. nat_eq c 10) rest))
+
+pub tail_is_fault : (bytes rest : List ℕ) (c : Listing) → certificate_part bytes ≡ Ok (c, rest) → rest ≢ [] → IsFaultOf bytes (faults.At (line_number bytes rest) kinds.Tail)
+tail_is_fault bytes rest c e some =
+    let one = certificate-part.takes bytes (c, rest) e in
+    let run = certificate-part.runs c one.0 in
+    record {
+      before = certificate_lines 1 c;
+      number = line_after (certificate_lines 1 c) bytes rest [] run one.1;
+      rest = rest;
+      parts = one.1;
+      stand = run;
+      some = some;
+    }
+
+-- ---- certificates
+-- what was read is a certificate's listing
+pub record IsRead (bytes : List ℕ) (c : Listing) : Type 0 where
+  pub certificate : Certificate
+  pub listed : listing_of certificate ≡ c
+  pub conditions : HasText (listing_of certificate)
+  pub text : bytes ≡ certificate_text certificate
+
+pub whole_is_read : (bytes rest : List ℕ) (c : Listing) → certificate_part bytes ≡ Ok (c, rest) → rest ≡ [] → IsRead bytes c
+unfolding certificate_text
+whole_is_read bytes rest c e none =
+    let one = certificate-part.takes bytes (c, rest) e in
+    let tree = owed_is_tree c.nodes one.0.tree in
+    let certificate : Certificate = record { periods = c.periods; thermal = c.thermal; renewable = c.renewable; bound = c.bound; schedule = c.schedule; tables = c.tables; tree = tree.0 } in
+    let listed : listing_of certificate ≡ c = (λ i. record { periods = c.periods; thermal = c.thermal; renewable = c.renewable; bound = c.bound; schedule = c.schedule; tables = c.tables; nodes = tree.1 i }) in
+    record {
+      certificate = certificate;
+      listed = listed;
+      conditions = subst HasText (sym listed) one.0.text;
+      text = one.1 ∙ ap (λ rest. joined (certificate_lines 1 c) ++ rest) none ∙ append-nil (joined (certificate_lines 1 c)) ∙ ap (λ c. joined (certificate_lines 1 c)) (sym listed);
+    }
+
+-- ---- The grammar goes one way: bytes have at most one line of a kind at their front. So lines that may stand meet the reader's, and
+-- whole ones are those of a certificate.
 -- ---- one line of a kind
 -- what stands for a line: a value, and what has to come behind it
 abbrev Stands : {A : Type 0} → (A → Type 0) → (A → List ℕ) → (A → List Symbol) → List ℕ → List Symbol → Type 0
@@ -91,17 +353,12 @@ pub next_lawful : (kind : Symbol) (text : List ℕ) (next : List Symbol) → IsL
 next_lawful Version text next h p = subst AreLawful (sym p.1) (tt, tt)
 next_lawful Size text next h p =
     subst AreLawful (sym p.3) (tt, (p.1, both_lawful (replicate p.0.tables (Scale p.0)) (Node p.0 ∷ End ∷ []) (many_lawful p.0.tables (Scale p.0) p.1) (p.1, (tt, tt))))
-next_lawful Claim text next h p = subst AreLawful (sym p.3) tt
 next_lawful (Schedule size) text next h p = subst AreLawful (sym p.3) (rows p.0)
   where
     rows : (cost : Option ℤ) → AreLawful (schedule_rows size cost)
     rows None = tt
     rows (Some cost) = both_lawful (replicate size.thermal (ThermalRow size)) (replicate size.renewable (RenewableRow size)) (many_lawful size.thermal (ThermalRow size) h) (many_lawful size.renewable (RenewableRow size) h)
-next_lawful (ThermalRow size) text next h p = subst AreLawful (sym p.3) tt
-next_lawful (RenewableRow size) text next h p = subst AreLawful (sym p.3) tt
 next_lawful (Scale size) text next h p = subst AreLawful (sym p.3) (h, (h, (h, tt)))
-next_lawful (Pi size) text next h p = subst AreLawful (sym p.3) tt
-next_lawful (Mu size) text next h p = subst AreLawful (sym p.3) tt
 next_lawful (Ramps size) text next h p = subst AreLawful (sym p.3) (ramps_lawful size p.0 None h)
 next_lawful (Ramp size more before) text next h p = subst AreLawful (sym p.3) (ramps_lawful size more (Some p.0) h)
 next_lawful (Node size) text next h p = subst AreLawful (sym p.3) (behind p.0)
@@ -110,6 +367,7 @@ next_lawful (Node size) text next h p = subst AreLawful (sym p.3) (behind p.0)
     behind (LeafNode leaf) = tt
     behind (SplitNode g t) = (h, (h, tt))
 next_lawful End text next h p = subst AreLawful (sym p.1) tt
+next_lawful _ text next h p = subst AreLawful (sym p.3) tt
 
 -- ---- runs over the same bytes
 -- of two runs the second one goes on where the first ends
@@ -178,3 +436,123 @@ whole_run_is_certificate lines run = by_reading (certificate_part (joined lines)
 
 pub certificate_runs : (c : Certificate) → HasText (listing_of c) → Reaches (Version ∷ []) (certificate_lines 1 (listing_of c)) []
 certificate_runs c h = certificate-part.runs (listing_of c) (certificate_listed c h)
+
+-- ---- Bytes have at most one fault: the lines before it may stand, so two faults have the same lines before them.
+none_counted : (bytes : List ℕ) → line_feeds bytes ≡ 0 → HasLineFeed bytes → ⊥
+none_counted [] e (k, lt, same) = omega arith
+none_counted (b ∷ bytes) e has =
+    let parts = line_feeds-append (b ∷ []) bytes in
+    ⊎_elim
+    (λ (feed : b ≡ 10). let one : line_feeds (b ∷ []) ≡ 1 = rw (eq-eqb b 10 feed) refl in omega (arith, parts, one, e))
+    (λ (other : b ≡ 10 → ⊥). none_counted bytes (omega (arith, parts, e)) (later_feed b bytes other has))
+    (cases_eq b 10)
+
+produced_whole : (kind : Symbol) (text : List ℕ) (next : List Symbol) → Produces kind text next → IsWholeLine text
+produced_whole kind text next p = let h = produced_one kind text next p in record { front = h.front; ends = h.ends; first = none_counted h.front h.none }
+
+-- ---- the first line of bytes is one
+one_later : (b : ℕ) (bytes : List ℕ) → HasLineFeed bytes → HasLineFeed (b ∷ bytes)
+one_later b bytes (k, lt, same) = (suc k, omega arith, same)
+
+same_front : (f g x y : List ℕ) → (HasLineFeed f → ⊥) → (HasLineFeed g → ⊥) → f ++ 10 ∷ x ≡ g ++ 10 ∷ y → f ≡ g
+same_front [] [] x y h k e = refl
+same_front [] (c ∷ g) x y h k e = absurd (k (0, omega arith, sym (ap (λ bytes. get_or bytes 0 0) e)))
+same_front (b ∷ f) [] x y h k e = absurd (h (0, omega arith, ap (λ bytes. get_or bytes 0 0) e))
+same_front (b ∷ f) (c ∷ g) x y h k e =
+    let heads : b ≡ c = ap (λ bytes. get_or bytes 0 0) e in
+    let tails = same_front f g x y (λ has. h (one_later b f has)) (λ has. k (one_later c g has)) (ap (drop 1) e) in
+    (λ i. heads i ∷ tails i)
+
+same_line : (text other x y : List ℕ) → IsWholeLine text → IsWholeLine other → text ++ x ≡ other ++ y → text ≡ other
+same_line text other x y h k e =
+    let left : text ++ x ≡ h.front ++ 10 ∷ x = ap (λ text. text ++ x) h.ends ∙ append_assoc h.front (10 ∷ []) x in
+    let right : other ++ y ≡ k.front ++ 10 ∷ y = ap (λ text. text ++ y) k.ends ∙ append_assoc k.front (10 ∷ []) y in
+    h.ends ∙ ap (λ front. front ++ 10 ∷ []) (same_front h.front k.front x y h.first k.first (sym left ∙ e ∙ right)) ∙ sym k.ends
+
+-- ---- where a fault stands
+abbrev IsPoint : CertKind → List Symbol → List ℕ → Type 0
+IsPoint kinds.Form left rest = (kind : Symbol) × (others : List Symbol) × (text : List ℕ) × (more : List ℕ) × (left ≡ kind ∷ others) × (rest ≡ text ++ more) × IsWholeLine text × (MayStand kind text → ⊥)
+IsPoint kinds.Cut left rest = (kind : Symbol) × (others : List Symbol) × (left ≡ kind ∷ others) × (HasLineFeed rest → ⊥)
+IsPoint kinds.Tail left rest = (left ≡ []) × (rest ≢ [])
+
+record FaultPoint (bytes : List ℕ) (line : ℕ) (kind : CertKind) : Type 0 where
+  before : List (List ℕ)
+  left : List Symbol
+  rest : List ℕ
+  number : line ≡ suc (length before)
+  parts : bytes ≡ joined before ++ rest
+  stand : Reaches (Version ∷ []) before left
+  is : IsPoint kind left rest
+
+point_of : (bytes : List ℕ) (line : ℕ) (kind : CertKind) → IsKindAt bytes line kind → FaultPoint bytes line kind
+point_of bytes line kinds.Form h = record {
+  before = h.comes.before;
+  left = h.kind ∷ h.comes.others;
+  rest = h.text ++ h.more;
+  number = h.comes.number;
+  parts = h.comes.parts;
+  stand = h.comes.stand;
+  is = (h.kind, h.comes.others, h.text, h.more, refl, refl, h.whole, h.barred);
+}
+point_of bytes line kinds.Cut h = record {
+  before = h.comes.before;
+  left = h.kind ∷ h.comes.others;
+  rest = h.rest;
+  number = h.comes.number;
+  parts = h.comes.parts;
+  stand = h.comes.stand;
+  is = (h.kind, h.comes.others, refl, h.open_ended);
+}
+point_of bytes line kinds.Tail h = record { before = h.before; left = []; rest = h.rest; number = h.number; parts = h.parts; stand = h.stand; is = (refl, h.some) }
+
+-- bytes that begin with a whole line have a line feed
+line_has_feed : (text rest : List ℕ) → IsWholeLine text → HasLineFeed (text ++ rest)
+line_has_feed text rest h =
+    let same : text ++ rest ≡ h.front ++ 10 ∷ rest = ap (λ text. text ++ rest) h.ends ∙ append_assoc h.front (10 ∷ []) rest in
+    subst HasLineFeed (sym same) (Contains-append_right h.front (10 ∷ rest) 10 (0, omega arith, refl))
+
+-- no line may stand at a fault
+no_line : (kind : CertKind) (left : List Symbol) (rest : List ℕ) → IsPoint kind left rest → (more : List (List ℕ)) (another : List Symbol) (y : List ℕ) → Reaches left more another → rest ≡ joined more ++ y → more ≡ []
+no_line kind left rest h [] another y run e = refl
+no_line kind [] rest h (text ∷ more) another y run e = absurd run
+no_line kinds.Tail (symbol ∷ left) rest h (text ∷ more) another y run e = absurd (let f = h.0 in cc)
+no_line kinds.Cut (symbol ∷ left) rest h (text ∷ more) another y run e =
+    absurd (h.3 (subst HasLineFeed (sym (e ∙ ap (λ bytes. bytes ++ y) (joined-cons text more) ∙ append_assoc text (joined more) y)) (line_has_feed text (joined more ++ y) (produced_whole symbol text run.0 run.1))))
+no_line kinds.Form (symbol ∷ left) rest h (text ∷ more) another y run e =
+    let same = same_line h.2 text h.3 (joined more ++ y) h.6 (produced_whole symbol text run.0 run.1) (sym h.5 ∙ e ∙ ap (λ bytes. bytes ++ y) (joined-cons text more) ∙ append_assoc text (joined more) y) in
+    let kind_same : symbol ≡ h.0 = ap (head_or symbol) h.4 in
+    absurd (h.7 (run.0, subst (λ (kind : Symbol). Produces kind h.2 run.0) kind_same (subst (λ (text : List ℕ). Produces symbol text run.0) (sym same) run.1)))
+  where
+    head_or : Symbol → List Symbol → Symbol
+    head_or symbol [] = symbol
+    head_or symbol (first ∷ others) = first
+
+-- and at one place there is one kind
+one_kind : (kind another : CertKind) (left : List Symbol) (rest : List ℕ) → IsPoint kind left rest → IsPoint another left rest → kind ≡ another
+one_kind kinds.Form kinds.Cut left rest h k = absurd (k.3 (subst HasLineFeed (sym h.5) (line_has_feed h.2 h.3 h.6)))
+one_kind kinds.Form kinds.Tail left rest h k = absurd (let e = sym h.4 ∙ k.0 in cc)
+one_kind kinds.Cut kinds.Form left rest h k = absurd (h.3 (subst HasLineFeed (sym k.5) (line_has_feed k.2 k.3 k.6)))
+one_kind kinds.Cut kinds.Tail left rest h k = absurd (let e = sym h.2 ∙ k.0 in cc)
+one_kind kinds.Tail kinds.Form left rest h k = absurd (let e = sym k.4 ∙ h.0 in cc)
+one_kind kinds.Tail kinds.Cut left rest h k = absurd (let e = sym k.2 ∙ h.0 in cc)
+one_kind _ _ left rest h k = refl
+
+-- the first goes as far as the second
+as_far : (bytes : List ℕ) (line other : ℕ) (kind another : CertKind) (p : FaultPoint bytes line kind) (q : FaultPoint bytes other another)
+    → GoesOn p.before p.left p.rest q.before q.left q.rest → (line ≡ other) × (kind ≡ another)
+as_far bytes line other kind another p q h =
+    let none = no_line kind p.left p.rest p.is h.more q.left q.rest h.run h.rest in
+    let lines : q.before ≡ p.before = h.lines_are ∙ ap (λ more. p.before ++ more) none ∙ append-nil p.before in
+    let left : p.left ≡ q.left = subst (λ (more : List (List ℕ)). Reaches p.left more q.left) none h.run in
+    let rest : p.rest ≡ q.rest = h.rest ∙ ap (λ more. joined more ++ q.rest) none in
+    let there : IsPoint another p.left p.rest = subst (λ (left : List Symbol). IsPoint another left p.rest) (sym left) (subst (λ (rest : List ℕ). IsPoint another q.left rest) (sym rest) q.is) in
+    (p.number ∙ ap (λ lines. suc (length lines)) (sym lines) ∙ sym q.number, one_kind kind another p.left p.rest p.is there)
+
+pub one_fault : (bytes : List ℕ) (line other : ℕ) (kind another : CertKind) → IsKindAt bytes line kind → IsKindAt bytes other another → (line ≡ other) × (kind ≡ another)
+one_fault bytes line other kind another h k =
+    let p = point_of bytes line kind h in
+    let q = point_of bytes other another k in
+    ⊎_elim
+    (λ (one : GoesOn p.before p.left p.rest q.before q.left q.rest). as_far bytes line other kind another p q one)
+    (λ (two : GoesOn q.before q.left q.rest p.before p.left p.rest). let same = as_far bytes other line another kind q p two in (sym same.0, sym same.1))
+    (runs_meet (Version ∷ []) p.before q.before p.left q.left p.rest q.rest (tt, tt) p.stand q.stand (sym p.parts ∙ q.parts))

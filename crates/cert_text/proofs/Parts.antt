@@ -1,18 +1,39 @@
 -- The parts in which a certificate is written are its lines.
-use Rattle.std.proofs.Common.{◌≡◌, ℕ, List, [], ◌∷◌, ◌++◌, length, map, refl, ap, ◌∙◌, sym, append_assoc, Option, Some, None}
+use Rattle.std.proofs.Common.{◌≡◌, ℕ, List, [], ◌∷◌, ◌++◌, length, map, refl, ap, ◌∙◌, sym, append_assoc, Option, Some, None, zero, suc, ◌<◌, cond, get_or, arith, ◌^◌, true, false, subst, All, ℤ, pos, negsuc, ◌≤ℤ◌}
 use Rattle.std.specs.List.{flat_map}
 use Rattle.uc_model.specs.declared.instance.Instance.{Instance}
-use Rattle.dual_model.specs.Certificate.{WrittenSchedule}
+use Rattle.dual_model.specs.Certificate.{WrittenSchedule, Certificate, CertificateHolds, ClaimHolds}
 use Rattle.dual_model.specs.declared.table.Table.{Table}
 use Rattle.branch_tree.specs.declared.found.Found.{Found}
-use Rattle.branch_tree.specs.TreeView.{tree_of}
-use Rattle.branch_tree.specs.UsedTables.{used_tables}
-use Rattle.branch_tree.specs.Claims.{table_at, certificate_of}
+use Rattle.branch_tree.specs.TreeView.{tree_of, IsWhole}
+use Rattle.branch_tree.specs.UsedTables.{used_tables, place_of, stored_tables}
+use Rattle.branch_tree.specs.Claims.{table_at, certificate_of, leaf_claim, written_tables, written_of}
 use Rattle.outside.specs.Lines.{joined}
 use Rattle.outside.proofs.Joining.{joined-cons, joined-append, joined-map}
-use Rattle.cert_text.specs.Nodes.{preorder, node_line}
-use Rattle.cert_text.specs.CertificateText.{certificate_lines, certificate_text, schedule_lines, table_lines, thermal_line, renewable_line, ramp_line, cost_line, version_line, size_line, claim_line, end_line, scale_line, prices_line, ramps_line}
-use Rattle.cert_text.specs.inside.WrittenParts.{schedule_part, table_part, tables_part, certificate_parts}
+use Rattle.cert_text.specs.Nodes.{preorder, node_line, SplitNode, TreeNode, LeafNode, IsLeafWithin, IsNodeWithin}
+use Rattle.cert_text.specs.CertificateText.{certificate_lines, certificate_text, schedule_lines, table_lines, thermal_line, renewable_line, ramp_line, cost_line, version_line, size_line, claim_line, end_line, scale_line, prices_line, ramps_line, listing_of}
+use Rattle.cert_text.specs.inside.WrittenParts.{schedule_part, table_part, tables_part, certificate_parts, spot_node}
+use Rattle.std.proofs.lemmas.Bool.{eq-eqb, ne_eqb}
+use Rattle.std.specs.Option.{option_map_or}
+use Rattle.std.proofs.lemmas.List.Concat.{flat_map-append}
+use Rattle.dual_model.specs.Tree.{map_leaves, Tree, Ends, Splits, root, child, IsCoverBelow, IsCover, EachLeaf}
+use Rattle.branch_tree.specs.NumberedTree.{NumberedTree, EndAt, SplitAt, IsNumbered, unnumbered, numbers, spot_at}
+use Rattle.branch_tree.specs.declared.tree.Spot.{Spot}
+use Rattle.branch_tree.proofs.Preorder.{IsPart, off_side, on_side, part_spot}
+use Rattle.std.proofs.lemmas.Int.{ints}
+use Rattle.std.specs.Prelude.{IfSome}
+use Rattle.std.proofs.lemmas.List.Elements.{All-nil, All-cons, All-append, All-weaker}
+use Rattle.std.proofs.lemmas.List.{length-map}
+use Rattle.std.proofs.lemmas.Option.{slice_get_within}
+use Rattle.uc_model.specs.Limits.{IsLawfulInstance}
+use Rattle.uc_model.specs.Schedule.{thermal_count, renewable_count}
+use Rattle.dual_model.specs.Cover.{Leaf, Bound, Ray, Empty, IsExcluded, LeafHolds}
+use Rattle.dual_model.specs.declared.node.Node.{Node}
+use Rattle.dual_model.specs.Prices.{IsLawfulTable, IsPrice, IsRowPriced}
+use Rattle.dual_model.specs.declared.table.RampRow.{RampRow}
+use Rattle.branch_tree.specs.StoredTree.{tree_bound}
+use Rattle.branch_tree.proofs.Used.{length-each_once, length-stored_tables}
+use Rattle.cert_text.specs.TextConditions.{HasDigits, IsMoney, IsTableText, IsRampText, IsScheduleText, HasText}
 
 schedule-part : (schedule : Option WrittenSchedule) → joined (schedule_lines schedule) ≡ schedule_part schedule
 schedule-part None = refl
@@ -51,3 +72,132 @@ parts_are_text instance found =
     simp append_assoc (sym (ap (λ text. version_line 1 ++ (size_line c.periods c.thermal c.renewable (length c.tables) ++ text))
     (joined-cons (claim_line c.bound) (schedule_lines c.schedule ++ (tables ++ (nodes ++ end_line ∷ [])))
     ∙ ap (λ text. claim_line c.bound ++ text) body)))
+
+-- ---- The lines of the nodes in preorder are those of the tree.
+-- the line of what stands there
+abbrev pub spot_line : List ℕ → Spot → List ℕ
+spot_line used stands = node_line (spot_node used stands)
+
+-- the line of the node of that number
+abbrev pub line_at : List ℕ → NumberedTree → ℕ → List ℕ
+line_at used whole number = option_map_or (spot_line used) (spot_at whole number) []
+
+pub lines_listed : (used : List ℕ) (whole tree : NumberedTree) → IsNumbered whole → IsPart whole tree
+    → flat_map (line_at used whole) (numbers tree) ≡ flat_map node_line (preorder (map_leaves (leaf_claim used) (unnumbered tree)))
+lines_listed used whole (EndAt number leaf) numbered part =
+    ap (λ (o : Option Spot). option_map_or (spot_line used) o [] ++ []) (part_spot whole (EndAt number leaf) part)
+lines_listed used whole (SplitAt number g t off on) numbered part =
+    let left = lines_listed used whole off numbered (off_side whole number g t off on numbered part) in
+    let right = lines_listed used whole on numbered (on_side whole number g t off on numbered part) in
+    let off_nodes = preorder (map_leaves (leaf_claim used) (unnumbered off)) in
+    let on_nodes = preorder (map_leaves (leaf_claim used) (unnumbered on)) in
+    let first = node_line (SplitNode g t) in
+    (λ i. option_map_or (spot_line used) (part_spot whole (SplitAt number g t off on) part i) []
+    ++ flat_map-append (line_at used whole) (numbers off) (numbers on) i)
+    ∙ ((λ i. first ++ (left i ++ right i)) ∙ ap (λ rest. first ++ rest) (sym (flat_map-append node_line off_nodes on_nodes)))
+
+-- the place of a table that was found behind others, and of one that wasn't
+pub place_found : (used : List ℕ) (table place : ℕ) → place < length used → get_or used place 0 ≡ table
+    → ((k : ℕ) → k < place → get_or used k 0 ≡ table → ⊥) → place_of used table ≡ place
+place_found [] table place within is others = absurd (omega arith)
+place_found (first ∷ used) table zero within is others = ap (λ b. cond b 0 (suc (place_of used table))) (eq-eqb first table is)
+place_found (first ∷ used) table (suc place) within is others =
+    ap (λ b. cond b 0 (suc (place_of used table))) (ne_eqb first table (others 0 (omega arith)))
+    ∙ ap suc (place_found used table place (omega arith) is (λ k l. others (suc k) (omega arith)))
+
+pub place_past : (used : List ℕ) (table : ℕ) → ((k : ℕ) → k < length used → get_or used k 0 ≡ table → ⊥)
+    → place_of used table ≡ length used
+place_past [] table others = refl
+place_past (first ∷ used) table others =
+    ap (λ b. cond b 0 (suc (place_of used table))) (ne_eqb first table (others 0 (omega arith)))
+    ∙ ap suc (place_past used table (λ k l. others (suc k) (omega arith)))
+
+-- ---- When the certificate of a found answer has a text.
+-- a leaf that is excluded, or that holds for a bound, names a table that is listed, or a unit that there is
+excluded-within : (instance : Instance) (tables : List Table) (node : Node) (leaf : Leaf) → IsExcluded instance tables node leaf
+    → IsLeafWithin (thermal_count instance) (length tables) leaf
+excluded-within instance tables node (Bound number) h = absurd h
+excluded-within instance tables node (Ray number) h = slice_get_within tables number h.table h.is_table
+excluded-within instance tables node (Empty g) h = h.0
+
+holds-within : (instance : Instance) (tables : List Table) (b : ℤ) (node : Node) (leaf : Leaf) → LeafHolds instance tables b node leaf
+    → IsLeafWithin (thermal_count instance) (length tables) leaf
+holds-within instance tables b node (Bound number) h = slice_get_within tables number h.table h.is_table
+holds-within instance tables b node (Ray number) h = excluded-within instance tables node (Ray number) h
+holds-within instance tables b node (Empty g) h = excluded-within instance tables node (Empty g) h
+
+-- so do all nodes of a cover whose leaves claim so
+nodes-within : (instance : Instance) (tables : List Table) (P : Node → Leaf → Type 0)
+    → ((node : Node) (leaf : Leaf) → P node leaf → IsLeafWithin (thermal_count instance) (length tables) leaf)
+    → (node : Node) (tree : Tree Leaf) → IsCoverBelow instance node tree → EachLeaf P node tree
+    → All (IsNodeWithin instance.periods (thermal_count instance) (length tables)) (preorder tree)
+nodes-within instance tables P within node (Ends leaf) cover each =
+    let Within : TreeNode → Type 0 = IsNodeWithin instance.periods (thermal_count instance) (length tables) in
+    All-cons Within (LeafNode leaf) [] (within node leaf each) (All-nil Within)
+nodes-within instance tables P within node (Splits g t off on) cover each =
+    let Within : TreeNode → Type 0 = IsNodeWithin instance.periods (thermal_count instance) (length tables) in
+    All-cons Within (SplitNode g t) (preorder off ++ preorder on) (cover.0.unit, cover.0.period)
+    (All-append Within (preorder off) (preorder on)
+    (nodes-within instance tables P within (child node g t false) off cover.2 each.0)
+    (nodes-within instance tables P within (child node g t true) on cover.3 each.1))
+
+claimed-within : (instance : Instance) (c : Certificate) (bound : Option ℤ) → IsCover instance c.tree → ClaimHolds instance c bound
+    → All (IsNodeWithin instance.periods (thermal_count instance) (length c.tables)) (preorder c.tree)
+claimed-within instance c (Some b) cover claim =
+    nodes-within instance c.tables (LeafHolds instance c.tables b) (holds-within instance c.tables b) root c.tree cover claim.1
+claimed-within instance c None cover claim =
+    nodes-within instance c.tables (IsExcluded instance c.tables) (excluded-within instance c.tables) root c.tree cover claim.1
+
+price-digits : (n : ℤ) → IsPrice n → HasDigits 18 n
+price-digits n h = omega arith
+
+ramp-digits : (row : RampRow) → IsRowPriced row → IsRampText row
+ramp-digits row h = record { up = price-digits row.up h.up; down = price-digits row.down h.down }
+
+-- the scale of a lawful table is no longer than its limit
+scale-digits : (k : ℤ) → pos 0 ≤ℤ k → k ≤ℤ pos 1000000000 → HasDigits 18 k
+scale-digits (pos n) low high = omega (arith, ints)
+scale-digits (negsuc n) low high = omega (arith, ints)
+
+-- a lawful table whose rows can be counted has a text
+lawful-table-text : (instance : Instance) (table : Table) → IsLawfulTable instance table → length table.ramps < 10 ^ 18
+    → IsTableText instance.periods (thermal_count instance) table
+lawful-table-text instance table h few = record {
+  form = h.size.form;
+  units = h.size.units;
+  periods_priced = h.size.periods;
+  scale = scale-digits table.k h.size.form.scale h.limits.scale;
+  pi = All-weaker IsPrice (HasDigits 18) price-digits table.pi h.limits.pi;
+  mu = All-weaker IsPrice (HasDigits 18) price-digits table.mu h.limits.mu;
+  rows = few;
+  ramps = All-weaker IsRowPriced IsRampText ramp-digits table.ramps h.limits.ramps;
+}
+
+lawful-table-texts : (instance : Instance) (tables : List Table) → All (IsLawfulTable instance) tables
+    → All (λ table. length table.ramps < 10 ^ 18) tables → All (IsTableText instance.periods (thermal_count instance)) tables
+lawful-table-texts instance tables h few = λ k d within. lawful-table-text instance _ (h k d within) (few k d within)
+
+-- the tables of a whole tree can be counted
+few-tables : (instance : Instance) (found : Found) → IsWhole found.tree → length (written_tables found) < 2 ^ 32
+few-tables instance found whole =
+    let used = used_tables (tree_of found.tree) in
+    let same = length-map used (table_at found.tables) in
+    omega (arith, length-each_once (stored_tables (tree_of found.tree)), length-stored_tables found.tree.nodes, whole.within, whole.countable)
+
+pub found_has_text : (instance : Instance) (found : Found) → IsLawfulInstance instance → IsWhole found.tree
+    → CertificateHolds instance (certificate_of instance found)
+    → IfSome (written_of found.schedule) (IsScheduleText instance.periods (thermal_count instance) (renewable_count instance))
+    → IfSome (tree_bound found.tree) IsMoney
+    → All (λ table. length table.ramps < 10 ^ 18) (written_tables found)
+    → HasText (listing_of (certificate_of instance found))
+found_has_text instance found lawful whole holds schedule bound few = record {
+  some_period = lawful.periods.0;
+  periods = lawful.periods.1;
+  thermal = lawful.thermal_units;
+  renewable = lawful.renewable_units;
+  table_count = few-tables instance found whole;
+  bound = bound;
+  schedule = schedule;
+  tables = lawful-table-texts instance (written_tables found) holds.tables few;
+  nodes = claimed-within instance (certificate_of instance found) (tree_bound found.tree) holds.tree holds.claim;
+}

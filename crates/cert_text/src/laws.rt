@@ -18,6 +18,7 @@ ghost use Rattle.cert_text.specs.TextConditions.{IsMoney, IsScheduleText, HasTex
 
 /// A number is within its range exactly where its text has no more digits than the range says, those of the
 /// decimals of money among them.
+#[tactic(auto, using(crate::proofs::FormLaws::digits_range, crate::proofs::FormLaws::money_range))]
 pub fn ranges_count_digits()
     ensures whole { (digits n : ℕ) → 0 < digits → (length (whole_text n) ≤ digits) ↔ (n < 10 ^ digits) }
     ensures money { (n : ℤ) → (length (whole_text (unsigned_abs n / 1000000)) + 6 ≤ 38) ↔ IsMoney n }
@@ -25,6 +26,7 @@ pub fn ranges_count_digits()
 
 /// The certificate of an answer, whose tree keeps what every tree keeps, has a text where its schedule has one, its bound is in
 /// the range of money, and the rows of its tables can be counted.
+#[tactic(auto, using(crate::proofs::Parts::found_has_text))]
 pub fn found_certificates_have_text()
     ensures { (instance : Instance) (found : Found) → IsLawfulInstance instance → IsWhole found.tree
         → CertificateHolds instance (certificate_of instance found)
@@ -36,6 +38,7 @@ pub fn found_certificates_have_text()
 
 /// The text of a certificate tells where it ends, and all that it lists: no certificate's text is a front of
 /// another's, and two with one text have one listing.
+#[tactic(auto, using(crate::proofs::GrammarLaws::texts_apart))]
 pub fn texts_tell_certificates_apart()
     ensures { (c d : Certificate) (more : List ℕ) → HasText (listing_of c) → HasText (listing_of d)
         → certificate_text c ++ more ≡ certificate_text d → (listing_of c ≡ listing_of d) × (more ≡ []) }
@@ -43,6 +46,7 @@ pub fn texts_tell_certificates_apart()
 
 /// The grammar by lines is that of certificates: lines that may stand one behind the other, so that none is to
 /// come, are the lines of a certificate, and these may stand so.
+#[tactic(auto, using(crate::proofs::GrammarLaws::whole_run_is_certificate, crate::proofs::GrammarLaws::certificate_runs))]
 pub fn lines_that_may_stand_make_certificates()
     ensures whole { (lines : List (List ℕ)) → Reaches (Version ∷ []) lines []
         → (c : Certificate) × HasText (listing_of c) × (lines ≡ certificate_lines 1 (listing_of c)) }
@@ -50,6 +54,7 @@ pub fn lines_that_may_stand_make_certificates()
 {}
 
 /// Bytes have at most one fault that is told by its line.
+#[tactic(auto, using(crate::proofs::GrammarLaws::one_fault))]
 pub fn bytes_have_one_fault()
     ensures { (bytes : List ℕ) (line other : ℕ) (kind another : CertKind)
         → IsKindAt bytes line kind → IsKindAt bytes other another → (line ≡ other) × (kind ≡ another) }

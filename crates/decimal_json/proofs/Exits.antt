@@ -8,17 +8,9 @@ pub passed_on : {T E : Type 0} (r : Result T E) (e : E) (Q : E → Type 0) → I
 passed_on (Ok x) e Q h q = absurd h
 passed_on (Err d) e Q h q = subst Q (sym h) q
 
-pub ok_from : {T E : Type 0} (r : Result T E) (P R : T → Type 0) → IfOk r P → ((x : T) → P x → R x) → IfOk r R
-ok_from (Ok x) P R p f = f x p
-ok_from (Err e) P R p f = tt
-
 pub ok_from_two : {T E : Type 0} (r : Result T E) (P Q R : T → Type 0) → IfOk r P → IfOk r Q → ((x : T) → P x → Q x → R x) → IfOk r R
 ok_from_two (Ok x) P Q R p q f = f x p q
 ok_from_two (Err e) P Q R p q f = tt
-
-pub err_from : {T E : Type 0} (r : Result T E) (P R : E → Type 0) → IfErr r P → ((e : E) → P e → R e) → IfErr r R
-err_from (Ok x) P R p f = tt
-err_from (Err e) P R p f = f e p
 
 -- what a clause on an option says, where its variant is known
 pub some_of : {T : Type 0} (o : Option T) (P : T → Type 0) (x : T) → o ≡ Some x → IfSome o P → P x

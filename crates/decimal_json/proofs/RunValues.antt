@@ -1,44 +1,389 @@
--- The machine at values of the grammar.
-use Rattle.std.proofs.Common.{◌≡◌, ℕ, ◌+◌, ◌==◌, ◌<◌, ◌||◌, cond, suc, List, [], ◌∷◌, ◌++◌, length, refl, sym, ap, subst, ◌∙◌, arith, Bool, true, false, append_assoc, ⊎_elim, inl, inr, lit<}
-use Rattle.std.specs.Prelude.{◌⊎◌, nat_lt}
-use Rattle.std.specs.List.{flat_map}
+-- The machine at a number of the grammar.
+use Rattle.std.proofs.Common.{◌≡◌, ℕ, ◌+◌, ◌*◌, ◌<◌, suc, List, [], ◌∷◌, ◌++◌, length, refl, sym, ap, subst, ◌∙◌, arith, Bool, true, false, append_assoc, length-append, fold, ⊎_elim, ◌==◌, inl, inr, lit<, Some, None, ◌||◌, cond}
+use Rattle.std.specs.Prelude.{nat_le, ◌⊎◌, encode_utf8, nat_lt}
 use Rattle.std.proofs.lemmas.List.{append-nil}
-use Rattle.std.proofs.lemmas.Bool.{cases_Bool, or_left, lt-ltb, ltb-true, ne_eqb, false≢true}
-use Rattle.decimal_json.specs.Value.{Decimal, Value, null, boolean, number, text, array, object, Items, no_items, item, Members, no_members, member, members_of, has_key}
+use Rattle.std.proofs.lemmas.Bool.{and_from, le-leb, cases_eq, ne_eqb, cases_Bool, or_cases, or_parts, false≢true, or_left, lt-ltb, ltb-true, le-ltb, eqb-true}
+use Rattle.decimal_json.specs.Value.{Decimal, number, Value, null, boolean, text, array, object, Items, no_items, item, Members, no_members, member, members_of, has_key}
+use Rattle.decimal_json.specs.Number.{is_digit, digit_of, is_mark, whole_of}
+use Rattle.decimal_json.specs.Open.{Frame, Purpose, Member, in_array, in_object, for_value, for_key}
+use Rattle.decimal_json.specs.inside.Scan.{Spot, wanted, ended, numeral, zero_first, whole, point, fraction, mark, signed, exponent, so_far, next, step, begin_step, numeral_step, finish, after, outcome, quoted, Quoted, plain, escaped, unit, high, high_escaped, high_unit, Hex, no_digit, one_digit, two_digits, three_digits, Step, stop, Outcome, fault, quoted_step, quote_step, unit_step, pair_step, more_hex, escape_step, first_item, first_key, key_wanted, colon_wanted, literal, done, literal_step, opened, finish_value, whole_outcome, ended_step, close_step}
+use Rattle.decimal_json.specs.inside.Answer.{begun}
+use Rattle.decimal_json.specs.Grammar.{AreDigits, numerals, IsWhole, fraction_text, Power, no_power, power, Sign, no_sign, plus, minus, sign_text, is_minus, power_text, is_down, written, IsPower, negative_text, IsNumber, Character, itself, short, alone, pair, character_text, meaning, AreHex, is_surrogate, begins_with_second, AreCharacters, IsSpace, IsString, HasUniqueKeys, Spells, SpellsItems, SpellsMoreItems, SpellsMembers, SpellsMoreMembers, SpellsText}
+use Rattle.decimal_json.proofs.Moves.{Moves, moves_none, moves_byte, moves_then, moves_on, placed_at, Delimits, delimiter_is, Refuses, refuses_along, space_moves, Arrives, arrives_then, arrives_by}
+use Rattle.decimal_json.proofs.Numerals.{whole_starts, zero_starts, mark_is, unit_each, second_each, escaped_some, low_not_high, plain_leads, plain_quote, plain_parts}
+use Rattle.std.specs.List.{flat_map}
+use Rattle.std.specs.Char.Utf16.{is_low_surrogate, is_high_surrogate, surrogate_pair_char}
+use Rattle.decimal_json.specs.Escape.{short_escape, is_hex, unit_of}
 use Rattle.decimal_json.specs.Characters.{is_space, rue, alse, ull, depth_limit}
-use Rattle.decimal_json.specs.Open.{Member, Frame, in_array, in_object, for_value, for_key}
-use Rattle.decimal_json.specs.inside.Scan.{Spot, wanted, first_item, first_key, key_wanted, colon_wanted, ended, literal, quoted, plain, next, stop, done, step, opened, quote_step, finish, finish_value, outcome, whole_outcome}
-use Rattle.decimal_json.specs.Grammar.{Character, meaning, fraction_text, power_text, negative_text, IsSpace, IsString, IsNumber, IsWhole, numerals, HasUniqueKeys, Spells, SpellsItems, SpellsMoreItems, SpellsMembers, SpellsMoreMembers, SpellsText}
-use Rattle.decimal_json.proofs.Runs.{Moves, moves_none, moves_byte, moves_on, space_moves, Refuses, refuses_along, Arrives, arrives_then, arrives_by, placed_at, Delimits}
-use Rattle.decimal_json.proofs.RunNumbers.{number_run}
-use Rattle.decimal_json.proofs.RunStrings.{go_on, byte_run, string_run, tail_text}
-use Rattle.decimal_json.proofs.Values.{quote_leads, true_leads, false_leads, null_leads, letter_comes}
-use Rattle.decimal_json.proofs.Inside.{first_item_other, first_key_other, first_item_close, item_comma, item_close, key_quote, colon_comes, first_key_close, member_comma, member_close, open_array, open_object, quote_known, quote_new}
-use Rattle.decimal_json.proofs.Uniques.{items_onto, members_onto, items_of-push, items_onto-push, members_of-push, members_onto-push, new_key}
+use Rattle.decimal_json.proofs.Values.{first_item_other, first_key_other, item_comma, quote_known, quote_new, items_onto, members_onto, items_of-push, items_onto-push, members_of-push, members_onto-push, new_key}
+use Rattle.decimal_json.specs.Fronts.{FrontItems, FrontMembers, IsFront, IsKeyFront, OpensTooDeep, IsStringFront, RepeatsKey, LacksSecond, LacksPartner}
+use Rattle.decimal_json.proofs.Growth.{hex_text, AreHexSoFar, four, seven}
 
+digit_written : (d : ℕ) → d < 10 → is_digit (48 + d) ≡ true
+digit_written d small = and_from (nat_le 48 (48 + d)) (nat_le (48 + d) 57) (le-leb 48 (48 + d) (omega arith)) (le-leb (48 + d) 57 (omega arith))
+
+digit_read : (d : ℕ) → digit_of (48 + d) ≡ d
+digit_read d = omega arith
+
+whole_moves : (at : ℕ) (outer : List Frame) (n : Bool) (xs ds : List ℕ) → AreDigits ds → Moves at outer (numeral (whole n xs)) (numerals ds) outer (numeral (whole n (xs ++ ds)))
+unfolding step numeral_step
+whole_moves at outer n xs [] are = subst (λ (ys : List ℕ). Moves at outer (numeral (whole n xs)) [] outer (numeral (whole n ys))) (sym (append-nil xs)) (moves_none at outer (numeral (whole n xs)))
+whole_moves at outer n xs (d ∷ ds) are =
+    moves_on at (48 + d) outer (numeral (whole n xs)) outer (numeral (whole n (xs ++ d ∷ []))) (numerals ds) outer (numeral (whole n (xs ++ d ∷ ds)))
+    (rw (digit_written d are.0) (ap (λ e. next outer (numeral (whole n (xs ++ e ∷ [])))) (digit_read d)))
+    (subst (λ (ys : List ℕ). Moves (at + 1) outer (numeral (whole n (xs ++ d ∷ []))) (numerals ds) outer (numeral (whole n ys))) (append_assoc xs (d ∷ []) ds) (whole_moves (at + 1) outer n (xs ++ d ∷ []) ds are.1))
+
+fraction_moves : (at : ℕ) (outer : List Frame) (n : Bool) (ws xs ds : List ℕ) → AreDigits ds → Moves at outer (numeral (fraction n ws xs)) (numerals ds) outer (numeral (fraction n ws (xs ++ ds)))
+unfolding step numeral_step
+fraction_moves at outer n ws xs [] are = subst (λ (ys : List ℕ). Moves at outer (numeral (fraction n ws xs)) [] outer (numeral (fraction n ws ys))) (sym (append-nil xs)) (moves_none at outer (numeral (fraction n ws xs)))
+fraction_moves at outer n ws xs (d ∷ ds) are =
+    moves_on at (48 + d) outer (numeral (fraction n ws xs)) outer (numeral (fraction n ws (xs ++ d ∷ []))) (numerals ds) outer (numeral (fraction n ws (xs ++ d ∷ ds)))
+    (rw (digit_written d are.0) (ap (λ e. next outer (numeral (fraction n ws (xs ++ e ∷ [])))) (digit_read d)))
+    (subst (λ (ys : List ℕ). Moves (at + 1) outer (numeral (fraction n ws (xs ++ d ∷ []))) (numerals ds) outer (numeral (fraction n ws ys))) (append_assoc xs (d ∷ []) ds) (fraction_moves (at + 1) outer n ws (xs ++ d ∷ []) ds are.1))
+
+exponent_moves : (at : ℕ) (outer : List Frame) (n : Bool) (ws fs : List ℕ) (down : Bool) (w : ℕ) (ds : List ℕ) → AreDigits ds
+    → Moves at outer (numeral (exponent n ws fs down w)) (numerals ds) outer (numeral (exponent n ws fs down (fold (λ k d. k * 10 + d) w ds)))
+unfolding step numeral_step
+exponent_moves at outer n ws fs down w [] are = moves_none at outer (numeral (exponent n ws fs down w))
+exponent_moves at outer n ws fs down w (d ∷ ds) are =
+    moves_on at (48 + d) outer (numeral (exponent n ws fs down w)) outer (numeral (exponent n ws fs down (w * 10 + d))) (numerals ds) outer (numeral (exponent n ws fs down (fold (λ k d. k * 10 + d) (w * 10 + d) ds)))
+    (rw (digit_written d are.0) (ap (λ e. next outer (numeral (exponent n ws fs down (w * 10 + e)))) (digit_read d)))
+    (exponent_moves (at + 1) outer n ws fs down (w * 10 + d) ds are.1)
+
+-- a spot where a number may end, with these digits before and after the point
+record CanEnd (n : Bool) (ds fs : List ℕ) (spot : Spot) : Type 0 where
+  marked : (at m : ℕ) (outer : List Frame) → is_mark m ≡ true → step at outer spot m ≡ next outer (numeral (mark n ds fs))
+  last : (at : ℕ) (outer : List Frame) (rest : List ℕ) → Delimits rest → outcome at outer spot rest ≡ outcome at outer (ended (so_far n ds fs false 0)) rest
+
+same_at : (at : ℕ) (outer : List Frame) (spot other : Spot) (rest : List ℕ) → ((c : ℕ) → Delimits (c ∷ []) → step at outer spot c ≡ step at outer other c) → finish at outer spot ≡ finish at outer other
+    → Delimits rest → outcome at outer spot rest ≡ outcome at outer other rest
+unfolding outcome
+same_at at outer spot other [] each end d = end
+same_at at outer spot other (c ∷ cs) each end d = ap (λ s. after s (λ o t. outcome (suc at) o t cs)) (each c d)
+
+zero_can_end : (n : Bool) → CanEnd n (0 ∷ []) [] (numeral (zero_first n))
+unfolding step numeral_step finish
+zero_can_end n = record {
+  marked = λ at m outer e. mark_is m (λ m. step at outer (numeral (zero_first n)) m ≡ next outer (numeral (mark n (0 ∷ []) []))) e refl refl;
+  last = λ at outer rest d. same_at at outer (numeral (zero_first n)) (ended (so_far n (0 ∷ []) [] false 0)) rest
+      (λ c e. delimiter_is c (λ c. step at outer (numeral (zero_first n)) c ≡ step at outer (ended (so_far n (0 ∷ []) [] false 0)) c) e refl refl refl refl refl refl refl) refl d;
+}
+
+whole_can_end : (n : Bool) (ds : List ℕ) → CanEnd n ds [] (numeral (whole n ds))
+unfolding step numeral_step finish
+whole_can_end n ds = record {
+  marked = λ at m outer e. mark_is m (λ m. step at outer (numeral (whole n ds)) m ≡ next outer (numeral (mark n ds []))) e refl refl;
+  last = λ at outer rest d. same_at at outer (numeral (whole n ds)) (ended (so_far n ds [] false 0)) rest
+      (λ c e. delimiter_is c (λ c. step at outer (numeral (whole n ds)) c ≡ step at outer (ended (so_far n ds [] false 0)) c) e refl refl refl refl refl refl refl) refl d;
+}
+
+fraction_can_end : (n : Bool) (ds fs : List ℕ) → CanEnd n ds fs (numeral (fraction n ds fs))
+unfolding step numeral_step finish
+fraction_can_end n ds fs = record {
+  marked = λ at m outer e. mark_is m (λ m. step at outer (numeral (fraction n ds fs)) m ≡ next outer (numeral (mark n ds fs))) e refl refl;
+  last = λ at outer rest d. same_at at outer (numeral (fraction n ds fs)) (ended (so_far n ds fs false 0)) rest
+      (λ c e. delimiter_is c (λ c. step at outer (numeral (fraction n ds fs)) c ≡ step at outer (ended (so_far n ds fs false 0)) c) e refl refl refl refl refl refl refl) refl d;
+}
+
+exponent_last : (at : ℕ) (outer : List Frame) (n : Bool) (ds fs : List ℕ) (down : Bool) (w : ℕ) (rest : List ℕ) → Delimits rest
+    → outcome at outer (numeral (exponent n ds fs down w)) rest ≡ outcome at outer (ended (so_far n ds fs down w)) rest
+unfolding step numeral_step finish
+exponent_last at outer n ds fs down w rest d = same_at at outer (numeral (exponent n ds fs down w)) (ended (so_far n ds fs down w)) rest
+    (λ c e. delimiter_is c (λ c. step at outer (numeral (exponent n ds fs down w)) c ≡ step at outer (ended (so_far n ds fs down w)) c) e refl refl refl refl refl refl refl) refl d
+
+-- the digits before the point
+record WholeRun (at : ℕ) (outer : List Frame) (n : Bool) (ds : List ℕ) : Type 0 where
+  spot : Spot
+  moves : Moves at outer (begun n) (numerals ds) outer spot
+  can_end : CanEnd n ds [] spot
+  pointed : (k : ℕ) → step k outer spot 46 ≡ next outer (numeral (point n ds))
+
+whole_spot : (at : ℕ) (outer : List Frame) (n : Bool) (d : ℕ) (ds : List ℕ) → 0 < d → AreDigits (d ∷ ds) → WholeRun at outer n (d ∷ ds)
+unfolding step numeral_step
+whole_spot at outer n d ds more are = record {
+  spot = numeral (whole n (d ∷ ds));
+  moves = moves_on at (48 + d) outer (begun n) outer (numeral (whole n (d ∷ []))) (numerals ds) outer (numeral (whole n (d ∷ ds)))
+      (whole_starts at (48 + d) outer n (digit_written d are.0) (λ e. omega arith) ∙ ap (λ e. next outer (numeral (whole n (e ∷ [])))) (digit_read d))
+      (whole_moves (at + 1) outer n (d ∷ []) ds are.1);
+  can_end = whole_can_end n (d ∷ ds);
+  pointed = λ k. refl;
+}
+
+zero_spot : (at : ℕ) (outer : List Frame) (n : Bool) → WholeRun at outer n (0 ∷ [])
+unfolding step numeral_step
+zero_spot at outer n = record {
+  spot = numeral (zero_first n);
+  moves = moves_byte at 48 outer (begun n) outer (numeral (zero_first n)) (zero_starts at outer n);
+  can_end = zero_can_end n;
+  pointed = λ k. refl;
+}
+
+whole_run : (at : ℕ) (outer : List Frame) (n : Bool) (ds : List ℕ) → IsWhole ds → WholeRun at outer n ds
+whole_run at outer n [] is = absurd is
+whole_run at outer n (d ∷ []) is = ⊎_elim (λ (e : d ≡ 0). subst (λ (k : ℕ). WholeRun at outer n (k ∷ [])) (sym e) (zero_spot at outer n))
+    (λ (ne : d ≡ 0 → ⊥). whole_spot at outer n d [] (omega arith) (is, tt)) (cases_eq d 0)
+whole_run at outer n (d ∷ e ∷ ds) is = whole_spot at outer n d (e ∷ ds) is.0 is.1
+
+-- the digits behind the point
+record FractionRun (at : ℕ) (outer : List Frame) (spot : Spot) (n : Bool) (ds fs : List ℕ) : Type 0 where
+  then : Spot
+  moves : Moves at outer spot (fraction_text fs) outer then
+  can_end : CanEnd n ds fs then
+
+fraction_run : (at : ℕ) (outer : List Frame) (spot : Spot) (n : Bool) (ds fs : List ℕ) → AreDigits fs → CanEnd n ds [] spot → ((k : ℕ) → step k outer spot 46 ≡ next outer (numeral (point n ds)))
+    → FractionRun at outer spot n ds fs
+unfolding step numeral_step
+fraction_run at outer spot n ds [] are end pointed = record { then = spot; moves = moves_none at outer spot; can_end = end }
+fraction_run at outer spot n ds (f ∷ fs) are end pointed = record {
+  then = numeral (fraction n ds (f ∷ fs));
+  moves = moves_on at 46 outer spot outer (numeral (point n ds)) (numerals (f ∷ fs)) outer (numeral (fraction n ds (f ∷ fs))) (pointed at)
+      (moves_on (at + 1) (48 + f) outer (numeral (point n ds)) outer (numeral (fraction n ds (f ∷ []))) (numerals fs) outer (numeral (fraction n ds (f ∷ fs)))
+      (rw (digit_written f are.0) (ap (λ e. next outer (numeral (fraction n ds (e ∷ [])))) (digit_read f)))
+      (fraction_moves (at + 1 + 1) outer n ds (f ∷ []) fs are.1));
+  can_end = fraction_can_end n ds (f ∷ fs);
+}
+
+unsigned : (at : ℕ) (outer : List Frame) (n : Bool) (ds fs : List ℕ) (d : ℕ) → d < 10
+    → step at outer (numeral (mark n ds fs)) (48 + d) ≡ next outer (numeral (exponent n ds fs false d))
+unfolding step numeral_step
+unsigned at outer n ds fs d small = rw (ne_eqb (48 + d) 43 (λ e. omega arith), ne_eqb (48 + d) 45 (λ e. omega arith), digit_written d small)
+    (ap (λ e. next outer (numeral (exponent n ds fs false e))) (digit_read d))
+
+sign_run : (at : ℕ) (outer : List Frame) (n : Bool) (ds fs : List ℕ) (s : Sign) (d : ℕ) → d < 10
+    → Moves at outer (numeral (mark n ds fs)) (sign_text s ++ (48 + d) ∷ []) outer (numeral (exponent n ds fs (is_minus s) d))
+unfolding step numeral_step
+sign_run at outer n ds fs no_sign d small = moves_byte at (48 + d) outer (numeral (mark n ds fs)) outer (numeral (exponent n ds fs false d)) (unsigned at outer n ds fs d small)
+sign_run at outer n ds fs plus d small = moves_on at 43 outer (numeral (mark n ds fs)) outer (numeral (signed n ds fs false)) ((48 + d) ∷ []) outer (numeral (exponent n ds fs false d)) refl
+    (moves_byte (at + 1) (48 + d) outer (numeral (signed n ds fs false)) outer (numeral (exponent n ds fs false d))
+    (rw (digit_written d small) (ap (λ e. next outer (numeral (exponent n ds fs false e))) (digit_read d))))
+sign_run at outer n ds fs minus d small = moves_on at 45 outer (numeral (mark n ds fs)) outer (numeral (signed n ds fs true)) ((48 + d) ∷ []) outer (numeral (exponent n ds fs true d)) refl
+    (moves_byte (at + 1) (48 + d) outer (numeral (signed n ds fs true)) outer (numeral (exponent n ds fs true d))
+    (rw (digit_written d small) (ap (λ e. next outer (numeral (exponent n ds fs true e))) (digit_read d))))
+
+sign_moves : (at : ℕ) (outer : List Frame) (n : Bool) → Moves at outer wanted (negative_text n) outer (begun n)
+unfolding step begin_step
+sign_moves at outer true = moves_byte at 45 outer wanted outer (begun true) refl
+sign_moves at outer false = moves_none at outer wanted
+
+power_as : (m : ℕ) (s : Sign) (e : ℕ) (es : List ℕ) → power_text (power m s e es) ≡ (m ∷ (sign_text s ++ (48 + e) ∷ [])) ++ numerals es
+power_as m no_sign e es = refl
+power_as m plus e es = refl
+power_as m minus e es = refl
+
+power_run : (at : ℕ) (outer : List Frame) (spot : Spot) (n : Bool) (ds fs : List ℕ) (p : Power) (rest : List ℕ) → IsPower p → CanEnd n ds fs spot → Delimits rest
+    → outcome at outer spot (power_text p ++ rest) ≡ outcome (at + length (power_text p)) outer (ended (so_far n ds fs (is_down p) (written p))) rest
+power_run at outer spot n ds fs no_power rest is end d = end.last at outer rest d ∙ placed_at at (at + 0) outer (ended (so_far n ds fs false 0)) rest (omega arith)
+power_run at outer spot n ds fs (power m s e es) rest is end d =
+    let moves : Moves at outer spot (m ∷ (sign_text s ++ (48 + e) ∷ []) ++ numerals es) outer (numeral (exponent n ds fs (is_minus s) (fold (λ k d. k * 10 + d) e es))) =
+    moves_then at outer spot (m ∷ (sign_text s ++ (48 + e) ∷ [])) outer (numeral (exponent n ds fs (is_minus s) e)) (numerals es) outer (numeral (exponent n ds fs (is_minus s) (fold (λ k d. k * 10 + d) e es)))
+    (moves_on at m outer spot outer (numeral (mark n ds fs)) (sign_text s ++ (48 + e) ∷ []) outer (numeral (exponent n ds fs (is_minus s) e)) (end.marked at m outer is.0) (sign_run (at + 1) outer n ds fs s e is.1.0))
+    (exponent_moves (at + length (m ∷ (sign_text s ++ (48 + e) ∷ []))) outer n ds fs (is_minus s) e es is.1.1) in
+    let same : power_text (power m s e es) ≡ (m ∷ (sign_text s ++ (48 + e) ∷ [])) ++ numerals es = power_as m s e es in
+    let size : length (power_text (power m s e es)) ≡ length ((m ∷ (sign_text s ++ (48 + e) ∷ [])) ++ numerals es) = ap length same in
+    let value : fold (λ k d. k * 10 + d) e es ≡ whole_of (e ∷ es) = ap (λ w. fold (λ k d. k * 10 + d) w es) (omega arith) in
+    let place : ℕ = at + length ((m ∷ (sign_text s ++ (48 + e) ∷ [])) ++ numerals es) in
+    ap (λ xs. outcome at outer spot (xs ++ rest)) same ∙ (moves rest
+    ∙ (exponent_last place outer n ds fs (is_minus s) (fold (λ k d. k * 10 + d) e es) rest d
+    ∙ (ap (λ w. outcome place outer (ended (so_far n ds fs (is_minus s) w)) rest) value
+    ∙ placed_at place (at + length (power_text (power m s e es))) outer (ended (so_far n ds fs (is_minus s) (whole_of (e ∷ es)))) rest (omega (arith, size)))))
+
+-- a number, with what says where it ends
+pub number_run : (at : ℕ) (outer : List Frame) (n : Decimal) (bs rest : List ℕ) → IsNumber n bs → Delimits rest
+    → outcome at outer wanted (bs ++ rest) ≡ outcome (at + length bs) outer (ended (number n)) rest
+number_run at outer n bs rest is d =
+    let sign = sign_moves at outer is.negative in
+    let at1 : ℕ = at + length (negative_text is.negative) in
+    let first = whole_run at1 outer is.negative is.ds is.is_whole in
+    let at2 : ℕ = at1 + length (numerals is.ds) in
+    let second = fraction_run at2 outer first.spot is.negative is.ds is.fs is.are_digits first.can_end first.pointed in
+    let at3 : ℕ = at2 + length (fraction_text is.fs) in
+    let third = power_run at3 outer second.then is.negative is.ds is.fs is.exponent rest is.is_power second.can_end d in
+    let front : Moves at outer wanted (negative_text is.negative ++ (numerals is.ds ++ fraction_text is.fs)) outer second.then =
+    moves_then at outer wanted (negative_text is.negative) outer (begun is.negative) (numerals is.ds ++ fraction_text is.fs) outer second.then sign
+    (moves_then at1 outer (begun is.negative) (numerals is.ds) outer first.spot (fraction_text is.fs) outer second.then first.moves second.moves) in
+    let f : List ℕ = negative_text is.negative ++ (numerals is.ds ++ fraction_text is.fs) in
+    let p : List ℕ = power_text is.exponent in
+    let grouped : bs ≡ f ++ p = is.spelled ∙ sym (append_assoc (negative_text is.negative) (numerals is.ds ++ fraction_text is.fs) p ∙ ap (λ xs. negative_text is.negative ++ xs) (append_assoc (numerals is.ds) (fraction_text is.fs) p)) in
+    let sizes : length f ≡ length (negative_text is.negative) + (length (numerals is.ds) + length (fraction_text is.fs)) =
+    length-append (negative_text is.negative) (numerals is.ds ++ fraction_text is.fs) ∙ ap (λ k. length (negative_text is.negative) + k) (length-append (numerals is.ds) (fraction_text is.fs)) in
+    let whole_size : length bs ≡ length f + length p = ap length grouped ∙ length-append f p in
+    ap (λ xs. outcome at outer wanted (xs ++ rest)) grouped ∙ (ap (outcome at outer wanted) (append_assoc f p rest)
+    ∙ (front (p ++ rest) ∙ (placed_at (at + length f) at3 outer second.then (p ++ rest) (omega (arith, sizes))
+    ∙ (third ∙ (ap (λ v. outcome (at3 + length p) outer (ended (number v)) rest) (sym is.value)
+    ∙ placed_at (at3 + length p) (at + length bs) outer (ended (number n)) rest (omega (arith, sizes, whole_size)))))))
+
+-- ---- The machine at a string of the grammar.
+-- what comes after a step, at a place
+abbrev pub go_on : ℕ → List ℕ → Step → Outcome
+go_on at rest s = after s (λ o t. outcome at o t rest)
+
+-- one byte
+pub byte_run : (at c : ℕ) (outer : List Frame) (spot : Spot) (rest : List ℕ) (s : Step) → step at outer spot c ≡ s → outcome at outer spot (c ∷ rest) ≡ go_on (suc at) rest s
+unfolding outcome
+byte_run at c outer spot rest s e = ap (go_on (suc at) rest) e
+
+hex_run : (at : ℕ) (outer : List Frame) (p : Purpose) (inside : Hex → Quoted) (full : ℕ → Step) (a b c d : ℕ) (rest : List ℕ)
+    → ((at c : ℕ) (h : Hex) → is_hex c ≡ true → step at outer (quoted p (inside h)) c ≡ more_hex h c (λ m. next outer (quoted p (inside m))) full) → AreHex a b c d
+    → outcome at outer (quoted p (inside no_digit)) (a ∷ b ∷ c ∷ d ∷ rest) ≡ go_on (suc (suc (suc (suc at)))) rest (full (unit_of a b c d))
+unfolding more_hex
+hex_run at outer p inside full a b c d rest each h =
+    byte_run at a outer (quoted p (inside no_digit)) (b ∷ c ∷ d ∷ rest) (next outer (quoted p (inside (one_digit a)))) (each at a no_digit h.0)
+    ∙ (byte_run (suc at) b outer (quoted p (inside (one_digit a))) (c ∷ d ∷ rest) (next outer (quoted p (inside (two_digits a b)))) (each (suc at) b (one_digit a) h.1)
+    ∙ (byte_run (suc (suc at)) c outer (quoted p (inside (two_digits a b))) (d ∷ rest) (next outer (quoted p (inside (three_digits a b c)))) (each (suc (suc at)) c (two_digits a b) h.2)
+    ∙ byte_run (suc (suc (suc at))) d outer (quoted p (inside (three_digits a b c))) rest (full (unit_of a b c d)) (each (suc (suc (suc at))) d (three_digits a b c) h.3)))
+
+-- the six bytes of a unit, from its backslash on
+pub unit_run : (at : ℕ) (outer : List Frame) (p : Purpose) (t : List ℕ) (a b c d : ℕ) (rest : List ℕ) → AreHex a b c d
+    → outcome at outer (quoted p (plain t)) (92 ∷ 117 ∷ a ∷ b ∷ c ∷ d ∷ rest) ≡ go_on (suc (suc (suc (suc (suc (suc at)))))) rest (unit_step outer p t at (unit_of a b c d))
+unfolding step quoted_step escape_step
+unit_run at outer p t a b c d rest h =
+    byte_run at 92 outer (quoted p (plain t)) (117 ∷ a ∷ b ∷ c ∷ d ∷ rest) (next outer (quoted p (escaped t at))) refl
+    ∙ (byte_run (suc at) 117 outer (quoted p (escaped t at)) (a ∷ b ∷ c ∷ d ∷ rest) (next outer (quoted p (unit t at no_digit))) refl
+    ∙ hex_run (suc (suc at)) outer p (unit t at) (λ u. unit_step outer p t at u) a b c d rest (unit_each outer p t at) h)
+
+-- the same of the second unit of a pair
+pub second_run : (at : ℕ) (outer : List Frame) (p : Purpose) (t : List ℕ) (back u a b c d : ℕ) (rest : List ℕ) → AreHex a b c d
+    → outcome at outer (quoted p (high t back u)) (92 ∷ 117 ∷ a ∷ b ∷ c ∷ d ∷ rest) ≡ go_on (suc (suc (suc (suc (suc (suc at)))))) rest (pair_step outer p t back u (unit_of a b c d))
+unfolding step quoted_step
+second_run at outer p t back u a b c d rest h =
+    byte_run at 92 outer (quoted p (high t back u)) (117 ∷ a ∷ b ∷ c ∷ d ∷ rest) (next outer (quoted p (high_escaped t back u))) refl
+    ∙ (byte_run (suc at) 117 outer (quoted p (high_escaped t back u)) (a ∷ b ∷ c ∷ d ∷ rest) (next outer (quoted p (high_unit t back u no_digit))) refl
+    ∙ hex_run (suc (suc at)) outer p (high_unit t back u) (λ v. pair_step outer p t back u v) a b c d rest (second_each outer p t back u) h)
+
+pub unit_scalar : (outer : List Frame) (p : Purpose) (t : List ℕ) (back u : ℕ) → is_surrogate u ≡ false → unit_step outer p t back u ≡ next outer (quoted p (plain (t ++ encode_utf8 u)))
+unfolding unit_step
+unit_scalar outer p t back u e = let parts = or_parts (is_high_surrogate u) (is_low_surrogate u) e in rw (parts.0, parts.1) refl
+
+pub unit_low : (outer : List Frame) (p : Purpose) (t : List ℕ) (back u : ℕ) → is_low_surrogate u ≡ true → unit_step outer p t back u ≡ stop back 5
+unfolding unit_step
+unit_low outer p t back u e = rw (low_not_high u e, e) refl
+
+pub unit_high : (outer : List Frame) (p : Purpose) (t : List ℕ) (back u : ℕ) → is_high_surrogate u ≡ true → unit_step outer p t back u ≡ next outer (quoted p (high t back u))
+unfolding unit_step
+unit_high outer p t back u e = rw e refl
+
+pub pair_low : (outer : List Frame) (p : Purpose) (t : List ℕ) (back u v : ℕ) → is_low_surrogate v ≡ true → pair_step outer p t back u v ≡ next outer (quoted p (plain (t ++ encode_utf8 (surrogate_pair_char u v))))
+unfolding pair_step
+pair_low outer p t back u v e = rw e refl
+
+pair_other : (outer : List Frame) (p : Purpose) (t : List ℕ) (back u v : ℕ) → is_low_surrogate v ≡ false → pair_step outer p t back u v ≡ stop back 5
+unfolding pair_step
+pair_other outer p t back u v e = rw e refl
+
+no_such_letter : (l b : ℕ) → short_escape l ≡ Some b → l ≡ 117 → ⊥
+no_such_letter l b e is = none_some b (sym (ap short_escape is) ∙ e) where
+  none_some : (b : ℕ) → None ≡ Some b → ⊥
+  none_some b f = cc
+
+high_not_low : (u : ℕ) → is_high_surrogate u ≡ true → is_low_surrogate u ≡ false
+high_not_low u e = ⊎_elim (λ (f : is_low_surrogate u ≡ true). absurd (false≢true (sym (low_not_high u f) ∙ e))) (λ (f : is_low_surrogate u ≡ false). f) (cases_Bool (is_low_surrogate u))
+
+-- the bytes of a string behind its first quote
+abbrev pub tail_text : List Character → List ℕ
+tail_text cs = flat_map character_text cs ++ 34 ∷ []
+
+-- A first unit with no second one behind it is a fault.
+high_alone : (limited : Bool) (at : ℕ) (outer : List Frame) (p : Purpose) (t : List ℕ) (back u : ℕ) (cs : List Character) (rest : List ℕ) → AreCharacters limited cs → begins_with_second cs ≡ false
+    → outcome at outer (quoted p (high t back u)) (flat_map character_text cs ++ 34 ∷ rest) ≡ fault back 5
+unfolding step quoted_step
+high_alone limited at outer p t back u [] rest are e = byte_run at 34 outer (quoted p (high t back u)) rest (stop back 5) refl
+high_alone limited at outer p t back u (itself c ∷ cs) rest are e =
+    byte_run at c outer (quoted p (high t back u)) (flat_map character_text cs ++ 34 ∷ rest) (stop back 5) (rw (plain_parts c are.0).1 refl)
+high_alone limited at outer p t back u (short l b ∷ cs) rest are e =
+    byte_run at 92 outer (quoted p (high t back u)) (l ∷ flat_map character_text cs ++ 34 ∷ rest) (next outer (quoted p (high_escaped t back u))) refl
+    ∙ byte_run (suc at) l outer (quoted p (high_escaped t back u)) (flat_map character_text cs ++ 34 ∷ rest) (stop back 5) (rw (ne_eqb l 117 (no_such_letter l b are.0)) refl)
+high_alone limited at outer p t back u (alone a b c d ∷ cs) rest are e =
+    second_run at outer p t back u a b c d (flat_map character_text cs ++ 34 ∷ rest) are.0.0 ∙ ap (go_on (suc (suc (suc (suc (suc (suc at)))))) (flat_map character_text cs ++ 34 ∷ rest)) (pair_other outer p t back u (unit_of a b c d) e)
+high_alone limited at outer p t back u (pair a b c d f g h i ∷ cs) rest are e =
+    second_run at outer p t back u a b c d (92 ∷ 117 ∷ f ∷ g ∷ h ∷ i ∷ flat_map character_text cs ++ 34 ∷ rest) are.0.0
+    ∙ ap (go_on (suc (suc (suc (suc (suc (suc at)))))) (92 ∷ 117 ∷ f ∷ g ∷ h ∷ i ∷ flat_map character_text cs ++ 34 ∷ rest)) (pair_other outer p t back u (unit_of a b c d) (high_not_low (unit_of a b c d) are.0.2))
+
+-- a string behind its first quote, up to behind its last
+abbrev pub StringRun : Bool → ℕ → List Frame → Purpose → List ℕ → List Character → List ℕ → Type 0
+StringRun limited at outer p t cs rest =
+    (outcome at outer (quoted p (plain t)) (tail_text cs ++ rest) ≡ go_on (at + length (tail_text cs)) rest (quote_step outer p (t ++ flat_map meaning cs)))
+    ⊎ Refuses limited (outcome at outer (quoted p (plain t)) (tail_text cs ++ rest))
+
+-- one character more
+character_more : (limited : Bool) (at later : ℕ) (outer : List Frame) (p : Purpose) (t : List ℕ) (c : Character) (cs : List Character) (xs : List ℕ)
+    → outcome at outer (quoted p (plain t)) (flat_map character_text (c ∷ cs) ++ xs) ≡ outcome later outer (quoted p (plain (t ++ meaning c))) (flat_map character_text cs ++ xs)
+    → later + length (flat_map character_text cs) ≡ at + length (flat_map character_text (c ∷ cs))
+    → Arrives limited later outer (quoted p (plain (t ++ meaning c))) (flat_map character_text cs) outer (quoted p (plain ((t ++ meaning c) ++ flat_map meaning cs))) xs
+    → Arrives limited at outer (quoted p (plain t)) (flat_map character_text (c ∷ cs)) outer (quoted p (plain (t ++ flat_map meaning (c ∷ cs)))) xs
+character_more limited at later outer p t c cs xs e place run =
+    let last : ℕ = at + length (flat_map character_text (c ∷ cs)) in
+    ⊎_elim (λ (f : outcome later outer (quoted p (plain (t ++ meaning c))) (flat_map character_text cs ++ xs) ≡ outcome (later + length (flat_map character_text cs)) outer (quoted p (plain ((t ++ meaning c) ++ flat_map meaning cs))) xs).
+    inl (e ∙ (f ∙ (placed_at (later + length (flat_map character_text cs)) last outer (quoted p (plain ((t ++ meaning c) ++ flat_map meaning cs))) xs place
+    ∙ ap (λ ys. outcome last outer (quoted p (plain ys)) xs) (append_assoc t (meaning c) (flat_map meaning cs))))))
+    (λ (r : Refuses limited (outcome later outer (quoted p (plain (t ++ meaning c))) (flat_map character_text cs ++ xs))).
+    inr (refuses_along limited (outcome at outer (quoted p (plain t)) (flat_map character_text (c ∷ cs) ++ xs)) (outcome later outer (quoted p (plain (t ++ meaning c))) (flat_map character_text cs ++ xs)) e r)) run
+
+-- The characters of a string within the limits, or up to its last quote, where half of a pair may stand alone.
+pub characters_run : (limited : Bool) (at : ℕ) (outer : List Frame) (p : Purpose) (t : List ℕ) (cs : List Character) (xs : List ℕ) → AreCharacters limited cs
+    → (limited ≡ true) ⊎ ((rest : List ℕ) × (xs ≡ 34 ∷ rest))
+    → Arrives limited at outer (quoted p (plain t)) (flat_map character_text cs) outer (quoted p (plain (t ++ flat_map meaning cs))) xs
+unfolding step quoted_step
+characters_run limited at outer p t [] xs are behind =
+    inl (placed_at at (at + 0) outer (quoted p (plain t)) xs (omega arith) ∙ ap (λ y. outcome (at + 0) outer (quoted p (plain y)) xs) (sym (append-nil t)))
+characters_run limited at outer p t (itself c ∷ cs) xs are behind =
+    character_more limited at (suc at) outer p t (itself c) cs xs
+    (byte_run at c outer (quoted p (plain t)) (flat_map character_text cs ++ xs) (next outer (quoted p (plain (t ++ c ∷ [])))) (plain_leads at c outer p t are.0))
+    (omega arith) (characters_run limited (suc at) outer p (t ++ c ∷ []) cs xs are.2 behind)
+characters_run limited at outer p t (short l b ∷ cs) xs are behind =
+    character_more limited at (suc (suc at)) outer p t (short l b) cs xs
+    (byte_run at 92 outer (quoted p (plain t)) (l ∷ flat_map character_text cs ++ xs) (next outer (quoted p (escaped t at))) refl
+    ∙ byte_run (suc at) l outer (quoted p (escaped t at)) (flat_map character_text cs ++ xs) (next outer (quoted p (plain (t ++ b ∷ [])))) (escaped_some (suc at) outer p t at l b are.0))
+    (omega arith) (characters_run limited (suc (suc at)) outer p (t ++ b ∷ []) cs xs are.2 behind)
+characters_run limited at outer p t (alone a b c d ∷ cs) xs are behind =
+    let u : ℕ = unit_of a b c d in
+    let six : ℕ = suc (suc (suc (suc (suc (suc at))))) in
+    let ys : List ℕ = flat_map character_text cs ++ xs in
+    let unit_read = unit_run at outer p t a b c d ys are.0.0 in
+    let lacks : is_surrogate u ≡ true → is_high_surrogate u ≡ true → outcome six outer (quoted p (high t at u)) ys ≡ fault at 5 = λ e h. ⊎_elim
+    (λ (l : limited ≡ true). absurd (false≢true (sym (are.0.1 l) ∙ e)))
+    (λ (q : (rest : List ℕ) × (xs ≡ 34 ∷ rest)).
+    ap (λ zs. outcome six outer (quoted p (high t at u)) (flat_map character_text cs ++ zs)) q.1 ∙ high_alone limited six outer p t at u cs q.0 are.2 (rw h at are.1)) behind in
+    let refused : is_surrogate u ≡ true → go_on six ys (unit_step outer p t at u) ≡ fault at 5 = λ e. ⊎_elim
+    (λ (h : is_high_surrogate u ≡ true). ap (go_on six ys) (unit_high outer p t at u h) ∙ lacks e h)
+    (λ (w : is_low_surrogate u ≡ true). ap (go_on six ys) (unit_low outer p t at u w)) (or_cases (is_high_surrogate u) (is_low_surrogate u) e) in
+    ⊎_elim
+    (λ (e : is_surrogate u ≡ true). inr (record { place = at; kind = 5; is = unit_read ∙ refused e; later = lit< tt; limits = λ l. false≢true (sym (are.0.1 l) ∙ e) }))
+    (λ (e : is_surrogate u ≡ false).
+    character_more limited at six outer p t (alone a b c d) cs xs (unit_read ∙ ap (go_on six ys) (unit_scalar outer p t at u e))
+    (omega arith) (characters_run limited six outer p (t ++ encode_utf8 u) cs xs are.2 behind)) (cases_Bool (is_surrogate u))
+characters_run limited at outer p t (pair a b c d e f g h ∷ cs) xs are behind =
+    let u : ℕ = unit_of a b c d in
+    let v : ℕ = unit_of e f g h in
+    let six : ℕ = suc (suc (suc (suc (suc (suc at))))) in
+    let twelve : ℕ = suc (suc (suc (suc (suc (suc six))))) in
+    let ys : List ℕ = flat_map character_text cs ++ xs in
+    character_more limited at twelve outer p t (pair a b c d e f g h) cs xs
+    (unit_run at outer p t a b c d (92 ∷ 117 ∷ e ∷ f ∷ g ∷ h ∷ ys) are.0.0
+    ∙ (ap (go_on six (92 ∷ 117 ∷ e ∷ f ∷ g ∷ h ∷ ys)) (unit_high outer p t at u are.0.2)
+    ∙ (second_run six outer p t at u e f g h ys are.0.1 ∙ ap (go_on twelve ys) (pair_low outer p t at u v are.0.3))))
+    (omega arith) (characters_run limited twelve outer p (t ++ encode_utf8 (surrogate_pair_char u v)) cs xs are.2 behind)
+
+pub string_run : (limited : Bool) (at : ℕ) (outer : List Frame) (p : Purpose) (t : List ℕ) (cs : List Character) (rest : List ℕ) → AreCharacters limited cs → StringRun limited at outer p t cs rest
+string_run limited at outer p t cs rest are =
+    let flat : List ℕ = flat_map character_text cs in
+    let spelled : List ℕ = t ++ flat_map meaning cs in
+    let same : outcome at outer (quoted p (plain t)) (tail_text cs ++ rest) ≡ outcome at outer (quoted p (plain t)) (flat ++ 34 ∷ rest) = ap (outcome at outer (quoted p (plain t))) (append_assoc flat (34 ∷ []) rest) in
+    ⊎_elim (λ (e : outcome at outer (quoted p (plain t)) (flat ++ 34 ∷ rest) ≡ outcome (at + length flat) outer (quoted p (plain spelled)) (34 ∷ rest)).
+    inl (same ∙ (e ∙ (byte_run (at + length flat) 34 outer (quoted p (plain spelled)) rest (quote_step outer p spelled) (plain_quote (at + length flat) outer p spelled)
+    ∙ ap (λ k. go_on k rest (quote_step outer p spelled)) (omega (arith, length-append flat (34 ∷ [])))))))
+    (λ r. inr (refuses_along limited (outcome at outer (quoted p (plain t)) (tail_text cs ++ rest)) (outcome at outer (quoted p (plain t)) (flat ++ 34 ∷ rest)) same r))
+    (characters_run limited at outer p t cs (34 ∷ rest) are (inr (rest, refl)))
+
+-- ---- The machine at values of the grammar.
 -- literals
 null_moves : (at : ℕ) (outer : List Frame) → Moves at outer wanted (110 ∷ ull) outer (ended null)
-null_moves at outer = moves_on at 110 outer wanted outer (literal null ull) ull outer (ended null) (null_leads at outer)
-    (moves_on (at + 1) 117 outer (literal null ull) outer (literal null (108 ∷ 108 ∷ [])) (108 ∷ 108 ∷ []) outer (ended null) (letter_comes (at + 1) 117 outer null (108 ∷ 108 ∷ []))
-    (moves_on (at + 1 + 1) 108 outer (literal null (108 ∷ 108 ∷ [])) outer (literal null (108 ∷ [])) (108 ∷ []) outer (ended null) (letter_comes (at + 1 + 1) 108 outer null (108 ∷ []))
-    (moves_byte (at + 1 + 1 + 1) 108 outer (literal null (108 ∷ [])) outer (ended null) (letter_comes (at + 1 + 1 + 1) 108 outer null []))))
-
-true_moves : (at : ℕ) (outer : List Frame) → Moves at outer wanted (116 ∷ rue) outer (ended (boolean true))
-true_moves at outer = moves_on at 116 outer wanted outer (literal (boolean true) rue) rue outer (ended (boolean true)) (true_leads at outer)
-    (moves_on (at + 1) 114 outer (literal (boolean true) rue) outer (literal (boolean true) (117 ∷ 101 ∷ [])) (117 ∷ 101 ∷ []) outer (ended (boolean true)) (letter_comes (at + 1) 114 outer (boolean true) (117 ∷ 101 ∷ []))
-    (moves_on (at + 1 + 1) 117 outer (literal (boolean true) (117 ∷ 101 ∷ [])) outer (literal (boolean true) (101 ∷ [])) (101 ∷ []) outer (ended (boolean true)) (letter_comes (at + 1 + 1) 117 outer (boolean true) (101 ∷ []))
-    (moves_byte (at + 1 + 1 + 1) 101 outer (literal (boolean true) (101 ∷ [])) outer (ended (boolean true)) (letter_comes (at + 1 + 1 + 1) 101 outer (boolean true) []))))
-
-false_moves : (at : ℕ) (outer : List Frame) → Moves at outer wanted (102 ∷ alse) outer (ended (boolean false))
-false_moves at outer = moves_on at 102 outer wanted outer (literal (boolean false) alse) alse outer (ended (boolean false)) (false_leads at outer)
-    (moves_on (at + 1) 97 outer (literal (boolean false) alse) outer (literal (boolean false) (108 ∷ 115 ∷ 101 ∷ [])) (108 ∷ 115 ∷ 101 ∷ []) outer (ended (boolean false)) (letter_comes (at + 1) 97 outer (boolean false) (108 ∷ 115 ∷ 101 ∷ []))
-    (moves_on (at + 1 + 1) 108 outer (literal (boolean false) (108 ∷ 115 ∷ 101 ∷ [])) outer (literal (boolean false) (115 ∷ 101 ∷ [])) (115 ∷ 101 ∷ []) outer (ended (boolean false)) (letter_comes (at + 1 + 1) 108 outer (boolean false) (115 ∷ 101 ∷ []))
-    (moves_on (at + 1 + 1 + 1) 115 outer (literal (boolean false) (115 ∷ 101 ∷ [])) outer (literal (boolean false) (101 ∷ [])) (101 ∷ []) outer (ended (boolean false)) (letter_comes (at + 1 + 1 + 1) 115 outer (boolean false) (101 ∷ []))
-    (moves_byte (at + 1 + 1 + 1 + 1) 101 outer (literal (boolean false) (101 ∷ [])) outer (ended (boolean false)) (letter_comes (at + 1 + 1 + 1 + 1) 101 outer (boolean false) [])))))
+unfolding outcome step begin_step literal_step
+null_moves at outer = λ rest. placed_at (suc (suc (suc (suc at)))) (at + 4) outer (ended null) rest (omega arith)
 
 boolean_moves : (b : Bool) (at : ℕ) (outer : List Frame) → Moves at outer wanted (cond b (116 ∷ rue) (102 ∷ alse)) outer (ended (boolean b))
-boolean_moves true at outer = true_moves at outer
-boolean_moves false at outer = false_moves at outer
+unfolding outcome step begin_step literal_step
+boolean_moves true at outer = λ rest. placed_at (suc (suc (suc (suc at)))) (at + 4) outer (ended (boolean true)) rest (omega arith)
+boolean_moves false at outer = λ rest. placed_at (suc (suc (suc (suc (suc at))))) (at + 5) outer (ended (boolean false)) rest (omega arith)
 
 -- the same bytes under another name
 pub arrives_as : (limited : Bool) (at : ℕ) (outer : List Frame) (spot : Spot) (xs ys : List ℕ) (o : List Frame) (s : Spot) (rest : List ℕ) → xs ≡ ys
@@ -47,10 +392,10 @@ arrives_as limited at outer spot xs ys o s rest e a = subst (λ (bs : List ℕ).
 
 -- strings
 string_value : (limited : Bool) (at : ℕ) (outer : List Frame) (t bs rest : List ℕ) → IsString limited t bs → Arrives limited at outer wanted bs outer (ended (text t)) rest
-unfolding quote_step
+unfolding quote_step step begin_step
 string_value limited at outer t bs rest is =
     let led : outcome at outer wanted (34 ∷ tail_text is.0 ++ rest) ≡ outcome (suc at) outer (quoted for_value (plain [])) (tail_text is.0 ++ rest) =
-    byte_run at 34 outer wanted (tail_text is.0 ++ rest) (next outer (quoted for_value (plain []))) (quote_leads at outer) in
+    byte_run at 34 outer wanted (tail_text is.0 ++ rest) (next outer (quoted for_value (plain []))) refl in
     arrives_as limited at outer wanted (34 ∷ tail_text is.0) bs outer (ended (text t)) rest (sym is.3)
     (⊎_elim (λ e. inl (led ∙ (e ∙ (placed_at (suc at + length (tail_text is.0)) (at + length (34 ∷ tail_text is.0)) outer (ended (text (flat_map meaning is.0))) rest (omega arith)
     ∙ ap (λ xs. outcome (at + length (34 ∷ tail_text is.0)) outer (ended (text xs)) rest) (sym is.2)))))
@@ -59,10 +404,11 @@ string_value limited at outer t bs rest is =
 
 pub string_key : (limited : Bool) (at : ℕ) (outer : List Frame) (ms : List Member) (k bs rest : List ℕ) → IsString limited k bs → (limited ≡ true → has_key (members_of ms) k ≡ false)
     → Arrives limited at outer (key_wanted ms) bs outer (colon_wanted ms k) rest
+unfolding step
 string_key limited at outer ms k bs rest is new =
     let cs : List Character = is.0 in
     let led : outcome at outer (key_wanted ms) (34 ∷ tail_text cs ++ rest) ≡ outcome (suc at) outer (quoted (for_key ms at) (plain [])) (tail_text cs ++ rest) =
-    byte_run at 34 outer (key_wanted ms) (tail_text cs ++ rest) (next outer (quoted (for_key ms at) (plain []))) (key_quote at outer ms) in
+    byte_run at 34 outer (key_wanted ms) (tail_text cs ++ rest) (next outer (quoted (for_key ms at) (plain []))) refl in
     let place : ℕ = suc at + length (tail_text cs) in
     let named : quote_step outer (for_key ms at) (flat_map meaning cs) ≡ quote_step outer (for_key ms at) k = ap (quote_step outer (for_key ms at)) (sym is.2) in
     arrives_as limited at outer (key_wanted ms) (34 ∷ tail_text cs) bs outer (colon_wanted ms k) rest (sym is.3)
@@ -107,6 +453,7 @@ pub keyed : (limited : Bool) (at : ℕ) (outer : List Frame) (ms : List Member) 
     → ((j : ℕ) → Arrives limited j (in_object ms k ∷ outer) wanted core (in_object ms k ∷ outer) (ended v) ((behind ++ tail) ++ rest))
     → ((j : ℕ) → Arrives limited j (in_object ms k ∷ outer) (ended v) tail o s rest)
     → Arrives limited at outer (key_wanted ms) (first ++ (key ++ (second ++ (58 ∷ third ++ (core ++ (behind ++ tail)))))) o s rest
+unfolding step
 keyed limited at outer ms k v first key second third core behind tail o s rest s1 is s2 s3 s4 new value follow =
     let frames : List Frame = in_object ms k ∷ outer in
     let at1 : ℕ = at + length first in
@@ -119,30 +466,23 @@ keyed limited at outer ms k v first key second third core behind tail o s rest s
     (arrives_then limited at2 outer (colon_wanted ms k) second outer (colon_wanted ms k) (58 ∷ third ++ (core ++ (behind ++ tail))) o s rest
     (arrives_by limited at2 outer (colon_wanted ms k) second outer (colon_wanted ms k) ((58 ∷ third ++ (core ++ (behind ++ tail))) ++ rest) (space_moves at2 outer (colon_wanted ms k) second s2 tt))
     (arrives_then limited at3 outer (colon_wanted ms k) (58 ∷ []) frames wanted (third ++ (core ++ (behind ++ tail))) o s rest
-    (arrives_by limited at3 outer (colon_wanted ms k) (58 ∷ []) frames wanted ((third ++ (core ++ (behind ++ tail))) ++ rest) (moves_byte at3 58 outer (colon_wanted ms k) frames wanted (colon_comes at3 outer ms k)))
+    (arrives_by limited at3 outer (colon_wanted ms k) (58 ∷ []) frames wanted ((third ++ (core ++ (behind ++ tail))) ++ rest) (moves_byte at3 58 outer (colon_wanted ms k) frames wanted refl))
     (padded limited (at3 + 1) frames v third core behind tail o s rest s3 s4 value follow))))
 
 -- a bracket opens a level, or there may be none more
-pub opened_next : (at : ℕ) (outer : List Frame) (spot : Spot) → length outer < 64 → opened at outer spot ≡ next outer spot
-unfolding opened
-opened_next at outer spot lt = rw (lt-ltb (length outer) 64 lt) refl
-
-pub opened_stop : (at : ℕ) (outer : List Frame) (spot : Spot) → nat_lt (length outer) 64 ≡ false → opened at outer spot ≡ stop at 3
-unfolding opened
-opened_stop at outer spot e = rw e refl
-
 brackets : (limited : Bool) (at level c d : ℕ) (outer : List Frame) (spot : Spot) (inside : List ℕ) (v : Value) (rest : List ℕ) → step at outer wanted c ≡ opened at outer spot → length outer ≡ level
     → (limited ≡ true → level < depth_limit) → ((k : ℕ) → Arrives limited k outer spot (inside ++ d ∷ []) outer (ended v) rest) → Arrives limited at outer wanted (c ∷ inside ++ d ∷ []) outer (ended v) rest
+unfolding opened
 brackets limited at level c d outer spot inside v rest opens size limits within =
     ⊎_elim (λ (room : nat_lt (length outer) 64 ≡ true).
     arrives_then limited at outer wanted (c ∷ []) outer spot (inside ++ d ∷ []) outer (ended v) rest
-    (arrives_by limited at outer wanted (c ∷ []) outer spot ((inside ++ d ∷ []) ++ rest) (moves_byte at c outer wanted outer spot (opens ∙ opened_next at outer spot (ltb-true (length outer) 64 room))))
+    (arrives_by limited at outer wanted (c ∷ []) outer spot ((inside ++ d ∷ []) ++ rest) (moves_byte at c outer wanted outer spot (opens ∙ rw (lt-ltb (length outer) 64 (ltb-true (length outer) 64 room)) refl)))
     (within (at + 1)))
     (λ (full : nat_lt (length outer) 64 ≡ false).
     inr (record {
       place = at;
       kind = 3;
-      is = byte_run at c outer wanted ((inside ++ d ∷ []) ++ rest) (stop at 3) (opens ∙ opened_stop at outer spot full);
+      is = byte_run at c outer wanted ((inside ++ d ∷ []) ++ rest) (stop at 3) (opens ∙ rw full refl);
       later = lit< tt;
       limits = λ l. false≢true (sym full ∙ lt-ltb (length outer) 64 (omega (arith, limits l, size)));
     }))
@@ -204,22 +544,17 @@ first_key_is limited at outer k key x o s rest is a =
     ⊎_elim (λ e. inl (same ∙ e)) (λ r. inr (refuses_along limited (outcome at outer first_key ((key ++ x) ++ rest)) (outcome at outer (key_wanted []) ((key ++ x) ++ rest)) same r)) a
 
 -- lists under other brackets
-pub four : (a b c d e : List ℕ) → a ++ (b ++ (c ++ (d ++ e))) ≡ (a ++ (b ++ (c ++ d))) ++ e
-four a b c d e = sym (append_assoc a (b ++ (c ++ d)) e ∙ ap (λ x. a ++ x) (append_assoc b (c ++ d) e ∙ ap (λ x. b ++ x) (append_assoc c d e)))
-
-pub seven : (a b c d f g h e : List ℕ) → a ++ (b ++ (c ++ (58 ∷ d ++ (f ++ (g ++ (h ++ e)))))) ≡ (a ++ (b ++ (c ++ (58 ∷ d ++ (f ++ (g ++ h)))))) ++ e
-seven a b c d f g h e = sym (append_assoc a (b ++ (c ++ (58 ∷ d ++ (f ++ (g ++ h))))) e ∙ ap (λ x. a ++ x) (append_assoc b (c ++ (58 ∷ d ++ (f ++ (g ++ h)))) e
-    ∙ ap (λ x. b ++ x) (append_assoc c (58 ∷ d ++ (f ++ (g ++ h))) e ∙ ap (λ x. c ++ (58 ∷ x)) (sym (four d f g h e)))))
-
 close_items : (limited : Bool) (at : ℕ) (outer : List Frame) (vs : List Value) (v : Value) (rest : List ℕ)
     → Arrives limited at (in_array vs ∷ outer) (ended v) (93 ∷ []) outer (ended (array (items_onto vs (item v no_items)))) rest
+unfolding step ended_step close_step
 close_items limited at outer vs v rest = arrives_by limited at (in_array vs ∷ outer) (ended v) (93 ∷ []) outer (ended (array (items_onto vs (item v no_items)))) rest
-    (moves_byte at 93 (in_array vs ∷ outer) (ended v) outer (ended (array (items_onto vs (item v no_items)))) (item_close at outer vs v ∙ ap (λ is. next outer (ended (array is))) (items_of-push vs v)))
+    (moves_byte at 93 (in_array vs ∷ outer) (ended v) outer (ended (array (items_onto vs (item v no_items)))) (ap (λ is. next outer (ended (array is))) (items_of-push vs v)))
 
 close_members : (limited : Bool) (at : ℕ) (outer : List Frame) (ms : List Member) (k : List ℕ) (v : Value) (rest : List ℕ)
     → Arrives limited at (in_object ms k ∷ outer) (ended v) (125 ∷ []) outer (ended (object (members_onto ms (member k v no_members)))) rest
+unfolding step ended_step close_step
 close_members limited at outer ms k v rest = arrives_by limited at (in_object ms k ∷ outer) (ended v) (125 ∷ []) outer (ended (object (members_onto ms (member k v no_members)))) rest
-    (moves_byte at 125 (in_object ms k ∷ outer) (ended v) outer (ended (object (members_onto ms (member k v no_members)))) (member_close at outer ms k v ∙ ap (λ is. next outer (ended (object is))) (members_of-push ms k v)))
+    (moves_byte at 125 (in_object ms k ∷ outer) (ended v) outer (ended (object (members_onto ms (member k v no_members)))) (ap (λ is. next outer (ended (object is))) (members_of-push ms k v)))
 
 tail_delimits : (limited : Bool) (level : ℕ) (vs : Items) (behind more rest : List ℕ) → IsSpace behind → SpellsMoreItems limited level vs more → Delimits ((behind ++ (more ++ 93 ∷ [])) ++ rest)
 tail_delimits limited level vs behind more rest space s =
@@ -230,6 +565,8 @@ tail_separates limited level ms behind more rest space s =
     subst (λ (bs : List ℕ). Delimits bs) (sym (append_assoc behind (more ++ 125 ∷ []) rest)) (delimits_behind behind ((more ++ 125 ∷ []) ++ rest) space (delimits_members limited level ms more rest s))
 
 mutual
+  unfolding step begin_step ended_step close_step
+
   pub value_arrives : (limited : Bool) (level : ℕ) (v : Value) (bs : List ℕ) → Spells limited level v bs → (at : ℕ) (outer : List Frame) (rest : List ℕ) → length outer ≡ level → Delimits rest
       → Arrives limited at outer wanted bs outer (ended v) rest
   value_arrives limited level null bs s at outer rest size d =
@@ -241,11 +578,11 @@ mutual
   value_arrives limited level (text t) bs s at outer rest size d = string_value limited at outer t bs rest s
   value_arrives limited level (array vs) bs s at outer rest size d =
       arrives_as limited at outer wanted (91 ∷ s.0 ++ 93 ∷ []) bs outer (ended (array vs)) rest (sym s.3)
-      (brackets limited at level 91 93 outer first_item s.0 (array vs) rest (open_array at outer) size s.1
+      (brackets limited at level 91 93 outer first_item s.0 (array vs) rest refl size s.1
       (λ k. items_arrive limited (level + 1) vs s.0 s.2 k outer rest (omega (arith, size))))
   value_arrives limited level (object ms) bs s at outer rest size d =
       arrives_as limited at outer wanted (123 ∷ s.0 ++ 125 ∷ []) bs outer (ended (object ms)) rest (sym s.4)
-      (brackets limited at level 123 125 outer first_key s.0 (object ms) rest (open_object at outer) size s.1
+      (brackets limited at level 123 125 outer first_key s.0 (object ms) rest refl size s.1
       (λ k. members_arrive limited (level + 1) ms s.0 s.3 k outer rest (omega (arith, size)) s.2))
 
   items_arrive : (limited : Bool) (level : ℕ) (vs : Items) (inside : List ℕ) → SpellsItems limited level vs inside → (at : ℕ) (outer : List Frame) (rest : List ℕ) → length outer + 1 ≡ level
@@ -253,7 +590,7 @@ mutual
   items_arrive limited level no_items inside s at outer rest size =
       arrives_then limited at outer first_item inside outer first_item (93 ∷ []) outer (ended (array no_items)) rest
       (arrives_by limited at outer first_item inside outer first_item ((93 ∷ []) ++ rest) (space_moves at outer first_item inside s tt))
-      (arrives_by limited (at + length inside) outer first_item (93 ∷ []) outer (ended (array no_items)) rest (moves_byte (at + length inside) 93 outer first_item outer (ended (array no_items)) (first_item_close (at + length inside) outer)))
+      (arrives_by limited (at + length inside) outer first_item (93 ∷ []) outer (ended (array no_items)) rest (moves_byte (at + length inside) 93 outer first_item outer (ended (array no_items)) refl))
   items_arrive limited level (item v vs) inside s at outer rest size =
       let tail : List ℕ = s.3 ++ 93 ∷ [] in
       let frames : List Frame = in_array [] ∷ outer in
@@ -287,7 +624,7 @@ mutual
   members_arrive limited level no_members inside s at outer rest size unique =
       arrives_then limited at outer first_key inside outer first_key (125 ∷ []) outer (ended (object no_members)) rest
       (arrives_by limited at outer first_key inside outer first_key ((125 ∷ []) ++ rest) (space_moves at outer first_key inside s tt))
-      (arrives_by limited (at + length inside) outer first_key (125 ∷ []) outer (ended (object no_members)) rest (moves_byte (at + length inside) 125 outer first_key outer (ended (object no_members)) (first_key_close (at + length inside) outer)))
+      (arrives_by limited (at + length inside) outer first_key (125 ∷ []) outer (ended (object no_members)) rest (moves_byte (at + length inside) 125 outer first_key outer (ended (object no_members)) refl))
   members_arrive limited level (member k v ms) inside s at outer rest size unique =
       let tail : List ℕ = s.6 ++ 125 ∷ [] in
       let frames : List Frame = in_object [] k ∷ outer in
@@ -317,7 +654,7 @@ mutual
       arrives_as limited at (in_object earlier k ∷ outer) (ended v) (44 ∷ x) (more ++ 125 ∷ []) outer last rest
       (ap (λ bs. 44 ∷ bs) (seven s.0 s.1 s.2 s.3 s.4 s.5 s.6 (125 ∷ [])) ∙ ap (λ bs. bs ++ 125 ∷ []) (sym s.14))
       (arrives_then limited at (in_object earlier k ∷ outer) (ended v) (44 ∷ []) outer (key_wanted so_far) x outer last rest
-      (arrives_by limited at (in_object earlier k ∷ outer) (ended v) (44 ∷ []) outer (key_wanted so_far) (x ++ rest) (moves_byte at 44 (in_object earlier k ∷ outer) (ended v) outer (key_wanted so_far) (member_comma at outer earlier k v)))
+      (arrives_by limited at (in_object earlier k ∷ outer) (ended v) (44 ∷ []) outer (key_wanted so_far) (x ++ rest) (moves_byte at 44 (in_object earlier k ∷ outer) (ended v) outer (key_wanted so_far) refl))
       (keyed limited (at + 1) outer so_far j w s.0 s.1 s.2 s.3 s.4 s.5 tail outer last rest s.7 s.8 s.9 s.10 s.12 (λ l. new_key so_far j w ms (unique_here l))
       (λ i. value_arrives limited level w s.4 s.11 i frames ((s.5 ++ tail) ++ rest) (omega (arith, size)) (tail_separates limited level ms s.5 s.6 rest s.12 s.13))
       (λ i. subst (λ (is : Members). Arrives limited i frames (ended w) tail outer (ended (object is)) rest) (members_onto-push earlier k v (member j w ms))
@@ -338,3 +675,264 @@ text_arrives limited v bs s =
     let same : (s.0 ++ (s.1 ++ (s.2 ++ []))) ++ [] ≡ bs = append-nil (s.0 ++ (s.1 ++ (s.2 ++ []))) ∙ (ap (λ x. s.0 ++ (s.1 ++ x)) (append-nil s.2) ∙ sym s.6) in
     ⊎_elim (λ e. inl (ap (outcome 0 [] wanted) (sym same) ∙ (e ∙ text_end (0 + length (s.0 ++ (s.1 ++ (s.2 ++ [])))) v)))
     (λ r. inr (refuses_along limited (outcome 0 [] wanted bs) (outcome 0 [] wanted ((s.0 ++ (s.1 ++ (s.2 ++ []))) ++ [])) (ap (outcome 0 [] wanted) (sym same)) r)) a
+
+-- ---- The machine at fronts of texts, and at what may stand behind them.
+surely : (at : ℕ) (outer : List Frame) (spot : Spot) (bs : List ℕ) (o : List Frame) (s : Spot) (rest : List ℕ) → Arrives true at outer spot bs o s rest → outcome at outer spot (bs ++ rest) ≡ outcome (at + length bs) o s rest
+surely at outer spot bs o s rest a = ⊎_elim (λ e. e) (λ (r : Refuses true (outcome at outer spot (bs ++ rest))). absurd (r.limits refl)) a
+
+delimited : (behind more rest : List ℕ) → IsSpace behind → Delimits ((behind ++ 44 ∷ more) ++ rest)
+delimited behind more rest s = subst (λ (x : List ℕ). Delimits x) (sym (append_assoc behind (44 ∷ more) rest)) (delimits_behind behind ((44 ∷ more) ++ rest) s refl)
+
+-- arrays
+items_comma : (outer : List Frame) (earlier : List Value) (v : Value) (k : ℕ) (more : List ℕ) (o : List Frame) (s : Spot) (rest : List ℕ)
+    → Arrives true (k + 1) (in_array (earlier ++ v ∷ []) ∷ outer) wanted more o s rest → Arrives true k (in_array earlier ∷ outer) (ended v) (44 ∷ more) o s rest
+items_comma outer earlier v k more o s rest a = arrives_then true k (in_array earlier ∷ outer) (ended v) (44 ∷ []) (in_array (earlier ++ v ∷ []) ∷ outer) wanted more o s rest
+    (arrives_by true k (in_array earlier ∷ outer) (ended v) (44 ∷ []) (in_array (earlier ++ v ∷ []) ∷ outer) wanted (more ++ rest)
+    (moves_byte k 44 (in_array earlier ∷ outer) (ended v) (in_array (earlier ++ v ∷ []) ∷ outer) wanted (item_comma k outer earlier v))) a
+
+items_go : (outer : List Frame) (vs : List Value) (inside : List ℕ) → FrontItems true (length outer + 1) vs inside → (at : ℕ) (earlier : List Value) (rest : List ℕ)
+    → Arrives true at (in_array earlier ∷ outer) wanted inside (in_array (earlier ++ vs) ∷ outer) wanted rest
+items_go outer [] inside f at earlier rest =
+    arrives_as true at (in_array earlier ∷ outer) wanted [] inside (in_array (earlier ++ []) ∷ outer) wanted rest (sym f)
+    (subst (λ (vs : List Value). Arrives true at (in_array earlier ∷ outer) wanted [] (in_array vs ∷ outer) wanted rest) (sym (append-nil earlier))
+    (arrives_by true at (in_array earlier ∷ outer) wanted [] (in_array earlier ∷ outer) wanted rest (moves_none at (in_array earlier ∷ outer) wanted)))
+items_go outer (v ∷ vs) inside f at earlier rest =
+    arrives_as true at (in_array earlier ∷ outer) wanted (f.0 ++ (f.1 ++ (f.2 ++ 44 ∷ f.3))) inside (in_array (earlier ++ v ∷ vs) ∷ outer) wanted rest (sym f.8)
+    (padded true at (in_array earlier ∷ outer) v f.0 f.1 f.2 (44 ∷ f.3) (in_array (earlier ++ v ∷ vs) ∷ outer) wanted rest f.4 f.6
+    (λ k. value_arrives true (length outer + 1) v f.1 f.5 k (in_array earlier ∷ outer) ((f.2 ++ 44 ∷ f.3) ++ rest) (omega arith) (delimited f.2 f.3 rest f.6))
+    (λ k. items_comma outer earlier v k f.3 (in_array (earlier ++ v ∷ vs) ∷ outer) wanted rest
+    (subst (λ (ws : List Value). Arrives true (k + 1) (in_array (earlier ++ v ∷ []) ∷ outer) wanted f.3 (in_array ws ∷ outer) wanted rest) (append_assoc earlier (v ∷ []) vs)
+    (items_go outer vs f.3 f.7 (k + 1) (earlier ++ v ∷ []) rest))))
+
+array_runs : (outer : List Frame) (vs : List Value) (inside space : List ℕ) → FrontItems true (length outer + 1) vs inside → IsSpace space → (at c : ℕ) (cs : List ℕ) → is_space c ≡ false → (c ≡ 93 → ⊥)
+    → outcome at outer first_item ((inside ++ space) ++ c ∷ cs) ≡ outcome (at + length (inside ++ space)) (in_array vs ∷ outer) wanted (c ∷ cs)
+array_runs outer [] inside space f sp at c cs ns nb =
+    subst (λ (i : List ℕ). outcome at outer first_item ((i ++ space) ++ c ∷ cs) ≡ outcome (at + length (i ++ space)) (in_array [] ∷ outer) wanted (c ∷ cs)) (sym f)
+    (space_moves at outer first_item space sp tt (c ∷ cs) ∙ first_item_as (at + length space) c outer cs ns nb)
+array_runs outer (v ∷ vs) inside space f sp at c cs ns nb =
+    let frames : List Frame = in_array (v ∷ vs) ∷ outer in
+    let tail : List ℕ = 44 ∷ f.3 ++ space in
+    let rest : List ℕ = c ∷ cs in
+    surely at outer first_item (inside ++ space) frames wanted rest
+    (arrives_as true at outer first_item (f.0 ++ (f.1 ++ (f.2 ++ tail))) (inside ++ space) frames wanted rest (four f.0 f.1 f.2 (44 ∷ f.3) space ∙ ap (λ x. x ++ space) (sym f.8))
+    (arrives_then true at outer first_item f.0 outer first_item (f.1 ++ (f.2 ++ tail)) frames wanted rest
+    (arrives_by true at outer first_item f.0 outer first_item ((f.1 ++ (f.2 ++ tail)) ++ rest) (space_moves at outer first_item f.0 f.4 tt))
+    (first_as true (at + length f.0) outer f.1 (f.2 ++ tail) frames wanted rest (value_begins true (length outer + 1) v f.1 f.5)
+    (padded true (at + length f.0) (in_array [] ∷ outer) v [] f.1 f.2 tail frames wanted rest tt f.6
+    (λ k. value_arrives true (length outer + 1) v f.1 f.5 k (in_array [] ∷ outer) ((f.2 ++ tail) ++ rest) (omega arith) (delimited f.2 (f.3 ++ space) rest f.6))
+    (λ k. arrives_then true k (in_array [] ∷ outer) (ended v) (44 ∷ []) (in_array (v ∷ []) ∷ outer) wanted (f.3 ++ space) frames wanted rest
+    (arrives_by true k (in_array [] ∷ outer) (ended v) (44 ∷ []) (in_array (v ∷ []) ∷ outer) wanted ((f.3 ++ space) ++ rest) (moves_byte k 44 (in_array [] ∷ outer) (ended v) (in_array (v ∷ []) ∷ outer) wanted (item_comma k outer [] v)))
+    (arrives_then true (k + 1) (in_array (v ∷ []) ∷ outer) wanted f.3 frames wanted space frames wanted rest
+    (items_go outer vs f.3 f.7 (k + 1) (v ∷ []) (space ++ rest))
+    (arrives_by true (k + 1 + length f.3) frames wanted space frames wanted rest (space_moves (k + 1 + length f.3) frames wanted space sp tt))))))))
+
+-- objects
+members_split : (earlier : List Member) (m : Member) (ms : List Member) → members_of (earlier ++ m ∷ ms) ≡ members_onto earlier (member m.0 m.1 (members_of ms))
+members_split [] m ms = refl
+members_split (e ∷ earlier) m ms = ap (member e.0 e.1) (members_split earlier m ms)
+
+is_new : (earlier : List Member) (m : Member) (ms : List Member) → HasUniqueKeys (members_of (earlier ++ m ∷ ms)) → has_key (members_of earlier) m.0 ≡ false
+is_new earlier m ms u = new_key earlier m.0 m.1 (members_of ms) (subst HasUniqueKeys (members_split earlier m ms) u)
+
+members_comma : (outer : List Frame) (earlier : List Member) (m : Member) (k : ℕ) (more : List ℕ) (o : List Frame) (s : Spot) (rest : List ℕ)
+    → Arrives true (k + 1) outer (key_wanted (earlier ++ m ∷ [])) more o s rest → Arrives true k (in_object earlier m.0 ∷ outer) (ended m.1) (44 ∷ more) o s rest
+unfolding step ended_step close_step
+members_comma outer earlier m k more o s rest a = arrives_then true k (in_object earlier m.0 ∷ outer) (ended m.1) (44 ∷ []) outer (key_wanted (earlier ++ m ∷ [])) more o s rest
+    (arrives_by true k (in_object earlier m.0 ∷ outer) (ended m.1) (44 ∷ []) outer (key_wanted (earlier ++ m ∷ [])) (more ++ rest)
+    (moves_byte k 44 (in_object earlier m.0 ∷ outer) (ended m.1) outer (key_wanted (earlier ++ m ∷ [])) refl)) a
+
+members_go : (outer : List Frame) (ms : List Member) (inside : List ℕ) → FrontMembers true (length outer + 1) ms inside → (at : ℕ) (earlier : List Member) (rest : List ℕ) → HasUniqueKeys (members_of (earlier ++ ms))
+    → Arrives true at outer (key_wanted earlier) inside outer (key_wanted (earlier ++ ms)) rest
+members_go outer [] inside f at earlier rest u =
+    arrives_as true at outer (key_wanted earlier) [] inside outer (key_wanted (earlier ++ [])) rest (sym f)
+    (subst (λ (ms : List Member). Arrives true at outer (key_wanted earlier) [] outer (key_wanted ms) rest) (sym (append-nil earlier))
+    (arrives_by true at outer (key_wanted earlier) [] outer (key_wanted earlier) rest (moves_none at outer (key_wanted earlier))))
+members_go outer (m ∷ ms) inside f at earlier rest u =
+    arrives_as true at outer (key_wanted earlier) (f.0 ++ (f.1 ++ (f.2 ++ (58 ∷ f.3 ++ (f.4 ++ (f.5 ++ 44 ∷ f.6)))))) inside outer (key_wanted (earlier ++ m ∷ ms)) rest (sym f.14)
+    (keyed true at outer earlier m.0 m.1 f.0 f.1 f.2 f.3 f.4 f.5 (44 ∷ f.6) outer (key_wanted (earlier ++ m ∷ ms)) rest f.7 f.8 f.9 f.10 f.12 (λ _. is_new earlier m ms u)
+    (λ k. value_arrives true (length outer + 1) m.1 f.4 f.11 k (in_object earlier m.0 ∷ outer) ((f.5 ++ 44 ∷ f.6) ++ rest) (omega arith) (delimited f.5 f.6 rest f.12))
+    (λ k. members_comma outer earlier m k f.6 outer (key_wanted (earlier ++ m ∷ ms)) rest
+    (subst (λ (ns : List Member). Arrives true (k + 1) outer (key_wanted (earlier ++ m ∷ [])) f.6 outer (key_wanted ns) rest) (append_assoc earlier (m ∷ []) ms)
+    (members_go outer ms f.6 f.13 (k + 1) (earlier ++ m ∷ []) rest (subst (λ (ns : List Member). HasUniqueKeys (members_of ns)) (sym (append_assoc earlier (m ∷ []) ms)) u)))))
+
+object_runs : (outer : List Frame) (ms : List Member) (inside space : List ℕ) → FrontMembers true (length outer + 1) ms inside → HasUniqueKeys (members_of ms) → IsSpace space → (at : ℕ) (cs : List ℕ)
+    → outcome at outer first_key ((inside ++ space) ++ 34 ∷ cs) ≡ outcome (at + length (inside ++ space)) outer (key_wanted ms) (34 ∷ cs)
+object_runs outer [] inside space f u sp at cs =
+    subst (λ (i : List ℕ). outcome at outer first_key ((i ++ space) ++ 34 ∷ cs) ≡ outcome (at + length (i ++ space)) outer (key_wanted []) (34 ∷ cs)) (sym f)
+    (space_moves at outer first_key space sp tt (34 ∷ cs) ∙ first_key_as (at + length space) outer cs)
+object_runs outer (m ∷ ms) inside space f u sp at cs =
+    let tail : List ℕ = 44 ∷ f.6 ++ space in
+    let rest : List ℕ = 34 ∷ cs in
+    let last : Spot = key_wanted (m ∷ ms) in
+    let x : List ℕ = f.2 ++ (58 ∷ f.3 ++ (f.4 ++ (f.5 ++ tail))) in
+    surely at outer first_key (inside ++ space) outer last rest
+    (arrives_as true at outer first_key (f.0 ++ (f.1 ++ x)) (inside ++ space) outer last rest (seven f.0 f.1 f.2 f.3 f.4 f.5 (44 ∷ f.6) space ∙ ap (λ y. y ++ space) (sym f.14))
+    (arrives_then true at outer first_key f.0 outer first_key (f.1 ++ x) outer last rest
+    (arrives_by true at outer first_key f.0 outer first_key ((f.1 ++ x) ++ rest) (space_moves at outer first_key f.0 f.7 tt))
+    (first_key_is true (at + length f.0) outer m.0 f.1 x outer last rest f.8
+    (keyed true (at + length f.0) outer [] m.0 m.1 [] f.1 f.2 f.3 f.4 f.5 tail outer last rest tt f.8 f.9 f.10 f.12 (λ _. refl)
+    (λ k. value_arrives true (length outer + 1) m.1 f.4 f.11 k (in_object [] m.0 ∷ outer) ((f.5 ++ tail) ++ rest) (omega arith) (delimited f.5 (f.6 ++ space) rest f.12))
+    (λ k. members_comma outer [] m k (f.6 ++ space) outer last rest
+    (arrives_then true (k + 1) outer (key_wanted (m ∷ [])) f.6 outer last space outer last rest
+    (members_go outer ms f.6 f.13 (k + 1) (m ∷ []) (space ++ rest) u)
+    (arrives_by true (k + 1 + length f.6) outer last space outer last rest (space_moves (k + 1 + length f.6) outer last space sp tt))))))))
+
+-- The machine comes to where a value may begin.
+abbrev pub FrontRuns : List Frame → List ℕ → Type 0
+FrontRuns outer front = (c : ℕ) (cs : List ℕ) → is_space c ≡ false → (c ≡ 93 → ⊥) → whole_outcome (front ++ c ∷ cs) ≡ outcome (length front) outer wanted (c ∷ cs)
+
+brackets_regroup : (f i s e : List ℕ) → ((f ++ i) ++ s) ++ e ≡ f ++ (i ++ (s ++ e))
+brackets_regroup f i s e = simp append_assoc
+
+opens_at : (at : ℕ) (outer : List Frame) (c : ℕ) (spot : Spot) (rest : List ℕ) → step at outer wanted c ≡ next outer spot → outcome at outer wanted (c ∷ rest) ≡ outcome (suc at) outer spot rest
+opens_at at outer c spot rest e = byte_run at c outer wanted rest (next outer spot) e
+
+pub key_front_runs : (outer : List Frame) (ms : List Member) (front : List ℕ) → ((f : List ℕ) → IsFront outer f → FrontRuns outer f) → IsKeyFront outer ms front → (cs : List ℕ)
+    → whole_outcome (front ++ 34 ∷ cs) ≡ outcome (length front) outer (key_wanted ms) (34 ∷ cs)
+unfolding step begin_step opened
+key_front_runs outer ms front runs f cs =
+    let o = f.2 in
+    let is : front ≡ (o.0 ++ 123 ∷ o.1) ++ f.1 = f.4 ∙ ap (λ x. x ++ f.1) o.6 in
+    let size : length front ≡ suc (length o.0) + length (o.1 ++ f.1) =
+    ap length (is ∙ append_assoc o.0 (123 ∷ o.1) f.1) ∙ (length-append o.0 (123 ∷ o.1 ++ f.1) ∙ omega arith) in
+    ap (λ x. whole_outcome (x ++ 34 ∷ cs)) is ∙ (ap whole_outcome (brackets_regroup o.0 (123 ∷ o.1) f.1 (34 ∷ cs) ∙ ap (λ x. o.0 ++ (123 ∷ x)) (sym (append_assoc o.1 f.1 (34 ∷ cs))))
+    ∙ (runs o.0 o.2 123 ((o.1 ++ f.1) ++ 34 ∷ cs) refl (λ e. absurd (omega arith))
+    ∙ (opens_at (length o.0) outer 123 first_key ((o.1 ++ f.1) ++ 34 ∷ cs) (rw (lt-ltb (length outer) 64 o.3) refl)
+    ∙ (object_runs outer ms o.1 f.1 o.4 o.5 f.3 (suc (length o.0)) cs ∙ placed_at (suc (length o.0) + length (o.1 ++ f.1)) (length front) outer (key_wanted ms) (34 ∷ cs) (sym size)))))
+
+pub front_runs : (outer : List Frame) (front : List ℕ) → IsFront outer front → FrontRuns outer front
+unfolding whole_outcome step begin_step opened
+front_runs [] front f c cs ns nb = space_moves 0 [] wanted front f tt (c ∷ cs) ∙ placed_at (0 + length front) (length front) [] wanted (c ∷ cs) (omega arith)
+front_runs (in_array vs ∷ outer) front f c cs ns nb =
+    let a = f.2 in
+    let is : front ≡ (a.0 ++ 91 ∷ a.1) ++ f.1 = f.4 ∙ ap (λ x. x ++ f.1) a.5 in
+    let size : length front ≡ suc (length a.0) + length (a.1 ++ f.1) =
+    ap length (is ∙ append_assoc a.0 (91 ∷ a.1) f.1) ∙ (length-append a.0 (91 ∷ a.1 ++ f.1) ∙ omega arith) in
+    ap (λ x. whole_outcome (x ++ c ∷ cs)) is ∙ (ap whole_outcome (brackets_regroup a.0 (91 ∷ a.1) f.1 (c ∷ cs) ∙ ap (λ x. a.0 ++ (91 ∷ x)) (sym (append_assoc a.1 f.1 (c ∷ cs))))
+    ∙ (front_runs outer a.0 a.2 91 ((a.1 ++ f.1) ++ c ∷ cs) refl (λ e. absurd (omega arith))
+    ∙ (opens_at (length a.0) outer 91 first_item ((a.1 ++ f.1) ++ c ∷ cs) (rw (lt-ltb (length outer) 64 a.3) refl)
+    ∙ (array_runs outer vs a.1 f.1 a.4 f.3 (suc (length a.0)) c cs ns nb ∙ placed_at (suc (length a.0) + length (a.1 ++ f.1)) (length front) (in_array vs ∷ outer) wanted (c ∷ cs) (sym size)))))
+front_runs (in_object ms k ∷ outer) front f c cs ns nb =
+    let colon = f.2 in
+    let keyed = colon.1.2 in
+    let key : List ℕ = keyed.1 in
+    let frames : List Frame = in_object ms k ∷ outer in
+    let rest : List ℕ = c ∷ cs in
+    let part : List ℕ = key ++ (colon.1.1 ++ (58 ∷ f.1)) in
+    let is : front ≡ keyed.0 ++ part =
+    f.4 ∙ (ap (λ x. x ++ f.1) (colon.2 ∙ ap (λ x. x ++ 58 ∷ []) (colon.1.4 ∙ ap (λ x. x ++ colon.1.1) keyed.5)) ∙ colon_regroup keyed.0 key colon.1.1 (58 ∷ []) f.1) in
+    let arrives : Arrives true (length keyed.0) outer (key_wanted ms) part frames wanted rest =
+    arrives_then true (length keyed.0) outer (key_wanted ms) key outer (colon_wanted ms k) (colon.1.1 ++ (58 ∷ f.1)) frames wanted rest
+    (string_key true (length keyed.0) outer ms k key ((colon.1.1 ++ (58 ∷ f.1)) ++ rest) keyed.3 (λ _. keyed.4))
+    (arrives_then true (length keyed.0 + length key) outer (colon_wanted ms k) colon.1.1 outer (colon_wanted ms k) (58 ∷ f.1) frames wanted rest
+    (arrives_by true (length keyed.0 + length key) outer (colon_wanted ms k) colon.1.1 outer (colon_wanted ms k) ((58 ∷ f.1) ++ rest) (space_moves (length keyed.0 + length key) outer (colon_wanted ms k) colon.1.1 colon.1.3 tt))
+    (arrives_then true (length keyed.0 + length key + length colon.1.1) outer (colon_wanted ms k) (58 ∷ []) frames wanted f.1 frames wanted rest
+    (arrives_by true (length keyed.0 + length key + length colon.1.1) outer (colon_wanted ms k) (58 ∷ []) frames wanted (f.1 ++ rest)
+    (moves_byte (length keyed.0 + length key + length colon.1.1) 58 outer (colon_wanted ms k) frames wanted refl))
+    (arrives_by true (length keyed.0 + length key + length colon.1.1 + 1) frames wanted f.1 frames wanted rest (space_moves (length keyed.0 + length key + length colon.1.1 + 1) frames wanted f.1 f.3 tt)))) in
+    let begun : (ys : List ℕ) × (part ++ rest ≡ 34 ∷ ys) = (_, ap (λ x. (x ++ (colon.1.1 ++ (58 ∷ f.1))) ++ rest) keyed.3.3) in
+    ap (λ x. whole_outcome (x ++ rest)) is ∙ (ap whole_outcome (append_assoc keyed.0 part rest ∙ ap (λ x. keyed.0 ++ x) begun.1)
+    ∙ (key_front_runs outer ms keyed.0 (λ g h. front_runs outer g h) keyed.2 begun.0
+    ∙ (ap (λ x. outcome (length keyed.0) outer (key_wanted ms) x) (sym begun.1)
+    ∙ (surely (length keyed.0) outer (key_wanted ms) part frames wanted rest arrives
+    ∙ placed_at (length keyed.0 + length part) (length front) frames wanted rest (sym (ap length is ∙ length-append keyed.0 part))))))
+  where
+    colon_regroup : (a k s m t : List ℕ) → (((a ++ k) ++ s) ++ m) ++ t ≡ a ++ (k ++ (s ++ (m ++ t)))
+    colon_regroup a k s m t = simp append_assoc
+
+-- a bracket that opens a level too much
+pub deep_fault : (bytes : List ℕ) (at : ℕ) → OpensTooDeep bytes at → whole_outcome bytes ≡ fault at 3
+unfolding step begin_step opened
+deep_fault bytes at d =
+    let full : nat_lt (length d.0) 64 ≡ false = le-ltb (length d.0) 64 (omega (arith, d.5)) in
+    ap whole_outcome d.8 ∙ (⊎_elim
+    (λ (e : d.2 ≡ 91). ap (λ b. whole_outcome (d.1 ++ b ∷ d.3)) e ∙ (front_runs d.0 d.1 d.4 91 d.3 refl (λ g. absurd (omega arith))
+    ∙ byte_run (length d.1) 91 d.0 wanted d.3 (stop (length d.1) 3) (rw full refl)))
+    (λ (e : d.2 ≡ 123). ap (λ b. whole_outcome (d.1 ++ b ∷ d.3)) e ∙ (front_runs d.0 d.1 d.4 123 d.3 refl (λ g. absurd (omega arith))
+    ∙ byte_run (length d.1) 123 d.0 wanted d.3 (stop (length d.1) 3) (rw full refl))) d.6
+    ∙ ap (λ k. fault k 3) (sym d.7))
+
+-- ---- The machine at a key that comes twice, and at a surrogate without its partner.
+pub repeated_fault : (bytes : List ℕ) (at : ℕ) → RepeatsKey bytes at → whole_outcome bytes ≡ fault at 4
+unfolding step
+repeated_fault bytes at r =
+    let outer : List Frame = r.0 in
+    let ms : List Member = r.1 in
+    let k : ℕ = length r.2 in
+    let cs : List Character = r.7.0 in
+    let run : outcome (suc k) outer (quoted (for_key ms k) (plain [])) (tail_text cs ++ r.5) ≡ go_on (suc k + length (tail_text cs)) r.5 (quote_step outer (for_key ms k) (flat_map meaning cs)) =
+    ⊎_elim (λ e. e) (λ (f : Refuses true (outcome (suc k) outer (quoted (for_key ms k) (plain [])) (tail_text cs ++ r.5))). absurd (f.limits refl)) (string_run true (suc k) outer (for_key ms k) [] cs r.5 r.7.1) in
+    ap whole_outcome (r.10 ∙ ap (λ x. r.2 ++ (x ++ r.5)) r.7.3)
+    ∙ (key_front_runs outer ms r.2 (λ f h. front_runs outer f h) r.6 (tail_text cs ++ r.5)
+    ∙ (byte_run k 34 outer (key_wanted ms) (tail_text cs ++ r.5) (next outer (quoted (for_key ms k) (plain []))) refl
+    ∙ (run
+    ∙ (ap (go_on (suc k + length (tail_text cs)) r.5) (ap (quote_step outer (for_key ms k)) (sym r.7.2) ∙ quote_known outer ms k r.4 r.8) ∙ ap (λ j. fault j 4) (sym r.9)))))
+
+-- behind the first unit of a pair, where these digits of the second have come
+no_more_hex : (at c : ℕ) (outer : List Frame) (p : Purpose) (t : List ℕ) (back u : ℕ) (h : Hex) (xs : List ℕ) → (is_hex c ≡ true → outcome at outer (quoted p (high_unit t back u h)) (c ∷ xs) ≡ fault back 5)
+    → outcome at outer (quoted p (high_unit t back u h)) (c ∷ xs) ≡ fault back 5
+unfolding step quoted_step
+no_more_hex at c outer p t back u h xs later =
+    ⊎_elim later (λ (e : is_hex c ≡ false). byte_run at c outer (quoted p (high_unit t back u h)) xs (stop back 5) (rw e refl)) (cases_Bool (is_hex c))
+
+lack_digits : (h : Hex) → AreHexSoFar h → (at : ℕ) (outer : List Frame) (p : Purpose) (t : List ℕ) (back u : ℕ) (xs : List ℕ) → LacksSecond (92 ∷ 117 ∷ hex_text h ++ xs)
+    → outcome at outer (quoted p (high_unit t back u h)) xs ≡ fault back 5
+unfolding more_hex outcome finish pair_step
+lack_digits h are at outer p t back u [] l = refl
+lack_digits no_digit are at outer p t back u (c ∷ xs) l = no_more_hex at c outer p t back u no_digit xs (λ e.
+    byte_run at c outer (quoted p (high_unit t back u no_digit)) xs (next outer (quoted p (high_unit t back u (one_digit c)))) (second_each outer p t back u at c no_digit e)
+    ∙ lack_digits (one_digit c) e (suc at) outer p t back u xs l)
+lack_digits (one_digit a) are at outer p t back u (c ∷ xs) l = no_more_hex at c outer p t back u (one_digit a) xs (λ e.
+    byte_run at c outer (quoted p (high_unit t back u (one_digit a))) xs (next outer (quoted p (high_unit t back u (two_digits a c)))) (second_each outer p t back u at c (one_digit a) e)
+    ∙ lack_digits (two_digits a c) (are, e) (suc at) outer p t back u xs l)
+lack_digits (two_digits a b) are at outer p t back u (c ∷ xs) l = no_more_hex at c outer p t back u (two_digits a b) xs (λ e.
+    byte_run at c outer (quoted p (high_unit t back u (two_digits a b))) xs (next outer (quoted p (high_unit t back u (three_digits a b c)))) (second_each outer p t back u at c (two_digits a b) e)
+    ∙ lack_digits (three_digits a b c) (are.0, are.1, e) (suc at) outer p t back u xs l)
+lack_digits (three_digits a b d) are at outer p t back u (c ∷ xs) l = no_more_hex at c outer p t back u (three_digits a b d) xs (λ e.
+    ⊎_elim (λ (low : is_low_surrogate (unit_of a b d c) ≡ true). absurd (l a b d c xs (are.0, are.1, are.2, e) low refl))
+    (λ (low : is_low_surrogate (unit_of a b d c) ≡ false). byte_run at c outer (quoted p (high_unit t back u (three_digits a b d))) xs (stop back 5)
+    (second_each outer p t back u at c (three_digits a b d) e ∙ rw low refl)) (cases_Bool (is_low_surrogate (unit_of a b d c))))
+
+lack_letter : (at : ℕ) (outer : List Frame) (p : Purpose) (t : List ℕ) (back u : ℕ) (xs : List ℕ) → LacksSecond (92 ∷ xs) → outcome at outer (quoted p (high_escaped t back u)) xs ≡ fault back 5
+unfolding outcome finish step quoted_step
+lack_letter at outer p t back u [] l = refl
+lack_letter at outer p t back u (c ∷ xs) l =
+    ⊎_elim (λ (e : (c == 117) ≡ true). byte_run at c outer (quoted p (high_escaped t back u)) xs (next outer (quoted p (high_unit t back u no_digit)))
+    (ap (λ b. step at outer (quoted p (high_escaped t back u)) b) (eqb-true c 117 e))
+    ∙ lack_digits no_digit tt (suc at) outer p t back u xs (subst (λ (k : ℕ). LacksSecond (92 ∷ k ∷ xs)) (eqb-true c 117 e) l))
+    (λ (e : (c == 117) ≡ false). byte_run at c outer (quoted p (high_escaped t back u)) xs (stop back 5) (rw e refl)) (cases_Bool (c == 117))
+
+high_lacks : (at : ℕ) (outer : List Frame) (p : Purpose) (t : List ℕ) (back u : ℕ) (xs : List ℕ) → LacksSecond xs → outcome at outer (quoted p (high t back u)) xs ≡ fault back 5
+unfolding outcome finish step quoted_step
+high_lacks at outer p t back u [] l = refl
+high_lacks at outer p t back u (c ∷ xs) l =
+    ⊎_elim (λ (e : (c == 92) ≡ true). byte_run at c outer (quoted p (high t back u)) xs (next outer (quoted p (high_escaped t back u)))
+    (ap (λ b. step at outer (quoted p (high t back u)) b) (eqb-true c 92 e))
+    ∙ lack_letter (suc at) outer p t back u xs (subst (λ (k : ℕ). LacksSecond (k ∷ xs)) (eqb-true c 92 e) l))
+    (λ (e : (c == 92) ≡ false). byte_run at c outer (quoted p (high t back u)) xs (stop back 5) (rw e refl)) (cases_Bool (c == 92))
+
+string_front_runs : (outer : List Frame) (p : Purpose) (front xs : List ℕ) → IsStringFront outer p front → whole_outcome (front ++ 34 ∷ xs) ≡ outcome (suc (length front)) outer (quoted p (plain [])) xs
+unfolding step begin_step
+string_front_runs outer for_value front xs f = front_runs outer front f 34 xs refl (λ e. absurd (omega arith))
+    ∙ byte_run (length front) 34 outer wanted xs (next outer (quoted for_value (plain []))) refl
+string_front_runs outer (for_key ms at) front xs f = key_front_runs outer ms front (λ g h. front_runs outer g h) f.0 xs
+    ∙ (byte_run (length front) 34 outer (key_wanted ms) xs (next outer (quoted (for_key ms (length front)) (plain []))) refl
+    ∙ ap (λ k. outcome (suc (length front)) outer (quoted (for_key ms k) (plain [])) xs) (sym f.1))
+
+pub lacks_fault : (bytes : List ℕ) (at : ℕ) → LacksPartner bytes at → whole_outcome bytes ≡ fault at 5
+lacks_fault bytes at l =
+    let outer : List Frame = l.0 in
+    let p : Purpose = l.1 in
+    let flat : List ℕ = flat_map character_text l.3 in
+    let escape : List ℕ = 92 ∷ 117 ∷ l.4 ∷ l.5 ∷ l.6 ∷ l.7 ∷ l.8 in
+    let t : List ℕ = flat_map meaning l.3 in
+    let place : ℕ = suc (length l.2) + length flat in
+    let six : ℕ = suc (suc (suc (suc (suc (suc place))))) in
+    let u : ℕ = unit_of l.4 l.5 l.6 l.7 in
+    let size : at ≡ place = l.13 ∙ (length-append l.2 (34 ∷ flat) ∙ omega arith) in
+    ap whole_outcome (l.14 ∙ append_assoc l.2 (34 ∷ flat) escape) ∙ (string_front_runs outer p l.2 (flat ++ escape) l.9
+    ∙ (surely (suc (length l.2)) outer (quoted p (plain [])) flat outer (quoted p (plain t)) escape (characters_run true (suc (length l.2)) outer p [] l.3 escape l.10 (inl refl))
+    ∙ (unit_run place outer p t l.4 l.5 l.6 l.7 l.8 l.11
+    ∙ (⊎_elim (λ (low : is_low_surrogate u ≡ true). ap (go_on six l.8) (unit_low outer p t place u low))
+    (λ (h : (is_high_surrogate u ≡ true) × LacksSecond l.8). ap (go_on six l.8) (unit_high outer p t place u h.0) ∙ high_lacks six outer p t place u l.8 h.1) l.12
+    ∙ ap (λ k. fault k 5) (sym size)))))

@@ -1,19 +1,22 @@
 -- Each step of the machine between tokens is sound.
-use Rattle.std.proofs.Common.{lit<, ◌≡◌, ℕ, ◌+◌, ◌==◌, ◌<◌, ◌≤◌, suc, cond, List, [], ◌∷◌, ◌++◌, length, refl, sym, ap, subst, ◌∙◌, arith, true, false, append_assoc, inl, inr}
-use Rattle.std.specs.Prelude.{◌⊎◌, nat_lt, nat_le}
+use Rattle.std.proofs.Common.{lit<, ◌≡◌, ℕ, ◌+◌, ◌==◌, ◌<◌, ◌≤◌, suc, cond, List, [], ◌∷◌, ◌++◌, length, refl, sym, ap, subst, ◌∙◌, arith, true, false, append_assoc, inl, inr, ◌*◌, Bool, fold, ◌&&◌, Option, Some, None, length-append}
+use Rattle.std.specs.Prelude.{◌⊎◌, nat_lt, nat_le, not, encode_utf8}
 use Rattle.std.proofs.lemmas.List.{append-nil}
-use Rattle.std.proofs.lemmas.Bool.{cond_both, eqb-true, ltb-true, ltb-false, and_parts, leb-true, eqb-false}
-use Rattle.decimal_json.specs.Value.{Value, null, boolean, array, object, no_items, no_members, items_of, members_of}
-use Rattle.decimal_json.specs.Number.{is_digit, digit_of}
-use Rattle.decimal_json.specs.Characters.{rue, alse, ull, is_space}
+use Rattle.std.proofs.lemmas.Bool.{cond_both, eqb-true, ltb-true, ltb-false, and_parts, leb-true, eqb-false, and_from, and_left, or_from, or_parts, not_from_false, false≢true}
+use Rattle.decimal_json.specs.Value.{Value, null, boolean, array, object, no_items, no_members, items_of, members_of, text, has_key}
+use Rattle.decimal_json.specs.Number.{is_digit, digit_of, is_mark, whole_of}
+use Rattle.decimal_json.specs.Characters.{rue, alse, ull, is_space, is_plain}
 use Rattle.decimal_json.specs.Open.{Member, Frame, in_array, in_object, Purpose, for_value, for_key}
-use Rattle.decimal_json.specs.inside.Scan.{Spot, wanted, first_item, first_key, key_wanted, colon_wanted, ended, quoted, plain, awaited, next, stop, begin_step, opened, ended_step, close_step, literal_step}
-use Rattle.decimal_json.specs.Grammar.{Spells}
-use Rattle.decimal_json.specs.Fronts.{InArray, InObject, BehindKey, BehindColon, IsFront, IsKeyFront, IsStringFront}
-use Rattle.decimal_json.proofs.Uniques.{unique_more}
-use Rattle.decimal_json.proofs.RunValues.{four}
-use Rattle.decimal_json.proofs.Growth.{one_more, space_more, spaced_more, spaced_none, front_depth, front_items-push, items_close, front_members-push, members_close}
-use Rattle.decimal_json.proofs.Stands.{BehindValue, InString, AreAscii, LiteralText, Stands, Good}
+use Rattle.decimal_json.specs.inside.Scan.{Spot, wanted, first_item, first_key, key_wanted, colon_wanted, ended, quoted, plain, awaited, next, stop, begin_step, opened, ended_step, close_step, literal_step, numeral, Numeral, minus, zero_first, whole, point, fraction, mark, signed, exponent, so_far, numeral_step, Quoted, escaped, unit, high, high_escaped, high_unit, Hex, no_digit, one_digit, two_digits, three_digits, quoted_step, quote_step, escape_step, more_hex, unit_step, pair_step, literal, Step, Outcome, done, fault, step, finish, finish_value, after, outcome, whole_outcome}
+use Rattle.decimal_json.specs.Grammar.{Spells, IsNumber, AreDigits, IsWhole, numerals, negative_text, fraction_text, Sign, no_sign, plus, sign_text, is_minus, Power, no_power, power, power_text, is_down, written, IsPower, Character, itself, short, alone, pair, character_text, meaning, AreHex, IsCharacter, is_first_alone, begins_with_second, AreCharacters, SpellsText}
+use Rattle.decimal_json.specs.Fronts.{InArray, InObject, BehindKey, BehindColon, IsFront, IsKeyFront, IsStringFront, LacksSecond, OpensTooDeep, RepeatsKey, LacksPartner}
+use Rattle.decimal_json.proofs.Values.{unique_more}
+use Rattle.decimal_json.proofs.Growth.{one_more, space_more, spaced_more, spaced_none, front_depth, front_items-push, items_close, front_members-push, members_close, BehindValue, InString, AreAscii, LiteralText, Stands, Good, IsOpenWhole, IsSomeDigits, NumeralText, QuotedText, hex_text, Caught, four}
+use Rattle.decimal_json.proofs.Views.{map-push}
+use Rattle.std.specs.List.{flat_map}
+use Rattle.std.specs.Char.Utf16.{is_low_surrogate, is_high_surrogate, surrogate_pair_char}
+use Rattle.decimal_json.specs.Escape.{short_escape, is_hex, unit_of}
+use Rattle.decimal_json.specs.Grammar as grammar
 
 pub stuck : (bs : List ℕ) (c : ℕ) → Good (stop (length bs) 2) bs c
 stuck bs c = λ cs. inl (refl, refl)
@@ -76,11 +79,6 @@ good_begin outer bs c f =
     above : (c : ℕ) → is_digit c ≡ true → (c == 48) ≡ false → 0 < digit_of c
     above c e z = let parts = and_parts (nat_le 48 c) (nat_le c 57) e in let ne : c ≡ 48 → ⊥ = eqb-false c 48 z in omega (arith, leb-true 48 c parts.0)
 
--- behind a value: the bytes so far, regrouped
-array_so_far : (bs base front base2 front3 space core space2 inside : List ℕ) → bs ≡ base ++ space → base ≡ front ++ core → front ≡ base2 ++ space2 → base2 ≡ front3 ++ 91 ∷ inside
-    → bs ≡ (((front3 ++ 91 ∷ inside) ++ space2) ++ core) ++ space
-array_so_far bs base front base2 front3 space core space2 inside e f g h = e ∙ ap (λ x. x ++ space) (f ∙ ap (λ x. x ++ core) (g ∙ ap (λ x. x ++ space2) h))
-
 five : (f i a b c e : List ℕ) → ((((f ++ i) ++ a) ++ b) ++ c) ++ e ≡ f ++ (i ++ (a ++ (b ++ (c ++ e))))
 five f i a b c e = simp append_assoc
 
@@ -89,28 +87,6 @@ eight i a k b m t c s e = simp append_assoc
 
 nine : (f i a k b m t c s e : List ℕ) → ((((((((f ++ i) ++ a) ++ k) ++ b) ++ m) ++ t) ++ c) ++ s) ++ e ≡ f ++ (i ++ (a ++ (k ++ (b ++ (m ++ (t ++ (c ++ (s ++ e))))))))
 nine f i a k b m t c s e = simp append_assoc
-
-array_with : (front inside space2 core space last : List ℕ) → ((((front ++ 91 ∷ inside) ++ space2) ++ core) ++ space) ++ last ≡ front ++ (91 ∷ (inside ++ (space2 ++ (core ++ (space ++ last)))))
-array_with front inside space2 core space last = five front (91 ∷ inside) space2 core space last
-
-array_closed : (front inside space2 core space : List ℕ) → ((((front ++ 91 ∷ inside) ++ space2) ++ core) ++ space) ++ 93 ∷ [] ≡ front ++ (91 ∷ ((inside ++ (space2 ++ (core ++ space))) ++ 93 ∷ []))
-array_closed front inside space2 core space = five front (91 ∷ inside) space2 core space (93 ∷ []) ∙ ap (λ x. front ++ (91 ∷ x)) (four inside space2 core space (93 ∷ []))
-
-object_so_far : (bs base front base2 front_c base_k front_o base_o front3 space core third second key first inside : List ℕ) → bs ≡ base ++ space → base ≡ front ++ core → front ≡ base2 ++ third → base2 ≡ front_c ++ 58 ∷ []
-    → front_c ≡ base_k ++ second → base_k ≡ front_o ++ key → front_o ≡ base_o ++ first → base_o ≡ front3 ++ 123 ∷ inside
-    → bs ≡ (((((((front3 ++ 123 ∷ inside) ++ first) ++ key) ++ second) ++ 58 ∷ []) ++ third) ++ core) ++ space
-object_so_far bs base front base2 front_c base_k front_o base_o front3 space core third second key first inside e f g h i j k l =
-    e ∙ ap (λ x. x ++ space) (f ∙ ap (λ x. x ++ core) (g ∙ ap (λ x. x ++ third) (h ∙ ap (λ x. x ++ 58 ∷ []) (i ∙ ap (λ x. x ++ second) (j ∙ ap (λ x. x ++ key) (k ∙ ap (λ x. x ++ first) l))))))
-
-object_with : (front inside first key second third core space last : List ℕ)
-    → ((((((((front ++ 123 ∷ inside) ++ first) ++ key) ++ second) ++ 58 ∷ []) ++ third) ++ core) ++ space) ++ last
-    ≡ front ++ (123 ∷ (inside ++ (first ++ (key ++ (second ++ (58 ∷ (third ++ (core ++ (space ++ last)))))))))
-object_with front inside first key second third core space last = nine front (123 ∷ inside) first key second (58 ∷ []) third core space last
-
-object_closed : (front inside first key second third core space : List ℕ)
-    → ((((((((front ++ 123 ∷ inside) ++ first) ++ key) ++ second) ++ 58 ∷ []) ++ third) ++ core) ++ space) ++ 125 ∷ []
-    ≡ front ++ (123 ∷ ((inside ++ (first ++ (key ++ (second ++ (58 ∷ (third ++ (core ++ space))))))) ++ 125 ∷ []))
-object_closed front inside first key second third core space = nine front (123 ∷ inside) first key second (58 ∷ []) third core space (125 ∷ []) ∙ ap (λ x. front ++ (123 ∷ x)) (sym (eight inside first key second (58 ∷ []) third core space (125 ∷ [])))
 
 at_level : (n : ℕ) (v : Value) (core : List ℕ) → Spells true (suc n) v core → Spells true (n + 1) v core
 at_level n v core s = subst (λ (k : ℕ). Spells true k v core) (omega arith) s
@@ -121,7 +97,7 @@ good_close [] bs v c s = stuck bs c
 good_close (in_array vs ∷ outer) bs v c s =
     let b = s.2 in
     let a = b.2.2 in
-    let so_far = array_so_far bs s.0 b.0 b.2.0 a.0 s.1 b.1 b.2.1 a.1 s.4 b.4 b.2.4 a.5 in
+    let so_far : bs ≡ (((a.0 ++ 91 ∷ a.1) ++ b.2.1) ++ b.1) ++ s.1 = s.4 ∙ ap (λ x. x ++ s.1) (b.4 ∙ ap (λ x. x ++ b.1) (b.2.4 ∙ ap (λ x. x ++ b.2.1) a.5)) in
     cond_both (c == 44) _ _ (λ st. Good st bs c)
     (λ e. spaced_none (InArray (IsFront outer) (length outer) (vs ++ v ∷ [])) (bs ++ c ∷ []) (
       a.0,
@@ -129,7 +105,7 @@ good_close (in_array vs ∷ outer) bs v c s =
       a.2,
       a.3,
       front_items-push true (length outer + 1) vs a.1 v b.2.1 b.1 s.1 a.4 b.2.3 (at_level (length outer) v b.1 b.3) s.3,
-      named bs c 44 e ∙ (ap (λ x. x ++ 44 ∷ []) so_far ∙ array_with a.0 a.1 b.2.1 b.1 s.1 (44 ∷ [])),
+      named bs c 44 e ∙ (ap (λ x. x ++ 44 ∷ []) so_far ∙ five a.0 (91 ∷ a.1) b.2.1 b.1 s.1 (44 ∷ [])),
     ))
     (λ _. cond_both (c == 93) _ _ (λ st. Good st bs c)
     (λ e. spaced_none (BehindValue outer (array (items_of (vs ++ v ∷ [])))) (bs ++ c ∷ []) (
@@ -137,7 +113,7 @@ good_close (in_array vs ∷ outer) bs v c s =
       91 ∷ (a.1 ++ (b.2.1 ++ (b.1 ++ s.1))) ++ 93 ∷ [],
       a.2,
       (a.1 ++ (b.2.1 ++ (b.1 ++ s.1)), (λ _. a.3), items_close true (length outer + 1) vs a.1 v b.2.1 b.1 s.1 a.4 b.2.3 (at_level (length outer) v b.1 b.3) s.3, refl),
-      named bs c 93 e ∙ (ap (λ x. x ++ 93 ∷ []) so_far ∙ array_closed a.0 a.1 b.2.1 b.1 s.1),
+      named bs c 93 e ∙ (ap (λ x. x ++ 93 ∷ []) so_far ∙ (five a.0 (91 ∷ a.1) b.2.1 b.1 s.1 (93 ∷ []) ∙ ap (λ x. a.0 ++ (91 ∷ x)) (four a.1 b.2.1 b.1 s.1 (93 ∷ [])))),
     ))
     (λ _. stuck bs c))
 good_close (in_object ms k ∷ outer) bs v c s =
@@ -145,7 +121,8 @@ good_close (in_object ms k ∷ outer) bs v c s =
     let colon = b.2.2 in
     let keyed = colon.1.2 in
     let o = keyed.2.2 in
-    let so_far = object_so_far bs s.0 b.0 b.2.0 colon.0 colon.1.0 keyed.0 keyed.2.0 o.0 s.1 b.1 b.2.1 colon.1.1 keyed.1 keyed.2.1 o.1 s.4 b.4 b.2.4 colon.2 colon.1.4 keyed.5 keyed.2.4 o.6 in
+    let so_far : bs ≡ (((((((o.0 ++ 123 ∷ o.1) ++ keyed.2.1) ++ keyed.1) ++ colon.1.1) ++ 58 ∷ []) ++ b.2.1) ++ b.1) ++ s.1 =
+    s.4 ∙ ap (λ x. x ++ s.1) (b.4 ∙ ap (λ x. x ++ b.1) (b.2.4 ∙ ap (λ x. x ++ b.2.1) (colon.2 ∙ ap (λ x. x ++ 58 ∷ []) (colon.1.4 ∙ ap (λ x. x ++ colon.1.1) (keyed.5 ∙ ap (λ x. x ++ keyed.1) (keyed.2.4 ∙ ap (λ x. x ++ keyed.2.1) o.6)))))) in
     cond_both (c == 44) _ _ (λ st. Good st bs c)
     (λ e. spaced_none (InObject (IsFront outer) (length outer) (ms ++ (k, v) ∷ [])) (bs ++ c ∷ []) (
       o.0,
@@ -154,7 +131,7 @@ good_close (in_object ms k ∷ outer) bs v c s =
       o.3,
       front_members-push true (length outer + 1) ms o.1 k v keyed.2.1 keyed.1 colon.1.1 b.2.1 b.1 s.1 o.4 keyed.2.3 keyed.3 colon.1.3 b.2.3 (at_level (length outer) v b.1 b.3) s.3,
       unique_more ms k v o.5 keyed.4,
-      named bs c 44 e ∙ (ap (λ x. x ++ 44 ∷ []) so_far ∙ object_with o.0 o.1 keyed.2.1 keyed.1 colon.1.1 b.2.1 b.1 s.1 (44 ∷ [])),
+      named bs c 44 e ∙ (ap (λ x. x ++ 44 ∷ []) so_far ∙ nine o.0 (123 ∷ o.1) keyed.2.1 keyed.1 colon.1.1 (58 ∷ []) b.2.1 b.1 s.1 (44 ∷ [])),
     ))
     (λ _. cond_both (c == 125) _ _ (λ st. Good st bs c)
     (λ e. spaced_none (BehindValue outer (object (members_of (ms ++ (k, v) ∷ [])))) (bs ++ c ∷ []) (
@@ -168,7 +145,8 @@ good_close (in_object ms k ∷ outer) bs v c s =
         members_close true (length outer + 1) ms o.1 k v keyed.2.1 keyed.1 colon.1.1 b.2.1 b.1 s.1 o.4 keyed.2.3 keyed.3 colon.1.3 b.2.3 (at_level (length outer) v b.1 b.3) s.3,
         refl,
       ),
-      named bs c 125 e ∙ (ap (λ x. x ++ 125 ∷ []) so_far ∙ object_closed o.0 o.1 keyed.2.1 keyed.1 colon.1.1 b.2.1 b.1 s.1),
+      named bs c 125 e ∙ (ap (λ x. x ++ 125 ∷ []) so_far ∙ (nine o.0 (123 ∷ o.1) keyed.2.1 keyed.1 colon.1.1 (58 ∷ []) b.2.1 b.1 s.1 (125 ∷ [])
+          ∙ ap (λ x. o.0 ++ (123 ∷ x)) (sym (eight o.1 keyed.2.1 keyed.1 colon.1.1 (58 ∷ []) b.2.1 b.1 s.1 (125 ∷ []))))),
     ))
     (λ _. stuck bs c))
 
@@ -200,14 +178,10 @@ pub good_wanted : (outer : List Frame) (bs : List ℕ) (c : ℕ) → IsFront out
 good_wanted outer bs c f = cond_both (is_space c) _ _ (λ st. Good st bs c) (λ e. front_space outer bs c f e) (λ _. good_begin outer bs c f)
 
 empty_array : (bs base front space inside : List ℕ) → bs ≡ base ++ space → base ≡ front ++ 91 ∷ inside → inside ≡ [] → bs ++ 93 ∷ [] ≡ front ++ (91 ∷ (space ++ 93 ∷ []))
-empty_array bs base front space inside e f g = ap (λ x. x ++ 93 ∷ []) (e ∙ ap (λ x. x ++ space) (f ∙ ap (λ x. front ++ 91 ∷ x) g)) ∙ regroup front space where
-  regroup : (front space : List ℕ) → ((front ++ 91 ∷ []) ++ space) ++ 93 ∷ [] ≡ front ++ (91 ∷ (space ++ 93 ∷ []))
-  regroup front space = simp append_assoc
+empty_array bs base front space inside e f g = ap (λ x. x ++ 93 ∷ []) (e ∙ ap (λ x. x ++ space) (f ∙ ap (λ x. front ++ 91 ∷ x) g)) ∙ simp append_assoc
 
 empty_object : (bs base front space inside : List ℕ) → bs ≡ base ++ space → base ≡ front ++ 123 ∷ inside → inside ≡ [] → bs ++ 125 ∷ [] ≡ front ++ (123 ∷ (space ++ 125 ∷ []))
-empty_object bs base front space inside e f g = ap (λ x. x ++ 125 ∷ []) (e ∙ ap (λ x. x ++ space) (f ∙ ap (λ x. front ++ 123 ∷ x) g)) ∙ regroup front space where
-  regroup : (front space : List ℕ) → ((front ++ 123 ∷ []) ++ space) ++ 125 ∷ [] ≡ front ++ (123 ∷ (space ++ 125 ∷ []))
-  regroup front space = simp append_assoc
+empty_object bs base front space inside e f g = ap (λ x. x ++ 125 ∷ []) (e ∙ ap (λ x. x ++ space) (f ∙ ap (λ x. front ++ 123 ∷ x) g)) ∙ simp append_assoc
 
 pub good_first_item : (outer : List Frame) (bs : List ℕ) (c : ℕ) → IsFront (in_array [] ∷ outer) bs
     → Good (cond (is_space c) (next outer first_item) (cond (c == 93) (next outer (ended (array no_items))) (begin_step (length bs) (in_array [] ∷ outer) c))) bs c
@@ -237,3 +211,450 @@ pub good_colon : (outer : List Frame) (ms : List Member) (k bs : List ℕ) (c : 
 good_colon outer ms k bs c s = cond_both (is_space c) _ _ (λ st. Good st bs c) (λ e. spaced_more (BehindKey (IsFront outer) (length outer) ms k) bs c s e)
     (λ _. cond_both (c == 58) _ _ (λ st. Good st bs c)
     (λ e. spaced_none (BehindColon (IsFront outer) (length outer) ms k) (bs ++ c ∷ []) (bs, s, named bs c 58 e)) (λ _. stuck bs c))
+
+-- ---- Each step of the machine inside a number is sound.
+digits_more : (ds : List ℕ) (d : ℕ) → AreDigits ds → d < 10 → AreDigits (ds ++ d ∷ [])
+digits_more [] d are lt = (lt, tt)
+digits_more (e ∷ ds) d are lt = (are.0, digits_more ds d are.1 lt)
+
+pub open_whole : (ds : List ℕ) → IsOpenWhole ds → IsWhole ds
+open_whole [] w = absurd w
+open_whole (d ∷ []) w = w.1.0
+open_whole (d ∷ e ∷ ds) w = w
+
+open_more : (ds : List ℕ) (d : ℕ) → IsOpenWhole ds → d < 10 → IsOpenWhole (ds ++ d ∷ [])
+open_more [] d w lt = absurd w
+open_more (e ∷ ds) d w lt = (w.0, digits_more (e ∷ ds) d w.1 lt)
+
+some_more : (fs : List ℕ) (d : ℕ) → IsSomeDigits fs → d < 10 → IsSomeDigits (fs ++ d ∷ [])
+some_more [] d s lt = absurd s
+some_more (f ∷ fs) d s lt = digits_more (f ∷ fs) d s lt
+
+pub some_digits : (fs : List ℕ) → IsSomeDigits fs → AreDigits fs
+some_digits [] s = absurd s
+some_digits (f ∷ fs) s = s
+
+some_text : (fs : List ℕ) → IsSomeDigits fs → 46 ∷ numerals fs ≡ fraction_text fs
+some_text [] s = absurd s
+some_text (f ∷ fs) s = refl
+
+pub fold-push : (w : ℕ) (ds : List ℕ) (d : ℕ) → fold (λ n d. n * 10 + d) w (ds ++ d ∷ []) ≡ fold (λ n d. n * 10 + d) w ds * 10 + d
+fold-push w [] d = refl
+fold-push w (e ∷ ds) d = fold-push (w * 10 + e) ds d
+
+-- the text so far with a digit behind it
+digit_behind : (x : List ℕ) (ds : List ℕ) (c : ℕ) → is_digit c ≡ true → (x ++ numerals ds) ++ c ∷ [] ≡ x ++ numerals (ds ++ digit_of c ∷ [])
+digit_behind x ds c e = append_assoc x (numerals ds) (c ∷ []) ∙ (ap (λ b. x ++ (numerals ds ++ b ∷ [])) (digit_again c e) ∙ ap (λ y. x ++ y) (sym (map-push (λ d. 48 + d) ds (digit_of c))))
+
+-- a front, and a token so far
+grows : (outer : List Frame) (n : Numeral) (front begun bs later : List ℕ) (c : ℕ) → IsFront outer front → bs ≡ front ++ begun → begun ++ c ∷ [] ≡ later → NumeralText n later → Stands outer (numeral n) (bs ++ c ∷ [])
+grows outer n front begun bs later c f e g t = (front, later, f, t, one_more bs front begun c e ∙ ap (λ x. front ++ x) g)
+
+pub ends : (outer : List Frame) (n : Bool) (ds fs : List ℕ) (p : Power) (front begun bs : List ℕ) → IsFront outer front → bs ≡ front ++ begun → IsWhole ds → AreDigits fs → IsPower p
+    → begun ≡ negative_text n ++ (numerals ds ++ (fraction_text fs ++ power_text p)) → Stands outer (ended (so_far n ds fs (is_down p) (written p))) bs
+ends outer n ds fs p front begun bs f e w d q g = spaced_none (BehindValue outer (so_far n ds fs (is_down p) (written p))) bs
+    (front, begun, f, record { negative = n; ds = ds; fs = fs; exponent = p; is_whole = w; are_digits = d; is_power = q; value = refl; spelled = g }, e)
+
+above : (c : ℕ) → is_digit c ≡ true → (c == 48) ≡ false → 0 < digit_of c
+above c e z = let parts = and_parts (nat_le 48 c) (nat_le c 57) e in let ne : c ≡ 48 → ⊥ = eqb-false c 48 z in omega (arith, leb-true 48 c parts.0)
+
+pub whole_text : (n : Bool) (ds : List ℕ) → negative_text n ++ numerals ds ≡ negative_text n ++ (numerals ds ++ ([] ++ []))
+whole_text n ds = ap (λ x. negative_text n ++ x) (sym (append-nil (numerals ds)))
+
+pub fraction_end : (n : Bool) (ds fs : List ℕ) → IsSomeDigits fs → (negative_text n ++ numerals ds) ++ (46 ∷ numerals fs) ≡ negative_text n ++ (numerals ds ++ (fraction_text fs ++ []))
+fraction_end n ds fs s = append_assoc (negative_text n) (numerals ds) (46 ∷ numerals fs)
+    ∙ ap (λ x. negative_text n ++ (numerals ds ++ x)) (some_text fs s ∙ sym (append-nil (fraction_text fs)))
+
+pub power_end : (n : Bool) (ds fs : List ℕ) (m : ℕ) (s : Sign) (d : ℕ) (es : List ℕ)
+    → ((negative_text n ++ numerals ds) ++ fraction_text fs) ++ ((m ∷ sign_text s) ++ numerals (d ∷ es)) ≡ negative_text n ++ (numerals ds ++ (fraction_text fs ++ power_text (power m s d es)))
+power_end n ds fs m s d es = append_assoc (negative_text n ++ numerals ds) (fraction_text fs) ((m ∷ sign_text s) ++ numerals (d ∷ es))
+    ∙ append_assoc (negative_text n) (numerals ds) (fraction_text fs ++ ((m ∷ sign_text s) ++ numerals (d ∷ es)))
+
+pub good_numeral : (outer : List Frame) (bs : List ℕ) (n : Numeral) (c : ℕ) → Stands outer (numeral n) bs → Good (numeral_step (length bs) outer n c) bs c
+unfolding numeral_step
+good_numeral outer bs minus c s =
+    cond_both (c == 48) _ _ (λ st. Good st bs c)
+    (λ e. grows outer (zero_first true) s.0 s.1 bs (45 ∷ 48 ∷ []) c s.2 s.4 (ap (λ x. x ++ c ∷ []) s.3 ∙ ap (λ b. 45 ∷ b ∷ []) (eqb-true c 48 e)) refl)
+    (λ z. cond_both (is_digit c) _ _ (λ st. Good st bs c)
+    (λ e. grows outer (whole true (digit_of c ∷ [])) s.0 s.1 bs (45 ∷ (48 + digit_of c) ∷ []) c s.2 s.4 (ap (λ x. x ++ c ∷ []) s.3 ∙ ap (λ b. 45 ∷ b ∷ []) (digit_again c e))
+    ((above c e z, (digit_small c e, tt)), refl))
+    (λ _. stuck bs c))
+good_numeral outer bs (zero_first n) c s =
+    cond_both (c == 46) _ _ (λ st. Good st bs c)
+    (λ e. grows outer (point n (0 ∷ [])) s.0 s.1 bs ((negative_text n ++ 48 ∷ []) ++ 46 ∷ []) c s.2 s.4 (ap (λ x. x ++ c ∷ []) s.3 ∙ ap (λ b. (negative_text n ++ 48 ∷ []) ++ b ∷ []) (eqb-true c 46 e)) (omega arith, refl))
+    (λ _. cond_both (is_mark c) _ _ (λ st. Good st bs c)
+    (λ e. grows outer (mark n (0 ∷ []) []) s.0 s.1 bs (((negative_text n ++ 48 ∷ []) ++ []) ++ c ∷ []) c s.2 s.4
+    (ap (λ x. x ++ c ∷ []) (s.3 ∙ sym (append-nil (negative_text n ++ 48 ∷ [])))) (c, omega arith, tt, e, refl))
+    (λ _. good_ended outer bs (so_far n (0 ∷ []) [] false 0) c (ends outer n (0 ∷ []) [] no_power s.0 s.1 bs s.2 s.4 (omega arith) tt tt (s.3 ∙ whole_text n (0 ∷ [])))))
+good_numeral outer bs (whole n ds) c s =
+    cond_both (is_digit c) _ _ (λ st. Good st bs c)
+    (λ e. grows outer (whole n (ds ++ digit_of c ∷ [])) s.0 s.1 bs (negative_text n ++ numerals (ds ++ digit_of c ∷ [])) c s.2 s.4
+    (ap (λ x. x ++ c ∷ []) s.3.1 ∙ digit_behind (negative_text n) ds c e) (open_more ds (digit_of c) s.3.0 (digit_small c e), refl))
+    (λ _. cond_both (c == 46) _ _ (λ st. Good st bs c)
+    (λ e. grows outer (point n ds) s.0 s.1 bs ((negative_text n ++ numerals ds) ++ 46 ∷ []) c s.2 s.4 (ap (λ x. x ++ c ∷ []) s.3.1 ∙ ap (λ b. (negative_text n ++ numerals ds) ++ b ∷ []) (eqb-true c 46 e))
+    (open_whole ds s.3.0, refl))
+    (λ _. cond_both (is_mark c) _ _ (λ st. Good st bs c)
+    (λ e. grows outer (mark n ds []) s.0 s.1 bs (((negative_text n ++ numerals ds) ++ []) ++ c ∷ []) c s.2 s.4
+    (ap (λ x. x ++ c ∷ []) (s.3.1 ∙ sym (append-nil (negative_text n ++ numerals ds)))) (c, open_whole ds s.3.0, tt, e, refl))
+    (λ _. good_ended outer bs (so_far n ds [] false 0) c (ends outer n ds [] no_power s.0 s.1 bs s.2 s.4 (open_whole ds s.3.0) tt tt (s.3.1 ∙ whole_text n ds)))))
+good_numeral outer bs (point n ds) c s =
+    cond_both (is_digit c) _ _ (λ st. Good st bs c)
+    (λ e. grows outer (fraction n ds (digit_of c ∷ [])) s.0 s.1 bs ((negative_text n ++ numerals ds) ++ (46 ∷ (48 + digit_of c) ∷ [])) c s.2 s.4
+    (ap (λ x. x ++ c ∷ []) s.3.1 ∙ (append_assoc (negative_text n ++ numerals ds) (46 ∷ []) (c ∷ []) ∙ ap (λ b. (negative_text n ++ numerals ds) ++ (46 ∷ b ∷ [])) (digit_again c e)))
+    (s.3.0, (digit_small c e, tt), refl))
+    (λ _. stuck bs c)
+good_numeral outer bs (fraction n ds fs) c s =
+    cond_both (is_digit c) _ _ (λ st. Good st bs c)
+    (λ e. grows outer (fraction n ds (fs ++ digit_of c ∷ [])) s.0 s.1 bs ((negative_text n ++ numerals ds) ++ (46 ∷ numerals (fs ++ digit_of c ∷ []))) c s.2 s.4
+    (ap (λ x. x ++ c ∷ []) s.3.2 ∙ (append_assoc (negative_text n ++ numerals ds) (46 ∷ numerals fs) (c ∷ []) ∙ ap (λ x. (negative_text n ++ numerals ds) ++ x) (digit_behind (46 ∷ []) fs c e)))
+    (s.3.0, some_more fs (digit_of c) s.3.1 (digit_small c e), refl))
+    (λ _. cond_both (is_mark c) _ _ (λ st. Good st bs c)
+    (λ e. grows outer (mark n ds fs) s.0 s.1 bs (((negative_text n ++ numerals ds) ++ fraction_text fs) ++ c ∷ []) c s.2 s.4
+    (ap (λ x. x ++ c ∷ []) (s.3.2 ∙ ap (λ x. (negative_text n ++ numerals ds) ++ x) (some_text fs s.3.1))) (c, s.3.0, some_digits fs s.3.1, e, refl))
+    (λ _. good_ended outer bs (so_far n ds fs false 0) c (ends outer n ds fs no_power s.0 s.1 bs s.2 s.4 s.3.0 (some_digits fs s.3.1) tt (s.3.2 ∙ fraction_end n ds fs s.3.1))))
+good_numeral outer bs (mark n ds fs) c s =
+    let x : List ℕ = (negative_text n ++ numerals ds) ++ fraction_text fs in
+    cond_both (c == 43) _ _ (λ st. Good st bs c)
+    (λ e. grows outer (signed n ds fs false) s.0 s.1 bs (x ++ (s.3.0 ∷ 43 ∷ [])) c s.2 s.4
+    (ap (λ y. y ++ c ∷ []) s.3.4 ∙ (append_assoc x (s.3.0 ∷ []) (c ∷ []) ∙ ap (λ b. x ++ (s.3.0 ∷ b ∷ [])) (eqb-true c 43 e))) (s.3.0, plus, s.3.1, s.3.2, s.3.3, refl, refl))
+    (λ _. cond_both (c == 45) _ _ (λ st. Good st bs c)
+    (λ e. grows outer (signed n ds fs true) s.0 s.1 bs (x ++ (s.3.0 ∷ 45 ∷ [])) c s.2 s.4
+    (ap (λ y. y ++ c ∷ []) s.3.4 ∙ (append_assoc x (s.3.0 ∷ []) (c ∷ []) ∙ ap (λ b. x ++ (s.3.0 ∷ b ∷ [])) (eqb-true c 45 e))) (s.3.0, grammar.minus, s.3.1, s.3.2, s.3.3, refl, refl))
+    (λ _. cond_both (is_digit c) _ _ (λ st. Good st bs c)
+    (λ e. grows outer (exponent n ds fs false (digit_of c)) s.0 s.1 bs (x ++ (s.3.0 ∷ (48 + digit_of c) ∷ [])) c s.2 s.4
+    (ap (λ y. y ++ c ∷ []) s.3.4 ∙ (append_assoc x (s.3.0 ∷ []) (c ∷ []) ∙ ap (λ b. x ++ (s.3.0 ∷ b ∷ [])) (digit_again c e)))
+    (s.3.0, no_sign, digit_of c, [], s.3.1, s.3.2, s.3.3, refl, (digit_small c e, tt), omega arith, refl))
+    (λ _. stuck bs c)))
+good_numeral outer bs (signed n ds fs down) c s =
+    let x : List ℕ = (negative_text n ++ numerals ds) ++ fraction_text fs in
+    cond_both (is_digit c) _ _ (λ st. Good st bs c)
+    (λ e. grows outer (exponent n ds fs down (digit_of c)) s.0 s.1 bs (x ++ ((s.3.0 ∷ sign_text s.3.1) ++ (48 + digit_of c) ∷ [])) c s.2 s.4
+    (ap (λ y. y ++ c ∷ []) s.3.6 ∙ (append_assoc x (s.3.0 ∷ sign_text s.3.1) (c ∷ []) ∙ ap (λ b. x ++ ((s.3.0 ∷ sign_text s.3.1) ++ b ∷ [])) (digit_again c e)))
+    (s.3.0, s.3.1, digit_of c, [], s.3.2, s.3.3, s.3.4, s.3.5, (digit_small c e, tt), omega arith, refl))
+    (λ _. stuck bs c)
+good_numeral outer bs (exponent n ds fs down w) c s =
+    let x : List ℕ = (negative_text n ++ numerals ds) ++ fraction_text fs in
+    let t = s.3 in
+    let y : List ℕ = t.0 ∷ sign_text t.1 in
+    cond_both (is_digit c) _ _ (λ st. Good st bs c)
+    (λ e. grows outer (exponent n ds fs down (w * 10 + digit_of c)) s.0 s.1 bs (x ++ (y ++ numerals (t.2 ∷ t.3 ++ digit_of c ∷ []))) c s.2 s.4
+    (ap (λ z. z ++ c ∷ []) t.10 ∙ (append_assoc x (y ++ numerals (t.2 ∷ t.3)) (c ∷ []) ∙ ap (λ z. x ++ z) (digit_behind y (t.2 ∷ t.3) c e))) (
+      t.0,
+      t.1,
+      t.2,
+      t.3 ++ digit_of c ∷ [],
+      t.4,
+      t.5,
+      t.6,
+      t.7,
+      digits_more (t.2 ∷ t.3) (digit_of c) t.8 (digit_small c e),
+      ap (λ k. k * 10 + digit_of c) t.9 ∙ sym (fold-push 0 (t.2 ∷ t.3) (digit_of c)),
+      refl,
+    ))
+    (λ _. good_ended outer bs (so_far n ds fs down w) c
+    (subst (λ (v : Value). Stands outer (ended v) bs) (ap (λ (b : Bool). so_far n ds fs b (whole_of (t.2 ∷ t.3))) (sym t.7) ∙ ap (λ k. so_far n ds fs down k) (sym t.9))
+    (ends outer n ds fs (power t.0 t.1 t.2 t.3) s.0 s.1 bs s.2 s.4 t.4 t.5 (t.6, t.8) (t.10 ∙ power_end n ds fs t.0 t.1 t.2 t.3))))
+
+-- ---- Each step of the machine inside a string is sound.
+pub flat_map-push : {X Y : Type 0} (f : X → List Y) (xs : List X) (x : X) → flat_map f (xs ++ x ∷ []) ≡ flat_map f xs ++ f x
+flat_map-push f [] x = append-nil (f x)
+flat_map-push f (y ∷ xs) x = ap (λ zs. f y ++ zs) (flat_map-push f xs x) ∙ sym (append_assoc (f y) (flat_map f xs) (f x))
+
+pub none_alone : (c : Character) → IsCharacter true c → is_first_alone c ≡ false
+none_alone (alone a b c d) is = (or_parts (is_high_surrogate (unit_of a b c d)) (is_low_surrogate (unit_of a b c d)) (is.1 refl)).0
+none_alone _ is = refl
+
+characters_more : (cs : List Character) (c : Character) → AreCharacters true cs → IsCharacter true c → AreCharacters true (cs ++ c ∷ [])
+characters_more [] c are is = (is, and_left (is_first_alone c) (begins_with_second []) (none_alone c is), tt)
+characters_more (d ∷ cs) c are is = (are.0, and_left (is_first_alone d) (begins_with_second (cs ++ c ∷ [])) (none_alone d are.0), characters_more cs c are.2 is)
+
+-- a character more
+add_character : (outer : List Frame) (p : Purpose) (t base bs : List ℕ) (c : Character) → InString outer p t base → IsCharacter true c → bs ≡ base ++ character_text c → InString outer p (t ++ meaning c) bs
+add_character outer p t base bs c r is e = record {
+  front = r.front;
+  cs = r.cs ++ c ∷ [];
+  is_front = r.is_front;
+  are = characters_more r.cs c r.are is;
+  text = ap (λ x. x ++ meaning c) r.text ∙ sym (flat_map-push meaning r.cs c);
+  is = e ∙ (ap (λ x. x ++ character_text c) r.is ∙ (append_assoc r.front (34 ∷ flat_map character_text r.cs) (character_text c)
+      ∙ ap (λ x. r.front ++ (34 ∷ x)) (sym (flat_map-push character_text r.cs c))));
+}
+
+-- an escape of one unit of a pair
+pub lacks : (outer : List Frame) (p : Purpose) (t base bytes : List ℕ) (here back a b c d : ℕ) (more : List ℕ) → InString outer p t base → back ≡ length base → AreHex a b c d
+    → (is_low_surrogate (unit_of a b c d) ≡ true) ⊎ ((is_high_surrogate (unit_of a b c d) ≡ true) × LacksSecond more) → bytes ≡ base ++ (92 ∷ 117 ∷ a ∷ b ∷ c ∷ d ∷ more) → Caught bytes here back 5
+lacks outer p t base bytes here back a b c d more r e hex which f =
+    inr (inr (inr (refl, (outer, p, r.front, r.cs, a, b, c, d, more, r.is_front, r.are, hex, which, e ∙ ap length r.is, f ∙ ap (λ x. x ++ 92 ∷ 117 ∷ a ∷ b ∷ c ∷ d ∷ more) r.is))))
+
+-- the quote at the end
+closed : (front cs bs : List ℕ) (c : ℕ) → bs ≡ front ++ (34 ∷ cs) → (c == 34) ≡ true → bs ++ c ∷ [] ≡ front ++ (34 ∷ cs ++ 34 ∷ [])
+closed front cs bs c e q = named bs c 34 q ∙ one_more bs front (34 ∷ cs) 34 e
+
+good_quote : (outer : List Frame) (p : Purpose) (t bs : List ℕ) (c : ℕ) → InString outer p t bs → (c == 34) ≡ true → Good (quote_step outer p t) bs c
+unfolding quote_step
+good_quote outer for_value t bs c r q =
+    spaced_none (BehindValue outer (text t)) (bs ++ c ∷ [])
+    (r.front, 34 ∷ flat_map character_text r.cs ++ 34 ∷ [], r.is_front, (r.cs, r.are, r.text, refl), closed r.front (flat_map character_text r.cs) bs c r.is q)
+good_quote outer (for_key ms at) t bs c r q =
+    let key : List ℕ = 34 ∷ flat_map character_text r.cs ++ 34 ∷ [] in
+    cond_both (has_key (members_of ms) t) _ _ (λ s. Good s bs c)
+    (λ e. λ cs. inr (inr (inl (
+      refl,
+      (
+        outer,
+        ms,
+        r.front,
+        key,
+        t,
+        cs,
+        r.is_front.0,
+        (r.cs, r.are, r.text, refl),
+        e,
+        r.is_front.1,
+        sym (append_assoc bs (c ∷ []) cs) ∙ (ap (λ x. x ++ cs) (closed r.front (flat_map character_text r.cs) bs c r.is q) ∙ append_assoc r.front key cs),
+      ),
+    ))))
+    (λ e. spaced_none (BehindKey (IsFront outer) (length outer) ms t) (bs ++ c ∷ [])
+    (r.front, key, r.is_front.0, (r.cs, r.are, r.text, refl), e, closed r.front (flat_map character_text r.cs) bs c r.is q))
+
+plain_by : (c : ℕ) → (c == 34) ≡ false → (c == 92) ≡ false → nat_le 32 c ≡ true → is_plain c ≡ true
+plain_by c q b l = and_from (not (c == 34) && not (c == 92)) (nat_le 32 c) (and_from (not (c == 34)) (not (c == 92)) (not_from_false (c == 34) q) (not_from_false (c == 92) b)) l
+
+good_plain : (outer : List Frame) (p : Purpose) (t bs : List ℕ) (c : ℕ) → InString outer p t bs → Good (quoted_step (length bs) outer p (plain t) c) bs c
+unfolding quoted_step
+good_plain outer p t bs c r =
+    cond_both (c == 34) _ _ (λ s. Good s bs c) (λ e. good_quote outer p t bs c r e) (λ q.
+    cond_both (c == 92) _ _ (λ s. Good s bs c) (λ e. (bs, r, refl, named bs c 92 e)) (λ b.
+    cond_both (nat_le 32 c) _ _ (λ s. Good s bs c) (λ e. add_character outer p t bs (bs ++ c ∷ []) (itself c) r (plain_by c q b e) refl) (λ _. stuck bs c)))
+
+-- the bytes of an escape so far, and one more
+longer : (bs base a : List ℕ) (c : ℕ) → bs ≡ base ++ a → bs ++ c ∷ [] ≡ base ++ (a ++ c ∷ [])
+longer bs base a c e = one_more bs base a c e
+
+longer_by : (bs base a : List ℕ) (c k : ℕ) → bs ≡ base ++ a → (c == k) ≡ true → bs ++ c ∷ [] ≡ base ++ (a ++ k ∷ [])
+longer_by bs base a c k e f = named bs c k f ∙ one_more bs base a k e
+
+and_then : (bs base a : List ℕ) (c : ℕ) (cs : List ℕ) → bs ≡ base ++ a → bs ++ c ∷ cs ≡ base ++ (a ++ c ∷ cs)
+and_then bs base a c cs e = ap (λ x. x ++ c ∷ cs) e ∙ append_assoc base a (c ∷ cs)
+
+good_escaped : (outer : List Frame) (p : Purpose) (t bs : List ℕ) (back c : ℕ) (o : Option ℕ) → short_escape c ≡ o → QuotedText outer p (escaped t back) bs → Good (escape_step (length bs) outer p t back o c) bs c
+unfolding escape_step
+good_escaped outer p t bs back c None e r =
+    cond_both (c == 117) _ _ (λ s. Good s bs c) (λ f. (r.0, r.1, r.2, tt, longer_by bs r.0 (92 ∷ []) c 117 r.3 f)) (λ _. stuck bs c)
+good_escaped outer p t bs back c (Some b) e r = add_character outer p t r.0 (bs ++ c ∷ []) (short c b) r.1 e (longer bs r.0 (92 ∷ []) c r.3)
+
+good_unit : (outer : List Frame) (p : Purpose) (t bs base : List ℕ) (back a b d c : ℕ) → InString outer p t base → back ≡ length base → AreHex a b d c → bs ≡ base ++ (92 ∷ 117 ∷ a ∷ b ∷ d ∷ [])
+    → Good (unit_step outer p t back (unit_of a b d c)) bs c
+unfolding unit_step
+good_unit outer p t bs base back a b d c r e hex f =
+    let u : ℕ = unit_of a b d c in
+    cond_both (is_high_surrogate u) _ _ (λ s. Good s bs c)
+    (λ h. (base, a, b, d, c, r, e, hex, refl, h, longer bs base (92 ∷ 117 ∷ a ∷ b ∷ d ∷ []) c f))
+    (λ h. cond_both (is_low_surrogate u) _ _ (λ s. Good s bs c)
+    (λ l. λ cs. lacks outer p t base (bs ++ c ∷ cs) (length bs) back a b d c cs r e hex (inl l) (and_then bs base (92 ∷ 117 ∷ a ∷ b ∷ d ∷ []) c cs f))
+    (λ l. add_character outer p t base (bs ++ c ∷ []) (alone a b d c) r (hex, λ _. or_from (is_high_surrogate u) (is_low_surrogate u) h l) (longer bs base (92 ∷ 117 ∷ a ∷ b ∷ d ∷ []) c f)))
+
+good_hex : (outer : List Frame) (p : Purpose) (t bs : List ℕ) (back : ℕ) (h : Hex) (c : ℕ) → QuotedText outer p (unit t back h) bs → is_hex c ≡ true
+    → Good (more_hex h c (λ m. next outer (quoted p (unit t back m))) (λ u. unit_step outer p t back u)) bs c
+unfolding more_hex
+good_hex outer p t bs back no_digit c r e = (r.0, r.1, r.2, e, longer bs r.0 (92 ∷ 117 ∷ []) c r.4)
+good_hex outer p t bs back (one_digit a) c r e = (r.0, r.1, r.2, (r.3, e), longer bs r.0 (92 ∷ 117 ∷ a ∷ []) c r.4)
+good_hex outer p t bs back (two_digits a b) c r e = (r.0, r.1, r.2, (r.3.0, r.3.1, e), longer bs r.0 (92 ∷ 117 ∷ a ∷ b ∷ []) c r.4)
+good_hex outer p t bs back (three_digits a b d) c r e = good_unit outer p t bs r.0 back a b d c r.1 r.2 (r.3.0, r.3.1, r.3.2, e) r.4
+
+-- behind the first unit of a pair
+no_second_at : (c k : ℕ) (cs : List ℕ) → (c == k) ≡ false → (xs : List ℕ) → c ∷ cs ≡ k ∷ xs → ⊥
+no_second_at c k cs e xs f = eqb-false c k e (let g : c ≡ k = cc in g)
+
+lacks_backslash : (c : ℕ) (cs : List ℕ) → (c == 92) ≡ false → LacksSecond (c ∷ cs)
+lacks_backslash c cs e = λ a b d f rest hex low g. no_second_at c 92 cs e (117 ∷ a ∷ b ∷ d ∷ f ∷ rest) g
+
+lacks_letter : (c : ℕ) (cs : List ℕ) → (c == 117) ≡ false → LacksSecond (92 ∷ c ∷ cs)
+lacks_letter c cs e = λ a b d f rest hex low g. eqb-false c 117 e (let h : c ≡ 117 = cc in h)
+
+hex_not : (c a : ℕ) → is_hex c ≡ false → is_hex a ≡ true → c ≡ a → ⊥
+hex_not c a e f g = false≢true (sym e ∙ (ap is_hex g ∙ f))
+
+lacks_digit : (h : Hex) (c : ℕ) (cs : List ℕ) → is_hex c ≡ false → LacksSecond (92 ∷ 117 ∷ hex_text h ++ c ∷ cs)
+lacks_digit no_digit c cs e = λ a b d f rest hex low g. hex_not c a e hex.0 cc
+lacks_digit (one_digit x) c cs e = λ a b d f rest hex low g. hex_not c b e hex.1 cc
+lacks_digit (two_digits x y) c cs e = λ a b d f rest hex low g. hex_not c d e hex.2 cc
+lacks_digit (three_digits x y z) c cs e = λ a b d f rest hex low g. hex_not c f e hex.3 cc
+
+lacks_low : (a b d f : ℕ) (cs : List ℕ) → is_low_surrogate (unit_of a b d f) ≡ false → LacksSecond (92 ∷ 117 ∷ a ∷ b ∷ d ∷ f ∷ cs)
+lacks_low a b d f cs e = λ i j k l rest hex low g.
+    let ai : a ≡ i = cc in let bj : b ≡ j = cc in let dk : d ≡ k = cc in let fl : f ≡ l = cc in
+    let same : unit_of a b d f ≡ unit_of i j k l = ap (λ n. unit_of n b d f) ai ∙ (ap (λ n. unit_of i n d f) bj ∙ (ap (λ n. unit_of i j n f) dk ∙ ap (λ n. unit_of i j k n) fl)) in
+    false≢true (sym e ∙ (ap is_low_surrogate same ∙ low))
+
+pub high_of : (u a b c d : ℕ) → u ≡ unit_of a b c d → is_high_surrogate u ≡ true → is_high_surrogate (unit_of a b c d) ≡ true
+high_of u a b c d e h = ap is_high_surrogate (sym e) ∙ h
+
+good_high : (outer : List Frame) (p : Purpose) (t bs : List ℕ) (back u c : ℕ) → QuotedText outer p (high t back u) bs → Good (quoted_step (length bs) outer p (high t back u) c) bs c
+unfolding quoted_step
+good_high outer p t bs back u c r =
+    cond_both (c == 92) _ _ (λ s. Good s bs c)
+    (λ e. (r.0, r.1, r.2, r.3, r.4, r.5, r.6, r.7, r.8, r.9, longer_by bs r.0 (92 ∷ 117 ∷ r.1 ∷ r.2 ∷ r.3 ∷ r.4 ∷ []) c 92 r.10 e))
+    (λ e. λ cs. lacks outer p t r.0 (bs ++ c ∷ cs) (length bs) back r.1 r.2 r.3 r.4 (c ∷ cs) r.5 r.6 r.7 (inr (high_of u r.1 r.2 r.3 r.4 r.8 r.9, lacks_backslash c cs e))
+    (and_then bs r.0 (92 ∷ 117 ∷ r.1 ∷ r.2 ∷ r.3 ∷ r.4 ∷ []) c cs r.10))
+
+good_high_escaped : (outer : List Frame) (p : Purpose) (t bs : List ℕ) (back u c : ℕ) → QuotedText outer p (high_escaped t back u) bs → Good (quoted_step (length bs) outer p (high_escaped t back u) c) bs c
+unfolding quoted_step
+good_high_escaped outer p t bs back u c r =
+    cond_both (c == 117) _ _ (λ s. Good s bs c)
+    (λ e. (r.0, r.1, r.2, r.3, r.4, r.5, r.6, r.7, r.8, r.9, tt, longer_by bs r.0 (92 ∷ 117 ∷ r.1 ∷ r.2 ∷ r.3 ∷ r.4 ∷ 92 ∷ []) c 117 r.10 e))
+    (λ e. λ cs. lacks outer p t r.0 (bs ++ c ∷ cs) (length bs) back r.1 r.2 r.3 r.4 (92 ∷ c ∷ cs) r.5 r.6 r.7 (inr (high_of u r.1 r.2 r.3 r.4 r.8 r.9, lacks_letter c cs e))
+    (and_then bs r.0 (92 ∷ 117 ∷ r.1 ∷ r.2 ∷ r.3 ∷ r.4 ∷ 92 ∷ []) c cs r.10))
+
+good_pair : (outer : List Frame) (p : Purpose) (t bs base : List ℕ) (back u a b d e f g h c : ℕ) → InString outer p t base → back ≡ length base → AreHex a b d e → u ≡ unit_of a b d e → is_high_surrogate u ≡ true
+    → AreHex f g h c → bs ≡ base ++ (92 ∷ 117 ∷ a ∷ b ∷ d ∷ e ∷ 92 ∷ 117 ∷ f ∷ g ∷ h ∷ []) → Good (pair_step outer p t back u (unit_of f g h c)) bs c
+unfolding pair_step
+good_pair outer p t bs base back u a b d e f g h c r at hex is is_high second text_is =
+    let v : ℕ = unit_of f g h c in
+    let so_far : List ℕ = 92 ∷ 117 ∷ a ∷ b ∷ d ∷ e ∷ 92 ∷ 117 ∷ f ∷ g ∷ h ∷ [] in
+    cond_both (is_low_surrogate v) _ _ (λ s. Good s bs c)
+    (λ l. subst (λ (w : ℕ). InString outer p (t ++ encode_utf8 (surrogate_pair_char w v)) (bs ++ c ∷ [])) (sym is)
+    (add_character outer p t base (bs ++ c ∷ []) (pair a b d e f g h c) r (hex, second, high_of u a b d e is is_high, l) (longer bs base so_far c text_is)))
+    (λ l. λ cs. lacks outer p t base (bs ++ c ∷ cs) (length bs) back a b d e (92 ∷ 117 ∷ f ∷ g ∷ h ∷ c ∷ cs) r at hex (inr (high_of u a b d e is is_high, lacks_low f g h c cs l))
+    (and_then bs base so_far c cs text_is))
+
+good_second : (outer : List Frame) (p : Purpose) (t bs : List ℕ) (back u : ℕ) (h : Hex) (c : ℕ) → QuotedText outer p (high_unit t back u h) bs → is_hex c ≡ true
+    → Good (more_hex h c (λ m. next outer (quoted p (high_unit t back u m))) (λ v. pair_step outer p t back u v)) bs c
+unfolding more_hex
+good_second outer p t bs back u no_digit c r e =
+    (r.0, r.1, r.2, r.3, r.4, r.5, r.6, r.7, r.8, r.9, e, longer bs r.0 (92 ∷ 117 ∷ r.1 ∷ r.2 ∷ r.3 ∷ r.4 ∷ 92 ∷ 117 ∷ []) c r.11)
+good_second outer p t bs back u (one_digit x) c r e =
+    (r.0, r.1, r.2, r.3, r.4, r.5, r.6, r.7, r.8, r.9, (r.10, e), longer bs r.0 (92 ∷ 117 ∷ r.1 ∷ r.2 ∷ r.3 ∷ r.4 ∷ 92 ∷ 117 ∷ x ∷ []) c r.11)
+good_second outer p t bs back u (two_digits x y) c r e =
+    (r.0, r.1, r.2, r.3, r.4, r.5, r.6, r.7, r.8, r.9, (r.10.0, r.10.1, e), longer bs r.0 (92 ∷ 117 ∷ r.1 ∷ r.2 ∷ r.3 ∷ r.4 ∷ 92 ∷ 117 ∷ x ∷ y ∷ []) c r.11)
+good_second outer p t bs back u (three_digits x y z) c r e =
+    good_pair outer p t bs r.0 back u r.1 r.2 r.3 r.4 x y z c r.5 r.6 r.7 r.8 r.9 (r.10.0, r.10.1, r.10.2, e) r.11
+
+pub good_quoted : (outer : List Frame) (p : Purpose) (q : Quoted) (bs : List ℕ) (c : ℕ) → QuotedText outer p q bs → Good (quoted_step (length bs) outer p q c) bs c
+unfolding quoted_step
+good_quoted outer p (plain t) bs c r = good_plain outer p t bs c r
+good_quoted outer p (escaped t back) bs c r = good_escaped outer p t bs back c (short_escape c) refl r
+good_quoted outer p (unit t back h) bs c r = cond_both (is_hex c) _ _ (λ s. Good s bs c) (λ e. good_hex outer p t bs back h c r e) (λ _. stuck bs c)
+good_quoted outer p (high t back u) bs c r = good_high outer p t bs back u c r
+good_quoted outer p (high_escaped t back u) bs c r = good_high_escaped outer p t bs back u c r
+good_quoted outer p (high_unit t back u h) bs c r = cond_both (is_hex c) _ _ (λ s. Good s bs c) (λ e. good_second outer p t bs back u h c r e)
+    (λ e. λ cs. lacks outer p t r.0 (bs ++ c ∷ cs) (length bs) back r.1 r.2 r.3 r.4 (92 ∷ 117 ∷ hex_text h ++ c ∷ cs) r.5 r.6 r.7 (inr (high_of u r.1 r.2 r.3 r.4 r.8 r.9, lacks_digit h c cs e))
+    (and_then bs r.0 (92 ∷ 117 ∷ r.1 ∷ r.2 ∷ r.3 ∷ r.4 ∷ 92 ∷ 117 ∷ hex_text h) c cs r.11))
+
+-- ---- What the machine answers is true of the bytes.
+pub good_step : (outer : List Frame) (spot : Spot) (bs : List ℕ) (c : ℕ) → Stands outer spot bs → Good (step (length bs) outer spot c) bs c
+unfolding step
+good_step outer wanted bs c s = good_wanted outer bs c s
+good_step outer first_item bs c s = good_first_item outer bs c s
+good_step outer first_key bs c s = good_first_key outer bs c s
+good_step outer (key_wanted ms) bs c s = good_key_wanted outer ms bs c s
+good_step outer (colon_wanted ms k) bs c s = good_colon outer ms k bs c s
+good_step outer (ended v) bs c s = good_ended outer bs v c s
+good_step outer (literal v ls) bs c s = good_literal outer bs v ls c s
+good_step outer (numeral n) bs c s = good_numeral outer bs n c s
+good_step outer (quoted p q) bs c s = good_quoted outer p q bs c s
+
+-- The machine goes no further than a place, and what it goes through stands in the bytes.
+pub record Stops (bytes : List ℕ) (k : ℕ) : Type 0 where
+  pub front : List ℕ
+  pub outer : List Frame
+  pub spot : Spot
+  pub stands : Stands outer spot front
+  pub place : k ≡ length front
+  pub runs : (xs : List ℕ) → whole_outcome (front ++ xs) ≡ outcome (length front) outer spot xs
+  pub ends : (bytes ≡ front) ⊎ ((c : ℕ) × (cs : List ℕ) × (bytes ≡ front ++ c ∷ cs) × (step (length front) outer spot c ≡ stop k 2))
+
+abbrev pub IsSound : List ℕ → Outcome → Type 0
+IsSound bytes (done v) = SpellsText true v bytes
+IsSound bytes (fault k kind) = ((kind ≡ 2) × Stops bytes k) ⊎ (((kind ≡ 3) × OpensTooDeep bytes k) ⊎ (((kind ≡ 4) × RepeatsKey bytes k) ⊎ ((kind ≡ 5) × LacksPartner bytes k)))
+
+-- how the machine came to a spot
+abbrev Runs : List ℕ → List Frame → Spot → Type 0
+Runs bs outer spot = (xs : List ℕ) → whole_outcome (bs ++ xs) ≡ outcome (length bs) outer spot xs
+
+cut : (outer : List Frame) (spot : Spot) (bs : List ℕ) → Stands outer spot bs → Runs bs outer spot → IsSound (bs ++ []) (fault (length bs) 2)
+cut outer spot bs s r = inl (refl, record { front = bs; outer = outer; spot = spot; stands = s; place = refl; runs = r; ends = inl (append-nil bs) })
+
+value_ends : (outer : List Frame) (spot : Spot) (v : Value) (bs : List ℕ) → Stands outer spot bs → Stands outer (ended v) bs → Runs bs outer spot → IsSound (bs ++ []) (finish_value (length bs) outer v)
+unfolding finish_value
+value_ends [] spot v bs s t r = (t.2.0, t.2.1, t.1, t.2.2, t.2.3, t.3, append-nil bs ∙ (t.4 ∙ (ap (λ x. x ++ t.1) t.2.4 ∙ append_assoc t.2.0 t.2.1 t.1)))
+value_ends (f ∷ outer) spot v bs s t r = cut (f ∷ outer) spot bs s r
+
+lacks_none : LacksSecond []
+lacks_none = λ a b c d rest hex low e. cc
+
+lacks_rest : LacksSecond (92 ∷ [])
+lacks_rest = λ a b c d rest hex low e. cc
+
+lacks_digits : (h : Hex) → LacksSecond (92 ∷ 117 ∷ hex_text h)
+lacks_digits no_digit = λ a b c d rest hex low e. cc
+lacks_digits (one_digit x) = λ a b c d rest hex low e. cc
+lacks_digits (two_digits x y) = λ a b c d rest hex low e. cc
+lacks_digits (three_digits x y z) = λ a b c d rest hex low e. cc
+
+-- a fault that is none of the second kind
+late : {bytes : List ℕ} {here k : ℕ} → Caught bytes here k 5 → IsSound bytes (fault k 5)
+late (inl e) = absurd (omega (arith, e.0))
+late (inr e) = inr e
+
+sound_end : (outer : List Frame) (spot : Spot) (bs : List ℕ) → Stands outer spot bs → Runs bs outer spot → IsSound (bs ++ []) (finish (length bs) outer spot)
+unfolding finish
+sound_end outer wanted bs s r = cut outer wanted bs s r
+sound_end outer first_item bs s r = cut outer first_item bs s r
+sound_end outer first_key bs s r = cut outer first_key bs s r
+sound_end outer (key_wanted ms) bs s r = cut outer (key_wanted ms) bs s r
+sound_end outer (colon_wanted ms k) bs s r = cut outer (colon_wanted ms k) bs s r
+sound_end outer (ended v) bs s r = value_ends outer (ended v) v bs s s r
+sound_end outer (literal v ls) bs s r = cut outer (literal v ls) bs s r
+sound_end outer (numeral minus) bs s r = cut outer (numeral minus) bs s r
+sound_end outer (numeral (zero_first n)) bs s r =
+    value_ends outer (numeral (zero_first n)) (so_far n (0 ∷ []) [] false 0) bs s (ends outer n (0 ∷ []) [] no_power s.0 s.1 bs s.2 s.4 (omega arith) tt tt (s.3 ∙ whole_text n (0 ∷ []))) r
+sound_end outer (numeral (whole n ds)) bs s r =
+    value_ends outer (numeral (whole n ds)) (so_far n ds [] false 0) bs s (ends outer n ds [] no_power s.0 s.1 bs s.2 s.4 (open_whole ds s.3.0) tt tt (s.3.1 ∙ whole_text n ds)) r
+sound_end outer (numeral (point n ds)) bs s r = cut outer (numeral (point n ds)) bs s r
+sound_end outer (numeral (fraction n ds fs)) bs s r =
+    value_ends outer (numeral (fraction n ds fs)) (so_far n ds fs false 0) bs s (ends outer n ds fs no_power s.0 s.1 bs s.2 s.4 s.3.0 (some_digits fs s.3.1) tt (s.3.2 ∙ fraction_end n ds fs s.3.1)) r
+sound_end outer (numeral (mark n ds fs)) bs s r = cut outer (numeral (mark n ds fs)) bs s r
+sound_end outer (numeral (signed n ds fs down)) bs s r = cut outer (numeral (signed n ds fs down)) bs s r
+sound_end outer (numeral (exponent n ds fs down w)) bs s r =
+    let t = s.3 in
+    value_ends outer (numeral (exponent n ds fs down w)) (so_far n ds fs down w) bs s
+    (subst (λ (v : Value). Stands outer (ended v) bs) (ap (λ (b : Bool). so_far n ds fs b (whole_of (t.2 ∷ t.3))) (sym t.7) ∙ ap (λ k. so_far n ds fs down k) (sym t.9))
+    (ends outer n ds fs (power t.0 t.1 t.2 t.3) s.0 s.1 bs s.2 s.4 t.4 t.5 (t.6, t.8) (t.10 ∙ power_end n ds fs t.0 t.1 t.2 t.3))) r
+sound_end outer (quoted p (plain t)) bs s r = cut outer (quoted p (plain t)) bs s r
+sound_end outer (quoted p (escaped t back)) bs s r = cut outer (quoted p (escaped t back)) bs s r
+sound_end outer (quoted p (unit t back h)) bs s r = cut outer (quoted p (unit t back h)) bs s r
+sound_end outer (quoted p (high t back u)) bs s r =
+    late (lacks outer p t s.0 (bs ++ []) (length bs) back s.1 s.2 s.3 s.4 [] s.5 s.6 s.7 (inr (high_of u s.1 s.2 s.3 s.4 s.8 s.9, lacks_none)) (append-nil bs ∙ s.10))
+sound_end outer (quoted p (high_escaped t back u)) bs s r =
+    late (lacks outer p t s.0 (bs ++ []) (length bs) back s.1 s.2 s.3 s.4 (92 ∷ []) s.5 s.6 s.7 (inr (high_of u s.1 s.2 s.3 s.4 s.8 s.9, lacks_rest)) (append-nil bs ∙ s.10))
+sound_end outer (quoted p (high_unit t back u h)) bs s r =
+    late (lacks outer p t s.0 (bs ++ []) (length bs) back s.1 s.2 s.3 s.4 (92 ∷ 117 ∷ hex_text h) s.5 s.6 s.7 (inr (high_of u s.1 s.2 s.3 s.4 s.8 s.9, lacks_digits h)) (append-nil bs ∙ s.11))
+
+caught : (bytes bs : List ℕ) (outer : List Frame) (spot : Spot) (c : ℕ) (cs : List ℕ) (k kind : ℕ) → Stands outer spot bs → Runs bs outer spot → bytes ≡ bs ++ c ∷ cs → step (length bs) outer spot c ≡ stop k kind
+    → Caught bytes (length bs) k kind → IsSound bytes (fault k kind)
+caught bytes bs outer spot c cs k kind s r e f (inl g) =
+    inl (g.0, record { front = bs; outer = outer; spot = spot; stands = s; place = g.1; runs = r; ends = inr (c, cs, e, f ∙ ap (stop k) g.0) })
+caught bytes bs outer spot c cs k kind s r e f (inr g) = inr g
+
+-- one byte, and what comes behind it
+sound_step : (bs : List ℕ) (outer : List Frame) (spot : Spot) (c : ℕ) (cs : List ℕ) (s : Step) → step (length bs) outer spot c ≡ s → Stands outer spot bs → Runs bs outer spot → Good s bs c
+    → ((o : List Frame) (t : Spot) → Stands o t (bs ++ c ∷ []) → Runs (bs ++ c ∷ []) o t → IsSound ((bs ++ c ∷ []) ++ cs) (outcome (length (bs ++ c ∷ [])) o t cs))
+    → IsSound (bs ++ c ∷ cs) (after s (λ o t. outcome (suc (length bs)) o t cs))
+unfolding outcome
+sound_step bs outer spot c cs (next o t) e stands runs good later =
+    let size : length (bs ++ c ∷ []) ≡ suc (length bs) = omega (arith, length-append bs (c ∷ [])) in
+    let runs' : Runs (bs ++ c ∷ []) o t = λ xs. ap whole_outcome (append_assoc bs (c ∷ []) xs) ∙ (runs (c ∷ xs) ∙ (ap (λ s. after s (λ o t. outcome (suc (length bs)) o t xs)) e ∙ ap (λ k. outcome k o t xs) (sym size))) in
+    subst (λ (xs : List ℕ). IsSound xs (outcome (suc (length bs)) o t cs)) (append_assoc bs (c ∷ []) cs)
+    (subst (λ (k : ℕ). IsSound ((bs ++ c ∷ []) ++ cs) (outcome k o t cs)) size (later o t good runs'))
+sound_step bs outer spot c cs (stop k kind) e stands runs good later = caught (bs ++ c ∷ cs) bs outer spot c cs k kind stands runs refl e (good cs)
+
+sound : (rest bs : List ℕ) (outer : List Frame) (spot : Spot) → Stands outer spot bs → Runs bs outer spot → IsSound (bs ++ rest) (outcome (length bs) outer spot rest)
+unfolding outcome
+sound [] bs outer spot s r = sound_end outer spot bs s r
+sound (c ∷ cs) bs outer spot s r =
+    sound_step bs outer spot c cs (step (length bs) outer spot c) refl s r (good_step outer spot bs c s) (λ o t stands runs. sound cs (bs ++ c ∷ []) o t stands runs)
+
+pub is_sound : (bytes : List ℕ) → IsSound bytes (whole_outcome bytes)
+unfolding whole_outcome
+is_sound bytes = sound bytes [] [] wanted tt (λ xs. refl)

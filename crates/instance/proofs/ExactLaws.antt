@@ -17,8 +17,9 @@ use Rattle.uc_model.specs.declared.field.Field.TheVariants.{TimePeriods, Demand,
 use Rattle.decimal_json.specs.Value.{Decimal, Value}
 use Rattle.instance.specs.Fields.{key_of, number_in, entries_in, pairs_in, field_of}
 use Rattle.instance.specs.Scaled.{MILLION, scaled, is_rounded}
-use Rattle.instance.specs.InstanceOf.{Pairs, Has, IsObject, IsNumber, IsPowerOf, IsCostOf, IsTimeOf, IsFlagOf, IsPeriodsOf, IsPowersOf, AreRowsOf, IsStartRowOf, IsPointOf, IsLimitOf, IsMinimumTimeOf, IsThermalOf, IsRenewableOf, AreUnitsOf, HasFields, IsInstanceOf}
+use Rattle.instance.specs.InstanceOf.{Pairs, Has, IsObject, IsNumber, IsPowerOf, IsCostOf, IsTimeOf, IsFlagOf, IsPeriodsOf, IsPowersOf, AreRowsOf, IsStartRowOf, IsPointOf, IsRising, IsLimitOf, IsMinimumTimeOf, IsThermalOf, IsRenewableOf, AreUnitsOf, HasFields, IsInstanceOf}
 use Rattle.instance.specs.Rounded.{members_of_value, rounded_value, rounded_field, entries_field, members_field, rounded_array, rounded_start_row, rounded_point, rounded_startup, rounded_points, rounded_outputs, rounded_ramps, rounded_times, rounded_initial, rounded_thermal, rounded_renewable, rounded_thermal_units, rounded_renewable_units, rounded_totals, rounded_instance}
+use Rattle.instance.proofs.UnitLaws.{parts_of, from_parts}
 
 -- The first holds exactly where the second does with a count of 0.
 record Agree (E F : Type 0) (c : ℕ) : Type 0 where
@@ -39,6 +40,18 @@ two : {E F G H : Type 0} {c d : ℕ} → Agree E F c → Agree G H d → Agree (
 two a b = record {
   is = λ h. let r = a.is h.0 in let s = b.is h.1 in ((r.0, s.0), omega (arith, r.1, s.1));
   again = λ h z. (a.again h.0 (omega (arith, z)), b.again h.1 (omega (arith, z)));
+}
+
+three : {E F G H I J : Type 0} {c d e : ℕ} → Agree E F c → Agree G H d → Agree I J e → Agree (E × G × I) (F × H × J) (c + d + e)
+three a b c = record {
+  is = λ h. let r = a.is h.0 in let s = b.is h.1 in let t = c.is h.2 in ((r.0, s.0, t.0), omega (arith, r.1, s.1, t.1));
+  again = λ h z. (a.again h.0 (omega (arith, z)), b.again h.1 (omega (arith, z)), c.again h.2 (omega (arith, z)));
+}
+
+four : {E F G H I J K L : Type 0} {c d e f : ℕ} → Agree E F c → Agree G H d → Agree I J e → Agree K L f → Agree (E × G × I × K) (F × H × J × L) (c + d + e + f)
+four a b c d = record {
+  is = λ h. let r = a.is h.0 in let s = b.is h.1 in let t = c.is h.2 in let u = d.is h.3 in ((r.0, s.0, t.0, u.0), omega (arith, r.1, s.1, t.1, u.1));
+  again = λ h z. (a.again h.0 (omega (arith, z)), b.again h.1 (omega (arith, z)), c.again h.2 (omega (arith, z)), d.again h.3 (omega (arith, z)));
 }
 
 neither : {E F : Type 0} {c : ℕ} → (E → ⊥) → (F → ⊥) → Agree E F c
@@ -74,21 +87,6 @@ cost_agrees z v = number_agrees v (λ d. (scaled d ≡ z) × IsCost z)
 time_agrees : (h : ℕ) (v : Value) → Agree (IsTimeOf true h v) (IsTimeOf false h v) (rounded_value v)
 time_agrees h v = number_agrees v (λ d. (scaled d ≡ pos (h * MILLION)) × (h ≤ MAX_TIME))
 
-flag_agrees : (b : Bool) (v : Value) → Agree (IsFlagOf true b v) (IsFlagOf false b v) (rounded_value v)
-flag_agrees b v = number_agrees v (λ d. scaled d ≡ pos ((if b then 1 else 0) * MILLION))
-
-periods_agree : (t : ℕ) (v : Value) → Agree (IsPeriodsOf true t v) (IsPeriodsOf false t v) (rounded_value v)
-periods_agree t v = number_agrees v (λ d. (scaled d ≡ pos (t * MILLION)) × (1 ≤ t) × (t ≤ MAX_PERIODS))
-
-limit_agrees : (z : ℤ) (v : Value) → Agree (IsLimitOf true z v) (IsLimitOf false z v) (rounded_value v)
-limit_agrees z v = beside (pos 0 ≤ℤ z) (power_agrees z v)
-
-minimum_time_agrees : (h : ℕ) (v : Value) → Agree (IsMinimumTimeOf true h v) (IsMinimumTimeOf false h v) (rounded_value v)
-minimum_time_agrees h v = record {
-  is = λ m. let r = (time_agrees m.0 v).is m.1 in ((m.0, r.0, m.2), r.1);
-  again = λ m z. (m.0, (time_agrees m.0 v).again m.1 z, m.2);
-}
-
 -- ---- fields, objects and arrays
 
 field_option : (o : Option Value) (P Q : Value → Type 0) → ((w : Value) → Agree (P w) (Q w) (rounded_value w)) → Agree (IsSomeAnd o P) (IsSomeAnd o Q) (elim o [ None ↦ 0 | Some v ↦ rounded_value v ])
@@ -112,9 +110,8 @@ within_agrees f (Some v) P Q c a = inside_agrees (f v) P Q c a
 
 all_agree : {X Y : Type 0} (P Q : X → Y → Type 0) (c : X → ℕ) → ((x : X) (y : Y) → Agree (P x y) (Q x y) (c x)) → (xs : List X) (ys : List Y) → Agree (AllZip P xs ys) (AllZip Q xs ys) (sum_by c xs)
 all_agree P Q c a [] [] = record { is = λ h. (h, refl); again = λ h z. h }
-all_agree P Q c a [] (y ∷ ys) = neither (λ h. h) (λ h. h)
-all_agree P Q c a (x ∷ xs) [] = neither (λ h. h) (λ h. h)
 all_agree P Q c a (x ∷ xs) (y ∷ ys) = subst (λ (k : ℕ). Agree (P x y × AllZip P xs ys) (Q x y × AllZip Q xs ys) k) (sym (sum_by-cons c x xs)) (two (a x y) (all_agree P Q c a xs ys))
+all_agree P Q c a _ _ = neither (λ h. h) (λ h. h)
 
 powers_agree : (field : Field) (periods : ℕ) (ms : Pairs) (zs : List ℤ) → Agree (Has field ms (IsPowersOf true periods zs)) (Has field ms (IsPowersOf false periods zs)) (rounded_array field periods ms)
 unfolding rounded_array
@@ -144,12 +141,12 @@ two_agree f g A B C D a c v =
 start_row_agrees : (row : StartRow) (v : Value) → Agree (IsStartRowOf true row v) (IsStartRowOf false row v) (rounded_start_row v)
 unfolding rounded_start_row
 start_row_agrees row v =
-    two_agree StartupLag StartupCost (IsTimeOf true row.lag) (IsTimeOf false row.lag) (IsCostOf true row.cost) (IsCostOf false row.cost) (λ w. time_agrees row.lag w) (λ w. cost_agrees row.cost w) v
+    two_agree StartupLag StartupCost (IsTimeOf true row.lag) (IsTimeOf false row.lag) (IsCostOf true row.cost) (IsCostOf false row.cost) (time_agrees row.lag) (cost_agrees row.cost) v
 
 point_agrees : (point : Point) (v : Value) → Agree (IsPointOf true point v) (IsPointOf false point v) (rounded_point v)
 unfolding rounded_point
 point_agrees point v =
-    two_agree PiecewiseProductionMw PiecewiseProductionCost (IsPowerOf true point.mw) (IsPowerOf false point.mw) (IsCostOf true point.cost) (IsCostOf false point.cost) (λ w. power_agrees point.mw w) (λ w. cost_agrees point.cost w) v
+    two_agree PiecewiseProductionMw PiecewiseProductionCost (IsPowerOf true point.mw) (IsPowerOf false point.mw) (IsCostOf true point.cost) (IsCostOf false point.cost) (power_agrees point.mw) (cost_agrees point.cost) v
 
 startup_agrees : (ms : Pairs) (rows : List StartRow)
     → Agree (Has Startup ms (AreRowsOf MAX_START_ROWS (IsStartRowOf true) rows)) (Has Startup ms (AreRowsOf MAX_START_ROWS (IsStartRowOf false) rows)) (rounded_startup ms)
@@ -164,19 +161,22 @@ points_agree ms points = rows_agree PiecewiseProduction MAX_POINTS ms (IsPointOf
 -- ---- units and the instance
 
 flag_field : (field : Field) (ms : Pairs) (b : Bool) → Agree (Has field ms (IsFlagOf true b)) (Has field ms (IsFlagOf false b)) (rounded_field field ms)
-flag_field field ms b = field_agrees field ms (IsFlagOf true b) (IsFlagOf false b) (λ w. flag_agrees b w)
+flag_field field ms b = field_agrees field ms (IsFlagOf true b) (IsFlagOf false b) (λ v. number_agrees v (λ d. scaled d ≡ pos ((if b then 1 else 0) * MILLION)))
 
 power_field : (field : Field) (ms : Pairs) (z : ℤ) → Agree (Has field ms (IsPowerOf true z)) (Has field ms (IsPowerOf false z)) (rounded_field field ms)
-power_field field ms z = field_agrees field ms (IsPowerOf true z) (IsPowerOf false z) (λ w. power_agrees z w)
+power_field field ms z = field_agrees field ms (IsPowerOf true z) (IsPowerOf false z) (power_agrees z)
 
 limit_field : (field : Field) (ms : Pairs) (z : ℤ) → Agree (Has field ms (IsLimitOf true z)) (Has field ms (IsLimitOf false z)) (rounded_field field ms)
-limit_field field ms z = field_agrees field ms (IsLimitOf true z) (IsLimitOf false z) (λ w. limit_agrees z w)
+limit_field field ms z = field_agrees field ms (IsLimitOf true z) (IsLimitOf false z) (λ v. beside (pos 0 ≤ℤ z) (power_agrees z v))
 
 time_field : (field : Field) (ms : Pairs) (h : ℕ) → Agree (Has field ms (IsTimeOf true h)) (Has field ms (IsTimeOf false h)) (rounded_field field ms)
-time_field field ms h = field_agrees field ms (IsTimeOf true h) (IsTimeOf false h) (λ w. time_agrees h w)
+time_field field ms h = field_agrees field ms (IsTimeOf true h) (IsTimeOf false h) (time_agrees h)
 
 minimum_time_field : (field : Field) (ms : Pairs) (h : ℕ) → Agree (Has field ms (IsMinimumTimeOf true h)) (Has field ms (IsMinimumTimeOf false h)) (rounded_field field ms)
-minimum_time_field field ms h = field_agrees field ms (IsMinimumTimeOf true h) (IsMinimumTimeOf false h) (λ w. minimum_time_agrees h w)
+minimum_time_field field ms h = field_agrees field ms (IsMinimumTimeOf true h) (IsMinimumTimeOf false h) (λ v. record {
+  is = λ m. let r = (time_agrees m.0 v).is m.1 in ((m.0, r.0, m.2), r.1);
+  again = λ m z. (m.0, (time_agrees m.0 v).again m.1 z, m.2);
+})
 
 abbrev thermal_count : Pairs → ℕ
 thermal_count ms = rounded_outputs ms + rounded_ramps ms + rounded_times ms + rounded_initial ms + rounded_startup ms + rounded_points ms
@@ -184,80 +184,21 @@ thermal_count ms = rounded_outputs ms + rounded_ramps ms + rounded_times ms + ro
 thermal_inside : (unit : Thermal) (ms : Pairs) → Agree (IsThermalOf true unit ms) (IsThermalOf false unit ms) (thermal_count ms)
 unfolding rounded_outputs rounded_ramps rounded_times rounded_initial
 thermal_inside unit ms =
-    let must_run = flag_field MustRun ms unit.must_run in
-    let minimum = limit_field PowerOutputMinimum ms unit.pmin in
-    let maximum = power_field PowerOutputMaximum ms unit.pmax in
-    let ramp_up = limit_field RampUpLimit ms unit.ru in
-    let ramp_down = limit_field RampDownLimit ms unit.rd in
-    let start_limit = limit_field RampStartupLimit ms unit.su in
-    let stop_limit = limit_field RampShutdownLimit ms unit.sd in
-    let time_up = minimum_time_field TimeUpMinimum ms unit.ut in
-    let time_down = minimum_time_field TimeDownMinimum ms unit.dt in
-    let initial_output = power_field PowerOutputT0 ms unit.p0 in
-    let initial_on = flag_field UnitOnT0 ms unit.on0 in
-    let initial_time_up = time_field TimeUpT0 ms unit.ut0 in
-    let initial_time_down = time_field TimeDownT0 ms unit.dt0 in
-    let startup = startup_agrees ms unit.startup in
-    let points = points_agree ms unit.points in
+    let outputs = beside (unit.pmin ≤ℤ unit.pmax) (three (flag_field MustRun ms unit.must_run) (limit_field PowerOutputMinimum ms unit.pmin) (power_field PowerOutputMaximum ms unit.pmax)) in
+    let ramps = four (limit_field RampUpLimit ms unit.ru) (limit_field RampDownLimit ms unit.rd) (limit_field RampStartupLimit ms unit.su) (limit_field RampShutdownLimit ms unit.sd) in
+    let times = two (minimum_time_field TimeUpMinimum ms unit.ut) (minimum_time_field TimeDownMinimum ms unit.dt) in
+    let initial = four (power_field PowerOutputT0 ms unit.p0) (flag_field UnitOnT0 ms unit.on0) (time_field TimeUpT0 ms unit.ut0) (time_field TimeDownT0 ms unit.dt0) in
+    let rows = two (startup_agrees ms unit.startup) (beside (IsRising unit.points) (points_agree ms unit.points)) in
+    let all = two (four outputs ramps times initial) rows in
     record {
-      is = λ h. (
-        record {
-          must_run = (must_run.is h.must_run).0;
-          minimum = (minimum.is h.minimum).0;
-          maximum = (maximum.is h.maximum).0;
-          range = h.range;
-          ramp_up = (ramp_up.is h.ramp_up).0;
-          ramp_down = (ramp_down.is h.ramp_down).0;
-          start_limit = (start_limit.is h.start_limit).0;
-          stop_limit = (stop_limit.is h.stop_limit).0;
-          time_up = (time_up.is h.time_up).0;
-          time_down = (time_down.is h.time_down).0;
-          initial_output = (initial_output.is h.initial_output).0;
-          initial_on = (initial_on.is h.initial_on).0;
-          initial_time_up = (initial_time_up.is h.initial_time_up).0;
-          initial_time_down = (initial_time_down.is h.initial_time_down).0;
-          startup = (startup.is h.startup).0;
-          points = (points.is h.points).0;
-          rising = h.rising;
-        },
-        omega (
-          arith,
-          (must_run.is h.must_run).1,
-          (minimum.is h.minimum).1,
-          (maximum.is h.maximum).1,
-          (ramp_up.is h.ramp_up).1,
-          (ramp_down.is h.ramp_down).1,
-          (start_limit.is h.start_limit).1,
-          (stop_limit.is h.stop_limit).1,
-          (time_up.is h.time_up).1,
-          (time_down.is h.time_down).1,
-          (initial_output.is h.initial_output).1,
-          (initial_on.is h.initial_on).1,
-          (initial_time_up.is h.initial_time_up).1,
-          (initial_time_down.is h.initial_time_down).1,
-          (startup.is h.startup).1,
-          (points.is h.points).1,
-        ),
-      );
-      again = λ h z. record {
-        must_run = must_run.again h.must_run (omega (arith, z));
-        minimum = minimum.again h.minimum (omega (arith, z));
-        maximum = maximum.again h.maximum (omega (arith, z));
-        range = h.range;
-        ramp_up = ramp_up.again h.ramp_up (omega (arith, z));
-        ramp_down = ramp_down.again h.ramp_down (omega (arith, z));
-        start_limit = start_limit.again h.start_limit (omega (arith, z));
-        stop_limit = stop_limit.again h.stop_limit (omega (arith, z));
-        time_up = time_up.again h.time_up (omega (arith, z));
-        time_down = time_down.again h.time_down (omega (arith, z));
-        initial_output = initial_output.again h.initial_output (omega (arith, z));
-        initial_on = initial_on.again h.initial_on (omega (arith, z));
-        initial_time_up = initial_time_up.again h.initial_time_up (omega (arith, z));
-        initial_time_down = initial_time_down.again h.initial_time_down (omega (arith, z));
-        startup = startup.again h.startup (omega (arith, z));
-        points = points.again h.points (omega (arith, z));
-        rising = h.rising;
-      };
+      is = λ h.
+          let p = parts_of true unit ms h in
+          let a = all.is ((p.outputs, p.ramps, p.times, p.initial), (p.startup, p.points)) in
+          (from_parts false unit ms (record { outputs = a.0.0.0; ramps = a.0.0.1; times = a.0.0.2; initial = a.0.0.3; startup = a.0.1.0; points = a.0.1.1 }), omega (arith, a.1));
+      again = λ h z.
+          let p = parts_of false unit ms h in
+          let a = all.again ((p.outputs, p.ramps, p.times, p.initial), (p.startup, p.points)) (omega (arith, z)) in
+          from_parts true unit ms (record { outputs = a.0.0; ramps = a.0.1; times = a.0.2; initial = a.0.3; startup = a.1.0; points = a.1.1 });
     }
 
 thermal_agrees : (unit : Thermal) (v : Value) → Agree (IsObject v (IsThermalOf true unit)) (IsObject v (IsThermalOf false unit)) (rounded_thermal v)
@@ -267,11 +208,10 @@ thermal_agrees unit v = inside_agrees (pairs_in v) (IsThermalOf true unit) (IsTh
 renewable_inside : (periods : ℕ) (unit : Renewable) (ms : Pairs)
     → Agree (IsRenewableOf true periods unit ms) (IsRenewableOf false periods unit ms) (rounded_array PowerOutputMinimum periods ms + rounded_array PowerOutputMaximum periods ms)
 renewable_inside periods unit ms =
-    let minimum = powers_agree PowerOutputMinimum periods ms unit.minimum in
-    let maximum = powers_agree PowerOutputMaximum periods ms unit.maximum in
+    let both = two (powers_agree PowerOutputMinimum periods ms unit.minimum) (powers_agree PowerOutputMaximum periods ms unit.maximum) in
     record {
-      is = λ h. (record { minimum = (minimum.is h.minimum).0; maximum = (maximum.is h.maximum).0; range = h.range }, omega (arith, (minimum.is h.minimum).1, (maximum.is h.maximum).1));
-      again = λ h z. record { minimum = minimum.again h.minimum (omega (arith, z)); maximum = maximum.again h.maximum (omega (arith, z)); range = h.range };
+      is = λ h. let a = both.is (h.minimum, h.maximum) in (record { minimum = a.0.0; maximum = a.0.1; range = h.range }, a.1);
+      again = λ h z. let a = both.again (h.minimum, h.maximum) z in record { minimum = a.0; maximum = a.1; range = h.range };
     }
 
 renewable_agrees : (periods : ℕ) (unit : Renewable) (v : Value) → Agree (IsObject v (IsRenewableOf true periods unit)) (IsObject v (IsRenewableOf false periods unit)) (rounded_renewable periods v)
@@ -297,23 +237,15 @@ instance_count periods ms = rounded_totals periods ms + rounded_thermal_units ms
 instance_inside : (i : Instance) (ms : Pairs) → Agree (HasFields true i ms) (HasFields false i ms) (instance_count i.periods ms)
 unfolding rounded_totals rounded_thermal_units rounded_renewable_units
 instance_inside i ms =
-    let periods = field_agrees TimePeriods ms (IsPeriodsOf true i.periods) (IsPeriodsOf false i.periods) (λ w. periods_agree i.periods w) in
+    let periods = field_agrees TimePeriods ms (IsPeriodsOf true i.periods) (IsPeriodsOf false i.periods) (λ v. number_agrees v (λ d. (scaled d ≡ pos (i.periods * MILLION)) × (1 ≤ i.periods) × (i.periods ≤ MAX_PERIODS))) in
     let demand = powers_agree Demand i.periods ms i.demand in
     let reserves = powers_agree Reserves i.periods ms i.reserves in
     let thermal = units_agree ThermalGenerators ms (λ (u : Thermal). u.name) (IsThermalOf true) (IsThermalOf false) rounded_thermal thermal_agrees i.thermal in
     let renewable = units_agree RenewableGenerators ms (λ (u : Renewable). u.name) (IsRenewableOf true i.periods) (IsRenewableOf false i.periods) (rounded_renewable i.periods) (renewable_agrees i.periods) i.renewable in
+    let all = two (three periods demand reserves) (two thermal renewable) in
     record {
-      is = λ h. (
-        record { periods = (periods.is h.periods).0; demand = (demand.is h.demand).0; reserves = (reserves.is h.reserves).0; thermal = (thermal.is h.thermal).0; renewable = (renewable.is h.renewable).0 },
-        omega (arith, (periods.is h.periods).1, (demand.is h.demand).1, (reserves.is h.reserves).1, (thermal.is h.thermal).1, (renewable.is h.renewable).1),
-      );
-      again = λ h z. record {
-        periods = periods.again h.periods (omega (arith, z));
-        demand = demand.again h.demand (omega (arith, z));
-        reserves = reserves.again h.reserves (omega (arith, z));
-        thermal = thermal.again h.thermal (omega (arith, z));
-        renewable = renewable.again h.renewable (omega (arith, z));
-      };
+      is = λ h. let a = all.is ((h.periods, h.demand, h.reserves), (h.thermal, h.renewable)) in (record { periods = a.0.0.0; demand = a.0.0.1; reserves = a.0.0.2; thermal = a.0.1.0; renewable = a.0.1.1 }, omega (arith, a.1));
+      again = λ h z. let a = all.again ((h.periods, h.demand, h.reserves), (h.thermal, h.renewable)) (omega (arith, z)) in record { periods = a.0.0; demand = a.0.1; reserves = a.0.2; thermal = a.1.0; renewable = a.1.1 };
     }
 
 instance_agrees : (v : Value) (i : Instance) → Agree (IsInstanceOf true v i) (IsInstanceOf false v i) (rounded_instance i.periods v)

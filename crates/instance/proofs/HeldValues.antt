@@ -1,10 +1,10 @@
 -- A value is read the same with each of its numbers changed to one that says the same.
-use Rattle.std.proofs.Common.{◌≡◌, ℕ, ◌%◌, ◌^◌, ◌<◌, Bool, true, false, cond, List, [], ◌∷◌, ◌++◌, length, take, map, Option, Some, None, Result, Ok, Err, refl, ap, ◌∙◌, inl, inr, arith}
-use Rattle.std.specs.Prelude.{◌&&◌, ◌||◌, ◌==◌, nat_lt, ℤ, pos}
+use Rattle.std.proofs.Common.{◌≡◌, ℕ, ◌%◌, ◌^◌, ◌<◌, Bool, true, false, cond, List, [], ◌∷◌, ◌++◌, length, take, map, Option, Some, None, Result, Ok, Err, refl, sym, ap, ◌∙◌, inl, inr, arith, ◌+◌}
+use Rattle.std.specs.Prelude.{◌&&◌, ◌||◌, ◌==◌, nat_lt, ℤ, pos, sum_by, fold, unwrap_or, option_and_then, nat_le}
 use Rattle.std.specs.Option.{option_map}
 use Rattle.std.specs.Str.{bytes_eq}
 use Rattle.std.proofs.Math.Bool.{or-true}
-use Rattle.std.proofs.lemmas.Bool.{lt-ltb}
+use Rattle.std.proofs.lemmas.Bool.{lt-ltb, cases_lt, le-leb, lt-leb}
 use Rattle.std.proofs.lemmas.List.{length-map, take-map}
 use Rattle.uc_model.specs.declared.limits.TheConstants.{MAX_PERIODS, MAX_UNITS, MAX_POINTS, MAX_START_ROWS, MAX_POWER, MAX_COST, MAX_TIME}
 use Rattle.uc_model.specs.declared.field.Field.{Field}
@@ -14,7 +14,7 @@ use Rattle.uc_model.specs.declared.instance.StartRow.{StartRow}
 use Rattle.uc_model.specs.declared.instance.Thermal.{Thermal}
 use Rattle.uc_model.specs.declared.instance.Renewable.{Renewable}
 use Rattle.uc_model.specs.declared.instance.Instance.{Instance}
-use Rattle.decimal_json.specs.Value.{Decimal, Value, number, array, object, Items, no_items, item, Members, no_members, member}
+use Rattle.decimal_json.specs.Value.{Decimal, Value, number, array, object, Items, no_items, item, Members, no_members, member, null, boolean, text}
 use Rattle.instance.specs.Fields.{key_of, entries_of, pairs_of, entries_in, pairs_in, field_of}
 use Rattle.instance.specs.Scaled.{MILLION, size_of, scaled, is_rounded, wholes_of, is_below_zero}
 use Rattle.instance.specs.Points.{last_output}
@@ -23,12 +23,15 @@ use Rattle.uc_model.specs.declared.field_refusal.FieldRefusal.{FieldRefusal}
 use Rattle.instance.specs.declared.fault.Refusal.{Refusal}
 use Rattle.instance.specs.declared.reader.totals.Totals.{Totals}
 use Rattle.instance.specs.declared.reader.thermal.Outputs.{Outputs}
-use Rattle.instance.specs.FirstFault.{◌>>=◌, whole, wanted, refused_if, number_at, amount_at, power_at, power_from, cost_at, whole_at, time_at, flag_at, periods_at, field_at, object_at, array_at, entries_at, rows_at, each_at, next_entry, power_entry, powers_at, maximum_entry, start_row, point_row, flag_field, time_field, power_field, output_field, outputs_at, ramps_at, times_at, initial_at, startup_at, points_at, thermal_at, maxima_at, renewable_at, in_unit, outside, units_at, thermal_member, renewable_member, thermal_units_at, renewable_units_at, totals_at, instance_at}
-use Rattle.instance.specs.InstanceOf.{Pairs}
+use Rattle.instance.specs.FirstFault.{◌>>=◌, refusal, whole, wanted, refused_if, number_at, amount_at, power_at, power_from, cost_at, whole_at, time_at, flag_at, periods_at, field_at, object_at, array_at, entries_at, rows_at, each_at, next_entry, power_entry, powers_at, maximum_entry, start_row, point_row, flag_field, time_field, power_field, output_field, outputs_at, ramps_at, times_at, initial_at, startup_at, points_at, thermal_at, maxima_at, renewable_at, in_unit, outside, units_at, thermal_member, renewable_member, thermal_units_at, renewable_units_at, totals_at, instance_at}
+use Rattle.instance.specs.InstanceOf.{Pairs, IsInstanceOf}
 use Rattle.instance.specs.Held.{PAST_LIMITS}
-use Rattle.instance.specs.SameNumber.{SaySame}
-use Rattle.instance.specs.Numbers.{with_numbers, items_with, members_with}
-use Rattle.instance.proofs.NumberLaws.{not_zero_again}
+use Rattle.instance.specs.SameNumber.{SaySame, MOST_DIGITS, IsShort}
+use Rattle.instance.specs.Numbers.{with_numbers, items_with, members_with, AllNumbers, AllItems, AllMembers}
+use Rattle.instance.proofs.UnitLaws.{not_zero_again, instance_is, instance_again}
+use Rattle.instance.specs.Rounded.{rounded_value, rounded_field, entries_field, members_field, members_of_value, rounded_array, rounded_start_row, rounded_point, rounded_startup, rounded_points, rounded_outputs, rounded_ramps, rounded_times, rounded_initial, rounded_thermal, rounded_renewable, rounded_thermal_units, rounded_renewable_units, rounded_totals, rounded_instance}
+use Rattle.decimal_json.specs.Number.{held_decimal}
+use Rattle.instance.proofs.Sizes.{itself, held_says_same}
 
 -- ---- results
 
@@ -36,21 +39,21 @@ abbrev pub map_ok : {A B E : Type 0} → (A → B) → Result A E → Result B E
 map_ok g (Ok x) = Ok (g x)
 map_ok g (Err e) = Err e
 
-bind_map : {A B C E : Type 0} (g : A → B) (r : Result A E) (k : B → Result C E) (l : A → Result C E) → ((x : A) → k (g x) ≡ l x) → (map_ok g r >>= k) ≡ (r >>= l)
-bind_map g (Ok x) k l e = e x
-bind_map g (Err d) k l e = refl
+bind_map : {A B C E : Type 0} (g : A → B) (r : Result A E) (k : B → Result C E) → (map_ok g r >>= k) ≡ (r >>= λ x. k (g x))
+bind_map g (Ok x) k = refl
+bind_map g (Err d) k = refl
 
-bind_maps : {A B C D E : Type 0} (g : A → B) (h : C → D) (r : Result A E) (k : B → Result D E) (l : A → Result C E) → ((x : A) → k (g x) ≡ map_ok h (l x)) → (map_ok g r >>= k) ≡ map_ok h (r >>= l)
-bind_maps g h (Ok x) k l e = e x
-bind_maps g h (Err d) k l e = refl
+map_bind : {A B C E : Type 0} (g : B → C) (r : Result A E) (k : A → Result B E) → map_ok g (r >>= k) ≡ (r >>= λ x. map_ok g (k x))
+map_bind g (Ok x) k = refl
+map_bind g (Err d) k = refl
 
-bind_same : {A C E : Type 0} (r : Result A E) (k l : A → Result C E) → ((x : A) → k x ≡ l x) → (r >>= k) ≡ (r >>= l)
-bind_same (Ok x) k l e = e x
-bind_same (Err d) k l e = refl
+refused_map : {A B E : Type 0} (g : A → B) (test : Bool) (e : E) (r : Result A E) → map_ok g (cond test (Err e) r) ≡ cond test (Err e) (map_ok g r)
+refused_map g true e r = refl
+refused_map g false e r = refl
 
-refused_map : {A B : Type 0} (g : A → B) (test : Bool) (code : ℕ) (place : Place) (x : A) → refused_if test code place (g x) ≡ map_ok g (refused_if test code place x)
-refused_map g true code place x = refl
-refused_map g false code place x = refl
+refused_then : {A B : Type 0} (test : Bool) (code : ℕ) (place : Place) (x : A) (k : A → Result B Refusal) → (refused_if test code place x >>= k) ≡ cond test (Err (refusal code place)) (k x)
+refused_then true code place x k = refl
+refused_then false code place x k = refl
 
 wanted_map : {A B : Type 0} (g : A → B) (code : ℕ) (place : Place) (o : Option A) → wanted code place (option_map g o) ≡ map_ok g (wanted code place o)
 wanted_map g code place (Some x) = refl
@@ -93,37 +96,15 @@ field_changed f key [] = refl
 field_changed f key (m ∷ ms) =
     ap (λ (o : Option Value). cond (bytes_eq m.0 key) (Some (with_numbers f m.1)) o) (field_changed f key ms) ∙ found_changed (bytes_eq m.0 key) (with_numbers f) m.1 (field_of key ms)
 
-field_at_changed : (f : Decimal → Decimal) (place : Place) (ms : Pairs) → field_at place (pairs_with f ms) ≡ map_ok (with_numbers f) (field_at place ms)
-field_at_changed f place ms = ap (λ (o : Option Value). wanted 1 place o) (field_changed f (key_of place.field) ms) ∙ wanted_map (with_numbers f) 1 place (field_of (key_of place.field) ms)
+ruleset looked_up = (field_changed, entries_in_changed, pairs_in_changed, wanted_map, bind_map)
 
-array_at_changed : (f : Decimal → Decimal) (place : Place) (v : Value) → array_at place (with_numbers f v) ≡ map_ok (λ (vs : List Value). map (with_numbers f) vs) (array_at place v)
-array_at_changed f place v = ap (λ (o : Option (List Value)). wanted 2 place o) (entries_in_changed f v) ∙ wanted_map (λ (vs : List Value). map (with_numbers f) vs) 2 place (entries_in v)
-
-object_at_changed : (f : Decimal → Decimal) (place : Place) (v : Value) → object_at place (with_numbers f v) ≡ map_ok (pairs_with f) (object_at place v)
-object_at_changed f place v = ap (λ (o : Option Pairs). wanted 2 place o) (pairs_in_changed f v) ∙ wanted_map (pairs_with f) 2 place (pairs_in v)
+abbrev pub list_with : (Decimal → Decimal) → List Value → List Value
+list_with f vs = map (with_numbers f) vs
 
 -- ---- one number
 
 abbrev pub Keeps : (Decimal → Decimal) → Type 0
 Keeps f = (d : Decimal) → SaySame (f d) d
-
-number_at_changed : (f : Decimal → Decimal) → Keeps f → (exact : Bool) (place : Place) (v : Value) → number_at exact place (with_numbers f v) ≡ map_ok f (number_at exact place v)
-unfolding number_at
-number_at_changed f same exact place (number d) = rw ((same d).rounded) (refused_map f (exact && is_rounded d) 8 place d)
-number_at_changed f same exact place v = refl
-
-size_kept : (limit : ℕ) (place : Place) (a b : Decimal) → limit < PAST_LIMITS → SaySame a b → refused_if (nat_lt limit (size_of a)) 4 place (scaled a) ≡ refused_if (nat_lt limit (size_of b)) 4 place (scaled b)
-size_kept limit place a b low h = elim h.size [
-  | inl e ↦ rw (e, h.sign) refl
-  | inr past ↦ rw (lt-ltb limit (size_of a) (omega arith), lt-ltb limit (size_of b) (omega arith)) refl
-]
-
-wholes_kept : {A : Type 0} (limit code : ℕ) (place : Place) (g : ℕ → A) (a b : Decimal) → limit < 10 ^ 8 → SaySame a b
-    → refused_if (is_below_zero a || nat_lt limit (wholes_of a)) code place (g (wholes_of a)) ≡ refused_if (is_below_zero b || nat_lt limit (wholes_of b)) code place (g (wholes_of b))
-wholes_kept limit code place g a b low h = elim h.size [
-  | inl e ↦ rw (e, h.sign) refl
-  | inr past ↦ rw (lt-ltb limit (wholes_of a) (omega arith), lt-ltb limit (wholes_of b) (omega arith), or-true (is_below_zero a), or-true (is_below_zero b)) refl
-]
 
 abbrev periods_read : Place → Bool → ℕ → Result ℕ Refusal
 periods_read place negative n = refused_if (negative || n == 0) 5 place n >>= λ t. refused_if (nat_lt MAX_PERIODS t) 7 place t
@@ -132,267 +113,275 @@ many_periods : (place : Place) (negative : Bool) (m n : ℕ) → MAX_PERIODS < m
 many_periods place true m n p q = refl
 many_periods place false m n p q = rw (not_zero_again m (omega arith), not_zero_again n (omega arith), lt-ltb MAX_PERIODS m p, lt-ltb MAX_PERIODS n q) refl
 
-periods_kept : (place : Place) (a b : Decimal) → SaySame a b → periods_read place a.negative (wholes_of a) ≡ periods_read place b.negative (wholes_of b)
-periods_kept place a b h = elim h.size [
-  | inl e ↦ rw (e, h.sign) refl
-  | inr past ↦ ap (λ (negative : Bool). periods_read place negative (wholes_of a)) h.sign ∙ many_periods place b.negative (wholes_of a) (wholes_of b) (omega arith) (omega arith)
-]
-
-amount_at_changed : (f : Decimal → Decimal) → Keeps f → (most : ℕ) → most < PAST_LIMITS → (exact : Bool) (place : Place) (v : Value)
-    → amount_at most exact place (with_numbers f v) ≡ amount_at most exact place v
-unfolding amount_at
-amount_at_changed f same most few exact place v =
-    let read = λ (d : Decimal). refused_if (nat_lt most (size_of d)) 4 place (scaled d) in
-    rw (number_at_changed f same exact place v) (bind_map f (number_at exact place v) read read (λ d. size_kept most place (f d) d few (same d)))
-
-power_at_changed : (f : Decimal → Decimal) → Keeps f → (exact : Bool) (place : Place) (v : Value) → power_at exact place (with_numbers f v) ≡ power_at exact place v
-power_at_changed f same = amount_at_changed f same MAX_POWER (omega arith)
-
-cost_at_changed : (f : Decimal → Decimal) → Keeps f → (exact : Bool) (place : Place) (v : Value) → cost_at exact place (with_numbers f v) ≡ cost_at exact place v
-cost_at_changed f same = amount_at_changed f same MAX_COST (omega arith)
-
-power_from_changed : (f : Decimal → Decimal) → Keeps f → (exact : Bool) (place : Place) (least : ℤ) (v : Value) → power_from exact place least (with_numbers f v) ≡ power_from exact place least v
-unfolding power_from
-power_from_changed f same exact place least v = rw (power_at_changed f same exact place v) refl
-
-whole_at_changed : (f : Decimal → Decimal) → Keeps f → (exact : Bool) (place : Place) (v : Value) → whole_at exact place (with_numbers f v) ≡ map_ok f (whole_at exact place v)
-unfolding whole_at
-whole_at_changed f same exact place v =
-    let read = λ (d : Decimal). refused_if (nat_lt 0 (size_of d % MILLION)) 3 place d in
-    rw (number_at_changed f same exact place v) (bind_maps f f (number_at exact place v) read read (λ d. rw ((same d).rest) (refused_map f (nat_lt 0 (size_of d % MILLION)) 3 place d)))
-
-time_at_changed : (f : Decimal → Decimal) → Keeps f → (exact : Bool) (place : Place) (v : Value) → time_at exact place (with_numbers f v) ≡ time_at exact place v
-unfolding time_at
-time_at_changed f same exact place v =
-    let read = λ (d : Decimal). refused_if (is_below_zero d || nat_lt MAX_TIME (wholes_of d)) 4 place (wholes_of d) in
-    rw (whole_at_changed f same exact place v) (bind_map f (whole_at exact place v) read read (λ d. wholes_kept MAX_TIME 4 place (λ n. n) (f d) d (omega arith) (same d)))
-
-flag_at_changed : (f : Decimal → Decimal) → Keeps f → (exact : Bool) (place : Place) (v : Value) → flag_at exact place (with_numbers f v) ≡ flag_at exact place v
-unfolding flag_at
-flag_at_changed f same exact place v =
-    let read = λ (d : Decimal). refused_if (is_below_zero d || nat_lt 1 (wholes_of d)) 5 place (wholes_of d == 1) in
-    rw (whole_at_changed f same exact place v) (bind_map f (whole_at exact place v) read read (λ d. wholes_kept 1 5 place (λ n. n == 1) (f d) d (omega arith) (same d)))
-
-periods_at_changed : (f : Decimal → Decimal) → Keeps f → (exact : Bool) (place : Place) (v : Value) → periods_at exact place (with_numbers f v) ≡ periods_at exact place v
-unfolding periods_at
-periods_at_changed f same exact place v =
-    let read = λ (d : Decimal). periods_read place d.negative (wholes_of d) in
-    rw (whole_at_changed f same exact place v) (bind_map f (whole_at exact place v) read read (λ d. periods_kept place (f d) d (same d)))
-
--- ---- fields, arrays and rows
-
-field_read : {A : Type 0} (f : Decimal → Decimal) (place : Place) (ms : Pairs) (read : Value → Result A Refusal) → ((v : Value) → read (with_numbers f v) ≡ read v)
-    → (field_at place (pairs_with f ms) >>= read) ≡ (field_at place ms >>= read)
-field_read f place ms read e = ap (λ (r : Result Value Refusal). r >>= read) (field_at_changed f place ms) ∙ bind_map (with_numbers f) (field_at place ms) read read e
-
-abbrev pub list_with : (Decimal → Decimal) → List Value → List Value
-list_with f vs = map (with_numbers f) vs
-
-list_read : (f : Decimal → Decimal) (field : Field) (ms : Pairs) (read : List Value → Result (List Value) Refusal) → ((vs : List Value) → read (list_with f vs) ≡ map_ok (list_with f) (read vs))
-    → (field_at (whole field) (pairs_with f ms) >>= λ v. array_at (whole field) v >>= read) ≡ map_ok (list_with f) (field_at (whole field) ms >>= λ v. array_at (whole field) v >>= read)
-list_read f field ms read e =
-    let outer = λ (v : Value). array_at (whole field) v >>= read in
-    ap (λ (r : Result Value Refusal). r >>= outer) (field_at_changed f (whole field) ms)
-    ∙ bind_maps (with_numbers f) (list_with f) (field_at (whole field) ms) outer outer (λ v.
-    ap (λ (r : Result (List Value) Refusal). r >>= read) (array_at_changed f (whole field) v) ∙ bind_maps (list_with f) (list_with f) (array_at (whole field) v) read read e)
-
-entries_at_changed : (f : Decimal → Decimal) (field : Field) (periods : ℕ) (ms : Pairs) → entries_at field periods (pairs_with f ms) ≡ map_ok (list_with f) (entries_at field periods ms)
-unfolding entries_at
-entries_at_changed f field periods ms = list_read f field ms (λ vs. refused_if (nat_lt (length vs) periods) 6 (whole field) (take periods vs)) (λ vs.
-    rw (length-map vs (with_numbers f), take-map (with_numbers f) periods vs) (refused_map (list_with f) (nat_lt (length vs) periods) 6 (whole field) (take periods vs)))
-
-rows_at_changed : (f : Decimal → Decimal) (field : Field) (most : ℕ) (ms : Pairs) → rows_at field most (pairs_with f ms) ≡ map_ok (list_with f) (rows_at field most ms)
-unfolding rows_at
-rows_at_changed f field most ms =
-    let last = λ (rows : List Value). refused_if (nat_lt most (length rows)) 7 (whole field) rows in
-    list_read f field ms (λ vs. refused_if (length vs == 0) 5 (whole field) vs >>= last) (λ vs.
-    rw (length-map vs (with_numbers f), refused_map (list_with f) (length vs == 0) 5 (whole field) vs)
-    (bind_maps (list_with f) (list_with f) (refused_if (length vs == 0) 5 (whole field) vs) last last (λ rows.
-    rw (length-map rows (with_numbers f)) (refused_map (list_with f) (nat_lt most (length rows)) 7 (whole field) rows))))
-
 each_changed : {A B E : Type 0} (read : List A → B → Result A E) (g : B → B) → ((front : List A) (v : B) → read front (g v) ≡ read front v) → (front : List A) (vs : List B) → each_at read front (map g vs) ≡ each_at read front vs
 unfolding each_at
 each_changed read g e front [] = refl
-each_changed read g e front (v ∷ vs) =
-    rw (e front v) (bind_same (read front v) (λ x. each_at read (front ++ x ∷ []) (map g vs)) (λ x. each_at read (front ++ x ∷ []) vs) (λ x. each_changed read g e (front ++ x ∷ []) vs))
+each_changed read g e front (v ∷ vs) = rw (e front v) (λ i. read front v >>= λ x. each_changed read g e (front ++ x ∷ []) vs i)
 
-list_each : {A : Type 0} (f : Decimal → Decimal) (read : List A → Value → Result A Refusal) → ((front : List A) (v : Value) → read front (with_numbers f v) ≡ read front v)
-    → (r : Result (List Value) Refusal) → (map_ok (list_with f) r >>= λ vs. each_at read [] vs) ≡ (r >>= λ vs. each_at read [] vs)
-list_each f read e r = bind_map (list_with f) r (λ vs. each_at read [] vs) (λ vs. each_at read [] vs) (λ vs. each_changed read (with_numbers f) e [] vs)
+module _ (f : Decimal → Decimal) (same : Keeps f) where
+  size_kept : (limit : ℕ) (place : Place) (d : Decimal) → limit < PAST_LIMITS → refused_if (nat_lt limit (size_of (f d))) 4 place (scaled (f d)) ≡ refused_if (nat_lt limit (size_of d)) 4 place (scaled d)
+  size_kept limit place d low = elim (same d).size [
+    | inl e ↦ rw (e, (same d).sign) refl
+    | inr past ↦ rw (lt-ltb limit (size_of (f d)) (omega arith), lt-ltb limit (size_of d) (omega arith)) refl
+  ]
 
-powers_at_changed : (f : Decimal → Decimal) → Keeps f → (exact : Bool) (field : Field) (periods : ℕ) (ms : Pairs) → powers_at exact field periods (pairs_with f ms) ≡ powers_at exact field periods ms
-unfolding powers_at
-powers_at_changed f same exact field periods ms =
-    rw (entries_at_changed f field periods ms) (list_each f (power_entry exact field) (λ front v. power_at_changed f same exact (next_entry field front) v) (entries_at field periods ms))
+  wholes_kept : {A : Type 0} (limit : ℕ) → limit < 10 ^ 8 → (code : ℕ) (place : Place) (g : ℕ → A) (d : Decimal)
+      → refused_if (is_below_zero (f d) || nat_lt limit (wholes_of (f d))) code place (g (wholes_of (f d))) ≡ refused_if (is_below_zero d || nat_lt limit (wholes_of d)) code place (g (wholes_of d))
+  wholes_kept limit low code place g d = elim (same d).size [
+    | inl e ↦ rw (e, (same d).sign) refl
+    | inr past ↦ rw (lt-ltb limit (wholes_of (f d)) (omega arith), lt-ltb limit (wholes_of d) (omega arith), or-true (is_below_zero (f d)), or-true (is_below_zero d)) refl
+  ]
 
-maxima_at_changed : (f : Decimal → Decimal) → Keeps f → (exact : Bool) (periods : ℕ) (minimum : List ℤ) (ms : Pairs) → maxima_at exact periods minimum (pairs_with f ms) ≡ maxima_at exact periods minimum ms
-unfolding maxima_at
-maxima_at_changed f same exact periods minimum ms =
-    rw (entries_at_changed f PowerOutputMaximum periods ms)
-    (list_each f (maximum_entry exact minimum) (λ front v. power_from_changed f same exact _ _ v) (entries_at PowerOutputMaximum periods ms))
+  periods_kept : (place : Place) (d : Decimal) → periods_read place (f d).negative (wholes_of (f d)) ≡ periods_read place d.negative (wholes_of d)
+  periods_kept place d = elim (same d).size [
+    | inl e ↦ rw (e, (same d).sign) refl
+    | inr past ↦ ap (λ (negative : Bool). periods_read place negative (wholes_of (f d))) (same d).sign ∙ many_periods place d.negative (wholes_of (f d)) (wholes_of d) (omega arith) (omega arith)
+  ]
 
--- an object of two fields
-two_read : {A B X : Type 0} (f : Decimal → Decimal) (first second : Place) (ms : Members) (read : Value → Result A Refusal) (also : Value → Result B Refusal) (made : A → B → X)
-    → ((v : Value) → read (with_numbers f v) ≡ read v) → ((v : Value) → also (with_numbers f v) ≡ also v)
-    → ((field_at first (pairs_of (members_with f ms)) >>= read) >>= λ a. (field_at second (pairs_of (members_with f ms)) >>= also) >>= λ b. Ok (made a b))
-    ≡ ((field_at first (pairs_of ms) >>= read) >>= λ a. (field_at second (pairs_of ms) >>= also) >>= λ b. Ok (made a b))
-two_read f first second ms read also made e g = rw (pairs_changed f ms, field_read f first (pairs_of ms) read e, field_read f second (pairs_of ms) also g) refl
+  number_at_changed : (exact : Bool) (place : Place) (v : Value) → number_at exact place (with_numbers f v) ≡ map_ok f (number_at exact place v)
+  unfolding number_at
+  number_at_changed exact place (number d) = rw ((same d).rounded) (sym (refused_map f (exact && is_rounded d) (refusal 8 place) (Ok d)))
+  number_at_changed exact place v = refl
 
-start_row_changed : (f : Decimal → Decimal) → Keeps f → (exact : Bool) (front : List StartRow) (v : Value) → start_row exact front (with_numbers f v) ≡ start_row exact front v
-unfolding start_row
-start_row_changed f same exact front (object ms) =
-    let lag = next_entry StartupLag front in
-    let cost = next_entry StartupCost front in
-    two_read f lag cost ms (time_at exact lag) (cost_at exact cost) (λ h z. record { lag = h; cost = z }) (time_at_changed f same exact lag) (cost_at_changed f same exact cost)
-start_row_changed f same exact front v = refl
+  amount_at_changed : (most : ℕ) → most < PAST_LIMITS → (exact : Bool) (place : Place) (v : Value) → amount_at most exact place (with_numbers f v) ≡ amount_at most exact place v
+  unfolding amount_at
+  amount_at_changed most few exact place v = simp (number_at_changed, bind_map, size_kept)
 
-point_row_changed : (f : Decimal → Decimal) → Keeps f → (exact : Bool) (front : List Point) (v : Value) → point_row exact front (with_numbers f v) ≡ point_row exact front v
-unfolding point_row
-point_row_changed f same exact front (object ms) =
-    let mw = next_entry PiecewiseProductionMw front in
-    let cost = next_entry PiecewiseProductionCost front in
-    let read = power_from exact mw (last_output front) in
-    two_read f mw cost ms read (cost_at exact cost) (λ y z. record { mw = y; cost = z }) (power_from_changed f same exact mw (last_output front)) (cost_at_changed f same exact cost)
-point_row_changed f same exact front v = refl
+  power_at_changed : (exact : Bool) (place : Place) (v : Value) → power_at exact place (with_numbers f v) ≡ power_at exact place v
+  power_at_changed = amount_at_changed MAX_POWER (omega arith)
 
--- ---- a thermal unit
+  cost_at_changed : (exact : Bool) (place : Place) (v : Value) → cost_at exact place (with_numbers f v) ≡ cost_at exact place v
+  cost_at_changed = amount_at_changed MAX_COST (omega arith)
 
-flag_changed : (f : Decimal → Decimal) → Keeps f → (exact : Bool) (field : Field) (ms : Pairs) → flag_field exact field (pairs_with f ms) ≡ flag_field exact field ms
-flag_changed f same exact field ms = field_read f (whole field) ms (flag_at exact (whole field)) (flag_at_changed f same exact (whole field))
+  power_from_changed : (exact : Bool) (place : Place) (least : ℤ) (v : Value) → power_from exact place least (with_numbers f v) ≡ power_from exact place least v
+  unfolding power_from
+  power_from_changed exact place least v = simp power_at_changed
 
-time_changed : (f : Decimal → Decimal) → Keeps f → (exact : Bool) (field : Field) (ms : Pairs) → time_field exact field (pairs_with f ms) ≡ time_field exact field ms
-time_changed f same exact field ms = field_read f (whole field) ms (time_at exact (whole field)) (time_at_changed f same exact (whole field))
+  whole_at_changed : (exact : Bool) (place : Place) (v : Value) → whole_at exact place (with_numbers f v) ≡ map_ok f (whole_at exact place v)
+  unfolding whole_at
+  whole_at_changed exact place v = simp (number_at_changed, bind_map, map_bind, refused_map, rest)
+    where
+      rest : (d : Decimal) → size_of (f d) % MILLION ≡ size_of d % MILLION
+      rest d = (same d).rest
 
-power_changed : (f : Decimal → Decimal) → Keeps f → (exact : Bool) (field : Field) (least : ℤ) (ms : Pairs) → power_field exact field least (pairs_with f ms) ≡ power_field exact field least ms
-power_changed f same exact field least ms = field_read f (whole field) ms (power_from exact (whole field) least) (power_from_changed f same exact (whole field) least)
+  time_at_changed : (exact : Bool) (place : Place) (v : Value) → time_at exact place (with_numbers f v) ≡ time_at exact place v
+  unfolding time_at
+  time_at_changed exact place v = simp (whole_at_changed, bind_map, wholes_kept MAX_TIME (omega arith) 4 place (λ n. n))
 
-output_changed : (f : Decimal → Decimal) → Keeps f → (exact : Bool) (field : Field) (ms : Pairs) → output_field exact field (pairs_with f ms) ≡ output_field exact field ms
-output_changed f same exact field ms = field_read f (whole field) ms (power_at exact (whole field)) (power_at_changed f same exact (whole field))
+  flag_at_changed : (exact : Bool) (place : Place) (v : Value) → flag_at exact place (with_numbers f v) ≡ flag_at exact place v
+  unfolding flag_at
+  flag_at_changed exact place v = simp (whole_at_changed, bind_map, wholes_kept 1 (omega arith) 5 place (λ n. n == 1))
 
-abbrev maximum_then : Bool → Bool → Pairs → ℤ → Result Outputs Refusal
-maximum_then exact must_run ms pmin = power_field exact PowerOutputMaximum pmin ms >>= λ pmax. Ok (record { must_run = must_run; pmin = pmin; pmax = pmax })
+  periods_at_changed : (exact : Bool) (place : Place) (v : Value) → periods_at exact place (with_numbers f v) ≡ periods_at exact place v
+  unfolding periods_at
+  periods_at_changed exact place v = simp (whole_at_changed, bind_map, periods_kept)
 
-abbrev minimum_then : Bool → Pairs → Bool → Result Outputs Refusal
-minimum_then exact ms must_run = power_field exact PowerOutputMinimum (pos 0) ms >>= maximum_then exact must_run ms
+  -- arrays and rows
+  entries_at_changed : (field : Field) (periods : ℕ) (ms : Pairs) → entries_at field periods (pairs_with f ms) ≡ map_ok (list_with f) (entries_at field periods ms)
+  unfolding entries_at
+  entries_at_changed field periods ms = simp (looked_up, length-map, take-map, map_bind, refused_map)
 
-outputs_changed : (f : Decimal → Decimal) → Keeps f → (exact : Bool) (ms : Pairs) → outputs_at exact (pairs_with f ms) ≡ outputs_at exact ms
-unfolding outputs_at
-outputs_changed f same exact ms =
-    rw (flag_changed f same exact MustRun ms)
-    (bind_same (flag_field exact MustRun ms) (minimum_then exact (pairs_with f ms)) (minimum_then exact ms) (λ must_run.
-    rw (power_changed f same exact PowerOutputMinimum (pos 0) ms)
-    (bind_same (power_field exact PowerOutputMinimum (pos 0) ms) (maximum_then exact must_run (pairs_with f ms)) (maximum_then exact must_run ms) (λ pmin.
-    rw (power_changed f same exact PowerOutputMaximum pmin ms) refl))))
+  rows_at_changed : (field : Field) (most : ℕ) (ms : Pairs) → rows_at field most (pairs_with f ms) ≡ map_ok (list_with f) (rows_at field most ms)
+  unfolding rows_at
+  rows_at_changed field most ms = simp (looked_up, length-map, map_bind, refused_map, refused_then)
 
-ramps_changed : (f : Decimal → Decimal) → Keeps f → (exact : Bool) (ms : Pairs) → ramps_at exact (pairs_with f ms) ≡ ramps_at exact ms
-unfolding ramps_at
-ramps_changed f same exact ms =
-    rw (
-      power_changed f same exact RampUpLimit (pos 0) ms,
-      power_changed f same exact RampDownLimit (pos 0) ms,
-      power_changed f same exact RampStartupLimit (pos 0) ms,
-      power_changed f same exact RampShutdownLimit (pos 0) ms,
-    ) refl
+  powers_at_changed : (exact : Bool) (field : Field) (periods : ℕ) (ms : Pairs) → powers_at exact field periods (pairs_with f ms) ≡ powers_at exact field periods ms
+  unfolding powers_at
+  powers_at_changed exact field periods ms = simp (entries_at_changed, bind_map, each_changed (power_entry exact field) (with_numbers f) (λ front v. power_at_changed exact (next_entry field front) v))
 
-times_changed : (f : Decimal → Decimal) → Keeps f → (exact : Bool) (ms : Pairs) → times_at exact (pairs_with f ms) ≡ times_at exact ms
-unfolding times_at
-times_changed f same exact ms = rw (time_changed f same exact TimeUpMinimum ms, time_changed f same exact TimeDownMinimum ms) refl
+  maxima_at_changed : (exact : Bool) (periods : ℕ) (minimum : List ℤ) (ms : Pairs) → maxima_at exact periods minimum (pairs_with f ms) ≡ maxima_at exact periods minimum ms
+  unfolding maxima_at
+  maxima_at_changed exact periods minimum ms = simp (entries_at_changed, bind_map, each_changed (maximum_entry exact minimum) (with_numbers f) (λ front v. power_from_changed exact _ _ v))
 
-initial_changed : (f : Decimal → Decimal) → Keeps f → (exact : Bool) (ms : Pairs) → initial_at exact (pairs_with f ms) ≡ initial_at exact ms
-unfolding initial_at
-initial_changed f same exact ms =
-    rw (
-      output_changed f same exact PowerOutputT0 ms,
-      flag_changed f same exact UnitOnT0 ms,
-      time_changed f same exact TimeUpT0 ms,
-      time_changed f same exact TimeDownT0 ms,
-    ) refl
+  start_row_changed : (exact : Bool) (front : List StartRow) (v : Value) → start_row exact front (with_numbers f v) ≡ start_row exact front v
+  unfolding start_row
+  start_row_changed exact front v = simp (looked_up, time_at_changed, cost_at_changed)
 
-startup_changed : (f : Decimal → Decimal) → Keeps f → (exact : Bool) (ms : Pairs) → startup_at exact (pairs_with f ms) ≡ startup_at exact ms
-unfolding startup_at
-startup_changed f same exact ms = rw (rows_at_changed f Startup MAX_START_ROWS ms) (list_each f (start_row exact) (start_row_changed f same exact) (rows_at Startup MAX_START_ROWS ms))
+  point_row_changed : (exact : Bool) (front : List Point) (v : Value) → point_row exact front (with_numbers f v) ≡ point_row exact front v
+  unfolding point_row
+  point_row_changed exact front v = simp (looked_up, power_from_changed, cost_at_changed)
 
-points_changed : (f : Decimal → Decimal) → Keeps f → (exact : Bool) (ms : Pairs) → points_at exact (pairs_with f ms) ≡ points_at exact ms
-unfolding points_at
-points_changed f same exact ms = rw (rows_at_changed f PiecewiseProduction MAX_POINTS ms) (list_each f (point_row exact) (point_row_changed f same exact) (rows_at PiecewiseProduction MAX_POINTS ms))
+  -- a thermal unit
+  outputs_changed : (exact : Bool) (ms : Pairs) → outputs_at exact (pairs_with f ms) ≡ outputs_at exact ms
+  unfolding outputs_at
+  outputs_changed exact ms = simp (looked_up, flag_at_changed, power_from_changed)
 
-thermal_changed : (f : Decimal → Decimal) → Keeps f → (exact : Bool) (name : List ℕ) (v : Value) → thermal_at exact name (with_numbers f v) ≡ thermal_at exact name v
-unfolding thermal_at
-thermal_changed f same exact name (object ms) =
-    let xs = pairs_of ms in
-    rw (
-      pairs_changed f ms,
-      outputs_changed f same exact xs,
-      ramps_changed f same exact xs,
-      times_changed f same exact xs,
-      initial_changed f same exact xs,
-      startup_changed f same exact xs,
-      points_changed f same exact xs,
-    ) refl
-thermal_changed f same exact name v = refl
+  ramps_changed : (exact : Bool) (ms : Pairs) → ramps_at exact (pairs_with f ms) ≡ ramps_at exact ms
+  unfolding ramps_at
+  ramps_changed exact ms = simp (looked_up, power_from_changed)
 
--- ---- a renewable unit
+  times_changed : (exact : Bool) (ms : Pairs) → times_at exact (pairs_with f ms) ≡ times_at exact ms
+  unfolding times_at
+  times_changed exact ms = simp (looked_up, time_at_changed)
 
-abbrev maxima_then : Bool → ℕ → List ℕ → Pairs → List ℤ → Result Renewable Refusal
-maxima_then exact periods name ms minimum = maxima_at exact periods minimum ms >>= λ maximum. Ok (record { name = name; minimum = minimum; maximum = maximum })
+  initial_changed : (exact : Bool) (ms : Pairs) → initial_at exact (pairs_with f ms) ≡ initial_at exact ms
+  unfolding initial_at
+  initial_changed exact ms = simp (looked_up, power_at_changed, flag_at_changed, time_at_changed)
 
-renewable_changed : (f : Decimal → Decimal) → Keeps f → (exact : Bool) (periods : ℕ) (name : List ℕ) (v : Value) → renewable_at exact periods name (with_numbers f v) ≡ renewable_at exact periods name v
-unfolding renewable_at
-renewable_changed f same exact periods name (object ms) =
-    let xs = pairs_of ms in
-    rw (pairs_changed f ms, powers_at_changed f same exact PowerOutputMinimum periods xs)
-    (bind_same (powers_at exact PowerOutputMinimum periods xs) (maxima_then exact periods name (pairs_with f xs)) (maxima_then exact periods name xs) (λ minimum. rw (maxima_at_changed f same exact periods minimum xs) refl))
-renewable_changed f same exact periods name v = refl
+  startup_changed : (exact : Bool) (ms : Pairs) → startup_at exact (pairs_with f ms) ≡ startup_at exact ms
+  unfolding startup_at
+  startup_changed exact ms = simp (rows_at_changed, bind_map, each_changed (start_row exact) (with_numbers f) (start_row_changed exact))
 
--- ---- the instance
+  points_changed : (exact : Bool) (ms : Pairs) → points_at exact (pairs_with f ms) ≡ points_at exact ms
+  unfolding points_at
+  points_changed exact ms = simp (rows_at_changed, bind_map, each_changed (point_row exact) (with_numbers f) (point_row_changed exact))
 
-units_at_changed : (f : Decimal → Decimal) (field : Field) (ms : Pairs) → units_at field (pairs_with f ms) ≡ map_ok (pairs_with f) (units_at field ms)
-unfolding units_at
-units_at_changed f field ms =
-    let last = λ (units : Pairs). refused_if (nat_lt MAX_UNITS (length units)) 7 (whole field) units in
-    let outer = λ (v : Value). object_at (whole field) v >>= last in
-    ap (λ (r : Result Value Refusal). r >>= outer) (field_at_changed f (whole field) ms)
-    ∙ bind_maps (with_numbers f) (pairs_with f) (field_at (whole field) ms) outer outer (λ v.
-    ap (λ (r : Result Pairs Refusal). r >>= last) (object_at_changed f (whole field) v)
-    ∙ bind_maps (pairs_with f) (pairs_with f) (object_at (whole field) v) last last (λ units.
-    rw (length-map units (pair_with f)) (refused_map (pairs_with f) (nat_lt MAX_UNITS (length units)) 7 (whole field) units)))
+  thermal_changed : (exact : Bool) (name : List ℕ) (v : Value) → thermal_at exact name (with_numbers f v) ≡ thermal_at exact name v
+  unfolding thermal_at
+  thermal_changed exact name v = simp (looked_up, outputs_changed, ramps_changed, times_changed, initial_changed, startup_changed, points_changed)
 
-units_each : {A : Type 0} (f : Decimal → Decimal) (field : Field) (ms : Pairs) (read : List A → List ℕ × Value → Result A FieldRefusal) → ((front : List A) (m : List ℕ × Value) → read front (pair_with f m) ≡ read front m)
-    → (outside (units_at field (pairs_with f ms)) >>= λ us. each_at read [] us) ≡ (outside (units_at field ms) >>= λ us. each_at read [] us)
-units_each f field ms read e =
-    let each = λ (us : Pairs). each_at read [] us in
-    ap (λ (r : Result Pairs Refusal). outside r >>= each) (units_at_changed f field ms)
-    ∙ ap (λ (r : Result Pairs FieldRefusal). r >>= each) (in_unit_map (pairs_with f) 0 [] (units_at field ms))
-    ∙ bind_map (pairs_with f) (outside (units_at field ms)) each each (λ us. each_changed read (pair_with f) e [] us)
+  -- a renewable unit
+  renewable_changed : (exact : Bool) (periods : ℕ) (name : List ℕ) (v : Value) → renewable_at exact periods name (with_numbers f v) ≡ renewable_at exact periods name v
+  unfolding renewable_at
+  renewable_changed exact periods name v = simp (looked_up, powers_at_changed, maxima_at_changed)
 
-thermal_units_changed : (f : Decimal → Decimal) → Keeps f → (exact : Bool) (ms : Pairs) → thermal_units_at exact (pairs_with f ms) ≡ thermal_units_at exact ms
-unfolding thermal_units_at
-thermal_units_changed f same exact ms = units_each f ThermalGenerators ms (thermal_member exact) (λ front m. ap (λ (r : Result Thermal Refusal). in_unit 1 m.0 r) (thermal_changed f same exact m.0 m.1))
+  -- the instance
+  units_at_changed : (field : Field) (ms : Pairs) → units_at field (pairs_with f ms) ≡ map_ok (pairs_with f) (units_at field ms)
+  unfolding units_at
+  units_at_changed field ms = simp (looked_up, length-map, map_bind, refused_map)
 
-renewable_units_changed : (f : Decimal → Decimal) → Keeps f → (exact : Bool) (periods : ℕ) (ms : Pairs) → renewable_units_at exact periods (pairs_with f ms) ≡ renewable_units_at exact periods ms
-unfolding renewable_units_at
-renewable_units_changed f same exact periods ms = units_each f RenewableGenerators ms (renewable_member exact periods) (λ front m. ap (λ (r : Result Renewable Refusal). in_unit 2 m.0 r) (renewable_changed f same exact periods m.0 m.1))
+  thermal_units_changed : (exact : Bool) (ms : Pairs) → thermal_units_at exact (pairs_with f ms) ≡ thermal_units_at exact ms
+  unfolding thermal_units_at
+  thermal_units_changed exact ms =
+      simp (units_at_changed, in_unit_map, bind_map, each_changed (thermal_member exact) (pair_with f) (λ front m. ap (λ (r : Result Thermal Refusal). in_unit 1 m.0 r) (thermal_changed exact m.0 m.1)))
 
-abbrev powers_then : Bool → Pairs → ℕ → Result Totals Refusal
-powers_then exact ms periods = powers_at exact Demand periods ms >>= λ demand. powers_at exact Reserves periods ms >>= λ reserves. Ok (record { periods = periods; demand = demand; reserves = reserves })
+  renewable_units_changed : (exact : Bool) (periods : ℕ) (ms : Pairs) → renewable_units_at exact periods (pairs_with f ms) ≡ renewable_units_at exact periods ms
+  unfolding renewable_units_at
+  renewable_units_changed exact periods ms =
+      simp (units_at_changed, in_unit_map, bind_map, each_changed (renewable_member exact periods) (pair_with f) (λ front m. ap (λ (r : Result Renewable Refusal). in_unit 2 m.0 r) (renewable_changed exact periods m.0 m.1)))
 
-totals_changed : (f : Decimal → Decimal) → Keeps f → (exact : Bool) (ms : Pairs) → totals_at exact (pairs_with f ms) ≡ totals_at exact ms
-unfolding totals_at
-totals_changed f same exact ms =
-    rw (field_read f (whole TimePeriods) ms (periods_at exact (whole TimePeriods)) (periods_at_changed f same exact (whole TimePeriods)))
-    (bind_same (field_at (whole TimePeriods) ms >>= periods_at exact (whole TimePeriods)) (powers_then exact (pairs_with f ms)) (powers_then exact ms) (λ periods.
-    rw (powers_at_changed f same exact Demand periods ms, powers_at_changed f same exact Reserves periods ms) refl))
+  totals_changed : (exact : Bool) (ms : Pairs) → totals_at exact (pairs_with f ms) ≡ totals_at exact ms
+  unfolding totals_at
+  totals_changed exact ms = simp (looked_up, periods_at_changed, powers_at_changed)
 
-abbrev units_then : Bool → Pairs → Totals → Result Instance FieldRefusal
-units_then exact ms totals =
-    thermal_units_at exact ms >>= λ thermal. renewable_units_at exact totals.periods ms >>= λ renewable.
-    Ok (record { periods = totals.periods; demand = totals.demand; reserves = totals.reserves; thermal = thermal; renewable = renewable })
+  pub instance_changed : (exact : Bool) (v : Value) → instance_at exact (with_numbers f v) ≡ instance_at exact v
+  unfolding instance_at
+  instance_changed exact v = simp (looked_up, in_unit_map, totals_changed, thermal_units_changed, renewable_units_changed)
 
-pub instance_changed : (f : Decimal → Decimal) → Keeps f → (exact : Bool) (v : Value) → instance_at exact (with_numbers f v) ≡ instance_at exact v
-unfolding instance_at
-instance_changed f same exact (object ms) =
-    let xs = pairs_of ms in
-    rw (pairs_changed f ms, totals_changed f same exact xs)
-    (bind_same (outside (totals_at exact xs)) (units_then exact (pairs_with f xs)) (units_then exact xs) (λ totals.
-    rw (thermal_units_changed f same exact xs, renewable_units_changed f same exact totals.periods xs) refl))
-instance_changed f same exact v = refl
+-- ---- As many numbers of a value are rounded with each of them changed to one that says the same.
+sum_from : {A : Type 0} (g : A → ℕ) (h : A → A) → ((x : A) → g (h x) ≡ g x) → (n : ℕ) (xs : List A) → fold (λ a x. a + g x) n (map h xs) ≡ fold (λ a x. a + g x) n xs
+sum_from g h e n [] = refl
+sum_from g h e n (x ∷ xs) = ap (λ (m : ℕ). fold (λ a y. a + g y) (n + m) (map h xs)) (e x) ∙ sum_from g h e (n + g x) xs
+
+sum_changed : {A : Type 0} (g : A → ℕ) (h : A → A) → ((x : A) → g (h x) ≡ g x) → (xs : List A) → sum_by g (map h xs) ≡ sum_by g xs
+sum_changed g h e xs = sum_from g h e 0 xs
+
+abbrev rounded_found : Option Value → ℕ
+rounded_found None = 0
+rounded_found (Some v) = rounded_value v
+
+-- the list inside a value, or none
+unwrapped : {X : Type 0} (g : X → X) (o : Option (List X)) → unwrap_or (option_map (map g) o) [] ≡ map g (unwrap_or o [])
+unwrapped g None = refl
+unwrapped g (Some xs) = refl
+
+inside_changed : {X : Type 0} (f : Decimal → Decimal) (look : Value → Option (List X)) (g : X → X) → ((v : Value) → look (with_numbers f v) ≡ option_map (map g) (look v))
+    → (o : Option Value) → unwrap_or (option_and_then look (option_map (with_numbers f) o)) [] ≡ map g (unwrap_or (option_and_then look o) [])
+inside_changed f look g e None = refl
+inside_changed f look g e (Some v) = rw (e v) (unwrapped g (look v))
+
+entries_same : (f : Decimal → Decimal) (field : Field) (ms : Pairs) → entries_field field (pairs_with f ms) ≡ map (with_numbers f) (entries_field field ms)
+entries_same f field ms = rw (field_changed f (key_of field) ms) (inside_changed f entries_in (with_numbers f) (entries_in_changed f) (field_of (key_of field) ms))
+
+members_same : (f : Decimal → Decimal) (field : Field) (ms : Pairs) → members_field field (pairs_with f ms) ≡ pairs_with f (members_field field ms)
+members_same f field ms = rw (field_changed f (key_of field) ms) (inside_changed f pairs_in (pair_with f) (pairs_in_changed f) (field_of (key_of field) ms))
+
+members_changed : (f : Decimal → Decimal) (v : Value) → members_of_value (with_numbers f v) ≡ pairs_with f (members_of_value v)
+members_changed f v = rw (pairs_in_changed f v) (unwrapped (pair_with f) (pairs_in v))
+
+module _ (f : Decimal → Decimal) (same : Keeps f) where
+  value_changed : (v : Value) → rounded_value (with_numbers f v) ≡ rounded_value v
+  unfolding rounded_value
+  value_changed (number d) = rw ((same d).rounded) refl
+  value_changed v = refl
+
+  found_same : (o : Option Value) → rounded_found (option_map (with_numbers f) o) ≡ rounded_found o
+  found_same None = refl
+  found_same (Some v) = value_changed v
+
+  field_same : (field : Field) (ms : Pairs) → rounded_field field (pairs_with f ms) ≡ rounded_field field ms
+  unfolding rounded_field
+  field_same field ms = ap rounded_found (field_changed f (key_of field) ms) ∙ found_same (field_of (key_of field) ms)
+
+  array_same : (field : Field) (periods : ℕ) (ms : Pairs) → rounded_array field periods (pairs_with f ms) ≡ rounded_array field periods ms
+  unfolding rounded_array
+  array_same field periods ms = simp (entries_same, take-map, sum_changed rounded_value (with_numbers f) value_changed)
+
+  start_row_same : (v : Value) → rounded_start_row (with_numbers f v) ≡ rounded_start_row v
+  unfolding rounded_start_row
+  start_row_same v = simp (members_changed, field_same)
+
+  point_same : (v : Value) → rounded_point (with_numbers f v) ≡ rounded_point v
+  unfolding rounded_point
+  point_same v = simp (members_changed, field_same)
+
+  startup_same : (ms : Pairs) → rounded_startup (pairs_with f ms) ≡ rounded_startup ms
+  unfolding rounded_startup
+  startup_same ms = simp (entries_same, sum_changed rounded_start_row (with_numbers f) start_row_same)
+
+  points_same : (ms : Pairs) → rounded_points (pairs_with f ms) ≡ rounded_points ms
+  unfolding rounded_points
+  points_same ms = simp (entries_same, sum_changed rounded_point (with_numbers f) point_same)
+
+  thermal_same : (v : Value) → rounded_thermal (with_numbers f v) ≡ rounded_thermal v
+  unfolding rounded_thermal rounded_outputs rounded_ramps rounded_times rounded_initial
+  thermal_same v = simp (members_changed, field_same, startup_same, points_same)
+
+  renewable_same : (periods : ℕ) (v : Value) → rounded_renewable periods (with_numbers f v) ≡ rounded_renewable periods v
+  unfolding rounded_renewable
+  renewable_same periods v = simp (members_changed, array_same)
+
+  thermal_units_same : (ms : Pairs) → rounded_thermal_units (pairs_with f ms) ≡ rounded_thermal_units ms
+  unfolding rounded_thermal_units
+  thermal_units_same ms = simp (members_same, sum_changed (λ (m : List ℕ × Value). rounded_thermal m.1) (pair_with f) (λ m. thermal_same m.1))
+
+  renewable_units_same : (periods : ℕ) (ms : Pairs) → rounded_renewable_units periods (pairs_with f ms) ≡ rounded_renewable_units periods ms
+  unfolding rounded_renewable_units
+  renewable_units_same periods ms = simp (members_same, sum_changed (λ (m : List ℕ × Value). rounded_renewable periods m.1) (pair_with f) (λ m. renewable_same periods m.1))
+
+  pub rounded_changed : (periods : ℕ) (v : Value) → rounded_instance periods (with_numbers f v) ≡ rounded_instance periods v
+  unfolding rounded_instance rounded_totals
+  rounded_changed periods v = simp (members_changed, field_same, array_same, thermal_units_same, renewable_units_same)
+
+-- ---- A value whose exponents are held is the same instance as the value as it is written.
+-- a short number with its exponent held, and any other as it is
+held_if_short : Decimal → Decimal
+held_if_short d = cond (nat_le (length d.digits) MOST_DIGITS) (held_decimal d) d
+
+keeps : Keeps held_if_short
+unfolding held_if_short
+keeps d = elim (cases_lt MOST_DIGITS (length d.digits)) [
+  | inl more ↦ rw (lt-leb (length d.digits) MOST_DIGITS more) (itself d)
+  | inr few ↦ rw (le-leb (length d.digits) MOST_DIGITS few) (held_says_same d few)
+]
+
+short_is : (d : Decimal) → IsShort d → held_if_short d ≡ held_decimal d
+unfolding held_if_short
+short_is d few = rw (le-leb (length d.digits) MOST_DIGITS few) refl
+
+mutual
+  short_values : (v : Value) → AllNumbers IsShort v → with_numbers held_if_short v ≡ with_numbers held_decimal v
+  short_values (number d) few = ap (λ (x : Decimal). number x) (short_is d few)
+  short_values (array vs) few = ap (λ (x : Items). array x) (short_items vs few)
+  short_values (object ms) few = ap (λ (x : Members). object x) (short_members ms few)
+  short_values _ few = refl
+
+  short_items : (vs : Items) → AllItems IsShort vs → items_with held_if_short vs ≡ items_with held_decimal vs
+  short_items no_items few = refl
+  short_items (item v vs) few = rw (short_values v few.0, short_items vs few.1) refl
+
+  short_members : (ms : Members) → AllMembers IsShort ms → members_with held_if_short ms ≡ members_with held_decimal ms
+  short_members no_members few = refl
+  short_members (member key v ms) few = rw (short_values v few.0, short_members ms few.1) refl
+
+pub held_instance : (exact : Bool) (v : Value) → AllNumbers IsShort v → instance_at exact (with_numbers held_decimal v) ≡ instance_at exact v
+held_instance exact v few = ap (λ (x : Value). instance_at exact x) (sym (short_values v few)) ∙ instance_changed held_if_short keeps exact v
+
+pub held_rounded : (periods : ℕ) (v : Value) → AllNumbers IsShort v → rounded_instance periods (with_numbers held_decimal v) ≡ rounded_instance periods v
+held_rounded periods v few = ap (λ (x : Value). rounded_instance periods x) (sym (short_values v few)) ∙ rounded_changed held_if_short keeps periods v
+
+pub held_is : (exact : Bool) (v : Value) (i : Instance) → AllNumbers IsShort v → IsInstanceOf exact (with_numbers held_decimal v) i → IsInstanceOf exact v i
+held_is exact v i few h = instance_is exact v i (sym (held_instance exact v few) ∙ instance_again exact (with_numbers held_decimal v) i h)
+
+pub held_again : (exact : Bool) (v : Value) (i : Instance) → AllNumbers IsShort v → IsInstanceOf exact v i → IsInstanceOf exact (with_numbers held_decimal v) i
+held_again exact v i few h = instance_is exact (with_numbers held_decimal v) i (held_instance exact v few ∙ instance_again exact v i h)

@@ -1,9 +1,11 @@
 -- An instance that a value stands for is within the limits.
-use Rattle.std.proofs.Common.{◌≡◌, ℕ, zero, suc, ◌*◌, ◌<◌, ◌≤◌, List, [], ◌∷◌, length, get_or, take, arith}
-use Rattle.std.specs.Prelude.{Bool, ℤ, pos, ◌≤ℤ◌}
+use Rattle.std.proofs.Common.{◌≡◌, ℕ, zero, suc, ◌*◌, ◌<◌, ◌≤◌, false, List, [], ◌∷◌, length, get_or, take, arith, Bool, Result, Ok, Err, subst}
+use Rattle.std.specs.Prelude.{IsTrue, ℤ, pos, ◌≤ℤ◌, IfOk}
 use Rattle.std.specs.List.{All, AllZip}
 use Rattle.std.proofs.lemmas.Int.{ints}
 use Rattle.std.proofs.lemmas.List.{length-take}
+use Rattle.std.proofs.lemmas.List.Elements.{AllZip-get_or}
+use Rattle.std.proofs.lemmas.Slice.Zip.{AllZip-long}
 use Rattle.uc_model.specs.Limits.{IsPower, IsCost, IsLimit, IsLawfulThermal, IsLawfulRenewable, IsLawfulInstance}
 use Rattle.uc_model.specs.declared.limits.TheConstants.{MAX_UNITS, MAX_POINTS, MAX_START_ROWS, MAX_TIME}
 use Rattle.uc_model.specs.Schedule.{thermal_unit, renewable_unit, no_unit, point, point_count}
@@ -12,44 +14,41 @@ use Rattle.uc_model.specs.declared.instance.Point.{Point}
 use Rattle.uc_model.specs.declared.instance.Thermal.{Thermal}
 use Rattle.uc_model.specs.declared.instance.Renewable.{Renewable}
 use Rattle.uc_model.specs.declared.instance.Instance.{Instance}
-use Rattle.decimal_json.specs.Value.{Value}
-use Rattle.instance.specs.Fields.{key_of, entries_in, pairs_in, field_of}
-use Rattle.instance.specs.Scaled.{MILLION, scaled}
+use Rattle.decimal_json.specs.Value.{Decimal, Value}
+use Rattle.instance.specs.Fields.{key_of, number_in, entries_in, pairs_in, field_of}
+use Rattle.instance.specs.Scaled.{MILLION, scaled, is_rounded}
 use Rattle.uc_model.specs.declared.field.Field.{Field}
 use Rattle.uc_model.specs.declared.field.Field.TheVariants.{TimePeriods, Demand, Reserves, ThermalGenerators, RenewableGenerators, PowerOutputMinimum, PowerOutputMaximum, RampUpLimit, RampDownLimit, RampStartupLimit, RampShutdownLimit, TimeUpMinimum, TimeDownMinimum, PowerOutputT0, TimeUpT0, TimeDownT0, Startup, StartupLag, StartupCost, PiecewiseProduction, PiecewiseProductionMw, PiecewiseProductionCost}
-use Rattle.instance.specs.InstanceOf.{Pairs, Has, IsObject, IsPowerOf, IsCostOf, IsTimeOf, IsPeriodsOf, IsPowersOf, AreRowsOf, IsStartRowOf, IsPointOf, IsRising, IsLimitOf, IsMinimumTimeOf, IsThermalOf, IsRenewableOf, AreUnitsOf, HasFields, IsInstanceOf}
-use Rattle.instance.proofs.Steps.{some_is}
-use Rattle.instance.proofs.NumberLaws.{stood}
-use Rattle.instance.proofs.EachLaws.{zip_length, Above}
+use Rattle.instance.specs.InstanceOf.{Pairs, Has, IsObject, IsNumber, IsPowerOf, IsCostOf, IsTimeOf, IsPeriodsOf, IsPowersOf, AreRowsOf, IsStartRowOf, IsPointOf, IsRising, IsLimitOf, IsMinimumTimeOf, IsThermalOf, IsRenewableOf, AreUnitsOf, HasFields, IsInstanceOf}
+use Rattle.instance.proofs.UnitLaws.{some_is, some_split, Above, written_time, instance_is, instance_again}
+use Rattle.instance.specs.FirstFault.{instance_at}
+use Rattle.instance.specs.Answer.{Gives}
+use Rattle.uc_model.specs.declared.field_refusal.FieldRefusal.{FieldRefusal}
+use Rattle.instance.specs.declared.fault.Fault.{Fault}
+use Rattle.uc_model.specs.declared.instance.Instance as memory
 
 -- ---- one number
 
-power_of : (exact : Bool) (z : ℤ) (v : Value) → IsPowerOf exact z v → IsPower z
-power_of exact z v h = (stood exact v (λ d. (scaled d ≡ z) × IsPower z) h).2.1
-
-cost_of : (exact : Bool) (z : ℤ) (v : Value) → IsCostOf exact z v → IsCost z
-cost_of exact z v h = (stood exact v (λ d. (scaled d ≡ z) × IsCost z) h).2.1
-
-time_of : (exact : Bool) (h : ℕ) (v : Value) → IsTimeOf exact h v → h ≤ MAX_TIME
-time_of exact h v is = (stood exact v (λ d. (scaled d ≡ pos (h * MILLION)) × (h ≤ MAX_TIME)) is).2.1
+-- what is said of a number beside its value
+beside_value : {Q : Type 0} (exact : Bool) (v : Value) (P : Decimal → Type 0) → IsNumber exact v (λ d. P d × Q) → Q
+beside_value {Q} exact v P h = (some_is (λ d. (IsTrue exact → is_rounded d ≡ false) × (P d × Q)) (number_in v) h).2.1.1
 
 has_power : (exact : Bool) (field : Field) (ms : Pairs) (z : ℤ) → Has field ms (IsPowerOf exact z) → IsPower z
-has_power exact field ms z h = let a = some_is (IsPowerOf exact z) (field_of (key_of field) ms) h in power_of exact z a.0 a.2
+has_power exact field ms z h = let a = some_is (IsPowerOf exact z) (field_of (key_of field) ms) h in beside_value exact a.0 (λ d. scaled d ≡ z) a.2
 
 has_cost : (exact : Bool) (field : Field) (ms : Pairs) (z : ℤ) → Has field ms (IsCostOf exact z) → IsCost z
-has_cost exact field ms z h = let a = some_is (IsCostOf exact z) (field_of (key_of field) ms) h in cost_of exact z a.0 a.2
+has_cost exact field ms z h = let a = some_is (IsCostOf exact z) (field_of (key_of field) ms) h in beside_value exact a.0 (λ d. scaled d ≡ z) a.2
 
 has_time : (exact : Bool) (field : Field) (ms : Pairs) (t : ℕ) → Has field ms (IsTimeOf exact t) → t ≤ MAX_TIME
-has_time exact field ms t h = let a = some_is (IsTimeOf exact t) (field_of (key_of field) ms) h in time_of exact t a.0 a.2
+has_time exact field ms t h = let a = some_is (IsTimeOf exact t) (field_of (key_of field) ms) h in beside_value exact a.0 (λ d. scaled d ≡ pos (t * MILLION)) a.2
 
 has_limit : (exact : Bool) (field : Field) (ms : Pairs) (z : ℤ) → Has field ms (IsLimitOf exact z) → IsLimit z
-has_limit exact field ms z h = let a = some_is (IsLimitOf exact z) (field_of (key_of field) ms) h in record { low = a.2.1; power = power_of exact z a.0 a.2.0 }
+has_limit exact field ms z h = let a = some_split (IsPowerOf exact z) (field_of (key_of field) ms) h in record { low = a.1; power = has_power exact field ms z a.0 }
 
 has_minimum_time : (exact : Bool) (field : Field) (ms : Pairs) (t : ℕ) → Has field ms (IsMinimumTimeOf exact t) → (1 ≤ t) × (t ≤ MAX_TIME)
 has_minimum_time exact field ms t h =
-    let a = some_is (IsMinimumTimeOf exact t) (field_of (key_of field) ms) h in
-    let small = time_of exact a.2.0 a.0 a.2.1 in
-    (omega (arith, a.2.2), omega (arith, a.2.2, small))
+    let a = written_time exact t (field_of (key_of field) ms) h in
+    (omega (arith, a.2), omega (arith, a.2, has_time exact field ms a.0 a.1))
 
 not_below : (a b : ℤ) → pos 0 ≤ℤ a → a ≤ℤ b → pos 0 ≤ℤ b
 not_below a b p q = omega (arith, ints)
@@ -57,18 +56,10 @@ not_below a b p q = omega (arith, ints)
 -- ---- lists
 
 zip_at : {A B : Type 0} (R : A → B → Type 0) (xs : List A) (ys : List B) → AllZip R xs ys → (k : ℕ) (e : B) → k < length ys → (x : A) × R x (get_or ys k e)
-zip_at R [] [] h k e lt = absurd (omega arith)
-zip_at R [] (y ∷ ys) h k e lt = absurd h
-zip_at R (x ∷ xs) [] h k e lt = absurd h
 zip_at R (x ∷ xs) (y ∷ ys) h zero e lt = (x, h.0)
 zip_at R (x ∷ xs) (y ∷ ys) h (suc k) e lt = zip_at R xs ys h.1 k e (omega arith)
-
-zip_both : {A B : Type 0} (R : A → B → Type 0) (xs : List A) (ys : List B) → AllZip R xs ys → (k : ℕ) (d : A) (e : B) → k < length ys → R (get_or xs k d) (get_or ys k e)
-zip_both R [] [] h k d e lt = absurd (omega arith)
-zip_both R [] (y ∷ ys) h k d e lt = absurd h
-zip_both R (x ∷ xs) [] h k d e lt = absurd h
-zip_both R (x ∷ xs) (y ∷ ys) h zero d e lt = h.0
-zip_both R (x ∷ xs) (y ∷ ys) h (suc k) d e lt = zip_both R xs ys h.1 k d e (omega arith)
+zip_at R [] [] h k e lt = absurd (omega arith)
+zip_at R _ _ h k e lt = absurd h
 
 -- a power for each period
 record ArePowers (periods : ℕ) (zs : List ℤ) : Type 0 where
@@ -80,10 +71,10 @@ has_powers exact field periods ms zs h =
     let a = some_is (IsPowersOf exact periods zs) (field_of (key_of field) ms) h in
     let R : Value → ℤ → Type 0 = λ v z. IsPowerOf exact z v in
     let b = some_is (λ vs. (periods ≤ length vs) × AllZip R (take periods vs) zs) (entries_in a.0) a.2 in
-    let same = zip_length R (take periods b.0) zs b.2.1 in
+    let same = AllZip-long R (take periods b.0) zs b.2.1 in
     record {
       length = omega (arith, same, length-take periods b.0, b.2.0);
-      all = λ k d lt. let w = zip_at R (take periods b.0) zs b.2.1 k d lt in power_of exact (get_or zs k d) w.0 w.1;
+      all = λ k d lt. let w = zip_at R (take periods b.0) zs b.2.1 k d lt in beside_value exact w.0 (λ n. scaled n ≡ get_or zs k d) w.1;
     }
 
 -- at least one row and at most so many, each with a value that it is of
@@ -92,14 +83,13 @@ has_rows : {A : Type 0} (most : ℕ) (IsRow : A → Value → Type 0) (field : F
 has_rows most IsRow field ms rows h =
     let a = some_is (AreRowsOf most IsRow rows) (field_of (key_of field) ms) h in
     let b = some_is (λ vs. (1 ≤ length vs) × (length vs ≤ most) × AllZip (λ w row. IsRow row w) vs rows) (entries_in a.0) a.2 in
-    let same = zip_length (λ w row. IsRow row w) b.0 rows b.2.2 in
+    let same = AllZip-long (λ w row. IsRow row w) b.0 rows b.2.2 in
     (omega (arith, same, b.2.0), omega (arith, same, b.2.1), zip_at (λ w row. IsRow row w) b.0 rows b.2.2)
 
 rising_at : (ps : List Point) → IsRising ps → (l : ℕ) (d : Point) → suc l < length ps → (get_or ps l d).mw ≤ℤ (get_or ps (suc l) d).mw
-rising_at [] r l d lt = absurd (omega arith)
-rising_at (p ∷ []) r l d lt = absurd (omega arith)
 rising_at (p ∷ q ∷ ps) r zero d lt = r.0
 rising_at (p ∷ q ∷ ps) r (suc l) d lt = rising_at (q ∷ ps) r.1 l d (omega arith)
+rising_at _ r l d lt = absurd (omega arith)
 
 has_units : {A : Type 0} (name : A → List ℕ) (IsUnit : A → Pairs → Type 0) (field : Field) (ms : Pairs) (units : List A) → Has field ms (AreUnitsOf name IsUnit units)
     → (length units ≤ MAX_UNITS) × ((k : ℕ) (e : A) → k < length units → (xs : Pairs) × IsUnit (get_or units k e) xs)
@@ -107,7 +97,7 @@ has_units name IsUnit field ms units h =
     let a = some_is (AreUnitsOf name IsUnit units) (field_of (key_of field) ms) h in
     let R : List ℕ × Value → _ → Type 0 = λ m unit. (name unit ≡ m.0) × IsObject m.1 (IsUnit unit) in
     let b = some_is (λ xs. (length xs ≤ MAX_UNITS) × AllZip R xs units) (pairs_in a.0) a.2 in
-    let same = zip_length R b.0 units b.2.1 in (
+    let same = AllZip-long R b.0 units b.2.1 in (
       omega (arith, same, b.2.0),
       λ k e lt.
           let w = zip_at R b.0 units b.2.1 k e lt in
@@ -159,13 +149,13 @@ renewable_lawful exact i w ms h =
       maximum_length = high.length;
       minimum = λ t lt. low.all t (pos 0) (omega (arith, low.length, lt));
       maximum = λ t lt. high.all t (pos 0) (omega (arith, high.length, lt));
-      range = λ t lt. zip_both Above unit.minimum unit.maximum h.range t (pos 0) (pos 0) (omega (arith, high.length, lt));
+      range = λ t lt. AllZip-get_or Above unit.minimum unit.maximum t (pos 0) (pos 0) h.range (omega (arith, low.length, lt));
     }
 
 fields_lawful : (exact : Bool) (i : Instance) (ms : Pairs) → HasFields exact i ms → IsLawfulInstance i
 fields_lawful exact i ms h =
     let t = some_is (IsPeriodsOf exact i.periods) (field_of (key_of TimePeriods) ms) h.periods in
-    let count = (stood exact t.0 (λ d. (scaled d ≡ pos (i.periods * MILLION)) × (1 ≤ i.periods) × (i.periods ≤ 168)) t.2).2 in
+    let count = (some_is (λ d. (IsTrue exact → is_rounded d ≡ false) × ((scaled d ≡ pos (i.periods * MILLION)) × (1 ≤ i.periods) × (i.periods ≤ 168))) (number_in t.0) t.2).2.1 in
     let demand = has_powers exact Demand i.periods ms i.demand h.demand in
     let reserves = has_powers exact Reserves i.periods ms i.reserves h.reserves in
     let thermal = has_units (λ (u : Thermal). u.name) (IsThermalOf exact) ThermalGenerators ms i.thermal h.thermal in
@@ -184,3 +174,18 @@ fields_lawful exact i ms h =
 
 pub instance_lawful : (exact : Bool) (v : Value) (i : Instance) → IsInstanceOf exact v i → IsLawfulInstance i
 instance_lawful exact v i h = let a = some_is (HasFields exact i) (pairs_in v) h in fields_lawful exact i a.0 a.2
+
+-- ---- What `from_json` says beside the first fault follows from it.
+abbrev Answer : Type 0
+Answer = Result (memory.Instance × ℕ) (Fault FieldRefusal)
+
+pub answer_found : (exact : Bool) (v : Value) (r : Answer) → Gives (λ x. x.0) r (instance_at exact v) → IfOk r (λ x. IsInstanceOf exact v x.0)
+answer_found exact v (Ok x) h = instance_is exact v x.0 h
+answer_found exact v (Err e) h = tt
+
+pub answer_lawful : (exact : Bool) (v : Value) (r : Answer) → Gives (λ x. x.0) r (instance_at exact v) → IfOk r (λ x. IsLawfulInstance x.0)
+answer_lawful exact v (Ok x) h = instance_lawful exact v x.0 (instance_is exact v x.0 h)
+answer_lawful exact v (Err e) h = tt
+
+pub answer_only : (exact : Bool) (v : Value) (r : Answer) → Gives (λ x. x.0) r (instance_at exact v) → (i : memory.Instance) → IsInstanceOf exact v i → Gives (λ x. x.0) r (Ok i)
+answer_only exact v r h i is = subst (λ (read : Result memory.Instance _). Gives (λ x. x.0) r read) (instance_again exact v i is) h

@@ -51,12 +51,10 @@ Short most bs = length bs ≤ most
 
 mutual
   value_fits : (most : ℕ) (limited : Bool) (level : ℕ) (v : Value) (bs : List ℕ) → Spells limited level v bs → Short most bs → AllNumbers (Fits most) v
-  value_fits most limited level null bs h few = tt
-  value_fits most limited level (boolean b) bs h few = tt
   value_fits most limited level (number n) bs h few = omega (arith, number_fits n bs h)
-  value_fits most limited level (text t) bs h few = tt
   value_fits most limited level (array vs) bs h few = items_fit most limited (level + 1) vs h.0 h.2 (inside_parts h.0 91 93 most (subst (Short most) h.3 few))
   value_fits most limited level (object ms) bs h few = members_fit most limited (level + 1) ms h.0 h.3 (inside_parts h.0 123 125 most (subst (Short most) h.4 few))
+  value_fits most limited level _ bs h few = tt
 
   items_fit : (most : ℕ) (limited : Bool) (level : ℕ) (vs : Items) (bs : List ℕ) → SpellsItems limited level vs bs → Short most bs → AllItems (Fits most) vs
   items_fit most limited level no_items bs h few = tt
@@ -85,12 +83,10 @@ mutual
 -- Holding an exponent leaves the digits as they are.
 mutual
   as_written : (v : Value) → AllNumbers IsShort (with_numbers held_decimal v) → AllNumbers IsShort v
-  as_written null h = tt
-  as_written (boolean b) h = tt
   as_written (number n) h = h
-  as_written (text t) h = tt
   as_written (array vs) h = items_as_written vs h
   as_written (object ms) h = members_as_written ms h
+  as_written _ h = tt
 
   items_as_written : (vs : Items) → AllItems IsShort (items_with held_decimal vs) → AllItems IsShort vs
   items_as_written no_items h = tt

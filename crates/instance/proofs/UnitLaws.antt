@@ -1,392 +1,808 @@
--- Units and the instance: what is read is as the value says, and what the value says is read.
-use Rattle.std.proofs.Common.{◌≡◌, ℕ, ◌≤◌, Bool, List, [], length, Option, Some, None, Result, Ok, max, refl, sym, subst, ◌∙◌}
-use Rattle.std.specs.Prelude.{nat_lt, ℤ, pos, ◌≤ℤ◌}
-use Rattle.std.specs.List.{AllZip}
+-- A step that reads something, and what it reads: laws of steps from those of the steps that they are made of.
+use Rattle.std.proofs.Common.{◌≡◌, ℕ, Bool, true, false, List, Option, Some, None, Result, Ok, Err, refl, sym, ap, subst, ◌∙◌, zero, suc, ◌*◌, ◌/◌, ◌%◌, ◌≤◌, cond, arith, ◌+◌, ◌-◌, [], ◌∷◌, ◌++◌, length, drop, get_or, append_assoc, take, max}
 use Rattle.std.specs.Option.{IsSomeAnd}
-use Rattle.std.proofs.lemmas.Bool.{ltb-false, le-ltb}
-use Rattle.uc_model.specs.declared.limits.TheConstants.{MAX_UNITS}
+use Rattle.instance.specs.declared.fault.Place.{Place}
+use Rattle.instance.specs.declared.fault.Refusal.{Refusal}
+use Rattle.instance.specs.FirstFault.{◌>>=◌, wanted, refused_if, in_unit, number_at, amount_at, power_at, power_from, cost_at, whole_at, time_at, flag_at, periods_at, each_at, whole, next_entry, field_at, entries_at, rows_at, power_entry, powers_at, maximum_entry, maxima_at, start_row, point_row, startup_at, points_at, thermal_of, object_at, flag_field, time_field, power_field, output_field, outputs_at, ramps_at, times_at, initial_at, thermal_at, renewable_at, outside, units_at, thermal_member, renewable_member, thermal_units_at, renewable_units_at, totals_at, instance_at}
+use Rattle.std.specs.Prelude.{◌&&◌, ◌||◌, ◌==◌, nat_lt, IsTrue, ℤ, pos, ◌≤ℤ◌, int_lt, unsigned_abs, neg_ℤ, slice_index_or}
+use Rattle.std.proofs.lemmas.Bool.{ltb-false, le-ltb, or_parts, or_from}
+use Rattle.std.proofs.lemmas.Bool.Decides.{nat_tests}
+use Rattle.std.proofs.lemmas.Int.{ints}
+use Rattle.uc_model.specs.Limits.{IsPower}
+use Rattle.uc_model.specs.declared.limits.TheConstants.{MAX_PERIODS, MAX_POWER, MAX_COST, MAX_TIME, MAX_POINTS, MAX_START_ROWS, MAX_UNITS}
+use Rattle.decimal_json.specs.Value.{Decimal, Value}
+use Rattle.instance.specs.Fields.{number_in, key_of, entries_in, pairs_in, field_of}
+use Rattle.instance.specs.Scaled.{MILLION, size_of, signed, scaled, is_rounded, wholes_of, is_below_zero}
+use Rattle.instance.specs.InstanceOf.{IsNumber, IsPowerOf, IsCostOf, IsTimeOf, IsFlagOf, IsPeriodsOf, IsRising, Pairs, Has, IsArray, IsPowersOf, AreRowsOf, IsStartRowOf, IsPointOf, IsObject, IsLimitOf, IsMinimumTimeOf, IsThermalOf, IsRenewableOf, AreUnitsOf, HasFields, IsInstanceOf}
+use Rattle.std.specs.Int.{int_max}
+use Rattle.std.specs.List.{AllZip}
+use Rattle.std.proofs.lemmas.List.{append-nil, length-append, length-drop, nil_from_length, length-take}
+use Rattle.std.proofs.Math.Seq.{get_or-append_seam, drop-cons}
+use Rattle.uc_model.specs.declared.instance.Point.{Point}
+use Rattle.instance.specs.Points.{last_output}
+use Rattle.std.proofs.lemmas.Slice.Zip.{AllZip-long}
+use Rattle.uc_model.specs.declared.instance.StartRow.{StartRow}
+use Rattle.uc_model.specs.declared.field.Field.{Field}
+use Rattle.uc_model.specs.declared.field.Field.TheVariants.{PowerOutputMaximum, Startup, StartupLag, StartupCost, PiecewiseProduction, PiecewiseProductionMw, PiecewiseProductionCost, NoField, TimePeriods, Demand, Reserves, ThermalGenerators, RenewableGenerators, MustRun, PowerOutputMinimum, RampUpLimit, RampDownLimit, RampStartupLimit, RampShutdownLimit, TimeUpMinimum, TimeDownMinimum, PowerOutputT0, UnitOnT0, TimeUpT0, TimeDownT0}
 use Rattle.uc_model.specs.declared.instance.Thermal.{Thermal}
 use Rattle.uc_model.specs.declared.instance.Renewable.{Renewable}
 use Rattle.uc_model.specs.declared.instance.Instance.{Instance}
-use Rattle.decimal_json.specs.Value.{Value}
-use Rattle.instance.specs.Fields.{key_of, pairs_in, field_of}
-use Rattle.uc_model.specs.declared.field.Field.{Field}
-use Rattle.uc_model.specs.declared.field.Field.TheVariants.{NoField, TimePeriods, Demand, Reserves, ThermalGenerators, RenewableGenerators, MustRun, PowerOutputMinimum, PowerOutputMaximum, RampUpLimit, RampDownLimit, RampStartupLimit, RampShutdownLimit, TimeUpMinimum, TimeDownMinimum, PowerOutputT0, UnitOnT0, TimeUpT0, TimeDownT0}
-use Rattle.instance.specs.declared.fault.Place.{Place}
 use Rattle.uc_model.specs.declared.field_refusal.FieldRefusal.{FieldRefusal}
-use Rattle.instance.specs.declared.fault.Refusal.{Refusal}
 use Rattle.instance.specs.declared.reader.totals.Totals.{Totals}
 use Rattle.instance.specs.declared.reader.thermal.Outputs.{Outputs}
 use Rattle.instance.specs.declared.reader.thermal.Ramps.{Ramps}
 use Rattle.instance.specs.declared.reader.thermal.Times.{Times}
 use Rattle.instance.specs.declared.reader.thermal.Initial.{Initial}
-use Rattle.instance.specs.FirstFault.{◌>>=◌, thermal_of, whole, wanted, refused_if, field_at, object_at, each_at, power_at, power_from, time_at, flag_at, periods_at, flag_field, time_field, power_field, output_field, powers_at, maxima_at, outputs_at, ramps_at, times_at, initial_at, startup_at, points_at, thermal_at, renewable_at, outside, units_at, thermal_member, renewable_member, thermal_units_at, renewable_units_at, totals_at, instance_at}
-use Rattle.instance.specs.InstanceOf.{Pairs, Has, IsObject, IsPowerOf, IsTimeOf, IsFlagOf, IsPeriodsOf, IsPowersOf, IsLimitOf, IsMinimumTimeOf, IsThermalOf, IsRenewableOf, AreUnitsOf, HasFields, IsInstanceOf}
-use Rattle.instance.proofs.Steps.{ok_is, bind_ok, last_ok, two_ok, three_ok, first_ok, four_ok, six_ok, wanted_ok, refused_ok, some_and, some_is, some_split, wanted_is, wanted_again, in_unit_ok, in_unit_again}
-use Rattle.instance.proofs.NumberLaws.{power_is, power_again, power_from_is, power_from_again, time_is, time_again, flag_is, flag_again, periods_is, periods_again}
-use Rattle.instance.proofs.EachLaws.{each_is, each_again, reads_zip, zip_reads}
-use Rattle.instance.proofs.RowLaws.{field_is, field_again, powers_is, powers_again, maxima_is, maxima_again, startup_is, startup_again, points_is, points_again}
 
+-- A step gives a value exactly where this holds of the value.
+pub record Exactly {A E : Type 0} (r : Result A E) (P : A → Type 0) : Type 0 where
+  pub is : (x : A) → r ≡ Ok x → P x
+  pub again : (x : A) → P x → r ≡ Ok x
+
+abbrev done : {A E : Type 0} → A → Result A E
+done x = Ok x
+
+pub ok_is : {A E : Type 0} (x y : A) → done {E = E} x ≡ done y → x ≡ y
+ok_is x y e = cc
+
+pub bind_ok : {A B E : Type 0} (r : Result A E) (f : A → Result B E) (y : B) → (r >>= f) ≡ Ok y → (x : A) × (r ≡ Ok x) × (f x ≡ Ok y)
+bind_ok (Ok x) f y e = (x, refl, e)
+bind_ok (Err d) f y e = absurd cc
+
+-- the same in other words
+pub told : {A E : Type 0} {r : Result A E} {P : A → Type 0} → Exactly r P → (Q : A → Type 0) → ((x : A) → P x → Q x) → ((x : A) → Q x → P x) → Exactly r Q
+told h Q there back = record { is = λ x e. there x (h.is x e); again = λ x q. h.again x (back x q) }
+
+-- ---- a value that is wanted, and one that passes a test
+
+pub some_map : {A : Type 0} (P Q : A → Type 0) (o : Option A) → ((x : A) → P x → Q x) → IsSomeAnd o P → IsSomeAnd o Q
+some_map P Q (Some x) f h = f x h
+some_map P Q None f h = h
+
+pub some_is : {A : Type 0} (P : A → Type 0) (o : Option A) → IsSomeAnd o P → (x : A) × (o ≡ Some x) × P x
+some_is P (Some x) h = (x, refl, h)
+some_is P None h = absurd h
+
+pub some_split : {A Q : Type 0} (P : A → Type 0) (o : Option A) → IsSomeAnd o (λ x. P x × Q) → IsSomeAnd o P × Q
+some_split P (Some x) h = h
+some_split P None h = absurd h
+
+pub some_pull : {A Y : Type 0} (P : Y → A → Type 0) (o : Option A) → IsSomeAnd o (λ x. (y : Y) × P y x) → (y : Y) × IsSomeAnd o (P y)
+some_pull P (Some x) h = h
+some_pull P None h = absurd h
+
+pub wanted-exactly : {A B : Type 0} (code : ℕ) (place : Place) (o : Option A) (read : A → Result B Refusal) (P : A → B → Type 0)
+    → ((x : A) → Exactly (read x) (P x)) → Exactly (wanted code place o >>= read) (λ y. IsSomeAnd o (λ x. P x y))
+wanted-exactly code place (Some x) read P h = h x
+wanted-exactly code place None read P h = record { is = λ y e. absurd cc; again = λ y w. absurd w }
+
+pub refused-exactly : {A : Type 0} (test : Bool) (code : ℕ) (place : Place) (x : A) → Exactly (refused_if test code place x) (λ y. (test ≡ false) × (x ≡ y))
+refused-exactly true code place x = record { is = λ y e. absurd cc; again = λ y w. absurd cc }
+refused-exactly false code place x = record { is = λ y e. (refl, ok_is x y e); again = λ y w. ap (λ (z : _). Ok z) w.1 }
+
+-- a test before another step
+pub guarded : {A B : Type 0} (test : Bool) (code : ℕ) (place : Place) (x : A) (read : A → Result B Refusal) (P : B → Type 0) → (test ≡ false → Exactly (read x) P)
+    → Exactly (refused_if test code place x >>= read) (λ y. (test ≡ false) × P y)
+guarded true code place x read P h = record { is = λ y e. absurd cc; again = λ y w. absurd cc }
+guarded false code place x read P h = record { is = λ y e. (refl, (h refl).is y e); again = λ y w. (h refl).again y w.1 }
+
+-- a test behind another step
+pub tested : {A : Type 0} {r : Result A Refusal} {P : A → Type 0} → Exactly r P → (test : A → Bool) (code : ℕ) (place : Place)
+    → Exactly (r >>= λ x. refused_if (test x) code place x) (λ x. P x × (test x ≡ false))
+tested {A} {r} {P} h test code place = record {
+  is = λ y e.
+      let b = bind_ok r (λ x. refused_if (test x) code place x) y e in
+      let t = (refused-exactly (test b.0) code place b.0).is y b.2 in
+      subst (λ (x : A). P x × (test x ≡ false)) t.1 (h.is b.0 b.1, t.0);
+  again = λ y w. rw (h.again y w.0, w.1) refl;
+}
+
+-- ---- several steps that make a value
+
+pub two-exactly : {A B X E : Type 0} {r : Result A E} {s : A → Result B E} {P : A → Type 0} {Q : A → B → Type 0} → Exactly r P → ((a : A) → P a → Exactly (s a) (Q a)) → (mk : A → B → X)
+    → Exactly (r >>= λ a. s a >>= λ b. Ok (mk a b)) (λ x. (a : A) × (b : B) × P a × Q a b × (mk a b ≡ x))
+two-exactly {A} {B} {X} {E} {r} {s} h k mk = record {
+  is = λ x e.
+      let a = bind_ok r (λ a. s a >>= λ b. Ok (mk a b)) x e in
+      let b = bind_ok (s a.0) (λ b. Ok (mk a.0 b)) x a.2 in
+      let p = h.is a.0 a.1 in
+      (a.0, b.0, p, (k a.0 p).is b.0 b.1, ok_is (mk a.0 b.0) x b.2);
+  again = λ x w. rw (h.again w.0 w.2, (k w.0 w.2).again w.1 w.3) (ap (λ (z : X). done {E = E} z) w.4);
+}
+
+-- one more step before others
+pub more-exactly : {A X E : Type 0} {r : Result A E} {P : A → Type 0} → Exactly r P → (k : A → Result X E) (Q : A → X → Type 0) → ((a : A) → P a → Exactly (k a) (Q a))
+    → Exactly (r >>= k) (λ x. (a : A) × P a × Q a x)
+more-exactly {A} {X} {E} {r} h k Q f = record {
+  is = λ x e. let a = bind_ok r k x e in let p = h.is a.0 a.1 in (a.0, p, (f a.0 p).is x a.2);
+  again = λ x w. rw (h.again w.0 w.1) ((f w.0 w.1).again x w.2);
+}
+
+pub three-exactly : {A B C X E : Type 0} {r : Result A E} {s : A → Result B E} {t : A → B → Result C E} {P : A → Type 0} {Q : A → B → Type 0} {R : A → B → C → Type 0}
+    → Exactly r P → ((a : A) → P a → Exactly (s a) (Q a)) → ((a : A) (b : B) → P a → Exactly (t a b) (R a b)) → (mk : A → B → C → X)
+    → Exactly (r >>= λ a. s a >>= λ b. t a b >>= λ c. Ok (mk a b c)) (λ x. (a : A) × P a × ((b : B) × (c : C) × Q a b × R a b c × (mk a b c ≡ x)))
+three-exactly {A} {B} {C} {X} {E} {r} {s} {t} {P} {Q} {R} h i j mk =
+    more-exactly h (λ a. s a >>= λ b. t a b >>= λ c. Ok (mk a b c)) (λ a x. (b : B) × (c : C) × Q a b × R a b c × (mk a b c ≡ x)) (λ a p. two-exactly (i a p) (λ b q. j a b p) (mk a))
+
+pub four-exactly : {A B C D X E : Type 0} {r : Result A E} {s : Result B E} {t : Result C E} {u : Result D E} {P : A → Type 0} {Q : B → Type 0} {R : C → Type 0} {S : D → Type 0}
+    → Exactly r P → Exactly s Q → Exactly t R → Exactly u S → (mk : A → B → C → D → X)
+    → Exactly (r >>= λ a. s >>= λ b. t >>= λ c. u >>= λ d. Ok (mk a b c d)) (λ x. (a : A) × P a × ((b : B) × Q b × ((c : C) × (d : D) × R c × S d × (mk a b c d ≡ x))))
+four-exactly {A} {B} {C} {D} {X} {E} {r} {s} {t} {u} {P} {Q} {R} {S} h i j k mk =
+    more-exactly h (λ a. s >>= λ b. t >>= λ c. u >>= λ d. Ok (mk a b c d)) (λ a x. (b : B) × Q b × ((c : C) × (d : D) × R c × S d × (mk a b c d ≡ x)))
+    (λ a _. three-exactly i (λ b _. j) (λ b c _. k) (mk a))
+
+-- ---- a fault with its unit
+
+pub in_unit-exactly : {A : Type 0} (kind : ℕ) (unit : List ℕ) (r : Result A Refusal) (P : A → Type 0) → Exactly r P → Exactly (in_unit kind unit r) P
+in_unit-exactly kind unit (Ok y) P h = record { is = λ x e. h.is x (ap (λ (z : _). done {E = Refusal} z) (ok_is y x e)); again = λ x p. ap (in_unit kind unit) (h.again x p) }
+in_unit-exactly kind unit (Err d) P h = record { is = λ x e. absurd cc; again = λ x p. absurd (let e = h.again x p in cc) }
+
+-- ---- A number that is read is what its value is, and what a value is is read.
+-- a number that is exact where it has to be, and what is read of it
+by_exactness : {B : Type 0} (exact rounded : Bool) (place : Place) (d : Decimal) (read : Decimal → Result B Refusal) (P : B → Type 0) → Exactly (read d) P
+    → Exactly (refused_if (exact && rounded) 8 place d >>= read) (λ y. (IsTrue exact → rounded ≡ false) × P y)
+by_exactness true true place d read P h = record { is = λ y e. absurd cc; again = λ y w. absurd (let never = w.0 refl in cc) }
+by_exactness true false place d read P h = record { is = λ y e. ((λ t. refl), h.is y e); again = λ y w. h.again y w.1 }
+by_exactness false rounded place d read P h = record { is = λ y e. ((λ t. absurd cc), h.is y e); again = λ y w. h.again y w.1 }
+
+number-exactly : {B : Type 0} (exact : Bool) (place : Place) (v : Value) (read : Decimal → Result B Refusal) (P : Decimal → B → Type 0) → ((d : Decimal) → Exactly (read d) (P d))
+    → Exactly (number_at exact place v >>= read) (λ y. IsNumber exact v (λ d. P d y))
+unfolding number_at
+number-exactly {B} exact place v read P h = by_number (number_in v)
+  where
+    by_number : (o : Option Decimal) → Exactly ((wanted 2 place o >>= λ d. refused_if (exact && is_rounded d) 8 place d) >>= read) (λ y. IsSomeAnd o (λ d. (IsTrue exact → is_rounded d ≡ false) × P d y))
+    by_number (Some d) = by_exactness exact (is_rounded d) place d read (P d) (h d)
+    by_number None = record { is = λ y e. absurd cc; again = λ y w. absurd w }
+
+-- the same in other words
+number-told : {B : Type 0} {r : Result B Refusal} (exact : Bool) (v : Value) {P : Decimal → B → Type 0} → Exactly r (λ y. IsNumber exact v (λ d. P d y)) → (Q : Decimal → B → Type 0)
+    → ((d : Decimal) (y : B) → P d y → Q d y) → ((d : Decimal) (y : B) → Q d y → P d y) → Exactly r (λ y. IsNumber exact v (λ d. Q d y))
+number-told {B} exact v {P} h Q there back = told h (λ y. IsNumber exact v (λ d. Q d y))
+    (λ y. some_map (λ d. (IsTrue exact → is_rounded d ≡ false) × P d y) (λ d. (IsTrue exact → is_rounded d ≡ false) × Q d y) (number_in v) (λ d w. (w.0, there d y w.1)))
+    (λ y. some_map (λ d. (IsTrue exact → is_rounded d ≡ false) × Q d y) (λ d. (IsTrue exact → is_rounded d ≡ false) × P d y) (number_in v) (λ d w. (w.0, back d y w.1)))
+
+-- ---- powers and costs
+
+pub size_of_signed : (b : Bool) (n : ℕ) → unsigned_abs (signed b n) ≡ n
+size_of_signed true zero = refl
+size_of_signed true (suc n) = refl
+size_of_signed false n = refl
+
+-- a number of a size up to the most
+amount-exactly : (most : ℕ) (exact : Bool) (place : Place) (v : Value) → Exactly (amount_at most exact place v) (λ z. IsNumber exact v (λ d. (scaled d ≡ z) × (unsigned_abs z ≤ most)))
+unfolding amount_at
+amount-exactly most exact place v =
+    number-told exact v (number-exactly exact place v (λ d. refused_if (nat_lt most (size_of d)) 4 place (scaled d)) (λ d z. (nat_lt most (size_of d) ≡ false) × (scaled d ≡ z)) (λ d. refused-exactly (nat_lt most (size_of d)) 4 place (scaled d)))
+    (λ d z. (scaled d ≡ z) × (unsigned_abs z ≤ most))
+    (λ d z w. (w.1, omega (arith, size_of_signed d.negative (size_of d), ap unsigned_abs w.1, ltb-false _ _ w.0)))
+    (λ d z w. (le-ltb most (size_of d) (omega (arith, size_of_signed d.negative (size_of d), ap unsigned_abs w.0, w.1)), w.0))
+
+pub power-exactly : (exact : Bool) (place : Place) (v : Value) → Exactly (power_at exact place v) (λ z. IsPowerOf exact z v)
+power-exactly = amount-exactly MAX_POWER
+
+pub cost-exactly : (exact : Bool) (place : Place) (v : Value) → Exactly (cost_at exact place v) (λ z. IsCostOf exact z v)
+cost-exactly = amount-exactly MAX_COST
+
+lt_false : (a b : ℤ) → int_lt a b ≡ false → b ≤ℤ a
+lt_false a b e = grind (arith, ints)
+
+lt_again : (a b : ℤ) → b ≤ℤ a → int_lt a b ≡ false
+lt_again a b h = grind (arith, ints)
+
+pub power_from-exactly : (exact : Bool) (place : Place) (least : ℤ) (v : Value) → Exactly (power_from exact place least v) (λ z. IsPowerOf exact z v × (least ≤ℤ z))
+unfolding power_from
+power_from-exactly exact place least v =
+    told (tested (power-exactly exact place v) (λ z. int_lt z least) 5 place) (λ z. IsPowerOf exact z v × (least ≤ℤ z)) (λ z w. (w.0, lt_false z least w.1)) (λ z w. (w.0, lt_again z least w.1))
+
+-- ---- whole numbers
+
+bind_bind : {A B C E : Type 0} (r : Result A E) (f : A → Result B E) (g : B → Result C E) → (r >>= λ x. f x >>= g) ≡ ((r >>= f) >>= g)
+bind_bind (Ok x) f g = refl
+bind_bind (Err d) f g = refl
+
+whole-exactly : {B : Type 0} (exact : Bool) (place : Place) (v : Value) (read : Decimal → Result B Refusal) (P : Decimal → B → Type 0) → ((d : Decimal) → Exactly (read d) (P d))
+    → Exactly (whole_at exact place v >>= read) (λ y. IsNumber exact v (λ d. (nat_lt 0 (size_of d % MILLION) ≡ false) × P d y))
+unfolding whole_at
+whole-exactly {B} exact place v read P h =
+    let test = λ (d : Decimal). refused_if (nat_lt 0 (size_of d % MILLION)) 3 place d in
+    subst (λ (r : Result B Refusal). Exactly r (λ y. IsNumber exact v (λ d. (nat_lt 0 (size_of d % MILLION) ≡ false) × P d y))) (bind_bind (number_at exact place v) test read)
+    (number-exactly exact place v (λ d. test d >>= read) (λ d y. (nat_lt 0 (size_of d % MILLION) ≡ false) × P d y) (λ d. guarded (nat_lt 0 (size_of d % MILLION)) 3 place d read (P d) (λ _. h d)))
+
+-- a whole number that isn't below zero
+signed_is : (b : Bool) (n h : ℕ) → nat_lt 0 (n % MILLION) ≡ false → (b && nat_lt 0 (n / MILLION)) ≡ false → n / MILLION ≡ h → signed b n ≡ pos (h * MILLION)
+signed_is false n h rest e is = ap pos (omega (arith, ltb-false _ _ rest))
+signed_is true n h rest e is =
+    let none : n ≡ 0 = omega (arith, ltb-false _ _ rest, ltb-false _ _ e) in
+    let zero_is : h ≡ 0 = omega arith in
+    rw (none, zero_is) refl
+
+negative_again : (n h : ℕ) → signed true n ≡ pos (h * MILLION) → n ≡ 0
+negative_again zero h e = refl
+negative_again (suc n) h e = absurd cc
+
+signed_again : (b : Bool) (n h : ℕ) → signed b n ≡ pos (h * MILLION) → (nat_lt 0 (n % MILLION) ≡ false) × ((b && nat_lt 0 (n / MILLION)) ≡ false) × (n / MILLION ≡ h)
+signed_again false n h e = let same : n ≡ h * MILLION = ap unsigned_abs e in (le-ltb 0 (n % MILLION) (omega arith), refl, omega arith)
+signed_again true n h e =
+    let none : n ≡ 0 = negative_again n h e in
+    let same : n ≡ h * MILLION = sym (size_of_signed true n) ∙ ap unsigned_abs e in
+    (le-ltb 0 (n % MILLION) (omega arith), le-ltb 0 (n / MILLION) (omega arith), omega arith)
+
+pub time-exactly : (exact : Bool) (place : Place) (v : Value) → Exactly (time_at exact place v) (λ h. IsTimeOf exact h v)
+unfolding time_at
+time-exactly exact place v =
+    let test = λ (d : Decimal). is_below_zero d || nat_lt MAX_TIME (wholes_of d) in
+    number-told exact v (whole-exactly exact place v (λ d. refused_if (test d) 4 place (wholes_of d)) (λ d h. (test d ≡ false) × (wholes_of d ≡ h)) (λ d. refused-exactly (test d) 4 place (wholes_of d)))
+    (λ d h. (scaled d ≡ pos (h * MILLION)) × (h ≤ MAX_TIME))
+    (λ d h w. let t = or_parts (is_below_zero d) (nat_lt MAX_TIME (wholes_of d)) w.1.0 in (signed_is d.negative (size_of d) h w.0 t.0 w.1.1, omega (arith, w.1.1, ltb-false _ _ t.1)))
+    (λ d h w. let s = signed_again d.negative (size_of d) h w.0 in (s.0, (or_from (is_below_zero d) (nat_lt MAX_TIME (wholes_of d)) s.1 (le-ltb MAX_TIME (wholes_of d) (omega (arith, s.2, w.1))), s.2)))
+
+flag_value : (b : Bool) (n : ℕ) → n ≤ 1 → (n == 1) ≡ b → n ≡ cond b 1 0
+flag_value b zero le e = rw (← e) refl
+flag_value b (suc zero) le e = rw (← e) refl
+flag_value b (suc (suc n)) le e = absurd (omega arith)
+
+flag_small : (b : Bool) (n : ℕ) → n ≡ cond b 1 0 → (n ≤ 1) × ((n == 1) ≡ b)
+flag_small true n e = (omega arith, rw e refl)
+flag_small false n e = (omega arith, rw e refl)
+
+pub flag-exactly : (exact : Bool) (place : Place) (v : Value) → Exactly (flag_at exact place v) (λ b. IsFlagOf exact b v)
+unfolding flag_at
+flag-exactly exact place v =
+    let test = λ (d : Decimal). is_below_zero d || nat_lt 1 (wholes_of d) in
+    number-told exact v (whole-exactly exact place v (λ d. refused_if (test d) 5 place (wholes_of d == 1)) (λ d b. (test d ≡ false) × ((wholes_of d == 1) ≡ b)) (λ d. refused-exactly (test d) 5 place (wholes_of d == 1)))
+    (λ d b. scaled d ≡ pos (cond b 1 0 * MILLION))
+    (λ d b w. let t = or_parts (is_below_zero d) (nat_lt 1 (wholes_of d)) w.1.0 in signed_is d.negative (size_of d) (cond b 1 0) w.0 t.0 (flag_value b (wholes_of d) (ltb-false _ _ t.1) w.1.1))
+    (λ d b w.
+    let s = signed_again d.negative (size_of d) (cond b 1 0) w in
+    let f = flag_small b (wholes_of d) s.2 in
+    (s.0, (or_from (is_below_zero d) (nat_lt 1 (wholes_of d)) s.1 (le-ltb 1 (wholes_of d) f.0), f.1)))
+
+pub not_zero_again : (n : ℕ) → 1 ≤ n → (n == 0) ≡ false
+not_zero_again n le = grind (arith, nat_tests)
+
+pub some_whole : (n : ℕ) → (n == 0) ≡ false → 1 ≤ n
+some_whole n e = grind (arith, nat_tests)
+
+positive_sign : (b : Bool) (n : ℕ) → (b && nat_lt 0 n) ≡ false → 1 ≤ n → b ≡ false
+positive_sign false n e le = refl
+positive_sign true n e le = absurd (omega (arith, ltb-false _ _ e))
+
+pub periods-exactly : (exact : Bool) (place : Place) (v : Value) → Exactly (periods_at exact place v) (λ t. IsPeriodsOf exact t v)
+unfolding periods_at
+periods-exactly exact place v =
+    let test = λ (d : Decimal). d.negative || wholes_of d == 0 in
+    let few = λ (t : ℕ). refused_if (nat_lt MAX_PERIODS t) 7 place t in
+    let says = λ (d : Decimal) (t : ℕ). (nat_lt MAX_PERIODS (wholes_of d) ≡ false) × (wholes_of d ≡ t) in
+    number-told exact v (whole-exactly exact place v (λ d. refused_if (test d) 5 place (wholes_of d) >>= few) (λ d t. (test d ≡ false) × says d t)
+    (λ d. guarded (test d) 5 place (wholes_of d) few (says d) (λ _. refused-exactly (nat_lt MAX_PERIODS (wholes_of d)) 7 place (wholes_of d))))
+    (λ d t. (scaled d ≡ pos (t * MILLION)) × (1 ≤ t) × (t ≤ MAX_PERIODS))
+    (λ d t w.
+    let z = or_parts d.negative (wholes_of d == 0) w.1.0 in
+    let plain : is_below_zero d ≡ false = ap (λ (x : Bool). x && nat_lt 0 (wholes_of d)) z.0 in
+    (signed_is d.negative (size_of d) t w.0 plain w.1.1.1, omega (arith, some_whole (wholes_of d) z.1, w.1.1.1), omega (arith, w.1.1.1, ltb-false _ _ w.1.1.0)))
+    (λ d t w.
+    let s = signed_again d.negative (size_of d) t w.0 in
+    let some : 1 ≤ wholes_of d = omega (arith, s.2, w.1) in
+    (s.0, (or_from d.negative (wholes_of d == 0) (positive_sign d.negative (wholes_of d) s.1 some) (not_zero_again (wholes_of d) some), (le-ltb MAX_PERIODS (wholes_of d) (omega (arith, s.2, w.2)), s.2))))
+
+-- ---- What is read entry after entry: each entry beside those before it.
+-- This holds of each entry that was read, beside those before it.
+abbrev pub Each : {A : Type 0} → (List A → A → Type 0) → List A → List A → Type 0
+Each T front [] = Unit {0}
+Each T front (z ∷ zs) = T front z × Each T (front ++ z ∷ []) zs
+
+module _ {A B E : Type 0} (read : List A → B → Result A E) (R : B → A → Type 0) (T : List A → A → Type 0) (h : (front : List A) (v : B) → Exactly (read front v) (λ z. R v z × T front z)) where
+  each_is : (front : List A) (vs : List B) (ys : List A) → each_at read front vs ≡ Ok ys → (zs : List A) × (ys ≡ front ++ zs) × AllZip R vs zs × Each T front zs
+  unfolding each_at
+  each_is front [] ys e = ([], sym (ok_is front ys e) ∙ sym (append-nil front), tt, tt)
+  each_is front (v ∷ vs) ys e =
+      let a = bind_ok (read front v) (λ x. each_at read (front ++ x ∷ []) vs) ys e in
+      let b = each_is (front ++ a.0 ∷ []) vs ys a.2 in
+      let z = (h front v).is a.0 a.1 in
+      (a.0 ∷ b.0, b.1 ∙ append_assoc front (a.0 ∷ []) b.0, (z.0, b.2), (z.1, b.3))
+
+  each_again : (front : List A) (vs : List B) (zs : List A) → AllZip R vs zs → Each T front zs → each_at read front vs ≡ Ok (front ++ zs)
+  unfolding each_at
+  each_again front [] [] all each = ap (λ (xs : List A). Ok xs) (sym (append-nil front))
+  each_again front (v ∷ vs) (z ∷ zs) all each =
+      rw ((h front v).again z (all.0, each.0)) (each_again (front ++ z ∷ []) vs zs all.1 each.1 ∙ ap (λ (xs : List A). Ok xs) (append_assoc front (z ∷ []) zs))
+  each_again front _ _ all each = absurd all
+
+  pub each-exactly : (vs : List B) → Exactly (each_at read [] vs) (λ zs. AllZip R vs zs × Each T [] zs)
+  each-exactly vs = record {
+    is = λ zs e. let a = each_is [] vs zs e in subst (λ (xs : List A). AllZip R vs xs × Each T [] xs) (sym a.1) (a.2, a.3);
+    again = λ zs w. each_again [] vs zs w.0 w.1;
+  }
+
+-- ---- points, each no lower than the one before it
+
+abbrev pub Above_last : List Point → Point → Type 0
+Above_last front p = last_output front ≤ℤ p.mw
+
+abbrev Rises : ℤ → List Point → Type 0
+Rises least [] = Unit {0}
+Rises least (p ∷ ps) = (least ≤ℤ p.mw) × Rises p.mw ps
+
+last_of : (front : List Point) (p : Point) → last_output (front ++ p ∷ []) ≡ p.mw
+last_of front p =
+    let d : Point = record { mw = neg_ℤ (pos MAX_POWER); cost = pos 0 } in
+    let at_end : length (front ++ p ∷ []) - 1 ≡ length front = omega (arith, length-append front (p ∷ [])) in
+    ap (λ (k : ℕ). (get_or (front ++ p ∷ []) k d).mw) at_end ∙ ap (λ (q : Point). q.mw) (get_or-append_seam front p [] d)
+
+each_rises : (front ps : List Point) → Each Above_last front ps → Rises (last_output front) ps
+each_rises front [] e = tt
+each_rises front (p ∷ ps) e = (e.0, subst (λ (z : ℤ). Rises z ps) (last_of front p) (each_rises (front ++ p ∷ []) ps e.1))
+
+rises_each : (front ps : List Point) → Rises (last_output front) ps → Each Above_last front ps
+rises_each front [] r = tt
+rises_each front (p ∷ ps) r = (r.0, rises_each (front ++ p ∷ []) ps (subst (λ (z : ℤ). Rises z ps) (sym (last_of front p)) r.1))
+
+rising_from : (least : ℤ) (ps : List Point) → Rises least ps → IsRising ps
+rising_from least (p ∷ q ∷ ps) r = (r.1.0, rising_from p.mw (q ∷ ps) r.1)
+rising_from least _ r = tt
+
+rises_again : (least : ℤ) (p : Point) (ps : List Point) → least ≤ℤ p.mw → IsRising (p ∷ ps) → Rises least (p ∷ ps)
+rises_again least p [] le r = (le, tt)
+rises_again least p (q ∷ ps) le r = (le, rises_again p.mw q ps r.0 r.1)
+
+least_power : (z : ℤ) → IsPower z → neg_ℤ (pos MAX_POWER) ≤ℤ z
+least_power z h = grind (arith, ints)
+
+pub rising_is : (ps : List Point) → Each Above_last [] ps → IsRising ps
+rising_is ps e = rising_from (last_output []) ps (each_rises [] ps e)
+
+pub rising_again : {B : Type 0} (R : B → Point → Type 0) → ((v : B) (p : Point) → R v p → IsPower p.mw) → (vs : List B) (ps : List Point) → AllZip R vs ps → IsRising ps → Each Above_last [] ps
+rising_again R power (v ∷ vs) (p ∷ ps) h r = rises_each [] (p ∷ ps) (rises_again (last_output []) p ps (least_power p.mw (power v p h.0)) r)
+rising_again R power [] [] h r = tt
+rising_again R power _ _ h r = absurd h
+
+-- ---- a maximum beside its minimum
+
+abbrev pub Above : ℤ → ℤ → Type 0
+Above low high = int_max low (pos 0) ≤ℤ high
+
+abbrev pub Above_minimum : List ℤ → List ℤ → ℤ → Type 0
+Above_minimum minimum front z = Above (slice_index_or minimum (length front) (pos 0)) z
+
+minimum_at : (minimum front : List ℤ) (n : ℕ) → length minimum ≡ length front + suc n → drop (length front) minimum ≡ get_or minimum (length front) (pos 0) ∷ drop (suc (length front)) minimum
+minimum_at minimum front n len = drop-cons minimum (length front) (pos 0) (omega (arith, len))
+
+one_more : (front : List ℤ) (z : ℤ) → length (front ++ z ∷ []) ≡ suc (length front)
+one_more front z = omega (arith, length-append front (z ∷ []))
+
+maxima_from : (minimum front zs : List ℤ) → length minimum ≡ length front + length zs → Each (Above_minimum minimum) front zs → AllZip Above (drop (length front) minimum) zs
+maxima_from minimum front [] len e =
+    let none : length (drop (length front) minimum) ≡ 0 = omega (arith, length-drop (length front) minimum, len) in
+    subst (λ (xs : List ℤ). AllZip Above xs []) (sym (nil_from_length (drop (length front) minimum) none)) tt
+maxima_from minimum front (z ∷ zs) len e =
+    let more = one_more front z in
+    let rest = maxima_from minimum (front ++ z ∷ []) zs (omega (arith, more, len)) e.1 in
+    subst (λ (xs : List ℤ). AllZip Above xs (z ∷ zs)) (sym (minimum_at minimum front (length zs) len)) (e.0, subst (λ (k : ℕ). AllZip Above (drop k minimum) zs) more rest)
+
+maxima_each : (minimum front zs : List ℤ) → length minimum ≡ length front + length zs → AllZip Above (drop (length front) minimum) zs → Each (Above_minimum minimum) front zs
+maxima_each minimum front [] len a = tt
+maxima_each minimum front (z ∷ zs) len a =
+    let more = one_more front z in
+    let b = subst (λ (xs : List ℤ). AllZip Above xs (z ∷ zs)) (minimum_at minimum front (length zs) len) a in
+    (b.0, maxima_each minimum (front ++ z ∷ []) zs (omega (arith, more, len)) (subst (λ (k : ℕ). AllZip Above (drop k minimum) zs) (sym more) b.1))
+
+pub maxima_is : (minimum zs : List ℤ) → length minimum ≡ length zs → Each (Above_minimum minimum) [] zs → AllZip Above minimum zs
+maxima_is minimum zs len e = maxima_from minimum [] zs (omega (arith, len)) e
+
+pub maxima_again : (minimum zs : List ℤ) → length minimum ≡ length zs → AllZip Above minimum zs → Each (Above_minimum minimum) [] zs
+maxima_again minimum zs len a = maxima_each minimum [] zs (omega (arith, len)) a
+
+-- ---- Fields, arrays and rows: what is read is as the value says, and what the value says is read.
+-- a field with what is read of it
+pub field-exactly : {A : Type 0} (place : Place) (ms : Pairs) (read : Value → Result A Refusal) (P : Value → A → Type 0) → ((v : Value) → Exactly (read v) (P v))
+    → Exactly (field_at place ms >>= read) (λ y. Has place.field ms (λ v. P v y))
+field-exactly place ms read P h = wanted-exactly 1 place (field_of (key_of place.field) ms) read P h
+
+-- ---- lists inside the value of a field
+
+-- what is inside the value of a field
+abbrev pub Holds : {X : Type 0} → (Value → Option X) → Field → Pairs → (X → Type 0) → Type 0
+Holds look field ms P = Has field ms (λ v. IsSomeAnd (look v) P)
+
+holds_map : {X : Type 0} (look : Value → Option X) (field : Field) (ms : Pairs) (P Q : X → Type 0) → ((xs : X) → P xs → Q xs) → Holds look field ms P → Holds look field ms Q
+holds_map look field ms P Q f h = some_map (λ v. IsSomeAnd (look v) P) (λ v. IsSomeAnd (look v) Q) (field_of (key_of field) ms) (λ v. some_map P Q (look v) f) h
+
+holds_split : {X Q : Type 0} (look : Value → Option X) (field : Field) (ms : Pairs) (P : X → Type 0) → Holds look field ms (λ xs. P xs × Q) → Holds look field ms P × Q
+holds_split {X} {Q} look field ms P h =
+    some_split (λ v. IsSomeAnd (look v) P) (field_of (key_of field) ms)
+    (some_map (λ v. IsSomeAnd (look v) (λ xs. P xs × Q)) (λ v. IsSomeAnd (look v) P × Q) (field_of (key_of field) ms) (λ v. some_split P (look v)) h)
+
+pub found-exactly : {X Y : Type 0} (look : Value → Option X) (field : Field) (ms : Pairs) (test : X → Result Y Refusal) (T : X → Y → Type 0) → ((xs : X) → Exactly (test xs) (T xs))
+    → Exactly (field_at (whole field) ms >>= λ v. wanted 2 (whole field) (look v) >>= test) (λ ys. Holds look field ms (λ xs. T xs ys))
+found-exactly look field ms test T h =
+    field-exactly (whole field) ms (λ v. wanted 2 (whole field) (look v) >>= test) (λ v ys. IsSomeAnd (look v) (λ xs. T xs ys)) (λ v. wanted-exactly 2 (whole field) (look v) test T h)
+
+-- and what is read of that
+pub read-exactly : {X Y B E : Type 0} (look : Value → Option X) (field : Field) (ms : Pairs) (T : X → Y → Type 0) {r : Result Y E} → Exactly r (λ ys. Holds look field ms (λ xs. T xs ys))
+    → (k : Y → Result B E) (K : Y → B → Type 0) → ((ys : Y) → Exactly (k ys) (K ys)) → (Q : X → B → Type 0)
+    → ((xs : X) (ys : Y) (z : B) → T xs ys → K ys z → Q xs z) → ((xs : X) (z : B) → Q xs z → (ys : Y) × (T xs ys × K ys z)) → Exactly (r >>= k) (λ z. Holds look field ms (λ xs. Q xs z))
+read-exactly {X} {Y} look field ms T h k K f Q there back = told (more-exactly h k K (λ ys _. f ys)) (λ z. Holds look field ms (λ xs. Q xs z))
+    (λ z w. holds_map look field ms (λ xs. T xs w.0) (λ xs. Q xs z) (λ xs t. there xs w.0 z t w.2) w.1)
+    (λ z q.
+    let all = some_pull (λ ys v. IsSomeAnd (look v) (λ xs. T xs ys × K ys z)) (field_of (key_of field) ms)
+    (some_map (λ v. IsSomeAnd (look v) (λ xs. Q xs z)) (λ v. (ys : Y) × IsSomeAnd (look v) (λ xs. T xs ys × K ys z)) (field_of (key_of field) ms)
+    (λ v p. some_pull (λ ys xs. T xs ys × K ys z) (look v) (some_map (λ xs. Q xs z) (λ xs. (ys : Y) × (T xs ys × K ys z)) (look v) (λ xs. back xs z) p)) q) in
+    let parts = holds_split look field ms (λ xs. T xs all.0) all.1 in
+    (all.0, parts.0, parts.1))
+
+-- ---- arrays with an entry for each period
+
+entries-exactly : (field : Field) (periods : ℕ) (ms : Pairs) → Exactly (entries_at field periods ms) (λ ws. Holds entries_in field ms (λ vs. (periods ≤ length vs) × (take periods vs ≡ ws)))
+unfolding entries_at
+entries-exactly field periods ms =
+    found-exactly entries_in field ms (λ vs. refused_if (nat_lt (length vs) periods) 6 (whole field) (take periods vs)) (λ vs ws. (periods ≤ length vs) × (take periods vs ≡ ws))
+    (λ vs. told (refused-exactly (nat_lt (length vs) periods) 6 (whole field) (take periods vs)) (λ ws. (periods ≤ length vs) × (take periods vs ≡ ws))
+    (λ ws w. (ltb-false _ _ w.0, w.1)) (λ ws w. (le-ltb (length vs) periods w.0, w.1)))
+
+-- what is read entry after entry up to the last period
+each_period-exactly : (field : Field) (periods : ℕ) (ms : Pairs) (read : List ℤ → Value → Result ℤ Refusal) (R : Value → ℤ → Type 0) (T : List ℤ → ℤ → Type 0)
+    → ((front : List ℤ) (v : Value) → Exactly (read front v) (λ z. R v z × T front z))
+    → Exactly (entries_at field periods ms >>= λ vs. each_at read [] vs) (λ zs. Holds entries_in field ms (λ vs. ((periods ≤ length vs) × AllZip R (take periods vs) zs) × Each T [] zs))
+each_period-exactly field periods ms read R T h =
+    read-exactly entries_in field ms (λ vs ws. (periods ≤ length vs) × (take periods vs ≡ ws)) (entries-exactly field periods ms) (λ vs. each_at read [] vs) (λ vs zs. AllZip R vs zs × Each T [] zs)
+    (each-exactly read R T h) (λ vs zs. ((periods ≤ length vs) × AllZip R (take periods vs) zs) × Each T [] zs)
+    (λ vs ws zs t k. ((t.0, subst (λ (xs : List Value). AllZip R xs zs) (sym t.1) k.0), k.1)) (λ vs zs q. (take periods vs, ((q.0.0, refl), (q.0.1, q.1))))
+
+abbrev pub Anything : {A : Type 0} → List A → A → Type 0
+Anything front z = Unit {0}
+
+pub any_each : {A : Type 0} (front zs : List A) → Each Anything front zs
+any_each front [] = tt
+any_each front (z ∷ zs) = (tt, any_each (front ++ z ∷ []) zs)
+
+-- there is one for each period
+pub powers_length : (exact : Bool) (field : Field) (periods : ℕ) (ms : Pairs) (zs : List ℤ) → Has field ms (IsPowersOf exact periods zs) → length zs ≡ periods
+powers_length exact field periods ms zs h =
+    let a = some_is (IsPowersOf exact periods zs) (field_of (key_of field) ms) h in
+    let b = some_is (λ vs. (periods ≤ length vs) × AllZip (λ w z. IsPowerOf exact z w) (take periods vs) zs) (entries_in a.0) a.2 in
+    omega (arith, AllZip-long (λ w z. IsPowerOf exact z w) (take periods b.0) zs b.2.1, length-take periods b.0, b.2.0)
+
+pub powers-exactly : (exact : Bool) (field : Field) (periods : ℕ) (ms : Pairs) → Exactly (powers_at exact field periods ms) (λ zs. Has field ms (IsPowersOf exact periods zs) × (length zs ≡ periods))
+unfolding powers_at
+powers-exactly exact field periods ms =
+    told (each_period-exactly field periods ms (power_entry exact field) (λ v z. IsPowerOf exact z v) Anything
+    (λ front v. told (power-exactly exact (next_entry field front) v) (λ z. IsPowerOf exact z v × Unit {0}) (λ z p. (p, tt)) (λ z p. p.0)))
+    (λ zs. Has field ms (IsPowersOf exact periods zs) × (length zs ≡ periods))
+    (λ zs w. let h = (holds_split entries_in field ms (λ vs. (periods ≤ length vs) × AllZip (λ v z. IsPowerOf exact z v) (take periods vs) zs) w).0 in (h, powers_length exact field periods ms zs h))
+    (λ zs h. holds_map entries_in field ms (λ vs. (periods ≤ length vs) × AllZip (λ v z. IsPowerOf exact z v) (take periods vs) zs) (λ vs. ((periods ≤ length vs) × AllZip (λ v z. IsPowerOf exact z v) (take periods vs) zs) × Each Anything [] zs)
+    (λ vs p. (p, any_each [] zs)) h.0)
+
+pub maxima-exactly : (exact : Bool) (periods : ℕ) (minimum : List ℤ) (ms : Pairs) → length minimum ≡ periods
+    → Exactly (maxima_at exact periods minimum ms) (λ zs. Has PowerOutputMaximum ms (IsPowersOf exact periods zs) × AllZip Above minimum zs)
+unfolding maxima_at
+maxima-exactly exact periods minimum ms len =
+    told (each_period-exactly PowerOutputMaximum periods ms (maximum_entry exact minimum) (λ v z. IsPowerOf exact z v) (Above_minimum minimum)
+    (λ front v. power_from-exactly exact (next_entry PowerOutputMaximum front) _ v))
+    (λ zs. Has PowerOutputMaximum ms (IsPowersOf exact periods zs) × AllZip Above minimum zs)
+    (λ zs w.
+    let h = holds_split entries_in PowerOutputMaximum ms (λ vs. (periods ≤ length vs) × AllZip (λ v z. IsPowerOf exact z v) (take periods vs) zs) w in
+    (h.0, maxima_is minimum zs (len ∙ sym (powers_length exact PowerOutputMaximum periods ms zs h.0)) h.1))
+    (λ zs h.
+    holds_map entries_in PowerOutputMaximum ms (λ vs. (periods ≤ length vs) × AllZip (λ v z. IsPowerOf exact z v) (take periods vs) zs)
+    (λ vs. ((periods ≤ length vs) × AllZip (λ v z. IsPowerOf exact z v) (take periods vs) zs) × Each (Above_minimum minimum) [] zs)
+    (λ vs p. (p, maxima_again minimum zs (len ∙ sym (powers_length exact PowerOutputMaximum periods ms zs h.0)) h.1)) h.0)
+
+-- ---- rows
+
+abbrev AreSome : ℕ → List Value → List Value → Type 0
+AreSome most vs rows = (1 ≤ length vs) × (length vs ≤ most) × (vs ≡ rows)
+
+rows-exactly : (field : Field) (most : ℕ) (ms : Pairs) → Exactly (rows_at field most ms) (λ rows. Holds entries_in field ms (λ vs. AreSome most vs rows))
+unfolding rows_at
+rows-exactly field most ms =
+    let few = λ (rows : List Value). refused_if (nat_lt most (length rows)) 7 (whole field) rows in
+    found-exactly entries_in field ms (λ vs. refused_if (length vs == 0) 5 (whole field) vs >>= few) (AreSome most)
+    (λ vs. told (guarded (length vs == 0) 5 (whole field) vs few (λ rows. (nat_lt most (length vs) ≡ false) × (vs ≡ rows)) (λ _. refused-exactly (nat_lt most (length vs)) 7 (whole field) vs)) (AreSome most vs)
+    (λ rows w. (some_whole (length vs) w.0, ltb-false _ _ w.1.0, w.1.1)) (λ rows w. (not_zero_again (length vs) w.0, (le-ltb most (length vs) w.1, w.2))))
+
+each_row-exactly : {A : Type 0} (field : Field) (most : ℕ) (ms : Pairs) (read : List A → Value → Result A Refusal) (R : A → Value → Type 0) (T : List A → A → Type 0)
+    → ((front : List A) (v : Value) → Exactly (read front v) (λ z. R z v × T front z))
+    → Exactly (rows_at field most ms >>= λ vs. each_at read [] vs) (λ zs. Holds entries_in field ms (λ vs. ((1 ≤ length vs) × (length vs ≤ most) × AllZip (λ w z. R z w) vs zs) × Each T [] zs))
+each_row-exactly field most ms read R T h =
+    read-exactly entries_in field ms (AreSome most) (rows-exactly field most ms) (λ vs. each_at read [] vs) (λ vs zs. AllZip (λ w z. R z w) vs zs × Each T [] zs) (each-exactly read (λ w z. R z w) T h)
+    (λ vs zs. ((1 ≤ length vs) × (length vs ≤ most) × AllZip (λ w z. R z w) vs zs) × Each T [] zs)
+    (λ vs rows zs t k. ((t.0, t.1, subst (λ (xs : List Value). AllZip (λ w z. R z w) xs zs) (sym t.2) k.0), k.1)) (λ vs zs q. (vs, ((q.0.0, q.0.1, refl), (q.0.2, q.1))))
+
+start_row-exactly : (exact : Bool) (front : List StartRow) (v : Value) → Exactly (start_row exact front v) (λ row. IsStartRowOf exact row v)
+unfolding start_row
+start_row-exactly exact front v =
+    let make : ℕ → ℤ → StartRow = λ lag cost. record { lag = lag; cost = cost } in
+    let lag_place = next_entry StartupLag front in
+    let cost_place = next_entry StartupCost front in
+    wanted-exactly 2 (next_entry Startup front) (pairs_in v)
+    (λ ms. (field_at lag_place ms >>= time_at exact lag_place) >>= λ lag. (field_at cost_place ms >>= cost_at exact cost_place) >>= λ cost. Ok (make lag cost))
+    (λ ms row. Has StartupLag ms (IsTimeOf exact row.lag) × Has StartupCost ms (IsCostOf exact row.cost))
+    (λ ms.
+    let parts = two-exactly (field-exactly lag_place ms (time_at exact lag_place) (λ w lag. IsTimeOf exact lag w) (time-exactly exact lag_place))
+    (λ lag _. field-exactly cost_place ms (cost_at exact cost_place) (λ w cost. IsCostOf exact cost w) (cost-exactly exact cost_place)) make in
+    told parts (λ row. Has StartupLag ms (IsTimeOf exact row.lag) × Has StartupCost ms (IsCostOf exact row.cost))
+    (λ row w. subst (λ (x : StartRow). Has StartupLag ms (IsTimeOf exact x.lag) × Has StartupCost ms (IsCostOf exact x.cost)) w.4 (w.2, w.3)) (λ row h. (row.lag, row.cost, h.0, h.1, refl)))
+
+abbrev HasPoint : Bool → Point → Pairs → Type 0
+HasPoint exact p ms = Has PiecewiseProductionMw ms (IsPowerOf exact p.mw) × Has PiecewiseProductionCost ms (IsCostOf exact p.cost)
+
+point_row-exactly : (exact : Bool) (front : List Point) (v : Value) → Exactly (point_row exact front v) (λ p. IsPointOf exact p v × Above_last front p)
+unfolding point_row
+point_row-exactly exact front v =
+    let make : ℤ → ℤ → Point = λ mw cost. record { mw = mw; cost = cost } in
+    let mw_place = next_entry PiecewiseProductionMw front in
+    let cost_place = next_entry PiecewiseProductionCost front in
+    let mw_key = key_of PiecewiseProductionMw in
+    let row = wanted-exactly 2 (next_entry PiecewiseProduction front) (pairs_in v)
+    (λ ms. (field_at mw_place ms >>= power_from exact mw_place (last_output front)) >>= λ mw. (field_at cost_place ms >>= cost_at exact cost_place) >>= λ cost. Ok (make mw cost))
+    (λ ms p. HasPoint exact p ms × Above_last front p)
+    (λ ms.
+    let parts = two-exactly (field-exactly mw_place ms (power_from exact mw_place (last_output front)) (λ w mw. IsPowerOf exact mw w × (last_output front ≤ℤ mw)) (power_from-exactly exact mw_place (last_output front)))
+    (λ mw _. field-exactly cost_place ms (cost_at exact cost_place) (λ w cost. IsCostOf exact cost w) (cost-exactly exact cost_place)) make in
+    told parts (λ p. HasPoint exact p ms × Above_last front p)
+    (λ p w. let mw = some_split (IsPowerOf exact w.0) (field_of mw_key ms) w.2 in subst (λ (x : Point). HasPoint exact x ms × Above_last front x) w.4 ((mw.0, w.3), mw.1))
+    (λ p h. (p.mw, p.cost, some_map (IsPowerOf exact p.mw) (λ x. IsPowerOf exact p.mw x × (last_output front ≤ℤ p.mw)) (field_of mw_key ms) (λ x is. (is, h.1)) h.0.0, h.0.1, refl))) in
+    told row (λ p. IsPointOf exact p v × Above_last front p)
+    (λ p w. some_split (HasPoint exact p) (pairs_in v) w) (λ p h. some_map (HasPoint exact p) (λ ms. HasPoint exact p ms × Above_last front p) (pairs_in v) (λ ms is. (is, h.1)) h.0)
+
+point_power : (exact : Bool) (v : Value) (p : Point) → IsPointOf exact p v → IsPower p.mw
+point_power exact v p h =
+    let a = some_is (HasPoint exact p) (pairs_in v) h in
+    let b = some_is (IsPowerOf exact p.mw) (field_of (key_of PiecewiseProductionMw) a.0) a.2.0 in
+    (some_is (λ d. (IsTrue exact → is_rounded d ≡ false) × ((scaled d ≡ p.mw) × IsPower p.mw)) (number_in b.0) b.2).2.1.1
+
+-- ---- the rows of a unit
+
+pub startup-exactly : (exact : Bool) (ms : Pairs) → Exactly (startup_at exact ms) (λ rows. Has Startup ms (AreRowsOf MAX_START_ROWS (IsStartRowOf exact) rows))
+unfolding startup_at
+startup-exactly exact ms =
+    let Are = λ (rows : List StartRow) (vs : List Value). (1 ≤ length vs) × (length vs ≤ MAX_START_ROWS) × AllZip (λ w row. IsStartRowOf exact row w) vs rows in
+    told (each_row-exactly Startup MAX_START_ROWS ms (start_row exact) (IsStartRowOf exact) Anything
+    (λ front v. told (start_row-exactly exact front v) (λ row. IsStartRowOf exact row v × Unit {0}) (λ row is. (is, tt)) (λ row is. is.0)))
+    (λ rows. Has Startup ms (AreRowsOf MAX_START_ROWS (IsStartRowOf exact) rows))
+    (λ rows w. (holds_split entries_in Startup ms (Are rows) w).0)
+    (λ rows h. holds_map entries_in Startup ms (Are rows) (λ vs. Are rows vs × Each Anything [] rows) (λ vs p. (p, any_each [] rows)) h)
+
+pub points-exactly : (exact : Bool) (ms : Pairs) → Exactly (points_at exact ms) (λ ps. Has PiecewiseProduction ms (AreRowsOf MAX_POINTS (IsPointOf exact) ps) × IsRising ps)
+unfolding points_at
+points-exactly exact ms =
+    let Are = λ (ps : List Point) (vs : List Value). (1 ≤ length vs) × (length vs ≤ MAX_POINTS) × AllZip (λ w p. IsPointOf exact p w) vs ps in
+    told (each_row-exactly PiecewiseProduction MAX_POINTS ms (point_row exact) (IsPointOf exact) Above_last (point_row-exactly exact))
+    (λ ps. Has PiecewiseProduction ms (AreRowsOf MAX_POINTS (IsPointOf exact) ps) × IsRising ps)
+    (λ ps w. let h = holds_split entries_in PiecewiseProduction ms (Are ps) w in (h.0, rising_is ps h.1))
+    (λ ps h. holds_map entries_in PiecewiseProduction ms (Are ps) (λ vs. Are ps vs × Each Above_last [] ps) (λ vs p. (p, rising_again (λ w q. IsPointOf exact q w) (point_power exact) vs ps p.2 h.1)) h.0)
+
+-- ---- Units and the instance: what is read is as the value says, and what the value says is read.
 -- ---- a field that is one number
 
-flag_field_is : (exact : Bool) (field : Field) (ms : Pairs) (b : Bool) → flag_field exact field ms ≡ Ok b → Has field ms (IsFlagOf exact b)
-flag_field_is exact field ms b e = field_is (whole field) ms (flag_at exact (whole field)) (IsFlagOf exact b) b (λ v. flag_is exact (whole field) v b) e
+flag_field-exactly : (exact : Bool) (field : Field) (ms : Pairs) → Exactly (flag_field exact field ms) (λ b. Has field ms (IsFlagOf exact b))
+flag_field-exactly exact field ms = field-exactly (whole field) ms (flag_at exact (whole field)) (λ v b. IsFlagOf exact b v) (flag-exactly exact (whole field))
 
-flag_field_again : (exact : Bool) (field : Field) (ms : Pairs) (b : Bool) → Has field ms (IsFlagOf exact b) → flag_field exact field ms ≡ Ok b
-flag_field_again exact field ms b h = field_again (whole field) ms (flag_at exact (whole field)) (IsFlagOf exact b) b (λ v. flag_again exact (whole field) v b) h
+time_field-exactly : (exact : Bool) (field : Field) (ms : Pairs) → Exactly (time_field exact field ms) (λ t. Has field ms (IsTimeOf exact t))
+time_field-exactly exact field ms = field-exactly (whole field) ms (time_at exact (whole field)) (λ v t. IsTimeOf exact t v) (time-exactly exact (whole field))
 
-time_field_is : (exact : Bool) (field : Field) (ms : Pairs) (t : ℕ) → time_field exact field ms ≡ Ok t → Has field ms (IsTimeOf exact t)
-time_field_is exact field ms t e = field_is (whole field) ms (time_at exact (whole field)) (IsTimeOf exact t) t (λ v. time_is exact (whole field) v t) e
+output_field-exactly : (exact : Bool) (field : Field) (ms : Pairs) → Exactly (output_field exact field ms) (λ z. Has field ms (IsPowerOf exact z))
+output_field-exactly exact field ms = field-exactly (whole field) ms (power_at exact (whole field)) (λ v z. IsPowerOf exact z v) (power-exactly exact (whole field))
 
-time_field_again : (exact : Bool) (field : Field) (ms : Pairs) (t : ℕ) → Has field ms (IsTimeOf exact t) → time_field exact field ms ≡ Ok t
-time_field_again exact field ms t h = field_again (whole field) ms (time_at exact (whole field)) (IsTimeOf exact t) t (λ v. time_again exact (whole field) v t) h
-
-minimum_time_is : (exact : Bool) (field : Field) (ms : Pairs) (t : ℕ) → time_field exact field ms ≡ Ok t → Has field ms (IsMinimumTimeOf exact (max t 1))
-minimum_time_is exact field ms t e = field_is (whole field) ms (time_at exact (whole field)) (IsMinimumTimeOf exact (max t 1)) t (λ v r. (t, time_is exact (whole field) v t r, refl)) e
-
-abbrev Written : ℕ → Result ℕ Refusal → Type 0
-Written h read = (t : ℕ) × (read ≡ Ok t) × (h ≡ max t 1)
-
-written_at : (exact : Bool) (place : Place) (h : ℕ) (o : Option Value) → IsSomeAnd o (IsMinimumTimeOf exact h) → Written h (wanted 1 place o >>= time_at exact place)
-written_at exact place h None is = absurd is
-written_at exact place h (Some v) is = (is.0, time_again exact place v is.0 is.1, is.2)
-
-minimum_time_again : (exact : Bool) (field : Field) (ms : Pairs) (h : ℕ) → Has field ms (IsMinimumTimeOf exact h) → Written h (time_field exact field ms)
-minimum_time_again exact field ms h is = written_at exact (whole field) h (field_of (key_of field) ms) is
-
-output_field_is : (exact : Bool) (field : Field) (ms : Pairs) (z : ℤ) → output_field exact field ms ≡ Ok z → Has field ms (IsPowerOf exact z)
-output_field_is exact field ms z e = field_is (whole field) ms (power_at exact (whole field)) (IsPowerOf exact z) z (λ v. power_is exact (whole field) v z) e
-
-output_field_again : (exact : Bool) (field : Field) (ms : Pairs) (z : ℤ) → Has field ms (IsPowerOf exact z) → output_field exact field ms ≡ Ok z
-output_field_again exact field ms z h = field_again (whole field) ms (power_at exact (whole field)) (IsPowerOf exact z) z (λ v. power_again exact (whole field) v z) h
-
-power_field_is : (exact : Bool) (field : Field) (least : ℤ) (ms : Pairs) (z : ℤ) → power_field exact field least ms ≡ Ok z → Has field ms (λ v. IsPowerOf exact z v × (least ≤ℤ z))
-power_field_is exact field least ms z e =
-    field_is (whole field) ms (power_from exact (whole field) least) (λ v. IsPowerOf exact z v × (least ≤ℤ z)) z (λ v. power_from_is exact (whole field) least v z) e
-
-power_field_again : (exact : Bool) (field : Field) (least : ℤ) (ms : Pairs) (z : ℤ) → Has field ms (λ v. IsPowerOf exact z v × (least ≤ℤ z)) → power_field exact field least ms ≡ Ok z
-power_field_again exact field least ms z h =
-    field_again (whole field) ms (power_from exact (whole field) least) (λ v. IsPowerOf exact z v × (least ≤ℤ z)) z (λ v is. power_from_again exact (whole field) least v z is.0 is.1) h
-
-some_join : {A Q : Type 0} (P : A → Type 0) (o : Option A) → IsSomeAnd o P → Q → IsSomeAnd o (λ x. P x × Q)
-some_join P (Some x) h q = (h, q)
-some_join P None h q = h
+power_field-exactly : (exact : Bool) (field : Field) (least : ℤ) (ms : Pairs) → Exactly (power_field exact field least ms) (λ z. Has field ms (λ v. IsPowerOf exact z v × (least ≤ℤ z)))
+power_field-exactly exact field least ms =
+    field-exactly (whole field) ms (power_from exact (whole field) least) (λ v z. IsPowerOf exact z v × (least ≤ℤ z)) (power_from-exactly exact (whole field) least)
 
 -- ---- the parts of a thermal unit
 
-abbrev HasOutputs : Bool → Outputs → Pairs → Type 0
-HasOutputs exact x ms = Has MustRun ms (IsFlagOf exact x.must_run) × Has PowerOutputMinimum ms (IsLimitOf exact x.pmin) × Has PowerOutputMaximum ms (IsPowerOf exact x.pmax) × (x.pmin ≤ℤ x.pmax)
+abbrev pub HasOutputs : Bool → Outputs → Pairs → Type 0
+HasOutputs exact x ms = (Has MustRun ms (IsFlagOf exact x.must_run) × Has PowerOutputMinimum ms (IsLimitOf exact x.pmin) × Has PowerOutputMaximum ms (IsPowerOf exact x.pmax)) × (x.pmin ≤ℤ x.pmax)
 
-outputs_is : (exact : Bool) (ms : Pairs) (x : Outputs) → outputs_at exact ms ≡ Ok x → HasOutputs exact x ms
+outputs-exactly : (exact : Bool) (ms : Pairs) → Exactly (outputs_at exact ms) (λ x. HasOutputs exact x ms)
 unfolding outputs_at
-outputs_is exact ms x e =
-    let a = three_ok (flag_field exact MustRun ms) (power_field exact PowerOutputMinimum (pos 0) ms) (λ pmin. power_field exact PowerOutputMaximum pmin ms)
-    (λ must_run pmin pmax. record { must_run = must_run; pmin = pmin; pmax = pmax }) x e in
-    let top = some_split (IsPowerOf exact a.2) (field_of (key_of PowerOutputMaximum) ms) (power_field_is exact PowerOutputMaximum a.1 ms a.2 a.5) in
-    subst (λ (y : Outputs). HasOutputs exact y ms) a.6
-    (flag_field_is exact MustRun ms a.0 a.3, power_field_is exact PowerOutputMinimum (pos 0) ms a.1 a.4, top.0, top.1)
+outputs-exactly exact ms =
+    let make : Bool → ℤ → ℤ → Outputs = λ must_run pmin pmax. record { must_run = must_run; pmin = pmin; pmax = pmax } in
+    let maximum = field_of (key_of PowerOutputMaximum) ms in
+    let parts = three-exactly (flag_field-exactly exact MustRun ms) (λ _ _. power_field-exactly exact PowerOutputMinimum (pos 0) ms) (λ _ pmin _. power_field-exactly exact PowerOutputMaximum pmin ms) make in
+    told parts (λ x. HasOutputs exact x ms)
+    (λ x w. let top = some_split (IsPowerOf exact w.2.1) maximum w.2.3 in subst (λ (y : Outputs). HasOutputs exact y ms) w.2.4 ((w.1, w.2.2, top.0), top.1))
+    (λ x h. (x.must_run, h.0.0, (x.pmin, x.pmax, h.0.1, some_map (IsPowerOf exact x.pmax) (λ v. IsPowerOf exact x.pmax v × (x.pmin ≤ℤ x.pmax)) maximum (λ v is. (is, h.1)) h.0.2, refl)))
 
-outputs_again : (exact : Bool) (ms : Pairs) (x : Outputs) → HasOutputs exact x ms → outputs_at exact ms ≡ Ok x
-unfolding outputs_at
-outputs_again exact ms x h =
-    rw (
-      flag_field_again exact MustRun ms x.must_run h.0,
-      power_field_again exact PowerOutputMinimum (pos 0) ms x.pmin h.1,
-      power_field_again exact PowerOutputMaximum x.pmin ms x.pmax (some_join (IsPowerOf exact x.pmax) (field_of (key_of PowerOutputMaximum) ms) h.2 h.3),
-    ) refl
-
-abbrev HasRamps : Bool → Ramps → Pairs → Type 0
+abbrev pub HasRamps : Bool → Ramps → Pairs → Type 0
 HasRamps exact x ms = Has RampUpLimit ms (IsLimitOf exact x.ru) × Has RampDownLimit ms (IsLimitOf exact x.rd) × Has RampStartupLimit ms (IsLimitOf exact x.su) × Has RampShutdownLimit ms (IsLimitOf exact x.sd)
 
-ramps_is : (exact : Bool) (ms : Pairs) (x : Ramps) → ramps_at exact ms ≡ Ok x → HasRamps exact x ms
+ramps-exactly : (exact : Bool) (ms : Pairs) → Exactly (ramps_at exact ms) (λ x. HasRamps exact x ms)
 unfolding ramps_at
-ramps_is exact ms x e =
-    let a = four_ok (power_field exact RampUpLimit (pos 0) ms) (power_field exact RampDownLimit (pos 0) ms) (power_field exact RampStartupLimit (pos 0) ms) (power_field exact RampShutdownLimit (pos 0) ms)
-    (λ ru rd su sd. record { ru = ru; rd = rd; su = su; sd = sd }) x e in
-    subst (λ (y : Ramps). HasRamps exact y ms) a.8 (
-      power_field_is exact RampUpLimit (pos 0) ms a.0 a.4,
-      power_field_is exact RampDownLimit (pos 0) ms a.1 a.5,
-      power_field_is exact RampStartupLimit (pos 0) ms a.2 a.6,
-      power_field_is exact RampShutdownLimit (pos 0) ms a.3 a.7,
-    )
+ramps-exactly exact ms =
+    let make : ℤ → ℤ → ℤ → ℤ → Ramps = λ ru rd su sd. record { ru = ru; rd = rd; su = su; sd = sd } in
+    let limit = λ (field : Field). power_field-exactly exact field (pos 0) ms in
+    let parts = four-exactly (limit RampUpLimit) (limit RampDownLimit) (limit RampStartupLimit) (limit RampShutdownLimit) make in
+    told parts (λ x. HasRamps exact x ms)
+    (λ x w. subst (λ (y : Ramps). HasRamps exact y ms) w.2.2.4 (w.1, w.2.1, w.2.2.2, w.2.2.3)) (λ x h. (x.ru, h.0, (x.rd, h.1, (x.su, x.sd, h.2, h.3, refl))))
 
-ramps_again : (exact : Bool) (ms : Pairs) (x : Ramps) → HasRamps exact x ms → ramps_at exact ms ≡ Ok x
-unfolding ramps_at
-ramps_again exact ms x h =
-    rw (
-      power_field_again exact RampUpLimit (pos 0) ms x.ru h.0,
-      power_field_again exact RampDownLimit (pos 0) ms x.rd h.1,
-      power_field_again exact RampStartupLimit (pos 0) ms x.su h.2,
-      power_field_again exact RampShutdownLimit (pos 0) ms x.sd h.3,
-    ) refl
-
-abbrev HasTimes : Bool → Times → Pairs → Type 0
+abbrev pub HasTimes : Bool → Times → Pairs → Type 0
 HasTimes exact x ms = Has TimeUpMinimum ms (IsMinimumTimeOf exact x.up) × Has TimeDownMinimum ms (IsMinimumTimeOf exact x.down)
 
-times_is : (exact : Bool) (ms : Pairs) (x : Times) → times_at exact ms ≡ Ok x → HasTimes exact x ms
+-- a minimum time as it is written
+pub written_time : (exact : Bool) (h : ℕ) (o : Option Value) → IsSomeAnd o (IsMinimumTimeOf exact h) → (t : ℕ) × IsSomeAnd o (IsTimeOf exact t) × (h ≡ max t 1)
+written_time exact h None is = absurd is
+written_time exact h (Some v) is = is
+
+times-exactly : (exact : Bool) (ms : Pairs) → Exactly (times_at exact ms) (λ x. HasTimes exact x ms)
 unfolding times_at
-times_is exact ms x e =
-    let a = two_ok (time_field exact TimeUpMinimum ms) (time_field exact TimeDownMinimum ms) (λ up down. record { up = max up 1; down = max down 1 }) x e in
-    subst (λ (y : Times). HasTimes exact y ms) a.4 (minimum_time_is exact TimeUpMinimum ms a.0 a.2, minimum_time_is exact TimeDownMinimum ms a.1 a.3)
+times-exactly exact ms =
+    let make : ℕ → ℕ → Times = λ up down. record { up = max up 1; down = max down 1 } in
+    let parts = two-exactly (time_field-exactly exact TimeUpMinimum ms) (λ _ _. time_field-exactly exact TimeDownMinimum ms) make in
+    let read = λ (field : Field) (t : ℕ). some_map (IsTimeOf exact t) (IsMinimumTimeOf exact (max t 1)) (field_of (key_of field) ms) (λ v is. (t, is, refl)) in
+    told parts (λ x. HasTimes exact x ms)
+    (λ x w. subst (λ (y : Times). HasTimes exact y ms) w.4 (read TimeUpMinimum w.0 w.2, read TimeDownMinimum w.1 w.3))
+    (λ x h.
+    let up = written_time exact x.up (field_of (key_of TimeUpMinimum) ms) h.0 in
+    let down = written_time exact x.down (field_of (key_of TimeDownMinimum) ms) h.1 in
+    (up.0, down.0, up.1, down.1, λ i. record { up = sym up.2 i; down = sym down.2 i }))
 
-abbrev read_times : ℕ → ℕ → Result Times Refusal
-read_times a b = Ok (record { up = a; down = b })
-
-times_made : (a b : ℕ) (x : Times) → x.up ≡ a → x.down ≡ b → read_times a b ≡ Ok x
-times_made a b x p q = rw (← p, ← q) refl
-
-times_again : (exact : Bool) (ms : Pairs) (x : Times) → HasTimes exact x ms → times_at exact ms ≡ Ok x
-unfolding times_at
-times_again exact ms x h =
-    let up = minimum_time_again exact TimeUpMinimum ms x.up h.0 in
-    let down = minimum_time_again exact TimeDownMinimum ms x.down h.1 in
-    rw (up.1, down.1) (times_made (max up.0 1) (max down.0 1) x up.2 down.2)
-
-abbrev HasInitial : Bool → Initial → Pairs → Type 0
+abbrev pub HasInitial : Bool → Initial → Pairs → Type 0
 HasInitial exact x ms = Has PowerOutputT0 ms (IsPowerOf exact x.output) × Has UnitOnT0 ms (IsFlagOf exact x.on) × Has TimeUpT0 ms (IsTimeOf exact x.up) × Has TimeDownT0 ms (IsTimeOf exact x.down)
 
-initial_is : (exact : Bool) (ms : Pairs) (x : Initial) → initial_at exact ms ≡ Ok x → HasInitial exact x ms
+initial-exactly : (exact : Bool) (ms : Pairs) → Exactly (initial_at exact ms) (λ x. HasInitial exact x ms)
 unfolding initial_at
-initial_is exact ms x e =
-    let a = four_ok (output_field exact PowerOutputT0 ms) (flag_field exact UnitOnT0 ms) (time_field exact TimeUpT0 ms) (time_field exact TimeDownT0 ms)
-    (λ output on up down. record { output = output; on = on; up = up; down = down }) x e in
-    subst (λ (y : Initial). HasInitial exact y ms) a.8
-    (output_field_is exact PowerOutputT0 ms a.0 a.4, flag_field_is exact UnitOnT0 ms a.1 a.5, time_field_is exact TimeUpT0 ms a.2 a.6, time_field_is exact TimeDownT0 ms a.3 a.7)
-
-initial_again : (exact : Bool) (ms : Pairs) (x : Initial) → HasInitial exact x ms → initial_at exact ms ≡ Ok x
-unfolding initial_at
-initial_again exact ms x h =
-    rw (output_field_again exact PowerOutputT0 ms x.output h.0, flag_field_again exact UnitOnT0 ms x.on h.1, time_field_again exact TimeUpT0 ms x.up h.2, time_field_again exact TimeDownT0 ms x.down h.3) refl
+initial-exactly exact ms =
+    let make : ℤ → Bool → ℕ → ℕ → Initial = λ output on up down. record { output = output; on = on; up = up; down = down } in
+    let parts = four-exactly (output_field-exactly exact PowerOutputT0 ms) (flag_field-exactly exact UnitOnT0 ms) (time_field-exactly exact TimeUpT0 ms) (time_field-exactly exact TimeDownT0 ms) make in
+    told parts (λ x. HasInitial exact x ms)
+    (λ x w. subst (λ (y : Initial). HasInitial exact y ms) w.2.2.4 (w.1, w.2.1, w.2.2.2, w.2.2.3)) (λ x h. (x.output, h.0, (x.on, h.1, (x.up, x.down, h.2, h.3, refl))))
 
 -- ---- a thermal unit
 
-abbrev parts_read : Bool → List ℕ → Pairs → Result Thermal Refusal
-parts_read exact name ms = outputs_at exact ms >>= λ o. ramps_at exact ms >>= λ r. times_at exact ms >>= λ t. initial_at exact ms >>= λ i. startup_at exact ms >>= λ s. points_at exact ms >>= λ p. Ok (thermal_of name o r t i s p)
+abbrev HasStartup : Bool → List StartRow → Pairs → Type 0
+HasStartup exact rows ms = Has Startup ms (AreRowsOf MAX_START_ROWS (IsStartRowOf exact) rows)
 
-parts_is : (exact : Bool) (name : List ℕ) (ms : Pairs) (unit : Thermal) → parts_read exact name ms ≡ Ok unit → (unit.name ≡ name) × IsThermalOf exact unit ms
-parts_is exact name ms unit e =
-    let a = six_ok (outputs_at exact ms) (ramps_at exact ms) (times_at exact ms) (initial_at exact ms) (startup_at exact ms) (points_at exact ms) (thermal_of name) unit e in
-    let o = outputs_is exact ms a.0 a.6 in
-    let r = ramps_is exact ms a.1 a.7 in
-    let t = times_is exact ms a.2 a.8 in
-    let i = initial_is exact ms a.3 a.9 in
-    let p = points_is exact ms a.5 a.11 in
-    subst (λ (u : Thermal). (u.name ≡ name) × IsThermalOf exact u ms) a.12 (
-      refl,
-      record {
-        must_run = o.0;
-        minimum = o.1;
-        maximum = o.2;
-        range = o.3;
-        ramp_up = r.0;
-        ramp_down = r.1;
-        start_limit = r.2;
-        stop_limit = r.3;
-        time_up = t.0;
-        time_down = t.1;
-        initial_output = i.0;
-        initial_on = i.1;
-        initial_time_up = i.2;
-        initial_time_down = i.3;
-        startup = startup_is exact ms a.4 a.10;
-        points = p.0;
-        rising = p.1;
-      },
-    )
+abbrev HasPoints : Bool → List Point → Pairs → Type 0
+HasPoints exact points ms = Has PiecewiseProduction ms (AreRowsOf MAX_POINTS (IsPointOf exact) points) × IsRising points
 
-parts_again : (exact : Bool) (ms : Pairs) (unit : Thermal) → IsThermalOf exact unit ms → parts_read exact unit.name ms ≡ Ok unit
-parts_again exact ms unit h =
-    let o : Outputs = record { must_run = unit.must_run; pmin = unit.pmin; pmax = unit.pmax } in
-    let r : Ramps = record { ru = unit.ru; rd = unit.rd; su = unit.su; sd = unit.sd } in
-    let t : Times = record { up = unit.ut; down = unit.dt } in
-    let i : Initial = record { output = unit.p0; on = unit.on0; up = unit.ut0; down = unit.dt0 } in
-    rw (
-      outputs_again exact ms o (h.must_run, h.minimum, h.maximum, h.range),
-      ramps_again exact ms r (h.ramp_up, h.ramp_down, h.start_limit, h.stop_limit),
-      times_again exact ms t (h.time_up, h.time_down),
-      initial_again exact ms i (h.initial_output, h.initial_on, h.initial_time_up, h.initial_time_down),
-      startup_again exact ms unit.startup h.startup,
-      points_again exact ms unit.points h.points h.rising,
-    ) refl
+-- what is read of a unit, part after part
+pub record HasParts (exact : Bool) (unit : Thermal) (ms : Pairs) : Type 0 where
+  pub outputs : HasOutputs exact (record { must_run = unit.must_run; pmin = unit.pmin; pmax = unit.pmax }) ms
+  pub ramps : HasRamps exact (record { ru = unit.ru; rd = unit.rd; su = unit.su; sd = unit.sd }) ms
+  pub times : HasTimes exact (record { up = unit.ut; down = unit.dt }) ms
+  pub initial : HasInitial exact (record { output = unit.p0; on = unit.on0; up = unit.ut0; down = unit.dt0 }) ms
+  pub startup : HasStartup exact unit.startup ms
+  pub points : HasPoints exact unit.points ms
 
-abbrev IsThermalMember : Bool → List ℕ × Value → Thermal → Type 0
-IsThermalMember exact m unit = (unit.name ≡ m.0) × IsObject m.1 (IsThermalOf exact unit)
+pub parts_of : (exact : Bool) (unit : Thermal) (ms : Pairs) → IsThermalOf exact unit ms → HasParts exact unit ms
+parts_of exact unit ms h = record {
+  outputs = ((h.must_run, h.minimum, h.maximum), h.range);
+  ramps = (h.ramp_up, h.ramp_down, h.start_limit, h.stop_limit);
+  times = (h.time_up, h.time_down);
+  initial = (h.initial_output, h.initial_on, h.initial_time_up, h.initial_time_down);
+  startup = h.startup;
+  points = (h.points, h.rising);
+}
 
-thermal_member_is : (exact : Bool) (front : List Thermal) (m : List ℕ × Value) (unit : Thermal) → thermal_member exact front m ≡ Ok unit → IsThermalMember exact m unit
-unfolding thermal_at
-thermal_member_is exact front m unit e =
-    let a = bind_ok (object_at (whole NoField) m.1) (parts_read exact m.0) unit (in_unit_ok 1 m.0 (thermal_at exact m.0 m.1) unit e) in
-    let p = parts_is exact m.0 a.0 unit a.2 in
-    (p.0, some_and (IsThermalOf exact unit) (pairs_in m.1) a.0 (wanted_ok 2 (whole NoField) (pairs_in m.1) a.0 a.1) p.1)
+pub from_parts : (exact : Bool) (unit : Thermal) (ms : Pairs) → HasParts exact unit ms → IsThermalOf exact unit ms
+from_parts exact unit ms p = record {
+  must_run = p.outputs.0.0;
+  minimum = p.outputs.0.1;
+  maximum = p.outputs.0.2;
+  range = p.outputs.1;
+  ramp_up = p.ramps.0;
+  ramp_down = p.ramps.1;
+  start_limit = p.ramps.2;
+  stop_limit = p.ramps.3;
+  time_up = p.times.0;
+  time_down = p.times.1;
+  initial_output = p.initial.0;
+  initial_on = p.initial.1;
+  initial_time_up = p.initial.2;
+  initial_time_down = p.initial.3;
+  startup = p.startup;
+  points = p.points.0;
+  rising = p.points.1;
+}
 
-thermal_member_again : (exact : Bool) (front : List Thermal) (m : List ℕ × Value) (unit : Thermal) → IsThermalMember exact m unit → thermal_member exact front m ≡ Ok unit
-unfolding thermal_at
-thermal_member_again exact front m unit h =
-    in_unit_again 1 m.0 (thermal_at exact m.0 m.1) unit
-    (wanted_again 2 (whole NoField) (pairs_in m.1) (parts_read exact m.0) (IsThermalOf exact unit) unit
-    (λ ms is. subst (λ (name : List ℕ). parts_read exact name ms ≡ Ok unit) h.0 (parts_again exact ms unit is)) h.1)
+-- an object that is a unit, under its name
+named-exactly : {A : Type 0} (name : A → List ℕ) (IsUnit : A → Pairs → Type 0) (kind : ℕ) (m : List ℕ × Value) (read : Pairs → Result A Refusal)
+    → ((ms : Pairs) → Exactly (read ms) (λ unit. IsUnit unit ms × (name unit ≡ m.0)))
+    → Exactly (in_unit kind m.0 (object_at (whole NoField) m.1 >>= read)) (λ unit. (name unit ≡ m.0) × IsObject m.1 (IsUnit unit))
+named-exactly {A} name IsUnit kind m read h =
+    let object = wanted-exactly 2 (whole NoField) (pairs_in m.1) read (λ ms unit. IsUnit unit ms × (name unit ≡ m.0)) h in
+    in_unit-exactly kind m.0 (object_at (whole NoField) m.1 >>= read) (λ unit. (name unit ≡ m.0) × IsObject m.1 (IsUnit unit))
+    (told object (λ unit. (name unit ≡ m.0) × IsObject m.1 (IsUnit unit)) (λ unit w. let s = some_split (IsUnit unit) (pairs_in m.1) w in (s.1, s.0))
+    (λ unit w. some_map (IsUnit unit) (λ ms. IsUnit unit ms × (name unit ≡ m.0)) (pairs_in m.1) (λ ms is. (is, w.0)) w.1))
+
+thermal-exactly : (exact : Bool) (name : List ℕ) (ms : Pairs)
+    → Exactly (outputs_at exact ms >>= λ o. ramps_at exact ms >>= λ r. times_at exact ms >>= λ t. initial_at exact ms >>= λ i. startup_at exact ms >>= λ s. points_at exact ms >>= λ p. Ok (thermal_of name o r t i s p))
+    (λ unit. IsThermalOf exact unit ms × (unit.name ≡ name))
+thermal-exactly exact name ms =
+    let Last = λ (o : Outputs) (r : Ramps) (unit : Thermal). (t : Times) × HasTimes exact t ms × ((i : Initial) × HasInitial exact i ms × ((s : List StartRow) × (p : List Point) × HasStartup exact s ms × HasPoints exact p ms × (thermal_of name o r t i s p ≡ unit))) in
+    let parts = more-exactly (outputs-exactly exact ms) (λ o. ramps_at exact ms >>= λ r. times_at exact ms >>= λ t. initial_at exact ms >>= λ i. startup_at exact ms >>= λ s. points_at exact ms >>= λ p. Ok (thermal_of name o r t i s p))
+    (λ o unit. (r : Ramps) × HasRamps exact r ms × Last o r unit)
+    (λ o _. more-exactly (ramps-exactly exact ms) (λ r. times_at exact ms >>= λ t. initial_at exact ms >>= λ i. startup_at exact ms >>= λ s. points_at exact ms >>= λ p. Ok (thermal_of name o r t i s p))
+    (Last o) (λ r _. four-exactly (times-exactly exact ms) (initial-exactly exact ms) (startup-exactly exact ms) (points-exactly exact ms) (thermal_of name o r))) in
+    told parts (λ unit. IsThermalOf exact unit ms × (unit.name ≡ name))
+    (λ unit w.
+    let last = w.2.2.2.2 in
+    subst (λ (u : Thermal). IsThermalOf exact u ms × (u.name ≡ name)) last.4
+    (from_parts exact (thermal_of name w.0 w.2.0 w.2.2.0 w.2.2.2.0 last.0 last.1) ms (record { outputs = w.1; ramps = w.2.1; times = w.2.2.1; initial = w.2.2.2.1; startup = last.2; points = last.3 }), refl))
+    (λ unit w.
+    let p = parts_of exact unit ms w.0 in
+    (_, p.outputs, (_, p.ramps, (_, p.times, (_, p.initial, (unit.startup, unit.points, p.startup, p.points, λ i. record unit { name = sym w.1 i }))))))
 
 -- ---- a renewable unit
 
-abbrev limits_read : Bool → ℕ → List ℕ → Pairs → Result Renewable Refusal
-limits_read exact periods name ms = powers_at exact PowerOutputMinimum periods ms >>= λ low. maxima_at exact periods low ms >>= λ high. Ok (record { name = name; minimum = low; maximum = high })
-
-limits_is : (exact : Bool) (periods : ℕ) (name : List ℕ) (ms : Pairs) (unit : Renewable) → limits_read exact periods name ms ≡ Ok unit → (unit.name ≡ name) × IsRenewableOf exact periods unit ms
-limits_is exact periods name ms unit e =
-    let a = bind_ok (powers_at exact PowerOutputMinimum periods ms) (λ low. maxima_at exact periods low ms >>= λ high. Ok (record { name = name; minimum = low; maximum = high })) unit e in
-    let mk : List ℤ → Renewable = λ high. record { name = name; minimum = a.0; maximum = high } in
-    let b = last_ok (maxima_at exact periods a.0 ms) mk unit a.2 in
-    let low = powers_is exact PowerOutputMinimum periods ms a.0 a.1 in
-    let high = maxima_is exact periods a.0 ms b.0 (powers_again exact PowerOutputMinimum periods ms a.0 low).1 b.1 in
-    subst (λ (u : Renewable). (u.name ≡ name) × IsRenewableOf exact periods u ms) b.2 (refl, record { minimum = low; maximum = high.0; range = high.1 })
-
-limits_again : (exact : Bool) (periods : ℕ) (ms : Pairs) (unit : Renewable) → IsRenewableOf exact periods unit ms → limits_read exact periods unit.name ms ≡ Ok unit
-limits_again exact periods ms unit h =
-    let low = powers_again exact PowerOutputMinimum periods ms unit.minimum h.minimum in
-    rw (low.0, maxima_again exact periods unit.minimum ms unit.maximum low.1 h.maximum h.range) refl
-
-abbrev IsRenewableMember : Bool → ℕ → List ℕ × Value → Renewable → Type 0
-IsRenewableMember exact periods m unit = (unit.name ≡ m.0) × IsObject m.1 (IsRenewableOf exact periods unit)
-
-renewable_member_is : (exact : Bool) (periods : ℕ) (front : List Renewable) (m : List ℕ × Value) (unit : Renewable) → renewable_member exact periods front m ≡ Ok unit → IsRenewableMember exact periods m unit
-unfolding renewable_at
-renewable_member_is exact periods front m unit e =
-    let a = bind_ok (object_at (whole NoField) m.1) (limits_read exact periods m.0) unit (in_unit_ok 2 m.0 (renewable_at exact periods m.0 m.1) unit e) in
-    let p = limits_is exact periods m.0 a.0 unit a.2 in
-    (p.0, some_and (IsRenewableOf exact periods unit) (pairs_in m.1) a.0 (wanted_ok 2 (whole NoField) (pairs_in m.1) a.0 a.1) p.1)
-
-renewable_member_again : (exact : Bool) (periods : ℕ) (front : List Renewable) (m : List ℕ × Value) (unit : Renewable) → IsRenewableMember exact periods m unit → renewable_member exact periods front m ≡ Ok unit
-unfolding renewable_at
-renewable_member_again exact periods front m unit h =
-    in_unit_again 2 m.0 (renewable_at exact periods m.0 m.1) unit
-    (wanted_again 2 (whole NoField) (pairs_in m.1) (limits_read exact periods m.0) (IsRenewableOf exact periods unit) unit
-    (λ ms is. subst (λ (name : List ℕ). limits_read exact periods name ms ≡ Ok unit) h.0 (limits_again exact periods ms unit is)) h.1)
+renewable-exactly : (exact : Bool) (periods : ℕ) (name : List ℕ) (ms : Pairs)
+    → Exactly (powers_at exact PowerOutputMinimum periods ms >>= λ low. maxima_at exact periods low ms >>= λ high. Ok (record { name = name; minimum = low; maximum = high })) (λ unit. IsRenewableOf exact periods unit ms × (unit.name ≡ name))
+renewable-exactly exact periods name ms =
+    let make : List ℤ → List ℤ → Renewable = λ low high. record { name = name; minimum = low; maximum = high } in
+    let parts = two-exactly (powers-exactly exact PowerOutputMinimum periods ms) (λ low p. maxima-exactly exact periods low ms p.1) make in
+    told parts (λ unit. IsRenewableOf exact periods unit ms × (unit.name ≡ name))
+    (λ unit w. subst (λ (u : Renewable). IsRenewableOf exact periods u ms × (u.name ≡ name)) w.4 (record { minimum = w.2.0; maximum = w.3.0; range = w.3.1 }, refl))
+    (λ unit w.
+    (unit.minimum, unit.maximum, (w.0.minimum, powers_length exact PowerOutputMinimum periods ms unit.minimum w.0.minimum), (w.0.maximum, w.0.range), λ i. record unit { name = sym w.1 i }))
 
 -- ---- the units of a field
 
-units_is : (field : Field) (ms : Pairs) (P : Pairs → Type 0) (us : Pairs) → P us → units_at field ms ≡ Ok us → Has field ms (λ v. IsObject v (λ xs. (length xs ≤ MAX_UNITS) × P xs))
+are_units-exactly : {A : Type 0} (name : A → List ℕ) (IsUnit : A → Pairs → Type 0) (field : Field) (ms : Pairs) (read : List A → List ℕ × Value → Result A FieldRefusal)
+    → ((front : List A) (m : List ℕ × Value) → Exactly (read front m) (λ unit. (name unit ≡ m.0) × IsObject m.1 (IsUnit unit)))
+    → Exactly (outside (units_at field ms) >>= λ us. each_at read [] us) (λ units. Has field ms (AreUnitsOf name IsUnit units))
 unfolding units_at
-units_is field ms P us p e =
-    field_is (whole field) ms (λ v. object_at (whole field) v >>= λ xs. refused_if (nat_lt MAX_UNITS (length xs)) 7 (whole field) xs) (λ v. IsObject v (λ xs. (length xs ≤ MAX_UNITS) × P xs)) us
-    (λ v. wanted_is 2 (whole field) (pairs_in v) (λ xs. refused_if (nat_lt MAX_UNITS (length xs)) 7 (whole field) xs) (λ xs. (length xs ≤ MAX_UNITS) × P xs) us
-    (λ xs read. let r = refused_ok (nat_lt MAX_UNITS (length xs)) 7 (whole field) xs us read in (ltb-false _ _ r.0, subst P (sym r.1) p)))
-    e
+are_units-exactly {A} name IsUnit field ms read h =
+    let R = λ (m : List ℕ × Value) (unit : A). (name unit ≡ m.0) × IsObject m.1 (IsUnit unit) in
+    let Few = λ (xs us : Pairs). (length xs ≤ MAX_UNITS) × (xs ≡ us) in
+    let found = found-exactly pairs_in field ms (λ xs. refused_if (nat_lt MAX_UNITS (length xs)) 7 (whole field) xs) Few
+    (λ xs. told (refused-exactly (nat_lt MAX_UNITS (length xs)) 7 (whole field) xs) (Few xs) (λ us w. (ltb-false _ _ w.0, w.1)) (λ us w. (le-ltb MAX_UNITS (length xs) w.0, w.1))) in
+    read-exactly pairs_in field ms Few (in_unit-exactly 0 [] (units_at field ms) (λ us. Holds pairs_in field ms (λ xs. Few xs us)) found) (λ us. each_at read [] us) (λ us units. AllZip R us units × Each Anything [] units)
+    (each-exactly read R Anything (λ front m. told (h front m) (λ unit. R m unit × Unit {0}) (λ unit is. (is, tt)) (λ unit is. is.0)))
+    (λ xs units. (length xs ≤ MAX_UNITS) × AllZip R xs units)
+    (λ xs us units t k. (t.0, subst (λ (ys : Pairs). AllZip R ys units) (sym t.1) k.0)) (λ xs units q. (xs, ((q.0, refl), (q.1, any_each [] units))))
 
-abbrev FoundUnits : (Pairs → Type 0) → Result Pairs Refusal → Type 0
-FoundUnits P read = (us : Pairs) × (read ≡ Ok us) × P us
+thermal_units-exactly : (exact : Bool) (ms : Pairs) → Exactly (thermal_units_at exact ms) (λ units. Has ThermalGenerators ms (AreUnitsOf (λ (u : Thermal). u.name) (IsThermalOf exact) units))
+unfolding thermal_units_at thermal_at
+thermal_units-exactly exact ms =
+    are_units-exactly (λ (u : Thermal). u.name) (IsThermalOf exact) ThermalGenerators ms (thermal_member exact) (λ front m. named-exactly (λ (u : Thermal). u.name) (IsThermalOf exact) 1 m _ (thermal-exactly exact m.0))
 
-units_in : (field : Field) (P : Pairs → Type 0) (o : Option Pairs) → IsSomeAnd o (λ xs. (length xs ≤ MAX_UNITS) × P xs) → FoundUnits P (wanted 2 (whole field) o >>= λ xs. refused_if (nat_lt MAX_UNITS (length xs)) 7 (whole field) xs)
-units_in field P None h = absurd h
-units_in field P (Some xs) h = (xs, rw (le-ltb MAX_UNITS (length xs) h.0) refl, h.1)
-
-units_found : (field : Field) (P : Pairs → Type 0) (o : Option Value) → IsSomeAnd o (λ v. IsObject v (λ xs. (length xs ≤ MAX_UNITS) × P xs))
-    → FoundUnits P (wanted 1 (whole field) o >>= λ v. object_at (whole field) v >>= λ xs. refused_if (nat_lt MAX_UNITS (length xs)) 7 (whole field) xs)
-units_found field P None h = absurd h
-units_found field P (Some v) h = units_in field P (pairs_in v) h
-
-units_again : (field : Field) (ms : Pairs) (P : Pairs → Type 0) → Has field ms (λ v. IsObject v (λ xs. (length xs ≤ MAX_UNITS) × P xs)) → FoundUnits P (units_at field ms)
-unfolding units_at
-units_again field ms P h = units_found field P (field_of (key_of field) ms) h
-
-thermal_units_is : (exact : Bool) (ms : Pairs) (units : List Thermal) → thermal_units_at exact ms ≡ Ok units → Has ThermalGenerators ms (AreUnitsOf (λ (u : Thermal). u.name) (IsThermalOf exact) units)
-unfolding thermal_units_at
-thermal_units_is exact ms units e =
-    let a = bind_ok (outside (units_at ThermalGenerators ms)) (λ us. each_at (thermal_member exact) [] us) units e in
-    units_is ThermalGenerators ms (λ xs. AllZip (IsThermalMember exact) xs units) a.0
-    (reads_zip (thermal_member exact) (IsThermalMember exact) (thermal_member_is exact) [] a.0 units (each_is (thermal_member exact) a.0 units a.2))
-    (in_unit_ok 0 [] (units_at ThermalGenerators ms) a.0 a.1)
-
-thermal_units_again : (exact : Bool) (ms : Pairs) (units : List Thermal) → Has ThermalGenerators ms (AreUnitsOf (λ (u : Thermal). u.name) (IsThermalOf exact) units) → thermal_units_at exact ms ≡ Ok units
-unfolding thermal_units_at
-thermal_units_again exact ms units h =
-    let a = units_again ThermalGenerators ms (λ xs. AllZip (IsThermalMember exact) xs units) h in
-    rw (
-      in_unit_again 0 [] (units_at ThermalGenerators ms) a.0 a.1,
-      each_again (thermal_member exact) a.0 units (zip_reads (thermal_member exact) (IsThermalMember exact) (thermal_member_again exact) [] a.0 units a.2),
-    ) refl
-
-renewable_units_is : (exact : Bool) (periods : ℕ) (ms : Pairs) (units : List Renewable) → renewable_units_at exact periods ms ≡ Ok units → Has RenewableGenerators ms (AreUnitsOf (λ (u : Renewable). u.name) (IsRenewableOf exact periods) units)
-unfolding renewable_units_at
-renewable_units_is exact periods ms units e =
-    let a = bind_ok (outside (units_at RenewableGenerators ms)) (λ us. each_at (renewable_member exact periods) [] us) units e in
-    units_is RenewableGenerators ms (λ xs. AllZip (IsRenewableMember exact periods) xs units) a.0
-    (reads_zip (renewable_member exact periods) (IsRenewableMember exact periods) (renewable_member_is exact periods) [] a.0 units (each_is (renewable_member exact periods) a.0 units a.2))
-    (in_unit_ok 0 [] (units_at RenewableGenerators ms) a.0 a.1)
-
-renewable_units_again : (exact : Bool) (periods : ℕ) (ms : Pairs) (units : List Renewable) → Has RenewableGenerators ms (AreUnitsOf (λ (u : Renewable). u.name) (IsRenewableOf exact periods) units) → renewable_units_at exact periods ms ≡ Ok units
-unfolding renewable_units_at
-renewable_units_again exact periods ms units h =
-    let a = units_again RenewableGenerators ms (λ xs. AllZip (IsRenewableMember exact periods) xs units) h in
-    rw (
-      in_unit_again 0 [] (units_at RenewableGenerators ms) a.0 a.1,
-      each_again (renewable_member exact periods) a.0 units (zip_reads (renewable_member exact periods) (IsRenewableMember exact periods) (renewable_member_again exact periods) [] a.0 units a.2),
-    ) refl
+renewable_units-exactly : (exact : Bool) (periods : ℕ) (ms : Pairs) → Exactly (renewable_units_at exact periods ms) (λ units. Has RenewableGenerators ms (AreUnitsOf (λ (u : Renewable). u.name) (IsRenewableOf exact periods) units))
+unfolding renewable_units_at renewable_at
+renewable_units-exactly exact periods ms =
+    are_units-exactly (λ (u : Renewable). u.name) (IsRenewableOf exact periods) RenewableGenerators ms (renewable_member exact periods)
+    (λ front m. named-exactly (λ (u : Renewable). u.name) (IsRenewableOf exact periods) 2 m _ (renewable-exactly exact periods m.0))
 
 -- ---- the instance
 
 abbrev HasTotals : Bool → Totals → Pairs → Type 0
 HasTotals exact x ms = Has TimePeriods ms (IsPeriodsOf exact x.periods) × Has Demand ms (IsPowersOf exact x.periods x.demand) × Has Reserves ms (IsPowersOf exact x.periods x.reserves)
 
-totals_is : (exact : Bool) (ms : Pairs) (x : Totals) → totals_at exact ms ≡ Ok x → HasTotals exact x ms
+totals-exactly : (exact : Bool) (ms : Pairs) → Exactly (totals_at exact ms) (λ x. HasTotals exact x ms)
 unfolding totals_at
-totals_is exact ms x e =
-    let a = first_ok (field_at (whole TimePeriods) ms >>= periods_at exact (whole TimePeriods)) (λ t. powers_at exact Demand t ms) (λ t. powers_at exact Reserves t ms)
-    (λ periods demand reserves. record { periods = periods; demand = demand; reserves = reserves }) x e in
-    subst (λ (y : Totals). HasTotals exact y ms) a.6 (
-      field_is (whole TimePeriods) ms (periods_at exact (whole TimePeriods)) (IsPeriodsOf exact a.0) a.0 (λ v. periods_is exact (whole TimePeriods) v a.0) a.3,
-      powers_is exact Demand a.0 ms a.1 a.4,
-      powers_is exact Reserves a.0 ms a.2 a.5,
-    )
-
-totals_again : (exact : Bool) (ms : Pairs) (x : Totals) → HasTotals exact x ms → totals_at exact ms ≡ Ok x
-unfolding totals_at
-totals_again exact ms x h =
-    rw (
-      field_again (whole TimePeriods) ms (periods_at exact (whole TimePeriods)) (IsPeriodsOf exact x.periods) x.periods (λ v. periods_again exact (whole TimePeriods) v x.periods) h.0,
-      (powers_again exact Demand x.periods ms x.demand h.1).0,
-      (powers_again exact Reserves x.periods ms x.reserves h.2).0,
-    ) refl
-
-abbrev whole_made : Totals → List Thermal → List Renewable → Instance
-whole_made totals thermal renewable = record { periods = totals.periods; demand = totals.demand; reserves = totals.reserves; thermal = thermal; renewable = renewable }
+totals-exactly exact ms =
+    let make : ℕ → List ℤ → List ℤ → Totals = λ periods demand reserves. record { periods = periods; demand = demand; reserves = reserves } in
+    let powers = λ (field : Field) (t : ℕ). told (powers-exactly exact field t ms) (λ zs. Has field ms (IsPowersOf exact t zs)) (λ zs w. w.0) (λ zs h. (h, powers_length exact field t ms zs h)) in
+    let parts = three-exactly (field-exactly (whole TimePeriods) ms (periods_at exact (whole TimePeriods)) (λ v t. IsPeriodsOf exact t v) (periods-exactly exact (whole TimePeriods))) (λ t _. powers Demand t) (λ t _ _. powers Reserves t) make in
+    told parts (λ x. HasTotals exact x ms)
+    (λ x w. subst (λ (y : Totals). HasTotals exact y ms) w.2.4 (w.1, w.2.2, w.2.3)) (λ x h. (x.periods, h.0, (x.demand, x.reserves, h.1, h.2, refl)))
 
 abbrev fields_read : Bool → Pairs → Result Instance FieldRefusal
-fields_read exact ms = outside (totals_at exact ms) >>= λ totals. thermal_units_at exact ms >>= λ thermal. renewable_units_at exact totals.periods ms >>= λ renewable. Ok (whole_made totals thermal renewable)
+fields_read exact ms = outside (totals_at exact ms) >>= λ totals. thermal_units_at exact ms >>= λ thermal. renewable_units_at exact totals.periods ms >>= λ renewable.
+    Ok (record { periods = totals.periods; demand = totals.demand; reserves = totals.reserves; thermal = thermal; renewable = renewable })
 
-fields_is : (exact : Bool) (ms : Pairs) (i : Instance) → fields_read exact ms ≡ Ok i → HasFields exact i ms
-fields_is exact ms i e =
-    let a = first_ok (outside (totals_at exact ms)) (λ totals. thermal_units_at exact ms) (λ totals. renewable_units_at exact totals.periods ms) whole_made i e in
-    let t = totals_is exact ms a.0 (in_unit_ok 0 [] (totals_at exact ms) a.0 a.3) in
-    subst (λ (x : Instance). HasFields exact x ms) a.6 (record {
-      periods = t.0;
-      demand = t.1;
-      reserves = t.2;
-      thermal = thermal_units_is exact ms a.1 a.4;
-      renewable = renewable_units_is exact a.0.periods ms a.2 a.5;
-    })
+fields-exactly : (exact : Bool) (ms : Pairs) → Exactly (fields_read exact ms) (λ i. HasFields exact i ms)
+fields-exactly exact ms =
+    let make : Totals → List Thermal → List Renewable → Instance = λ totals thermal renewable. record { periods = totals.periods; demand = totals.demand; reserves = totals.reserves; thermal = thermal; renewable = renewable } in
+    let parts = three-exactly (in_unit-exactly 0 [] (totals_at exact ms) (λ x. HasTotals exact x ms) (totals-exactly exact ms)) (λ _ _. thermal_units-exactly exact ms) (λ totals _ _. renewable_units-exactly exact totals.periods ms) make in
+    told parts (λ i. HasFields exact i ms)
+    (λ i w. subst (λ (x : Instance). HasFields exact x ms) w.2.4 (record { periods = w.1.0; demand = w.1.1; reserves = w.1.2; thermal = w.2.2; renewable = w.2.3 }))
+    (λ i h. (record { periods = i.periods; demand = i.demand; reserves = i.reserves }, (h.periods, h.demand, h.reserves), (i.thermal, i.renewable, h.thermal, h.renewable, refl)))
 
-fields_again : (exact : Bool) (ms : Pairs) (i : Instance) → HasFields exact i ms → fields_read exact ms ≡ Ok i
-fields_again exact ms i h =
-    let t : Totals = record { periods = i.periods; demand = i.demand; reserves = i.reserves } in
-    rw (
-      in_unit_again 0 [] (totals_at exact ms) t (totals_again exact ms t (h.periods, h.demand, h.reserves)),
-      thermal_units_again exact ms i.thermal h.thermal,
-      renewable_units_again exact i.periods ms i.renewable h.renewable,
-    ) refl
+instance-exactly : (exact : Bool) (v : Value) → Exactly (instance_at exact v) (λ i. IsInstanceOf exact v i)
+unfolding instance_at
+instance-exactly exact v = by_object (pairs_in v)
+  where
+    by_object : (o : Option Pairs) → Exactly (outside (wanted 2 (whole NoField) o) >>= fields_read exact) (λ i. IsSomeAnd o (HasFields exact i))
+    by_object (Some ms) = fields-exactly exact ms
+    by_object None = record { is = λ i e. absurd cc; again = λ i h. absurd h }
 
 -- What is read is the instance that the value stands for.
 pub instance_is : (exact : Bool) (v : Value) (i : Instance) → instance_at exact v ≡ Ok i → IsInstanceOf exact v i
-unfolding instance_at
-instance_is exact v i e =
-    let a = bind_ok (outside (object_at (whole NoField) v)) (fields_read exact) i e in
-    some_and (HasFields exact i) (pairs_in v) a.0 (wanted_ok 2 (whole NoField) (pairs_in v) a.0 (in_unit_ok 0 [] (object_at (whole NoField) v) a.0 a.1)) (fields_is exact a.0 i a.2)
+instance_is exact v = (instance-exactly exact v).is
 
 -- The instance that a value stands for is read.
 pub instance_again : (exact : Bool) (v : Value) (i : Instance) → IsInstanceOf exact v i → instance_at exact v ≡ Ok i
-unfolding instance_at
-instance_again exact v i h =
-    let a = some_is (HasFields exact i) (pairs_in v) h in
-    rw (a.1, fields_again exact a.0 i a.2) refl
+instance_again exact v = (instance-exactly exact v).again
 
 pub one_instance : (exact : Bool) (v : Value) (i j : Instance) → IsInstanceOf exact v i → IsInstanceOf exact v j → i ≡ j
 one_instance exact v i j h k = ok_is i j (sym (instance_again exact v i h) ∙ instance_again exact v j k)

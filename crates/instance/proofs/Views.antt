@@ -11,19 +11,19 @@ use Rattle.decimal_json.specs.declared.types.Json.TheFolds.{fold-roll-Json}
 use Rattle.decimal_json.specs.declared.types.Pair.{Pair}
 use Rattle.instance.specs.Fields.{entries_of, pairs_of}
 
-pub view-Array : (js : Vec Json) → view (json.Array js) ≡ array (items_of (map view js.items))
-view-Array js = ap view (sym (json.rolls-Array js)) ∙ fold-roll-Json Value (List ℕ × Value) view_step pair_step (Json-F.Array js)
+pub view_array : (js : Vec Json) → view (json.Array js) ≡ array (items_of (map view js.items))
+view_array js = ap view (sym (json.rolls-Array js)) ∙ fold-roll-Json Value (List ℕ × Value) view_step pair_step (Json-F.Array js)
 
-pub view-Object : (ps : Vec Pair) → view (json.Object ps) ≡ object (members_of (map pair_view ps.items))
-view-Object ps = ap view (sym (json.rolls-Object ps)) ∙ fold-roll-Json Value (List ℕ × Value) view_step pair_step (Json-F.Object ps)
+pub view_object : (ps : Vec Pair) → view (json.Object ps) ≡ object (members_of (map pair_view ps.items))
+view_object ps = ap view (sym (json.rolls-Object ps)) ∙ fold-roll-Json Value (List ℕ × Value) view_step pair_step (Json-F.Object ps)
 
-pub entries_of-items_of : (vs : List Value) → entries_of (items_of vs) ≡ vs
-entries_of-items_of [] = refl
-entries_of-items_of (v ∷ vs) = ap (λ (ws : List Value). v ∷ ws) (entries_of-items_of vs)
+pub entries_again : (vs : List Value) → entries_of (items_of vs) ≡ vs
+entries_again [] = refl
+entries_again (v ∷ vs) = ap (λ (ws : List Value). v ∷ ws) (entries_again vs)
 
-pub pairs_of-members_of : (ms : List (List ℕ × Value)) → pairs_of (members_of ms) ≡ ms
-pairs_of-members_of [] = refl
-pairs_of-members_of (m ∷ ms) = ap (λ (ns : List (List ℕ × Value)). m ∷ ns) (pairs_of-members_of ms)
+pub pairs_again : (ms : List (List ℕ × Value)) → pairs_of (members_of ms) ≡ ms
+pairs_again [] = refl
+pairs_again (m ∷ ms) = ap (λ (ns : List (List ℕ × Value)). m ∷ ns) (pairs_again ms)
 
-pub view-Number : (n : Number) → view (json.Number n) ≡ number (decimal_of n)
-view-Number n = ap view (sym (json.rolls-Number n)) ∙ fold-roll-Json Value (List ℕ × Value) view_step pair_step (Json-F.Number n)
+pub view_number : (n : Number) → view (json.Number n) ≡ number (decimal_of n)
+view_number n = ap view (sym (json.rolls-Number n)) ∙ fold-roll-Json Value (List ℕ × Value) view_step pair_step (Json-F.Number n)

@@ -35,7 +35,7 @@ pub fn held_exponents_say_the_same()
 {}
 
 /// Numbers that say the same have the same size and the same wholes, as the reader holds them.
-#[tactic(auto, using(crate::proofs::Exponents::same_held_size, crate::proofs::Exponents::same_held_wholes))]
+#[tactic(auto, using(crate::proofs::Sizes::same_held_size, crate::proofs::Sizes::same_held_wholes))]
 pub fn numbers_that_say_the_same_are_held_the_same()
     ensures size { (a b : Decimal) → SaySame a b → held (size_of a) ≡ held (size_of b) }
     ensures wholes { (a b : Decimal) → SaySame a b → held_wholes (wholes_of a) ≡ held_wholes (wholes_of b) }
@@ -43,6 +43,7 @@ pub fn numbers_that_say_the_same_are_held_the_same()
 
 /// A value with the exponents of its numbers held has the instance of the value as it is written, or its
 /// first fault, and as many rounded numbers.
+#[tactic(auto, using(crate::proofs::HeldValues::held_instance, crate::proofs::HeldValues::held_rounded, crate::proofs::HeldValues::held_is, crate::proofs::HeldValues::held_again))]
 pub fn held_exponents_change_no_instance()
     ensures first { (exact : Bool) (v : Value) → AllNumbers IsShort v →
         instance_at exact (with_numbers held_decimal v) ≡ instance_at exact v }

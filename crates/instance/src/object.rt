@@ -7,6 +7,7 @@ ghost use Rattle.instance.specs.Fields.{number_in, entries_in, pairs_in, field_o
 use decimal_json::{Json, Number, Pair};
 
 /// The number, where a value is one.
+#[tactic(auto, using(crate::proofs::Views::view_number))]
 pub(crate) fn number(value: &Json) -> Option<&Number>
     ensures { MatchOption result (number_in (view value.now) ≡ None) (λ n. number_in (view value.now) ≡ Some (decimal_of n.now)) }
 {
@@ -17,6 +18,7 @@ pub(crate) fn number(value: &Json) -> Option<&Number>
 }
 
 /// The entries, where a value is an array.
+#[tactic(auto, using(crate::proofs::Views::view_array, crate::proofs::Views::entries_again))]
 pub(crate) fn entries(value: &Json) -> Option<&[Json]>
     ensures { MatchOption result (entries_in (view value.now) ≡ None) (λ vs. entries_in (view value.now) ≡ Some (map view vs.now)) }
 {
@@ -27,6 +29,7 @@ pub(crate) fn entries(value: &Json) -> Option<&[Json]>
 }
 
 /// The members, where a value is an object.
+#[tactic(auto, using(crate::proofs::Views::view_object, crate::proofs::Views::pairs_again))]
 pub(crate) fn members(value: &Json) -> Option<&[Pair]>
     ensures { MatchOption result (pairs_in (view value.now) ≡ None) (λ ms. pairs_in (view value.now) ≡ Some (map pair_view ms.now)) }
 {

@@ -11,7 +11,7 @@ ghost use Rattle.instance.specs.Rounded.{rounded_instance};
 
 /// The size of a scaled number is the size of the value in millionths, rounded to the nearest whole one, and half away
 /// from zero. It is rounded exactly where the value is no whole number of millionths.
-#[tactic(auto, using(crate::proofs::NearestSizes::size_is_nearest, crate::proofs::NearestSizes::unrounded_is_whole, crate::proofs::NearestSizes::rounded_is_broken))]
+#[tactic(auto, using(crate::proofs::Sizes::size_is_nearest, crate::proofs::Sizes::unrounded_is_whole, crate::proofs::Sizes::rounded_is_broken))]
 pub fn scaled_numbers_are_the_nearest()
     ensures nearest { (d : Decimal) → AreDigits d.digits → IsNearest (size_of d) (millionths d) (below d.exponent) }
     ensures whole { (d : Decimal) → AreDigits d.digits → is_rounded d ≡ false → size_of d * below d.exponent ≡ millionths d }

@@ -68,7 +68,7 @@ pub(crate) fn take_whole(bytes: &[u8], digits: usize) -> Option<(u128, &[u8])>
 }
 
 /// A whole number of at most `digits` digits, of which there are at most 18.
-#[tactic(auto, using(crate::proofs::Runs::power_of_18))]
+#[tactic(auto, using(crate::proofs::FormLaws::power_of_18))]
 pub(crate) fn take_count(bytes: &[u8], digits: usize) -> Option<(u64, &[u8])>
     requires { digits ≤ 18 }
     ensures value { Gives (λ r. (r.0, r.1.now)) result (whole_at digits bytes.now) }

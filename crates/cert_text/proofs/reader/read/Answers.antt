@@ -3,8 +3,7 @@ use Rattle.std.proofs.Common.{sym, ap, ◌∙◌, length}
 use Rattle.std.proofs.lemmas.Bool.{eqb-true, eqb-false}
 use Rattle.std.proofs.lemmas.List.{nil_from_length}
 use Rattle.cert_text.specs.Reading.{listing_read}
-use Rattle.cert_text.proofs.FaultLaws.{stop_is_fault, tail_is_fault, whole_is_read}
-use Rattle.cert_text.proofs.ReadLaws.{rest_shorter, stop_shorter, read_as, no_stop}
+use Rattle.cert_text.proofs.GrammarLaws.{stop_is_fault, tail_is_fault, whole_is_read, rest_shorter, stop_shorter, read_as, no_stop}
 use Rattle.cert_text.proofs.reader.read.Goals as goal
 
 pub tail_fault-requires : goal.tail_fault-requires

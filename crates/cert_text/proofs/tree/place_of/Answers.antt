@@ -1,6 +1,6 @@
 -- The first place with the table is the table's.
 use Rattle.std.proofs.Common.{sym, arith}
-use Rattle.cert_text.proofs.TreeLines.{place_found, place_past}
+use Rattle.cert_text.proofs.Parts.{place_found, place_past}
 use Rattle.cert_text.proofs.tree.place_of.Goals as goal
 
 pub returns : goal.returns

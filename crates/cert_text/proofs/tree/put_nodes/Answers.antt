@@ -9,7 +9,7 @@ use Rattle.cert_text.specs.Nodes.{preorder, node_line}
 use Rattle.cert_text.specs.inside.WrittenParts.{tree_part}
 use Rattle.dual_model.specs.Tree.{map_leaves}
 use Rattle.branch_tree.proofs.Preorder.{whole_part, numbers_within}
-use Rattle.cert_text.proofs.TreeLines.{line_at, lines_listed}
+use Rattle.cert_text.proofs.Parts.{line_at, lines_listed}
 use Rattle.cert_text.proofs.tree.put_nodes.Goals as goal
 
 pub node-requires : goal.node-requires

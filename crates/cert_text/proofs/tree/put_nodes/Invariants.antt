@@ -1,7 +1,7 @@
 -- The lines of the nodes so far were put.
 use Rattle.std.proofs.Common.{take}
 use Rattle.std.specs.List.{flat_map}
-use Rattle.cert_text.proofs.TreeLines.{line_at}
+use Rattle.cert_text.proofs.Parts.{line_at}
 use Rattle.cert_text.proofs.tree.put_nodes.Given as goal
 
 abbrev pub invariant-loop-node : goal.invariant-loop-node

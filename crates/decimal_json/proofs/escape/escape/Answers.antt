@@ -1,4 +1,4 @@
-use Rattle.decimal_json.proofs.Escapes.{letter_ends, letter_read, letter_unknown}
+use Rattle.decimal_json.proofs.Numerals.{letter_ends, letter_read, letter_unknown}
 use Rattle.decimal_json.proofs.escape.escape.Goals as goal
 
 pub returns-in_default-clause-fault : goal.returns-in_default-clause-fault

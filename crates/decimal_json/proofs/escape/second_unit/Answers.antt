@@ -1,5 +1,5 @@
 use Rattle.std.proofs.Common.{refl, sym}
-use Rattle.decimal_json.proofs.Escapes.{no_backslash, no_u, second_broken, second_not_low, second_read}
+use Rattle.decimal_json.proofs.Numerals.{no_backslash, no_u, second_broken, second_not_low, second_read}
 use Rattle.decimal_json.proofs.escape.second_unit.Goals as goal
 
 pub returns-then-not-has_byte-clause-missing : goal.returns-then-not-has_byte-clause-missing

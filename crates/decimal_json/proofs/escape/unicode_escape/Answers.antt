@@ -4,7 +4,7 @@ use Rattle.std.specs.Char.Utf16.{is_high_surrogate, is_low_surrogate}
 use Rattle.std.specs.Char.{OutOfScalarRange}
 use Rattle.decimal_json.specs.inside.Answer.{BreaksEscape, ReadsEscape}
 use Rattle.decimal_json.proofs.Exits.{passed_on}
-use Rattle.decimal_json.proofs.Escapes.{unicode_broken, unicode_alone, unicode_low, unicode_pair, unicode_unpaired, high_between}
+use Rattle.decimal_json.proofs.Numerals.{unicode_broken, unicode_alone, unicode_low, unicode_pair, unicode_unpaired, high_between}
 use Rattle.decimal_json.proofs.escape.unicode_escape.Goals as goal
 
 -- a unit that is no character and no second of a pair is a first

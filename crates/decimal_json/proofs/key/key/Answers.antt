@@ -3,8 +3,7 @@ use Rattle.std.specs.String.{string_bytes}
 use Rattle.std.proofs.lemmas.Bool.{not-true, not-false}
 use Rattle.decimal_json.specs.inside.Answer.{knows, BreaksKey}
 use Rattle.decimal_json.proofs.Exits.{passed_on}
-use Rattle.decimal_json.proofs.Values.{boundary_behind}
-use Rattle.decimal_json.proofs.Inside.{no_key, key_breaks, key_twice, no_colon, key_read}
+use Rattle.decimal_json.proofs.Values.{boundary_behind, no_key, key_breaks, key_twice, no_colon, key_read}
 use Rattle.decimal_json.proofs.key.key.Goals as goal
 
 pub returns-in_err-quote-clause-fault : goal.returns-in_err-quote-clause-fault

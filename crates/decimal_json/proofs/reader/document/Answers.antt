@@ -1,6 +1,5 @@
 use Rattle.decimal_json.specs.View.{view}
-use Rattle.decimal_json.proofs.Values.{token_of, end_of}
-use Rattle.decimal_json.proofs.Documents.{document_breaks, document_ends, document_goes_on, gives_fault}
+use Rattle.decimal_json.proofs.Values.{token_of, end_of, document_breaks, document_ends, document_goes_on, gives_fault}
 use Rattle.decimal_json.specs.inside.Scan.{whole_outcome}
 use Rattle.decimal_json.proofs.reader.document.Goals as goal
 

@@ -1,5 +1,5 @@
 use Rattle.std.proofs.Common.{arith, sym}
-use Rattle.decimal_json.proofs.Texts.{reads_more}
+use Rattle.decimal_json.proofs.Numerals.{reads_more}
 use Rattle.decimal_json.proofs.text.skip_plain.Goals as goal
 
 pub loop-at-preserved : goal.loop-at-preserved

@@ -1,6 +1,6 @@
 use Rattle.std.proofs.Common.{◌-◌, length}
 use Rattle.std.specs.String.{string_bytes}
-use Rattle.decimal_json.proofs.Texts.{HasRead}
+use Rattle.decimal_json.proofs.Numerals.{HasRead}
 use Rattle.decimal_json.proofs.text.text.Given as goal
 
 abbrev pub invariant-loop-text : goal.invariant-loop-text

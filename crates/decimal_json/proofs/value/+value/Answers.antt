@@ -9,7 +9,7 @@ use Rattle.decimal_json.specs.View.{view, pair_view}
 use Rattle.decimal_json.proofs.Exits.{passed_on}
 use Rattle.decimal_json.proofs.Views.{view-array, view-object, view-pair, map-push}
 use Rattle.decimal_json.proofs.Keys.{knows_nothing}
-use Rattle.decimal_json.proofs.Inside.{HasItems, HasMembers, array_cut, array_empty, items_begin, item_read, item_breaks, array_breaks, array_closes, items_go_on, object_cut, object_empty, members_begin, member_breaks, member_added, member_read, no_member_key, no_member_value, object_breaks, object_closes, members_go_on, value_cut, too_deep, inside_read, inside_breaks, open_array, open_object, scalar_read, scalar_breaks}
+use Rattle.decimal_json.proofs.Values.{HasItems, HasMembers, array_cut, array_empty, items_begin, item_breaks, array_breaks, array_closes, items_go_on, object_cut, object_empty, members_begin, member_breaks, member_read, no_member_key, no_member_value, object_breaks, object_closes, members_go_on, value_cut, too_deep, inside_read, inside_breaks, open_array, open_object, scalar_read, scalar_breaks}
 use Rattle.decimal_json.proofs.value.+value.Goals as goal
 
 pub array-returns-in_err-at-clause-fault : goal.array-returns-in_err-at-clause-fault
@@ -35,22 +35,22 @@ array-returns-in_err-item-clause-fault t c =
 pub array-returns-in_err-next-clause-fault : goal.array-returns-in_err-next-clause-fault
 array-returns-in_err-next-clause-fault t c =
     passed_on c.from_residual-in_err-next.result c.in_err-next.field-0.0 (BreaksInside c.args.source.now c.args.start first_item c.args.room) c.from_residual-in_err-next.ensures.1
-    (array_breaks c.args.source.now c.args.start c.in_ok-item.end c.args.room (map view c.loop-items.items.items) (view c.in_ok-item.item) c.in_err-next.field-0.0
-    (item_read c.args.source.now c.args.start c.loop-items.at c.in_ok-item.end c.args.room (map view c.loop-items.items.items) (view c.in_ok-item.item) c.loop-items.invariant c.in_ok-item.ensures.read) c.in_err-next.ensures.stands)
+    (array_breaks c.args.source.now c.args.start c.loop-items.at c.in_ok-item.end c.args.room (map view c.loop-items.items.items) (view c.in_ok-item.item) c.in_err-next.field-0.0
+    c.loop-items.invariant c.in_ok-item.ensures.read c.in_err-next.ensures.stands)
 
 pub array-returns-in-Bracket-clause-read : goal.array-returns-in-Bracket-clause-read
 array-returns-in-Bracket-clause-read t c =
     subst (λ vs. ReadsInside c.args.source.now c.args.start first_item c.in-Bracket.next c.args.room (array (items_of vs)))
     (sym (ap (λ xs. map view xs) c.in_ok-push.ensures.items ∙ map-push view c.loop-items.items.items c.in_ok-item.item))
-    (array_closes c.args.source.now c.args.start c.in_ok-item.end c.in-Bracket.next c.args.room (map view c.loop-items.items.items) (view c.in_ok-item.item)
-    (item_read c.args.source.now c.args.start c.loop-items.at c.in_ok-item.end c.args.room (map view c.loop-items.items.items) (view c.in_ok-item.item) c.loop-items.invariant c.in_ok-item.ensures.read) (subst (λ p. IsBehind c.args.source.now c.in_ok-item.end 93 (Ok p)) c.in-Bracket.is c.in_ok-next.ensures.stands))
+    (array_closes c.args.source.now c.args.start c.loop-items.at c.in_ok-item.end c.in-Bracket.next c.args.room (map view c.loop-items.items.items) (view c.in_ok-item.item)
+    c.loop-items.invariant c.in_ok-item.ensures.read (subst (λ p. IsBehind c.args.source.now c.in_ok-item.end 93 (Ok p)) c.in-Bracket.is c.in_ok-next.ensures.stands))
 
 pub array-loop-items-preserved : goal.array-loop-items-preserved
 array-loop-items-preserved t c =
     subst (λ vs. HasItems c.args.source.now c.args.start c.in-Comma.next c.args.room vs)
     (sym (ap (λ xs. map view xs) c.in_ok-push.ensures.items ∙ map-push view c.loop-items.items.items c.in_ok-item.item))
-    (items_go_on c.args.source.now c.args.start c.in_ok-item.end c.in-Comma.next c.args.room (map view c.loop-items.items.items) (view c.in_ok-item.item)
-    (item_read c.args.source.now c.args.start c.loop-items.at c.in_ok-item.end c.args.room (map view c.loop-items.items.items) (view c.in_ok-item.item) c.loop-items.invariant c.in_ok-item.ensures.read) (subst (λ p. IsBehind c.args.source.now c.in_ok-item.end 93 (Ok p)) c.in-Comma.is c.in_ok-next.ensures.stands)
+    (items_go_on c.args.source.now c.args.start c.loop-items.at c.in_ok-item.end c.in-Comma.next c.args.room (map view c.loop-items.items.items) (view c.in_ok-item.item)
+    c.loop-items.invariant c.in_ok-item.ensures.read (subst (λ p. IsBehind c.args.source.now c.in_ok-item.end 93 (Ok p)) c.in-Comma.is c.in_ok-next.ensures.stands)
     (let within = subst (λ p. (c.in_ok-item.end < place_of p) × (place_of p ≤ length c.args.source.now)) c.in-Comma.is c.in_ok-next.ensures.within in
     omega (arith, c.loop-items.invariant.forward, c.in_ok-item.ensures.within.0, within.0)))
 
@@ -79,28 +79,22 @@ object-returns-in_err-pair-clause-fault t c =
 pub object-returns-in_err-next-clause-fault : goal.object-returns-in_err-next-clause-fault
 object-returns-in_err-next-clause-fault t c =
     passed_on c.from_residual-in_err-next.result c.in_err-next.field-0.0 (BreaksInside c.args.source.now c.args.start first_key c.args.room) c.from_residual-in_err-next.ensures.1
-    (object_breaks c.args.source.now c.args.start c.in_ok-pair.end c.args.room (map pair_view c.loop-places.pairs.items) (pair_view c.in_ok-pair.pair).0 (pair_view c.in_ok-pair.pair).1 c.in_err-next.field-0.0
-    (member_added c.args.source.now c.args.start c.loop-places.at c.in_ok-pair.end c.args.room (map pair_view c.loop-places.pairs.items) (knows c.loop-places.places)
-    (pair_view c.in_ok-pair.pair).0 (pair_view c.in_ok-pair.pair).1 c.loop-places.invariant c.in_ok-pair.ensures.read)
-    c.in_err-next.ensures.stands)
+    (object_breaks c.args.source.now c.args.start c.loop-places.at c.in_ok-pair.end c.args.room (map pair_view c.loop-places.pairs.items) (knows c.loop-places.places) (pair_view c.in_ok-pair.pair).0 (pair_view c.in_ok-pair.pair).1 c.in_err-next.field-0.0
+    c.loop-places.invariant c.in_ok-pair.ensures.read c.in_err-next.ensures.stands)
 
 pub object-returns-in-Bracket-clause-read : goal.object-returns-in-Bracket-clause-read
 object-returns-in-Bracket-clause-read t c =
     subst (λ ms. ReadsInside c.args.source.now c.args.start first_key c.in-Bracket.next c.args.room (object (members_of ms)))
     (sym (ap (λ xs. map pair_view xs) c.in_ok-push.ensures.items ∙ map-push pair_view c.loop-places.pairs.items c.in_ok-pair.pair))
-    (object_closes c.args.source.now c.args.start c.in_ok-pair.end c.in-Bracket.next c.args.room (map pair_view c.loop-places.pairs.items) (pair_view c.in_ok-pair.pair).0 (pair_view c.in_ok-pair.pair).1
-    (member_added c.args.source.now c.args.start c.loop-places.at c.in_ok-pair.end c.args.room (map pair_view c.loop-places.pairs.items) (knows c.loop-places.places)
-    (pair_view c.in_ok-pair.pair).0 (pair_view c.in_ok-pair.pair).1 c.loop-places.invariant c.in_ok-pair.ensures.read)
-    (subst (λ p. IsBehind c.args.source.now c.in_ok-pair.end 125 (Ok p)) c.in-Bracket.is c.in_ok-next.ensures.stands))
+    (object_closes c.args.source.now c.args.start c.loop-places.at c.in_ok-pair.end c.in-Bracket.next c.args.room (map pair_view c.loop-places.pairs.items) (knows c.loop-places.places) (pair_view c.in_ok-pair.pair).0 (pair_view c.in_ok-pair.pair).1
+    c.loop-places.invariant c.in_ok-pair.ensures.read (subst (λ p. IsBehind c.args.source.now c.in_ok-pair.end 125 (Ok p)) c.in-Bracket.is c.in_ok-next.ensures.stands))
 
 pub object-loop-places-preserved : goal.object-loop-places-preserved
 object-loop-places-preserved t c =
     subst (λ ms. HasMembers c.args.source.now c.args.start c.in-Comma.next c.args.room ms (knows c.member.new.places))
     (sym (ap (λ xs. map pair_view xs) c.in_ok-push.ensures.items ∙ map-push pair_view c.loop-places.pairs.items c.in_ok-pair.pair))
-    (members_go_on c.args.source.now c.args.start c.in_ok-pair.end c.in-Comma.next c.args.room (map pair_view c.loop-places.pairs.items) (pair_view c.in_ok-pair.pair).0 (pair_view c.in_ok-pair.pair).1 (knows c.loop-places.places) (knows c.member.new.places)
-    (member_added c.args.source.now c.args.start c.loop-places.at c.in_ok-pair.end c.args.room (map pair_view c.loop-places.pairs.items) (knows c.loop-places.places)
-    (pair_view c.in_ok-pair.pair).0 (pair_view c.in_ok-pair.pair).1 c.loop-places.invariant c.in_ok-pair.ensures.read)
-    c.loop-places.invariant.keys c.in_ok-pair.ensures.known (subst (λ p. IsBehind c.args.source.now c.in_ok-pair.end 125 (Ok p)) c.in-Comma.is c.in_ok-next.ensures.stands)
+    (members_go_on c.args.source.now c.args.start c.loop-places.at c.in_ok-pair.end c.in-Comma.next c.args.room (map pair_view c.loop-places.pairs.items) (knows c.loop-places.places) (knows c.member.new.places) (pair_view c.in_ok-pair.pair).0 (pair_view c.in_ok-pair.pair).1
+    c.loop-places.invariant c.in_ok-pair.ensures.read c.in_ok-pair.ensures.known (subst (λ p. IsBehind c.args.source.now c.in_ok-pair.end 125 (Ok p)) c.in-Comma.is c.in_ok-next.ensures.stands)
     (let within = subst (λ p. (c.in_ok-pair.end < place_of p) × (place_of p ≤ length c.args.source.now)) c.in-Comma.is c.in_ok-next.ensures.within in
     omega (arith, c.loop-places.invariant.forward, c.in_ok-pair.ensures.within.0, within.0)))
 

@@ -1,5 +1,5 @@
 use Rattle.decimal_json.specs.View.{view}
-use Rattle.instance.proofs.Whole.{answer_found, answer_lawful, answer_only}
+use Rattle.instance.proofs.LawfulInstance.{answer_found, answer_lawful, answer_only}
 use Rattle.instance.proofs.from_value.from_json.Goals as goal
 
 pub returns-clause-found : goal.returns-clause-found

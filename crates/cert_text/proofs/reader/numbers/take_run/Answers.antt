@@ -1,7 +1,7 @@
 -- Each digit keeps the number, and at the first other byte the run ends.
 use Rattle.std.proofs.Common.{◌≡◌, ◌+◌, get_or, true, arith, rules, below_more}
 use Rattle.cert_text.specs.inside.Forms.{is_digit}
-use Rattle.cert_text.proofs.Runs.{number_more, digit_bound, power_more, small_power, run_is, run_longer}
+use Rattle.cert_text.proofs.FormLaws.{number_more, digit_bound, power_more, small_power, run_is, run_longer}
 use Rattle.cert_text.proofs.reader.numbers.take_run.Goals as goal
 
 pub returns-then-count-eq-MOST_DIGITS-clause-none : goal.returns-then-count-eq-MOST_DIGITS-clause-none
