@@ -83,7 +83,7 @@ pub(crate) fn visit(
     let next = search.next.take();
     let trial = chosen(alloc, worker, search, claim, &path, next)?;
     end(alloc, worker, search, claim, &path, &trial)?;
-    search.last = trial.into_ascent();
+    search.last = repairable(claim, trial.into_ascent());
     Ok(())
 }
 
@@ -250,6 +250,23 @@ fn sought(
     with_ray(alloc, worker.evaluator.instance(), path, ascent)
 }
 
+// The ascent, unless it came so high that the node was pruned: a schedule there is hardly cheaper than the best one.
+fn repairable(claim: Claim, ascent: Option<Ascent>) -> Option<Ascent> {
+    match ascent {
+        Some(ascent) if ascent.bound < enough(claim) => Some(ascent),
+        _ => None,
+    }
+}
+
+// The bound at which an ascent of the claim ends: that at which its node is pruned; but none at the root, whose table all others begin with.
+fn enough(claim: Claim) -> i128 {
+    if claim.node == 0 {
+        i128::MAX
+    } else {
+        claim.goal
+    }
+}
+
 // The ascent to a table of this unit's scale: the first one, where it was made already, or one from what the node stores.
 fn ascent(
     alloc: Global,
@@ -275,6 +292,7 @@ fn ascent(
             path,
             stored_table(state, claim.node),
             claim.unit,
+            enough(claim),
         ),
     }
 }
