@@ -318,9 +318,13 @@ impl Bundle {
         if let Some(cut) = self.cuts.get_mut(ends.low) {
             cut.weight = cut.weight.saturating_add(amount);
         }
-        for (k, height) in heights.iter_mut().enumerate() {
-            let more = self.products.of(ends.low, k);
-            let change = times(more.saturating_sub(self.products.of(ends.high, k)), amount);
+        let products = self
+            .products
+            .row(ends.low)
+            .iter()
+            .zip(self.products.row(ends.high));
+        for (height, (low, high)) in heights.iter_mut().zip(products) {
+            let change = times(low.saturating_sub(*high), amount);
             let moved = along(word(change / i128::from(WHOLE)), reach);
             *height = height.saturating_add(moved);
         }

@@ -39,8 +39,18 @@ const RISE_BY_TABLE: i128 = 400;
 /// A value counts as no less in size than this part of what the dearest unit costs at full load in all periods.
 const LEAST_SIZE: i128 = 4;
 
-/// The most evaluations of an ascent where nothing costs anything.
-const RAY_EVALUATIONS: u32 = 150;
+/// The effort of an ascent where nothing costs anything.
+const RAY_EFFORT: Effort = Effort {
+    evaluations: 150,
+    enough: i128::MAX,
+};
+
+/// After how many evaluations an ascent ends, and at what it takes the bound for, in micro-dollars.
+#[derive(Clone, Copy)]
+pub(crate) struct Effort {
+    pub evaluations: u32,
+    pub enough: i128,
+}
 
 /// What an ascent found: the best table, how often each unit was on in each period among the cuts that give the best move, unit by unit,
 /// in parts of 2^16, and what it takes the bound for, in micro-dollars, of which nothing is proved. Where this is above all that a schedule
@@ -64,13 +74,13 @@ struct Center {
     shares: Vec<i64>,
 }
 
-// Where an ascent starts: prices at the scale `SCALE`, the part of the value by which its first step is to raise it, after how many
-// evaluations it ends, and whether it keeps more cuts.
+// Where an ascent starts: prices at the scale `SCALE`, the part of the value by which its first step is to raise it, its effort, and
+// whether it keeps more cuts.
 #[derive(Drop)]
 struct Start {
     prices: Vec<i64>,
     part: i128,
-    evaluations: u32,
+    effort: Effort,
     keeps_more: bool,
 }
 
@@ -153,13 +163,37 @@ pub fn ascend(
     ensures ray { IfOk result (λ ascent. IfSome ascent.ray (IsLawfulTable instance.now)) }
     ensures ray_scale { IfOk result (λ ascent. IfSome ascent.ray (λ ray. ray.k ≡ pos 0)) }
 {
+    let effort = Effort {
+        evaluations,
+        enough: i128::MAX,
+    };
+    ascend_within(alloc, instance, node, table, effort, k)
+}
+
+/// The same with an effort.
+pub(crate) fn ascend_within(
+    alloc: Global,
+    instance: &Instance,
+    node: &Node,
+    table: &Table,
+    effort: Effort,
+    k: i64,
+) -> Result<Ascent, NoMemory>
+    requires lawful { IsLawfulInstance instance.now }
+    requires node { IsNodeOf instance.now node.now }
+    requires scale { IsLawfulScale k }
+    ensures lawful { IfOk result (λ ascent. IsLawfulTable instance.now ascent.table) }
+    ensures scale { IfOk result (λ ascent. ascent.table.k ≡ k) }
+    ensures ray { IfOk result (λ ascent. IfSome ascent.ray (IsLawfulTable instance.now)) }
+    ensures ray_scale { IfOk result (λ ascent. IfSome ascent.ray (λ ray. ray.k ≡ pos 0)) }
+{
     let mut evaluator = Evaluator::new(alloc, instance)?;
     let ramped = evaluator.ramped(alloc)?;
     let sizes = Sizes::of(instance);
     let start = Start {
         prices: first_prices(alloc, instance, table, &ramped)?,
         part: first_part(table),
-        evaluations,
+        effort,
         keeps_more: false,
     };
     let top = top_from(alloc, &mut evaluator, instance, node, &ramped, start, sizes)?;
@@ -186,7 +220,7 @@ pub fn with_ray(
     let start = Start {
         prices: no_prices(alloc, instance, &ramped)?,
         part: RISE_BY_MERIT,
-        evaluations: RAY_EVALUATIONS,
+        effort: RAY_EFFORT,
         keeps_more: true,
     };
     let top = top_from(alloc, &mut evaluator, instance, node, &ramped, start, sizes)?;
@@ -237,7 +271,7 @@ fn top_from(
         instance,
         &decisions,
         &mut center,
-        start.evaluations,
+        start.effort,
         sizes,
     )?;
     settle(alloc, &mut center)?;
@@ -293,15 +327,15 @@ fn ray(
     }
 }
 
-// Steps from the centre, until no step promises a gain, or many in a row have gained nothing, or the value is above all that a schedule
-// could cost.
+// Steps from the centre, until no step promises a gain, or many in a row have gained nothing, or the value is enough or above all that a
+// schedule could cost.
 fn climb(
     alloc: Global,
     evaluator: &mut Evaluator,
     instance: &Instance,
     decisions: &Decisions,
     center: &mut Center,
-    evaluations: u32,
+    effort: Effort,
     sizes: Sizes,
 ) -> Result<(), NoMemory> {
     let futile = if center.bundle.has_few_cuts() {
@@ -309,11 +343,15 @@ fn climb(
     } else {
         FUTILE
     };
+    let enough = effort
+        .enough
+        .saturating_mul(i128::from(SCALE))
+        .min(sizes.most);
     let mut stalls: u32 = 0;
-    for _ in 0..evaluations {
+    for _ in 0..effort.evaluations {
         let size = sizes.of_value(center.value);
         let step = center.bundle.step(alloc, &center.prices, size)?;
-        if center.nulls >= futile || center.value > sizes.most {
+        if center.nulls >= futile || center.value > enough {
             break;
         }
         if step.predicted < size / PROMISE {

@@ -7,7 +7,7 @@ ghost use Rattle.dual_model.specs.Prices.{IsLawfulTable};
 ghost use Rattle.dual_model.specs.NodeAnswer.{IsValued};
 ghost use Rattle.prices.specs.Steps.{IsStepFor};
 
-use crate::ascent::{Ascent, ascend};
+use crate::ascent::{Ascent, Effort, ascend_within};
 use dual_model::{Node, Table, Valued};
 use opening_tables::SCALE;
 use std::alloc::Global;
@@ -35,13 +35,14 @@ const FREE_NODE_EVALUATIONS: u32 = 180;
 const FEW_RAMPED: usize = 4;
 
 /// The ascent to a table to try next at a node at which `had` tables were tried, of which the last is `table`: the table's scale is
-/// a million and `had`. The only error is `NoMemory`.
+/// a million and `had`. It ends where it takes the bound for `enough`, in micro-dollars. The only error is `NoMemory`.
 pub fn next_ascent(
     alloc: Global,
     instance: &Instance,
     node: &Node,
     table: &Table,
     had: u32,
+    enough: i128,
 ) -> Result<Ascent, NoMemory>
     requires lawful { IsLawfulInstance instance.now }
     requires node { IsNodeOf instance.now node.now }
@@ -51,9 +52,12 @@ pub fn next_ascent(
     ensures ray { IfOk result (λ ascent. IfSome ascent.ray (IsLawfulTable instance.now)) }
     ensures ray_scale { IfOk result (λ ascent. IfSome ascent.ray (λ ray. ray.k ≡ pos 0)) }
 {
-    let evaluations = evaluations_of(instance, node.fixings.as_slice().is_empty());
+    let effort = Effort {
+        evaluations: evaluations_of(instance, node.fixings.as_slice().is_empty()),
+        enough,
+    };
     let scale = SCALE + i64::from(had);
-    ascend(alloc, instance, node, table, evaluations, scale)
+    ascend_within(alloc, instance, node, table, effort, scale)
 }
 
 // The most evaluations of an ascent, at the root or at another node.
@@ -97,5 +101,5 @@ pub fn step(
     ensures lawful { IfOk result (IsLawfulTable instance.now) }
     ensures told_apart { IfOk result (IsStepFor had) }
 {
-    Ok(next_ascent(alloc, instance, node, table, had)?.table)
+    Ok(next_ascent(alloc, instance, node, table, had, i128::MAX)?.table)
 }

@@ -40,17 +40,22 @@ fn priced_cell(unit: &Unit, price: &Price) -> Cell {
     } else {
         cost(&unit.start, &corner, price, minimum)
     };
-    let (stop, both) = if unit.stop.most == unit.full.most {
-        (full, start)
+    let stop = if unit.stop.most == unit.start.most {
+        start
+    } else if unit.stop.most == unit.full.most {
+        full
     } else {
-        let both = cost(&unit.both, &corner, price, minimum);
-        (cost(&unit.stop, &corner, price, minimum), both)
+        cost(&unit.stop, &corner, price, minimum)
     };
     Cell {
         full,
         start,
         stop,
-        both,
+        both: if unit.start.most < unit.stop.most {
+            start
+        } else {
+            stop
+        },
         power: corner.power,
     }
 }

@@ -91,9 +91,11 @@ impl Evaluation {
                     .saturating_sub(output.power);
             }
         }
-        let reserves = self.lacks.iter_mut().skip(outputs.len());
-        for (lack, output) in reserves.zip(outputs) {
-            *lack = lack.saturating_sub(output.reserve);
+        let first = outputs.len();
+        if first < self.lacks.len() {
+            for (lack, output) in self.lacks[first..].iter_mut().zip(outputs) {
+                *lack = lack.saturating_sub(output.reserve);
+            }
         }
         Ok(())
     }

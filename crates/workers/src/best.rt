@@ -13,7 +13,7 @@ use branch_tree::is_within_gap;
 use prices::Ascent;
 use schedule_repair::repair;
 use std::alloc::Global;
-use uc_model::tolerance::WHOLE_GAP;
+use uc_model::tolerance::{WHOLE_GAP, tolerance};
 use uc_model::{Instance, NoMemory, Printed};
 
 /// The moves of the first repair for each unit: enough for the passes of each threshold.
@@ -26,6 +26,9 @@ const KICKED_UNITS: u32 = 100;
 
 /// The moves of each later repair for each unit: enough for a descent from one threshold, and some kicks of the best state.
 const LATER_MOVES_EACH: u32 = 25;
+
+/// What an ascent takes the bound for is wrong by less than this part of it.
+const ERRORS: u64 = 1 << 26;
 
 /// How many moves the repair has at the claim of this unit.
 pub(crate) fn moves(instance: &Instance, unit: u32) -> u32
@@ -51,6 +54,19 @@ pub(crate) fn enough(bound: i128, gap: u32) -> i64
         bound
     };
     cost.min(i128::from(i64::MAX)).max(i128::from(i64::MIN)) as i64
+}
+
+/// The bound at which the best schedule is within the gap of it, and somewhat more, by which an ascent may be wrong.
+pub(crate) fn goal(best: &Option<(Printed, i64)>, gap: u32) -> i128
+    requires { gap ≤ WHOLE_GAP }
+{
+    match best {
+        Some((_, cost)) => {
+            let least = i128::from(*cost).saturating_sub(i128::from(tolerance(*cost, gap)));
+            least.saturating_add(i128::from(cost.unsigned_abs() / ERRORS))
+        }
+        None => i128::MAX,
+    }
 }
 
 /// Whether the best schedule closes a root of this bound.

@@ -150,5 +150,5 @@ pub(crate) fn first_ascent(alloc: Global, instance: &Instance) -> Result<Ascent,
     ensures { IfOk result (IsAscentFor instance.now 1) }
 {
     let none = zero(alloc, instance)?;
-    next_ascent(alloc, instance, &root_node(alloc), &none, 1)
+    next_ascent(alloc, instance, &root_node(alloc), &none, 1, i128::MAX)
 }

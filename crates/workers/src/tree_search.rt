@@ -19,7 +19,7 @@ ghost use Rattle.workers.specs.inside.Searches.{IsGrown, IsReady, IsSearching, I
 ghost use Rattle.workers.specs.inside.Starts.{IsBegun};
 ghost use Rattle.workers.specs.inside.Trials.{IsNextAt};
 
-use crate::best::{enough, improved, is_closed, moves};
+use crate::best::{enough, goal, improved, is_closed, moves};
 use crate::root_search::Options;
 use crate::start::Start;
 use crate::visit::visit;
@@ -45,11 +45,12 @@ pub(crate) struct Search {
     pub last: Option<Ascent>,
 }
 
-/// A node that is held by the claim of this unit.
+/// A node that is held by the claim of this unit, and at which bound it will be pruned.
 #[derive(Clone, Copy)]
 pub(crate) struct Claim {
     pub node: u32,
     pub unit: u32,
+    pub goal: i128,
 }
 
 // The machine before any claim, with the cost of a schedule that may be missing, and the order of its open nodes.
@@ -175,6 +176,7 @@ fn grow<R: Wait, G: Gate>(
         let claim = Claim {
             node,
             unit: had + 1,
+            goal: goal(&search.best, options.gap),
         };
         gate.enter(rt, WORKER, claim.unit);
         turn(alloc, worker, options.gap, search, claim)?;

@@ -82,18 +82,18 @@ pub(crate) fn visit(
     let path = search.state.tree().fixings(alloc, claim.node)?;
     let trial = chosen(alloc, worker, search, claim, &path)?;
     let ended = end(alloc, worker, search, claim, &path, &trial);
-    remember(search, trial);
+    remember(search, claim, trial);
     ended
 }
 
-// Keeps the ascent of the trial, where there is one, in the place of former ones.
-fn remember(search: &mut Search, trial: Trial)
+// Keeps the ascent of the trial, where a repair is to begin with one, in the place of former ones.
+fn remember(search: &mut Search, claim: Claim, trial: Trial)
     ensures state { search.new.state ≡ search.old.state }
     ensures best { search.new.best ≡ search.old.best }
     ensures next { search.new.next ≡ None }
 {
     search.next = None;
-    search.last = trial.into_ascent();
+    search.last = repairable(claim, trial.into_ascent());
 }
 
 // Evaluates the node at the trial's table, and commits what comes out with the move that ends the claim.
@@ -282,6 +282,23 @@ fn sought(
     with_ray(alloc, worker.evaluator.instance(), path, ascent)
 }
 
+// The ascent, unless it came so high that the node was pruned: a schedule there is hardly cheaper than the best one.
+fn repairable(claim: Claim, ascent: Option<Ascent>) -> Option<Ascent> {
+    match ascent {
+        Some(ascent) if ascent.bound < enough(claim) => Some(ascent),
+        _ => None,
+    }
+}
+
+// The bound at which an ascent of the claim ends: that at which its node is pruned; but none at the root, whose table all others begin with.
+fn enough(claim: Claim) -> i128 {
+    if claim.node == 0 {
+        i128::MAX
+    } else {
+        claim.goal
+    }
+}
+
 // The ascent to a table of this unit's scale: the one that was made already, or one from what the node stores.
 fn ascent(
     alloc: Global,
@@ -308,6 +325,7 @@ fn ascent(
             path,
             stored_table(&search.state, claim.node),
             claim.unit,
+            enough(claim),
         ),
     }
 }
