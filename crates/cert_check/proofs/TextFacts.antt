@@ -1,5 +1,4 @@
--- What a certificate of the instance's size that has a text meets: its schedule has the instance's shape and numbers of at
--- most 15 digits, and its tables the instance's size.
+-- What a table meets whose text is of the instance's size: it has that size, and is lawful where its numbers are.
 use Rattle.std.proofs.Common.{◌≡◌, ℕ, sym, ◌∙◌, arith, []}
 use Rattle.uc_model.specs.Schedule.{thermal_count}
 use Rattle.uc_model.specs.declared.instance.Instance.{Instance}
@@ -8,9 +7,6 @@ use Rattle.dual_model.specs.declared.table.Table.{Table}
 use Rattle.cert_text.specs.TextConditions.{IsTableText}
 use Rattle.cert_check.specs.inside.Numbers.{HasLawfulNumbers}
 
--- ---- the schedule
-
--- ---- the tables
 pub size-of-table : (instance : Instance) (periods thermal : ℕ) (table : Table) → periods ≡ instance.periods → thermal ≡ thermal_count instance
     → IsTableText periods thermal table → HasSizeOf instance table
 size-of-table instance periods thermal table hp hg text = record { form = text.form; units = text.units ∙ hg; periods = text.periods_priced ∙ hp }

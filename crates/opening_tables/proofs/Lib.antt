@@ -3,4 +3,3 @@ pub mod OnCells
 pub mod PricedPeriods
 pub mod RayNumbers
 pub mod RayTables
-pub mod UnpricedTables

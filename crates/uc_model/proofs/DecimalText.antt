@@ -1,5 +1,5 @@
 -- The text of a whole number: `whole_text n` of a natural number, `signed_text z` of any.
--- Cite from a crate above by `use Rattle.uc_model.proofs.DecimalText.{whole_text_injective}`.
+-- Cite from a crate above by `use Rattle.uc_model.proofs.DecimalText.{whole_text_digits}`.
 use Rattle.std.proofs.Common.{◌≡◌, ℕ, zero, suc, ◌+◌, ◌*◌, ◌/◌, ◌%◌, ◌^◌, ◌<◌, ◌≤◌, List, [], ◌∷◌, ◌++◌, map, length, get_or, decimal, All, ⊎_elim, refl, sym, ap, subst, ◌∙◌, arith, ℤ, pos, negsuc, unsigned_abs, append_assoc}
 use Rattle.std.specs.Int.Digits.{digits_of}
 use Rattle.std.specs.Char.{digit_value}

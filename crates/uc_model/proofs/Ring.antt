@@ -3,7 +3,7 @@
 --     linear      for `omega`: sums, differences, negations and orders on ℤ. A product stays an atom.
 --     spread      for `simp`: a product of sums and negations becomes a sum of products of atoms.
 -- `simp spread (omega (arith, linear))` closes what is linear once the products are spread. Where a product stands with its
--- factors in two orders, add `mul_comm a b` to `omega`'s list. A fact that is to be multiplied is a `let`, as in `less_room` below.
+-- factors in two orders, add `mul_comm a b` to `omega`'s list. A fact that is to be multiplied is a `let` by `simp spread at`.
 use Rattle.std.proofs.Common.{◌≡◌, ℕ, suc, ◌*◌, ◌≤◌, ◌⊎◌, inl, inr, refl, sym, ap, subst, ◌∙◌, arith, ℤ, pos, negsuc, ◌+ℤ◌, ◌-ℤ◌, ◌*ℤ◌, neg_ℤ, ◌≤ℤ◌, ◌<ℤ◌}
 use borrow.Author.Differences.{up, down, same_out, lt_out, le_out, same_in, at_most_in, below_in, sum_is_lem, neg_is, product_is}
 use Rattle.std.proofs.lemmas.Int.{by_lt_z}
@@ -168,5 +168,3 @@ suc-mul n a =
 -- two numbers of ℕ, as numbers of ℤ
 pub pos-mul : (m n : ℕ) → pos (m * n) ≡ pos m *ℤ pos n
 pos-mul m n = refl
-
--- ---- how the two sets are used
