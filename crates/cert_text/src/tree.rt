@@ -12,6 +12,7 @@ use branch_tree::{Layout, Leaf, Spot, Tree};
 use outside::{Out, put_place};
 
 // The place, from 0, of a table among those that the leaves use.
+#[tactic(auto, using(crate::proofs::Parts::place_found, crate::proofs::Parts::place_past))]
 fn place_of(used: &[u32], table: u32) -> usize
     ensures { result ≡ place_of used.now table }
 {

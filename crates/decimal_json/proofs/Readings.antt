@@ -1,9 +1,9 @@
 -- What is spelled within the limits is spelled without them.
 use Rattle.std.proofs.Common.{ℕ, List, [], ◌∷◌, true, false, ◌≡◌, ◌+◌, suc, ◌++◌, length, refl, sym, ap, subst, ◌∙◌, arith, Bool, append_assoc, ⊎_elim, lit<, ◌==◌, ◌<◌, ◌≤◌, zero, cond, take, get_or, Option, Some, None, length-append, inl, inr, ◌⊎◌, Result, Ok, Err}
 use Rattle.std.proofs.lemmas.Bool.{false≢true, cases_Bool, and_left, and_right, cond-false, cond_both, cases_lt, cases_order}
-use Rattle.decimal_json.specs.Value.{Value, null, boolean, number, text, array, object, Items, no_items, item, Members, no_members, member, items_of, members_of}
+use Rattle.decimal_json.specs.Value.{Value, number, text, array, object, Items, no_items, item, Members, no_members, member, items_of, members_of}
 use Rattle.decimal_json.specs.Open.{Member, Frame, in_array, in_object, Purpose, for_value, for_key}
-use Rattle.decimal_json.specs.Grammar.{Character, itself, short, alone, pair, IsCharacter, AreCharacters, IsString, Spells, SpellsItems, SpellsMoreItems, SpellsMembers, SpellsMoreMembers, SpellsText, IsSpace, character_text, meaning, AreHex, is_first_alone, begins_with_second, IsWhole, AreDigits, numerals, negative_text, fraction_text, Power, no_power, power, power_text, is_down, written, IsPower, no_sign, sign_text}
+use Rattle.decimal_json.specs.Grammar.{Character, short, alone, pair, IsCharacter, AreCharacters, IsString, Spells, SpellsItems, SpellsMoreItems, SpellsMembers, SpellsMoreMembers, SpellsText, IsSpace, character_text, meaning, AreHex, is_first_alone, begins_with_second, IsWhole, AreDigits, numerals, negative_text, fraction_text, Power, no_power, power, power_text, is_down, written, IsPower, no_sign, sign_text}
 use Rattle.decimal_json.specs.Fronts.{FrontItems, FrontMembers, Spaced, IsFront, IsKeyFront}
 use Rattle.std.specs.List.{flat_map}
 use Rattle.std.specs.Char.Utf16.{is_low_surrogate, is_high_surrogate}

@@ -6,7 +6,7 @@ use Rattle.std.proofs.lemmas.Bool.{and_from, le-leb, cases_eq, ne_eqb, cases_Boo
 use Rattle.decimal_json.specs.Value.{Decimal, number, Value, null, boolean, text, array, object, Items, no_items, item, Members, no_members, member, members_of, has_key}
 use Rattle.decimal_json.specs.Number.{is_digit, digit_of, is_mark, whole_of}
 use Rattle.decimal_json.specs.Open.{Frame, Purpose, Member, in_array, in_object, for_value, for_key}
-use Rattle.decimal_json.specs.inside.Scan.{Spot, wanted, ended, numeral, zero_first, whole, point, fraction, mark, signed, exponent, so_far, next, step, begin_step, numeral_step, finish, after, outcome, quoted, Quoted, plain, escaped, unit, high, high_escaped, high_unit, Hex, no_digit, one_digit, two_digits, three_digits, Step, stop, Outcome, fault, quoted_step, quote_step, unit_step, pair_step, more_hex, escape_step, first_item, first_key, key_wanted, colon_wanted, literal, done, literal_step, opened, finish_value, whole_outcome, ended_step, close_step}
+use Rattle.decimal_json.specs.inside.Scan.{Spot, wanted, ended, numeral, zero_first, whole, point, fraction, mark, signed, exponent, so_far, next, step, begin_step, numeral_step, finish, after, outcome, quoted, Quoted, plain, escaped, unit, high, high_escaped, high_unit, Hex, no_digit, one_digit, two_digits, three_digits, Step, stop, Outcome, fault, quoted_step, quote_step, unit_step, pair_step, more_hex, escape_step, first_item, first_key, key_wanted, colon_wanted, done, literal_step, opened, finish_value, whole_outcome, ended_step, close_step}
 use Rattle.decimal_json.specs.inside.Answer.{begun}
 use Rattle.decimal_json.specs.Grammar.{AreDigits, numerals, IsWhole, fraction_text, Power, no_power, power, Sign, no_sign, plus, minus, sign_text, is_minus, power_text, is_down, written, IsPower, negative_text, IsNumber, Character, itself, short, alone, pair, character_text, meaning, AreHex, is_surrogate, begins_with_second, AreCharacters, IsSpace, IsString, HasUniqueKeys, Spells, SpellsItems, SpellsMoreItems, SpellsMembers, SpellsMoreMembers, SpellsText}
 use Rattle.decimal_json.proofs.Moves.{Moves, moves_none, moves_byte, moves_then, moves_on, placed_at, Delimits, delimiter_is, Refuses, refuses_along, space_moves, Arrives, arrives_then, arrives_by}

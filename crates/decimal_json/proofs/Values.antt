@@ -1,7 +1,7 @@
 -- The machine round values.
-use Rattle.std.proofs.Common.{◌≡◌, ℕ, ◌+◌, ◌==◌, ◌<◌, suc, List, [], ◌∷◌, drop, length, get_or, refl, sym, ap, subst, ◌∙◌, arith, true, false, ◌≤◌, ◌||◌, ◌++◌, ⊎_elim, Bool}
+use Rattle.std.proofs.Common.{◌≡◌, ℕ, ◌+◌, ◌==◌, ◌<◌, List, [], ◌∷◌, drop, length, get_or, refl, sym, ap, subst, ◌∙◌, arith, true, false, ◌≤◌, ◌||◌, ◌++◌, ⊎_elim, Bool}
 use Rattle.std.proofs.lemmas.Bool.{eq-eqb, ne_eqb, false≢true, lt-ltb, le-ltb, or_parts, or_from}
-use Rattle.std.specs.Prelude.{Result, Option, Some, None, ◌⊎◌, Ok, Err}
+use Rattle.std.specs.Prelude.{Result, Option, Some, None, Ok, Err}
 use Rattle.std.specs.Option.{IfSome, IfNone}
 use Rattle.std.specs.Result.{IfErr, IsErrAnd}
 use Rattle.std.specs.Str.{IsUtf8, IsCharBoundary, bytes_eq}
@@ -12,7 +12,7 @@ use Rattle.decimal_json.specs.Value.{Value, null, boolean, text, array, object, 
 use Rattle.decimal_json.specs.Number.{is_digit}
 use Rattle.decimal_json.specs.Characters.{rue, alse, ull, is_space, depth_limit}
 use Rattle.decimal_json.specs.Open.{Frame, for_value, Member, in_array, in_object, for_key}
-use Rattle.decimal_json.specs.inside.Scan.{Spot, wanted, literal, awaited, numeral, minus, quoted, plain, next, stop, Outcome, fault, step, begin_step, literal_step, quote_step, after, outcome, scan, finish, first_item, first_key, key_wanted, colon_wanted, ended, opened, ended_step, close_step, finish_value, done, whole_outcome}
+use Rattle.decimal_json.specs.inside.Scan.{Spot, wanted, literal, awaited, numeral, minus, quoted, plain, next, stop, Outcome, fault, step, begin_step, literal_step, quote_step, scan, finish, first_item, first_key, key_wanted, colon_wanted, ended, opened, ended_step, close_step, finish_value, done, whole_outcome}
 use Rattle.decimal_json.specs.inside.Answer.{Leads, FailsAt, StandsAt, IsToken, Reads, Breaks, ReadsText, BreaksText, MaySpace, FindsToken, LacksToken, PassesToken, HasKeys, AddsKey, ReadsKey, BreaksKey, ReadsValue, BreaksValue, ReadsInside, BreaksInside, ReadsMember, BreaksMember, resumed, Gives, SkipsSpace}
 use Rattle.decimal_json.proofs.Exits.{passed_on, some_of, none_of}
 use Rattle.decimal_json.proofs.Moves.{moved, stopped, finished, byte_and_rest, fails_there, stepped}

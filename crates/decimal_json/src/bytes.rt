@@ -39,6 +39,7 @@ pub fn is_white(byte: u8) -> bool
 }
 
 /// The next place where no white space stands.
+#[tactic(auto, using(crate::proofs::Moves::past_space))]
 pub fn skip_space(bytes: &[u8], start: usize) -> usize
     requires { start ≤ length bytes.now }
     ensures forward { start ≤ result }

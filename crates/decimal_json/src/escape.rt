@@ -86,6 +86,7 @@ fn is_low(unit: u32) -> bool
 }
 
 /// The second unit of a pair, if its escape stands at a place.
+#[tactic(auto, using(crate::proofs::Numerals::no_backslash, crate::proofs::Numerals::no_u, crate::proofs::Numerals::second_broken, crate::proofs::Numerals::second_not_low, crate::proofs::Numerals::second_read))]
 fn second_unit(bytes: &[u8], at: usize) -> Option<u32>
     requires { at ≤ length bytes.now }
     ensures within { IfSome result (λ v. at + 6 ≤ length bytes.now) }
@@ -156,6 +157,7 @@ fn unicode_escape(bytes: &[u8], back: usize) -> Result<(char, usize), JsonFault>
 }
 
 /// The character of the escape whose backslash stands at a place, and the place behind it.
+#[tactic(auto, using(crate::proofs::Numerals::letter_ends, crate::proofs::Numerals::letter_read, crate::proofs::Numerals::letter_unknown))]
 pub fn escape(bytes: &[u8], back: usize) -> Result<(char, usize), JsonFault>
     requires backslash { StandsAt bytes.now back 92 }
     requires within { back < length bytes.now }

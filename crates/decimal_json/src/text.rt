@@ -19,6 +19,7 @@ fn is_plain_byte(byte: u8) -> bool
 }
 
 /// The next place where no byte stands for itself.
+#[tactic(auto, using(crate::proofs::Numerals::reads_more))]
 fn skip_plain(bytes: &[u8], start: usize) -> usize
     requires { start ≤ length bytes.now }
     ensures within { (start ≤ result) × (result ≤ length bytes.now) }

@@ -3,7 +3,7 @@ use Rattle.std.proofs.Common.{◌≡◌, ℕ, zero, suc, ◌+◌, ◌-◌, ◌*�
 use Rattle.std.proofs.lemmas.Bool.{cases_lt, le-ltb, lt-ltb, lt-leb, cases_Bool, false≢true, or_cases, or_parts, leb-false, leb-true, ltb-false, ltb-true}
 use Rattle.std.proofs.Math.Nat.{pow-suc, mul_assoc, add-mul, mul_right_comm, one-le-pow, pow-le-pow_right, mul-le-mul_right}
 use Rattle.instance.specs.Held.{held, held_wholes, PAST_LIMITS}
-use Rattle.std.specs.Prelude.{ℤ, pos, negsuc, nat_le, ◌≢◌, fold, nat_lt, ◌||◌, slice_index, if◌then◌else◌}
+use Rattle.std.specs.Prelude.{ℤ, pos, negsuc, nat_le, ◌≢◌, fold, nat_lt, slice_index, if◌then◌else◌}
 use Rattle.std.proofs.lemmas.Int.{ints, clamps}
 use Rattle.decimal_json.specs.Value.{Decimal}
 use Rattle.decimal_json.specs.Number.{held as held_exponent, held_decimal, whole_of}

@@ -13,7 +13,7 @@ use Rattle.uc_model.specs.declared.limits.TheConstants.{MAX_PERIODS, MAX_POWER, 
 use Rattle.decimal_json.specs.Value.{Decimal, Value}
 use Rattle.instance.specs.Fields.{number_in, key_of, entries_in, pairs_in, field_of}
 use Rattle.instance.specs.Scaled.{MILLION, size_of, signed, scaled, is_rounded, wholes_of, is_below_zero}
-use Rattle.instance.specs.InstanceOf.{IsNumber, IsPowerOf, IsCostOf, IsTimeOf, IsFlagOf, IsPeriodsOf, IsRising, Pairs, Has, IsArray, IsPowersOf, AreRowsOf, IsStartRowOf, IsPointOf, IsObject, IsLimitOf, IsMinimumTimeOf, IsThermalOf, IsRenewableOf, AreUnitsOf, HasFields, IsInstanceOf}
+use Rattle.instance.specs.InstanceOf.{IsNumber, IsPowerOf, IsCostOf, IsTimeOf, IsFlagOf, IsPeriodsOf, IsRising, Pairs, Has, IsPowersOf, AreRowsOf, IsStartRowOf, IsPointOf, IsObject, IsLimitOf, IsMinimumTimeOf, IsThermalOf, IsRenewableOf, AreUnitsOf, HasFields, IsInstanceOf}
 use Rattle.std.specs.Int.{int_max}
 use Rattle.std.specs.List.{AllZip}
 use Rattle.std.proofs.lemmas.List.{append-nil, length-append, length-drop, nil_from_length, length-take}

@@ -13,7 +13,7 @@ use Rattle.branch_tree.specs.Claims.{certificate_of, written_tables}
 use Rattle.branch_tree.specs.declared.found.Found.{Found}
 use Rattle.cert_text.specs.CertificateText.{listing_of}
 use Rattle.cert_text.specs.TextConditions.{HasText, IsMoney}
-use Rattle.cert_text.proofs.FoundTexts.{found-has-text}
+use Rattle.cert_text.proofs.Parts.{found_has_text}
 use Rattle.demo_gen.specs.Demo.{demo_instance}
 use Rattle.dual_value.specs.NodeAnswer.{MAX_VALUE}
 use Rattle.workers.specs.Writable.{HasFewRows, IsWritable}
@@ -38,7 +38,7 @@ countable table few = omega (arith, few)
 text_of : (instance : Instance) (budget gap : ℕ) (found : Found) → IsLawfulInstance instance → IsSearchResult instance budget gap found
     → IsWritable instance found → HasText (listing_of (certificate_of instance found))
 text_of instance budget gap found lawful result writable =
-    found-has-text instance found lawful writable.tree result.truth.certificate (has_schedule_text instance found.schedule writable.schedule)
+    found_has_text instance found lawful writable.tree result.truth.certificate (has_schedule_text instance found.schedule writable.schedule)
     (bound_text (tree_bound found.tree) writable.bound)
     (All-weaker HasFewRows (λ (table : Table). length table.ramps < 10 ^ 18) countable (written_tables found) writable.tables)
 

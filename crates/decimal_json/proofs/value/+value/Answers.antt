@@ -1,5 +1,5 @@
 use Rattle.std.specs.Prelude.{Ok}
-use Rattle.std.proofs.Common.{◌+◌, ◌<◌, ◌≤◌, length, [], ◌∷◌, ◌++◌, map, sym, ap, subst, ◌∙◌, arith}
+use Rattle.std.proofs.Common.{◌+◌, ◌<◌, ◌≤◌, length, map, sym, ap, subst, ◌∙◌, arith}
 use Rattle.std.specs.String.{string_bytes}
 use Rattle.decimal_json.specs.Value.{array, object, items_of, members_of}
 use Rattle.decimal_json.specs.Open.{Member}
@@ -9,7 +9,7 @@ use Rattle.decimal_json.specs.View.{view, pair_view}
 use Rattle.decimal_json.proofs.Exits.{passed_on}
 use Rattle.decimal_json.proofs.Views.{view-array, view-object, view-pair, map-push}
 use Rattle.decimal_json.proofs.Keys.{knows_nothing}
-use Rattle.decimal_json.proofs.Values.{HasItems, HasMembers, array_cut, array_empty, items_begin, item_breaks, array_breaks, array_closes, items_go_on, object_cut, object_empty, members_begin, member_breaks, member_read, no_member_key, no_member_value, object_breaks, object_closes, members_go_on, value_cut, too_deep, inside_read, inside_breaks, open_array, open_object, scalar_read, scalar_breaks}
+use Rattle.decimal_json.proofs.Values.{HasItems, HasMembers, array_cut, array_empty, items_begin, item_breaks, array_breaks, array_closes, items_go_on, object_cut, object_empty, members_begin, member_breaks, member_read, no_member_key, no_member_value, object_breaks, object_closes, members_go_on, value_cut, too_deep, inside_read, inside_breaks, open_array, open_object}
 use Rattle.decimal_json.proofs.value.+value.Goals as goal
 
 pub array-returns-in_err-at-clause-fault : goal.array-returns-in_err-at-clause-fault
