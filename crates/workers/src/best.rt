@@ -28,7 +28,7 @@ const KICKED_UNITS: u32 = 100;
 const LATER_MOVES_EACH: u32 = 25;
 
 /// What an ascent takes the bound for is wrong by less than this part of it.
-const ERRORS: u64 = 1 << 26;
+const ERRORS: u64 = 1 << 21;
 
 /// How many moves the repair has at the claim of this unit.
 pub(crate) fn moves(instance: &Instance, unit: u32) -> u32
