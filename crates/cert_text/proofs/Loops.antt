@@ -1,7 +1,5 @@
 -- Reading things one after the other, as a loop does.
-use Rattle.std.proofs.Common.{◌≡◌, ℕ, suc, ◌-◌, ◌+◌, ◌≤◌, ◌<◌, List, [], ◌∷◌, ◌++◌, Option, Some, None, Result, Ok, Err, refl, sym, ap, ◌∙◌, append_assoc, arith}
-use Rattle.std.specs.Prelude.{option_and_then}
-use Rattle.std.proofs.lemmas.List.{append-nil}
+use Rattle.std.proofs.Common.{◌≡◌, ℕ, suc, ◌-◌, ◌+◌, ◌≤◌, ◌<◌, List, [], ◌∷◌, ◌++◌, Option, Some, None, Result, Ok, Err, refl, sym, ap, ◌∙◌, append_assoc, arith, option_and_then, append-nil}
 use Rattle.cert_text.specs.inside.Forms.{Form, text_at, after, times}
 use Rattle.cert_text.specs.declared.reader.stop.Stop.{Stop}
 use Rattle.cert_text.specs.declared.reader.stop.Stop.TheVariants as stops

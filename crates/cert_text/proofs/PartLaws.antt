@@ -1,9 +1,8 @@
 -- A part reads the lines of what is valid and nothing else, as the grammar has them; and where it stops, no line of the kind
 -- that is to come begins the bytes that are left.
-use Rattle.std.proofs.Common.{◌≡◌, ℕ, zero, suc, List, [], ◌∷◌, ◌++◌, length, replicate, All, Option, Some, None, Result, Ok, Err, refl, sym, ap, subst, ◌∙◌, append_assoc, arith, ◌^◌, ◌<◌, map, get_or, ℤ, pos, negsuc, unsigned_abs, ◌≤ℤ◌, ◌≤◌, append-nil, ◌+◌, ◌-◌}
+use Rattle.std.proofs.Common.{◌≡◌, ℕ, zero, suc, List, [], ◌∷◌, ◌++◌, length, replicate, All, Option, Some, None, Result, Ok, Err, refl, sym, ap, subst, ◌∙◌, append_assoc, arith, ◌^◌, ◌<◌, map, get_or, ℤ, pos, negsuc, unsigned_abs, ◌≤ℤ◌, ◌≤◌, append-nil, ◌+◌, ◌-◌, length-append, IfSome, codes}
 use Rattle.std.specs.List.{flat_map}
 use Rattle.std.specs.Option.{ok_or}
-use Rattle.std.proofs.lemmas.List.{length-append}
 use Rattle.std.proofs.lemmas.List.Elements.{All-nil, All-cons, All-head, All-tail}
 use Rattle.outside.specs.Lines.{joined, line}
 use Rattle.outside.proofs.Joining.{joined-append, joined-cons}
@@ -11,7 +10,6 @@ use Rattle.cert_text.specs.Grammar.{Symbol, Produces, Reaches, Sizes, AreSizes, 
 use Rattle.cert_text.specs.inside.Forms.{Form, signed_at, text_at}
 use Rattle.cert_text.specs.inside.Parts.{◌>>=◌, Part, line_of, then, told, repeated, written, ramp_rows_part, ramps_part, prices_part, table_of, numbers_part, table_part, printed_part, rows_behind, schedule_part, owed_after, nodes_part, tree_part, listing_from, heading_part, certificate_part}
 use Rattle.cert_text.proofs.FormLaws.{IsForm, Anything, prices-form, scale-form, ramp_count-form, ramp-form, form-as, thermal-form, renewable-form, schedule-form, node-form, version-form, size-form, claim-form, end-form}
-use Rattle.std.specs.Prelude.{IfSome, codes}
 use Rattle.std.proofs.lemmas.Int.{ints}
 use Rattle.dual_model.specs.Prices.{IsWellFormed, IsRowBefore, IsRowWithin}
 use Rattle.dual_model.specs.declared.table.RampRow.{RampRow}

@@ -1,6 +1,5 @@
 -- Words that are taken name one of the commands.
-use Rattle.std.proofs.Common.{◌≡◌, ◌∙◌, ◌⊎◌, ◌&&◌, Bool, cond, true, false, refl, sym, ap, subst, ⊎_elim, true≢false, List, [], ◌∷◌}
-use Rattle.std.specs.Prelude.{Option, Some, None, is_some, option_map, option_and_then, find, not}
+use Rattle.std.proofs.Common.{◌≡◌, ◌∙◌, ◌⊎◌, ◌&&◌, Bool, cond, true, false, refl, sym, ap, subst, ⊎_elim, true≢false, List, [], ◌∷◌, Option, Some, None, is_some, option_map, option_and_then, find, not}
 use Rattle.std.specs.List.{list_any}
 use Rattle.clap.specs.Words.{App, HasMatchesOf, IsAmong, Kinds, Text, fault_of, is_simple, is_simple_and_free, subcommand_of, subcommand_rows_of}
 use Rattle.clap.specs.declared.error.kind.ErrorKind.{ErrorKind}

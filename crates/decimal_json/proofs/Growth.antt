@@ -1,12 +1,10 @@
 -- Fronts that grow by one item or member, or close.
-use Rattle.std.proofs.Common.{Bool, ◌≡◌, ℕ, ◌≤◌, List, [], ◌∷◌, ◌++◌, length, refl, sym, ap, ◌∙◌, arith, true, append_assoc, ◌<◌}
-use Rattle.std.proofs.lemmas.List.{append-nil}
+use Rattle.std.proofs.Common.{Bool, ◌≡◌, ℕ, ◌≤◌, List, [], ◌∷◌, ◌++◌, length, refl, sym, ap, ◌∙◌, arith, true, append_assoc, ◌<◌, append-nil, ◌⊎◌}
 use Rattle.decimal_json.specs.Value.{Value, Items, no_items, item, items_of, Members, no_members, member, members_of}
 use Rattle.decimal_json.specs.Characters.{is_space}
 use Rattle.decimal_json.specs.Open.{Member, Frame, in_array, in_object, Purpose}
 use Rattle.decimal_json.specs.Grammar.{IsSpace, IsString, Spells, SpellsItems, SpellsMoreItems, SpellsMembers, SpellsMoreMembers, Character, character_text, meaning, AreCharacters, AreHex, AreDigits, IsWhole, numerals, negative_text, fraction_text, Sign, sign_text, is_minus}
 use Rattle.decimal_json.specs.Fronts.{FrontItems, FrontMembers, Spaced, IsFront, IsKeyFront, IsStringFront, BehindKey, OpensTooDeep, RepeatsKey, LacksPartner}
-use Rattle.std.specs.Prelude.{◌⊎◌}
 use Rattle.std.specs.List.{flat_map}
 use Rattle.std.specs.Char.Utf16.{is_high_surrogate}
 use Rattle.decimal_json.specs.Number.{is_mark, whole_of}

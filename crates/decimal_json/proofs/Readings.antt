@@ -1,5 +1,5 @@
 -- What is spelled within the limits is spelled without them.
-use Rattle.std.proofs.Common.{ℕ, List, [], ◌∷◌, true, false, ◌≡◌, ◌+◌, suc, ◌++◌, length, refl, sym, ap, subst, ◌∙◌, arith, Bool, append_assoc, ⊎_elim, lit<, ◌==◌, ◌<◌, ◌≤◌, zero, cond, take, get_or, Option, Some, None, length-append, inl, inr, ◌⊎◌, Result, Ok, Err}
+use Rattle.std.proofs.Common.{ℕ, List, [], ◌∷◌, true, false, ◌≡◌, ◌+◌, suc, ◌++◌, length, refl, sym, ap, subst, ◌∙◌, arith, Bool, append_assoc, ⊎_elim, lit<, ◌==◌, ◌<◌, ◌≤◌, zero, cond, take, get_or, Option, Some, None, length-append, inl, inr, ◌⊎◌, Result, Ok, Err, nat_le}
 use Rattle.std.proofs.lemmas.Bool.{false≢true, cases_Bool, and_left, and_right, cond-false, cond_both, cases_lt, cases_order}
 use Rattle.decimal_json.specs.Value.{Value, number, text, array, object, Items, no_items, item, Members, no_members, member, items_of, members_of}
 use Rattle.decimal_json.specs.Open.{Member, Frame, in_array, in_object, Purpose, for_value, for_key}
@@ -13,7 +13,6 @@ use Rattle.decimal_json.specs.Escape.{unit_of, is_hex, short_escape}
 use Rattle.decimal_json.specs.inside.Scan.{Spot, wanted, first_item, first_key, key_wanted, colon_wanted, ended, literal, numeral, quoted, Numeral, minus, zero_first, whole, point, fraction, mark, signed, exponent, Quoted, plain, escaped, unit, high, high_escaped, high_unit, no_digit, one_digit, two_digits, three_digits, Step, next, stop, fault, step, begin_step, ended_step, close_step, literal_step, numeral_step, quoted_step, escape_step, after, outcome, whole_outcome, finish, done, Outcome}
 use Rattle.decimal_json.proofs.Growth.{items_close, members_close, BehindValue, InString, QuotedText, NumeralText, Stands, AreAscii, Caught, Good}
 use Rattle.decimal_json.proofs.SoundValues.{open_whole, whole_text, fraction_end, power_end, some_digits, none_alone, good_step, Stops, IsSound, is_sound}
-use Rattle.std.specs.Prelude.{nat_le}
 use Rattle.std.specs.Str.{IsUtf8, IsCharBoundary, IsAscii, IsValidUpTo}
 use Rattle.std.proofs.lemmas.Str.{IsCharBoundary-start, IsCharBoundary-after_ascii, IsUtf8-append, IsUtf8-take, IsUtf8-from_ascii}
 use Rattle.decimal_json.specs.Characters.{is_space}

@@ -1,7 +1,6 @@
 -- The machine round values.
-use Rattle.std.proofs.Common.{◌≡◌, ℕ, ◌+◌, ◌==◌, ◌<◌, List, [], ◌∷◌, drop, length, get_or, refl, sym, ap, subst, ◌∙◌, arith, true, false, ◌≤◌, ◌||◌, ◌++◌, ⊎_elim, Bool}
+use Rattle.std.proofs.Common.{◌≡◌, ℕ, ◌+◌, ◌==◌, ◌<◌, List, [], ◌∷◌, drop, length, get_or, refl, sym, ap, subst, ◌∙◌, arith, true, false, ◌≤◌, ◌||◌, ◌++◌, ⊎_elim, Bool, Result, Option, Some, None, Ok, Err}
 use Rattle.std.proofs.lemmas.Bool.{eq-eqb, ne_eqb, false≢true, lt-ltb, le-ltb, or_parts, or_from}
-use Rattle.std.specs.Prelude.{Result, Option, Some, None, Ok, Err}
 use Rattle.std.specs.Option.{IfSome, IfNone}
 use Rattle.std.specs.Result.{IfErr, IsErrAnd}
 use Rattle.std.specs.Str.{IsUtf8, IsCharBoundary, bytes_eq}

@@ -1,9 +1,7 @@
 -- An instance that a value stands for is within the limits.
-use Rattle.std.proofs.Common.{◌≡◌, ℕ, zero, suc, ◌*◌, ◌<◌, ◌≤◌, false, List, [], ◌∷◌, length, get_or, take, arith, Bool, Result, Ok, Err, subst}
-use Rattle.std.specs.Prelude.{IsTrue, ℤ, pos, ◌≤ℤ◌, IfOk}
+use Rattle.std.proofs.Common.{◌≡◌, ℕ, zero, suc, ◌*◌, ◌<◌, ◌≤◌, false, List, [], ◌∷◌, length, get_or, take, arith, Bool, Result, Ok, Err, subst, IsTrue, ℤ, pos, ◌≤ℤ◌, IfOk, length-take}
 use Rattle.std.specs.List.{All, AllZip}
 use Rattle.std.proofs.lemmas.Int.{ints}
-use Rattle.std.proofs.lemmas.List.{length-take}
 use Rattle.std.proofs.lemmas.List.Elements.{AllZip-get_or}
 use Rattle.std.proofs.lemmas.Slice.Zip.{AllZip-long}
 use Rattle.uc_model.specs.Limits.{IsPower, IsCost, IsLimit, IsLawfulThermal, IsLawfulRenewable, IsLawfulInstance}

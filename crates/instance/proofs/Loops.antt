@@ -1,6 +1,5 @@
 -- What a loop over the entries of an array, or over the members of an object, has done up to a place.
-use Rattle.std.proofs.Common.{◌≡◌, ℕ, ◌+◌, ◌*◌, ◌≤◌, List, [], drop, take, map, length, Result}
-use Rattle.std.specs.Prelude.{sum_by}
+use Rattle.std.proofs.Common.{◌≡◌, ℕ, ◌+◌, ◌*◌, ◌≤◌, List, [], drop, take, map, length, Result, sum_by}
 use Rattle.instance.specs.declared.reader.Reader.{Reader}
 use Rattle.instance.specs.FirstFault.{each_at}
 

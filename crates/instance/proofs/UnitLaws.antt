@@ -1,10 +1,9 @@
 -- A step that reads something, and what it reads: laws of steps from those of the steps that they are made of.
-use Rattle.std.proofs.Common.{◌≡◌, ℕ, Bool, true, false, List, Option, Some, None, Result, Ok, Err, refl, sym, ap, subst, ◌∙◌, zero, suc, ◌*◌, ◌/◌, ◌%◌, ◌≤◌, cond, arith, ◌+◌, ◌-◌, [], ◌∷◌, ◌++◌, length, drop, get_or, append_assoc, take, max}
+use Rattle.std.proofs.Common.{◌≡◌, ℕ, Bool, true, false, List, Option, Some, None, Result, Ok, Err, refl, sym, ap, subst, ◌∙◌, zero, suc, ◌*◌, ◌/◌, ◌%◌, ◌≤◌, cond, arith, ◌+◌, ◌-◌, [], ◌∷◌, ◌++◌, length, drop, get_or, append_assoc, take, max, ◌&&◌, ◌||◌, ◌==◌, nat_lt, IsTrue, ℤ, pos, ◌≤ℤ◌, int_lt, unsigned_abs, neg_ℤ, slice_index_or}
 use Rattle.std.specs.Option.{IsSomeAnd}
 use Rattle.instance.specs.declared.fault.Place.{Place}
 use Rattle.instance.specs.declared.fault.Refusal.{Refusal}
 use Rattle.instance.specs.FirstFault.{◌>>=◌, wanted, refused_if, in_unit, number_at, amount_at, power_at, power_from, cost_at, whole_at, time_at, flag_at, periods_at, each_at, whole, next_entry, field_at, entries_at, rows_at, power_entry, powers_at, maximum_entry, maxima_at, start_row, point_row, startup_at, points_at, thermal_of, object_at, flag_field, time_field, power_field, output_field, outputs_at, ramps_at, times_at, initial_at, thermal_at, renewable_at, outside, units_at, thermal_member, renewable_member, thermal_units_at, renewable_units_at, totals_at, instance_at}
-use Rattle.std.specs.Prelude.{◌&&◌, ◌||◌, ◌==◌, nat_lt, IsTrue, ℤ, pos, ◌≤ℤ◌, int_lt, unsigned_abs, neg_ℤ, slice_index_or}
 use Rattle.std.proofs.lemmas.Bool.{ltb-false, le-ltb, or_parts, or_from}
 use Rattle.std.proofs.lemmas.Bool.Decides.{nat_tests}
 use Rattle.std.proofs.lemmas.Int.{ints}

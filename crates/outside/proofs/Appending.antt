@@ -1,8 +1,6 @@
 -- How appended bytes add up, here and for what writes by these calls.
-use Rattle.std.proofs.Common.{◌≡◌, ℕ, ◌+◌, List, [], ◌++◌, take, drop, subst, sym, ◌∙◌, ap, append-nil, Option, None, Some}
-use Rattle.std.specs.Prelude.{Result, Ok, Err, OnErr}
+use Rattle.std.proofs.Common.{◌≡◌, ℕ, ◌+◌, List, [], ◌++◌, take, drop, subst, sym, ◌∙◌, ap, append-nil, Option, None, Some, Result, Ok, Err, OnErr, take-append-drop}
 use Rattle.std.proofs.Math.Seq.{take-add}
-use Rattle.std.proofs.lemmas.List.{take-append-drop}
 use Rattle.outside.specs.Counts.{HasRisen}
 use Rattle.outside.specs.ToldBytes.{Tells, Appends, AppendsFront}
 use Rattle.outside.specs.Sinks.{WriterState, WriterWrites, WriterCountsFault, WritesFront}

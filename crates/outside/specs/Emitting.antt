@@ -1,6 +1,5 @@
 -- How the texts that are written one after another, or put into a latch, add up.
-use Rattle.std.specs.Prelude.{◌≡◌, ℕ, Bool, true, false, List, [], ◌++◌, Option, Some, None, refl}
-use Rattle.std.proofs.Common.{sym, subst, ap, ◌∙◌, append_assoc, append-nil}
+use Rattle.std.proofs.Common.{sym, subst, ap, ◌∙◌, append_assoc, append-nil, ◌≡◌, ℕ, Bool, true, false, List, [], ◌++◌, Option, Some, None, refl}
 use Rattle.outside.specs.Counts.{HasRisen}
 use Rattle.outside.specs.ToldBytes.{Appends}
 use Rattle.outside.specs.Sinks.{WriterState, WriterWrites, WritesFront}

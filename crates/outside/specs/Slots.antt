@@ -1,7 +1,6 @@
 -- What a caller may know of a slot, and what each call does to it.
-use Rattle.std.specs.Prelude.{◌≡◌, ◌≢◌, ℕ, Bool, true, IfSome, List, [], ◌++◌, Option, refl}
 use Rattle.std.specs.Option.{option_map}
-use Rattle.std.proofs.Common.{◌∙◌}
+use Rattle.std.proofs.Common.{◌∙◌, ◌≡◌, ◌≢◌, ℕ, Bool, true, IfSome, List, [], ◌++◌, Option, refl}
 use Rattle.std.specs.Str.{bytes_eq}
 use Rattle.outside.specs.declared.slot.Slot.{Slot}
 use Rattle.outside.specs.declared.slot.Stage.{Stage}

@@ -1,6 +1,5 @@
 -- The two seats of a pool of two workers.
-use Rattle.std.proofs.Common.{◌≡◌, ℕ, ◌+◌, List, [], ◌∷◌, ◌++◌, length, ap, ◌∙◌, arith, length-append}
-use Rattle.std.specs.Prelude.{slice_get}
+use Rattle.std.proofs.Common.{◌≡◌, ℕ, ◌+◌, List, [], ◌∷◌, ◌++◌, length, ap, ◌∙◌, arith, length-append, slice_get}
 use Rattle.steal_pool.specs.Seats.{DequeId, SeatOf, IsFresh}
 use Rattle.steal_pool.specs.Pools.{IsFreshPool}
 use Rattle.thread_tests.specs.TwoSeats.{IsSeat}

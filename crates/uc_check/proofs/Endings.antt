@@ -1,6 +1,5 @@
 -- How a run ends, by what is known of what it came to.
-use Rattle.std.proofs.Common.{sym, subst, inl, inr}
-use Rattle.std.specs.Prelude.{Option, Result, Ok, Err, IfOk, IfErr}
+use Rattle.std.proofs.Common.{sym, subst, inl, inr, Option, Result, Ok, Err, IfOk, IfErr}
 use Rattle.outside.specs.Sinks.{SinkState}
 use Rattle.branch_tree.specs.declared.found.Found.{Found}
 use Rattle.report.specs.declared.fault.Fault.{Fault}

@@ -1,6 +1,5 @@
 -- A slot that was read as `slurp` says was only read.
-use Rattle.std.proofs.Common.{◌≡◌, ℕ, ◌+◌, ◌≤◌, List, [], ◌++◌, length, sym, ap, ◌∙◌, ⊎_elim, arith}
-use Rattle.std.specs.Prelude.{Result, Ok, Err, IfOk, Option, Some, None}
+use Rattle.std.proofs.Common.{◌≡◌, ℕ, ◌+◌, ◌≤◌, List, [], ◌++◌, length, sym, ap, ◌∙◌, ⊎_elim, arith, Result, Ok, Err, IfOk, Option, Some, None}
 use Rattle.std.specs.Option.{option_map}
 use Rattle.outside.specs.declared.slot.Stage.TheVariants.{Unopened}
 use Rattle.outside.specs.declared.reading.SlurpFault.{SlurpFault}

@@ -1,7 +1,6 @@
 -- How the ends of a run of `check` follow from its steps: reading the instance (from the files f to g), reading the
 -- certificate (from g to h), checking it, and the report.
-use Rattle.std.proofs.Common.{◌≡◌, ◌≤◌, ℕ, true, false, length, sym, subst, ap, ◌∙◌, refl, ⊎_elim}
-use Rattle.std.specs.Prelude.{Result, Ok, Err, IfOk, IfErr, IsErrAnd, Some, None, List}
+use Rattle.std.proofs.Common.{◌≡◌, ◌≤◌, ℕ, true, false, length, sym, subst, ap, ◌∙◌, refl, ⊎_elim, Result, Ok, Err, IfOk, IfErr, IsErrAnd, Some, None, List}
 use Rattle.uc_model.specs.Limits.{IsLawfulInstance}
 use Rattle.uc_model.specs.declared.instance.Instance.{Instance}
 use Rattle.uc_model.proofs.PrintedCosts.{cost-le-printed}

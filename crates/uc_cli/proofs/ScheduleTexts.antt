@@ -1,6 +1,5 @@
 -- A schedule that is accepted has a text of the certificate's grammar.
-use Rattle.std.proofs.Common.{◌≡◌, ◌∙◌, ℕ, false, List, [], get_or, length, subst, sym, arith, ap, ℤ, pos, Some, None, Option}
-use Rattle.std.specs.Prelude.{IfSome}
+use Rattle.std.proofs.Common.{◌≡◌, ◌∙◌, ℕ, false, List, [], get_or, length, subst, sym, arith, ap, ℤ, pos, Some, None, Option, IfSome}
 use Rattle.std.proofs.lemmas.List.{get_or_default}
 use Rattle.uc_model.specs.Schedule.{thermal_count, renewable_count}
 use Rattle.uc_model.specs.PrintedSchedule.{cell_at}

@@ -1,6 +1,5 @@
 -- What a search answers claims truly, and its certificate has a text.
-use Rattle.std.proofs.Common.{◌≡◌, ◌^◌, ◌<◌, ◌≤◌, ℕ, arith, length, subst, Option, Some, None, ℤ, unsigned_abs}
-use Rattle.std.specs.Prelude.{IfSome}
+use Rattle.std.proofs.Common.{◌≡◌, ◌^◌, ◌<◌, ◌≤◌, ℕ, arith, length, subst, Option, Some, None, ℤ, unsigned_abs, IfSome}
 use Rattle.std.proofs.lemmas.List.Elements.{All-weaker}
 use Rattle.uc_model.specs.Limits.{IsLawfulInstance}
 use Rattle.uc_model.specs.declared.instance.Instance.{Instance}

@@ -1,6 +1,5 @@
 -- Where memory is refused at words that are taken, the run is one of their command that was stopped by that.
-use Rattle.std.proofs.Common.{◌≡◌, ◌∙◌, true, refl, sym, inl, inr, true≢false, List, ℕ}
-use Rattle.std.specs.Prelude.{Option, Some, None, Err, is_some}
+use Rattle.std.proofs.Common.{◌≡◌, ◌∙◌, true, refl, sym, inl, inr, true≢false, List, ℕ, Option, Some, None, Err, is_some}
 use Rattle.outside.specs.declared.slot.Slot.{Slot}
 use Rattle.outside.specs.declared.slot.Slot.TheVariants as slot
 use Rattle.outside.specs.Slots.{SlotState, AllUnopened}

@@ -1,6 +1,5 @@
 -- What the leaves store by their own entries is no less than what the root begins with, and of a size where that and each value of the log is.
-use Rattle.std.proofs.Common.{◌≡◌, ⊎_elim, ℕ, ◌≤◌, true, false, cond, List, [], ◌∷◌, All, sym, subst, arith, ℤ, pos, ◌≤ℤ◌, ◌<ℤ◌, Option, Some, None}
-use Rattle.std.specs.Prelude.{◌&&◌, ◌==◌, IfSome, int_lt, unsigned_abs}
+use Rattle.std.proofs.Common.{◌≡◌, ⊎_elim, ℕ, ◌≤◌, true, false, cond, List, [], ◌∷◌, All, sym, subst, arith, ℤ, pos, ◌≤ℤ◌, ◌<ℤ◌, Option, Some, None, ◌&&◌, ◌==◌, IfSome, int_lt, unsigned_abs}
 use Rattle.std.proofs.lemmas.Bool.{and_parts, cases_Bool}
 use Rattle.std.proofs.lemmas.Int.{ints}
 use Rattle.std.proofs.lemmas.List.Elements.{All-filter, All-head, All-tail}

@@ -1,6 +1,5 @@
 -- The search over the tree: its start, a claim that was committed, a cost that was published, and its end.
-use Rattle.std.proofs.Common.{◌≡◌, ◌≢◌, ◌∙◌, ◌⊎◌, ⊎_elim, ℕ, suc, ◌+◌, ◌-◌, ◌≤◌, false, true, All, List, [], ◌∷◌, ◌++◌, length, get_or, set, refl, ap, sym, subst, arith, ℤ, pos, ◌≤ℤ◌, ◌<ℤ◌, Option, Some, None, length-append, length-set}
-use Rattle.std.specs.Prelude.{slice_get}
+use Rattle.std.proofs.Common.{◌≡◌, ◌≢◌, ◌∙◌, ◌⊎◌, ⊎_elim, ℕ, suc, ◌+◌, ◌-◌, ◌≤◌, false, true, All, List, [], ◌∷◌, ◌++◌, length, get_or, set, refl, ap, sym, subst, arith, ℤ, pos, ◌≤ℤ◌, ◌<ℤ◌, Option, Some, None, length-append, length-set, slice_get}
 use Rattle.std.specs.Int.{int_min}
 use Rattle.std.specs.Option.{option_map}
 use Rattle.std.proofs.lemmas.Int.{ints, int_min_is}

@@ -1,7 +1,6 @@
 -- The certificate of a tree has the tables that the leaves use, in order of first use. What a leaf stores by the number of its table holds by
 -- the table's place among them.
-use Rattle.std.proofs.Common.{◌≡◌, ◌∙◌, ◌⊎◌, ⊎_elim, inl, inr, ℕ, suc, ◌<◌, Bool, true, false, not, ◌||◌, cond, All, List, [], ◌∷◌, ◌++◌, get_or, length, refl, ap, sym, subst, ℤ, ◌≤ℤ◌, Option, Some, None}
-use Rattle.std.specs.Prelude.{filter, map, slice_get}
+use Rattle.std.proofs.Common.{◌≡◌, ◌∙◌, ◌⊎◌, ⊎_elim, inl, inr, ℕ, suc, ◌<◌, Bool, true, false, not, ◌||◌, cond, All, List, [], ◌∷◌, ◌++◌, get_or, length, refl, ap, sym, subst, ℤ, ◌≤ℤ◌, Option, Some, None, filter, map, slice_get}
 use Rattle.std.specs.Option.{option_map}
 use Rattle.std.proofs.lemmas.Bool.{cases_Bool, cases_eq, eq-eqb, ne_eqb}
 use Rattle.std.proofs.lemmas.List.Concat.{flat_map-append}

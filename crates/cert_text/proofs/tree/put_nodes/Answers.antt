@@ -1,6 +1,5 @@
 -- The nodes in preorder are those of the tree, so their lines are.
-use Rattle.std.proofs.lemmas.List.{take_all}
-use Rattle.std.proofs.Common.{◌≡◌, ℕ, ◌<◌, List, length, get_or, take, subst, sym, ap, ◌∙◌}
+use Rattle.std.proofs.Common.{◌≡◌, ℕ, ◌<◌, List, length, get_or, take, subst, sym, ap, ◌∙◌, take_all}
 use Rattle.std.specs.List.{flat_map}
 use Rattle.branch_tree.specs.NumberedTree.{node_count}
 use Rattle.branch_tree.specs.TreeView.{tree_of}

@@ -1,6 +1,5 @@
 -- The parser's own rule says when words are taken, and what they name.
-use Rattle.std.proofs.Common.{sym, subst}
-use Rattle.std.specs.Prelude.{Some}
+use Rattle.std.proofs.Common.{sym, subst, Some}
 use Rattle.command_line.specs.Asked.{IsRefusal}
 use Rattle.command_line.proofs.Commands.{taken, found, refused}
 use Rattle.command_line.proofs.command.command_of.Goals as goal

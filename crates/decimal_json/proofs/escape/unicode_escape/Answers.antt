@@ -1,5 +1,4 @@
-use Rattle.std.proofs.Common.{◌≡◌, ◌+◌, ◌<◌, ◌≤◌, sym, subst, arith, inl, inr, ⊎_elim, ◌^◌, ℕ, true, false}
-use Rattle.std.specs.Prelude.{◌⊎◌}
+use Rattle.std.proofs.Common.{◌≡◌, ◌+◌, ◌<◌, ◌≤◌, sym, subst, arith, inl, inr, ⊎_elim, ◌^◌, ℕ, true, false, ◌⊎◌}
 use Rattle.std.specs.Char.Utf16.{is_high_surrogate, is_low_surrogate}
 use Rattle.std.specs.Char.{OutOfScalarRange}
 use Rattle.decimal_json.specs.inside.Answer.{BreaksEscape, ReadsEscape}

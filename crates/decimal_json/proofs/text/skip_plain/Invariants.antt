@@ -1,5 +1,4 @@
-use Rattle.std.proofs.Common.{◌-◌, ◌≤◌, length}
-use Rattle.std.specs.Prelude.{slice_range}
+use Rattle.std.proofs.Common.{◌-◌, ◌≤◌, length, slice_range}
 use Rattle.decimal_json.specs.inside.Answer.{ReadsPlain}
 use Rattle.decimal_json.proofs.text.skip_plain.Given as goal
 

@@ -1,5 +1,4 @@
-use Rattle.std.specs.Prelude.{Ok}
-use Rattle.std.proofs.Common.{◌+◌, ◌<◌, ◌≤◌, length, map, sym, ap, subst, ◌∙◌, arith}
+use Rattle.std.proofs.Common.{◌+◌, ◌<◌, ◌≤◌, length, map, sym, ap, subst, ◌∙◌, arith, Ok}
 use Rattle.std.specs.String.{string_bytes}
 use Rattle.decimal_json.specs.Value.{array, object, items_of, members_of}
 use Rattle.decimal_json.specs.Open.{Member}

@@ -1,6 +1,5 @@
 -- What the check accepts obeys and has its printed cost, which fits.
-use Rattle.std.proofs.Common.{◌≡◌, ◌≤◌, subst, sym, lit<, ap, ◌∙◌, to_z, of_z}
-use Rattle.std.specs.Prelude.{All, unsigned_abs}
+use Rattle.std.proofs.Common.{◌≡◌, ◌≤◌, subst, sym, lit<, ap, ◌∙◌, to_z, of_z, All, unsigned_abs}
 use Rattle.std.specs.Int.{w64}
 use Rattle.uc_model.specs.Limits.{IsLimit}
 use Rattle.uc_model.specs.PrintedSchedule.{printed_cost, printed_denominator}

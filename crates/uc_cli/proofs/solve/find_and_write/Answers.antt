@@ -1,6 +1,5 @@
 -- Each end from the steps before it.
-use Rattle.std.proofs.Common.{refl}
-use Rattle.std.specs.Prelude.{None}
+use Rattle.std.proofs.Common.{refl, None}
 use Rattle.command_line.specs.Asked.{solve_asked}
 use Rattle.uc_check.proofs.Verdicts.{handed_up}
 use Rattle.uc_cli.proofs.Endings.{stopped, unsaved, untold, done}

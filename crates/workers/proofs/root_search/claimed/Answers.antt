@@ -1,6 +1,5 @@
 -- The search over the tree ends with what is answered.
-use Rattle.std.proofs.Common.{subst, sym}
-use Rattle.std.specs.Prelude.{IfOk}
+use Rattle.std.proofs.Common.{subst, sym, IfOk}
 use Rattle.uc_model.specs.declared.instance.Instance.{Instance}
 use Rattle.dual_model.specs.Tree.{HasEachPattern}
 use Rattle.search_core.specs.Runs.{HoldsAt}

@@ -1,6 +1,5 @@
 -- The root's leaf has the ray.
-use Rattle.std.proofs.Common.{subst, sym}
-use Rattle.std.specs.Prelude.{IfOk}
+use Rattle.std.proofs.Common.{subst, sym, IfOk}
 use Rattle.uc_model.specs.declared.instance.Instance.{Instance}
 use Rattle.decommitment.specs.Standings.{IsDropped}
 use Rattle.workers.specs.inside.Answers.{IsAnswerOf}

@@ -1,7 +1,6 @@
 -- The answer is a search result that can be written.
-use Rattle.std.proofs.Common.{subst}
+use Rattle.std.proofs.Common.{subst, IfOk}
 use Rattle.std.proofs.lemmas.Result.{IfOk-weaker}
-use Rattle.std.specs.Prelude.{IfOk}
 use Rattle.uc_model.specs.declared.instance.Instance.{Instance}
 use Rattle.workers.specs.SearchResult.{IsSearchResult}
 use Rattle.workers.specs.Writable.{IsWritable}
