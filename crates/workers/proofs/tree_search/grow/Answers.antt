@@ -95,3 +95,14 @@ loop-had-preserved g c =
       no_worse = λ ending h. turn.no_worse ending (before.no_worse ending h);
       next = subst (IsNextAt instance (suc unit)) (sym turn.next) tt;
     }
+
+pub returns-clause-grown : goal.returns-clause-grown
+returns-clause-grown g c = λ opening begun.
+    let before = c.loop-had.invariant in
+    let searching = before.searching opening begun in
+    record {
+      searching = searching;
+      published = before.published;
+      accepted = before.accepted;
+      spent = record { spent = λ some unclosed. omega (arith, searching.count, before.count, c.loop-had-test.false, c.loop-had.auto.had-end) };
+    }
