@@ -18,7 +18,8 @@ use Rattle.std.proofs.lemmas.Str.{IsCharBoundary-start, IsCharBoundary-after_asc
 use Rattle.decimal_json.specs.Characters.{is_space}
 use Rattle.decimal_json.specs.Reading.{BeginsText, IsNoJson, IsText, IsTextFault, IsFault, HasCause}
 use Rattle.decimal_json.proofs.Moves.{Refuses}
-use Rattle.decimal_json.proofs.RunValues.{text_arrives, deep_fault, repeated_fault, lacks_fault}
+use Rattle.decimal_json.proofs.RunValues.{text_arrives}
+use Rattle.decimal_json.proofs.RunFaults.{deep_fault, repeated_fault, lacks_fault}
 use Rattle.std.specs.Result.{MatchResult, IfOk, IfErr}
 use Rattle.decimal_json.specs.declared.types.Json.{Json}
 use Rattle.decimal_json.specs.declared.types.JsonFault.{JsonFault}
