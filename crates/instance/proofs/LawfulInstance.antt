@@ -18,7 +18,8 @@ use Rattle.instance.specs.Scaled.{MILLION, scaled, is_rounded}
 use Rattle.uc_model.specs.declared.field.Field.{Field}
 use Rattle.uc_model.specs.declared.field.Field.TheVariants.{TimePeriods, Demand, Reserves, ThermalGenerators, RenewableGenerators, PowerOutputMinimum, PowerOutputMaximum, RampUpLimit, RampDownLimit, RampStartupLimit, RampShutdownLimit, TimeUpMinimum, TimeDownMinimum, PowerOutputT0, TimeUpT0, TimeDownT0, Startup, StartupLag, StartupCost, PiecewiseProduction, PiecewiseProductionMw, PiecewiseProductionCost}
 use Rattle.instance.specs.InstanceOf.{Pairs, Has, IsObject, IsNumber, IsPowerOf, IsCostOf, IsTimeOf, IsPeriodsOf, IsPowersOf, AreRowsOf, IsStartRowOf, IsPointOf, IsRising, IsLimitOf, IsMinimumTimeOf, IsThermalOf, IsRenewableOf, AreUnitsOf, HasFields, IsInstanceOf}
-use Rattle.instance.proofs.UnitLaws.{some_is, some_split, Above, written_time, instance_is, instance_again}
+use Rattle.instance.proofs.StepLaws.{some_is, some_split}
+use Rattle.instance.proofs.UnitLaws.{Above, written_time, instance_is, instance_again}
 use Rattle.instance.specs.FirstFault.{instance_at}
 use Rattle.instance.specs.Answer.{Gives}
 use Rattle.uc_model.specs.declared.field_refusal.FieldRefusal.{FieldRefusal}
