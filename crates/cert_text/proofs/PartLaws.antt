@@ -705,7 +705,7 @@ certificate-part =
 
 -- ---- certificates
 pub certificate_listed : (c : Certificate) → HasText (listing_of c) → IsListed (listing_of c)
-certificate_listed c h = record { text = h; tree = (subst (AreOwed 1) (append-nil (preorder c.tree)) (tree_before c.tree 0 [] tt)) }
+certificate_listed c h = record { text = h; tree = subst (AreOwed 1) (append-nil (preorder c.tree)) (tree_before c.tree 0 [] tt) }
 
 pub certificate_again : (c : Certificate) (rest : List ℕ) → HasText (listing_of c) → certificate_part (certificate_text c ++ rest) ≡ Ok (listing_of c, rest)
 unfolding certificate_text
