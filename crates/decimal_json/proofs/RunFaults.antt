@@ -70,9 +70,6 @@ members_split : (earlier : List Member) (m : Member) (ms : List Member) → memb
 members_split [] m ms = refl
 members_split (e ∷ earlier) m ms = ap (member e.0 e.1) (members_split earlier m ms)
 
-is_new : (earlier : List Member) (m : Member) (ms : List Member) → HasUniqueKeys (members_of (earlier ++ m ∷ ms)) → has_key (members_of earlier) m.0 ≡ false
-is_new earlier m ms u = new_key earlier m.0 m.1 (members_of ms) (subst HasUniqueKeys (members_split earlier m ms) u)
-
 members_comma : (outer : List Frame) (earlier : List Member) (m : Member) (k : ℕ) (more : List ℕ) (o : List Frame) (s : Spot) (rest : List ℕ)
     → Arrives true (k + 1) outer (key_wanted (earlier ++ m ∷ [])) more o s rest → Arrives true k (in_object earlier m.0 ∷ outer) (ended m.1) (44 ∷ more) o s rest
 unfolding step ended_step close_step
@@ -88,7 +85,7 @@ members_go outer [] inside f at earlier rest u =
     (arrives_by true at outer (key_wanted earlier) [] outer (key_wanted earlier) rest (moves_none at outer (key_wanted earlier))))
 members_go outer (m ∷ ms) inside f at earlier rest u =
     arrives_as true at outer (key_wanted earlier) (f.0 ++ (f.1 ++ (f.2 ++ (58 ∷ f.3 ++ (f.4 ++ (f.5 ++ 44 ∷ f.6)))))) inside outer (key_wanted (earlier ++ m ∷ ms)) rest (sym f.14)
-    (keyed true at outer earlier m.0 m.1 f.0 f.1 f.2 f.3 f.4 f.5 (44 ∷ f.6) outer (key_wanted (earlier ++ m ∷ ms)) rest f.7 f.8 f.9 f.10 f.12 (λ _. is_new earlier m ms u)
+    (keyed true at outer earlier m.0 m.1 f.0 f.1 f.2 f.3 f.4 f.5 (44 ∷ f.6) outer (key_wanted (earlier ++ m ∷ ms)) rest f.7 f.8 f.9 f.10 f.12 (λ _. new_key earlier m.0 m.1 (members_of ms) (subst HasUniqueKeys (members_split earlier m ms) u))
     (λ k. value_arrives true (length outer + 1) m.1 f.4 f.11 k (in_object earlier m.0 ∷ outer) ((f.5 ++ 44 ∷ f.6) ++ rest) (omega arith) (delimited f.5 f.6 rest f.12))
     (λ k. members_comma outer earlier m k f.6 outer (key_wanted (earlier ++ m ∷ ms)) rest
     (subst (λ (ns : List Member). Arrives true (k + 1) outer (key_wanted (earlier ++ m ∷ [])) f.6 outer (key_wanted ns) rest) (append_assoc earlier (m ∷ []) ms)

@@ -164,8 +164,7 @@ sign_moves at outer false = moves_none at outer wanted
 
 power_as : (m : ℕ) (s : Sign) (e : ℕ) (es : List ℕ) → power_text (power m s e es) ≡ (m ∷ (sign_text s ++ (48 + e) ∷ [])) ++ numerals es
 power_as m no_sign e es = refl
-power_as m plus e es = refl
-power_as m minus e es = refl
+power_as m _ e es = refl
 
 power_run : (at : ℕ) (outer : List Frame) (spot : Spot) (n : Bool) (ds fs : List ℕ) (p : Power) (rest : List ℕ) → IsPower p → CanEnd n ds fs spot → Delimits rest
     → outcome at outer spot (power_text p ++ rest) ≡ outcome (at + length (power_text p)) outer (ended (so_far n ds fs (is_down p) (written p))) rest
