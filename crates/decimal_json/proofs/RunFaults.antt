@@ -1,7 +1,7 @@
 -- The machine at fronts of texts, and at what may stand behind them.
 use Rattle.std.proofs.Common.{◌≡◌, ℕ, ◌+◌, suc, List, [], ◌∷◌, ◌++◌, length, refl, sym, ap, subst, ◌∙◌, arith, true, false, append_assoc, length-append, ⊎_elim, ◌==◌, inl, nat_lt, append-nil}
 use Rattle.std.proofs.lemmas.Bool.{cases_Bool, lt-ltb, le-ltb, eqb-true}
-use Rattle.decimal_json.specs.Value.{Value, member, members_of, has_key}
+use Rattle.decimal_json.specs.Value.{Value, member, members_of}
 use Rattle.decimal_json.specs.Open.{Frame, Purpose, Member, in_array, in_object, for_value, for_key}
 use Rattle.decimal_json.specs.inside.Scan.{Spot, wanted, ended, next, step, begin_step, finish, outcome, quoted, plain, high, high_escaped, high_unit, Hex, no_digit, one_digit, two_digits, three_digits, stop, fault, quoted_step, quote_step, pair_step, more_hex, first_item, first_key, key_wanted, colon_wanted, opened, whole_outcome, ended_step, close_step}
 use Rattle.decimal_json.specs.Grammar.{Character, character_text, meaning, IsSpace, HasUniqueKeys}
