@@ -49,9 +49,6 @@ has_minimum_time exact field ms t h =
     let a = written_time exact t (field_of (key_of field) ms) h in
     (omega (arith, a.2), omega (arith, a.2, has_time exact field ms a.0 a.1))
 
-not_below : (a b : ℤ) → pos 0 ≤ℤ a → a ≤ℤ b → pos 0 ≤ℤ b
-not_below a b p q = omega (arith, ints)
-
 -- ---- lists
 
 zip_at : {A B : Type 0} (R : A → B → Type 0) (xs : List A) (ys : List B) → AllZip R xs ys → (k : ℕ) (e : B) → k < length ys → (x : A) × R x (get_or ys k e)
@@ -118,7 +115,7 @@ thermal_lawful exact unit ms h =
     some_is (λ xs. Has PiecewiseProductionMw xs (IsPowerOf exact (point unit l).mw) × Has PiecewiseProductionCost xs (IsCostOf exact (point unit l).cost)) (pairs_in a.0) a.1) in
     record {
       minimum = has_limit exact PowerOutputMinimum ms unit.pmin h.minimum;
-      maximum = record { low = not_below unit.pmin unit.pmax (has_limit exact PowerOutputMinimum ms unit.pmin h.minimum).low h.range; power = has_power exact PowerOutputMaximum ms unit.pmax h.maximum };
+      maximum = record { low = omega (arith, ints, (has_limit exact PowerOutputMinimum ms unit.pmin h.minimum).low, h.range); power = has_power exact PowerOutputMaximum ms unit.pmax h.maximum };
       range = h.range;
       ramp_up = has_limit exact RampUpLimit ms unit.ru h.ramp_up;
       ramp_down = has_limit exact RampDownLimit ms unit.rd h.ramp_down;

@@ -61,8 +61,7 @@ number-told {B} exact v {P} h Q there back = told h (λ y. IsNumber exact v (λ 
 
 pub size_of_signed : (b : Bool) (n : ℕ) → unsigned_abs (signed b n) ≡ n
 size_of_signed true zero = refl
-size_of_signed true (suc n) = refl
-size_of_signed false n = refl
+size_of_signed _ _ = refl
 
 -- a number of a size up to the most
 amount-exactly : (most : ℕ) (exact : Bool) (place : Place) (v : Value) → Exactly (amount_at most exact place v) (λ z. IsNumber exact v (λ d. (scaled d ≡ z) × (unsigned_abs z ≤ most)))
@@ -79,16 +78,10 @@ power-exactly = amount-exactly MAX_POWER
 pub cost-exactly : (exact : Bool) (place : Place) (v : Value) → Exactly (cost_at exact place v) (λ z. IsCostOf exact z v)
 cost-exactly = amount-exactly MAX_COST
 
-lt_false : (a b : ℤ) → int_lt a b ≡ false → b ≤ℤ a
-lt_false a b e = grind (arith, ints)
-
-lt_again : (a b : ℤ) → b ≤ℤ a → int_lt a b ≡ false
-lt_again a b h = grind (arith, ints)
-
 pub power_from-exactly : (exact : Bool) (place : Place) (least : ℤ) (v : Value) → Exactly (power_from exact place least v) (λ z. IsPowerOf exact z v × (least ≤ℤ z))
 unfolding power_from
 power_from-exactly exact place least v =
-    told (tested (power-exactly exact place v) (λ z. int_lt z least) 5 place) (λ z. IsPowerOf exact z v × (least ≤ℤ z)) (λ z w. (w.0, lt_false z least w.1)) (λ z w. (w.0, lt_again z least w.1))
+    told (tested (power-exactly exact place v) (λ z. int_lt z least) 5 place) (λ z. IsPowerOf exact z v × (least ≤ℤ z)) (λ z w. (w.0, grind (arith, ints, w.1))) (λ z w. (w.0, grind (arith, ints, w.1)))
 
 -- ---- whole numbers
 
@@ -282,12 +275,6 @@ maxima_each minimum front (z ∷ zs) len a =
     let b = subst (λ (xs : List ℤ). AllZip Above xs (z ∷ zs)) (minimum_at minimum front (length zs) len) a in
     (b.0, maxima_each minimum (front ++ z ∷ []) zs (omega (arith, more, len)) (subst (λ (k : ℕ). AllZip Above (drop k minimum) zs) (sym more) b.1))
 
-pub maxima_is : (minimum zs : List ℤ) → length minimum ≡ length zs → Each (Above_minimum minimum) [] zs → AllZip Above minimum zs
-maxima_is minimum zs len e = maxima_from minimum [] zs (omega (arith, len)) e
-
-pub maxima_again : (minimum zs : List ℤ) → length minimum ≡ length zs → AllZip Above minimum zs → Each (Above_minimum minimum) [] zs
-maxima_again minimum zs len a = maxima_each minimum [] zs (omega (arith, len)) a
-
 -- ---- Fields, arrays and rows: what is read is as the value says, and what the value says is read.
 -- a field with what is read of it
 pub field-exactly : {A : Type 0} (place : Place) (ms : Pairs) (read : Value → Result A Refusal) (P : Value → A → Type 0) → ((v : Value) → Exactly (read v) (P v))
@@ -377,11 +364,11 @@ maxima-exactly exact periods minimum ms len =
     (λ zs. Has PowerOutputMaximum ms (IsPowersOf exact periods zs) × AllZip Above minimum zs)
     (λ zs w.
     let h = holds_split entries_in PowerOutputMaximum ms (λ vs. (periods ≤ length vs) × AllZip (λ v z. IsPowerOf exact z v) (take periods vs) zs) w in
-    (h.0, maxima_is minimum zs (len ∙ sym (powers_length exact PowerOutputMaximum periods ms zs h.0)) h.1))
+    (h.0, maxima_from minimum [] zs (omega (arith, len, powers_length exact PowerOutputMaximum periods ms zs h.0)) h.1))
     (λ zs h.
     holds_map entries_in PowerOutputMaximum ms (λ vs. (periods ≤ length vs) × AllZip (λ v z. IsPowerOf exact z v) (take periods vs) zs)
     (λ vs. ((periods ≤ length vs) × AllZip (λ v z. IsPowerOf exact z v) (take periods vs) zs) × Each (Above_minimum minimum) [] zs)
-    (λ vs p. (p, maxima_again minimum zs (len ∙ sym (powers_length exact PowerOutputMaximum periods ms zs h.0)) h.1)) h.0)
+    (λ vs p. (p, maxima_each minimum [] zs (omega (arith, len, powers_length exact PowerOutputMaximum periods ms zs h.0)) h.1)) h.0)
 
 -- ---- rows
 
