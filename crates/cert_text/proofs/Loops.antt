@@ -16,6 +16,12 @@ after_text text form bytes rest read e f = rw e f
 pub no_text : {A : Type 0} (text : List ℕ) (form : Form A) (bytes : List ℕ) → text_at text bytes ≡ None → after text form bytes ≡ None
 no_text text form bytes e = rw e refl
 
+one_left : (count i : ℕ) → i < count → count - i ≡ suc (count - (i + 1))
+one_left count i lt = omega arith
+
+none_left : (count i : ℕ) → count ≤ i → count - i ≡ 0
+none_left count i le = omega arith
+
 -- ---- forms
 -- what was read before, and what is still read
 abbrev pub behind_words : {A : Type 0} → List A → Option (List A × List ℕ) → Option (List A × List ℕ)
@@ -30,26 +36,17 @@ pub word_more : {A : Type 0} (form : Form A) (front grown : List A) (count i : �
     → i < count → form bytes ≡ Some (a, rest) → grown ≡ front ++ a ∷ []
     → behind_words front (times (count - i) form bytes) ≡ total → behind_words grown (times (count - (i + 1)) form rest) ≡ total
 unfolding times
-word_more form front grown count i bytes rest a total lt e g so_far =
-    let k : count - i ≡ suc (count - (i + 1)) = omega arith in
-    let one : behind_words front (times (count - i) form bytes) ≡ behind_words (front ++ a ∷ []) (times (count - (i + 1)) form rest) = rw (k, e) (regroup_words front a (times (count - (i + 1)) form rest)) in
-    ap (λ words. behind_words words (times (count - (i + 1)) form rest)) g ∙ sym one ∙ so_far
+word_more form front grown count i bytes rest a total lt e g so_far = rw g (sym (regroup_words front a (times (count - (i + 1)) form rest)) ∙ (rw (one_left count i lt, e) at so_far))
 
 pub no_word : {A : Type 0} (form : Form A) (front : List A) (count i : ℕ) (bytes : List ℕ) (total : Option (List A × List ℕ))
     → i < count → form bytes ≡ None → behind_words front (times (count - i) form bytes) ≡ total → total ≡ None
 unfolding times
-no_word form front count i bytes total lt e so_far =
-    let k : count - i ≡ suc (count - (i + 1)) = omega arith in
-    let one : behind_words front (times (count - i) form bytes) ≡ None = rw (k, e) refl in
-    sym so_far ∙ one
+no_word form front count i bytes total lt e so_far = sym (rw (one_left count i lt, e) at so_far)
 
 pub words_done : {A : Type 0} (form : Form A) (front : List A) (count i : ℕ) (bytes : List ℕ) (total : Option (List A × List ℕ))
     → count ≤ i → behind_words front (times (count - i) form bytes) ≡ total → total ≡ Some (front, bytes)
 unfolding times
-words_done form front count i bytes total le so_far =
-    let k : count - i ≡ 0 = omega arith in
-    let one : behind_words front (times (count - i) form bytes) ≡ Some (front, bytes) = rw k (ap (λ (xs : List _). Some (xs, bytes)) (append-nil front)) in
-    sym so_far ∙ one
+words_done form front count i bytes total le so_far = sym (rw (none_left count i le) at so_far) ∙ (ap (λ (xs : List _). Some (xs, bytes)) (append-nil front))
 
 -- ---- parts
 abbrev pub behind_parts : {A : Type 0} → List A → Result (List A × List ℕ) (List ℕ) → Result (List A × List ℕ) (List ℕ)
@@ -64,26 +61,17 @@ pub part_more : {A : Type 0} (part : Part A) (front grown : List A) (count i : �
     → i < count → part bytes ≡ Ok (a, rest) → grown ≡ front ++ a ∷ []
     → behind_parts front (repeated (count - i) part bytes) ≡ total → behind_parts grown (repeated (count - (i + 1)) part rest) ≡ total
 unfolding repeated
-part_more part front grown count i bytes rest a total lt e g so_far =
-    let k : count - i ≡ suc (count - (i + 1)) = omega arith in
-    let one : behind_parts front (repeated (count - i) part bytes) ≡ behind_parts (front ++ a ∷ []) (repeated (count - (i + 1)) part rest) = rw (k, e) (regroup_parts front a (repeated (count - (i + 1)) part rest)) in
-    ap (λ parts. behind_parts parts (repeated (count - (i + 1)) part rest)) g ∙ sym one ∙ so_far
+part_more part front grown count i bytes rest a total lt e g so_far = rw g (sym (regroup_parts front a (repeated (count - (i + 1)) part rest)) ∙ (rw (one_left count i lt, e) at so_far))
 
 pub part_stops : {A : Type 0} (part : Part A) (front : List A) (count i : ℕ) (bytes rest : List ℕ) (total : Result (List A × List ℕ) (List ℕ))
     → i < count → part bytes ≡ Err rest → behind_parts front (repeated (count - i) part bytes) ≡ total → total ≡ Err rest
 unfolding repeated
-part_stops part front count i bytes rest total lt e so_far =
-    let k : count - i ≡ suc (count - (i + 1)) = omega arith in
-    let one : behind_parts front (repeated (count - i) part bytes) ≡ Err rest = rw (k, e) refl in
-    sym so_far ∙ one
+part_stops part front count i bytes rest total lt e so_far = sym (rw (one_left count i lt, e) at so_far)
 
 pub parts_done : {A : Type 0} (part : Part A) (front : List A) (count i : ℕ) (bytes : List ℕ) (total : Result (List A × List ℕ) (List ℕ))
     → count ≤ i → behind_parts front (repeated (count - i) part bytes) ≡ total → total ≡ Ok (front, bytes)
 unfolding repeated
-parts_done part front count i bytes total le so_far =
-    let k : count - i ≡ 0 = omega arith in
-    let one : behind_parts front (repeated (count - i) part bytes) ≡ Ok (front, bytes) = rw k (ap (λ (xs : List _). Ok (xs, bytes)) (append-nil front)) in
-    sym so_far ∙ one
+parts_done part front count i bytes total le so_far = sym (rw (none_left count i le) at so_far) ∙ (ap (λ (xs : List _). Ok (xs, bytes)) (append-nil front))
 
 -- the same, as what a function returned
 pub part_stops_as : {A : Type 0} (part : Part A) (front : List A) (count i : ℕ) (bytes : List ℕ) (stop : Stop) (total : Result (List A × List ℕ) (List ℕ))
@@ -97,23 +85,14 @@ pub ramp_more : (size : Sizes) (front grown : List RampRow) (count i : ℕ) (bef
     → behind_parts front (ramp_rows_part size (count - i) before bytes) ≡ total
     → behind_parts grown (ramp_rows_part size (count - (i + 1)) (Some row) rest) ≡ total
 unfolding ramp_rows_part
-ramp_more size front grown count i before bytes rest row total lt e g so_far =
-    let k : count - i ≡ suc (count - (i + 1)) = omega arith in
-    let one : behind_parts front (ramp_rows_part size (count - i) before bytes) ≡ behind_parts (front ++ row ∷ []) (ramp_rows_part size (count - (i + 1)) (Some row) rest) = rw (k, e) (regroup_parts front row (ramp_rows_part size (count - (i + 1)) (Some row) rest)) in
-    ap (λ rows. behind_parts rows (ramp_rows_part size (count - (i + 1)) (Some row) rest)) g ∙ sym one ∙ so_far
+ramp_more size front grown count i before bytes rest row total lt e g so_far = rw g (sym (regroup_parts front row (ramp_rows_part size (count - (i + 1)) (Some row) rest)) ∙ (rw (one_left count i lt, e) at so_far))
 
 pub no_ramp : (size : Sizes) (front : List RampRow) (count i : ℕ) (before : Option RampRow) (bytes : List ℕ) (total : Result (List RampRow × List ℕ) (List ℕ))
     → i < count → ramp_at size before bytes ≡ None → behind_parts front (ramp_rows_part size (count - i) before bytes) ≡ total → total ≡ Err bytes
 unfolding ramp_rows_part
-no_ramp size front count i before bytes total lt e so_far =
-    let k : count - i ≡ suc (count - (i + 1)) = omega arith in
-    let one : behind_parts front (ramp_rows_part size (count - i) before bytes) ≡ Err bytes = rw (k, e) refl in
-    sym so_far ∙ one
+no_ramp size front count i before bytes total lt e so_far = sym (rw (one_left count i lt, e) at so_far)
 
 pub ramps_done : (size : Sizes) (front : List RampRow) (count i : ℕ) (before : Option RampRow) (bytes : List ℕ) (total : Result (List RampRow × List ℕ) (List ℕ))
     → count ≤ i → behind_parts front (ramp_rows_part size (count - i) before bytes) ≡ total → total ≡ Ok (front, bytes)
 unfolding ramp_rows_part
-ramps_done size front count i before bytes total le so_far =
-    let k : count - i ≡ 0 = omega arith in
-    let one : behind_parts front (ramp_rows_part size (count - i) before bytes) ≡ Ok (front, bytes) = rw k (ap (λ (xs : List _). Ok (xs, bytes)) (append-nil front)) in
-    sym so_far ∙ one
+ramps_done size front count i before bytes total le so_far = sym (rw (none_left count i le) at so_far) ∙ (ap (λ (xs : List _). Ok (xs, bytes)) (append-nil front))

@@ -373,7 +373,7 @@ table-part size lawful =
       there = λ p v. (
         record {
           form = record {
-            scale = scale_at_least p.0;
+            scale = omega (arith, ints);
             lengths = v.1.1.0.periods ∙ sym v.1.0.periods;
             rows = subst (λ (n : ℕ). All (IsRowWithin size.thermal n) p.1.1.1) (sym v.1.0.periods) (ramps_within size None p.1.1.1 v.1.1.1.1);
             rising = ramps_rise size None p.1.1.1 v.1.1.1.1;
@@ -397,9 +397,6 @@ table-part size lawful =
 
     mu_prices : IsPart (prices_part (codes "mu") size) (ArePrices size) (λ prices. prices_line (codes "mu") prices ∷ []) (Mu size ∷ []) Done
     mu_prices = line-part (prices_as (codes "mu") size) (Mu size) Done (λ prices v. (prices, v, refl, refl)) (λ text others p. (p.0, p.1, p.2))
-
-    scale_at_least : (k : ℕ) → pos 0 ≤ℤ pos k
-    scale_at_least k = omega (arith, ints)
 
     natural : (k : ℤ) → pos 0 ≤ℤ k → pos (unsigned_abs k) ≡ k
     natural (pos n) h = refl
@@ -536,9 +533,6 @@ tree_before : (tree : Tree Leaf) (n : ℕ) (nodes : List TreeNode) → AreOwed n
 tree_before (Ends leaf) n nodes h = h
 tree_before (Splits g t off on) n nodes h =
     subst (AreOwed (suc (suc n))) (sym (append_assoc (preorder off) (preorder on) nodes)) (tree_before off (suc n) (preorder on ++ nodes) (tree_before on n nodes h))
-
-pub tree_is_owed : (tree : Tree Leaf) → AreOwed 1 (preorder tree)
-tree_is_owed tree = subst (AreOwed 1) (append-nil (preorder tree)) (tree_before tree 0 [] tt)
 
 -- ---- reading them
 abbrev WithinSize : Sizes → TreeNode → Type 0
@@ -711,7 +705,7 @@ certificate-part =
 
 -- ---- certificates
 pub certificate_listed : (c : Certificate) → HasText (listing_of c) → IsListed (listing_of c)
-certificate_listed c h = record { text = h; tree = tree_is_owed c.tree }
+certificate_listed c h = record { text = h; tree = subst (AreOwed 1) (append-nil (preorder c.tree)) (tree_before c.tree 0 [] tt) }
 
 pub certificate_again : (c : Certificate) (rest : List ℕ) → HasText (listing_of c) → certificate_part (certificate_text c ++ rest) ≡ Ok (listing_of c, rest)
 unfolding certificate_text

@@ -171,10 +171,6 @@ lawful-table-text instance table h few = record {
   ramps = All-weaker IsRowPriced IsRampText ramp-digits table.ramps h.limits.ramps;
 }
 
-lawful-table-texts : (instance : Instance) (tables : List Table) → All (IsLawfulTable instance) tables
-    → All (λ table. length table.ramps < 10 ^ 18) tables → All (IsTableText instance.periods (thermal_count instance)) tables
-lawful-table-texts instance tables h few = λ k d within. lawful-table-text instance _ (h k d within) (few k d within)
-
 -- the tables of a whole tree can be counted
 few-tables : (instance : Instance) (found : Found) → IsWhole found.tree → length (written_tables found) < 2 ^ 32
 few-tables instance found whole =
@@ -196,6 +192,6 @@ found_has_text instance found lawful whole holds schedule bound few = record {
   table_count = few-tables instance found whole;
   bound = bound;
   schedule = schedule;
-  tables = lawful-table-texts instance (written_tables found) holds.tables few;
+  tables = λ k d within. lawful-table-text instance _ (holds.tables k d within) (few k d within);
   nodes = claimed-within instance (certificate_of instance found) (tree_bound found.tree) holds.tree holds.claim;
 }

@@ -8,3 +8,4 @@ pub mod Growth
 pub mod SoundValues
 pub mod Readings
 pub mod RunValues
+pub mod RunFaults

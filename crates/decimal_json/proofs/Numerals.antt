@@ -39,9 +39,6 @@ adds_more bytes start at old new r h e = record {
 pub digit_low : (c : ℕ) → is_digit c ≡ true → 48 ≤ c
 digit_low c e = leb-true 48 c (and_parts (nat_le 48 c) (nat_le c 57) e).0
 
-digit_high : (c : ℕ) → is_digit c ≡ true → c ≤ 57
-digit_high c e = leb-true c 57 (and_parts (nat_le 48 c) (nat_le c 57) e).1
-
 -- the first digit of a number
 pub whole_starts : (at c : ℕ) (outer : List Frame) (n : Bool) → is_digit c ≡ true → (c ≡ 48 → ⊥)
     → step at outer (begun n) c ≡ next outer (numeral (whole n (digit_of c ∷ [])))
@@ -49,7 +46,7 @@ unfolding step numeral_step begin_step
 whole_starts at c outer true h ne = rw (ne_eqb c 48 ne, h) refl
 whole_starts at c outer false h ne =
     let low : 48 ≤ c = digit_low c h in
-    let high : c ≤ 57 = digit_high c h in
+    let high : c ≤ 57 = leb-true c 57 (and_parts (nat_le 48 c) (nat_le c 57) h).1 in
     rw (
       ne_eqb c 32 (λ e. omega arith),
       ne_eqb c 9 (λ e. omega arith),
@@ -254,10 +251,6 @@ pub plain_quote : (at : ℕ) (outer : List Frame) (p : Purpose) (t : List ℕ) �
 unfolding step quoted_step
 plain_quote at outer p t = refl
 
-pub quote_ends : (bytes : List ℕ) (at : ℕ) (outer : List Frame) (p : Purpose) (t : List ℕ) → StandsAt bytes at 34
-    → scan bytes at outer (quoted p (plain t)) ≡ resumed bytes (at + 1) (quote_step outer p t)
-quote_ends bytes at outer p t e = stepped bytes at 34 outer (quoted p (plain t)) e ∙ ap (resumed bytes (at + 1)) (plain_quote at outer p t)
-
 pub text_ends : (bytes : List ℕ) (at : ℕ) (outer : List Frame) (p : Purpose) (t : List ℕ) → drop at bytes ≡ [] → scan bytes at outer (quoted p (plain t)) ≡ fault at 2
 unfolding finish
 text_ends bytes at outer p t e = finished bytes at outer (quoted p (plain t)) e
@@ -296,7 +289,7 @@ ends_early bytes source start end t e same r is none = λ outer p. subst (λ (e 
     (r outer p ∙ text_ends source end outer p t (subst (λ (s : List ℕ). drop end s ≡ []) same none))
 
 pub ends_well : (bytes source : List ℕ) (start end c : ℕ) (t : List ℕ) → bytes ≡ source → Reaches source start end t → StandsAt bytes end c → c ≡ 34 → ReadsText source start (end + 1) t
-ends_well bytes source start end c t same r f is = λ outer p. r outer p ∙ quote_ends source end outer p t (subst (λ (b : ℕ). StandsAt source end b) is (subst (λ (s : List ℕ). StandsAt s end c) same f))
+ends_well bytes source start end c t same r f is = λ outer p. r outer p ∙ (stepped source end 34 outer (quoted p (plain t)) (subst (λ (b : ℕ). StandsAt source end b) is (subst (λ (s : List ℕ). StandsAt s end c) same f)) ∙ ap (resumed source (end + 1)) (plain_quote end outer p t))
 
 pub ends_badly : (bytes source : List ℕ) (start end c : ℕ) (t : List ℕ) (e : JsonFault) → bytes ≡ source → Reaches source start end t → e ≡ At end 2 → StandsAt bytes end c → FailsAt is_plain bytes end
     → (c ≡ 34 → ⊥) → (c ≡ 92 → ⊥) → BreaksText source start e

@@ -18,7 +18,8 @@ use Rattle.std.proofs.lemmas.Str.{IsCharBoundary-start, IsCharBoundary-after_asc
 use Rattle.decimal_json.specs.Characters.{is_space}
 use Rattle.decimal_json.specs.Reading.{BeginsText, IsNoJson, IsText, IsTextFault, IsFault, HasCause}
 use Rattle.decimal_json.proofs.Moves.{Refuses}
-use Rattle.decimal_json.proofs.RunValues.{text_arrives, deep_fault, repeated_fault, lacks_fault}
+use Rattle.decimal_json.proofs.RunValues.{text_arrives}
+use Rattle.decimal_json.proofs.RunFaults.{deep_fault, repeated_fault, lacks_fault}
 use Rattle.std.specs.Result.{MatchResult, IfOk, IfErr}
 use Rattle.decimal_json.specs.declared.types.Json.{Json}
 use Rattle.decimal_json.specs.declared.types.JsonFault.{JsonFault}
@@ -70,9 +71,6 @@ pub weaker_front_members : (level : ℕ) (ms : List Member) (bs : List ℕ) → 
 weaker_front_members level [] bs f = f
 weaker_front_members level (m ∷ ms) bs f =
     (f.0, f.1, f.2, f.3, f.4, f.5, f.6, f.7, weaker_string m.0 f.1 f.8, f.9, f.10, weaker level m.1 f.4 f.11, f.12, weaker_front_members level ms f.6 f.13, f.14)
-
-pub weaker_text : (v : Value) (bs : List ℕ) → SpellsText true v bs → SpellsText false v bs
-weaker_text v bs s = (s.0, s.1, s.2, s.3, weaker 0 v s.1 s.4, s.5, s.6)
 
 -- ---- What stands at a spot of the machine is the front of some JSON text.
 -- a text that begins with these bytes, and what is left of it, which is ASCII
@@ -531,9 +529,6 @@ stuck bytes k s l xs = ⊎_elim (λ (f : bytes ≡ s.front). absurd (omega (arit
     let here : get_or bytes k 0 ≡ r.0 = ap (λ x. get_or x k 0) r.2 ∙ get_or_at s.front r.0 r.1 0 k (sym s.place) in
     ap (λ x. whole_outcome (x ++ get_or bytes k 0 ∷ xs)) (front_of bytes k s) ∙ (ap (λ c. whole_outcome (s.front ++ c ∷ xs)) here ∙ stopped_there bytes k s r.0 r.3 xs)) s.ends
 
-front_utf8 : (bytes : List ℕ) (k : ℕ) → IsUtf8 bytes → Stops bytes k → IsUtf8 (take k bytes)
-front_utf8 bytes k utf8 s = IsUtf8-take bytes k utf8 (stops_between bytes k utf8 (within bytes k s) (stuck bytes k s))
-
 ascii_at : (bs : List ℕ) → AreAscii bs → IsAscii bs
 ascii_at [] a i = lit< tt
 ascii_at (c ∷ cs) a zero = a.0
@@ -545,7 +540,7 @@ text_begins bs utf8 t = (t.0, t.1, t.2, IsUtf8-append bs t.1 utf8 (IsUtf8-from_a
 pub is_no_json : (bytes : List ℕ) (k : ℕ) → IsUtf8 bytes → whole_outcome bytes ≡ fault k 2 → Stops bytes k → IsNoJson bytes k
 is_no_json bytes k utf8 e s = record {
   within = within bytes k s;
-  begins = text_begins (take k bytes) (front_utf8 bytes k utf8 s) (subst Begins (sym (front_of bytes k s)) (begins s.outer s.spot s.front s.stands));
+  begins = text_begins (take k bytes) (IsUtf8-take bytes k utf8 (stops_between bytes k utf8 (within bytes k s) (stuck bytes k s))) (subst Begins (sym (front_of bytes k s)) (begins s.outer s.spot s.front s.stands));
   longest = λ j lt le begins. ⊎_elim (λ (f : bytes ≡ s.front). omega (arith, s.place, ap length f, lt, le))
       (λ (r : (c : ℕ) × (cs : List ℕ) × (bytes ≡ s.front ++ c ∷ cs) × (step (length s.front) s.outer s.spot c ≡ stop k 2)).
       let past = take-past s.front r.0 r.1 j (omega (arith, s.place, lt)) in
@@ -598,7 +593,7 @@ same_no_json bytes at k a b = one_place at k (λ lt. a.longest k lt b.within b.b
 
 -- what the machine answers where the bytes are no JSON
 no_json_outcome : (bytes : List ℕ) (at : ℕ) (o : Outcome) → IsUtf8 bytes → IsNoJson bytes at → whole_outcome bytes ≡ o → IsSound bytes o → whole_outcome bytes ≡ fault at 2
-no_json_outcome bytes at (done v) utf8 a e s = absurd (a.no_text v (weaker_text v bytes s))
+no_json_outcome bytes at (done v) utf8 a e s = absurd (a.no_text v (s.0, s.1, s.2, s.3, weaker 0 v s.1 s.4, s.5, s.6))
 no_json_outcome bytes at (fault k kind) utf8 a e (inl s) =
     let two : whole_outcome bytes ≡ fault k 2 = e ∙ ap (fault k) s.0 in two ∙ ap (λ j. fault j 2) (sym (same_no_json bytes at k a (is_no_json bytes k utf8 two s.1)))
 no_json_outcome bytes at (fault k kind) utf8 a e (inr (inl s)) = absurd (a.shallow k s.1)

@@ -3,7 +3,7 @@ use Rattle.std.proofs.Common.{lit<, ◌≡◌, ℕ, ◌+◌, ◌==◌, ◌<◌, 
 use Rattle.std.proofs.lemmas.Bool.{cond_both, eqb-true, ltb-true, ltb-false, and_parts, leb-true, eqb-false, and_from, and_left, or_from, or_parts, not_from_false, false≢true}
 use Rattle.decimal_json.specs.Value.{Value, null, boolean, array, object, no_items, no_members, items_of, members_of, text, has_key}
 use Rattle.decimal_json.specs.Number.{is_digit, digit_of, is_mark, whole_of}
-use Rattle.decimal_json.specs.Characters.{rue, alse, ull, is_space, is_plain}
+use Rattle.decimal_json.specs.Characters.{rue, alse, ull, is_space}
 use Rattle.decimal_json.specs.Open.{Member, Frame, in_array, in_object, Purpose, for_value, for_key}
 use Rattle.decimal_json.specs.inside.Scan.{Spot, wanted, first_item, first_key, key_wanted, colon_wanted, ended, quoted, plain, awaited, next, stop, begin_step, opened, ended_step, close_step, literal_step, numeral, Numeral, minus, zero_first, whole, point, fraction, mark, signed, exponent, so_far, numeral_step, Quoted, escaped, unit, high, high_escaped, high_unit, Hex, no_digit, one_digit, two_digits, three_digits, quoted_step, quote_step, escape_step, more_hex, unit_step, pair_step, literal, Step, Outcome, done, fault, step, finish, finish_value, after, outcome, whole_outcome}
 use Rattle.decimal_json.specs.Grammar.{Spells, IsNumber, AreDigits, IsWhole, numerals, negative_text, fraction_text, Sign, no_sign, plus, sign_text, is_minus, Power, no_power, power, power_text, is_down, written, IsPower, Character, itself, short, alone, pair, character_text, meaning, AreHex, IsCharacter, is_first_alone, begins_with_second, AreCharacters, SpellsText}
@@ -27,12 +27,6 @@ front_space : (outer : List Frame) (bs : List ℕ) (c : ℕ) → IsFront outer b
 front_space [] bs c f e = space_more bs c f e
 front_space (in_array vs ∷ outer) bs c f e = spaced_more (InArray (IsFront outer) (length outer) vs) bs c f e
 front_space (in_object ms k ∷ outer) bs c f e = spaced_more (BehindColon (IsFront outer) (length outer) ms k) bs c f e
-
-array_opens : (outer : List Frame) (bs : List ℕ) (c : ℕ) → IsFront outer bs → length outer < 64 → (c == 91) ≡ true → IsFront (in_array [] ∷ outer) (bs ++ c ∷ [])
-array_opens outer bs c f lt e = spaced_none (InArray (IsFront outer) (length outer) []) (bs ++ c ∷ []) (bs, [], f, lt, refl, named bs c 91 e)
-
-object_opens : (outer : List Frame) (bs : List ℕ) (c : ℕ) → IsFront outer bs → length outer < 64 → (c == 123) ≡ true → IsKeyFront outer [] (bs ++ c ∷ [])
-object_opens outer bs c f lt e = spaced_none (InObject (IsFront outer) (length outer) []) (bs ++ c ∷ []) (bs, [], f, lt, refl, tt, named bs c 123 e)
 
 too_deep : (outer : List Frame) (bs : List ℕ) (c : ℕ) → IsFront outer bs → nat_lt (length outer) 64 ≡ false → (c ≡ 91) ⊎ (c ≡ 123) → Good (stop (length bs) 3) bs c
 too_deep outer bs c f full which = λ cs.
@@ -63,8 +57,8 @@ pub good_begin : (outer : List Frame) (bs : List ℕ) (c : ℕ) → IsFront oute
 unfolding begin_step
 good_begin outer bs c f =
     cond_both (c == 34) _ _ (λ s. Good s bs c) (λ e. string_begins outer for_value bs c f e) (λ _.
-    cond_both (c == 91) _ _ (λ s. Good s bs c) (λ e. good_opened outer bs c first_item f (λ lt. array_opens outer bs c f lt e) (inl (eqb-true c 91 e))) (λ _.
-    cond_both (c == 123) _ _ (λ s. Good s bs c) (λ e. good_opened outer bs c first_key f (λ lt. object_opens outer bs c f lt e) (inr (eqb-true c 123 e))) (λ _.
+    cond_both (c == 91) _ _ (λ s. Good s bs c) (λ e. good_opened outer bs c first_item f (λ lt. spaced_none (InArray (IsFront outer) (length outer) []) (bs ++ c ∷ []) (bs, [], f, lt, refl, named bs c 91 e)) (inl (eqb-true c 91 e))) (λ _.
+    cond_both (c == 123) _ _ (λ s. Good s bs c) (λ e. good_opened outer bs c first_key f (λ lt. spaced_none (InObject (IsFront outer) (length outer) []) (bs ++ c ∷ []) (bs, [], f, lt, refl, tt, named bs c 123 e)) (inr (eqb-true c 123 e))) (λ _.
     cond_both (c == 116) _ _ (λ s. Good s bs c) (λ e. literal_begins outer bs c 116 (boolean true) rue f e refl (lit< tt, (lit< tt, (lit< tt, tt)))) (λ _.
     cond_both (c == 102) _ _ (λ s. Good s bs c) (λ e. literal_begins outer bs c 102 (boolean false) alse f e refl (lit< tt, (lit< tt, (lit< tt, (lit< tt, tt))))) (λ _.
     cond_both (c == 110) _ _ (λ s. Good s bs c) (λ e. literal_begins outer bs c 110 null ull f e refl (lit< tt, (lit< tt, (lit< tt, tt)))) (λ _.
@@ -79,9 +73,6 @@ good_begin outer bs c f =
 
 five : (f i a b c e : List ℕ) → ((((f ++ i) ++ a) ++ b) ++ c) ++ e ≡ f ++ (i ++ (a ++ (b ++ (c ++ e))))
 five f i a b c e = simp append_assoc
-
-eight : (i a k b m t c s e : List ℕ) → (i ++ (a ++ (k ++ (b ++ (m ++ (t ++ (c ++ s))))))) ++ e ≡ i ++ (a ++ (k ++ (b ++ (m ++ (t ++ (c ++ (s ++ e)))))))
-eight i a k b m t c s e = simp append_assoc
 
 nine : (f i a k b m t c s e : List ℕ) → ((((((((f ++ i) ++ a) ++ k) ++ b) ++ m) ++ t) ++ c) ++ s) ++ e ≡ f ++ (i ++ (a ++ (k ++ (b ++ (m ++ (t ++ (c ++ (s ++ e))))))))
 nine f i a k b m t c s e = simp append_assoc
@@ -144,7 +135,7 @@ good_close (in_object ms k ∷ outer) bs v c s =
         refl,
       ),
       named bs c 125 e ∙ (ap (λ x. x ++ 125 ∷ []) so_far ∙ (nine o.0 (123 ∷ o.1) keyed.2.1 keyed.1 colon.1.1 (58 ∷ []) b.2.1 b.1 s.1 (125 ∷ [])
-          ∙ ap (λ x. o.0 ++ (123 ∷ x)) (sym (eight o.1 keyed.2.1 keyed.1 colon.1.1 (58 ∷ []) b.2.1 b.1 s.1 (125 ∷ []))))),
+          ∙ ap (λ x. o.0 ++ (123 ∷ x)) (sym (simp append_assoc)))),
     ))
     (λ _. stuck bs c))
 
@@ -172,21 +163,12 @@ good_literal outer bs v [] c t =
 good_literal outer bs v (l ∷ ls) c t = cond_both (c == l) _ _ (λ st. Good st bs c) (λ e. good_letter outer bs v ls c l t e) (λ _. stuck bs c)
 
 -- where a value, a key or a colon has to come
-pub good_wanted : (outer : List Frame) (bs : List ℕ) (c : ℕ) → IsFront outer bs → Good (cond (is_space c) (next outer wanted) (begin_step (length bs) outer c)) bs c
-good_wanted outer bs c f = cond_both (is_space c) _ _ (λ st. Good st bs c) (λ e. front_space outer bs c f e) (λ _. good_begin outer bs c f)
-
-empty_array : (bs base front space inside : List ℕ) → bs ≡ base ++ space → base ≡ front ++ 91 ∷ inside → inside ≡ [] → bs ++ 93 ∷ [] ≡ front ++ (91 ∷ (space ++ 93 ∷ []))
-empty_array bs base front space inside e f g = ap (λ x. x ++ 93 ∷ []) (e ∙ ap (λ x. x ++ space) (f ∙ ap (λ x. front ++ 91 ∷ x) g)) ∙ simp append_assoc
-
-empty_object : (bs base front space inside : List ℕ) → bs ≡ base ++ space → base ≡ front ++ 123 ∷ inside → inside ≡ [] → bs ++ 125 ∷ [] ≡ front ++ (123 ∷ (space ++ 125 ∷ []))
-empty_object bs base front space inside e f g = ap (λ x. x ++ 125 ∷ []) (e ∙ ap (λ x. x ++ space) (f ∙ ap (λ x. front ++ 123 ∷ x) g)) ∙ simp append_assoc
-
 pub good_first_item : (outer : List Frame) (bs : List ℕ) (c : ℕ) → IsFront (in_array [] ∷ outer) bs
     → Good (cond (is_space c) (next outer first_item) (cond (c == 93) (next outer (ended (array no_items))) (begin_step (length bs) (in_array [] ∷ outer) c))) bs c
 good_first_item outer bs c f = cond_both (is_space c) _ _ (λ st. Good st bs c) (λ e. front_space (in_array [] ∷ outer) bs c f e)
     (λ _. cond_both (c == 93) _ _ (λ st. Good st bs c)
     (λ e. spaced_none (BehindValue outer (array no_items)) (bs ++ c ∷ [])
-    (f.2.0, 91 ∷ f.1 ++ 93 ∷ [], f.2.2, (f.1, (λ _. f.2.3), f.3, refl), named bs c 93 e ∙ empty_array bs f.0 f.2.0 f.1 f.2.1 f.4 f.2.5 f.2.4))
+    (f.2.0, 91 ∷ f.1 ++ 93 ∷ [], f.2.2, (f.1, (λ _. f.2.3), f.3, refl), named bs c 93 e ∙ (ap (λ x. x ++ 93 ∷ []) (f.4 ∙ ap (λ x. x ++ f.1) (f.2.5 ∙ ap (λ x. f.2.0 ++ 91 ∷ x) f.2.4)) ∙ simp append_assoc)))
     (λ _. good_begin (in_array [] ∷ outer) bs c f))
 
 pub good_key : (outer : List Frame) (ms : List Member) (bs : List ℕ) (c : ℕ) → IsKeyFront outer ms bs → Good (cond (c == 34) (next outer (quoted (for_key ms (length bs)) (plain []))) (stop (length bs) 2)) bs c
@@ -197,12 +179,8 @@ pub good_first_key : (outer : List Frame) (bs : List ℕ) (c : ℕ) → IsKeyFro
 good_first_key outer bs c f = cond_both (is_space c) _ _ (λ st. Good st bs c) (λ e. spaced_more (InObject (IsFront outer) (length outer) []) bs c f e)
     (λ _. cond_both (c == 125) _ _ (λ st. Good st bs c)
     (λ e. spaced_none (BehindValue outer (object no_members)) (bs ++ c ∷ [])
-    (f.2.0, 123 ∷ f.1 ++ 125 ∷ [], f.2.2, (f.1, (λ _. f.2.3), (λ _. tt), f.3, refl), named bs c 125 e ∙ empty_object bs f.0 f.2.0 f.1 f.2.1 f.4 f.2.6 f.2.4))
+    (f.2.0, 123 ∷ f.1 ++ 125 ∷ [], f.2.2, (f.1, (λ _. f.2.3), (λ _. tt), f.3, refl), named bs c 125 e ∙ (ap (λ x. x ++ 125 ∷ []) (f.4 ∙ ap (λ x. x ++ f.1) (f.2.6 ∙ ap (λ x. f.2.0 ++ 123 ∷ x) f.2.4)) ∙ simp append_assoc)))
     (λ _. good_key outer [] bs c f))
-
-pub good_key_wanted : (outer : List Frame) (ms : List Member) (bs : List ℕ) (c : ℕ) → IsKeyFront outer ms bs
-    → Good (cond (is_space c) (next outer (key_wanted ms)) (cond (c == 34) (next outer (quoted (for_key ms (length bs)) (plain []))) (stop (length bs) 2))) bs c
-good_key_wanted outer ms bs c f = cond_both (is_space c) _ _ (λ st. Good st bs c) (λ e. spaced_more (InObject (IsFront outer) (length outer) ms) bs c f e) (λ _. good_key outer ms bs c f)
 
 pub good_colon : (outer : List Frame) (ms : List Member) (k bs : List ℕ) (c : ℕ) → Stands outer (colon_wanted ms k) bs
     → Good (cond (is_space c) (next outer (colon_wanted ms k)) (cond (c == 58) (next (in_object ms k ∷ outer) wanted) (stop (length bs) 2))) bs c
@@ -415,15 +393,12 @@ good_quote outer (for_key ms at) t bs c r q =
     (λ e. spaced_none (BehindKey (IsFront outer) (length outer) ms t) (bs ++ c ∷ [])
     (r.front, key, r.is_front.0, (r.cs, r.are, r.text, refl), e, closed r.front (flat_map character_text r.cs) bs c r.is q))
 
-plain_by : (c : ℕ) → (c == 34) ≡ false → (c == 92) ≡ false → nat_le 32 c ≡ true → is_plain c ≡ true
-plain_by c q b l = and_from (not (c == 34) && not (c == 92)) (nat_le 32 c) (and_from (not (c == 34)) (not (c == 92)) (not_from_false (c == 34) q) (not_from_false (c == 92) b)) l
-
 good_plain : (outer : List Frame) (p : Purpose) (t bs : List ℕ) (c : ℕ) → InString outer p t bs → Good (quoted_step (length bs) outer p (plain t) c) bs c
 unfolding quoted_step
 good_plain outer p t bs c r =
     cond_both (c == 34) _ _ (λ s. Good s bs c) (λ e. good_quote outer p t bs c r e) (λ q.
     cond_both (c == 92) _ _ (λ s. Good s bs c) (λ e. (bs, r, refl, named bs c 92 e)) (λ b.
-    cond_both (nat_le 32 c) _ _ (λ s. Good s bs c) (λ e. add_character outer p t bs (bs ++ c ∷ []) (itself c) r (plain_by c q b e) refl) (λ _. stuck bs c)))
+    cond_both (nat_le 32 c) _ _ (λ s. Good s bs c) (λ e. add_character outer p t bs (bs ++ c ∷ []) (itself c) r (and_from (not (c == 34) && not (c == 92)) (nat_le 32 c) (and_from (not (c == 34)) (not (c == 92)) (not_from_false (c == 34) q) (not_from_false (c == 92) b)) e) refl) (λ _. stuck bs c)))
 
 -- the bytes of an escape so far, and one more
 longer : (bs base a : List ℕ) (c : ℕ) → bs ≡ base ++ a → bs ++ c ∷ [] ≡ base ++ (a ++ c ∷ [])
@@ -464,12 +439,6 @@ good_hex outer p t bs back (three_digits a b d) c r e = good_unit outer p t bs r
 no_second_at : (c k : ℕ) (cs : List ℕ) → (c == k) ≡ false → (xs : List ℕ) → c ∷ cs ≡ k ∷ xs → ⊥
 no_second_at c k cs e xs f = eqb-false c k e (let g : c ≡ k = cc in g)
 
-lacks_backslash : (c : ℕ) (cs : List ℕ) → (c == 92) ≡ false → LacksSecond (c ∷ cs)
-lacks_backslash c cs e = λ a b d f rest hex low g. no_second_at c 92 cs e (117 ∷ a ∷ b ∷ d ∷ f ∷ rest) g
-
-lacks_letter : (c : ℕ) (cs : List ℕ) → (c == 117) ≡ false → LacksSecond (92 ∷ c ∷ cs)
-lacks_letter c cs e = λ a b d f rest hex low g. eqb-false c 117 e (let h : c ≡ 117 = cc in h)
-
 hex_not : (c a : ℕ) → is_hex c ≡ false → is_hex a ≡ true → c ≡ a → ⊥
 hex_not c a e f g = false≢true (sym e ∙ (ap is_hex g ∙ f))
 
@@ -493,7 +462,7 @@ unfolding quoted_step
 good_high outer p t bs back u c r =
     cond_both (c == 92) _ _ (λ s. Good s bs c)
     (λ e. (r.0, r.1, r.2, r.3, r.4, r.5, r.6, r.7, r.8, r.9, longer_by bs r.0 (92 ∷ 117 ∷ r.1 ∷ r.2 ∷ r.3 ∷ r.4 ∷ []) c 92 r.10 e))
-    (λ e. λ cs. lacks outer p t r.0 (bs ++ c ∷ cs) (length bs) back r.1 r.2 r.3 r.4 (c ∷ cs) r.5 r.6 r.7 (inr (high_of u r.1 r.2 r.3 r.4 r.8 r.9, lacks_backslash c cs e))
+    (λ e. λ cs. lacks outer p t r.0 (bs ++ c ∷ cs) (length bs) back r.1 r.2 r.3 r.4 (c ∷ cs) r.5 r.6 r.7 (inr (high_of u r.1 r.2 r.3 r.4 r.8 r.9, (λ a b d f rest hex low g. no_second_at c 92 cs e (117 ∷ a ∷ b ∷ d ∷ f ∷ rest) g)))
     (and_then bs r.0 (92 ∷ 117 ∷ r.1 ∷ r.2 ∷ r.3 ∷ r.4 ∷ []) c cs r.10))
 
 good_high_escaped : (outer : List Frame) (p : Purpose) (t bs : List ℕ) (back u c : ℕ) → QuotedText outer p (high_escaped t back u) bs → Good (quoted_step (length bs) outer p (high_escaped t back u) c) bs c
@@ -501,7 +470,7 @@ unfolding quoted_step
 good_high_escaped outer p t bs back u c r =
     cond_both (c == 117) _ _ (λ s. Good s bs c)
     (λ e. (r.0, r.1, r.2, r.3, r.4, r.5, r.6, r.7, r.8, r.9, tt, longer_by bs r.0 (92 ∷ 117 ∷ r.1 ∷ r.2 ∷ r.3 ∷ r.4 ∷ 92 ∷ []) c 117 r.10 e))
-    (λ e. λ cs. lacks outer p t r.0 (bs ++ c ∷ cs) (length bs) back r.1 r.2 r.3 r.4 (92 ∷ c ∷ cs) r.5 r.6 r.7 (inr (high_of u r.1 r.2 r.3 r.4 r.8 r.9, lacks_letter c cs e))
+    (λ e. λ cs. lacks outer p t r.0 (bs ++ c ∷ cs) (length bs) back r.1 r.2 r.3 r.4 (92 ∷ c ∷ cs) r.5 r.6 r.7 (inr (high_of u r.1 r.2 r.3 r.4 r.8 r.9, (λ a b d f rest hex low g. eqb-false c 117 e (let h : c ≡ 117 = cc in h))))
     (and_then bs r.0 (92 ∷ 117 ∷ r.1 ∷ r.2 ∷ r.3 ∷ r.4 ∷ 92 ∷ []) c cs r.10))
 
 good_pair : (outer : List Frame) (p : Purpose) (t bs base : List ℕ) (back u a b d e f g h c : ℕ) → InString outer p t base → back ≡ length base → AreHex a b d e → u ≡ unit_of a b d e → is_high_surrogate u ≡ true
@@ -542,10 +511,10 @@ good_quoted outer p (high_unit t back u h) bs c r = cond_both (is_hex c) _ _ (λ
 -- ---- What the machine answers is true of the bytes.
 pub good_step : (outer : List Frame) (spot : Spot) (bs : List ℕ) (c : ℕ) → Stands outer spot bs → Good (step (length bs) outer spot c) bs c
 unfolding step
-good_step outer wanted bs c s = good_wanted outer bs c s
+good_step outer wanted bs c s = cond_both (is_space c) _ _ (λ st. Good st bs c) (λ e. front_space outer bs c s e) (λ _. good_begin outer bs c s)
 good_step outer first_item bs c s = good_first_item outer bs c s
 good_step outer first_key bs c s = good_first_key outer bs c s
-good_step outer (key_wanted ms) bs c s = good_key_wanted outer ms bs c s
+good_step outer (key_wanted ms) bs c s = cond_both (is_space c) _ _ (λ st. Good st bs c) (λ e. spaced_more (InObject (IsFront outer) (length outer) ms) bs c s e) (λ _. good_key outer ms bs c s)
 good_step outer (colon_wanted ms k) bs c s = good_colon outer ms k bs c s
 good_step outer (ended v) bs c s = good_ended outer bs v c s
 good_step outer (literal v ls) bs c s = good_literal outer bs v ls c s
@@ -586,9 +555,7 @@ lacks_rest = λ a b c d rest hex low e. cc
 
 lacks_digits : (h : Hex) → LacksSecond (92 ∷ 117 ∷ hex_text h)
 lacks_digits no_digit = λ a b c d rest hex low e. cc
-lacks_digits (one_digit x) = λ a b c d rest hex low e. cc
-lacks_digits (two_digits x y) = λ a b c d rest hex low e. cc
-lacks_digits (three_digits x y z) = λ a b c d rest hex low e. cc
+lacks_digits _ = λ a b c d rest hex low e. cc
 
 -- a fault that is none of the second kind
 late : {bytes : List ℕ} {here k : ℕ} → Caught bytes here k 5 → IsSound bytes (fault k 5)

@@ -19,6 +19,7 @@ use Rattle.decimal_json.specs.declared.types.Json.{Json}
 use Rattle.std.proofs.lemmas.Bool.Decides.{same_from_decides, Decides-like}
 use Rattle.std.proofs.lemmas.Slice.Eq.{bytes_eq-Decides}
 use Rattle.decimal_json.specs.Grammar.{HasUniqueKeys}
+use mathlib.Core.Bool.{or-false, or_assoc}
 
 -- the letters of a literal
 pub letter_read : (bytes : List ℕ) (at i : ℕ) (letters : List ℕ) (outer : List Frame) (v : Value) → i < length letters → StandsAt bytes at (get_or letters i 0)
@@ -315,17 +316,9 @@ unfolding step ended_step close_step
 object_closes bytes start at end past room ms test k v has r p = λ outer fits. member_added bytes start at end room ms test k v has r outer fits
     ∙ passed bytes end past 125 (in_object ms k ∷ outer) outer (ended v) (ended (object (members_of (ms ++ (k, v) ∷ [])))) p tt (λ at. refl)
 
-or-false : (b : Bool) → (b || false) ≡ b
-or-false true = refl
-or-false false = refl
-
-or-assoc : (a b c : Bool) → (a || (b || c)) ≡ ((a || b) || c)
-or-assoc true b c = refl
-or-assoc false b c = refl
-
 pub has_key-push : (ms : List Member) (k : List ℕ) (v : Value) (q : List ℕ) → has_key (members_of (ms ++ (k, v) ∷ [])) q ≡ (has_key (members_of ms) q || bytes_eq k q)
 has_key-push [] k v q = or-false (bytes_eq k q)
-has_key-push (m ∷ ms) k v q = ap (λ b. bytes_eq m.0 q || b) (has_key-push ms k v q) ∙ or-assoc (bytes_eq m.0 q) (has_key (members_of ms) q) (bytes_eq k q)
+has_key-push (m ∷ ms) k v q = ap (λ b. bytes_eq m.0 q || b) (has_key-push ms k v q) ∙ sym (or_assoc (bytes_eq m.0 q) (has_key (members_of ms) q) (bytes_eq k q))
 
 pub members_go_on : (bytes : List ℕ) (start at end past room : ℕ) (ms : List Member) (test more : List ℕ → Bool) (k : List ℕ) (v : Value) → HasMembers bytes start at room ms test → ReadsMember test bytes at end room k v
     → AddsKey test more k → PassesToken bytes end past 44 → start ≤ past → HasMembers bytes start past room (ms ++ (k, v) ∷ []) more

@@ -18,7 +18,8 @@ use Rattle.instance.specs.Scaled.{MILLION, scaled, is_rounded}
 use Rattle.uc_model.specs.declared.field.Field.{Field}
 use Rattle.uc_model.specs.declared.field.Field.TheVariants.{TimePeriods, Demand, Reserves, ThermalGenerators, RenewableGenerators, PowerOutputMinimum, PowerOutputMaximum, RampUpLimit, RampDownLimit, RampStartupLimit, RampShutdownLimit, TimeUpMinimum, TimeDownMinimum, PowerOutputT0, TimeUpT0, TimeDownT0, Startup, StartupLag, StartupCost, PiecewiseProduction, PiecewiseProductionMw, PiecewiseProductionCost}
 use Rattle.instance.specs.InstanceOf.{Pairs, Has, IsObject, IsNumber, IsPowerOf, IsCostOf, IsTimeOf, IsPeriodsOf, IsPowersOf, AreRowsOf, IsStartRowOf, IsPointOf, IsRising, IsLimitOf, IsMinimumTimeOf, IsThermalOf, IsRenewableOf, AreUnitsOf, HasFields, IsInstanceOf}
-use Rattle.instance.proofs.UnitLaws.{some_is, some_split, Above, written_time, instance_is, instance_again}
+use Rattle.instance.proofs.StepLaws.{some_is, some_split}
+use Rattle.instance.proofs.UnitLaws.{Above, written_time, instance_is, instance_again}
 use Rattle.instance.specs.FirstFault.{instance_at}
 use Rattle.instance.specs.Answer.{Gives}
 use Rattle.uc_model.specs.declared.field_refusal.FieldRefusal.{FieldRefusal}
@@ -47,9 +48,6 @@ has_minimum_time : (exact : Bool) (field : Field) (ms : Pairs) (t : ℕ) → Has
 has_minimum_time exact field ms t h =
     let a = written_time exact t (field_of (key_of field) ms) h in
     (omega (arith, a.2), omega (arith, a.2, has_time exact field ms a.0 a.1))
-
-not_below : (a b : ℤ) → pos 0 ≤ℤ a → a ≤ℤ b → pos 0 ≤ℤ b
-not_below a b p q = omega (arith, ints)
 
 -- ---- lists
 
@@ -117,7 +115,7 @@ thermal_lawful exact unit ms h =
     some_is (λ xs. Has PiecewiseProductionMw xs (IsPowerOf exact (point unit l).mw) × Has PiecewiseProductionCost xs (IsCostOf exact (point unit l).cost)) (pairs_in a.0) a.1) in
     record {
       minimum = has_limit exact PowerOutputMinimum ms unit.pmin h.minimum;
-      maximum = record { low = not_below unit.pmin unit.pmax (has_limit exact PowerOutputMinimum ms unit.pmin h.minimum).low h.range; power = has_power exact PowerOutputMaximum ms unit.pmax h.maximum };
+      maximum = record { low = omega (arith, ints, (has_limit exact PowerOutputMinimum ms unit.pmin h.minimum).low, h.range); power = has_power exact PowerOutputMaximum ms unit.pmax h.maximum };
       range = h.range;
       ramp_up = has_limit exact RampUpLimit ms unit.ru h.ramp_up;
       ramp_down = has_limit exact RampDownLimit ms unit.rd h.ramp_down;

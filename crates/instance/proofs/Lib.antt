@@ -1,6 +1,7 @@
 pub mod Views
 pub mod Lists
 pub mod Loops
+pub mod StepLaws
 pub mod UnitLaws
 pub mod LawfulInstance
 pub mod Sizes

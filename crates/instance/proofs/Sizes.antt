@@ -1,5 +1,5 @@
 -- What a size is held at.
-use Rattle.std.proofs.Common.{◌≡◌, ℕ, zero, suc, ◌+◌, ◌-◌, ◌*◌, ◌/◌, ◌%◌, ◌^◌, ◌<◌, ◌≤◌, min, refl, sym, ap, ◌∙◌, inl, inr, arith, add-one, add-zero, ◌⊎◌, Bool, true, false, cond, List, length, subst, [], ◌∷◌, ◌++◌, take, drop, ⊎_elim, ℤ, pos, negsuc, nat_le, ◌≢◌, fold, nat_lt, slice_index, if◌then◌else◌, pow-add, take-append-drop, length-drop}
+use Rattle.std.proofs.Common.{◌≡◌, ℕ, zero, suc, ◌+◌, ◌-◌, ◌*◌, ◌/◌, ◌%◌, ◌^◌, ◌<◌, ◌≤◌, min, refl, sym, ap, ◌∙◌, inl, inr, arith, add-one, add-zero, ◌⊎◌, Bool, true, false, cond, List, length, subst, [], ◌∷◌, take, drop, ⊎_elim, ℤ, pos, negsuc, nat_le, ◌≢◌, fold, nat_lt, slice_index, if◌then◌else◌, pow-add, take-append-drop, length-drop}
 use Rattle.std.proofs.lemmas.Bool.{cases_lt, le-ltb, lt-ltb, lt-leb, cases_Bool, false≢true, or_cases, or_parts, leb-false, leb-true, ltb-false, ltb-true}
 use Rattle.std.proofs.Math.Nat.{pow-suc, mul_assoc, add-mul, mul_right_comm, one-le-pow, pow-le-pow_right, mul-le-mul_right}
 use Rattle.instance.specs.Held.{held, held_wholes, PAST_LIMITS}
@@ -177,9 +177,6 @@ from_front a (y ∷ ys) =
 whole_cons : (y : ℕ) (ys : List ℕ) → whole_of (y ∷ ys) ≡ y * 10 ^ length ys + whole_of ys
 whole_cons y ys = from_front (0 * 10 + y) ys ∙ ap (λ (k : ℕ). k * 10 ^ length ys + whole_of ys) (omega arith)
 
-whole_append : (xs ys : List ℕ) → whole_of (xs ++ ys) ≡ whole_of xs * 10 ^ length ys + whole_of ys
-whole_append xs ys = fold-append (λ n d. n * 10 + d) 0 xs ys ∙ from_front (whole_of xs) ys
-
 one_more : (y t w : ℕ) → y < 10 → w < t → y * t + w < t * 10
 one_more y t w lt less = omega (arith, mul-le-mul_right {m = y} {n = 9} t (omega arith), less)
 
@@ -219,7 +216,7 @@ cut_below ds p are = elim (cases_lt (length ds) p) [
 
 parts : (ds : List ℕ) (p : ℕ) → whole_of ds ≡ whole_of (kept ds p) * 10 ^ p + whole_of (cut ds p)
 parts ds p =
-    let all : whole_of ds ≡ whole_of (kept ds p) * 10 ^ length (cut ds p) + whole_of (cut ds p) = ap whole_of (sym (take-append-drop (length ds - p) ds)) ∙ whole_append (kept ds p) (cut ds p) in
+    let all : whole_of ds ≡ whole_of (kept ds p) * 10 ^ length (cut ds p) + whole_of (cut ds p) = ap whole_of (sym (take-append-drop (length ds - p) ds)) ∙ (fold-append (λ n d. n * 10 + d) 0 (kept ds p) (cut ds p) ∙ from_front (whole_of (kept ds p)) (cut ds p)) in
     elim (cases_lt (length ds) p) [
       | inl lt ↦
           let none = none_kept ds p lt in
@@ -233,15 +230,12 @@ parts ds p =
 abbrev Carries : Bool → ℕ → ℕ → Type 0
 Carries b t c = (b ≡ true → t ≤ 2 * c) × (b ≡ false → 2 * c < t)
 
-first_five : (y : ℕ) (ys : List ℕ) → 5 ≤ y → 10 ^ length (y ∷ ys) ≤ 2 * whole_of (y ∷ ys)
-first_five y ys h = omega (arith, whole_cons y ys, pow-suc 10 (length ys), mul-le-mul_right {m = 5} {n = y} (10 ^ length ys) h)
-
 first_less : (y : ℕ) (ys : List ℕ) → AreDigits ys → y < 5 → 2 * whole_of (y ∷ ys) < 10 ^ length (y ∷ ys)
 first_less y ys are h = omega (arith, whole_cons y ys, pow-suc 10 (length ys), whole_below ys are, mul-le-mul_right {m = y} {n = 4} (10 ^ length ys) (omega arith))
 
 carry_first : (xs : List ℕ) → AreDigits xs → Carries (nat_le 5 (slice_index xs 0)) (10 ^ length xs) (whole_of xs)
 carry_first [] are = (λ e. absurd (false≢true e), λ e. omega arith)
-carry_first (y ∷ ys) are = (λ e. first_five y ys (leb-true 5 y e), λ e. first_less y ys are.1 (leb-false 5 y e))
+carry_first (y ∷ ys) are = (λ e. (omega (arith, whole_cons y ys, pow-suc 10 (length ys), mul-le-mul_right {m = 5} {n = y} (10 ^ length ys) (leb-true 5 y e))), λ e. first_less y ys are.1 (leb-false 5 y e))
 
 abbrev seventh : List ℕ → ℕ → ℕ
 seventh ds p = if nat_le p (length ds) then slice_index (cut ds p) 0 else 0

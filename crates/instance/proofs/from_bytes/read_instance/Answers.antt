@@ -2,7 +2,7 @@ use Rattle.std.proofs.Common.{◌≡◌, sym, subst}
 use Rattle.decimal_json.specs.Value.{Value}
 use Rattle.decimal_json.specs.declared.types.JsonFault.TheVariants as json
 use Rattle.instance.specs.InstanceOf.{IsInstanceOf}
-use Rattle.instance.proofs.UnitLaws.{ok_is}
+use Rattle.instance.proofs.StepLaws.{ok_is}
 use Rattle.instance.proofs.from_bytes.read_instance.Goals as goal
 
 pub returns-in-Err-At-clause-only : goal.returns-in-Err-At-clause-only
