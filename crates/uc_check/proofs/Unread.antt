@@ -12,21 +12,17 @@ use Rattle.uc_check.specs.inside.Unread.{IsUnread}
 pub instance_cause : (exact : Bool) (old new : SlotState) (fault : Fault) → IsUnread slot.Instance most_bytes old new fault
     → HasCause exact old new fault
 instance_cause exact old new (Read slot.Instance) unread = unread.1
-instance_cause exact old new (Read slot.CertIn) unread = let e = unread.0 in absurd (cc)
-instance_cause exact old new (Read slot.CertOut) unread = let e = unread.0 in absurd (cc)
 instance_cause exact old new (Long slot.Instance) unread = unread.1
-instance_cause exact old new (Long slot.CertIn) unread = let e = unread.0 in absurd (cc)
-instance_cause exact old new (Long slot.CertOut) unread = let e = unread.0 in absurd (cc)
 instance_cause exact old new Memory unread = tt
+instance_cause exact old new (Read _) unread = let e = unread.0 in absurd (cc)
+instance_cause exact old new (Long _) unread = let e = unread.0 in absurd (cc)
 instance_cause exact old new _ unread = absurd unread
 
 pub certificate_cause : (old new : SlotState) (fault : Fault) → IsUnread slot.CertIn most_certificate_bytes old new fault
     → HasReadCause old new fault
 certificate_cause old new (Read slot.CertIn) unread = λ instance. unread.1
-certificate_cause old new (Read slot.Instance) unread = let e = unread.0 in absurd (cc)
-certificate_cause old new (Read slot.CertOut) unread = let e = unread.0 in absurd (cc)
 certificate_cause old new (Long slot.CertIn) unread = λ instance. unread.1
-certificate_cause old new (Long slot.Instance) unread = let e = unread.0 in absurd (cc)
-certificate_cause old new (Long slot.CertOut) unread = let e = unread.0 in absurd (cc)
 certificate_cause old new Memory unread = λ instance. tt
+certificate_cause old new (Read _) unread = let e = unread.0 in absurd (cc)
+certificate_cause old new (Long _) unread = let e = unread.0 in absurd (cc)
 certificate_cause old new _ unread = absurd unread

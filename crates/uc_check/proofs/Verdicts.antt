@@ -1,6 +1,6 @@
 -- How the ends of a run of `check` follow from its steps: reading the instance (from the files f to g), reading the
 -- certificate (from g to h), checking it, and the report.
-use Rattle.std.proofs.Common.{◌≡◌, ◌≤◌, ℕ, true, false, length, sym, subst, ap, ◌∙◌, refl, ⊎_elim, Result, Ok, Err, IfOk, IfErr, IsErrAnd, Some, None, List}
+use Rattle.std.proofs.Common.{◌≡◌, ℕ, true, false, sym, subst, ap, ◌∙◌, refl, ⊎_elim, Result, Ok, Err, IfOk, IfErr, IsErrAnd, Some, None, List}
 use Rattle.uc_model.specs.Limits.{IsLawfulInstance}
 use Rattle.uc_model.specs.declared.instance.Instance.{Instance}
 use Rattle.uc_model.proofs.PrintedCosts.{cost-le-printed}
@@ -8,7 +8,6 @@ use Rattle.dual_model.specs.Certificate.{Certificate, CertificateHolds, WrittenS
 use Rattle.dual_model.specs.Laws.{IsClaimTrue}
 use Rattle.outside.specs.declared.slot.Slot.{Slot}
 use Rattle.outside.specs.declared.slot.Slot.TheVariants as slot
-use Rattle.outside.specs.ToldBytes.{Tells}
 use Rattle.outside.specs.Slots.{SlotState, SameBut}
 use Rattle.outside.specs.Sinks.{SinkState}
 use Rattle.cert_text.specs.Reading.{IsTextOf}
@@ -17,11 +16,11 @@ use Rattle.cert_check.specs.Answers.{AreClaimsOf, IsAccepted, IsRead}
 use Rattle.cert_check.specs.declared.claims.Claims.{Claims}
 use Rattle.report.specs.ClaimsReport.{claims_report}
 use Rattle.report.specs.declared.fault.Fault.{Fault}
-use Rattle.report.specs.declared.fault.Fault.TheVariants.{Memory, Line, Code, Write}
+use Rattle.report.specs.declared.fault.Fault.TheVariants.{Memory, Code, Write}
 use Rattle.uc_check.specs.Outside.{Outside, outside_of}
 use Rattle.uc_check.specs.Reading.{HasInstance}
-use Rattle.uc_check.specs.Checking.{most_certificate_bytes, HasCertificate, HasCertificateCause, IsCertificateFault, IsCheckFailure, IsCheckStopped, IsInstanceFault, IsScheduleTrue, text_of_claims}
-use Rattle.uc_check.specs.inside.Checks.{AreVerifiedClaims, HasCertificateText, HasReadCause, IsRefusedCert, IsRefusedText}
+use Rattle.uc_check.specs.Checking.{HasCertificate, HasCertificateCause, IsCertificateFault, IsCheckFailure, IsCheckStopped, IsInstanceFault, IsScheduleTrue, text_of_claims}
+use Rattle.uc_check.specs.inside.Checks.{AreVerifiedClaims, HasCertificateText, IsRefusedCert}
 
 pub ok_both : {T E : Type 0} (result : Result T E) (P Q R : T → Type 0) → IfOk result P → IfOk result Q → ((x : T) → P x → Q x → R x)
     → IfOk result R
@@ -117,14 +116,6 @@ certificate_fault f g h out err_old err_new instance rounded fault read first se
   calm = ap (λ (s : SlotState). s.faults) (second slot.Instance (λ e. cc)) ∙ calm;
   cause = subst (λ file. HasCertificateCause instance file (h slot.CertIn) fault) (input_same f g first) cause;
 }
-
--- bytes that were read and are no certificate's text are the cause of a fault
-pub refused_text : (old new : SlotState) (bytes : List ℕ) (fault : Fault) → Tells old.left bytes → length bytes ≤ most_certificate_bytes
-    → new.faults ≡ old.faults → IsRefusedText bytes fault → HasReadCause old new fault
-refused_text old new bytes (Line line kind) told few calm faulty =
-    λ instance. record { bytes = bytes; told = told; few = few; faulty = faulty; calm = calm }
-refused_text old new bytes Memory told few calm refused = λ instance. tt
-refused_text old new bytes _ told few calm refused = absurd refused
 
 -- a run that stopped before anything was written failed
 pub stopped_failure : (before after : Outside) (fault : Fault) → IsCheckStopped before after fault → IsCheckFailure before after fault None

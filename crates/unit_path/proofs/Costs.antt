@@ -18,10 +18,8 @@ zero-total None = refl
 zero-total (Some a) = ap Some (let e : a +ℤ pos 0 ≡ a = omega (arith, linear) in e)
 
 pub total-assoc : (a b c : Option ℤ) → total_of (total_of a b) c ≡ total_of a (total_of b c)
-total-assoc None b c = refl
-total-assoc (Some a) None c = refl
-total-assoc (Some a) (Some b) None = refl
 total-assoc (Some a) (Some b) (Some c) = ap Some (let e : (a +ℤ b) +ℤ c ≡ a +ℤ (b +ℤ c) = omega (arith, linear) in e)
+total-assoc _ _ _ = refl
 
 -- ---- the lesser one
 
@@ -36,7 +34,5 @@ lesser-comm (Some a) None = refl
 lesser-comm (Some a) (Some b) = ap Some (grind (arith, ints))
 
 pub lesser-assoc : (a b c : Option ℤ) → lesser_of (lesser_of a b) c ≡ lesser_of a (lesser_of b c)
-lesser-assoc None b c = refl
-lesser-assoc (Some a) None c = refl
-lesser-assoc (Some a) (Some b) None = refl
 lesser-assoc (Some a) (Some b) (Some c) = ap Some (grind (arith, ints))
+lesser-assoc _ _ _ = refl

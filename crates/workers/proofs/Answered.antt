@@ -17,7 +17,7 @@ use Rattle.branch_tree.specs.Claims.{IsLayoutOf, written_tables}
 use Rattle.branch_tree.specs.StoredTree.{AtMost, tree_bound}
 use Rattle.branch_tree.specs.TreeView.{IsWhole, tree_of}
 use Rattle.branch_tree.specs.TrueFound.{IsTrueFound}
-use Rattle.branch_tree.specs.UsedTables.{stored_tables, used_tables}
+use Rattle.branch_tree.specs.UsedTables.{used_tables}
 use Rattle.branch_tree.specs.declared.found.Found.{Found}
 use Rattle.branch_tree.specs.declared.layout.Layout.{Layout}
 use Rattle.search_core.specs.declared.stored.Stored.{Stored}
@@ -39,27 +39,21 @@ use Rattle.workers.specs.inside.Answers.{IsAnswerOf, told_by}
 use Rattle.opening.specs.RootTables.{IsPricedOf}
 use Rattle.workers.specs.inside.Searches.{IsSizedEntry, IsSpentUnlessClosed, start_by}
 use Rattle.decommitment.specs.Standings.{IsDropped, KeepsMostOn, ending_of}
-use Rattle.workers.specs.inside.Best.{IsBest, kept_stuck, told_of}
+use Rattle.workers.specs.inside.Best.{IsBest, kept_stuck}
 use Rattle.workers.proofs.FewRows.{few_rows}
 use Rattle.workers.proofs.OwnValues.{bound_small, least_above, least_small}
 use Rattle.opening.proofs.Patterns.{not_first}
-use Rattle.workers.proofs.WrittenTables.{certificate_holds, each_within, written_lawful}
+use Rattle.workers.proofs.Searches.{million}
+use Rattle.workers.proofs.WrittenTables.{certificate_holds, written_lawful}
 
 -- ---- what is told of the most-on commitment
-tells_stuck : (instance : Instance) (bound : ℤ) (stands : Standing) (best : Option (Printed × ℤ)) → KeepsMostOn instance stands
-    → IsNoDearer best (ending_of stands) → TellsMostOn instance best (Some bound) (told_of best (kept_stuck stands))
-tells_stuck instance bound stands (Some priced) kept no_dearer = refl
-tells_stuck instance bound (standing.Dispatched printed cost) None kept no_dearer = absurd no_dearer
-tells_stuck instance bound (standing.Stuck period most_on) None kept no_dearer = kept
-
-tells_nothing : (instance : Instance) (best : Option (Printed × ℤ)) → TellsMostOn instance best None None
-tells_nothing instance None = refl
-tells_nothing instance (Some priced) = refl
-
 tells_most_on : (instance : Instance) (bound : Option ℤ) (stands : Standing) (best : Option (Printed × ℤ)) → KeepsMostOn instance stands
     → IsNoDearer best (ending_of stands) → TellsMostOn instance best bound (told_by bound best (kept_stuck stands))
-tells_most_on instance None stands best kept no_dearer = tells_nothing instance best
-tells_most_on instance (Some bound) stands best kept no_dearer = tells_stuck instance bound stands best kept no_dearer
+tells_most_on instance None stands None kept no_dearer = refl
+tells_most_on instance None stands (Some priced) kept no_dearer = refl
+tells_most_on instance (Some bound) stands (Some priced) kept no_dearer = refl
+tells_most_on instance (Some bound) (standing.Dispatched printed cost) None kept no_dearer = absurd no_dearer
+tells_most_on instance (Some bound) (standing.Stuck period most_on) None kept no_dearer = kept
 
 -- ---- the bound
 -- a greater value at the same scale has a bound no less
@@ -76,9 +70,6 @@ reaches instance table v least bound value scale first rest = record {
   reached = le_trans _ _ _ first rest;
 }
 
-million : pos 0 <ℤ ZERO_SCALE
-million = omega (arith, linear)
-
 -- the opening's table reaches the bound of the table of no prices, and that of the marginal prices where there are any
 reaches_both : (instance : Instance) (printed : Printed) (opening : Priced) (bound : ℤ) → IsGreaterTable instance printed opening.table opening.value
     → IsPricedOf instance opening → bound_of opening.value opening.table.k ≤ℤ bound → IsBoundOpened instance (Dispatched printed (pos 0)) bound
@@ -87,7 +78,7 @@ reaches_both instance printed opening bound greater priced above =
     let first : bound_of opening.value ZERO_SCALE ≤ℤ bound = subst (λ k. bound_of opening.value k ≤ℤ bound) scale above in
     let marginal_scale : greater.marginal.k ≡ ZERO_SCALE = greater.is_marginal.scale in
     let known : (greater.at_zero ≤ℤ opening.value) × (greater.at_marginal ≤ℤ opening.value) = ⊎_elim
-    (λ more. (subst (λ v. greater.at_zero ≤ℤ v) (sym more.2) (lower greater.at_zero greater.at_marginal more.0), subst (λ v. greater.at_marginal ≤ℤ v) (sym more.2) (le_refl greater.at_marginal)))
+    (λ more. (subst (λ v. greater.at_zero ≤ℤ v) (sym more.2) (omega (arith, linear, more.0)), subst (λ v. greater.at_marginal ≤ℤ v) (sym more.2) (le_refl greater.at_marginal)))
     (λ less. (subst (λ v. greater.at_zero ≤ℤ v) (sym less.2) (le_refl greater.at_zero), subst (λ v. greater.at_marginal ≤ℤ v) (sym less.2) less.0))
     greater.taken in
     record {
@@ -102,9 +93,6 @@ reaches_both instance printed opening bound greater priced above =
             (bound_rises greater.at_marginal opening.value ZERO_SCALE million known.1)) first;
       };
     }
-  where
-    lower : (a b : ℤ) → a <ℤ b → a ≤ℤ b
-    lower a b l = omega (arith, linear)
 
 reaches_opening : (instance : Instance) (stands : Standing) (opening : Priced) (bound : ℤ)
     → IsRootTable instance (ending_of stands) opening.table opening.value → IsPricedOf instance opening
@@ -119,12 +107,6 @@ reaches_opening instance (standing.Stuck period most_on) opening bound table pri
           (subst (λ t. IsNodeValue instance root t opening.value) table.0 table.1) million (le_refl (bound_of opening.value ZERO_SCALE)) first;
       marginal = tt;
     }
-
--- ---- the tables
--- the leaves' tables are there
-pub stored_within : (instance : Instance) (start m : Machine) → HoldsAt instance start m
-    → All (λ table. table < length m.tables) (stored_tables (tree_of m.tree))
-stored_within instance start m holds = each_within instance m.tables root (tree_of m.tree) holds.stored
 
 -- ---- the answer
 -- what is answered, with this schedule and this layout

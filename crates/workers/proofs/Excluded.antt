@@ -31,10 +31,6 @@ use Rattle.opening.proofs.OpeningRays.{first_is_one as first_ray_is_one, no_ray,
 abbrev pub empty_found : Tree → Layout → Found
 empty_found tree layout = record { schedule = None; tree = tree; tables = []; log = []; most_on = None; layout = layout }
 
--- there is one first such unit
-first_is_one : (instance : Instance) (g h : ℕ) → IsFirstEmpty instance root g → IsFirstEmpty instance root h → g ≡ h
-first_is_one instance g h one other = one_first (HasNoPattern instance root) g h one.empty other.empty one.first other.first
-
 empty_truth : (instance : Instance) (g : ℕ) (layout : Layout) → IsLayoutOf (lone_root instance (leaf.Empty g)) layout
     → IsFirstEmpty instance root g → IsTrueFound instance (empty_found (lone_root instance (leaf.Empty g)) layout)
 empty_truth instance g layout of_tree empty =
@@ -62,7 +58,7 @@ empty_answer instance g budget gap tree layout is whole of_tree empty =
         truth = empty_truth instance g layout (subst (λ (t : Tree). IsLayoutOf t layout) is of_tree) empty;
         spent = λ some. absurd (some refl);
         most_on = refl;
-        empty = λ other first. (ap (λ unit. Ends (leaf.Empty unit)) (first_is_one instance g other empty first), refl);
+        empty = λ other first. (ap (λ unit. Ends (leaf.Empty unit)) (one_first (HasNoPattern instance root) g other empty.empty first.empty empty.first first.first), refl);
         ray = λ n first. absurd (each_pattern instance root (ray_table instance n) first.positive.value first.positive.is_value g empty.within empty.empty);
         opened = λ each. absurd (not_first instance g each empty);
         few = λ number free. omega arith;

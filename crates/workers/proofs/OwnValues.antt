@@ -28,16 +28,13 @@ use Rattle.opening.specs.Outcomes.{IsSized}
 use Rattle.workers.specs.inside.Searches.{IsSizedEntry}
 
 -- ---- no less
-le_of_lt : (a b : ℤ) → a <ℤ b → a ≤ℤ b
-le_of_lt a b l = omega (arith, linear)
-
 kept_rises : (old : Stored) (number : ℕ) (k : ℤ) (result : Outcome) → old.value ≤ℤ (kept_after old number k result).value
 kept_rises old number k (outcome.Value v) =
     let taken = int_lt (pos 0) k && int_lt old.value (bound_of v k) in
     let new : Stored = record { table = number; value = bound_of v k } in
     ⊎_elim
     (λ (e : taken ≡ true).
-    subst (λ b. old.value ≤ℤ (cond b new old).value) (sym e) (le_of_lt old.value (bound_of v k) (int_lt-true old.value (bound_of v k) (and_parts _ _ e).1)))
+    subst (λ b. old.value ≤ℤ (cond b new old).value) (sym e) (let l : old.value <ℤ bound_of v k = int_lt-true old.value (bound_of v k) (and_parts _ _ e).1 in omega (arith, linear)))
     (λ (e : taken ≡ false). subst (λ b. old.value ≤ℤ (cond b new old).value) (sym e) (le_refl old.value))
     (cases_Bool taken)
 kept_rises old number k (outcome.Empty g) = le_refl old.value
@@ -50,10 +47,9 @@ stored_rises tables stored (entry ∷ entries) =
     (kept_rises stored entry.table (table_at tables entry.table).k entry.outcome) (stored_rises tables next entries)
 
 leaf_above : (least : ℤ) (stored : Stored) (l : Leaf) → least ≤ℤ stored.value → HoldsStored stored l → AtMost (Some least) (leaf_bound l)
-leaf_above least stored (leaf.Live table value) below h = subst (λ v. least ≤ℤ v) (sym h.1) below
-leaf_above least stored (leaf.Bound table value) below h = subst (λ v. least ≤ℤ v) (sym h.1) below
 leaf_above least stored (leaf.Ray table) below h = tt
 leaf_above least stored (leaf.Empty g) below h = tt
+leaf_above least stored _ below h = subst (λ v. least ≤ℤ v) (sym h.1) below
 
 -- each leaf's bound is at least a value that is no greater than what is inherited
 pub least_above : (units periods : ℕ) (tables : List Table) (log : List Entry) (here : Node) (least : ℤ) (inherited : Stored) (tree : NumberedTree)
@@ -96,10 +92,9 @@ stored_small tables stored (entry ∷ entries) small sized =
     (All-tail IsSizedEntry entry entries sized)
 
 leaf_small : (stored : Stored) (l : Leaf) → IsSmall stored.value → HoldsStored stored l → IfSome (leaf_bound l) IsSmall
-leaf_small stored (leaf.Live table value) small h = subst IsSmall (sym h.1) small
-leaf_small stored (leaf.Bound table value) small h = subst IsSmall (sym h.1) small
 leaf_small stored (leaf.Ray table) small h = tt
 leaf_small stored (leaf.Empty g) small h = tt
+leaf_small stored _ small h = subst IsSmall (sym h.1) small
 
 lesser_small : (a b : Option ℤ) → IfSome a IsSmall → IfSome b IsSmall → IfSome (lesser_bound a b) IsSmall
 lesser_small None b left right = right

@@ -10,7 +10,7 @@ use Rattle.uc_model.specs.declared.schedule.Printed.{Printed}
 use Rattle.uc_model.specs.declared.tolerance.TheConstants.{WHOLE_GAP}
 use Rattle.uc_model.specs.Division.{IsFloor}
 use Rattle.uc_model.proofs.Quotients.{IsFloor-int_div_euclid, IsFloor_unique}
-use Rattle.uc_model.proofs.Ring.{linear}
+use Rattle.uc_model.proofs.Ring.{le_refl, linear}
 use Rattle.dual_model.specs.Cover.{AllExcluded, IsBoundedBy, IsExcluded}
 use Rattle.dual_model.specs.Fixings.{IsCell, IsNodeOf}
 use Rattle.dual_model.specs.Opening.{ZERO_SCALE}
@@ -26,21 +26,19 @@ use Rattle.branch_tree.specs.StoredTree.{IsNodeAt, least_bound, lesser_bound, tr
 use Rattle.branch_tree.specs.TreeLaws.{StoredHolds, own_claim}
 use Rattle.branch_tree.specs.TreeView.{IsOpenAt, IsWhole, tree_of}
 use Rattle.branch_tree.specs.declared.found.Entry.{Entry}
-use Rattle.branch_tree.specs.declared.found.Outcome.{Outcome}
 use Rattle.branch_tree.specs.declared.tree.Leaf.{Leaf}
 use Rattle.branch_tree.specs.declared.tree.Leaf.TheVariants as leaf
 use Rattle.branch_tree.proofs.Grown.{open_below}
 use Rattle.branch_tree.proofs.Placed.{from_some}
 use Rattle.branch_tree.proofs.Subtrees.{IsHere, leaf_case, subtree_cases}
 use Rattle.search_core.specs.declared.event.Event.TheVariants.{Claim, Commit, Publish}
-use Rattle.search_core.specs.declared.event.Move.{Move}
 use Rattle.search_core.specs.declared.holder.Holder.{Holder}
 use Rattle.search_core.specs.declared.limits.TheConstants.{MAX_BUDGET}
 use Rattle.search_core.specs.declared.stored.Stored.{Stored}
 use Rattle.search_core.specs.Machine.{Machine, IsHeldIn, IsOpen, entries_of, holder_in, spot_stored, stored_at}
-use Rattle.search_core.specs.Moves.{IsMoveLegal, bound_of}
+use Rattle.search_core.specs.Moves.{bound_of}
 use Rattle.search_core.specs.Steps.{IsLegal, IsStoredTable, after, committed, committed_by}
-use Rattle.search_core.specs.Runs.{HoldsAt, IsBestWithin, IsReached, IsTrueCost}
+use Rattle.search_core.specs.Runs.{HoldsAt, IsBestWithin, IsReached}
 use Rattle.search_core.proofs.Claims.{get_push_last}
 use Rattle.search_core.proofs.Leaves.{holds_of_leaf, leaf_part}
 use Rattle.search_core.proofs.TrueRuns.{starts_are_reached, steps_reach}
@@ -51,17 +49,16 @@ use Rattle.opening.specs.RootTables.{IsPricedOf}
 use Rattle.claims.specs.Claims.{HasStoredTable, IsPublished}
 use Rattle.workers.specs.inside.Searches.{IsGrown, IsReady, IsScaledWithin, IsSearching, IsSizedEntry, IsTableFor, IsTurned, IsVisited, cost_of, start_by}
 use Rattle.workers.specs.inside.Best.{IsNoWorse}
-use Rattle.workers.specs.inside.Trials.{IsFreshRay}
 
 -- ---- the start
-million : pos 0 <ℤ ZERO_SCALE
+pub million : pos 0 <ℤ ZERO_SCALE
 million = omega (arith, linear)
 
 pub start_searching : (instance : Instance) (opening : Priced) (budget gap : ℕ) → IsPricedOf instance opening → budget ≤ MAX_BUDGET → gap ≤ WHOLE_GAP
     → IsSearching instance opening budget gap (start_by instance opening budget gap)
 start_searching instance opening budget gap priced small whole =
     let scale : pos 0 <ℤ opening.table.k = subst (λ k. pos 0 <ℤ k) (sym priced.scale) million in
-    let first : IsScaledWithin 0 opening.table = subst (λ k. k ≤ℤ pos (1000000 + 0)) (sym priced.scale) (itself (pos 1000000)) in
+    let first : IsScaledWithin 0 opening.table = subst (λ k. k ≤ℤ pos (1000000 + 0)) (sym priced.scale) (le_refl (pos 1000000)) in
     record {
       reached = starts_are_reached instance (start_by instance opening budget gap) (record {
         workers = 1;
@@ -84,9 +81,6 @@ start_searching instance opening budget gap priced small whole =
       sized = All-nil IsSizedEntry;
       scaled = All-cons (IsScaledWithin 0) opening.table [] first (All-nil (IsScaledWithin 0));
     }
-  where
-    itself : (b : ℤ) → b ≤ℤ b
-    itself b = omega (arith, linear)
 
 -- what the opening stores is the quotient rounded down
 pub quotient_is : (opening : Priced) (b : ℤ) → opening.table.k ≡ ZERO_SCALE → IsFloor opening.value ZERO_SCALE b
@@ -97,19 +91,13 @@ quotient_is opening b scale floor =
     (IsFloor-int_div_euclid opening.value ZERO_SCALE million))
 
 -- ---- a published cost
-true_cost : (instance : Instance) (priced : Printed × ℤ) → IsAcceptedIfFound instance (Some priced) → IsTrueCost instance priced.1
-true_cost instance priced accepted = record {
-  printed = priced.0;
-  holds = record { shape = accepted.shape; obeys = accepted.obeys; cost = accepted.cost_is };
-}
-
 pub published_searching : (instance : Instance) (opening : Priced) (budget gap : ℕ) (m new : Machine) (best : Option (Printed × ℤ))
     → IsSearching instance opening budget gap m → IsAcceptedIfFound instance best → IsPublished best m new → IsSearching instance opening budget gap new
 published_searching instance opening budget gap m new None is accepted same = subst (IsSearching instance opening budget gap) (sym same) is
 published_searching instance opening budget gap m new (Some priced) is accepted taken =
     subst (IsSearching instance opening budget gap) (sym taken) (record {
       reached = steps_reach instance (start_by instance opening budget gap) m (Publish 0 priced.1) is.reached (omega (arith, is.workers))
-          (true_cost instance priced accepted);
+          (record { printed = priced.0; holds = record { shape = accepted.shape; obeys = accepted.obeys; cost = accepted.cost_is } });
       budget_is = is.budget_is;
       gap_is = is.gap_is;
       workers = length-set m.desks 0 _ ∙ is.workers;
@@ -119,25 +107,17 @@ published_searching instance opening budget gap m new (Some priced) is accepted 
       scaled = is.scaled;
     })
 
-least_is : (a b : ℤ) → b ≤ℤ a → int_min a b ≡ b
-least_is a b le = grind (arith, ints, int_min_is a b)
-
 -- what is published is the best, where it is no worse than what was
 pub published_best : (m new : Machine) (old best : Option (Printed × ℤ)) → m.best ≡ cost_of old → IsNoWorse old best → IsPublished best m new
     → new.best ≡ cost_of best
 published_best m new None None was better same = ap (λ (x : Machine). x.best) same ∙ was
-published_best m new (Some former) None was better same = absurd (better (Dispatched former.0 former.1) (itself former.1))
-  where
-    itself : (b : ℤ) → b ≤ℤ b
-    itself b = omega (arith, linear)
+published_best m new (Some former) None was better same = absurd (better (Dispatched former.0 former.1) (le_refl former.1))
 published_best m new None (Some priced) was better taken =
     ap (λ (x : Machine). x.best) taken ∙ ap (λ b. lesser_bound b (Some priced.1)) was
 published_best m new (Some former) (Some priced) was better taken =
-    let le : priced.1 ≤ℤ former.1 = better (Dispatched former.0 former.1) (itself former.1) in
-    ap (λ (x : Machine). x.best) taken ∙ (ap (λ b. lesser_bound b (Some priced.1)) was ∙ ap (λ b. Some b) (least_is former.1 priced.1 le))
-  where
-    itself : (b : ℤ) → b ≤ℤ b
-    itself b = omega (arith, linear)
+    let le : priced.1 ≤ℤ former.1 = better (Dispatched former.0 former.1) (le_refl former.1) in
+    let least : int_min former.1 priced.1 ≡ priced.1 = grind (arith, ints, int_min_is former.1 priced.1) in
+    ap (λ (x : Machine). x.best) taken ∙ (ap (λ b. lesser_bound b (Some priced.1)) was ∙ ap (λ b. Some b) least)
 
 pub published_claims : (m new : Machine) (best : Option (Printed × ℤ)) → IsPublished best m new → length new.claims ≡ length m.claims
 published_claims m new None same = ap (λ (x : Machine). length x.claims) same
@@ -179,18 +159,6 @@ bounded_there instance m number here at h = record {
 abbrev holder : ℕ → Holder
 holder node = record { worker = 0; node = node }
 
-holder_last : (claims : List (Option Holder)) (h : Holder) (unit : ℕ) → unit ≡ suc (length claims) → holder_in (claims ++ Some h ∷ []) unit ≡ Some h
-holder_last claims h unit is =
-    ap (holder_in (claims ++ Some h ∷ [])) is
-    ∙ get_or_from_slice_get (claims ++ Some h ∷ []) (length claims) (Some h) None (get_push_last claims (Some h))
-
-scaled_more : (m : Machine) (unit : ℕ) → unit ≡ suc (length m.claims) → All (IsScaledWithin (length m.claims)) m.tables
-    → All (λ (table : Table). table.k <ℤ pos (1000000 + unit)) m.tables
-scaled_more m unit is each i d within = more (get_or m.tables i d).k (each i d within)
-  where
-    more : (k : ℤ) → k ≤ℤ pos (1000000 + length m.claims) → k <ℤ pos (1000000 + unit)
-    more k le = omega (arith, ints, is)
-
 pub claimed_ready : (instance : Instance) (opening : Priced) (budget gap : ℕ) (m new : Machine) (node unit : ℕ)
     → IsSearching instance opening budget gap m → HoldsAt instance (start_by instance opening budget gap) m → IsWhole m.tree
     → IsLegal m (Claim 0 node) → new ≡ after m (Claim 0 node) → unit ≡ suc (length m.claims) → IsReady instance new node unit
@@ -208,8 +176,9 @@ claimed_ready instance opening budget gap m new node unit is holds whole legal t
           let found = from_some (λ (p : Subtree). p.node) (subtree_at m.tree.nodes node) path there in
           subst (IsNodeOf instance) found.2
           (node_of instance root m.tree.nodes node found.0 (All-nil (λ (fixing : Fixing). IsCell instance fixing.g fixing.t)) holds.cover found.1);
-      scaled = scaled_more m unit unit_is is.scaled;
-      held = holder_last m.claims (holder node) unit unit_is;
+      scaled = λ i d within. omega (arith, ints, unit_is, is.scaled i d within);
+      held = ap (holder_in (m.claims ++ Some (holder node) ∷ [])) unit_is
+          ∙ get_or_from_slice_get (m.claims ++ Some (holder node) ∷ []) (length m.claims) (Some (holder node)) None (get_push_last m.claims (Some (holder node)));
       worker = legal.0;
     })
 
@@ -227,14 +196,11 @@ inherited_fits instance m node unit table ready none stored =
     let below = listed (λ (t : Table). t.k <ℤ pos (1000000 + unit)) m.tables number table ready.scaled stored in
     record {
       lawful = listed (IsLawfulTable instance) m.tables number table ready.tables stored;
-      scaled = weaker table.k below;
+      scaled = omega (arith, ints, below);
       fresh = subst (λ (entries : List Entry). All (λ entry. slice_get m.tables entry.table ≢ Some table) entries) (sym none)
           (All-nil (λ (entry : Entry). slice_get m.tables entry.table ≢ Some table));
       first = λ empty root free. stored;
     }
-  where
-    weaker : (k : ℤ) → k <ℤ pos (1000000 + unit) → k ≤ℤ pos (1000000 + unit)
-    weaker k l = omega (arith, ints)
 
 -- one of the unit's own scale, which no table so far has
 pub stepped_fits : (instance : Instance) (m : Machine) (node unit : ℕ) (table : Table) → IsReady instance m node unit
@@ -242,39 +208,14 @@ pub stepped_fits : (instance : Instance) (m : Machine) (node unit : ℕ) (table 
     → IsTableFor instance m node unit table
 stepped_fits instance m node unit table ready known lawful scale = record {
   lawful = lawful;
-  scaled = subst (λ k. k ≤ℤ pos (1000000 + unit)) (sym scale) (itself (pos (1000000 + unit)));
+  scaled = subst (λ k. k ≤ℤ pos (1000000 + unit)) (sym scale) (omega (arith, linear));
   fresh = λ i d within is.
       let below = listed (λ (t : Table). t.k <ℤ pos (1000000 + unit)) m.tables (get_or (entries_of m.log node) i d).table table ready.scaled is in
-      above table.k scale below;
+      omega (arith, ints, below);
   first = λ empty root free. absurd (known empty root);
 }
-  where
-    itself : (b : ℤ) → b ≤ℤ b
-    itself b = omega (arith, linear)
-
-    above : (k : ℤ) → k ≡ pos (1000000 + unit) → k <ℤ pos (1000000 + unit) → ⊥
-    above k same l = omega (arith, ints, same)
-
--- a ray
-pub ray_fits : (instance : Instance) (m : Machine) (node unit : ℕ) (ray : Table) → (entries_of m.log node ≡ [] → node ≢ 0 → ⊥)
-    → IsFreshRay instance m node ray → IsTableFor instance m node unit ray
-ray_fits instance m node unit ray known is = record {
-  lawful = is.lawful;
-  scaled = below ray.k is.scale;
-  fresh = is.fresh;
-  first = λ empty root free. absurd (known empty root);
-}
-  where
-    below : (k : ℤ) → k ≡ pos 0 → k ≤ℤ pos (1000000 + unit)
-    below k same = omega (arith, ints, same)
 
 -- ---- a commit
-pub commit_legal : (instance : Instance) (m : Machine) (node unit : ℕ) (table : Table) (result : Outcome) (action : Move)
-    → IsReady instance m node unit → IsTableFor instance m node unit table → IsMoveLegal m 0 node table result action
-    → IsLegal m (Commit 0 unit table result action)
-commit_legal instance m node unit table result action ready fits legal =
-    (ready.worker, record { node = node; holds = ready.held; fresh = fits.fresh; first = fits.first; legal = legal })
-
 same_holder : (a b : ℕ) → Some (holder a) ≡ Some (holder b) → a ≡ b
 same_holder a b e = let one : holder a ≡ holder b = cc in ap (λ (h : Holder). h.node) one
 
@@ -320,13 +261,10 @@ visited_searching instance opening budget gap m new node unit is claim unit_is r
       count = length-append m.log (entry ∷ []) ∙ (omega (arith, is.count, claims, unit_is));
       sized = All-append IsSizedEntry m.log (entry ∷ []) is.sized (All-cons IsSizedEntry entry [] sized (All-nil IsSizedEntry));
       scaled = subst (λ n. All (IsScaledWithin n) (m.tables ++ table ∷ [])) (sym claims)
-          (All-append (IsScaledWithin unit) m.tables (table ∷ []) (λ i d l. widen (get_or m.tables i d).k (is.scaled i d l))
+          (All-append (IsScaledWithin unit) m.tables (table ∷ []) (λ i d l. omega (arith, ints, unit_is, is.scaled i d l))
           (All-cons (IsScaledWithin unit) table [] visited.fits.scaled (All-nil (IsScaledWithin unit))));
     } in
     (subst (IsSearching instance opening budget gap) (sym all) searching, ap (λ (x : Machine). length x.claims) all ∙ claims)
-  where
-    widen : (k : ℤ) → k ≤ℤ pos (1000000 + length m.claims) → k ≤ℤ pos (1000000 + unit)
-    widen k le = omega (arith, ints, unit_is)
 
 -- and then the best cost was published
 pub turned_searching : (instance : Instance) (opening : Priced) (budget gap : ℕ) (m claimed new : Machine) (best : Option (Printed × ℤ)) (node unit : ℕ)
@@ -361,8 +299,7 @@ excluded_unbounded : (instance : Instance) (tables : List Table) (here : Node) (
     → EachLeaf (IsExcluded instance tables) here (map_leaves own_claim tree) → least_bound tree ≡ None
 excluded_unbounded instance tables here (Ends (leaf.Live table value)) each = absurd each
 excluded_unbounded instance tables here (Ends (leaf.Bound table value)) each = absurd each
-excluded_unbounded instance tables here (Ends (leaf.Ray table)) each = refl
-excluded_unbounded instance tables here (Ends (leaf.Empty g)) each = refl
+excluded_unbounded instance tables here (Ends _) each = refl
 excluded_unbounded instance tables here (Splits g t off on) each =
     (λ i. lesser_bound (excluded_unbounded instance tables (child here g t false) off each.0 i) (excluded_unbounded instance tables (child here g t true) on each.1 i))
 

@@ -14,7 +14,7 @@ use Rattle.dual_model.specs.Cover.{HasBoundOf, IsBoundedBy, IsExcluded, IsExclud
 use Rattle.dual_model.specs.Fixings.{HasEmptyUnit}
 use Rattle.dual_model.specs.Laws.{IsClaimTrue, IsInfeasible}
 use Rattle.dual_model.specs.Prices.{IsLawfulTable}
-use Rattle.dual_model.specs.Tree.{Ends, Splits, root, child, any_leaf, map_leaves, EachLeaf, IsCover, IsCoverBelow}
+use Rattle.dual_model.specs.Tree.{Ends, Splits, root, child, map_leaves, EachLeaf, IsCover, IsCoverBelow}
 use Rattle.dual_model.specs.Tree as branch
 use Rattle.dual_model.specs.declared.node.Node.{Node}
 use Rattle.dual_model.specs.declared.table.Table.{Table}
@@ -95,10 +95,8 @@ IsNamed used (leaf.Ray table) = IsAmong used table
 IsNamed used (leaf.Empty g) = Unit {0}
 
 named_leaf : (used : List ℕ) (l : Leaf) → ((number : ℕ) → IsAmong (leaf_tables l ++ []) number → IsAmong used number) → IsNamed used l
-named_leaf used (leaf.Live table value) turn = turn table (inl refl)
-named_leaf used (leaf.Bound table value) turn = turn table (inl refl)
-named_leaf used (leaf.Ray table) turn = turn table (inl refl)
 named_leaf used (leaf.Empty g) turn = tt
+named_leaf used _ turn = turn _ (inl refl)
 
 each_named : (used : List ℕ) (here : Node) (tree : branch.Tree Leaf) → ((number : ℕ) → IsAmong (stored_tables tree) number → IsAmong used number)
     → EachLeaf (λ node l. IsNamed used l) here tree
@@ -134,17 +132,15 @@ excluded_there instance tables used node number among h =
 
 leaf_holds : (instance : Instance) (tables : List Table) (used : List ℕ) (node : Node) (b : ℤ) (l : Leaf) → IsNamed used l → AtMost (Some b) (leaf_bound l)
     → StoredHolds instance tables node l → LeafHolds instance (map (table_at tables) used) b node (leaf_claim used l)
-leaf_holds instance tables used node b (leaf.Live table value) named below h = bounded_there instance tables used node table value b named below h
-leaf_holds instance tables used node b (leaf.Bound table value) named below h = bounded_there instance tables used node table value b named below h
 leaf_holds instance tables used node b (leaf.Ray table) named below h = excluded_there instance tables used node table named h
 leaf_holds instance tables used node b (leaf.Empty g) named below h = h
+leaf_holds instance tables used node b _ named below h = bounded_there instance tables used node _ _ b named below h
 
 leaf_excluded : (instance : Instance) (tables : List Table) (used : List ℕ) (node : Node) (l : Leaf) → IsNamed used l → leaf_bound l ≡ None
     → StoredHolds instance tables node l → IsExcluded instance (map (table_at tables) used) node (leaf_claim used l)
-leaf_excluded instance tables used node (leaf.Live table value) named none h = absurd (cc)
-leaf_excluded instance tables used node (leaf.Bound table value) named none h = absurd (cc)
 leaf_excluded instance tables used node (leaf.Ray table) named none h = excluded_there instance tables used node table named h
 leaf_excluded instance tables used node (leaf.Empty g) named none h = h
+leaf_excluded instance tables used node _ named none h = absurd (cc)
 
 -- ---- what the tree claims
 each_holds : (instance : Instance) (tables : List Table) (used : List ℕ) (here : Node) (b : ℤ) (tree : branch.Tree Leaf)
@@ -179,8 +175,7 @@ each_excluded instance tables used here (Splits g t off on) named none h =
 leaf_bounds : (used : List ℕ) (l : Leaf) (b : ℤ) → leaf_bound l ≡ Some b → is_bound (leaf_claim used l) ≡ true
 leaf_bounds used (leaf.Live table value) b some = refl
 leaf_bounds used (leaf.Bound table value) b some = refl
-leaf_bounds used (leaf.Ray table) b some = absurd (cc)
-leaf_bounds used (leaf.Empty g) b some = absurd (cc)
+leaf_bounds used _ b some = absurd (cc)
 
 some_bounds : (used : List ℕ) (tree : branch.Tree Leaf) (b : ℤ) → least_bound tree ≡ Some b → has_bound (map_leaves (leaf_claim used) tree) ≡ true
 some_bounds used (Ends l) b some = leaf_bounds used l b some
@@ -252,15 +247,10 @@ certificate_holds instance found accepted cover lawful within stored true_claim 
     )
 
 -- ---- the tables of the leaves are there
-one_within : (tables : List Table) (number : ℕ) (table : Table) → slice_get tables number ≡ Some table → All (λ i. i < length tables) (number ∷ [])
-one_within tables number table is = All-cons (λ i. i < length tables) number [] (slice_get_within tables number table is) (All-nil (λ i. i < length tables))
-
 leaf_within : (instance : Instance) (tables : List Table) (node : Node) (l : Leaf) → StoredHolds instance tables node l
     → All (λ i. i < length tables) (leaf_tables l ++ [])
-leaf_within instance tables node (leaf.Live table value) h = one_within tables table h.table h.is_table
-leaf_within instance tables node (leaf.Bound table value) h = one_within tables table h.table h.is_table
-leaf_within instance tables node (leaf.Ray table) h = one_within tables table h.table h.is_table
 leaf_within instance tables node (leaf.Empty g) h = All-nil (λ i. i < length tables)
+leaf_within instance tables node _ h = All-cons (λ i. i < length tables) _ [] (slice_get_within tables _ h.table h.is_table) (All-nil (λ i. i < length tables))
 
 pub each_within : (instance : Instance) (tables : List Table) (here : Node) (tree : branch.Tree Leaf) → EachLeaf (StoredHolds instance tables) here tree
     → All (λ i. i < length tables) (stored_tables tree)

@@ -15,9 +15,7 @@ returns-in-Err-Json-clause-refused c = record {
 pub returns-in-Err-Refused-clause-refused : goal.returns-in-Err-Refused-clause-refused
 returns-in-Err-Refused-clause-refused c = record {
   none = λ instance stand.
-      let e : Refused c.in-Err-Refused.refusal ≡ NoMemory =
-      sym c.in-Err-Refused.field-0-is ∙ c.in-Err-Refused.ensures.only instance stand
-      in
+      let e : Refused c.in-Err-Refused.refusal ≡ NoMemory = sym c.in-Err-Refused.field-0-is ∙ c.in-Err-Refused.ensures.only instance stand in
       cc;
   cause = subst (HasCause c.args.exact c.args.bytes.now) c.in-Err-Refused.field-0-is c.in-Err-Refused.ensures.cause;
 }

@@ -1,7 +1,8 @@
 -- The search over the tree ends with what is answered.
 use Rattle.std.proofs.Common.{subst, sym, IfOk}
 use Rattle.uc_model.specs.declared.instance.Instance.{Instance}
-use Rattle.dual_model.specs.Tree.{HasEachPattern}
+use Rattle.dual_model.specs.Tree.{HasEachPattern, root}
+use Rattle.branch_tree.specs.TreeView.{tree_of}
 use Rattle.search_core.specs.Runs.{HoldsAt}
 use Rattle.decommitment.specs.Standings.{IsDropped, ending_of}
 use Rattle.opening.specs.RootTables.{IsPricedOf}
@@ -9,7 +10,7 @@ use Rattle.workers.specs.Opening.{IsRootTable}
 use Rattle.workers.specs.inside.Answers.{IsAnswerOf}
 use Rattle.workers.specs.inside.Best.{IsBest}
 use Rattle.workers.specs.inside.Searches.{start_by}
-use Rattle.workers.proofs.Answered.{stored_within}
+use Rattle.workers.proofs.WrittenTables.{each_within}
 use Rattle.workers.proofs.root_search.claimed.Goals as goal
 
 pub bounded-requires-clause-patterns : goal.bounded-requires-clause-patterns
@@ -22,8 +23,8 @@ bounded-requires-clause-stored g c =
     let budget = c.args.options.now.budget in
     let gap = c.args.options.now.gap in
     let state = c.in_ok-grown.grown.state in
-    stored_within instance (start_by instance opening budget gap) state
-    (c.holds.ensures.holds instance opening budget gap c.instance-instance.ensures.lawful c.in_ok-grown.ensures.grown.searching)
+    each_within instance state.tables root (tree_of state.tree)
+    (c.holds.ensures.holds instance opening budget gap c.instance-instance.ensures.lawful c.in_ok-grown.ensures.grown.searching).stored
 
 pub returns : goal.returns
 returns g c =
