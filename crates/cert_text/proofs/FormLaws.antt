@@ -1,4 +1,4 @@
--- How many digits a number's text has.
+-- The forms of numbers and of single lines read what they write, and nothing else; before them, the digits of a number's text.
 use Rattle.std.proofs.Common.{ℕ, ℤ, ◌+◌, ◌/◌, ◌^◌, ◌<◌, ◌≤◌, length, unsigned_abs, arith, ◌≡◌, zero, suc, ◌-◌, ◌*◌, true, false, List, [], ◌∷◌, get_or, take, sym, ap, ◌∙◌, Bool, ◌++◌, drop, All, Option, Some, None, refl, subst, append_assoc, cond, inl, inr, ◌⊎◌, ◌%◌, pos, negsuc, ⊎_elim, not, ◌&&◌, ◌||◌, nat_eq, nat_lt, nat_le, ◌≢◌, ◌↔◌, IfSome, codes}
 use Rattle.std.proofs.Math.Nat.{pow-le-pow_right}
 use Rattle.std.proofs.lemmas.Int.Digits.{digits_value-lt, digits_value_more}

@@ -1,4 +1,4 @@
--- The machine inside a number.
+-- The machine inside a number, a string and an escape.
 use Rattle.std.proofs.Common.{◌≡◌, ℕ, ◌+◌, ◌*◌, ◌<◌, ◌≤◌, ◌==◌, List, [], ◌∷◌, ◌++◌, drop, length, get_or, refl, sym, ap, subst, ◌∙◌, ⊎_elim, nat_le, arith, Bool, true, false, append_assoc, append-nil, length-append, cond, ℤ, not, ◌&&◌, slice_range, encode_utf8, nat_lt, Some, None, ◌⊎◌}
 use Rattle.decimal_json.specs.Value.{Decimal, number}
 use Rattle.decimal_json.specs.Number.{is_digit, digit_of, is_mark, exponent_of, decimal_from}

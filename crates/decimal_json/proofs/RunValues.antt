@@ -1,4 +1,4 @@
--- The machine at a number of the grammar.
+-- The machine at numbers, strings and values of the grammar.
 use Rattle.std.proofs.Common.{◌≡◌, ℕ, ◌+◌, ◌*◌, ◌<◌, suc, List, [], ◌∷◌, ◌++◌, length, refl, sym, ap, subst, ◌∙◌, arith, Bool, true, false, append_assoc, length-append, fold, ⊎_elim, ◌==◌, inl, inr, lit<, Some, None, ◌||◌, cond, nat_le, ◌⊎◌, encode_utf8, nat_lt, append-nil}
 use Rattle.std.proofs.lemmas.Bool.{and_from, le-leb, cases_eq, ne_eqb, cases_Bool, or_cases, or_parts, false≢true, or_left, lt-ltb, ltb-true}
 use Rattle.decimal_json.specs.Value.{Decimal, number, Value, null, boolean, text, array, object, Items, no_items, item, Members, no_members, member, members_of, has_key}

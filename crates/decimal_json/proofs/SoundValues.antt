@@ -1,4 +1,4 @@
--- Each step of the machine between tokens is sound.
+-- Each step of the machine is sound: between tokens, inside numbers and inside strings.
 use Rattle.std.proofs.Common.{lit<, ◌≡◌, ℕ, ◌+◌, ◌==◌, ◌<◌, ◌≤◌, suc, cond, List, [], ◌∷◌, ◌++◌, length, refl, sym, ap, subst, ◌∙◌, arith, true, false, append_assoc, inl, inr, ◌*◌, Bool, fold, ◌&&◌, Option, Some, None, length-append, ◌⊎◌, nat_lt, nat_le, not, encode_utf8, append-nil}
 use Rattle.std.proofs.lemmas.Bool.{cond_both, eqb-true, ltb-true, ltb-false, and_parts, leb-true, eqb-false, and_from, and_left, or_from, or_parts, not_from_false, false≢true}
 use Rattle.decimal_json.specs.Value.{Value, null, boolean, array, object, no_items, no_members, items_of, members_of, text, has_key}

@@ -1,4 +1,4 @@
--- What a size is held at.
+-- The size of a number: what its exponent is held at, and the whole number nearest to its value in millionths.
 use Rattle.std.proofs.Common.{◌≡◌, ℕ, zero, suc, ◌+◌, ◌-◌, ◌*◌, ◌/◌, ◌%◌, ◌^◌, ◌<◌, ◌≤◌, min, refl, sym, ap, ◌∙◌, inl, inr, arith, add-one, add-zero, ◌⊎◌, Bool, true, false, cond, List, length, subst, [], ◌∷◌, take, drop, ⊎_elim, ℤ, pos, negsuc, nat_le, ◌≢◌, fold, nat_lt, slice_index, if◌then◌else◌, pow-add, take-append-drop, length-drop}
 use Rattle.std.proofs.lemmas.Bool.{cases_lt, le-ltb, lt-ltb, lt-leb, cases_Bool, false≢true, or_cases, or_parts, leb-false, leb-true, ltb-false, ltb-true}
 use Rattle.std.proofs.Math.Nat.{pow-suc, mul_assoc, add-mul, mul_right_comm, one-le-pow, pow-le-pow_right, mul-le-mul_right}

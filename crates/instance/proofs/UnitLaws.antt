@@ -1,4 +1,4 @@
--- A number that is read is what its value is, and what a value is is read.
+-- What is read is as the value says, and what the value says is read: numbers, arrays, rows, units and the instance.
 use Rattle.std.proofs.Common.{◌≡◌, ℕ, Bool, true, false, List, Option, Some, None, Result, Ok, Err, refl, sym, ap, subst, ◌∙◌, zero, suc, ◌*◌, ◌/◌, ◌%◌, ◌≤◌, cond, arith, ◌+◌, ◌-◌, [], ◌∷◌, ◌++◌, length, drop, get_or, append_assoc, take, max, ◌&&◌, ◌||◌, ◌==◌, nat_lt, IsTrue, ℤ, pos, ◌≤ℤ◌, int_lt, unsigned_abs, neg_ℤ, slice_index_or}
 use Rattle.std.specs.Option.{IsSomeAnd}
 use Rattle.instance.specs.declared.fault.Place.{Place}
