@@ -1,6 +1,6 @@
 -- How the ends of a run follow from its steps: reading and searching (from the files f to g), writing the
 -- certificate (from g to h) and the report.
-use Rattle.std.proofs.Common.{◌≡◌, ℕ, true, false, subst, ap, ◌∙◌, refl, None}
+use Rattle.std.proofs.Common.{◌≡◌, ℕ, subst, ap, ◌∙◌, refl, None}
 use Rattle.uc_model.specs.declared.instance.Instance.{Instance}
 use Rattle.outside.specs.declared.slot.Slot.{Slot}
 use Rattle.outside.specs.declared.slot.Slot.TheVariants as slot
@@ -24,8 +24,7 @@ certificate_same f g same = same slot.CertOut (λ e. cc)
 pub stopped : (asked : Solve) (f g : Slot → SlotState) (out err_old err_new : SinkState) (fault : Fault)
     → HasCause asked.exact (f slot.Instance) (g slot.Instance) fault → SameBut slot.Instance f g
     → IsFailure asked (outside_of f out err_old) (outside_of g out err_new) fault None
-stopped asked f g out err_old err_new (Write true) cause same = absurd cause
-stopped asked f g out err_old err_new (Write false) cause same = absurd cause
+stopped asked f g out err_old err_new (Write _) cause same = absurd cause
 stopped asked f g out err_old err_new fault cause same =
     record { cause = cause; certificate = certificate_same f g same; out = refl }
 
