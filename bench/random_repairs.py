@@ -25,7 +25,7 @@ PROGRAM = """#![tactic(auto)]
 
 use dual_model::Node;
 use instance::read_instance;
-use prices::{ascend, zero};
+use prices::{Effort, ascend, zero};
 use schedule_repair::{Repair, repair};
 use std::alloc::Global;
 use std::fs;
@@ -36,7 +36,8 @@ use uc_model::{Instance, List};
 fn cost(alloc: Global, instance: &Instance) -> Option<i64> {
     let root = Node { fixings: List::from_vec(Vec::new(alloc)) };
     let table = zero(alloc, instance).ok()?;
-    let ascent = ascend(alloc, instance, &root, &table, 40, 1_000_000).ok()?;
+    let effort = Effort { evaluations: 40, enough: i128::MAX };
+    let ascent = ascend(alloc, instance, &root, &table, effort, 1_000_000).ok()?;
     let mut room = Repair::new(alloc, instance).ok()?;
     let (_, cost) = repair(alloc, &mut room, instance, &ascent.table, &ascent.shares, 3000, i64::MIN).ok()??;
     Some(cost)

@@ -47,7 +47,7 @@ const RAY_EFFORT: Effort = Effort {
 
 /// After how many evaluations an ascent ends, and at what it takes the bound for, in micro-dollars.
 #[derive(Clone, Copy)]
-pub(crate) struct Effort {
+pub struct Effort {
     pub evaluations: u32,
     pub enough: i128,
 }
@@ -145,33 +145,9 @@ fn dearest_hour(unit: &Thermal) -> i64 {
     production.saturating_add(start)
 }
 
-/// Ascends at a node from a table by at most so many evaluations, to a table at the scale `k`; from the prices in order of merit
-/// where the table has none of demand. Where a unit has no pattern at the node, no share is told. The only error is `NoMemory`.
+/// Ascends at a node from a table with an effort, to a table at the scale `k`; from the prices in order of merit where the table has
+/// none of demand. Where a unit has no pattern at the node, no share is told. The only error is `NoMemory`.
 pub fn ascend(
-    alloc: Global,
-    instance: &Instance,
-    node: &Node,
-    table: &Table,
-    evaluations: u32,
-    k: i64,
-) -> Result<Ascent, NoMemory>
-    requires lawful { IsLawfulInstance instance.now }
-    requires node { IsNodeOf instance.now node.now }
-    requires scale { IsLawfulScale k }
-    ensures lawful { IfOk result (λ ascent. IsLawfulTable instance.now ascent.table) }
-    ensures scale { IfOk result (λ ascent. ascent.table.k ≡ k) }
-    ensures ray { IfOk result (λ ascent. IfSome ascent.ray (IsLawfulTable instance.now)) }
-    ensures ray_scale { IfOk result (λ ascent. IfSome ascent.ray (λ ray. ray.k ≡ pos 0)) }
-{
-    let effort = Effort {
-        evaluations,
-        enough: i128::MAX,
-    };
-    ascend_within(alloc, instance, node, table, effort, k)
-}
-
-/// The same with an effort.
-pub(crate) fn ascend_within(
     alloc: Global,
     instance: &Instance,
     node: &Node,

@@ -7,6 +7,6 @@ mod merit;
 mod price_list;
 mod steps;
 
-pub use ascent::{Ascent, ascend, with_ray};
+pub use ascent::{Ascent, Effort, ascend, with_ray};
 pub use opening_tables::{SCALE, marginal, marginal_in, opening_ray, unpriced, zero};
 pub use steps::{next_ascent, step};

@@ -7,7 +7,7 @@ ghost use Rattle.dual_model.specs.Prices.{IsLawfulTable};
 ghost use Rattle.dual_model.specs.NodeAnswer.{IsValued};
 ghost use Rattle.prices.specs.Steps.{IsStepFor};
 
-use crate::ascent::{Ascent, Effort, ascend_within};
+use crate::ascent::{Ascent, Effort, ascend};
 use dual_model::{Node, Table, Valued};
 use opening_tables::SCALE;
 use std::alloc::Global;
@@ -57,7 +57,7 @@ pub fn next_ascent(
         enough,
     };
     let scale = SCALE + i64::from(had);
-    ascend_within(alloc, instance, node, table, effort, scale)
+    ascend(alloc, instance, node, table, effort, scale)
 }
 
 // The most evaluations of an ascent, at the root or at another node.

@@ -1,6 +1,6 @@
 //! What a search answers.
 
-ghost use Rattle.std.specs.Prelude.{◌≡◌, ℕ, ◌<◌, All, IfOk, length};
+ghost use Rattle.std.specs.Prelude.{◌≡◌, ℕ, ◌<◌, All, IfOk, IfSome, None, length};
 ghost use Rattle.uc_model.specs.Limits.{IsLawfulInstance};
 ghost use Rattle.dual_model.specs.Fixings.{IsFirstEmpty};
 ghost use Rattle.dual_model.specs.Tree.{HasEachPattern};
@@ -9,6 +9,7 @@ ghost use Rattle.branch_tree.specs.StoredTree.{tree_bound};
 ghost use Rattle.branch_tree.specs.TreeView.{IsWhole, tree_of};
 ghost use Rattle.branch_tree.specs.UsedTables.{stored_tables};
 ghost use Rattle.search_core.specs.Runs.{HoldsAt};
+ghost use Rattle.schedule_check.specs.Accepted.{IsAcceptedIfFound};
 ghost use Rattle.decommitment.specs.Standings.{IsDropped, ending_of};
 ghost use Rattle.decommitment.specs.declared.pass.Standing.{Standing};
 ghost use Rattle.opening.specs.Rays.{HasNoRay, IsFirstRay};
@@ -20,7 +21,9 @@ ghost use Rattle.workers.specs.inside.Best.{IsBest, kept_stuck};
 ghost use Rattle.workers.specs.inside.Searches.{IsSizedEntry, IsSpentUnlessClosed, start_by};
 
 use crate::tree_search::Search;
+use crate::worker::Worker;
 use branch_tree::{Found, Layout, Leaf, Tree};
+use opening::excluding_ray;
 use prices::opening_ray;
 use std::alloc::Global;
 use uc_model::{Instance, List, NoMemory, Printed, Stuck};
@@ -55,12 +58,29 @@ pub(crate) fn without_pattern(alloc: Global, instance: &Instance, g: u32) -> Res
     })
 }
 
-/// The root is excluded by this ray of the opening.
-pub(crate) fn without_schedule(
+/// The answer where a ray of the opening excludes the root.
+pub(crate) fn excluded(
     alloc: Global,
-    instance: &Instance,
-    n: u32,
-) -> Result<Found, NoMemory>
+    worker: &mut Worker,
+    best: &Option<(Printed, i64)>,
+) -> Option<Result<Found, NoMemory>>
+    requires patterns { HasEachPattern worker.old.evaluator }
+    requires accepted { IsAcceptedIfFound worker.old.evaluator best.now }
+    ensures kept { worker.new.evaluator ≡ worker.old.evaluator }
+    ensures rays { result ≡ None → HasNoRay worker.old.evaluator }
+    ensures answer { (budget gap : ℕ) (stands : Standing) → IsDropped worker.old.evaluator stands
+        → IfSome result (λ answer. IfOk answer (IsAnswerOf worker.old.evaluator budget gap)) }
+{
+    let instance = worker.evaluator.instance();
+    match excluding_ray(alloc, &mut worker.evaluator, best) {
+        Ok(None) => None,
+        Ok(Some(n)) => Some(without_schedule(alloc, instance, n)),
+        Err(NoMemory) => Some(Err(NoMemory)),
+    }
+}
+
+// The root is excluded by this ray of the opening.
+fn without_schedule(alloc: Global, instance: &Instance, n: u32) -> Result<Found, NoMemory>
     requires lawful { IsLawfulInstance instance.now }
     requires patterns { HasEachPattern instance.now }
     requires ray { IsFirstRay instance.now n }

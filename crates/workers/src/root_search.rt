@@ -1,29 +1,25 @@
 //! The search.
 
-ghost use Rattle.std.specs.Prelude.{◌≡◌, ℕ, ◌≤◌, IfOk, IfSome, None};
+ghost use Rattle.std.specs.Prelude.{◌≤◌, IfOk};
 ghost use Rattle.uc_model.specs.Limits.{IsLawfulInstance};
 ghost use Rattle.uc_model.specs.declared.tolerance.TheConstants.{WHOLE_GAP};
 ghost use Rattle.dual_model.specs.Tree.{HasEachPattern};
 ghost use Rattle.search_core.specs.declared.limits.TheConstants.{MAX_BUDGET};
-ghost use Rattle.schedule_check.specs.Accepted.{IsAcceptedIfFound};
-ghost use Rattle.decommitment.specs.Standings.{IsDropped};
-ghost use Rattle.decommitment.specs.declared.pass.Standing.{Standing};
 ghost use Rattle.opening.specs.Rays.{HasNoRay};
 ghost use Rattle.workers.specs.SearchResult.{IsSearchResult};
 ghost use Rattle.workers.specs.Writable.{IsWritable};
 ghost use Rattle.workers.specs.inside.Answers.{IsAnswerOf};
 ghost use Rattle.workers.specs.inside.Starts.{IsOpened};
 
-use crate::answer::{bounded, without_pattern, without_schedule};
+use crate::answer::{bounded, excluded, without_pattern};
 use crate::start::{Opened, started};
 use crate::tree_search::{holds, search_tree};
 use crate::worker::Worker;
 use branch_tree::Found;
-use opening::excluding_ray;
 use outside::Gate;
 use std::alloc::Global;
 use std::sync::Wait;
-use uc_model::{Instance, NoMemory, Printed};
+use uc_model::{Instance, NoMemory};
 
 /// How long a search goes on: at most `budget` evaluations after the opening, and only while the cost is above the bound by more
 /// than `gap` parts per million of its size.
@@ -88,27 +84,6 @@ fn searched<R: Wait, G: Gate>(
     match excluded(alloc, worker, &opened.start.best) {
         Some(answer) => answer,
         None => claimed(rt, alloc, worker, options, opened, gate),
-    }
-}
-
-// The answer where a ray of the opening excludes the root.
-fn excluded(
-    alloc: Global,
-    worker: &mut Worker,
-    best: &Option<(Printed, i64)>,
-) -> Option<Result<Found, NoMemory>>
-    requires patterns { HasEachPattern worker.old.evaluator }
-    requires accepted { IsAcceptedIfFound worker.old.evaluator best.now }
-    ensures kept { worker.new.evaluator ≡ worker.old.evaluator }
-    ensures rays { result ≡ None → HasNoRay worker.old.evaluator }
-    ensures answer { (budget gap : ℕ) (stands : Standing) → IsDropped worker.old.evaluator stands
-        → IfSome result (λ answer. IfOk answer (IsAnswerOf worker.old.evaluator budget gap)) }
-{
-    let instance = worker.evaluator.instance();
-    match excluding_ray(alloc, &mut worker.evaluator, best) {
-        Ok(None) => None,
-        Ok(Some(n)) => Some(without_schedule(alloc, instance, n)),
-        Err(NoMemory) => Some(Err(NoMemory)),
     }
 }
 

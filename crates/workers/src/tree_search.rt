@@ -88,8 +88,8 @@ fn begun(
 fn searching(
     alloc: Global,
     instance: &Instance,
-    options: &Options,
     start: Start,
+    options: &Options,
 ) -> Result<Search, NoMemory>
     requires lawful { IsLawfulInstance instance.now }
     requires budget { options.now.budget ≤ MAX_BUDGET }
@@ -144,7 +144,7 @@ pub(crate) fn search_tree<R: Wait, G: Gate>(
     ensures grown { IfOk result (λ search. IsGrown worker.old.evaluator start.opening options.now.budget options.now.gap search.state search.best) }
     ensures no_worse { IfOk result (λ search. IsNoWorse start.best search.best) }
 {
-    let mut search = searching(alloc, worker.evaluator.instance(), options, start)?;
+    let mut search = searching(alloc, worker.evaluator.instance(), start, options)?;
     grow(rt, alloc, worker, options, &mut search, gate).and(Ok(search))
 }
 

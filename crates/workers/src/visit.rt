@@ -185,7 +185,7 @@ fn ascended(
     ensures best { search.new.best ≡ search.old.best }
     ensures table { IfOk result (λ trial. IsTableFor worker.old.evaluator search.old.state claim.node claim.unit (table_of trial)) }
 {
-    let ascent = sought(alloc, worker, search, claim, path)?;
+    let ascent = ascent(alloc, worker, search, claim, path)?;
     match own_ray(alloc, worker, search, claim, path, &ascent) {
         Ok(Some(ray)) => Ok(Trial::RanOff { ray, ascent }),
         Ok(None) => Ok(Trial::Ascended(ascent)),
@@ -259,29 +259,6 @@ fn own_ray(
     Ok(fresh(&search.state, claim.node, Some(ray)))
 }
 
-// The ascent to a table of this unit's scale; where no schedule is known after the first claim, with a ray that is looked for.
-fn sought(
-    alloc: Global,
-    worker: &Worker,
-    search: &mut Search,
-    claim: Claim,
-    path: &Node,
-) -> Result<Ascent, NoMemory>
-    requires unit { claim.unit ≤ MAX_BUDGET }
-    requires next { IsNextAt worker.now.evaluator claim.unit search.old.next }
-    requires path { IsNodeOf worker.now.evaluator path.now }
-    requires ready { IsReady worker.now.evaluator search.old.state claim.node claim.unit }
-    ensures state { search.new.state ≡ search.old.state }
-    ensures best { search.new.best ≡ search.old.best }
-    ensures ascent { IfOk result (IsAscentFor worker.now.evaluator claim.unit) }
-{
-    let ascent = ascent(alloc, worker, search, claim, path)?;
-    if search.best.is_some() || claim.unit == 1 || ascent.ray.is_some() {
-        return Ok(ascent);
-    }
-    with_ray(alloc, worker.evaluator.instance(), path, ascent)
-}
-
 // The ascent, unless it came so high that the node was pruned: a schedule there is hardly cheaper than the best one.
 fn repairable(claim: Claim, ascent: Option<Ascent>) -> Option<Ascent> {
     match ascent {
@@ -299,7 +276,8 @@ fn enough(claim: Claim) -> i128 {
     }
 }
 
-// The ascent to a table of this unit's scale: the one that was made already, or one from what the node stores.
+// The ascent to a table of this unit's scale: the one that was made already, or one from what the node stores, with a ray that is looked for
+// where no schedule is known after the first claim.
 fn ascent(
     alloc: Global,
     worker: &Worker,
@@ -319,13 +297,14 @@ fn ascent(
     match search.next.take() {
         Some(ascent) => Ok(ascent),
         None if claim.unit == 1 => first_ascent(alloc, instance),
-        None => next_ascent(
-            alloc,
-            instance,
-            path,
-            stored_table(&search.state, claim.node),
-            claim.unit,
-            enough(claim),
-        ),
+        None => {
+            let table = stored_table(&search.state, claim.node);
+            let ascent = next_ascent(alloc, instance, path, table, claim.unit, enough(claim))?;
+            if search.best.is_some() || ascent.ray.is_some() {
+                Ok(ascent)
+            } else {
+                with_ray(alloc, instance, path, ascent)
+            }
+        }
     }
 }

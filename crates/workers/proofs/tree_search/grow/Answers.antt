@@ -48,19 +48,18 @@ returns-in_default-clause-grown g c = λ opening begun.
 pub turn-requires-clause-ready : goal.turn-requires-clause-ready
 turn-requires-clause-ready g c =
     let instance = c.args.worker.now.evaluator in
-    let opening = c.requires.begun.0 in
-    let begun = c.requires.begun.1 in
+    let before = c.loop-had.invariant in
+    let state = c.loop-had.search.state in
+    let begun = c.requires.begun in
+    let searching = before.searching begun.0 begun.1 in
     let budget = c.args.options.now.budget in
     let gap = c.args.options.now.gap in
-    let state = c.loop-had.search.state in
-    let before = c.loop-had.invariant in
-    let searching = before.searching opening begun in
     let node = c.in-Some.node in
     let unit = c.loop-had.had + 1 in
     let claimed = c.claim_next.ensures.claimed node (c.in_ok-node.was ∙ ap Ok c.in-Some.is) in
     subst (λ (i : Instance). IsReady i c.claim_next.new.state node unit) (sym before.kept)
-    (claimed_ready instance opening budget gap state c.claim_next.new.state node unit searching
-    (c.holds.ensures.holds instance opening budget gap begun.lawful searching) c.holds.ensures.whole claimed.0 claimed.1
+    (claimed_ready instance begun.0 budget gap state c.claim_next.new.state node unit searching
+    (c.holds.ensures.holds instance begun.0 budget gap begun.1.lawful searching) c.holds.ensures.whole claimed.0 claimed.1
     (omega (arith, before.count)))
 
 pub loop-had-preserved : goal.loop-had-preserved

@@ -3,7 +3,7 @@ use Rattle.std.proofs.Common.{subst, sym, IfOk}
 use Rattle.uc_model.specs.declared.instance.Instance.{Instance}
 use Rattle.decommitment.specs.Standings.{IsDropped}
 use Rattle.workers.specs.inside.Answers.{IsAnswerOf}
-use Rattle.workers.proofs.root_search.excluded.Goals as goal
+use Rattle.workers.proofs.answer.excluded.Goals as goal
 
 pub returns-in-Ok-Some-clause-answer : goal.returns-in-Ok-Some-clause-answer
 returns-in-Ok-Some-clause-answer c = λ budget gap stands dropped.
