@@ -8,11 +8,12 @@ program=$top/crates/uc/out/uc
 child='' work='' told='' crates=() uses=() began=() took=()
 
 # What the proof of each crate took when it was measured, in seconds of one processor.
-weights='uc_model 54 dual_model 30 outside 186 decimal_json 132 instance 252 cert_text 228 report 96 cost_curves 48
-  start_costs 24 period_term 72 ramp_duals 48 system_value 30 interval_graph 24 unit_path 78 dispatch_repair 210
-  dual_value 54 quick_value 162 opening_tables 54 bundle 126 prices 144 repair_state 216 schedule_repair 228
-  branch_tree 48 search_core 180 claims 60 decommitment 42 opening 72 workers 444
-  schedule_check 90 state_walk 36 leaf_values 72 cert_check 84 demo_gen 42 command_line 78 uc_check 84 uc_cli 72 uc 108'
+weights='uc_model 72 dual_model 42 outside 222 decimal_json 174 instance 216 cert_text 210 report 84 cost_curves 60
+  start_costs 30 period_term 66 ramp_duals 36 system_value 24 interval_graph 24 unit_path 96 dispatch_repair 228
+  dual_value 42 quick_value 186 opening_tables 48 bundle 156 prices 168 repair_state 276 schedule_repair 204
+  branch_tree 66 incumbent 30 steal_pool 60 search_core 216 claims 60 decommitment 36 opening 72 workers 228
+  schedule_check 120 state_walk 36 leaf_values 54 cert_check 72 demo_gen 36 command_line 108 uc_check 60 uc_cli 60
+  uc 108'
 
 say() { printf 'uc: %s\n' "$*" >&2; }
 is_current() {
