@@ -10,8 +10,9 @@ ghost use Rattle.dual_model.specs.Tree.{HasEachPattern};
 ghost use Rattle.decommitment.specs.Standings.{ending_of, IsDropped};
 ghost use Rattle.decommitment.specs.inside.Turns.{ending_of_trial, IsDroppedBelow, IsFirstOf, IsLater, IsReplaced, IsStuckStanding};
 
-use crate::trial::{Trial, attempt};
-use dispatch_repair::{MostFault, Room, fewest_of, most_on};
+use crate::trial::{Trial, attempt, cost};
+use dispatch_repair::{MostFault, Room, Rows, committed, dispatch_rows, fewest_of, most_on, printed, recommit, stuck_of};
+use std::mem;
 use std::alloc::Global;
 use uc_model::{Instance, NoMemory, Pattern, Printed, Stuck};
 
@@ -23,19 +24,34 @@ pub enum Standing {
     Stuck { period: usize, most_on: Stuck },
 }
 
+// How the commitment that was kept was dispatched: its cost in micro-dollars, or where it is stuck, and the most-on one.
+#[derive(Drop)]
+enum Stands {
+    Dispatched(i128),
+    Stuck { period: usize, most_on: Stuck },
+}
+
+// The commitment that was kept with its rows, and those of the next trial.
+#[derive(Drop)]
+struct Pass {
+    room: Room,
+    patterns: Vec<Pattern>,
+    best: Rows,
+    tried: Rows,
+    stands: Stands,
+}
+
 /// Where the drop pass ends. The only error is `NoMemory`.
 pub fn drop_pass(alloc: Global, instance: &Instance) -> Result<Standing, NoMemory>
     requires lawful { IsLawfulInstance instance.now }
     requires patterns { HasEachPattern instance.now }
     ensures { IfOk result (IsDropped instance.now) }
 {
-    let mut room = Room::new(alloc, instance)?;
-    let mut patterns = most_on_patterns(alloc, instance)?;
-    let mut standing = first(attempt(alloc, &mut room, instance, &patterns)?);
+    let mut pass = begun(alloc, instance)?;
     for g in 0..instance.thermal.as_slice().len() {
-        standing = turn(alloc, &mut room, instance, &mut patterns, standing, g)?;
+        turn(&mut pass, instance, g);
     }
-    Ok(standing)
+    ended(alloc, instance, pass)
 }
 
 // The patterns with the most on periods, of which each unit has one.
@@ -51,48 +67,54 @@ fn most_on_patterns(alloc: Global, instance: &Instance) -> Result<Vec<Pattern>, 
     }
 }
 
-// How the most-on commitment was dispatched.
-fn first(trial: Trial) -> Standing
-    ensures { IsFirstOf trial result }
-{
-    match trial {
-        Trial::Dispatched(printed, cost) => Standing::Dispatched { printed, cost },
-        Trial::Stuck(stuck) => Standing::Stuck {
-            period: stuck.period,
-            most_on: stuck,
-        },
+// The pass before any turn: the most-on commitment, dispatched.
+fn begun(alloc: Global, instance: &Instance) -> Result<Pass, NoMemory> {
+    let patterns = most_on_patterns(alloc, instance)?;
+    let mut room = Room::new(alloc, instance)?;
+    let mut best = committed(alloc, instance, &patterns)?;
+    let tried = committed(alloc, instance, &patterns)?;
+    match dispatch_rows(&mut room, instance, &patterns, &mut best) {
+        None => {
+            let cost = cost(instance, &best);
+            Ok(Pass { room, patterns, best, tried, stands: Stands::Dispatched(cost) })
+        }
+        Some(obstacle) => {
+            let period = obstacle.period;
+            let most_on = stuck_of(alloc, best, obstacle)?;
+            let best = committed(alloc, instance, &patterns)?;
+            Ok(Pass { room, patterns, best, tried, stands: Stands::Stuck { period, most_on } })
+        }
     }
 }
 
 // The turn of unit g: its pattern with the fewest on periods is tried, and kept where the dispatch is better.
-fn turn(
-    alloc: Global,
-    room: &mut Room,
-    instance: &Instance,
-    patterns: &mut Vec<Pattern>,
-    standing: Standing,
-    g: usize,
-) -> Result<Standing, NoMemory>
-    requires lawful { IsLawfulInstance instance.now }
-    requires each { HasEachPattern instance.now }
-    requires unit { g < thermal_count instance.now }
-    requires room { IsRoomOf instance.now room.old }
-    requires dropped { IsDroppedBelow instance.now g patterns.old.items standing }
-    ensures room { IsRoomOf instance.now room.new }
-    ensures dropped { IfOk result (IsDroppedBelow instance.now (suc g) patterns.new.items) }
-{
+fn turn(pass: &mut Pass, instance: &Instance, g: usize) {
     let fewest = fewest(instance, g);
-    let stood = patterns[g];
+    let stood = pass.patterns[g];
     if is_same(&fewest, &stood) {
-        return Ok(standing);
+        return;
     }
-    patterns[g] = fewest;
-    let trial = attempt(alloc, room, instance, patterns)?;
-    if is_better(&trial, &standing) {
-        Ok(replaced(trial, standing))
+    pass.patterns[g] = fewest;
+    recommit(&mut pass.tried, instance, &pass.patterns, g);
+    let trial = attempt(&mut pass.room, instance, &pass.patterns, &mut pass.tried);
+    if is_better(&trial, &pass.stands) {
+        mem::swap(&mut pass.best, &mut pass.tried);
+        replace(&mut pass.stands, trial);
     } else {
-        patterns[g] = stood;
-        Ok(standing)
+        pass.patterns[g] = stood;
+    }
+    recommit(&mut pass.tried, instance, &pass.patterns, g);
+}
+
+// The end of the pass.
+fn ended(alloc: Global, instance: &Instance, pass: Pass) -> Result<Standing, NoMemory> {
+    match pass.stands {
+        Stands::Dispatched(_) => {
+            let printed = printed(alloc, pass.best)?;
+            let cost = schedule_check::cost(instance, &printed);
+            Ok(Standing::Dispatched { printed, cost })
+        }
+        Stands::Stuck { period, most_on } => Ok(Standing::Stuck { period, most_on }),
     }
 }
 
@@ -118,38 +140,30 @@ fn is_same(first: &Pattern, second: &Pattern) -> bool
 
 // Whether a dispatch is better: not stuck is better than stuck; of two that aren't the cheaper is better, and of two that are the
 // one that is stuck later.
-fn is_better(trial: &Trial, standing: &Standing) -> bool
-    ensures { result ≡ is_better_ending (ending_of_trial trial.now) (ending_of standing.now) }
+fn is_better(trial: &Trial, stands: &Stands) -> bool
 {
-    match (trial, standing) {
-        (Trial::Dispatched(_, cost), Standing::Dispatched { cost: stood, .. }) => cost < stood,
-        (Trial::Dispatched(..), Standing::Stuck { .. }) => true,
-        (Trial::Stuck(_), Standing::Dispatched { .. }) => false,
-        (Trial::Stuck(stuck), Standing::Stuck { period, .. }) => *period < stuck.period,
+    match (trial, stands) {
+        (Trial::Dispatched(cost), Stands::Dispatched(stood)) => cost < stood,
+        (Trial::Dispatched(_), Stands::Stuck { .. }) => true,
+        (Trial::Stuck(_), Stands::Dispatched(_)) => false,
+        (Trial::Stuck(later), Stands::Stuck { period, .. }) => period < later,
     }
 }
 
 // The better dispatch in place of the former.
-fn replaced(trial: Trial, standing: Standing) -> Standing
-    requires better { IsTrue (is_better_ending (ending_of_trial trial) (ending_of standing)) }
-    ensures { IsReplaced trial standing result }
+fn replace(stands: &mut Stands, trial: Trial)
 {
     match trial {
-        Trial::Dispatched(printed, cost) => Standing::Dispatched { printed, cost },
-        Trial::Stuck(stuck) => stuck_later(stuck.period, standing),
+        Trial::Dispatched(cost) => *stands = Stands::Dispatched(cost),
+        Trial::Stuck(later) => stuck_later(stands, later),
     }
 }
 
 // Stuck in a later period.
-fn stuck_later(later: usize, standing: Standing) -> Standing
-    requires stuck { IsStuckStanding standing }
-    ensures { IsLater later standing result }
+fn stuck_later(stands: &mut Stands, later: usize)
 {
-    match standing {
-        Standing::Stuck { most_on, .. } => Standing::Stuck {
-            period: later,
-            most_on,
-        },
-        Standing::Dispatched { .. } => unreachable!(),
+    match stands {
+        Stands::Stuck { period, .. } => *period = later,
+        Stands::Dispatched(_) => unreachable!(),
     }
 }

@@ -12,7 +12,7 @@ use Rattle.cost_curves.specs.declared.slope.Slope.{Slope}
 use Rattle.cost_curves.proofs.Lines.{flatter_trans}
 use Rattle.dispatch_repair.specs.MeritOrder.{HasNextSlope}
 use Rattle.dispatch_repair.specs.inside.Amounts.{Range, range_at, amount_at, thermal_amount}
-use Rattle.dispatch_repair.specs.inside.Filling.{IsOpen, IsFull, IsSpent, IsRaise, CostsUpTo, IsWorth, IsTaken, AddsUp, IsFilledTo}
+use Rattle.dispatch_repair.specs.inside.Filling.{IsLeft, IsOpen, IsFull, IsSpent, IsRaise, CostsUpTo, IsWorth, IsTaken, AddsUp, IsFilledTo}
 use Rattle.dispatch_repair.specs.inside.Segments.{Segment, comes_before, IsAtMost, source_at, source_count, segment_at, no_segment, IsSegmentOf, AreInMeritOrder}
 use Rattle.dispatch_repair.specs.declared.fill.Left.{Left}
 use Rattle.dispatch_repair.proofs.MeritSegments.{up_to-from}
@@ -226,3 +226,40 @@ step instance order ranges start i old new before after are hi ends runs was rai
         (λ (late : i ≤ j). subst (λ k. IsFull ranges new (segment_at order k) ⊎ ((n : ℕ) (watt : ℤ) → IsTaken instance ranges new n watt → IsWorth instance (segment_at order k) after n watt))
         (omega arith) (inr here_worth))
         (cases_lt j i)
+
+-- where nothing is needed any more all segments were filled
+pub filled_early : (instance : Instance) (order : List Segment) (ranges : List Range) (start : Left) (i : ℕ) (amounts : List ℤ) (rest : Left)
+    → IsFilledTo instance order ranges start i amounts rest → rest.need ≤ℤ pos 0 → IsFilledTo instance order ranges start (length order) amounts rest
+filled_early instance order ranges start i amounts rest was nought = record {
+  count = was.count;
+  low = was.low;
+  high = was.high;
+  sums = was.sums;
+  left = was.left;
+  spent = λ j h. inr (inl none);
+  merit = λ j h. ⊎_elim (was.merit j) (λ late. inr (λ n watt taken. inl (was.ahead j late h n watt taken))) (cases_lt j i);
+  ahead = λ j late h. absurd (omega arith);
+}
+  where
+    none : rest.need ≡ pos 0
+    none = le_antisymm rest.need (pos 0) nought was.left.need
+
+-- before any segment is filled
+pub filled_none : (instance : Instance) (order : List Segment) (ranges : List Range) (start : Left) (amounts : List ℤ)
+    → length amounts ≡ source_count instance → ((n : ℕ) → n < source_count instance → IsOpen instance n (range_at ranges n))
+    → ((n : ℕ) → n < source_count instance → amount_at amounts n ≡ (range_at ranges n).low) → IsLeft start
+    → IsFilledTo instance order ranges start 0 amounts start
+filled_none instance order ranges start amounts count opens lows left = record {
+  count = count;
+  low = λ n h. omega (arith, linear, lows n h);
+  high = λ n h. omega (arith, linear, lows n h, (opens n h).order);
+  sums = record {
+    need = ap (λ z. start.need +ℤ z) (sum_below-same (source_count instance) (amount_at amounts) (λ n. (range_at ranges n).low) lows);
+    room = ap (λ z. start.room +ℤ z) (sum_below-same (thermal_count instance) (thermal_amount instance amounts)
+        (λ g. (range_at ranges (renewable_count instance + g)).low) (λ g h. lows (renewable_count instance + g) (omega arith)));
+  };
+  left = left;
+  spent = λ j h. absurd (omega arith);
+  merit = λ j h. absurd (omega arith);
+  ahead = λ j late h n watt taken. absurd (omega (arith, linear, lows n taken.source, taken.low, taken.high));
+}

@@ -18,3 +18,4 @@ pub mod BrokenRules
 pub mod RunPatterns
 pub mod Written
 pub mod TotalSums
+pub mod Regular

@@ -24,16 +24,15 @@ use Rattle.schedule_check.specs.SizedNumbers.{output_at}
 use Rattle.dispatch_repair.specs.Period.{Period, Source, FromRenewable, FromThermal, commitment_at, output_before, head_of}
 use Rattle.dispatch_repair.specs.MeritOrder.{IsInMeritOrder}
 use Rattle.dispatch_repair.specs.Dispatch.{HasPeriods, IsCommittedCell, amounts, period_after, IsFilling, IsFilled, IsDispatchThrough}
-use Rattle.dispatch_repair.specs.Stuck.{IsRegular, IsFirstBrokenRule, IsStuckInPeriod, IsFirstObstacle, stuck_period, IsStuckBy, IsStuckOf, IsDispatchFault}
-use Rattle.dispatch_repair.specs.Rooms.{IsRoomOf}
+use Rattle.dispatch_repair.specs.Stuck.{IsRegular, IsFirstBrokenRule, IsStuckInPeriod, IsFirstObstacle, stuck_period, IsStuckBy, IsStuckOf}
+use Rattle.dispatch_repair.specs.Rooms.{IsObstacleOf, IsRoomOf, IsStuckAfter}
 use Rattle.dispatch_repair.specs.inside.Amounts.{amount_at, amount_of, thermal_amount, IsSizedOutput}
 use Rattle.dispatch_repair.specs.inside.Filled.{IsDispatchedFrom}
-use Rattle.dispatch_repair.specs.inside.Progress.{AreBefore, AreFilledBelow, IsStuckIn, IsStuckAfter}
+use Rattle.dispatch_repair.specs.inside.Progress.{AreBefore, AreFilledBelow}
 use Rattle.dispatch_repair.specs.inside.Rows.{AreCommitted, AreSameBut, IsWritten, AreSameBelow}
 use Rattle.dispatch_repair.specs.inside.Segments.{source_count}
 use Rattle.dispatch_repair.specs.declared.room.Room.{Room}
-use Rattle.dispatch_repair.specs.declared.schedule.DispatchFault.{DispatchFault}
-use Rattle.dispatch_repair.specs.declared.schedule.DispatchFault.TheVariants as fault
+use Rattle.dispatch_repair.specs.declared.schedule.Obstacle.{Obstacle}
 use Rattle.dispatch_repair.proofs.Impossible.{impossible}
 
 -- ---- what was filled stays so
@@ -190,62 +189,73 @@ pub through : (instance : Instance) (patterns : List Pattern) (printed : Printed
     → IsDispatchThrough instance patterns instance.periods printed
 through instance patterns printed room below = record { shape = below.committed.shape; filled = below.filled }
 
--- stuck in period t, after those before it
-pub stuck_period_is : (instance : Instance) (patterns : List Pattern) (t : ℕ) (printed : Printed) (room : Room) (reason : Why) (stuck : Stuck)
-    → IsRegular instance patterns → AreFilledBelow instance patterns t printed room → t < instance.periods
+-- what is in the way in period t, after those before it
+pub obstacle_of : (instance : Instance) (patterns : List Pattern) (t : ℕ) (printed : Printed) (room : Room) (reason : Why)
+    → AreFilledBelow instance patterns t printed room → t < instance.periods
     → IsFirstObstacle (period_after instance patterns t (thermal_amount instance room.amounts.items)) reason
-    → IsStuckIn printed t reason stuck → IsStuckInPeriod instance patterns stuck (stuck_period instance patterns stuck)
-stuck_period_is instance patterns t printed room reason stuck regular below within obstacle is = record {
+    → IsObstacleOf instance patterns printed (record { period = t; why = reason })
+obstacle_of instance patterns t printed room reason below within obstacle = record {
+  within = within;
+  filled = below.filled;
+  first = subst (λ z. z) (λ i. IsFirstObstacle (period_after instance patterns t (λ g. below.before.are g i)) reason) obstacle;
+}
+
+-- stuck there, with the schedule of the periods before it
+stuck_period_is : (instance : Instance) (patterns : List Pattern) (printed : Printed) (obstacle : Obstacle) (stuck : Stuck)
+    → IsRegular instance patterns → HasPeriods instance instance.periods printed → IsObstacleOf instance patterns printed obstacle
+    → IsStuckAfter printed obstacle.period obstacle.why stuck → IsStuckInPeriod instance patterns stuck (stuck_period instance patterns stuck)
+stuck_period_is instance patterns printed obstacle stuck regular shape found is = record {
   regular = regular;
-  within = subst (λ k. k < instance.periods) (sym is.is_period) within;
+  within = within;
   prefix = subst (λ k. IsDispatchThrough instance patterns k stuck.prefix) (sym is.is_period) (record {
-    shape = is.prefix.shape instance below.committed.shape (omega arith);
-    filled = λ k h. filled_moved instance patterns k printed stuck.prefix (same_below instance t k printed stuck.prefix is.prefix.same h) (below.filled k h);
+    shape = is.prefix.shape instance shape (omega (arith, found.within));
+    filled = λ k h. filled_moved instance patterns k printed stuck.prefix (same_below instance t k printed stuck.prefix is.prefix.same h) (found.filled k h);
   });
-  obstacle = found;
-  impossible = impossible (stuck_period instance patterns stuck) stuck.why (subst (λ k. k < instance.periods) (sym is.is_period) within) found;
+  obstacle = first;
+  impossible = impossible (stuck_period instance patterns stuck) stuck.why within first;
 }
   where
+    t : ℕ
+    t = obstacle.period
+
+    within : stuck.period < instance.periods
+    within = subst (λ k. k < instance.periods) (sym is.is_period) found.within
+
     before : (g k : ℕ) → k ≡ t → output_before instance printed g k ≡ output_before instance stuck.prefix g k
     before g zero e = refl
     before g (suc k) e = ap (λ (c : Cell). c.p) (sym (is.prefix.same.cells g k (omega (arith, e))))
 
-    same : period_after instance patterns t (thermal_amount instance room.amounts.items) ≡ stuck_period instance patterns stuck
-    same = (λ i. period_after instance patterns t (λ g. (below.before.are g ∙ before g t refl) i))
+    same : period_after instance patterns t (λ g. output_before instance printed g t) ≡ stuck_period instance patterns stuck
+    same = (λ i. period_after instance patterns t (λ g. before g t refl i))
         ∙ (λ i. period_after instance patterns (sym is.is_period i) (λ g. output_before instance stuck.prefix g (sym is.is_period i)))
 
-    found : IsFirstObstacle (stuck_period instance patterns stuck) stuck.why
-    found = subst (IsFirstObstacle (stuck_period instance patterns stuck)) (sym is.reason) (subst (λ p. IsFirstObstacle p reason) same obstacle)
+    first : IsFirstObstacle (stuck_period instance patterns stuck) stuck.why
+    first = subst (IsFirstObstacle (stuck_period instance patterns stuck)) (sym is.reason) (subst (λ p. IsFirstObstacle p obstacle.why) same found.first)
 
--- an obstacle in a period isn't a broken rule
-pub stuck_of : (instance : Instance) (patterns : List Pattern) (stuck : Stuck) → IsStuckInPeriod instance patterns stuck (stuck_period instance patterns stuck)
-    → IsStuckOf instance patterns stuck
-stuck_of instance patterns stuck is = by stuck.why is.obstacle
+-- so the commitment is stuck: an obstacle in a period isn't a broken rule
+-- Cite by `use Rattle.dispatch_repair.proofs.Periods.{stuck_of}`.
+pub stuck_of : (instance : Instance) (patterns : List Pattern) (printed : Printed) (obstacle : Obstacle) (stuck : Stuck)
+    → IsRegular instance patterns → HasPeriods instance instance.periods printed → IsObstacleOf instance patterns printed obstacle
+    → IsStuckAfter printed obstacle.period obstacle.why stuck → IsStuckOf instance patterns stuck
+stuck_of instance patterns printed obstacle stuck regular shape found after = by stuck.why is.obstacle
   where
+    is : IsStuckInPeriod instance patterns stuck (stuck_period instance patterns stuck)
+    is = stuck_period_is instance patterns printed obstacle stuck regular shape found after
+
     by : (reason : Why) → IsFirstObstacle (stuck_period instance patterns stuck) reason → IsStuckBy instance patterns stuck reason
     by (why.Rule number unit) none = absurd none
     by _ found = is
 
--- the answer of a dispatch that is stuck in period t, or to which memory was refused
-pub stuck_fault : (instance : Instance) (patterns : List Pattern) (t : ℕ) (printed : Printed) (room : Room) (reason : Why) (answer : DispatchFault)
-    → IsRegular instance patterns → AreFilledBelow instance patterns t printed room → t < instance.periods
-    → IsFirstObstacle (period_after instance patterns t (thermal_amount instance room.amounts.items)) reason
-    → IsStuckAfter printed t reason answer → IsDispatchFault instance patterns answer
-stuck_fault instance patterns t printed room reason (fault.Stuck stuck) regular below within obstacle is =
-    stuck_of instance patterns stuck (stuck_period_is instance patterns t printed room reason stuck regular below within obstacle is)
-stuck_fault instance patterns t printed room reason fault.NoMemory regular below within obstacle is = tt
-
--- the answer of a dispatch of a commitment that breaks a rule
-pub broken_fault : (instance : Instance) (patterns : List Pattern) (printed : Printed) (number unit : ℕ) (answer : DispatchFault)
+-- stuck by a rule that the commitment breaks
+pub stuck_by_rule : (instance : Instance) (patterns : List Pattern) (printed : Printed) (number unit : ℕ) (stuck : Stuck)
     → HasPeriods instance instance.periods printed → IsFirstBrokenRule instance patterns number unit
-    → IsStuckAfter printed 0 (why.Rule number unit) answer → IsDispatchFault instance patterns answer
-broken_fault instance patterns printed number unit (fault.Stuck stuck) shape broken is =
+    → IsStuckAfter printed 0 (why.Rule number unit) stuck → IsStuckOf instance patterns stuck
+stuck_by_rule instance patterns printed number unit stuck shape broken is =
     subst (IsStuckBy instance patterns stuck) (sym is.reason) (record {
       period = is.is_period;
       prefix = is.prefix.shape instance shape (omega arith);
       broken = broken;
     })
-broken_fault instance patterns printed number unit fault.NoMemory shape broken is = tt
 
 -- the size of what a unit gives initially
 pub initial_size : (unit : Thermal) → IsLawfulThermal unit → IsSizedOutput (initial_p unit)

@@ -1,10 +1,19 @@
 -- The rows of a commitment, as they are made.
-use Rattle.std.proofs.Common.{◌≡◌, ℕ, ◌+◌, ◌<◌, below_more, length, get_or, sym, ap, subst, ◌∙◌, List, [], ◌∷◌, ◌++◌}
-use Rattle.std.proofs.lemmas.List.{length_push, get_or_push, get_or_append_left}
+use Rattle.std.proofs.Common.{◌≡◌, ◌≢◌, ℕ, ◌+◌, ◌<◌, inl, inr, below_more, length, get_or, get_or-set_other, get_or-set_same, length-set, sym, ap, subst, ◌∙◌, arith, List, [], ◌∷◌, ◌++◌, ℤ}
+use Rattle.std.proofs.Math.ListN.{set}
+use Rattle.std.specs.declared.alloc.Global.{Global}
+use Rattle.std.specs.declared.vec.Vec.{Vec}
+use Rattle.std.proofs.lemmas.Bool.{cases_eq}
+use Rattle.std.proofs.lemmas.List.{length_push, get_or_push, get_or_append_left, map-set}
+use Rattle.std.proofs.lemmas.List.Elements.{All-set}
+use Rattle.uc_model.specs.PrintedSchedule.{cell_at}
+use Rattle.uc_model.specs.Schedule.{thermal_count}
 use Rattle.uc_model.specs.declared.instance.Instance.{Instance}
 use Rattle.uc_model.specs.declared.pattern.Pattern.{Pattern}
 use Rattle.uc_model.specs.declared.schedule.Cell.{Cell}
-use Rattle.dispatch_repair.specs.inside.Rows.{AreCommittedRows, IsCommittedRow, IsNewCell, cell_of}
+use Rattle.uc_model.specs.declared.schedule.Printed.{Printed}
+use Rattle.dispatch_repair.specs.Dispatch.{HasPeriods, IsCommittedCell}
+use Rattle.dispatch_repair.specs.inside.Rows.{AreCommitted, AreCommittedRows, IsCommittedRow, IsNewCell, cell_of, rows_of}
 
 -- an entry at each place up to a new last one
 push_each : {X : Type 0} (P : ℕ → X → Type 0) (xs : List X) (x d : X) (n : ℕ) → length xs ≡ n
@@ -31,3 +40,34 @@ rows_more instance patterns n rows row before is = record {
   count = length_push rows row ∙ ap (λ k. k + 1) before.count;
   each = push_each (λ g. IsCommittedRow instance patterns g instance.periods) rows row [] n before.count before.each is;
 }
+
+-- one row in another's place
+module _ (instance : Instance) (patterns : List Pattern) (g : ℕ) (rows : List (Vec Cell Global)) (outputs : List (List ℤ)) (row : Vec Cell Global) where
+  abbrev with_rows : List (List Cell) → Printed
+  with_rows cells = record { thermal = cells; renewable = outputs }
+
+  module _ (unit : g < thermal_count instance) (shape : HasPeriods instance instance.periods (with_rows (rows_of rows)))
+      (others : (h t : ℕ) → h < thermal_count instance → t < instance.periods → h ≢ g → IsCommittedCell instance patterns h t (cell_at (with_rows (rows_of rows)) h t))
+      (own : IsCommittedRow instance patterns g instance.periods row.items) where
+    abbrev after : List (List Cell)
+    after = set (rows_of rows) g row.items
+
+    is_committed : (h t : ℕ) → h < thermal_count instance → t < instance.periods → IsCommittedCell instance patterns h t (cell_at (with_rows after) h t)
+    is_committed h t hh ht = elim (cases_eq h g) [
+        inl same ↦ subst (λ k. IsCommittedCell instance patterns k t (cell_at (with_rows after) k t)) (sym same)
+            (subst (λ (cells : List Cell). IsCommittedCell instance patterns g t (cell_of cells t))
+            (sym (get_or-set_same (rows_of rows) g row.items [] (omega (arith, shape.thermal)))) (own.cells t ht).committed)
+      | inr apart ↦ subst (λ (cells : List Cell). IsCommittedCell instance patterns h t (cell_of cells t))
+            (sym (get_or-set_other (rows_of rows) g h row.items [] apart)) (others h t hh ht apart)
+    ]
+
+    pub recommitted : AreCommitted instance patterns (with_rows (rows_of (set rows g row)))
+    recommitted = subst (λ cells. AreCommitted instance patterns (with_rows cells)) (sym (map-set _ rows g row)) (record {
+      shape = record {
+        thermal = length-set (rows_of rows) g row.items ∙ shape.thermal;
+        cells = All-set (λ cells. length cells ≡ instance.periods) (rows_of rows) g row.items own.length shape.cells;
+        renewable = shape.renewable;
+        outputs = shape.outputs;
+      };
+      cells = is_committed;
+    })

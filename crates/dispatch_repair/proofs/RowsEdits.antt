@@ -1,14 +1,18 @@
--- Writes into rows.
-use Rattle.std.proofs.Common.{◌≡◌, ℕ, ◌+◌, ◌<◌, ◌≤◌, get_or, length, take, drop, sym, ap, subst, ◌∙◌, List, [], ◌++◌, All, map, slice_set, slice_index_or}
+-- Writes into rows, and their first periods. Cite by `use Rattle.dispatch_repair.proofs.RowsEdits.{cut_stuck}`.
+use Rattle.std.proofs.Common.{◌≡◌, ℕ, ◌+◌, ◌<◌, ◌≤◌, ⊎_elim, get_or, length, take, drop, refl, sym, ap, subst, ◌∙◌, arith, List, [], ◌++◌, All, map, slice_set, slice_index_or}
 use Rattle.std.specs.Vec.{with_item}
 use Rattle.std.specs.declared.alloc.Global.{Global}
 use Rattle.std.specs.declared.vec.Vec.{Vec}
-use Rattle.std.proofs.lemmas.List.{map-set, get_or-map, get_or_default, length-map, length-take-le}
+use Rattle.std.proofs.lemmas.Bool.{cases_lt}
+use Rattle.std.proofs.Math.ListN.{get_or-eq_default}
+use Rattle.std.proofs.lemmas.List.{map-set, get_or-map, get_or-take, get_or_default, length-map, length-take-le}
 use Rattle.std.proofs.lemmas.List.Edits.{map_over_more}
 use Rattle.std.proofs.lemmas.List.Elements.{All-map}
 use Rattle.uc_model.specs.declared.instance.Instance.{Instance}
 use Rattle.uc_model.specs.declared.schedule.Printed.{Printed}
 use Rattle.dispatch_repair.specs.Dispatch.{HasPeriods}
+use Rattle.dispatch_repair.specs.Rooms.{IsStuckAfter}
+use Rattle.dispatch_repair.specs.declared.schedule.Obstacle.{Obstacle}
 use Rattle.dispatch_repair.specs.inside.Rows.{rows_of, row_at}
 
 -- the row that is read is the one at its place
@@ -51,4 +55,32 @@ cut_shape instance n printed shape h = record {
   cells = cut_lengths printed.thermal n instance.periods h shape.cells;
   renewable = length-map printed.renewable _ ∙ shape.renewable;
   outputs = cut_lengths printed.renewable n instance.periods h shape.outputs;
+}
+
+-- the entries of the first periods stay
+kept_entry : {X : Type 0} (rows : List (List X)) (n g k : ℕ) (d : X) → k < n → get_or (get_or (map (take n) rows) g []) k d ≡ get_or (get_or rows g []) k d
+kept_entry {X} rows n g k d h = ⊎_elim
+    (λ (within : g < length rows).
+    ap (λ (row : List X). get_or row k d) (get_or-map (take n) rows g [] [] within) ∙ get_or-take n (get_or rows g []) k d h)
+    (λ past. ap (λ (row : List X). get_or row k d)
+    (get_or-eq_default (map (take n) rows) [] (omega (arith, length-map rows (take n))) ∙ sym (get_or-eq_default rows [] past)))
+    (cases_lt g (length rows))
+
+-- the first periods of a schedule
+abbrev pub cut_at : ℕ → Printed → Printed
+cut_at n printed = record { thermal = map (take n) printed.thermal; renewable = map (take n) printed.renewable }
+
+-- what is in the way, with them
+pub cut_stuck : (printed : Printed) (obstacle : Obstacle)
+    → IsStuckAfter printed obstacle.period obstacle.why (record { period = obstacle.period; prefix = cut_at obstacle.period printed; why = obstacle.why })
+cut_stuck printed obstacle = record {
+  is_period = refl;
+  reason = refl;
+  prefix = record {
+    same = record {
+      cells = λ g k h. kept_entry printed.thermal obstacle.period g k _ h;
+      outputs = λ w k h. kept_entry printed.renewable obstacle.period w k _ h;
+    };
+    shape = λ instance shape h. cut_shape instance obstacle.period printed shape h;
+  };
 }

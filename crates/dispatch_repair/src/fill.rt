@@ -37,6 +37,9 @@ pub(crate) fn fill(
 {
     let renewables = instance.renewable.as_slice().len();
     for segment in order {
+        if left.need <= 0 {
+            return;
+        }
         raise(segment, ranges, renewables, amounts, left);
     }
 }

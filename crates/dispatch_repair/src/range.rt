@@ -20,43 +20,33 @@ pub(crate) struct Range {
     pub high: i64,
 }
 
-/// The most that a thermal unit's output and reserve may be in period t (from 0), after the output `before`.
-pub(crate) fn head(periods: usize, unit: &Thermal, pattern: &Pattern, t: usize, before: &i64) -> i64
-    requires lawful { IsLawfulThermal unit.now }
-    requires period { t < periods }
-    requires few { periods ≤ MAX_PERIODS }
-    requires before { IsSizedOutput before.now }
-    ensures value { result ≡ head_after periods unit.now (commitment_of pattern.now) t before.now }
-    ensures size { IsSizedEnd result }
-{
-    lower(&cap(periods, unit, pattern, t), &risen(before, &unit.ru))
+/// The most that a thermal unit's output and reserve may be, in watts, and where its output may lie.
+#[derive(Clone, Copy)]
+pub(crate) struct Reach {
+    pub head: i64,
+    pub range: Range,
 }
 
-/// Where its output may lie in that period, by its head.
-pub(crate) fn thermal_range(
-    periods: usize,
-    unit: &Thermal,
-    pattern: &Pattern,
-    t: usize,
-    before: &i64,
-    head: &i64,
-) -> Range
+/// Its head and its range in period t, from 0, after the output `before`.
+pub(crate) fn unit_reach(periods: usize, unit: &Thermal, pattern: &Pattern, t: usize, before: &i64) -> Reach
     requires lawful { IsLawfulThermal unit.now }
     requires period { t < periods }
     requires few { periods ≤ MAX_PERIODS }
     requires before { IsSizedOutput before.now }
-    requires head { head.now ≡ head_after periods unit.now (commitment_of pattern.now) t before.now }
-    requires head_size { IsSizedEnd head.now }
-    ensures low { result.low ≡ lowest unit.now before.now }
-    ensures high { result.high ≡ highest periods unit.now (commitment_of pattern.now) t before.now }
-    ensures low_size { IsSizedEnd result.low }
-    ensures high_size { IsSizedEnd result.high }
+    ensures head { result.head ≡ head_after periods unit.now (commitment_of pattern.now) t before.now }
+    ensures low { result.range.low ≡ lowest unit.now before.now }
+    ensures high { result.range.high ≡ highest periods unit.now (commitment_of pattern.now) t before.now }
+    ensures head_size { IsSizedEnd result.head }
+    ensures low_size { IsSizedEnd result.range.low }
+    ensures high_size { IsSizedEnd result.range.high }
 {
-    let most = lower(head, &width(unit.points.as_slice()));
-    Range {
+    let head = lower(&cap(periods, unit, pattern, t), &risen(before, &unit.ru));
+    let most = lower(&head, &width(unit.points.as_slice()));
+    let range = Range {
         low: lowest_output(before, &unit.rd),
         high: falling(periods, unit, pattern, t, &most),
-    }
+    };
+    Reach { head, range }
 }
 
 // The most that output may be, by what it may rise.

@@ -10,7 +10,7 @@ ghost use Rattle.dispatch_repair.specs.Rooms.{IsRoomOf};
 ghost use Rattle.dispatch_repair.specs.inside.Amounts.{AreBeforePeriod, AreHeadsOf, AreRangesOf, IsHeadOf, IsRangeOf, IsSizedEnd, next_period, range_at};
 ghost use Rattle.dispatch_repair.specs.inside.Segments.{source_count};
 
-use crate::range::{Range, head, thermal_range};
+use crate::range::{Range, Reach, unit_reach};
 use crate::room::Room;
 use uc_model::{Instance, Pattern};
 
@@ -23,10 +23,9 @@ pub(crate) fn set_ranges(room: &mut Room, instance: &Instance, patterns: &[Patte
     ensures ranges { AreRangesOf (next_period instance.now patterns.now t room.old.amounts.items) room.new.ranges.items }
     ensures heads { AreHeadsOf (next_period instance.now patterns.now t room.old.amounts.items) room.new.heads.items }
 {
-    set_heads(&mut room.heads, &room.amounts, instance, patterns, t);
     set_ends(
         &mut room.ranges,
-        &room.heads,
+        &mut room.heads,
         &room.amounts,
         instance,
         patterns,
@@ -34,10 +33,10 @@ pub(crate) fn set_ranges(room: &mut Room, instance: &Instance, patterns: &[Patte
     );
 }
 
-// The ranges of all sources, by the thermal units' heads.
+// The same of their numbers.
 fn set_ends(
     ranges: &mut [Range],
-    heads: &[i64],
+    heads: &mut [i64],
     amounts: &[i64],
     instance: &Instance,
     patterns: &[Pattern],
@@ -45,10 +44,11 @@ fn set_ends(
 )
     requires before { AreBeforePeriod instance.now patterns.now t amounts.now }
     requires ranges { length ranges.old ≡ source_count instance.now }
-    requires head_count { length heads.now ≡ thermal_count instance.now }
-    requires heads { AreHeadsOf (next_period instance.now patterns.now t amounts.now) heads.now }
-    ensures length { length ranges.new ≡ length ranges.old }
+    requires heads { length heads.old ≡ thermal_count instance.now }
+    ensures range_count { length ranges.new ≡ length ranges.old }
+    ensures head_count { length heads.new ≡ length heads.old }
     ensures ranges { AreRangesOf (next_period instance.now patterns.now t amounts.now) ranges.new }
+    ensures heads { AreHeadsOf (next_period instance.now patterns.now t amounts.now) heads.new }
 {
     set_renewable(ranges, instance, t);
     set_thermal(ranges, heads, amounts, instance, patterns, t);
@@ -97,8 +97,9 @@ fn free_range(minimum: &i64, maximum: &i64) -> Range
     }
 }
 
-// The heads of the thermal units.
-fn set_heads(
+// The ranges and the heads of the thermal units.
+fn set_thermal(
+    ranges: &mut [Range],
     heads: &mut [i64],
     amounts: &[i64],
     instance: &Instance,
@@ -106,73 +107,38 @@ fn set_heads(
     t: usize,
 )
     requires before { AreBeforePeriod instance.now patterns.now t amounts.now }
-    requires heads { length heads.old ≡ thermal_count instance.now }
-    ensures length { length heads.new ≡ length heads.old }
-    ensures heads { AreHeadsOf (next_period instance.now patterns.now t amounts.now) heads.new }
-{
-    for g in 0..instance.thermal.as_slice().len() {
-        heads[g] = unit_head(amounts, instance, patterns, t, g);
-    }
-}
-
-// The head of thermal unit g.
-fn unit_head(amounts: &[i64], instance: &Instance, patterns: &[Pattern], t: usize, g: usize) -> i64
-    requires before { AreBeforePeriod instance.now patterns.now t amounts.now }
-    requires unit { g < thermal_count instance.now }
-    ensures { IsHeadOf (next_period instance.now patterns.now t amounts.now) g result }
-{
-    let before = &amounts[instance.renewable.as_slice().len() + g];
-    let unit = &instance.thermal.as_slice()[g];
-    head(instance.periods as usize, unit, &patterns[g], t, before)
-}
-
-// The ranges of the thermal units, by their heads.
-fn set_thermal(
-    ranges: &mut [Range],
-    heads: &[i64],
-    amounts: &[i64],
-    instance: &Instance,
-    patterns: &[Pattern],
-    t: usize,
-)
-    requires before { AreBeforePeriod instance.now patterns.now t amounts.now }
     requires ranges { length ranges.old ≡ source_count instance.now }
-    requires head_count { length heads.now ≡ thermal_count instance.now }
-    requires heads { AreHeadsOf (next_period instance.now patterns.now t amounts.now) heads.now }
-    ensures length { length ranges.new ≡ length ranges.old }
+    requires heads { length heads.old ≡ thermal_count instance.now }
+    ensures range_count { length ranges.new ≡ length ranges.old }
+    ensures head_count { length heads.new ≡ length heads.old }
     ensures others { (w : ℕ) → w < renewable_count instance.now → range_at ranges.new w ≡ range_at ranges.old w }
     ensures ranges { (g : ℕ) → g < thermal_count instance.now
         → IsRangeOf (next_period instance.now patterns.now t amounts.now) (renewable_count instance.now + g)
         (range_at ranges.new (renewable_count instance.now + g)) }
+    ensures heads { AreHeadsOf (next_period instance.now patterns.now t amounts.now) heads.new }
 {
     let renewables = instance.renewable.as_slice().len();
     for g in 0..instance.thermal.as_slice().len() {
-        ranges[renewables + g] = unit_range(&heads[g], amounts, instance, patterns, t, g);
+        let reach = reach_of(amounts, instance, patterns, t, g);
+        heads[g] = reach.head;
+        ranges[renewables + g] = reach.range;
     }
 }
 
-// The range of thermal unit g, by its head.
-fn unit_range(
-    head: &i64,
+// The head and the range of thermal unit g.
+fn reach_of(
     amounts: &[i64],
     instance: &Instance,
     patterns: &[Pattern],
     t: usize,
     g: usize,
-) -> Range
+) -> Reach
     requires before { AreBeforePeriod instance.now patterns.now t amounts.now }
     requires unit { g < thermal_count instance.now }
-    requires head { IsHeadOf (next_period instance.now patterns.now t amounts.now) g head.now }
-    ensures { IsRangeOf (next_period instance.now patterns.now t amounts.now) (renewable_count instance.now + g) result }
+    ensures head { IsHeadOf (next_period instance.now patterns.now t amounts.now) g result.head }
+    ensures range { IsRangeOf (next_period instance.now patterns.now t amounts.now) (renewable_count instance.now + g) result.range }
 {
     let before = &amounts[instance.renewable.as_slice().len() + g];
     let unit = &instance.thermal.as_slice()[g];
-    thermal_range(
-        instance.periods as usize,
-        unit,
-        &patterns[g],
-        t,
-        before,
-        head,
-    )
+    unit_reach(instance.periods as usize, unit, &patterns[g], t, before)
 }

@@ -3,32 +3,35 @@
 ghost use Rattle.std.specs.Prelude.{◌≡◌, ℕ, ◌<◌, ◌≤◌, ◌-ℤ◌, false, All, IfOk, IsTrue, length, map, slice_set, take};
 ghost use Rattle.uc_model.specs.Commitment.{starts};
 ghost use Rattle.uc_model.specs.PatternBits.{commitment_of};
-ghost use Rattle.uc_model.specs.Schedule.{thermal_count};
+ghost use Rattle.uc_model.specs.PrintedSchedule.{cell_at, printed_cost};
+ghost use Rattle.uc_model.specs.Schedule.{thermal_count, thermal_unit};
 ghost use Rattle.uc_model.specs.Limits.{IsLawfulInstance, IsLawfulThermal, IsPower};
 ghost use Rattle.uc_model.specs.StartCategory.{category_cost};
 ghost use Rattle.uc_model.specs.declared.instance.Instance.{Instance};
 ghost use Rattle.uc_model.specs.declared.pattern.Pattern.{Pattern};
+ghost use Rattle.schedule_check.specs.WholeWatts.{HasPrice};
 ghost use Rattle.start_costs.specs.Cheapest.{IsCheapestAbove};
 ghost use Rattle.dispatch_repair.specs.Dispatch.{HasPeriods};
-ghost use Rattle.dispatch_repair.specs.Rooms.{IsRoomOf};
+ghost use Rattle.dispatch_repair.specs.Rooms.{AreRowsBut, AreRowsOf, IsRoomOf};
 ghost use Rattle.dispatch_repair.specs.inside.Amounts.{IsSizedEnd, IsSizedOutput, amount_at, thermal_amount};
 ghost use Rattle.dispatch_repair.specs.inside.Rows.{AreCellsWritten, AreCommitted, AreCommittedRows, AreOutputsWritten, AreSameBelow, IsCommittedRow, IsLeft, IsWritten, cell_of, printed_of, reserve_of, row_at, rows_of, with_power, ArePowerless, IsNewCell};
 
 use crate::room::Room;
+use schedule_check::row_cost;
 use start_costs::{least_allowed, was_on};
 use std::alloc::Global;
 use uc_model::limits::{MAX_PERIODS, MAX_UNITS};
-use uc_model::{Cell, Instance, List, NoMemory, Pattern, Printed, Thermal};
+use uc_model::{Cell, Instance, List, NoMemory, Pattern, Printed, Thermal, sum};
 
 /// For each unit a cell, or a renewable output in watts, for each period.
 #[derive(Drop)]
-pub(crate) struct Rows {
-    pub thermal: Vec<Vec<Cell>>,
-    pub renewable: Vec<Vec<i64>>,
+pub struct Rows {
+    pub(crate) thermal: Vec<Vec<Cell>>,
+    pub(crate) renewable: Vec<Vec<i64>>,
 }
 
 /// The rows of a commitment, without any power.
-pub(crate) fn committed(
+pub fn committed(
     alloc: Global,
     instance: &Instance,
     patterns: &[Pattern],
@@ -78,6 +81,24 @@ fn committed_row(
         row.push(committed_cell(instance, patterns, g, t))?;
     }
     Ok(row)
+}
+
+/// Puts unit g's row of the commitment, without any power, in the place of its former one. The only error is `NoMemory`.
+pub fn recommit(
+    alloc: Global,
+    rows: &mut Rows,
+    instance: &Instance,
+    patterns: &[Pattern],
+    g: usize,
+) -> Result<(), NoMemory>
+    requires lawful { IsLawfulInstance instance.now }
+    requires patterns { length patterns.now ≡ thermal_count instance.now }
+    requires unit { g < thermal_count instance.now }
+    requires rows { AreRowsBut instance.now patterns.now g rows.old }
+    ensures { IfOk result (λ done. AreRowsOf instance.now patterns.now rows.new) }
+{
+    rows.thermal[g] = committed_row(alloc, instance, patterns, g)?;
+    Ok(())
 }
 
 // A cell, without any power.
@@ -229,13 +250,29 @@ fn set_at<T: Copy>(rows: &mut Vec<Vec<T>>, i: usize, t: usize, value: &T)
 }
 
 /// The schedule of these rows.
-pub(crate) fn printed(alloc: Global, rows: Rows) -> Result<Printed, NoMemory>
+pub fn printed(alloc: Global, rows: Rows) -> Result<Printed, NoMemory>
     ensures { IfOk result (λ printed. printed ≡ printed_of rows) }
 {
     Ok(Printed {
         thermal: List::from_vec(lists(alloc, rows.thermal)?),
         renewable: List::from_vec(lists(alloc, rows.renewable)?),
     })
+}
+
+/// The printed cost of the schedule of these rows, in micro-dollars.
+pub fn cost(instance: &Instance, rows: &Rows) -> i128
+    requires lawful { IsLawfulInstance instance.now }
+    requires shape { HasPeriods instance.now instance.now.periods (printed_of rows.now) }
+    requires prices { (g t : ℕ) → g < thermal_count instance.now → t < instance.now.periods
+        → HasPrice (thermal_unit instance.now g) (cell_at (printed_of rows.now) g t) }
+    ensures { result ≡ printed_cost instance.now (printed_of rows.now) }
+{
+    let units = instance.thermal.as_slice();
+    let mut total = 0;
+    for g in 0..units.len() {
+        total = sum(total, row_cost(&units[g], &rows.thermal[g]));
+    }
+    total
 }
 
 /// The schedule of the first periods.

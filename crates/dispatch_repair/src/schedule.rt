@@ -1,15 +1,13 @@
 //! The dispatch of a commitment.
 
-ghost use Rattle.std.specs.Prelude.{◌≡◌, ◌<◌, ◌≤◌, IfOk, IfErr, length};
+ghost use Rattle.std.specs.Prelude.{◌≡◌, ◌<◌, ◌≤◌, IfOk, IfErr, MatchOption, length};
 ghost use Rattle.uc_model.specs.Limits.{IsLawfulInstance};
 ghost use Rattle.uc_model.specs.PrintedSchedule.{HasShapeOf, printed_denominator, printed_schedule};
 ghost use Rattle.uc_model.specs.Rules.{Obeys};
 ghost use Rattle.uc_model.specs.Schedule.{thermal_count};
 ghost use Rattle.schedule_check.specs.PlainNumbers.{HasPlainNumbers};
+ghost use Rattle.dispatch_repair.specs.Rooms.{AreRowsOf, IsObstacleOf, IsRoomOf, IsStuckAfter, printed_of};
 ghost use Rattle.dispatch_repair.specs.Stuck.{IsDispatchFault, IsDispatchOf, IsRegular};
-ghost use Rattle.dispatch_repair.specs.Rooms.{IsRoomOf};
-ghost use Rattle.dispatch_repair.specs.inside.Progress.{AreFilledBelow, IsStuckAfter};
-ghost use Rattle.dispatch_repair.specs.inside.Rows.{printed_of};
 
 use crate::period::{begin, dispatch_period};
 use crate::regularity::first_broken_rule;
@@ -56,41 +54,20 @@ pub fn dispatch(
     ensures fault { IfErr result (IsDispatchFault instance.now patterns.now) }
 {
     let mut room = Room::new(alloc, instance)?;
-    dispatch_in(alloc, &mut room, instance, patterns)
-}
-
-/// The same, with the room that was made for the instance.
-pub fn dispatch_in(
-    alloc: Global,
-    room: &mut Room,
-    instance: &Instance,
-    patterns: &[Pattern],
-) -> Result<Printed, DispatchFault>
-    requires lawful { IsLawfulInstance instance.now }
-    requires patterns { length patterns.now ≡ thermal_count instance.now }
-    requires room { IsRoomOf instance.now room.old }
-    ensures room { IsRoomOf instance.now room.new }
-    ensures dispatch { IfOk result (IsDispatchOf instance.now patterns.now) }
-    ensures obeys { IfOk result (λ printed. let q = printed_denominator instance.now printed in
-        Obeys instance.now q (printed_schedule instance.now printed q)) }
-    ensures shape { IfOk result (HasShapeOf instance.now) }
-    ensures numbers { IfOk result HasPlainNumbers }
-    ensures fault { IfErr result (IsDispatchFault instance.now patterns.now) }
-{
     let rows = committed(alloc, instance, patterns)?;
     if let Some(broken) = first_broken_rule(instance, patterns, &rows) {
         let why = Why::Rule {
             rule: broken.rule,
             unit: broken.unit,
         };
-        return Err(stuck(alloc, rows, 0, why));
+        let obstacle = Obstacle { period: 0, why };
+        return Err(DispatchFault::Stuck(stuck_at(alloc, rows, obstacle)?));
     }
-    begin(room, instance);
-    dispatch_periods(alloc, room, instance, patterns, rows)
+    dispatched(alloc, &mut room, instance, patterns, rows)
 }
 
-// Dispatches period after period, from the first one.
-fn dispatch_periods(
+// Dispatches a commitment that keeps these rules.
+fn dispatched(
     alloc: Global,
     room: &mut Room,
     instance: &Instance,
@@ -100,37 +77,61 @@ fn dispatch_periods(
     requires lawful { IsLawfulInstance instance.now }
     requires patterns { length patterns.now ≡ thermal_count instance.now }
     requires regular { IsRegular instance.now patterns.now }
-    requires begun { AreFilledBelow instance.now patterns.now 0 (printed_of rows) room.old }
-    ensures room { IsRoomOf instance.now room.new }
+    requires room { IsRoomOf instance.now room.old }
+    requires rows { AreRowsOf instance.now patterns.now rows }
     ensures dispatch { IfOk result (IsDispatchOf instance.now patterns.now) }
     ensures fault { IfErr result (IsDispatchFault instance.now patterns.now) }
 {
     let mut rows = rows;
-    for t in 0..instance.periods as usize {
-        if let Some(why) = dispatch_period(room, instance, patterns, t) {
-            return Err(stuck(alloc, rows, t, why));
-        }
-        write_period(
-            instance,
-            &mut rows,
-            room,
-            &instance.reserves.as_slice()[t],
-            t,
-        );
+    match dispatch_rows(room, instance, patterns, &mut rows) {
+        None => Ok(printed(alloc, rows)?),
+        Some(obstacle) => Err(DispatchFault::Stuck(stuck_at(alloc, rows, obstacle)?)),
     }
-    Ok(printed(alloc, rows)?)
 }
 
-// The answer of a dispatch that got stuck in a period.
-fn stuck(alloc: Global, rows: Rows, period: usize, why: Why) -> DispatchFault
-    ensures { IsStuckAfter (printed_of rows) period why result }
+/// Where a dispatch is stuck, in a period from 0, and why.
+#[derive(Debug, Drop)]
+pub struct Obstacle {
+    pub period: usize,
+    pub why: Why,
+}
+
+/// Dispatches the commitment of the rows, which keeps M1 to M5 and M7, period after period, and writes it into them; or says
+/// what is in the way first, with the periods before it written.
+pub fn dispatch_rows(
+    room: &mut Room,
+    instance: &Instance,
+    patterns: &[Pattern],
+    rows: &mut Rows,
+) -> Option<Obstacle>
+    requires lawful { IsLawfulInstance instance.now }
+    requires patterns { length patterns.now ≡ thermal_count instance.now }
+    requires regular { IsRegular instance.now patterns.now }
+    requires room { IsRoomOf instance.now room.old }
+    requires rows { AreRowsOf instance.now patterns.now rows.old }
+    ensures room { IsRoomOf instance.now room.new }
+    ensures rows { AreRowsOf instance.now patterns.now rows.new }
+    ensures dispatch { MatchOption result (IsDispatchOf instance.now patterns.now (printed_of rows.new))
+        (IsObstacleOf instance.now patterns.now (printed_of rows.new)) }
 {
-    match first_periods(alloc, rows, period) {
-        Ok(prefix) => DispatchFault::Stuck(Stuck {
-            period,
-            prefix,
-            why,
-        }),
-        Err(NoMemory) => DispatchFault::NoMemory,
+    begin(room, instance);
+    for t in 0..instance.periods as usize {
+        if let Some(why) = dispatch_period(room, instance, patterns, t) {
+            return Some(Obstacle { period: t, why });
+        }
+        write_period(instance, rows, room, &instance.reserves.as_slice()[t], t);
     }
+    None
+}
+
+/// The obstacle with the schedule of the periods before it. The only error is `NoMemory`.
+pub fn stuck_at(alloc: Global, rows: Rows, obstacle: Obstacle) -> Result<Stuck, NoMemory>
+    ensures { IfOk result (IsStuckAfter (printed_of rows) obstacle.period obstacle.why) }
+{
+    let prefix = first_periods(alloc, rows, obstacle.period)?;
+    Ok(Stuck {
+        period: obstacle.period,
+        prefix,
+        why: obstacle.why,
+    })
 }

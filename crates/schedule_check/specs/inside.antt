@@ -1,3 +1,4 @@
 pub mod Failures
 pub mod Changes
 pub mod Supplies
+pub mod Known

@@ -13,7 +13,7 @@ mod dispatch;
 mod feasibility;
 pub mod limits;
 mod minimum_times;
-mod pricing;
+pub mod pricing;
 mod renewable;
 mod start_category;
 mod unit_rule;
@@ -21,4 +21,5 @@ mod unit_rules;
 
 pub use broken::Broken;
 pub use feasibility::{check, cost};
+pub use pricing::row_cost;
 pub use unit_rules::broken_rule;

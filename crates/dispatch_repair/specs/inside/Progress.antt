@@ -1,19 +1,15 @@
 -- How far a dispatch has come. This project's own.
-use Rattle.std.specs.Prelude.{◌≡◌, ℕ, ◌<◌, ◌≤◌, ⊤, List, ℤ}
+use Rattle.std.specs.Prelude.{◌≡◌, ℕ, ◌<◌, List, ℤ}
 use Rattle.uc_model.specs.Schedule.{thermal_count}
 use Rattle.uc_model.specs.declared.instance.Instance.{Instance}
 use Rattle.uc_model.specs.declared.pattern.Pattern.{Pattern}
 use Rattle.uc_model.specs.declared.schedule.Printed.{Printed}
-use Rattle.uc_model.specs.declared.stuck.Stuck.{Stuck}
-use Rattle.uc_model.specs.declared.stuck.Why.{Why}
 use Rattle.dispatch_repair.specs.Period.{output_before}
-use Rattle.dispatch_repair.specs.Dispatch.{HasPeriods, IsFilled}
+use Rattle.dispatch_repair.specs.Dispatch.{IsFilled}
 use Rattle.dispatch_repair.specs.Rooms.{IsRoomOf}
 use Rattle.dispatch_repair.specs.inside.Amounts.{IsSizedOutput, thermal_amount}
-use Rattle.dispatch_repair.specs.inside.Rows.{AreCommitted, AreSameBelow}
+use Rattle.dispatch_repair.specs.inside.Rows.{AreCommitted}
 use Rattle.dispatch_repair.specs.declared.room.Room.{Room}
-use Rattle.dispatch_repair.specs.declared.schedule.DispatchFault.{DispatchFault}
-use Rattle.dispatch_repair.specs.declared.schedule.DispatchFault.TheVariants as fault
 
 -- the amounts of the thermal units are their outputs in the period before t
 pub record AreBefore (instance : Instance) (printed : Printed) (t : ℕ) (numbers : List ℤ) : Type 0 where
@@ -26,18 +22,3 @@ pub record AreFilledBelow (instance : Instance) (patterns : List Pattern) (t : �
   pub filled : (k : ℕ) → k < t → IsFilled instance patterns printed k
   pub room : IsRoomOf instance memory
   pub before : AreBefore instance printed t memory.amounts.items
-
--- the first periods of a schedule, with their shape
-pub record IsPrefixOf (printed : Printed) (periods : ℕ) (prefix : Printed) : Type 0 where
-  pub same : AreSameBelow periods printed prefix
-  pub shape : (instance : Instance) → HasPeriods instance instance.periods printed → periods ≤ instance.periods → HasPeriods instance periods prefix
-
--- stuck in a period for this reason, with the schedule of the periods before it
-pub record IsStuckIn (printed : Printed) (period : ℕ) (why : Why) (stuck : Stuck) : Type 0 where
-  pub is_period : stuck.period ≡ period
-  pub reason : stuck.why ≡ why
-  pub prefix : IsPrefixOf printed period stuck.prefix
-
-abbrev pub IsStuckAfter : Printed → ℕ → Why → DispatchFault → Type 0
-IsStuckAfter printed period why (fault.Stuck stuck) = IsStuckIn printed period why stuck
-IsStuckAfter printed period why fault.NoMemory = ⊤

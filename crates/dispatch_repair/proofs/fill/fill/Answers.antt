@@ -1,8 +1,9 @@
 -- One segment more, by what raising its source does.
 use Rattle.std.proofs.Common.{arith, subst, ap, length, suc}
+use Rattle.std.proofs.lemmas.Int.{ints, to_z-of_z}
 use Rattle.dispatch_repair.specs.inside.Filling.{IsFilledTo, IsRaise}
 use Rattle.dispatch_repair.specs.inside.Segments.{segment_at}
-use Rattle.dispatch_repair.proofs.Filling.{step}
+use Rattle.dispatch_repair.proofs.Filling.{filled_early, filled_none, step}
 use Rattle.dispatch_repair.proofs.NextSlopes.{next_run}
 use Rattle.dispatch_repair.proofs.fill.fill.Goals as goal
 
@@ -17,3 +18,13 @@ loop-segment-preserved c =
 
 pub returns : goal.returns
 returns c = subst (λ k. IsFilledTo c.args.instance.now c.args.order.now c.args.ranges.now c.args.left.now k c.loop-segment.amounts c.loop-segment.left) (omega (arith, c.loop-segment-test.false, c.loop-segment.auto.segment-index-end)) c.loop-segment.invariant
+
+pub returns-then-left-le0 : goal.returns-then-left-le0
+returns-then-left-le0 c =
+    filled_early c.args.instance.now c.args.order.now c.args.ranges.now c.args.left.now c.loop-segment.segment-index c.loop-segment.amounts c.loop-segment.left
+    c.loop-segment.invariant (grind (arith, ints, to_z-of_z, c.if-left-le0.true, c.loop-segment.invariant.left.need_size))
+
+pub loop-segment-init : goal.loop-segment-init
+loop-segment-init c =
+    filled_none c.args.instance.now c.args.order.now c.args.ranges.now c.args.left.now c.args.amounts.now c.requires.amounts c.requires.sources c.requires.lows
+    c.requires.left

@@ -10,7 +10,7 @@ returns-clause-ranges c =
     let instance = c.args.instance.now in
     let room = c.args.room.now in
     let patterns = c.args.patterns.now in
-    let is = with_items_is room.ranges c.set_ends.new.ranges (omega (arith, c.set_ends.ensures.length, c.deref_mut-2.ensures.len)) in
+    let is = with_items_is room.ranges c.set_ends.new.ranges (omega (arith, c.set_ends.ensures.range_count, c.deref_mut.ensures.len)) in
     subst (AreRangesOf (period_after instance patterns c.args.t (thermal_amount instance room.amounts.items))) (sym is)
     (subst (λ (amounts : List ℤ). AreRangesOf (period_after instance patterns c.args.t (thermal_amount instance amounts)) c.set_ends.new.ranges)
-    c.deref-3.ensures.value c.set_ends.ensures.ranges)
+    c.deref.ensures.value c.set_ends.ensures.ranges)

@@ -1,8 +1,8 @@
--- The ranges of the renewable units are as they were, and those of the thermal units so far their own.
+-- The ranges of the renewable units are as they were, and those of the thermal units so far their own, as their heads are.
 use Rattle.std.proofs.Common.{◌≡◌, ℕ, ◌+◌, ◌<◌}
 use Rattle.uc_model.specs.Schedule.{renewable_count}
 use Rattle.dispatch_repair.specs.Dispatch.{period_after}
-use Rattle.dispatch_repair.specs.inside.Amounts.{IsRangeOf, range_at, thermal_amount}
+use Rattle.dispatch_repair.specs.inside.Amounts.{IsHeadOf, IsRangeOf, amount_at, range_at, thermal_amount}
 use Rattle.dispatch_repair.proofs.ranges.set_thermal.Given as goal
 
 abbrev pub invariant-loop-g : goal.invariant-loop-g
@@ -11,4 +11,6 @@ invariant-loop-g l = record {
   own : (g : ℕ) → g < l.g
       → IsRangeOf (period_after l.instance l.patterns l.t (thermal_amount l.instance l.amounts)) (renewable_count l.instance + g)
       (range_at l.ranges (renewable_count l.instance + g));
+  heads : (g : ℕ) → g < l.g
+      → IsHeadOf (period_after l.instance l.patterns l.t (thermal_amount l.instance l.amounts)) g (amount_at l.heads g);
 }

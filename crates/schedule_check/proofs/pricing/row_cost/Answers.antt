@@ -10,4 +10,4 @@ pub loop-t-preserved : goal.loop-t-preserved
 loop-t-preserved c =
     let next = added c.loop-t.t (λ t. printed_cell_cost c.args.unit.now 1 (cell c.args.row.now t)) _ c.cell_cost.result c.sum-total.result MOST_CELL_COST
     c.loop-t.invariant.value c.cell_cost.ensures.value c.sum-total.ensures c.loop-t.invariant.size c.cell_cost.ensures.size (omega arith) in
-    record { value = next.value; size = next.size }
+    record { known = c.cell_cost.ensures.known; value = next.value; size = next.size }

@@ -1,20 +1,22 @@
--- The unit is the instance's.
-use Rattle.std.proofs.Common.{◌≡◌, ◌+◌, ap, ◌∙◌, length}
+-- The unit is the instance's, and what it gave before is its amount.
+use Rattle.std.proofs.Common.{◌≡◌, ◌+◌, ap, ◌∙◌, length, sym, subst}
+use Rattle.uc_model.specs.Limits.{IsLawfulThermal}
 use Rattle.uc_model.specs.Schedule.{renewable_count}
-use Rattle.dispatch_repair.specs.Period.{commitment_at, lowest, highest}
+use Rattle.uc_model.specs.declared.instance.Thermal.{Thermal}
+use Rattle.dispatch_repair.specs.Period.{commitment_at, head, lowest, highest}
 use Rattle.dispatch_repair.specs.Dispatch.{period_after}
 use Rattle.dispatch_repair.specs.inside.Amounts.{amount_at, thermal_amount}
 use Rattle.dispatch_repair.proofs.Places.{thermal_range, unit_read}
-use Rattle.dispatch_repair.proofs.ranges.unit_range.Goals as goal
+use Rattle.dispatch_repair.proofs.ranges.reach_of.Goals as goal
 
-pub returns : goal.returns
-returns c =
+pub returns-clause-range : goal.returns-clause-range
+returns-clause-range c =
     let instance = c.args.instance.now in
     let period = period_after instance c.args.patterns.now c.args.t (thermal_amount instance c.args.amounts.now) in
-    let made = c.thermal_range.ensures in
+    let made = c.unit_reach.ensures in
     let unit = unit_read instance c.as_slice-2.result.now c.args.g c.index-as_slice-g.result c.as_slice-2.ensures c.requires.unit c.index-as_slice-g.is in
     let count : length c.as_slice.result.now ≡ renewable_count instance = ap length c.as_slice.ensures in
-    thermal_range period c.args.g c.thermal_range.result (record {
+    thermal_range period c.args.g c.unit_reach.result.range (record {
       low = made.low ∙ (λ i. lowest (unit i) (amount_at c.args.amounts.now (count i + c.args.g)));
       high = made.high
           ∙ (λ i. highest instance.periods (unit i) (commitment_at c.args.patterns.now c.args.g) c.args.t (amount_at c.args.amounts.now (count i + c.args.g)));

@@ -1,15 +1,21 @@
 -- A period more is filled, or the dispatch is stuck in it.
 use Rattle.std.proofs.Common.{suc, arith, sym, subst, ap, pos, slice_index_or}
-use Rattle.dispatch_repair.specs.Stuck.{IsDispatchOf}
+use Rattle.dispatch_repair.specs.Rooms.{printed_of}
+use Rattle.dispatch_repair.specs.inside.Amounts.{IsSizedOutput}
 use Rattle.dispatch_repair.specs.inside.Progress.{AreFilledBelow}
-use Rattle.dispatch_repair.specs.inside.Rows.{printed_of, IsWritten}
-use Rattle.dispatch_repair.proofs.Periods.{next_filled, through, stuck_fault}
-use Rattle.dispatch_repair.proofs.schedule.dispatch_periods.Goals as goal
+use Rattle.dispatch_repair.specs.inside.Rows.{IsWritten}
+use Rattle.dispatch_repair.proofs.Periods.{begun, initial_size, next_filled, obstacle_of, through}
+use Rattle.dispatch_repair.proofs.schedule.dispatch_rows.Goals as goal
 
-pub returns-in-Some-clause-fault : goal.returns-in-Some-clause-fault
-returns-in-Some-clause-fault c =
-    stuck_fault c.args.instance.now c.args.patterns.now c.loop-t.t (printed_of c.loop-t.rows) c.loop-t.room c.in-Some.why c.stuck.result
-    c.requires.regular c.loop-t.invariant c.loop-t-test.true c.in-Some.ensures.dispatched c.stuck.ensures
+pub loop-t-init : goal.loop-t-init
+loop-t-init c =
+    begun c.args.instance.now c.args.patterns.now (printed_of c.args.rows.now) c.begin.new.room c.requires.rows c.begin.ensures.room c.begin.ensures.initial
+    (λ g h. subst IsSizedOutput (sym (c.begin.ensures.initial g h)) (initial_size _ (c.requires.lawful.thermal g h)))
+
+pub returns-in-Some-clause-dispatch : goal.returns-in-Some-clause-dispatch
+returns-in-Some-clause-dispatch c =
+    obstacle_of c.args.instance.now c.args.patterns.now c.loop-t.t (printed_of c.loop-t.rows) c.loop-t.room c.in-Some.why c.loop-t.invariant
+    c.loop-t-test.true c.in-Some.ensures.dispatched
 
 pub dispatch_period-requires-clause-before : goal.dispatch_period-requires-clause-before
 dispatch_period-requires-clause-before c = record {
@@ -29,11 +35,9 @@ loop-t-preserved c =
     (ap (λ xs. slice_index_or xs c.loop-t.t (pos 0)) c.as_slice.ensures) c.write_period.ensures.written))
 
 pub returns-clause-dispatch : goal.returns-clause-dispatch
-returns-clause-dispatch c =
-    subst (IsDispatchOf c.args.instance.now c.args.patterns.now) (sym c.in_ok-printed.ensures)
-    (record {
-      regular = c.requires.regular;
-      periods = through c.args.instance.now c.args.patterns.now (printed_of c.loop-t.rows) c.loop-t.room
-          (subst (λ k. AreFilledBelow c.args.instance.now c.args.patterns.now k (printed_of c.loop-t.rows) c.loop-t.room)
-          (omega (arith, c.loop-t-test.false, c.loop-t.auto.t-end)) c.loop-t.invariant);
-    })
+returns-clause-dispatch c = record {
+  regular = c.requires.regular;
+  periods = through c.args.instance.now c.args.patterns.now (printed_of c.loop-t.rows) c.loop-t.room
+      (subst (λ k. AreFilledBelow c.args.instance.now c.args.patterns.now k (printed_of c.loop-t.rows) c.loop-t.room)
+      (omega (arith, c.loop-t-test.false, c.loop-t.auto.t-end)) c.loop-t.invariant);
+}
