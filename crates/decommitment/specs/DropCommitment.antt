@@ -3,7 +3,7 @@
 -- schedule.
 --
 -- Units and periods count from 0 here.
-use Rattle.std.specs.Prelude.{◌≡◌, ◌⊎◌, ℕ, zero, suc, ◌<◌, Bool, true, false, List, ℤ, int_lt, nat_lt, IsTrue, slice_set}
+use Rattle.std.specs.Prelude.{◌≡◌, ◌⊎◌, ℕ, zero, suc, Bool, true, false, List, ℤ, int_lt, nat_lt, IsTrue, slice_set}
 use Rattle.uc_model.specs.ExtremePatterns.{IsFewestOn}
 use Rattle.uc_model.specs.PatternBits.{commitment_of}
 use Rattle.uc_model.specs.PrintedSchedule.{printed_cost}

@@ -1,19 +1,23 @@
 //! The drop pass: from the most-on commitment to one of fewer on periods, unit by unit, where the dispatch is better for it.
 
-ghost use Rattle.std.specs.Prelude.{◌≡◌, ◌<◌, IfOk, IsTrue, suc};
+ghost use Rattle.std.specs.Prelude.{◌≡◌, ◌<◌, IfOk, IsTrue, length, suc};
 ghost use Rattle.uc_model.specs.Limits.{IsLawfulInstance};
 ghost use Rattle.uc_model.specs.Schedule.{thermal_count};
 ghost use Rattle.dispatch_repair.specs.MostOn.{AreMostOn};
-ghost use Rattle.dispatch_repair.specs.Rooms.{IsRoomOf};
-ghost use Rattle.decommitment.specs.DropCommitment.{IsFewestOnOf, is_better as is_better_ending};
+ghost use Rattle.dispatch_repair.specs.Rooms.{AreRowsOf, IsRoomOf, printed_of};
+ghost use Rattle.decommitment.specs.DropCommitment.{IsEndingOf, IsFewestOnOf};
 ghost use Rattle.dual_model.specs.Tree.{HasEachPattern};
-ghost use Rattle.decommitment.specs.Standings.{ending_of, IsDropped};
-ghost use Rattle.decommitment.specs.inside.Turns.{ending_of_trial, IsDroppedBelow, IsFirstOf, IsLater, IsReplaced, IsStuckStanding};
+ghost use Rattle.decommitment.specs.Standings.{IsDropped};
+ghost use Rattle.decommitment.specs.inside.Turns.{IsChosen, IsLater, IsPassed, IsReplaced, IsStuckStand, IsTried, KeepsStuck, beats, ending_of_stand};
 
-use crate::trial::{Trial, attempt, cost};
-use dispatch_repair::{MostFault, Room, Rows, committed, dispatch_rows, fewest_of, most_on, printed, recommit, stuck_of};
-use std::mem;
+use crate::trial::{Trial, attempt};
+use dispatch_repair::{
+    MostFault, Room, Rows, committed, cost as rows_cost, dispatch_rows, fewest_of, most_on,
+    printed, recommit, stuck_at,
+};
+use schedule_check::cost;
 use std::alloc::Global;
+use std::mem;
 use uc_model::{Instance, NoMemory, Pattern, Printed, Stuck};
 
 /// How the best commitment so far was dispatched: with a schedule and its cost in micro-dollars; or stuck in `period`, from 0, as
@@ -24,21 +28,21 @@ pub enum Standing {
     Stuck { period: usize, most_on: Stuck },
 }
 
-// How the commitment that was kept was dispatched: its cost in micro-dollars, or where it is stuck, and the most-on one.
+// How the commitment that is kept was dispatched: its cost in micro-dollars, or where it is stuck, as the most-on one also was.
 #[derive(Drop)]
-enum Stands {
+enum Stand {
     Dispatched(i128),
     Stuck { period: usize, most_on: Stuck },
 }
 
-// The commitment that was kept with its rows, and those of the next trial.
+// The commitment that is kept, with the rows of its dispatch, and rows for the next trial.
 #[derive(Drop)]
 struct Pass {
     room: Room,
     patterns: Vec<Pattern>,
     best: Rows,
     tried: Rows,
-    stands: Stands,
+    stand: Stand,
 }
 
 /// Where the drop pass ends. The only error is `NoMemory`.
@@ -48,10 +52,21 @@ pub fn drop_pass(alloc: Global, instance: &Instance) -> Result<Standing, NoMemor
     ensures { IfOk result (IsDropped instance.now) }
 {
     let mut pass = begun(alloc, instance)?;
-    for g in 0..instance.thermal.as_slice().len() {
-        turn(&mut pass, instance, g);
-    }
+    turns(alloc, &mut pass, instance)?;
     ended(alloc, instance, pass)
+}
+
+// The turns of all units.
+fn turns(alloc: Global, pass: &mut Pass, instance: &Instance) -> Result<(), NoMemory>
+    requires lawful { IsLawfulInstance instance.now }
+    requires each { HasEachPattern instance.now }
+    requires begun { IsPassed instance.now 0 pass.old }
+    ensures { IfOk result (λ done. IsPassed instance.now (thermal_count instance.now) pass.new) }
+{
+    for g in 0..instance.thermal.as_slice().len() {
+        take_turn(alloc, pass, instance, g)?;
+    }
+    Ok(())
 }
 
 // The patterns with the most on periods, of which each unit has one.
@@ -67,54 +82,120 @@ fn most_on_patterns(alloc: Global, instance: &Instance) -> Result<Vec<Pattern>, 
     }
 }
 
-// The pass before any turn: the most-on commitment, dispatched.
-fn begun(alloc: Global, instance: &Instance) -> Result<Pass, NoMemory> {
+// The most-on commitment, dispatched.
+fn begun(alloc: Global, instance: &Instance) -> Result<Pass, NoMemory>
+    requires lawful { IsLawfulInstance instance.now }
+    requires patterns { HasEachPattern instance.now }
+    ensures { IfOk result (IsPassed instance.now 0) }
+{
     let patterns = most_on_patterns(alloc, instance)?;
     let mut room = Room::new(alloc, instance)?;
     let mut best = committed(alloc, instance, &patterns)?;
     let tried = committed(alloc, instance, &patterns)?;
-    match dispatch_rows(&mut room, instance, &patterns, &mut best) {
-        None => {
-            let cost = cost(instance, &best);
-            Ok(Pass { room, patterns, best, tried, stands: Stands::Dispatched(cost) })
-        }
+    let stand = first_stand(alloc, &mut room, instance, &patterns, &mut best)?;
+    Ok(Pass {
+        room,
+        patterns,
+        best,
+        tried,
+        stand,
+    })
+}
+
+// How the most-on commitment, of which the rows are, is dispatched.
+fn first_stand(
+    alloc: Global,
+    room: &mut Room,
+    instance: &Instance,
+    patterns: &[Pattern],
+    rows: &mut Rows,
+) -> Result<Stand, NoMemory>
+    requires lawful { IsLawfulInstance instance.now }
+    requires most_on { AreMostOn instance.now patterns.now }
+    requires room { IsRoomOf instance.now room.old }
+    requires rows { AreRowsOf instance.now patterns.now rows.old }
+    ensures room { IsRoomOf instance.now room.new }
+    ensures rows { IfOk result (λ stand. AreRowsOf instance.now patterns.now rows.new) }
+    ensures ending { IfOk result (λ stand. IsEndingOf instance.now patterns.now (ending_of_stand (printed_of rows.new) stand)) }
+    ensures most_on { IfOk result (KeepsStuck instance.now) }
+{
+    match dispatch_rows(room, instance, patterns, rows) {
+        None => Ok(Stand::Dispatched(rows_cost(instance, rows))),
         Some(obstacle) => {
             let period = obstacle.period;
-            let most_on = stuck_of(alloc, best, obstacle)?;
-            let best = committed(alloc, instance, &patterns)?;
-            Ok(Pass { room, patterns, best, tried, stands: Stands::Stuck { period, most_on } })
+            let dispatched = mem::replace(rows, committed(alloc, instance, patterns)?);
+            Ok(Stand::Stuck {
+                period,
+                most_on: stuck_at(alloc, dispatched, obstacle)?,
+            })
         }
     }
 }
 
 // The turn of unit g: its pattern with the fewest on periods is tried, and kept where the dispatch is better.
-fn turn(pass: &mut Pass, instance: &Instance, g: usize) {
+fn take_turn(alloc: Global, pass: &mut Pass, instance: &Instance, g: usize) -> Result<(), NoMemory>
+    requires lawful { IsLawfulInstance instance.now }
+    requires each { HasEachPattern instance.now }
+    requires unit { g < thermal_count instance.now }
+    requires passed { IsPassed instance.now g pass.old }
+    ensures { IfOk result (λ done. IsPassed instance.now (suc g) pass.new) }
+{
     let fewest = fewest(instance, g);
     let stood = pass.patterns[g];
     if is_same(&fewest, &stood) {
-        return;
+        return Ok(());
     }
     pass.patterns[g] = fewest;
-    recommit(&mut pass.tried, instance, &pass.patterns, g);
+    recommit(alloc, &mut pass.tried, instance, &pass.patterns, g)?;
     let trial = attempt(&mut pass.room, instance, &pass.patterns, &mut pass.tried);
-    if is_better(&trial, &pass.stands) {
-        mem::swap(&mut pass.best, &mut pass.tried);
-        replace(&mut pass.stands, trial);
-    } else {
-        pass.patterns[g] = stood;
-    }
-    recommit(&mut pass.tried, instance, &pass.patterns, g);
+    end_turn(alloc, pass, instance, Turn { g, stood, trial })
 }
 
-// The end of the pass.
-fn ended(alloc: Global, instance: &Instance, pass: Pass) -> Result<Standing, NoMemory> {
-    match pass.stands {
-        Stands::Dispatched(_) => {
-            let printed = printed(alloc, pass.best)?;
-            let cost = schedule_check::cost(instance, &printed);
+// The trial of unit g, which had the pattern that stood.
+#[derive(Clone, Copy)]
+struct Turn {
+    g: usize,
+    stood: Pattern,
+    trial: Trial,
+}
+
+// Ends the turn of a unit that was tried; its row is made anew for the next trial.
+fn end_turn(alloc: Global, pass: &mut Pass, instance: &Instance, turn: Turn) -> Result<(), NoMemory>
+    requires lawful { IsLawfulInstance instance.now }
+    requires tried { IsTried instance.now turn pass.old }
+    ensures { IfOk result (λ done. IsPassed instance.now (suc turn.g) pass.new) }
+{
+    choose(pass, turn);
+    recommit(alloc, &mut pass.tried, instance, &pass.patterns, turn.g)
+}
+
+// Keeps the trial where it is better, and else puts back the pattern that stood.
+fn choose(pass: &mut Pass, turn: Turn)
+    requires unit { turn.g < length pass.old.patterns.items }
+    ensures { (instance : Instance) → IsTried instance turn pass.old → IsChosen instance turn.g pass.new }
+{
+    if is_better(&turn.trial, &pass.stand) {
+        mem::swap(&mut pass.best, &mut pass.tried);
+        replace(&mut pass.stand, turn.trial);
+    } else {
+        pass.patterns[turn.g] = turn.stood;
+    }
+}
+
+// Where the pass ends: the rows of the commitment that is kept are its schedule.
+fn ended(alloc: Global, instance: &Instance, pass: Pass) -> Result<Standing, NoMemory>
+    requires lawful { IsLawfulInstance instance.now }
+    requires passed { IsPassed instance.now (thermal_count instance.now) pass }
+    ensures { IfOk result (IsDropped instance.now) }
+{
+    let Pass { best, stand, .. } = pass;
+    match stand {
+        Stand::Dispatched(_) => {
+            let printed = printed(alloc, best)?;
+            let cost = cost(instance, &printed);
             Ok(Standing::Dispatched { printed, cost })
         }
-        Stands::Stuck { period, most_on } => Ok(Standing::Stuck { period, most_on }),
+        Stand::Stuck { period, most_on } => Ok(Standing::Stuck { period, most_on }),
     }
 }
 
@@ -140,30 +221,35 @@ fn is_same(first: &Pattern, second: &Pattern) -> bool
 
 // Whether a dispatch is better: not stuck is better than stuck; of two that aren't the cheaper is better, and of two that are the
 // one that is stuck later.
-fn is_better(trial: &Trial, stands: &Stands) -> bool
+fn is_better(trial: &Trial, stand: &Stand) -> bool
+    ensures { result ≡ beats trial.now stand.now }
 {
-    match (trial, stands) {
-        (Trial::Dispatched(cost), Stands::Dispatched(stood)) => cost < stood,
-        (Trial::Dispatched(_), Stands::Stuck { .. }) => true,
-        (Trial::Stuck(_), Stands::Dispatched(_)) => false,
-        (Trial::Stuck(later), Stands::Stuck { period, .. }) => period < later,
+    match (trial, stand) {
+        (Trial::Dispatched(cost), Stand::Dispatched(stood)) => cost < stood,
+        (Trial::Dispatched(_), Stand::Stuck { .. }) => true,
+        (Trial::Stuck(_), Stand::Dispatched(_)) => false,
+        (Trial::Stuck(later), Stand::Stuck { period, .. }) => period < later,
     }
 }
 
 // The better dispatch in place of the former.
-fn replace(stands: &mut Stands, trial: Trial)
+fn replace(stand: &mut Stand, trial: Trial)
+    requires better { IsTrue (beats trial stand.old) }
+    ensures { IsReplaced trial stand.old stand.new }
 {
     match trial {
-        Trial::Dispatched(cost) => *stands = Stands::Dispatched(cost),
-        Trial::Stuck(later) => stuck_later(stands, later),
+        Trial::Dispatched(cost) => *stand = Stand::Dispatched(cost),
+        Trial::Stuck(later) => stuck_later(stand, later),
     }
 }
 
 // Stuck in a later period.
-fn stuck_later(stands: &mut Stands, later: usize)
+fn stuck_later(stand: &mut Stand, later: usize)
+    requires stuck { IsStuckStand stand.old }
+    ensures { IsLater later stand.old stand.new }
 {
-    match stands {
-        Stands::Stuck { period, .. } => *period = later,
-        Stands::Dispatched(_) => unreachable!(),
+    match stand {
+        Stand::Stuck { period, .. } => *period = later,
+        Stand::Dispatched(_) => unreachable!(),
     }
 }

@@ -1,6 +1,5 @@
 -- A source's next watt has a slope over a width.
-use Rattle.std.proofs.Common.{ℕ, sym, pos, ℤ, ◌<ℤ◌}
-use Rattle.uc_model.specs.Hull.{run}
+use Rattle.std.proofs.Common.{ℕ, pos, ℤ, ◌<ℤ◌}
 use Rattle.uc_model.specs.Schedule.{thermal_unit}
 use Rattle.uc_model.specs.declared.instance.Instance.{Instance}
 use Rattle.cost_curves.specs.declared.slope.Slope.{Slope}

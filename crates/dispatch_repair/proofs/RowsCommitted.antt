@@ -1,13 +1,19 @@
 -- The rows of a commitment, as they are made.
-use Rattle.std.proofs.Common.{◌≡◌, ◌≢◌, ℕ, ◌+◌, ◌<◌, inl, inr, below_more, length, get_or, get_or-set_other, get_or-set_same, length-set, sym, ap, subst, ◌∙◌, arith, List, [], ◌∷◌, ◌++◌, ℤ}
+use Rattle.std.proofs.Common.{◌≡◌, ◌≢◌, ℕ, ◌+◌, ◌<◌, inl, inr, below_more, length, get_or, get_or-set_other, get_or-set_same, length-set, sym, ap, subst, ◌∙◌, arith, List, [], ◌∷◌, ◌++◌, ℤ, IsTrue}
 use Rattle.std.proofs.Math.ListN.{set}
 use Rattle.std.specs.declared.alloc.Global.{Global}
 use Rattle.std.specs.declared.vec.Vec.{Vec}
 use Rattle.std.proofs.lemmas.Bool.{cases_eq}
 use Rattle.std.proofs.lemmas.List.{length_push, get_or_push, get_or_append_left, map-set}
 use Rattle.std.proofs.lemmas.List.Elements.{All-set}
+use Rattle.uc_model.specs.Commitment.{starts}
+use Rattle.uc_model.specs.PatternBits.{commitment_of}
 use Rattle.uc_model.specs.PrintedSchedule.{cell_at}
-use Rattle.uc_model.specs.Schedule.{thermal_count}
+use Rattle.uc_model.specs.Schedule.{thermal_count, thermal_unit}
+use Rattle.uc_model.specs.StartCategory.{category_cost}
+use Rattle.start_costs.specs.Cheapest.{IsCheapestAbove}
+use Rattle.dispatch_repair.specs.Rooms.{AreRowsBut, AreRowsOf, printed_of}
+use Rattle.dispatch_repair.specs.declared.rows.Rows.{Rows}
 use Rattle.uc_model.specs.declared.instance.Instance.{Instance}
 use Rattle.uc_model.specs.declared.pattern.Pattern.{Pattern}
 use Rattle.uc_model.specs.declared.schedule.Cell.{Cell}
@@ -54,11 +60,11 @@ module _ (instance : Instance) (patterns : List Pattern) (g : ℕ) (rows : List 
 
     is_committed : (h t : ℕ) → h < thermal_count instance → t < instance.periods → IsCommittedCell instance patterns h t (cell_at (with_rows after) h t)
     is_committed h t hh ht = elim (cases_eq h g) [
-        inl same ↦ subst (λ k. IsCommittedCell instance patterns k t (cell_at (with_rows after) k t)) (sym same)
-            (subst (λ (cells : List Cell). IsCommittedCell instance patterns g t (cell_of cells t))
-            (sym (get_or-set_same (rows_of rows) g row.items [] (omega (arith, shape.thermal)))) (own.cells t ht).committed)
+      | inl same ↦ subst (λ k. IsCommittedCell instance patterns k t (cell_at (with_rows after) k t)) (sym same)
+          (subst (λ (cells : List Cell). IsCommittedCell instance patterns g t (cell_of cells t))
+          (sym (get_or-set_same (rows_of rows) g row.items [] (omega (arith, shape.thermal)))) (own.cells t ht).committed)
       | inr apart ↦ subst (λ (cells : List Cell). IsCommittedCell instance patterns h t (cell_of cells t))
-            (sym (get_or-set_other (rows_of rows) g h row.items [] apart)) (others h t hh ht apart)
+          (sym (get_or-set_other (rows_of rows) g h row.items [] apart)) (others h t hh ht apart)
     ]
 
     pub recommitted : AreCommitted instance patterns (with_rows (rows_of (set rows g row)))
@@ -71,3 +77,21 @@ module _ (instance : Instance) (patterns : List Pattern) (g : ℕ) (rows : List 
       };
       cells = is_committed;
     })
+
+-- the rows of a commitment are those of one with another pattern of unit g, but for its own
+-- Cite by `use Rattle.dispatch_repair.proofs.RowsCommitted.{rows_but}`.
+pub rows_but : (instance : Instance) (patterns : List Pattern) (g : ℕ) (pattern : Pattern) (rows : Rows) → AreRowsOf instance patterns rows
+    → AreRowsBut instance (set patterns g pattern) g rows
+rows_but instance patterns g pattern rows are = record {
+  shape = are.shape;
+  others = λ h t hh ht apart.
+      let same = sym (get_or-set_other patterns g h pattern (record { low = 0; high = 0 }) apart) in
+      let is = are.cells h t hh ht in
+      let unit = thermal_unit instance h in
+      record {
+        on = is.on ∙ ap (λ p. commitment_of p t) same;
+        start = λ begins. subst (λ p. IsCheapestAbove unit (commitment_of p) t 0 ((cell_at (printed_of rows) h t).category, category_cost unit (cell_at (printed_of rows) h t).category)) same
+            (is.start (subst (λ p. IsTrue (starts unit (commitment_of p) t)) (sym same) begins));
+        none = λ e. is.none (ap (λ p. starts unit (commitment_of p) t) same ∙ e);
+      };
+}

@@ -28,7 +28,13 @@ pub(crate) struct Reach {
 }
 
 /// Its head and its range in period t, from 0, after the output `before`.
-pub(crate) fn unit_reach(periods: usize, unit: &Thermal, pattern: &Pattern, t: usize, before: &i64) -> Reach
+pub(crate) fn unit_reach(
+    periods: usize,
+    unit: &Thermal,
+    pattern: &Pattern,
+    t: usize,
+    before: &i64,
+) -> Reach
     requires lawful { IsLawfulThermal unit.now }
     requires period { t < periods }
     requires few { periods ≤ MAX_PERIODS }

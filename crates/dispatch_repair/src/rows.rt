@@ -31,11 +31,7 @@ pub struct Rows {
 }
 
 /// The rows of a commitment, without any power.
-pub fn committed(
-    alloc: Global,
-    instance: &Instance,
-    patterns: &[Pattern],
-) -> Result<Rows, NoMemory>
+pub fn committed(alloc: Global, instance: &Instance, patterns: &[Pattern]) -> Result<Rows, NoMemory>
     requires lawful { IsLawfulInstance instance.now }
     requires patterns { length patterns.now ≡ thermal_count instance.now }
     ensures committed { IfOk result (λ rows. AreCommitted instance.now patterns.now (printed_of rows)) }

@@ -11,7 +11,7 @@ use Rattle.uc_model.proofs.Tests.{all_below-from}
 use Rattle.schedule_check.specs.FirstBroken.{HoldsThroughout, FailsFirst, IsFirstBroken}
 use Rattle.schedule_check.specs.declared.broken.Broken.{Broken}
 use Rattle.schedule_check.specs.declared.broken.Place.{Place}
-use Rattle.schedule_check.specs.declared.unit_rule.UnitRule.TheVariants.{MustRun, InitialUp, InitialDown, MinimumUp, MinimumDown, Category, InitialStop, Production, StartCap, StopCap, RampUp, RampDown}
+use Rattle.schedule_check.specs.declared.unit_rule.UnitRule.TheVariants.{MustRun}
 use Rattle.schedule_check.specs.inside.Failures.{FailsFirstAt, FailsFirstIn}
 use Rattle.schedule_check.specs.WholeWatts.{UnitRule, holds_at, rule_of, row_of, unit_holds, unit_periods}
 use Rattle.schedule_check.proofs.RuleOrder.{tried, number-tried, tried-number, number_within}

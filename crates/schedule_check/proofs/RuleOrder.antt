@@ -1,5 +1,5 @@
 -- The rules on thermal units are the first twelve of the model's, in the order in which they are tried.
-use Rattle.std.proofs.Common.{◌≡◌, ℕ, zero, suc, ◌-◌, ◌<◌, refl, arith, get_or}
+use Rattle.std.proofs.Common.{◌≡◌, ℕ, suc, ◌-◌, ◌<◌, refl, arith, get_or}
 use Rattle.uc_model.specs.Rules as model
 use Rattle.schedule_check.specs.WholeWatts.{UnitRule, rule_of}
 use Rattle.schedule_check.specs.declared.unit_rule.TheConstants.{UNIT_RULES}

@@ -70,12 +70,7 @@ pub fn row_cost(unit: &Thermal, row: &[Cell]) -> i128
 }
 
 // What a cell costs.
-fn cell_cost(
-    unit: &Thermal,
-    curve: &InlineCurve,
-    known: &mut Option<Known>,
-    cell: &Cell,
-) -> i128
+fn cell_cost(unit: &Thermal, curve: &InlineCurve, known: &mut Option<Known>, cell: &Cell) -> i128
     requires curve { IsLowerHull unit.now.points curve.now }
     requires known { IfSome known.old (IsKnownOn unit.now) }
     requires price { HasPrice unit.now cell.now }

@@ -1,26 +1,14 @@
--- The dispatch obeys, and its cost is within the limit on costs.
-use Rattle.std.proofs.Common.{FitsSigned, rules, subst, sym, ◌≤◌, unsigned_abs}
-use Rattle.std.specs.Int.{w64}
-use Rattle.std.proofs.lemmas.Int.{to_z-of_z}
-use Rattle.uc_model.specs.PrintedSchedule.{printed_cost, printed_denominator}
-use Rattle.uc_model.specs.declared.limits.TheConstants.{COST_MAX}
-use Rattle.uc_model.proofs.PrintedCosts.{printed_cost-fits}
+-- A dispatch costs what its cells do; where something is in the way the commitment is stuck.
+use Rattle.dispatch_repair.proofs.Regular.{regular}
+use Rattle.decommitment.proofs.Drops.{dispatch_prices, stuck_in}
 use Rattle.decommitment.proofs.trial.attempt.Goals as goal
 
-pub returns-in-Ok-clause-trial : goal.returns-in-Ok-clause-trial
-returns-in-Ok-clause-trial c =
-    let instance = c.args.instance.now in
-    let printed = c.in-Ok.printed in
-    let fits : FitsSigned w64 c.cost-cost.result = search rules in
-    let size : unsigned_abs (printed_cost instance printed) ≤ COST_MAX =
-    printed_cost-fits instance printed (printed_denominator instance printed) c.requires.lawful c.in-Ok.ensures.obeys in
-    simp to_z-of_z (record {
-      dispatch = c.in-Ok.ensures.dispatch;
-      accepted = record {
-        shape = c.in-Ok.ensures.shape;
-        obeys = c.in-Ok.ensures.obeys;
-        cost_is = c.cost-cost.ensures;
-        numbers = c.in-Ok.ensures.numbers;
-        size = subst (λ z. unsigned_abs z ≤ COST_MAX) (sym c.cost-cost.ensures) size;
-      };
-    })
+pub dispatch_rows-requires-clause-regular : goal.dispatch_rows-requires-clause-regular
+dispatch_rows-requires-clause-regular c = regular c.args.instance.now c.args.patterns.now c.requires.allowed
+
+pub cost-requires-clause-prices : goal.cost-requires-clause-prices
+cost-requires-clause-prices c = dispatch_prices c.args.instance.now c.args.patterns.now c.dispatch_rows.new.rows c.requires.lawful c.in-None.ensures.dispatch
+
+pub returns-in-Some-clause-ending : goal.returns-in-Some-clause-ending
+returns-in-Some-clause-ending c =
+    stuck_in c.args.instance.now c.args.patterns.now c.dispatch_rows.new.rows c.in-Some.obstacle c.requires.allowed c.in-Some.ensures.rows c.in-Some.ensures.dispatch

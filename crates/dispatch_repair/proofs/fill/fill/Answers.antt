@@ -1,5 +1,5 @@
 -- One segment more, by what raising its source does.
-use Rattle.std.proofs.Common.{arith, subst, ap, length, suc}
+use Rattle.std.proofs.Common.{arith, subst, ap, length}
 use Rattle.std.proofs.lemmas.Int.{ints, to_z-of_z}
 use Rattle.dispatch_repair.specs.inside.Filling.{IsFilledTo, IsRaise}
 use Rattle.dispatch_repair.specs.inside.Segments.{segment_at}

@@ -1,5 +1,5 @@
 -- A thermal unit has the segments of its curve.
-use Rattle.std.proofs.Common.{◌≡◌, suc, ◌+◌, ◌<◌, length, arith, sym, subst, ap, ◌∙◌, slice_index_or}
+use Rattle.std.proofs.Common.{◌≡◌, ◌+◌, ◌<◌, length, arith, sym, subst, ap, ◌∙◌, slice_index_or}
 use Rattle.std.proofs.lemmas.List.{get_or_read}
 use Rattle.uc_model.specs.Schedule.{thermal_unit, renewable_count, no_unit}
 use Rattle.uc_model.specs.declared.instance.Thermal.{Thermal}

@@ -1,9 +1,7 @@
 -- The unit is the instance's, and what it gave before is its amount.
-use Rattle.std.proofs.Common.{◌≡◌, ◌+◌, ap, ◌∙◌, length, sym, subst}
-use Rattle.uc_model.specs.Limits.{IsLawfulThermal}
+use Rattle.std.proofs.Common.{◌≡◌, ◌+◌, ap, ◌∙◌, length}
 use Rattle.uc_model.specs.Schedule.{renewable_count}
-use Rattle.uc_model.specs.declared.instance.Thermal.{Thermal}
-use Rattle.dispatch_repair.specs.Period.{commitment_at, head, lowest, highest}
+use Rattle.dispatch_repair.specs.Period.{commitment_at, lowest, highest}
 use Rattle.dispatch_repair.specs.Dispatch.{period_after}
 use Rattle.dispatch_repair.specs.inside.Amounts.{amount_at, thermal_amount}
 use Rattle.dispatch_repair.proofs.Places.{thermal_range, unit_read}

@@ -1,5 +1,5 @@
 -- A period more is filled, or the dispatch is stuck in it.
-use Rattle.std.proofs.Common.{suc, arith, sym, subst, ap, pos, slice_index_or}
+use Rattle.std.proofs.Common.{arith, sym, subst, ap, pos, slice_index_or}
 use Rattle.dispatch_repair.specs.Rooms.{printed_of}
 use Rattle.dispatch_repair.specs.inside.Amounts.{IsSizedOutput}
 use Rattle.dispatch_repair.specs.inside.Progress.{AreFilledBelow}

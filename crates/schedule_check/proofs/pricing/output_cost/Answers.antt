@@ -3,7 +3,6 @@ use Rattle.std.proofs.Common.{◌≤ℤ◌, ◌∙◌, ap, sym, subst, arith, to
 use Rattle.std.specs.Int.{w64}
 use Rattle.std.proofs.lemmas.Int.{ints, to_z-of_z}
 use Rattle.uc_model.specs.Hull.{hull_cost}
-use Rattle.cost_curves.specs.LowerHull.{width_of}
 use Rattle.cost_curves.proofs.HullValues.{whole_width}
 use Rattle.schedule_check.proofs.pricing.output_cost.Goals as goal
 
