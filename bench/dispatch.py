@@ -3,7 +3,7 @@
 
     python3 bench/dispatch.py CASE.json ..   # at the top of the repository, with `rt` on the path
 
-`dispatch_in` is timed with lent room. In the greater instance each thermal unit stands fifteen times, and demand and reserve are
+`dispatch_rows` is timed with lent room and rows. In the greater instance each thermal unit stands fifteen times, and demand and reserve are
 fifteen times as great; the renewable units are those of the file. Told are the mean of a hundred dispatches in the best of ten
 rounds, and what they come to: schedules, or the period, from 0, in which they get stuck. Nothing is proved here, see `unproved.py`.
 """
@@ -18,7 +18,7 @@ TIMES, ROUNDS, COPIES = 100, 10, 15
 
 PROGRAM = """#![tactic(auto)]
 
-use dispatch_repair::{DispatchFault, Room, dispatch_in, most_on};
+use dispatch_repair::{Room, Rows, committed, dispatch_rows, most_on};
 use instance::read_instance;
 use std::alloc::Global;
 use std::fs;
@@ -27,14 +27,13 @@ use std::time::Instant;
 use uc_model::{Instance, Pattern};
 
 // How many of so many dispatches gave a schedule, and the period, from 0, in which the last one got stuck.
-fn dispatches(alloc: Global, room: &mut Room, instance: &Instance, patterns: &[Pattern]) -> (u64, Option<usize>) {
+fn dispatches(room: &mut Room, instance: &Instance, patterns: &[Pattern], rows: &mut Rows) -> (u64, Option<usize>) {
     let mut schedules = 0_u64;
     let mut stuck = None;
     for _ in 0..TIMES {
-        match dispatch_in(alloc, room, instance, patterns) {
-            Ok(_) => schedules += 1,
-            Err(DispatchFault::Stuck(found)) => stuck = Some(found.period),
-            Err(DispatchFault::NoMemory) => {}
+        match dispatch_rows(room, instance, patterns, rows) {
+            None => schedules += 1,
+            Some(found) => stuck = Some(found.period),
         }
     }
     (schedules, stuck)
@@ -46,11 +45,13 @@ fn time_rounds(rt: &HostRuntime, instance: &Instance) -> io::Result<()> {
     let room = Room::new(alloc, instance);
     let patterns = most_on(alloc, instance);
     if let (Ok(mut room), Ok(patterns)) = (room, patterns) {
-        for _ in 0..ROUNDS {
-            let start = Instant::now(rt)?;
-            let (schedules, stuck) = dispatches(alloc, &mut room, instance, &patterns);
-            let time = start.elapsed(rt)?.as_nanos();
-            println!(rt; "{time} {schedules} schedules, stuck: {stuck:?}")?;
+        if let Ok(mut rows) = committed(alloc, instance, &patterns) {
+            for _ in 0..ROUNDS {
+                let start = Instant::now(rt)?;
+                let (schedules, stuck) = dispatches(&mut room, instance, &patterns, &mut rows);
+                let time = start.elapsed(rt)?.as_nanos();
+                println!(rt; "{time} {schedules} schedules, stuck: {stuck:?}")?;
+            }
         }
     }
     Ok(())
