@@ -20,7 +20,7 @@ pub enum CertNode {
 /// A certificate: the numbers of periods, thermal and renewable units; the bound that is claimed, in micro-dollars,
 /// or none where infeasibility is; a schedule with its cost in micro-dollars; the tables; and the tree, as its nodes
 /// in preorder.
-#[derive(Debug, Drop)]
+#[derive(Drop)]
 pub struct Cert {
     pub periods: u32,
     pub thermal: u32,

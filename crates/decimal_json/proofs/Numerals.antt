@@ -7,7 +7,7 @@ use Rattle.decimal_json.specs.inside.Scan.{Spot, numeral, minus, zero_first, who
 use Rattle.decimal_json.specs.inside.Answer.{AddsDigits, ReadsWhole, ReadsFraction, AddsExponent, ReadsExponent, kept, begun, AfterWhole, MayEnd, FailsAt, StandsAt, Leads, ReadsPlain, ReadsText, BreaksText, ReadsEscape, BreaksEscape, resumed, HexAt, ReadsUnit, BreaksUnit}
 use Rattle.std.proofs.lemmas.Bool.{and_parts, leb-true, ne_eqb, eqb-true, false≢true, or_cases, not-true, cases_lt, le-leb, and_cases, and_left, and_right, and_from, leb-false, lt-leb, le-ltb, lt-ltb}
 use Rattle.decimal_json.proofs.Moves.{same_scan, moved, byte_and_rest, fails_there, stopped, stepped, finished}
-use Rattle.std.proofs.lemmas.List.Edits.{between_more, between_none}
+use Rattle.std.proofs.lemmas.List.Edits.{between_more}
 use Rattle.std.specs.Str.{IsCharBoundary}
 use Rattle.decimal_json.specs.declared.types.JsonFault.{JsonFault}
 use Rattle.decimal_json.specs.declared.types.JsonFault.TheVariants.{At}
@@ -235,9 +235,6 @@ plain_parts c e =
 pub plain_leads : (at c : ℕ) (outer : List Frame) (p : Purpose) (t : List ℕ) → is_plain c ≡ true → step at outer (quoted p (plain t)) c ≡ next outer (quoted p (plain (t ++ c ∷ [])))
 unfolding step quoted_step
 plain_leads at c outer p t e = let parts = plain_parts c e in rw (parts.0, parts.1, parts.2) refl
-
-pub reads_none : (bytes : List ℕ) (start : ℕ) → ReadsPlain bytes start start (slice_range bytes start start)
-reads_none bytes start = λ outer p t. ap (λ xs. scan bytes start outer (quoted p (plain xs))) (sym (ap (λ xs. t ++ xs) (between_none bytes start) ∙ append-nil t))
 
 pub reads_more : (bytes : List ℕ) (start at : ℕ) → start ≤ at → at < length bytes → is_plain (get_or bytes at 0) ≡ true → ReadsPlain bytes start at (slice_range bytes start at)
     → ReadsPlain bytes start (at + 1) (slice_range bytes start (at + 1))

@@ -287,9 +287,6 @@ pub member_read : (bytes : List ℕ) (start colon end room : ℕ) (test : List �
     → ReadsValue bytes colon end room v → ReadsMember test bytes start end room k v
 member_read bytes start colon end room test k v key r = λ outer ms keys fits. key outer ms keys ∙ r (in_object ms k ∷ outer) (omega (arith, fits))
 
-pub no_member_key : (bytes : List ℕ) (start room : ℕ) (test : List ℕ → Bool) (e : JsonFault) → BreaksKey test bytes start e → BreaksMember test bytes start room e
-no_member_key bytes start room test e broken = λ outer ms keys fits. broken outer ms keys
-
 pub no_member_value : (bytes : List ℕ) (start colon room : ℕ) (test : List ℕ → Bool) (k : List ℕ) (e : JsonFault) → ReadsKey test bytes start colon k
     → BreaksValue bytes colon room e → BreaksMember test bytes start room e
 no_member_value bytes start colon room test k e key broken = λ outer ms keys fits.
@@ -372,13 +369,6 @@ pub inside_breaks : (bytes : List ℕ) (start at room less c k : ℕ) (spot : Sp
     → BreaksInside bytes (at + 1) spot less e → BreaksValue bytes start room e
 inside_breaks bytes start at room less c k spot e opens found is one broken = λ outer fits.
     led e _ _ (inside_opens bytes start at less c k spot opens found is outer (omega (arith, fits, one))) (broken outer (omega (arith, fits, one)))
-
--- a value that is no array and no object
-pub scalar_read : (bytes : List ℕ) (start at c end room : ℕ) (v : Value) → FindsToken bytes start at c → Reads bytes at wanted end v → ReadsValue bytes start end room v
-scalar_read bytes start at c end room v found r = λ outer fits. found.skips outer wanted tt ∙ r outer
-
-pub scalar_breaks : (bytes : List ℕ) (start at c room : ℕ) (e : JsonFault) → FindsToken bytes start at c → Breaks bytes at wanted e → BreaksValue bytes start room e
-scalar_breaks bytes start at c room e found broken = λ outer fits. led e _ _ (found.skips outer wanted tt) (broken outer)
 
 -- ---- The machine over a whole input.
 whole_scan : (bytes : List ℕ) → whole_outcome bytes ≡ scan bytes 0 [] wanted

@@ -1,9 +1,10 @@
 ghost use Rattle.std.specs.Prelude.{◌≡◌};
+ghost use Rattle.decimal_json.specs.declared.types.JsonFault.TheVariants.{NoMemory};
 
 use std::alloc::{AllocError, AllocFailed};
 
 /// A number with each of its digits. Its value is the digits, read as one whole, times ten to the exponent.
-#[derive(Debug, Drop)]
+#[derive(Drop)]
 pub struct Number {
     pub negative: bool,
     /// Each from 0 to 9, those before the point and those after it.
@@ -14,7 +15,7 @@ pub struct Number {
 
 /// A member of an object.
 #[cycle(json)]
-#[derive(Debug, Drop)]
+#[derive(Drop)]
 pub struct Pair {
     pub key: String,
     pub value: Json,
@@ -22,7 +23,7 @@ pub struct Pair {
 
 /// A JSON value (RFC 8259, section 3). An object keeps its members in the order of the file.
 #[cycle(json)]
-#[derive(Debug, Drop)]
+#[derive(Drop)]
 pub enum Json {
     Null,
     Bool(bool),
@@ -46,8 +47,6 @@ pub enum JsonFault {
 }
 
 impl From<AllocError> for JsonFault {
-    ghost use Rattle.decimal_json.specs.declared.types.JsonFault.TheVariants.{NoMemory};
-
     ghost from_gives = { λ _ e. e ≡ NoMemory };
 
     fn from(_: AllocError) -> Self {
@@ -56,8 +55,6 @@ impl From<AllocError> for JsonFault {
 }
 
 impl<T: Drop> From<AllocFailed<T>> for JsonFault {
-    ghost use Rattle.decimal_json.specs.declared.types.JsonFault.TheVariants.{NoMemory};
-
     ghost from_gives = { λ _ e. e ≡ NoMemory };
 
     fn from(_: AllocFailed<T>) -> Self {

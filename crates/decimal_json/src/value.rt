@@ -1,10 +1,10 @@
 //! Values of RFC 8259, section 3, and white space round them.
 
-ghost use Rattle.std.specs.Prelude.{◌≡◌, ◌≢◌, ◌+◌, ◌<◌, ◌≤◌, Bool, true, false, length, map, IfOk, IfErr};
+ghost use Rattle.std.specs.Prelude.{◌≡◌, ◌≢◌, ◌+◌, ◌<◌, ◌≤◌, Bool, true, false, [], length, map, IfOk, IfErr};
 ghost use Rattle.decimal_json.specs.Value.{Value, items_of, members_of, array as array_value, object as object_value};
 ghost use Rattle.decimal_json.specs.Characters.{is_space};
 ghost use Rattle.decimal_json.specs.inside.Scan.{wanted, awaited, first_item, first_key};
-ghost use Rattle.decimal_json.specs.inside.Answer.{StandsAt, Reads, Breaks, ReadsValue, BreaksValue, ReadsInside, BreaksInside, ReadsMember, BreaksMember, AddsKey, knows};
+ghost use Rattle.decimal_json.specs.inside.Answer.{StandsAt, Reads, Breaks, ReadsValue, BreaksValue, ReadsInside, BreaksInside, HasKeys, knows};
 ghost use Rattle.decimal_json.specs.View.{view, pair_view};
 
 use crate::bytes::has_byte;
@@ -135,31 +135,41 @@ fn array(
     }
 }
 
-/// A member of an object, whose key is noted with its place among the members, and the place behind it.
+/// The members of an object behind its first bracket, where none is there yet, and the place behind the last.
 #[cycle(value)]
-fn member(
+fn members(
     alloc: Global,
     source: &str,
     start: usize,
     room: usize,
+    pairs: &mut Vec<Pair>,
     places: &mut IndexMap<String, usize>,
-    place: usize,
-) -> Result<(Pair, usize), JsonFault>
-    requires { start ≤ length source.now }
-    ensures within { IfOk result (λ r. (start < r.1) × (r.1 ≤ length source.now)) }
-    ensures read { IfOk result (λ r. ReadsMember (knows places.old) source.now start r.1 room
-        (pair_view r.0).0 (pair_view r.0).1) }
-    ensures known { IfOk result (λ r.
-        AddsKey (knows places.old) (knows places.new) (pair_view r.0).0) }
-    ensures fault { IfErr result (BreaksMember (knows places.old) source.now start room) }
+) -> Result<usize, JsonFault>
+    requires begun { start ≤ length source.now }
+    requires empty { pairs.old.items ≡ [] }
+    requires unknown { HasKeys (knows places.old) [] }
+    ensures within { IfOk result (λ at. (start < at) × (at ≤ length source.now)) }
+    ensures read { IfOk result (λ at. ReadsInside source.now start first_key at room
+        (object_value (members_of (map pair_view pairs.new.items)))) }
+    ensures fault { IfErr result (BreaksInside source.now start first_key room) }
 {
-    let (key, colon) = key(alloc, source, start, places, place)?;
-    let (value, end) = value(alloc, source, colon, room)?;
-    Ok((Pair { key, value }, end))
+    let (mut at, first) = token(source, start)?;
+    if first == b'}' {
+        return Ok(at + 1);
+    }
+    loop {
+        let (key, colon) = key(alloc, source, at, places, pairs.len())?;
+        let (value, end) = value(alloc, source, colon, room)?;
+        pairs.push(Pair { key, value })?;
+        match comma_or(source, end, b'}')? {
+            Past::Comma(next) => at = next,
+            Past::Bracket(next) => return Ok(next),
+        }
+    }
 }
 
-/// The members of an object behind its first bracket, and the place behind the last. The keys and their places
-/// are kept in a map beside it, so that each key is looked for once.
+/// An object behind its first bracket, and the place behind the last. The keys and their places are kept in a map
+/// beside it, so that each key is looked for once.
 #[cycle(value)]
 fn object(
     alloc: Global,
@@ -175,16 +185,8 @@ fn object(
 {
     let mut pairs = Vec::new(alloc);
     let mut places = IndexMap::new(alloc);
-    let (mut at, first) = token(source, start)?;
-    if first == b'}' {
-        return Ok((pairs, at + 1));
-    }
-    loop {
-        let (pair, end) = member(alloc, source, at, room, &mut places, pairs.len())?;
-        pairs.push(pair)?;
-        match comma_or(source, end, b'}')? {
-            Past::Comma(next) => at = next,
-            Past::Bracket(next) => return Ok((pairs, next)),
-        }
+    match members(alloc, source, start, room, &mut pairs, &mut places) {
+        Ok(end) => Ok((pairs, end)),
+        Err(fault) => Err(fault),
     }
 }

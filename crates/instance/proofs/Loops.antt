@@ -1,7 +1,10 @@
 -- What a loop over the entries of an array, or over the members of an object, has done up to a place.
-use Rattle.std.proofs.Common.{◌≡◌, ℕ, ◌+◌, ◌*◌, ◌≤◌, List, [], drop, take, map, length, Result, sum_by}
+use Rattle.std.proofs.Common.{◌≡◌, ℕ, ◌+◌, ◌*◌, ◌<◌, ◌≤◌, List, [], ◌∷◌, ◌++◌, drop, take, map, length, get_or, Bool, Result, Ok, sum_by, ap, sym, ◌∙◌, arith}
+use Rattle.std.proofs.lemmas.Grind.{common_steps}
+use Rattle.std.proofs.lemmas.List.{drop_more}
 use Rattle.instance.specs.declared.reader.Reader.{Reader}
 use Rattle.instance.specs.FirstFault.{each_at}
+use Rattle.instance.specs.inside.Parts.{Counts}
 
 -- So many of the items were read, and their rounded numbers counted, at most so many in each.
 pub record HasRead {A J V E : Type 0} (view : J → V) (reads : List A → V → Result A E) (rounds : V → ℕ) (each : ℕ) (old new : Reader) (done : List A) (items : List J) (index : ℕ) : Type 0 where
@@ -10,3 +13,19 @@ pub record HasRead {A J V E : Type 0} (view : J → V) (reads : List A → V →
   pub exact : new.exact ≡ old.exact
   pub rounded : new.rounded ≡ old.rounded + sum_by rounds (map view (take index items))
   pub few : sum_by rounds (map view (take index items)) ≤ each * index
+
+-- One item more.
+pub read_more : {A J V E : Type 0} (view : J → V) (reads : Bool → List A → V → Result A E) (rounds : V → ℕ) (each : ℕ) (old mid new : Reader) (done grown : List A) (items : List J) (index : ℕ) (item : J) (x : A)
+    → HasRead view (reads old.exact) rounds each old mid done items index → index < length items → item ≡ get_or items index item → reads mid.exact done (view item) ≡ Ok x
+    → Counts mid new (rounds (view item)) each → grown ≡ done ++ x ∷ [] → HasRead view (reads old.exact) rounds each old new grown items (index + 1)
+unfolding each_at
+read_more view reads rounds each old mid new done grown items index item x h lt is e k g =
+    let next : drop index items ≡ item ∷ drop (index + 1) items = drop_more items index item lt ∙ ap (λ (j : _). j ∷ drop (index + 1) items) (sym is) in
+    let this : reads old.exact done (view item) ≡ Ok x = ap (λ (exact : Bool). reads exact done (view item)) (sym h.exact) ∙ e in
+    record {
+      read = rw g (rw (next, this) at h.read);
+      count = grind (arith, common_steps);
+      exact = k.exact ∙ h.exact;
+      rounded = grind (arith, common_steps);
+      few = grind (arith, common_steps);
+    }

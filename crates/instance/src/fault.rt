@@ -2,6 +2,7 @@
 
 ghost use Rattle.std.specs.Prelude.{◌≡◌, ◌+◌, ◌<◌};
 ghost use Rattle.uc_model.specs.declared.limits.TheConstants.{MAX_PERIODS};
+ghost use Rattle.instance.specs.declared.fault.Fault.TheVariants.{NoMemory};
 ghost use Rattle.instance.specs.FirstFault.{whole, entry_of, refusal};
 
 use std::alloc::{AllocError, AllocFailed};
@@ -40,9 +41,6 @@ pub enum Fault<R> {
 pub type InstanceFault = Fault<FieldRefusal>;
 
 impl<R> From<AllocError> for Fault<R> {
-    ghost use Rattle.std.specs.Prelude.{◌≡◌};
-    ghost use Rattle.instance.specs.declared.fault.Fault.TheVariants.{NoMemory};
-
     ghost from_gives = { λ _ e. e ≡ NoMemory };
 
     fn from(_: AllocError) -> Self {
@@ -51,9 +49,6 @@ impl<R> From<AllocError> for Fault<R> {
 }
 
 impl<R, T: Drop> From<AllocFailed<T>> for Fault<R> {
-    ghost use Rattle.std.specs.Prelude.{◌≡◌};
-    ghost use Rattle.instance.specs.declared.fault.Fault.TheVariants.{NoMemory};
-
     ghost from_gives = { λ _ e. e ≡ NoMemory };
 
     fn from(_: AllocFailed<T>) -> Self {
@@ -62,7 +57,7 @@ impl<R, T: Drop> From<AllocFailed<T>> for Fault<R> {
 }
 
 /// A field of a record, or an entry of a field that is an array, from 1; 0 is the field itself.
-#[derive(Clone, Copy, Debug)]
+#[derive(Clone, Copy)]
 pub(crate) struct Place {
     pub(crate) field: Field,
     pub(crate) entry: u32,
@@ -96,7 +91,7 @@ impl Place {
 }
 
 /// What refuses a record, apart from the unit that it is in.
-#[derive(Clone, Copy, Debug)]
+#[derive(Clone, Copy)]
 pub(crate) struct Refusal {
     pub(crate) code: u8,
     pub(crate) place: Place,

@@ -1,6 +1,6 @@
 -- What a caller may know of a slot, and what each call does to it.
 use Rattle.std.specs.Option.{option_map}
-use Rattle.std.proofs.Common.{◌∙◌, ◌≡◌, ◌≢◌, ℕ, Bool, true, IfSome, List, [], ◌++◌, Option, refl}
+use Rattle.std.proofs.Common.{◌∙◌, ◌≡◌, ◌≢◌, ℕ, Bool, List, [], ◌++◌, Option, refl}
 use Rattle.std.specs.Str.{bytes_eq}
 use Rattle.outside.specs.declared.slot.Slot.{Slot}
 use Rattle.outside.specs.declared.slot.Stage.{Stage}
@@ -82,14 +82,6 @@ same_beside-through slot a b c h k = record {
   left = k.left ∙ h.left;
   others = λ other ne. k.others other ne ∙ h.others other ne;
 }
-
--- the slot expects this name, where it tells what it expects
-abbrev pub Expects : List ℕ → SlotState → Type 0
-Expects name slot = IfSome slot.naming (λ naming. naming.expected ≡ name)
-
--- the slot was opened by the name that it expects, where it tells that
-abbrev pub IsMatched : SlotState → Type 0
-IsMatched slot = IfSome slot.naming (λ naming. naming.is_matched ≡ true)
 
 -- no slot was opened yet
 abbrev pub AllUnopened : (Slot → SlotState) → Type 0

@@ -10,11 +10,8 @@ use std::{fs, io};
 /// How many links are followed to a target at most, as by the system.
 const MOST_LINKS: usize = 40;
 
-/// The streams of the run that the system names.
-const STREAMS: [&str; 2] = ["/dev/stdout", "/dev/stderr"];
-
 /// A file of the system, by its device and its inode there.
-#[derive(Clone, Copy, Debug, PartialEq, Eq)]
+#[derive(Clone, Copy, PartialEq, Eq)]
 pub(crate) struct FileIdentity {
     device: u64,
     inode: u64,
@@ -146,12 +143,16 @@ fn replacement<R: std::rt::Files + AllocGlobal>(
     Ok(opened)
 }
 
-/// Whether the run's output or error output goes to the file.
+/// Whether the run's output or error output goes to the file, by the names that the system has for them.
 fn is_stream(rt: &impl std::rt::Files, file: FileIdentity) -> bool {
-    STREAMS.iter().any(|name| match fs::metadata(rt, *name) {
+    leads_to(rt, "/dev/stdout", file) || leads_to(rt, "/dev/stderr", file)
+}
+
+fn leads_to(rt: &impl std::rt::Files, name: &str, file: FileIdentity) -> bool {
+    match fs::metadata(rt, name) {
         Ok(metadata) => FileIdentity::of(&metadata) == file,
         Err(_) => false,
-    })
+    }
 }
 
 /// The path that a name leads to once its last part is followed as long as it is a link.

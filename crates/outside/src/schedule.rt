@@ -9,7 +9,7 @@ use crate::fault::Failed;
 use std::alloc::{AllocError, Global};
 
 /// A kind of call to the outside.
-#[derive(Clone, Copy, Debug, PartialEq, Eq)]
+#[derive(Clone, Copy, PartialEq, Eq)]
 pub enum Call {
     Open,
     Read,
@@ -19,14 +19,14 @@ pub enum Call {
 }
 
 /// A call that is to fail: the one of this kind before which this many of its kind were made.
-#[derive(Clone, Copy, Debug, PartialEq, Eq)]
+#[derive(Clone, Copy, PartialEq, Eq)]
 pub struct FailingCall {
     pub call: Call,
     pub number: u64,
 }
 
 /// How many calls of each kind were made. A count stays at its last value.
-#[derive(Clone, Copy, Debug, PartialEq, Eq)]
+#[derive(Clone, Copy)]
 pub struct CallCounts {
     pub opens: u64,
     pub reads: u64,

@@ -2,12 +2,14 @@
 
 ghost use Rattle.std.specs.Prelude.{◌≡◌, ◌<◌, IfSome, codes};
 ghost use Rattle.cert_text.specs.Nodes.{LeafNode, SplitNode};
-ghost use Rattle.cert_text.specs.inside.Forms.{Gives, ended, money_at};
-ghost use Rattle.cert_text.specs.inside.LineForms.{claim_at, schedule_at, on_cell_at, cell_at, scale_at, ramp_count_at, ramp_at, rises, is_ramp, named_at, split_at, node_at};
+ghost use Rattle.cert_text.specs.inside.Forms.{Gives, after, ended, whole_at, money_at};
+ghost use Rattle.cert_text.specs.inside.LineForms.{claim_at, schedule_at, on_cell_at, cell_at, ramp_at, rises, is_ramp, named_at, split_at, node_at};
 ghost use Rattle.cert_text.specs.inside.ReadViews.{sizes};
 ghost use Rattle.cert_text.specs.Reading.{node_of};
 
-use super::numbers::{take_byte, take_count, take_money, take_ordinal, take_signed, take_text};
+use super::numbers::{
+    take_byte, take_count, take_count_to, take_money, take_ordinal_to, take_signed_to, take_text,
+};
 use super::sizes::Size;
 use crate::cert::CertNode;
 use dual_model::RampRow;
@@ -18,8 +20,7 @@ fn take_last_money(bytes: &[u8]) -> Option<(i128, &[u8])>
     ensures { Gives (λ r. (r.0, r.1.now)) result (ended money_at (codes "\n") bytes.now) }
 {
     let (money, rest) = take_money(bytes)?;
-    let rest = take_byte(rest, b'\n')?;
-    Some((money, rest))
+    Some(money).zip(take_byte(rest, b'\n'))
 }
 
 /// The bound that is claimed, or none.
@@ -31,8 +32,7 @@ pub(crate) fn take_claim(bytes: &[u8]) -> Option<(Option<i128>, &[u8])>
         let (bound, rest) = take_last_money(rest)?;
         return Some((Some(bound), rest));
     }
-    let rest = take_text(bytes, b"claim infeasible\n")?;
-    Some((None, rest))
+    Some(None).zip(take_text(bytes, b"claim infeasible\n"))
 }
 
 /// The cost of the schedule that follows, or none.
@@ -52,10 +52,8 @@ pub(crate) fn take_schedule(bytes: &[u8]) -> Option<(Option<i128>, &[u8])>
 fn take_on_cell(bytes: &[u8]) -> Option<(Cell, &[u8])>
     ensures { Gives (λ r. (r.0, r.1.now)) result (on_cell_at bytes.now) }
 {
-    let (p, rest) = take_signed(bytes, 15)?;
-    let rest = take_byte(rest, b':')?;
-    let (r, rest) = take_signed(rest, 15)?;
-    let rest = take_byte(rest, b':')?;
+    let (p, rest) = take_signed_to(bytes, 15, b':')?;
+    let (r, rest) = take_signed_to(rest, 15, b':')?;
     let (category, rest) = take_count(rest, 18)?;
     if category > 255 {
         return None;
@@ -77,37 +75,22 @@ pub(crate) fn take_cell(bytes: &[u8]) -> Option<(Cell, &[u8])>
     if let Some((cell, rest)) = take_on_cell(bytes) {
         return Some((cell, rest));
     }
-    let rest = take_byte(bytes, b'-')?;
     let cell = Cell {
         on: false,
         p: 0,
         r: 0,
         category: 0,
     };
-    Some((cell, rest))
+    Some(cell).zip(take_byte(bytes, b'-'))
 }
 
-/// The scale of a table, in its first line.
-#[tactic(auto, unfolding(crate::specs::inside::LineForms::scale_at))]
-pub(crate) fn take_scale(bytes: &[u8]) -> Option<(u64, &[u8])>
-    ensures value { Gives (λ r. (r.0, r.1.now)) result (scale_at bytes.now) }
+/// The number in a line of a word and a number.
+pub(crate) fn take_count_line<'a>(bytes: &'a [u8], word: &[u8]) -> Option<(u64, &'a [u8])>
+    ensures value { Gives (λ r. (r.0, r.1.now)) result (after word.now (ended (whole_at 18) (codes "\n")) bytes.now) }
     ensures bound { IfSome result (λ r. r.0 < 1000000000000000000) }
 {
-    let rest = take_text(bytes, b"table ")?;
-    let (k, rest) = take_count(rest, 18)?;
-    let rest = take_byte(rest, b'\n')?;
-    Some((k, rest))
-}
-
-/// How many ramp rows a table has.
-#[tactic(auto, unfolding(crate::specs::inside::LineForms::ramp_count_at))]
-pub(crate) fn take_ramp_count(bytes: &[u8]) -> Option<(u64, &[u8])>
-    ensures { Gives (λ r. (r.0, r.1.now)) result (ramp_count_at bytes.now) }
-{
-    let rest = take_text(bytes, b"ramps ")?;
-    let (count, rest) = take_count(rest, 18)?;
-    let rest = take_byte(rest, b'\n')?;
-    Some((count, rest))
+    let rest = take_text(bytes, word)?;
+    take_count_to(rest, b'\n')
 }
 
 fn rises(before: &Option<RampRow>, row: &RampRow) -> bool
@@ -129,14 +112,10 @@ pub(crate) fn take_ramp<'a>(
     ensures { Gives (λ r. (r.0, r.1.now)) result (ramp_at (sizes size.now) before.now bytes.now) }
 {
     let rest = take_text(bytes, b"ramp ")?;
-    let (g, rest) = take_ordinal(rest)?;
-    let rest = take_byte(rest, b' ')?;
-    let (t, rest) = take_ordinal(rest)?;
-    let rest = take_byte(rest, b' ')?;
-    let (up, rest) = take_signed(rest, 18)?;
-    let rest = take_byte(rest, b' ')?;
-    let (down, rest) = take_signed(rest, 18)?;
-    let rest = take_byte(rest, b'\n')?;
+    let (g, rest) = take_ordinal_to(rest, b' ')?;
+    let (t, rest) = take_ordinal_to(rest, b' ')?;
+    let (up, rest) = take_signed_to(rest, 18, b' ')?;
+    let (down, rest) = take_signed_to(rest, 18, b'\n')?;
     if g >= u64::from(size.thermal) || t >= u64::from(size.periods) {
         return None;
     }
@@ -157,8 +136,7 @@ pub(crate) fn take_ramp<'a>(
 fn take_named(bytes: &[u8], count: u32) -> Option<(u32, &[u8])>
     ensures { Gives (λ r. (r.0, r.1.now)) result (named_at count bytes.now) }
 {
-    let (number, rest) = take_ordinal(bytes)?;
-    let rest = take_byte(rest, b'\n')?;
+    let (number, rest) = take_ordinal_to(bytes, b'\n')?;
     if number >= u64::from(count) {
         return None;
     }
@@ -170,10 +148,8 @@ fn take_named(bytes: &[u8], count: u32) -> Option<(u32, &[u8])>
 fn take_split<'a>(bytes: &'a [u8], size: &Size) -> Option<((u32, u32), &'a [u8])>
     ensures { Gives (λ r. (r.0, r.1.now)) result (split_at (sizes size.now) bytes.now) }
 {
-    let (g, rest) = take_ordinal(bytes)?;
-    let rest = take_byte(rest, b' ')?;
-    let (t, rest) = take_ordinal(rest)?;
-    let rest = take_byte(rest, b'\n')?;
+    let (g, rest) = take_ordinal_to(bytes, b' ')?;
+    let (t, rest) = take_ordinal_to(rest, b'\n')?;
     if g >= u64::from(size.thermal) || t >= u64::from(size.periods) {
         return None;
     }

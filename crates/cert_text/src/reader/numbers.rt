@@ -1,7 +1,7 @@
 //! Numbers and fixed texts at the front of bytes. What is read stands before the bytes that are left.
 
 ghost use Rattle.std.specs.Prelude.{◌≡◌, ◌∷◌, [], ◌≤◌, ◌<◌, ◌^◌, length, IfSome, None};
-ghost use Rattle.cert_text.specs.inside.Forms.{Gives, text_at, whole_at, decimals_at, millionths_at, money_at, ordinal_at, signed_at, run, run_value, is_digit};
+ghost use Rattle.cert_text.specs.inside.Forms.{Gives, text_at, ended, whole_at, decimals_at, millionths_at, money_at, ordinal_at, signed_at, run, run_value, is_digit};
 
 /// The most digits that a number has.
 const MOST_DIGITS: usize = 38;
@@ -78,6 +78,15 @@ pub(crate) fn take_count(bytes: &[u8], digits: usize) -> Option<(u64, &[u8])>
     Some((value as u64, rest))
 }
 
+/// A whole number of at most 18 digits, and this byte behind it.
+pub(crate) fn take_count_to(bytes: &[u8], end: u8) -> Option<(u64, &[u8])>
+    ensures value { Gives (λ r. (r.0, r.1.now)) result (ended (whole_at 18) (end ∷ []) bytes.now) }
+    ensures bound { IfSome result (λ r. r.0 < 1000000000000000000) }
+{
+    let (count, rest) = take_count(bytes, 18)?;
+    Some(count).zip(take_byte(rest, end))
+}
+
 /// A number of at most `digits` digits, of which there are at most 18, with a minus where it is below nought.
 #[tactic(auto, unfolding(crate::specs::inside::Forms::signed_at))]
 pub(crate) fn take_signed(bytes: &[u8], digits: usize) -> Option<(i64, &[u8])>
@@ -93,6 +102,15 @@ pub(crate) fn take_signed(bytes: &[u8], digits: usize) -> Option<(i64, &[u8])>
     }
     let (size, rest) = take_count(bytes, digits)?;
     Some((size as i64, rest))
+}
+
+/// The same, and this byte behind it.
+pub(crate) fn take_signed_to(bytes: &[u8], digits: usize, end: u8) -> Option<(i64, &[u8])>
+    requires { digits ≤ 18 }
+    ensures { Gives (λ r. (r.0, r.1.now)) result (ended (signed_at digits) (end ∷ []) bytes.now) }
+{
+    let (number, rest) = take_signed(bytes, digits)?;
+    Some(number).zip(take_byte(rest, end))
 }
 
 // Exactly six digits.
@@ -146,4 +164,12 @@ pub(crate) fn take_ordinal(bytes: &[u8]) -> Option<(u64, &[u8])>
         return None;
     }
     Some((number - 1, rest))
+}
+
+/// The same, and this byte behind it.
+pub(crate) fn take_ordinal_to(bytes: &[u8], end: u8) -> Option<(u64, &[u8])>
+    ensures { Gives (λ r. (r.0, r.1.now)) result (ended ordinal_at (end ∷ []) bytes.now) }
+{
+    let (number, rest) = take_ordinal(bytes)?;
+    Some(number).zip(take_byte(rest, end))
 }

@@ -1,15 +1,15 @@
 //! The line of a certificate's size.
 
-ghost use Rattle.std.specs.Prelude.{◌≡◌, IfSome};
+ghost use Rattle.std.specs.Prelude.{◌≡◌, false, true, IfSome, MatchOption};
 ghost use Rattle.cert_text.specs.Grammar.{AreSizes};
 ghost use Rattle.cert_text.specs.inside.Forms.{Gives};
-ghost use Rattle.cert_text.specs.inside.LineForms.{size_at};
+ghost use Rattle.cert_text.specs.inside.LineForms.{size_at, sizes_of, are_sizes};
 ghost use Rattle.cert_text.specs.inside.ReadViews.{sizes};
 
-use super::numbers::{take_byte, take_count, take_text};
+use super::numbers::{take_count_to, take_text};
 
 /// The numbers of periods, thermal units, renewable units and tables.
-#[derive(Clone, Copy, Debug)]
+#[derive(Clone, Copy)]
 pub(crate) struct Size {
     pub(crate) periods: u32,
     pub(crate) thermal: u32,
@@ -23,21 +23,12 @@ const MAX_UNITS: u64 = 4096;
 
 const MAX_TABLES: u64 = 4_294_967_295;
 
-/// The line of the size.
-#[tactic(auto, unfolding(crate::specs::inside::LineForms::size_at))]
-pub(crate) fn take_size(bytes: &[u8]) -> Option<(Size, &[u8])>
-    ensures value { Gives (λ r. (sizes r.0, r.1.now)) result (size_at bytes.now) }
-    ensures lawful { IfSome result (λ r. AreSizes (sizes r.0)) }
+// The size of these numbers, where each is one that a certificate may have.
+fn size_of(periods: u64, thermal: u64, renewable: u64, tables: u64) -> Option<Size>
+    ensures value { MatchOption result (are_sizes (sizes_of (periods, (thermal, (renewable, tables)))) ≡ false)
+        (λ size. (are_sizes (sizes size) ≡ true) × (sizes size ≡ sizes_of (periods, (thermal, (renewable, tables))))) }
+    ensures lawful { IfSome result (λ size. AreSizes (sizes size)) }
 {
-    let rest = take_text(bytes, b"size ")?;
-    let (periods, rest) = take_count(rest, 18)?;
-    let rest = take_byte(rest, b' ')?;
-    let (thermal, rest) = take_count(rest, 18)?;
-    let rest = take_byte(rest, b' ')?;
-    let (renewable, rest) = take_count(rest, 18)?;
-    let rest = take_byte(rest, b' ')?;
-    let (tables, rest) = take_count(rest, 18)?;
-    let rest = take_byte(rest, b'\n')?;
     let lawful = 1 <= periods
         && periods <= MAX_PERIODS
         && thermal <= MAX_UNITS
@@ -46,11 +37,25 @@ pub(crate) fn take_size(bytes: &[u8]) -> Option<(Size, &[u8])>
     if !lawful {
         return None;
     }
-    let size = Size {
+    Some(Size {
         periods: periods as u32,
         thermal: thermal as u32,
         renewable: renewable as u32,
         tables: tables as u32,
-    };
+    })
+}
+
+/// The line of the size.
+#[tactic(auto, unfolding(crate::specs::inside::LineForms::size_at))]
+pub(crate) fn take_size(bytes: &[u8]) -> Option<(Size, &[u8])>
+    ensures value { Gives (λ r. (sizes r.0, r.1.now)) result (size_at bytes.now) }
+    ensures lawful { IfSome result (λ r. AreSizes (sizes r.0)) }
+{
+    let rest = take_text(bytes, b"size ")?;
+    let (periods, rest) = take_count_to(rest, b' ')?;
+    let (thermal, rest) = take_count_to(rest, b' ')?;
+    let (renewable, rest) = take_count_to(rest, b' ')?;
+    let (tables, rest) = take_count_to(rest, b'\n')?;
+    let size = size_of(periods, thermal, renewable, tables)?;
     Some((size, rest))
 }

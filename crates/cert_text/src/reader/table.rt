@@ -6,7 +6,7 @@ ghost use Rattle.cert_text.specs.Grammar.{AreSizes};
 ghost use Rattle.cert_text.specs.inside.Parts.{GivesPart, ramp_rows_part, ramps_part, numbers_part, table_of, table_part, repeated};
 ghost use Rattle.cert_text.specs.inside.ReadViews.{sizes};
 
-use super::lines::{take_ramp, take_ramp_count, take_scale};
+use super::lines::{take_count_line, take_ramp};
 use super::sizes::Size;
 use super::stop::Stop;
 use super::words::{Price, take_row};
@@ -46,7 +46,7 @@ fn take_ramp_rows<'a>(
 }
 
 // The rows of ramp multipliers with their count, in place of what the list had.
-#[tactic(auto, unfolding(crate::specs::inside::Parts::ramps_part))]
+#[tactic(auto, unfolding(crate::specs::inside::Parts::ramps_part, crate::specs::inside::LineForms::ramp_count_at))]
 fn take_ramps<'a>(
     size: &Size,
     bytes: &'a [u8],
@@ -54,12 +54,12 @@ fn take_ramps<'a>(
 ) -> Result<&'a [u8], Stop<'a>>
     ensures { GivesPart (λ rest. (rows.new.items, rest.now)) result (ramps_part (sizes size.now) bytes.now) }
 {
-    let (count, rest) = take_ramp_count(bytes).ok_or(Stop::At(bytes))?;
+    let (count, rest) = take_count_line(bytes, b"ramps ").ok_or(Stop::At(bytes))?;
     take_ramp_rows(size, count, rest, rows)
 }
 
 // The numbers of a table: its scale, and its lists in place of what was there.
-#[tactic(auto, unfolding(crate::specs::inside::Parts::numbers_part))]
+#[tactic(auto, unfolding(crate::specs::inside::Parts::numbers_part, crate::specs::inside::LineForms::scale_at))]
 fn take_numbers<'a>(
     size: &Size,
     bytes: &'a [u8],
@@ -71,7 +71,7 @@ fn take_numbers<'a>(
         (numbers_part (sizes size.now) bytes.now) }
     ensures bound { IfOk result (λ r. r.0 < 1000000000000000000) }
 {
-    let (k, rest) = take_scale(bytes).ok_or(Stop::At(bytes))?;
+    let (k, rest) = take_count_line(bytes, b"table ").ok_or(Stop::At(bytes))?;
     let rest = take_row(b"pi", &Price, size.periods, rest, pi)?;
     let rest = take_row(b"mu", &Price, size.periods, rest, mu)?;
     let rest = take_ramps(size, rest, ramps)?;

@@ -24,8 +24,7 @@ fn take_heading(bytes: &[u8]) -> Result<(Size, &[u8]), Stop<'_>>
     ensures lawful { IfOk result (λ r. AreSizes (sizes r.0)) }
 {
     let rest = take_text(bytes, b"uc-certificate 1\n").ok_or(Stop::At(bytes))?;
-    let (size, rest) = take_size(rest).ok_or(Stop::At(rest))?;
-    Ok((size, rest))
+    take_size(rest).ok_or(Stop::At(rest))
 }
 
 /// A certificate at the front of bytes.

@@ -2,13 +2,13 @@
 
 ghost use Rattle.std.specs.Prelude.{◌≡◌, ◌+◌, ◌<◌, ◌^◌, map, max, OnOk};
 ghost use Rattle.decimal_json.specs.View.{view, pair_view};
-ghost use Rattle.instance.specs.FirstFault.{outputs_at, ramps_at, times_at, initial_at, thermal_at};
-ghost use Rattle.instance.specs.Rounded.{rounded_outputs, rounded_ramps, rounded_times, rounded_initial, rounded_thermal};
+ghost use Rattle.instance.specs.FirstFault.{power_field, time_field, outputs_at, ramps_at, times_at, initial_at, thermal_at};
+ghost use Rattle.instance.specs.Rounded.{rounded_field, rounded_outputs, rounded_ramps, rounded_times, rounded_initial, rounded_thermal};
 ghost use Rattle.instance.specs.Answer.{Gives};
 ghost use Rattle.instance.specs.inside.Parts.{Counts, THERMAL_NUMBERS};
 
 use crate::fault::{Place, PlacedFault};
-use crate::placed::{PlacedValue, field};
+use crate::placed::{self, PlacedValue};
 use crate::reader::Reader;
 use decimal_json::{Json, Pair};
 use std::alloc::Global;
@@ -89,15 +89,35 @@ impl Reader {
         })
     }
 
+    /// The power of a field, no less than another one.
+    #[tactic(auto, unfolding(crate::specs::Rounded::rounded_field))]
+    fn power_in(&mut self, members: &[Pair], field: Field, least: i64) -> Result<i64, PlacedFault>
+        requires { self.old.rounded + 1 < 2 ^ 64 }
+        ensures read { Gives (λ z. z) result (power_field self.old.exact field least (map pair_view members.now)) }
+        ensures counted { OnOk result (Counts self.old self.new (rounded_field field (map pair_view members.now)) 1) }
+    {
+        self.power_from(placed::field(members, field)?, least)
+    }
+
+    /// The time of a field.
+    #[tactic(auto, unfolding(crate::specs::Rounded::rounded_field))]
+    fn time_in(&mut self, members: &[Pair], field: Field) -> Result<u32, PlacedFault>
+        requires { self.old.rounded + 1 < 2 ^ 64 }
+        ensures read { Gives (λ h. h) result (time_field self.old.exact field (map pair_view members.now)) }
+        ensures counted { OnOk result (Counts self.old self.new (rounded_field field (map pair_view members.now)) 1) }
+    {
+        self.time(placed::field(members, field)?)
+    }
+
     #[tactic(auto, unfolding(crate::specs::FirstFault::outputs_at, crate::specs::Rounded::rounded_outputs, crate::specs::Rounded::rounded_field))]
     fn outputs(&mut self, members: &[Pair]) -> Result<Outputs, PlacedFault>
         requires { self.old.rounded + 3 < 2 ^ 64 }
         ensures read { Gives (λ x. x) result (outputs_at self.old.exact (map pair_view members.now)) }
         ensures counted { OnOk result (Counts self.old self.new (rounded_outputs (map pair_view members.now)) 3) }
     {
-        let must_run = self.flag(field(members, Field::MustRun)?)?;
-        let pmin = self.power_from(field(members, Field::PowerOutputMinimum)?, 0)?;
-        let pmax = self.power_from(field(members, Field::PowerOutputMaximum)?, pmin)?;
+        let must_run = self.flag(placed::field(members, Field::MustRun)?)?;
+        let pmin = self.power_in(members, Field::PowerOutputMinimum, 0)?;
+        let pmax = self.power_in(members, Field::PowerOutputMaximum, pmin)?;
         Ok(Outputs {
             must_run,
             pmin,
@@ -105,27 +125,27 @@ impl Reader {
         })
     }
 
-    #[tactic(auto, unfolding(crate::specs::FirstFault::ramps_at, crate::specs::Rounded::rounded_ramps, crate::specs::Rounded::rounded_field))]
+    #[tactic(auto, unfolding(crate::specs::FirstFault::ramps_at, crate::specs::Rounded::rounded_ramps))]
     fn ramps(&mut self, members: &[Pair]) -> Result<Ramps, PlacedFault>
         requires { self.old.rounded + 4 < 2 ^ 64 }
         ensures read { Gives (λ x. x) result (ramps_at self.old.exact (map pair_view members.now)) }
         ensures counted { OnOk result (Counts self.old self.new (rounded_ramps (map pair_view members.now)) 4) }
     {
-        let ru = self.power_from(field(members, Field::RampUpLimit)?, 0)?;
-        let rd = self.power_from(field(members, Field::RampDownLimit)?, 0)?;
-        let su = self.power_from(field(members, Field::RampStartupLimit)?, 0)?;
-        let sd = self.power_from(field(members, Field::RampShutdownLimit)?, 0)?;
+        let ru = self.power_in(members, Field::RampUpLimit, 0)?;
+        let rd = self.power_in(members, Field::RampDownLimit, 0)?;
+        let su = self.power_in(members, Field::RampStartupLimit, 0)?;
+        let sd = self.power_in(members, Field::RampShutdownLimit, 0)?;
         Ok(Ramps { ru, rd, su, sd })
     }
 
-    #[tactic(auto, unfolding(crate::specs::FirstFault::times_at, crate::specs::Rounded::rounded_times, crate::specs::Rounded::rounded_field))]
+    #[tactic(auto, unfolding(crate::specs::FirstFault::times_at, crate::specs::Rounded::rounded_times))]
     fn times(&mut self, members: &[Pair]) -> Result<Times, PlacedFault>
         requires { self.old.rounded + 2 < 2 ^ 64 }
         ensures read { Gives (λ x. x) result (times_at self.old.exact (map pair_view members.now)) }
         ensures counted { OnOk result (Counts self.old self.new (rounded_times (map pair_view members.now)) 2) }
     {
-        let up = self.time(field(members, Field::TimeUpMinimum)?)?;
-        let down = self.time(field(members, Field::TimeDownMinimum)?)?;
+        let up = self.time_in(members, Field::TimeUpMinimum)?;
+        let down = self.time_in(members, Field::TimeDownMinimum)?;
         Ok(Times {
             up: up.max(1),
             down: down.max(1),
@@ -138,10 +158,10 @@ impl Reader {
         ensures read { Gives (λ x. x) result (initial_at self.old.exact (map pair_view members.now)) }
         ensures counted { OnOk result (Counts self.old self.new (rounded_initial (map pair_view members.now)) 4) }
     {
-        let output = self.amount(field(members, Field::PowerOutputT0)?, MAX_POWER)?;
-        let on = self.flag(field(members, Field::UnitOnT0)?)?;
-        let up = self.time(field(members, Field::TimeUpT0)?)?;
-        let down = self.time(field(members, Field::TimeDownT0)?)?;
+        let output = self.amount(placed::field(members, Field::PowerOutputT0)?, MAX_POWER)?;
+        let on = self.flag(placed::field(members, Field::UnitOnT0)?)?;
+        let up = self.time_in(members, Field::TimeUpT0)?;
+        let down = self.time_in(members, Field::TimeDownT0)?;
         Ok(Initial {
             output,
             on,

@@ -1,14 +1,14 @@
-use Rattle.std.proofs.Common.{◌+◌, ◌<◌, ◌≤◌, length, map, sym, ap, subst, ◌∙◌, arith, Ok}
+use Rattle.std.proofs.Common.{◌+◌, ◌<◌, ◌≤◌, [], ◌∷◌, ◌++◌, length, map, sym, ap, subst, ◌∙◌, arith, rules, Ok}
 use Rattle.std.specs.String.{string_bytes}
 use Rattle.decimal_json.specs.Value.{array, object, items_of, members_of}
 use Rattle.decimal_json.specs.Open.{Member}
 use Rattle.decimal_json.specs.inside.Scan.{first_item, first_key}
-use Rattle.decimal_json.specs.inside.Answer.{knows, IsBehind, place_of, BreaksValue, BreaksInside, BreaksMember, ReadsMember, AddsKey, ReadsInside, ReadsValue}
+use Rattle.decimal_json.specs.inside.Answer.{knows, IsBehind, place_of, BreaksValue, BreaksInside, ReadsInside, ReadsValue}
 use Rattle.decimal_json.specs.View.{view, pair_view}
 use Rattle.decimal_json.proofs.Exits.{passed_on}
 use Rattle.decimal_json.proofs.Views.{view-array, view-object, view-pair, map-push}
 use Rattle.decimal_json.proofs.Keys.{knows_nothing}
-use Rattle.decimal_json.proofs.Values.{HasItems, HasMembers, array_cut, array_empty, items_begin, item_breaks, array_breaks, array_closes, items_go_on, object_cut, object_empty, members_begin, member_breaks, member_read, no_member_key, no_member_value, object_breaks, object_closes, members_go_on, value_cut, too_deep, inside_read, inside_breaks, open_array, open_object}
+use Rattle.decimal_json.proofs.Values.{HasItems, HasMembers, array_cut, array_empty, items_begin, item_breaks, array_breaks, array_closes, items_go_on, object_cut, object_empty, members_begin, member_breaks, member_read, no_member_value, object_breaks, object_closes, members_go_on, value_cut, too_deep, inside_read, inside_breaks, open_array, open_object}
 use Rattle.decimal_json.proofs.value.+value.Goals as goal
 
 pub array-returns-in_err-at-clause-fault : goal.array-returns-in_err-at-clause-fault
@@ -53,49 +53,58 @@ array-loop-items-preserved t c =
     (let within = subst (λ p. (c.in_ok-item.end < place_of p) × (place_of p ≤ length c.args.source.now)) c.in-Comma.is c.in_ok-next.ensures.within in
     omega (arith, c.loop-items.invariant.forward, c.in_ok-item.ensures.within.0, within.0)))
 
-pub object-returns-in_err-at-clause-fault : goal.object-returns-in_err-at-clause-fault
-object-returns-in_err-at-clause-fault t c =
+pub members-returns-in_err-at-clause-fault : goal.members-returns-in_err-at-clause-fault
+members-returns-in_err-at-clause-fault t c =
     passed_on c.from_residual.result c.in_err-at.field-0.0 (BreaksInside c.args.source.now c.args.start first_key c.args.room) c.from_residual.ensures.1
     (object_cut c.args.source.now c.args.start c.args.room c.in_err-at.field-0.0 c.in_err-at.ensures.fault)
 
-pub object-returns-then-first-eq125-clause-read : goal.object-returns-then-first-eq125-clause-read
-object-returns-then-first-eq125-clause-read t c =
-    subst (λ ms. ReadsInside c.args.source.now c.args.start first_key (c.in_ok-at.at + 1) c.args.room (object (members_of ms))) (sym (ap (λ xs. map pair_view xs) c.new-pairs.ensures.items))
+pub members-returns-then-first-eq125-clause-read : goal.members-returns-then-first-eq125-clause-read
+members-returns-then-first-eq125-clause-read t c =
+    subst (λ ms. ReadsInside c.args.source.now c.args.start first_key (c.in_ok-at.at + 1) c.args.room (object (members_of ms))) (sym (ap (λ xs. map pair_view xs) c.requires.1.1.1.0))
     (object_empty c.args.source.now c.args.start c.in_ok-at.at c.in_ok-at.first c.args.room c.in_ok-at.ensures.found c.if-first-eq125.true)
 
-pub object-loop-places-init : goal.object-loop-places-init
-object-loop-places-init t c =
-    subst (λ ms. HasMembers c.args.source.now c.args.start c.in_ok-at.at c.args.room ms (knows c.new-places.result)) (sym (ap (λ xs. map pair_view xs) c.new-pairs.ensures.items))
-    (members_begin c.args.source.now c.args.start c.in_ok-at.at c.in_ok-at.first c.args.room (knows c.new-places.result) c.in_ok-at.ensures.found c.if-first-eq125.false
-    c.in_ok-at.ensures.within.0 (knows_nothing c.new-places.result c.new-places.ensures.empty))
+pub members-loop-key-init : goal.members-loop-key-init
+members-loop-key-init t c =
+    subst (λ ms. HasMembers c.args.source.now c.args.start c.in_ok-at.at c.args.room ms (knows c.args.places.now)) (sym (ap (λ xs. map pair_view xs) c.requires.1.1.1.0))
+    (members_begin c.args.source.now c.args.start c.in_ok-at.at c.in_ok-at.first c.args.room (knows c.args.places.now) c.in_ok-at.ensures.found c.if-first-eq125.false
+    c.in_ok-at.ensures.within.0 c.requires.1.1.1.1)
 
-pub object-returns-in_err-pair-clause-fault : goal.object-returns-in_err-pair-clause-fault
-object-returns-in_err-pair-clause-fault t c =
-    passed_on c.from_residual-in_err-pair.result c.in_err-pair.field-0.0 (BreaksInside c.args.source.now c.args.start first_key c.args.room) c.from_residual-in_err-pair.ensures.1
-    (member_breaks c.args.source.now c.args.start c.loop-places.at c.args.room (map pair_view c.loop-places.pairs.items) (knows c.loop-places.places) c.in_err-pair.field-0.0
-    c.loop-places.invariant c.in_err-pair.ensures.fault)
+pub members-returns-in_err-key-clause-fault : goal.members-returns-in_err-key-clause-fault
+members-returns-in_err-key-clause-fault t c =
+    passed_on c.from_residual-in_err-key.result c.in_err-key.field-0.0 (BreaksInside c.args.source.now c.args.start first_key c.args.room) c.from_residual-in_err-key.ensures.1
+    (member_breaks c.args.source.now c.args.start c.loop-key.at c.args.room (map pair_view c.loop-key.pairs.items) (knows c.loop-key.places) c.in_err-key.field-0.0 c.loop-key.invariant
+    (λ outer ms keys fits. c.in_err-key.ensures.fault outer ms keys))
 
-pub object-returns-in_err-next-clause-fault : goal.object-returns-in_err-next-clause-fault
-object-returns-in_err-next-clause-fault t c =
+pub members-returns-in_err-value-clause-fault : goal.members-returns-in_err-value-clause-fault
+members-returns-in_err-value-clause-fault t c =
+    passed_on c.from_residual-in_err-value.result c.in_err-value.field-0.0 (BreaksInside c.args.source.now c.args.start first_key c.args.room) c.from_residual-in_err-value.ensures.1
+    (member_breaks c.args.source.now c.args.start c.loop-key.at c.args.room (map pair_view c.loop-key.pairs.items) (knows c.loop-key.places) c.in_err-value.field-0.0 c.loop-key.invariant
+    (no_member_value c.args.source.now c.loop-key.at c.in_ok-key.colon c.args.room (knows c.loop-key.places) (string_bytes c.in_ok-key.key) c.in_err-value.field-0.0
+    c.in_ok-key.ensures.read c.in_err-value.ensures.fault))
+
+pub members-returns-in_err-next-clause-fault : goal.members-returns-in_err-next-clause-fault
+members-returns-in_err-next-clause-fault t c =
     passed_on c.from_residual-in_err-next.result c.in_err-next.field-0.0 (BreaksInside c.args.source.now c.args.start first_key c.args.room) c.from_residual-in_err-next.ensures.1
-    (object_breaks c.args.source.now c.args.start c.loop-places.at c.in_ok-pair.end c.args.room (map pair_view c.loop-places.pairs.items) (knows c.loop-places.places) (pair_view c.in_ok-pair.pair).0 (pair_view c.in_ok-pair.pair).1 c.in_err-next.field-0.0
-    c.loop-places.invariant c.in_ok-pair.ensures.read c.in_err-next.ensures.stands)
+    (object_breaks c.args.source.now c.args.start c.loop-key.at c.in_ok-value.end c.args.room (map pair_view c.loop-key.pairs.items) (knows c.loop-key.places) (string_bytes c.in_ok-key.key) (view c.in_ok-value.value) c.in_err-next.field-0.0
+    c.loop-key.invariant (member_read c.args.source.now c.loop-key.at c.in_ok-key.colon c.in_ok-value.end c.args.room (knows c.loop-key.places) (string_bytes c.in_ok-key.key) (view c.in_ok-value.value) c.in_ok-key.ensures.read c.in_ok-value.ensures.read) c.in_err-next.ensures.stands)
 
-pub object-returns-in-Bracket-clause-read : goal.object-returns-in-Bracket-clause-read
-object-returns-in-Bracket-clause-read t c =
+pub members-returns-in-Bracket-clause-read : goal.members-returns-in-Bracket-clause-read
+members-returns-in-Bracket-clause-read t c =
     subst (λ ms. ReadsInside c.args.source.now c.args.start first_key c.in-Bracket.next c.args.room (object (members_of ms)))
-    (sym (ap (λ xs. map pair_view xs) c.in_ok-push.ensures.items ∙ map-push pair_view c.loop-places.pairs.items c.in_ok-pair.pair))
-    (object_closes c.args.source.now c.args.start c.loop-places.at c.in_ok-pair.end c.in-Bracket.next c.args.room (map pair_view c.loop-places.pairs.items) (knows c.loop-places.places) (pair_view c.in_ok-pair.pair).0 (pair_view c.in_ok-pair.pair).1
-    c.loop-places.invariant c.in_ok-pair.ensures.read (subst (λ p. IsBehind c.args.source.now c.in_ok-pair.end 125 (Ok p)) c.in-Bracket.is c.in_ok-next.ensures.stands))
+    (sym (ap (λ xs. map pair_view xs) c.in_ok-push.ensures.items ∙ map-push pair_view c.loop-key.pairs.items _
+    ∙ ap (λ (m : Member). map pair_view c.loop-key.pairs.items ++ m ∷ []) (view-pair c.in_ok-key.key c.in_ok-value.value)))
+    (object_closes c.args.source.now c.args.start c.loop-key.at c.in_ok-value.end c.in-Bracket.next c.args.room (map pair_view c.loop-key.pairs.items) (knows c.loop-key.places) (string_bytes c.in_ok-key.key) (view c.in_ok-value.value)
+    c.loop-key.invariant (member_read c.args.source.now c.loop-key.at c.in_ok-key.colon c.in_ok-value.end c.args.room (knows c.loop-key.places) (string_bytes c.in_ok-key.key) (view c.in_ok-value.value) c.in_ok-key.ensures.read c.in_ok-value.ensures.read) (subst (λ p. IsBehind c.args.source.now c.in_ok-value.end 125 (Ok p)) c.in-Bracket.is c.in_ok-next.ensures.stands))
 
-pub object-loop-places-preserved : goal.object-loop-places-preserved
-object-loop-places-preserved t c =
-    subst (λ ms. HasMembers c.args.source.now c.args.start c.in-Comma.next c.args.room ms (knows c.member.new.places))
-    (sym (ap (λ xs. map pair_view xs) c.in_ok-push.ensures.items ∙ map-push pair_view c.loop-places.pairs.items c.in_ok-pair.pair))
-    (members_go_on c.args.source.now c.args.start c.loop-places.at c.in_ok-pair.end c.in-Comma.next c.args.room (map pair_view c.loop-places.pairs.items) (knows c.loop-places.places) (knows c.member.new.places) (pair_view c.in_ok-pair.pair).0 (pair_view c.in_ok-pair.pair).1
-    c.loop-places.invariant c.in_ok-pair.ensures.read c.in_ok-pair.ensures.known (subst (λ p. IsBehind c.args.source.now c.in_ok-pair.end 125 (Ok p)) c.in-Comma.is c.in_ok-next.ensures.stands)
-    (let within = subst (λ p. (c.in_ok-pair.end < place_of p) × (place_of p ≤ length c.args.source.now)) c.in-Comma.is c.in_ok-next.ensures.within in
-    omega (arith, c.loop-places.invariant.forward, c.in_ok-pair.ensures.within.0, within.0)))
+pub members-loop-key-preserved : goal.members-loop-key-preserved
+members-loop-key-preserved t c =
+    subst (λ ms. HasMembers c.args.source.now c.args.start c.in-Comma.next c.args.room ms (knows c.key.new.places))
+    (sym (ap (λ xs. map pair_view xs) c.in_ok-push.ensures.items ∙ map-push pair_view c.loop-key.pairs.items _
+    ∙ ap (λ (m : Member). map pair_view c.loop-key.pairs.items ++ m ∷ []) (view-pair c.in_ok-key.key c.in_ok-value.value)))
+    (members_go_on c.args.source.now c.args.start c.loop-key.at c.in_ok-value.end c.in-Comma.next c.args.room (map pair_view c.loop-key.pairs.items) (knows c.loop-key.places) (knows c.key.new.places) (string_bytes c.in_ok-key.key) (view c.in_ok-value.value)
+    c.loop-key.invariant (member_read c.args.source.now c.loop-key.at c.in_ok-key.colon c.in_ok-value.end c.args.room (knows c.loop-key.places) (string_bytes c.in_ok-key.key) (view c.in_ok-value.value) c.in_ok-key.ensures.read c.in_ok-value.ensures.read) c.in_ok-key.ensures.known (subst (λ p. IsBehind c.args.source.now c.in_ok-value.end 125 (Ok p)) c.in-Comma.is c.in_ok-next.ensures.stands)
+    (let within = subst (λ p. (c.in_ok-value.end < place_of p) × (place_of p ≤ length c.args.source.now)) c.in-Comma.is c.in_ok-next.ensures.within in
+    omega (arith, c.loop-key.invariant.forward, c.in_ok-key.ensures.within.0, c.in_ok-value.ensures.within.0, within.0)))
 
 pub value-returns-in_err-at-clause-fault : goal.value-returns-in_err-at-clause-fault
 value-returns-in_err-at-clause-fault t c =
@@ -138,25 +147,5 @@ value-returns-in_ok-pairs-in-123-clause-read t c =
     (inside_read c.args.source.now c.args.start c.in_ok-at.at c.in_ok-pairs-in-123.end c.args.room c.in_ok-less-in-123.less c.in_ok-at.first 123 first_key _ open_object
     c.in_ok-at.ensures.found c.in-123.is c.in_ok-less-in-123.ensures.less c.in_ok-pairs-in-123.ensures.read)
 
-pub member-returns-in_err-key-clause-fault : goal.member-returns-in_err-key-clause-fault
-member-returns-in_err-key-clause-fault t c =
-    passed_on c.from_residual.result c.in_err-key.field-0.0 (BreaksMember (knows c.args.places.now) c.args.source.now c.args.start c.args.room) c.from_residual.ensures.1
-    (no_member_key c.args.source.now c.args.start c.args.room (knows c.args.places.now) c.in_err-key.field-0.0 c.in_err-key.ensures.fault)
-
-pub member-returns-in_err-value-clause-fault : goal.member-returns-in_err-value-clause-fault
-member-returns-in_err-value-clause-fault t c =
-    passed_on c.from_residual-in_err-value.result c.in_err-value.field-0.0 (BreaksMember (knows c.args.places.now) c.args.source.now c.args.start c.args.room) c.from_residual-in_err-value.ensures.1
-    (no_member_value c.args.source.now c.args.start c.in_ok-key.colon c.args.room (knows c.args.places.now) (string_bytes c.in_ok-key.key) c.in_err-value.field-0.0
-    c.in_ok-key.ensures.read c.in_err-value.ensures.fault)
-
-pub member-returns-clause-read : goal.member-returns-clause-read
-member-returns-clause-read t c =
-    subst (λ (m : Member). ReadsMember (knows c.args.places.now) c.args.source.now c.args.start c.in_ok-value.end c.args.room m.0 m.1)
-    (sym (view-pair c.in_ok-key.key c.in_ok-value.value))
-    (member_read c.args.source.now c.args.start c.in_ok-key.colon c.in_ok-value.end c.args.room (knows c.args.places.now)
-    (string_bytes c.in_ok-key.key) (view c.in_ok-value.value) c.in_ok-key.ensures.read c.in_ok-value.ensures.read)
-
-pub member-returns-clause-known : goal.member-returns-clause-known
-member-returns-clause-known t c =
-    subst (λ (m : Member). AddsKey (knows c.args.places.now) (knows c.key.new.places) m.0)
-    (sym (view-pair c.in_ok-key.key c.in_ok-value.value)) c.in_ok-key.ensures.known
+pub object-members-requires : goal.object-members-requires
+object-members-requires t c = (search rules, (search rules, (c.new-pairs.ensures.items, knows_nothing c.new-places.result c.new-places.ensures.empty)))

@@ -13,8 +13,8 @@ decreases-array l = 3 * l.room + 2
 abbrev pub decreases-object : goal.decreases-object
 decreases-object l = 3 * l.room + 2
 
-abbrev pub decreases-member : goal.decreases-member
-decreases-member l = 3 * l.room + 1
+abbrev pub decreases-members : goal.decreases-members
+decreases-members l = 3 * l.room + 1
 
 abbrev pub invariant-array-loop-items : goal.invariant-array-loop-items
 invariant-array-loop-items l = HasItems l.source l.start l.at l.room (map view l.items.items)
@@ -22,8 +22,8 @@ invariant-array-loop-items l = HasItems l.source l.start l.at l.room (map view l
 abbrev pub decreases-array-loop-items : goal.decreases-array-loop-items
 decreases-array-loop-items l = length l.source - l.at
 
-abbrev pub invariant-object-loop-places : goal.invariant-object-loop-places
-invariant-object-loop-places l = HasMembers l.source l.start l.at l.room (map pair_view l.pairs.items) (knows l.places)
+abbrev pub invariant-members-loop-key : goal.invariant-members-loop-key
+invariant-members-loop-key l = HasMembers l.source l.start l.at l.room (map pair_view l.pairs.items) (knows l.places)
 
-abbrev pub decreases-object-loop-places : goal.decreases-object-loop-places
-decreases-object-loop-places l = length l.source - l.at
+abbrev pub decreases-members-loop-key : goal.decreases-members-loop-key
+decreases-members-loop-key l = length l.source - l.at
