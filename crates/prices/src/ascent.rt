@@ -491,8 +491,8 @@ fn shorten(center: &mut Center, gain: i128, predicted: i128) {
 // The prices after the moves.
 fn moved(alloc: Global, prices: &[i64], moves: &[i64]) -> Result<Vec<i64>, NoMemory> {
     let mut moved = Vec::new(alloc);
-    for (price, by) in prices.iter().zip(moves) {
-        moved.push(price.saturating_add(*by))?;
+    for i in 0..prices.len().min(moves.len()) {
+        moved.push(prices[i].saturating_add(moves[i]))?;
     }
     Ok(moved)
 }

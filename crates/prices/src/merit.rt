@@ -1,5 +1,6 @@
 //! Rates of cost, and the prices in order of merit.
 
+use bundle::at;
 use opening_tables::{SCALE, kept};
 use std::alloc::Global;
 use uc_model::{Instance, NoMemory, Thermal, scaled};
@@ -16,18 +17,11 @@ struct FullLoad {
 pub(crate) fn merit_prices(alloc: Global, instance: &Instance) -> Result<Vec<i64>, NoMemory> {
     let loads = full_loads(alloc, instance)?;
     let mut prices = Vec::new(alloc);
-    for (t, (demand, reserve)) in instance
-        .demand
-        .as_slice()
-        .iter()
-        .zip(instance.reserves.as_slice())
-        .enumerate()
-    {
-        let mut needed = demand.saturating_add(*reserve);
+    let (demand, reserves) = (instance.demand.as_slice(), instance.reserves.as_slice());
+    for t in 0..demand.len().min(reserves.len()) {
+        let mut needed = demand[t].saturating_add(reserves[t]);
         for unit in instance.renewable.as_slice() {
-            if let Some(most) = unit.maximum.as_slice().get(t) {
-                needed = needed.saturating_sub(*most);
-            }
+            needed = needed.saturating_sub(at(unit.maximum.as_slice(), t));
         }
         prices.push(merit_price(&loads, needed))?;
     }

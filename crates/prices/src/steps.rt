@@ -64,7 +64,12 @@ pub fn next_ascent(
 fn evaluations_of(instance: &Instance, is_root: bool) -> u32 {
     let units = instance.thermal.as_slice();
     let cells = units.len().saturating_mul(instance.periods as usize);
-    let ramped = units.iter().filter(|unit| !is_agile(unit)).count();
+    let mut ramped: usize = 0;
+    for unit in units {
+        if !is_agile(unit) {
+            ramped = ramped.saturating_add(1);
+        }
+    }
     if cells >= MANY_CELLS {
         MANY_EVALUATIONS
     } else if cells <= FEW_CELLS && ramped == 0 {

@@ -33,18 +33,12 @@ pub(crate) fn times(first: i64, second: i64) -> i128 {
 
 /// The entry of a list, and what can't be past its end.
 pub(crate) fn amount_at(amounts: &[i64], i: usize) -> i64 {
-    match amounts.get(i) {
-        Some(amount) => *amount,
-        None => NEVER,
-    }
+    if i < amounts.len() { amounts[i] } else { NEVER }
 }
 
 /// The entry of a list, and 0 past its end.
 pub(crate) fn number_at(numbers: &[i64], i: usize) -> i64 {
-    match numbers.get(i) {
-        Some(number) => *number,
-        None => 0,
-    }
+    if i < numbers.len() { numbers[i] } else { 0 }
 }
 
 /// The entries of a list from a place on. An iterator would step there one by one.
@@ -58,7 +52,7 @@ pub(crate) fn behind(numbers: &[i64], first: usize) -> &[i64] {
 
 /// Sets an entry of a list, if it has it.
 pub(crate) fn put<T: Copy + Drop>(entries: &mut [T], i: usize, entry: T) {
-    if let Some(own) = entries.get_mut(i) {
-        *own = entry;
+    if i < entries.len() {
+        entries[i] = entry;
     }
 }

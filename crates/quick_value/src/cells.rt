@@ -1,6 +1,6 @@
 //! What the cells of a unit cost where it is on.
 
-use crate::amounts::{NEVER, amount_of, put, times};
+use crate::amounts::{NEVER, amount_of, times};
 use crate::prices::Price;
 use crate::unit::{Cap, Corner, Unit};
 
@@ -25,8 +25,8 @@ pub(crate) const IDLE: Cell = Cell {
 
 /// Fills the cells of a unit at its prices.
 pub(crate) fn fill(cells: &mut [Cell], unit: &Unit, prices: &[Price]) {
-    for (t, price) in prices.iter().enumerate() {
-        put(cells, t, priced_cell(unit, price));
+    for t in 0..prices.len().min(cells.len()) {
+        cells[t] = priced_cell(unit, &prices[t]);
     }
 }
 

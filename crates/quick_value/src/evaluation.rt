@@ -4,7 +4,7 @@ use crate::amounts::{behind, number_at, times};
 use crate::outputs::Output;
 use crate::unit::Unit;
 use std::alloc::Global;
-use uc_model::{Instance, NoMemory};
+use uc_model::{Instance, NoMemory, Renewable};
 
 /// The value, at the scale `SCALE`; the watts that lack of what each price of the list is of, which is the slope of the value in it; and
 /// how often each unit is on in each period, unit by unit, in parts of `ON`.
@@ -31,13 +31,18 @@ const NO_RANGE: Range = Range { least: 0, most: 0 };
 pub(crate) fn renewable_ranges(alloc: Global, instance: &Instance) -> Result<Vec<Range>, NoMemory> {
     let mut ranges = vec![in alloc; NO_RANGE; instance.periods as usize]?;
     for unit in instance.renewable.as_slice() {
-        let ends = unit.minimum.as_slice().iter().zip(unit.maximum.as_slice());
-        for (range, (least, most)) in ranges.iter_mut().zip(ends) {
-            range.least = range.least.saturating_add((*least).max(0));
-            range.most = range.most.saturating_add(*most);
-        }
+        add_range(unit, &mut ranges);
     }
     Ok(ranges)
+}
+
+fn add_range(unit: &Renewable, ranges: &mut [Range]) {
+    for t in 0..ranges.len() {
+        let least = number_at(unit.minimum.as_slice(), t).max(0);
+        ranges[t].least = ranges[t].least.saturating_add(least);
+        let most = number_at(unit.maximum.as_slice(), t);
+        ranges[t].most = ranges[t].most.saturating_add(most);
+    }
 }
 
 /// What demand, reserve and renewable units lack by themselves, and their value. There is room for so many prices. The only error is
@@ -50,20 +55,10 @@ pub(crate) fn of_system(
 ) -> Result<Evaluation, NoMemory> {
     let mut lacks = Vec::new(alloc);
     lacks.reserve(prices.len())?;
-    for demand in instance.demand.as_slice() {
-        lacks.push(*demand)?;
-    }
-    for (lack, (price, range)) in lacks.iter_mut().zip(prices.iter().zip(renewables)) {
-        let free = if *price > 0 { range.most } else { range.least };
-        *lack = lack.saturating_sub(free);
-    }
-    for reserve in instance.reserves.as_slice() {
-        lacks.push(*reserve)?;
-    }
-    let mut value: i128 = 0;
-    for (lack, price) in lacks.iter().zip(prices) {
-        value = value.saturating_add(times(*lack, *price));
-    }
+    lacks.extend_from_slice(instance.demand.as_slice())?;
+    take_renewables(&mut lacks, renewables, prices);
+    lacks.extend_from_slice(instance.reserves.as_slice())?;
+    let value = value_of(&lacks, prices);
     let mut shares = Vec::new(alloc);
     let cells = instance
         .thermal
@@ -78,25 +73,44 @@ pub(crate) fn of_system(
     })
 }
 
+// Takes what renewable units give from what lacks of demand.
+fn take_renewables(lacks: &mut [i64], renewables: &[Range], prices: &[i64]) {
+    for t in 0..lacks.len().min(renewables.len()).min(prices.len()) {
+        let Range { least, most } = renewables[t];
+        lacks[t] = lacks[t].saturating_sub(if prices[t] > 0 { most } else { least });
+    }
+}
+
+// What lacks, at its prices.
+fn value_of(lacks: &[i64], prices: &[i64]) -> i128 {
+    let mut value: i128 = 0;
+    for i in 0..lacks.len().min(prices.len()) {
+        value = value.saturating_add(times(lacks[i], prices[i]));
+    }
+    value
+}
+
+// Takes what a unit gives from what lacks of demand, and then of reserve.
+fn take_outputs(lacks: &mut [i64], minimum: i64, outputs: &[Output]) {
+    for t in 0..lacks.len().min(outputs.len()) {
+        if outputs[t].on {
+            let given = minimum.saturating_add(outputs[t].power);
+            lacks[t] = lacks[t].saturating_sub(given);
+        }
+        let place = t.saturating_add(outputs.len());
+        if place < lacks.len() {
+            lacks[place] = lacks[place].saturating_sub(outputs[t].reserve);
+        }
+    }
+}
+
 impl Evaluation {
     /// Adds a unit that gives so much.
     pub(crate) fn add(&mut self, unit: &Unit, outputs: &[Output]) -> Result<(), NoMemory> {
         for output in outputs {
             self.shares.push(if output.on { ON } else { 0 })?;
         }
-        for (lack, output) in self.lacks.iter_mut().zip(outputs) {
-            if output.on {
-                *lack = lack
-                    .saturating_sub(unit.minimum)
-                    .saturating_sub(output.power);
-            }
-        }
-        let first = outputs.len();
-        if first < self.lacks.len() {
-            for (lack, output) in self.lacks[first..].iter_mut().zip(outputs) {
-                *lack = lack.saturating_sub(output.reserve);
-            }
-        }
+        take_outputs(&mut self.lacks, unit.minimum, outputs);
         Ok(())
     }
 

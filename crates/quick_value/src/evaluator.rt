@@ -85,9 +85,11 @@ impl Evaluator {
         fill_common(&mut self.common, prices);
         let mut first = self.common.len().saturating_mul(2);
         let mut sum: i128 = 0;
-        for (unit, choices) in self.units.iter().zip(&decisions.rows) {
+        let units = self.units.as_slice();
+        for g in 0..units.len().min(decisions.rows.len()) {
+            let unit = &units[g];
             let own = priced(&self.common, &mut self.own, unit, prices, first);
-            let Some(amount) = walked(&mut self.walk, unit, own, choices) else {
+            let Some(amount) = walked(&mut self.walk, unit, own, &decisions.rows[g]) else {
                 return Ok(None);
             };
             sum = sum.saturating_add(i128::from(amount));

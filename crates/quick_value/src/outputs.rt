@@ -1,6 +1,5 @@
 //! What a unit gives as it stands.
 
-use crate::amounts::put;
 use crate::cells::Cell;
 use crate::prices::Price;
 use crate::unit::{Cap, Unit};
@@ -22,9 +21,10 @@ pub(crate) const NOTHING: Output = Output {
 
 /// Fills what a unit gives in each period, as it stands at its prices.
 pub(crate) fn fill_outputs(outputs: &mut [Output], unit: &Unit, walk: &Walk, prices: &[Price]) {
-    let places = walk.stands.iter().zip(walk.cells.iter().zip(prices));
-    for (t, (stand, (cell, price))) in places.enumerate() {
-        put(outputs, t, output_of(unit, *stand, cell, price));
+    let (stands, cells) = (walk.stands.as_slice(), walk.cells.as_slice());
+    let count = stands.len().min(cells.len()).min(prices.len());
+    for t in 0..count.min(outputs.len()) {
+        outputs[t] = output_of(unit, stands[t], &cells[t], &prices[t]);
     }
 }
 

@@ -1,6 +1,6 @@
 //! The prices of one unit, period by period, from a list of prices.
 
-use crate::amounts::{behind, number_at, put};
+use crate::amounts::{number_at, put};
 
 /// In one period what a watt of output earns over the same watt held as reserve where this earns, what a watt of reserve earns, both for
 /// the unit, and what a watt of demand costs.
@@ -30,9 +30,9 @@ fn price_of(demand: i64, output: i64, reserve: i64) -> Price {
 /// The prices of a unit without prices of its ramps: in each period those of demand and of reserve in the list.
 pub(crate) fn fill_common(own: &mut [Price], prices: &[i64]) {
     let periods = own.len();
-    for (t, place) in own.iter_mut().enumerate() {
+    for t in 0..periods {
         let demand = number_at(prices, t);
-        *place = price_of(demand, demand, number_at(prices, t.saturating_add(periods)));
+        own[t] = price_of(demand, demand, number_at(prices, t.saturating_add(periods)));
     }
 }
 
@@ -67,9 +67,11 @@ pub(crate) fn fill_ramped(own: &mut [Price], prices: &[i64], first: usize) {
 
 /// Whether a unit has a price of its ramps, which begin at `first` in the list.
 pub(crate) fn has_ramp_price(prices: &[i64], first: usize, periods: usize) -> bool {
-    let count = periods.saturating_mul(2);
-    behind(prices, first)
-        .iter()
-        .take(count)
-        .any(|price| *price != 0)
+    let end = first.saturating_add(periods.saturating_mul(2));
+    for i in first..end.min(prices.len()) {
+        if prices[i] != 0 {
+            return true;
+        }
+    }
+    false
 }

@@ -32,13 +32,13 @@ impl Starts {
             always.push(cost_always(rows, unit.dt0 as usize, t))?;
         }
         let mut warm = Vec::new(alloc);
-        for (row, next) in rows.iter().zip(rows.iter().skip(1)) {
-            let least = (next.lag as usize).saturating_sub(1);
-            if row.lag < next.lag && least < periods as usize {
+        for i in 1..rows.len() {
+            let least = (rows[i].lag as usize).saturating_sub(1);
+            if rows[i - 1].lag < rows[i].lag && least < periods as usize {
                 warm.push(Warm {
                     from: least,
                     longest: least,
-                    cost: amount(row.cost),
+                    cost: amount(rows[i - 1].cost),
                 })?;
             }
         }
@@ -47,9 +47,7 @@ impl Starts {
 
     /// Makes all starts cost nothing.
     pub(crate) fn forget_costs(&mut self) {
-        for amount in self.always.iter_mut() {
-            *amount = 0;
-        }
+        self.always.fill(0);
         self.warm.clear();
     }
 }
@@ -66,10 +64,10 @@ fn cost_always(rows: &[StartRow], time_down: usize, t: usize) -> i64 {
         Some(row) => row.cost,
         None => 0,
     };
-    for (row, next) in rows.iter().zip(rows.iter().skip(1)) {
-        let lag = next.lag as usize;
+    for i in 1..rows.len() {
+        let lag = rows[i].lag as usize;
         if t < MAX_PERIODS as usize && t.saturating_add(1) < lag && !is_barred(time_down, lag, t) {
-            least = least.min(row.cost);
+            least = least.min(rows[i - 1].cost);
         }
     }
     amount(least)

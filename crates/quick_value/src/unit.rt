@@ -178,10 +178,10 @@ fn end_within(points: &[Point], most: i64) -> (i64, i64) {
         Some(point) => times(SCALE, point.cost),
         None => 0,
     };
-    for (from, to) in points.iter().zip(points.iter().skip(1)) {
-        let run = to.mw.saturating_sub(from.mw);
+    for i in 1..points.len() {
+        let run = points[i].mw.saturating_sub(points[i - 1].mw);
         let part = run.min(most.saturating_sub(power)).max(0);
-        let rise = to.cost.saturating_sub(from.cost);
+        let rise = points[i].cost.saturating_sub(points[i - 1].cost);
         cost = cost.saturating_add(rise_of(rise, run, part));
         power = power.saturating_add(part);
     }

@@ -30,13 +30,15 @@ impl Beside<'_> {
     pub fn is_below(&self, row: &[Window], most: i64) -> bool {
         let mut cost = self.least_cost(row);
         let mut before = self.unit.before;
-        for ((period, cell), window) in self.periods.iter().zip(self.cells).zip(row) {
+        let count = self.periods.len().min(self.cells.len());
+        for t in 0..count.min(row.len()) {
             if cost >= most {
-                return false;
+                break;
             }
-            let head = window.head.min(before.saturating_add(self.unit.rise));
-            cost = cost.saturating_add(self.cost_above(period, cell, window, head));
-            before = window.power;
+            let head = row[t].head.min(before.saturating_add(self.unit.rise));
+            let more = self.cost_above(&self.periods[t], &self.cells[t], &row[t], head);
+            cost = cost.saturating_add(more);
+            before = row[t].power;
         }
         cost < most
     }
@@ -54,9 +56,9 @@ impl Beside<'_> {
     // What the system would cost with the unit on in these windows and neither caps nor ramps.
     fn least_cost(&self, row: &[Window]) -> i64 {
         let mut cost: i64 = 0;
-        for (cell, window) in self.cells.iter().zip(row) {
-            let more = if window.on { cell.plain } else { 0 };
-            cost = cost.saturating_add(cell.off).saturating_add(more);
+        for t in 0..self.cells.len().min(row.len()) {
+            let more = if row[t].on { self.cells[t].plain } else { 0 };
+            cost = cost.saturating_add(self.cells[t].off).saturating_add(more);
         }
         cost
     }
@@ -65,10 +67,11 @@ impl Beside<'_> {
     pub fn is_lacking(&self, row: &[Window]) -> bool {
         let mut before = self.unit.before;
         let mut is_lacking = false;
-        for (period, window) in self.periods.iter().zip(row) {
-            let head = window.head.min(before.saturating_add(self.unit.rise));
-            is_lacking = is_lacking || period.is_lacking_with(&self.addition(window, head));
-            before = window.power;
+        for t in 0..self.periods.len().min(row.len()) {
+            let head = row[t].head.min(before.saturating_add(self.unit.rise));
+            let addition = self.addition(&row[t], head);
+            is_lacking = is_lacking || self.periods[t].is_lacking_with(&addition);
+            before = row[t].power;
         }
         is_lacking
     }

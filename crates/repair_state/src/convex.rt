@@ -1,5 +1,6 @@
 //! Convex functions of one unit's output, told by their slopes.
 
+use crate::lists::put;
 use std::alloc::Global;
 use uc_model::NoMemory;
 
@@ -108,7 +109,7 @@ impl Convex {
     /// Adds a piece, if it has a width.
     pub(crate) fn push(&mut self, width: i64, rate: i64) -> Result<(), NoMemory> {
         if width > 0 {
-            self.pieces.push(Piece { width, rate })?;
+            put(&mut self.pieces, Piece { width, rate })?;
         }
         Ok(())
     }

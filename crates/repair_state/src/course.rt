@@ -1,8 +1,9 @@
 //! The best pattern of a unit by its cells, from switch to switch.
 
 use crate::cells::Cells;
+use crate::lists::{at, stretch};
+use crate::patterns::Decided;
 use crate::unit::Unit;
-use dual_model::Fix;
 use std::alloc::Global;
 use uc_model::limits::MAX_PERIODS;
 use uc_model::{NoMemory, Pattern};
@@ -66,11 +67,16 @@ impl Way {
 }
 
 impl Course {
-    /// Memory for so many periods. The only error is `NoMemory`.
-    pub(crate) fn new(alloc: Global, periods: usize) -> Result<Course, NoMemory> {
-        Ok(Course {
-            hours: vec![in alloc; NO_HOUR; periods.saturating_add(1)]?,
-        })
+    /// Memory for no period.
+    pub(crate) fn new(alloc: Global) -> Course {
+        Course {
+            hours: Vec::new(alloc),
+        }
+    }
+
+    /// Makes it memory for so many periods. The only error is `NoMemory`.
+    pub(crate) fn stretch(&mut self, periods: usize) -> Result<(), NoMemory> {
+        stretch(&mut self.hours, periods.saturating_add(1), NO_HOUR)
     }
 
     /// The least cost of a pattern that is as `fix` decides by the cells, with starts for nothing where they are free, and this pattern;
@@ -78,31 +84,16 @@ impl Course {
     pub fn best(
         &mut self,
         unit: &Unit,
-        fix: &Fix,
+        fix: &Decided,
         cells: &[Cells],
         are_starts_free: bool,
     ) -> Option<(i64, Pattern)> {
-        let end = cells.len();
-        fill_sums(&mut self.hours, unit, fix, cells);
-        let last = hour_at(&self.hours, end);
-        set(
-            &mut self.hours,
-            end,
-            Hour {
-                run: Way { cost: 0, at: end },
-                cold: Way { cost: 0, at: end },
-                ..last
-            },
-        );
-        let mut t = end;
-        for cell in cells.iter().rev() {
-            t = t.saturating_sub(1);
-            let hour = hour_of(&self.hours, unit, fix, cell, t, end, are_starts_free);
-            set(&mut self.hours, t, hour);
-        }
-        let first = first_way(&self.hours, unit, end);
+        let hours = self.hours.as_mut_slice();
+        fill_sums(hours, unit, fix, cells);
+        fill_ways(hours, unit, fix, cells, are_starts_free);
+        let first = first_way(hours, unit, cells.len());
         if first.cost < BARRED / 2 {
-            Some((first.cost, pattern_of(&self.hours, unit, first.at, end)))
+            Some((first.cost, pattern_of(hours, unit, first.at, cells.len())))
         } else {
             None
         }
@@ -110,23 +101,42 @@ impl Course {
 }
 
 // The sums of the periods.
-fn fill_sums(hours: &mut [Hour], unit: &Unit, fix: &Fix, cells: &[Cells]) {
+fn fill_sums(hours: &mut [Hour], unit: &Unit, fix: &Decided, cells: &[Cells]) {
     let mut on: i64 = 0;
     let mut off: i64 = 0;
-    let mut t: usize = 0;
-    for hour in hours.iter_mut() {
-        hour.on_before = on;
-        hour.off_before = off;
-        if let Some(cell) = cells.get(t) {
-            on = on.wrapping_add(cost_on(&cell.plain, true, fix, t));
+    for t in 0..hours.len() {
+        hours[t].on_before = on;
+        hours[t].off_before = off;
+        if t < cells.len() {
+            on = on.wrapping_add(cost_on(&cells[t].plain, true, fix, t));
             off = off.wrapping_add(cost_off(unit, fix, t));
         }
-        t = t.saturating_add(1);
+    }
+}
+
+// The ways from the end and from each period on.
+fn fill_ways(
+    hours: &mut [Hour],
+    unit: &Unit,
+    fix: &Decided,
+    cells: &[Cells],
+    are_starts_free: bool,
+) {
+    let end = cells.len();
+    let last = Hour {
+        run: Way { cost: 0, at: end },
+        cold: Way { cost: 0, at: end },
+        ..hour_at(hours, end)
+    };
+    set(hours, end, last);
+    for t in (0..end).rev() {
+        let hour = hour_of(hours, unit, fix, &cells[t], t, end, are_starts_free);
+        set(hours, t, hour);
     }
 }
 
 // What a cell costs, if it is allowed and nothing else is decided.
-fn cost_on(cost: &i64, is_allowed: bool, fix: &Fix, t: usize) -> i64 {
+fn cost_on(cost: &i64, is_allowed: bool, fix: &Decided, t: usize) -> i64 {
     if is_allowed && !is_barred(fix, t, true) {
         (*cost).max(-MOST).min(MOST)
     } else {
@@ -135,7 +145,7 @@ fn cost_on(cost: &i64, is_allowed: bool, fix: &Fix, t: usize) -> i64 {
 }
 
 // What a period costs that is off.
-fn cost_off(unit: &Unit, fix: &Fix, t: usize) -> i64 {
+fn cost_off(unit: &Unit, fix: &Decided, t: usize) -> i64 {
     if unit.must_run || is_barred(fix, t, false) {
         BARRED
     } else {
@@ -144,20 +154,17 @@ fn cost_off(unit: &Unit, fix: &Fix, t: usize) -> i64 {
 }
 
 // Whether it is decided that the unit isn't on, or isn't off, in period t.
-fn is_barred(fix: &Fix, t: usize, on: bool) -> bool {
+fn is_barred(fix: &Decided, t: usize, on: bool) -> bool {
     t < MAX_PERIODS as usize && fix.known.is_on(t as u32) && fix.on.is_on(t as u32) != on
 }
 
 fn hour_at(hours: &[Hour], t: usize) -> Hour {
-    match hours.get(t) {
-        Some(hour) => *hour,
-        None => NO_HOUR,
-    }
+    if t < hours.len() { hours[t] } else { NO_HOUR }
 }
 
 fn set(hours: &mut [Hour], t: usize, hour: Hour) {
-    if let Some(own) = hours.get_mut(t) {
-        *own = hour;
+    if t < hours.len() {
+        hours[t] = hour;
     }
 }
 
@@ -165,7 +172,7 @@ fn set(hours: &mut [Hour], t: usize, hour: Hour) {
 fn hour_of(
     hours: &[Hour],
     unit: &Unit,
-    fix: &Fix,
+    fix: &Decided,
     cell: &Cells,
     t: usize,
     end: usize,
@@ -183,7 +190,11 @@ fn hour_of(
         });
     }
     let start = start_of(hours, unit, fix, cell, t, end);
-    let base = if are_starts_free { 0 } else { base_at(unit, t) };
+    let base = if are_starts_free {
+        0
+    } else {
+        at(&unit.bases, t)
+    };
     let off = later.off_before.wrapping_sub(own.off_before);
     let warm_up = Way {
         cost: start.cost.wrapping_add(base),
@@ -199,7 +210,7 @@ fn hour_of(
 }
 
 // The least way from a start in period t on.
-fn start_of(hours: &[Hour], unit: &Unit, fix: &Fix, cell: &Cells, t: usize, end: usize) -> Way {
+fn start_of(hours: &[Hour], unit: &Unit, fix: &Decided, cell: &Cells, t: usize, end: usize) -> Way {
     let next = t.saturating_add(1);
     let later = hour_at(hours, next);
     let cost = cost_on(&cell.start, unit.start >= 0, fix, t);
@@ -226,28 +237,27 @@ fn rest_of(hours: &[Hour], unit: &Unit, t: usize, end: usize, are_starts_free: b
         .min(end);
     let hour = hour_at(hours, from);
     let mut best = hour.cold.after(hour.off_before.wrapping_sub(before));
-    if are_starts_free {
-        return best;
-    }
-    for warm in &unit.warm {
-        let first = from.max(warm.lag.saturating_sub(1));
-        for a in first..t.saturating_add(warm.lag).min(end) {
-            if let Some(hour) = hours.get(a) {
-                let off = hour.off_before.wrapping_sub(before);
-                let cost = hour.start.cost.wrapping_add(off).wrapping_add(warm.cost);
-                best = best.lesser(Way { cost, at: a });
-            }
+    if !are_starts_free {
+        for warm in &unit.warm {
+            let first = from.max(warm.lag.saturating_sub(1));
+            let last = t.saturating_add(warm.lag).min(end);
+            best = warm_of(hours, first, last, warm.cost.wrapping_sub(before), best);
         }
     }
     best
 }
 
-// What a start in period t costs without a stop before it.
-fn base_at(unit: &Unit, t: usize) -> i64 {
-    match unit.bases.get(t) {
-        Some(base) => *base,
-        None => 0,
+// The least of a way and of those with a start in the periods from `first` up to `last`, where starts cost so much more.
+fn warm_of(hours: &[Hour], first: usize, last: usize, more: i64, way: Way) -> Way {
+    let mut best = way;
+    for a in first..last.min(hours.len()) {
+        let cost = hours[a].start.cost.wrapping_add(hours[a].off_before);
+        best = best.lesser(Way {
+            cost: cost.wrapping_add(more),
+            at: a,
+        });
     }
+    best
 }
 
 // The least way from before the first period.

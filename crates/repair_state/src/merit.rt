@@ -1,7 +1,7 @@
 //! The segments of all thermal units in order of merit, and what watts cost.
 
+use crate::lists::put;
 use crate::unit::Unit;
-use cost_curves::Curve;
 use std::alloc::Global;
 use uc_model::{NoMemory, Point};
 
@@ -61,14 +61,12 @@ pub fn rate_within(number: &i128) -> i64 {
     (*number).min(most).max(-most) as i64
 }
 
-/// The segments of a curve, in rising order, without their places.
-pub(crate) fn segments_of(alloc: Global, curve: &Curve) -> Result<Vec<Segment>, NoMemory> {
-    let mut segments = Vec::new(alloc);
-    let corners = curve.corners();
+/// Adds the segments between corners of a curve, in rising order, without their places.
+pub(crate) fn push_segments(all: &mut Vec<Segment>, corners: &[Point]) -> Result<(), NoMemory> {
     for i in 1..corners.len() {
-        segments.push(segment_between(&corners[i - 1], &corners[i]))?;
+        put(all, segment_between(&corners[i - 1], &corners[i]))?;
     }
-    Ok(segments)
+    Ok(())
 }
 
 fn segment_between(from: &Point, to: &Point) -> Segment {
@@ -82,33 +80,47 @@ fn segment_between(from: &Point, to: &Point) -> Segment {
     }
 }
 
-/// Orders the segments of the units by merit, and tells them their places.
-pub(crate) fn market_of(alloc: Global, units: &mut [Unit]) -> Result<Market, NoMemory> {
-    let entries = entries(alloc, units)?;
-    for (place, entry) in entries.iter().enumerate() {
-        set_place(units, entry, place);
+impl Market {
+    /// No segments.
+    pub(crate) fn new(alloc: Global) -> Market {
+        Market {
+            rates: Vec::new(alloc),
+            gainful: 0,
+            strides: Vec::new(alloc),
+            middle: 0,
+            scarcity: 0,
+            breach: 0,
+        }
     }
-    Ok(Market {
-        rates: rates_of(alloc, &entries)?,
-        gainful: gainful(&entries),
-        strides: strides(alloc, entries.len())?,
-        middle: middle(&entries),
-        scarcity: dearest_rate(&entries, units).saturating_mul(SCARCITY),
-        breach: dearest_run(units).min(DEAREST_BREACH),
-    })
-}
 
-fn rates_of(alloc: Global, entries: &[Entry]) -> Result<Vec<i64>, NoMemory> {
-    let mut rates = Vec::new(alloc);
-    for entry in entries {
-        rates.push(entry.rate)?;
+    /// Orders the segments of the units by merit, and tells them their places. The only error is `NoMemory`.
+    pub(crate) fn fill(&mut self, alloc: Global, units: &mut [Unit]) -> Result<(), NoMemory> {
+        let mut entries = Vec::new(alloc);
+        for unit in 0..units.len() {
+            push_entries(&mut entries, unit, &units[unit].segments)?;
+        }
+        entries.sort_by_key(|entry| entry.rate)?;
+        self.gainful = gainful(&entries);
+        self.middle = middle(&entries);
+        self.scarcity = dearest_rate(&entries, units).saturating_mul(SCARCITY);
+        self.breach = dearest_run(units).min(DEAREST_BREACH);
+        for place in 0..entries.len() {
+            set_place(units, &entries[place], place);
+            put(&mut self.rates, entries[place].rate)?;
+        }
+        push_strides(&mut self.strides, entries.len())
     }
-    Ok(rates)
 }
 
 // How many rates are below 0, which come first.
 fn gainful(entries: &[Entry]) -> usize {
-    entries.iter().filter(|entry| entry.rate < 0).count()
+    let mut count: usize = 0;
+    for entry in entries {
+        if entry.rate < 0 {
+            count = count.saturating_add(1);
+        }
+    }
+    count
 }
 
 // The dearest rate in size, of a segment or at a unit's minimum; at least 1.
@@ -132,20 +144,19 @@ fn dearest_run(units: &[Unit]) -> i64 {
     dearest
 }
 
-fn entries(alloc: Global, units: &[Unit]) -> Result<Vec<Entry>, NoMemory> {
-    let mut entries = Vec::new(alloc);
-    for (unit, own) in units.iter().enumerate() {
-        for (number, segment) in own.segments.iter().enumerate() {
-            entries.push(Entry {
-                rate: segment.rate,
-                watts: segment.watts,
-                unit,
-                number,
-            })?;
-        }
+// Adds the segments of a unit.
+fn push_entries(all: &mut Vec<Entry>, unit: usize, segments: &[Segment]) -> Result<(), NoMemory> {
+    for number in 0..segments.len() {
+        let Segment { watts, rate, .. } = segments[number];
+        let entry = Entry {
+            rate,
+            watts,
+            unit,
+            number,
+        };
+        put(all, entry)?;
     }
-    entries.sort_by_key(|entry| entry.rate)?;
-    Ok(entries)
+    Ok(())
 }
 
 // The rate of the segment with which, in order of merit, half of all watts are reached; at least 1.
@@ -165,24 +176,21 @@ fn middle(entries: &[Entry]) -> i64 {
 }
 
 fn set_place(units: &mut [Unit], entry: &Entry, place: usize) {
-    if let Some(unit) = units.get_mut(entry.unit) {
-        if let Some(segment) = unit.segments.get_mut(entry.number) {
-            segment.place = place;
+    if entry.unit < units.len() {
+        let segments = units[entry.unit].segments.as_mut_slice();
+        if entry.number < segments.len() {
+            segments[entry.number].place = place;
         }
     }
 }
 
-// The powers of two up to a number, from the greatest on.
-fn strides(alloc: Global, most: usize) -> Result<Vec<usize>, NoMemory> {
-    let mut rising = Vec::new(alloc);
-    let mut stride: usize = 1;
-    for _ in 0..DOUBLINGS {
-        if stride > most {
-            break;
+// Adds the powers of two up to a number, from the greatest on.
+fn push_strides(strides: &mut Vec<usize>, most: usize) -> Result<(), NoMemory> {
+    for doublings in (0..DOUBLINGS).rev() {
+        let stride: usize = 1 << doublings;
+        if stride <= most {
+            put(strides, stride)?;
         }
-        rising.push(stride)?;
-        stride = stride.saturating_mul(2);
     }
-    rising.reverse();
-    Ok(rising)
+    Ok(())
 }

@@ -1,19 +1,40 @@
 //! Patterns and what is decided of them.
 
-use dual_model::Fix;
 use uc_model::Pattern;
 use uc_model::limits::MAX_PERIODS;
 
-/// The fix with one period decided more: to be on, or to be off.
-pub fn with_turn(fix: &Fix, t: u32, on: bool) -> Fix {
-    let mut fix = *fix;
-    if t < MAX_PERIODS {
-        fix.known.switch_on(t);
-        if on {
-            fix.on.switch_on(t);
+/// What is decided of a unit: in the periods that are `known`, whether it is on.
+#[derive(Clone, Copy)]
+pub struct Decided {
+    pub known: Pattern,
+    pub on: Pattern,
+}
+
+impl Decided {
+    /// Nothing is decided.
+    pub fn nothing() -> Decided {
+        Decided {
+            known: Pattern::all_off(),
+            on: Pattern::all_off(),
         }
     }
-    fix
+
+    /// The same with one period decided more: to be on, or to be off.
+    pub fn with_turn(&self, t: u32, on: bool) -> Decided {
+        let mut decided = *self;
+        if t < MAX_PERIODS {
+            decided.known.switch_on(t);
+            if on {
+                decided.on.switch_on(t);
+            }
+        }
+        decided
+    }
+}
+
+/// Whether a pattern is on in a period, from 0.
+pub fn is_on(pattern: &Pattern, t: u32) -> bool {
+    t < MAX_PERIODS && pattern.is_on(t)
 }
 
 /// Whether two patterns are the same.

@@ -102,9 +102,7 @@ impl Period {
 
     /// Takes all units away, and the mark of hardly any reserve.
     pub(crate) fn clear(&mut self) {
-        for node in self.nodes.iter_mut() {
-            *node = EMPTY;
-        }
+        self.nodes.fill(EMPTY);
         self.watts = 0;
         self.base = 0;
         self.floor = 0;

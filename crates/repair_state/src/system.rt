@@ -1,20 +1,15 @@
 //! The units of an instance, and their state while a schedule is sought.
 
-ghost use Rattle.std.specs.Prelude.{IfOk};
-ghost use Rattle.uc_model.specs.Limits.{IsLawfulInstance};
-
 use crate::cells::{Cells, Known, SAME, UNKNOWN, WAYS};
 use crate::course::Course;
-use crate::merit::{Market, market_of};
-use crate::period::{Fill, NOTHING, Period, mixed};
+use crate::lists::{at, stretch};
+use crate::merit::Market;
+use crate::period::{Fill, NOTHING, Period};
 use crate::trajectory::Trajectory;
-use crate::unit::{Unit, unit_at};
+use crate::unit::Unit;
 use crate::window::{IDLE, Window, keep_ramps, narrow, open};
 use std::alloc::Global;
 use uc_model::{Instance, NoMemory, Pattern};
-
-/// What the salts of units are made of: any odd number.
-const SALT: u64 = 0x2545_F491_4F6C_DD1D;
 
 /// The units, the order of merit of their segments, and whether a unit's ramps can bind.
 #[derive(Drop)]
@@ -46,24 +41,19 @@ pub struct Trial {
 }
 
 impl Plant {
-    /// The units of an instance. The only error is `NoMemory`.
-    pub fn new(alloc: Global, instance: &Instance) -> Result<Plant, NoMemory>
-        requires { IsLawfulInstance instance.now }
-    {
-        let mut units = Vec::new(alloc);
-        for g in 0..instance.thermal.as_slice().len() {
-            if let Some(unit) = unit_at(instance, g) {
-                let mut own = Unit::of(alloc, unit, instance.periods)?;
-                own.salt = mixed(SALT, g as u64);
-                units.push(own)?;
-            }
+    /// No units.
+    pub fn new(alloc: Global) -> Plant {
+        Plant {
+            units: Vec::new(alloc),
+            market: Market::new(alloc),
+            is_ramped: false,
         }
-        let market = market_of(alloc, &mut units)?;
-        Ok(Plant {
-            is_ramped: can_any_bind(&units),
-            units,
-            market,
-        })
+    }
+
+    /// Orders the units that were put in. The only error is `NoMemory`.
+    pub fn order(&mut self, alloc: Global) -> Result<(), NoMemory> {
+        self.is_ramped = can_any_bind(&self.units);
+        self.market.fill(alloc, &mut self.units)
     }
 }
 
@@ -77,25 +67,46 @@ fn can_any_bind(units: &[Unit]) -> bool {
 }
 
 impl State {
-    /// A state in which each unit is off. The only error is `NoMemory`.
-    pub fn new(alloc: Global, instance: &Instance, plant: &Plant) -> Result<State, NoMemory> {
+    /// A state of no units and periods.
+    pub fn new(alloc: Global) -> State {
+        State {
+            periods: Vec::new(alloc),
+            patterns: Vec::new(alloc),
+            rows: Vec::new(alloc),
+            cells: Vec::new(alloc),
+            known: Vec::new(alloc),
+            trial: Trial {
+                row: Vec::new(alloc),
+                trajectory: Trajectory::new(alloc),
+            },
+            course: Course::new(alloc),
+            fills: Vec::new(alloc),
+        }
+    }
+
+    /// Makes it that of the plant in which each unit is off. The only error is `NoMemory`.
+    pub fn fill(
+        &mut self,
+        alloc: Global,
+        instance: &Instance,
+        plant: &Plant,
+    ) -> Result<(), NoMemory> {
         let count = instance.periods as usize;
         let units = plant.units.len();
-        Ok(State {
-            periods: periods_of(alloc, instance, &plant.market)?,
-            patterns: vec![in alloc; Pattern::all_off(); units]?,
-            rows: table(alloc, IDLE, units, count)?,
-            known: table(alloc, UNKNOWN, units, count.saturating_mul(WAYS))?,
-            cells: vec![in alloc; SAME; count]?,
-            course: Course::new(alloc, count)?,
-            trial: Trial::new(alloc, count)?,
-            fills: vec![in alloc; UNFILLED; count]?,
-        })
+        let ways = count.saturating_mul(WAYS);
+        push_periods(alloc, instance, &plant.market, &mut self.periods)
+            .and(stretch(&mut self.patterns, units, Pattern::all_off()))
+            .and(push_rows(alloc, IDLE, units, count, &mut self.rows))
+            .and(push_rows(alloc, UNKNOWN, units, ways, &mut self.known))
+            .and(stretch(&mut self.cells, count, SAME))
+            .and(stretch(&mut self.trial.row, count, IDLE))
+            .and(self.course.stretch(count))
+            .and(stretch(&mut self.fills, count, UNFILLED))
     }
 
     /// Puts all units on their patterns, at the outputs in order of merit, moved until they keep the ramps.
     pub fn load(&mut self, plant: &Plant, count: u32) {
-        open_all(plant, &self.patterns, count, &mut self.rows);
+        open_all(&plant.units, &self.patterns, count, &mut self.rows);
         add_all(plant, &mut self.periods, &self.rows);
         self.recenter(plant, count);
     }
@@ -103,54 +114,45 @@ impl State {
     /// Centres the windows on the outputs in order of merit inside them.
     pub fn recenter(&mut self, plant: &Plant, count: u32) {
         fill_periods(&plant.market, &mut self.periods, &mut self.fills);
-        let units = plant.units.iter().zip(&self.patterns);
-        for ((unit, pattern), row) in units.zip(self.rows.iter_mut()) {
-            let own = &mut self.trial.row;
+        let (own, rows) = (self.trial.row.as_mut_slice(), self.rows.as_mut_slice());
+        let patterns = self.patterns.as_slice();
+        for g in 0..plant.units.len().min(patterns.len()).min(rows.len()) {
+            let (unit, row) = (&plant.units[g], rows[g].as_mut_slice());
             copy_row(row, own);
             center(unit, own, &self.fills);
-            open(unit, pattern, count, own);
+            open(unit, &patterns[g], count, own);
             fit(unit, &self.periods, own);
             exchange(&plant.market, &mut self.periods, unit, row, own);
         }
     }
 }
 
-impl Trial {
-    // Memory for so many periods. The only error is `NoMemory`.
-    fn new(alloc: Global, count: usize) -> Result<Trial, NoMemory> {
-        Ok(Trial {
-            row: vec![in alloc; IDLE; count]?,
-            trajectory: Trajectory::new(alloc),
-        })
-    }
-}
-
-// So many rows of so many entries. The only error is `NoMemory`.
-fn table<T: Copy>(
+// Adds so many rows of so many entries.
+fn push_rows<T: Copy>(
     alloc: Global,
     entry: T,
     rows: usize,
     count: usize,
-) -> Result<Vec<Vec<T>>, NoMemory> {
-    let mut table = Vec::new(alloc);
+    table: &mut Vec<Vec<T>>,
+) -> Result<(), NoMemory> {
     for _ in 0..rows {
         table.push(vec![in alloc; entry; count]?)?;
     }
-    Ok(table)
+    Ok(())
 }
 
 // Opens the windows of all units.
-fn open_all(plant: &Plant, patterns: &[Pattern], count: u32, rows: &mut [Vec<Window>]) {
-    let units = plant.units.iter().zip(patterns);
-    for ((unit, pattern), row) in units.zip(rows.iter_mut()) {
-        open(unit, pattern, count, row);
+fn open_all(units: &[Unit], patterns: &[Pattern], count: u32, rows: &mut [Vec<Window>]) {
+    for g in 0..units.len().min(patterns.len()).min(rows.len()) {
+        open(&units[g], &patterns[g], count, &mut rows[g]);
     }
 }
 
 // Fills each period in the order of merit, and marks it where hardly any reserve is left.
 fn fill_periods(market: &Market, periods: &mut [Period], fills: &mut [Fill]) {
-    for (fill, period) in fills.iter_mut().zip(periods.iter_mut()) {
-        *fill = period.fill(market, period.given_with(market, &NOTHING));
+    for t in 0..periods.len().min(fills.len()) {
+        let period = &mut periods[t];
+        fills[t] = period.fill(market, period.given_with(market, &NOTHING));
         period.is_tight = period.is_tight || period.is_short_soon();
     }
 }
@@ -169,27 +171,24 @@ const UNFILLED: Fill = Fill {
     cost: 0,
 };
 
-// The periods of the instance, without units.
-fn periods_of(
+// Adds the periods of the instance, without units.
+fn push_periods(
     alloc: Global,
     instance: &Instance,
     market: &Market,
-) -> Result<Vec<Period>, NoMemory> {
-    let mut periods = Vec::new(alloc);
+    periods: &mut Vec<Period>,
+) -> Result<(), NoMemory> {
     for t in 0..instance.periods as usize {
-        periods.push(period_at(alloc, instance, market, t)?)?;
+        let mut period = Period::new(alloc, market.rates.len())?;
+        period.reserve_rate = market.scarcity;
+        set_wanted(instance, t, &mut period);
+        periods.push(period)?;
     }
-    Ok(periods)
+    Ok(())
 }
 
-// Period t of the instance, without units.
-fn period_at(
-    alloc: Global,
-    instance: &Instance,
-    market: &Market,
-    t: usize,
-) -> Result<Period, NoMemory> {
-    let mut period = Period::new(alloc, market.rates.len())?;
+// Sets what is wanted in period t of the instance.
+fn set_wanted(instance: &Instance, t: usize, period: &mut Period) {
     period.needed = at(instance.demand.as_slice(), t);
     period.bearable = period.needed;
     for unit in instance.renewable.as_slice() {
@@ -199,25 +198,6 @@ fn period_at(
         period.bearable = period.bearable.saturating_sub(least);
     }
     period.reserve = at(instance.reserves.as_slice(), t).max(0);
-    period.reserve_rate = market.scarcity;
-    Ok(period)
-}
-
-/// The entry of a list, and 0 past its end.
-pub fn at(numbers: &[i64], i: usize) -> i64 {
-    match numbers.get(i) {
-        Some(number) => *number,
-        None => 0,
-    }
-}
-
-/// The entries of a list from a place on. An iterator would step there one by one.
-pub fn behind(numbers: &[i64], first: usize) -> &[i64] {
-    if first < numbers.len() {
-        &numbers[first..]
-    } else {
-        &[]
-    }
 }
 
 /// What all periods cost, starts left out.
@@ -231,8 +211,8 @@ pub fn total(market: &Market, periods: &mut [Period]) -> i64 {
 
 /// Adds a unit in its windows to all periods, or takes it away where the sign is -1.
 pub fn shift(market: &Market, periods: &mut [Period], unit: &Unit, row: &[Window], sign: i64) {
-    for (period, window) in periods.iter_mut().zip(row) {
-        period.shift(market, unit, window, sign);
+    for t in 0..periods.len().min(row.len()) {
+        periods[t].shift(market, unit, &row[t], sign);
     }
 }
 
@@ -244,9 +224,9 @@ pub fn exchange(
     row: &mut [Window],
     to: &[Window],
 ) {
-    for (period, (own, window)) in periods.iter_mut().zip(row.iter_mut().zip(to)) {
-        move_unit(market, period, unit, own, window);
-        *own = *window;
+    for t in 0..periods.len().min(row.len()).min(to.len()) {
+        move_unit(market, &mut periods[t], unit, &row[t], &to[t]);
+        row[t] = to[t];
     }
 }
 
@@ -268,9 +248,8 @@ fn is_alike(first: &Window, second: &Window) -> bool {
 
 /// Copies windows.
 pub fn copy_row(from: &[Window], to: &mut [Window]) {
-    for (copy, window) in to.iter_mut().zip(from) {
-        *copy = *window;
-    }
+    let count = from.len().min(to.len());
+    to[..count].copy_from_slice(&from[..count]);
 }
 
 /// Puts all units into the periods anew, of which none is marked as tight.
@@ -278,16 +257,18 @@ pub(crate) fn add_all(plant: &Plant, periods: &mut [Period], rows: &[Vec<Window>
     for period in periods.iter_mut() {
         period.clear();
     }
-    for (unit, row) in plant.units.iter().zip(rows) {
-        shift(&plant.market, periods, unit, row, 1);
+    for (g, unit) in plant.units.iter().enumerate() {
+        if g < rows.len() {
+            shift(&plant.market, periods, unit, &rows[g], 1);
+        }
     }
 }
 
 // Centres a unit's windows on what it gives where periods are filled so far.
 fn center(unit: &Unit, row: &mut [Window], fills: &[Fill]) {
-    for (window, fill) in row.iter_mut().zip(fills) {
-        if window.on {
-            window.power = filled(unit, window, fill);
+    for t in 0..row.len().min(fills.len()) {
+        if row[t].on {
+            row[t].power = filled(unit, &row[t], &fills[t]);
         }
     }
 }

@@ -2,6 +2,7 @@
 
 use crate::beside::Beside;
 use crate::convex::{Bottom, Convex};
+use crate::lists::put;
 use crate::merit::PART;
 use crate::period::Period;
 use crate::unit::Unit;
@@ -40,20 +41,15 @@ impl Trajectory {
         self.bottoms.clear();
         self.value.set(beside.unit.before);
         let (rise, fall) = (beside.unit.rise, beside.unit.fall);
-        let mut t: usize = 0;
-        for period in beside.periods {
-            if let Some(window) = row.get(t) {
-                self.reached
-                    .set_reached(&self.value, rise, fall, window.high)?;
-                let next = t.saturating_add(1);
-                let wanted = wanted_output(beside, row, next);
-                self.set_own(beside, period, window, wanted)?;
-                self.value.set_sum(&self.reached, &self.own)?;
-                self.bottoms.push(self.value.bottom())?;
-            }
-            t = t.saturating_add(1);
+        for t in 0..beside.periods.len().min(row.len()) {
+            self.reached
+                .set_reached(&self.value, rise, fall, row[t].high)?;
+            let wanted = wanted_output(beside, row, t + 1);
+            self.set_own(beside, &beside.periods[t], &row[t], wanted)?;
+            self.value.set_sum(&self.reached, &self.own)?;
+            put(&mut self.bottoms, self.value.bottom())?;
         }
-        read_back(beside, &self.bottoms, row);
+        read_back(beside.unit, &self.bottoms, row);
         Ok(())
     }
 
@@ -101,9 +97,10 @@ fn cost_to(
 
 // The least output that leaves the reserve of period t its head, and the rate of missing reserve there.
 fn wanted_output(beside: &Beside, row: &[Window], t: usize) -> (i64, i64) {
-    match (beside.periods.get(t), row.get(t)) {
-        (Some(period), Some(window)) if window.on => wanted_in(beside.unit, period, window),
-        _ => (0, 0),
+    if t < beside.periods.len() && t < row.len() && row[t].on {
+        wanted_in(beside.unit, &beside.periods[t], &row[t])
+    } else {
+        (0, 0)
     }
 }
 
@@ -128,31 +125,32 @@ fn set_points(
     let mut end: i64 = 0;
     for segment in &beside.unit.segments {
         end = end.saturating_add(segment.watts);
-        points.push(end.max(low).min(high))?;
+        put(points, end.max(low).min(high))?;
     }
     let needed = period.needed_with(&beside.unit.addition(0, 0));
-    for point in [needed, needed.saturating_sub(period.watts()), wanted] {
-        points.push(point.max(low).min(high))?;
-    }
+    put(points, needed.max(low).min(high))?;
+    let others = needed.saturating_sub(period.watts());
+    put(points, others.max(low).min(high))?;
+    put(points, wanted.max(low).min(high))?;
     let part = high.saturating_sub(low) / PARTS;
     let mut between = low;
     for _ in 1..PARTS {
         between = between.saturating_add(part);
-        points.push(between)?;
+        put(points, between)?;
     }
-    points.push(high)?;
+    put(points, high)?;
     points.sort()?;
     Ok(())
 }
 
 // From the last period back, the output at the bottom that is nearest to the centre so far, within the ramp to the next one.
-fn read_back(beside: &Beside, bottoms: &[Bottom], row: &mut [Window]) {
+fn read_back(unit: &Unit, bottoms: &[Bottom], row: &mut [Window]) {
     let mut least = i64::MIN;
     let mut most = i64::MAX;
-    for (window, bottom) in row.iter_mut().zip(bottoms).rev() {
-        let power = window.power.max(bottom.low).min(bottom.high);
-        window.power = power.max(least).min(most);
-        least = window.power.saturating_sub(beside.unit.rise);
-        most = window.power.saturating_add(beside.unit.fall);
+    for t in (0..row.len().min(bottoms.len())).rev() {
+        let power = row[t].power.max(bottoms[t].low).min(bottoms[t].high);
+        row[t].power = power.max(least).min(most);
+        least = row[t].power.saturating_sub(unit.rise);
+        most = row[t].power.saturating_add(unit.fall);
     }
 }

@@ -3,14 +3,16 @@
 ghost use Rattle.std.specs.Prelude.{IfSome};
 ghost use Rattle.uc_model.specs.Limits.{IsLawfulInstance, IsLawfulThermal};
 
-use crate::merit::{PART, Segment, cost_of, rate_within, segments_of};
-use crate::period::Addition;
-use cost_curves::Curve;
-use dual_model::Fix;
-use start_costs::sigma;
+use crate::lists::put;
+use crate::merit::{PART, Segment, cost_of, push_segments, rate_within};
+use crate::patterns::Decided;
+use crate::period::{Addition, mixed};
 use std::alloc::Global;
 use uc_model::limits::MAX_PERIODS;
-use uc_model::{Instance, NoMemory, Pattern, Thermal};
+use uc_model::{Instance, NoMemory, Point, StartRow, Thermal};
+
+/// What the salts of units are made of: any odd number.
+const SALT: u64 = 0x2545_F491_4F6C_DD1D;
 
 /// A thermal unit. Outputs are watts above its minimum: those that its caps leave, `full` beside no start or stop; how far it may rise
 /// and fall in an hour; and what it gave before the first period. `fix` keeps it on as long as it can't fall to where it may stop. Its
@@ -31,7 +33,7 @@ pub struct Unit {
     pub was_on: bool,
     pub is_ramped: bool,
     pub(crate) salt: u64,
-    pub fix: Fix,
+    pub fix: Decided,
     pub(crate) must_run: bool,
     pub(crate) up: usize,
     pub(crate) down: usize,
@@ -57,21 +59,13 @@ pub struct Limits {
 }
 
 impl Unit {
-    /// What repairs know of a unit. The only error is `NoMemory`.
-    pub(crate) fn of(alloc: Global, unit: &Thermal, periods: u32) -> Result<Unit, NoMemory>
-        requires { IsLawfulThermal unit.now }
-    {
-        let curve = Curve::of(alloc, unit.points.as_slice())?;
-        let segments = segments_of(alloc, &curve)?;
-        let base = match curve.corners().first() {
-            Some(corner) => corner.cost,
-            None => 0,
-        };
-        let mut own = Unit {
+    /// What repairs know of the unit of this number, without its curve, what hangs on that, and what starts cost.
+    pub fn new(alloc: Global, unit: &Thermal, number: usize) -> Unit {
+        Unit {
             minimum: unit.pmin,
-            base,
-            segments,
-            width: curve.width(),
+            base: 0,
+            segments: Vec::new(alloc),
+            width: 0,
             full: unit.pmax.saturating_sub(unit.pmin),
             start: unit.su.saturating_sub(unit.pmin),
             stop: unit.sd.saturating_sub(unit.pmin),
@@ -80,20 +74,39 @@ impl Unit {
             before: output_before(unit),
             was_on: unit.on0,
             is_ramped: false,
-            salt: 0,
-            fix: undecided(),
+            salt: mixed(SALT, number as u64),
+            fix: Decided::nothing(),
             must_run: unit.must_run,
             up: unit.ut as usize,
             down: unit.dt as usize,
             left: time_left(unit) as usize,
             may_stop_first: unit.p0 <= unit.sd,
             is_too_high: unit.p0 > unit.pmax,
-            bases: bases(alloc, unit, periods)?,
-            warm: warm_starts(alloc, unit)?,
-        };
-        own.is_ramped = own.can_ramps_bind();
-        own.fix = own.first_periods(periods);
-        Ok(own)
+            bases: Vec::new(alloc),
+            warm: Vec::new(alloc),
+        }
+    }
+
+    /// Fills these in, by the corners of its curve, and by what a start in each period costs without a stop before it. The
+    /// only error is `NoMemory`.
+    pub fn fill(
+        &mut self,
+        unit: &Thermal,
+        corners: &[Point],
+        bases: &[i64],
+    ) -> Result<(), NoMemory> {
+        if !corners.is_empty() {
+            self.base = corners[0].cost;
+            let last = &corners[corners.len() - 1];
+            self.width = last.mw.saturating_sub(corners[0].mw);
+        }
+        self.is_ramped = self.can_ramps_bind();
+        self.fix = self.first_periods(bases.len());
+        self.bases.extend_from_slice(bases)?;
+        push_segments(&mut self.segments, corners).and(push_warm_starts(
+            &mut self.warm,
+            unit.startup.as_slice(),
+        ))
     }
 
     /// What a cell leaves, by whether it is a start and whether a stop follows.
@@ -162,18 +175,15 @@ impl Unit {
     }
 
     // That the unit is on until it has fallen so far that it may stop.
-    fn first_periods(&self, periods: u32) -> Fix {
-        let mut fix = undecided();
+    fn first_periods(&self, periods: usize) -> Decided {
+        let mut fix = Decided::nothing();
         let mut reach = self.before;
         let mut most = self.fall;
-        for t in 0..periods {
+        for t in 0..periods.min(MAX_PERIODS as usize) as u32 {
             if reach <= most {
                 break;
             }
-            if t < MAX_PERIODS {
-                fix.known.switch_on(t);
-                fix.on.switch_on(t);
-            }
+            fix = fix.with_turn(t, true);
             reach = reach.saturating_sub(self.fall);
             most = self.fall.min(self.stop).max(0);
         }
@@ -190,40 +200,18 @@ fn time_left(unit: &Thermal) -> u32 {
     }
 }
 
-// What a start costs in each period without a stop before it.
-fn bases(alloc: Global, unit: &Thermal, periods: u32) -> Result<Vec<i64>, NoMemory>
-    requires { IsLawfulThermal unit.now }
-{
-    let mut bases = Vec::new(alloc);
-    for t in 0..periods {
-        if t < MAX_PERIODS {
-            bases.push(sigma(unit, None, t as usize))?;
-        }
-    }
-    Ok(bases)
-}
-
-// What starts may cost after a stop, by how long ago it was.
-fn warm_starts(alloc: Global, unit: &Thermal) -> Result<Vec<Warm>, NoMemory> {
-    let mut warm = Vec::new(alloc);
-    let rows = unit.startup.as_slice();
+// Adds what starts may cost after a stop, by how long ago it was.
+fn push_warm_starts(warm: &mut Vec<Warm>, rows: &[StartRow]) -> Result<(), NoMemory> {
     for i in 1..rows.len() {
         if rows[i - 1].lag < rows[i].lag {
-            warm.push(Warm {
+            let start = Warm {
                 lag: rows[i].lag as usize,
                 cost: rows[i - 1].cost,
-            })?;
+            };
+            put(warm, start)?;
         }
     }
-    Ok(warm)
-}
-
-/// That nothing is decided.
-pub fn undecided() -> Fix {
-    Fix {
-        known: Pattern::all_off(),
-        on: Pattern::all_off(),
-    }
+    Ok(())
 }
 
 // What a unit gave above its minimum before the first period.
@@ -233,11 +221,6 @@ fn output_before(unit: &Thermal) -> i64 {
     } else {
         0
     }
-}
-
-/// Whether a pattern is on in a period, from 0.
-pub fn is_on(pattern: &Pattern, t: u32) -> bool {
-    t < MAX_PERIODS && pattern.is_on(t)
 }
 
 /// Thermal unit g of an instance, from 0.

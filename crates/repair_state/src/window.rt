@@ -1,7 +1,8 @@
 //! Windows: what a unit may give in each period, so that whatever it gives inside them keeps its ramps.
 
+use crate::patterns::is_on;
 use crate::period::Period;
-use crate::unit::{Limits, Unit, is_on};
+use crate::unit::{Limits, Unit};
 use uc_model::Pattern;
 
 /// What a unit may give above its minimum in a period, round the output on which the window is centred, and with reserve up to the head.
@@ -58,11 +59,11 @@ pub fn open(unit: &Unit, pattern: &Pattern, periods: u32, row: &mut [Window]) {
 /// Moves the centres of open windows until they keep the ramps.
 pub fn keep_ramps(unit: &Unit, row: &mut [Window]) {
     let mut next: i64 = i64::MAX;
-    for window in row.iter_mut().rev() {
-        if window.on {
-            window.power = window.power.min(next.saturating_add(unit.fall));
+    for t in (0..row.len()).rev() {
+        if row[t].on {
+            row[t].power = row[t].power.min(next.saturating_add(unit.fall));
         }
-        next = window.power;
+        next = row[t].power;
     }
     let mut before = unit.before;
     for window in row.iter_mut() {
@@ -78,22 +79,16 @@ pub fn keep_ramps(unit: &Unit, row: &mut [Window]) {
 /// Narrows open windows round their centres, which keep the ramps, until whatever is inside keeps them.
 pub fn narrow(unit: &Unit, periods: &[Period], row: &mut [Window]) {
     let mut before = initial(unit);
-    let mut t: usize = 0;
-    for period in periods {
-        if let Some(window) = row.get(t) {
-            let mut own = *window;
-            if period.is_tight && own.on {
-                let least = own.head.saturating_sub(unit.rise).min(before.power);
-                before.low = before.low.max(least);
-            }
-            narrow_both(unit, &mut before, &mut own);
-            if t > 0 {
-                set(row, t.saturating_sub(1), before);
-            }
-            set(row, t, own);
-            before = own;
+    for t in 0..periods.len().min(row.len()) {
+        if periods[t].is_tight && row[t].on {
+            let least = row[t].head.saturating_sub(unit.rise).min(before.power);
+            before.low = before.low.max(least);
         }
-        t = t.saturating_add(1);
+        narrow_both(unit, &mut before, &mut row[t]);
+        if t > 0 {
+            row[t - 1] = before;
+        }
+        before = row[t];
     }
     lower_heads(unit, row);
 }
@@ -106,12 +101,6 @@ fn initial(unit: &Unit) -> Window {
         low: unit.before,
         high: unit.before,
         head: unit.before,
-    }
-}
-
-fn set(row: &mut [Window], t: usize, window: Window) {
-    if let Some(own) = row.get_mut(t) {
-        *own = window;
     }
 }
 

@@ -7,7 +7,7 @@ ghost use Rattle.schedule_check.specs.Accepted.{IsAcceptedIfFound};
 
 use crate::accepted::accepted;
 use crate::kicks::kick;
-use crate::passes::{Units, pass, set_full_prices, set_soft_prices, soft_price};
+use crate::passes::{Units, pass, pass_hard, set_soft_prices, soft_price};
 use crate::printing::printed_of;
 use crate::room::Repair;
 use crate::rounding::round;
@@ -158,11 +158,5 @@ fn descend(room: &mut Repair, instance: &Instance, table: &Table) -> Result<(), 
         pass(room, instance, Units::All)?;
         least = least.saturating_mul(2);
     }
-    set_full_prices(&mut room.state.periods, &room.plant.market);
-    for _ in 0..HARD_PASSES {
-        if !pass(room, instance, Units::All)? {
-            break;
-        }
-    }
-    Ok(())
+    pass_hard(room, instance, Units::All, HARD_PASSES)
 }

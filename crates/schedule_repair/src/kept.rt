@@ -16,18 +16,22 @@ pub(crate) struct Kept {
 }
 
 impl Kept {
-    /// Nothing, with memory for such a state. The only error is `NoMemory`.
-    pub(crate) fn new(alloc: Global, state: &State) -> Result<Kept, NoMemory> {
-        let patterns = state.patterns.to_vec(alloc)?;
-        let mut rows = Vec::new(alloc);
-        for row in &state.rows {
-            rows.push(row.to_vec(alloc)?)?;
-        }
-        Ok(Kept {
-            patterns,
-            rows,
+    /// Nothing, without memory for a state.
+    pub(crate) fn new(alloc: Global) -> Kept {
+        Kept {
+            patterns: Vec::new(alloc),
+            rows: Vec::new(alloc),
             cost: i64::MAX,
-        })
+        }
+    }
+
+    /// Takes memory for such a state. The only error is `NoMemory`.
+    pub(crate) fn fill(&mut self, alloc: Global, state: &State) -> Result<(), NoMemory> {
+        self.patterns.extend_from_slice(&state.patterns)?;
+        for row in &state.rows {
+            self.rows.push(row.to_vec(alloc)?)?;
+        }
+        Ok(())
     }
 
     /// Keeps the state if it is cheaper than what is kept, and tells whether.
@@ -58,8 +62,10 @@ fn restore_rows(
     periods: &mut [Period],
     rows: &mut [Vec<Window>],
 ) {
-    for ((unit, to), row) in plant.units.iter().zip(kept).zip(rows.iter_mut()) {
-        exchange(&plant.market, periods, unit, row, to);
+    for (g, unit) in plant.units.iter().enumerate() {
+        if g < kept.len() && g < rows.len() {
+            exchange(&plant.market, periods, unit, &mut rows[g], &kept[g]);
+        }
     }
 }
 
@@ -68,22 +74,22 @@ fn cost_of_state(plant: &Plant, state: &mut State, instance: &Instance) -> i64
     requires lawful { IsLawfulInstance instance.now }
 {
     let mut cost = total(&plant.market, &mut state.periods);
-    for (g, pattern) in state.patterns.iter().enumerate() {
+    let patterns = state.patterns.as_slice();
+    for g in 0..patterns.len() {
         if let Some(unit) = unit_at(instance, g) {
-            cost = cost.saturating_add(start_cost(unit, pattern, instance.periods));
+            cost = cost.saturating_add(start_cost(unit, &patterns[g], instance.periods));
         }
     }
     cost
 }
 
 fn copy_patterns(from: &[Pattern], to: &mut [Pattern]) {
-    for (copy, pattern) in to.iter_mut().zip(from) {
-        *copy = *pattern;
-    }
+    let count = from.len().min(to.len());
+    to[..count].copy_from_slice(&from[..count]);
 }
 
 fn copy_rows(from: &[Vec<Window>], to: &mut [Vec<Window>]) {
-    for (copies, row) in to.iter_mut().zip(from) {
-        copy_row(row, copies);
+    for g in 0..from.len().min(to.len()) {
+        copy_row(&from[g], &mut to[g]);
     }
 }

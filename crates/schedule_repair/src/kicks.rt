@@ -4,9 +4,10 @@ ghost use Rattle.uc_model.specs.Limits.{IsLawfulInstance};
 
 use crate::chance::CHANCES;
 use crate::moves::improve;
-use crate::passes::{Units, pass, set_full_prices, set_soft_prices, soft_price};
+use crate::passes::{Units, pass, pass_hard, set_soft_prices, soft_price};
 use crate::room::Repair;
-use dual_model::{Fix, Table};
+use dual_model::Table;
+use repair_state::Decided;
 use uc_model::{Instance, NoMemory};
 
 /// The most passes of a kick in which missing reserve has its full price.
@@ -79,12 +80,7 @@ fn kick_once(room: &mut Repair, instance: &Instance, table: &Table) -> Result<()
     turn_unit(room, instance, turn.unit, Some(&turn.fix))?;
     pass(room, instance, Units::ListedBut(turn.unit))?;
     turn_unit(room, instance, turn.unit, None)?;
-    set_full_prices(&mut room.state.periods, &room.plant.market);
-    for _ in 0..PASSES {
-        if !pass(room, instance, Units::Listed)? {
-            break;
-        }
-    }
+    pass_hard(room, instance, Units::Listed, PASSES)?;
     if !room.kept.keep(&room.plant, &mut room.state, instance) {
         room.kept.restore(&room.plant, &mut room.state);
     }
@@ -96,7 +92,7 @@ fn turn_unit(
     room: &mut Repair,
     instance: &Instance,
     g: usize,
-    turned: Option<&Fix>,
+    turned: Option<&Decided>,
 ) -> Result<(), NoMemory>
     requires lawful { IsLawfulInstance instance.now }
 {

@@ -2,10 +2,9 @@
 
 ghost use Rattle.uc_model.specs.Limits.{IsLawfulInstance, IsLawfulThermal};
 
-use dual_model::Fix;
 use repair_state::{
-    Beside, Cells, Known, Market, Period, Plant, State, Trial, Unit, WAYS, Window, cells_of,
-    copy_row, exchange, is_on, is_same, keep_ramps, narrow, open, shift, total, undecided, unit_at,
+    Beside, Cells, Decided, Known, Market, Period, Plant, State, Trial, Unit, WAYS, Window,
+    cells_of, copy_row, exchange, is_on, is_same, keep_ramps, narrow, open, shift, total, unit_at,
 };
 use start_costs::least_allowed;
 use uc_model::limits::MAX_PERIODS;
@@ -18,59 +17,62 @@ pub(crate) fn improve(
     state: &mut State,
     instance: &Instance,
     g: usize,
-    turned: Option<&Fix>,
+    turned: Option<&Decided>,
 ) -> Result<bool, NoMemory>
     requires lawful { IsLawfulInstance instance.now }
 {
-    let (Some(thermal), Some(unit)) = (unit_at(instance, g), plant.units.get(g)) else {
-        return Ok(false);
-    };
-    let most = most_cost(plant, state, g, turned);
-    fill_cells(plant, state, g);
-    let fix = fix_of(plant, g, turned);
-    let count = instance.periods;
-    let best = state.course.best(unit, &fix, &state.cells, false);
-    let changed = match best {
-        Some((_, pattern)) => put_on(plant, state, thermal, g, count, &pattern, most)?,
-        None => false,
-    };
-    put_back(plant, state, g);
-    Ok(changed)
+    match unit_at(instance, g) {
+        Some(thermal) if g < plant.units.len() => {
+            let (market, unit) = (&plant.market, &plant.units[g]);
+            let most = most_cost(market, state, unit, turned.is_some());
+            fill_cells(market, state, unit, g);
+            let fix = fix_of(unit, turned);
+            let changed = match state.course.best(unit, &fix, &state.cells, false) {
+                Some((_, pattern)) => {
+                    let count = instance.periods;
+                    let aim = Aim {
+                        pattern,
+                        count,
+                        most,
+                    };
+                    put_on(market, state, unit, thermal, g, &aim)
+                }
+                None => Ok(false),
+            };
+            put_back(market, state, unit, g);
+            changed
+        }
+        _ => Ok(false),
+    }
 }
 
 // What the system may cost with new outputs of a unit whose ramps can bind, without its starts: less than it does, or anything where
 // the unit has to turn.
-fn most_cost(plant: &Plant, state: &mut State, g: usize, turned: Option<&Fix>) -> i64 {
-    match plant.units.get(g) {
-        Some(unit) if unit.is_ramped && turned.is_none() => total(
-            &plant.market,
-            &mut state.periods,
-        ),
-        _ => i64::MAX,
+fn most_cost(market: &Market, state: &mut State, unit: &Unit, has_to_turn: bool) -> i64 {
+    if unit.is_ramped && !has_to_turn {
+        total(market, &mut state.periods)
+    } else {
+        i64::MAX
     }
 }
 
 // What is decided of a unit.
-fn fix_of(plant: &Plant, g: usize, turned: Option<&Fix>) -> Fix {
-    match (turned, plant.units.get(g)) {
-        (Some(fix), _) => *fix,
-        (None, Some(unit)) => unit.fix,
-        (None, None) => undecided(),
+fn fix_of(unit: &Unit, turned: Option<&Decided>) -> Decided {
+    match turned {
+        Some(fix) => *fix,
+        None => unit.fix,
     }
 }
 
 /// Fills unit g's cells beside the others. A unit whose ramps can bind is taken away from them.
-pub(crate) fn fill_cells(plant: &Plant, state: &mut State, g: usize) {
-    let (Some(unit), Some(row)) = (plant.units.get(g), state.rows.get(g)) else {
-        return;
-    };
-    if let Some(known) = state.known.get_mut(g) {
+pub(crate) fn fill_cells(market: &Market, state: &mut State, unit: &Unit, g: usize) {
+    if g < state.rows.len() && g < state.known.len() {
         fill_row(
-            &plant.market,
+            market,
             &mut state.periods,
             unit,
-            row,
-            known,
+            &state.rows[g],
+            &mut state.known[g],
             &mut state.cells,
         );
     }
@@ -85,112 +87,113 @@ fn fill_row(
     known: &mut [Known],
     cells: &mut [Cells],
 ) {
-    let cells = cells.iter_mut().zip(known.chunks_exact_mut(WAYS));
-    for ((period, window), (cell, known)) in periods.iter_mut().zip(row).zip(cells) {
-        *cell = cells_beside(market, period, unit, window, known);
-    }
-}
-
-// The cells of a unit in its window, which are reckoned only where they aren't known. A unit whose ramps can bind is taken away.
-fn cells_beside(
-    market: &Market,
-    period: &mut Period,
-    unit: &Unit,
-    window: &Window,
-    known: &mut [Known],
-) -> Cells {
-    let key = period.key_without(unit, window);
-    let way = (key >> 32) as usize % WAYS;
-    if unit.is_ramped {
-        period.shift(market, unit, window, -1);
-    }
-    match known.get(way) {
-        Some(known) if known.key == key => return known.cells,
-        _ => (),
-    }
-    if !unit.is_ramped {
-        period.shift(market, unit, window, -1);
-    }
-    let cells = cells_of(market, period, unit);
-    if !unit.is_ramped {
-        period.shift(market, unit, window, 1);
-    }
-    if let Some(known) = known.get_mut(way) {
-        *known = Known { key, cells };
-    }
-    cells
-}
-
-/// Puts unit g back into its windows, if it is away.
-pub(crate) fn put_back(plant: &Plant, state: &mut State, g: usize) {
-    if let (Some(unit), Some(row)) = (plant.units.get(g), state.rows.get(g)) {
-        if unit.is_ramped {
-            shift(&plant.market, &mut state.periods, unit, row, 1);
+    for t in 0..periods.len().min(row.len()).min(cells.len()) {
+        let key = periods[t].key_without(unit, &row[t]);
+        let way = (key >> 32) as usize % WAYS;
+        let place = t.saturating_mul(WAYS).saturating_add(way);
+        if place < known.len() {
+            reckon(
+                market,
+                &mut periods[t],
+                unit,
+                &row[t],
+                key,
+                &mut known[place],
+            );
+            cells[t] = known[place].cells;
         }
     }
 }
 
-// Puts unit g on the pattern; where its ramps can bind only if that costs less than so much, and else on the pattern so far with other
+// Reckons the cells of a unit in its window, unless those by this key are known. A unit whose ramps can bind is taken away.
+fn reckon(
+    market: &Market,
+    period: &mut Period,
+    unit: &Unit,
+    window: &Window,
+    key: u64,
+    known: &mut Known,
+) {
+    let is_known = known.key == key;
+    if unit.is_ramped || !is_known {
+        period.shift(market, unit, window, -1);
+    }
+    if !is_known {
+        let cells = cells_of(market, period, unit);
+        *known = Known { key, cells };
+    }
+    if !unit.is_ramped && !is_known {
+        period.shift(market, unit, window, 1);
+    }
+}
+
+/// Puts unit g back into its windows, if it is away.
+pub(crate) fn put_back(market: &Market, state: &mut State, unit: &Unit, g: usize) {
+    if unit.is_ramped && g < state.rows.len() {
+        shift(market, &mut state.periods, unit, &state.rows[g], 1);
+    }
+}
+
+// The pattern on which a unit is to be put in so many periods, and what the system has to cost less than, without the unit's starts so far,
+// where its ramps can bind.
+#[derive(Clone, Copy)]
+struct Aim {
+    pattern: Pattern,
+    count: u32,
+    most: i64,
+}
+
+// Puts unit g on the pattern; where its ramps can bind only if that costs little enough, and else on the pattern so far with other
 // outputs that do. Tells whether the pattern has changed.
 fn put_on(
-    plant: &Plant,
+    market: &Market,
     state: &mut State,
+    unit: &Unit,
     thermal: &Thermal,
     g: usize,
-    count: u32,
-    pattern: &Pattern,
-    most: i64,
+    aim: &Aim,
 ) -> Result<bool, NoMemory>
     requires lawful { IsLawfulThermal thermal.now }
 {
-    let Some(unit) = plant.units.get(g) else {
+    if g >= state.patterns.len() || g >= state.rows.len() {
         return Ok(false);
-    };
-    if !unit.is_ramped {
-        return Ok(put_freely(plant, state, unit, g, count, pattern));
     }
-    let (Some(own), Some(row)) = (state.patterns.get_mut(g), state.rows.get_mut(g)) else {
-        return Ok(false);
-    };
-    let before = *own;
-    let most = most.saturating_add(start_cost(thermal, &before, count));
+    let before = state.patterns[g];
+    let is_other = !is_same(&before, &aim.pattern);
+    if !unit.is_ramped {
+        if is_other {
+            state.patterns[g] = aim.pattern;
+            put_freely(market, state, unit, g, aim);
+        }
+        return Ok(is_other);
+    }
+    let most = aim
+        .most
+        .saturating_add(start_cost(thermal, &before, aim.count));
     let beside = Beside {
-        market: &plant.market,
+        market,
         periods: &state.periods,
         cells: &state.cells,
         unit,
-        count,
+        count: aim.count,
     };
-    let trial = &mut state.trial;
-    if !is_same(&before, pattern) && take(&beside, thermal, pattern, most, trial, row)? {
-        *own = *pattern;
+    let (trial, row) = (&mut state.trial, state.rows[g].as_mut_slice());
+    if is_other && take(&beside, thermal, &aim.pattern, most, trial, row)? {
+        state.patterns[g] = aim.pattern;
         return Ok(true);
     }
     take(&beside, thermal, &before, most, trial, row)?;
     Ok(false)
 }
 
-// Puts unit g, whose ramps can't bind, on the pattern, and tells whether it is another one.
-fn put_freely(
-    plant: &Plant,
-    state: &mut State,
-    unit: &Unit,
-    g: usize,
-    count: u32,
-    pattern: &Pattern,
-) -> bool {
-    let (Some(own), Some(row)) = (state.patterns.get_mut(g), state.rows.get_mut(g)) else {
-        return false;
-    };
-    if is_same(own, pattern) {
-        return false;
+// Opens the windows of unit g, whose ramps can't bind, on the pattern.
+fn put_freely(market: &Market, state: &mut State, unit: &Unit, g: usize, aim: &Aim) {
+    if g < state.rows.len() {
+        let opened = state.trial.row.as_mut_slice();
+        copy_row(&state.rows[g], opened);
+        open(unit, &aim.pattern, aim.count, opened);
+        exchange(market, &mut state.periods, unit, &mut state.rows[g], opened);
     }
-    *own = *pattern;
-    let opened = &mut state.trial.row;
-    copy_row(row, opened);
-    open(unit, own, count, opened);
-    exchange(&plant.market, &mut state.periods, unit, row, opened);
-    true
 }
 
 // Takes windows of a pattern, round outputs that keep the ramps, if it costs less than so much with its starts; and tells whether.
@@ -217,16 +220,22 @@ fn take(
 // Centres windows on the outputs that are best in each period alone, moved until they keep the ramps; or in all periods together where
 // something is lacking then.
 fn track(beside: &Beside, pattern: &Pattern, trial: &mut Trial) -> Result<(), NoMemory> {
-    for (window, cell) in trial.row.iter_mut().zip(beside.cells) {
-        window.power = cell.power;
-    }
-    open(beside.unit, pattern, beside.count, &mut trial.row);
-    keep_ramps(beside.unit, &mut trial.row);
-    if beside.is_lacking(&trial.row) {
-        trial.trajectory.center(beside, &mut trial.row)?;
-        keep_ramps(beside.unit, &mut trial.row);
+    let row = trial.row.as_mut_slice();
+    center(beside.cells, row);
+    open(beside.unit, pattern, beside.count, row);
+    keep_ramps(beside.unit, row);
+    if beside.is_lacking(row) {
+        trial.trajectory.center(beside, row)?;
+        keep_ramps(beside.unit, row);
     }
     Ok(())
+}
+
+// Centres windows on the outputs that are best in each period alone.
+fn center(cells: &[Cells], row: &mut [Window]) {
+    for t in 0..row.len().min(cells.len()) {
+        row[t].power = cells[t].power;
+    }
 }
 
 /// What the starts of a pattern cost.

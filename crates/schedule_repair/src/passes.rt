@@ -39,6 +39,24 @@ pub(crate) fn pass(room: &mut Repair, instance: &Instance, units: Units) -> Resu
     Ok(has_changed)
 }
 
+/// Makes passes at full prices until none gains, at most so many. The only error is `NoMemory`.
+pub(crate) fn pass_hard(
+    room: &mut Repair,
+    instance: &Instance,
+    units: Units,
+    most: u32,
+) -> Result<(), NoMemory>
+    requires lawful { IsLawfulInstance instance.now }
+{
+    set_full_prices(&mut room.state.periods, &room.plant.market);
+    for _ in 0..most {
+        if !pass(room, instance, units)? {
+            break;
+        }
+    }
+    Ok(())
+}
+
 // Improves the unit of visit i, if it is one of the units, a move is left and it wasn't tried; and tells whether its pattern has changed.
 fn visit(room: &mut Repair, instance: &Instance, units: Units, i: usize) -> Result<bool, NoMemory>
     requires lawful { IsLawfulInstance instance.now }
@@ -88,8 +106,8 @@ pub(crate) fn set_soft_prices(periods: &mut [Period], table: &Table, least: i64)
 
 // Makes missing reserve as cheap as its prices at this scale.
 fn set_prices(periods: &mut [Period], prices: &[i64], scale: i64, least: i64) {
-    for (period, price) in periods.iter_mut().zip(prices) {
-        period.reserve_rate = least.max(rate_of(price, scale));
+    for t in 0..periods.len().min(prices.len()) {
+        periods[t].reserve_rate = least.max(rate_of(&prices[t], scale));
     }
 }
 
@@ -99,8 +117,8 @@ fn rate_of(price: &i64, scale: i64) -> i64 {
     rate_within(&rate)
 }
 
-/// Makes missing reserve as dear as missing output.
-pub(crate) fn set_full_prices(periods: &mut [Period], market: &Market) {
+// Makes missing reserve as dear as missing output.
+fn set_full_prices(periods: &mut [Period], market: &Market) {
     for period in periods.iter_mut() {
         period.reserve_rate = market.scarcity;
     }

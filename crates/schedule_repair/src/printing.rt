@@ -2,11 +2,11 @@
 
 ghost use Rattle.uc_model.specs.Limits.{IsLawfulInstance, IsLawfulThermal};
 
-use repair_state::{Plant, State, Unit, Window, at, is_on, limits_at, unit_at};
+use repair_state::{Plant, State, Unit, Window, at, is_on, limits_at, put, unit_at};
 use start_costs::least_allowed;
 use std::alloc::Global;
 use uc_model::limits::MAX_PERIODS;
-use uc_model::{Cell, Instance, List, NoMemory, Pattern, Printed, Thermal};
+use uc_model::{Cell, Instance, List, NoMemory, Pattern, Printed, Renewable, Thermal};
 
 /// The schedule of a state, whose windows are centred on what each unit gives. The only error is `NoMemory`.
 pub(crate) fn printed_of(
@@ -38,24 +38,21 @@ fn thermal_rows(
     requires { IsLawfulInstance instance.now }
 {
     let mut rows = Vec::new(alloc);
-    for g in 0..instance.thermal.as_slice().len() {
-        let (Some(thermal), Some(unit)) = (unit_at(instance, g), plant.units.get(g)) else {
-            break;
-        };
-        let (Some(pattern), Some(row)) = (state.patterns.get(g), state.rows.get(g)) else {
-            break;
-        };
-        let cells = cells(
-            alloc,
-            thermal,
-            unit,
-            pattern,
-            row,
-            instance.periods,
-            wanted,
-            left,
-        )?;
-        rows.push(List::from_vec(cells))?;
+    let count = plant.units.len().min(state.patterns.len());
+    for g in 0..count.min(state.rows.len()) {
+        if let Some(thermal) = unit_at(instance, g) {
+            let cells = cells(
+                alloc,
+                thermal,
+                &plant.units[g],
+                &state.patterns[g],
+                &state.rows[g],
+                instance.periods,
+                wanted,
+                left,
+            )?;
+            rows.push(List::from_vec(cells))?;
+        }
     }
     Ok(rows)
 }
@@ -77,26 +74,25 @@ fn cells(
     let mut before = unit.before;
     let mut was_on = unit.was_on;
     let mut t: u32 = 0;
-    for ((window, wanted), left) in row.iter().zip(wanted.iter_mut()).zip(left.iter_mut()) {
+    for i in 0..row.len().min(wanted.len()).min(left.len()) {
         let on = is_on(pattern, t);
         let mut cell = OFF;
         if on {
             let head = limits_at(unit, pattern, t, periods).head;
-            let spare = head
-                .min(before.saturating_add(unit.rise))
-                .saturating_sub(window.power);
+            let most = head.min(before.saturating_add(unit.rise));
+            let spare = most.saturating_sub(row[i].power);
             cell = Cell {
                 on,
-                p: window.power,
-                r: spare.min(*wanted).max(0),
+                p: row[i].power,
+                r: spare.min(wanted[i]).max(0),
                 category: category(thermal, pattern, t, !was_on),
             };
-            *left = left.saturating_sub(unit.minimum).saturating_sub(cell.p);
-            *wanted = wanted.saturating_sub(cell.r);
+            left[i] = left[i].saturating_sub(unit.minimum).saturating_sub(cell.p);
+            wanted[i] = wanted[i].saturating_sub(cell.r);
         }
         before = cell.p;
         was_on = on;
-        cells.push(cell)?;
+        put(&mut cells, cell)?;
         t = t.saturating_add(1);
     }
     Ok(cells)
@@ -127,21 +123,25 @@ fn renewable_rows(
     left: &mut [i64],
 ) -> Result<Vec<List<i64>>, NoMemory> {
     for unit in instance.renewable.as_slice() {
-        for (left, least) in left.iter_mut().zip(unit.minimum.as_slice()) {
-            *left = left.saturating_sub((*least).max(0));
+        for t in 0..left.len() {
+            left[t] = left[t].saturating_sub(at(unit.minimum.as_slice(), t).max(0));
         }
     }
     let mut rows = Vec::new(alloc);
     for unit in instance.renewable.as_slice() {
-        let mut outputs = Vec::new(alloc);
-        for (t, left) in left.iter_mut().enumerate() {
-            let least = at(unit.minimum.as_slice(), t).max(0);
-            let most = at(unit.maximum.as_slice(), t);
-            let more = most.saturating_sub(least).min(*left).max(0);
-            *left = left.saturating_sub(more);
-            outputs.push(least.saturating_add(more))?;
-        }
+        let mut outputs = vec![in alloc; 0; left.len()]?;
+        fill_outputs(unit, left, &mut outputs);
         rows.push(List::from_vec(outputs))?;
     }
     Ok(rows)
+}
+
+fn fill_outputs(unit: &Renewable, left: &mut [i64], outputs: &mut [i64]) {
+    for t in 0..left.len().min(outputs.len()) {
+        let least = at(unit.minimum.as_slice(), t).max(0);
+        let most = at(unit.maximum.as_slice(), t);
+        let more = most.saturating_sub(least).min(left[t]).max(0);
+        left[t] = left[t].saturating_sub(more);
+        outputs[t] = least.saturating_add(more);
+    }
 }

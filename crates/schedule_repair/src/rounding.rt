@@ -7,11 +7,12 @@ use uc_model::Pattern;
 /// each has one.
 pub(crate) fn round(plant: &Plant, state: &mut State, shares: &[i64], threshold: i64) -> bool {
     let mut first: usize = 0;
-    for (unit, own) in plant.units.iter().zip(state.patterns.iter_mut()) {
+    for g in 0..plant.units.len() {
+        let unit = &plant.units[g];
         share_cells(&mut state.cells, shares, first, threshold);
         match state.course.best(unit, &unit.fix, &state.cells, true) {
-            None => return false,
-            Some((_, pattern)) => *own = pattern,
+            Some((_, pattern)) if g < state.patterns.len() => state.patterns[g] = pattern,
+            _ => return false,
         }
         first = first.saturating_add(state.cells.len());
     }
@@ -20,12 +21,11 @@ pub(crate) fn round(plant: &Plant, state: &mut State, shares: &[i64], threshold:
 
 // The cells of a unit whose shares begin at `first`: each costs by how much its share is below the threshold.
 fn share_cells(cells: &mut [Cells], shares: &[i64], first: usize, threshold: i64) {
-    for cell in cells.iter_mut() {
-        *cell = SAME;
-    }
-    for (cell, share) in cells.iter_mut().zip(behind(shares, first)) {
-        let cost = threshold.saturating_sub(*share);
-        *cell = Cells {
+    cells.fill(SAME);
+    let shares = behind(shares, first);
+    for t in 0..cells.len().min(shares.len()) {
+        let cost = threshold.saturating_sub(shares[t]);
+        cells[t] = Cells {
             off: 0,
             plain: cost,
             start: cost,

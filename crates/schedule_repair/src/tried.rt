@@ -1,6 +1,6 @@
 //! Tries without gain, which need not be made again.
 
-use repair_state::{Period, mixed};
+use repair_state::{Period, mixed, stretch};
 use std::alloc::Global;
 use uc_model::NoMemory;
 
@@ -14,25 +14,29 @@ pub(crate) struct Tried {
 }
 
 impl Tried {
-    /// No tries. The only error is `NoMemory`.
-    pub(crate) fn new(alloc: Global) -> Result<Tried, NoMemory> {
-        Ok(Tried {
-            marks: vec![in alloc; 0; TRIES]?,
-        })
+    /// No memory for tries.
+    pub(crate) fn new(alloc: Global) -> Tried {
+        Tried {
+            marks: Vec::new(alloc),
+        }
+    }
+
+    /// Takes memory for tries. The only error is `NoMemory`.
+    pub(crate) fn fill(&mut self) -> Result<(), NoMemory> {
+        stretch(&mut self.marks, TRIES, 0)
     }
 
     /// Whether a try is remembered.
     pub(crate) fn has(&self, mark: u64) -> bool {
-        match self.marks.get(place(mark)) {
-            Some(known) => *known == mark,
-            None => false,
-        }
+        let place = place(mark);
+        place < self.marks.len() && self.marks[place] == mark
     }
 
     /// Remembers a try.
     pub(crate) fn put(&mut self, mark: u64) {
-        if let Some(known) = self.marks.get_mut(place(mark)) {
-            *known = mark;
+        let place = place(mark);
+        if place < self.marks.len() {
+            self.marks[place] = mark;
         }
     }
 }

@@ -2,8 +2,7 @@
 
 use crate::chance::{CHANCES, Chance};
 use crate::moves::{fill_cells, put_back};
-use dual_model::Fix;
-use repair_state::{Plant, State, is_on, with_turn};
+use repair_state::{Decided, Plant, State, Unit, is_on, put, stretch};
 use std::alloc::Global;
 use uc_model::{NoMemory, Pattern};
 
@@ -12,7 +11,7 @@ use uc_model::{NoMemory, Pattern};
 pub(crate) struct Turn {
     pub more: i64,
     pub unit: usize,
-    pub fix: Fix,
+    pub fix: Decided,
 }
 
 /// After so many choices the turns are listed anew, if the best state is another one then.
@@ -29,14 +28,19 @@ pub(crate) struct Turns {
 }
 
 impl Turns {
-    /// No turns of so many units. The only error is `NoMemory`.
-    pub(crate) fn new(alloc: Global, units: usize) -> Result<Turns, NoMemory> {
-        Ok(Turns {
+    /// No turns of no units.
+    pub(crate) fn new(alloc: Global) -> Turns {
+        Turns {
             turns: Vec::new(alloc),
-            are_listed: vec![in alloc; false; units]?,
+            are_listed: Vec::new(alloc),
             listed_at: i64::MAX,
             choices: 0,
-        })
+        }
+    }
+
+    /// Makes it those of so many units. The only error is `NoMemory`.
+    pub(crate) fn fill(&mut self, units: usize) -> Result<(), NoMemory> {
+        stretch(&mut self.are_listed, units, false)
     }
 
     /// Whether the turns are to be listed anew from the best state, which costs so much.
@@ -46,10 +50,7 @@ impl Turns {
 
     /// Whether unit g has a turn.
     pub(crate) fn is_listed(&self, g: usize) -> bool {
-        match self.are_listed.get(g) {
-            Some(is_listed) => *is_listed,
-            None => false,
-        }
+        g < self.are_listed.len() && self.are_listed[g]
     }
 
     /// A turn by chance, a cheap one more likely.
@@ -76,53 +77,47 @@ impl Turns {
         self.turns.clear();
         self.listed_at = cost;
         self.choices = 0;
-        for g in 0..plant.units.len() {
+        for g in 0..plant.units.len().min(self.are_listed.len()) {
             let before = self.turns.len();
-            push_turns(plant, state, g, periods, most, &mut self.turns)?;
-            if let Some(is_listed) = self.are_listed.get_mut(g) {
-                *is_listed = self.turns.len() > before;
-            }
+            fill_cells(&plant.market, state, &plant.units[g], g);
+            put_back(&plant.market, state, &plant.units[g], g);
+            push_turns(&plant.units[g], state, g, periods, most, &mut self.turns)?;
+            self.are_listed[g] = self.turns.len() > before;
         }
         self.turns.sort_by_key(|turn| turn.more)?;
         Ok(())
     }
 }
 
-// Adds the turns of unit g that cost less than so much more.
+// Adds the turns of unit g, whose cells are filled, that cost less than so much more.
 fn push_turns(
-    plant: &Plant,
+    unit: &Unit,
     state: &mut State,
     g: usize,
     periods: u32,
     most: i64,
     turns: &mut Vec<Turn>,
 ) -> Result<(), NoMemory> {
-    let Some(unit) = plant.units.get(g) else {
+    let best = state.course.best(unit, &unit.fix, &state.cells, false);
+    if g >= state.patterns.len() || best.is_none() {
         return Ok(());
-    };
-    fill_cells(plant, state, g);
-    put_back(plant, state, g);
-    let Some(own) = state.patterns.get(g) else {
-        return Ok(());
-    };
-    let Some((least, _)) = state.course.best(unit, &unit.fix, &state.cells, false) else {
-        return Ok(());
-    };
+    }
+    let own = state.patterns[g];
     for t in 0..periods {
         if !is_on(&unit.fix.known, t) {
-            let fix = with_turn(&unit.fix, t, !is_on(own, t));
+            let fix = unit.fix.with_turn(t, !is_on(&own, t));
             let turned = state.course.best(unit, &fix, &state.cells, false);
-            push_turn(turns, g, &fix, cost_above(&turned, least), most)?;
+            push_turn(turns, g, &fix, cost_above(&turned, &best), most)?;
         }
     }
     Ok(())
 }
 
-// What a best pattern costs more than so much, if there is one.
-fn cost_above(best: &Option<(i64, Pattern)>, least: i64) -> Option<i64> {
-    match best {
-        Some((cost, _)) => Some(cost.saturating_sub(least)),
-        None => None,
+// What a best pattern costs more than another one, if there are both.
+fn cost_above(turned: &Option<(i64, Pattern)>, best: &Option<(i64, Pattern)>) -> Option<i64> {
+    match (turned, best) {
+        (Some((cost, _)), Some((least, _))) => Some(cost.saturating_sub(*least)),
+        _ => None,
     }
 }
 
@@ -130,17 +125,15 @@ fn cost_above(best: &Option<(i64, Pattern)>, least: i64) -> Option<i64> {
 fn push_turn(
     turns: &mut Vec<Turn>,
     unit: usize,
-    fix: &Fix,
+    fix: &Decided,
     more: Option<i64>,
     most: i64,
 ) -> Result<(), NoMemory> {
     match more {
-        Some(more) if more < most => turns.push(Turn {
-            more,
-            unit,
-            fix: *fix,
-        })?,
-        _ => (),
+        Some(more) if more < most => {
+            let fix = *fix;
+            put(turns, Turn { more, unit, fix })
+        }
+        _ => Ok(()),
     }
-    Ok(())
 }
