@@ -78,6 +78,9 @@ impl State {
             periods,
             budget,
             gap,
+            tables: start::single(alloc, table)?,
+            notes: start::root_notes(alloc)?,
+            desks: start::desks(alloc, workers)?,
             tree: start::root(
                 alloc,
                 units,
@@ -85,12 +88,9 @@ impl State {
                 budget,
                 &Leaf::Live { table: 0, value },
             )?,
-            tables: start::single(alloc, table)?,
             log: List::from_vec(Vec::new(alloc)),
             claims: Vec::new(alloc),
-            notes: start::root_notes(alloc)?,
             best: None,
-            desks: start::desks(alloc, workers)?,
         })
     }
 
@@ -514,7 +514,7 @@ impl State {
         };
         let both = [self.notes.len() as u32, self.notes.len() as u32 + 1];
         let children = moves::children(action, &both);
-        self.notes.reserve(2)?;
+        let scale = table.k();
         record::record(
             alloc,
             &mut self.desks,
@@ -523,6 +523,7 @@ impl State {
             &mut self.tables,
             entry,
             table,
+            &scale,
             children,
         )?;
         moves::make(&mut self.tree, node, &stored, number, outcome, action);
