@@ -46,10 +46,10 @@ pub(crate) fn record<T: Drop>(
     notes: &mut Vec<Note>,
     log: &mut List<Entry>,
     tables: &mut List<T>,
+    tickets: &[u32],
     entry: Entry,
     table: T,
     scale: &i64,
-    tickets: &[u32],
 ) -> Result<(), NoMemory>
     requires worker { entry.worker < vec_len desks.old }
     requires node { entry.node < vec_len notes.old }

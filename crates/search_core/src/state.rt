@@ -521,10 +521,10 @@ impl State {
             &mut self.notes,
             &mut self.log,
             &mut self.tables,
+            children,
             entry,
             table,
             &scale,
-            children,
         )?;
         moves::make(&mut self.tree, node, &stored, number, outcome, action);
         end_claim(&mut self.claims, unit);
