@@ -1,7 +1,7 @@
 //! The commands of the program with their arguments, for the command-line parser.
 
 ghost use Rattle.std.specs.Prelude.{◌≡◌, IfOk, true, false, []};
-ghost use Rattle.clap.specs.Words.{app_of, rule_of, shape_of};
+ghost use Rattle.clap.specs.Words.{App, Rule, Shape, app_of, rule_of, shape_of, with_rule, with_subcommand};
 ghost use Rattle.clap.specs.declared.builder.command.Command.TheViews.{out-Command as fields_of};
 ghost use Rattle.command_line.specs.Arguments.{place as place_rule, needed_option as needed_rule, units_option as units_rule, one_alone as one_rule, gap_option as gap_rule, switch as switch_rule, seed_place as seed_rule, solve_shape, check_shape, demo_shape, program as program_app};
 
@@ -75,29 +75,50 @@ fn seed_place<'a>(alloc: Global) -> Arg<'a>
         .value_parser(value_parser!(u32))
 }
 
-fn solve_command<'a>(alloc: Global) -> Result<Command<'a>, AllocError>
+// A command, or that memory is refused.
+type Built<'a> = Result<Command<'a>, AllocError>;
+
+// The command with one more argument.
+fn with_arg<'a>(command: Built<'a>, arg: Arg<'a>) -> Built<'a>
+    requires { arg.global ≡ false }
+    ensures app { (app : App) (rule : Rule) → rule_of arg.entry ≡ rule → IfOk command.entry (λ command. app_of command ≡ app)
+        → IfOk result (λ command. app_of command ≡ with_rule app rule) }
+    ensures local { IfOk command.entry (λ command. (fields_of command).has_globals ≡ false)
+        → IfOk result (λ command. (fields_of command).has_globals ≡ false) }
+{
+    command?.arg(arg)
+}
+
+// The program with one more command.
+fn with_command<'a>(program: Built<'a>, command: Built<'a>) -> Built<'a>
+    requires { IfOk command (λ command. (fields_of command).has_globals ≡ false) }
+    ensures { (app : App) (shape : Shape) → IfOk command.entry (λ command. shape_of command ≡ shape) → IfOk program.entry (λ program. app_of program ≡ app)
+        → IfOk result (λ program. app_of program ≡ with_subcommand app shape) }
+{
+    program?.subcommand(command?)
+}
+
+fn solve_command<'a>(alloc: Global) -> Built<'a>
     ensures shape { IfOk result (λ command. shape_of command ≡ solve_shape) }
     ensures local { IfOk result (λ command. (fields_of command).has_globals ≡ false) }
 {
-    Command::new(alloc, "solve")
-        .arg(place(alloc, "instance"))?
-        .arg(needed_option(alloc, "cert"))?
-        .arg(units_option(alloc))?
-        .arg(one_alone(alloc, "workers"))?
-        .arg(gap_option(alloc))?
-        .arg(switch(alloc, "exact"))
+    let command = with_arg(Ok(Command::new(alloc, "solve")), place(alloc, "instance"));
+    let command = with_arg(command, needed_option(alloc, "cert"));
+    let command = with_arg(command, units_option(alloc));
+    let command = with_arg(command, one_alone(alloc, "workers"));
+    let command = with_arg(command, gap_option(alloc));
+    with_arg(command, switch(alloc, "exact"))
 }
 
-fn check_command<'a>(alloc: Global) -> Result<Command<'a>, AllocError>
+fn check_command<'a>(alloc: Global) -> Built<'a>
     ensures shape { IfOk result (λ command. shape_of command ≡ check_shape) }
     ensures local { IfOk result (λ command. (fields_of command).has_globals ≡ false) }
 {
-    Command::new(alloc, "check")
-        .arg(place(alloc, "instance"))?
-        .arg(place(alloc, "certificate"))
+    let command = with_arg(Ok(Command::new(alloc, "check")), place(alloc, "instance"));
+    with_arg(command, place(alloc, "certificate"))
 }
 
-fn demo_command<'a>(alloc: Global) -> Result<Command<'a>, AllocError>
+fn demo_command<'a>(alloc: Global) -> Built<'a>
     ensures shape { IfOk result (λ command. shape_of command ≡ demo_shape) }
     ensures local { IfOk result (λ command. (fields_of command).has_globals ≡ false) }
 {
@@ -115,11 +136,10 @@ fn bare_program<'a>(alloc: Global) -> Command<'a>
 }
 
 /// The program with its commands, `solve`, `check` and `demo`.
-pub(crate) fn program<'a>(alloc: Global) -> Result<Command<'a>, AllocError>
+pub(crate) fn program<'a>(alloc: Global) -> Built<'a>
     ensures { IfOk result (λ command. app_of command ≡ program_app) }
 {
-    bare_program(alloc)
-        .subcommand(solve_command(alloc)?)?
-        .subcommand(check_command(alloc)?)?
-        .subcommand(demo_command(alloc)?)
+    let program = with_command(Ok(bare_program(alloc)), solve_command(alloc));
+    let program = with_command(program, check_command(alloc));
+    with_command(program, demo_command(alloc))
 }

@@ -4,6 +4,7 @@ ghost use Rattle.uc_model.specs.Limits.{IsLawfulInstance};
 
 use crate::Answer;
 use crate::commitment::patterns;
+use crate::demo::put_line;
 use crate::table::marginal_text;
 use dispatch_repair::{DispatchFault, MostFault, dispatch, most_on};
 use std::alloc::{AllocError, Global};
@@ -18,13 +19,16 @@ pub(crate) fn tell_dispatch(alloc: Global, instance: &Instance, word: &str, rest
         return Ok(String::from_str(alloc, "a pattern for each unit\n")?);
     }
     match dispatch(alloc, instance, &patterns) {
-        Ok(printed) if word == "marginal" => marginal_text(alloc, instance, &printed),
         Ok(printed) => {
-            let mut text = String::new(alloc);
-            put_schedule(&mut text, &printed)?;
-            Ok(text)
+            let text = if word == "marginal" {
+                marginal_text(alloc, instance, &printed)
+            } else {
+                schedule_text(String::new(alloc), &printed)
+            };
+            drop(printed);
+            text
         }
-        Err(DispatchFault::Stuck(stuck)) => Ok(stuck_text(alloc, &stuck)?),
+        Err(DispatchFault::Stuck(stuck)) => stuck_text(alloc, &stuck),
         Err(DispatchFault::NoMemory) => Err(NoMemory),
     }
 }
@@ -48,10 +52,16 @@ pub(crate) fn tell_most_on(alloc: Global, instance: &Instance) -> Answer
 }
 
 // Where and why a dispatch is stuck, and what it gives before.
-fn stuck_text(alloc: Global, stuck: &Stuck) -> Result<String, AllocError> {
+fn stuck_text(alloc: Global, stuck: &Stuck) -> Answer {
     let period = stuck.period.saturating_add(1);
-    let mut text = format!(in alloc; "stuck in period {period}: {:?}\n", stuck.why)?;
-    put_schedule(&mut text, &stuck.prefix)?;
+    let text = format!(in alloc; "stuck in period {period}: {:?}\n", stuck.why)?;
+    schedule_text(text, &stuck.prefix)
+}
+
+// A text with the rows of a schedule behind it.
+fn schedule_text(text: String, printed: &Printed) -> Answer {
+    let mut text = text;
+    put_schedule(&mut text, printed)?;
     Ok(text)
 }
 
@@ -70,11 +80,7 @@ fn put_schedule(text: &mut String, printed: &Printed) -> Result<(), AllocError> 
         text.push_str("\n")?;
     }
     for row in printed.renewable.as_slice() {
-        text.push_str("renewable")?;
-        for output in row.as_slice() {
-            write!(text, " {output}")?;
-        }
-        text.push_str("\n")?;
+        put_line(text, "renewable", row.as_slice())?;
     }
     Ok(())
 }

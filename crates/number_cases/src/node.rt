@@ -30,17 +30,19 @@ pub(crate) fn root_total(alloc: Global, instance: &Instance, table: &Table) -> A
     requires lawful { IsLawfulInstance instance.now }
     requires table { IsLawfulTable instance.now table.now }
 {
-    match valued(alloc, instance, &root(alloc), table) {
-        Ok(valued) => Ok(format!(in alloc; "value {}\n", valued.total)?),
-        Err(fault) => fault_text(alloc, fault),
-    }
+    evaluation_text(alloc, valued(alloc, instance, &root(alloc), table), false)
 }
 
-// Which unit has no pattern.
-fn fault_text(alloc: Global, fault: ValueFault) -> Answer {
-    match fault {
-        ValueFault::Empty(g) => { Ok(format!(in alloc; "empty {}\n", g.saturating_add(1))?) }
-        ValueFault::NoMemory => Err(NoMemory),
+// A value, and where they are wanted the parts, or which unit has no pattern.
+fn evaluation_text(alloc: Global, evaluation: Evaluation, has_parts: bool) -> Answer {
+    match evaluation {
+        Ok(valued) => {
+            let text = valued_text(alloc, &valued, has_parts);
+            drop(valued);
+            Ok(text?)
+        }
+        Err(ValueFault::Empty(g)) => Ok(format!(in alloc; "empty {}\n", g.saturating_add(1))?),
+        Err(ValueFault::NoMemory) => Err(NoMemory),
     }
 }
 
@@ -65,10 +67,9 @@ fn node_text(alloc: Global, instance: &Instance, node: &Node, price: i32) -> Ans
     requires node { IsNodeOf instance.now node.now }
 {
     let table = table(alloc, instance, price)?;
-    match valued(alloc, instance, node, &table) {
-        Ok(valued) => Ok(valued_text(alloc, &valued)?),
-        Err(fault) => fault_text(alloc, fault),
-    }
+    let evaluation = valued(alloc, instance, node, &table);
+    drop(table);
+    evaluation_text(alloc, evaluation, true)
 }
 
 // The value of a node at a table.
@@ -82,12 +83,14 @@ fn valued(alloc: Global, instance: &Instance, node: &Node, table: &Table) -> Eva
     value(alloc, &mut scratch, instance, node, table)
 }
 
-// The total, and a line for each unit.
-fn valued_text(alloc: Global, valued: &Valued) -> Result<String, AllocError> {
+// The total, and where they are wanted a line for each unit.
+fn valued_text(alloc: Global, valued: &Valued, has_parts: bool) -> Result<String, AllocError> {
     let mut text = format!(in alloc; "value {}\n", valued.total)?;
-    let patterns = valued.patterns.as_slice();
-    for (part, pattern) in valued.parts.as_slice().iter().zip(patterns) {
-        writeln!(text, "part {part} {}", pattern.low)?;
+    if has_parts {
+        let patterns = valued.patterns.as_slice();
+        for (part, pattern) in valued.parts.as_slice().iter().zip(patterns) {
+            writeln!(text, "part {part} {}", pattern.low)?;
+        }
     }
     Ok(text)
 }

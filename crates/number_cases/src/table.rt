@@ -8,6 +8,7 @@ ghost use Rattle.dual_model.specs.Opening.{ray_count};
 ghost use Rattle.dual_model.specs.Prices.{IsLawfulTable};
 
 use crate::Answer;
+use crate::demo::put_each;
 use crate::node::{root, root_total};
 use dual_model::Table;
 use prices::{marginal, opening_ray, step, zero};
@@ -17,13 +18,9 @@ use uc_model::{Instance, NoMemory, Printed};
 // A line of the table's numbers.
 fn put_table(text: &mut String, table: &Table) -> Result<(), AllocError> {
     write!(text, "scale {} demand", table.k())?;
-    for price in table.pi() {
-        write!(text, " {price}")?;
-    }
+    put_each(text, table.pi())?;
     text.push_str(" reserve")?;
-    for price in table.mu() {
-        write!(text, " {price}")?;
-    }
+    put_each(text, table.mu())?;
     for row in table.ramps() {
         let unit = row.g.saturating_add(1);
         let period = row.t.saturating_add(1);
@@ -83,8 +80,10 @@ pub(crate) fn tell_step(alloc: Global, instance: &Instance, words: &str) -> Answ
     requires { IsLawfulInstance instance.now }
 {
     let had = u32::from(words.parse::<u16>().unwrap_or(0));
-    let scale = stepped(alloc, instance, &zero(alloc, instance)?, had)?;
-    Ok(format!(in alloc; "scale {scale}\n")?)
+    let table = zero(alloc, instance)?;
+    let scale = stepped(alloc, instance, &table, had);
+    drop(table);
+    Ok(format!(in alloc; "scale {}\n", scale?)?)
 }
 
 // The scale of the table to try at the root behind so many, of which this is the last.

@@ -1,8 +1,7 @@
 //! The first unit of a system: its curve, terms of its cells, and what starts cost.
 
-ghost use Rattle.std.specs.Prelude.{◌≡◌, ◌<◌};
+ghost use Rattle.std.specs.Prelude.{IfSome};
 ghost use Rattle.uc_model.specs.Limits.{IsLawfulInstance, IsLawfulThermal};
-ghost use Rattle.uc_model.specs.Schedule.{thermal_count, thermal_unit};
 
 use crate::Answer;
 use crate::commitment::pattern;
@@ -17,10 +16,9 @@ use uc_model::{Instance, Thermal};
 pub(crate) fn tell_unit(alloc: Global, instance: &Instance, word: &str, rest: &str) -> Answer
     requires { IsLawfulInstance instance.now }
 {
-    if instance.thermal.as_slice().is_empty() {
+    let Some(unit) = first_unit(instance) else {
         return Ok(String::from_str(alloc, "no unit\n")?);
-    }
-    let unit = unit_of(instance, 0);
+    };
     match word {
         "curve" => tell_curve(alloc, unit, rest),
         "term" => tell_term(alloc, unit, rest),
@@ -30,12 +28,12 @@ pub(crate) fn tell_unit(alloc: Global, instance: &Instance, word: &str, rest: &s
     }
 }
 
-/// Thermal unit `g`, from 0.
-pub(crate) fn unit_of(instance: &Instance, g: usize) -> &Thermal
-    requires { g < thermal_count instance.now }
-    ensures { result.now ≡ thermal_unit instance.now g }
+// The first thermal unit, if there is one.
+fn first_unit(instance: &Instance) -> Option<&Thermal>
+    requires { IsLawfulInstance instance.now }
+    ensures { IfSome result (λ unit. IsLawfulThermal unit.now) }
 {
-    &instance.thermal.as_slice()[g]
+    instance.thermal.as_slice().first()
 }
 
 // The number of a word among words, from 0; 0 where there is none.

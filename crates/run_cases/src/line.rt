@@ -3,7 +3,7 @@
 use crate::case::{Case, Failure, Place, call_of, place_of};
 use crate::ending::text_of;
 use crate::run::{Ended, run};
-use crate::sweep::{cut_each, fail_each};
+use crate::sweep::Alike;
 use crate::text::split;
 use outside::FailingCall;
 use std::alloc::{AllocError, Global};
@@ -23,10 +23,16 @@ impl Case {
     }
 
     // Whether a run wrote the same as the one before.
-    fn is_repeated(&self, ended: &Ended) -> bool {
+    fn is_repeated(&self, ended: Ended) -> bool {
         ended.files.cert_out.memory.written() == Some(self.written.as_slice())
             && ended.out.memory.flushed() == Some(self.report.as_slice())
     }
+}
+
+// How a run ended.
+fn tell_ended<R: Print + AllocGlobal>(rt: &R, case: &mut Case, ended: &Ended) -> io::Result<()> {
+    rt.print(text_of(rt.alloc(), case, ended)?.as_str())?;
+    Ok(case.keep(rt.alloc(), ended)?)
 }
 
 // A run with these words, and how it ended.
@@ -35,11 +41,10 @@ fn tell_run<R: Threads + Wait + Sync + Print + AllocGlobal>(
     case: &mut Case,
     words: &str,
 ) -> io::Result<()> {
-    let alloc = rt.alloc();
-    let ended = run(rt, alloc, case, words)?;
-    rt.print(text_of(alloc, case, &ended)?.as_str())?;
-    case.keep(alloc, &ended)?;
-    Ok(())
+    let ended = run(rt, rt.alloc(), case, words)?;
+    let told = tell_ended(rt, case, &ended);
+    drop(ended);
+    told
 }
 
 // A run with these words, and whether it wrote the same as the one before.
@@ -48,12 +53,11 @@ fn tell_again<R: Threads + Wait + Sync + Print + AllocGlobal>(
     case: &Case,
     words: &str,
 ) -> io::Result<()> {
-    let ended = run(rt, rt.alloc(), case, words)?;
-    if case.is_repeated(&ended) {
-        rt.println("the same")
+    rt.println(if case.is_repeated(run(rt, rt.alloc(), case, words)?) {
+        "the same"
     } else {
-        rt.println("not the same")
-    }
+        "not the same"
+    })
 }
 
 // A run of a row, after which the files and the calls that fail are as before.
@@ -89,14 +93,14 @@ fn tell_each<R: Threads + Wait + Sync + Print + AllocGlobal>(
     match (place_of(place), call_of(call)) {
         (Some(place), Some(call)) => {
             let failing = FailingCall { call, number: 0 };
-            fail_each(rt, case, Failure { place, failing }, words)
+            Alike::new(rt.alloc()).fail_each(rt, case, Failure { place, failing }, words)
         }
         _ => rt.println("no such call"),
     }
 }
 
-/// Does what a line says. A line that says nothing is told.
-pub(crate) fn follow<R: Threads + Wait + Sync + Print + Files + AllocGlobal>(
+// Does what a line says. A line that says nothing is told.
+fn follow<R: Threads + Wait + Sync + Print + Files + AllocGlobal>(
     rt: &R,
     case: &mut Case,
     line: &str,
@@ -107,8 +111,8 @@ pub(crate) fn follow<R: Threads + Wait + Sync + Print + Files + AllocGlobal>(
         "again" => tell_again(rt, case, rest),
         "|" => tell_row(rt, case, rest),
         "each" => tell_each(rt, case, rest),
-        "cut" => cut_each(rt, Place::Instance, rest, case),
-        "cut.cert" => cut_each(rt, Place::CertIn, rest, case),
+        "cut" => Alike::new(rt.alloc()).cut_each(rt, Place::Instance, rest, case),
+        "cut.cert" => Alike::new(rt.alloc()).cut_each(rt, Place::CertIn, rest, case),
         _ => {
             if !case.take(rt, word, rest)? {
                 rt.println("no such line")?;
@@ -116,4 +120,17 @@ pub(crate) fn follow<R: Threads + Wait + Sync + Print + Files + AllocGlobal>(
             Ok(())
         }
     }
+}
+
+/// Tells each line, and does what it says.
+pub(crate) fn follow_each<R: Threads + Wait + Sync + Print + Files + AllocGlobal>(
+    rt: &R,
+    case: &mut Case,
+    lines: &str,
+) -> io::Result<()> {
+    for line in lines.lines() {
+        rt.println(line)?;
+        follow(rt, case, line)?;
+    }
+    Ok(())
 }

@@ -12,7 +12,7 @@ mod tally;
 mod text;
 
 use crate::case::Case;
-use crate::line::follow;
+use crate::line::follow_each;
 use std::{fs, io};
 
 /// The files of cases.
@@ -21,11 +21,7 @@ const FILES: [&str; 4] = ["solve", "check", "words", "formats"];
 fn main(rt: HostRuntime) -> io::Result<()> {
     for file in FILES {
         let lines = fs::read_to_string(&rt, file)?;
-        let mut case = Case::new(rt.alloc());
-        for line in lines.lines() {
-            rt.println(line)?;
-            follow(&rt, &mut case, line)?;
-        }
+        follow_each(&rt, &mut Case::new(rt.alloc()), lines.as_str())?;
     }
     Ok(())
 }

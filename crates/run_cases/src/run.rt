@@ -74,6 +74,8 @@ fn sink_of(alloc: Global, case: &Case, place: Place) -> Result<FaultySink, Alloc
 fn unbegun(alloc: Global, case: &Case) -> Result<Ended, AllocError>
     ensures { IfOk result (λ ended. AllUnopened (⟦<Devices<FaultyFile> as Files>⟧.state ended.files)) }
 {
+    let out = sink_of(alloc, case, Place::Output)?;
+    let err = sink_of(alloc, case, Place::Fault)?;
     let files = Devices::new(
         file_of(alloc, case, Place::Instance, "in.json", &case.instance)?,
         file_of(alloc, case, Place::CertIn, "old.cert", &case.certificate)?,
@@ -85,8 +87,8 @@ fn unbegun(alloc: Global, case: &Case) -> Result<Ended, AllocError>
         entries: 0,
         strays: 0,
         files,
-        out: sink_of(alloc, case, Place::Output)?,
-        err: sink_of(alloc, case, Place::Fault)?,
+        out,
+        err,
     })
 }
 

@@ -65,15 +65,16 @@ fn said<R: Files + AllocGlobal>(
     rest: &str,
 ) -> io::Result<Option<Vec<u8>>> {
     let alloc = rt.alloc();
-    match word {
-        "instance" | "old" => Ok(Some(fs::read(rt, rest)?)),
+    let said = match word {
+        "instance" | "old" => return Ok(Some(fs::read(rt, rest)?)),
         "text" => Ok(Some(bytes_of(alloc, rest)?)),
-        "change" => Ok(changed(alloc, standing, rest)?),
-        "line" => Ok(with_line(alloc, standing, rest)?),
-        "list" => Ok(with_list(alloc, standing, rest)?),
-        "more" => Ok(with_more(alloc, standing, rest)?),
+        "change" => changed(alloc, standing, rest),
+        "line" => with_line(alloc, standing, rest),
+        "list" => with_list(alloc, standing, rest),
+        "more" => with_more(alloc, standing, rest),
         _ => Ok(None),
-    }
+    };
+    Ok(said?)
 }
 
 impl Case {
@@ -85,10 +86,18 @@ impl Case {
         Ok(())
     }
 
-    // Whether a line that says how devices behave, or what is told, is taken.
+    // Whether a line that begins a case, or says how devices behave, or what is told, is taken.
     fn take_way(&mut self, alloc: Global, word: &str, rest: &str) -> Result<bool, AllocError> {
         match word {
             "" | "#" => Ok(true),
+            "case" => {
+                drop(std::mem::replace(self, Case::new(alloc)));
+                Ok(true)
+            }
+            "written" => {
+                self.certificate = Vec::from_slice(alloc, self.written.as_slice())?;
+                Ok(true)
+            }
             "fails" => add(&mut self.failures, failure_of(rest)),
             "tell" => add(&mut self.told, told_of(alloc, rest)?),
             "range" => add(&mut self.ranges, range_of(alloc, rest)?),
@@ -115,15 +124,6 @@ impl Case {
         word: &str,
         rest: &str,
     ) -> io::Result<bool> {
-        let alloc = rt.alloc();
-        if word == "case" {
-            *self = Case::new(alloc);
-            return Ok(true);
-        }
-        if word == "written" {
-            self.certificate = Vec::from_slice(alloc, self.written.as_slice())?;
-            return Ok(true);
-        }
         let (place, kind) = match word.strip_suffix(".cert") {
             Some(kind) => (Place::CertIn, kind),
             None => (Place::Instance, word),
@@ -133,7 +133,7 @@ impl Case {
                 self.set_bytes(place, bytes);
                 Ok(true)
             }
-            None => Ok(self.take_way(alloc, word, rest)?),
+            None => Ok(self.take_way(rt.alloc(), word, rest)?),
         }
     }
 }

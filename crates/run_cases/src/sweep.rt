@@ -10,15 +10,15 @@ use std::thread::Threads;
 
 /// Runs one after another that ended alike: their first and last number, and how they ended.
 #[derive(Drop)]
-struct Alike {
+pub(crate) struct Alike {
     first: u64,
     last: u64,
     ending: String,
 }
 
 impl Alike {
-    // None yet.
-    fn new(alloc: Global) -> Self {
+    /// None yet.
+    pub(crate) fn new(alloc: Global) -> Self {
         Alike {
             first: 0,
             last: 0,
@@ -47,30 +47,6 @@ impl Alike {
     }
 }
 
-/// Runs in which the first call of this kind on this device fails, the second one, and so on to the last.
-pub(crate) fn fail_each<R: Threads + Wait + Sync + Print + AllocGlobal>(
-    rt: &R,
-    case: &mut Case,
-    failure: Failure,
-    words: &str,
-) -> io::Result<()> {
-    let alloc = rt.alloc();
-    let mut alike = Alike::new(alloc);
-    let mut failure = failure;
-    for number in 0..1_000_000u64 {
-        failure.failing.number = number;
-        case.failures.push(failure)?;
-        let ended = run(rt, alloc, case, words)?;
-        let _ = case.failures.pop();
-        if ended.is_sound() {
-            break;
-        }
-        let ending = text_of(alloc, case, &ended)?;
-        alike.put(rt, number, ending)?;
-    }
-    alike.tell(rt)
-}
-
 // The ending of a run of an instance with `N` for a number.
 fn with_n(alloc: Global, place: Place, ending: String, number: u64) -> Result<String, AllocError> {
     match place {
@@ -82,24 +58,59 @@ fn with_n(alloc: Global, place: Place, ending: String, number: u64) -> Result<St
     }
 }
 
-/// Runs whose instance, or certificate, is cut to no byte, to one, and so on up to all but one. In the endings of those of an instance `N` is
-/// the number of bytes.
-pub(crate) fn cut_each<R: Threads + Wait + Sync + Print + AllocGlobal>(
+// How a run ended, and whether no call failed.
+fn ending_of<R: Threads + Wait + Sync + AllocGlobal>(
     rt: &R,
-    place: Place,
+    case: &Case,
     words: &str,
-    case: &mut Case,
-) -> io::Result<()> {
-    let alloc = rt.alloc();
-    let mut alike = Alike::new(alloc);
-    let whole = Vec::from_slice(alloc, case.bytes(place))?;
-    for length in 0..whole.len() {
-        case.set_bytes(place, Vec::from_slice(alloc, &whole[..length])?);
-        let ended = run(rt, alloc, case, words)?;
-        let number = length as u64;
-        let ending = text_of(alloc, case, &ended)?;
-        alike.put(rt, number, with_n(alloc, place, ending, number)?)?;
+) -> Result<(String, bool), AllocError> {
+    let ended = run(rt, rt.alloc(), case, words)?;
+    let ending = text_of(rt.alloc(), case, &ended);
+    let is_sound = ended.is_sound();
+    drop(ended);
+    Ok((ending?, is_sound))
+}
+
+impl Alike {
+    /// Runs in which the first call of this kind on this device fails, the second one, and so on to the last.
+    pub(crate) fn fail_each<R: Threads + Wait + Sync + Print + AllocGlobal>(
+        &mut self,
+        rt: &R,
+        case: &mut Case,
+        failure: Failure,
+        words: &str,
+    ) -> io::Result<()> {
+        let mut failure = failure;
+        for number in 0..1_000_000u64 {
+            failure.failing.number = number;
+            case.failures.push(failure)?;
+            let (ending, is_sound) = ending_of(rt, case, words)?;
+            let _ = case.failures.pop();
+            if is_sound {
+                break;
+            }
+            self.put(rt, number, ending)?;
+        }
+        self.tell(rt)
     }
-    case.set_bytes(place, whole);
-    alike.tell(rt)
+
+    /// Runs whose instance, or certificate, is cut to no byte, to one, and so on up to all but one. In the endings of those of an instance
+    /// `N` is the number of bytes.
+    pub(crate) fn cut_each<R: Threads + Wait + Sync + Print + AllocGlobal>(
+        &mut self,
+        rt: &R,
+        place: Place,
+        words: &str,
+        case: &mut Case,
+    ) -> io::Result<()> {
+        let whole = Vec::from_slice(rt.alloc(), case.bytes(place))?;
+        for length in 0..whole.len() {
+            case.set_bytes(place, Vec::from_slice(rt.alloc(), &whole[..length])?);
+            let (ending, _) = ending_of(rt, case, words)?;
+            let number = length as u64;
+            self.put(rt, number, with_n(rt.alloc(), place, ending, number)?)?;
+        }
+        case.set_bytes(place, whole);
+        self.tell(rt)
+    }
 }

@@ -43,14 +43,14 @@ commit_count m worker unit node table outcome action stored number a b new child
     ∙ (grows.count ∙ ap (λ n. node_count m.tree.nodes + n) (same_count _ _ a b action ∙ ap length (sym added)))
 
 -- the notes, known by equations alone
-pub commit_notes : (m : Machine) (worker unit node : ℕ) (entry : Entry) (notes reserved recorded freed new : List Note) (added count : ℕ)
+pub commit_notes : (m : Machine) (worker unit node : ℕ) (entry : Entry) (notes recorded freed new : List Note) (added count : ℕ)
     (scale : ℤ) (claims : List (Option Holder)) (log : List Entry) → IsOrderly m → IsHolding m worker unit node
     → AreNotesOf m.claims m.log (node_count m.tree.nodes) notes → entry.node ≡ node
     → claims ≡ set m.claims (unit - 1) None → log ≡ m.log ++ entry ∷ [] → count ≡ node_count m.tree.nodes + added
-    → reserved ≡ notes → recorded ≡ with_note reserved node (λ note. with_entry note entry.table scale)
+    → recorded ≡ with_note notes node (λ note. with_entry note entry.table scale)
     → freed ≡ with_note recorded node (λ note. record note { held = false }) → new ≡ freed ++ replicate added no_note
     → AreNotesOf claims log count new
-commit_notes m worker unit node entry notes reserved recorded freed new added count scale claims log orderly holding are own claims_is log_is count_is reserved_is recorded_is freed_is new_is =
+commit_notes m worker unit node entry notes recorded freed new added count scale claims log orderly holding are own claims_is log_is count_is recorded_is freed_is new_is =
     let held = holdable m worker unit node orderly holding in
     let holder : Holder = record { worker = worker; node = node } in
     let place : unit - 1 ≡ held.claim = omega (arith, held.unit_is) in
@@ -60,8 +60,7 @@ commit_notes m worker unit node entry notes reserved recorded freed new added co
     new_is
     ∙ ap (λ ns. ns ++ replicate added no_note)
     (freed_is
-    ∙ ap (λ ns. with_note ns node (λ note. record note { held = false }))
-    (recorded_is ∙ ap (λ ns. with_note ns node (λ note. with_entry note entry.table scale)) reserved_is)) in
+    ∙ ap (λ ns. with_note ns node (λ note. record note { held = false })) recorded_is) in
     subst (λ cs. AreNotesOf cs log count new) (sym (claims_is ∙ ap (λ i. set m.claims i None) place))
     (subst (λ l. AreNotesOf (set m.claims held.claim None) l count new) (sym log_is)
     (subst (λ n. AreNotesOf (set m.claims held.claim None) (m.log ++ entry ∷ []) n new) (sym count_is)

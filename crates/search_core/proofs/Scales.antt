@@ -76,14 +76,14 @@ scales_entered tables notes node table each =
     (λ k d within. more_tables tables table _ _ _ (omega (arith, ints)) (each k d within))
 
 -- the notes after a commit, known by equations alone
-pub scales_committed : (tables later : List Table) (notes reserved recorded freed new : List Note) (node number added : ℕ) (table : Table)
-    → AreScalesNoted tables notes → number ≡ length tables → later ≡ tables ++ table ∷ [] → reserved ≡ notes
-    → recorded ≡ with_note reserved node (λ note. with_entry note number table.k)
+pub scales_committed : (tables later : List Table) (notes recorded freed new : List Note) (node number added : ℕ) (table : Table) (scale : ℤ)
+    → AreScalesNoted tables notes → number ≡ length tables → scale ≡ table.k → later ≡ tables ++ table ∷ []
+    → recorded ≡ with_note notes node (λ note. with_entry note number scale)
     → freed ≡ with_note recorded node (λ note. record note { held = false }) → new ≡ freed ++ replicate added no_note
     → AreScalesNoted later new
-scales_committed tables later notes reserved recorded freed new node number added table each number_is later_is reserved_is recorded_is freed_is new_is =
+scales_committed tables later notes recorded freed new node number added table scale each number_is scale_is later_is recorded_is freed_is new_is =
     let noted : recorded ≡ with_note notes node (λ note. with_entry note (length tables) table.k) =
-    recorded_is ∙ (λ i. with_note (reserved_is i) node (λ note. with_entry note (number_is i) table.k)) in
+    recorded_is ∙ (λ i. with_note notes node (λ note. with_entry note (number_is i) (scale_is i))) in
     let entered : AreScalesNoted later recorded = subst (λ ts. AreScalesNoted ts recorded) (sym later_is)
     (subst (AreScalesNoted (tables ++ table ∷ [])) (sym noted) (scales_entered tables notes node table each)) in
     let free : AreScalesNoted later freed = subst (AreScalesNoted later) (sym freed_is) (scales_held later recorded node false entered) in

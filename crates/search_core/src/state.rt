@@ -78,6 +78,9 @@ impl State {
             periods,
             budget,
             gap,
+            tables: start::single(alloc, table)?,
+            notes: start::root_notes(alloc)?,
+            desks: start::desks(alloc, workers)?,
             tree: start::root(
                 alloc,
                 units,
@@ -85,12 +88,9 @@ impl State {
                 budget,
                 &Leaf::Live { table: 0, value },
             )?,
-            tables: start::single(alloc, table)?,
             log: List::from_vec(Vec::new(alloc)),
             claims: Vec::new(alloc),
-            notes: start::root_notes(alloc)?,
             best: None,
-            desks: start::desks(alloc, workers)?,
         })
     }
 
@@ -514,16 +514,17 @@ impl State {
         };
         let both = [self.notes.len() as u32, self.notes.len() as u32 + 1];
         let children = moves::children(action, &both);
-        self.notes.reserve(2)?;
+        let scale = table.k();
         record::record(
             alloc,
             &mut self.desks,
             &mut self.notes,
             &mut self.log,
             &mut self.tables,
+            children,
             entry,
             table,
-            children,
+            &scale,
         )?;
         moves::make(&mut self.tree, node, &stored, number, outcome, action);
         end_claim(&mut self.claims, unit);

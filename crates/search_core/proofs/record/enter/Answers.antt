@@ -8,7 +8,7 @@ use Rattle.search_core.proofs.Scales.{note_entered}
 use Rattle.search_core.proofs.record.enter.Goals as goal
 
 pub returns-then-is_err-clause-same : goal.returns-then-is_err-clause-same
-returns-then-is_err-clause-same c =
+returns-then-is_err-clause-same g c =
     let notes = c.args.notes.now.items in
     let node = c.args.entry.node in
     let read = get_or_read notes node c.index.result.now (omega (arith, c.args.notes.now.ok.0, c.requires)) c.index.ensures no_note in (
@@ -20,9 +20,9 @@ returns-then-is_err-clause-same c =
     )
 
 pub returns-clause-notes : goal.returns-clause-notes
-returns-clause-notes c =
+returns-clause-notes g c =
     let middle = c.add_entry.new.notes.items in
     let node = c.args.entry.node in
-    let scaled : c.add_scale.new.notes.items ≡ with_note middle node (λ note. record note { greatest = int_max note.greatest c.args.table.k }) = search rules in
-    note_entered c.args.notes.now.items middle c.add_scale.new.notes.items node c.args.entry.table c.args.table.k
+    let scaled : c.add_scale.new.notes.items ≡ with_note middle node (λ note. record note { greatest = int_max note.greatest c.args.scale.now }) = search rules in
+    note_entered c.args.notes.now.items middle c.add_scale.new.notes.items node c.args.entry.table c.args.scale.now
     (omega (arith, c.args.notes.now.ok.0, c.requires)) c.in_ok-add_entry.ensures.added scaled

@@ -6,7 +6,7 @@ use Rattle.search_core.proofs.Undone.{desk_put_back}
 use Rattle.search_core.proofs.record.record.Goals as goal
 
 pub returns-then-is_err-clause-same_desks : goal.returns-then-is_err-clause-same_desks
-returns-then-is_err-clause-same_desks c =
+returns-then-is_err-clause-same_desks g c =
     let desks = c.args.desks.now.items in
     let worker = c.args.entry.worker in
     let read = get_or_read desks worker c.index.result.now (omega (arith, c.args.desks.now.ok.0, c.requires.worker)) c.index.ensures no_desk in

@@ -42,13 +42,13 @@ invariant_of-self-2 c =
     let legal = subst (λ (x : Machine). IsLegal x (Commit worker unit c.args.table outcome action)) (sym c.self.view_is) c.requires in
     let count = commit_count m worker unit node c.args.table outcome action c.kept-stored.result _ _ _ c.make.new.tree
     c.children-children.result.now c.self.invariant.orderly holding legal.1 c.make.ensures c.children-children.ensures in
-    let notes = commit_notes m worker unit node _ a.notes.items c.reserve.new.self.items c.record.new.notes.items c.set_held.new.notes.items
+    let notes = commit_notes m worker unit node _ a.notes.items c.record.new.notes.items c.set_held.new.notes.items
     c.add_blanks.new.notes.items (length c.children-children.result.now) _ _ c.end_claim.new.claims.items c.record.new.log c.self.invariant.orderly holding
-    c.self.invariant.notes refl c.end_claim.ensures c.in_ok-record.ensures.log count c.in_ok-reserve.ensures.items
+    c.self.invariant.notes refl c.end_claim.ensures c.in_ok-record.ensures.log count
     c.in_ok-record.ensures.notes c.set_held.ensures.notes c.add_blanks.ensures in
-    let scales = scales_committed a.tables c.record.new.tables a.notes.items c.reserve.new.self.items c.record.new.notes.items
-    c.set_held.new.notes.items c.add_blanks.new.notes.items node _ (length c.children-children.result.now) c.args.table c.self.invariant.scales
-    (search rules) c.in_ok-record.ensures.tables c.in_ok-reserve.ensures.items c.in_ok-record.ensures.notes c.set_held.ensures.notes
+    let scales = scales_committed a.tables c.record.new.tables a.notes.items c.record.new.notes.items
+    c.set_held.new.notes.items c.add_blanks.new.notes.items node _ (length c.children-children.result.now) c.args.table _ c.self.invariant.scales
+    (search rules) (search rules) c.in_ok-record.ensures.tables c.in_ok-record.ensures.notes c.set_held.ensures.notes
     c.add_blanks.ensures in
     let view : view_of (record a { tree = c.make.new.tree; tables = c.record.new.tables; log = c.record.new.log; claims = c.end_claim.new.claims; notes = c.add_blanks.new.notes; desks = c.record.new.desks }) ≡ after c.args.self.now (Commit worker unit c.args.table outcome action) = search rules in
     kept_to a (record a { tree = c.make.new.tree; tables = c.record.new.tables; log = c.record.new.log; claims = c.end_claim.new.claims; notes = c.add_blanks.new.notes; desks = c.record.new.desks })

@@ -1,0 +1,8 @@
+-- Each command adds its shape.
+use Rattle.command_line.proofs.arguments.program.Goals as goal
+
+pub returns : goal.returns
+returns c =
+    let first = c.with_command-program.ensures _ _ c.solve_command.ensures.shape c.bare_program.ensures.app in
+    let second = c.with_command-program-2.ensures _ _ c.check_command.ensures.shape first in
+    c.with_command.ensures _ _ c.demo_command.ensures.shape second
