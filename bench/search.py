@@ -17,7 +17,7 @@ import tempfile
 import unproved
 
 TOP = pathlib.Path(__file__).resolve().parent.parent
-LIBRARIES = "outside report uc_cli".split()
+LIBRARIES = "outside outside_system report uc_cli".split()
 
 
 def built(folder):

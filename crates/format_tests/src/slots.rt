@@ -6,9 +6,10 @@ ghost use Rattle.outside.specs.declared.slot.Slot.TheVariants.{CertOut};
 ghost use Rattle.outside.specs.declared.slot.Stage.TheVariants.{Unopened, Open};
 
 use outside::{
-    Devices, Failed, FaultyFile, Files, Pace, Sink, SinkWriter, Slot, SlotWriter, SlurpFault,
-    StreamSink, slurp, system_files, write_all,
+    Devices, Failed, Files, Sink, SinkWriter, Slot, SlotWriter, SlurpFault, slurp, write_all,
 };
+use outside_memory::{FaultyFile, Pace};
+use outside_system::{StreamSink, system_files};
 use std::fs;
 use std::test::Fail;
 

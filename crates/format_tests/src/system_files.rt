@@ -1,7 +1,8 @@
 //! The certificate's file on the system, which is whole or as it was.
 
 use crate::slots::{begin, is_saved};
-use outside::{Files, Slot, slurp, system_files};
+use outside::{Files, Slot, slurp};
+use outside_system::system_files;
 use std::fs;
 use std::os::unix::fs::symlink;
 use std::test::Fail;

@@ -5,11 +5,6 @@ pub mod Sinks
 pub mod Lines
 pub mod Devices
 pub mod Reading
-pub mod Memory
-pub mod Schedule
-pub mod Faulty
-pub mod System
-pub mod Pace
 pub mod SlurpFault
 pub mod Latching
 pub mod Emitting

@@ -1,6 +1,6 @@
 //! What a case says of its runs.
 
-use outside::{Call, FailingCall, Pace};
+use outside_memory::{Call, FailingCall, Pace};
 use std::alloc::{AllocError, Global};
 
 /// A device of a run.

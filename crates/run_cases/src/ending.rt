@@ -2,7 +2,8 @@
 
 use crate::case::{Case, Place};
 use crate::run::Ended;
-use outside::{FaultyFile, Stage};
+use outside::Stage;
+use outside_memory::FaultyFile;
 use std::alloc::{AllocError, Global};
 
 // A line about a run. One that is told by a range says whether it is as the last run put it.

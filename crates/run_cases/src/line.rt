@@ -5,7 +5,7 @@ use crate::ending::text_of;
 use crate::run::{Ended, run};
 use crate::sweep::Alike;
 use crate::text::split;
-use outside::FailingCall;
+use outside_memory::FailingCall;
 use std::alloc::{AllocError, Global};
 use std::io;
 use std::rt::Files;

@@ -6,7 +6,8 @@ ghost use Rattle.outside.specs.declared.slot.Stage.TheVariants.{Unopened};
 
 use crate::case::{Case, Place};
 use crate::tally::Tally;
-use outside::{Device, Devices, FaultyFile, FaultySink, Files};
+use outside::{Device, Devices, Files};
+use outside_memory::{FaultyFile, FaultySink};
 use std::alloc::{AllocError, Global};
 use std::sync::Wait;
 use std::thread::Threads;

@@ -2,7 +2,7 @@
 
 use crate::case::{Case, Failure, Place, Range, Told, call_of, place_of};
 use crate::text::{bytes_of, changed, split, with_line, with_list, with_more};
-use outside::{FailingCall, Pace};
+use outside_memory::{FailingCall, Pace};
 use std::alloc::{AllocError, Global};
 use std::rt::Files;
 use std::{fs, io};

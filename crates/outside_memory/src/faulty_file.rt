@@ -1,8 +1,7 @@
-use crate::device::Device;
-use crate::fault::Failed;
 use crate::memory_file::MemoryFile;
 use crate::pace::Pace;
 use crate::schedule::{Call, FailingCall, Schedule};
+use outside::{Device, Failed};
 use std::alloc::{AllocError, Global};
 
 /// A file in memory on which the calls of a schedule fail, and no others.
@@ -15,9 +14,9 @@ pub struct FaultyFile {
 
 impl FaultyFile {
     ghost use Rattle.std.specs.Prelude.{◌≡◌, IfOk};
-    ghost use Rattle.outside.specs.Memory.{fresh_file};
-    ghost use Rattle.outside.specs.Faulty.{faulty_file_state};
-    ghost use Rattle.outside.specs.Schedule.{IsFresh};
+    ghost use Rattle.outside_memory.specs.Memory.{fresh_file};
+    ghost use Rattle.outside_memory.specs.Faulty.{faulty_file_state};
+    ghost use Rattle.outside_memory.specs.Schedule.{IsFresh};
 
     /// An unopened file that expects this name and has these bytes to read, and on which these calls
     /// fail.
@@ -41,7 +40,7 @@ impl FaultyFile {
 }
 
 impl Device for FaultyFile {
-    ghost use Rattle.outside.specs.Faulty.{faulty_file_state, faulty_file_unwritten};
+    ghost use Rattle.outside_memory.specs.Faulty.{faulty_file_state, faulty_file_unwritten};
 
     ghost state = { faulty_file_state };
 

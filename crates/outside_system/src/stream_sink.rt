@@ -1,9 +1,7 @@
 ghost use Rattle.std.specs.Prelude.{◌≡◌};
-ghost use Rattle.outside.specs.System.{untold_sink};
+ghost use Rattle.outside_system.specs.System.{untold_sink};
 
-use crate::count::{counted, counted_write};
-use crate::fault::Failed;
-use crate::sink::Sink;
+use outside::{Failed, Sink, counted, counted_write};
 use std::io::Write;
 
 /// A writer of std as a sink, as standard output (`rt.stdout()`) and standard error (`rt.stderr()`).

@@ -1,5 +1,5 @@
 ghost use Rattle.std.specs.Prelude.{◌≡◌, ◌<◌, ◌≤◌};
-ghost use Rattle.outside.specs.Pace.{portion_of};
+ghost use Rattle.outside_memory.specs.Pace.{portion_of};
 
 /// How much a read or a write takes at once.
 #[derive(Clone, Copy, Debug, PartialEq, Eq)]

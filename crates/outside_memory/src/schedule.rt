@@ -1,11 +1,10 @@
 ghost use Rattle.std.specs.Prelude.{◌≡◌, ◌↔◌, ◌<◌, ◌≤◌, min, Contains, IfOk, IsErr, OnOk, OnErr};
 ghost use Rattle.outside.specs.Counts.{HasRisen, one_more};
-ghost use Rattle.outside.specs.Schedule.{count_of, with_count, counted, IsFresh};
-ghost use Rattle.outside.specs.contracts.schedule.CallCounts.{the_row as counts-row};
+ghost use Rattle.outside_memory.specs.Schedule.{count_of, with_count, counted, IsFresh};
+ghost use Rattle.outside_memory.specs.contracts.schedule.CallCounts.{the_row as counts-row};
 ghost use Rattle.std.specs.Borrow.{sem, Lends, u64};
 
-use crate::count::next_count;
-use crate::fault::Failed;
+use outside::{Failed, next_count};
 use std::alloc::{AllocError, Global};
 
 /// A kind of call to the outside.

@@ -1,8 +1,7 @@
-use crate::fault::Failed;
 use crate::memory_sink::MemorySink;
 use crate::pace::Pace;
 use crate::schedule::{Call, FailingCall, Schedule};
-use crate::sink::Sink;
+use outside::{Failed, Sink};
 use std::alloc::{AllocError, Global};
 
 /// A sink in memory on which the calls of a schedule fail, and no others.
@@ -15,9 +14,9 @@ pub struct FaultySink {
 
 impl FaultySink {
     ghost use Rattle.std.specs.Prelude.{◌≡◌, IfOk};
-    ghost use Rattle.outside.specs.Memory.{fresh_sink};
-    ghost use Rattle.outside.specs.Faulty.{faulty_sink_state};
-    ghost use Rattle.outside.specs.Schedule.{IsFresh};
+    ghost use Rattle.outside_memory.specs.Memory.{fresh_sink};
+    ghost use Rattle.outside_memory.specs.Faulty.{faulty_sink_state};
+    ghost use Rattle.outside_memory.specs.Schedule.{IsFresh};
 
     /// A sink to which nothing was written, and on which these calls fail.
     pub fn new(alloc: Global, failing: &[FailingCall], pace: Pace) -> Result<Self, AllocError>
@@ -34,7 +33,7 @@ impl FaultySink {
 }
 
 impl Sink for FaultySink {
-    ghost use Rattle.outside.specs.Faulty.{faulty_sink_state};
+    ghost use Rattle.outside_memory.specs.Faulty.{faulty_sink_state};
 
     ghost state = { faulty_sink_state };
 

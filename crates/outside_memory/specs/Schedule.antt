@@ -1,10 +1,10 @@
 -- Which call of its kind a call is.
 use Rattle.std.specs.Prelude.{◌≡◌, ℕ, List}
-use Rattle.outside.specs.declared.schedule.Call.{Call}
-use Rattle.outside.specs.declared.schedule.Call.TheVariants.{Open, Read, Write, Finish, Flush}
-use Rattle.outside.specs.declared.schedule.CallCounts.{CallCounts}
-use Rattle.outside.specs.declared.schedule.FailingCall.{FailingCall}
-use Rattle.outside.specs.declared.schedule.Schedule.{Schedule}
+use Rattle.outside_memory.specs.declared.schedule.Call.{Call}
+use Rattle.outside_memory.specs.declared.schedule.Call.TheVariants.{Open, Read, Write, Finish, Flush}
+use Rattle.outside_memory.specs.declared.schedule.CallCounts.{CallCounts}
+use Rattle.outside_memory.specs.declared.schedule.FailingCall.{FailingCall}
+use Rattle.outside_memory.specs.declared.schedule.Schedule.{Schedule}
 use Rattle.outside.specs.Counts.{one_more}
 
 -- how many calls of a kind were made

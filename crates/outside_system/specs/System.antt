@@ -2,8 +2,8 @@
 use Rattle.std.specs.Prelude.{ℕ, None}
 use Rattle.outside.specs.declared.slot.Stage.{Stage}
 use Rattle.outside.specs.declared.slot.Stage.TheVariants.{Unopened, Open, Finished}
-use Rattle.outside.specs.declared.system.Handle.{Handle}
-use Rattle.outside.specs.declared.system.Handle.TheVariants.{Unopened as NoFile, Open as OpenFile, Lost as LostFile, Finished as DoneFile}
+use Rattle.outside_system.specs.declared.system.Handle.{Handle}
+use Rattle.outside_system.specs.declared.system.Handle.TheVariants.{Unopened as NoFile, Open as OpenFile, Lost as LostFile, Finished as DoneFile}
 use Rattle.outside.specs.Slots.{SlotState}
 use Rattle.outside.specs.Sinks.{SinkState}
 

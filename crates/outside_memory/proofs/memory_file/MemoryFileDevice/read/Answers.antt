@@ -1,7 +1,7 @@
 use Rattle.std.proofs.Common.{ap, Some, refl, subst, ◌≡◌, ◌+◌, ◌++◌, ℕ, List, take, drop}
-use Rattle.outside.specs.Memory.{file_state}
+use Rattle.outside_memory.specs.Memory.{file_state}
 use Rattle.outside.proofs.ReadingLemmas.{next-then-rest}
-use Rattle.outside.proofs.memory_file.MemoryFileDevice.read.Goals as goal
+use Rattle.outside_memory.proofs.memory_file.MemoryFileDevice.read.Goals as goal
 
 pub returns-clause-ok : goal.returns-clause-ok
 returns-clause-ok c =

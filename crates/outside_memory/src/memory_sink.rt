@@ -1,8 +1,7 @@
 ghost use Rattle.std.specs.Prelude.{◌≤◌, vec_len};
 ghost use Rattle.std.specs.Option.{ForSome};
 
-use crate::fault::Failed;
-use crate::sink::Sink;
+use outside::{Failed, Sink};
 use std::alloc::Global;
 
 /// A sink in memory. No call on it fails, so its count of faults is always 0.
@@ -19,7 +18,7 @@ pub struct MemorySink {
 
 impl MemorySink {
     ghost use Rattle.std.specs.Prelude.{◌≡◌, option_copied};
-    ghost use Rattle.outside.specs.Memory.{sink_state, fresh_sink};
+    ghost use Rattle.outside_memory.specs.Memory.{sink_state, fresh_sink};
 
     /// A sink to which nothing was written.
     pub fn new(alloc: Global) -> Self
@@ -55,7 +54,7 @@ impl MemorySink {
 }
 
 impl Sink for MemorySink {
-    ghost use Rattle.outside.specs.Memory.{sink_state};
+    ghost use Rattle.outside_memory.specs.Memory.{sink_state};
 
     ghost state = { sink_state };
 

@@ -2,15 +2,10 @@ ghost use Rattle.std.specs.Prelude.{◌≡◌};
 ghost use Rattle.outside.specs.declared.slot.Slot.{Slot};
 ghost use Rattle.outside.specs.declared.slot.Stage.TheVariants.{Unopened as UnopenedStage, Open as OpenStage};
 ghost use Rattle.outside.specs.Slots.{AllUnopened};
-ghost use Rattle.outside.specs.System.{untold_slot};
+ghost use Rattle.outside_system.specs.System.{untold_slot};
 
-use crate::count::{counted, counted_write};
-use crate::device::Device;
-use crate::devices::Devices;
 use crate::draft::{FileIdentity, Opened, open_target};
-use crate::fault::Failed;
-use crate::files::Files;
-use crate::slot::Slot;
+use outside::{Device, Devices, Failed, Files, Slot, counted, counted_write};
 use std::fs::OpenFile;
 use std::io::{ErrorKind, Read, Write};
 use std::{fs, io};
@@ -114,7 +109,7 @@ fn lost() -> io::Error {
 }
 
 impl<'a, R: std::rt::Files + AllocGlobal> Device for SystemFile<'a, R> {
-    ghost use Rattle.outside.specs.System.{stage_of};
+    ghost use Rattle.outside_system.specs.System.{stage_of};
 
     ghost state = { λ file. untold_slot (stage_of file.handle) file.faults };
 

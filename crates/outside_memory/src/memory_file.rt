@@ -1,9 +1,7 @@
 ghost use Rattle.std.specs.Prelude.{◌≡◌, ◌≤◌, [], true, length, min, take, vec_len};
 ghost use Rattle.outside.specs.declared.slot.Stage.TheVariants.{Unopened};
 
-use crate::device::Device;
-use crate::fault::Failed;
-use crate::slot::Stage;
+use outside::{Device, Failed, Stage};
 use std::alloc::{AllocError, Global};
 
 /// A file in memory. No call on it fails, so its count of faults is always 0.
@@ -25,7 +23,7 @@ pub struct MemoryFile {
 
 impl MemoryFile {
     ghost use Rattle.std.specs.Prelude.{IfOk, option_copied};
-    ghost use Rattle.outside.specs.Memory.{file_state, fresh_file};
+    ghost use Rattle.outside_memory.specs.Memory.{file_state, fresh_file};
 
     /// An unopened file that expects this name, and has these bytes to read.
     pub fn new(alloc: Global, expected: &str, input: &[u8]) -> Result<Self, AllocError>
@@ -62,7 +60,7 @@ impl MemoryFile {
 }
 
 impl Device for MemoryFile {
-    ghost use Rattle.outside.specs.Memory.{file_state, file_unwritten};
+    ghost use Rattle.outside_memory.specs.Memory.{file_state, file_unwritten};
 
     ghost state = { file_state };
 
