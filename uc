@@ -8,7 +8,7 @@ program=$top/crates/uc/out/uc
 child='' work='' told='' crates=() uses=() began=() took=()
 
 # What the proof of each crate took when it was measured, in seconds of one processor.
-weights='uc_model 72 dual_model 42 outside 222 decimal_json 174 instance 216 cert_text 210 report 84 cost_curves 60
+weights='uc_model 72 dual_model 42 outside 110 outside_system 120 decimal_json 174 instance 216 cert_text 210 report 84 cost_curves 60
   start_costs 30 period_term 66 ramp_duals 36 system_value 24 interval_graph 24 unit_path 96 dispatch_repair 228
   dual_value 42 quick_value 186 opening_tables 48 bundle 156 prices 168 repair_state 276 schedule_repair 204
   branch_tree 66 incumbent 30 steal_pool 60 search_core 216 claims 60 decommitment 36 opening 72 workers 228

@@ -51,6 +51,8 @@ BASES = {
 
 OFF = {"power_output_t0": 0, "unit_on_t0": 0, "time_up_t0": 0, "time_down_t0": 9}
 
+SLOW_STARTS = {name: {"ramp_up_limit": 10, "ramp_startup_limit": low} for name, low in (("a", 60), ("b", 60), ("c", 30), ("d", 30))}
+
 # Of each system its name, why it has no schedule, its base, and what is changed: fields of the system, and of units.
 SYSTEMS = (
     ("a stop", "the large unit falls by 10 an hour from 100, may stop from 50, and so gives 60 in hour 4, where demand is 50",
@@ -76,9 +78,10 @@ SYSTEMS = (
      "six", {"demand": [380, 450, 490, 350, 230, 140, 140, 230, 350, 450, 490, 450]}, {}),
     ("long reserve", "the slow units' ramps leave 28 of reserve and the quick units 60, unless a start lets others fall; 100 are wanted",
      "six", {"reserves": [20] * 3 + [100] * 6 + [20] * 3}, {name: {"ramp_up_limit": 7} for name in "abcd"}),
-    ("a rise", "slow units that start at their minimums after a valley of 100 and rise by 10 an hour don't reach 400 four hours later",
-     "six", {"demand": [300, 260, 200, 140, 100, 100, 100, 100, 140, 200, 260, 400]},
-     {name: {"ramp_up_limit": 10, "ramp_startup_limit": low} for name, low in (("a", 60), ("b", 60), ("c", 30), ("d", 30))}),
+    ("a rise", "slow units that start at their minimums after a valley of 100 and rise by 10 an hour don't reach 430 four hours later",
+     "six", {"demand": [300, 260, 200, 140, 100, 100, 100, 100, 140, 200, 260, 430]}, SLOW_STARTS),
+    ("a tight rise", "nor do they reach 400, of which they lack so little that it takes many splits to show",
+     "six", {"demand": [300, 260, 200, 140, 100, 100, 100, 100, 140, 200, 260, 400]}, SLOW_STARTS),
 )
 
 
