@@ -1,0 +1,4 @@
+mod Slopes
+mod Sums
+mod Merit
+mod Periods

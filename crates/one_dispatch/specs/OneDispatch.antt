@@ -1,0 +1,33 @@
+-- A commitment has one dispatch: the order of merit leaves no choice. Source: economic dispatch by the merit order of incremental
+-- costs; that of sources of one slope the first comes first is this project's own.
+--
+-- Units and periods count from 0 here.
+use Rattle.std.specs.Prelude.{◌≡◌, ℕ, List}
+use Rattle.uc_model.specs.Limits.{IsLawfulInstance}
+use Rattle.uc_model.specs.PrintedSchedule.{cell_at}
+use Rattle.uc_model.specs.declared.instance.Instance.{Instance}
+use Rattle.uc_model.specs.declared.pattern.Pattern.{Pattern}
+use Rattle.uc_model.specs.declared.schedule.Printed.{Printed}
+use Rattle.uc_model.specs.declared.stuck.Stuck.{Stuck}
+use Rattle.schedule_check.specs.SizedNumbers.{output_at}
+use Rattle.dispatch_repair.specs.Stuck.{IsDispatchOf, IsStuckOf}
+
+-- the schedules have the same cells, and the same outputs of renewable units
+pub record AreSame (one other : Printed) : Type 0 where
+  pub cells : (g t : ℕ) → cell_at one g t ≡ cell_at other g t
+  pub outputs : (w t : ℕ) → output_at one w t ≡ output_at other w t
+
+-- two dispatches of a commitment are the same
+abbrev pub DispatchesAreSame : Type 0
+DispatchesAreSame = (instance : Instance) (patterns : List Pattern) (one other : Printed) → IsLawfulInstance instance
+    → IsDispatchOf instance patterns one → IsDispatchOf instance patterns other → AreSame one other
+
+-- a commitment that is dispatched isn't stuck
+abbrev pub NeverBoth : Type 0
+NeverBoth = (instance : Instance) (patterns : List Pattern) (printed : Printed) (stuck : Stuck) → IsLawfulInstance instance
+    → IsDispatchOf instance patterns printed → ¬ IsStuckOf instance patterns stuck
+
+-- it is stuck in one period
+abbrev pub StuckPeriodsAreSame : Type 0
+StuckPeriodsAreSame = (instance : Instance) (patterns : List Pattern) (one other : Stuck) → IsLawfulInstance instance
+    → IsStuckOf instance patterns one → IsStuckOf instance patterns other → one.period ≡ other.period
