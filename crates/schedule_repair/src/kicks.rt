@@ -13,8 +13,10 @@ use uc_model::{Instance, NoMemory};
 /// The most passes of a kick in which missing reserve has its full price.
 const PASSES: u32 = 2;
 
-/// Turns that cost more than this part of the best state are left alone.
+/// Turns that cost more than this part of the best state are left alone, unless there are so few cells that none is.
 const SPAN: i64 = 200;
+
+const FEW_CELLS: usize = 64;
 
 /// So many of `CHANCES` kicks begin with missing reserve cheap: three of four.
 const SOFT_KICKS: u64 = CHANCES / 4 * 3;
@@ -60,8 +62,18 @@ fn list_turns(room: &mut Repair, instance: &Instance) -> Result<(), NoMemory>
         &mut room.state,
         instance.periods,
         cost,
-        (cost / SPAN).saturating_abs(),
+        most_above(cost, cells),
     )
+}
+
+// What a turn of a best state of this cost may cost more, where there are so many cells.
+fn most_above(cost: i64, cells: usize) -> i64 {
+    let size = cost.saturating_abs();
+    if cells <= FEW_CELLS {
+        size
+    } else {
+        size / SPAN
+    }
 }
 
 // Turns a cell, improves the other units that have turns, and then the unit of the cell too; and goes back if that is no cheaper.

@@ -20,7 +20,10 @@ use opening::{is_positive, node_ray};
 use prices::{Ascent, next_ascent, with_ray};
 use search_core::{Event, State};
 use std::alloc::Global;
-use uc_model::NoMemory;
+use uc_model::{Instance, NoMemory};
+
+/// With so few cells each ascent is repaired.
+const FEW_CELLS: usize = 64;
 
 /// What a claim is evaluated at: the table that its node inherited, a ray of the opening, the ray of an ascent that ran off, or the table
 /// that an ascent found.
@@ -82,18 +85,25 @@ pub(crate) fn visit(
     let path = search.state.tree().fixings(alloc, claim.node)?;
     let trial = chosen(alloc, worker, search, claim, &path)?;
     let ended = end(alloc, worker, search, claim, &path, &trial);
-    remember(search, claim, trial);
+    let is_small = is_small(worker.evaluator.instance());
+    remember(search, claim, trial, is_small);
     ended
 }
 
+// Whether the instance has so few cells that a repair takes next to no time.
+fn is_small(instance: &Instance) -> bool {
+    let units = instance.thermal.as_slice().len();
+    units.saturating_mul(instance.periods as usize) <= FEW_CELLS
+}
+
 // Keeps the ascent of the trial, where a repair is to begin with one, in the place of former ones.
-fn remember(search: &mut Search, claim: Claim, trial: Trial)
+fn remember(search: &mut Search, claim: Claim, trial: Trial, is_small: bool)
     ensures state { search.new.state ≡ search.old.state }
     ensures best { search.new.best ≡ search.old.best }
     ensures next { search.new.next ≡ None }
 {
     search.next = None;
-    search.last = repairable(claim, trial.into_ascent());
+    search.last = repairable(claim, trial.into_ascent(), is_small);
 }
 
 // Evaluates the node at the trial's table, and commits what comes out with the move that ends the claim.
@@ -259,10 +269,11 @@ fn own_ray(
     Ok(fresh(&search.state, claim.node, Some(ray)))
 }
 
-// The ascent, unless it came so high that the node was pruned: a schedule there is hardly cheaper than the best one.
-fn repairable(claim: Claim, ascent: Option<Ascent>) -> Option<Ascent> {
+// The ascent, unless it came so high that the node was pruned: a schedule there is hardly cheaper than the best one. In a small system it is
+// tried all the same.
+fn repairable(claim: Claim, ascent: Option<Ascent>, is_small: bool) -> Option<Ascent> {
     match ascent {
-        Some(ascent) if ascent.bound < enough(claim) => Some(ascent),
+        Some(ascent) if is_small || ascent.bound < enough(claim) => Some(ascent),
         _ => None,
     }
 }
