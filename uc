@@ -8,12 +8,12 @@ program=$top/crates/uc/out/uc
 child='' work='' told='' crates=() uses=() began=() took=()
 
 # What the proof of each crate took when it was measured, in seconds of one processor.
-weights='uc_model 72 dual_model 42 outside 110 outside_system 120 decimal_json 174 instance 216 cert_text 210 report 84 cost_curves 60
-  start_costs 30 period_term 66 ramp_duals 36 system_value 24 interval_graph 24 unit_path 96 dispatch_repair 228
-  dual_value 42 quick_value 186 opening_tables 48 bundle 156 prices 168 repair_state 276 schedule_repair 204
-  branch_tree 66 incumbent 30 steal_pool 60 search_core 216 claims 60 decommitment 36 opening 72 workers 228
-  schedule_check 120 state_walk 36 leaf_values 54 cert_check 72 demo_gen 36 command_line 108 uc_check 60 uc_cli 60
-  uc 108'
+weights='uc_model 48 dual_model 30 outside 60 outside_system 78 decimal_json 102 instance 186 cert_text 186 report 84
+  cost_curves 42 start_costs 24 period_term 72 ramp_duals 36 system_value 24 interval_graph 18 unit_path 66
+  dispatch_repair 180 dual_value 42 quick_value 108 opening_tables 48 bundle 120 prices 180 repair_state 144
+  schedule_repair 186 branch_tree 48 incumbent 24 steal_pool 72 search_core 144 claims 54 decommitment 48 opening 72
+  workers 234 schedule_check 90 state_walk 36 leaf_values 54 cert_check 72 demo_gen 36 command_line 102 uc_check 72
+  uc_cli 54 uc 126'
 
 say() { printf 'uc: %s\n' "$*" >&2; }
 is_current() {
