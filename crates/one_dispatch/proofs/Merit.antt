@@ -2,6 +2,7 @@
 use Rattle.std.proofs.Common.{◌≡◌, ◌≢◌, ◌⊎◌, inl, inr, ⊎_elim, ℕ, ◌<◌, ◌≤◌, arith, refl, sym, ap, subst, ℤ, pos, ◌+ℤ◌, ◌-ℤ◌, ◌*ℤ◌, ◌≤ℤ◌, ◌<ℤ◌}
 use Rattle.std.proofs.lemmas.Bool.{cases_lt, cond_both}
 use Rattle.uc_model.specs.Limits.{IsLawfulInstance}
+use Rattle.uc_model.specs.Sums.{sum_below}
 use Rattle.uc_model.specs.Schedule.{thermal_count, thermal_unit, renewable_count}
 use Rattle.uc_model.specs.declared.instance.Instance.{Instance}
 use Rattle.uc_model.proofs.Ring.{linear, le_or_lt, le_antisymm, le_trans, zero-mul}
@@ -11,7 +12,7 @@ use Rattle.cost_curves.specs.declared.slope.Slope.{Slope}
 use Rattle.cost_curves.proofs.Lines.{flatter_trans}
 use Rattle.cost_curves.proofs.Slopes.{slope_run}
 use Rattle.cost_curves.proofs.UnitPoints.{lawful_points}
-use Rattle.dispatch_repair.specs.Period.{Period, Source, FromRenewable, FromThermal, IsSourceOf, low_of, high_of, is_off_next, thermal_sum, renewable_sum, thermal_limit}
+use Rattle.dispatch_repair.specs.Period.{Period, Source, FromRenewable, FromThermal, IsSourceOf, low_of, high_of, is_off_next, thermal_sum, thermal_limit}
 use Rattle.dispatch_repair.specs.MeritOrder.{ComesBefore, HasLastSlope, HasNextSlope, IsInMeritOrder, IsPreferred, thermal_part}
 use Rattle.dispatch_repair.proofs.Filled.{max_left}
 use Rattle.one_dispatch.proofs.Slopes.{left-there, right-there, right-le-left}
@@ -138,46 +139,37 @@ no_clash period one other s r are it =
     apart same = omega (arith, linear, it.s_less, subst (λ x. other x <ℤ one x) (sym same) it.r_less)
 
 -- ---- one filling
+-- as the sources of a kind give the same in all, each gives the same
+module _ (period : Period) (one other : Source → ℤ) (are : AreFillings period one other) (n : ℕ) (source : ℕ → Source)
+    (within : (k : ℕ) → k < n → IsSourceOf period.instance (source k)) (even : (j k : ℕ) → thermal_part (source j) ≡ thermal_part (source k))
+    (sums : sum_below n (λ k. one (source k)) ≡ sum_below n (λ k. other (source k))) where
+  kind-le : (k : ℕ) → k < n → one (source k) ≤ℤ other (source k)
+  kind-le = elim (none_above n (λ k. one (source k)) (λ k. other (source k))) [
+    | inl all ↦ all
+    | inr more ↦ elim (none_above n (λ k. other (source k)) (λ k. one (source k))) [
+      | inl all ↦ λ k h. absurd (omega (arith, linear, more.2, same_terms n (λ j. other (source j)) (λ j. one (source j)) all (sym sums) more.0 more.1))
+      | inr less ↦ λ k h. absurd (no_clash period one other (source less.0) (source more.0) are (record {
+        is_s = within less.0 less.1;
+        is_r = within more.0 more.1;
+        s_less = less.2;
+        r_less = more.2;
+        room_one = omega (arith, linear, are.first.limit, even less.0 more.0);
+        room_other = omega (arith, linear, are.second.limit, even more.0 less.0);
+      }))
+    ]
+  ]
+
+  kind_same : (k : ℕ) → k < n → one (source k) ≡ other (source k)
+  kind_same = same_terms n (λ k. one (source k)) (λ k. other (source k)) kind-le sums
+
 -- as the thermal units give the same in all, each source gives the same
-module _ (period : Period) (one other : Source → ℤ) (are : AreFillings period one other) (same : thermal_sum period one ≡ thermal_sum period other) where
-  thermal-le : (g : ℕ) → g < thermal_count period.instance → one (FromThermal g) ≤ℤ other (FromThermal g)
-  thermal-le = elim (none_above (thermal_count period.instance) (λ g. one (FromThermal g)) (λ g. other (FromThermal g))) [
-    | inl all ↦ all
-    | inr more ↦ elim (none_above (thermal_count period.instance) (λ g. other (FromThermal g)) (λ g. one (FromThermal g))) [
-      | inl all ↦ λ g h. absurd (omega (arith, linear, more.2, same_terms (thermal_count period.instance) (λ k. other (FromThermal k)) (λ k. one (FromThermal k)) all (sym same) more.0 more.1))
-      | inr less ↦ λ g h. absurd (no_clash period one other (FromThermal less.0) (FromThermal more.0) are (record {
-        is_s = less.1;
-        is_r = more.1;
-        s_less = less.2;
-        r_less = more.2;
-        room_one = omega (arith, linear, are.first.limit);
-        room_other = omega (arith, linear, are.second.limit);
-      }))
-    ]
-  ]
-
-  renewable_same : renewable_sum period one ≡ renewable_sum period other
-  renewable_same = omega (arith, linear, same, are.first.demand, are.second.demand)
-
-  renewable-le : (w : ℕ) → w < renewable_count period.instance → one (FromRenewable w) ≤ℤ other (FromRenewable w)
-  renewable-le = elim (none_above (renewable_count period.instance) (λ w. one (FromRenewable w)) (λ w. other (FromRenewable w))) [
-    | inl all ↦ all
-    | inr more ↦ elim (none_above (renewable_count period.instance) (λ w. other (FromRenewable w)) (λ w. one (FromRenewable w))) [
-      | inl all ↦ λ w h. absurd (omega (arith, linear, more.2, same_terms (renewable_count period.instance) (λ k. other (FromRenewable k)) (λ k. one (FromRenewable k)) all (sym renewable_same) more.0 more.1))
-      | inr less ↦ λ w h. absurd (no_clash period one other (FromRenewable less.0) (FromRenewable more.0) are (record {
-        is_s = less.1;
-        is_r = more.1;
-        s_less = less.2;
-        r_less = more.2;
-        room_one = omega (arith, linear, are.first.limit);
-        room_other = omega (arith, linear, are.second.limit);
-      }))
-    ]
-  ]
-
-  each_same : (s : Source) → IsSourceOf period.instance s → one s ≡ other s
-  each_same (FromRenewable w) h = same_terms (renewable_count period.instance) (λ k. one (FromRenewable k)) (λ k. other (FromRenewable k)) renewable-le renewable_same w h
-  each_same (FromThermal g) h = same_terms (thermal_count period.instance) (λ k. one (FromThermal k)) (λ k. other (FromThermal k)) thermal-le same g h
+each_same : (period : Period) (one other : Source → ℤ) → AreFillings period one other → thermal_sum period one ≡ thermal_sum period other
+    → (s : Source) → IsSourceOf period.instance s → one s ≡ other s
+each_same period one other are same (FromRenewable w) h =
+    kind_same period one other are (renewable_count period.instance) FromRenewable (λ k hk. hk) (λ j k. refl)
+    (omega (arith, linear, same, are.first.demand, are.second.demand)) w h
+each_same period one other are same (FromThermal g) h =
+    kind_same period one other are (thermal_count period.instance) FromThermal (λ k hk. hk) (λ j k. refl) same g h
 
 -- the thermal units don't give less in all
 not_less : (period : Period) (one other : Source → ℤ) → AreFillings period one other → ¬ (thermal_sum period one <ℤ thermal_sum period other)
