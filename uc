@@ -36,9 +36,17 @@ needed() {
       print "uc", uses["uc"] }' "$top/crates.txt"
 }
 
-# How many crates to prove side by side: one that waits for a library holds its place, and one that is proved takes some 2 GB.
-places() {
-  awk -v most="$(($(nproc) + 2))" '/^MemAvailable/ { n = int($2 / 2e6); print n < 1 ? 1 : n < most ? n : most }' /proc/meminfo
+# A copy of these crates alone, without their must-fail edits, where rt's whole run proves them: those with the longest chain of others
+# behind them first, and one that nothing else can be proved beside by several processors.
+copy() {
+  local name
+  mkdir -p "$work/uc/.git"
+  cp "$top/HANDLES" "$work/uc"
+  for name in "${crates[@]}"; do
+    mkdir -p "$work/uc/crates/$name"
+    find "$top/crates/$name" -mindepth 1 -maxdepth 1 ! -name out ! -name must-fail -exec cp -R -t "$work/uc/crates/$name" {} +
+    grep -E "^$name[ :]" "$top/crates.txt"
+  done >"$work/uc/crates.txt"
 }
 
 # A line for each crate: its name, the seconds since its proof began, those that it took, and the libraries that it uses.
@@ -77,15 +85,12 @@ minutes_left() {
     }'
 }
 
-# A library's folder is made when its proof begins, and the log names each crate that is done, also those that were proved before.
-# The program is begun once all others are done.
+# A crate's folder for what is made is there once its proof begins, and the log names each crate that is done or was proved before.
 show() {
-  local i ended proved=0 last=$((${#crates[@]} - 1)) line
-  ended=$(sed -n 's/^== \(.*\)/ \1 /p' "$work/log")
-  for ((i = 0; i <= last; i++)); do
-    if [ "$top/crates/${crates[i]}/out/rlib" -nt "$work/start" ] || { [ "$i" = "$last" ] && [ "$proved" = "$last" ]; }; then
-      began[i]=${began[i]-$SECONDS}
-    fi
+  local i ended proved=0 line
+  ended=$(sed -nE 's/^== ([a-z_]+)$/ \1 /p; s/^([a-z_]*: )?([a-z_]+) is kept: .*/ \2 /p' "$work/log")
+  for ((i = 0; i < ${#crates[@]}; i++)); do
+    if [ -d "$work/uc/crates/${crates[i]}/out" ]; then began[i]=${began[i]-$SECONDS}; fi
     if [[ $ended == *" ${crates[i]} "* ]]; then
       took[i]=${took[i]-$((SECONDS - ${began[i]-SECONDS}))}
       proved=$((proved + 1))
@@ -95,12 +100,11 @@ show() {
   if [ "$line" != "$told" ]; then told=$line && say "$line"; fi
 }
 
-# Runs rt in the program's folder, where it takes in the crates below the program and no others.
-watched() {
-  (cd "$top/crates/uc" && exec {lock}<&- && exec rt "$@") >>"$work/log" 2>&1 </dev/null &
+prove() {
+  (cd "$work/uc" && exec {lock}<&- && exec rt ci) >>"$work/log" 2>&1 </dev/null &
   child=$!
   while kill -0 "$child" 2>/dev/null; do
-    [ "$1" != all ] || show
+    show
     sleep 1
   done
   wait "$child"
@@ -111,6 +115,7 @@ leave() { [ -z "$child" ] || kill "$child" 2>/dev/null || true; rm -rf -- "$work
 fail() {
   trap - EXIT
   tail -n 15 -- "$work/log" >&2
+  rm -rf -- "$work/uc"
   say "the program could not be built; the log is $work/log"
   exit 70
 }
@@ -122,12 +127,13 @@ build() {
   trap 'exit 143' INT TERM HUP
   while read -r name below; do crates+=("$name") uses+=("$below"); done < <(needed)
   say "proving and building the program; later runs start at once"
-  watched all check --jobs "$(places)" || fail
-  say "all ${#crates[@]} proved; linking the program"
-  # The program runs at the end of its build, without words: it tells how it is called, and ends with 5.
-  watched run || [ $? -eq 5 ] || fail
+  copy
+  prove || fail
+  mkdir -p "${program%/*}"
+  cp "$work/uc/crates/uc/out/uc" "$program.new"
   # What was edited meanwhile stays newer than the program.
-  touch -r "$work/start" "$program"
+  touch -r "$work/start" "$program.new"
+  mv -f "$program.new" "$program"
   trap - EXIT INT TERM HUP
   rm -rf -- "$work"
   say "built in $((SECONDS / 60)) min $((SECONDS % 60)) s"
