@@ -4,8 +4,7 @@ use Rattle.std.proofs.lemmas.Int.{ints, int_min_is}
 use Rattle.std.proofs.lemmas.Bool.{cases_lt}
 use Rattle.std.proofs.lemmas.Option.{slice_get_within}
 use Rattle.dual_model.specs.Tree.{root, child}
-use Rattle.dual_model.specs.declared.node.Node.{Node}
-use Rattle.branch_tree.specs.NumberedTree.{NumberedTree, EndAt, SplitAt, Subtree, unnumbered, spot_of, subtree_below}
+use Rattle.branch_tree.specs.NumberedTree.{Node, NumberedTree, EndAt, SplitAt, Subtree, unnumbered, spot_of, subtree_below}
 pub use Rattle.branch_tree.specs.StoredTree.{AtMost}
 use Rattle.branch_tree.specs.StoredTree.{leaf_bound, spot_bound, lesser_bound, least_bound}
 use Rattle.branch_tree.specs.Places.{Place, HasPlaces, ArePlacesOf, AreWellPlaced, tree_from}

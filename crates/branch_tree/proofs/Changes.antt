@@ -2,12 +2,10 @@
 use Rattle.std.proofs.Common.{◌≡◌, ◌≢◌, ℕ, zero, suc, ◌+◌, ◌<◌, true, false, cond, List, [], ◌∷◌, ◌++◌, length, set, refl, ap, sym, ◌∙◌, subst, arith, ⊎_elim, Some, length-append, length-set, ◌==◌, IsTrue, not, slice_get}
 use Rattle.std.proofs.lemmas.Bool.{cases_eq, eq-eqb, ne_eqb}
 use Rattle.std.proofs.lemmas.Option.{slice_get_within}
-use Rattle.uc_model.specs.declared.instance.Instance.{Instance}
 use Rattle.dual_model.specs.Fixings.{IsCell}
 use Rattle.dual_model.specs.Tree.{root, child, is_decided, IsCoverBelow, IsCover}
-use Rattle.dual_model.specs.declared.node.Node.{Node}
-use Rattle.branch_tree.specs.NumberedTree.{Leaf, NumberedTree, EndAt, SplitAt, Subtree, unnumbered, spot_of, subtree_below, subtree_at, replaced, split_leaf}
-use Rattle.branch_tree.specs.TreeView.{TreeView, IsSizeOf, IsOpenAt, IsFreeAt, tree_of}
+use Rattle.branch_tree.specs.NumberedTree.{Node, Leaf, NumberedTree, EndAt, SplitAt, Subtree, unnumbered, spot_of, subtree_below, subtree_at, replaced, split_leaf}
+use Rattle.branch_tree.specs.TreeView.{Instance, TreeView, IsSizeOf, IsOpenAt, IsFreeAt, tree_of}
 use Rattle.branch_tree.specs.Places.{Place, ArePlacesOf}
 use Rattle.branch_tree.specs.declared.tree.Leaf.TheVariants as leaf
 use Rattle.branch_tree.specs.declared.tree.Spot.TheVariants as spot

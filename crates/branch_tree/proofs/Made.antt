@@ -2,14 +2,12 @@
 use Rattle.std.proofs.Common.{◌≡◌, ℕ, suc, ◌+◌, ◌<◌, ◌≤◌, List, [], ◌∷◌, ◌++◌, length, get_or, set, refl, ap, sym, ◌∙◌, subst, arith, Some, length-set, length-append, slice_get}
 use Rattle.std.specs.Vec.{vec_capacity}
 use Rattle.std.proofs.lemmas.Option.{slice_get-get_or, slice_get_read}
-use Rattle.uc_model.specs.declared.instance.Instance.{Instance}
 use Rattle.dual_model.specs.Tree.{root, IsCover}
 use Rattle.branch_tree.specs.NumberedTree.{Leaf, NumberedTree, EndAt, unnumbered, node_count, spot_at, replaced, split_leaf}
-use Rattle.branch_tree.specs.TreeView.{TreeView, IsWhole, IsSizeOf, IsOpenAt, IsFreeAt}
-use Rattle.branch_tree.specs.Places.{Place, ArePlacesOf, IsStored, tree_from, view_of}
+use Rattle.branch_tree.specs.TreeView.{Instance, TreeView, IsWhole, IsSizeOf, IsOpenAt, IsFreeAt}
+use Rattle.branch_tree.specs.Places.{Inside, Place, ArePlacesOf, IsStored, tree_from, view_of}
 use Rattle.branch_tree.specs.declared.tree.Leaf.TheVariants as leaf
 use Rattle.branch_tree.specs.declared.tree.Spot.TheVariants as spot
-use Rattle.branch_tree.specs.declared.tree.Tree.TheInside.{Inside}
 use Rattle.branch_tree.proofs.Placed.{tree_is, spot_is}
 use Rattle.branch_tree.proofs.Changes.{open_place, open_within, closed_places, split_places, cover_closed, free_split}
 

@@ -4,8 +4,7 @@ use Rattle.std.specs.Option.{option_map}
 use Rattle.std.proofs.lemmas.Bool.{cases_lt}
 use Rattle.std.proofs.lemmas.Option.{slice_get_within}
 use Rattle.dual_model.specs.Tree.{root, child}
-use Rattle.dual_model.specs.declared.node.Node.{Node}
-use Rattle.branch_tree.specs.NumberedTree.{Spot, NumberedTree, EndAt, SplitAt, Subtree, no_tree, number_of, spot_of, node_count, times, subtree_below, subtree_at, spot_at}
+use Rattle.branch_tree.specs.NumberedTree.{Node, Spot, NumberedTree, EndAt, SplitAt, Subtree, no_tree, number_of, spot_of, node_count, times, subtree_below, subtree_at, spot_at}
 use Rattle.branch_tree.specs.Places.{Place, HasPlace, HasPlaces, ArePlacesOf, grown_from, trees_of, tree_from}
 use Rattle.branch_tree.specs.declared.tree.Spot.TheVariants as spot
 use Rattle.branch_tree.proofs.Weights.{same_or_not, none_here}

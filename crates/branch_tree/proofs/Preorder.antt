@@ -7,8 +7,7 @@ use Rattle.std.proofs.lemmas.List.{length-reverse, reverse-append, same_from_pus
 use Rattle.std.proofs.lemmas.List.Elements.{All-nil, All-cons, All-append}
 use Rattle.std.proofs.lemmas.Option.{same_Some}
 use Rattle.dual_model.specs.Tree.{root, child}
-use Rattle.dual_model.specs.declared.node.Node.{Node}
-use Rattle.branch_tree.specs.NumberedTree.{Spot, NumberedTree, EndAt, SplitAt, Subtree, IsNumbered, number_of, spot_of, children_of, numbers, node_count, subtree_at, spot_at}
+use Rattle.branch_tree.specs.NumberedTree.{Node, Spot, NumberedTree, EndAt, SplitAt, Subtree, IsNumbered, number_of, spot_of, children_of, numbers, node_count, subtree_at, spot_at}
 use Rattle.branch_tree.specs.declared.tree.Spot.TheVariants as spot
 use Rattle.branch_tree.proofs.Subtrees.{AreApart, part_counted, at_root, children_hang}
 

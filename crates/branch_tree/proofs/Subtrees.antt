@@ -4,8 +4,7 @@ use Rattle.std.specs.Option.{option_or}
 use Rattle.std.proofs.lemmas.Bool.{eq-eqb, ne_eqb, cases_lt}
 use Rattle.std.proofs.lemmas.Option.{same_Some}
 use Rattle.dual_model.specs.Tree.{child}
-use Rattle.dual_model.specs.declared.node.Node.{Node}
-use Rattle.branch_tree.specs.NumberedTree.{Leaf, NumberedTree, EndAt, SplitAt, Subtree, number_of, spot_of, times, subtree_below}
+use Rattle.branch_tree.specs.NumberedTree.{Node, Leaf, NumberedTree, EndAt, SplitAt, Subtree, number_of, spot_of, times, subtree_below}
 use Rattle.branch_tree.specs.declared.tree.Spot.TheVariants as spot
 use Rattle.branch_tree.proofs.Weights.{same_or_not, one_here, none_here, times_root}
 

@@ -1,19 +1,15 @@
 -- What the leaves store bounds the cost, and leaves no schedule where none stores a bound.
 use Rattle.std.proofs.Common.{◌≡◌, ℕ, true, false, List, refl, subst, arith, inl, inr, ⊎_elim, Option, Some, None, ℤ, ◌≤ℤ◌}
-use Rattle.uc_model.specs.declared.instance.Instance.{Instance}
 use Rattle.uc_model.proofs.Ring.{linear}
 use Rattle.dual_model.specs.Fixings.{HasEmptyUnit}
 use Rattle.dual_model.specs.Tree.{Ends, Splits, root, child, map_leaves, EachLeaf}
 use Rattle.dual_model.specs.Tree as branch
 use Rattle.dual_model.specs.Cover.{IsBoundedBy, HasBoundOf, IsExcluded, LeafHolds}
 use Rattle.dual_model.specs.Laws.{IsClaimTrue}
-use Rattle.dual_model.specs.declared.node.Node.{Node}
-use Rattle.dual_model.specs.declared.table.Table.{Table}
 use Rattle.dual_model.proofs.Covers.{covers_bound, covers_exclude}
-use Rattle.branch_tree.specs.TreeView.{tree_of}
+use Rattle.branch_tree.specs.TreeView.{Instance, Node, tree_of}
 use Rattle.branch_tree.specs.StoredTree.{lesser_bound, least_bound, tree_bound}
-use Rattle.branch_tree.specs.TreeLaws.{own_claim, claims_of, StoredHolds, StoredBoundsHold}
-use Rattle.branch_tree.specs.declared.tree.Leaf.{Leaf}
+use Rattle.branch_tree.specs.TreeLaws.{Leaf, Table, own_claim, claims_of, StoredHolds, StoredBoundsHold}
 use Rattle.branch_tree.specs.declared.tree.Leaf.TheVariants as leaf
 use Rattle.branch_tree.proofs.Bounds.{AtMost, at_most_itself, at_most_through, lesser_first, lesser_second}
 

@@ -1,21 +1,20 @@
 -- What the leaves of a search's tree claim, and the certificate that a found answer stands for. This project's own form.
 use Rattle.std.specs.Prelude.{◌≡◌, ℕ, ◌<◌, List, [], ℤ, pos, Option, Some, None, All, length, slice_index_or, map}
 use Rattle.uc_model.specs.Schedule.{thermal_count, renewable_count}
-use Rattle.uc_model.specs.declared.instance.Instance.{Instance}
 use Rattle.uc_model.specs.declared.schedule.Printed.{Printed}
 use Rattle.dual_model.specs.Tree.{map_leaves}
 use Rattle.dual_model.specs.Cover.{Bound, Ray, Empty}
 use Rattle.dual_model.specs.Cover as cover
 use Rattle.dual_model.specs.Certificate.{Certificate, WrittenSchedule}
-use Rattle.dual_model.specs.declared.table.Table.{Table}
+pub use Rattle.dual_model.specs.declared.table.Table.{Table}
 use Rattle.branch_tree.specs.NumberedTree.{Leaf, numbers}
-use Rattle.branch_tree.specs.TreeView.{tree_of}
+use Rattle.branch_tree.specs.TreeView.{Instance, tree_of}
 use Rattle.branch_tree.specs.StoredTree.{tree_bound}
 use Rattle.branch_tree.specs.UsedTables.{used_tables, place_of}
 use Rattle.branch_tree.specs.declared.tree.Leaf.TheVariants as leaf
-use Rattle.branch_tree.specs.declared.tree.Tree.{Tree}
+pub use Rattle.branch_tree.specs.declared.tree.Tree.{Tree}
 use Rattle.branch_tree.specs.declared.layout.Layout.{Layout}
-use Rattle.branch_tree.specs.declared.found.Found.{Found}
+pub use Rattle.branch_tree.specs.declared.found.Found.{Found}
 
 -- what a leaf claims, with its table under its place in a list; an open leaf counts as a bound
 abbrev pub leaf_claim : List ℕ → Leaf → cover.Leaf

@@ -4,7 +4,7 @@ use Rattle.std.specs.Prelude.{◌≡◌, ℕ, ◌+◌, ◌<◌, ◌≤◌, ◌==
 use Rattle.std.specs.Option.{option_or, option_map}
 use Rattle.dual_model.specs.Tree.{Ends, Splits, root, child}
 use Rattle.dual_model.specs.Tree as branch
-use Rattle.dual_model.specs.declared.node.Node.{Node}
+pub use Rattle.dual_model.specs.declared.node.Node.{Node}
 pub use Rattle.branch_tree.specs.declared.tree.Leaf.{Leaf}
 use Rattle.branch_tree.specs.declared.tree.Leaf.TheVariants as leaf
 pub use Rattle.branch_tree.specs.declared.tree.Spot.{Spot}

@@ -6,7 +6,7 @@ use Rattle.branch_tree.specs.NumberedTree.{Spot, NumberedTree, EndAt, SplitAt, I
 use Rattle.branch_tree.specs.TreeView.{TreeView, IsWhole}
 use Rattle.branch_tree.specs.declared.tree.Spot.TheVariants as spot
 pub use Rattle.branch_tree.specs.declared.places.Place.{Place}
-use Rattle.branch_tree.specs.declared.tree.Tree.TheInside.{Inside}
+pub use Rattle.branch_tree.specs.declared.tree.Tree.TheInside.{Inside}
 
 -- the tree of a place of this number, by those of the later places
 abbrev pub grown_from : ℕ → Spot → List NumberedTree → NumberedTree

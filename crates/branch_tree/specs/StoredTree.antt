@@ -3,8 +3,7 @@ use Rattle.std.specs.Prelude.{◌≡◌, ℕ, ℤ, ◌≤ℤ◌, Option, Some, N
 use Rattle.std.specs.Int.{int_min}
 use Rattle.dual_model.specs.Tree.{Ends, Splits}
 use Rattle.dual_model.specs.Tree as branch
-use Rattle.dual_model.specs.declared.node.Node.{Node}
-use Rattle.branch_tree.specs.NumberedTree.{Spot, Leaf, node_at}
+use Rattle.branch_tree.specs.NumberedTree.{Node, Spot, Leaf, node_at}
 use Rattle.branch_tree.specs.TreeView.{TreeView, tree_of}
 use Rattle.branch_tree.specs.declared.tree.Leaf.TheVariants as leaf
 use Rattle.branch_tree.specs.declared.tree.Spot.TheVariants as spot

@@ -3,17 +3,15 @@
 use Rattle.std.specs.Prelude.{◌≡◌, List, ℤ}
 use Rattle.uc_model.specs.Limits.{IsLawfulInstance}
 use Rattle.uc_model.specs.Schedule.{Schedule}
-use Rattle.uc_model.specs.declared.instance.Instance.{Instance}
 use Rattle.dual_model.specs.Tree.{root, agreeing_leaves, map_leaves, EachLeaf}
 use Rattle.dual_model.specs.Tree as branch
 use Rattle.dual_model.specs.Cover.{Bound, Ray, Empty, IsBoundedBy, IsExcluded, Holds, AllExcluded}
 use Rattle.dual_model.specs.Cover as cover
 use Rattle.dual_model.specs.Laws.{AreTablesLawful, IsLowerBound, IsInfeasible, IsClaimTrue}
-use Rattle.dual_model.specs.declared.node.Node.{Node}
-use Rattle.dual_model.specs.declared.table.Table.{Table}
-use Rattle.branch_tree.specs.TreeView.{tree_of}
+pub use Rattle.dual_model.specs.declared.table.Table.{Table}
+use Rattle.branch_tree.specs.TreeView.{Instance, Node, tree_of}
 use Rattle.branch_tree.specs.StoredTree.{tree_bound}
-use Rattle.branch_tree.specs.declared.tree.Leaf.{Leaf}
+pub use Rattle.branch_tree.specs.declared.tree.Leaf.{Leaf}
 use Rattle.branch_tree.specs.declared.tree.Leaf.TheVariants as leaf
 use Rattle.branch_tree.specs.declared.tree.Tree.{Tree}
 

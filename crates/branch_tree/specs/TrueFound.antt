@@ -6,14 +6,11 @@ use Rattle.dual_model.specs.Fixings.{IsFirstEmpty}
 use Rattle.dual_model.specs.NodeValue.{IsNodeValue}
 use Rattle.dual_model.specs.Certificate.{CertificateHolds}
 use Rattle.dual_model.specs.declared.node.Node.{Node}
-use Rattle.dual_model.specs.declared.table.Table.{Table}
 use Rattle.branch_tree.specs.declared.found.Entry.{Entry}
-use Rattle.branch_tree.specs.declared.found.Found.{Found}
 use Rattle.branch_tree.specs.declared.found.Outcome.{Outcome}
 use Rattle.branch_tree.specs.declared.found.Outcome.TheVariants.{Value, Empty}
-use Rattle.branch_tree.specs.declared.tree.Tree.{Tree}
 use Rattle.branch_tree.specs.StoredTree.{IsNodeAt}
-use Rattle.branch_tree.specs.Claims.{HasLayout, certificate_of}
+use Rattle.branch_tree.specs.Claims.{Found, Table, Tree, HasLayout, certificate_of}
 
 -- the outcome is that of the node at the table
 abbrev pub IsOutcome : Instance → Node → Table → Outcome → Type 0

@@ -3,8 +3,7 @@
 ghost use Rattle.std.specs.Prelude.{◌≡◌, ℕ, suc, ◌+◌, ◌<◌, ◌≤◌, ◌^◌, ◌==◌, ◌∷◌, ◌++◌, [], Some, IfOk, length, slice_get, slice_set, vec_len, vec_capacity};
 ghost use Rattle.branch_tree.specs.NumberedTree.{unnumbered, node_at};
 ghost use Rattle.branch_tree.specs.StoredTree.{lesser_bound, least_bound, spot_bound};
-ghost use Rattle.branch_tree.specs.Places.{AreWellPlaced, IsInner, tree_from};
-ghost use Rattle.branch_tree.specs.declared.places.Place.{Place};
+ghost use Rattle.branch_tree.specs.Places.{Place, AreWellPlaced, IsInner, tree_from};
 ghost use Rattle.branch_tree.specs.declared.tree.Spot.TheVariants as spot;
 
 use crate::tree::{Leaf, Spot};

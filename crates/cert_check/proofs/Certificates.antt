@@ -7,14 +7,11 @@ use Rattle.std.proofs.lemmas.List.{get_or_append_left}
 use Rattle.std.proofs.lemmas.List.Elements.{All-head, All-tail, All-cons, All-nil, All-append}
 use Rattle.std.proofs.lemmas.List.Folds.{list_any-append}
 use Rattle.uc_model.specs.Schedule.{thermal_count}
-use Rattle.uc_model.specs.declared.instance.Instance.{Instance}
 use Rattle.dual_model.specs.Tree.{Tree, Ends, Splits, root, child, IsCoverBelow, EachLeaf, any_leaf}
 use Rattle.dual_model.specs.Cover.{Leaf, Bound, Ray, Empty, IsExcluded, is_bound}
 use Rattle.dual_model.specs.Certificate.{Certificate, CertificateHolds, ClaimHolds}
-use Rattle.dual_model.specs.declared.node.Node.{Node}
-use Rattle.dual_model.specs.declared.table.Table.{Table}
 use Rattle.cert_text.specs.Nodes.{TreeNode, LeafNode, SplitNode, preorder, IsNodeWithin}
-use Rattle.cert_check.specs.Visits.{Visit, visits, IsSoundNode, IsSound}
+use Rattle.cert_check.specs.Visits.{Instance, Node, Table, Visit, visits, IsSoundNode, IsSound}
 use Rattle.cert_check.specs.Refusals.{HasSize, ClaimFits, HasClaim}
 
 -- ---- facts of each element of two lists

@@ -2,15 +2,12 @@
 use Rattle.std.proofs.Common.{◌≡◌, ℕ, ◌<◌, ◌⊎◌, Bool, true, false, IsTrue, inl, inr, List, sym, subst, ◌∙◌, ℤ, pos, ◌<ℤ◌, Option, Some, None, slice_get, MatchOption, ◌↔◌, if◌then◌else◌}
 use Rattle.std.proofs.lemmas.Option.{same_Some}
 use Rattle.uc_model.specs.Schedule.{thermal_count}
-use Rattle.uc_model.specs.declared.instance.Instance.{Instance}
 use Rattle.dual_model.specs.Fixings.{HasEmptyUnit, HasNoPattern}
 use Rattle.dual_model.specs.NodeValue.{IsNodeValue}
 use Rattle.dual_model.specs.Cover.{Bound, Ray, Empty, HasBoundOf, HasPositiveValue, IsBoundedBy, IsExcludedByRay}
-use Rattle.dual_model.specs.declared.node.Node.{Node}
-use Rattle.dual_model.specs.declared.table.Table.{Table}
 use Rattle.dual_model.proofs.NodeValues.{values_are_unique}
 use Rattle.cert_text.specs.Nodes.{LeafNode}
-use Rattle.cert_check.specs.Visits.{IsSoundNode}
+use Rattle.cert_check.specs.Visits.{Instance, Node, Table, IsSoundNode}
 use Rattle.cert_check.specs.inside.Leaves.{HasFloorOf, IsBounding, IsBoundingBy, IsEnough, IsExcluding, IsHeld, IsPositive}
 
 valued-not-empty : (instance : Instance) (node : Node) (table : Table) (v : ℤ) → IsNodeValue instance node table v → ¬ HasEmptyUnit instance node

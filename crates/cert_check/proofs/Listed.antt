@@ -3,8 +3,6 @@ use Rattle.std.proofs.Common.{◌≡◌, ℕ, suc, ◌||◌, refl, sym, ap, subs
 use Rattle.std.specs.List.{list_any}
 use Rattle.std.proofs.lemmas.Option.{none-some, same_Some, get_or_from_slice_get, slice_get_within}
 use Rattle.std.proofs.lemmas.List.Elements.{All-get_or}
-use Rattle.uc_model.specs.declared.instance.Instance.{Instance}
-use Rattle.uc_model.specs.declared.refusal.Refusal.{Refusal}
 use Rattle.uc_model.specs.declared.refusal.Refusal.TheVariants as codes
 use Rattle.uc_model.specs.Rules.{Obeys}
 use Rattle.uc_model.specs.PrintedSchedule.{printed_denominator, printed_schedule}
@@ -19,16 +17,14 @@ use Rattle.cert_text.specs.CertificateText.{Listing, listing_of}
 use Rattle.cert_text.specs.Nodes.{TreeNode, LeafNode, preorder, IsNodeWithin}
 use Rattle.cert_text.specs.TextConditions.{HasText}
 use Rattle.cert_text.specs.Reading.{listing_read, node_of}
-use Rattle.cert_text.specs.declared.cert.Cert.{Cert}
-use Rattle.cert_text.specs.declared.cert.CertNode.{CertNode}
 use Rattle.cert_text.specs.declared.cert.CertNode.TheVariants as nodes
-use Rattle.cert_check.specs.Answers.{IsRead, cost_of}
+use Rattle.cert_check.specs.Answers.{Cert, Instance, IsRead, cost_of}
 use Rattle.cert_check.specs.Visits.{visits, IsSound}
-use Rattle.cert_check.specs.Refusals.{HasSize, HasTables, HasSchedule, ClaimFits, HasClaim, IsFirstUnsound, IsUnsoundAt, IsRefusedBy, refusal_of}
+use Rattle.cert_check.specs.Refusals.{Refusal, HasSize, HasTables, HasSchedule, ClaimFits, HasClaim, IsFirstUnsound, IsUnsoundAt, IsRefusedBy, refusal_of}
 use Rattle.cert_check.specs.inside.Nodes.{AreCheckable, IsCodeOf}
 use Rattle.cert_check.specs.inside.Numbers.{HasLawfulNumbers}
 use Rattle.cert_check.specs.inside.Schedules.{IsCostOf, IsScheduleFault}
-use Rattle.cert_check.specs.inside.Steps.{FitsInstance, ReadClaimFits, is_bound_leaf}
+use Rattle.cert_check.specs.inside.Steps.{CertNode, FitsInstance, ReadClaimFits, is_bound_leaf}
 use Rattle.cert_check.specs.inside.Walks.{walk, all_visits}
 use Rattle.cert_check.proofs.Certificates.{is_bound_node, any-preorder, holds-from, size-of, fits-of, sound-of}
 use Rattle.cert_check.proofs.Pending.{walk-preorder}

@@ -2,11 +2,9 @@
 use Rattle.std.proofs.Common.{◌≡◌, ℕ, true, false, refl, sym, ap, ◌∙◌, List, [], ◌∷◌, ◌++◌, append_assoc, append-nil, if◌then◌else◌}
 use Rattle.dual_model.specs.Tree.{Tree, Ends, Splits, child}
 use Rattle.dual_model.specs.Cover.{Leaf}
-use Rattle.dual_model.specs.declared.node.Fixing.{Fixing}
-use Rattle.dual_model.specs.declared.node.Node.{Node}
 use Rattle.cert_text.specs.Nodes.{TreeNode, SplitNode, preorder}
-use Rattle.cert_check.specs.Visits.{visits}
-use Rattle.cert_check.specs.inside.Walks.{walk, other_child, pending, places}
+use Rattle.cert_check.specs.Visits.{Node, visits}
+use Rattle.cert_check.specs.inside.Walks.{Fixing, walk, other_child, pending, places}
 
 pub pending-push : (before fixings : List Fixing) (last : Fixing)
     → pending before (fixings ++ last ∷ []) ≡ other_child (before ++ fixings) last ++ pending before fixings

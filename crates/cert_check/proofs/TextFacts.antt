@@ -3,9 +3,8 @@ use Rattle.std.proofs.Common.{◌≡◌, ℕ, sym, ◌∙◌, arith, []}
 use Rattle.uc_model.specs.Schedule.{thermal_count}
 use Rattle.uc_model.specs.declared.instance.Instance.{Instance}
 use Rattle.dual_model.specs.Prices.{HasSizeOf, IsLawfulTable}
-use Rattle.dual_model.specs.declared.table.Table.{Table}
 use Rattle.cert_text.specs.TextConditions.{IsTableText}
-use Rattle.cert_check.specs.inside.Numbers.{HasLawfulNumbers}
+use Rattle.cert_check.specs.inside.Numbers.{Table, HasLawfulNumbers}
 
 pub size-of-table : (instance : Instance) (periods thermal : ℕ) (table : Table) → periods ≡ instance.periods → thermal ≡ thermal_count instance
     → IsTableText periods thermal table → HasSizeOf instance table

@@ -3,16 +3,12 @@ use Rattle.std.proofs.Common.{◌≡◌, ℕ, suc, ◌+◌, ◌<◌, ◌≤◌, 
 use Rattle.std.proofs.Math.Seq.{drop-cons}
 use Rattle.std.proofs.lemmas.List.{append-nil, drop_all, get_or-map, length-append, length-map}
 use Rattle.uc_model.specs.Schedule.{thermal_count}
-use Rattle.uc_model.specs.declared.instance.Instance.{Instance}
-use Rattle.dual_model.specs.declared.node.Fixing.{Fixing}
-use Rattle.dual_model.specs.declared.table.Table.{Table}
 use Rattle.cert_text.specs.Nodes.{TreeNode, LeafNode, SplitNode, IsNodeWithin}
 use Rattle.cert_text.specs.Reading.{node_of}
-use Rattle.cert_text.specs.declared.cert.CertNode.{CertNode}
 use Rattle.cert_text.specs.declared.cert.CertNode.TheVariants as nodes
-use Rattle.cert_check.specs.Visits.{Visit, IsSound}
+use Rattle.cert_check.specs.Visits.{Instance, Table, Visit, IsSound}
 use Rattle.cert_check.specs.Refusals.{IsFirstUnsound}
-use Rattle.cert_check.specs.inside.Walks.{HasVisited, MayGoOn, StepsTo, all_visits, places, visit_of, walk}
+use Rattle.cert_check.specs.inside.Walks.{CertNode, Fixing, HasVisited, MayGoOn, StepsTo, all_visits, places, visit_of, walk}
 use Rattle.cert_check.proofs.Places.{behind-front, each-push, front-is}
 
 -- the node at a place of the list

@@ -1,11 +1,11 @@
 -- What the check of a certificate answers. This project's own format.
 use Rattle.std.specs.Prelude.{◌≡◌, Bool, true, false, ℤ, Option, Some, None}
-use Rattle.uc_model.specs.declared.instance.Instance.{Instance}
+pub use Rattle.uc_model.specs.declared.instance.Instance.{Instance}
 use Rattle.dual_model.specs.Certificate.{Certificate, CertificateHolds, WrittenSchedule}
 use Rattle.cert_text.specs.CertificateText.{listing_of}
 use Rattle.cert_text.specs.TextConditions.{HasText}
 use Rattle.cert_text.specs.Reading.{listing_read}
-use Rattle.cert_text.specs.declared.cert.Cert.{Cert}
+pub use Rattle.cert_text.specs.declared.cert.Cert.{Cert}
 use Rattle.cert_check.specs.Refusals.{IsRefusedBy}
 use Rattle.cert_check.specs.declared.claims.Claims.{Claims}
 use Rattle.cert_check.specs.declared.claims.CheckFault.{CheckFault}

@@ -6,17 +6,16 @@ use Rattle.std.specs.Prelude.{◌≡◌, ◌≢◌, ℕ, suc, false, List, ℤ, 
 use Rattle.uc_model.specs.Schedule.{thermal_count, renewable_count}
 use Rattle.uc_model.specs.Rules.{Obeys}
 use Rattle.uc_model.specs.PrintedSchedule.{printed_denominator, printed_schedule, printed_cost}
-use Rattle.uc_model.specs.declared.instance.Instance.{Instance}
-use Rattle.uc_model.specs.declared.refusal.Refusal.{Refusal}
+pub use Rattle.uc_model.specs.declared.instance.Instance.{Instance}
+pub use Rattle.uc_model.specs.declared.refusal.Refusal.{Refusal}
 use Rattle.uc_model.specs.declared.refusal.Refusal.TheVariants as codes
 use Rattle.dual_model.specs.Prices.{IsLawfulTable}
 use Rattle.dual_model.specs.Tree.{root}
 use Rattle.dual_model.specs.Cover.{Bound, Ray, Empty, has_bound}
 use Rattle.dual_model.specs.Certificate.{Certificate, WrittenSchedule, ScheduleHolds}
-use Rattle.dual_model.specs.declared.table.Table.{Table}
 use Rattle.schedule_check.specs.FirstBroken.{IsFirstBroken}
 use Rattle.cert_text.specs.Nodes.{TreeNode, LeafNode, SplitNode}
-use Rattle.cert_check.specs.Visits.{Visit, visits, IsSound}
+use Rattle.cert_check.specs.Visits.{Table, Visit, visits, IsSound}
 
 -- the size is the instance's
 pub record HasSize (instance : Instance) (c : Certificate) : Type 0 where

@@ -1,11 +1,11 @@
 -- The nodes of a certificate's tree in preorder, each with the decisions on its path, and what each has to meet. Source:
 -- branch and bound on the commitment variables of the reference model by Knueven, Ostrowski and Watson.
 use Rattle.std.specs.Prelude.{true, false, not, List, [], ◌∷◌, ◌++◌, ℤ, Option, Some, None, IsTrue}
-use Rattle.uc_model.specs.declared.instance.Instance.{Instance}
+pub use Rattle.uc_model.specs.declared.instance.Instance.{Instance}
 use Rattle.dual_model.specs.Tree.{Tree, Ends, Splits, child, is_decided}
 use Rattle.dual_model.specs.Cover.{Leaf, LeafHolds, IsExcluded}
-use Rattle.dual_model.specs.declared.node.Node.{Node}
-use Rattle.dual_model.specs.declared.table.Table.{Table}
+pub use Rattle.dual_model.specs.declared.node.Node.{Node}
+pub use Rattle.dual_model.specs.declared.table.Table.{Table}
 use Rattle.cert_text.specs.Nodes.{TreeNode, LeafNode, SplitNode}
 
 -- a node of the tree, and what its path decides

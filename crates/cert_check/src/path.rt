@@ -3,8 +3,7 @@
 
 ghost use Rattle.std.specs.Prelude.{◌≡◌, ◌<◌, IfOk};
 ghost use Rattle.dual_model.specs.Tree.{is_decided as is_decided_at};
-ghost use Rattle.uc_model.specs.declared.instance.Instance.{Instance};
-ghost use Rattle.cert_check.specs.inside.Walks.{IsPath, MayGoOn, StepsTo, TurnsTo};
+ghost use Rattle.cert_check.specs.inside.Walks.{Instance, IsPath, MayGoOn, StepsTo, TurnsTo};
 
 use cert_text::CertNode;
 use dual_model::Fixing;

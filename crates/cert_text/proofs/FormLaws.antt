@@ -19,8 +19,7 @@ use Rattle.cert_text.proofs.Loops.{after_text}
 use Rattle.std.proofs.lemmas.Bool.{ltb-true, leb-true, lt-ltb, le-leb, eqb-true, ne_eqb, cases_eq, and_parts, eq-eqb, false≢true, and_from, or_cases, or_left, or_right, not-true, not_from_false, false_from_ne_true}
 use Rattle.uc_model.specs.Money.{six_digits, millionths_text, money_text}
 use Rattle.uc_model.proofs.MoneyText.{length-six_digits, six_digits-digits_value, six_digits_injective, money_text_bytes, money_text_nonempty}
-use Rattle.cert_text.specs.TextConditions.{HasDigits, IsMoney, IsOnCell, IsOffCell, IsCellText, IsThermalRow, IsRenewableRow, IsRampText}
-use Rattle.uc_model.specs.declared.schedule.Cell.{Cell}
+use Rattle.cert_text.specs.TextConditions.{Cell, RampRow, HasDigits, IsMoney, IsOnCell, IsOffCell, IsCellText, IsThermalRow, IsRenewableRow, IsRampText}
 use Rattle.outside.specs.Lines.{line, list_line}
 use Rattle.cert_text.specs.CertificateText.{version_line, size_line, claim_line, cell_text, thermal_line, renewable_line, scale_line, prices_line, end_line, ramp_line}
 use Rattle.cert_text.specs.Grammar.{Sizes, AreSizes, schedule_line, ramp_count_line, IsRampAfter}
@@ -28,7 +27,6 @@ use Rattle.cert_text.specs.inside.LineForms.{version_at, sizes_of, are_sizes, si
 use Rattle.std.specs.Ordering.{int_eq}
 use Rattle.dual_model.specs.Cover.{Bound, Ray, Empty}
 use Rattle.dual_model.specs.Prices.{IsRowBefore}
-use Rattle.dual_model.specs.declared.table.RampRow.{RampRow}
 use Rattle.cert_text.specs.Nodes.{TreeNode, LeafNode, SplitNode, node_line, IsNodeWithin}
 
 -- a text of few digits is one of a small number

@@ -2,7 +2,7 @@
 use Rattle.std.proofs.Common.{◌≡◌, ℕ, ◌≤◌, List, [], ◌++◌, length, Ok, Err, sym, ap, ◌∙◌, arith, suc, ◌+◌, Bool, true, false, ◌∷◌, All, Option, Some, None, ℤ, pos, refl, cond, nat_eq, ◌≢◌, zero, ◌-◌, take, subst, append-nil, ⊎_elim, replicate, Result, append_assoc, inl, inr, ◌⊎◌, get_or, drop, length-append, take_at, codes}
 use Rattle.outside.specs.Lines.{joined, spaced, line, words_of, list_line}
 use Rattle.dual_model.specs.Certificate.{Certificate}
-use Rattle.cert_text.specs.CertificateText.{Listing, listing_of, certificate_lines, certificate_text, claim_line, cell_text}
+use Rattle.cert_text.specs.CertificateText.{Cell, RampRow, Listing, listing_of, certificate_lines, certificate_text, claim_line, cell_text}
 use Rattle.cert_text.specs.TextConditions.{HasText}
 use Rattle.cert_text.specs.inside.Parts.{certificate_part}
 use Rattle.cert_text.proofs.PartLaws.{same_Ok, certificate-part, certificate_whole, certificate_again, owed_is_tree, Stops, Done, prices_as, IsListed, certificate_listed}
@@ -12,7 +12,6 @@ use Rattle.std.proofs.lemmas.List.Elements.{All-head, All-tail, All-weaker, Cont
 use Rattle.std.proofs.lemmas.List.Sums.{sum_by-append}
 use Rattle.uc_model.specs.Decimal.{whole_text, signed_text}
 use Rattle.uc_model.specs.Money.{money_text}
-use Rattle.uc_model.specs.declared.schedule.Cell.{Cell}
 use Rattle.uc_model.proofs.DecimalText.{whole_text_bytes, signed_text_bytes}
 use Rattle.uc_model.proofs.MoneyText.{money_text_bytes}
 use Rattle.dual_model.specs.Cover.{Bound, Ray, Empty}
@@ -20,12 +19,10 @@ use Rattle.outside.proofs.Joining.{joined-cons}
 use Rattle.cert_text.specs.Nodes.{TreeNode, LeafNode, SplitNode, node_line}
 use Rattle.cert_text.specs.Grammar.{Symbol, Version, Size, Claim, Schedule, ThermalRow, RenewableRow, Scale, Pi, Mu, Ramps, Ramp, Node, End, Produces, Reaches, schedule_line, Sizes, AreSizes, after_size, schedule_rows, ramp_rows, children}
 use Rattle.cert_text.specs.inside.LineCount.{line_feeds, line_number, stop_kind}
-use Rattle.cert_text.specs.ReadFaults.{HasLineFeed, IsWholeLine, IsFormAt, IsCutAt, IsFaultOf, MayStand, IsKindAt}
+use Rattle.cert_text.specs.ReadFaults.{CertKind, HasLineFeed, IsWholeLine, IsFormAt, IsCutAt, IsFaultOf, MayStand, IsKindAt}
 use Rattle.std.proofs.lemmas.Option.{some_pair_parts}
-use Rattle.dual_model.specs.declared.table.RampRow.{RampRow}
 use Rattle.cert_text.specs.inside.Forms.{Form}
 use Rattle.cert_text.proofs.FormLaws.{IsForm, Anything, version-form, size-form, claim-form, schedule-form, thermal-form, renewable-form, scale-form, ramp_count-form, end-form, ramp-form, node-form}
-use Rattle.cert_text.specs.declared.cert.CertKind.{CertKind}
 use Rattle.cert_text.specs.declared.cert.CertFault.TheVariants as faults
 use Rattle.cert_text.specs.declared.cert.CertKind.TheVariants as kinds
 

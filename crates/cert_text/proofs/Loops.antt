@@ -1,12 +1,10 @@
 -- Reading things one after the other, as a loop does.
 use Rattle.std.proofs.Common.{◌≡◌, ℕ, suc, ◌-◌, ◌+◌, ◌≤◌, ◌<◌, List, [], ◌∷◌, ◌++◌, Option, Some, None, Result, Ok, Err, refl, sym, ap, ◌∙◌, append_assoc, arith, option_and_then, append-nil}
 use Rattle.cert_text.specs.inside.Forms.{Form, text_at, after, times}
-use Rattle.cert_text.specs.declared.reader.stop.Stop.{Stop}
 use Rattle.cert_text.specs.declared.reader.stop.Stop.TheVariants as stops
-use Rattle.dual_model.specs.declared.table.RampRow.{RampRow}
-use Rattle.cert_text.specs.Grammar.{Sizes}
+use Rattle.cert_text.specs.Grammar.{RampRow, Sizes}
 use Rattle.cert_text.specs.inside.LineForms.{ramp_at}
-use Rattle.cert_text.specs.inside.Parts.{◌>>=◌, Part, repeated, ramp_rows_part, StopsAs}
+use Rattle.cert_text.specs.inside.Parts.{Stop, ◌>>=◌, Part, repeated, ramp_rows_part, StopsAs}
 
 -- ---- a form behind a text
 pub after_text : {A : Type 0} (text : List ℕ) (form : Form A) (bytes rest : List ℕ) (read : Option (A × List ℕ))

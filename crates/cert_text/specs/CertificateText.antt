@@ -3,10 +3,10 @@
 use Rattle.std.specs.Prelude.{ℕ, suc, List, [], ◌∷◌, ◌++◌, ℤ, Option, Some, None, length, map, flat_map, codes, if◌then◌else◌}
 use Rattle.uc_model.specs.Decimal.{whole_text, signed_text}
 use Rattle.uc_model.specs.Money.{money_text}
-use Rattle.uc_model.specs.declared.schedule.Cell.{Cell}
+pub use Rattle.uc_model.specs.declared.schedule.Cell.{Cell}
 use Rattle.dual_model.specs.Certificate.{Certificate, WrittenSchedule}
-use Rattle.dual_model.specs.declared.table.Table.{Table}
-use Rattle.dual_model.specs.declared.table.RampRow.{RampRow}
+pub use Rattle.dual_model.specs.declared.table.Table.{Table}
+pub use Rattle.dual_model.specs.declared.table.RampRow.{RampRow}
 use Rattle.outside.specs.Lines.{joined, line, list_line}
 use Rattle.cert_text.specs.Nodes.{TreeNode, preorder, node_line}
 

@@ -3,9 +3,9 @@
 --
 -- Units, periods and tables count from 0 here, and from 1 in the text.
 use Rattle.std.specs.Prelude.{◌≡◌, ℕ, zero, suc, ◌^◌, ◌<◌, ◌≤◌, List, [], ◌∷◌, ◌++◌, ℤ, Option, Some, None, IfSome, replicate, codes, length, All, pos}
-use Rattle.uc_model.specs.declared.schedule.Cell.{Cell}
+pub use Rattle.uc_model.specs.declared.schedule.Cell.{Cell}
 use Rattle.dual_model.specs.Prices.{IsRowBefore, IsRowWithin}
-use Rattle.dual_model.specs.declared.table.RampRow.{RampRow}
+pub use Rattle.dual_model.specs.declared.table.RampRow.{RampRow}
 use Rattle.outside.specs.Lines.{line}
 use Rattle.uc_model.specs.Decimal.{whole_text}
 use Rattle.cert_text.specs.Nodes.{TreeNode, LeafNode, SplitNode, node_line, IsNodeWithin}

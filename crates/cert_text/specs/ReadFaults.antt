@@ -5,7 +5,7 @@ use Rattle.outside.specs.Lines.{joined}
 use Rattle.cert_text.specs.Grammar.{Symbol, Version, Produces, Reaches}
 use Rattle.cert_text.specs.declared.cert.CertFault.{CertFault}
 use Rattle.cert_text.specs.declared.cert.CertFault.TheVariants as faults
-use Rattle.cert_text.specs.declared.cert.CertKind.{CertKind}
+pub use Rattle.cert_text.specs.declared.cert.CertKind.{CertKind}
 use Rattle.cert_text.specs.declared.cert.CertKind.TheVariants as kinds
 
 abbrev pub HasLineFeed : List ℕ → Type 0

@@ -1,11 +1,11 @@
 -- What a certificate has to meet to have a text of the grammar: its size, the shapes of its lists, and how many digits its
 -- numbers have. This project's own format.
 use Rattle.std.specs.Prelude.{◌≡◌, ℕ, ◌^◌, ◌<◌, ◌≤◌, true, false, List, ℤ, pos, unsigned_abs, IfSome, All, length}
-use Rattle.uc_model.specs.declared.schedule.Cell.{Cell}
+pub use Rattle.uc_model.specs.declared.schedule.Cell.{Cell}
 use Rattle.dual_model.specs.Certificate.{WrittenSchedule}
 use Rattle.dual_model.specs.Prices.{IsWellFormed}
-use Rattle.dual_model.specs.declared.table.Table.{Table}
-use Rattle.dual_model.specs.declared.table.RampRow.{RampRow}
+pub use Rattle.dual_model.specs.declared.table.Table.{Table}
+pub use Rattle.dual_model.specs.declared.table.RampRow.{RampRow}
 use Rattle.cert_text.specs.Nodes.{IsNodeWithin}
 use Rattle.cert_text.specs.CertificateText.{Listing}
 

@@ -9,7 +9,7 @@ use Rattle.command_line.specs.Command.{Solve, Check, Demo, Command, Solves, Chec
 use Rattle.command_line.specs.declared.command.Solve.{Solve as SolveWords}
 use Rattle.command_line.specs.declared.command.Check.{Check as CheckWords}
 use Rattle.command_line.specs.declared.command.Demo.{Demo as DemoWords}
-use Rattle.command_line.specs.declared.command.Command.{Command as CommandWords}
+pub use Rattle.command_line.specs.declared.command.Command.{Command as CommandWords}
 use Rattle.command_line.specs.declared.command.Command.TheVariants as forms
 
 abbrev pub solve_asked : SolveWords → Solve

@@ -5,12 +5,11 @@ use Rattle.std.specs.Int.{w64, w128}
 use Rattle.std.proofs.lemmas.Int.{ints, fits_signed_from_abs}
 use Rattle.uc_model.specs.Division.{IsCeiling}
 use Rattle.uc_model.specs.Points.{point_of, output_of}
-use Rattle.uc_model.specs.declared.instance.Point.{Point}
 use Rattle.uc_model.specs.declared.limits.TheConstants.{MAX_COST, MAX_POWER}
 use Rattle.uc_model.proofs.Ring.{linear, mul_comm, le_trans, le_from_mul, mul-le-mul_right, mul-le-mul_turned, scale-le-scale}
 use Rattle.uc_model.proofs.Quotients.{IsCeiling-least}
 use Rattle.uc_model.proofs.Sizes.{abs_sub, abs_mul, narrow, wide}
-use Rattle.cost_curves.specs.LowerHull.{AreLawfulCorners, width_of}
+use Rattle.cost_curves.specs.LowerHull.{Point, AreLawfulCorners, width_of}
 use Rattle.cost_curves.specs.inside.Places.{HoldsOutput}
 
 pub output-size : (corners : List Point) → AreLawfulCorners corners → (i : ℕ) → i < length corners → unsigned_abs (output_of corners i) ≤ 2 * MAX_POWER

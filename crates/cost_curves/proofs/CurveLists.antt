@@ -3,11 +3,9 @@ use Rattle.std.proofs.Common.{◌≡◌, ℕ, ◌+◌, ◌<◌, ◌≤◌, ⊎_e
 use Rattle.std.proofs.lemmas.Bool.{cases_lt}
 use Rattle.std.proofs.lemmas.List.{get_or_append_left, get_or_push, length-append}
 use Rattle.uc_model.specs.Schedule.{thermal_unit}
-use Rattle.uc_model.specs.declared.instance.Instance.{Instance}
-use Rattle.uc_model.specs.declared.instance.Point.{Point}
 use Rattle.uc_model.specs.declared.instance.Thermal.{Thermal}
-use Rattle.cost_curves.specs.LowerHull.{IsLowerHull}
-use Rattle.cost_curves.specs.UnitCurves.{AreCurvesTo}
+use Rattle.cost_curves.specs.LowerHull.{Point, IsLowerHull}
+use Rattle.cost_curves.specs.UnitCurves.{Instance, AreCurvesTo}
 
 pub curves-more : (instance : Instance) (n : ℕ) (unit : Thermal) (curves : List (List Point)) (curve : List Point) → thermal_unit instance n ≡ unit
     → IsLowerHull unit.points curve → AreCurvesTo instance n curves → AreCurvesTo instance (n + 1) (curves ++ curve ∷ [])

@@ -7,12 +7,11 @@ use Rattle.uc_model.specs.Division.{IsCeiling, quotient_up}
 use Rattle.uc_model.specs.Sums.{all_below}
 use Rattle.uc_model.specs.Points.{point_of, output_of}
 use Rattle.uc_model.specs.Hull.{run, rise, is_above_line, is_hull_segment, is_hull_point, segment_holds, or_else, first_below, Segment, segment_from, first_segment, segment_width, from_left, segment_cost, hull_cost}
-use Rattle.uc_model.specs.declared.instance.Point.{Point}
 use Rattle.uc_model.proofs.Ring.{linear, one-mul, zero-mul, le_antisymm}
 use Rattle.uc_model.proofs.Tests.{int_le-true, int_lt-true, all_below-at}
 use Rattle.uc_model.proofs.Quotients.{IsCeiling_unique, quotient_up-is}
 use Rattle.uc_model.proofs.HullPoints.{Holds, segment_at-holds, lies_on}
-use Rattle.cost_curves.specs.LeastCost.{IsLeastCostUp, IsSegmentAt}
+use Rattle.cost_curves.specs.LeastCost.{Point, IsLeastCostUp, IsSegmentAt}
 use Rattle.cost_curves.proofs.LeastCosts.{between_least, level_least}
 
 -- ---- there is a first one

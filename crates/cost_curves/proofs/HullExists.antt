@@ -4,10 +4,9 @@ use Rattle.std.proofs.Common.{◌≡◌, ℕ, zero, suc, ◌-◌, ◌<◌, ◌�
 use Rattle.std.proofs.lemmas.Bool.{and_parts, cases_Bool}
 use Rattle.uc_model.specs.Points.{point_of, output_of}
 use Rattle.uc_model.specs.Hull.{Segment, segment_at}
-use Rattle.uc_model.specs.declared.instance.Point.{Point}
 use Rattle.uc_model.proofs.Ring.{linear, le_or_lt}
 use Rattle.uc_model.proofs.HullPoints.{segment_at-holds}
-use Rattle.cost_curves.specs.LowerHull.{AreLawfulPoints, HullOfFirst, IsLowerHull, AreLawfulCorners, is_above, width_of}
+use Rattle.cost_curves.specs.LowerHull.{Point, AreLawfulPoints, HullOfFirst, IsLowerHull, AreLawfulCorners, is_above, width_of}
 use Rattle.cost_curves.specs.inside.Corners.{is_over, IsNext, Joins}
 use Rattle.cost_curves.specs.inside.Places.{HoldsOutput}
 use Rattle.cost_curves.proofs.JoinedCorners.{Covers, Tested, TestedLast, covers_start, covers_next, joins, next-from, hull_over, hull_joined, extended, outputs-le}

@@ -5,13 +5,11 @@ use Rattle.std.proofs.lemmas.Bool.{and_from, or_left, or_right, eq-eqb}
 use Rattle.uc_model.specs.Sums.{all_below}
 use Rattle.uc_model.specs.Points.{point_of, output_of}
 use Rattle.uc_model.specs.Hull.{run, rise, is_above_line, is_hull_segment, is_hull_point, segment_holds}
-use Rattle.uc_model.specs.declared.instance.Point.{Point}
 use Rattle.uc_model.proofs.Ring.{linear, one-mul, le_antisymm}
 use Rattle.uc_model.proofs.Tests.{le-int_le, lt-int_lt, all_below-from}
-use Rattle.cost_curves.specs.LowerHull.{IsLawfulPoint, AreLawfulCorners, IsAbove, IsLowerHull, width_of}
-use Rattle.cost_curves.specs.LeastCost.{IsSegmentAt, IsLeftSlope, IsRightSlope}
+use Rattle.cost_curves.specs.LowerHull.{Point, IsLawfulPoint, AreLawfulCorners, IsAbove, IsLowerHull, width_of}
+use Rattle.cost_curves.specs.LeastCost.{Slope, IsSegmentAt, IsLeftSlope, IsRightSlope}
 use Rattle.cost_curves.specs.inside.Places.{HoldsOutput}
-use Rattle.cost_curves.specs.declared.slope.Slope.{Slope}
 use Rattle.cost_curves.proofs.Lines.{sub_positive}
 use Rattle.cost_curves.proofs.JoinedCorners.{outputs-le}
 

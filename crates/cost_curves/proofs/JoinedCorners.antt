@@ -5,10 +5,9 @@ use Rattle.std.proofs.lemmas.List.{get_or_append_left, get_or-take, length-take-
 use Rattle.std.proofs.lemmas.Int.{ints}
 use Rattle.std.proofs.lemmas.Bool.{cond-true, cond-false}
 use Rattle.uc_model.specs.Points.{point_of}
-use Rattle.uc_model.specs.declared.instance.Point.{Point}
 use Rattle.uc_model.proofs.Ring.{linear, le_refl, le_trans, le_or_lt, le_antisymm, sub_nonneg, mul-zero, mul_nonneg, mul-le-mul_right}
 use Rattle.uc_model.proofs.Tests.{int_le-true, le-int_le}
-use Rattle.cost_curves.specs.LowerHull.{AreLawfulPoints, IsAbove, is_above, HullOfFirst}
+use Rattle.cost_curves.specs.LowerHull.{Point, AreLawfulPoints, IsAbove, is_above, HullOfFirst}
 use Rattle.cost_curves.specs.inside.Corners.{is_over, IsNext, Joins}
 use Rattle.cost_curves.proofs.Lines.{flatter_trans, right_of, above_of, above-flatter_start, flatter_start-above, above-flatter_next, flatter_next-above, above-flatter_end, flatter_end-above, above-flatter_whole, before-flatter, sub_positive, less_le}
 

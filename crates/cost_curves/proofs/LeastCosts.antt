@@ -5,11 +5,10 @@ use Rattle.uc_model.specs.Division.{IsCeiling}
 use Rattle.uc_model.specs.Sums.{sum_below}
 use Rattle.uc_model.specs.Points.{point_of, output_of, weighted_cost}
 use Rattle.uc_model.specs.Hull.{run, rise}
-use Rattle.uc_model.specs.declared.instance.Point.{Point}
 use Rattle.uc_model.proofs.Ring.{linear, sub_nonneg, spread, mul_comm, mul_assoc, mul_left_comm, mul-sub, mul-zero, zero-mul, mul-one, le_from_mul, mul-le-mul_right, pos_of_nonneg, pos_nonneg}
 use Rattle.uc_model.proofs.Sums.{sum_below-le, sum_below-sub, sum_below-mul_left, sum_below-single, sum_below-pair}
 use Rattle.uc_model.proofs.Quotients.{IsCeiling-least}
-use Rattle.cost_curves.specs.LowerHull.{IsLowerHull}
+use Rattle.cost_curves.specs.LowerHull.{Point, IsLowerHull}
 use Rattle.cost_curves.specs.LeastCost.{CostsAtMost, IsLeastCostUp}
 use Rattle.cost_curves.specs.inside.Places.{HoldsOutput}
 use Rattle.cost_curves.proofs.Lines.{less_le, sub_positive}

@@ -6,11 +6,9 @@ use Rattle.std.proofs.lemmas.Bool.{and_parts}
 use Rattle.uc_model.specs.Points.{output_of}
 use Rattle.uc_model.specs.Hull.{rise, run, is_hull_segment, is_above_line}
 use Rattle.uc_model.specs.Sums.{all_below}
-use Rattle.uc_model.specs.declared.instance.Point.{Point}
 use Rattle.uc_model.proofs.Ring.{linear, spread}
 use Rattle.uc_model.proofs.Tests.{int_le-true, int_lt-true, all_below-at}
-use Rattle.cost_curves.specs.LeastCost.{IsLeftSlope, IsSlopeOf}
-use Rattle.cost_curves.specs.declared.slope.Slope.{Slope}
+use Rattle.cost_curves.specs.LeastCost.{Point, Slope, IsLeftSlope, IsSlopeOf}
 use Rattle.cost_curves.proofs.Lines.{flatter_trans}
 
 -- what a segment of the hull is

@@ -4,8 +4,8 @@
 use Rattle.std.specs.Prelude.{◌≡◌, ℕ, ◌<◌, List, ℤ, pos, ◌*ℤ◌, ◌≤ℤ◌, ◌<ℤ◌, length, IsTrue}
 use Rattle.uc_model.specs.Points.{point_of, output_of, weighted_total, weighted_output, weighted_cost}
 use Rattle.uc_model.specs.Hull.{rise, run, is_hull_segment, segment_holds}
-use Rattle.uc_model.specs.declared.instance.Point.{Point}
-use Rattle.cost_curves.specs.declared.slope.Slope.{Slope}
+pub use Rattle.uc_model.specs.declared.instance.Point.{Point}
+pub use Rattle.cost_curves.specs.declared.slope.Slope.{Slope}
 
 -- some weights at output p, whole over a denominator q, cost at most m
 pub record CostsAtMost (points : List Point) (p m : ℤ) : Type 0 where

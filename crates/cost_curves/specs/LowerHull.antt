@@ -4,7 +4,7 @@
 use Rattle.std.specs.Prelude.{◌≡◌, ℕ, suc, ◌-◌, ◌<◌, Bool, List, ℤ, ◌-ℤ◌, ◌*ℤ◌, ◌≤ℤ◌, ◌<ℤ◌, int_le, length}
 use Rattle.uc_model.specs.Points.{point_of, output_of}
 use Rattle.uc_model.specs.Limits.{IsPower, IsCost}
-use Rattle.uc_model.specs.declared.instance.Point.{Point}
+pub use Rattle.uc_model.specs.declared.instance.Point.{Point}
 
 -- a point within the limits
 pub record IsLawfulPoint (point : Point) : Type 0 where

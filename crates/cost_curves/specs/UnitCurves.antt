@@ -1,9 +1,8 @@
 -- The curves of an instance's thermal units, by the units' numbers. This project's own form.
 use Rattle.std.specs.Prelude.{◌≡◌, ℕ, ◌<◌, List, [], length, slice_index_or}
 use Rattle.uc_model.specs.Schedule.{thermal_count, thermal_unit}
-use Rattle.uc_model.specs.declared.instance.Instance.{Instance}
-use Rattle.uc_model.specs.declared.instance.Point.{Point}
-use Rattle.cost_curves.specs.LowerHull.{IsLowerHull}
+pub use Rattle.uc_model.specs.declared.instance.Instance.{Instance}
+use Rattle.cost_curves.specs.LowerHull.{Point, IsLowerHull}
 
 abbrev pub curve_in : List (List Point) → ℕ → List Point
 curve_in curves g = slice_index_or curves g []

@@ -2,8 +2,7 @@
 
 ghost use Rattle.std.specs.Prelude.{◌≡◌, ℕ, List, ◌<◌, pos, ◌<ℤ◌, ◌≤ℤ◌, IfOk};
 ghost use Rattle.uc_model.specs.Hull.{hull_cost};
-ghost use Rattle.uc_model.specs.declared.instance.Point.{Point};
-ghost use Rattle.cost_curves.specs.LowerHull.{AreLawfulCorners, AreLawfulPoints, IsLowerHull, width_of};
+ghost use Rattle.cost_curves.specs.LowerHull.{Point, AreLawfulCorners, AreLawfulPoints, IsLowerHull, width_of};
 ghost use Rattle.cost_curves.specs.LeastCost.{IsLeastCostUp, IsLeftSlope, IsRightSlope, IsSegmentAt};
 
 use crate::slope::Slope;
@@ -21,8 +20,7 @@ pub struct Curve {
 
 impl Model for Curve {
     ghost use Rattle.std.specs.Prelude.{List};
-    ghost use Rattle.uc_model.specs.declared.instance.Point.{Point};
-    ghost use Rattle.cost_curves.specs.LowerHull.{AreLawfulCorners};
+    ghost use Rattle.cost_curves.specs.LowerHull.{Point, AreLawfulCorners};
 
     ghost Value = { List Point };
 

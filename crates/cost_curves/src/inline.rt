@@ -2,8 +2,7 @@
 
 ghost use Rattle.std.specs.Prelude.{◌≡◌, ◌≤◌, List, pos, ◌≤ℤ◌, length};
 ghost use Rattle.uc_model.specs.Hull.{hull_cost};
-ghost use Rattle.uc_model.specs.declared.instance.Point.{Point};
-ghost use Rattle.cost_curves.specs.LowerHull.{AreLawfulPoints, IsLowerHull, width_of};
+ghost use Rattle.cost_curves.specs.LowerHull.{Point, AreLawfulPoints, IsLowerHull, width_of};
 ghost use Rattle.cost_curves.specs.LeastCost.{IsLeastCostUp};
 
 use crate::{corners, places};
@@ -21,8 +20,7 @@ pub struct InlineCurve {
 
 impl Model for InlineCurve {
     ghost use Rattle.std.specs.Prelude.{List, take, length, ◌≤◌};
-    ghost use Rattle.uc_model.specs.declared.instance.Point.{Point};
-    ghost use Rattle.cost_curves.specs.LowerHull.{AreLawfulCorners};
+    ghost use Rattle.cost_curves.specs.LowerHull.{Point, AreLawfulCorners};
 
     ghost Value = { List Point };
 

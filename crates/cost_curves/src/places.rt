@@ -4,8 +4,7 @@ ghost use Rattle.std.specs.Prelude.{◌≡◌, ℕ, suc, ◌*◌, ◌<◌, ◌�
 ghost use Rattle.uc_model.specs.Division.{IsCeiling};
 ghost use Rattle.uc_model.specs.Hull.{hull_cost};
 ghost use Rattle.uc_model.specs.Points.{point_of, output_of};
-ghost use Rattle.uc_model.specs.declared.instance.Point.{Point};
-ghost use Rattle.cost_curves.specs.LowerHull.{AreLawfulCorners, IsLawfulPoint, IsLowerHull, width_of};
+ghost use Rattle.cost_curves.specs.LowerHull.{Point, AreLawfulCorners, IsLawfulPoint, IsLowerHull, width_of};
 ghost use Rattle.cost_curves.specs.LeastCost.{IsLeastCostUp, IsLeftSlope, IsSegmentAt};
 ghost use Rattle.cost_curves.specs.inside.Places.{HoldsOutput};
 

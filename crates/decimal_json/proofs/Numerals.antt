@@ -4,13 +4,11 @@ use Rattle.decimal_json.specs.Value.{Decimal, number}
 use Rattle.decimal_json.specs.Number.{is_digit, digit_of, is_mark, exponent_of, decimal_from}
 use Rattle.decimal_json.specs.Open.{Frame, Purpose}
 use Rattle.decimal_json.specs.inside.Scan.{Spot, numeral, minus, zero_first, whole, point, fraction, mark, signed, exponent, ended, so_far, next, stop, step, numeral_step, begin_step, scan, finish, fault, quoted, plain, Outcome, quoted_step, quote_step, Hex, no_digit, one_digit, two_digits, three_digits, escaped, unit, high, high_escaped, high_unit, Step, more_hex, unit_step, pair_step, escape_step}
-use Rattle.decimal_json.specs.inside.Answer.{AddsDigits, ReadsWhole, ReadsFraction, AddsExponent, ReadsExponent, kept, begun, AfterWhole, MayEnd, FailsAt, StandsAt, Leads, ReadsPlain, ReadsText, BreaksText, ReadsEscape, BreaksEscape, resumed, HexAt, ReadsUnit, BreaksUnit}
+use Rattle.decimal_json.specs.inside.Answer.{At, JsonFault, AddsDigits, ReadsWhole, ReadsFraction, AddsExponent, ReadsExponent, kept, begun, AfterWhole, MayEnd, FailsAt, StandsAt, Leads, ReadsPlain, ReadsText, BreaksText, ReadsEscape, BreaksEscape, resumed, HexAt, ReadsUnit, BreaksUnit}
 use Rattle.std.proofs.lemmas.Bool.{and_parts, leb-true, ne_eqb, eqb-true, false≢true, or_cases, not-true, cases_lt, le-leb, and_cases, and_left, and_right, and_from, leb-false, lt-leb, le-ltb, lt-ltb}
 use Rattle.decimal_json.proofs.Moves.{same_scan, moved, byte_and_rest, fails_there, stopped, stepped, finished}
 use Rattle.std.proofs.lemmas.List.Edits.{between_more}
 use Rattle.std.specs.Str.{IsCharBoundary}
-use Rattle.decimal_json.specs.declared.types.JsonFault.{JsonFault}
-use Rattle.decimal_json.specs.declared.types.JsonFault.TheVariants.{At}
 use Rattle.decimal_json.specs.Characters.{is_plain}
 use Rattle.std.proofs.lemmas.Str.{encode_ascii}
 use Rattle.std.specs.Char.Utf16.{is_low_surrogate, is_high_surrogate, surrogate_pair_char}

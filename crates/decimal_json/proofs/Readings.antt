@@ -16,16 +16,13 @@ use Rattle.decimal_json.proofs.SoundValues.{open_whole, whole_text, fraction_end
 use Rattle.std.specs.Str.{IsUtf8, IsCharBoundary, IsAscii, IsValidUpTo}
 use Rattle.std.proofs.lemmas.Str.{IsCharBoundary-start, IsCharBoundary-after_ascii, IsUtf8-append, IsUtf8-take, IsUtf8-from_ascii}
 use Rattle.decimal_json.specs.Characters.{is_space}
-use Rattle.decimal_json.specs.Reading.{BeginsText, IsNoJson, IsText, IsTextFault, IsFault, HasCause}
+use Rattle.decimal_json.specs.Reading.{At, JsonFault, NoMemory, BeginsText, IsNoJson, IsText, IsTextFault, IsFault, HasCause}
 use Rattle.decimal_json.proofs.Moves.{Refuses}
 use Rattle.decimal_json.proofs.RunValues.{text_arrives}
 use Rattle.decimal_json.proofs.RunFaults.{deep_fault, repeated_fault, lacks_fault}
 use Rattle.std.specs.Result.{MatchResult, IfOk, IfErr}
-use Rattle.decimal_json.specs.declared.types.Json.{Json}
-use Rattle.decimal_json.specs.declared.types.JsonFault.{JsonFault}
-use Rattle.decimal_json.specs.declared.types.JsonFault.TheVariants.{At, NoMemory}
 use Rattle.decimal_json.specs.inside.Answer.{Gives}
-use Rattle.decimal_json.specs.View.{view}
+use Rattle.decimal_json.specs.View.{Json, view}
 
 weaker_character : (c : Character) → IsCharacter true c → IsCharacter false c
 weaker_character (alone a b c d) is = (is.0, λ e. absurd (false≢true e))

@@ -5,17 +5,14 @@ use Rattle.std.specs.Option.{IfSome, IfNone}
 use Rattle.std.specs.Result.{IfErr, IsErrAnd}
 use Rattle.std.specs.Str.{IsUtf8, IsCharBoundary, bytes_eq}
 use Rattle.std.proofs.lemmas.Str.{IsCharBoundary-after_ascii}
-use Rattle.decimal_json.specs.declared.types.JsonFault.{JsonFault}
-use Rattle.decimal_json.specs.declared.types.JsonFault.TheVariants.{At}
 use Rattle.decimal_json.specs.Value.{Value, null, boolean, text, array, object, no_items, no_members, items_of, members_of, has_key, Items, item, Members, member}
 use Rattle.decimal_json.specs.Number.{is_digit}
 use Rattle.decimal_json.specs.Characters.{rue, alse, ull, is_space, depth_limit}
 use Rattle.decimal_json.specs.Open.{Frame, for_value, Member, in_array, in_object, for_key}
 use Rattle.decimal_json.specs.inside.Scan.{Spot, wanted, literal, awaited, numeral, minus, quoted, plain, next, stop, Outcome, fault, step, begin_step, literal_step, quote_step, scan, finish, first_item, first_key, key_wanted, colon_wanted, ended, opened, ended_step, close_step, finish_value, done, whole_outcome}
-use Rattle.decimal_json.specs.inside.Answer.{Leads, FailsAt, StandsAt, IsToken, Reads, Breaks, ReadsText, BreaksText, MaySpace, FindsToken, LacksToken, PassesToken, HasKeys, AddsKey, ReadsKey, BreaksKey, ReadsValue, BreaksValue, ReadsInside, BreaksInside, ReadsMember, BreaksMember, resumed, Gives, SkipsSpace}
+use Rattle.decimal_json.specs.inside.Answer.{At, Json, JsonFault, Leads, FailsAt, StandsAt, IsToken, Reads, Breaks, ReadsText, BreaksText, MaySpace, FindsToken, LacksToken, PassesToken, HasKeys, AddsKey, ReadsKey, BreaksKey, ReadsValue, BreaksValue, ReadsInside, BreaksInside, ReadsMember, BreaksMember, resumed, Gives, SkipsSpace}
 use Rattle.decimal_json.proofs.Exits.{passed_on, some_of, none_of}
 use Rattle.decimal_json.proofs.Moves.{moved, stopped, finished, byte_and_rest, fails_there, stepped}
-use Rattle.decimal_json.specs.declared.types.Json.{Json}
 use Rattle.std.proofs.lemmas.Bool.Decides.{same_from_decides, Decides-like}
 use Rattle.std.proofs.lemmas.Slice.Eq.{bytes_eq-Decides}
 use Rattle.decimal_json.specs.Grammar.{HasUniqueKeys}

@@ -1,13 +1,11 @@
 -- What `view` gives at each variant.
 use Rattle.std.proofs.Common.{◌≡◌, Bool, rules, map, String, Vec, Global, List, [], ◌∷◌, ◌++◌, refl, ap}
 use Rattle.std.specs.String.{string_bytes}
-use Rattle.decimal_json.specs.declared.types.Number.{Number}
-use Rattle.decimal_json.specs.declared.types.Pair.{Pair}
 use Rattle.decimal_json.specs.declared.types.Json.TheViews.{roll-Pair}
 use Rattle.decimal_json.specs.declared.types.Json.{Json, the_lemmas}
 use Rattle.decimal_json.specs.declared.types.Json.TheVariants as json
 use Rattle.decimal_json.specs.Value.{null, boolean, number, text, array, object, items_of, members_of}
-use Rattle.decimal_json.specs.View.{view, pair_view, decimal_of}
+use Rattle.decimal_json.specs.View.{Number, Pair, view, pair_view, decimal_of}
 
 pub view-null : view json.Null ≡ null
 view-null = search (rules, the_lemmas)

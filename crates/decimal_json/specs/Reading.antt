@@ -1,8 +1,8 @@
 -- What `read` answers, in the words of RFC 8259.
 use Rattle.std.specs.Prelude.{◌≡◌, ℕ, ◌<◌, ◌≤◌, ⊤, List, ◌++◌, length, take, true, false, ◌⊎◌}
 use Rattle.std.specs.Str.{IsUtf8}
-use Rattle.decimal_json.specs.declared.types.JsonFault.{JsonFault}
-use Rattle.decimal_json.specs.declared.types.JsonFault.TheVariants.{At, NoMemory}
+pub use Rattle.decimal_json.specs.declared.types.JsonFault.{JsonFault}
+pub use Rattle.decimal_json.specs.declared.types.JsonFault.TheVariants.{At, NoMemory}
 use Rattle.decimal_json.specs.Value.{Value}
 use Rattle.decimal_json.specs.Grammar.{SpellsText}
 use Rattle.decimal_json.specs.Fronts.{OpensTooDeep, RepeatsKey, LacksPartner}

@@ -1,10 +1,10 @@
 -- The value that a `Json` in memory is.
 use Rattle.std.specs.Prelude.{ℕ, List}
 use Rattle.std.specs.String.{string_bytes}
-use Rattle.decimal_json.specs.declared.types.Number.{Number}
-use Rattle.decimal_json.specs.declared.types.Json.{Json, fold-Json}
+pub use Rattle.decimal_json.specs.declared.types.Number.{Number}
+pub use Rattle.decimal_json.specs.declared.types.Json.{Json, fold-Json}
 use Rattle.decimal_json.specs.declared.types.Json.TheOpen.{Json-F}
-use Rattle.decimal_json.specs.declared.types.Pair.{Pair, Pair-F, fold-Pair}
+pub use Rattle.decimal_json.specs.declared.types.Pair.{Pair, Pair-F, fold-Pair}
 use Rattle.decimal_json.specs.Value.{Decimal, Value, null, boolean, number, text, array, object, items_of, members_of}
 
 abbrev pub decimal_of : Number → Decimal

@@ -10,10 +10,7 @@ use Rattle.uc_model.specs.Limits.{IsLawfulInstance}
 use Rattle.uc_model.specs.PatternBits.{commitment_of}
 use Rattle.uc_model.specs.PrintedSchedule.{cell_at, printed_cost, printed_denominator}
 use Rattle.uc_model.specs.Schedule.{thermal_count, thermal_unit}
-use Rattle.uc_model.specs.declared.instance.Instance.{Instance}
 use Rattle.uc_model.specs.declared.limits.TheConstants.{COST_MAX}
-use Rattle.uc_model.specs.declared.pattern.Pattern.{Pattern}
-use Rattle.uc_model.specs.declared.schedule.Printed.{Printed}
 use Rattle.schedule_check.specs.Accepted.{IsAccepted}
 use Rattle.schedule_check.specs.WholeWatts.{HasPrice}
 use Rattle.schedule_check.proofs.Priced.{priced}
@@ -22,7 +19,6 @@ use Rattle.std.specs.declared.alloc.Global.{Global}
 use Rattle.std.specs.declared.vec.Vec.{Vec}
 use Rattle.dispatch_repair.specs.Rooms.{AreRowsBut, AreRowsOf, IsObstacleOf, IsRoomOf, printed_of}
 use Rattle.dispatch_repair.specs.Stuck.{IsDispatchOf}
-use Rattle.dispatch_repair.specs.declared.rows.Rows.{Rows}
 use Rattle.dispatch_repair.proofs.Obeying.{obeying}
 use Rattle.dispatch_repair.specs.declared.schedule.Obstacle.{Obstacle}
 use Rattle.dispatch_repair.proofs.Periods.{stuck_of}
@@ -30,16 +26,12 @@ use Rattle.dispatch_repair.proofs.Plain.{plain}
 use Rattle.dispatch_repair.proofs.Regular.{regular}
 use Rattle.dispatch_repair.proofs.RowsEdits.{cut_at, cut_stuck}
 use Rattle.dispatch_repair.proofs.RowsCommitted.{rows_but}
-use Rattle.decommitment.specs.DropCommitment.{Ending, Dispatched, StuckIn, IsDropPass, IsEndingOf, IsFewestOnOf, IsStuckIn, IsTaken, is_better}
-use Rattle.decommitment.specs.declared.pass.Pass.{Pass}
+use Rattle.decommitment.specs.DropCommitment.{Instance, Pattern, Printed, Ending, Dispatched, StuckIn, IsDropPass, IsEndingOf, IsFewestOnOf, IsStuckIn, IsTaken, is_better}
 use Rattle.decommitment.specs.declared.pass.Standing.TheVariants as standing
-use Rattle.decommitment.specs.declared.pass.Stand.{Stand}
 use Rattle.decommitment.specs.declared.pass.Stand.TheVariants as stand
-use Rattle.decommitment.specs.declared.pass.Turn.{Turn}
-use Rattle.decommitment.specs.declared.trial.Trial.{Trial}
 use Rattle.decommitment.specs.declared.trial.Trial.TheVariants as trial
 use Rattle.decommitment.specs.Standings.{IsDropped}
-use Rattle.decommitment.specs.inside.Turns.{AreAllowed, beats, ending_of_stand, ending_of_trial, IsChosen, IsReplaced, IsTried, KeepsStuck}
+use Rattle.decommitment.specs.inside.Turns.{Pass, Rows, Stand, Trial, Turn, AreAllowed, beats, ending_of_stand, ending_of_trial, IsChosen, IsReplaced, IsTried, KeepsStuck}
 
 -- ---- allowed patterns
 pub allowed_most : (instance : Instance) (patterns : List Pattern) → AreMostOn instance patterns → AreAllowed instance patterns

@@ -8,9 +8,9 @@ use Rattle.uc_model.specs.ExtremePatterns.{IsFewestOn}
 use Rattle.uc_model.specs.PatternBits.{commitment_of}
 use Rattle.uc_model.specs.PrintedSchedule.{printed_cost}
 use Rattle.uc_model.specs.Schedule.{thermal_unit, thermal_count}
-use Rattle.uc_model.specs.declared.instance.Instance.{Instance}
-use Rattle.uc_model.specs.declared.pattern.Pattern.{Pattern}
-use Rattle.uc_model.specs.declared.schedule.Printed.{Printed}
+pub use Rattle.uc_model.specs.declared.instance.Instance.{Instance}
+pub use Rattle.uc_model.specs.declared.pattern.Pattern.{Pattern}
+pub use Rattle.uc_model.specs.declared.schedule.Printed.{Printed}
 use Rattle.uc_model.specs.declared.stuck.Stuck.{Stuck}
 use Rattle.dispatch_repair.specs.MostOn.{AreMostOn, IsOffFrom}
 use Rattle.dispatch_repair.specs.Stuck.{IsDispatchOf, IsStuckOf}

@@ -1,9 +1,7 @@
 -- How the best commitment of the drop pass stands.
 use Rattle.std.specs.Prelude.{List}
-use Rattle.uc_model.specs.declared.instance.Instance.{Instance}
-use Rattle.uc_model.specs.declared.pattern.Pattern.{Pattern}
 use Rattle.schedule_check.specs.Accepted.{IsAccepted}
-use Rattle.decommitment.specs.DropCommitment.{Ending, Dispatched, StuckIn, IsDropCommitment}
+use Rattle.decommitment.specs.DropCommitment.{Instance, Pattern, Ending, Dispatched, StuckIn, IsDropCommitment}
 use Rattle.decommitment.specs.MostOnStuck.{IsMostOnStuck}
 use Rattle.decommitment.specs.declared.pass.Standing.{Standing}
 use Rattle.decommitment.specs.declared.pass.Standing.TheVariants as standing

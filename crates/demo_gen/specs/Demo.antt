@@ -8,11 +8,11 @@ use Rattle.uc_model.specs.Commitment.{is_allowed}
 use Rattle.uc_model.specs.ExtremePatterns.{on_during}
 use Rattle.uc_model.specs.Schedule.{thermal_count, thermal_unit}
 use Rattle.uc_model.specs.declared.instance.Instance.{Instance}
-use Rattle.uc_model.specs.declared.instance.Point.{Point}
+pub use Rattle.uc_model.specs.declared.instance.Point.{Point}
 use Rattle.uc_model.specs.declared.instance.Renewable.{Renewable}
-use Rattle.uc_model.specs.declared.instance.StartRow.{StartRow}
-use Rattle.uc_model.specs.declared.instance.Thermal.{Thermal}
-use Rattle.demo_gen.specs.declared.numbers.Numbers.{Numbers}
+pub use Rattle.uc_model.specs.declared.instance.StartRow.{StartRow}
+pub use Rattle.uc_model.specs.declared.instance.Thermal.{Thermal}
+pub use Rattle.demo_gen.specs.declared.numbers.Numbers.{Numbers}
 
 -- ---- the draws
 -- the state after a draw

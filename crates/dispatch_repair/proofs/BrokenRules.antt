@@ -4,8 +4,6 @@ use Rattle.std.proofs.Common.{◌≡◌, ℕ, ◌+◌, ◌<◌, ◌≤◌, ⊎_e
 use Rattle.std.proofs.lemmas.Bool.{cases_Bool, ltb-true, ltb-false}
 use Rattle.uc_model.specs.Rules.{Rule, rule_number}
 use Rattle.uc_model.specs.Schedule.{thermal_unit, thermal_count}
-use Rattle.uc_model.specs.declared.instance.Instance.{Instance}
-use Rattle.uc_model.specs.declared.pattern.Pattern.{Pattern}
 use Rattle.uc_model.specs.declared.schedule.Cell.{Cell}
 use Rattle.dual_model.proofs.Locality.{SameBelow}
 use Rattle.schedule_check.specs.CommitmentRules as of_row
@@ -13,10 +11,9 @@ use Rattle.schedule_check.specs.CommitmentRules.{RowKeeps}
 use Rattle.schedule_check.specs.WholeWatts.{commitment, rule_of}
 use Rattle.schedule_check.proofs.RuleOrder.{of_first}
 use Rattle.schedule_check.proofs.CommitmentOrder.{turn, turn_of, on_commitments}
-use Rattle.dispatch_repair.specs.Period.{commitment_at}
+use Rattle.dispatch_repair.specs.Period.{Instance, Pattern, commitment_at}
 use Rattle.dispatch_repair.specs.Stuck.{IsCommitmentRule, KeepsRule, IsRegular, IsFirstBrokenRule}
-use Rattle.dispatch_repair.specs.inside.Broken.{IsFirstAmong, IsFirstOf, IsEarlier}
-use Rattle.dispatch_repair.specs.declared.regularity.BrokenRule.{BrokenRule}
+use Rattle.dispatch_repair.specs.inside.Broken.{BrokenRule, IsFirstAmong, IsFirstOf, IsEarlier}
 use Rattle.dispatch_repair.proofs.RowRules.{turn_kept, turn_keeps}
 
 -- the turn of one of the model's rules

@@ -6,18 +6,15 @@ use Rattle.std.proofs.lemmas.List.Elements.{All-append, All-nil, All-cons, Conta
 use Rattle.uc_model.specs.Points.{point_of, output_of}
 use Rattle.uc_model.specs.Hull.{rise, run}
 use Rattle.uc_model.specs.Schedule.{thermal_unit, thermal_count, renewable_count}
-use Rattle.uc_model.specs.declared.instance.Instance.{Instance}
-use Rattle.uc_model.specs.declared.instance.Point.{Point}
 use Rattle.uc_model.proofs.Ring.{linear, le_or_lt, zero-mul}
 use Rattle.cost_curves.specs.LowerHull.{IsLowerHull}
 use Rattle.cost_curves.specs.LeastCost.{IsRightSlope}
-use Rattle.cost_curves.specs.declared.slope.Slope.{Slope}
 use Rattle.cost_curves.proofs.HullValues.{line, line-segment, output_is, whole_width}
 use Rattle.cost_curves.proofs.Lines.{sub_positive}
 use Rattle.cost_curves.proofs.Slopes.{slopes_rise}
-use Rattle.dispatch_repair.specs.Period.{FromRenewable, FromThermal}
-use Rattle.dispatch_repair.specs.MeritOrder.{HasNextSlope}
-use Rattle.dispatch_repair.specs.inside.Segments.{Segment, IsAtMost, free_segment, corner_segment, IsSegmentOf, IsNextOn, IsCovered, AreSegmentsOf, source_at, width_at}
+use Rattle.dispatch_repair.specs.Period.{Instance, FromRenewable, FromThermal}
+use Rattle.dispatch_repair.specs.MeritOrder.{Slope, HasNextSlope}
+use Rattle.dispatch_repair.specs.inside.Segments.{Point, Segment, IsAtMost, free_segment, corner_segment, IsSegmentOf, IsNextOn, IsCovered, AreSegmentsOf, source_at, width_at}
 
 -- ---- places of sources
 pub renewable_at : (instance : Instance) (w : ℕ) → w < renewable_count instance → source_at instance w ≡ FromRenewable w

@@ -9,16 +9,12 @@ use Rattle.uc_model.specs.Sums.{sum_below, bit}
 use Rattle.uc_model.specs.Commitment.{Commitment, starts, start_reduction, start_cap, stop_cap, cap}
 use Rattle.uc_model.specs.Schedule.{thermal_unit, thermal_count, point_p, point_count}
 use Rattle.uc_model.specs.PrintedSchedule.{cell_at}
-use Rattle.uc_model.specs.declared.instance.Instance.{Instance}
-use Rattle.uc_model.specs.declared.instance.Thermal.{Thermal}
-use Rattle.uc_model.specs.declared.pattern.Pattern.{Pattern}
-use Rattle.uc_model.specs.declared.schedule.Printed.{Printed}
 use Rattle.uc_model.proofs.Ring.{linear, le_or_lt, le_trans, le_antisymm, mul_nonneg, mul-zero}
 use Rattle.uc_model.proofs.Sums.{sum_below-sub}
 use Rattle.uc_model.proofs.MinimumTimes.{bit_nonneg}
 use Rattle.uc_model.proofs.Tests.{int_min_left, int_min_right}
 use Rattle.schedule_check.specs.SizedNumbers.{output_at}
-use Rattle.dispatch_repair.specs.Period.{Period, Source, FromThermal, commitment_at, output_before, head_of, need_of}
+use Rattle.dispatch_repair.specs.Period.{Instance, Pattern, Printed, Thermal, Period, Source, FromThermal, commitment_at, output_before, head_of, need_of}
 use Rattle.dispatch_repair.specs.MeritOrder.{IsInMeritOrder, IsReserveInOrder}
 use Rattle.dispatch_repair.specs.Dispatch.{IsFilled, amounts, period_after}
 

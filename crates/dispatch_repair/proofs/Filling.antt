@@ -5,16 +5,13 @@ use Rattle.std.proofs.lemmas.Int.{ints}
 use Rattle.std.proofs.lemmas.Bool.{cases_lt, cases_eq}
 use Rattle.uc_model.specs.Sums.{sum_below}
 use Rattle.uc_model.specs.Schedule.{thermal_count, renewable_count}
-use Rattle.uc_model.specs.declared.instance.Instance.{Instance}
 use Rattle.uc_model.proofs.Ring.{linear, le_or_lt, le_antisymm}
 use Rattle.uc_model.proofs.Sums.{sum_below-same, sum_below-add, sum_below-single}
-use Rattle.cost_curves.specs.declared.slope.Slope.{Slope}
 use Rattle.cost_curves.proofs.Lines.{flatter_trans}
-use Rattle.dispatch_repair.specs.MeritOrder.{HasNextSlope}
+use Rattle.dispatch_repair.specs.MeritOrder.{Instance, Slope, HasNextSlope}
 use Rattle.dispatch_repair.specs.inside.Amounts.{Range, range_at, amount_at, thermal_amount}
-use Rattle.dispatch_repair.specs.inside.Filling.{IsLeft, IsOpen, IsFull, IsSpent, IsRaise, CostsUpTo, IsWorth, IsTaken, AddsUp, IsFilledTo}
+use Rattle.dispatch_repair.specs.inside.Filling.{Left, IsLeft, IsOpen, IsFull, IsSpent, IsRaise, CostsUpTo, IsWorth, IsTaken, AddsUp, IsFilledTo}
 use Rattle.dispatch_repair.specs.inside.Segments.{Segment, comes_before, IsAtMost, source_at, source_count, segment_at, no_segment, IsSegmentOf, AreInMeritOrder}
-use Rattle.dispatch_repair.specs.declared.fill.Left.{Left}
 use Rattle.dispatch_repair.proofs.MeritSegments.{up_to-from}
 
 -- ---- sums with one term changed

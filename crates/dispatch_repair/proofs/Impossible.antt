@@ -8,7 +8,6 @@ use Rattle.uc_model.specs.Sums.{sum_below, bit}
 use Rattle.uc_model.specs.Commitment.{cap}
 use Rattle.uc_model.specs.Schedule.{Schedule, thermal_unit, thermal_count, renewable_count, p_at, p_before}
 use Rattle.uc_model.specs.Rules.{StartCap, StopCap, RampUp, RenewableRange, Demand, Reserve, supply_at, reserve_supply_at}
-use Rattle.uc_model.specs.declared.stuck.Why.{Why}
 use Rattle.uc_model.specs.declared.stuck.Why.TheVariants as why
 use Rattle.uc_model.proofs.Ring.{linear, mul-add, mul-sub, mul_assoc, le_from_mul}
 use Rattle.uc_model.proofs.Sums.{sum_below-same, sum_below-add, sum_below-mul_left, sum_below-le}
@@ -16,7 +15,7 @@ use Rattle.uc_model.proofs.Tests.{int_le-true, int_eq-true}
 use Rattle.dual_model.proofs.Locality.{cap-same}
 use Rattle.dual_model.proofs.PricedRules.{within_cap}
 use Rattle.dispatch_repair.specs.Period.{Period, Source, FromRenewable, FromThermal, low_of, high_of, head_of, heads, thermal_sum, renewable_sum, minimums, total_output, demand_of, need_of}
-use Rattle.dispatch_repair.specs.Stuck.{IsFirstObstacle, reserve_room, GoesOn, KeepsDispatchRules, HasNoDispatch}
+use Rattle.dispatch_repair.specs.Stuck.{Why, IsFirstObstacle, reserve_room, GoesOn, KeepsDispatchRules, HasNoDispatch}
 
 -- ---- numbers over q against whole ones
 least-sum : (n q : ℕ) (f g : ℕ → ℤ) → ((k : ℕ) → k < n → (pos q *ℤ f k) ≤ℤ g k) → (pos q *ℤ sum_below n f) ≤ℤ sum_below n g

@@ -7,19 +7,16 @@ use Rattle.std.proofs.lemmas.List.{get_or_default}
 use Rattle.uc_model.specs.Limits.{IsLawfulInstance, IsPower}
 use Rattle.uc_model.specs.Sums.{sum_below}
 use Rattle.uc_model.specs.Schedule.{thermal_unit, thermal_count, renewable_count, point, point_p, point_count}
-use Rattle.uc_model.specs.declared.instance.Instance.{Instance}
 use Rattle.uc_model.proofs.Ring.{linear, le_or_lt, le_antisymm, le_trans}
 use Rattle.uc_model.proofs.Sums.{sum_below-same, sum_below-le, sum_below-split}
 use Rattle.uc_model.proofs.Tests.{int_min_left, int_min_right}
-use Rattle.cost_curves.specs.declared.slope.Slope.{Slope}
-use Rattle.dispatch_repair.specs.Period.{Period, Source, FromRenewable, FromThermal, IsSourceOf, low_of, high_of, head_of, heads, minimums, thermal_sum, renewable_sum, demand_of, thermal_limit, is_off_next}
-use Rattle.dispatch_repair.specs.MeritOrder.{HasNextSlope, HasLastSlope, ComesBefore, IsPreferred, CanMove, IsInMeritOrder, thermal_part}
+use Rattle.dispatch_repair.specs.Period.{Instance, Period, Source, FromRenewable, FromThermal, IsSourceOf, low_of, high_of, head_of, heads, minimums, thermal_sum, renewable_sum, demand_of, thermal_limit, is_off_next}
+use Rattle.dispatch_repair.specs.MeritOrder.{Slope, HasNextSlope, HasLastSlope, ComesBefore, IsPreferred, CanMove, IsInMeritOrder, thermal_part}
 use Rattle.dispatch_repair.specs.Stuck.{HaveRanges, IsFree}
 use Rattle.dispatch_repair.specs.inside.Amounts.{Range, range_at, amount_at, amount_of, thermal_amount, AreRangesOf, AreHeadsOf, IsSizedOutput}
 use Rattle.dispatch_repair.specs.inside.Filled.{IsDispatchedFrom}
-use Rattle.dispatch_repair.specs.inside.Filling.{IsOpen, IsFull, CostsUpTo, IsWorth, IsTaken, IsFilledTo, IsFirstLeft}
+use Rattle.dispatch_repair.specs.inside.Filling.{Left, IsOpen, IsFull, CostsUpTo, IsWorth, IsTaken, IsFilledTo, IsFirstLeft}
 use Rattle.dispatch_repair.specs.inside.Segments.{Segment, IsNextOn, source_at, source_count, segment_at, no_segment, width_at, AreInMeritOrder}
-use Rattle.dispatch_repair.specs.declared.fill.Left.{Left}
 use Rattle.dispatch_repair.proofs.CurveSegments.{renewable_at, thermal_at}
 use Rattle.dispatch_repair.proofs.NextSlopes.{next_run}
 use Rattle.dispatch_repair.proofs.Filled.{max_left}

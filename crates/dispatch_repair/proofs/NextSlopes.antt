@@ -1,11 +1,9 @@
 -- A source's next watt has a slope over a width.
 use Rattle.std.proofs.Common.{ℕ, pos, ℤ, ◌<ℤ◌}
 use Rattle.uc_model.specs.Schedule.{thermal_unit}
-use Rattle.uc_model.specs.declared.instance.Instance.{Instance}
-use Rattle.cost_curves.specs.declared.slope.Slope.{Slope}
 use Rattle.cost_curves.proofs.Slopes.{slope_run}
-use Rattle.dispatch_repair.specs.Period.{Source, FromRenewable, FromThermal}
-use Rattle.dispatch_repair.specs.MeritOrder.{HasNextSlope}
+use Rattle.dispatch_repair.specs.Period.{Instance, Source, FromRenewable, FromThermal}
+use Rattle.dispatch_repair.specs.MeritOrder.{Slope, HasNextSlope}
 use Rattle.dispatch_repair.specs.inside.Segments.{source_at}
 
 of_source : (instance : Instance) (s : Source) (watt : ℤ) (slope : Slope) → HasNextSlope instance s watt slope → pos 0 <ℤ slope.run

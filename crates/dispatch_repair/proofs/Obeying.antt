@@ -9,9 +9,6 @@ use Rattle.uc_model.specs.Rules as model
 use Rattle.uc_model.specs.Rules.{Obeys}
 use Rattle.uc_model.specs.PrintedSchedule.{cell_at, printed_denominator, printed_schedule}
 use Rattle.uc_model.specs.Limits.{IsLawfulInstance}
-use Rattle.uc_model.specs.declared.instance.Instance.{Instance}
-use Rattle.uc_model.specs.declared.pattern.Pattern.{Pattern}
-use Rattle.uc_model.specs.declared.schedule.Printed.{Printed}
 use Rattle.uc_model.proofs.Ring.{linear, le_trans}
 use Rattle.uc_model.proofs.Sums.{sum_below-same, sum_below-add}
 use Rattle.uc_model.proofs.Tests.{le-int_le, eq-int_eq}
@@ -22,7 +19,7 @@ use Rattle.schedule_check.proofs.Produced.{holds_to}
 use Rattle.schedule_check.proofs.CommitmentOrder.{turn, on_commitments}
 use Rattle.schedule_check.proofs.FirstPlaces.{watts, obeys_stands}
 use Rattle.schedule_check.specs.SizedNumbers.{output_at}
-use Rattle.dispatch_repair.specs.Period.{FromRenewable, commitment_at, output_before, minimums}
+use Rattle.dispatch_repair.specs.Period.{Instance, Pattern, Printed, FromRenewable, commitment_at, output_before, minimums}
 use Rattle.dispatch_repair.specs.Dispatch.{IsDispatchThrough, amounts}
 use Rattle.dispatch_repair.specs.Stuck.{IsRegular}
 use Rattle.dispatch_repair.proofs.RowRules.{turn_rule}

@@ -7,32 +7,23 @@ use Rattle.std.proofs.lemmas.Int.{ints}
 use Rattle.uc_model.specs.Sums.{sum_below, bit}
 use Rattle.uc_model.specs.Commitment.{initial_p}
 use Rattle.uc_model.specs.Limits.{IsLawfulThermal}
-use Rattle.uc_model.specs.declared.instance.Thermal.{Thermal}
 use Rattle.uc_model.proofs.Ring.{one-mul, zero-mul}
 use Rattle.uc_model.specs.StartCategory.{category_cost}
 use Rattle.uc_model.specs.Schedule.{thermal_unit, thermal_count, renewable_count, reserve_at, no_unit}
 use Rattle.uc_model.specs.PrintedSchedule.{cell_at}
-use Rattle.uc_model.specs.declared.instance.Instance.{Instance}
-use Rattle.uc_model.specs.declared.pattern.Pattern.{Pattern}
-use Rattle.uc_model.specs.declared.schedule.Cell.{Cell}
-use Rattle.uc_model.specs.declared.schedule.Printed.{Printed}
-use Rattle.uc_model.specs.declared.stuck.Stuck.{Stuck}
-use Rattle.uc_model.specs.declared.stuck.Why.{Why}
 use Rattle.uc_model.specs.declared.stuck.Why.TheVariants as why
 use Rattle.start_costs.specs.Cheapest.{IsCheapestAbove}
 use Rattle.schedule_check.specs.SizedNumbers.{output_at}
-use Rattle.dispatch_repair.specs.Period.{Period, Source, FromRenewable, FromThermal, commitment_at, output_before, head_of}
+use Rattle.dispatch_repair.specs.Period.{Instance, Pattern, Printed, Thermal, Period, Source, FromRenewable, FromThermal, commitment_at, output_before, head_of}
 use Rattle.dispatch_repair.specs.MeritOrder.{IsInMeritOrder}
-use Rattle.dispatch_repair.specs.Dispatch.{HasPeriods, IsCommittedCell, amounts, period_after, IsFilling, IsFilled, IsDispatchThrough}
-use Rattle.dispatch_repair.specs.Stuck.{IsRegular, IsFirstBrokenRule, IsStuckInPeriod, IsFirstObstacle, stuck_period, IsStuckBy, IsStuckOf}
-use Rattle.dispatch_repair.specs.Rooms.{IsObstacleOf, IsRoomOf, IsStuckAfter}
+use Rattle.dispatch_repair.specs.Dispatch.{Cell, HasPeriods, IsCommittedCell, amounts, period_after, IsFilling, IsFilled, IsDispatchThrough}
+use Rattle.dispatch_repair.specs.Stuck.{Stuck, Why, IsRegular, IsFirstBrokenRule, IsStuckInPeriod, IsFirstObstacle, stuck_period, IsStuckBy, IsStuckOf}
+use Rattle.dispatch_repair.specs.Rooms.{Obstacle, Room, IsObstacleOf, IsRoomOf, IsStuckAfter}
 use Rattle.dispatch_repair.specs.inside.Amounts.{amount_at, amount_of, thermal_amount, IsSizedOutput}
 use Rattle.dispatch_repair.specs.inside.Filled.{IsDispatchedFrom}
 use Rattle.dispatch_repair.specs.inside.Progress.{AreBefore, AreFilledBelow}
 use Rattle.dispatch_repair.specs.inside.Rows.{AreCommitted, AreSameBut, IsWritten, AreSameBelow}
 use Rattle.dispatch_repair.specs.inside.Segments.{source_count}
-use Rattle.dispatch_repair.specs.declared.room.Room.{Room}
-use Rattle.dispatch_repair.specs.declared.schedule.Obstacle.{Obstacle}
 use Rattle.dispatch_repair.proofs.Impossible.{impossible}
 
 -- ---- what was filled stays so

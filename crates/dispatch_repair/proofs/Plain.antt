@@ -8,15 +8,12 @@ use Rattle.uc_model.specs.Commitment.{was_on, starts}
 use Rattle.uc_model.specs.Schedule.{thermal_unit, thermal_count, renewable_count, renewable_minimum, renewable_maximum}
 use Rattle.uc_model.specs.PrintedSchedule.{cell_at}
 use Rattle.uc_model.specs.Limits.{IsLimit, IsLawfulInstance}
-use Rattle.uc_model.specs.declared.instance.Instance.{Instance}
 use Rattle.uc_model.specs.declared.limits.TheConstants.{MAX_START_ROWS}
-use Rattle.uc_model.specs.declared.pattern.Pattern.{Pattern}
-use Rattle.uc_model.specs.declared.schedule.Printed.{Printed}
 use Rattle.uc_model.proofs.Ring.{linear, mul-one, mul-zero, le_trans}
 use Rattle.schedule_check.specs.SizedNumbers.{output_at}
 use Rattle.schedule_check.proofs.Plain.{power_below, plain as plain_everywhere}
 use Rattle.schedule_check.proofs.Priced.{allowed-within}
-use Rattle.dispatch_repair.specs.Period.{FromRenewable, commitment_at}
+use Rattle.dispatch_repair.specs.Period.{Instance, Pattern, Printed, FromRenewable, commitment_at}
 use Rattle.dispatch_repair.specs.Dispatch.{IsFilled, IsDispatchThrough}
 use Rattle.schedule_check.specs.PlainNumbers.{IsIdleCell, IsPlainCell, HasPlainNumbers}
 use Rattle.dispatch_repair.proofs.Filled.{cell_within, cell-le-cap, cell_idle, cap-le-range, max_right}

@@ -5,10 +5,8 @@ use Rattle.uc_model.specs.Commitment.{initial_stop_holds, is_allowed, is_allowed
 use Rattle.uc_model.specs.Rules.{Rule, MustRun, InitialUp, InitialDown, MinimumUp, MinimumDown, Category, InitialStop, Production, StartCap, StopCap, RampUp, RampDown, RenewableRange, Demand, Reserve, holds_at}
 use Rattle.uc_model.specs.Schedule.{thermal_count, thermal_unit}
 use Rattle.uc_model.specs.Sums.{all_below}
-use Rattle.uc_model.specs.declared.instance.Instance.{Instance}
-use Rattle.uc_model.specs.declared.pattern.Pattern.{Pattern}
 use Rattle.uc_model.proofs.Tests.{all_below-at}
-use Rattle.dispatch_repair.specs.Period.{commitment_at}
+use Rattle.dispatch_repair.specs.Period.{Instance, Pattern, commitment_at}
 use Rattle.dispatch_repair.specs.Stuck.{IsCommitmentRule, IsRegular, committed}
 
 -- a rule of another number isn't on commitments

@@ -4,15 +4,12 @@ use Rattle.std.proofs.Common.{◌≡◌, ℕ, zero, suc, ◌-◌, ◌<◌, Bool,
 use Rattle.uc_model.specs.Commitment.{starts, stops}
 use Rattle.uc_model.specs.Schedule.{thermal_unit}
 use Rattle.uc_model.specs.Rules.{holds_at, rule_number}
-use Rattle.uc_model.specs.declared.instance.Instance.{Instance}
-use Rattle.uc_model.specs.declared.instance.Thermal.{Thermal}
-use Rattle.uc_model.specs.declared.pattern.Pattern.{Pattern}
 use Rattle.uc_model.specs.declared.schedule.Cell.{Cell}
 use Rattle.dual_model.proofs.Locality.{SameBelow, starts-same, stops-same, keeps_minimum-same, initial_stop-same}
 use Rattle.schedule_check.specs.CommitmentRules.{RowKeeps}
 use Rattle.schedule_check.specs.WholeWatts.{commitment, rule_of, unit_holds, unit_periods}
 use Rattle.schedule_check.proofs.CommitmentOrder.{turn}
-use Rattle.dispatch_repair.specs.Period.{commitment_at}
+use Rattle.dispatch_repair.specs.Period.{Instance, Pattern, Thermal, commitment_at}
 use Rattle.dispatch_repair.specs.Stuck.{KeepsRule, committed}
 
 -- what the row keeps holds in each period; M7 says the same of each

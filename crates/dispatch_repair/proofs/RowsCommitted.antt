@@ -12,13 +12,8 @@ use Rattle.uc_model.specs.PrintedSchedule.{cell_at}
 use Rattle.uc_model.specs.Schedule.{thermal_count, thermal_unit}
 use Rattle.uc_model.specs.StartCategory.{category_cost}
 use Rattle.start_costs.specs.Cheapest.{IsCheapestAbove}
-use Rattle.dispatch_repair.specs.Rooms.{AreRowsBut, AreRowsOf, printed_of}
-use Rattle.dispatch_repair.specs.declared.rows.Rows.{Rows}
-use Rattle.uc_model.specs.declared.instance.Instance.{Instance}
-use Rattle.uc_model.specs.declared.pattern.Pattern.{Pattern}
-use Rattle.uc_model.specs.declared.schedule.Cell.{Cell}
-use Rattle.uc_model.specs.declared.schedule.Printed.{Printed}
-use Rattle.dispatch_repair.specs.Dispatch.{HasPeriods, IsCommittedCell}
+use Rattle.dispatch_repair.specs.Rooms.{Instance, Pattern, Printed, Rows, AreRowsBut, AreRowsOf, printed_of}
+use Rattle.dispatch_repair.specs.Dispatch.{Cell, HasPeriods, IsCommittedCell}
 use Rattle.dispatch_repair.specs.inside.Rows.{AreCommitted, AreCommittedRows, IsCommittedRow, IsNewCell, cell_of, rows_of}
 
 -- an entry at each place up to a new last one

@@ -8,11 +8,8 @@ use Rattle.std.proofs.Math.ListN.{get_or-eq_default}
 use Rattle.std.proofs.lemmas.List.{map-set, get_or-map, get_or-take, get_or_default, length-map, length-take-le}
 use Rattle.std.proofs.lemmas.List.Edits.{map_over_more}
 use Rattle.std.proofs.lemmas.List.Elements.{All-map}
-use Rattle.uc_model.specs.declared.instance.Instance.{Instance}
-use Rattle.uc_model.specs.declared.schedule.Printed.{Printed}
-use Rattle.dispatch_repair.specs.Dispatch.{HasPeriods}
-use Rattle.dispatch_repair.specs.Rooms.{IsStuckAfter}
-use Rattle.dispatch_repair.specs.declared.schedule.Obstacle.{Obstacle}
+use Rattle.dispatch_repair.specs.Dispatch.{Instance, Printed, HasPeriods}
+use Rattle.dispatch_repair.specs.Rooms.{Obstacle, IsStuckAfter}
 use Rattle.dispatch_repair.specs.inside.Rows.{rows_of, row_at}
 
 -- the row that is read is the one at its place

@@ -3,10 +3,9 @@ use Rattle.std.proofs.Common.{◌≡◌, ℕ, ◌≤◌, Option, Some, None, tru
 use Rattle.uc_model.specs.PatternBits.{commitment_of}
 use Rattle.uc_model.specs.ExtremePatterns.{IsMostOn, IsFewestOn, HasNoAllowedPattern, on_during}
 use Rattle.uc_model.specs.declared.instance.Thermal.{Thermal}
-use Rattle.uc_model.specs.declared.pattern.Pattern.{Pattern}
 use Rattle.uc_model.proofs.ExtremePatterns.{fewest-from_lowest, lowest-must_run}
 use Rattle.uc_model.proofs.PeriodRuns.{during-off_past}
-use Rattle.dispatch_repair.specs.MostOn.{IsOffFrom}
+use Rattle.dispatch_repair.specs.MostOn.{Pattern, IsOffFrom}
 
 pub most-of_run : (periods : ℕ) (unit : Thermal) (first end : ℕ) (pattern : Pattern) → commitment_of pattern ≡ on_during first end
     → IsMostOn periods unit (on_during first end) → IsMostOn periods unit (commitment_of pattern)

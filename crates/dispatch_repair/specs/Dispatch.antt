@@ -5,10 +5,10 @@ use Rattle.uc_model.specs.Commitment.{starts}
 use Rattle.uc_model.specs.StartCategory.{category_cost}
 use Rattle.uc_model.specs.Schedule.{thermal_unit, thermal_count, renewable_count}
 use Rattle.uc_model.specs.PrintedSchedule.{cell_at}
-use Rattle.uc_model.specs.declared.instance.Instance.{Instance}
-use Rattle.uc_model.specs.declared.pattern.Pattern.{Pattern}
-use Rattle.uc_model.specs.declared.schedule.Cell.{Cell}
-use Rattle.uc_model.specs.declared.schedule.Printed.{Printed}
+pub use Rattle.uc_model.specs.declared.instance.Instance.{Instance}
+pub use Rattle.uc_model.specs.declared.pattern.Pattern.{Pattern}
+pub use Rattle.uc_model.specs.declared.schedule.Cell.{Cell}
+pub use Rattle.uc_model.specs.declared.schedule.Printed.{Printed}
 use Rattle.start_costs.specs.Cheapest.{IsCheapestAbove}
 use Rattle.schedule_check.specs.SizedNumbers.{output_at}
 use Rattle.dispatch_repair.specs.Period.{Period, Source, FromRenewable, FromThermal, commitment_at, output_before}

@@ -4,9 +4,9 @@ use Rattle.std.specs.Prelude.{◌≡◌, ℕ, ◌<◌, ℤ, pos, ◌+ℤ◌, ◌
 use Rattle.std.specs.Int.{int_min, int_max}
 use Rattle.uc_model.specs.Sums.{sum_below}
 use Rattle.uc_model.specs.Schedule.{thermal_unit, thermal_count}
-use Rattle.uc_model.specs.declared.instance.Instance.{Instance}
+pub use Rattle.uc_model.specs.declared.instance.Instance.{Instance}
 use Rattle.cost_curves.specs.LeastCost.{IsLeftSlope, IsRightSlope}
-use Rattle.cost_curves.specs.declared.slope.Slope.{Slope}
+pub use Rattle.cost_curves.specs.declared.slope.Slope.{Slope}
 use Rattle.dispatch_repair.specs.Period.{Period, Source, FromRenewable, FromThermal, IsSourceOf, low_of, high_of, head_of, thermal_sum, total_output, thermal_limit, demand_of, need_of}
 
 -- the cost of a source's next watt above this output, and of its last one below; a renewable unit's are free

@@ -6,8 +6,8 @@ use Rattle.std.specs.Prelude.{◌≡◌, ℕ, ◌<◌, ◌≤◌, false, List, l
 use Rattle.uc_model.specs.PatternBits.{commitment_of}
 use Rattle.uc_model.specs.ExtremePatterns.{IsMostOn, HasNoAllowedPattern}
 use Rattle.uc_model.specs.Schedule.{thermal_unit, thermal_count}
-use Rattle.uc_model.specs.declared.instance.Instance.{Instance}
-use Rattle.uc_model.specs.declared.pattern.Pattern.{Pattern}
+pub use Rattle.uc_model.specs.declared.instance.Instance.{Instance}
+pub use Rattle.uc_model.specs.declared.pattern.Pattern.{Pattern}
 use Rattle.dispatch_repair.specs.declared.most_on_commitment.MostFault.{MostFault}
 use Rattle.dispatch_repair.specs.declared.most_on_commitment.MostFault.TheVariants.{Empty, NoMemory}
 

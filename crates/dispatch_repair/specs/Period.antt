@@ -8,10 +8,10 @@ use Rattle.uc_model.specs.Commitment.{Commitment, cap, initial_p}
 use Rattle.uc_model.specs.PatternBits.{commitment_of}
 use Rattle.uc_model.specs.PrintedSchedule.{cell_at}
 use Rattle.uc_model.specs.Schedule.{thermal_unit, thermal_count, renewable_count, renewable_minimum, renewable_maximum, demand_at, reserve_at, point_p, point_count}
-use Rattle.uc_model.specs.declared.instance.Instance.{Instance}
-use Rattle.uc_model.specs.declared.instance.Thermal.{Thermal}
-use Rattle.uc_model.specs.declared.pattern.Pattern.{Pattern}
-use Rattle.uc_model.specs.declared.schedule.Printed.{Printed}
+pub use Rattle.uc_model.specs.declared.instance.Instance.{Instance}
+pub use Rattle.uc_model.specs.declared.instance.Thermal.{Thermal}
+pub use Rattle.uc_model.specs.declared.pattern.Pattern.{Pattern}
+pub use Rattle.uc_model.specs.declared.schedule.Printed.{Printed}
 
 -- the commitment of unit g, from 0, whose patterns are these
 abbrev pub commitment_at : List Pattern → ℕ → Commitment

@@ -2,19 +2,17 @@
 use Rattle.std.specs.Prelude.{◌≡◌, ◌≢◌, ℕ, ◌<◌, ◌≤◌, List, length}
 use Rattle.uc_model.specs.PrintedSchedule.{cell_at}
 use Rattle.uc_model.specs.Schedule.{thermal_count}
-use Rattle.uc_model.specs.declared.instance.Instance.{Instance}
-use Rattle.uc_model.specs.declared.pattern.Pattern.{Pattern}
-use Rattle.uc_model.specs.declared.schedule.Printed.{Printed}
-use Rattle.uc_model.specs.declared.stuck.Stuck.{Stuck}
-use Rattle.uc_model.specs.declared.stuck.Why.{Why}
+pub use Rattle.uc_model.specs.declared.instance.Instance.{Instance}
+pub use Rattle.uc_model.specs.declared.pattern.Pattern.{Pattern}
+pub use Rattle.uc_model.specs.declared.schedule.Printed.{Printed}
 use Rattle.dispatch_repair.specs.Dispatch.{HasPeriods, IsCommittedCell, IsFilled, period_after}
 use Rattle.dispatch_repair.specs.Period.{output_before}
-use Rattle.dispatch_repair.specs.Stuck.{IsFirstObstacle}
+use Rattle.dispatch_repair.specs.Stuck.{Stuck, Why, IsFirstObstacle}
 use Rattle.dispatch_repair.specs.inside.Rows.{AreCommitted, AreSameBelow}
 use Rattle.dispatch_repair.specs.inside.Segments.{source_count, AreInMeritOrder}
-use Rattle.dispatch_repair.specs.declared.room.Room.{Room}
-use Rattle.dispatch_repair.specs.declared.rows.Rows.{Rows}
-use Rattle.dispatch_repair.specs.declared.schedule.Obstacle.{Obstacle}
+pub use Rattle.dispatch_repair.specs.declared.room.Room.{Room}
+pub use Rattle.dispatch_repair.specs.declared.rows.Rows.{Rows}
+pub use Rattle.dispatch_repair.specs.declared.schedule.Obstacle.{Obstacle}
 pub use Rattle.dispatch_repair.specs.inside.Rows.{printed_of}
 
 -- memory for the periods of an instance, with its segments in order of merit

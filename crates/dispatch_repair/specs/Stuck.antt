@@ -4,15 +4,12 @@ use Rattle.std.specs.Prelude.{◌≡◌, ℕ, ◌<◌, ◌≤◌, ◌⊎◌, Lis
 use Rattle.std.specs.Int.{int_max}
 use Rattle.uc_model.specs.Schedule.{Schedule, thermal_unit, thermal_count, p_at, p_before}
 use Rattle.uc_model.specs.Rules.{Rule, rule_number, rule_units, holds_at}
-use Rattle.uc_model.specs.declared.instance.Instance.{Instance}
-use Rattle.uc_model.specs.declared.pattern.Pattern.{Pattern}
-use Rattle.uc_model.specs.declared.schedule.Printed.{Printed}
-use Rattle.uc_model.specs.declared.stuck.Stuck.{Stuck}
-use Rattle.uc_model.specs.declared.stuck.Why.{Why}
+pub use Rattle.uc_model.specs.declared.stuck.Stuck.{Stuck}
+pub use Rattle.uc_model.specs.declared.stuck.Why.{Why}
 use Rattle.uc_model.specs.declared.stuck.Why.TheVariants as why
 use Rattle.dispatch_repair.specs.declared.schedule.DispatchFault.{DispatchFault}
 use Rattle.dispatch_repair.specs.declared.schedule.DispatchFault.TheVariants as fault
-use Rattle.dispatch_repair.specs.Period.{Period, FromThermal, commitment_at, output_before, low_of, high_of, heads, thermal_sum, renewable_sum, minimums, total_output, demand_of, need_of}
+use Rattle.dispatch_repair.specs.Period.{Instance, Pattern, Printed, Period, FromThermal, commitment_at, output_before, low_of, high_of, heads, thermal_sum, renewable_sum, minimums, total_output, demand_of, need_of}
 use Rattle.dispatch_repair.specs.Dispatch.{HasPeriods, IsDispatchThrough, period_after}
 
 -- ---- the rules that come before a dispatch

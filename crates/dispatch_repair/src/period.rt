@@ -4,15 +4,14 @@ ghost use Rattle.std.specs.Prelude.{◌≡◌, ℕ, ℤ, ◌*◌, ◌<◌, ◌�
 ghost use Rattle.std.specs.Int.{int_max};
 ghost use Rattle.uc_model.specs.Commitment.{initial_p};
 ghost use Rattle.uc_model.specs.Limits.{IsLawfulInstance, IsPower};
-ghost use Rattle.uc_model.specs.declared.limits.TheConstants.{MAX_POWER, MAX_UNITS};
 ghost use Rattle.uc_model.specs.Schedule.{renewable_count, thermal_count, thermal_unit};
 ghost use Rattle.dispatch_repair.specs.Dispatch.{period_after};
 ghost use Rattle.dispatch_repair.specs.Period.{Period, demand_of, need_of};
 ghost use Rattle.dispatch_repair.specs.Stuck.{IsFirstObstacle};
 ghost use Rattle.dispatch_repair.specs.Rooms.{IsRoomOf};
-ghost use Rattle.dispatch_repair.specs.inside.Amounts.{AreBeforePeriod, AreHeadsOf, AreRangesOf, AreSizedHeads, AreSizedRanges, amount_at, next_period, range_at, thermal_amount};
+ghost use Rattle.dispatch_repair.specs.inside.Amounts.{MAX_POWER, AreBeforePeriod, AreHeadsOf, AreRangesOf, AreSizedHeads, AreSizedRanges, amount_at, next_period, range_at, thermal_amount};
 ghost use Rattle.dispatch_repair.specs.inside.Filled.{IsDispatchedFrom};
-ghost use Rattle.dispatch_repair.specs.inside.Filling.{IsFilledTo, IsFirstLeft, IsLeft, IsOpen, IsStart};
+ghost use Rattle.dispatch_repair.specs.inside.Filling.{MAX_UNITS, IsFilledTo, IsFirstLeft, IsLeft, IsOpen, IsStart};
 ghost use Rattle.dispatch_repair.specs.inside.Segments.{AreInMeritOrder, source_count};
 ghost use Rattle.dispatch_repair.specs.inside.Totals.{AreSizedTotals, AreTotalsOf, IsSizedSum, IsSizedTotal};
 

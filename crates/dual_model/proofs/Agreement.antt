@@ -5,10 +5,8 @@ use Rattle.std.proofs.lemmas.Bool.{and_parts, and_from, or_left, or_right, cases
 use Rattle.uc_model.specs.Schedule.{Schedule, thermal_unit, thermal_count}
 use Rattle.uc_model.specs.Rules.{Obeys}
 use Rattle.uc_model.specs.Limits.{IsLawfulThermal}
-use Rattle.uc_model.specs.declared.instance.Instance.{Instance}
 use Rattle.uc_model.proofs.Obeyed.{is_allowed-obeying}
-use Rattle.dual_model.specs.Fixings.{Node, keeps, keeps_of, unit_agrees, agrees, IsPatternAt}
-use Rattle.dual_model.specs.declared.node.Fixing.{Fixing}
+use Rattle.dual_model.specs.Fixings.{Fixing, Instance, Node, keeps, keeps_of, unit_agrees, agrees, IsPatternAt}
 
 kept_by_unit : (x : Schedule) (g : ℕ) (fixing : Fixing) → IsTrue (keeps fixing (x.thermal fixing.g).on)
     → IsTrue (keeps_of g (x.thermal g).on fixing)

@@ -6,13 +6,11 @@ use Rattle.uc_model.specs.Sums.{bit, all_below}
 use Rattle.uc_model.specs.Commitment.{Commitment, state_before, was_on, starts, stops, keeps_minimum_at, must_run_at, initial_up_at, initial_down_at, minimum_up_at, minimum_down_at, cap, is_allowed_at, initial_stop_holds}
 use Rattle.uc_model.specs.PatternBits.{commitment_of}
 use Rattle.uc_model.specs.Limits.{IsLawfulThermal}
-use Rattle.uc_model.specs.declared.instance.Thermal.{Thermal}
-use Rattle.uc_model.specs.declared.terms.Terms.{Terms}
 use Rattle.uc_model.proofs.Ring.{linear}
 use Rattle.uc_model.proofs.Sums.{sum_below-same}
 use Rattle.uc_model.proofs.Tests.{int_le-true, le-int_le, all_below-at, all_below-from}
 use Rattle.uc_model.specs.Terms.{period_count, term_at}
-use Rattle.dual_model.specs.UnitTerms.{AreSizedTerms, IsSized}
+use Rattle.dual_model.specs.UnitTerms.{Terms, Thermal, AreSizedTerms, IsSized}
 use Rattle.dual_model.specs.PatternValue.{IsPattern, is_followed}
 use Rattle.dual_model.specs.Moves.{Fix, holds_initially, initial_limit, has_lasted, hour_cost}
 use Rattle.dual_model.specs.CostToGo.{since_after}

@@ -6,14 +6,12 @@ use Rattle.uc_model.specs.Commitment.{initial_p}
 use Rattle.uc_model.specs.Schedule.{Schedule, thermal_unit, thermal_count, renewable_count, demand_at, reserve_at, p_at, p_before}
 use Rattle.uc_model.specs.Cost.{cell_cost, unit_cost, cost}
 use Rattle.uc_model.specs.Rules.{RampUp, RampDown, RenewableRange, Demand, Reserve, Obeys, thermal_output}
-use Rattle.uc_model.specs.declared.instance.Thermal.{Thermal}
-use Rattle.uc_model.specs.declared.instance.Instance.{Instance}
 use Rattle.uc_model.proofs.Ring.{linear, scale-le-scale}
 use Rattle.uc_model.proofs.Tests.{int_le-true, int_eq-true}
 use Rattle.uc_model.proofs.Obeyed.{rule_at}
-use Rattle.dual_model.specs.Prices.{Table, pi_at, mu_at, up_at, down_at, HasSizeOf, HasLawfulSigns}
+use Rattle.dual_model.specs.Prices.{Instance, Table, pi_at, mu_at, up_at, down_at, HasSizeOf, HasLawfulSigns}
 use Rattle.dual_model.specs.Fixings.{Node, IsPatternAt}
-use Rattle.dual_model.specs.UnitValue.{period_value, IsPatternValue}
+use Rattle.dual_model.specs.UnitValue.{Thermal, period_value, IsPatternValue}
 use Rattle.dual_model.specs.NodeValue.{constant_at, renewable_value, IsNodeValue}
 use Rattle.dual_model.proofs.Lagrange.{unit_priced, bound_priced}
 use Rattle.dual_model.proofs.Multipliers.{mu_at_nonneg, signed_at, up_at_past, down_at_past}

@@ -3,9 +3,8 @@ use Rattle.std.proofs.Common.{◌≡◌, length, subst, ℤ, Bool, ◌&&◌, IsT
 use Rattle.std.proofs.lemmas.Bool.{and_parts, ltb-true}
 use Rattle.uc_model.specs.Sums.{all_below}
 use Rattle.uc_model.specs.Schedule.{thermal_unit, thermal_count}
-use Rattle.uc_model.specs.declared.instance.Instance.{Instance}
 use Rattle.uc_model.proofs.Tests.{all_below-at}
-use Rattle.dual_model.specs.Fixings.{Node, HasEmptyUnit}
+use Rattle.dual_model.specs.Fixings.{Instance, Node, HasEmptyUnit}
 use Rattle.dual_model.specs.NodeValue.{Table, IsNodeValue}
 use Rattle.dual_model.proofs.NodeValues.{HasPoints, IsNodeAnswer, node_value_of, node_value_is}
 

@@ -7,15 +7,13 @@ use Rattle.uc_model.specs.Schedule.{Schedule}
 use Rattle.uc_model.specs.Cost.{cost}
 use Rattle.uc_model.specs.Rules.{Obeys}
 use Rattle.uc_model.specs.Limits.{IsLawfulInstance}
-use Rattle.uc_model.specs.declared.instance.Instance.{Instance}
 use Rattle.uc_model.proofs.Ring.{linear, le_from_mul, mul-le-mul_right, mul_left_comm, mul_comm, scale-le-scale}
-use Rattle.dual_model.specs.Prices.{Table, IsLawfulTable}
-use Rattle.dual_model.specs.Fixings.{Node, keeps, agrees, HasEmptyUnit}
+use Rattle.dual_model.specs.Prices.{Instance, Table, IsLawfulTable}
+use Rattle.dual_model.specs.Fixings.{Fixing, Node, keeps, agrees, HasEmptyUnit}
 use Rattle.dual_model.specs.Tree.{Tree, Ends, Splits, root, child, agreeing_leaves, EachLeaf}
 use Rattle.dual_model.specs.Cover.{Leaf, Bound, Ray, Empty, IsExcluded, LeafHolds, HasBoundOf, HasPositiveValue}
 use Rattle.dual_model.specs.Certificate.{ClaimHolds}
 use Rattle.dual_model.specs.Laws.{IsBoundTable, IsScheduleAt, LeavesPart, HasLawfulTable, CoversBound, CoversExclude, CertificatesClaimTruly, IsClaimTrue, AreTablesLawful}
-use Rattle.dual_model.specs.declared.node.Fixing.{Fixing}
 use Rattle.dual_model.proofs.NodeValues.{weak_duality, rays_exclude, not_empty}
 
 -- ---- the leaves part the schedules

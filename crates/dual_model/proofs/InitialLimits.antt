@@ -4,10 +4,9 @@ use Rattle.std.specs.Int.{int_min, int_max}
 use Rattle.std.proofs.lemmas.Int.{ints, clamps}
 use Rattle.uc_model.specs.Sums.{bit}
 use Rattle.uc_model.specs.Commitment.{Commitment, initial_stop_holds}
-use Rattle.uc_model.specs.declared.instance.Thermal.{Thermal}
 use Rattle.uc_model.proofs.Ring.{linear, mul-one, mul-zero, one-mul, zero-mul}
 use Rattle.uc_model.proofs.Tests.{int_le-true, le-int_le}
-use Rattle.dual_model.specs.Moves.{initial_limit}
+use Rattle.dual_model.specs.Moves.{Thermal, initial_limit}
 
 limit_at : (pmin pmax sd : ℤ) (now : Bool) → (bit true *ℤ (pmax -ℤ pmin) -ℤ int_max (pmax -ℤ sd) (pos 0) *ℤ bit (not now))
     ≡ (if now then pmax else int_min pmax sd) -ℤ pmin

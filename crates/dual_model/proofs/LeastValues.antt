@@ -2,13 +2,10 @@
 use Rattle.std.proofs.Common.{◌≡◌, sym, ◌∙◌, arith, ℤ, Option, Some, None}
 use Rattle.uc_model.specs.Commitment.{Commitment}
 use Rattle.uc_model.specs.Limits.{IsLawfulThermal}
-use Rattle.uc_model.specs.declared.instance.Thermal.{Thermal}
-use Rattle.uc_model.specs.declared.terms.Terms.{Terms}
 use Rattle.uc_model.proofs.Ring.{linear}
-use Rattle.dual_model.specs.declared.node.Fix.{Fix}
 use Rattle.uc_model.specs.Terms.{period_count}
-use Rattle.dual_model.specs.UnitTerms.{AreSizedTerms}
-use Rattle.dual_model.specs.PatternValue.{IsPattern, IsLeastValue, HasNoPattern, pattern_value}
+use Rattle.dual_model.specs.UnitTerms.{Terms, Thermal, AreSizedTerms}
+use Rattle.dual_model.specs.PatternValue.{Fix, IsPattern, IsLeastValue, HasNoPattern, pattern_value}
 use Rattle.dual_model.specs.CostToGo.{cost_to_go}
 use Rattle.dual_model.proofs.Optimum.{AtMost, cost_to_go-le-way, cost_to_go-attained}
 use Rattle.dual_model.proofs.Ways.{own_way-right, whole_way-from}

@@ -7,8 +7,7 @@ use Rattle.uc_model.specs.Commitment.{Commitment, was_on, starts, stops, keeps_m
 use Rattle.uc_model.specs.StartCategory.{last_stop, sigma, category_lag, category_count, is_barred, is_category_allowed}
 use Rattle.uc_model.specs.declared.instance.Thermal.{Thermal}
 use Rattle.uc_model.proofs.Sums.{sum_below-same}
-use Rattle.dual_model.specs.Fixings.{keeps, keeps_of}
-use Rattle.dual_model.specs.declared.node.Fixing.{Fixing}
+use Rattle.dual_model.specs.Fixings.{Fixing, keeps, keeps_of}
 
 -- the commitments are the same in the periods below n
 pub record SameBelow (n : ℕ) (first second : Commitment) : Type 0 where

@@ -8,10 +8,9 @@ use Rattle.uc_model.specs.Commitment.{Commitment}
 use Rattle.uc_model.specs.Schedule.{Schedule, thermal_unit, thermal_count}
 use Rattle.uc_model.specs.Cost.{cost}
 use Rattle.uc_model.specs.Limits.{IsLawfulInstance}
-use Rattle.uc_model.specs.declared.instance.Instance.{Instance}
 use Rattle.uc_model.proofs.Ring.{linear, le_antisymm, zero-mul, mul-lt-mul_left, mul-zero}
 use Rattle.uc_model.proofs.Sums.{sum_below-same, sum_below-le}
-use Rattle.dual_model.specs.Fixings.{Node, keeps_of, unit_agrees, HasEmptyUnit}
+use Rattle.dual_model.specs.Fixings.{Instance, Node, keeps_of, unit_agrees, HasEmptyUnit}
 use Rattle.dual_model.specs.UnitValue.{IsUnitValue}
 use Rattle.dual_model.specs.NodeValue.{Table, constant_at, unit_part, system_value, renewables_value, IsNodeValue}
 use Rattle.dual_model.specs.Tree.{child}

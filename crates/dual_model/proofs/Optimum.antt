@@ -4,10 +4,8 @@ use Rattle.std.specs.Int.{int_min}
 use Rattle.std.proofs.lemmas.Int.{ints}
 use Rattle.std.proofs.lemmas.Bool.{cond_both, cond-true, cond-false, eq-eqb, ne_eqb}
 use Rattle.uc_model.specs.Commitment.{Commitment}
-use Rattle.uc_model.specs.declared.instance.Thermal.{Thermal}
-use Rattle.uc_model.specs.declared.terms.Terms.{Terms}
 use Rattle.uc_model.proofs.Ring.{linear}
-use Rattle.dual_model.specs.Moves.{Fix, move}
+use Rattle.dual_model.specs.Moves.{Terms, Thermal, Fix, move}
 use Rattle.dual_model.specs.CostToGo.{total_of, lesser_of, end_cost, since_after, cost_to_go}
 
 -- the cost of the way that a commitment takes from a state before period t, with n periods left

@@ -10,16 +10,14 @@ use Rattle.uc_model.specs.StartCategory.{sigma, last_stop, category_cost, is_cat
 use Rattle.uc_model.specs.Schedule.{Row, Schedule, thermal_unit, thermal_count, point, point_count, p_at, weight_sum, renewable_minimum, renewable_maximum}
 use Rattle.uc_model.specs.Cost.{production_cost, cell_cost}
 use Rattle.uc_model.specs.Rules.{Category, Production, StartCap, StopCap, Obeys, stop_cap_at}
-use Rattle.uc_model.specs.declared.instance.Thermal.{Thermal}
-use Rattle.uc_model.specs.declared.instance.Instance.{Instance}
 use Rattle.uc_model.proofs.Ring.{linear, spread, scale-le-scale, mul-le-mul_left, mul-le-mul_turned, mul_left_comm, mul-one, mul-zero, mul-neg, pos_nonneg}
 use Rattle.uc_model.proofs.Sums.{sum_below-zero, term-le-sum_below}
 use Rattle.uc_model.proofs.Tests.{int_le-true}
 use Rattle.uc_model.proofs.Obeyed.{rule_at, Produces, production_parts}
 use Rattle.uc_model.proofs.StartCosts.{sigma-le-allowed}
-use Rattle.dual_model.specs.Prices.{Table, pi_at}
+use Rattle.dual_model.specs.Prices.{Instance, Table, pi_at}
 use Rattle.dual_model.specs.Term.{IsCellBound, output_price, reserve_price}
-use Rattle.dual_model.specs.UnitValue.{period_value}
+use Rattle.dual_model.specs.UnitValue.{Thermal, period_value}
 use Rattle.dual_model.specs.NodeValue.{renewable_value}
 
 -- ---- start costs

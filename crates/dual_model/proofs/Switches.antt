@@ -3,8 +3,7 @@ use Rattle.std.proofs.Common.{◌≡◌, ℕ, zero, suc, ◌<◌, ◌≤◌, ◌
 use Rattle.std.proofs.lemmas.Bool.{cases_lt, eq-eqb, ne_eqb}
 use Rattle.uc_model.specs.Commitment.{Commitment, state_before, was_on, starts}
 use Rattle.uc_model.specs.StartCategory.{last_stop}
-use Rattle.uc_model.specs.declared.instance.Thermal.{Thermal}
-use Rattle.dual_model.specs.Moves.{stop_since}
+use Rattle.dual_model.specs.Moves.{Thermal, stop_since}
 use Rattle.dual_model.specs.CostToGo.{since_after}
 
 -- since when the state before period t lasts, of a unit whose initial state this is

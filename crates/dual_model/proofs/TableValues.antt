@@ -4,20 +4,15 @@ use Rattle.uc_model.specs.Sums.{sum_below}
 use Rattle.uc_model.specs.Commitment.{Commitment, starts, cap, is_allowed}
 use Rattle.uc_model.specs.StartCategory.{last_stop, sigma}
 use Rattle.uc_model.specs.Schedule.{thermal_unit}
-use Rattle.uc_model.specs.declared.instance.Thermal.{Thermal}
-use Rattle.uc_model.specs.declared.instance.Instance.{Instance}
-use Rattle.uc_model.specs.declared.instance.Point.{Point}
-use Rattle.uc_model.specs.declared.terms.Terms.{Terms}
 use Rattle.uc_model.proofs.Ring.{linear}
 use Rattle.uc_model.proofs.Sums.{sum_below-same}
-use Rattle.dual_model.specs.Prices.{Table, pi_at}
-use Rattle.dual_model.specs.Fixings.{Node, IsPatternAt, IsFixOf, HasNoPattern}
-use Rattle.dual_model.specs.Term.{IsTerm, IsTermAt, output_price, reserve_price}
-use Rattle.dual_model.specs.UnitValue.{IsPatternValue, IsUnitValue, period_value}
-use Rattle.dual_model.specs.declared.node.Fix.{Fix}
+use Rattle.dual_model.specs.Prices.{Instance, Table, pi_at}
+use Rattle.dual_model.specs.Fixings.{Fix, Node, IsPatternAt, IsFixOf, HasNoPattern}
+use Rattle.dual_model.specs.Term.{Point, IsTerm, IsTermAt, output_price, reserve_price}
+use Rattle.dual_model.specs.UnitValue.{Thermal, IsPatternValue, IsUnitValue, period_value}
 use Rattle.dual_model.proofs.UnitValues.{term_unique, cap-allowed}
 use Rattle.uc_model.specs.Terms.{term_at, price_at}
-use Rattle.dual_model.specs.PatternValue.{IsPattern, IsLeastValue, is_followed, term_of, pattern_value}
+use Rattle.dual_model.specs.PatternValue.{Terms, IsPattern, IsLeastValue, is_followed, term_of, pattern_value}
 use Rattle.dual_model.specs.PatternValue as by_terms
 use Rattle.dual_model.specs.TableValue.{IsCellTerm, AreTermsOf, IsUnitValueOf}
 use Rattle.dual_model.proofs.CellCaps.{cell_cap-cap}

@@ -1,16 +1,10 @@
 -- Lists of prices and terms make terms of a unit, in shape and size, and those of a table where the rows are the table's.
 use Rattle.std.proofs.Common.{◌≡◌, ℕ, ◌<◌, ◌≤◌, List, length, refl, sym, subst, ◌∙◌, ℤ, Option, Some, None, IfSome, unsigned_abs}
 use Rattle.uc_model.specs.Schedule.{thermal_unit}
-use Rattle.uc_model.specs.declared.instance.Instance.{Instance}
-use Rattle.uc_model.specs.declared.instance.Thermal.{Thermal}
-use Rattle.uc_model.specs.declared.instance.Point.{Point}
-use Rattle.uc_model.specs.declared.terms.Terms.{Terms}
-use Rattle.uc_model.specs.declared.limits.TheConstants.{MAX_PERIODS, MAX_TERM}
-use Rattle.dual_model.specs.Term.{output_price, reserve_price}
+use Rattle.dual_model.specs.Term.{Instance, Point, output_price, reserve_price}
 use Rattle.dual_model.specs.declared.table.Table.{Table}
-use Rattle.dual_model.specs.declared.limits.TheConstants.{MAX_UNIT_PRICE}
 use Rattle.uc_model.specs.Terms.{term_at}
-use Rattle.dual_model.specs.UnitTerms.{AreSizedTerms, IsSized, cell_cap}
+use Rattle.dual_model.specs.UnitTerms.{MAX_PERIODS, MAX_TERM, MAX_UNIT_PRICE, Terms, Thermal, AreSizedTerms, IsSized, cell_cap}
 use Rattle.dual_model.specs.TableValue.{row_at, ArePricesOf, AreTermsOfRows, AreTermsFor, AreRowsOf, AreTermsOf, IsCellTerm, IsLawfulRow, IsLawfulScale}
 
 abbrev pub made : ℤ → List ℤ → List (List (Option ℤ)) → Terms

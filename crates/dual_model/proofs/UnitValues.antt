@@ -5,16 +5,13 @@ use Rattle.uc_model.specs.Sums.{sum_below}
 use Rattle.uc_model.specs.Commitment.{Commitment, starts, cap, is_allowed, is_allowed_at}
 use Rattle.uc_model.specs.StartCategory.{last_stop, sigma}
 use Rattle.uc_model.specs.Schedule.{thermal_unit}
-use Rattle.uc_model.specs.declared.instance.Point.{Point}
-use Rattle.uc_model.specs.declared.instance.Thermal.{Thermal}
-use Rattle.uc_model.specs.declared.instance.Instance.{Instance}
 use Rattle.uc_model.proofs.Ring.{le_antisymm}
 use Rattle.uc_model.proofs.Sums.{sum_below-same}
 use Rattle.uc_model.proofs.Tests.{int_le-true, all_below-at}
-use Rattle.dual_model.specs.Prices.{Table, pi_at}
+use Rattle.dual_model.specs.Prices.{Instance, Table, pi_at}
 use Rattle.dual_model.specs.Fixings.{Node, unit_agrees, HasNoPattern}
-use Rattle.dual_model.specs.Term.{IsTerm, IsTermAt, output_price, reserve_price}
-use Rattle.dual_model.specs.UnitValue.{period_value, IsPatternValue, IsUnitValue}
+use Rattle.dual_model.specs.Term.{Point, IsTerm, IsTermAt, output_price, reserve_price}
+use Rattle.dual_model.specs.UnitValue.{Thermal, period_value, IsPatternValue, IsUnitValue}
 use Rattle.dual_model.proofs.Terms.{least_reduced_cost, is_term}
 use Rattle.dual_model.proofs.Locality.{SameBelow, starts-same, cap-same, sigma-same, is_allowed-same, fixed_below, kept-same}
 use Rattle.dual_model.proofs.Patterns.{IsLocal, IsBestOf, best_pattern, best_pattern_is}

@@ -5,12 +5,10 @@ use Rattle.std.proofs.lemmas.Bool.{cond-true, cond-false, and_parts, and_from, t
 use Rattle.uc_model.specs.Sums.{sum_below}
 use Rattle.uc_model.specs.Commitment.{Commitment, was_on, starts, stops}
 use Rattle.uc_model.specs.StartCategory.{last_stop, sigma}
-use Rattle.uc_model.specs.declared.instance.Thermal.{Thermal}
-use Rattle.uc_model.specs.declared.terms.Terms.{Terms}
 use Rattle.uc_model.proofs.Ring.{linear}
 use Rattle.uc_model.proofs.Sums.{sum_below-first, sum_below-same}
 use Rattle.uc_model.specs.Terms.{period_count, term_at, price_at}
-use Rattle.dual_model.specs.PatternValue.{is_followed, term_of, period_value, pattern_value}
+use Rattle.dual_model.specs.PatternValue.{Terms, Thermal, is_followed, term_of, period_value, pattern_value}
 use Rattle.dual_model.specs.Moves.{Fix, may_be_on, may_be_off, holds_initially, may_stop, may_start, stop_since, hour_cost, hour_before, move}
 use Rattle.dual_model.specs.CostToGo.{total_of, end_cost}
 use Rattle.dual_model.proofs.Optimum.{way, total_of-parts}

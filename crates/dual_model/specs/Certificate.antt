@@ -4,9 +4,8 @@ use Rattle.std.specs.Prelude.{◌≡◌, ℕ, List, ℤ, Option, Some, None, IsT
 use Rattle.uc_model.specs.Schedule.{thermal_count, renewable_count}
 use Rattle.uc_model.specs.Rules.{Obeys}
 use Rattle.uc_model.specs.PrintedSchedule.{HasShapeOf, printed_schedule, printed_denominator, printed_cost}
-use Rattle.uc_model.specs.declared.instance.Instance.{Instance}
 use Rattle.uc_model.specs.declared.schedule.Printed.{Printed}
-use Rattle.dual_model.specs.Prices.{Table, IsLawfulTable}
+use Rattle.dual_model.specs.Prices.{Instance, Table, IsLawfulTable}
 use Rattle.dual_model.specs.Tree.{Tree, IsCover}
 use Rattle.dual_model.specs.Cover.{Leaf, Holds, AllExcluded, has_bound}
 

@@ -2,9 +2,7 @@
 -- number of periods that are left. Source: Bellman's principle of optimality (Dynamic Programming, 1957).
 use Rattle.std.specs.Prelude.{ℕ, zero, suc, ◌*◌, ◌^◌, ◌≤◌, Bool, true, false, ◌==◌, ℤ, pos, ◌+ℤ◌, unsigned_abs, Option, Some, None, IfSome}
 use Rattle.std.specs.Int.{int_min}
-use Rattle.uc_model.specs.declared.instance.Thermal.{Thermal}
-use Rattle.uc_model.specs.declared.terms.Terms.{Terms}
-use Rattle.dual_model.specs.Moves.{Fix, hour_before, move}
+use Rattle.dual_model.specs.Moves.{Terms, Thermal, Fix, hour_before, move}
 
 -- the total of two costs, and the lesser of them; None is what may not be
 abbrev pub total_of : Option ℤ → Option ℤ → Option ℤ

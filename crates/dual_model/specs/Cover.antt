@@ -5,8 +5,7 @@
 use Rattle.std.specs.Prelude.{◌≡◌, ℕ, ◌<◌, ◌⊎◌, Bool, true, false, List, ℤ, pos, ◌≤ℤ◌, ◌<ℤ◌, slice_get, Some}
 use Rattle.uc_model.specs.Division.{IsFloor}
 use Rattle.uc_model.specs.Schedule.{thermal_count}
-use Rattle.uc_model.specs.declared.instance.Instance.{Instance}
-use Rattle.dual_model.specs.Fixings.{Node, HasNoPattern, HasEmptyUnit}
+use Rattle.dual_model.specs.Fixings.{Instance, Node, HasNoPattern, HasEmptyUnit}
 use Rattle.dual_model.specs.NodeValue.{Table, IsNodeValue}
 use Rattle.dual_model.specs.Tree.{Tree, root, EachLeaf, any_leaf}
 

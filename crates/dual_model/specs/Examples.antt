@@ -2,13 +2,10 @@
 -- 50 MW, at 100 dollars an hour for 10 MW and 500 for 50.
 use Rattle.std.specs.Prelude.{ℕ, suc, ◌*◌, Bool, true, List, [], ◌∷◌, ℤ, pos, neg_ℤ, length, replicate}
 use Rattle.uc_model.specs.Examples.{base_unit, cold_unit, mw, dollars}
-use Rattle.uc_model.specs.declared.instance.Thermal.{Thermal}
 use Rattle.uc_model.specs.declared.instance.Renewable.{Renewable}
-use Rattle.uc_model.specs.declared.instance.Instance.{Instance}
 use Rattle.uc_model.specs.declared.instance.Point.{Point}
-use Rattle.dual_model.specs.NodeValue.{Table, IsNodeValue}
+use Rattle.dual_model.specs.NodeValue.{Instance, Node, Thermal, Table, IsNodeValue}
 use Rattle.dual_model.specs.Tree.{root}
-use Rattle.dual_model.specs.declared.node.Node.{Node}
 use Rattle.dual_model.specs.declared.node.Fixing.{Fixing}
 use Rattle.dual_model.specs.declared.table.RampRow.{RampRow}
 

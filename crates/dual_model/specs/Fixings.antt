@@ -9,9 +9,9 @@ use Rattle.uc_model.specs.Sums.{all_below}
 use Rattle.uc_model.specs.Commitment.{Commitment, is_allowed}
 use Rattle.uc_model.specs.PatternBits.{commitment_of}
 use Rattle.uc_model.specs.Schedule.{Schedule, thermal_unit, thermal_count}
-use Rattle.uc_model.specs.declared.instance.Instance.{Instance}
-use Rattle.dual_model.specs.declared.node.Fix.{Fix}
-use Rattle.dual_model.specs.declared.node.Fixing.{Fixing}
+pub use Rattle.uc_model.specs.declared.instance.Instance.{Instance}
+pub use Rattle.dual_model.specs.declared.node.Fix.{Fix}
+pub use Rattle.dual_model.specs.declared.node.Fixing.{Fixing}
 pub use Rattle.dual_model.specs.declared.node.Node.{Node}
 
 -- the commitment of the fixing's unit is as the fixing says

@@ -5,8 +5,7 @@ use Rattle.uc_model.specs.Schedule.{Schedule}
 use Rattle.uc_model.specs.Cost.{cost}
 use Rattle.uc_model.specs.Rules.{Obeys}
 use Rattle.uc_model.specs.Limits.{IsLawfulInstance}
-use Rattle.uc_model.specs.declared.instance.Instance.{Instance}
-use Rattle.dual_model.specs.Prices.{Table, HasSizeOf, HasLawfulSigns, IsLawfulTable}
+use Rattle.dual_model.specs.Prices.{Instance, Table, HasSizeOf, HasLawfulSigns, IsLawfulTable}
 use Rattle.dual_model.specs.Fixings.{Node, HasEmptyUnit, agrees}
 use Rattle.dual_model.specs.NodeValue.{IsNodeValue}
 use Rattle.dual_model.specs.Tree.{Tree, root, child, agreeing_leaves, EachLeaf}

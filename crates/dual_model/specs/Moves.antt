@@ -6,8 +6,8 @@ use Rattle.std.specs.Prelude.{ℕ, zero, suc, ◌+◌, ◌-◌, Bool, true, fals
 use Rattle.std.specs.Int.{int_min}
 use Rattle.uc_model.specs.PatternBits.{commitment_of}
 use Rattle.uc_model.specs.StartCategory.{sigma}
-use Rattle.uc_model.specs.declared.instance.Thermal.{Thermal}
-use Rattle.uc_model.specs.declared.terms.Terms.{Terms}
+pub use Rattle.uc_model.specs.declared.instance.Thermal.{Thermal}
+pub use Rattle.uc_model.specs.declared.terms.Terms.{Terms}
 pub use Rattle.dual_model.specs.declared.node.Fix.{Fix}
 use Rattle.uc_model.specs.Terms.{term_at, price_at}
 

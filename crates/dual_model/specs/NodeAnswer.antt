@@ -5,11 +5,9 @@ use Rattle.std.specs.Prelude.{◌≡◌, ℕ, ◌*◌, ◌^◌, ◌<◌, ◌≤�
 use Rattle.uc_model.specs.PatternBits.{commitment_of}
 use Rattle.uc_model.specs.Schedule.{thermal_count}
 use Rattle.uc_model.specs.declared.limits.TheConstants.{MAX_UNITS}
-use Rattle.uc_model.specs.declared.instance.Instance.{Instance}
 use Rattle.uc_model.specs.declared.pattern.Pattern.{Pattern}
-use Rattle.dual_model.specs.NodeValue.{Table, IsNodeValue, unit_part}
+use Rattle.dual_model.specs.NodeValue.{Instance, Node, Table, IsNodeValue, unit_part}
 use Rattle.dual_model.specs.UnitValue.{IsBestPattern}
-use Rattle.dual_model.specs.declared.node.Node.{Node}
 use Rattle.dual_model.specs.declared.valued.Valued.{Valued}
 
 -- what unit g adds, and a pattern that attains its value

@@ -6,11 +6,11 @@ use Rattle.std.specs.Int.{int_max}
 use Rattle.uc_model.specs.Sums.{sum_below}
 use Rattle.uc_model.specs.Commitment.{initial_p}
 use Rattle.uc_model.specs.Schedule.{thermal_unit, thermal_count, renewable_count, renewable_minimum, renewable_maximum, demand_at, reserve_at}
-use Rattle.uc_model.specs.declared.instance.Thermal.{Thermal}
-use Rattle.uc_model.specs.declared.instance.Instance.{Instance}
+pub use Rattle.uc_model.specs.declared.instance.Thermal.{Thermal}
+pub use Rattle.uc_model.specs.declared.instance.Instance.{Instance}
 use Rattle.dual_model.specs.Prices.{pi_at, mu_at, up_at, down_at}
 use Rattle.dual_model.specs.UnitValue.{IsUnitValue}
-use Rattle.dual_model.specs.declared.node.Node.{Node}
+pub use Rattle.dual_model.specs.declared.node.Node.{Node}
 pub use Rattle.dual_model.specs.declared.table.Table.{Table}
 
 -- pi(t)*D(t) + mu(t)*R(t) over the periods

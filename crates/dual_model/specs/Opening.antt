@@ -7,10 +7,8 @@ use Rattle.std.specs.Prelude.{◌≡◌, ℕ, zero, suc, ◌+◌, ◌-◌, ◌*�
 use Rattle.uc_model.specs.Sums.{bit}
 use Rattle.uc_model.specs.Commitment.{initial_p}
 use Rattle.uc_model.specs.Schedule.{thermal_count, thermal_unit}
-use Rattle.uc_model.specs.declared.instance.Instance.{Instance}
 use Rattle.uc_model.specs.declared.instance.Thermal.{Thermal}
-use Rattle.dual_model.specs.Prices.{Table, pi_at, mu_at, up_at, down_at}
-use Rattle.dual_model.specs.declared.table.RampRow.{RampRow}
+use Rattle.dual_model.specs.Prices.{Instance, RampRow, Table, pi_at, mu_at, up_at, down_at}
 
 -- the scale at which a price is in micro-dollars for a megawatt
 abbrev pub ZERO_SCALE : ℤ

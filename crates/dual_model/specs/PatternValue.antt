@@ -5,10 +5,10 @@ use Rattle.std.specs.Prelude.{◌≡◌, ℕ, suc, Bool, ◌&&◌, nat_lt, ℤ, 
 use Rattle.uc_model.specs.Sums.{sum_below}
 use Rattle.uc_model.specs.Commitment.{Commitment, starts, stops, is_allowed}
 use Rattle.uc_model.specs.StartCategory.{last_stop, sigma}
-use Rattle.uc_model.specs.declared.instance.Thermal.{Thermal}
-use Rattle.uc_model.specs.declared.terms.Terms.{Terms}
+pub use Rattle.uc_model.specs.declared.instance.Thermal.{Thermal}
+pub use Rattle.uc_model.specs.declared.terms.Terms.{Terms}
 use Rattle.dual_model.specs.Fixings.{fix_agrees}
-use Rattle.dual_model.specs.declared.node.Fix.{Fix}
+pub use Rattle.dual_model.specs.declared.node.Fix.{Fix}
 use Rattle.uc_model.specs.Terms.{period_count, term_at, price_at}
 
 -- a pattern of the unit: allowed, and as the fix decides

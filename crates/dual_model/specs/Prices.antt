@@ -5,10 +5,10 @@
 -- Units and periods count from 0 here.
 use Rattle.std.specs.Prelude.{◌≡◌, ℕ, suc, ◌<◌, ◌≤◌, ◌⊎◌, ◌≢◌, ◌&&◌, ◌==◌, List, [], ◌∷◌, ℤ, pos, ◌≤ℤ◌, unsigned_abs, length, slice_index_or, All, if◌then◌else◌}
 use Rattle.uc_model.specs.Schedule.{thermal_count}
-use Rattle.uc_model.specs.declared.instance.Instance.{Instance}
+pub use Rattle.uc_model.specs.declared.instance.Instance.{Instance}
 pub use Rattle.dual_model.specs.declared.limits.TheConstants.{MAX_SCALE, MAX_PRICE}
 pub use Rattle.dual_model.specs.declared.table.Table.{Table}
-use Rattle.dual_model.specs.declared.table.RampRow.{RampRow}
+pub use Rattle.dual_model.specs.declared.table.RampRow.{RampRow}
 
 -- the multiplier of demand in period t, and that of reserve; past the last period they are 0
 abbrev pub pi_at : Table → ℕ → ℤ

@@ -6,8 +6,8 @@ use Rattle.std.specs.Prelude.{◌≡◌, ℕ, suc, List, ℤ, pos, ◌+ℤ◌, �
 pub use Rattle.uc_model.specs.Points.{point_of, output_of, weighted_total, weighted_output, weighted_cost}
 use Rattle.uc_model.specs.Commitment.{Commitment, cap}
 use Rattle.uc_model.specs.Schedule.{thermal_unit}
-use Rattle.uc_model.specs.declared.instance.Point.{Point}
-use Rattle.uc_model.specs.declared.instance.Instance.{Instance}
+pub use Rattle.uc_model.specs.declared.instance.Point.{Point}
+pub use Rattle.uc_model.specs.declared.instance.Instance.{Instance}
 use Rattle.dual_model.specs.Prices.{Table, pi_at, mu_at, up_at, down_at}
 
 -- m bounds the reduced cost K*cost + A*p + B*r of each output p and reserve r >= 0 with p + r <= cap

@@ -6,8 +6,7 @@
 use Rattle.std.specs.Prelude.{ℕ, ◌+◌, ◌<◌, Bool, true, false, not, ◌&&◌, ◌||◌, ◌==◌, [], ◌∷◌, ◌++◌, IsTrue, if◌then◌else◌}
 use Rattle.std.specs.List.{list_any}
 use Rattle.uc_model.specs.Schedule.{Schedule, thermal_count}
-use Rattle.uc_model.specs.declared.instance.Instance.{Instance}
-use Rattle.dual_model.specs.Fixings.{Node, HasNoPattern, IsCell, agrees}
+use Rattle.dual_model.specs.Fixings.{Instance, Node, HasNoPattern, IsCell, agrees}
 
 -- a leaf, or a split on a unit and a period into the off-child and the on-child
 pub data Tree (A : Type 0) : Type 0 where

@@ -7,11 +7,11 @@ use Rattle.std.specs.Prelude.{◌≡◌, ℕ, suc, ◌<◌, ◌≤◌, Bool, not
 use Rattle.std.specs.Int.{int_min}
 use Rattle.uc_model.specs.Sums.{bit}
 use Rattle.uc_model.specs.Commitment.{start_reduction, stop_reduction}
-use Rattle.uc_model.specs.declared.limits.TheConstants.{MAX_PERIODS, MAX_TERM}
-use Rattle.uc_model.specs.declared.instance.Thermal.{Thermal}
+pub use Rattle.uc_model.specs.declared.limits.TheConstants.{MAX_PERIODS, MAX_TERM}
+pub use Rattle.uc_model.specs.declared.instance.Thermal.{Thermal}
 use Rattle.uc_model.specs.Terms.{period_count, price_at, term_at}
-use Rattle.uc_model.specs.declared.terms.Terms.{Terms}
-use Rattle.dual_model.specs.declared.limits.TheConstants.{MAX_SCALE, MAX_UNIT_PRICE}
+pub use Rattle.uc_model.specs.declared.terms.Terms.{Terms}
+pub use Rattle.dual_model.specs.declared.limits.TheConstants.{MAX_SCALE, MAX_UNIT_PRICE}
 
 -- the cap of a cell, by whether it is a start and whether a stop follows: a unit that is on initially has no start in the first period, and after the last
 -- period there is no stop

@@ -6,9 +6,8 @@ use Rattle.uc_model.specs.Sums.{sum_below}
 use Rattle.uc_model.specs.Commitment.{Commitment, starts}
 use Rattle.uc_model.specs.StartCategory.{last_stop, sigma}
 use Rattle.uc_model.specs.Schedule.{thermal_unit}
-use Rattle.uc_model.specs.declared.instance.Thermal.{Thermal}
-use Rattle.uc_model.specs.declared.instance.Instance.{Instance}
-use Rattle.dual_model.specs.Prices.{Table, pi_at}
+pub use Rattle.uc_model.specs.declared.instance.Thermal.{Thermal}
+use Rattle.dual_model.specs.Prices.{Instance, Table, pi_at}
 use Rattle.dual_model.specs.Fixings.{Node, IsPatternAt}
 use Rattle.dual_model.specs.Term.{IsTermAt}
 

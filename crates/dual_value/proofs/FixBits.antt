@@ -10,11 +10,8 @@ use Rattle.uc_model.specs.Commitment.{Commitment}
 use Rattle.uc_model.specs.PatternBits.{commitment_of}
 use Rattle.uc_model.proofs.Tests.{all_below-at, all_below-from}
 use Rattle.dual_model.specs.Fixings.{fix_agrees, keeps, keeps_of, unit_agrees}
-use Rattle.dual_model.specs.declared.node.Fix.{Fix}
-use Rattle.dual_model.specs.declared.node.Fixing.{Fixing}
-use Rattle.dual_model.specs.declared.node.Node.{Node}
 use Rattle.dual_model.proofs.Locality.{all_below-same}
-use Rattle.dual_value.specs.inside.Fixes.{IsFixWith, IsPlain}
+use Rattle.dual_value.specs.inside.Fixes.{Fix, Fixing, Node, IsFixWith, IsPlain}
 
 -- ---- tests
 pub differ : (a b : Bool) → not (beq a b) ≡ true → a ≡ b → ⊥

@@ -2,17 +2,14 @@
 use Rattle.std.proofs.Common.{◌≡◌, ℕ, sym, ap, subst, ◌∙◌, ℤ, ◌+ℤ◌, Option, Some, None, MatchOption, true≢false}
 use Rattle.uc_model.specs.PatternBits.{commitment_of}
 use Rattle.uc_model.specs.Schedule.{thermal_unit}
-use Rattle.uc_model.specs.declared.instance.Instance.{Instance}
 use Rattle.uc_model.specs.declared.instance.Thermal.{Thermal}
 use Rattle.uc_model.specs.declared.pattern.Pattern.{Pattern}
 use Rattle.dual_model.specs.Fixings.{HasNoPattern, IsFixOf}
 use Rattle.dual_model.specs.NodeValue.{unit_constant}
 use Rattle.dual_model.specs.UnitValue.{IsBestPattern}
-use Rattle.dual_model.specs.declared.node.Fix.{Fix}
-use Rattle.dual_model.specs.declared.node.Node.{Node}
 use Rattle.dual_model.specs.declared.table.Table.{Table}
-use Rattle.dual_value.specs.NodeAnswer.{IsPartOf}
-use Rattle.dual_value.specs.inside.Fixes.{AreBelow, Contradicts}
+use Rattle.dual_value.specs.NodeAnswer.{Instance, Node, IsPartOf}
+use Rattle.dual_value.specs.inside.Fixes.{Fix, AreBelow, Contradicts}
 
 -- where the node decides both ways the unit has no pattern
 pub none-decided : (instance : Instance) (node : Node) (g periods : ℕ) (fix : Option Fix)

@@ -4,7 +4,6 @@ use Rattle.std.proofs.lemmas.Bool.{cases_lt}
 use Rattle.uc_model.specs.PatternBits.{commitment_of}
 use Rattle.uc_model.specs.Schedule.{thermal_count}
 use Rattle.uc_model.specs.Sums.{sum_below}
-use Rattle.uc_model.specs.declared.instance.Instance.{Instance}
 use Rattle.uc_model.specs.declared.pattern.Pattern.{Pattern}
 use Rattle.uc_model.proofs.Ring.{linear}
 use Rattle.uc_model.proofs.Sizes.{abs_add}
@@ -12,12 +11,9 @@ use Rattle.uc_model.proofs.Sums.{sum_below-same}
 use Rattle.dual_model.specs.NodeValue.{constant_at, node_total, renewables_value, system_value, unit_part}
 use Rattle.dual_model.specs.Fixings.{IsFirstEmpty}
 use Rattle.dual_model.specs.UnitValue.{IsBestPattern}
-use Rattle.dual_model.specs.declared.node.Node.{Node}
 use Rattle.dual_model.specs.declared.table.Table.{Table}
-use Rattle.dual_value.specs.NodeAnswer.{IsFaultOf, IsPartFault, IsPartOf, IsValued, MAX_PART}
+use Rattle.dual_value.specs.NodeAnswer.{Empty, Instance, NoMemory, Node, ValueFault, IsFaultOf, IsPartFault, IsPartOf, IsValued, MAX_PART}
 use Rattle.system_value.specs.Sizes.{MAX_RENEWABLES, MAX_SYSTEM}
-use Rattle.dual_value.specs.declared.valued.ValueFault.{ValueFault}
-use Rattle.dual_value.specs.declared.valued.ValueFault.TheVariants.{Empty, NoMemory}
 
 abbrev part_in : List ℤ → ℕ → ℤ
 part_in parts g = slice_index_or parts g (pos 0)

@@ -2,11 +2,11 @@
 -- dual function of the reference model by Knueven, Ostrowski and Watson.
 pub use Rattle.dual_model.specs.NodeAnswer.{IsPartOf, IsValued, MAX_PART, MAX_VALUE}
 use Rattle.std.specs.Prelude.{◌≡◌, ℕ, ⊤}
-use Rattle.uc_model.specs.declared.instance.Instance.{Instance}
+pub use Rattle.uc_model.specs.declared.instance.Instance.{Instance}
 use Rattle.dual_model.specs.Fixings.{HasNoPattern, IsFirstEmpty}
-use Rattle.dual_model.specs.declared.node.Node.{Node}
-use Rattle.dual_value.specs.declared.valued.ValueFault.{ValueFault}
-use Rattle.dual_value.specs.declared.valued.ValueFault.TheVariants.{Empty, NoMemory}
+pub use Rattle.dual_model.specs.declared.node.Node.{Node}
+pub use Rattle.dual_value.specs.declared.valued.ValueFault.{ValueFault}
+pub use Rattle.dual_value.specs.declared.valued.ValueFault.TheVariants.{Empty, NoMemory}
 
 -- why there is no answer
 abbrev pub IsFaultOf : Instance → Node → ValueFault → Type 0

@@ -2,9 +2,8 @@
 
 ghost use Rattle.std.specs.Prelude.{◌≡◌, IfOk};
 ghost use Rattle.uc_model.specs.Limits.{IsLawfulInstance};
-ghost use Rattle.uc_model.specs.declared.instance.Instance.{Instance};
 ghost use Rattle.cost_curves.specs.UnitCurves.{AreCurvesOf};
-ghost use Rattle.dual_value.specs.Rooms.{IsRoomOf};
+ghost use Rattle.dual_value.specs.Rooms.{Instance, IsRoomOf};
 
 use cost_curves::{Curve, curves_of};
 use std::alloc::Global;

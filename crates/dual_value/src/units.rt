@@ -3,12 +3,11 @@
 ghost use Rattle.std.specs.Prelude.{◌≡◌, ◌<◌, ◌≤◌, IfOk, IfErr, length, unsigned_abs};
 ghost use Rattle.uc_model.specs.Limits.{IsLawfulThermal};
 ghost use Rattle.uc_model.specs.Schedule.{thermal_unit};
-ghost use Rattle.uc_model.specs.declared.instance.Instance.{Instance};
 ghost use Rattle.dual_model.specs.Prices.{IsWithinLimits};
 ghost use Rattle.dual_model.specs.TableValue.{AreTermsOf};
 ghost use Rattle.uc_model.specs.Terms.{period_count};
 ghost use Rattle.dual_model.specs.UnitTerms.{AreSizedTerms};
-ghost use Rattle.dual_value.specs.NodeAnswer.{IsPartFault, IsPartOf, MAX_PART};
+ghost use Rattle.dual_value.specs.NodeAnswer.{Instance, IsPartFault, IsPartOf, MAX_PART};
 ghost use Rattle.dual_value.specs.inside.Fixes.{AreBelow};
 ghost use Rattle.dual_value.specs.Rooms.{IsPlaceIn};
 

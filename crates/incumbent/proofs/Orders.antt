@@ -8,8 +8,7 @@ use Rattle.atomic_table.specs.Seated.{TableId}
 use Rattle.incumbent.specs.Costs.{least}
 use Rattle.incumbent.specs.Words.{HALF, NOTHING, IsCostWord, cost_of}
 use Rattle.incumbent.specs.Passes.{Known}
-use Rattle.incumbent.specs.Rule.{view, known, IsPass, IsFound, joined}
-use Rattle.incumbent.specs.declared.rule.View.{View}
+use Rattle.incumbent.specs.Rule.{View, view, known, IsPass, IsFound, joined}
 
 -- the least of two words that stand for costs or nothing
 pub cost_word-min : (a b : ℕ) → IsCostWord a → IsCostWord b → IsCostWord (min a b)

@@ -8,8 +8,7 @@ use lib.ListN.{get_elem?}
 use Rattle.atomic_table.specs.Table.{Me, step, keeps, Allows, Splits, Joins, Final, Seen}
 use Rattle.atomic_table.proofs.Lists.{at_set, set_else, at_longer, at_snoc}
 use Rattle.incumbent.specs.Words.{NOTHING, IsCostWord}
-use Rattle.incumbent.specs.Rule.{view, IsAbove, IsSource, IsKept, Holds, holds, fresh, IsFound, looked, published, rest_of, part_of, joined}
-use Rattle.incumbent.specs.declared.rule.View.{View}
+use Rattle.incumbent.specs.Rule.{View, view, IsAbove, IsSource, IsKept, Holds, holds, fresh, IsFound, looked, published, rest_of, part_of, joined}
 use Rattle.incumbent.proofs.Orders.{cost_word-min}
 use Rattle.incumbent.proofs.Views.{replaced, sum_by-replaced, parts_of_sum}
 

@@ -6,7 +6,7 @@ use Rattle.atomic_table.specs.Table.{State, Me, Step}
 use Rattle.atomic_table.specs.Seated.{TableId}
 use Rattle.incumbent.specs.Words.{NOTHING, IsCostWord, cost_of}
 use Rattle.incumbent.specs.Passes.{Known}
-use Rattle.incumbent.specs.declared.rule.View.{View}
+pub use Rattle.incumbent.specs.declared.rule.View.{View}
 
 abbrev pub view : ℕ → ℕ → ℕ → ℕ → View
 view seen mine found parts = record { seen = seen; mine = mine; found = found; parts = parts }

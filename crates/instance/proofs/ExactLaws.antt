@@ -5,18 +5,10 @@ use Rattle.std.specs.Option.{IsSomeAnd}
 use Rattle.std.proofs.lemmas.Bool.{false≢true}
 use Rattle.std.proofs.lemmas.List.Sums.{sum_by-cons}
 use Rattle.uc_model.specs.Limits.{IsPower, IsCost}
-use Rattle.uc_model.specs.declared.limits.TheConstants.{MAX_PERIODS, MAX_UNITS, MAX_POINTS, MAX_START_ROWS, MAX_TIME}
-use Rattle.uc_model.specs.declared.instance.Point.{Point}
-use Rattle.uc_model.specs.declared.instance.StartRow.{StartRow}
-use Rattle.uc_model.specs.declared.instance.Thermal.{Thermal}
-use Rattle.uc_model.specs.declared.instance.Renewable.{Renewable}
-use Rattle.uc_model.specs.declared.instance.Instance.{Instance}
-use Rattle.uc_model.specs.declared.field.Field.{Field}
-use Rattle.uc_model.specs.declared.field.Field.TheVariants.{TimePeriods, Demand, Reserves, ThermalGenerators, RenewableGenerators, MustRun, PowerOutputMinimum, PowerOutputMaximum, RampUpLimit, RampDownLimit, RampStartupLimit, RampShutdownLimit, TimeUpMinimum, TimeDownMinimum, PowerOutputT0, UnitOnT0, TimeUpT0, TimeDownT0, Startup, StartupLag, StartupCost, PiecewiseProduction, PiecewiseProductionMw, PiecewiseProductionCost}
 use Rattle.decimal_json.specs.Value.{Decimal, Value}
-use Rattle.instance.specs.Fields.{key_of, number_in, entries_in, pairs_in, field_of}
+use Rattle.instance.specs.Fields.{Demand, Field, MustRun, PiecewiseProduction, PiecewiseProductionCost, PiecewiseProductionMw, PowerOutputMaximum, PowerOutputMinimum, PowerOutputT0, RampDownLimit, RampShutdownLimit, RampStartupLimit, RampUpLimit, RenewableGenerators, Reserves, Startup, StartupCost, StartupLag, ThermalGenerators, TimeDownMinimum, TimeDownT0, TimePeriods, TimeUpMinimum, TimeUpT0, UnitOnT0, key_of, number_in, entries_in, pairs_in, field_of}
 use Rattle.instance.specs.Scaled.{MILLION, scaled, is_rounded}
-use Rattle.instance.specs.InstanceOf.{Pairs, Has, IsObject, IsNumber, IsPowerOf, IsCostOf, IsTimeOf, IsFlagOf, IsPeriodsOf, IsPowersOf, AreRowsOf, IsStartRowOf, IsPointOf, IsRising, IsLimitOf, IsMinimumTimeOf, IsThermalOf, IsRenewableOf, AreUnitsOf, HasFields, IsInstanceOf}
+use Rattle.instance.specs.InstanceOf.{Instance, MAX_PERIODS, MAX_POINTS, MAX_START_ROWS, MAX_TIME, MAX_UNITS, Point, Renewable, StartRow, Thermal, Pairs, Has, IsObject, IsNumber, IsPowerOf, IsCostOf, IsTimeOf, IsFlagOf, IsPeriodsOf, IsPowersOf, AreRowsOf, IsStartRowOf, IsPointOf, IsRising, IsLimitOf, IsMinimumTimeOf, IsThermalOf, IsRenewableOf, AreUnitsOf, HasFields, IsInstanceOf}
 use Rattle.instance.specs.Rounded.{members_of_value, rounded_value, rounded_field, entries_field, members_field, rounded_array, rounded_start_row, rounded_point, rounded_startup, rounded_points, rounded_outputs, rounded_ramps, rounded_times, rounded_initial, rounded_thermal, rounded_renewable, rounded_thermal_units, rounded_renewable_units, rounded_totals, rounded_instance}
 use Rattle.instance.proofs.UnitLaws.{parts_of, from_parts}
 

@@ -5,19 +5,10 @@ use Rattle.std.specs.Str.{bytes_eq}
 use Rattle.std.proofs.Math.Bool.{or-true}
 use Rattle.std.proofs.lemmas.Bool.{lt-ltb, cases_lt, le-leb, lt-leb}
 use Rattle.std.proofs.lemmas.List.{length-map, take-map}
-use Rattle.uc_model.specs.declared.limits.TheConstants.{MAX_PERIODS, MAX_POWER, MAX_COST, MAX_TIME}
-use Rattle.uc_model.specs.declared.field.Field.{Field}
-use Rattle.uc_model.specs.declared.instance.Point.{Point}
-use Rattle.uc_model.specs.declared.instance.StartRow.{StartRow}
-use Rattle.uc_model.specs.declared.instance.Thermal.{Thermal}
-use Rattle.uc_model.specs.declared.instance.Renewable.{Renewable}
-use Rattle.uc_model.specs.declared.instance.Instance.{Instance}
 use Rattle.decimal_json.specs.Value.{Decimal, Value, number, array, object, Items, no_items, item, Members, no_members, member}
-use Rattle.instance.specs.Fields.{key_of, entries_of, pairs_of, entries_in, pairs_in, field_of}
+use Rattle.instance.specs.Fields.{Field, key_of, entries_of, pairs_of, entries_in, pairs_in, field_of}
 use Rattle.instance.specs.Scaled.{MILLION, size_of, scaled, is_rounded, wholes_of, is_below_zero}
-use Rattle.instance.specs.declared.fault.Place.{Place}
-use Rattle.instance.specs.declared.fault.Refusal.{Refusal}
-use Rattle.instance.specs.FirstFault.{◌>>=◌, refusal, wanted, refused_if, number_at, amount_at, power_at, power_from, cost_at, whole_at, time_at, flag_at, periods_at, entries_at, rows_at, each_at, next_entry, power_entry, powers_at, maximum_entry, start_row, point_row, outputs_at, ramps_at, times_at, initial_at, startup_at, points_at, thermal_at, maxima_at, renewable_at, in_unit, units_at, thermal_member, renewable_member, thermal_units_at, renewable_units_at, totals_at, instance_at}
+use Rattle.instance.specs.FirstFault.{Instance, MAX_COST, MAX_PERIODS, MAX_POWER, MAX_TIME, Place, Point, Refusal, Renewable, StartRow, Thermal, ◌>>=◌, refusal, wanted, refused_if, number_at, amount_at, power_at, power_from, cost_at, whole_at, time_at, flag_at, periods_at, entries_at, rows_at, each_at, next_entry, power_entry, powers_at, maximum_entry, start_row, point_row, outputs_at, ramps_at, times_at, initial_at, startup_at, points_at, thermal_at, maxima_at, renewable_at, in_unit, units_at, thermal_member, renewable_member, thermal_units_at, renewable_units_at, totals_at, instance_at}
 use Rattle.instance.specs.InstanceOf.{Pairs, IsInstanceOf}
 use Rattle.instance.specs.Held.{PAST_LIMITS}
 use Rattle.instance.specs.SameNumber.{SaySame, MOST_DIGITS, IsShort}

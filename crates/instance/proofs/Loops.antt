@@ -2,9 +2,8 @@
 use Rattle.std.proofs.Common.{◌≡◌, ℕ, ◌+◌, ◌*◌, ◌<◌, ◌≤◌, List, [], ◌∷◌, ◌++◌, drop, take, map, length, get_or, Bool, Result, Ok, sum_by, ap, sym, ◌∙◌, arith}
 use Rattle.std.proofs.lemmas.Grind.{common_steps}
 use Rattle.std.proofs.lemmas.List.{drop_more}
-use Rattle.instance.specs.declared.reader.Reader.{Reader}
 use Rattle.instance.specs.FirstFault.{each_at}
-use Rattle.instance.specs.inside.Parts.{Counts}
+use Rattle.instance.specs.inside.Parts.{Reader, Counts}
 
 -- So many of the items were read, and their rounded numbers counted, at most so many in each.
 pub record HasRead {A J V E : Type 0} (view : J → V) (reads : List A → V → Result A E) (rounds : V → ℕ) (each : ℕ) (old new : Reader) (done : List A) (items : List J) (index : ℕ) : Type 0 where

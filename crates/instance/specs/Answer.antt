@@ -1,7 +1,7 @@
 -- What a part of the reader answers, beside the first fault of specs/FirstFault.antt.
 use Rattle.std.specs.Prelude.{◌≡◌, Result, Ok, Err}
-use Rattle.instance.specs.declared.fault.Fault.{Fault}
-use Rattle.instance.specs.declared.fault.Fault.TheVariants.{Refused, NoMemory}
+pub use Rattle.instance.specs.declared.fault.Fault.{Fault}
+pub use Rattle.instance.specs.declared.fault.Fault.TheVariants.{Refused, NoMemory}
 
 -- What is read is refused so. Want of memory may come in place of any answer.
 abbrev pub Fails : {Y R : Type 0} → Fault R → Result Y R → Type 0

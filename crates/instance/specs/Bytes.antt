@@ -1,7 +1,7 @@
 -- What it is for the bytes of a file to stand for an instance: they are the text of one JSON value (RFC 8259,
 -- within the reader's limits), and the value stands for the instance.
 use Rattle.std.specs.Prelude.{◌≡◌, ℕ, ⊤, Bool, List, Err}
-use Rattle.uc_model.specs.declared.instance.Instance.{Instance}
+pub use Rattle.uc_model.specs.declared.instance.Instance.{Instance}
 use Rattle.decimal_json.specs.Value.{Value}
 use Rattle.decimal_json.specs.Reading.{IsText, IsFault}
 use Rattle.instance.specs.FirstFault.{instance_at}

@@ -2,27 +2,27 @@
 -- order. What an instance is stands in specs/InstanceOf.antt, without any order.
 use Rattle.std.specs.Prelude.{ℕ, ◌+◌, ◌%◌, Bool, ◌&&◌, ◌||◌, ◌==◌, nat_lt, List, [], ◌∷◌, ◌++◌, length, take, max, Option, Some, None, Result, Ok, Err, ℤ, pos, int_lt, slice_index_or, if◌then◌else◌}
 use Rattle.std.specs.Int.{int_max}
-use Rattle.uc_model.specs.declared.limits.TheConstants.{MAX_PERIODS, MAX_UNITS, MAX_POINTS, MAX_START_ROWS, MAX_POWER, MAX_COST, MAX_TIME}
-use Rattle.uc_model.specs.declared.instance.Point.{Point}
-use Rattle.uc_model.specs.declared.instance.StartRow.{StartRow}
-use Rattle.uc_model.specs.declared.instance.Thermal.{Thermal}
-use Rattle.uc_model.specs.declared.instance.Renewable.{Renewable}
-use Rattle.uc_model.specs.declared.instance.Instance.{Instance}
+pub use Rattle.uc_model.specs.declared.limits.TheConstants.{MAX_PERIODS, MAX_UNITS, MAX_POINTS, MAX_START_ROWS, MAX_POWER, MAX_COST, MAX_TIME}
+pub use Rattle.uc_model.specs.declared.instance.Point.{Point}
+pub use Rattle.uc_model.specs.declared.instance.StartRow.{StartRow}
+pub use Rattle.uc_model.specs.declared.instance.Thermal.{Thermal}
+pub use Rattle.uc_model.specs.declared.instance.Renewable.{Renewable}
+pub use Rattle.uc_model.specs.declared.instance.Instance.{Instance}
 use Rattle.decimal_json.specs.Value.{Decimal, Value}
 use Rattle.instance.specs.Fields.{key_of, number_in, entries_in, pairs_in, field_of}
 use Rattle.instance.specs.Scaled.{MILLION, size_of, scaled, is_rounded, wholes_of, is_below_zero}
 use Rattle.instance.specs.Points.{last_output}
-use Rattle.uc_model.specs.declared.field.Field.{Field}
-use Rattle.uc_model.specs.declared.field_refusal.FieldRefusal.{FieldRefusal}
-use Rattle.uc_model.specs.declared.field.Field.TheVariants.{NoField, TimePeriods, Demand, Reserves, ThermalGenerators, RenewableGenerators, MustRun, PowerOutputMinimum, PowerOutputMaximum, RampUpLimit, RampDownLimit, RampStartupLimit, RampShutdownLimit, TimeUpMinimum, TimeDownMinimum, PowerOutputT0, UnitOnT0, TimeUpT0, TimeDownT0, Startup, StartupLag, StartupCost, PiecewiseProduction, PiecewiseProductionMw, PiecewiseProductionCost}
+pub use Rattle.uc_model.specs.declared.field.Field.{Field}
+pub use Rattle.uc_model.specs.declared.field_refusal.FieldRefusal.{FieldRefusal}
+pub use Rattle.uc_model.specs.declared.field.Field.TheVariants.{NoField, TimePeriods, Demand, Reserves, ThermalGenerators, RenewableGenerators, MustRun, PowerOutputMinimum, PowerOutputMaximum, RampUpLimit, RampDownLimit, RampStartupLimit, RampShutdownLimit, TimeUpMinimum, TimeDownMinimum, PowerOutputT0, UnitOnT0, TimeUpT0, TimeDownT0, Startup, StartupLag, StartupCost, PiecewiseProduction, PiecewiseProductionMw, PiecewiseProductionCost}
 use Rattle.instance.specs.Codes.{MISSING, OTHER_KIND, NOT_WHOLE, PAST_LIMIT, OUT_OF_RANGE, TOO_SHORT, TOO_MANY, ROUNDED, NO_UNIT, THERMAL, RENEWABLE}
-use Rattle.instance.specs.declared.fault.Place.{Place}
-use Rattle.instance.specs.declared.fault.Refusal.{Refusal}
-use Rattle.instance.specs.declared.reader.totals.Totals.{Totals}
-use Rattle.instance.specs.declared.reader.thermal.Outputs.{Outputs}
-use Rattle.instance.specs.declared.reader.thermal.Ramps.{Ramps}
-use Rattle.instance.specs.declared.reader.thermal.Times.{Times}
-use Rattle.instance.specs.declared.reader.thermal.Initial.{Initial}
+pub use Rattle.instance.specs.declared.fault.Place.{Place}
+pub use Rattle.instance.specs.declared.fault.Refusal.{Refusal}
+pub use Rattle.instance.specs.declared.reader.totals.Totals.{Totals}
+pub use Rattle.instance.specs.declared.reader.thermal.Outputs.{Outputs}
+pub use Rattle.instance.specs.declared.reader.thermal.Ramps.{Ramps}
+pub use Rattle.instance.specs.declared.reader.thermal.Times.{Times}
+pub use Rattle.instance.specs.declared.reader.thermal.Initial.{Initial}
 
 -- one step after another, up to the first fault
 infixl 10 ◌>>=◌

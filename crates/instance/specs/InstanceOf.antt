@@ -6,17 +6,15 @@ use Rattle.std.specs.Int.{int_max}
 use Rattle.std.specs.List.{AllZip}
 use Rattle.std.specs.Option.{IsSomeAnd}
 use Rattle.uc_model.specs.Limits.{IsPower, IsCost}
-use Rattle.uc_model.specs.declared.limits.TheConstants.{MAX_PERIODS, MAX_UNITS, MAX_POINTS, MAX_START_ROWS, MAX_TIME}
-use Rattle.uc_model.specs.declared.instance.Point.{Point}
-use Rattle.uc_model.specs.declared.instance.StartRow.{StartRow}
-use Rattle.uc_model.specs.declared.instance.Thermal.{Thermal}
-use Rattle.uc_model.specs.declared.instance.Renewable.{Renewable}
-use Rattle.uc_model.specs.declared.instance.Instance.{Instance}
+pub use Rattle.uc_model.specs.declared.limits.TheConstants.{MAX_PERIODS, MAX_UNITS, MAX_POINTS, MAX_START_ROWS, MAX_TIME}
+pub use Rattle.uc_model.specs.declared.instance.Point.{Point}
+pub use Rattle.uc_model.specs.declared.instance.StartRow.{StartRow}
+pub use Rattle.uc_model.specs.declared.instance.Thermal.{Thermal}
+pub use Rattle.uc_model.specs.declared.instance.Renewable.{Renewable}
+pub use Rattle.uc_model.specs.declared.instance.Instance.{Instance}
 use Rattle.decimal_json.specs.Value.{Decimal, Value}
-use Rattle.instance.specs.Fields.{key_of, number_in, entries_in, pairs_in, field_of}
+use Rattle.instance.specs.Fields.{Demand, Field, MustRun, PiecewiseProduction, PiecewiseProductionCost, PiecewiseProductionMw, PowerOutputMaximum, PowerOutputMinimum, PowerOutputT0, RampDownLimit, RampShutdownLimit, RampStartupLimit, RampUpLimit, RenewableGenerators, Reserves, Startup, StartupCost, StartupLag, ThermalGenerators, TimeDownMinimum, TimeDownT0, TimePeriods, TimeUpMinimum, TimeUpT0, UnitOnT0, key_of, number_in, entries_in, pairs_in, field_of}
 use Rattle.instance.specs.Scaled.{MILLION, scaled, is_rounded}
-use Rattle.uc_model.specs.declared.field.Field.{Field}
-use Rattle.uc_model.specs.declared.field.Field.TheVariants.{TimePeriods, Demand, Reserves, ThermalGenerators, RenewableGenerators, MustRun, PowerOutputMinimum, PowerOutputMaximum, RampUpLimit, RampDownLimit, RampStartupLimit, RampShutdownLimit, TimeUpMinimum, TimeDownMinimum, PowerOutputT0, UnitOnT0, TimeUpT0, TimeDownT0, Startup, StartupLag, StartupCost, PiecewiseProduction, PiecewiseProductionMw, PiecewiseProductionCost}
 
 -- the members of an object
 abbrev pub Pairs : Type 0

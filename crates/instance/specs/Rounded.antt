@@ -1,10 +1,8 @@
 -- How many of the numbers of an instance file that are read are rounded.
 use Rattle.std.specs.Prelude.{ℕ, ◌+◌, List, [], take, sum_by, Some, None, unwrap_or, option_and_then, if◌then◌else◌}
 use Rattle.decimal_json.specs.Value.{Value}
-use Rattle.instance.specs.Fields.{key_of, number_in, entries_in, pairs_in, field_of}
+use Rattle.instance.specs.Fields.{Demand, Field, MustRun, PiecewiseProduction, PiecewiseProductionCost, PiecewiseProductionMw, PowerOutputMaximum, PowerOutputMinimum, PowerOutputT0, RampDownLimit, RampShutdownLimit, RampStartupLimit, RampUpLimit, RenewableGenerators, Reserves, Startup, StartupCost, StartupLag, ThermalGenerators, TimeDownMinimum, TimeDownT0, TimePeriods, TimeUpMinimum, TimeUpT0, UnitOnT0, key_of, number_in, entries_in, pairs_in, field_of}
 use Rattle.instance.specs.Scaled.{is_rounded}
-use Rattle.uc_model.specs.declared.field.Field.{Field}
-use Rattle.uc_model.specs.declared.field.Field.TheVariants.{TimePeriods, Demand, Reserves, ThermalGenerators, RenewableGenerators, MustRun, PowerOutputMinimum, PowerOutputMaximum, RampUpLimit, RampDownLimit, RampStartupLimit, RampShutdownLimit, TimeUpMinimum, TimeDownMinimum, PowerOutputT0, UnitOnT0, TimeUpT0, TimeDownT0, Startup, StartupLag, StartupCost, PiecewiseProduction, PiecewiseProductionMw, PiecewiseProductionCost}
 
 -- 1 for a number that is rounded
 unfoldable pub rounded_value : Value → ℕ

@@ -1,9 +1,8 @@
 //! Why a value has no instance.
 
 ghost use Rattle.std.specs.Prelude.{◌≡◌, ◌+◌, ◌<◌};
-ghost use Rattle.uc_model.specs.declared.limits.TheConstants.{MAX_PERIODS};
 ghost use Rattle.instance.specs.declared.fault.Fault.TheVariants.{NoMemory};
-ghost use Rattle.instance.specs.FirstFault.{whole, entry_of, refusal};
+ghost use Rattle.instance.specs.FirstFault.{MAX_PERIODS, whole, entry_of, refusal};
 
 use std::alloc::{AllocError, AllocFailed};
 use uc_model::{Field, FieldRefusal};

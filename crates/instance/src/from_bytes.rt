@@ -2,8 +2,7 @@
 
 ghost use Rattle.std.specs.Prelude.{◌≡◌, IsTrue, IfOk, IfErr, MatchResult};
 ghost use Rattle.uc_model.specs.Limits.{IsLawfulInstance};
-ghost use Rattle.uc_model.specs.declared.instance.Instance.{Instance};
-ghost use Rattle.instance.specs.Bytes.{StandFor, StandForCounted, HasCause};
+ghost use Rattle.instance.specs.Bytes.{Instance, StandFor, StandForCounted, HasCause};
 
 use crate::fault::Fault;
 use crate::from_value::from_json;

@@ -2,9 +2,8 @@
 
 ghost use Rattle.std.specs.Prelude.{◌≡◌, IsTrue, IfOk, Ok};
 ghost use Rattle.uc_model.specs.Limits.{IsLawfulInstance};
-ghost use Rattle.uc_model.specs.declared.instance.Instance.{Instance};
 ghost use Rattle.decimal_json.specs.View.{view};
-ghost use Rattle.instance.specs.FirstFault.{instance_at};
+ghost use Rattle.instance.specs.FirstFault.{Instance, instance_at};
 ghost use Rattle.instance.specs.InstanceOf.{IsInstanceOf};
 ghost use Rattle.instance.specs.Rounded.{rounded_instance};
 ghost use Rattle.instance.specs.Answer.{Gives};

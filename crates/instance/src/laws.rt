@@ -2,11 +2,10 @@
 
 ghost use Rattle.std.specs.Prelude.{◌≡◌, ℕ, ◌≤◌, Bool, List, ◌++◌, length, Ok};
 ghost use Rattle.uc_model.specs.Limits.{IsLawfulInstance};
-ghost use Rattle.uc_model.specs.declared.instance.Instance.{Instance};
 ghost use Rattle.decimal_json.specs.Value.{Decimal, Value};
 ghost use Rattle.decimal_json.specs.Number.{decimal_from, held_decimal, written_decimal};
 ghost use Rattle.decimal_json.specs.Reading.{IsText};
-ghost use Rattle.instance.specs.FirstFault.{instance_at};
+ghost use Rattle.instance.specs.FirstFault.{Instance, instance_at};
 ghost use Rattle.instance.specs.InstanceOf.{IsInstanceOf};
 ghost use Rattle.instance.specs.Rounded.{rounded_instance};
 ghost use Rattle.instance.specs.Scaled.{size_of, wholes_of};

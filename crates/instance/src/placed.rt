@@ -1,9 +1,8 @@
 //! A value with its place, so that a fault in it can be told.
 
 ghost use Rattle.std.specs.Prelude.{◌≡◌, ◌≤◌, length, take, map, IfOk};
-ghost use Rattle.uc_model.specs.declared.limits.TheConstants.{MAX_UNITS};
 ghost use Rattle.decimal_json.specs.View.{view, pair_view};
-ghost use Rattle.instance.specs.FirstFault.{whole, field_at, object_at, array_at, entries_at, rows_at, units_at};
+ghost use Rattle.instance.specs.FirstFault.{MAX_UNITS, whole, field_at, object_at, array_at, entries_at, rows_at, units_at};
 ghost use Rattle.instance.specs.Rounded.{entries_field, members_field};
 ghost use Rattle.instance.specs.Answer.{Gives};
 

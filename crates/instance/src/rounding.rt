@@ -1,12 +1,11 @@
 //! Laws on how numbers are scaled, and which are rounded.
 
 ghost use Rattle.std.specs.Prelude.{◌≡◌, ◌≢◌, ◌*◌, ℕ, true, false};
-ghost use Rattle.uc_model.specs.declared.instance.Instance.{Instance};
 ghost use Rattle.decimal_json.specs.Value.{Decimal, Value};
 ghost use Rattle.decimal_json.specs.Grammar.{AreDigits};
 ghost use Rattle.instance.specs.Scaled.{size_of, is_rounded};
 ghost use Rattle.instance.specs.Nearest.{below, millionths, IsNearest};
-ghost use Rattle.instance.specs.InstanceOf.{IsInstanceOf};
+ghost use Rattle.instance.specs.InstanceOf.{Instance, IsInstanceOf};
 ghost use Rattle.instance.specs.Rounded.{rounded_instance};
 
 /// The size of a scaled number is the size of the value in millionths, rounded to the nearest whole one, and half away

@@ -4,10 +4,8 @@ use Rattle.std.specs.Int.{w128}
 use Rattle.std.proofs.lemmas.Bool.{cases_lt}
 use Rattle.std.proofs.lemmas.Int.{fits_signed_from_abs}
 use Rattle.uc_model.specs.Sums.{sum_below}
-use Rattle.uc_model.specs.declared.limits.TheConstants.{MAX_PERIODS}
 use Rattle.uc_model.proofs.Sizes.{abs_add, wide}
-use Rattle.uc_model.specs.declared.limits.TheConstants.{MAX_TERM}
-use Rattle.interval_graph.specs.Intervals.{interval_term, IsThere}
+use Rattle.interval_graph.specs.Intervals.{MAX_PERIODS, MAX_TERM, interval_term, IsThere}
 
 pub record IsSumTo (rows : List (List (Option ℤ))) (a b t : ℕ) (total : ℤ) : Type 0 where
   pub sum : total ≡ sum_below (t - a) (λ i. unwrap_or (interval_term rows a b (a + i)) (pos 0))

@@ -9,13 +9,10 @@ use Rattle.uc_model.specs.Commitment.{Commitment}
 use Rattle.uc_model.specs.PatternBits.{commitment_of}
 use Rattle.uc_model.specs.Schedule.{thermal_count}
 use Rattle.uc_model.specs.Sums.{all_below}
-use Rattle.uc_model.specs.declared.instance.Instance.{Instance}
 use Rattle.uc_model.proofs.Tests.{all_below-from}
 use Rattle.dual_model.specs.Fixings.{IsNodeOf, fix_agrees, keeps, keeps_of, unit_agrees}
 use Rattle.dual_model.specs.Tree.{is_decided}
-use Rattle.dual_model.specs.declared.node.Fix.{Fix}
-use Rattle.dual_model.specs.declared.node.Fixing.{Fixing}
-use Rattle.leaf_values.specs.Paths.{AreFixesOf, DecidesOnce, IsUndecided, fix_at, node_of}
+use Rattle.leaf_values.specs.Paths.{Fix, Fixing, Instance, AreFixesOf, DecidesOnce, IsUndecided, fix_at, node_of}
 
 -- what the first n decisions of a path decide of unit g, by its bits and by the commitments that agree
 pub record IsFixSoFar (path : List Fixing) (n g : ℕ) (fix : Fix) : Type 0 where

@@ -1,21 +1,16 @@
 -- What entries that were reckoned for a node's fixes add up to is the node's value.
 use Rattle.std.proofs.Common.{◌≡◌, ℕ, ◌<◌, ◌≤◌, List, Some, None, Option, refl, sym, ap, subst, ◌∙◌, arith, ℤ, ◌+ℤ◌, MatchOption, unsigned_abs}
 use Rattle.uc_model.specs.Schedule.{thermal_count, thermal_unit}
-use Rattle.uc_model.specs.declared.instance.Instance.{Instance}
 use Rattle.uc_model.proofs.Ring.{linear}
 use Rattle.uc_model.proofs.Sums.{sum_below-same}
 use Rattle.dual_model.specs.Fixings.{HasEmptyUnit, IsFixOf}
 use Rattle.dual_model.specs.NodeValue.{IsNodeValue, constant_at}
 use Rattle.dual_model.specs.PatternValue.{HasNoPattern, IsLeastValue}
 use Rattle.dual_model.specs.TableValue.{AreTermsOf, IsUnitValueOf}
-use Rattle.dual_model.specs.declared.node.Fix.{Fix}
-use Rattle.dual_model.specs.declared.node.Node.{Node}
-use Rattle.dual_model.specs.declared.table.Table.{Table}
 use Rattle.dual_model.proofs.TableValues.{unit_value-of}
-use Rattle.leaf_values.specs.Entries.{UnitEntry, AreEntriesOf, AreUnitsReckoned, MAX_REST, IsEntryOf, IsReckoned, entry_at}
-use Rattle.leaf_values.specs.Paths.{AreFixesOf, fix_at}
+use Rattle.leaf_values.specs.Entries.{Instance, Table, TableEntries, UnitEntry, AreEntriesOf, AreUnitsReckoned, MAX_REST, IsEntryOf, IsReckoned, entry_at}
+use Rattle.leaf_values.specs.Paths.{Fix, Node, AreFixesOf, fix_at}
 use Rattle.leaf_values.specs.inside.Totals.{AreReckonedFor, HasNoValue, IsReckonedFor, IsTotal, part_of, value_of}
-use Rattle.leaf_values.specs.declared.entries.TableEntries.{TableEntries}
 
 -- ---- the entries are those of the table as before
 pub reckoned_units : (instance : Instance) (fixes : List Fix) (old new : List UnitEntry) → AreUnitsReckoned instance old

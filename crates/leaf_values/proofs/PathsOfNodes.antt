@@ -5,11 +5,9 @@ use Rattle.std.proofs.Common.{◌≡◌, ℕ, ◌+◌, ◌<◌, ◌≤◌, ◌�
 use Rattle.std.proofs.lemmas.List.{get_or-take, get_or_append_left, get_or_push, length-append, length-take, take-append-le, take-take, take_all}
 use Rattle.uc_model.specs.Limits.{IsLawfulInstance}
 use Rattle.uc_model.specs.Schedule.{thermal_count}
-use Rattle.uc_model.specs.declared.instance.Instance.{Instance}
 use Rattle.dual_model.specs.Fixings.{IsNodeOf}
 use Rattle.dual_model.specs.Tree.{is_decided}
-use Rattle.dual_model.specs.declared.node.Fixing.{Fixing}
-use Rattle.leaf_values.specs.Paths.{DecidesOnce, IsPlaced, node_of}
+use Rattle.leaf_values.specs.Paths.{Fixing, Instance, DecidesOnce, IsPlaced, node_of}
 
 pub placed : (instance : Instance) (path : List Fixing) (units : ℕ) → IsLawfulInstance instance → IsNodeOf instance (node_of path)
     → units ≡ thermal_count instance → All (IsPlaced units) path

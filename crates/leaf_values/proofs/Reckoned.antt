@@ -3,17 +3,12 @@ use Rattle.std.proofs.Common.{◌≡◌, ℕ, suc, ◌+◌, ◌*◌, ◌<◌, �
 use Rattle.std.specs.Int.{w128}
 use Rattle.uc_model.specs.Schedule.{thermal_unit}
 use Rattle.uc_model.specs.Sums.{sum_below}
-use Rattle.uc_model.specs.declared.instance.Instance.{Instance}
-use Rattle.uc_model.specs.declared.instance.Thermal.{Thermal}
-use Rattle.uc_model.specs.declared.limits.TheConstants.{MAX_UNITS}
 use Rattle.uc_model.proofs.Ring.{linear}
 use Rattle.uc_model.proofs.Sizes.{abs_add, wide}
-use Rattle.dual_model.specs.declared.node.Fix.{Fix}
 use Rattle.dual_model.specs.CostToGo.{MAX_COST_TO_GO}
-use Rattle.leaf_values.specs.Entries.{UnitEntry, MAX_CONSTANT, MAX_REST, entry_at, entry_in}
-use Rattle.leaf_values.specs.Paths.{fix_at}
+use Rattle.leaf_values.specs.Entries.{Instance, MAX_UNITS, TableEntries, Thermal, UnitEntry, MAX_CONSTANT, MAX_REST, entry_at, entry_in}
+use Rattle.leaf_values.specs.Paths.{Fix, fix_at}
 use Rattle.leaf_values.specs.inside.Totals.{AreReckonedFor, IsReckonedFor, IsTotal, part_of, value_of}
-use Rattle.leaf_values.specs.declared.entries.TableEntries.{TableEntries}
 
 -- ---- reckoned one after the other
 -- the same of equal numbers

@@ -6,12 +6,12 @@ use Rattle.std.specs.Prelude.{◌≡◌, ℕ, ◌<◌, false, not, List, IsTrue,
 use Rattle.uc_model.specs.PatternBits.{commitment_of}
 use Rattle.uc_model.specs.Schedule.{thermal_count}
 use Rattle.uc_model.specs.declared.limits.TheConstants.{MAX_PERIODS}
-use Rattle.uc_model.specs.declared.instance.Instance.{Instance}
+pub use Rattle.uc_model.specs.declared.instance.Instance.{Instance}
 use Rattle.dual_model.specs.Fixings.{IsFixOf}
 use Rattle.dual_model.specs.Tree.{is_decided}
-use Rattle.dual_model.specs.declared.node.Fix.{Fix}
-use Rattle.dual_model.specs.declared.node.Fixing.{Fixing}
-use Rattle.dual_model.specs.declared.node.Node.{Node}
+pub use Rattle.dual_model.specs.declared.node.Fix.{Fix}
+pub use Rattle.dual_model.specs.declared.node.Fixing.{Fixing}
+pub use Rattle.dual_model.specs.declared.node.Node.{Node}
 
 -- the node that a path leads to
 abbrev pub node_of : List Fixing → Node

@@ -3,9 +3,8 @@
 ghost use Rattle.std.specs.Prelude.{◌≡◌, ℕ, ◌<◌, false, ◌||◌, ◌&&◌, ◌==◌, All, length};
 ghost use Rattle.uc_model.specs.PatternBits.{commitment_of};
 ghost use Rattle.uc_model.specs.Schedule.{thermal_count};
-ghost use Rattle.uc_model.specs.declared.instance.Instance.{Instance};
 ghost use Rattle.dual_model.specs.Fixings.{IsNodeOf};
-ghost use Rattle.leaf_values.specs.Paths.{AreFixesOf, DecidesOnce, IsPlaced, IsUndecided, fix_at, node_of};
+ghost use Rattle.leaf_values.specs.Paths.{Instance, AreFixesOf, DecidesOnce, IsPlaced, IsUndecided, fix_at, node_of};
 
 use dual_model::{Fix, Fixing};
 use uc_model::Pattern;

@@ -10,12 +10,8 @@ use Rattle.uc_model.specs.Limits.{IsLawfulInstance}
 use Rattle.uc_model.specs.PrintedSchedule.{cell_at}
 use Rattle.uc_model.specs.Schedule.{thermal_count, thermal_unit, renewable_count}
 use Rattle.uc_model.specs.StartCategory.{category_cost}
-use Rattle.uc_model.specs.declared.instance.Instance.{Instance}
 use Rattle.uc_model.specs.declared.instance.Thermal.{Thermal}
-use Rattle.uc_model.specs.declared.pattern.Pattern.{Pattern}
 use Rattle.uc_model.specs.declared.schedule.Cell.{Cell}
-use Rattle.uc_model.specs.declared.schedule.Printed.{Printed}
-use Rattle.uc_model.specs.declared.stuck.Stuck.{Stuck}
 use Rattle.uc_model.specs.declared.stuck.Why.{Why}
 use Rattle.uc_model.specs.declared.stuck.Why.TheVariants as why
 use Rattle.uc_model.proofs.Ring.{linear}
@@ -27,7 +23,7 @@ use Rattle.dispatch_repair.specs.MeritOrder.{IsInMeritOrder, IsReserveInOrder}
 use Rattle.dispatch_repair.specs.Period.{Period, FromRenewable, FromThermal, IsSourceOf, Source, commitment_at, demand_of, head_of, high_of, low_of, minimums, need_of, output_before, renewable_sum, thermal_sum}
 use Rattle.dispatch_repair.specs.Stuck.{IsFirstObstacle, IsRegular, IsStuckBy, stuck_period}
 use Rattle.dispatch_repair.proofs.Filled.{max_left}
-use Rattle.one_dispatch.specs.OneDispatch.{DispatchesAreSame, NeverBoth, StuckPeriodsAreSame}
+use Rattle.one_dispatch.specs.OneDispatch.{Instance, Pattern, Printed, Stuck, DispatchesAreSame, NeverBoth, StuckPeriodsAreSame}
 use Rattle.one_dispatch.proofs.Merit.{one_filling}
 
 -- ---- one cell

@@ -4,14 +4,13 @@ use Rattle.std.proofs.lemmas.Bool.{cases_order}
 use Rattle.uc_model.specs.Limits.{IsLawfulInstance}
 use Rattle.uc_model.specs.Rules.{Obeys}
 use Rattle.uc_model.specs.Schedule.{Schedule}
-use Rattle.uc_model.specs.declared.instance.Instance.{Instance}
 use Rattle.uc_model.proofs.Ring.{linear}
 use Rattle.dual_model.specs.NodeValue.{IsNodeValue}
 use Rattle.dual_model.specs.Opening.{ray_table}
 use Rattle.dual_model.specs.Tree.{root}
 use Rattle.dual_model.proofs.NodeValues.{rays_exclude, values_are_unique}
 use Rattle.opening_tables.proofs.RayTables.{ray_lawful}
-use Rattle.opening.specs.Rays.{HasNoRay, HasNoRayBelow, IsFirstRay, IsRayPositive}
+use Rattle.opening.specs.Rays.{Instance, HasNoRay, HasNoRayBelow, IsFirstRay, IsRayPositive}
 
 -- a ray whose value isn't above 0 isn't positive
 pub not_positive : (instance : Instance) (n : ℕ) (v : ℤ) → IsNodeValue instance root (ray_table instance n) v → v ≤ℤ pos 0

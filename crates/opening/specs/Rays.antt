@@ -2,7 +2,7 @@
 --
 -- Rays count from 0 here.
 use Rattle.std.specs.Prelude.{ℕ, ◌<◌}
-use Rattle.uc_model.specs.declared.instance.Instance.{Instance}
+pub use Rattle.uc_model.specs.declared.instance.Instance.{Instance}
 use Rattle.dual_model.specs.Cover.{HasPositiveValue}
 use Rattle.dual_model.specs.Opening.{ray_count, ray_table}
 use Rattle.dual_model.specs.Tree.{root}

@@ -32,8 +32,7 @@ pub struct Evaluator<'a> {
 }
 
 impl<'a> Model for Evaluator<'a> {
-    ghost use Rattle.uc_model.specs.declared.instance.Instance.{Instance};
-    ghost use Rattle.opening.specs.inside.Lent.{IsLentOf};
+    ghost use Rattle.opening.specs.inside.Lent.{Instance, IsLentOf};
 
     ghost Value = { Instance };
 

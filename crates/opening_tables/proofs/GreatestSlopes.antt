@@ -4,20 +4,15 @@ use Rattle.std.proofs.lemmas.Int.{ints}
 use Rattle.std.proofs.lemmas.List.{get_or_read}
 use Rattle.uc_model.specs.PrintedSchedule.{cell_at}
 use Rattle.uc_model.specs.Schedule.{thermal_count, thermal_unit}
-use Rattle.uc_model.specs.declared.instance.Instance.{Instance}
-use Rattle.uc_model.specs.declared.schedule.Printed.{Printed}
-use Rattle.uc_model.specs.declared.instance.Point.{Point}
-use Rattle.uc_model.specs.declared.schedule.Cell.{Cell}
 use Rattle.uc_model.proofs.Ring.{linear}
 use Rattle.uc_model.proofs.Tests.{int_lt-true}
 use Rattle.cost_curves.specs.LowerHull.{IsLowerHull}
 use Rattle.cost_curves.specs.UnitCurves.{AreCurvesOf}
 use Rattle.cost_curves.specs.LeastCost.{IsLeftSlope}
-use Rattle.cost_curves.specs.declared.slope.Slope.{Slope}
 use Rattle.cost_curves.proofs.Lines.{flatter_trans}
 use Rattle.cost_curves.proofs.Slopes.{left_slope-same, slope_run}
-use Rattle.opening_tables.specs.Marginal.{HasSlope, IsAtMost, IsGreatestSlope, IsRunning}
-use Rattle.opening_tables.specs.inside.Slopes.{IsCellSlope, IsGreatestOf, steeper_of}
+use Rattle.opening_tables.specs.Marginal.{Cell, Instance, Printed, Slope, HasSlope, IsAtMost, IsGreatestSlope, IsRunning}
+use Rattle.opening_tables.specs.inside.Slopes.{Point, IsCellSlope, IsGreatestOf, steeper_of}
 
 -- ---- slopes are over widths, and ordered
 pub run_of : (instance : Instance) (printed : Printed) (g t : ℕ) (slope : Slope) → HasSlope instance printed g t slope → pos 0 <ℤ slope.run

@@ -5,14 +5,11 @@ use Rattle.uc_model.specs.Limits.{IsLawfulInstance}
 use Rattle.uc_model.specs.PrintedSchedule.{cell_at, printed_denominator, printed_schedule, segment_weight}
 use Rattle.uc_model.specs.Rules.{Obeys, Production}
 use Rattle.uc_model.specs.Schedule.{thermal_unit}
-use Rattle.uc_model.specs.declared.instance.Instance.{Instance}
-use Rattle.uc_model.specs.declared.instance.Point.{Point}
-use Rattle.uc_model.specs.declared.schedule.Printed.{Printed}
 use Rattle.uc_model.proofs.Obeyed.{production_parts, rule_at}
 use Rattle.cost_curves.specs.LowerHull.{AreLawfulPoints, width_of}
 use Rattle.cost_curves.proofs.HullExists.{segment-within}
 use Rattle.cost_curves.proofs.UnitPoints.{lawful_points}
-use Rattle.opening_tables.specs.inside.Slopes.{AreOutputsWithin}
+use Rattle.opening_tables.specs.inside.Slopes.{Instance, Point, Printed, AreOutputsWithin}
 
 held : (q : ℕ) (points : List Point) (p : ℤ) (s : Option Segment) → segment_at points 1 p ≡ s → AreLawfulPoints points
     → ((l : ℕ) → l < length points → segment_weight q points 1 p s l ≤ q) → p ≤ℤ width_of points

@@ -4,13 +4,11 @@ use Rattle.std.proofs.lemmas.Int.{ints}
 use Rattle.std.proofs.lemmas.List.{length-replicate}
 use Rattle.std.proofs.lemmas.List.Elements.{All-from_get_or, All-replicate}
 use Rattle.uc_model.specs.Schedule.{thermal_count}
-use Rattle.uc_model.specs.declared.instance.Instance.{Instance}
-use Rattle.uc_model.specs.declared.schedule.Printed.{Printed}
 use Rattle.uc_model.proofs.Ring.{linear}
 use Rattle.dual_model.specs.Opening.{ZERO_SCALE}
 use Rattle.dual_model.specs.Prices.{IsLawfulTable, IsPrice}
 use Rattle.dual_model.specs.declared.table.Table.{Table}
-use Rattle.opening_tables.specs.inside.Slopes.{ArePriced, IsPriced}
+use Rattle.opening_tables.specs.inside.Slopes.{Instance, Printed, ArePriced, IsPriced}
 
 pub priced-more : (instance : Instance) (printed : Printed) (prices : List ℤ) (i : ℕ) (price stored : ℤ) → i < length prices → stored ≡ price
     → IsPriced instance printed i price → ArePriced instance printed i prices → ArePriced instance printed (i + 1) (slice_set prices i stored)

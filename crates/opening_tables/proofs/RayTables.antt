@@ -7,14 +7,12 @@ use Rattle.std.proofs.lemmas.List.Elements.{All-append, All-cons, All-from_recur
 use Rattle.uc_model.specs.Limits.{IsLawfulInstance}
 use Rattle.uc_model.specs.Schedule.{thermal_count, thermal_unit}
 use Rattle.uc_model.specs.declared.instance.Instance.{Instance}
-use Rattle.uc_model.specs.declared.instance.Thermal.{Thermal}
 use Rattle.uc_model.proofs.Ring.{linear}
 use Rattle.dual_model.specs.Opening.{OpeningRay, falls_short, first_row, first_rows, no_ray, nowhere, period_rays, price_in, ramp_rays, ray_at, ray_count, ray_period, ray_prices, ray_table, rises_short, stays_below}
 use Rattle.dual_model.specs.Prices.{IsLawfulTable, IsPrice, IsRowBefore, IsRowPriced, IsRowSigned, IsRowWithin}
 use Rattle.dual_model.specs.declared.table.RampRow.{RampRow}
 use Rattle.dual_model.specs.declared.table.Table.{Table}
-use Rattle.opening_tables.specs.inside.Rays.{down_of, named_by, up_of}
-use Rattle.opening_tables.specs.declared.rays.Ray.{Ray}
+use Rattle.opening_tables.specs.inside.Rays.{Ray, Thermal, down_of, named_by, up_of}
 
 -- ---- the rows
 -- one unit more

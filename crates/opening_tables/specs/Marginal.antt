@@ -8,11 +8,11 @@ use Rattle.std.specs.Int.{int_min, int_max}
 use Rattle.uc_model.specs.Division.{IsFloor}
 use Rattle.uc_model.specs.PrintedSchedule.{cell_at}
 use Rattle.uc_model.specs.Schedule.{thermal_count, thermal_unit}
-use Rattle.uc_model.specs.declared.instance.Instance.{Instance}
-use Rattle.uc_model.specs.declared.schedule.Cell.{Cell}
-use Rattle.uc_model.specs.declared.schedule.Printed.{Printed}
+pub use Rattle.uc_model.specs.declared.instance.Instance.{Instance}
+pub use Rattle.uc_model.specs.declared.schedule.Cell.{Cell}
+pub use Rattle.uc_model.specs.declared.schedule.Printed.{Printed}
 use Rattle.cost_curves.specs.LeastCost.{IsLeftSlope}
-use Rattle.cost_curves.specs.declared.slope.Slope.{Slope}
+pub use Rattle.cost_curves.specs.declared.slope.Slope.{Slope}
 use Rattle.dual_model.specs.Opening.{ZERO_SCALE}
 use Rattle.dual_model.specs.Prices.{HasSizeOf, pi_at}
 use Rattle.dual_model.specs.declared.limits.TheConstants.{MAX_PRICE}

@@ -1,8 +1,6 @@
 use Rattle.std.specs.Prelude.{◌≡◌}
-use Rattle.outside.specs.declared.slot.Stage.TheVariants.{Unopened}
-use Rattle.outside.specs.Slots.{SlotState, HasNothingWritten}
+use Rattle.outside.specs.Slots.{Slot, Unopened, SlotState, HasNothingWritten}
 use Rattle.outside.specs.declared.devices.Devices.{Devices}
-use Rattle.outside.specs.declared.slot.Slot.{Slot}
 use Rattle.outside.specs.declared.slot.Slot.TheVariants.{Instance, CertIn, CertOut}
 
 -- the device behind a slot

@@ -2,9 +2,9 @@
 use Rattle.std.specs.Option.{option_map}
 use Rattle.std.proofs.Common.{◌∙◌, ◌≡◌, ◌≢◌, ℕ, Bool, List, [], ◌++◌, Option, refl}
 use Rattle.std.specs.Str.{bytes_eq}
-use Rattle.outside.specs.declared.slot.Slot.{Slot}
+pub use Rattle.outside.specs.declared.slot.Slot.{Slot}
 use Rattle.outside.specs.declared.slot.Stage.{Stage}
-use Rattle.outside.specs.declared.slot.Stage.TheVariants.{Unopened, Open, Finished}
+pub use Rattle.outside.specs.declared.slot.Stage.TheVariants.{Unopened, Open, Finished}
 use Rattle.outside.specs.Counts.{HasRisen}
 use Rattle.outside.specs.ToldBytes.{Tells, Appends}
 use Rattle.outside.specs.Sinks.{WriterState}

@@ -1,6 +1,5 @@
 ghost use Rattle.std.specs.Prelude.{◌≡◌, ◌<◌, ◌≤◌, length, take, IfOk, OnOk, OnErr};
-ghost use Rattle.outside.specs.declared.slot.Stage.TheVariants.{Unopened, Open};
-ghost use Rattle.outside.specs.Slots.{SlotState, opened, unread, finished, IsAtEnd, HasNothingWritten, Writes, CountsFault};
+ghost use Rattle.outside.specs.Slots.{Open, Unopened, SlotState, opened, unread, finished, IsAtEnd, HasNothingWritten, Writes, CountsFault};
 
 use crate::fault::Failed;
 

@@ -1,6 +1,5 @@
 ghost use Rattle.std.specs.Prelude.{◌≡◌};
-ghost use Rattle.outside.specs.declared.slot.Stage.TheVariants.{Unopened};
-ghost use Rattle.outside.specs.Slots.{AllUnopened};
+ghost use Rattle.outside.specs.Slots.{Unopened, AllUnopened};
 ghost use Rattle.std.specs.Borrow.{sem, Lends};
 ghost use Rattle.outside.specs.contracts.devices.Devices.{the_row};
 ghost use Rattle.outside.specs.Devices.{device_of, with_device, all_unwritten};

@@ -1,7 +1,5 @@
 ghost use Rattle.std.specs.Prelude.{◌≡◌, ◌<◌, ◌≤◌, length, take, IfOk, OnOk, OnErr};
-ghost use Rattle.outside.specs.declared.slot.Slot.{Slot};
-ghost use Rattle.outside.specs.declared.slot.Stage.TheVariants.{Unopened, Open};
-ghost use Rattle.outside.specs.Slots.{SlotState, opened, unread, finished, IsAtEnd, HasNothingWritten, Writes, CountsFault, SameBut};
+ghost use Rattle.outside.specs.Slots.{Open, Slot, Unopened, SlotState, opened, unread, finished, IsAtEnd, HasNothingWritten, Writes, CountsFault, SameBut};
 
 use crate::fault::Failed;
 use crate::slot::Slot;

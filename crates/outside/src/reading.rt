@@ -1,8 +1,7 @@
 ghost use Rattle.std.specs.Prelude.{◌≡◌, ◌+◌, ◌<◌, ◌≤◌, length, vec_len, Some, IfOk, IfSome};
-ghost use Rattle.outside.specs.declared.slot.Stage.TheVariants.{Unopened};
 ghost use Rattle.outside.specs.declared.reading.SlurpFault.TheVariants.{Failed as ReadFailed, NoMemory};
 ghost use Rattle.outside.specs.ToldBytes.{Tells};
-ghost use Rattle.outside.specs.Slots.{SameBut};
+ghost use Rattle.outside.specs.Slots.{Unopened, SameBut};
 ghost use Rattle.outside.specs.Reading.{ReadsAll, ReadsBeyond, ReadsSome, FailsToRead};
 
 use crate::fault::Failed;

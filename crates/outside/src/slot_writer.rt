@@ -1,7 +1,6 @@
 ghost use Rattle.std.specs.Prelude.{◌≡◌, refl};
 ghost use Rattle.std.proofs.Common.{◌∙◌, subst};
-ghost use Rattle.outside.specs.declared.slot.Stage.TheVariants.{Open};
-ghost use Rattle.outside.specs.Slots.{SameBeside, same_beside-itself, same_beside-through, slot_view};
+ghost use Rattle.outside.specs.Slots.{Open, SameBeside, same_beside-itself, same_beside-through, slot_view};
 
 use crate::fault::Failed;
 use crate::files::Files;

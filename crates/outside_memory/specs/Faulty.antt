@@ -1,11 +1,10 @@
 -- Files and sinks on which calls fail, as slots and sinks.
 use Rattle.std.specs.Prelude.{◌≡◌}
-use Rattle.outside.specs.declared.slot.Stage.TheVariants.{Unopened}
 use Rattle.outside_memory.specs.declared.faulty_file.FaultyFile.{FaultyFile}
 use Rattle.outside_memory.specs.declared.faulty_sink.FaultySink.{FaultySink}
 use Rattle.outside.specs.Slots.{SlotState, HasNothingWritten}
 use Rattle.outside.specs.Sinks.{SinkState}
-use Rattle.outside_memory.specs.Memory.{file_state, file_unwritten, sink_state}
+use Rattle.outside_memory.specs.Memory.{Unopened, file_state, file_unwritten, sink_state}
 
 -- the file in memory, with the faults of the schedule
 abbrev pub faulty_file_state : FaultyFile → SlotState

@@ -1,7 +1,7 @@
 -- Files and sinks in memory as slots and sinks.
 use Rattle.std.specs.Prelude.{◌≡◌, ℕ, Bool, true, false, List, [], Option, None, Some, take, drop, refl, string_bytes}
 use Rattle.std.specs.Option.{option_map}
-use Rattle.outside.specs.declared.slot.Stage.TheVariants.{Unopened}
+pub use Rattle.outside.specs.declared.slot.Stage.TheVariants.{Unopened}
 use Rattle.outside_memory.specs.declared.memory_file.MemoryFile.{MemoryFile}
 use Rattle.outside_memory.specs.declared.memory_sink.MemorySink.{MemorySink}
 use Rattle.outside.specs.Slots.{SlotState, HasNothingWritten}

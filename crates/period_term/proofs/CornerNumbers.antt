@@ -4,7 +4,6 @@ use Rattle.std.specs.Int.{w64, w128}
 use Rattle.std.proofs.lemmas.Int.{ints}
 use Rattle.uc_model.specs.Division.{IsFloor, IsCeiling}
 use Rattle.uc_model.specs.Points.{point_of}
-use Rattle.uc_model.specs.declared.instance.Point.{Point}
 use Rattle.uc_model.specs.declared.limits.TheConstants.{MAX_POWER, MAX_COST}
 use Rattle.uc_model.proofs.Ring.{linear, spread, mul_comm, mul_assoc, neg-mul}
 use Rattle.uc_model.proofs.Quotients.{IsFloor-add, IsCeiling-neg}
@@ -13,7 +12,7 @@ use Rattle.dual_model.specs.TableValue.{IsLawfulScale}
 use Rattle.dual_model.specs.declared.limits.TheConstants.{MAX_UNIT_PRICE}
 use Rattle.cost_curves.specs.LowerHull.{AreLawfulCorners}
 use Rattle.cost_curves.proofs.CornerSizes.{ceiling-size}
-use Rattle.period_term.specs.inside.Places.{MAX_CORNER_COST, MAX_RISE, MAX_OVER}
+use Rattle.period_term.specs.inside.Places.{Point, MAX_CORNER_COST, MAX_RISE, MAX_OVER}
 
 pub scale-size : (k : ℤ) → IsLawfulScale k → unsigned_abs k ≤ 10 ^ 9
 scale-size k scale = omega (arith, ints, scale.low, scale.high)

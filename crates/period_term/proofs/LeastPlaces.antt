@@ -3,7 +3,6 @@ use Rattle.std.proofs.Common.{◌≡◌, ℕ, zero, suc, ◌<◌, ◌≤◌, ◌
 use Rattle.std.proofs.lemmas.Int.{ints}
 use Rattle.uc_model.specs.Division.{IsFloor}
 use Rattle.uc_model.specs.Points.{point_of, output_of}
-use Rattle.uc_model.specs.declared.instance.Point.{Point}
 use Rattle.uc_model.proofs.Ring.{linear, sub_nonneg, spread, le_or_lt, le_antisymm, mul_comm, mul_assoc, mul_left_comm, mul-zero, zero-mul, one-mul, mul_nonneg, mul-le-mul_left, mul-le-mul_right, mul-le-mul_turned, le_from_mul}
 use Rattle.uc_model.proofs.Quotients.{IsFloor-greatest}
 use Rattle.uc_model.proofs.Tests.{int_lt-true}
@@ -12,7 +11,7 @@ use Rattle.dual_model.proofs.Terms.{cell_bound-corners, corners-cell_bound}
 use Rattle.cost_curves.specs.LowerHull.{IsAbove, IsLowerHull}
 use Rattle.cost_curves.proofs.HullValues.{starts}
 use Rattle.cost_curves.proofs.Lines.{less_le, sub_positive}
-use Rattle.period_term.specs.inside.Places.{corner_cost, over_of, run_of, IsLeastPlace, HoldsCap}
+use Rattle.period_term.specs.inside.Places.{Point, corner_cost, over_of, run_of, IsLeastPlace, HoldsCap}
 
 -- neither end's outer neighbour costs less
 pub record LiesWithin (corners : List Point) (k a : ℤ) (low high : ℕ) : Type 0 where

@@ -2,7 +2,7 @@
 -- before, by the number of those, is this project's own choice.
 use Rattle.std.specs.Prelude.{◌≡◌, ℕ, ◌+◌, ◌^◌, ◌≤◌, ◌⊎◌, pos, unsigned_abs}
 use Rattle.dual_model.specs.Prices.{pi_at, mu_at, up_at, down_at}
-use Rattle.dual_model.specs.declared.table.Table.{Table}
+pub use Rattle.dual_model.specs.declared.table.Table.{Table}
 
 -- m is the size of a multiplier of the table
 pub data HasMultiplier (table : Table) (m : ℕ) : Type 0 where

@@ -5,9 +5,8 @@ use Rattle.dual_model.specs.Prices.{row_of, IsPrice, IsRowPriced, IsWithinLimits
 use Rattle.dual_model.specs.TableValue.{IsLawfulRow}
 use Rattle.dual_model.specs.Term.{output_price, reserve_price}
 use Rattle.dual_model.specs.declared.limits.TheConstants.{MAX_UNIT_PRICE}
-use Rattle.dual_model.specs.declared.table.Table.{Table}
 use Rattle.dual_model.proofs.Multipliers.{look_up, row_of_each}
-use Rattle.ramp_duals.specs.RampRows.{IsRowOf}
+use Rattle.ramp_duals.specs.RampRows.{Table, IsRowOf}
 
 pub priced_at : (table : Table) → IsWithinLimits table → (g t : ℕ) → IsRowPriced (row_of table.ramps g t)
 priced_at table limits g t = row_of_each IsRowPriced table.ramps g t limits.ramps (record { up = omega arith; down = omega arith })

@@ -2,8 +2,7 @@
 use Rattle.std.proofs.Common.{◌≡◌, ℕ, zero, suc, ◌<◌, ◌≤◌, ◌⊎◌, ⊎_elim, inl, inr, Bool, true, false, ◌&&◌, List, [], ◌∷◌, length, refl, sym, subst, ◌∙◌, arith, pos, IsTrue, ◌==◌}
 use Rattle.std.proofs.lemmas.Bool.{and_parts, and_from, eqb-true, eq-eqb, cond-true, cond-false}
 use Rattle.dual_model.specs.Prices.{row_of, IsRowBefore}
-use Rattle.dual_model.specs.declared.table.RampRow.{RampRow}
-use Rattle.ramp_duals.specs.RampRows.{AreRising, row_in, IsBefore, IsPlace}
+use Rattle.ramp_duals.specs.RampRows.{RampRow, AreRising, row_in, IsBefore, IsPlace}
 use Rattle.uc_model.proofs.Sums.{below_or_last}
 
 -- a row before another one that stands before a cell stands before it too

@@ -3,8 +3,8 @@
 use Rattle.std.specs.Prelude.{◌≡◌, ℕ, suc, ◌<◌, ◌≤◌, ◌⊎◌, List, ℤ, pos, length, slice_index_or}
 use Rattle.dual_model.specs.Prices.{pi_at, row_of, IsRowBefore}
 use Rattle.dual_model.specs.Term.{output_price, reserve_price}
-use Rattle.dual_model.specs.declared.table.Table.{Table}
-use Rattle.dual_model.specs.declared.table.RampRow.{RampRow}
+pub use Rattle.dual_model.specs.declared.table.Table.{Table}
+pub use Rattle.dual_model.specs.declared.table.RampRow.{RampRow}
 use Rattle.ramp_duals.specs.declared.multipliers.Multipliers.{Multipliers}
 
 -- the rows rise by unit and then by period

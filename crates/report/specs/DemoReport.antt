@@ -2,11 +2,9 @@
 -- of the cost. This project's own form.
 use Rattle.std.specs.Prelude.{ℕ, List, [], ◌∷◌, ℤ, Option, Some, None, codes}
 use Rattle.uc_model.specs.Decimal.{whole_text}
-use Rattle.uc_model.specs.declared.schedule.Printed.{Printed}
-use Rattle.branch_tree.specs.declared.found.Found.{Found}
 use Rattle.branch_tree.specs.StoredTree.{tree_bound}
 use Rattle.outside.specs.Lines.{joined, line}
-use Rattle.report.specs.FoundReport.{schedule_summary, no_schedule_summary}
+use Rattle.report.specs.FoundReport.{Found, Printed, schedule_summary, no_schedule_summary}
 
 abbrev pub seed_line : ℕ → List ℕ
 seed_line seed = line (codes "demo") (whole_text seed ∷ [])

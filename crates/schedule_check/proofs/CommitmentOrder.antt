@@ -1,13 +1,10 @@
 -- The rules on commitments are M1 to M5 and M7, in the order in which they are tried.
 use Rattle.std.proofs.Common.{◌≡◌, ℕ, zero, suc, ◌<◌, ◌≤◌, ◌⊎◌, inl, inr, ⊎_elim, List, length, refl, sym, subst, ◌∙◌, arith, get_or, true≢false}
 use Rattle.uc_model.specs.Rules.{rule_number}
-use Rattle.uc_model.specs.declared.instance.Thermal.{Thermal}
-use Rattle.uc_model.specs.declared.schedule.Cell.{Cell}
-use Rattle.schedule_check.specs.CommitmentRules.{IsOnCommitments, RowKeeps, BreaksFirst}
+use Rattle.schedule_check.specs.CommitmentRules.{Cell, Thermal, IsOnCommitments, RowKeeps, BreaksFirst}
 use Rattle.schedule_check.specs.inside.Failures.{FailsFirstAt}
-use Rattle.schedule_check.specs.WholeWatts.{UnitRule, rule_of, unit_holds, unit_periods}
+use Rattle.schedule_check.specs.WholeWatts.{InitialDown, InitialStop, InitialUp, MinimumDown, MinimumUp, MustRun, UnitRule, rule_of, unit_holds, unit_periods}
 use Rattle.schedule_check.specs.declared.unit_rule.TheConstants.{COMMITMENT_RULES}
-use Rattle.schedule_check.specs.declared.unit_rule.UnitRule.TheVariants.{MustRun, InitialUp, InitialDown, MinimumUp, MinimumDown, InitialStop}
 
 -- the rule tried in turn k, from 0
 abbrev pub turn : ℕ → UnitRule

@@ -5,15 +5,10 @@ use Rattle.uc_model.specs.Rules.{Obeys}
 use Rattle.uc_model.specs.Schedule.{thermal_unit, thermal_count}
 use Rattle.uc_model.specs.PrintedSchedule.{printed_denominator, printed_schedule}
 use Rattle.uc_model.specs.Limits.{IsLawfulInstance}
-use Rattle.uc_model.specs.declared.instance.Instance.{Instance}
-use Rattle.uc_model.specs.declared.schedule.Printed.{Printed}
 use Rattle.uc_model.proofs.Tests.{all_below-from}
-use Rattle.schedule_check.specs.FirstBroken.{HoldsThroughout, FailsFirst, IsFirstBroken}
-use Rattle.schedule_check.specs.declared.broken.Broken.{Broken}
-use Rattle.schedule_check.specs.declared.broken.Place.{Place}
-use Rattle.schedule_check.specs.declared.unit_rule.UnitRule.TheVariants.{MustRun}
-use Rattle.schedule_check.specs.inside.Failures.{FailsFirstAt, FailsFirstIn}
-use Rattle.schedule_check.specs.WholeWatts.{UnitRule, holds_at, rule_of, row_of, unit_holds, unit_periods}
+use Rattle.schedule_check.specs.FirstBroken.{Broken, Instance, HoldsThroughout, FailsFirst, IsFirstBroken}
+use Rattle.schedule_check.specs.inside.Failures.{Place, FailsFirstAt, FailsFirstIn}
+use Rattle.schedule_check.specs.WholeWatts.{MustRun, Printed, UnitRule, holds_at, rule_of, row_of, unit_holds, unit_periods}
 use Rattle.schedule_check.proofs.RuleOrder.{tried, number-tried, tried-number, number_within}
 use Rattle.schedule_check.proofs.SameRules.{AllProduced, same_rule}
 use Rattle.schedule_check.proofs.Produced.{denominator_positive}

@@ -6,11 +6,9 @@ use Rattle.std.proofs.lemmas.List.{get_or_past}
 use Rattle.uc_model.specs.PrintedSchedule.{cell_at}
 use Rattle.uc_model.specs.Limits.{IsLimit, IsPower}
 use Rattle.uc_model.specs.declared.limits.TheConstants.{MAX_POWER}
-use Rattle.uc_model.specs.declared.schedule.Cell.{Cell}
-use Rattle.uc_model.specs.declared.schedule.Printed.{Printed}
 use Rattle.uc_model.proofs.Ring.{linear}
 use Rattle.uc_model.proofs.CostBound.{within_of_abs, abs_of_within}
-use Rattle.schedule_check.specs.SizedNumbers.{HasSizedNumbers}
+use Rattle.schedule_check.specs.SizedNumbers.{Cell, Printed, HasSizedNumbers}
 use Rattle.schedule_check.specs.PlainNumbers.{HasPlainNumbers, IsPlainCell}
 
 power_high : (z : ℤ) → IsPower z → z ≤ℤ pos MAX_POWER

@@ -1,9 +1,8 @@
 -- The rules on thermal units are the first twelve of the model's, in the order in which they are tried.
 use Rattle.std.proofs.Common.{◌≡◌, ℕ, suc, ◌-◌, ◌<◌, refl, arith, get_or}
 use Rattle.uc_model.specs.Rules as model
-use Rattle.schedule_check.specs.WholeWatts.{UnitRule, rule_of}
+use Rattle.schedule_check.specs.WholeWatts.{Category, InitialDown, InitialStop, InitialUp, MinimumDown, MinimumUp, MustRun, Production, RampDown, RampUp, StartCap, StopCap, UnitRule, rule_of}
 use Rattle.schedule_check.specs.declared.unit_rule.TheConstants.{UNIT_RULES}
-use Rattle.schedule_check.specs.declared.unit_rule.UnitRule.TheVariants.{MustRun, InitialUp, InitialDown, MinimumUp, MinimumDown, Category, InitialStop, Production, StartCap, StopCap, RampUp, RampDown}
 
 -- the rule tried in turn k, from 0
 abbrev pub tried : ℕ → UnitRule

@@ -10,13 +10,11 @@ use Rattle.uc_model.specs.PrintedSchedule.{cell_at, printed_denominator, printed
 use Rattle.uc_model.specs.Limits.{IsLawfulInstance}
 use Rattle.uc_model.specs.declared.instance.Thermal.{Thermal}
 use Rattle.uc_model.specs.declared.instance.Instance.{Instance}
-use Rattle.uc_model.specs.declared.schedule.Cell.{Cell}
-use Rattle.uc_model.specs.declared.schedule.Printed.{Printed}
 use Rattle.uc_model.proofs.Ring.{linear, mul-add, mul-sub, mul_assoc, le_from_mul, le_antisymm, scale-le-scale}
 use Rattle.uc_model.proofs.Sums.{sum_below-same, sum_below-mul_left}
 use Rattle.uc_model.proofs.Tests.{int_le-true, le-int_le, int_eq-true, eq-int_eq}
 use Rattle.uc_model.proofs.PrintedCosts.{denominator-factor}
-use Rattle.schedule_check.specs.SizedNumbers.{output_at}
+use Rattle.schedule_check.specs.SizedNumbers.{Cell, Printed, output_at}
 use Rattle.schedule_check.specs.WholeWatts as watts
 use Rattle.schedule_check.proofs.Counting.{same_test}
 use Rattle.schedule_check.proofs.Produced.{Shows, denominator_positive, production-same, holds_from, made}

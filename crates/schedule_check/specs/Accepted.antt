@@ -3,9 +3,8 @@ use Rattle.std.specs.Prelude.{◌≡◌, ◌≤◌, ℤ, IfSome, Option, unsigne
 use Rattle.uc_model.specs.PrintedSchedule.{HasShapeOf, printed_denominator, printed_schedule, printed_cost}
 use Rattle.uc_model.specs.Rules.{Obeys}
 use Rattle.uc_model.specs.declared.instance.Instance.{Instance}
-use Rattle.uc_model.specs.declared.schedule.Printed.{Printed}
 use Rattle.uc_model.specs.declared.limits.TheConstants.{COST_MAX}
-use Rattle.schedule_check.specs.PlainNumbers.{HasPlainNumbers}
+use Rattle.schedule_check.specs.PlainNumbers.{Printed, HasPlainNumbers}
 
 -- a schedule of the instance that obeys, with its printed cost, and numbers within their limits
 pub record IsAccepted (instance : Instance) (printed : Printed) (cost : ℤ) : Type 0 where

@@ -2,8 +2,8 @@
 -- Watson, as uc_model has them.
 use Rattle.std.specs.Prelude.{◌≡◌, ℕ, ◌<◌, ◌⊎◌, List, length, IsTrue, Option, Some, None}
 use Rattle.uc_model.specs.Rules.{rule_number}
-use Rattle.uc_model.specs.declared.instance.Thermal.{Thermal}
-use Rattle.uc_model.specs.declared.schedule.Cell.{Cell}
+pub use Rattle.uc_model.specs.declared.instance.Thermal.{Thermal}
+pub use Rattle.uc_model.specs.declared.schedule.Cell.{Cell}
 use Rattle.schedule_check.specs.WholeWatts.{UnitRule, rule_of, unit_holds, unit_periods}
 
 abbrev pub IsOnCommitments : UnitRule → Type 0

@@ -5,8 +5,8 @@
 use Rattle.std.specs.Prelude.{◌≡◌, ℕ, ◌<◌, Bool, false, IsTrue}
 use Rattle.uc_model.specs.Rules.{Rule, holds_at, rule_number, rule_units, rule_periods}
 use Rattle.uc_model.specs.Schedule.{Schedule}
-use Rattle.uc_model.specs.declared.instance.Instance.{Instance}
-use Rattle.schedule_check.specs.declared.broken.Broken.{Broken}
+pub use Rattle.uc_model.specs.declared.instance.Instance.{Instance}
+pub use Rattle.schedule_check.specs.declared.broken.Broken.{Broken}
 
 -- the rule's test holds for each unit and period of which the rule speaks
 abbrev pub HoldsThroughout : Instance → (Rule → ℕ → ℕ → Bool) → Rule → Type 0

@@ -3,9 +3,8 @@ use Rattle.std.specs.Prelude.{◌≡◌, ℕ, ◌≤◌, false, pos, ◌+ℤ◌,
 use Rattle.uc_model.specs.PrintedSchedule.{cell_at}
 use Rattle.uc_model.specs.Limits.{IsPower, IsLimit}
 use Rattle.uc_model.specs.declared.limits.TheConstants.{MAX_START_ROWS}
-use Rattle.uc_model.specs.declared.schedule.Cell.{Cell}
-use Rattle.uc_model.specs.declared.schedule.Printed.{Printed}
-use Rattle.schedule_check.specs.SizedNumbers.{output_at}
+pub use Rattle.uc_model.specs.declared.schedule.Printed.{Printed}
+use Rattle.schedule_check.specs.SizedNumbers.{Cell, output_at}
 
 -- an off cell has no number
 pub record IsIdleCell (cell : Cell) : Type 0 where

@@ -1,8 +1,8 @@
 -- Numbers of at most 15 digits, which those of a printed schedule have. This project's own limit.
 use Rattle.std.specs.Prelude.{ℕ, ◌<◌, [], ℤ, pos, unsigned_abs, slice_index_or}
 use Rattle.uc_model.specs.PrintedSchedule.{cell_at}
-use Rattle.uc_model.specs.declared.schedule.Cell.{Cell}
-use Rattle.uc_model.specs.declared.schedule.Printed.{Printed}
+pub use Rattle.uc_model.specs.declared.schedule.Cell.{Cell}
+pub use Rattle.uc_model.specs.declared.schedule.Printed.{Printed}
 
 -- below 10^15 in size
 abbrev pub IsSized : ℤ → Type 0

@@ -10,17 +10,16 @@ use Rattle.uc_model.specs.StartCategory.{category_count, category_holds_at}
 use Rattle.uc_model.specs.Schedule.{thermal_unit, thermal_count, renewable_unit, renewable_count, demand_at, reserve_at}
 use Rattle.uc_model.specs.PrintedSchedule.{cell_at}
 use Rattle.uc_model.specs.Rules as model
-use Rattle.uc_model.specs.declared.instance.Thermal.{Thermal}
+pub use Rattle.uc_model.specs.declared.instance.Thermal.{Thermal}
 use Rattle.uc_model.specs.declared.instance.Point.{Point}
-use Rattle.uc_model.specs.declared.instance.Instance.{Instance}
+pub use Rattle.uc_model.specs.declared.instance.Instance.{Instance}
 use Rattle.uc_model.specs.declared.instance.Renewable.{Renewable}
-use Rattle.uc_model.specs.declared.schedule.Cell.{Cell}
-use Rattle.uc_model.specs.declared.schedule.Printed.{Printed}
-use Rattle.schedule_check.specs.FirstBroken.{HoldsThroughout, FailsFirst}
+pub use Rattle.uc_model.specs.declared.schedule.Cell.{Cell}
+pub use Rattle.uc_model.specs.declared.schedule.Printed.{Printed}
+use Rattle.schedule_check.specs.FirstBroken.{Broken, HoldsThroughout, FailsFirst}
 use Rattle.schedule_check.specs.SizedNumbers.{IsSizedCell, output_at}
-use Rattle.schedule_check.specs.declared.broken.Broken.{Broken}
 pub use Rattle.schedule_check.specs.declared.unit_rule.UnitRule.{UnitRule}
-use Rattle.schedule_check.specs.declared.unit_rule.UnitRule.TheVariants.{MustRun, InitialUp, InitialDown, MinimumUp, MinimumDown, Category, InitialStop, Production, StartCap, StopCap, RampUp, RampDown}
+pub use Rattle.schedule_check.specs.declared.unit_rule.UnitRule.TheVariants.{MustRun, InitialUp, InitialDown, MinimumUp, MinimumDown, Category, InitialStop, Production, StartCap, StopCap, RampUp, RampDown}
 
 -- a unit's row, its cell in period t, and the commitment that it says; past its end the unit is off
 abbrev pub row_of : Printed → ℕ → List Cell

@@ -5,11 +5,10 @@ ghost use Rattle.uc_model.specs.Limits.{IsLawfulInstance, IsLawfulThermal};
 ghost use Rattle.uc_model.specs.PrintedSchedule.{HasShapeOf};
 ghost use Rattle.uc_model.specs.Schedule.{thermal_count, thermal_unit};
 ghost use Rattle.schedule_check.specs.SizedNumbers.{HasSizedNumbers};
-ghost use Rattle.schedule_check.specs.inside.Changes.{AreCounts, change_at};
+ghost use Rattle.schedule_check.specs.inside.Changes.{Start, Stop, AreCounts, change_at};
 ghost use Rattle.schedule_check.specs.CommitmentRules.{IsFirstBrokenRule};
 ghost use Rattle.schedule_check.specs.inside.Failures.{IsFirstFailure, IsFirstPlace};
 ghost use Rattle.schedule_check.specs.WholeWatts.{IsSizedRow, commitment, row_of, unit_holds, unit_periods};
-ghost use Rattle.schedule_check.specs.declared.counts.Change.TheVariants.{Start, Stop};
 
 use crate::broken::Place;
 use crate::counts::{Change, Counts, MOMENTS};

@@ -1,13 +1,9 @@
 -- What the fields are after a commit.
 use Rattle.std.proofs.Common.{◌≡◌, ℕ, ◌+◌, ◌-◌, List, [], ◌∷◌, ◌++◌, length, set, replicate, false, refl, ap, sym, ◌∙◌, subst, arith, Option, Some, None, ℤ}
-use Rattle.dual_model.specs.declared.table.Table.{Table}
 use Rattle.branch_tree.specs.NumberedTree.{node_count}
 use Rattle.branch_tree.specs.TreeView.{TreeView}
-use Rattle.branch_tree.specs.declared.found.Entry.{Entry}
-use Rattle.branch_tree.specs.declared.found.Outcome.{Outcome}
-use Rattle.search_core.specs.declared.event.Move.TheVariants.{Again}
-use Rattle.search_core.specs.Machine.{Holder, Machine, Stored, IsHolding}
-use Rattle.search_core.specs.Moves.{Move, children_by, tree_after, IsFreeFor}
+use Rattle.search_core.specs.Machine.{Entry, Table, Holder, Machine, Stored, IsHolding}
+use Rattle.search_core.specs.Moves.{Again, Outcome, Move, children_by, tree_after, IsFreeFor}
 use Rattle.search_core.specs.Steps.{IsCommittable}
 use Rattle.search_core.specs.Notes.{Note, no_note, with_note, with_entry, AreNotesOf}
 use Rattle.search_core.specs.Orderly.{IsOrderly}

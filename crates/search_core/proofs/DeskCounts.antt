@@ -1,9 +1,8 @@
 -- No event makes more or fewer desks.
 use Rattle.std.proofs.Common.{◌≡◌, length, refl, ◌∙◌, length-set, Option, Some, None}
-use Rattle.search_core.specs.declared.event.Event.TheVariants.{Claim, Commit, Publish, Look, Push, Pop, Steal}
 use Rattle.search_core.specs.Machine.{Holder, Machine, desk_in, holder_of}
 use Rattle.search_core.specs.Moves.{tickets_of}
-use Rattle.search_core.specs.Steps.{Event, with_tickets, committed_by, after}
+use Rattle.search_core.specs.Steps.{Claim, Commit, Look, Pop, Publish, Push, Steal, Event, with_tickets, committed_by, after}
 
 pub desks_stay : (m : Machine) (event : Event) → length (after m event).desks ≡ length m.desks
 desks_stay m (Claim worker node) = refl

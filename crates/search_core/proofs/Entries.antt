@@ -1,9 +1,7 @@
 -- A node's entries by the numbers of their tables.
 use Rattle.std.proofs.Common.{◌≡◌, ◌≢◌, ℕ, ◌<◌, List, [], ◌∷◌, length, map, get_or, sym, ◌∙◌, ap, arith, Some, slice_get}
 use Rattle.std.proofs.lemmas.List.{length-map, get_or-map, nil_from_length}
-use Rattle.dual_model.specs.declared.table.Table.{Table}
-use Rattle.branch_tree.specs.declared.found.Entry.{Entry}
-use Rattle.search_core.specs.Machine.{entries_of}
+use Rattle.search_core.specs.Machine.{Entry, Table, entries_of}
 use Rattle.search_core.specs.Notes.{entry_tables}
 
 pub no_tables : (log : List Entry) (node : ℕ) → entry_tables log node ≡ [] → entries_of log node ≡ []

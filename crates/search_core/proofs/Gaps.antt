@@ -3,18 +3,15 @@ use Rattle.std.proofs.Common.{◌≡◌, ℕ, ◌≤◌, ◌⊎◌, true, false,
 use Rattle.std.specs.Int.{int_min}
 use Rattle.std.proofs.lemmas.Int.{ints, int_min_is}
 use Rattle.uc_model.specs.Tolerance.{tolerance_of}
-use Rattle.uc_model.specs.declared.tolerance.TheConstants.{WHOLE_GAP}
 use Rattle.uc_model.proofs.Ring.{linear}
 use Rattle.uc_model.proofs.Tests.{int_le-true, le-int_le}
 use Rattle.dual_model.specs.Tree.{Ends, Splits, child, EachLeaf}
 use Rattle.dual_model.specs.Tree as branch
-use Rattle.dual_model.specs.declared.node.Node.{Node}
 use Rattle.branch_tree.specs.Closing.{is_within_gap}
 use Rattle.branch_tree.specs.StoredTree.{AtMost, lesser_bound, least_bound}
-use Rattle.branch_tree.specs.declared.tree.Leaf.{Leaf}
 use Rattle.branch_tree.specs.declared.tree.Leaf.TheVariants as leaf
 use Rattle.branch_tree.proofs.Grown.{IsClosedLeaf}
-use Rattle.search_core.specs.Runs.{IsBestWithin, IsPrunedWithin}
+use Rattle.search_core.specs.Runs.{Leaf, Node, WHOLE_GAP, IsBestWithin, IsPrunedWithin}
 
 -- the law of tolerances
 abbrev pub NeverDecreases : Type 0

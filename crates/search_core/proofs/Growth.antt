@@ -5,15 +5,12 @@ use Rattle.dual_model.specs.Tree.{root, IsCover}
 use Rattle.branch_tree.specs.NumberedTree.{node_count}
 use Rattle.branch_tree.specs.TreeView.{TreeView, IsSizeOf, IsOpenAt, IsFreeAt, tree_of}
 use Rattle.branch_tree.specs.Places.{IsPlaced}
-use Rattle.branch_tree.specs.declared.tree.Leaf.{Leaf}
 use Rattle.branch_tree.specs.declared.tree.Leaf.TheVariants as leaf
 use Rattle.branch_tree.specs.declared.tree.Spot.TheVariants as spot
-use Rattle.branch_tree.specs.declared.found.Outcome.{Outcome}
 use Rattle.branch_tree.proofs.Changes.{cover_closed, free_split}
 use Rattle.branch_tree.proofs.Grown.{closed_placed, closed_count, closed_there, closed_elsewhere, closed_node, split_placed, split_count, split_elsewhere}
-use Rattle.search_core.specs.declared.event.Move.TheVariants.{Again, Split, Prune, Ray, Empty}
-use Rattle.search_core.specs.Machine.{Stored}
-use Rattle.search_core.specs.Moves.{Move, closed, split, tree_after, tickets_of, unit_of, IsFreeFor}
+use Rattle.search_core.specs.Machine.{Leaf, Stored}
+use Rattle.search_core.specs.Moves.{Again, Empty, Outcome, Prune, Ray, Split, Move, closed, split, tree_after, tickets_of, unit_of, IsFreeFor}
 use Rattle.search_core.proofs.Claims.{StaysElsewhere}
 
 -- the tree's nodes have places, and it is a cover of each instance of its size

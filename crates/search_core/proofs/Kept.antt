@@ -1,18 +1,13 @@
 -- The fields after a step keep what they must, where the notes do.
 use Rattle.std.proofs.Common.{◌≡◌, ℕ, refl, ap, sym, ◌∙◌, subst, Option, Some, None}
-use Rattle.dual_model.specs.declared.table.Table.{Table}
 use Rattle.branch_tree.specs.NumberedTree.{node_count}
 use Rattle.branch_tree.specs.TreeView.{TreeView}
-use Rattle.branch_tree.specs.declared.found.Outcome.{Outcome}
-use Rattle.search_core.specs.declared.event.Move.TheVariants.{Again}
-use Rattle.search_core.specs.declared.event.Event.TheVariants.{Commit}
-use Rattle.search_core.specs.declared.state.State.TheInside.{Inside}
-use Rattle.search_core.specs.Machine.{Holder, Machine, Stored, holder_of}
-use Rattle.search_core.specs.Moves.{Move, kept, tree_after}
-use Rattle.search_core.specs.Steps.{Event, IsLegal, committed_by, after}
+use Rattle.search_core.specs.Machine.{Table, Holder, Machine, Stored, holder_of}
+use Rattle.search_core.specs.Moves.{Again, Outcome, Move, kept, tree_after}
+use Rattle.search_core.specs.Steps.{Commit, Event, IsLegal, committed_by, after}
 use Rattle.search_core.specs.Orderly.{IsOrderly}
 use Rattle.search_core.specs.Notes.{AreNotesOf, AreScalesNoted}
-use Rattle.search_core.specs.Inside.{view_of, IsKept}
+use Rattle.search_core.specs.Inside.{Inside, view_of, IsKept}
 use Rattle.search_core.proofs.OrderlySteps.{orderly_after}
 
 -- ---- no step changes the size of the tree

@@ -5,15 +5,12 @@ use Rattle.dual_model.specs.Tree.{root, child, EachLeaf}
 use Rattle.dual_model.specs.declared.node.Node.{Node}
 use Rattle.branch_tree.specs.NumberedTree.{NumberedTree, EndAt, SplitAt, Subtree, unnumbered, spot_of, node_count, subtree_at, node_at, split_leaf}
 use Rattle.branch_tree.specs.TreeView.{TreeView, IsOpenAt, tree_of}
-use Rattle.branch_tree.specs.declared.tree.Leaf.{Leaf}
 use Rattle.branch_tree.specs.declared.tree.Leaf.TheVariants as leaf
 use Rattle.branch_tree.specs.declared.tree.Spot.TheVariants as spot
-use Rattle.branch_tree.specs.declared.found.Outcome.{Outcome}
 use Rattle.branch_tree.proofs.Placed.{are_apart, from_some}
 use Rattle.branch_tree.proofs.Grown.{part_there, leaf_there, each_leaf_replaced}
-use Rattle.search_core.specs.declared.event.Move.TheVariants.{Again, Split, Prune, Ray, Empty}
-use Rattle.search_core.specs.Machine.{Stored}
-use Rattle.search_core.specs.Moves.{Move, closed, tree_after, unit_of}
+use Rattle.search_core.specs.Machine.{Leaf, Stored}
+use Rattle.search_core.specs.Moves.{Again, Empty, Outcome, Prune, Ray, Split, Move, closed, tree_after, unit_of}
 use Rattle.search_core.proofs.Growth.{IsSound, closed_grows}
 
 -- the part that an open leaf is

@@ -3,10 +3,9 @@ use Rattle.std.proofs.Common.{◌≡◌, ◌≢◌, ℕ, suc, ◌<◌, ◌≤◌
 use Rattle.std.proofs.lemmas.Bool.{cases_eq, cases_lt, eq-eqb, ne_eqb}
 use Rattle.std.proofs.lemmas.List.{get_or_append_left, get_or_push, length-append}
 use Rattle.std.proofs.lemmas.List.Elements.{All-nil, All-cons, All-head, All-tail, filter-append}
-use Rattle.branch_tree.specs.declared.found.Entry.{Entry}
 use Rattle.branch_tree.proofs.Changes.{get-append, get-set_other, get-set_same}
 use Rattle.branch_tree.proofs.Weights.{same_or_not}
-use Rattle.search_core.specs.Machine.{Holder, holder_in, entries_of}
+use Rattle.search_core.specs.Machine.{Entry, Holder, holder_in, entries_of}
 use Rattle.search_core.proofs.Claims.{holder_place}
 
 -- ---- those of a node

@@ -3,24 +3,17 @@ use Rattle.std.proofs.Common.{◌≡◌, ◌≢◌, ℕ, suc, ◌-◌, ◌<◌, 
 use Rattle.std.proofs.lemmas.Bool.{cases_eq, cases_lt}
 use Rattle.std.proofs.lemmas.List.Elements.{All-nil, All-push}
 use Rattle.std.proofs.lemmas.Option.{slice_get_within, slice_get-get_or}
-use Rattle.uc_model.specs.declared.instance.Instance.{Instance}
-use Rattle.dual_model.specs.declared.node.Node.{Node}
-use Rattle.dual_model.specs.declared.table.Table.{Table}
 use Rattle.branch_tree.specs.NumberedTree.{node_count}
 use Rattle.branch_tree.specs.StoredTree.{IsNodeAt}
 use Rattle.branch_tree.specs.TreeView.{TreeView, IsOpenAt}
 use Rattle.branch_tree.specs.TrueFound.{IsTrueEntry, AreApart}
-use Rattle.branch_tree.specs.declared.found.Entry.{Entry}
-use Rattle.branch_tree.specs.declared.found.Outcome.{Outcome}
 use Rattle.branch_tree.specs.declared.tree.Leaf.TheVariants as leaf
 use Rattle.branch_tree.proofs.Changes.{get-append, get-set_same}
-use Rattle.search_core.specs.declared.event.Move.TheVariants.{Again}
-use Rattle.search_core.specs.declared.event.Event.TheVariants.{Claim, Commit, Publish}
-use Rattle.search_core.specs.Machine.{Holder, Machine, IsHolding, entries_of, stored_at, start_of}
-use Rattle.search_core.specs.Moves.{Move, HasFreeCell, MayGoOn, IsMoveLegal, kept, tree_after}
-use Rattle.search_core.specs.Steps.{Event, IsFresh, IsStoredTable, IsLegal, committed, committed_by, after}
-use Rattle.search_core.specs.Orderly.{IsOrderly}
-use Rattle.search_core.specs.OwnTables.{Owns, HasFewEntries}
+use Rattle.search_core.specs.Machine.{Entry, Table, Holder, Machine, IsHolding, entries_of, stored_at, start_of}
+use Rattle.search_core.specs.Moves.{Again, Outcome, Move, HasFreeCell, MayGoOn, IsMoveLegal, kept, tree_after}
+use Rattle.search_core.specs.Steps.{Claim, Commit, Publish, Event, IsFresh, IsStoredTable, IsLegal, committed, committed_by, after}
+use Rattle.search_core.specs.Orderly.{Instance, IsOrderly}
+use Rattle.search_core.specs.OwnTables.{Node, Owns, HasFewEntries}
 use Rattle.search_core.specs.Runs.{IsTrueEvent, IsTrueStart}
 use Rattle.search_core.proofs.Claims.{get_push_last}
 use Rattle.search_core.proofs.Holding.{holdable}

@@ -5,9 +5,8 @@ use Rattle.std.proofs.lemmas.List.Elements.{filter-append}
 use Rattle.std.proofs.lemmas.Option.{slice_get-get_or}
 use Rattle.branch_tree.specs.NumberedTree.{NumberedTree, node_count}
 use Rattle.branch_tree.specs.Places.{IsPlaced}
-use Rattle.branch_tree.specs.declared.found.Entry.{Entry}
 use Rattle.branch_tree.proofs.Grown.{open_numbered}
-use Rattle.search_core.specs.Machine.{Holder, entries_of}
+use Rattle.search_core.specs.Machine.{Entry, Holder, entries_of}
 use Rattle.search_core.specs.Notes.{Note, no_note, note_in, with_note, with_entry, entry_tables, IsNoteOf, AreNotesOf}
 use Rattle.search_core.specs.Orderly.{AreHoldersApart}
 use Rattle.search_core.proofs.Claims.{get_set_cases, held_more, held_new, held_before, unheld_ended, still_held, was_held}

@@ -4,10 +4,9 @@ use Rattle.std.proofs.lemmas.Bool.{cases_Bool}
 use Rattle.std.proofs.lemmas.Option.{slice_get-get_or}
 use Rattle.branch_tree.specs.NumberedTree.{node_count}
 use Rattle.branch_tree.proofs.Grown.{open_numbered}
-use Rattle.search_core.specs.declared.state.State.TheInside.{Inside}
 use Rattle.search_core.specs.Machine.{IsOpen, entries_of}
 use Rattle.search_core.specs.Notes.{no_note, note_in, IsNoteOf, IsFreeLeaf}
-use Rattle.search_core.specs.Inside.{view_of, IsKept}
+use Rattle.search_core.specs.Inside.{Inside, view_of, IsKept}
 use Rattle.search_core.proofs.NoteSteps.{no_entries}
 
 -- the note of a node

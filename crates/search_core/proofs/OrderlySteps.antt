@@ -2,18 +2,13 @@
 use Rattle.std.proofs.Common.{◌≡◌, ℕ, ◌+◌, ◌-◌, ◌<◌, ◌≤◌, All, List, [], ◌∷◌, ◌++◌, length, set, refl, ap, sym, ◌∙◌, subst, arith, Option, Some, None, ℤ, length-append, length-set}
 use Rattle.std.proofs.lemmas.List.Elements.{All-nil, All-cons, All-append}
 use Rattle.std.proofs.lemmas.Option.{slice_get_within}
-use Rattle.dual_model.specs.declared.table.Table.{Table}
 use Rattle.branch_tree.specs.NumberedTree.{node_count}
 use Rattle.branch_tree.specs.TreeView.{TreeView, IsOpenAt}
 use Rattle.branch_tree.specs.StoredTree.{lesser_bound}
-use Rattle.branch_tree.specs.declared.found.Entry.{Entry}
-use Rattle.branch_tree.specs.declared.found.Outcome.{Outcome}
 use Rattle.branch_tree.proofs.Grown.{open_numbered}
-use Rattle.search_core.specs.declared.event.Move.TheVariants.{Again, Split}
-use Rattle.search_core.specs.declared.event.Event.TheVariants.{Claim, Commit, Publish, Look, Push, Pop, Steal}
-use Rattle.search_core.specs.Machine.{Holder, Desk, Machine, holder_of, IsWorker, desk_in}
-use Rattle.search_core.specs.Moves.{Move, kept, tree_after, tickets_of, IsFreeFor, IsMoveLegal}
-use Rattle.search_core.specs.Steps.{Event, IsLegal, committed, committed_by, after, with_desk, with_tickets}
+use Rattle.search_core.specs.Machine.{Entry, Table, Holder, Desk, Machine, holder_of, IsWorker, desk_in}
+use Rattle.search_core.specs.Moves.{Again, Outcome, Split, Move, kept, tree_after, tickets_of, IsFreeFor, IsMoveLegal}
+use Rattle.search_core.specs.Steps.{Claim, Commit, Look, Pop, Publish, Push, Steal, Event, IsLegal, committed, committed_by, after, with_desk, with_tickets}
 use Rattle.search_core.specs.Orderly.{IsOrderly, AreHoldersApart, IsEachTicketOnce, held_count, times_at}
 use Rattle.search_core.proofs.Claims.{holder_place, held_push, held_ended, holders_push, holders_ended}
 use Rattle.search_core.proofs.Tickets.{times_kept, tickets_queued, tickets_taken, tickets_more, tickets_same}

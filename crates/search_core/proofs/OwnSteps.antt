@@ -4,21 +4,15 @@ use Rattle.std.proofs.lemmas.List.{get_or_append_left, get_or_push}
 use Rattle.std.proofs.lemmas.List.Elements.{All-filter}
 use Rattle.std.proofs.lemmas.Option.{get_or_from_slice_get}
 use Rattle.dual_model.specs.Tree.{root, child}
-use Rattle.dual_model.specs.declared.node.Node.{Node}
-use Rattle.dual_model.specs.declared.table.Table.{Table}
 use Rattle.branch_tree.specs.Claims.{no_table, table_at}
 use Rattle.branch_tree.specs.NumberedTree.{EndAt, node_count, split_leaf}
 use Rattle.branch_tree.specs.TreeView.{TreeView, IsOpenAt}
-use Rattle.branch_tree.specs.declared.found.Entry.{Entry}
-use Rattle.branch_tree.specs.declared.found.Outcome.{Outcome}
-use Rattle.branch_tree.specs.declared.tree.Leaf.{Leaf}
 use Rattle.branch_tree.specs.declared.tree.Leaf.TheVariants as leaf
 use Rattle.branch_tree.proofs.Grown.{closed_count, open_numbered}
 use Rattle.branch_tree.proofs.Placed.{are_apart}
-use Rattle.search_core.specs.declared.event.Move.TheVariants.{Again, Split, Prune, Ray, Empty}
-use Rattle.search_core.specs.Machine.{Machine, Stored, entries_of, stored_at, spot_stored}
-use Rattle.search_core.specs.Moves.{Move, HasFreeCell, kept, kept_after, closed, split, tree_after, unit_of}
-use Rattle.search_core.specs.OwnTables.{HasFreeCellAt, StartsAt, HoldsStored, OwnsBelow, Owns, stored_after, stored_by}
+use Rattle.search_core.specs.Machine.{Entry, Leaf, Table, Machine, Stored, entries_of, stored_at, spot_stored}
+use Rattle.search_core.specs.Moves.{Again, Empty, Outcome, Prune, Ray, Split, Move, HasFreeCell, kept, kept_after, closed, split, tree_after, unit_of}
+use Rattle.search_core.specs.OwnTables.{Node, HasFreeCellAt, StartsAt, HoldsStored, OwnsBelow, Owns, stored_after, stored_by}
 use Rattle.search_core.specs.Orderly.{IsOrderly}
 use Rattle.search_core.specs.Steps.{IsStoredTable}
 use Rattle.search_core.proofs.Growth.{IsSound, closed_grows, open_again}

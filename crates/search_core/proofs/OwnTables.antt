@@ -1,16 +1,12 @@
 -- What each node stores by its own entries, after an entry more and the move of its claim.
 use Rattle.std.proofs.Common.{◌≡◌, ◌≢◌, ℕ, ◌<◌, true, false, cond, List, length, ap, sym, ◌∙◌, subst, arith, ⊎_elim, Some, eq-eqb}
 use Rattle.dual_model.specs.Tree.{child}
-use Rattle.dual_model.specs.declared.node.Node.{Node}
-use Rattle.dual_model.specs.declared.table.Table.{Table}
 use Rattle.branch_tree.specs.NumberedTree.{NumberedTree, EndAt, SplitAt, Subtree, spot_of, times, subtree_below, replaced}
-use Rattle.branch_tree.specs.declared.found.Entry.{Entry}
-use Rattle.branch_tree.specs.declared.tree.Leaf.{Leaf}
 use Rattle.branch_tree.specs.declared.tree.Spot.TheVariants as spot
 use Rattle.branch_tree.proofs.Weights.{one_if, replaced_nowhere}
 use Rattle.branch_tree.proofs.Subtrees.{AreApart, IsOff, IsOn, apart_off, apart_on, leaf_at, leaf_sides, not_root, part_counted}
-use Rattle.search_core.specs.Machine.{Stored, entries_of}
-use Rattle.search_core.specs.OwnTables.{HasFreeCellAt, StartsAt, HoldsStored, OwnsBelow, stored_after}
+use Rattle.search_core.specs.Machine.{Entry, Leaf, Table, Stored, entries_of}
+use Rattle.search_core.specs.OwnTables.{Node, HasFreeCellAt, StartsAt, HoldsStored, OwnsBelow, stored_after}
 
 -- ---- other lists of tables and entries
 -- but for one node, the entries are those of before, and leave the same

@@ -5,18 +5,14 @@ use Rattle.dual_model.specs.Tree.{root, child}
 use Rattle.dual_model.specs.declared.node.Node.{Node}
 use Rattle.branch_tree.specs.NumberedTree.{NumberedTree, EndAt, SplitAt, Subtree, number_of, spot_of, node_count, subtree_below, subtree_at, spot_at, node_at, replaced, split_leaf}
 use Rattle.branch_tree.specs.TreeView.{TreeView, IsOpenAt}
-use Rattle.branch_tree.specs.declared.tree.Leaf.{Leaf}
 use Rattle.branch_tree.specs.declared.tree.Leaf.TheVariants as leaf
-use Rattle.branch_tree.specs.declared.tree.Spot.{Spot}
 use Rattle.branch_tree.specs.declared.tree.Spot.TheVariants as spot
-use Rattle.branch_tree.specs.declared.found.Outcome.{Outcome}
 use Rattle.branch_tree.proofs.Weights.{number_of-replaced}
 use Rattle.branch_tree.proofs.Subtrees.{AreApart, IsHere, apart_off, apart_on, at_root, subtree_cases, leaf_case, off_part, on_part}
 use Rattle.branch_tree.proofs.Placed.{are_apart, place_part, from_some}
 use Rattle.branch_tree.proofs.Grown.{part_there, closed_there, closed_elsewhere, split_elsewhere}
-use Rattle.search_core.specs.declared.event.Move.TheVariants.{Again, Split, Prune, Ray, Empty}
-use Rattle.search_core.specs.Machine.{Stored}
-use Rattle.search_core.specs.Moves.{Move, HasFreeCell, IsFreeFor, closed, split, tree_after, unit_of}
+use Rattle.search_core.specs.Machine.{Leaf, Spot, Stored}
+use Rattle.search_core.specs.Moves.{Again, Empty, Outcome, Prune, Ray, Split, Move, HasFreeCell, IsFreeFor, closed, split, tree_after, unit_of}
 use Rattle.search_core.proofs.Growth.{IsSound, closed_grows, open_again, tree_grows}
 use Rattle.search_core.proofs.Leaves.{leaf_part}
 

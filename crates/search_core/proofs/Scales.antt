@@ -5,9 +5,8 @@ use Rattle.std.proofs.lemmas.Bool.{cases_lt}
 use Rattle.std.proofs.lemmas.Int.{ints, int_max_is}
 use Rattle.std.proofs.lemmas.List.{set-set, get_or-set_same, get_or_past}
 use Rattle.std.proofs.lemmas.List.Elements.{All-nil, All-cons, All-append, All-replicate, All-set, All-get_or}
-use Rattle.dual_model.specs.declared.table.Table.{Table}
 use Rattle.branch_tree.proofs.Changes.{get-append}
-use Rattle.search_core.specs.Notes.{Note, no_note, note_in, with_note, with_entry, IsScaleAtMost, AreScalesAtMost, AreScalesNoted}
+use Rattle.search_core.specs.Notes.{Table, Note, no_note, note_in, with_note, with_entry, IsScaleAtMost, AreScalesAtMost, AreScalesNoted}
 use Rattle.search_core.proofs.Claims.{get_push_last}
 use Rattle.search_core.proofs.Entries.{IsNoneOf}
 

@@ -4,16 +4,12 @@ use Rattle.std.proofs.lemmas.List.Elements.{All-nil}
 use Rattle.std.proofs.lemmas.List.Folds.{sum_by-replicate}
 use Rattle.std.proofs.lemmas.List.Sums.{sum_by-cons}
 use Rattle.std.proofs.lemmas.Bool.Decides.{nat_tests}
-use Rattle.uc_model.specs.declared.tolerance.TheConstants.{WHOLE_GAP}
-use Rattle.dual_model.specs.declared.table.Table.{Table}
-use Rattle.branch_tree.specs.declared.found.Entry.{Entry}
 use Rattle.branch_tree.specs.declared.tree.Leaf.TheVariants as leaf
 use Rattle.branch_tree.proofs.Grown.{root_placed}
 use Rattle.branch_tree.proofs.Weights.{one_if}
-use Rattle.search_core.specs.declared.limits.TheConstants.{MAX_BUDGET}
-use Rattle.search_core.specs.Machine.{Holder, Desk, IsHeldIn, no_desk, first_desk, start_of}
+use Rattle.search_core.specs.Machine.{Entry, Table, Holder, Desk, IsHeldIn, no_desk, first_desk, start_of}
 use Rattle.search_core.specs.Notes.{Note, no_note, AreNotesOf, IsNoteOf}
-use Rattle.search_core.specs.Orderly.{IsOrderly, IsEachTicketOnce, times_at}
+use Rattle.search_core.specs.Orderly.{MAX_BUDGET, WHOLE_GAP, IsOrderly, IsEachTicketOnce, times_at}
 
 first_tickets : (workers : ℕ) → IsEachTicketOnce (first_desk ∷ replicate workers no_desk) 1
 first_tickets workers node =

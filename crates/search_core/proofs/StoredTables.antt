@@ -4,13 +4,10 @@ use Rattle.std.proofs.lemmas.Bool.{cases_Bool}
 use Rattle.std.proofs.lemmas.List.{get_or_append_left}
 use Rattle.std.proofs.lemmas.List.Elements.{All-head, All-tail}
 use Rattle.std.proofs.lemmas.List.Sums.{fold-append}
-use Rattle.dual_model.specs.declared.table.Table.{Table}
 use Rattle.branch_tree.specs.Claims.{no_table, table_at}
-use Rattle.branch_tree.specs.declared.found.Entry.{Entry}
-use Rattle.branch_tree.specs.declared.found.Outcome.{Outcome}
 use Rattle.branch_tree.specs.declared.found.Outcome.TheVariants as outcome
-use Rattle.search_core.specs.Machine.{Stored}
-use Rattle.search_core.specs.Moves.{bound_of, kept_after}
+use Rattle.search_core.specs.Machine.{Entry, Table, Stored}
+use Rattle.search_core.specs.Moves.{Outcome, bound_of, kept_after}
 use Rattle.search_core.specs.OwnTables.{stored_after, stored_by, StartsAt}
 
 -- the entry's table is one of the first n

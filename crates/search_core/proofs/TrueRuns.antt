@@ -5,27 +5,22 @@ use Rattle.std.proofs.lemmas.List.Elements.{All-nil, All-cons}
 use Rattle.std.proofs.lemmas.Option.{get_or_from_slice_get, slice_get_within}
 use Rattle.uc_model.specs.Limits.{IsLawfulInstance}
 use Rattle.uc_model.specs.Schedule.{thermal_count}
-use Rattle.uc_model.specs.declared.instance.Instance.{Instance}
 use Rattle.uc_model.proofs.Ring.{linear}
 use Rattle.dual_model.specs.Cover.{AllExcluded}
 use Rattle.dual_model.specs.Laws.{HasLawfulTable, IsLawfulAt}
 use Rattle.dual_model.specs.Prices.{IsLawfulTable}
 use Rattle.dual_model.specs.Tree.{Ends, Splits, root, child, map_leaves, EachLeaf}
 use Rattle.dual_model.specs.Tree as branch
-use Rattle.dual_model.specs.declared.node.Node.{Node}
-use Rattle.dual_model.specs.declared.table.Table.{Table}
 use Rattle.branch_tree.specs.StoredTree.{AtMost, least_bound, tree_bound}
 use Rattle.branch_tree.specs.TreeLaws.{own_claim, claims_of}
 use Rattle.branch_tree.specs.TreeView.{IsOpenAt, tree_of}
-use Rattle.branch_tree.specs.declared.tree.Leaf.{Leaf}
 use Rattle.branch_tree.specs.declared.tree.Leaf.TheVariants as leaf
 use Rattle.branch_tree.proofs.Bounds.{at_most_itself, lesser_first}
 use Rattle.branch_tree.proofs.Grown.{all_closed}
 use Rattle.branch_tree.proofs.TreeLaws.{stored_bounds_hold, excluded_below}
-use Rattle.search_core.specs.declared.event.Event.TheVariants.{Claim, Commit, Publish}
-use Rattle.search_core.specs.Machine.{Holder, Desk, Machine, no_desk, first_desk, holder_of}
-use Rattle.search_core.specs.Steps.{Event, IsLegal, committed_by, after}
-use Rattle.search_core.specs.Runs.{IsTrueEvent, IsTrueStart, IsTrueRun, IsBestWithin, IsSettled, HoldsAt, HoldsAlong, RunsHold, StartsAreReached, StepsReach, ReachedStatesHold, after_all}
+use Rattle.search_core.specs.Machine.{Leaf, Table, Holder, Desk, Machine, no_desk, first_desk, holder_of}
+use Rattle.search_core.specs.Steps.{Claim, Commit, Publish, Event, IsLegal, committed_by, after}
+use Rattle.search_core.specs.Runs.{Instance, Node, IsTrueEvent, IsTrueStart, IsTrueRun, IsBestWithin, IsSettled, HoldsAt, HoldsAlong, RunsHold, StartsAreReached, StepsReach, ReachedStatesHold, after_all}
 use Rattle.search_core.proofs.Gaps.{NeverDecreases, closed_within}
 use Rattle.search_core.proofs.Logs.{HasTrueLog, start_logged, logged_after}
 use Rattle.search_core.proofs.Started.{orderly_start}

@@ -5,27 +5,21 @@ use Rattle.std.proofs.lemmas.Bool.{cases_eq}
 use Rattle.std.proofs.lemmas.Int.{ints, int_min_is}
 use Rattle.std.proofs.lemmas.List.Elements.{All-nil, All-cons, All-append}
 use Rattle.uc_model.specs.Limits.{IsLawfulInstance}
-use Rattle.uc_model.specs.declared.instance.Instance.{Instance}
 use Rattle.dual_model.specs.Prices.{IsLawfulTable}
 use Rattle.dual_model.specs.Tree.{root, EachLeaf}
 use Rattle.dual_model.specs.Cover.{IsBoundedBy}
-use Rattle.dual_model.specs.declared.node.Node.{Node}
-use Rattle.dual_model.specs.declared.table.Table.{Table}
 use Rattle.branch_tree.specs.StoredTree.{AtMost, lesser_bound}
 use Rattle.branch_tree.specs.TreeLaws.{StoredHolds}
 use Rattle.branch_tree.specs.TreeView.{IsSizeOf, IsOpenAt, tree_of}
 use Rattle.branch_tree.specs.declared.tree.Leaf.TheVariants as leaf
-use Rattle.branch_tree.specs.declared.found.Outcome.{Outcome}
 use Rattle.branch_tree.specs.declared.found.Outcome.TheVariants as outcome
 use Rattle.branch_tree.proofs.Bounds.{at_most_itself, at_most_through, lesser_first, lesser_second, lesser_greatest}
 use Rattle.branch_tree.proofs.Grown.{each_leaf_map}
-use Rattle.search_core.specs.declared.event.Move.TheVariants.{Again, Split, Prune, Ray, Empty}
-use Rattle.search_core.specs.declared.event.Event.TheVariants.{Claim, Commit, Publish, Look, Push, Pop, Steal}
-use Rattle.search_core.specs.Machine.{Desk, Machine, Stored, IsWorker, IsHolding, no_desk, desk_in, stored_at, spot_stored}
-use Rattle.search_core.specs.Moves.{Move, kept, tickets_of, IsMoveLegal}
-use Rattle.search_core.specs.Steps.{Event, IsLegal, committed, committed_by, after, with_desk, with_tickets, with_queued, without_first, first_queued, taken}
-use Rattle.search_core.specs.Orderly.{IsOrderly}
-use Rattle.search_core.specs.Runs.{IsTrueOutcome, IsTrueCost, IsTrueEvent, IsPrunedWithin}
+use Rattle.search_core.specs.Machine.{Table, Desk, Machine, Stored, IsWorker, IsHolding, no_desk, desk_in, stored_at, spot_stored}
+use Rattle.search_core.specs.Moves.{Again, Empty, Outcome, Prune, Ray, Split, Move, kept, tickets_of, IsMoveLegal}
+use Rattle.search_core.specs.Steps.{Claim, Commit, Look, Pop, Publish, Push, Steal, Event, IsLegal, committed, committed_by, after, with_desk, with_tickets, with_queued, without_first, first_queued, taken}
+use Rattle.search_core.specs.Orderly.{Instance, IsOrderly}
+use Rattle.search_core.specs.Runs.{Node, IsTrueOutcome, IsTrueCost, IsTrueEvent, IsPrunedWithin}
 use Rattle.search_core.proofs.Holding.{holdable}
 use Rattle.search_core.proofs.Kept.{as_large_after}
 use Rattle.search_core.proofs.Leaves.{HoldsOfNew, leaf_part, part_node, holds_of_leaf, after_holds}

@@ -2,7 +2,6 @@
 use Rattle.std.proofs.Common.{◌≡◌, ℕ, ◌⊎◌, Bool, true, false, cond, List, [], ◌∷◌, ◌++◌, length, sym, subst, arith, inl, inr, ⊎_elim, ℤ, pos, ◌≤ℤ◌, ◌<ℤ◌, int_lt, ◌&&◌}
 use Rattle.std.proofs.lemmas.Bool.{and_parts, cases_Bool}
 use Rattle.uc_model.specs.Limits.{IsLawfulInstance}
-use Rattle.uc_model.specs.declared.instance.Instance.{Instance}
 use Rattle.uc_model.proofs.Quotients.{IsFloor-greatest, IsFloor-int_div_euclid}
 use Rattle.uc_model.proofs.Ring.{linear}
 use Rattle.uc_model.proofs.Tests.{int_lt-true}
@@ -10,18 +9,14 @@ use Rattle.dual_model.specs.Fixings.{HasEmptyUnit}
 use Rattle.dual_model.specs.NodeValue.{IsNodeValue}
 use Rattle.dual_model.specs.Tree.{child}
 use Rattle.dual_model.specs.Cover.{HasBoundOf, IsBoundedBy, IsExcludedByRay}
-use Rattle.dual_model.specs.declared.node.Node.{Node}
-use Rattle.dual_model.specs.declared.table.Table.{Table}
 use Rattle.dual_model.proofs.NodeValues.{child_bound, parent_agrees}
 use Rattle.branch_tree.specs.TreeLaws.{StoredHolds}
-use Rattle.branch_tree.specs.declared.tree.Leaf.{Leaf}
 use Rattle.branch_tree.specs.declared.tree.Leaf.TheVariants as leaf
-use Rattle.branch_tree.specs.declared.found.Outcome.{Outcome}
 use Rattle.branch_tree.specs.declared.found.Outcome.TheVariants as outcome
 use Rattle.branch_tree.proofs.Changes.{get-append}
-use Rattle.search_core.specs.Machine.{Stored}
-use Rattle.search_core.specs.Moves.{bound_of, kept_after, IsPositive}
-use Rattle.search_core.specs.Runs.{IsTrueOutcome}
+use Rattle.search_core.specs.Machine.{Leaf, Table, Stored}
+use Rattle.search_core.specs.Moves.{Outcome, bound_of, kept_after, IsPositive}
+use Rattle.search_core.specs.Runs.{Instance, Node, IsTrueOutcome}
 use Rattle.search_core.proofs.Claims.{get_push_last}
 
 -- ---- with one table more

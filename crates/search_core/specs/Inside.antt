@@ -4,7 +4,7 @@ use Rattle.branch_tree.specs.NumberedTree.{node_count}
 use Rattle.search_core.specs.Machine.{Machine}
 use Rattle.search_core.specs.Orderly.{IsOrderly}
 use Rattle.search_core.specs.Notes.{AreNotesOf, AreScalesNoted}
-use Rattle.search_core.specs.declared.state.State.TheInside.{Inside}
+pub use Rattle.search_core.specs.declared.state.State.TheInside.{Inside}
 
 abbrev pub view_of : Inside → Machine
 view_of a = record {

@@ -1,14 +1,14 @@
 -- The state of the search machine: branch and bound by several workers on one tree, with a log of its evaluations. This
 -- project's own form. Workers, nodes, tables and claims count from 0; a claim's number, its unit, from 1.
 use Rattle.std.specs.Prelude.{◌≡◌, ℕ, ◌+◌, ◌-◌, ◌*◌, ◌<◌, ◌==◌, List, [], ◌∷◌, ℤ, pos, Option, Some, None, filter, length, replicate, slice_get, slice_index_or}
-use Rattle.dual_model.specs.declared.table.Table.{Table}
+pub use Rattle.dual_model.specs.declared.table.Table.{Table}
 use Rattle.branch_tree.specs.NumberedTree.{EndAt, spot_at}
 use Rattle.branch_tree.specs.TreeView.{TreeView, IsOpenAt}
-use Rattle.branch_tree.specs.declared.tree.Leaf.{Leaf}
+pub use Rattle.branch_tree.specs.declared.tree.Leaf.{Leaf}
 use Rattle.branch_tree.specs.declared.tree.Leaf.TheVariants as leaf
-use Rattle.branch_tree.specs.declared.tree.Spot.{Spot}
+pub use Rattle.branch_tree.specs.declared.tree.Spot.{Spot}
 use Rattle.branch_tree.specs.declared.tree.Spot.TheVariants as spot
-use Rattle.branch_tree.specs.declared.found.Entry.{Entry}
+pub use Rattle.branch_tree.specs.declared.found.Entry.{Entry}
 pub use Rattle.search_core.specs.declared.desk.Desk.{Desk}
 pub use Rattle.search_core.specs.declared.holder.Holder.{Holder}
 pub use Rattle.search_core.specs.declared.stored.Stored.{Stored}

@@ -1,15 +1,13 @@
 -- By what a proof tells two states apart: each stands as the tuple of its parts.
 use Rattle.std.specs.Prelude.{ℕ, List, ℤ, Option, refl}
 use Rattle.std.specs.Coded.{Coded, code_by, coded_ℕ, coded_ℤ, coded_list, coded_option, coded×}
-use Rattle.dual_model.specs.declared.table.Table.{Table}
 use Rattle.dual_model.specs.contracts.table.Table as table
 use Rattle.branch_tree.specs.TreeView.{TreeView}
 use Rattle.branch_tree.specs.TreeCode.{tree_view_code}
-use Rattle.branch_tree.specs.declared.found.Entry.{Entry}
 use Rattle.branch_tree.specs.contracts.found.Entry as entry
 use Rattle.search_core.specs.contracts.desk.Desk as desk
 use Rattle.search_core.specs.contracts.holder.Holder as holder
-use Rattle.search_core.specs.Machine.{Holder, Desk, Machine}
+use Rattle.search_core.specs.Machine.{Entry, Table, Holder, Desk, Machine}
 
 abbrev pub MachineParts : Type 0
 MachineParts = ℕ × (ℕ × (TreeView × (List Table × (List (Option Holder) × (List Entry × (Option ℤ × List Desk))))))

@@ -2,17 +2,15 @@
 -- its effect. This project's own form of branch and bound.
 use Rattle.std.specs.Prelude.{◌≡◌, ℕ, suc, ◌<◌, ◌⊎◌, ◌&&◌, IsTrue, List, [], ◌∷◌, ℤ, pos, int_lt, ◌<ℤ◌, Some, length, if◌then◌else◌}
 use Rattle.std.specs.Int.{int_div_euclid}
-use Rattle.dual_model.specs.declared.table.Table.{Table}
 use Rattle.branch_tree.specs.NumberedTree.{EndAt, node_count, replaced, split_leaf}
 use Rattle.branch_tree.specs.TreeView.{TreeView, IsFreeAt}
 use Rattle.branch_tree.specs.Closing.{is_within_gap}
-use Rattle.branch_tree.specs.declared.found.Outcome.{Outcome}
+pub use Rattle.branch_tree.specs.declared.found.Outcome.{Outcome}
 use Rattle.branch_tree.specs.declared.found.Outcome.TheVariants as outcome
-use Rattle.branch_tree.specs.declared.tree.Leaf.{Leaf}
 use Rattle.branch_tree.specs.declared.tree.Leaf.TheVariants as leaf
 pub use Rattle.search_core.specs.declared.event.Move.{Move}
-use Rattle.search_core.specs.declared.event.Move.TheVariants.{Again, Split, Prune, Ray, Empty}
-use Rattle.search_core.specs.Machine.{Machine, Stored, desk_of, entries_of, stored_at}
+pub use Rattle.search_core.specs.declared.event.Move.TheVariants.{Again, Split, Prune, Ray, Empty}
+use Rattle.search_core.specs.Machine.{Leaf, Table, Machine, Stored, desk_of, entries_of, stored_at}
 
 -- ---- what a node stores after an evaluation
 -- floor(V/K), in micro-dollars, where K > 0

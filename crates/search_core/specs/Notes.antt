@@ -1,14 +1,12 @@
 -- What is kept of each node beside the state. This project's own form.
 use Rattle.std.specs.Prelude.{◌≡◌, ℕ, ℤ, pos, ◌≤ℤ◌, All, false, List, [], ◌∷◌, ◌++◌, Option, Some, IsTrue, length, map, slice_get, slice_set, slice_index_or}
 use Rattle.std.specs.Int.{int_max}
-use Rattle.dual_model.specs.declared.table.Table.{Table}
+pub use Rattle.dual_model.specs.declared.table.Table.{Table}
 use Rattle.branch_tree.specs.TreeView.{TreeView, IsOpenAt}
 use Rattle.branch_tree.specs.declared.tree.Leaf.TheVariants as leaf
-use Rattle.branch_tree.specs.declared.tree.Spot.{Spot}
 use Rattle.branch_tree.specs.declared.tree.Spot.TheVariants as spot
-use Rattle.branch_tree.specs.declared.found.Entry.{Entry}
 pub use Rattle.search_core.specs.declared.notes.Note.{Note}
-use Rattle.search_core.specs.Machine.{Holder, IsHeldIn, entries_of}
+use Rattle.search_core.specs.Machine.{Entry, Spot, Holder, IsHeldIn, entries_of}
 
 abbrev pub no_note : Note
 no_note = record { held = false; tables = []; greatest = pos 0 }

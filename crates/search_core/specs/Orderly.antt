@@ -1,13 +1,13 @@
 -- What every state of the machine keeps, whatever the instance: who holds what, where the tickets are, and how much there is
 -- of each. This project's own form.
 use Rattle.std.specs.Prelude.{◌≡◌, ℕ, suc, ◌+◌, ◌*◌, ◌<◌, ◌≤◌, ◌==◌, nat_lt, All, List, Option, Some, is_some, sum_by, count_by, length, slice_get, if◌then◌else◌}
-use Rattle.uc_model.specs.declared.instance.Instance.{Instance}
-use Rattle.uc_model.specs.declared.tolerance.TheConstants.{WHOLE_GAP}
+pub use Rattle.uc_model.specs.declared.instance.Instance.{Instance}
+pub use Rattle.uc_model.specs.declared.tolerance.TheConstants.{WHOLE_GAP}
 use Rattle.dual_model.specs.Tree.{IsCover}
 use Rattle.branch_tree.specs.NumberedTree.{NumberedTree, node_count}
 use Rattle.branch_tree.specs.TreeView.{IsSizeOf, IsOpenAt, tree_of}
 use Rattle.branch_tree.specs.Places.{IsPlaced}
-use Rattle.search_core.specs.declared.limits.TheConstants.{MAX_BUDGET}
+pub use Rattle.search_core.specs.declared.limits.TheConstants.{MAX_BUDGET}
 use Rattle.search_core.specs.Machine.{Holder, Desk, Machine, room_for}
 
 -- how often the ticket of the node is in a hand or a queue

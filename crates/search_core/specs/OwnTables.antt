@@ -1,15 +1,12 @@
 -- What a node stores by its own entries. Source: this project's own form.
 use Rattle.std.specs.Prelude.{◌≡◌, ◌≢◌, ℕ, ◌<◌, ◌≤◌, false, true, not, IsTrue, List, [], ◌∷◌, fold, length}
 use Rattle.dual_model.specs.Tree.{root, child, is_decided}
-use Rattle.dual_model.specs.declared.node.Node.{Node}
-use Rattle.dual_model.specs.declared.table.Table.{Table}
+pub use Rattle.dual_model.specs.declared.node.Node.{Node}
 use Rattle.branch_tree.specs.Claims.{table_at}
 use Rattle.branch_tree.specs.NumberedTree.{NumberedTree, EndAt, SplitAt}
 use Rattle.branch_tree.specs.TreeView.{TreeView}
-use Rattle.branch_tree.specs.declared.found.Entry.{Entry}
-use Rattle.branch_tree.specs.declared.tree.Leaf.{Leaf}
 use Rattle.branch_tree.specs.declared.tree.Leaf.TheVariants as leaf
-use Rattle.search_core.specs.Machine.{Stored, entries_of}
+use Rattle.search_core.specs.Machine.{Entry, Leaf, Table, Stored, entries_of}
 use Rattle.search_core.specs.Moves.{kept_after, HasFreeCell}
 
 -- a cell of a tree of this size is undecided at the node

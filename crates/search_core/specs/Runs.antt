@@ -4,31 +4,27 @@
 use Rattle.std.specs.Prelude.{◌≡◌, ℕ, ◌≤◌, ◌⊎◌, IsTrue, All, IfSome, List, [], ◌∷◌, ℤ, pos, ◌<ℤ◌, Option, Some, None, slice_get}
 use Rattle.uc_model.specs.Limits.{IsLawfulInstance}
 use Rattle.uc_model.specs.Schedule.{thermal_count}
-use Rattle.uc_model.specs.declared.tolerance.TheConstants.{WHOLE_GAP}
-use Rattle.uc_model.specs.declared.instance.Instance.{Instance}
+pub use Rattle.uc_model.specs.declared.tolerance.TheConstants.{WHOLE_GAP}
+pub use Rattle.uc_model.specs.declared.instance.Instance.{Instance}
 use Rattle.uc_model.specs.declared.schedule.Printed.{Printed}
 use Rattle.dual_model.specs.Certificate.{ScheduleHolds}
 use Rattle.dual_model.specs.Cover.{IsTableBound, AllExcluded}
 use Rattle.dual_model.specs.Laws.{IsClaimTrue}
 use Rattle.dual_model.specs.Prices.{IsLawfulTable}
 use Rattle.dual_model.specs.Tree.{root, IsCover, EachLeaf}
-use Rattle.dual_model.specs.declared.node.Node.{Node}
-use Rattle.dual_model.specs.declared.table.Table.{Table}
+pub use Rattle.dual_model.specs.declared.node.Node.{Node}
 use Rattle.branch_tree.specs.Closing.{is_within_gap}
 use Rattle.branch_tree.specs.NumberedTree.{node_count}
 use Rattle.branch_tree.specs.TrueFound.{IsOutcome, IsTrueLog}
 use Rattle.branch_tree.specs.StoredTree.{AtMost, IsNodeAt, tree_bound}
 use Rattle.branch_tree.specs.TreeLaws.{StoredHolds, claims_of}
 use Rattle.branch_tree.specs.TreeView.{tree_of}
-use Rattle.branch_tree.specs.declared.found.Outcome.{Outcome}
-use Rattle.branch_tree.specs.declared.tree.Leaf.{Leaf}
+pub use Rattle.branch_tree.specs.declared.tree.Leaf.{Leaf}
 use Rattle.branch_tree.specs.declared.tree.Leaf.TheVariants as leaf
-use Rattle.search_core.specs.declared.limits.TheConstants.{MAX_BUDGET}
-use Rattle.search_core.specs.declared.event.Event.TheVariants.{Claim, Commit, Publish, Look, Push, Pop, Steal}
-use Rattle.search_core.specs.Machine.{Machine, IsHolding, IsHeld, IsOpen, start_of, stored_at}
-use Rattle.search_core.specs.Orderly.{IsEachTicketOnce}
+use Rattle.search_core.specs.Machine.{Table, Machine, IsHolding, IsHeld, IsOpen, start_of, stored_at}
+use Rattle.search_core.specs.Orderly.{MAX_BUDGET, IsEachTicketOnce}
 use Rattle.search_core.specs.OwnTables.{Owns, HasFewEntries}
-use Rattle.search_core.specs.Steps.{Event, IsLegal, after}
+use Rattle.search_core.specs.Steps.{Claim, Commit, Look, Outcome, Pop, Publish, Push, Steal, Event, IsLegal, after}
 
 -- ---- true events
 -- the outcome is true of the node and the table: all that the machine asks of a value

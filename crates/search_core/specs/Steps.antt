@@ -2,13 +2,11 @@
 -- several workers; one event is one atomic step of one worker.
 use Rattle.std.specs.Prelude.{◌≡◌, ◌≢◌, ℕ, ◌-◌, ◌<◌, ◌==◌, not, Bool, IsTrue, All, List, [], ◌∷◌, ◌++◌, Option, Some, None, filter, length, slice_get, slice_set, slice_index_or, drop}
 use Rattle.std.specs.List.{list_any}
-use Rattle.dual_model.specs.declared.table.Table.{Table}
 use Rattle.branch_tree.specs.StoredTree.{lesser_bound}
-use Rattle.branch_tree.specs.declared.found.Entry.{Entry}
-use Rattle.branch_tree.specs.declared.found.Outcome.{Outcome}
+pub use Rattle.branch_tree.specs.declared.found.Outcome.{Outcome}
 pub use Rattle.search_core.specs.declared.event.Event.{Event}
-use Rattle.search_core.specs.declared.event.Event.TheVariants.{Claim, Commit, Publish, Look, Push, Pop, Steal}
-use Rattle.search_core.specs.Machine.{Holder, Desk, Machine, IsWorker, desk_in, desk_of, holder_of, IsHolding, IsOpen, entries_of, stored_at}
+pub use Rattle.search_core.specs.declared.event.Event.TheVariants.{Claim, Commit, Publish, Look, Push, Pop, Steal}
+use Rattle.search_core.specs.Machine.{Entry, Table, Holder, Desk, Machine, IsWorker, desk_in, desk_of, holder_of, IsHolding, IsOpen, entries_of, stored_at}
 use Rattle.search_core.specs.Moves.{Move, kept, tree_after, tickets_of, HasFreeCell, IsMoveLegal}
 
 -- ---- where an event is legal

@@ -4,7 +4,7 @@
 use Rattle.std.specs.Prelude.{◌≡◌, ℕ, ◌<◌, IsTrue, ℤ, ◌≤ℤ◌, ◌<ℤ◌}
 use Rattle.uc_model.specs.Commitment.{Commitment}
 use Rattle.uc_model.specs.StartCategory.{category_cost, is_category_allowed}
-use Rattle.uc_model.specs.declared.instance.Thermal.{Thermal}
+pub use Rattle.uc_model.specs.declared.instance.Thermal.{Thermal}
 
 -- a category, from 1, with its cost: the cheapest one above n that a start in period t may use, and of several
 -- that cost the same the first

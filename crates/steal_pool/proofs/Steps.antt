@@ -8,8 +8,7 @@ use mathlib.Core.Option.{some, some-injective, some-ne-none}
 use Rattle.crossbeam_deque.specs.Tasks.{Pushes, Takes, Admits}
 use Rattle.crossbeam_deque.proofs.Lists.{at_set, at_snoc}
 use lib.ListN.{get_elem?}
-use Rattle.steal_pool.specs.Line.{Log, log, take_of, times_taken, once_below, IsLogOf, IsInLine, InLine, IsNext, puts, takes}
-use Rattle.steal_pool.specs.declared.rule.Take.{Take}
+use Rattle.steal_pool.specs.Line.{Take, Log, log, take_of, times_taken, once_below, IsLogOf, IsInLine, InLine, IsNext, puts, takes}
 
 module _ {A : Type 0} where
   -- what stands in a list stands there in a longer one

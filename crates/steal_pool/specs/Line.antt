@@ -3,7 +3,7 @@
 use Rattle.std.specs.Prelude.{◌≡◌, ℕ, ◌<◌, ◌==◌, nat_lt, Bool, true, if◌then◌else◌, List, [], ◌∷◌, ◌++◌, length, sum_by, count_by, slice_get, Some, All}
 use mathlib.Core.Option.{some}
 use lib.ListN.{get_elem?}
-use Rattle.steal_pool.specs.declared.rule.Take.{Take}
+pub use Rattle.steal_pool.specs.declared.rule.Take.{Take}
 pub use Rattle.steal_pool.specs.declared.rule.Log.{Log}
 
 abbrev pub log : Bool → List ℕ → List Take → Log

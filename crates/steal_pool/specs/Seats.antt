@@ -1,7 +1,6 @@
 -- What contracts see of a seat of the pool. This project's own form.
 use Rattle.std.specs.Prelude.{◌≡◌, ℕ, ◌+◌, ◌-◌, ◌<◌, ◌⊎◌, nat_lt, true, false, if◌then◌else◌, List, [], ◌∷◌, ◌++◌, map, length, slice_index_or, slice_set, remove}
-use Rattle.steal_pool.specs.declared.rule.Take.{Take}
-use Rattle.steal_pool.specs.Line.{Log, log, take_of, WasEmpty, IsNext}
+use Rattle.steal_pool.specs.Line.{Take, Log, log, take_of, WasEmpty, IsNext}
 
 -- which deque it is
 abbrev pub DequeId : Type 0

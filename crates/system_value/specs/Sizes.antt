@@ -1,7 +1,7 @@
 -- How large the parts of a node's value are that don't hang on thermal units. The limits in size are this project's.
 use Rattle.std.specs.Prelude.{ℕ, ◌*◌}
-use Rattle.uc_model.specs.declared.limits.TheConstants.{MAX_PERIODS, MAX_POWER, MAX_UNITS}
-use Rattle.dual_model.specs.declared.limits.TheConstants.{MAX_PRICE}
+pub use Rattle.uc_model.specs.declared.limits.TheConstants.{MAX_PERIODS, MAX_POWER, MAX_UNITS}
+pub use Rattle.dual_model.specs.declared.limits.TheConstants.{MAX_PRICE}
 
 -- a price times a power is at most this in size
 abbrev pub MAX_CELL : ℕ

@@ -1,11 +1,7 @@
 -- How a run ends, by what is known of what it came to.
 use Rattle.std.proofs.Common.{sym, subst, inl, inr, Option, Result, Ok, Err, IfOk, IfErr}
 use Rattle.outside.specs.Sinks.{SinkState}
-use Rattle.branch_tree.specs.declared.found.Found.{Found}
-use Rattle.report.specs.declared.fault.Fault.{Fault}
-use Rattle.uc_check.specs.Ending.{Ends, IsFaulty, IsEndOf}
-use Rattle.uc_check.specs.declared.ending.End.{End}
-use Rattle.uc_check.specs.declared.ending.Failure.{Failure}
+use Rattle.uc_check.specs.Ending.{End, Failure, Fault, Found, Ends, IsFaulty, IsEndOf}
 
 pub faulty : (HasFailed : Fault → Option Found → Type 0) (failure : Failure) (before after : SinkState) (end : End)
     → HasFailed failure.fault failure.found → IsEndOf (Err failure) before after end → IsFaulty HasFailed before after end

@@ -1,12 +1,11 @@
 -- A slot that was read as `slurp` says was only read.
 use Rattle.std.proofs.Common.{◌≡◌, ℕ, ◌+◌, ◌≤◌, List, [], ◌++◌, length, sym, ap, ◌∙◌, ⊎_elim, arith, Result, Ok, Err, IfOk, Option, Some, None}
 use Rattle.std.specs.Option.{option_map}
-use Rattle.outside.specs.declared.slot.Stage.TheVariants.{Unopened}
 use Rattle.outside.specs.declared.reading.SlurpFault.{SlurpFault}
 use Rattle.outside.specs.declared.reading.SlurpFault.TheVariants.{Failed, TooLong, NoMemory}
 use Rattle.outside.specs.Slots.{SlotState, CountsFault}
 use Rattle.outside.specs.Reading.{Reads, ReadsAll, ReadsBeyond, ReadsSome, FailsToRead}
-use Rattle.uc_check.specs.Reading.{IsOnlyRead}
+use Rattle.uc_check.specs.Reading.{Unopened, IsOnlyRead}
 
 from_reads : (most : ℕ) (name taken : List ℕ) (old new : SlotState) → Reads name taken old new → length taken ≤ most + 1
     → IsOnlyRead most old new

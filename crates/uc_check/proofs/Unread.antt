@@ -2,9 +2,7 @@
 use Rattle.std.proofs.Common.{Bool}
 use Rattle.outside.specs.declared.slot.Slot.TheVariants as slot
 use Rattle.outside.specs.Slots.{SlotState}
-use Rattle.report.specs.declared.fault.Fault.{Fault}
-use Rattle.report.specs.declared.fault.Fault.TheVariants.{Read, Memory, Long}
-use Rattle.uc_check.specs.Checking.{most_certificate_bytes}
+use Rattle.uc_check.specs.Checking.{Fault, Long, Memory, Read, most_certificate_bytes}
 use Rattle.uc_check.specs.Reading.{most_bytes, HasCause}
 use Rattle.uc_check.specs.inside.Checks.{HasReadCause}
 use Rattle.uc_check.specs.inside.Unread.{IsUnread}

@@ -2,25 +2,19 @@
 -- certificate (from g to h), checking it, and the report.
 use Rattle.std.proofs.Common.{◌≡◌, ℕ, true, false, sym, subst, ap, ◌∙◌, refl, ⊎_elim, Result, Ok, Err, IfOk, IfErr, IsErrAnd, Some, None, List}
 use Rattle.uc_model.specs.Limits.{IsLawfulInstance}
-use Rattle.uc_model.specs.declared.instance.Instance.{Instance}
 use Rattle.uc_model.proofs.PrintedCosts.{cost-le-printed}
 use Rattle.dual_model.specs.Certificate.{Certificate, CertificateHolds, WrittenSchedule}
 use Rattle.dual_model.specs.Laws.{IsClaimTrue}
-use Rattle.outside.specs.declared.slot.Slot.{Slot}
 use Rattle.outside.specs.declared.slot.Slot.TheVariants as slot
 use Rattle.outside.specs.Slots.{SlotState, SameBut}
 use Rattle.outside.specs.Sinks.{SinkState}
 use Rattle.cert_text.specs.Reading.{IsTextOf}
-use Rattle.cert_text.specs.declared.cert.Cert.{Cert}
 use Rattle.cert_check.specs.Answers.{AreClaimsOf, IsAccepted, IsRead}
-use Rattle.cert_check.specs.declared.claims.Claims.{Claims}
 use Rattle.report.specs.ClaimsReport.{claims_report}
-use Rattle.report.specs.declared.fault.Fault.{Fault}
-use Rattle.report.specs.declared.fault.Fault.TheVariants.{Memory, Code, Write}
-use Rattle.uc_check.specs.Outside.{Outside, outside_of}
-use Rattle.uc_check.specs.Reading.{HasInstance}
-use Rattle.uc_check.specs.Checking.{HasCertificate, HasCertificateCause, IsCertificateFault, IsCheckFailure, IsCheckStopped, IsInstanceFault, IsScheduleTrue, text_of_claims}
-use Rattle.uc_check.specs.inside.Checks.{AreVerifiedClaims, HasCertificateText, IsRefusedCert}
+use Rattle.uc_check.specs.Outside.{Slot, Outside, outside_of}
+use Rattle.uc_check.specs.Reading.{Fault, Instance, Memory, HasInstance}
+use Rattle.uc_check.specs.Checking.{Code, Write, HasCertificate, HasCertificateCause, IsCertificateFault, IsCheckFailure, IsCheckStopped, IsInstanceFault, IsScheduleTrue, text_of_claims}
+use Rattle.uc_check.specs.inside.Checks.{Cert, Claims, AreVerifiedClaims, HasCertificateText, IsRefusedCert}
 
 pub ok_both : {T E : Type 0} (result : Result T E) (P Q R : T → Type 0) → IfOk result P → IfOk result Q → ((x : T) → P x → Q x → R x)
     → IfOk result R

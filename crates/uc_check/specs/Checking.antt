@@ -3,16 +3,13 @@ use Rattle.std.specs.Prelude.{◌≡◌, ℕ, ◌^◌, ◌≤◌, ◌⊎◌, ⊤
 use Rattle.uc_model.specs.Cost.{cost}
 use Rattle.uc_model.specs.Rules.{Obeys}
 use Rattle.uc_model.specs.PrintedSchedule.{printed_denominator, printed_schedule}
-use Rattle.uc_model.specs.declared.instance.Instance.{Instance}
 use Rattle.uc_model.specs.declared.refusal.Refusal.{Refusal}
 use Rattle.dual_model.specs.Certificate.{Certificate, CertificateHolds, WrittenSchedule}
 use Rattle.dual_model.specs.Laws.{IsClaimTrue}
-use Rattle.outside.specs.declared.slot.Slot.{Slot}
 use Rattle.outside.specs.declared.slot.Slot.TheVariants as slot
 use Rattle.outside.specs.Counts.{HasRisen}
 use Rattle.outside.specs.ToldBytes.{Tells}
 use Rattle.outside.specs.Slots.{SlotState}
-use Rattle.branch_tree.specs.declared.found.Found.{Found}
 use Rattle.cert_text.specs.CertificateText.{certificate_text, listing_of}
 use Rattle.cert_text.specs.TextConditions.{HasText}
 use Rattle.cert_text.specs.ReadFaults.{IsKindAt}
@@ -21,14 +18,13 @@ use Rattle.cert_text.specs.declared.cert.CertKind.TheVariants as kinds
 use Rattle.cert_check.specs.Answers.{cost_of, is_none}
 use Rattle.cert_check.specs.Refusals.{IsRefusedBy}
 use Rattle.report.specs.ClaimsReport.{claims_report}
-use Rattle.report.specs.declared.fault.Fault.{Fault}
-use Rattle.report.specs.declared.fault.Fault.TheVariants.{Read, Write, Memory, Long, Line, Code}
-use Rattle.uc_check.specs.Outside.{Outside}
+pub use Rattle.report.specs.declared.fault.Fault.{Fault}
+pub use Rattle.report.specs.declared.fault.Fault.TheVariants.{Read, Write, Memory, Long, Line, Code}
+use Rattle.uc_check.specs.Outside.{Slot, Outside}
 use Rattle.command_line.specs.Command.{Check}
-use Rattle.uc_check.specs.Reading.{most_bytes, HasInstance, HasCause, IsLong, IsOpenedByNoOther, IsOnlyRead}
-use Rattle.uc_check.specs.Writing.{IsTold, FailsToTell}
-use Rattle.uc_check.specs.Ending.{Ends}
-use Rattle.uc_check.specs.declared.ending.End.{End}
+use Rattle.uc_check.specs.Reading.{Instance, most_bytes, HasInstance, HasCause, IsLong, IsOpenedByNoOther, IsOnlyRead}
+use Rattle.uc_check.specs.Writing.{Found, IsTold, FailsToTell}
+use Rattle.uc_check.specs.Ending.{End, Ends}
 
 -- the most bytes of a certificate's file: 64 TiB
 abbrev pub most_certificate_bytes : ℕ

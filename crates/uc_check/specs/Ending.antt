@@ -1,12 +1,12 @@
 -- How a run ends, by what it came to. This project's own.
 use Rattle.std.specs.Prelude.{◌≡◌, ◌⊎◌, Option, Result, Ok, Err}
 use Rattle.outside.specs.Sinks.{SinkState}
-use Rattle.branch_tree.specs.declared.found.Found.{Found}
+pub use Rattle.branch_tree.specs.declared.found.Found.{Found}
 use Rattle.report.specs.FaultText.{status_of}
-use Rattle.report.specs.declared.fault.Fault.{Fault}
+pub use Rattle.report.specs.declared.fault.Fault.{Fault}
 use Rattle.uc_check.specs.Writing.{TellsFault}
-use Rattle.uc_check.specs.declared.ending.End.{End}
-use Rattle.uc_check.specs.declared.ending.Failure.{Failure}
+pub use Rattle.uc_check.specs.declared.ending.End.{End}
+pub use Rattle.uc_check.specs.declared.ending.Failure.{Failure}
 
 -- the run told no fault, and its end is such a one
 pub record IsAnswered (IsDone : End → Type 0) (before after : SinkState) (end : End) : Type 0 where

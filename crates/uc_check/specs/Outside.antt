@@ -1,5 +1,5 @@
 -- The outside of a run, before it and after it.
-use Rattle.outside.specs.declared.slot.Slot.{Slot}
+pub use Rattle.outside.specs.declared.slot.Slot.{Slot}
 use Rattle.outside.specs.Slots.{SlotState}
 use Rattle.outside.specs.Sinks.{SinkState}
 

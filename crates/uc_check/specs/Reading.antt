@@ -3,9 +3,9 @@
 use Rattle.std.specs.Prelude.{◌≡◌, ◌≢◌, ℕ, ◌+◌, ◌^◌, ◌<◌, ◌≤◌, ◌⊎◌, ⊤, Bool, List, ◌++◌, IfSome, length}
 use Rattle.std.specs.Option.{option_map}
 use Rattle.uc_model.specs.Limits.{IsLawfulInstance}
-use Rattle.uc_model.specs.declared.instance.Instance.{Instance}
+pub use Rattle.uc_model.specs.declared.instance.Instance.{Instance}
 use Rattle.outside.specs.declared.slot.Slot.TheVariants as slot
-use Rattle.outside.specs.declared.slot.Stage.TheVariants.{Unopened, Finished}
+pub use Rattle.outside.specs.declared.slot.Stage.TheVariants.{Unopened, Finished}
 use Rattle.outside.specs.Counts.{HasRisen}
 use Rattle.outside.specs.ToldBytes.{Tells}
 use Rattle.outside.specs.Slots.{SlotState, matched}
@@ -13,8 +13,8 @@ use Rattle.instance.specs.Bytes.{StandFor, StandForCounted}
 use Rattle.instance.specs.Bytes as read
 use Rattle.instance.specs.declared.from_bytes.ReadFault.{ReadFault}
 use Rattle.instance.specs.declared.from_bytes.ReadFault.TheVariants as read_fault
-use Rattle.report.specs.declared.fault.Fault.{Fault}
-use Rattle.report.specs.declared.fault.Fault.TheVariants.{Read, Memory, Long, Json, Instance as Refused}
+pub use Rattle.report.specs.declared.fault.Fault.{Fault}
+pub use Rattle.report.specs.declared.fault.Fault.TheVariants.{Read, Memory, Long, Json, Instance as Refused}
 
 -- the most bytes of an instance file: 64 MiB
 abbrev pub most_bytes : ℕ

@@ -7,7 +7,7 @@ use Rattle.outside.specs.ToldBytes.{Tells, Appends, AppendsFront}
 use Rattle.outside.specs.Slots.{SlotState}
 use Rattle.outside.specs.Sinks.{SinkState}
 use Rattle.branch_tree.specs.Claims.{certificate_of}
-use Rattle.branch_tree.specs.declared.found.Found.{Found}
+pub use Rattle.branch_tree.specs.declared.found.Found.{Found}
 use Rattle.cert_text.specs.CertificateText.{certificate_text}
 use Rattle.report.specs.FaultText.{fault_text}
 use Rattle.report.specs.declared.fault.Fault.{Fault}

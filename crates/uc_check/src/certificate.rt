@@ -2,10 +2,9 @@
 
 ghost use Rattle.std.specs.Prelude.{◌≡◌, IfOk, IfErr};
 ghost use Rattle.outside.specs.declared.slot.Slot.TheVariants.{CertIn};
-ghost use Rattle.outside.specs.declared.slot.Stage.TheVariants.{Unopened};
 ghost use Rattle.outside.specs.Slots.{SameBut};
 ghost use Rattle.cert_text.specs.Reading.{IsTextOf};
-ghost use Rattle.uc_check.specs.Reading.{IsOpenedByNoOther, IsOnlyRead};
+ghost use Rattle.uc_check.specs.Reading.{Unopened, IsOpenedByNoOther, IsOnlyRead};
 ghost use Rattle.uc_check.specs.Checking.{most_certificate_bytes, kind_number};
 ghost use Rattle.uc_check.specs.inside.Checks.{HasCertificateText, HasReadCause, IsRefusedText};
 

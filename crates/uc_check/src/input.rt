@@ -2,11 +2,10 @@
 
 ghost use Rattle.std.specs.Prelude.{◌≡◌, IfOk, IfErr};
 ghost use Rattle.outside.specs.declared.slot.Slot.TheVariants.{Instance as InstanceSlot};
-ghost use Rattle.outside.specs.declared.slot.Stage.TheVariants.{Unopened};
 ghost use Rattle.outside.specs.Slots.{SameBut};
 ghost use Rattle.uc_model.specs.Limits.{IsLawfulInstance};
 ghost use Rattle.instance.specs.Bytes.{StandForCounted};
-ghost use Rattle.uc_check.specs.Reading.{most_bytes, HasInstance, HasCause, IsRefusal, IsOpenedByNoOther, IsOnlyRead};
+ghost use Rattle.uc_check.specs.Reading.{Unopened, most_bytes, HasInstance, HasCause, IsRefusal, IsOpenedByNoOther, IsOnlyRead};
 
 use crate::slot_bytes::slot_bytes;
 use instance::ReadFault;

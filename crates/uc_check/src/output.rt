@@ -1,12 +1,10 @@
 //! Writing the certificate.
 
 ghost use Rattle.std.specs.Prelude.{◌≡◌, OnOk, OnErr};
-ghost use Rattle.uc_model.specs.declared.instance.Instance.{Instance};
 ghost use Rattle.outside.specs.declared.slot.Slot.TheVariants.{CertOut};
-ghost use Rattle.outside.specs.declared.slot.Stage.TheVariants.{Unopened};
 ghost use Rattle.outside.specs.Slots.{SameBut};
 ghost use Rattle.branch_tree.specs.Claims.{HasLayout};
-ghost use Rattle.uc_check.specs.Reading.{IsOpenedByNoOther};
+ghost use Rattle.uc_check.specs.Reading.{Instance, Unopened, IsOpenedByNoOther};
 ghost use Rattle.uc_check.specs.Writing.{IsSaved, FailsToSave, text_of_certificate};
 
 use branch_tree::Found;

@@ -1,10 +1,9 @@
 //! The bytes of a slot that is read.
 
 ghost use Rattle.std.specs.Prelude.{◌≡◌, ◌≤◌, length, IfOk, IfErr};
-ghost use Rattle.outside.specs.declared.slot.Stage.TheVariants.{Unopened};
 ghost use Rattle.outside.specs.ToldBytes.{Tells};
 ghost use Rattle.outside.specs.Slots.{SameBut};
-ghost use Rattle.uc_check.specs.Reading.{IsOpenedByNoOther, IsOnlyRead};
+ghost use Rattle.uc_check.specs.Reading.{Unopened, IsOpenedByNoOther, IsOnlyRead};
 ghost use Rattle.uc_check.specs.inside.Unread.{IsUnread};
 
 use outside::{Files, Slot, SlurpFault, slurp};

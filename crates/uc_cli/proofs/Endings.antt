@@ -1,20 +1,15 @@
 -- How the ends of a run follow from its steps: reading and searching (from the files f to g), writing the
 -- certificate (from g to h) and the report.
 use Rattle.std.proofs.Common.{◌≡◌, ℕ, subst, ap, ◌∙◌, refl, None}
-use Rattle.uc_model.specs.declared.instance.Instance.{Instance}
-use Rattle.outside.specs.declared.slot.Slot.{Slot}
 use Rattle.outside.specs.declared.slot.Slot.TheVariants as slot
 use Rattle.outside.specs.Slots.{SlotState, SameBut}
 use Rattle.outside.specs.Sinks.{SinkState}
-use Rattle.branch_tree.specs.declared.found.Found.{Found}
 use Rattle.uc_check.specs.Writing.{IsSaved, FailsToSave, IsTold, FailsToTell, text_of_certificate}
 use Rattle.report.specs.FoundReport.{found_report}
 use Rattle.command_line.specs.Command.{Solve}
 use Rattle.uc_check.specs.Outside.{outside_of}
 use Rattle.uc_check.specs.Reading.{HasCause}
-use Rattle.report.specs.declared.fault.Fault.{Fault}
-use Rattle.report.specs.declared.fault.Fault.TheVariants.{Write}
-use Rattle.uc_cli.specs.Run.{IsAnswer, IsDone, IsFailure, IsUnsaved, IsUntold}
+use Rattle.uc_cli.specs.Run.{Fault, Found, Instance, Slot, Write, IsAnswer, IsDone, IsFailure, IsUnsaved, IsUntold}
 
 -- the certificate's slot is as it was before the instance was read
 certificate_same : (f g : Slot → SlotState) → SameBut slot.Instance f g → g slot.CertOut ≡ f slot.CertOut

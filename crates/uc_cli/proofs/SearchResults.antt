@@ -2,14 +2,12 @@
 use Rattle.std.proofs.Common.{◌≡◌, ◌^◌, ◌<◌, ◌≤◌, ℕ, arith, length, subst, Option, Some, None, ℤ, unsigned_abs, IfSome}
 use Rattle.std.proofs.lemmas.List.Elements.{All-weaker}
 use Rattle.uc_model.specs.Limits.{IsLawfulInstance}
-use Rattle.uc_model.specs.declared.instance.Instance.{Instance}
 use Rattle.dual_model.specs.declared.table.Table.{Table}
 use Rattle.dual_model.specs.Laws.{IsClaimTrue}
 use Rattle.dual_model.proofs.Covers.{certificates_claim_truly}
 use Rattle.outside.specs.Slots.{SlotState}
 use Rattle.branch_tree.specs.StoredTree.{tree_bound}
 use Rattle.branch_tree.specs.Claims.{certificate_of, written_tables}
-use Rattle.branch_tree.specs.declared.found.Found.{Found}
 use Rattle.cert_text.specs.CertificateText.{listing_of}
 use Rattle.cert_text.specs.TextConditions.{HasText, IsMoney}
 use Rattle.cert_text.proofs.Parts.{found_has_text}
@@ -20,8 +18,8 @@ use Rattle.workers.specs.SearchResult.{IsSearchResult}
 use Rattle.command_line.specs.Command.{Solve}
 use Rattle.uc_check.specs.Reading.{HasInstance}
 use Rattle.uc_check.specs.Checking.{IsScheduleTrue}
-use Rattle.uc_cli.specs.DemoRun.{IsDemoAnswer}
-use Rattle.uc_cli.specs.Run.{IsAnswer}
+use Rattle.uc_cli.specs.DemoRun.{Found, IsDemoAnswer}
+use Rattle.uc_cli.specs.Run.{Instance, IsAnswer}
 use Rattle.uc_cli.proofs.ScheduleTexts.{has_schedule_text}
 use Rattle.uc_check.proofs.Verdicts.{schedule_true}
 

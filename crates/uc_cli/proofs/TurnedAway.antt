@@ -1,19 +1,15 @@
 -- Where memory is refused at words that are taken, the run is one of their command that was stopped by that.
 use Rattle.std.proofs.Common.{◌≡◌, ◌∙◌, true, refl, sym, inl, inr, true≢false, List, ℕ, Option, Some, None, Err, is_some}
-use Rattle.outside.specs.declared.slot.Slot.{Slot}
 use Rattle.outside.specs.declared.slot.Slot.TheVariants as slot
 use Rattle.outside.specs.Slots.{SlotState, AllUnopened}
 use Rattle.outside.specs.Sinks.{SinkState}
-use Rattle.report.specs.declared.fault.Fault.{Fault}
-use Rattle.report.specs.declared.fault.Fault.TheVariants.{Words, Memory}
 use Rattle.command_line.specs.Arguments.{is_taken}
 use Rattle.uc_check.specs.Checking.{most_certificate_bytes}
 use Rattle.command_line.specs.Command.{Command, Solves, Checks, Demos, command_of}
 use Rattle.uc_check.specs.Outside.{outside_of}
 use Rattle.uc_check.specs.Reading.{most_bytes}
-use Rattle.uc_cli.specs.Run.{IsRun, IsTurnedAway, IsUsage}
+use Rattle.uc_cli.specs.Run.{End, Fault, Memory, Slot, Words, IsRun, IsTurnedAway, IsUsage}
 use Rattle.uc_check.specs.Ending.{IsEndOf}
-use Rattle.uc_check.specs.declared.ending.End.{End}
 use Rattle.command_line.specs.Asked.{IsRefusal}
 use Rattle.command_line.proofs.Commands.{names_a_command}
 use Rattle.uc_check.proofs.Endings.{faulty}

@@ -6,7 +6,7 @@ use Rattle.outside.specs.Sinks.{SinkState}
 use Rattle.branch_tree.specs.Claims.{written_of}
 use Rattle.branch_tree.specs.Closing.{status_of}
 use Rattle.branch_tree.specs.StoredTree.{tree_bound}
-use Rattle.branch_tree.specs.declared.found.Found.{Found}
+pub use Rattle.branch_tree.specs.declared.found.Found.{Found}
 use Rattle.demo_gen.specs.Demo.{demo_instance}
 use Rattle.workers.specs.SearchResult.{IsSearchResult}
 use Rattle.report.specs.DemoReport.{demo_report}

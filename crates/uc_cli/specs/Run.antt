@@ -1,9 +1,9 @@
 -- What a run of the program did, by how it ended: its exit status, what it leaves on the outside, and what it tells
 -- on the error output. This project's own.
 use Rattle.std.specs.Prelude.{◌≡◌, ℕ, Bool, true, false, Option, Some, None}
-use Rattle.uc_model.specs.declared.instance.Instance.{Instance}
+pub use Rattle.uc_model.specs.declared.instance.Instance.{Instance}
 use Rattle.dual_model.specs.Laws.{IsClaimTrue}
-use Rattle.outside.specs.declared.slot.Slot.{Slot}
+pub use Rattle.outside.specs.declared.slot.Slot.{Slot}
 use Rattle.outside.specs.declared.slot.Slot.TheVariants as slot
 use Rattle.outside.specs.Slots.{SlotState}
 use Rattle.branch_tree.specs.StoredTree.{tree_bound}
@@ -13,10 +13,10 @@ use Rattle.branch_tree.specs.Claims.{certificate_of, written_of}
 use Rattle.workers.specs.SearchResult.{IsSearchResult}
 use Rattle.cert_text.specs.CertificateText.{listing_of}
 use Rattle.cert_text.specs.TextConditions.{HasText}
-use Rattle.branch_tree.specs.declared.found.Found.{Found}
+pub use Rattle.branch_tree.specs.declared.found.Found.{Found}
 use Rattle.report.specs.FoundReport.{found_report}
-use Rattle.report.specs.declared.fault.Fault.{Fault}
-use Rattle.report.specs.declared.fault.Fault.TheVariants.{Words, Write, Memory}
+pub use Rattle.report.specs.declared.fault.Fault.{Fault}
+pub use Rattle.report.specs.declared.fault.Fault.TheVariants.{Words, Write, Memory}
 use Rattle.uc_check.specs.Outside.{Outside}
 use Rattle.command_line.specs.Command.{Solve, Command, Solves, Checks, Demos}
 use Rattle.uc_check.specs.Reading.{most_bytes, HasInstance, HasCause, IsOpenedByNoOther, IsOnlyRead}
@@ -24,7 +24,7 @@ use Rattle.uc_check.specs.Checking.{IsCheckRun, IsScheduleTrue}
 use Rattle.uc_check.specs.Ending.{Ends, IsFaulty}
 use Rattle.uc_cli.specs.DemoRun.{IsDemoRun}
 use Rattle.uc_check.specs.Writing.{text_of_certificate, IsSaved, FailsToSave, IsTold, FailsToTell}
-use Rattle.uc_check.specs.declared.ending.End.{End}
+pub use Rattle.uc_check.specs.declared.ending.End.{End}
 
 -- an answer for the instance in the file: what was found, with the budget and at the gap that are asked; that its schedule obeys and
 -- costs at most what is printed; that its bound, or that there is no schedule, is true of every schedule; and that its certificate has

@@ -1,7 +1,6 @@
 //! A run of `solve`.
 
 ghost use Rattle.std.specs.Prelude.{◌≡◌, ◌≤◌, IfOk, IfErr, OnOk, OnErr};
-ghost use Rattle.outside.specs.declared.slot.Slot.{Slot};
 ghost use Rattle.outside.specs.declared.slot.Slot.TheVariants as slot;
 ghost use Rattle.outside.specs.declared.slot.Stage.TheVariants.{Unopened};
 ghost use Rattle.outside.specs.Slots.{AllUnopened, SameBut};
@@ -10,7 +9,7 @@ ghost use Rattle.uc_check.specs.Reading.{most_bytes, HasCause, IsOpenedByNoOther
 ghost use Rattle.uc_check.specs.Outside.{outside_of};
 ghost use Rattle.uc_check.specs.Writing.{IsTold, FailsToTell};
 ghost use Rattle.report.specs.FoundReport.{found_report};
-ghost use Rattle.uc_cli.specs.Run.{IsAnswer, IsSolved, IsFailure, KeepsToFiles, IsSolveRun};
+ghost use Rattle.uc_cli.specs.Run.{Slot, IsAnswer, IsSolved, IsFailure, KeepsToFiles, IsSolveRun};
 ghost use Rattle.command_line.specs.Asked.{solve_asked};
 
 use branch_tree::Found;

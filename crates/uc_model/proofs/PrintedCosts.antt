@@ -11,9 +11,8 @@ use Rattle.uc_model.specs.Schedule.{Instance, thermal_unit, thermal_count}
 use Rattle.uc_model.specs.Rules.{Category, Production, Obeys}
 use Rattle.uc_model.specs.Cost.{cell_cost, unit_cost, cost}
 use Rattle.uc_model.specs.Hull.{Segment, segment_at, segment_width, segment_cost, hull_cost, rise, from_left}
-use Rattle.uc_model.specs.PrintedSchedule.{watt_denominator, cell_at, product_below, width_on, cell_width, printed_denominator, refused_weight, segment_weight, printed_schedule, printed_cell_cost, printed_cost}
+use Rattle.uc_model.specs.PrintedSchedule.{Printed, watt_denominator, cell_at, product_below, width_on, cell_width, printed_denominator, refused_weight, segment_weight, printed_schedule, printed_cell_cost, printed_cost}
 use Rattle.uc_model.specs.Limits.{IsLawfulThermal, IsLawfulInstance, MAX_COST, COST_MAX}
-use Rattle.uc_model.specs.declared.schedule.Printed.{Printed}
 use Rattle.uc_model.proofs.Ring.{linear, mul-add, mul-zero, zero-mul, mul_comm, mul_nonneg, mul-le-mul_left, mul-le-mul_turned, le_from_mul, le_or_lt, sub_nonneg, pos-le-pos}
 use Rattle.uc_model.proofs.Sums.{sum_below-le, sum_below-mul_left, sum_below-zero}
 use Rattle.uc_model.proofs.Obeyed.{rule_at, production_parts}

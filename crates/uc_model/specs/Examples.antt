@@ -6,11 +6,8 @@ use Rattle.uc_model.specs.Sums.{bit}
 use Rattle.uc_model.specs.Commitment.{Thermal, Commitment, was_on, stops, stop_reduction}
 use Rattle.uc_model.specs.Rules.{Rule, MustRun, InitialUp, InitialDown, MinimumUp, MinimumDown, Category, InitialStop, Production, StartCap, StopCap, RampUp, RampDown, RenewableRange, Demand, Reserve, holds, holds_at}
 use Rattle.uc_model.specs.Schedule.{Instance, no_unit, thermal_unit}
-use Rattle.uc_model.specs.PrintedSchedule.{printed_schedule, printed_denominator, printed_cost, cell_at}
+use Rattle.uc_model.specs.PrintedSchedule.{Cell, Point, Printed, printed_schedule, printed_denominator, printed_cost, cell_at}
 use Rattle.uc_model.specs.declared.instance.StartRow.{StartRow}
-use Rattle.uc_model.specs.declared.instance.Point.{Point}
-use Rattle.uc_model.specs.declared.schedule.Cell.{Cell}
-use Rattle.uc_model.specs.declared.schedule.Printed.{Printed}
 
 -- whole megawatts in watts, and whole dollars in micro-dollars
 abbrev pub mw : ℕ → ℤ

@@ -2,7 +2,7 @@
 use Rattle.std.specs.Prelude.{◌-◌, ◌==◌, nat_lt, if◌then◌else◌}
 use Rattle.std.specs.Int.{bit_at}
 use Rattle.uc_model.specs.Commitment.{Commitment}
-use Rattle.uc_model.specs.declared.pattern.Pattern.{Pattern}
+pub use Rattle.uc_model.specs.declared.pattern.Pattern.{Pattern}
 
 -- the unit is on in period t, from 0: bit t of the low word, or bit t - 128 of the high one
 abbrev pub commitment_of : Pattern → Commitment

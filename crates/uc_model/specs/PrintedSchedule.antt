@@ -7,9 +7,9 @@ use Rattle.uc_model.specs.Sums.{sum_below}
 use Rattle.uc_model.specs.StartCategory.{Thermal, category_cost}
 use Rattle.uc_model.specs.Schedule.{Instance, Schedule, thermal_unit, thermal_count, renewable_count}
 use Rattle.uc_model.specs.Hull.{Segment, segment_at, segment_width, from_left, to_right, hull_cost}
-use Rattle.uc_model.specs.declared.instance.Point.{Point}
-use Rattle.uc_model.specs.declared.schedule.Cell.{Cell}
-use Rattle.uc_model.specs.declared.schedule.Printed.{Printed}
+pub use Rattle.uc_model.specs.declared.instance.Point.{Point}
+pub use Rattle.uc_model.specs.declared.schedule.Cell.{Cell}
+pub use Rattle.uc_model.specs.declared.schedule.Printed.{Printed}
 
 -- the denominator of the printed watts, which are whole
 abbrev pub watt_denominator : Printed → ℕ

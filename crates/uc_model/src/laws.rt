@@ -2,19 +2,15 @@
 
 ghost use Rattle.std.specs.Prelude.{◌≡◌, ℕ, ◌*◌, ◌^◌, ◌<◌, ◌≤◌, pos, ◌*ℤ◌, ◌≤ℤ◌, ◌<ℤ◌, ℤ, Bool, IsTrue, not, ◌&&◌, unsigned_abs};
 ghost use Rattle.uc_model.specs.Division.{IsCeiling, quotient_up};
-ghost use Rattle.uc_model.specs.Commitment.{Commitment, state_before, starts, is_allowed, cap, KeepsMinimumTimes};
-ghost use Rattle.uc_model.specs.PatternBits.{commitment_of};
+ghost use Rattle.uc_model.specs.Commitment.{Thermal, Commitment, state_before, starts, is_allowed, cap, KeepsMinimumTimes};
+ghost use Rattle.uc_model.specs.PatternBits.{Pattern, commitment_of};
 ghost use Rattle.uc_model.specs.ExtremePatterns.{IsMostOn, IsFewestOn, HasExactlyOne};
 ghost use Rattle.uc_model.specs.StartCategory.{is_category_allowed, category_cost, last_stop, sigma};
-ghost use Rattle.uc_model.specs.Schedule.{Schedule, thermal_unit, thermal_count};
+ghost use Rattle.uc_model.specs.Schedule.{Instance, Schedule, thermal_unit, thermal_count};
 ghost use Rattle.uc_model.specs.Rules.{Obeys};
 ghost use Rattle.uc_model.specs.Cost.{cost};
-ghost use Rattle.uc_model.specs.PrintedSchedule.{printed_denominator, printed_schedule, printed_cost};
+ghost use Rattle.uc_model.specs.PrintedSchedule.{Printed, printed_denominator, printed_schedule, printed_cost};
 ghost use Rattle.uc_model.specs.Limits.{IsLawfulInstance, IsLawfulThermal, COST_MAX};
-ghost use Rattle.uc_model.specs.declared.instance.Instance.{Instance};
-ghost use Rattle.uc_model.specs.declared.instance.Thermal.{Thermal};
-ghost use Rattle.uc_model.specs.declared.pattern.Pattern.{Pattern};
-ghost use Rattle.uc_model.specs.declared.schedule.Printed.{Printed};
 
 /// With minimum times of at least 1, M4 and M5 exclude a start and a stop in one period, also where starts
 /// `up` and stops `down` are variables of their own as in the reference model; so both follow from the state.

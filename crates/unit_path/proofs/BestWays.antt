@@ -5,10 +5,6 @@ use Rattle.uc_model.specs.Limits.{IsLawfulThermal}
 use Rattle.uc_model.specs.PatternBits.{commitment_of}
 use Rattle.uc_model.specs.Schedule.{thermal_unit}
 use Rattle.uc_model.specs.declared.instance.Instance.{Instance}
-use Rattle.uc_model.specs.declared.instance.Thermal.{Thermal}
-use Rattle.uc_model.specs.declared.pattern.Pattern.{Pattern}
-use Rattle.uc_model.specs.declared.terms.Terms.{Terms}
-use Rattle.dual_model.specs.declared.node.Fix.{Fix}
 use Rattle.dual_model.specs.declared.node.Node.{Node}
 use Rattle.dual_model.specs.declared.table.Table.{Table}
 use Rattle.dual_model.specs.Fixings.{HasNoPattern as HasNoPatternAt, IsFixOf}
@@ -25,7 +21,7 @@ use Rattle.dual_model.proofs.LeastValues.{from_start, least-from_start, none-fro
 use Rattle.dual_model.proofs.Allowed.{pattern-all_right}
 use Rattle.dual_model.proofs.Optimum.{way}
 use Rattle.dual_model.proofs.Ways.{own_way-right, whole_way-from, AllRight}
-use Rattle.unit_path.specs.inside.Ways.{way_of, IsWay}
+use Rattle.unit_path.specs.inside.Ways.{Fix, Pattern, Terms, Thermal, way_of, IsWay}
 use Rattle.unit_path.proofs.BestPatterns.{best-of}
 
 way_of-way : (terms : Terms) (unit : Thermal) (fix : Fix) (on : Commitment) (n t : ℕ) (was : Bool) (since : ℕ)

@@ -1,14 +1,10 @@
 -- What the table says of a period from which a way goes on, be it one of the horizon or its end.
 use Rattle.std.proofs.Common.{◌≡◌, ℕ, ◌<◌, ◌≤◌, ⊎_elim, true, Bool, List, sym, ap, subst, ◌∙◌, arith}
 use Rattle.std.proofs.lemmas.Bool.{cases_lt}
-use Rattle.uc_model.specs.declared.instance.Thermal.{Thermal}
-use Rattle.uc_model.specs.declared.terms.Terms.{Terms}
-use Rattle.dual_model.specs.declared.node.Fix.{Fix}
 use Rattle.uc_model.specs.Terms.{period_count}
 use Rattle.dual_model.specs.Moves.{may_be_off, may_be_on, may_start, may_stop}
-use Rattle.unit_path.specs.inside.Choices.{IsLeastStart, IsLeastStop}
-use Rattle.unit_path.specs.inside.Hours.{hour_in, IsCold, IsTableFrom, IsUntil}
-use Rattle.unit_path.specs.declared.hour.Hour.{Hour}
+use Rattle.unit_path.specs.inside.Choices.{Fix, Terms, Thermal, IsLeastStart, IsLeastStop}
+use Rattle.unit_path.specs.inside.Hours.{Hour, hour_in, IsCold, IsTableFrom, IsUntil}
 
 pub onward-entry : (terms : Terms) (unit : Thermal) (fix : Fix) (from : ℕ) (hours : List Hour) → IsTableFrom terms unit fix from hours
     → (since t : ℕ) → from ≤ t → since < t → t ≤ period_count terms → (t < period_count terms → may_stop unit since t ≡ true)

@@ -2,15 +2,12 @@
 use Rattle.std.proofs.Common.{◌≡◌, ℕ, suc, ◌-◌, ◌<◌, ◌≤◌, Bool, true, false, sym, ap, ◌∙◌, arith, ℤ, Option}
 use Rattle.std.proofs.lemmas.Bool.{cond-true, cond-false, eq-eqb, ne_eqb}
 use Rattle.uc_model.specs.Limits.{IsLawfulThermal}
-use Rattle.uc_model.specs.declared.instance.Thermal.{Thermal}
-use Rattle.uc_model.specs.declared.terms.Terms.{Terms}
-use Rattle.dual_model.specs.declared.node.Fix.{Fix}
 use Rattle.uc_model.specs.Terms.{period_count}
 use Rattle.dual_model.specs.UnitTerms.{AreSizedTerms}
 use Rattle.dual_model.specs.Moves.{move}
 use Rattle.dual_model.specs.CostToGo.{cost_to_go, end_cost, lesser_of, since_after, total_of, IsWithin, MAX_COST_TO_GO}
 use Rattle.dual_model.proofs.CostSizes.{cost_to_go-fits}
-use Rattle.unit_path.specs.inside.Choices.{start_total, stop_cost}
+use Rattle.unit_path.specs.inside.Choices.{Fix, Terms, Thermal, start_total, stop_cost}
 
 -- the least cost of going on from a state before period t
 abbrev pub to_go : Terms → Thermal → Fix → ℕ → Bool → ℕ → Option ℤ

@@ -2,14 +2,11 @@
 use Rattle.std.proofs.Common.{◌≡◌, ℕ, suc, ◌+◌, ◌-◌, ◌<◌, ◌≤◌, ◌⊎◌, ⊎_elim, true, false, refl, sym, ap, subst, ◌∙◌, arith, ℤ, pos, ◌+ℤ◌, Option, Some, None, IfSome, ◌==◌}
 use Rattle.std.proofs.lemmas.Bool.{cases_Bool, ne_eqb}
 use Rattle.uc_model.specs.Limits.{IsLawfulThermal}
-use Rattle.uc_model.specs.declared.instance.Thermal.{Thermal}
-use Rattle.uc_model.specs.declared.terms.Terms.{Terms}
-use Rattle.dual_model.specs.declared.node.Fix.{Fix}
 use Rattle.uc_model.specs.Terms.{period_count}
 use Rattle.dual_model.specs.UnitTerms.{AreSizedTerms}
 use Rattle.dual_model.specs.Moves.{hour_before, may_be_on, may_stop, move}
 use Rattle.dual_model.specs.CostToGo.{lesser_of, total_of, IsWithin, MAX_COST_TO_GO}
-use Rattle.unit_path.specs.inside.Choices.{Choice, choice_cost, longer_of, stays, stop_cost, IsLeastStop, IsOneOf, IsStop, IsStopAtOnce}
+use Rattle.unit_path.specs.inside.Choices.{Fix, Terms, Thermal, Choice, choice_cost, longer_of, stays, stop_cost, IsLeastStop, IsOneOf, IsStop, IsStopAtOnce}
 use Rattle.unit_path.specs.inside.Hours.{leave_cost, IsOnward, IsStopIn}
 use Rattle.unit_path.proofs.Costs.{total-assoc, total-zero}
 use Rattle.unit_path.proofs.Going.{on-step, stop_cost-end, to_go, to_go-end, to_go-fits}

@@ -2,13 +2,10 @@
 use Rattle.std.proofs.Common.{◌≡◌, ℕ, zero, suc, ◌+◌, ◌-◌, ◌<◌, ◌≤◌, true, false, ◌&&◌, refl, sym, ap, ◌∙◌, arith, pos, Some, None, if◌then◌else◌}
 use mathlib.Core.Bool.{and-false}
 use Rattle.std.proofs.lemmas.Bool.{cond-true, cond-false, le-leb, leb-true}
-use Rattle.uc_model.specs.declared.instance.Thermal.{Thermal}
-use Rattle.uc_model.specs.declared.terms.Terms.{Terms}
-use Rattle.dual_model.specs.declared.node.Fix.{Fix}
 use Rattle.uc_model.specs.Terms.{period_count}
 use Rattle.dual_model.specs.Moves.{has_lasted, may_be_off, may_be_on, may_start, move}
 use Rattle.dual_model.specs.CostToGo.{lesser_of, total_of}
-use Rattle.unit_path.specs.inside.Choices.{rests, start_total}
+use Rattle.unit_path.specs.inside.Choices.{Fix, Terms, Thermal, rests, start_total}
 use Rattle.unit_path.proofs.Costs.{lesser-none, total-assoc, total-none, total-zero, zero-total}
 use Rattle.unit_path.proofs.Going.{off-step, start_total-at, to_go}
 

@@ -4,15 +4,12 @@ use mathlib.Core.Bool.{and-true, and-false}
 use Rattle.std.specs.Int.{w128}
 use Rattle.std.proofs.lemmas.Int.{fits_signed_from_abs}
 use Rattle.std.proofs.lemmas.Bool.{and_from, cond-true, cond-false, lt-ltb, ne_eqb, or_left}
-use Rattle.uc_model.specs.declared.instance.Thermal.{Thermal}
-use Rattle.uc_model.specs.declared.terms.Terms.{Terms}
 use Rattle.uc_model.specs.declared.limits.TheConstants.{MAX_PERIODS}
 use Rattle.uc_model.proofs.Sizes.{abs_add, wide}
-use Rattle.dual_model.specs.declared.node.Fix.{Fix}
 use Rattle.uc_model.specs.Terms.{period_count}
 use Rattle.dual_model.specs.Moves.{holds_initially, hour_before, may_be_off, may_be_on, may_stop, move}
 use Rattle.dual_model.specs.CostToGo.{lesser_of, total_of, MAX_MOVE}
-use Rattle.unit_path.specs.inside.Choices.{stays, stop_cost}
+use Rattle.unit_path.specs.inside.Choices.{Fix, Terms, Thermal, stays, stop_cost}
 use Rattle.unit_path.specs.inside.Hours.{leave_cost, stay_cost}
 use Rattle.unit_path.proofs.Costs.{lesser-comm, lesser-none, total-assoc, total-none, total-zero, zero-total}
 use Rattle.unit_path.proofs.Going.{on-step, stop_cost-at, to_go}

@@ -5,17 +5,13 @@ use Rattle.std.proofs.lemmas.Bool.{cases_Bool, cases_lt}
 use Rattle.uc_model.specs.Limits.{IsLawfulThermal}
 use Rattle.uc_model.specs.declared.limits.TheConstants.{MAX_COST}
 use Rattle.uc_model.proofs.Sizes.{abs_mul}
-use Rattle.uc_model.specs.declared.instance.Thermal.{Thermal}
-use Rattle.uc_model.specs.declared.terms.Terms.{Terms}
-use Rattle.dual_model.specs.declared.node.Fix.{Fix}
 use Rattle.uc_model.specs.Terms.{period_count}
 use Rattle.dual_model.specs.UnitTerms.{AreSizedTerms}
 use Rattle.dual_model.specs.Moves.{may_be_off, may_be_on}
 use Rattle.dual_model.specs.CostToGo.{lesser_of, total_of, IsWithin, MAX_COST_TO_GO, MAX_MOVE}
 use Rattle.dual_model.proofs.CostSizes.{cost_to_go-size, more_room, lesser_of-size, total_of-size}
-use Rattle.unit_path.specs.inside.Choices.{Choice, choice_cost}
-use Rattle.unit_path.specs.inside.Hours.{hour_in, IsEnd, IsHour, IsStartIn, IsStopIn, IsTableFrom, IsUntil, IsWithinMoves}
-use Rattle.unit_path.specs.declared.hour.Hour.{Hour}
+use Rattle.unit_path.specs.inside.Choices.{Fix, Terms, Thermal, Choice, choice_cost}
+use Rattle.unit_path.specs.inside.Hours.{Hour, hour_in, IsEnd, IsHour, IsStartIn, IsStopIn, IsTableFrom, IsUntil, IsWithinMoves}
 
 -- ---- writes
 -- the table of the end alone

@@ -3,18 +3,13 @@ use Rattle.std.proofs.Common.{◌≡◌, ℕ, suc, ◌-◌, ◌<◌, ◌≤◌, 
 use Rattle.std.proofs.lemmas.Bool.{cases_Bool, cond-false}
 use Rattle.uc_model.specs.Commitment.{Commitment}
 use Rattle.uc_model.specs.PatternBits.{commitment_of}
-use Rattle.uc_model.specs.declared.instance.Thermal.{Thermal}
-use Rattle.uc_model.specs.declared.pattern.Pattern.{Pattern}
-use Rattle.uc_model.specs.declared.terms.Terms.{Terms}
-use Rattle.dual_model.specs.declared.node.Fix.{Fix}
 use Rattle.uc_model.specs.Terms.{period_count}
 use Rattle.dual_model.specs.Moves.{holds_initially, may_be_off, may_be_on, may_start, may_stop, move}
 use Rattle.dual_model.specs.CostToGo.{end_cost, total_of}
 use Rattle.dual_model.proofs.Optimum.{total_of-parts}
-use Rattle.unit_path.specs.inside.Choices.{Choice, choice_cost, rests, start_total, stays, stop_cost, switch_after, IsStart, IsStop, IsSwitch}
-use Rattle.unit_path.specs.inside.Hours.{IsHour}
-use Rattle.unit_path.specs.inside.Ways.{way_of, IsWay}
-use Rattle.unit_path.specs.declared.hour.Hour.{Hour}
+use Rattle.unit_path.specs.inside.Choices.{Fix, Terms, Thermal, Choice, choice_cost, rests, start_total, stays, stop_cost, switch_after, IsStart, IsStop, IsSwitch}
+use Rattle.unit_path.specs.inside.Hours.{Hour, IsHour}
+use Rattle.unit_path.specs.inside.Ways.{Pattern, way_of, IsWay}
 use Rattle.unit_path.proofs.Going.{start_total-at, start_total-end, stop_cost-at, stop_cost-end, to_go}
 use Rattle.unit_path.proofs.WayLaws.{ended, lasting, switched, way_from}
 

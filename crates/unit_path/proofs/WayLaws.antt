@@ -1,13 +1,10 @@
 -- The way of a commitment along a run of on hours or a rest, and over the switch behind it.
 use Rattle.std.proofs.Common.{◌≡◌, ℕ, zero, suc, ◌+◌, ◌-◌, ◌<◌, ◌≤◌, Bool, true, false, not, refl, sym, ap, ◌∙◌, arith, ℤ, Option}
 use Rattle.uc_model.specs.Commitment.{Commitment}
-use Rattle.uc_model.specs.declared.instance.Thermal.{Thermal}
-use Rattle.uc_model.specs.declared.terms.Terms.{Terms}
-use Rattle.dual_model.specs.declared.node.Fix.{Fix}
 use Rattle.uc_model.specs.Terms.{period_count}
 use Rattle.dual_model.specs.Moves.{move}
 use Rattle.dual_model.specs.CostToGo.{end_cost, since_after, total_of}
-use Rattle.unit_path.specs.inside.Choices.{rests, stays}
+use Rattle.unit_path.specs.inside.Choices.{Fix, Terms, Thermal, rests, stays}
 use Rattle.unit_path.specs.inside.Ways.{way_of}
 use Rattle.unit_path.proofs.Costs.{total-assoc, total-zero}
 

@@ -2,9 +2,6 @@
 use Rattle.std.proofs.Common.{◌≡◌, ⊎_elim, ℕ, ◌<◌, All, length, refl, sym, subst, arith, ℤ, pos, ◌≤ℤ◌, ◌<ℤ◌, Some, Option, None, IfSome}
 use Rattle.std.proofs.lemmas.List.Elements.{All-weaker}
 use Rattle.uc_model.specs.Limits.{IsLawfulInstance}
-use Rattle.uc_model.specs.declared.instance.Instance.{Instance}
-use Rattle.uc_model.specs.declared.schedule.Printed.{Printed}
-use Rattle.uc_model.specs.declared.stuck.Stuck.{Stuck}
 use Rattle.uc_model.proofs.Quotients.{IsFloor-greatest, IsFloor-int_div_euclid}
 use Rattle.uc_model.proofs.Ring.{le_refl, le_trans, linear}
 use Rattle.dual_model.specs.Cover.{ReachesBoundOf}
@@ -12,34 +9,30 @@ use Rattle.dual_model.specs.NodeValue.{IsNodeValue}
 use Rattle.dual_model.specs.Opening.{ZERO_SCALE, zero_table}
 use Rattle.dual_model.specs.Prices.{IsLawfulTable}
 use Rattle.dual_model.specs.Tree.{root}
-use Rattle.dual_model.specs.declared.table.Table.{Table}
 use Rattle.branch_tree.specs.Claims.{IsLayoutOf, written_tables}
 use Rattle.branch_tree.specs.StoredTree.{AtMost, tree_bound}
 use Rattle.branch_tree.specs.TreeView.{IsWhole, tree_of}
 use Rattle.branch_tree.specs.TrueFound.{IsTrueFound}
 use Rattle.branch_tree.specs.UsedTables.{used_tables}
-use Rattle.branch_tree.specs.declared.found.Found.{Found}
 use Rattle.branch_tree.specs.declared.layout.Layout.{Layout}
 use Rattle.search_core.specs.declared.stored.Stored.{Stored}
 use Rattle.search_core.specs.Machine.{Machine}
 use Rattle.search_core.specs.Moves.{bound_of}
 use Rattle.search_core.specs.Runs.{HoldsAt}
-use Rattle.workers.specs.Writable.{HasFewRows}
+use Rattle.workers.specs.Writable.{Found, Instance, Table, HasFewRows}
 use Rattle.decommitment.specs.DropCommitment.{Dispatched}
 use Rattle.dual_model.specs.Tree.{HasEachPattern}
 use Rattle.decommitment.specs.MostOnStuck.{TellsMostOn}
 use Rattle.opening.specs.Rays.{HasNoRay}
 use Rattle.opening.specs.RootTables.{IsGreaterTable}
 use Rattle.workers.specs.Opening.{IsRootTable}
-use Rattle.workers.specs.SearchResult.{IsBoundOpened, IsNoDearer}
-use Rattle.decommitment.specs.declared.pass.Standing.{Standing}
+use Rattle.workers.specs.SearchResult.{Printed, IsBoundOpened, IsNoDearer}
 use Rattle.decommitment.specs.declared.pass.Standing.TheVariants as standing
-use Rattle.opening.specs.declared.root_tables.Priced.{Priced}
-use Rattle.workers.specs.inside.Answers.{IsAnswerOf, told_by}
+use Rattle.workers.specs.inside.Answers.{Stuck, IsAnswerOf, told_by}
 use Rattle.opening.specs.RootTables.{IsPricedOf}
-use Rattle.workers.specs.inside.Searches.{IsSizedEntry, IsSpentUnlessClosed, start_by}
+use Rattle.workers.specs.inside.Searches.{Priced, IsSizedEntry, IsSpentUnlessClosed, start_by}
 use Rattle.decommitment.specs.Standings.{IsDropped, KeepsMostOn, ending_of}
-use Rattle.workers.specs.inside.Best.{IsBest, kept_stuck}
+use Rattle.workers.specs.inside.Best.{Standing, IsBest, kept_stuck}
 use Rattle.workers.proofs.FewRows.{few_rows}
 use Rattle.workers.proofs.OwnValues.{bound_small, least_above, least_small}
 use Rattle.opening.proofs.Patterns.{not_first}

@@ -2,7 +2,6 @@
 use Rattle.std.proofs.Common.{◌≡◌, inl, ℕ, ◌<◌, [], ◌∷◌, refl, ap, sym, subst, arith, Some, None}
 use Rattle.std.proofs.lemmas.List.Elements.{All-nil, All-cons}
 use Rattle.uc_model.specs.Limits.{IsLawfulInstance}
-use Rattle.uc_model.specs.declared.instance.Instance.{Instance}
 use Rattle.dual_model.specs.Fixings.{HasNoPattern, IsFirstEmpty}
 use Rattle.dual_model.specs.Opening.{ray_table}
 use Rattle.dual_model.specs.Prices.{IsLawfulTable}
@@ -10,12 +9,11 @@ use Rattle.dual_model.specs.Tree.{Ends, root}
 use Rattle.branch_tree.specs.TreeView.{IsWhole}
 use Rattle.branch_tree.specs.Claims.{IsLayoutOf}
 use Rattle.branch_tree.specs.TrueFound.{IsTrueEntry, IsTrueFound}
-use Rattle.branch_tree.specs.declared.found.Found.{Found}
 use Rattle.branch_tree.specs.declared.layout.Layout.{Layout}
 use Rattle.branch_tree.specs.declared.tree.Tree.{Tree}
 use Rattle.branch_tree.specs.declared.tree.Leaf.TheVariants as leaf
 use Rattle.opening_tables.proofs.RayTables.{ray_lawful}
-use Rattle.workers.specs.Writable.{HasFewRows}
+use Rattle.workers.specs.Writable.{Found, Instance, HasFewRows}
 use Rattle.dual_model.specs.Tree.{HasEachPattern}
 use Rattle.opening.specs.Rays.{IsFirstRay}
 use Rattle.workers.specs.SearchResult.{IsNoDearer}

@@ -1,12 +1,9 @@
 -- A lawful table has at most a row for each cell, since its rows rise by unit and period.
 use Rattle.std.proofs.Common.{◌≡◌, ⊎_elim, ℕ, zero, suc, ◌+◌, ◌*◌, ◌<◌, ◌≤◌, List, All, get_or, length, refl, arith, pos}
 use Rattle.uc_model.specs.Limits.{IsLawfulInstance}
-use Rattle.uc_model.specs.declared.instance.Instance.{Instance}
-use Rattle.uc_model.specs.declared.limits.TheConstants.{MAX_PERIODS, MAX_UNITS}
 use Rattle.dual_model.specs.Prices.{IsLawfulTable, IsRowBefore, IsRowWithin}
-use Rattle.dual_model.specs.declared.table.Table.{Table}
 use Rattle.dual_model.specs.declared.table.RampRow.{RampRow}
-use Rattle.workers.specs.Writable.{HasFewRows}
+use Rattle.workers.specs.Writable.{Instance, MAX_PERIODS, MAX_UNITS, Table, HasFewRows}
 
 -- the place of a row among the cells, unit by unit
 abbrev place : RampRow → ℕ

@@ -8,14 +8,10 @@ use Rattle.uc_model.proofs.Ring.{le_refl, le_trans, linear}
 use Rattle.uc_model.proofs.Sizes.{floor-size}
 use Rattle.uc_model.proofs.Tests.{int_lt-true}
 use Rattle.dual_model.specs.Tree.{child}
-use Rattle.dual_model.specs.declared.node.Node.{Node}
-use Rattle.dual_model.specs.declared.table.Table.{Table}
 use Rattle.dual_model.specs.NodeAnswer.{MAX_VALUE}
 use Rattle.branch_tree.specs.Claims.{table_at}
 use Rattle.branch_tree.specs.NumberedTree.{NumberedTree, EndAt, SplitAt, unnumbered}
 use Rattle.branch_tree.specs.StoredTree.{AtMost, leaf_bound, least_bound, lesser_bound}
-use Rattle.branch_tree.specs.declared.found.Entry.{Entry}
-use Rattle.branch_tree.specs.declared.found.Outcome.{Outcome}
 use Rattle.branch_tree.specs.declared.found.Outcome.TheVariants as outcome
 use Rattle.branch_tree.specs.declared.tree.Leaf.{Leaf}
 use Rattle.branch_tree.specs.declared.tree.Leaf.TheVariants as leaf
@@ -25,7 +21,7 @@ use Rattle.search_core.specs.Machine.{entries_of}
 use Rattle.search_core.specs.Moves.{bound_of, kept_after}
 use Rattle.search_core.specs.OwnTables.{HoldsStored, OwnsBelow, stored_after, stored_by}
 use Rattle.opening.specs.Outcomes.{IsSized}
-use Rattle.workers.specs.inside.Searches.{IsSizedEntry}
+use Rattle.workers.specs.inside.Searches.{Entry, Node, Outcome, Table, IsSizedEntry}
 
 -- ---- no less
 kept_rises : (old : Stored) (number : ℕ) (k : ℤ) (result : Outcome) → old.value ≤ℤ (kept_after old number k result).value

@@ -5,8 +5,6 @@ use Rattle.std.specs.Option.{option_map}
 use Rattle.std.proofs.lemmas.Int.{ints, int_min_is}
 use Rattle.std.proofs.lemmas.List.Elements.{All-nil, All-cons, All-append}
 use Rattle.std.proofs.lemmas.Option.{get_or_from_slice_get, slice_get_within}
-use Rattle.uc_model.specs.declared.instance.Instance.{Instance}
-use Rattle.uc_model.specs.declared.schedule.Printed.{Printed}
 use Rattle.uc_model.specs.declared.tolerance.TheConstants.{WHOLE_GAP}
 use Rattle.uc_model.specs.Division.{IsFloor}
 use Rattle.uc_model.proofs.Quotients.{IsFloor-int_div_euclid, IsFloor_unique}
@@ -18,14 +16,11 @@ use Rattle.dual_model.specs.Prices.{IsLawfulTable}
 use Rattle.dual_model.specs.Tree.{Ends, Splits, root, child, map_leaves, EachLeaf, IsCoverBelow}
 use Rattle.dual_model.specs.Tree as branch
 use Rattle.dual_model.specs.declared.node.Fixing.{Fixing}
-use Rattle.dual_model.specs.declared.node.Node.{Node}
-use Rattle.dual_model.specs.declared.table.Table.{Table}
 use Rattle.branch_tree.specs.Closing.{is_schedule_within}
 use Rattle.branch_tree.specs.NumberedTree.{NumberedTree, EndAt, SplitAt, Subtree, unnumbered, subtree_below, subtree_at}
 use Rattle.branch_tree.specs.StoredTree.{IsNodeAt, least_bound, lesser_bound, tree_bound}
 use Rattle.branch_tree.specs.TreeLaws.{StoredHolds, own_claim}
 use Rattle.branch_tree.specs.TreeView.{IsOpenAt, IsWhole, tree_of}
-use Rattle.branch_tree.specs.declared.found.Entry.{Entry}
 use Rattle.branch_tree.specs.declared.tree.Leaf.{Leaf}
 use Rattle.branch_tree.specs.declared.tree.Leaf.TheVariants as leaf
 use Rattle.branch_tree.proofs.Grown.{open_below}
@@ -44,10 +39,9 @@ use Rattle.search_core.proofs.Leaves.{holds_of_leaf, leaf_part}
 use Rattle.search_core.proofs.TrueRuns.{starts_are_reached, steps_reach}
 use Rattle.schedule_check.specs.Accepted.{IsAcceptedIfFound}
 use Rattle.decommitment.specs.DropCommitment.{Dispatched, StuckIn}
-use Rattle.opening.specs.declared.root_tables.Priced.{Priced}
 use Rattle.opening.specs.RootTables.{IsPricedOf}
 use Rattle.claims.specs.Claims.{HasStoredTable, IsPublished}
-use Rattle.workers.specs.inside.Searches.{IsGrown, IsReady, IsScaledWithin, IsSearching, IsSizedEntry, IsTableFor, IsTurned, IsVisited, cost_of, start_by}
+use Rattle.workers.specs.inside.Searches.{Entry, Instance, Node, Priced, Printed, Table, IsGrown, IsReady, IsScaledWithin, IsSearching, IsSizedEntry, IsTableFor, IsTurned, IsVisited, cost_of, start_by}
 use Rattle.workers.specs.inside.Best.{IsNoWorse}
 
 -- ---- the start

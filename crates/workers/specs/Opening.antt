@@ -1,10 +1,10 @@
 -- The table that the root has before any claim, by how the drop commitment ends. This project's own.
 use Rattle.std.specs.Prelude.{◌≡◌, ℤ}
-use Rattle.uc_model.specs.declared.instance.Instance.{Instance}
+pub use Rattle.uc_model.specs.declared.instance.Instance.{Instance}
 use Rattle.dual_model.specs.NodeValue.{IsNodeValue}
 use Rattle.dual_model.specs.Opening.{zero_table}
 use Rattle.dual_model.specs.Tree.{root}
-use Rattle.dual_model.specs.declared.table.Table.{Table}
+pub use Rattle.dual_model.specs.declared.table.Table.{Table}
 use Rattle.decommitment.specs.DropCommitment.{Ending, Dispatched, StuckIn}
 use Rattle.opening.specs.RootTables.{IsGreaterTable}
 

@@ -1,14 +1,13 @@
 -- What a search answers: a true answer, how much of the budget was spent, and what the opening gives at least. This project's own
 -- statement.
 use Rattle.std.specs.Prelude.{◌≡◌, ◌≢◌, ℕ, false, List, [], ℤ, ◌≤ℤ◌, Option, Some, None, IfSome, length, slice_get}
-use Rattle.uc_model.specs.declared.instance.Instance.{Instance}
+pub use Rattle.uc_model.specs.declared.instance.Instance.{Instance}
 use Rattle.uc_model.specs.declared.pattern.Pattern.{Pattern}
-use Rattle.uc_model.specs.declared.schedule.Printed.{Printed}
+pub use Rattle.uc_model.specs.declared.schedule.Printed.{Printed}
 use Rattle.dual_model.specs.Cover.{ReachesBoundOf}
 use Rattle.dual_model.specs.Fixings.{IsFirstEmpty}
 use Rattle.dual_model.specs.Opening.{ray_table, zero_table}
 use Rattle.dual_model.specs.Tree.{Ends, root}
-use Rattle.dual_model.specs.declared.table.Table.{Table}
 use Rattle.opening_tables.specs.Marginal.{IsMarginalTable}
 use Rattle.branch_tree.specs.Closing.{is_closed}
 use Rattle.branch_tree.specs.StoredTree.{tree_bound}
@@ -22,7 +21,7 @@ use Rattle.decommitment.specs.DropCommitment.{Ending, Dispatched, StuckIn, IsDro
 use Rattle.dual_model.specs.Tree.{HasEachPattern}
 use Rattle.decommitment.specs.MostOnStuck.{TellsMostOn}
 use Rattle.opening.specs.Rays.{HasNoRay, IsFirstRay}
-use Rattle.workers.specs.Opening.{IsRootTable}
+use Rattle.workers.specs.Opening.{Table, IsRootTable}
 
 -- ---- no schedule by the opening
 -- the root is excluded by ray n of the opening, before any claim

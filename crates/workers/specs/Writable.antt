@@ -1,13 +1,13 @@
 -- What a search answers besides, so that it can be written: sizes of numbers and lengths of lists. This project's own limits.
 use Rattle.std.specs.Prelude.{◌*◌, ◌≤◌, unsigned_abs, All, IfSome, length}
-use Rattle.uc_model.specs.declared.instance.Instance.{Instance}
-use Rattle.uc_model.specs.declared.limits.TheConstants.{MAX_PERIODS, MAX_UNITS}
-use Rattle.dual_model.specs.declared.table.Table.{Table}
+pub use Rattle.uc_model.specs.declared.instance.Instance.{Instance}
+pub use Rattle.uc_model.specs.declared.limits.TheConstants.{MAX_PERIODS, MAX_UNITS}
+pub use Rattle.dual_model.specs.declared.table.Table.{Table}
 use Rattle.dual_model.specs.NodeAnswer.{MAX_VALUE}
 use Rattle.branch_tree.specs.Claims.{written_tables}
 use Rattle.branch_tree.specs.StoredTree.{tree_bound}
 use Rattle.branch_tree.specs.TreeView.{IsWhole}
-use Rattle.branch_tree.specs.declared.found.Found.{Found}
+pub use Rattle.branch_tree.specs.declared.found.Found.{Found}
 use Rattle.schedule_check.specs.Accepted.{IsAcceptedIfFound}
 
 -- a table with at most a row for each cell

@@ -11,14 +11,12 @@ ghost use Rattle.branch_tree.specs.UsedTables.{stored_tables};
 ghost use Rattle.search_core.specs.Runs.{HoldsAt};
 ghost use Rattle.schedule_check.specs.Accepted.{IsAcceptedIfFound};
 ghost use Rattle.decommitment.specs.Standings.{IsDropped, ending_of};
-ghost use Rattle.decommitment.specs.declared.pass.Standing.{Standing};
 ghost use Rattle.opening.specs.Rays.{HasNoRay, IsFirstRay};
 ghost use Rattle.opening.specs.RootTables.{IsPricedOf};
-ghost use Rattle.opening.specs.declared.root_tables.Priced.{Priced};
 ghost use Rattle.workers.specs.Opening.{IsRootTable};
 ghost use Rattle.workers.specs.inside.Answers.{IsAnswerOf, lone_root, told_by};
-ghost use Rattle.workers.specs.inside.Best.{IsBest, kept_stuck};
-ghost use Rattle.workers.specs.inside.Searches.{IsSizedEntry, IsSpentUnlessClosed, start_by};
+ghost use Rattle.workers.specs.inside.Best.{Standing, IsBest, kept_stuck};
+ghost use Rattle.workers.specs.inside.Searches.{Priced, IsSizedEntry, IsSpentUnlessClosed, start_by};
 
 use crate::tree_search::Search;
 use crate::worker::Worker;

@@ -2,11 +2,10 @@
 
 ghost use Rattle.std.specs.Prelude.{◌≡◌, ◌≤◌, Some, IfOk};
 ghost use Rattle.uc_model.specs.Limits.{IsLawfulInstance};
-ghost use Rattle.uc_model.specs.declared.instance.Instance.{Instance};
 ghost use Rattle.uc_model.specs.declared.tolerance.TheConstants.{WHOLE_GAP};
 ghost use Rattle.branch_tree.specs.Closing.{is_schedule_within};
 ghost use Rattle.schedule_check.specs.Accepted.{IsAcceptedIfFound};
-ghost use Rattle.workers.specs.inside.Best.{IsLower, IsNoWorse};
+ghost use Rattle.workers.specs.inside.Best.{Instance, IsLower, IsNoWorse};
 
 use crate::worker::Worker;
 use branch_tree::is_within_gap;

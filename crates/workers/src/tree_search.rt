@@ -2,7 +2,6 @@
 
 ghost use Rattle.std.specs.Prelude.{◌≡◌, ◌≢◌, ◌≤◌, ℕ, true, IsTrue, IfOk, None, OnOk};
 ghost use Rattle.uc_model.specs.Limits.{IsLawfulInstance};
-ghost use Rattle.uc_model.specs.declared.instance.Instance.{Instance};
 ghost use Rattle.uc_model.specs.declared.tolerance.TheConstants.{WHOLE_GAP};
 ghost use Rattle.branch_tree.specs.Closing.{is_schedule_within};
 ghost use Rattle.branch_tree.specs.StoredTree.{tree_bound};
@@ -13,9 +12,8 @@ ghost use Rattle.search_core.specs.declared.limits.TheConstants.{MAX_BUDGET};
 ghost use Rattle.schedule_check.specs.Accepted.{IsAcceptedIfFound};
 ghost use Rattle.claims.specs.Claims.{IsPublished};
 ghost use Rattle.opening.specs.RootTables.{IsPricedOf};
-ghost use Rattle.opening.specs.declared.root_tables.Priced.{Priced};
-ghost use Rattle.workers.specs.inside.Best.{IsNoWorse};
-ghost use Rattle.workers.specs.inside.Searches.{IsGrown, IsReady, IsSearching, IsTurned, start_by};
+ghost use Rattle.workers.specs.inside.Best.{Instance, IsNoWorse};
+ghost use Rattle.workers.specs.inside.Searches.{Priced, IsGrown, IsReady, IsSearching, IsTurned, start_by};
 ghost use Rattle.workers.specs.inside.Starts.{IsBegun};
 ghost use Rattle.workers.specs.inside.Trials.{IsNextAt};
 

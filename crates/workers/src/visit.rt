@@ -1,14 +1,13 @@
 //! A claim of a node: at which table it is evaluated, and by which move it ends.
 
 ghost use Rattle.std.specs.Prelude.{◌≡◌, ◌≢◌, ◌<◌, ◌≤◌, false, [], None, pos, IfOk, IfSome, IsTrue, OnOk};
-ghost use Rattle.uc_model.specs.declared.instance.Instance.{Instance};
 ghost use Rattle.dual_model.specs.Fixings.{IsNodeOf};
 ghost use Rattle.dual_model.specs.Prices.{IsLawfulTable};
 ghost use Rattle.branch_tree.specs.NumberedTree.{node_count};
 ghost use Rattle.branch_tree.specs.StoredTree.{IsNodeAt};
 ghost use Rattle.search_core.specs.Machine.{entries_of};
 ghost use Rattle.search_core.specs.declared.limits.TheConstants.{MAX_BUDGET};
-ghost use Rattle.workers.specs.inside.Searches.{IsReady, IsTableFor, IsVisited};
+ghost use Rattle.workers.specs.inside.Searches.{Instance, IsReady, IsTableFor, IsVisited};
 ghost use Rattle.workers.specs.inside.Trials.{IsAscentFor, IsFreshRay, IsNextAt, table_of};
 
 use crate::start::first_ascent;

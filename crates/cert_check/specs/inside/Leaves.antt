@@ -6,13 +6,13 @@ use Rattle.uc_model.specs.declared.instance.Instance.{Instance}
 use Rattle.dual_model.specs.Fixings.{HasEmptyUnit}
 use Rattle.dual_model.specs.NodeValue.{IsNodeValue}
 use Rattle.dual_model.specs.declared.node.Node.{Node}
-use Rattle.dual_model.specs.declared.table.Table.{Table}
+pub use Rattle.dual_model.specs.declared.table.Table.{Table}
 use Rattle.leaf_values.specs.Entries.{AreEntriesOf}
 use Rattle.leaf_values.specs.declared.entries.TableEntries.{TableEntries}
-use Rattle.cert_text.specs.declared.cert.CertNode.{CertNode}
+pub use Rattle.cert_text.specs.declared.cert.CertNode.{CertNode}
 use Rattle.cert_text.specs.declared.cert.CertNode.TheVariants as nodes
 use Rattle.cert_check.specs.declared.leaf.Leaves.{Leaves}
-use Rattle.cert_check.specs.declared.leaf.Loaded.{Loaded}
+pub use Rattle.cert_check.specs.declared.leaf.Loaded.{Loaded}
 
 -- a leaf, whose table or unit is there
 abbrev pub IsLeafNode : ℕ → ℕ → CertNode → Type 0

@@ -1,14 +1,11 @@
 -- What the walk over the nodes of a certificate asks of it, and answers. This project's own.
 use Rattle.std.specs.Prelude.{◌≡◌, ℕ, suc, Option, Some, None, All, map, length}
-use Rattle.uc_model.specs.declared.instance.Instance.{Instance}
-use Rattle.uc_model.specs.declared.refusal.Refusal.{Refusal}
 use Rattle.dual_model.specs.Prices.{IsLawfulTable}
 use Rattle.cert_text.specs.Nodes.{IsNodeWithin}
 use Rattle.cert_text.specs.Reading.{node_of}
-use Rattle.cert_text.specs.declared.cert.Cert.{Cert}
-use Rattle.cert_check.specs.Visits.{Visit, IsSound}
-use Rattle.cert_check.specs.Refusals.{IsFirstUnsound, refusal_of}
-use Rattle.cert_check.specs.inside.Steps.{FitsInstance}
+use Rattle.cert_check.specs.Visits.{Instance, Visit, IsSound}
+use Rattle.cert_check.specs.Refusals.{Refusal, IsFirstUnsound, refusal_of}
+use Rattle.cert_check.specs.inside.Steps.{Cert, FitsInstance}
 use Rattle.cert_check.specs.inside.Walks.{all_visits}
 
 -- the certificate has the instance's size, lawful tables, and nodes that name what there is

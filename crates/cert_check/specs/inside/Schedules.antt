@@ -1,12 +1,10 @@
 -- What the check of a certificate's schedule answers. This project's own.
 use Rattle.std.specs.Prelude.{◌≡◌, ℤ, Option, Some, None}
 use Rattle.uc_model.specs.PrintedSchedule.{printed_denominator, printed_schedule}
-use Rattle.uc_model.specs.declared.instance.Instance.{Instance}
-use Rattle.uc_model.specs.declared.refusal.Refusal.{Refusal}
 use Rattle.uc_model.specs.declared.refusal.Refusal.TheVariants as codes
 use Rattle.dual_model.specs.Certificate.{WrittenSchedule, ScheduleHolds}
 use Rattle.schedule_check.specs.FirstBroken.{IsFirstBroken}
-use Rattle.cert_check.specs.Refusals.{Miscosts}
+use Rattle.cert_check.specs.Refusals.{Instance, Refusal, Miscosts}
 
 -- the schedule holds, and that is its cost
 abbrev pub IsCostOf : Instance → Option WrittenSchedule → Option ℤ → Type 0

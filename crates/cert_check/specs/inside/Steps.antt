@@ -4,8 +4,8 @@ use Rattle.std.specs.List.{list_any}
 use Rattle.uc_model.specs.Schedule.{thermal_count, renewable_count}
 use Rattle.uc_model.specs.declared.instance.Instance.{Instance}
 use Rattle.branch_tree.specs.Claims.{written_of}
-use Rattle.cert_text.specs.declared.cert.Cert.{Cert}
-use Rattle.cert_text.specs.declared.cert.CertNode.{CertNode}
+pub use Rattle.cert_text.specs.declared.cert.Cert.{Cert}
+pub use Rattle.cert_text.specs.declared.cert.CertNode.{CertNode}
 use Rattle.cert_text.specs.declared.cert.CertNode.TheVariants as nodes
 
 -- the size read is the instance's

@@ -1,18 +1,16 @@
 -- The visits of a list of nodes by a walk that knows the places at which subtrees are still to come, the next one first.
 -- This project's own.
 use Rattle.std.specs.Prelude.{◌≡◌, ℕ, Bool, not, IsTrue, All, true, false, List, [], ◌∷◌, ◌++◌, ℤ, Option, length, map, if◌then◌else◌}
-use Rattle.uc_model.specs.declared.instance.Instance.{Instance}
+pub use Rattle.uc_model.specs.declared.instance.Instance.{Instance}
 use Rattle.dual_model.specs.Fixings.{IsCell, IsNodeOf}
 use Rattle.dual_model.specs.Tree.{child, root, is_decided}
-use Rattle.dual_model.specs.declared.node.Fixing.{Fixing}
-use Rattle.dual_model.specs.declared.node.Node.{Node}
-use Rattle.dual_model.specs.declared.table.Table.{Table}
+pub use Rattle.dual_model.specs.declared.node.Fixing.{Fixing}
 use Rattle.cert_text.specs.Nodes.{TreeNode, LeafNode, SplitNode}
 use Rattle.cert_text.specs.Reading.{node_of}
-use Rattle.cert_text.specs.declared.cert.CertNode.{CertNode}
+pub use Rattle.cert_text.specs.declared.cert.CertNode.{CertNode}
 use Rattle.cert_text.specs.declared.cert.CertNode.TheVariants as nodes
 use Rattle.leaf_values.specs.Paths.{DecidesOnce}
-use Rattle.cert_check.specs.Visits.{Visit, IsSound}
+use Rattle.cert_check.specs.Visits.{Node, Table, Visit, IsSound}
 
 -- a split's children are to come before the other places
 abbrev pub walk : List Node → List TreeNode → List Visit

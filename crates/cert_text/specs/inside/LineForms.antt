@@ -1,11 +1,9 @@
 -- Reading one line of a certificate.
 use Rattle.std.specs.Prelude.{ℕ, Bool, true, false, ◌&&◌, ◌||◌, ◌==◌, not, nat_lt, nat_le, List, Option, Some, None, ℤ, pos, codes}
 use Rattle.std.specs.Ordering.{int_eq}
-use Rattle.uc_model.specs.declared.schedule.Cell.{Cell}
 use Rattle.dual_model.specs.Cover.{Bound, Ray, Empty}
-use Rattle.dual_model.specs.declared.table.RampRow.{RampRow}
 use Rattle.cert_text.specs.Nodes.{TreeNode, LeafNode, SplitNode}
-use Rattle.cert_text.specs.Grammar.{Sizes}
+use Rattle.cert_text.specs.Grammar.{Cell, RampRow, Sizes}
 use Rattle.cert_text.specs.inside.Forms.{Form, text_at, after, ended, both, mapped, passing, or_else, when, fixed, times, whole_at, ordinal_at, signed_at, money_at}
 
 -- ---- the heading

@@ -2,14 +2,11 @@
 -- the first line on that may not stand there.
 use Rattle.std.specs.Prelude.{◌≡◌, ℕ, zero, suc, List, [], ◌∷◌, length, Option, Some, None, Result, Ok, Err, ℤ, pos, codes}
 use Rattle.std.specs.Option.{ok_or}
-use Rattle.uc_model.specs.declared.schedule.Cell.{Cell}
 use Rattle.dual_model.specs.Certificate.{WrittenSchedule}
-use Rattle.dual_model.specs.declared.table.RampRow.{RampRow}
-use Rattle.dual_model.specs.declared.table.Table.{Table}
-use Rattle.cert_text.specs.CertificateText.{Listing}
+use Rattle.cert_text.specs.CertificateText.{Cell, RampRow, Table, Listing}
 use Rattle.cert_text.specs.Nodes.{TreeNode, LeafNode, SplitNode}
 use Rattle.cert_text.specs.Grammar.{Sizes}
-use Rattle.cert_text.specs.declared.reader.stop.Stop.{Stop}
+pub use Rattle.cert_text.specs.declared.reader.stop.Stop.{Stop}
 use Rattle.cert_text.specs.declared.reader.stop.Stop.TheVariants as stops
 use Rattle.cert_text.specs.inside.Forms.{Form, signed_at}
 use Rattle.cert_text.specs.inside.LineForms.{version_at, size_at, claim_at, schedule_at, cell_at, row_at, scale_at, ramp_count_at, ramp_at, node_at, end_at}

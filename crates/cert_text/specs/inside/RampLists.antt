@@ -1,7 +1,6 @@
 -- Rows of ramp multipliers one behind the other.
 use Rattle.std.specs.Prelude.{List, [], ◌∷◌, Option, Some}
-use Rattle.dual_model.specs.declared.table.RampRow.{RampRow}
-use Rattle.cert_text.specs.Grammar.{Sizes, IsRampAfter}
+use Rattle.cert_text.specs.Grammar.{RampRow, Sizes, IsRampAfter}
 
 -- each row may stand behind the one before it
 abbrev pub AreRamps : Sizes → Option RampRow → List RampRow → Type 0

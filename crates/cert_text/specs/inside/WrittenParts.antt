@@ -1,19 +1,18 @@
 -- The text of a found answer's certificate in the parts in which it is written.
 use Rattle.std.specs.Prelude.{ℕ, List, [], ◌∷◌, Option, Some, None, length, flat_map, codes}
-use Rattle.uc_model.specs.declared.instance.Instance.{Instance}
+pub use Rattle.uc_model.specs.declared.instance.Instance.{Instance}
 use Rattle.dual_model.specs.Certificate.{WrittenSchedule, Certificate}
-use Rattle.dual_model.specs.declared.table.Table.{Table}
-use Rattle.branch_tree.specs.declared.found.Found.{Found}
+pub use Rattle.branch_tree.specs.declared.found.Found.{Found}
 use Rattle.dual_model.specs.Tree.{map_leaves}
 use Rattle.branch_tree.specs.TreeView.{tree_of}
 use Rattle.branch_tree.specs.UsedTables.{used_tables}
 use Rattle.branch_tree.specs.Claims.{table_at, leaf_claim, certificate_of}
-use Rattle.branch_tree.specs.declared.tree.Spot.{Spot}
+pub use Rattle.branch_tree.specs.declared.tree.Spot.{Spot}
 use Rattle.branch_tree.specs.declared.tree.Spot.TheVariants as spot
 use Rattle.branch_tree.specs.declared.tree.Tree.{Tree}
 use Rattle.outside.specs.Lines.{joined}
 use Rattle.cert_text.specs.Nodes.{TreeNode, LeafNode, SplitNode, preorder, node_line}
-use Rattle.cert_text.specs.CertificateText.{version_line, size_line, claim_line, cost_line, no_schedule_line, thermal_line, renewable_line, scale_line, prices_line, ramps_line, ramp_line, end_line}
+use Rattle.cert_text.specs.CertificateText.{Table, version_line, size_line, claim_line, cost_line, no_schedule_line, thermal_line, renewable_line, scale_line, prices_line, ramps_line, ramp_line, end_line}
 
 abbrev pub schedule_part : Option WrittenSchedule → List ℕ
 schedule_part None = no_schedule_line

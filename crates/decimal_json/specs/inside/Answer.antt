@@ -3,12 +3,12 @@ use Rattle.std.specs.Prelude.{◌≡◌, ◌≢◌, ℕ, ◌+◌, ◌<◌, ◌==
 use Rattle.std.specs.Global.{Global}
 use Rattle.std.specs.Str.{bytes_eq}
 use Rattle.indexmap.specs.IndexMap.{IndexMap, get_by_text}
-use Rattle.decimal_json.specs.declared.types.JsonFault.{JsonFault}
+pub use Rattle.decimal_json.specs.declared.types.JsonFault.{JsonFault}
 use Rattle.decimal_json.specs.declared.token.Past.{Past}
 use Rattle.decimal_json.specs.declared.token.Past.TheVariants.{Comma, Bracket}
-use Rattle.decimal_json.specs.declared.types.Json.{Json}
+pub use Rattle.decimal_json.specs.declared.types.Json.{Json}
 use Rattle.decimal_json.specs.View.{view}
-use Rattle.decimal_json.specs.declared.types.JsonFault.TheVariants.{At, NoMemory}
+pub use Rattle.decimal_json.specs.declared.types.JsonFault.TheVariants.{At, NoMemory}
 use Rattle.decimal_json.specs.Value.{Value, members_of, has_key}
 use Rattle.decimal_json.specs.Number.{is_mark}
 use Rattle.decimal_json.specs.Escape.{is_hex, hex_of}

@@ -2,20 +2,17 @@
 use Rattle.std.specs.Prelude.{◌≡◌, ℕ, suc, ◌<◌, Bool, true, false, nat_lt, int_lt, List, length, IsTrue, slice_set, slice_index_or}
 use Rattle.uc_model.specs.Commitment.{is_allowed}
 use Rattle.uc_model.specs.Schedule.{thermal_count, thermal_unit}
-use Rattle.uc_model.specs.declared.instance.Instance.{Instance}
-use Rattle.uc_model.specs.declared.pattern.Pattern.{Pattern}
-use Rattle.uc_model.specs.declared.schedule.Printed.{Printed}
 use Rattle.dispatch_repair.specs.Period.{commitment_at}
 use Rattle.dispatch_repair.specs.Rooms.{AreRowsBut, AreRowsOf, IsRoomOf, printed_of}
 use Rattle.dispatch_repair.specs.declared.room.Room.{Room}
-use Rattle.dispatch_repair.specs.declared.rows.Rows.{Rows}
-use Rattle.decommitment.specs.DropCommitment.{Ending, Dispatched, StuckIn, IsDropPass, IsEndingOf, IsFewestOnOf}
+pub use Rattle.dispatch_repair.specs.declared.rows.Rows.{Rows}
+use Rattle.decommitment.specs.DropCommitment.{Instance, Pattern, Printed, Ending, Dispatched, StuckIn, IsDropPass, IsEndingOf, IsFewestOnOf}
 use Rattle.decommitment.specs.MostOnStuck.{IsMostOnStuck}
-use Rattle.decommitment.specs.declared.pass.Pass.{Pass}
-use Rattle.decommitment.specs.declared.pass.Stand.{Stand}
+pub use Rattle.decommitment.specs.declared.pass.Pass.{Pass}
+pub use Rattle.decommitment.specs.declared.pass.Stand.{Stand}
 use Rattle.decommitment.specs.declared.pass.Stand.TheVariants as stand
-use Rattle.decommitment.specs.declared.pass.Turn.{Turn}
-use Rattle.decommitment.specs.declared.trial.Trial.{Trial}
+pub use Rattle.decommitment.specs.declared.pass.Turn.{Turn}
+pub use Rattle.decommitment.specs.declared.trial.Trial.{Trial}
 use Rattle.decommitment.specs.declared.trial.Trial.TheVariants as trial
 
 -- each unit's pattern is an allowed one

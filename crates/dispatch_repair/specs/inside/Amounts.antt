@@ -2,10 +2,8 @@
 use Rattle.std.specs.Prelude.{◌≡◌, ℕ, ◌+◌, ◌*◌, ◌<◌, ◌≤◌, nat_lt, List, ℤ, pos, unsigned_abs, length, slice_index_or, if◌then◌else◌}
 use Rattle.uc_model.specs.Limits.{IsLawfulInstance}
 use Rattle.uc_model.specs.Schedule.{thermal_count, renewable_count}
-use Rattle.uc_model.specs.declared.instance.Instance.{Instance}
-use Rattle.uc_model.specs.declared.limits.TheConstants.{MAX_POWER}
-use Rattle.uc_model.specs.declared.pattern.Pattern.{Pattern}
-use Rattle.dispatch_repair.specs.Dispatch.{period_after}
+pub use Rattle.uc_model.specs.declared.limits.TheConstants.{MAX_POWER}
+use Rattle.dispatch_repair.specs.Dispatch.{Instance, Pattern, period_after}
 use Rattle.dispatch_repair.specs.Period.{Period, Source, FromRenewable, FromThermal, low_of, high_of, head_of}
 use Rattle.dispatch_repair.specs.inside.Segments.{source_at, source_count}
 pub use Rattle.dispatch_repair.specs.declared.range.Range.{Range}

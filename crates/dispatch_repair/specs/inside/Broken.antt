@@ -4,7 +4,7 @@ use Rattle.uc_model.specs.Rules.{Rule, rule_number}
 use Rattle.uc_model.specs.declared.instance.Instance.{Instance}
 use Rattle.uc_model.specs.declared.pattern.Pattern.{Pattern}
 use Rattle.dispatch_repair.specs.Stuck.{IsCommitmentRule, KeepsRule}
-use Rattle.dispatch_repair.specs.declared.regularity.BrokenRule.{BrokenRule}
+pub use Rattle.dispatch_repair.specs.declared.regularity.BrokenRule.{BrokenRule}
 
 -- the rule and unit are the first among the first n units
 pub record IsFirstAmong (instance : Instance) (patterns : List Pattern) (n number unit : ℕ) : Type 0 where

@@ -3,15 +3,13 @@ use Rattle.std.specs.Prelude.{◌≡◌, ◌≢◌, ℕ, ◌+◌, ◌*◌, ◌<�
 use Rattle.std.specs.Int.{int_min}
 use Rattle.uc_model.specs.Sums.{sum_below}
 use Rattle.uc_model.specs.Schedule.{thermal_count, renewable_count}
-use Rattle.uc_model.specs.declared.instance.Instance.{Instance}
-use Rattle.uc_model.specs.declared.limits.TheConstants.{MAX_POWER, MAX_UNITS}
-use Rattle.cost_curves.specs.declared.slope.Slope.{Slope}
-use Rattle.dispatch_repair.specs.Period.{Period, demand_of, low_of, thermal_limit, thermal_sum, total_output}
-use Rattle.dispatch_repair.specs.MeritOrder.{HasNextSlope}
+pub use Rattle.uc_model.specs.declared.limits.TheConstants.{MAX_POWER, MAX_UNITS}
+use Rattle.dispatch_repair.specs.Period.{Instance, Period, demand_of, low_of, thermal_limit, thermal_sum, total_output}
+use Rattle.dispatch_repair.specs.MeritOrder.{Slope, HasNextSlope}
 use Rattle.dispatch_repair.specs.Stuck.{IsFree}
 use Rattle.dispatch_repair.specs.inside.Amounts.{Range, range_at, amount_at, thermal_amount, IsSizedEnd}
 use Rattle.dispatch_repair.specs.inside.Segments.{Segment, IsAtMost, source_at, source_count, width_at, segment_at}
-use Rattle.dispatch_repair.specs.declared.fill.Left.{Left}
+pub use Rattle.dispatch_repair.specs.declared.fill.Left.{Left}
 
 -- what is left isn't negative, and has the size of a sum over units
 pub record IsLeft (left : Left) : Type 0 where

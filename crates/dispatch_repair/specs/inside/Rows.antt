@@ -6,15 +6,11 @@ use Rattle.std.specs.declared.vec.Vec.{Vec}
 use Rattle.uc_model.specs.Sums.{sum_below}
 use Rattle.uc_model.specs.Schedule.{thermal_count, renewable_count}
 use Rattle.uc_model.specs.PrintedSchedule.{cell_at}
-use Rattle.uc_model.specs.declared.instance.Instance.{Instance}
-use Rattle.uc_model.specs.declared.limits.TheConstants.{MAX_POWER}
-use Rattle.uc_model.specs.declared.pattern.Pattern.{Pattern}
-use Rattle.uc_model.specs.declared.schedule.Cell.{Cell}
-use Rattle.uc_model.specs.declared.schedule.Printed.{Printed}
+pub use Rattle.uc_model.specs.declared.schedule.Cell.{Cell}
 use Rattle.schedule_check.specs.SizedNumbers.{output_at}
-use Rattle.dispatch_repair.specs.Dispatch.{HasPeriods, IsCommittedCell}
-use Rattle.dispatch_repair.specs.inside.Amounts.{amount_at, thermal_amount}
-use Rattle.dispatch_repair.specs.declared.rows.Rows.{Rows}
+use Rattle.dispatch_repair.specs.Dispatch.{Instance, Pattern, Printed, HasPeriods, IsCommittedCell}
+use Rattle.dispatch_repair.specs.inside.Amounts.{MAX_POWER, amount_at, thermal_amount}
+pub use Rattle.dispatch_repair.specs.declared.rows.Rows.{Rows}
 
 -- the rows' items
 abbrev pub rows_of : {X : Type 0} → List (Vec X Global) → List (List X)

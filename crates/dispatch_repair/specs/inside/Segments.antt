@@ -7,11 +7,10 @@ use Rattle.std.specs.List.{Contains}
 use Rattle.uc_model.specs.declared.limits.TheConstants.{MAX_POWER}
 use Rattle.uc_model.specs.Points.{point_of}
 use Rattle.uc_model.specs.Schedule.{thermal_unit, thermal_count, renewable_count, point_p, point_count}
-use Rattle.uc_model.specs.declared.instance.Instance.{Instance}
-use Rattle.uc_model.specs.declared.instance.Point.{Point}
-use Rattle.cost_curves.specs.declared.slope.Slope.{Slope}
+pub use Rattle.uc_model.specs.declared.instance.Instance.{Instance}
+pub use Rattle.uc_model.specs.declared.instance.Point.{Point}
 use Rattle.dispatch_repair.specs.Period.{Source, FromRenewable, FromThermal}
-use Rattle.dispatch_repair.specs.MeritOrder.{HasNextSlope}
+use Rattle.dispatch_repair.specs.MeritOrder.{Slope, HasNextSlope}
 pub use Rattle.dispatch_repair.specs.declared.segment.Segment.{Segment}
 
 -- the sources in their places: renewable units, then thermal ones

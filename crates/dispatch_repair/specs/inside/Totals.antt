@@ -1,6 +1,6 @@
 -- The sums over a period's sources. This project's own.
 use Rattle.std.specs.Prelude.{◌≡◌, ◌*◌, ◌≤◌, ℤ, unsigned_abs}
-use Rattle.uc_model.specs.declared.limits.TheConstants.{MAX_POWER, MAX_UNITS}
+pub use Rattle.uc_model.specs.declared.limits.TheConstants.{MAX_POWER, MAX_UNITS}
 use Rattle.dispatch_repair.specs.Period.{Period, low_of, high_of, heads as heads_of, minimums as minimums_of, thermal_sum, renewable_sum}
 use Rattle.dispatch_repair.specs.declared.obstacle.Totals.{Totals}
 

@@ -4,9 +4,9 @@ use Rattle.std.specs.Prelude.{◌≡◌, ℕ, ◌<◌, Bool, true, false, ◌&&�
 use Rattle.uc_model.specs.Commitment.{Commitment}
 use Rattle.uc_model.specs.PatternBits.{commitment_of}
 use Rattle.dual_model.specs.Fixings.{fix_agrees, keeps, unit_agrees}
-use Rattle.dual_model.specs.declared.node.Fix.{Fix}
-use Rattle.dual_model.specs.declared.node.Fixing.{Fixing}
-use Rattle.dual_model.specs.declared.node.Node.{Node}
+pub use Rattle.dual_model.specs.declared.node.Fix.{Fix}
+pub use Rattle.dual_model.specs.declared.node.Fixing.{Fixing}
+pub use Rattle.dual_model.specs.declared.node.Node.{Node}
 
 -- no commitment agrees with what the node decides of unit g
 abbrev pub Contradicts : Node → ℕ → Type 0

@@ -1,16 +1,11 @@
 -- What a part of the reader answers beside what it reads, and how many numbers a part may have.
 use Rattle.std.specs.Prelude.{◌≡◌, ℕ, ◌+◌, ◌*◌, ◌≤◌, Bool, List, Result, Ok, Err}
-use Rattle.uc_model.specs.declared.limits.TheConstants.{MAX_PERIODS, MAX_POINTS, MAX_START_ROWS}
-use Rattle.uc_model.specs.declared.field_refusal.FieldRefusal.{FieldRefusal}
 use Rattle.decimal_json.specs.Value.{Decimal}
-use Rattle.instance.specs.declared.fault.Fault.{Fault}
-use Rattle.instance.specs.declared.fault.Fault.TheVariants.{Refused, NoMemory}
-use Rattle.instance.specs.declared.fault.Refusal.{Refusal}
-use Rattle.instance.specs.declared.reader.Reader.{Reader}
+pub use Rattle.instance.specs.declared.reader.Reader.{Reader}
 use Rattle.instance.specs.Scaled.{wholes_of}
 use Rattle.instance.specs.Held.{held_wholes}
-use Rattle.instance.specs.Answer.{Fails}
-use Rattle.instance.specs.FirstFault.{with_unit}
+use Rattle.instance.specs.Answer.{Fault, NoMemory, Refused, Fails}
+use Rattle.instance.specs.FirstFault.{FieldRefusal, MAX_PERIODS, MAX_POINTS, MAX_START_ROWS, Refusal, with_unit}
 
 -- So many rounded numbers were counted, at most as many as said.
 pub record Counts (old new : Reader) (count most : ℕ) : Type 0 where

@@ -2,10 +2,8 @@
 
 ghost use Rattle.std.specs.Prelude.{◌≡◌, ◌+◌, ◌<◌, ◌≤◌, ◌^◌, [], length, map, sum_by, OnOk, IfOk, pos, vec_len};
 ghost use Rattle.std.specs.Int.{int_max};
-ghost use Rattle.uc_model.specs.declared.limits.TheConstants.{MAX_PERIODS};
 ghost use Rattle.decimal_json.specs.View.{view, pair_view};
-ghost use Rattle.uc_model.specs.declared.field.Field.TheVariants.{PowerOutputMaximum};
-ghost use Rattle.instance.specs.FirstFault.{each_at, power_entry, powers_at, maximum_entry, maxima_at};
+ghost use Rattle.instance.specs.FirstFault.{MAX_PERIODS, PowerOutputMaximum, each_at, power_entry, powers_at, maximum_entry, maxima_at};
 ghost use Rattle.instance.specs.Rounded.{rounded_value, rounded_array};
 ghost use Rattle.instance.specs.Answer.{Gives};
 ghost use Rattle.instance.specs.inside.Parts.{Counts};

@@ -1,9 +1,8 @@
 //! The numbers of an instance: powers, costs, times, flags and the number of periods.
 
 ghost use Rattle.std.specs.Prelude.{◌≡◌, ◌+◌, ◌<◌, ◌≤◌, ◌^◌, ◌&&◌, nat_lt, OnOk, IfOk};
-ghost use Rattle.uc_model.specs.declared.limits.TheConstants.{MAX_POWER, MAX_PERIODS};
 ghost use Rattle.decimal_json.specs.View.{view, decimal_of};
-ghost use Rattle.instance.specs.FirstFault.{number_at, amount_at, power_from, whole_at, time_at, flag_at, periods_at};
+ghost use Rattle.instance.specs.FirstFault.{MAX_PERIODS, MAX_POWER, number_at, amount_at, power_from, whole_at, time_at, flag_at, periods_at};
 ghost use Rattle.instance.specs.Rounded.{rounded_value};
 ghost use Rattle.instance.specs.Scaled.{signed};
 ghost use Rattle.instance.specs.Answer.{Gives};

@@ -1,9 +1,8 @@
 //! Renewable units.
 
 ghost use Rattle.std.specs.Prelude.{◌≡◌, ◌+◌, ◌*◌, ◌<◌, ◌≤◌, ◌^◌, OnOk};
-ghost use Rattle.uc_model.specs.declared.limits.TheConstants.{MAX_PERIODS};
 ghost use Rattle.decimal_json.specs.View.{view};
-ghost use Rattle.instance.specs.FirstFault.{renewable_at};
+ghost use Rattle.instance.specs.FirstFault.{MAX_PERIODS, renewable_at};
 ghost use Rattle.instance.specs.Rounded.{rounded_renewable};
 ghost use Rattle.instance.specs.Answer.{Gives};
 ghost use Rattle.instance.specs.inside.Parts.{Counts, RENEWABLE_NUMBERS};

@@ -1,11 +1,8 @@
 //! The rows of `startup` and of `piecewise_production`.
 
 ghost use Rattle.std.specs.Prelude.{◌≡◌, ◌+◌, ◌*◌, ◌<◌, ◌≤◌, ◌^◌, [], length, map, sum_by, OnOk, List};
-ghost use Rattle.uc_model.specs.declared.instance.Point.{Point};
-ghost use Rattle.uc_model.specs.declared.instance.StartRow.{StartRow};
-ghost use Rattle.uc_model.specs.declared.limits.TheConstants.{MAX_START_ROWS, MAX_POINTS};
 ghost use Rattle.decimal_json.specs.View.{view, pair_view};
-ghost use Rattle.instance.specs.FirstFault.{each_at, start_row, point_row, startup_at, points_at};
+ghost use Rattle.instance.specs.FirstFault.{MAX_POINTS, MAX_START_ROWS, Point, StartRow, each_at, start_row, point_row, startup_at, points_at};
 ghost use Rattle.instance.specs.Points.{last_output};
 ghost use Rattle.instance.specs.Rounded.{rounded_start_row, rounded_point, rounded_startup, rounded_points};
 ghost use Rattle.instance.specs.Answer.{Gives};

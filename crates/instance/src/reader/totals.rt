@@ -1,9 +1,8 @@
 //! The fields of the whole system: its periods, demand and reserves.
 
 ghost use Rattle.std.specs.Prelude.{◌≡◌, ◌+◌, ◌<◌, ◌≤◌, ◌^◌, map, OnOk, IfOk};
-ghost use Rattle.uc_model.specs.declared.limits.TheConstants.{MAX_PERIODS};
 ghost use Rattle.decimal_json.specs.View.{pair_view};
-ghost use Rattle.instance.specs.FirstFault.{totals_at};
+ghost use Rattle.instance.specs.FirstFault.{MAX_PERIODS, totals_at};
 ghost use Rattle.instance.specs.Rounded.{rounded_totals};
 ghost use Rattle.instance.specs.Answer.{Gives};
 ghost use Rattle.instance.specs.inside.Parts.{Counts, TOTAL_NUMBERS};

@@ -2,12 +2,8 @@
 use Rattle.std.specs.Prelude.{◌≡◌, ℕ, ◌<◌, List, ℤ, pos, ◌+ℤ◌, length, Option, Some, None, MatchOption, unwrap_or}
 use Rattle.uc_model.specs.Sums.{sum_below}
 use Rattle.uc_model.specs.Schedule.{thermal_unit}
-use Rattle.uc_model.specs.declared.instance.Instance.{Instance}
-use Rattle.uc_model.specs.declared.instance.Thermal.{Thermal}
-use Rattle.dual_model.specs.declared.node.Fix.{Fix}
-use Rattle.leaf_values.specs.Entries.{UnitEntry, IsReckoned, entry_at, entry_in}
-use Rattle.leaf_values.specs.Paths.{fix_at}
-use Rattle.leaf_values.specs.declared.entries.TableEntries.{TableEntries}
+use Rattle.leaf_values.specs.Entries.{Instance, TableEntries, Thermal, UnitEntry, IsReckoned, entry_at, entry_in}
+use Rattle.leaf_values.specs.Paths.{Fix, fix_at}
 
 -- the entry was reckoned for the fix, and is otherwise as before
 pub record IsReckonedFor (horizon : ℕ) (unit : Thermal) (wanted : Fix) (old new : UnitEntry) : Type 0 where

@@ -1,7 +1,7 @@
 -- What the evaluations of an instance share.
 use Rattle.std.specs.Prelude.{◌≡◌, ℕ}
 use Rattle.uc_model.specs.Limits.{IsLawfulInstance}
-use Rattle.uc_model.specs.declared.instance.Instance.{Instance}
+pub use Rattle.uc_model.specs.declared.instance.Instance.{Instance}
 use Rattle.dual_value.specs.Rooms.{IsRoomOf, RoomOf}
 
 pub record IsLentOf (instance : Instance) (room : RoomOf) (periods : ℕ) : Type 0 where

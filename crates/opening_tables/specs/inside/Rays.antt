@@ -1,10 +1,10 @@
 -- What the code's rays name.
 use Rattle.std.specs.Prelude.{Bool}
-use Rattle.uc_model.specs.declared.instance.Thermal.{Thermal}
+pub use Rattle.uc_model.specs.declared.instance.Thermal.{Thermal}
 use Rattle.dual_model.specs.Opening.{OpeningRay, nowhere, rises_short, falls_short, stays_below}
 use Rattle.opening_tables.specs.declared.rays.Ramps.{Ramps}
 use Rattle.opening_tables.specs.declared.rays.Ramps.TheVariants.{Free, RiseShort, FallShort, StayBelow}
-use Rattle.opening_tables.specs.declared.rays.Ray.{Ray}
+pub use Rattle.opening_tables.specs.declared.rays.Ray.{Ray}
 
 -- the units with a multiplier of M11, and those with one of M12
 abbrev pub up_of : Ramps → Thermal → Bool

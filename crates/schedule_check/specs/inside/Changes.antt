@@ -3,7 +3,7 @@ use Rattle.std.specs.Prelude.{◌≡◌, ℕ, zero, suc, ◌+◌, ◌<◌, Bool,
 use Rattle.uc_model.specs.Commitment.{Commitment, starts, stops}
 use Rattle.uc_model.specs.declared.instance.Thermal.{Thermal}
 use Rattle.schedule_check.specs.declared.counts.Change.{Change}
-use Rattle.schedule_check.specs.declared.counts.Change.TheVariants.{Start, Stop}
+pub use Rattle.schedule_check.specs.declared.counts.Change.TheVariants.{Start, Stop}
 
 abbrev pub change_at : Change → Thermal → Commitment → ℕ → Bool
 change_at Start unit on t = starts unit on t

@@ -1,6 +1,6 @@
 -- The first of some places at which a test fails. This project's own.
 use Rattle.std.specs.Prelude.{◌≡◌, ℕ, ◌<◌, Bool, false, IsTrue, Option, Some, None}
-use Rattle.schedule_check.specs.declared.broken.Place.{Place}
+pub use Rattle.schedule_check.specs.declared.broken.Place.{Place}
 
 -- k is the first of n indexes at which the test fails
 pub record FailsFirstAt (n : ℕ) (test : ℕ → Bool) (k : ℕ) : Type 0 where

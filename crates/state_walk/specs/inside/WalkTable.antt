@@ -1,10 +1,10 @@
 -- The table of the walk: the least cost of going on from each state before a period.
 use Rattle.std.specs.Prelude.{◌≡◌, ℕ, ◌≤◌, true, false, List, slice_index_or, None}
-use Rattle.uc_model.specs.declared.instance.Thermal.{Thermal}
-use Rattle.uc_model.specs.declared.terms.Terms.{Terms}
-use Rattle.dual_model.specs.declared.node.Fix.{Fix}
+pub use Rattle.uc_model.specs.declared.instance.Thermal.{Thermal}
+pub use Rattle.uc_model.specs.declared.terms.Terms.{Terms}
+pub use Rattle.dual_model.specs.declared.node.Fix.{Fix}
 use Rattle.dual_model.specs.CostToGo.{cost_to_go}
-use Rattle.state_walk.specs.declared.walk.CostToGo.{CostToGo}
+pub use Rattle.state_walk.specs.declared.walk.CostToGo.{CostToGo}
 
 -- the table of the walk before period t, with n periods left: an entry for each time since which a state may last
 abbrev pub entry : Terms → Thermal → Fix → ℕ → ℕ → ℕ → CostToGo

@@ -7,13 +7,11 @@ use Rattle.outside.specs.ToldBytes.{Tells}
 use Rattle.outside.specs.Slots.{SlotState}
 use Rattle.cert_text.specs.CertificateText.{listing_of}
 use Rattle.cert_text.specs.Reading.{IsTextOf, listing_read}
-use Rattle.cert_text.specs.declared.cert.Cert.{Cert}
+pub use Rattle.cert_text.specs.declared.cert.Cert.{Cert}
 use Rattle.cert_check.specs.Answers.{AreClaimsOf}
 use Rattle.cert_check.specs.Refusals.{IsRefusedBy}
-use Rattle.cert_check.specs.declared.claims.Claims.{Claims}
-use Rattle.report.specs.declared.fault.Fault.{Fault}
-use Rattle.report.specs.declared.fault.Fault.TheVariants.{Line, Memory, Code}
-use Rattle.uc_check.specs.Checking.{most_certificate_bytes, HasCertificateCause, IsFaultyAt, IsVerified}
+pub use Rattle.cert_check.specs.declared.claims.Claims.{Claims}
+use Rattle.uc_check.specs.Checking.{Code, Fault, Line, Memory, most_certificate_bytes, HasCertificateCause, IsFaultyAt, IsVerified}
 
 -- the file's bytes, where they are told, are at most as many as are read, and the text of what was read
 pub record HasCertificateText (file : SlotState) (cert : Cert) : Type 0 where

@@ -3,9 +3,7 @@ use Rattle.std.specs.Prelude.{◌≡◌, ℕ, ⊤}
 use Rattle.outside.specs.declared.slot.Slot.{Slot}
 use Rattle.outside.specs.Counts.{HasRisen}
 use Rattle.outside.specs.Slots.{SlotState}
-use Rattle.report.specs.declared.fault.Fault.{Fault}
-use Rattle.report.specs.declared.fault.Fault.TheVariants.{Read, Memory, Long}
-use Rattle.uc_check.specs.Reading.{IsLong}
+use Rattle.uc_check.specs.Reading.{Fault, Long, Memory, Read, IsLong}
 
 -- the cause of a fault in reading the slot, of whose file at most so many bytes are read
 abbrev pub IsUnread : Slot → ℕ → SlotState → SlotState → Fault → Type 0

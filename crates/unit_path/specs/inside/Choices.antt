@@ -1,10 +1,10 @@
 -- Where a run of on hours, or a rest, ends on the least way. Source: Bellman's principle of optimality (Dynamic
 -- Programming, 1957), over the graph whose arcs are the intervals in which the unit is on, and those in which it is off.
 use Rattle.std.specs.Prelude.{◌≡◌, ℕ, zero, suc, ◌+◌, ◌-◌, ◌≤◌, ◌⊎◌, Bool, true, false, ◌==◌, ℤ, pos, ◌+ℤ◌, Option, Some, None, IfSome, if◌then◌else◌}
-use Rattle.uc_model.specs.declared.instance.Thermal.{Thermal}
-use Rattle.uc_model.specs.declared.terms.Terms.{Terms}
+pub use Rattle.uc_model.specs.declared.instance.Thermal.{Thermal}
+pub use Rattle.uc_model.specs.declared.terms.Terms.{Terms}
 use Rattle.uc_model.specs.Terms.{period_count}
-use Rattle.dual_model.specs.declared.node.Fix.{Fix}
+pub use Rattle.dual_model.specs.declared.node.Fix.{Fix}
 use Rattle.dual_model.specs.Moves.{may_be_off, move}
 use Rattle.dual_model.specs.CostToGo.{cost_to_go, end_cost, total_of, IsWithin, MAX_COST_TO_GO}
 pub use Rattle.unit_path.specs.declared.hour.Choice.{Choice}

@@ -2,14 +2,11 @@
 -- principle of optimality (Dynamic Programming, 1957).
 use Rattle.std.specs.Prelude.{◌≡◌, ℕ, suc, ◌+◌, ◌-◌, ◌*◌, ◌<◌, ◌≤◌, Bool, true, false, ◌&&◌, List, ℤ, pos, unsigned_abs, length, slice_index_or, Option, Some, None, if◌then◌else◌}
 use Rattle.uc_model.specs.StartCategory.{sigma}
-use Rattle.uc_model.specs.declared.instance.Thermal.{Thermal}
-use Rattle.uc_model.specs.declared.terms.Terms.{Terms}
 use Rattle.uc_model.specs.Terms.{period_count}
-use Rattle.dual_model.specs.declared.node.Fix.{Fix}
 use Rattle.dual_model.specs.Moves.{holds_initially, hour_before, may_be_off, may_be_on, may_start, may_stop, stop_since}
 use Rattle.dual_model.specs.CostToGo.{IsWithin, MAX_MOVE}
-use Rattle.unit_path.specs.inside.Choices.{Choice, choice_cost, IsLeastStart, IsLeastStop}
-use Rattle.unit_path.specs.declared.hour.Hour.{Hour}
+use Rattle.unit_path.specs.inside.Choices.{Fix, Terms, Thermal, Choice, choice_cost, IsLeastStart, IsLeastStop}
+pub use Rattle.unit_path.specs.declared.hour.Hour.{Hour}
 
 -- what it costs a unit that is on to stay on in period t, and to stop in it where it has been on for long enough, by
 -- whether the hour before was a start

@@ -1,16 +1,14 @@
 -- What the search makes of what it knows.
 use Rattle.std.specs.Prelude.{ℕ, ℤ, Option, None, Some}
 use Rattle.uc_model.specs.Schedule.{thermal_count}
-use Rattle.uc_model.specs.declared.instance.Instance.{Instance}
-use Rattle.uc_model.specs.declared.schedule.Printed.{Printed}
-use Rattle.uc_model.specs.declared.stuck.Stuck.{Stuck}
+pub use Rattle.uc_model.specs.declared.instance.Instance.{Instance}
+pub use Rattle.uc_model.specs.declared.stuck.Stuck.{Stuck}
 use Rattle.branch_tree.specs.NumberedTree.{EndAt}
 use Rattle.branch_tree.specs.TreeView.{TreeView}
-use Rattle.branch_tree.specs.declared.found.Found.{Found}
 use Rattle.branch_tree.specs.declared.tree.Leaf.{Leaf}
-use Rattle.workers.specs.Writable.{IsWritable}
+use Rattle.workers.specs.Writable.{Found, IsWritable}
 use Rattle.workers.specs.inside.Best.{told_of}
-use Rattle.workers.specs.SearchResult.{IsSearchResult}
+use Rattle.workers.specs.SearchResult.{Printed, IsSearchResult}
 
 -- a tree of its root alone, which stores this leaf
 abbrev pub lone_root : Instance → Leaf → TreeView

@@ -1,13 +1,12 @@
 -- The best schedule so far, and what is told of it.
 use Rattle.std.specs.Prelude.{◌≡◌, ◌⊎◌, ℤ, ◌≤ℤ◌, Option, Some, None}
-use Rattle.uc_model.specs.declared.instance.Instance.{Instance}
-use Rattle.uc_model.specs.declared.schedule.Printed.{Printed}
+pub use Rattle.uc_model.specs.declared.instance.Instance.{Instance}
 use Rattle.uc_model.specs.declared.stuck.Stuck.{Stuck}
 use Rattle.schedule_check.specs.Accepted.{IsAcceptedIfFound}
 use Rattle.decommitment.specs.DropCommitment.{Ending}
-use Rattle.decommitment.specs.declared.pass.Standing.{Standing}
+pub use Rattle.decommitment.specs.declared.pass.Standing.{Standing}
 use Rattle.decommitment.specs.declared.pass.Standing.TheVariants as standing
-use Rattle.workers.specs.SearchResult.{IsNoDearer}
+use Rattle.workers.specs.SearchResult.{Printed, IsNoDearer}
 
 -- ---- what is told
 -- why the most-on commitment is stuck, where the best one is

@@ -1,18 +1,18 @@
 -- The search over the tree between claims, and what a claim of a node is to be.
 use Rattle.std.specs.Prelude.{◌≡◌, ◌≢◌, ℕ, ◌+◌, ◌<◌, false, All, [], ℤ, pos, ◌≤ℤ◌, ◌<ℤ◌, Option, None, Some, length}
 use Rattle.uc_model.specs.Schedule.{thermal_count}
-use Rattle.uc_model.specs.declared.instance.Instance.{Instance}
-use Rattle.uc_model.specs.declared.schedule.Printed.{Printed}
+pub use Rattle.uc_model.specs.declared.instance.Instance.{Instance}
+pub use Rattle.uc_model.specs.declared.schedule.Printed.{Printed}
 use Rattle.dual_model.specs.Fixings.{IsNodeOf}
 use Rattle.dual_model.specs.Prices.{IsLawfulTable}
-use Rattle.dual_model.specs.declared.node.Node.{Node}
-use Rattle.dual_model.specs.declared.table.Table.{Table}
+pub use Rattle.dual_model.specs.declared.node.Node.{Node}
+pub use Rattle.dual_model.specs.declared.table.Table.{Table}
 use Rattle.branch_tree.specs.Closing.{is_schedule_within}
 use Rattle.branch_tree.specs.NumberedTree.{node_count}
 use Rattle.branch_tree.specs.StoredTree.{IsNodeAt, tree_bound}
 use Rattle.branch_tree.specs.TreeView.{IsOpenAt}
-use Rattle.branch_tree.specs.declared.found.Entry.{Entry}
-use Rattle.branch_tree.specs.declared.found.Outcome.{Outcome}
+pub use Rattle.branch_tree.specs.declared.found.Entry.{Entry}
+pub use Rattle.branch_tree.specs.declared.found.Outcome.{Outcome}
 use Rattle.search_core.specs.declared.event.Event.TheVariants.{Commit}
 use Rattle.search_core.specs.declared.event.Move.{Move}
 use Rattle.search_core.specs.Machine.{Machine, IsHolding, IsWorker, entries_of, start_of}
@@ -22,7 +22,7 @@ use Rattle.search_core.specs.Runs.{IsReached}
 use Rattle.schedule_check.specs.Accepted.{IsAcceptedIfFound}
 use Rattle.claims.specs.Claims.{HasStoredTable, IsPublished}
 use Rattle.opening.specs.Outcomes.{IsOutcomeAt, IsSized}
-use Rattle.opening.specs.declared.root_tables.Priced.{Priced}
+pub use Rattle.opening.specs.declared.root_tables.Priced.{Priced}
 
 -- the machine's start: one worker, and a root that stores the opening's table with its bound
 abbrev pub start_by : Instance → Priced → ℕ → ℕ → Machine

@@ -1,17 +1,14 @@
 -- What the claims of the root begin with.
 use Rattle.std.specs.Prelude.{◌≡◌, ℕ, length}
 use Rattle.uc_model.specs.Limits.{IsLawfulInstance}
-use Rattle.uc_model.specs.declared.instance.Instance.{Instance}
 use Rattle.decommitment.specs.Standings.{IsDropped, ending_of}
-use Rattle.decommitment.specs.declared.pass.Standing.{Standing}
 use Rattle.schedule_check.specs.Accepted.{IsAcceptedIfFound}
 use Rattle.opening.specs.RootTables.{IsPricedOf}
-use Rattle.opening.specs.declared.root_tables.Priced.{Priced}
-use Rattle.workers.specs.Opening.{IsRootTable}
+use Rattle.workers.specs.Opening.{Instance, IsRootTable}
 use Rattle.workers.specs.declared.start.Opened.{Opened}
 use Rattle.workers.specs.declared.tree_search.Search.{Search}
-use Rattle.workers.specs.inside.Best.{IsBest, kept_stuck}
-use Rattle.workers.specs.inside.Searches.{IsSearching, cost_of}
+use Rattle.workers.specs.inside.Best.{Standing, IsBest, kept_stuck}
+use Rattle.workers.specs.inside.Searches.{Priced, IsSearching, cost_of}
 use Rattle.workers.specs.inside.Trials.{IsNextAt}
 
 -- the drop commitment, with what is known by it

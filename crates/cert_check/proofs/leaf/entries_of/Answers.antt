@@ -3,8 +3,7 @@ use Rattle.std.proofs.Common.{sym, subst, ◌∙◌, length, refl, Option}
 use Rattle.std.proofs.lemmas.Option.{same_Some, slice_get_read}
 use Rattle.std.proofs.lemmas.Result.{IfOk-weaker}
 use Rattle.leaf_values.specs.Entries.{AreEntriesOf}
-use Rattle.cert_check.specs.inside.Leaves.{AreOfNumber, IsLoaded}
-use Rattle.cert_check.specs.declared.leaf.Loaded.{Loaded}
+use Rattle.cert_check.specs.inside.Leaves.{Loaded, AreOfNumber, IsLoaded}
 use Rattle.cert_check.proofs.leaf.entries_of.Goals as goal
 
 pub returns-then-loaded-number-clause-entries : goal.returns-then-loaded-number-clause-entries

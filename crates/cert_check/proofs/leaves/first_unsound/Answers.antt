@@ -1,16 +1,12 @@
 -- Each turn makes one visit, of the node at hand.
 use Rattle.std.proofs.Common.{◌≡◌, ◌↔◌, ℕ, suc, ◌+◌, ◌<◌, ◌≤◌, Bool, IsTrue, List, length, arith, sym, ap, subst, ◌∙◌, map, true, false, true≢false}
 use Rattle.uc_model.specs.Schedule.{thermal_count}
-use Rattle.uc_model.specs.declared.instance.Instance.{Instance}
-use Rattle.uc_model.specs.declared.refusal.Refusal.{Refusal}
-use Rattle.dual_model.specs.declared.node.Fixing.{Fixing}
 use Rattle.cert_text.specs.Nodes.{IsNodeWithin, TreeNode}
 use Rattle.cert_text.specs.Reading.{node_of}
 use Rattle.cert_text.specs.declared.cert.Cert.{Cert}
-use Rattle.cert_text.specs.declared.cert.CertNode.{CertNode}
-use Rattle.cert_check.specs.Refusals.{refusal_of}
+use Rattle.cert_check.specs.Refusals.{Instance, Refusal, refusal_of}
 use Rattle.cert_check.specs.Visits.{IsSound}
-use Rattle.cert_check.specs.inside.Walks.{HasVisited, IsPath, MayGoOn, StepsTo, all_visits, visit_of}
+use Rattle.cert_check.specs.inside.Walks.{CertNode, Fixing, HasVisited, IsPath, MayGoOn, StepsTo, all_visits, visit_of}
 use Rattle.cert_check.proofs.Turns.{each-mapped, may_go_on, node_at, visited-all, visited-end, visited-next, visited-none, visited-unsound}
 use Rattle.cert_check.proofs.WalkedPaths.{path-nil}
 use Rattle.cert_check.proofs.leaves.first_unsound.Goals as goal

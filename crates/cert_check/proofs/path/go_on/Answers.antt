@@ -3,8 +3,7 @@ use Rattle.std.proofs.Common.{◌≡◌, ◌∷◌, List, false, sym, subst}
 use Rattle.std.proofs.lemmas.Result.{IfOk-weaker}
 use Rattle.cert_text.specs.Nodes.{TreeNode}
 use Rattle.cert_text.specs.Reading.{node_of}
-use Rattle.cert_text.specs.declared.cert.CertNode.{CertNode}
-use Rattle.cert_check.specs.inside.Walks.{IsPath, MayGoOn, walk, places, visit_of}
+use Rattle.cert_check.specs.inside.Walks.{CertNode, IsPath, MayGoOn, walk, places, visit_of}
 use Rattle.cert_check.proofs.Pending.{below}
 use Rattle.cert_check.proofs.WalkedPaths.{path-more}
 use Rattle.cert_check.proofs.path.go_on.Goals as goal

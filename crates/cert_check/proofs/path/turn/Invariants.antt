@@ -1,7 +1,6 @@
 -- What was left had nothing to come, and the path is still one.
 use Rattle.std.proofs.Common.{◌≡◌, [], vec_len}
-use Rattle.uc_model.specs.declared.instance.Instance.{Instance}
-use Rattle.cert_check.specs.inside.Walks.{IsPath, pending}
+use Rattle.cert_check.specs.inside.Walks.{Instance, IsPath, pending}
 use Rattle.cert_check.proofs.path.turn.Given as goal
 
 abbrev pub invariant-loop-last : goal.invariant-loop-last

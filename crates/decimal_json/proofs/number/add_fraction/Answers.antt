@@ -1,6 +1,5 @@
 use Rattle.std.proofs.Common.{◌≡◌, ℕ, ◌-◌, List, ◌∷◌, [], ◌++◌, ◌+◌, sym, ap, subst, ◌∙◌, arith, Bool, refl}
-use Rattle.decimal_json.specs.declared.types.JsonFault.{JsonFault}
-use Rattle.decimal_json.specs.inside.Answer.{Leads, AfterWhole, AddsDigits}
+use Rattle.decimal_json.specs.inside.Answer.{JsonFault, Leads, AfterWhole, AddsDigits}
 use Rattle.decimal_json.specs.Open.{Frame}
 use Rattle.decimal_json.specs.inside.Scan.{Spot, scan}
 use Rattle.decimal_json.proofs.Exits.{passed_on}

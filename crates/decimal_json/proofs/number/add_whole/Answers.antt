@@ -1,8 +1,6 @@
 use Rattle.std.proofs.Common.{◌≡◌, ◌≤◌, ℕ, ◌-◌, List, ◌∷◌, [], ◌++◌, ◌+◌, sym, ap, subst, ◌∙◌, arith, Bool, true, false, refl}
-use Rattle.decimal_json.specs.declared.types.JsonFault.TheVariants.{At}
-use Rattle.decimal_json.specs.declared.types.JsonFault.{JsonFault}
 use Rattle.decimal_json.specs.Number.{is_digit}
-use Rattle.decimal_json.specs.inside.Answer.{Leads, begun, ReadsWhole, AddsDigits, FailsAt, StandsAt}
+use Rattle.decimal_json.specs.inside.Answer.{At, JsonFault, Leads, begun, ReadsWhole, AddsDigits, FailsAt, StandsAt}
 use Rattle.decimal_json.specs.Open.{Frame}
 use Rattle.decimal_json.specs.inside.Scan.{scan}
 use Rattle.decimal_json.proofs.Exits.{passed_on, ok_from_two}

@@ -1,9 +1,7 @@
 use Rattle.std.proofs.Common.{◌≡◌, List, ℕ, Result, sym, subst}
 use Rattle.std.specs.Str.{IsValidUpTo}
-use Rattle.decimal_json.specs.declared.types.Json.{Json}
-use Rattle.decimal_json.specs.declared.types.JsonFault.{JsonFault}
 use Rattle.decimal_json.specs.inside.Scan.{whole_outcome}
-use Rattle.decimal_json.specs.inside.Answer.{Gives}
+use Rattle.decimal_json.specs.inside.Answer.{Json, JsonFault, Gives}
 use Rattle.decimal_json.proofs.Readings.{text_clause, only_clause, fault_clause, not_utf8, exact_clause, exact_utf8}
 use Rattle.decimal_json.proofs.reader.read.Goals as goal
 

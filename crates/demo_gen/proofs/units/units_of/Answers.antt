@@ -1,7 +1,6 @@
 -- One unit more.
 use Rattle.std.proofs.Common.{◌≡◌, ◌+◌, List, [], ◌∷◌, ◌++◌, sym, ap, subst, ◌∙◌, arith}
-use Rattle.uc_model.specs.declared.instance.Thermal.{Thermal}
-use Rattle.demo_gen.specs.Demo.{numbers_from, state_after, unit_numbers, unit_of}
+use Rattle.demo_gen.specs.Demo.{Thermal, numbers_from, state_after, unit_numbers, unit_of}
 use Rattle.demo_gen.specs.inside.Bounds.{IsSmall}
 use Rattle.demo_gen.proofs.FirstUnits.{minimum-more, minimum-none, minimum-size, numbers_small, range-more, range-none, range-size, state-more, units-more, units-none}
 use Rattle.demo_gen.proofs.units.units_of.Goals as goal

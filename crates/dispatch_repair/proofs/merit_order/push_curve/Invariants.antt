@@ -1,9 +1,8 @@
 -- The segments of the sources before, and those between the corners so far.
 use Rattle.std.proofs.Common.{◌≡◌, ℕ, ◌+◌, ◌<◌}
 use Rattle.uc_model.specs.Schedule.{renewable_count, thermal_count, thermal_unit}
-use Rattle.uc_model.specs.declared.instance.Instance.{Instance}
 use Rattle.cost_curves.specs.LowerHull.{IsLowerHull}
-use Rattle.dispatch_repair.specs.inside.Segments.{AreSegmentsOf}
+use Rattle.dispatch_repair.specs.inside.Segments.{Instance, AreSegmentsOf}
 use Rattle.dispatch_repair.proofs.CurveSegments.{ArePushed}
 use Rattle.dispatch_repair.proofs.merit_order.push_curve.Given as goal
 

@@ -6,10 +6,8 @@ use Rattle.uc_model.specs.Limits.{IsLawfulThermal}
 use Rattle.uc_model.specs.PatternBits.{commitment_of}
 use Rattle.uc_model.specs.ExtremePatterns.{IsMostOn, HasNoAllowedPattern}
 use Rattle.uc_model.specs.Schedule.{no_unit, thermal_unit}
-use Rattle.uc_model.specs.declared.instance.Instance.{Instance}
 use Rattle.uc_model.specs.declared.instance.Thermal.{Thermal}
-use Rattle.uc_model.specs.declared.pattern.Pattern.{Pattern}
-use Rattle.dispatch_repair.specs.MostOn.{IsMostOnOf}
+use Rattle.dispatch_repair.specs.MostOn.{Instance, Pattern, IsMostOnOf}
 use Rattle.dispatch_repair.proofs.most_on_commitment.most_on.Goals as goal
 
 -- the unit that was read

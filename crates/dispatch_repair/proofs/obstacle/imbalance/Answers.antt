@@ -1,9 +1,8 @@
 -- A test that fails is the fact that the next obstacle stands on.
 use Rattle.std.proofs.Common.{◌≡◌, ◌≤ℤ◌, ◌<ℤ◌, ℤ, ◌*◌, ◌≤◌, arith, ◌∙◌, unsigned_abs}
 use Rattle.uc_model.specs.Limits.{IsPower}
-use Rattle.uc_model.specs.declared.limits.TheConstants.{MAX_POWER, MAX_UNITS}
 use Rattle.uc_model.proofs.Ring.{linear}
-use Rattle.dispatch_repair.specs.inside.Totals.{IsSizedTotal}
+use Rattle.dispatch_repair.specs.inside.Totals.{MAX_POWER, MAX_UNITS, IsSizedTotal}
 use Rattle.dispatch_repair.proofs.Numbers.{kept, kept_below, kept_at_most}
 use Rattle.dispatch_repair.proofs.obstacle.imbalance.Goals as goal
 

@@ -8,14 +8,11 @@ use Rattle.uc_model.specs.Schedule.{thermal_count, thermal_unit}
 use Rattle.uc_model.specs.Sums.{sum_below}
 use Rattle.std.specs.declared.alloc.Global.{Global}
 use Rattle.std.specs.declared.vec.Vec.{Vec}
-use Rattle.uc_model.specs.declared.instance.Instance.{Instance}
 use Rattle.uc_model.specs.declared.instance.Thermal.{Thermal}
-use Rattle.uc_model.specs.declared.schedule.Cell.{Cell}
 use Rattle.schedule_check.specs.WholeWatts.{HasPrice, cell}
 use Rattle.schedule_check.proofs.AddedSums.{added}
-use Rattle.dispatch_repair.specs.Dispatch.{HasPeriods}
-use Rattle.dispatch_repair.specs.declared.rows.Rows.{Rows}
-use Rattle.dispatch_repair.specs.inside.Rows.{printed_of, row_at, rows_of}
+use Rattle.dispatch_repair.specs.Dispatch.{Cell, Instance, HasPeriods}
+use Rattle.dispatch_repair.specs.inside.Rows.{Rows, printed_of, row_at, rows_of}
 use Rattle.dispatch_repair.proofs.Places.{unit_read}
 use Rattle.dispatch_repair.proofs.RowsEdits.{row_read}
 use Rattle.dispatch_repair.proofs.rows.cost.Goals as goal

@@ -3,9 +3,7 @@ use Rattle.std.proofs.Common.{◌≡◌, ℕ, suc, ◌<◌, ◌≤◌, ◌&&◌,
 use Rattle.std.specs.List.{list_all}
 use Rattle.uc_model.specs.Commitment.{Commitment}
 use Rattle.dual_model.specs.Fixings.{fix_agrees, keeps_of, unit_agrees}
-use Rattle.dual_model.specs.declared.node.Fix.{Fix}
-use Rattle.dual_model.specs.declared.node.Node.{Node}
-use Rattle.dual_value.specs.inside.Fixes.{AreBelow, IsFixWith, IsPlain}
+use Rattle.dual_value.specs.inside.Fixes.{Fix, Node, AreBelow, IsFixWith, IsPlain}
 use Rattle.dual_value.proofs.FixBits.{fixing-of, fixing-other, fixing_at, none-left, nothing-agrees}
 use Rattle.dual_value.proofs.fixes.fix_of.Goals as goal
 use Rattle.dual_value.proofs.fixes.fix_of.Goals.{then-fixing-g+in-Some, else-fixing-g}

@@ -1,13 +1,12 @@
 -- One unit more, the first one without a pattern, or the whole.
 use Rattle.std.proofs.Common.{◌≡◌, ◌+◌, ◌*◌, ◌<◌, ◌≤◌, length, refl, sym, ap, subst, ◌∙◌, lit<, arith, ◌+ℤ◌, to_z, of_z, slice_index_or, unsigned_abs, Result, Ok, Err, IfErr, IsErrAnd}
 use Rattle.dual_model.specs.declared.valued.Valued.{Valued}
-use Rattle.dual_value.specs.declared.valued.ValueFault.{ValueFault}
 use Rattle.std.specs.Int.{w128}
 use Rattle.std.proofs.lemmas.List.{get_or_read}
 use Rattle.uc_model.specs.Limits.{IsLawfulThermal}
 use Rattle.uc_model.specs.Schedule.{no_unit, thermal_count, thermal_unit}
 use Rattle.uc_model.proofs.Sizes.{abs_add, sum-fits, sum-is, sum-size, wide, wide-size}
-use Rattle.dual_value.specs.NodeAnswer.{IsFaultOf, IsPartOf, IsValued, MAX_PART}
+use Rattle.dual_value.specs.NodeAnswer.{ValueFault, IsFaultOf, IsPartOf, IsValued, MAX_PART}
 use Rattle.dual_value.specs.Rooms.{RoomOf}
 use Rattle.system_value.specs.Sizes.{MAX_RENEWABLES, MAX_SYSTEM}
 use Rattle.dual_value.proofs.ValuedUnits.{first-without, valued-all, valued-more, valued-none, IsValuedTo}

@@ -1,9 +1,8 @@
 -- The walk gives the least value of the patterns, where there is one.
 use Rattle.std.proofs.Common.{ℤ, Some, None, Option, subst, IfSome, IfNone, MatchOption}
-use Rattle.uc_model.specs.declared.instance.Thermal.{Thermal}
 use Rattle.uc_model.proofs.Sizes.{wide-size}
 use Rattle.dual_model.specs.PatternValue.{HasNoPattern, IsLeastValue}
-use Rattle.leaf_values.specs.Entries.{MAX_CONSTANT}
+use Rattle.leaf_values.specs.Entries.{Thermal, MAX_CONSTANT}
 use Rattle.leaf_values.proofs.loading.entry.Goals as goal
 
 both : (o : Option ℤ) (P : Type 0) (Q : ℤ → Type 0) → IfNone o P → IfSome o Q → MatchOption o P Q

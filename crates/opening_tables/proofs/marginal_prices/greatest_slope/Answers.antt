@@ -2,10 +2,9 @@
 use Rattle.std.proofs.Common.{◌+◌, ◌<◌, arith, length, sym, ap, subst, ◌≤ℤ◌, IsTrue}
 use Rattle.uc_model.specs.PrintedSchedule.{cell_at}
 use Rattle.uc_model.specs.Schedule.{thermal_count, thermal_unit}
-use Rattle.uc_model.specs.declared.schedule.Cell.{Cell}
 use Rattle.cost_curves.specs.LowerHull.{width_of}
 use Rattle.cost_curves.proofs.HullValues.{whole_width}
-use Rattle.opening_tables.specs.inside.Slopes.{IsGreatestOf}
+use Rattle.opening_tables.specs.inside.Slopes.{Cell, IsGreatestOf}
 use Rattle.opening_tables.proofs.GreatestSlopes.{greatest-more, own_hull, own_slope}
 use Rattle.opening_tables.proofs.marginal_prices.greatest_slope.Goals as goal
 

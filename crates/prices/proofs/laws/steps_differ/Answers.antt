@@ -1,8 +1,7 @@
 -- A scale is that of one number; so is a greatest multiplier.
 use Rattle.std.proofs.Common.{◌≡◌, ℕ, ◌+◌, ◌^◌, ◌≤◌, ⊎_elim, arith, pos}
 use Rattle.uc_model.proofs.Ring.{linear}
-use Rattle.dual_model.specs.declared.table.Table.{Table}
-use Rattle.prices.specs.Steps.{IsGreatestSize, IsStepFor}
+use Rattle.prices.specs.Steps.{Table, IsGreatestSize, IsStepFor}
 use Rattle.prices.proofs.laws.steps_differ.Goals as goal
 
 no_ray : (table : Table) (number : ℕ) → table.k ≡ pos (1000000 + number) → table.k ≡ pos 0 → ⊥

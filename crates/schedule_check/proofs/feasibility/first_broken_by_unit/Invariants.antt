@@ -1,9 +1,8 @@
 -- The rules so far hold throughout.
 use Rattle.std.proofs.Common.{ℕ, ◌<◌, get_or}
 use Rattle.schedule_check.specs.FirstBroken.{HoldsThroughout}
-use Rattle.schedule_check.specs.WholeWatts.{holds_at, rule_of}
+use Rattle.schedule_check.specs.WholeWatts.{MustRun, holds_at, rule_of}
 use Rattle.schedule_check.specs.declared.unit_rule.TheConstants.{UNIT_RULES}
-use Rattle.schedule_check.specs.declared.unit_rule.UnitRule.TheVariants.{MustRun}
 use Rattle.schedule_check.proofs.feasibility.first_broken_by_unit.Given as goal
 
 abbrev pub invariant-loop-rule : goal.invariant-loop-rule

@@ -1,13 +1,9 @@
 -- One step of the recursion, whose costs fit.
 use Rattle.std.proofs.Common.{◌≡◌, ℕ, suc, ◌-◌, true, false, sym, ap, subst, ◌∙◌, arith, ℤ, Option}
-use Rattle.uc_model.specs.declared.instance.Thermal.{Thermal}
-use Rattle.uc_model.specs.declared.terms.Terms.{Terms}
-use Rattle.dual_model.specs.declared.node.Fix.{Fix}
 use Rattle.uc_model.specs.Terms.{period_count}
 use Rattle.dual_model.specs.Moves.{move}
 use Rattle.dual_model.specs.CostToGo.{total_of, lesser_of, cost_to_go, IsWithin, MAX_COST_TO_GO}
-use Rattle.state_walk.specs.inside.WalkTable.{entry}
-use Rattle.state_walk.specs.declared.walk.CostToGo.{CostToGo}
+use Rattle.state_walk.specs.inside.WalkTable.{CostToGo, Fix, Terms, Thermal, entry}
 use Rattle.dual_model.proofs.CostSizes.{move-fits, cost_to_go-fits}
 use Rattle.state_walk.proofs.walk.entry_before.Goals as goal
 

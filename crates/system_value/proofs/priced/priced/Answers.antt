@@ -1,9 +1,7 @@
 -- The product is as small as its parts allow.
 use Rattle.std.proofs.Common.{◌≤◌, ◌∙◌, lit<, ◌*ℤ◌, unsigned_abs}
-use Rattle.uc_model.specs.declared.limits.TheConstants.{MAX_POWER}
 use Rattle.uc_model.proofs.Sizes.{narrow, scaled-size, wide, wide-size}
-use Rattle.dual_model.specs.declared.limits.TheConstants.{MAX_PRICE}
-use Rattle.system_value.specs.Sizes.{MAX_CELL}
+use Rattle.system_value.specs.Sizes.{MAX_POWER, MAX_PRICE, MAX_CELL}
 use Rattle.system_value.proofs.priced.priced.Goals as goal
 
 pub returns : goal.returns

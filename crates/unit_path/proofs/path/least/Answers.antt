@@ -2,17 +2,13 @@
 use Rattle.std.proofs.Common.{◌≡◌, ◌≤◌, sym, ap, subst, ◌∙◌, lit<, arith, ℤ, to_z, of_z, Option, Some, unsigned_abs}
 use Rattle.std.specs.Int.{w128}
 use Rattle.uc_model.specs.Limits.{IsLawfulThermal}
-use Rattle.uc_model.specs.declared.instance.Thermal.{Thermal}
-use Rattle.uc_model.specs.declared.pattern.Pattern.{Pattern}
-use Rattle.uc_model.specs.declared.terms.Terms.{Terms}
 use Rattle.uc_model.proofs.Sizes.{wide}
 use Rattle.uc_model.specs.Terms.{period_count}
 use Rattle.dual_model.specs.UnitTerms.{AreSizedTerms}
-use Rattle.dual_model.specs.declared.node.Fix.{Fix}
 use Rattle.dual_model.specs.CostToGo.{IsWithin, MAX_COST_TO_GO}
 use Rattle.dual_model.proofs.CostSizes.{cost_to_go-fits}
 use Rattle.dual_model.proofs.LeastValues.{from_start}
-use Rattle.unit_path.specs.inside.Ways.{IsWay}
+use Rattle.unit_path.specs.inside.Ways.{Fix, Pattern, Terms, Thermal, IsWay}
 use Rattle.unit_path.specs.inside.Choices.{Choice, choice_cost}
 use Rattle.unit_path.proofs.BestWays.{answer-at_table, answer-attained, answer-none, answer-pattern, answer-size, answer-value, answer-within, IsAnswer}
 use Rattle.unit_path.proofs.SizedRows.{sized-rows}

@@ -1,14 +1,11 @@
 -- The stop's move with the way behind it.
 use Rattle.std.proofs.Common.{◌≡◌, ◌<◌, ℕ, suc, true, false, refl, sym, ap, ◌∙◌, lit<, ℤ, Option, Some}
 use Rattle.std.proofs.lemmas.Bool.{eq-eqb, le-leb, lt-leb}
-use Rattle.uc_model.specs.declared.instance.Thermal.{Thermal}
-use Rattle.uc_model.specs.declared.terms.Terms.{Terms}
 use Rattle.uc_model.proofs.Sizes.{wide}
-use Rattle.dual_model.specs.declared.node.Fix.{Fix}
 use Rattle.uc_model.specs.Terms.{period_count}
 use Rattle.dual_model.specs.Moves.{may_stop}
 use Rattle.dual_model.specs.CostToGo.{total_of, MAX_MOVE}
-use Rattle.unit_path.specs.inside.Choices.{Choice, choice_cost, stop_cost}
+use Rattle.unit_path.specs.inside.Choices.{Fix, Terms, Thermal, Choice, choice_cost, stop_cost}
 use Rattle.unit_path.specs.inside.Hours.{leave_cost, IsStopIn}
 use Rattle.unit_path.proofs.Going.{stop_cost-at, to_go}
 use Rattle.unit_path.proofs.RunLaws.{stop-barred}

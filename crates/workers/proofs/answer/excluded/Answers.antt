@@ -1,8 +1,7 @@
 -- The root's leaf has the ray.
 use Rattle.std.proofs.Common.{subst, sym, IfOk}
-use Rattle.uc_model.specs.declared.instance.Instance.{Instance}
 use Rattle.decommitment.specs.Standings.{IsDropped}
-use Rattle.workers.specs.inside.Answers.{IsAnswerOf}
+use Rattle.workers.specs.inside.Answers.{Instance, IsAnswerOf}
 use Rattle.workers.proofs.answer.excluded.Goals as goal
 
 pub returns-in-Ok-Some-clause-answer : goal.returns-in-Ok-Some-clause-answer

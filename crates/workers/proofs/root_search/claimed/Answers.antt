@@ -1,12 +1,11 @@
 -- The search over the tree ends with what is answered.
 use Rattle.std.proofs.Common.{subst, sym, IfOk}
-use Rattle.uc_model.specs.declared.instance.Instance.{Instance}
 use Rattle.dual_model.specs.Tree.{HasEachPattern, root}
 use Rattle.branch_tree.specs.TreeView.{tree_of}
 use Rattle.search_core.specs.Runs.{HoldsAt}
 use Rattle.decommitment.specs.Standings.{IsDropped, ending_of}
 use Rattle.opening.specs.RootTables.{IsPricedOf}
-use Rattle.workers.specs.Opening.{IsRootTable}
+use Rattle.workers.specs.Opening.{Instance, IsRootTable}
 use Rattle.workers.specs.inside.Answers.{IsAnswerOf}
 use Rattle.workers.specs.inside.Best.{IsBest}
 use Rattle.workers.specs.inside.Searches.{start_by}

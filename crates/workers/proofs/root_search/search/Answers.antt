@@ -1,8 +1,7 @@
 -- The answer is a search result that can be written.
 use Rattle.std.proofs.Common.{subst, IfOk}
 use Rattle.std.proofs.lemmas.Result.{IfOk-weaker}
-use Rattle.uc_model.specs.declared.instance.Instance.{Instance}
-use Rattle.workers.specs.SearchResult.{IsSearchResult}
+use Rattle.workers.specs.SearchResult.{Instance, IsSearchResult}
 use Rattle.workers.specs.Writable.{IsWritable}
 use Rattle.workers.specs.inside.Answers.{IsAnswerOf}
 use Rattle.workers.proofs.root_search.search.Goals as goal

@@ -1,9 +1,8 @@
 -- The worker stays the instance's; the opening's ray excludes the root.
 use Rattle.std.proofs.Common.{subst, sym, IfOk}
-use Rattle.uc_model.specs.declared.instance.Instance.{Instance}
 use Rattle.dual_model.specs.Tree.{HasEachPattern}
 use Rattle.decommitment.specs.Standings.{IsDropped}
-use Rattle.workers.specs.inside.Answers.{IsAnswerOf}
+use Rattle.workers.specs.inside.Answers.{Instance, IsAnswerOf}
 use Rattle.workers.proofs.root_search.searched.Goals as goal
 
 pub excluded-requires-clause-patterns : goal.excluded-requires-clause-patterns

@@ -1,10 +1,8 @@
 -- Each turn is a claim and its commit, and at the end the search is closed, no node is open, or the budget is spent.
 use Rattle.std.proofs.Common.{◌≡◌, ◌∙◌, suc, ◌+◌, length, Ok, ap, arith, refl, subst, sym}
-use Rattle.uc_model.specs.declared.instance.Instance.{Instance}
 use Rattle.search_core.specs.Machine.{Machine}
 use Rattle.schedule_check.specs.Accepted.{IsAcceptedIfFound}
-use Rattle.workers.specs.inside.Searches.{IsGrown, IsReady, IsTurned}
-use Rattle.opening.specs.declared.root_tables.Priced.{Priced}
+use Rattle.workers.specs.inside.Searches.{Instance, Priced, IsGrown, IsReady, IsTurned}
 use Rattle.workers.specs.inside.Starts.{IsBegun}
 use Rattle.workers.specs.inside.Trials.{IsNextAt}
 use Rattle.workers.proofs.Searches.{claimed_ready, closed_by_none_open, grown_closed, turned_best, turned_searching}

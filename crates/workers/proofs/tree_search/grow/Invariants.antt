@@ -2,9 +2,8 @@
 -- ascent that was made already is that of the next claim.
 use Rattle.std.proofs.Common.{◌≡◌, suc, length}
 use Rattle.schedule_check.specs.Accepted.{IsAcceptedIfFound}
-use Rattle.opening.specs.declared.root_tables.Priced.{Priced}
 use Rattle.workers.specs.inside.Trials.{IsNextAt}
-use Rattle.workers.specs.inside.Searches.{IsSearching, cost_of}
+use Rattle.workers.specs.inside.Searches.{Priced, IsSearching, cost_of}
 use Rattle.workers.specs.inside.Starts.{IsBegun}
 use Rattle.workers.specs.inside.Best.{IsNoWorse}
 use Rattle.workers.proofs.tree_search.grow.Given as goal

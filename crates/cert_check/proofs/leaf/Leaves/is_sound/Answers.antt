@@ -4,16 +4,12 @@ use Rattle.std.proofs.lemmas.List.{get_or_read}
 use Rattle.std.proofs.lemmas.Result.{IfOk-weaker}
 use Rattle.uc_model.specs.Schedule.{thermal_count}
 use Rattle.dual_model.specs.Fixings.{IsFixOf}
-use Rattle.uc_model.specs.declared.instance.Instance.{Instance}
 use Rattle.uc_model.specs.declared.memory.NoMemory.{NoMemory}
 use Rattle.dual_model.specs.declared.node.Fix.{Fix}
-use Rattle.dual_model.specs.declared.node.Fixing.{Fixing}
-use Rattle.dual_model.specs.declared.table.Table.{Table}
-use Rattle.cert_text.specs.declared.cert.CertNode.{CertNode}
 use Rattle.leaf_values.specs.Paths.{node_of}
-use Rattle.cert_check.specs.Visits.{IsSound}
-use Rattle.cert_check.specs.inside.Leaves.{IsLeafNode}
-use Rattle.cert_check.specs.inside.Walks.{visit_of}
+use Rattle.cert_check.specs.Visits.{Instance, Table, IsSound}
+use Rattle.cert_check.specs.inside.Leaves.{CertNode, IsLeafNode}
+use Rattle.cert_check.specs.inside.Walks.{Fixing, visit_of}
 use Rattle.cert_check.proofs.LeafNumbers.{empty-sound}
 use Rattle.cert_check.proofs.leaf.Leaves.is_sound.Goals as goal
 

@@ -1,8 +1,7 @@
 -- The test of the numbers says whether the leaf is sound.
 use Rattle.std.proofs.Common.{◌≡◌, subst, length, refl, get_or, List, Some, slice_get}
 use Rattle.std.proofs.lemmas.Option.{slice_get_read}
-use Rattle.dual_model.specs.declared.table.Table.{Table}
-use Rattle.cert_check.specs.inside.Leaves.{IsValueAt}
+use Rattle.cert_check.specs.inside.Leaves.{Table, IsValueAt}
 use Rattle.cert_check.proofs.LeafNumbers.{table-sound}
 use Rattle.cert_check.proofs.leaf.Leaves.is_table_sound.Goals as goal
 

@@ -1,8 +1,7 @@
 -- The corners are the front of the list that they were put into. They are lawful, and as wide as the points.
 use Rattle.std.proofs.Common.{◌≡◌, ℕ, ◌≤◌, List, ◌++◌, arith, sym, subst, take, length, ◌∙◌}
 use Rattle.std.proofs.lemmas.List.{take-take, take-append-le}
-use Rattle.uc_model.specs.declared.instance.Point.{Point}
-use Rattle.cost_curves.specs.LowerHull.{IsLowerHull}
+use Rattle.cost_curves.specs.LowerHull.{Point, IsLowerHull}
 use Rattle.cost_curves.proofs.HullValues.{lawful_corners, whole_width}
 use Rattle.cost_curves.proofs.curve.Curve.of.Goals as goal
 

@@ -2,8 +2,7 @@
 use Rattle.std.proofs.Common.{◌≡◌, ◌<◌, ◌≤◌, [], length, false, sym, subst, ap, ◌∙◌, ℤ, Option, None, IfSome, unsigned_abs, slice_index_or}
 use Rattle.std.proofs.lemmas.List.{get_or_read}
 use Rattle.uc_model.proofs.Sizes.{wide-size}
-use Rattle.uc_model.specs.declared.limits.TheConstants.{MAX_TERM}
-use Rattle.interval_graph.specs.Intervals.{term_in, IsThere}
+use Rattle.interval_graph.specs.Intervals.{MAX_TERM, term_in, IsThere}
 use Rattle.interval_graph.proofs.intervals.Intervals.full_term.Goals as goal
 
 not-none : (o : Option ℤ) → IsThere o → o ≡ None → ⊥

@@ -2,9 +2,8 @@
 use Rattle.std.proofs.Common.{true, refl, sym, subst, arith}
 use Rattle.branch_tree.specs.NumberedTree.{node_count}
 use Rattle.branch_tree.proofs.Grown.{open_numbered}
-use Rattle.search_core.specs.declared.event.Event.TheVariants.{Claim}
 use Rattle.search_core.specs.Machine.{Machine}
-use Rattle.search_core.specs.Steps.{IsLegal}
+use Rattle.search_core.specs.Steps.{Claim, IsLegal}
 use Rattle.search_core.specs.Notes.{AreNotesOf, AreScalesNoted}
 use Rattle.search_core.specs.Inside.{view_of}
 use Rattle.search_core.proofs.Kept.{kept_by}

@@ -1,8 +1,7 @@
 -- The claim's node is open, and there is room for its children; each field is what the commit makes of it.
 use Rattle.std.proofs.Common.{◌≡◌, length, refl, sym, subst, arith, rules}
-use Rattle.search_core.specs.declared.event.Event.TheVariants.{Commit}
 use Rattle.search_core.specs.Machine.{Machine, IsHolding}
-use Rattle.search_core.specs.Steps.{IsLegal, after}
+use Rattle.search_core.specs.Steps.{Commit, IsLegal, after}
 use Rattle.search_core.specs.Inside.{view_of}
 use Rattle.search_core.proofs.Commits.{commit_count, commit_notes}
 use Rattle.search_core.proofs.Holding.{holdable}

@@ -1,13 +1,11 @@
 -- The note has the numbers of the tables of the node's entries, and none of them is a table above its greatest scale.
 use Rattle.std.proofs.Common.{◌≡◌, ◌<◌, ◌↔◌, ℕ, List, ap, sym, ◌∙◌, subst, arith}
 use Rattle.std.proofs.lemmas.List.{get_or_read}
-use Rattle.dual_model.specs.declared.table.Table.{Table}
 use Rattle.branch_tree.specs.NumberedTree.{node_count}
-use Rattle.search_core.specs.declared.state.State.TheInside.{Inside}
-use Rattle.search_core.specs.Machine.{Machine, entries_of}
+use Rattle.search_core.specs.Machine.{Table, Machine, entries_of}
 use Rattle.search_core.specs.Notes.{Note, no_note, note_in, entry_tables, AreScalesAtMost}
 use Rattle.search_core.specs.Steps.{IsFresh}
-use Rattle.search_core.specs.Inside.{view_of, IsKept}
+use Rattle.search_core.specs.Inside.{Inside, view_of, IsKept}
 use Rattle.search_core.proofs.Opened.{kept_note}
 use Rattle.search_core.proofs.Entries.{IsNoneOf, none_of_entries, entries_none_of}
 use Rattle.search_core.proofs.Scales.{scales_in}

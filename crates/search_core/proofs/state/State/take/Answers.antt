@@ -1,9 +1,8 @@
 -- A ticket moved from one desk to another.
 use Rattle.std.proofs.Common.{◌≡◌, refl, ap, sym, subst, ◌∙◌, arith, ◌∷◌, []}
 use Rattle.std.proofs.lemmas.List.{get_or_read}
-use Rattle.search_core.specs.declared.event.Event.TheVariants.{Steal}
 use Rattle.search_core.specs.Machine.{Machine, no_desk, desk_in}
-use Rattle.search_core.specs.Steps.{IsLegal, first_queued, with_desk, with_tickets, without_first, taken}
+use Rattle.search_core.specs.Steps.{Steal, IsLegal, first_queued, with_desk, with_tickets, without_first, taken}
 use Rattle.search_core.specs.Inside.{view_of}
 use Rattle.search_core.proofs.Kept.{kept_by}
 use Rattle.search_core.proofs.state.State.take.Goals as goal
