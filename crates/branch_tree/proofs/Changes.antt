@@ -1,19 +1,248 @@
--- What `close` and `split` make of the places and of the cover.
-use Rattle.std.proofs.Common.{◌≡◌, ◌≢◌, ℕ, zero, suc, ◌+◌, ◌<◌, true, false, cond, List, [], ◌∷◌, ◌++◌, length, set, refl, ap, sym, ◌∙◌, subst, arith, ⊎_elim, Some, length-append, length-set, ◌==◌, IsTrue, not, slice_get}
-use Rattle.std.proofs.lemmas.Bool.{cases_eq, eq-eqb, ne_eqb}
-use Rattle.std.proofs.lemmas.Option.{slice_get_within}
-use Rattle.dual_model.specs.Fixings.{IsCell}
+-- The places of a tree, what stands at them, and what a replaced leaf, `close` and `split` make of them, of the cover and of the fields.
+use Rattle.std.proofs.Common.{◌≡◌, ℕ, zero, suc, ◌+◌, ◌-◌, ◌<◌, ◌≤◌, ◌⊎◌, true, false, List, [], ◌∷◌, length, get_or, drop, refl, ap, sym, ◌∙◌, subst, arith, ⊎_elim, Option, Some, None, ◌==◌, slice_get, get_or-drop, ◌≢◌, ◌*◌, cond, ◌++◌, set, length-append, length-set, IsTrue, not}
+use Rattle.std.specs.Option.{option_map}
+use Rattle.std.specs.Vec.{vec_capacity}
+use Rattle.std.proofs.lemmas.Bool.{cases_lt, cases_eq, eq-eqb, ne_eqb}
+use Rattle.std.proofs.lemmas.Option.{slice_get_within, same_Some, slice_get-get_or, slice_get_read}
 use Rattle.dual_model.specs.Tree.{root, child, is_decided, IsCoverBelow, IsCover}
-use Rattle.branch_tree.specs.NumberedTree.{Node, Leaf, NumberedTree, EndAt, SplitAt, Subtree, unnumbered, spot_of, subtree_below, subtree_at, replaced, split_leaf}
-use Rattle.branch_tree.specs.TreeView.{Instance, TreeView, IsSizeOf, IsOpenAt, IsFreeAt, tree_of}
-use Rattle.branch_tree.specs.Places.{Place, ArePlacesOf}
-use Rattle.branch_tree.specs.declared.tree.Leaf.TheVariants as leaf
+use Rattle.dual_model.specs.Fixings.{IsCell}
+use Rattle.branch_tree.specs.NumberedTree.{Node, Spot, NumberedTree, EndAt, SplitAt, Subtree, no_tree, number_of, spot_of, node_count, times, subtree_below, subtree_at, spot_at, Leaf, replaced, unnumbered, split_leaf}
+use Rattle.branch_tree.specs.Places.{Inside, Place, HasPlace, HasPlaces, ArePlacesOf, grown_from, trees_of, tree_from, IsStored, view_of}
 use Rattle.branch_tree.specs.declared.tree.Spot.TheVariants as spot
-use Rattle.branch_tree.proofs.Weights.{same_or_not, one_if, replaced_nowhere}
-use Rattle.branch_tree.proofs.Subtrees.{AreApart, IsOff, IsOn, apart_off, apart_on, leaf_at, leaf_sides}
-use Rattle.branch_tree.proofs.Placed.{are_apart, part_place, from_some}
-use Rattle.branch_tree.proofs.Replaced.{are_changed}
+use Rattle.branch_tree.specs.TreeView.{Instance, TreeView, IsSizeOf, IsOpenAt, IsFreeAt, tree_of, IsWhole}
+use Rattle.branch_tree.specs.declared.tree.Leaf.TheVariants as leaf
+use Rattle.branch_tree.proofs.Subtrees.{same_or_not, none_here, one_if, leaves_at, number_of-replaced, total-replaced, replaced_nowhere, AreApart, IsHere, subtree_cases, leaf_case, part_number, some_part, IsOff, IsOn, apart_off, apart_on, leaf_at, leaf_sides}
 
+-- ---- the tree that the places stand for
+grown_at : (places : List Place) (first k : ℕ) (place : Place) → slice_get places k ≡ Some place
+    → get_or (trees_of first places) k no_tree ≡ grown_from (first + k) place.spot (drop (suc k) (trees_of first places))
+grown_at [] first k place e = absurd (cc)
+grown_at (p ∷ places) first zero place e =
+    let later = trees_of (suc first) places in
+    let same : p.spot ≡ place.spot = ap (λ (o : Option Place). spot_or o) e in
+    ap (λ s. grown_from first s later) same ∙ ap (λ n. grown_from n place.spot later) (omega arith)
+  where
+    spot_or : Option Place → Spot
+    spot_or None = place.spot
+    spot_or (Some q) = q.spot
+grown_at (p ∷ places) first (suc k) place e =
+    grown_at places (suc first) k place e ∙ ap (λ n. grown_from n place.spot (drop (suc k) (trees_of (suc first) places))) (omega arith)
+
+child_at : (trees : List NumberedTree) (number child : ℕ) (tree : NumberedTree) → number < child → get_or trees child no_tree ≡ tree
+    → get_or (drop (suc number) trees) (child - suc number) no_tree ≡ tree
+child_at trees number child tree later is =
+    get_or-drop (suc number) trees (child - suc number) no_tree ∙ (ap (λ n. get_or trees n no_tree) (omega arith) ∙ is)
+
+pub tree_is : (places : List Place) (parent : ℕ) (tree : NumberedTree) → HasPlaces places parent tree
+    → tree_from places (number_of tree) ≡ tree
+tree_is places parent (EndAt number leaf) has =
+    grown_at places 0 number (record { parent = parent; spot = spot.Leaf leaf }) has.place
+    ∙ ap (λ n. EndAt n leaf) (omega arith)
+tree_is places parent (SplitAt number g t off on) has =
+    let trees = trees_of 0 places in
+    grown_at places 0 number (record { parent = parent; spot = spot.Inner g t (number_of off) (number_of on) }) has.0.place
+    ∙ (ap (λ n. SplitAt n g t (get_or (drop (suc number) trees) (number_of off - suc n) no_tree) (get_or (drop (suc number) trees) (number_of on - suc n) no_tree)) (omega arith)
+    ∙ (λ i. SplitAt number g t (child_at trees number (number_of off) off has.1 (tree_is places number off has.3) i)
+    (child_at trees number (number_of on) on has.2 (tree_is places number on has.4) i)))
+
+-- ---- the numbers are those of the places
+pub number_within : (places : List Place) (parent : ℕ) (tree : NumberedTree) (number : ℕ) → HasPlaces places parent tree
+    → 1 ≤ times number tree → number < length places
+number_within places parent (EndAt m leaf) number has some = ⊎_elim
+    (λ (h : (m ≡ number) × ((m == number) ≡ true)).
+    subst (λ n. n < length places) h.0 (slice_get_within places m (record { parent = parent; spot = spot.Leaf leaf }) has.place))
+    (λ (h : ((m ≡ number) → ⊥) × ((m == number) ≡ false)). absurd (omega (arith, none_here m number h.1)))
+    (same_or_not m number)
+number_within places parent (SplitAt m g t off on) number has some = ⊎_elim
+    (λ (h : (m ≡ number) × ((m == number) ≡ true)).
+    subst (λ n. n < length places) h.0
+    (slice_get_within places m (record { parent = parent; spot = spot.Inner g t (number_of off) (number_of on) }) has.0.place))
+    (λ (h : ((m ≡ number) → ⊥) × ((m == number) ≡ false)).
+    let none = none_here m number h.1 in
+    ⊎_elim
+    (λ (l : 0 < times number off). number_within places m off number has.3 (omega arith))
+    (λ (l : times number off ≤ 0). number_within places m on number has.4 (omega arith))
+    (cases_lt 0 (times number off)))
+    (same_or_not m number)
+
+pub times_past : (places : List Place) (parent : ℕ) (tree : NumberedTree) (number : ℕ) → HasPlaces places parent tree
+    → length places ≤ number → times number tree ≡ 0
+times_past places parent tree number has past = ⊎_elim
+    (λ (l : 0 < times number tree). let within = number_within places parent tree number has (omega arith) in absurd (omega arith))
+    (λ (l : times number tree ≤ 0). omega arith)
+    (cases_lt 0 (times number tree))
+
+pub are_apart : (tree : NumberedTree) (places : List Place) → ArePlacesOf tree places → AreApart tree
+are_apart tree places are number = ⊎_elim
+    (λ (l : number < node_count tree). omega (arith, are.numbered.once number l))
+    (λ (l : node_count tree ≤ number).
+    let count = are.count in
+    let none = times_past places 0 tree number are.placed (omega arith) in omega arith)
+    (cases_lt number (node_count tree))
+
+-- ---- what stands at a place
+pub record IsPlacedPart (places : List Place) (part : Subtree) : Type 0 where
+  pub parent : ℕ
+  pub placed : HasPlaces places parent part.tree
+
+pub part_placed : (places : List Place) (parent : ℕ) (here : Node) (tree : NumberedTree) (wanted : ℕ) (part : Subtree)
+    → HasPlaces places parent tree → subtree_below here tree wanted ≡ Some part → IsPlacedPart places part
+part_placed places parent here (EndAt number leaf) wanted part has e =
+    let h = leaf_case here number leaf wanted part e in
+    record { parent = parent; placed = subst (λ (p : Subtree). HasPlaces places parent p.tree) (sym h.whole) has }
+part_placed places parent here (SplitAt number g t off on) wanted part has e = ⊎_elim
+    (λ (h : IsHere here (SplitAt number g t off on) wanted part).
+    record { parent = parent; placed = subst (λ (p : Subtree). HasPlaces places parent p.tree) (sym h.whole) has })
+    (λ (sides : (subtree_below (child here g t false) off wanted ≡ Some part) ⊎ (subtree_below (child here g t true) on wanted ≡ Some part)).
+    ⊎_elim
+    (part_placed places number (child here g t false) off wanted part has.3)
+    (part_placed places number (child here g t true) on wanted part has.4)
+    sides)
+    (subtree_cases here number g t off on wanted part e)
+
+-- the place of the root
+pub root_place : (places : List Place) (parent : ℕ) (tree : NumberedTree) → HasPlaces places parent tree → HasPlace places parent tree
+root_place places parent (EndAt number leaf) has = has
+root_place places parent (SplitAt number g t off on) has = has.0
+
+-- a part stands at its number
+pub part_place : (places : List Place) (tree : NumberedTree) (wanted : ℕ) (part : Subtree) → ArePlacesOf tree places
+    → subtree_at tree wanted ≡ Some part
+    → (parent : ℕ) × (slice_get places wanted ≡ Some (record { parent = parent; spot = spot_of part.tree }))
+part_place places tree wanted part are e =
+    let placed = part_placed places 0 root tree wanted part are.placed e in (
+      placed.parent,
+      subst (λ n. slice_get places n ≡ Some (record { parent = placed.parent; spot = spot_of part.tree }))
+          (part_number root tree wanted part e) (root_place places placed.parent part.tree placed.placed).place,
+    )
+
+-- each place has a part
+pub place_part : (places : List Place) (tree : NumberedTree) (wanted : ℕ) → ArePlacesOf tree places → wanted < length places
+    → (part : Subtree) × (subtree_at tree wanted ≡ Some part)
+place_part places tree wanted are within =
+    let count = are.count in
+    some_part root tree wanted (are_apart tree places are) (omega (arith, are.numbered.once wanted (omega arith)))
+
+-- what stands at a place is what the tree has at its number
+pub spot_is : (places : List Place) (tree : NumberedTree) (wanted : ℕ) (place : Place) → ArePlacesOf tree places
+    → slice_get places wanted ≡ Some place → spot_at tree wanted ≡ Some place.spot
+spot_is places tree wanted place are e =
+    let part = place_part places tree wanted are (slice_get_within places wanted place e) in
+    let stands = part_place places tree wanted part.0 are part.1 in
+    let same : Some (record { parent = stands.0; spot = spot_of part.0.tree }) ≡ Some place = sym stands.1 ∙ e in
+    ap (λ (o : Option Subtree). option_map (λ (p : Subtree). spot_of p.tree) o) part.1
+    ∙ ap (λ (o : Option Place). option_map (λ (p : Place). p.spot) o) same
+
+pub from_some : {A B : Type 0} (f : A → B) (o : Option A) (y : B) → option_map f o ≡ Some y → (x : A) × (o ≡ Some x) × (f x ≡ y)
+from_some f None y e = absurd (cc)
+from_some f (Some x) y e = (x, refl, cc)
+
+-- ---- What a tree with a replaced leaf is stored as: its places, and that it is whole.
+-- ---- the places
+-- one place of a leaf was changed for what is grown there, and others were added
+pub record IsChanged (old new : List Place) (wanted : ℕ) (was : Place) (grow : Leaf → NumberedTree) : Type 0 where
+  pub leaf : Leaf
+  pub is_leaf : was.spot ≡ spot.Leaf leaf
+  pub at_leaf : slice_get old wanted ≡ Some was
+  pub others : (n : ℕ) (place : Place) → n ≢ wanted → slice_get old n ≡ Some place → slice_get new n ≡ Some place
+  pub number : (l : Leaf) → number_of (grow l) ≡ wanted
+  pub grown : HasPlaces new was.parent (grow leaf)
+
+pub places_changed : (old new : List Place) (wanted : ℕ) (was : Place) (grow : Leaf → NumberedTree) → IsChanged old new wanted was grow
+    → (parent : ℕ) (tree : NumberedTree) → HasPlaces old parent tree → HasPlaces new parent (replaced wanted grow tree)
+places_changed old new wanted was grow change parent (EndAt number leaf) has = ⊎_elim
+    (λ (h : (number ≡ wanted) × ((number == wanted) ≡ true)).
+    let here : Place = record { parent = parent; spot = spot.Leaf leaf } in
+    let stood : slice_get old wanted ≡ Some here = subst (λ n. slice_get old n ≡ Some here) h.0 has.place in
+    let same : was ≡ here = same_Some was here (sym change.at_leaf ∙ stood) in
+    let spots : spot.Leaf change.leaf ≡ spot.Leaf leaf = sym change.is_leaf ∙ ap (λ (p : Place). p.spot) same in
+    let leaves : change.leaf ≡ leaf = cc in
+    let parents : was.parent ≡ parent = ap (λ (p : Place). p.parent) same in
+    subst (λ b. HasPlaces new parent (cond b (grow leaf) (EndAt number leaf))) (sym h.1)
+    (subst (λ l. HasPlaces new parent (grow l)) leaves (subst (λ p. HasPlaces new p (grow change.leaf)) parents change.grown)))
+    (λ (h : ((number ≡ wanted) → ⊥) × ((number == wanted) ≡ false)).
+    subst (λ b. HasPlaces new parent (cond b (grow leaf) (EndAt number leaf))) (sym h.1)
+    (record { place = change.others number (record { parent = parent; spot = spot.Leaf leaf }) h.0 has.place }))
+    (same_or_not number wanted)
+places_changed old new wanted was grow change parent (SplitAt number g t off on) has =
+    let here : Place = record { parent = parent; spot = spot.Inner g t (number_of off) (number_of on) } in
+    let elsewhere : number ≢ wanted = λ e.
+    let stood : slice_get old wanted ≡ Some here = subst (λ n. slice_get old n ≡ Some here) e has.0.place in
+    let same : was ≡ here = same_Some was here (sym change.at_leaf ∙ stood) in
+    let spots : spot.Leaf change.leaf ≡ spot.Inner g t (number_of off) (number_of on) = sym change.is_leaf ∙ ap (λ (p : Place). p.spot) same in
+    cc in
+    let left = number_of-replaced wanted grow change.number off in
+    let right = number_of-replaced wanted grow change.number on in (
+      record {
+        place = change.others number here elsewhere has.0.place
+            ∙ (λ i. Some (record { parent = parent; spot = spot.Inner g t (sym left i) (sym right i) }));
+      },
+      subst (λ n. number < n) (sym left) has.1,
+      subst (λ n. number < n) (sym right) has.2,
+      places_changed old new wanted was grow change number off has.3,
+      places_changed old new wanted was grow change number on has.4,
+    )
+
+-- where a leaf stands, each node of the number is one
+pub leaves_there : (places : List Place) (parent : ℕ) (tree : NumberedTree) (wanted : ℕ) (was : Place) (leaf : Leaf)
+    → HasPlaces places parent tree → slice_get places wanted ≡ Some was → was.spot ≡ spot.Leaf leaf
+    → leaves_at wanted tree ≡ times wanted tree
+leaves_there places parent (EndAt number l) wanted was leaf has stands is = refl
+leaves_there places parent (SplitAt number g t off on) wanted was leaf has stands is =
+    let left = leaves_there places number off wanted was leaf has.3 stands is in
+    let right = leaves_there places number on wanted was leaf has.4 stands is in
+    ⊎_elim
+    (λ (h : (number ≡ wanted) × ((number == wanted) ≡ true)).
+    let here : Place = record { parent = parent; spot = spot.Inner g t (number_of off) (number_of on) } in
+    let stood : slice_get places wanted ≡ Some here = subst (λ n. slice_get places n ≡ Some here) h.0 has.0.place in
+    let same : was ≡ here = same_Some was here (sym stands ∙ stood) in
+    let spots : spot.Leaf leaf ≡ spot.Inner g t (number_of off) (number_of on) = sym is ∙ ap (λ (p : Place). p.spot) same in
+    absurd (cc))
+    (λ (h : ((number ≡ wanted) → ⊥) × ((number == wanted) ≡ false)). omega (arith, none_here number wanted h.1))
+    (same_or_not number wanted)
+
+-- the places after such a change are those of the tree after it
+pub are_changed : (old new : List Place) (wanted extra : ℕ) (was : Place) (grow : Leaf → NumberedTree) (tree : NumberedTree)
+    → ArePlacesOf tree old → IsChanged old new wanted was grow
+    → length new ≡ length old + extra
+    → ((leaf : Leaf) → node_count (grow leaf) ≡ 1 + extra)
+    → ((number : ℕ) → (more : ℕ) × ((leaf : Leaf) → times number (grow leaf) ≡ one_if (wanted == number) + more)
+    × (number < length old → more ≡ 0) × (length old ≤ number → number < length new → more ≡ 1))
+    → ArePlacesOf (replaced wanted grow tree) new
+are_changed old new wanted extra was grow tree are change longer bigger each =
+    let within = slice_get_within old wanted was change.at_leaf in
+    let count = are.count in
+    let leaves : leaves_at wanted tree ≡ 1 =
+    leaves_there old 0 tree wanted was change.leaf are.placed change.at_leaf change.is_leaf ∙ are.numbered.once wanted (omega arith) in
+    let counted : node_count (replaced wanted grow tree) ≡ node_count tree + extra =
+    total-replaced (λ number. 1) wanted extra grow bigger tree
+    ∙ (ap (λ n. node_count tree + n * extra) leaves ∙ grind arith) in
+    record {
+      placed = places_changed old new wanted was grow change 0 tree are.placed;
+      count = omega arith;
+      numbered = record {
+        root = number_of-replaced wanted grow change.number tree ∙ are.numbered.root;
+        once = λ number below.
+            let own = each number in
+            let timed : times number (replaced wanted grow tree) ≡ times number tree + own.0 =
+            total-replaced (λ n. one_if (n == number)) wanted own.0 grow own.1 tree
+            ∙ (ap (λ n. times number tree + n * own.0) leaves ∙ grind arith) in
+            ⊎_elim
+            (λ (l : number < length old).
+            let once = are.numbered.once number (omega arith) in
+            let none = own.2 l in
+            omega arith)
+            (λ (l : length old ≤ number).
+            let none = times_past old 0 tree number are.placed l in
+            let one = own.3 l (omega arith) in
+            omega arith)
+            (cases_lt number (length old));
+        none = λ number past. times_past new 0 (replaced wanted grow tree) number
+            (places_changed old new wanted was grow change 0 tree are.placed) (omega arith);
+      };
+    }
+
+-- ---- What `close` and `split` make of the places and of the cover.
 -- ---- reading a list that was written
 pub get-set_other : {A : Type 0} (xs : List A) (i j : ℕ) (x y : A) → j ≢ i → slice_get xs j ≡ Some y → slice_get (set xs i x) j ≡ Some y
 get-set_other (z ∷ xs) zero zero x y differ e = absurd (differ refl)
@@ -190,3 +419,113 @@ free_split tree places wanted g t off on instance are at free size cover =
     cover_split instance root tree.nodes wanted g t off on part.0 (leaf.Live at.table at.value) (are_apart tree.nodes places are) part.1 part.2
     (record { unit = subst (λ n. g < n) (sym size.thermal) free.unit; period = subst (λ n. t < n) (sym size.periods) free.period })
     (subst (λ n. IsTrue (not (is_decided n g t))) (sym is_node) free.undecided) cover
+
+-- ---- The fields after a change: what they keep, and what contracts see of them.
+-- fields that are kept as they must be, and of which contracts see this
+pub record IsMade (b : Inside) (value : TreeView) : Type 0 where
+  pub stored : IsStored b
+  pub view : view_of b ≡ value
+  pub whole : IsWhole (view_of b)
+
+-- the size and the room stayed
+pub record IsAlike (a b : Inside) : Type 0 where
+  pub units : b.units ≡ a.units
+  pub periods : b.periods ≡ a.periods
+  pub room : vec_capacity b.places ≡ vec_capacity a.places
+
+made : (a b : Inside) (value : TreeView) (nodes : NumberedTree) → view_of a ≡ value → IsStored a → IsAlike a b
+    → ArePlacesOf nodes b.places.items → length b.places.items ≤ value.room
+    → ((instance : Instance) → IsSizeOf value instance → IsCover instance (unnumbered nodes))
+    → IsMade b (record value { nodes = nodes })
+made a b value nodes seen stored alike are within cover =
+    let rooted : tree_from b.places.items 0 ≡ nodes =
+    ap (tree_from b.places.items) (sym are.numbered.root) ∙ tree_is b.places.items 0 nodes are.placed in
+    let view : view_of b ≡ record value { nodes = nodes } =
+    (λ i. record { units = alike.units i; periods = alike.periods i; room = alike.room i; nodes = rooted i })
+    ∙ ap (λ (v : TreeView). record v { nodes = nodes }) seen in
+    let was : IsWhole value = subst IsWhole seen stored.whole in
+    let whole : IsWhole (record value { nodes = nodes }) = record {
+      cover = λ instance size. cover instance (record { thermal = size.thermal; periods = size.periods });
+      numbered = are.numbered;
+      within = subst (λ n. n ≤ value.room) are.count within;
+      countable = was.countable;
+    } in
+    record {
+      stored = record { places = subst (λ tree. ArePlacesOf tree b.places.items) (sym rooted) are; whole = subst IsWhole (sym view) whole };
+      view = view;
+      whole = subst IsWhole (sym view) whole;
+    }
+
+-- the place that an open leaf has
+pub record HasOpenPlace (places : List Place) (wanted : ℕ) : Type 0 where
+  pub place : Place
+  pub stands : slice_get places wanted ≡ Some place
+  pub leaf : Leaf
+  pub is_leaf : place.spot ≡ spot.Leaf leaf
+
+open_at : (places : List Place) (tree : NumberedTree) (wanted : ℕ) → ArePlacesOf tree places → IsOpenAt tree wanted → HasOpenPlace places wanted
+open_at places tree wanted are at =
+    let within = open_within places tree wanted are at in
+    let nothing : Place = record { parent = 0; spot = spot.Leaf (leaf.Empty 0) } in
+    let stands = slice_get-get_or places wanted nothing within in
+    record { place = _; stands = stands; leaf = leaf.Live at.table at.value; is_leaf = open_place places tree wanted _ are stands at }
+
+pub close_made : (a b : Inside) (value : TreeView) (wanted : ℕ) (new : Leaf) → view_of a ≡ value → IsStored a → IsAlike a b
+    → IsOpenAt value.nodes wanted
+    → ((was : Place) → slice_get a.places.items wanted ≡ Some was
+    → b.places.items ≡ set a.places.items wanted (record was { spot = spot.Leaf new }))
+    → IsMade b (record value { nodes = replaced wanted (λ (leaf : Leaf). EndAt wanted new) value.nodes })
+close_made a b value wanted new seen stored alike at changed =
+    let are : ArePlacesOf value.nodes a.places.items = subst (λ (v : TreeView). ArePlacesOf v.nodes a.places.items) seen stored.places in
+    let was : IsWhole value = subst IsWhole seen stored.whole in
+    let here = open_at a.places.items value.nodes wanted are at in
+    let now : Place = record { parent = here.place.parent; spot = spot.Leaf new } in
+    let items : b.places.items ≡ set a.places.items wanted now = changed here.place here.stands in
+    let places = closed_places a.places.items value.nodes wanted here.place here.leaf new are here.stands here.is_leaf in
+    made a b value (replaced wanted (λ (leaf : Leaf). EndAt wanted new) value.nodes) seen stored alike
+    (subst (ArePlacesOf (replaced wanted (λ (leaf : Leaf). EndAt wanted new) value.nodes)) (sym items) places)
+    (omega (arith, ap length items, length-set a.places.items wanted now, are.count, was.within))
+    (λ instance size. cover_closed instance root value.nodes wanted new (was.cover instance size))
+
+pub split_made : (a b : Inside) (value : TreeView) (wanted g t off on : ℕ) → view_of a ≡ value → IsStored a → IsAlike a b
+    → IsOpenAt value.nodes wanted → IsFreeAt value wanted g t → node_count value.nodes + 2 ≤ value.room
+    → off ≡ length a.places.items → on ≡ suc (length a.places.items)
+    → ((was : Place) → slice_get a.places.items wanted ≡ Some was
+    → b.places.items ≡ set a.places.items wanted (record was { spot = spot.Inner g t off on })
+    ++ (record { parent = wanted; spot = was.spot }) ∷ (record { parent = wanted; spot = was.spot }) ∷ [])
+    → IsMade b (record value { nodes = replaced wanted (split_leaf wanted g t off on) value.nodes })
+split_made a b value wanted g t off on seen stored alike at free room is_off is_on changed =
+    let are : ArePlacesOf value.nodes a.places.items = subst (λ (v : TreeView). ArePlacesOf v.nodes a.places.items) seen stored.places in
+    let was : IsWhole value = subst IsWhole seen stored.whole in
+    let here = open_at a.places.items value.nodes wanted are at in
+    let now : Place = record { parent = here.place.parent; spot = spot.Inner g t off on } in
+    let child : Place = record { parent = wanted; spot = here.place.spot } in
+    let front = set a.places.items wanted now in
+    let items : b.places.items ≡ front ++ child ∷ child ∷ [] = changed here.place here.stands in
+    let places : ArePlacesOf (replaced wanted (split_leaf wanted g t off on) value.nodes) (front ++ child ∷ child ∷ []) =
+    subst (λ m. ArePlacesOf (replaced wanted (split_leaf wanted g t off m) value.nodes)
+    (set a.places.items wanted (record { parent = here.place.parent; spot = spot.Inner g t off m }) ++ child ∷ child ∷ [])) (sym is_on)
+    (subst (λ n. ArePlacesOf (replaced wanted (split_leaf wanted g t n (suc (length a.places.items))) value.nodes)
+    (set a.places.items wanted (record { parent = here.place.parent; spot = spot.Inner g t n (suc (length a.places.items)) }) ++ child ∷ child ∷ [])) (sym is_off)
+    (split_places a.places.items value.nodes wanted g t here.place here.leaf are here.stands here.is_leaf)) in
+    made a b value (replaced wanted (split_leaf wanted g t off on) value.nodes) seen stored alike
+    (subst (ArePlacesOf (replaced wanted (split_leaf wanted g t off on) value.nodes)) (sym items) places)
+    (omega (arith, ap length items, length-append front (child ∷ child ∷ []), length-set a.places.items wanted now, are.count))
+    (λ instance size. free_split value a.places.items wanted g t off on instance are at free size (was.cover instance size))
+
+-- the places of a stored tree are as many as its nodes, and that of an open leaf is one of them
+pub stored_count : (a : Inside) (value : TreeView) → view_of a ≡ value → IsStored a → length a.places.items ≡ node_count value.nodes
+stored_count a value seen stored = stored.places.count ∙ ap (λ (v : TreeView). node_count v.nodes) seen
+
+pub stored_within : (a : Inside) (value : TreeView) (wanted : ℕ) → view_of a ≡ value → IsStored a → IsOpenAt value.nodes wanted
+    → wanted < length a.places.items
+stored_within a value wanted seen stored at =
+    open_within a.places.items value.nodes wanted (subst (λ (v : TreeView). ArePlacesOf v.nodes a.places.items) seen stored.places) at
+
+-- what stands at a place is what the tree has at its number
+pub stored_spot : (a : Inside) (value : TreeView) (wanted : ℕ) (place : Place) → view_of a ≡ value → IsStored a
+    → wanted < node_count value.nodes → place ≡ get_or a.places.items wanted place → spot_at value.nodes wanted ≡ Some place.spot
+stored_spot a value wanted place seen stored within read =
+    let are : ArePlacesOf value.nodes a.places.items = subst (λ (v : TreeView). ArePlacesOf v.nodes a.places.items) seen stored.places in
+    spot_is a.places.items value.nodes wanted place are
+    (slice_get_read a.places.items (length a.places.items) wanted place refl (omega (arith, are.count)) read)

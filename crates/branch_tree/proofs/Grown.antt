@@ -7,14 +7,12 @@ use Rattle.std.proofs.lemmas.Option.{slice_get-get_or}
 use Rattle.dual_model.specs.Tree.{root, child, EachLeaf}
 use Rattle.dual_model.specs.Tree as branch
 use Rattle.branch_tree.specs.NumberedTree.{Node, Spot, Leaf, NumberedTree, EndAt, SplitAt, Subtree, IsNumbered, unnumbered, number_of, spot_of, node_count, times, subtree_below, subtree_at, spot_at, node_at, replaced, split_leaf}
-use Rattle.branch_tree.specs.TreeView.{IsOpenAt}
 use Rattle.branch_tree.specs.Places.{Place, ArePlacesOf, IsPlaced}
+use Rattle.branch_tree.specs.TreeView.{IsOpenAt}
 use Rattle.branch_tree.specs.declared.tree.Leaf.TheVariants as leaf
 use Rattle.branch_tree.specs.declared.tree.Spot.TheVariants as spot
-use Rattle.branch_tree.proofs.Weights.{replaced_nowhere}
-use Rattle.branch_tree.proofs.Subtrees.{AreApart, IsHere, IsOff, IsOn, apart_off, apart_on, at_root, subtree_cases, leaf_at, leaf_case, leaf_sides, not_root, part_counted, no_part, side_part}
-use Rattle.branch_tree.proofs.Placed.{are_apart, part_place, spot_is, from_some}
-use Rattle.branch_tree.proofs.Changes.{get-set_other, get-set_same, get-append, open_place, open_within, closed_places, split_places}
+use Rattle.branch_tree.proofs.Subtrees.{replaced_nowhere, AreApart, IsHere, IsOff, IsOn, apart_off, apart_on, at_root, subtree_cases, leaf_at, leaf_case, leaf_sides, not_root, part_counted, no_part, side_part}
+use Rattle.branch_tree.proofs.Changes.{are_apart, part_place, spot_is, from_some, get-set_other, get-set_same, get-append, open_place, open_within, closed_places, split_places}
 use Rattle.branch_tree.proofs.Preorder.{IsPart, whole_part, off_side, on_side, part_spot}
 
 -- ---- a root alone

@@ -1,12 +1,6 @@
-pub mod Weights
 pub mod Subtrees
-pub mod Placed
-pub mod Replaced
 pub mod Changes
 pub mod Bounds
-pub mod Made
 pub mod Paths
-pub mod TreeLaws
 pub mod Preorder
-pub mod Used
 pub mod Grown

@@ -10,7 +10,7 @@ use Rattle.branch_tree.specs.NumberedTree.{Node, NumberedTree, EndAt, SplitAt, S
 use Rattle.branch_tree.specs.Places.{Place, HasPlaces, ArePlacesOf}
 use Rattle.branch_tree.specs.declared.tree.Spot.TheVariants as spot
 use Rattle.branch_tree.proofs.Subtrees.{AreApart, IsHere, apart_off, apart_on, at_root, off_part, on_part, subtree_cases, leaf_case, part_number, children_hang}
-use Rattle.branch_tree.proofs.Placed.{are_apart, part_placed, part_place, root_place, place_part}
+use Rattle.branch_tree.proofs.Changes.{are_apart, part_placed, part_place, root_place, place_part}
 
 -- a split of this number hangs from a node
 pub record HangsSplit (here : Node) (tree : NumberedTree) (node : Node) (number g t : ℕ) (off on : NumberedTree) : Type 0 where

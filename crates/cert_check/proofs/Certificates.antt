@@ -10,7 +10,7 @@ use Rattle.uc_model.specs.Schedule.{thermal_count}
 use Rattle.dual_model.specs.Tree.{Tree, Ends, Splits, root, child, IsCoverBelow, EachLeaf, any_leaf}
 use Rattle.dual_model.specs.Cover.{Leaf, Bound, Ray, Empty, IsExcluded, is_bound}
 use Rattle.dual_model.specs.Certificate.{Certificate, CertificateHolds, ClaimHolds}
-use Rattle.cert_text.specs.Nodes.{TreeNode, LeafNode, SplitNode, preorder, IsNodeWithin}
+use Rattle.cert_text.specs.CertificateText.{TreeNode, LeafNode, SplitNode, preorder, IsNodeWithin}
 use Rattle.cert_check.specs.Visits.{Instance, Node, Table, Visit, visits, IsSoundNode, IsSound}
 use Rattle.cert_check.specs.Refusals.{HasSize, ClaimFits, HasClaim}
 

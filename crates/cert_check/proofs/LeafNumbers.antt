@@ -6,7 +6,7 @@ use Rattle.dual_model.specs.Fixings.{HasEmptyUnit, HasNoPattern}
 use Rattle.dual_model.specs.NodeValue.{IsNodeValue}
 use Rattle.dual_model.specs.Cover.{Bound, Ray, Empty, HasBoundOf, HasPositiveValue, IsBoundedBy, IsExcludedByRay}
 use Rattle.dual_model.proofs.NodeValues.{values_are_unique}
-use Rattle.cert_text.specs.Nodes.{LeafNode}
+use Rattle.cert_text.specs.CertificateText.{LeafNode}
 use Rattle.cert_check.specs.Visits.{Instance, Node, Table, IsSoundNode}
 use Rattle.cert_check.specs.inside.Leaves.{HasFloorOf, IsBounding, IsBoundingBy, IsEnough, IsExcluding, IsHeld, IsPositive}
 

@@ -13,8 +13,7 @@ use Rattle.dual_model.specs.Tree.{root}
 use Rattle.dual_model.specs.Cover.{Bound, has_bound}
 use Rattle.dual_model.specs.Certificate.{Certificate, CertificateHolds, WrittenSchedule, ScheduleHolds}
 use Rattle.branch_tree.specs.Claims.{written_of}
-use Rattle.cert_text.specs.CertificateText.{Listing, listing_of}
-use Rattle.cert_text.specs.Nodes.{TreeNode, LeafNode, preorder, IsNodeWithin}
+use Rattle.cert_text.specs.CertificateText.{Listing, listing_of, TreeNode, LeafNode, preorder, IsNodeWithin}
 use Rattle.cert_text.specs.TextConditions.{HasText}
 use Rattle.cert_text.specs.Reading.{listing_read, node_of}
 use Rattle.cert_text.specs.declared.cert.CertNode.TheVariants as nodes

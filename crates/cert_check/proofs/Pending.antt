@@ -2,7 +2,7 @@
 use Rattle.std.proofs.Common.{◌≡◌, ℕ, true, false, refl, sym, ap, ◌∙◌, List, [], ◌∷◌, ◌++◌, append_assoc, append-nil, if◌then◌else◌}
 use Rattle.dual_model.specs.Tree.{Tree, Ends, Splits, child}
 use Rattle.dual_model.specs.Cover.{Leaf}
-use Rattle.cert_text.specs.Nodes.{TreeNode, SplitNode, preorder}
+use Rattle.cert_text.specs.CertificateText.{TreeNode, SplitNode, preorder}
 use Rattle.cert_check.specs.Visits.{Node, visits}
 use Rattle.cert_check.specs.inside.Walks.{Fixing, walk, other_child, pending, places}
 

@@ -14,7 +14,7 @@ use Rattle.dual_model.specs.Tree.{root}
 use Rattle.dual_model.specs.Cover.{Bound, Ray, Empty, has_bound}
 use Rattle.dual_model.specs.Certificate.{Certificate, WrittenSchedule, ScheduleHolds}
 use Rattle.schedule_check.specs.FirstBroken.{IsFirstBroken}
-use Rattle.cert_text.specs.Nodes.{TreeNode, LeafNode, SplitNode}
+use Rattle.cert_text.specs.CertificateText.{TreeNode, LeafNode, SplitNode}
 use Rattle.cert_check.specs.Visits.{Table, Visit, visits, IsSound}
 
 -- the size is the instance's

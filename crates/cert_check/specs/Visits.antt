@@ -6,7 +6,7 @@ use Rattle.dual_model.specs.Tree.{Tree, Ends, Splits, child, is_decided}
 use Rattle.dual_model.specs.Cover.{Leaf, LeafHolds, IsExcluded}
 pub use Rattle.dual_model.specs.declared.node.Node.{Node}
 pub use Rattle.dual_model.specs.declared.table.Table.{Table}
-use Rattle.cert_text.specs.Nodes.{TreeNode, LeafNode, SplitNode}
+use Rattle.cert_text.specs.CertificateText.{TreeNode, LeafNode, SplitNode}
 
 -- a node of the tree, and what its path decides
 pub record Visit : Type 0 where

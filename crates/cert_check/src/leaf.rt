@@ -5,7 +5,7 @@ ghost use Rattle.uc_model.specs.Limits.{IsLawfulInstance};
 ghost use Rattle.uc_model.specs.Schedule.{thermal_count};
 ghost use Rattle.dual_model.specs.Cover.{Bound, Ray};
 ghost use Rattle.dual_model.specs.Prices.{IsLawfulTable};
-ghost use Rattle.cert_text.specs.Nodes.{LeafNode};
+ghost use Rattle.cert_text.specs.CertificateText.{LeafNode};
 ghost use Rattle.leaf_values.specs.Paths.{AreFixesOf, node_of as place_of};
 ghost use Rattle.cert_check.specs.Visits.{Node, Table, IsSound, IsSoundNode};
 ghost use Rattle.cert_check.specs.inside.Leaves.{AreOfNumber, HasFloorOf, IsBoundingBy, IsEnough, IsExcluding, IsHeld, IsLeafNode, IsLoaded, IsPositive, IsReady, IsValueAt};

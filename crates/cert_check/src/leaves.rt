@@ -2,7 +2,7 @@
 
 ghost use Rattle.std.specs.Prelude.{◌≡◌, ◌↔◌, ◌<◌, ◌+◌, ◌^◌, suc, IfOk, IsTrue, length};
 ghost use Rattle.uc_model.specs.Limits.{IsLawfulInstance};
-ghost use Rattle.cert_text.specs.Nodes.{IsNodeWithin};
+ghost use Rattle.cert_text.specs.CertificateText.{IsNodeWithin};
 ghost use Rattle.cert_text.specs.Reading.{node_of};
 ghost use Rattle.cert_check.specs.Refusals.{refusal_of};
 ghost use Rattle.cert_check.specs.Visits.{IsSound};

@@ -8,26 +8,25 @@ use Rattle.std.specs.Char.{digit_value}
 use Rattle.std.specs.Str.Parse.{digits_value, AllDigits}
 use Rattle.std.proofs.lemmas.List.Sums.{prefix_len_is, prefix_len-le-length}
 use Rattle.std.proofs.lemmas.Grind.{common_steps}
-use Rattle.cert_text.specs.inside.Forms.{is_digit, run, run_value, ◌>>=◌, Form, text_at, after, ended, both, mapped, passing, fixed, when, times, begins_with, is_whole, whole_at, decimals_at, signed_at, with_sign, negative, millionths, millionths_at, money_at, ordinal_at, or_else}
+use Rattle.cert_text.specs.inside.Forms.{is_digit, run, run_value, ◌>>=◌, Form, text_at, after, ended, both, mapped, passing, fixed, when, times, begins_with, is_whole, whole_at, decimals_at, signed_at, with_sign, negative, millionths, millionths_at, money_at, ordinal_at, or_else, version_at, sizes_of, are_sizes, size_at, claim_at, schedule_at, on_cell, off_cell, on_cell_at, cell_at, row_at, scale_at, ramp_count_at, end_at, ramp_row, rises, is_ramp, ramp_at, named_at, split_at, node_at}
 use Rattle.std.specs.List.{flat_map, starts_with}
-use Rattle.std.proofs.lemmas.Bool.Decides.{Decides-eqb, Decides-int_eq}
+use Rattle.std.proofs.lemmas.Bool.Decides.{Decides-eqb, Decides-int_eq, Decides-and, Decides-or, Decides-not, Decides-ltb, Decides-like}
 use Rattle.std.proofs.lemmas.List.{drop_at, take_at, take-append-drop, length-append, length-take-le, get_or-take, get_or_append_left}
 use Rattle.std.proofs.lemmas.List.Elements.{All-nil, All-cons, All-head, All-tail}
 use Rattle.std.proofs.lemmas.Option.{same_Some, cond_some}
 use Rattle.std.proofs.lemmas.Slice.Eq.{starts_is}
 use Rattle.cert_text.proofs.Loops.{after_text}
-use Rattle.std.proofs.lemmas.Bool.{ltb-true, leb-true, lt-ltb, le-leb, eqb-true, ne_eqb, cases_eq, and_parts, eq-eqb, false≢true, and_from, or_cases, or_left, or_right, not-true, not_from_false, false_from_ne_true}
+use Rattle.std.proofs.lemmas.Bool.{ltb-true, leb-true, lt-ltb, le-leb, eqb-true, ne_eqb, cases_eq, and_parts, eq-eqb, false≢true, and_from}
 use Rattle.uc_model.specs.Money.{six_digits, millionths_text, money_text}
 use Rattle.uc_model.proofs.MoneyText.{length-six_digits, six_digits-digits_value, six_digits_injective, money_text_bytes, money_text_nonempty}
 use Rattle.cert_text.specs.TextConditions.{Cell, RampRow, HasDigits, IsMoney, IsOnCell, IsOffCell, IsCellText, IsThermalRow, IsRenewableRow, IsRampText}
 use Rattle.outside.specs.Lines.{line, list_line}
-use Rattle.cert_text.specs.CertificateText.{version_line, size_line, claim_line, cell_text, thermal_line, renewable_line, scale_line, prices_line, end_line, ramp_line}
+use Rattle.cert_text.specs.CertificateText.{version_line, size_line, claim_line, cell_text, thermal_line, renewable_line, scale_line, prices_line, end_line, ramp_line, TreeNode, LeafNode, SplitNode, node_line, IsNodeWithin}
 use Rattle.cert_text.specs.Grammar.{Sizes, AreSizes, schedule_line, ramp_count_line, IsRampAfter}
-use Rattle.cert_text.specs.inside.LineForms.{version_at, sizes_of, are_sizes, size_at, claim_at, schedule_at, on_cell, off_cell, on_cell_at, cell_at, row_at, scale_at, ramp_count_at, end_at, ramp_row, rises, is_ramp, ramp_at, named_at, split_at, node_at}
 use Rattle.std.specs.Ordering.{int_eq}
+use Rattle.std.specs.Bool.{Decides}
 use Rattle.dual_model.specs.Cover.{Bound, Ray, Empty}
-use Rattle.dual_model.specs.Prices.{IsRowBefore}
-use Rattle.cert_text.specs.Nodes.{TreeNode, LeafNode, SplitNode, node_line, IsNodeWithin}
+use Rattle.dual_model.specs.Prices.{IsRowBefore, IsRowWithin}
 
 -- a text of few digits is one of a small number
 small-from-digits : (digits n : ℕ) → length (whole_text n) ≤ digits → n < 10 ^ digits
@@ -484,24 +483,16 @@ pub end-form : IsForm end_at (λ _. Unit {0}) (λ _. end_line) Anything
 unfolding end_at line
 end-form = form-as (fixed-form _ tt) (λ _. Unit {0}) (λ _. end_line) (λ a v. tt) (λ a v. refl) (λ a v. refl)
 
-sizes_from_test : (size : Sizes) → are_sizes size ≡ true → AreSizes size
-sizes_from_test size e =
-    let a = and_parts (nat_le 1 size.periods) (nat_le size.periods 168 && (nat_le size.thermal 4096 && (nat_le size.renewable 4096 && nat_lt size.tables 4294967296))) e in
-    let b = and_parts (nat_le size.periods 168) (nat_le size.thermal 4096 && (nat_le size.renewable 4096 && nat_lt size.tables 4294967296)) a.1 in
-    let c = and_parts (nat_le size.thermal 4096) (nat_le size.renewable 4096 && nat_lt size.tables 4294967296) b.1 in
-    let d = and_parts (nat_le size.renewable 4096) (nat_lt size.tables 4294967296) c.1 in
-    record {
-      some_period = leb-true 1 size.periods a.0;
-      periods = leb-true size.periods 168 b.0;
-      thermal = leb-true size.thermal 4096 c.0;
-      renewable = leb-true size.renewable 4096 d.0;
-      tables = omega (arith, ltb-true size.tables 4294967296 d.1);
-    }
-
-sizes_pass : (size : Sizes) → AreSizes size → are_sizes size ≡ true
-sizes_pass size h =
-    rw (le-leb 1 size.periods h.some_period, le-leb size.periods 168 h.periods, le-leb size.thermal 4096 h.thermal, le-leb size.renewable 4096 h.renewable)
-    (lt-ltb size.tables 4294967296 (omega (arith, h.tables)))
+sizes_decide : (size : Sizes) → Decides (are_sizes size) (AreSizes size)
+sizes_decide size =
+    Decides-like (are_sizes size)
+    (λ h. record { some_period = h.0; periods = h.1.0; thermal = h.1.1.0; renewable = h.1.1.1.0; tables = omega (arith, h.1.1.1.1) })
+    (λ h. (h.some_period, (h.periods, (h.thermal, (h.renewable, omega (arith, h.tables))))))
+    (Decides-and _ _ (decides_le 1 size.periods) (Decides-and _ _ (decides_le size.periods 168) (Decides-and _ _ (decides_le size.thermal 4096)
+    (Decides-and _ _ (decides_le size.renewable 4096) (Decides-ltb size.tables 4294967296)))))
+  where
+    decides_le : (a b : ℕ) → Decides (nat_le a b) (a ≤ b)
+    decides_le a b = (leb-true a b, le-leb a b)
 
 pub size-form : IsForm size_at AreSizes (λ size. size_line size.periods size.thermal size.renewable size.tables) Anything
 unfolding size_at line
@@ -513,8 +504,8 @@ size-form =
       there = λ p v. ((v.0, v.1.0, v.1.1.0, v.1.1.1), simp append_assoc);
       back = λ size w. ((w.0, (w.1, (w.2, w.3))), refl);
     }))
-    are_sizes AreSizes (λ size v e. sizes_from_test size e)
-    (λ size w. ((omega (arith, w.periods), omega (arith, w.thermal), omega (arith, w.renewable), omega (arith, w.tables)), sizes_pass size w))
+    are_sizes AreSizes (λ size v e. (sizes_decide size).0 e)
+    (λ size w. ((omega (arith, w.periods), omega (arith, w.thermal), omega (arith, w.renewable), omega (arith, w.tables)), (sizes_decide size).1 w))
 
 -- money that there is
 abbrev IsMoneyOf : Option ℤ → Type 0
@@ -657,37 +648,14 @@ spaced_ordinal : (end : ℕ) → is_digit end ≡ false → IsForm (ended ordina
 spaced_ordinal end none = ended-form ordinal-form (end ∷ []) (λ rest. rw none refl)
 
 -- ---- ramp rows
-is_present : (up down : ℤ) → (not (int_eq up (pos 0)) || not (int_eq down (pos 0))) ≡ true → (up ≢ pos 0) ⊎ (down ≢ pos 0)
-is_present up down e = ⊎_elim
-    (λ (u : not (int_eq up (pos 0)) ≡ true). inl (λ z. false≢true (sym (not-true (int_eq up (pos 0)) u) ∙ (Decides-int_eq up (pos 0)).1 z)))
-    (λ (d : not (int_eq down (pos 0)) ≡ true). inr (λ z. false≢true (sym (not-true (int_eq down (pos 0)) d) ∙ (Decides-int_eq down (pos 0)).1 z)))
-    (or_cases (not (int_eq up (pos 0))) (not (int_eq down (pos 0))) e)
+present_decides : (up down : ℤ) → Decides (not (int_eq up (pos 0)) || not (int_eq down (pos 0))) ((up ≢ pos 0) ⊎ (down ≢ pos 0))
+present_decides up down = Decides-or _ _ (Decides-not _ (Decides-int_eq up (pos 0))) (Decides-not _ (Decides-int_eq down (pos 0)))
 
-present_passes : (up down : ℤ) → (up ≢ pos 0) ⊎ (down ≢ pos 0) → (not (int_eq up (pos 0)) || not (int_eq down (pos 0))) ≡ true
-present_passes up down h = ⊎_elim
-    (λ (u : up ≢ pos 0). or_left (not (int_eq up (pos 0))) (not (int_eq down (pos 0))) (not_from_false (int_eq up (pos 0)) (false_from_ne_true (int_eq up (pos 0)) (λ e. u ((Decides-int_eq up (pos 0)).0 e)))))
-    (λ (d : down ≢ pos 0). or_right (not (int_eq up (pos 0))) (not (int_eq down (pos 0))) (not_from_false (int_eq down (pos 0)) (false_from_ne_true (int_eq down (pos 0)) (λ e. d ((Decides-int_eq down (pos 0)).0 e)))))
-    h
-
-rises_from_test : (before : Option RampRow) (row : RampRow) → rises before row ≡ true → IfSome before (λ earlier. IsRowBefore earlier row)
-rises_from_test None row e = tt
-rises_from_test (Some earlier) row e = record {
-  before = ⊎_elim
-      (λ (one : nat_lt earlier.g row.g ≡ true). inl (ltb-true earlier.g row.g one))
-      (λ (two : (nat_eq earlier.g row.g && nat_lt earlier.t row.t) ≡ true).
-      let both = and_parts (nat_eq earlier.g row.g) (nat_lt earlier.t row.t) two in
-      inr (eqb-true earlier.g row.g both.0, ltb-true earlier.t row.t both.1))
-      (or_cases (nat_lt earlier.g row.g) (nat_eq earlier.g row.g && nat_lt earlier.t row.t) e);
-}
-
-rise_passes : (before : Option RampRow) (row : RampRow) → IfSome before (λ earlier. IsRowBefore earlier row) → rises before row ≡ true
-rise_passes None row h = refl
-rise_passes (Some earlier) row h = ⊎_elim
-    (λ (one : earlier.g < row.g). or_left (nat_lt earlier.g row.g) (nat_eq earlier.g row.g && nat_lt earlier.t row.t) (lt-ltb earlier.g row.g one))
-    (λ (two : (earlier.g ≡ row.g) × (earlier.t < row.t)).
-    or_right (nat_lt earlier.g row.g) (nat_eq earlier.g row.g && nat_lt earlier.t row.t)
-    (and_from (nat_eq earlier.g row.g) (nat_lt earlier.t row.t) (eq-eqb earlier.g row.g two.0) (lt-ltb earlier.t row.t two.1)))
-    h.before
+rises_decide : (before : Option RampRow) (row : RampRow) → Decides (rises before row) (IfSome before (λ earlier. IsRowBefore earlier row))
+rises_decide None row = ((λ e. tt), (λ h. refl))
+rises_decide (Some earlier) row =
+    Decides-like (rises (Some earlier) row) (λ h. record { before = h }) (λ h. h.before)
+    (Decides-or _ _ (Decides-ltb earlier.g row.g) (Decides-and _ _ (Decides-eqb earlier.g row.g) (Decides-ltb earlier.t row.t)))
 
 -- a row as it is written, before it is tested
 record IsRowText (row : RampRow) : Type 0 where
@@ -695,22 +663,13 @@ record IsRowText (row : RampRow) : Type 0 where
   t : suc row.t < 10 ^ 18
   numbers : IsRampText row
 
-ramp_from_test : (size : Sizes) (before : Option RampRow) (row : RampRow) → IsRowText row → is_ramp size before row ≡ true → IsRampAfter size before row
-ramp_from_test size before row h e =
-    let present = not (int_eq row.up (pos 0)) || not (int_eq row.down (pos 0)) in
-    let a = and_parts (nat_lt row.g size.thermal) (nat_lt row.t size.periods && (present && rises before row)) e in
-    let b = and_parts (nat_lt row.t size.periods) (present && rises before row) a.1 in
-    let c = and_parts present (rises before row) b.1 in
-    record {
-      within = record { unit = ltb-true row.g size.thermal a.0; period = ltb-true row.t size.periods b.0; present = is_present row.up row.down c.0 };
-      written = h.numbers;
-      rises = rises_from_test before row c.1;
-    }
-
-ramp_passes : (size : Sizes) (before : Option RampRow) (row : RampRow) → IsRampAfter size before row → is_ramp size before row ≡ true
-ramp_passes size before row h =
-    rw (lt-ltb row.g size.thermal h.within.unit, lt-ltb row.t size.periods h.within.period, present_passes row.up row.down h.within.present)
-    (rise_passes before row h.rises)
+ramp_decides : (size : Sizes) (before : Option RampRow) (row : RampRow)
+    → Decides (is_ramp size before row) (IsRowWithin size.thermal size.periods row × IfSome before (λ earlier. IsRowBefore earlier row))
+ramp_decides size before row =
+    Decides-like (is_ramp size before row)
+    (λ h. (record { unit = h.0; period = h.1.0; present = h.1.1.0 }, h.1.1.1)) (λ h. (h.0.unit, (h.0.period, (h.0.present, h.1))))
+    (Decides-and _ _ (Decides-ltb row.g size.thermal) (Decides-and _ _ (Decides-ltb row.t size.periods)
+    (Decides-and _ _ (present_decides row.up row.down) (rises_decide before row))))
 
 pub ramp-form : (size : Sizes) → AreSizes size → (before : Option RampRow) → IsForm (ramp_at size before) (IsRampAfter size before) ramp_line Anything
 unfolding ramp_at line
@@ -722,8 +681,9 @@ ramp-form size lawful before =
       there = λ p v. (record { g = v.0; t = v.1.0; numbers = record { up = v.1.1.0; down = v.1.1.1 } }, simp append_assoc);
       back = λ row w. ((w.g, (w.t, (w.numbers.up, w.numbers.down))), refl);
     }))
-    (is_ramp size before) (IsRampAfter size before) (ramp_from_test size before)
-    (λ row w. (record { g = omega (arith, w.within.unit, lawful.thermal); t = omega (arith, w.within.period, lawful.periods); numbers = w.written }, ramp_passes size before row w))
+    (is_ramp size before) (IsRampAfter size before)
+    (λ row h e. let test = (ramp_decides size before row).0 e in record { within = test.0; written = h.numbers; rises = test.1 })
+    (λ row w. (record { g = omega (arith, w.within.unit, lawful.thermal); t = omega (arith, w.within.period, lawful.periods); numbers = w.written }, (ramp_decides size before row).1 (w.within, w.rises)))
 
 -- ---- nodes
 named-form : (count : ℕ) → count ≤ 4294967296 → IsForm (named_at count) (λ n. n < count) (λ n. whole_text (suc n) ++ codes "\n") Anything

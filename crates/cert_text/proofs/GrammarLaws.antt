@@ -2,7 +2,7 @@
 use Rattle.std.proofs.Common.{◌≡◌, ℕ, ◌≤◌, List, [], ◌++◌, length, Ok, Err, sym, ap, ◌∙◌, arith, suc, ◌+◌, Bool, true, false, ◌∷◌, All, Option, Some, None, ℤ, pos, refl, cond, nat_eq, ◌≢◌, zero, ◌-◌, take, subst, append-nil, ⊎_elim, replicate, Result, append_assoc, inl, inr, ◌⊎◌, get_or, drop, length-append, take_at, codes}
 use Rattle.outside.specs.Lines.{joined, spaced, line, words_of, list_line}
 use Rattle.dual_model.specs.Certificate.{Certificate}
-use Rattle.cert_text.specs.CertificateText.{Cell, RampRow, Listing, listing_of, certificate_lines, certificate_text, claim_line, cell_text}
+use Rattle.cert_text.specs.CertificateText.{Cell, RampRow, Listing, listing_of, certificate_lines, certificate_text, claim_line, cell_text, TreeNode, LeafNode, SplitNode, node_line}
 use Rattle.cert_text.specs.TextConditions.{HasText}
 use Rattle.cert_text.specs.inside.Parts.{certificate_part}
 use Rattle.cert_text.proofs.PartLaws.{same_Ok, certificate-part, certificate_whole, certificate_again, owed_is_tree, Stops, Done, prices_as, IsListed, certificate_listed}
@@ -16,10 +16,8 @@ use Rattle.uc_model.proofs.DecimalText.{whole_text_bytes, signed_text_bytes}
 use Rattle.uc_model.proofs.MoneyText.{money_text_bytes}
 use Rattle.dual_model.specs.Cover.{Bound, Ray, Empty}
 use Rattle.outside.proofs.Joining.{joined-cons}
-use Rattle.cert_text.specs.Nodes.{TreeNode, LeafNode, SplitNode, node_line}
-use Rattle.cert_text.specs.Grammar.{Symbol, Version, Size, Claim, Schedule, ThermalRow, RenewableRow, Scale, Pi, Mu, Ramps, Ramp, Node, End, Produces, Reaches, schedule_line, Sizes, AreSizes, after_size, schedule_rows, ramp_rows, children}
+use Rattle.cert_text.specs.Grammar.{Symbol, Version, Size, Claim, Schedule, ThermalRow, RenewableRow, Scale, Pi, Mu, Ramps, Ramp, Node, End, Produces, Reaches, schedule_line, Sizes, AreSizes, after_size, schedule_rows, ramp_rows, children, CertKind, HasLineFeed, IsWholeLine, IsFormAt, IsCutAt, IsFaultOf, MayStand, IsKindAt}
 use Rattle.cert_text.specs.inside.LineCount.{line_feeds, line_number, stop_kind}
-use Rattle.cert_text.specs.ReadFaults.{CertKind, HasLineFeed, IsWholeLine, IsFormAt, IsCutAt, IsFaultOf, MayStand, IsKindAt}
 use Rattle.std.proofs.lemmas.Option.{some_pair_parts}
 use Rattle.cert_text.specs.inside.Forms.{Form}
 use Rattle.cert_text.proofs.FormLaws.{IsForm, Anything, version-form, size-form, claim-form, schedule-form, thermal-form, renewable-form, scale-form, ramp_count-form, end-form, ramp-form, node-form}
@@ -298,9 +296,6 @@ agree {A} {form} {V} {t} h n text other next another x y p q e =
 
 -- the size that a kind speaks of is one
 abbrev pub IsLawfulKind : Symbol → Type 0
-IsLawfulKind Version = Unit {0}
-IsLawfulKind Size = Unit {0}
-IsLawfulKind Claim = Unit {0}
 IsLawfulKind (Schedule size) = AreSizes size
 IsLawfulKind (ThermalRow size) = AreSizes size
 IsLawfulKind (RenewableRow size) = AreSizes size
@@ -310,7 +305,7 @@ IsLawfulKind (Mu size) = AreSizes size
 IsLawfulKind (Ramps size) = AreSizes size
 IsLawfulKind (Ramp size more before) = AreSizes size
 IsLawfulKind (Node size) = AreSizes size
-IsLawfulKind End = Unit {0}
+IsLawfulKind _ = Unit {0}
 
 one_line : (kind : Symbol) (text other : List ℕ) (next another : List Symbol) (x y : List ℕ) → IsLawfulKind kind → Produces kind text next → Produces kind other another
     → text ++ x ≡ other ++ y → Agree text other next another x y

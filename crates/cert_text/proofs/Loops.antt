@@ -1,9 +1,8 @@
 -- Reading things one after the other, as a loop does.
 use Rattle.std.proofs.Common.{◌≡◌, ℕ, suc, ◌-◌, ◌+◌, ◌≤◌, ◌<◌, List, [], ◌∷◌, ◌++◌, Option, Some, None, Result, Ok, Err, refl, sym, ap, ◌∙◌, append_assoc, arith, option_and_then, append-nil}
-use Rattle.cert_text.specs.inside.Forms.{Form, text_at, after, times}
+use Rattle.cert_text.specs.inside.Forms.{Form, text_at, after, times, ramp_at}
 use Rattle.cert_text.specs.declared.reader.stop.Stop.TheVariants as stops
 use Rattle.cert_text.specs.Grammar.{RampRow, Sizes}
-use Rattle.cert_text.specs.inside.LineForms.{ramp_at}
 use Rattle.cert_text.specs.inside.Parts.{Stop, ◌>>=◌, Part, repeated, ramp_rows_part, StopsAs}
 
 -- ---- a form behind a text

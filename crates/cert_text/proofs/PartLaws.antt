@@ -7,19 +7,16 @@ use Rattle.std.proofs.lemmas.List.Elements.{All-nil, All-cons, All-head, All-tai
 use Rattle.outside.specs.Lines.{joined, line}
 use Rattle.outside.proofs.Joining.{joined-append, joined-cons}
 use Rattle.cert_text.specs.Grammar.{Cell, RampRow, Symbol, Produces, Reaches, Sizes, AreSizes, Scale, Pi, Mu, Ramps, Ramp, ArePrices, IsRampAfter, ramp_rows, ramp_count_line, Schedule, ThermalRow, RenewableRow, schedule_line, schedule_rows, Node, children, Version, Size, Claim, End, after_size}
-use Rattle.cert_text.specs.inside.Forms.{Form, signed_at, text_at}
-use Rattle.cert_text.specs.inside.Parts.{◌>>=◌, Part, line_of, then, told, repeated, written, ramp_rows_part, ramps_part, prices_part, table_of, numbers_part, table_part, printed_part, rows_behind, schedule_part, owed_after, nodes_part, tree_part, listing_from, heading_part, certificate_part}
+use Rattle.cert_text.specs.inside.Forms.{Form, signed_at, text_at, row_at, ramp_count_at, ramp_at, schedule_at, node_at, split_at, claim_at, end_at}
+use Rattle.cert_text.specs.inside.Parts.{◌>>=◌, Part, line_of, then, told, repeated, written, ramp_rows_part, ramps_part, prices_part, table_of, numbers_part, table_part, printed_part, rows_behind, schedule_part, owed_after, nodes_part, tree_part, listing_from, heading_part, certificate_part, AreRamps}
 use Rattle.cert_text.proofs.FormLaws.{IsForm, Anything, prices-form, scale-form, ramp_count-form, ramp-form, form-as, thermal-form, renewable-form, schedule-form, node-form, version-form, size-form, claim-form, end-form}
 use Rattle.std.proofs.lemmas.Int.{ints}
 use Rattle.dual_model.specs.Prices.{IsWellFormed, IsRowBefore, IsRowWithin}
 use Rattle.cert_text.specs.TextConditions.{Table, IsRampText, IsTableText, IsMoney, IsThermalRow, IsRenewableRow, IsScheduleText, HasText}
-use Rattle.cert_text.specs.CertificateText.{prices_line, ramps_line, ramp_line, table_lines, thermal_line, renewable_line, schedule_lines, Listing, listing_of, version_line, size_line, claim_line, end_line, certificate_lines, certificate_text}
-use Rattle.cert_text.specs.inside.RampLists.{AreRamps}
-use Rattle.cert_text.specs.inside.LineForms.{row_at, ramp_count_at, ramp_at, schedule_at, node_at, split_at, claim_at, end_at}
+use Rattle.cert_text.specs.CertificateText.{prices_line, ramps_line, ramp_line, table_lines, thermal_line, renewable_line, schedule_lines, Listing, listing_of, version_line, size_line, claim_line, end_line, certificate_lines, certificate_text, TreeNode, LeafNode, SplitNode, preorder, node_line, IsNodeWithin}
 use Rattle.dual_model.specs.Certificate.{WrittenSchedule, Certificate}
 use Rattle.dual_model.specs.Tree.{Tree, Ends, Splits}
 use Rattle.dual_model.specs.Cover.{Leaf, Bound}
-use Rattle.cert_text.specs.Nodes.{TreeNode, LeafNode, SplitNode, preorder, node_line, IsNodeWithin}
 use Rattle.cert_text.proofs.Loops.{behind_parts, regroup_parts}
 
 -- lines of these kinds were to come, and behind the lines that may stand there comes none that may

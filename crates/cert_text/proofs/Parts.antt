@@ -7,14 +7,13 @@ use Rattle.branch_tree.specs.UsedTables.{used_tables, place_of, stored_tables}
 use Rattle.branch_tree.specs.Claims.{table_at, certificate_of, leaf_claim, written_tables, written_of}
 use Rattle.outside.specs.Lines.{joined}
 use Rattle.outside.proofs.Joining.{joined-cons, joined-append, joined-map}
-use Rattle.cert_text.specs.Nodes.{preorder, node_line, SplitNode, TreeNode, LeafNode, IsLeafWithin, IsNodeWithin}
-use Rattle.cert_text.specs.CertificateText.{RampRow, Table, certificate_lines, certificate_text, schedule_lines, table_lines, thermal_line, renewable_line, ramp_line, cost_line, version_line, size_line, claim_line, end_line, scale_line, prices_line, ramps_line, listing_of}
+use Rattle.cert_text.specs.CertificateText.{preorder, node_line, SplitNode, TreeNode, LeafNode, IsLeafWithin, IsNodeWithin, RampRow, Table, certificate_lines, certificate_text, schedule_lines, table_lines, thermal_line, renewable_line, ramp_line, cost_line, version_line, size_line, claim_line, end_line, scale_line, prices_line, ramps_line, listing_of}
 use Rattle.cert_text.specs.inside.WrittenParts.{Found, Instance, Spot, schedule_part, table_part, tables_part, certificate_parts, spot_node}
 use Rattle.std.specs.Option.{option_map_or}
 use Rattle.std.proofs.lemmas.List.Concat.{flat_map-append}
 use Rattle.dual_model.specs.Tree.{map_leaves, Tree, Ends, Splits, root, child, IsCoverBelow, IsCover, EachLeaf}
 use Rattle.branch_tree.specs.NumberedTree.{NumberedTree, EndAt, SplitAt, IsNumbered, unnumbered, numbers, spot_at}
-use Rattle.branch_tree.proofs.Preorder.{IsPart, off_side, on_side, part_spot}
+use Rattle.branch_tree.proofs.Preorder.{IsPart, off_side, on_side, part_spot, length-each_once, length-stored_tables}
 use Rattle.std.proofs.lemmas.Int.{ints}
 use Rattle.std.proofs.lemmas.List.Elements.{All-nil, All-cons, All-append, All-weaker}
 use Rattle.std.proofs.lemmas.List.{length-map}
@@ -25,7 +24,6 @@ use Rattle.dual_model.specs.Cover.{Leaf, Bound, Ray, Empty, IsExcluded, LeafHold
 use Rattle.dual_model.specs.declared.node.Node.{Node}
 use Rattle.dual_model.specs.Prices.{IsLawfulTable, IsPrice, IsRowPriced}
 use Rattle.branch_tree.specs.StoredTree.{tree_bound}
-use Rattle.branch_tree.proofs.Used.{length-each_once, length-stored_tables}
 use Rattle.cert_text.specs.TextConditions.{HasDigits, IsMoney, IsTableText, IsRampText, IsScheduleText, HasText}
 
 schedule-part : (schedule : Option WrittenSchedule) → joined (schedule_lines schedule) ≡ schedule_part schedule

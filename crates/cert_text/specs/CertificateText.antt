@@ -1,15 +1,48 @@
 -- How a certificate is written: its lines in their order, one spelling for each certificate. This project's own format.
 -- Units, periods and tables count from 0 here, and from 1 in the text.
-use Rattle.std.specs.Prelude.{ℕ, suc, List, [], ◌∷◌, ◌++◌, ℤ, Option, Some, None, length, map, flat_map, codes, if◌then◌else◌}
+use Rattle.std.specs.Prelude.{ℕ, suc, ◌<◌, List, [], ◌∷◌, ◌++◌, codes, ℤ, Option, Some, None, length, map, flat_map, if◌then◌else◌}
 use Rattle.uc_model.specs.Decimal.{whole_text, signed_text}
 use Rattle.uc_model.specs.Money.{money_text}
 pub use Rattle.uc_model.specs.declared.schedule.Cell.{Cell}
+use Rattle.dual_model.specs.Tree.{Tree, Ends, Splits}
+use Rattle.dual_model.specs.Cover.{Leaf, Bound, Ray, Empty}
 use Rattle.dual_model.specs.Certificate.{Certificate, WrittenSchedule}
 pub use Rattle.dual_model.specs.declared.table.Table.{Table}
 pub use Rattle.dual_model.specs.declared.table.RampRow.{RampRow}
-use Rattle.outside.specs.Lines.{joined, line, list_line}
-use Rattle.cert_text.specs.Nodes.{TreeNode, preorder, node_line}
+use Rattle.outside.specs.Lines.{line, joined, list_line}
 
+-- ---- the tree, as the list of its nodes in preorder, a line for each
+-- a leaf, or a split on a unit and a period
+pub data TreeNode : Type 0 where
+  LeafNode : Leaf → TreeNode
+  SplitNode : ℕ → ℕ → TreeNode
+
+-- a split before the nodes of its off-child, and these before those of its on-child
+abbrev pub preorder : Tree Leaf → List TreeNode
+preorder (Ends leaf) = LeafNode leaf ∷ []
+preorder (Splits g t off on) = SplitNode g t ∷ (preorder off ++ preorder on)
+
+abbrev pub leaf_line : Leaf → List ℕ
+leaf_line (Bound number) = line (codes "bound") (whole_text (suc number) ∷ [])
+leaf_line (Ray number) = line (codes "ray") (whole_text (suc number) ∷ [])
+leaf_line (Empty g) = line (codes "empty") (whole_text (suc g) ∷ [])
+
+abbrev pub node_line : TreeNode → List ℕ
+node_line (LeafNode leaf) = leaf_line leaf
+node_line (SplitNode g t) = line (codes "split") (whole_text (suc g) ∷ whole_text (suc t) ∷ [])
+
+-- a leaf names a table, or a thermal unit, that there is
+abbrev pub IsLeafWithin : ℕ → ℕ → Leaf → Type 0
+IsLeafWithin thermal tables (Bound number) = number < tables
+IsLeafWithin thermal tables (Ray number) = number < tables
+IsLeafWithin thermal tables (Empty g) = g < thermal
+
+-- and a split a thermal unit and a period
+abbrev pub IsNodeWithin : ℕ → ℕ → ℕ → TreeNode → Type 0
+IsNodeWithin periods thermal tables (LeafNode leaf) = IsLeafWithin thermal tables leaf
+IsNodeWithin periods thermal tables (SplitNode g t) = (g < thermal) × (t < periods)
+
+-- ---- the whole certificate
 -- what a certificate says, with its tree as the nodes in preorder
 pub record Listing : Type 0 where
   pub periods : ℕ

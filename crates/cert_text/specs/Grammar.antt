@@ -2,15 +2,18 @@
 -- count is a number of its digits, however many lines it asks for. This project's own format.
 --
 -- Units, periods and tables count from 0 here, and from 1 in the text.
-use Rattle.std.specs.Prelude.{◌≡◌, ℕ, zero, suc, ◌^◌, ◌<◌, ◌≤◌, List, [], ◌∷◌, ◌++◌, ℤ, Option, Some, None, IfSome, replicate, codes, length, All, pos}
+use Rattle.std.specs.Prelude.{◌≡◌, ℕ, zero, suc, ◌^◌, ◌<◌, ◌≤◌, List, [], ◌∷◌, ◌++◌, ℤ, Option, Some, None, IfSome, replicate, codes, length, All, pos, ◌≢◌, Contains}
 pub use Rattle.uc_model.specs.declared.schedule.Cell.{Cell}
+use Rattle.uc_model.specs.Decimal.{whole_text}
 use Rattle.dual_model.specs.Prices.{IsRowBefore, IsRowWithin}
 pub use Rattle.dual_model.specs.declared.table.RampRow.{RampRow}
-use Rattle.outside.specs.Lines.{line}
-use Rattle.uc_model.specs.Decimal.{whole_text}
-use Rattle.cert_text.specs.Nodes.{TreeNode, LeafNode, SplitNode, node_line, IsNodeWithin}
+use Rattle.outside.specs.Lines.{line, joined}
+use Rattle.cert_text.specs.CertificateText.{TreeNode, LeafNode, SplitNode, node_line, IsNodeWithin, version_line, size_line, claim_line, cost_line, no_schedule_line, thermal_line, renewable_line, scale_line, prices_line, ramp_line, end_line}
 use Rattle.cert_text.specs.TextConditions.{HasDigits, IsMoney, IsThermalRow, IsRenewableRow, IsRampText}
-use Rattle.cert_text.specs.CertificateText.{version_line, size_line, claim_line, cost_line, no_schedule_line, thermal_line, renewable_line, scale_line, prices_line, ramp_line, end_line}
+use Rattle.cert_text.specs.declared.cert.CertFault.{CertFault}
+use Rattle.cert_text.specs.declared.cert.CertFault.TheVariants as faults
+pub use Rattle.cert_text.specs.declared.cert.CertKind.{CertKind}
+use Rattle.cert_text.specs.declared.cert.CertKind.TheVariants as kinds
 
 -- the numbers of periods, thermal units, renewable units and tables
 pub record Sizes : Type 0 where
@@ -109,3 +112,61 @@ abbrev pub Reaches : List Symbol → List (List ℕ) → List Symbol → Type 0
 Reaches kinds [] left = kinds ≡ left
 Reaches [] (text ∷ texts) left = ⊥
 Reaches (kind ∷ kinds) (text ∷ texts) left = (next : List Symbol) × Produces kind text next × Reaches (next ++ kinds) texts left
+
+-- ---- What is wrong with bytes that are no certificate's text: the first line that may not stand where it does, or that isn't
+-- there. Lines count from 1. This project's own format.
+abbrev pub HasLineFeed : List ℕ → Type 0
+HasLineFeed bytes = Contains bytes 10
+
+-- bytes up to a line feed, and the line feed
+pub record IsWholeLine (text : List ℕ) : Type 0 where
+  pub front : List ℕ
+  pub ends : text ≡ front ++ 10 ∷ []
+  pub first : ¬ HasLineFeed front
+
+-- a line of that kind has this text
+abbrev pub MayStand : Symbol → List ℕ → Type 0
+MayStand kind text = (next : List Symbol) × Produces kind text next
+
+-- the lines before that line may stand as they do, and a line of that kind is to come, before the bytes that are left
+pub record ComesAt (bytes : List ℕ) (line : ℕ) (kind : Symbol) (rest : List ℕ) : Type 0 where
+  pub before : List (List ℕ)
+  pub number : line ≡ suc (length before)
+  pub parts : bytes ≡ joined before ++ rest
+  pub others : List Symbol
+  pub stand : Reaches (Version ∷ []) before (kind ∷ others)
+
+-- Form: that line is ended by its line feed, and may not stand there
+pub record IsFormAt (bytes : List ℕ) (line : ℕ) : Type 0 where
+  pub kind : Symbol
+  pub text : List ℕ
+  pub more : List ℕ
+  pub comes : ComesAt bytes line kind (text ++ more)
+  pub whole : IsWholeLine text
+  pub barred : ¬ MayStand kind text
+
+-- Cut: the bytes end before the line feed of that line
+pub record IsCutAt (bytes : List ℕ) (line : ℕ) : Type 0 where
+  pub kind : Symbol
+  pub rest : List ℕ
+  pub comes : ComesAt bytes line kind rest
+  pub open_ended : ¬ HasLineFeed rest
+
+-- Tail: the lines before that line are a whole certificate, and a byte follows
+pub record IsTailAt (bytes : List ℕ) (line : ℕ) : Type 0 where
+  pub before : List (List ℕ)
+  pub number : line ≡ suc (length before)
+  pub rest : List ℕ
+  pub parts : bytes ≡ joined before ++ rest
+  pub stand : Reaches (Version ∷ []) before []
+  pub some : rest ≢ []
+
+abbrev pub IsKindAt : List ℕ → ℕ → CertKind → Type 0
+IsKindAt bytes line kinds.Form = IsFormAt bytes line
+IsKindAt bytes line kinds.Cut = IsCutAt bytes line
+IsKindAt bytes line kinds.Tail = IsTailAt bytes line
+
+-- the fault is that of the bytes; that memory was refused says nothing of them
+abbrev pub IsFaultOf : List ℕ → CertFault → Type 0
+IsFaultOf bytes (faults.At line kind) = IsKindAt bytes line kind
+IsFaultOf bytes faults.NoMemory = Unit {0}

@@ -1,7 +1,5 @@
-pub mod Nodes
 pub mod CertificateText
 pub mod TextConditions
 pub mod Grammar
 pub mod Reading
-pub mod ReadFaults
 pub mod inside

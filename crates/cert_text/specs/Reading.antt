@@ -6,8 +6,7 @@ use Rattle.branch_tree.specs.Claims.{written_of}
 use Rattle.cert_text.specs.declared.cert.Cert.{Cert}
 use Rattle.cert_text.specs.declared.cert.CertNode.{CertNode}
 use Rattle.cert_text.specs.declared.cert.CertNode.TheVariants as nodes
-use Rattle.cert_text.specs.Nodes.{TreeNode, LeafNode, SplitNode}
-use Rattle.cert_text.specs.CertificateText.{Listing, listing_of, certificate_text}
+use Rattle.cert_text.specs.CertificateText.{TreeNode, LeafNode, SplitNode, Listing, listing_of, certificate_text}
 use Rattle.cert_text.specs.TextConditions.{HasText}
 
 abbrev pub node_of : CertNode → TreeNode

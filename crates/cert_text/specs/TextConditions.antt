@@ -6,8 +6,7 @@ use Rattle.dual_model.specs.Certificate.{WrittenSchedule}
 use Rattle.dual_model.specs.Prices.{IsWellFormed}
 pub use Rattle.dual_model.specs.declared.table.Table.{Table}
 pub use Rattle.dual_model.specs.declared.table.RampRow.{RampRow}
-use Rattle.cert_text.specs.Nodes.{IsNodeWithin}
-use Rattle.cert_text.specs.CertificateText.{Listing}
+use Rattle.cert_text.specs.CertificateText.{IsNodeWithin, Listing}
 
 -- a number of at most so many digits, whatever its sign
 abbrev pub HasDigits : ℕ → ℤ → Type 0

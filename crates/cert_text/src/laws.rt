@@ -11,8 +11,7 @@ ghost use Rattle.branch_tree.specs.TreeView.{IsWhole};
 ghost use Rattle.branch_tree.specs.Claims.{written_tables, certificate_of, written_of};
 ghost use Rattle.branch_tree.specs.declared.found.Found.{Found};
 ghost use Rattle.cert_text.specs.CertificateText.{listing_of, certificate_lines, certificate_text};
-ghost use Rattle.cert_text.specs.Grammar.{Version, Reaches};
-ghost use Rattle.cert_text.specs.ReadFaults.{CertKind, IsKindAt};
+ghost use Rattle.cert_text.specs.Grammar.{Version, Reaches, CertKind, IsKindAt};
 ghost use Rattle.cert_text.specs.TextConditions.{IsMoney, IsScheduleText, HasText};
 
 /// A number is within its range exactly where its text has no more digits than the range says, those of the

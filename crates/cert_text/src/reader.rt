@@ -5,7 +5,7 @@ ghost use Rattle.dual_model.specs.Certificate.{Certificate};
 ghost use Rattle.cert_text.specs.CertificateText.{listing_of, certificate_text};
 ghost use Rattle.cert_text.specs.TextConditions.{HasText};
 ghost use Rattle.cert_text.specs.Reading.{listing_read, IsTextOf};
-ghost use Rattle.cert_text.specs.ReadFaults.{IsFaultOf};
+ghost use Rattle.cert_text.specs.Grammar.{IsFaultOf};
 
 mod fault;
 mod lines;

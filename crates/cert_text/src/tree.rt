@@ -5,7 +5,7 @@ ghost use Rattle.outside.specs.Lines.{line};
 ghost use Rattle.uc_model.specs.Decimal.{whole_text};
 ghost use Rattle.branch_tree.specs.UsedTables.{place_of};
 ghost use Rattle.branch_tree.specs.Claims.{IsLayoutOf, leaf_claim};
-ghost use Rattle.cert_text.specs.Nodes.{leaf_line, node_line};
+ghost use Rattle.cert_text.specs.CertificateText.{leaf_line, node_line};
 ghost use Rattle.cert_text.specs.inside.WrittenParts.{spot_node, tree_part};
 
 use branch_tree::{Layout, Leaf, Spot, Tree};

@@ -1,14 +1,11 @@
 -- Fronts that grow by one item or member, or close.
 use Rattle.std.proofs.Common.{Bool, ◌≡◌, ℕ, ◌≤◌, List, [], ◌∷◌, ◌++◌, length, refl, sym, ap, ◌∙◌, arith, true, append_assoc, ◌<◌, append-nil, ◌⊎◌}
-use Rattle.decimal_json.specs.Value.{Value, Items, no_items, item, items_of, Members, no_members, member, members_of}
-use Rattle.decimal_json.specs.Characters.{is_space}
-use Rattle.decimal_json.specs.Open.{Member, Frame, in_array, in_object, Purpose}
+use Rattle.decimal_json.specs.Value.{Value, Items, no_items, item, items_of, Members, no_members, member, members_of, Member, Frame, in_array, in_object, Purpose, is_mark, whole_of}
+use Rattle.decimal_json.specs.Characters.{is_space, is_hex, unit_of}
 use Rattle.decimal_json.specs.Grammar.{IsSpace, IsString, Spells, SpellsItems, SpellsMoreItems, SpellsMembers, SpellsMoreMembers, Character, character_text, meaning, AreCharacters, AreHex, AreDigits, IsWhole, numerals, negative_text, fraction_text, Sign, sign_text, is_minus}
 use Rattle.decimal_json.specs.Fronts.{FrontItems, FrontMembers, Spaced, IsFront, IsKeyFront, IsStringFront, BehindKey, OpensTooDeep, RepeatsKey, LacksPartner}
-use Rattle.std.specs.List.{flat_map}
+use Rattle.std.specs.List.{flat_map, AllByRecursion}
 use Rattle.std.specs.Char.Utf16.{is_high_surrogate}
-use Rattle.decimal_json.specs.Number.{is_mark, whole_of}
-use Rattle.decimal_json.specs.Escape.{is_hex, unit_of}
 use Rattle.decimal_json.specs.inside.Scan.{Spot, wanted, first_item, first_key, key_wanted, colon_wanted, ended, literal, numeral, quoted, Numeral, minus, zero_first, whole, point, fraction, mark, signed, exponent, Quoted, plain, escaped, unit, high, high_escaped, high_unit, Hex, no_digit, one_digit, two_digits, three_digits, Step, next, stop}
 
 pub four : (a b c d e : List ℕ) → a ++ (b ++ (c ++ (d ++ e))) ≡ (a ++ (b ++ (c ++ d))) ++ e
@@ -20,12 +17,12 @@ seven a b c d f g h e = simp append_assoc
 pub one_more : (bs a b : List ℕ) (c : ℕ) → bs ≡ a ++ b → bs ++ c ∷ [] ≡ a ++ (b ++ c ∷ [])
 one_more bs a b c e = ap (λ x. x ++ c ∷ []) e ∙ append_assoc a b (c ∷ [])
 
-pub space_more : (ws : List ℕ) (c : ℕ) → IsSpace ws → is_space c ≡ true → IsSpace (ws ++ c ∷ [])
-space_more [] c s e = (e, tt)
-space_more (w ∷ ws) c s e = (s.0, space_more ws c s.1 e)
+pub each_more : (P : ℕ → Type 0) (xs : List ℕ) (x : ℕ) → AllByRecursion P xs → P x → AllByRecursion P (xs ++ x ∷ [])
+each_more P [] x each own = (own, tt)
+each_more P (y ∷ ys) x each own = (each.0, each_more P ys x each.1 own)
 
 pub spaced_more : (P : List ℕ → Type 0) (bs : List ℕ) (c : ℕ) → Spaced P bs → is_space c ≡ true → Spaced P (bs ++ c ∷ [])
-spaced_more P bs c s e = (s.0, s.1 ++ c ∷ [], s.2, space_more s.1 c s.3 e, one_more bs s.0 s.1 c s.4)
+spaced_more P bs c s e = (s.0, s.1 ++ c ∷ [], s.2, each_more (λ k. is_space k ≡ true) s.1 c s.3 e, one_more bs s.0 s.1 c s.4)
 
 pub spaced_none : (P : List ℕ → Type 0) (bs : List ℕ) → P bs → Spaced P bs
 spaced_none P bs p = (bs, [], p, tt, sym (append-nil bs))
@@ -155,8 +152,7 @@ QuotedText outer p (high_unit t back u h) bs = (base : List ℕ) × (a b c d : �
 
 -- bytes that are ASCII
 abbrev pub AreAscii : List ℕ → Type 0
-AreAscii [] = Unit {0}
-AreAscii (c ∷ cs) = (c < 128) × AreAscii cs
+AreAscii bs = AllByRecursion (λ c. c < 128) bs
 
 -- a literal so far, and the letters that must come
 pub record LiteralText (outer : List Frame) (v : Value) (ls bs : List ℕ) : Type 0 where

@@ -5,7 +5,7 @@ use Rattle.std.specs.String.{string_bytes, string_eq}
 use Rattle.std.specs.HashMap.{HashMap, UpdatesBy, IsEmpty}
 use Rattle.std.specs.Map.{lookup}
 use Rattle.std.proofs.lemmas.Map.Text.{hash_map_updates_text}
-use Rattle.decimal_json.specs.inside.Answer.{knows, AddsKey, HasKeys}
+use Rattle.decimal_json.specs.inside.Scan.{knows, AddsKey, HasKeys}
 
 either : {X : Type 0} (b : Bool) (v : X) (o : Option X) → is_some (cond b (Some v) o) ≡ (is_some o || b)
 either true v None = refl

@@ -1,9 +1,8 @@
 -- One byte more: what the machine of `specs/inside/Scan.antt` does at the bytes of an input from a place on.
 use Rattle.std.proofs.Common.{◌≡◌, ℕ, ◌+◌, ◌<◌, suc, List, [], ◌∷◌, drop, length, get_or, refl, sym, ap, ◌∙◌, add-one, drop-cons, Bool, true, false, ◌==◌, ◌||◌, ◌++◌, subst, arith, append_assoc, length-append, ⊎_elim, inl, inr, ◌⊎◌}
 use Rattle.decimal_json.specs.Characters.{is_space}
-use Rattle.decimal_json.specs.Open.{Frame}
-use Rattle.decimal_json.specs.inside.Scan.{Spot, wanted, first_item, first_key, key_wanted, colon_wanted, ended, next, stop, fault, step, ended_step, finish, after, outcome, scan, Outcome}
-use Rattle.decimal_json.specs.inside.Answer.{resumed, FailsAt, MaySpace}
+use Rattle.decimal_json.specs.Value.{Frame}
+use Rattle.decimal_json.specs.inside.Scan.{Spot, wanted, first_item, first_key, key_wanted, colon_wanted, ended, next, stop, fault, step, ended_step, finish, after, outcome, scan, Outcome, resumed, FailsAt, MaySpace}
 use Rattle.std.proofs.lemmas.Bool.{or_cases, eqb-true}
 use Rattle.decimal_json.specs.Grammar.{IsSpace}
 

@@ -1,18 +1,14 @@
 -- The machine inside a number, a string and an escape.
 use Rattle.std.proofs.Common.{◌≡◌, ℕ, ◌+◌, ◌*◌, ◌<◌, ◌≤◌, ◌==◌, List, [], ◌∷◌, ◌++◌, drop, length, get_or, refl, sym, ap, subst, ◌∙◌, ⊎_elim, nat_le, arith, Bool, true, false, append_assoc, append-nil, length-append, cond, ℤ, not, ◌&&◌, slice_range, encode_utf8, nat_lt, Some, None, ◌⊎◌}
-use Rattle.decimal_json.specs.Value.{Decimal, number}
-use Rattle.decimal_json.specs.Number.{is_digit, digit_of, is_mark, exponent_of, decimal_from}
-use Rattle.decimal_json.specs.Open.{Frame, Purpose}
-use Rattle.decimal_json.specs.inside.Scan.{Spot, numeral, minus, zero_first, whole, point, fraction, mark, signed, exponent, ended, so_far, next, stop, step, numeral_step, begin_step, scan, finish, fault, quoted, plain, Outcome, quoted_step, quote_step, Hex, no_digit, one_digit, two_digits, three_digits, escaped, unit, high, high_escaped, high_unit, Step, more_hex, unit_step, pair_step, escape_step}
-use Rattle.decimal_json.specs.inside.Answer.{At, JsonFault, AddsDigits, ReadsWhole, ReadsFraction, AddsExponent, ReadsExponent, kept, begun, AfterWhole, MayEnd, FailsAt, StandsAt, Leads, ReadsPlain, ReadsText, BreaksText, ReadsEscape, BreaksEscape, resumed, HexAt, ReadsUnit, BreaksUnit}
+use Rattle.decimal_json.specs.Value.{Decimal, number, is_digit, digit_of, is_mark, exponent_of, decimal_from, Frame, Purpose}
+use Rattle.decimal_json.specs.inside.Scan.{Spot, numeral, minus, zero_first, whole, point, fraction, mark, signed, exponent, ended, so_far, next, stop, step, numeral_step, begin_step, scan, finish, fault, quoted, plain, Outcome, quoted_step, quote_step, Hex, no_digit, one_digit, two_digits, three_digits, escaped, unit, high, high_escaped, high_unit, Step, more_hex, unit_step, pair_step, escape_step, At, JsonFault, AddsDigits, ReadsWhole, ReadsFraction, AddsExponent, ReadsExponent, kept, begun, AfterWhole, MayEnd, FailsAt, StandsAt, Leads, ReadsPlain, ReadsText, BreaksText, ReadsEscape, BreaksEscape, resumed, HexAt, ReadsUnit, BreaksUnit}
 use Rattle.std.proofs.lemmas.Bool.{and_parts, leb-true, ne_eqb, eqb-true, false≢true, or_cases, not-true, cases_lt, le-leb, and_cases, and_left, and_right, and_from, leb-false, lt-leb, le-ltb, lt-ltb}
 use Rattle.decimal_json.proofs.Moves.{same_scan, moved, byte_and_rest, fails_there, stopped, stepped, finished}
 use Rattle.std.proofs.lemmas.List.Edits.{between_more}
 use Rattle.std.specs.Str.{IsCharBoundary}
-use Rattle.decimal_json.specs.Characters.{is_plain}
+use Rattle.decimal_json.specs.Characters.{is_plain, is_hex, unit_of, short_escape}
 use Rattle.std.proofs.lemmas.Str.{encode_ascii}
 use Rattle.std.specs.Char.Utf16.{is_low_surrogate, is_high_surrogate, surrogate_pair_char}
-use Rattle.decimal_json.specs.Escape.{is_hex, unit_of, short_escape}
 
 pub adds_more : (bytes : List ℕ) (start at : ℕ) (old new : List ℕ) → AddsDigits bytes start at old new → at < length bytes
     → is_digit (get_or bytes at 0) ≡ true → AddsDigits bytes start (at + 1) old (new ++ digit_of (get_or bytes at 0) ∷ [])
@@ -113,7 +109,7 @@ pub reads_zero : (bytes : List ℕ) (start : ℕ) (outer : List Frame) (n : Bool
 reads_zero bytes start outer n e = record {
   spot = numeral (zero_first n);
   same = moved bytes start 48 outer (begun n) outer (numeral (zero_first n)) e (zero_starts start outer n);
-  then = after_zero bytes (start + 1) outer n;
+  behind = after_zero bytes (start + 1) outer n;
 }
 
 pub reads_whole : (bytes : List ℕ) (start at c : ℕ) (outer : List Frame) (n : Bool) (new : List ℕ) → StandsAt bytes start c → is_digit c ≡ true → (c ≡ 48 → ⊥)
@@ -122,7 +118,7 @@ reads_whole bytes start at c outer n new e h ne r fails = record {
   spot = numeral (whole n new);
   same = moved bytes start c outer (begun n) outer (numeral (whole n (digit_of c ∷ []))) e (whole_starts start c outer n h ne)
       ∙ (r.before_point outer n (digit_of c ∷ []) ∙ ap (λ xs. scan bytes at outer (numeral (whole n xs))) (sym r.added));
-  then = after_digits bytes at outer n new fails;
+  behind = after_digits bytes at outer n new fails;
 }
 
 pub no_fraction : (bytes : List ℕ) (start : ℕ) (old : List ℕ) → FailsAt (λ c. c == 46) bytes start → ReadsFraction bytes start start 0 old old
@@ -156,15 +152,11 @@ reads_fraction bytes start at c places old new e f h r fails count = record {
 }
 
 -- the sign of an exponent, or none
-pub plus_sign : (bytes : List ℕ) (at : ℕ) (outer : List Frame) (n : Bool) (ds fs : List ℕ) → StandsAt bytes at 43
-    → scan bytes at outer (numeral (mark n ds fs)) ≡ scan bytes (at + 1) outer (numeral (signed n ds fs false))
+pub sign_read : (bytes : List ℕ) (at : ℕ) (outer : List Frame) (n : Bool) (ds fs : List ℕ) (down : Bool) → StandsAt bytes at (cond down 45 43)
+    → scan bytes at outer (numeral (mark n ds fs)) ≡ scan bytes (at + 1) outer (numeral (signed n ds fs down))
 unfolding step numeral_step
-plus_sign bytes at outer n ds fs e = moved bytes at 43 outer (numeral (mark n ds fs)) outer (numeral (signed n ds fs false)) e refl
-
-pub minus_sign : (bytes : List ℕ) (at : ℕ) (outer : List Frame) (n : Bool) (ds fs : List ℕ) → StandsAt bytes at 45
-    → scan bytes at outer (numeral (mark n ds fs)) ≡ scan bytes (at + 1) outer (numeral (signed n ds fs true))
-unfolding step numeral_step
-minus_sign bytes at outer n ds fs e = moved bytes at 45 outer (numeral (mark n ds fs)) outer (numeral (signed n ds fs true)) e refl
+sign_read bytes at outer n ds fs true e = moved bytes at 45 outer (numeral (mark n ds fs)) outer (numeral (signed n ds fs true)) e refl
+sign_read bytes at outer n ds fs false e = moved bytes at 43 outer (numeral (mark n ds fs)) outer (numeral (signed n ds fs false)) e refl
 
 pub no_sign : (bytes : List ℕ) (at : ℕ) (outer : List Frame) (n : Bool) (ds fs : List ℕ) → FailsAt (λ c. c == 43) bytes at → FailsAt (λ c. c == 45) bytes at
     → scan bytes at outer (numeral (mark n ds fs)) ≡ scan bytes at outer (numeral (signed n ds fs false))
@@ -217,7 +209,7 @@ pub reads_number : (bytes : List ℕ) (start whole_end point_end end places writ
     → ((w : ℕ) → written ≡ kept w → held_to ≡ exponent_of down w places)
     → scan bytes start outer (begun n) ≡ scan bytes end outer (ended (number (record { negative = n; digits = new; exponent = held_to })))
 reads_number bytes start whole_end point_end end places written outer n down ds new held_to a b d is =
-    let later = b.read outer a.spot n a.then in
+    let later = b.read outer a.spot n a.behind in
     let same : decimal_from n ds b.digits down d.0 ≡ record { negative = n; digits = new; exponent = held_to } =
     ap (λ (e : ℤ). record { negative = n; digits = ds ++ b.digits; exponent = e }) (ap (λ k. exponent_of down d.0 k) b.count ∙ sym (is d.0 d.1))
     ∙ ap (λ (xs : List ℕ). record { negative = n; digits = xs; exponent = held_to }) (sym b.added) in

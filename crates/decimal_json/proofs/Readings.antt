@@ -1,27 +1,24 @@
 -- What is spelled within the limits is spelled without them.
 use Rattle.std.proofs.Common.{ℕ, List, [], ◌∷◌, true, false, ◌≡◌, ◌+◌, suc, ◌++◌, length, refl, sym, ap, subst, ◌∙◌, arith, Bool, append_assoc, ⊎_elim, lit<, ◌==◌, ◌<◌, ◌≤◌, zero, cond, take, get_or, Option, Some, None, length-append, inl, inr, ◌⊎◌, Result, Ok, Err, nat_le}
 use Rattle.std.proofs.lemmas.Bool.{false≢true, cases_Bool, and_left, and_right, cond-false, cond_both, cases_lt, cases_order}
-use Rattle.decimal_json.specs.Value.{Value, number, text, array, object, Items, no_items, item, Members, no_members, member, items_of, members_of}
-use Rattle.decimal_json.specs.Open.{Member, Frame, in_array, in_object, Purpose, for_value, for_key}
+use Rattle.decimal_json.specs.Value.{Value, number, text, array, object, Items, no_items, item, Members, no_members, member, items_of, members_of, Member, Frame, in_array, in_object, Purpose, for_value, for_key, decimal_from, is_digit, is_mark}
 use Rattle.decimal_json.specs.Grammar.{Character, short, alone, pair, IsCharacter, AreCharacters, IsString, Spells, SpellsItems, SpellsMoreItems, SpellsMembers, SpellsMoreMembers, SpellsText, IsSpace, character_text, meaning, AreHex, is_first_alone, begins_with_second, IsWhole, AreDigits, numerals, negative_text, fraction_text, Power, no_power, power, power_text, is_down, written, IsPower, no_sign, sign_text}
 use Rattle.decimal_json.specs.Fronts.{FrontItems, FrontMembers, Spaced, IsFront, IsKeyFront}
 use Rattle.std.specs.List.{flat_map}
 use Rattle.std.specs.Char.Utf16.{is_low_surrogate, is_high_surrogate}
 use Rattle.std.proofs.lemmas.List.{append-nil, take_more, length-take-le, take_at, get_or_at}
-use Rattle.decimal_json.specs.Number.{decimal_from, is_digit, is_mark}
-use Rattle.decimal_json.specs.Escape.{unit_of, is_hex, short_escape}
-use Rattle.decimal_json.specs.inside.Scan.{Spot, wanted, first_item, first_key, key_wanted, colon_wanted, ended, literal, numeral, quoted, Numeral, minus, zero_first, whole, point, fraction, mark, signed, exponent, Quoted, plain, escaped, unit, high, high_escaped, high_unit, no_digit, one_digit, two_digits, three_digits, Step, next, stop, fault, step, begin_step, ended_step, close_step, literal_step, numeral_step, quoted_step, escape_step, after, outcome, whole_outcome, finish, done, Outcome}
+use Rattle.decimal_json.specs.Characters.{unit_of, is_hex, short_escape, is_space}
+use Rattle.decimal_json.specs.inside.Scan.{Spot, wanted, first_item, first_key, key_wanted, colon_wanted, ended, literal, numeral, quoted, Numeral, minus, zero_first, whole, point, fraction, mark, signed, exponent, Quoted, plain, escaped, unit, high, high_escaped, high_unit, no_digit, one_digit, two_digits, three_digits, Step, next, stop, fault, step, begin_step, ended_step, close_step, literal_step, numeral_step, quoted_step, escape_step, after, outcome, whole_outcome, finish, done, Outcome, Gives}
 use Rattle.decimal_json.proofs.Growth.{items_close, members_close, BehindValue, InString, QuotedText, NumeralText, Stands, AreAscii, Caught, Good}
-use Rattle.decimal_json.proofs.SoundValues.{open_whole, whole_text, fraction_end, power_end, some_digits, none_alone, good_step, Stops, IsSound, is_sound}
+use Rattle.decimal_json.proofs.SoundValues.{open_whole, whole_text, fraction_end, power_end, some_digits, none_alone, good_step, Stops, IsSound, is_sound, at_level, high_of}
 use Rattle.std.specs.Str.{IsUtf8, IsCharBoundary, IsAscii, IsValidUpTo}
 use Rattle.std.proofs.lemmas.Str.{IsCharBoundary-start, IsCharBoundary-after_ascii, IsUtf8-append, IsUtf8-take, IsUtf8-from_ascii}
-use Rattle.decimal_json.specs.Characters.{is_space}
 use Rattle.decimal_json.specs.Reading.{At, JsonFault, NoMemory, BeginsText, IsNoJson, IsText, IsTextFault, IsFault, HasCause}
 use Rattle.decimal_json.proofs.Moves.{Refuses}
 use Rattle.decimal_json.proofs.RunValues.{text_arrives}
 use Rattle.decimal_json.proofs.RunFaults.{deep_fault, repeated_fault, lacks_fault}
 use Rattle.std.specs.Result.{MatchResult, IfOk, IfErr}
-use Rattle.decimal_json.specs.inside.Answer.{Gives}
+use Rattle.std.proofs.lemmas.List.Concat.{flat_map-append}
 use Rattle.decimal_json.specs.View.{Json, view}
 
 weaker_character : (c : Character) → IsCharacter true c → IsCharacter false c
@@ -99,9 +96,6 @@ object_regroup f i a k b m t c d x r = simp append_assoc
 object_inside : (i a k b m t c d x r : List ℕ) → ((i ++ (a ++ (k ++ (b ++ (m ++ (t ++ (c ++ d))))))) ++ x) ++ r ≡ i ++ ((a ++ (k ++ (b ++ (m ++ (t ++ (c ++ d)))))) ++ (x ++ r))
 object_inside i a k b m t c d x r = simp append_assoc
 
-lower : (limited : Bool) (n : ℕ) (v : Value) (core : List ℕ) → Spells limited (suc n) v core → Spells limited (n + 1) v core
-lower limited n v core s = subst (λ (k : ℕ). Spells limited k v core) (omega arith) s
-
 -- an object that closes behind a member, where what is outside can be closed
 object_close : (outer : List Frame) (f0 inside : List ℕ) (ms : List Member) (k : List ℕ) (v : Value) (first key second third core behind : List ℕ)
     → ((w : Value) (bs : List ℕ) → Spells false (length outer) w bs → Completes f0 bs)
@@ -126,7 +120,7 @@ close (in_array vs ∷ outer) front f v core behind s sp =
     let a = f.2 in
     let inner : List ℕ = a.1 ++ (f.1 ++ (core ++ behind)) in
     let r = close outer a.0 a.2 (array (items_of (vs ++ v ∷ []))) (91 ∷ inner ++ 93 ∷ []) []
-    (inner, (λ e. no_limit e), items_close false (length outer + 1) vs a.1 v f.1 core behind (weaker_front_items (length outer + 1) vs a.1 a.4) f.3 (lower false (length outer) v core s) sp, refl) tt in (
+    (inner, (λ e. no_limit e), items_close false (length outer + 1) vs a.1 v f.1 core behind (weaker_front_items (length outer + 1) vs a.1 a.4) f.3 (at_level false (length outer) v core s) sp, refl) tt in (
       r.0,
       93 ∷ r.1,
       completes_as (a.0 ++ ((91 ∷ inner ++ 93 ∷ []) ++ r.1)) _ r.0
@@ -140,7 +134,7 @@ close (in_object ms k ∷ outer) front f v core behind s sp =
     let o = keyed.2.2 in
     let r = object_close outer o.0 o.1 ms k v keyed.2.1 keyed.1 colon.1.1 f.1 core behind
     (λ w bs t. let q = close outer o.0 o.2 w bs [] t tt in (q.0, q.1, q.2, q.3))
-    o.4 keyed.2.3 (weaker_string k keyed.1 keyed.3) colon.1.3 f.3 (lower false (length outer) v core s) sp in (
+    o.4 keyed.2.3 (weaker_string k keyed.1 keyed.3) colon.1.3 f.3 (at_level false (length outer) v core s) sp in (
       r.0,
       125 ∷ r.1,
       completes_as _ (front ++ (core ++ (behind ++ 125 ∷ r.1))) r.0
@@ -230,11 +224,6 @@ numeral_begins outer (signed n ds fs down) front begun bs f t e =
 numeral_begins outer (exponent n ds fs down w) front begun bs f t e =
     number_begins outer front begun [] bs n ds fs (power t.0 t.1 t.2 t.3) f t.4 t.5 (t.6, t.8) (append-nil begun ∙ (t.10 ∙ power_end n ds fs t.0 t.1 t.2 t.3)) e tt
 
--- strings
-flat_map-append : {X Y : Type 0} (g : X → List Y) (xs ys : List X) → flat_map g (xs ++ ys) ≡ flat_map g xs ++ flat_map g ys
-flat_map-append g [] ys = refl
-flat_map-append g (x ∷ xs) ys = ap (λ z. g x ++ z) (flat_map-append g xs ys) ∙ sym (append_assoc (g x) (flat_map g xs) (flat_map g ys))
-
 characters_then : (cs es : List Character) → AreCharacters true cs → AreCharacters false es → AreCharacters false (cs ++ es)
 characters_then [] es are more = more
 characters_then (c ∷ cs) es are more =
@@ -273,9 +262,6 @@ second_begins outer p t base bs filler a b c d e f g h partial r hex is_high sec
     ) i j ascii)
     (cases_Bool (is_low_surrogate (unit_of e f g h)))
 
-high_is : (u a b c d : ℕ) → u ≡ unit_of a b c d → is_high_surrogate u ≡ true → is_high_surrogate (unit_of a b c d) ≡ true
-high_is u a b c d e h = ap is_high_surrogate (sym e) ∙ h
-
 quoted_begins : (outer : List Frame) (p : Purpose) (q : Quoted) (bs : List ℕ) → QuotedText outer p q bs → Begins bs
 quoted_begins outer p (plain t) bs r = string_begins outer p t bs [] (34 ∷ []) bs [] r tt refl (sym (append-nil bs)) (lit< tt, tt)
 quoted_begins outer p (escaped t back) bs r = string_begins outer p t r.0 (92 ∷ []) (110 ∷ 34 ∷ []) bs (short 110 10 ∷ []) r.1 (refl, refl, tt) refl r.3 (lit< tt, (lit< tt, tt))
@@ -289,13 +275,13 @@ quoted_begins outer p (high_escaped t back u) bs r =
     string_begins outer p t r.0 (92 ∷ 117 ∷ r.1 ∷ r.2 ∷ r.3 ∷ r.4 ∷ 92 ∷ []) (110 ∷ 34 ∷ []) bs (alone r.1 r.2 r.3 r.4 ∷ short 110 10 ∷ []) r.5
     ((r.7, λ k. no_limit k), and_right (is_high_surrogate (unit_of r.1 r.2 r.3 r.4)) false refl, (refl, refl, tt)) refl r.10 (lit< tt, (lit< tt, tt))
 quoted_begins outer p (high_unit t back u no_digit) bs r =
-    second_begins outer p t r.0 bs (48 ∷ 48 ∷ 48 ∷ 48 ∷ 34 ∷ []) r.1 r.2 r.3 r.4 48 48 48 48 (92 ∷ 117 ∷ r.1 ∷ r.2 ∷ r.3 ∷ r.4 ∷ 92 ∷ 117 ∷ []) r.5 r.7 (high_is u r.1 r.2 r.3 r.4 r.8 r.9) (refl, refl, refl, refl) refl r.11 (lit< tt, (lit< tt, (lit< tt, (lit< tt, (lit< tt, tt)))))
+    second_begins outer p t r.0 bs (48 ∷ 48 ∷ 48 ∷ 48 ∷ 34 ∷ []) r.1 r.2 r.3 r.4 48 48 48 48 (92 ∷ 117 ∷ r.1 ∷ r.2 ∷ r.3 ∷ r.4 ∷ 92 ∷ 117 ∷ []) r.5 r.7 (high_of u r.1 r.2 r.3 r.4 r.8 r.9) (refl, refl, refl, refl) refl r.11 (lit< tt, (lit< tt, (lit< tt, (lit< tt, (lit< tt, tt)))))
 quoted_begins outer p (high_unit t back u (one_digit x)) bs r =
-    second_begins outer p t r.0 bs (48 ∷ 48 ∷ 48 ∷ 34 ∷ []) r.1 r.2 r.3 r.4 x 48 48 48 (92 ∷ 117 ∷ r.1 ∷ r.2 ∷ r.3 ∷ r.4 ∷ 92 ∷ 117 ∷ x ∷ []) r.5 r.7 (high_is u r.1 r.2 r.3 r.4 r.8 r.9) (r.10, refl, refl, refl) refl r.11 (lit< tt, (lit< tt, (lit< tt, (lit< tt, tt))))
+    second_begins outer p t r.0 bs (48 ∷ 48 ∷ 48 ∷ 34 ∷ []) r.1 r.2 r.3 r.4 x 48 48 48 (92 ∷ 117 ∷ r.1 ∷ r.2 ∷ r.3 ∷ r.4 ∷ 92 ∷ 117 ∷ x ∷ []) r.5 r.7 (high_of u r.1 r.2 r.3 r.4 r.8 r.9) (r.10, refl, refl, refl) refl r.11 (lit< tt, (lit< tt, (lit< tt, (lit< tt, tt))))
 quoted_begins outer p (high_unit t back u (two_digits x y)) bs r =
-    second_begins outer p t r.0 bs (48 ∷ 48 ∷ 34 ∷ []) r.1 r.2 r.3 r.4 x y 48 48 (92 ∷ 117 ∷ r.1 ∷ r.2 ∷ r.3 ∷ r.4 ∷ 92 ∷ 117 ∷ x ∷ y ∷ []) r.5 r.7 (high_is u r.1 r.2 r.3 r.4 r.8 r.9) (r.10.0, r.10.1, refl, refl) refl r.11 (lit< tt, (lit< tt, (lit< tt, tt)))
+    second_begins outer p t r.0 bs (48 ∷ 48 ∷ 34 ∷ []) r.1 r.2 r.3 r.4 x y 48 48 (92 ∷ 117 ∷ r.1 ∷ r.2 ∷ r.3 ∷ r.4 ∷ 92 ∷ 117 ∷ x ∷ y ∷ []) r.5 r.7 (high_of u r.1 r.2 r.3 r.4 r.8 r.9) (r.10.0, r.10.1, refl, refl) refl r.11 (lit< tt, (lit< tt, (lit< tt, tt)))
 quoted_begins outer p (high_unit t back u (three_digits x y z)) bs r =
-    second_begins outer p t r.0 bs (48 ∷ 34 ∷ []) r.1 r.2 r.3 r.4 x y z 48 (92 ∷ 117 ∷ r.1 ∷ r.2 ∷ r.3 ∷ r.4 ∷ 92 ∷ 117 ∷ x ∷ y ∷ z ∷ []) r.5 r.7 (high_is u r.1 r.2 r.3 r.4 r.8 r.9) (r.10.0, r.10.1, r.10.2, refl) refl r.11 (lit< tt, (lit< tt, tt))
+    second_begins outer p t r.0 bs (48 ∷ 34 ∷ []) r.1 r.2 r.3 r.4 x y z 48 (92 ∷ 117 ∷ r.1 ∷ r.2 ∷ r.3 ∷ r.4 ∷ 92 ∷ 117 ∷ x ∷ y ∷ z ∷ []) r.5 r.7 (high_of u r.1 r.2 r.3 r.4 r.8 r.9) (r.10.0, r.10.1, r.10.2, refl) refl r.11 (lit< tt, (lit< tt, tt))
 
 pub begins : (outer : List Frame) (spot : Spot) (bs : List ℕ) → Stands outer spot bs → Begins bs
 begins outer wanted bs s = front_begins outer bs s

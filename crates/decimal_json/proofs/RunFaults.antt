@@ -1,26 +1,21 @@
 -- The machine at fronts of texts, and at what may stand behind them.
 use Rattle.std.proofs.Common.{◌≡◌, ℕ, ◌+◌, suc, List, [], ◌∷◌, ◌++◌, length, refl, sym, ap, subst, ◌∙◌, arith, true, false, append_assoc, length-append, ⊎_elim, ◌==◌, inl, nat_lt, append-nil}
 use Rattle.std.proofs.lemmas.Bool.{cases_Bool, lt-ltb, le-ltb, eqb-true}
-use Rattle.decimal_json.specs.Value.{Value, member, members_of}
-use Rattle.decimal_json.specs.Open.{Frame, Purpose, Member, in_array, in_object, for_value, for_key}
+use Rattle.decimal_json.specs.Value.{Value, member, members_of, Frame, Purpose, Member, in_array, in_object, for_value, for_key}
 use Rattle.decimal_json.specs.inside.Scan.{Spot, wanted, ended, next, step, begin_step, finish, outcome, quoted, plain, high, high_escaped, high_unit, Hex, no_digit, one_digit, two_digits, three_digits, stop, fault, quoted_step, quote_step, pair_step, more_hex, first_item, first_key, key_wanted, colon_wanted, opened, whole_outcome, ended_step, close_step}
 use Rattle.decimal_json.specs.Grammar.{Character, character_text, meaning, IsSpace, HasUniqueKeys}
-use Rattle.decimal_json.proofs.Moves.{moves_none, moves_byte, placed_at, Delimits, Refuses, space_moves, Arrives, arrives_then, arrives_by}
+use Rattle.decimal_json.proofs.Moves.{moves_none, moves_byte, placed_at, Refuses, space_moves, Arrives, arrives_then, arrives_by}
 use Rattle.decimal_json.proofs.Numerals.{second_each}
 use Rattle.std.specs.List.{flat_map}
 use Rattle.std.specs.Char.Utf16.{is_low_surrogate, is_high_surrogate}
-use Rattle.decimal_json.specs.Escape.{is_hex, unit_of}
-use Rattle.decimal_json.specs.Characters.{is_space}
+use Rattle.decimal_json.specs.Characters.{is_hex, unit_of, is_space}
 use Rattle.decimal_json.proofs.Values.{item_comma, quote_known, members_onto, new_key}
 use Rattle.decimal_json.specs.Fronts.{FrontItems, FrontMembers, IsFront, IsKeyFront, OpensTooDeep, IsStringFront, RepeatsKey, LacksSecond, LacksPartner}
 use Rattle.decimal_json.proofs.Growth.{hex_text, AreHexSoFar, four, seven}
-use Rattle.decimal_json.proofs.RunValues.{value_arrives, go_on, byte_run, unit_run, unit_low, unit_high, tail_text, characters_run, string_run, arrives_as, string_key, delimits_behind, padded, keyed, first_item_as, first_key_as, value_begins, first_as, first_key_is}
+use Rattle.decimal_json.proofs.RunValues.{value_arrives, go_on, byte_run, unit_run, unit_low, unit_high, tail_text, characters_run, string_run, arrives_as, string_key, padded, keyed, first_item_as, first_key_as, value_begins, first_as, first_key_is, delimited}
 
 surely : (at : ℕ) (outer : List Frame) (spot : Spot) (bs : List ℕ) (o : List Frame) (s : Spot) (rest : List ℕ) → Arrives true at outer spot bs o s rest → outcome at outer spot (bs ++ rest) ≡ outcome (at + length bs) o s rest
 surely at outer spot bs o s rest a = ⊎_elim (λ e. e) (λ (r : Refuses true (outcome at outer spot (bs ++ rest))). absurd (r.limits refl)) a
-
-delimited : (behind more rest : List ℕ) → IsSpace behind → Delimits ((behind ++ 44 ∷ more) ++ rest)
-delimited behind more rest s = subst (λ (x : List ℕ). Delimits x) (sym (append_assoc behind (44 ∷ more) rest)) (delimits_behind behind ((44 ∷ more) ++ rest) s refl)
 
 -- arrays
 items_comma : (outer : List Frame) (earlier : List Value) (v : Value) (k : ℕ) (more : List ℕ) (o : List Frame) (s : Spot) (rest : List ℕ)
@@ -38,7 +33,7 @@ items_go outer [] inside f at earlier rest =
 items_go outer (v ∷ vs) inside f at earlier rest =
     arrives_as true at (in_array earlier ∷ outer) wanted (f.0 ++ (f.1 ++ (f.2 ++ 44 ∷ f.3))) inside (in_array (earlier ++ v ∷ vs) ∷ outer) wanted rest (sym f.8)
     (padded true at (in_array earlier ∷ outer) v f.0 f.1 f.2 (44 ∷ f.3) (in_array (earlier ++ v ∷ vs) ∷ outer) wanted rest f.4 f.6
-    (λ k. value_arrives true (length outer + 1) v f.1 f.5 k (in_array earlier ∷ outer) ((f.2 ++ 44 ∷ f.3) ++ rest) (omega arith) (delimited f.2 f.3 rest f.6))
+    (λ k. value_arrives true (length outer + 1) v f.1 f.5 k (in_array earlier ∷ outer) ((f.2 ++ 44 ∷ f.3) ++ rest) (omega arith) (delimited f.2 (44 ∷ f.3) rest f.6 refl))
     (λ k. items_comma outer earlier v k f.3 (in_array (earlier ++ v ∷ vs) ∷ outer) wanted rest
     (subst (λ (ws : List Value). Arrives true (k + 1) (in_array (earlier ++ v ∷ []) ∷ outer) wanted f.3 (in_array ws ∷ outer) wanted rest) (append_assoc earlier (v ∷ []) vs)
     (items_go outer vs f.3 f.7 (k + 1) (earlier ++ v ∷ []) rest))))
@@ -58,7 +53,7 @@ array_runs outer (v ∷ vs) inside space f sp at c cs ns nb =
     (arrives_by true at outer first_item f.0 outer first_item ((f.1 ++ (f.2 ++ tail)) ++ rest) (space_moves at outer first_item f.0 f.4 tt))
     (first_as true (at + length f.0) outer f.1 (f.2 ++ tail) frames wanted rest (value_begins true (length outer + 1) v f.1 f.5)
     (padded true (at + length f.0) (in_array [] ∷ outer) v [] f.1 f.2 tail frames wanted rest tt f.6
-    (λ k. value_arrives true (length outer + 1) v f.1 f.5 k (in_array [] ∷ outer) ((f.2 ++ tail) ++ rest) (omega arith) (delimited f.2 (f.3 ++ space) rest f.6))
+    (λ k. value_arrives true (length outer + 1) v f.1 f.5 k (in_array [] ∷ outer) ((f.2 ++ tail) ++ rest) (omega arith) (delimited f.2 tail rest f.6 refl))
     (λ k. arrives_then true k (in_array [] ∷ outer) (ended v) (44 ∷ []) (in_array (v ∷ []) ∷ outer) wanted (f.3 ++ space) frames wanted rest
     (arrives_by true k (in_array [] ∷ outer) (ended v) (44 ∷ []) (in_array (v ∷ []) ∷ outer) wanted ((f.3 ++ space) ++ rest) (moves_byte k 44 (in_array [] ∷ outer) (ended v) (in_array (v ∷ []) ∷ outer) wanted (item_comma k outer [] v)))
     (arrives_then true (k + 1) (in_array (v ∷ []) ∷ outer) wanted f.3 frames wanted space frames wanted rest
@@ -86,7 +81,7 @@ members_go outer [] inside f at earlier rest u =
 members_go outer (m ∷ ms) inside f at earlier rest u =
     arrives_as true at outer (key_wanted earlier) (f.0 ++ (f.1 ++ (f.2 ++ (58 ∷ f.3 ++ (f.4 ++ (f.5 ++ 44 ∷ f.6)))))) inside outer (key_wanted (earlier ++ m ∷ ms)) rest (sym f.14)
     (keyed true at outer earlier m.0 m.1 f.0 f.1 f.2 f.3 f.4 f.5 (44 ∷ f.6) outer (key_wanted (earlier ++ m ∷ ms)) rest f.7 f.8 f.9 f.10 f.12 (λ _. new_key earlier m.0 m.1 (members_of ms) (subst HasUniqueKeys (members_split earlier m ms) u))
-    (λ k. value_arrives true (length outer + 1) m.1 f.4 f.11 k (in_object earlier m.0 ∷ outer) ((f.5 ++ 44 ∷ f.6) ++ rest) (omega arith) (delimited f.5 f.6 rest f.12))
+    (λ k. value_arrives true (length outer + 1) m.1 f.4 f.11 k (in_object earlier m.0 ∷ outer) ((f.5 ++ 44 ∷ f.6) ++ rest) (omega arith) (delimited f.5 (44 ∷ f.6) rest f.12 refl))
     (λ k. members_comma outer earlier m k f.6 outer (key_wanted (earlier ++ m ∷ ms)) rest
     (subst (λ (ns : List Member). Arrives true (k + 1) outer (key_wanted (earlier ++ m ∷ [])) f.6 outer (key_wanted ns) rest) (append_assoc earlier (m ∷ []) ms)
     (members_go outer ms f.6 f.13 (k + 1) (earlier ++ m ∷ []) rest (subst (λ (ns : List Member). HasUniqueKeys (members_of ns)) (sym (append_assoc earlier (m ∷ []) ms)) u)))))
@@ -107,7 +102,7 @@ object_runs outer (m ∷ ms) inside space f u sp at cs =
     (arrives_by true at outer first_key f.0 outer first_key ((f.1 ++ x) ++ rest) (space_moves at outer first_key f.0 f.7 tt))
     (first_key_is true (at + length f.0) outer m.0 f.1 x outer last rest f.8
     (keyed true (at + length f.0) outer [] m.0 m.1 [] f.1 f.2 f.3 f.4 f.5 tail outer last rest tt f.8 f.9 f.10 f.12 (λ _. refl)
-    (λ k. value_arrives true (length outer + 1) m.1 f.4 f.11 k (in_object [] m.0 ∷ outer) ((f.5 ++ tail) ++ rest) (omega arith) (delimited f.5 (f.6 ++ space) rest f.12))
+    (λ k. value_arrives true (length outer + 1) m.1 f.4 f.11 k (in_object [] m.0 ∷ outer) ((f.5 ++ tail) ++ rest) (omega arith) (delimited f.5 tail rest f.12 refl))
     (λ k. members_comma outer [] m k (f.6 ++ space) outer last rest
     (arrives_then true (k + 1) outer (key_wanted (m ∷ [])) f.6 outer last space outer last rest
     (members_go outer ms f.6 f.13 (k + 1) (m ∷ []) (space ++ rest) u)

@@ -1,18 +1,14 @@
 -- The machine at numbers, strings and values of the grammar.
 use Rattle.std.proofs.Common.{◌≡◌, ℕ, ◌+◌, ◌*◌, ◌<◌, suc, List, [], ◌∷◌, ◌++◌, length, refl, sym, ap, subst, ◌∙◌, arith, Bool, true, false, append_assoc, length-append, fold, ⊎_elim, ◌==◌, inl, inr, lit<, Some, None, ◌||◌, cond, nat_le, ◌⊎◌, encode_utf8, nat_lt, append-nil}
 use Rattle.std.proofs.lemmas.Bool.{and_from, le-leb, cases_eq, ne_eqb, cases_Bool, or_cases, or_parts, false≢true, or_left, lt-ltb, ltb-true}
-use Rattle.decimal_json.specs.Value.{Decimal, number, Value, null, boolean, text, array, object, Items, no_items, item, Members, no_members, member, members_of, has_key}
-use Rattle.decimal_json.specs.Number.{is_digit, digit_of, is_mark, whole_of}
-use Rattle.decimal_json.specs.Open.{Frame, Purpose, Member, in_array, in_object, for_value, for_key}
-use Rattle.decimal_json.specs.inside.Scan.{Spot, wanted, ended, numeral, zero_first, whole, point, fraction, mark, signed, exponent, so_far, next, step, begin_step, numeral_step, finish, after, outcome, quoted, Quoted, plain, escaped, unit, high, high_escaped, high_unit, Hex, no_digit, one_digit, two_digits, three_digits, Step, stop, Outcome, fault, quoted_step, quote_step, unit_step, pair_step, more_hex, escape_step, first_item, first_key, key_wanted, colon_wanted, done, literal_step, opened, finish_value, whole_outcome, ended_step, close_step}
-use Rattle.decimal_json.specs.inside.Answer.{begun}
+use Rattle.decimal_json.specs.Value.{Decimal, number, Value, null, boolean, text, array, object, Items, no_items, item, Members, no_members, member, members_of, has_key, is_digit, digit_of, is_mark, whole_of, Frame, Purpose, Member, in_array, in_object, for_value, for_key}
+use Rattle.decimal_json.specs.inside.Scan.{Spot, wanted, ended, numeral, zero_first, whole, point, fraction, mark, signed, exponent, so_far, next, step, begin_step, numeral_step, finish, after, outcome, quoted, Quoted, plain, escaped, unit, high, high_escaped, high_unit, Hex, no_digit, one_digit, two_digits, three_digits, Step, stop, Outcome, fault, quoted_step, quote_step, unit_step, pair_step, more_hex, escape_step, first_item, first_key, key_wanted, colon_wanted, done, literal_step, opened, finish_value, whole_outcome, ended_step, close_step, begun}
 use Rattle.decimal_json.specs.Grammar.{AreDigits, numerals, IsWhole, fraction_text, Power, no_power, power, Sign, no_sign, plus, minus, sign_text, is_minus, power_text, is_down, written, IsPower, negative_text, IsNumber, Character, itself, short, alone, pair, character_text, meaning, AreHex, is_surrogate, begins_with_second, AreCharacters, IsSpace, IsString, HasUniqueKeys, Spells, SpellsItems, SpellsMoreItems, SpellsMembers, SpellsMoreMembers, SpellsText}
 use Rattle.decimal_json.proofs.Moves.{Moves, moves_none, moves_byte, moves_then, moves_on, placed_at, Delimits, delimiter_is, Refuses, refuses_along, space_moves, Arrives, arrives_then, arrives_by}
 use Rattle.decimal_json.proofs.Numerals.{whole_starts, zero_starts, mark_is, unit_each, second_each, escaped_some, low_not_high, plain_leads, plain_quote, plain_parts}
 use Rattle.std.specs.List.{flat_map}
 use Rattle.std.specs.Char.Utf16.{is_low_surrogate, is_high_surrogate, surrogate_pair_char}
-use Rattle.decimal_json.specs.Escape.{short_escape, is_hex, unit_of}
-use Rattle.decimal_json.specs.Characters.{is_space, rue, alse, ull, depth_limit}
+use Rattle.decimal_json.specs.Characters.{short_escape, is_hex, unit_of, is_space, rue, alse, ull, depth_limit}
 use Rattle.decimal_json.proofs.Values.{first_item_other, first_key_other, item_comma, quote_known, quote_new, items_onto, members_onto, items_of-push, items_onto-push, members_of-push, members_onto-push, new_key}
 use Rattle.decimal_json.proofs.Growth.{four, seven}
 
@@ -22,21 +18,17 @@ digit_written d small = and_from (nat_le 48 (48 + d)) (nat_le (48 + d) 57) (le-l
 digit_read : (d : ℕ) → digit_of (48 + d) ≡ d
 digit_read d = omega arith
 
-whole_moves : (at : ℕ) (outer : List Frame) (n : Bool) (xs ds : List ℕ) → AreDigits ds → Moves at outer (numeral (whole n xs)) (numerals ds) outer (numeral (whole n (xs ++ ds)))
-unfolding step numeral_step
-whole_moves at outer n xs [] are = subst (λ (ys : List ℕ). Moves at outer (numeral (whole n xs)) [] outer (numeral (whole n ys))) (sym (append-nil xs)) (moves_none at outer (numeral (whole n xs)))
-whole_moves at outer n xs (d ∷ ds) are =
-    moves_on at (48 + d) outer (numeral (whole n xs)) outer (numeral (whole n (xs ++ d ∷ []))) (numerals ds) outer (numeral (whole n (xs ++ d ∷ ds)))
-    (rw (digit_written d are.0) (ap (λ e. next outer (numeral (whole n (xs ++ e ∷ [])))) (digit_read d)))
-    (subst (λ (ys : List ℕ). Moves (at + 1) outer (numeral (whole n (xs ++ d ∷ []))) (numerals ds) outer (numeral (whole n ys))) (append_assoc xs (d ∷ []) ds) (whole_moves (at + 1) outer n (xs ++ d ∷ []) ds are.1))
+-- a digit leads to a spot that has it, and digits to one that has them all
+digit_leads : (next_spot : ℕ → Spot) (at : ℕ) (outer : List Frame) (spot : Spot) (d : ℕ) → d < 10
+    → (is_digit (48 + d) ≡ true → step at outer spot (48 + d) ≡ next outer (next_spot (digit_of (48 + d)))) → step at outer spot (48 + d) ≡ next outer (next_spot d)
+digit_leads next_spot at outer spot d small leads = leads (digit_written d small) ∙ ap (λ e. next outer (next_spot e)) (digit_read d)
 
-fraction_moves : (at : ℕ) (outer : List Frame) (n : Bool) (ws xs ds : List ℕ) → AreDigits ds → Moves at outer (numeral (fraction n ws xs)) (numerals ds) outer (numeral (fraction n ws (xs ++ ds)))
-unfolding step numeral_step
-fraction_moves at outer n ws xs [] are = subst (λ (ys : List ℕ). Moves at outer (numeral (fraction n ws xs)) [] outer (numeral (fraction n ws ys))) (sym (append-nil xs)) (moves_none at outer (numeral (fraction n ws xs)))
-fraction_moves at outer n ws xs (d ∷ ds) are =
-    moves_on at (48 + d) outer (numeral (fraction n ws xs)) outer (numeral (fraction n ws (xs ++ d ∷ []))) (numerals ds) outer (numeral (fraction n ws (xs ++ d ∷ ds)))
-    (rw (digit_written d are.0) (ap (λ e. next outer (numeral (fraction n ws (xs ++ e ∷ [])))) (digit_read d)))
-    (subst (λ (ys : List ℕ). Moves (at + 1) outer (numeral (fraction n ws (xs ++ d ∷ []))) (numerals ds) outer (numeral (fraction n ws ys))) (append_assoc xs (d ∷ []) ds) (fraction_moves (at + 1) outer n ws (xs ++ d ∷ []) ds are.1))
+digits_move : (spot : List ℕ → Spot) (at : ℕ) (outer : List Frame) → ((k : ℕ) (xs : List ℕ) (d : ℕ) → d < 10 → step k outer (spot xs) (48 + d) ≡ next outer (spot (xs ++ d ∷ [])))
+    → (xs ds : List ℕ) → AreDigits ds → Moves at outer (spot xs) (numerals ds) outer (spot (xs ++ ds))
+digits_move spot at outer each xs [] are = subst (λ (ys : List ℕ). Moves at outer (spot xs) [] outer (spot ys)) (sym (append-nil xs)) (moves_none at outer (spot xs))
+digits_move spot at outer each xs (d ∷ ds) are =
+    moves_on at (48 + d) outer (spot xs) outer (spot (xs ++ d ∷ [])) (numerals ds) outer (spot (xs ++ d ∷ ds)) (each at xs d are.0)
+    (subst (λ (ys : List ℕ). Moves (at + 1) outer (spot (xs ++ d ∷ [])) (numerals ds) outer (spot ys)) (append_assoc xs (d ∷ []) ds) (digits_move spot (at + 1) outer each (xs ++ d ∷ []) ds are.1))
 
 exponent_moves : (at : ℕ) (outer : List Frame) (n : Bool) (ws fs : List ℕ) (down : Bool) (w : ℕ) (ds : List ℕ) → AreDigits ds
     → Moves at outer (numeral (exponent n ws fs down w)) (numerals ds) outer (numeral (exponent n ws fs down (fold (λ k d. k * 10 + d) w ds)))
@@ -101,7 +93,7 @@ whole_spot at outer n d ds more are = record {
   spot = numeral (whole n (d ∷ ds));
   moves = moves_on at (48 + d) outer (begun n) outer (numeral (whole n (d ∷ []))) (numerals ds) outer (numeral (whole n (d ∷ ds)))
       (whole_starts at (48 + d) outer n (digit_written d are.0) (λ e. omega arith) ∙ ap (λ e. next outer (numeral (whole n (e ∷ [])))) (digit_read d))
-      (whole_moves (at + 1) outer n (d ∷ []) ds are.1);
+      (digits_move (λ xs. numeral (whole n xs)) (at + 1) outer (λ k xs e small. digit_leads (λ z. numeral (whole n (xs ++ z ∷ []))) k outer (numeral (whole n xs)) e small (λ h. rw h refl)) (d ∷ []) ds are.1);
   can_end = whole_can_end n (d ∷ ds);
   pointed = λ k. refl;
 }
@@ -136,7 +128,7 @@ fraction_run at outer spot n ds (f ∷ fs) are end pointed = record {
   moves = moves_on at 46 outer spot outer (numeral (point n ds)) (numerals (f ∷ fs)) outer (numeral (fraction n ds (f ∷ fs))) (pointed at)
       (moves_on (at + 1) (48 + f) outer (numeral (point n ds)) outer (numeral (fraction n ds (f ∷ []))) (numerals fs) outer (numeral (fraction n ds (f ∷ fs)))
       (rw (digit_written f are.0) (ap (λ e. next outer (numeral (fraction n ds (e ∷ [])))) (digit_read f)))
-      (fraction_moves (at + 1 + 1) outer n ds (f ∷ []) fs are.1));
+      (digits_move (λ xs. numeral (fraction n ds xs)) (at + 1 + 1) outer (λ k xs e small. digit_leads (λ z. numeral (fraction n ds (xs ++ z ∷ []))) k outer (numeral (fraction n ds xs)) e small (λ h. rw h refl)) (f ∷ []) fs are.1));
   can_end = fraction_can_end n ds (f ∷ fs);
 }
 
@@ -423,6 +415,9 @@ pub delimits_behind : (ws tail : List ℕ) → IsSpace ws → Delimits tail → 
 delimits_behind [] tail space d = d
 delimits_behind (w ∷ ws) tail space d = or_left (is_space w) ((w == 44) || ((w == 93) || (w == 125))) space.0
 
+pub delimited : (behind more rest : List ℕ) → IsSpace behind → Delimits (more ++ rest) → Delimits ((behind ++ more) ++ rest)
+delimited behind more rest space d = subst (λ (bs : List ℕ). Delimits bs) (sym (append_assoc behind more rest)) (delimits_behind behind (more ++ rest) space d)
+
 delimits_items : (limited : Bool) (level : ℕ) (vs : Items) (more rest : List ℕ) → SpellsMoreItems limited level vs more → Delimits ((more ++ 93 ∷ []) ++ rest)
 delimits_items limited level no_items more rest s = subst (λ (bs : List ℕ). Delimits ((bs ++ 93 ∷ []) ++ rest)) (sym s) refl
 delimits_items limited level (item v vs) more rest s = subst (λ (bs : List ℕ). Delimits ((bs ++ 93 ∷ []) ++ rest)) (sym s.8) refl
@@ -552,14 +547,6 @@ unfolding step ended_step close_step
 close_members limited at outer ms k v rest = arrives_by limited at (in_object ms k ∷ outer) (ended v) (125 ∷ []) outer (ended (object (members_onto ms (member k v no_members)))) rest
     (moves_byte at 125 (in_object ms k ∷ outer) (ended v) outer (ended (object (members_onto ms (member k v no_members)))) (ap (λ is. next outer (ended (object is))) (members_of-push ms k v)))
 
-tail_delimits : (limited : Bool) (level : ℕ) (vs : Items) (behind more rest : List ℕ) → IsSpace behind → SpellsMoreItems limited level vs more → Delimits ((behind ++ (more ++ 93 ∷ [])) ++ rest)
-tail_delimits limited level vs behind more rest space s =
-    subst (λ (bs : List ℕ). Delimits bs) (sym (append_assoc behind (more ++ 93 ∷ []) rest)) (delimits_behind behind ((more ++ 93 ∷ []) ++ rest) space (delimits_items limited level vs more rest s))
-
-tail_separates : (limited : Bool) (level : ℕ) (ms : Members) (behind more rest : List ℕ) → IsSpace behind → SpellsMoreMembers limited level ms more → Delimits ((behind ++ (more ++ 125 ∷ [])) ++ rest)
-tail_separates limited level ms behind more rest space s =
-    subst (λ (bs : List ℕ). Delimits bs) (sym (append_assoc behind (more ++ 125 ∷ []) rest)) (delimits_behind behind ((more ++ 125 ∷ []) ++ rest) space (delimits_members limited level ms more rest s))
-
 mutual
   unfolding step begin_step ended_step close_step
 
@@ -595,7 +582,7 @@ mutual
       (arrives_by limited at outer first_item s.0 outer first_item ((s.1 ++ (s.2 ++ tail)) ++ rest) (space_moves at outer first_item s.0 s.4 tt))
       (first_as limited (at + length s.0) outer s.1 (s.2 ++ tail) outer (ended (array (item v vs))) rest (value_begins limited level v s.1 s.5)
       (padded limited (at + length s.0) frames v [] s.1 s.2 tail outer (ended (array (item v vs))) rest tt s.6
-      (λ k. value_arrives limited level v s.1 s.5 k frames ((s.2 ++ tail) ++ rest) (omega (arith, size)) (tail_delimits limited level vs s.2 s.3 rest s.6 s.7))
+      (λ k. value_arrives limited level v s.1 s.5 k frames ((s.2 ++ tail) ++ rest) (omega (arith, size)) (delimited s.2 tail rest s.6 (delimits_items limited level vs s.3 rest s.7)))
       (λ k. more_items_arrive limited level vs s.3 s.7 k outer [] v rest size))))
 
   more_items_arrive : (limited : Bool) (level : ℕ) (vs : Items) (more : List ℕ) → SpellsMoreItems limited level vs more → (at : ℕ) (outer : List Frame) (earlier : List Value) (v : Value) (rest : List ℕ)
@@ -611,7 +598,7 @@ mutual
       (arrives_then limited at (in_array earlier ∷ outer) (ended v) (44 ∷ []) frames wanted (s.0 ++ (s.1 ++ (s.2 ++ tail))) outer last rest
       (arrives_by limited at (in_array earlier ∷ outer) (ended v) (44 ∷ []) frames wanted ((s.0 ++ (s.1 ++ (s.2 ++ tail))) ++ rest) (moves_byte at 44 (in_array earlier ∷ outer) (ended v) frames wanted (item_comma at outer earlier v)))
       (padded limited (at + 1) frames w s.0 s.1 s.2 tail outer last rest s.4 s.6
-      (λ k. value_arrives limited level w s.1 s.5 k frames ((s.2 ++ tail) ++ rest) (omega (arith, size)) (tail_delimits limited level ws s.2 s.3 rest s.6 s.7))
+      (λ k. value_arrives limited level w s.1 s.5 k frames ((s.2 ++ tail) ++ rest) (omega (arith, size)) (delimited s.2 tail rest s.6 (delimits_items limited level ws s.3 rest s.7)))
       (λ k. subst (λ (is : Items). Arrives limited k frames (ended w) tail outer (ended (array is)) rest) (items_onto-push earlier v (item w ws))
       (more_items_arrive limited level ws s.3 s.7 k outer (earlier ++ v ∷ []) w rest size))))
 
@@ -631,7 +618,7 @@ mutual
       (arrives_by limited at outer first_key s.0 outer first_key ((s.1 ++ x) ++ rest) (space_moves at outer first_key s.0 s.7 tt))
       (first_key_is limited (at + length s.0) outer k s.1 x outer last rest s.8
       (keyed limited (at + length s.0) outer [] k v [] s.1 s.2 s.3 s.4 s.5 tail outer last rest tt s.8 s.9 s.10 s.12 (λ l. refl)
-      (λ j. value_arrives limited level v s.4 s.11 j frames ((s.5 ++ tail) ++ rest) (omega (arith, size)) (tail_separates limited level ms s.5 s.6 rest s.12 s.13))
+      (λ j. value_arrives limited level v s.4 s.11 j frames ((s.5 ++ tail) ++ rest) (omega (arith, size)) (delimited s.5 tail rest s.12 (delimits_members limited level ms s.6 rest s.13)))
       (λ j. more_members_arrive limited level ms s.6 s.13 j outer [] k v rest size unique))))
 
   more_members_arrive : (limited : Bool) (level : ℕ) (ms : Members) (more : List ℕ) → SpellsMoreMembers limited level ms more → (at : ℕ) (outer : List Frame) (earlier : List Member) (k : List ℕ) (v : Value) (rest : List ℕ)
@@ -652,7 +639,7 @@ mutual
       (arrives_then limited at (in_object earlier k ∷ outer) (ended v) (44 ∷ []) outer (key_wanted so_far) x outer last rest
       (arrives_by limited at (in_object earlier k ∷ outer) (ended v) (44 ∷ []) outer (key_wanted so_far) (x ++ rest) (moves_byte at 44 (in_object earlier k ∷ outer) (ended v) outer (key_wanted so_far) refl))
       (keyed limited (at + 1) outer so_far j w s.0 s.1 s.2 s.3 s.4 s.5 tail outer last rest s.7 s.8 s.9 s.10 s.12 (λ l. new_key so_far j w ms (unique_here l))
-      (λ i. value_arrives limited level w s.4 s.11 i frames ((s.5 ++ tail) ++ rest) (omega (arith, size)) (tail_separates limited level ms s.5 s.6 rest s.12 s.13))
+      (λ i. value_arrives limited level w s.4 s.11 i frames ((s.5 ++ tail) ++ rest) (omega (arith, size)) (delimited s.5 tail rest s.12 (delimits_members limited level ms s.6 rest s.13)))
       (λ i. subst (λ (is : Members). Arrives limited i frames (ended w) tail outer (ended (object is)) rest) (members_onto-push earlier k v (member j w ms))
       (more_members_arrive limited level ms s.6 s.13 i outer so_far j w rest size unique_here))))
 
@@ -666,7 +653,7 @@ unfolding whole_outcome
 text_arrives limited v bs s =
     let a : Arrives limited 0 [] wanted (s.0 ++ (s.1 ++ (s.2 ++ []))) [] (ended v) [] =
     padded limited 0 [] v s.0 s.1 s.2 [] [] (ended v) [] s.3 s.5
-    (λ k. value_arrives limited 0 v s.1 s.4 k [] ((s.2 ++ []) ++ []) refl (subst (λ (xs : List ℕ). Delimits xs) (sym (append_assoc s.2 [] [])) (delimits_behind s.2 [] s.5 tt)))
+    (λ k. value_arrives limited 0 v s.1 s.4 k [] ((s.2 ++ []) ++ []) refl (delimited s.2 [] [] s.5 tt))
     (λ k. arrives_by limited k [] (ended v) [] [] (ended v) [] (moves_none k [] (ended v))) in
     let same : (s.0 ++ (s.1 ++ (s.2 ++ []))) ++ [] ≡ bs = append-nil (s.0 ++ (s.1 ++ (s.2 ++ []))) ∙ (ap (λ x. s.0 ++ (s.1 ++ x)) (append-nil s.2) ∙ sym s.6) in
     ⊎_elim (λ e. inl (ap (outcome 0 [] wanted) (sym same) ∙ (e ∙ text_end (0 + length (s.0 ++ (s.1 ++ (s.2 ++ [])))) v)))

@@ -1,19 +1,18 @@
 -- Each step of the machine is sound: between tokens, inside numbers and inside strings.
-use Rattle.std.proofs.Common.{lit<, ◌≡◌, ℕ, ◌+◌, ◌==◌, ◌<◌, ◌≤◌, suc, cond, List, [], ◌∷◌, ◌++◌, length, refl, sym, ap, subst, ◌∙◌, arith, true, false, append_assoc, inl, inr, ◌*◌, Bool, fold, ◌&&◌, Option, Some, None, length-append, ◌⊎◌, nat_lt, nat_le, not, encode_utf8, append-nil}
+use Rattle.std.proofs.Common.{lit<, ◌≡◌, ℕ, ◌+◌, ◌==◌, ◌<◌, ◌≤◌, suc, cond, List, [], ◌∷◌, ◌++◌, length, refl, sym, ap, subst, ◌∙◌, arith, true, false, append_assoc, inl, inr, ◌*◌, Bool, ◌&&◌, Option, Some, None, length-append, ◌⊎◌, nat_lt, nat_le, not, encode_utf8, append-nil}
 use Rattle.std.proofs.lemmas.Bool.{cond_both, eqb-true, ltb-true, ltb-false, and_parts, leb-true, eqb-false, and_from, and_left, or_from, or_parts, not_from_false, false≢true}
-use Rattle.decimal_json.specs.Value.{Value, null, boolean, array, object, no_items, no_members, items_of, members_of, text, has_key}
-use Rattle.decimal_json.specs.Number.{is_digit, digit_of, is_mark, whole_of}
-use Rattle.decimal_json.specs.Characters.{rue, alse, ull, is_space}
-use Rattle.decimal_json.specs.Open.{Member, Frame, in_array, in_object, Purpose, for_value, for_key}
+use Rattle.decimal_json.specs.Value.{Value, null, boolean, array, object, no_items, no_members, items_of, members_of, text, has_key, is_digit, digit_of, is_mark, whole_of, Member, Frame, in_array, in_object, Purpose, for_value, for_key}
+use Rattle.decimal_json.specs.Characters.{rue, alse, ull, is_space, short_escape, is_hex, unit_of}
 use Rattle.decimal_json.specs.inside.Scan.{Spot, wanted, first_item, first_key, key_wanted, colon_wanted, ended, quoted, plain, awaited, next, stop, begin_step, opened, ended_step, close_step, literal_step, numeral, Numeral, minus, zero_first, whole, point, fraction, mark, signed, exponent, so_far, numeral_step, Quoted, escaped, unit, high, high_escaped, high_unit, Hex, no_digit, one_digit, two_digits, three_digits, quoted_step, quote_step, escape_step, more_hex, unit_step, pair_step, literal, Step, Outcome, done, fault, step, finish, finish_value, after, outcome, whole_outcome}
 use Rattle.decimal_json.specs.Grammar.{Spells, IsNumber, AreDigits, IsWhole, numerals, negative_text, fraction_text, Sign, no_sign, plus, sign_text, is_minus, Power, no_power, power, power_text, is_down, written, IsPower, Character, itself, short, alone, pair, character_text, meaning, AreHex, IsCharacter, is_first_alone, begins_with_second, AreCharacters, SpellsText}
 use Rattle.decimal_json.specs.Fronts.{InArray, InObject, BehindKey, BehindColon, IsFront, IsKeyFront, IsStringFront, LacksSecond, OpensTooDeep, RepeatsKey, LacksPartner}
 use Rattle.decimal_json.proofs.Values.{unique_more}
-use Rattle.decimal_json.proofs.Growth.{one_more, space_more, spaced_more, spaced_none, front_depth, front_items-push, items_close, front_members-push, members_close, BehindValue, InString, AreAscii, LiteralText, Stands, Good, IsOpenWhole, IsSomeDigits, NumeralText, QuotedText, hex_text, Caught, four}
-use Rattle.decimal_json.proofs.Views.{map-push}
+use Rattle.decimal_json.proofs.Growth.{one_more, spaced_more, spaced_none, front_depth, front_items-push, items_close, front_members-push, members_close, BehindValue, InString, AreAscii, LiteralText, Stands, Good, IsOpenWhole, IsSomeDigits, NumeralText, QuotedText, hex_text, Caught, four, each_more}
 use Rattle.std.specs.List.{flat_map}
 use Rattle.std.specs.Char.Utf16.{is_low_surrogate, is_high_surrogate, surrogate_pair_char}
-use Rattle.decimal_json.specs.Escape.{short_escape, is_hex, unit_of}
+use Rattle.std.proofs.lemmas.List.{map-append}
+use Rattle.std.proofs.lemmas.List.Concat.{flat_map-append}
+use Rattle.std.proofs.lemmas.List.Sums.{fold-append}
 use Rattle.decimal_json.specs.Grammar as grammar
 
 pub stuck : (bs : List ℕ) (c : ℕ) → Good (stop (length bs) 2) bs c
@@ -24,7 +23,7 @@ pub named : (bs : List ℕ) (c k : ℕ) → (c == k) ≡ true → bs ++ c ∷ []
 named bs c k e = ap (λ b. bs ++ b ∷ []) (eqb-true c k e)
 
 front_space : (outer : List Frame) (bs : List ℕ) (c : ℕ) → IsFront outer bs → is_space c ≡ true → IsFront outer (bs ++ c ∷ [])
-front_space [] bs c f e = space_more bs c f e
+front_space [] bs c f e = each_more (λ k. is_space k ≡ true) bs c f e
 front_space (in_array vs ∷ outer) bs c f e = spaced_more (InArray (IsFront outer) (length outer) vs) bs c f e
 front_space (in_object ms k ∷ outer) bs c f e = spaced_more (BehindColon (IsFront outer) (length outer) ms k) bs c f e
 
@@ -53,6 +52,9 @@ digit_small c e = let parts = and_parts (nat_le 48 c) (nat_le c 57) e in omega (
 pub digit_again : (c : ℕ) → is_digit c ≡ true → c ≡ 48 + digit_of c
 digit_again c e = let parts = and_parts (nat_le 48 c) (nat_le c 57) e in omega (arith, leb-true 48 c parts.0)
 
+above : (c : ℕ) → is_digit c ≡ true → (c == 48) ≡ false → 0 < digit_of c
+above c e z = let parts = and_parts (nat_le 48 c) (nat_le c 57) e in let ne : c ≡ 48 → ⊥ = eqb-false c 48 z in omega (arith, leb-true 48 c parts.0)
+
 pub good_begin : (outer : List Frame) (bs : List ℕ) (c : ℕ) → IsFront outer bs → Good (begin_step (length bs) outer c) bs c
 unfolding begin_step
 good_begin outer bs c f =
@@ -67,9 +69,6 @@ good_begin outer bs c f =
     cond_both (is_digit c) _ _ (λ s. Good s bs c)
     (λ e. (bs, (48 + digit_of c) ∷ [], f, ((above c e zero, (digit_small c e, tt)), refl), ap (λ b. bs ++ b ∷ []) (digit_again c e)))
     (λ _. stuck bs c)))))))))
-  where
-    above : (c : ℕ) → is_digit c ≡ true → (c == 48) ≡ false → 0 < digit_of c
-    above c e z = let parts = and_parts (nat_le 48 c) (nat_le c 57) e in let ne : c ≡ 48 → ⊥ = eqb-false c 48 z in omega (arith, leb-true 48 c parts.0)
 
 five : (f i a b c e : List ℕ) → ((((f ++ i) ++ a) ++ b) ++ c) ++ e ≡ f ++ (i ++ (a ++ (b ++ (c ++ e))))
 five f i a b c e = simp append_assoc
@@ -77,8 +76,8 @@ five f i a b c e = simp append_assoc
 nine : (f i a k b m t c s e : List ℕ) → ((((((((f ++ i) ++ a) ++ k) ++ b) ++ m) ++ t) ++ c) ++ s) ++ e ≡ f ++ (i ++ (a ++ (k ++ (b ++ (m ++ (t ++ (c ++ (s ++ e))))))))
 nine f i a k b m t c s e = simp append_assoc
 
-at_level : (n : ℕ) (v : Value) (core : List ℕ) → Spells true (suc n) v core → Spells true (n + 1) v core
-at_level n v core s = subst (λ (k : ℕ). Spells true k v core) (omega arith) s
+pub at_level : (limited : Bool) (n : ℕ) (v : Value) (core : List ℕ) → Spells limited (suc n) v core → Spells limited (n + 1) v core
+at_level limited n v core s = subst (λ (k : ℕ). Spells limited k v core) (omega arith) s
 
 good_close : (outer : List Frame) (bs : List ℕ) (v : Value) (c : ℕ) → Stands outer (ended v) bs → Good (close_step (length bs) outer v c) bs c
 unfolding close_step
@@ -93,7 +92,7 @@ good_close (in_array vs ∷ outer) bs v c s =
       a.1 ++ (b.2.1 ++ (b.1 ++ (s.1 ++ 44 ∷ []))),
       a.2,
       a.3,
-      front_items-push true (length outer + 1) vs a.1 v b.2.1 b.1 s.1 a.4 b.2.3 (at_level (length outer) v b.1 b.3) s.3,
+      front_items-push true (length outer + 1) vs a.1 v b.2.1 b.1 s.1 a.4 b.2.3 (at_level true (length outer) v b.1 b.3) s.3,
       named bs c 44 e ∙ (ap (λ x. x ++ 44 ∷ []) so_far ∙ five a.0 (91 ∷ a.1) b.2.1 b.1 s.1 (44 ∷ [])),
     ))
     (λ _. cond_both (c == 93) _ _ (λ st. Good st bs c)
@@ -101,7 +100,7 @@ good_close (in_array vs ∷ outer) bs v c s =
       a.0,
       91 ∷ (a.1 ++ (b.2.1 ++ (b.1 ++ s.1))) ++ 93 ∷ [],
       a.2,
-      (a.1 ++ (b.2.1 ++ (b.1 ++ s.1)), (λ _. a.3), items_close true (length outer + 1) vs a.1 v b.2.1 b.1 s.1 a.4 b.2.3 (at_level (length outer) v b.1 b.3) s.3, refl),
+      (a.1 ++ (b.2.1 ++ (b.1 ++ s.1)), (λ _. a.3), items_close true (length outer + 1) vs a.1 v b.2.1 b.1 s.1 a.4 b.2.3 (at_level true (length outer) v b.1 b.3) s.3, refl),
       named bs c 93 e ∙ (ap (λ x. x ++ 93 ∷ []) so_far ∙ (five a.0 (91 ∷ a.1) b.2.1 b.1 s.1 (93 ∷ []) ∙ ap (λ x. a.0 ++ (91 ∷ x)) (four a.1 b.2.1 b.1 s.1 (93 ∷ [])))),
     ))
     (λ _. stuck bs c))
@@ -118,7 +117,7 @@ good_close (in_object ms k ∷ outer) bs v c s =
       o.1 ++ (keyed.2.1 ++ (keyed.1 ++ (colon.1.1 ++ (58 ∷ b.2.1 ++ (b.1 ++ (s.1 ++ 44 ∷ [])))))),
       o.2,
       o.3,
-      front_members-push true (length outer + 1) ms o.1 k v keyed.2.1 keyed.1 colon.1.1 b.2.1 b.1 s.1 o.4 keyed.2.3 keyed.3 colon.1.3 b.2.3 (at_level (length outer) v b.1 b.3) s.3,
+      front_members-push true (length outer + 1) ms o.1 k v keyed.2.1 keyed.1 colon.1.1 b.2.1 b.1 s.1 o.4 keyed.2.3 keyed.3 colon.1.3 b.2.3 (at_level true (length outer) v b.1 b.3) s.3,
       unique_more ms k v o.5 keyed.4,
       named bs c 44 e ∙ (ap (λ x. x ++ 44 ∷ []) so_far ∙ nine o.0 (123 ∷ o.1) keyed.2.1 keyed.1 colon.1.1 (58 ∷ []) b.2.1 b.1 s.1 (44 ∷ [])),
     ))
@@ -131,7 +130,7 @@ good_close (in_object ms k ∷ outer) bs v c s =
         o.1 ++ (keyed.2.1 ++ (keyed.1 ++ (colon.1.1 ++ (58 ∷ b.2.1 ++ (b.1 ++ s.1))))),
         (λ _. o.3),
         (λ _. unique_more ms k v o.5 keyed.4),
-        members_close true (length outer + 1) ms o.1 k v keyed.2.1 keyed.1 colon.1.1 b.2.1 b.1 s.1 o.4 keyed.2.3 keyed.3 colon.1.3 b.2.3 (at_level (length outer) v b.1 b.3) s.3,
+        members_close true (length outer + 1) ms o.1 k v keyed.2.1 keyed.1 colon.1.1 b.2.1 b.1 s.1 o.4 keyed.2.3 keyed.3 colon.1.3 b.2.3 (at_level true (length outer) v b.1 b.3) s.3,
         refl,
       ),
       named bs c 125 e ∙ (ap (λ x. x ++ 125 ∷ []) so_far ∙ (nine o.0 (123 ∷ o.1) keyed.2.1 keyed.1 colon.1.1 (58 ∷ []) b.2.1 b.1 s.1 (125 ∷ [])
@@ -189,10 +188,6 @@ good_colon outer ms k bs c s = cond_both (is_space c) _ _ (λ st. Good st bs c) 
     (λ e. spaced_none (BehindColon (IsFront outer) (length outer) ms k) (bs ++ c ∷ []) (bs, s, named bs c 58 e)) (λ _. stuck bs c))
 
 -- ---- Each step of the machine inside a number is sound.
-digits_more : (ds : List ℕ) (d : ℕ) → AreDigits ds → d < 10 → AreDigits (ds ++ d ∷ [])
-digits_more [] d are lt = (lt, tt)
-digits_more (e ∷ ds) d are lt = (are.0, digits_more ds d are.1 lt)
-
 pub open_whole : (ds : List ℕ) → IsOpenWhole ds → IsWhole ds
 open_whole [] w = absurd w
 open_whole (d ∷ []) w = w.1.0
@@ -200,11 +195,11 @@ open_whole (d ∷ e ∷ ds) w = w
 
 open_more : (ds : List ℕ) (d : ℕ) → IsOpenWhole ds → d < 10 → IsOpenWhole (ds ++ d ∷ [])
 open_more [] d w lt = absurd w
-open_more (e ∷ ds) d w lt = (w.0, digits_more (e ∷ ds) d w.1 lt)
+open_more (e ∷ ds) d w lt = (w.0, each_more (λ k. k < 10) (e ∷ ds) d w.1 lt)
 
 some_more : (fs : List ℕ) (d : ℕ) → IsSomeDigits fs → d < 10 → IsSomeDigits (fs ++ d ∷ [])
 some_more [] d s lt = absurd s
-some_more (f ∷ fs) d s lt = digits_more (f ∷ fs) d s lt
+some_more (f ∷ fs) d s lt = each_more (λ k. k < 10) (f ∷ fs) d s lt
 
 pub some_digits : (fs : List ℕ) → IsSomeDigits fs → AreDigits fs
 some_digits [] s = absurd s
@@ -214,13 +209,9 @@ some_text : (fs : List ℕ) → IsSomeDigits fs → 46 ∷ numerals fs ≡ fract
 some_text [] s = absurd s
 some_text (f ∷ fs) s = refl
 
-pub fold-push : (w : ℕ) (ds : List ℕ) (d : ℕ) → fold (λ n d. n * 10 + d) w (ds ++ d ∷ []) ≡ fold (λ n d. n * 10 + d) w ds * 10 + d
-fold-push w [] d = refl
-fold-push w (e ∷ ds) d = fold-push (w * 10 + e) ds d
-
 -- the text so far with a digit behind it
 digit_behind : (x : List ℕ) (ds : List ℕ) (c : ℕ) → is_digit c ≡ true → (x ++ numerals ds) ++ c ∷ [] ≡ x ++ numerals (ds ++ digit_of c ∷ [])
-digit_behind x ds c e = append_assoc x (numerals ds) (c ∷ []) ∙ (ap (λ b. x ++ (numerals ds ++ b ∷ [])) (digit_again c e) ∙ ap (λ y. x ++ y) (sym (map-push (λ d. 48 + d) ds (digit_of c))))
+digit_behind x ds c e = append_assoc x (numerals ds) (c ∷ []) ∙ (ap (λ b. x ++ (numerals ds ++ b ∷ [])) (digit_again c e) ∙ ap (λ y. x ++ y) (sym (map-append (λ d. 48 + d) ds (digit_of c ∷ []))))
 
 -- a front, and a token so far
 grows : (outer : List Frame) (n : Numeral) (front begun bs later : List ℕ) (c : ℕ) → IsFront outer front → bs ≡ front ++ begun → begun ++ c ∷ [] ≡ later → NumeralText n later → Stands outer (numeral n) (bs ++ c ∷ [])
@@ -230,9 +221,6 @@ pub ends : (outer : List Frame) (n : Bool) (ds fs : List ℕ) (p : Power) (front
     → begun ≡ negative_text n ++ (numerals ds ++ (fraction_text fs ++ power_text p)) → Stands outer (ended (so_far n ds fs (is_down p) (written p))) bs
 ends outer n ds fs p front begun bs f e w d q g = spaced_none (BehindValue outer (so_far n ds fs (is_down p) (written p))) bs
     (front, begun, f, record { negative = n; ds = ds; fs = fs; exponent = p; is_whole = w; are_digits = d; is_power = q; value = refl; spelled = g }, e)
-
-above : (c : ℕ) → is_digit c ≡ true → (c == 48) ≡ false → 0 < digit_of c
-above c e z = let parts = and_parts (nat_le 48 c) (nat_le c 57) e in let ne : c ≡ 48 → ⊥ = eqb-false c 48 z in omega (arith, leb-true 48 c parts.0)
 
 pub whole_text : (n : Bool) (ds : List ℕ) → negative_text n ++ numerals ds ≡ negative_text n ++ (numerals ds ++ ([] ++ []))
 whole_text n ds = ap (λ x. negative_text n ++ x) (sym (append-nil (numerals ds)))
@@ -323,8 +311,8 @@ good_numeral outer bs (exponent n ds fs down w) c s =
       t.5,
       t.6,
       t.7,
-      digits_more (t.2 ∷ t.3) (digit_of c) t.8 (digit_small c e),
-      ap (λ k. k * 10 + digit_of c) t.9 ∙ sym (fold-push 0 (t.2 ∷ t.3) (digit_of c)),
+      each_more (λ k. k < 10) (t.2 ∷ t.3) (digit_of c) t.8 (digit_small c e),
+      ap (λ k. k * 10 + digit_of c) t.9 ∙ sym (fold-append (λ n d. n * 10 + d) 0 (t.2 ∷ t.3) (digit_of c ∷ [])),
       refl,
     ))
     (λ _. good_ended outer bs (so_far n ds fs down w) c
@@ -333,8 +321,7 @@ good_numeral outer bs (exponent n ds fs down w) c s =
 
 -- ---- Each step of the machine inside a string is sound.
 pub flat_map-push : {X Y : Type 0} (f : X → List Y) (xs : List X) (x : X) → flat_map f (xs ++ x ∷ []) ≡ flat_map f xs ++ f x
-flat_map-push f [] x = append-nil (f x)
-flat_map-push f (y ∷ xs) x = ap (λ zs. f y ++ zs) (flat_map-push f xs x) ∙ sym (append_assoc (f y) (flat_map f xs) (f x))
+flat_map-push f xs x = flat_map-append f xs (x ∷ []) ∙ ap (λ zs. flat_map f xs ++ zs) (append-nil (f x))
 
 pub none_alone : (c : Character) → IsCharacter true c → is_first_alone c ≡ false
 none_alone (alone a b c d) is = (or_parts (is_high_surrogate (unit_of a b c d)) (is_low_surrogate (unit_of a b c d)) (is.1 refl)).0
@@ -400,10 +387,6 @@ good_plain outer p t bs c r =
     cond_both (c == 92) _ _ (λ s. Good s bs c) (λ e. (bs, r, refl, named bs c 92 e)) (λ b.
     cond_both (nat_le 32 c) _ _ (λ s. Good s bs c) (λ e. add_character outer p t bs (bs ++ c ∷ []) (itself c) r (and_from (not (c == 34) && not (c == 92)) (nat_le 32 c) (and_from (not (c == 34)) (not (c == 92)) (not_from_false (c == 34) q) (not_from_false (c == 92) b)) e) refl) (λ _. stuck bs c)))
 
--- the bytes of an escape so far, and one more
-longer : (bs base a : List ℕ) (c : ℕ) → bs ≡ base ++ a → bs ++ c ∷ [] ≡ base ++ (a ++ c ∷ [])
-longer bs base a c e = one_more bs base a c e
-
 longer_by : (bs base a : List ℕ) (c k : ℕ) → bs ≡ base ++ a → (c == k) ≡ true → bs ++ c ∷ [] ≡ base ++ (a ++ k ∷ [])
 longer_by bs base a c k e f = named bs c k f ∙ one_more bs base a k e
 
@@ -414,7 +397,7 @@ good_escaped : (outer : List Frame) (p : Purpose) (t bs : List ℕ) (back c : �
 unfolding escape_step
 good_escaped outer p t bs back c None e r =
     cond_both (c == 117) _ _ (λ s. Good s bs c) (λ f. (r.0, r.1, r.2, tt, longer_by bs r.0 (92 ∷ []) c 117 r.3 f)) (λ _. stuck bs c)
-good_escaped outer p t bs back c (Some b) e r = add_character outer p t r.0 (bs ++ c ∷ []) (short c b) r.1 e (longer bs r.0 (92 ∷ []) c r.3)
+good_escaped outer p t bs back c (Some b) e r = add_character outer p t r.0 (bs ++ c ∷ []) (short c b) r.1 e (one_more bs r.0 (92 ∷ []) c r.3)
 
 good_unit : (outer : List Frame) (p : Purpose) (t bs base : List ℕ) (back a b d c : ℕ) → InString outer p t base → back ≡ length base → AreHex a b d c → bs ≡ base ++ (92 ∷ 117 ∷ a ∷ b ∷ d ∷ [])
     → Good (unit_step outer p t back (unit_of a b d c)) bs c
@@ -422,17 +405,17 @@ unfolding unit_step
 good_unit outer p t bs base back a b d c r e hex f =
     let u : ℕ = unit_of a b d c in
     cond_both (is_high_surrogate u) _ _ (λ s. Good s bs c)
-    (λ h. (base, a, b, d, c, r, e, hex, refl, h, longer bs base (92 ∷ 117 ∷ a ∷ b ∷ d ∷ []) c f))
+    (λ h. (base, a, b, d, c, r, e, hex, refl, h, one_more bs base (92 ∷ 117 ∷ a ∷ b ∷ d ∷ []) c f))
     (λ h. cond_both (is_low_surrogate u) _ _ (λ s. Good s bs c)
     (λ l. λ cs. lacks outer p t base (bs ++ c ∷ cs) (length bs) back a b d c cs r e hex (inl l) (and_then bs base (92 ∷ 117 ∷ a ∷ b ∷ d ∷ []) c cs f))
-    (λ l. add_character outer p t base (bs ++ c ∷ []) (alone a b d c) r (hex, λ _. or_from (is_high_surrogate u) (is_low_surrogate u) h l) (longer bs base (92 ∷ 117 ∷ a ∷ b ∷ d ∷ []) c f)))
+    (λ l. add_character outer p t base (bs ++ c ∷ []) (alone a b d c) r (hex, λ _. or_from (is_high_surrogate u) (is_low_surrogate u) h l) (one_more bs base (92 ∷ 117 ∷ a ∷ b ∷ d ∷ []) c f)))
 
 good_hex : (outer : List Frame) (p : Purpose) (t bs : List ℕ) (back : ℕ) (h : Hex) (c : ℕ) → QuotedText outer p (unit t back h) bs → is_hex c ≡ true
     → Good (more_hex h c (λ m. next outer (quoted p (unit t back m))) (λ u. unit_step outer p t back u)) bs c
 unfolding more_hex
-good_hex outer p t bs back no_digit c r e = (r.0, r.1, r.2, e, longer bs r.0 (92 ∷ 117 ∷ []) c r.4)
-good_hex outer p t bs back (one_digit a) c r e = (r.0, r.1, r.2, (r.3, e), longer bs r.0 (92 ∷ 117 ∷ a ∷ []) c r.4)
-good_hex outer p t bs back (two_digits a b) c r e = (r.0, r.1, r.2, (r.3.0, r.3.1, e), longer bs r.0 (92 ∷ 117 ∷ a ∷ b ∷ []) c r.4)
+good_hex outer p t bs back no_digit c r e = (r.0, r.1, r.2, e, one_more bs r.0 (92 ∷ 117 ∷ []) c r.4)
+good_hex outer p t bs back (one_digit a) c r e = (r.0, r.1, r.2, (r.3, e), one_more bs r.0 (92 ∷ 117 ∷ a ∷ []) c r.4)
+good_hex outer p t bs back (two_digits a b) c r e = (r.0, r.1, r.2, (r.3.0, r.3.1, e), one_more bs r.0 (92 ∷ 117 ∷ a ∷ b ∷ []) c r.4)
 good_hex outer p t bs back (three_digits a b d) c r e = good_unit outer p t bs r.0 back a b d c r.1 r.2 (r.3.0, r.3.1, r.3.2, e) r.4
 
 -- behind the first unit of a pair
@@ -481,7 +464,7 @@ good_pair outer p t bs base back u a b d e f g h c r at hex is is_high second te
     let so_far : List ℕ = 92 ∷ 117 ∷ a ∷ b ∷ d ∷ e ∷ 92 ∷ 117 ∷ f ∷ g ∷ h ∷ [] in
     cond_both (is_low_surrogate v) _ _ (λ s. Good s bs c)
     (λ l. subst (λ (w : ℕ). InString outer p (t ++ encode_utf8 (surrogate_pair_char w v)) (bs ++ c ∷ [])) (sym is)
-    (add_character outer p t base (bs ++ c ∷ []) (pair a b d e f g h c) r (hex, second, high_of u a b d e is is_high, l) (longer bs base so_far c text_is)))
+    (add_character outer p t base (bs ++ c ∷ []) (pair a b d e f g h c) r (hex, second, high_of u a b d e is is_high, l) (one_more bs base so_far c text_is)))
     (λ l. λ cs. lacks outer p t base (bs ++ c ∷ cs) (length bs) back a b d e (92 ∷ 117 ∷ f ∷ g ∷ h ∷ c ∷ cs) r at hex (inr (high_of u a b d e is is_high, lacks_low f g h c cs l))
     (and_then bs base so_far c cs text_is))
 
@@ -489,11 +472,11 @@ good_second : (outer : List Frame) (p : Purpose) (t bs : List ℕ) (back u : ℕ
     → Good (more_hex h c (λ m. next outer (quoted p (high_unit t back u m))) (λ v. pair_step outer p t back u v)) bs c
 unfolding more_hex
 good_second outer p t bs back u no_digit c r e =
-    (r.0, r.1, r.2, r.3, r.4, r.5, r.6, r.7, r.8, r.9, e, longer bs r.0 (92 ∷ 117 ∷ r.1 ∷ r.2 ∷ r.3 ∷ r.4 ∷ 92 ∷ 117 ∷ []) c r.11)
+    (r.0, r.1, r.2, r.3, r.4, r.5, r.6, r.7, r.8, r.9, e, one_more bs r.0 (92 ∷ 117 ∷ r.1 ∷ r.2 ∷ r.3 ∷ r.4 ∷ 92 ∷ 117 ∷ []) c r.11)
 good_second outer p t bs back u (one_digit x) c r e =
-    (r.0, r.1, r.2, r.3, r.4, r.5, r.6, r.7, r.8, r.9, (r.10, e), longer bs r.0 (92 ∷ 117 ∷ r.1 ∷ r.2 ∷ r.3 ∷ r.4 ∷ 92 ∷ 117 ∷ x ∷ []) c r.11)
+    (r.0, r.1, r.2, r.3, r.4, r.5, r.6, r.7, r.8, r.9, (r.10, e), one_more bs r.0 (92 ∷ 117 ∷ r.1 ∷ r.2 ∷ r.3 ∷ r.4 ∷ 92 ∷ 117 ∷ x ∷ []) c r.11)
 good_second outer p t bs back u (two_digits x y) c r e =
-    (r.0, r.1, r.2, r.3, r.4, r.5, r.6, r.7, r.8, r.9, (r.10.0, r.10.1, e), longer bs r.0 (92 ∷ 117 ∷ r.1 ∷ r.2 ∷ r.3 ∷ r.4 ∷ 92 ∷ 117 ∷ x ∷ y ∷ []) c r.11)
+    (r.0, r.1, r.2, r.3, r.4, r.5, r.6, r.7, r.8, r.9, (r.10.0, r.10.1, e), one_more bs r.0 (92 ∷ 117 ∷ r.1 ∷ r.2 ∷ r.3 ∷ r.4 ∷ 92 ∷ 117 ∷ x ∷ y ∷ []) c r.11)
 good_second outer p t bs back u (three_digits x y z) c r e =
     good_pair outer p t bs r.0 back u r.1 r.2 r.3 r.4 x y z c r.5 r.6 r.7 r.8 r.9 (r.10.0, r.10.1, r.10.2, e) r.11
 
@@ -547,12 +530,6 @@ unfolding finish_value
 value_ends [] spot v bs s t r = (t.2.0, t.2.1, t.1, t.2.2, t.2.3, t.3, append-nil bs ∙ (t.4 ∙ (ap (λ x. x ++ t.1) t.2.4 ∙ append_assoc t.2.0 t.2.1 t.1)))
 value_ends (f ∷ outer) spot v bs s t r = cut (f ∷ outer) spot bs s r
 
-lacks_none : LacksSecond []
-lacks_none = λ a b c d rest hex low e. cc
-
-lacks_rest : LacksSecond (92 ∷ [])
-lacks_rest = λ a b c d rest hex low e. cc
-
 lacks_digits : (h : Hex) → LacksSecond (92 ∷ 117 ∷ hex_text h)
 lacks_digits no_digit = λ a b c d rest hex low e. cc
 lacks_digits _ = λ a b c d rest hex low e. cc
@@ -564,37 +541,25 @@ late (inr e) = inr e
 
 sound_end : (outer : List Frame) (spot : Spot) (bs : List ℕ) → Stands outer spot bs → Runs bs outer spot → IsSound (bs ++ []) (finish (length bs) outer spot)
 unfolding finish
-sound_end outer wanted bs s r = cut outer wanted bs s r
-sound_end outer first_item bs s r = cut outer first_item bs s r
-sound_end outer first_key bs s r = cut outer first_key bs s r
-sound_end outer (key_wanted ms) bs s r = cut outer (key_wanted ms) bs s r
-sound_end outer (colon_wanted ms k) bs s r = cut outer (colon_wanted ms k) bs s r
 sound_end outer (ended v) bs s r = value_ends outer (ended v) v bs s s r
-sound_end outer (literal v ls) bs s r = cut outer (literal v ls) bs s r
-sound_end outer (numeral minus) bs s r = cut outer (numeral minus) bs s r
 sound_end outer (numeral (zero_first n)) bs s r =
     value_ends outer (numeral (zero_first n)) (so_far n (0 ∷ []) [] false 0) bs s (ends outer n (0 ∷ []) [] no_power s.0 s.1 bs s.2 s.4 (omega arith) tt tt (s.3 ∙ whole_text n (0 ∷ []))) r
 sound_end outer (numeral (whole n ds)) bs s r =
     value_ends outer (numeral (whole n ds)) (so_far n ds [] false 0) bs s (ends outer n ds [] no_power s.0 s.1 bs s.2 s.4 (open_whole ds s.3.0) tt tt (s.3.1 ∙ whole_text n ds)) r
-sound_end outer (numeral (point n ds)) bs s r = cut outer (numeral (point n ds)) bs s r
 sound_end outer (numeral (fraction n ds fs)) bs s r =
     value_ends outer (numeral (fraction n ds fs)) (so_far n ds fs false 0) bs s (ends outer n ds fs no_power s.0 s.1 bs s.2 s.4 s.3.0 (some_digits fs s.3.1) tt (s.3.2 ∙ fraction_end n ds fs s.3.1)) r
-sound_end outer (numeral (mark n ds fs)) bs s r = cut outer (numeral (mark n ds fs)) bs s r
-sound_end outer (numeral (signed n ds fs down)) bs s r = cut outer (numeral (signed n ds fs down)) bs s r
 sound_end outer (numeral (exponent n ds fs down w)) bs s r =
     let t = s.3 in
     value_ends outer (numeral (exponent n ds fs down w)) (so_far n ds fs down w) bs s
     (subst (λ (v : Value). Stands outer (ended v) bs) (ap (λ (b : Bool). so_far n ds fs b (whole_of (t.2 ∷ t.3))) (sym t.7) ∙ ap (λ k. so_far n ds fs down k) (sym t.9))
     (ends outer n ds fs (power t.0 t.1 t.2 t.3) s.0 s.1 bs s.2 s.4 t.4 t.5 (t.6, t.8) (t.10 ∙ power_end n ds fs t.0 t.1 t.2 t.3))) r
-sound_end outer (quoted p (plain t)) bs s r = cut outer (quoted p (plain t)) bs s r
-sound_end outer (quoted p (escaped t back)) bs s r = cut outer (quoted p (escaped t back)) bs s r
-sound_end outer (quoted p (unit t back h)) bs s r = cut outer (quoted p (unit t back h)) bs s r
 sound_end outer (quoted p (high t back u)) bs s r =
-    late (lacks outer p t s.0 (bs ++ []) (length bs) back s.1 s.2 s.3 s.4 [] s.5 s.6 s.7 (inr (high_of u s.1 s.2 s.3 s.4 s.8 s.9, lacks_none)) (append-nil bs ∙ s.10))
+    late (lacks outer p t s.0 (bs ++ []) (length bs) back s.1 s.2 s.3 s.4 [] s.5 s.6 s.7 (inr (high_of u s.1 s.2 s.3 s.4 s.8 s.9, (λ a b c d rest hex low e. cc))) (append-nil bs ∙ s.10))
 sound_end outer (quoted p (high_escaped t back u)) bs s r =
-    late (lacks outer p t s.0 (bs ++ []) (length bs) back s.1 s.2 s.3 s.4 (92 ∷ []) s.5 s.6 s.7 (inr (high_of u s.1 s.2 s.3 s.4 s.8 s.9, lacks_rest)) (append-nil bs ∙ s.10))
+    late (lacks outer p t s.0 (bs ++ []) (length bs) back s.1 s.2 s.3 s.4 (92 ∷ []) s.5 s.6 s.7 (inr (high_of u s.1 s.2 s.3 s.4 s.8 s.9, (λ a b c d rest hex low e. cc))) (append-nil bs ∙ s.10))
 sound_end outer (quoted p (high_unit t back u h)) bs s r =
     late (lacks outer p t s.0 (bs ++ []) (length bs) back s.1 s.2 s.3 s.4 (92 ∷ 117 ∷ hex_text h) s.5 s.6 s.7 (inr (high_of u s.1 s.2 s.3 s.4 s.8 s.9, lacks_digits h)) (append-nil bs ∙ s.11))
+sound_end outer spot bs s r = cut outer spot bs s r
 
 caught : (bytes bs : List ℕ) (outer : List Frame) (spot : Spot) (c : ℕ) (cs : List ℕ) (k kind : ℕ) → Stands outer spot bs → Runs bs outer spot → bytes ≡ bs ++ c ∷ cs → step (length bs) outer spot c ≡ stop k kind
     → Caught bytes (length bs) k kind → IsSound bytes (fault k kind)

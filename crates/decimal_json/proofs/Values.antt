@@ -5,12 +5,9 @@ use Rattle.std.specs.Option.{IfSome, IfNone}
 use Rattle.std.specs.Result.{IfErr, IsErrAnd}
 use Rattle.std.specs.Str.{IsUtf8, IsCharBoundary, bytes_eq}
 use Rattle.std.proofs.lemmas.Str.{IsCharBoundary-after_ascii}
-use Rattle.decimal_json.specs.Value.{Value, null, boolean, text, array, object, no_items, no_members, items_of, members_of, has_key, Items, item, Members, member}
-use Rattle.decimal_json.specs.Number.{is_digit}
-use Rattle.decimal_json.specs.Characters.{rue, alse, ull, is_space, depth_limit}
-use Rattle.decimal_json.specs.Open.{Frame, for_value, Member, in_array, in_object, for_key}
-use Rattle.decimal_json.specs.inside.Scan.{Spot, wanted, literal, awaited, numeral, minus, quoted, plain, next, stop, Outcome, fault, step, begin_step, literal_step, quote_step, scan, finish, first_item, first_key, key_wanted, colon_wanted, ended, opened, ended_step, close_step, finish_value, done, whole_outcome}
-use Rattle.decimal_json.specs.inside.Answer.{At, Json, JsonFault, Leads, FailsAt, StandsAt, IsToken, Reads, Breaks, ReadsText, BreaksText, MaySpace, FindsToken, LacksToken, PassesToken, HasKeys, AddsKey, ReadsKey, BreaksKey, ReadsValue, BreaksValue, ReadsInside, BreaksInside, ReadsMember, BreaksMember, resumed, Gives, SkipsSpace}
+use Rattle.decimal_json.specs.Value.{Value, text, array, object, no_items, no_members, items_of, members_of, has_key, Items, item, Members, member, is_digit, Frame, for_value, Member, in_array, in_object, for_key}
+use Rattle.decimal_json.specs.Characters.{is_space, depth_limit}
+use Rattle.decimal_json.specs.inside.Scan.{Spot, wanted, literal, awaited, quoted, plain, next, stop, Outcome, fault, step, begin_step, literal_step, quote_step, scan, finish, first_item, first_key, key_wanted, colon_wanted, ended, opened, ended_step, close_step, finish_value, done, whole_outcome, At, Json, JsonFault, Leads, FailsAt, StandsAt, IsToken, Reads, Breaks, ReadsText, BreaksText, MaySpace, FindsToken, LacksToken, PassesToken, HasKeys, AddsKey, ReadsKey, BreaksKey, ReadsValue, BreaksValue, ReadsInside, BreaksInside, ReadsMember, BreaksMember, resumed, Gives, SkipsSpace}
 use Rattle.decimal_json.proofs.Exits.{passed_on, some_of, none_of}
 use Rattle.decimal_json.proofs.Moves.{moved, stopped, finished, byte_and_rest, fails_there, stepped}
 use Rattle.std.proofs.lemmas.Bool.Decides.{same_from_decides, Decides-like}
@@ -38,28 +35,8 @@ letter_missing bytes at i letters outer v lt fails = ap (λ ls. scan bytes at ou
 abbrev pub Led : List ℕ → ℕ → ℕ → Spot → Type 0
 Led bytes start at spot = (outer : List Frame) → scan bytes start outer wanted ≡ scan bytes at outer spot
 
-leads_at : (bytes : List ℕ) (start c k : ℕ) (spot : Spot) → ((outer : List Frame) → step start outer wanted k ≡ next outer spot) → StandsAt bytes start c → c ≡ k → Led bytes start (start + 1) spot
+pub leads_at : (bytes : List ℕ) (start c k : ℕ) (spot : Spot) → ((outer : List Frame) → step start outer wanted k ≡ next outer spot) → StandsAt bytes start c → c ≡ k → Led bytes start (start + 1) spot
 leads_at bytes start c k spot each e is = λ outer. moved bytes start k outer wanted outer spot (subst (λ (b : ℕ). StandsAt bytes start b) is e) (each outer)
-
-pub quote_led : (bytes : List ℕ) (start c : ℕ) → StandsAt bytes start c → c ≡ 34 → Led bytes start (start + 1) (quoted for_value (plain []))
-unfolding step begin_step
-quote_led bytes start c e is = leads_at bytes start c 34 (quoted for_value (plain [])) (λ outer. refl) e is
-
-pub true_led : (bytes : List ℕ) (start c : ℕ) → StandsAt bytes start c → c ≡ 116 → Led bytes start (start + 1) (literal (boolean true) rue)
-unfolding step begin_step
-true_led bytes start c e is = leads_at bytes start c 116 (literal (boolean true) rue) (λ outer. refl) e is
-
-pub false_led : (bytes : List ℕ) (start c : ℕ) → StandsAt bytes start c → c ≡ 102 → Led bytes start (start + 1) (literal (boolean false) alse)
-unfolding step begin_step
-false_led bytes start c e is = leads_at bytes start c 102 (literal (boolean false) alse) (λ outer. refl) e is
-
-pub null_led : (bytes : List ℕ) (start c : ℕ) → StandsAt bytes start c → c ≡ 110 → Led bytes start (start + 1) (literal null ull)
-unfolding step begin_step
-null_led bytes start c e is = leads_at bytes start c 110 (literal null ull) (λ outer. refl) e is
-
-pub minus_led : (bytes : List ℕ) (start c : ℕ) → StandsAt bytes start c → c ≡ 45 → Led bytes start (start + 1) (numeral minus)
-unfolding step begin_step
-minus_led bytes start c e is = leads_at bytes start c 45 (numeral minus) (λ outer. refl) e is
 
 -- what comes behind it, read from a copy of the bytes
 pub read_behind : (bytes source : List ℕ) (start at end : ℕ) (spot : Spot) (v : Value) → bytes ≡ source → Led source start at spot → Reads bytes at spot end v → Reads source start wanted end v

@@ -1,5 +1,5 @@
 -- What `view` gives at each variant.
-use Rattle.std.proofs.Common.{◌≡◌, Bool, rules, map, String, Vec, Global, List, [], ◌∷◌, ◌++◌, refl, ap}
+use Rattle.std.proofs.Common.{◌≡◌, Bool, rules, map, String, Vec, Global}
 use Rattle.std.specs.String.{string_bytes}
 use Rattle.decimal_json.specs.declared.types.Json.TheViews.{roll-Pair}
 use Rattle.decimal_json.specs.declared.types.Json.{Json, the_lemmas}
@@ -24,10 +24,6 @@ view-array vs = search (rules, the_lemmas)
 
 pub view-object : (ps : Vec Pair Global) → view (json.Object ps) ≡ object (members_of (map pair_view ps.items))
 view-object ps = search (rules, the_lemmas)
-
-pub map-push : {X Y : Type 0} (f : X → Y) (xs : List X) (x : X) → map f (xs ++ x ∷ []) ≡ map f xs ++ f x ∷ []
-map-push f [] x = refl
-map-push f (y ∷ xs) x = ap (λ zs. f y ∷ zs) (map-push f xs x)
 
 pub view-pair : (k : String Global) (v : Json) → pair_view (roll-Pair (record { key = k; value = v })) ≡ (string_bytes k, view v)
 view-pair k v = search (rules, the_lemmas)

@@ -2,10 +2,8 @@
 use Rattle.std.specs.Prelude.{Bool, ◌≡◌, ℕ, ◌+◌, ◌<◌, true, false, List, [], ◌∷◌, ◌++◌, length, ◌⊎◌}
 use Rattle.std.specs.List.{flat_map}
 use Rattle.std.specs.Char.Utf16.{is_low_surrogate, is_high_surrogate}
-use Rattle.decimal_json.specs.Value.{Value, members_of, has_key}
-use Rattle.decimal_json.specs.Escape.{unit_of}
-use Rattle.decimal_json.specs.Characters.{depth_limit}
-use Rattle.decimal_json.specs.Open.{Member, Frame, in_array, in_object, Purpose, for_value, for_key}
+use Rattle.decimal_json.specs.Value.{Value, members_of, has_key, Member, Frame, in_array, in_object, Purpose, for_value, for_key}
+use Rattle.decimal_json.specs.Characters.{unit_of, depth_limit}
 use Rattle.decimal_json.specs.Grammar.{IsSpace, Spells, IsString, HasUniqueKeys, Character, character_text, AreCharacters, AreHex}
 
 -- items, with a comma behind each

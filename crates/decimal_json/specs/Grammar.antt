@@ -4,10 +4,8 @@
 use Rattle.std.specs.Prelude.{◌≡◌, ℕ, ◌+◌, ◌<◌, ⊤, Bool, true, false, ◌&&◌, ◌||◌, List, [], ◌∷◌, ◌++◌, map, Some, encode_utf8, if◌then◌else◌}
 use Rattle.std.specs.List.{AllByRecursion, flat_map}
 use Rattle.std.specs.Char.Utf16.{is_low_surrogate, is_high_surrogate, surrogate_pair_char}
-use Rattle.decimal_json.specs.Value.{Decimal, Value, null, boolean, number, text, array, object, Items, no_items, item, Members, no_members, member, has_key}
-use Rattle.decimal_json.specs.Number.{is_mark, whole_of, decimal_from}
-use Rattle.decimal_json.specs.Escape.{short_escape, is_hex, unit_of}
-use Rattle.decimal_json.specs.Characters.{is_space, is_plain, rue, alse, ull, depth_limit}
+use Rattle.decimal_json.specs.Value.{Decimal, Value, null, boolean, number, text, array, object, Items, no_items, item, Members, no_members, member, has_key, is_mark, whole_of, decimal_from}
+use Rattle.decimal_json.specs.Characters.{short_escape, is_hex, unit_of, is_space, is_plain, rue, alse, ull, depth_limit}
 
 -- section 2: white space
 abbrev pub IsSpace : List ℕ → Type 0
@@ -43,9 +41,8 @@ sign_text plus = 43 ∷ []
 sign_text minus = 45 ∷ []
 
 abbrev pub is_minus : Sign → Bool
-is_minus no_sign = false
-is_minus plus = false
 is_minus minus = true
+is_minus _ = false
 
 pub data Power : Type 0 where
   no_power : Power
@@ -117,17 +114,12 @@ IsCharacter limited (pair a b c d e f g h) = AreHex a b c d × AreHex e f g h ×
 
 -- A first unit and a second one behind it are a pair, and never two units alone.
 abbrev pub is_first_alone : Character → Bool
-is_first_alone (itself c) = false
-is_first_alone (short l b) = false
 is_first_alone (alone a b c d) = is_high_surrogate (unit_of a b c d)
-is_first_alone (pair a b c d e f g h) = false
+is_first_alone _ = false
 
 abbrev pub begins_with_second : List Character → Bool
-begins_with_second [] = false
-begins_with_second (itself c ∷ cs) = false
-begins_with_second (short l b ∷ cs) = false
 begins_with_second (alone a b c d ∷ cs) = is_low_surrogate (unit_of a b c d)
-begins_with_second (pair a b c d e f g h ∷ cs) = false
+begins_with_second _ = false
 
 abbrev pub AreCharacters : Bool → List Character → Type 0
 AreCharacters limited [] = ⊤

@@ -1,8 +1,5 @@
 pub mod Value
-pub mod Number
-pub mod Escape
 pub mod Characters
-pub mod Open
 pub mod Grammar
 pub mod Fronts
 pub mod Reading

@@ -2,7 +2,7 @@
 
 ghost use Rattle.std.specs.Prelude.{◌≡◌, ℕ, ◌+◌, ◌<◌, ◌≤◌, true, false, ◌==◌, List, ◌∷◌, [], length, drop, IfSome, IfNone, IfOk, IfErr};
 ghost use Rattle.decimal_json.specs.Characters.{is_space};
-ghost use Rattle.decimal_json.specs.inside.Answer.{SkipsSpace, StandsAt, FailsAt, IsToken};
+ghost use Rattle.decimal_json.specs.inside.Scan.{SkipsSpace, StandsAt, FailsAt, IsToken};
 
 use crate::types::{JsonFault, no_json};
 

@@ -2,10 +2,9 @@
 
 ghost use Rattle.std.specs.Prelude.{◌≡◌, ℕ, ◌+◌, ◌-◌, ◌<◌, ◌≤◌, ◌^◌, true, List, ◌++◌, length, Option, Some, None, IfOk, IfErr, IfSome, IfNone, encode_utf8, slice_index};
 ghost use Rattle.std.specs.Char.Utf16.{is_low_surrogate, is_high_surrogate, surrogate_pair_char};
-ghost use Rattle.decimal_json.specs.Escape.{short_escape as short_escape_of, is_hex, hex_of};
-ghost use Rattle.decimal_json.specs.Open.{Frame, Purpose};
-ghost use Rattle.decimal_json.specs.inside.Scan.{quoted, plain, high, fault, scan};
-ghost use Rattle.decimal_json.specs.inside.Answer.{FailsAt, StandsAt, HexAt, ReadsUnit, BreaksUnit, ReadsEscape, BreaksEscape};
+ghost use Rattle.decimal_json.specs.Characters.{short_escape as short_escape_of, is_hex, hex_of};
+ghost use Rattle.decimal_json.specs.Value.{Frame, Purpose};
+ghost use Rattle.decimal_json.specs.inside.Scan.{quoted, plain, high, fault, scan, FailsAt, StandsAt, HexAt, ReadsUnit, BreaksUnit, ReadsEscape, BreaksEscape};
 
 use crate::bytes::{byte_at, byte_wanted, has_byte};
 use crate::types::{JsonFault, no_json};

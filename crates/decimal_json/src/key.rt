@@ -2,7 +2,7 @@
 
 ghost use Rattle.std.specs.Prelude.{◌≡◌, ◌+◌, ◌<◌, ◌≤◌, not, length, IfOk, IfErr, OnOk};
 ghost use Rattle.std.specs.String.{string_bytes};
-ghost use Rattle.decimal_json.specs.inside.Answer.{knows, AddsKey, ReadsKey, BreaksKey};
+ghost use Rattle.decimal_json.specs.inside.Scan.{knows, AddsKey, ReadsKey, BreaksKey};
 
 use crate::text::text;
 use crate::token::token_wanted;

@@ -1,11 +1,8 @@
 //! Numbers of RFC 8259, section 6.
 
 ghost use Rattle.std.specs.Prelude.{◌≡◌, ℕ, ◌+◌, ◌*◌, ◌-◌, ◌<◌, ◌≤◌, ◌^◌, Bool, true, false, List, [], length, IfOk, IfErr, pos, min};
-ghost use Rattle.decimal_json.specs.Value.{number as number_value};
-ghost use Rattle.decimal_json.specs.Number.{is_digit, digit_of, is_mark, exponent_of};
-ghost use Rattle.decimal_json.specs.Open.{Frame};
-ghost use Rattle.decimal_json.specs.inside.Scan.{Spot, numeral, point, mark, signed, scan};
-ghost use Rattle.decimal_json.specs.inside.Answer.{Leads, Reads, Breaks, AfterWhole, MayEnd, AddsDigits, ReadsWhole, ReadsFraction, AddsExponent, ReadsExponent, begun, FailsAt, StandsAt, kept};
+ghost use Rattle.decimal_json.specs.Value.{number as number_value, is_digit, digit_of, is_mark, exponent_of, Frame};
+ghost use Rattle.decimal_json.specs.inside.Scan.{Spot, numeral, point, mark, signed, scan, Leads, Reads, Breaks, AfterWhole, MayEnd, AddsDigits, ReadsWhole, ReadsFraction, AddsExponent, ReadsExponent, begun, FailsAt, StandsAt, kept};
 ghost use Rattle.decimal_json.specs.View.{decimal_of};
 
 use crate::bytes::{byte_at, byte_wanted, has_byte};

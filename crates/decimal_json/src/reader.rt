@@ -2,8 +2,7 @@
 
 ghost use Rattle.std.specs.Prelude.{◌≡◌, ◌⊎◌, ℕ, MatchResult, IfOk, IfErr};
 ghost use Rattle.decimal_json.specs.Value.{Value};
-ghost use Rattle.decimal_json.specs.inside.Scan.{whole_outcome};
-ghost use Rattle.decimal_json.specs.inside.Answer.{Gives};
+ghost use Rattle.decimal_json.specs.inside.Scan.{whole_outcome, Gives};
 ghost use Rattle.decimal_json.specs.View.{view};
 ghost use Rattle.decimal_json.specs.Reading.{IsText, IsFault, HasCause};
 

@@ -4,7 +4,7 @@ ghost use Rattle.std.specs.Prelude.{◌≡◌, ◌+◌, ◌-◌, ◌<◌, ◌≤
 ghost use Rattle.std.specs.Str.{IsCharBoundary};
 ghost use Rattle.std.specs.String.{string_bytes};
 ghost use Rattle.decimal_json.specs.Characters.{is_plain};
-ghost use Rattle.decimal_json.specs.inside.Answer.{FailsAt, ReadsPlain, ReadsText, BreaksText};
+ghost use Rattle.decimal_json.specs.inside.Scan.{FailsAt, ReadsPlain, ReadsText, BreaksText};
 
 use crate::bytes::byte_at;
 use crate::escape::escape;

@@ -1,7 +1,7 @@
 //! What stands behind white space.
 
 ghost use Rattle.std.specs.Prelude.{◌≡◌, ◌≢◌, ◌<◌, ◌≤◌, length, IfOk, IfErr};
-ghost use Rattle.decimal_json.specs.inside.Answer.{FindsToken, LacksToken, IsBehind, place_of};
+ghost use Rattle.decimal_json.specs.inside.Scan.{FindsToken, LacksToken, IsBehind, place_of};
 
 use crate::bytes::token_at;
 use crate::types::{JsonFault, no_json};

@@ -3,8 +3,7 @@
 ghost use Rattle.std.specs.Prelude.{◌≡◌, ◌≢◌, ◌+◌, ◌<◌, ◌≤◌, Bool, true, false, [], length, map, IfOk, IfErr};
 ghost use Rattle.decimal_json.specs.Value.{Value, items_of, members_of, array as array_value, object as object_value};
 ghost use Rattle.decimal_json.specs.Characters.{is_space};
-ghost use Rattle.decimal_json.specs.inside.Scan.{wanted, awaited, first_item, first_key};
-ghost use Rattle.decimal_json.specs.inside.Answer.{StandsAt, Reads, Breaks, ReadsValue, BreaksValue, ReadsInside, BreaksInside, HasKeys, knows};
+ghost use Rattle.decimal_json.specs.inside.Scan.{wanted, awaited, first_item, first_key, StandsAt, Reads, Breaks, ReadsValue, BreaksValue, ReadsInside, BreaksInside, HasKeys, knows};
 ghost use Rattle.decimal_json.specs.View.{view, pair_view};
 
 use crate::bytes::has_byte;

@@ -5,17 +5,12 @@ use Rattle.std.specs.Str.{bytes_eq}
 use Rattle.std.proofs.Math.Bool.{or-true}
 use Rattle.std.proofs.lemmas.Bool.{lt-ltb, cases_lt, le-leb, lt-leb}
 use Rattle.std.proofs.lemmas.List.{length-map, take-map}
-use Rattle.decimal_json.specs.Value.{Decimal, Value, number, array, object, Items, no_items, item, Members, no_members, member}
+use Rattle.decimal_json.specs.Value.{Decimal, Value, number, array, object, Items, no_items, item, Members, no_members, member, held_decimal}
 use Rattle.instance.specs.Fields.{Field, key_of, entries_of, pairs_of, entries_in, pairs_in, field_of}
-use Rattle.instance.specs.Scaled.{MILLION, size_of, scaled, is_rounded, wholes_of, is_below_zero}
-use Rattle.instance.specs.FirstFault.{Instance, MAX_COST, MAX_PERIODS, MAX_POWER, MAX_TIME, Place, Point, Refusal, Renewable, StartRow, Thermal, ◌>>=◌, refusal, wanted, refused_if, number_at, amount_at, power_at, power_from, cost_at, whole_at, time_at, flag_at, periods_at, entries_at, rows_at, each_at, next_entry, power_entry, powers_at, maximum_entry, start_row, point_row, outputs_at, ramps_at, times_at, initial_at, startup_at, points_at, thermal_at, maxima_at, renewable_at, in_unit, units_at, thermal_member, renewable_member, thermal_units_at, renewable_units_at, totals_at, instance_at}
+use Rattle.instance.specs.Scaled.{MILLION, size_of, scaled, is_rounded, wholes_of, is_below_zero, PAST_LIMITS, SaySame, MOST_DIGITS, IsShort, with_numbers, items_with, members_with, AllNumbers, AllItems, AllMembers}
+use Rattle.instance.specs.FirstFault.{Instance, MAX_COST, MAX_PERIODS, MAX_POWER, MAX_TIME, Place, Point, Refusal, Renewable, StartRow, Thermal, ◌>>=◌, refusal, wanted, refused_if, number_at, amount_at, power_at, power_from, cost_at, whole_at, time_at, flag_at, periods_at, entries_at, rows_at, each_at, next_entry, power_entry, powers_at, maximum_entry, start_row, point_row, outputs_at, ramps_at, times_at, initial_at, startup_at, points_at, thermal_at, maxima_at, renewable_at, in_unit, units_at, thermal_member, renewable_member, thermal_units_at, renewable_units_at, totals_at, instance_at, rounded_value, rounded_field, entries_field, members_field, members_of_value, rounded_array, rounded_start_row, rounded_point, rounded_startup, rounded_points, rounded_outputs, rounded_ramps, rounded_times, rounded_initial, rounded_thermal, rounded_renewable, rounded_thermal_units, rounded_renewable_units, rounded_totals, rounded_instance}
 use Rattle.instance.specs.InstanceOf.{Pairs, IsInstanceOf}
-use Rattle.instance.specs.Held.{PAST_LIMITS}
-use Rattle.instance.specs.SameNumber.{SaySame, MOST_DIGITS, IsShort}
-use Rattle.instance.specs.Numbers.{with_numbers, items_with, members_with, AllNumbers, AllItems, AllMembers}
 use Rattle.instance.proofs.UnitLaws.{not_zero_again, instance_is, instance_again}
-use Rattle.instance.specs.Rounded.{rounded_value, rounded_field, entries_field, members_field, members_of_value, rounded_array, rounded_start_row, rounded_point, rounded_startup, rounded_points, rounded_outputs, rounded_ramps, rounded_times, rounded_initial, rounded_thermal, rounded_renewable, rounded_thermal_units, rounded_renewable_units, rounded_totals, rounded_instance}
-use Rattle.decimal_json.specs.Number.{held_decimal}
 use Rattle.instance.proofs.Sizes.{itself, held_says_same}
 
 -- ---- results
@@ -187,33 +182,19 @@ module _ (f : Decimal → Decimal) (same : Keeps f) where
   point_row_changed exact front v = simp (looked_up, power_from_changed, cost_at_changed)
 
   -- a thermal unit
-  outputs_changed : (exact : Bool) (ms : Pairs) → outputs_at exact (pairs_with f ms) ≡ outputs_at exact ms
-  unfolding outputs_at
-  outputs_changed exact ms = simp (looked_up, flag_at_changed, power_from_changed)
-
-  ramps_changed : (exact : Bool) (ms : Pairs) → ramps_at exact (pairs_with f ms) ≡ ramps_at exact ms
-  unfolding ramps_at
-  ramps_changed exact ms = simp (looked_up, power_from_changed)
-
-  times_changed : (exact : Bool) (ms : Pairs) → times_at exact (pairs_with f ms) ≡ times_at exact ms
-  unfolding times_at
-  times_changed exact ms = simp (looked_up, time_at_changed)
-
-  initial_changed : (exact : Bool) (ms : Pairs) → initial_at exact (pairs_with f ms) ≡ initial_at exact ms
-  unfolding initial_at
-  initial_changed exact ms = simp (looked_up, power_at_changed, flag_at_changed, time_at_changed)
-
-  startup_changed : (exact : Bool) (ms : Pairs) → startup_at exact (pairs_with f ms) ≡ startup_at exact ms
-  unfolding startup_at
-  startup_changed exact ms = simp (rows_at_changed, bind_map, each_changed (start_row exact) (with_numbers f) (start_row_changed exact))
-
-  points_changed : (exact : Bool) (ms : Pairs) → points_at exact (pairs_with f ms) ≡ points_at exact ms
-  unfolding points_at
-  points_changed exact ms = simp (rows_at_changed, bind_map, each_changed (point_row exact) (with_numbers f) (point_row_changed exact))
-
   thermal_changed : (exact : Bool) (name : List ℕ) (v : Value) → thermal_at exact name (with_numbers f v) ≡ thermal_at exact name v
-  unfolding thermal_at
-  thermal_changed exact name v = simp (looked_up, outputs_changed, ramps_changed, times_changed, initial_changed, startup_changed, points_changed)
+  unfolding thermal_at outputs_at ramps_at times_at initial_at startup_at points_at
+  thermal_changed exact name v =
+      simp (
+        looked_up,
+        flag_at_changed,
+        power_at_changed,
+        power_from_changed,
+        time_at_changed,
+        rows_at_changed,
+        each_changed (start_row exact) (with_numbers f) (start_row_changed exact),
+        each_changed (point_row exact) (with_numbers f) (point_row_changed exact),
+      )
 
   -- a renewable unit
   renewable_changed : (exact : Bool) (periods : ℕ) (name : List ℕ) (v : Value) → renewable_at exact periods name (with_numbers f v) ≡ renewable_at exact periods name v
@@ -300,17 +281,10 @@ module _ (f : Decimal → Decimal) (same : Keeps f) where
   unfolding rounded_point
   point_same v = simp (members_changed, field_same)
 
-  startup_same : (ms : Pairs) → rounded_startup (pairs_with f ms) ≡ rounded_startup ms
-  unfolding rounded_startup
-  startup_same ms = simp (entries_same, sum_changed rounded_start_row (with_numbers f) start_row_same)
-
-  points_same : (ms : Pairs) → rounded_points (pairs_with f ms) ≡ rounded_points ms
-  unfolding rounded_points
-  points_same ms = simp (entries_same, sum_changed rounded_point (with_numbers f) point_same)
-
   thermal_same : (v : Value) → rounded_thermal (with_numbers f v) ≡ rounded_thermal v
-  unfolding rounded_thermal rounded_outputs rounded_ramps rounded_times rounded_initial
-  thermal_same v = simp (members_changed, field_same, startup_same, points_same)
+  unfolding rounded_thermal rounded_outputs rounded_ramps rounded_times rounded_initial rounded_startup rounded_points
+  thermal_same v =
+      simp (members_changed, field_same, entries_same, sum_changed rounded_start_row (with_numbers f) start_row_same, sum_changed rounded_point (with_numbers f) point_same)
 
   renewable_same : (periods : ℕ) (v : Value) → rounded_renewable periods (with_numbers f v) ≡ rounded_renewable periods v
   unfolding rounded_renewable

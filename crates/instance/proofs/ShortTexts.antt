@@ -1,12 +1,10 @@
 -- A number of a text has at most as many digits as the text has bytes.
 use Rattle.std.proofs.Common.{◌≡◌, ℕ, ◌+◌, ◌≤◌, Bool, true, List, [], ◌∷◌, ◌++◌, length, sym, ap, subst, ◌∙◌, arith, length-append}
 use Rattle.std.proofs.lemmas.List.{length-map, append-nil}
-use Rattle.decimal_json.specs.Value.{Decimal, Value, number, array, object, Items, no_items, item, Members, no_members, member}
-use Rattle.decimal_json.specs.Number.{held_decimal}
+use Rattle.decimal_json.specs.Value.{Decimal, Value, number, array, object, Items, no_items, item, Members, no_members, member, held_decimal}
 use Rattle.decimal_json.specs.Grammar.{numerals, fraction_text, negative_text, power_text, IsNumber, Spells, SpellsItems, SpellsMoreItems, SpellsMembers, SpellsMoreMembers, SpellsText}
 use Rattle.decimal_json.specs.Reading.{IsText}
-use Rattle.instance.specs.SameNumber.{MOST_DIGITS, IsShort}
-use Rattle.instance.specs.Numbers.{with_numbers, items_with, members_with, AllNumbers, AllItems, AllMembers}
+use Rattle.instance.specs.Scaled.{MOST_DIGITS, IsShort, with_numbers, items_with, members_with, AllNumbers, AllItems, AllMembers}
 
 abbrev Fits : ℕ → Decimal → Type 0
 Fits most d = length d.digits ≤ most

@@ -2,16 +2,12 @@
 use Rattle.std.proofs.Common.{◌≡◌, ℕ, zero, suc, ◌+◌, ◌-◌, ◌*◌, ◌/◌, ◌%◌, ◌^◌, ◌<◌, ◌≤◌, min, refl, sym, ap, ◌∙◌, inl, inr, arith, add-one, add-zero, ◌⊎◌, Bool, true, false, cond, List, length, subst, [], ◌∷◌, take, drop, ⊎_elim, ℤ, pos, negsuc, nat_le, ◌≢◌, fold, nat_lt, slice_index, if◌then◌else◌, pow-add, take-append-drop, length-drop}
 use Rattle.std.proofs.lemmas.Bool.{cases_lt, le-ltb, lt-ltb, lt-leb, cases_Bool, false≢true, or_cases, or_parts, leb-false, leb-true, ltb-false, ltb-true}
 use Rattle.std.proofs.Math.Nat.{pow-suc, mul_assoc, add-mul, mul_right_comm, one-le-pow, pow-le-pow_right, mul-le-mul_right}
-use Rattle.instance.specs.Held.{held, held_wholes, PAST_LIMITS}
+use Rattle.instance.specs.Scaled.{held, held_wholes, PAST_LIMITS, SaySame, MOST_DIGITS, above, below, millionths, IsNearest, MILLION, size_of, wholes_of, is_rounded, places_past, places_before}
 use Rattle.std.proofs.lemmas.Int.{ints, clamps}
-use Rattle.decimal_json.specs.Value.{Decimal}
-use Rattle.decimal_json.specs.Number.{held as held_exponent, held_decimal, whole_of}
-use Rattle.instance.specs.Scaled.{MILLION, size_of, wholes_of, is_rounded, places_past, places_before}
-use Rattle.instance.specs.SameNumber.{SaySame, MOST_DIGITS}
+use Rattle.decimal_json.specs.Value.{Decimal, held as held_exponent, held_decimal, whole_of}
 use Rattle.std.specs.List.{list_any}
 use Rattle.std.proofs.lemmas.List.Sums.{fold-append}
 use Rattle.decimal_json.specs.Grammar.{AreDigits}
-use Rattle.instance.specs.Nearest.{above, below, millionths, IsNearest}
 
 pub held_below : (n : ℕ) → n < 10 ^ 14 → held n ≡ n
 held_below n lt = rw (lt-ltb n (10 ^ 14) lt)

@@ -4,9 +4,8 @@ use Rattle.std.specs.Prelude.{◌≡◌, ℕ, ⊤, Bool, List, Err}
 pub use Rattle.uc_model.specs.declared.instance.Instance.{Instance}
 use Rattle.decimal_json.specs.Value.{Value}
 use Rattle.decimal_json.specs.Reading.{IsText, IsFault}
-use Rattle.instance.specs.FirstFault.{instance_at}
+use Rattle.instance.specs.FirstFault.{instance_at, rounded_instance}
 use Rattle.instance.specs.InstanceOf.{IsInstanceOf}
-use Rattle.instance.specs.Rounded.{rounded_instance}
 use Rattle.instance.specs.declared.from_bytes.ReadFault.{ReadFault}
 use Rattle.instance.specs.declared.from_bytes.ReadFault.TheVariants as fault
 

@@ -1,6 +1,6 @@
 -- The order in which the fields of an instance file are looked at, and the first fault that is met in that
--- order. What an instance is stands in specs/InstanceOf.antt, without any order.
-use Rattle.std.specs.Prelude.{ℕ, ◌+◌, ◌%◌, Bool, ◌&&◌, ◌||◌, ◌==◌, nat_lt, List, [], ◌∷◌, ◌++◌, length, take, max, Option, Some, None, Result, Ok, Err, ℤ, pos, int_lt, slice_index_or, if◌then◌else◌}
+-- order, by its code. What an instance is stands in specs/InstanceOf.antt, without any order.
+use Rattle.std.specs.Prelude.{ℕ, ◌-◌, List, ℤ, pos, neg_ℤ, length, slice_index_or, ◌+◌, ◌%◌, Bool, ◌&&◌, ◌||◌, ◌==◌, nat_lt, [], ◌∷◌, ◌++◌, take, max, Option, Some, None, Result, Ok, Err, int_lt, if◌then◌else◌, sum_by, unwrap_or, option_and_then}
 use Rattle.std.specs.Int.{int_max}
 pub use Rattle.uc_model.specs.declared.limits.TheConstants.{MAX_PERIODS, MAX_UNITS, MAX_POINTS, MAX_START_ROWS, MAX_POWER, MAX_COST, MAX_TIME}
 pub use Rattle.uc_model.specs.declared.instance.Point.{Point}
@@ -8,14 +8,12 @@ pub use Rattle.uc_model.specs.declared.instance.StartRow.{StartRow}
 pub use Rattle.uc_model.specs.declared.instance.Thermal.{Thermal}
 pub use Rattle.uc_model.specs.declared.instance.Renewable.{Renewable}
 pub use Rattle.uc_model.specs.declared.instance.Instance.{Instance}
-use Rattle.decimal_json.specs.Value.{Decimal, Value}
-use Rattle.instance.specs.Fields.{key_of, number_in, entries_in, pairs_in, field_of}
-use Rattle.instance.specs.Scaled.{MILLION, size_of, scaled, is_rounded, wholes_of, is_below_zero}
-use Rattle.instance.specs.Points.{last_output}
 pub use Rattle.uc_model.specs.declared.field.Field.{Field}
 pub use Rattle.uc_model.specs.declared.field_refusal.FieldRefusal.{FieldRefusal}
 pub use Rattle.uc_model.specs.declared.field.Field.TheVariants.{NoField, TimePeriods, Demand, Reserves, ThermalGenerators, RenewableGenerators, MustRun, PowerOutputMinimum, PowerOutputMaximum, RampUpLimit, RampDownLimit, RampStartupLimit, RampShutdownLimit, TimeUpMinimum, TimeDownMinimum, PowerOutputT0, UnitOnT0, TimeUpT0, TimeDownT0, Startup, StartupLag, StartupCost, PiecewiseProduction, PiecewiseProductionMw, PiecewiseProductionCost}
-use Rattle.instance.specs.Codes.{MISSING, OTHER_KIND, NOT_WHOLE, PAST_LIMIT, OUT_OF_RANGE, TOO_SHORT, TOO_MANY, ROUNDED, NO_UNIT, THERMAL, RENEWABLE}
+use Rattle.decimal_json.specs.Value.{Decimal, Value}
+use Rattle.instance.specs.Fields.{key_of, number_in, entries_in, pairs_in, field_of}
+use Rattle.instance.specs.Scaled.{MILLION, size_of, scaled, is_rounded, wholes_of, is_below_zero}
 pub use Rattle.instance.specs.declared.fault.Place.{Place}
 pub use Rattle.instance.specs.declared.fault.Refusal.{Refusal}
 pub use Rattle.instance.specs.declared.reader.totals.Totals.{Totals}
@@ -23,6 +21,55 @@ pub use Rattle.instance.specs.declared.reader.thermal.Outputs.{Outputs}
 pub use Rattle.instance.specs.declared.reader.thermal.Ramps.{Ramps}
 pub use Rattle.instance.specs.declared.reader.thermal.Times.{Times}
 pub use Rattle.instance.specs.declared.reader.thermal.Initial.{Initial}
+
+-- ---- the codes of a refusal, and the kinds of unit in one. Source: the lines I1 to I8 that the program prints
+-- The field is missing.
+abbrev pub MISSING : ℕ
+MISSING = 1
+
+-- It is of another JSON kind than wanted.
+abbrev pub OTHER_KIND : ℕ
+OTHER_KIND = 2
+
+-- It isn't whole.
+abbrev pub NOT_WHOLE : ℕ
+NOT_WHOLE = 3
+
+-- It is past a limit in size or of a time.
+abbrev pub PAST_LIMIT : ℕ
+PAST_LIMIT = 4
+
+-- It is outside its range.
+abbrev pub OUT_OF_RANGE : ℕ
+OUT_OF_RANGE = 5
+
+-- The array is shorter than the number of periods.
+abbrev pub TOO_SHORT : ℕ
+TOO_SHORT = 6
+
+-- There are too many periods, units or rows.
+abbrev pub TOO_MANY : ℕ
+TOO_MANY = 7
+
+-- It is rounded, where only exact numbers are taken.
+abbrev pub ROUNDED : ℕ
+ROUNDED = 8
+
+-- The fault is in no unit, in a thermal one, or in a renewable one.
+abbrev pub NO_UNIT : ℕ
+NO_UNIT = 0
+
+abbrev pub THERMAL : ℕ
+THERMAL = 1
+
+abbrev pub RENEWABLE : ℕ
+RENEWABLE = 2
+
+-- ---- what is looked at, one step after another
+-- The output that a next point of production cost is not below (the pglib-uc format lists points by output): the last
+-- point's, and before the first point the least power that there is.
+abbrev pub last_output : List Point → ℤ
+last_output points = (slice_index_or points (length points - 1) (record { mw = neg_ℤ (pos MAX_POWER); cost = pos 0 })).mw
 
 -- one step after another, up to the first fault
 infixl 10 ◌>>=◌
@@ -309,3 +356,76 @@ instance_at exact v = do
   thermal ← thermal_units_at exact ms
   renewable ← renewable_units_at exact totals.periods ms
   Ok (record { periods = totals.periods; demand = totals.demand; reserves = totals.reserves; thermal = thermal; renewable = renewable })
+
+-- ---- How many of the numbers of an instance file that are read are rounded.
+-- 1 for a number that is rounded
+unfoldable pub rounded_value : Value → ℕ
+rounded_value v = elim (number_in v) [ None ↦ 0 | Some d ↦ (if is_rounded d then 1 else 0) ]
+
+unfoldable pub rounded_field : Field → List (List ℕ × Value) → ℕ
+rounded_field field ms = elim (field_of (key_of field) ms) [ None ↦ 0 | Some v ↦ rounded_value v ]
+
+-- the entries of a field that is an array, and the members of an object
+abbrev pub entries_field : Field → List (List ℕ × Value) → List Value
+entries_field field ms = unwrap_or (option_and_then entries_in (field_of (key_of field) ms)) []
+
+abbrev pub members_field : Field → List (List ℕ × Value) → List (List ℕ × Value)
+members_field field ms = unwrap_or (option_and_then pairs_in (field_of (key_of field) ms)) []
+
+abbrev pub members_of_value : Value → List (List ℕ × Value)
+members_of_value v = unwrap_or (pairs_in v) []
+
+-- in an array up to the last period
+unfoldable pub rounded_array : Field → ℕ → List (List ℕ × Value) → ℕ
+rounded_array field periods ms = sum_by rounded_value (take periods (entries_field field ms))
+
+-- in a row of startup, and in one of piecewise_production
+unfoldable pub rounded_start_row : Value → ℕ
+rounded_start_row v = rounded_field StartupLag (members_of_value v) + rounded_field StartupCost (members_of_value v)
+
+unfoldable pub rounded_point : Value → ℕ
+rounded_point v = rounded_field PiecewiseProductionMw (members_of_value v) + rounded_field PiecewiseProductionCost (members_of_value v)
+
+unfoldable pub rounded_startup : List (List ℕ × Value) → ℕ
+rounded_startup ms = sum_by rounded_start_row (entries_field Startup ms)
+
+unfoldable pub rounded_points : List (List ℕ × Value) → ℕ
+rounded_points ms = sum_by rounded_point (entries_field PiecewiseProduction ms)
+
+-- in the parts of a thermal unit
+unfoldable pub rounded_outputs : List (List ℕ × Value) → ℕ
+rounded_outputs ms = rounded_field MustRun ms + rounded_field PowerOutputMinimum ms + rounded_field PowerOutputMaximum ms
+
+unfoldable pub rounded_ramps : List (List ℕ × Value) → ℕ
+rounded_ramps ms = rounded_field RampUpLimit ms + rounded_field RampDownLimit ms + rounded_field RampStartupLimit ms + rounded_field RampShutdownLimit ms
+
+unfoldable pub rounded_times : List (List ℕ × Value) → ℕ
+rounded_times ms = rounded_field TimeUpMinimum ms + rounded_field TimeDownMinimum ms
+
+unfoldable pub rounded_initial : List (List ℕ × Value) → ℕ
+rounded_initial ms = rounded_field PowerOutputT0 ms + rounded_field UnitOnT0 ms + rounded_field TimeUpT0 ms + rounded_field TimeDownT0 ms
+
+unfoldable pub rounded_thermal : Value → ℕ
+rounded_thermal v =
+    let ms = members_of_value v in
+    rounded_outputs ms + rounded_ramps ms + rounded_times ms + rounded_initial ms + rounded_startup ms + rounded_points ms
+
+unfoldable pub rounded_renewable : ℕ → Value → ℕ
+rounded_renewable periods v =
+    rounded_array PowerOutputMinimum periods (members_of_value v) + rounded_array PowerOutputMaximum periods (members_of_value v)
+
+unfoldable pub rounded_thermal_units : List (List ℕ × Value) → ℕ
+rounded_thermal_units ms = sum_by (λ (m : List ℕ × Value). rounded_thermal m.1) (members_field ThermalGenerators ms)
+
+unfoldable pub rounded_renewable_units : ℕ → List (List ℕ × Value) → ℕ
+rounded_renewable_units periods ms = sum_by (λ (m : List ℕ × Value). rounded_renewable periods m.1) (members_field RenewableGenerators ms)
+
+-- in the fields of the whole system
+unfoldable pub rounded_totals : ℕ → List (List ℕ × Value) → ℕ
+rounded_totals periods ms = rounded_field TimePeriods ms + rounded_array Demand periods ms + rounded_array Reserves periods ms
+
+-- in a whole instance file, of so many periods
+unfoldable pub rounded_instance : ℕ → Value → ℕ
+rounded_instance periods v =
+    let ms = members_of_value v in
+    rounded_totals periods ms + rounded_thermal_units ms + rounded_renewable_units periods ms

@@ -1,13 +1,6 @@
-pub mod Codes
+pub mod FirstFault
 pub mod Fields
 pub mod Scaled
-pub mod Nearest
-pub mod Held
-pub mod SameNumber
-pub mod Numbers
-pub mod Points
-pub mod Rounded
-pub mod FirstFault
 pub mod Answer
 pub mod InstanceOf
 pub mod Bytes

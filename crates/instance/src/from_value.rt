@@ -3,9 +3,8 @@
 ghost use Rattle.std.specs.Prelude.{◌≡◌, IsTrue, IfOk, Ok};
 ghost use Rattle.uc_model.specs.Limits.{IsLawfulInstance};
 ghost use Rattle.decimal_json.specs.View.{view};
-ghost use Rattle.instance.specs.FirstFault.{Instance, instance_at};
+ghost use Rattle.instance.specs.FirstFault.{Instance, instance_at, rounded_instance};
 ghost use Rattle.instance.specs.InstanceOf.{IsInstanceOf};
-ghost use Rattle.instance.specs.Rounded.{rounded_instance};
 ghost use Rattle.instance.specs.Answer.{Gives};
 
 use crate::fault::{InstanceFault, Place};
@@ -35,7 +34,7 @@ pub fn from_json(alloc: Global, json: Json, exact: bool) -> Result<(Instance, u6
     read(alloc, &json, exact)
 }
 
-#[tactic(auto, unfolding(crate::specs::FirstFault::instance_at, crate::specs::Rounded::rounded_instance))]
+#[tactic(auto, unfolding(crate::specs::FirstFault::instance_at, crate::specs::FirstFault::rounded_instance))]
 fn read(alloc: Global, json: &Json, exact: bool) -> Result<(Instance, u64), InstanceFault>
     ensures first { Gives (λ r. r.0) result (instance_at exact (view json.now)) }
     ensures counted { IfOk result (λ r. r.1 ≡ rounded_instance r.0.periods (view json.now)) }

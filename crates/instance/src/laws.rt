@@ -2,16 +2,11 @@
 
 ghost use Rattle.std.specs.Prelude.{◌≡◌, ℕ, ◌≤◌, Bool, List, ◌++◌, length, Ok};
 ghost use Rattle.uc_model.specs.Limits.{IsLawfulInstance};
-ghost use Rattle.decimal_json.specs.Value.{Decimal, Value};
-ghost use Rattle.decimal_json.specs.Number.{decimal_from, held_decimal, written_decimal};
+ghost use Rattle.decimal_json.specs.Value.{Decimal, Value, decimal_from, held_decimal, written_decimal};
 ghost use Rattle.decimal_json.specs.Reading.{IsText};
-ghost use Rattle.instance.specs.FirstFault.{Instance, instance_at};
+ghost use Rattle.instance.specs.FirstFault.{Instance, instance_at, rounded_instance};
 ghost use Rattle.instance.specs.InstanceOf.{IsInstanceOf};
-ghost use Rattle.instance.specs.Rounded.{rounded_instance};
-ghost use Rattle.instance.specs.Scaled.{size_of, wholes_of};
-ghost use Rattle.instance.specs.Held.{held, held_wholes};
-ghost use Rattle.instance.specs.SameNumber.{SaySame, MOST_DIGITS, IsShort};
-ghost use Rattle.instance.specs.Numbers.{with_numbers, AllNumbers};
+ghost use Rattle.instance.specs.Scaled.{size_of, wholes_of, held, held_wholes, SaySame, MOST_DIGITS, IsShort, with_numbers, AllNumbers};
 
 /// A value has no fault exactly where it stands for an instance, and it stands for one at most.
 #[tactic(auto, using(crate::proofs::UnitLaws::instance_is, crate::proofs::UnitLaws::instance_again, crate::proofs::UnitLaws::one_instance))]

@@ -2,8 +2,7 @@
 
 ghost use Rattle.std.specs.Prelude.{◌≡◌, ◌≤◌, length, take, map, IfOk};
 ghost use Rattle.decimal_json.specs.View.{view, pair_view};
-ghost use Rattle.instance.specs.FirstFault.{MAX_UNITS, whole, field_at, object_at, array_at, entries_at, rows_at, units_at};
-ghost use Rattle.instance.specs.Rounded.{entries_field, members_field};
+ghost use Rattle.instance.specs.FirstFault.{MAX_UNITS, whole, field_at, object_at, array_at, entries_at, rows_at, units_at, entries_field, members_field};
 ghost use Rattle.instance.specs.Answer.{Gives};
 
 use crate::fault::{MISSING, OTHER_KIND, OUT_OF_RANGE, Place, PlacedFault, TOO_MANY, TOO_SHORT};

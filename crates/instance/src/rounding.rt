@@ -3,10 +3,9 @@
 ghost use Rattle.std.specs.Prelude.{◌≡◌, ◌≢◌, ◌*◌, ℕ, true, false};
 ghost use Rattle.decimal_json.specs.Value.{Decimal, Value};
 ghost use Rattle.decimal_json.specs.Grammar.{AreDigits};
-ghost use Rattle.instance.specs.Scaled.{size_of, is_rounded};
-ghost use Rattle.instance.specs.Nearest.{below, millionths, IsNearest};
+ghost use Rattle.instance.specs.Scaled.{size_of, is_rounded, below, millionths, IsNearest};
 ghost use Rattle.instance.specs.InstanceOf.{Instance, IsInstanceOf};
-ghost use Rattle.instance.specs.Rounded.{rounded_instance};
+ghost use Rattle.instance.specs.FirstFault.{rounded_instance};
 
 /// The size of a scaled number is the size of the value in millionths, rounded to the nearest whole one, and half away
 /// from zero. It is rounded exactly where the value is no whole number of millionths.

@@ -2,9 +2,8 @@
 
 ghost use Rattle.std.specs.Prelude.{◌≡◌, ◌+◌, ◌*◌, ◌/◌, ◌%◌, ◌^◌, ◌<◌, min, nat_le};
 ghost use Rattle.decimal_json.specs.View.{decimal_of};
-ghost use Rattle.decimal_json.specs.Number.{whole_of};
-ghost use Rattle.instance.specs.Scaled.{places_past, places_before, kept_digits, cut_digits, seventh_digit, size_of, is_rounded};
-ghost use Rattle.instance.specs.Held.{held};
+ghost use Rattle.decimal_json.specs.Value.{whole_of};
+ghost use Rattle.instance.specs.Scaled.{places_past, places_before, kept_digits, cut_digits, seventh_digit, size_of, is_rounded, held};
 
 use decimal_json::Number;
 

@@ -1,24 +1,43 @@
--- The claims after one more, and after one that ended.
-use Rattle.std.proofs.Common.{◌≡◌, ◌≢◌, ℕ, zero, suc, ◌+◌, ◌⊎◌, cond, List, [], ◌∷◌, ◌++◌, length, set, refl, ap, sym, ◌∙◌, subst, arith, inl, inr, ⊎_elim, Option, Some, None, slice_get, slice_index_or, is_some}
-use Rattle.std.proofs.lemmas.List.Sums.{sum_by_push, sum_by-set}
+-- What claims and tickets are after one more, after one that ended, and after each change of a desk.
+use Rattle.std.proofs.Common.{◌≡◌, ◌≢◌, ℕ, zero, suc, ◌+◌, ◌⊎◌, cond, List, [], ◌∷◌, ◌++◌, length, set, refl, ap, sym, ◌∙◌, subst, arith, inl, inr, ⊎_elim, Option, Some, None, slice_get, slice_index_or, is_some, ◌<◌, ◌≤◌, true, false, not, ◌||◌, drop, ◌==◌, IsTrue, nat_lt, filter, count_by, get_or-set_same, get_or-set_other, length-set, replicate, length-append}
+use Rattle.std.specs.List.{list_any}
+use Rattle.std.proofs.lemmas.List.Sums.{sum_by_push, sum_by-set, sum_by-cons, sum_by-append, get_or-le-sum_by}
 use Rattle.std.proofs.lemmas.Option.{slice_get_within, get_or_from_slice_get}
-use Rattle.branch_tree.specs.NumberedTree.{NumberedTree}
+use Rattle.std.proofs.lemmas.Bool.{cases_eq, cases_Bool, eq-eqb, ne_eqb, eqb-true}
+use Rattle.std.proofs.lemmas.Bool.Decides.{nat_tests}
+use Rattle.branch_tree.specs.NumberedTree.{NumberedTree, node_count}
 use Rattle.branch_tree.specs.TreeView.{IsOpenAt}
 use Rattle.branch_tree.proofs.Changes.{get-set_other, get-append}
-use Rattle.search_core.specs.Machine.{Holder, holder_in, IsHeldIn}
-use Rattle.search_core.specs.Orderly.{AreHoldersApart, held_count}
+use Rattle.branch_tree.proofs.Subtrees.{one_here, none_here}
+use Rattle.branch_tree.proofs.Grown.{open_numbered}
+use Rattle.search_core.specs.Machine.{Holder, holder_in, IsHeldIn, Desk, no_desk, desk_in, Machine, IsHolding, holder_of}
+use Rattle.search_core.specs.Orderly.{AreHoldersApart, held_count, times_at, times_in, IsEachTicketOnce, IsOrderly}
+use Rattle.search_core.specs.Steps.{with_desk, with_tickets, with_queued, without_first, first_queued, is_in_hand, taken, Claim, Commit, Look, Pop, Publish, Push, Steal, Event, committed_by, after}
+use Rattle.search_core.specs.Moves.{tickets_of}
+
+-- an item of a list with some of one kind behind it
+pub get_blanks_cases : {A : Type 0} (xs : List A) (j : ℕ) (y z : A) (k : ℕ) → slice_get (xs ++ replicate j y) k ≡ Some z
+    → (slice_get xs k ≡ Some z) ⊎ ((length xs ≤ k) × (y ≡ z))
+get_blanks_cases [] zero y z k e = absurd (cc)
+get_blanks_cases [] (suc j) y z zero e = inr (omega arith, cc)
+get_blanks_cases {A} [] (suc j) y z (suc k) e = ⊎_elim
+    (λ (l : slice_get {X = A} [] k ≡ Some z). absurd (cc))
+    (λ (r : (0 ≤ k) × (y ≡ z)). inr (omega arith, r.1))
+    (get_blanks_cases [] j y z k e)
+get_blanks_cases (x ∷ xs) j y z zero e = inl e
+get_blanks_cases (x ∷ xs) j y z (suc k) e = ⊎_elim
+    (λ (l : slice_get xs k ≡ Some z). inl l)
+    (λ (r : (length xs ≤ k) × (y ≡ z)). inr (omega arith, r.1))
+    (get_blanks_cases xs j y z k e)
 
 -- ---- reading a list that was changed
 -- an item of a list with one more is one of the list, or the last
 pub get_push_cases : {A : Type 0} (xs : List A) (y z : A) (i : ℕ) → slice_get (xs ++ y ∷ []) i ≡ Some z
     → (slice_get xs i ≡ Some z) ⊎ ((i ≡ length xs) × (y ≡ z))
-get_push_cases [] y z zero e = inr (refl, cc)
-get_push_cases [] y z (suc i) e = absurd (cc)
-get_push_cases (x ∷ xs) y z zero e = inl e
-get_push_cases (x ∷ xs) y z (suc i) e = ⊎_elim
+get_push_cases xs y z i e = ⊎_elim
     (λ (l : slice_get xs i ≡ Some z). inl l)
-    (λ (r : (i ≡ length xs) × (y ≡ z)). inr (ap suc r.0, r.1))
-    (get_push_cases xs y z i e)
+    (λ (r : (length xs ≤ i) × (y ≡ z)). inr (omega (arith, r.0, slice_get_within (xs ++ y ∷ []) i z e, length-append xs (y ∷ [])), r.1))
+    (get_blanks_cases xs 1 y z i e)
 
 pub get_push_last : {A : Type 0} (xs : List A) (y : A) → slice_get (xs ++ y ∷ []) (length xs) ≡ Some y
 get_push_last [] y = refl
@@ -163,3 +182,206 @@ held_before claims holder node differ held = ⊎_elim
     let is : holder ≡ record { worker = held.worker; node = node } = cc in
     absurd (differ (sym (ap (λ (x : Holder). x.node) is))))
     (get_push_cases claims (Some holder) (Some (record { worker = held.worker; node = node })) held.claim held.holds)
+
+-- ---- How often a ticket is in a hand or a queue, after each change of a desk.
+-- how often the node stands in a list
+abbrev pub times_among : List ℕ → ℕ → ℕ
+times_among tickets node = count_by (λ ticket. ticket == node) tickets
+
+-- one desk's change
+pub times-with_desk : (desks : List Desk) (worker : ℕ) (change : Desk → Desk) (node : ℕ) → worker < length desks
+    → times_in (with_desk desks worker change) node + times_at (desk_in desks worker) node
+    ≡ times_in desks node + times_at (change (desk_in desks worker)) node
+times-with_desk desks worker change node within =
+    sum_by-set (λ desk. times_at desk node) desks worker (change (desk_in desks worker)) no_desk within
+
+-- a change that keeps the tickets
+pub times_kept : (desks : List Desk) (worker : ℕ) (change : Desk → Desk) (node : ℕ) → worker < length desks
+    → times_at (change (desk_in desks worker)) node ≡ times_at (desk_in desks worker) node
+    → times_in (with_desk desks worker change) node ≡ times_in desks node
+times_kept desks worker change node within same = omega (arith, times-with_desk desks worker change node within)
+
+-- tickets that come to a hand
+pub times-with_tickets : (desk : Desk) (tickets : List ℕ) (node : ℕ)
+    → times_at (with_tickets desk tickets) node ≡ times_at desk node + times_among tickets node
+times-with_tickets desk tickets node =
+    omega (arith, sum_by-append (λ (ticket : ℕ). cond (ticket == node) 1 0) desk.hand tickets)
+
+pub times_more : (desks : List Desk) (worker : ℕ) (tickets : List ℕ) (node : ℕ) → worker < length desks
+    → times_in (with_desk desks worker (λ desk. with_tickets desk tickets)) node ≡ times_in desks node + times_among tickets node
+times_more desks worker tickets node within =
+    omega (
+      arith,
+      times-with_desk desks worker (λ desk. with_tickets desk tickets) node within,
+      times-with_tickets (desk_in desks worker) tickets node,
+    )
+
+-- ---- from the hand to the queue
+times-cons : (x : ℕ) (xs : List ℕ) (node : ℕ) → times_among (x ∷ xs) node ≡ cond (x == node) 1 0 + times_among xs node
+times-cons x xs node = sum_by-cons (λ (ticket : ℕ). cond (ticket == node) 1 0) x xs
+
+abbrev others : List ℕ → ℕ → List ℕ
+others tickets gone = filter (λ ticket. not (ticket == gone)) tickets
+
+others_gone : (x : ℕ) (xs : List ℕ) (gone : ℕ) → (x == gone) ≡ true → others (x ∷ xs) gone ≡ others xs gone
+others_gone x xs gone e = ap (λ b. cond (not b) (x ∷ others xs gone) (others xs gone)) e
+
+others_kept : (x : ℕ) (xs : List ℕ) (gone : ℕ) → (x == gone) ≡ false → others (x ∷ xs) gone ≡ x ∷ others xs gone
+others_kept x xs gone e = ap (λ b. cond (not b) (x ∷ others xs gone) (others xs gone)) e
+
+-- of the others all stay
+times-others : (tickets : List ℕ) (gone node : ℕ) → node ≢ gone → times_among (others tickets gone) node ≡ times_among tickets node
+times-others [] gone node differ = refl
+times-others (x ∷ xs) gone node differ =
+    let rest = times-others xs gone node differ in
+    ⊎_elim
+    (λ (e : (x == gone) ≡ true).
+    let is = eqb-true x gone e in
+    let other = ne_eqb x node (λ h. differ (sym h ∙ is)) in
+    omega (arith, ap (λ l. times_among l node) (others_gone x xs gone e), rest, times-cons x xs node, none_here x node other))
+    (λ (e : (x == gone) ≡ false).
+    omega (arith, ap (λ l. times_among l node) (others_kept x xs gone e), rest, times-cons x xs node, times-cons x (others xs gone) node))
+    (cases_Bool (x == gone))
+
+times-gone : (tickets : List ℕ) (gone : ℕ) → times_among (others tickets gone) gone ≡ 0
+times-gone [] gone = refl
+times-gone (x ∷ xs) gone =
+    let rest = times-gone xs gone in
+    ⊎_elim
+    (λ (e : (x == gone) ≡ true). omega (arith, ap (λ l. times_among l gone) (others_gone x xs gone e), rest))
+    (λ (e : (x == gone) ≡ false).
+    omega (arith, ap (λ l. times_among l gone) (others_kept x xs gone e), rest, times-cons x (others xs gone) gone, none_here x gone e))
+    (cases_Bool (x == gone))
+
+some_among : (tickets : List ℕ) (node : ℕ) → list_any (λ ticket. ticket == node) tickets ≡ true → 1 ≤ times_among tickets node
+some_among [] node e = absurd (cc)
+some_among (x ∷ xs) node e = ⊎_elim
+    (λ (h : (x == node) ≡ true). omega (arith, times-cons x xs node, one_here x node h))
+    (λ (h : (x == node) ≡ false).
+    let later : list_any (λ ticket. ticket == node) xs ≡ true = sym (ap (λ b. b || list_any (λ ticket. ticket == node) xs) h) ∙ e in
+    omega (arith, times-cons x xs node, some_among xs node later))
+    (cases_Bool (x == node))
+
+times-queued : (desk : Desk) (gone node : ℕ) → times_among desk.hand gone ≡ 1
+    → times_at (with_queued desk gone) node ≡ times_at desk node
+times-queued desk gone node one =
+    let queue = sum_by-append (λ (ticket : ℕ). cond (ticket == node) 1 0) desk.queue (gone ∷ []) in
+    let last = times-cons gone [] node in
+    ⊎_elim
+    (λ (e : node ≡ gone).
+    let here = one_here gone node (eq-eqb gone node (sym e)) in
+    let none = times-gone desk.hand gone in
+    let none_now = subst (λ n. times_among (others desk.hand gone) n ≡ 0) (sym e) none in
+    let one_now = subst (λ n. times_among desk.hand n ≡ 1) (sym e) one in
+    omega (arith, queue, last, here, none_now, one_now))
+    (λ (d : node ≡ gone → ⊥).
+    omega (arith, queue, last, none_here gone node (ne_eqb gone node (λ h. d (sym h))), times-others desk.hand gone node d))
+    (cases_eq node gone)
+
+-- where each ticket is once, the one in the hand is there once
+pub tickets_queued : (desks : List Desk) (count worker gone : ℕ) → IsEachTicketOnce desks count → worker < length desks
+    → IsTrue (is_in_hand (desk_in desks worker) gone)
+    → IsEachTicketOnce (with_desk desks worker (λ desk. with_queued desk gone)) count
+tickets_queued desks count worker gone once within in_hand node =
+    let some = some_among (desk_in desks worker).hand gone in_hand in
+    let part = get_or-le-sum_by (λ desk. times_at desk gone) desks worker no_desk within in
+    let most = at_most_once count gone in
+    let one : times_among (desk_in desks worker).hand gone ≡ 1 = omega (arith, once gone) in
+    times_kept desks worker (λ desk. with_queued desk gone) node within (times-queued (desk_in desks worker) gone node one) ∙ once node
+  where
+    at_most_once : (n k : ℕ) → cond (nat_lt k n) 1 0 ≤ 1
+    at_most_once n k = ⊎_elim
+        (λ (e : nat_lt k n ≡ true). subst (λ b. cond b 1 0 ≤ 1) (sym e) (omega arith))
+        (λ (e : nat_lt k n ≡ false). subst (λ b. cond b 1 0 ≤ 1) (sym e) (omega arith))
+        (cases_Bool (nat_lt k n))
+
+-- ---- from a queue to a hand
+times-first : (queue : List ℕ) (node : ℕ) → 0 < length queue
+    → times_among (drop 1 queue) node + times_among (slice_index_or queue 0 0 ∷ []) node ≡ times_among queue node
+times-first [] node some = absurd (omega arith)
+times-first (x ∷ xs) node some = omega (arith, times-cons x xs node, times-cons x [] node)
+
+-- what another desk's hand became leaves each queue
+queue-with_tickets : (desks : List Desk) (worker victim : ℕ) (tickets : List ℕ) → worker < length desks
+    → (desk_in (with_desk desks worker (λ desk. with_tickets desk tickets)) victim).queue ≡ (desk_in desks victim).queue
+queue-with_tickets desks worker victim tickets within =
+    let new = with_tickets (desk_in desks worker) tickets in
+    ⊎_elim
+    (λ (e : victim ≡ worker).
+    subst (λ v. (desk_in (set desks worker new) v).queue ≡ (desk_in desks v).queue) (sym e)
+    (ap (λ (d : Desk). d.queue) (get_or-set_same desks worker new no_desk within)))
+    (λ (d : victim ≡ worker → ⊥). ap (λ (d : Desk). d.queue) (get_or-set_other desks worker victim new no_desk d))
+    (cases_eq victim worker)
+
+pub tickets_taken : (desks : List Desk) (count worker victim : ℕ) → IsEachTicketOnce desks count → worker < length desks → victim < length desks
+    → 0 < length (desk_in desks victim).queue → IsEachTicketOnce (taken desks worker victim) count
+tickets_taken desks count worker victim once within known some node =
+    let first = first_queued (desk_in desks victim) ∷ [] in
+    let middle = with_desk desks worker (λ desk. with_tickets desk first) in
+    let new = with_tickets (desk_in desks worker) first in
+    let same = queue-with_tickets desks worker victim first within in
+    let more = times_more desks worker first node within in
+    let less = times-with_desk middle victim without_first node (omega (arith, length-set desks worker new)) in
+    let left = times-first (desk_in desks victim).queue node some in
+    let queue = ap (λ q. times_among q node) same in
+    let rest = ap (λ q. times_among (drop 1 q) node) same in
+    let all : times_in (taken desks worker victim) node ≡ times_in desks node = omega (arith, more, less, left, queue, rest) in
+    all ∙ once node
+
+-- ---- two more nodes
+two_more : (count node : ℕ) → cond (nat_lt node count) 1 0 + times_among (count ∷ suc count ∷ []) node ≡ cond (nat_lt node (count + 2)) 1 0
+two_more count node = grind (arith, nat_tests, times-cons count (suc count ∷ []) node, times-cons (suc count) [] node, times-cons)
+
+pub tickets_more : (desks : List Desk) (count worker : ℕ) → IsEachTicketOnce desks count → worker < length desks
+    → IsEachTicketOnce (with_desk desks worker (λ desk. with_tickets desk (count ∷ suc count ∷ []))) (count + 2)
+tickets_more desks count worker once within node =
+    let more = times_more desks worker (count ∷ suc count ∷ []) node within in
+    omega (arith, more, once node, two_more count node)
+
+pub tickets_same : (desks : List Desk) (count worker : ℕ) → IsEachTicketOnce desks count → worker < length desks
+    → IsEachTicketOnce (with_desk desks worker (λ desk. with_tickets desk [])) count
+tickets_same desks count worker once within node =
+    let more = times_more desks worker [] node within in
+    omega (arith, more, once node)
+
+-- ---- What a claim that is held means for its node and for the room that is left.
+pub record IsHoldable (m : Machine) (worker unit node : ℕ) : Type 0 where
+  pub claim : ℕ
+  pub unit_is : unit ≡ suc claim
+  pub holds : slice_get m.claims claim ≡ Some (Some (record { worker = worker; node = node }))
+  pub within : claim < length m.claims
+  pub live : IsOpenAt m.tree.nodes node
+  pub below : node < node_count m.tree.nodes
+  pub room : node_count m.tree.nodes + 2 ≤ m.tree.room
+  pub tables : length m.tables ≤ length m.claims
+
+pub holdable : (m : Machine) (worker unit node : ℕ) → IsOrderly m → IsHolding m worker unit node → IsHoldable m worker unit node
+holdable m worker unit node orderly holding =
+    let place = holder_place m.claims unit (record { worker = worker; node = node }) holding in
+    let live = orderly.holders.live place.0 (record { worker = worker; node = node }) place.2 in
+    let some = held_ended m.claims place.0 (record { worker = worker; node = node }) place.2 in
+    record {
+      claim = place.0;
+      unit_is = place.1;
+      holds = place.2;
+      within = slice_get_within m.claims place.0 (Some (record { worker = worker; node = node })) place.2;
+      live = live;
+      below = open_numbered m.tree.nodes node orderly.placed live;
+      room = omega (arith, some, orderly.amounts.nodes, orderly.amounts.claims, orderly.amounts.room);
+      tables = omega (arith, some, orderly.amounts.tables);
+    }
+
+-- ---- No event makes more or fewer desks.
+pub desks_stay : (m : Machine) (event : Event) → length (after m event).desks ≡ length m.desks
+desks_stay m (Claim worker node) = refl
+desks_stay m (Commit worker unit table outcome action) = by_holder (holder_of m unit)
+  where
+    by_holder : (holder : Option Holder) → length (committed_by m worker unit table outcome action holder).desks ≡ length m.desks
+    by_holder None = refl
+    by_holder (Some holder) =
+        length-set m.desks worker (with_tickets (desk_in m.desks worker) (tickets_of m.tree action))
+desks_stay m (Publish worker cost) = length-set m.desks worker _
+desks_stay m (Look worker) = length-set m.desks worker _
+desks_stay m (Push worker node) = length-set m.desks worker _
+desks_stay m (Pop worker) = length-set _ worker _ ∙ length-set m.desks worker _
+desks_stay m (Steal worker victim) = length-set _ victim _ ∙ length-set m.desks worker _

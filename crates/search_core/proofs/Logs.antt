@@ -15,15 +15,11 @@ use Rattle.search_core.specs.Steps.{Claim, Commit, Publish, Event, IsFresh, IsSt
 use Rattle.search_core.specs.Orderly.{Instance, IsOrderly}
 use Rattle.search_core.specs.OwnTables.{Node, Owns, HasFewEntries}
 use Rattle.search_core.specs.Runs.{IsTrueEvent, IsTrueStart}
-use Rattle.search_core.proofs.Claims.{get_push_last}
-use Rattle.search_core.proofs.Holding.{holdable}
-use Rattle.search_core.proofs.Leaves.{leaf_part, part_node}
-use Rattle.search_core.proofs.LogEntries.{IsEnded, entries_own, entries_same, all_of_node, pairs_push, ended_more, ended_still, ended_apart}
+use Rattle.search_core.proofs.Claims.{get_push_last, holdable}
+use Rattle.search_core.proofs.Growth.{leaf_part, part_node, IsAgain, node_after, open_before, free_before, open_again_only}
+use Rattle.search_core.proofs.OwnSteps.{IsEnded, entries_own, entries_same, all_of_node, pairs_push, ended_more, ended_still, ended_apart, entry_by, own_after, IsTableWithin}
 use Rattle.search_core.proofs.NoteSteps.{no_entries}
 use Rattle.search_core.proofs.OrderlySteps.{free_for, sound_of}
-use Rattle.search_core.proofs.OwnSteps.{entry_by, own_after}
-use Rattle.search_core.proofs.Paths.{IsAgain, node_after, open_before, free_before, open_again_only}
-use Rattle.search_core.proofs.StoredTables.{IsTableWithin}
 
 -- what is true of these parts of a state that a run from this start reached
 pub record IsLogged (instance : Instance) (start : Machine) (tree : TreeView) (tables : List Table) (claims : List (Option Holder)) (log : List Entry) : Type 0 where

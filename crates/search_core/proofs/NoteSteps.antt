@@ -1,16 +1,130 @@
--- The notes of the nodes after a claim and after a commit.
-use Rattle.std.proofs.Common.{◌≡◌, ◌≢◌, ℕ, zero, suc, ◌+◌, ◌<◌, ◌≤◌, ◌⊎◌, true, false, cond, All, List, [], ◌∷◌, ◌++◌, length, map, replicate, set, refl, ap, sym, ◌∙◌, subst, arith, inl, inr, ⊎_elim, Option, Some, None, ℤ, length-append, length-set, append-nil, ◌==◌, slice_get, eq-eqb, ne_eqb}
-use Rattle.std.proofs.lemmas.List.{map-append, get_or-set_same, length-replicate}
-use Rattle.std.proofs.lemmas.List.Elements.{filter-append}
+-- The notes of the nodes, with the numbers and the scales of their tables, after each step.
+use Rattle.std.proofs.Common.{◌≡◌, ◌≢◌, ℕ, ◌<◌, List, [], ◌∷◌, length, map, get_or, sym, ◌∙◌, ap, arith, Some, slice_get, ◌≤◌, Bool, false, All, ◌++◌, replicate, set, subst, ⊎_elim, ℤ, ◌≤ℤ◌, ◌<ℤ◌, zero, suc, ◌+◌, true, cond, refl, Option, None, length-append, length-set, append-nil, ◌==◌, eq-eqb, ne_eqb, take, slice_index_or, slice_set, ◌-◌, ◌*◌, nat_lt}
+use Rattle.std.specs.Int.{int_max}
+use Rattle.std.proofs.lemmas.List.{length-map, get_or-map, nil_from_length, set-set, get_or-set_same, get_or_past, map-append, length-replicate, set-get_or, take_at}
+use Rattle.std.proofs.lemmas.Bool.{cases_lt, cases_Bool}
+use Rattle.std.proofs.lemmas.Int.{ints, int_max_is}
+use Rattle.std.proofs.lemmas.List.Elements.{All-nil, All-cons, All-append, All-replicate, All-set, All-get_or, filter-append}
 use Rattle.std.proofs.lemmas.Option.{slice_get-get_or}
+use Rattle.std.proofs.lemmas.List.Folds.{sum_by-replicate}
+use Rattle.std.proofs.lemmas.List.Sums.{sum_by-cons}
+use Rattle.std.proofs.lemmas.Bool.Decides.{nat_tests}
 use Rattle.branch_tree.specs.NumberedTree.{NumberedTree, node_count}
 use Rattle.branch_tree.specs.Places.{IsPlaced}
-use Rattle.branch_tree.proofs.Grown.{open_numbered}
-use Rattle.search_core.specs.Machine.{Entry, Holder, entries_of}
-use Rattle.search_core.specs.Notes.{Note, no_note, note_in, with_note, with_entry, entry_tables, IsNoteOf, AreNotesOf}
-use Rattle.search_core.specs.Orderly.{AreHoldersApart}
-use Rattle.search_core.proofs.Claims.{get_set_cases, held_more, held_new, held_before, unheld_ended, still_held, was_held}
+use Rattle.branch_tree.specs.declared.tree.Leaf.TheVariants as leaf
+use Rattle.branch_tree.proofs.Changes.{get-append}
+use Rattle.branch_tree.proofs.Grown.{open_numbered, root_placed}
+use Rattle.branch_tree.proofs.Subtrees.{one_if}
+use Rattle.search_core.specs.Machine.{Entry, Table, entries_of, Holder, Desk, no_desk, desk_in, IsOpen, IsHeldIn, first_desk, start_of}
+use Rattle.search_core.specs.Notes.{entry_tables, Note, no_note, note_in, with_note, with_entry, IsScaleAtMost, AreScalesAtMost, AreScalesNoted, IsNoteOf, AreNotesOf, IsFreeLeaf, Inside, view_of, IsKept}
+use Rattle.search_core.specs.Orderly.{AreHoldersApart, MAX_BUDGET, WHOLE_GAP, IsOrderly, IsEachTicketOnce, times_at}
+use Rattle.search_core.specs.Steps.{with_desk, with_tickets}
+use Rattle.search_core.proofs.Claims.{get_push_last, get_set_cases, held_more, held_new, held_before, unheld_ended, still_held, was_held, get_blanks_cases}
 
+pub no_tables : (log : List Entry) (node : ℕ) → entry_tables log node ≡ [] → entries_of log node ≡ []
+no_tables log node none =
+    nil_from_length (entries_of log node) (sym (length-map (entries_of log node) (λ (entry : Entry). entry.table)) ∙ ap length none)
+
+-- none of the tables of these numbers is the one
+abbrev pub IsNoneOf : List Table → List ℕ → Table → Type 0
+IsNoneOf tables numbers table = (k d : ℕ) → k < length numbers → slice_get tables (get_or numbers k d) ≢ Some table
+
+pub none_of_entries : (tables : List Table) (entries : List Entry) (table : Table) → IsNoneOf tables (map (λ (entry : Entry). entry.table) entries) table
+    → (k : ℕ) (d : Entry) → k < length entries → slice_get tables (get_or entries k d).table ≢ Some table
+none_of_entries tables entries table none k d within e =
+    none k 0 (omega (arith, length-map entries (λ (entry : Entry). entry.table)))
+    (ap (slice_get tables) (get_or-map (λ (entry : Entry). entry.table) entries k d 0 within) ∙ e)
+
+pub entries_none_of : (tables : List Table) (entries : List Entry) (table : Table)
+    → ((k : ℕ) (d : Entry) → k < length entries → slice_get tables (get_or entries k d).table ≢ Some table)
+    → IsNoneOf tables (map (λ (entry : Entry). entry.table) entries) table
+entries_none_of tables [] table none k d within e = absurd (omega arith)
+entries_none_of tables (first ∷ rest) table none k d within e =
+    let inside : k < length (first ∷ rest) = omega (arith, length-map (first ∷ rest) (λ (entry : Entry). entry.table)) in
+    none k first inside (ap (slice_get tables) (sym (get_or-map (λ (entry : Entry). entry.table) (first ∷ rest) k first d inside)) ∙ e)
+
+-- ---- The greatest scale of the tables of a node: what each step makes of it, and that a table above it is fresh.
+-- an entry's table and then its scale
+pub note_entered : (notes middle last : List Note) (node table : ℕ) (scale : ℤ) → node < length notes
+    → middle ≡ with_note notes node (λ note. record note { tables = note.tables ++ table ∷ [] })
+    → last ≡ with_note middle node (λ note. record note { greatest = int_max note.greatest scale })
+    → last ≡ with_note notes node (λ note. with_entry note table scale)
+note_entered notes middle last node table scale within added scaled =
+    let was = note_in notes node in
+    let more : Note = record was { tables = was.tables ++ table ∷ [] } in
+    let above : Note → Note = λ note. record note { greatest = int_max note.greatest scale } in
+    scaled
+    ∙ ap (λ ns. with_note ns node above) added
+    ∙ set-set notes node more (above (note_in (set notes node more) node))
+    ∙ ap (λ note. set notes node (above note)) (get_or-set_same notes node more no_note within)
+
+-- a table above the greatest is none of the note's
+pub above_all : (tables : List Table) (note : Note) (table : Table) → AreScalesAtMost tables note → note.greatest <ℤ table.k
+    → IsNoneOf tables note.tables table
+above_all tables note table each above k d within e =
+    let own = each k d within in
+    let both : Some own.table ≡ Some table = sym own.is ∙ e in
+    let same : own.table ≡ table = cc in
+    let scale : own.table.k ≡ table.k = ap (λ (t : Table). t.k) same in
+    omega (arith, ints, scale, own.most, above)
+
+-- ---- the steps
+pub scales_start : (tables : List Table) → AreScalesNoted tables (no_note ∷ [])
+scales_start tables =
+    All-cons (AreScalesAtMost tables) no_note [] (All-nil (IsScaleAtMost tables no_note.greatest)) (All-nil (AreScalesAtMost tables))
+
+pub scales_in : (tables : List Table) (notes : List Note) (node : ℕ) → AreScalesNoted tables notes → AreScalesAtMost tables (note_in notes node)
+scales_in tables notes node each =
+    ⊎_elim
+    (λ (within : node < length notes). All-get_or (AreScalesAtMost tables) notes node no_note within each)
+    (λ (past : length notes ≤ node).
+    subst (AreScalesAtMost tables) (sym (get_or_past notes node no_note past)) (All-nil (IsScaleAtMost tables no_note.greatest)))
+    (cases_lt node (length notes))
+
+pub scales_held : (tables : List Table) (notes : List Note) (node : ℕ) (held : Bool) → AreScalesNoted tables notes
+    → AreScalesNoted tables (with_note notes node (λ note. record note { held = held }))
+scales_held tables notes node held each =
+    All-set (AreScalesAtMost tables) notes node (record (note_in notes node) { held = held }) (scales_in tables notes node each) each
+
+-- the tables of a note, among more tables and below a scale that isn't less
+more_tables : (tables : List Table) (table : Table) (greatest later : ℤ) (numbers : List ℕ) → greatest ≤ℤ later
+    → All (IsScaleAtMost tables greatest) numbers → All (IsScaleAtMost (tables ++ table ∷ []) later) numbers
+more_tables tables table greatest later numbers most each k d within =
+    let own = each k d within in
+    record { table = own.table; is = get-append tables (table ∷ []) _ own.table own.is; most = omega (arith, ints, own.most, most) }
+
+scales_entered : (tables : List Table) (notes : List Note) (node : ℕ) (table : Table) → AreScalesNoted tables notes
+    → AreScalesNoted (tables ++ table ∷ []) (with_note notes node (λ note. with_entry note (length tables) table.k))
+scales_entered tables notes node table each =
+    let later = tables ++ table ∷ [] in
+    let was = note_in notes node in
+    let greatest = int_max was.greatest table.k in
+    let above : was.greatest ≤ℤ greatest = omega (arith, ints, int_max_is was.greatest table.k) in
+    let most : table.k ≤ℤ greatest = omega (arith, ints, int_max_is was.greatest table.k) in
+    All-set (AreScalesAtMost later) notes node (with_entry was (length tables) table.k)
+    (All-append (IsScaleAtMost later greatest) was.tables (length tables ∷ [])
+    (more_tables tables table was.greatest greatest was.tables above (scales_in tables notes node each))
+    (All-cons (IsScaleAtMost later greatest) (length tables) [] (record { table = table; is = get_push_last tables table; most = most })
+    (All-nil (IsScaleAtMost later greatest))))
+    (λ k d within. more_tables tables table _ _ _ (omega (arith, ints)) (each k d within))
+
+-- the notes after a commit, known by equations alone
+pub scales_committed : (tables later : List Table) (notes recorded freed new : List Note) (node number added : ℕ) (table : Table) (scale : ℤ)
+    → AreScalesNoted tables notes → number ≡ length tables → scale ≡ table.k → later ≡ tables ++ table ∷ []
+    → recorded ≡ with_note notes node (λ note. with_entry note number scale)
+    → freed ≡ with_note recorded node (λ note. record note { held = false }) → new ≡ freed ++ replicate added no_note
+    → AreScalesNoted later new
+scales_committed tables later notes recorded freed new node number added table scale each number_is scale_is later_is recorded_is freed_is new_is =
+    let noted : recorded ≡ with_note notes node (λ note. with_entry note (length tables) table.k) =
+    recorded_is ∙ (λ i. with_note notes node (λ note. with_entry note (number_is i) (scale_is i))) in
+    let entered : AreScalesNoted later recorded = subst (λ ts. AreScalesNoted ts recorded) (sym later_is)
+    (subst (AreScalesNoted (tables ++ table ∷ [])) (sym noted) (scales_entered tables notes node table each)) in
+    let free : AreScalesNoted later freed = subst (AreScalesNoted later) (sym freed_is) (scales_held later recorded node false entered) in
+    subst (AreScalesNoted later) (sym new_is)
+    (All-append (AreScalesAtMost later) freed (replicate added no_note) free
+    (All-replicate (AreScalesAtMost later) added no_note (All-nil (IsScaleAtMost later no_note.greatest))))
+
+-- ---- The notes of the nodes after a claim and after a commit.
 -- ---- the entries of a node after one more
 entries_split : (log : List Entry) (entry : Entry) (node : ℕ)
     → entry_tables (log ++ entry ∷ []) node ≡ entry_tables log node ++ map (λ (e : Entry). e.table) (cond (entry.node == node) (entry ∷ []) [])
@@ -74,21 +188,6 @@ notes_claimed claims log count notes worker node are within =
     }
 
 -- ---- a commit
--- an item of a list with some of one kind behind it
-get_blanks_cases : {A : Type 0} (xs : List A) (j : ℕ) (y z : A) (k : ℕ) → slice_get (xs ++ replicate j y) k ≡ Some z
-    → (slice_get xs k ≡ Some z) ⊎ ((length xs ≤ k) × (y ≡ z))
-get_blanks_cases [] zero y z k e = absurd (cc)
-get_blanks_cases [] (suc j) y z zero e = inr (omega arith, cc)
-get_blanks_cases {A} [] (suc j) y z (suc k) e = ⊎_elim
-    (λ (l : slice_get {X = A} [] k ≡ Some z). absurd (cc))
-    (λ (r : (0 ≤ k) × (y ≡ z)). inr (omega arith, r.1))
-    (get_blanks_cases [] j y z k e)
-get_blanks_cases (x ∷ xs) j y z zero e = inl e
-get_blanks_cases (x ∷ xs) j y z (suc k) e = ⊎_elim
-    (λ (l : slice_get xs k ≡ Some z). inl l)
-    (λ (r : (length xs ≤ k) × (y ≡ z)). inr (omega arith, r.1))
-    (get_blanks_cases xs j y z k e)
-
 -- the notes after an entry at a table of this scale, the end of the claim, and so many nodes more
 abbrev pub notes_after : List Note → ℕ → ℕ → ℤ → ℕ → List Note
 notes_after notes node table scale added =
@@ -148,3 +247,112 @@ notes_committed nodes claims log notes claim holder entry scale added placed apa
           subst (IsNoteOf (set claims claim None) (log ++ entry ∷ []) k) r.1 blank)
           (get_blanks_cases last added no_note note k e);
     }
+
+-- ---- What was put at the end of a list of a note or of a desk, and taken off again.
+-- an item that was changed, and changed back
+put_back : {A : Type 0} (items middle last : List A) (none : A) (i : ℕ) (more less : A → A) → i < length items
+    → middle ≡ slice_set items i (more (slice_index_or items i none)) → last ≡ slice_set middle i (less (slice_index_or middle i none))
+    → less (more (slice_index_or items i none)) ≡ slice_index_or items i none → last ≡ items
+put_back items middle last none i more less within added kept back =
+    let changed = more (slice_index_or items i none) in
+    kept
+    ∙ ap (λ now. slice_set now i (less (slice_index_or now i none))) added
+    ∙ set-set items i changed (less (slice_index_or (slice_set items i changed) i none))
+    ∙ ap (slice_set items i) (ap less (get_or-set_same items i changed none within) ∙ back)
+    ∙ set-get_or items i none
+
+pub note_put_back : (notes middle last : List Note) (node table count : ℕ) → node < length notes
+    → middle ≡ with_note notes node (λ note. record note { tables = note.tables ++ table ∷ [] })
+    → last ≡ with_note middle node (λ note. record note { tables = take count note.tables })
+    → count ≡ length (note_in notes node).tables → last ≡ notes
+note_put_back notes middle last node table count within added kept is =
+    let was = note_in notes node in
+    put_back notes middle last no_note node (λ note. record note { tables = note.tables ++ table ∷ [] })
+    (λ note. record note { tables = take count note.tables }) within added kept
+    (ap (λ tables. record was { tables = tables }) (take_at was.tables (table ∷ []) count (sym is)))
+
+pub desk_put_back : (desks middle last : List Desk) (worker : ℕ) (tickets : List ℕ) (count : ℕ) → worker < length desks
+    → middle ≡ with_desk desks worker (λ desk. with_tickets desk tickets)
+    → last ≡ with_desk middle worker (λ desk. record desk { hand = take count desk.hand })
+    → count ≡ length (desk_in desks worker).hand → last ≡ desks
+desk_put_back desks middle last worker tickets count within added kept is =
+    let was = desk_in desks worker in
+    put_back desks middle last no_desk worker (λ desk. with_tickets desk tickets)
+    (λ desk. record desk { hand = take count desk.hand }) within added kept (ap (λ hand. record was { hand = hand }) (take_at was.hand tickets count (sym is)))
+
+-- ---- Which nodes are open, by the notes.
+-- the note of a node
+pub kept_note : (a : Inside) (node : ℕ) → IsKept a → node < node_count a.tree.nodes
+    → IsNoteOf a.claims.items a.log node (note_in a.notes.items node)
+kept_note a node kept within =
+    kept.notes.each node (note_in a.notes.items node)
+    (slice_get-get_or a.notes.items node no_note (omega (arith, kept.notes.length)))
+
+pub free_is_open : (a : Inside) (node : ℕ) → IsKept a → IsFreeLeaf a.tree a.notes.items node → IsOpen (view_of a) node
+free_is_open a node kept free = record {
+  live = free.live;
+  unheld = (kept_note a node kept (open_numbered a.tree.nodes node kept.orderly.placed free.live)).unheld free.unheld;
+}
+
+pub open_is_free : (a : Inside) (node : ℕ) → IsKept a → IsOpen (view_of a) node → IsFreeLeaf a.tree a.notes.items node
+open_is_free a node kept is =
+    let note = kept_note a node kept (open_numbered a.tree.nodes node kept.orderly.placed is.live) in
+    record {
+      live = is.live;
+      unheld = ⊎_elim
+          (λ (e : (note_in a.notes.items node).held ≡ true). absurd (is.unheld (note.held e)))
+          (λ (e : (note_in a.notes.items node).held ≡ false). e)
+          (cases_Bool (note_in a.notes.items node).held);
+    }
+
+-- a node that has no note has no entry
+pub unnoted : (a : Inside) (node : ℕ) → IsKept a → length a.notes.items ≤ node → entries_of a.log node ≡ []
+unnoted a node kept past =
+    no_entries a.log (node_count a.tree.nodes) node kept.orderly.entries (omega (arith, kept.notes.length))
+
+-- ---- The start is orderly.
+first_tickets : (workers : ℕ) → IsEachTicketOnce (first_desk ∷ replicate workers no_desk) 1
+first_tickets workers node =
+    let all = sum_by-cons (λ (desk : Desk). times_at desk node) first_desk (replicate workers no_desk) in
+    let others = sum_by-replicate (λ (desk : Desk). times_at desk node) workers no_desk in
+    let none : workers * 0 ≡ 0 = grind arith in
+    let one : one_if (0 == node) ≡ one_if (nat_lt node 1) = grind (arith, nat_tests) in
+    omega (arith, all, others, none, one)
+
+pub orderly_start : (units periods workers budget gap : ℕ) (table : Table) (value : ℤ) → budget ≤ MAX_BUDGET → gap ≤ WHOLE_GAP
+    → IsOrderly (start_of units periods workers budget gap table value)
+orderly_start units periods workers budget gap table value most whole = record {
+  placed = root_placed (leaf.Live 0 value);
+  cover = λ instance size. tt;
+  holders = record { live = λ claim holder e. absurd (cc); once = λ one other holder second e f same. absurd (cc) };
+  entries = All-nil (λ (entry : Entry). entry.node < 1);
+  tickets = first_tickets (workers - 1);
+  amounts = record {
+    claims = omega arith;
+    tables = omega arith;
+    nodes = omega arith;
+    room = refl;
+    budget = most;
+    gap = whole;
+  };
+}
+
+pub start_notes : AreNotesOf [] [] 1 (no_note ∷ [])
+start_notes = record { length = refl; each = each }
+  where
+    blank : IsNoteOf [] [] 0 no_note
+    blank = record { held = λ e. absurd (cc); unheld = λ e held. none held; tables = refl }
+      where
+        none : (held : IsHeldIn [] 0) → ⊥
+        none held = let e = held.holds in cc
+
+    each : (node : ℕ) (note : Note) → slice_get (no_note ∷ []) node ≡ Some note → IsNoteOf [] [] node note
+    each zero note e = let same : no_note ≡ note = cc in subst (IsNoteOf [] [] 0) same blank
+    each (suc node) note e = absurd (cc)
+
+pub start_notes_are : (claims : List (Option Holder)) (log : List Entry) (count : ℕ) (notes : List Note) → claims ≡ [] → log ≡ [] → count ≡ 1
+    → notes ≡ no_note ∷ [] → AreNotesOf claims log count notes
+start_notes_are claims log count notes claims_is log_is count_is notes_is =
+    subst (λ cs. AreNotesOf cs log count notes) (sym claims_is)
+    (subst (λ l. AreNotesOf [] l count notes) (sym log_is)
+    (subst (λ n. AreNotesOf [] [] n notes) (sym count_is) (subst (AreNotesOf [] [] 1) (sym notes_is) start_notes)))

@@ -1,18 +1,19 @@
--- Every legal event keeps the state orderly.
-use Rattle.std.proofs.Common.{◌≡◌, ℕ, ◌+◌, ◌-◌, ◌<◌, ◌≤◌, All, List, [], ◌∷◌, ◌++◌, length, set, refl, ap, sym, ◌∙◌, subst, arith, Option, Some, None, ℤ, length-append, length-set}
+-- Every legal event keeps the state orderly, and the fields as they must be.
+use Rattle.std.proofs.Common.{◌≡◌, ℕ, ◌+◌, ◌-◌, ◌<◌, ◌≤◌, All, List, [], ◌∷◌, ◌++◌, length, set, refl, ap, sym, ◌∙◌, subst, arith, Option, Some, None, ℤ, length-append, length-set, replicate, false}
 use Rattle.std.proofs.lemmas.List.Elements.{All-nil, All-cons, All-append}
 use Rattle.std.proofs.lemmas.Option.{slice_get_within}
 use Rattle.branch_tree.specs.NumberedTree.{node_count}
 use Rattle.branch_tree.specs.TreeView.{TreeView, IsOpenAt}
 use Rattle.branch_tree.specs.StoredTree.{lesser_bound}
 use Rattle.branch_tree.proofs.Grown.{open_numbered}
-use Rattle.search_core.specs.Machine.{Entry, Table, Holder, Desk, Machine, holder_of, IsWorker, desk_in}
-use Rattle.search_core.specs.Moves.{Again, Outcome, Split, Move, kept, tree_after, tickets_of, IsFreeFor, IsMoveLegal}
-use Rattle.search_core.specs.Steps.{Claim, Commit, Look, Pop, Publish, Push, Steal, Event, IsLegal, committed, committed_by, after, with_desk, with_tickets}
+use Rattle.search_core.specs.Machine.{Entry, Table, Holder, Desk, Machine, holder_of, IsWorker, desk_in, Stored, IsHolding}
+use Rattle.search_core.specs.Moves.{Again, Outcome, Split, Move, kept, tree_after, tickets_of, IsFreeFor, IsMoveLegal, children_by}
+use Rattle.search_core.specs.Steps.{Claim, Commit, Look, Pop, Publish, Push, Steal, Event, IsLegal, committed, committed_by, after, with_desk, with_tickets, IsCommittable}
 use Rattle.search_core.specs.Orderly.{IsOrderly, AreHoldersApart, IsEachTicketOnce, held_count, times_at}
-use Rattle.search_core.proofs.Claims.{holder_place, held_push, held_ended, holders_push, holders_ended}
-use Rattle.search_core.proofs.Tickets.{times_kept, tickets_queued, tickets_taken, tickets_more, tickets_same}
+use Rattle.search_core.specs.Notes.{AreNotesOf, AreScalesNoted, Note, no_note, with_note, with_entry, Inside, view_of, IsKept}
+use Rattle.search_core.proofs.Claims.{holder_place, held_push, held_ended, holders_push, holders_ended, times_kept, tickets_queued, tickets_taken, tickets_more, tickets_same, holdable}
 use Rattle.search_core.proofs.Growth.{IsSound, tree_grows}
+use Rattle.search_core.proofs.NoteSteps.{notes_after, notes_committed}
 
 -- only the desks, and what was published, changed
 desks_changed : (m : Machine) (best : Option ℤ) (desks : List Desk) → IsOrderly m → IsEachTicketOnce desks (node_count m.tree.nodes)
@@ -23,14 +24,7 @@ desks_changed m best desks orderly once = record {
   holders = orderly.holders;
   entries = orderly.entries;
   tickets = once;
-  amounts = record {
-    claims = orderly.amounts.claims;
-    tables = orderly.amounts.tables;
-    nodes = orderly.amounts.nodes;
-    room = orderly.amounts.room;
-    budget = orderly.amounts.budget;
-    gap = orderly.amounts.gap;
-  };
+  amounts = orderly.amounts;
 }
 
 -- a change of a desk that keeps its tickets
@@ -152,3 +146,98 @@ orderly_after m (Pop worker) orderly legal =
     desks_changed m m.best _ orderly (tickets_taken m.desks (node_count m.tree.nodes) worker worker orderly.tickets legal.0 legal.0 legal.1)
 orderly_after m (Steal worker victim) orderly legal =
     desks_changed m m.best _ orderly (tickets_taken m.desks (node_count m.tree.nodes) worker victim orderly.tickets legal.0 legal.1 legal.2)
+
+-- ---- The fields after a step keep what they must, where the notes do.
+-- ---- no step changes the size of the tree
+pub record IsAsLarge (new old : TreeView) : Type 0 where
+  pub units : new.units ≡ old.units
+  pub periods : new.periods ≡ old.periods
+
+tree_as_large : (tree : TreeView) (node : ℕ) (stored : Stored) (number : ℕ) (outcome : Outcome) (action : Move)
+    → IsAsLarge (tree_after tree node stored number outcome action) tree
+tree_as_large tree node stored number outcome Again = record { units = refl; periods = refl }
+tree_as_large tree node stored number outcome _ = record { units = refl; periods = refl }
+
+committed_as_large : (m : Machine) (worker unit : ℕ) (table : Table) (outcome : Outcome) (action : Move) (holder : Option Holder)
+    → IsAsLarge (committed_by m worker unit table outcome action holder).tree m.tree
+committed_as_large m worker unit table outcome action None = record { units = refl; periods = refl }
+committed_as_large m worker unit table outcome action (Some holder) =
+    tree_as_large m.tree holder.node (kept m holder.node table outcome) _ outcome action
+
+pub as_large_after : (m : Machine) (event : Event) → IsAsLarge (after m event).tree m.tree
+as_large_after m (Commit worker unit table outcome action) =
+    committed_as_large m worker unit table outcome action (holder_of m unit)
+as_large_after m _ = record { units = refl; periods = refl }
+
+-- ---- the fields
+pub kept_by : (a b : Inside) (m : Machine) (event : Event) → view_of a ≡ m → IsKept a → IsLegal m event
+    → view_of b ≡ after (view_of a) event → b.units ≡ a.units → b.periods ≡ a.periods
+    → AreNotesOf b.claims.items b.log (node_count b.tree.nodes) b.notes.items → AreScalesNoted b.tables b.notes.items → IsKept b
+kept_by a b m event seen kept legal view units periods notes scales =
+    let large = as_large_after (view_of a) event in
+    record {
+      orderly = subst IsOrderly (sym view)
+          (orderly_after (view_of a) event kept.orderly (subst (λ (x : Machine). IsLegal x event) (sym seen) legal));
+      notes = notes;
+      scales = scales;
+      units = units ∙ (kept.units ∙ (sym large.units ∙ sym (ap (λ (x : Machine). x.tree.units) view)));
+      periods = periods ∙ (kept.periods ∙ (sym large.periods ∙ sym (ap (λ (x : Machine). x.tree.periods) view)));
+    }
+
+-- the same, by the state that the fields stood for
+pub kept_to : (a b : Inside) (m : Machine) (event : Event) → view_of a ≡ m → IsKept a → IsLegal m event
+    → view_of b ≡ after m event → b.units ≡ a.units → b.periods ≡ a.periods
+    → AreNotesOf b.claims.items b.log (node_count b.tree.nodes) b.notes.items → AreScalesNoted b.tables b.notes.items → IsKept b
+kept_to a b m event seen kept legal view units periods notes scales =
+    kept_by a b m event seen kept legal (view ∙ sym (ap (λ (x : Machine). after x event) seen)) units periods notes scales
+
+-- ---- What the fields are after a commit.
+-- a move adds as many nodes, whichever numbers they have
+same_count : (a b c d : ℕ) (action : Move) → length (children_by (a ∷ b ∷ []) action) ≡ length (children_by (c ∷ d ∷ []) action)
+same_count a b c d Again = refl
+same_count a b c d _ = refl
+
+-- of the node that is held a split is free
+pub free_of_commit : (m : Machine) (worker unit node : ℕ) (table : Table) (outcome : Outcome) (action : Move) → IsHolding m worker unit node
+    → IsCommittable m worker unit table outcome action → IsFreeFor m.tree node action
+free_of_commit m worker unit node table outcome action holding legal =
+    let both : Some (record { worker = worker; node = legal.node }) ≡ Some (record { worker = worker; node = node }) = sym legal.holds ∙ holding in
+    let one : record { worker = worker; node = legal.node } ≡ record { worker = worker; node = node } = cc in
+    subst (λ n. IsFreeFor m.tree n action) (ap (λ (h : Holder). h.node) one)
+    (free_for m worker legal.node table outcome action legal.legal)
+
+pub commit_count : (m : Machine) (worker unit node : ℕ) (table : Table) (outcome : Outcome) (action : Move) (stored : Stored)
+    (number a b : ℕ) (new : TreeView) (children : List ℕ) → IsOrderly m → IsHolding m worker unit node
+    → IsCommittable m worker unit table outcome action
+    → new ≡ tree_after m.tree node stored number outcome action → children ≡ children_by (a ∷ b ∷ []) action
+    → node_count new.nodes ≡ node_count m.tree.nodes + length children
+commit_count m worker unit node table outcome action stored number a b new children orderly holding legal is added =
+    let held = holdable m worker unit node orderly holding in
+    let grows = tree_grows m.tree node stored number outcome action (sound_of m orderly) held.live
+    (free_of_commit m worker unit node table outcome action holding legal) in
+    ap (λ (t : TreeView). node_count t.nodes) is
+    ∙ (grows.count ∙ ap (λ n. node_count m.tree.nodes + n) (same_count _ _ a b action ∙ ap length (sym added)))
+
+-- the notes, known by equations alone
+pub commit_notes : (m : Machine) (worker unit node : ℕ) (entry : Entry) (notes recorded freed new : List Note) (added count : ℕ)
+    (scale : ℤ) (claims : List (Option Holder)) (log : List Entry) → IsOrderly m → IsHolding m worker unit node
+    → AreNotesOf m.claims m.log (node_count m.tree.nodes) notes → entry.node ≡ node
+    → claims ≡ set m.claims (unit - 1) None → log ≡ m.log ++ entry ∷ [] → count ≡ node_count m.tree.nodes + added
+    → recorded ≡ with_note notes node (λ note. with_entry note entry.table scale)
+    → freed ≡ with_note recorded node (λ note. record note { held = false }) → new ≡ freed ++ replicate added no_note
+    → AreNotesOf claims log count new
+commit_notes m worker unit node entry notes recorded freed new added count scale claims log orderly holding are own claims_is log_is count_is recorded_is freed_is new_is =
+    let held = holdable m worker unit node orderly holding in
+    let holder : Holder = record { worker = worker; node = node } in
+    let place : unit - 1 ≡ held.claim = omega (arith, held.unit_is) in
+    let made = notes_committed m.tree.nodes m.claims m.log notes held.claim holder entry scale added orderly.placed orderly.holders orderly.entries
+    are held.holds own in
+    let all : new ≡ notes_after notes node entry.table scale added =
+    new_is
+    ∙ ap (λ ns. ns ++ replicate added no_note)
+    (freed_is
+    ∙ ap (λ ns. with_note ns node (λ note. record note { held = false })) recorded_is) in
+    subst (λ cs. AreNotesOf cs log count new) (sym (claims_is ∙ ap (λ i. set m.claims i None) place))
+    (subst (λ l. AreNotesOf (set m.claims held.claim None) l count new) (sym log_is)
+    (subst (λ n. AreNotesOf (set m.claims held.claim None) (m.log ++ entry ∷ []) n new) (sym count_is)
+    (subst (AreNotesOf (set m.claims held.claim None) (m.log ++ entry ∷ []) (node_count m.tree.nodes + added)) (sym all) made)))

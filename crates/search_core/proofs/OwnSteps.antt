@@ -1,28 +1,252 @@
--- What each node stores is what its entries leave again, after the commit of one more.
-use Rattle.std.proofs.Common.{◌≡◌, ◌≢◌, ℕ, suc, ◌<◌, ◌≤◌, Bool, true, false, ℤ, All, List, [], ◌∷◌, ◌++◌, length, refl, ap, sym, ◌∙◌, subst, arith, Some, ◌==◌, slice_get}
-use Rattle.std.proofs.lemmas.List.{get_or_append_left, get_or_push}
-use Rattle.std.proofs.lemmas.List.Elements.{All-filter}
+-- What each node stores by its own entries, after an entry more and the move of its claim.
+use Rattle.std.proofs.Common.{◌≡◌, ◌≢◌, ℕ, ◌<◌, true, false, cond, List, length, ap, sym, ◌∙◌, subst, arith, ⊎_elim, Some, eq-eqb, [], ◌∷◌, ◌++◌, All, refl, ℤ, pos, fold, int_lt, ◌&&◌, suc, ◌≤◌, get_or, set, Option, None, append-nil, ◌==◌, slice_get, AllPairs, Bool}
+use Rattle.std.proofs.lemmas.Bool.{cases_Bool, cases_eq, cases_lt, ne_eqb}
+use Rattle.std.proofs.lemmas.List.{get_or_append_left, get_or_push, length-append}
+use Rattle.std.proofs.lemmas.List.Elements.{All-head, All-tail, All-nil, All-cons, filter-append, All-filter}
+use Rattle.std.proofs.lemmas.List.Sums.{fold-append}
 use Rattle.std.proofs.lemmas.Option.{get_or_from_slice_get}
-use Rattle.dual_model.specs.Tree.{root, child}
+use Rattle.dual_model.specs.Tree.{child, root}
+use Rattle.branch_tree.specs.NumberedTree.{NumberedTree, EndAt, SplitAt, Subtree, spot_of, times, subtree_below, replaced, node_count, split_leaf}
+use Rattle.branch_tree.specs.declared.tree.Spot.TheVariants as spot
 use Rattle.branch_tree.specs.Claims.{no_table, table_at}
-use Rattle.branch_tree.specs.NumberedTree.{EndAt, node_count, split_leaf}
+use Rattle.branch_tree.specs.declared.found.Outcome.TheVariants as outcome
 use Rattle.branch_tree.specs.TreeView.{TreeView, IsOpenAt}
 use Rattle.branch_tree.specs.declared.tree.Leaf.TheVariants as leaf
+use Rattle.branch_tree.proofs.Subtrees.{one_if, replaced_nowhere, same_or_not, AreApart, IsOff, IsOn, apart_off, apart_on, leaf_at, leaf_sides, not_root, part_counted}
+use Rattle.branch_tree.proofs.Changes.{get-append, get-set_other, get-set_same, are_apart}
 use Rattle.branch_tree.proofs.Grown.{closed_count, open_numbered}
-use Rattle.branch_tree.proofs.Placed.{are_apart}
-use Rattle.search_core.specs.Machine.{Entry, Leaf, Table, Machine, Stored, entries_of, stored_at, spot_stored}
-use Rattle.search_core.specs.Moves.{Again, Empty, Outcome, Prune, Ray, Split, Move, HasFreeCell, kept, kept_after, closed, split, tree_after, unit_of}
-use Rattle.search_core.specs.OwnTables.{Node, HasFreeCellAt, StartsAt, HoldsStored, OwnsBelow, Owns, stored_after, stored_by}
+use Rattle.search_core.specs.Machine.{Entry, Leaf, Table, Stored, entries_of, Holder, holder_in, Machine, stored_at, spot_stored}
+use Rattle.search_core.specs.OwnTables.{Node, HasFreeCellAt, StartsAt, HoldsStored, OwnsBelow, stored_after, stored_by, Owns}
+use Rattle.search_core.specs.Moves.{Outcome, bound_of, kept_after, Again, Empty, Prune, Ray, Split, Move, HasFreeCell, kept, closed, split, tree_after, unit_of}
 use Rattle.search_core.specs.Orderly.{IsOrderly}
 use Rattle.search_core.specs.Steps.{IsStoredTable}
-use Rattle.search_core.proofs.Growth.{IsSound, closed_grows, open_again}
-use Rattle.search_core.proofs.Leaves.{IsLeafPart, leaf_part, part_node}
-use Rattle.search_core.proofs.LogEntries.{entries_own, entries_same}
+use Rattle.search_core.proofs.Claims.{holder_place}
+use Rattle.search_core.proofs.Growth.{IsSound, closed_grows, open_again, IsLeafPart, leaf_part, part_node}
 use Rattle.search_core.proofs.NoteSteps.{no_entries}
 use Rattle.search_core.proofs.OrderlySteps.{sound_of, entries_more}
-use Rattle.search_core.proofs.OwnTables.{AreAlike, own_replaced}
-use Rattle.search_core.proofs.StoredTables.{IsTableWithin, more_tables, one_more, more_start, stored_within}
 
+-- ---- other lists of tables and entries
+-- but for one node, the entries are those of before, and leave the same
+pub record AreAlike (tables more : List Table) (log later : List Entry) (wanted : ℕ) : Type 0 where
+  pub entries : (number : ℕ) → number ≢ wanted → entries_of later number ≡ entries_of log number
+  pub starts : (number : ℕ) (stored : Stored) → stored.table < length tables → StartsAt tables stored (entries_of log number)
+      → StartsAt more stored (entries_of log number)
+  pub stores : (number : ℕ) (stored : Stored) → stored_after more stored (entries_of log number) ≡ stored_after tables stored (entries_of log number)
+  pub within : (number : ℕ) (stored : Stored) → stored.table < length tables → (stored_after tables stored (entries_of log number)).table < length tables
+
+-- what a node is by itself
+start_same : (units periods : ℕ) (tables more : List Table) (log later : List Entry) (wanted : ℕ) (here : Node) (inherited : Stored) (number : ℕ)
+    → AreAlike tables more log later wanted → number ≢ wanted → inherited.table < length tables
+    → (number ≢ 0 → HasFreeCellAt units periods here → StartsAt tables inherited (entries_of log number))
+    → number ≢ 0 → HasFreeCellAt units periods here → StartsAt more inherited (entries_of later number)
+start_same units periods tables more log later wanted here inherited number like differ there starts nonzero free =
+    subst (StartsAt more inherited) (sym (like.entries number differ)) (like.starts number inherited there (starts nonzero free))
+
+stores_same : (tables more : List Table) (log later : List Entry) (wanted : ℕ) (inherited : Stored) (number : ℕ)
+    → AreAlike tables more log later wanted → number ≢ wanted
+    → stored_after more inherited (entries_of later number) ≡ stored_after tables inherited (entries_of log number)
+stores_same tables more log later wanted inherited number like differ =
+    ap (stored_after more inherited) (like.entries number differ) ∙ like.stores number inherited
+
+-- a tree without that node
+own_same : (units periods : ℕ) (tables more : List Table) (log later : List Entry) (wanted : ℕ) (here : Node) (inherited : Stored) (tree : NumberedTree)
+    → AreAlike tables more log later wanted → times wanted tree ≡ 0 → inherited.table < length tables
+    → OwnsBelow units periods tables log here inherited tree → OwnsBelow units periods more later here inherited tree
+own_same units periods tables more log later wanted here inherited (EndAt number l) like none there own =
+    let differ : number ≢ wanted = λ e. omega (arith, none, ap one_if (eq-eqb number wanted e)) in (
+      start_same units periods tables more log later wanted here inherited number like differ there own.0,
+      subst (λ s. HoldsStored s l) (sym (stores_same tables more log later wanted inherited number like differ)) own.1,
+    )
+own_same units periods tables more log later wanted here inherited (SplitAt number g t off on) like none there own =
+    let differ : number ≢ wanted = λ e. omega (arith, none, ap one_if (eq-eqb number wanted e)) in
+    let stored = stored_after tables inherited (entries_of log number) in
+    let same = sym (stores_same tables more log later wanted inherited number like differ) in
+    let within = like.within number inherited there in (
+      start_same units periods tables more log later wanted here inherited number like differ there own.0,
+      subst (λ s. OwnsBelow units periods more later (child here g t false) s off) same
+          (own_same units periods tables more log later wanted (child here g t false) stored off like (omega (arith, none)) within own.1),
+      subst (λ s. OwnsBelow units periods more later (child here g t true) s on) same
+          (own_same units periods tables more log later wanted (child here g t true) stored on like (omega (arith, none)) within own.2),
+    )
+
+-- ---- a tree with that node, a leaf, whose place something else takes
+pub own_replaced : (units periods : ℕ) (tables more : List Table) (log later : List Entry) (wanted : ℕ) (grow : Leaf → NumberedTree)
+    (part : Subtree) (old : Leaf) → AreAlike tables more log later wanted → spot_of part.tree ≡ spot.Leaf old
+    → ((stored : Stored) → stored.table < length tables → OwnsBelow units periods tables log part.node stored (EndAt wanted old)
+    → OwnsBelow units periods more later part.node stored (grow old))
+    → (here : Node) (inherited : Stored) (tree : NumberedTree) → AreApart tree → subtree_below here tree wanted ≡ Some part
+    → inherited.table < length tables → OwnsBelow units periods tables log here inherited tree
+    → OwnsBelow units periods more later here inherited (replaced wanted grow tree)
+own_replaced units periods tables more log later wanted grow part old like is grown here inherited (EndAt number l) apart e there own =
+    let at = leaf_at here number l old wanted part e is in
+    let was : OwnsBelow units periods tables log part.node inherited (EndAt wanted old) =
+    subst (λ n. OwnsBelow units periods tables log n inherited (EndAt wanted old)) (sym at.node)
+    (subst (λ x. OwnsBelow units periods tables log here inherited (EndAt wanted x)) at.same
+    (subst (λ n. OwnsBelow units periods tables log here inherited (EndAt n l)) at.number_is own)) in
+    subst (λ b. OwnsBelow units periods more later here inherited (cond b (grow l) (EndAt number l))) (sym at.test)
+    (subst (λ x. OwnsBelow units periods more later here inherited (grow x)) (sym at.same)
+    (subst (λ n. OwnsBelow units periods more later n inherited (grow old)) at.node (grown inherited there was)))
+own_replaced units periods tables more log later wanted grow part old like is grown here inherited (SplitAt number g t off on) apart e there own =
+    let left = child here g t false in
+    let right = child here g t true in
+    let stored = stored_after tables inherited (entries_of log number) in
+    let within = like.within number inherited there in
+    ⊎_elim
+    (λ (l : IsOff here g t off on wanted part).
+    let some = part_counted left off wanted part l.0 in
+    let differ = not_root number g t off on wanted apart (omega arith) in
+    let same = sym (stores_same tables more log later wanted inherited number like differ) in (
+      start_same units periods tables more log later wanted here inherited number like differ there own.0,
+      subst (λ s. OwnsBelow units periods more later left s (replaced wanted grow off)) same
+          (own_replaced units periods tables more log later wanted grow part old like is grown left stored off
+          (apart_off number g t off on apart) l.0 within own.1),
+      subst (λ tree. OwnsBelow units periods more later right (stored_after more inherited (entries_of later number)) tree)
+          (sym (replaced_nowhere wanted grow on l.1))
+          (subst (λ s. OwnsBelow units periods more later right s on) same
+          (own_same units periods tables more log later wanted right stored on like l.1 within own.2)),
+    ))
+    (λ (r : IsOn here g t off on wanted part).
+    let some = part_counted right on wanted part r.0 in
+    let differ = not_root number g t off on wanted apart (omega arith) in
+    let same = sym (stores_same tables more log later wanted inherited number like differ) in (
+      start_same units periods tables more log later wanted here inherited number like differ there own.0,
+      subst (λ tree. OwnsBelow units periods more later left (stored_after more inherited (entries_of later number)) tree)
+          (sym (replaced_nowhere wanted grow off r.1))
+          (subst (λ s. OwnsBelow units periods more later left s off) same
+          (own_same units periods tables more log later wanted left stored off like r.1 within own.1)),
+      subst (λ s. OwnsBelow units periods more later right s (replaced wanted grow on)) same
+          (own_replaced units periods tables more log later wanted grow part old like is grown right stored on
+          (apart_on number g t off on apart) r.0 within own.2),
+    ))
+    (leaf_sides here number g t off on wanted part old apart e is)
+
+-- ---- What entries leave of what is stored, when the tables are those of before and some more, and after one entry more.
+-- the entry's table is one of the first n
+abbrev pub IsTableWithin : ℕ → Entry → Type 0
+IsTableWithin n entry = entry.table < n
+
+-- more tables change nothing of entries at those of before
+pub more_tables : (tables more : List Table) (stored : Stored) (log : List Entry) → All (IsTableWithin (length tables)) log
+    → stored_after (tables ++ more) stored log ≡ stored_after tables stored log
+more_tables tables more stored [] within = refl
+more_tables tables more stored (entry ∷ log) within =
+    let same : table_at (tables ++ more) entry.table ≡ table_at tables entry.table =
+    get_or_append_left tables more no_table entry.table (All-head (IsTableWithin (length tables)) entry log within) in
+    ap (λ (table : Table). fold (stored_by (tables ++ more)) (kept_after stored entry.table table.k entry.outcome) log) same
+    ∙ more_tables tables more (stored_by tables stored entry) log (All-tail (IsTableWithin (length tables)) entry log within)
+
+-- one entry more
+pub one_more : (tables : List Table) (stored : Stored) (log : List Entry) (entry : Entry)
+    → stored_after tables stored (log ++ entry ∷ []) ≡ stored_by tables (stored_after tables stored log) entry
+one_more tables stored log entry = fold-append (stored_by tables) stored log (entry ∷ [])
+
+-- nor of where the first entry is
+pub more_start : (tables more : List Table) (stored : Stored) (log : List Entry) → stored.table < length tables
+    → All (IsTableWithin (length tables)) log → StartsAt tables stored log → StartsAt (tables ++ more) stored log
+more_start tables more stored [] there within starts = tt
+more_start tables more stored (entry ∷ log) there within starts =
+    get_or_append_left tables more no_table entry.table (All-head (IsTableWithin (length tables)) entry log within)
+    ∙ (starts ∙ sym (get_or_append_left tables more no_table stored.table there))
+
+-- what is stored then is at one of the tables
+pub kept_within : (count : ℕ) (old : Stored) (number : ℕ) (k : ℤ) (result : Outcome) → old.table < count → number < count
+    → (kept_after old number k result).table < count
+kept_within count old number k (outcome.Value v) there within = ⊎_elim
+    (λ (e : (int_lt (pos 0) k && int_lt old.value (bound_of v k)) ≡ true).
+    subst (λ b. (cond b (record { table = number; value = bound_of v k }) old).table < count) (sym e) within)
+    (λ (e : (int_lt (pos 0) k && int_lt old.value (bound_of v k)) ≡ false).
+    subst (λ b. (cond b (record { table = number; value = bound_of v k }) old).table < count) (sym e) there)
+    (cases_Bool (int_lt (pos 0) k && int_lt old.value (bound_of v k)))
+kept_within count old number k (outcome.Empty g) there within = there
+
+pub stored_within : (tables : List Table) (count : ℕ) (stored : Stored) (log : List Entry) → stored.table < count → All (IsTableWithin count) log
+    → (stored_after tables stored log).table < count
+stored_within tables count stored [] there within = there
+stored_within tables count stored (entry ∷ log) there within =
+    stored_within tables count (stored_by tables stored entry) log
+    (kept_within count stored entry.table (table_at tables entry.table).k entry.outcome there (All-head (IsTableWithin count) entry log within))
+    (All-tail (IsTableWithin count) entry log within)
+
+-- ---- The entries of a log with one more: those of each node, the pairs, and the claims that ended.
+-- ---- those of a node
+parts : (log : List Entry) (entry : Entry) (node : ℕ)
+    → entries_of (log ++ entry ∷ []) node ≡ entries_of log node ++ cond (entry.node == node) (entry ∷ []) []
+parts log entry node = filter-append (λ (e : Entry). e.node == node) log (entry ∷ [])
+
+pub entries_own : (log : List Entry) (entry : Entry) (node : ℕ) → entry.node ≡ node
+    → entries_of (log ++ entry ∷ []) node ≡ entries_of log node ++ entry ∷ []
+entries_own log entry node is =
+    parts log entry node ∙ ap (λ b. entries_of log node ++ cond b (entry ∷ []) []) (eq-eqb entry.node node is)
+
+pub entries_same : (log : List Entry) (entry : Entry) (node : ℕ) → node ≢ entry.node
+    → entries_of (log ++ entry ∷ []) node ≡ entries_of log node
+entries_same log entry node differ =
+    parts log entry node
+    ∙ ap (λ b. entries_of log node ++ cond b (entry ∷ []) []) (ne_eqb entry.node node (λ e. differ (sym e)))
+    ∙ append-nil (entries_of log node)
+
+-- what holds of the entries of a node holds of each entry of the log that is of it
+pub all_of_node : (P : Entry → Type 0) (log : List Entry) (node : ℕ) → All P (entries_of log node) → All (λ (e : Entry). e.node ≡ node → P e) log
+all_of_node P [] node each = All-nil (λ (e : Entry). e.node ≡ node → P e)
+all_of_node P (entry ∷ log) node each = ⊎_elim
+    (λ (h : (entry.node ≡ node) × ((entry.node == node) ≡ true)).
+    let own : All P (entry ∷ entries_of log node) =
+    subst (λ b. All P (cond b (entry ∷ entries_of log node) (entries_of log node))) h.1 each in
+    All-cons (λ (e : Entry). e.node ≡ node → P e) entry log (λ e. All-head P entry (entries_of log node) own)
+    (all_of_node P log node (All-tail P entry (entries_of log node) own)))
+    (λ (h : ((entry.node ≡ node) → ⊥) × ((entry.node == node) ≡ false)).
+    let own : All P (entries_of log node) =
+    subst (λ b. All P (cond b (entry ∷ entries_of log node) (entries_of log node))) h.1 each in
+    All-cons (λ (e : Entry). e.node ≡ node → P e) entry log (λ e. absurd (h.0 e)) (all_of_node P log node own))
+    (same_or_not entry.node node)
+
+-- ---- pairs
+-- what holds of two items holds of each pair of a list with one more
+pub pairs_push : {A : Type 0} (R : A → A → Type 0) (xs : List A) (y : A) → AllPairs R xs → All (λ x. R x y) xs → AllPairs R (xs ++ y ∷ [])
+pairs_push R xs y pairs own i j d before within =
+    let longer = length-append xs (y ∷ []) in
+    ⊎_elim
+    (λ (l : j < length xs).
+    subst (λ a. R a (get_or (xs ++ y ∷ []) j d)) (sym (get_or_append_left xs (y ∷ []) d i (omega arith)))
+    (subst (R (get_or xs i d)) (sym (get_or_append_left xs (y ∷ []) d j l)) (pairs i j d before l)))
+    (λ (l : length xs ≤ j).
+    let last : length xs ≡ j = omega arith in
+    subst (λ a. R a (get_or (xs ++ y ∷ []) j d)) (sym (get_or_append_left xs (y ∷ []) d i (omega arith)))
+    (subst (R (get_or xs i d)) (sym (get_or_push xs y d j last)) (own i d (omega arith))))
+    (cases_lt j (length xs))
+
+-- ---- claims that ended
+-- the claim of this unit ended
+pub record IsEnded (claims : List (Option Holder)) (unit : ℕ) : Type 0 where
+  pub claim : ℕ
+  pub unit_is : unit ≡ suc claim
+  pub ended : slice_get claims claim ≡ Some None
+
+pub ended_more : (claims : List (Option Holder)) (next : Option Holder) (unit : ℕ) → IsEnded claims unit → IsEnded (claims ++ next ∷ []) unit
+ended_more claims next unit is =
+    record { claim = is.claim; unit_is = is.unit_is; ended = get-append claims (next ∷ []) is.claim None is.ended }
+
+pub ended_still : (claims : List (Option Holder)) (place unit : ℕ) → IsEnded claims unit → IsEnded (set claims place None) unit
+ended_still claims place unit is = record {
+  claim = is.claim;
+  unit_is = is.unit_is;
+  ended = ⊎_elim
+      (λ (e : is.claim ≡ place).
+      subst (λ n. slice_get (set claims n None) is.claim ≡ Some None) e (get-set_same claims is.claim None None is.ended))
+      (λ (differ : is.claim ≡ place → ⊥). get-set_other claims place is.claim None None differ is.ended)
+      (cases_eq is.claim place);
+}
+
+-- and so it isn't one that is held
+pub ended_apart : (claims : List (Option Holder)) (unit held : ℕ) (holder : Holder) → IsEnded claims unit → holder_in claims held ≡ Some holder
+    → unit ≢ held
+ended_apart claims unit held holder is holds e =
+    let place = holder_place claims held holder holds in
+    let same : is.claim ≡ place.0 = omega (arith, is.unit_is, place.1, e) in
+    let both : Some None ≡ Some (Some holder) = sym is.ended ∙ (ap (slice_get claims) same ∙ place.2) in
+    cc
+
+-- ---- What each node stores is what its entries leave again, after the commit of one more.
 -- the entry of a commit
 abbrev pub entry_by : Machine → ℕ → ℕ → ℕ → Outcome → Entry
 entry_by m worker unit node result = record { unit = unit; worker = worker; node = node; table = length m.tables; outcome = result }

@@ -6,4 +6,3 @@ pub mod Orderly
 pub mod MachineCode
 pub mod OwnTables
 pub mod Runs
-pub mod Inside

@@ -5,8 +5,11 @@ pub use Rattle.dual_model.specs.declared.table.Table.{Table}
 use Rattle.branch_tree.specs.TreeView.{TreeView, IsOpenAt}
 use Rattle.branch_tree.specs.declared.tree.Leaf.TheVariants as leaf
 use Rattle.branch_tree.specs.declared.tree.Spot.TheVariants as spot
+use Rattle.branch_tree.specs.NumberedTree.{node_count}
 pub use Rattle.search_core.specs.declared.notes.Note.{Note}
-use Rattle.search_core.specs.Machine.{Entry, Spot, Holder, IsHeldIn, entries_of}
+use Rattle.search_core.specs.Machine.{Entry, Spot, Holder, IsHeldIn, entries_of, Machine}
+use Rattle.search_core.specs.Orderly.{IsOrderly}
+pub use Rattle.search_core.specs.declared.state.State.TheInside.{Inside}
 
 abbrev pub no_note : Note
 no_note = record { held = false; tables = []; greatest = pos 0 }
@@ -62,3 +65,23 @@ AreScalesAtMost tables note = All (IsScaleAtMost tables note.greatest) note.tabl
 
 abbrev pub AreScalesNoted : List Table → List Note → Type 0
 AreScalesNoted tables notes = All (AreScalesAtMost tables) notes
+
+-- ---- What contracts see of a state's fields, and what the fields keep.
+abbrev pub view_of : Inside → Machine
+view_of a = record {
+  budget = a.budget;
+  gap = a.gap;
+  tree = a.tree;
+  tables = a.tables;
+  claims = a.claims.items;
+  log = a.log;
+  best = a.best;
+  desks = a.desks.items;
+}
+
+pub record IsKept (a : Inside) : Type 0 where
+  pub orderly : IsOrderly (view_of a)
+  pub notes : AreNotesOf a.claims.items a.log (node_count a.tree.nodes) a.notes.items
+  pub scales : AreScalesNoted a.tables a.notes.items
+  pub units : a.units ≡ a.tree.units
+  pub periods : a.periods ≡ a.tree.periods

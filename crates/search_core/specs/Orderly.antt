@@ -5,10 +5,10 @@ pub use Rattle.uc_model.specs.declared.instance.Instance.{Instance}
 pub use Rattle.uc_model.specs.declared.tolerance.TheConstants.{WHOLE_GAP}
 use Rattle.dual_model.specs.Tree.{IsCover}
 use Rattle.branch_tree.specs.NumberedTree.{NumberedTree, node_count}
-use Rattle.branch_tree.specs.TreeView.{IsSizeOf, IsOpenAt, tree_of}
 use Rattle.branch_tree.specs.Places.{IsPlaced}
+use Rattle.branch_tree.specs.TreeView.{TreeView, IsSizeOf, IsOpenAt, tree_of}
 pub use Rattle.search_core.specs.declared.limits.TheConstants.{MAX_BUDGET}
-use Rattle.search_core.specs.Machine.{Holder, Desk, Machine, room_for}
+use Rattle.search_core.specs.Machine.{Table, Holder, Desk, Machine, room_for}
 
 -- how often the ticket of the node is in a hand or a queue
 abbrev pub times_at : Desk → ℕ → ℕ
@@ -32,13 +32,13 @@ abbrev pub held_count : List (Option Holder) → ℕ
 held_count claims = count_by is_some claims
 
 -- claims are within the budget; each that was committed added at most a table and two nodes
-pub record IsWithinBudget (m : Machine) : Type 0 where
-  pub claims : length m.claims ≤ m.budget
-  pub tables : length m.tables + held_count m.claims ≤ suc (length m.claims)
-  pub nodes : node_count m.tree.nodes + 2 * held_count m.claims ≤ suc (2 * length m.claims)
-  pub room : m.tree.room ≡ room_for m.budget
-  pub budget : m.budget ≤ MAX_BUDGET
-  pub gap : m.gap ≤ WHOLE_GAP
+pub record IsWithinBudget (taken : List (Option Holder)) (stored : List Table) (tree : TreeView) (most share : ℕ) : Type 0 where
+  pub claims : length taken ≤ most
+  pub tables : length stored + held_count taken ≤ suc (length taken)
+  pub nodes : node_count tree.nodes + 2 * held_count taken ≤ suc (2 * length taken)
+  pub room : tree.room ≡ room_for most
+  pub budget : most ≤ MAX_BUDGET
+  pub gap : share ≤ WHOLE_GAP
 
 pub record IsOrderly (m : Machine) : Type 0 where
   -- the tree is a cover of each instance of its size
@@ -48,4 +48,4 @@ pub record IsOrderly (m : Machine) : Type 0 where
   -- each entry is of a node of the tree
   pub entries : All (λ entry. entry.node < node_count m.tree.nodes) m.log
   pub tickets : IsEachTicketOnce m.desks (node_count m.tree.nodes)
-  pub amounts : IsWithinBudget m
+  pub amounts : IsWithinBudget m.claims m.tables m.tree m.budget m.gap

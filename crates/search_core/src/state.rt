@@ -37,7 +37,7 @@ impl Model for State {
 
     ghost coded = { machine_code };
 
-    ghost use Rattle.search_core.specs.Inside.{view_of, IsKept};
+    ghost use Rattle.search_core.specs.Notes.{view_of, IsKept};
 
     ghost view = { view_of };
 
@@ -194,7 +194,7 @@ impl State {
 
     /// Takes the step of one event, by which no worker comes or goes. `NotLegal` gives the event back, exactly where the machine has no case for it;
     /// after this, and after `NoMemory`, which is answered only where memory is refused, all is as before.
-    #[tactic(auto, using(crate::proofs::DeskCounts::desks_stay))]
+    #[tactic(auto, using(crate::proofs::Claims::desks_stay))]
     pub fn step(&mut self, alloc: Global, event: Event) -> Result<(), StepFault>
         ensures legal { OnOk result (IsLegal self.old event) }
         ensures taken { OnOk result (self.new ≡ after self.old event) }

@@ -12,7 +12,7 @@ use Rattle.outside.specs.ToldBytes.{Tells}
 use Rattle.outside.specs.Slots.{SlotState}
 use Rattle.cert_text.specs.CertificateText.{certificate_text, listing_of}
 use Rattle.cert_text.specs.TextConditions.{HasText}
-use Rattle.cert_text.specs.ReadFaults.{IsKindAt}
+use Rattle.cert_text.specs.Grammar.{IsKindAt}
 use Rattle.cert_text.specs.declared.cert.CertKind.{CertKind}
 use Rattle.cert_text.specs.declared.cert.CertKind.TheVariants as kinds
 use Rattle.cert_check.specs.Answers.{cost_of, is_none}

@@ -24,7 +24,7 @@ use Rattle.branch_tree.specs.TreeView.{IsOpenAt, IsWhole, tree_of}
 use Rattle.branch_tree.specs.declared.tree.Leaf.{Leaf}
 use Rattle.branch_tree.specs.declared.tree.Leaf.TheVariants as leaf
 use Rattle.branch_tree.proofs.Grown.{open_below}
-use Rattle.branch_tree.proofs.Placed.{from_some}
+use Rattle.branch_tree.proofs.Changes.{from_some}
 use Rattle.branch_tree.proofs.Subtrees.{IsHere, leaf_case, subtree_cases}
 use Rattle.search_core.specs.declared.event.Event.TheVariants.{Claim, Commit, Publish}
 use Rattle.search_core.specs.declared.holder.Holder.{Holder}
@@ -35,8 +35,8 @@ use Rattle.search_core.specs.Moves.{bound_of}
 use Rattle.search_core.specs.Steps.{IsLegal, IsStoredTable, after, committed, committed_by}
 use Rattle.search_core.specs.Runs.{HoldsAt, IsBestWithin, IsReached}
 use Rattle.search_core.proofs.Claims.{get_push_last}
-use Rattle.search_core.proofs.Leaves.{holds_of_leaf, leaf_part}
-use Rattle.search_core.proofs.TrueRuns.{starts_are_reached, steps_reach}
+use Rattle.search_core.proofs.Growth.{holds_of_leaf, leaf_part}
+use Rattle.search_core.proofs.TrueSteps.{starts_are_reached, steps_reach}
 use Rattle.schedule_check.specs.Accepted.{IsAcceptedIfFound}
 use Rattle.decommitment.specs.DropCommitment.{Dispatched, StuckIn}
 use Rattle.opening.specs.RootTables.{IsPricedOf}

@@ -27,7 +27,7 @@ use Rattle.branch_tree.specs.declared.found.Found.{Found}
 use Rattle.branch_tree.specs.declared.tree.Leaf.{Leaf}
 use Rattle.branch_tree.specs.declared.tree.Leaf.TheVariants as leaf
 use Rattle.branch_tree.proofs.Bounds.{at_most_itself, at_most_through, lesser_first, lesser_second}
-use Rattle.branch_tree.proofs.Used.{unlike}
+use Rattle.branch_tree.proofs.Preorder.{unlike}
 use Rattle.schedule_check.specs.Accepted.{IsAcceptedIfFound}
 
 -- ---- a number among others

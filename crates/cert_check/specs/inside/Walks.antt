@@ -5,7 +5,7 @@ pub use Rattle.uc_model.specs.declared.instance.Instance.{Instance}
 use Rattle.dual_model.specs.Fixings.{IsCell, IsNodeOf}
 use Rattle.dual_model.specs.Tree.{child, root, is_decided}
 pub use Rattle.dual_model.specs.declared.node.Fixing.{Fixing}
-use Rattle.cert_text.specs.Nodes.{TreeNode, LeafNode, SplitNode}
+use Rattle.cert_text.specs.CertificateText.{TreeNode, LeafNode, SplitNode}
 use Rattle.cert_text.specs.Reading.{node_of}
 pub use Rattle.cert_text.specs.declared.cert.CertNode.{CertNode}
 use Rattle.cert_text.specs.declared.cert.CertNode.TheVariants as nodes

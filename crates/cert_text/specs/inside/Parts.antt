@@ -3,13 +3,12 @@
 use Rattle.std.specs.Prelude.{◌≡◌, ℕ, zero, suc, List, [], ◌∷◌, length, Option, Some, None, Result, Ok, Err, ℤ, pos, codes}
 use Rattle.std.specs.Option.{ok_or}
 use Rattle.dual_model.specs.Certificate.{WrittenSchedule}
-use Rattle.cert_text.specs.CertificateText.{Cell, RampRow, Table, Listing}
-use Rattle.cert_text.specs.Nodes.{TreeNode, LeafNode, SplitNode}
-use Rattle.cert_text.specs.Grammar.{Sizes}
+use Rattle.cert_text.specs.CertificateText.{Cell, RampRow, Table, Listing, TreeNode, LeafNode, SplitNode}
+use Rattle.cert_text.specs.Grammar.{Sizes, IsRampAfter}
 pub use Rattle.cert_text.specs.declared.reader.stop.Stop.{Stop}
 use Rattle.cert_text.specs.declared.reader.stop.Stop.TheVariants as stops
-use Rattle.cert_text.specs.inside.Forms.{Form, signed_at}
-use Rattle.cert_text.specs.inside.LineForms.{version_at, size_at, claim_at, schedule_at, cell_at, row_at, scale_at, ramp_count_at, ramp_at, node_at, end_at}
+use Rattle.cert_text.specs.inside.Forms.{Form, signed_at, version_at, size_at, claim_at, schedule_at, cell_at, row_at, scale_at, ramp_count_at, ramp_at, node_at, end_at}
+use Rattle.cert_text.specs.declared.reader.sizes.Size.{Size}
 
 infixl 10 ◌>>=◌
 abbrev pub ◌>>=◌ : {A B : Type 0} → Result A (List ℕ) → (A → Result B (List ℕ)) → Result B (List ℕ)
@@ -120,3 +119,13 @@ unfoldable pub certificate_part : Part Listing
 certificate_part =
     told listing_from (then heading_part (λ size. then (line_of claim_at) (λ _. then (schedule_part size)
     (λ _. then (repeated size.tables (table_part size)) (λ _. then (tree_part size) (λ _. line_of end_at))))))
+
+-- ---- Rows of ramp multipliers one behind the other.
+-- each row may stand behind the one before it
+abbrev pub AreRamps : Sizes → Option RampRow → List RampRow → Type 0
+AreRamps size before [] = Unit {0}
+AreRamps size before (row ∷ rows) = IsRampAfter size before row × AreRamps size (Some row) rows
+
+-- ---- What contracts see of the values that are read.
+abbrev pub sizes : Size → Sizes
+sizes size = record { periods = size.periods; thermal = size.thermal; renewable = size.renewable; tables = size.tables }

@@ -11,8 +11,7 @@ pub use Rattle.branch_tree.specs.declared.tree.Spot.{Spot}
 use Rattle.branch_tree.specs.declared.tree.Spot.TheVariants as spot
 use Rattle.branch_tree.specs.declared.tree.Tree.{Tree}
 use Rattle.outside.specs.Lines.{joined}
-use Rattle.cert_text.specs.Nodes.{TreeNode, LeafNode, SplitNode, preorder, node_line}
-use Rattle.cert_text.specs.CertificateText.{Table, version_line, size_line, claim_line, cost_line, no_schedule_line, thermal_line, renewable_line, scale_line, prices_line, ramps_line, ramp_line, end_line}
+use Rattle.cert_text.specs.CertificateText.{TreeNode, LeafNode, SplitNode, preorder, node_line, Table, version_line, size_line, claim_line, cost_line, no_schedule_line, thermal_line, renewable_line, scale_line, prices_line, ramps_line, ramp_line, end_line}
 
 abbrev pub schedule_part : Option WrittenSchedule → List ℕ
 schedule_part None = no_schedule_line

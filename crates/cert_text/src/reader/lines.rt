@@ -1,10 +1,9 @@
 //! The other lines of one value.
 
 ghost use Rattle.std.specs.Prelude.{◌≡◌, ◌<◌, IfSome, codes};
-ghost use Rattle.cert_text.specs.Nodes.{LeafNode, SplitNode};
-ghost use Rattle.cert_text.specs.inside.Forms.{Gives, after, ended, whole_at, money_at};
-ghost use Rattle.cert_text.specs.inside.LineForms.{claim_at, schedule_at, on_cell_at, cell_at, ramp_at, rises, is_ramp, named_at, split_at, node_at};
-ghost use Rattle.cert_text.specs.inside.ReadViews.{sizes};
+ghost use Rattle.cert_text.specs.CertificateText.{LeafNode, SplitNode};
+ghost use Rattle.cert_text.specs.inside.Forms.{Gives, after, ended, whole_at, money_at, claim_at, schedule_at, on_cell_at, cell_at, ramp_at, rises, is_ramp, named_at, split_at, node_at};
+ghost use Rattle.cert_text.specs.inside.Parts.{sizes};
 ghost use Rattle.cert_text.specs.Reading.{node_of};
 
 use super::numbers::{
@@ -24,7 +23,7 @@ fn take_last_money(bytes: &[u8]) -> Option<(i128, &[u8])>
 }
 
 /// The bound that is claimed, or none.
-#[tactic(auto, unfolding(crate::specs::inside::LineForms::claim_at))]
+#[tactic(auto, unfolding(crate::specs::inside::Forms::claim_at))]
 pub(crate) fn take_claim(bytes: &[u8]) -> Option<(Option<i128>, &[u8])>
     ensures { Gives (λ r. (r.0, r.1.now)) result (claim_at bytes.now) }
 {
@@ -36,7 +35,7 @@ pub(crate) fn take_claim(bytes: &[u8]) -> Option<(Option<i128>, &[u8])>
 }
 
 /// The cost of the schedule that follows, or none.
-#[tactic(auto, unfolding(crate::specs::inside::LineForms::schedule_at))]
+#[tactic(auto, unfolding(crate::specs::inside::Forms::schedule_at))]
 pub(crate) fn take_schedule(bytes: &[u8]) -> Option<(Option<i128>, &[u8])>
     ensures { Gives (λ r. (r.0, r.1.now)) result (schedule_at bytes.now) }
 {
@@ -48,7 +47,7 @@ pub(crate) fn take_schedule(bytes: &[u8]) -> Option<(Option<i128>, &[u8])>
     Some((Some(cost), rest))
 }
 
-#[tactic(auto, unfolding(crate::specs::inside::LineForms::on_cell_at))]
+#[tactic(auto, unfolding(crate::specs::inside::Forms::on_cell_at))]
 fn take_on_cell(bytes: &[u8]) -> Option<(Cell, &[u8])>
     ensures { Gives (λ r. (r.0, r.1.now)) result (on_cell_at bytes.now) }
 {
@@ -68,7 +67,7 @@ fn take_on_cell(bytes: &[u8]) -> Option<(Cell, &[u8])>
 }
 
 /// A cell of the schedule.
-#[tactic(auto, unfolding(crate::specs::inside::LineForms::cell_at))]
+#[tactic(auto, unfolding(crate::specs::inside::Forms::cell_at))]
 pub(crate) fn take_cell(bytes: &[u8]) -> Option<(Cell, &[u8])>
     ensures { Gives (λ r. (r.0, r.1.now)) result (cell_at bytes.now) }
 {
@@ -103,7 +102,7 @@ fn rises(before: &Option<RampRow>, row: &RampRow) -> bool
 }
 
 /// A row of ramp multipliers behind another one, or as the first.
-#[tactic(auto, unfolding(crate::specs::inside::LineForms::ramp_at))]
+#[tactic(auto, unfolding(crate::specs::inside::Forms::ramp_at))]
 pub(crate) fn take_ramp<'a>(
     bytes: &'a [u8],
     size: &Size,
@@ -132,7 +131,7 @@ pub(crate) fn take_ramp<'a>(
 }
 
 // The number of a leaf, below a count, up to the end of the line.
-#[tactic(auto, unfolding(crate::specs::inside::LineForms::named_at))]
+#[tactic(auto, unfolding(crate::specs::inside::Forms::named_at))]
 fn take_named(bytes: &[u8], count: u32) -> Option<(u32, &[u8])>
     ensures { Gives (λ r. (r.0, r.1.now)) result (named_at count bytes.now) }
 {
@@ -144,7 +143,7 @@ fn take_named(bytes: &[u8], count: u32) -> Option<(u32, &[u8])>
 }
 
 // The unit and the period of a split, up to the end of the line.
-#[tactic(auto, unfolding(crate::specs::inside::LineForms::split_at))]
+#[tactic(auto, unfolding(crate::specs::inside::Forms::split_at))]
 fn take_split<'a>(bytes: &'a [u8], size: &Size) -> Option<((u32, u32), &'a [u8])>
     ensures { Gives (λ r. (r.0, r.1.now)) result (split_at (sizes size.now) bytes.now) }
 {
@@ -157,7 +156,7 @@ fn take_split<'a>(bytes: &'a [u8], size: &Size) -> Option<((u32, u32), &'a [u8])
 }
 
 /// A node of the tree.
-#[tactic(auto, unfolding(crate::specs::inside::LineForms::node_at))]
+#[tactic(auto, unfolding(crate::specs::inside::Forms::node_at))]
 pub(crate) fn take_node<'a>(bytes: &'a [u8], size: &Size) -> Option<(CertNode, &'a [u8])>
     ensures { Gives (λ r. (node_of r.0, r.1.now)) result (node_at (sizes size.now) bytes.now) }
 {

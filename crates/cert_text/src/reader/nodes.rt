@@ -3,8 +3,7 @@
 ghost use Rattle.std.specs.Prelude.{◌≡◌, ◌+◌, ◌<◌, ◌^◌, map, Ok, Err};
 ghost use Rattle.cert_text.specs.Reading.{node_of};
 ghost use Rattle.cert_text.specs.Grammar.{AreSizes};
-ghost use Rattle.cert_text.specs.inside.Parts.{GivesPart, owed_after, tree_part};
-ghost use Rattle.cert_text.specs.inside.ReadViews.{sizes};
+ghost use Rattle.cert_text.specs.inside.Parts.{GivesPart, owed_after, tree_part, sizes};
 
 use super::lines::take_node;
 use super::sizes::Size;

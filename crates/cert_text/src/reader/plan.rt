@@ -2,8 +2,7 @@
 
 ghost use Rattle.std.specs.Prelude.{◌≡◌, Ok, Err};
 ghost use Rattle.branch_tree.specs.Claims.{written_of};
-ghost use Rattle.cert_text.specs.inside.Parts.{GivesPart, printed_part, schedule_part};
-ghost use Rattle.cert_text.specs.inside.ReadViews.{sizes};
+ghost use Rattle.cert_text.specs.inside.Parts.{GivesPart, printed_part, schedule_part, sizes};
 
 use super::lines::take_schedule;
 use super::sizes::Size;

@@ -2,9 +2,8 @@
 
 ghost use Rattle.std.specs.Prelude.{◌≡◌, false, true, IfSome, MatchOption};
 ghost use Rattle.cert_text.specs.Grammar.{AreSizes};
-ghost use Rattle.cert_text.specs.inside.Forms.{Gives};
-ghost use Rattle.cert_text.specs.inside.LineForms.{size_at, sizes_of, are_sizes};
-ghost use Rattle.cert_text.specs.inside.ReadViews.{sizes};
+ghost use Rattle.cert_text.specs.inside.Forms.{Gives, size_at, sizes_of, are_sizes};
+ghost use Rattle.cert_text.specs.inside.Parts.{sizes};
 
 use super::numbers::{take_count_to, take_text};
 
@@ -46,7 +45,7 @@ fn size_of(periods: u64, thermal: u64, renewable: u64, tables: u64) -> Option<Si
 }
 
 /// The line of the size.
-#[tactic(auto, unfolding(crate::specs::inside::LineForms::size_at))]
+#[tactic(auto, unfolding(crate::specs::inside::Forms::size_at))]
 pub(crate) fn take_size(bytes: &[u8]) -> Option<(Size, &[u8])>
     ensures value { Gives (λ r. (sizes r.0, r.1.now)) result (size_at bytes.now) }
     ensures lawful { IfSome result (λ r. AreSizes (sizes r.0)) }

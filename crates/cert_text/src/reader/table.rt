@@ -3,8 +3,7 @@
 ghost use Rattle.std.specs.Prelude.{◌≡◌, None, ◌<◌, IfOk, Ok, Err};
 ghost use Rattle.dual_model.specs.Prices.{IsWellFormed};
 ghost use Rattle.cert_text.specs.Grammar.{AreSizes};
-ghost use Rattle.cert_text.specs.inside.Parts.{GivesPart, ramp_rows_part, ramps_part, numbers_part, table_of, table_part, repeated};
-ghost use Rattle.cert_text.specs.inside.ReadViews.{sizes};
+ghost use Rattle.cert_text.specs.inside.Parts.{GivesPart, ramp_rows_part, ramps_part, numbers_part, table_of, table_part, repeated, sizes};
 
 use super::lines::{take_count_line, take_ramp};
 use super::sizes::Size;
@@ -46,7 +45,7 @@ fn take_ramp_rows<'a>(
 }
 
 // The rows of ramp multipliers with their count, in place of what the list had.
-#[tactic(auto, unfolding(crate::specs::inside::Parts::ramps_part, crate::specs::inside::LineForms::ramp_count_at))]
+#[tactic(auto, unfolding(crate::specs::inside::Parts::ramps_part, crate::specs::inside::Forms::ramp_count_at))]
 fn take_ramps<'a>(
     size: &Size,
     bytes: &'a [u8],
@@ -59,7 +58,7 @@ fn take_ramps<'a>(
 }
 
 // The numbers of a table: its scale, and its lists in place of what was there.
-#[tactic(auto, unfolding(crate::specs::inside::Parts::numbers_part, crate::specs::inside::LineForms::scale_at))]
+#[tactic(auto, unfolding(crate::specs::inside::Parts::numbers_part, crate::specs::inside::Forms::scale_at))]
 fn take_numbers<'a>(
     size: &Size,
     bytes: &'a [u8],

@@ -3,8 +3,7 @@
 ghost use Rattle.std.specs.Prelude.{◌≡◌, IfOk, Ok, Err};
 ghost use Rattle.cert_text.specs.Grammar.{AreSizes};
 ghost use Rattle.cert_text.specs.Reading.{listing_read};
-ghost use Rattle.cert_text.specs.inside.Parts.{GivesPart, heading_part, certificate_part};
-ghost use Rattle.cert_text.specs.inside.ReadViews.{sizes};
+ghost use Rattle.cert_text.specs.inside.Parts.{GivesPart, heading_part, certificate_part, sizes};
 
 use super::lines::take_claim;
 use super::nodes::take_tree;
@@ -18,7 +17,7 @@ use std::alloc::Global;
 use uc_model::List;
 
 // The first two lines: the version of the format, of which there is one, and the size.
-#[tactic(auto, unfolding(crate::specs::inside::Parts::heading_part, crate::specs::inside::LineForms::version_at))]
+#[tactic(auto, unfolding(crate::specs::inside::Parts::heading_part, crate::specs::inside::Forms::version_at))]
 fn take_heading(bytes: &[u8]) -> Result<(Size, &[u8]), Stop<'_>>
     ensures value { GivesPart (λ r. (sizes r.0, r.1.now)) result (heading_part bytes.now) }
     ensures lawful { IfOk result (λ r. AreSizes (sizes r.0)) }
@@ -28,7 +27,7 @@ fn take_heading(bytes: &[u8]) -> Result<(Size, &[u8]), Stop<'_>>
 }
 
 /// A certificate at the front of bytes.
-#[tactic(auto, unfolding(crate::specs::inside::Parts::certificate_part, crate::specs::inside::LineForms::end_at))]
+#[tactic(auto, unfolding(crate::specs::inside::Parts::certificate_part, crate::specs::inside::Forms::end_at))]
 pub(crate) fn take_certificate(alloc: Global, bytes: &[u8]) -> Result<(Cert, &[u8]), Stop<'_>>
     ensures { GivesPart (λ r. (listing_read r.0, r.1.now)) result (certificate_part bytes.now) }
 {

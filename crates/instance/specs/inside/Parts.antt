@@ -2,8 +2,7 @@
 use Rattle.std.specs.Prelude.{◌≡◌, ℕ, ◌+◌, ◌*◌, ◌≤◌, Bool, List, Result, Ok, Err}
 use Rattle.decimal_json.specs.Value.{Decimal}
 pub use Rattle.instance.specs.declared.reader.Reader.{Reader}
-use Rattle.instance.specs.Scaled.{wholes_of}
-use Rattle.instance.specs.Held.{held_wholes}
+use Rattle.instance.specs.Scaled.{wholes_of, held_wholes}
 use Rattle.instance.specs.Answer.{Fault, NoMemory, Refused, Fails}
 use Rattle.instance.specs.FirstFault.{FieldRefusal, MAX_PERIODS, MAX_POINTS, MAX_START_ROWS, Refusal, with_unit}
 

@@ -3,8 +3,7 @@
 ghost use Rattle.std.specs.Prelude.{◌≡◌, ◌+◌, ◌<◌, ◌≤◌, ◌^◌, [], length, map, sum_by, OnOk, IfOk, pos, vec_len};
 ghost use Rattle.std.specs.Int.{int_max};
 ghost use Rattle.decimal_json.specs.View.{view, pair_view};
-ghost use Rattle.instance.specs.FirstFault.{MAX_PERIODS, PowerOutputMaximum, each_at, power_entry, powers_at, maximum_entry, maxima_at};
-ghost use Rattle.instance.specs.Rounded.{rounded_value, rounded_array};
+ghost use Rattle.instance.specs.FirstFault.{MAX_PERIODS, PowerOutputMaximum, each_at, power_entry, powers_at, maximum_entry, maxima_at, rounded_value, rounded_array};
 ghost use Rattle.instance.specs.Answer.{Gives};
 ghost use Rattle.instance.specs.inside.Parts.{Counts};
 
@@ -18,7 +17,7 @@ use uc_model::limits::MAX_POWER;
 
 impl Reader {
     /// The powers of a field that is an array, up to the last period.
-    #[tactic(auto, unfolding(crate::specs::FirstFault::each_at, crate::specs::FirstFault::powers_at, crate::specs::Rounded::rounded_array))]
+    #[tactic(auto, unfolding(crate::specs::FirstFault::each_at, crate::specs::FirstFault::powers_at, crate::specs::FirstFault::rounded_array))]
     pub(crate) fn powers(
         &mut self,
         alloc: Global,
@@ -42,7 +41,7 @@ impl Reader {
     }
 
     /// A renewable unit's maximum, beside its minimum.
-    #[tactic(auto, unfolding(crate::specs::FirstFault::each_at, crate::specs::FirstFault::maxima_at, crate::specs::Rounded::rounded_array))]
+    #[tactic(auto, unfolding(crate::specs::FirstFault::each_at, crate::specs::FirstFault::maxima_at, crate::specs::FirstFault::rounded_array))]
     pub(crate) fn maxima(
         &mut self,
         alloc: Global,

@@ -2,8 +2,7 @@
 
 ghost use Rattle.std.specs.Prelude.{◌≡◌, ◌+◌, ◌<◌, ◌≤◌, ◌^◌, ◌&&◌, nat_lt, OnOk, IfOk};
 ghost use Rattle.decimal_json.specs.View.{view, decimal_of};
-ghost use Rattle.instance.specs.FirstFault.{MAX_PERIODS, MAX_POWER, number_at, amount_at, power_from, whole_at, time_at, flag_at, periods_at};
-ghost use Rattle.instance.specs.Rounded.{rounded_value};
+ghost use Rattle.instance.specs.FirstFault.{MAX_PERIODS, MAX_POWER, number_at, amount_at, power_from, whole_at, time_at, flag_at, periods_at, rounded_value};
 ghost use Rattle.instance.specs.Scaled.{signed};
 ghost use Rattle.instance.specs.Answer.{Gives};
 ghost use Rattle.instance.specs.inside.Parts.{HoldsWhole, Counts};
@@ -20,7 +19,7 @@ use uc_model::limits::{MAX_PERIODS, MAX_POWER, MAX_TIME};
 
 impl Reader {
     /// A number of any size.
-    #[tactic(auto, unfolding(crate::specs::FirstFault::number_at, crate::specs::Rounded::rounded_value))]
+    #[tactic(auto, unfolding(crate::specs::FirstFault::number_at, crate::specs::FirstFault::rounded_value))]
     fn number<'a>(&mut self, placed: PlacedValue<'a>) -> Result<&'a Number, PlacedFault>
         requires { self.old.rounded + 1 < 2 ^ 64 }
         ensures read { Gives (λ n. decimal_of n.now) result (number_at self.old.exact placed.entry.place (view placed.entry.value.now)) }

@@ -2,8 +2,7 @@
 
 ghost use Rattle.std.specs.Prelude.{◌≡◌, ◌+◌, ◌*◌, ◌<◌, ◌≤◌, ◌^◌, OnOk};
 ghost use Rattle.decimal_json.specs.View.{view};
-ghost use Rattle.instance.specs.FirstFault.{MAX_PERIODS, renewable_at};
-ghost use Rattle.instance.specs.Rounded.{rounded_renewable};
+ghost use Rattle.instance.specs.FirstFault.{MAX_PERIODS, renewable_at, rounded_renewable};
 ghost use Rattle.instance.specs.Answer.{Gives};
 ghost use Rattle.instance.specs.inside.Parts.{Counts, RENEWABLE_NUMBERS};
 
@@ -16,7 +15,7 @@ use uc_model::{Field, List, Name, Renewable};
 
 impl Reader {
     /// The unit that a value is.
-    #[tactic(auto, unfolding(crate::specs::FirstFault::renewable_at, crate::specs::Rounded::rounded_renewable))]
+    #[tactic(auto, unfolding(crate::specs::FirstFault::renewable_at, crate::specs::FirstFault::rounded_renewable))]
     pub(crate) fn renewable(
         &mut self,
         alloc: Global,

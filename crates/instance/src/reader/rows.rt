@@ -2,9 +2,7 @@
 
 ghost use Rattle.std.specs.Prelude.{◌≡◌, ◌+◌, ◌*◌, ◌<◌, ◌≤◌, ◌^◌, [], length, map, sum_by, OnOk, List};
 ghost use Rattle.decimal_json.specs.View.{view, pair_view};
-ghost use Rattle.instance.specs.FirstFault.{MAX_POINTS, MAX_START_ROWS, Point, StartRow, each_at, start_row, point_row, startup_at, points_at};
-ghost use Rattle.instance.specs.Points.{last_output};
-ghost use Rattle.instance.specs.Rounded.{rounded_start_row, rounded_point, rounded_startup, rounded_points};
+ghost use Rattle.instance.specs.FirstFault.{MAX_POINTS, MAX_START_ROWS, Point, StartRow, each_at, start_row, point_row, startup_at, points_at, last_output, rounded_start_row, rounded_point, rounded_startup, rounded_points};
 ghost use Rattle.instance.specs.Answer.{Gives};
 ghost use Rattle.instance.specs.inside.Parts.{Counts, START_NUMBERS, POINT_NUMBERS};
 
@@ -18,7 +16,7 @@ use uc_model::{Field, Point, StartRow};
 
 impl Reader {
     /// The start categories of a unit.
-    #[tactic(auto, unfolding(crate::specs::FirstFault::each_at, crate::specs::FirstFault::startup_at, crate::specs::Rounded::rounded_startup))]
+    #[tactic(auto, unfolding(crate::specs::FirstFault::each_at, crate::specs::FirstFault::startup_at, crate::specs::FirstFault::rounded_startup))]
     pub(crate) fn startup(
         &mut self,
         alloc: Global,
@@ -37,7 +35,7 @@ impl Reader {
     }
 
     /// The points of a unit's production cost.
-    #[tactic(auto, unfolding(crate::specs::FirstFault::each_at, crate::specs::FirstFault::points_at, crate::specs::Rounded::rounded_points))]
+    #[tactic(auto, unfolding(crate::specs::FirstFault::each_at, crate::specs::FirstFault::points_at, crate::specs::FirstFault::rounded_points))]
     pub(crate) fn points(
         &mut self,
         alloc: Global,
@@ -58,7 +56,7 @@ impl Reader {
         Ok(points)
     }
 
-    #[tactic(auto, unfolding(crate::specs::FirstFault::start_row, crate::specs::Rounded::rounded_start_row, crate::specs::Rounded::rounded_field))]
+    #[tactic(auto, unfolding(crate::specs::FirstFault::start_row, crate::specs::FirstFault::rounded_start_row, crate::specs::FirstFault::rounded_field))]
     fn start_row(&mut self, row: &Json, index: usize) -> Result<StartRow, PlacedFault>
         requires few { index < MAX_START_ROWS }
         requires room { self.old.rounded + 2 < 2 ^ 64 }
@@ -73,7 +71,7 @@ impl Reader {
         Ok(StartRow { lag, cost })
     }
 
-    #[tactic(auto, unfolding(crate::specs::FirstFault::point_row, crate::specs::Rounded::rounded_point, crate::specs::Rounded::rounded_field))]
+    #[tactic(auto, unfolding(crate::specs::FirstFault::point_row, crate::specs::FirstFault::rounded_point, crate::specs::FirstFault::rounded_field))]
     fn point(&mut self, row: &Json, index: usize, least: i64) -> Result<Point, PlacedFault>
         requires few { index < MAX_POINTS }
         requires room { self.old.rounded + 2 < 2 ^ 64 }

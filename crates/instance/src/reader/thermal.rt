@@ -2,8 +2,7 @@
 
 ghost use Rattle.std.specs.Prelude.{◌≡◌, ◌+◌, ◌<◌, ◌^◌, map, max, OnOk};
 ghost use Rattle.decimal_json.specs.View.{view, pair_view};
-ghost use Rattle.instance.specs.FirstFault.{power_field, time_field, outputs_at, ramps_at, times_at, initial_at, thermal_at};
-ghost use Rattle.instance.specs.Rounded.{rounded_field, rounded_outputs, rounded_ramps, rounded_times, rounded_initial, rounded_thermal};
+ghost use Rattle.instance.specs.FirstFault.{power_field, time_field, outputs_at, ramps_at, times_at, initial_at, thermal_at, rounded_field, rounded_outputs, rounded_ramps, rounded_times, rounded_initial, rounded_thermal};
 ghost use Rattle.instance.specs.Answer.{Gives};
 ghost use Rattle.instance.specs.inside.Parts.{Counts, THERMAL_NUMBERS};
 
@@ -50,7 +49,7 @@ struct Initial {
 
 impl Reader {
     /// The unit that a value is.
-    #[tactic(auto, unfolding(crate::specs::FirstFault::thermal_at, crate::specs::Rounded::rounded_thermal))]
+    #[tactic(auto, unfolding(crate::specs::FirstFault::thermal_at, crate::specs::FirstFault::rounded_thermal))]
     pub(crate) fn thermal(
         &mut self,
         alloc: Global,
@@ -90,7 +89,7 @@ impl Reader {
     }
 
     /// The power of a field, no less than another one.
-    #[tactic(auto, unfolding(crate::specs::Rounded::rounded_field))]
+    #[tactic(auto, unfolding(crate::specs::FirstFault::rounded_field))]
     fn power_in(&mut self, members: &[Pair], field: Field, least: i64) -> Result<i64, PlacedFault>
         requires { self.old.rounded + 1 < 2 ^ 64 }
         ensures read { Gives (λ z. z) result (power_field self.old.exact field least (map pair_view members.now)) }
@@ -100,7 +99,7 @@ impl Reader {
     }
 
     /// The time of a field.
-    #[tactic(auto, unfolding(crate::specs::Rounded::rounded_field))]
+    #[tactic(auto, unfolding(crate::specs::FirstFault::rounded_field))]
     fn time_in(&mut self, members: &[Pair], field: Field) -> Result<u32, PlacedFault>
         requires { self.old.rounded + 1 < 2 ^ 64 }
         ensures read { Gives (λ h. h) result (time_field self.old.exact field (map pair_view members.now)) }
@@ -109,7 +108,7 @@ impl Reader {
         self.time(placed::field(members, field)?)
     }
 
-    #[tactic(auto, unfolding(crate::specs::FirstFault::outputs_at, crate::specs::Rounded::rounded_outputs, crate::specs::Rounded::rounded_field))]
+    #[tactic(auto, unfolding(crate::specs::FirstFault::outputs_at, crate::specs::FirstFault::rounded_outputs, crate::specs::FirstFault::rounded_field))]
     fn outputs(&mut self, members: &[Pair]) -> Result<Outputs, PlacedFault>
         requires { self.old.rounded + 3 < 2 ^ 64 }
         ensures read { Gives (λ x. x) result (outputs_at self.old.exact (map pair_view members.now)) }
@@ -125,7 +124,7 @@ impl Reader {
         })
     }
 
-    #[tactic(auto, unfolding(crate::specs::FirstFault::ramps_at, crate::specs::Rounded::rounded_ramps))]
+    #[tactic(auto, unfolding(crate::specs::FirstFault::ramps_at, crate::specs::FirstFault::rounded_ramps))]
     fn ramps(&mut self, members: &[Pair]) -> Result<Ramps, PlacedFault>
         requires { self.old.rounded + 4 < 2 ^ 64 }
         ensures read { Gives (λ x. x) result (ramps_at self.old.exact (map pair_view members.now)) }
@@ -138,7 +137,7 @@ impl Reader {
         Ok(Ramps { ru, rd, su, sd })
     }
 
-    #[tactic(auto, unfolding(crate::specs::FirstFault::times_at, crate::specs::Rounded::rounded_times))]
+    #[tactic(auto, unfolding(crate::specs::FirstFault::times_at, crate::specs::FirstFault::rounded_times))]
     fn times(&mut self, members: &[Pair]) -> Result<Times, PlacedFault>
         requires { self.old.rounded + 2 < 2 ^ 64 }
         ensures read { Gives (λ x. x) result (times_at self.old.exact (map pair_view members.now)) }
@@ -152,7 +151,7 @@ impl Reader {
         })
     }
 
-    #[tactic(auto, unfolding(crate::specs::FirstFault::initial_at, crate::specs::Rounded::rounded_initial, crate::specs::Rounded::rounded_field))]
+    #[tactic(auto, unfolding(crate::specs::FirstFault::initial_at, crate::specs::FirstFault::rounded_initial, crate::specs::FirstFault::rounded_field))]
     fn initial(&mut self, members: &[Pair]) -> Result<Initial, PlacedFault>
         requires { self.old.rounded + 4 < 2 ^ 64 }
         ensures read { Gives (λ x. x) result (initial_at self.old.exact (map pair_view members.now)) }

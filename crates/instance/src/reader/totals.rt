@@ -2,8 +2,7 @@
 
 ghost use Rattle.std.specs.Prelude.{◌≡◌, ◌+◌, ◌<◌, ◌≤◌, ◌^◌, map, OnOk, IfOk};
 ghost use Rattle.decimal_json.specs.View.{pair_view};
-ghost use Rattle.instance.specs.FirstFault.{MAX_PERIODS, totals_at};
-ghost use Rattle.instance.specs.Rounded.{rounded_totals};
+ghost use Rattle.instance.specs.FirstFault.{MAX_PERIODS, totals_at, rounded_totals};
 ghost use Rattle.instance.specs.Answer.{Gives};
 ghost use Rattle.instance.specs.inside.Parts.{Counts, TOTAL_NUMBERS};
 
@@ -23,7 +22,7 @@ pub(crate) struct Totals {
 }
 
 impl Reader {
-    #[tactic(auto, unfolding(crate::specs::FirstFault::totals_at, crate::specs::Rounded::rounded_totals, crate::specs::Rounded::rounded_field))]
+    #[tactic(auto, unfolding(crate::specs::FirstFault::totals_at, crate::specs::FirstFault::rounded_totals, crate::specs::FirstFault::rounded_field))]
     pub(crate) fn totals(&mut self, alloc: Global, members: &[Pair]) -> Result<Totals, PlacedFault>
         requires { self.old.rounded + TOTAL_NUMBERS < 2 ^ 64 }
         ensures read { Gives (λ x. x) result (totals_at self.old.exact (map pair_view members.now)) }

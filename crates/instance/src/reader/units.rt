@@ -3,10 +3,8 @@
 ghost use Rattle.std.specs.Prelude.{◌≡◌, ◌+◌, ◌*◌, ◌<◌, ◌≤◌, ◌^◌, ℕ, List, [], length, map, sum_by, OnOk};
 ghost use Rattle.decimal_json.specs.Value.{Value};
 ghost use Rattle.decimal_json.specs.View.{pair_view};
-ghost use Rattle.instance.specs.FirstFault.{MAX_PERIODS, MAX_UNITS, each_at, thermal_member, renewable_member, thermal_units_at, renewable_units_at};
-ghost use Rattle.instance.specs.Rounded.{rounded_thermal, rounded_renewable, rounded_thermal_units, rounded_renewable_units};
+ghost use Rattle.instance.specs.FirstFault.{MAX_PERIODS, MAX_UNITS, each_at, thermal_member, renewable_member, thermal_units_at, renewable_units_at, NO_UNIT, rounded_thermal, rounded_renewable, rounded_thermal_units, rounded_renewable_units};
 ghost use Rattle.instance.specs.Answer.{Gives};
-ghost use Rattle.instance.specs.Codes.{NO_UNIT};
 ghost use Rattle.instance.specs.inside.Parts.{IsInUnit, Counts, THERMAL_NUMBERS, RENEWABLE_NUMBERS};
 
 use crate::fault::{Fault, InstanceFault, NO_UNIT, PlacedFault, RENEWABLE, Refusal, THERMAL};
@@ -17,7 +15,7 @@ use std::alloc::Global;
 use uc_model::{Field, FieldRefusal, Name, Renewable, Thermal};
 
 impl Reader {
-    #[tactic(auto, unfolding(crate::specs::FirstFault::each_at, crate::specs::FirstFault::thermal_units_at, crate::specs::Rounded::rounded_thermal_units))]
+    #[tactic(auto, unfolding(crate::specs::FirstFault::each_at, crate::specs::FirstFault::thermal_units_at, crate::specs::FirstFault::rounded_thermal_units))]
     pub(crate) fn thermal_units(
         &mut self,
         alloc: Global,
@@ -38,7 +36,7 @@ impl Reader {
         Ok(units)
     }
 
-    #[tactic(auto, unfolding(crate::specs::FirstFault::each_at, crate::specs::FirstFault::renewable_units_at, crate::specs::Rounded::rounded_renewable_units))]
+    #[tactic(auto, unfolding(crate::specs::FirstFault::each_at, crate::specs::FirstFault::renewable_units_at, crate::specs::FirstFault::rounded_renewable_units))]
     pub(crate) fn renewable_units(
         &mut self,
         alloc: Global,

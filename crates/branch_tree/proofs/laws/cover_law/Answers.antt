@@ -3,7 +3,7 @@ use Rattle.dual_model.specs.Tree.{root}
 use Rattle.dual_model.proofs.Covers.{agreeing_below, covers_bound, covers_exclude}
 use Rattle.branch_tree.specs.TreeView.{tree_of}
 use Rattle.branch_tree.specs.TreeLaws.{claims_of}
-use Rattle.branch_tree.proofs.TreeLaws.{stored_bounds_hold}
+use Rattle.branch_tree.proofs.Bounds.{stored_bounds_hold}
 use Rattle.branch_tree.proofs.laws.cover_law.Goals as goal
 
 pub returns-clause-part : goal.returns-clause-part

@@ -5,8 +5,7 @@ use Rattle.std.proofs.lemmas.List.{length-replicate, get_or-replicate}
 use Rattle.branch_tree.specs.NumberedTree.{node_count}
 use Rattle.branch_tree.specs.TreeView.{tree_of}
 use Rattle.branch_tree.specs.UsedTables.{stored_tables, spot_tables}
-use Rattle.branch_tree.proofs.Preorder.{whole_part, numbers_within}
-use Rattle.branch_tree.proofs.Used.{IsUsedSoFar, tables_at, tables_listed, tables_next, used_begins, used_more, next_table}
+use Rattle.branch_tree.proofs.Preorder.{whole_part, numbers_within, IsUsedSoFar, tables_at, tables_listed, tables_next, used_begins, used_more, next_table}
 use Rattle.branch_tree.proofs.layout.used.Goals as goal
 use Rattle.branch_tree.proofs.layout.used.Goals.{in-Some+in_ok-note, in_default}
 

@@ -3,7 +3,7 @@ use Rattle.std.proofs.Common.{drop}
 use Rattle.std.specs.List.{flat_map}
 use Rattle.branch_tree.specs.TreeView.{tree_of}
 use Rattle.branch_tree.specs.UsedTables.{stored_tables}
-use Rattle.branch_tree.proofs.Used.{IsUsedSoFar, tables_at}
+use Rattle.branch_tree.proofs.Preorder.{IsUsedSoFar, tables_at}
 use Rattle.branch_tree.proofs.layout.used.Given as goal
 
 abbrev pub invariant-loop-node : goal.invariant-loop-node

@@ -1,7 +1,7 @@
 -- A split is followed by its off-child, and a leaf by the next place.
 use Rattle.std.proofs.Common.{◌≡◌, ◌∷◌, List, false, sym, subst}
 use Rattle.std.proofs.lemmas.Result.{IfOk-weaker}
-use Rattle.cert_text.specs.Nodes.{TreeNode}
+use Rattle.cert_text.specs.CertificateText.{TreeNode}
 use Rattle.cert_text.specs.Reading.{node_of}
 use Rattle.cert_check.specs.inside.Walks.{CertNode, IsPath, MayGoOn, walk, places, visit_of}
 use Rattle.cert_check.proofs.Pending.{below}

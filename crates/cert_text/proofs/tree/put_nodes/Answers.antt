@@ -4,7 +4,7 @@ use Rattle.std.specs.List.{flat_map}
 use Rattle.branch_tree.specs.NumberedTree.{node_count}
 use Rattle.branch_tree.specs.TreeView.{tree_of}
 use Rattle.branch_tree.specs.Claims.{leaf_claim}
-use Rattle.cert_text.specs.Nodes.{preorder, node_line}
+use Rattle.cert_text.specs.CertificateText.{preorder, node_line}
 use Rattle.cert_text.specs.inside.WrittenParts.{tree_part}
 use Rattle.dual_model.specs.Tree.{map_leaves}
 use Rattle.branch_tree.proofs.Preorder.{whole_part, numbers_within}

@@ -1,7 +1,6 @@
 use Rattle.std.proofs.Common.{◌≡◌, ℕ, ◌≤◌, ◌-◌, List, length}
-use Rattle.decimal_json.specs.Open.{Frame}
-use Rattle.decimal_json.specs.inside.Scan.{Spot, scan}
-use Rattle.decimal_json.specs.inside.Answer.{MaySpace}
+use Rattle.decimal_json.specs.Value.{Frame}
+use Rattle.decimal_json.specs.inside.Scan.{Spot, scan, MaySpace}
 use Rattle.decimal_json.proofs.bytes.skip_space.Given as goal
 
 pub record Skips (bytes : List ℕ) (start at : ℕ) : Type 0 where

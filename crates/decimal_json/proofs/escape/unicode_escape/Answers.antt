@@ -1,7 +1,7 @@
 use Rattle.std.proofs.Common.{◌≡◌, ◌+◌, ◌<◌, ◌≤◌, sym, subst, arith, inl, inr, ⊎_elim, ◌^◌, ℕ, true, false, ◌⊎◌}
 use Rattle.std.specs.Char.Utf16.{is_high_surrogate, is_low_surrogate}
 use Rattle.std.specs.Char.{OutOfScalarRange}
-use Rattle.decimal_json.specs.inside.Answer.{BreaksEscape, ReadsEscape}
+use Rattle.decimal_json.specs.inside.Scan.{BreaksEscape, ReadsEscape}
 use Rattle.decimal_json.proofs.Exits.{passed_on}
 use Rattle.decimal_json.proofs.Numerals.{unicode_broken, unicode_alone, unicode_low, unicode_pair, unicode_unpaired, high_between}
 use Rattle.decimal_json.proofs.escape.unicode_escape.Goals as goal

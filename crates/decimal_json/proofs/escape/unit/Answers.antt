@@ -1,5 +1,5 @@
 use Rattle.std.proofs.Common.{◌+◌}
-use Rattle.decimal_json.specs.inside.Answer.{BreaksUnit}
+use Rattle.decimal_json.specs.inside.Scan.{BreaksUnit}
 use Rattle.decimal_json.proofs.Exits.{passed_on}
 use Rattle.decimal_json.proofs.Numerals.{no_hex, first_hex, second_hex, third_hex, reads_unit, breaks_unit}
 use Rattle.decimal_json.proofs.escape.unit.Goals as goal

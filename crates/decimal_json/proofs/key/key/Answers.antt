@@ -1,7 +1,7 @@
 use Rattle.std.proofs.Common.{sym, ◌∙◌, lit<}
 use Rattle.std.specs.String.{string_bytes}
 use Rattle.std.proofs.lemmas.Bool.{not-true, not-false}
-use Rattle.decimal_json.specs.inside.Answer.{knows, BreaksKey}
+use Rattle.decimal_json.specs.inside.Scan.{knows, BreaksKey}
 use Rattle.decimal_json.proofs.Exits.{passed_on}
 use Rattle.decimal_json.proofs.Values.{boundary_behind, no_key, key_breaks, key_twice, no_colon, key_read}
 use Rattle.decimal_json.proofs.key.key.Goals as goal

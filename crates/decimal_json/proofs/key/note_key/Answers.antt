@@ -1,6 +1,6 @@
 use Rattle.std.proofs.Common.{List, ℕ, subst}
 use Rattle.std.specs.String.{string_bytes}
-use Rattle.decimal_json.specs.inside.Answer.{knows, AddsKey}
+use Rattle.decimal_json.specs.inside.Scan.{knows, AddsKey}
 use Rattle.decimal_json.proofs.Keys.{adds_key}
 use Rattle.decimal_json.proofs.key.note_key.Goals as goal
 

@@ -1,5 +1,5 @@
 use Rattle.std.proofs.Common.{arith, sym, subst, List, ℕ, ◌+◌}
-use Rattle.decimal_json.specs.inside.Answer.{AddsDigits}
+use Rattle.decimal_json.specs.inside.Scan.{AddsDigits}
 use Rattle.decimal_json.proofs.Numerals.{adds_more}
 use Rattle.decimal_json.proofs.number.add_digits.Goals as goal
 

@@ -1,5 +1,5 @@
 use Rattle.std.proofs.Common.{◌-◌, ◌≤◌, length}
-use Rattle.decimal_json.specs.inside.Answer.{AddsDigits}
+use Rattle.decimal_json.specs.inside.Scan.{AddsDigits}
 use Rattle.decimal_json.proofs.number.add_digits.Given as goal
 
 abbrev pub invariant-loop-at : goal.invariant-loop-at

@@ -1,7 +1,6 @@
 use Rattle.std.proofs.Common.{◌≡◌, ℕ, ◌-◌, List, ◌∷◌, [], ◌++◌, ◌+◌, sym, ap, subst, ◌∙◌, arith, Bool, refl}
-use Rattle.decimal_json.specs.inside.Answer.{JsonFault, Leads, AfterWhole, AddsDigits}
-use Rattle.decimal_json.specs.Open.{Frame}
-use Rattle.decimal_json.specs.inside.Scan.{Spot, scan}
+use Rattle.decimal_json.specs.inside.Scan.{JsonFault, Leads, AfterWhole, AddsDigits, Spot, scan}
+use Rattle.decimal_json.specs.Value.{Frame}
 use Rattle.decimal_json.proofs.Exits.{passed_on}
 use Rattle.decimal_json.proofs.Numerals.{no_fraction, reads_fraction, no_digit_after_point}
 use Rattle.decimal_json.proofs.number.add_fraction.Goals as goal

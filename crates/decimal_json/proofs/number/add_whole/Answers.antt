@@ -1,8 +1,6 @@
 use Rattle.std.proofs.Common.{◌≡◌, ◌≤◌, ℕ, ◌-◌, List, ◌∷◌, [], ◌++◌, ◌+◌, sym, ap, subst, ◌∙◌, arith, Bool, true, false, refl}
-use Rattle.decimal_json.specs.Number.{is_digit}
-use Rattle.decimal_json.specs.inside.Answer.{At, JsonFault, Leads, begun, ReadsWhole, AddsDigits, FailsAt, StandsAt}
-use Rattle.decimal_json.specs.Open.{Frame}
-use Rattle.decimal_json.specs.inside.Scan.{scan}
+use Rattle.decimal_json.specs.Value.{is_digit, Frame}
+use Rattle.decimal_json.specs.inside.Scan.{At, JsonFault, Leads, begun, ReadsWhole, AddsDigits, FailsAt, StandsAt, scan}
 use Rattle.decimal_json.proofs.Exits.{passed_on, ok_from_two}
 use Rattle.decimal_json.proofs.Numerals.{reads_zero, reads_whole, no_whole, digit_low}
 use Rattle.decimal_json.proofs.number.add_whole.Goals as goal

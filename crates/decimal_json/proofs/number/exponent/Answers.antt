@@ -1,7 +1,6 @@
 use Rattle.std.proofs.Common.{ℕ, ◌+◌, List, sym, subst, Bool}
-use Rattle.decimal_json.specs.Open.{Frame}
-use Rattle.decimal_json.specs.inside.Scan.{Spot, scan}
-use Rattle.decimal_json.specs.inside.Answer.{JsonFault, Leads, MayEnd, AddsExponent}
+use Rattle.decimal_json.specs.Value.{Frame}
+use Rattle.decimal_json.specs.inside.Scan.{Spot, scan, JsonFault, Leads, MayEnd, AddsExponent}
 use Rattle.decimal_json.proofs.Exits.{passed_on}
 use Rattle.decimal_json.proofs.Numerals.{reads_exponent, no_digit_after_sign}
 use Rattle.decimal_json.proofs.number.exponent.Goals as goal

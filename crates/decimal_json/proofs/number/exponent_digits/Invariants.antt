@@ -1,5 +1,5 @@
 use Rattle.std.proofs.Common.{◌-◌, ◌≤◌, length}
-use Rattle.decimal_json.specs.inside.Answer.{AddsExponent}
+use Rattle.decimal_json.specs.inside.Scan.{AddsExponent}
 use Rattle.decimal_json.proofs.number.exponent_digits.Given as goal
 
 abbrev pub invariant-loop-at : goal.invariant-loop-at

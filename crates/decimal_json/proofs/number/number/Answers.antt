@@ -2,9 +2,8 @@ use mir.Val.{SFits, of_z, to_z}
 use mir.Syntax.{w64}
 use Rattle.std.proofs.Common.{rules, List, sym, subst, ◌∙◌}
 use Rattle.std.proofs.lemmas.Int.{to_z-of_z}
-use Rattle.decimal_json.specs.Open.{Frame}
-use Rattle.decimal_json.specs.inside.Scan.{Outcome, scan}
-use Rattle.decimal_json.specs.inside.Answer.{Leads, begun}
+use Rattle.decimal_json.specs.Value.{Frame}
+use Rattle.decimal_json.specs.inside.Scan.{Outcome, scan, Leads, begun}
 use Rattle.decimal_json.proofs.Exits.{passed_on}
 use Rattle.decimal_json.proofs.Numerals.{reads_number}
 use Rattle.decimal_json.proofs.number.number.Goals as goal
@@ -14,13 +13,13 @@ returns-in_err-places-clause-fault c =
     passed_on c.from_residual-in_err-places.result c.in_err-places.field-0.0 (λ e. (outer : List Frame) → Leads e (scan c.args.bytes.now c.args.start outer (begun c.args.negative)))
     c.from_residual-in_err-places.ensures.1
     (λ outer. let whole = c.in_ok-at.ensures.read outer in
-    subst (λ (o : Outcome). Leads c.in_err-places.field-0.0 o) (sym whole.same) (c.in_err-places.ensures.fault outer whole.spot c.args.negative whole.then))
+    subst (λ (o : Outcome). Leads c.in_err-places.field-0.0 o) (sym whole.same) (c.in_err-places.ensures.fault outer whole.spot c.args.negative whole.behind))
 
 pub returns-in_err-down-clause-fault : goal.returns-in_err-down-clause-fault
 returns-in_err-down-clause-fault c =
     passed_on c.from_residual-in_err-down.result c.in_err-down.field-0.0 (λ e. (outer : List Frame) → Leads e (scan c.args.bytes.now c.args.start outer (begun c.args.negative)))
     c.from_residual-in_err-down.ensures.1
-    (λ outer. let whole = c.in_ok-at.ensures.read outer in let part = c.in_ok-places.ensures.read in let later = part.read outer whole.spot c.args.negative whole.then in
+    (λ outer. let whole = c.in_ok-at.ensures.read outer in let part = c.in_ok-places.ensures.read in let later = part.read outer whole.spot c.args.negative whole.behind in
     subst (λ (o : Outcome). Leads c.in_err-down.field-0.0 o) (sym (whole.same ∙ later.1)) (c.in_err-down.ensures.fault outer later.0 c.args.negative c.add_whole.new.digits.items part.digits later.2))
 
 pub returns-clause-read : goal.returns-clause-read

@@ -1,7 +1,6 @@
 use Rattle.std.proofs.Common.{◌≡◌, List, ℕ, Result, sym, subst}
 use Rattle.std.specs.Str.{IsValidUpTo}
-use Rattle.decimal_json.specs.inside.Scan.{whole_outcome}
-use Rattle.decimal_json.specs.inside.Answer.{Json, JsonFault, Gives}
+use Rattle.decimal_json.specs.inside.Scan.{whole_outcome, Json, JsonFault, Gives}
 use Rattle.decimal_json.proofs.Readings.{text_clause, only_clause, fault_clause, not_utf8, exact_clause, exact_utf8}
 use Rattle.decimal_json.proofs.reader.read.Goals as goal
 

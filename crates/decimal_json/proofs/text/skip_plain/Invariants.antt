@@ -1,5 +1,5 @@
 use Rattle.std.proofs.Common.{◌-◌, ◌≤◌, length, slice_range}
-use Rattle.decimal_json.specs.inside.Answer.{ReadsPlain}
+use Rattle.decimal_json.specs.inside.Scan.{ReadsPlain}
 use Rattle.decimal_json.proofs.text.skip_plain.Given as goal
 
 abbrev pub invariant-loop-at : goal.invariant-loop-at

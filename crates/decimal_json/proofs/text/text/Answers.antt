@@ -3,7 +3,7 @@ use Rattle.std.specs.Str.{IsCharBoundary}
 use Rattle.std.specs.String.{string_bytes}
 use Rattle.std.proofs.lemmas.Str.{IsCharBoundary-after_ascii}
 use Rattle.decimal_json.proofs.Exits.{passed_on}
-use Rattle.decimal_json.specs.inside.Answer.{BreaksText}
+use Rattle.decimal_json.specs.inside.Scan.{BreaksText}
 use Rattle.decimal_json.proofs.Numerals.{Reaches, reaches, ends_early, ends_well, ends_badly, escape_ends, goes_on, boundary_at_end}
 use Rattle.decimal_json.proofs.text.text.Goals as goal
 

@@ -1,12 +1,11 @@
 use Rattle.std.proofs.Common.{◌+◌, ◌<◌, ◌≤◌, [], ◌∷◌, ◌++◌, length, map, sym, ap, subst, ◌∙◌, arith, rules, Ok}
 use Rattle.std.specs.String.{string_bytes}
-use Rattle.decimal_json.specs.Value.{array, object, items_of, members_of}
-use Rattle.decimal_json.specs.Open.{Member}
-use Rattle.decimal_json.specs.inside.Scan.{first_item, first_key}
-use Rattle.decimal_json.specs.inside.Answer.{knows, IsBehind, place_of, BreaksValue, BreaksInside, ReadsInside, ReadsValue}
+use Rattle.std.proofs.lemmas.List.{map-append}
+use Rattle.decimal_json.specs.Value.{array, object, items_of, members_of, Member}
+use Rattle.decimal_json.specs.inside.Scan.{first_item, first_key, knows, IsBehind, place_of, BreaksValue, BreaksInside, ReadsInside, ReadsValue}
 use Rattle.decimal_json.specs.View.{view, pair_view}
 use Rattle.decimal_json.proofs.Exits.{passed_on}
-use Rattle.decimal_json.proofs.Views.{view-array, view-object, view-pair, map-push}
+use Rattle.decimal_json.proofs.Views.{view-array, view-object, view-pair}
 use Rattle.decimal_json.proofs.Keys.{knows_nothing}
 use Rattle.decimal_json.proofs.Values.{HasItems, HasMembers, array_cut, array_empty, items_begin, item_breaks, array_breaks, array_closes, items_go_on, object_cut, object_empty, members_begin, member_breaks, member_read, no_member_value, object_breaks, object_closes, members_go_on, value_cut, too_deep, inside_read, inside_breaks, open_array, open_object}
 use Rattle.decimal_json.proofs.value.+value.Goals as goal
@@ -40,14 +39,14 @@ array-returns-in_err-next-clause-fault t c =
 pub array-returns-in-Bracket-clause-read : goal.array-returns-in-Bracket-clause-read
 array-returns-in-Bracket-clause-read t c =
     subst (λ vs. ReadsInside c.args.source.now c.args.start first_item c.in-Bracket.next c.args.room (array (items_of vs)))
-    (sym (ap (λ xs. map view xs) c.in_ok-push.ensures.items ∙ map-push view c.loop-items.items.items c.in_ok-item.item))
+    (sym (ap (λ xs. map view xs) c.in_ok-push.ensures.items ∙ map-append view c.loop-items.items.items (c.in_ok-item.item ∷ [])))
     (array_closes c.args.source.now c.args.start c.loop-items.at c.in_ok-item.end c.in-Bracket.next c.args.room (map view c.loop-items.items.items) (view c.in_ok-item.item)
     c.loop-items.invariant c.in_ok-item.ensures.read (subst (λ p. IsBehind c.args.source.now c.in_ok-item.end 93 (Ok p)) c.in-Bracket.is c.in_ok-next.ensures.stands))
 
 pub array-loop-items-preserved : goal.array-loop-items-preserved
 array-loop-items-preserved t c =
     subst (λ vs. HasItems c.args.source.now c.args.start c.in-Comma.next c.args.room vs)
-    (sym (ap (λ xs. map view xs) c.in_ok-push.ensures.items ∙ map-push view c.loop-items.items.items c.in_ok-item.item))
+    (sym (ap (λ xs. map view xs) c.in_ok-push.ensures.items ∙ map-append view c.loop-items.items.items (c.in_ok-item.item ∷ [])))
     (items_go_on c.args.source.now c.args.start c.loop-items.at c.in_ok-item.end c.in-Comma.next c.args.room (map view c.loop-items.items.items) (view c.in_ok-item.item)
     c.loop-items.invariant c.in_ok-item.ensures.read (subst (λ p. IsBehind c.args.source.now c.in_ok-item.end 93 (Ok p)) c.in-Comma.is c.in_ok-next.ensures.stands)
     (let within = subst (λ p. (c.in_ok-item.end < place_of p) × (place_of p ≤ length c.args.source.now)) c.in-Comma.is c.in_ok-next.ensures.within in
@@ -91,7 +90,7 @@ members-returns-in_err-next-clause-fault t c =
 pub members-returns-in-Bracket-clause-read : goal.members-returns-in-Bracket-clause-read
 members-returns-in-Bracket-clause-read t c =
     subst (λ ms. ReadsInside c.args.source.now c.args.start first_key c.in-Bracket.next c.args.room (object (members_of ms)))
-    (sym (ap (λ xs. map pair_view xs) c.in_ok-push.ensures.items ∙ map-push pair_view c.loop-key.pairs.items _
+    (sym (ap (λ xs. map pair_view xs) c.in_ok-push.ensures.items ∙ map-append pair_view c.loop-key.pairs.items _
     ∙ ap (λ (m : Member). map pair_view c.loop-key.pairs.items ++ m ∷ []) (view-pair c.in_ok-key.key c.in_ok-value.value)))
     (object_closes c.args.source.now c.args.start c.loop-key.at c.in_ok-value.end c.in-Bracket.next c.args.room (map pair_view c.loop-key.pairs.items) (knows c.loop-key.places) (string_bytes c.in_ok-key.key) (view c.in_ok-value.value)
     c.loop-key.invariant (member_read c.args.source.now c.loop-key.at c.in_ok-key.colon c.in_ok-value.end c.args.room (knows c.loop-key.places) (string_bytes c.in_ok-key.key) (view c.in_ok-value.value) c.in_ok-key.ensures.read c.in_ok-value.ensures.read) (subst (λ p. IsBehind c.args.source.now c.in_ok-value.end 125 (Ok p)) c.in-Bracket.is c.in_ok-next.ensures.stands))
@@ -99,7 +98,7 @@ members-returns-in-Bracket-clause-read t c =
 pub members-loop-key-preserved : goal.members-loop-key-preserved
 members-loop-key-preserved t c =
     subst (λ ms. HasMembers c.args.source.now c.args.start c.in-Comma.next c.args.room ms (knows c.key.new.places))
-    (sym (ap (λ xs. map pair_view xs) c.in_ok-push.ensures.items ∙ map-push pair_view c.loop-key.pairs.items _
+    (sym (ap (λ xs. map pair_view xs) c.in_ok-push.ensures.items ∙ map-append pair_view c.loop-key.pairs.items _
     ∙ ap (λ (m : Member). map pair_view c.loop-key.pairs.items ++ m ∷ []) (view-pair c.in_ok-key.key c.in_ok-value.value)))
     (members_go_on c.args.source.now c.args.start c.loop-key.at c.in_ok-value.end c.in-Comma.next c.args.room (map pair_view c.loop-key.pairs.items) (knows c.loop-key.places) (knows c.key.new.places) (string_bytes c.in_ok-key.key) (view c.in_ok-value.value)
     c.loop-key.invariant (member_read c.args.source.now c.loop-key.at c.in_ok-key.colon c.in_ok-value.end c.args.room (knows c.loop-key.places) (string_bytes c.in_ok-key.key) (view c.in_ok-value.value) c.in_ok-key.ensures.read c.in_ok-value.ensures.read) c.in_ok-key.ensures.known (subst (λ p. IsBehind c.args.source.now c.in_ok-value.end 125 (Ok p)) c.in-Comma.is c.in_ok-next.ensures.stands)

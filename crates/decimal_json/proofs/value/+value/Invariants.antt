@@ -1,5 +1,5 @@
 use Rattle.std.proofs.Common.{◌+◌, ◌-◌, ◌*◌, map, length}
-use Rattle.decimal_json.specs.inside.Answer.{knows}
+use Rattle.decimal_json.specs.inside.Scan.{knows}
 use Rattle.decimal_json.specs.View.{view, pair_view}
 use Rattle.decimal_json.proofs.Values.{HasItems, HasMembers}
 use Rattle.decimal_json.proofs.value.+value.Given as goal

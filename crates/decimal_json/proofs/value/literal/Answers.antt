@@ -1,6 +1,5 @@
 use Rattle.std.proofs.Common.{sym, subst, ◌∙◌, arith, refl}
-use Rattle.decimal_json.specs.inside.Scan.{awaited, scan}
-use Rattle.decimal_json.specs.inside.Answer.{JsonFault, Leads}
+use Rattle.decimal_json.specs.inside.Scan.{awaited, scan, JsonFault, Leads}
 use Rattle.decimal_json.proofs.Values.{letter_read, letter_missing}
 use Rattle.decimal_json.proofs.value.literal.Goals as goal
 

@@ -1,6 +1,5 @@
 use Rattle.std.proofs.Common.{◌≡◌, ◌≤◌, ◌+◌, List, drop, length}
-use Rattle.decimal_json.specs.Value.{Value}
-use Rattle.decimal_json.specs.Open.{Frame}
+use Rattle.decimal_json.specs.Value.{Value, Frame}
 use Rattle.decimal_json.specs.inside.Scan.{awaited, scan}
 use Rattle.decimal_json.proofs.value.literal.Given as goal
 

@@ -1,4 +1,4 @@
-use Rattle.decimal_json.specs.Number.{written_decimal}
+use Rattle.decimal_json.specs.Value.{written_decimal}
 use Rattle.instance.proofs.Sizes.{held_says_same}
 use Rattle.instance.proofs.laws.held_exponents_say_the_same.Goals as goal
 

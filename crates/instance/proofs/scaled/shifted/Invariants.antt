@@ -1,6 +1,6 @@
 use Rattle.std.proofs.Common.{◌≡◌, ◌*◌, ◌^◌, take}
-use Rattle.decimal_json.specs.Number.{whole_of}
-use Rattle.instance.specs.Held.{held}
+use Rattle.decimal_json.specs.Value.{whole_of}
+use Rattle.instance.specs.Scaled.{held}
 use Rattle.instance.proofs.scaled.shifted.Given as goal
 
 abbrev pub invariant-digits : goal.invariant-digits

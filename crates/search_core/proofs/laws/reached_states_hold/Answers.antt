@@ -1,5 +1,5 @@
 -- A run with one event more is a run.
-use Rattle.search_core.proofs.TrueRuns.{starts_are_reached, steps_reach, reached_states_hold}
+use Rattle.search_core.proofs.TrueSteps.{starts_are_reached, steps_reach, reached_states_hold}
 use Rattle.search_core.proofs.laws.reached_states_hold.Goals as goal
 
 pub returns-clause-start : goal.returns-clause-start

@@ -1,5 +1,5 @@
 -- The law of tolerances is that of the call.
-use Rattle.search_core.proofs.TrueRuns.{runs_hold}
+use Rattle.search_core.proofs.TrueSteps.{runs_hold}
 use Rattle.search_core.proofs.laws.runs_hold.Goals as goal
 
 pub returns : goal.returns

@@ -1,7 +1,6 @@
 -- None of the note's tables has a scale above the greatest.
 use Rattle.std.proofs.Common.{subst, sym}
-use Rattle.search_core.proofs.Entries.{IsNoneOf}
-use Rattle.search_core.proofs.Scales.{above_all}
+use Rattle.search_core.proofs.NoteSteps.{IsNoneOf, above_all}
 use Rattle.search_core.proofs.notes.is_new.Goals as goal
 
 pub returns-then-is_above : goal.returns-then-is_above

@@ -3,8 +3,7 @@ use Rattle.std.proofs.Common.{◌≡◌, length, ap, ◌∙◌, arith, rules}
 use Rattle.std.specs.Int.{int_max}
 use Rattle.std.proofs.lemmas.List.{get_or_read}
 use Rattle.search_core.specs.Notes.{Note, no_note, with_note}
-use Rattle.search_core.proofs.Undone.{note_put_back}
-use Rattle.search_core.proofs.Scales.{note_entered}
+use Rattle.search_core.proofs.NoteSteps.{note_put_back, note_entered}
 use Rattle.search_core.proofs.record.enter.Goals as goal
 
 pub returns-then-is_err-clause-same : goal.returns-then-is_err-clause-same

@@ -2,7 +2,7 @@
 use Rattle.std.proofs.Common.{length, ap, ◌∙◌, arith}
 use Rattle.std.proofs.lemmas.List.{get_or_read}
 use Rattle.search_core.specs.Machine.{Desk, no_desk}
-use Rattle.search_core.proofs.Undone.{desk_put_back}
+use Rattle.search_core.proofs.NoteSteps.{desk_put_back}
 use Rattle.search_core.proofs.record.record.Goals as goal
 
 pub returns-then-is_err-clause-same_desks : goal.returns-then-is_err-clause-same_desks

@@ -2,7 +2,7 @@
 use Rattle.std.proofs.Common.{ℕ, ◌<◌, All, List, subst, sym, ◌∙◌}
 use Rattle.branch_tree.specs.TreeView.{tree_of}
 use Rattle.branch_tree.specs.UsedTables.{stored_tables}
-use Rattle.branch_tree.proofs.Used.{All-each_once}
+use Rattle.branch_tree.proofs.Preorder.{All-each_once}
 use Rattle.branch_tree.proofs.layout.Layout.of.Goals as goal
 
 pub returns-clause-within : goal.returns-clause-within

@@ -1,6 +1,6 @@
 -- The open leaf has its place, and that place changed.
 use Rattle.std.proofs.Common.{refl, arith}
-use Rattle.branch_tree.proofs.Made.{stored_within, close_made}
+use Rattle.branch_tree.proofs.Changes.{stored_within, close_made}
 use Rattle.branch_tree.proofs.tree.Tree.close.Goals as goal
 
 pub store-requires : goal.store-requires

@@ -1,5 +1,5 @@
 -- What stands at a place is what the tree has at its number.
-use Rattle.branch_tree.proofs.Made.{stored_spot}
+use Rattle.branch_tree.proofs.Changes.{stored_spot}
 use Rattle.branch_tree.proofs.tree.Tree.node.Goals as goal
 
 pub returns : goal.returns

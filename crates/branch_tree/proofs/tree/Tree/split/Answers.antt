@@ -1,7 +1,7 @@
 -- The open leaf has its place, that place changed, and two others follow.
 use Rattle.std.proofs.Common.{suc, refl, ◌∙◌, ap, arith}
 use Rattle.branch_tree.specs.TreeView.{TreeView}
-use Rattle.branch_tree.proofs.Made.{stored_within, stored_count, split_made}
+use Rattle.branch_tree.proofs.Changes.{stored_within, stored_count, split_made}
 use Rattle.branch_tree.proofs.tree.Tree.split.Goals as goal
 
 pub split-requires-clause-within : goal.split-requires-clause-within

@@ -2,8 +2,7 @@
 use Rattle.std.proofs.Common.{◌≡◌, ◌+◌, ◌-◌, suc, length, map, ap, ◌∙◌, arith}
 use Rattle.std.proofs.lemmas.List.{map_push, length_push}
 use Rattle.cert_text.specs.Reading.{node_of}
-use Rattle.cert_text.specs.inside.Parts.{tree_part}
-use Rattle.cert_text.specs.inside.ReadViews.{sizes}
+use Rattle.cert_text.specs.inside.Parts.{tree_part, sizes}
 use Rattle.cert_text.proofs.PartLaws.{node_more, no_node, nodes_done, node_shorter, owed_few}
 use Rattle.cert_text.proofs.reader.nodes.take_tree.Goals as goal
 

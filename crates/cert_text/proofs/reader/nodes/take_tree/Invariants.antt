@@ -2,8 +2,7 @@
 -- tree that is owed, and the bytes that are left grow fewer.
 use Rattle.std.proofs.Common.{◌≡◌, ◌≤◌, ◌+◌, ◌*◌, ◌-◌, length, map}
 use Rattle.cert_text.specs.Reading.{node_of}
-use Rattle.cert_text.specs.inside.Parts.{nodes_part}
-use Rattle.cert_text.specs.inside.ReadViews.{sizes}
+use Rattle.cert_text.specs.inside.Parts.{nodes_part, sizes}
 use Rattle.cert_text.proofs.Loops.{behind_parts}
 use Rattle.cert_text.proofs.reader.nodes.take_tree.Given as goal
 

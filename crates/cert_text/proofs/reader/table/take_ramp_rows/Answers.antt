@@ -1,5 +1,5 @@
 -- A row more goes behind those that were read; where one can't stand, the rows stop.
-use Rattle.cert_text.specs.inside.ReadViews.{sizes}
+use Rattle.cert_text.specs.inside.Parts.{sizes}
 use Rattle.cert_text.proofs.Loops.{ramp_more, no_ramp, ramps_done}
 use Rattle.cert_text.proofs.reader.table.take_ramp_rows.Goals as goal
 

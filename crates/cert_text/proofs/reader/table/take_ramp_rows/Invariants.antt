@@ -1,7 +1,6 @@
 -- The rows so far, and behind them those that are still read.
 use Rattle.std.proofs.Common.{◌≡◌, ◌-◌, None}
-use Rattle.cert_text.specs.inside.Parts.{ramp_rows_part}
-use Rattle.cert_text.specs.inside.ReadViews.{sizes}
+use Rattle.cert_text.specs.inside.Parts.{ramp_rows_part, sizes}
 use Rattle.cert_text.proofs.Loops.{behind_parts}
 use Rattle.cert_text.proofs.reader.table.take_ramp_rows.Given as goal
 

@@ -2,7 +2,7 @@
 use Rattle.std.proofs.Common.{◌≡◌, arith, pos, to_z}
 use Rattle.std.proofs.lemmas.Int.{ints}
 use Rattle.std.specs.Int.{w64}
-use Rattle.cert_text.specs.inside.ReadViews.{sizes}
+use Rattle.cert_text.specs.inside.Parts.{sizes}
 use Rattle.cert_text.proofs.PartLaws.{numbers_form}
 use Rattle.cert_text.proofs.reader.table.take_table.Goals as goal
 

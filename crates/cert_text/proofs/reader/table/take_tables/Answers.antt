@@ -1,7 +1,6 @@
 -- A table more goes behind those that were read; where one stops, so do the tables.
 use Rattle.std.proofs.lemmas.Result.{err_from_is_err_and}
-use Rattle.cert_text.specs.inside.Parts.{table_part}
-use Rattle.cert_text.specs.inside.ReadViews.{sizes}
+use Rattle.cert_text.specs.inside.Parts.{table_part, sizes}
 use Rattle.cert_text.proofs.Loops.{part_more, part_stops_as, parts_done}
 use Rattle.cert_text.proofs.reader.table.take_tables.Goals as goal
 

@@ -1,7 +1,6 @@
 -- The tables so far, and behind them those that are still read.
 use Rattle.std.proofs.Common.{◌≡◌, ◌-◌}
-use Rattle.cert_text.specs.inside.Parts.{repeated, table_part}
-use Rattle.cert_text.specs.inside.ReadViews.{sizes}
+use Rattle.cert_text.specs.inside.Parts.{repeated, table_part, sizes}
 use Rattle.cert_text.proofs.Loops.{behind_parts}
 use Rattle.cert_text.proofs.reader.table.take_tables.Given as goal
 

@@ -1,7 +1,7 @@
 -- A row more goes behind those that were read; where one stops, so do the rows.
 use Rattle.std.proofs.Common.{◌∷◌, [], ◌++◌, ap, ◌∙◌}
 use Rattle.std.proofs.lemmas.Result.{err_from_is_err_and}
-use Rattle.cert_text.specs.inside.LineForms.{row_at}
+use Rattle.cert_text.specs.inside.Forms.{row_at}
 use Rattle.cert_text.specs.inside.Parts.{line_of, rows_of}
 use Rattle.cert_text.proofs.Loops.{part_more, part_stops_as, parts_done}
 use Rattle.cert_text.proofs.reader.words.take_rows.Goals as goal

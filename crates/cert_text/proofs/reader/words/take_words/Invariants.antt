@@ -1,6 +1,6 @@
 -- The words so far, and behind them those that are still read.
 use Rattle.std.proofs.Common.{◌≡◌, ◌-◌}
-use Rattle.cert_text.specs.inside.LineForms.{words_at}
+use Rattle.cert_text.specs.inside.Forms.{words_at}
 use Rattle.cert_text.proofs.Loops.{behind_words}
 use Rattle.cert_text.proofs.reader.words.take_words.Given as goal
 

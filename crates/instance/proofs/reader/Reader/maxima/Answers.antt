@@ -1,8 +1,7 @@
 use Rattle.std.proofs.Common.{arith}
 use Rattle.std.proofs.lemmas.Grind.{common_steps}
 use Rattle.decimal_json.specs.View.{view}
-use Rattle.instance.specs.FirstFault.{maximum_entry}
-use Rattle.instance.specs.Rounded.{rounded_value}
+use Rattle.instance.specs.FirstFault.{maximum_entry, rounded_value}
 use Rattle.instance.proofs.Loops.{read_more}
 use Rattle.instance.proofs.reader.Reader.maxima.Goals as goal
 

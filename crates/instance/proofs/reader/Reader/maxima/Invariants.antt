@@ -1,6 +1,5 @@
 use Rattle.decimal_json.specs.View.{view}
-use Rattle.instance.specs.FirstFault.{maximum_entry}
-use Rattle.instance.specs.Rounded.{rounded_value}
+use Rattle.instance.specs.FirstFault.{maximum_entry, rounded_value}
 use Rattle.instance.proofs.Loops.{HasRead}
 use Rattle.instance.proofs.reader.Reader.maxima.Given as goal
 

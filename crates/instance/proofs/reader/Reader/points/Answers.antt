@@ -1,8 +1,7 @@
 use Rattle.std.proofs.Common.{arith}
 use Rattle.std.proofs.lemmas.Grind.{common_steps}
 use Rattle.decimal_json.specs.View.{view}
-use Rattle.instance.specs.FirstFault.{point_row}
-use Rattle.instance.specs.Rounded.{rounded_point}
+use Rattle.instance.specs.FirstFault.{point_row, rounded_point}
 use Rattle.instance.proofs.Loops.{read_more}
 use Rattle.instance.proofs.reader.Reader.points.Goals as goal
 

@@ -1,8 +1,6 @@
 use Rattle.std.proofs.Common.{◌≡◌}
 use Rattle.decimal_json.specs.View.{view}
-use Rattle.instance.specs.FirstFault.{point_row}
-use Rattle.instance.specs.Points.{last_output}
-use Rattle.instance.specs.Rounded.{rounded_point}
+use Rattle.instance.specs.FirstFault.{point_row, last_output, rounded_point}
 use Rattle.instance.proofs.Loops.{HasRead}
 use Rattle.instance.proofs.reader.Reader.points.Given as goal
 

@@ -1,6 +1,5 @@
 use Rattle.decimal_json.specs.View.{view}
-use Rattle.instance.specs.FirstFault.{power_entry}
-use Rattle.instance.specs.Rounded.{rounded_value}
+use Rattle.instance.specs.FirstFault.{power_entry, rounded_value}
 use Rattle.instance.proofs.Loops.{HasRead}
 use Rattle.instance.proofs.reader.Reader.powers.Given as goal
 

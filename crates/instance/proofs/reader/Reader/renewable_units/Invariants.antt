@@ -1,8 +1,7 @@
 use Rattle.std.proofs.Common.{ℕ, List}
 use Rattle.decimal_json.specs.Value.{Value}
 use Rattle.decimal_json.specs.View.{pair_view}
-use Rattle.instance.specs.FirstFault.{renewable_member}
-use Rattle.instance.specs.Rounded.{rounded_renewable}
+use Rattle.instance.specs.FirstFault.{renewable_member, rounded_renewable}
 use Rattle.instance.specs.inside.Parts.{RENEWABLE_NUMBERS}
 use Rattle.instance.proofs.Loops.{HasRead}
 use Rattle.instance.proofs.reader.Reader.renewable_units.Given as goal

@@ -1,6 +1,5 @@
 use Rattle.decimal_json.specs.View.{view}
-use Rattle.instance.specs.FirstFault.{start_row}
-use Rattle.instance.specs.Rounded.{rounded_start_row}
+use Rattle.instance.specs.FirstFault.{start_row, rounded_start_row}
 use Rattle.instance.proofs.Loops.{HasRead}
 use Rattle.instance.proofs.reader.Reader.startup.Given as goal
 

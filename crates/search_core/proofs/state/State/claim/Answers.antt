@@ -4,11 +4,9 @@ use Rattle.branch_tree.specs.NumberedTree.{node_count}
 use Rattle.branch_tree.proofs.Grown.{open_numbered}
 use Rattle.search_core.specs.Machine.{Machine}
 use Rattle.search_core.specs.Steps.{Claim, IsLegal}
-use Rattle.search_core.specs.Notes.{AreNotesOf, AreScalesNoted}
-use Rattle.search_core.specs.Inside.{view_of}
-use Rattle.search_core.proofs.Kept.{kept_by}
-use Rattle.search_core.proofs.NoteSteps.{notes_claimed}
-use Rattle.search_core.proofs.Scales.{scales_held}
+use Rattle.search_core.specs.Notes.{AreNotesOf, AreScalesNoted, view_of}
+use Rattle.search_core.proofs.OrderlySteps.{kept_by}
+use Rattle.search_core.proofs.NoteSteps.{notes_claimed, scales_held}
 use Rattle.search_core.proofs.state.State.claim.Goals as goal
 
 pub set_held-requires : goal.set_held-requires

@@ -2,11 +2,10 @@
 use Rattle.std.proofs.Common.{◌≡◌, length, refl, sym, subst, arith, rules}
 use Rattle.search_core.specs.Machine.{Machine, IsHolding}
 use Rattle.search_core.specs.Steps.{Commit, IsLegal, after}
-use Rattle.search_core.specs.Inside.{view_of}
-use Rattle.search_core.proofs.Commits.{commit_count, commit_notes}
-use Rattle.search_core.proofs.Holding.{holdable}
-use Rattle.search_core.proofs.Kept.{kept_to}
-use Rattle.search_core.proofs.Scales.{scales_committed}
+use Rattle.search_core.specs.Notes.{view_of}
+use Rattle.search_core.proofs.OrderlySteps.{commit_count, commit_notes, kept_to}
+use Rattle.search_core.proofs.Claims.{holdable}
+use Rattle.search_core.proofs.NoteSteps.{scales_committed}
 use Rattle.search_core.proofs.state.State.commit.Goals as goal
 
 pub make-requires-clause-live : goal.make-requires-clause-live

@@ -1,7 +1,7 @@
 -- No entry is of a node that has no note.
 use Rattle.std.proofs.Common.{◌≤◌, ap, sym, ◌∙◌, subst, length}
 use Rattle.search_core.specs.Machine.{Machine, entries_of}
-use Rattle.search_core.proofs.Opened.{unnoted}
+use Rattle.search_core.proofs.NoteSteps.{unnoted}
 use Rattle.search_core.proofs.state.State.entries.Goals as goal
 
 pub returns-in-None : goal.returns-in-None

@@ -2,8 +2,8 @@
 use Rattle.std.proofs.Common.{◌≡◌, ◌<◌, ap, sym, ◌∙◌, subst, Some}
 use Rattle.branch_tree.specs.NumberedTree.{node_count}
 use Rattle.search_core.specs.Machine.{Machine, holder_in}
-use Rattle.search_core.specs.Inside.{view_of}
-use Rattle.search_core.proofs.Holding.{holdable}
+use Rattle.search_core.specs.Notes.{view_of}
+use Rattle.search_core.proofs.Claims.{holdable}
 use Rattle.search_core.proofs.state.State.held_by.Goals as goal
 
 pub returns-in-Some-clause-within : goal.returns-in-Some-clause-within

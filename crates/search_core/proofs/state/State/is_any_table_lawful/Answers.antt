@@ -5,8 +5,7 @@ use Rattle.std.proofs.lemmas.List.{get_or_read, nil_from_length}
 use Rattle.search_core.specs.Machine.{Machine, entries_of}
 use Rattle.search_core.specs.Notes.{Note, no_note, entry_tables}
 use Rattle.search_core.specs.Steps.{IsStoredTable}
-use Rattle.search_core.proofs.Opened.{kept_note}
-use Rattle.search_core.proofs.Entries.{no_tables}
+use Rattle.search_core.proofs.NoteSteps.{kept_note, no_tables}
 use Rattle.search_core.proofs.state.State.is_any_table_lawful.Goals as goal
 
 pub returns-clause-first : goal.returns-clause-first

@@ -3,7 +3,7 @@ use Rattle.std.proofs.Common.{sym, subst, arith}
 use Rattle.search_core.specs.Machine.{Machine}
 use Rattle.search_core.specs.Notes.{IsFreeLeaf}
 use Rattle.search_core.specs.Steps.{IsClaimable}
-use Rattle.search_core.proofs.Opened.{free_is_open, open_is_free}
+use Rattle.search_core.proofs.NoteSteps.{free_is_open, open_is_free}
 use Rattle.search_core.proofs.state.State.is_claimable.Goals as goal
 
 pub returns-then-len-self : goal.returns-then-len-self

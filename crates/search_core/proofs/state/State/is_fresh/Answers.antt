@@ -3,12 +3,9 @@ use Rattle.std.proofs.Common.{◌≡◌, ◌<◌, ◌↔◌, ℕ, List, ap, sym,
 use Rattle.std.proofs.lemmas.List.{get_or_read}
 use Rattle.branch_tree.specs.NumberedTree.{node_count}
 use Rattle.search_core.specs.Machine.{Table, Machine, entries_of}
-use Rattle.search_core.specs.Notes.{Note, no_note, note_in, entry_tables, AreScalesAtMost}
+use Rattle.search_core.specs.Notes.{Note, no_note, note_in, entry_tables, AreScalesAtMost, Inside, view_of, IsKept}
 use Rattle.search_core.specs.Steps.{IsFresh}
-use Rattle.search_core.specs.Inside.{Inside, view_of, IsKept}
-use Rattle.search_core.proofs.Opened.{kept_note}
-use Rattle.search_core.proofs.Entries.{IsNoneOf, none_of_entries, entries_none_of}
-use Rattle.search_core.proofs.Scales.{scales_in}
+use Rattle.search_core.proofs.NoteSteps.{kept_note, IsNoneOf, none_of_entries, entries_none_of, scales_in}
 use Rattle.search_core.proofs.state.State.is_fresh.Goals as goal
 
 -- a table is fresh where it is none of the note's

@@ -1,8 +1,8 @@
 -- One desk changed, and none of its tickets.
 use Rattle.std.proofs.Common.{refl}
 use Rattle.search_core.specs.declared.event.Event.TheVariants.{Look}
-use Rattle.search_core.specs.Inside.{view_of}
-use Rattle.search_core.proofs.Kept.{kept_by}
+use Rattle.search_core.specs.Notes.{view_of}
+use Rattle.search_core.proofs.OrderlySteps.{kept_by}
 use Rattle.search_core.proofs.state.State.look.Goals as goal
 
 pub invariant_of-self : goal.invariant_of-self

@@ -1,8 +1,8 @@
 -- What is known of costs changed, and no ticket.
 use Rattle.std.proofs.Common.{refl}
 use Rattle.search_core.specs.declared.event.Event.TheVariants.{Publish}
-use Rattle.search_core.specs.Inside.{view_of}
-use Rattle.search_core.proofs.Kept.{kept_by}
+use Rattle.search_core.specs.Notes.{view_of}
+use Rattle.search_core.proofs.OrderlySteps.{kept_by}
 use Rattle.search_core.proofs.state.State.publish.Goals as goal
 
 pub invariant_of-self : goal.invariant_of-self

@@ -1,8 +1,8 @@
 -- A ticket moved on one desk.
 use Rattle.std.proofs.Common.{refl}
 use Rattle.search_core.specs.declared.event.Event.TheVariants.{Push}
-use Rattle.search_core.specs.Inside.{view_of}
-use Rattle.search_core.proofs.Kept.{kept_by}
+use Rattle.search_core.specs.Notes.{view_of}
+use Rattle.search_core.proofs.OrderlySteps.{kept_by}
 use Rattle.search_core.proofs.state.State.push.Goals as goal
 
 pub invariant_of-self-2 : goal.invariant_of-self-2

@@ -6,8 +6,7 @@ use Rattle.branch_tree.specs.TreeView.{TreeView}
 use Rattle.search_core.specs.Machine.{start_of}
 use Rattle.search_core.specs.Orderly.{IsOrderly}
 use Rattle.search_core.specs.Notes.{AreScalesNoted}
-use Rattle.search_core.proofs.Started.{orderly_start, start_notes_are}
-use Rattle.search_core.proofs.Scales.{scales_start}
+use Rattle.search_core.proofs.NoteSteps.{orderly_start, start_notes_are, scales_start}
 use Rattle.search_core.proofs.state.State.start.Goals as goal
 
 pub invariant_of-result : goal.invariant_of-result

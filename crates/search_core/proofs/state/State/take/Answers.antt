@@ -3,8 +3,8 @@ use Rattle.std.proofs.Common.{◌≡◌, refl, ap, sym, subst, ◌∙◌, arith,
 use Rattle.std.proofs.lemmas.List.{get_or_read}
 use Rattle.search_core.specs.Machine.{Machine, no_desk, desk_in}
 use Rattle.search_core.specs.Steps.{Steal, IsLegal, first_queued, with_desk, with_tickets, without_first, taken}
-use Rattle.search_core.specs.Inside.{view_of}
-use Rattle.search_core.proofs.Kept.{kept_by}
+use Rattle.search_core.specs.Notes.{view_of}
+use Rattle.search_core.proofs.OrderlySteps.{kept_by}
 use Rattle.search_core.proofs.state.State.take.Goals as goal
 
 pub invariant_of-self-2 : goal.invariant_of-self-2
