@@ -1,6 +1,6 @@
 //! The drop pass: from the most-on commitment to one of fewer on periods, unit by unit, where the dispatch is better for it.
 
-ghost use Rattle.std.specs.Prelude.{◌≡◌, ◌<◌, IfOk, IsTrue, length, suc};
+ghost use Rattle.std.specs.Prelude.{◌≡◌, ◌<◌, ◌↔◌, IfOk, IsTrue, length, suc};
 ghost use Rattle.uc_model.specs.Limits.{IsLawfulInstance};
 ghost use Rattle.uc_model.specs.Schedule.{thermal_count};
 ghost use Rattle.dispatch_repair.specs.MostOn.{AreMostOn};
@@ -214,7 +214,7 @@ fn fewest(instance: &Instance, g: usize) -> Pattern
 
 // Whether two patterns are on in the same periods.
 fn is_same(first: &Pattern, second: &Pattern) -> bool
-    ensures { IsTrue result → first.now ≡ second.now }
+    ensures { IsTrue result ↔ (first.now ≡ second.now) }
 {
     first.low == second.low && first.high == second.high
 }

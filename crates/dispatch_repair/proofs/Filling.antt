@@ -11,7 +11,7 @@ use Rattle.cost_curves.proofs.Lines.{flatter_trans}
 use Rattle.dispatch_repair.specs.MeritOrder.{Instance, Slope, HasNextSlope}
 use Rattle.dispatch_repair.specs.inside.Amounts.{Range, range_at, amount_at, thermal_amount}
 use Rattle.dispatch_repair.specs.inside.Filling.{Left, IsLeft, IsOpen, IsFull, IsSpent, IsRaise, CostsUpTo, IsWorth, IsTaken, AddsUp, IsFilledTo}
-use Rattle.dispatch_repair.specs.inside.Segments.{Segment, comes_before, IsAtMost, source_at, source_count, segment_at, no_segment, IsSegmentOf, AreInMeritOrder}
+use Rattle.dispatch_repair.specs.Segments.{Segment, comes_before, IsAtMost, source_at, source_count, segment_at, no_segment, IsSegmentOf, AreInMeritOrder}
 use Rattle.dispatch_repair.proofs.MeritSegments.{up_to-from}
 
 -- ---- sums with one term changed

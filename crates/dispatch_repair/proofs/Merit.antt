@@ -16,7 +16,7 @@ use Rattle.dispatch_repair.specs.Stuck.{HaveRanges, IsFree}
 use Rattle.dispatch_repair.specs.inside.Amounts.{Range, range_at, amount_at, amount_of, thermal_amount, AreRangesOf, AreHeadsOf, IsSizedOutput}
 use Rattle.dispatch_repair.specs.inside.Filled.{IsDispatchedFrom}
 use Rattle.dispatch_repair.specs.inside.Filling.{Left, IsOpen, IsFull, CostsUpTo, IsWorth, IsTaken, IsFilledTo, IsFirstLeft}
-use Rattle.dispatch_repair.specs.inside.Segments.{Segment, IsNextOn, source_at, source_count, segment_at, no_segment, width_at, AreInMeritOrder}
+use Rattle.dispatch_repair.specs.Segments.{Segment, IsNextOn, source_at, source_count, segment_at, no_segment, width_at, AreInMeritOrder}
 use Rattle.dispatch_repair.proofs.CurveSegments.{renewable_at, thermal_at}
 use Rattle.dispatch_repair.proofs.NextSlopes.{next_run}
 use Rattle.dispatch_repair.proofs.Filled.{max_left}

@@ -9,7 +9,7 @@ use Rattle.std.proofs.lemmas.List.Sorted.{All-permutation, Contains-permutation}
 use Rattle.uc_model.proofs.Ring.{linear, le_antisymm, le_or_lt}
 use Rattle.uc_model.proofs.Tests.{int_lt-true, lt-int_lt, int_eq-true, eq-int_eq}
 use Rattle.cost_curves.proofs.Lines.{flatter_trans}
-use Rattle.dispatch_repair.specs.inside.Segments.{Instance, Segment, width_of, comes_before, segment_at, no_segment, IsSegmentOf, AreSegmentsOf, AreInMeritOrder, source_count}
+use Rattle.dispatch_repair.specs.Segments.{Instance, Segment, width_of, comes_before, segment_at, no_segment, IsSegmentOf, AreSegmentsOf, AreInMeritOrder, source_count}
 
 -- ---- the test of products and places
 abbrev is_less : ℤ → ℤ → ℕ → ℕ → Bool

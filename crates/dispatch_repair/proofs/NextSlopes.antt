@@ -4,7 +4,7 @@ use Rattle.uc_model.specs.Schedule.{thermal_unit}
 use Rattle.cost_curves.proofs.Slopes.{slope_run}
 use Rattle.dispatch_repair.specs.Period.{Instance, Source, FromRenewable, FromThermal}
 use Rattle.dispatch_repair.specs.MeritOrder.{Slope, HasNextSlope}
-use Rattle.dispatch_repair.specs.inside.Segments.{source_at}
+use Rattle.dispatch_repair.specs.Segments.{source_at}
 
 of_source : (instance : Instance) (s : Source) (watt : ℤ) (slope : Slope) → HasNextSlope instance s watt slope → pos 0 <ℤ slope.run
 of_source instance (FromRenewable w) watt slope h = h.1

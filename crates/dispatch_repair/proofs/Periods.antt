@@ -18,12 +18,12 @@ use Rattle.dispatch_repair.specs.Period.{Instance, Pattern, Printed, Thermal, Pe
 use Rattle.dispatch_repair.specs.MeritOrder.{IsInMeritOrder}
 use Rattle.dispatch_repair.specs.Dispatch.{Cell, HasPeriods, IsCommittedCell, amounts, period_after, IsFilling, IsFilled, IsDispatchThrough}
 use Rattle.dispatch_repair.specs.Stuck.{Stuck, Why, IsRegular, IsFirstBrokenRule, IsStuckInPeriod, IsFirstObstacle, stuck_period, IsStuckBy, IsStuckOf}
-use Rattle.dispatch_repair.specs.Rooms.{Obstacle, Room, IsObstacleOf, IsRoomOf, IsStuckAfter}
+use Rattle.dispatch_repair.specs.Rooms.{Obstacle, Room, IsObstacleOf, IsRoomOf, IsStuckAfter, AreCommitted, AreSameBelow}
 use Rattle.dispatch_repair.specs.inside.Amounts.{amount_at, amount_of, thermal_amount, IsSizedOutput}
 use Rattle.dispatch_repair.specs.inside.Filled.{IsDispatchedFrom}
 use Rattle.dispatch_repair.specs.inside.Progress.{AreBefore, AreFilledBelow}
-use Rattle.dispatch_repair.specs.inside.Rows.{AreCommitted, AreSameBut, IsWritten, AreSameBelow}
-use Rattle.dispatch_repair.specs.inside.Segments.{source_count}
+use Rattle.dispatch_repair.specs.inside.Rows.{AreSameBut, IsWritten}
+use Rattle.dispatch_repair.specs.Segments.{source_count}
 use Rattle.dispatch_repair.proofs.Impossible.{impossible}
 
 -- ---- what was filled stays so

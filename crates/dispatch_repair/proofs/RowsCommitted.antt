@@ -1,5 +1,5 @@
 -- The rows of a commitment, as they are made.
-use Rattle.std.proofs.Common.{◌≡◌, ◌≢◌, ℕ, ◌+◌, ◌<◌, inl, inr, below_more, length, get_or, get_or-set_other, get_or-set_same, length-set, sym, ap, subst, ◌∙◌, arith, List, [], ◌∷◌, ◌++◌, ℤ, IsTrue}
+use Rattle.std.proofs.Common.{◌≡◌, ◌≢◌, ℕ, ◌+◌, ◌<◌, inl, inr, below_more, length, get_or, get_or-set_other, get_or-set_same, length-set, sym, ap, subst, ◌∙◌, arith, List, [], ◌∷◌, ◌++◌, ℤ, pos, IsTrue}
 use Rattle.std.proofs.Math.ListN.{set}
 use Rattle.std.specs.declared.alloc.Global.{Global}
 use Rattle.std.specs.declared.vec.Vec.{Vec}
@@ -12,9 +12,9 @@ use Rattle.uc_model.specs.PrintedSchedule.{cell_at}
 use Rattle.uc_model.specs.Schedule.{thermal_count, thermal_unit}
 use Rattle.uc_model.specs.StartCategory.{category_cost}
 use Rattle.start_costs.specs.Cheapest.{IsCheapestAbove}
-use Rattle.dispatch_repair.specs.Rooms.{Instance, Pattern, Printed, Rows, AreRowsBut, AreRowsOf, printed_of}
+use Rattle.dispatch_repair.specs.Rooms.{Instance, Pattern, Printed, Rows, AreRowsBut, AreRowsOf, printed_of, AreCommitted, rows_of}
 use Rattle.dispatch_repair.specs.Dispatch.{Cell, HasPeriods, IsCommittedCell}
-use Rattle.dispatch_repair.specs.inside.Rows.{AreCommitted, AreCommittedRows, IsCommittedRow, IsNewCell, cell_of, rows_of}
+use Rattle.dispatch_repair.specs.inside.Rows.{AreCommittedRows, IsCommittedRow, IsNewCell, cell_of}
 
 -- an entry at each place up to a new last one
 push_each : {X : Type 0} (P : ℕ → X → Type 0) (xs : List X) (x d : X) (n : ℕ) → length xs ≡ n
@@ -41,6 +41,10 @@ rows_more instance patterns n rows row before is = record {
   count = length_push rows row ∙ ap (λ k. k + 1) before.count;
   each = push_each (λ g. IsCommittedRow instance patterns g instance.periods) rows row [] n before.count before.each is;
 }
+
+-- a cell gives nothing
+abbrev IsIdle : Cell → Type 0
+IsIdle cell = (cell.p ≡ pos 0) × (cell.r ≡ pos 0)
 
 -- one row in another's place
 module _ (instance : Instance) (patterns : List Pattern) (g : ℕ) (rows : List (Vec Cell Global)) (outputs : List (List ℤ)) (row : Vec Cell Global) where
@@ -72,6 +76,18 @@ module _ (instance : Instance) (patterns : List Pattern) (g : ℕ) (rows : List 
       };
       cells = is_committed;
     })
+
+    -- the row gives nothing
+    pub powerless : (t : ℕ) → t < instance.periods → IsIdle (cell_at (with_rows (rows_of (set rows g row))) g t)
+    powerless t h = subst (λ cells. IsIdle (cell_at (with_rows cells) g t)) (sym (map-set _ rows g row))
+        (subst (λ (cells : List Cell). IsIdle (cell_of cells t)) (sym (get_or-set_same (rows_of rows) g row.items [] (omega (arith, shape.thermal))))
+        ((own.cells t h).output, (own.cells t h).reserve))
+
+  -- the other rows are as they were
+  pub others_same : (h t : ℕ) → h ≢ g → cell_at (with_rows (rows_of (set rows g row))) h t ≡ cell_at (with_rows (rows_of rows)) h t
+  others_same h t apart =
+      ap (λ cells. cell_at (with_rows cells) h t) (map-set _ rows g row)
+      ∙ ap (λ (cells : List Cell). cell_of cells t) (get_or-set_other (rows_of rows) g h row.items [] apart)
 
 -- the rows of a commitment are those of one with another pattern of unit g, but for its own
 -- Cite by `use Rattle.dispatch_repair.proofs.RowsCommitted.{rows_but}`.

@@ -9,8 +9,8 @@ use Rattle.std.proofs.lemmas.List.{map-set, get_or-map, get_or-take, get_or_defa
 use Rattle.std.proofs.lemmas.List.Edits.{map_over_more}
 use Rattle.std.proofs.lemmas.List.Elements.{All-map}
 use Rattle.dispatch_repair.specs.Dispatch.{Instance, Printed, HasPeriods}
-use Rattle.dispatch_repair.specs.Rooms.{Obstacle, IsStuckAfter}
-use Rattle.dispatch_repair.specs.inside.Rows.{rows_of, row_at}
+use Rattle.dispatch_repair.specs.Rooms.{Obstacle, IsStuckAfter, rows_of}
+use Rattle.dispatch_repair.specs.inside.Rows.{row_at}
 
 -- the row that is read is the one at its place
 pub row_read : {X : Type 0} (rows : List (Vec X Global)) (i : ℕ) (row : Vec X Global) → i < length rows

@@ -1,19 +1,21 @@
--- The room of an instance: what its dispatches share; and the rows that they are written into. This project's own.
-use Rattle.std.specs.Prelude.{◌≡◌, ◌≢◌, ℕ, ◌<◌, ◌≤◌, List, length}
+-- The room of an instance: what its dispatches share; and the rows that they are written into, with the schedule that rows stand for.
+-- This project's own.
+use Rattle.std.specs.Prelude.{◌≡◌, ◌≢◌, ℕ, ◌<◌, ◌≤◌, List, pos, length, map}
+use Rattle.std.specs.declared.alloc.Global.{Global}
+use Rattle.std.specs.declared.vec.Vec.{Vec}
 use Rattle.uc_model.specs.PrintedSchedule.{cell_at}
 use Rattle.uc_model.specs.Schedule.{thermal_count}
 pub use Rattle.uc_model.specs.declared.instance.Instance.{Instance}
 pub use Rattle.uc_model.specs.declared.pattern.Pattern.{Pattern}
 pub use Rattle.uc_model.specs.declared.schedule.Printed.{Printed}
+use Rattle.schedule_check.specs.SizedNumbers.{output_at}
 use Rattle.dispatch_repair.specs.Dispatch.{HasPeriods, IsCommittedCell, IsFilled, period_after}
 use Rattle.dispatch_repair.specs.Period.{output_before}
 use Rattle.dispatch_repair.specs.Stuck.{Stuck, Why, IsFirstObstacle}
-use Rattle.dispatch_repair.specs.inside.Rows.{AreCommitted, AreSameBelow}
-use Rattle.dispatch_repair.specs.inside.Segments.{source_count, AreInMeritOrder}
+use Rattle.dispatch_repair.specs.Segments.{source_count, AreInMeritOrder}
 pub use Rattle.dispatch_repair.specs.declared.room.Room.{Room}
 pub use Rattle.dispatch_repair.specs.declared.rows.Rows.{Rows}
 pub use Rattle.dispatch_repair.specs.declared.schedule.Obstacle.{Obstacle}
-pub use Rattle.dispatch_repair.specs.inside.Rows.{printed_of}
 
 -- memory for the periods of an instance, with its segments in order of merit
 pub record IsRoomOf (instance : Instance) (room : Room) : Type 0 where
@@ -21,6 +23,19 @@ pub record IsRoomOf (instance : Instance) (room : Room) : Type 0 where
   pub ranges : length room.ranges.items ≡ source_count instance
   pub amounts : length room.amounts.items ≡ source_count instance
   pub heads : length room.heads.items ≡ thermal_count instance
+
+-- the rows' items
+abbrev pub rows_of : {X : Type 0} → List (Vec X Global) → List (List X)
+rows_of rows = map (λ row. row.items) rows
+
+-- the schedule of the rows
+abbrev pub printed_of : Rows → Printed
+printed_of rows = record { thermal = rows_of rows.thermal.items; renewable = rows_of rows.renewable.items }
+
+-- a row for each unit, with a cell for each period, and each cell is the commitment's
+pub record AreCommitted (instance : Instance) (patterns : List Pattern) (printed : Printed) : Type 0 where
+  pub shape : HasPeriods instance instance.periods printed
+  pub cells : (g t : ℕ) → g < thermal_count instance → t < instance.periods → IsCommittedCell instance patterns g t (cell_at printed g t)
 
 -- the rows have the states and the start categories of the commitment
 abbrev pub AreRowsOf : Instance → List Pattern → Rows → Type 0
@@ -32,11 +47,30 @@ pub record AreRowsBut (instance : Instance) (patterns : List Pattern) (g : ℕ) 
   pub others : (h t : ℕ) → h < thermal_count instance → t < instance.periods → h ≢ g
       → IsCommittedCell instance patterns h t (cell_at (printed_of rows) h t)
 
+-- unit g's row gives nothing
+pub record IsPowerless (instance : Instance) (rows : Rows) (g : ℕ) : Type 0 where
+  pub output : (t : ℕ) → t < instance.periods → (cell_at (printed_of rows) g t).p ≡ pos 0
+  pub reserve : (t : ℕ) → t < instance.periods → (cell_at (printed_of rows) g t).r ≡ pos 0
+
+-- nor does any thermal unit's
+abbrev pub ArePowerless : Instance → Rows → Type 0
+ArePowerless instance rows = (g : ℕ) → g < thermal_count instance → IsPowerless instance rows g
+
+-- the rows are the same but for unit g's
+pub record AreSameRowsBut (g : ℕ) (old new : Rows) : Type 0 where
+  pub cells : (h t : ℕ) → h ≢ g → cell_at (printed_of new) h t ≡ cell_at (printed_of old) h t
+  pub renewable : new.renewable ≡ old.renewable
+
 -- the first obstacle of a commitment, after the periods of the schedule that were filled before it
 pub record IsObstacleOf (instance : Instance) (patterns : List Pattern) (printed : Printed) (obstacle : Obstacle) : Type 0 where
   pub within : obstacle.period < instance.periods
   pub filled : (t : ℕ) → t < obstacle.period → IsFilled instance patterns printed t
   pub first : IsFirstObstacle (period_after instance patterns obstacle.period (λ g. output_before instance printed g obstacle.period)) obstacle.why
+
+-- the schedules are the same in the first periods
+pub record AreSameBelow (periods : ℕ) (old new : Printed) : Type 0 where
+  pub cells : (g k : ℕ) → k < periods → cell_at new g k ≡ cell_at old g k
+  pub outputs : (w k : ℕ) → k < periods → output_at new w k ≡ output_at old w k
 
 -- the first periods of a schedule, with their shape
 pub record IsPrefixOf (printed : Printed) (periods : ℕ) (prefix : Printed) : Type 0 where

@@ -1,4 +1,3 @@
-pub mod Segments
 pub mod Amounts
 pub mod Rows
 pub mod Totals

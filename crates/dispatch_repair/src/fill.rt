@@ -2,9 +2,9 @@
 
 ghost use Rattle.std.specs.Prelude.{◌≡◌, ℕ, ◌+◌, ◌*◌, ◌<◌, ◌≤◌, ◌⊎◌, pos, ◌+ℤ◌, ◌-ℤ◌, ◌≤ℤ◌, ◌<ℤ◌, nat_lt, length, unsigned_abs, if◌then◌else◌};
 ghost use Rattle.std.specs.Int.{int_min};
-ghost use Rattle.dispatch_repair.specs.inside.Amounts.{MAX_POWER, IsSizedEnd, amount_at, range_at};
+ghost use Rattle.dispatch_repair.specs.inside.Amounts.{IsSizedEnd, amount_at, range_at};
 ghost use Rattle.dispatch_repair.specs.inside.Filling.{MAX_UNITS, IsFilledTo, IsLeft, IsOpen, IsRaise, end_of as end_within};
-ghost use Rattle.dispatch_repair.specs.inside.Segments.{AreInMeritOrder, source_count};
+ghost use Rattle.dispatch_repair.specs.Segments.{MAX_POWER, AreInMeritOrder, source_count};
 
 use crate::range::Range;
 use crate::segment::Segment;

@@ -4,7 +4,7 @@ ghost use Rattle.std.specs.Prelude.{◌≡◌, ℕ, suc, ◌+◌, ◌<◌, lengt
 ghost use Rattle.uc_model.specs.Limits.{IsLawfulInstance};
 ghost use Rattle.uc_model.specs.Schedule.{renewable_count, thermal_count, thermal_unit};
 ghost use Rattle.cost_curves.specs.LowerHull.{AreLawfulCorners, IsLowerHull};
-ghost use Rattle.dispatch_repair.specs.inside.Segments.{Instance, AreInMeritOrder, AreSegmentsOf, corner_segment, free_segment, source_count};
+ghost use Rattle.dispatch_repair.specs.Segments.{Instance, AreInMeritOrder, AreSegmentsOf, corner_segment, free_segment, source_count};
 
 use crate::segment::{Segment, compare};
 use cost_curves::{Curve, Slope, rise, run};

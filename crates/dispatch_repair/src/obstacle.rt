@@ -7,7 +7,7 @@ ghost use Rattle.uc_model.specs.Schedule.{renewable_count, thermal_count};
 ghost use Rattle.dispatch_repair.specs.Period.{Period, demand_of, high_of, low_of, need_of, total_output};
 ghost use Rattle.dispatch_repair.specs.Stuck.{HaveRanges, IsFirstObstacle, IsFree, reserve_room as reserve_room_of};
 ghost use Rattle.dispatch_repair.specs.inside.Amounts.{AreRangesOf};
-ghost use Rattle.dispatch_repair.specs.inside.Segments.{source_count};
+ghost use Rattle.dispatch_repair.specs.Segments.{source_count};
 ghost use Rattle.dispatch_repair.specs.inside.Totals.{AreSizedTotals, AreTotalsOf, IsSizedTotal};
 
 use crate::range::Range;

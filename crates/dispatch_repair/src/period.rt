@@ -9,10 +9,10 @@ ghost use Rattle.dispatch_repair.specs.Dispatch.{period_after};
 ghost use Rattle.dispatch_repair.specs.Period.{Period, demand_of, need_of};
 ghost use Rattle.dispatch_repair.specs.Stuck.{IsFirstObstacle};
 ghost use Rattle.dispatch_repair.specs.Rooms.{IsRoomOf};
-ghost use Rattle.dispatch_repair.specs.inside.Amounts.{MAX_POWER, AreBeforePeriod, AreHeadsOf, AreRangesOf, AreSizedHeads, AreSizedRanges, amount_at, next_period, range_at, thermal_amount};
+ghost use Rattle.dispatch_repair.specs.inside.Amounts.{AreBeforePeriod, AreHeadsOf, AreRangesOf, AreSizedHeads, AreSizedRanges, amount_at, next_period, range_at, thermal_amount};
 ghost use Rattle.dispatch_repair.specs.inside.Filled.{IsDispatchedFrom};
 ghost use Rattle.dispatch_repair.specs.inside.Filling.{MAX_UNITS, IsFilledTo, IsFirstLeft, IsLeft, IsOpen, IsStart};
-ghost use Rattle.dispatch_repair.specs.inside.Segments.{AreInMeritOrder, source_count};
+ghost use Rattle.dispatch_repair.specs.Segments.{MAX_POWER, AreInMeritOrder, source_count};
 ghost use Rattle.dispatch_repair.specs.inside.Totals.{AreSizedTotals, AreTotalsOf, IsSizedSum, IsSizedTotal};
 
 use crate::fill::{Left, fill};

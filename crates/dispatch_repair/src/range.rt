@@ -1,6 +1,6 @@
 //! Where a source's output may lie in a period.
 
-ghost use Rattle.std.specs.Prelude.{◌≡◌, suc, ◌<◌, ◌≤◌, pos, ◌+ℤ◌, ◌-ℤ◌, if◌then◌else◌};
+ghost use Rattle.std.specs.Prelude.{◌≡◌, ℤ, suc, ◌<◌, ◌≤◌, pos, ◌+ℤ◌, ◌-ℤ◌, if◌then◌else◌};
 ghost use Rattle.std.specs.Int.{int_max, int_min};
 ghost use Rattle.uc_model.specs.Commitment.{cap as cap_of, start_cap as start_cap_of, starts as starts_at, stop_cap as stop_cap_of};
 ghost use Rattle.uc_model.specs.Limits.{IsLawfulThermal, IsLimit};
@@ -46,13 +46,38 @@ pub(crate) fn unit_reach(
     ensures low_size { IsSizedEnd result.range.low }
     ensures high_size { IsSizedEnd result.range.high }
 {
-    let head = lower(&cap(periods, unit, pattern, t), &risen(before, &unit.ru));
-    let most = lower(&head, &width(unit.points.as_slice()));
+    let head = head(periods, unit, pattern, t, before);
     let range = Range {
         low: lowest_output(before, &unit.rd),
-        high: falling(periods, unit, pattern, t, &most),
+        high: highest_output(periods, unit, pattern, t, &head),
     };
     Reach { head, range }
+}
+
+// The head, by the cap and by what output may rise.
+fn head(periods: usize, unit: &Thermal, pattern: &Pattern, t: usize, before: &i64) -> i64
+    requires lawful { IsLawfulThermal unit.now }
+    requires period { t < periods }
+    requires few { periods ≤ MAX_PERIODS }
+    requires before { IsSizedOutput before.now }
+    ensures value { result ≡ head_after periods unit.now (commitment_of pattern.now) t before.now }
+    ensures size { IsSizedEnd result }
+{
+    lower(&cap(periods, unit, pattern, t), &risen(before, &unit.ru))
+}
+
+// The most that output may be, by the head.
+fn highest_output(periods: usize, unit: &Thermal, pattern: &Pattern, t: usize, head: &i64) -> i64
+    requires lawful { IsLawfulThermal unit.now }
+    requires period { t < periods }
+    requires few { periods ≤ MAX_PERIODS }
+    requires head { IsSizedEnd head.now }
+    ensures value { (before : ℤ) → head.now ≡ head_after periods unit.now (commitment_of pattern.now) t before
+        → result ≡ highest periods unit.now (commitment_of pattern.now) t before }
+    ensures size { IsSizedEnd result }
+{
+    let most = lower(head, &width(unit.points.as_slice()));
+    falling(periods, unit, pattern, t, &most)
 }
 
 // The most that output may be, by what it may rise.

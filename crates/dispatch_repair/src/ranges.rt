@@ -8,7 +8,7 @@ ghost use Rattle.uc_model.specs.declared.pattern.Pattern.{Pattern as PatternValu
 ghost use Rattle.dispatch_repair.specs.Dispatch.{period_after};
 ghost use Rattle.dispatch_repair.specs.Rooms.{IsRoomOf};
 ghost use Rattle.dispatch_repair.specs.inside.Amounts.{AreBeforePeriod, AreHeadsOf, AreRangesOf, IsHeadOf, IsRangeOf, IsSizedEnd, next_period, range_at};
-ghost use Rattle.dispatch_repair.specs.inside.Segments.{source_count};
+ghost use Rattle.dispatch_repair.specs.Segments.{source_count};
 
 use crate::range::{Range, Reach, unit_reach};
 use crate::room::Room;

@@ -3,8 +3,8 @@
 ghost use Rattle.std.specs.Prelude.{◌≡◌, suc, ◌<◌, length, Some};
 ghost use Rattle.uc_model.specs.Limits.{IsLawfulInstance};
 ghost use Rattle.uc_model.specs.Schedule.{thermal_count, thermal_unit};
+ghost use Rattle.dispatch_repair.specs.Rooms.{ArePowerless, AreRowsOf};
 ghost use Rattle.dispatch_repair.specs.inside.Broken.{IsEarlier, IsFirstOf};
-ghost use Rattle.dispatch_repair.specs.inside.Rows.{AreCommitted, ArePowerless, printed_of};
 
 use crate::rows::Rows;
 use schedule_check::broken_rule;
@@ -24,8 +24,8 @@ pub(crate) fn first_broken_rule(
     rows: &Rows,
 ) -> Option<BrokenRule>
     requires lawful { IsLawfulInstance instance.now }
-    requires rows { AreCommitted instance.now patterns.now (printed_of rows.now) }
-    requires powerless { ArePowerless instance.now (printed_of rows.now) }
+    requires rows { AreRowsOf instance.now patterns.now rows.now }
+    requires powerless { ArePowerless instance.now rows.now }
     ensures { IsFirstOf instance.now patterns.now (thermal_count instance.now) result }
 {
     let units = instance.thermal.as_slice();

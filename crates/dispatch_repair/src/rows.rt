@@ -1,6 +1,6 @@
 //! The rows of a schedule while it is dispatched.
 
-ghost use Rattle.std.specs.Prelude.{◌≡◌, ℕ, ◌<◌, ◌≤◌, ◌-ℤ◌, false, All, IfOk, IsTrue, length, map, slice_set, take};
+ghost use Rattle.std.specs.Prelude.{◌≡◌, ℕ, ◌<◌, ◌≤◌, ◌-ℤ◌, false, All, IfOk, IsTrue, OnErr, length, map, slice_set, take};
 ghost use Rattle.uc_model.specs.Commitment.{starts};
 ghost use Rattle.uc_model.specs.PatternBits.{commitment_of};
 ghost use Rattle.uc_model.specs.PrintedSchedule.{cell_at, printed_cost};
@@ -10,9 +10,9 @@ ghost use Rattle.uc_model.specs.StartCategory.{category_cost};
 ghost use Rattle.schedule_check.specs.WholeWatts.{HasPrice};
 ghost use Rattle.start_costs.specs.Cheapest.{IsCheapestAbove};
 ghost use Rattle.dispatch_repair.specs.Dispatch.{Instance, Pattern, HasPeriods};
-ghost use Rattle.dispatch_repair.specs.Rooms.{AreRowsBut, AreRowsOf, IsRoomOf};
+ghost use Rattle.dispatch_repair.specs.Rooms.{ArePowerless, AreRowsBut, AreRowsOf, AreSameBelow, AreSameRowsBut, IsPowerless, IsRoomOf, printed_of, rows_of};
 ghost use Rattle.dispatch_repair.specs.inside.Amounts.{IsSizedEnd, IsSizedOutput, amount_at, thermal_amount};
-ghost use Rattle.dispatch_repair.specs.inside.Rows.{AreCellsWritten, AreCommitted, AreCommittedRows, AreOutputsWritten, AreSameBelow, IsCommittedRow, IsLeft, IsWritten, cell_of, printed_of, reserve_of, row_at, rows_of, with_power, ArePowerless, IsNewCell};
+ghost use Rattle.dispatch_repair.specs.inside.Rows.{AreCellsWritten, AreCommittedRows, AreOutputsWritten, IsCommittedRow, IsLeft, IsWritten, cell_of, reserve_of, row_at, with_power, IsNewCell};
 
 use crate::room::Room;
 use schedule_check::row_cost;
@@ -32,8 +32,8 @@ pub struct Rows {
 pub fn committed(alloc: Global, instance: &Instance, patterns: &[Pattern]) -> Result<Rows, NoMemory>
     requires lawful { IsLawfulInstance instance.now }
     requires patterns { length patterns.now ≡ thermal_count instance.now }
-    ensures committed { IfOk result (λ rows. AreCommitted instance.now patterns.now (printed_of rows)) }
-    ensures powerless { IfOk result (λ rows. ArePowerless instance.now (printed_of rows)) }
+    ensures committed { IfOk result (AreRowsOf instance.now patterns.now) }
+    ensures powerless { IfOk result (ArePowerless instance.now) }
 {
     let thermal = committed_rows(alloc, instance, patterns)?;
     let renewables = instance.renewable.as_slice().len();
@@ -77,7 +77,8 @@ fn committed_row(
     Ok(row)
 }
 
-/// Puts unit g's row of the commitment, without any power, in the place of its former one. The only error is `NoMemory`.
+/// Puts unit g's row of the commitment, without any power, in the place of its former one. The only error is `NoMemory`, which leaves the
+/// rows as they were.
 pub fn recommit(
     alloc: Global,
     rows: &mut Rows,
@@ -89,7 +90,10 @@ pub fn recommit(
     requires patterns { length patterns.now ≡ thermal_count instance.now }
     requires unit { g < thermal_count instance.now }
     requires rows { AreRowsBut instance.now patterns.now g rows.old }
-    ensures { IfOk result (λ done. AreRowsOf instance.now patterns.now rows.new) }
+    ensures committed { IfOk result (λ done. AreRowsOf instance.now patterns.now rows.new) }
+    ensures powerless { IfOk result (λ done. IsPowerless instance.now rows.new g) }
+    ensures others { IfOk result (λ done. AreSameRowsBut g rows.old rows.new) }
+    ensures err { OnErr result (rows.new ≡ rows.old) }
 {
     rows.thermal[g] = committed_row(alloc, instance, patterns, g)?;
     Ok(())

@@ -2,7 +2,7 @@
 
 ghost use Rattle.std.specs.Prelude.{◌≡◌};
 ghost use Rattle.std.specs.Ordering.{is_lt};
-ghost use Rattle.dispatch_repair.specs.inside.Segments.{comes_before as is_before, width_of};
+ghost use Rattle.dispatch_repair.specs.Segments.{comes_before as is_before, width_of};
 
 use cost_curves::Slope;
 use std::cmp::Ordering;

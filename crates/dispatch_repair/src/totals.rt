@@ -7,7 +7,7 @@ ghost use Rattle.uc_model.specs.Schedule.{thermal_count, thermal_unit};
 ghost use Rattle.dispatch_repair.specs.Dispatch.{period_after};
 ghost use Rattle.dispatch_repair.specs.Period.{commitment_at};
 ghost use Rattle.dispatch_repair.specs.inside.Amounts.{AreHeadsOf, AreRangesOf, AreSizedHeads, AreSizedRanges, IsSizedEnd, IsSizedRange, amount_at, range_at};
-ghost use Rattle.dispatch_repair.specs.inside.Segments.{source_count};
+ghost use Rattle.dispatch_repair.specs.Segments.{source_count};
 ghost use Rattle.dispatch_repair.specs.inside.Totals.{AreSizedTotals, AreTotalsOf, IsSizedSum};
 
 use crate::obstacle::Totals;

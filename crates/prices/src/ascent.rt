@@ -1,6 +1,6 @@
 //! The ascent: prices at which the Lagrangian bound of a node is high.
 
-ghost use Rattle.std.specs.Prelude.{◌≡◌, pos, IfOk, IfSome};
+ghost use Rattle.std.specs.Prelude.{◌≡◌, pos, IfOk, IfSome, OnOk};
 ghost use Rattle.uc_model.specs.Limits.{IsLawfulInstance};
 ghost use Rattle.dual_model.specs.Fixings.{IsNodeOf};
 ghost use Rattle.dual_model.specs.Prices.{IsLawfulTable};
@@ -126,10 +126,81 @@ impl Sizes {
         }
     }
 
+    // Above which value an ascent with this effort ends.
+    fn enough(self, effort: Effort) -> i128 {
+        effort
+            .enough
+            .saturating_mul(i128::from(SCALE))
+            .min(self.most)
+    }
+
     // The size of a value, which counts as at least so much: where it is nothing, strides that go by it would be too.
     fn of_value(self, value: i128) -> i128 {
         value.saturating_abs().max(self.least)
     }
+}
+
+// What an ascent climbs: the values of a node, which come of the evaluator and of what the node decides; the units, from 0, whose ramps have
+// prices; and how large the values are.
+#[derive(Drop)]
+struct Hill {
+    evaluator: Evaluator,
+    decisions: Decisions,
+    ramped: Vec<u32>,
+    sizes: Sizes,
+}
+
+impl Hill {
+    // The values of a node of the instance.
+    fn of(alloc: Global, instance: &Instance, node: &Node) -> Result<Hill, NoMemory>
+        requires { IsLawfulInstance instance.now }
+    {
+        let evaluator = Evaluator::new(alloc, instance)?;
+        hill_of(alloc, instance, node, evaluator, Sizes::of(instance))
+    }
+
+    // The same where nothing costs anything.
+    fn without_costs(alloc: Global, instance: &Instance, node: &Node) -> Result<Hill, NoMemory>
+        requires { IsLawfulInstance instance.now }
+    {
+        let evaluator = Evaluator::without_costs(alloc, instance)?;
+        hill_of(
+            alloc,
+            instance,
+            node,
+            evaluator,
+            Sizes::without_costs(instance),
+        )
+    }
+
+    // The value at these prices, and none where a unit has no pattern at the node.
+    fn evaluate(
+        &mut self,
+        alloc: Global,
+        instance: &Instance,
+        prices: &[i64],
+    ) -> Result<Option<Evaluation>, NoMemory> {
+        self.evaluator
+            .evaluate(alloc, instance, &self.decisions, prices)
+    }
+}
+
+// The values of a node by an evaluator, and of this size.
+fn hill_of(
+    alloc: Global,
+    instance: &Instance,
+    node: &Node,
+    evaluator: Evaluator,
+    sizes: Sizes,
+) -> Result<Hill, NoMemory> {
+    let ramped = evaluator.ramped(alloc)?;
+    let decisions = Decisions::of(alloc, instance, node)?;
+    Ok(Hill {
+        evaluator,
+        decisions,
+        ramped,
+        sizes,
+    })
 }
 
 // The most that a unit's production and start can cost in a period.
@@ -163,17 +234,15 @@ pub fn ascend(
     ensures ray { IfOk result (λ ascent. IfSome ascent.ray (IsLawfulTable instance.now)) }
     ensures ray_scale { IfOk result (λ ascent. IfSome ascent.ray (λ ray. ray.k ≡ pos 0)) }
 {
-    let mut evaluator = Evaluator::new(alloc, instance)?;
-    let ramped = evaluator.ramped(alloc)?;
-    let sizes = Sizes::of(instance);
+    let mut hill = Hill::of(alloc, instance, node)?;
     let start = Start {
-        prices: first_prices(alloc, instance, table, &ramped)?,
+        prices: first_prices(alloc, instance, table, &hill.ramped)?,
         part: first_part(table),
         effort,
         keeps_more: false,
     };
-    let top = top_from(alloc, &mut evaluator, instance, node, &ramped, start, sizes)?;
-    ended(alloc, instance, top, &ramped, sizes, k)
+    let top = top_from(alloc, &mut hill, instance, start)?;
+    ended(alloc, &hill, instance, top, k)
 }
 
 /// The ascent with a ray, which is looked for at its node by another ascent in which nothing costs anything, from no prices until the value
@@ -190,66 +259,57 @@ pub fn with_ray(
     ensures ray { IfOk result (λ sought. IfSome sought.ray (IsLawfulTable instance.now)) }
     ensures ray_scale { IfOk result (λ sought. IfSome sought.ray (λ ray. ray.k ≡ pos 0)) }
 {
-    let mut evaluator = Evaluator::without_costs(alloc, instance)?;
-    let ramped = evaluator.ramped(alloc)?;
-    let sizes = Sizes::without_costs(instance);
+    let mut sought = ascent;
+    seek_ray(alloc, instance, node, &mut sought).and(Ok(sought))
+}
+
+// Looks for a ray by an ascent in which nothing costs anything, and keeps it, or else the shares of that ascent.
+fn seek_ray(
+    alloc: Global,
+    instance: &Instance,
+    node: &Node,
+    sought: &mut Ascent,
+) -> Result<(), NoMemory>
+    requires lawful { IsLawfulInstance instance.now }
+    ensures table { sought.new.table ≡ sought.old.table }
+    ensures ray { OnOk result (IfSome sought.new.ray (IsLawfulTable instance.now)) }
+    ensures ray_scale { OnOk result (IfSome sought.new.ray (λ ray. ray.k ≡ pos 0)) }
+{
+    let mut hill = Hill::without_costs(alloc, instance, node)?;
     let start = Start {
-        prices: no_prices(alloc, instance, &ramped)?,
+        prices: no_prices(alloc, instance, &hill.ramped)?,
         part: RISE_BY_MERIT,
         effort: RAY_EFFORT,
         keeps_more: true,
     };
-    let top = top_from(alloc, &mut evaluator, instance, node, &ramped, start, sizes)?;
-    let ray = ray(alloc, instance, &top, &ramped, sizes)?;
-    Ok(Ascent {
-        table: ascent.table,
-        shares: shares(ascent.shares, top.shares, ray.is_some()),
-        bound: ascent.bound,
-        ray,
-    })
-}
-
-// The shares of an ascent where there is a ray, or the other ascent has none; or else those of the other.
-fn shares(own: Vec<i64>, other: Vec<i64>, has_ray: bool) -> Vec<i64> {
-    if has_ray || other.is_empty() {
-        own
-    } else {
-        other
+    let top = top_from(alloc, &mut hill, instance, start)?;
+    sought.ray = ray(alloc, &hill, instance, &top)?;
+    if sought.ray.is_none() && !top.shares.is_empty() {
+        sought.shares = top.shares;
     }
+    Ok(())
 }
 
 // Where the ascent from a start ends.
 fn top_from(
     alloc: Global,
-    evaluator: &mut Evaluator,
+    hill: &mut Hill,
     instance: &Instance,
-    node: &Node,
-    ramped: &[u32],
     start: Start,
-    sizes: Sizes,
 ) -> Result<Top, NoMemory> {
-    let decisions = Decisions::of(alloc, instance, node)?;
-    let Some(first) = evaluator.evaluate(alloc, instance, &decisions, &start.prices)? else {
+    let Some(first) = hill.evaluate(alloc, instance, &start.prices)? else {
         return Ok(Top {
             prices: start.prices,
             value: 0,
             shares: Vec::new(alloc),
         });
     };
-    let rise = sizes.of_value(first.value) / start.part.max(1);
-    let mut center = begin(alloc, instance, start.prices, first, rise, ramped)?;
+    let rise = hill.sizes.of_value(first.value) / start.part.max(1);
+    let mut center = begin(alloc, instance, start.prices, first, rise, &hill.ramped)?;
     if start.keeps_more {
         center.bundle.keep_more();
     }
-    climb(
-        alloc,
-        evaluator,
-        instance,
-        &decisions,
-        &mut center,
-        start.effort,
-        sizes,
-    )?;
+    climb(alloc, hill, instance, &mut center, start.effort)?;
     settle(alloc, &mut center)?;
     Ok(Top {
         prices: center.prices,
@@ -261,10 +321,9 @@ fn top_from(
 // The ascent that ended there, with its table at the scale `k`.
 fn ended(
     alloc: Global,
+    hill: &Hill,
     instance: &Instance,
     mut top: Top,
-    ramped: &[u32],
-    sizes: Sizes,
     k: i64,
 ) -> Result<Ascent, NoMemory>
     requires lawful { IsLawfulInstance instance.now }
@@ -274,10 +333,10 @@ fn ended(
     ensures ray { IfOk result (λ ascent. IfSome ascent.ray (IsLawfulTable instance.now)) }
     ensures ray_scale { IfOk result (λ ascent. IfSome ascent.ray (λ ray. ray.k ≡ pos 0)) }
 {
-    let ray = ray(alloc, instance, &top, ramped, sizes)?;
+    let ray = ray(alloc, hill, instance, &top)?;
     rescale(&mut top.prices, SCALE, k);
     Ok(Ascent {
-        table: table_of(alloc, instance, &top.prices, ramped, k)?,
+        table: table_of(alloc, instance, &top.prices, &hill.ramped, k)?,
         shares: top.shares,
         bound: top.value / i128::from(SCALE),
         ray,
@@ -287,19 +346,28 @@ fn ended(
 // The ray of the top's prices, where its value is above all that a schedule could cost.
 fn ray(
     alloc: Global,
+    hill: &Hill,
     instance: &Instance,
     top: &Top,
-    ramped: &[u32],
-    sizes: Sizes,
 ) -> Result<Option<Table>, NoMemory>
     requires lawful { IsLawfulInstance instance.now }
     ensures lawful { IfOk result (λ ray. IfSome ray (IsLawfulTable instance.now)) }
     ensures scale { IfOk result (λ ray. IfSome ray (λ table. table.k ≡ pos 0)) }
 {
-    if top.value > sizes.most {
-        Ok(Some(table_of(alloc, instance, &top.prices, ramped, 0)?))
+    if top.value > hill.sizes.most {
+        let prices = &top.prices;
+        Ok(Some(table_of(alloc, instance, prices, &hill.ramped, 0)?))
     } else {
         Ok(None)
+    }
+}
+
+// After how many evaluations in a row without a gain an ascent ends.
+fn futile_after(bundle: &Bundle) -> u32 {
+    if bundle.has_few_cuts() {
+        FUTILE_OF_FEW_CUTS
+    } else {
+        FUTILE
     }
 }
 
@@ -307,22 +375,14 @@ fn ray(
 // schedule could cost.
 fn climb(
     alloc: Global,
-    evaluator: &mut Evaluator,
+    hill: &mut Hill,
     instance: &Instance,
-    decisions: &Decisions,
     center: &mut Center,
     effort: Effort,
-    sizes: Sizes,
 ) -> Result<(), NoMemory> {
-    let futile = if center.bundle.has_few_cuts() {
-        FUTILE_OF_FEW_CUTS
-    } else {
-        FUTILE
-    };
-    let enough = effort
-        .enough
-        .saturating_mul(i128::from(SCALE))
-        .min(sizes.most);
+    let sizes = hill.sizes;
+    let futile = futile_after(&center.bundle);
+    let enough = sizes.enough(effort);
     let mut stalls: u32 = 0;
     for _ in 0..effort.evaluations {
         let size = sizes.of_value(center.value);
@@ -339,7 +399,7 @@ fn climb(
             center.bundle.try_another_stride(step.predicted);
         } else {
             let prices = moved(alloc, &center.prices, &step.moves)?;
-            match evaluator.evaluate(alloc, instance, decisions, &prices)? {
+            match hill.evaluate(alloc, instance, &prices)? {
                 Some(found) if found.value > sizes.most => {
                     center.prices = prices;
                     center.value = found.value;

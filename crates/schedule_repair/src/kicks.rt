@@ -6,6 +6,7 @@ use crate::chance::CHANCES;
 use crate::moves::improve;
 use crate::passes::{Units, pass, pass_hard, set_soft_prices, soft_price};
 use crate::room::Repair;
+use crate::size::is_small;
 use dual_model::Table;
 use repair_state::Decided;
 use uc_model::{Instance, NoMemory};
@@ -13,10 +14,8 @@ use uc_model::{Instance, NoMemory};
 /// The most passes of a kick in which missing reserve has its full price.
 const PASSES: u32 = 2;
 
-/// Turns that cost more than this part of the best state are left alone, unless there are so few cells that none is.
+/// Turns that cost more than this part of the best state are left alone, unless the system is small: there none is.
 const SPAN: i64 = 200;
-
-const FEW_CELLS: usize = 64;
 
 /// So many of `CHANCES` kicks begin with missing reserve cheap: three of four.
 const SOFT_KICKS: u64 = CHANCES / 4 * 3;
@@ -62,14 +61,14 @@ fn list_turns(room: &mut Repair, instance: &Instance) -> Result<(), NoMemory>
         &mut room.state,
         instance.periods,
         cost,
-        most_above(cost, cells),
+        most_above(cost, instance),
     )
 }
 
-// What a turn of a best state of this cost may cost more, where there are so many cells.
-fn most_above(cost: i64, cells: usize) -> i64 {
+// What a turn of a best state of this cost may cost more.
+fn most_above(cost: i64, instance: &Instance) -> i64 {
     let size = cost.saturating_abs();
-    if cells <= FEW_CELLS {
+    if is_small(instance) {
         size
     } else {
         size / SPAN

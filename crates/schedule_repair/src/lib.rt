@@ -11,8 +11,10 @@ mod passes;
 mod printing;
 mod room;
 mod rounding;
+mod size;
 mod tried;
 mod turns;
 
 pub use descent::repair;
 pub use room::Repair;
+pub use size::is_small;

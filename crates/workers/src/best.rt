@@ -26,7 +26,7 @@ const KICKED_UNITS: u32 = 100;
 /// The moves of each later repair for each unit: enough for a descent from one threshold, and some kicks of the best state.
 const LATER_MOVES_EACH: u32 = 25;
 
-/// What an ascent takes the bound for is wrong by less than this part of it.
+/// By this part of the cost what an ascent takes the bound for may be too high: a margin that was chosen, of which nothing is proved.
 const ERRORS: u64 = 1 << 21;
 
 /// How many moves the repair has at the claim of this unit.
@@ -55,7 +55,7 @@ pub(crate) fn enough(bound: i128, gap: u32) -> i64
     cost.min(i128::from(i64::MAX)).max(i128::from(i64::MIN)) as i64
 }
 
-/// The bound at which the best schedule is within the gap of it, and somewhat more, by which an ascent may be wrong.
+/// The bound at which the best schedule is within the gap of it, and a margin more, since an ascent may be wrong.
 pub(crate) fn goal(best: &Option<(Printed, i64)>, gap: u32) -> i128
     requires { gap ≤ WHOLE_GAP }
 {

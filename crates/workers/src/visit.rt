@@ -17,12 +17,10 @@ use claims::{WORKER, action, stored_table, take};
 use dual_model::{Node, Table};
 use opening::{is_positive, node_ray};
 use prices::{Ascent, next_ascent, with_ray};
+use schedule_repair::is_small;
 use search_core::{Event, State};
 use std::alloc::Global;
-use uc_model::{Instance, NoMemory};
-
-/// With so few cells each ascent is repaired.
-const FEW_CELLS: usize = 64;
+use uc_model::NoMemory;
 
 /// What a claim is evaluated at: the table that its node inherited, a ray of the opening, the ray of an ascent that ran off, or the table
 /// that an ascent found.
@@ -87,12 +85,6 @@ pub(crate) fn visit(
     let is_small = is_small(worker.evaluator.instance());
     remember(search, claim, trial, is_small);
     ended
-}
-
-// Whether the instance has so few cells that a repair takes next to no time.
-fn is_small(instance: &Instance) -> bool {
-    let units = instance.thermal.as_slice().len();
-    units.saturating_mul(instance.periods as usize) <= FEW_CELLS
 }
 
 // Keeps the ascent of the trial, where a repair is to begin with one, in the place of former ones.

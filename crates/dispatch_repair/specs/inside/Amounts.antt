@@ -5,7 +5,7 @@ use Rattle.uc_model.specs.Schedule.{thermal_count, renewable_count}
 pub use Rattle.uc_model.specs.declared.limits.TheConstants.{MAX_POWER}
 use Rattle.dispatch_repair.specs.Dispatch.{Instance, Pattern, period_after}
 use Rattle.dispatch_repair.specs.Period.{Period, Source, FromRenewable, FromThermal, low_of, high_of, head_of}
-use Rattle.dispatch_repair.specs.inside.Segments.{source_at, source_count}
+use Rattle.dispatch_repair.specs.Segments.{source_at, source_count}
 pub use Rattle.dispatch_repair.specs.declared.range.Range.{Range}
 
 abbrev pub range_at : List Range → ℕ → Range

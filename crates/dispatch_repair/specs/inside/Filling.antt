@@ -8,7 +8,7 @@ use Rattle.dispatch_repair.specs.Period.{Instance, Period, demand_of, low_of, th
 use Rattle.dispatch_repair.specs.MeritOrder.{Slope, HasNextSlope}
 use Rattle.dispatch_repair.specs.Stuck.{IsFree}
 use Rattle.dispatch_repair.specs.inside.Amounts.{Range, range_at, amount_at, thermal_amount, IsSizedEnd}
-use Rattle.dispatch_repair.specs.inside.Segments.{Segment, IsAtMost, source_at, source_count, width_at, segment_at}
+use Rattle.dispatch_repair.specs.Segments.{Segment, IsAtMost, source_at, source_count, width_at, segment_at}
 pub use Rattle.dispatch_repair.specs.declared.fill.Left.{Left}
 
 -- what is left isn't negative, and has the size of a sum over units

@@ -1,24 +1,13 @@
--- The schedule that rows stand for, and what the writing of a period does to it. This project's own.
-use Rattle.std.specs.Prelude.{◌≡◌, ◌≢◌, ℕ, ◌+◌, ◌*◌, ◌<◌, ◌≤◌, false, List, [], ℤ, pos, ◌+ℤ◌, ◌-ℤ◌, ◌≤ℤ◌, length, map, slice_index_or, slice_set}
+-- The rows of a commitment as they are made, and what the writing of a period does to them. This project's own.
+use Rattle.std.specs.Prelude.{◌≡◌, ◌≢◌, ℕ, ◌+◌, ◌*◌, ◌<◌, ◌≤◌, false, List, [], ℤ, pos, ◌+ℤ◌, ◌-ℤ◌, ◌≤ℤ◌, length, slice_index_or, slice_set}
 use Rattle.std.specs.Int.{int_min, int_max}
-use Rattle.std.specs.declared.alloc.Global.{Global}
-use Rattle.std.specs.declared.vec.Vec.{Vec}
 use Rattle.uc_model.specs.Sums.{sum_below}
 use Rattle.uc_model.specs.Schedule.{thermal_count, renewable_count}
 use Rattle.uc_model.specs.PrintedSchedule.{cell_at}
 pub use Rattle.uc_model.specs.declared.schedule.Cell.{Cell}
 use Rattle.schedule_check.specs.SizedNumbers.{output_at}
-use Rattle.dispatch_repair.specs.Dispatch.{Instance, Pattern, Printed, HasPeriods, IsCommittedCell}
+use Rattle.dispatch_repair.specs.Dispatch.{Instance, Pattern, Printed, IsCommittedCell}
 use Rattle.dispatch_repair.specs.inside.Amounts.{MAX_POWER, amount_at, thermal_amount}
-pub use Rattle.dispatch_repair.specs.declared.rows.Rows.{Rows}
-
--- the rows' items
-abbrev pub rows_of : {X : Type 0} → List (Vec X Global) → List (List X)
-rows_of rows = map (λ row. row.items) rows
-
--- the schedule of the rows
-abbrev pub printed_of : Rows → Printed
-printed_of rows = record { thermal = rows_of rows.thermal.items; renewable = rows_of rows.renewable.items }
 
 -- a unit's row; past the last one a row of nothing
 abbrev pub row_at : {X : Type 0} → List (List X) → ℕ → List X
@@ -43,16 +32,6 @@ pub record IsCommittedRow (instance : Instance) (patterns : List Pattern) (g per
 pub record AreCommittedRows (instance : Instance) (patterns : List Pattern) (n : ℕ) (rows : List (List Cell)) : Type 0 where
   pub count : length rows ≡ n
   pub each : (g : ℕ) → g < n → IsCommittedRow instance patterns g instance.periods (row_at rows g)
-
--- a row for each unit, with a cell for each period, and each cell is the commitment's
-pub record AreCommitted (instance : Instance) (patterns : List Pattern) (printed : Printed) : Type 0 where
-  pub shape : HasPeriods instance instance.periods printed
-  pub cells : (g t : ℕ) → g < thermal_count instance → t < instance.periods → IsCommittedCell instance patterns g t (cell_at printed g t)
-
--- no cell gives anything
-pub record ArePowerless (instance : Instance) (printed : Printed) : Type 0 where
-  pub output : (g t : ℕ) → g < thermal_count instance → t < instance.periods → (cell_at printed g t).p ≡ pos 0
-  pub reserve : (g t : ℕ) → g < thermal_count instance → t < instance.periods → (cell_at printed g t).r ≡ pos 0
 
 -- two schedules are the same but in period t
 pub record AreSameBut (t : ℕ) (old new : Printed) : Type 0 where
@@ -100,8 +79,3 @@ pub record IsWritten (instance : Instance) (amounts heads : List ℤ) (need : �
   pub outputs : (w : ℕ) → w < renewable_count instance → output_at new w t ≡ amount_at amounts w
   pub cells : (g : ℕ) → g < thermal_count instance → HasPower (cell_at old g t) (cell_at new g t) (thermal_amount instance amounts g)
       (int_min (amount_at heads g -ℤ thermal_amount instance amounts g) (int_max (need -ℤ sum_below g (λ h. (cell_at new h t).r)) (pos 0)))
-
--- the schedules are the same in the first periods
-pub record AreSameBelow (periods : ℕ) (old new : Printed) : Type 0 where
-  pub cells : (g k : ℕ) → k < periods → cell_at new g k ≡ cell_at old g k
-  pub outputs : (w k : ℕ) → k < periods → output_at new w k ≡ output_at old w k

@@ -21,4 +21,4 @@ returns c =
     (λ done rows. record {
       kept = (c.choose.ensures c.args.instance.now c.requires.tried).kept;
       tried = subst (λ p. AreRowsOf c.args.instance.now p c.recommit.new.rows) c.deref.ensures.value rows;
-    }) c.recommit.ensures
+    }) c.recommit.ensures.committed

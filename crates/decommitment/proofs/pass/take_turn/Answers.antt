@@ -13,7 +13,7 @@ returns-then-is_same c =
     let kept = c.requires.passed.kept in
     let patterns = c.args.pass.now.patterns.items in
     let fewest = c.fewest-fewest.result in
-    let one : fewest ≡ c.index.result.now = c.is_same.ensures c.if-is_same.true in
+    let one : fewest ≡ c.index.result.now = c.is_same.ensures.0 c.if-is_same.true in
     let within : c.args.g < length patterns = omega (arith, c.requires.unit, kept.count) in
     let same : fewest ≡ slice_index_or patterns c.args.g fewest = one ∙ get_or_read patterns c.args.g c.index.result.now within c.index.ensures fewest in
     record {

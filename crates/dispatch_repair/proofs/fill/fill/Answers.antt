@@ -2,7 +2,7 @@
 use Rattle.std.proofs.Common.{arith, subst, ap, length}
 use Rattle.std.proofs.lemmas.Int.{ints, to_z-of_z}
 use Rattle.dispatch_repair.specs.inside.Filling.{IsFilledTo, IsRaise}
-use Rattle.dispatch_repair.specs.inside.Segments.{segment_at}
+use Rattle.dispatch_repair.specs.Segments.{segment_at}
 use Rattle.dispatch_repair.proofs.Filling.{filled_early, filled_none, step}
 use Rattle.dispatch_repair.proofs.NextSlopes.{next_run}
 use Rattle.dispatch_repair.proofs.fill.fill.Goals as goal

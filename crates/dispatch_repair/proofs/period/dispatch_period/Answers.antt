@@ -5,7 +5,7 @@ use Rattle.dispatch_repair.specs.Dispatch.{period_after}
 use Rattle.dispatch_repair.specs.inside.Amounts.{AreRangesOf, thermal_amount}
 use Rattle.dispatch_repair.specs.inside.Filled.{IsDispatchedFrom}
 use Rattle.dispatch_repair.specs.inside.Filling.{IsStart}
-use Rattle.dispatch_repair.specs.inside.Segments.{AreInMeritOrder}
+use Rattle.dispatch_repair.specs.Segments.{AreInMeritOrder}
 use Rattle.dispatch_repair.proofs.Merit.{open_ranges, dispatched}
 use Rattle.dispatch_repair.proofs.period.dispatch_period.Goals as goal
 

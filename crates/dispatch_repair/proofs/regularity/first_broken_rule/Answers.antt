@@ -7,12 +7,13 @@ use Rattle.uc_model.specs.Limits.{IsLawfulThermal}
 use Rattle.uc_model.specs.PrintedSchedule.{cell_at}
 use Rattle.schedule_check.specs.SizedNumbers.{IsSized, IsSizedCell}
 use Rattle.uc_model.specs.Schedule.{thermal_unit, thermal_count, no_unit}
+use Rattle.uc_model.specs.declared.schedule.Cell.{Cell}
 use Rattle.dual_model.proofs.Locality.{SameBelow}
 use Rattle.schedule_check.specs.CommitmentRules.{IsFirstBrokenRule}
 use Rattle.schedule_check.specs.WholeWatts.{IsSizedRow, commitment, row_of}
 use Rattle.dispatch_repair.specs.Period.{commitment_at}
 use Rattle.dispatch_repair.specs.inside.Broken.{IsFirstOf}
-use Rattle.dispatch_repair.specs.inside.Rows.{Cell, printed_of}
+use Rattle.dispatch_repair.specs.Rooms.{printed_of}
 use Rattle.dispatch_repair.proofs.BrokenRules.{unit_keeps, unit_breaks, more_kept, more_broken}
 use Rattle.dispatch_repair.proofs.regularity.first_broken_rule.Goals as goal
 use Rattle.dispatch_repair.proofs.regularity.first_broken_rule.Goals.{After-deref, in-Some, in_default}
@@ -62,8 +63,8 @@ none = omega arith
 sized : (c : After-deref) (t : ℕ) → IsSizedCell (cell_at (printed_of c.args.rows.now) c.loop-unit.unit t)
 sized c t = ⊎_elim
     (λ (h : t < c.args.instance.now.periods). record {
-      output = subst IsSized (sym (c.requires.powerless.output c.loop-unit.unit t (within c) h)) none;
-      reserve = subst IsSized (sym (c.requires.powerless.reserve c.loop-unit.unit t (within c) h)) none;
+      output = subst IsSized (sym ((c.requires.powerless c.loop-unit.unit (within c)).output t h)) none;
+      reserve = subst IsSized (sym ((c.requires.powerless c.loop-unit.unit (within c)).reserve t h)) none;
     })
     (λ (h : c.args.instance.now.periods ≤ t).
     subst IsSizedCell

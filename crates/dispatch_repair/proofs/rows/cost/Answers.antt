@@ -12,7 +12,8 @@ use Rattle.uc_model.specs.declared.instance.Thermal.{Thermal}
 use Rattle.schedule_check.specs.WholeWatts.{HasPrice, cell}
 use Rattle.schedule_check.proofs.AddedSums.{added}
 use Rattle.dispatch_repair.specs.Dispatch.{Cell, Instance, HasPeriods}
-use Rattle.dispatch_repair.specs.inside.Rows.{Rows, printed_of, row_at, rows_of}
+use Rattle.dispatch_repair.specs.Rooms.{Rows, printed_of, rows_of}
+use Rattle.dispatch_repair.specs.inside.Rows.{row_at}
 use Rattle.dispatch_repair.proofs.Places.{unit_read}
 use Rattle.dispatch_repair.proofs.RowsEdits.{row_read}
 use Rattle.dispatch_repair.proofs.rows.cost.Goals as goal

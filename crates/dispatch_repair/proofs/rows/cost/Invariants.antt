@@ -3,7 +3,7 @@ use Rattle.std.proofs.Common.{◌≡◌, ◌*◌, ◌^◌, ◌≤◌, unsigned_a
 use Rattle.uc_model.specs.Sums.{sum_below}
 use Rattle.uc_model.specs.Schedule.{thermal_unit}
 use Rattle.uc_model.specs.PrintedSchedule.{cell_at, printed_cell_cost}
-use Rattle.dispatch_repair.specs.inside.Rows.{printed_of}
+use Rattle.dispatch_repair.specs.Rooms.{printed_of}
 use Rattle.dispatch_repair.proofs.rows.cost.Given as goal
 
 abbrev pub invariant-loop-g : goal.invariant-loop-g

@@ -1,7 +1,7 @@
 -- The row at the index is cut.
 use Rattle.std.proofs.Common.{◌<◌, length, sym, subst, ◌∙◌}
 use Rattle.std.proofs.lemmas.List.{length-map}
-use Rattle.dispatch_repair.specs.inside.Rows.{rows_of}
+use Rattle.dispatch_repair.specs.Rooms.{rows_of}
 use Rattle.dispatch_repair.proofs.RowsEdits.{cut_more}
 use Rattle.dispatch_repair.proofs.rows.cut.Goals as goal
 

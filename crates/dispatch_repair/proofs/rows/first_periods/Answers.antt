@@ -2,7 +2,7 @@
 use Rattle.std.proofs.Common.{◌≡◌, sym, subst, take, ◌∙◌, map}
 use Rattle.std.proofs.lemmas.Result.{IfOk-weaker}
 use Rattle.dispatch_repair.specs.Dispatch.{Printed, HasPeriods}
-use Rattle.dispatch_repair.specs.inside.Rows.{printed_of}
+use Rattle.dispatch_repair.specs.Rooms.{printed_of}
 use Rattle.dispatch_repair.proofs.RowsEdits.{cut_shape}
 use Rattle.dispatch_repair.proofs.rows.first_periods.Goals as goal
 

@@ -1,7 +1,8 @@
 -- One more row is written.
 use Rattle.std.proofs.Common.{suc, ◌+◌, ◌<◌, length, arith, sym, subst, ◌∙◌, ℤ}
 use Rattle.std.proofs.lemmas.List.{length-map}
-use Rattle.dispatch_repair.specs.inside.Rows.{row_at, rows_of}
+use Rattle.dispatch_repair.specs.Rooms.{rows_of}
+use Rattle.dispatch_repair.specs.inside.Rows.{row_at}
 use Rattle.dispatch_repair.proofs.RowsWritten.{IsWrittenSoFar, written_more, left_kept, suc_is}
 use Rattle.dispatch_repair.proofs.rows.write_cells.Goals as goal
 

@@ -1,5 +1,6 @@
 -- The rows so far are written, and the others are as they were.
-use Rattle.dispatch_repair.specs.inside.Rows.{AreOutputsWritten, rows_of}
+use Rattle.dispatch_repair.specs.Rooms.{rows_of}
+use Rattle.dispatch_repair.specs.inside.Rows.{AreOutputsWritten}
 use Rattle.dispatch_repair.proofs.rows.write_outputs.Given as goal
 
 abbrev pub invariant-loop-w : goal.invariant-loop-w

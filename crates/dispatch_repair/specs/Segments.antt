@@ -4,7 +4,7 @@ use Rattle.std.specs.Prelude.{◌≡◌, ℕ, suc, ◌+◌, ◌-◌, ◌<◌, �
 use Rattle.std.specs.Int.{int_max}
 use Rattle.std.specs.Ordering.{int_eq}
 use Rattle.std.specs.List.{Contains}
-use Rattle.uc_model.specs.declared.limits.TheConstants.{MAX_POWER}
+pub use Rattle.uc_model.specs.declared.limits.TheConstants.{MAX_POWER}
 use Rattle.uc_model.specs.Points.{point_of}
 use Rattle.uc_model.specs.Schedule.{thermal_unit, thermal_count, renewable_count, point_p, point_count}
 pub use Rattle.uc_model.specs.declared.instance.Instance.{Instance}
