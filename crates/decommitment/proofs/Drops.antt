@@ -31,7 +31,8 @@ use Rattle.decommitment.specs.declared.pass.Standing.TheVariants as standing
 use Rattle.decommitment.specs.declared.pass.Stand.TheVariants as stand
 use Rattle.decommitment.specs.declared.trial.Trial.TheVariants as trial
 use Rattle.decommitment.specs.Standings.{IsDropped}
-use Rattle.decommitment.specs.inside.Turns.{Pass, Rows, Stand, Trial, Turn, AreAllowed, beats, ending_of_stand, ending_of_trial, IsChosen, IsReplaced, IsTried, KeepsStuck}
+use Rattle.decommitment.specs.inside.Turns.{Pass, Stand, Trial, Turn, AreAllowed, beats, ending_of_stand, ending_of_trial, IsChosen, IsReplaced, IsTried, KeepsStuck}
+use Rattle.dispatch_repair.specs.declared.rows.Rows.{Rows}
 
 -- ---- allowed patterns
 pub allowed_most : (instance : Instance) (patterns : List Pattern) → AreMostOn instance patterns → AreAllowed instance patterns

@@ -12,7 +12,9 @@ use Rattle.uc_model.specs.PrintedSchedule.{cell_at}
 use Rattle.uc_model.specs.Schedule.{thermal_count, thermal_unit}
 use Rattle.uc_model.specs.StartCategory.{category_cost}
 use Rattle.start_costs.specs.Cheapest.{IsCheapestAbove}
-use Rattle.dispatch_repair.specs.Rooms.{Instance, Pattern, Printed, Rows, AreRowsBut, AreRowsOf, printed_of, AreCommitted, rows_of}
+use Rattle.dispatch_repair.specs.Rooms.{Printed, Rows, AreRowsBut, AreRowsOf, printed_of, AreCommitted, rows_of}
+use Rattle.uc_model.specs.declared.pattern.Pattern.{Pattern}
+use Rattle.uc_model.specs.declared.instance.Instance.{Instance}
 use Rattle.dispatch_repair.specs.Dispatch.{Cell, HasPeriods, IsCommittedCell}
 use Rattle.dispatch_repair.specs.inside.Rows.{AreCommittedRows, IsCommittedRow, IsNewCell, cell_of}
 

@@ -8,7 +8,8 @@ use Rattle.dual_model.specs.Fixings.{HasNoPattern, IsFixOf}
 use Rattle.dual_model.specs.NodeValue.{unit_constant}
 use Rattle.dual_model.specs.UnitValue.{IsBestPattern}
 use Rattle.dual_model.specs.declared.table.Table.{Table}
-use Rattle.dual_value.specs.NodeAnswer.{Instance, Node, IsPartOf}
+use Rattle.dual_value.specs.NodeAnswer.{Instance, IsPartOf}
+use Rattle.dual_model.specs.declared.node.Node.{Node}
 use Rattle.dual_value.specs.inside.Fixes.{Fix, AreBelow, Contradicts}
 
 -- where the node decides both ways the unit has no pattern

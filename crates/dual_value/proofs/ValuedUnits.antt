@@ -12,7 +12,8 @@ use Rattle.dual_model.specs.NodeValue.{constant_at, node_total, renewables_value
 use Rattle.dual_model.specs.Fixings.{IsFirstEmpty}
 use Rattle.dual_model.specs.UnitValue.{IsBestPattern}
 use Rattle.dual_model.specs.declared.table.Table.{Table}
-use Rattle.dual_value.specs.NodeAnswer.{Empty, Instance, NoMemory, Node, ValueFault, IsFaultOf, IsPartFault, IsPartOf, IsValued, MAX_PART}
+use Rattle.dual_value.specs.NodeAnswer.{Empty, Instance, NoMemory, ValueFault, IsFaultOf, IsPartFault, IsPartOf, IsValued, MAX_PART}
+use Rattle.dual_model.specs.declared.node.Node.{Node}
 use Rattle.system_value.specs.Sizes.{MAX_RENEWABLES, MAX_SYSTEM}
 
 abbrev part_in : List ℤ → ℕ → ℤ

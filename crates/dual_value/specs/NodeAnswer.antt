@@ -4,7 +4,7 @@ pub use Rattle.dual_model.specs.NodeAnswer.{IsPartOf, IsValued, MAX_PART, MAX_VA
 use Rattle.std.specs.Prelude.{◌≡◌, ℕ, ⊤}
 pub use Rattle.uc_model.specs.declared.instance.Instance.{Instance}
 use Rattle.dual_model.specs.Fixings.{HasNoPattern, IsFirstEmpty}
-pub use Rattle.dual_model.specs.declared.node.Node.{Node}
+use Rattle.dual_model.specs.declared.node.Node.{Node}
 pub use Rattle.dual_value.specs.declared.valued.ValueFault.{ValueFault}
 pub use Rattle.dual_value.specs.declared.valued.ValueFault.TheVariants.{Empty, NoMemory}
 

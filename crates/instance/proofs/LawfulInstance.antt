@@ -10,10 +10,12 @@ use Rattle.uc_model.specs.StartCategory.{start_row, category_count}
 use Rattle.decimal_json.specs.Value.{Decimal, Value}
 use Rattle.instance.specs.Fields.{Demand, Field, PiecewiseProduction, PiecewiseProductionCost, PiecewiseProductionMw, PowerOutputMaximum, PowerOutputMinimum, PowerOutputT0, RampDownLimit, RampShutdownLimit, RampStartupLimit, RampUpLimit, RenewableGenerators, Reserves, Startup, StartupCost, StartupLag, ThermalGenerators, TimeDownMinimum, TimeDownT0, TimePeriods, TimeUpMinimum, TimeUpT0, key_of, number_in, entries_in, pairs_in, field_of}
 use Rattle.instance.specs.Scaled.{MILLION, scaled, is_rounded}
-use Rattle.instance.specs.InstanceOf.{Instance, MAX_POINTS, MAX_START_ROWS, MAX_TIME, MAX_UNITS, Point, Renewable, Thermal, Pairs, Has, IsObject, IsNumber, IsPowerOf, IsCostOf, IsTimeOf, IsPeriodsOf, IsPowersOf, AreRowsOf, IsStartRowOf, IsPointOf, IsRising, IsLimitOf, IsMinimumTimeOf, IsThermalOf, IsRenewableOf, AreUnitsOf, HasFields, IsInstanceOf}
+use Rattle.instance.specs.InstanceOf.{Instance, MAX_POINTS, MAX_START_ROWS, MAX_TIME, MAX_UNITS, Renewable, Thermal, Pairs, Has, IsObject, IsNumber, IsPowerOf, IsCostOf, IsTimeOf, IsPeriodsOf, IsPowersOf, AreRowsOf, IsStartRowOf, IsPointOf, IsRising, IsLimitOf, IsMinimumTimeOf, IsThermalOf, IsRenewableOf, AreUnitsOf, HasFields, IsInstanceOf}
+use Rattle.uc_model.specs.declared.instance.Point.{Point}
 use Rattle.instance.proofs.StepLaws.{some_is, some_split}
 use Rattle.instance.proofs.UnitLaws.{Above, written_time, instance_is, instance_again}
-use Rattle.instance.specs.FirstFault.{FieldRefusal, instance_at}
+use Rattle.instance.specs.FirstFault.{instance_at}
+use Rattle.uc_model.specs.declared.field_refusal.FieldRefusal.{FieldRefusal}
 use Rattle.instance.specs.Answer.{Fault, Gives}
 use Rattle.uc_model.specs.declared.instance.Instance as memory
 

@@ -1,7 +1,8 @@
 -- A step that reads something, and what it reads: laws of steps from those of the steps that they are made of.
 use Rattle.std.proofs.Common.{◌≡◌, ℕ, Bool, true, false, List, Option, Some, None, Result, Ok, Err, refl, ap, subst}
 use Rattle.std.specs.Option.{IsSomeAnd}
-use Rattle.instance.specs.FirstFault.{Place, Refusal, ◌>>=◌, wanted, refused_if, in_unit}
+use Rattle.instance.specs.FirstFault.{Refusal, ◌>>=◌, wanted, refused_if, in_unit}
+use Rattle.instance.specs.declared.fault.Place.{Place}
 
 -- A step gives a value exactly where this holds of the value.
 pub record Exactly {A E : Type 0} (r : Result A E) (P : A → Type 0) : Type 0 where

@@ -1,7 +1,19 @@
 -- What is read is as the value says, and what the value says is read: numbers, arrays, rows, units and the instance.
 use Rattle.std.proofs.Common.{◌≡◌, ℕ, Bool, true, false, List, Option, Some, None, Result, Ok, Err, refl, sym, ap, subst, ◌∙◌, zero, suc, ◌*◌, ◌/◌, ◌%◌, ◌≤◌, cond, arith, ◌+◌, ◌-◌, [], ◌∷◌, ◌++◌, length, drop, get_or, append_assoc, take, max, ◌&&◌, ◌||◌, ◌==◌, nat_lt, IsTrue, ℤ, pos, ◌≤ℤ◌, int_lt, unsigned_abs, neg_ℤ, slice_index_or}
 use Rattle.std.specs.Option.{IsSomeAnd}
-use Rattle.instance.specs.FirstFault.{Demand, Field, FieldRefusal, Initial, Instance, MAX_COST, MAX_PERIODS, MAX_POINTS, MAX_POWER, MAX_START_ROWS, MAX_TIME, MAX_UNITS, MustRun, NoField, Outputs, PiecewiseProduction, PiecewiseProductionCost, PiecewiseProductionMw, Place, Point, PowerOutputMaximum, PowerOutputMinimum, PowerOutputT0, RampDownLimit, RampShutdownLimit, RampStartupLimit, RampUpLimit, Ramps, Refusal, Renewable, RenewableGenerators, Reserves, StartRow, Startup, StartupCost, StartupLag, Thermal, ThermalGenerators, TimeDownMinimum, TimeDownT0, TimePeriods, TimeUpMinimum, TimeUpT0, Times, Totals, UnitOnT0, ◌>>=◌, wanted, refused_if, in_unit, number_at, amount_at, power_at, power_from, cost_at, whole_at, time_at, flag_at, periods_at, each_at, whole, next_entry, field_at, entries_at, rows_at, power_entry, powers_at, maximum_entry, maxima_at, start_row, point_row, startup_at, points_at, thermal_of, object_at, flag_field, time_field, power_field, output_field, outputs_at, ramps_at, times_at, initial_at, thermal_at, renewable_at, outside, units_at, thermal_member, renewable_member, thermal_units_at, renewable_units_at, totals_at, instance_at, last_output}
+use Rattle.instance.specs.FirstFault.{Demand, Instance, MAX_COST, MAX_PERIODS, MAX_POINTS, MAX_POWER, MAX_START_ROWS, MAX_TIME, MAX_UNITS, MustRun, NoField, PiecewiseProduction, PiecewiseProductionCost, PiecewiseProductionMw, PowerOutputMaximum, PowerOutputMinimum, PowerOutputT0, RampDownLimit, RampShutdownLimit, RampStartupLimit, RampUpLimit, Refusal, RenewableGenerators, Reserves, Startup, StartupCost, StartupLag, ThermalGenerators, TimeDownMinimum, TimeDownT0, TimePeriods, TimeUpMinimum, TimeUpT0, UnitOnT0, ◌>>=◌, wanted, refused_if, in_unit, number_at, amount_at, power_at, power_from, cost_at, whole_at, time_at, flag_at, periods_at, each_at, whole, next_entry, field_at, entries_at, rows_at, power_entry, powers_at, maximum_entry, maxima_at, start_row, point_row, startup_at, points_at, thermal_of, object_at, flag_field, time_field, power_field, output_field, outputs_at, ramps_at, times_at, initial_at, thermal_at, renewable_at, outside, units_at, thermal_member, renewable_member, thermal_units_at, renewable_units_at, totals_at, instance_at, last_output}
+use Rattle.instance.specs.declared.fault.Place.{Place}
+use Rattle.uc_model.specs.declared.field_refusal.FieldRefusal.{FieldRefusal}
+use Rattle.uc_model.specs.declared.instance.StartRow.{StartRow}
+use Rattle.uc_model.specs.declared.instance.Point.{Point}
+use Rattle.uc_model.specs.declared.instance.Renewable.{Renewable}
+use Rattle.uc_model.specs.declared.instance.Thermal.{Thermal}
+use Rattle.instance.specs.declared.reader.thermal.Initial.{Initial}
+use Rattle.instance.specs.declared.reader.thermal.Times.{Times}
+use Rattle.instance.specs.declared.reader.thermal.Ramps.{Ramps}
+use Rattle.instance.specs.declared.reader.thermal.Outputs.{Outputs}
+use Rattle.instance.specs.declared.reader.totals.Totals.{Totals}
+use Rattle.uc_model.specs.declared.field.Field.{Field}
 use Rattle.std.proofs.lemmas.Bool.{ltb-false, le-ltb, or_parts, or_from}
 use Rattle.std.proofs.lemmas.Bool.Decides.{nat_tests}
 use Rattle.std.proofs.lemmas.Int.{ints}

@@ -3,24 +3,24 @@
 use Rattle.std.specs.Prelude.{ℕ, ◌-◌, List, ℤ, pos, neg_ℤ, length, slice_index_or, ◌+◌, ◌%◌, Bool, ◌&&◌, ◌||◌, ◌==◌, nat_lt, [], ◌∷◌, ◌++◌, take, max, Option, Some, None, Result, Ok, Err, int_lt, if◌then◌else◌, sum_by, unwrap_or, option_and_then}
 use Rattle.std.specs.Int.{int_max}
 pub use Rattle.uc_model.specs.declared.limits.TheConstants.{MAX_PERIODS, MAX_UNITS, MAX_POINTS, MAX_START_ROWS, MAX_POWER, MAX_COST, MAX_TIME}
-pub use Rattle.uc_model.specs.declared.instance.Point.{Point}
-pub use Rattle.uc_model.specs.declared.instance.StartRow.{StartRow}
-pub use Rattle.uc_model.specs.declared.instance.Thermal.{Thermal}
-pub use Rattle.uc_model.specs.declared.instance.Renewable.{Renewable}
+use Rattle.uc_model.specs.declared.instance.Point.{Point}
+use Rattle.uc_model.specs.declared.instance.StartRow.{StartRow}
+use Rattle.uc_model.specs.declared.instance.Thermal.{Thermal}
+use Rattle.uc_model.specs.declared.instance.Renewable.{Renewable}
 pub use Rattle.uc_model.specs.declared.instance.Instance.{Instance}
-pub use Rattle.uc_model.specs.declared.field.Field.{Field}
-pub use Rattle.uc_model.specs.declared.field_refusal.FieldRefusal.{FieldRefusal}
+use Rattle.uc_model.specs.declared.field.Field.{Field}
+use Rattle.uc_model.specs.declared.field_refusal.FieldRefusal.{FieldRefusal}
 pub use Rattle.uc_model.specs.declared.field.Field.TheVariants.{NoField, TimePeriods, Demand, Reserves, ThermalGenerators, RenewableGenerators, MustRun, PowerOutputMinimum, PowerOutputMaximum, RampUpLimit, RampDownLimit, RampStartupLimit, RampShutdownLimit, TimeUpMinimum, TimeDownMinimum, PowerOutputT0, UnitOnT0, TimeUpT0, TimeDownT0, Startup, StartupLag, StartupCost, PiecewiseProduction, PiecewiseProductionMw, PiecewiseProductionCost}
 use Rattle.decimal_json.specs.Value.{Decimal, Value}
 use Rattle.instance.specs.Fields.{key_of, number_in, entries_in, pairs_in, field_of}
 use Rattle.instance.specs.Scaled.{MILLION, size_of, scaled, is_rounded, wholes_of, is_below_zero}
-pub use Rattle.instance.specs.declared.fault.Place.{Place}
+use Rattle.instance.specs.declared.fault.Place.{Place}
 pub use Rattle.instance.specs.declared.fault.Refusal.{Refusal}
-pub use Rattle.instance.specs.declared.reader.totals.Totals.{Totals}
-pub use Rattle.instance.specs.declared.reader.thermal.Outputs.{Outputs}
-pub use Rattle.instance.specs.declared.reader.thermal.Ramps.{Ramps}
-pub use Rattle.instance.specs.declared.reader.thermal.Times.{Times}
-pub use Rattle.instance.specs.declared.reader.thermal.Initial.{Initial}
+use Rattle.instance.specs.declared.reader.totals.Totals.{Totals}
+use Rattle.instance.specs.declared.reader.thermal.Outputs.{Outputs}
+use Rattle.instance.specs.declared.reader.thermal.Ramps.{Ramps}
+use Rattle.instance.specs.declared.reader.thermal.Times.{Times}
+use Rattle.instance.specs.declared.reader.thermal.Initial.{Initial}
 
 -- ---- the codes of a refusal, and the kinds of unit in one. Source: the lines I1 to I8 that the program prints
 -- The field is missing.

@@ -8,7 +8,9 @@ use Rattle.dual_model.specs.NodeValue.{IsNodeValue, constant_at}
 use Rattle.dual_model.specs.PatternValue.{HasNoPattern, IsLeastValue}
 use Rattle.dual_model.specs.TableValue.{AreTermsOf, IsUnitValueOf}
 use Rattle.dual_model.proofs.TableValues.{unit_value-of}
-use Rattle.leaf_values.specs.Entries.{Instance, Table, TableEntries, UnitEntry, AreEntriesOf, AreUnitsReckoned, MAX_REST, IsEntryOf, IsReckoned, entry_at}
+use Rattle.leaf_values.specs.Entries.{TableEntries, UnitEntry, AreEntriesOf, AreUnitsReckoned, MAX_REST, IsEntryOf, IsReckoned, entry_at}
+use Rattle.uc_model.specs.declared.instance.Instance.{Instance}
+use Rattle.dual_model.specs.declared.table.Table.{Table}
 use Rattle.leaf_values.specs.Paths.{Fix, Node, AreFixesOf, fix_at}
 use Rattle.leaf_values.specs.inside.Totals.{AreReckonedFor, HasNoValue, IsReckonedFor, IsTotal, part_of, value_of}
 

@@ -6,7 +6,9 @@ use Rattle.uc_model.specs.Sums.{sum_below}
 use Rattle.uc_model.proofs.Ring.{linear}
 use Rattle.uc_model.proofs.Sizes.{abs_add, wide}
 use Rattle.dual_model.specs.CostToGo.{MAX_COST_TO_GO}
-use Rattle.leaf_values.specs.Entries.{Instance, MAX_UNITS, TableEntries, Thermal, UnitEntry, MAX_CONSTANT, MAX_REST, entry_at, entry_in}
+use Rattle.leaf_values.specs.Entries.{TableEntries, Thermal, UnitEntry, MAX_CONSTANT, MAX_REST, entry_at, entry_in}
+use Rattle.uc_model.specs.declared.instance.Instance.{Instance}
+use Rattle.uc_model.specs.declared.limits.TheConstants.{MAX_UNITS}
 use Rattle.leaf_values.specs.Paths.{Fix, fix_at}
 use Rattle.leaf_values.specs.inside.Totals.{AreReckonedFor, IsReckonedFor, IsTotal, part_of, value_of}
 

@@ -4,15 +4,15 @@
 pub use Rattle.ramp_duals.specs.Sizes.{MAX_CONSTANT}
 use Rattle.std.specs.Prelude.{◌≡◌, ℕ, ◌+◌, ◌*◌, ◌<◌, ◌≤◌, List, [], pos, ◌+ℤ◌, unsigned_abs, length, slice_index_or, None, MatchOption}
 use Rattle.uc_model.specs.Schedule.{thermal_unit, thermal_count}
-pub use Rattle.uc_model.specs.declared.instance.Instance.{Instance}
+use Rattle.uc_model.specs.declared.instance.Instance.{Instance}
 pub use Rattle.uc_model.specs.declared.instance.Thermal.{Thermal}
-pub use Rattle.uc_model.specs.declared.limits.TheConstants.{MAX_UNITS}
+use Rattle.uc_model.specs.declared.limits.TheConstants.{MAX_UNITS}
 use Rattle.dual_model.specs.NodeValue.{constant_at, renewables_value, system_value}
 use Rattle.dual_model.specs.PatternValue.{HasNoPattern, IsLeastValue}
 use Rattle.dual_model.specs.TableValue.{AreTermsOf}
 use Rattle.uc_model.specs.Terms.{period_count}
 use Rattle.dual_model.specs.UnitTerms.{AreSizedTerms}
-pub use Rattle.dual_model.specs.declared.table.Table.{Table}
+use Rattle.dual_model.specs.declared.table.Table.{Table}
 use Rattle.dual_model.specs.CostToGo.{IsWithin, MAX_COST_TO_GO}
 use Rattle.system_value.specs.Sizes.{MAX_RENEWABLES, MAX_SYSTEM}
 pub use Rattle.leaf_values.specs.declared.entries.UnitEntry.{UnitEntry}

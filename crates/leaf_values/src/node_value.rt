@@ -6,7 +6,8 @@ ghost use Rattle.uc_model.specs.Schedule.{thermal_count};
 ghost use Rattle.dual_model.specs.Fixings.{HasEmptyUnit};
 ghost use Rattle.dual_model.specs.NodeValue.{IsNodeValue};
 ghost use Rattle.dual_model.specs.CostToGo.{IsWithin, MAX_COST_TO_GO};
-ghost use Rattle.leaf_values.specs.Entries.{Table, AreEntriesOf, AreReckoned, AreUnitsReckoned, IsReckoned, MAX_CONSTANT, MAX_NODE_VALUE};
+ghost use Rattle.leaf_values.specs.Entries.{AreEntriesOf, AreReckoned, AreUnitsReckoned, IsReckoned, MAX_CONSTANT, MAX_NODE_VALUE};
+ghost use Rattle.dual_model.specs.declared.table.Table.{Table};
 ghost use Rattle.leaf_values.specs.Paths.{Node, AreFixesOf};
 ghost use Rattle.leaf_values.specs.inside.Totals.{AreReckonedFor, HasNoValue, IsPart, IsReckonedFor, IsTotal};
 

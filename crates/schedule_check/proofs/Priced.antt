@@ -9,7 +9,8 @@ use Rattle.uc_model.specs.Rules.{Category, Production, Obeys}
 use Rattle.uc_model.specs.PrintedSchedule.{cell_at, printed_denominator, printed_schedule}
 use Rattle.uc_model.specs.Limits.{IsLawfulInstance}
 use Rattle.uc_model.proofs.Obeyed.{rule_at}
-use Rattle.schedule_check.specs.WholeWatts.{Instance, Printed, Thermal, HasPrice, row_of}
+use Rattle.schedule_check.specs.WholeWatts.{Printed, Thermal, HasPrice, row_of}
+use Rattle.uc_model.specs.declared.instance.Instance.{Instance}
 use Rattle.schedule_check.proofs.Produced.{holds_from}
 use Rattle.schedule_check.proofs.SameRules.{production-is}
 

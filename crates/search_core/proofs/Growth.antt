@@ -12,7 +12,9 @@ use Rattle.branch_tree.specs.declared.tree.Spot.TheVariants as spot
 use Rattle.branch_tree.proofs.Changes.{cover_closed, free_split, are_apart, from_some, place_part}
 use Rattle.branch_tree.proofs.Grown.{closed_placed, closed_count, closed_there, closed_elsewhere, closed_node, split_placed, split_count, split_elsewhere, part_there, leaf_there, each_leaf_replaced}
 use Rattle.branch_tree.proofs.Subtrees.{number_of-replaced, AreApart, IsHere, apart_off, apart_on, at_root, subtree_cases, leaf_case, off_part, on_part}
-use Rattle.search_core.specs.Machine.{Leaf, Stored, Spot}
+use Rattle.search_core.specs.declared.stored.Stored.{Stored}
+use Rattle.branch_tree.specs.declared.tree.Leaf.{Leaf}
+use Rattle.branch_tree.specs.declared.tree.Spot.{Spot}
 use Rattle.search_core.specs.Moves.{Again, Empty, Outcome, Prune, Ray, Split, Move, closed, split, tree_after, tickets_of, unit_of, IsFreeFor, HasFreeCell}
 use Rattle.search_core.proofs.Claims.{StaysElsewhere}
 

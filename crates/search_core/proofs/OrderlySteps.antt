@@ -6,7 +6,8 @@ use Rattle.branch_tree.specs.NumberedTree.{node_count}
 use Rattle.branch_tree.specs.TreeView.{TreeView, IsOpenAt}
 use Rattle.branch_tree.specs.StoredTree.{lesser_bound}
 use Rattle.branch_tree.proofs.Grown.{open_numbered}
-use Rattle.search_core.specs.Machine.{Entry, Table, Holder, Desk, Machine, holder_of, IsWorker, desk_in, Stored, IsHolding}
+use Rattle.search_core.specs.Machine.{Entry, Table, Holder, Desk, Machine, holder_of, IsWorker, desk_in, IsHolding}
+use Rattle.search_core.specs.declared.stored.Stored.{Stored}
 use Rattle.search_core.specs.Moves.{Again, Outcome, Split, Move, kept, tree_after, tickets_of, IsFreeFor, IsMoveLegal, children_by}
 use Rattle.search_core.specs.Steps.{Claim, Commit, Look, Pop, Publish, Push, Steal, Event, IsLegal, committed, committed_by, after, with_desk, with_tickets, IsCommittable}
 use Rattle.search_core.specs.Orderly.{IsOrderly, AreHoldersApart, IsEachTicketOnce, held_count, times_at}

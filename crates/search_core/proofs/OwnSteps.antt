@@ -15,7 +15,9 @@ use Rattle.branch_tree.specs.declared.tree.Leaf.TheVariants as leaf
 use Rattle.branch_tree.proofs.Subtrees.{one_if, replaced_nowhere, same_or_not, AreApart, IsOff, IsOn, apart_off, apart_on, leaf_at, leaf_sides, not_root, part_counted}
 use Rattle.branch_tree.proofs.Changes.{get-append, get-set_other, get-set_same, are_apart}
 use Rattle.branch_tree.proofs.Grown.{closed_count, open_numbered}
-use Rattle.search_core.specs.Machine.{Entry, Leaf, Table, Stored, entries_of, Holder, holder_in, Machine, stored_at, spot_stored}
+use Rattle.search_core.specs.Machine.{Entry, Table, entries_of, Holder, holder_in, Machine, stored_at, spot_stored}
+use Rattle.search_core.specs.declared.stored.Stored.{Stored}
+use Rattle.branch_tree.specs.declared.tree.Leaf.{Leaf}
 use Rattle.search_core.specs.OwnTables.{Node, HasFreeCellAt, StartsAt, HoldsStored, OwnsBelow, stored_after, stored_by, Owns}
 use Rattle.search_core.specs.Moves.{Outcome, bound_of, kept_after, Again, Empty, Prune, Ray, Split, Move, HasFreeCell, kept, closed, split, tree_after, unit_of}
 use Rattle.search_core.specs.Orderly.{IsOrderly}

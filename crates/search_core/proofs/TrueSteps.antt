@@ -30,7 +30,8 @@ use Rattle.branch_tree.proofs.Grown.{IsClosedLeaf, each_leaf_map, all_closed}
 use Rattle.branch_tree.proofs.Changes.{get-append}
 use Rattle.branch_tree.proofs.Bounds.{at_most_itself, at_most_through, lesser_first, lesser_second, lesser_greatest, stored_bounds_hold, excluded_below}
 use Rattle.search_core.specs.Runs.{Leaf, Node, WHOLE_GAP, IsBestWithin, IsPrunedWithin, Instance, IsTrueOutcome, IsTrueCost, IsTrueEvent, IsTrueStart, IsTrueRun, IsSettled, HoldsAt, HoldsAlong, RunsHold, StartsAreReached, StepsReach, ReachedStatesHold, after_all}
-use Rattle.search_core.specs.Machine.{Table, Stored, Desk, Machine, IsWorker, IsHolding, no_desk, desk_in, stored_at, spot_stored, Holder, first_desk, holder_of}
+use Rattle.search_core.specs.Machine.{Table, Desk, Machine, IsWorker, IsHolding, no_desk, desk_in, stored_at, spot_stored, Holder, first_desk, holder_of}
+use Rattle.search_core.specs.declared.stored.Stored.{Stored}
 use Rattle.search_core.specs.Moves.{Outcome, bound_of, kept_after, IsPositive, Again, Empty, Prune, Ray, Split, Move, kept, tickets_of, IsMoveLegal}
 use Rattle.search_core.specs.Steps.{Claim, Commit, Look, Pop, Publish, Push, Steal, Event, IsLegal, committed, committed_by, after, with_desk, with_tickets, with_queued, without_first, first_queued, taken}
 use Rattle.search_core.specs.Orderly.{IsOrderly}

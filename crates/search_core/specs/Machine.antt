@@ -4,14 +4,14 @@ use Rattle.std.specs.Prelude.{◌≡◌, ℕ, ◌+◌, ◌-◌, ◌*◌, ◌<◌
 pub use Rattle.dual_model.specs.declared.table.Table.{Table}
 use Rattle.branch_tree.specs.NumberedTree.{EndAt, spot_at}
 use Rattle.branch_tree.specs.TreeView.{TreeView, IsOpenAt}
-pub use Rattle.branch_tree.specs.declared.tree.Leaf.{Leaf}
+use Rattle.branch_tree.specs.declared.tree.Leaf.{Leaf}
 use Rattle.branch_tree.specs.declared.tree.Leaf.TheVariants as leaf
-pub use Rattle.branch_tree.specs.declared.tree.Spot.{Spot}
+use Rattle.branch_tree.specs.declared.tree.Spot.{Spot}
 use Rattle.branch_tree.specs.declared.tree.Spot.TheVariants as spot
 pub use Rattle.branch_tree.specs.declared.found.Entry.{Entry}
 pub use Rattle.search_core.specs.declared.desk.Desk.{Desk}
 pub use Rattle.search_core.specs.declared.holder.Holder.{Holder}
-pub use Rattle.search_core.specs.declared.stored.Stored.{Stored}
+use Rattle.search_core.specs.declared.stored.Stored.{Stored}
 
 pub record Machine : Type 0 where
   -- how many claims there may be, and how far a bound may stay below a cost, in parts per million of the cost's size

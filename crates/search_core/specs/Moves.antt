@@ -10,7 +10,9 @@ use Rattle.branch_tree.specs.declared.found.Outcome.TheVariants as outcome
 use Rattle.branch_tree.specs.declared.tree.Leaf.TheVariants as leaf
 pub use Rattle.search_core.specs.declared.event.Move.{Move}
 pub use Rattle.search_core.specs.declared.event.Move.TheVariants.{Again, Split, Prune, Ray, Empty}
-use Rattle.search_core.specs.Machine.{Leaf, Table, Machine, Stored, desk_of, entries_of, stored_at}
+use Rattle.search_core.specs.Machine.{Table, Machine, desk_of, entries_of, stored_at}
+use Rattle.search_core.specs.declared.stored.Stored.{Stored}
+use Rattle.branch_tree.specs.declared.tree.Leaf.{Leaf}
 
 -- ---- what a node stores after an evaluation
 -- floor(V/K), in micro-dollars, where K > 0

@@ -7,7 +7,8 @@ use Rattle.branch_tree.specs.declared.tree.Leaf.TheVariants as leaf
 use Rattle.branch_tree.specs.declared.tree.Spot.TheVariants as spot
 use Rattle.branch_tree.specs.NumberedTree.{node_count}
 pub use Rattle.search_core.specs.declared.notes.Note.{Note}
-use Rattle.search_core.specs.Machine.{Entry, Spot, Holder, IsHeldIn, entries_of, Machine}
+use Rattle.search_core.specs.Machine.{Entry, Holder, IsHeldIn, entries_of, Machine}
+use Rattle.branch_tree.specs.declared.tree.Spot.{Spot}
 use Rattle.search_core.specs.Orderly.{IsOrderly}
 pub use Rattle.search_core.specs.declared.state.State.TheInside.{Inside}
 

@@ -6,7 +6,9 @@ use Rattle.branch_tree.specs.Claims.{table_at}
 use Rattle.branch_tree.specs.NumberedTree.{NumberedTree, EndAt, SplitAt}
 use Rattle.branch_tree.specs.TreeView.{TreeView}
 use Rattle.branch_tree.specs.declared.tree.Leaf.TheVariants as leaf
-use Rattle.search_core.specs.Machine.{Entry, Leaf, Table, Stored, entries_of}
+use Rattle.search_core.specs.Machine.{Entry, Table, entries_of}
+use Rattle.search_core.specs.declared.stored.Stored.{Stored}
+use Rattle.branch_tree.specs.declared.tree.Leaf.{Leaf}
 use Rattle.search_core.specs.Moves.{kept_after, HasFreeCell}
 
 -- a cell of a tree of this size is undecided at the node

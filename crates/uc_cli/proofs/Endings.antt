@@ -9,7 +9,8 @@ use Rattle.report.specs.FoundReport.{found_report}
 use Rattle.command_line.specs.Command.{Solve}
 use Rattle.uc_check.specs.Outside.{outside_of}
 use Rattle.uc_check.specs.Reading.{HasCause}
-use Rattle.uc_cli.specs.Run.{Fault, Found, Instance, Slot, Write, IsAnswer, IsDone, IsFailure, IsUnsaved, IsUntold}
+use Rattle.uc_cli.specs.Run.{Fault, Instance, Slot, Write, IsAnswer, IsDone, IsFailure, IsUnsaved, IsUntold}
+use Rattle.branch_tree.specs.declared.found.Found.{Found}
 
 -- the certificate's slot is as it was before the instance was read
 certificate_same : (f g : Slot → SlotState) → SameBut slot.Instance f g → g slot.CertOut ≡ f slot.CertOut

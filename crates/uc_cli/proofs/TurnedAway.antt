@@ -8,7 +8,8 @@ use Rattle.uc_check.specs.Checking.{most_certificate_bytes}
 use Rattle.command_line.specs.Command.{Command, Solves, Checks, Demos, command_of}
 use Rattle.uc_check.specs.Outside.{outside_of}
 use Rattle.uc_check.specs.Reading.{most_bytes}
-use Rattle.uc_cli.specs.Run.{End, Fault, Memory, Slot, Words, IsRun, IsTurnedAway, IsUsage}
+use Rattle.uc_cli.specs.Run.{Fault, Memory, Slot, Words, IsRun, IsTurnedAway, IsUsage}
+use Rattle.uc_check.specs.declared.ending.End.{End}
 use Rattle.uc_check.specs.Ending.{IsEndOf}
 use Rattle.command_line.specs.Asked.{IsRefusal}
 use Rattle.command_line.proofs.Commands.{names_a_command}

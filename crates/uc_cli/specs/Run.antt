@@ -13,7 +13,7 @@ use Rattle.branch_tree.specs.Claims.{certificate_of, written_of}
 use Rattle.workers.specs.SearchResult.{IsSearchResult}
 use Rattle.cert_text.specs.CertificateText.{listing_of}
 use Rattle.cert_text.specs.TextConditions.{HasText}
-pub use Rattle.branch_tree.specs.declared.found.Found.{Found}
+use Rattle.branch_tree.specs.declared.found.Found.{Found}
 use Rattle.report.specs.FoundReport.{found_report}
 pub use Rattle.report.specs.declared.fault.Fault.{Fault}
 pub use Rattle.report.specs.declared.fault.Fault.TheVariants.{Words, Write, Memory}
@@ -24,7 +24,7 @@ use Rattle.uc_check.specs.Checking.{IsCheckRun, IsScheduleTrue}
 use Rattle.uc_check.specs.Ending.{Ends, IsFaulty}
 use Rattle.uc_cli.specs.DemoRun.{IsDemoRun}
 use Rattle.uc_check.specs.Writing.{text_of_certificate, IsSaved, FailsToSave, IsTold, FailsToTell}
-pub use Rattle.uc_check.specs.declared.ending.End.{End}
+use Rattle.uc_check.specs.declared.ending.End.{End}
 
 -- an answer for the instance in the file: what was found, with the budget and at the gap that are asked; that its schedule obeys and
 -- costs at most what is printed; that its bound, or that there is no schedule, is true of every schedule; and that its certificate has

@@ -41,7 +41,9 @@ use Rattle.schedule_check.specs.Accepted.{IsAcceptedIfFound}
 use Rattle.decommitment.specs.DropCommitment.{Dispatched, StuckIn}
 use Rattle.opening.specs.RootTables.{IsPricedOf}
 use Rattle.claims.specs.Claims.{HasStoredTable, IsPublished}
-use Rattle.workers.specs.inside.Searches.{Entry, Instance, Node, Priced, Printed, Table, IsGrown, IsReady, IsScaledWithin, IsSearching, IsSizedEntry, IsTableFor, IsTurned, IsVisited, cost_of, start_by}
+use Rattle.workers.specs.inside.Searches.{Entry, Instance, Priced, Table, IsGrown, IsReady, IsScaledWithin, IsSearching, IsSizedEntry, IsTableFor, IsTurned, IsVisited, cost_of, start_by}
+use Rattle.dual_model.specs.declared.node.Node.{Node}
+use Rattle.uc_model.specs.declared.schedule.Printed.{Printed}
 use Rattle.workers.specs.inside.Best.{IsNoWorse}
 
 -- ---- the start

@@ -5,7 +5,7 @@ use Rattle.uc_model.specs.Schedule.{thermal_count, thermal_unit}
 use Rattle.dispatch_repair.specs.Period.{commitment_at}
 use Rattle.dispatch_repair.specs.Rooms.{AreRowsBut, AreRowsOf, IsRoomOf, printed_of}
 use Rattle.dispatch_repair.specs.declared.room.Room.{Room}
-pub use Rattle.dispatch_repair.specs.declared.rows.Rows.{Rows}
+use Rattle.dispatch_repair.specs.declared.rows.Rows.{Rows}
 use Rattle.decommitment.specs.DropCommitment.{Instance, Pattern, Printed, Ending, Dispatched, StuckIn, IsDropPass, IsEndingOf, IsFewestOnOf}
 use Rattle.decommitment.specs.MostOnStuck.{IsMostOnStuck}
 pub use Rattle.decommitment.specs.declared.pass.Pass.{Pass}

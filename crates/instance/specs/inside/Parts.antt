@@ -4,7 +4,8 @@ use Rattle.decimal_json.specs.Value.{Decimal}
 pub use Rattle.instance.specs.declared.reader.Reader.{Reader}
 use Rattle.instance.specs.Scaled.{wholes_of, held_wholes}
 use Rattle.instance.specs.Answer.{Fault, NoMemory, Refused, Fails}
-use Rattle.instance.specs.FirstFault.{FieldRefusal, MAX_PERIODS, MAX_POINTS, MAX_START_ROWS, Refusal, with_unit}
+use Rattle.instance.specs.FirstFault.{MAX_PERIODS, MAX_POINTS, MAX_START_ROWS, Refusal, with_unit}
+use Rattle.uc_model.specs.declared.field_refusal.FieldRefusal.{FieldRefusal}
 
 -- So many rounded numbers were counted, at most as many as said.
 pub record Counts (old new : Reader) (count most : ℕ) : Type 0 where

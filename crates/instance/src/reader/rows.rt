@@ -2,7 +2,9 @@
 
 ghost use Rattle.std.specs.Prelude.{◌≡◌, ◌+◌, ◌*◌, ◌<◌, ◌≤◌, ◌^◌, [], length, map, sum_by, OnOk, List};
 ghost use Rattle.decimal_json.specs.View.{view, pair_view};
-ghost use Rattle.instance.specs.FirstFault.{MAX_POINTS, MAX_START_ROWS, Point, StartRow, each_at, start_row, point_row, startup_at, points_at, last_output, rounded_start_row, rounded_point, rounded_startup, rounded_points};
+ghost use Rattle.instance.specs.FirstFault.{MAX_POINTS, MAX_START_ROWS, each_at, start_row, point_row, startup_at, points_at, last_output, rounded_start_row, rounded_point, rounded_startup, rounded_points};
+ghost use Rattle.uc_model.specs.declared.instance.StartRow.{StartRow};
+ghost use Rattle.uc_model.specs.declared.instance.Point.{Point};
 ghost use Rattle.instance.specs.Answer.{Gives};
 ghost use Rattle.instance.specs.inside.Parts.{Counts, START_NUMBERS, POINT_NUMBERS};
 

@@ -2,7 +2,8 @@
 use Rattle.std.specs.Prelude.{◌≡◌, ℕ, ◌<◌, List, ℤ, pos, ◌+ℤ◌, length, Option, Some, None, MatchOption, unwrap_or}
 use Rattle.uc_model.specs.Sums.{sum_below}
 use Rattle.uc_model.specs.Schedule.{thermal_unit}
-use Rattle.leaf_values.specs.Entries.{Instance, TableEntries, Thermal, UnitEntry, IsReckoned, entry_at, entry_in}
+use Rattle.leaf_values.specs.Entries.{TableEntries, Thermal, UnitEntry, IsReckoned, entry_at, entry_in}
+use Rattle.uc_model.specs.declared.instance.Instance.{Instance}
 use Rattle.leaf_values.specs.Paths.{Fix, fix_at}
 
 -- the entry was reckoned for the fix, and is otherwise as before

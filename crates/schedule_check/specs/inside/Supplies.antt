@@ -3,7 +3,8 @@ use Rattle.std.specs.Prelude.{ℕ, ℤ}
 use Rattle.uc_model.specs.PrintedSchedule.{cell_at}
 use Rattle.uc_model.specs.Schedule.{thermal_count, renewable_count}
 use Rattle.schedule_check.specs.SizedNumbers.{Printed, output_at}
-use Rattle.schedule_check.specs.WholeWatts.{Instance, thermal_supply}
+use Rattle.schedule_check.specs.WholeWatts.{thermal_supply}
+use Rattle.uc_model.specs.declared.instance.Instance.{Instance}
 use Rattle.schedule_check.specs.declared.balance.Kind.{Kind}
 use Rattle.schedule_check.specs.declared.balance.Kind.TheVariants.{Thermal, Reserve, Renewable}
 

@@ -2,17 +2,17 @@
 use Rattle.std.specs.Prelude.{◌≡◌, ◌≢◌, ℕ, ◌+◌, ◌<◌, false, All, [], ℤ, pos, ◌≤ℤ◌, ◌<ℤ◌, Option, None, Some, length}
 use Rattle.uc_model.specs.Schedule.{thermal_count}
 pub use Rattle.uc_model.specs.declared.instance.Instance.{Instance}
-pub use Rattle.uc_model.specs.declared.schedule.Printed.{Printed}
+use Rattle.uc_model.specs.declared.schedule.Printed.{Printed}
 use Rattle.dual_model.specs.Fixings.{IsNodeOf}
 use Rattle.dual_model.specs.Prices.{IsLawfulTable}
-pub use Rattle.dual_model.specs.declared.node.Node.{Node}
+use Rattle.dual_model.specs.declared.node.Node.{Node}
 pub use Rattle.dual_model.specs.declared.table.Table.{Table}
 use Rattle.branch_tree.specs.Closing.{is_schedule_within}
 use Rattle.branch_tree.specs.NumberedTree.{node_count}
 use Rattle.branch_tree.specs.StoredTree.{IsNodeAt, tree_bound}
 use Rattle.branch_tree.specs.TreeView.{IsOpenAt}
 pub use Rattle.branch_tree.specs.declared.found.Entry.{Entry}
-pub use Rattle.branch_tree.specs.declared.found.Outcome.{Outcome}
+use Rattle.branch_tree.specs.declared.found.Outcome.{Outcome}
 use Rattle.search_core.specs.declared.event.Event.TheVariants.{Commit}
 use Rattle.search_core.specs.declared.event.Move.{Move}
 use Rattle.search_core.specs.Machine.{Machine, IsHolding, IsWorker, entries_of, start_of}

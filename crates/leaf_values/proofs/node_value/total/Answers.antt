@@ -2,7 +2,8 @@
 use Rattle.std.proofs.Common.{◌≡◌, ◌<◌, length, subst, ◌∙◌, arith, to_z, Some}
 use Rattle.std.specs.Int.{w128}
 use Rattle.std.proofs.lemmas.List.{get_or_default}
-use Rattle.leaf_values.specs.Entries.{MAX_UNITS, UnitEntry, entry_at, no_entry}
+use Rattle.leaf_values.specs.Entries.{UnitEntry, entry_at, no_entry}
+use Rattle.uc_model.specs.declared.limits.TheConstants.{MAX_UNITS}
 use Rattle.leaf_values.specs.inside.Totals.{part_of, value_of}
 use Rattle.leaf_values.proofs.Reckoned.{one_more}
 use Rattle.leaf_values.proofs.node_value.total.Goals as goal

@@ -3,7 +3,8 @@ use Rattle.std.proofs.Common.{◌≡◌, ◌<◌, List, [], length, sym, ap, sub
 use Rattle.std.proofs.lemmas.List.{get_or_read}
 use Rattle.std.proofs.lemmas.List.Elements.{All-get_or}
 use Rattle.uc_model.specs.Schedule.{thermal_unit, no_unit}
-use Rattle.schedule_check.specs.WholeWatts.{Cell, Thermal, HasPrice, cell, row_of}
+use Rattle.schedule_check.specs.WholeWatts.{Thermal, HasPrice, cell, row_of}
+use Rattle.uc_model.specs.declared.schedule.Cell.{Cell}
 use Rattle.schedule_check.proofs.pricing.unit_cost.Goals as goal
 
 pub row_cost-requires-clause-prices : goal.row_cost-requires-clause-prices
