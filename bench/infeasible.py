@@ -80,7 +80,7 @@ SYSTEMS = (
      "six", {"reserves": [20] * 3 + [100] * 6 + [20] * 3}, {name: {"ramp_up_limit": 7} for name in "abcd"}),
     ("a rise", "slow units that start at their minimums after a valley of 100 and rise by 10 an hour don't reach 430 four hours later",
      "six", {"demand": [300, 260, 200, 140, 100, 100, 100, 100, 140, 200, 260, 430]}, SLOW_STARTS),
-    ("a tight rise", "nor do they reach 400, of which they lack so little that it takes many splits to show",
+    ("a tight rise", "nor do they reach 400, of which they lack so little that no ray shows it before several splits",
      "six", {"demand": [300, 260, 200, 140, 100, 100, 100, 100, 140, 200, 260, 400]}, SLOW_STARTS),
 )
 

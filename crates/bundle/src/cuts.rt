@@ -66,6 +66,7 @@ pub struct Bundle {
     unit: i64,
     stride: i64,
     most: usize,
+    held: Option<usize>,
 }
 
 /// A move of each price, those that aren't 0 by their places, and by how much the bound rises at most with them.
@@ -98,6 +99,7 @@ impl Bundle {
             metrics: metrics(alloc, instance, ramped)?,
             unit: slope_unit(instance),
             stride: 1,
+            held: None,
             most: if units.saturating_mul(periods) <= MANY_CELLS {
                 MOST_CUTS
             } else {
@@ -111,6 +113,11 @@ impl Bundle {
         if !self.has_few_cuts() {
             self.most = MORE_CUTS;
         }
+    }
+
+    /// Holds a price where it is: slopes in it count as 0.
+    pub fn hold(&mut self, place: usize) {
+        self.held = Some(place);
     }
 
     /// Whether few cuts are kept.
@@ -144,6 +151,11 @@ impl Bundle {
         for (i, own) in watts.iter_mut().enumerate() {
             let enlarged = own.saturating_mul(self.metric_at(i));
             *own = (enlarged / unit).max(-STEEPEST).min(STEEPEST);
+        }
+        if let Some(place) = self.held {
+            if let Some(own) = watts.get_mut(place) {
+                *own = 0;
+            }
         }
     }
 

@@ -8,4 +8,4 @@ mod moves;
 
 pub use frontier::Frontier;
 pub use machine::{WORKER, claim_next, publish, stored_table, take};
-pub use moves::action;
+pub use moves::{Hints, action};

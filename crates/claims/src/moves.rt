@@ -20,8 +20,16 @@ const ROOT_CLAIMS: usize = 3;
 /// With so many entries a node is split on a cell whose share is nearly whole.
 const LATE: usize = 3;
 
-/// The move that ends a claim of the node with this outcome at the table: the node is closed where this may be, split where the shares say on
-/// which cell, and else left open. The shares are those of the ascent to the table, or none. The only error is `NoMemory`.
+/// What an ascent tells of where to split its node: how often each unit was on in each period, unit by unit, or nothing; and a cell, a unit
+/// and a period from 0, where one was sought.
+#[derive(Clone, Copy)]
+pub struct Hints<'a> {
+    pub shares: &'a [i64],
+    pub cell: Option<(u32, u32)>,
+}
+
+/// The move that ends a claim of the node with this outcome at the table: the node is closed where this may be, split where the hints say on
+/// which cell, and else left open. The hints are those of the ascent to the table, or none. The only error is `NoMemory`.
 pub fn action(
     alloc: Global,
     state: &State,
@@ -29,7 +37,7 @@ pub fn action(
     node: u32,
     path: &Node,
     table: &Table,
-    shares: &[i64],
+    hints: Hints,
     outcome: &Outcome,
 ) -> Result<Move, NoMemory>
     requires worker { IsWorker state.now 0 }
@@ -39,7 +47,7 @@ pub fn action(
     if let Some(action) = closing(state, node, table, outcome) {
         return Ok(action);
     }
-    if let Some((g, t)) = cell(alloc, state, instance, node, path, shares)? {
+    if let Some((g, t)) = cell(alloc, state, instance, node, path, hints)? {
         return Ok(Move::Split { g, t });
     }
     Ok(Move::Again)
@@ -85,13 +93,16 @@ fn cell(
     instance: &Instance,
     node: u32,
     path: &Node,
-    shares: &[i64],
+    hints: Hints,
 ) -> Result<Option<(u32, u32)>, NoMemory>
     requires within { node < node_count state.now.tree.nodes }
     ensures { IfOk result (λ cell. MatchOption cell (MayGoOn state.now node) (λ cell. IsFreeAt state.now.tree node cell.0 cell.1)) }
 {
     if is_ripe(state, node) {
-        if let Some(cell) = divided(alloc, state, instance, node, path, shares)? {
+        if let Some(cell) = sought(alloc, state, node, hints.cell)? {
+            return Ok(Some(cell));
+        }
+        if let Some(cell) = divided(alloc, state, instance, node, path, hints.shares)? {
             return Ok(Some(cell));
         }
     }
@@ -100,6 +111,24 @@ fn cell(
     }
     let cell = state.free_cell(alloc, node)?;
     Ok(cell)
+}
+
+// The cell that was sought, where it is undecided.
+fn sought(
+    alloc: Global,
+    state: &State,
+    node: u32,
+    cell: Option<(u32, u32)>,
+) -> Result<Option<(u32, u32)>, NoMemory>
+    requires within { node < node_count state.now.tree.nodes }
+    ensures { IfOk result (λ cell. IfSome cell (λ cell. IsFreeAt state.now.tree node cell.0 cell.1)) }
+{
+    if let Some((g, t)) = cell {
+        if state.is_free(alloc, node, g, t)? {
+            return Ok(Some((g, t)));
+        }
+    }
+    Ok(None)
 }
 
 // Whether the node had its claims: the root some, and each other node the one at the table that it inherited.

@@ -54,13 +54,15 @@ pub struct Effort {
 
 /// What an ascent found: the best table, how often each unit was on in each period among the cuts that give the best move, unit by unit,
 /// in parts of 2^16, and what it takes the bound for, in micro-dollars, of which nothing is proved. Where this is above all that a schedule
-/// could cost, the ascent ended there, and its prices stand in `ray` at the scale 0: the value there should show that there is none.
+/// could cost, the ascent ended there, and its prices stand in `ray` at the scale 0: the value there should show that there is none. `cell`
+/// is a unit and a period, from 0, to split the node on, where that was sought.
 #[derive(Drop)]
 pub struct Ascent {
     pub table: Table,
     pub shares: Vec<i64>,
     pub bound: i128,
     pub ray: Option<Table>,
+    pub cell: Option<(u32, u32)>,
 }
 
 // The best prices so far, their value, the cuts there, and how many evaluations have gained nothing since; and the cuts' mean shares, where
@@ -74,29 +76,30 @@ struct Center {
     shares: Vec<i64>,
 }
 
-// Where an ascent starts: prices at the scale `SCALE`, the part of the value by which its first step is to raise it, its effort, and
-// whether it keeps more cuts.
+/// Where an ascent starts: prices at the scale `SCALE`, the part of the value by which its first step is to raise it, its effort,
+/// whether it keeps more cuts, and the place of a price that is held where it is.
 #[derive(Drop)]
-struct Start {
-    prices: Vec<i64>,
-    part: i128,
-    effort: Effort,
-    keeps_more: bool,
+pub(crate) struct Start {
+    pub prices: Vec<i64>,
+    pub part: i128,
+    pub effort: Effort,
+    pub keeps_more: bool,
+    pub held: Option<usize>,
 }
 
-// Where an ascent ended: prices at the scale `SCALE`, their value, and how often units are on.
+/// Where an ascent ended: prices at the scale `SCALE`, their value, and how often units are on.
 #[derive(Drop)]
-struct Top {
-    prices: Vec<i64>,
-    value: i128,
-    shares: Vec<i64>,
+pub(crate) struct Top {
+    pub prices: Vec<i64>,
+    pub value: i128,
+    pub shares: Vec<i64>,
 }
 
-// How large values are, at the scale `SCALE`: as how much one counts at least, and what no schedule can cost, above which an ascent ends.
+/// How large values are, at the scale `SCALE`: as how much one counts at least, and what no schedule can cost, above which an ascent ends.
 #[derive(Clone, Copy)]
-struct Sizes {
-    least: i128,
-    most: i128,
+pub(crate) struct Sizes {
+    pub least: i128,
+    pub most: i128,
 }
 
 impl Sizes {
@@ -140,14 +143,14 @@ impl Sizes {
     }
 }
 
-// What an ascent climbs: the values of a node, which come of the evaluator and of what the node decides; the units, from 0, whose ramps have
-// prices; and how large the values are.
+/// What an ascent climbs: the values of a node, which come of the evaluator and of what the node decides; the units, from 0, whose ramps have
+/// prices; and how large the values are.
 #[derive(Drop)]
-struct Hill {
-    evaluator: Evaluator,
-    decisions: Decisions,
-    ramped: Vec<u32>,
-    sizes: Sizes,
+pub(crate) struct Hill {
+    pub evaluator: Evaluator,
+    pub decisions: Decisions,
+    pub ramped: Vec<u32>,
+    pub sizes: Sizes,
 }
 
 impl Hill {
@@ -185,8 +188,8 @@ impl Hill {
     }
 }
 
-// The values of a node by an evaluator, and of this size.
-fn hill_of(
+/// The values of a node by an evaluator, and of this size.
+pub(crate) fn hill_of(
     alloc: Global,
     instance: &Instance,
     node: &Node,
@@ -240,6 +243,7 @@ pub fn ascend(
         part: first_part(table),
         effort,
         keeps_more: false,
+        held: None,
     };
     let top = top_from(alloc, &mut hill, instance, start)?;
     ended(alloc, &hill, instance, top, k)
@@ -281,6 +285,7 @@ fn seek_ray(
         part: RISE_BY_MERIT,
         effort: RAY_EFFORT,
         keeps_more: true,
+        held: None,
     };
     let top = top_from(alloc, &mut hill, instance, start)?;
     sought.ray = ray(alloc, &hill, instance, &top)?;
@@ -290,8 +295,8 @@ fn seek_ray(
     Ok(())
 }
 
-// Where the ascent from a start ends.
-fn top_from(
+/// Where the ascent from a start ends.
+pub(crate) fn top_from(
     alloc: Global,
     hill: &mut Hill,
     instance: &Instance,
@@ -305,10 +310,8 @@ fn top_from(
         });
     };
     let rise = hill.sizes.of_value(first.value) / start.part.max(1);
-    let mut center = begin(alloc, instance, start.prices, first, rise, &hill.ramped)?;
-    if start.keeps_more {
-        center.bundle.keep_more();
-    }
+    let bundle = bundle_for(alloc, instance, &hill.ramped, &start)?;
+    let mut center = begin(alloc, bundle, start.prices, first, rise)?;
     climb(alloc, hill, instance, &mut center, start.effort)?;
     settle(alloc, &mut center)?;
     Ok(Top {
@@ -340,11 +343,12 @@ fn ended(
         shares: top.shares,
         bound: top.value / i128::from(SCALE),
         ray,
+        cell: None,
     })
 }
 
-// The ray of the top's prices, where its value is above all that a schedule could cost.
-fn ray(
+/// The ray of the top's prices, where its value is above all that a schedule could cost.
+pub(crate) fn ray(
     alloc: Global,
     hill: &Hill,
     instance: &Instance,
@@ -457,8 +461,12 @@ fn first_part(table: &Table) -> i128 {
     }
 }
 
-// Prices of 0.
-fn no_prices(alloc: Global, instance: &Instance, ramped: &[u32]) -> Result<Vec<i64>, NoMemory> {
+/// Prices of 0.
+pub(crate) fn no_prices(
+    alloc: Global,
+    instance: &Instance,
+    ramped: &[u32],
+) -> Result<Vec<i64>, NoMemory> {
     let rows = ramped.len().saturating_add(1);
     let count = (instance.periods as usize)
         .saturating_mul(2)
@@ -466,16 +474,31 @@ fn no_prices(alloc: Global, instance: &Instance, ramped: &[u32]) -> Result<Vec<i
     Ok(vec![in alloc; 0_i64; count]?)
 }
 
+// The bundle of an ascent with this start.
+fn bundle_for(
+    alloc: Global,
+    instance: &Instance,
+    ramped: &[u32],
+    start: &Start,
+) -> Result<Bundle, NoMemory> {
+    let mut bundle = Bundle::of(alloc, instance, ramped)?;
+    if start.keeps_more {
+        bundle.keep_more();
+    }
+    if let Some(place) = start.held {
+        bundle.hold(place);
+    }
+    Ok(bundle)
+}
+
 // The centre at the first prices, from where the first step is to raise the value by so much.
 fn begin(
     alloc: Global,
-    instance: &Instance,
+    mut bundle: Bundle,
     prices: Vec<i64>,
     first: Evaluation,
     rise: i128,
-    ramped: &[u32],
 ) -> Result<Center, NoMemory> {
-    let mut bundle = Bundle::of(alloc, instance, ramped)?;
     let value = first.value;
     let cut = cut(&bundle, first, WHOLE);
     bundle.begin(alloc, cut, rise)?;

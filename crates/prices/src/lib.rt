@@ -6,7 +6,9 @@ pub mod laws;
 mod merit;
 mod price_list;
 mod steps;
+mod tight;
 
 pub use ascent::{Ascent, Effort, ascend, with_ray};
 pub use opening_tables::{SCALE, marginal, marginal_in, opening_ray, unpriced, zero};
 pub use steps::{next_ascent, step};
+pub use tight::with_cell;

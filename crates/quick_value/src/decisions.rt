@@ -37,6 +37,24 @@ impl Decisions {
         }
         Ok(Decisions { rows })
     }
+
+    /// Decides one more cell.
+    pub fn decide(&mut self, g: usize, t: usize, on: bool) {
+        if let Some(row) = self.rows.get_mut(g) {
+            decide(row, t, on);
+        }
+    }
+
+    /// Whether both are left to the cell of unit g in period t.
+    pub fn is_open(&self, g: usize, t: usize) -> bool {
+        match self.rows.get(g) {
+            Some(row) => match row.get(t) {
+                Some(choice) => choice.on && choice.off,
+                None => false,
+            },
+            None => false,
+        }
+    }
 }
 
 // Decides the cell of period t.

@@ -1,6 +1,7 @@
 //! A claim of a node: at which table it is evaluated, and by which move it ends.
 
 ghost use Rattle.std.specs.Prelude.{◌≡◌, ◌≢◌, ◌<◌, ◌≤◌, false, [], None, pos, IfOk, IfSome, IsTrue, OnOk};
+ghost use Rattle.uc_model.specs.Limits.{IsLawfulInstance};
 ghost use Rattle.dual_model.specs.Fixings.{IsNodeOf};
 ghost use Rattle.dual_model.specs.Prices.{IsLawfulTable};
 ghost use Rattle.branch_tree.specs.NumberedTree.{node_count};
@@ -13,14 +14,14 @@ ghost use Rattle.workers.specs.inside.Trials.{IsAscentFor, IsFreshRay, IsNextAt,
 use crate::start::first_ascent;
 use crate::tree_search::{Claim, Search};
 use crate::worker::Worker;
-use claims::{WORKER, action, stored_table, take};
+use claims::{Hints, WORKER, action, stored_table, take};
 use dual_model::{Node, Table};
 use opening::{is_positive, node_ray};
-use prices::{Ascent, next_ascent, with_ray};
+use prices::{Ascent, next_ascent, with_cell, with_ray};
 use schedule_repair::is_small;
 use search_core::{Event, State};
 use std::alloc::Global;
-use uc_model::NoMemory;
+use uc_model::{Instance, NoMemory};
 
 /// What a claim is evaluated at: the table that its node inherited, a ray of the opening, the ray of an ascent that ran off, or the table
 /// that an ascent found.
@@ -54,11 +55,17 @@ impl Trial {
         }
     }
 
-    // How often each unit is on in each period, where an ascent tells it.
-    fn shares(&self) -> &[i64] {
+    // What an ascent tells of where to split.
+    fn hints(&self) -> Hints<'_> {
         match self {
-            Trial::Ascended(ascent) => &ascent.shares,
-            _ => &[],
+            Trial::Ascended(ascent) => Hints {
+                shares: &ascent.shares,
+                cell: ascent.cell,
+            },
+            _ => Hints {
+                shares: &[],
+                cell: None,
+            },
         }
     }
 }
@@ -124,7 +131,7 @@ fn end(
         claim.node,
         path,
         table,
-        trial.shares(),
+        trial.hints(),
         &outcome,
     )?;
     let event = Event::Commit {
@@ -278,8 +285,8 @@ fn enough(claim: Claim) -> i128 {
     }
 }
 
-// The ascent to a table of this unit's scale: the one that was made already, or one from what the node stores, with a ray that is looked for
-// where no schedule is known after the first claim.
+// The ascent to a table of this unit's scale: the one that was made already, or one from what the node stores, with a ray or a cell that is
+// looked for where no schedule is known after the first claim.
 fn ascent(
     alloc: Global,
     worker: &Worker,
@@ -305,8 +312,28 @@ fn ascent(
             if search.best.is_some() || ascent.ray.is_some() {
                 Ok(ascent)
             } else {
-                with_ray(alloc, instance, path, ascent)
+                sought(alloc, instance, path, ascent)
             }
         }
+    }
+}
+
+// The ascent with a ray, or else with a cell to split its node on.
+fn sought(
+    alloc: Global,
+    instance: &Instance,
+    path: &Node,
+    ascent: Ascent,
+) -> Result<Ascent, NoMemory>
+    requires lawful { IsLawfulInstance instance.now }
+    ensures table { IfOk result (λ sought. sought.table ≡ ascent.table) }
+    ensures ray { IfOk result (λ sought. IfSome sought.ray (IsLawfulTable instance.now)) }
+    ensures ray_scale { IfOk result (λ sought. IfSome sought.ray (λ ray. ray.k ≡ pos 0)) }
+{
+    let ascent = with_ray(alloc, instance, path, ascent)?;
+    if ascent.ray.is_some() {
+        Ok(ascent)
+    } else {
+        with_cell(alloc, instance, path, ascent)
     }
 }
