@@ -23,6 +23,9 @@ use search_core::{Event, State};
 use std::alloc::Global;
 use uc_model::{Instance, NoMemory};
 
+/// In so many claims a cell to split on is sought, each time by thousands of evaluations.
+const SEEKING_CLAIMS: u32 = 100;
+
 /// What a claim is evaluated at: the table that its node inherited, a ray of the opening, the ray of an ascent that ran off, or the table
 /// that an ascent found.
 #[derive(Drop)]
@@ -312,18 +315,19 @@ fn ascent(
             if search.best.is_some() || ascent.ray.is_some() {
                 Ok(ascent)
             } else {
-                sought(alloc, instance, path, ascent)
+                sought(alloc, instance, path, ascent, claim.unit)
             }
         }
     }
 }
 
-// The ascent with a ray, or else with a cell to split its node on.
+// The ascent with a ray, or else, in early claims, with a cell to split its node on.
 fn sought(
     alloc: Global,
     instance: &Instance,
     path: &Node,
     ascent: Ascent,
+    unit: u32,
 ) -> Result<Ascent, NoMemory>
     requires lawful { IsLawfulInstance instance.now }
     ensures table { IfOk result (λ sought. sought.table ≡ ascent.table) }
@@ -331,7 +335,7 @@ fn sought(
     ensures ray_scale { IfOk result (λ sought. IfSome sought.ray (λ ray. ray.k ≡ pos 0)) }
 {
     let ascent = with_ray(alloc, instance, path, ascent)?;
-    if ascent.ray.is_some() {
+    if ascent.ray.is_some() || unit > SEEKING_CLAIMS {
         Ok(ascent)
     } else {
         with_cell(alloc, instance, path, ascent)
