@@ -13,7 +13,7 @@ use Rattle.clap.specs.Simple.{argument_words, built, entered, label_of, names_of
 use Rattle.clap.specs.Walk.{Names, answers_to, finished, nothing_held, settled, stop_after, walk, walk_from}
 use Rattle.command_line.specs.Arguments.{program, is_none, is_taken}
 use Rattle.command_line.specs.Command.{command_of, named}
-use Rattle.command_line.specs.Asked.{Command as CommandWords, command_asked, refusal_of, IsRefusal}
+use Rattle.command_line.specs.Asked.{CommandWords, command_asked, refusal_of, IsRefusal}
 
 -- where neither of two steps fails, the second doesn't
 second : (a b : Kinds) → or_else a b ≡ [] → b ≡ []
