@@ -8,12 +8,11 @@ program=$top/crates/uc/out/uc
 child='' work='' told='' crates=() uses=() began=() took=()
 
 # What the proof of each crate took when it was measured, in seconds of one processor.
-weights='uc_model 48 dual_model 30 outside 60 outside_system 78 decimal_json 102 instance 186 cert_text 186 report 84
-  cost_curves 42 start_costs 24 period_term 72 ramp_duals 36 system_value 24 interval_graph 18 unit_path 66
-  dispatch_repair 180 dual_value 42 quick_value 108 opening_tables 48 bundle 120 prices 180 repair_state 144
-  schedule_repair 186 branch_tree 48 incumbent 24 steal_pool 72 search_core 144 claims 54 decommitment 48 opening 72
-  workers 234 schedule_check 90 state_walk 36 leaf_values 54 cert_check 72 demo_gen 36 command_line 102 uc_check 72
-  uc_cli 54 uc 126'
+weights='uc_model 61 dual_model 46 outside 85 outside_system 107 decimal_json 136 instance 210 cert_text 200 report 87
+  cost_curves 59 start_costs 34 period_term 67 ramp_duals 36 system_value 22 interval_graph 24 unit_path 89 dispatch_repair 231
+  dual_value 54 quick_value 155 opening_tables 63 bundle 175 prices 193 repair_state 201 schedule_repair 190 branch_tree 70
+  search_core 199 claims 58 decommitment 51 opening 77 workers 278 schedule_check 135 state_walk 36 leaf_values 55 cert_check 83
+  demo_gen 44 command_line 130 uc_check 77 uc_cli 97 uc 169'
 
 say() { printf 'uc: %s\n' "$*" >&2; }
 is_current() {
