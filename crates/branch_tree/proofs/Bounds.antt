@@ -139,13 +139,13 @@ least_is places least are so_far = at_most_both least (least_bound (unnumbered (
 -- ---- What the leaves store bounds the cost, and leaves no schedule where none stores a bound.
 -- a table that bounds by more bounds by less
 lower_bound : (instance : Instance) (tables : List Table) (node : Node) (table : ℕ) (value b : ℤ) → b ≤ℤ value
-    → IsBoundedBy instance tables node table value → IsBoundedBy instance tables node table b
+    → IsBoundedBy false instance tables node table value → IsBoundedBy false instance tables node table b
 lower_bound instance tables node table value b below h = record {
   table = h.table;
   is_table = h.is_table;
   scale = h.scale;
   bounds = ⊎_elim
-      (λ (has : HasBoundOf instance node h.table value).
+      (λ (has : HasBoundOf false instance node h.table value).
       inl (record { bound = has.bound; is_bound = has.is_bound; enough = (omega (arith, linear, has.enough)) }))
       (λ (empty : HasEmptyUnit instance node). inr empty)
       h.bounds;

@@ -102,9 +102,9 @@ size-of instance c holds = record { periods = holds.periods; thermal = holds.the
 
 -- no leaf of an excluded tree is a bound
 no-bound : (instance : Instance) (tables : List Table) (place : Node) (tree : Tree Leaf) → EachLeaf (IsExcluded instance tables) place tree → any_leaf is_bound tree ≡ false
-no-bound instance tables place (Ends (Bound number)) each = absurd each
-no-bound instance tables place (Ends (Ray number)) each = refl
-no-bound instance tables place (Ends (Empty g)) each = refl
+no-bound instance tables place (Ends (Bound exact number)) each = absurd each
+no-bound instance tables place (Ends (Ray exact number)) each = refl
+no-bound instance tables place (Ends (Empty exact g)) each = refl
 no-bound instance tables place (Splits g t off on) each =
     (λ i. no-bound instance tables (child place g t false) off each.0 i || no-bound instance tables (child place g t true) on each.1 i)
 

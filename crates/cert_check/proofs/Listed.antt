@@ -181,7 +181,7 @@ refused-8 instance c cert e schedule misfits =
 -- a code of a node that isn't sound
 code-of : (instance : Instance) (c : Certificate) (node : TreeNode) (number : ℕ) → IsUnsoundAt instance c (refusal_of node number)
     → IsRefusedBy instance c (refusal_of node number)
-code-of instance c (LeafNode (Bound table)) number at = at
+code-of instance c (LeafNode (Bound exact table)) number at = at
 code-of instance c _ number at = at
 
 pub refused-node : (instance : Instance) (c : Certificate) (cert : Cert) (code : Refusal) → Listed c cert → HasClaim instance c → IsCodeOf instance cert code

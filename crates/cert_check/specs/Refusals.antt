@@ -79,9 +79,9 @@ pub record MissesCost (instance : Instance) (c : Certificate) (cost computed : �
 
 -- the code by which a node of that number is refused
 abbrev pub refusal_of : TreeNode → ℕ → Refusal
-refusal_of (LeafNode (Bound table)) number = codes.C4 number
-refusal_of (LeafNode (Ray table)) number = codes.C5 number
-refusal_of (LeafNode (Empty g)) number = codes.C6 number
+refusal_of (LeafNode (Bound exact table)) number = codes.C4 number
+refusal_of (LeafNode (Ray exact table)) number = codes.C5 number
+refusal_of (LeafNode (Empty exact g)) number = codes.C6 number
 refusal_of (SplitNode g t) number = codes.C7 number
 
 -- the first of some visits that isn't sound is the one of index i, from 0

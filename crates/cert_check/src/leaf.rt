@@ -1,6 +1,6 @@
 //! What a leaf of a certificate's tree claims, and whether it is so.
 
-ghost use Rattle.std.specs.Prelude.{◌≡◌, ◌↔◌, ◌<◌, List, pos, ◌<ℤ◌, ◌≤ℤ◌, All, IfOk, IsTrue, length, if◌then◌else◌};
+ghost use Rattle.std.specs.Prelude.{◌≡◌, ◌↔◌, ◌<◌, false, List, pos, ◌<ℤ◌, ◌≤ℤ◌, All, IfOk, IsTrue, length, if◌then◌else◌};
 ghost use Rattle.uc_model.specs.Limits.{IsLawfulInstance};
 ghost use Rattle.uc_model.specs.Schedule.{thermal_count};
 ghost use Rattle.dual_model.specs.Cover.{Bound, Ray};
@@ -99,7 +99,7 @@ impl Leaves {
         requires number { number < length cert.now.tables }
         ensures ready { IfOk result (λ sound. IsReady instance.now cert.now.tables self.new) }
         ensures sound { IfOk result (λ sound. (place : Node) → AreFixesOf instance.now place self.old.fixes.items
-            → IsTrue sound ↔ IsSoundNode instance.now cert.now.tables cert.now.bound place (LeafNode (if is_ray then Ray number else Bound number))) }
+            → IsTrue sound ↔ IsSoundNode instance.now cert.now.tables cert.now.bound place (LeafNode (if is_ray then Ray false number else Bound false number))) }
     {
         let tables = cert.tables.as_slice();
         let value = self.value_at(alloc, instance, tables, number)?;

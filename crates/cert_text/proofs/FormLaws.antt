@@ -707,10 +707,10 @@ abbrev IsSplit : Sizes → TreeNode → Type 0
 IsSplit size node = (p : ℕ × ℕ) × ((p.0 < size.thermal) × (p.1 < size.periods)) × (SplitNode p.0 p.1 ≡ node)
 
 abbrev IsEmptyOrSplit : Sizes → TreeNode → Type 0
-IsEmptyOrSplit size node = IsMade (λ n. LeafNode (Empty n)) size.thermal node ⊎ IsSplit size node
+IsEmptyOrSplit size node = IsMade (λ n. LeafNode (Empty false n)) size.thermal node ⊎ IsSplit size node
 
 abbrev IsNoBound : Sizes → TreeNode → Type 0
-IsNoBound size node = IsMade (λ n. LeafNode (Ray n)) size.tables node ⊎ IsEmptyOrSplit size node
+IsNoBound size node = IsMade (λ n. LeafNode (Ray false n)) size.tables node ⊎ IsEmptyOrSplit size node
 
 pub node-form : (size : Sizes) → AreSizes size → IsForm (node_at size) (IsNodeWithin size.periods size.thermal size.tables) node_line Anything
 unfolding node_at line text_at
@@ -718,9 +718,9 @@ node-form size lawful =
     let table = named-form size.tables (omega (arith, lawful.tables)) in
     let unit = named-form size.thermal (omega (arith, lawful.thermal)) in
     let split = image-form (after-form (split-form size lawful) (codes "split ")) (λ p. SplitNode p.0 p.1) node_line (λ p v. simp append_assoc) in
-    let empty = choice-form unit (λ n. LeafNode (Empty n)) split (codes "empty ") (λ n v. refl) no_empty in
-    let ray = choice-form table (λ n. LeafNode (Ray n)) empty (codes "ray ") (λ n v. refl) no_ray in
-    form-as (choice-form table (λ n. LeafNode (Bound n)) ray (codes "bound ") (λ n v. refl) no_bound) (IsNodeWithin size.periods size.thermal size.tables) node_line within made (λ node v. refl)
+    let empty = choice-form unit (λ n. LeafNode (Empty false n)) split (codes "empty ") (λ n v. refl) no_empty in
+    let ray = choice-form table (λ n. LeafNode (Ray false n)) empty (codes "ray ") (λ n v. refl) no_ray in
+    form-as (choice-form table (λ n. LeafNode (Bound false n)) ray (codes "bound ") (λ n v. refl) no_bound) (IsNodeWithin size.periods size.thermal size.tables) node_line within made (λ node v. refl)
   where
     no_empty : (node : TreeNode) (rest : List ℕ) → IsSplit size node → text_at (codes "empty ") (node_line node ++ rest) ≡ None
     no_empty node rest v = subst (λ (node : TreeNode). text_at (codes "empty ") (node_line node ++ rest) ≡ None) v.2 refl
@@ -734,14 +734,17 @@ node-form size lawful =
     no_bound node rest (inr (inl v)) = subst (λ (node : TreeNode). text_at (codes "bound ") (node_line node ++ rest) ≡ None) v.2 refl
     no_bound node rest (inr (inr v)) = subst (λ (node : TreeNode). text_at (codes "bound ") (node_line node ++ rest) ≡ None) v.2 refl
 
-    within : (node : TreeNode) → IsMade (λ n. LeafNode (Bound n)) size.tables node ⊎ IsNoBound size node → IsNodeWithin size.periods size.thermal size.tables node
+    within : (node : TreeNode) → IsMade (λ n. LeafNode (Bound false n)) size.tables node ⊎ IsNoBound size node → IsNodeWithin size.periods size.thermal size.tables node
     within node (inl v) = subst (IsNodeWithin size.periods size.thermal size.tables) v.2 v.1
     within node (inr (inl v)) = subst (IsNodeWithin size.periods size.thermal size.tables) v.2 v.1
     within node (inr (inr (inl v))) = subst (IsNodeWithin size.periods size.thermal size.tables) v.2 v.1
     within node (inr (inr (inr v))) = subst (IsNodeWithin size.periods size.thermal size.tables) v.2 v.1
 
-    made : (node : TreeNode) → IsNodeWithin size.periods size.thermal size.tables node → IsMade (λ n. LeafNode (Bound n)) size.tables node ⊎ IsNoBound size node
-    made (LeafNode (Bound n)) w = inl (n, w, refl)
-    made (LeafNode (Ray n)) w = inr (inl (n, w, refl))
-    made (LeafNode (Empty n)) w = inr (inr (inl (n, w, refl)))
+    made : (node : TreeNode) → IsNodeWithin size.periods size.thermal size.tables node → IsMade (λ n. LeafNode (Bound false n)) size.tables node ⊎ IsNoBound size node
+    made (LeafNode (Bound false n)) w = inl (n, w, refl)
+    made (LeafNode (Ray false n)) w = inr (inl (n, w, refl))
+    made (LeafNode (Empty false n)) w = inr (inr (inl (n, w, refl)))
+    made (LeafNode (Bound true n)) w = absurd w
+    made (LeafNode (Ray true n)) w = absurd w
+    made (LeafNode (Empty true n)) w = absurd w
     made (SplitNode g t) w = inr (inr (inr ((g, t), w, refl)))

@@ -141,9 +141,9 @@ schedule_one None = line_one (codes "schedule none") [] refl tt
 schedule_one (Some z) = line_one (codes "schedule") (money_text z ∷ []) refl (money_feeds z, tt)
 
 node_one : (node : TreeNode) → IsOne (node_line node)
-node_one (LeafNode (Bound n)) = line_one (codes "bound") (whole_text (suc n) ∷ []) refl (whole_feeds (suc n), tt)
-node_one (LeafNode (Ray n)) = line_one (codes "ray") (whole_text (suc n) ∷ []) refl (whole_feeds (suc n), tt)
-node_one (LeafNode (Empty n)) = line_one (codes "empty") (whole_text (suc n) ∷ []) refl (whole_feeds (suc n), tt)
+node_one (LeafNode (Bound exact n)) = line_one (codes "bound") (whole_text (suc n) ∷ []) refl (whole_feeds (suc n), tt)
+node_one (LeafNode (Ray exact n)) = line_one (codes "ray") (whole_text (suc n) ∷ []) refl (whole_feeds (suc n), tt)
+node_one (LeafNode (Empty exact n)) = line_one (codes "empty") (whole_text (suc n) ∷ []) refl (whole_feeds (suc n), tt)
 node_one (SplitNode g t) = line_one (codes "split") (whole_text (suc g) ∷ whole_text (suc t) ∷ []) refl (whole_feeds (suc g), (whole_feeds (suc t), tt))
 
 produced_one : (kind : Symbol) (text : List ℕ) (next : List Symbol) → Produces kind text next → IsOne text

@@ -13,6 +13,7 @@ use Rattle.cert_text.proofs.FormLaws.{IsForm, Anything, prices-form, scale-form,
 use Rattle.std.proofs.lemmas.Int.{ints}
 use Rattle.dual_model.specs.Prices.{IsWellFormed, IsRowBefore, IsRowWithin}
 use Rattle.cert_text.specs.TextConditions.{Table, IsRampText, IsTableText, IsMoney, IsThermalRow, IsRenewableRow, IsScheduleText, HasText}
+use Rattle.uc_model.specs.PrintedSchedule.{LacksNothing}
 use Rattle.cert_text.specs.CertificateText.{prices_line, ramps_line, ramp_line, table_lines, thermal_line, renewable_line, schedule_lines, Listing, listing_of, version_line, size_line, claim_line, end_line, certificate_lines, certificate_text, TreeNode, LeafNode, SplitNode, preorder, node_line, IsNodeWithin}
 use Rattle.dual_model.specs.Certificate.{WrittenSchedule, Certificate}
 use Rattle.dual_model.specs.Tree.{Tree, Ends, Splits}
@@ -439,7 +440,7 @@ printed-part size =
 abbrev IsBehind : Sizes → Option ℤ → Option WrittenSchedule → Type 0
 IsBehind size None schedule = schedule ≡ None
 IsBehind size (Some cost) None = ⊥
-IsBehind size (Some cost) (Some w) = (w.cost ≡ cost) × AreRows size (w.printed.thermal, w.printed.renewable)
+IsBehind size (Some cost) (Some w) = (w.cost ≡ cost) × AreRows size (w.printed.thermal, w.printed.renewable) × LacksNothing size.periods w.printed
 
 abbrev row_lines : Option WrittenSchedule → List (List ℕ)
 row_lines None = []
@@ -453,11 +454,24 @@ rows_behind-part size None =
     there None e = (refl, refl, refl)
     there (Some w) e = absurd cc
 rows_behind-part size (Some cost) =
-    told-part (printed-part size) (written cost) (IsBehind size (Some cost)) row_lines Done (record { there = λ rows v. ((refl, v), refl, refl); back = back })
+    told-part (printed-part size) (written size.periods cost) (IsBehind size (Some cost)) row_lines Done (record { there = λ rows v. ((refl, v, record { shed = refl; short = refl; denominator = refl }), refl, refl); back = back })
   where
-    back : (schedule : Option WrittenSchedule) → IsBehind size (Some cost) schedule → (rows : List (List Cell) × List (List ℤ)) × AreRows size rows × (written cost rows ≡ schedule)
+    back : (schedule : Option WrittenSchedule) → IsBehind size (Some cost) schedule → (rows : List (List Cell) × List (List ℤ)) × AreRows size rows × (written size.periods cost rows ≡ schedule)
     back None w = absurd w
-    back (Some w) v = ((w.printed.thermal, w.printed.renewable), v.1, λ i. Some (record { printed = w.printed; cost = sym v.0 i }))
+    back (Some w) v = (
+      (w.printed.thermal, w.printed.renewable),
+      v.1,
+      λ i. Some (record {
+        printed = record {
+          thermal = w.printed.thermal;
+          renewable = w.printed.renewable;
+          shed = sym v.2.shed i;
+          short = sym v.2.short i;
+          denominator = sym v.2.denominator i;
+        };
+        cost = sym v.0 i;
+      }),
+    )
 
 pub schedule-part : (size : Sizes)
     → IsPart (schedule_part size) (λ schedule. IfSome schedule (IsScheduleText size.periods size.thermal size.renewable)) schedule_lines (Schedule size ∷ []) Done
@@ -473,7 +487,7 @@ schedule-part size =
     there None (Some w) v = absurd (let e = v.1 in cc)
     there (Some cost) None v = absurd v.1
     there (Some cost) (Some w) v = (
-      record { cost = subst IsMoney (sym v.1.0) v.0; thermal_rows = v.1.1.thermal_rows; cells = v.1.1.cells; renewable_rows = v.1.1.renewable_rows; outputs = v.1.1.outputs },
+      record { cost = subst IsMoney (sym v.1.0) v.0; thermal_rows = v.1.1.thermal_rows; cells = v.1.1.cells; renewable_rows = v.1.1.renewable_rows; outputs = v.1.1.outputs; whole = v.1.2 },
       ap (λ cost. schedule_line (Some cost) ∷ row_lines (Some w)) (sym v.1.0),
       refl,
     )
@@ -481,7 +495,7 @@ schedule-part size =
     back : (schedule : Option WrittenSchedule) → IfSome schedule (IsScheduleText size.periods size.thermal size.renewable)
         → (p : Option ℤ × Option WrittenSchedule) × (IfSome p.0 IsMoney × IsBehind size p.0 p.1) × (p.1 ≡ schedule)
     back None w = ((None, None), (tt, refl), refl)
-    back (Some w) v = ((Some w.cost, Some w), (v.cost, (refl, record { thermal_rows = v.thermal_rows; cells = v.cells; renewable_rows = v.renewable_rows; outputs = v.outputs })), refl)
+    back (Some w) v = ((Some w.cost, Some w), (v.cost, (refl, record { thermal_rows = v.thermal_rows; cells = v.cells; renewable_rows = v.renewable_rows; outputs = v.outputs }, v.whole)), refl)
 
 -- ---- The part of the tree reads the nodes of one tree in preorder.
 -- the nodes are those of so many trees
@@ -535,7 +549,7 @@ WithinSize size node = IsNodeWithin size.periods size.thermal size.tables node
 -- a node takes more than one byte
 pub line_long : (node : TreeNode) → 2 ≤ length (node_line node)
 unfolding line
-line_long (LeafNode (Bound n)) = omega arith
+line_long (LeafNode (Bound exact n)) = omega arith
 line_long _ = omega arith
 
 node-part : (size : Sizes) → AreSizes size → IsPart (line_of (node_at size)) (WithinSize size) (λ node. node_line node ∷ []) (Node size ∷ []) (children size)

@@ -13,8 +13,11 @@ use Rattle.std.specs.Option.{option_map_or}
 use Rattle.std.proofs.lemmas.List.Concat.{flat_map-append}
 use Rattle.dual_model.specs.Tree.{map_leaves, Tree, Ends, Splits, root, child, IsCoverBelow, IsCover, EachLeaf}
 use Rattle.branch_tree.specs.NumberedTree.{NumberedTree, EndAt, SplitAt, IsNumbered, unnumbered, numbers, spot_at}
+use Rattle.branch_tree.specs.declared.tree.Leaf.{Leaf as FoundLeaf}
+use Rattle.branch_tree.specs.declared.tree.Leaf.TheVariants as leaf
 use Rattle.branch_tree.proofs.Preorder.{IsPart, off_side, on_side, part_spot, length-each_once, length-stored_tables}
 use Rattle.std.proofs.lemmas.Int.{ints}
+use Rattle.std.proofs.lemmas.Bool.{true≢false}
 use Rattle.std.proofs.lemmas.List.Elements.{All-nil, All-cons, All-append, All-weaker}
 use Rattle.std.proofs.lemmas.List.{length-map}
 use Rattle.std.proofs.lemmas.Option.{slice_get_within}
@@ -22,6 +25,7 @@ use Rattle.uc_model.specs.Limits.{IsLawfulInstance}
 use Rattle.uc_model.specs.Schedule.{thermal_count, renewable_count}
 use Rattle.dual_model.specs.Cover.{Leaf, Bound, Ray, Empty, IsExcluded, LeafHolds}
 use Rattle.dual_model.specs.declared.node.Node.{Node}
+use Rattle.dual_model.proofs.Covers.{both_claims}
 use Rattle.dual_model.specs.Prices.{IsLawfulTable, IsPrice, IsRowPriced}
 use Rattle.branch_tree.specs.StoredTree.{tree_bound}
 use Rattle.cert_text.specs.TextConditions.{HasDigits, IsMoney, IsTableText, IsRampText, IsScheduleText, HasText}
@@ -104,18 +108,37 @@ place_past (first ∷ used) table others =
     ∙ ap suc (place_past used table (λ k l. others (suc k) (omega arith)))
 
 -- ---- When the certificate of a found answer has a text.
--- a leaf that is excluded, or that holds for a bound, names a table that is listed, or a unit that there is
-excluded-within : (instance : Instance) (tables : List Table) (node : Node) (leaf : Leaf) → IsExcluded instance tables node leaf
-    → IsLeafWithin (thermal_count instance) (length tables) leaf
-excluded-within instance tables node (Bound number) h = absurd h
-excluded-within instance tables node (Ray number) h = slice_get_within tables number h.table h.is_table
-excluded-within instance tables node (Empty g) h = h.0
+-- the leaf claims by V, as each leaf of a search's tree does
+abbrev IsPlain : Node → Leaf → Type 0
+IsPlain node (Bound exact number) = exact ≡ false
+IsPlain node (Ray exact number) = exact ≡ false
+IsPlain node (Empty exact g) = exact ≡ false
 
-holds-within : (instance : Instance) (tables : List Table) (b : ℤ) (node : Node) (leaf : Leaf) → LeafHolds instance tables b node leaf
+plain-claim : (used : List ℕ) (node : Node) (leaf : FoundLeaf) → IsPlain node (leaf_claim used leaf)
+plain-claim used node (leaf.Live table value) = refl
+plain-claim used node (leaf.Bound table value) = refl
+plain-claim used node (leaf.Ray table) = refl
+plain-claim used node (leaf.Empty g) = refl
+
+plain-claims : (used : List ℕ) (node : Node) (tree : Tree FoundLeaf) → EachLeaf IsPlain node (map_leaves (leaf_claim used) tree)
+plain-claims used node (Ends leaf) = plain-claim used node leaf
+plain-claims used node (Splits g t off on) = (plain-claims used (child node g t false) off, plain-claims used (child node g t true) on)
+
+-- a leaf that is excluded, or that holds for a bound, names a table that is listed, or a unit that there is
+excluded-within : (instance : Instance) (tables : List Table) (node : Node) (leaf : Leaf) → IsPlain node leaf × IsExcluded instance tables node leaf
     → IsLeafWithin (thermal_count instance) (length tables) leaf
-holds-within instance tables b node (Bound number) h = slice_get_within tables number h.table h.is_table
-holds-within instance tables b node (Ray number) h = excluded-within instance tables node (Ray number) h
-holds-within instance tables b node (Empty g) h = excluded-within instance tables node (Empty g) h
+excluded-within instance tables node (Bound exact number) h = absurd h.1
+excluded-within instance tables node (Ray false number) h = slice_get_within tables number h.1.table h.1.is_table
+excluded-within instance tables node (Ray true number) h = absurd (true≢false h.0)
+excluded-within instance tables node (Empty false g) h = h.1.0
+excluded-within instance tables node (Empty true g) h = absurd (true≢false h.0)
+
+holds-within : (instance : Instance) (tables : List Table) (b : ℤ) (node : Node) (leaf : Leaf) → IsPlain node leaf × LeafHolds instance tables b node leaf
+    → IsLeafWithin (thermal_count instance) (length tables) leaf
+holds-within instance tables b node (Bound false number) h = slice_get_within tables number h.1.table h.1.is_table
+holds-within instance tables b node (Bound true number) h = absurd (true≢false h.0)
+holds-within instance tables b node (Ray exact number) h = excluded-within instance tables node (Ray exact number) h
+holds-within instance tables b node (Empty exact g) h = excluded-within instance tables node (Empty exact g) h
 
 -- so do all nodes of a cover whose leaves claim so
 nodes-within : (instance : Instance) (tables : List Table) (P : Node → Leaf → Type 0)
@@ -132,12 +155,15 @@ nodes-within instance tables P within node (Splits g t off on) cover each =
     (nodes-within instance tables P within (child node g t false) off cover.2 each.0)
     (nodes-within instance tables P within (child node g t true) on cover.3 each.1))
 
-claimed-within : (instance : Instance) (c : Certificate) (bound : Option ℤ) → IsCover instance c.tree → ClaimHolds instance c bound
+claimed-within : (instance : Instance) (c : Certificate) (bound : Option ℤ) → IsCover instance c.tree → EachLeaf IsPlain root c.tree
+    → ClaimHolds instance c bound
     → All (IsNodeWithin instance.periods (thermal_count instance) (length c.tables)) (preorder c.tree)
-claimed-within instance c (Some b) cover claim =
-    nodes-within instance c.tables (LeafHolds instance c.tables b) (holds-within instance c.tables b) root c.tree cover claim.1
-claimed-within instance c None cover claim =
-    nodes-within instance c.tables (IsExcluded instance c.tables) (excluded-within instance c.tables) root c.tree cover claim.1
+claimed-within instance c (Some b) cover plain claim =
+    nodes-within instance c.tables (λ node leaf. IsPlain node leaf × LeafHolds instance c.tables b node leaf) (holds-within instance c.tables b)
+    root c.tree cover (both_claims IsPlain (LeafHolds instance c.tables b) root c.tree plain claim.1)
+claimed-within instance c None cover plain claim =
+    nodes-within instance c.tables (λ node leaf. IsPlain node leaf × IsExcluded instance c.tables node leaf) (excluded-within instance c.tables)
+    root c.tree cover (both_claims IsPlain (IsExcluded instance c.tables) root c.tree plain claim.1)
 
 price-digits : (n : ℤ) → IsPrice n → HasDigits 18 n
 price-digits n h = omega arith
@@ -186,5 +212,6 @@ found_has_text instance found lawful whole holds schedule bound few = record {
   bound = bound;
   schedule = schedule;
   tables = λ k d within. lawful-table-text instance _ (holds.tables k d within) (few k d within);
-  nodes = claimed-within instance (certificate_of instance found) (tree_bound found.tree) holds.tree holds.claim;
+  nodes = claimed-within instance (certificate_of instance found) (tree_bound found.tree) holds.tree
+      (plain-claims (used_tables (tree_of found.tree)) root (tree_of found.tree)) holds.claim;
 }

@@ -1,6 +1,6 @@
 -- How a certificate is written: its lines in their order, one spelling for each certificate. This project's own format.
 -- Units, periods and tables count from 0 here, and from 1 in the text.
-use Rattle.std.specs.Prelude.{ℕ, suc, ◌<◌, List, [], ◌∷◌, ◌++◌, codes, ℤ, Option, Some, None, length, map, flat_map, if◌then◌else◌}
+use Rattle.std.specs.Prelude.{ℕ, suc, ◌<◌, true, false, List, [], ◌∷◌, ◌++◌, codes, ℤ, Option, Some, None, length, map, flat_map, if◌then◌else◌}
 use Rattle.uc_model.specs.Decimal.{whole_text, signed_text}
 use Rattle.uc_model.specs.Money.{money_text}
 pub use Rattle.uc_model.specs.declared.schedule.Cell.{Cell}
@@ -22,20 +22,24 @@ abbrev pub preorder : Tree Leaf → List TreeNode
 preorder (Ends leaf) = LeafNode leaf ∷ []
 preorder (Splits g t off on) = SplitNode g t ∷ (preorder off ++ preorder on)
 
+-- a leaf is told without its kind, since this version of the format has leaves by V alone
 abbrev pub leaf_line : Leaf → List ℕ
-leaf_line (Bound number) = line (codes "bound") (whole_text (suc number) ∷ [])
-leaf_line (Ray number) = line (codes "ray") (whole_text (suc number) ∷ [])
-leaf_line (Empty g) = line (codes "empty") (whole_text (suc g) ∷ [])
+leaf_line (Bound exact number) = line (codes "bound") (whole_text (suc number) ∷ [])
+leaf_line (Ray exact number) = line (codes "ray") (whole_text (suc number) ∷ [])
+leaf_line (Empty exact g) = line (codes "empty") (whole_text (suc g) ∷ [])
 
 abbrev pub node_line : TreeNode → List ℕ
 node_line (LeafNode leaf) = leaf_line leaf
 node_line (SplitNode g t) = line (codes "split") (whole_text (suc g) ∷ whole_text (suc t) ∷ [])
 
--- a leaf names a table, or a thermal unit, that there is
+-- a leaf names a table, or a thermal unit, that there is, and claims by V
 abbrev pub IsLeafWithin : ℕ → ℕ → Leaf → Type 0
-IsLeafWithin thermal tables (Bound number) = number < tables
-IsLeafWithin thermal tables (Ray number) = number < tables
-IsLeafWithin thermal tables (Empty g) = g < thermal
+IsLeafWithin thermal tables (Bound false number) = number < tables
+IsLeafWithin thermal tables (Ray false number) = number < tables
+IsLeafWithin thermal tables (Empty false g) = g < thermal
+IsLeafWithin thermal tables (Bound true number) = ⊥
+IsLeafWithin thermal tables (Ray true number) = ⊥
+IsLeafWithin thermal tables (Empty true g) = ⊥
 
 -- and a split a thermal unit and a period
 abbrev pub IsNodeWithin : ℕ → ℕ → ℕ → TreeNode → Type 0

@@ -1,5 +1,5 @@
 -- What a certificate that was read says: the listing that it stands for. This project's own format.
-use Rattle.std.specs.Prelude.{◌≡◌, ℕ, List, map}
+use Rattle.std.specs.Prelude.{◌≡◌, ℕ, false, List, map}
 use Rattle.dual_model.specs.Certificate.{Certificate}
 use Rattle.dual_model.specs.Cover.{Bound, Ray, Empty}
 use Rattle.branch_tree.specs.Claims.{written_of}
@@ -11,9 +11,9 @@ use Rattle.cert_text.specs.TextConditions.{HasText}
 
 abbrev pub node_of : CertNode → TreeNode
 node_of (nodes.Split g t) = SplitNode g t
-node_of (nodes.Bound table) = LeafNode (Bound table)
-node_of (nodes.Ray table) = LeafNode (Ray table)
-node_of (nodes.Empty g) = LeafNode (Empty g)
+node_of (nodes.Bound table) = LeafNode (Bound false table)
+node_of (nodes.Ray table) = LeafNode (Ray false table)
+node_of (nodes.Empty g) = LeafNode (Empty false g)
 
 abbrev pub listing_read : Cert → Listing
 listing_read cert = record {

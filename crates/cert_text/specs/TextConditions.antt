@@ -2,6 +2,7 @@
 -- numbers have. This project's own format.
 use Rattle.std.specs.Prelude.{◌≡◌, ℕ, ◌^◌, ◌<◌, ◌≤◌, true, false, List, ℤ, pos, unsigned_abs, IfSome, All, length}
 pub use Rattle.uc_model.specs.declared.schedule.Cell.{Cell}
+use Rattle.uc_model.specs.PrintedSchedule.{LacksNothing}
 use Rattle.dual_model.specs.Certificate.{WrittenSchedule}
 use Rattle.dual_model.specs.Prices.{IsWellFormed}
 pub use Rattle.dual_model.specs.declared.table.Table.{Table}
@@ -41,12 +42,14 @@ pub record IsRenewableRow (periods : ℕ) (row : List ℤ) : Type 0 where
   pub outputs : length row ≡ periods
   pub written : All (HasDigits 15) row
 
+-- the lines tell no shortage and no part of a watt
 pub record IsScheduleText (periods thermal renewable : ℕ) (written : WrittenSchedule) : Type 0 where
   pub cost : IsMoney written.cost
   pub thermal_rows : length written.printed.thermal ≡ thermal
   pub cells : All (IsThermalRow periods) written.printed.thermal
   pub renewable_rows : length written.printed.renewable ≡ renewable
   pub outputs : All (IsRenewableRow periods) written.printed.renewable
+  pub whole : LacksNothing periods written.printed
 
 pub record IsRampText (row : RampRow) : Type 0 where
   pub up : HasDigits 18 row.up

@@ -1,16 +1,15 @@
 -- The sizes of outputs and costs between corners.
 -- Cite from a crate above by `use Rattle.cost_curves.proofs.CornerSizes.{output-size}`.
-use Rattle.std.proofs.Common.{◌≡◌, ℕ, ◌+◌, ◌-◌, ◌*◌, ◌<◌, ◌≤◌, ◌^◌, sym, ap, subst, ◌∙◌, arith, lit<, List, length, to_z, of_z, FitsSigned, ℤ, pos, ◌+ℤ◌, ◌-ℤ◌, ◌*ℤ◌, neg_ℤ, ◌≤ℤ◌, ◌<ℤ◌, unsigned_abs}
+use Rattle.std.proofs.Common.{◌≡◌, ℕ, ◌+◌, ◌-◌, ◌*◌, ◌<◌, ◌≤◌, sym, ap, subst, ◌∙◌, arith, lit<, List, length, to_z, of_z, ℤ, pos, ◌+ℤ◌, ◌-ℤ◌, ◌*ℤ◌, neg_ℤ, ◌≤ℤ◌, ◌<ℤ◌, unsigned_abs}
 use Rattle.std.specs.Int.{w64, w128}
-use Rattle.std.proofs.lemmas.Int.{ints, fits_signed_from_abs}
+use Rattle.std.proofs.lemmas.Int.{ints}
 use Rattle.uc_model.specs.Division.{IsCeiling}
 use Rattle.uc_model.specs.Points.{point_of, output_of}
-use Rattle.uc_model.specs.declared.limits.TheConstants.{MAX_COST, MAX_POWER}
-use Rattle.uc_model.proofs.Ring.{linear, mul_comm, le_trans, le_from_mul, mul-le-mul_right, mul-le-mul_turned, scale-le-scale}
+use Rattle.uc_model.specs.declared.limits.TheConstants.{MAX_COST, MAX_DENOMINATOR, MAX_POWER}
+use Rattle.uc_model.proofs.Ring.{linear, mul_comm, mul-zero, mul-one, mul-le-mul_left, mul-lt-mul_left, le_trans, le_from_mul, mul-le-mul_right, mul-le-mul_turned, scale-le-scale}
 use Rattle.uc_model.proofs.Quotients.{IsCeiling-least}
 use Rattle.uc_model.proofs.Sizes.{abs_sub, abs_mul, narrow, wide}
 use Rattle.cost_curves.specs.LowerHull.{Point, AreLawfulCorners, width_of}
-use Rattle.cost_curves.specs.inside.Places.{HoldsOutput}
 
 pub output-size : (corners : List Point) → AreLawfulCorners corners → (i : ℕ) → i < length corners → unsigned_abs (output_of corners i) ≤ 2 * MAX_POWER
 output-size corners lawful i h =
@@ -33,24 +32,75 @@ ceiling-size r v w n m size low high positive ceiling =
     let second = le_from_mul w (neg_ℤ (pos m)) n positive (rw (mul_comm w (neg_ℤ (pos m)), mul_comm w n) least) in
     omega (arith, ints)
 
--- what the calls give for a quotient rounded up
-pub ceiling-is : (left right over rise rising run width n : ℤ) (r w : ℤ) → rise ≡ r → unsigned_abs rise ≤ 2 * MAX_COST → run ≡ w → unsigned_abs run ≤ 2 * MAX_POWER
-    → pos 0 ≤ℤ over → over ≤ℤ w → pos 0 <ℤ w
-    → rising ≡ to_z w64 (of_z w64 rise) *ℤ to_z w64 (of_z w64 over) → width ≡ to_z w64 (of_z w64 run)
+-- a denominator, and so many times a width
+pub denominator-size : (q : ℤ) → pos 1 ≤ℤ q → q ≤ℤ pos MAX_DENOMINATOR → unsigned_abs q ≤ MAX_DENOMINATOR
+denominator-size q low high = omega (arith, ints)
+
+pub over-size : (q w : ℤ) → pos 1 ≤ℤ q → q ≤ℤ pos MAX_DENOMINATOR → unsigned_abs w ≤ 2 * MAX_POWER → unsigned_abs (q *ℤ w) ≤ MAX_DENOMINATOR * (2 * MAX_POWER)
+over-size q w low high size = abs_mul q w MAX_DENOMINATOR (2 * MAX_POWER) (denominator-size q low high) size
+
+-- a number up to the width over q
+pub numerator-size : (corners : List Point) (p q : ℤ) → AreLawfulCorners corners → pos 1 ≤ℤ q → q ≤ℤ pos MAX_DENOMINATOR → pos 0 ≤ℤ p
+    → p ≤ℤ (q *ℤ width_of corners) → unsigned_abs p ≤ MAX_DENOMINATOR * (2 * MAX_POWER)
+numerator-size corners p q lawful some few low high =
+    between-size p (q *ℤ width_of corners) (MAX_DENOMINATOR * (2 * MAX_POWER)) low high
+    (over-size q (width_of corners) some few (output-size corners lawful (length corners - 1) (omega (arith, lawful.some))))
+
+-- the quotient of a number that isn't negative, rounded up, lies between 0 and the number
+pub whole-is : (p q n : ℤ) → pos 1 ≤ℤ q → pos 0 ≤ℤ p → IsCeiling p q n → (pos 0 ≤ℤ n) × (n ≤ℤ p)
+whole-is p q n some low ceiling =
+    let positive : pos 0 <ℤ q = omega (arith, linear) in
+    let none = mul-zero q in
+    let turned = mul_comm q n in
+    let times = mul-le-mul_left p (pos 1) q low some in
+    let one = mul-one p in (
+      le_from_mul q (pos 0) n positive (omega (arith, linear, ceiling.above)),
+      IsCeiling-least p q n p positive ceiling (omega (arith, linear)),
+    )
+
+-- what the calls give for a width over q
+record IsWidth (q w : ℤ) (width : ℤ) : Type 0 where
+  pub is : to_z w128 (of_z w128 width) ≡ q *ℤ w
+  pub size : unsigned_abs (q *ℤ w) ≤ MAX_DENOMINATOR * (2 * MAX_POWER)
+  pub positive : pos 0 <ℤ (q *ℤ w)
+
+width-over : (q run width w : ℤ) → pos 1 ≤ℤ q → q ≤ℤ pos MAX_DENOMINATOR → run ≡ w → unsigned_abs run ≤ 2 * MAX_POWER → pos 0 <ℤ w
+    → width ≡ to_z w64 (of_z w64 q) *ℤ to_z w64 (of_z w64 run) → IsWidth q w width
+width-over q run width w some few run_is run_size positive width_is =
+    let most = MAX_DENOMINATOR * (2 * MAX_POWER) in
+    let size : unsigned_abs (q *ℤ w) ≤ most = over-size q w some few (subst (λ z. unsigned_abs z ≤ 2 * MAX_POWER) run_is run_size) in
+    let divisor : width ≡ q *ℤ w =
+    width_is ∙ (λ t. narrow q MAX_DENOMINATOR (denominator-size q some few) (lit< tt) t *ℤ (narrow run (2 * MAX_POWER) run_size (lit< tt) ∙ run_is) t) in
+    let divisor_size : unsigned_abs width ≤ most = subst (λ z. unsigned_abs z ≤ most) (sym divisor) size in
+    record {
+      is = wide width most divisor_size (lit< tt) ∙ divisor;
+      size = size;
+      positive = subst (λ z. z <ℤ (q *ℤ w)) (mul-zero q) (mul-lt-mul_left q (pos 0) w (omega (arith, linear)) positive);
+    }
+
+pub width-positive : (q run width w : ℤ) → pos 1 ≤ℤ q → q ≤ℤ pos MAX_DENOMINATOR → run ≡ w → unsigned_abs run ≤ 2 * MAX_POWER → pos 0 <ℤ w
+    → width ≡ to_z w64 (of_z w64 q) *ℤ to_z w64 (of_z w64 run) → pos 0 <ℤ to_z w128 (of_z w128 width)
+width-positive q run width w some few run_is run_size positive width_is =
+    let whole = width-over q run width w some few run_is run_size positive width_is in
+    subst (λ z. pos 0 <ℤ z) (sym whole.is) whole.positive
+
+-- and for a quotient rounded up
+pub ceiling-is : (over q rise rising run width n : ℤ) (r w : ℤ) → rise ≡ r → unsigned_abs rise ≤ 2 * MAX_COST → run ≡ w → unsigned_abs run ≤ 2 * MAX_POWER
+    → pos 1 ≤ℤ q → q ≤ℤ pos MAX_DENOMINATOR → pos 0 ≤ℤ over → over ≤ℤ (q *ℤ w) → pos 0 <ℤ w
+    → rising ≡ to_z w64 (of_z w64 rise) *ℤ to_z w64 (of_z w64 over) → width ≡ to_z w64 (of_z w64 q) *ℤ to_z w64 (of_z w64 run)
     → IsCeiling (to_z w128 (of_z w128 rising)) (to_z w128 (of_z w128 width)) n
-    → IsCeiling (r *ℤ over) w n × (unsigned_abs n ≤ 2 * MAX_COST)
-ceiling-is left right over rise rising run width n r w rise_is rise_size run_is run_size low high positive rising_is width_is ceiling =
-    let small = between-size over w (2 * MAX_POWER) low high (subst (λ z. unsigned_abs z ≤ 2 * MAX_POWER) run_is run_size) in
-    let number : rising ≡ r *ℤ over = rising_is ∙ (λ t. (narrow rise (2 * MAX_COST) rise_size (lit< tt) ∙ rise_is) t *ℤ narrow over (2 * MAX_POWER) small (lit< tt) t) in
+    → IsCeiling (r *ℤ over) (q *ℤ w) n × (unsigned_abs n ≤ 2 * MAX_COST)
+ceiling-is over q rise rising run width n r w rise_is rise_size run_is run_size some few low high positive rising_is width_is ceiling =
+    let most = MAX_DENOMINATOR * (2 * MAX_POWER) in
+    let divisor = width-over q run width w some few run_is run_size positive width_is in
+    let small : unsigned_abs over ≤ most = between-size over (q *ℤ w) most low high divisor.size in
+    let number : rising ≡ r *ℤ over = rising_is ∙ (λ t. (narrow rise (2 * MAX_COST) rise_size (lit< tt) ∙ rise_is) t *ℤ narrow over most small (lit< tt) t) in
     let rise_fits = subst (λ z. unsigned_abs z ≤ 2 * MAX_COST) rise_is rise_size in
-    let size : unsigned_abs rising ≤ 2 * MAX_COST * (2 * MAX_POWER) =
-    subst (λ z. unsigned_abs z ≤ 2 * MAX_COST * (2 * MAX_POWER)) (sym number) (abs_mul r over (2 * MAX_COST) (2 * MAX_POWER) rise_fits small) in
-    let divisor : width ≡ w = width_is ∙ narrow run (2 * MAX_POWER) run_size (lit< tt) ∙ run_is in
-    let divisor_size : unsigned_abs width ≤ 2 * MAX_POWER = subst (λ z. unsigned_abs z ≤ 2 * MAX_POWER) (run_is ∙ sym divisor) run_size in
-    let first : to_z w128 (of_z w128 rising) ≡ r *ℤ over = wide rising (2 * MAX_COST * (2 * MAX_POWER)) size (lit< tt) ∙ number in
-    let second : to_z w128 (of_z w128 width) ≡ w = wide width (2 * MAX_POWER) divisor_size (lit< tt) ∙ divisor in
-    let whole = subst (λ z. IsCeiling (r *ℤ over) z n) second (subst (λ z. IsCeiling z (to_z w128 (of_z w128 width)) n) first ceiling) in
-    (whole, ceiling-size r over w n (2 * MAX_COST) rise_fits low high positive whole)
+    let size : unsigned_abs rising ≤ 2 * MAX_COST * most =
+    subst (λ z. unsigned_abs z ≤ 2 * MAX_COST * most) (sym number) (abs_mul r over (2 * MAX_COST) most rise_fits small) in
+    let first : to_z w128 (of_z w128 rising) ≡ r *ℤ over = wide rising (2 * MAX_COST * most) size (lit< tt) ∙ number in
+    let whole = subst (λ z. IsCeiling (r *ℤ over) z n) divisor.is (subst (λ z. IsCeiling z (to_z w128 (of_z w128 width)) n) first ceiling) in
+    (whole, ceiling-size r over (q *ℤ w) n (2 * MAX_COST) rise_fits low high divisor.positive whole)
 
 -- a cost and a rise of it
 pub cost-sum : (cost rise : ℤ) → unsigned_abs cost ≤ MAX_COST → unsigned_abs rise ≤ 2 * MAX_COST
@@ -59,32 +109,34 @@ cost-sum cost rise h k =
     ap (λ z. to_z w64 (of_z w64 z)) (λ t. narrow cost MAX_COST h (lit< tt) t +ℤ narrow rise (2 * MAX_COST) k (lit< tt) t)
     ∙ narrow (cost +ℤ rise) (3 * MAX_COST) (omega (arith, ints)) (lit< tt)
 
--- how far an output between two others lies right of the left one
-pub over-is : (p x y : ℤ) → pos 0 ≤ℤ p → x ≤ℤ p → p ≤ℤ y → unsigned_abs x ≤ 2 * MAX_POWER → unsigned_abs y ≤ 2 * MAX_POWER
-    → (to_z w64 (of_z w64 p) -ℤ to_z w64 (of_z w64 x) ≡ p -ℤ x) × (unsigned_abs (p -ℤ x) ≤ 4 * MAX_POWER)
-over-is p x y low begins reaches left right =
-    let small = between-size p y (2 * MAX_POWER) low reaches right in
-    ((λ t. narrow p (2 * MAX_POWER) small (lit< tt) t -ℤ narrow x (2 * MAX_POWER) left (lit< tt) t), omega (arith, ints))
+-- how far p over q lies right of a corner, as calls give it: the product, the difference and its bits
+pub record IsOver (p q x : ℤ) (number : ℤ) : Type 0 where
+  pub product : to_z w64 (of_z w64 q) *ℤ to_z w64 (of_z w64 number) ≡ q *ℤ x
+  pub product_size : unsigned_abs (q *ℤ x) ≤ MAX_DENOMINATOR * (2 * MAX_POWER)
+  pub output : to_z w64 (of_z w64 p) ≡ p
+  pub size : unsigned_abs (p -ℤ q *ℤ x) ≤ 2 * (MAX_DENOMINATOR * (2 * MAX_POWER))
 
--- the same of the segment that holds it, as a call gives it
-over-parts : (corners : List Point) (p x : ℤ) (left right : ℕ) → AreLawfulCorners corners → pos 0 ≤ℤ p → HoldsOutput corners p left right → x ≡ output_of corners left
-    → (to_z w64 (of_z w64 p) -ℤ to_z w64 (of_z w64 x) ≡ p -ℤ output_of corners left) × (unsigned_abs (p -ℤ output_of corners left) ≤ 4 * MAX_POWER)
-over-parts corners p x left right lawful low holds e =
-    subst (λ z. (to_z w64 (of_z w64 p) -ℤ to_z w64 (of_z w64 z) ≡ p -ℤ output_of corners left) × (unsigned_abs (p -ℤ output_of corners left) ≤ 4 * MAX_POWER)) (sym e)
-    (over-is p (output_of corners left) (output_of corners right) low holds.begins holds.reaches
-    (output-size corners lawful left holds.left_within) (output-size corners lawful right holds.right_within))
+pub over-is : (corners : List Point) (p q number : ℤ) (left : ℕ) → AreLawfulCorners corners → left < length corners → pos 1 ≤ℤ q → q ≤ℤ pos MAX_DENOMINATOR
+    → (q *ℤ output_of corners left) ≤ℤ p → p ≤ℤ (q *ℤ width_of corners) → number ≡ output_of corners left → IsOver p q (output_of corners left) number
+over-is corners p q number left lawful within some few low high e =
+    let most = MAX_DENOMINATOR * (2 * MAX_POWER) in
+    let corner = output-size corners lawful left within in
+    let begins = over-size q (output_of corners left) some few corner in
+    let ends = over-size q (width_of corners) some few (output-size corners lawful (length corners - 1) (omega (arith, lawful.some))) in
+    let size : unsigned_abs p ≤ most = apart p (q *ℤ output_of corners left) (q *ℤ width_of corners) most begins ends low high in
+    let small : unsigned_abs number ≤ 2 * MAX_POWER = subst (λ z. unsigned_abs z ≤ 2 * MAX_POWER) (sym e) corner in
+    record {
+      product = (λ t. narrow q MAX_DENOMINATOR (denominator-size q some few) (lit< tt) t *ℤ (narrow number (2 * MAX_POWER) small (lit< tt) ∙ e) t);
+      product_size = begins;
+      output = narrow p most size (lit< tt);
+      size = twice p (q *ℤ output_of corners left) most size begins;
+    }
+  where
+    apart : (z a b : ℤ) (m : ℕ) → unsigned_abs a ≤ m → unsigned_abs b ≤ m → a ≤ℤ z → z ≤ℤ b → unsigned_abs z ≤ m
+    apart z a b m h k low high = omega (arith, ints)
 
-pub over-bits : (corners : List Point) (p x : ℤ) (left right : ℕ) → AreLawfulCorners corners → pos 0 ≤ℤ p → HoldsOutput corners p left right → x ≡ output_of corners left
-    → to_z w64 (of_z w64 (to_z w64 (of_z w64 p) -ℤ to_z w64 (of_z w64 x))) ≡ p -ℤ output_of corners left
-over-bits corners p x left right lawful low holds e =
-    let whole = over-parts corners p x left right lawful low holds e in
-    ap (λ z. to_z w64 (of_z w64 z)) whole.0 ∙ narrow (p -ℤ output_of corners left) (4 * MAX_POWER) whole.1 (lit< tt)
-
-pub over-fits : (corners : List Point) (p x : ℤ) (left right : ℕ) → AreLawfulCorners corners → pos 0 ≤ℤ p → HoldsOutput corners p left right → x ≡ output_of corners left
-    → FitsSigned w64 (to_z w64 (of_z w64 p) -ℤ to_z w64 (of_z w64 x))
-over-fits corners p x left right lawful low holds e =
-    let whole = over-parts corners p x left right lawful low holds e in
-    fits_signed_from_abs w64 _ (subst (λ z. unsigned_abs z < 2 ^ 63) (sym whole.0) (omega (arith, whole.1)))
+    twice : (a b : ℤ) (m : ℕ) → unsigned_abs a ≤ m → unsigned_abs b ≤ m → unsigned_abs (a -ℤ b) ≤ 2 * m
+    twice a b m h k = let both = abs_sub a b m m h k in omega arith
 
 -- the next output, right of which there is more
 pub next-bits : (corners : List Point) (p : ℤ) → AreLawfulCorners corners → pos 0 ≤ℤ p → p <ℤ width_of corners

@@ -1,10 +1,13 @@
 -- Every lawful list of points has a lower hull, and a segment of it holds each output up to its width and no other.
 -- Cite from a crate above by `use Rattle.cost_curves.proofs.HullExists.{segment-there, segment-within}`.
-use Rattle.std.proofs.Common.{◌≡◌, ℕ, zero, suc, ◌-◌, ◌<◌, ◌≤◌, ◌⊎◌, inl, inr, ⊎_elim, Bool, false, refl, sym, ap, subst, arith, List, [], ◌∷◌, ◌++◌, take, length, ℤ, pos, ◌≤ℤ◌, ◌<ℤ◌, IsTrue, int_le, Some}
+use Rattle.std.proofs.Common.{◌≡◌, ℕ, zero, suc, ◌-◌, ◌<◌, ◌≤◌, ◌⊎◌, inl, inr, ⊎_elim, Bool, false, refl, sym, ap, subst, arith, List, [], ◌∷◌, ◌++◌, take, length, ℤ, pos, ◌*ℤ◌, ◌≤ℤ◌, ◌<ℤ◌, IsTrue, int_le, Some}
 use Rattle.std.proofs.lemmas.Bool.{and_parts, cases_Bool}
 use Rattle.uc_model.specs.Points.{point_of, output_of}
+use Rattle.uc_model.specs.Division.{quotient_up}
 use Rattle.uc_model.specs.Hull.{Segment, segment_at}
-use Rattle.uc_model.proofs.Ring.{linear, le_or_lt}
+use Rattle.uc_model.proofs.Ring.{linear, le_or_lt, le_trans, mul-zero, mul_comm, mul_nonneg, pos_nonneg, le_from_mul, scale-le-scale, sub_nonneg}
+use Rattle.uc_model.proofs.Tests.{int_le-true}
+use Rattle.uc_model.proofs.Quotients.{IsCeiling-least, quotient_up-is}
 use Rattle.uc_model.proofs.HullPoints.{segment_at-holds}
 use Rattle.cost_curves.specs.LowerHull.{Point, AreLawfulPoints, HullOfFirst, IsLowerHull, AreLawfulCorners, is_above, width_of}
 use Rattle.cost_curves.specs.inside.Corners.{is_over, IsNext, Joins}
@@ -12,7 +15,7 @@ use Rattle.cost_curves.specs.inside.Places.{HoldsOutput}
 use Rattle.cost_curves.proofs.JoinedCorners.{Covers, Tested, TestedLast, covers_start, covers_next, joins, next-from, hull_over, hull_joined, extended, outputs-le}
 use Rattle.cost_curves.proofs.Lines.{less_le}
 use Rattle.cost_curves.proofs.HullValues.{segment_is, output-first, whole_width, lawful_corners}
-use Rattle.cost_curves.proofs.FirstSegments.{first_segment-some, begins_at, reaches_at}
+use Rattle.cost_curves.proofs.FirstSegments.{first_segment-some, held_over}
 
 -- ---- a hull
 tested : (corners : List Point) (point : Point) (kept : ℕ) → (b : Bool) × Tested corners point kept b
@@ -162,24 +165,32 @@ holds_output corners p lawful low high =
         )
 
 -- the hull has a segment at each output up to its width
-pub segment-there : (points : List Point) (p : ℤ) → AreLawfulPoints points → pos 0 ≤ℤ p → p ≤ℤ width_of points
-    → (s : Segment) × (segment_at points 1 p ≡ Some s)
-segment-there points p lawful low high =
+pub segment-there : (points : List Point) (d : ℕ) (p : ℤ) → AreLawfulPoints points → 0 < d → pos 0 ≤ℤ p → p ≤ℤ (pos d *ℤ width_of points)
+    → (s : Segment) × (segment_at points d p ≡ Some s)
+segment-there points d p lawful some low high =
     let hull = hull-there points lawful in
     let width = whole_width points hull.0 hull.1 in
-    let ends = holds_output hull.0 p (lawful_corners points hull.0 hull.1) low (subst (λ z. p ≤ℤ z) (sym width) high) in
-    let segment = segment_is points hull.0 p ends.0 ends.1 hull.1 ends.2 in
-    first_segment-some points p (length points) segment.left_place segment.right_place segment.left_within segment.right_within segment.holds
+    let positive : pos 0 <ℤ pos d = omega (arith, linear) in
+    let whole = quotient_up p (pos d) in
+    let ceiling = quotient_up-is p (pos d) positive in
+    let above : pos 0 ≤ℤ whole = le_from_mul (pos d) (pos 0) whole positive (omega (arith, linear, ceiling.above, mul-zero (pos d), mul_comm (pos d) whole)) in
+    let within : whole ≤ℤ width_of points = IsCeiling-least p (pos d) whole (width_of points) positive ceiling (subst (λ z. p ≤ℤ z) (mul_comm (pos d) (width_of points)) high) in
+    let ends = holds_output hull.0 whole (lawful_corners points hull.0 hull.1) above (subst (λ z. whole ≤ℤ z) (sym width) within) in
+    let segment = segment_is points hull.0 whole ends.0 ends.1 hull.1 ends.2 in
+    let holds = held_over points d p whole _ _ some low ceiling segment in
+    first_segment-some points d p (length points) segment.left_place segment.right_place holds.left holds.right holds.held
 
 -- and at no other
-pub segment-within : (points : List Point) (p : ℤ) (s : Segment) → AreLawfulPoints points → segment_at points 1 p ≡ Some s
-    → (pos 0 ≤ℤ p) × (p ≤ℤ width_of points)
-segment-within points p s lawful e =
-    let holds = segment_at-holds points 1 p s e in
-    let low = outputs-le points lawful 0 s.left (omega arith) holds.left in
-    let high = outputs-le points lawful s.right (length points - 1) (omega (arith, holds.right)) (omega (arith, lawful.some)) in
+pub segment-within : (points : List Point) (d : ℕ) (p : ℤ) (s : Segment) → AreLawfulPoints points → segment_at points d p ≡ Some s
+    → (pos 0 ≤ℤ p) × (p ≤ℤ (pos d *ℤ width_of points))
+segment-within points d p s lawful e =
+    let holds = segment_at-holds points d p s e in
+    let low : pos 0 ≤ℤ output_of points s.left = sub_nonneg _ _ (outputs-le points lawful 0 s.left (omega arith) holds.left) in
+    let high : output_of points s.right ≤ℤ width_of points =
+    let most = outputs-le points lawful s.right (length points - 1) (omega (arith, holds.right)) (omega (arith, lawful.some)) in omega (arith, linear, most) in
     let both = and_parts _ _ holds.held in
-    let first = and_parts _ _ both.0 in
-    let begins = begins_at points p s.left first.1 in
-    let reaches = reaches_at points p s.right both.1 in
-    ((omega (arith, linear, begins)), omega (arith, linear, reaches))
+    let begins : (pos d *ℤ output_of points s.left) ≤ℤ p = int_le-true _ _ (and_parts _ _ both.0).1 in
+    let reaches : p ≤ℤ (pos d *ℤ output_of points s.right) = int_le-true _ _ both.1 in (
+      le_trans _ _ _ (mul_nonneg (pos d) _ (pos_nonneg d) low) begins,
+      le_trans _ _ _ reaches (scale-le-scale d _ _ high),
+    )

@@ -7,19 +7,19 @@ use Rattle.uc_model.specs.Hull.{rise, run, is_hull_segment, segment_holds}
 pub use Rattle.uc_model.specs.declared.instance.Point.{Point}
 pub use Rattle.cost_curves.specs.declared.slope.Slope.{Slope}
 
--- some weights at output p, whole over a denominator q, cost at most m
-pub record CostsAtMost (points : List Point) (p m : ℤ) : Type 0 where
+-- some weights at the output p over d, whole over a denominator q, cost at most m
+pub record CostsAtMost (points : List Point) (d : ℕ) (p m : ℤ) : Type 0 where
   pub q : ℕ
   pub weight : ℕ → ℕ
   pub positive : 0 < q
   pub total : weighted_total points weight ≡ pos q
-  pub output : weighted_output points weight ≡ pos q *ℤ p
+  pub output : pos d *ℤ weighted_output points weight ≡ pos q *ℤ p
   pub cost : weighted_cost points weight ≤ℤ (pos q *ℤ m)
 
--- n is the least whole number that isn't below the least cost of weights at output p
-pub record IsLeastCostUp (points : List Point) (p n : ℤ) : Type 0 where
-  pub reached : CostsAtMost points p n
-  pub least : (m : ℤ) → CostsAtMost points p m → n ≤ℤ m
+-- n is the least whole number that isn't below the least cost of weights at the output p over d
+pub record IsLeastCostUp (points : List Point) (d : ℕ) (p n : ℤ) : Type 0 where
+  pub reached : CostsAtMost points d p n
+  pub least : (m : ℤ) → CostsAtMost points d p m → n ≤ℤ m
 
 -- two of the points are the ends of a segment of the lower hull that holds output p, and not its left end alone unless p is 0
 pub record IsSegmentAt (points : List Point) (p : ℤ) (left right : Point) : Type 0 where

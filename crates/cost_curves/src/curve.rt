@@ -1,6 +1,6 @@
 //! The production cost of a unit as a curve: the lower hull of its points.
 
-ghost use Rattle.std.specs.Prelude.{◌≡◌, ℕ, List, ◌<◌, pos, ◌<ℤ◌, ◌≤ℤ◌, IfOk};
+ghost use Rattle.std.specs.Prelude.{◌≡◌, ℕ, List, ◌<◌, pos, ◌*ℤ◌, ◌<ℤ◌, ◌≤ℤ◌, unsigned_abs, IfOk};
 ghost use Rattle.uc_model.specs.Hull.{hull_cost};
 ghost use Rattle.cost_curves.specs.LowerHull.{Point, AreLawfulCorners, AreLawfulPoints, IsLowerHull, width_of};
 ghost use Rattle.cost_curves.specs.LeastCost.{IsLeastCostUp, IsLeftSlope, IsRightSlope, IsSegmentAt};
@@ -9,6 +9,7 @@ use crate::slope::Slope;
 use crate::{corners, places};
 use std::alloc::Global;
 use std::marker::Model;
+use uc_model::limits::MAX_DENOMINATOR;
 use uc_model::{NoMemory, Point};
 
 /// The lower convex hull of a unit's points, which contracts see as the list of its corners from left to
@@ -57,16 +58,17 @@ impl Curve {
         places::width(&self.corners)
     }
 
-    /// The least cost of weights on the points at the output `p`, rounded up to whole micro-dollars.
-    pub fn ceil_at(&self, p: i64) -> i64
+    /// The least cost of weights on the points at the output `p` over `q`, rounded up to whole micro-dollars.
+    pub fn ceil_at(&self, p: i64, q: i64) -> i64
+        requires denominator { (pos 1 ≤ℤ q) × (q ≤ℤ pos MAX_DENOMINATOR) }
         requires low { pos 0 ≤ℤ p }
-        requires high { p ≤ℤ width_of self.now }
-        ensures least { (points : List Point) → IsLowerHull points self.now → IsLeastCostUp points p result }
+        requires high { p ≤ℤ (q *ℤ width_of self.now) }
+        ensures least { (points : List Point) → IsLowerHull points self.now → IsLeastCostUp points (unsigned_abs q) p result }
 
         // It is what a printed schedule pays at this output.
-        ensures hull { (points : List Point) → IsLowerHull points self.now → result ≡ hull_cost points 1 p }
+        ensures hull { (points : List Point) → IsLowerHull points self.now → result ≡ hull_cost points (unsigned_abs q) p }
     {
-        places::ceil_at(&self.corners, &p)
+        places::ceil_at(&self.corners, &p, &q)
     }
 
     /// The points at the ends of a segment of the hull that holds the output `p`, the left one first: of the

@@ -1,6 +1,6 @@
 //! Where an output lies among the corners, and what the hull says there.
 
-ghost use Rattle.std.specs.Prelude.{◌≡◌, ℕ, suc, ◌*◌, ◌<◌, ◌≤◌, pos, List, ◌-ℤ◌, ◌*ℤ◌, ◌<ℤ◌, ◌≤ℤ◌, int_lt, length, unsigned_abs};
+ghost use Rattle.std.specs.Prelude.{◌≡◌, ℕ, suc, ◌*◌, ◌^◌, ◌<◌, ◌≤◌, pos, List, ◌-ℤ◌, ◌*ℤ◌, ◌<ℤ◌, ◌≤ℤ◌, int_lt, length, unsigned_abs};
 ghost use Rattle.uc_model.specs.Division.{IsCeiling};
 ghost use Rattle.uc_model.specs.Hull.{hull_cost};
 ghost use Rattle.uc_model.specs.Points.{point_of, output_of};
@@ -10,7 +10,7 @@ ghost use Rattle.cost_curves.specs.inside.Places.{HoldsOutput};
 
 use crate::line::{rise, run};
 use crate::slope::Slope;
-use uc_model::limits::{MAX_COST, MAX_POWER};
+use uc_model::limits::{MAX_COST, MAX_DENOMINATOR, MAX_POWER};
 use uc_model::{Point, ceil_div, scaled};
 
 /// The greatest output above the first corner's.
@@ -21,17 +21,50 @@ pub(crate) fn width(corners: &[Point]) -> i64
     output(corners, corners.len() - 1)
 }
 
-/// The least cost at an output, rounded up.
-pub(crate) fn ceil_at(corners: &[Point], p: &i64) -> i64
+/// The least cost at the output `p` over `q`, rounded up. The segment is that of the next whole output, since corners
+/// lie at whole ones.
+pub(crate) fn ceil_at(corners: &[Point], p: &i64, q: &i64) -> i64
     requires lawful { AreLawfulCorners corners.now }
+    requires denominator { (pos 1 ≤ℤ q.now) × (q.now ≤ℤ pos MAX_DENOMINATOR) }
     requires low { pos 0 ≤ℤ p.now }
-    requires high { p.now ≤ℤ width_of corners.now }
-    ensures least { (points : List Point) → IsLowerHull points corners.now → IsLeastCostUp points p.now result }
-    ensures hull { (points : List Point) → IsLowerHull points corners.now → result ≡ hull_cost points 1 p.now }
+    requires high { p.now ≤ℤ (q.now *ℤ width_of corners.now) }
+    ensures least { (points : List Point) → IsLowerHull points corners.now → IsLeastCostUp points (unsigned_abs q.now) p.now result }
+    ensures hull { (points : List Point) → IsLowerHull points corners.now → result ≡ hull_cost points (unsigned_abs q.now) p.now }
 {
-    let found = ends_at(corners, p);
-    let over = *p - output(corners, found.left);
-    cost_between(&corners[found.left], &corners[found.right], &over)
+    let found = ends_at(corners, &whole_up(p, q));
+    let over = over_left(corners, found.left, p, q);
+    cost_between(&corners[found.left], &corners[found.right], &over, q)
+}
+
+// The least whole output that isn't below p over q.
+fn whole_up(p: &i64, q: &i64) -> i64
+    requires denominator { pos 1 ≤ℤ q.now }
+    requires low { pos 0 ≤ℤ p.now }
+    requires size { unsigned_abs p.now ≤ MAX_DENOMINATOR * (2 * MAX_POWER) }
+    ensures ceiling { IsCeiling p.now q.now result }
+    ensures low { pos 0 ≤ℤ result }
+{
+    ceil_div(wide(p), wide(q)) as i64
+}
+
+// A number in 128 bits.
+fn wide(number: &i64) -> i128
+    ensures value { result ≡ number.now }
+    ensures size { unsigned_abs result ≤ 2 ^ 63 }
+{
+    i128::from(*number)
+}
+
+// How far the output p over q lies right of a corner, over q.
+fn over_left(corners: &[Point], left: usize, p: &i64, q: &i64) -> i64
+    requires lawful { AreLawfulCorners corners.now }
+    requires within { left < length corners.now }
+    requires denominator { (pos 1 ≤ℤ q.now) × (q.now ≤ℤ pos MAX_DENOMINATOR) }
+    requires low { (q.now *ℤ output_of corners.now left) ≤ℤ p.now }
+    requires high { p.now ≤ℤ (q.now *ℤ width_of corners.now) }
+    ensures { result ≡ p.now -ℤ q.now *ℤ output_of corners.now left }
+{
+    *p - *q * output(corners, left)
 }
 
 /// The ends of a segment that holds an output.
@@ -59,33 +92,35 @@ pub(crate) fn slope(corners: &[Point], p: &i64) -> Slope
     }
 }
 
-// The cost on the line between two points, so far right of the left one, rounded up.
-fn cost_between(left: &Point, right: &Point, over: &i64) -> i64
+// The cost on the line between two points, so far over q right of the left one, rounded up.
+fn cost_between(left: &Point, right: &Point, over: &i64, q: &i64) -> i64
     requires left { IsLawfulPoint left.now }
     requires right { IsLawfulPoint right.now }
     requires low { pos 0 ≤ℤ over.now }
-    requires high { over.now ≤ℤ (right.now.mw -ℤ left.now.mw) }
+    requires high { over.now ≤ℤ (q.now *ℤ (right.now.mw -ℤ left.now.mw)) }
+    requires denominator { (pos 1 ≤ℤ q.now) × (q.now ≤ℤ pos MAX_DENOMINATOR) }
     ensures level { left.now.mw ≡ right.now.mw → result ≡ left.now.cost }
-    ensures rising { left.now.mw <ℤ right.now.mw → IsCeiling ((right.now.cost -ℤ left.now.cost) *ℤ over.now) (right.now.mw -ℤ left.now.mw) (result -ℤ left.now.cost) }
+    ensures rising { left.now.mw <ℤ right.now.mw → IsCeiling ((right.now.cost -ℤ left.now.cost) *ℤ over.now) (q.now *ℤ (right.now.mw -ℤ left.now.mw)) (result -ℤ left.now.cost) }
 {
     if left.mw == right.mw {
         return left.cost;
     }
-    left.cost + rise_up(left, right, over)
+    left.cost + rise_up(left, right, over, q)
 }
 
-// How far the line between two points rises until so far right of the left one, rounded up.
-fn rise_up(left: &Point, right: &Point, over: &i64) -> i64
+// How far the line between two points rises until so far over q right of the left one, rounded up.
+fn rise_up(left: &Point, right: &Point, over: &i64, q: &i64) -> i64
     requires left { IsLawfulPoint left.now }
     requires right { IsLawfulPoint right.now }
     requires low { pos 0 ≤ℤ over.now }
-    requires high { over.now ≤ℤ (right.now.mw -ℤ left.now.mw) }
+    requires high { over.now ≤ℤ (q.now *ℤ (right.now.mw -ℤ left.now.mw)) }
+    requires denominator { (pos 1 ≤ℤ q.now) × (q.now ≤ℤ pos MAX_DENOMINATOR) }
     requires apart { left.now.mw <ℤ right.now.mw }
-    ensures ceiling { IsCeiling ((right.now.cost -ℤ left.now.cost) *ℤ over.now) (right.now.mw -ℤ left.now.mw) result }
+    ensures ceiling { IsCeiling ((right.now.cost -ℤ left.now.cost) *ℤ over.now) (q.now *ℤ (right.now.mw -ℤ left.now.mw)) result }
     ensures size { unsigned_abs result ≤ 2 * MAX_COST }
 {
     let rising = scaled(rise(left, right), *over);
-    let width = i128::from(run(left, right));
+    let width = scaled(*q, run(left, right));
     ceil_div(rising, width) as i64
 }
 

@@ -1,8 +1,8 @@
 -- The turns of the drop pass.
-use Rattle.std.proofs.Common.{◌≡◌, ◌⊎◌, ◌∙◌, ⊎_elim, ℕ, ◌<◌, zero, suc, false, true, List, get_or, get_or-set_other, get_or-set_same, set, length, length-set, inl, inr, refl, sym, subst, ap, arith, ℤ, IsTrue, int_lt, nat_lt, ◌≤◌, unsigned_abs}
+use Rattle.std.proofs.Common.{◌≡◌, ◌⊎◌, ◌∙◌, ⊎_elim, ℕ, ◌<◌, zero, suc, false, true, List, get_or, get_or-set_other, get_or-set_same, set, length, length-set, inl, inr, refl, sym, subst, ap, arith, ℤ, IsTrue, int_lt, nat_lt, ◌≤◌, pos, unsigned_abs}
 use Rattle.std.proofs.lemmas.Bool.{cases_Bool, cases_eq, ltb-true}
-use Rattle.std.proofs.lemmas.List.{set-get_or, set-set}
-use Rattle.uc_model.proofs.PrintedCosts.{printed_cost-fits}
+use Rattle.std.proofs.lemmas.List.{length-replicate, set-get_or, set-set}
+use Rattle.uc_model.proofs.PrintedCosts.{printed_cost-fits, watts-factor}
 use Rattle.uc_model.proofs.Ring.{linear}
 use Rattle.uc_model.proofs.Tests.{int_lt-true}
 use Rattle.uc_model.specs.Commitment.{is_allowed}
@@ -57,18 +57,21 @@ pub accepted : (instance : Instance) (patterns : List Pattern) (printed : Printe
     → IsDispatchOf instance patterns printed → cost ≡ printed_cost instance printed → IsAccepted instance printed cost
 accepted instance patterns printed cost lawful is cost_is =
     let obeys = obeying instance patterns printed lawful is.regular is.periods in
+    let shape = is.periods.shape in
+    let factor = watts-factor instance printed in
     record {
-      shape = record { thermal = is.periods.shape.thermal; cells = is.periods.shape.cells; renewable = is.periods.shape.renewable; outputs = is.periods.shape.outputs };
+      shape = record { thermal = is.periods.shape.thermal; cells = is.periods.shape.cells; renewable = is.periods.shape.renewable; outputs = is.periods.shape.outputs; shed = ap length shape.supply.shed ∙ length-replicate instance.periods (pos 0); short = ap length shape.supply.short ∙ length-replicate instance.periods (pos 0); denominator = (omega (arith, shape.supply.denominator), omega (arith, shape.supply.denominator)) };
       obeys = obeys;
       cost_is = cost_is;
       numbers = plain instance patterns instance.periods printed lawful (omega arith) is.periods;
-      size = subst (λ z. unsigned_abs z ≤ COST_MAX) (sym cost_is) (printed_cost-fits instance printed (printed_denominator instance printed) lawful obeys);
+      supply = shape.supply;
+      size = subst (λ z. unsigned_abs z ≤ COST_MAX) (sym cost_is) (printed_cost-fits instance printed (printed_denominator instance printed) factor.0 lawful factor.1 obeys);
     }
 
 -- and its cells can be priced
 pub dispatch_prices : (instance : Instance) (patterns : List Pattern) (rows : Rows) → IsLawfulInstance instance → IsDispatchOf instance patterns (printed_of rows)
     → (g t : ℕ) → g < thermal_count instance → t < instance.periods → HasPrice (thermal_unit instance g) (cell_at (printed_of rows) g t)
-dispatch_prices instance patterns rows lawful is = priced instance (printed_of rows) lawful (obeying instance patterns (printed_of rows) lawful is.regular is.periods)
+dispatch_prices instance patterns rows lawful is = priced instance (printed_of rows) lawful is.periods.shape.supply.denominator (obeying instance patterns (printed_of rows) lawful is.regular is.periods)
 
 -- where something is in the way the commitment is stuck
 pub stuck_in : (instance : Instance) (patterns : List Pattern) (rows : Rows) (obstacle : Obstacle) → AreAllowed instance patterns → AreRowsOf instance patterns rows

@@ -11,6 +11,7 @@ use Rattle.uc_model.specs.Commitment.{is_allowed}
 use Rattle.uc_model.specs.ExtremePatterns.{on_during}
 use Rattle.uc_model.proofs.ExtremePatterns.{highest-kept_on}
 use Rattle.uc_model.proofs.Ring.{linear}
+use Rattle.uc_model.proofs.Shortages.{unpriced}
 use Rattle.demo_gen.specs.Demo.{Numbers, Point, StartRow, Thermal, MayAllRun, demand_at, demo_instance, first_units, maximum_cost, middle_cost, millions, minimum_cost, minimum_sum, ramp_of, range_sum, percents, state_after, unit_numbers, unit_of}
 use Rattle.demo_gen.specs.inside.Bounds.{IsSmall}
 use Rattle.demo_gen.proofs.FirstUnits.{minimum-size, numbers_small, range-size, units-at, units-count}
@@ -130,6 +131,9 @@ demo_lawful seed =
       thermal = λ g h. unit-at seed g (omega (arith, h, units-count seed 40));
       renewable_units = omega arith;
       renewable = renewable_lawful seed;
+      shed_price = omega arith;
+      short_price = omega arith;
+      shortages = omega (arith, linear, unpriced (demo_instance seed) 0 0 refl refl);
     }
 
 -- ---- each unit may run

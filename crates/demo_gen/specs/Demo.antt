@@ -131,6 +131,8 @@ demo_instance seed = record {
   reserves = replicate 24 (millions (3 * range_sum seed 40 / 100));
   thermal = first_units seed 40;
   renewable = renewable_of ∷ [];
+  a = 0;
+  b = 0;
 }
 
 -- ---- what its units may do

@@ -38,6 +38,8 @@ pub fn instance(alloc: Global, seed: u32) -> Result<Instance, NoMemory>
         reserves: List::from_vec(reserves),
         thermal: List::from_vec(units.thermal),
         renewable: List::from_vec(renewables),
+        a: 0,
+        b: 0,
     })
 }
 

@@ -6,12 +6,13 @@ use Rattle.std.specs.Int.{int_min, int_max}
 use Rattle.std.proofs.lemmas.Bool.{cond_both, and_parts}
 use Rattle.uc_model.specs.Sums.{sum_below, bit}
 use Rattle.uc_model.specs.Commitment.{cap}
-use Rattle.uc_model.specs.Schedule.{Schedule, thermal_unit, thermal_count, renewable_count, p_at, p_before}
-use Rattle.uc_model.specs.Rules.{StartCap, StopCap, RampUp, RenewableRange, Demand, Reserve, supply_at, reserve_supply_at}
+use Rattle.uc_model.specs.Schedule.{Schedule, thermal_unit, thermal_count, renewable_count, p_at, p_before, demand_at, reserve_at, most_shed, most_short}
+use Rattle.uc_model.specs.Rules.{StartCap, StopCap, RampUp, RenewableRange, Demand, Reserve, ShedRange, ShortRange, supply_at, reserve_supply_at}
 use Rattle.uc_model.specs.declared.stuck.Why.TheVariants as why
 use Rattle.uc_model.proofs.Ring.{linear, mul-add, mul-sub, mul_assoc, le_from_mul}
 use Rattle.uc_model.proofs.Sums.{sum_below-same, sum_below-add, sum_below-mul_left, sum_below-le}
 use Rattle.uc_model.proofs.Tests.{int_le-true, int_eq-true}
+use Rattle.uc_model.proofs.Shortages.{shortage_parts}
 use Rattle.dual_model.proofs.Locality.{cap-same}
 use Rattle.dual_model.proofs.PricedRules.{within_cap}
 use Rattle.dispatch_repair.specs.Period.{Period, Source, FromRenewable, FromThermal, low_of, high_of, head_of, heads, thermal_sum, renewable_sum, minimums, total_output, demand_of, need_of}
@@ -46,6 +47,10 @@ record Goes (period : Period) (q : ℕ) (x : Schedule) : Type 0 where
   inside : period.t < period.instance.periods
   on : GoesOn period q x
   keeps : KeepsDispatchRules period q x
+  demand : period.demand ≡ demand_at period.instance period.t
+  need : period.need ≡ reserve_at period.instance period.t
+  shed : x.shed period.t ≡ pos 0
+  short : x.short period.t ≡ pos 0
 
 module _ (period : Period) (q : ℕ) (x : Schedule) (goes : Goes period q x) where
   -- ---- output
@@ -77,10 +82,11 @@ module _ (period : Period) (q : ℕ) (x : Schedule) (goes : Goes period q x) whe
   -- what all units give is q times demand
   balance : pos q *ℤ minimums period +ℤ thermal_sum period (given period x) +ℤ renewable_sum period (given period x) ≡ pos q *ℤ demand_of period
   balance =
-      let supply : supply_at period.instance q x period.t ≡ pos q *ℤ demand_of period = int_eq-true _ _ (goes.keeps Demand (omega arith) 0 (omega arith)) in
+      let supply : supply_at period.instance q x period.t +ℤ x.shed period.t ≡ pos q *ℤ demand_at period.instance period.t = int_eq-true _ _ (goes.keeps Demand (omega arith) 0 (omega arith)) in
       let parts = sum_below-add (thermal_count period.instance) (λ g. given period x (FromThermal g))
       (λ g. pos q *ℤ (thermal_unit period.instance g).pmin *ℤ bit ((x.thermal g).on period.t)) in
-      omega (arith, linear, supply, parts, minimums-is)
+      let asked = ap (λ z. pos q *ℤ z) goes.demand in
+      omega (arith, linear, supply, parts, minimums-is, goes.shed, asked)
 
   -- q times what all give together
   scaled_total : (f : Source → ℤ) → pos q *ℤ total_output period f
@@ -142,11 +148,12 @@ module _ (period : Period) (q : ℕ) (x : Schedule) (goes : Goes period q x) whe
 
   not_short : need_of period ≤ℤ reserve_room period
   not_short =
-      let needed : (pos q *ℤ need_of period) ≤ℤ reserve_supply_at period.instance x period.t = int_le-true _ _ (goes.keeps Reserve (omega arith) 0 (omega arith)) in
+      let needed : (pos q *ℤ reserve_at period.instance period.t) ≤ℤ (reserve_supply_at period.instance x period.t +ℤ x.short period.t) = int_le-true _ _ (goes.keeps Reserve (omega arith) 0 (omega arith)) in
       let least = int_max (thermal_sum period (low_of period)) (demand_of period -ℤ minimums period -ℤ renewable_sum period (high_of period)) in
       let used : (pos q *ℤ least) ≤ℤ thermal_sum period (given period x) = scaled_max q _ _ _ least_thermal rest in
+      let asked = ap (λ z. pos q *ℤ z) goes.need in
       le_from_mul (pos q) _ _ (omega (arith, linear, goes.some))
-      (omega (arith, linear, mul-sub (pos q) (heads period) least, used, needed, all_headed))
+      (omega (arith, linear, mul-sub (pos q) (heads period) least, used, needed, all_headed, goes.short, asked))
 
 -- ---- each obstacle
 not_empty : (period : Period) (q : ℕ) (x : Schedule) → Goes period q x → (g : ℕ) → g < thermal_count period.instance
@@ -165,6 +172,18 @@ no_dispatch period (why.Under most demand) q x obstacle goes =
 no_dispatch period (why.Reserve room need) q x obstacle goes =
     omega (arith, linear, not_short period q x goes, obstacle.room, obstacle.need, obstacle.below)
 
-pub impossible : (period : Period) (why : Why) → period.t < period.instance.periods → IsFirstObstacle period why → HasNoDispatch period
-impossible period why inside obstacle q x some on keeps =
-    no_dispatch period why q x obstacle (record { some = some; inside = inside; on = on; keeps = keeps })
+-- where nothing may be missing
+pub impossible : (period : Period) (why : Why) → period.t < period.instance.periods → period.demand ≡ demand_at period.instance period.t
+    → period.need ≡ reserve_at period.instance period.t → IsFirstObstacle period why → period.instance.a ≡ 0 → period.instance.b ≡ 0
+    → HasNoDispatch period
+impossible period why inside demand need obstacle served held q x some on keeps =
+    no_dispatch period why q x obstacle (record {
+      some = some;
+      inside = inside;
+      on = on;
+      keeps = keeps;
+      demand = demand;
+      need = need;
+      shed = (shortage_parts q period.instance.a (most_shed period.instance period.t) (x.shed period.t) (keeps ShedRange (omega arith) 0 (omega arith))).priced served;
+      short = (shortage_parts q period.instance.b (most_short period.instance period.t) (x.short period.t) (keeps ShortRange (omega arith) 0 (omega arith))).priced held;
+    })

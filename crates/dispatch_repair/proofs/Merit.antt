@@ -97,6 +97,10 @@ renewable_lows : (period : Period) (ranges : List Range) → AreRangesOf period 
 renewable_lows period ranges are = sum_below-same (renewable_count period.instance) _ _ (λ w hw.
     (are w (omega arith)).low ∙ ap (low_of period) (renewable_at period.instance w hw))
 
+-- a number below two others isn't at least their least
+least_above : (end high amount : ℤ) → int_min end high ≤ℤ amount → amount <ℤ end → amount <ℤ high → ⊥
+least_above end high amount most below less = grind (arith, ints, most, below, less)
+
 -- the limit on the thermal units leaves what they have to give at least, and what renewable units can't
 pub limit-covers : (period : Period) → IsFree period → (z : ℤ) → z ≤ℤ int_max (thermal_sum period (low_of period)) (demand_of period -ℤ minimums period -ℤ renewable_sum period (high_of period))
     → z ≤ℤ thermal_sum period (high_of period) → z ≤ℤ thermal_limit period
@@ -159,7 +163,8 @@ module _ (period : Period) (order : List Segment) (ranges : List Range) (start :
   -- its part isn't full
   not_full : (n : ℕ) (it : HasSegment n) → amount_at amounts n <ℤ (range_at ranges n).high → ¬ IsFull ranges amounts (segment_at order it.j)
   not_full n it less full =
-      grind (arith, ints, subst (λ m. int_min (segment_at order it.j).end (range_at ranges m).high ≤ℤ amount_at amounts m) it.next.source full, it.next.end, less)
+      least_above (segment_at order it.j).end (range_at ranges n).high (amount_at amounts n)
+      (subst (λ m. int_min (segment_at order it.j).end (range_at ranges m).high ≤ℤ amount_at amounts m) it.next.source full) it.next.end less
 
   -- while demand isn't met, a source for which something is left is at the high end of its range
   topped : (n : ℕ) → n < source_count instance → pos 0 <ℤ rest.need → (n < W) ⊎ (pos 0 <ℤ rest.room) → (range_at ranges n).high ≤ℤ amount_at amounts n

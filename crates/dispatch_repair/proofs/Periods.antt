@@ -203,7 +203,7 @@ stuck_period_is instance patterns printed obstacle stuck regular shape found is 
     filled = λ k h. filled_moved instance patterns k printed stuck.prefix (same_below instance t k printed stuck.prefix is.prefix.same h) (found.filled k h);
   });
   obstacle = first;
-  impossible = impossible (stuck_period instance patterns stuck) stuck.why within first;
+  impossible = impossible (stuck_period instance patterns stuck) stuck.why within refl refl first;
 }
   where
     t : ℕ

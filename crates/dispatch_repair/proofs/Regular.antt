@@ -2,7 +2,7 @@
 use Rattle.std.proofs.Common.{◌≡◌, ◌⊎◌, inl, inr, ℕ, ◌<◌, arith, List, IsTrue}
 use Rattle.std.proofs.lemmas.Bool.{and_parts}
 use Rattle.uc_model.specs.Commitment.{initial_stop_holds, is_allowed, is_allowed_at}
-use Rattle.uc_model.specs.Rules.{Rule, MustRun, InitialUp, InitialDown, MinimumUp, MinimumDown, Category, InitialStop, Production, StartCap, StopCap, RampUp, RampDown, RenewableRange, Demand, Reserve, holds_at}
+use Rattle.uc_model.specs.Rules.{Rule, MustRun, InitialUp, InitialDown, MinimumUp, MinimumDown, Category, InitialStop, Production, StartCap, StopCap, RampUp, RampDown, RenewableRange, Demand, Reserve, ShedRange, ShortRange, holds_at}
 use Rattle.uc_model.specs.Schedule.{thermal_count, thermal_unit}
 use Rattle.uc_model.specs.Sums.{all_below}
 use Rattle.uc_model.proofs.Tests.{all_below-at}
@@ -41,3 +41,5 @@ regular instance patterns allowed rule kind g hg t ht = by rule kind
     by RenewableRange kind = absurd (other 13 (omega arith) (λ e. omega (arith, e)) kind)
     by Demand kind = absurd (other 14 (omega arith) (λ e. omega (arith, e)) kind)
     by Reserve kind = absurd (other 15 (omega arith) (λ e. omega (arith, e)) kind)
+    by ShedRange kind = absurd (other 16 (omega arith) (λ e. omega (arith, e)) kind)
+    by ShortRange kind = absurd (other 17 (omega arith) (λ e. omega (arith, e)) kind)

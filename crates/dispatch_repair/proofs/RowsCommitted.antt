@@ -49,9 +49,9 @@ abbrev IsIdle : Cell → Type 0
 IsIdle cell = (cell.p ≡ pos 0) × (cell.r ≡ pos 0)
 
 -- one row in another's place
-module _ (instance : Instance) (patterns : List Pattern) (g : ℕ) (rows : List (Vec Cell Global)) (outputs : List (List ℤ)) (row : Vec Cell Global) where
+module _ (instance : Instance) (patterns : List Pattern) (g : ℕ) (rows : List (Vec Cell Global)) (outputs : List (List ℤ)) (shed short : List ℤ) (row : Vec Cell Global) where
   abbrev with_rows : List (List Cell) → Printed
-  with_rows cells = record { thermal = cells; renewable = outputs }
+  with_rows cells = record { thermal = cells; renewable = outputs; shed = shed; short = short; denominator = 1 }
 
   module _ (unit : g < thermal_count instance) (shape : HasPeriods instance instance.periods (with_rows (rows_of rows)))
       (others : (h t : ℕ) → h < thermal_count instance → t < instance.periods → h ≢ g → IsCommittedCell instance patterns h t (cell_at (with_rows (rows_of rows)) h t))
@@ -75,6 +75,7 @@ module _ (instance : Instance) (patterns : List Pattern) (g : ℕ) (rows : List 
         cells = All-set (λ cells. length cells ≡ instance.periods) (rows_of rows) g row.items own.length shape.cells;
         renewable = shape.renewable;
         outputs = shape.outputs;
+        supply = record { shed = shape.supply.shed; short = shape.supply.short; denominator = shape.supply.denominator };
       };
       cells = is_committed;
     })

@@ -1,15 +1,15 @@
 -- Writes into rows, and their first periods. Cite by `use Rattle.dispatch_repair.proofs.RowsEdits.{cut_stuck}`.
-use Rattle.std.proofs.Common.{◌≡◌, ℕ, ◌+◌, ◌<◌, ◌≤◌, ⊎_elim, get_or, length, take, drop, refl, sym, ap, subst, ◌∙◌, arith, List, [], ◌++◌, All, map, slice_set, slice_index_or}
+use Rattle.std.proofs.Common.{◌≡◌, ℕ, ◌+◌, ◌<◌, ◌≤◌, ⊎_elim, get_or, length, take, drop, refl, sym, ap, subst, ◌∙◌, arith, List, [], ◌++◌, All, map, pos, slice_set, slice_index_or}
 use Rattle.std.specs.Vec.{with_item}
 use Rattle.std.specs.declared.alloc.Global.{Global}
 use Rattle.std.specs.declared.vec.Vec.{Vec}
 use Rattle.std.proofs.lemmas.Bool.{cases_lt}
 use Rattle.std.proofs.Math.ListN.{get_or-eq_default}
-use Rattle.std.proofs.lemmas.List.{map-set, get_or-map, get_or-take, get_or_default, length-map, length-take-le}
+use Rattle.std.proofs.lemmas.List.{map-set, get_or-map, get_or-take, get_or_default, length-map, length-take-le, take-replicate}
 use Rattle.std.proofs.lemmas.List.Edits.{map_over_more}
 use Rattle.std.proofs.lemmas.List.Elements.{All-map}
 use Rattle.dispatch_repair.specs.Dispatch.{Instance, Printed, HasPeriods}
-use Rattle.dispatch_repair.specs.Rooms.{Obstacle, IsStuckAfter, rows_of}
+use Rattle.dispatch_repair.specs.Rooms.{Obstacle, AreSameBelow, IsStuckAfter, rows_of}
 use Rattle.dispatch_repair.specs.inside.Rows.{row_at}
 
 -- the row that is read is the one at its place
@@ -44,14 +44,29 @@ cut_lengths {X} rows n m h lengths =
     All-map (λ (row : List X). length row ≡ n) (take n) rows
     (λ k d within. length-take-le n (get_or rows k d) (subst (λ j. n ≤ j) (sym (lengths k d within)) h))
 
--- the schedule of the first periods
+-- the first periods of a schedule
+abbrev pub cut_at : ℕ → Printed → Printed
+cut_at n printed = record {
+  thermal = map (take n) printed.thermal;
+  renewable = map (take n) printed.renewable;
+  shed = take n printed.shed;
+  short = take n printed.short;
+  denominator = printed.denominator;
+}
+
+-- they have the shape of the first periods
 pub cut_shape : (instance : Instance) (n : ℕ) (printed : Printed) → HasPeriods instance instance.periods printed → n ≤ instance.periods
-    → HasPeriods instance n (record { thermal = map (take n) printed.thermal; renewable = map (take n) printed.renewable })
+    → HasPeriods instance n (cut_at n printed)
 cut_shape instance n printed shape h = record {
   thermal = length-map printed.thermal _ ∙ shape.thermal;
   cells = cut_lengths printed.thermal n instance.periods h shape.cells;
   renewable = length-map printed.renewable _ ∙ shape.renewable;
   outputs = cut_lengths printed.renewable n instance.periods h shape.outputs;
+  supply = record {
+    shed = ap (take n) shape.supply.shed ∙ take-replicate n instance.periods (pos 0) h;
+    short = ap (take n) shape.supply.short ∙ take-replicate n instance.periods (pos 0) h;
+    denominator = shape.supply.denominator;
+  };
 }
 
 -- the entries of the first periods stay
@@ -63,9 +78,11 @@ kept_entry {X} rows n g k d h = ⊎_elim
     (get_or-eq_default (map (take n) rows) [] (omega (arith, length-map rows (take n))) ∙ sym (get_or-eq_default rows [] past)))
     (cases_lt g (length rows))
 
--- the first periods of a schedule
-abbrev pub cut_at : ℕ → Printed → Printed
-cut_at n printed = record { thermal = map (take n) printed.thermal; renewable = map (take n) printed.renewable }
+pub cut_same : (n : ℕ) (printed : Printed) → AreSameBelow n printed (cut_at n printed)
+cut_same n printed = record {
+  cells = λ g k h. kept_entry printed.thermal n g k _ h;
+  outputs = λ w k h. kept_entry printed.renewable n w k _ h;
+}
 
 -- what is in the way, with them
 pub cut_stuck : (printed : Printed) (obstacle : Obstacle)
@@ -74,10 +91,7 @@ cut_stuck printed obstacle = record {
   is_period = refl;
   reason = refl;
   prefix = record {
-    same = record {
-      cells = λ g k h. kept_entry printed.thermal obstacle.period g k _ h;
-      outputs = λ w k h. kept_entry printed.renewable obstacle.period w k _ h;
-    };
+    same = cut_same obstacle.period printed;
     shape = λ instance shape h. cut_shape instance obstacle.period printed shape h;
   };
 }

@@ -3,8 +3,8 @@
 use Rattle.std.specs.Prelude.{◌≡◌, ℕ, ◌<◌, false, List, ℤ, IsTrue, All, length}
 use Rattle.uc_model.specs.Commitment.{starts}
 use Rattle.uc_model.specs.StartCategory.{category_cost}
-use Rattle.uc_model.specs.Schedule.{thermal_unit, thermal_count, renewable_count}
-use Rattle.uc_model.specs.PrintedSchedule.{cell_at}
+use Rattle.uc_model.specs.Schedule.{thermal_unit, thermal_count, renewable_count, demand_at, reserve_at}
+use Rattle.uc_model.specs.PrintedSchedule.{LacksNothing, cell_at}
 pub use Rattle.uc_model.specs.declared.instance.Instance.{Instance}
 pub use Rattle.uc_model.specs.declared.pattern.Pattern.{Pattern}
 pub use Rattle.uc_model.specs.declared.schedule.Cell.{Cell}
@@ -14,12 +14,13 @@ use Rattle.schedule_check.specs.SizedNumbers.{output_at}
 use Rattle.dispatch_repair.specs.Period.{Period, Source, FromRenewable, FromThermal, commitment_at, output_before}
 use Rattle.dispatch_repair.specs.MeritOrder.{IsInMeritOrder, IsReserveInOrder}
 
--- the schedule has a row for each unit, with a cell for each of the first periods
+-- the schedule has a row for each unit, with a cell for each of the first periods, in whole watts, and nothing is missing
 pub record HasPeriods (instance : Instance) (periods : ℕ) (printed : Printed) : Type 0 where
   pub thermal : length printed.thermal ≡ thermal_count instance
   pub cells : All (λ row. length row ≡ periods) printed.thermal
   pub renewable : length printed.renewable ≡ renewable_count instance
   pub outputs : All (λ row. length row ≡ periods) printed.renewable
+  pub supply : LacksNothing periods printed
 
 -- a cell is the commitment's: a start takes the cheapest category that the history allows, the first of several
 pub record IsCommittedCell (instance : Instance) (patterns : List Pattern) (g t : ℕ) (cell : Cell) : Type 0 where
@@ -35,7 +36,14 @@ amounts cell output (FromThermal g) = (cell g).p
 
 -- period t, with what each unit gave in the period before
 abbrev pub period_after : Instance → List Pattern → ℕ → (ℕ → ℤ) → Period
-period_after instance patterns t before = record { instance = instance; on = commitment_at patterns; t = t; before = before }
+period_after instance patterns t before = record {
+  instance = instance;
+  on = commitment_at patterns;
+  t = t;
+  before = before;
+  demand = demand_at instance t;
+  need = reserve_at instance t;
+}
 
 -- cells and outputs of period t: the commitment's, in merit order, with reserve in the order of the file
 pub record IsFilling (instance : Instance) (patterns : List Pattern) (t : ℕ) (before : ℕ → ℤ) (cell : ℕ → Cell) (output : ℕ → ℤ) : Type 0 where

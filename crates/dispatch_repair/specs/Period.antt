@@ -7,7 +7,7 @@ use Rattle.uc_model.specs.Sums.{sum_below, bit}
 use Rattle.uc_model.specs.Commitment.{Commitment, cap, initial_p}
 use Rattle.uc_model.specs.PatternBits.{commitment_of}
 use Rattle.uc_model.specs.PrintedSchedule.{cell_at}
-use Rattle.uc_model.specs.Schedule.{thermal_unit, thermal_count, renewable_count, renewable_minimum, renewable_maximum, demand_at, reserve_at, point_p, point_count}
+use Rattle.uc_model.specs.Schedule.{thermal_unit, thermal_count, renewable_count, renewable_minimum, renewable_maximum, point_p, point_count}
 pub use Rattle.uc_model.specs.declared.instance.Instance.{Instance}
 pub use Rattle.uc_model.specs.declared.instance.Thermal.{Thermal}
 pub use Rattle.uc_model.specs.declared.pattern.Pattern.{Pattern}
@@ -40,12 +40,15 @@ highest periods unit on t before =
     let most = int_min (head periods unit on t before) (point_p unit (point_count unit - 1)) in
     if is_off_next periods on t then int_min most unit.rd else most
 
--- a period of an instance, with the units' commitments and what each gave in the period before
+-- a period of an instance, with the units' commitments, what each gave in the period before, and the demand and reserve that
+-- are to be met
 pub record Period : Type 0 where
   pub instance : Instance
   pub on : ℕ → Commitment
   pub t : ℕ
   pub before : ℕ → ℤ
+  pub demand : ℤ
+  pub need : ℤ
 
 -- what gives power: renewable unit w, or thermal unit g above its minimum
 pub data Source : Type 0 where
@@ -90,10 +93,10 @@ abbrev pub heads : Period → ℤ
 heads period = sum_below (thermal_count period.instance) (head_of period)
 
 abbrev pub demand_of : Period → ℤ
-demand_of period = demand_at period.instance period.t
+demand_of period = period.demand
 
 abbrev pub need_of : Period → ℤ
-need_of period = reserve_at period.instance period.t
+need_of period = period.need
 
 -- the most that the thermal units may give above their minimums: their heads without the reserve that is needed
 abbrev pub thermal_limit : Period → ℤ

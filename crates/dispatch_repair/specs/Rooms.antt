@@ -30,7 +30,13 @@ rows_of rows = map (λ row. row.items) rows
 
 -- the schedule of the rows
 abbrev pub printed_of : Rows → Printed
-printed_of rows = record { thermal = rows_of rows.thermal.items; renewable = rows_of rows.renewable.items }
+printed_of rows = record {
+  thermal = rows_of rows.thermal.items;
+  renewable = rows_of rows.renewable.items;
+  shed = rows.shed.items;
+  short = rows.short.items;
+  denominator = 1;
+}
 
 -- a row for each unit, with a cell for each period, and each cell is the commitment's
 pub record AreCommitted (instance : Instance) (patterns : List Pattern) (printed : Printed) : Type 0 where
@@ -60,6 +66,8 @@ ArePowerless instance rows = (g : ℕ) → g < thermal_count instance → IsPowe
 pub record AreSameRowsBut (g : ℕ) (old new : Rows) : Type 0 where
   pub cells : (h t : ℕ) → h ≢ g → cell_at (printed_of new) h t ≡ cell_at (printed_of old) h t
   pub renewable : new.renewable ≡ old.renewable
+  pub shed : new.shed ≡ old.shed
+  pub short : new.short ≡ old.short
 
 -- the first obstacle of a commitment, after the periods of the schedule that were filled before it
 pub record IsObstacleOf (instance : Instance) (patterns : List Pattern) (printed : Printed) (obstacle : Obstacle) : Type 0 where

@@ -22,6 +22,8 @@ abbrev pub committed : List Pattern → Schedule
 committed patterns = record {
   thermal = λ g. record { on = commitment_at patterns g; category = λ t. 0; weight = λ t l. 0; reserve = λ t. pos 0 };
   output = λ w t. pos 0;
+  shed = λ t. pos 0;
+  short = λ t. pos 0;
 }
 
 -- unit g's commitment keeps the rule in each period
@@ -115,7 +117,7 @@ pub record GoesOn (period : Period) (q : ℕ) (x : Schedule) : Type 0 where
   pub high : (g : ℕ) → g < thermal_count period.instance
       → p_at (thermal_unit period.instance g) (x.thermal g) period.t ≤ℤ (pos q *ℤ high_of period (FromThermal g))
 
--- it keeps the rules on dispatch, M8 to M15, in the period
+-- it keeps the rules on dispatch, M8 to M17, in the period
 abbrev pub KeepsDispatchRules : Period → ℕ → Schedule → Type 0
 KeepsDispatchRules period q x =
     (rule : Rule) → 7 < rule_number rule → (g : ℕ) → g < rule_units rule period.instance
@@ -126,13 +128,13 @@ abbrev pub HasNoDispatch : Period → Type 0
 HasNoDispatch period = (q : ℕ) (x : Schedule) → 1 ≤ q → GoesOn period q x → ¬ KeepsDispatchRules period q x
 
 -- ---- the answer
--- stuck in a period, after those before it were filled
+-- stuck in a period, after those before it were filled. Where nothing may be missing, no dispatch of it obeys
 pub record IsStuckInPeriod (instance : Instance) (patterns : List Pattern) (stuck : Stuck) (period : Period) : Type 0 where
   pub regular : IsRegular instance patterns
   pub within : stuck.period < instance.periods
   pub prefix : IsDispatchThrough instance patterns stuck.period stuck.prefix
   pub obstacle : IsFirstObstacle period stuck.why
-  pub impossible : HasNoDispatch period
+  pub impossible : instance.a ≡ 0 → instance.b ≡ 0 → HasNoDispatch period
 
 -- stuck before any period is filled
 pub record IsStuckByRule (instance : Instance) (patterns : List Pattern) (stuck : Stuck) (number unit : ℕ) : Type 0 where

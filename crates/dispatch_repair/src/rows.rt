@@ -21,11 +21,13 @@ use std::alloc::Global;
 use uc_model::limits::{MAX_PERIODS, MAX_UNITS};
 use uc_model::{Cell, Instance, List, NoMemory, Pattern, Printed, Thermal, sum};
 
-/// For each unit a cell, or a renewable output in watts, for each period.
+/// For each unit a cell, or a renewable output in watts, for each period; and what is missing of demand and of reserve.
 #[derive(Drop)]
 pub struct Rows {
     pub(crate) thermal: Vec<Vec<Cell>>,
     pub(crate) renewable: Vec<Vec<i64>>,
+    pub(crate) shed: Vec<i64>,
+    pub(crate) short: Vec<i64>,
 }
 
 /// The rows of a commitment, without any power.
@@ -37,8 +39,13 @@ pub fn committed(alloc: Global, instance: &Instance, patterns: &[Pattern]) -> Re
 {
     let thermal = committed_rows(alloc, instance, patterns)?;
     let renewables = instance.renewable.as_slice().len();
-    let renewable = no_outputs(alloc, renewables, instance.periods as usize)?;
-    Ok(Rows { thermal, renewable })
+    let periods = instance.periods as usize;
+    Ok(Rows {
+        thermal,
+        renewable: no_outputs(alloc, renewables, periods)?,
+        shed: vec![in alloc; 0; periods]?,
+        short: vec![in alloc; 0; periods]?,
+    })
 }
 
 // The thermal units' rows, without any power.
@@ -254,6 +261,9 @@ pub fn printed(alloc: Global, rows: Rows) -> Result<Printed, NoMemory>
     Ok(Printed {
         thermal: List::from_vec(lists(alloc, rows.thermal)?),
         renewable: List::from_vec(lists(alloc, rows.renewable)?),
+        shed: List::from_vec(rows.shed),
+        short: List::from_vec(rows.short),
+        denominator: 1,
     })
 }
 
@@ -282,6 +292,8 @@ pub(crate) fn first_periods(alloc: Global, rows: Rows, periods: usize) -> Result
     let mut rows = rows;
     cut(&mut rows.thermal, periods);
     cut(&mut rows.renewable, periods);
+    rows.shed.truncate(periods);
+    rows.short.truncate(periods);
     printed(alloc, rows)
 }
 

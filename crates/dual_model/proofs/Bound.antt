@@ -4,18 +4,18 @@ use Rattle.std.proofs.Common.{ℕ, ◌<◌, ◌≤◌, length, refl, ap, arith, 
 use Rattle.uc_model.specs.Sums.{sum_below, bit}
 use Rattle.uc_model.specs.Commitment.{initial_p}
 use Rattle.uc_model.specs.Schedule.{Schedule, thermal_unit, thermal_count, renewable_count, demand_at, reserve_at, p_at, p_before}
-use Rattle.uc_model.specs.Cost.{cell_cost, unit_cost, cost}
+use Rattle.uc_model.specs.Cost.{cell_cost, unit_cost, shortage_cost, cost}
 use Rattle.uc_model.specs.Rules.{RampUp, RampDown, RenewableRange, Demand, Reserve, Obeys, thermal_output}
 use Rattle.uc_model.proofs.Ring.{linear, scale-le-scale}
 use Rattle.uc_model.proofs.Tests.{int_le-true, int_eq-true}
 use Rattle.uc_model.proofs.Obeyed.{rule_at}
 use Rattle.dual_model.specs.Prices.{Instance, Table, pi_at, mu_at, up_at, down_at, HasSizeOf, HasLawfulSigns}
 use Rattle.dual_model.specs.Fixings.{Node, IsPatternAt}
-use Rattle.dual_model.specs.UnitValue.{Thermal, period_value, IsPatternValue}
-use Rattle.dual_model.specs.NodeValue.{constant_at, renewable_value, IsNodeValue}
+use Rattle.dual_model.specs.UnitValue.{Thermal, period_value, IsPatternValue, IsUnitValue}
+use Rattle.dual_model.specs.NodeValue.{constant_at, system_value, renewable_value, renewables_value, shortages_value, IsNodeValue}
 use Rattle.dual_model.proofs.Lagrange.{unit_priced, bound_priced}
 use Rattle.dual_model.proofs.Multipliers.{mu_at_nonneg, signed_at, up_at_past, down_at_past}
-use Rattle.dual_model.proofs.PricedRules.{period_priced, renewable_priced}
+use Rattle.dual_model.proofs.PricedRules.{period_priced, shortages_priced, renewable_priced}
 
 -- ---- a schedule that obeys, and a table of the instance's size with the signs of a bound
 module _ (instance : Instance) (q : ℕ) (x : Schedule) (table : Table) (obeys : Obeys instance q x)
@@ -61,33 +61,46 @@ module _ (instance : Instance) (q : ℕ) (x : Schedule) (table : Table) (obeys :
       let same = ap (λ v. pos q *ℤ (v +ℤ constant g)) value.total in
       omega (arith, linear)
 
-  -- the value of the node, where each unit's commitment is a pattern there and has a value
+  -- the same of the value of unit g at the node, where its commitment is a pattern there and has a value
+  pub unit_share : (node : Node) (g : ℕ) (v : ℤ) → g < thermal_count instance → IsUnitValue instance node table g v
+      → IsPatternAt instance node g (x.thermal g).on → (w : ℤ) × IsPatternValue instance table g (x.thermal g).on w
+      → (pos q *ℤ (v +ℤ constant g)) ≤ℤ (table.k *ℤ cost_of g -ℤ paid g)
+  unit_share node g v hg is_value pattern own =
+      let least = is_value.best.least (x.thermal g).on own.0 pattern own.1 in
+      let shifted : (v +ℤ constant g) ≤ℤ (own.0 +ℤ constant g) = omega (arith, linear) in
+      let below = scale-le-scale q _ _ shifted in
+      let bound = unit_bound g own.0 hg own.1 in
+      omega (arith, linear)
+
+  -- the system's part, the parts of the thermal units, each of which is at most what its unit costs, less what it is paid, and
+  -- those of the renewable units
+  pub parts_bound : (part : ℕ → ℤ)
+      → ((g : ℕ) → g < thermal_count instance → (pos q *ℤ part g) ≤ℤ (table.k *ℤ cost_of g -ℤ paid g))
+      → (pos q *ℤ (system_value instance table +ℤ sum_below (thermal_count instance) part +ℤ renewables_value instance table))
+      ≤ℤ (table.k *ℤ cost instance q x)
+  parts_bound part each =
+      bound_priced instance.periods (thermal_count instance) (renewable_count instance) (pos q) table.k (pi_at table)
+      (mu_at table) (demand_at instance) (reserve_at instance) x.shed x.short (shortages_value instance table)
+      (shortage_cost instance x) (thermal_output instance q x) (λ g. (x.thermal g).reserve)
+      x.output (renewable_value instance table) part cost_of
+      (record {
+        mu_sign = mu_at_nonneg table signs;
+        demand_met = λ t ht. int_eq-true _ _ (rule_at instance q x obeys Demand 0 t (omega arith) ht);
+        reserve_met = λ t ht. int_le-true _ _ (rule_at instance q x obeys Reserve 0 t (omega arith) ht);
+        lacking = λ t ht. shortages_priced instance q x table t obeys ht;
+        unit = each;
+        renewable = λ w t hw ht.
+            renewable_priced instance q x table w t obeys (rule_at instance q x obeys RenewableRange w t hw ht);
+      })
+
+  -- the value of the node
   pub bound_from : (node : Node) (v : ℤ) → IsNodeValue instance node table v
       → ((g : ℕ) → g < thermal_count instance → IsPatternAt instance node g (x.thermal g).on)
       → ((g : ℕ) → g < thermal_count instance → (w : ℤ) × IsPatternValue instance table g (x.thermal g).on w)
       → (pos q *ℤ v) ≤ℤ (table.k *ℤ cost instance q x)
   bound_from node v is_value patterns values =
       let bound =
-      bound_priced instance.periods (thermal_count instance) (renewable_count instance) (pos q) table.k (pi_at table)
-      (mu_at table) (demand_at instance) (reserve_at instance) (thermal_output instance q x) (λ g. (x.thermal g).reserve)
-      x.output (renewable_value instance table) (λ g. is_value.unit_value g +ℤ constant g) cost_of
-      (record {
-        mu_sign = mu_at_nonneg table signs;
-        demand_met = λ t ht. int_eq-true _ _ (rule_at instance q x obeys Demand 0 t (omega arith) ht);
-        reserve_met = λ t ht. int_le-true _ _ (rule_at instance q x obeys Reserve 0 t (omega arith) ht);
-        unit = each;
-        renewable = λ w t hw ht.
-            renewable_priced instance q x table w t obeys (rule_at instance q x obeys RenewableRange w t hw ht);
-      }) in
+      parts_bound (λ g. is_value.unit_value g +ℤ constant g) (λ g hg.
+      unit_share node g (is_value.unit_value g) hg (is_value.units g hg) (patterns g hg) (values g hg)) in
       let same = ap (λ n. pos q *ℤ n) is_value.total in
       omega (arith, linear)
-    where
-      each : (g : ℕ) → g < thermal_count instance
-          → (pos q *ℤ (is_value.unit_value g +ℤ constant g)) ≤ℤ (table.k *ℤ cost_of g -ℤ paid g)
-      each g hg =
-          let own = values g hg in
-          let least = (is_value.units g hg).best.least (x.thermal g).on own.0 (patterns g hg) own.1 in
-          let shifted : (is_value.unit_value g +ℤ constant g) ≤ℤ (own.0 +ℤ constant g) = omega (arith, linear) in
-          let below = scale-le-scale q _ _ shifted in
-          let bound = unit_bound g own.0 hg own.1 in
-          omega (arith, linear)

@@ -9,12 +9,13 @@ use Rattle.uc_model.specs.Rules.{Obeys}
 use Rattle.uc_model.specs.Limits.{IsLawfulInstance}
 use Rattle.uc_model.proofs.Ring.{linear, le_from_mul, mul-le-mul_right, mul_left_comm, mul_comm, scale-le-scale}
 use Rattle.dual_model.specs.Prices.{Instance, Table, IsLawfulTable}
-use Rattle.dual_model.specs.Fixings.{Fixing, Node, keeps, agrees, HasEmptyUnit}
+use Rattle.dual_model.specs.Fixings.{Fixing, Node, keeps, agrees}
+use Rattle.dual_model.specs.ValueKind.{HasBlockedUnit}
 use Rattle.dual_model.specs.Tree.{Tree, Ends, Splits, root, child, agreeing_leaves, EachLeaf}
 use Rattle.dual_model.specs.Cover.{Leaf, Bound, Ray, Empty, IsExcluded, LeafHolds, HasBoundOf, HasPositiveValue}
 use Rattle.dual_model.specs.Certificate.{ClaimHolds}
 use Rattle.dual_model.specs.Laws.{IsBoundTable, IsScheduleAt, LeavesPart, HasLawfulTable, CoversBound, CoversExclude, CertificatesClaimTruly, IsClaimTrue, AreTablesLawful}
-use Rattle.dual_model.proofs.NodeValues.{weak_duality, rays_exclude, not_empty}
+use Rattle.dual_model.proofs.ValueKinds.{weak_duality, rays_exclude, not_blocked, blocked_unit}
 
 -- ---- the leaves part the schedules
 child_agrees : (x : Schedule) (node : Node) (g t : ℕ) (on : Bool)
@@ -69,21 +70,21 @@ lawful_bounds instance table lawful = record { size = lawful.size; signs = lawfu
 excluded_leaf : (instance : Instance) (tables : List Table) (q : ℕ) (x : Schedule) → IsLawfulInstance instance
     → Obeys instance q x → (node : Node) (leaf : Leaf) → IsTrue (agrees node x) → HasLawfulTable instance tables node leaf
     → IsExcluded instance tables node leaf → ⊥
-excluded_leaf instance tables q x lawful obeys node (Bound number) kept tabled none = none
-excluded_leaf instance tables q x lawful obeys node (Ray number) kept tabled ray =
+excluded_leaf instance tables q x lawful obeys node (Bound exact number) kept tabled none = none
+excluded_leaf instance tables q x lawful obeys node (Ray exact number) kept tabled ray =
     let schedule : IsScheduleAt instance node q x = record { obeys = obeys; agrees = kept } in
     ⊎_elim
-    (λ (positive : HasPositiveValue instance node ray.table).
-    rays_exclude instance node ray.table positive.value q x lawful
+    (λ (positive : HasPositiveValue exact instance node ray.table).
+    rays_exclude exact instance node ray.table positive.value q x lawful
     (lawful_bounds instance ray.table (tabled ray.table ray.is_table))
     positive.is_value ray.scale positive.positive schedule)
-    (λ (empty : HasEmptyUnit instance node). not_empty instance node q x lawful schedule empty)
+    (λ (blocked : HasBlockedUnit exact instance node). not_blocked exact instance node q x lawful schedule blocked)
     ray.excludes
-excluded_leaf instance tables q x lawful obeys node (Empty g) kept tabled empty =
-    not_empty instance node q x lawful (record { obeys = obeys; agrees = kept })
-    (record { unit = g; within = empty.0; empty = empty.1 })
+excluded_leaf instance tables q x lawful obeys node (Empty exact g) kept tabled blocked =
+    not_blocked exact instance node q x lawful (record { obeys = obeys; agrees = kept })
+    (blocked_unit exact instance node g blocked.0 blocked.1)
 
--- a bound on V over K bounds the cost
+-- a bound on a value over K bounds the cost
 divided : (q : ℕ) (k v bound b c : ℤ) → pos 0 <ℤ k → (bound *ℤ k) ≤ℤ v → b ≤ℤ bound → (pos q *ℤ v) ≤ℤ (k *ℤ c)
     → (pos q *ℤ b) ≤ℤ c
 divided q k v bound b c positive below enough dual =
@@ -99,20 +100,21 @@ bounded_leaf : (instance : Instance) (tables : List Table) (b : ℤ) (q : ℕ) (
     → (node : Node) (leaf : Leaf) → IsTrue (agrees node x) → HasLawfulTable instance tables node leaf
     → LeafHolds instance tables b node leaf
     → (pos q *ℤ b) ≤ℤ cost instance q x
-bounded_leaf instance tables b q x lawful obeys node (Bound number) kept tabled holds =
+bounded_leaf instance tables b q x lawful obeys node (Bound exact number) kept tabled holds =
     let schedule : IsScheduleAt instance node q x = record { obeys = obeys; agrees = kept } in
     ⊎_elim
-    (λ (has : HasBoundOf instance node holds.table b).
+    (λ (has : HasBoundOf exact instance node holds.table b).
     let own = has.is_bound in
     divided q holds.table.k own.value has.bound b (cost instance q x) holds.scale own.quotient.below has.enough
-    (weak_duality instance node holds.table own.value q x lawful
+    (weak_duality exact instance node holds.table own.value q x lawful
     (lawful_bounds instance holds.table (tabled holds.table holds.is_table)) own.is_value schedule))
-    (λ (empty : HasEmptyUnit instance node). absurd (not_empty instance node q x lawful schedule empty))
+    (λ (blocked : HasBlockedUnit exact instance node).
+    absurd (not_blocked exact instance node q x lawful schedule blocked))
     holds.bounds
-bounded_leaf instance tables b q x lawful obeys node (Ray number) kept tabled holds =
-    absurd (excluded_leaf instance tables q x lawful obeys node (Ray number) kept tabled holds)
-bounded_leaf instance tables b q x lawful obeys node (Empty g) kept tabled holds =
-    absurd (excluded_leaf instance tables q x lawful obeys node (Empty g) kept tabled holds)
+bounded_leaf instance tables b q x lawful obeys node (Ray exact number) kept tabled holds =
+    absurd (excluded_leaf instance tables q x lawful obeys node (Ray exact number) kept tabled holds)
+bounded_leaf instance tables b q x lawful obeys node (Empty exact g) kept tabled holds =
+    absurd (excluded_leaf instance tables q x lawful obeys node (Empty exact g) kept tabled holds)
 
 pub covers_bound : CoversBound
 covers_bound instance tables tree b lawful tabled holds q x obeys =
@@ -140,9 +142,9 @@ listed instance tables each number table is_table =
 tables_lawful : (instance : Instance) (tables : List Table) → All (IsLawfulTable instance) tables
     → (node : Node) (tree : Tree Leaf)
     → EachLeaf (HasLawfulTable instance tables) node tree
-tables_lawful instance tables each node (Ends (Bound number)) = listed instance tables each number
-tables_lawful instance tables each node (Ends (Ray number)) = listed instance tables each number
-tables_lawful instance tables each node (Ends (Empty g)) = tt
+tables_lawful instance tables each node (Ends (Bound exact number)) = listed instance tables each number
+tables_lawful instance tables each node (Ends (Ray exact number)) = listed instance tables each number
+tables_lawful instance tables each node (Ends (Empty exact g)) = tt
 tables_lawful instance tables each node (Splits g t off on) = (
   tables_lawful instance tables each (child node g t false) off,
   tables_lawful instance tables each (child node g t true) on,

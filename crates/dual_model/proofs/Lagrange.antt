@@ -48,16 +48,21 @@ period_regrouped : (u u' d d' pi mu p r m v c : ℤ)
     → (v +ℤ ((u' -ℤ d') *ℤ p +ℤ (d *ℤ p -ℤ u *ℤ p -ℤ u *ℤ r))) ≤ℤ (c -ℤ (pi *ℤ (p +ℤ m) +ℤ mu *ℤ r))
 period_regrouped u u' d d' pi mu p r m v c bound = let parts = simp spread at bound in simp spread (omega (arith, linear))
 
--- demand and reserve of a period are at most what the units give, at their prices
-period_supplied : (q pi mu demand reserve supply held output : ℤ) → pos 0 ≤ℤ mu → supply +ℤ output ≡ q *ℤ demand
-    → (q *ℤ reserve) ≤ℤ held
-    → (q *ℤ (pi *ℤ demand +ℤ mu *ℤ reserve)) ≤ℤ (pi *ℤ supply +ℤ mu *ℤ held +ℤ pi *ℤ output)
-period_supplied q pi mu demand reserve supply held output sign met enough =
-    let priced_demand : pi *ℤ supply +ℤ pi *ℤ output ≡ q *ℤ (pi *ℤ demand) =
-    sym (mul-add pi supply output) ∙ ap (λ x. pi *ℤ x) met ∙ mul_left_comm pi q demand in
+-- demand and reserve of a period, less what may be missing of them, are at most what the units give, at their prices, and
+-- what the shortages cost
+period_supplied : (q pi mu demand reserve supply held output shed short lack paid : ℤ) → pos 0 ≤ℤ mu
+    → supply +ℤ output +ℤ shed ≡ q *ℤ demand → (q *ℤ reserve) ≤ℤ (held +ℤ short)
+    → (q *ℤ lack) ≤ℤ (paid -ℤ (pi *ℤ shed +ℤ mu *ℤ short))
+    → (q *ℤ (pi *ℤ demand +ℤ mu *ℤ reserve +ℤ lack)) ≤ℤ (pi *ℤ supply +ℤ mu *ℤ held +ℤ pi *ℤ output +ℤ paid)
+period_supplied q pi mu demand reserve supply held output shed short lack paid sign met enough priced =
+    let priced_demand : pi *ℤ supply +ℤ pi *ℤ output +ℤ pi *ℤ shed ≡ q *ℤ (pi *ℤ demand) =
+    ap (λ x. x +ℤ pi *ℤ shed) (sym (mul-add pi supply output)) ∙ sym (mul-add pi (supply +ℤ output) shed)
+    ∙ ap (λ x. pi *ℤ x) met ∙ mul_left_comm pi q demand in
     let priced_reserve = mul-le-mul_left mu _ _ sign enough in
+    let held_spread = mul-add mu held short in
     let order = mul_left_comm mu q reserve in
-    let spread_out = mul-add q (pi *ℤ demand) (mu *ℤ reserve) in
+    let outer = mul-add q (pi *ℤ demand +ℤ mu *ℤ reserve) lack in
+    let inner = mul-add q (pi *ℤ demand) (mu *ℤ reserve) in
     omega (arith, linear)
 
 -- a factor of each period, and a sum over units in it, as a sum over units first
@@ -134,10 +139,10 @@ module _ (n : ℕ) (q ru rd p0 k : ℤ) (up down pi mu p r before least cost val
       let spread_out = mul-add q (sum_below n value) constant in
       omega (arith, linear)
 
--- ---- the system: over n periods and the denominator q, the multipliers, demand and reserve, each unit's total output
--- and the reserve it holds, each renewable unit's output and what its periods add to the bound, and what each unit
--- adds to the bound and costs
-module _ (n units renewables : ℕ) (q k : ℤ) (pi mu demand reserve : ℕ → ℤ) (thermal held output worth : ℕ → ℕ → ℤ) (value cost : ℕ → ℤ) where
+-- ---- the system: over n periods and the denominator q, the multipliers, demand and reserve, what is missing of them, what
+-- that adds to the bound and costs, each unit's total output and the reserve it holds, each renewable unit's output and what
+-- its periods add to the bound, and what each unit adds to the bound and costs
+module _ (n units renewables : ℕ) (q k : ℤ) (pi mu demand reserve shed short lack paid : ℕ → ℤ) (thermal held output worth : ℕ → ℕ → ℤ) (value cost : ℕ → ℤ) where
   abbrev bought : ℕ → ℤ
   bought g = sum_below n (λ t. pi t *ℤ thermal g t +ℤ mu t *ℤ held g t)
 
@@ -145,28 +150,33 @@ module _ (n units renewables : ℕ) (q k : ℤ) (pi mu demand reserve : ℕ → 
   sold w = sum_below n (λ t. pi t *ℤ output w t)
 
   abbrev needed : ℕ → ℤ
-  needed t = pi t *ℤ demand t +ℤ mu t *ℤ reserve t
+  needed t = pi t *ℤ demand t +ℤ mu t *ℤ reserve t +ℤ lack t
 
   -- what the rules say of them
   pub record Balanced : Type 0 where
     pub mu_sign : (t : ℕ) → pos 0 ≤ℤ mu t
     pub demand_met : (t : ℕ) → t < n →
-        sum_below units (λ g. thermal g t) +ℤ sum_below renewables (λ w. output w t) ≡ q *ℤ demand t
-    pub reserve_met : (t : ℕ) → t < n → (q *ℤ reserve t) ≤ℤ sum_below units (λ g. held g t)
+        sum_below units (λ g. thermal g t) +ℤ sum_below renewables (λ w. output w t) +ℤ shed t ≡ q *ℤ demand t
+    pub reserve_met : (t : ℕ) → t < n → (q *ℤ reserve t) ≤ℤ (sum_below units (λ g. held g t) +ℤ short t)
+    pub lacking : (t : ℕ) → t < n → (q *ℤ lack t) ≤ℤ (k *ℤ paid t -ℤ (pi t *ℤ shed t +ℤ mu t *ℤ short t))
     pub unit : (g : ℕ) → g < units → (q *ℤ value g) ≤ℤ (k *ℤ cost g -ℤ bought g)
     pub renewable : (w t : ℕ) → w < renewables → t < n → (q *ℤ worth w t) ≤ℤ neg_ℤ (pi t *ℤ output w t)
 
-  -- demand and reserve are at most what the units give, at their prices
-  system_priced : Balanced → (q *ℤ sum_below n needed) ≤ℤ (sum_below units bought +ℤ sum_below renewables sold)
+  -- demand and reserve, less what may be missing, are at most what the units give, at their prices, and what shortages cost
+  system_priced : Balanced
+      → (q *ℤ sum_below n needed) ≤ℤ (sum_below units bought +ℤ sum_below renewables sold +ℤ k *ℤ sum_below n paid)
   system_priced h =
       let from_units = λ (t : ℕ). pi t *ℤ sum_below units (λ g. thermal g t) in
       let from_held = λ (t : ℕ). mu t *ℤ sum_below units (λ g. held g t) in
       let from_renewables = λ (t : ℕ). pi t *ℤ sum_below renewables (λ w. output w t) in
-      let each : sum_below n (λ t. q *ℤ needed t) ≤ℤ sum_below n (λ t. from_units t +ℤ from_held t +ℤ from_renewables t) =
-      sum_below-le n (λ t. q *ℤ needed t) (λ t. from_units t +ℤ from_held t +ℤ from_renewables t)
+      let each : sum_below n (λ t. q *ℤ needed t) ≤ℤ sum_below n (λ t. from_units t +ℤ from_held t +ℤ from_renewables t +ℤ k *ℤ paid t) =
+      sum_below-le n (λ t. q *ℤ needed t) (λ t. from_units t +ℤ from_held t +ℤ from_renewables t +ℤ k *ℤ paid t)
       (λ t l.
-      period_supplied q (pi t) (mu t) (demand t) (reserve t) _ _ _ (h.mu_sign t) (h.demand_met t l) (h.reserve_met t l)) in
+      period_supplied q (pi t) (mu t) (demand t) (reserve t) _ _ _ (shed t) (short t) (lack t) (k *ℤ paid t)
+      (h.mu_sign t) (h.demand_met t l) (h.reserve_met t l) (h.lacking t l)) in
       let scaled = sum_below-mul_left n q needed in
+      let whole = sum_below-add n (λ t. from_units t +ℤ from_held t +ℤ from_renewables t) (λ t. k *ℤ paid t) in
+      let costs = sum_below-mul_left n k paid in
       let outer = sum_below-add n (λ t. from_units t +ℤ from_held t) from_renewables in
       let inner = sum_below-add n from_units from_held in
       let units_first = factored n units pi thermal in
@@ -192,7 +202,7 @@ module _ (n units renewables : ℕ) (q k : ℤ) (pi mu demand reserve : ℕ → 
   -- the bound is at most the cost
   pub bound_priced : Balanced
       → (q *ℤ (sum_below n needed +ℤ sum_below units value +ℤ sum_below renewables (λ w. sum_below n (worth w))))
-      ≤ℤ (k *ℤ sum_below units cost)
+      ≤ℤ (k *ℤ (sum_below units cost +ℤ sum_below n paid))
   bound_priced h =
       let system = system_priced h in
       let each_unit : sum_below units (λ g. q *ℤ value g) ≤ℤ sum_below units (λ g. k *ℤ cost g -ℤ bought g) =
@@ -207,4 +217,5 @@ module _ (n units renewables : ℕ) (q k : ℤ) (pi mu demand reserve : ℕ → 
       let renewables_parted = sum_below-neg renewables sold in
       let outer = mul-add q (sum_below n needed +ℤ sum_below units value) (sum_below renewables worth_of) in
       let inner = mul-add q (sum_below n needed) (sum_below units value) in
+      let total = mul-add k (sum_below units cost) (sum_below n paid) in
       omega (arith, linear)

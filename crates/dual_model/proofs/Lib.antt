@@ -1,5 +1,6 @@
 pub mod Lagrange
 pub mod Multipliers
+pub mod UnitRows
 pub mod PricedRules
 pub mod Agreement
 pub mod Bound
@@ -9,6 +10,7 @@ pub mod Locality
 pub mod Patterns
 pub mod UnitValues
 pub mod NodeValues
+pub mod ShortageRays
 pub mod Covers
 pub mod Computed
 pub mod TableValues
@@ -23,3 +25,13 @@ pub mod InitialLimits
 pub mod Allowed
 pub mod LeastValues
 pub mod Hourly
+pub mod Hermite
+pub mod WholeWatts
+pub mod HullSegments
+pub mod FlooredHull
+pub mod ExactBound
+pub mod ExactValues
+pub mod SinkingUnit
+pub mod BoundedSearch
+pub mod ExactExists
+pub mod ValueKinds

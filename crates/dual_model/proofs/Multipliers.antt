@@ -1,5 +1,5 @@
 -- The look-ups of a table: its multipliers keep the signs of its lists, and are 0 past the last period.
-use Rattle.std.proofs.Common.{◌≡◌, ℕ, suc, ◌<◌, ◌≤◌, List, [], ◌∷◌, length, refl, sym, ap, subst, arith, ⊎_elim, ◌⊎◌, ℤ, pos, ◌≤ℤ◌, ◌&&◌, ◌==◌, All, slice_index_or}
+use Rattle.std.proofs.Common.{◌≡◌, ℕ, suc, ◌<◌, ◌≤◌, List, [], ◌∷◌, length, refl, sym, ap, subst, arith, ⊎_elim, ℤ, pos, ◌≤ℤ◌, ◌&&◌, ◌==◌, All, slice_index_or}
 use Rattle.std.proofs.lemmas.Bool.{and_parts, cond_both, eqb-true}
 use Rattle.std.proofs.lemmas.List.{get_or_past}
 use Rattle.uc_model.proofs.Ring.{le_refl}

@@ -1,6 +1,6 @@
 -- The value of a node: it is unique, it exists where each unit has a pattern, it bounds the cost of each of the node's
 -- schedules, and a child's is at least its parent's.
-use Rattle.std.proofs.Common.{◌≡◌, ℕ, zero, suc, ◌<◌, ◌≤◌, ◌⊎◌, inl, inr, [], ◌∷◌, length, Bool, refl, sym, ap, subst, ◌∙◌, arith, ⊎_elim, ℤ, pos, ◌+ℤ◌, ◌*ℤ◌, ◌≤ℤ◌, IsTrue, Option, Some, None, option_map, unwrap_or}
+use Rattle.std.proofs.Common.{◌≡◌, ℕ, zero, suc, ◌<◌, ◌≤◌, ◌⊎◌, inl, inr, [], ◌∷◌, length, Bool, false, refl, sym, ap, subst, ◌∙◌, arith, ⊎_elim, ℤ, pos, ◌+ℤ◌, ◌*ℤ◌, ◌≤ℤ◌, IsTrue, Option, Some, None, option_map, unwrap_or}
 use Rattle.std.proofs.lemmas.Bool.{and_parts}
 use Rattle.std.proofs.lemmas.List.Folds.{list_all-append}
 use Rattle.uc_model.specs.Sums.{sum_below}
@@ -28,7 +28,7 @@ unit_value_unique instance node table g v w first second =
     (first.best.least second.on w second.best.pattern second.best.value)
     (second.best.least first.on v first.best.pattern first.best.value)
 
-pub values_are_unique : ValuesAreUnique
+pub values_are_unique : ValuesAreUnique false
 values_are_unique instance node table v w first second =
     let constant = constant_at instance table in
     let units : sum_below (thermal_count instance) (λ g. first.unit_value g +ℤ constant g)
@@ -137,7 +137,7 @@ answered : (instance : Instance) (node : Node) (table : Table) (answer : Option 
 answered instance node table None empty = inr empty
 answered instance node table (Some v) is_value = inl (v, is_value)
 
-pub values_exist : ValuesExist
+pub values_exist : ValuesExist false
 values_exist instance node table lawful =
     answered instance node table _ (node_value_is instance node table (has_points instance lawful))
 
@@ -150,21 +150,21 @@ not_empty instance node q x lawful schedule empty =
     (pattern-obeying instance node q x empty.unit lawful.periods.0 schedule.obeys schedule.agrees empty.within
     (lawful.thermal empty.unit empty.within))
 
-pub values_exist_at_schedules : ValuesExistAtSchedules
+pub values_exist_at_schedules : ValuesExistAtSchedules false
 values_exist_at_schedules instance node table q x lawful schedule = ⊎_elim
     (λ (found : (v : ℤ) × IsNodeValue instance node table v). found)
     (λ (empty : HasEmptyUnit instance node). absurd (not_empty instance node q x lawful schedule empty))
     (values_exist instance node table lawful)
 
 -- ---- it is a bound
-pub weak_duality : WeakDuality
+pub weak_duality : WeakDuality false
 weak_duality instance node table v q x lawful bounds is_value schedule =
     let pattern = λ (g : ℕ) (l : g < thermal_count instance).
     pattern-obeying instance node q x g lawful.periods.0 schedule.obeys schedule.agrees l (lawful.thermal g l) in
     bound_from instance q x table schedule.obeys bounds.size bounds.signs node v is_value pattern
     (λ g l. allowed_value instance table g (x.thermal g).on (lawful.thermal g l).points.0 (pattern g l).allowed)
 
-pub rays_exclude : RaysExclude
+pub rays_exclude : RaysExclude false
 rays_exclude instance node table v q x lawful bounds is_value is_ray positive schedule =
     let bound = weak_duality instance node table v q x lawful bounds is_value schedule in
     let free = ap (λ k. k *ℤ cost instance q x) is_ray ∙ zero-mul (cost instance q x) in
@@ -182,7 +182,7 @@ parent_agrees node g t on k pattern kept =
     let both = list_all-append (keeps_of k pattern) node.fixings ((record { g = g; t = t; on = on }) ∷ []) in
     (and_parts _ _ (sym both ∙ kept)).0
 
-child_unit_bound : (instance : Instance) (node : Node) (g t : ℕ) (on : Bool) (table : Table) (k : ℕ) (v w : ℤ)
+pub child_unit_bound : (instance : Instance) (node : Node) (g t : ℕ) (on : Bool) (table : Table) (k : ℕ) (v w : ℤ)
     → IsUnitValue instance node table k v → IsUnitValue instance (child node g t on) table k w → v ≤ℤ w
 child_unit_bound instance node g t on table k v w parent own =
     parent.best.least own.on w
@@ -203,7 +203,7 @@ child_value_bound instance node g t on table v w parent own =
     let second = own.total in
     omega (arith, linear)
 
-pub child_bound : ChildBound
+pub child_bound : ChildBound false
 child_bound instance node g t on table v lawful is_value = ⊎_elim
     (λ (found : (w : ℤ) × IsNodeValue instance (child node g t on) table w).
     inl (found.0, found.1, child_value_bound instance node g t on table v found.0 is_value found.1))

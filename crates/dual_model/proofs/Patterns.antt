@@ -1,5 +1,5 @@
 -- Of finitely many patterns that pass a test one has the least value, or none passes.
-use Rattle.std.proofs.Common.{◌≡◌, ℕ, zero, suc, ◌<◌, ◌⊎◌, Bool, true, false, ◌==◌, sym, ap, ◌∙◌, arith, ⊎_elim, ℤ, ◌≤ℤ◌, eq-eqb, IsTrue, int_le, Option, Some, None, if◌then◌else◌}
+use Rattle.std.proofs.Common.{◌≡◌, ℕ, zero, suc, ◌<◌, Bool, true, false, ◌==◌, sym, ap, ◌∙◌, arith, ⊎_elim, ℤ, ◌≤ℤ◌, eq-eqb, IsTrue, int_le, Option, Some, None, if◌then◌else◌}
 use Rattle.std.proofs.lemmas.Int.{ints}
 use Rattle.std.proofs.lemmas.Bool.{cases_Bool, true≢false, cond_both, cond-true, cond-false, eqb-true}
 use Rattle.uc_model.specs.Commitment.{Commitment}

@@ -3,26 +3,27 @@
 use Rattle.std.proofs.Common.{◌≡◌, ℕ, suc, ◌<◌, false, not, ◌&&◌, cond, sym, ap, ◌∙◌, arith, ⊎_elim, ℤ, pos, ◌+ℤ◌, ◌-ℤ◌, ◌*ℤ◌, neg_ℤ, ◌≤ℤ◌, IsTrue, nat_lt, int_lt, int_le}
 use Rattle.std.specs.Int.{int_min, int_max}
 use Rattle.std.proofs.lemmas.Int.{ints}
-use Rattle.std.proofs.lemmas.Bool.{and_parts, or_cases, cases_Bool, cond_both, cond-true, cond-false, not_from_true, true≢false, eqb-true}
+use Rattle.std.proofs.lemmas.Bool.{and_parts, or_cases, cases_Bool, cond_both, cond-true, cond-false, not_from_true, true≢false, eqb-true, ltb-false}
 use Rattle.uc_model.specs.Sums.{bit}
 use Rattle.uc_model.specs.Commitment.{starts, cap, start_cap, stop_cap}
 use Rattle.uc_model.specs.StartCategory.{sigma, last_stop, category_cost, is_category_allowed, category_holds_at}
-use Rattle.uc_model.specs.Schedule.{Row, Schedule, thermal_unit, thermal_count, point, point_count, p_at, weight_sum, renewable_minimum, renewable_maximum}
-use Rattle.uc_model.specs.Cost.{production_cost, cell_cost}
+use Rattle.uc_model.specs.Schedule.{Row, Schedule, thermal_unit, thermal_count, point, point_count, p_at, weight_sum, renewable_minimum, renewable_maximum, most_shed, most_short}
+use Rattle.uc_model.specs.Cost.{production_cost, cell_cost, shortage_cost}
 use Rattle.uc_model.specs.Rules.{Category, Production, StartCap, StopCap, Obeys, stop_cap_at}
-use Rattle.uc_model.proofs.Ring.{linear, spread, scale-le-scale, mul-le-mul_left, mul-le-mul_turned, mul_left_comm, mul-one, mul-zero, mul-neg, pos_nonneg}
+use Rattle.uc_model.proofs.Ring.{linear, spread, scale-le-scale, mul-le-mul_left, mul-le-mul_right, mul-le-mul_turned, mul_left_comm, mul_assoc, mul-add, sub-mul, mul-one, mul-zero, mul-neg, pos_nonneg}
 use Rattle.uc_model.proofs.Sums.{sum_below-zero, term-le-sum_below}
-use Rattle.uc_model.proofs.Tests.{int_le-true}
+use Rattle.uc_model.proofs.Tests.{int_le-true, int_min_left, int_min_right}
 use Rattle.uc_model.proofs.Obeyed.{rule_at, Produces, production_parts}
+use Rattle.uc_model.proofs.Shortages.{IsShortage, shed_parts, short_parts}
 use Rattle.uc_model.proofs.StartCosts.{sigma-le-allowed}
-use Rattle.dual_model.specs.Prices.{Instance, Table, pi_at}
+use Rattle.dual_model.specs.Prices.{Instance, Table, pi_at, mu_at}
 use Rattle.dual_model.specs.Term.{IsCellBound, output_price, reserve_price}
 use Rattle.dual_model.specs.UnitValue.{Thermal, period_value}
-use Rattle.dual_model.specs.NodeValue.{renewable_value}
+use Rattle.dual_model.specs.NodeValue.{renewable_value, shortage_value, shortages_value}
 
 -- ---- start costs
 -- K times the least start cost of a start is at most that of its category, and a cell without a start has none
-start_priced : (k : ℤ) (q : ℕ) (unit : Thermal) (row : Row) (t : ℕ) → pos 0 ≤ℤ k
+pub start_priced : (k : ℤ) (q : ℕ) (unit : Thermal) (row : Row) (t : ℕ) → pos 0 ≤ℤ k
     → IsTrue (category_holds_at unit row.on row.category t)
     → (pos q *ℤ cond (starts unit row.on t) (k *ℤ sigma unit (last_stop unit row.on t) t) (pos 0))
     ≤ℤ (k *ℤ (pos q *ℤ category_cost unit (row.category t)))
@@ -79,7 +80,7 @@ off_parts q pmin start pi k made category a p b r value u is_value is_off none p
     (simp (spread, mul-zero) (omega (arith, linear)))
 
 -- ---- an off cell has no weights, so it costs nothing
-made_off : (q : ℕ) (unit : Thermal) (row : Row) (t : ℕ) → weight_sum unit row t ≡ pos 0
+pub made_off : (q : ℕ) (unit : Thermal) (row : Row) (t : ℕ) → weight_sum unit row t ≡ pos 0
     → production_cost unit row t ≡ pos 0
 made_off q unit row t none =
     sum_below-zero (point_count unit) (λ l. (point unit l).cost *ℤ pos (row.weight t l))
@@ -130,6 +131,43 @@ period_priced instance q x table g t term obeys hg ht sign bound =
     (output_price table g t) (p_at unit row t) (reserve_price table g t) (row.reserve t) _ _
     (cond-false (row.on t) _ _ off) is_off (made_off q unit row t none) idle.0 idle.1 begun)
     (cases_Bool (row.on t))
+
+-- ---- what is missing of a need
+-- q times what it adds to the value is at most K times its cost, less what it would be paid
+shortage_priced : (q price : ℕ) (k multiplier most missing : ℤ) → IsShortage q price most missing
+    → (pos q *ℤ shortage_value k price multiplier most) ≤ℤ (k *ℤ (pos price *ℤ missing) -ℤ multiplier *ℤ missing)
+shortage_priced q price k multiplier most missing h =
+    cond_both (nat_lt 0 price) (int_min (pos 0) (k *ℤ pos price -ℤ multiplier) *ℤ most) (pos 0)
+    (λ v. (pos q *ℤ v) ≤ℤ (k *ℤ (pos price *ℤ missing) -ℤ multiplier *ℤ missing))
+    (λ some.
+    let least = int_min (pos 0) (k *ℤ pos price -ℤ multiplier) in
+    let turned = mul-le-mul_turned least missing (pos q *ℤ most) (int_min_left (pos 0) (k *ℤ pos price -ℤ multiplier)) h.within in
+    let raised = mul-le-mul_right missing least (k *ℤ pos price -ℤ multiplier) h.nonneg (int_min_right (pos 0) (k *ℤ pos price -ℤ multiplier)) in
+    let order = mul_left_comm (pos q) least most in
+    let parted = sub-mul (k *ℤ pos price) multiplier missing in
+    let grouped = mul_assoc k (pos price) missing in
+    omega (arith, linear))
+    (λ none.
+    let nothing = h.priced (no_price price none) in
+    let cost : k *ℤ (pos price *ℤ missing) ≡ pos 0 =
+    ap (λ z. k *ℤ (pos price *ℤ z)) nothing ∙ ap (λ z. k *ℤ z) (mul-zero (pos price)) ∙ mul-zero k in
+    let paid : multiplier *ℤ missing ≡ pos 0 = ap (λ z. multiplier *ℤ z) nothing ∙ mul-zero multiplier in
+    let zero = mul-zero (pos q) in
+    omega (arith, linear))
+  where
+    no_price : (p : ℕ) → nat_lt 0 p ≡ false → p ≡ 0
+    no_price p e = omega (arith, ltb-false 0 p e)
+
+pub shortages_priced : (instance : Instance) (q : ℕ) (x : Schedule) (table : Table) (t : ℕ) → Obeys instance q x → t < instance.periods
+    → (pos q *ℤ shortages_value instance table t)
+    ≤ℤ (table.k *ℤ shortage_cost instance x t -ℤ (pi_at table t *ℤ x.shed t +ℤ mu_at table t *ℤ x.short t))
+shortages_priced instance q x table t obeys ht =
+    let shed = shortage_priced q instance.a table.k (pi_at table t) _ (x.shed t) (shed_parts instance q x t obeys ht) in
+    let short = shortage_priced q instance.b table.k (mu_at table t) _ (x.short t) (short_parts instance q x t obeys ht) in
+    let worth = mul-add (pos q) (shortage_value table.k instance.a (pi_at table t) (most_shed instance t))
+    (shortage_value table.k instance.b (mu_at table t) (most_short instance t)) in
+    let costs = mul-add table.k (pos instance.a *ℤ x.shed t) (pos instance.b *ℤ x.short t) in
+    omega (arith, linear)
 
 -- ---- a renewable cell
 

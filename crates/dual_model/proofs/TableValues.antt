@@ -1,5 +1,5 @@
 -- The least value by a unit's terms is the unit's value at the table that the terms are of.
-use Rattle.std.proofs.Common.{◌≡◌, ℕ, ◌<◌, Bool, true, false, refl, sym, ap, subst, ◌∙◌, arith, ℤ, pos, ◌+ℤ◌, ◌-ℤ◌, ◌*ℤ◌, ◌≤ℤ◌, IsTrue, Option, Some, None, unwrap_or, List, if◌then◌else◌, true≢false}
+use Rattle.std.proofs.Common.{◌≡◌, ℕ, ◌<◌, Bool, true, false, refl, sym, ap, subst, ◌∙◌, arith, ℤ, pos, ◌+ℤ◌, ◌-ℤ◌, ◌*ℤ◌, ◌≤ℤ◌, IsTrue, Option, Some, None, unwrap_or, List, if◌then◌else◌}
 use Rattle.uc_model.specs.Sums.{sum_below}
 use Rattle.uc_model.specs.Commitment.{Commitment, starts, cap, is_allowed}
 use Rattle.uc_model.specs.StartCategory.{last_stop, sigma}

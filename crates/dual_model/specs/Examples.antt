@@ -5,6 +5,7 @@ use Rattle.uc_model.specs.Examples.{base_unit, cold_unit, mw, dollars}
 use Rattle.uc_model.specs.declared.instance.Renewable.{Renewable}
 use Rattle.uc_model.specs.declared.instance.Point.{Point}
 use Rattle.dual_model.specs.NodeValue.{Instance, Node, Thermal, Table, IsNodeValue}
+use Rattle.dual_model.specs.ExactValue.{IsExactNodeValue}
 use Rattle.dual_model.specs.Tree.{root}
 use Rattle.dual_model.specs.declared.node.Fixing.{Fixing}
 use Rattle.dual_model.specs.declared.table.RampRow.{RampRow}
@@ -17,6 +18,8 @@ system_of thermal renewable demand reserves = record {
   reserves = reserves;
   thermal = thermal;
   renewable = renewable;
+  a = 0;
+  b = 0;
 }
 
 -- one unit, for an hour
@@ -156,3 +159,18 @@ scaled_dollars n = pos (n * 1000000 * 1000000)
 -- three watts at no cost, or at a cost of 1 or -1 micro-dollar
 abbrev pub three_watts : ℤ → List Point
 three_watts cost = (record { mw = pos 0; cost = pos 0 }) ∷ (record { mw = pos 3; cost = cost }) ∷ []
+
+-- 60 MW and 5 MW of reserve of a unit of 50 MW, at a price for unserved demand, and at one for missing reserve too
+abbrev pub shedding : Instance
+shedding = record (alone base_unit 60 5) { a = 100 }
+
+abbrev pub lacking : Instance
+lacking = record shedding { b = 20 }
+
+-- a unit that can't ramp down from 20 MW to 10, nor be off
+abbrev pub sinking_unit : Thermal
+sinking_unit = record base_unit { rd = mw 5 }
+
+-- the exact value of the root at the prices
+abbrev pub IsExactRootValue : Instance → (Instance → Table) → ℤ → Type 0
+IsExactRootValue instance prices v = IsExactNodeValue instance root (prices instance) v

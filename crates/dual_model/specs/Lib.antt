@@ -4,12 +4,15 @@ pub mod Fixings
 pub mod Term
 pub mod UnitValue
 pub mod NodeValue
+pub mod ExactValue
+pub mod ValueKind
 pub mod NodeAnswer
 pub mod Tree
 pub mod Cover
 pub mod Certificate
 pub mod Opening
 pub mod Laws
+pub mod LookUps
 pub mod Examples
 pub mod UnitTerms
 pub mod PatternValue

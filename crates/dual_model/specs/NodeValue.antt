@@ -1,11 +1,12 @@
 -- The value V of a node at a table: the Lagrangian bound. Source: the Lagrangian dual function of the
 -- reference model by Knueven, Ostrowski and Watson, with demand (M14), reserve (M15) and the ramps (M11,
--- M12) priced; every number is K times micro-dollars.
-use Rattle.std.specs.Prelude.{◌≡◌, ℕ, zero, ◌<◌, ℤ, pos, ◌+ℤ◌, ◌-ℤ◌, ◌*ℤ◌, neg_ℤ, int_lt, if◌then◌else◌}
-use Rattle.std.specs.Int.{int_max}
+-- M12) priced, in which what may be missing at a price is chosen for each period by itself, within M16 and M17; every
+-- number is K times micro-dollars.
+use Rattle.std.specs.Prelude.{◌≡◌, ℕ, zero, ◌<◌, nat_lt, ℤ, pos, ◌+ℤ◌, ◌-ℤ◌, ◌*ℤ◌, neg_ℤ, int_lt, if◌then◌else◌}
+use Rattle.std.specs.Int.{int_min, int_max}
 use Rattle.uc_model.specs.Sums.{sum_below}
 use Rattle.uc_model.specs.Commitment.{initial_p}
-use Rattle.uc_model.specs.Schedule.{thermal_unit, thermal_count, renewable_count, renewable_minimum, renewable_maximum, demand_at, reserve_at}
+use Rattle.uc_model.specs.Schedule.{thermal_unit, thermal_count, renewable_count, renewable_minimum, renewable_maximum, demand_at, reserve_at, most_shed, most_short}
 pub use Rattle.uc_model.specs.declared.instance.Thermal.{Thermal}
 pub use Rattle.uc_model.specs.declared.instance.Instance.{Instance}
 use Rattle.dual_model.specs.Prices.{pi_at, mu_at, up_at, down_at}
@@ -13,10 +14,26 @@ use Rattle.dual_model.specs.UnitValue.{IsUnitValue}
 pub use Rattle.dual_model.specs.declared.node.Node.{Node}
 pub use Rattle.dual_model.specs.declared.table.Table.{Table}
 
--- pi(t)*D(t) + mu(t)*R(t) over the periods
+-- what a need at a multiplier adds where it may be missing at a price: min(0, K*price - multiplier) times the most that may
+-- be missing, and nothing where it has no price
+abbrev pub shortage_value : ℤ → ℕ → ℤ → ℤ → ℤ
+shortage_value k price multiplier most =
+    if nat_lt 0 price then int_min (pos 0) (k *ℤ pos price -ℤ multiplier) *ℤ most else pos 0
+
+-- what demand and reserve of period t that may be missing add
+abbrev pub shortages_value : Instance → Table → ℕ → ℤ
+shortages_value instance table t =
+    shortage_value table.k instance.a (pi_at table t) (most_shed instance t)
+    +ℤ shortage_value table.k instance.b (mu_at table t) (most_short instance t)
+
+-- pi(t)*D(t) + mu(t)*R(t), and what may be missing of them
+abbrev pub needs_value : Instance → Table → ℕ → ℤ
+needs_value instance table t =
+    pi_at table t *ℤ demand_at instance t +ℤ mu_at table t *ℤ reserve_at instance t +ℤ shortages_value instance table t
+
+-- the same over the periods
 abbrev pub system_value : Instance → Table → ℤ
-system_value instance table =
-    sum_below instance.periods (λ t. pi_at table t *ℤ demand_at instance t +ℤ mu_at table t *ℤ reserve_at instance t)
+system_value instance table = sum_below instance.periods (needs_value instance table)
 
 -- unit g's constant: -up(t)*RU - down(t)*RD over the periods, and (down(1) - up(1))*p(0)
 abbrev pub unit_constant : ℕ → Table → Thermal → ℕ → ℤ

@@ -3,7 +3,7 @@
 -- rays are tried, and in what order, is this project's own choice.
 --
 -- Units and periods count from 0 here.
-use Rattle.std.specs.Prelude.{◌≡◌, ℕ, zero, suc, ◌+◌, ◌-◌, ◌*◌, ◌/◌, ◌%◌, ◌<◌, Bool, false, ◌&&◌, ◌||◌, ◌==◌, nat_lt, List, [], ◌∷◌, ◌++◌, ℤ, pos, neg_ℤ, ◌+ℤ◌, ◌-ℤ◌, int_lt, replicate, slice_set, slice_index_or, if◌then◌else◌}
+use Rattle.std.specs.Prelude.{◌≡◌, ◌≢◌, ℕ, zero, suc, ◌+◌, ◌-◌, ◌*◌, ◌/◌, ◌%◌, ◌<◌, Bool, false, ◌&&◌, ◌||◌, ◌==◌, nat_lt, List, [], ◌∷◌, ◌++◌, ℤ, pos, neg_ℤ, ◌+ℤ◌, ◌-ℤ◌, int_lt, replicate, slice_set, slice_index_or, if◌then◌else◌}
 use Rattle.uc_model.specs.Sums.{bit}
 use Rattle.uc_model.specs.Commitment.{initial_p}
 use Rattle.uc_model.specs.Schedule.{thermal_count, thermal_unit}
@@ -125,6 +125,11 @@ pub record HasNumbersOf (instance : Instance) (t : ℕ) (ray : OpeningRay) (tabl
   pub reserve : (s : ℕ) → s < instance.periods → mu_at table s ≡ (if s == t then ray.reserve else pos 0)
   pub up : (g s : ℕ) → g < thermal_count instance → up_at table g s ≡ (if s == 0 then bit (ray.up (thermal_unit instance g)) else pos 0)
   pub down : (g s : ℕ) → g < thermal_count instance → down_at table g s ≡ (if s == 0 then bit (ray.down (thermal_unit instance g)) else pos 0)
+
+-- ray n is one of those that ask for demand or reserve of a period and name no ramp: too little of either, or of both
+pub record IsShortageRay (periods n : ℕ) : Type 0 where
+  pub within : n < 4 * periods
+  pub wants : n % 4 ≢ 1
 
 -- those of the opening's ray n, from 0
 abbrev pub HasRayNumbers : Instance → ℕ → Table → Type 0

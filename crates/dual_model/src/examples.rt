@@ -1,11 +1,13 @@
 //! Worked examples of the definitions, as contracts: the check computes each of them.
 
-ghost use Rattle.std.specs.Prelude.{[], pos, neg_ℤ, ◌∷◌, true, false};
+ghost use Rattle.std.specs.Prelude.{◌≡◌, [], pos, neg_ℤ, ◌∷◌, true, false};
 ghost use Rattle.uc_model.specs.Examples.{base_unit, mw};
 ghost use Rattle.dual_model.specs.Fixings.{HasEmptyUnit};
+ghost use Rattle.dual_model.specs.UnitValue.{IsUnitValue};
+ghost use Rattle.dual_model.specs.ExactValue.{floored_cost, IsExactUnitValue};
 ghost use Rattle.dual_model.specs.Term.{IsTerm};
 ghost use Rattle.dual_model.specs.Tree.{root};
-ghost use Rattle.dual_model.specs.Examples.{alone, windy, idle, two_units, mixed, energy, ray, ramp_ray, zero_prices, mixed_prices, decided, IsRootValue, IsValueAt, slow_unit, concave_unit, stuck_unit, unstartable_unit, cooling_unit, warm_unit, three_watts, scaled_dollars, MILLION};
+ghost use Rattle.dual_model.specs.Examples.{alone, windy, idle, two_units, mixed, shedding, lacking, energy, hour, ray, ramp_ray, zero_prices, mixed_prices, decided, IsRootValue, IsExactRootValue, IsValueAt, slow_unit, sinking_unit, concave_unit, stuck_unit, unstartable_unit, cooling_unit, warm_unit, three_watts, scaled_dollars, MILLION};
 
 /// Bounds on cost: a table's value is K times micro-dollars.
 pub fn bounds_are_computed()
@@ -20,6 +22,21 @@ pub fn bounds_are_computed()
 
     // every kind of multiplier
     ensures mixed { IsRootValue mixed mixed_prices (scaled_dollars 159) }
+{}
+
+/// Shortages at a price: 60 MW and 5 MW of reserve of a unit of 50 MW.
+pub fn shortages_are_computed()
+    // at the price of unserved demand the bound meets the least cost, and above it falls by what may be unserved
+    ensures met { IsRootValue shedding (hour MILLION (mw 100) (mw 90) []) (scaled_dollars 1950) }
+    ensures passed { IsRootValue shedding (hour MILLION (mw 101) (mw 90) []) (scaled_dollars 1900) }
+    ensures below { IsRootValue shedding (energy (mw 10)) (scaled_dollars 600) }
+
+    // the same with a price for missing reserve
+    ensures both { IsRootValue lacking (hour MILLION (mw 100) (mw 20) []) (scaled_dollars 1600) }
+    ensures both_passed { IsRootValue lacking (hour MILLION (mw 100) (mw 21) []) (scaled_dollars 1600) }
+
+    // the ray that told that 10 MW are short tells nothing any more
+    ensures ray { IsRootValue shedding (ray (pos 1) (pos 0)) (neg_ℤ (mw 50)) }
 {}
 
 /// Rays: a value above 0 leaves no schedule.
@@ -71,4 +88,19 @@ pub fn terms_are_computed()
     // the floor of -4/3, and that of -2/3
     ensures down { IsTerm (three_watts (pos 1)) (pos 1) (neg_ℤ (pos 1)) (pos 0) (pos 2) (neg_ℤ (pos 2)) }
     ensures below_nought { IsTerm (three_watts (neg_ℤ (pos 1))) (pos 1) (pos 0) (pos 0) (pos 2) (neg_ℤ (pos 1)) }
+{}
+
+/// Exact values: a unit at 20 MW that can fall by 5 MW can't be off, though its patterns say that it may.
+pub fn exact_values_are_computed()
+    ensures off { IsUnitValue (alone sinking_unit 30 0) root (zero_prices (alone sinking_unit 30 0)) 0 (pos 0) }
+    ensures kept { IsExactUnitValue (alone sinking_unit 30 0) root (zero_prices (alone sinking_unit 30 0)) 0 (scaled_dollars 150) }
+
+    // 5 MW are too little for it, which no ray without ramps tells of the value V
+    ensures unpriced { IsRootValue (alone sinking_unit 5 0) (ray (neg_ℤ (pos 1)) (pos 0)) (neg_ℤ (mw 5)) }
+    ensures exact { IsExactRootValue (alone sinking_unit 5 0) (ray (neg_ℤ (pos 1)) (pos 0)) (mw 10) }
+
+    // a slope of 1/3 counts as 0 and one of -1/3 as -1, over each denominator
+    ensures up { floored_cost (three_watts (pos 1)) (pos 1) 1 3 ≡ pos 0 }
+    ensures down { floored_cost (three_watts (neg_ℤ (pos 1))) (pos 1) 1 3 ≡ neg_ℤ (pos 3) }
+    ensures halves { floored_cost (three_watts (neg_ℤ (pos 1))) (pos 1) 2 3 ≡ neg_ℤ (pos 3) }
 {}

@@ -1,27 +1,37 @@
 //! The laws that make the value of a node a bound. Each is the contract of a function that does nothing: the
-//! clause quantifies over every instance, node, table and schedule.
+//! clause quantifies over every instance, node, table and schedule; and, where it says `exact`, over both kinds of
+//! value, V and the exact value VE.
 
-ghost use Rattle.dual_model.specs.Laws.{WeakDuality, RaysExclude, ValuesAreUnique, ValuesExist, ValuesExistAtSchedules, ChildBound, LeavesPart, CoversBound, CoversExclude, CertificatesClaimTruly};
+ghost use Rattle.std.specs.Prelude.{Bool};
+ghost use Rattle.dual_model.specs.Laws.{WeakDuality, RaysExclude, BlockedUnitsExclude, ValuesAreUnique, ValuesExist, ValuesExistAtSchedules, ChildBound, ShortageRaysExcludeNothing, LeavesPart, CoversBound, CoversExclude, CertificatesClaimTruly};
+ghost use Rattle.dual_model.specs.LookUps.{LookUpsAgree};
 
 /// Weak duality. For each lawful instance, each node and each table of the instance's size whose scale and
-/// whose multipliers of inequalities are at least 0: the node has a value V there wherever a schedule obeys
-/// and agrees with it, and over every denominator q, `q*V <= K*cost` for each such schedule. With K = 0 and
-/// V > 0 there is none.
+/// whose multipliers of inequalities are at least 0: the node has a value v of each kind there wherever a schedule
+/// obeys and agrees with it, and over every denominator q, `q*v <= K*cost` for each such schedule. With K = 0 and
+/// v > 0 there is none, nor is there one where some unit is blocked: has no pattern, or no schedule of its own.
 pub fn weak_duality()
-    ensures bound { WeakDuality }
-    ensures ray { RaysExclude }
-    ensures value { ValuesExistAtSchedules }
+    ensures bound { (exact : Bool) → WeakDuality exact }
+    ensures ray { (exact : Bool) → RaysExclude exact }
+    ensures value { (exact : Bool) → ValuesExistAtSchedules exact }
+    ensures blocked { (exact : Bool) → BlockedUnitsExclude exact }
 {}
 
-/// A node has at most one value at a table, and has one unless some unit has no pattern there.
+/// A node has at most one value of a kind at a table, and has one unless some unit is blocked there.
 pub fn value_laws()
-    ensures unique { ValuesAreUnique }
-    ensures exists { ValuesExist }
+    ensures unique { (exact : Bool) → ValuesAreUnique exact }
+    ensures exists { (exact : Bool) → ValuesExist exact }
 {}
 
-/// A child's value at its parent's table is at least the parent's, or some unit has no pattern at the child.
+/// A child's value at its parent's table is at least the parent's, or some unit is blocked at the child.
 pub fn child_bound()
-    ensures { ChildBound }
+    ensures { (exact : Bool) → ChildBound exact }
+{}
+
+/// Where unserved demand and missing reserve both have a price, the opening's rays of demand and reserve that name no ramp
+/// have a value of at most 0: that there is no schedule never rests on a shortage alone.
+pub fn shortage_rays_exclude_nothing()
+    ensures { ShortageRaysExcludeNothing }
 {}
 
 /// Every schedule agrees with exactly one leaf of a tree. So, where the tables of its leaves are lawful, a
@@ -36,4 +46,9 @@ pub fn cover_law()
 /// What a certificate that holds claims is true: no schedule costs less than its bound, or there is none.
 pub fn certificate_law()
     ensures { CertificatesClaimTruly }
+{}
+
+/// A look-up among the rows of one unit finds what a look-up from the front of all rows does.
+pub fn look_ups_agree()
+    ensures { LookUpsAgree }
 {}

@@ -5,11 +5,13 @@
 //! of its own. The definitions stand in `specs/`, and the laws are the contracts of the module `laws`.
 #![tactic(auto)]
 
+pub mod exact;
 pub mod examples;
 pub mod laws;
 pub mod limits;
 pub mod moves;
 pub mod node;
+mod places;
 pub mod table;
 pub mod valued;
 

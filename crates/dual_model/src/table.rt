@@ -1,7 +1,8 @@
 //! Price tables: a multiplier for each coupling rule of the model.
 
-ghost use Rattle.std.specs.Prelude.{◌≡◌, IfOk};
+ghost use Rattle.std.specs.Prelude.{◌≡◌, ℕ, ◌≤◌, length, IfOk};
 
+use crate::places::places_of;
 use std::alloc::Global;
 use std::marker::Model;
 use uc_model::{List, NoMemory};
@@ -18,7 +19,7 @@ pub struct RampRow {
 
 /// Prices: the number n stands for n / `k` micro-dollars per watt, and `k` = 0 marks a ray. `pi` prices
 /// demand (M14) and `mu` reserve (M15) in each period; `ramps` has the rows that are not all 0, by unit and
-/// then by period, for a system of `units` thermal units.
+/// then by period, for a system of `units` thermal units. Beside them stands where each unit's rows begin.
 ///
 /// Contracts see a table as the record of its numbers, which are well formed: each list of prices has one
 /// spelling.
@@ -29,6 +30,8 @@ pub struct Table {
     pi: List<i64>,
     mu: List<i64>,
     ramps: List<RampRow>,
+    // For each unit up to the last that has a row: how many rows the units before it have.
+    places: List<usize>,
 }
 
 impl Model for Table {
@@ -36,15 +39,16 @@ impl Model for Table {
 
     ghost Value = { PriceTable };
 
-    ghost use Rattle.dual_model.specs.Prices.{IsWellFormed};
+    ghost use Rattle.dual_model.specs.Prices.{ArePlacesOf, IsWellFormed};
 
     ghost view = { λ t. record { units = t.units; k = t.k; pi = t.pi; mu = t.mu; ramps = t.ramps } };
 
-    ghost invariant = { λ t. IsWellFormed (record { units = t.units; k = t.k; pi = t.pi; mu = t.mu; ramps = t.ramps }) };
+    ghost invariant = { λ t. IsWellFormed (record { units = t.units; k = t.k; pi = t.pi; mu = t.mu; ramps = t.ramps })
+        × ArePlacesOf t.places t.ramps };
 }
 
 impl Table {
-    ghost use Rattle.dual_model.specs.Prices.{IsWellFormed};
+    ghost use Rattle.dual_model.specs.Prices.{AreRising, IsWellFormed, row_of, rows_before, unit_rows as rows_of};
 
     /// The table of these numbers: `pi` and `mu` have a number for each period, and `ramps` a row for each
     /// cell whose ramp multipliers are not both 0, by unit and then by period. It answers `NoMemory` only
@@ -66,6 +70,7 @@ impl Table {
             pi: copied(alloc, pi)?,
             mu: copied(alloc, mu)?,
             ramps: copied(alloc, ramps)?,
+            places: places_of(alloc, ramps)?,
         })
     }
 
@@ -105,6 +110,31 @@ impl Table {
         self.ramps.as_slice()
     }
 
+    /// The rows of unit `g`, from 0, by period: what lies between its place and the next unit's. A look-up among them is
+    /// the look-up among all.
+    pub fn unit_rows(&self, g: u32) -> &[RampRow]
+        ensures rows { result.now ≡ rows_of self.now.ramps g }
+        ensures look_up { (t : ℕ) → row_of result.now g t ≡ row_of self.now.ramps g t }
+        ensures rising { AreRising result.now }
+    {
+        let start = self.place(g as usize);
+        let end = self.place(g as usize + 1);
+        &self.ramps.as_slice()[start..end]
+    }
+
+    // The number of rows of the units before unit `g`.
+    fn place(&self, g: usize) -> usize
+        ensures value { result ≡ rows_before self.now.ramps g }
+        ensures within { result ≤ length self.now.ramps }
+    {
+        let places = self.places.as_slice();
+        if g < places.len() {
+            places[g]
+        } else {
+            self.ramps.as_slice().len()
+        }
+    }
+
     /// An equal table. It answers `NoMemory` only where memory is refused.
     pub fn copy(&self, alloc: Global) -> Result<Table, NoMemory>
         ensures { IfOk result (λ table. table ≡ self.now) }
@@ -115,6 +145,7 @@ impl Table {
             pi: copied(alloc, self.pi.as_slice())?,
             mu: copied(alloc, self.mu.as_slice())?,
             ramps: copied(alloc, self.ramps.as_slice())?,
+            places: copied(alloc, self.places.as_slice())?,
         })
     }
 }

@@ -237,8 +237,8 @@ instance_inside i ms =
     let renewable = units_agree RenewableGenerators ms (λ (u : Renewable). u.name) (IsRenewableOf true i.periods) (IsRenewableOf false i.periods) (rounded_renewable i.periods) (renewable_agrees i.periods) i.renewable in
     let all = two (three periods demand reserves) (two thermal renewable) in
     record {
-      is = λ h. let a = all.is ((h.periods, h.demand, h.reserves), (h.thermal, h.renewable)) in (record { periods = a.0.0.0; demand = a.0.0.1; reserves = a.0.0.2; thermal = a.0.1.0; renewable = a.0.1.1 }, omega (arith, a.1));
-      again = λ h z. let a = all.again ((h.periods, h.demand, h.reserves), (h.thermal, h.renewable)) (omega (arith, z)) in record { periods = a.0.0; demand = a.0.1; reserves = a.0.2; thermal = a.1.0; renewable = a.1.1 };
+      is = λ h. let a = all.is ((h.periods, h.demand, h.reserves), (h.thermal, h.renewable)) in (record { periods = a.0.0.0; demand = a.0.0.1; reserves = a.0.0.2; thermal = a.0.1.0; renewable = a.0.1.1; unpriced = h.unpriced }, omega (arith, a.1));
+      again = λ h z. let a = all.again ((h.periods, h.demand, h.reserves), (h.thermal, h.renewable)) (omega (arith, z)) in record { periods = a.0.0; demand = a.0.1; reserves = a.0.2; thermal = a.1.0; renewable = a.1.1; unpriced = h.unpriced };
     }
 
 instance_agrees : (v : Value) (i : Instance) → Agree (IsInstanceOf true v i) (IsInstanceOf false v i) (rounded_instance i.periods v)

@@ -11,6 +11,8 @@ use Rattle.decimal_json.specs.Value.{Decimal, Value}
 use Rattle.instance.specs.Fields.{Demand, Field, PiecewiseProduction, PiecewiseProductionCost, PiecewiseProductionMw, PowerOutputMaximum, PowerOutputMinimum, PowerOutputT0, RampDownLimit, RampShutdownLimit, RampStartupLimit, RampUpLimit, RenewableGenerators, Reserves, Startup, StartupCost, StartupLag, ThermalGenerators, TimeDownMinimum, TimeDownT0, TimePeriods, TimeUpMinimum, TimeUpT0, key_of, number_in, entries_in, pairs_in, field_of}
 use Rattle.instance.specs.Scaled.{MILLION, scaled, is_rounded}
 use Rattle.instance.specs.InstanceOf.{Instance, MAX_POINTS, MAX_START_ROWS, MAX_TIME, MAX_UNITS, Renewable, Thermal, Pairs, Has, IsObject, IsNumber, IsPowerOf, IsCostOf, IsTimeOf, IsPeriodsOf, IsPowersOf, AreRowsOf, IsStartRowOf, IsPointOf, IsRising, IsLimitOf, IsMinimumTimeOf, IsThermalOf, IsRenewableOf, AreUnitsOf, HasFields, IsInstanceOf}
+use Rattle.uc_model.proofs.Ring.{linear}
+use Rattle.uc_model.proofs.Shortages.{unpriced}
 use Rattle.uc_model.specs.declared.instance.Point.{Point}
 use Rattle.instance.proofs.StepLaws.{some_is, some_split}
 use Rattle.instance.proofs.UnitLaws.{Above, written_time, instance_is, instance_again}
@@ -159,6 +161,9 @@ fields_lawful exact i ms h =
       thermal = λ g lt. let a = thermal.1 g no_unit lt in thermal_lawful exact (thermal_unit i g) a.0 a.1;
       renewable_units = renewable.0;
       renewable = λ w lt. let a = renewable.1 w (record { name = []; minimum = []; maximum = [] }) lt in renewable_lawful exact i w a.0 a.1;
+      shed_price = omega (arith, h.unpriced.0);
+      short_price = omega (arith, h.unpriced.1);
+      shortages = omega (arith, linear, unpriced i i.a i.b h.unpriced.0 h.unpriced.1);
     }
 
 pub instance_lawful : (exact : Bool) (v : Value) (i : Instance) → IsInstanceOf exact v i → IsLawfulInstance i

@@ -654,17 +654,22 @@ totals-exactly exact ms =
     told parts (λ x. HasTotals exact x ms)
     (λ x w. subst (λ (y : Totals). HasTotals exact y ms) w.2.4 (w.1, w.2.2, w.2.3)) (λ x h. (x.periods, h.0, (x.demand, x.reserves, h.1, h.2, refl)))
 
+-- an instance without prices of shortages is told by the rest
+without_prices : (i : Instance) → i.a ≡ 0 → i.b ≡ 0
+    → record { periods = i.periods; demand = i.demand; reserves = i.reserves; thermal = i.thermal; renewable = i.renewable; a = 0; b = 0 } ≡ i
+without_prices i no_a no_b = λ k. record { periods = i.periods; demand = i.demand; reserves = i.reserves; thermal = i.thermal; renewable = i.renewable; a = sym no_a k; b = sym no_b k }
+
 abbrev fields_read : Bool → Pairs → Result Instance FieldRefusal
 fields_read exact ms = outside (totals_at exact ms) >>= λ totals. thermal_units_at exact ms >>= λ thermal. renewable_units_at exact totals.periods ms >>= λ renewable.
-    Ok (record { periods = totals.periods; demand = totals.demand; reserves = totals.reserves; thermal = thermal; renewable = renewable })
+    Ok (record { periods = totals.periods; demand = totals.demand; reserves = totals.reserves; thermal = thermal; renewable = renewable; a = 0; b = 0 })
 
 fields-exactly : (exact : Bool) (ms : Pairs) → Exactly (fields_read exact ms) (λ i. HasFields exact i ms)
 fields-exactly exact ms =
-    let make : Totals → List Thermal → List Renewable → Instance = λ totals thermal renewable. record { periods = totals.periods; demand = totals.demand; reserves = totals.reserves; thermal = thermal; renewable = renewable } in
+    let make : Totals → List Thermal → List Renewable → Instance = λ totals thermal renewable. record { periods = totals.periods; demand = totals.demand; reserves = totals.reserves; thermal = thermal; renewable = renewable; a = 0; b = 0 } in
     let parts = three-exactly (in_unit-exactly 0 [] (totals_at exact ms) (λ x. HasTotals exact x ms) (totals-exactly exact ms)) (λ _ _. thermal_units-exactly exact ms) (λ totals _ _. renewable_units-exactly exact totals.periods ms) make in
     told parts (λ i. HasFields exact i ms)
-    (λ i w. subst (λ (x : Instance). HasFields exact x ms) w.2.4 (record { periods = w.1.0; demand = w.1.1; reserves = w.1.2; thermal = w.2.2; renewable = w.2.3 }))
-    (λ i h. (record { periods = i.periods; demand = i.demand; reserves = i.reserves }, (h.periods, h.demand, h.reserves), (i.thermal, i.renewable, h.thermal, h.renewable, refl)))
+    (λ i w. subst (λ (x : Instance). HasFields exact x ms) w.2.4 (record { periods = w.1.0; demand = w.1.1; reserves = w.1.2; thermal = w.2.2; renewable = w.2.3; unpriced = (refl, refl) }))
+    (λ i h. (record { periods = i.periods; demand = i.demand; reserves = i.reserves }, (h.periods, h.demand, h.reserves), (i.thermal, i.renewable, h.thermal, h.renewable, without_prices i h.unpriced.0 h.unpriced.1)))
 
 instance-exactly : (exact : Bool) (v : Value) → Exactly (instance_at exact v) (λ i. IsInstanceOf exact v i)
 unfolding instance_at

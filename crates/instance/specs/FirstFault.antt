@@ -355,7 +355,7 @@ instance_at exact v = do
   totals ← outside (totals_at exact ms)
   thermal ← thermal_units_at exact ms
   renewable ← renewable_units_at exact totals.periods ms
-  Ok (record { periods = totals.periods; demand = totals.demand; reserves = totals.reserves; thermal = thermal; renewable = renewable })
+  Ok (record { periods = totals.periods; demand = totals.demand; reserves = totals.reserves; thermal = thermal; renewable = renewable; a = 0; b = 0 })
 
 -- ---- How many of the numbers of an instance file that are read are rounded.
 -- 1 for a number that is rounded

@@ -113,12 +113,14 @@ abbrev pub AreUnitsOf : {A : Type 0} → (A → List ℕ) → (A → Pairs → T
 AreUnitsOf name IsUnit units v =
     IsObject v (λ ms. (length ms ≤ MAX_UNITS) × AllZip (λ (m : List ℕ × Value) unit. (name unit ≡ m.0) × IsObject m.1 (IsUnit unit)) ms units)
 
+-- a file gives no price at which demand may stay unserved, or reserve be missing
 pub record HasFields (exact : Bool) (instance : Instance) (ms : Pairs) : Type 0 where
   pub periods : Has TimePeriods ms (IsPeriodsOf exact instance.periods)
   pub demand : Has Demand ms (IsPowersOf exact instance.periods instance.demand)
   pub reserves : Has Reserves ms (IsPowersOf exact instance.periods instance.reserves)
   pub thermal : Has ThermalGenerators ms (AreUnitsOf (λ (u : Thermal). u.name) (IsThermalOf exact) instance.thermal)
   pub renewable : Has RenewableGenerators ms (AreUnitsOf (λ (u : Renewable). u.name) (IsRenewableOf exact instance.periods) instance.renewable)
+  pub unpriced : (instance.a ≡ 0) × (instance.b ≡ 0)
 
 -- The value stands for the instance.
 abbrev pub IsInstanceOf : Bool → Value → Instance → Type 0

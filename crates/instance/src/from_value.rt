@@ -58,6 +58,8 @@ fn read(alloc: Global, json: &Json, exact: bool) -> Result<(Instance, u64), Inst
         reserves: totals.reserves,
         thermal: List::from_vec(thermal),
         renewable: List::from_vec(renewable),
+        a: 0,
+        b: 0,
     };
     Ok((instance, reader.rounded))
 }

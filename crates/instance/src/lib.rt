@@ -11,6 +11,7 @@ mod placed;
 mod reader;
 mod rounding;
 mod scaled;
+mod shortages;
 
 pub use fault::{Fault, InstanceFault};
 pub use from_bytes::{ReadFault, read_instance};
@@ -21,3 +22,4 @@ pub use laws::{
     numbers_that_say_the_same_are_held_the_same,
 };
 pub use rounding::{exact_instances_have_no_rounded_number, scaled_numbers_are_the_nearest};
+pub use shortages::penalize;

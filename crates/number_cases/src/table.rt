@@ -1,6 +1,6 @@
 //! Tables of prices: their numbers, and the values of roots at them.
 
-ghost use Rattle.std.specs.Prelude.{◌<◌, ◌≤◌};
+ghost use Rattle.std.specs.Prelude.{◌≡◌, ◌<◌, ◌≤◌};
 ghost use Rattle.uc_model.specs.Limits.{IsLawfulInstance};
 ghost use Rattle.uc_model.specs.PrintedSchedule.{HasShapeOf, printed_denominator, printed_schedule};
 ghost use Rattle.uc_model.specs.Rules.{Obeys};
@@ -70,6 +70,7 @@ fn ray_text(alloc: Global, instance: &Instance, n: u32) -> Answer
 pub(crate) fn marginal_text(alloc: Global, instance: &Instance, printed: &Printed) -> Answer
     requires lawful { IsLawfulInstance instance.now }
     requires shape { HasShapeOf instance.now printed.now }
+    requires whole { printed.now.denominator ≡ 1 }
     requires obeys { let q = printed_denominator instance.now printed.now in Obeys instance.now q (printed_schedule instance.now printed.now q) }
 {
     priced_text(alloc, instance, &marginal(alloc, instance, printed)?)

@@ -66,7 +66,7 @@ fn put_output(text: &mut String, curve: &Curve, p: i64) -> Result<(), AllocError
     write!(
         text,
         "cost {} from {}:{}",
-        curve.ceil_at(p),
+        curve.ceil_at(p, 1),
         left.mw,
         left.cost
     )?;

@@ -1,7 +1,7 @@
 -- The rays of the opening: whether one of them shows that no schedule exists. This project's own.
 --
 -- Rays count from 0 here.
-use Rattle.std.specs.Prelude.{ℕ, ◌<◌}
+use Rattle.std.specs.Prelude.{ℕ, ◌<◌, false}
 pub use Rattle.uc_model.specs.declared.instance.Instance.{Instance}
 use Rattle.dual_model.specs.Cover.{HasPositiveValue}
 use Rattle.dual_model.specs.Opening.{ray_count, ray_table}
@@ -9,7 +9,7 @@ use Rattle.dual_model.specs.Tree.{root}
 
 -- ray n leaves no schedule
 abbrev pub IsRayPositive : Instance → ℕ → Type 0
-IsRayPositive instance n = HasPositiveValue instance root (ray_table instance n)
+IsRayPositive instance n = HasPositiveValue false instance root (ray_table instance n)
 
 -- no ray before ray n does
 abbrev pub HasNoRayBelow : Instance → ℕ → Type 0

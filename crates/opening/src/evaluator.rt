@@ -65,6 +65,7 @@ impl<'a> Evaluator<'a> {
     /// The table of a schedule's marginal prices. The only error is `NoMemory`.
     pub fn marginal(&self, alloc: Global, printed: &Printed) -> Result<Table, NoMemory>
         requires shape { HasShapeOf self.now printed.now }
+        requires whole { printed.now.denominator ≡ 1 }
         requires obeys { let q = printed_denominator self.now printed.now in Obeys self.now q (printed_schedule self.now printed.now q) }
         ensures table { IfOk result (IsMarginalTable self.now printed.now) }
         ensures lawful { IfOk result (IsLawfulTable self.now) }

@@ -54,6 +54,7 @@ pub fn dispatched_root(
 ) -> Result<Priced, NoMemory>
     requires patterns { HasEachPattern evaluator.old }
     requires shape { HasShapeOf evaluator.old printed.now }
+    requires whole { printed.now.denominator ≡ 1 }
     requires obeys { let q = printed_denominator evaluator.old printed.now in Obeys evaluator.old q (printed_schedule evaluator.old printed.now q) }
     ensures kept { evaluator.new ≡ evaluator.old }
     ensures table { IfOk result (λ priced. IsGreaterTable evaluator.old printed.now priced.table priced.value) }

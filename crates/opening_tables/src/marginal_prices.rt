@@ -18,12 +18,13 @@ use dual_model::Table;
 use std::alloc::Global;
 use uc_model::{Cell, Instance, NoMemory, Printed, floor_div, scaled};
 
-/// The table of a dispatch that obeys: the price of demand is in each period the greatest slope, on the left of its output, of
+/// The table of a dispatch in whole watts that obeys: the price of demand is in each period the greatest slope, on the left of its output, of
 /// a unit that is on above its minimum, in whole numbers of the scale of a million, rounded down and kept within the limit, and
 /// 0 where there is no such unit. All other prices are 0. The only error is `NoMemory`.
 pub fn marginal(alloc: Global, instance: &Instance, printed: &Printed) -> Result<Table, NoMemory>
     requires lawful { IsLawfulInstance instance.now }
     requires shape { HasShapeOf instance.now printed.now }
+    requires whole { printed.now.denominator ≡ 1 }
     requires obeys { let q = printed_denominator instance.now printed.now in Obeys instance.now q (printed_schedule instance.now printed.now q) }
     ensures table { IfOk result (IsMarginalTable instance.now printed.now) }
     ensures lawful { IfOk result (IsLawfulTable instance.now) }
@@ -42,6 +43,7 @@ pub fn marginal_in(
     requires lawful { IsLawfulInstance instance.now }
     requires curves { AreCurvesOf instance.now curves.now }
     requires shape { HasShapeOf instance.now printed.now }
+    requires whole { printed.now.denominator ≡ 1 }
     requires obeys { let q = printed_denominator instance.now printed.now in Obeys instance.now q (printed_schedule instance.now printed.now q) }
     ensures table { IfOk result (IsMarginalTable instance.now printed.now) }
     ensures lawful { IfOk result (IsLawfulTable instance.now) }

@@ -1,8 +1,9 @@
 -- Rows that rise by unit and then by period: what stands before a cell, and which row is the cell's.
-use Rattle.std.proofs.Common.{◌≡◌, ℕ, zero, suc, ◌<◌, ◌≤◌, ◌⊎◌, ⊎_elim, inl, inr, Bool, true, false, ◌&&◌, List, [], ◌∷◌, length, refl, sym, subst, ◌∙◌, arith, pos, IsTrue, ◌==◌}
+use Rattle.std.proofs.Common.{◌≡◌, ℕ, zero, suc, ◌<◌, ◌≤◌, ◌⊎◌, ⊎_elim, inl, inr, Bool, true, false, ◌&&◌, List, [], ◌∷◌, length, refl, sym, ap, subst, ◌∙◌, arith, pos, IsTrue, ◌==◌}
 use Rattle.std.proofs.lemmas.Bool.{and_parts, and_from, eqb-true, eq-eqb, cond-true, cond-false}
 use Rattle.dual_model.specs.Prices.{row_of, IsRowBefore}
-use Rattle.ramp_duals.specs.RampRows.{RampRow, AreRising, row_in, IsBefore, IsPlace}
+use Rattle.ramp_duals.specs.RampRows.{RampRow, Table, AreRising, row_in, IsBefore, IsPlace, AreOf, AreOfTable}
+use Rattle.ramp_duals.specs.declared.multipliers.Multipliers.{Multipliers}
 use Rattle.uc_model.proofs.Sums.{below_or_last}
 
 -- a row before another one that stands before a cell stands before it too
@@ -134,3 +135,12 @@ next_place rows rising g t place next e is below here = record {
 pub earlier_none : (rows : List RampRow) (g t place : ℕ) → IsPlace rows g t place
     → (i : ℕ) → i < place → IsTrue (IsOf (row_in rows i) g t) → ⊥
 earlier_none rows g t place is i l = before-not_of (row_in rows i) g t (is.before i l)
+
+-- ---- the rows of a unit
+-- what is found among rows by which look-ups are the table's is what the table has
+pub in_table : (table : Table) (rows : List RampRow) (g t : ℕ) (found : Multipliers)
+    → ((k : ℕ) → row_of rows g k ≡ row_of table.ramps g k) → AreOf rows g t found → AreOfTable table g t found
+in_table table rows g t found same is = record {
+  up = is.up ∙ ap (λ (row : RampRow). row.up) (same t);
+  down = is.down ∙ ap (λ (row : RampRow). row.down) (same t);
+}

@@ -1,15 +1,12 @@
--- Where a cell stands among a table's ramp rows, which rise by unit and then by period: how the rows of one unit are
--- found without a walk over all of them. This project's own form of a table.
+-- Where a cell stands among ramp rows that rise by unit and then by period, as those of one unit do: how its multipliers are
+-- found without a walk. This project's own form of a table.
 use Rattle.std.specs.Prelude.{◌≡◌, ℕ, suc, ◌<◌, ◌≤◌, ◌⊎◌, List, ℤ, pos, length, slice_index_or}
-use Rattle.dual_model.specs.Prices.{pi_at, row_of, IsRowBefore}
+use Rattle.dual_model.specs.Prices.{pi_at, up_at, down_at, row_of}
+pub use Rattle.dual_model.specs.Prices.{AreRising}
 use Rattle.dual_model.specs.Term.{output_price, reserve_price}
 pub use Rattle.dual_model.specs.declared.table.Table.{Table}
 pub use Rattle.dual_model.specs.declared.table.RampRow.{RampRow}
 use Rattle.ramp_duals.specs.declared.multipliers.Multipliers.{Multipliers}
-
--- the rows rise by unit and then by period
-abbrev pub AreRising : List RampRow → Type 0
-AreRising rows = (i : ℕ) (d : RampRow) → suc i < length rows → IsRowBefore (slice_index_or rows i d) (slice_index_or rows (suc i) d)
 
 -- row i; past the last one a row of nothing
 abbrev pub row_in : List RampRow → ℕ → RampRow
@@ -30,6 +27,11 @@ pub record AreOf (rows : List RampRow) (g t : ℕ) (found : Multipliers) : Type 
   pub up : found.up ≡ (row_of rows g t).up
   pub down : found.down ≡ (row_of rows g t).down
   pub next : IsPlace rows g (suc t) found.next
+
+-- the multipliers that the table has for the cell
+pub record AreOfTable (table : Table) (g t : ℕ) (found : Multipliers) : Type 0 where
+  pub up : found.up ≡ up_at table g t
+  pub down : found.down ≡ down_at table g t
 
 -- the prices of unit g in period t: of output, of reserve and of demand
 pub record IsRowOf (table : Table) (g t : ℕ) (row : ℤ × ℤ × ℤ) : Type 0 where

@@ -5,7 +5,7 @@ ghost use Rattle.uc_model.specs.declared.instance.Instance.{Instance};
 ghost use Rattle.dual_model.specs.Prices.{IsWithinLimits};
 ghost use Rattle.dual_model.specs.TableValue.{AreRowsOf, IsLawfulRow, row_at};
 ghost use Rattle.dual_model.specs.Term.{output_price, reserve_price};
-ghost use Rattle.ramp_duals.specs.RampRows.{AreOf, IsRowOf};
+ghost use Rattle.ramp_duals.specs.RampRows.{AreOfTable, IsRowOf};
 
 use crate::multipliers::{Multipliers, following, multipliers_of};
 use crate::wide::{gap, wide};
@@ -14,7 +14,7 @@ use dual_model::limits::MAX_UNIT_PRICE;
 use uc_model::{difference, sum};
 
 /// The prices of output above the minimum and of reserve, A and B, of thermal unit `g` in period `t`, both from 0, at
-/// the scale of the table. Takes a time that grows as the logarithm of the number of the table's ramp rows.
+/// the scale of the table. Takes a time that grows as the logarithm of the number of the unit's ramp rows.
 pub fn coefficients(table: &Table, g: u32, t: u32) -> (i128, i128)
     requires period { t < length table.now.pi }
     ensures output { result.0 ≡ output_price table.now g t }
@@ -23,22 +23,24 @@ pub fn coefficients(table: &Table, g: u32, t: u32) -> (i128, i128)
         → (unsigned_abs result.0 ≤ MAX_UNIT_PRICE) × (unsigned_abs result.1 ≤ MAX_UNIT_PRICE) }
 {
     let t = t as usize;
-    let now = multipliers_of(table.ramps(), g, t);
-    let next = following(table.ramps(), g, t, now);
+    let ramps = table.unit_rows(g);
+    let now = multipliers_of(ramps, g, t);
+    let next = following(ramps, g, t, now);
     let row = row(table, g, t, &now, &next);
     (row.0, row.1)
 }
 
 /// Writes the prices of thermal unit `g`, from 0, in each period into `rows`: A, B and the price of demand. Takes a
-/// time that grows as the number of periods, and as the logarithm of the number of the table's ramp rows.
+/// time that grows as the number of periods, whatever ramp rows other units have.
 pub fn fill(rows: &mut [(i128, i128, i128)], table: &Table, g: u32)
     requires room { length rows.old ≡ length table.now.pi }
     ensures rows { (instance : Instance) → instance.periods ≡ length table.now.pi → AreRowsOf instance table.now g rows.new }
     ensures size { IsWithinLimits table.now → (t : ℕ) → t < length table.now.pi → IsLawfulRow (row_at rows.new t) }
 {
-    let mut now = multipliers_of(table.ramps(), g, 0);
+    let ramps = table.unit_rows(g);
+    let mut now = multipliers_of(ramps, g, 0);
     for t in 0..rows.len() {
-        let next = following(table.ramps(), g, t, now);
+        let next = following(ramps, g, t, now);
         rows[t] = row(table, g, t, &now, &next);
         now = next;
     }
@@ -47,8 +49,8 @@ pub fn fill(rows: &mut [(i128, i128, i128)], table: &Table, g: u32)
 // The prices of unit g in period t, from its multipliers there and in the next period.
 fn row(table: &Table, g: u32, t: usize, now: &Multipliers, next: &Multipliers) -> (i128, i128, i128)
     requires period { t < length table.now.pi }
-    requires now { AreOf table.now.ramps g t now.now }
-    requires next { AreOf table.now.ramps g (suc t) next.now }
+    requires now { AreOfTable table.now g t now.now }
+    requires next { AreOfTable table.now g (suc t) next.now }
     ensures { IsRowOf table.now g t result }
 {
     let demand = price_in(table.pi(), t);

@@ -1,4 +1,4 @@
-//! The place of a cell among a table's ramp rows, by halving.
+//! The place of a cell among a unit's ramp rows, by halving.
 
 ghost use Rattle.std.specs.Prelude.{◌≡◌, ◌<◌, true, false, IsTrue};
 ghost use Rattle.ramp_duals.specs.RampRows.{AreRising, IsBefore, IsPlace};

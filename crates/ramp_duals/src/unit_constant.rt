@@ -21,12 +21,13 @@ pub fn constant(table: &Table, unit: &Thermal, g: u32) -> i128
     ensures value { result ≡ unit_constant (length table.now.pi) table.now unit.now g }
     ensures size { IsWithinLimits table.now → unsigned_abs result ≤ MAX_CONSTANT }
 {
-    let first = multipliers_of(table.ramps(), g, 0);
+    let ramps = table.unit_rows(g);
+    let first = multipliers_of(ramps, g, 0);
     let mut now = first;
     let mut total = 0_i128;
     for t in 0..table.pi().len() {
         total = sum(total, ramp_part(unit, &now));
-        now = following(table.ramps(), g, t, now);
+        now = following(ramps, g, t, now);
     }
     sum(total, initial_part(unit, &first))
 }

@@ -1,6 +1,6 @@
 -- The line on standard error for a fault that ends the program, and the exit status. This project's own form. Units and periods
 -- count from 1 in the text, and from 0 in the types.
-use Rattle.std.specs.Prelude.{ℕ, zero, suc, Bool, true, false, ◌||◌, List, [], ◌∷◌, ℤ, codes, ◌==◌, if◌then◌else◌}
+use Rattle.std.specs.Prelude.{ℕ, zero, suc, Bool, true, false, nat_lt, List, [], ◌∷◌, ℤ, codes, ◌==◌, if◌then◌else◌}
 use Rattle.uc_model.specs.Decimal.{whole_text}
 use Rattle.uc_model.specs.Money.{money_text}
 use Rattle.uc_model.specs.declared.field.Field.{Field}
@@ -129,11 +129,11 @@ abbrev pub period_rule_line : ℕ → ℕ → List ℕ
 period_rule_line rule period =
     joined (codes "certificate: C2 M" ∷ whole_text rule ∷ codes " period " ∷ whole_text (suc period) ∷ codes "\n" ∷ [])
 
--- rule 13 speaks of a renewable unit, 14 and 15 of a whole period, the others of a thermal unit
+-- rule 13 speaks of a renewable unit, 14 to 17 of a whole period, the others of a thermal unit
 abbrev pub rule_line : ℕ → ℕ → ℕ → List ℕ
 rule_line rule unit period =
     if rule == 13 then unit_rule_line rule (codes " renewable ") unit period
-    else (if (rule == 14) || (rule == 15) then period_rule_line rule period
+    else (if nat_lt 13 rule then period_rule_line rule period
     else unit_rule_line rule (codes " thermal ") unit period)
 
 abbrev pub costs_line : ℤ → ℤ → List ℕ

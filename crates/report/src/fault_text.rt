@@ -191,7 +191,7 @@ fn put_rule<O: Out>(out: &mut O, rule: u8, unit: usize, period: usize)
 {
     if rule == 13 {
         put_unit_rule(out, rule, b" renewable ", unit, period);
-    } else if rule == 14 || rule == 15 {
+    } else if rule >= 14 {
         put_period_rule(out, rule, period);
     } else {
         put_unit_rule(out, rule, b" thermal ", unit, period);

@@ -1,10 +1,11 @@
 -- The rules on commitments are M1 to M5 and M7, in the order in which they are tried.
-use Rattle.std.proofs.Common.{◌≡◌, ℕ, zero, suc, ◌<◌, ◌≤◌, ◌⊎◌, inl, inr, ⊎_elim, List, length, refl, sym, subst, ◌∙◌, arith, get_or, true≢false}
+use Rattle.std.proofs.Common.{◌≡◌, ℕ, zero, suc, ◌<◌, ◌≤◌, ◌⊎◌, inl, inr, ⊎_elim, List, length, refl, sym, subst, ◌∙◌, arith, get_or, true≢false, ℤ, IsTrue}
 use Rattle.uc_model.specs.Rules.{rule_number}
 use Rattle.schedule_check.specs.CommitmentRules.{Cell, Thermal, IsOnCommitments, RowKeeps, BreaksFirst}
 use Rattle.schedule_check.specs.inside.Failures.{FailsFirstAt}
-use Rattle.schedule_check.specs.WholeWatts.{InitialDown, InitialStop, InitialUp, MinimumDown, MinimumUp, MustRun, UnitRule, rule_of, unit_holds, unit_periods}
+use Rattle.schedule_check.specs.WholeWatts.{InitialDown, InitialStop, InitialUp, MinimumDown, MinimumUp, MustRun, UnitRule, over, rule_of, unit_holds, unit_holds_by, unit_periods}
 use Rattle.schedule_check.specs.declared.unit_rule.TheConstants.{COMMITMENT_RULES}
+use Rattle.schedule_check.proofs.Measures.{over_one}
 
 -- the rule tried in turn k, from 0
 abbrev pub turn : ℕ → UnitRule
@@ -74,3 +75,15 @@ keeps_all unit row n whole each rule kind =
 pub broken_at : (unit : Thermal) (row : List Cell) (rule : UnitRule) (t : ℕ)
     → FailsFirstAt (unit_periods rule (length row)) (unit_holds rule (length row) unit row) t → ¬ RowKeeps unit row rule
 broken_at unit row rule t fails keeps = true≢false (sym (keeps t fails.within) ∙ fails.fails)
+
+-- the same by the rules over the denominator 1
+pub broken_over : (unit : Thermal) (row : List Cell) (rule : UnitRule) (t : ℕ)
+    → FailsFirstAt (unit_periods rule (length row)) (unit_holds_by (over 1) rule (length row) unit row) t → ¬ RowKeeps unit row rule
+broken_over unit row rule t fails =
+    broken_at unit row rule t
+    (subst (λ (measure : ℤ → ℤ). FailsFirstAt (unit_periods rule (length row)) (unit_holds_by measure rule (length row) unit row) t) (over_one 1 refl) fails)
+
+pub keeps_over : (unit : Thermal) (row : List Cell) (rule : UnitRule)
+    → ((t : ℕ) → t < unit_periods rule (length row) → IsTrue (unit_holds_by (over 1) rule (length row) unit row t)) → RowKeeps unit row rule
+keeps_over unit row rule keeps t h =
+    subst (λ (measure : ℤ → ℤ). IsTrue (unit_holds_by measure rule (length row) unit row t)) (over_one 1 refl) (keeps t h)

@@ -1,6 +1,6 @@
 -- M8 of the schedule that a printed one stands for, cell by cell: it holds exactly where the cell's output lies on the
--- hull and its reserve isn't below 0, and the weights then give the output over the denominator.
-use Rattle.std.proofs.Common.{◌≡◌, ℕ, zero, suc, ◌*◌, ◌<◌, ◌≤◌, ⊎_elim, true, false, refl, sym, ap, subst, ◌∙◌, arith, List, length, ℤ, pos, ◌*ℤ◌, ◌≤ℤ◌, IsTrue, Option, Some, None, nat_le, if◌then◌else◌}
+-- hull and its reserve isn't below 0, and the weights then give the output over the denominator. Powers are over d.
+use Rattle.std.proofs.Common.{◌≡◌, ℕ, zero, suc, ◌*◌, ◌/◌, ◌<◌, ◌≤◌, ⊎_elim, true, false, refl, sym, ap, subst, ◌∙◌, arith, List, length, ℤ, pos, ◌*ℤ◌, ◌≤ℤ◌, IsTrue, Option, Some, None, nat_le, if◌then◌else◌}
 use Rattle.std.specs.Ordering.{int_eq}
 use Rattle.std.proofs.Math.Nat.{le-max_left}
 use Rattle.std.proofs.lemmas.Bool.{and_parts, and_from, or_left, or_right, cases_Bool, cond-true, cond-false, cond_both, true≢false, le-leb}
@@ -20,6 +20,8 @@ use Rattle.uc_model.proofs.Ring.{linear, mul-zero, mul-one, le_from_mul, le_anti
 use Rattle.uc_model.proofs.Sums.{sum_below-same, sum_below-zero}
 use Rattle.uc_model.proofs.Tests.{int_le-true, le-int_le, int_eq-true, eq-int_eq, all_below-from}
 use Rattle.uc_model.proofs.Obeyed.{Produces, production_parts}
+use Rattle.uc_model.proofs.PrintedCosts.{watts-factor}
+use Rattle.uc_model.proofs.Shortages.{share_is}
 use Rattle.cost_curves.specs.LowerHull.{width_of}
 use Rattle.cost_curves.proofs.UnitPoints.{lawful_points}
 use Rattle.cost_curves.proofs.HullExists.{segment-there, segment-within}
@@ -28,12 +30,12 @@ use Rattle.schedule_check.proofs.SegmentWeights.{stand_for}
 use Rattle.schedule_check.proofs.Counting.{same_test}
 
 -- ---- the denominator
+times_positive : (a b : ℕ) → 1 ≤ a → 1 ≤ b → 1 ≤ a * b
+times_positive a b h k = grind arith
+
 product_positive : (n : ℕ) (f : ℕ → ℕ) → ((k : ℕ) → 1 ≤ f k) → 1 ≤ product_below n f
 product_positive zero f h = omega arith
-product_positive (suc n) f h = times (product_below n f) (f n) (product_positive n f h) (h n)
-  where
-    times : (a b : ℕ) → 1 ≤ a → 1 ≤ b → 1 ≤ a * b
-    times a b h k = grind arith
+product_positive (suc n) f h = times_positive (product_below n f) (f n) (product_positive n f h) (h n)
 
 width_positive : (points : List Point) (s : Option Segment) → 1 ≤ width_on points s
 width_positive points None = omega arith
@@ -42,23 +44,43 @@ width_positive points (Some s) = le-max_left 1 _
 cell_positive : (points : List Point) (d : ℕ) (cell : Cell) → 1 ≤ cell_width points d cell
 cell_positive points d cell = cond_both cell.on (width_on points (segment_at points d cell.p)) 1 (λ n. 1 ≤ n) (λ e. width_positive points (segment_at points d cell.p)) (λ e. omega arith)
 
-pub denominator_positive : (instance : Instance) (printed : Printed) → 1 ≤ printed_denominator instance printed
-denominator_positive instance printed =
-    let all = product_positive (thermal_count instance) _ (λ g. product_positive instance.periods _ (λ t. cell_positive (thermal_unit instance g).points 1 (cell_at printed g t))) in
-    omega (arith, all)
+pub denominator_positive : (instance : Instance) (printed : Printed) → 1 ≤ printed.denominator → 1 ≤ printed_denominator instance printed
+denominator_positive instance printed some =
+    times_positive printed.denominator _ some
+    (product_positive (thermal_count instance) _ (λ g. product_positive instance.periods _ (λ t. cell_positive (thermal_unit instance g).points printed.denominator (cell_at printed g t))))
+
+-- it is a multiple of that of the watts, at least once
+pub record IsShare (d q : ℕ) : Type 0 where
+  pub some : 1 ≤ d
+  pub factor : q ≡ (q / d) * d
+  pub share : 1 ≤ q / d
+
+pub share_of : (instance : Instance) (printed : Printed) → 1 ≤ printed.denominator → IsShare printed.denominator (printed_denominator instance printed)
+share_of instance printed some =
+    let factor = watts-factor instance printed in
+    let share = share_is (printed_denominator instance printed) factor.0 printed.denominator some factor.1 in
+    record {
+      some = some;
+      factor = factor.1 ∙ ap (λ n. n * printed.denominator) (sym share);
+      share = subst (λ n. 1 ≤ n) (sym share) (at_least (printed_denominator instance printed) factor.0 printed.denominator factor.1 (denominator_positive instance printed some));
+    }
+  where
+    at_least : (q c d : ℕ) → q ≡ c * d → 1 ≤ q → 1 ≤ c
+    at_least q zero d e h = absurd (omega arith)
+    at_least q (suc c) d e h = omega arith
 
 -- ---- what a cell stands for
 -- the row has this cell's weights and reserve in period t
-pub record Shows (q : ℕ) (unit : Thermal) (row : Row) (t : ℕ) (cell : Cell) : Type 0 where
+pub record Shows (q d : ℕ) (unit : Thermal) (row : Row) (t : ℕ) (cell : Cell) : Type 0 where
   pub on : row.on t ≡ cell.on
-  pub weight : (l : ℕ) → row.weight t l ≡ cell_weight q unit.points 1 cell l
-  pub reserve : row.reserve t ≡ pos q *ℤ cell.r
+  pub weight : (l : ℕ) → row.weight t l ≡ cell_weight q unit.points d cell l
+  pub reserve : row.reserve t ≡ pos (q / d) *ℤ cell.r
 
 -- weights that sum to q where the cell is on, and give q times its output
-pub record Made (q : ℕ) (unit : Thermal) (row : Row) (t : ℕ) (cell : Cell) : Type 0 where
+pub record Made (q d : ℕ) (unit : Thermal) (row : Row) (t : ℕ) (cell : Cell) : Type 0 where
   pub each : (l : ℕ) → l < point_count unit → row.weight t l ≤ q
   pub total : weight_sum unit row t ≡ pos q *ℤ bit cell.on
-  pub output : p_at unit row t ≡ pos q *ℤ cell.p
+  pub output : p_at unit row t ≡ pos (q / d) *ℤ cell.p
 
 -- weights that are equal give equal sums
 total_by : (q : ℕ) (points : List Point) (a b : ℕ → ℕ) → ((l : ℕ) → a l ≡ b l) → weighted_total points a ≡ weighted_total points b
@@ -69,50 +91,51 @@ output_by q points a b e =
     sum_below-same (length points) (λ l. output_of points l *ℤ pos (a l)) (λ l. output_of points l *ℤ pos (b l)) (λ l h. ap (λ w. output_of points l *ℤ pos w) (e l))
 
 -- an on cell on the hull
-made_on : (q : ℕ) (unit : Thermal) (row : Row) (t : ℕ) (cell : Cell) → Shows q unit row t cell → IsLawfulThermal unit → 1 ≤ q
-    → (c : ℕ) → q ≡ c * (1 * cell_width unit.points 1 cell) → cell.on ≡ true → pos 0 ≤ℤ cell.p → cell.p ≤ℤ width_of unit.points
-    → Made q unit row t cell
-made_on q unit row t cell shows lawful some c factor on low high =
+made_on : (q d : ℕ) (unit : Thermal) (row : Row) (t : ℕ) (cell : Cell) → Shows q d unit row t cell → IsLawfulThermal unit → 1 ≤ d
+    → (c : ℕ) → q ≡ c * (d * cell_width unit.points d cell) → cell.on ≡ true → pos 0 ≤ℤ cell.p → cell.p ≤ℤ (pos d *ℤ width_of unit.points)
+    → Made q d unit row t cell
+made_on q d unit row t cell shows lawful some c factor on low high =
     let points = unit.points in
-    let segment = segment-there points cell.p (lawful_points unit lawful) low high in
-    let width : cell_width points 1 cell ≡ segment_width points segment.0 =
-    cond-true cell.on (width_on points (segment_at points 1 cell.p)) 1 on ∙ ap (λ o. width_on points o) segment.1 in
-    let stands = stand_for q c points cell.p segment.0 segment.1 some (factor ∙ ap (λ n. c * (1 * n)) width) in
+    let segment = segment-there points d cell.p (lawful_points unit lawful) some low high in
+    let width : cell_width points d cell ≡ segment_width points segment.0 =
+    cond-true cell.on (width_on points (segment_at points d cell.p)) 1 on ∙ ap (λ o. width_on points o) segment.1 in
+    let stands = stand_for q c d points cell.p segment.0 segment.1 some (factor ∙ ap (λ n. c * (d * n)) width) in
     let same = λ (l : ℕ). shows.weight l
-    ∙ cond-true cell.on (segment_weight q points 1 cell.p (segment_at points 1 cell.p) l) (if int_eq cell.p (pos 0) then 0 else refused_weight q l) on
-    ∙ ap (λ o. segment_weight q points 1 cell.p o l) segment.1 in
+    ∙ cond-true cell.on (segment_weight q points d cell.p (segment_at points d cell.p) l) (if int_eq cell.p (pos 0) then 0 else refused_weight q l) on
+    ∙ ap (λ o. segment_weight q points d cell.p o l) segment.1 in
     let one : pos q *ℤ bit cell.on ≡ pos q = ap (λ b. pos q *ℤ bit b) on ∙ mul-one (pos q) in
     record {
       each = λ l h. subst (λ w. w ≤ q) (sym (same l)) (stands.each l h);
-      total = total_by q points (row.weight t) (segment_weight q points 1 cell.p (Some segment.0)) same ∙ stands.total ∙ sym one;
-      output = output_by q points (row.weight t) (segment_weight q points 1 cell.p (Some segment.0)) same ∙ stands.output;
+      total = total_by q points (row.weight t) (segment_weight q points d cell.p (Some segment.0)) same ∙ stands.total ∙ sym one;
+      output = output_by q points (row.weight t) (segment_weight q points d cell.p (Some segment.0)) same ∙ stands.output;
     }
 
 -- an off cell without output
-made_off : (q : ℕ) (unit : Thermal) (row : Row) (t : ℕ) (cell : Cell) → Shows q unit row t cell → cell.on ≡ false → cell.p ≡ pos 0
-    → Made q unit row t cell
-made_off q unit row t cell shows off idle =
+made_off : (q d : ℕ) (unit : Thermal) (row : Row) (t : ℕ) (cell : Cell) → Shows q d unit row t cell → cell.on ≡ false → cell.p ≡ pos 0
+    → Made q d unit row t cell
+made_off q d unit row t cell shows off idle =
     let none = λ (l : ℕ). shows.weight l
-    ∙ cond-false cell.on (segment_weight q unit.points 1 cell.p (segment_at unit.points 1 cell.p) l) (if int_eq cell.p (pos 0) then 0 else refused_weight q l) off
+    ∙ cond-false cell.on (segment_weight q unit.points d cell.p (segment_at unit.points d cell.p) l) (if int_eq cell.p (pos 0) then 0 else refused_weight q l) off
     ∙ cond-true (int_eq cell.p (pos 0)) 0 (refused_weight q l) (eq-int_eq cell.p (pos 0) idle) in
     record {
       each = λ l h. subst (λ w. w ≤ q) (sym (none l)) (omega arith);
       total = sum_below-zero (length unit.points) (λ l. pos (row.weight t l)) (λ l h. ap pos (none l)) ∙ sym (ap (λ b. pos q *ℤ bit b) off ∙ mul-zero (pos q));
       output = sum_below-zero (length unit.points) (λ l. output_of unit.points l *ℤ pos (row.weight t l))
-          (λ l h. ap (λ w. output_of unit.points l *ℤ pos w) (none l) ∙ mul-zero (output_of unit.points l)) ∙ sym (ap (λ z. pos q *ℤ z) idle ∙ mul-zero (pos q));
+          (λ l h. ap (λ w. output_of unit.points l *ℤ pos w) (none l) ∙ mul-zero (output_of unit.points l)) ∙ sym (ap (λ z. pos (q / d) *ℤ z) idle ∙ mul-zero (pos (q / d)));
     }
 
 -- ---- M8 on the cell itself
 -- what it says
-pub record Holds (unit : Thermal) (cell : Cell) : Type 0 where
+pub record Holds (measure : ℤ → ℤ) (unit : Thermal) (cell : Cell) : Type 0 where
   pub low : cell.on ≡ true → pos 0 ≤ℤ cell.p
-  pub high : cell.on ≡ true → cell.p ≤ℤ width_of unit.points
+  pub high : cell.on ≡ true → cell.p ≤ℤ measure (width_of unit.points)
   pub idle : cell.on ≡ false → cell.p ≡ pos 0
   pub reserve : pos 0 ≤ℤ cell.r
   pub none : cell.on ≡ false → cell.r ≡ pos 0
 
-pub holds_from : (unit : Thermal) (cells : List Cell) (t : ℕ) → IsTrue (watts.production_at unit cells t) → Holds unit (watts.cell cells t)
-holds_from unit cells t h =
+pub holds_from : (measure : ℤ → ℤ) (unit : Thermal) (cells : List Cell) (t : ℕ) → IsTrue (watts.production_by measure unit cells t)
+    → Holds measure unit (watts.cell cells t)
+holds_from measure unit cells t h =
     ⊎_elim
     (λ (on : IsTrue (watts.cell cells t).on).
     let parts = and_parts _ _ (sym (cond-true _ _ _ on) ∙ h) in
@@ -136,8 +159,9 @@ holds_from unit cells t h =
     })
     (cases_Bool (watts.cell cells t).on)
 
-pub holds_to : (unit : Thermal) (cells : List Cell) (t : ℕ) → Holds unit (watts.cell cells t) → IsTrue (watts.production_at unit cells t)
-holds_to unit cells t holds =
+holds_by : (measure : ℤ → ℤ) (unit : Thermal) (cells : List Cell) (t : ℕ) → Holds measure unit (watts.cell cells t)
+    → IsTrue (watts.production_by measure unit cells t)
+holds_by measure unit cells t holds =
     ⊎_elim
     (λ (on : IsTrue (watts.cell cells t).on).
     cond-true _ _ _ on ∙ and_from _ _ (and_from _ _ (le-int_le _ _ (holds.low on)) (le-int_le _ _ (holds.high on))) (le-int_le _ _ holds.reserve))
@@ -145,43 +169,48 @@ holds_to unit cells t holds =
     cond-false _ _ _ off ∙ and_from _ _ (eq-int_eq _ _ (holds.idle off)) (eq-int_eq _ _ (holds.none off)))
     (cases_Bool (watts.cell cells t).on)
 
-pub made : (q : ℕ) (unit : Thermal) (row : Row) (t : ℕ) (cell : Cell) → Shows q unit row t cell → IsLawfulThermal unit → 1 ≤ q
-    → (c : ℕ) → q ≡ c * (1 * cell_width unit.points 1 cell) → Holds unit cell → Made q unit row t cell
-made q unit row t cell shows lawful some c factor holds =
+-- in whole watts
+pub holds_to : (unit : Thermal) (cells : List Cell) (t : ℕ) → Holds watts.whole unit (watts.cell cells t) → IsTrue (watts.production_at unit cells t)
+holds_to unit cells t holds = holds_by watts.whole unit cells t holds
+
+pub made : (q d : ℕ) (unit : Thermal) (row : Row) (t : ℕ) (cell : Cell) → Shows q d unit row t cell → IsLawfulThermal unit → 1 ≤ d
+    → (c : ℕ) → q ≡ c * (d * cell_width unit.points d cell) → Holds (watts.over d) unit cell → Made q d unit row t cell
+made q d unit row t cell shows lawful some c factor holds =
     ⊎_elim
-    (λ (on : IsTrue cell.on). made_on q unit row t cell shows lawful some c factor on (holds.low on) (holds.high on))
-    (λ (off : cell.on ≡ false). made_off q unit row t cell shows off (holds.idle off))
+    (λ (on : IsTrue cell.on). made_on q d unit row t cell shows lawful some c factor on (holds.low on) (holds.high on))
+    (λ (off : cell.on ≡ false). made_off q d unit row t cell shows off (holds.idle off))
     (cases_Bool cell.on)
 
 -- ---- M8 of the schedule
-produced : (q : ℕ) (unit : Thermal) (row : Row) (t : ℕ) (cell : Cell) → Shows q unit row t cell → 1 ≤ q → Made q unit row t cell → Holds unit cell
-    → IsTrue (production_at q unit row t)
-produced q unit row t cell shows some made holds =
+produced : (q d : ℕ) (unit : Thermal) (row : Row) (t : ℕ) (cell : Cell) → Shows q d unit row t cell → Made q d unit row t cell
+    → Holds (watts.over d) unit cell → IsTrue (production_at q unit row t)
+produced q d unit row t cell shows made holds =
     and_from _ _
     (and_from _ _
     (and_from _ _ (all_below-from (point_count unit) (λ l. nat_le (row.weight t l) q) (λ l h. le-leb _ _ (made.each l h)))
     (eq-int_eq _ _ (made.total ∙ ap (λ b. pos q *ℤ bit b) (sym shows.on))))
-    (le-int_le _ _ (subst (λ z. pos 0 ≤ℤ z) (sym shows.reserve) (mul_nonneg (pos q) cell.r (pos_nonneg q) holds.reserve))))
+    (le-int_le _ _ (subst (λ z. pos 0 ≤ℤ z) (sym shows.reserve) (mul_nonneg (pos (q / d)) cell.r (pos_nonneg (q / d)) holds.reserve))))
     (⊎_elim
     (λ (on : IsTrue (row.on t)). or_left (row.on t) _ on)
     (λ (off : row.on t ≡ false).
     let is_off = sym shows.on ∙ off in
     or_right (row.on t) _ (and_from _ _
-    (eq-int_eq _ _ (made.output ∙ ap (λ z. pos q *ℤ z) (holds.idle is_off) ∙ mul-zero (pos q)))
-    (eq-int_eq _ _ (shows.reserve ∙ ap (λ z. pos q *ℤ z) (holds.none is_off) ∙ mul-zero (pos q)))))
+    (eq-int_eq _ _ (made.output ∙ ap (λ z. pos (q / d) *ℤ z) (holds.idle is_off) ∙ mul-zero (pos (q / d))))
+    (eq-int_eq _ _ (shows.reserve ∙ ap (λ z. pos (q / d) *ℤ z) (holds.none is_off) ∙ mul-zero (pos (q / d))))))
     (cases_Bool (row.on t)))
 
 -- a first weight that is refused breaks it
 unrefused : (q : ℕ) (unit : Thermal) (row : Row) (t : ℕ) → IsLawfulThermal unit → Produces q unit row t → row.weight t 0 ≡ suc q → ⊥
 unrefused q unit row t lawful made e = let first = made.weights 0 (omega (arith, lawful.points.0)) in omega (arith, first, e)
 
-on_hull : (q : ℕ) (unit : Thermal) (row : Row) (t : ℕ) (cell : Cell) (s : Option Segment) → segment_at unit.points 1 cell.p ≡ s
-    → Shows q unit row t cell → IsLawfulThermal unit → Produces q unit row t → cell.on ≡ true → (pos 0 ≤ℤ cell.p) × (cell.p ≤ℤ width_of unit.points)
-on_hull q unit row t cell None e shows lawful made on =
-    absurd (unrefused q unit row t lawful made
-    (shows.weight 0 ∙ cond-true cell.on (segment_weight q unit.points 1 cell.p (segment_at unit.points 1 cell.p) 0) (if int_eq cell.p (pos 0) then 0 else refused_weight q 0) on
-    ∙ ap (λ o. segment_weight q unit.points 1 cell.p o 0) e))
-on_hull q unit row t cell (Some s) e shows lawful made on = segment-within unit.points cell.p s (lawful_points unit lawful) e
+on_hull : (q d : ℕ) (unit : Thermal) (row : Row) (t : ℕ) (cell : Cell) (s : Option Segment) → segment_at unit.points d cell.p ≡ s
+    → Shows q d unit row t cell → IsLawfulThermal unit → Produces q unit row t → cell.on ≡ true
+    → (pos 0 ≤ℤ cell.p) × (cell.p ≤ℤ (pos d *ℤ width_of unit.points))
+on_hull q d unit row t cell None e shows lawful produces on =
+    absurd (unrefused q unit row t lawful produces
+    (shows.weight 0 ∙ cond-true cell.on (segment_weight q unit.points d cell.p (segment_at unit.points d cell.p) 0) (if int_eq cell.p (pos 0) then 0 else refused_weight q 0) on
+    ∙ ap (λ o. segment_weight q unit.points d cell.p o 0) e))
+on_hull q d unit row t cell (Some s) e shows lawful produces on = segment-within unit.points d cell.p s (lawful_points unit lawful) e
 
 reserve_sign : (q : ℕ) (r z : ℤ) → 1 ≤ q → z ≡ pos q *ℤ r → pos 0 ≤ℤ z → pos 0 ≤ℤ r
 reserve_sign q r z some e h =
@@ -194,27 +223,28 @@ reserve_none q r z some e h =
     (le_from_mul (pos q) r (pos 0) (omega (arith, linear)) (omega (arith, linear, none)))
     (le_from_mul (pos q) (pos 0) r (omega (arith, linear)) (omega (arith, linear, none)))
 
-holds_of : (q : ℕ) (unit : Thermal) (row : Row) (t : ℕ) (cell : Cell) → Shows q unit row t cell → IsLawfulThermal unit → 1 ≤ q
-    → Produces q unit row t → Holds unit cell
-holds_of q unit row t cell shows lawful some made = record {
-  low = λ on. (on_hull q unit row t cell (segment_at unit.points 1 cell.p) refl shows lawful made on).0;
-  high = λ on. (on_hull q unit row t cell (segment_at unit.points 1 cell.p) refl shows lawful made on).1;
+holds_of : (q d : ℕ) (unit : Thermal) (row : Row) (t : ℕ) (cell : Cell) → Shows q d unit row t cell → IsLawfulThermal unit → 1 ≤ q / d
+    → Produces q unit row t → Holds (watts.over d) unit cell
+holds_of q d unit row t cell shows lawful some produces = record {
+  low = λ on. (on_hull q d unit row t cell (segment_at unit.points d cell.p) refl shows lawful produces on).0;
+  high = λ on. (on_hull q d unit row t cell (segment_at unit.points d cell.p) refl shows lawful produces on).1;
   idle = λ off. ⊎_elim
       (λ (idle : IsTrue (int_eq cell.p (pos 0))). int_eq-true cell.p (pos 0) idle)
-      (λ (other : int_eq cell.p (pos 0) ≡ false). absurd (unrefused q unit row t lawful made
+      (λ (other : int_eq cell.p (pos 0) ≡ false). absurd (unrefused q unit row t lawful produces
       (shows.weight 0
-      ∙ cond-false cell.on (segment_weight q unit.points 1 cell.p (segment_at unit.points 1 cell.p) 0) (if int_eq cell.p (pos 0) then 0 else refused_weight q 0) off
+      ∙ cond-false cell.on (segment_weight q unit.points d cell.p (segment_at unit.points d cell.p) 0) (if int_eq cell.p (pos 0) then 0 else refused_weight q 0) off
       ∙ cond-false (int_eq cell.p (pos 0)) 0 (refused_weight q 0) other)))
       (cases_Bool (int_eq cell.p (pos 0)));
-  reserve = reserve_sign q cell.r (row.reserve t) some shows.reserve made.reserve;
-  none = λ off. reserve_none q cell.r (row.reserve t) some shows.reserve (made.idle (shows.on ∙ off)).1;
+  reserve = reserve_sign (q / d) cell.r (row.reserve t) some shows.reserve produces.reserve;
+  none = λ off. reserve_none (q / d) cell.r (row.reserve t) some shows.reserve (produces.idle (shows.on ∙ off)).1;
 }
 
--- M8 holds of the cell in whole watts exactly where it holds of what it stands for
-pub production-same : (q : ℕ) (unit : Thermal) (row : Row) (t : ℕ) (cells : List Cell) → Shows q unit row t (watts.cell cells t) → IsLawfulThermal unit → 1 ≤ q
-    → (c : ℕ) → q ≡ c * (1 * cell_width unit.points 1 (watts.cell cells t)) → production_at q unit row t ≡ watts.production_at unit cells t
-production-same q unit row t cells shows lawful some c factor =
+-- M8 holds of the cell's numerators exactly where it holds of what they stand for
+pub production-same : (q d : ℕ) (unit : Thermal) (row : Row) (t : ℕ) (cells : List Cell) → Shows q d unit row t (watts.cell cells t) → IsLawfulThermal unit
+    → IsShare d q → (c : ℕ) → q ≡ c * (d * cell_width unit.points d (watts.cell cells t))
+    → production_at q unit row t ≡ watts.production_by (watts.over d) unit cells t
+production-same q d unit row t cells shows lawful share c factor =
     same_test _ _
-    (λ h. holds_to unit cells t (holds_of q unit row t (watts.cell cells t) shows lawful some (production_parts q unit row t h)))
-    (λ h. let holds = holds_from unit cells t h in
-    produced q unit row t (watts.cell cells t) shows some (made q unit row t (watts.cell cells t) shows lawful some c factor holds) holds)
+    (λ h. holds_by (watts.over d) unit cells t (holds_of q d unit row t (watts.cell cells t) shows lawful share.share (production_parts q unit row t h)))
+    (λ h. let holds = holds_from (watts.over d) unit cells t h in
+    produced q d unit row t (watts.cell cells t) shows (made q d unit row t (watts.cell cells t) shows lawful share.some c factor holds) holds)

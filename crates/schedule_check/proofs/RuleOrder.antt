@@ -17,10 +17,12 @@ pub tried-number : (rule : model.Rule) → model.rule_number rule < 13 → rule_
 tried-number model.RenewableRange h = absurd (omega arith)
 tried-number model.Demand h = absurd (omega arith)
 tried-number model.Reserve h = absurd (omega arith)
+tried-number model.ShedRange h = absurd (omega arith)
+tried-number model.ShortRange h = absurd (omega arith)
 tried-number _ h = refl
 
--- a rule's number lies between 1 and 15
-pub number_within : (rule : model.Rule) → (0 < model.rule_number rule) × (model.rule_number rule < 16)
+-- a rule's number lies between 1 and 17
+pub number_within : (rule : model.Rule) → (0 < model.rule_number rule) × (model.rule_number rule < 18)
 number_within model.MustRun = (omega arith, omega arith)
 number_within _ = (omega arith, omega arith)
 

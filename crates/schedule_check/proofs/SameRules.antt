@@ -1,23 +1,24 @@
--- Each rule says the same of a printed schedule in whole watts as of the schedule that it stands for: M1 to M8 always,
--- and the others where M8 holds in every cell.
-use Rattle.std.proofs.Common.{◌≡◌, ℕ, zero, suc, ◌/◌, ◌<◌, ◌≤◌, not, ◌&&◌, ◌||◌, refl, sym, ap, ◌∙◌, arith, List, ℤ, pos, ◌+ℤ◌, ◌-ℤ◌, ◌*ℤ◌, IsTrue, int_le, nat_lt, slice_index_or}
+-- Each rule says the same of a printed schedule's numerators as of the schedule that it stands for: M1 to M8 always, and the
+-- others where M8 holds in every cell. Over q = s * d numbers are s times the numerators, and limits s times d times.
+use Rattle.std.proofs.Common.{◌≡◌, ℕ, zero, suc, ◌*◌, ◌/◌, ◌<◌, ◌≤◌, not, ◌&&◌, ◌||◌, refl, sym, ap, ◌∙◌, arith, List, ℤ, pos, ◌+ℤ◌, ◌-ℤ◌, ◌*ℤ◌, IsTrue, int_le, nat_lt, slice_index_or}
 use Rattle.std.specs.Int.{int_max}
 use Rattle.std.specs.Ordering.{int_eq}
 use Rattle.uc_model.specs.Sums.{bit}
+use Rattle.uc_model.specs.Commitment.{initial_p}
 use Rattle.uc_model.specs.Rules as model
-use Rattle.uc_model.specs.Schedule.{Row, thermal_unit, thermal_count, renewable_unit, renewable_count, p_at, p_before, demand_at, reserve_at}
-use Rattle.uc_model.specs.PrintedSchedule.{cell_at, printed_denominator, printed_schedule}
+use Rattle.uc_model.specs.Schedule.{Row, thermal_unit, thermal_count, renewable_unit, renewable_count, p_at, p_before, demand_at, reserve_at, most_shed, most_short}
+use Rattle.uc_model.specs.PrintedSchedule.{cell_at, shed_at, short_at, printed_denominator, printed_schedule}
 use Rattle.uc_model.specs.Limits.{IsLawfulInstance}
 use Rattle.uc_model.specs.declared.instance.Thermal.{Thermal}
 use Rattle.uc_model.specs.declared.instance.Instance.{Instance}
-use Rattle.uc_model.proofs.Ring.{linear, mul-add, mul-sub, mul_assoc, le_from_mul, le_antisymm, scale-le-scale}
+use Rattle.uc_model.proofs.Ring.{linear, mul-add, mul-sub, mul-zero, mul_assoc, le_from_mul, le_antisymm, scale-le-scale}
 use Rattle.uc_model.proofs.Sums.{sum_below-same, sum_below-mul_left}
 use Rattle.uc_model.proofs.Tests.{int_le-true, le-int_le, int_eq-true, eq-int_eq}
 use Rattle.uc_model.proofs.PrintedCosts.{denominator-factor}
 use Rattle.schedule_check.specs.SizedNumbers.{Cell, Printed, output_at}
 use Rattle.schedule_check.specs.WholeWatts as watts
 use Rattle.schedule_check.proofs.Counting.{same_test}
-use Rattle.schedule_check.proofs.Produced.{Shows, denominator_positive, production-same, holds_from, made}
+use Rattle.schedule_check.proofs.Produced.{Shows, IsShare, share_of, production-same, holds_from, made}
 
 -- ---- q times two numbers compare as they do
 pub scale-int_le : (q : ℕ) (a b : ℤ) → 1 ≤ q → int_le (pos q *ℤ a) (pos q *ℤ b) ≡ int_le a b
@@ -35,111 +36,131 @@ scale-int_eq q a b some =
     (le_from_mul (pos q) b a (omega (arith, linear)) (omega (arith, linear)))))
     (λ h. eq-int_eq _ _ (ap (λ z. pos q *ℤ z) (int_eq-true a b h)))
 
-over_one : (q : ℕ) → q / 1 ≡ q
-over_one q = omega arith
+-- q times a limit, where q is s times d
+times-is : (q s d : ℕ) (z : ℤ) → q ≡ s * d → pos q *ℤ z ≡ pos s *ℤ (pos d *ℤ z)
+times-is q s d z factor = ap (λ n. pos n *ℤ z) factor ∙ mul_assoc (pos s) (pos d) z
 
 -- ---- the rows of the schedule
 shows : (instance : Instance) (printed : Printed) (q g t : ℕ)
-    → Shows q (thermal_unit instance g) ((printed_schedule instance printed q).thermal g) t (cell_at printed g t)
-shows instance printed q g t = record {
-  on = refl;
-  weight = λ l. refl;
-  reserve = ap (λ n. pos n *ℤ (cell_at printed g t).r) (over_one q);
-}
+    → Shows q printed.denominator (thermal_unit instance g) ((printed_schedule instance printed q).thermal g) t (cell_at printed g t)
+shows instance printed q g t = record { on = refl; weight = λ l. refl; reserve = refl }
 
-pub production-is : (instance : Instance) (printed : Printed) (g t : ℕ) → IsLawfulInstance instance → g < thermal_count instance → t < instance.periods
+pub production-is : (instance : Instance) (printed : Printed) (g t : ℕ) → IsLawfulInstance instance → 1 ≤ printed.denominator
+    → g < thermal_count instance → t < instance.periods
     → model.holds_at model.Production instance (printed_denominator instance printed) (printed_schedule instance printed (printed_denominator instance printed)) g t
-    ≡ watts.holds_at model.Production instance printed g t
-production-is instance printed g t lawful hg ht =
+    ≡ watts.numerators_hold model.Production instance printed g t
+production-is instance printed g t lawful some hg ht =
     let q = printed_denominator instance printed in
     let factor = denominator-factor instance printed g t hg ht in
-    production-same q (thermal_unit instance g) ((printed_schedule instance printed q).thermal g) t (watts.row_of printed g)
-    (shows instance printed q g t) (lawful.thermal g hg) (denominator_positive instance printed) factor.0 factor.1
+    production-same q printed.denominator (thermal_unit instance g) ((printed_schedule instance printed q).thermal g) t (watts.row_of printed g)
+    (shows instance printed q g t) (lawful.thermal g hg) (share_of instance printed some) factor.0 factor.1
 
 -- M8 holds in every cell
 abbrev pub AllProduced : Instance → Printed → Type 0
-AllProduced instance printed = (g t : ℕ) → g < thermal_count instance → t < instance.periods → IsTrue (watts.holds_at model.Production instance printed g t)
+AllProduced instance printed = (g t : ℕ) → g < thermal_count instance → t < instance.periods → IsTrue (watts.numerators_hold model.Production instance printed g t)
 
-output-is : (instance : Instance) (printed : Printed) (g t : ℕ) → IsLawfulInstance instance → g < thermal_count instance → t < instance.periods
-    → IsTrue (watts.holds_at model.Production instance printed g t)
+-- how often the denominator goes into q
+abbrev share : Instance → Printed → ℕ
+share instance printed = printed_denominator instance printed / printed.denominator
+
+output-is : (instance : Instance) (printed : Printed) (g t : ℕ) → IsLawfulInstance instance → 1 ≤ printed.denominator
+    → g < thermal_count instance → t < instance.periods → IsTrue (watts.numerators_hold model.Production instance printed g t)
     → p_at (thermal_unit instance g) ((printed_schedule instance printed (printed_denominator instance printed)).thermal g) t
-    ≡ pos (printed_denominator instance printed) *ℤ (cell_at printed g t).p
-output-is instance printed g t lawful hg ht h =
+    ≡ pos (share instance printed) *ℤ (cell_at printed g t).p
+output-is instance printed g t lawful some hg ht h =
     let q = printed_denominator instance printed in
+    let d = printed.denominator in
     let factor = denominator-factor instance printed g t hg ht in
-    (made q (thermal_unit instance g) ((printed_schedule instance printed q).thermal g) t (cell_at printed g t) (shows instance printed q g t)
-    (lawful.thermal g hg) (denominator_positive instance printed) factor.0 factor.1 (holds_from (thermal_unit instance g) (watts.row_of printed g) t h)).output
+    (made q d (thermal_unit instance g) ((printed_schedule instance printed q).thermal g) t (cell_at printed g t) (shows instance printed q g t)
+    (lawful.thermal g hg) some factor.0 factor.1 (holds_from (watts.over d) (thermal_unit instance g) (watts.row_of printed g) t h)).output
 
 -- ---- the rules on output and reserve
--- the numbers of a row in period t, q times those of the cells
-record RowIs (q : ℕ) (unit : Thermal) (row : Row) (cells : List Cell) (t : ℕ) : Type 0 where
-  pub output : p_at unit row t ≡ pos q *ℤ (watts.cell cells t).p
-  pub reserve : row.reserve t ≡ pos q *ℤ (watts.cell cells t).r
-  pub before : p_before q unit row t ≡ pos q *ℤ watts.output_before unit cells t
+-- the numbers of a row in period t, s times those of the cells
+record RowIs (q s d : ℕ) (unit : Thermal) (row : Row) (cells : List Cell) (t : ℕ) : Type 0 where
+  pub output : p_at unit row t ≡ pos s *ℤ (watts.cell cells t).p
+  pub reserve : row.reserve t ≡ pos s *ℤ (watts.cell cells t).r
+  pub before : p_before q unit row t ≡ pos s *ℤ watts.output_before_by (watts.over d) unit cells t
 
-row_is : (instance : Instance) (printed : Printed) (g t : ℕ) → IsLawfulInstance instance → AllProduced instance printed → g < thermal_count instance → t < instance.periods
-    → RowIs (printed_denominator instance printed) (thermal_unit instance g)
+row_is : (instance : Instance) (printed : Printed) (g t : ℕ) → IsLawfulInstance instance → 1 ≤ printed.denominator → AllProduced instance printed
+    → g < thermal_count instance → t < instance.periods
+    → RowIs (printed_denominator instance printed) (share instance printed) printed.denominator (thermal_unit instance g)
     ((printed_schedule instance printed (printed_denominator instance printed)).thermal g) (watts.row_of printed g) t
-row_is instance printed g t lawful all hg ht = record {
-  output = output-is instance printed g t lawful hg ht (all g t hg ht);
-  reserve = ap (λ n. pos n *ℤ (cell_at printed g t).r) (over_one (printed_denominator instance printed));
+row_is instance printed g t lawful some all hg ht = record {
+  output = output-is instance printed g t lawful some hg ht (all g t hg ht);
+  reserve = refl;
   before = earlier t ht;
 }
   where
     earlier : (k : ℕ) → k < instance.periods
         → p_before (printed_denominator instance printed) (thermal_unit instance g)
         ((printed_schedule instance printed (printed_denominator instance printed)).thermal g) k
-        ≡ pos (printed_denominator instance printed) *ℤ watts.output_before (thermal_unit instance g) (watts.row_of printed g) k
-    earlier zero h = refl
-    earlier (suc k) h = output-is instance printed g k lawful hg (omega arith) (all g k hg (omega arith))
+        ≡ pos (share instance printed) *ℤ watts.output_before_by (watts.over printed.denominator) (thermal_unit instance g) (watts.row_of printed g) k
+    earlier zero h = times-is (printed_denominator instance printed) (share instance printed) printed.denominator (initial_p (thermal_unit instance g)) (share_of instance printed some).factor
+    earlier (suc k) h = output-is instance printed g k lawful some hg (omega arith) (all g k hg (omega arith))
 
 -- output with reserve, less another output
-head-is : (q : ℕ) (unit : Thermal) (row : Row) (cells : List Cell) (t : ℕ) → RowIs q unit row cells t
-    → p_at unit row t +ℤ row.reserve t ≡ pos q *ℤ ((watts.cell cells t).p +ℤ (watts.cell cells t).r)
-head-is q unit row cells t is = (λ i. is.output i +ℤ is.reserve i) ∙ sym (mul-add (pos q) _ _)
+head-is : (q s d : ℕ) (unit : Thermal) (row : Row) (cells : List Cell) (t : ℕ) → RowIs q s d unit row cells t
+    → p_at unit row t +ℤ row.reserve t ≡ pos s *ℤ ((watts.cell cells t).p +ℤ (watts.cell cells t).r)
+head-is q s d unit row cells t is = (λ i. is.output i +ℤ is.reserve i) ∙ sym (mul-add (pos s) _ _)
 
-rise-is : (q : ℕ) (unit : Thermal) (row : Row) (cells : List Cell) (t : ℕ) → RowIs q unit row cells t
+rise-is : (q s d : ℕ) (unit : Thermal) (row : Row) (cells : List Cell) (t : ℕ) → RowIs q s d unit row cells t
     → (p_at unit row t +ℤ row.reserve t) -ℤ p_before q unit row t
-    ≡ pos q *ℤ (((watts.cell cells t).p +ℤ (watts.cell cells t).r) -ℤ watts.output_before unit cells t)
-rise-is q unit row cells t is = (λ i. head-is q unit row cells t is i -ℤ is.before i) ∙ sym (mul-sub (pos q) _ _)
+    ≡ pos s *ℤ (((watts.cell cells t).p +ℤ (watts.cell cells t).r) -ℤ watts.output_before_by (watts.over d) unit cells t)
+rise-is q s d unit row cells t is = (λ i. head-is q s d unit row cells t is i -ℤ is.before i) ∙ sym (mul-sub (pos s) _ _)
 
-fall-is : (q : ℕ) (unit : Thermal) (row : Row) (cells : List Cell) (t : ℕ) → RowIs q unit row cells t
-    → p_before q unit row t -ℤ p_at unit row t ≡ pos q *ℤ (watts.output_before unit cells t -ℤ (watts.cell cells t).p)
-fall-is q unit row cells t is = (λ i. is.before i -ℤ is.output i) ∙ sym (mul-sub (pos q) _ _)
+fall-is : (q s d : ℕ) (unit : Thermal) (row : Row) (cells : List Cell) (t : ℕ) → RowIs q s d unit row cells t
+    → p_before q unit row t -ℤ p_at unit row t ≡ pos s *ℤ (watts.output_before_by (watts.over d) unit cells t -ℤ (watts.cell cells t).p)
+fall-is q s d unit row cells t is = (λ i. is.before i -ℤ is.output i) ∙ sym (mul-sub (pos s) _ _)
 
--- q times a number against q times a limit
-limit_by : (q : ℕ) (z a b : ℤ) → 1 ≤ q → z ≡ pos q *ℤ a → int_le z (pos q *ℤ b) ≡ int_le a b
-limit_by q z a b some e = ap (λ y. int_le y (pos q *ℤ b)) e ∙ scale-int_le q a b some
+-- s times a numerator against q times a limit
+limit_by : (q d : ℕ) (z a b : ℤ) → IsShare d q → z ≡ pos (q / d) *ℤ a → int_le z (pos q *ℤ b) ≡ int_le a (pos d *ℤ b)
+limit_by q d z a b is e =
+    let limit = times-is q (q / d) d b is.factor in
+    (λ i. int_le (e i) (limit i)) ∙ scale-int_le (q / d) a (pos d *ℤ b) is.share
+
+limit_above : (q d : ℕ) (z a b : ℤ) → IsShare d q → z ≡ pos (q / d) *ℤ a → int_le (pos q *ℤ b) z ≡ int_le (pos d *ℤ b) a
+limit_above q d z a b is e =
+    let limit = times-is q (q / d) d b is.factor in
+    (λ i. int_le (limit i) (e i)) ∙ scale-int_le (q / d) (pos d *ℤ b) a is.share
+
+-- what is missing
+shortage-is : (q d price : ℕ) (z missing most : ℤ) → IsShare d q → z ≡ pos (q / d) *ℤ missing
+    → model.shortage_holds q price most z ≡ (int_le (pos 0) missing && int_le missing (pos d *ℤ most) && (nat_lt 0 price || int_eq missing (pos 0)))
+shortage-is q d price z missing most is e =
+    let s = q / d in
+    let nought = sym (mul-zero (pos s)) in
+    let low = (λ i. int_le (nought i) (e i)) ∙ scale-int_le s (pos 0) missing is.share in
+    let high = limit_by q d z missing most is e in
+    let none = (λ i. int_eq (e i) (nought i)) ∙ scale-int_eq s missing (pos 0) is.share in
+    (λ i. low i && high i && (nat_lt 0 price || none i))
 
 -- ---- the rules on the system
-thermal-is : (instance : Instance) (printed : Printed) (g t : ℕ) → IsLawfulInstance instance → AllProduced instance printed → g < thermal_count instance → t < instance.periods
+thermal-is : (instance : Instance) (printed : Printed) (g t : ℕ) → IsLawfulInstance instance → 1 ≤ printed.denominator → AllProduced instance printed
+    → g < thermal_count instance → t < instance.periods
     → model.thermal_output instance (printed_denominator instance printed) (printed_schedule instance printed (printed_denominator instance printed)) g t
-    ≡ pos (printed_denominator instance printed) *ℤ watts.thermal_supply instance printed g t
-thermal-is instance printed g t lawful all hg ht =
+    ≡ pos (share instance printed) *ℤ watts.thermal_supply_by (watts.over printed.denominator) instance printed g t
+thermal-is instance printed g t lawful some all hg ht =
     let q = printed_denominator instance printed in
-    let made = output-is instance printed g t lawful hg ht (all g t hg ht) in
-    let minimum = mul_assoc (pos q) (thermal_unit instance g).pmin (bit (cell_at printed g t).on) in
-    (λ i. made i +ℤ minimum i) ∙ sym (mul-add (pos q) _ _)
+    let made = output-is instance printed g t lawful some hg ht (all g t hg ht) in
+    let minimum = mul_assoc (pos q) (thermal_unit instance g).pmin (bit (cell_at printed g t).on)
+    ∙ times-is q (share instance printed) printed.denominator ((thermal_unit instance g).pmin *ℤ bit (cell_at printed g t).on) (share_of instance printed some).factor in
+    (λ i. made i +ℤ minimum i) ∙ sym (mul-add (pos (share instance printed)) _ _)
 
-renewable-is : (instance : Instance) (printed : Printed) (q w t : ℕ) → (printed_schedule instance printed q).output w t ≡ pos q *ℤ output_at printed w t
-renewable-is instance printed q w t = ap (λ n. pos n *ℤ output_at printed w t) (over_one q)
-
-supply-is : (instance : Instance) (printed : Printed) (t : ℕ) → IsLawfulInstance instance → AllProduced instance printed → t < instance.periods
+supply-is : (instance : Instance) (printed : Printed) (t : ℕ) → IsLawfulInstance instance → 1 ≤ printed.denominator → AllProduced instance printed
+    → t < instance.periods
     → model.supply_at instance (printed_denominator instance printed) (printed_schedule instance printed (printed_denominator instance printed)) t
-    ≡ pos (printed_denominator instance printed) *ℤ watts.supply_at instance printed t
-supply-is instance printed t lawful all ht =
-    let q = printed_denominator instance printed in
-    let units = sum_below-same (thermal_count instance) _ (λ g. pos q *ℤ watts.thermal_supply instance printed g t)
-    (λ g hg. thermal-is instance printed g t lawful all hg ht) ∙ sum_below-mul_left (thermal_count instance) (pos q) (λ g. watts.thermal_supply instance printed g t) in
-    let rest = sum_below-same (renewable_count instance) _ (λ w. pos q *ℤ output_at printed w t)
-    (λ w hw. renewable-is instance printed q w t) ∙ sum_below-mul_left (renewable_count instance) (pos q) (λ w. output_at printed w t) in
-    (λ i. units i +ℤ rest i) ∙ sym (mul-add (pos q) _ _)
+    ≡ pos (share instance printed) *ℤ watts.supply_by (watts.over printed.denominator) instance printed t
+supply-is instance printed t lawful some all ht =
+    let s = share instance printed in
+    let given = λ (g : ℕ). watts.thermal_supply_by (watts.over printed.denominator) instance printed g t in
+    let units = sum_below-same (thermal_count instance) _ (λ g. pos s *ℤ given g)
+    (λ g hg. thermal-is instance printed g t lawful some all hg ht) ∙ sum_below-mul_left (thermal_count instance) (pos s) given in
+    let rest = sum_below-mul_left (renewable_count instance) (pos s) (λ w. output_at printed w t) in
+    (λ i. units i +ℤ rest i) ∙ sym (mul-add (pos s) _ _)
 
 reserve-is : (instance : Instance) (printed : Printed) (q t : ℕ)
-    → model.reserve_supply_at instance (printed_schedule instance printed q) t ≡ pos q *ℤ watts.reserve_supply_at instance printed t
-reserve-is instance printed q t =
-    sum_below-same (thermal_count instance) _ (λ g. pos q *ℤ (cell_at printed g t).r) (λ g hg. ap (λ n. pos n *ℤ (cell_at printed g t).r) (over_one q))
-    ∙ sum_below-mul_left (thermal_count instance) (pos q) (λ g. (cell_at printed g t).r)
+    → model.reserve_supply_at instance (printed_schedule instance printed q) t ≡ pos (q / printed.denominator) *ℤ watts.reserve_supply_at instance printed t
+reserve-is instance printed q t = sum_below-mul_left (thermal_count instance) (pos (q / printed.denominator)) (λ g. (cell_at printed g t).r)
 
 -- ---- all rules
 -- a place of which the rule speaks
@@ -147,36 +168,43 @@ pub record IsPlace (instance : Instance) (rule : model.Rule) (g t : ℕ) : Type 
   pub unit : g < model.rule_units rule instance
   pub period : t < model.rule_periods rule instance
 
-pub same_rule : (rule : model.Rule) (instance : Instance) (printed : Printed) (g t : ℕ) → IsLawfulInstance instance → IsPlace instance rule g t
-    → (8 < model.rule_number rule → AllProduced instance printed)
+pub same_rule : (rule : model.Rule) (instance : Instance) (printed : Printed) (g t : ℕ) → IsLawfulInstance instance → 1 ≤ printed.denominator
+    → IsPlace instance rule g t → (8 < model.rule_number rule → AllProduced instance printed)
     → model.holds_at rule instance (printed_denominator instance printed) (printed_schedule instance printed (printed_denominator instance printed)) g t
-    ≡ watts.holds_at rule instance printed g t
-same_rule model.Production instance printed g t lawful place all = production-is instance printed g t lawful place.unit place.period
-same_rule model.StartCap instance printed g t lawful place all =
-    limit_by _ _ _ _ (denominator_positive instance printed) (head-is _ _ _ _ t (row_is instance printed g t lawful (all (omega arith)) place.unit place.period))
-same_rule model.StopCap instance printed g t lawful place all =
+    ≡ watts.numerators_hold rule instance printed g t
+same_rule model.Production instance printed g t lawful some place all = production-is instance printed g t lawful some place.unit place.period
+same_rule model.StartCap instance printed g t lawful some place all =
+    limit_by _ _ _ _ _ (share_of instance printed some) (head-is _ _ _ _ _ _ t (row_is instance printed g t lawful some (all (omega arith)) place.unit place.period))
+same_rule model.StopCap instance printed g t lawful some place all =
     ap (λ b. not (nat_lt (suc t) instance.periods) || b)
-    (limit_by _ _ _ _ (denominator_positive instance printed) (head-is _ _ _ _ t (row_is instance printed g t lawful (all (omega arith)) place.unit place.period)))
-same_rule model.RampUp instance printed g t lawful place all =
-    limit_by _ _ _ _ (denominator_positive instance printed) (rise-is _ _ _ _ t (row_is instance printed g t lawful (all (omega arith)) place.unit place.period))
-same_rule model.RampDown instance printed g t lawful place all =
-    limit_by _ _ _ _ (denominator_positive instance printed) (fall-is _ _ _ _ t (row_is instance printed g t lawful (all (omega arith)) place.unit place.period))
-same_rule model.RenewableRange instance printed w t lawful place all =
-    let q = printed_denominator instance printed in
-    let some = denominator_positive instance printed in
-    let output = renewable-is instance printed q w t in
+    (limit_by _ _ _ _ _ (share_of instance printed some) (head-is _ _ _ _ _ _ t (row_is instance printed g t lawful some (all (omega arith)) place.unit place.period)))
+same_rule model.RampUp instance printed g t lawful some place all =
+    limit_by _ _ _ _ _ (share_of instance printed some) (rise-is _ _ _ _ _ _ t (row_is instance printed g t lawful some (all (omega arith)) place.unit place.period))
+same_rule model.RampDown instance printed g t lawful some place all =
+    limit_by _ _ _ _ _ (share_of instance printed some) (fall-is _ _ _ _ _ _ t (row_is instance printed g t lawful some (all (omega arith)) place.unit place.period))
+same_rule model.RenewableRange instance printed w t lawful some place all =
+    let is = share_of instance printed some in
     let unit = renewable_unit instance w in
-    let least = int_max (slice_index_or unit.minimum t (pos 0)) (pos 0) in
-    let most = slice_index_or unit.maximum t (pos 0) in
-    let low = ap (λ z. int_le (pos q *ℤ least) z) output ∙ scale-int_le q least (output_at printed w t) some in
-    let high = ap (λ z. int_le z (pos q *ℤ most)) output ∙ scale-int_le q (output_at printed w t) most some in
+    let low = limit_above _ _ _ (output_at printed w t) (int_max (slice_index_or unit.minimum t (pos 0)) (pos 0)) is refl in
+    let high = limit_by _ _ _ (output_at printed w t) (slice_index_or unit.maximum t (pos 0)) is refl in
     (λ i. low i && high i)
-same_rule model.Demand instance printed g t lawful place all =
+same_rule model.Demand instance printed g t lawful some place all =
+    let s = share instance printed in
+    let d = printed.denominator in
+    let is = share_of instance printed some in
+    let supply = supply-is instance printed t lawful some (all (omega arith)) place.period in
+    let served = (λ i. supply i +ℤ pos s *ℤ shed_at printed t) ∙ sym (mul-add (pos s) (watts.supply_by (watts.over d) instance printed t) (shed_at printed t)) in
+    let limit = times-is (printed_denominator instance printed) s d (demand_at instance t) is.factor in
+    (λ i. int_eq (served i) (limit i))
+    ∙ scale-int_eq s (watts.supply_by (watts.over d) instance printed t +ℤ shed_at printed t) (pos d *ℤ demand_at instance t) is.share
+same_rule model.Reserve instance printed g t lawful some place all =
     let q = printed_denominator instance printed in
-    ap (λ z. int_eq z (pos q *ℤ demand_at instance t)) (supply-is instance printed t lawful (all (omega arith)) place.period)
-    ∙ scale-int_eq q (watts.supply_at instance printed t) (demand_at instance t) (denominator_positive instance printed)
-same_rule model.Reserve instance printed g t lawful place all =
-    let q = printed_denominator instance printed in
-    ap (λ z. int_le (pos q *ℤ reserve_at instance t) z) (reserve-is instance printed q t)
-    ∙ scale-int_le q (reserve_at instance t) (watts.reserve_supply_at instance printed t) (denominator_positive instance printed)
-same_rule _ instance printed g t lawful place all = refl
+    let s = share instance printed in
+    let reserve = reserve-is instance printed q t in
+    limit_above q printed.denominator _ (watts.reserve_supply_at instance printed t +ℤ short_at printed t) (reserve_at instance t) (share_of instance printed some)
+    ((λ i. reserve i +ℤ pos s *ℤ short_at printed t) ∙ sym (mul-add (pos s) (watts.reserve_supply_at instance printed t) (short_at printed t)))
+same_rule model.ShedRange instance printed g t lawful some place all =
+    shortage-is _ _ instance.a _ (shed_at printed t) (most_shed instance t) (share_of instance printed some) refl
+same_rule model.ShortRange instance printed g t lawful some place all =
+    shortage-is _ _ instance.b _ (short_at printed t) (most_short instance t) (share_of instance printed some) refl
+same_rule _ instance printed g t lawful some place all = refl

@@ -1,4 +1,4 @@
--- The first place at which a schedule breaks a rule: in the order of the rules M1 to M15, then of the units, then of
+-- The first place at which a schedule breaks a rule: in the order of the rules M1 to M17, then of the units, then of
 -- the periods. Source: the rules of the reference model by Knueven, Ostrowski and Watson; the order is this project's own.
 --
 -- Units and periods count from 0. A rule on the whole system has the one unit 0, and M7 the one period 0.

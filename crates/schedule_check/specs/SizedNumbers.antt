@@ -16,7 +16,7 @@ pub record IsSizedCell (cell : Cell) : Type 0 where
 abbrev pub output_at : Printed → ℕ → ℕ → ℤ
 output_at printed w t = slice_index_or (slice_index_or printed.renewable w []) t (pos 0)
 
--- each number of the schedule is below 10^15 in size
+-- each output and reserve of the schedule is below 10^15 in size
 pub record HasSizedNumbers (printed : Printed) : Type 0 where
   pub thermal : (g t : ℕ) → IsSizedCell (cell_at printed g t)
   pub renewable : (w t : ℕ) → IsSized (output_at printed w t)

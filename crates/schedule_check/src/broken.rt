@@ -1,6 +1,6 @@
 //! Where a schedule breaks a rule.
 
-/// The first place at which a schedule breaks a rule: rule M`rule`, of `unit` (0 for M14 and M15), in `period` (0
+/// The first place at which a schedule breaks a rule: rule M`rule`, of `unit` (0 for M14 to M17), in `period` (0
 /// for M7). Units and periods count from 0.
 #[derive(Clone, Copy, Debug, PartialEq, Eq)]
 pub struct Broken {

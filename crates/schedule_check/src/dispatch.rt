@@ -1,109 +1,113 @@
 //! The rules on output and reserve: M8 to M12, and the numbers that they and M7 speak of.
 
-ghost use Rattle.std.specs.Prelude.{◌≡◌, suc, ◌*◌, ◌<◌, ◌≤◌, ◌&&◌, pos, ◌-ℤ◌, ◌*ℤ◌, ◌+ℤ◌, int_le, length, unsigned_abs};
+ghost use Rattle.std.specs.Prelude.{◌≡◌, suc, ◌*◌, ◌^◌, ◌<◌, ◌≤◌, ◌&&◌, pos, ◌-ℤ◌, ◌*ℤ◌, ◌+ℤ◌, int_le, length, unsigned_abs};
 ghost use Rattle.uc_model.specs.Sums.{bit};
 ghost use Rattle.uc_model.specs.Commitment.{stop_cap as stop_cap_of, stop_reduction as stop_reduction_of};
 ghost use Rattle.uc_model.specs.Limits.{IsLawfulThermal};
 ghost use Rattle.schedule_check.specs.SizedNumbers.{IsSizedCell};
-ghost use Rattle.schedule_check.specs.WholeWatts.{IsSizedRow, cell, commitment, output_before as before_of, production_at, start_cap_at, stop_cap_at, ramp_up_at, ramp_down_at, width as width_of};
+ghost use Rattle.schedule_check.specs.WholeWatts.{IsSizedRow, cell, commitment, output_before_by as before_of, over, production_by, start_cap_by, stop_cap_by, ramp_up_by, ramp_down_by, width as width_of};
 
 use crate::commitment::{starts, stops};
-use crate::limits::{initial_output, range, reduced, start_reduction, stop_reduction, width};
+use crate::limits::{
+    initial_output, is_at_most, numerator, range, reduced, start_reduction, stop_reduction, width,
+};
 use uc_model::{Cell, Thermal};
 
 /// M8: an on cell's output lies on the hull of the unit's points and its reserve isn't below 0; an off cell has
 /// neither.
-pub(crate) fn production(unit: &Thermal, row: &[Cell], t: usize) -> bool
+pub(crate) fn production(denominator: u8, unit: &Thermal, row: &[Cell], t: usize) -> bool
     requires lawful { IsLawfulThermal unit.now }
     requires period { t < length row.now }
-    ensures { result ≡ production_at unit.now row.now t }
+    ensures { result ≡ production_by (over denominator) unit.now row.now t }
 {
     let cell = &row[t];
     if cell.on {
-        is_on_hull(unit, &cell.p) && 0 <= cell.r
+        is_on_hull(denominator, unit, &cell.p) && 0 <= cell.r
     } else {
         cell.p == 0 && cell.r == 0
     }
 }
 
 /// M9: output and reserve are within the range, and in the period of a start within the start-up limit.
-pub(crate) fn start_cap(unit: &Thermal, row: &[Cell], t: usize) -> bool
+pub(crate) fn start_cap(denominator: u8, unit: &Thermal, row: &[Cell], t: usize) -> bool
     requires lawful { IsLawfulThermal unit.now }
     requires sized { IsSizedRow row.now }
     requires period { t < length row.now }
-    ensures { result ≡ start_cap_at unit.now row.now t }
+    ensures { result ≡ start_cap_by (over denominator) unit.now row.now t }
 {
     let full = range(unit, row[t].on);
     let cap = reduced(&full, &start_reduction(unit), starts(unit, row, t));
-    head(&row[t]) <= cap
+    is_at_most(denominator, &head(&row[t]), &cap)
 }
 
 /// M10: they are within the range, and in the period before a stop within the shut-down limit.
-pub(crate) fn stop_cap(unit: &Thermal, row: &[Cell], t: usize) -> bool
+pub(crate) fn stop_cap(denominator: u8, unit: &Thermal, row: &[Cell], t: usize) -> bool
     requires lawful { IsLawfulThermal unit.now }
     requires sized { IsSizedRow row.now }
     requires period { t < length row.now }
-    ensures { result ≡ stop_cap_at (length row.now) unit.now row.now t }
+    ensures { result ≡ stop_cap_by (over denominator) (length row.now) unit.now row.now t }
 {
-    t + 1 >= row.len() || is_below_stop_cap(unit, row, t)
+    t + 1 >= row.len() || is_below_stop_cap(denominator, unit, row, t)
 }
 
 /// M11: output with reserve rises by no more than the ramp-up limit.
-pub(crate) fn ramp_up(unit: &Thermal, row: &[Cell], t: usize) -> bool
+pub(crate) fn ramp_up(denominator: u8, unit: &Thermal, row: &[Cell], t: usize) -> bool
     requires lawful { IsLawfulThermal unit.now }
     requires sized { IsSizedRow row.now }
     requires period { t < length row.now }
-    ensures { result ≡ ramp_up_at unit.now row.now t }
+    ensures { result ≡ ramp_up_by (over denominator) unit.now row.now t }
 {
-    is_rise_within(&output_before(unit, row, t), &head(&row[t]), &unit.ru)
+    let before = output_before(denominator, unit, row, t);
+    let limit = numerator(denominator, &unit.ru);
+    is_rise_within(&before, &wide(&head(&row[t])), &limit)
 }
 
 /// M12: output falls by no more than the ramp-down limit.
-pub(crate) fn ramp_down(unit: &Thermal, row: &[Cell], t: usize) -> bool
+pub(crate) fn ramp_down(denominator: u8, unit: &Thermal, row: &[Cell], t: usize) -> bool
     requires lawful { IsLawfulThermal unit.now }
-    requires sized { IsSizedRow row.now }
     requires period { t < length row.now }
-    ensures { result ≡ ramp_down_at unit.now row.now t }
+    ensures { result ≡ ramp_down_by (over denominator) unit.now row.now t }
 {
-    is_rise_within(&output(&row[t]), &output_before(unit, row, t), &unit.rd)
+    let before = output_before(denominator, unit, row, t);
+    let limit = numerator(denominator, &unit.rd);
+    is_rise_within(&wide(&row[t].p), &before, &limit)
 }
 
 // Whether one output is above another by no more than a limit.
-fn is_rise_within(from: &i64, to: &i64, limit: &i64) -> bool
-    requires from { unsigned_abs from.now ≤ 2 * 1000000000000000 }
-    requires to { unsigned_abs to.now ≤ 2 * 1000000000000000 }
+fn is_rise_within(from: &i128, to: &i128, limit: &i128) -> bool
+    requires from { unsigned_abs from.now ≤ 2 ^ 71 }
+    requires to { unsigned_abs to.now ≤ 2 ^ 71 }
     ensures { result ≡ int_le (to.now -ℤ from.now) limit.now }
 {
     *to - *from <= *limit
 }
 
 // Whether an output lies between the outputs of the unit's first and last point.
-fn is_on_hull(unit: &Thermal, p: &i64) -> bool
+fn is_on_hull(denominator: u8, unit: &Thermal, p: &i64) -> bool
     requires { IsLawfulThermal unit.now }
-    ensures { result ≡ (int_le (pos 0) p.now && int_le p.now (width_of unit.now.points)) }
+    ensures { result ≡ (int_le (pos 0) p.now && int_le p.now (over denominator (width_of unit.now.points))) }
 {
-    0 <= *p && *p <= width(unit.points.as_slice())
+    0 <= *p && is_at_most(denominator, p, &width(unit.points.as_slice()))
 }
 
 // M10 where a period follows.
-fn is_below_stop_cap(unit: &Thermal, row: &[Cell], t: usize) -> bool
+fn is_below_stop_cap(denominator: u8, unit: &Thermal, row: &[Cell], t: usize) -> bool
     requires lawful { IsLawfulThermal unit.now }
     requires sized { IsSizedRow row.now }
     requires period { suc t < length row.now }
-    ensures { result ≡ int_le ((cell row.now t).p +ℤ (cell row.now t).r) (stop_cap_of unit.now (commitment row.now) t) }
+    ensures { result ≡ int_le ((cell row.now t).p +ℤ (cell row.now t).r) (over denominator (stop_cap_of unit.now (commitment row.now) t)) }
 {
     let full = range(unit, row[t].on);
     let cap = reduced(&full, &stop_reduction(unit), stops(unit, row, t + 1));
-    head(&row[t]) <= cap
+    is_at_most(denominator, &head(&row[t]), &cap)
 }
 
-// The output of a cell.
-fn output(cell: &Cell) -> i64
-    requires { IsSizedCell cell.now }
-    ensures value { result ≡ cell.now.p }
-    ensures size { unsigned_abs result < 1000000000000000 }
+// A number in 128 bits.
+fn wide(number: &i64) -> i128
+    ensures value { result ≡ number.now }
+    ensures size { unsigned_abs result ≤ 2 ^ 71 }
 {
-    cell.p
+    i128::from(*number)
 }
 
 // The output of a cell with its reserve.
@@ -116,17 +120,16 @@ fn head(cell: &Cell) -> i64
 }
 
 // The output in the period before, which is the initial one before the first.
-fn output_before(unit: &Thermal, row: &[Cell], t: usize) -> i64
+fn output_before(denominator: u8, unit: &Thermal, row: &[Cell], t: usize) -> i128
     requires lawful { IsLawfulThermal unit.now }
-    requires sized { IsSizedRow row.now }
     requires period { t < length row.now }
-    ensures value { result ≡ before_of unit.now row.now t }
-    ensures size { unsigned_abs result < 1000000000000000 }
+    ensures value { result ≡ before_of (over denominator) unit.now row.now t }
+    ensures size { unsigned_abs result ≤ 2 ^ 71 }
 {
     if t == 0 {
-        initial_output(unit)
+        numerator(denominator, &initial_output(unit))
     } else {
-        output(&row[t - 1])
+        wide(&row[t - 1].p)
     }
 }
 

@@ -11,14 +11,15 @@ ghost use Rattle.schedule_check.specs.WholeWatts.{IsFirstBrokenOf, IsFirstUnitBr
 use crate::broken::Broken;
 use crate::pricing::printed_cost;
 use crate::unit_rule::UNIT_RULES;
-use crate::{balance, renewable, unit_rules};
+use crate::{balance, renewable, shortages, unit_rules};
 use uc_model::{Instance, Printed};
 
-/// The printed cost of the schedule, in micro-dollars, where the schedule that it stands for obeys M1 to M15; else the
+/// The printed cost of the schedule, in micro-dollars, where the schedule that it stands for obeys M1 to M17; else the
 /// first rule, unit and period at which it breaks one. It takes no memory.
 ///
-/// The schedule has a row for each unit of the instance, with a cell for each period; its numbers are below 10^15 in
-/// size, and a category is any number.
+/// The schedule has a row for each unit of the instance, with a cell for each period, and what is missing of demand and
+/// reserve in each period; the numerators of its outputs and reserves are below 10^15 in size, and a category is any
+/// number.
 pub fn check(instance: &Instance, printed: &Printed) -> Result<i64, Broken>
     requires lawful { IsLawfulInstance instance.now }
     requires shape { HasShapeOf instance.now printed.now }
@@ -35,7 +36,7 @@ pub fn check(instance: &Instance, printed: &Printed) -> Result<i64, Broken>
     }
 }
 
-/// The printed cost, in micro-dollars, of a schedule that obeys M1 to M15. It takes no memory.
+/// The printed cost, in micro-dollars, of a schedule that obeys M1 to M17. It takes no memory.
 pub fn cost(instance: &Instance, printed: &Printed) -> i64
     requires lawful { IsLawfulInstance instance.now }
     requires shape { HasShapeOf instance.now printed.now }
@@ -73,6 +74,20 @@ fn first_broken(instance: &Instance, printed: &Printed) -> Option<Broken>
     if let Some(period) = balance::first_short_of_reserve(instance, printed) {
         return Some(Broken {
             rule: 15,
+            unit: 0,
+            period,
+        });
+    }
+    if let Some(period) = shortages::first_shed(instance, printed) {
+        return Some(Broken {
+            rule: 16,
+            unit: 0,
+            period,
+        });
+    }
+    if let Some(period) = shortages::first_short(instance, printed) {
+        return Some(Broken {
+            rule: 17,
             unit: 0,
             period,
         });

@@ -1,4 +1,4 @@
-//! The feasibility check: whether a printed schedule obeys the rules M1 to M15, with its cost, or else the first
+//! The feasibility check: whether a printed schedule obeys the rules M1 to M17, with its cost, or else the first
 //! rule, unit and period at which it breaks one. It stands on no solver and takes no memory.
 //!
 //! A rule is looked at unit by unit and period by period. Minimum times and start categories are read off counts of
@@ -15,6 +15,7 @@ pub mod limits;
 mod minimum_times;
 pub mod pricing;
 mod renewable;
+mod shortages;
 mod start_category;
 mod unit_rule;
 mod unit_rules;

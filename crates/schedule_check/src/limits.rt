@@ -1,13 +1,29 @@
 //! The limits of a unit's output: what its powers say of it, in whole watts.
 
-ghost use Rattle.std.specs.Prelude.{◌≡◌, ℕ, ◌*◌, ◌-◌, ◌<◌, ◌≤◌, ◌-ℤ◌, ◌*ℤ◌, length, unsigned_abs};
+ghost use Rattle.std.specs.Prelude.{◌≡◌, ℕ, ◌*◌, ◌-◌, ◌^◌, ◌<◌, ◌≤◌, ◌-ℤ◌, ◌*ℤ◌, int_le, length, unsigned_abs};
 ghost use Rattle.uc_model.specs.Sums.{bit};
 ghost use Rattle.uc_model.specs.Commitment.{initial_p, start_reduction as start_reduction_of, stop_reduction as stop_reduction_of};
 ghost use Rattle.uc_model.specs.Limits.{IsLawfulThermal, IsPower};
 ghost use Rattle.uc_model.specs.Points.{output_of, point_of};
+ghost use Rattle.schedule_check.specs.WholeWatts.{over};
 
 use uc_model::limits::MAX_POWER;
-use uc_model::{Point, Thermal};
+use uc_model::{Point, Thermal, scaled};
+
+/// A power in watts by its numerator over a denominator.
+pub(crate) fn numerator(denominator: u8, power: &i64) -> i128
+    ensures value { result ≡ over denominator power.now }
+    ensures size { unsigned_abs result ≤ 2 ^ 71 }
+{
+    scaled(i64::from(denominator), *power)
+}
+
+/// Whether a numerator is at most that of a limit.
+pub(crate) fn is_at_most(denominator: u8, number: &i64, limit: &i64) -> bool
+    ensures { result ≡ int_le number.now (over denominator limit.now) }
+{
+    i128::from(*number) <= numerator(denominator, limit)
+}
 
 /// What the unit gives initially above its minimum, in watts: 0 where it is off.
 pub fn initial_output(unit: &Thermal) -> i64

@@ -2,7 +2,7 @@
 
 ghost use Rattle.std.specs.Prelude.{◌≡◌, ◌+ℤ◌, All, IfSome, IsTrue, length};
 ghost use Rattle.uc_model.specs.Limits.{IsLawfulInstance, IsLimit};
-ghost use Rattle.uc_model.specs.PrintedSchedule.{HasShapeOf};
+ghost use Rattle.uc_model.specs.PrintedSchedule.{HasShapeOf, LacksNothing};
 ghost use Rattle.schedule_check.specs.PlainNumbers.{IsIdleCell, IsPlainCell};
 ghost use Rattle.schedule_check.specs.Accepted.{IsAccepted};
 
@@ -12,7 +12,8 @@ use uc_model::{Cell, Instance, List, Printed};
 
 /// The cost of a schedule that has the shape of the instance and numbers within their limits, and that the check accepts.
 pub(crate) fn accepted(instance: &Instance, printed: &Printed) -> Option<i64>
-    requires { IsLawfulInstance instance.now }
+    requires lawful { IsLawfulInstance instance.now }
+    requires supply { LacksNothing instance.now.periods printed.now }
     ensures { IfSome result (IsAccepted instance.now printed.now) }
 {
     if !has_shape(instance, printed) {
@@ -29,6 +30,7 @@ pub(crate) fn accepted(instance: &Instance, printed: &Printed) -> Option<i64>
 
 // Whether there is a row for each unit, and a cell or an output for each period.
 fn has_shape(instance: &Instance, printed: &Printed) -> bool
+    requires { LacksNothing instance.now.periods printed.now }
     ensures { IsTrue result → HasShapeOf instance.now printed.now }
 {
     let periods = instance.periods as usize;

@@ -1,6 +1,8 @@
 //! The schedule of a state, in whole watts.
 
+ghost use Rattle.std.specs.Prelude.{IfOk};
 ghost use Rattle.uc_model.specs.Limits.{IsLawfulInstance, IsLawfulThermal};
+ghost use Rattle.uc_model.specs.PrintedSchedule.{LacksNothing};
 
 use repair_state::{Plant, State, Unit, Window, at, is_on, limits_at, put, unit_at};
 use start_costs::least_allowed;
@@ -16,6 +18,7 @@ pub(crate) fn printed_of(
     instance: &Instance,
 ) -> Result<Printed, NoMemory>
     requires { IsLawfulInstance instance.now }
+    ensures { IfOk result (LacksNothing instance.now.periods) }
 {
     let mut wanted = instance.reserves.as_slice().to_vec(alloc)?;
     let mut left = instance.demand.as_slice().to_vec(alloc)?;
@@ -23,6 +26,9 @@ pub(crate) fn printed_of(
     Ok(Printed {
         thermal: List::from_vec(thermal),
         renewable: List::from_vec(renewable_rows(alloc, instance, &mut left)?),
+        shed: List::from_vec(vec![in alloc; 0; instance.periods as usize]?),
+        short: List::from_vec(vec![in alloc; 0; instance.periods as usize]?),
+        denominator: 1,
     })
 }
 

@@ -104,7 +104,7 @@ closed_within best gap here (Splits g t off on) closed pruned =
 -- ---- What a true evaluation leaves at its node holds there, and at the node's children.
 -- ---- with one table more
 bounded_more : (instance : Instance) (tables : List Table) (new : Table) (node : Node) (number : ℕ) (b : ℤ)
-    → IsBoundedBy instance tables node number b → IsBoundedBy instance (tables ++ new ∷ []) node number b
+    → IsBoundedBy false instance tables node number b → IsBoundedBy false instance (tables ++ new ∷ []) node number b
 bounded_more instance tables new node number b h = record {
   table = h.table;
   is_table = get-append tables (new ∷ []) number h.table h.is_table;
@@ -126,7 +126,7 @@ stored_more instance tables new node (leaf.Empty g) h = h
 
 -- ---- what the node stores
 own_bound : (instance : Instance) (tables : List Table) (new : Table) (node : Node) (v : ℤ) → pos 0 <ℤ new.k
-    → IsNodeValue instance node new v → IsBoundedBy instance (tables ++ new ∷ []) node (length tables) (bound_of v new.k)
+    → IsNodeValue instance node new v → IsBoundedBy false instance (tables ++ new ∷ []) node (length tables) (bound_of v new.k)
 own_bound instance tables new node v scale is_value = record {
   table = new;
   is_table = get_push_last tables new;
@@ -139,8 +139,8 @@ own_bound instance tables new node v scale is_value = record {
 }
 
 pub kept_bounded : (instance : Instance) (tables : List Table) (new : Table) (node : Node) (old : Stored) (result : Outcome)
-    → IsBoundedBy instance tables node old.table old.value → IsTrueOutcome instance node new result
-    → IsBoundedBy instance (tables ++ new ∷ []) node (kept_after old (length tables) new.k result).table (kept_after old (length tables) new.k result).value
+    → IsBoundedBy false instance tables node old.table old.value → IsTrueOutcome instance node new result
+    → IsBoundedBy false instance (tables ++ new ∷ []) node (kept_after old (length tables) new.k result).table (kept_after old (length tables) new.k result).value
 kept_bounded instance tables new node old (outcome.Value v) h is = ⊎_elim
     (λ (e : (int_lt (pos 0) new.k && int_lt old.value (bound_of v new.k)) ≡ true).
     let greater : Stored = record { table = length tables; value = bound_of v new.k } in
@@ -152,7 +152,7 @@ kept_bounded instance tables new node old (outcome.Value v) h is = ⊎_elim
     (cases_Bool (int_lt (pos 0) new.k && int_lt old.value (bound_of v new.k)))
   where
     Bounds : Stored → Type 0
-    Bounds stored = IsBoundedBy instance (tables ++ new ∷ []) node stored.table stored.value
+    Bounds stored = IsBoundedBy false instance (tables ++ new ∷ []) node stored.table stored.value
 kept_bounded instance tables new node old (outcome.Empty g) h is = bounded_more instance tables new node old.table old.value h
 
 -- ---- children
@@ -164,7 +164,7 @@ child_empty instance node g t on h = record {
 }
 
 child_has_bound : (instance : Instance) (node : Node) (g t : ℕ) (on : Bool) (table : Table) (b : ℤ) → IsLawfulInstance instance → pos 0 <ℤ table.k
-    → HasBoundOf instance node table b → HasBoundOf instance (child node g t on) table b ⊎ HasEmptyUnit instance (child node g t on)
+    → HasBoundOf false instance node table b → HasBoundOf false instance (child node g t on) table b ⊎ HasEmptyUnit instance (child node g t on)
 child_has_bound instance node g t on table b lawful scale has = ⊎_elim
     (λ (found : (w : ℤ) × IsNodeValue instance (child node g t on) table w × (has.is_bound.value ≤ℤ w)).
     let floor = IsFloor-int_div_euclid found.0 table.k scale in
@@ -179,20 +179,20 @@ child_has_bound instance node g t on table b lawful scale has = ⊎_elim
     (child_bound instance node g t on table has.is_bound.value lawful has.is_bound.is_value)
 
 pub child_bounded : (instance : Instance) (tables : List Table) (node : Node) (g t : ℕ) (on : Bool) (number : ℕ) (b : ℤ) → IsLawfulInstance instance
-    → IsBoundedBy instance tables node number b → IsBoundedBy instance tables (child node g t on) number b
+    → IsBoundedBy false instance tables node number b → IsBoundedBy false instance tables (child node g t on) number b
 child_bounded instance tables node g t on number b lawful h = record {
   table = h.table;
   is_table = h.is_table;
   scale = h.scale;
   bounds = ⊎_elim
-      (λ (has : HasBoundOf instance node h.table b). child_has_bound instance node g t on h.table b lawful h.scale has)
+      (λ (has : HasBoundOf false instance node h.table b). child_has_bound instance node g t on h.table b lawful h.scale has)
       (λ (empty : HasEmptyUnit instance node). inr (child_empty instance node g t on empty))
       h.bounds;
 }
 
 -- ---- the leaves that a move makes
 pub ray_holds : (instance : Instance) (tables : List Table) (new : Table) (node : Node) (result : Outcome) → IsTrueOutcome instance node new result
-    → new.k ≡ pos 0 → IsPositive result → IsExcludedByRay instance (tables ++ new ∷ []) node (length tables)
+    → new.k ≡ pos 0 → IsPositive result → IsExcludedByRay false instance (tables ++ new ∷ []) node (length tables)
 ray_holds instance tables new node (outcome.Value v) is scale positive = record {
   table = new;
   is_table = get_push_last tables new;
@@ -269,7 +269,7 @@ pruned_new law m worker node here table result _ orderly least legal = tt
 
 stored_new : (instance : Instance) (m : Machine) (worker node : ℕ) (here : Node) (table : Table) (result : Outcome) (action : Move)
     → IsLawfulInstance instance → IsTrueOutcome instance here table result
-    → IsBoundedBy instance m.tables here (stored_at m.tree node).table (stored_at m.tree node).value → IsMoveLegal m worker node table result action
+    → IsBoundedBy false instance m.tables here (stored_at m.tree node).table (stored_at m.tree node).value → IsMoveLegal m worker node table result action
     → HoldsOfNew (StoredHolds instance (m.tables ++ table ∷ [])) here (kept m node table result) (length m.tables) result action
 stored_new instance m worker node here table result Again lawful is old legal =
     kept_bounded instance m.tables table here (stored_at m.tree node) result old is
@@ -299,8 +299,8 @@ committed_true law instance m worker unit node table result action lawful is wit
     let here = part.part.node in
     let own = told node here holding (part_node m.tree node (leaf.Live at.table at.value) part) in
     let store = ap spot_stored at.live in
-    let old : IsBoundedBy instance m.tables here (stored_at m.tree node).table (stored_at m.tree node).value =
-    subst (λ (s : Stored). IsBoundedBy instance m.tables here s.table s.value) (sym store)
+    let old : IsBoundedBy false instance m.tables here (stored_at m.tree node).table (stored_at m.tree node).value =
+    subst (λ (s : Stored). IsBoundedBy false instance m.tables here s.table s.value) (sym store)
     (holds_of_leaf (StoredHolds instance m.tables) m.tree node (leaf.Live at.table at.value) part is.stored) in
     let new = stored_new instance m worker node here table result action lawful own old legal in
     let seen = desk_seen m worker is.least within in

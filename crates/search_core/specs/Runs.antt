@@ -1,7 +1,7 @@
 -- Runs of the search machine, and what holds after each event of one whose commits and published costs are true. Source:
 -- branch and bound on the commitment variables of the reference model by Knueven, Ostrowski and Watson; the machine is this
 -- project's own.
-use Rattle.std.specs.Prelude.{◌≡◌, ℕ, ◌≤◌, ◌⊎◌, IsTrue, All, IfSome, List, [], ◌∷◌, ℤ, pos, ◌<ℤ◌, Option, Some, None, slice_get}
+use Rattle.std.specs.Prelude.{◌≡◌, ℕ, ◌≤◌, ◌⊎◌, IsTrue, All, IfSome, List, [], ◌∷◌, ℤ, pos, ◌<ℤ◌, Option, Some, None, slice_get, false}
 use Rattle.uc_model.specs.Limits.{IsLawfulInstance}
 use Rattle.uc_model.specs.Schedule.{thermal_count}
 pub use Rattle.uc_model.specs.declared.tolerance.TheConstants.{WHOLE_GAP}
@@ -61,7 +61,7 @@ pub record IsTrueStart (instance : Instance) (m : Machine) : Type 0 where
   pub whole : gap ≤ WHOLE_GAP
   pub lawful : IsLawfulTable instance table
   pub scale : pos 0 <ℤ table.k
-  pub bound : IsTableBound instance root table value
+  pub bound : IsTableBound false instance root table value
 
 -- each event is legal where it comes, and true
 abbrev pub IsTrueRun : Instance → Machine → List Event → Type 0

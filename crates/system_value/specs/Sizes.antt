@@ -7,9 +7,13 @@ pub use Rattle.dual_model.specs.declared.limits.TheConstants.{MAX_PRICE}
 abbrev pub MAX_CELL : ℕ
 MAX_CELL = MAX_PRICE * MAX_POWER
 
--- what demand and reserves add is at most this
+-- what demand and reserves add in a period, with what may be missing of them, is at most this
+abbrev pub MAX_HOUR : ℕ
+MAX_HOUR = 4 * MAX_CELL
+
+-- and over all periods
 abbrev pub MAX_SYSTEM : ℕ
-MAX_SYSTEM = MAX_PERIODS * (2 * MAX_CELL)
+MAX_SYSTEM = MAX_PERIODS * MAX_HOUR
 
 -- what one renewable unit adds, and what all of them do
 abbrev pub MAX_RENEWABLE : ℕ

@@ -8,7 +8,7 @@ ghost use Rattle.dual_model.specs.NodeValue.{renewable_part as part_of, renewabl
 ghost use Rattle.dual_model.specs.Prices.{HasSizeOf, IsPrice, IsWithinLimits};
 ghost use Rattle.system_value.specs.Sizes.{MAX_CELL, MAX_RENEWABLE, MAX_RENEWABLES};
 
-use crate::priced::priced;
+use crate::priced::{above_zero, priced};
 use dual_model::Table;
 use uc_model::{Instance, sum};
 
@@ -55,42 +55,35 @@ fn period_value(instance: &Instance, table: &Table, w: usize, t: usize) -> i128
     ensures size { unsigned_abs result ≤ MAX_CELL }
 {
     let unit = &instance.renewable.as_slice()[w];
-    let least = &unit.minimum.as_slice()[t];
-    let most = &unit.maximum.as_slice()[t];
-    cost(&table.pi()[t], least, most)
+    cost(
+        table.pi()[t],
+        unit.minimum.as_slice()[t],
+        unit.maximum.as_slice()[t],
+    )
 }
 
 // Minus the price times the greatest output where the price is above 0, else times the least.
-fn cost(price: &i64, least: &i64, most: &i64) -> i128
-    requires price { IsPrice price.now }
-    requires least { IsPower least.now }
-    requires most { IsPower most.now }
-    ensures value { result ≡ (if int_lt (pos 0) price.now then neg_ℤ (price.now *ℤ most.now)
-        else neg_ℤ (price.now *ℤ int_max least.now (pos 0))) }
+fn cost(price: i64, least: i64, most: i64) -> i128
+    requires price { IsPrice price }
+    requires least { IsPower least }
+    requires most { IsPower most }
+    ensures value { result ≡ (if int_lt (pos 0) price then neg_ℤ (price *ℤ most)
+        else neg_ℤ (price *ℤ int_max least (pos 0))) }
     ensures size { unsigned_abs result ≤ MAX_CELL }
 {
-    if *price > 0 {
+    if price > 0 {
         earned(price, most)
     } else {
-        earned(price, &given(least))
+        earned(price, above_zero(least))
     }
 }
 
 // Minus the price times an output.
-fn earned(price: &i64, output: &i64) -> i128
-    requires price { IsPrice price.now }
-    requires output { IsPower output.now }
-    ensures value { result ≡ neg_ℤ (price.now *ℤ output.now) }
+fn earned(price: i64, output: i64) -> i128
+    requires price { IsPrice price }
+    requires output { IsPower output }
+    ensures value { result ≡ neg_ℤ (price *ℤ output) }
     ensures size { unsigned_abs result ≤ MAX_CELL }
 {
     -priced(price, output)
-}
-
-// The least output, which isn't below 0.
-fn given(least: &i64) -> i64
-    requires { IsPower least.now }
-    ensures value { result ≡ int_max least.now (pos 0) }
-    ensures size { IsPower result }
-{
-    (*least).max(0)
 }

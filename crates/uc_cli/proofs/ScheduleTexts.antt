@@ -61,6 +61,7 @@ schedule_text instance printed cost accepted =
       renewable_rows = accepted.shape.renewable;
       outputs = λ w d within.
           renewable_row instance.periods printed w _ small (get_or_default printed.renewable w d [] within) (accepted.shape.outputs w d within);
+      whole = accepted.supply;
     }
 
 pub has_schedule_text : (instance : Instance) (schedule : Option (Printed × ℤ)) → IfSome schedule (λ pair. IsAccepted instance pair.0 pair.1)

@@ -7,12 +7,13 @@ use Rattle.uc_model.specs.Commitment.{Thermal, Commitment, starts}
 use Rattle.uc_model.specs.StartCategory.{category_count, category_cost, is_category_allowed, category_holds_at}
 use Rattle.uc_model.specs.Schedule.{Instance, Row, Schedule, thermal_unit, thermal_count, point, point_count}
 use Rattle.uc_model.specs.Rules.{Category, Production, Obeys}
-use Rattle.uc_model.specs.Cost.{production_cost, cell_cost, unit_cost, cost}
-use Rattle.uc_model.specs.Limits.{IsLawfulThermal, IsLawfulInstance, MAX_COST, COST_MAX}
-use Rattle.uc_model.proofs.Ring.{linear, scale-le-scale, mul-neg, mul_comm, mul-add, mul-one, pos-le-pos}
+use Rattle.uc_model.specs.Cost.{production_cost, cell_cost, unit_cost, shortage_cost, cost}
+use Rattle.uc_model.specs.Limits.{IsLawfulThermal, IsLawfulInstance, MAX_COST, MAX_SHORTAGE_COST, COST_MAX}
+use Rattle.uc_model.proofs.Ring.{linear, le_trans, scale-le-scale, mul-neg, mul_comm, mul-add, mul-one, pos-le-pos}
 use Rattle.uc_model.proofs.Sums.{sum_below-le, sum_below-mul_left, sum_below-const}
 use Rattle.uc_model.proofs.Obeyed.{rule_at, Produces, production_parts}
 use Rattle.uc_model.proofs.MinimumTimes.{bit-le-one}
+use Rattle.uc_model.proofs.Shortages.{shortages_nonneg, shortages-le}
 
 -- z is at most m in size
 pub record IsWithin (m z : ℤ) : Type 0 where
@@ -117,6 +118,16 @@ cell_cost_fits instance q x g t obeys hg ht lawful =
     subst (λ b. IsWithin b (cell_cost q unit row t)) (sym (mul-add (pos q) (pos MAX_COST) (pos MAX_COST)))
     (within_add _ _ _ _ (production_cost_fits q unit row t lawful made) (within_scale q _ _ category))
 
+-- from 0 to the most that shortages may cost
+pub within_shortages : (z most : ℤ) → pos 0 ≤ℤ z → z ≤ℤ most → IsWithin most z
+within_shortages z most low high = record { low = omega (arith, linear); high = high }
+
+shortages_fit : (instance : Instance) (q : ℕ) (x : Schedule) → IsLawfulInstance instance → Obeys instance q x
+    → IsWithin (pos q *ℤ pos MAX_SHORTAGE_COST) (sum_below instance.periods (shortage_cost instance x))
+shortages_fit instance q x lawful obeys =
+    within_shortages _ _ (shortages_nonneg instance q x obeys)
+    (le_trans _ _ _ (shortages-le instance q x obeys) (scale-le-scale q _ _ lawful.shortages))
+
 -- every schedule's cost is at most q * COST_MAX in size
 pub cost_fits : (instance : Instance) (q : ℕ) (x : Schedule) → IsLawfulInstance instance → Obeys instance q x
     → unsigned_abs (cost instance q x) ≤ q * COST_MAX
@@ -127,5 +138,5 @@ cost_fits instance q x lawful obeys =
     (λ t ht. cell_cost_fits instance q x g t obeys hg ht (lawful.thermal g hg))
     in
     let all = within_const_sum (thermal_count instance) (λ g. unit_cost instance.periods q (thermal_unit instance g) (x.thermal g)) (pos instance.periods *ℤ cell) units in
-    abs_of_within _ _ (within_more _ _ _ all
+    abs_of_within _ _ (within_more _ _ _ (within_add _ _ _ _ all (shortages_fit instance q x lawful obeys))
     (pos-le-pos _ _ (grind (arith, lawful.thermal_units, lawful.periods.1))))

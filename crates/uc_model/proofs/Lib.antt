@@ -11,6 +11,7 @@ pub mod ExtremePatterns
 pub mod Obeyed
 pub mod StartCosts
 pub mod MinimumTimes
+pub mod Shortages
 pub mod CostBound
 pub mod HullPoints
 pub mod PrintedCosts

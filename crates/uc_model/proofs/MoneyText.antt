@@ -1,6 +1,6 @@
 -- The text of money and of power, `money_text n`.
 -- Cite from a crate above by `use Rattle.uc_model.proofs.MoneyText.{money_text_bytes}`.
-use Rattle.std.proofs.Common.{◌≡◌, ℕ, suc, ◌+◌, ◌*◌, ◌/◌, ◌%◌, ◌^◌, ◌<◌, ◌≤◌, List, [], ◌∷◌, ◌++◌, length, All, get_or, refl, sym, ap, ◌∙◌, arith, ℤ, pos, negsuc, unsigned_abs, length-append}
+use Rattle.std.proofs.Common.{◌≡◌, ℕ, ◌+◌, ◌*◌, ◌/◌, ◌%◌, ◌^◌, ◌<◌, ◌≤◌, List, [], ◌∷◌, ◌++◌, length, All, get_or, refl, ap, ◌∙◌, arith, ℤ, pos, negsuc, unsigned_abs, length-append}
 use Rattle.std.proofs.lemmas.List.Elements.{All-append, All-cons, All-weaker, All-from_recursion}
 use Rattle.std.specs.Str.Parse.{AllDigits, digits_value}
 use Rattle.uc_model.specs.Decimal.{digit_byte, minus_text, whole_text}

@@ -1,8 +1,7 @@
 -- A printed schedule that obeys costs at most its printed cost, which is at most COST_MAX in size.
 -- Cite from a crate above by `use Rattle.uc_model.proofs.PrintedCosts.{cost-le-printed}`.
-use Rattle.std.proofs.Common.{◌≡◌, ℕ, zero, suc, ◌*◌, ◌/◌, ◌<◌, ◌≤◌, ⊎_elim, Bool, true, false, refl, ap, subst, ◌∙◌, arith, length, ℤ, pos, ◌+ℤ◌, ◌-ℤ◌, ◌*ℤ◌, ◌≤ℤ◌, ◌<ℤ◌, List, Option, Some, None, unsigned_abs, if◌then◌else◌}
+use Rattle.std.proofs.Common.{◌≡◌, ℕ, zero, suc, ◌*◌, ◌<◌, ◌≤◌, ⊎_elim, Bool, true, false, refl, sym, ap, subst, ◌∙◌, arith, length, ℤ, pos, ◌+ℤ◌, ◌-ℤ◌, ◌*ℤ◌, ◌≤ℤ◌, ◌<ℤ◌, List, Option, Some, None, unsigned_abs, if◌then◌else◌}
 use Rattle.std.specs.Ordering.{int_eq}
-use Rattle.std.proofs.Math.Nat.{mul-div_cancel}
 use Rattle.std.proofs.lemmas.Bool.{cases_lt}
 use Rattle.uc_model.specs.Sums.{sum_below}
 use Rattle.uc_model.specs.Points.{Point, point_of, weighted_cost}
@@ -11,13 +10,14 @@ use Rattle.uc_model.specs.Schedule.{Instance, thermal_unit, thermal_count}
 use Rattle.uc_model.specs.Rules.{Category, Production, Obeys}
 use Rattle.uc_model.specs.Cost.{cell_cost, unit_cost, cost}
 use Rattle.uc_model.specs.Hull.{Segment, segment_at, segment_width, segment_cost, hull_cost, rise, from_left}
-use Rattle.uc_model.specs.PrintedSchedule.{Printed, watt_denominator, cell_at, product_below, width_on, cell_width, printed_denominator, refused_weight, segment_weight, printed_schedule, printed_cell_cost, printed_cost}
+use Rattle.uc_model.specs.PrintedSchedule.{Printed, watt_denominator, cell_at, product_below, width_on, cell_width, printed_denominator, refused_weight, segment_weight, printed_schedule, printed_cell_cost, printed_shortage_cost, printed_cost}
 use Rattle.uc_model.specs.Limits.{IsLawfulThermal, IsLawfulInstance, MAX_COST, COST_MAX}
-use Rattle.uc_model.proofs.Ring.{linear, mul-add, mul-zero, zero-mul, mul_comm, mul_nonneg, mul-le-mul_left, mul-le-mul_turned, le_from_mul, le_or_lt, sub_nonneg, pos-le-pos}
+use Rattle.uc_model.proofs.Ring.{linear, mul-add, mul-zero, zero-mul, mul_comm, mul_nonneg, mul-le-mul_left, mul-le-mul_turned, le_from_mul, le_or_lt, le_trans, add-le-add, sub_nonneg, pos-le-pos}
 use Rattle.uc_model.proofs.Sums.{sum_below-le, sum_below-mul_left, sum_below-zero}
 use Rattle.uc_model.proofs.Obeyed.{rule_at, production_parts}
 use Rattle.uc_model.proofs.HullPoints.{segment_at-holds, lies_on, from_left-le, cost-segment, wide}
-use Rattle.uc_model.proofs.CostBound.{IsWithin, within_of_abs, abs_of_within, within_add, within_more, within_const_sum, category_cost_fits}
+use Rattle.uc_model.proofs.CostBound.{IsWithin, within_of_abs, abs_of_within, within_add, within_more, within_const_sum, within_shortages, category_cost_fits}
+use Rattle.uc_model.proofs.Shortages.{share_is, shortages-le-printed, printed_shortages_nonneg, printed_shortages-le}
 use Rattle.uc_model.proofs.Quotients.{IsCeiling-least, quotient_up-is}
 use Rattle.uc_model.specs.Division.{IsCeiling}
 
@@ -45,8 +45,21 @@ denominator-factor instance printed g t hg ht =
       ap (λ m. d * m) (outer.1 ∙ ap (λ m. outer.0 * m) inner.1) ∙ (grind arith),
     )
 
-pub share_is : (q c n : ℕ) → 0 < n → q ≡ c * n → q / n ≡ c
-share_is q c n some e = ap (λ m. m / n) e ∙ mul-div_cancel c some
+-- and of that of the watts
+pub watts-factor : (instance : Instance) (printed : Printed) → (c : ℕ) × (printed_denominator instance printed ≡ c * watt_denominator printed)
+watts-factor instance printed =
+    let d = watt_denominator printed in
+    let widths = product_below (thermal_count instance) (λ g.
+    product_below instance.periods (λ t. cell_width (thermal_unit instance g).points d (cell_at printed g t))) in
+    (widths, grind arith)
+
+-- which is at least 1 where the other is
+pub watts_positive : (printed : Printed) (q c : ℕ) → q ≡ c * watt_denominator printed → 1 ≤ q → 0 < watt_denominator printed
+watts_positive printed q c factor some = positive (watt_denominator printed) factor
+  where
+    positive : (d : ℕ) → q ≡ c * d → 0 < d
+    positive zero e = absurd (omega arith)
+    positive (suc d) e = omega arith
 
 -- ---- a cell
 -- weights that M8 refuses
@@ -92,8 +105,9 @@ cell_cost-le instance printed g t lawful obeys hg ht =
     let cell = cell_at printed g t in
     let made = production_parts q unit (x.thermal g) t (rule_at instance q x obeys Production g t hg ht) in
     let factor = denominator-factor instance printed g t hg ht in
+    let share = watts-factor instance printed in
     let production = cell_weights q factor.0 unit.points (watt_denominator printed) cell.on cell.p
-    (omega (arith, (lawful.thermal g hg).points.0)) (omega arith) made.weights factor.1 in
+    (omega (arith, (lawful.thermal g hg).points.0)) (watts_positive printed q share.0 share.1 obeys.denominator) made.weights factor.1 in
     let whole = mul-add (pos q) (if cell.on then hull_cost unit.points (watt_denominator printed) cell.p else pos 0) (category_cost unit cell.category) in
     omega (arith, linear, production, whole)
 
@@ -109,8 +123,13 @@ cost-le-printed instance printed lawful obeys =
     (λ g hg. subst (λ z. unit_cost instance.periods q (thermal_unit instance g) ((printed_schedule instance printed q).thermal g) ≤ℤ z)
     (sum_below-mul_left instance.periods (pos q) (printed_cell g))
     (sum_below-le instance.periods _ (λ t. pos q *ℤ printed_cell g t) (λ t ht. cell_cost-le instance printed g t lawful obeys hg ht))) in
-    subst (λ z. cost instance q (printed_schedule instance printed q) ≤ℤ z)
-    (sum_below-mul_left (thermal_count instance) (pos q) (λ g. sum_below instance.periods (printed_cell g))) each
+    let units = subst (λ z. sum_below (thermal_count instance) (λ g. unit_cost instance.periods q (thermal_unit instance g) ((printed_schedule instance printed q).thermal g)) ≤ℤ z)
+    (sum_below-mul_left (thermal_count instance) (pos q) (λ g. sum_below instance.periods (printed_cell g))) each in
+    let share = watts-factor instance printed in
+    let shortages = shortages-le-printed instance printed q share.0 (watts_positive printed q share.0 share.1 obeys.denominator) share.1 in
+    let whole = mul-add (pos q) (sum_below (thermal_count instance) (λ g. sum_below instance.periods (printed_cell g)))
+    (sum_below instance.periods (printed_shortage_cost instance printed)) in
+    subst (λ z. cost instance q (printed_schedule instance printed q) ≤ℤ z) (sym whole) (add-le-add _ _ _ _ units shortages)
 
 -- ---- its size
 -- between two numbers of at most m in size, n being the part of their difference rounded up
@@ -153,16 +172,19 @@ printed_hull-within unit d true p lawful some = hull_cost-within unit d p (segme
 printed_hull-within unit d false p lawful some = record { low = omega (arith, linear); high = omega (arith, linear) }
 
 -- the printed cost of a printed schedule that obeys is at most COST_MAX in size
-pub printed_cost-fits : (instance : Instance) (printed : Printed) (q : ℕ) → IsLawfulInstance instance
-    → Obeys instance q (printed_schedule instance printed q) → unsigned_abs (printed_cost instance printed) ≤ COST_MAX
-printed_cost-fits instance printed q lawful obeys =
+pub printed_cost-fits : (instance : Instance) (printed : Printed) (q c : ℕ) → IsLawfulInstance instance
+    → q ≡ c * watt_denominator printed → Obeys instance q (printed_schedule instance printed q) → unsigned_abs (printed_cost instance printed) ≤ COST_MAX
+printed_cost-fits instance printed q c lawful factor obeys =
     let d = watt_denominator printed in
     let x = printed_schedule instance printed q in
+    let some = watts_positive printed q c factor obeys.denominator in
     let cell = λ (g t : ℕ) (hg : g < thermal_count instance) (ht : t < instance.periods).
     within_add (pos MAX_COST) (pos MAX_COST) _ _
-    (printed_hull-within (thermal_unit instance g) d (cell_at printed g t).on (cell_at printed g t).p (lawful.thermal g hg) (omega arith))
+    (printed_hull-within (thermal_unit instance g) d (cell_at printed g t).on (cell_at printed g t).p (lawful.thermal g hg) some)
     (category_cost_fits (thermal_unit instance g) (x.thermal g) t (lawful.thermal g hg) (rule_at instance q x obeys Category g t hg ht)) in
     let units = λ (g : ℕ) (hg : g < thermal_count instance).
     within_const_sum instance.periods (λ t. printed_cell_cost (thermal_unit instance g) d (cell_at printed g t)) (pos (2 * MAX_COST)) (λ t ht. cell g t hg ht) in
     let all = within_const_sum (thermal_count instance) _ (pos instance.periods *ℤ pos (2 * MAX_COST)) units in
-    abs_of_within _ _ (within_more _ _ _ all (pos-le-pos _ _ (grind (arith, lawful.thermal_units, lawful.periods.1))))
+    let shortages = within_shortages _ _ (printed_shortages_nonneg instance printed q c some factor obeys)
+    (le_trans _ _ _ (printed_shortages-le instance printed q c some factor obeys) lawful.shortages) in
+    abs_of_within _ _ (within_more _ _ _ (within_add _ _ _ _ all shortages) (pos-le-pos _ _ (grind (arith, lawful.thermal_units, lawful.periods.1))))

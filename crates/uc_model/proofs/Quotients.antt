@@ -4,7 +4,7 @@ use Rattle.std.proofs.Common.{◌≡◌, ◌%◌, ◌≢◌, ◌-◌, unsigned_a
 use Rattle.std.specs.Int.{int_div_euclid, int_rem_euclid}
 use Rattle.std.proofs.lemmas.Int.{ints, by_lt_z}
 use Rattle.uc_model.specs.Division.{IsFloor, IsCeiling, quotient_up}
-use Rattle.uc_model.proofs.Ring.{linear, add-mul, neg-mul, one-mul, mul-le-mul_right, le_antisymm, pos_nonneg}
+use Rattle.uc_model.proofs.Ring.{linear, add-mul, neg-mul, one-mul, mul-one, mul-le-mul_right, le_antisymm, pos_nonneg}
 
 -- ---- a bound by a multiple
 -- from m * b < n * b + b it follows that m ≤ n
@@ -93,3 +93,10 @@ pub quotient_up-is : (a b : ℤ) → pos 0 <ℤ b → IsCeiling a b (quotient_up
 quotient_up-is a b positive =
     subst (λ z. IsCeiling z b (quotient_up a b)) (neg_neg a)
     (IsCeiling-neg (neg_ℤ a) b (int_div_euclid (neg_ℤ a) b) (IsFloor-int_div_euclid (neg_ℤ a) b positive))
+
+-- over 1 it is the number itself
+pub quotient_up-one : (a : ℤ) → quotient_up a (pos 1) ≡ a
+quotient_up-one a =
+    let same = mul-one a in
+    IsCeiling_unique a (pos 1) (quotient_up a (pos 1)) a (omega (arith, linear)) (quotient_up-is a (pos 1) (omega (arith, linear)))
+    (record { above = omega (arith, linear); before = omega (arith, linear) })

@@ -1,6 +1,6 @@
 -- The least start cost is never above the cost of a category that M6 allows, and its size.
 -- Cite from a crate above by `use Rattle.uc_model.proofs.StartCosts.{sigma-le-allowed, sigma-size}`.
-use Rattle.std.proofs.Common.{◌≡◌, ℕ, zero, suc, ◌-◌, ◌<◌, ◌≤◌, ◌≢◌, ◌⊎◌, ⊎_elim, false, not, ◌&&◌, cond, sym, ap, subst, ◌∙◌, arith, ℤ, ◌≤ℤ◌, Bool, IsTrue, nat_lt, nat_le, ◌==◌, Option, Some, unsigned_abs}
+use Rattle.std.proofs.Common.{◌≡◌, ℕ, zero, suc, ◌-◌, ◌<◌, ◌≤◌, ◌≢◌, ⊎_elim, false, not, ◌&&◌, cond, sym, ap, subst, ◌∙◌, arith, ℤ, ◌≤ℤ◌, Bool, IsTrue, nat_lt, nat_le, ◌==◌, Option, Some, unsigned_abs}
 use Rattle.std.proofs.lemmas.Bool.{and_parts, and_from, or_cases, cases_Bool, cond_both, cond-true, cond-false, not-true, true≢false, leb-true, ltb-true, eqb-true, le-leb, lt-ltb}
 use Rattle.uc_model.specs.Sums.{least_below}
 use Rattle.uc_model.specs.Commitment.{Thermal, Commitment, was_on, starts, stops}

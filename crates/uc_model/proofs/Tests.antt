@@ -1,6 +1,6 @@
 -- What the tests over indexes say, as facts, and laws of the least value.
 -- Cite from a crate above by `use Rattle.uc_model.proofs.Tests.{all_below-at}`.
-use Rattle.std.proofs.Common.{◌≡◌, ℕ, zero, suc, ◌<◌, ◌⊎◌, ⊎_elim, Bool, cond, refl, sym, subst, arith, ℤ, ◌≤ℤ◌, ◌<ℤ◌, IsTrue, int_le, int_lt}
+use Rattle.std.proofs.Common.{◌≡◌, ℕ, zero, suc, ◌<◌, ⊎_elim, Bool, cond, refl, sym, subst, arith, ℤ, ◌≤ℤ◌, ◌<ℤ◌, IsTrue, int_le, int_lt}
 use Rattle.std.specs.Int.{int_min}
 use Rattle.std.specs.Ordering.{int_eq}
 use Rattle.std.proofs.lemmas.Int.{ints}

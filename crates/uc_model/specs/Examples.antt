@@ -1,10 +1,10 @@
 -- Small instances and schedules on which the rules, the start categories and the caps are computed: for
 -- each rule a schedule that breaks this rule and no other, and one that obeys them all. One thermal unit
 -- of 10 to 50 MW and one renewable unit of at most 5 MW.
-use Rattle.std.specs.Prelude.{ℕ, ◌*◌, Bool, true, false, not, ◌&&◌, ◌||◌, List, [], ◌∷◌, ℤ, pos, negsuc, ◌+ℤ◌, ◌-ℤ◌, ◌*ℤ◌, int_le, length, slice_index_or, filter}
+use Rattle.std.specs.Prelude.{ℕ, ◌*◌, Bool, true, false, not, ◌&&◌, ◌||◌, List, [], ◌∷◌, ℤ, pos, negsuc, neg_ℤ, ◌+ℤ◌, ◌-ℤ◌, ◌*ℤ◌, int_le, length, slice_index_or, filter, replicate}
 use Rattle.uc_model.specs.Sums.{bit}
 use Rattle.uc_model.specs.Commitment.{Thermal, Commitment, was_on, stops, stop_reduction}
-use Rattle.uc_model.specs.Rules.{Rule, MustRun, InitialUp, InitialDown, MinimumUp, MinimumDown, Category, InitialStop, Production, StartCap, StopCap, RampUp, RampDown, RenewableRange, Demand, Reserve, holds, holds_at}
+use Rattle.uc_model.specs.Rules.{Rule, MustRun, InitialUp, InitialDown, MinimumUp, MinimumDown, Category, InitialStop, Production, StartCap, StopCap, RampUp, RampDown, RenewableRange, Demand, Reserve, ShedRange, ShortRange, holds, holds_at}
 use Rattle.uc_model.specs.Schedule.{Instance, no_unit, thermal_unit}
 use Rattle.uc_model.specs.PrintedSchedule.{Cell, Point, Printed, printed_schedule, printed_denominator, printed_cost, cell_at}
 use Rattle.uc_model.specs.declared.instance.StartRow.{StartRow}
@@ -45,7 +45,13 @@ system unit demand reserves = record {
   reserves = reserves;
   thermal = unit ∷ [];
   renewable = (record { name = []; minimum = []; maximum = mw 5 ∷ mw 5 ∷ [] }) ∷ [];
+  a = 0;
+  b = 0;
 }
+
+-- 100 dollars a MWh for unserved demand, and 20 for missing reserve
+abbrev pub priced : Instance → Instance
+priced instance = record instance { a = 100; b = 20 }
 
 -- an instance and a printed schedule of it
 pub record Example : Type 0 where
@@ -61,7 +67,20 @@ on p r c = record { on = true; p = mw p; r = mw r; category = c }
 
 -- the cells of the thermal unit, and an idle renewable one
 abbrev pub cells : List Cell → Printed
-cells row = record { thermal = row ∷ []; renewable = [] ∷ [] }
+cells row = record {
+  thermal = row ∷ [];
+  renewable = [] ∷ [];
+  shed = replicate (length row) (pos 0);
+  short = replicate (length row) (pos 0);
+  denominator = 1;
+}
+
+-- an hour at these prices in which s of demand and e of reserve are missing
+abbrev pub lacking : Instance → ℤ → ℤ → Cell → Example
+lacking instance s e cell = record {
+  instance = instance;
+  printed = record (cells (cell ∷ [])) { shed = s ∷ []; short = e ∷ [] };
+}
 
 -- the thermal unit at these demands, with these cells
 abbrev pub tried : Thermal → List ℤ → List ℤ → List Cell → Example
@@ -100,17 +119,55 @@ breaking RampDown = tried (record base_unit { rd = mw 5 }) (mw 20 ∷ mw 0 ∷ [
 -- 6 MW of the renewable unit's 5 MW
 breaking RenewableRange = record {
   instance = system base_unit (mw 36 ∷ []) (mw 0 ∷ []);
-  printed = record { thermal = (on 20 0 0 ∷ []) ∷ []; renewable = (mw 6 ∷ []) ∷ [] };
+  printed = record (cells (on 20 0 0 ∷ [])) { renewable = (mw 6 ∷ []) ∷ [] };
 }
 -- 30 MW for a demand of 31 MW
 breaking Demand = tried base_unit (mw 31 ∷ []) (mw 0 ∷ []) (on 20 0 0 ∷ [])
 -- 20 MW of reserve where 21 MW are needed
 breaking Reserve = tried base_unit (mw 30 ∷ []) (mw 21 ∷ []) (on 20 20 0 ∷ [])
+-- 1 MW of 31 unserved, which has no price
+breaking ShedRange = lacking (system base_unit (mw 31 ∷ []) (mw 0 ∷ [])) (mw 1) (pos 0) (on 20 0 0)
+-- 5 MW of reserve missing, which have no price
+breaking ShortRange = lacking (system base_unit (mw 30 ∷ []) (mw 5 ∷ [])) (pos 0) (mw 5) (on 20 0 0)
+
+-- the same rules by their other limits, at prices: less than nothing unserved, or missing, and more missing than is needed
+abbrev pub shed_below_nought : Example
+shed_below_nought = lacking (priced (system base_unit (mw 30 ∷ []) (mw 0 ∷ []))) (neg_ℤ (mw 1)) (pos 0) (on 21 0 0)
+
+abbrev pub short_below_nought : Example
+short_below_nought = lacking (priced (system base_unit (mw 30 ∷ []) (mw 5 ∷ []))) (pos 0) (neg_ℤ (mw 1)) (on 20 6 0)
+
+abbrev pub short_above_need : Example
+short_above_need = lacking (priced (system base_unit (mw 30 ∷ []) (mw 5 ∷ []))) (pos 0) (mw 6) (on 20 0 0)
+
+-- 60 MW and 5 MW of reserve of a unit of 50 MW, at a price for demand alone, and at prices for both
+abbrev pub overloaded : Instance
+overloaded = priced (system base_unit (mw 60 ∷ []) (mw 5 ∷ []))
+
+abbrev pub shed_alone : Example
+shed_alone = lacking (record overloaded { b = 0 }) (mw 15) (pos 0) (on 35 5 0)
+
+abbrev pub shed_and_short : Example
+shed_and_short = lacking overloaded (mw 10) (mw 5) (on 40 0 0)
+
+-- the schedule that obeys, in half watts
+abbrev pub halved : Example
+halved = record {
+  instance = obeying.instance;
+  printed = record (cells (on 40 10 0 ∷ [])) { denominator = 2 };
+}
+
+-- at a price of 1 for unserved demand and 20 for missing reserve, half a watt of each
+abbrev pub half_missing : Example
+half_missing = record {
+  instance = record overloaded { a = 1 };
+  printed = record (cells (off ∷ [])) { shed = pos 1 ∷ []; short = pos 1 ∷ []; denominator = 2 };
+}
 
 abbrev pub all_rules : List Rule
 all_rules =
     MustRun ∷ InitialUp ∷ InitialDown ∷ MinimumUp ∷ MinimumDown ∷ Category ∷ InitialStop ∷ Production
-    ∷ StartCap ∷ StopCap ∷ RampUp ∷ RampDown ∷ RenewableRange ∷ Demand ∷ Reserve ∷ []
+    ∷ StartCap ∷ StopCap ∷ RampUp ∷ RampDown ∷ RenewableRange ∷ Demand ∷ Reserve ∷ ShedRange ∷ ShortRange ∷ []
 
 -- the rules that the schedule which an example stands for breaks
 abbrev pub broken_rules : Example → List Rule

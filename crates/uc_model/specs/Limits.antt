@@ -1,10 +1,11 @@
 -- The limits on an instance's numbers, and its shape. Source: the fields of the pglib-uc format, with
 -- this project's limits in size.
-use Rattle.std.specs.Prelude.{◌≡◌, ℕ, suc, ◌<◌, ◌≤◌, ℤ, pos, ◌≤ℤ◌, unsigned_abs, length, All}
+use Rattle.std.specs.Prelude.{◌≡◌, ℕ, suc, ◌<◌, ◌≤◌, ℤ, pos, ◌+ℤ◌, ◌*ℤ◌, ◌≤ℤ◌, unsigned_abs, length, All}
 use Rattle.std.specs.Int.{int_max}
-use Rattle.uc_model.specs.Schedule.{Instance, point, point_count, thermal_unit, thermal_count, renewable_unit, renewable_count, renewable_minimum, renewable_maximum}
+use Rattle.uc_model.specs.Sums.{sum_below}
+use Rattle.uc_model.specs.Schedule.{Instance, point, point_count, thermal_unit, thermal_count, renewable_unit, renewable_count, renewable_minimum, renewable_maximum, most_shed, most_short}
 use Rattle.uc_model.specs.StartCategory.{Thermal, start_row, category_count}
-pub use Rattle.uc_model.specs.declared.limits.TheConstants.{MAX_PERIODS, MAX_UNITS, MAX_POINTS, MAX_START_ROWS, MAX_POWER, MAX_COST, MAX_TIME, COST_MAX}
+pub use Rattle.uc_model.specs.declared.limits.TheConstants.{MAX_PERIODS, MAX_UNITS, MAX_POINTS, MAX_START_ROWS, MAX_POWER, MAX_COST, MAX_TIME, MAX_PENALTY, MAX_SHORTAGE_COST, MAX_DENOMINATOR, COST_MAX}
 
 abbrev pub IsPower : ℤ → Type 0
 IsPower z = unsigned_abs z ≤ MAX_POWER
@@ -46,6 +47,11 @@ pub record IsLawfulRenewable (instance : Instance) (w : ℕ) : Type 0 where
   pub range : (t : ℕ) → t < instance.periods →
       int_max (renewable_minimum instance w t) (pos 0) ≤ℤ renewable_maximum instance w t
 
+-- the most that all shortages may cost at the prices a and b: a * sum of max(D,0) + b * sum of max(R,0)
+abbrev pub greatest_shortage_cost : Instance → ℕ → ℕ → ℤ
+greatest_shortage_cost instance a b =
+    pos a *ℤ sum_below instance.periods (most_shed instance) +ℤ pos b *ℤ sum_below instance.periods (most_short instance)
+
 pub record IsLawfulInstance (instance : Instance) : Type 0 where
   pub periods : (1 ≤ instance.periods) × (instance.periods ≤ MAX_PERIODS)
   pub demand_length : length instance.demand ≡ instance.periods
@@ -56,3 +62,6 @@ pub record IsLawfulInstance (instance : Instance) : Type 0 where
   pub thermal : (g : ℕ) → g < thermal_count instance → IsLawfulThermal (thermal_unit instance g)
   pub renewable_units : renewable_count instance ≤ MAX_UNITS
   pub renewable : (w : ℕ) → w < renewable_count instance → IsLawfulRenewable instance w
+  pub shed_price : instance.a ≤ MAX_PENALTY
+  pub short_price : instance.b ≤ MAX_PENALTY
+  pub shortages : greatest_shortage_cost instance instance.a instance.b ≤ℤ pos MAX_SHORTAGE_COST

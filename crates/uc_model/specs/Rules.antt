@@ -1,6 +1,7 @@
--- The rules M1 to M15 of the model. Source: the reference model by Knueven, Ostrowski and Watson
+-- The rules M1 to M17 of the model. Source: the reference model by Knueven, Ostrowski and Watson
 -- published with the pglib-uc format, each given power multiplied by the denominator q; that the ramp
--- rows M11 and M12 hold in off periods too is this model's own choice.
+-- rows M11 and M12 hold in off periods too is this model's own choice, and so are the limits M16 and M17 on
+-- what is missing of demand and reserve at a price.
 --
 -- Each rule is a test for a unit and a period, both from 0. A rule on the whole system has one unit,
 -- and M7 one period.
@@ -10,9 +11,9 @@ use Rattle.std.specs.Ordering.{int_eq}
 use Rattle.uc_model.specs.Sums.{sum_below, all_below, bit}
 use Rattle.uc_model.specs.Commitment.{Thermal, must_run_at, initial_up_at, initial_down_at, minimum_up_at, minimum_down_at, initial_stop_holds, start_cap, stop_cap}
 use Rattle.uc_model.specs.StartCategory.{category_holds_at}
-use Rattle.uc_model.specs.Schedule.{Instance, Row, Schedule, thermal_unit, thermal_count, renewable_count, renewable_minimum, renewable_maximum, demand_at, reserve_at, point_count, p_at, p_before, weight_sum}
+use Rattle.uc_model.specs.Schedule.{Instance, Row, Schedule, thermal_unit, thermal_count, renewable_count, renewable_minimum, renewable_maximum, demand_at, reserve_at, most_shed, most_short, point_count, p_at, p_before, weight_sum}
 
--- the rules by their names, in the order M1 to M15
+-- the rules by their names, in the order M1 to M17
 pub data Rule : Type 0 where
   MustRun : Rule
   InitialUp : Rule
@@ -29,6 +30,8 @@ pub data Rule : Type 0 where
   RenewableRange : Rule
   Demand : Rule
   Reserve : Rule
+  ShedRange : Rule
+  ShortRange : Rule
 
 -- M8: weights from 0 to q with sum q*u, and r >= 0; off means p = r = 0
 abbrev pub production_at : ℕ → Thermal → Row → ℕ → Bool
@@ -77,6 +80,11 @@ supply_at instance q x t =
 abbrev pub reserve_supply_at : Instance → Schedule → ℕ → ℤ
 reserve_supply_at instance x t = sum_below (thermal_count instance) (λ g. (x.thermal g).reserve t)
 
+-- what is missing of a need, over q: from 0 to the most that may be missing, and 0 where it has no price
+abbrev pub shortage_holds : ℕ → ℕ → ℤ → ℤ → Bool
+shortage_holds q price most missing =
+    int_le (pos 0) missing && int_le missing (pos q *ℤ most) && (nat_lt 0 price || int_eq missing (pos 0))
+
 -- the rule holds for this unit and period
 abbrev pub holds_at : Rule → Instance → ℕ → Schedule → ℕ → ℕ → Bool
 holds_at MustRun instance q x g t = must_run_at (thermal_unit instance g) (x.thermal g).on t
@@ -92,10 +100,14 @@ holds_at StopCap instance q x g t = stop_cap_at instance.periods q (thermal_unit
 holds_at RampUp instance q x g t = ramp_up_at q (thermal_unit instance g) (x.thermal g) t
 holds_at RampDown instance q x g t = ramp_down_at q (thermal_unit instance g) (x.thermal g) t
 holds_at RenewableRange instance q x w t = renewable_range_at instance q x w t
--- M14: the sum of p + Pmin*u plus renewable output is D(t)
-holds_at Demand instance q x _ t = int_eq (supply_at instance q x t) (pos q *ℤ demand_at instance t)
--- M15: the sum of r is at least R(t)
-holds_at Reserve instance q x _ t = int_le (pos q *ℤ reserve_at instance t) (reserve_supply_at instance x t)
+-- M14: the sum of p + Pmin*u plus renewable output and s(t) is D(t)
+holds_at Demand instance q x _ t = int_eq (supply_at instance q x t +ℤ x.shed t) (pos q *ℤ demand_at instance t)
+-- M15: the sum of r plus e(t) is at least R(t)
+holds_at Reserve instance q x _ t = int_le (pos q *ℤ reserve_at instance t) (reserve_supply_at instance x t +ℤ x.short t)
+-- M16: 0 <= s(t) <= max(D(t),0), and s(t) = 0 where A = 0
+holds_at ShedRange instance q x _ t = shortage_holds q instance.a (most_shed instance t) (x.shed t)
+-- M17: 0 <= e(t) <= max(R(t),0), and e(t) = 0 where B = 0
+holds_at ShortRange instance q x _ t = shortage_holds q instance.b (most_short instance t) (x.short t)
 
 -- the number n of the rule's name Mn
 abbrev pub rule_number : Rule → ℕ
@@ -114,6 +126,8 @@ rule_number RampDown = 12
 rule_number RenewableRange = 13
 rule_number Demand = 14
 rule_number Reserve = 15
+rule_number ShedRange = 16
+rule_number ShortRange = 17
 
 -- how many units and periods a rule speaks of
 abbrev pub rule_units : Rule → Instance → ℕ
@@ -132,6 +146,8 @@ rule_units RampDown instance = thermal_count instance
 rule_units RenewableRange instance = renewable_count instance
 rule_units Demand instance = 1
 rule_units Reserve instance = 1
+rule_units ShedRange instance = 1
+rule_units ShortRange instance = 1
 
 abbrev pub rule_periods : Rule → Instance → ℕ
 rule_periods MustRun instance = instance.periods
@@ -149,6 +165,8 @@ rule_periods RampDown instance = instance.periods
 rule_periods RenewableRange instance = instance.periods
 rule_periods Demand instance = instance.periods
 rule_periods Reserve instance = instance.periods
+rule_periods ShedRange instance = instance.periods
+rule_periods ShortRange instance = instance.periods
 
 -- the rule holds everywhere
 abbrev pub holds : Rule → Instance → ℕ → Schedule → Bool

@@ -1,7 +1,9 @@
 -- Schedules: rational dispatch as whole numerators over one denominator q >= 1. Source: the variables
 -- of the reference model by Knueven, Ostrowski and Watson, with the piecewise production cost as
--- weights on a unit's points.
+-- weights on a unit's points; what is missing of demand and of reserve at a price is slack of the power balance
+-- and of the reserve requirement, as in Egret and UnitCommitment.jl.
 use Rattle.std.specs.Prelude.{ℕ, zero, suc, Bool, false, [], ℤ, pos, ◌*ℤ◌, length, slice_index_or}
+use Rattle.std.specs.Int.{int_max}
 use Rattle.uc_model.specs.Points.{Point, point_of, output_of, weighted_total, weighted_output}
 use Rattle.uc_model.specs.Commitment.{Thermal, initial_p}
 pub use Rattle.uc_model.specs.declared.instance.Instance.{Instance}
@@ -15,10 +17,13 @@ pub record Row : Type 0 where
   pub weight : ℕ → ℕ → ℕ
   pub reserve : ℕ → ℤ
 
--- a row for each thermal unit, and each renewable unit's output (over q) in each period
+-- a row for each thermal unit, and in each period each renewable unit's output, the demand that stays unserved, s,
+-- and the reserve that is missing, e (all over q)
 pub record Schedule : Type 0 where
   pub thermal : ℕ → Row
   pub output : ℕ → ℕ → ℤ
+  pub shed : ℕ → ℤ
+  pub short : ℕ → ℤ
 
 -- thermal unit g of the instance, from 0; past the last one a unit of no power, no cost and no row
 abbrev pub no_unit : Thermal
@@ -66,6 +71,13 @@ demand_at instance t = slice_index_or instance.demand t (pos 0)
 
 abbrev pub reserve_at : Instance → ℕ → ℤ
 reserve_at instance t = slice_index_or instance.reserves t (pos 0)
+
+-- the most of both that may be missing where it has a price, max(D,0) and max(R,0)
+abbrev pub most_shed : Instance → ℕ → ℤ
+most_shed instance t = int_max (demand_at instance t) (pos 0)
+
+abbrev pub most_short : Instance → ℕ → ℤ
+most_short instance t = int_max (reserve_at instance t) (pos 0)
 
 -- point l of a unit, from 0
 abbrev pub point : Thermal → ℕ → Point

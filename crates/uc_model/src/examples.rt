@@ -4,15 +4,29 @@ ghost use Rattle.std.specs.Prelude.{◌≡◌, List, [], ◌∷◌, true, false,
 ghost use Rattle.uc_model.specs.Sums.{all_below};
 ghost use Rattle.uc_model.specs.Commitment.{cap};
 ghost use Rattle.uc_model.specs.StartCategory.{is_category_allowed, sigma};
-ghost use Rattle.uc_model.specs.Rules.{Rule, RampDown, StopCap, rule_number};
+ghost use Rattle.uc_model.specs.Rules.{Rule, RampDown, StopCap, ShedRange, ShortRange, rule_number};
 ghost use Rattle.uc_model.specs.Hull.{segment_at, hull_cost};
-ghost use Rattle.uc_model.specs.Examples.{mw, dollars, obeying, breaking, all_rules, broken_rules, two_category_unit, on_off_on, uneven_unit, one_stop, two_stops, weak_start_unit, pattern, stopping, printed_cost_of, bent_unit, rising_unit, falling_unit, rule_at_period, ramp_down_between_on_periods, stop_cap_in_stop_period};
+ghost use Rattle.uc_model.specs.Examples.{mw, dollars, obeying, breaking, all_rules, broken_rules, two_category_unit, on_off_on, uneven_unit, one_stop, two_stops, weak_start_unit, pattern, stopping, printed_cost_of, bent_unit, rising_unit, falling_unit, rule_at_period, ramp_down_between_on_periods, stop_cap_in_stop_period, shed_below_nought, short_below_nought, short_above_need, shed_alone, shed_and_short, halved, half_missing};
 
 /// For each rule there is a schedule that breaks it and no other rule, and there is one that obeys all.
 pub fn each_rule_is_told_apart()
-    ensures numbers { map rule_number all_rules ≡ 1 ∷ 2 ∷ 3 ∷ 4 ∷ 5 ∷ 6 ∷ 7 ∷ 8 ∷ 9 ∷ 10 ∷ 11 ∷ 12 ∷ 13 ∷ 14 ∷ 15 ∷ [] }
+    ensures numbers { map rule_number all_rules ≡ 1 ∷ 2 ∷ 3 ∷ 4 ∷ 5 ∷ 6 ∷ 7 ∷ 8 ∷ 9 ∷ 10 ∷ 11 ∷ 12 ∷ 13 ∷ 14 ∷ 15 ∷ 16 ∷ 17 ∷ [] }
     ensures obeying { broken_rules obeying ≡ [] }
     ensures breaking { (rule : Rule) → broken_rules (breaking rule) ≡ rule ∷ [] }
+    ensures shed_low { broken_rules shed_below_nought ≡ ShedRange ∷ [] }
+    ensures short_low { broken_rules short_below_nought ≡ ShortRange ∷ [] }
+    ensures short_high { broken_rules short_above_need ≡ ShortRange ∷ [] }
+{}
+
+/// Demand and reserve that are missing at a price, and a schedule in half watts; parts of a micro-dollar are rounded up.
+pub fn shortages_and_denominators_by_example()
+    ensures shed { broken_rules shed_alone ≡ [] }
+    ensures shed_cost { printed_cost_of shed_alone ≡ dollars 1950 }
+    ensures both { broken_rules shed_and_short ≡ [] }
+    ensures both_cost { printed_cost_of shed_and_short ≡ dollars 1600 }
+    ensures halved { broken_rules halved ≡ [] }
+    ensures halved_cost { printed_cost_of halved ≡ dollars 300 }
+    ensures rounded_up { printed_cost_of half_missing ≡ pos 11 }
 {}
 
 /// Start categories by the stops and by the initial time off, and the least start cost by the last stop.

@@ -61,7 +61,8 @@ pub struct Renewable {
     pub maximum: List<i64>,
 }
 
-/// A system over `periods` hours. `demand` and `reserves` are watts in each period.
+/// A system over `periods` hours. `demand` and `reserves` are watts in each period. `a` and `b` are the prices at which
+/// demand may stay unserved and reserve may be missing, in micro-dollars for a watt and an hour; 0 allows neither.
 #[derive(Drop)]
 pub struct Instance {
     pub periods: u32,
@@ -69,4 +70,6 @@ pub struct Instance {
     pub reserves: List<i64>,
     pub thermal: List<Thermal>,
     pub renewable: List<Renewable>,
+    pub a: u32,
+    pub b: u32,
 }

@@ -1,4 +1,4 @@
-//! The unit commitment model: instances, schedules, the rules M1 to M15, costs and the lower hull,
+//! The unit commitment model: instances, schedules, the rules M1 to M17, costs and the lower hull,
 //! and the arithmetic on whole numbers and the texts of money that every crate above uses.
 //!
 //! Power is whole watts and money whole micro-dollars.

@@ -1,5 +1,5 @@
 -- What is answered after a search over the tree: what its leaves store, the best schedule, and what is told of the most-on commitment.
-use Rattle.std.proofs.Common.{◌≡◌, ⊎_elim, ℕ, ◌<◌, All, length, refl, sym, subst, arith, ℤ, pos, ◌≤ℤ◌, ◌<ℤ◌, Some, Option, None, IfSome}
+use Rattle.std.proofs.Common.{◌≡◌, ⊎_elim, ℕ, ◌<◌, All, length, refl, sym, subst, arith, ℤ, pos, ◌≤ℤ◌, ◌<ℤ◌, Some, Option, None, IfSome, false}
 use Rattle.std.proofs.lemmas.List.Elements.{All-weaker}
 use Rattle.uc_model.specs.Limits.{IsLawfulInstance}
 use Rattle.uc_model.proofs.Quotients.{IsFloor-greatest, IsFloor-int_div_euclid}
@@ -56,7 +56,7 @@ bound_rises v w k scale le =
     IsFloor-greatest w k (bound_of w k) (bound_of v k) scale (IsFloor-int_div_euclid w k scale) (le_trans _ _ _ low.below le)
 
 reaches : (instance : Instance) (table : Table) (v least bound : ℤ) → IsNodeValue instance root table v → pos 0 <ℤ table.k
-    → bound_of v table.k ≤ℤ least → least ≤ℤ bound → ReachesBoundOf instance root table bound
+    → bound_of v table.k ≤ℤ least → least ≤ℤ bound → ReachesBoundOf false instance root table bound
 reaches instance table v least bound value scale first rest = record {
   bound = bound_of v table.k;
   is_bound = record { value = v; is_value = value; quotient = IsFloor-int_div_euclid v table.k scale };

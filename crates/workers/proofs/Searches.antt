@@ -146,7 +146,7 @@ node_of instance here (SplitAt number g t off on) wanted part is cover e =
 
 -- a bound of a table is one of the tables
 bounded_there : (instance : Instance) (m : Machine) (number : ℕ) (here : Node) (at : IsOpenAt m.tree.nodes number)
-    → IsBoundedBy instance m.tables here at.table at.value → HasStoredTable m number
+    → IsBoundedBy false instance m.tables here at.table at.value → HasStoredTable m number
 bounded_there instance m number here at h = record {
   table = h.table;
   is_table = ap (λ (s : Stored). slice_get m.tables s.table) (ap spot_stored at.live) ∙ h.is_table;
@@ -161,7 +161,7 @@ pub claimed_ready : (instance : Instance) (opening : Priced) (budget gap : ℕ) 
 claimed_ready instance opening budget gap m new node unit is holds whole legal taken unit_is =
     let at = legal.1.open_node.live in
     let part = leaf_part m.tree node at in
-    let bounded : IsBoundedBy instance m.tables part.part.node at.table at.value =
+    let bounded : IsBoundedBy false instance m.tables part.part.node at.table at.value =
     holds_of_leaf (StoredHolds instance m.tables) m.tree node (leaf.Live at.table at.value) part holds.stored in
     subst (λ (x : Machine). IsReady instance x node unit) (sym taken) (record {
       live = at;

@@ -113,20 +113,20 @@ each_named used here (Splits g t off on) turn =
 
 -- ---- what a leaf claims
 bounded_there : (instance : Instance) (tables : List Table) (used : List ℕ) (node : Node) (number : ℕ) (value b : ℤ) → IsAmong used number → b ≤ℤ value
-    → IsBoundedBy instance tables node number value → IsBoundedBy instance (map (table_at tables) used) node (place_of used number) b
+    → IsBoundedBy false instance tables node number value → IsBoundedBy false instance (map (table_at tables) used) node (place_of used number) b
 bounded_there instance tables used node number value b among below h = record {
   table = h.table;
   is_table = written_at tables used number h.table among h.is_table;
   scale = h.scale;
   bounds = ⊎_elim
-      (λ (has : HasBoundOf instance node h.table value).
+      (λ (has : HasBoundOf false instance node h.table value).
       inl (record { bound = has.bound; is_bound = has.is_bound; enough = le_trans b value has.bound below has.enough }))
       (λ (empty : HasEmptyUnit instance node). inr empty)
       h.bounds;
 }
 
 excluded_there : (instance : Instance) (tables : List Table) (used : List ℕ) (node : Node) (number : ℕ) → IsAmong used number
-    → IsExcludedByRay instance tables node number → IsExcludedByRay instance (map (table_at tables) used) node (place_of used number)
+    → IsExcludedByRay false instance tables node number → IsExcludedByRay false instance (map (table_at tables) used) node (place_of used number)
 excluded_there instance tables used node number among h =
     record { table = h.table; is_table = written_at tables used number h.table among h.is_table; scale = h.scale; excludes = h.excludes }
 

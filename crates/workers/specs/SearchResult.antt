@@ -42,7 +42,7 @@ IsNoDearer schedule (StuckIn t) = Unit {0}
 pub record ReachesMarginal (instance : Instance) (printed : Printed) (bound : ℤ) : Type 0 where
   pub table : Table
   pub is_marginal : IsMarginalTable instance printed table
-  pub reached : ReachesBoundOf instance root table bound
+  pub reached : ReachesBoundOf false instance root table bound
 
 abbrev pub ReachesMarginalOf : Instance → Ending → ℤ → Type 0
 ReachesMarginalOf instance (Dispatched printed cost) bound = ReachesMarginal instance printed bound
@@ -60,7 +60,7 @@ pub record HoldsOwnTables (instance : Instance) (ending : Ending) (found : Found
 
 -- what a bound has to reach
 pub record IsBoundOpened (instance : Instance) (ending : Ending) (bound : ℤ) : Type 0 where
-  pub unpriced : ReachesBoundOf instance root (zero_table instance) bound
+  pub unpriced : ReachesBoundOf false instance root (zero_table instance) bound
   pub marginal : ReachesMarginalOf instance ending bound
 
 -- the drop commitment, where each unit has an allowed pattern, and what it gives; and what nodes store, where no ray of the opening

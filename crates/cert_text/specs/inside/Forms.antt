@@ -195,9 +195,9 @@ split_at size =
 
 unfoldable pub node_at : Sizes → Form TreeNode
 node_at size bytes =
-    when (text_at (codes "bound ") bytes) (mapped (λ n. LeafNode (Bound n)) (named_at size.tables))
-    (when (text_at (codes "ray ") bytes) (mapped (λ n. LeafNode (Ray n)) (named_at size.tables))
-    (when (text_at (codes "empty ") bytes) (mapped (λ n. LeafNode (Empty n)) (named_at size.thermal))
+    when (text_at (codes "bound ") bytes) (mapped (λ n. LeafNode (Bound false n)) (named_at size.tables))
+    (when (text_at (codes "ray ") bytes) (mapped (λ n. LeafNode (Ray false n)) (named_at size.tables))
+    (when (text_at (codes "empty ") bytes) (mapped (λ n. LeafNode (Empty false n)) (named_at size.thermal))
     (mapped (λ p. SplitNode p.0 p.1) (after (codes "split ") (split_at size)) bytes)))
 
 unfoldable pub end_at : Form (Unit {0})

@@ -1,6 +1,6 @@
 -- Reading parts of a certificate, of one or more lines each: the value of a part and the bytes behind it, or the bytes from
 -- the first line on that may not stand there.
-use Rattle.std.specs.Prelude.{◌≡◌, ℕ, zero, suc, List, [], ◌∷◌, length, Option, Some, None, Result, Ok, Err, ℤ, pos, codes}
+use Rattle.std.specs.Prelude.{◌≡◌, ℕ, zero, suc, List, [], ◌∷◌, length, Option, Some, None, Result, Ok, Err, ℤ, pos, codes, replicate}
 use Rattle.std.specs.Option.{ok_or}
 use Rattle.dual_model.specs.Certificate.{WrittenSchedule}
 use Rattle.cert_text.specs.CertificateText.{Cell, RampRow, Table, Listing, TreeNode, LeafNode, SplitNode}
@@ -9,6 +9,7 @@ pub use Rattle.cert_text.specs.declared.reader.stop.Stop.{Stop}
 use Rattle.cert_text.specs.declared.reader.stop.Stop.TheVariants as stops
 use Rattle.cert_text.specs.inside.Forms.{Form, signed_at, version_at, size_at, claim_at, schedule_at, cell_at, row_at, scale_at, ramp_count_at, ramp_at, node_at, end_at}
 use Rattle.cert_text.specs.declared.reader.sizes.Size.{Size}
+use Rattle.uc_model.specs.declared.schedule.Printed.{Printed}
 
 infixl 10 ◌>>=◌
 abbrev pub ◌>>=◌ : {A B : Type 0} → Result A (List ℕ) → (A → Result B (List ℕ)) → Result B (List ℕ)
@@ -50,12 +51,22 @@ unfoldable pub printed_part : Sizes → Part (List (List Cell) × List (List ℤ
 printed_part size =
     then (rows_of (codes "t") size.thermal size.periods cell_at) (λ _. rows_of (codes "w") size.renewable size.periods (signed_at 15))
 
-abbrev pub written : ℤ → List (List Cell) × List (List ℤ) → Option WrittenSchedule
-written cost rows = Some (record { printed = record { thermal = rows.0; renewable = rows.1 }; cost = cost })
+-- nothing is missing, in whole watts
+abbrev pub plan_of : ℕ → List (List Cell) → List (List ℤ) → Printed
+plan_of periods thermal renewable = record {
+  thermal = thermal;
+  renewable = renewable;
+  shed = replicate periods (pos 0);
+  short = replicate periods (pos 0);
+  denominator = 1;
+}
+
+abbrev pub written : ℕ → ℤ → List (List Cell) × List (List ℤ) → Option WrittenSchedule
+written periods cost rows = Some (record { printed = plan_of periods rows.0 rows.1; cost = cost })
 
 abbrev pub rows_behind : Sizes → Option ℤ → Part (Option WrittenSchedule)
 rows_behind size None bytes = Ok (None, bytes)
-rows_behind size (Some cost) bytes = told (written cost) (printed_part size) bytes
+rows_behind size (Some cost) bytes = told (written size.periods cost) (printed_part size) bytes
 
 unfoldable pub schedule_part : Sizes → Part (Option WrittenSchedule)
 schedule_part size bytes = line_of schedule_at bytes >>= λ x. rows_behind size x.0 x.1

@@ -1,7 +1,8 @@
 //! Schedules.
 
-ghost use Rattle.std.specs.Prelude.{◌≡◌, Ok, Err};
+ghost use Rattle.std.specs.Prelude.{◌≡◌, Ok, Err, IfOk, pos, replicate};
 ghost use Rattle.branch_tree.specs.Claims.{written_of};
+ghost use Rattle.uc_model.specs.PrintedSchedule.{LacksNothing};
 ghost use Rattle.cert_text.specs.inside.Parts.{GivesPart, printed_part, schedule_part, sizes};
 
 use super::lines::take_schedule;
@@ -9,25 +10,36 @@ use super::sizes::Size;
 use super::stop::Stop;
 use super::words::{CellWord, Watts, take_rows};
 use std::alloc::Global;
-use uc_model::{List, Printed};
+use uc_model::{List, NoMemory, Printed};
 
-// The rows of all units.
+// The rows of all units; nothing is missing, and the watts are whole.
 #[tactic(auto, unfolding(crate::specs::inside::Parts::printed_part))]
 fn take_printed<'a>(
     alloc: Global,
     size: &Size,
     bytes: &'a [u8],
 ) -> Result<(Printed, &'a [u8]), Stop<'a>>
-    ensures { GivesPart (λ r. ((r.0.thermal, r.0.renewable), r.1.now)) result
+    ensures rows { GivesPart (λ r. ((r.0.thermal, r.0.renewable), r.1.now)) result
         (printed_part (sizes size.now) bytes.now) }
+    ensures whole { IfOk result (λ r. LacksNothing size.now.periods r.0) }
 {
     let (thermal, rest) = take_rows(alloc, b"t", &CellWord, size.thermal, size.periods, bytes)?;
     let (renewable, rest) = take_rows(alloc, b"w", &Watts, size.renewable, size.periods, rest)?;
     let printed = Printed {
         thermal: List::from_vec(thermal),
         renewable: List::from_vec(renewable),
+        shed: nothing(alloc, size.periods)?,
+        short: nothing(alloc, size.periods)?,
+        denominator: 1,
     };
     Ok((printed, rest))
+}
+
+// No power in each period.
+fn nothing(alloc: Global, periods: u32) -> Result<List<i64>, NoMemory>
+    ensures { IfOk result (λ powers. powers ≡ replicate periods (pos 0)) }
+{
+    Ok(List::from_vec(vec![in alloc; 0; periods as usize]?))
 }
 
 /// The schedule with its cost, or none.

@@ -1,8 +1,8 @@
 -- The cost of the output that was priced last. This project's own.
-use Rattle.std.specs.Prelude.{◌≡◌}
+use Rattle.std.specs.Prelude.{◌≡◌, ℕ}
 use Rattle.uc_model.specs.Hull.{hull_cost}
 use Rattle.uc_model.specs.declared.instance.Thermal.{Thermal}
 use Rattle.schedule_check.specs.declared.pricing.Known.{Known}
 
-abbrev pub IsKnownOn : Thermal → Known → Type 0
-IsKnownOn unit known = known.cost ≡ hull_cost unit.points 1 known.output
+abbrev pub IsKnownOn : ℕ → Thermal → Known → Type 0
+IsKnownOn d unit known = known.cost ≡ hull_cost unit.points d known.output

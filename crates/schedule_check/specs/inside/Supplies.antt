@@ -3,7 +3,7 @@ use Rattle.std.specs.Prelude.{ℕ, ℤ}
 use Rattle.uc_model.specs.PrintedSchedule.{cell_at}
 use Rattle.uc_model.specs.Schedule.{thermal_count, renewable_count}
 use Rattle.schedule_check.specs.SizedNumbers.{Printed, output_at}
-use Rattle.schedule_check.specs.WholeWatts.{thermal_supply}
+use Rattle.schedule_check.specs.WholeWatts.{over, thermal_supply_by}
 use Rattle.uc_model.specs.declared.instance.Instance.{Instance}
 use Rattle.schedule_check.specs.declared.balance.Kind.{Kind}
 use Rattle.schedule_check.specs.declared.balance.Kind.TheVariants.{Thermal, Reserve, Renewable}
@@ -16,6 +16,6 @@ units_of Renewable instance = renewable_count instance
 
 -- what each of them gives
 abbrev pub given_at : Kind → Instance → Printed → ℕ → ℕ → ℤ
-given_at Thermal instance printed g t = thermal_supply instance printed g t
+given_at Thermal instance printed g t = thermal_supply_by (over printed.denominator) instance printed g t
 given_at Reserve instance printed g t = (cell_at printed g t).r
 given_at Renewable instance printed w t = output_at printed w t

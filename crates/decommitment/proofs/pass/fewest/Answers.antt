@@ -1,17 +1,20 @@
--- Each unit has an allowed pattern.
-use Rattle.std.proofs.Common.{◌≡◌, ap, arith, length, subst, sym, ◌∙◌, slice_index_or}
-use Rattle.std.proofs.lemmas.List.{get_or_read}
+-- The unit is the instance's, and has an allowed pattern.
+use Rattle.std.proofs.Common.{subst, sym}
 use Rattle.uc_model.specs.ExtremePatterns.{HasNoAllowedPattern}
-use Rattle.uc_model.specs.Schedule.{no_unit, thermal_unit}
+use Rattle.uc_model.specs.Limits.{IsLawfulThermal}
+use Rattle.uc_model.specs.Schedule.{thermal_unit}
+use Rattle.dispatch_repair.proofs.Places.{unit_read}
 use Rattle.decommitment.proofs.pass.fewest.Goals as goal
 
-unit_is : (c : goal.In-None) → thermal_unit c.args.instance.now c.args.g ≡ c.index-as_slice-g.result
-unit_is c =
-    ap (λ units. slice_index_or units c.args.g no_unit) (sym c.as_slice.ensures)
-    ∙ sym (get_or_read c.as_slice.result.now c.args.g c.index-as_slice-g.result (omega (arith, c.requires.unit, ap length c.as_slice.ensures)) c.index-as_slice-g.is no_unit)
+pub fewest_of-requires-clause-lawful : goal.fewest_of-requires-clause-lawful
+fewest_of-requires-clause-lawful c =
+    subst IsLawfulThermal (sym (unit_read c.args.instance.now c.as_slice.result.now c.args.g c.index-as_slice-g.result c.as_slice.ensures c.requires.unit c.index-as_slice-g.is))
+    (c.requires.lawful.thermal c.args.g c.requires.unit)
 
 pub unreachable-requires : goal.unreachable-requires
 unreachable-requires c =
     let none : HasNoAllowedPattern c.args.instance.now.periods (thermal_unit c.args.instance.now c.args.g) =
-    subst (HasNoAllowedPattern c.args.instance.now.periods) (sym (unit_is c)) c.in-None.ensures.pattern in
+    subst (HasNoAllowedPattern c.args.instance.now.periods)
+    (unit_read c.args.instance.now c.as_slice.result.now c.args.g c.index-as_slice-g.result c.as_slice.ensures c.requires.unit c.index-as_slice-g.is)
+    c.in-None.ensures.pattern in
     c.requires.each c.args.g c.requires.unit (λ on pattern. none on pattern.allowed)

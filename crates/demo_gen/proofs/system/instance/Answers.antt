@@ -24,7 +24,7 @@ returns-clause-generated c =
     let reserves = c.from_vec-2.ensures ∙ c.in_ok-reserves.ensures ∙ (λ i. replicate 24 (millions (3 * range i / 100))) in
     let thermal = c.from_vec-3.ensures ∙ c.in_ok-units.ensures.thermal in
     let renewable = c.from_vec-4.ensures ∙ c.in_ok-renewables.ensures.items ∙ ap (λ unit. unit ∷ []) c.in_ok-renewable.ensures in
-    λ i. record { periods = 24; demand = demand i; reserves = reserves i; thermal = thermal i; renewable = renewable i }
+    λ i. record { periods = 24; demand = demand i; reserves = reserves i; thermal = thermal i; renewable = renewable i; a = 0; b = 0 }
 
 pub returns-clause-lawful : goal.returns-clause-lawful
 returns-clause-lawful c = subst IsLawfulInstance (sym (returns-clause-generated c)) (demo_lawful c.args.seed)

@@ -1,11 +1,17 @@
 -- The unit is the instance's, and what it gave before is its amount.
-use Rattle.std.proofs.Common.{◌≡◌, ◌+◌, ap, ◌∙◌, length}
+use Rattle.std.proofs.Common.{◌≡◌, ◌+◌, ap, sym, subst, ◌∙◌, length}
+use Rattle.uc_model.specs.Limits.{IsLawfulThermal}
 use Rattle.uc_model.specs.Schedule.{renewable_count}
 use Rattle.dispatch_repair.specs.Period.{commitment_at, lowest, highest}
 use Rattle.dispatch_repair.specs.Dispatch.{period_after}
 use Rattle.dispatch_repair.specs.inside.Amounts.{amount_at, thermal_amount}
 use Rattle.dispatch_repair.proofs.Places.{thermal_range, unit_read}
 use Rattle.dispatch_repair.proofs.ranges.reach_of.Goals as goal
+
+pub unit_reach-requires-clause-lawful : goal.unit_reach-requires-clause-lawful
+unit_reach-requires-clause-lawful c =
+    subst IsLawfulThermal (sym (unit_read c.args.instance.now c.as_slice-2.result.now c.args.g c.index-as_slice-g.result c.as_slice-2.ensures c.requires.unit c.index-as_slice-g.is))
+    (c.requires.before.lawful.thermal c.args.g c.requires.unit)
 
 pub returns-clause-range : goal.returns-clause-range
 returns-clause-range c =

@@ -1,11 +1,13 @@
 -- The row's cost is the next term.
-use Rattle.std.proofs.Common.{◌≡◌, ℕ, ◌*◌, ◌^◌, ◌<◌, List, [], length, sym, ap, subst, ◌∙◌, arith, slice_index_or}
+use Rattle.std.proofs.Common.{◌≡◌, ℕ, ◌*◌, ◌^◌, ◌<◌, List, [], length, sym, ap, subst, ◌∙◌, arith, ◌+ℤ◌, slice_index_or}
 use Rattle.std.proofs.lemmas.List.{length-map}
 use Rattle.std.proofs.lemmas.List.Elements.{All-get_or}
 use Rattle.uc_model.specs.Limits.{IsLawfulThermal}
 use Rattle.uc_model.specs.PrintedSchedule.{cell_at, printed_cell_cost}
 use Rattle.uc_model.specs.Schedule.{thermal_count, thermal_unit}
 use Rattle.uc_model.specs.Sums.{sum_below}
+use Rattle.uc_model.proofs.Ring.{add-zero}
+use Rattle.uc_model.proofs.Shortages.{no_shortage_cost}
 use Rattle.std.specs.declared.alloc.Global.{Global}
 use Rattle.std.specs.declared.vec.Vec.{Vec}
 use Rattle.uc_model.specs.declared.instance.Thermal.{Thermal}
@@ -73,3 +75,14 @@ loop-g-preserved c =
     (c.row_cost.ensures.value ∙ (λ i. sum_below (it.periods i) (λ t. printed_cell_cost (it.is i) 1 (cell (it.row_is i) t))))
     c.sum-total.ensures c.loop-g.invariant.size c.row_cost.ensures.size (omega (arith, it.within, c.requires.lawful.thermal_units)) in
     record { value = next.value; size = next.size }
+
+-- and nothing that is missing adds to it
+pub returns : goal.returns
+returns c =
+    let instance = c.args.instance.now in
+    let printed = printed_of c.args.rows.now in
+    let units = λ (g : ℕ). sum_below instance.periods (λ t. printed_cell_cost (thermal_unit instance g) 1 (cell_at printed g t)) in
+    let ended : c.loop-g.g ≡ thermal_count instance = omega (arith, c.loop-g-test.false, c.loop-g.auto.g-end, ap length c.as_slice-units.ensures) in
+    let free = no_shortage_cost instance printed c.requires.shape.supply in
+    c.loop-g.invariant.value ∙ ap (λ n. sum_below n units) ended
+    ∙ sym (ap (λ z. sum_below (thermal_count instance) units +ℤ z) free ∙ add-zero (sum_below (thermal_count instance) units))

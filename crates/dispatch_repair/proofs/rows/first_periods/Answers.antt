@@ -1,18 +1,34 @@
 -- Each row is cut to the periods.
-use Rattle.std.proofs.Common.{◌≡◌, sym, subst, take, ◌∙◌, map}
+use Rattle.std.proofs.Common.{◌≡◌, sym, subst, ◌∙◌, IfOk}
 use Rattle.std.proofs.lemmas.Result.{IfOk-weaker}
 use Rattle.dispatch_repair.specs.Dispatch.{Printed, HasPeriods}
-use Rattle.dispatch_repair.specs.Rooms.{printed_of}
-use Rattle.dispatch_repair.proofs.RowsEdits.{cut_shape}
+use Rattle.dispatch_repair.specs.Rooms.{Rows, AreSameBelow, printed_of}
+use Rattle.dispatch_repair.proofs.RowsEdits.{cut_at, cut_same, cut_shape}
 use Rattle.dispatch_repair.proofs.rows.first_periods.Goals as goal
+
+-- the rows as they are cut
+cut_rows : (c : goal.After-printed) → Rows
+cut_rows c = record { thermal = c.cut.new.rows; renewable = c.cut-2.new.rows; shed = c.truncate.new.self; short = c.truncate-2.new.self }
+
+cut-is : (c : goal.After-printed) → printed_of (cut_rows c) ≡ cut_at c.args.periods (printed_of c.args.rows)
+unfolding cut_rows
+cut-is c = λ i. record {
+  thermal = c.cut.ensures i;
+  renewable = c.cut-2.ensures i;
+  shed = c.truncate.ensures.items i;
+  short = c.truncate-2.ensures.items i;
+  denominator = 1;
+}
+
+-- so what is printed of them is what is cut
+cut_printed : (c : goal.After-printed) (P : Printed → Type 0) → P (cut_at c.args.periods (printed_of c.args.rows)) → IfOk c.printed.result P
+unfolding cut_rows
+cut_printed c P h =
+    IfOk-weaker c.printed.result (λ (printed : Printed). printed ≡ printed_of (cut_rows c)) P (λ printed same. subst P (sym (same ∙ cut-is c)) h) c.printed.ensures
 
 pub returns-clause-shape : goal.returns-clause-shape
 returns-clause-shape c = λ instance shape h.
-    let old = printed_of c.args.rows in
-    let cut_both : printed_of (record { thermal = c.cut.new.rows; renewable = c.cut-2.new.rows })
-    ≡ (record { thermal = map (take c.args.periods) old.thermal; renewable = map (take c.args.periods) old.renewable }) =
-    λ i. record { thermal = c.cut.ensures i; renewable = c.cut-2.ensures i } in
-    IfOk-weaker c.printed.result (λ (printed : Printed). printed ≡ printed_of (record { thermal = c.cut.new.rows; renewable = c.cut-2.new.rows }))
-    (HasPeriods instance c.args.periods)
-    (λ printed same. subst (HasPeriods instance c.args.periods) (sym (same ∙ cut_both)) (cut_shape instance c.args.periods old shape h))
-    c.printed.ensures
+    cut_printed c (HasPeriods instance c.args.periods) (cut_shape instance c.args.periods (printed_of c.args.rows) shape h)
+
+pub returns-clause-same : goal.returns-clause-same
+returns-clause-same c = cut_printed c (AreSameBelow c.args.periods (printed_of c.args.rows)) (cut_same c.args.periods (printed_of c.args.rows))

@@ -8,7 +8,7 @@ use Rattle.opening_tables.proofs.PricedPeriods.{priced_lawful, priced_table}
 use Rattle.opening_tables.proofs.marginal_prices.marginal_in.Goals as goal
 
 pub period_prices-requires-clause-outputs : goal.period_prices-requires-clause-outputs
-period_prices-requires-clause-outputs c = outputs_within c.args.instance.now c.args.printed.now c.requires.lawful c.requires.obeys
+period_prices-requires-clause-outputs c = outputs_within c.args.instance.now c.args.printed.now c.requires.lawful c.requires.whole c.requires.obeys
 
 pub returns-clause-lawful : goal.returns-clause-lawful
 returns-clause-lawful c =

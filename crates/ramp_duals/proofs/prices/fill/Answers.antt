@@ -1,5 +1,5 @@
 -- One period more.
-use Rattle.std.proofs.Common.{◌≡◌, ℕ, suc, ◌+◌, ◌<◌, ◌≢◌, ◌⊎◌, ⊎_elim, List, length, add-one, arith, sym, subst, ℤ, get_or-set_other, get_or-set_same, slice_set, length-set}
+use Rattle.std.proofs.Common.{◌≡◌, ℕ, ◌+◌, ◌<◌, ◌≢◌, ⊎_elim, List, length, add-one, arith, sym, subst, ℤ, get_or-set_other, get_or-set_same, slice_set, length-set}
 use Rattle.dual_model.specs.TableValue.{row_at}
 use Rattle.ramp_duals.specs.RampRows.{Table, AreOf, IsRowOf}
 use Rattle.ramp_duals.proofs.PriceSizes.{row-size}
@@ -18,8 +18,7 @@ more_rows table g t rows row inside is before k h =
 pub loop-t-preserved : goal.loop-t-preserved
 loop-t-preserved c =
     let so_far = c.loop-t.invariant in
-    let here = subst (λ rows. AreOf rows c.args.g (suc c.loop-t.t) c.following-next.result) c.ramps-in-loop-t.ensures.rows c.following-next.ensures in
-    let next = subst (λ k. AreOf c.args.table.now.ramps c.args.g k c.following-next.result) (sym (add-one c.loop-t.t)) here in (
+    let next = subst (λ k. AreOf c.unit_rows-ramps.result.now c.args.g k c.following-next.result) (sym (add-one c.loop-t.t)) c.following-next.ensures in (
       next,
       rw length-set so_far.1,
       more_rows c.args.table.now c.args.g c.loop-t.t c.loop-t.rows c.row.result (omega (arith, c.loop-t-test.true, so_far.1)) c.row.ensures so_far.2,

@@ -6,5 +6,5 @@ use Rattle.ramp_duals.proofs.prices.fill.Given as goal
 
 abbrev pub invariant-loop-t : goal.invariant-loop-t
 invariant-loop-t l =
-    AreOf l.table.ramps l.g l.t l.now × (length l.rows ≡ length l.table.pi)
+    AreOf l.ramps l.g l.t l.now × (length l.rows ≡ length l.table.pi)
     × ((k : ℕ) → k < l.t → IsRowOf l.table l.g k (row_at l.rows k))

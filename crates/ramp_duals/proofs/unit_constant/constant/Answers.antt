@@ -9,6 +9,7 @@ use Rattle.dual_model.specs.Prices.{up_at, down_at}
 use Rattle.ramp_duals.specs.RampRows.{AreOf}
 use Rattle.ramp_duals.specs.Sizes.{MAX_CONSTANT}
 use Rattle.ramp_duals.proofs.ConstantSizes.{constant_size}
+use Rattle.ramp_duals.proofs.RowOrder.{in_table}
 use Rattle.ramp_duals.proofs.unit_constant.constant.Goals as goal
 
 pub sum-total-requires : goal.sum-total-requires
@@ -28,11 +29,12 @@ loop-t-preserved c =
     let table = c.args.table.now in
     let unit = c.args.unit.now in
     let part = λ (t : ℕ). neg_ℤ (up_at table c.args.g t *ℤ unit.ru) -ℤ down_at table c.args.g t *ℤ unit.rd in
-    let next = subst (λ rows. AreOf rows c.args.g (suc c.loop-t.t) c.following-now.result) c.ramps-in-loop-t.ensures.rows c.following-now.ensures in
+    let ramps = c.unit_rows-ramps.result.now in
+    let now = in_table table ramps c.args.g c.loop-t.t c.loop-t.now c.unit_rows-ramps.ensures.look_up so_far.0 in
     let added : c.sum-total.result ≡ to_z w128 c.loop-t.total-bits +ℤ c.ramp_part.result =
     c.sum-total.ensures ∙ (λ i. to_z w128 c.loop-t.total-bits +ℤ wide c.ramp_part.result (2 ^ 108) c.ramp_part.ensures.size (lit< tt) i) in
     let here : c.ramp_part.result ≡ part c.loop-t.t =
-    c.ramp_part.ensures.value ∙ (λ i. neg_ℤ (so_far.0.up i *ℤ unit.ru) -ℤ so_far.0.down i *ℤ unit.rd) in
+    c.ramp_part.ensures.value ∙ (λ i. neg_ℤ (now.up i *ℤ unit.ru) -ℤ now.down i *ℤ unit.rd) in
     let lengths = ap (λ pi. length pi) c.pi-t-end.ensures in
     let periods : suc c.loop-t.t ≤ 168 = omega (arith, c.loop-t-test.true, c.requires.periods) in
     let size : unsigned_abs c.sum-total.result ≤ suc c.loop-t.t * 2 ^ 108 =
@@ -40,11 +42,11 @@ loop-t-preserved c =
     (omega (arith, abs_add (to_z w128 c.loop-t.total-bits) c.ramp_part.result (c.loop-t.t * 2 ^ 108) (2 ^ 108) so_far.2 c.ramp_part.ensures.size)) in
     let kept : to_z w128 (of_z w128 c.sum-total.result) ≡ c.sum-total.result =
     wide c.sum-total.result (168 * 2 ^ 108) (omega (arith, size, periods)) (lit< tt) in
-    subst (λ k. AreOf table.ramps c.args.g k c.following-now.result
+    subst (λ k. AreOf ramps c.args.g k c.following-now.result
     × (to_z w128 (of_z w128 c.sum-total.result) ≡ sum_below k part)
     × (unsigned_abs (to_z w128 (of_z w128 c.sum-total.result)) ≤ k * 2 ^ 108))
     (sym (add-one c.loop-t.t))
-    (next, kept ∙ added ∙ (λ i. so_far.1 i +ℤ here i), subst (λ x. unsigned_abs x ≤ suc c.loop-t.t * 2 ^ 108) (sym kept) size)
+    (c.following-now.ensures, kept ∙ added ∙ (λ i. so_far.1 i +ℤ here i), subst (λ x. unsigned_abs x ≤ suc c.loop-t.t * 2 ^ 108) (sym kept) size)
 
 pub returns : goal.returns
 returns c =
@@ -53,7 +55,7 @@ returns c =
     let unit = c.args.unit.now in
     let g = c.args.g in
     let part = λ (t : ℕ). neg_ℤ (up_at table g t *ℤ unit.ru) -ℤ down_at table g t *ℤ unit.rd in
-    let first = subst (λ rows. AreOf rows g 0 c.multipliers_of-first.result) c.ramps.ensures.rows c.multipliers_of-first.ensures in
+    let first = in_table table c.unit_rows-ramps.result.now g 0 c.multipliers_of-first.result c.unit_rows-ramps.ensures.look_up c.multipliers_of-first.ensures in
     let added : c.sum.result ≡ to_z w128 c.loop-t.total-bits +ℤ c.initial_part.result =
     c.sum.ensures ∙ (λ i. to_z w128 c.loop-t.total-bits +ℤ wide c.initial_part.result (2 ^ 110) c.initial_part.ensures.size (lit< tt) i) in
     let initial : c.initial_part.result ≡ (down_at table g 0 -ℤ up_at table g 0) *ℤ initial_p unit =

@@ -7,6 +7,6 @@ use Rattle.ramp_duals.proofs.unit_constant.constant.Given as goal
 
 abbrev pub invariant-loop-t : goal.invariant-loop-t
 invariant-loop-t l =
-    AreOf l.table.ramps l.g l.t l.now
+    AreOf l.ramps l.g l.t l.now
     × (l.total ≡ sum_below l.t (λ t. neg_ℤ (up_at l.table l.g t *ℤ l.unit.ru) -ℤ down_at l.table l.g t *ℤ l.unit.rd))
     × (unsigned_abs l.total ≤ l.t * 2 ^ 108)

@@ -3,7 +3,7 @@ use Rattle.std.proofs.Common.{arith, below_more}
 use Rattle.schedule_check.specs.FirstBroken.{HoldsThroughout}
 use Rattle.schedule_check.specs.WholeWatts.{rule_of}
 use Rattle.schedule_check.proofs.RuleOrder.{tried, number_unit}
-use Rattle.schedule_check.proofs.FirstPlaces.{watts, earlier_tried, all_tried, unit_fails, unit_throughout}
+use Rattle.schedule_check.proofs.FirstPlaces.{numerators, earlier_tried, all_tried, unit_fails, unit_throughout}
 use Rattle.schedule_check.proofs.feasibility.first_broken_by_unit.Goals as goal
 
 pub returns-in-Some : goal.returns-in-Some
@@ -15,7 +15,7 @@ returns-in-Some c =
 pub loop-rule-preserved : goal.loop-rule-preserved
 loop-rule-preserved c =
     let here = unit_throughout (tried c.loop-rule.rule-index) c.args.instance.now c.args.printed.now c.in_default.ensures in
-    below_more (λ k. HoldsThroughout c.args.instance.now (watts c.args.instance.now c.args.printed.now) (rule_of (tried k))) _ c.loop-rule.invariant here
+    below_more (λ k. HoldsThroughout c.args.instance.now (numerators c.args.instance.now c.args.printed.now) (rule_of (tried k))) _ c.loop-rule.invariant here
 
 pub returns : goal.returns
 returns c = λ rule.

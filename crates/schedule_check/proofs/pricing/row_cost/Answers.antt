@@ -1,13 +1,9 @@
--- The cell's cost is the next term.
-use Rattle.std.proofs.Common.{arith}
-use Rattle.uc_model.specs.PrintedSchedule.{printed_cell_cost}
-use Rattle.schedule_check.specs.WholeWatts.{cell}
-use Rattle.schedule_check.specs.declared.pricing.TheConstants.{MOST_CELL_COST}
-use Rattle.schedule_check.proofs.AddedSums.{added}
+-- Whole watts are over the denominator 1.
+use Rattle.std.proofs.Common.{refl, sym, subst, ℤ}
+use Rattle.schedule_check.specs.WholeWatts.{HasPriceBy, cell}
+use Rattle.schedule_check.proofs.Measures.{over_one}
 use Rattle.schedule_check.proofs.pricing.row_cost.Goals as goal
 
-pub loop-t-preserved : goal.loop-t-preserved
-loop-t-preserved c =
-    let next = added c.loop-t.t (λ t. printed_cell_cost c.args.unit.now 1 (cell c.args.row.now t)) _ c.cell_cost.result c.sum-total.result MOST_CELL_COST
-    c.loop-t.invariant.value c.cell_cost.ensures.value c.sum-total.ensures c.loop-t.invariant.size c.cell_cost.ensures.size (omega arith) in
-    record { known = c.cell_cost.ensures.known; value = next.value; size = next.size }
+pub row_cost_over-requires-clause-prices : goal.row_cost_over-requires-clause-prices
+row_cost_over-requires-clause-prices c = λ t h.
+    subst (λ (measure : ℤ → ℤ). HasPriceBy measure c.args.unit.now (cell c.args.row.now t)) (sym (over_one 1 refl)) (c.requires.prices t h)

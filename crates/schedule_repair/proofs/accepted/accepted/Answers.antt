@@ -4,7 +4,7 @@ use Rattle.std.specs.Int.{w64}
 use Rattle.uc_model.specs.Limits.{IsLimit}
 use Rattle.uc_model.specs.PrintedSchedule.{printed_cost, printed_denominator}
 use Rattle.uc_model.specs.declared.limits.TheConstants.{COST_MAX}
-use Rattle.uc_model.proofs.PrintedCosts.{printed_cost-fits}
+use Rattle.uc_model.proofs.PrintedCosts.{printed_cost-fits, watts-factor}
 use Rattle.uc_model.proofs.Sizes.{narrow}
 use Rattle.schedule_check.specs.PlainNumbers.{IsPlainCell}
 use Rattle.schedule_repair.proofs.PlainSchedules.{plain_rows}
@@ -15,7 +15,8 @@ returns-in-Ok c =
     let instance = c.args.instance.now in
     let printed = c.args.printed.now in
     let cost = printed_cost instance printed in
-    let size : unsigned_abs cost ≤ COST_MAX = printed_cost-fits instance printed (printed_denominator instance printed) c.requires c.in-Ok.ensures.obeys in
+    let factor = watts-factor instance printed in
+    let size : unsigned_abs cost ≤ COST_MAX = printed_cost-fits instance printed (printed_denominator instance printed) factor.0 c.requires.lawful factor.1 c.in-Ok.ensures.obeys in
     let same : to_z w64 (of_z w64 c.in-Ok.cost) ≡ cost =
     ap (λ z. to_z w64 (of_z w64 z)) c.in-Ok.ensures.cost ∙ narrow cost COST_MAX size (lit< tt) in
     record {
@@ -25,5 +26,6 @@ returns-in-Ok c =
       numbers = plain_rows printed
           (subst (All (All IsPlainCell)) c.as_slice.ensures (c.are_plain.ensures c.if-not-are_plain.false))
           (subst (All (All IsLimit)) c.as_slice-else-not-are_plain.ensures (c.are_limits.ensures c.if-not-are_limits.false));
+      supply = c.requires.supply;
       size = subst (λ z. unsigned_abs z ≤ COST_MAX) (sym same) size;
     }

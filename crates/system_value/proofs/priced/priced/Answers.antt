@@ -7,10 +7,10 @@ use Rattle.system_value.proofs.priced.priced.Goals as goal
 pub returns : goal.returns
 returns c =
     let size : unsigned_abs c.scaled.result ≤ MAX_CELL =
-    scaled-size c.args.price.now c.args.power.now c.scaled.result MAX_PRICE MAX_POWER c.scaled.ensures c.requires.price c.requires.power in
+    scaled-size c.args.price c.args.power c.scaled.result MAX_PRICE MAX_POWER c.scaled.ensures c.requires.price c.requires.power in
     record {
       value = wide c.scaled.result MAX_CELL size (lit< tt)
           ∙ c.scaled.ensures
-          ∙ (λ i. narrow c.args.price.now MAX_PRICE c.requires.price (lit< tt) i *ℤ narrow c.args.power.now MAX_POWER c.requires.power (lit< tt) i);
+          ∙ (λ i. narrow c.args.price MAX_PRICE c.requires.price (lit< tt) i *ℤ narrow c.args.power MAX_POWER c.requires.power (lit< tt) i);
       size = wide-size c.scaled.result MAX_CELL size;
     }

@@ -4,10 +4,10 @@ use Rattle.uc_model.specs.Sums.{sum_below}
 use Rattle.uc_model.specs.Schedule.{thermal_unit}
 use Rattle.uc_model.specs.PrintedSchedule.{cell_at, printed_cell_cost}
 use Rattle.schedule_check.specs.declared.pricing.TheConstants.{MOST_PERIODS, MOST_CELL_COST}
-use Rattle.schedule_check.proofs.pricing.printed_cost.Given as goal
+use Rattle.schedule_check.proofs.pricing.units_cost.Given as goal
 
 abbrev pub invariant-loop-g : goal.invariant-loop-g
 invariant-loop-g l = record {
-  value : l.total ≡ sum_below l.g (λ g. sum_below l.instance.periods (λ t. printed_cell_cost (thermal_unit l.instance g) 1 (cell_at l.printed g t)));
+  value : l.total ≡ sum_below l.g (λ g. sum_below l.instance.periods (λ t. printed_cell_cost (thermal_unit l.instance g) l.printed.denominator (cell_at l.printed g t)));
   size : unsigned_abs l.total ≤ l.g * (MOST_PERIODS * MOST_CELL_COST);
 }

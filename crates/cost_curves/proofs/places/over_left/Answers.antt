@@ -1,0 +1,36 @@
+-- The product and the difference fit.
+use Rattle.std.proofs.Common.{◌≡◌, ◌*◌, ◌<◌, ◌^◌, ◌∙◌, sym, ap, subst, arith, lit<, to_z, of_z, ◌-ℤ◌, ◌*ℤ◌, unsigned_abs}
+use Rattle.std.specs.Int.{w64}
+use Rattle.std.proofs.lemmas.Int.{fits_signed_from_abs}
+use Rattle.uc_model.specs.Points.{output_of}
+use Rattle.uc_model.specs.declared.limits.TheConstants.{MAX_DENOMINATOR, MAX_POWER}
+use Rattle.uc_model.proofs.Sizes.{narrow}
+use Rattle.cost_curves.proofs.CornerSizes.{IsOver, over-is}
+use Rattle.cost_curves.proofs.places.over_left.Goals as goal
+
+parts : (c : goal.After-output) → IsOver c.args.p.now c.args.q.now (output_of c.args.corners.now c.args.left) c.output.result
+parts c =
+    over-is c.args.corners.now c.args.p.now c.args.q.now c.output.result c.args.left c.requires.lawful c.requires.within c.requires.denominator.0 c.requires.denominator.1
+    c.requires.low c.requires.high c.output.ensures.value
+
+difference : (c : goal.After-output) → to_z w64 (of_z w64 c.args.p.now) -ℤ to_z w64 (of_z w64 (to_z w64 (of_z w64 c.args.q.now) *ℤ to_z w64 (of_z w64 c.output.result)))
+    ≡ c.args.p.now -ℤ c.args.q.now *ℤ output_of c.args.corners.now c.args.left
+difference c =
+    let is = parts c in
+    let product = ap (λ z. to_z w64 (of_z w64 z)) is.product ∙ narrow _ (MAX_DENOMINATOR * (2 * MAX_POWER)) is.product_size (lit< tt) in
+    λ t. is.output t -ℤ product t
+
+pub overflow_mul-result : goal.overflow_mul-result
+overflow_mul-result c =
+    let is = parts c in
+    fits_signed_from_abs w64 _ (subst (λ z. unsigned_abs z < 2 ^ 63) (sym is.product) (omega (arith, is.product_size)))
+
+pub overflow_sub-result : goal.overflow_sub-result
+overflow_sub-result c =
+    let is = parts c in
+    fits_signed_from_abs w64 _ (subst (λ z. unsigned_abs z < 2 ^ 63) (sym (difference c)) (omega (arith, is.size)))
+
+pub returns : goal.returns
+returns c =
+    let is = parts c in
+    ap (λ z. to_z w64 (of_z w64 z)) (difference c) ∙ narrow _ (2 * (MAX_DENOMINATOR * (2 * MAX_POWER))) is.size (lit< tt)

@@ -1,0 +1,206 @@
+-- Rays of demand and reserve that name no ramp, where both may be missing at a price: their values are at most 0, since a
+-- unit that gives nothing above its minimum costs nothing at the scale 0, and what is needed may be missing.
+use Rattle.std.proofs.Common.{◌≡◌, ◌≢◌, ℕ, zero, suc, ◌*◌, ◌<◌, ◌%◌, Bool, true, false, refl, sym, ap, subst, ◌∙◌, arith, length, ◌==◌, nat_lt, if◌then◌else◌, List, ℤ, pos, neg_ℤ, ◌+ℤ◌, ◌-ℤ◌, ◌*ℤ◌, ◌≤ℤ◌, int_lt, IsTrue, slice_index_or}
+use Rattle.std.specs.Int.{int_min, int_max}
+use Rattle.std.proofs.lemmas.Int.{ints}
+use Rattle.std.proofs.lemmas.Bool.{cond-true, cond_both, lt-ltb}
+use Rattle.uc_model.specs.Sums.{sum_below, bit}
+use Rattle.uc_model.specs.Commitment.{starts, initial_p}
+use Rattle.uc_model.specs.StartCategory.{sigma, last_stop}
+use Rattle.uc_model.specs.Schedule.{thermal_unit, thermal_count, renewable_count, renewable_minimum, renewable_maximum, demand_at, reserve_at}
+use Rattle.uc_model.specs.Limits.{IsLawfulInstance}
+use Rattle.uc_model.proofs.Ring.{linear, mul-zero, zero-mul, mul-one, one-mul, mul_nonneg, mul-le-mul_left, neg-mul, le_trans}
+use Rattle.uc_model.proofs.Sums.{sum_below-le, sum_below-zero, sum_below-single}
+use Rattle.dual_model.specs.Prices.{Instance, Table, pi_at, mu_at, up_at, down_at}
+use Rattle.dual_model.specs.Term.{Point, output_of, weighted_total, weighted_output, weighted_cost, IsTerm}
+use Rattle.dual_model.specs.Fixings.{Node}
+use Rattle.dual_model.specs.UnitValue.{Thermal, period_value, IsUnitValue}
+use Rattle.dual_model.specs.NodeValue.{shortage_value, shortages_value, unit_part, renewable_value, renewable_part, IsNodeValue}
+use Rattle.dual_model.specs.Opening.{OpeningRay, IsShortageRay, HasRayNumbers, ray_at, ray_period, period_rays, no_ray}
+use Rattle.dual_model.specs.Laws.{ShortageRaysExcludeNothing}
+
+-- a sum of numbers of at most 0
+sum_nonpos : (n : ℕ) (f : ℕ → ℤ) → ((k : ℕ) → k < n → f k ≤ℤ pos 0) → sum_below n f ≤ℤ pos 0
+sum_nonpos n f h =
+    subst (λ z. sum_below n f ≤ℤ z) (sum_below-zero n (λ k. pos 0) (λ k l. refl)) (sum_below-le n f (λ k. pos 0) h)
+
+-- a factor of at least 0 leaves a number of at most 0 that
+times_nonpos : (m z : ℤ) → pos 0 ≤ℤ m → z ≤ℤ pos 0 → (m *ℤ z) ≤ℤ pos 0
+times_nonpos m z sign h = subst (λ w. (m *ℤ z) ≤ℤ w) (mul-zero m) (mul-le-mul_left m z (pos 0) sign h)
+
+-- ---- prices that no ramp has, at the scale 0
+record AsksForNeeds (instance : Instance) (table : Table) : Type 0 where
+  scale : table.k ≡ pos 0
+  demand : (t : ℕ) → t < instance.periods → pos 0 ≤ℤ pi_at table t
+  reserve : (t : ℕ) → t < instance.periods → pos 0 ≤ℤ mu_at table t
+  up : (g t : ℕ) → g < thermal_count instance → up_at table g t ≡ pos 0
+  down : (g t : ℕ) → g < thermal_count instance → down_at table g t ≡ pos 0
+
+-- a need at a multiplier, with what may be missing of it
+need_nonpos : (price : ℕ) (k m need : ℤ) → 0 < price → k ≡ pos 0 → pos 0 ≤ℤ m
+    → (m *ℤ need +ℤ shortage_value k price m (int_max need (pos 0))) ≤ℤ pos 0
+need_nonpos price k m need some free sign =
+    let most = int_max need (pos 0) in
+    let above : need ≤ℤ most = grind (arith, ints) in
+    let paid = mul-le-mul_left m need most sign above in
+    let least : int_min (pos 0) (k *ℤ pos price -ℤ m) ≡ neg_ℤ m =
+    (let cost : k *ℤ pos price ≡ pos 0 = ap (λ z. z *ℤ pos price) free ∙ zero-mul (pos price) in grind (arith, ints)) in
+    let worth : shortage_value k price m most ≡ neg_ℤ (m *ℤ most) =
+    cond-true (nat_lt 0 price) _ _ (lt-ltb 0 price some) ∙ ap (λ z. z *ℤ most) least ∙ neg-mul m most in
+    omega (arith, linear)
+
+-- a period of a system in which both may be missing
+period_nonpos : (instance : Instance) (table : Table) (t : ℕ) → AsksForNeeds instance table → 0 < instance.a → 0 < instance.b
+    → t < instance.periods
+    → (pi_at table t *ℤ demand_at instance t +ℤ mu_at table t *ℤ reserve_at instance t +ℤ shortages_value instance table t) ≤ℤ pos 0
+period_nonpos instance table t asks shed short ht =
+    let demand = need_nonpos instance.a table.k (pi_at table t) (demand_at instance t) shed asks.scale (asks.demand t ht) in
+    let reserve = need_nonpos instance.b table.k (mu_at table t) (reserve_at instance t) short asks.scale (asks.reserve t ht) in
+    omega (arith, linear)
+
+-- ---- a unit
+-- the weight of a schedule at the first point alone
+first_point : ℕ → ℕ
+first_point zero = 1
+first_point (suc l) = 0
+
+first_sum : (points : List Point) (f : ℕ → ℤ) → 0 < length points
+    → sum_below (length points) (λ l. f l *ℤ pos (first_point l)) ≡ f 0
+unfolding first_point
+first_sum points f some =
+    sum_below-single (length points) (λ l. f l *ℤ pos (first_point l)) 0 some (λ l h other. nothing l other) ∙ mul-one (f 0)
+  where
+    nothing : (l : ℕ) → l ≢ 0 → f l *ℤ pos (first_point l) ≡ pos 0
+    nothing zero other = absurd (other refl)
+    nothing (suc l) other = mul-zero (f (suc l))
+
+first_total : (points : List Point) → 0 < length points → weighted_total points first_point ≡ pos 1
+unfolding first_point
+first_total points some =
+    sum_below-single (length points) (λ l. pos (first_point l)) 0 some (λ l h other. nothing l other)
+  where
+    nothing : (l : ℕ) → l ≢ 0 → pos (first_point l) ≡ pos 0
+    nothing zero other = absurd (other refl)
+    nothing (suc l) other = refl
+
+first_output : (points : List Point) → 0 < length points → weighted_output points first_point ≡ pos 0
+first_output points some = first_sum points (output_of points) some ∙ (omega (arith, linear))
+
+-- a term at the scale 0 is at most 0: the first point has no output above the minimum
+term_nonpos : (points : List Point) (k a b room m : ℤ) → 0 < length points → k ≡ pos 0 → IsTerm points k a b room m → m ≤ℤ pos 0
+term_nonpos points k a b room m some free term =
+    let output = first_output points some in
+    let within : (weighted_output points first_point +ℤ pos 0) ≤ℤ (pos 1 *ℤ room) =
+    omega (arith, linear, output, term.reachable, one-mul room) in
+    let below = term.bound.below 1 first_point (pos 0) (first_total points some) (omega (arith, linear)) within in
+    let cost : k *ℤ weighted_cost points first_point ≡ pos 0 =
+    ap (λ z. z *ℤ weighted_cost points first_point) free ∙ zero-mul (weighted_cost points first_point) in
+    let priced : a *ℤ weighted_output points first_point ≡ pos 0 = ap (λ z. a *ℤ z) output ∙ mul-zero a in
+    omega (arith, linear, below, cost, priced, mul-zero b, one-mul m)
+
+period_value_nonpos : (table : Table) (unit : Thermal) (on : ℕ → Bool) (term : ℕ → ℤ) (t : ℕ) → table.k ≡ pos 0
+    → pos 0 ≤ℤ pi_at table t → pos 0 ≤ℤ unit.pmin → (IsTrue (on t) → term t ≤ℤ pos 0) → period_value table unit on term t ≤ℤ pos 0
+period_value_nonpos table unit on term t free sign minimum below =
+    let produced : (if on t then term t -ℤ pi_at table t *ℤ unit.pmin else pos 0) ≤ℤ pos 0 =
+    cond_both (on t) (term t -ℤ pi_at table t *ℤ unit.pmin) (pos 0) (λ z. z ≤ℤ pos 0)
+    (λ is_on. let paid = mul_nonneg (pi_at table t) unit.pmin sign minimum in let least = below is_on in omega (arith, linear))
+    (λ is_off. omega (arith, linear)) in
+    let begun : (if starts unit on t then table.k *ℤ sigma unit (last_stop unit on t) t else pos 0) ≤ℤ pos 0 =
+    cond_both (starts unit on t) (table.k *ℤ sigma unit (last_stop unit on t) t) (pos 0) (λ z. z ≤ℤ pos 0)
+    (λ starting.
+    let cost = ap (λ z. z *ℤ sigma unit (last_stop unit on t) t) free ∙ zero-mul (sigma unit (last_stop unit on t) t) in
+    omega (arith, linear))
+    (λ none. omega (arith, linear)) in
+    omega (arith, linear)
+
+unit_nonpos : (instance : Instance) (node : Node) (table : Table) (g : ℕ) (v : ℤ) → IsLawfulInstance instance
+    → AsksForNeeds instance table → g < thermal_count instance → IsUnitValue instance node table g v
+    → unit_part instance table g v ≤ℤ pos 0
+unit_nonpos instance node table g v lawful asks hg value =
+    let unit = thermal_unit instance g in
+    let own = value.best.value in
+    let thermal = lawful.thermal g hg in
+    let some : 0 < length unit.points = omega (arith, thermal.points.0) in
+    let periods = sum_nonpos instance.periods (period_value table unit value.on own.term) (λ t ht.
+    period_value_nonpos table unit value.on own.term t asks.scale (asks.demand t ht) thermal.minimum.low
+    (λ on. term_nonpos unit.points table.k _ _ _ _ some asks.scale (own.terms t ht on))) in
+    let ramps : sum_below instance.periods (λ t. neg_ℤ (up_at table g t *ℤ unit.ru) -ℤ down_at table g t *ℤ unit.rd) ≡ pos 0 =
+    sum_below-zero instance.periods (λ t. neg_ℤ (up_at table g t *ℤ unit.ru) -ℤ down_at table g t *ℤ unit.rd) (λ t ht.
+    let rise = ap (λ z. z *ℤ unit.ru) (asks.up g t hg) ∙ zero-mul unit.ru in
+    let fall = ap (λ z. z *ℤ unit.rd) (asks.down g t hg) ∙ zero-mul unit.rd in
+    omega (arith, linear)) in
+    let no_multiplier : down_at table g 0 -ℤ up_at table g 0 ≡ pos 0 =
+    (let up = asks.up g 0 hg in let down = asks.down g 0 hg in omega (arith, linear)) in
+    let start = ap (λ z. z *ℤ initial_p unit) no_multiplier ∙ zero-mul (initial_p unit) in
+    let total = own.total in
+    omega (arith, linear)
+
+-- ---- a renewable unit
+renewable_nonpos : (instance : Instance) (table : Table) (w t : ℕ) → IsLawfulInstance instance → AsksForNeeds instance table
+    → w < renewable_count instance → t < instance.periods → renewable_value instance table w t ≤ℤ pos 0
+renewable_nonpos instance table w t lawful asks hw ht =
+    let range = (lawful.renewable w hw).range t ht in
+    let low : pos 0 ≤ℤ int_max (renewable_minimum instance w t) (pos 0) = grind (arith, ints) in
+    let least = mul_nonneg (pi_at table t) (int_max (renewable_minimum instance w t) (pos 0)) (asks.demand t ht) low in
+    let most = mul_nonneg (pi_at table t) (renewable_maximum instance w t) (asks.demand t ht) (le_trans _ _ _ low range) in
+    cond_both (int_lt (pos 0) (pi_at table t)) (neg_ℤ (pi_at table t *ℤ renewable_maximum instance w t))
+    (neg_ℤ (pi_at table t *ℤ int_max (renewable_minimum instance w t) (pos 0))) (λ z. z ≤ℤ pos 0)
+    (λ up. omega (arith, linear, most)) (λ down. omega (arith, linear, least))
+
+-- ---- the whole
+asking_nonpos : (instance : Instance) (node : Node) (table : Table) (v : ℤ) → IsLawfulInstance instance
+    → AsksForNeeds instance table → 0 < instance.a → 0 < instance.b → IsNodeValue instance node table v → v ≤ℤ pos 0
+asking_nonpos instance node table v lawful asks shed short value =
+    let system = sum_nonpos instance.periods _ (λ t ht. period_nonpos instance table t asks shed short ht) in
+    let units = sum_nonpos (thermal_count instance) (λ g. unit_part instance table g (value.unit_value g))
+    (λ g hg. unit_nonpos instance node table g (value.unit_value g) lawful asks hg (value.units g hg)) in
+    let renewables = sum_nonpos (renewable_count instance) (renewable_part instance table)
+    (λ w hw. sum_nonpos instance.periods (renewable_value instance table w)
+    (λ t ht. renewable_nonpos instance table w t lawful asks hw ht)) in
+    let total = value.total in
+    omega (arith, linear)
+
+-- the rays of a period that aren't its second
+record IsNeedRay (demand reserve : ℤ) (up down : Thermal → Bool) : Type 0 where
+  wants : pos 0 ≤ℤ demand
+  holds : pos 0 ≤ℤ reserve
+  no_up : (unit : Thermal) → up unit ≡ false
+  no_down : (unit : Thermal) → down unit ≡ false
+
+need_ray : (i : ℕ) → i ≢ 1 → (let ray = slice_index_or period_rays i no_ray in IsNeedRay ray.demand ray.reserve ray.up ray.down)
+need_ray zero other = record { wants = omega (arith, linear); holds = omega (arith, linear); no_up = λ u. refl; no_down = λ u. refl }
+need_ray (suc zero) other = absurd (other refl)
+need_ray (suc (suc zero)) other = record { wants = omega (arith, linear); holds = omega (arith, linear); no_up = λ u. refl; no_down = λ u. refl }
+need_ray (suc (suc (suc zero))) other = record { wants = omega (arith, linear); holds = omega (arith, linear); no_up = λ u. refl; no_down = λ u. refl }
+need_ray (suc (suc (suc (suc i)))) other = record { wants = omega (arith, linear); holds = omega (arith, linear); no_up = λ u. refl; no_down = λ u. refl }
+
+at_ray : (periods n : ℕ) → IsShortageRay periods n
+    → (let ray = ray_at periods n in IsNeedRay ray.demand ray.reserve ray.up ray.down)
+at_ray periods n is_ray =
+    subst (λ (ray : OpeningRay). IsNeedRay ray.demand ray.reserve ray.up ray.down)
+    (sym (cond-true (nat_lt n (4 * periods)) _ _ (lt-ltb n (4 * periods) is_ray.within))) (need_ray (n % 4) is_ray.wants)
+
+one_or_nought : (b : Bool) (z price : ℤ) → pos 0 ≤ℤ z → price ≡ (if b then z else pos 0) → pos 0 ≤ℤ price
+one_or_nought true z price sign e = omega (arith, linear)
+one_or_nought false z price sign e = omega (arith, linear)
+
+no_multiplier_at : (b named : Bool) (n : ℤ) → named ≡ false → n ≡ (if b then bit named else pos 0) → n ≡ pos 0
+no_multiplier_at true named n none e = e ∙ ap bit none
+no_multiplier_at false named n none e = e
+
+asks_of : (instance : Instance) (n : ℕ) (table : Table) → IsShortageRay instance.periods n → HasRayNumbers instance n table
+    → AsksForNeeds instance table
+asks_of instance n table is_ray numbers =
+    let ray = ray_at instance.periods n in
+    let need = at_ray instance.periods n is_ray in
+    record {
+      scale = numbers.scale;
+      demand = λ t ht. one_or_nought (t == ray_period instance.periods n) ray.demand _ need.wants (numbers.demand t ht);
+      reserve = λ t ht. one_or_nought (t == ray_period instance.periods n) ray.reserve _ need.holds (numbers.reserve t ht);
+      up = λ g t hg. no_multiplier_at (t == 0) (ray.up (thermal_unit instance g)) _ (need.no_up _) (numbers.up g t hg);
+      down = λ g t hg. no_multiplier_at (t == 0) (ray.down (thermal_unit instance g)) _ (need.no_down _) (numbers.down g t hg);
+    }
+
+pub shortage_rays_exclude_nothing : ShortageRaysExcludeNothing
+shortage_rays_exclude_nothing instance node n table v lawful shed short is_ray numbers value =
+    asking_nonpos instance node table v lawful (asks_of instance n table is_ray numbers) shed short value

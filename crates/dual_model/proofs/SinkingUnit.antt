@@ -1,0 +1,171 @@
+-- The unit of the examples that can't ramp down from 20 MW to 10, for an hour: it is on, at 15 MW or more, and L on its
+-- points has one slope. At a unit of 40 MW in watts L is never summed up.
+use Rattle.std.proofs.Common.{◌≡◌, ℕ, zero, suc, ◌*◌, ◌/◌, ◌<◌, ◌≤◌, ◌⊎◌, ⊎_elim, true, false, cond, true≢false, refl, sym, ap, subst, ◌∙◌, arith, List, length, ℤ, pos, ◌+ℤ◌, ◌-ℤ◌, ◌*ℤ◌, neg_ℤ, ◌≤ℤ◌, Some}
+use Rattle.std.proofs.lemmas.Nat.{div_below}
+use Rattle.std.proofs.lemmas.Bool.{cases_Bool}
+use Rattle.uc_model.specs.Points.{point_of, output_of}
+use Rattle.uc_model.specs.Hull.{Segment, hull_cost}
+use Rattle.uc_model.specs.Examples.{mw}
+use Rattle.uc_model.proofs.Ring.{linear, zero-mul, one-mul, neg-mul}
+use Rattle.uc_model.proofs.Sums.{sum_below-same, sum_below-const}
+use Rattle.dual_model.specs.Prices.{pi_at, mu_at}
+use Rattle.dual_model.specs.ExactValue.{Point, Instance, Table, UnitSchedule, floored_slope, slope_from, floored_cost, IsUnitScheduleAt, IsUnitSchedule, exact_cell_value, exact_period_value, unit_schedule_value, IsExactUnitValue}
+use Rattle.dual_model.specs.Tree.{root}
+use Rattle.dual_model.specs.Examples.{alone, sinking_unit, zero_prices, ray, scaled_dollars}
+use Rattle.dual_model.proofs.HullSegments.{Rises, Steps, step_there}
+
+-- ---- L, where all its slopes are one
+pub flat_cost : (points : List Point) (k m : ℤ) (width q p : ℕ) → 0 < q
+    → ((x : ℕ) → x < width → slope_from points k x ≡ m)
+    → p ≤ width * q → floored_cost points k q p ≡ pos q *ℤ (k *ℤ hull_cost points 1 (pos 0)) +ℤ pos p *ℤ m
+unfolding floored_cost
+flat_cost points k m width q p some slope h =
+    ap (λ z. pos q *ℤ (k *ℤ hull_cost points 1 (pos 0)) +ℤ z)
+    (sum_below-same p (λ y. slope_from points k (y / q)) (λ y. m)
+    (λ y l. slope (y / q) (div_below y q width some (omega (arith, l, h))))
+    ∙ sum_below-const p m)
+
+-- ---- its points
+abbrev points : List Point
+points = sinking_unit.points
+
+rising_at : (l : ℕ) → suc l < length points → (point_of points l).mw ≤ℤ (point_of points (suc l)).mw
+rising_at zero h = omega (arith, linear)
+rising_at (suc l) h = absurd (omega (arith, h))
+
+rises : Rises points
+rises = record { some = omega arith; rising = rising_at }
+
+two_ends : (n : ℕ) → n < 2 → (n ≡ 0) ⊎ (n ≡ 1)
+two_ends n h = grind arith
+
+-- the segment of each step is the one from the first point to the second
+abbrev whole : Segment
+whole = record { left = 0; right = 1 }
+
+step_is : (x : ℕ) (s : Segment) → x < 40000000 → Steps points x s → s ≡ whole
+step_is x s h step = λ i. record { left = left i; right = right i }
+  where
+    left : s.left ≡ 0
+    left = ⊎_elim (λ (is : s.left ≡ 0). is)
+        (λ (is : s.left ≡ 1).
+        let begins = step.begins in
+        let there = ap (output_of points) is in
+        absurd (omega (arith, linear, begins, there, h)))
+        (two_ends s.left step.under.left)
+
+    right : s.right ≡ 1
+    right = ⊎_elim
+        (λ (is : s.right ≡ 0).
+        let reaches = step.reaches in
+        let there = ap (output_of points) is in
+        absurd (omega (arith, linear, reaches, there)))
+        (λ (is : s.right ≡ 1). is)
+        (two_ends s.right step.under.right)
+
+slope_is : (k : ℤ) (x : ℕ) → x < 40000000 → slope_from points k x ≡ floored_slope points k (Some whole)
+slope_is k x h =
+    let step = step_there points x rises (omega (arith, linear, h)) in
+    ap (floored_slope points k) (step.1.at ∙ ap Some (step_is x step.0 h step.1))
+
+-- ---- its schedules in an hour
+abbrev system : ℕ → Instance
+system demand = alone sinking_unit demand 0
+
+-- it is on, at 5 MW above the minimum or more
+record IsKept (q : ℕ) (x : UnitSchedule) : Type 0 where
+  on : x.on 0 ≡ true
+  low : (q * 5000000) ≤ x.p 0
+  high : x.p 0 ≤ (40000000 * q)
+
+kept : (demand q : ℕ) (x : UnitSchedule) → IsUnitSchedule (system demand) root 0 q x → IsKept q x
+kept demand q x is =
+    let at : IsUnitScheduleAt 1 q sinking_unit x 0 = is.each 0 (omega arith) in
+    let some = is.denominator in
+    let fall : (pos (q * 10000000) -ℤ pos (x.p 0)) ≤ℤ pos (q * 5000000) = at.ramp_down in
+    let width : pos (x.p 0) ≤ℤ pos (q * 40000000) = at.width in
+    record {
+      on = ⊎_elim
+          (λ (on : x.on 0 ≡ true). on)
+          (λ (off : x.on 0 ≡ false). let none = (at.off off).0 in absurd (omega (arith, linear, some, fall, none)))
+          (cases_Bool (x.on 0));
+      low = omega (arith, linear, fall);
+      high = omega (arith, linear, width);
+    }
+
+-- what a schedule of output p and reserve r adds
+abbrev value_at : Table → ℕ → ℕ → ℕ → ℤ
+value_at table q p r =
+    pos q *ℤ (table.k *ℤ pos 100000000) +ℤ pos p *ℤ floored_slope points table.k (Some whole)
+    -ℤ pi_at table 0 *ℤ (pos p +ℤ pos q *ℤ mw 10) -ℤ mu_at table 0 *ℤ pos r
+
+value_is : (demand q : ℕ) (table : Table) (x : UnitSchedule) → IsUnitSchedule (system demand) root 0 q x
+    → unit_schedule_value (system demand) table 0 q x ≡ value_at table q (x.p 0) (x.r 0)
+value_is demand q table x is =
+    let held = kept demand q x is in
+    let cell = exact_cell_value table q sinking_unit x 0 in
+    let on : exact_period_value table q sinking_unit x 0 ≡ cell +ℤ pos 0 =
+    ap (λ b. cond b cell (pos 0) +ℤ pos 0) held.on in
+    let cost = flat_cost points table.k (floored_slope points table.k (Some whole)) 40000000 q (x.p 0) is.denominator
+    (slope_is table.k) held.high in
+    let whole_cell : cell ≡ value_at table q (x.p 0) (x.r 0) =
+    ap (λ z. z -ℤ pi_at table 0 *ℤ (pos (x.p 0) +ℤ pos q *ℤ mw 10) -ℤ mu_at table 0 *ℤ pos (x.r 0)) cost in
+    omega (arith, linear, on, whole_cell)
+
+-- the schedule at 15 MW
+abbrev lowest : UnitSchedule
+lowest = record { on = λ t. true; p = λ t. 5000000; r = λ t. 0 }
+
+lowest-at : (t : ℕ) → t < 1 → IsUnitScheduleAt 1 1 sinking_unit lowest t
+lowest-at zero h = record {
+  off = λ off. absurd (true≢false off);
+  width = omega (arith, linear);
+  start_cap = omega (arith, linear);
+  stop_cap = λ later. absurd (omega (arith, later));
+  ramp_up = omega (arith, linear);
+  ramp_down = omega (arith, linear);
+}
+lowest-at (suc t) h = absurd (omega (arith, h))
+
+lowest-is : (demand : ℕ) → IsUnitSchedule (system demand) root 0 1 lowest
+lowest-is demand = record {
+  denominator = omega arith;
+  pattern = record { allowed = refl; agrees = refl };
+  each = lowest-at;
+}
+
+-- a number that bounds them, and that the lowest one reaches, is the unit's exact value
+pub exact_unit : (demand : ℕ) (table : Table) (e : ℤ)
+    → ((q p r : ℕ) → (q * 5000000) ≤ p → (pos q *ℤ e) ≤ℤ value_at table q p r) → value_at table 1 5000000 0 ≡ e
+    → IsExactUnitValue (system demand) root table 0 e
+exact_unit demand table e bound reached = record {
+  q = 1;
+  x = lowest;
+  is_schedule = lowest-is demand;
+  bound = λ q x is.
+      subst (λ z. (pos q *ℤ e) ≤ℤ z) (sym (value_is demand q table x is))
+      (bound q (x.p 0) (x.r 0) (kept demand q x is).low);
+  greatest = λ m below.
+      let least = below 1 lowest (lowest-is demand) in
+      let same = value_is demand 1 table lowest (lowest-is demand) in
+      omega (arith, linear, least, same, reached, one-mul m);
+}
+
+-- at a price of 0
+pub kept_value : IsExactUnitValue (system 30) root (zero_prices (system 30)) 0 (scaled_dollars 150)
+kept_value =
+    exact_unit 30 (zero_prices (system 30)) (scaled_dollars 150) (λ q p r low.
+    let output = zero-mul (pos p +ℤ pos q *ℤ mw 10) in
+    let reserve = zero-mul (pos r) in
+    omega (arith, linear, low, output, reserve))
+    refl
+
+-- at a ray that asks for less output
+pub ray_value : IsExactUnitValue (system 5) root (ray (neg_ℤ (pos 1)) (pos 0) (system 5)) 0 (mw 15)
+ray_value =
+    exact_unit 5 (ray (neg_ℤ (pos 1)) (pos 0) (system 5)) (mw 15) (λ q p r low.
+    let output = neg-mul (pos 1) (pos p +ℤ pos q *ℤ mw 10) in
+    let one = one-mul (pos p +ℤ pos q *ℤ mw 10) in
+    let reserve = zero-mul (pos r) in
+    omega (arith, linear, low, output, one, reserve))
+    refl

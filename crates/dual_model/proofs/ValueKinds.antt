@@ -1,0 +1,50 @@
+-- The laws of values over both kinds, each by cases from those of either.
+use Rattle.std.proofs.Common.{ℕ, ◌<◌, Bool, true, false}
+use Rattle.uc_model.specs.Schedule.{thermal_count}
+use Rattle.dual_model.specs.Fixings.{Instance, Node}
+use Rattle.dual_model.specs.ValueKind.{IsBlocked, HasBlockedUnit}
+use Rattle.dual_model.specs.Laws.{WeakDuality, RaysExclude, BlockedUnitsExclude, ValuesAreUnique, ValuesExist, ValuesExistAtSchedules, ChildBound}
+use Rattle.dual_model.proofs.NodeValues
+use Rattle.dual_model.proofs.ExactBound
+use Rattle.dual_model.proofs.ExactValues
+use Rattle.dual_model.proofs.ExactExists
+
+pub weak_duality : (exact : Bool) → WeakDuality exact
+weak_duality false = NodeValues.weak_duality
+weak_duality true = ExactBound.exact_weak_duality
+
+pub rays_exclude : (exact : Bool) → RaysExclude exact
+rays_exclude false = NodeValues.rays_exclude
+rays_exclude true = ExactBound.exact_rays_exclude
+
+-- where a schedule obeys and agrees, each unit has one of its own, so no unit is blocked
+unscheduled_exclude : BlockedUnitsExclude true
+unscheduled_exclude instance node q x lawful schedule none =
+    let own = ExactBound.schedules_are_unit_schedules instance node none.unit q x lawful schedule none.within in
+    none.none q own.0 own.1
+
+pub not_blocked : (exact : Bool) → BlockedUnitsExclude exact
+not_blocked false = NodeValues.not_empty
+not_blocked true = unscheduled_exclude
+
+pub values_are_unique : (exact : Bool) → ValuesAreUnique exact
+values_are_unique false = NodeValues.values_are_unique
+values_are_unique true = ExactValues.exact_values_are_unique
+
+pub values_exist : (exact : Bool) → ValuesExist exact
+values_exist false = NodeValues.values_exist
+values_exist true = ExactExists.exact_values_exist
+
+pub values_exist_at_schedules : (exact : Bool) → ValuesExistAtSchedules exact
+values_exist_at_schedules false = NodeValues.values_exist_at_schedules
+values_exist_at_schedules true = ExactExists.exact_values_exist_at_schedules
+
+pub child_bound : (exact : Bool) → ChildBound exact
+child_bound false = NodeValues.child_bound
+child_bound true = ExactExists.exact_child_bound
+
+-- a unit that is blocked is one of those
+pub blocked_unit : (exact : Bool) (instance : Instance) (node : Node) (g : ℕ) → g < thermal_count instance
+    → IsBlocked exact instance node g → HasBlockedUnit exact instance node
+blocked_unit false instance node g within blocked = record { unit = g; within = within; empty = blocked }
+blocked_unit true instance node g within blocked = record { unit = g; within = within; none = blocked }
