@@ -213,6 +213,8 @@ class Goings(TableTest):
     def test_stopped_runs_leave_no_row(self) -> None:
         first, second = self.put("1.json", CLOSED), self.put("2.json", 'echo $$ > "$0.process"; exec sleep 60\n')
         words = [sys.executable, str(HERE / "uc-table"), *self.words(first, second, "--certs", self.folder / "certs")]
+        # a shell's background job ignores interrupts, and what it starts would too
+        signal.signal(signal.SIGINT, signal.default_int_handler)
         for stop in (signal.SIGTERM, signal.SIGINT):
             running = subprocess.Popen(words, stderr=subprocess.PIPE, text=True)
             process = int(self.wait_for(self.folder / "program.process"))
