@@ -4,7 +4,7 @@ use Rattle.std.specs.Prelude.{◌≡◌, ℕ, ◌<◌, false, List, ℤ, IsTrue,
 use Rattle.uc_model.specs.Commitment.{starts}
 use Rattle.uc_model.specs.StartCategory.{category_cost}
 use Rattle.uc_model.specs.Schedule.{thermal_unit, thermal_count, renewable_count, demand_at, reserve_at}
-use Rattle.uc_model.specs.PrintedSchedule.{LacksNothing, cell_at}
+use Rattle.uc_model.specs.PrintedSchedule.{cell_at}
 pub use Rattle.uc_model.specs.declared.instance.Instance.{Instance}
 pub use Rattle.uc_model.specs.declared.pattern.Pattern.{Pattern}
 pub use Rattle.uc_model.specs.declared.schedule.Cell.{Cell}
@@ -14,13 +14,15 @@ use Rattle.schedule_check.specs.SizedNumbers.{output_at}
 use Rattle.dispatch_repair.specs.Period.{Period, Source, FromRenewable, FromThermal, commitment_at, output_before}
 use Rattle.dispatch_repair.specs.MeritOrder.{IsInMeritOrder, IsReserveInOrder}
 
--- the schedule has a row for each unit, with a cell for each of the first periods, in whole watts, and nothing is missing
+-- the schedule has a row for each unit, with a cell for each of the first periods, and what is missing in each, in whole watts
 pub record HasPeriods (instance : Instance) (periods : ℕ) (printed : Printed) : Type 0 where
   pub thermal : length printed.thermal ≡ thermal_count instance
   pub cells : All (λ row. length row ≡ periods) printed.thermal
   pub renewable : length printed.renewable ≡ renewable_count instance
   pub outputs : All (λ row. length row ≡ periods) printed.renewable
-  pub supply : LacksNothing periods printed
+  pub shed : length printed.shed ≡ periods
+  pub short : length printed.short ≡ periods
+  pub whole : printed.denominator ≡ 1
 
 -- a cell is the commitment's: a start takes the cheapest category that the history allows, the first of several
 pub record IsCommittedCell (instance : Instance) (patterns : List Pattern) (g t : ℕ) (cell : Cell) : Type 0 where

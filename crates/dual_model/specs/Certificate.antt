@@ -19,6 +19,9 @@ pub record Certificate : Type 0 where
   pub periods : ℕ
   pub thermal : ℕ
   pub renewable : ℕ
+  -- the prices of shortages, in micro-dollars for a watt and an hour, as `Instance` has them
+  pub a : ℕ
+  pub b : ℕ
   -- the bound that is claimed, or nothing where infeasibility is
   pub bound : Option ℤ
   pub schedule : Option WrittenSchedule
@@ -45,6 +48,7 @@ pub record CertificateHolds (instance : Instance) (certificate : Certificate) : 
   pub periods : certificate.periods ≡ instance.periods
   pub thermal : certificate.thermal ≡ thermal_count instance
   pub renewable : certificate.renewable ≡ renewable_count instance
+  pub penalty : (certificate.a ≡ instance.a) × (certificate.b ≡ instance.b)
   pub tables : All (IsLawfulTable instance) certificate.tables
   pub tree : IsCover instance certificate.tree
   pub schedule : (written : WrittenSchedule) → certificate.schedule ≡ Some written → ScheduleHolds instance written

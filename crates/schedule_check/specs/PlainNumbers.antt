@@ -1,6 +1,6 @@
 -- The numbers that a dispatch or a repair has: none is below 0, and none is above the limit on a power. This project's own.
 use Rattle.std.specs.Prelude.{◌≡◌, ℕ, ◌≤◌, false, pos, ◌+ℤ◌, ◌≤ℤ◌}
-use Rattle.uc_model.specs.PrintedSchedule.{cell_at}
+use Rattle.uc_model.specs.PrintedSchedule.{cell_at, shed_at, short_at}
 use Rattle.uc_model.specs.Limits.{IsPower, IsLimit}
 use Rattle.uc_model.specs.declared.limits.TheConstants.{MAX_START_ROWS}
 pub use Rattle.uc_model.specs.declared.schedule.Printed.{Printed}
@@ -20,7 +20,9 @@ pub record IsPlainCell (cell : Cell) : Type 0 where
   pub category : cell.category ≤ MAX_START_ROWS
   pub off : cell.on ≡ false → IsIdleCell cell
 
--- each cell and each renewable unit's output; where the schedule has none they are 0
+-- each cell, each renewable unit's output, and what is missing; where the schedule has none they are 0
 pub record HasPlainNumbers (printed : Printed) : Type 0 where
   pub cells : (g t : ℕ) → IsPlainCell (cell_at printed g t)
   pub outputs : (w t : ℕ) → IsLimit (output_at printed w t)
+  pub shed : (t : ℕ) → IsLimit (shed_at printed t)
+  pub short : (t : ℕ) → IsLimit (short_at printed t)
