@@ -1,7 +1,7 @@
 -- Small instances, nodes and tables whose values are computed by hand: on the model's example unit of 10 to
 -- 50 MW, at 100 dollars an hour for 10 MW and 500 for 50.
 use Rattle.std.specs.Prelude.{ℕ, suc, ◌*◌, Bool, true, List, [], ◌∷◌, ℤ, pos, neg_ℤ, length, replicate}
-use Rattle.uc_model.specs.Examples.{base_unit, cold_unit, mw, dollars}
+use Rattle.uc_model.specs.Examples.{base_unit, bent_unit, cold_unit, mw, dollars}
 use Rattle.uc_model.specs.declared.instance.Renewable.{Renewable}
 use Rattle.uc_model.specs.declared.instance.Point.{Point}
 use Rattle.dual_model.specs.NodeValue.{Instance, Node, Thermal, Table, IsNodeValue}
@@ -87,9 +87,7 @@ concave_unit = record base_unit {
   su = mw 20;
   sd = mw 20;
   p0 = mw 10;
-  points =
-      (record { mw = mw 0; cost = dollars 0 }) ∷ (record { mw = mw 10; cost = dollars 100 })
-      ∷ (record { mw = mw 20; cost = dollars 120 }) ∷ [];
+  points = bent_unit.points;
 }
 
 -- off for one of three hours, but must run
@@ -100,21 +98,6 @@ stuck_unit = record cold_unit { must_run = true; dt = 3 }
 abbrev pub dear_unit : Thermal
 dear_unit = record base_unit {
   points = (record { mw = mw 10; cost = dollars 200 }) ∷ (record { mw = mw 50; cost = dollars 600 }) ∷ [];
-}
-
--- off for two hours; a start within four hours of a stop costs 50 dollars, a later one 200
-abbrev pub cooling_unit : Thermal
-cooling_unit = record cold_unit {
-  dt0 = 2;
-  startup = (record { lag = 1; cost = dollars 50 }) ∷ (record { lag = 4; cost = dollars 200 }) ∷ [];
-}
-
--- a start costs least after three or four hours off
-abbrev pub warm_unit : Thermal
-warm_unit = record base_unit {
-  startup =
-      (record { lag = 1; cost = dollars 50 }) ∷ (record { lag = 3; cost = dollars 10 })
-      ∷ (record { lag = 5; cost = dollars 100 }) ∷ [];
 }
 
 -- two hours in which every kind of multiplier counts: ramps, start-up and shut-down limits that bind, a start

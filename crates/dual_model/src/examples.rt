@@ -1,13 +1,13 @@
 //! Worked examples of the definitions, as contracts: the check computes each of them.
 
 ghost use Rattle.std.specs.Prelude.{◌≡◌, [], pos, neg_ℤ, ◌∷◌, true, false};
-ghost use Rattle.uc_model.specs.Examples.{base_unit, mw};
+ghost use Rattle.uc_model.specs.Examples.{base_unit, two_category_unit, uneven_unit, mw};
 ghost use Rattle.dual_model.specs.Fixings.{HasEmptyUnit};
 ghost use Rattle.dual_model.specs.UnitValue.{IsUnitValue};
 ghost use Rattle.dual_model.specs.ExactValue.{floored_cost, IsExactUnitValue};
 ghost use Rattle.dual_model.specs.Term.{IsTerm};
 ghost use Rattle.dual_model.specs.Tree.{root};
-ghost use Rattle.dual_model.specs.Examples.{alone, windy, idle, two_units, mixed, shedding, lacking, energy, hour, ray, ramp_ray, zero_prices, mixed_prices, decided, IsRootValue, IsExactRootValue, IsValueAt, slow_unit, sinking_unit, concave_unit, stuck_unit, unstartable_unit, cooling_unit, warm_unit, three_watts, scaled_dollars, MILLION};
+ghost use Rattle.dual_model.specs.Examples.{alone, windy, idle, two_units, mixed, shedding, lacking, energy, hour, ray, ramp_ray, zero_prices, mixed_prices, decided, IsRootValue, IsExactRootValue, IsValueAt, slow_unit, sinking_unit, concave_unit, stuck_unit, unstartable_unit, three_watts, scaled_dollars, MILLION};
 
 /// Bounds on cost: a table's value is K times micro-dollars.
 pub fn bounds_are_computed()
@@ -70,11 +70,11 @@ pub fn decided_nodes_are_computed()
     ensures turned { IsValueAt (alone base_unit 5 0) (decided (false ∷ [])) (ray (neg_ℤ (pos 1)) (pos 0)) (neg_ℤ (mw 5)) }
 
     // two starts: one costs 50 dollars, and one 200, as the cheaper category is barred
-    ensures barred { IsValueAt (idle cooling_unit 3) (decided (true ∷ false ∷ true ∷ [])) zero_prices (scaled_dollars 450) }
+    ensures barred { IsValueAt (idle two_category_unit 3) (decided (true ∷ false ∷ true ∷ [])) zero_prices (scaled_dollars 450) }
 
     // a start an hour after a stop costs 10 dollars by the last stop alone
     ensures last_stop { let on_but_fifth = true ∷ true ∷ true ∷ true ∷ false ∷ true ∷ [] in
-        IsValueAt (idle warm_unit 6) (decided on_but_fifth) zero_prices (scaled_dollars 510) }
+        IsValueAt (idle uneven_unit 6) (decided on_but_fifth) zero_prices (scaled_dollars 510) }
 
     // a unit that must run, and may not
     ensures empty { HasEmptyUnit (alone stuck_unit 30 5) root }

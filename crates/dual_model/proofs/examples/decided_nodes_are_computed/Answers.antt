@@ -8,26 +8,13 @@ use Rattle.dual_model.proofs.Terms.{least_reduced_cost, greatest_bound, corner_l
 use Rattle.dual_model.specs.Examples.{alone, stuck_unit, zero_prices}
 use Rattle.dual_model.proofs.examples.decided_nodes_are_computed.Goals as goal
 
-pub returns-clause-off : goal.returns-clause-off
+pub returns : goal.returns
 unfolding node_value_of units_value_of unit_value_of best_pattern better value_of term_of least_reduced_cost greatest_bound corner_least pair_least
-returns-clause-off c = computed_value _ _ _ _ refl refl
-
-pub returns-clause-on : goal.returns-clause-on
-unfolding node_value_of units_value_of unit_value_of best_pattern better value_of term_of least_reduced_cost greatest_bound corner_least pair_least
-returns-clause-on c = computed_value _ _ _ _ refl refl
-
-pub returns-clause-turned : goal.returns-clause-turned
-unfolding node_value_of units_value_of unit_value_of best_pattern better value_of term_of least_reduced_cost greatest_bound corner_least pair_least
-returns-clause-turned c = computed_value _ _ _ _ refl refl
-
-pub returns-clause-barred : goal.returns-clause-barred
-unfolding node_value_of units_value_of unit_value_of best_pattern better value_of term_of least_reduced_cost greatest_bound corner_least pair_least
-returns-clause-barred c = computed_value _ _ _ _ refl refl
-
-pub returns-clause-last_stop : goal.returns-clause-last_stop
-unfolding node_value_of units_value_of unit_value_of best_pattern better value_of term_of least_reduced_cost greatest_bound corner_least pair_least
-returns-clause-last_stop c = computed_value _ _ _ _ refl refl
-
-pub returns-clause-empty : goal.returns-clause-empty
-unfolding node_value_of units_value_of unit_value_of best_pattern better value_of term_of least_reduced_cost greatest_bound corner_least pair_least
-returns-clause-empty c = computed_empty (alone stuck_unit 30 5) _ (zero_prices (alone stuck_unit 30 5)) refl refl
+returns c = record {
+  off = computed_value _ _ _ _ refl refl;
+  on = computed_value _ _ _ _ refl refl;
+  turned = computed_value _ _ _ _ refl refl;
+  barred = computed_value _ _ _ _ refl refl;
+  last_stop = computed_value _ _ _ _ refl refl;
+  empty = computed_empty (alone stuck_unit 30 5) _ (zero_prices (alone stuck_unit 30 5)) refl refl;
+}

@@ -13,53 +13,36 @@ use Rattle.dual_model.proofs.Terms.{least_reduced_cost, greatest_bound, corner_l
 use Rattle.dual_model.proofs.SinkingUnit
 use Rattle.dual_model.proofs.examples.exact_values_are_computed.Goals as goal
 
-pub returns-clause-off : goal.returns-clause-off
-unfolding unit_value_of best_pattern better value_of term_of least_reduced_cost greatest_bound corner_least pair_least
-returns-clause-off c = computed_unit_value _ _ _ _ _ refl refl refl
-
-pub returns-clause-kept : goal.returns-clause-kept
-returns-clause-kept c = SinkingUnit.kept_value
-
-pub returns-clause-unpriced : goal.returns-clause-unpriced
-unfolding node_value_of units_value_of unit_value_of best_pattern better value_of term_of least_reduced_cost greatest_bound corner_least pair_least
-returns-clause-unpriced c = computed_value _ _ _ _ refl refl
-
-pub returns-clause-exact : goal.returns-clause-exact
-unfolding unit_value_of best_pattern better value_of term_of least_reduced_cost greatest_bound corner_least pair_least
-returns-clause-exact c = record {
-  unit_value = λ g. pos 0;
-  exact_value = λ g. mw 15;
-  units = λ g l. units_at g l;
-  exact_units = λ g l. exact_at g l;
-  total = refl;
+pub returns : goal.returns
+unfolding node_value_of units_value_of unit_value_of best_pattern better value_of term_of least_reduced_cost greatest_bound corner_least pair_least floored_cost
+returns c = record {
+  off = computed_unit_value _ _ _ _ _ refl refl refl;
+  kept = SinkingUnit.kept_value;
+  unpriced = computed_value _ _ _ _ refl refl;
+  exact = record {
+    unit_value = λ g. pos 0;
+    exact_value = λ g. mw 15;
+    units = λ g l. units_at g l;
+    exact_units = λ g l. exact_at g l;
+    total = refl;
+  };
+  up = refl;
+  down = refl;
+  halves = refl;
 }
   where
     alone_at : (g : ℕ) → g < 1 → 0 ≡ g
     alone_at g l = omega (arith, l)
 
-    units_at : (g : ℕ) → g < 1
-        → IsUnitValue (alone sinking_unit 5 0) root (ray (neg_ℤ (pos 1)) (pos 0) (alone sinking_unit 5 0)) g (pos 0)
+    units_at : (g : ℕ) → g < 1 → IsUnitValue (alone sinking_unit 5 0) root (ray (neg_ℤ (pos 1)) (pos 0) (alone sinking_unit 5 0)) g (pos 0)
     units_at g l =
         subst (λ k. IsUnitValue (alone sinking_unit 5 0) root (ray (neg_ℤ (pos 1)) (pos 0) (alone sinking_unit 5 0)) k
         (pos 0)) (alone_at g l)
         (computed_unit_value _ _ _ _ _ refl refl refl)
 
-    exact_at : (g : ℕ) → g < 1
-        → IsExactUnitValue (alone sinking_unit 5 0) root (ray (neg_ℤ (pos 1)) (pos 0) (alone sinking_unit 5 0)) g
+    exact_at : (g : ℕ) → g < 1 → IsExactUnitValue (alone sinking_unit 5 0) root (ray (neg_ℤ (pos 1)) (pos 0) (alone sinking_unit 5 0)) g
         (mw 15)
     exact_at g l =
         subst (λ k. IsExactUnitValue (alone sinking_unit 5 0) root
         (ray (neg_ℤ (pos 1)) (pos 0) (alone sinking_unit 5 0)) k (mw 15)) (alone_at g l)
         SinkingUnit.ray_value
-
-pub returns-clause-up : goal.returns-clause-up
-unfolding floored_cost
-returns-clause-up c = refl
-
-pub returns-clause-down : goal.returns-clause-down
-unfolding floored_cost
-returns-clause-down c = refl
-
-pub returns-clause-halves : goal.returns-clause-halves
-unfolding floored_cost
-returns-clause-halves c = refl

@@ -4,14 +4,10 @@ use Rattle.uc_model.proofs.Ring.{linear}
 use Rattle.dual_model.proofs.Terms.{is_term, least_reduced_cost, greatest_bound, corner_least, pair_least}
 use Rattle.dual_model.proofs.examples.terms_are_computed.Goals as goal
 
-pub returns-clause-priced : goal.returns-clause-priced
+pub returns : goal.returns
 unfolding least_reduced_cost greatest_bound corner_least pair_least
-returns-clause-priced c = is_term _ _ _ _ _ (omega arith) (omega (arith, linear))
-
-pub returns-clause-down : goal.returns-clause-down
-unfolding least_reduced_cost greatest_bound corner_least pair_least
-returns-clause-down c = is_term _ _ _ _ _ (omega arith) (omega (arith, linear))
-
-pub returns-clause-below_nought : goal.returns-clause-below_nought
-unfolding least_reduced_cost greatest_bound corner_least pair_least
-returns-clause-below_nought c = is_term _ _ _ _ _ (omega arith) (omega (arith, linear))
+returns c = record {
+  priced = is_term _ _ _ _ _ (omega arith) (omega (arith, linear));
+  down = is_term _ _ _ _ _ (omega arith) (omega (arith, linear));
+  below_nought = is_term _ _ _ _ _ (omega arith) (omega (arith, linear));
+}
