@@ -1,49 +1,21 @@
--- The first segment of the hull that holds an output is there, and the hull's value on it is the least cost rounded up.
--- Cite from a crate above by `use Rattle.cost_curves.proofs.FirstSegments.{first_segment-some, held_over}`.
-use Rattle.std.proofs.Common.{◌≡◌, ℕ, zero, suc, ◌≢◌, ◌*◌, ◌<◌, ◌≤◌, ◌⊎◌, inl, inr, ⊎_elim, Bool, refl, sym, ap, subst, ◌∙◌, arith, List, length, unsigned_abs, ℤ, pos, ◌-ℤ◌, ◌*ℤ◌, ◌≤ℤ◌, ◌<ℤ◌, IsTrue, Option, Some, None, int_le, int_lt, ◌==◌, ◌&&◌, if◌then◌else◌}
-use Rattle.std.proofs.lemmas.Bool.{and_parts, and_from, or_cases, cond-true, eqb-true}
+-- The hull's value on a segment that holds an output is the least cost rounded up.
+-- Cite from a crate above by `use Rattle.cost_curves.proofs.FirstSegments.{held_over}`.
+use Rattle.std.proofs.Common.{◌≡◌, ℕ, ◌≢◌, ◌*◌, ◌<◌, ◌≤◌, ◌⊎◌, inl, inr, ⊎_elim, sym, ap, subst, ◌∙◌, arith, List, length, unsigned_abs, ℤ, pos, ◌-ℤ◌, ◌*ℤ◌, ◌≤ℤ◌, ◌<ℤ◌, IsTrue, Some, int_le, ◌==◌, ◌&&◌}
+use Rattle.std.proofs.lemmas.Bool.{and_parts, and_from, or_cases, eqb-true}
 use Rattle.uc_model.specs.Division.{IsCeiling, quotient_up}
 use Rattle.uc_model.specs.Sums.{all_below}
 use Rattle.uc_model.specs.Points.{point_of, output_of}
-use Rattle.uc_model.specs.Hull.{run, rise, is_above_line, is_hull_segment, is_hull_point, segment_holds, or_else, first_below, Segment, segment_from, first_segment, segment_width, from_left, segment_cost, hull_cost}
+use Rattle.uc_model.specs.Hull.{run, rise, is_hull_segment, is_hull_point, Segment, segment_width, from_left, segment_cost, hull_cost}
 use Rattle.uc_model.proofs.Ring.{linear, one-mul, mul-one, zero-mul, mul-zero, mul-sub, mul_comm, pos-mul, mul-le-mul_left, mul-lt-mul_left, le_antisymm, le_or_lt}
-use Rattle.uc_model.proofs.Tests.{int_le-true, le-int_le, int_lt-true, all_below-at}
+use Rattle.uc_model.proofs.Tests.{int_le-true, le-int_le, all_below-at}
 use Rattle.uc_model.proofs.Quotients.{IsCeiling_unique, quotient_up-is}
+use Rattle.uc_model.proofs.HullSegments.{first-there, under}
 use Rattle.uc_model.proofs.HullPoints.{Holds, segment_at-holds, lies_on, abs_is, wide}
 use Rattle.cost_curves.specs.LowerHull.{IsLowerHull}
 use Rattle.cost_curves.specs.LeastCost.{Point, IsLeastCostUp, IsSegmentAt}
 use Rattle.cost_curves.specs.inside.Places.{HoldsOutput}
 use Rattle.cost_curves.proofs.LeastCosts.{between_least, level_least}
 use Rattle.cost_curves.proofs.HullValues.{output_is, run_is, segment_is}
-
--- ---- there is a first one
-first_below-some : (n : ℕ) (test : ℕ → Bool) (k : ℕ) → k < n → IsTrue (test k) → (j : ℕ) × (first_below n test ≡ Some j)
-first_below-some zero test k h e = absurd (omega arith)
-first_below-some (suc n) test k h e = ⊎_elim
-    (λ (less : k < n). let found = first_below-some n test k less e in
-    (found.0, ap (λ o. or_else o (if test n then Some n else None)) found.1))
-    (λ (last : k ≡ n). here (first_below n test) (cond-true (test n) (Some n) None (subst (λ i. IsTrue (test i)) last e)))
-    (grind arith)
-  where
-    here : (o : Option ℕ) → (if test n then Some n else None) ≡ Some n → (j : ℕ) × (or_else o (if test n then Some n else None) ≡ Some j)
-    here None is = (n, is)
-    here (Some j) is = (j, refl)
-
-pub first_segment-some : (points : List Point) (d : ℕ) (p : ℤ) (n i j : ℕ) → i < n → j < length points → IsTrue (segment_holds points d p i j)
-    → (s : Segment) × (first_segment points d p n ≡ Some s)
-first_segment-some points d p zero i j h hj e = absurd (omega arith)
-first_segment-some points d p (suc n) i j h hj e = ⊎_elim
-    (λ (less : i < n). let found = first_segment-some points d p n i j less hj e in
-    (found.0, ap (λ o. or_else o (segment_from n (first_below (length points) (segment_holds points d p n)))) found.1))
-    (λ (last : i ≡ n).
-    let found = first_below-some (length points) (segment_holds points d p n) j hj (subst (λ k. IsTrue (segment_holds points d p k j)) last e) in
-    here (first_segment points d p n) found.0 (ap (λ o. segment_from n o) found.1))
-    (grind arith)
-  where
-    here : (o : Option Segment) (k : ℕ) → segment_from n (first_below (length points) (segment_holds points d p n)) ≡ Some (record { left = n; right = k })
-        → (s : Segment) × (or_else o (segment_from n (first_below (length points) (segment_holds points d p n))) ≡ Some s)
-    here None k is = (record { left = n; right = k }, is)
-    here (Some s) k is = (s, refl)
 
 -- ---- the hull's value on a segment
 -- the quotient of the hull's value
@@ -89,12 +61,6 @@ ends_are points d p s holds = ⊎_elim
     (λ point. let parts = and_parts (s.left == s.right) (is_hull_point points s.left) point in inr (eqb-true s.left s.right parts.0, parts.1))
     (or_cases (is_hull_segment points s.left s.right) _ (and_parts _ _ (and_parts _ _ holds.held).0).0)
 
-segment_rises : (points : List Point) (a b : ℕ) → IsTrue (is_hull_segment points a b)
-    → (pos 0 <ℤ run points a b) × IsTrue (all_below (length points) (is_above_line points a b))
-segment_rises points a b h =
-    let parts = and_parts (int_lt (pos 0) (run points a b)) (all_below (length points) (is_above_line points a b)) h in
-    (int_lt-true (pos 0) (run points a b) parts.0, parts.1)
-
 pub segment_least : (points : List Point) (d : ℕ) (p : ℤ) (s : Segment) → 0 < d → Holds points d p s → IsLeastCostUp points d p (segment_cost points d p (Some s))
 segment_least points d p s some holds =
     let both = and_parts _ _ holds.held in
@@ -102,10 +68,9 @@ segment_least points d p s some holds =
     let reaches : p ≤ℤ (pos d *ℤ output_of points s.right) = int_le-true _ _ both.1 in
     ⊎_elim
     (λ (segment : IsTrue (is_hull_segment points s.left s.right)).
-    let parts = segment_rises points s.left s.right segment in
-    between_least points d p (segment_cost points d p (Some s)) s.left s.right some holds.left holds.right (omega (arith, linear, parts.0)) begins reaches
-    (λ l h. int_le-true _ _ (all_below-at (length points) (is_above_line points s.left s.right) parts.1 l h))
-    (quotient_run points d p s some holds parts.0))
+    let flat = under points s holds.left holds.right segment in
+    between_least points d p (segment_cost points d p (Some s)) s.left s.right some holds.left holds.right (omega (arith, linear, flat.wide)) begins reaches flat.above
+    (quotient_run points d p s some holds flat.wide))
     (λ point.
     let same = point.0 in
     let tests = and_parts (all_below (length points) (λ l. int_le (run points s.left l) (pos 0) && int_le (pos 0) (run points s.left l))) (all_below (length points) (λ l. int_le (pos 0) (rise points s.left l))) point.1 in
@@ -123,7 +88,7 @@ pub cost_on : (points : List Point) (d : ℕ) (p n : ℤ) (s : Segment) → 0 < 
     → n ≡ segment_cost points d p (Some s)
 cost_on points d p n s some holds level rising = ⊎_elim
     (λ (segment : IsTrue (is_hull_segment points s.left s.right)).
-    let up = (segment_rises points s.left s.right segment).0 in
+    let up = (under points s holds.left holds.right segment).wide in
     let number = rise points s.left s.right *ℤ from_left points d p s in
     let width = run_is points s.left s.right in
     let positive : pos 0 <ℤ (pos d *ℤ run points s.left s.right) =
@@ -137,7 +102,7 @@ cost_on points d p n s some holds level rising = ⊎_elim
 -- the least cost rounded up is the hull's value
 pub hull_cost-least : (points : List Point) (d : ℕ) (p n : ℤ) (s : Segment) → 0 < d → Holds points d p s → IsLeastCostUp points d p n → n ≡ hull_cost points d p
 hull_cost-least points d p n s some holds least =
-    let found = first_segment-some points d p (length points) s.left s.right holds.left holds.right holds.held in
+    let found = first-there points d p (length points) s.left s.right holds.left holds.right holds.held in
     let other = segment_least points d p found.0 some (segment_at-holds points d p found.0 found.1) in
     le_antisymm n (segment_cost points d p (Some found.0)) (least.least _ other.reached) (other.least n least.reached)
     ∙ ap (λ o. segment_cost points d p o) (sym found.1)

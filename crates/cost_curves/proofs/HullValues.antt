@@ -1,11 +1,12 @@
 -- What the corners of a lower hull say about the points.
 -- Cite from a crate above by `use Rattle.cost_curves.proofs.HullValues.{segment_is}`.
-use Rattle.std.proofs.Common.{◌≡◌, ℕ, suc, ◌-◌, ◌<◌, ⊎_elim, refl, sym, subst, ◌∙◌, arith, List, length, ℤ, pos, ◌+ℤ◌, ◌-ℤ◌, ◌*ℤ◌, ◌≤ℤ◌, ◌<ℤ◌, IsTrue, int_le, int_lt, ◌==◌, ◌&&◌, ◌||◌}
+use Rattle.std.proofs.Common.{◌≡◌, ℕ, suc, ◌-◌, ◌<◌, ⊎_elim, refl, sym, subst, ◌∙◌, arith, List, length, ℤ, pos, ◌+ℤ◌, ◌-ℤ◌, ◌*ℤ◌, ◌≤ℤ◌, ◌<ℤ◌, IsTrue, int_le, int_lt, ◌==◌, ◌&&◌}
 use Rattle.std.proofs.lemmas.Bool.{and_from, or_left, or_right, eq-eqb}
 use Rattle.uc_model.specs.Sums.{all_below}
 use Rattle.uc_model.specs.Points.{point_of, output_of}
-use Rattle.uc_model.specs.Hull.{run, rise, is_above_line, is_hull_segment, is_hull_point, segment_holds}
-use Rattle.uc_model.proofs.Ring.{linear, one-mul, le_antisymm}
+use Rattle.uc_model.specs.Hull.{run, rise, is_above_line, is_hull_segment, is_hull_point}
+use Rattle.uc_model.proofs.HullSegments.{holds_from}
+use Rattle.uc_model.proofs.Ring.{linear, le_antisymm}
 use Rattle.uc_model.proofs.Tests.{le-int_le, lt-int_lt, all_below-from}
 use Rattle.cost_curves.specs.LowerHull.{Point, IsLawfulPoint, AreLawfulCorners, IsAbove, IsLowerHull, width_of}
 use Rattle.cost_curves.specs.LeastCost.{Slope, IsSegmentAt, IsLeftSlope, IsRightSlope}
@@ -21,9 +22,6 @@ pub record LiesBetween (corners : List Point) (p : ℤ) (low high : ℕ) : Type 
   pub reaches : p ≤ℤ output_of corners high
 
 -- ---- where the corners lie
-pub output-first : (points : List Point) → output_of points 0 ≡ pos 0
-output-first points = omega (arith, linear)
-
 pub run_is : (points : List Point) (a b : ℕ) → run points a b ≡ (point_of points b).mw -ℤ (point_of points a).mw
 run_is points a b = omega (arith, linear)
 
@@ -93,14 +91,6 @@ line-segment points corners i line =
     (subst (λ z. (rise points line.left line.right *ℤ z) ≤ℤ (rise points line.left l *ℤ ((point_of points line.right).mw -ℤ (point_of points line.left).mw)))
     (sym (run_is points line.left l)) (line.above l h)))))
 
-pub segment_from : (points : List Point) (p : ℤ) (a b : ℕ) → IsTrue (is_hull_segment points a b || ((a == b) && is_hull_point points a))
-    → output_of points a ≤ℤ p → p ≤ℤ output_of points b → IsTrue (segment_holds points 1 p a b)
-segment_from points p a b hull begins reaches =
-    and_from ((is_hull_segment points a b || ((a == b) && is_hull_point points a)) && int_le (pos 1 *ℤ output_of points a) p) (int_le p (pos 1 *ℤ output_of points b))
-    (and_from (is_hull_segment points a b || ((a == b) && is_hull_point points a)) (int_le (pos 1 *ℤ output_of points a) p) hull
-    (le-int_le _ _ (subst (λ z. z ≤ℤ p) (sym (one-mul (output_of points a))) begins)))
-    (le-int_le _ _ (subst (λ z. p ≤ℤ z) (sym (one-mul (output_of points b))) reaches))
-
 -- ---- a corner that is alone
 pub alone-point : (points corners : List Point) → IsLowerHull points corners → length corners ≡ 1 → (a : ℕ) → point_of corners 0 ≡ point_of points a
     → IsTrue (is_hull_point points a)
@@ -148,7 +138,7 @@ segment_is points corners p i j whole holds = ⊎_elim alone pair holds.beside
           right_within = found.1;
           left_is = found.2;
           right_is = found.2;
-          holds = segment_from points p found.0 found.0
+          holds = holds_from points p found.0 found.0
               (or_right (is_hull_segment points found.0 found.0) ((found.0 == found.0) && is_hull_point points found.0)
               (and_from (found.0 == found.0) (is_hull_point points found.0) (eq-eqb found.0 found.0 refl) (alone-point points corners whole both.1 found.0 found.2)))
               (subst (λ z. z ≤ℤ p) level begins) (subst (λ z. p ≤ℤ z) level reaches);
@@ -169,7 +159,7 @@ segment_is points corners p i j whole holds = ⊎_elim alone pair holds.beside
           right_within = found.right_within;
           left_is = found.left_is;
           right_is = found.right_is;
-          holds = segment_from points p found.left found.right
+          holds = holds_from points p found.left found.right
               (or_left (is_hull_segment points found.left found.right) ((found.left == found.right) && is_hull_point points found.left) (line-segment points corners i found))
               (subst (λ z. z ≤ℤ p) left holds.begins) (subst (λ z. p ≤ℤ z) right reaches);
           first = λ h. subst (λ z. z <ℤ p) left (holds.first h);

@@ -7,6 +7,7 @@ use Rattle.std.proofs.lemmas.Bool.{cond-true, cond-false}
 use Rattle.uc_model.specs.Points.{point_of}
 use Rattle.uc_model.proofs.Ring.{linear, le_refl, le_trans, le_or_lt, le_antisymm, sub_nonneg, mul-zero, mul_nonneg, mul-le-mul_right}
 use Rattle.uc_model.proofs.Tests.{int_le-true, le-int_le}
+use Rattle.uc_model.proofs.HullSegments.{Rises, outputs_rise}
 use Rattle.cost_curves.specs.LowerHull.{Point, AreLawfulPoints, IsAbove, is_above, HullOfFirst}
 use Rattle.cost_curves.specs.inside.Corners.{is_over, IsNext, Joins}
 use Rattle.cost_curves.proofs.Lines.{flatter_trans, right_of, above_of, above-flatter_start, flatter_start-above, above-flatter_next, flatter_next-above, above-flatter_end, flatter_end-above, above-flatter_whole, before-flatter, sub_positive, less_le}
@@ -20,13 +21,7 @@ pub record Covers (points : List Point) (count : ℕ) (corners : List Point) (po
 
 -- ---- what a test that fails says
 false_lt : (a b : ℤ) → int_le a b ≡ false → b <ℤ a
-false_lt a b e = ⊎_elim
-    (λ (le : a ≤ℤ b). absurd (clash (int_le a b) (le-int_le a b le) e))
-    (λ less. less)
-    (le_or_lt a b)
-  where
-    clash : (b : Bool) → b ≡ true → b ≡ false → ⊥
-    clash b h k = cc
+false_lt a b e = grind (arith, ints)
 
 -- ---- a corner is one of the points
 corner_right : (points : List Point) (count : ℕ) (corners : List Point) (point : Point) → HullOfFirst points count corners
@@ -248,12 +243,11 @@ joins points count corners point (suc (suc i)) result hull next covers tested e 
 
 -- ---- the points before the next one
 -- outputs rise from each point to each later one
+pub rises : (points : List Point) → AreLawfulPoints points → Rises points
+rises points lawful = record { some = lawful.some; rising = lawful.rising }
+
 pub outputs-le : (points : List Point) → AreLawfulPoints points → (l k : ℕ) → l ≤ k → k < length points → (point_of points l).mw ≤ℤ (point_of points k).mw
-outputs-le points lawful l zero h inside = subst (λ i. (point_of points l).mw ≤ℤ (point_of points i).mw) (omega arith) (le_refl (point_of points l).mw)
-outputs-le points lawful l (suc k) h inside = ⊎_elim
-    (λ (last : l ≡ suc k). subst (λ i. (point_of points l).mw ≤ℤ (point_of points i).mw) last (le_refl (point_of points l).mw))
-    (λ (below : l ≤ k). le_trans _ _ _ (outputs-le points lawful l k below (omega arith)) (lawful.rising k inside))
-    (grind arith)
+outputs-le points lawful l k h inside = let order = outputs_rise points (rises points lawful) l k h inside in omega (arith, linear, order)
 
 -- the test of the last corner, by the number of corners
 pub record TestedLast (corners : List Point) (point : Point) (result : Bool) : Type 0 where

@@ -6,7 +6,7 @@ use Rattle.uc_model.specs.Division.{IsCeiling}
 use Rattle.uc_model.specs.Sums.{sum_below}
 use Rattle.uc_model.specs.Points.{point_of, output_of, weighted_output, weighted_cost}
 use Rattle.uc_model.specs.Hull.{run, rise}
-use Rattle.uc_model.proofs.Ring.{linear, sub_nonneg, spread, mul_comm, mul_assoc, mul_left_comm, mul-add, mul-sub, mul-zero, zero-mul, mul-one, one-mul, le_from_mul, mul-le-mul_right, mul-lt-mul_left, scale-le-scale, pos_of_nonneg, pos_nonneg}
+use Rattle.uc_model.proofs.Ring.{linear, sub_nonneg, sub-mul, spread, mul_comm, mul_assoc, mul_left_comm, mul-add, mul-sub, mul-zero, zero-mul, mul-one, one-mul, le_from_mul, mul-le-mul_right, mul-lt-mul_left, scale-le-scale, pos_of_nonneg, pos_nonneg}
 use Rattle.uc_model.proofs.Sums.{sum_below-same, sum_below-le, sum_below-sub, sum_below-mul_left, sum_below-single, sum_below-pair}
 use Rattle.uc_model.proofs.Quotients.{IsCeiling-least}
 use Rattle.cost_curves.specs.LowerHull.{Point}
@@ -80,8 +80,7 @@ line_reached points d p n a b ha hb rising begins reaches cost =
 
 -- ---- and nothing costs less
 -- the sum of differences from a number, by weights, all times a number
-sum_apart : (n : ℕ) (r x : ℤ) (f : ℕ → ℤ) (weight : ℕ → ℕ)
-    → sum_below n (λ l. r *ℤ (f l *ℤ pos (weight l) -ℤ x *ℤ pos (weight l)))
+sum_apart : (n : ℕ) (r x : ℤ) (f : ℕ → ℤ) (weight : ℕ → ℕ) → sum_below n (λ l. r *ℤ (f l *ℤ pos (weight l) -ℤ x *ℤ pos (weight l)))
     ≡ r *ℤ (sum_below n (λ l. f l *ℤ pos (weight l)) -ℤ x *ℤ sum_below n (λ l. pos (weight l)))
 sum_apart n r x f weight =
     sum_below-mul_left n r (λ l. f l *ℤ pos (weight l) -ℤ x *ℤ pos (weight l))
@@ -93,12 +92,9 @@ weighted_point : (r w x xa c ca z : ℤ) → pos 0 ≤ℤ z → (r *ℤ (x -ℤ 
     → (r *ℤ (x *ℤ z -ℤ xa *ℤ z)) ≤ℤ (w *ℤ (c *ℤ z -ℤ ca *ℤ z))
 weighted_point r w x xa c ca z nonneg h =
     let times = mul-le-mul_right z (r *ℤ (x -ℤ xa)) ((c -ℤ ca) *ℤ w) nonneg h in
-    let left = mul_assoc r (x -ℤ xa) z ∙ ap (λ y. r *ℤ y) (apart x xa z) in
-    let right = ap (λ y. y *ℤ z) (mul_comm (c -ℤ ca) w) ∙ mul_assoc w (c -ℤ ca) z ∙ ap (λ y. w *ℤ y) (apart c ca z) in
+    let left = mul_assoc r (x -ℤ xa) z ∙ ap (λ y. r *ℤ y) (sub-mul x xa z) in
+    let right = ap (λ y. y *ℤ z) (mul_comm (c -ℤ ca) w) ∙ mul_assoc w (c -ℤ ca) z ∙ ap (λ y. w *ℤ y) (sub-mul c ca z) in
     subst (λ y. y ≤ℤ (w *ℤ (c *ℤ z -ℤ ca *ℤ z))) left (subst (λ y. ((r *ℤ (x -ℤ xa)) *ℤ z) ≤ℤ y) right times)
-  where
-    apart : (x y z : ℤ) → (x -ℤ y) *ℤ z ≡ x *ℤ z -ℤ y *ℤ z
-    apart x y z = simp spread (omega (arith, linear))
 
 -- what all points' weighted sums say of an output
 divided : (q : ℕ) (r w p xa m ca total : ℤ) → 0 < q → pos 0 ≤ℤ w → total ≤ℤ (pos q *ℤ m)

@@ -26,7 +26,7 @@ use Rattle.dual_model.proofs.Agreement.{pattern-obeying}
 use Rattle.dual_model.proofs.PricedRules.{start_priced, made_off}
 use Rattle.dual_model.proofs.Bound.{unit_share, parts_bound}
 use Rattle.dual_model.proofs.UnitValues.{allowed_value}
-use Rattle.dual_model.proofs.HullSegments.{Rises, outputs_rise}
+use Rattle.uc_model.proofs.HullSegments.{Rises, outputs_rise}
 use Rattle.dual_model.proofs.FlooredHull.{floored_cost-le}
 
 -- ---- the unit's schedule
@@ -52,14 +52,12 @@ width_nonneg : (unit : Thermal) → IsLawfulThermal unit → pos 0 ≤ℤ greate
 width_nonneg unit lawful = point_p_nonneg unit lawful (point_count unit - 1)
     (let some = lawful.points.0 in omega (arith, some))
 
-before_is : (q t : ℕ) (unit : Thermal) (row : Row) → IsLawfulThermal unit
-    → output_before q unit (own unit row) t ≡ p_before q unit row t
+before_is : (q t : ℕ) (unit : Thermal) (row : Row) → IsLawfulThermal unit → output_before q unit (own unit row) t ≡ p_before q unit row t
 before_is q zero unit row lawful = refl
 before_is q (suc t) unit row lawful = abs_is (p_at unit row t) (p_at_nonneg unit lawful row t)
 
 -- M10 before the last period
-stopped : (periods q : ℕ) (unit : Thermal) (row : Row) (t : ℕ) → IsTrue (stop_cap_at periods q unit row t)
-    → suc t < periods
+stopped : (periods q : ℕ) (unit : Thermal) (row : Row) (t : ℕ) → IsTrue (stop_cap_at periods q unit row t) → suc t < periods
     → (p_at unit row t +ℤ row.reserve t) ≤ℤ (pos q *ℤ stop_cap unit row.on t)
 stopped periods q unit row t holds before = ⊎_elim
     (λ (last : IsTrue (not (nat_lt (suc t) periods))). absurd
@@ -69,8 +67,7 @@ stopped periods q unit row t holds before = ⊎_elim
     (or_cases _ _ holds)
 
 -- ---- a period, over plain numbers: what a cell adds, K times its start and its category, and what it is paid
-on_period : (q k pi mu floored made p r pmin start category u cell : ℤ)
-    → cell ≡ floored -ℤ pi *ℤ (p +ℤ q *ℤ pmin) -ℤ mu *ℤ r
+on_period : (q k pi mu floored made p r pmin start category u cell : ℤ) → cell ≡ floored -ℤ pi *ℤ (p +ℤ q *ℤ pmin) -ℤ mu *ℤ r
     → u ≡ pos 1 → floored ≤ℤ (k *ℤ made) → start ≤ℤ (k *ℤ (q *ℤ category))
     → (cell +ℤ start) ≤ℤ (k *ℤ (made +ℤ q *ℤ category) -ℤ (pi *ℤ (p +ℤ q *ℤ pmin *ℤ u) +ℤ mu *ℤ r))
 on_period q k pi mu floored made p r pmin start category u cell is is_on below begun =
@@ -188,8 +185,7 @@ module _ (instance : Instance) (q : ℕ) (x : Schedule) (g : ℕ) (obeys : Obeys
       (cases_Bool (row.on t))
 
   -- the value of the unit's schedule is at most K times what the unit costs, less what it is paid
-  own_bound : (table : Table) → pos 0 ≤ℤ table.k
-      → unit_schedule_value instance table g q (own unit row)
+  own_bound : (table : Table) → pos 0 ≤ℤ table.k → unit_schedule_value instance table g q (own unit row)
       ≤ℤ (table.k *ℤ unit_cost instance.periods q unit row -ℤ sum_below instance.periods (paid_at table))
   own_bound table sign =
       let each = sum_below-le instance.periods (exact_period_value table q unit (own unit row))
@@ -224,8 +220,7 @@ exact_weak_duality instance node table v q x lawful bounds is_value schedule =
     (λ g. exact_part instance table g (is_value.unit_value g) (is_value.exact_value g)) each in
     subst (λ z. (pos q *ℤ z) ≤ℤ (table.k *ℤ cost instance q x)) (sym is_value.total) bound
   where
-    each : (g : ℕ) → g < thermal_count instance
-        → (pos q *ℤ exact_part instance table g (is_value.unit_value g) (is_value.exact_value g))
+    each : (g : ℕ) → g < thermal_count instance → (pos q *ℤ exact_part instance table g (is_value.unit_value g) (is_value.exact_value g))
         ≤ℤ (table.k *ℤ unit_cost instance.periods q (thermal_unit instance g) (x.thermal g)
         -ℤ sum_below instance.periods (λ t. pi_at table t *ℤ thermal_output instance q x g t
         +ℤ mu_at table t *ℤ (x.thermal g).reserve t))

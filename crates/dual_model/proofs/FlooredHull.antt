@@ -1,6 +1,6 @@
 -- K times the cost of weights on a unit's points is at least q*L(p/q) at their output p: along the hull, from one whole
 -- watt to the next, L rises no faster than K times the hull, and no weights cost less than the hull.
-use Rattle.std.proofs.Common.{◌≡◌, ℕ, zero, suc, ◌+◌, ◌-◌, ◌*◌, ◌/◌, ◌<◌, ◌≤◌, ◌≢◌, ⊎_elim, refl, sym, ap, subst, ◌∙◌, arith, List, length, ℤ, pos, ◌+ℤ◌, ◌-ℤ◌, ◌*ℤ◌, neg_ℤ, ◌≤ℤ◌, ◌<ℤ◌, negsuc, Some, ◌==◌, max, unsigned_abs, if◌then◌else◌}
+use Rattle.std.proofs.Common.{◌≡◌, ℕ, zero, suc, ◌+◌, ◌-◌, ◌*◌, ◌/◌, ◌<◌, ◌≤◌, ◌≢◌, ⊎_elim, refl, sym, ap, subst, ◌∙◌, arith, List, length, ℤ, pos, ◌+ℤ◌, ◌-ℤ◌, ◌*ℤ◌, neg_ℤ, ◌≤ℤ◌, ◌<ℤ◌, Some, ◌==◌, if◌then◌else◌}
 use Rattle.std.proofs.Math.Nat.{le-max_left}
 use Rattle.std.proofs.lemmas.Nat.{div-mul-add}
 use Rattle.std.proofs.lemmas.Bool.{cond-true, cond-false, eq-eqb, ne_eqb}
@@ -13,12 +13,12 @@ use Rattle.uc_model.proofs.Sums.{sum_below-same, sum_below-le, sum_below-sub, su
 use Rattle.uc_model.proofs.Quotients.{IsFloor-int_div_euclid}
 use Rattle.dual_model.specs.ExactValue.{Point, floored_slope, slope_from, floored_cost}
 use Rattle.dual_model.proofs.Hermite.{small}
-use Rattle.dual_model.proofs.HullSegments.{Rises, outputs_rise, IsUnder, Steps, step_there, Begins, begin_there}
+use Rattle.uc_model.proofs.HullPoints.{width_is}
+use Rattle.uc_model.proofs.HullSegments.{Rises, outputs_rise, IsUnder, Steps, step_there, Begins, begin_there}
 
 -- ---- sums of the slopes
 -- along x whole steps and a part of the next one
-whole_steps : (q x part : ℕ) (f : ℕ → ℤ) → part ≤ q
-    → sum_below (q * x + part) (λ y. f (y / q)) ≡ pos q *ℤ sum_below x f +ℤ pos part *ℤ f x
+whole_steps : (q x part : ℕ) (f : ℕ → ℤ) → part ≤ q → sum_below (q * x + part) (λ y. f (y / q)) ≡ pos q *ℤ sum_below x f +ℤ pos part *ℤ f x
 whole_steps q zero part f h =
     let none : q * 0 + part ≡ part = omega arith in
     let each = sum_below-same part (λ y. f (y / q)) (λ y. f 0) (λ y l. ap f (small y q (omega (arith, l, h)))) in
@@ -29,8 +29,7 @@ whole_steps q (suc x) part f h =
     let base : q * suc x ≡ q * x + q = omega arith in
     let before = whole_steps q x q f (omega arith) in
     let split = sum_below-split (q * x + q) part (λ y. f (y / q)) in
-    let inside : (k : ℕ) → k < q → (q * x + q + k) / q ≡ suc x =
-    λ k l. ap (λ n. n / q) (omega arith) ∙ div-mul-add (suc x) q k l in
+    let inside : (k : ℕ) → k < q → (q * x + q + k) / q ≡ suc x = λ k l. ap (λ n. n / q) (omega arith) ∙ div-mul-add (suc x) q k l in
     let each = sum_below-same part (λ k. f ((q * x + q + k) / q)) (λ k. f (suc x))
     (λ k l. ap f (inside k (omega (arith, l, h)))) in
     let times = sum_below-const part (f (suc x)) in
@@ -51,8 +50,7 @@ floored_cost-is points k q x part h =
     omega (arith, linear, steps, parts)
 
 -- ---- weights and a line below the points
-shifted_sum : (n : ℕ) (f : ℕ → ℤ) (w : ℕ → ℕ) (m : ℤ)
-    → sum_below n (λ l. (f l -ℤ m) *ℤ pos (w l)) ≡ sum_below n (λ l. f l *ℤ pos (w l))
+shifted_sum : (n : ℕ) (f : ℕ → ℤ) (w : ℕ → ℕ) (m : ℤ) → sum_below n (λ l. (f l -ℤ m) *ℤ pos (w l)) ≡ sum_below n (λ l. f l *ℤ pos (w l))
     -ℤ m *ℤ sum_below n (λ l. pos (w l))
 shifted_sum n f w m =
     sum_below-same n _ (λ l. f l *ℤ pos (w l) -ℤ m *ℤ pos (w l)) (λ l h. simp spread (omega (arith, linear)))
@@ -60,8 +58,7 @@ shifted_sum n f w m =
     ∙ ap (λ z. sum_below n (λ l. f l *ℤ pos (w l)) -ℤ z) (sum_below-mul_left n m (λ l. pos (w l)))
 
 -- no weights cost less than the line through the segment's ends says at their output
-line_below : (points : List Point) (s : Segment) → IsUnder points s → (q : ℕ) (weight : ℕ → ℕ)
-    → weighted_total points weight ≡ pos q
+line_below : (points : List Point) (s : Segment) → IsUnder points s → (q : ℕ) (weight : ℕ → ℕ) → weighted_total points weight ≡ pos q
     → (pos q *ℤ (run points s.left s.right *ℤ (point_of points s.left).cost)
     +ℤ rise points s.left s.right *ℤ (weighted_output points weight -ℤ output_of points s.left *ℤ pos q))
     ≤ℤ (run points s.left s.right *ℤ weighted_cost points weight)
@@ -99,8 +96,7 @@ up_none : (a : ℤ) (b : ℕ) → 0 < b → a ≡ pos 0 → quotient_up a (pos b
 up_none a b some none = ap (λ z. quotient_up z (pos b)) none ∙ ap (λ n. neg_ℤ (pos n)) (small 0 b some)
 
 -- the hull's value at 0 is the cost of its left end
-hull_start : (points : List Point) (s : Segment) → Begins points s
-    → hull_cost points 1 (pos 0) ≡ (point_of points s.left).cost
+hull_start : (points : List Point) (s : Segment) → Begins points s → hull_cost points 1 (pos 0) ≡ (point_of points s.left).cost
 hull_start points s begins =
     let cost = (point_of points s.left).cost in
     let start = begins.start in
@@ -164,8 +160,7 @@ step_bound q part whole slope wide a c rise k cost hw hq hp hk before line down 
     let m3 : k *ℤ (q *ℤ (wide *ℤ c) +ℤ rise *ℤ (q *ℤ a +ℤ part))
     ≡ k *ℤ (q *ℤ (wide *ℤ c)) +ℤ k *ℤ (q *ℤ (rise *ℤ a)) +ℤ k *ℤ (rise *ℤ part) =
     ap (λ z. k *ℤ (q *ℤ (wide *ℤ c) +ℤ z)) m2 ∙ simp mul-add (omega (arith, linear)) in
-    let m4 : part *ℤ (k *ℤ rise) ≡ k *ℤ (rise *ℤ part) =
-    mul_left_comm part k rise ∙ ap (λ z. k *ℤ z) (mul_comm part rise) in
+    let m4 : part *ℤ (k *ℤ rise) ≡ k *ℤ (rise *ℤ part) = mul_left_comm part k rise ∙ ap (λ z. k *ℤ z) (mul_comm part rise) in
     let m5 = mul_left_comm k wide cost in
     le_from_mul wide (q *ℤ whole +ℤ part *ℤ slope) (k *ℤ cost) hw
     (omega (arith, linear, t1, t2, t3, l1, l2, l3, m1, m3, m4, m5))
@@ -213,8 +208,7 @@ cost_of_ends c e a b = simp spread (omega (arith, linear, mul_comm c b, mul_comm
 
 -- how far an output lies right of the left end
 right_of_left : (q x part a out : ℤ) → out ≡ x -ℤ a → (q *ℤ x +ℤ part) -ℤ out *ℤ q ≡ q *ℤ a +ℤ part
-right_of_left q x part a out e =
-    ap (λ z. (q *ℤ x +ℤ part) -ℤ z *ℤ q) e ∙ simp spread (omega (arith, linear, mul_comm q x, mul_comm q a))
+right_of_left q x part a out e = ap (λ z. (q *ℤ x +ℤ part) -ℤ z *ℤ q) e ∙ simp spread (omega (arith, linear, mul_comm q x, mul_comm q a))
 
 -- ---- along the hull
 -- L bounds the weights whose output is at most x, over each q
@@ -234,10 +228,6 @@ bounds-start points k rises sign q p weight total output h =
     let base : pos q *ℤ whole_cost points k 0 ≡ k *ℤ (pos q *ℤ hull_cost points 1 (pos 0)) =
     ap (λ z. pos q *ℤ z) (omega (arith, linear)) ∙ mul_left_comm (pos q) k (hull_cost points 1 (pos 0)) in
     omega (arith, linear, below, is, nothing, base)
-
-width_is : (z : ℤ) → pos 0 <ℤ z → pos (max 1 (unsigned_abs z)) ≡ z
-width_is (pos n) h = let some : 0 < n = omega (arith, linear) in ap pos (omega arith)
-width_is (negsuc n) h = absurd (omega (arith, linear))
 
 -- the slope of a step is at most K times the segment's
 slope_below : (points : List Point) (k : ℤ) (x : ℕ) (s : Segment) → Steps points x s
@@ -273,8 +263,7 @@ between points k x s step sign before q part weight total output h =
     let left : out s.left ≡ pos x -ℤ pos a = omega (arith, linear, is_a) in
     let right : out s.right ≡ pos x +ℤ pos b = omega (arith, linear, is_b) in
     let whole : wide ≡ pos (b + a) = omega (arith, linear, left, right) in
-    let apart : s.left ≢ s.right =
-    λ same. (let some = step.under.wide in omega (arith, linear, some, ap out same)) in
+    let apart : s.left ≢ s.right = λ same. (let some = step.under.wide in omega (arith, linear, some, ap out same)) in
     let weights = ends_weight s a b in
     let sum = ends_sum points s a b step.under.left step.under.right apart in
     let all = ends_total points s a b step.under.left step.under.right apart in
@@ -287,8 +276,7 @@ between points k x s step sign before q part weight total output h =
     let exact : (b + a) * x ≡ (b + a) * x + 0 = omega arith in
     let is_x = ap (floored_cost points k (b + a)) exact ∙ floored_cost-is points k (b + a) x 0 (omega arith) in
     let nothing = zero-mul (slope_from points k x) in
-    let scaled : pos (b + a) *ℤ whole_cost points k x ≡ wide *ℤ whole_cost points k x =
-    ap (λ z. z *ℤ whole_cost points k x) (sym whole) in
+    let scaled : pos (b + a) *ℤ whole_cost points k x ≡ wide *ℤ whole_cost points k x = ap (λ z. z *ℤ whole_cost points k x) (sym whole) in
     let costs : k *ℤ weighted_cost points weights ≡ k *ℤ (wide *ℤ c +ℤ up *ℤ pos a) = ap (λ z. k *ℤ z) cost_there in
     let here : (wide *ℤ whole_cost points k x) ≤ℤ (k *ℤ (wide *ℤ c +ℤ up *ℤ pos a)) =
     omega (arith, linear, at_x, is_x, nothing, scaled, costs) in
@@ -303,8 +291,7 @@ between points k x s step sign before q part weight total output h =
     let is = floored_cost-is points k q x part h in
     omega (arith, linear, bound, is)
 
-bounds-next : (points : List Point) (k : ℤ) (x : ℕ) → Rises points → pos 0 ≤ℤ k
-    → pos (suc x) ≤ℤ output_of points (length points - 1)
+bounds-next : (points : List Point) (k : ℤ) (x : ℕ) → Rises points → pos 0 ≤ℤ k → pos (suc x) ≤ℤ output_of points (length points - 1)
     → Bounds points k x → Bounds points k (suc x)
 bounds-next points k x rises sign most before q p weight total output h = ⊎_elim
     (λ (earlier : p ≤ q * x). before q p weight total output earlier)

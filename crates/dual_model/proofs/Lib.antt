@@ -27,7 +27,6 @@ pub mod LeastValues
 pub mod Hourly
 pub mod Hermite
 pub mod WholeWatts
-pub mod HullSegments
 pub mod FlooredHull
 pub mod ExactBound
 pub mod ExactValues

@@ -12,11 +12,10 @@ use Rattle.dual_model.specs.Prices.{pi_at, mu_at}
 use Rattle.dual_model.specs.ExactValue.{Point, Instance, Table, UnitSchedule, floored_slope, slope_from, floored_cost, IsUnitScheduleAt, IsUnitSchedule, exact_cell_value, exact_period_value, unit_schedule_value, IsExactUnitValue}
 use Rattle.dual_model.specs.Tree.{root}
 use Rattle.dual_model.specs.Examples.{alone, sinking_unit, zero_prices, ray, scaled_dollars}
-use Rattle.dual_model.proofs.HullSegments.{Rises, Steps, step_there}
+use Rattle.uc_model.proofs.HullSegments.{Rises, Steps, step_there}
 
 -- ---- L, where all its slopes are one
-pub flat_cost : (points : List Point) (k m : ℤ) (width q p : ℕ) → 0 < q
-    → ((x : ℕ) → x < width → slope_from points k x ≡ m)
+pub flat_cost : (points : List Point) (k m : ℤ) (width q p : ℕ) → 0 < q → ((x : ℕ) → x < width → slope_from points k x ≡ m)
     → p ≤ width * q → floored_cost points k q p ≡ pos q *ℤ (k *ℤ hull_cost points 1 (pos 0)) +ℤ pos p *ℤ m
 unfolding floored_cost
 flat_cost points k m width q p some slope h =
@@ -104,8 +103,7 @@ value_is : (demand q : ℕ) (table : Table) (x : UnitSchedule) → IsUnitSchedul
 value_is demand q table x is =
     let held = kept demand q x is in
     let cell = exact_cell_value table q sinking_unit x 0 in
-    let on : exact_period_value table q sinking_unit x 0 ≡ cell +ℤ pos 0 =
-    ap (λ b. cond b cell (pos 0) +ℤ pos 0) held.on in
+    let on : exact_period_value table q sinking_unit x 0 ≡ cell +ℤ pos 0 = ap (λ b. cond b cell (pos 0) +ℤ pos 0) held.on in
     let cost = flat_cost points table.k (floored_slope points table.k (Some whole)) 40000000 q (x.p 0) is.denominator
     (slope_is table.k) held.high in
     let whole_cell : cell ≡ value_at table q (x.p 0) (x.r 0) =

@@ -1,39 +1,36 @@
 -- The slopes of a source beside an output: they are there, and they rise.
-use Rattle.std.proofs.Common.{⊎_elim, ℕ, zero, suc, ◌-◌, ◌<◌, arith, refl, sym, subst, List, length, ℤ, pos, ◌+ℤ◌, ◌-ℤ◌, ◌*ℤ◌, ◌≤ℤ◌, ◌<ℤ◌}
-use Rattle.uc_model.specs.Points.{point_of, output_of}
+use Rattle.std.proofs.Common.{◌-◌, arith, refl, sym, subst, List, length, ℤ, pos, ◌+ℤ◌, ◌*ℤ◌, ◌≤ℤ◌, ◌<ℤ◌}
+use Rattle.uc_model.specs.Points.{output_of}
+use Rattle.uc_model.specs.Hull.{rise, run}
 use Rattle.uc_model.specs.declared.instance.Point.{Point}
-use Rattle.uc_model.proofs.Ring.{linear, le_or_lt}
+use Rattle.uc_model.proofs.Ring.{linear}
+use Rattle.uc_model.proofs.HullSegments.{pair_there, is_segment}
 use Rattle.cost_curves.specs.LeastCost.{IsLeftSlope, IsRightSlope}
 use Rattle.cost_curves.specs.LowerHull.{AreLawfulPoints, width_of}
 use Rattle.cost_curves.specs.declared.slope.Slope.{Slope}
-use Rattle.cost_curves.proofs.HullExists.{hull-there}
-use Rattle.cost_curves.proofs.HullValues.{slope_is, slope_right, whole_width}
+use Rattle.cost_curves.proofs.HullValues.{slope_right}
 use Rattle.cost_curves.proofs.Slopes.{slopes_rise}
-
--- the corners between which an output above 0 lies
-record Between (corners : List Point) (p : ℤ) (left : ℕ) : Type 0 where
-  within : suc left < length corners
-  begins : output_of corners left <ℤ p
-  reaches : p ≤ℤ output_of corners (suc left)
-
-between : (corners : List Point) (p : ℤ) → pos 0 <ℤ p → (n : ℕ) → n < length corners → p ≤ℤ output_of corners n → (left : ℕ) × Between corners p left
-between corners p some zero h reaches = absurd (omega (arith, linear, some, reaches))
-between corners p some (suc n) h reaches = ⊎_elim
-    (λ (earlier : p ≤ℤ output_of corners n). between corners p some n (omega arith) earlier)
-    (λ (here : output_of corners n <ℤ p). (n, record { within = h; begins = here; reaches = reaches }))
-    (le_or_lt p (output_of corners n))
 
 pub left-there : (points : List Point) (p : ℤ) → AreLawfulPoints points → pos 0 <ℤ p → p ≤ℤ width_of points → (slope : Slope) × IsLeftSlope points p slope
 left-there points p lawful low high =
-    let hull = hull-there points lawful in
-    let corners = hull.0 in
-    let some : 0 < length corners = hull.1.hull.some lawful.some in
-    let found = between corners p low (length corners - 1) (omega (arith, some)) (subst (λ z. p ≤ℤ z) (sym (whole_width points corners hull.1)) high) in
-    let slope : Slope = record {
-      rise = (point_of corners (suc found.0)).cost -ℤ (point_of corners found.0).cost;
-      run = (point_of corners (suc found.0)).mw -ℤ (point_of corners found.0).mw;
-    } in
-    (slope, slope_is points corners p found.0 slope hull.1 found.1.within found.1.begins found.1.reaches refl refl)
+    let some = lawful.some in
+    let pair = pair_there points p 0 (length points - 1) some (omega (arith, some)) (omega (arith, linear, low)) high in
+    let lowest = pair.2 in (
+      record { rise = rise points pair.0 pair.1; run = run points pair.0 pair.1 },
+      record {
+        left = pair.0;
+        right = pair.1;
+        segment = record {
+          left_within = lowest.left_within;
+          right_within = lowest.right_within;
+          segment = is_segment points p pair.0 pair.1 lowest;
+          rise = refl;
+          run = refl;
+        };
+        begins = lowest.left;
+        reaches = lowest.right;
+      },
+    )
 
 pub right-there : (points : List Point) (p : ℤ) → AreLawfulPoints points → pos 0 ≤ℤ p → p <ℤ width_of points → (slope : Slope) × IsRightSlope points p slope
 right-there points p lawful low high =

@@ -68,7 +68,7 @@ pub abs_is : (z : ℤ) → pos 0 ≤ℤ z → pos (unsigned_abs z) ≡ z
 abs_is (pos n) h = refl
 abs_is (negsuc n) h = absurd (omega (arith, linear))
 
-width_is : (z : ℤ) → pos 0 <ℤ z → pos (max 1 (unsigned_abs z)) ≡ z
+pub width_is : (z : ℤ) → pos 0 <ℤ z → pos (max 1 (unsigned_abs z)) ≡ z
 width_is (pos n) h = let some : 0 < n = omega (arith, linear) in ap pos (omega arith)
 width_is (negsuc n) h = absurd (omega (arith, linear))
 

@@ -14,5 +14,6 @@ pub mod MinimumTimes
 pub mod Shortages
 pub mod CostBound
 pub mod HullPoints
+pub mod HullSegments
 pub mod PrintedCosts
 pub mod Sizes

@@ -1,17 +1,16 @@
 -- The segments of the lower hull of points of rising output: one begins below each output above 0 and reaches it. It is
 -- found as the pair of points, one below the output and one at or above it, whose line is lowest halfway to the output
 -- before.
--- Cite from a crate above by `use Rattle.dual_model.proofs.HullSegments.{Steps, step_there}`.
+-- Cite from a crate above by `use Rattle.uc_model.proofs.HullSegments.{Steps, step_there}`.
 use Rattle.std.proofs.Common.{◌≡◌, ℕ, zero, suc, ◌+◌, ◌-◌, ◌*◌, ◌/◌, ◌%◌, ◌<◌, ◌≤◌, ◌⊎◌, inl, inr, ⊎_elim, Bool, refl, sym, ap, subst, ◌∙◌, arith, List, length, ℤ, pos, ◌+ℤ◌, ◌-ℤ◌, ◌*ℤ◌, neg_ℤ, ◌≤ℤ◌, ◌<ℤ◌, IsTrue, Option, Some, None, int_le, int_lt, ◌==◌, ◌&&◌, ◌||◌, if◌then◌else◌}
 use Rattle.std.proofs.lemmas.Bool.{and_parts, and_from, or_cases, or_left, or_right, cond-true, eqb-true, eq-eqb}
 use Rattle.std.proofs.lemmas.Nat.{mul-add-lt, div-mul-add, mod-mul-add, div_below, mod_below}
 use Rattle.std.proofs.lemmas.Option.{none-some, same_Some}
 use Rattle.uc_model.specs.Sums.{all_below}
-use Rattle.uc_model.specs.Points.{point_of, output_of}
+use Rattle.uc_model.specs.Points.{Point, point_of, output_of}
 use Rattle.uc_model.specs.Hull.{run, rise, is_above_line, is_hull_segment, is_hull_point, segment_holds, or_else, first_below, Segment, segment_from, first_segment, segment_at}
 use Rattle.uc_model.proofs.Ring.{linear, spread, le_or_lt, le_trans, mul_comm, mul_assoc, mul_left_comm, mul-le-mul_left, le_from_mul, one-mul}
 use Rattle.uc_model.proofs.HullPoints.{Holds, segment_at-holds}
-use Rattle.dual_model.specs.ExactValue.{Point}
 use Rattle.uc_model.proofs.Tests.{le-int_le, lt-int_lt, int_le-true, int_lt-true, all_below-from, all_below-at}
 
 -- ---- a least one of numbers below n, by an order
@@ -105,17 +104,13 @@ module _ (has : ℕ → Type 0) (before : ℕ → ℕ → Type 0) (order : IsOrd
 pub record IsAtMost (a b c d : ℤ) : Type 0 where
   pub products : (a *ℤ d) ≤ℤ (c *ℤ b)
 
-at_most_trans : (a b c d e f : ℤ) → pos 0 <ℤ b → pos 0 <ℤ d → pos 0 <ℤ f → IsAtMost a b c d → IsAtMost c d e f
-    → IsAtMost a b e f
+at_most_trans : (a b c d e f : ℤ) → pos 0 <ℤ b → pos 0 <ℤ d → pos 0 <ℤ f → IsAtMost a b c d → IsAtMost c d e f → IsAtMost a b e f
 at_most_trans a b c d e f hb hd hf first second =
     let x = mul-le-mul_left f (a *ℤ d) (c *ℤ b) (omega (arith, linear)) first.products in
     let y = mul-le-mul_left b (c *ℤ f) (e *ℤ d) (omega (arith, linear)) second.products in
-    let e1 : f *ℤ (a *ℤ d) ≡ d *ℤ (a *ℤ f) =
-    mul_left_comm f a d ∙ ap (λ z. a *ℤ z) (mul_comm f d) ∙ mul_left_comm a d f in
-    let e2 : f *ℤ (c *ℤ b) ≡ b *ℤ (c *ℤ f) =
-    mul_left_comm f c b ∙ ap (λ z. c *ℤ z) (mul_comm f b) ∙ mul_left_comm c b f in
-    let e3 : b *ℤ (e *ℤ d) ≡ d *ℤ (e *ℤ b) =
-    mul_left_comm b e d ∙ ap (λ z. e *ℤ z) (mul_comm b d) ∙ mul_left_comm e d b in
+    let e1 : f *ℤ (a *ℤ d) ≡ d *ℤ (a *ℤ f) = mul_left_comm f a d ∙ ap (λ z. a *ℤ z) (mul_comm f d) ∙ mul_left_comm a d f in
+    let e2 : f *ℤ (c *ℤ b) ≡ b *ℤ (c *ℤ f) = mul_left_comm f c b ∙ ap (λ z. c *ℤ z) (mul_comm f b) ∙ mul_left_comm c b f in
+    let e3 : b *ℤ (e *ℤ d) ≡ d *ℤ (e *ℤ b) = mul_left_comm b e d ∙ ap (λ z. e *ℤ z) (mul_comm b d) ∙ mul_left_comm e d b in
     record { products = le_from_mul d _ _ hd (omega (arith, linear, x, y, e1, e2, e3)) }
 
 at_most_total : (a b c d : ℤ) → IsAtMost a b c d ⊎ IsAtMost c d a b
@@ -132,13 +127,11 @@ turn x y z = mul_assoc x y z ∙ mul_left_comm x y z
 
 -- the costs c, e and f at distances a and d on one side and b on the other: where the line from c to e passes no higher
 -- in the middle than that from f to e, f lies on it or above it
-divided : (c e f a b d : ℤ) → pos 0 <ℤ b
-    → ((c *ℤ b +ℤ e *ℤ a) *ℤ (d +ℤ b)) ≤ℤ ((f *ℤ b +ℤ e *ℤ d) *ℤ (a +ℤ b))
+divided : (c e f a b d : ℤ) → pos 0 <ℤ b → ((c *ℤ b +ℤ e *ℤ a) *ℤ (d +ℤ b)) ≤ℤ ((f *ℤ b +ℤ e *ℤ d) *ℤ (a +ℤ b))
     → (c *ℤ (d +ℤ b) +ℤ e *ℤ a) ≤ℤ (f *ℤ (a +ℤ b) +ℤ e *ℤ d)
 divided c e f a b d positive given =
     let parts = simp spread at given in
-    let order : (e *ℤ a) *ℤ d ≡ (e *ℤ d) *ℤ a =
-    mul_assoc e a d ∙ ap (λ z. e *ℤ z) (mul_comm a d) ∙ sym (mul_assoc e d a) in
+    let order : (e *ℤ a) *ℤ d ≡ (e *ℤ d) *ℤ a = mul_assoc e a d ∙ ap (λ z. e *ℤ z) (mul_comm a d) ∙ sym (mul_assoc e d a) in
     let times : (b *ℤ (c *ℤ (d +ℤ b) +ℤ e *ℤ a)) ≤ℤ (b *ℤ (f *ℤ (a +ℤ b) +ℤ e *ℤ d)) =
     let first = turn c b d in
     let second = turn c b b in
@@ -150,16 +143,14 @@ divided c e f a b d positive given =
     le_from_mul b _ _ positive times
 
 -- the same by costs and outputs, for a point f left of the middle of y - 1 and y, and for one right of it
-left_of : (c e f oc oe of y : ℤ)
-    → (c *ℤ ((y -ℤ of) +ℤ (y -ℤ of) -ℤ pos 1 +ℤ neg_ℤ ((y -ℤ oe) +ℤ (y -ℤ oe) -ℤ pos 1))
+left_of : (c e f oc oe of y : ℤ) → (c *ℤ ((y -ℤ of) +ℤ (y -ℤ of) -ℤ pos 1 +ℤ neg_ℤ ((y -ℤ oe) +ℤ (y -ℤ oe) -ℤ pos 1))
     +ℤ e *ℤ ((y -ℤ oc) +ℤ (y -ℤ oc) -ℤ pos 1))
     ≤ℤ (f *ℤ ((y -ℤ oc) +ℤ (y -ℤ oc) -ℤ pos 1 +ℤ neg_ℤ ((y -ℤ oe) +ℤ (y -ℤ oe) -ℤ pos 1))
     +ℤ e *ℤ ((y -ℤ of) +ℤ (y -ℤ of) -ℤ pos 1))
     → ((e -ℤ c) *ℤ (of -ℤ oc)) ≤ℤ ((f -ℤ c) *ℤ (oe -ℤ oc))
 left_of c e f oc oe of y h = let parts = simp spread at h in simp spread (omega (arith, linear, parts))
 
-right_of : (c e f oc oe of y : ℤ)
-    → (e *ℤ (neg_ℤ ((y -ℤ of) +ℤ (y -ℤ of) -ℤ pos 1) +ℤ ((y -ℤ oc) +ℤ (y -ℤ oc) -ℤ pos 1))
+right_of : (c e f oc oe of y : ℤ) → (e *ℤ (neg_ℤ ((y -ℤ of) +ℤ (y -ℤ of) -ℤ pos 1) +ℤ ((y -ℤ oc) +ℤ (y -ℤ oc) -ℤ pos 1))
     +ℤ c *ℤ neg_ℤ ((y -ℤ oe) +ℤ (y -ℤ oe) -ℤ pos 1))
     ≤ℤ (f *ℤ (neg_ℤ ((y -ℤ oe) +ℤ (y -ℤ oe) -ℤ pos 1) +ℤ ((y -ℤ oc) +ℤ (y -ℤ oc) -ℤ pos 1))
     +ℤ c *ℤ neg_ℤ ((y -ℤ of) +ℤ (y -ℤ of) -ℤ pos 1))
@@ -167,8 +158,7 @@ right_of : (c e f oc oe of y : ℤ)
 right_of c e f oc oe of y h = let parts = simp spread at h in simp spread (omega (arith, linear, parts))
 
 -- the same product with its factors written otherwise
-respelled : (a b c d a' b' c' d' : ℤ) → a ≡ a' → b ≡ b' → c ≡ c' → d ≡ d' → (a *ℤ b) ≤ℤ (c *ℤ d)
-    → (a' *ℤ b') ≤ℤ (c' *ℤ d')
+respelled : (a b c d a' b' c' d' : ℤ) → a ≡ a' → b ≡ b' → c ≡ c' → d ≡ d' → (a *ℤ b) ≤ℤ (c *ℤ d) → (a' *ℤ b') ≤ℤ (c' *ℤ d')
 respelled a b c d a' b' c' d' ea eb ec ed h =
     let first : a *ℤ b ≡ a' *ℤ b' = λ i. ea i *ℤ eb i in
     let second : c *ℤ d ≡ c' *ℤ d' = λ i. ec i *ℤ ed i in
@@ -235,10 +225,9 @@ module _ (points : List Point) (y : ℤ) where
     pub right_within : j < count
     pub left : out i <ℤ y
     pub right : y ≤ℤ out j
-    pub least : (l m : ℕ) → l < count → m < count → out l <ℤ y → y ≤ℤ out m
-        → IsAtMost (above i j) (below i j) (above l m) (below l m)
+    pub least : (l m : ℕ) → l < count → m < count → out l <ℤ y → y ≤ℤ out m → IsAtMost (above i j) (below i j) (above l m) (below l m)
 
-  pair_there : (l m : ℕ) → l < count → m < count → out l <ℤ y → y ≤ℤ out m → (i : ℕ) × (j : ℕ) × Lowest i j
+  pub pair_there : (l m : ℕ) → l < count → m < count → out l <ℤ y → y ≤ℤ out m → (i : ℕ) × (j : ℕ) × Lowest i j
   pair_there l m hl hm left right =
       let some : 0 < count = omega (arith, hl) in
       let begin = coded l m hl hm left right in
@@ -262,8 +251,7 @@ module _ (points : List Point) (y : ℤ) where
         },
       )
     where
-      coded : (a b : ℕ) → a < count → b < count → out a <ℤ y → y ≤ℤ out b
-          → (a * count + b < count * count) × IsAround (a * count + b)
+      coded : (a b : ℕ) → a < count → b < count → out a <ℤ y → y ≤ℤ out b → (a * count + b < count * count) × IsAround (a * count + b)
       coded a b ha hb before after = (
         mul-add-lt a count b count ha hb,
         record {
@@ -273,8 +261,7 @@ module _ (points : List Point) (y : ℤ) where
       )
 
   -- no point lies below the lowest pair's line
-  line_left : (i j l : ℕ) → Lowest i j → l < count → out l <ℤ y
-      → (rise points i j *ℤ run points i l) ≤ℤ (rise points i l *ℤ run points i j)
+  line_left : (i j l : ℕ) → Lowest i j → l < count → out l <ℤ y → (rise points i j *ℤ run points i l) ≤ℤ (rise points i l *ℤ run points i j)
   line_left i j l h hl left =
       let right = h.right in
       left_of (cost i) (cost j) (cost l) (out i) (out j) (out l) y
@@ -293,15 +280,14 @@ module _ (points : List Point) (y : ℤ) where
       (omega (arith, linear)) (omega (arith, linear)) (omega (arith, linear)) (omega (arith, linear))
       (h.least i l h.left_within hl h.left right).products))
 
-  line : (i j l : ℕ) → Lowest i j → l < count
-      → (rise points i j *ℤ run points i l) ≤ℤ (rise points i l *ℤ run points i j)
+  line : (i j l : ℕ) → Lowest i j → l < count → (rise points i j *ℤ run points i l) ≤ℤ (rise points i l *ℤ run points i j)
   line i j l h hl = ⊎_elim
       (λ (right : y ≤ℤ out l). line_right i j l h hl right)
       (λ (left : out l <ℤ y). line_left i j l h hl left)
       (le_or_lt y (out l))
 
   -- it is a segment of the hull
-  is_segment : (i j : ℕ) → Lowest i j → IsTrue (is_hull_segment points i j)
+  pub is_segment : (i j : ℕ) → Lowest i j → IsTrue (is_hull_segment points i j)
   is_segment i j h =
       let left = h.left in
       let right = h.right in
@@ -310,12 +296,8 @@ module _ (points : List Point) (y : ℤ) where
       (all_below-from count (is_above_line points i j) (λ l hl. le-int_le _ _ (line i j l h hl)))
 
 -- ---- the first segment that holds an output
-or_else_some : {A : Type 0} (first : Option A) (a b : A) → first ≡ Some a → or_else first (Some b) ≡ Some a
-or_else_some first a b e = ap (λ o. or_else o (Some b)) e
-
 -- the least number that passes a test is there where some number passes
-pub first_below-there : (n : ℕ) (test : ℕ → Bool) (k : ℕ) → k < n → IsTrue (test k)
-    → (j : ℕ) × (first_below n test ≡ Some j)
+first_below-there : (n : ℕ) (test : ℕ → Bool) (k : ℕ) → k < n → IsTrue (test k) → (j : ℕ) × (first_below n test ≡ Some j)
 first_below-there zero test k h e = absurd (omega (arith, h))
 first_below-there (suc n) test k h e = ⊎_elim
     (λ (less : k < n). let found = first_below-there n test k less e in
@@ -324,18 +306,17 @@ first_below-there (suc n) test k h e = ⊎_elim
     (subst (λ i. IsTrue (test i)) (sym last) e)))
     (one_more n k h)
   where
-    here : (o : Option ℕ) → (if test n then Some n else None) ≡ Some n
-        → (j : ℕ) × (or_else o (if test n then Some n else None) ≡ Some j)
+    here : (o : Option ℕ) → (if test n then Some n else None) ≡ Some n → (j : ℕ) × (or_else o (if test n then Some n else None) ≡ Some j)
     here None is = (n, is)
     here (Some j) is = (j, refl)
 
 -- the first segment among those with left ends below n
-module _ (points : List Point) (p : ℤ) where
+module _ (points : List Point) (d : ℕ) (p : ℤ) where
   abbrev among : ℕ → Option Segment
-  among n = first_segment points 1 p n
+  among n = first_segment points d p n
 
   abbrev from : ℕ → Option Segment
-  from n = segment_from n (first_below (length points) (segment_holds points 1 p n))
+  from n = segment_from n (first_below (length points) (segment_holds points d p n))
 
   from-left : (n : ℕ) (o : Option ℕ) (s : Segment) → segment_from n o ≡ Some s → s.left ≡ n
   from-left n None s e = absurd (none-some s e)
@@ -354,15 +335,15 @@ module _ (points : List Point) (p : ℤ) where
           subst (λ (x : Segment). x.left < suc n) (same_Some other s is) (omega (arith, before))
 
   -- where the segment from i to j holds p, there is a first one, which begins no later
-  first-there : (n i j : ℕ) → i < n → j < length points → IsTrue (segment_holds points 1 p i j)
+  pub first-there : (n i j : ℕ) → i < n → j < length points → IsTrue (segment_holds points d p i j)
       → (s : Segment) × (among n ≡ Some s) × (s.left ≤ i)
   first-there zero i j h hj e = absurd (omega (arith, h))
   first-there (suc n) i j h hj e = ⊎_elim
       (λ (less : i < n). let found = first-there n i j less hj e in
       (found.0, ap (λ o. or_else o (from n)) found.1, found.2))
       (λ (last : n ≡ i).
-      let found = first_below-there (length points) (segment_holds points 1 p n) j hj
-      (subst (λ k. IsTrue (segment_holds points 1 p k j)) (sym last) e) in
+      let found = first_below-there (length points) (segment_holds points d p n) j hj
+      (subst (λ k. IsTrue (segment_holds points d p k j)) (sym last) e) in
       here (among n) refl found.0 (ap (λ o. segment_from n o) found.1) last)
       (one_more n i h)
     where
@@ -378,8 +359,7 @@ pub record Rises (points : List Point) : Type 0 where
   pub rising : (l : ℕ) → suc l < length points → (point_of points l).mw ≤ℤ (point_of points (suc l)).mw
 
 -- a later point lies no further left
-pub outputs_rise : (points : List Point) → Rises points → (i j : ℕ) → i ≤ j → j < length points
-    → output_of points i ≤ℤ output_of points j
+pub outputs_rise : (points : List Point) → Rises points → (i j : ℕ) → i ≤ j → j < length points → output_of points i ≤ℤ output_of points j
 outputs_rise points rises i zero h l =
     let same : i ≡ 0 = omega (arith, h) in
     omega (arith, linear, ap (output_of points) same)
@@ -448,8 +428,7 @@ is_held points p s holds =
     }
 
 -- and back
-pub holds_from : (points : List Point) (p : ℤ) (i j : ℕ)
-    → IsTrue (is_hull_segment points i j || ((i == j) && is_hull_point points i))
+pub holds_from : (points : List Point) (p : ℤ) (i j : ℕ) → IsTrue (is_hull_segment points i j || ((i == j) && is_hull_point points i))
     → output_of points i ≤ℤ p → p ≤ℤ output_of points j → IsTrue (segment_holds points 1 p i j)
 holds_from points p i j is begins reaches =
     and_from _ _
@@ -457,8 +436,7 @@ holds_from points p i j is begins reaches =
     (le-int_le _ _ (subst (λ z. p ≤ℤ z) (sym (one-mul (output_of points j))) reaches))
 
 -- a segment from x or before to x + 1 or behind isn't one point
-not_level : (points : List Point) (x : ℕ) (s : Segment) → output_of points s.left ≤ℤ pos x
-    → pos (suc x) ≤ℤ output_of points s.right
+not_level : (points : List Point) (x : ℕ) (s : Segment) → output_of points s.left ≤ℤ pos x → pos (suc x) ≤ℤ output_of points s.right
     → IsUnder points s ⊎ ((s.left ≡ s.right) × (s.left < length points) × IsTrue (is_hull_point points s.left))
     → IsUnder points s
 not_level points x s begins reaches (inl is) = is
@@ -479,7 +457,7 @@ step_there points x rises most =
     or_left (is_hull_segment points pair.0 pair.1) ((pair.0 == pair.1) && is_hull_point points pair.0)
     (is_segment points y pair.0 pair.1 low) in
     let held = holds_from points y pair.0 pair.1 kind (omega (arith, linear, before)) low.right in
-    let found = first-there points y (length points) pair.0 pair.1 low.left_within low.right_within held in
+    let found = first-there points 1 y (length points) pair.0 pair.1 low.left_within low.right_within held in
     let s = found.0 in
     let held_by = is_held points y s (segment_at-holds points 1 y s found.1) in
     let reaches = held_by.reaches in
@@ -506,7 +484,7 @@ begins_by : (points : List Point) (i j : ℕ) → Rises points → i < length po
     → IsTrue (segment_holds points 1 (pos 0) i j)
     → (s : Segment) × Begins points s
 begins_by points i j rises hi hj holds =
-    let found = first-there points (pos 0) (length points) i j hi hj holds in
+    let found = first-there points 1 (pos 0) (length points) i j hi hj holds in
     let s = found.0 in
     let own = segment_at-holds points 1 (pos 0) s found.1 in
     let held = is_held points (pos 0) s own in
@@ -532,8 +510,7 @@ begins_by points i j rises hi hj holds =
     )
 
 -- where no point has an output above 0, a cheapest one is the hull
-cheapest : (points : List Point) → Rises points → output_of points (length points - 1) ≤ℤ pos 0
-    → (s : Segment) × Begins points s
+cheapest : (points : List Point) → Rises points → output_of points (length points - 1) ≤ℤ pos 0 → (s : Segment) × Begins points s
 cheapest points rises flat =
     let cost = λ (l : ℕ). (point_of points l).cost in
     let found = least_there (λ k. k < length points) (λ i j. cost i ≤ℤ cost j)
