@@ -21,12 +21,7 @@ use Rattle.dual_model.specs.Laws.{ShortageRaysExcludeNothing}
 
 -- a sum of numbers of at most 0
 sum_nonpos : (n : ℕ) (f : ℕ → ℤ) → ((k : ℕ) → k < n → f k ≤ℤ pos 0) → sum_below n f ≤ℤ pos 0
-sum_nonpos n f h =
-    subst (λ z. sum_below n f ≤ℤ z) (sum_below-zero n (λ k. pos 0) (λ k l. refl)) (sum_below-le n f (λ k. pos 0) h)
-
--- a factor of at least 0 leaves a number of at most 0 that
-times_nonpos : (m z : ℤ) → pos 0 ≤ℤ m → z ≤ℤ pos 0 → (m *ℤ z) ≤ℤ pos 0
-times_nonpos m z sign h = subst (λ w. (m *ℤ z) ≤ℤ w) (mul-zero m) (mul-le-mul_left m z (pos 0) sign h)
+sum_nonpos n f h = subst (λ z. sum_below n f ≤ℤ z) (sum_below-zero n (λ k. pos 0) (λ k l. refl)) (sum_below-le n f (λ k. pos 0) h)
 
 -- ---- prices that no ramp has, at the scale 0
 record AsksForNeeds (instance : Instance) (table : Table) : Type 0 where
@@ -64,8 +59,7 @@ first_point : ℕ → ℕ
 first_point zero = 1
 first_point (suc l) = 0
 
-first_sum : (points : List Point) (f : ℕ → ℤ) → 0 < length points
-    → sum_below (length points) (λ l. f l *ℤ pos (first_point l)) ≡ f 0
+first_sum : (points : List Point) (f : ℕ → ℤ) → 0 < length points → sum_below (length points) (λ l. f l *ℤ pos (first_point l)) ≡ f 0
 unfolding first_point
 first_sum points f some =
     sum_below-single (length points) (λ l. f l *ℤ pos (first_point l)) 0 some (λ l h other. nothing l other) ∙ mul-one (f 0)
@@ -174,8 +168,7 @@ need_ray (suc (suc zero)) other = record { wants = omega (arith, linear); holds 
 need_ray (suc (suc (suc zero))) other = record { wants = omega (arith, linear); holds = omega (arith, linear); no_up = λ u. refl; no_down = λ u. refl }
 need_ray (suc (suc (suc (suc i)))) other = record { wants = omega (arith, linear); holds = omega (arith, linear); no_up = λ u. refl; no_down = λ u. refl }
 
-at_ray : (periods n : ℕ) → IsShortageRay periods n
-    → (let ray = ray_at periods n in IsNeedRay ray.demand ray.reserve ray.up ray.down)
+at_ray : (periods n : ℕ) → IsShortageRay periods n → (let ray = ray_at periods n in IsNeedRay ray.demand ray.reserve ray.up ray.down)
 at_ray periods n is_ray =
     subst (λ (ray : OpeningRay). IsNeedRay ray.demand ray.reserve ray.up ray.down)
     (sym (cond-true (nat_lt n (4 * periods)) _ _ (lt-ltb n (4 * periods) is_ray.within))) (need_ray (n % 4) is_ray.wants)

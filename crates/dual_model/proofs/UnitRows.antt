@@ -37,14 +37,6 @@ before-in row rows g h = cond-true _ _ _ (lt-ltb row.g g h)
 before-out : (row : RampRow) (rows : List RampRow) (g : ℕ) → g ≤ row.g → rows_before (row ∷ rows) g ≡ rows_before rows g
 before-out row rows g h = cond-false _ _ _ (le-ltb row.g g h)
 
-pub before-within : (rows : List RampRow) (g : ℕ) → rows_before rows g ≤ length rows
-before-within [] g = omega arith
-before-within (row ∷ rows) g =
-    let rest = before-within rows g in
-    cond_both (nat_lt row.g g) (suc (rows_before rows g)) (rows_before rows g) (λ n. n ≤ suc (length rows))
-    (λ e. omega (arith, rest))
-    (λ e. omega (arith, rest))
-
 -- the next unit's place is no earlier
 pub before-next : (rows : List RampRow) (g : ℕ) → rows_before rows g ≤ rows_before rows (suc g)
 before-next [] g = omega arith
@@ -59,8 +51,7 @@ before-next (row ∷ rows) g = ⊎_elim
     (grind arith)
 
 -- so many rows are of earlier units where these stand in front
-place-is : (rows : List RampRow) (g n : ℕ) (d : RampRow) → n ≤ length rows
-    → ((i : ℕ) → i < n → (slice_index_or rows i d).g < g)
+place-is : (rows : List RampRow) (g n : ℕ) (d : RampRow) → n ≤ length rows → ((i : ℕ) → i < n → (slice_index_or rows i d).g < g)
     → ((i : ℕ) → n ≤ i → i < length rows → g ≤ (slice_index_or rows i d).g)
     → rows_before rows g ≡ n
 place-is [] g n d h earlier later = omega arith
@@ -121,8 +112,7 @@ row_of-none (row ∷ rows) g t d h =
     row_of-none rows g t d (λ i l. h (suc i) (omega arith))
     ∙ sym (cond-false _ row (row_of rows g t) (other_unit row g t (λ e. omega (arith, e, h 0 (omega arith)))))
 
-row_of-take : (rows : List RampRow) (g t n : ℕ) (d : RampRow)
-    → ((i : ℕ) → n ≤ i → i < length rows → g < (slice_index_or rows i d).g)
+row_of-take : (rows : List RampRow) (g t n : ℕ) (d : RampRow) → ((i : ℕ) → n ≤ i → i < length rows → g < (slice_index_or rows i d).g)
     → row_of (take n rows) g t ≡ row_of rows g t
 row_of-take rows g t zero d h = row_of-none rows g t d (λ i l. h i (omega arith) l)
 row_of-take [] g t (suc n) d h = refl
@@ -167,15 +157,6 @@ pub record ArePlacesSoFar (rows : List RampRow) (n : ℕ) (places : List ℕ) : 
   pub later : (i : ℕ) (d : RampRow) → n ≤ i → i < length rows → length places ≤ suc (slice_index_or rows i d).g
   pub place : (g d : ℕ) → g < length places → slice_index_or places g d ≡ rows_before rows g
   pub needed : (g : ℕ) → g < length places → rows_before rows g < n
-
-pub no_places : (rows : List RampRow) → ArePlacesSoFar rows 0 []
-no_places rows = record {
-  within = omega arith;
-  earlier = λ i d l. absurd (omega arith);
-  later = λ i d low l. omega arith;
-  place = λ g d l. absurd (omega arith);
-  needed = λ g l. absurd (omega arith);
-}
 
 -- units up to that of row n which have no place yet begin there
 new_place : (rows : List RampRow) → AreRising rows → (n g : ℕ) (places : List ℕ) (d : RampRow) → ArePlacesSoFar rows n places

@@ -2,7 +2,7 @@
 -- object (RFC 8259, section 4).
 use Rattle.std.specs.Prelude.{ℕ, List, [], ◌∷◌, Option, Some, None, codes, if◌then◌else◌}
 use Rattle.std.specs.Str.{bytes_eq}
-use Rattle.decimal_json.specs.Value.{Decimal, Value, null, boolean, number, text, array, object, Items, no_items, item, Members, no_members, member}
+use Rattle.decimal_json.specs.Value.{Decimal, Value, number, array, object, Items, no_items, item, Members, no_members, member}
 pub use Rattle.uc_model.specs.declared.field.Field.{Field}
 pub use Rattle.uc_model.specs.declared.field.Field.TheVariants.{NoField, TimePeriods, Demand, Reserves, ThermalGenerators, RenewableGenerators, MustRun, PowerOutputMinimum, PowerOutputMaximum, RampUpLimit, RampDownLimit, RampStartupLimit, RampShutdownLimit, TimeUpMinimum, TimeDownMinimum, PowerOutputT0, UnitOnT0, TimeUpT0, TimeDownT0, Startup, StartupLag, StartupCost, PiecewiseProduction, PiecewiseProductionMw, PiecewiseProductionCost}
 
@@ -45,21 +45,13 @@ pairs_of (member key v ms) = (key, v) ∷ pairs_of ms
 
 -- the entries, where a value is an array
 abbrev pub entries_in : Value → Option (List Value)
-entries_in null = None
-entries_in (boolean b) = None
-entries_in (number d) = None
-entries_in (text t) = None
 entries_in (array vs) = Some (entries_of vs)
-entries_in (object ms) = None
+entries_in _ = None
 
 -- the members, where a value is an object
 abbrev pub pairs_in : Value → Option (List (List ℕ × Value))
-pairs_in null = None
-pairs_in (boolean b) = None
-pairs_in (number d) = None
-pairs_in (text t) = None
-pairs_in (array vs) = None
 pairs_in (object ms) = Some (pairs_of ms)
+pairs_in _ = None
 
 -- the value of the member with a key
 abbrev pub field_of : List ℕ → List (List ℕ × Value) → Option Value
@@ -68,9 +60,5 @@ field_of key (m ∷ ms) = if bytes_eq m.0 key then Some m.1 else field_of key ms
 
 -- the number, where a value is one
 abbrev pub number_in : Value → Option Decimal
-number_in null = None
-number_in (boolean b) = None
 number_in (number d) = Some d
-number_in (text t) = None
-number_in (array vs) = None
-number_in (object ms) = None
+number_in _ = None

@@ -54,11 +54,8 @@ tree_after tree node stored number outcome Empty = closed tree node (leaf.Empty 
 
 -- of two nodes, those that the move adds
 abbrev pub children_by : List ℕ → Move → List ℕ
-children_by both Again = []
 children_by both (Split g t) = both
-children_by both (Prune seen) = []
-children_by both Ray = []
-children_by both Empty = []
+children_by both _ = []
 
 -- the tickets of the nodes that the move adds
 abbrev pub tickets_of : TreeView → Move → List ℕ
@@ -85,11 +82,8 @@ pub record HasFreeCell (tree : TreeView) (node : ℕ) : Type 0 where
 
 -- a split is on a cell that is undecided at the node
 abbrev pub IsFreeFor : TreeView → ℕ → Move → Type 0
-IsFreeFor tree node Again = Unit {0}
 IsFreeFor tree node (Split g t) = IsFreeAt tree node g t
-IsFreeFor tree node (Prune seen) = Unit {0}
-IsFreeFor tree node Ray = Unit {0}
-IsFreeFor tree node Empty = Unit {0}
+IsFreeFor tree node _ = Unit {0}
 
 -- with one entry more the node has fewer than a hundred, or no cell is undecided there
 abbrev pub MayGoOn : Machine → ℕ → Type 0

@@ -39,10 +39,7 @@ pub record IsNoteOf (claims : List (Option Holder)) (log : List Entry) (node : �
 -- an open leaf stands there
 abbrev pub IsLive : Spot → Type 0
 IsLive (spot.Leaf (leaf.Live table value)) = Unit {0}
-IsLive (spot.Leaf (leaf.Bound table value)) = ⊥
-IsLive (spot.Leaf (leaf.Ray table)) = ⊥
-IsLive (spot.Leaf (leaf.Empty g)) = ⊥
-IsLive (spot.Inner g t off on) = ⊥
+IsLive _ = ⊥
 
 -- an open leaf has the number, and its note says that it isn't held
 pub record IsFreeLeaf (tree : TreeView) (notes : List Note) (node : ℕ) : Type 0 where

@@ -2,7 +2,6 @@
 
 ghost use Rattle.std.specs.Prelude.{◌≡◌, ◌<◌, ◌⊎◌, ◌↔◌, IsTrue, false, Some, pos, suc, length};
 ghost use Rattle.branch_tree.specs.NumberedTree.{node_count};
-ghost use Rattle.branch_tree.specs.TreeView.{IsOpenAt};
 ghost use Rattle.search_core.specs.Notes.{IsLive, IsFreeLeaf};
 ghost use Rattle.search_core.specs.Moves.{IsValue, IsPositive, IsEmpty};
 

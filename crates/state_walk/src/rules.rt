@@ -4,7 +4,6 @@
 //! period s (from 0), in which it was switched.
 
 ghost use Rattle.std.specs.Prelude.{◌≡◌, ◌+◌, ◌<◌, ◌≤◌, if◌then◌else◌};
-ghost use Rattle.uc_model.specs.Limits.{IsLawfulThermal};
 ghost use Rattle.dual_model.specs.Moves.{may_start as start_at, may_stop as stop_at, has_lasted as lasted};
 
 use uc_model::Thermal;

@@ -52,8 +52,7 @@ stop_cap_at periods q unit row t =
 
 -- M11: p(t)+r(t)-p(t-1) <= RU
 abbrev pub ramp_up_at : ℕ → Thermal → Row → ℕ → Bool
-ramp_up_at q unit row t =
-    int_le (p_at unit row t +ℤ row.reserve t -ℤ p_before q unit row t) (pos q *ℤ unit.ru)
+ramp_up_at q unit row t = int_le (p_at unit row t +ℤ row.reserve t -ℤ p_before q unit row t) (pos q *ℤ unit.ru)
 
 -- M12: p(t-1)-p(t) <= RD
 abbrev pub ramp_down_at : ℕ → Thermal → Row → ℕ → Bool
@@ -82,8 +81,7 @@ reserve_supply_at instance x t = sum_below (thermal_count instance) (λ g. (x.th
 
 -- what is missing of a need, over q: from 0 to the most that may be missing, and 0 where it has no price
 abbrev pub shortage_holds : ℕ → ℕ → ℤ → ℤ → Bool
-shortage_holds q price most missing =
-    int_le (pos 0) missing && int_le missing (pos q *ℤ most) && (nat_lt 0 price || int_eq missing (pos 0))
+shortage_holds q price most missing = int_le (pos 0) missing && int_le missing (pos q *ℤ most) && (nat_lt 0 price || int_eq missing (pos 0))
 
 -- the rule holds for this unit and period
 abbrev pub holds_at : Rule → Instance → ℕ → Schedule → ℕ → ℕ → Bool
@@ -131,47 +129,20 @@ rule_number ShortRange = 17
 
 -- how many units and periods a rule speaks of
 abbrev pub rule_units : Rule → Instance → ℕ
-rule_units MustRun instance = thermal_count instance
-rule_units InitialUp instance = thermal_count instance
-rule_units InitialDown instance = thermal_count instance
-rule_units MinimumUp instance = thermal_count instance
-rule_units MinimumDown instance = thermal_count instance
-rule_units Category instance = thermal_count instance
-rule_units InitialStop instance = thermal_count instance
-rule_units Production instance = thermal_count instance
-rule_units StartCap instance = thermal_count instance
-rule_units StopCap instance = thermal_count instance
-rule_units RampUp instance = thermal_count instance
-rule_units RampDown instance = thermal_count instance
 rule_units RenewableRange instance = renewable_count instance
 rule_units Demand instance = 1
 rule_units Reserve instance = 1
 rule_units ShedRange instance = 1
 rule_units ShortRange instance = 1
+rule_units _ instance = thermal_count instance
 
 abbrev pub rule_periods : Rule → Instance → ℕ
-rule_periods MustRun instance = instance.periods
-rule_periods InitialUp instance = instance.periods
-rule_periods InitialDown instance = instance.periods
-rule_periods MinimumUp instance = instance.periods
-rule_periods MinimumDown instance = instance.periods
-rule_periods Category instance = instance.periods
 rule_periods InitialStop instance = 1
-rule_periods Production instance = instance.periods
-rule_periods StartCap instance = instance.periods
-rule_periods StopCap instance = instance.periods
-rule_periods RampUp instance = instance.periods
-rule_periods RampDown instance = instance.periods
-rule_periods RenewableRange instance = instance.periods
-rule_periods Demand instance = instance.periods
-rule_periods Reserve instance = instance.periods
-rule_periods ShedRange instance = instance.periods
-rule_periods ShortRange instance = instance.periods
+rule_periods _ instance = instance.periods
 
 -- the rule holds everywhere
 abbrev pub holds : Rule → Instance → ℕ → Schedule → Bool
-holds rule instance q x =
-    all_below (rule_units rule instance) (λ g. all_below (rule_periods rule instance) (holds_at rule instance q x g))
+holds rule instance q x = all_below (rule_units rule instance) (λ g. all_below (rule_periods rule instance) (holds_at rule instance q x g))
 
 -- the schedule x over the denominator q obeys the model
 pub record Obeys (instance : Instance) (q : ℕ) (x : Schedule) : Type 0 where
