@@ -23,12 +23,10 @@ width_of points = output_of points (length points - 1)
 
 -- a point lies on the line from `left` to `right`, a point right of it, or above it
 abbrev pub IsAbove : Point → Point → Point → Type 0
-IsAbove left right point =
-    ((right.cost -ℤ left.cost) *ℤ (point.mw -ℤ left.mw)) ≤ℤ ((point.cost -ℤ left.cost) *ℤ (right.mw -ℤ left.mw))
+IsAbove left right point = ((right.cost -ℤ left.cost) *ℤ (point.mw -ℤ left.mw)) ≤ℤ ((point.cost -ℤ left.cost) *ℤ (right.mw -ℤ left.mw))
 
 abbrev pub is_above : Point → Point → Point → Bool
-is_above left right point =
-    int_le ((right.cost -ℤ left.cost) *ℤ (point.mw -ℤ left.mw)) ((point.cost -ℤ left.cost) *ℤ (right.mw -ℤ left.mw))
+is_above left right point = int_le ((right.cost -ℤ left.cost) *ℤ (point.mw -ℤ left.mw)) ((point.cost -ℤ left.cost) *ℤ (right.mw -ℤ left.mw))
 
 -- `corners` are the corners of the lower hull of the first `count` points
 pub record HullOfFirst (points : List Point) (count : ℕ) (corners : List Point) : Type 0 where

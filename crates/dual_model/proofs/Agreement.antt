@@ -17,8 +17,7 @@ kept_by_unit x g fixing kept = ⊎_elim
     (λ (other : (fixing.g == g) ≡ false). or_left (not (fixing.g == g)) (keeps fixing (x.thermal g).on) (ap not other))
     (cases_Bool (fixing.g == g))
 
-each_kept : (x : Schedule) (g : ℕ) (fixings : List Fixing)
-    → IsTrue (list_all (λ fixing. keeps fixing (x.thermal fixing.g).on) fixings)
+each_kept : (x : Schedule) (g : ℕ) (fixings : List Fixing) → IsTrue (list_all (λ fixing. keeps fixing (x.thermal fixing.g).on) fixings)
     → IsTrue (list_all (keeps_of g (x.thermal g).on) fixings)
 each_kept x g [] kept = refl
 each_kept x g (fixing ∷ fixings) kept =
@@ -27,13 +26,11 @@ each_kept x g (fixing ∷ fixings) kept =
     (kept_by_unit x g fixing parts.0) (each_kept x g fixings parts.1)
 
 -- where the schedule agrees with the node, each unit's commitment does
-pub unit_agrees-agrees : (node : Node) (x : Schedule) (g : ℕ) → IsTrue (agrees node x)
-    → IsTrue (unit_agrees node g (x.thermal g).on)
+pub unit_agrees-agrees : (node : Node) (x : Schedule) (g : ℕ) → IsTrue (agrees node x) → IsTrue (unit_agrees node g (x.thermal g).on)
 unit_agrees-agrees node x g kept = each_kept x g node.fixings kept
 
 -- and it is a pattern at the node, where the schedule obeys
-pub pattern-obeying : (instance : Instance) (node : Node) (q : ℕ) (x : Schedule) (g : ℕ) → 1 ≤ instance.periods
-    → Obeys instance q x
+pub pattern-obeying : (instance : Instance) (node : Node) (q : ℕ) (x : Schedule) (g : ℕ) → 1 ≤ instance.periods → Obeys instance q x
     → IsTrue (agrees node x) → g < thermal_count instance → IsLawfulThermal (thermal_unit instance g)
     → IsPatternAt instance node g (x.thermal g).on
 pattern-obeying instance node q x g some obeys kept hg lawful = record {

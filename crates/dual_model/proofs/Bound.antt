@@ -74,8 +74,7 @@ module _ (instance : Instance) (q : ℕ) (x : Schedule) (table : Table) (obeys :
 
   -- the system's part, the parts of the thermal units, each of which is at most what its unit costs, less what it is paid, and
   -- those of the renewable units
-  pub parts_bound : (part : ℕ → ℤ)
-      → ((g : ℕ) → g < thermal_count instance → (pos q *ℤ part g) ≤ℤ (table.k *ℤ cost_of g -ℤ paid g))
+  pub parts_bound : (part : ℕ → ℤ) → ((g : ℕ) → g < thermal_count instance → (pos q *ℤ part g) ≤ℤ (table.k *ℤ cost_of g -ℤ paid g))
       → (pos q *ℤ (system_value instance table +ℤ sum_below (thermal_count instance) part +ℤ renewables_value instance table))
       ≤ℤ (table.k *ℤ cost instance q x)
   parts_bound part each =

@@ -22,24 +22,21 @@ module _ (first second whole has : (ℕ → ℕ) → Type 0) (value : (ℕ → �
   neither : ((s : ℕ → ℕ) → first s → ¬ has s) → ((s : ℕ → ℕ) → second s → ¬ has s) → (s : ℕ → ℕ) → whole s → ¬ has s
   neither none other s is h = ⊎_elim (λ a. none s a h) (λ b. other s b h) (apart s is)
 
-  first_alone : ((s : ℕ → ℕ) → second s → ¬ has s) → (s : ℕ → ℕ) → IsLeastIn first has value s
-      → IsLeastIn whole has value s
+  first_alone : ((s : ℕ → ℕ) → second s → ¬ has s) → (s : ℕ → ℕ) → IsLeastIn first has value s → IsLeastIn whole has value s
   first_alone none s is = record {
     in_it = from_first s is.in_it;
     one = is.one;
     least = λ other h one. ⊎_elim (λ a. is.least other a one) (λ b. absurd (none other b one)) (apart other h);
   }
 
-  second_alone : ((s : ℕ → ℕ) → first s → ¬ has s) → (s : ℕ → ℕ) → IsLeastIn second has value s
-      → IsLeastIn whole has value s
+  second_alone : ((s : ℕ → ℕ) → first s → ¬ has s) → (s : ℕ → ℕ) → IsLeastIn second has value s → IsLeastIn whole has value s
   second_alone none s is = record {
     in_it = from_second s is.in_it;
     one = is.one;
     least = λ other h one. ⊎_elim (λ a. absurd (none other a one)) (λ b. is.least other b one) (apart other h);
   }
 
-  first_less : (s r : ℕ → ℕ) → IsLeastIn first has value s → IsLeastIn second has value r → value s ≤ℤ value r
-      → IsLeastIn whole has value s
+  first_less : (s r : ℕ → ℕ) → IsLeastIn first has value s → IsLeastIn second has value r → value s ≤ℤ value r → IsLeastIn whole has value s
   first_less s r is other less = record {
     in_it = from_first s is.in_it;
     one = is.one;
@@ -167,8 +164,7 @@ module _ (n limit : ℕ) (has : (ℕ → ℕ) → Type 0) (value : (ℕ → ℕ)
   )
 
   -- where it is below b
-  under_value : ((c : ℕ) → Answer (IsWithin n limit) (has_at c) (value_at c)) → (b : ℕ) → b ≤ limit
-      → Answer (IsUnder n limit b) has value
+  under_value : ((c : ℕ) → Answer (IsWithin n limit) (has_at c) (value_at c)) → (b : ℕ) → b ≤ limit → Answer (IsUnder n limit b) has value
   under_value answers zero h = inl (λ s is one. absurd (let under = is.under in omega (arith, under)))
   under_value answers (suc b) h =
       joined (IsUnder n limit b) (IsAt n limit b) (IsUnder n limit (suc b)) has value
@@ -196,8 +192,7 @@ module _ (n limit : ℕ) (has : (ℕ → ℕ) → Type 0) (value : (ℕ → ℕ)
       )
 
 -- all are tried
-pub search : (n limit : ℕ) (has : (ℕ → ℕ) → Type 0) (value : (ℕ → ℕ) → ℤ) → IsSearched n has value
-    → Answer (IsWithin n limit) has value
+pub search : (n limit : ℕ) (has : (ℕ → ℕ) → Type 0) (value : (ℕ → ℕ) → ℤ) → IsSearched n has value → Answer (IsWithin n limit) has value
 search zero limit has value searched = ⊎_elim
     (λ (one : has (λ t. 0)). inr (
       (λ t. 0),

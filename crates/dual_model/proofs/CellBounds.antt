@@ -24,8 +24,7 @@ right : ℤ → ℤ → ℤ
 right d w = cond (int_le (pos 0) d) (pos 0) w
 
 -- what holds of a point on either side
-sides : (d w : ℤ) (P : ℤ → ℤ → Type 0) → (pos 0 ≤ℤ d → P w (pos 0)) → (d <ℤ pos 0 → P (pos 0) w)
-    → P (left d w) (right d w)
+sides : (d w : ℤ) (P : ℤ → ℤ → Type 0) → (pos 0 ≤ℤ d → P w (pos 0)) → (d <ℤ pos 0 → P (pos 0) w) → P (left d w) (right d w)
 unfolding left right
 sides d w P here there =
     elim (int_le (pos 0) d) as (λ v. (int_le (pos 0) d ≡ v) → P (cond v w (pos 0)) (cond v (pos 0) w)) [
@@ -38,8 +37,7 @@ parted x d w = sides d w (λ u v. x *ℤ w ≡ x *ℤ u +ℤ x *ℤ v)
     (λ h. rw (mul-zero x) (omega (arith, linear)))
     (λ h. rw (mul-zero x) (omega (arith, linear)))
 
-sum_parted : (n : ℕ) (x d w : ℕ → ℤ)
-    → sum_below n (λ l. x l *ℤ w l)
+sum_parted : (n : ℕ) (x d w : ℕ → ℤ) → sum_below n (λ l. x l *ℤ w l)
     ≡ sum_below n (λ l. x l *ℤ left (d l) (w l)) +ℤ sum_below n (λ l. x l *ℤ right (d l) (w l))
 sum_parted n x d w =
     sum_below-same n _ (λ l. x l *ℤ left (d l) (w l) +ℤ x l *ℤ right (d l) (w l)) (λ l h. parted (x l) (d l) (w l))
@@ -147,8 +145,7 @@ crossed a b c e =
     ∙ sym (mul_assoc b e (a *ℤ c))
 
 -- a pair of points, one on each side, with its weights
-pair_nonneg : (dl dj gl gj wl wj : ℤ) → pos 0 ≤ℤ wl → pos 0 ≤ℤ wj
-    → (pos 0 ≤ℤ dl → dj <ℤ pos 0 → pos 0 ≤ℤ (neg_ℤ dj *ℤ gl +ℤ dl *ℤ gj))
+pair_nonneg : (dl dj gl gj wl wj : ℤ) → pos 0 ≤ℤ wl → pos 0 ≤ℤ wj → (pos 0 ≤ℤ dl → dj <ℤ pos 0 → pos 0 ≤ℤ (neg_ℤ dj *ℤ gl +ℤ dl *ℤ gj))
     → pos 0 ≤ℤ ((dl *ℤ left dl wl) *ℤ (gj *ℤ right dj wj) +ℤ (gl *ℤ left dl wl) *ℤ (neg_ℤ dj *ℤ right dj wj))
 pair_nonneg dl dj gl gj wl wj hl hj both =
     sides dl wl (λ u v. pos 0 ≤ℤ ((dl *ℤ u) *ℤ (gj *ℤ right dj wj) +ℤ (gl *ℤ u) *ℤ (neg_ℤ dj *ℤ right dj wj)))
@@ -234,8 +231,7 @@ module _ (n : ℕ) (f d : ℕ → ℤ) (b m : ℤ) (corners : BoundsCorners n f 
       (sum_below_nonneg n (λ l. excess l *ℤ near_weight l +ℤ b *ℤ (d l *ℤ near_weight l)) held_point)
 
   -- by the corners of pairs
-  each_pair : (l j : ℕ) → l < n → j < n
-      → pos 0 ≤ℤ ((d l *ℤ near_weight l) *ℤ (excess j *ℤ far_weight j)
+  each_pair : (l j : ℕ) → l < n → j < n → pos 0 ≤ℤ ((d l *ℤ near_weight l) *ℤ (excess j *ℤ far_weight j)
       +ℤ (excess l *ℤ near_weight l) *ℤ (neg_ℤ (d j) *ℤ far_weight j))
   each_pair l j hl hj =
       pair_nonneg (d l) (d j) (excess l) (excess j) (pos (weight l)) (pos (weight j)) (pos_nonneg (weight l))
@@ -254,8 +250,7 @@ module _ (n : ℕ) (f d : ℕ → ℤ) (b m : ℤ) (corners : BoundsCorners n f 
       ap (λ z. excess l *ℤ z) no_weight ∙ mul-zero (excess l))
 
   -- a number that bounds the corners bounds the reduced cost of all weights and reserves
-  pub corners_bound : (q r : ℤ) → sum_below n (λ l. pos (weight l)) ≡ q → pos 0 ≤ℤ r
-      → r ≤ℤ sum_below n (λ l. d l *ℤ pos (weight l))
+  pub corners_bound : (q r : ℤ) → sum_below n (λ l. pos (weight l)) ≡ q → pos 0 ≤ℤ r → r ≤ℤ sum_below n (λ l. d l *ℤ pos (weight l))
       → (q *ℤ m) ≤ℤ (sum_below n (λ l. f l *ℤ pos (weight l)) +ℤ b *ℤ r)
   corners_bound q r total sign most =
       let whole = excess_sum n f (λ l. pos (weight l)) m q total in

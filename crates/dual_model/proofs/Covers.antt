@@ -85,18 +85,15 @@ excluded_leaf instance tables q x lawful obeys node (Empty exact g) kept tabled 
     (blocked_unit exact instance node g blocked.0 blocked.1)
 
 -- a bound on a value over K bounds the cost
-divided : (q : ℕ) (k v bound b c : ℤ) → pos 0 <ℤ k → (bound *ℤ k) ≤ℤ v → b ≤ℤ bound → (pos q *ℤ v) ≤ℤ (k *ℤ c)
-    → (pos q *ℤ b) ≤ℤ c
+divided : (q : ℕ) (k v bound b c : ℤ) → pos 0 <ℤ k → (bound *ℤ k) ≤ℤ v → b ≤ℤ bound → (pos q *ℤ v) ≤ℤ (k *ℤ c) → (pos q *ℤ b) ≤ℤ c
 divided q k v bound b c positive below enough dual =
     let wider = mul-le-mul_right k b bound (omega (arith, linear)) enough in
     let scaled : (pos q *ℤ (b *ℤ k)) ≤ℤ (pos q *ℤ v) = scale-le-scale q (b *ℤ k) v (omega (arith, linear)) in
-    let order : k *ℤ (pos q *ℤ b) ≡ pos q *ℤ (b *ℤ k) =
-    mul_left_comm k (pos q) b ∙ ap (λ z. pos q *ℤ z) (mul_comm k b) in
+    let order : k *ℤ (pos q *ℤ b) ≡ pos q *ℤ (b *ℤ k) = mul_left_comm k (pos q) b ∙ ap (λ z. pos q *ℤ z) (mul_comm k b) in
     le_from_mul k (pos q *ℤ b) c positive (omega (arith, linear))
 
 -- a leaf that holds for b bounds the cost of its schedules
-bounded_leaf : (instance : Instance) (tables : List Table) (b : ℤ) (q : ℕ) (x : Schedule)
-    → IsLawfulInstance instance → Obeys instance q x
+bounded_leaf : (instance : Instance) (tables : List Table) (b : ℤ) (q : ℕ) (x : Schedule) → IsLawfulInstance instance → Obeys instance q x
     → (node : Node) (leaf : Leaf) → IsTrue (agrees node x) → HasLawfulTable instance tables node leaf
     → LeafHolds instance tables b node leaf
     → (pos q *ℤ b) ≤ℤ cost instance q x
@@ -131,16 +128,14 @@ covers_exclude instance tables tree lawful tabled excluded q x obeys =
 
 -- ---- certificates
 -- a table of a list of lawful ones is lawful
-listed : (instance : Instance) (tables : List Table) → All (IsLawfulTable instance) tables
-    → (number : ℕ) (table : Table)
+listed : (instance : Instance) (tables : List Table) → All (IsLawfulTable instance) tables → (number : ℕ) (table : Table)
     → slice_get tables number ≡ Some table → IsLawfulTable instance table
 listed instance tables each number table is_table =
     subst (λ t. IsLawfulTable instance t) (get_or_from_slice_get tables number table table is_table)
     (each number table (slice_get_within tables number table is_table))
 
 -- where all tables are lawful, those of the leaves are
-tables_lawful : (instance : Instance) (tables : List Table) → All (IsLawfulTable instance) tables
-    → (node : Node) (tree : Tree Leaf)
+tables_lawful : (instance : Instance) (tables : List Table) → All (IsLawfulTable instance) tables → (node : Node) (tree : Tree Leaf)
     → EachLeaf (HasLawfulTable instance tables) node tree
 tables_lawful instance tables each node (Ends (Bound exact number)) = listed instance tables each number
 tables_lawful instance tables each node (Ends (Ray exact number)) = listed instance tables each number

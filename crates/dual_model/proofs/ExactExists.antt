@@ -65,8 +65,7 @@ all_decided : (n : ℕ) (P : ℕ → Type 0) → ((t : ℕ) → P t ⊎ ¬ P t) 
 all_decided zero P each = inl (λ t l. absurd (omega (arith, l)))
 all_decided (suc n) P each = joined (all_decided n P each) (each n)
   where
-    joined : ((t : ℕ) → t < n → P t) ⊎ ¬ ((t : ℕ) → t < n → P t) → P n ⊎ ¬ P n
-        → ((t : ℕ) → t < suc n → P t) ⊎ ¬ ((t : ℕ) → t < suc n → P t)
+    joined : ((t : ℕ) → t < n → P t) ⊎ ¬ ((t : ℕ) → t < n → P t) → P n ⊎ ¬ P n → ((t : ℕ) → t < suc n → P t) ⊎ ¬ ((t : ℕ) → t < suc n → P t)
     joined (inl before) (inl here) = inl (λ t l. ⊎_elim (λ (h : t < n). before t h) (λ (e : n ≡ t). subst P e here)
         (grind arith))
     joined (inl before) (inr lacks) = inr (λ h. lacks (h n (omega arith)))
@@ -81,8 +80,7 @@ Parts periods q unit x t =
     × (((pos (x.p t) +ℤ pos (x.r t) -ℤ output_before q unit x t) ≤ℤ (pos q *ℤ unit.ru))
     × ((output_before q unit x t -ℤ pos (x.p t)) ≤ℤ (pos q *ℤ unit.rd))))))
 
-parts_decided : (periods q : ℕ) (unit : Thermal) (x : UnitSchedule) (t : ℕ)
-    → Parts periods q unit x t ⊎ ¬ Parts periods q unit x t
+parts_decided : (periods q : ℕ) (unit : Thermal) (x : UnitSchedule) (t : ℕ) → Parts periods q unit x t ⊎ ¬ Parts periods q unit x t
 parts_decided periods q unit x t =
     both (given (is_off (x.on t)) (both (nought (x.p t)) (nought (x.r t))))
     (both (at_most (pos (x.p t)) (pos q *ℤ greatest_output unit.points))
@@ -139,8 +137,7 @@ stop_cap-same n unit on other h t l = λ i.
     (unit.pmax -ℤ unit.pmin) *ℤ bit (h.same t (omega (arith, l)) i)
     -ℤ stop_reduction unit *ℤ bit (stops-same n unit on other h (suc t) l i)
 
-before-same : (periods q : ℕ) (unit : Thermal) (x y : UnitSchedule) → ((t : ℕ) → t < periods → x.p t ≡ y.p t) → (t : ℕ)
-    → t < periods
+before-same : (periods q : ℕ) (unit : Thermal) (x y : UnitSchedule) → ((t : ℕ) → t < periods → x.p t ≡ y.p t) → (t : ℕ) → t < periods
     → output_before q unit x t ≡ output_before q unit y t
 before-same periods q unit x y h zero l = refl
 before-same periods q unit x y h (suc t) l = ap pos (h t (omega (arith, l)))
@@ -261,8 +258,7 @@ max_nonneg a = omega (arith, ints, clamps)
 abbrev limit_of : Thermal → ℕ
 limit_of unit = suc (suc (unsigned_abs (unit.pmax -ℤ unit.pmin)))
 
-within_range : (periods : ℕ) (unit : Thermal) (x : UnitSchedule) (t : ℕ) → IsLawfulThermal unit
-    → IsUnitScheduleAt periods 1 unit x t
+within_range : (periods : ℕ) (unit : Thermal) (x : UnitSchedule) (t : ℕ) → IsLawfulThermal unit → IsUnitScheduleAt periods 1 unit x t
     → (x.p t < limit_of unit) × (x.r t < limit_of unit)
 within_range periods unit x t lawful h =
     let range = lawful.range in
@@ -409,8 +405,7 @@ one_more instance node table n within (inl before) (inl here) =
 one_more instance node table n within (inl before) (inr none) = inr (record { unit = n; within = within; none = none })
 one_more instance node table n within (inr none) here = inr none
 
-have_exact_values : (instance : Instance) (node : Node) (table : Table) → IsLawfulInstance instance → (n : ℕ)
-    → n ≤ thermal_count instance
+have_exact_values : (instance : Instance) (node : Node) (table : Table) → IsLawfulInstance instance → (n : ℕ) → n ≤ thermal_count instance
     → HaveExactValues instance node table n ⊎ HasUnscheduledUnit instance node
 have_exact_values instance node table lawful zero h = inl (λ g l. absurd (omega (arith, l)))
 have_exact_values instance node table lawful (suc n) h =
@@ -432,8 +427,7 @@ unfolding chosen
 chosen-is instance node table n values g l (inl k) = (values g k).1
 chosen-is instance node table n values g l (inr past) = absurd (past l)
 
-from_values : (instance : Instance) (node : Node) (table : Table)
-    → HaveExactValues instance node table (thermal_count instance)
+from_values : (instance : Instance) (node : Node) (table : Table) → HaveExactValues instance node table (thermal_count instance)
     → (v : ℤ) × IsNodeValue instance node table v → (w : ℤ) × IsExactNodeValue instance node table w
 from_values instance node table values (v, is) =
     let count = thermal_count instance in

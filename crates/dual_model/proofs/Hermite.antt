@@ -29,8 +29,7 @@ div_next p q some =
 
 -- ---- sums
 -- what is summed up to the floors of (p + j)/q is what is summed at the floors of y/q below p
-pub counted : (q p : ℕ) (f : ℕ → ℤ) → 0 < q
-    → sum_below q (λ j. sum_below ((p + j) / q) f) ≡ sum_below p (λ y. f (y / q))
+pub counted : (q p : ℕ) (f : ℕ → ℤ) → 0 < q → sum_below q (λ j. sum_below ((p + j) / q) f) ≡ sum_below p (λ y. f (y / q))
 counted q zero f some = sum_below-zero q (λ j. sum_below ((0 + j) / q) f)
     (λ j l. ap (λ n. sum_below n f) (small_sum j q l))
 counted q (suc p) f some =
@@ -61,8 +60,7 @@ nat_floor m q some =
     record { below = omega (arith, linear); next = omega (arith, linear) }
 
 -- a limit on a difference is kept by the floors
-pub difference : (q a b j : ℕ) (c : ℤ) → 0 < q → (pos a -ℤ pos b) ≤ℤ (pos q *ℤ c)
-    → (pos ((a + j) / q) -ℤ pos ((b + j) / q)) ≤ℤ c
+pub difference : (q a b j : ℕ) (c : ℤ) → 0 < q → (pos a -ℤ pos b) ≤ℤ (pos q *ℤ c) → (pos ((a + j) / q) -ℤ pos ((b + j) / q)) ≤ℤ c
 difference q a b j c some h =
     let own = nat_floor (a + j) q some in
     let other = IsFloor-add (pos (b + j)) (pos q) (pos ((b + j) / q)) c (nat_floor (b + j) q some) in

@@ -3,8 +3,7 @@ use Rattle.std.proofs.Common.{◌≡◌, ℕ, zero, suc, ◌-◌, ◌<◌, Bool,
 use Rattle.uc_model.specs.Terms.{term_at, price_at}
 use Rattle.dual_model.specs.Moves.{Terms, Thermal, hour_before, hour_cost}
 
-pub hour-of_term : (terms : Terms) (unit : Thermal) (t : ℕ) (start stop : Bool) (m : ℤ) → 0 < t
-    → term_at terms (t - 1) start stop ≡ Some m
+pub hour-of_term : (terms : Terms) (unit : Thermal) (t : ℕ) (start stop : Bool) (m : ℤ) → 0 < t → term_at terms (t - 1) start stop ≡ Some m
     → Some (m -ℤ price_at terms (t - 1) *ℤ unit.pmin) ≡ hour_before terms unit t start stop
 hour-of_term terms unit zero start stop m h e = absurd (omega arith)
 hour-of_term terms unit (suc t) start stop m h e =

@@ -7,8 +7,7 @@ use Rattle.uc_model.proofs.Sums.{sum_below-le, sum_below-add, sum_below-sub, sum
 
 -- ---- steps over numbers
 -- a sum of products with the period before is one with the period itself, the factors shifted
-shifted : (n : ℕ) (c p before : ℕ → ℤ) → ((t : ℕ) → before (suc t) ≡ p t)
-    → sum_below n (λ t. c t *ℤ before t)
+shifted : (n : ℕ) (c p before : ℕ → ℤ) → ((t : ℕ) → before (suc t) ≡ p t) → sum_below n (λ t. c t *ℤ before t)
     ≡ c 0 *ℤ before 0 +ℤ sum_below n (λ t. c (suc t) *ℤ p t) -ℤ c n *ℤ before n
 shifted zero c p before next = omega (arith, linear)
 shifted (suc n) c p before next =
@@ -17,8 +16,7 @@ shifted (suc n) c p before next =
     omega (arith, linear)
 
 -- the ramp rules of a period, times their multipliers
-ramp_priced : (q up down ru rd p r before : ℤ) → pos 0 ≤ℤ up → pos 0 ≤ℤ down → (p +ℤ r -ℤ before) ≤ℤ (q *ℤ ru)
-    → (before -ℤ p) ≤ℤ (q *ℤ rd)
+ramp_priced : (q up down ru rd p r before : ℤ) → pos 0 ≤ℤ up → pos 0 ≤ℤ down → (p +ℤ r -ℤ before) ≤ℤ (q *ℤ ru) → (before -ℤ p) ≤ℤ (q *ℤ rd)
     → (q *ℤ (neg_ℤ (up *ℤ ru) -ℤ down *ℤ rd))
     ≤ℤ ((up -ℤ down) *ℤ before +ℤ (down *ℤ p -ℤ up *ℤ p -ℤ up *ℤ r))
 ramp_priced q up down ru rd p r before hu hd rise fall =
@@ -43,8 +41,7 @@ initial u d before q p0 given =
     ∙ mul-neg q ((d -ℤ u) *ℤ p0)
 
 -- a period's value and its ramp terms are at most its cost, less what its output and reserve are paid
-period_regrouped : (u u' d d' pi mu p r m v c : ℤ)
-    → v ≤ℤ (c +ℤ (u -ℤ pi -ℤ u' -ℤ d +ℤ d') *ℤ p +ℤ (u -ℤ mu) *ℤ r -ℤ pi *ℤ m)
+period_regrouped : (u u' d d' pi mu p r m v c : ℤ) → v ≤ℤ (c +ℤ (u -ℤ pi -ℤ u' -ℤ d +ℤ d') *ℤ p +ℤ (u -ℤ mu) *ℤ r -ℤ pi *ℤ m)
     → (v +ℤ ((u' -ℤ d') *ℤ p +ℤ (d *ℤ p -ℤ u *ℤ p -ℤ u *ℤ r))) ≤ℤ (c -ℤ (pi *ℤ (p +ℤ m) +ℤ mu *ℤ r))
 period_regrouped u u' d d' pi mu p r m v c bound = let parts = simp spread at bound in simp spread (omega (arith, linear))
 
@@ -66,8 +63,7 @@ period_supplied q pi mu demand reserve supply held output shed short lack paid s
     omega (arith, linear)
 
 -- a factor of each period, and a sum over units in it, as a sum over units first
-factored : (n units : ℕ) (pi : ℕ → ℤ) (f : ℕ → ℕ → ℤ)
-    → sum_below n (λ t. pi t *ℤ sum_below units (λ g. f g t))
+factored : (n units : ℕ) (pi : ℕ → ℤ) (f : ℕ → ℕ → ℤ) → sum_below n (λ t. pi t *ℤ sum_below units (λ g. f g t))
     ≡ sum_below units (λ g. sum_below n (λ t. pi t *ℤ f g t))
 factored n units pi f =
     sum_below-same n (λ t. pi t *ℤ sum_below units (λ g. f g t)) (λ t. sum_below units (λ g. pi t *ℤ f g t))
@@ -163,8 +159,7 @@ module _ (n units renewables : ℕ) (q k : ℤ) (pi mu demand reserve shed short
     pub renewable : (w t : ℕ) → w < renewables → t < n → (q *ℤ worth w t) ≤ℤ neg_ℤ (pi t *ℤ output w t)
 
   -- demand and reserve, less what may be missing, are at most what the units give, at their prices, and what shortages cost
-  system_priced : Balanced
-      → (q *ℤ sum_below n needed) ≤ℤ (sum_below units bought +ℤ sum_below renewables sold +ℤ k *ℤ sum_below n paid)
+  system_priced : Balanced → (q *ℤ sum_below n needed) ≤ℤ (sum_below units bought +ℤ sum_below renewables sold +ℤ k *ℤ sum_below n paid)
   system_priced h =
       let from_units = λ (t : ℕ). pi t *ℤ sum_below units (λ g. thermal g t) in
       let from_held = λ (t : ℕ). mu t *ℤ sum_below units (λ g. held g t) in
@@ -200,8 +195,7 @@ module _ (n units renewables : ℕ) (q k : ℤ) (pi mu demand reserve shed short
       omega (arith, linear)
 
   -- the bound is at most the cost
-  pub bound_priced : Balanced
-      → (q *ℤ (sum_below n needed +ℤ sum_below units value +ℤ sum_below renewables (λ w. sum_below n (worth w))))
+  pub bound_priced : Balanced → (q *ℤ (sum_below n needed +ℤ sum_below units value +ℤ sum_below renewables (λ w. sum_below n (worth w))))
       ≤ℤ (k *ℤ (sum_below units cost +ℤ sum_below n paid))
   bound_priced h =
       let system = system_priced h in

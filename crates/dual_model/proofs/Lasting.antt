@@ -47,8 +47,7 @@ lasts initial state periods left most leave k (suc d) enter h within =
     (λ (yes_it_is : IsTrue (state (suc (k + d)))). yes_it_is)
     (λ (gone : state (suc (k + d)) ≡ false).
     let lasted = leave (suc (k + d)) (omega arith) (and_from _ _ before.0 (not_from_false _ gone)) in
-    let long : k + most ≤ suc (k + d) =
-    leb-true _ _ (subst (λ i. IsTrue (has_lasted left most i (suc (k + d)))) before.1 lasted) in
+    let long : k + most ≤ suc (k + d) = leb-true _ _ (subst (λ i. IsTrue (has_lasted left most i (suc (k + d)))) before.1 lasted) in
     absurd (omega arith))
     (cases_Bool (state (suc (k + d)))) in (
       ap state same ∙ there,
@@ -83,8 +82,7 @@ window-from_lasting initial state periods left most some leave t within =
     -- an entry in the window
     found : window ≤ suc t → (i : ℕ) → i < window → IsTrue (enters initial state (suc t - window + i))
         → IsTrue (state t) × (since initial state (suc t) ≡ suc (suc t - window + i))
-    found whole i h enter =
-        lasts_to initial state periods left most leave (suc t - window + i) t enter (omega arith) (omega arith) within
+    found whole i h enter = lasts_to initial state periods left most leave (suc t - window + i) t enter (omega arith) (omega arith) within
 
     some_entry : window ≤ suc t → (i : ℕ) × (i < window) × IsTrue (enters initial state (suc t - window + i))
         → sum_below window entry_bit ≤ℤ bit (state t)

@@ -13,8 +13,7 @@ use Rattle.dual_model.specs.Fixings.{Fixing, keeps, keeps_of}
 pub record SameBelow (n : ℕ) (first second : Commitment) : Type 0 where
   pub same : (t : ℕ) → t < n → first t ≡ second t
 
-cond_same : {A : Type 0} (b : Bool) (x x' y y' : A) → (b ≡ true → x ≡ x') → (b ≡ false → y ≡ y')
-    → cond b x y ≡ cond b x' y'
+cond_same : {A : Type 0} (b : Bool) (x x' y y' : A) → (b ≡ true → x ≡ x') → (b ≡ false → y ≡ y') → cond b x y ≡ cond b x' y'
 cond_same true x x' y y' h k = h refl
 cond_same false x x' y y' h k = k refl
 
@@ -54,8 +53,7 @@ keeps_minimum-same n window changes changes' state state' hc hs t l =
     sum_below-same window _ _ (λ i hi. ap bit (hc.same (suc t - window + i) (omega arith))) in
     λ i. int_le (sums i) (bit (hs.same t l i)))
 
-pub cap-same : (periods : ℕ) (unit : Thermal) (on other : Commitment) → SameBelow periods on other → (t : ℕ)
-    → t < periods
+pub cap-same : (periods : ℕ) (unit : Thermal) (on other : Commitment) → SameBelow periods on other → (t : ℕ) → t < periods
     → cap periods unit on t ≡ cap periods unit other t
 cap-same periods unit on other h t l =
     let start : start_cap unit on t ≡ start_cap unit other t =
@@ -70,8 +68,7 @@ cap-same periods unit on other h t l =
     λ i. int_min (start i) (stop i))
     (λ last. start)
 
-allowed_at-same : (periods : ℕ) (unit : Thermal) (on other : Commitment) → SameBelow periods on other → (t : ℕ)
-    → t < periods
+allowed_at-same : (periods : ℕ) (unit : Thermal) (on other : Commitment) → SameBelow periods on other → (t : ℕ) → t < periods
     → is_allowed_at periods unit on t ≡ is_allowed_at periods unit other t
 allowed_at-same periods unit on other h t l =
     let here = h.same t l in
@@ -127,13 +124,11 @@ abbrev pub fixed_below : List Fixing → ℕ
 fixed_below [] = 0
 fixed_below (fixing ∷ fixings) = max (suc fixing.t) (fixed_below fixings)
 
-keeps-same : (n : ℕ) (on other : Commitment) (fixing : Fixing) → SameBelow n on other → fixing.t < n
-    → keeps fixing on ≡ keeps fixing other
+keeps-same : (n : ℕ) (on other : Commitment) (fixing : Fixing) → SameBelow n on other → fixing.t < n → keeps fixing on ≡ keeps fixing other
 keeps-same n on other fixing h l = λ i. cond fixing.on (h.same fixing.t l i) (not (h.same fixing.t l i))
 
 -- the same fixings are kept
-pub kept-same : (n g : ℕ) (on other : Commitment) → SameBelow n on other → (fixings : List Fixing)
-    → fixed_below fixings ≤ n
+pub kept-same : (n g : ℕ) (on other : Commitment) → SameBelow n on other → (fixings : List Fixing) → fixed_below fixings ≤ n
     → list_all (keeps_of g on) fixings ≡ list_all (keeps_of g other) fixings
 kept-same n g on other h [] l = refl
 kept-same n g on other h (fixing ∷ fixings) l =

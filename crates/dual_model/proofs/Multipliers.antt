@@ -26,8 +26,7 @@ row_of_each P (row ∷ rows) g t each other =
     (λ later. row_of_each P rows g t (λ k d l. each (suc k) d (omega arith)) other)
 
 pub signed_at : (table : Table) → HasLawfulSigns table → (g t : ℕ) → IsRowSigned (row_of table.ramps g t)
-signed_at table signs g t =
-    row_of_each IsRowSigned table.ramps g t signs.ramps (record { up = le_refl (pos 0); down = le_refl (pos 0) })
+signed_at table signs g t = row_of_each IsRowSigned table.ramps g t signs.ramps (record { up = le_refl (pos 0); down = le_refl (pos 0) })
 
 -- there is no row past the last period
 absent : (units periods : ℕ) (rows : List RampRow) (g t : ℕ)

@@ -20,8 +20,7 @@ use Rattle.dual_model.proofs.Bound.{bound_from}
 use Rattle.dual_model.proofs.UnitValues.{unit_value_of, IsUnitAnswer, unit_value_is, allowed_value}
 
 -- ---- it is unique
-pub unit_value_unique : (instance : Instance) (node : Node) (table : Table) (g : ℕ) (v w : ℤ)
-    → IsUnitValue instance node table g v
+pub unit_value_unique : (instance : Instance) (node : Node) (table : Table) (g : ℕ) (v w : ℤ) → IsUnitValue instance node table g v
     → IsUnitValue instance node table g w → v ≡ w
 unit_value_unique instance node table g v w first second =
     le_antisymm v w
@@ -78,8 +77,7 @@ abbrev AreUnitsAnswer : Instance → Node → Table → ℕ → Option ℤ → T
 AreUnitsAnswer instance node table n None = HasEmptyUnit instance node
 AreUnitsAnswer instance node table n (Some s) = HaveValues instance node table n s
 
-one_more : (instance : Instance) (node : Node) (table : Table) (n : ℕ) → n < thermal_count instance
-    → (before own : Option ℤ)
+one_more : (instance : Instance) (node : Node) (table : Table) (n : ℕ) → n < thermal_count instance → (before own : Option ℤ)
     → AreUnitsAnswer instance node table n before → IsUnitAnswer instance node table n own
     → unit_value_of instance node table n ≡ own
     → AreUnitsAnswer instance node table (suc n) (both_sum before (option_map (unit_part instance table n) own))
@@ -98,8 +96,7 @@ one_more instance node table n within (Some s) (Some v) values value same =
       total = λ i. values.total i +ℤ unit_part instance table n (sym is_own i);
     }
 
-units_value_is : (instance : Instance) (node : Node) (table : Table) → HasPoints instance → (n : ℕ)
-    → n ≤ thermal_count instance
+units_value_is : (instance : Instance) (node : Node) (table : Table) → HasPoints instance → (n : ℕ) → n ≤ thermal_count instance
     → AreUnitsAnswer instance node table n (units_value_of instance node table n)
 unfolding units_value_of
 units_value_is instance node table points zero most = record { each = λ g l. absurd (omega arith); total = refl }
@@ -131,19 +128,16 @@ unfolding node_value_of
 node_value_is instance node table points =
     whole_value instance node table _ (units_value_is instance node table points (thermal_count instance) (omega arith))
 
-answered : (instance : Instance) (node : Node) (table : Table) (answer : Option ℤ)
-    → IsNodeAnswer instance node table answer
+answered : (instance : Instance) (node : Node) (table : Table) (answer : Option ℤ) → IsNodeAnswer instance node table answer
     → ((v : ℤ) × IsNodeValue instance node table v) ⊎ HasEmptyUnit instance node
 answered instance node table None empty = inr empty
 answered instance node table (Some v) is_value = inl (v, is_value)
 
 pub values_exist : ValuesExist false
-values_exist instance node table lawful =
-    answered instance node table _ (node_value_is instance node table (has_points instance lawful))
+values_exist instance node table lawful = answered instance node table _ (node_value_is instance node table (has_points instance lawful))
 
 -- where a schedule obeys and agrees, no unit is without a pattern
-pub not_empty : (instance : Instance) (node : Node) (q : ℕ) (x : Schedule) → IsLawfulInstance instance
-    → IsScheduleAt instance node q x
+pub not_empty : (instance : Instance) (node : Node) (q : ℕ) (x : Schedule) → IsLawfulInstance instance → IsScheduleAt instance node q x
     → ¬ HasEmptyUnit instance node
 not_empty instance node q x lawful schedule empty =
     empty.empty (x.thermal empty.unit).on
@@ -175,8 +169,7 @@ rays_exclude instance node table v q x lawful bounds is_value is_ray positive sc
 
 -- ---- children
 -- what agrees with a child agrees with its parent
-pub parent_agrees : (node : Node) (g t : ℕ) (on : Bool) (k : ℕ) (pattern : Commitment)
-    → IsTrue (unit_agrees (child node g t on) k pattern)
+pub parent_agrees : (node : Node) (g t : ℕ) (on : Bool) (k : ℕ) (pattern : Commitment) → IsTrue (unit_agrees (child node g t on) k pattern)
     → IsTrue (unit_agrees node k pattern)
 parent_agrees node g t on k pattern kept =
     let both = list_all-append (keeps_of k pattern) node.fixings ((record { g = g; t = t; on = on }) ∷ []) in

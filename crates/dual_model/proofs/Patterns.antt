@@ -30,8 +30,7 @@ below t n l apart = ⊎_elim
     (λ (same : t ≡ n). absurd (true≢false (sym (eq-eqb t n same) ∙ apart)))
     (grind arith)
 
-with_bit-same : (n : ℕ) (b : Bool) (on other : Commitment) → SameBelow n on other
-    → SameBelow (suc n) (with_bit n b on) (with_bit n b other)
+with_bit-same : (n : ℕ) (b : Bool) (on other : Commitment) → SameBelow n on other → SameBelow (suc n) (with_bit n b on) (with_bit n b other)
 with_bit-same n b on other h = record {
   same = λ t l. ⊎_elim
       (λ (here : IsTrue (t == n)). cond-true (t == n) b (on t) here ∙ sym (cond-true (t == n) b (other t) here))
@@ -64,16 +63,14 @@ abbrev HalfNone : ℕ → (Commitment → Bool) → Bool → Type 0
 HalfNone n test b = PassesNone (λ c. test (with_bit n b c))
 
 -- a pattern of a half, as one of that half's choices
-below_half : (n : ℕ) (test : Commitment → Bool) (value : Commitment → ℤ) (b : Bool) (on other : Commitment)
-    → IsLocal (suc n) test value
+below_half : (n : ℕ) (test : Commitment → Bool) (value : Commitment → ℤ) (b : Bool) (on other : Commitment) → IsLocal (suc n) test value
     → Half n test value b on → other n ≡ b → IsTrue (test other) → value (with_bit n b on) ≤ℤ value other
 below_half n test value b on other h half own passes =
     let same = own_bit n other b own in
     le_trans _ _ _ (half.least other (sym (h.tests other (with_bit n b other) same) ∙ passes))
     (le_of_eq _ _ (sym (h.values other (with_bit n b other) same)))
 
-none_of_half : (n : ℕ) (test : Commitment → Bool) (value : Commitment → ℤ) (b : Bool) (other : Commitment)
-    → IsLocal (suc n) test value
+none_of_half : (n : ℕ) (test : Commitment → Bool) (value : Commitment → ℤ) (b : Bool) (other : Commitment) → IsLocal (suc n) test value
     → HalfNone n test b → other n ≡ b → ¬ IsTrue (test other)
 none_of_half n test value b other h half own passes =
     half.none other (sym (h.tests other (with_bit n b other) (own_bit n other b own)) ∙ passes)
@@ -107,8 +104,7 @@ abbrev pub IsBestOf : (Commitment → Bool) → (Commitment → ℤ) → Option 
 IsBestOf test value None = PassesNone test
 IsBestOf test value (Some on) = IsLeastOf test value on
 
-better_is : (n : ℕ) (test : Commitment → Bool) (value : Commitment → ℤ) → IsLocal (suc n) test value
-    → (first second : Option Commitment)
+better_is : (n : ℕ) (test : Commitment → Bool) (value : Commitment → ℤ) → IsLocal (suc n) test value → (first second : Option Commitment)
     → IsBestOf (λ on. test (with_bit n true on)) (λ on. value (with_bit n true on)) first
     → IsBestOf (λ on. test (with_bit n false on)) (λ on. value (with_bit n false on)) second
     → IsBestOf test value (better n value first second)

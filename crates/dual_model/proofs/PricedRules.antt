@@ -23,8 +23,7 @@ use Rattle.dual_model.specs.NodeValue.{renewable_value, shortage_value, shortage
 
 -- ---- start costs
 -- K times the least start cost of a start is at most that of its category, and a cell without a start has none
-pub start_priced : (k : ℤ) (q : ℕ) (unit : Thermal) (row : Row) (t : ℕ) → pos 0 ≤ℤ k
-    → IsTrue (category_holds_at unit row.on row.category t)
+pub start_priced : (k : ℤ) (q : ℕ) (unit : Thermal) (row : Row) (t : ℕ) → pos 0 ≤ℤ k → IsTrue (category_holds_at unit row.on row.category t)
     → (pos q *ℤ cond (starts unit row.on t) (k *ℤ sigma unit (last_stop unit row.on t) t) (pos 0))
     ≤ℤ (k *ℤ (pos q *ℤ category_cost unit (row.category t)))
 start_priced k q unit row t sign holds =
@@ -58,8 +57,7 @@ within_cap periods q unit row t started stopped =
     (or_cases _ _ stopped))
     (λ last. started)
   where
-    either : (a b : ℤ) → (p_at unit row t +ℤ row.reserve t) ≤ℤ (pos q *ℤ a)
-        → (p_at unit row t +ℤ row.reserve t) ≤ℤ (pos q *ℤ b)
+    either : (a b : ℤ) → (p_at unit row t +ℤ row.reserve t) ≤ℤ (pos q *ℤ a) → (p_at unit row t +ℤ row.reserve t) ≤ℤ (pos q *ℤ b)
         → (p_at unit row t +ℤ row.reserve t) ≤ℤ (pos q *ℤ int_min a b)
     either a b h k = cond_both (int_lt b a) b a (λ c. (p_at unit row t +ℤ row.reserve t) ≤ℤ (pos q *ℤ c)) (λ e. k)
         (λ e. h)
@@ -71,8 +69,7 @@ on_parts q term pi pmin start k made category a p b r value u is_value is_on bou
     let order = mul_left_comm q pi pmin in
     rw (is_value, is_on, mul-one (q *ℤ pmin)) (simp spread (omega (arith, linear)))
 
-off_parts : (q pmin start pi k made category a p b r value u : ℤ) → value ≡ pos 0 → u ≡ pos 0 → made ≡ pos 0
-    → p ≡ pos 0 → r ≡ pos 0
+off_parts : (q pmin start pi k made category a p b r value u : ℤ) → value ≡ pos 0 → u ≡ pos 0 → made ≡ pos 0 → p ≡ pos 0 → r ≡ pos 0
     → (q *ℤ start) ≤ℤ (k *ℤ (q *ℤ category))
     → (q *ℤ (value +ℤ start)) ≤ℤ (k *ℤ (made +ℤ q *ℤ category) +ℤ a *ℤ p +ℤ b *ℤ r -ℤ pi *ℤ (q *ℤ pmin *ℤ u))
 off_parts q pmin start pi k made category a p b r value u is_value is_off none p_none r_none begun =
@@ -80,8 +77,7 @@ off_parts q pmin start pi k made category a p b r value u is_value is_off none p
     (simp (spread, mul-zero) (omega (arith, linear)))
 
 -- ---- an off cell has no weights, so it costs nothing
-pub made_off : (q : ℕ) (unit : Thermal) (row : Row) (t : ℕ) → weight_sum unit row t ≡ pos 0
-    → production_cost unit row t ≡ pos 0
+pub made_off : (q : ℕ) (unit : Thermal) (row : Row) (t : ℕ) → weight_sum unit row t ≡ pos 0 → production_cost unit row t ≡ pos 0
 made_off q unit row t none =
     sum_below-zero (point_count unit) (λ l. (point unit l).cost *ℤ pos (row.weight t l))
     (λ l h. ap (λ w. (point unit l).cost *ℤ w) (weight_none l h) ∙ mul-zero (point unit l).cost)
@@ -94,8 +90,7 @@ made_off q unit row t none =
         omega (arith, linear)
 
 -- q times the value of a period is at most K times its cost and the prices of its output and reserve
-pub period_priced : (instance : Instance) (q : ℕ) (x : Schedule) (table : Table) (g t : ℕ) (term : ℕ → ℤ)
-    → Obeys instance q x
+pub period_priced : (instance : Instance) (q : ℕ) (x : Schedule) (table : Table) (g t : ℕ) (term : ℕ → ℤ) → Obeys instance q x
     → g < thermal_count instance → t < instance.periods → pos 0 ≤ℤ table.k
     → (IsTrue ((x.thermal g).on t)
     → IsCellBound (thermal_unit instance g).points table.k (output_price table g t) (reserve_price table g t)

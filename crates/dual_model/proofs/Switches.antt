@@ -40,8 +40,7 @@ began : (was : Bool) (from : ℕ) (t : ℕ) → from ≤ t → (since_after was 
 began true from t h = ne_eqb from (suc t) (λ e. omega arith)
 began false from t h = eq-eqb (suc t) (suc t) refl
 
-pub since-start : (unit : Thermal) (on : Commitment) (t : ℕ) → on t ≡ true
-    → (since unit.on0 on (suc t) == suc t) ≡ starts unit on t
+pub since-start : (unit : Thermal) (on : Commitment) (t : ℕ) → on t ≡ true → (since unit.on0 on (suc t) == suc t) ≡ starts unit on t
 since-start unit on t e =
     let step = began (was_on unit on t) (since unit.on0 on t) t (since-le unit.on0 on t) in
     (λ i. since_after (was_on unit on t) (since unit.on0 on t) (e i) t == suc t)
@@ -58,8 +57,7 @@ last_stop-step unit on t false false w n e before = before w
 
 pub last_stop-since : (unit : Thermal) (on : Commitment) (t : ℕ) → was_on unit on t ≡ false → last_stop unit on t ≡ stop_since (since unit.on0 on t)
 last_stop-since unit on zero e = refl
-last_stop-since unit on (suc t) e =
-    last_stop-step unit on t (was_on unit on t) (on t) refl refl e (last_stop-since unit on t)
+last_stop-since unit on (suc t) e = last_stop-step unit on t (was_on unit on t) (on t) refl refl e (last_stop-since unit on t)
 
 -- ---- where a state came from
 -- a state that lasts since before the horizon is the initial one

@@ -36,11 +36,9 @@ le-least_below (suc n) test f other k last each =
     (λ here. grind (arith, ints, each n (omega arith) here))
     (λ away. rest)
 
-greatest-le-corner : (n : ℕ) (f d : ℕ → ℤ) (b : ℤ) (l : ℕ) → l < n → pos 0 ≤ℤ d l
-    → greatest_bound n f d b ≤ℤ corner_least n f d b l
+greatest-le-corner : (n : ℕ) (f d : ℕ → ℤ) (b : ℤ) (l : ℕ) → l < n → pos 0 ≤ℤ d l → greatest_bound n f d b ≤ℤ corner_least n f d b l
 unfolding greatest_bound
-greatest-le-corner n f d b l hl near =
-    least_below-le n (λ i. int_le (pos 0) (d i)) (corner_least n f d b) (f 0) l hl (le-int_le _ _ near)
+greatest-le-corner n f d b l hl near = least_below-le n (λ i. int_le (pos 0) (d i)) (corner_least n f d b) (f 0) l hl (le-int_le _ _ near)
 
 bounds_corners : (n : ℕ) (f d : ℕ → ℤ) (b : ℤ) → BoundsCorners n f d b (greatest_bound n f d b)
 unfolding corner_least pair_least
@@ -60,8 +58,7 @@ bounds_corners n f d b = record {
     pair_cost : ℕ → ℕ → ℤ
     pair_cost l j = int_div_euclid (neg_ℤ (d j) *ℤ f l +ℤ d l *ℤ f j) (d l -ℤ d j)
 
-    scaled : (dl dj fl fj m : ℤ) → pos 0 ≤ℤ dl → dj <ℤ pos 0
-        → m ≤ℤ int_div_euclid (neg_ℤ dj *ℤ fl +ℤ dl *ℤ fj) (dl -ℤ dj)
+    scaled : (dl dj fl fj m : ℤ) → pos 0 ≤ℤ dl → dj <ℤ pos 0 → m ≤ℤ int_div_euclid (neg_ℤ dj *ℤ fl +ℤ dl *ℤ fj) (dl -ℤ dj)
         → ((dl -ℤ dj) *ℤ m) ≤ℤ (neg_ℤ dj *ℤ fl +ℤ dl *ℤ fj)
     scaled dl dj fl fj m near far below =
         let cost = neg_ℤ dj *ℤ fl +ℤ dl *ℤ fj in
@@ -72,8 +69,7 @@ bounds_corners n f d b = record {
         (subst (λ z. z ≤ℤ cost) (mul_comm (int_div_euclid cost (dl -ℤ dj)) (dl -ℤ dj)) floor.below)
 
 -- no greater number bounds the corners, where the first point lies at or left of the cap
-greatest_of_bounds : (n : ℕ) (f d : ℕ → ℤ) (b k : ℤ) → 0 < n → pos 0 ≤ℤ d 0 → BoundsCorners n f d b k
-    → k ≤ℤ greatest_bound n f d b
+greatest_of_bounds : (n : ℕ) (f d : ℕ → ℤ) (b k : ℤ) → 0 < n → pos 0 ≤ℤ d 0 → BoundsCorners n f d b k → k ≤ℤ greatest_bound n f d b
 unfolding greatest_bound corner_least pair_least
 greatest_of_bounds n f d b k some near corners =
     le-least_below n (λ l. int_le (pos 0) (d l)) (corner_least n f d b) (f 0) k (corners.point 0 some near)
@@ -111,8 +107,7 @@ reduced_sum points k a weight =
     ∙ (λ i. sum_below-mul_left (length points) k (λ l. (point_of points l).cost *ℤ pos (weight l)) i
     +ℤ sum_below-mul_left (length points) a (λ l. output_of points l *ℤ pos (weight l)) i)
 
-distance_sum : (points : List Point) (cap : ℤ) (weight : ℕ → ℕ)
-    → sum_below (length points) (λ l. distance points cap l *ℤ pos (weight l))
+distance_sum : (points : List Point) (cap : ℤ) (weight : ℕ → ℕ) → sum_below (length points) (λ l. distance points cap l *ℤ pos (weight l))
     ≡ cap *ℤ weighted_total points weight -ℤ weighted_output points weight
 distance_sum points cap weight =
     sum_below-same (length points) _ (λ l. cap *ℤ pos (weight l) -ℤ output_of points l *ℤ pos (weight l))
@@ -132,8 +127,7 @@ cell_bound-corners points k a b cap m corners = record { below = below }
         let spent = distance_sum points cap weight in
         let same_total = ap (λ z. cap *ℤ z) total in
         let order = mul_comm cap (pos q) in
-        let room : r ≤ℤ sum_below (length points) (λ l. distance points cap l *ℤ pos (weight l)) =
-        omega (arith, linear) in
+        let room : r ≤ℤ sum_below (length points) (λ l. distance points cap l *ℤ pos (weight l)) = omega (arith, linear) in
         let bound =
         corners_bound (length points) (reduced_cost points k a) (distance points cap) b m corners weight (pos q) r
         total sign room in
@@ -171,8 +165,7 @@ two_total n l u j v hl hj =
     ∙ (λ i. one-mul (pos u) i +ℤ one-mul (pos v) i)
 
 -- what bounds a cell does so at weights on two points
-at_two : (points : List Point) (k a b cap m : ℤ) → IsCellBound points k a b cap m → (l u j v : ℕ) (r : ℤ)
-    → l < length points
+at_two : (points : List Point) (k a b cap m : ℤ) → IsCellBound points k a b cap m → (l u j v : ℕ) (r : ℤ) → l < length points
     → j < length points → pos 0 ≤ℤ r → r ≤ℤ (distance points cap l *ℤ pos u +ℤ distance points cap j *ℤ pos v)
     → (pos (u + v) *ℤ m) ≤ℤ (reduced_cost points k a l *ℤ pos u +ℤ reduced_cost points k a j *ℤ pos v +ℤ b *ℤ r)
 at_two points k a b cap m bound l u j v r hl hj sign room =
@@ -192,8 +185,7 @@ at_two points k a b cap m bound l u j v r hl hj sign room =
     omega (arith, linear)
 
 -- at one point
-at_one : (points : List Point) (k a b cap m : ℤ) → IsCellBound points k a b cap m → (l : ℕ) (r : ℤ)
-    → l < length points → pos 0 ≤ℤ r
+at_one : (points : List Point) (k a b cap m : ℤ) → IsCellBound points k a b cap m → (l : ℕ) (r : ℤ) → l < length points → pos 0 ≤ℤ r
     → r ≤ℤ distance points cap l → m ≤ℤ (reduced_cost points k a l +ℤ b *ℤ r)
 at_one points k a b cap m bound l r hl sign room =
     let full = mul-one (distance points cap l) in

@@ -18,10 +18,8 @@ use Rattle.dual_model.proofs.Patterns.{IsLocal, IsBestOf, best_pattern, best_pat
 
 -- ---- terms
 -- there is one term at most
-pub term_unique : (points : List Point) (k a b room m n : ℤ) → IsTerm points k a b room m
-    → IsTerm points k a b room n → m ≡ n
-term_unique points k a b room m n first second =
-    le_antisymm m n (second.greatest m first.bound) (first.greatest n second.bound)
+pub term_unique : (points : List Point) (k a b room m n : ℤ) → IsTerm points k a b room m → IsTerm points k a b room n → m ≡ n
+term_unique points k a b room m n first second = le_antisymm m n (second.greatest m first.bound) (first.greatest n second.bound)
 
 -- the term of unit g in period t under the commitment
 unfoldable pub term_of : Instance → Table → ℕ → Commitment → ℕ → ℤ
@@ -41,8 +39,7 @@ cap-allowed periods unit on allowed t l here =
     (λ (room : IsTrue (int_le (pos 0) (cap periods unit on t))). int_le-true _ _ room)
     (or_cases (not (on t)) (int_le (pos 0) (cap periods unit on t)) (and_parts _ _ each).1)
 
-is_term_of : (instance : Instance) (table : Table) (g : ℕ) (on : Commitment)
-    → 0 < length (thermal_unit instance g).points
+is_term_of : (instance : Instance) (table : Table) (g : ℕ) (on : Commitment) → 0 < length (thermal_unit instance g).points
     → IsTrue (is_allowed instance.periods (thermal_unit instance g) on) → (t : ℕ) → t < instance.periods → IsTrue (on t)
     → IsTermAt instance table g on t (term_of instance table g on t)
 unfolding term_of
@@ -53,12 +50,10 @@ is_term_of instance table g on some allowed t l here =
 
 -- ---- values of patterns
 unfoldable pub value_of : Instance → Table → ℕ → Commitment → ℤ
-value_of instance table g on =
-    sum_below instance.periods (period_value table (thermal_unit instance g) on (term_of instance table g on))
+value_of instance table g on = sum_below instance.periods (period_value table (thermal_unit instance g) on (term_of instance table g on))
 
 -- an allowed pattern has a value
-is_value_of : (instance : Instance) (table : Table) (g : ℕ) (on : Commitment)
-    → 0 < length (thermal_unit instance g).points
+is_value_of : (instance : Instance) (table : Table) (g : ℕ) (on : Commitment) → 0 < length (thermal_unit instance g).points
     → IsTrue (is_allowed instance.periods (thermal_unit instance g) on)
     → IsPatternValue instance table g on (value_of instance table g on)
 unfolding value_of
@@ -73,8 +68,7 @@ cond_on true x y h = h refl
 cond_on false x y h = refl
 
 -- and one at most
-pub pattern_value_unique : (instance : Instance) (table : Table) (g : ℕ) (on : Commitment) (v w : ℤ)
-    → IsPatternValue instance table g on v
+pub pattern_value_unique : (instance : Instance) (table : Table) (g : ℕ) (on : Commitment) (v w : ℤ) → IsPatternValue instance table g on v
     → IsPatternValue instance table g on w → v ≡ w
 pattern_value_unique instance table g on v w first second =
     first.total
@@ -86,8 +80,7 @@ pattern_value_unique instance table g on v w first second =
         cond (starts (thermal_unit instance g) on t)
         (table.k *ℤ sigma (thermal_unit instance g) (last_stop (thermal_unit instance g) on t) t) (pos 0)
 
-    each : (t : ℕ) → t < instance.periods
-        → cond (on t) (first.term t -ℤ pi_at table t *ℤ (thermal_unit instance g).pmin) (pos 0)
+    each : (t : ℕ) → t < instance.periods → cond (on t) (first.term t -ℤ pi_at table t *ℤ (thermal_unit instance g).pmin) (pos 0)
         ≡ cond (on t) (second.term t -ℤ pi_at table t *ℤ (thermal_unit instance g).pmin) (pos 0)
     each t l = cond_on (on t) _ _ (λ here.
         let unit = thermal_unit instance g in
@@ -96,8 +89,7 @@ pattern_value_unique instance table g on v w first second =
         (cap instance.periods unit on t) _ _ (first.terms t l here) (second.terms t l here)))
 
 -- the value depends on the instance's periods alone
-term_of-same : (instance : Instance) (table : Table) (g : ℕ) (on other : Commitment)
-    → SameBelow instance.periods on other → (t : ℕ)
+term_of-same : (instance : Instance) (table : Table) (g : ℕ) (on other : Commitment) → SameBelow instance.periods on other → (t : ℕ)
     → t < instance.periods → term_of instance table g on t ≡ term_of instance table g other t
 unfolding term_of
 term_of-same instance table g on other h t l =
@@ -105,8 +97,7 @@ term_of-same instance table g on other h t l =
     ap (λ room. least_reduced_cost unit.points table.k (output_price table g t) (reserve_price table g t) room)
     (cap-same instance.periods unit on other h t l)
 
-value_of-same : (instance : Instance) (table : Table) (g : ℕ) (on other : Commitment)
-    → SameBelow instance.periods on other
+value_of-same : (instance : Instance) (table : Table) (g : ℕ) (on other : Commitment) → SameBelow instance.periods on other
     → value_of instance table g on ≡ value_of instance table g other
 unfolding value_of
 value_of-same instance table g on other h =
@@ -134,8 +125,7 @@ pattern_local instance node table g some = record {
   values = λ on other h. value_of-same instance table g on other (narrowed on other h);
 }
   where
-    narrowed : (on other : Commitment) → SameBelow (last_period instance node) on other
-        → SameBelow instance.periods on other
+    narrowed : (on other : Commitment) → SameBelow (last_period instance node) on other → SameBelow instance.periods on other
     narrowed on other h = record { same = λ t l. h.same t (omega arith) }
 
 -- the value of unit g at the node and the table, if it has one
@@ -153,8 +143,7 @@ best_value : (instance : Instance) (node : Node) (table : Table) (g : ℕ)
     → 0 < length (thermal_unit instance g).points → (best : Option Commitment)
     → IsBestOf (is_pattern_at instance node g) (value_of instance table g) best
     → IsUnitAnswer instance node table g (option_map (value_of instance table g) best)
-best_value instance node table g points None none =
-    λ on pattern. none.none on (and_from _ _ pattern.allowed pattern.agrees)
+best_value instance node table g points None none = λ on pattern. none.none on (and_from _ _ pattern.allowed pattern.agrees)
 best_value instance node table g points (Some on) found =
     let parts = and_parts _ _ found.passes in
     record {
@@ -180,8 +169,6 @@ unit_value_is instance node table g some points =
     (pattern_local instance node table g some))
 
 -- each allowed pattern has a value
-pub allowed_value : (instance : Instance) (table : Table) (g : ℕ) (on : Commitment)
-    → 0 < length (thermal_unit instance g).points
+pub allowed_value : (instance : Instance) (table : Table) (g : ℕ) (on : Commitment) → 0 < length (thermal_unit instance g).points
     → IsTrue (is_allowed instance.periods (thermal_unit instance g) on) → (w : ℤ) × IsPatternValue instance table g on w
-allowed_value instance table g on some allowed =
-    (value_of instance table g on, is_value_of instance table g on some allowed)
+allowed_value instance table g on some allowed = (value_of instance table g on, is_value_of instance table g on some allowed)

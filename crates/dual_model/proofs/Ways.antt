@@ -255,8 +255,7 @@ period_value-is terms unit on t there = by_bit (on t) refl
         let same : hour_value terms unit on (suc t) ≡ there.0 = ap (λ o. unwrap_or o (pos 0)) value in
         ap (λ x. x +ℤ start_value terms unit on t) (counted ∙ sym same)
     by_bit false e =
-        let none : hour_value terms unit on (suc t) ≡ pos 0 =
-        ap (λ o. unwrap_or o (pos 0)) (cond-false (on t) here (Some (pos 0)) e) in
+        let none : hour_value terms unit on (suc t) ≡ pos 0 = ap (λ o. unwrap_or o (pos 0)) (cond-false (on t) here (Some (pos 0)) e) in
         let counted : (if on t then term_of terms unit on t -ℤ price_at terms t *ℤ unit.pmin else pos 0) ≡ pos 0 =
         cond-false (on t) _ (pos 0) e in
         ap (λ x. x +ℤ start_value terms unit on t) (counted ∙ sym none)

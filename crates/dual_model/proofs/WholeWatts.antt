@@ -27,8 +27,7 @@ held : (q p r j : ℕ) → 0 < q → (p + j) / q + ((p + r + j) / q - (p + j) / 
 held q p r j some = let below = floor_mono q (p + j) (p + r + j) some (omega arith) in omega (arith, below)
 
 -- output and reserve together
-total : (q j t : ℕ) (x : UnitSchedule) → 0 < q
-    → pos ((share q x j).p t) +ℤ pos ((share q x j).r t) ≡ pos ((x.p t + x.r t + j) / q)
+total : (q j t : ℕ) (x : UnitSchedule) → 0 < q → pos ((share q x j).p t) +ℤ pos ((share q x j).r t) ≡ pos ((x.p t + x.r t + j) / q)
 total q j t x some = ap pos (held q (x.p t) (x.r t) j some)
 
 within : (q j t : ℕ) (x : UnitSchedule) (c : ℤ) → 0 < q → j < q → (pos (x.p t) +ℤ pos (x.r t)) ≤ℤ (pos q *ℤ c)
@@ -51,8 +50,7 @@ rises q j (suc t) unit x some l h =
     let below = difference q (x.p (suc t) + x.r (suc t)) (x.p t) j unit.ru some h in
     omega (arith, linear, sum, below, one-mul unit.ru)
 
-falls : (q j t : ℕ) (unit : Thermal) (x : UnitSchedule) → 0 < q → j < q
-    → (output_before q unit x t -ℤ pos (x.p t)) ≤ℤ (pos q *ℤ unit.rd)
+falls : (q j t : ℕ) (unit : Thermal) (x : UnitSchedule) → 0 < q → j < q → (output_before q unit x t -ℤ pos (x.p t)) ≤ℤ (pos q *ℤ unit.rd)
     → (output_before 1 unit (share q x j) t -ℤ pos ((share q x j).p t)) ≤ℤ (pos 1 *ℤ unit.rd)
 falls q j zero unit x some l h =
     let parts = mul-add (pos q) unit.rd (initial_p unit -ℤ unit.rd) in
@@ -70,8 +68,7 @@ idle q p r j some l none no_reserve =
     let second : (p + r + j) / q ≡ 0 = ap (λ n. n / q) (omega arith) ∙ small j q l in
     (first, omega (arith, second))
 
-share-at : (periods q j : ℕ) (unit : Thermal) (x : UnitSchedule) (t : ℕ) → 0 < q → j < q
-    → IsUnitScheduleAt periods q unit x t
+share-at : (periods q j : ℕ) (unit : Thermal) (x : UnitSchedule) (t : ℕ) → 0 < q → j < q → IsUnitScheduleAt periods q unit x t
     → IsUnitScheduleAt periods 1 unit (share q x j) t
 share-at periods q j unit x t some l h = record {
   off = λ off. let none = h.off off in idle q (x.p t) (x.r t) j some l none.0 none.1;
@@ -85,8 +82,7 @@ share-at periods q j unit x t some l h = record {
 }
 
 -- each is a schedule in whole watts
-pub share-is : (instance : Instance) (node : Node) (g q j : ℕ) (x : UnitSchedule) → j < q
-    → IsUnitSchedule instance node g q x
+pub share-is : (instance : Instance) (node : Node) (g q j : ℕ) (x : UnitSchedule) → j < q → IsUnitSchedule instance node g q x
     → IsUnitSchedule instance node g 1 (share q x j)
 share-is instance node g q j x l is = record {
   denominator = omega arith;

@@ -38,10 +38,8 @@ pub record ScheduleHolds (instance : Instance) (written : WrittenSchedule) : Typ
 
 -- the claim holds: a bound, with some leaf that is one; or infeasibility, with no schedule
 abbrev pub ClaimHolds : Instance → Certificate → Option ℤ → Type 0
-ClaimHolds instance certificate (Some b) =
-    IsTrue (has_bound certificate.tree) × Holds instance certificate.tables certificate.tree b
-ClaimHolds instance certificate None =
-    (certificate.schedule ≡ None) × AllExcluded instance certificate.tables certificate.tree
+ClaimHolds instance certificate (Some b) = IsTrue (has_bound certificate.tree) × Holds instance certificate.tables certificate.tree b
+ClaimHolds instance certificate None = (certificate.schedule ≡ None) × AllExcluded instance certificate.tables certificate.tree
 
 -- the certificate holds for the instance
 pub record CertificateHolds (instance : Instance) (certificate : Certificate) : Type 0 where

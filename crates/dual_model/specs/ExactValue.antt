@@ -101,8 +101,7 @@ exact_period_value table q unit x t =
     +ℤ (if starts unit x.on t then pos q *ℤ (table.k *ℤ sigma unit (last_stop unit x.on t) t) else pos 0)
 
 abbrev pub unit_schedule_value : Instance → Table → ℕ → ℕ → UnitSchedule → ℤ
-unit_schedule_value instance table g q x =
-    sum_below instance.periods (exact_period_value table q (thermal_unit instance g) x)
+unit_schedule_value instance table g q x = sum_below instance.periods (exact_period_value table q (thermal_unit instance g) x)
 
 -- m bounds the value of each schedule of unit g over each denominator
 abbrev pub IsExactBound : Instance → Node → Table → ℕ → ℤ → Type 0
@@ -123,8 +122,7 @@ pub record IsLeastWholeValue (instance : Instance) (node : Node) (table : Table)
   pub x : UnitSchedule
   pub is_schedule : IsUnitSchedule instance node g 1 x
   pub reached : e ≡ unit_schedule_value instance table g 1 x
-  pub least : (other : UnitSchedule) → IsUnitSchedule instance node g 1 other
-      → e ≤ℤ unit_schedule_value instance table g 1 other
+  pub least : (other : UnitSchedule) → IsUnitSchedule instance node g 1 other → e ≤ℤ unit_schedule_value instance table g 1 other
 
 -- what unit g adds to the node's exact value: the greater of E and of its value with its constant
 abbrev pub exact_part : Instance → Table → ℕ → ℤ → ℤ → ℤ
@@ -132,8 +130,7 @@ exact_part instance table g value exact = int_max exact (unit_part instance tabl
 
 -- the node's value, by what each thermal unit adds: the system's part, and a part for each thermal and renewable unit
 abbrev pub parts_total : Instance → Table → (ℕ → ℤ) → ℤ
-parts_total instance table part =
-    system_value instance table +ℤ sum_below (thermal_count instance) part +ℤ renewables_value instance table
+parts_total instance table part = system_value instance table +ℤ sum_below (thermal_count instance) part +ℤ renewables_value instance table
 
 -- v is the exact value VE of the node. There is none where some unit has no schedule of its own
 pub record IsExactNodeValue (instance : Instance) (node : Node) (table : Table) (v : ℤ) : Type 0 where

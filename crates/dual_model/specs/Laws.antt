@@ -84,8 +84,7 @@ LeavesPart = (x : Schedule) (tree : Tree Leaf) → agreeing_leaves x root tree �
 
 -- the table of that number, if there is one, is lawful
 abbrev pub IsLawfulAt : Instance → List Table → ℕ → Type 0
-IsLawfulAt instance tables number =
-    (table : Table) → slice_get tables number ≡ Some table → IsLawfulTable instance table
+IsLawfulAt instance tables number = (table : Table) → slice_get tables number ≡ Some table → IsLawfulTable instance table
 
 -- the table that the leaf names is lawful
 abbrev pub HasLawfulTable : Instance → List Table → Node → Leaf → Type 0

@@ -17,8 +17,7 @@ pub use Rattle.dual_model.specs.declared.table.Table.{Table}
 -- what a need at a multiplier adds where it may be missing at a price: min(0, K*price - multiplier) times the most that may
 -- be missing, and nothing where it has no price
 abbrev pub shortage_value : ℤ → ℕ → ℤ → ℤ → ℤ
-shortage_value k price multiplier most =
-    if nat_lt 0 price then int_min (pos 0) (k *ℤ pos price -ℤ multiplier) *ℤ most else pos 0
+shortage_value k price multiplier most = if nat_lt 0 price then int_min (pos 0) (k *ℤ pos price -ℤ multiplier) *ℤ most else pos 0
 
 -- what demand and reserve of period t that may be missing add
 abbrev pub shortages_value : Instance → Table → ℕ → ℤ

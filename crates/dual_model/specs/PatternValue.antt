@@ -22,8 +22,7 @@ is_followed periods unit on t = stops unit on (suc t) && nat_lt (suc t) periods
 
 -- the term of an on cell of the pattern; each of an allowed pattern has one
 abbrev pub term_of : Terms → Thermal → Commitment → ℕ → ℤ
-term_of terms unit on t =
-    unwrap_or (term_at terms t (starts unit on t) (is_followed (period_count terms) unit on t)) (pos 0)
+term_of terms unit on t = unwrap_or (term_at terms t (starts unit on t) (is_followed (period_count terms) unit on t)) (pos 0)
 
 -- the value of a period: the term less the price of the minimum output where the unit is on, and K times
 -- the least start cost at a start

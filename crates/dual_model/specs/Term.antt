@@ -24,8 +24,7 @@ pub record IsTerm (points : List Point) (k a b cap m : ℤ) : Type 0 where
 
 -- A of a cell, the price of output above the minimum: -pi(t) + up(t) - up(t+1) - down(t) + down(t+1)
 abbrev pub output_price : Table → ℕ → ℕ → ℤ
-output_price table g t =
-    up_at table g t -ℤ pi_at table t -ℤ up_at table g (suc t) -ℤ down_at table g t +ℤ down_at table g (suc t)
+output_price table g t = up_at table g t -ℤ pi_at table t -ℤ up_at table g (suc t) -ℤ down_at table g t +ℤ down_at table g (suc t)
 
 -- B of a cell, the price of reserve: -mu(t) + up(t)
 abbrev pub reserve_price : Table → ℕ → ℕ → ℤ

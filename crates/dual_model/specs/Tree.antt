@@ -42,8 +42,7 @@ IsCover instance tree = IsCoverBelow instance root tree
 -- how many leaves below the node, at which it stands, the schedule agrees with
 abbrev pub agreeing_leaves : {A : Type 0} → Schedule → Node → Tree A → ℕ
 agreeing_leaves x node (Ends leaf) = if agrees node x then 1 else 0
-agreeing_leaves x node (Splits g t off on) =
-    agreeing_leaves x (child node g t false) off + agreeing_leaves x (child node g t true) on
+agreeing_leaves x node (Splits g t off on) = agreeing_leaves x (child node g t false) off + agreeing_leaves x (child node g t true) on
 
 -- P holds of each leaf below the node and of the node at which it stands
 abbrev pub EachLeaf : {A : Type 0} → (Node → A → Type 0) → Node → Tree A → Type 0

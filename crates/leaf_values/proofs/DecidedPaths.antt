@@ -71,8 +71,7 @@ swap_and false b false e = ap (λ x. (x && false) && false) (sym e)
 
 all_below-same : (n : ℕ) (old new : ℕ → Bool) → ((t : ℕ) → t < n → new t ≡ old t) → all_below n new ≡ all_below n old
 all_below-same zero old new e = refl
-all_below-same (suc n) old new e =
-    λ i. e n (omega arith) i && all_below-same n old new (λ t h. e t (omega arith)) i
+all_below-same (suc n) old new e = λ i. e n (omega arith) i && all_below-same n old new (λ t h. e t (omega arith)) i
 
 -- a test that is stricter at one index, at which it held
 all_below-with : (n k : ℕ) (old new : ℕ → Bool) → k < n → old k ≡ true → ((t : ℕ) → t ≢ k → new t ≡ old t)

@@ -61,8 +61,7 @@ one_more entries n total part result few so_far valued is e most small =
     (omega (arith, abs_add total part (MAX_REST + n * (MAX_COST_TO_GO + MAX_CONSTANT)) (MAX_COST_TO_GO + MAX_CONSTANT) most small)) in
     let kept = wide result (MAX_REST + (n + 1) * (MAX_COST_TO_GO + MAX_CONSTANT)) size (omega arith) in
     let terms = λ (g : ℕ). part_of (entry_at entries g) in
-    let next : result ≡ entries.rest +ℤ sum_below (suc n) terms =
-    omega (arith, linear, so_far.total, sum) in
+    let next : result ≡ entries.rest +ℤ sum_below (suc n) terms = omega (arith, linear, so_far.total, sum) in
     record {
       sum = record {
         each = below_more _ _ so_far.each valued;

@@ -191,8 +191,7 @@ start_is false false false down e apart = refl
 
 stop_is : (now before up down : Bool) → bit now -ℤ bit before ≡ bit up -ℤ bit down → (IsTrue up → IsTrue down → ⊥)
     → down ≡ (before && not now)
-stop_is now before up down e apart =
-    start_is before now down up (omega (arith, linear)) (λ d u. apart u d) ∙ and_comm (not now) before
+stop_is now before up down e apart = start_is before now down up (omega (arith, linear)) (λ d u. apart u d) ∙ and_comm (not now) before
 
 pub starts-follow : (initial : Bool) (on up down : Commitment) (periods time_up time_down : ℕ) → 1 ≤ time_up → 1 ≤ time_down
     → KeepsMinimumTimes initial on up down periods time_up time_down

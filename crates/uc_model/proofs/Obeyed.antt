@@ -50,8 +50,7 @@ production_parts q unit row t h =
 -- ---- output above the minimum is never negative, since the points rise
 pub first-le-point : (unit : Thermal) → IsLawfulThermal unit → (l : ℕ) → l < point_count unit → (point unit 0).mw ≤ℤ (point unit l).mw
 first-le-point unit lawful zero h = omega (arith, linear)
-first-le-point unit lawful (suc l) h =
-    le_trans _ _ _ (first-le-point unit lawful l (omega arith)) (lawful.rising l h)
+first-le-point unit lawful (suc l) h = le_trans _ _ _ (first-le-point unit lawful l (omega arith)) (lawful.rising l h)
 
 pub point_p_nonneg : (unit : Thermal) → IsLawfulThermal unit → (l : ℕ) → l < point_count unit → pos 0 ≤ℤ point_p unit l
 point_p_nonneg unit lawful l h = sub_nonneg _ _ (first-le-point unit lawful l h)

@@ -82,8 +82,7 @@ off_cell q points true some within =
 off_cell q points false some within = no_refused q (length points) some within
 
 -- the weights that a cell stands for cost at most q times what is printed
-cell_weights : (q c : ℕ) (points : List Point) (d : ℕ) (on : Bool) (p : ℤ) → 0 < length points → 0 < d
-    → ((l : ℕ) → l < length points
+cell_weights : (q c : ℕ) (points : List Point) (d : ℕ) (on : Bool) (p : ℤ) → 0 < length points → 0 < d → ((l : ℕ) → l < length points
     → (if on then segment_weight q points d p (segment_at points d p) l else (if int_eq p (pos 0) then 0 else refused_weight q l)) ≤ q)
     → q ≡ c * (d * (if on then width_on points (segment_at points d p) else 1))
     → weighted_cost points (λ l. if on then segment_weight q points d p (segment_at points d p) l else (if int_eq p (pos 0) then 0 else refused_weight q l))

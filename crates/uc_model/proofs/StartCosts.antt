@@ -70,8 +70,7 @@ may_cost-allowed unit on s t start h =
     (λ (before : nat_le lag (suc t) ≡ false). cond-false _ _ _ before ∙ sym (cond-false _ _ _ before) ∙ h)
     (cases_Bool (nat_le lag (suc t)))
 
-pub sigma-le-allowed : (unit : Thermal) (on : Commitment) (s t : ℕ) → IsTrue (starts unit on t)
-    → IsTrue (is_category_allowed unit on s t)
+pub sigma-le-allowed : (unit : Thermal) (on : Commitment) (s t : ℕ) → IsTrue (starts unit on t) → IsTrue (is_category_allowed unit on s t)
     → sigma unit (last_stop unit on t) t ≤ℤ category_cost unit s
 sigma-le-allowed unit on zero t start h = absurd (true≢false (sym h))
 sigma-le-allowed unit on (suc s) t start h =

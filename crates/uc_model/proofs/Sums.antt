@@ -12,8 +12,7 @@ below_or_last n k l = grind arith
 -- equal terms give equal sums
 pub sum_below-same : (n : ℕ) (f g : ℕ → ℤ) → ((k : ℕ) → k < n → f k ≡ g k) → sum_below n f ≡ sum_below n g
 sum_below-same zero f g e = refl
-sum_below-same (suc n) f g e =
-    λ i. sum_below-same n f g (λ k h. e k (omega arith)) i +ℤ e n (omega arith) i
+sum_below-same (suc n) f g e = λ i. sum_below-same n f g (λ k h. e k (omega arith)) i +ℤ e n (omega arith) i
 
 -- the sum of zeros
 pub sum_below-zero : (n : ℕ) (f : ℕ → ℤ) → ((k : ℕ) → k < n → f k ≡ pos 0) → sum_below n f ≡ pos 0
@@ -35,13 +34,11 @@ sum_below-sub (suc n) f g = let before = sum_below-sub n f g in omega (arith, li
 
 pub sum_below-mul_left : (n : ℕ) (q : ℤ) (f : ℕ → ℤ) → sum_below n (λ k. q *ℤ f k) ≡ q *ℤ sum_below n f
 sum_below-mul_left zero q f = sym (mul-zero q)
-sum_below-mul_left (suc n) q f =
-    ap (λ x. x +ℤ q *ℤ f n) (sum_below-mul_left n q f) ∙ sym (mul-add q (sum_below n f) (f n))
+sum_below-mul_left (suc n) q f = ap (λ x. x +ℤ q *ℤ f n) (sum_below-mul_left n q f) ∙ sym (mul-add q (sum_below n f) (f n))
 
 pub sum_below-mul_right : (n : ℕ) (f : ℕ → ℤ) (q : ℤ) → sum_below n (λ k. f k *ℤ q) ≡ sum_below n f *ℤ q
 sum_below-mul_right zero f q = sym (zero-mul q)
-sum_below-mul_right (suc n) f q =
-    ap (λ x. x +ℤ f n *ℤ q) (sum_below-mul_right n f q) ∙ sym (add-mul (sum_below n f) (f n) q)
+sum_below-mul_right (suc n) f q = ap (λ x. x +ℤ f n *ℤ q) (sum_below-mul_right n f q) ∙ sym (add-mul (sum_below n f) (f n) q)
 
 -- ---- its order
 pub sum_below-le : (n : ℕ) (f g : ℕ → ℤ) → ((k : ℕ) → k < n → f k ≤ℤ g k) → sum_below n f ≤ℤ sum_below n g
@@ -50,8 +47,7 @@ sum_below-le (suc n) f g h =
     add-le-add (sum_below n f) (sum_below n g) (f n) (g n) (sum_below-le n f g (λ k l. h k (omega arith))) (h n (omega arith))
 
 pub sum_below_nonneg : (n : ℕ) (f : ℕ → ℤ) → ((k : ℕ) → k < n → pos 0 ≤ℤ f k) → pos 0 ≤ℤ sum_below n f
-sum_below_nonneg n f h =
-    subst (λ x. x ≤ℤ sum_below n f) (sum_below-zero n (λ k. pos 0) (λ k l. refl)) (sum_below-le n (λ k. pos 0) f h)
+sum_below_nonneg n f h = subst (λ x. x ≤ℤ sum_below n f) (sum_below-zero n (λ k. pos 0) (λ k l. refl)) (sum_below-le n (λ k. pos 0) f h)
 
 -- a term of a sum of terms that are not negative is at most the sum
 pub term-le-sum_below : (n : ℕ) (f : ℕ → ℤ) (k : ℕ) → k < n → ((j : ℕ) → j < n → pos 0 ≤ℤ f j) → f k ≤ℤ sum_below n f
@@ -117,8 +113,7 @@ sum_below-pair (suc n) f i j h l apart none = ⊎_elim
     (below_or_last n i h)
 
 -- two sums change places
-pub sum_below-swap : (m n : ℕ) (f : ℕ → ℕ → ℤ)
-    → sum_below m (λ i. sum_below n (λ j. f i j)) ≡ sum_below n (λ j. sum_below m (λ i. f i j))
+pub sum_below-swap : (m n : ℕ) (f : ℕ → ℕ → ℤ) → sum_below m (λ i. sum_below n (λ j. f i j)) ≡ sum_below n (λ j. sum_below m (λ i. f i j))
 sum_below-swap zero n f = sym (sum_below-zero n (λ j. pos 0) (λ j l. refl))
 sum_below-swap (suc m) n f =
     ap (λ x. x +ℤ sum_below n (λ j. f m j)) (sum_below-swap m n f)

@@ -40,8 +40,7 @@ all_below-at (suc n) test h k l =
 
 pub all_below-from : (n : ℕ) (test : ℕ → Bool) → ((k : ℕ) → k < n → IsTrue (test k)) → IsTrue (all_below n test)
 all_below-from zero test h = refl
-all_below-from (suc n) test h =
-    and_from (test n) (all_below n test) (h n (omega arith)) (all_below-from n test (λ k l. h k (omega arith)))
+all_below-from (suc n) test h = and_from (test n) (all_below n test) (h n (omega arith)) (all_below-from n test (λ k l. h k (omega arith)))
 
 pub any_below-at : (n : ℕ) (test : ℕ → Bool) → IsTrue (any_below n test) → (k : ℕ) × (k < n) × IsTrue (test k)
 any_below-at zero test h = absurd (grind arith)

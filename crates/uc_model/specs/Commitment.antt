@@ -83,8 +83,7 @@ stop_cap unit on t = (unit.pmax -ℤ unit.pmin) *ℤ bit (on t) -ℤ stop_reduct
 
 -- the cap of a cell: the least of the right sides of M9 and M10
 abbrev pub cap : ℕ → Thermal → Commitment → ℕ → ℤ
-cap periods unit on t =
-    if nat_lt (suc t) periods then int_min (start_cap unit on t) (stop_cap unit on t) else start_cap unit on t
+cap periods unit on t = if nat_lt (suc t) periods then int_min (start_cap unit on t) (stop_cap unit on t) else start_cap unit on t
 
 -- what an allowed pattern keeps in period t: M1 to M5, and a cap of at least 0 where it is on
 abbrev pub is_allowed_at : ℕ → Thermal → Commitment → ℕ → Bool

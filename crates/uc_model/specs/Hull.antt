@@ -21,8 +21,7 @@ is_above_line points i j l = int_le (rise points i j *ℤ run points i l) (rise 
 
 -- the line from point i to point j, right of it, is a segment of the lower hull: no point lies below it
 abbrev pub is_hull_segment : List Point → ℕ → ℕ → Bool
-is_hull_segment points i j =
-    int_lt (pos 0) (run points i j) && all_below (length points) (is_above_line points i j)
+is_hull_segment points i j = int_lt (pos 0) (run points i j) && all_below (length points) (is_above_line points i j)
 
 -- where all points have one output, the hull is a cheapest one of them, a segment of width 0
 abbrev pub is_hull_point : List Point → ℕ → Bool

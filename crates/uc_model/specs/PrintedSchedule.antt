@@ -105,8 +105,7 @@ printed_schedule instance printed q =
 
 -- what a cell is printed to cost: the hull's value rounded up where it is on, and its category's cost
 abbrev pub printed_cell_cost : Thermal → ℕ → Cell → ℤ
-printed_cell_cost unit d cell =
-    (if cell.on then hull_cost unit.points d cell.p else pos 0) +ℤ category_cost unit cell.category
+printed_cell_cost unit d cell = (if cell.on then hull_cost unit.points d cell.p else pos 0) +ℤ category_cost unit cell.category
 
 -- what the shortages of period t are printed to cost, A*s/d and B*e/d, each rounded up
 abbrev pub printed_shortage_cost : Instance → Printed → ℕ → ℤ

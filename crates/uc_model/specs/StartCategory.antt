@@ -48,8 +48,7 @@ is_category_allowed unit on (suc s) t =
 
 -- M6: an allowed category at a start, and none elsewhere
 abbrev pub category_holds_at : Thermal → Commitment → (ℕ → ℕ) → ℕ → Bool
-category_holds_at unit on category t =
-    if starts unit on t then is_category_allowed unit on (category t) t else category t == 0
+category_holds_at unit on category t = if starts unit on t then is_category_allowed unit on (category t) t else category t == 0
 
 -- the last stop in a period before t
 abbrev pub last_stop : Thermal → Commitment → ℕ → Option ℕ

@@ -20,8 +20,7 @@ any_below (suc n) test = test n || any_below n test
 -- the least of `other` and of the values f i at the indexes i below n that pass the test
 abbrev pub least_below : ℕ → (ℕ → Bool) → (ℕ → ℤ) → ℤ → ℤ
 least_below zero test f other = other
-least_below (suc n) test f other =
-    if test n then int_min (f n) (least_below n test f other) else least_below n test f other
+least_below (suc n) test f other = if test n then int_min (f n) (least_below n test f other) else least_below n test f other
 
 -- 1 where the test holds, else 0
 abbrev pub bit : Bool → ℤ

@@ -80,8 +80,7 @@ may_cost-gap unit gap t s h =
     ∙ (λ i. may_cost_as unit None t s || ((nat_lt gap (lag-next unit s i) && nat_le (lag-next unit s i) (suc t)) && nat_lt (lag-own unit s i) (lag-next unit s i)))
 
 -- ---- all of them
-pub sigma-gap : (unit : Thermal) (gap t : ℕ) → gap ≤ t
-    → sigma unit (Some (t - gap)) t
+pub sigma-gap : (unit : Thermal) (gap t : ℕ) → gap ≤ t → sigma unit (Some (t - gap)) t
     ≡ least_below (category_count unit - 1) (λ s. is_within_lags unit.startup s gap t) (λ s. (row_of unit.startup s).cost) (sigma unit None t)
 sigma-gap unit gap t h =
     least-test (category_count unit - 1) (may_cost_as unit (Some (t - gap)) t) (λ s. may_cost_as unit None t s || is_within_lags unit.startup s gap t)

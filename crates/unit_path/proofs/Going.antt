@@ -49,16 +49,14 @@ pub start_total-end : (terms : Terms) (unit : Thermal) (fix : Fix) (since t : �
 start_total-end terms unit fix since t h = cond-true _ _ _ (eq-eqb t (period_count terms) h)
 
 -- a unit that is on stays on or stops, and one that is off starts or rests
-pub on-step : (terms : Terms) (unit : Thermal) (fix : Fix) (since t : ℕ) → t < period_count terms
-    → to_go terms unit fix t true since
+pub on-step : (terms : Terms) (unit : Thermal) (fix : Fix) (since t : ℕ) → t < period_count terms → to_go terms unit fix t true since
     ≡ lesser_of (total_of (move terms unit fix t true since true) (to_go terms unit fix (suc t) true since)) (stop_cost terms unit fix since t)
 on-step terms unit fix since t h =
     to_go-step terms unit fix t h true since
     ∙ ap (lesser_of (total_of (move terms unit fix t true since true) (to_go terms unit fix (suc t) true since)))
     (sym (stop_cost-at terms unit fix since t h))
 
-pub off-step : (terms : Terms) (unit : Thermal) (fix : Fix) (since t : ℕ) → t < period_count terms
-    → to_go terms unit fix t false since
+pub off-step : (terms : Terms) (unit : Thermal) (fix : Fix) (since t : ℕ) → t < period_count terms → to_go terms unit fix t false since
     ≡ lesser_of (start_total terms unit fix since t) (total_of (move terms unit fix t false since false) (to_go terms unit fix (suc t) false since))
 off-step terms unit fix since t h =
     to_go-step terms unit fix t h false since

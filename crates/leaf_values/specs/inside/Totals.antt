@@ -28,8 +28,7 @@ part_of entry = value_of entry +ℤ entry.constant
 
 -- what a unit adds, or nothing where it has no value
 abbrev pub IsPart : UnitEntry → Option ℤ → Type 0
-IsPart entry part =
-    MatchOption part (entry.value ≡ None) (λ p. (entry.value ≡ Some (value_of entry)) × (p ≡ part_of entry))
+IsPart entry part = MatchOption part (entry.value ≡ None) (λ p. (entry.value ≡ Some (value_of entry)) × (p ≡ part_of entry))
 
 -- each of the first n units has a value, and this is what they add to what doesn't hang on them
 pub record IsTotal (entries : TableEntries) (n : ℕ) (v : ℤ) : Type 0 where

@@ -20,15 +20,13 @@ longer_of cost (Some choice) = Some (record { cost = cost +ℤ choice.cost; at =
 
 -- a choice is the one that was known, or a switch in period `at` of this cost
 abbrev pub IsOneOf : Option Choice → Option ℤ → ℕ → Option Choice → Type 0
-IsOneOf known cost at choice =
-    (choice ≡ known) ⊎ ((v : ℤ) × (cost ≡ Some v) × (choice ≡ Some (record { cost = v; at = at })))
+IsOneOf known cost at choice = (choice ≡ known) ⊎ ((v : ℤ) × (cost ≡ Some v) × (choice ≡ Some (record { cost = v; at = at })))
 
 -- ---- runs
 -- what it costs to stay on, since `since`, in the n periods from t on: the hours before these
 abbrev pub stays : Terms → Thermal → Fix → ℕ → ℕ → ℕ → Option ℤ
 stays terms unit fix since t zero = Some (pos 0)
-stays terms unit fix since t (suc n) =
-    total_of (stays terms unit fix since t n) (move terms unit fix (t + n) true since true)
+stays terms unit fix since t (suc n) = total_of (stays terms unit fix since t n) (move terms unit fix (t + n) true since true)
 
 -- what a stop in period t costs with all that follows; at the end of the horizon the last hour alone
 abbrev pub stop_cost : Terms → Thermal → Fix → ℕ → ℕ → Option ℤ

@@ -11,8 +11,7 @@ pub use Rattle.unit_path.specs.declared.hour.Hour.{Hour}
 -- what it costs a unit that is on to stay on in period t, and to stop in it where it has been on for long enough, by
 -- whether the hour before was a start
 abbrev pub stay_cost : Terms → Thermal → Fix → ℕ → Bool → Option ℤ
-stay_cost terms unit fix t start =
-    if may_be_on fix t && holds_initially unit t false then hour_before terms unit t start false else None
+stay_cost terms unit fix t start = if may_be_on fix t && holds_initially unit t false then hour_before terms unit t start false else None
 
 abbrev pub leave_cost : Terms → Thermal → Fix → ℕ → Bool → Option ℤ
 leave_cost terms unit fix t start =
@@ -31,8 +30,7 @@ IsCold unit since t = (k : ℕ) → t ≤ k → sigma unit (stop_since since) k 
 
 -- the least way of a unit that is on before period t since an earlier one, and may stop from t on
 abbrev pub IsOnward : Terms → Thermal → Fix → ℕ → Option Choice → Type 0
-IsOnward terms unit fix t choice =
-    (since : ℕ) → since < t → may_stop unit since t ≡ true → IsLeastStop terms unit fix since t choice
+IsOnward terms unit fix t choice = (since : ℕ) → since < t → may_stop unit since t ≡ true → IsLeastStop terms unit fix since t choice
 
 -- the least way of a unit that is off before period t, may start from t on, and has cold starts from t on
 abbrev pub IsColdStart : Terms → Thermal → Fix → ℕ → Option Choice → Type 0

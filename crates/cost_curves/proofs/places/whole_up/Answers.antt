@@ -21,8 +21,7 @@ size c =
     between-size c.ceil_div.result c.args.p.now _ between.0 between.1 c.requires.size
 
 same : (c : goal.After-ceil_div) → to_z w64 (of_z w64 (to_z w128 (of_z w128 c.ceil_div.result))) ≡ c.ceil_div.result
-same c =
-    ap (λ z. to_z w64 (of_z w64 z)) (wide c.ceil_div.result _ (size c) (lit< tt)) ∙ narrow c.ceil_div.result _ (size c) (lit< tt)
+same c = ap (λ z. to_z w64 (of_z w64 z)) (wide c.ceil_div.result _ (size c) (lit< tt)) ∙ narrow c.ceil_div.result _ (size c) (lit< tt)
 
 pub overflow_cast-result : goal.overflow_cast-result
 overflow_cast-result c =

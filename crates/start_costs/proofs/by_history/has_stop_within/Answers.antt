@@ -7,8 +7,7 @@ use Rattle.uc_model.specs.Sums.{any_below}
 use Rattle.uc_model.proofs.Tests.{any_below-from}
 use Rattle.start_costs.proofs.by_history.has_stop_within.Goals as goal
 
-found_in : (from to i : ℕ) (test : ℕ → Bool) → from ≤ i → i < to → IsTrue (test i)
-    → IsTrue (any_below to (λ k. nat_le from k && test k))
+found_in : (from to i : ℕ) (test : ℕ → Bool) → from ≤ i → i < to → IsTrue (test i) → IsTrue (any_below to (λ k. nat_le from k && test k))
 found_in from to i test low high h =
     any_below-from to (λ k. nat_le from k && test k) i high (and_from (nat_le from i) (test i) (le-leb from i low) h)
 

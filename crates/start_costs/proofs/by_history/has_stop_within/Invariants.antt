@@ -5,5 +5,4 @@ use Rattle.uc_model.specs.PatternBits.{commitment_of}
 use Rattle.start_costs.proofs.by_history.has_stop_within.Given as goal
 
 abbrev pub invariant-loop-i : goal.invariant-loop-i
-invariant-loop-i l =
-    (k : ℕ) → l.from ≤ k → k < l.i → stops l.unit (commitment_of l.pattern) (l.t - k) ≡ false
+invariant-loop-i l = (k : ℕ) → l.from ≤ k → k < l.i → stops l.unit (commitment_of l.pattern) (l.t - k) ≡ false

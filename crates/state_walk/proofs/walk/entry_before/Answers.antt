@@ -11,8 +11,7 @@ along : (a b : Option ℤ) → a ≡ b → IsWithin MAX_COST_TO_GO b → IsWithi
 along a b e h = subst (λ x. IsWithin MAX_COST_TO_GO x) (sym e) h
 
 -- the entry of one period more
-entry-suc : (terms : Terms) (unit : Thermal) (fix : Fix) (n m t since : ℕ) → m ≡ suc n
-    → (on off : Option ℤ)
+entry-suc : (terms : Terms) (unit : Thermal) (fix : Fix) (n m t since : ℕ) → m ≡ suc n → (on off : Option ℤ)
     → on ≡ lesser_of (total_of (move terms unit fix t true since true) (cost_to_go terms unit fix n (suc t) true since))
     (total_of (move terms unit fix t true since false) (cost_to_go terms unit fix n (suc t) false (suc t)))
     → off ≡ lesser_of (total_of (move terms unit fix t false since true) (cost_to_go terms unit fix n (suc t) true (suc t)))

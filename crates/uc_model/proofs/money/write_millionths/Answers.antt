@@ -22,8 +22,7 @@ length-put_mid at long bytes part room same =
     )
 
 -- two parts and a byte between them, written behind what stood before
-written : (out whole decimals : List ℕ) (start : ℕ)
-    → start + length whole + 7 ≤ length out → length decimals ≡ 6
+written : (out whole decimals : List ℕ) (start : ℕ) → start + length whole + 7 ≤ length out → length decimals ≡ 6
     → take (start + length whole + 7)
     (put_mid (start + length whole + 1) (start + length whole + 7 - (start + length whole + 1))
     (set (put_mid start (start + length whole - start) out whole) (start + length whole) 46) decimals)

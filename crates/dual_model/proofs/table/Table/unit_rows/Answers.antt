@@ -8,8 +8,7 @@ use Rattle.dual_model.proofs.table.Table.unit_rows.Goals as goal
 
 -- the next unit's place is no earlier
 in_order : (rows : List RampRow) (g start end : ℕ) → start ≡ rows_before rows g → end ≡ rows_before rows (g + 1) → start ≤ end
-in_order rows g start end first next =
-    omega (arith, before-next rows g, first, next ∙ ap (λ g. rows_before rows g) (add-one g))
+in_order rows g start end first next = omega (arith, before-next rows g, first, next ∙ ap (λ g. rows_before rows g) (add-one g))
 
 part : (rows from : List RampRow) (g start end : ℕ) → start ≡ rows_before rows g → end ≡ rows_before rows (g + 1) → from ≡ rows
     → take (end - start) (drop start from) ≡ rows_of rows g
@@ -17,8 +16,7 @@ part rows from g start end first next same =
     λ i. take ((next ∙ ap (λ g. rows_before rows g) (add-one g)) i - first i) (drop (first i) (same i))
 
 pub slice_bounds-result-count : goal.slice_bounds-result-count
-slice_bounds-result-count c =
-    in_order c.args.self.now.ramps c.args.g _ _ c.place-start.ensures.value c.place-end.ensures.value
+slice_bounds-result-count c = in_order c.args.self.now.ramps c.args.g _ _ c.place-start.ensures.value c.place-end.ensures.value
 
 pub slice_bounds-result-start : goal.slice_bounds-result-start
 slice_bounds-result-start c =
