@@ -226,6 +226,7 @@ certificate_holds instance found accepted cover lawful within stored true_claim 
   periods = refl;
   thermal = refl;
   renewable = refl;
+  penalty = (refl, refl);
   tables = written_lawful instance found lawful within;
   tree = covered instance (used_tables (tree_of found.tree)) root (tree_of found.tree) cover;
   schedule = schedule_holds instance found.schedule accepted;
