@@ -4,7 +4,7 @@ use Rattle.std.specs.Prelude.{◌≡◌, ℕ, ◌<◌, false, List, ℤ, IsTrue,
 use Rattle.uc_model.specs.Commitment.{starts}
 use Rattle.uc_model.specs.StartCategory.{category_cost}
 use Rattle.uc_model.specs.Schedule.{thermal_unit, thermal_count, renewable_count, demand_at, reserve_at}
-use Rattle.uc_model.specs.PrintedSchedule.{cell_at}
+use Rattle.uc_model.specs.PrintedSchedule.{cell_at, shed_at, short_at}
 pub use Rattle.uc_model.specs.declared.instance.Instance.{Instance}
 pub use Rattle.uc_model.specs.declared.pattern.Pattern.{Pattern}
 pub use Rattle.uc_model.specs.declared.schedule.Cell.{Cell}
@@ -12,6 +12,7 @@ pub use Rattle.uc_model.specs.declared.schedule.Printed.{Printed}
 use Rattle.start_costs.specs.Cheapest.{IsCheapestAbove}
 use Rattle.schedule_check.specs.SizedNumbers.{output_at}
 use Rattle.dispatch_repair.specs.Period.{Period, Source, FromRenewable, FromThermal, commitment_at, output_before}
+use Rattle.dispatch_repair.specs.Shortage.{served, shed_of, short_of}
 use Rattle.dispatch_repair.specs.MeritOrder.{IsInMeritOrder, IsReserveInOrder}
 
 -- the schedule has a row for each unit, with a cell for each of the first periods, and what is missing in each, in whole watts
@@ -47,16 +48,20 @@ period_after instance patterns t before = record {
   need = reserve_at instance t;
 }
 
--- cells and outputs of period t: the commitment's, in merit order, with reserve in the order of the file
-pub record IsFilling (instance : Instance) (patterns : List Pattern) (t : ℕ) (before : ℕ → ℤ) (cell : ℕ → Cell) (output : ℕ → ℤ) : Type 0 where
+-- period t of the commitment: what is missing, and of what is served the cells and outputs, in merit order, with reserve in the
+-- order of the file
+pub record IsFilling (instance : Instance) (patterns : List Pattern) (t : ℕ) (before : ℕ → ℤ) (cell : ℕ → Cell) (output : ℕ → ℤ) (shed short : ℤ) : Type 0 where
   pub cells : (g : ℕ) → g < thermal_count instance → IsCommittedCell instance patterns g t (cell g)
-  pub merit : IsInMeritOrder (period_after instance patterns t before) (amounts cell output)
-  pub reserve : IsReserveInOrder (period_after instance patterns t before) (amounts cell output) (λ g. (cell g).r)
+  pub unserved : shed ≡ shed_of (period_after instance patterns t before)
+  pub missing : short ≡ short_of (period_after instance patterns t before)
+  pub merit : IsInMeritOrder (served (period_after instance patterns t before) shed short) (amounts cell output)
+  pub reserve : IsReserveInOrder (served (period_after instance patterns t before) shed short) (amounts cell output) (λ g. (cell g).r)
 
 -- period t of a printed schedule is filled so, from the one before
 abbrev pub IsFilled : Instance → List Pattern → Printed → ℕ → Type 0
 IsFilled instance patterns printed t =
     IsFilling instance patterns t (λ g. output_before instance printed g t) (λ g. cell_at printed g t) (λ w. output_at printed w t)
+    (shed_at printed t) (short_at printed t)
 
 -- the first periods of the dispatch of a commitment
 pub record IsDispatchThrough (instance : Instance) (patterns : List Pattern) (periods : ℕ) (printed : Printed) : Type 0 where

@@ -1,4 +1,5 @@
 pub mod Period
+pub mod Shortage
 pub mod MeritOrder
 pub mod Dispatch
 pub mod Stuck

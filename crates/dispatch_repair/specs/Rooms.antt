@@ -3,7 +3,7 @@
 use Rattle.std.specs.Prelude.{◌≡◌, ◌≢◌, ℕ, ◌<◌, ◌≤◌, List, pos, length, map}
 use Rattle.std.specs.declared.alloc.Global.{Global}
 use Rattle.std.specs.declared.vec.Vec.{Vec}
-use Rattle.uc_model.specs.PrintedSchedule.{cell_at}
+use Rattle.uc_model.specs.PrintedSchedule.{cell_at, shed_at, short_at}
 use Rattle.uc_model.specs.Schedule.{thermal_count}
 use Rattle.uc_model.specs.declared.instance.Instance.{Instance}
 use Rattle.uc_model.specs.declared.pattern.Pattern.{Pattern}
@@ -79,6 +79,8 @@ pub record IsObstacleOf (instance : Instance) (patterns : List Pattern) (printed
 pub record AreSameBelow (periods : ℕ) (old new : Printed) : Type 0 where
   pub cells : (g k : ℕ) → k < periods → cell_at new g k ≡ cell_at old g k
   pub outputs : (w k : ℕ) → k < periods → output_at new w k ≡ output_at old w k
+  pub shed : (k : ℕ) → k < periods → shed_at new k ≡ shed_at old k
+  pub short : (k : ℕ) → k < periods → short_at new k ≡ short_at old k
 
 -- the first periods of a schedule, with their shape
 pub record IsPrefixOf (printed : Printed) (periods : ℕ) (prefix : Printed) : Type 0 where

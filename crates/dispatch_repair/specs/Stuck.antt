@@ -1,7 +1,6 @@
 -- Where a commitment can't be dispatched, and why. Source: the rules of the reference model by Knueven, Ostrowski and Watson; that a
 -- period is filled for itself, and in which order the obstacles are looked for, is this project's own.
-use Rattle.std.specs.Prelude.{◌≡◌, ℕ, ◌<◌, ◌≤◌, ◌⊎◌, List, ℤ, pos, ⊤, ◌-ℤ◌, ◌*ℤ◌, ◌≤ℤ◌, ◌<ℤ◌, IsTrue}
-use Rattle.std.specs.Int.{int_max}
+use Rattle.std.specs.Prelude.{◌≡◌, ℕ, ◌<◌, ◌≤◌, ◌⊎◌, List, ℤ, pos, ⊤, ◌*ℤ◌, ◌≤ℤ◌, ◌<ℤ◌, IsTrue}
 use Rattle.uc_model.specs.Schedule.{Schedule, thermal_unit, thermal_count, p_at, p_before}
 use Rattle.uc_model.specs.Rules.{Rule, rule_number, rule_units, holds_at}
 pub use Rattle.uc_model.specs.declared.stuck.Stuck.{Stuck}
@@ -9,7 +8,8 @@ pub use Rattle.uc_model.specs.declared.stuck.Why.{Why}
 use Rattle.uc_model.specs.declared.stuck.Why.TheVariants as why
 use Rattle.dispatch_repair.specs.declared.schedule.DispatchFault.{DispatchFault}
 use Rattle.dispatch_repair.specs.declared.schedule.DispatchFault.TheVariants as fault
-use Rattle.dispatch_repair.specs.Period.{Instance, Pattern, Printed, Period, FromThermal, commitment_at, output_before, low_of, high_of, heads, thermal_sum, renewable_sum, minimums, total_output, demand_of, need_of}
+use Rattle.dispatch_repair.specs.Period.{Instance, Pattern, Printed, Period, FromThermal, commitment_at, output_before, low_of, high_of, total_output, demand_of, need_of}
+use Rattle.dispatch_repair.specs.Shortage.{greatest_room}
 use Rattle.dispatch_repair.specs.Dispatch.{HasPeriods, IsDispatchThrough, period_after}
 
 -- ---- the rules that come before a dispatch
@@ -51,17 +51,11 @@ pub record IsFirstBrokenRule (instance : Instance) (patterns : List Pattern) (nu
 abbrev pub HaveRanges : Period → ℕ → Type 0
 HaveRanges period n = (g : ℕ) → g < n → low_of period (FromThermal g) ≤ℤ high_of period (FromThermal g)
 
--- the room for reserve: the heads, less the output that the thermal units have to give at least
-abbrev pub reserve_room : Period → ℤ
-reserve_room period =
-    heads period -ℤ int_max (thermal_sum period (low_of period))
-    (demand_of period -ℤ minimums period -ℤ renewable_sum period (high_of period))
-
--- each unit has a range, and demand lies between the least and the most that all give
+-- each unit has a range, and demand lies between the least and the most that all give; or above, where it has a price
 pub record HasBalance (period : Period) : Type 0 where
   pub ranges : HaveRanges period (thermal_count period.instance)
   pub least : total_output period (low_of period) ≤ℤ demand_of period
-  pub most : demand_of period ≤ℤ total_output period (high_of period)
+  pub most : period.instance.a ≡ 0 → demand_of period ≤ℤ total_output period (high_of period)
 
 -- a unit's range is empty, the first one's
 pub record IsBox (period : Period) (g : ℕ) (bottom top : ℤ) : Type 0 where
@@ -78,17 +72,19 @@ pub record IsOver (period : Period) (total wanted : ℤ) : Type 0 where
   pub above : wanted <ℤ total
   pub ranges : HaveRanges period (thermal_count period.instance)
 
--- the most output is below demand
+-- the most output is below demand, which has no price
 pub record IsUnder (period : Period) (total wanted : ℤ) : Type 0 where
+  pub firm : period.instance.a ≡ 0
   pub most : total ≡ total_output period (high_of period)
   pub demand : wanted ≡ demand_of period
   pub below : total <ℤ wanted
   pub ranges : HaveRanges period (thermal_count period.instance)
   pub least : total_output period (low_of period) ≤ℤ demand_of period
 
--- the room for reserve is below what is needed
+-- the room for reserve is below what is needed, and reserve has no price
 pub record IsShort (period : Period) (spare wanted : ℤ) : Type 0 where
-  pub room : spare ≡ reserve_room period
+  pub firm : period.instance.b ≡ 0
+  pub room : spare ≡ greatest_room period
   pub need : wanted ≡ need_of period
   pub below : spare <ℤ wanted
   pub balance : HasBalance period
@@ -104,7 +100,7 @@ IsFirstObstacle period (why.Reserve room need) = IsShort period room need
 -- there is none
 pub record IsFree (period : Period) : Type 0 where
   pub balance : HasBalance period
-  pub reserve : need_of period ≤ℤ reserve_room period
+  pub reserve : period.instance.b ≡ 0 → need_of period ≤ℤ greatest_room period
 
 -- ---- what an obstacle means
 -- a schedule over q that has the commitment, goes on from the period before, and has its outputs inside the ranges
@@ -128,13 +124,13 @@ abbrev pub HasNoDispatch : Period → Type 0
 HasNoDispatch period = (q : ℕ) (x : Schedule) → 1 ≤ q → GoesOn period q x → ¬ KeepsDispatchRules period q x
 
 -- ---- the answer
--- stuck in a period, after those before it were filled. Where nothing may be missing, no dispatch of it obeys
+-- stuck in a period, after those before it were filled; no dispatch of it obeys
 pub record IsStuckInPeriod (instance : Instance) (patterns : List Pattern) (stuck : Stuck) (period : Period) : Type 0 where
   pub regular : IsRegular instance patterns
   pub within : stuck.period < instance.periods
   pub prefix : IsDispatchThrough instance patterns stuck.period stuck.prefix
   pub obstacle : IsFirstObstacle period stuck.why
-  pub impossible : instance.a ≡ 0 → instance.b ≡ 0 → HasNoDispatch period
+  pub impossible : HasNoDispatch period
 
 -- stuck before any period is filled
 pub record IsStuckByRule (instance : Instance) (patterns : List Pattern) (stuck : Stuck) (number unit : ℕ) : Type 0 where
