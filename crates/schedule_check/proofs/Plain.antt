@@ -63,9 +63,23 @@ everywhere P rows past each none i j =
     subst (λ row. P (get_or row j past)) (sym (get_or_past rows i [] after)) (subst P (sym (get_or_past [] j past (omega arith))) none))
     (cases_lt i (length rows))
 
+-- likewise of one list
+abbrev pub AreLimits : List ℤ → Type 0
+AreLimits numbers = (t : ℕ) → t < length numbers → IsLimit (get_or numbers t (pos 0))
+
+limits_everywhere : (numbers : List ℤ) → AreLimits numbers → (t : ℕ) → IsLimit (get_or numbers t (pos 0))
+limits_everywhere numbers each t =
+    ⊎_elim
+    (λ (place : t < length numbers). each t place)
+    (λ (after : length numbers ≤ t). subst IsLimit (sym (get_or_past numbers t (pos 0) after)) no_output-plain)
+    (cases_lt t (length numbers))
+
 -- a schedule has plain numbers where each of its own is plain
-pub plain : (printed : Printed) → OfEach IsPlainCell no_cell printed.thermal → OfEach IsLimit (pos 0) printed.renewable → HasPlainNumbers printed
-plain printed cells outputs = record {
+pub plain : (printed : Printed) → OfEach IsPlainCell no_cell printed.thermal → OfEach IsLimit (pos 0) printed.renewable
+    → AreLimits printed.shed → AreLimits printed.short → HasPlainNumbers printed
+plain printed cells outputs shed short = record {
   cells = everywhere IsPlainCell printed.thermal no_cell cells no_cell-plain;
   outputs = everywhere IsLimit printed.renewable (pos 0) outputs no_output-plain;
+  shed = limits_everywhere printed.shed shed;
+  short = limits_everywhere printed.short short;
 }

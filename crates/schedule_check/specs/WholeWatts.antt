@@ -216,3 +216,7 @@ pub record HasPriceBy (measure : ℤ → ℤ) (unit : Thermal) (cell : Cell) : T
 
 abbrev pub HasPrice : Thermal → Cell → Type 0
 HasPrice = HasPriceBy whole
+
+-- a schedule of which only what is missing is told, over a denominator
+abbrev pub lacking_alone : ℕ → List ℤ → List ℤ → Printed
+lacking_alone denominator shed short = record { thermal = []; renewable = []; shed = shed; short = short; denominator = denominator }

@@ -22,5 +22,5 @@ mod unit_rules;
 
 pub use broken::Broken;
 pub use feasibility::{check, cost};
-pub use pricing::row_cost;
+pub use pricing::{row_cost, shortages_cost};
 pub use unit_rules::broken_rule;

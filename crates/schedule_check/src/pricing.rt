@@ -9,7 +9,7 @@ ghost use Rattle.uc_model.specs.Schedule.{thermal_count, thermal_unit};
 ghost use Rattle.uc_model.specs.StartCategory.{category_cost as category_cost_of, category_count};
 ghost use Rattle.uc_model.specs.Sums.{sum_below};
 ghost use Rattle.cost_curves.specs.LowerHull.{IsLowerHull};
-ghost use Rattle.schedule_check.specs.WholeWatts.{HasPrice, HasPriceBy, cell as cell_of, over, width};
+ghost use Rattle.schedule_check.specs.WholeWatts.{HasPrice, HasPriceBy, cell as cell_of, lacking_alone, over, width};
 ghost use Rattle.schedule_check.specs.inside.Known.{IsKnownOn};
 
 use cost_curves::InlineCurve;
@@ -37,7 +37,12 @@ pub(crate) fn printed_cost(instance: &Instance, printed: &Printed) -> i128
 {
     sum(
         units_cost(instance, printed),
-        shortages_cost(instance, printed),
+        shortages_cost(
+            printed.denominator,
+            instance,
+            printed.shed.as_slice(),
+            printed.short.as_slice(),
+        ),
     )
 }
 
@@ -179,31 +184,34 @@ fn output_cost(
     }
 }
 
-// What is missing of demand and reserve costs.
-fn shortages_cost(instance: &Instance, printed: &Printed) -> i128
+/// What costs, in micro-dollars, what is missing of demand and reserve in each period, in numerators over the denominator.
+pub fn shortages_cost(denominator: u8, instance: &Instance, shed: &[i64], short: &[i64]) -> i128
     requires lawful { IsLawfulInstance instance.now }
-    requires shape { HasShapeOf instance.now printed.now }
-    ensures value { result ≡ sum_below instance.now.periods (printed_shortage_cost instance.now printed.now) }
+    requires denominator { 1 ≤ denominator }
+    requires shed { length shed.now ≡ instance.now.periods }
+    requires short { length short.now ≡ instance.now.periods }
+    ensures value { result ≡ sum_below instance.now.periods (printed_shortage_cost instance.now (lacking_alone denominator shed.now short.now)) }
     ensures size { unsigned_abs result ≤ MOST_PERIODS * (2 * MOST_MISSING_COST) }
 {
     let mut total = 0;
     for t in 0..instance.periods as usize {
-        total = sum(total, shortage_cost(instance, printed, t));
+        total = sum(
+            total,
+            shortage_cost(denominator, instance, &shed[t], &short[t]),
+        );
     }
     total
 }
 
-// What it costs in period t.
-fn shortage_cost(instance: &Instance, printed: &Printed, t: usize) -> i128
-    requires shape { HasShapeOf instance.now printed.now }
-    requires period { t < instance.now.periods }
-    ensures value { result ≡ printed_shortage_cost instance.now printed.now t }
+// What it costs in a period.
+fn shortage_cost(denominator: u8, instance: &Instance, shed: &i64, short: &i64) -> i128
+    requires { 1 ≤ denominator }
+    ensures value { result ≡ quotient_up (pos instance.now.a *ℤ shed.now) (pos denominator) +ℤ quotient_up (pos instance.now.b *ℤ short.now) (pos denominator) }
     ensures size { unsigned_abs result ≤ 2 * MOST_MISSING_COST }
 {
-    let denominator = printed.denominator;
     sum(
-        missing_cost(denominator, instance.a, &printed.shed.as_slice()[t]),
-        missing_cost(denominator, instance.b, &printed.short.as_slice()[t]),
+        missing_cost(denominator, instance.a, shed),
+        missing_cost(denominator, instance.b, short),
     )
 }
 

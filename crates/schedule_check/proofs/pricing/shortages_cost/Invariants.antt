@@ -2,11 +2,12 @@
 use Rattle.std.proofs.Common.{◌≡◌, ◌*◌, ◌≤◌, unsigned_abs}
 use Rattle.uc_model.specs.Sums.{sum_below}
 use Rattle.uc_model.specs.PrintedSchedule.{printed_shortage_cost}
+use Rattle.schedule_check.specs.WholeWatts.{lacking_alone}
 use Rattle.schedule_check.specs.declared.pricing.TheConstants.{MOST_MISSING_COST}
 use Rattle.schedule_check.proofs.pricing.shortages_cost.Given as goal
 
 abbrev pub invariant-loop-t : goal.invariant-loop-t
 invariant-loop-t l = record {
-  value : l.total ≡ sum_below l.t (printed_shortage_cost l.instance l.printed);
+  value : l.total ≡ sum_below l.t (printed_shortage_cost l.instance (lacking_alone l.denominator l.shed l.short));
   size : unsigned_abs l.total ≤ l.t * (2 * MOST_MISSING_COST);
 }
