@@ -191,7 +191,7 @@ pub fn shortages_cost(denominator: u8, instance: &Instance, shed: &[i64], short:
     requires shed { length shed.now ≡ instance.now.periods }
     requires short { length short.now ≡ instance.now.periods }
     ensures value { result ≡ sum_below instance.now.periods (printed_shortage_cost instance.now (lacking_alone denominator shed.now short.now)) }
-    ensures size { unsigned_abs result ≤ MOST_PERIODS * (2 * MOST_MISSING_COST) }
+    ensures size { unsigned_abs result ≤ 168 * 2 ^ 96 }
 {
     let mut total = 0;
     for t in 0..instance.periods as usize {
