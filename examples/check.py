@@ -1,12 +1,14 @@
 #!/usr/bin/env python3
 """Checks a certificate of `uc` as docs/CHECKER.md tells it, and shares no code with the program.
 
-    examples/check.py INSTANCE CERTIFICATE
+    examples/check.py [--shed PRICE] [--spill-reserve PRICE] INSTANCE CERTIFICATE
 
-Prints the claim and ends with 0 where the certificate holds. Else it says why on the error output, by the line and the status of
-`uc check`; of bytes that are no JSON it tells no place. It needs Python 3.8 or later and nothing else. Numbers are whole: watts,
-micro-dollars, hours. Units, periods, tables and nodes count from 1.
+The prices are those of unserved demand and of missing reserve that `uc solve` was given. Prints the claim and ends with 0 where the
+certificate holds. Else it says why on the error output, by the line and the status of `uc check`; of bytes that are no JSON it tells no
+place. It needs Python 3.8 or later and nothing else. Numbers are whole: watts, micro-dollars, hours. Units, periods, tables and nodes
+count from 1.
 """
+import argparse
 import json
 import re
 import sys
@@ -14,12 +16,34 @@ from math import inf
 from types import SimpleNamespace as Record
 
 MILLION = 10**6
+USAGE = "usage: check.py [--shed PRICE] [--spill-reserve PRICE] INSTANCE CERTIFICATE"
 
 
 class Refused(Exception):
     def __init__(self, status, line):
         super().__init__(line)
         self.status = status
+
+
+class Words(argparse.ArgumentParser):
+    def error(self, _):
+        raise Refused(5, USAGE)
+
+
+def price_of(text):
+    """A price of what is short, in dollars a megawatt-hour, which are micro-dollars for a watt and an hour."""
+    if not re.fullmatch("[0-9]{1,7}", text) or not 1 <= int(text) <= MILLION:
+        raise ValueError(text)
+    return int(text)
+
+
+def words_of(words):
+    parser = Words(add_help=False, allow_abbrev=False)
+    for option in ("--shed", "--spill-reserve"):
+        parser.add_argument(option, type=price_of, default=0)
+    for name in ("instance", "certificate"):
+        parser.add_argument(name)
+    return parser.parse_args(words)
 
 
 # The instance: FORMATS.md, "Numbers" and "The instance"
@@ -162,6 +186,14 @@ def instance_of(value):
         renewable=top.units("renewable_generators", "renewable", renewable_of))
 
 
+def penalize(instance, shed, spill_reserve):
+    """Sets the prices of unserved demand and of missing reserve, 0 where there is none, and the most of each that a period may have."""
+    instance.prices = shed, spill_reserve
+    instance.most_short = [max(it, 0) for it in instance.demand], [max(it, 0) for it in instance.reserves]
+    if sum(it * sum(most) for it, most in zip(instance.prices, instance.most_short)) > 2 * 10**18:
+        refuse_instance("I9", "")
+
+
 def json_of(data):
     """The JSON value of the bytes: UTF-8, at most 64 levels, no key twice, no surrogate by itself."""
     def object_of(pairs):
@@ -237,6 +269,20 @@ def cells_of(lines, periods):
     return [None if it == "-" else tuple(map(int, it.split(":"))) for it in cells]
 
 
+def watts_of(lines, word, periods):
+    return lines.take(f"{word}(?: {WATT}){{{periods}}}")[1:]
+
+
+def prices_of(lines):
+    """The prices, 0 where there is no such line, and the words of the line behind."""
+    def are_prices(word, *rest):
+        return word != "penalty" or max(rest) <= MILLION and any(rest)
+
+    schedule = f"schedule (?:none|{MONEY})"
+    words = lines.take(f"penalty {WHOLE} {WHOLE}|{schedule}", are_prices)
+    return ((0, 0), words) if words[0] == "schedule" else (tuple(words[1:]), lines.take(schedule))
+
+
 def table_of(lines, units, periods):
     _, scale = lines.take(f"table {WHOLE}")
     _, *pi = lines.take(f"pi(?: {SIGNED}){{{periods}}}")
@@ -271,11 +317,12 @@ def certificate_of(data):
     read = Record(size=(periods, units, renewables), cost=None)
     claim = lines.take(f"claim bound {MONEY}|claim infeasible")
     read.bound = micro_dollars(claim[2]) if claim[1] == "bound" else None
-    _, written = lines.take(f"schedule (?:none|{MONEY})")
+    read.prices, (_, written) = prices_of(lines)
     if written != "none":
         read.cost = micro_dollars(written)
         read.cells = [cells_of(lines, periods) for _ in range(units)]
-        read.outputs = [lines.take(f"w(?: {WATT}){{{periods}}}")[1:] for _ in range(renewables)]
+        read.outputs = [watts_of(lines, "w", periods) for _ in range(renewables)]
+        read.shortages = [watts_of(lines, word, periods) if any(read.prices) else [0] * periods for word in "de"]
     read.tables = [table_of(lines, units, periods) for _ in range(tables)]
     read.nodes = nodes_of(lines, units, periods, tables)
     lines.end()
@@ -378,11 +425,15 @@ def broken_rules(instance, certificate, courses):
     for n, (unit, outputs) in enumerate(zip(instance.renewable, certificate.outputs), 1):
         ranges = zip(periods, unit.least, outputs, unit.most)
         yield from (f"M13 renewable {n} period {t}" for t, least, output, most in ranges if not least <= output <= most)
+    shed, short = certificate.shortages
     for t in periods:
         output = sum(it.p[t] + it.unit.pmin * it.u[t] for it in courses) + sum(it[t - 1] for it in certificate.outputs)
-        if output != instance.demand[t - 1]:
+        if output + shed[t - 1] != instance.demand[t - 1]:
             yield f"M14 period {t}"
-    yield from (f"M15 period {t}" for t in periods if sum(it.r[t] for it in courses) < instance.reserves[t - 1])
+    yield from (f"M15 period {t}" for t in periods if sum(it.r[t] for it in courses) + short[t - 1] < instance.reserves[t - 1])
+    for rule, price, shortage, most in zip(("M16", "M17"), instance.prices, certificate.shortages, instance.most_short):
+        limits = most if price else [0] * instance.periods
+        yield from (f"{rule} period {t}" for t, amount, limit in zip(periods, shortage, limits) if not 0 <= amount <= limit)
 
 
 def printed_cost(course):
@@ -470,6 +521,9 @@ class PricedInstance:
         self.units, self.kept = [PricedUnit(unit, g, table) for g, unit in enumerate(instance.thermal, 1)], {}
         self.rest = sum(pi * d + mu * r for pi, mu, d, r in zip(table.pi, table.mu, instance.demand, instance.reserves))
         self.rest += sum(it.constant for it in self.units)
+        for price, multipliers, most in zip(instance.prices, (table.pi, table.mu), instance.most_short):
+            if price:
+                self.rest += sum(min(0, table.scale * price - it) * limit for it, limit in zip(multipliers, most))
         for it in instance.renewable:
             self.rest -= sum(pi * (most if pi > 0 else least) for pi, least, most in zip(table.pi, it.least, it.most))
 
@@ -509,6 +563,7 @@ def check_schedule(instance, certificate):
     if broken:
         refuse("C2", broken)
     computed = sum(map(printed_cost, courses))
+    computed += sum(price * sum(amounts) for price, amounts in zip(instance.prices, certificate.shortages))
     if computed != certificate.cost:
         refuse("C3", f"written {money(certificate.cost)} computed {money(computed)}")
 
@@ -557,6 +612,8 @@ def check(instance, certificate):
     """The lines of a yes."""
     if certificate.size != (instance.periods, len(instance.thermal), len(instance.renewable)):
         refuse("C9")
+    if certificate.prices != instance.prices:
+        refuse("C10")
     check_tables(certificate.tables)
     if certificate.cost is not None:
         check_schedule(instance, certificate)
@@ -579,13 +636,13 @@ def bytes_of(name, what):
 
 
 def verdict(words):
-    if len(words) != 2:
-        raise Refused(5, "usage: check.py INSTANCE CERTIFICATE")
-    data = bytes_of(words[0], "instance")
+    given = words_of(words)
+    data = bytes_of(given.instance, "instance")
     if len(data) > 2**26:
         raise Refused(4, f"instance: more than {2**26} bytes")
     instance = instance_of(json_of(data))
-    return check(instance, certificate_of(bytes_of(words[1], "certificate")))
+    penalize(instance, given.shed, given.spill_reserve)
+    return check(instance, certificate_of(bytes_of(given.certificate, "certificate")))
 
 
 def main():

@@ -127,42 +127,120 @@ CHANGED_INSTANCES = [
 ]
 
 
-def changed(name, old, new):
+SHED, BOTH = "--shed 100", "--shed 100 --spill-reserve 20"
+
+# `short.json` beside a certificate of it, checked with options; each change of the certificate is a text and what stands there instead.
+WITH_PRICES = [
+    (SHED, "short", [], "accepted cost 1950.000000 bound 1950.000000"),
+    ("--shed=100", "short", [], "accepted cost 1950.000000 bound 1950.000000"),
+    (BOTH, "short_of_both", [], "accepted cost 1600.000000 bound 1600.000000"),
+    # the prices
+    ("", "short", [], "certificate: C10"),
+    ("--shed 99", "short", [], "certificate: C10"),
+    ("--spill-reserve 100", "short", [], "certificate: C10"),
+    (BOTH, "short", [], "certificate: C10"),
+    (SHED, "short_of_both", [], "certificate: C10"),
+    (SHED, "short", [("penalty 100 0\n", ""), ("d 15000000\ne 0\n", "")], "certificate: C10"),
+    (SHED, "short", [("size 1 1 0", "size 2 1 0"), ("0:0\nd", "0:0 -\nd"), ("d 15000000\ne 0", "d 15000000 0\ne 0 0"),
+                     ("100000000", "0 0"), ("90000000", "0 0")], "certificate: C9"),
+    ("--shed 99", "short", [("pi 1", "pi 900000000")], "certificate: C10"),
+    (SHED, "short", [("pi 1", "pi 900000000")], "certificate: C1 table 1"),
+    ("--shed 200000000", "short", [], check.USAGE),
+    ("--shed 0", "short", [], check.USAGE),
+    # the rules, and the cost
+    (SHED, "short", [("35000000:", "34999999:")], "certificate: C2 M14 period 1"),
+    (SHED, "short", [("d 15000000", "d 14999999")], "certificate: C2 M14 period 1"),
+    (SHED, "short", [("35000000:5", "35000000:4")], "certificate: C2 M15 period 1"),
+    (SHED, "short", [("e 0", "e 1")], "certificate: C2 M17 period 1"),
+    (SHED, "short", [("e 0", "e -1"), ("5000000:0", "5000001:0"), ("35000000", "34999999"), ("d 15000000", "d 15000001")],
+     "certificate: C2 M17 period 1"),
+    (SHED, "short", [("t 35000000:5000000:0", "t -"), ("d 15000000", "d 60000001")], "certificate: C2 M14 period 1"),
+    ("--spill-reserve 20", "short", [("penalty 100 0", "penalty 0 20")], "certificate: C2 M16 period 1"),
+    (BOTH, "short_of_both", [("e 5000000", "e 4999999")], "certificate: C2 M15 period 1"),
+    (BOTH, "short_of_both", [("e 5000000", "e 5000001")], "certificate: C2 M17 period 1"),
+    (BOTH, "short_of_both", [("t 40000000:0:0", "t -"), ("d 10000000", "d 60000000"), ("schedule 1600", "schedule 6100")],
+     "accepted cost 6100.000000 bound 1600.000000"),
+    (SHED, "short", [("schedule 1950", "schedule 450")], "certificate: C3 written 450.000000 computed 1950.000000"),
+    (BOTH, "short_of_both", [("schedule 1600", "schedule 1500")], "certificate: C3 written 1500.000000 computed 1600.000000"),
+    # the value
+    (SHED, "short", [("bound 1950.000000", "bound 1950.000001")], "certificate: C4 node 1"),
+    (BOTH, "short_of_both", [("bound 1600.000000", "bound 1600.000001")], "certificate: C4 node 1"),
+    (SHED, "short", [("pi 100000000", "pi 110000000"), ("bound 1950", "bound 1450")], "accepted cost 1950.000000 bound 1450.000000"),
+    (SHED, "short", [("pi 100000000", "pi 110000000"), ("bound 1950.000000", "bound 1450.000001")], "certificate: C4 node 1"),
+    (BOTH, "short_of_both", [("mu 90", "mu 20")], "accepted cost 1600.000000 bound 1600.000000"),
+    (SHED, "short", [("bound 1950.000000", "infeasible"), ("schedule 1950.000000", "schedule none"), ("t 35000000:5000000:0\nd 15000000\ne 0\n", ""),
+                     ("table 1000000", "table 0"), ("pi 100000000", "pi 1"), ("mu 90000000", "mu 0"), ("bound 1\n", "ray 1\n")],
+     "certificate: C5 node 1"),
+    # the lines
+    (SHED, "short", [("penalty 100 0", "penalty 0 0")], "certificate: line 4: form"),
+    (SHED, "short", [("penalty 100 0", "penalty 100")], "certificate: line 4: form"),
+    (SHED, "short", [("penalty 100 0", "penalty 100 1000001")], "certificate: line 4: form"),
+    (SHED, "short", [("penalty 100 0", "penalty 100 -1")], "certificate: line 4: form"),
+    (SHED, "short", [("penalty 100 0", "penalty 100 0\npenalty 100 0")], "certificate: line 5: form"),
+    (SHED, "short", [("penalty 100 0\n", "")], "certificate: line 6: form"),
+    (SHED, "short", [("d 15000000\n", "")], "certificate: line 7: form"),
+    (SHED, "short", [("d 15000000", "d 15000000 0")], "certificate: line 7: form"),
+    (SHED, "short", [("e 0\n", "")], "certificate: line 8: form"),
+    (SHED, "short", [("e 0", "e")], "certificate: line 8: form"),
+]
+
+# Of an instance that is like `short.json` but for a text, checked with options beside `short.cert`.
+INSTANCES_WITH_PRICES = [
+    ("--shed 1000000", "60", "1000000", "certificate: C10"),
+    ("--shed 1000000", "60", "2000000", "certificate: C10"),
+    ("--shed 1000000", "60", "2000000.000001", "instance: I9"),
+    (f"{SHED} --spill-reserve 400000", "[5]", "[5000000]", "instance: I9"),
+    ("--spill-reserve 1000000", "60", "2000001", "certificate: C10"),
+    (SHED, "60", "10000000.000001", "instance: I4 demand 1"),
+    ("--shed 1000000", '[60],\n  "reserves": [5]', '[3000000],\n  "reserves": []', "instance: I6 reserves"),
+    (SHED, "[5]", "[-5]", "certificate: C4 node 1"),
+]
+
+
+def changed(name, *changes):
     text = (STORED / name).read_bytes()
-    if text.count(old.encode()) != 1:
-        raise AssertionError(f"{name}: {old!r} doesn't stand there once")
-    return text.replace(old.encode(), new.encode())
+    for old, new in changes:
+        if text.count(old.encode()) != 1:
+            raise AssertionError(f"{name}: {old!r} doesn't stand there once")
+        text = text.replace(old.encode(), new.encode())
+    return text
 
 
 def cases():
     for instance, certificate, verdict in AS_THEY_STAND:
-        yield (STORED / f"{instance}.json").read_bytes(), (STORED / f"{certificate}.cert").read_bytes(), verdict
+        yield "", changed(f"{instance}.json"), changed(f"{certificate}.cert"), verdict
     for name, old, new, verdict in CHANGED_CERTIFICATES:
-        yield (STORED / f"{name}.json").read_bytes(), changed(f"{name}.cert", old, new), verdict
+        yield "", changed(f"{name}.json"), changed(f"{name}.cert", (old, new)), verdict
     for name, old, new, verdict in CHANGED_INSTANCES:
-        yield changed(f"{name}.json", old, new), (STORED / f"{name}.cert").read_bytes(), verdict
+        yield "", changed(f"{name}.json", (old, new)), changed(f"{name}.cert"), verdict
+    for options, name, changes, verdict in WITH_PRICES:
+        yield options, changed("short.json"), changed(f"{name}.cert", *changes), verdict
+    for options, old, new, verdict in INSTANCES_WITH_PRICES:
+        yield options, changed("short.json", (old, new)), changed("short.cert"), verdict
 
 
 def status_of(verdict):
-    return {"a": 0, "i": 4, "c": 9}[verdict[0]]
+    return {"a": 0, "i": 4, "u": 5, "c": 9}[verdict[0]]
 
 
 class Verdicts(unittest.TestCase):
-    def answer(self, command, instance, certificate):
+    def answer(self, command, options, instance, certificate):
         with tempfile.TemporaryDirectory() as folder:
             files = pathlib.Path(folder, "instance.json"), pathlib.Path(folder, "written.cert")
             for file, content in zip(files, (instance, certificate)):
                 file.write_bytes(content)
-            ran = subprocess.run([*command, *files], capture_output=True, text=True)
+            ran = subprocess.run([*command, *options.split(), *files], capture_output=True, text=True)
         self.assertEqual("", ran.stderr if ran.returncode == 0 else ran.stdout)
         return ran.returncode, " ".join((ran.stdout + ran.stderr).splitlines())
 
     def test_verdicts(self):
         commands = [[sys.executable, HERE / "check.py"], *([it, "check"] for it in PROGRAMS)]
-        for instance, certificate, verdict in cases():
+        for options, instance, certificate, verdict in cases():
             for command in commands:
-                with self.subTest(command=command, verdict=verdict, certificate=certificate):
-                    self.assertEqual((status_of(verdict), verdict), self.answer(command, instance, certificate))
+                with self.subTest(command=command, options=options, verdict=verdict, certificate=certificate):
+                    status, answer = self.answer(command, options, instance, certificate)
+                    # each program has a usage of its own
+                    self.assertEqual((status_of(verdict), verdict), (status, verdict if status == 5 else answer))
 
     def test_bytes_that_are_no_json(self):
         text = (STORED / "floor.json").read_bytes()
