@@ -25,6 +25,7 @@ sys.path.insert(0, str(HERE))
 from instance_table import command  # noqa: E402
 
 COAST = HERE / "tests/coast.report"
+SHORT = HERE / "tests/coast_short.report"
 PROGRAM = """#!/bin/sh
 echo "$@" >> "$(dirname "$0")/log"
 for word; do case $word in --cert=*) certificate=${word#--cert=} ;; esac; file=$word; done
@@ -46,6 +47,7 @@ RUNS = (
     ("killed", "kill -9 $$\n", "-9,,,,", "signal 9"),
     ("other", INFEASIBLE.replace("exit 3", "exit 0"), "0,,,,", "status 0: the report says infeasible"),
     ("broken", CLOSED.replace("2.999999", "3"), "0,,,,", 'status 0: the report: line 4: "3" is no amount of money'),
+    ("short", f"cat {SHORT}\nexit 1\n", "1,26746.666668,26583.333330,6107,1", ""),
 )
 # a table, and what is said of it
 BROKEN_TABLES = (
@@ -161,9 +163,11 @@ class Rows(TableTest):
 
     def test_options_go_to_the_program(self) -> None:
         case = self.put("a.json", CLOSED)
-        self.assertEqual(self.run_table(case, "--units", 7, "--gap", 0, "--exact"), (0, ""))
+        prices = "--shed", 1000, "--spill-reserve", 100
+        self.assertEqual(self.run_table(case, "--units", 7, "--gap", 0, *prices, "--exact"), (0, ""))
         (call,) = self.calls()
-        self.assertRegex(call, rf"^solve --cert=[^ ]+ --units=7 --gap=0 --exact -- {re.escape(str(case))}$")
+        options = "--units=7 --gap=0 --shed=1000 --spill-reserve=100 --exact"
+        self.assertRegex(call, rf"^solve --cert=[^ ]+ {options} -- {re.escape(str(case))}$")
 
 
 class Goings(TableTest):
@@ -293,7 +297,7 @@ class Refused(TableTest):
         self.assertEqual(len(self.calls()), 1)
 
     def test_words(self) -> None:
-        for words in (["-j", "0"], ["--units", "1000001"], ["--gap", "1.5"], ["-j", "²"]):
+        for words in (["-j", "0"], ["--units", "1000001"], ["--gap", "1.5"], ["-j", "²"], ["--shed", "0"]):
             with contextlib.redirect_stderr(io.StringIO()), self.assertRaises(SystemExit) as ended:
                 command.main(self.words("a.json", *words))
             self.assertEqual(ended.exception.code, 2)

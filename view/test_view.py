@@ -31,6 +31,9 @@ KAZARLIS = TOP / "examples/kazarlis10.json"
 MUST_RUN = TOP / "examples/kazarlis10_must_run.json"
 COAST = STORED / "coast.json"
 COAST_FILES = COAST, STORED / "coast.report", STORED / "coast.cert"
+# the same with more demand than all units give, at prices of 500 and 50 dollars
+SHORT_FILES = STORED / "coast_short.json", STORED / "coast_short.report", STORED / "coast_short.cert"
+SHORT_WORDS = "--shed", "500", "--spill-reserve", "50"
 
 ROW1_REPORT = """periods 1 thermal 1 renewable 0 rounded 0
 closed
@@ -150,6 +153,39 @@ BROKEN_INSTANCES = (
     ('"demand": [60', '"demand": [NaN', "no JSON: NaN"),
     ("  }\n}\n", "  }\n", "line 47 column 1: no JSON"),
     ("[60, 90.5, 120, 40]", "[" * 100_000, "nested too deep"),
+)
+
+# an edit of coast_short.report, and what the refusal says after the file's name
+BROKEN_SHORTAGES = (
+    ("shed 0.000000 0.000000 40", "shed 0.000000 1.000000 39", "period 2: outputs add up to 91.500000, where demand is 90.500000"),
+    ("40.000000 0.000000\nr", "39.999999 0.000000\nr", "period 3: outputs add up to 199.999999, where demand is 200.000000"),
+    ("10.000000 0.000000\n", "9.999999 0.000000\n", "period 3: reserves add up to 9.999999, where 10.000000 is needed"),
+    ("10.000000 0.000000\n", "10.000001 0.000000\n", "line 10: period 3: 10.000001 not from 0.000000 to 10.000000"),
+    ("shed 0.000000", "shed -1.000000", "line 9: period 1: -1.000000 not from 0.000000 to 60.000000"),
+    ("shed 0.000000", "shed 60.000001", "line 9: period 1: 60.000001 not from 0.000000 to 60.000000"),
+    ("shed 0.000000", "shed 0.00000", 'line 9: period 1: "0.00000" is no amount of power'),
+    ("shed 0.000000", "shed", "line 9: 3 amounts for 4 periods"),
+    ("shed 0.000000 ", "shed 0.000000  ", "line 9: 5 amounts for 4 periods"),
+    ("shed 0.000000 0.000000 40.000000 0.000000\n", "", "no line shed, where that has a price of 500"),
+    ("reserve-short 0.000000 0.000000 10.000000 0.000000\n", "", "no line reserve-short, where that has a price of 50"),
+    ("reserve-short", "shed", "line 10: bytes after the end"),
+    ("cost 26746.666668", "cost 26746.666667", "line 3: the schedule costs 26746.666668"),
+)
+# an edit of coast_short.cert, likewise
+BROKEN_PENALTIES = (
+    ("penalty 500 50", "penalty 499 50", "line 3: the schedule costs 26706.666668"),
+    ("penalty 500 50", "penalty 0 50", "line 9: shed without its price"),
+    ("penalty 500 50", "penalty 500 0", "line 10: reserve-short without its price"),
+    ("penalty 500 50", "penalty 0 0", "line 4: a price past its limit, or none"),
+    ("penalty 500 50", "penalty 500 1000001", "line 4: a price past its limit, or none"),
+    ("penalty 500 50", "penalty -1 50", "line 4: a price past its limit, or none"),
+    ("penalty 500 50", "penalty 500", 'line 4: "penalty 500" where penalty and 2 numbers are due'),
+    ("penalty 500 50\n", "", 'line 8: "d 0 0 40000000 0" where table and 1 numbers are due'),
+    ("schedule 26746.666668", "schedule 26746.666669", "line 5: the schedule isn't that of the report"),
+    ("d 0 0 40000000 0\n", "", 'line 9: "e 0 0 10000000 0" where d and 4 cells are due'),
+    ("d 0 0 40000000", "d 0 0 40000001", "line 9: the unserved demand of period 3 isn't that of the report"),
+    ("e 0", "e 1", "line 10: the missing reserve of period 1 isn't that of the report"),
+    ("e 0 0", "e 0", 'line 10: "e 0 10000000 0" where e and 4 cells are due'),
 )
 
 Bar = Tuple[int, Decimal, Decimal]
@@ -287,6 +323,44 @@ class Pictures(ViewTest):
         self.assertEqual(drawn.heights("curtailed", 4), [5 * 10**6, 0, 0, 500_000])
         self.assertIn("could give and don't: 5.5 of 66 MWh.", drawn.text)
 
+    def test_shortages_are_drawn(self) -> None:
+        drawn = self.drawn(*SHORT_FILES)
+        demand = [60 * 10**6, 90_500_000, 200 * 10**6, 40 * 10**6]
+        self.assertEqual(drawn.heights("outputs", 4), demand)
+        self.assertIn((2, Decimal(160 * 10**6), Decimal(40 * 10**6)), drawn.bars["outputs"])
+        self.assertEqual(drawn.heights("reserves", 4), [5 * 10**6, 5 * 10**6, 0, 5 * 10**6])
+        self.assertEqual(drawn.bars["missing"], [(2, Decimal(0), Decimal(10 * 10**6))])
+        self.assertEqual(drawn.bars["unserved-demand"], [(2, Decimal(3050 * 10**6), Decimal(20_000 * 10**6))])
+        self.assertEqual(drawn.bars["missing-reserve"], [(2, Decimal(23_050 * 10**6), Decimal(500 * 10**6))])
+        for words in (
+            "Unserved demand40 MWh at $500Missing reserve10 MWh at $50Evaluations",
+            "unserved demandat 500 $/MWh",
+            "to which the outputs and the unserved demand on top of them add up.",
+            "unserved demand, hour 3: 40 MW",
+            "hour 3: 10 MW missing",
+            "ShortagesUnserved demand: 40 MWh at $500 a MWh, $20,000 in all.Missing reserve: 10 MWh at $50 a MWh, $500 in all.",
+            "hourunserved demand, MWmissing reserve, MWcost34010$20,500",
+            "reserve givenmissing reserve",
+            "starts $80, unserved demand $20,000, missing reserve $500.",
+            "hour 3: production $3,050, starts $0, unserved demand $20,000, missing reserve $500",
+        ):
+            self.assertIn(words, drawn.text)
+        told = self.drawn(*SHORT_FILES[:2], words=SHORT_WORDS)
+        self.assertEqual(told.bars, {name: bars for name, bars in drawn.bars.items() if name != "prices"})
+
+    def test_prices_without_a_shortage(self) -> None:
+        noughts = "0.000000 0.000000 0.000000 0.000000"
+        served = self.put("served", (STORED / "coast.report").read_text() + f"shed {noughts}\n")
+        drawn = self.drawn(COAST, served, words=("--shed", "7"))
+        self.assertIn("ShortagesUnserved demand: none, at $7 a MWh.Curtailed", drawn.text)
+        self.assertIn("starts $80, unserved demand $0.", drawn.text)
+        self.assertNotIn("issing reserve", drawn.text)
+        self.assertNotIn("<table", drawn.written)
+        certificate = (STORED / "coast.cert").read_text().replace("schedule", "penalty 7 0\nschedule")
+        priced = self.put("priced.cert", certificate.replace("table", "d 0 0 0 0\ne 0 0 0 0\ntable"))
+        self.assertEqual(self.drawn(COAST, served, priced).bars["outputs"], drawn.bars["outputs"])
+        self.assertNotIn("hortage", self.drawn(*COAST_FILES).text)
+
     def test_gap_that_was_asked_for(self) -> None:
         self.assertNotIn("asked for0", self.drawn(COAST, STORED / "coast.report").text)
         self.assertIn("Gap asked for5.0198 %", self.drawn(COAST, STORED / "coast.report", words=("--gap", "50198")).text)
@@ -390,20 +464,24 @@ class Pictures(ViewTest):
         files = COAST, STORED / "coast.report", STORED / "coast.cert"
         self.assertEqual(self.run_view(*files, words=("--csv", str(table))), (0, ""))
         lines = table.read_text(encoding="utf-8").split("\n")
-        self.assertEqual(lines[0], "unit,kind,hour,on,output,reserve,category,demand,need,demand_price,reserve_price")
+        head = "unit,kind,hour,on,output,reserve,category,demand,need,demand_price,reserve_price,shed,reserve_short"
+        self.assertEqual(lines[0], head)
         wanted = {
-            2: '"base ""1""",thermal,2,1,70.000000,5.000000,0,90.500000,5.000000,20.000000,0.000000',
-            5: "peak <2>,thermal,1,0,0.000000,0.000000,0,60.000000,5.000000,16.666667,0.000000",
-            6: "peak <2>,thermal,2,1,10.000000,0.000000,2,90.500000,5.000000,20.000000,0.000000",
-            11: "wind\\3,renewable,3,1,30.000000,0.000000,0,120.000000,10.000000,31.000000,3.000000",
-            12: "wind\\3,renewable,4,0,0.000000,0.000000,0,40.000000,5.000000,18.000000,0.000000",
+            2: '"base ""1""",thermal,2,1,70.000000,5.000000,0,90.500000,5.000000,20.000000,0.000000,0.000000,0.000000',
+            5: "peak <2>,thermal,1,0,0.000000,0.000000,0,60.000000,5.000000,16.666667,0.000000,0.000000,0.000000",
+            6: "peak <2>,thermal,2,1,10.000000,0.000000,2,90.500000,5.000000,20.000000,0.000000,0.000000,0.000000",
+            11: "wind\\3,renewable,3,1,30.000000,0.000000,0,120.000000,10.000000,31.000000,3.000000,0.000000,0.000000",
+            12: "wind\\3,renewable,4,0,0.000000,0.000000,0,40.000000,5.000000,18.000000,0.000000,0.000000,0.000000",
             13: "",
         }
         self.assertEqual({place: lines[place] for place in wanted}, wanted)
         self.assertEqual(len(lines), 14)
         self.assertEqual(self.run_view(*files[:2], words=("--csv", str(table))), (0, ""))
         lines = table.read_text(encoding="utf-8").split("\n")
-        self.assertEqual(lines[12], "wind\\3,renewable,4,0,0.000000,0.000000,0,40.000000,5.000000,,")
+        self.assertEqual(lines[12], "wind\\3,renewable,4,0,0.000000,0.000000,0,40.000000,5.000000,,,0.000000,0.000000")
+        self.assertEqual(self.run_view(*SHORT_FILES, words=("--csv", str(table))), (0, ""))
+        lines = table.read_text(encoding="utf-8").split("\n")
+        self.assertEqual(lines[11], "wind\\3,renewable,3,1,30.000000,0.000000,0,200.000000,10.000000,500.000000,50.000000,40.000000,10.000000")
 
 
 class Refusals(ViewTest):
@@ -432,6 +510,31 @@ class Refusals(ViewTest):
                 broken = self.edited(STORED / "coast.cert", old, new)
                 self.refused(f"{broken}: {place}", COAST, STORED / "coast.report", broken)
 
+    def test_broken_shortages(self) -> None:
+        for old, new, place in BROKEN_SHORTAGES:
+            with self.subTest(place):
+                broken = self.edited(SHORT_FILES[1], old, new)
+                self.refused(f"{broken}: {place}", SHORT_FILES[0], broken, words=SHORT_WORDS)
+
+    def test_broken_penalties(self) -> None:
+        for old, new, place in BROKEN_PENALTIES:
+            with self.subTest(place):
+                broken = self.edited(SHORT_FILES[2], old, new)
+                told = SHORT_FILES[1] if "without" in place or "costs" in place else broken
+                self.refused(f"{told}: {place}", *SHORT_FILES[:2], broken)
+
+    def test_prices_of_other_runs(self) -> None:
+        for words in (SHORT_WORDS[:2], ("--shed", "500", "--spill-reserve", "49")):
+            self.refused(f"{SHORT_FILES[2]}: line 4: the prices of what is short aren't those of the words", *SHORT_FILES, words=words)
+        self.assertEqual(self.run_view(*SHORT_FILES, words=SHORT_WORDS), (0, ""))
+        self.out.unlink()
+        self.refused(f"{SHORT_FILES[1]}: line 9: shed without its price", *SHORT_FILES[:2])
+        self.refused(f"{STORED}/coast.report: no line shed, where that has a price of 500", COAST, STORED / "coast.report", words=SHORT_WORDS)
+        with contextlib.redirect_stderr(io.StringIO()):
+            for price in ("0", "1000001", "05", "-1", "x"):
+                with self.assertRaises(SystemExit):
+                    command.main([*map(str, SHORT_FILES), "-o", str(self.out), f"--shed={price}"])
+
     def test_broken_instances(self) -> None:
         for old, new, place in BROKEN_INSTANCES:
             with self.subTest(place):
@@ -452,14 +555,14 @@ class Refusals(ViewTest):
                 report.read_report("r", whole[:size])
 
     def test_any_changed_byte_is_drawn_or_refused(self) -> None:
-        coast = instance.read_instance("i", COAST.read_bytes())
-        whole = (STORED / "coast.report").read_bytes()
-        for place in range(len(whole)):
-            for byte in b'\n 9-."\\\xff':
-                with contextlib.suppress(Refusal):
-                    changed = report.read_report("r", whole[:place] + bytes([byte]) + whole[place + 1 :])
-                    fit.check_report(coast, changed)
-                    page.page(coast, changed, None, "i")
+        for (case, path, _), penalty in ((COAST_FILES, (0, 0)), (SHORT_FILES, (500, 50))):
+            coast, whole = instance.read_instance("i", case.read_bytes()), path.read_bytes()
+            for place in range(len(whole)):
+                for byte in b'\n 9-."\\\xff':
+                    with contextlib.suppress(Refusal):
+                        changed = report.read_report("r", whole[:place] + bytes([byte]) + whole[place + 1 :])
+                        fit.check_report(coast, changed, penalty)
+                        page.page(coast, changed, None, "i", penalty=penalty)
 
     def test_outputs_over_other_files(self) -> None:
         case, found, certificate = (self.put(path.name, path.read_text(encoding="utf-8")) for path in COAST_FILES)

@@ -9,7 +9,7 @@ import sys
 import tempfile
 from typing import Callable, Dict, List, Optional, Tuple
 
-from schedule_view.command import gap_of
+from schedule_view.command import gap_of, price_of
 from schedule_view.files import cause, make_folder, move_file, read_file, refuse_shared, remove_file
 from schedule_view.refusal import Refusal
 from schedule_view.report import Report, read_report
@@ -51,6 +51,8 @@ def _parser() -> argparse.ArgumentParser:
     parser.add_argument("--units", metavar="N", type=_number(MOST_UNITS), help="goes to `uc solve`")
     parser.add_argument("--gap", metavar="PPM", type=gap_of, help="goes to `uc solve`")
     parser.add_argument("--exact", action="store_true", help="goes to `uc solve`")
+    for option in ("--shed", "--spill-reserve"):
+        parser.add_argument(option, metavar="PRICE", type=price_of, help="goes to `uc solve`")
     parser.add_argument("--program", metavar="UC", help=f"the program that is run; {BUILT}, as ./uc builds it")
     return parser
 
@@ -90,8 +92,7 @@ def _tasks(given: argparse.Namespace, names: List[str], folder: pathlib.Path, ke
     program = _program(given.program)
     if given.certs is not None:
         make_folder(given.certs)
-    options = [f"--{option}={value}" for option, value in (("units", given.units), ("gap", given.gap)) if value is not None]
-    options += ["--exact"] if given.exact else []
+    options = _options(given)
     tasks = []
     for number, name in enumerate(names):
         files = [folder / f"{number}.{ending}" for ending in ("report", "errors", "cert")]
@@ -99,6 +100,13 @@ def _tasks(given: argparse.Namespace, names: List[str], folder: pathlib.Path, ke
             files[2] = pathlib.Path(kept[name] + ".part")
         tasks.append(Task(name, [program, "solve", f"--cert={files[2]}", *options, "--", name], *files))
     return tasks
+
+
+def _options(given: argparse.Namespace) -> List[str]:
+    """The options that go to `uc solve`."""
+    numbers = (("units", given.units), ("gap", given.gap), ("shed", given.shed), ("spill-reserve", given.spill_reserve))
+    options = [f"--{option}={value}" for option, value in numbers if value is not None]
+    return options + (["--exact"] if given.exact else [])
 
 
 def _program(path: Optional[str]) -> str:

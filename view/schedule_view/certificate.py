@@ -9,6 +9,7 @@ from typing import Dict, List, Optional, Tuple
 from .amounts import amount, signed, whole
 from .lines import Lines
 from .refusal import shown
+from .shortages import MOST_PENALTY, NO_PENALTY, Penalty
 
 _CELL = re.compile(r"([^:]+):([^:]+):([^:]+)")
 MOST_TABLES, MOST_CATEGORY, WATT_DIGITS = 2**32, 255, 15
@@ -27,6 +28,8 @@ class CertificateSchedule:
     line: int
     thermal: List[List[Optional[CertificateCell]]]
     renewable: List[List[int]]
+    # unserved demand and missing reserve; no rows where neither has a price
+    shortages: List[List[int]]
 
 
 @dataclass(frozen=True)
@@ -54,6 +57,7 @@ class Certificate:
     path: str
     sizes: Tuple[int, int, int]
     bound: Optional[int]
+    penalty: Penalty
     schedule: Optional[CertificateSchedule]
     prices: Optional[Prices]
     leaves: Leaves
@@ -65,7 +69,8 @@ def read_certificate(path: str, data: bytes) -> Certificate:
     _exactly(lines, "uc-certificate 1")
     periods, thermal, renewable, tables = _size(lines)
     bound = _claim(lines)
-    schedule = _schedule(lines, periods, thermal, renewable)
+    penalty = _penalty(lines) if lines.is_at("penalty") else NO_PENALTY
+    schedule = _schedule(lines, periods, thermal, renewable, "de" if any(penalty) else "")
     read = [_table(lines, number + 1, periods, thermal) for number in range(tables)]
     leaves, first_bound, line = _tree(lines, periods, thermal, tables)
     _exactly(lines, "end")
@@ -73,7 +78,7 @@ def read_certificate(path: str, data: bytes) -> Certificate:
     prices = read[first_bound - 1] if first_bound else None
     if prices and not prices.scale:
         lines.refuse("a bound at a table of scale 0", line)
-    return Certificate(path, (periods, thermal, renewable), bound, schedule, prices, leaves)
+    return Certificate(path, (periods, thermal, renewable), bound, penalty, schedule, prices, leaves)
 
 
 def _exactly(lines: Lines, text: str) -> None:
@@ -109,7 +114,15 @@ def _claim(lines: Lines) -> Optional[int]:
     return bound
 
 
-def _schedule(lines: Lines, periods: int, thermal: int, renewable: int) -> Optional[CertificateSchedule]:
+def _penalty(lines: Lines) -> Penalty:
+    shed, spill_reserve = _numbers(lines, "penalty", 2)
+    if not (0 <= shed <= MOST_PENALTY and 0 <= spill_reserve <= MOST_PENALTY and (shed or spill_reserve)):
+        lines.refuse("a price past its limit, or none")
+    return shed, spill_reserve
+
+
+def _schedule(lines: Lines, periods: int, thermal: int, renewable: int, short: str) -> Optional[CertificateSchedule]:
+    """The schedule, if there is one; rows of shortages have these letters."""
     line = lines.take()
     if line == "schedule none":
         return None
@@ -119,7 +132,8 @@ def _schedule(lines: Lines, periods: int, thermal: int, renewable: int) -> Optio
     first = lines.number + 1
     cells = [[_cell(lines, word) for word in _row(lines, "t", periods)] for _ in range(thermal)]
     outputs = [[_watts(lines, word) for word in _row(lines, "w", periods)] for _ in range(renewable)]
-    return CertificateSchedule(cost, first, cells, outputs)
+    shortages = [[_watts(lines, word) for word in _row(lines, letter, periods)] for letter in short]
+    return CertificateSchedule(cost, first, cells, outputs, shortages)
 
 
 def _row(lines: Lines, word: str, periods: int) -> List[str]:

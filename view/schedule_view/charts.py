@@ -10,6 +10,7 @@ from .costs import HourlyCosts
 from .instance import Instance
 from .layers import SINGLE_UNITS, Layer
 from .report import Schedule
+from .shortages import Shortage
 from .svg import Frame, element, percent, text
 
 OUTPUT_HEIGHT, DEMAND_HEIGHT, RESERVE_HEIGHT, CURTAILED_HEIGHT, COST_HEIGHT, PRICE_HEIGHT = 340, 220, 110, 90, 150, 150
@@ -45,16 +46,21 @@ def legend(stack: List[Layer]) -> str:
     return element("ul", "".join(_legend_entry(layer) for layer in stack), class_="legend")
 
 
-def reserve_chart(instance: Instance, schedule: Schedule) -> str:
-    """Reserve given as bars, reserve needed as a line."""
+def reserve_chart(instance: Instance, schedule: Schedule, missing: Shortage) -> str:
+    """Reserve given as bars, what is missing on top of it, reserve needed as a line."""
     columns = ([row.cells[t] for row in schedule.thermal] for t in range(instance.periods))
     given = [sum(cell.reserve for cell in column if cell) for column in columns]
-    frame = Frame.around(instance.periods, RESERVE_HEIGHT, given + instance.reserves, MILLION)
+    tops = [size + lack for size, lack in zip(given, missing.watts)]
+    frame = Frame.around(instance.periods, RESERVE_HEIGHT, tops + instance.reserves, MILLION)
     bars = "".join(
         frame.bar(t, 0, size, f"hour {t + 1}: {short_text(size)} MW given, {short_text(need)} MW needed")
         for t, (size, need) in enumerate(zip(given, instance.reserves))
     )
-    plot = frame.bars(bars, "reserves", "given") + frame.group(frame.steps(instance.reserves, "need"))
+    lacks = "".join(
+        frame.bar(t, given[t], lack, f"hour {t + 1}: {short_text(lack)} MW missing") for t, lack in enumerate(missing.watts) if lack
+    )
+    drawn = frame.bars(bars, "reserves", "given") + (frame.bars(lacks, "missing", missing.look) if lacks else "")
+    plot = drawn + frame.group(frame.steps(instance.reserves, "need"))
     return frame.chart(plot, "Reserve given and reserve needed", "MW")
 
 
@@ -67,20 +73,25 @@ def curtailed_chart(curtailed: List[int]) -> str:
 
 
 def cost_chart(costs: HourlyCosts) -> str:
-    """What production costs, and on top of that what starts cost; amounts below nought hang from nought."""
-    pairs = list(zip(costs.production, costs.starts))
-    tops, bottoms = [max(p, 0) + max(s, 0) for p, s in pairs], [min(p, 0) + min(s, 0) for p, s in pairs]
-    frame = Frame.around(len(pairs), COST_HEIGHT, tops + bottoms, MILLION)
-    production, starts = [], []
-    for t, (running, starting) in enumerate(pairs):
-        words = f"hour {t + 1}: production {dollars_text(running)}, starts {dollars_text(starting)}"
-        if running:
-            production.append(frame.bar(t, min(running, 0), abs(running), words))
-        if starting:
-            bottom = max(running, 0) if starting > 0 else min(running, 0) + starting
-            starts.append(frame.bar(t, bottom, abs(starting), words))
-    plot = frame.bars("".join(production), "production", "between") + frame.bars("".join(starts), "starts", "starts")
-    return frame.chart(plot, "Cost by hour", "$")
+    """What production costs, on top of that what starts cost, and then what is short; amounts below nought hang from nought."""
+    parts = costs.parts
+    hours = list(zip(*(amounts for _, _, amounts in parts)))
+    sums = [sum(max(sign * amount, 0) * sign for amount in hour) for hour in hours for sign in (1, -1)]
+    frame = Frame.around(len(hours), COST_HEIGHT, sums, MILLION)
+    titles = [
+        f"hour {t + 1}: " + ", ".join(f"{name} {dollars_text(amount)}" for (name, _, _), amount in zip(parts, hour))
+        for t, hour in enumerate(hours)
+    ]
+    tops, bottoms, groups = [0] * len(hours), [0] * len(hours), []
+    for name, look, amounts in parts:
+        bars = []
+        for t, amount in enumerate(amounts):
+            if amount:
+                bottoms[t] += min(amount, 0)
+                bars.append(frame.bar(t, tops[t] if amount > 0 else bottoms[t], abs(amount), titles[t]))
+                tops[t] += max(amount, 0)
+        groups.append(frame.bars("".join(bars), name.replace(" ", "-"), look))
+    return frame.chart("".join(groups), "Cost by hour", "$")
 
 
 def demand_chart(instance: Instance, stuck: Optional[int]) -> str:

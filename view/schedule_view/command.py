@@ -5,7 +5,7 @@ import argparse
 import io
 import pathlib
 import sys
-from typing import List, Optional
+from typing import Callable, List, Optional
 
 from .amounts import MILLION, whole
 from .certificate import Certificate, read_certificate
@@ -15,6 +15,7 @@ from .instance import read_instance
 from .page import page
 from .refusal import Refusal
 from .report import read_report
+from .shortages import MOST_PENALTY, Penalty
 from .table import write_table
 
 ABOUT = """Draws the report of `uc solve` as one HTML page. Files that don't fit together are refused with a line that says where, and
@@ -40,15 +41,26 @@ def _parser() -> argparse.ArgumentParser:
     parser.add_argument("-o", dest="page", metavar="OUT.html", required=True, help="where the page goes")
     parser.add_argument("--csv", dest="table", metavar="OUT.csv", help="where the schedule goes as a table")
     parser.add_argument("--gap", metavar="PPM", type=gap_of, help="the gap that `uc solve` was asked for, which the page then tells")
+    for option, what in (("--shed", "unserved demand"), ("--spill-reserve", "missing reserve")):
+        told = f"the price of {what} that `uc solve` was given; a certificate tells it too"
+        parser.add_argument(option, metavar="PRICE", type=price_of, default=0, help=told)
     return parser
 
 
-def gap_of(text: str) -> int:
-    """A gap as `uc` takes it; a word that is none is an error of the words."""
-    gap = whole(text)
-    if gap is None or gap > MILLION:
-        raise argparse.ArgumentTypeError(f"{text} is not a whole number from 0 to {MILLION}")
-    return gap
+def _number(least: int, most: int) -> Callable[[str], int]:
+    """What reads a whole number within these limits; a word that is none is an error of the words."""
+
+    def read(text: str) -> int:
+        number = whole(text)
+        if number is None or not least <= number <= most:
+            raise argparse.ArgumentTypeError(f"{text} is not a whole number from {least} to {most}")
+        return number
+
+    return read
+
+
+# a gap, and a price of what is short, as `uc` takes them
+gap_of, price_of = _number(0, MILLION), _number(1, MOST_PENALTY)
 
 
 def _run(given: argparse.Namespace) -> None:
@@ -57,16 +69,28 @@ def _run(given: argparse.Namespace) -> None:
     refuse_shared(inputs, [path for path in (given.page, given.table) if path is not None])
     instance = read_instance(given.instance, read_file(given.instance))
     report = read_report(given.report, read_file(given.report))
-    check_report(instance, report)
-    if given.gap is not None:
-        check_gap(report, given.gap)
     certificate: Optional[Certificate] = None
     if given.certificate is not None:
         certificate = read_certificate(given.certificate, read_file(given.certificate))
+    penalty = _penalty(given, certificate)
+    check_report(instance, report, penalty)
+    if given.gap is not None:
+        check_gap(report, given.gap)
+    if certificate:
         check_certificate(instance, report, certificate)
-    drawn = page(instance, report, certificate, pathlib.PurePath(given.instance).name, given.gap)
+    drawn = page(instance, report, certificate, pathlib.PurePath(given.instance).name, given.gap, penalty)
     table = io.StringIO()
     write_table(instance, report.schedule, certificate.prices if certificate else None, table)
     write_file(given.page, drawn)
     if given.table is not None:
         write_file(given.table, table.getvalue())
+
+
+def _penalty(given: argparse.Namespace, certificate: Optional[Certificate]) -> Penalty:
+    """The prices of what is short, which the words may tell, and a certificate tells. Refused where they differ."""
+    told = given.shed, given.spill_reserve
+    if certificate is None:
+        return told
+    if any(told) and told != certificate.penalty:
+        raise Refusal(certificate.path, "line 4", "the prices of what is short aren't those of the words")
+    return certificate.penalty

@@ -7,24 +7,32 @@ from typing import List, Tuple
 
 from .instance import Instance, Thermal
 from .report import Schedule
+from .shortages import Penalty, Shortage, shortages
 
 Corner = Tuple[int, int]
 
 
 @dataclass(frozen=True)
 class HourlyCosts:
-    """What production and starts cost in each hour, in micro-dollars."""
+    """What production and starts cost in each hour, in micro-dollars, and what is short."""
 
     production: List[int]
     starts: List[int]
+    shortages: List[Shortage]
+
+    @property
+    def parts(self) -> List[Tuple[str, str, List[int]]]:
+        """Each part with its name and the class that gives its colour; of shortages those with a price."""
+        priced = [(short.name, short.look, short.costs) for short in self.shortages if short.price]
+        return [("production", "between", self.production), ("starts", "starts", self.starts), *priced]
 
     @property
     def total(self) -> int:
         """The cost of the schedule."""
-        return sum(self.production) + sum(self.starts)
+        return sum(sum(amounts) for _, _, amounts in self.parts)
 
 
-def hourly_costs(instance: Instance, schedule: Schedule) -> HourlyCosts:
+def hourly_costs(instance: Instance, schedule: Schedule, penalty: Penalty) -> HourlyCosts:
     """The costs of a schedule whose outputs and categories are those of the instance's units."""
     production, starts = [0] * instance.periods, [0] * instance.periods
     for unit, row in zip(instance.thermal, schedule.thermal):
@@ -33,7 +41,7 @@ def hourly_costs(instance: Instance, schedule: Schedule) -> HourlyCosts:
             if cell:
                 production[period] += hull_cost(corners, _above_minimum(unit, cell.output))
                 starts[period] += unit.start_costs[cell.category - 1] if cell.category else 0
-    return HourlyCosts(production, starts)
+    return HourlyCosts(production, starts, list(shortages(schedule, instance.periods, penalty)))
 
 
 def _above_minimum(unit: Thermal, output: int) -> int:

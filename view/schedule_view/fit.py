@@ -6,23 +6,24 @@ the bound is one: `uc check` is.
 """
 from __future__ import annotations
 
-from typing import NoReturn, Optional, Union
+from typing import List, NoReturn, Optional, Tuple, Union
 
 from .amounts import amount_text, gap_parts
 from .certificate import Certificate, CertificateSchedule
 from .costs import hourly_costs
 from .instance import Instance, Renewable, Thermal
 from .refusal import Refusal, shown
-from .report import Cell, Outcome, RenewableRow, Report, Schedule, Stuck, ThermalRow
+from .report import Cell, Outcome, RenewableRow, Report, Schedule, ShortageRow, Stuck, ThermalRow
+from .shortages import NO_PENALTY, Penalty, shortages
 
 
-def check_report(instance: Instance, report: Report) -> None:
-    """Refused where the report isn't one of this instance, with its line."""
+def check_report(instance: Instance, report: Report, penalty: Penalty = NO_PENALTY) -> None:
+    """Refused where the report isn't one of this instance with these prices of what is short, with its line."""
     _check_sizes(instance, report)
     if report.stuck:
         _check_stuck(instance, report, report.stuck)
     if report.schedule:
-        _check_schedule(instance, report, report.schedule)
+        _check_schedule(instance, report, report.schedule, penalty)
 
 
 def check_gap(report: Report, asked: int) -> None:
@@ -43,10 +44,11 @@ def check_certificate(instance: Instance, report: Report, certificate: Certifica
         _refuse(certificate, 3, "the claim isn't that of the report")
     ours, theirs = report.schedule, certificate.schedule
     if (ours.cost if ours else None) != (theirs.cost if theirs else None):
-        _refuse(certificate, 4, "the schedule isn't that of the report")
+        _refuse(certificate, 5 if any(certificate.penalty) else 4, "the schedule isn't that of the report")
     if ours and theirs:
         _check_thermal_rows(instance, certificate, ours, theirs)
         _check_renewable_rows(certificate, ours, theirs)
+        _check_shortage_rows(instance, certificate, ours, theirs)
 
 
 def _refuse(source: Union[Report, Certificate], line: Optional[int], what: str) -> NoReturn:
@@ -74,16 +76,22 @@ def _check_stuck(instance: Instance, report: Report, stuck: Stuck) -> None:
             _refuse(report, stuck.line, f"the {word} of the instance is {amount_text(numbers[stuck.period - 1])}")
 
 
-def _check_schedule(instance: Instance, report: Report, schedule: Schedule) -> None:
+def _check_schedule(instance: Instance, report: Report, schedule: Schedule, penalty: Penalty) -> None:
     if report.bound is not None and report.bound > schedule.cost:
         _refuse(report, 4, f"the bound is above the cost, {amount_text(schedule.cost)}")
     for g, row in enumerate(schedule.thermal):
         _check_thermal(report, instance.thermal[g], row)
     for w, other in enumerate(schedule.renewable):
         _check_renewable(report, instance.renewable[w], other)
+    for word, row, price, most in (
+        ("shed", schedule.shed, penalty[0], instance.demand),
+        ("reserve-short", schedule.short, penalty[1], instance.reserves),
+    ):
+        _check_shortage(report, word, row, price, most)
+    unserved, missing = shortages(schedule, instance.periods, penalty)
     for period in range(instance.periods):
-        _check_hour(instance, report, schedule, period)
-    cost = hourly_costs(instance, schedule).total
+        _check_hour(instance, report, schedule, period, (unserved.watts[period], missing.watts[period]))
+    cost = hourly_costs(instance, schedule, penalty).total
     if cost != schedule.cost:
         _refuse(report, 3, f"the schedule costs {amount_text(cost)}")
 
@@ -128,13 +136,27 @@ def _check_renewable(report: Report, unit: Renewable, row: RenewableRow) -> None
             _refuse(report, row.line, f"period {period + 1}: {what}")
 
 
-def _check_hour(instance: Instance, report: Report, schedule: Schedule, period: int) -> None:
+def _check_shortage(report: Report, word: str, row: Optional[ShortageRow], price: int, most: List[int]) -> None:
+    """Refused where something is short without a price, or more than all; or where a line is missing that the price asks for."""
+    if row is None:
+        if price:
+            _refuse(report, None, f"no line {word}, where that has a price of {price}")
+        return
+    if not price:
+        _refuse(report, row.line, f"{word} without its price, which the certificate tells, or a word as --shed and --spill-reserve")
+    for period, (watts, limit) in enumerate(zip(row.watts, most)):
+        if not 0 <= watts <= max(limit, 0):
+            what = f"{amount_text(watts)} not from {amount_text(0)} to {amount_text(max(limit, 0))}"
+            _refuse(report, row.line, f"period {period + 1}: {what}")
+
+
+def _check_hour(instance: Instance, report: Report, schedule: Schedule, period: int, short: Tuple[int, int]) -> None:
     cells = [row.cells[period] for row in schedule.thermal]
-    output = sum(cell.output for cell in cells if cell) + sum(row.outputs[period] for row in schedule.renewable)
+    output = sum(cell.output for cell in cells if cell) + sum(row.outputs[period] for row in schedule.renewable) + short[0]
     if output != instance.demand[period]:
         what = f"outputs add up to {amount_text(output)}, where demand is {amount_text(instance.demand[period])}"
         _refuse(report, None, f"period {period + 1}: {what}")
-    reserve = sum(cell.reserve for cell in cells if cell)
+    reserve = sum(cell.reserve for cell in cells if cell) + short[1]
     if reserve < instance.reserves[period]:
         what = f"reserves add up to {amount_text(reserve)}, where {amount_text(instance.reserves[period])} is needed"
         _refuse(report, None, f"period {period + 1}: {what}")
@@ -154,3 +176,12 @@ def _check_renewable_rows(certificate: Certificate, ours: Schedule, theirs: Cert
         for period, (output, written) in enumerate(zip(row.outputs, outputs)):
             if output != written:
                 _refuse(certificate, first + w, f"the output of period {period + 1} isn't that of the report")
+
+
+def _check_shortage_rows(instance: Instance, certificate: Certificate, ours: Schedule, theirs: CertificateSchedule) -> None:
+    first = theirs.line + len(theirs.thermal) + len(theirs.renewable)
+    kinds = shortages(ours, instance.periods, certificate.penalty)
+    for place, (shortage, row) in enumerate(zip(kinds, theirs.shortages)):
+        for period, (watts, written) in enumerate(zip(shortage.watts, row)):
+            if watts != written:
+                _refuse(certificate, first + place, f"the {shortage.name} of period {period + 1} isn't that of the report")

@@ -8,6 +8,7 @@ from typing import List, Set
 from .amounts import short_text
 from .instance import Instance
 from .report import Schedule
+from .shortages import Shortage
 
 SINGLE_UNITS = 20
 # the steadier units are merged into layers of at least as many units, and into at most so many layers
@@ -104,6 +105,12 @@ def _range_text(instance: Instance, units: List[int]) -> str:
         return ""
     low, high = cost_text(costs[0]), cost_text(costs[-1])
     return f" at {low} $/MWh" if low == high else f" at {low} to {high} $/MWh"
+
+
+def unserved_layer(unserved: Shortage) -> Layer:
+    """The layer above all others, of demand that stays unserved."""
+    titles = [f"{unserved.name}, hour {t + 1}: {short_text(watts)} MW" for t, watts in enumerate(unserved.watts)]
+    return Layer(unserved.name, f"at {unserved.price:,} $/MWh", unserved.look, unserved.watts, titles)
 
 
 def _renewables(schedule: Schedule) -> Layer:

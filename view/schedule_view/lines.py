@@ -25,6 +25,10 @@ class Lines:
         except UnicodeDecodeError:
             self.refuse("not UTF-8")
 
+    def is_at(self, word: str) -> bool:
+        """Whether the next line has this word and a blank in front."""
+        return self._data.startswith(f"{word} ".encode(), self._at)
+
     def is_done(self) -> bool:
         """Whether no byte is left."""
         return self._at == len(self._data)

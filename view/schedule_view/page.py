@@ -10,8 +10,9 @@ from .charts import cost_chart, curtailed_chart, demand_chart, legend, output_ch
 from .costs import hourly_costs
 from .grid import renewable_grid, thermal_grid
 from .instance import Instance
-from .layers import SINGLE_UNITS, layers, never_on
+from .layers import SINGLE_UNITS, layers, never_on, unserved_layer
 from .report import Outcome, Report, Schedule
+from .shortages import NO_PENALTY, Penalty, Shortage, shortages
 from .svg import element, narrow_rules, text
 
 STYLE = pathlib.Path(__file__).with_name("style.css")
@@ -28,12 +29,20 @@ OUTCOMES = {
 }
 
 
-def page(instance: Instance, report: Report, certificate: Optional[Certificate], name: str, gap: Optional[int] = None) -> str:
+def page(
+    instance: Instance,
+    report: Report,
+    certificate: Optional[Certificate],
+    name: str,
+    gap: Optional[int] = None,
+    penalty: Penalty = NO_PENALTY,
+) -> str:
     """The whole page; the name is the instance's, the gap that which was asked for, in parts per million."""
     schedule = report.schedule
+    short = shortages(schedule, instance.periods, penalty) if schedule else None
     parts = [element("h1", text(f"Schedule of {name}" if schedule else name)), *_outcome(report, certificate)]
-    parts.append(_head(instance, report, gap))
-    parts += _charts(instance, schedule) if schedule else _demand(instance, report)
+    parts.append(_head(instance, report, gap, [it for it in short or () if it.price]))
+    parts += _charts(instance, schedule, short) if schedule and short else _demand(instance, report)
     if certificate:
         parts += _prices(certificate, bool(schedule))
     if schedule:
@@ -68,7 +77,7 @@ def _reason(leaves: Leaves) -> str:
     return f"the value of all schedules at the ray of table {number} is above 0 (ray {number})."
 
 
-def _head(instance: Instance, report: Report, gap: Optional[int]) -> str:
+def _head(instance: Instance, report: Report, gap: Optional[int], priced: List[Shortage]) -> str:
     facts: List[Tuple[str, str]] = []
     if report.schedule:
         facts.append(("Cost", _money(report.schedule.cost)))
@@ -78,6 +87,7 @@ def _head(instance: Instance, report: Report, gap: Optional[int]) -> str:
         facts.append(("Gap", _percent(gap_parts(report.schedule.cost, report.bound))))
     if gap is not None:
         facts.append(("Gap asked for", _percent(gap)))
+    facts += [(shortage.name.capitalize(), text(shortage.size_text)) for shortage in priced]
     facts += [
         ("Evaluations", f"{report.evaluations:,}"),
         ("Hours", str(instance.periods)),
@@ -100,11 +110,18 @@ def _percent(parts: Optional[int]) -> str:
     return "none, the cost is 0" if parts is None else f"{short_text(parts * 100)} %"
 
 
-def _charts(instance: Instance, schedule: Schedule) -> List[str]:
-    return [*_outputs(instance, schedule), *_curtailed(instance, schedule), *_reserve(instance, schedule), *_costs(instance, schedule)]
+def _charts(instance: Instance, schedule: Schedule, short: Tuple[Shortage, Shortage]) -> List[str]:
+    unserved, missing = short
+    return [
+        *_outputs(instance, schedule, unserved),
+        *_shortages([it for it in short if it.price]),
+        *_curtailed(instance, schedule),
+        *_reserve(instance, schedule, missing),
+        *_costs(instance, schedule, (unserved.price, missing.price)),
+    ]
 
 
-def _outputs(instance: Instance, schedule: Schedule) -> List[str]:
+def _outputs(instance: Instance, schedule: Schedule, unserved: Shortage) -> List[str]:
     stack = layers(instance, schedule)
     order = "The cheapest unit is at the bottom, by average cost at its last point."
     if any(layer.is_merged for layer in stack):
@@ -112,9 +129,12 @@ def _outputs(instance: Instance, schedule: Schedule) -> List[str]:
             f"One by one, the cheapest lowest, by average cost at its last point: the {SINGLE_UNITS} units whose output moves most "
             "from hour to hour. Below them, in grey, are the steadier ones."
         )
+    summed = "the outputs add up"
+    if any(unserved.watts):
+        stack, summed = [*stack, unserved_layer(unserved)], "the outputs and the unserved demand on top of them add up"
     parts = [
         element("h2", "Output by unit"),
-        element("p", order + " The line is demand, to which the outputs add up."),
+        element("p", f"{order} The line is demand, to which {summed}."),
         output_chart(instance, stack),
         legend(stack),
     ]
@@ -123,6 +143,33 @@ def _outputs(instance: Instance, schedule: Schedule) -> List[str]:
         more = f" and {len(idle) - NAMES_SHOWN} more" if len(idle) > NAMES_SHOWN else ""
         parts.append(element("p", text("Units without any output: " + ", ".join(idle[:NAMES_SHOWN]) + more + ".")))
     return parts
+
+
+def _shortages(priced: List[Shortage]) -> List[str]:
+    """What is short, as a table of the hours in which something is; nothing where nothing has a price."""
+    if not priced:
+        return []
+    words = (
+        f"{it.name.capitalize()}: {it.size_text} a MWh, {dollars_text(sum(it.costs))} in all."
+        if any(it.watts)
+        else f"{it.name.capitalize()}: none, at ${it.price:,} a MWh."
+        for it in priced
+    )
+    parts = [element("h2", "Shortages"), *(element("p", text(line)) for line in words)]
+    hours = [t for t in range(len(priced[0].watts)) if any(it.watts[t] for it in priced)]
+    if hours:
+        head = _cells("th", ["hour", *(f"{it.name}, MW" for it in priced), "cost"])
+        rows = (
+            _cells("td", [str(t + 1), *(short_text(it.watts[t]) for it in priced), dollars_text(sum(it.costs[t] for it in priced))])
+            for t in hours
+        )
+        parts.append(element("table", head + "".join(rows), class_="shortages"))
+    return parts
+
+
+def _cells(name: str, words: List[str]) -> str:
+    """A line of a table, of cells of one kind."""
+    return element("tr", "".join(element(name, text(word)) for word in words))
 
 
 def _curtailed(instance: Instance, schedule: Schedule) -> List[str]:
@@ -140,21 +187,23 @@ def _curtailed(instance: Instance, schedule: Schedule) -> List[str]:
     return [heading, element("p", words), curtailed_chart(curtailed)]
 
 
-def _reserve(instance: Instance, schedule: Schedule) -> List[str]:
+def _reserve(instance: Instance, schedule: Schedule, missing: Shortage) -> List[str]:
+    keys = [_keys([("given", "reserve given"), (missing.look, missing.name)])] if any(missing.watts) else []
     return [
         element("h2", "Reserve"),
         element("p", "Bars are the reserve given, the dashed line is the reserve needed."),
-        reserve_chart(instance, schedule),
+        *keys,
+        reserve_chart(instance, schedule, missing),
     ]
 
 
-def _costs(instance: Instance, schedule: Schedule) -> List[str]:
-    costs = hourly_costs(instance, schedule)
-    production, starts = (dollars_text(sum(amounts)) for amounts in (costs.production, costs.starts))
+def _costs(instance: Instance, schedule: Schedule, penalty: Penalty) -> List[str]:
+    costs = hourly_costs(instance, schedule, penalty)
+    words = ", ".join(f"{name} {dollars_text(sum(amounts))}" for name, _, amounts in costs.parts)
     return [
         element("h2", "Cost by hour"),
-        element("p", f"Production costs {production}, starts {starts}."),
-        _keys([("between", "production"), ("starts", "starts")]),
+        element("p", words.replace("production", "Production costs", 1) + "."),
+        _keys([(look, name) for name, look, _ in costs.parts]),
         cost_chart(costs),
     ]
 

@@ -62,6 +62,14 @@ class RenewableRow:
 
 
 @dataclass(frozen=True)
+class ShortageRow:
+    """The line of unserved demand or of missing reserve with its watts."""
+
+    line: int
+    watts: List[int]
+
+
+@dataclass(frozen=True)
 class Stuck:
     """The line on the most-on commitment: its number and text, the period from 1, and the demand or need that it names."""
 
@@ -75,11 +83,13 @@ class Stuck:
 
 @dataclass(frozen=True)
 class Schedule:
-    """A schedule with its cost in micro-dollars; a row for each unit in the order of the lines."""
+    """A schedule with its cost in micro-dollars; a row for each unit in the order of the lines, and of each shortage with a price."""
 
     cost: int
     thermal: List[ThermalRow]
     renewable: List[RenewableRow]
+    shed: Optional[ShortageRow] = None
+    short: Optional[ShortageRow] = None
 
 
 @dataclass(frozen=True)
@@ -113,7 +123,8 @@ def read_report(path: str, data: bytes) -> Report:
         cost, bound, evaluations = _money(lines, "cost"), _money(lines, "bound"), _evaluations(lines)
         thermal_rows = [_thermal_row(lines, periods) for _ in range(thermal)]
         renewable_rows = [_renewable_row(lines, periods) for _ in range(renewable)]
-        report = Report(*head, evaluations, bound, Schedule(cost, thermal_rows, renewable_rows))
+        shed, short = _shortage_row(lines, "shed", periods), _shortage_row(lines, "reserve-short", periods)
+        report = Report(*head, evaluations, bound, Schedule(cost, thermal_rows, renewable_rows, shed, short))
     lines.finish()
     return report
 
@@ -192,10 +203,20 @@ def _renewable_row(lines: Lines, periods: int) -> RenewableRow:
     return RenewableRow(lines.number, name, [_output(lines, t + 1, word) for t, word in enumerate(words)])
 
 
+def _shortage_row(lines: Lines, word: str, periods: int) -> Optional[ShortageRow]:
+    """The line that begins with a word; None where another one is due, or the end."""
+    if not lines.is_at(word):
+        return None
+    words = lines.take().split(" ")[1:]
+    if len(words) != periods:
+        lines.refuse(f"{len(words)} amounts for {periods} periods")
+    return ShortageRow(lines.number, [_output(lines, t + 1, word) for t, word in enumerate(words)])
+
+
 def _output(lines: Lines, period: int, word: str) -> int:
     output = amount(word)
     if output is None:
-        lines.refuse(f"period {period}: {shown(word)} is no output")
+        lines.refuse(f"period {period}: {shown(word)} is no amount of power")
     return output
 
 

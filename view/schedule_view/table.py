@@ -9,21 +9,24 @@ from .amounts import amount_text, nearest
 from .certificate import Prices
 from .instance import Instance
 from .report import Schedule
+from .shortages import NO_PENALTY, shortages
 
-HEAD = ("unit", "kind", "hour", "on", "output", "reserve", "category", "demand", "need", "demand_price", "reserve_price")
+HEAD = ("unit", "kind", "hour", "on", "output", "reserve", "category")
+HOUR_HEAD = ("demand", "need", "demand_price", "reserve_price", "shed", "reserve_short")
 
 
 def write_table(instance: Instance, schedule: Optional[Schedule], prices: Optional[Prices], out: TextIO) -> None:
     """Power in megawatts and prices in dollars a megawatt-hour, with six decimals; the head alone where there is no schedule.
 
     A unit that is off has noughts, and so has the category where nothing starts. A renewable unit is on where it gives something.
-    The hour's demand, reserve needed and prices of the bound stand in each line; without a certificate the prices are empty.
+    The hour's demand, reserve needed, prices of the bound, unserved demand and missing reserve stand in each line; without a certificate
+    the prices are empty.
     """
     table = csv.writer(out, lineterminator="\n")
-    table.writerow(HEAD)
+    table.writerow(HEAD + HOUR_HEAD)
     if schedule is None:
         return
-    hours = _hours(instance, prices)
+    hours = _hours(instance, schedule, prices)
     for row in schedule.thermal:
         for period, cell in enumerate(row.cells):
             numbers = (cell.output, cell.reserve, cell.category) if cell else (0, 0, 0)
@@ -38,11 +41,12 @@ def _line(period: int, is_on: bool, numbers: Tuple[int, int, int]) -> Tuple[int,
     return period + 1, int(is_on), amount_text(output), amount_text(reserve), category
 
 
-def _hours(instance: Instance, prices: Optional[Prices]) -> List[Tuple[str, str, str, str]]:
-    """What stands in each line of an hour: demand, reserve needed, and their prices."""
+def _hours(instance: Instance, schedule: Schedule, prices: Optional[Prices]) -> List[Tuple[str, ...]]:
+    """What stands in each line of an hour: demand and reserve needed, their prices, and what is short of them."""
     priced = [("", "")] * instance.periods
     if prices:
         texts = ([amount_text(nearest(Fraction(n, prices.scale))) for n in numbers] for numbers in (prices.demand, prices.reserve))
         priced = list(zip(*texts))
     powers = zip(map(amount_text, instance.demand), map(amount_text, instance.reserves))
-    return [(*power, *price) for power, price in zip(powers, priced)]
+    short = zip(*(map(amount_text, it.watts) for it in shortages(schedule, instance.periods, NO_PENALTY)))
+    return [(*power, *price, *lacks) for power, price, lacks in zip(powers, priced, short)]
