@@ -4,9 +4,9 @@
     python3 bench/checkers.py PROGRAM [COUNT [SEED]]     # PROGRAM is `crates/uc/out/uc`, or `unproved`
 
 COUNT small random instances are solved, of up to five units and six hours, with what is easily read otherwise: points that begin elsewhere
-than at the minimum or aren't convex, lags that fall, hours off of units that are on. Both check each certificate, ten changes of it, and
-it beside ten changes of the instance; a change is to a word, a line, a byte or a number, by chance. Told are how often each kind of answer
-came, and the answers that differ.
+than at the minimum or aren't convex, lags that fall, hours off of units that are on; half of them with prices of unserved demand and of
+missing reserve. Both check each certificate, it by other prices, ten changes of it, and it beside ten changes of the instance; a change is
+to a word, a line, a byte or a number, by chance. Told are how often each kind of answer came, and the answers that differ.
 """
 import collections
 import contextlib
@@ -61,7 +61,7 @@ def random_instance(chance):
         most = [chance.randint(0, 20) for _ in range(periods)]
         renewable["w"] = {"power_output_minimum": [it - chance.randint(0, 20) for it in most], "power_output_maximum": most}
     least = min(it["power_output_minimum"] for it in thermal.values())
-    most = max(least, sum(it["power_output_maximum"] for it in thermal.values()) // 2)
+    most = max(least, sum(it["power_output_maximum"] for it in thermal.values()) * chance.choice([1, 1, 1, 3]) // 2)
     return {
         "time_periods": periods, "demand": [chance.randint(least, most) for _ in range(periods)],
         "reserves": [chance.randint(-2, max(most // 10, 1)) for _ in range(periods)], "thermal_generators": thermal,
@@ -115,31 +115,37 @@ def changed_instance(chance, text):
     return text[:it.start()] + new + text[it.end():]
 
 
-def answer_of_program(program, instance, certificate):
-    ran = subprocess.run([program, "check", instance, certificate], capture_output=True)
+def random_prices(chance):
+    """Options with prices of what is short, or none."""
+    names = chance.choice([[], [], [], ["shed"], ["spill-reserve"], ["shed", "spill-reserve"]])
+    return [f"--{name}={chance.choice([1, 10, 40, 200, 10**6])}" for name in names]
+
+
+def answer_of_program(program, options, instance, certificate):
+    ran = subprocess.run([program, "check", *options, instance, certificate], capture_output=True)
     text = (ran.stdout + ran.stderr).decode()
     return ran.returncode, PLACED.sub("instance: no JSON text within the limits", text).splitlines()
 
 
-def answer_of_checker(instance, certificate):
+def answer_of_checker(options, instance, certificate):
     try:
-        return 0, check.verdict([instance, certificate])
+        return 0, check.verdict([*options, instance, certificate])
     except check.Refused as refused:
         return refused.status, [str(refused)]
 
 
 def kind_of(status, lines):
-    return " ".join([str(status), *re.findall(r"accepted|infeasible|[CI][0-9]|M[0-9]+|form|cut short|bytes|JSON", " ".join(lines))])
+    return " ".join([str(status), *re.findall(r"accepted|infeasible|[CI][0-9]+|M[0-9]+|form|cut short|bytes|JSON", " ".join(lines))])
 
 
-def compare(program, files, told):
-    ours, theirs = answer_of_checker(*map(str, files)), answer_of_program(program, *files)
+def compare(program, options, files, told):
+    ours, theirs = answer_of_checker(options, *map(str, files)), answer_of_program(program, options, *files)
     told[kind_of(*theirs)] += 1
     if ours != theirs:
         kept = pathlib.Path(tempfile.mkdtemp(prefix="checkers-"))
         for file in files:
             (kept / file.name).write_bytes(file.read_bytes())
-        print(f"DIFFER: {kept}: check.py {ours}, uc check {theirs}", flush=True)
+        print(f"DIFFER: {kept}: {' '.join(options)}: check.py {ours}, uc check {theirs}", flush=True)
     return ours == theirs
 
 
@@ -150,19 +156,20 @@ def main(program, count, seed):
         program = search.built(folder) if program == "unproved" else pathlib.Path(program).resolve()
         instance, certificate = folder / "instance.json", folder / "made.cert"
         for _ in range(count):
-            made = json.dumps(random_instance(chance))
+            made, prices = json.dumps(random_instance(chance)), random_prices(chance)
             instance.write_text(made)
-            words = ["--units", str(chance.choice([1, 5, 40])), "--gap", "0"]
+            words = ["--units", str(chance.choice([1, 5, 40])), "--gap", "0", *prices]
             subprocess.run([program, "solve", instance, "--cert", certificate, *words], capture_output=True)
             if not certificate.exists():
                 continue
             found = certificate.read_text()
-            texts = [(made, found)] + [(made, changed_certificate(chance, found)) for _ in range(CHANGES)]
-            texts += [(changed_instance(chance, made), found) for _ in range(CHANGES)]
-            for changed, written in texts:
+            texts = [(prices, made, found), (random_prices(chance), made, found)]
+            texts += [(prices, made, changed_certificate(chance, found)) for _ in range(CHANGES)]
+            texts += [(prices, changed_instance(chance, made), found) for _ in range(CHANGES)]
+            for options, changed, written in texts:
                 instance.write_text(changed)
                 certificate.write_text(written)
-                same += compare(program, (instance, certificate), told)
+                same += compare(program, options, (instance, certificate), told)
                 all_pairs += 1
             certificate.unlink()
     for kind, times in sorted(told.items()):

@@ -1,9 +1,9 @@
 #!/usr/bin/env python3
 """Measures what HiGHS, a mixed-integer solver in floating point, finds on the model of the instance files as it stands.
 
-    python3 bench/highs.py SECONDS CASE.json ..     # with scipy 1.9 or later
+    python3 bench/highs.py SECONDS [--shed=PRICE] [--spill-reserve=PRICE] CASE.json ..     # with scipy 1.9 or later
 
-The model is M1 to M15 of docs/MODEL.md, one variable for each of its symbols, in megawatts and dollars, without cuts or bounds of our own.
+The model is M1 to M17 of docs/MODEL.md, one variable for each of its symbols, in megawatts and dollars, without cuts or bounds of our own.
 HiGHS gets one processor, the gap of a thousandth, at which `uc` closes too, and so many seconds. Told are its cost, its bound, the gap
 between them and the seconds of the processor, those of making the model left out.
 """
@@ -130,7 +130,7 @@ class Unit:
             self.model.row(fall, least=first - self.fields["ramp_down_limit"])
 
 
-def model_of(instance):
+def model_of(instance, shed=0, spill_reserve=0):
     model, periods = Model(), instance["time_periods"]
     units = [Unit(model, fields, periods) for fields in instance["thermal_generators"].values()]
     for t in range(1, periods + 1):
@@ -138,15 +138,23 @@ def model_of(instance):
         for fields in instance["renewable_generators"].values():
             low, high = (fields[f"power_output_{end}"][t - 1] for end in ("minimum", "maximum"))
             given.append((model.variable(max(low, 0), high), 1))
-        demand = instance["demand"][t - 1]
-        model.row(given, demand, demand)
-        model.row([(unit.reserve[t], 1) for unit in units], least=instance["reserves"][t - 1])
+        demand, need = instance["demand"][t - 1], instance["reserves"][t - 1]
+        model.row(given + short(model, demand, shed), demand, demand)
+        model.row([(unit.reserve[t], 1) for unit in units] + short(model, need, spill_reserve), least=need)
     return model
 
 
-def main(seconds, cases):
+def short(model, most, price):
+    """What may be short of demand or of reserve, where that has a price."""
+    return [(model.variable(0, max(most, 0), False, price), 1)] if price else []
+
+
+def main(seconds, words):
+    cases = [it for it in words if not it.startswith("--")]
+    options = dict(it[2:].split("=") for it in words if it.startswith("--"))
+    prices = {name.replace("-", "_"): int(price) for name, price in options.items()}
     for case in cases:
-        model = model_of(json.loads(pathlib.Path(case).read_text()))
+        model = model_of(json.loads(pathlib.Path(case).read_text()), **prices)
         start = time.process_time()
         found = model.solve(seconds)
         took = time.process_time() - start

@@ -172,8 +172,8 @@ def start_cost(unit, on, periods):
     return total
 
 
-def best_cost(instance):
-    """The cost of the best schedule in whole megawatts, or None."""
+def best_cost(instance, prices=(0, 0)):
+    """The cost of the best schedule in whole megawatts, or None, at prices of unserved demand and of missing reserve."""
     periods, units = instance["time_periods"], list(instance["thermal_generators"].values())
     free = [sum(it["power_output_maximum"][t] for it in instance["renewable_generators"].values()) for t in range(periods)]
     choices = []
@@ -186,20 +186,28 @@ def best_cost(instance):
     for commitment in itertools.product(*choices):
         states = {first: sum(starts for _, _, starts in commitment)}
         for t in range(periods):
-            states = next_states(instance, units, hulls, commitment, free[t], t, states)
+            wanted = instance["demand"][t], instance["reserves"][t]
+            states = next_states(units, hulls, commitment, t, (*wanted, free[t]), prices, states)
         if states and (best is None or min(states.values()) < best):
             best = min(states.values())
     return best
 
 
-def next_states(instance, units, hulls, commitment, free, t, states):
+def lack(amount, price):
+    """What it costs in micro-dollars that so many megawatts are short; None where some are and have no price."""
+    return max(amount, 0) * price * 10**6 if price or amount <= 0 else None
+
+
+def next_states(units, hulls, commitment, t, hour, prices, states):
+    demand, need, free = hour
     floor = sum(unit["power_output_minimum"] * on[t] for unit, (on, _, _) in zip(units, commitment))
-    left, found = instance["demand"][t] - floor, {}
+    left, found = demand - floor, {}
     ranges = [range(row[t] + 1) if on[t] else (0,) for on, row, _ in commitment]
     for powers in itertools.product(*ranges):
-        if not 0 <= left - sum(powers) <= free:
+        shed = lack(left - sum(powers) - free, prices[0])
+        if sum(powers) > left or shed is None:
             continue
-        cost = sum(costs[p] for costs, p, (on, _, _) in zip(hulls, powers, commitment) if on[t])
+        cost = shed + sum(costs[p] for costs, p, (on, _, _) in zip(hulls, powers, commitment) if on[t])
         for before, so_far in states.items():
             reserve = 0
             for unit, p, last, (on, row, _) in zip(units, powers, before, commitment):
@@ -208,8 +216,9 @@ def next_states(instance, units, hulls, commitment, free, t, states):
                     break
                 reserve += head - p if on[t] else 0
             else:
-                if reserve >= instance["reserves"][t] and so_far + cost < found.get(powers, so_far + cost + 1):
-                    found[powers] = so_far + cost
+                short = lack(need - reserve, prices[1])
+                if short is not None and so_far + cost + short < found.get(powers, so_far + cost + short + 1):
+                    found[powers] = so_far + cost + short
     return found
 
 

@@ -1,12 +1,13 @@
 #!/usr/bin/env python3
 """Whole runs on small random instances beside their best schedules, which are found by enumeration.
 
-    python3 bench/random_runs.py PROGRAM [COUNT [SEED]]     # PROGRAM is `crates/uc/out/uc`, or `unproved`
+    python3 bench/random_runs.py PROGRAM [COUNT [SEED]] [prices]     # PROGRAM is `crates/uc/out/uc`, or `unproved`
 
 The instances are those of `random_repairs.py`, with up to three units and four hours, and `solve` gets 200 evaluations and the gap 0. Told
 are how many runs ended with each status; of the instances with a schedule in whole megawatts how many were answered without one, and by a
 dearer one than the best of these; and each run that says something untrue: that there is no schedule where there is one, a bound above
-the best cost, or a certificate that `check` refuses. Nothing of what enumerates is shared with the program.
+the best cost, or a certificate that `check` refuses. Nothing of what enumerates is shared with the program. With `prices` unserved demand,
+missing reserve or both have a price, and demand and reserve are more by chance, so that they may be above what all units give.
 """
 import collections
 import json
@@ -20,6 +21,7 @@ import random_repairs
 import search
 
 UNITS = "200"
+PRICES = [1, 8, 25, 60, 1000]
 
 
 def micro_dollars(report, name):
@@ -28,26 +30,41 @@ def micro_dollars(report, name):
     return next((int(row[1].replace(".", "")) for row in rows if row[0] == name), None)
 
 
-def run(program, instance, folder):
+def with_prices(chance, instance):
+    """Prices of unserved demand and of missing reserve, of which one may be 0; the instance may want more than all units give then."""
+    for name, most in (("demand", 5), ("reserves", 3)):
+        instance[name] = [it + chance.choice([0, 0, chance.randint(0, most)]) for it in instance[name]]
+    prices = [chance.choice(PRICES), chance.choice(PRICES)]
+    if chance.random() < 0.5:
+        prices[chance.randrange(2)] = 0
+    return tuple(prices)
+
+
+def options(prices):
+    return [f"--{name}={price}" for name, price in zip(("shed", "spill-reserve"), prices) if price]
+
+
+def run(program, instance, prices, folder):
     """The status of `solve`, its cost and bound, and whether its certificate is accepted."""
     case, certificate = folder / "instance.json", folder / "found.cert"
     case.write_text(json.dumps(instance))
-    words = [program, "solve", case, "--cert", certificate, "--units", UNITS, "--gap", "0"]
+    words = [program, "solve", case, "--cert", certificate, "--units", UNITS, "--gap", "0", *options(prices)]
     solved = subprocess.run(words, capture_output=True, text=True)
-    checked = subprocess.run([program, "check", case, certificate], capture_output=True)
+    checked = subprocess.run([program, "check", case, certificate, *options(prices)], capture_output=True)
     cost, bound = (micro_dollars(solved.stdout, name) for name in ("cost", "bound"))
     return solved.returncode, cost, bound, checked.returncode == 0
 
 
-def main(program, count, seed):
+def main(program, count, seed, has_prices):
     chance, statuses, missed, dearer = random.Random(seed), collections.Counter(), 0, 0
     with tempfile.TemporaryDirectory() as made:
         folder = pathlib.Path(made)
         program = search.built(folder) if program == "unproved" else pathlib.Path(program).resolve()
         for number in range(count):
             instance = random_repairs.random_instance(chance)
-            status, cost, bound, is_accepted = run(program, instance, folder)
-            best = random_repairs.best_cost(instance)
+            prices = with_prices(chance, instance) if has_prices else (0, 0)
+            status, cost, bound, is_accepted = run(program, instance, prices, folder)
+            best = random_repairs.best_cost(instance, prices)
             statuses[status] += 1
             missed += best is not None and cost is None
             dearer += best is not None and cost is not None and cost > best
@@ -58,6 +75,7 @@ def main(program, count, seed):
 
 
 if __name__ == "__main__":
-    if not 2 <= len(sys.argv) <= 4:
+    words = [it for it in sys.argv[1:] if it != "prices"]
+    if not 1 <= len(words) <= 3:
         raise SystemExit(__doc__)
-    main(sys.argv[1], *(int(it) for it in (sys.argv[2:] + ["1000", "1"][len(sys.argv) - 2:])))
+    main(words[0], *(int(it) for it in (words[1:] + ["1000", "1"][len(words) - 1:])), "prices" in sys.argv[1:])

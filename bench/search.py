@@ -1,12 +1,12 @@
 #!/usr/bin/env python3
 """Measures what whole runs of `uc solve` find on instance files, and what they take.
 
-    python3 bench/search.py PROGRAM UNITS[:SECONDS] CASE.json ..     # PROGRAM is `crates/uc/out/uc`, or `unproved`
+    python3 bench/search.py PROGRAM UNITS[:SECONDS] [--shed=PRICE] [--spill-reserve=PRICE] CASE.json ..
 
-Told are cost, bound and gap after a budget of so many evaluations, the evaluations, and the seconds of the processor that the run took and
-the check of its certificate, which has to be accepted. With SECONDS, where the Python that runs this has scipy 1.9 or later, HiGHS follows
-on the same instance with so many seconds, see `highs.py`. `unproved` builds the program of the sources at hand without a proof, see
-`unproved.py`.
+PROGRAM is `crates/uc/out/uc`, or `unproved`, which builds the program of the sources at hand without a proof, see `unproved.py`. Told are
+cost, bound and gap after a budget of so many evaluations, the evaluations, and the seconds of the processor that the run took and the check
+of its certificate, which has to be accepted. With SECONDS, where the Python that runs this has scipy 1.9 or later, HiGHS follows on the same
+instance with so many seconds, see `highs.py`.
 """
 import pathlib
 import resource
@@ -44,12 +44,12 @@ def amount(report, name):
     return next((float(row[1]) for row in rows if row[0] == name), None)
 
 
-def measure(program, units, case, folder):
+def measure(program, units, prices, case, folder):
     certificate = folder / "found.cert"
-    solved, took = timed([program, "solve", case, "--cert", certificate, "--units", units])
+    solved, took = timed([program, "solve", case, "--cert", certificate, "--units", units, *prices])
     if solved.returncode > 3:
         raise SystemExit(solved.stderr)
-    checked, check = timed([program, "check", case, certificate])
+    checked, check = timed([program, "check", case, certificate, *prices])
     if checked.returncode:
         raise SystemExit(checked.stderr)
     cost, bound = amount(solved.stdout, "cost"), amount(solved.stdout, "bound")
@@ -64,25 +64,26 @@ def measure(program, units, case, folder):
     print(", ".join(parts), f"in {took:.2f} s, checked in {check:.2f} s", flush=True)
 
 
-def highs_too(seconds, case):
+def highs_too(seconds, prices, case):
     try:
         import highs
     except ImportError:
         print("HiGHS: not run, as there is no scipy")
         return
     print("HiGHS on", end=" ", flush=True)
-    highs.main(seconds, [case])
+    highs.main(seconds, [*prices, case])
 
 
-def main(program, budget, cases):
+def main(program, budget, words):
     units, _, seconds = budget.partition(":")
+    prices, cases = ([it for it in words if it.startswith("--") == is_price] for is_price in (True, False))
     with tempfile.TemporaryDirectory() as made:
         folder = pathlib.Path(made)
         program = built(folder) if program == "unproved" else program
         for case in cases:
-            measure(program, units, case, folder)
+            measure(program, units, prices, case, folder)
             if seconds:
-                highs_too(float(seconds), case)
+                highs_too(float(seconds), prices, case)
 
 
 if __name__ == "__main__":

@@ -3,7 +3,7 @@
 startup categories, and 1,000 units over 48 hours. Prints the wall clock seconds (the best of three) of the
 whole run, from the file to the certificate.
 
-    python3 bench/solve.py ./uc              # at the top of the repository
+    python3 bench/solve.py ./uc [OPTION ..]  # at the top of the repository; options as --shed 1000 go to `solve`
 """
 import json
 import pathlib
@@ -53,10 +53,10 @@ def instance(units, periods, categories, least):
     }
 
 
-def best(program, folder, name, made):
+def best(program, options, folder, name, made):
     path = folder / f"{name}.json"
     path.write_text(json.dumps(made))
-    words = [program, "solve", str(path), "--cert", str(folder / f"{name}.cert"), "--units", "1"]
+    words = [program, "solve", str(path), "--cert", str(folder / f"{name}.cert"), "--units", "1", *options]
     seconds = []
     for _ in range(3):
         start = time.perf_counter()
@@ -68,10 +68,11 @@ def best(program, folder, name, made):
 
 def main():
     random.seed(1)
-    program = str(pathlib.Path(sys.argv[1]).resolve())
-    with tempfile.TemporaryDirectory() as folder:
-        best(program, pathlib.Path(folder), "week", instance(1, 168, 16, 24))
-        best(program, pathlib.Path(folder), "thousand", instance(1000, 48, 4, 8))
+    program, options = str(pathlib.Path(sys.argv[1]).resolve()), sys.argv[2:]
+    with tempfile.TemporaryDirectory() as name:
+        folder = pathlib.Path(name)
+        best(program, options, folder, "week", instance(1, 168, 16, 24))
+        best(program, options, folder, "thousand", instance(1000, 48, 4, 8))
 
 
 if __name__ == "__main__":

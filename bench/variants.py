@@ -2,7 +2,7 @@
 """Makes other systems of an instance file, to measure the search on more than it was tuned on.
 
     python3 bench/variants.py CASE.json OUT.json [copies=N] [ramps=PART] [units=N] [slow=LOW:HIGH] [reserve=PART] [wind=PART]
-        [must=N] [costs=PART] [hours=N] [seed=N]
+        [must=N] [costs=PART] [hours=N] [short=N] [seed=N]
 
 - copies=N: N of each thermal unit, with N times the demand and reserve.
 - ramps=PART: each unit's ramps are this part of its greatest output, and so are its startup and shutdown limits where that is above its
@@ -15,10 +15,12 @@
 - must=N: so many of the units, by chance, must run, which begin as they do.
 - costs=PART: each unit's production costs and starts are dearer or cheaper by up to this part, by chance.
 - hours=N: so many hours, the hours of the file one after another and then anew, with demand and reserve by the days of a week.
+- short=N: in the N hours of greatest demand, demand is a tenth above what all units can give, in whole megawatts.
 
 They are made in the order in which they stand. All chance hangs on the seed, 0 where none is given.
 """
 import json
+import math
 import pathlib
 import random
 import sys
@@ -95,6 +97,13 @@ def repeated(case, hours):
             unit[f"power_output_{end}"] = [unit[f"power_output_{end}"][t % before] for t in range(hours)]
 
 
+def lacking(case, count):
+    hours = sorted(range(case["time_periods"]), key=lambda t: -case["demand"][t])
+    for t in hours[:count]:
+        given = most(case) + sum(it["power_output_maximum"][t] for it in case[RENEWABLE].values())
+        case["demand"][t] = math.ceil(1.1 * given)
+
+
 def main(source, target, options):
     case = json.loads(pathlib.Path(source).read_text())
     given = dict(option.split("=") for option in options)
@@ -116,6 +125,8 @@ def main(source, target, options):
             priced(case, float(value), chance)
         elif name == "hours":
             repeated(case, int(value))
+        elif name == "short":
+            lacking(case, int(value))
         elif name == "reserve":
             case["reserves"] = [round(float(value) * it, DECIMALS) for it in case["demand"]]
         else:

@@ -163,7 +163,7 @@ def _shortages(priced: List[Shortage]) -> List[str]:
             _cells("td", [str(t + 1), *(short_text(it.watts[t]) for it in priced), dollars_text(sum(it.costs[t] for it in priced))])
             for t in hours
         )
-        parts.append(element("table", head + "".join(rows), class_="shortages"))
+        parts.append(element("table", head + "".join(rows)))
     return parts
 
 
