@@ -7,7 +7,7 @@ use Rattle.uc_model.specs.declared.field.Field.{Field}
 use Rattle.uc_model.specs.declared.field_refusal.FieldRefusal.{FieldRefusal}
 use Rattle.uc_model.specs.declared.field.Field.TheVariants as field
 use Rattle.uc_model.specs.declared.refusal.Refusal.{Refusal}
-use Rattle.uc_model.specs.declared.refusal.Refusal.TheVariants.{C1, C2, C3, C4, C5, C6, C7, C8, C9}
+use Rattle.uc_model.specs.declared.refusal.Refusal.TheVariants.{C1, C2, C3, C4, C5, C6, C7, C8, C9, C10}
 use Rattle.outside.specs.declared.slot.Slot.{Slot}
 use Rattle.outside.specs.declared.slot.Slot.TheVariants as slot
 use Rattle.outside.specs.Lines.{joined, line}
@@ -151,6 +151,7 @@ refusal_line (C6 node) = line (codes "certificate: C6 node") (whole_text node �
 refusal_line (C7 node) = line (codes "certificate: C7 node") (whole_text node ∷ [])
 refusal_line C8 = line (codes "certificate: C8") []
 refusal_line C9 = line (codes "certificate: C9") []
+refusal_line C10 = line (codes "certificate: C10") []
 
 -- the whole text, with its line feed
 abbrev pub fault_text : Fault → List ℕ

@@ -222,6 +222,7 @@ fn put_refusal<O: Out>(out: &mut O, refusal: &Refusal)
         Refusal::C7 { node } => put_whole_line(out, b"certificate: C7 node", *node),
         Refusal::C8 => out.put(b"certificate: C8\n"),
         Refusal::C9 => out.put(b"certificate: C9\n"),
+        Refusal::C10 => out.put(b"certificate: C10\n"),
     }
 }
 

@@ -39,4 +39,6 @@ pub enum Refusal {
     C8,
     /// The size isn't the instance's.
     C9,
+    /// The prices of shortages aren't the instance's.
+    C10,
 }
