@@ -1,7 +1,7 @@
 -- The turns of the drop pass.
 use Rattle.std.proofs.Common.{◌≡◌, ◌⊎◌, ◌∙◌, ⊎_elim, ℕ, ◌<◌, zero, suc, false, true, List, get_or, get_or-set_other, get_or-set_same, set, length, length-set, inl, inr, refl, sym, subst, ap, arith, ℤ, IsTrue, int_lt, nat_lt, ◌≤◌, pos, unsigned_abs}
 use Rattle.std.proofs.lemmas.Bool.{cases_Bool, cases_eq, ltb-true}
-use Rattle.std.proofs.lemmas.List.{length-replicate, set-get_or, set-set}
+use Rattle.std.proofs.lemmas.List.{set-get_or, set-set}
 use Rattle.uc_model.proofs.PrintedCosts.{printed_cost-fits, watts-factor}
 use Rattle.uc_model.proofs.Ring.{linear}
 use Rattle.uc_model.proofs.Tests.{int_lt-true}
@@ -60,18 +60,26 @@ accepted instance patterns printed cost lawful is cost_is =
     let shape = is.periods.shape in
     let factor = watts-factor instance printed in
     record {
-      shape = record { thermal = is.periods.shape.thermal; cells = is.periods.shape.cells; renewable = is.periods.shape.renewable; outputs = is.periods.shape.outputs; shed = ap length shape.supply.shed ∙ length-replicate instance.periods (pos 0); short = ap length shape.supply.short ∙ length-replicate instance.periods (pos 0); denominator = (omega (arith, shape.supply.denominator), omega (arith, shape.supply.denominator)) };
+      shape = record {
+        thermal = shape.thermal;
+        cells = shape.cells;
+        renewable = shape.renewable;
+        outputs = shape.outputs;
+        shed = shape.shed;
+        short = shape.short;
+        denominator = (omega (arith, shape.whole), omega (arith, shape.whole));
+      };
       obeys = obeys;
       cost_is = cost_is;
       numbers = plain instance patterns instance.periods printed lawful (omega arith) is.periods;
-      supply = shape.supply;
+      whole = shape.whole;
       size = subst (λ z. unsigned_abs z ≤ COST_MAX) (sym cost_is) (printed_cost-fits instance printed (printed_denominator instance printed) factor.0 lawful factor.1 obeys);
     }
 
 -- and its cells can be priced
 pub dispatch_prices : (instance : Instance) (patterns : List Pattern) (rows : Rows) → IsLawfulInstance instance → IsDispatchOf instance patterns (printed_of rows)
     → (g t : ℕ) → g < thermal_count instance → t < instance.periods → HasPrice (thermal_unit instance g) (cell_at (printed_of rows) g t)
-dispatch_prices instance patterns rows lawful is = priced instance (printed_of rows) lawful is.periods.shape.supply.denominator (obeying instance patterns (printed_of rows) lawful is.regular is.periods)
+dispatch_prices instance patterns rows lawful is = priced instance (printed_of rows) lawful is.periods.shape.whole (obeying instance patterns (printed_of rows) lawful is.regular is.periods)
 
 -- where something is in the way the commitment is stuck
 pub stuck_in : (instance : Instance) (patterns : List Pattern) (rows : Rows) (obstacle : Obstacle) → AreAllowed instance patterns → AreRowsOf instance patterns rows
