@@ -70,6 +70,16 @@ thermal_lines units rows = flat_map paired_thermal_line (zip units rows)
 abbrev pub renewable_lines : List Renewable → List (List ℤ) → List ℕ
 renewable_lines units rows = flat_map paired_renewable_line (zip units rows)
 
+-- powers that are missing, where that has a price
+abbrev pub priced_line : List ℕ → ℕ → List ℤ → List ℕ
+priced_line first zero powers = []
+priced_line first (suc price) powers = list_line first money_text powers
+
+-- the demand that is unserved, and the reserve that is short
+abbrev pub shortage_lines : Instance → Printed → List ℕ
+shortage_lines instance printed =
+    joined (priced_line (codes "shed") instance.a printed.shed ∷ priced_line (codes "reserve-short") instance.b printed.short ∷ [])
+
 -- a thermal unit by its name
 abbrev pub thermal_words : Instance → ℕ → List ℕ
 thermal_words instance unit = unit_words (codes "thermal") (thermal_unit instance unit).name
@@ -103,7 +113,7 @@ schedule_summary found gap cost =
 abbrev pub schedule_report : Instance → Found → ℕ → Printed → ℤ → List ℕ
 schedule_report instance found gap printed cost =
     joined (schedule_summary found gap cost ∷ thermal_lines instance.thermal printed.thermal
-    ∷ renewable_lines instance.renewable printed.renewable ∷ [])
+    ∷ renewable_lines instance.renewable printed.renewable ∷ shortage_lines instance printed ∷ [])
 
 -- the first lines without a schedule: with no bound there is none, and else there may be one
 abbrev pub no_schedule_summary : Found → Option ℤ → List ℕ

@@ -5,7 +5,7 @@ ghost use Rattle.outside.specs.Sinks.{SinkWrites, SinkWritesFront};
 ghost use Rattle.branch_tree.specs.StoredTree.{tree_bound};
 ghost use Rattle.report.specs.FoundReport.{size_line, state_line, cost_line, bound_line, evaluations_line, schedule_summary, schedule_report, no_schedule_summary, no_schedule_report, found_report};
 
-use crate::schedule::{RenewableLine, ThermalLine};
+use crate::schedule::{RenewableLine, ThermalLine, put_shortages};
 use crate::stuck::put_stuck;
 use branch_tree::{Found, is_within_gap};
 use outside::{
@@ -89,6 +89,7 @@ fn put_schedule<O: Out>(
         instance.renewable.as_slice(),
         printed.renewable.as_slice(),
     );
+    put_shortages(out, instance, printed);
 }
 
 // What a report says without a schedule, but for why none was found.

@@ -2,12 +2,12 @@
 
 ghost use Rattle.std.specs.Prelude.{◌≡◌, ◌+ℤ◌};
 ghost use Rattle.report.specs.Names.{unit_words};
-ghost use Rattle.report.specs.FoundReport.{start_text, cell_text, paired_thermal_line, paired_renewable_line};
+ghost use Rattle.report.specs.FoundReport.{start_text, cell_text, paired_thermal_line, paired_renewable_line, priced_line, shortage_lines};
 ghost use Rattle.uc_model.specs.Money.{money_text};
 
 use crate::names::put_unit;
 use outside::{Form, Out, PairForm, put_amount, put_list_line, put_money, put_whole};
-use uc_model::{Cell, List, Renewable, Thermal};
+use uc_model::{Cell, Instance, List, Printed, Renewable, Thermal};
 
 // The category of a start; 0 is no start.
 fn put_start<O: Out>(out: &mut O, category: u8)
@@ -83,4 +83,21 @@ impl PairForm<Renewable, List<i64>> for RenewableLine {
         put_unit(out, b"renewable", unit.name.as_str());
         put_list_line(out, b"", &Power, row.as_slice());
     }
+}
+
+// Powers that are missing, where that has a price.
+fn put_priced<O: Out>(out: &mut O, first: &[u8], price: u32, powers: &[i64])
+    ensures { O.emits (priced_line first.now price powers.now) out.old out.new }
+{
+    if price > 0 {
+        put_list_line(out, first, &Power, powers);
+    }
+}
+
+// The demand that is unserved, and the reserve that is short.
+pub(crate) fn put_shortages<O: Out>(out: &mut O, instance: &Instance, printed: &Printed)
+    ensures { O.emits (shortage_lines instance.now printed.now) out.old out.new }
+{
+    put_priced(out, b"shed", instance.a, printed.shed.as_slice());
+    put_priced(out, b"reserve-short", instance.b, printed.short.as_slice());
 }
