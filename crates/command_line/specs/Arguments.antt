@@ -37,20 +37,27 @@ gap_option = record (new_rule (codes "gap")) {
   defaults = codes "1000" ∷ [];
 }
 
+-- `--NAME PRICE`, a whole number from 1 to a million, which may be left out
+abbrev pub price_option : Text → Rule
+price_option name = record (new_rule name) { long = Some name; parser = Some (Signed (pos 1) (pos 1000000)) }
+
 -- `--NAME`
 abbrev pub switch : Text → Rule
 switch name = record (new_rule name) { long = Some name; action = Some SetTrue }
 
--- `solve FILE --cert FILE [--units N] [--workers N] [--gap PPM] [--exact]`
+-- `solve FILE --cert FILE [--units N] [--workers N] [--gap PPM] [--exact] [--shed PRICE] [--spill-reserve PRICE]`
 abbrev pub solve_shape : Shape
 solve_shape = record (new_shape (codes "solve")) {
   rules = place (codes "instance") ∷ needed_option (codes "cert") ∷ units_option ∷ one_alone (codes "workers") ∷ gap_option
-      ∷ switch (codes "exact") ∷ [];
+      ∷ switch (codes "exact") ∷ price_option (codes "shed") ∷ price_option (codes "spill-reserve") ∷ [];
 }
 
--- `check FILE CERT`
+-- `check FILE CERT [--shed PRICE] [--spill-reserve PRICE]`
 abbrev pub check_shape : Shape
-check_shape = record (new_shape (codes "check")) { rules = place (codes "instance") ∷ place (codes "certificate") ∷ [] }
+check_shape = record (new_shape (codes "check")) {
+  rules = place (codes "instance") ∷ place (codes "certificate") ∷ price_option (codes "shed")
+      ∷ price_option (codes "spill-reserve") ∷ [];
+}
 
 -- a whole number from 0 that 32 bits hold, told by its place, which has to be given
 abbrev pub seed_place : Rule

@@ -13,11 +13,23 @@ pub use Rattle.command_line.specs.declared.command.Command.{Command as CommandWo
 use Rattle.command_line.specs.declared.command.Command.TheVariants as forms
 
 abbrev pub solve_asked : SolveWords → Solve
-solve_asked solve =
-    record { instance = solve.instance.now; certificate = solve.certificate.now; units = solve.units; gap = solve.gap; exact = solve.exact }
+solve_asked solve = record {
+  instance = solve.instance.now;
+  certificate = solve.certificate.now;
+  units = solve.units;
+  gap = solve.gap;
+  exact = solve.exact;
+  shed = solve.shed;
+  spill_reserve = solve.spill_reserve;
+}
 
 abbrev pub check_asked : CheckWords → Check
-check_asked check = record { instance = check.instance.now; certificate = check.certificate.now }
+check_asked check = record {
+  instance = check.instance.now;
+  certificate = check.certificate.now;
+  shed = check.shed;
+  spill_reserve = check.spill_reserve;
+}
 
 abbrev pub demo_asked : DemoWords → Demo
 demo_asked demo = record { seed = demo.seed }
@@ -27,10 +39,14 @@ command_asked (forms.Solve solve) = Solves (solve_asked solve)
 command_asked (forms.Check check) = Checks (check_asked check)
 command_asked (forms.Demo demo) = Demos (demo_asked demo)
 
--- the budget that `solve` is asked is at most a million evaluations, and the gap at most the whole of a cost
+-- both prices are at most a million micro-dollars for a watt and an hour
+abbrev pub HasPrices : ℕ → ℕ → Type 0
+HasPrices shed spill_reserve = (shed ≤ 1000000) × (spill_reserve ≤ 1000000)
+
+-- the budget that `solve` is asked is at most a million evaluations, the gap at most the whole of a cost, and prices are in range
 abbrev pub HasNumbers : CommandWords → Type 0
-HasNumbers (forms.Solve solve) = (solve.units ≤ 1000000) × (solve.gap ≤ 1000000)
-HasNumbers (forms.Check check) = ⊤
+HasNumbers (forms.Solve solve) = (solve.units ≤ 1000000) × (solve.gap ≤ 1000000) × HasPrices solve.shed solve.spill_reserve
+HasNumbers (forms.Check check) = HasPrices check.shed check.spill_reserve
 HasNumbers (forms.Demo demo) = ⊤
 
 -- the fault of an error of the parser

@@ -8,18 +8,23 @@ use Rattle.clap.specs.Words.{Row, Text, first_of, one_of, subcommand_of}
 use Rattle.command_line.specs.Arguments.{program, is_taken}
 
 -- what `solve` is asked: the instance's file, the certificate's, the budget of evaluations, the gap in parts per million of a cost
--- at which a search is closed, and whether a rounded number is refused
+-- at which a search is closed, whether a rounded number is refused, and the prices of unserved demand and of missing reserve in
+-- micro-dollars for a watt and an hour, 0 where there is none
 pub record Solve : Type 0 where
   pub instance : List ℕ
   pub certificate : List ℕ
   pub units : ℕ
   pub gap : ℕ
   pub exact : Bool
+  pub shed : ℕ
+  pub spill_reserve : ℕ
 
--- what `check` is asked: the instance's file, and the certificate's
+-- what `check` is asked: the instance's file, the certificate's, and the prices, as `solve` is
 pub record Check : Type 0 where
   pub instance : List ℕ
   pub certificate : List ℕ
+  pub shed : ℕ
+  pub spill_reserve : ℕ
 
 -- what `demo` is asked: the seed
 pub record Demo : Type 0 where
@@ -53,10 +58,17 @@ solve_of rows = record {
   units = number_of 1000000 (codes "units") rows;
   gap = number_of 1000000 (codes "gap") rows;
   exact = is_on (codes "exact") rows;
+  shed = number_of 1000000 (codes "shed") rows;
+  spill_reserve = number_of 1000000 (codes "spill-reserve") rows;
 }
 
 abbrev pub check_of : List Row → Check
-check_of rows = record { instance = value_of (codes "instance") rows; certificate = value_of (codes "certificate") rows }
+check_of rows = record {
+  instance = value_of (codes "instance") rows;
+  certificate = value_of (codes "certificate") rows;
+  shed = number_of 1000000 (codes "shed") rows;
+  spill_reserve = number_of 1000000 (codes "spill-reserve") rows;
+}
 
 abbrev pub demo_of : List Row → Demo
 demo_of rows = record { seed = number_of 4294967295 (codes "seed") rows }

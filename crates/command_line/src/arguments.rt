@@ -3,7 +3,7 @@
 ghost use Rattle.std.specs.Prelude.{◌≡◌, IfOk, true, false, []};
 ghost use Rattle.clap.specs.Words.{App, Rule, Shape, app_of, rule_of, shape_of, with_rule, with_subcommand};
 ghost use Rattle.clap.specs.declared.builder.command.Command.TheViews.{out-Command as fields_of};
-ghost use Rattle.command_line.specs.Arguments.{place as place_rule, needed_option as needed_rule, units_option as units_rule, one_alone as one_rule, gap_option as gap_rule, switch as switch_rule, seed_place as seed_rule, solve_shape, check_shape, demo_shape, program as program_app};
+ghost use Rattle.command_line.specs.Arguments.{place as place_rule, needed_option as needed_rule, units_option as units_rule, one_alone as one_rule, gap_option as gap_rule, price_option as price_rule, switch as switch_rule, seed_place as seed_rule, solve_shape, check_shape, demo_shape, program as program_app};
 
 use clap::{Arg, ArgAction, Command, value_parser};
 use std::alloc::{AllocError, Global};
@@ -57,6 +57,16 @@ fn gap_option<'a>(alloc: Global) -> Arg<'a>
         .default_value("1000")
 }
 
+// `--NAME PRICE`, a whole number from 1 to a million, which may be left out.
+fn price_option<'a>(alloc: Global, name: &'a str) -> Arg<'a>
+    ensures rule { rule_of result ≡ price_rule name.entry.now }
+    ensures local { result.global ≡ false }
+{
+    Arg::new(alloc, name)
+        .long(name)
+        .value_parser(value_parser!(u32).range(1..=1_000_000))
+}
+
 // `--NAME`.
 fn switch<'a>(alloc: Global, name: &'a str) -> Arg<'a>
     ensures rule { rule_of result ≡ switch_rule name.entry.now }
@@ -107,7 +117,9 @@ fn solve_command<'a>(alloc: Global) -> Built<'a>
     let command = with_arg(command, units_option(alloc));
     let command = with_arg(command, one_alone(alloc, "workers"));
     let command = with_arg(command, gap_option(alloc));
-    with_arg(command, switch(alloc, "exact"))
+    let command = with_arg(command, switch(alloc, "exact"));
+    let command = with_arg(command, price_option(alloc, "shed"));
+    with_arg(command, price_option(alloc, "spill-reserve"))
 }
 
 fn check_command<'a>(alloc: Global) -> Built<'a>
@@ -115,7 +127,9 @@ fn check_command<'a>(alloc: Global) -> Built<'a>
     ensures local { IfOk result (λ command. (fields_of command).has_globals ≡ false) }
 {
     let command = with_arg(Ok(Command::new(alloc, "check")), place(alloc, "instance"));
-    with_arg(command, place(alloc, "certificate"))
+    let command = with_arg(command, place(alloc, "certificate"));
+    let command = with_arg(command, price_option(alloc, "shed"));
+    with_arg(command, price_option(alloc, "spill-reserve"))
 }
 
 fn demo_command<'a>(alloc: Global) -> Built<'a>

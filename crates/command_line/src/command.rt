@@ -4,7 +4,7 @@ ghost use Rattle.std.specs.Prelude.{◌≡◌, ◌≤◌, map, string_bytes, tru
 ghost use Rattle.clap.specs.Words.{first_of, found_of, rows_of, kind_of, subcommand_rows_of};
 ghost use Rattle.command_line.specs.Arguments.{is_taken};
 ghost use Rattle.command_line.specs.Command.{named, command_of as command_of_words, value_of, is_on, number_of, solve_of as solve_of_rows, check_of as check_of_rows, demo_of as demo_of_rows};
-ghost use Rattle.command_line.specs.Asked.{command_asked, solve_asked, check_asked, demo_asked, refusal_of, HasNumbers, IsRefusal};
+ghost use Rattle.command_line.specs.Asked.{command_asked, solve_asked, check_asked, demo_asked, refusal_of, HasNumbers, HasPrices, IsRefusal};
 
 use crate::arguments::program;
 use clap::error::ErrorKind;
@@ -12,14 +12,15 @@ use clap::{ArgMatches, Error};
 use report::Fault;
 use std::alloc::Global;
 
-/// The greatest number of an option: evaluations of a budget, and parts per million of a cost.
+/// The greatest number of an option: evaluations of a budget, parts per million of a cost, and micro-dollars for a watt and an hour.
 const MOST: u32 = 1_000_000;
 
 /// The greatest seed.
 const MOST_SEED: u32 = 4_294_967_295;
 
 /// What `solve` is asked: the file of the instance, that of the certificate, the budget in evaluations, the gap at which a search is
-/// closed, in parts per million of a cost, and whether a rounded number is refused.
+/// closed, in parts per million of a cost, whether a rounded number is refused, and the prices of unserved demand and of missing
+/// reserve, in micro-dollars for a watt and an hour, 0 where there is none.
 #[derive(Clone, Copy, Debug)]
 pub struct Solve<'a> {
     pub instance: &'a str,
@@ -27,13 +28,17 @@ pub struct Solve<'a> {
     pub units: u32,
     pub gap: u32,
     pub exact: bool,
+    pub shed: u32,
+    pub spill_reserve: u32,
 }
 
-/// What `check` is asked: the file of the instance, and that of the certificate.
+/// What `check` is asked: the file of the instance, that of the certificate, and the prices, as `solve` is.
 #[derive(Clone, Copy, Debug)]
 pub struct Check<'a> {
     pub instance: &'a str,
     pub certificate: &'a str,
+    pub shed: u32,
+    pub spill_reserve: u32,
 }
 
 /// What `demo` is asked: the seed.
@@ -91,6 +96,7 @@ fn number(given: &ArgMatches<'_>, id: &str, most: u32) -> u32
 fn solve_of<'a>(given: &ArgMatches<'a>) -> Solve<'a>
     ensures asked { solve_asked result ≡ solve_of_rows (rows_of (found_of given.now)) }
     ensures numbers { (result.units ≤ MOST) × (result.gap ≤ MOST) }
+    ensures prices { HasPrices result.shed result.spill_reserve }
 {
     Solve {
         instance: value(given, "instance"),
@@ -98,15 +104,20 @@ fn solve_of<'a>(given: &ArgMatches<'a>) -> Solve<'a>
         units: number(given, "units", MOST),
         gap: number(given, "gap", MOST),
         exact: is_given(given, "exact"),
+        shed: number(given, "shed", MOST),
+        spill_reserve: number(given, "spill-reserve", MOST),
     }
 }
 
 fn check_of<'a>(given: &ArgMatches<'a>) -> Check<'a>
-    ensures { check_asked result ≡ check_of_rows (rows_of (found_of given.now)) }
+    ensures asked { check_asked result ≡ check_of_rows (rows_of (found_of given.now)) }
+    ensures prices { HasPrices result.shed result.spill_reserve }
 {
     Check {
         instance: value(given, "instance"),
         certificate: value(given, "certificate"),
+        shed: number(given, "shed", MOST),
+        spill_reserve: number(given, "spill-reserve", MOST),
     }
 }
 
