@@ -24,19 +24,19 @@ points_from instance h =
       each = λ g l. ltb-true _ _ (all_below-at _ (λ k. nat_lt 0 (length (thermal_unit instance k).points)) parts.1 g l);
     }
 
-pub computed_value : (instance : Instance) (node : Node) (table : Table) (v : ℤ) → IsTrue (has_points instance)
+pub computed_value : {instance : Instance} {node : Node} {table : Table} {v : ℤ} → IsTrue (has_points instance)
     → node_value_of instance node table ≡ Some v → IsNodeValue instance node table v
-computed_value instance node table v points same =
+computed_value {instance} {node} {table} points same =
     subst (IsNodeAnswer instance node table) same (node_value_is instance node table (points_from instance points))
 
-pub computed_empty : (instance : Instance) (node : Node) (table : Table) → IsTrue (has_points instance)
+pub computed_empty : {instance : Instance} {node : Node} (table : Table) → IsTrue (has_points instance)
     → node_value_of instance node table ≡ None → HasEmptyUnit instance node
-computed_empty instance node table points same =
+computed_empty {instance} {node} table points same =
     subst (IsNodeAnswer instance node table) same (node_value_is instance node table (points_from instance points))
 
 -- the same of a unit
-pub computed_unit_value : (instance : Instance) (node : Node) (table : Table) (g : ℕ) (v : ℤ) → IsTrue (has_points instance)
+pub computed_unit_value : {instance : Instance} {node : Node} {table : Table} {g : ℕ} {v : ℤ} → IsTrue (has_points instance)
     → IsTrue (nat_lt g (thermal_count instance)) → unit_value_of instance node table g ≡ Some v → IsUnitValue instance node table g v
-computed_unit_value instance node table g v points within same =
+computed_unit_value {instance} {node} {table} {g} points within same =
     let has = points_from instance points in
     subst (IsUnitAnswer instance node table g) same (unit_value_is instance node table g has.some (has.each g (ltb-true _ _ within)))

@@ -1,6 +1,6 @@
 -- Each example is computed.
 use Rattle.std.proofs.Common.{refl}
-use Rattle.dual_model.proofs.Computed.{computed_value}
+use Rattle.dual_model.proofs.Computed.{computed_value as value}
 use Rattle.dual_model.proofs.NodeValues.{node_value_of, units_value_of}
 use Rattle.dual_model.proofs.UnitValues.{unit_value_of, value_of, term_of}
 use Rattle.dual_model.proofs.Patterns.{best_pattern, better}
@@ -9,9 +9,4 @@ use Rattle.dual_model.proofs.examples.bounds_are_computed.Goals as goal
 
 pub returns : goal.returns
 unfolding node_value_of units_value_of unit_value_of best_pattern better value_of term_of least_reduced_cost greatest_bound corner_least pair_least
-returns c = record {
-  single = computed_value _ _ _ _ refl refl;
-  hull = computed_value _ _ _ _ refl refl;
-  two = computed_value _ _ _ _ refl refl;
-  mixed = computed_value _ _ _ _ refl refl;
-}
+returns c = record { single = value refl refl; hull = value refl refl; two = value refl refl; mixed = value refl refl }

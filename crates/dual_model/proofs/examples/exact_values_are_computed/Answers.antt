@@ -16,9 +16,9 @@ use Rattle.dual_model.proofs.examples.exact_values_are_computed.Goals as goal
 pub returns : goal.returns
 unfolding node_value_of units_value_of unit_value_of best_pattern better value_of term_of least_reduced_cost greatest_bound corner_least pair_least floored_cost
 returns c = record {
-  off = computed_unit_value _ _ _ _ _ refl refl refl;
+  off = computed_unit_value refl refl refl;
   kept = SinkingUnit.kept_value;
-  unpriced = computed_value _ _ _ _ refl refl;
+  unpriced = computed_value refl refl;
   exact = record {
     unit_value = λ g. pos 0;
     exact_value = λ g. mw 15;
@@ -38,7 +38,7 @@ returns c = record {
     units_at g l =
         subst (λ k. IsUnitValue (alone sinking_unit 5 0) root (ray (neg_ℤ (pos 1)) (pos 0) (alone sinking_unit 5 0)) k
         (pos 0)) (alone_at g l)
-        (computed_unit_value _ _ _ _ _ refl refl refl)
+        (computed_unit_value refl refl refl)
 
     exact_at : (g : ℕ) → g < 1 → IsExactUnitValue (alone sinking_unit 5 0) root (ray (neg_ℤ (pos 1)) (pos 0) (alone sinking_unit 5 0)) g
         (mw 15)

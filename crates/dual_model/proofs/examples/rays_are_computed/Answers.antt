@@ -10,14 +10,14 @@ use Rattle.dual_model.proofs.examples.rays_are_computed.Goals as goal
 pub returns : goal.returns
 unfolding node_value_of units_value_of unit_value_of best_pattern better value_of term_of least_reduced_cost greatest_bound corner_least pair_least
 returns c = record {
-  short = computed_value _ _ _ _ refl refl;
-  demand = computed_value _ _ _ _ refl refl;
-  surplus = computed_value _ _ _ _ refl refl;
-  both = computed_value _ _ _ _ refl refl;
-  reserve = computed_value _ _ _ _ refl refl;
-  ramp = computed_value _ _ _ _ refl refl;
-  reserve_short = computed_value _ _ _ _ refl refl;
-  no_start = computed_value _ _ _ _ refl refl;
-  wind_short = computed_value _ _ _ _ refl refl;
-  no_reserve = computed_value _ _ _ _ refl refl;
+  short = computed_value refl refl;
+  demand = computed_value refl refl;
+  surplus = computed_value refl refl;
+  both = computed_value refl refl;
+  reserve = computed_value refl refl;
+  ramp = computed_value refl refl;
+  reserve_short = computed_value refl refl;
+  no_start = computed_value refl refl;
+  wind_short = computed_value refl refl;
+  no_reserve = computed_value refl refl;
 }
