@@ -8,13 +8,14 @@ use Rattle.std.proofs.lemmas.Bool.{cond_both, cond-true}
 use Rattle.uc_model.specs.Sums.{sum_below, bit}
 use Rattle.uc_model.specs.Commitment.{Commitment, starts, start_reduction, start_cap, stop_cap, cap}
 use Rattle.uc_model.specs.Schedule.{thermal_unit, thermal_count, point_p, point_count}
-use Rattle.uc_model.specs.PrintedSchedule.{cell_at}
+use Rattle.uc_model.specs.PrintedSchedule.{cell_at, shed_at, short_at}
 use Rattle.uc_model.proofs.Ring.{linear, le_or_lt, le_trans, le_antisymm, mul_nonneg, mul-zero}
 use Rattle.uc_model.proofs.Sums.{sum_below-sub}
 use Rattle.uc_model.proofs.MinimumTimes.{bit_nonneg}
 use Rattle.uc_model.proofs.Tests.{int_min_left, int_min_right}
 use Rattle.schedule_check.specs.SizedNumbers.{output_at}
 use Rattle.dispatch_repair.specs.Period.{Instance, Pattern, Printed, Thermal, Period, Source, FromThermal, commitment_at, output_before, head_of, need_of}
+use Rattle.dispatch_repair.specs.Shortage.{served}
 use Rattle.dispatch_repair.specs.MeritOrder.{IsInMeritOrder, IsReserveInOrder}
 use Rattle.dispatch_repair.specs.Dispatch.{IsFilled, amounts, period_after}
 
@@ -133,9 +134,10 @@ module _ (period : Period) (amount : Source → ℤ) (reserve : ℕ → ℤ) (me
       (reserve_through (thermal_count period.instance) (omega arith))
 
 -- ---- the cells of a printed schedule
--- period t with what each unit gave before
+-- period t as it is served, with what each unit gave before
 abbrev pub filled_period : Instance → List Pattern → Printed → ℕ → Period
-filled_period instance patterns printed t = period_after instance patterns t (λ g. output_before instance printed g t)
+filled_period instance patterns printed t =
+    served (period_after instance patterns t (λ g. output_before instance printed g t)) (shed_at printed t) (short_at printed t)
 
 module _ (instance : Instance) (patterns : List Pattern) (printed : Printed) (t : ℕ) (filled : IsFilled instance patterns printed t) (g : ℕ) (hg : g < thermal_count instance) where
   pub cell_within : IsWithin (filled_period instance patterns printed t) g (cell_at printed g t).p (cell_at printed g t).r

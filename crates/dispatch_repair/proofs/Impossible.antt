@@ -1,9 +1,9 @@
 -- A period with an obstacle has no dispatch: what a schedule gives inside the ranges, over its denominator, lies between the
 -- sums of their ends, and its reserve is at most what its output leaves of the heads.
 -- Cite by `use Rattle.dispatch_repair.proofs.Impossible.{impossible}`.
-use Rattle.std.proofs.Common.{◌≡◌, ℕ, ◌<◌, ◌≤◌, ap, subst, ◌∙◌, arith, ℤ, pos, ◌+ℤ◌, ◌-ℤ◌, ◌*ℤ◌, ◌≤ℤ◌}
+use Rattle.std.proofs.Common.{◌≡◌, ℕ, ◌<◌, ◌≤◌, ⊎_elim, ap, subst, sym, ◌∙◌, arith, nat_lt, ℤ, pos, ◌+ℤ◌, ◌-ℤ◌, ◌*ℤ◌, ◌≤ℤ◌}
 use Rattle.std.specs.Int.{int_min, int_max}
-use Rattle.std.proofs.lemmas.Bool.{cond_both, and_parts}
+use Rattle.std.proofs.lemmas.Bool.{cond_both, cond-true, cond-false, and_parts}
 use Rattle.uc_model.specs.Sums.{sum_below, bit}
 use Rattle.uc_model.specs.Commitment.{cap}
 use Rattle.uc_model.specs.Schedule.{Schedule, thermal_unit, thermal_count, renewable_count, p_at, p_before, demand_at, reserve_at, most_shed, most_short}
@@ -12,11 +12,13 @@ use Rattle.uc_model.specs.declared.stuck.Why.TheVariants as why
 use Rattle.uc_model.proofs.Ring.{linear, mul-add, mul-sub, mul_assoc, le_from_mul}
 use Rattle.uc_model.proofs.Sums.{sum_below-same, sum_below-add, sum_below-mul_left, sum_below-le}
 use Rattle.uc_model.proofs.Tests.{int_le-true, int_eq-true}
-use Rattle.uc_model.proofs.Shortages.{shortage_parts}
+use Rattle.uc_model.proofs.Shortages.{IsShortage, shortage_parts}
 use Rattle.dual_model.proofs.Locality.{cap-same}
 use Rattle.dual_model.proofs.PricedRules.{within_cap}
 use Rattle.dispatch_repair.specs.Period.{Period, Source, FromRenewable, FromThermal, low_of, high_of, head_of, heads, thermal_sum, renewable_sum, minimums, total_output, demand_of, need_of}
-use Rattle.dispatch_repair.specs.Stuck.{Why, IsFirstObstacle, reserve_room, GoesOn, KeepsDispatchRules, HasNoDispatch}
+use Rattle.dispatch_repair.specs.Shortage.{greatest_room}
+use Rattle.dispatch_repair.specs.Stuck.{Why, IsFirstObstacle, GoesOn, KeepsDispatchRules, HasNoDispatch}
+use Rattle.dispatch_repair.proofs.Shortages.{price_cases}
 
 -- ---- numbers over q against whole ones
 least-sum : (n q : ℕ) (f g : ℕ → ℤ) → ((k : ℕ) → k < n → (pos q *ℤ f k) ≤ℤ g k) → (pos q *ℤ sum_below n f) ≤ℤ sum_below n g
@@ -49,8 +51,8 @@ record Goes (period : Period) (q : ℕ) (x : Schedule) : Type 0 where
   keeps : KeepsDispatchRules period q x
   demand : period.demand ≡ demand_at period.instance period.t
   need : period.need ≡ reserve_at period.instance period.t
-  shed : x.shed period.t ≡ pos 0
-  short : x.short period.t ≡ pos 0
+  shed : IsShortage q period.instance.a (most_shed period.instance period.t) (x.shed period.t)
+  short : IsShortage q period.instance.b (most_short period.instance period.t) (x.short period.t)
 
 module _ (period : Period) (q : ℕ) (x : Schedule) (goes : Goes period q x) where
   -- ---- output
@@ -79,14 +81,14 @@ module _ (period : Period) (q : ℕ) (x : Schedule) (goes : Goes period q x) whe
       ∙ ap (λ b. pos q *ℤ ((thermal_unit period.instance g).pmin *ℤ bit b)) (goes.on.on g period.t hg goes.inside))
       ∙ sum_below-mul_left (thermal_count period.instance) (pos q) (λ g. (thermal_unit period.instance g).pmin *ℤ bit (period.on g period.t))
 
-  -- what all units give is q times demand
-  balance : pos q *ℤ minimums period +ℤ thermal_sum period (given period x) +ℤ renewable_sum period (given period x) ≡ pos q *ℤ demand_of period
+  -- what all units give is q times the demand that is served
+  balance : pos q *ℤ minimums period +ℤ thermal_sum period (given period x) +ℤ renewable_sum period (given period x) +ℤ x.shed period.t ≡ pos q *ℤ demand_of period
   balance =
       let supply : supply_at period.instance q x period.t +ℤ x.shed period.t ≡ pos q *ℤ demand_at period.instance period.t = int_eq-true _ _ (goes.keeps Demand (omega arith) 0 (omega arith)) in
       let parts = sum_below-add (thermal_count period.instance) (λ g. given period x (FromThermal g))
       (λ g. pos q *ℤ (thermal_unit period.instance g).pmin *ℤ bit ((x.thermal g).on period.t)) in
       let asked = ap (λ z. pos q *ℤ z) goes.demand in
-      omega (arith, linear, supply, parts, minimums-is, goes.shed, asked)
+      omega (arith, linear, supply, parts, minimums-is, asked)
 
   -- q times what all give together
   scaled_total : (f : Source → ℤ) → pos q *ℤ total_output period f
@@ -98,12 +100,12 @@ module _ (period : Period) (q : ℕ) (x : Schedule) (goes : Goes period q x) whe
   not_over : total_output period (low_of period) ≤ℤ demand_of period
   not_over =
       le_from_mul (pos q) _ _ (omega (arith, linear, goes.some))
-      (omega (arith, linear, scaled_total (low_of period), least_thermal, least_renewable, balance))
+      (omega (arith, linear, scaled_total (low_of period), least_thermal, least_renewable, balance, goes.shed.nonneg))
 
-  not_under : demand_of period ≤ℤ total_output period (high_of period)
-  not_under =
+  not_under : period.instance.a ≡ 0 → demand_of period ≤ℤ total_output period (high_of period)
+  not_under none =
       le_from_mul (pos q) _ _ (omega (arith, linear, goes.some))
-      (omega (arith, linear, scaled_total (high_of period), most_thermal, most_renewable, balance))
+      (omega (arith, linear, scaled_total (high_of period), most_thermal, most_renewable, balance, goes.shed.priced none))
 
   -- ---- reserve
   -- a unit's output and reserve are at most q times its head
@@ -135,25 +137,31 @@ module _ (period : Period) (q : ℕ) (x : Schedule) (goes : Goes period q x) whe
       subst (λ z. z ≤ℤ (pos q *ℤ heads period)) (sum_below-add (thermal_count period.instance) (λ g. given period x (FromThermal g)) (λ g. (x.thermal g).reserve period.t))
       (most-sum (thermal_count period.instance) q (head_of period) (λ g. given period x (FromThermal g) +ℤ (x.thermal g).reserve period.t) headed)
 
-  -- the thermal units give at least what the renewable ones can't
-  rest : (pos q *ℤ (demand_of period -ℤ minimums period -ℤ renewable_sum period (high_of period))) ≤ℤ thermal_sum period (given period x)
-  rest = omega (
+  -- where all demand is served the thermal units give at least what the renewable ones can't
+  rest : period.instance.a ≡ 0 → (pos q *ℤ (demand_of period -ℤ minimums period -ℤ renewable_sum period (high_of period))) ≤ℤ thermal_sum period (given period x)
+  rest none = omega (
     arith,
     linear,
     mul-sub (pos q) (demand_of period -ℤ minimums period) (renewable_sum period (high_of period)),
     mul-sub (pos q) (demand_of period) (minimums period),
     most_renewable,
     balance,
+    goes.shed.priced none,
   )
 
-  not_short : need_of period ≤ℤ reserve_room period
-  not_short =
+  -- where all reserve is kept it is within what so much output leaves of the heads
+  beside : (least : ℤ) → period.instance.b ≡ 0 → (pos q *ℤ least) ≤ℤ thermal_sum period (given period x) → need_of period ≤ℤ (heads period -ℤ least)
+  beside least none used =
       let needed : (pos q *ℤ reserve_at period.instance period.t) ≤ℤ (reserve_supply_at period.instance x period.t +ℤ x.short period.t) = int_le-true _ _ (goes.keeps Reserve (omega arith) 0 (omega arith)) in
-      let least = int_max (thermal_sum period (low_of period)) (demand_of period -ℤ minimums period -ℤ renewable_sum period (high_of period)) in
-      let used : (pos q *ℤ least) ≤ℤ thermal_sum period (given period x) = scaled_max q _ _ _ least_thermal rest in
       let asked = ap (λ z. pos q *ℤ z) goes.need in
       le_from_mul (pos q) _ _ (omega (arith, linear, goes.some))
-      (omega (arith, linear, mul-sub (pos q) (heads period) least, used, needed, all_headed, goes.short, asked))
+      (omega (arith, linear, mul-sub (pos q) (heads period) least, used, needed, all_headed, goes.short.priced none, asked))
+
+  not_short : period.instance.b ≡ 0 → need_of period ≤ℤ greatest_room period
+  not_short none = ⊎_elim
+      (λ some. subst (λ z. need_of period ≤ℤ z) (sym (cond-true _ _ _ some)) (beside (thermal_sum period (low_of period)) none least_thermal))
+      (λ free. subst (λ z. need_of period ≤ℤ z) (sym (cond-false _ _ _ (ap (nat_lt 0) free))) (beside _ none (scaled_max q _ _ _ least_thermal (rest free))))
+      (price_cases period.instance.a)
 
 -- ---- each obstacle
 not_empty : (period : Period) (q : ℕ) (x : Schedule) → Goes period q x → (g : ℕ) → g < thermal_count period.instance
@@ -168,15 +176,13 @@ no_dispatch period (why.Box unit low high) q x obstacle goes =
 no_dispatch period (why.Over least demand) q x obstacle goes =
     omega (arith, linear, not_over period q x goes, obstacle.least, obstacle.demand, obstacle.above)
 no_dispatch period (why.Under most demand) q x obstacle goes =
-    omega (arith, linear, not_under period q x goes, obstacle.most, obstacle.demand, obstacle.below)
+    omega (arith, linear, not_under period q x goes obstacle.firm, obstacle.most, obstacle.demand, obstacle.below)
 no_dispatch period (why.Reserve room need) q x obstacle goes =
-    omega (arith, linear, not_short period q x goes, obstacle.room, obstacle.need, obstacle.below)
+    omega (arith, linear, not_short period q x goes obstacle.firm, obstacle.room, obstacle.need, obstacle.below)
 
--- where nothing may be missing
 pub impossible : (period : Period) (why : Why) → period.t < period.instance.periods → period.demand ≡ demand_at period.instance period.t
-    → period.need ≡ reserve_at period.instance period.t → IsFirstObstacle period why → period.instance.a ≡ 0 → period.instance.b ≡ 0
-    → HasNoDispatch period
-impossible period why inside demand need obstacle served held q x some on keeps =
+    → period.need ≡ reserve_at period.instance period.t → IsFirstObstacle period why → HasNoDispatch period
+impossible period why inside demand need obstacle q x some on keeps =
     no_dispatch period why q x obstacle (record {
       some = some;
       inside = inside;
@@ -184,6 +190,6 @@ impossible period why inside demand need obstacle served held q x some on keeps 
       keeps = keeps;
       demand = demand;
       need = need;
-      shed = (shortage_parts q period.instance.a (most_shed period.instance period.t) (x.shed period.t) (keeps ShedRange (omega arith) 0 (omega arith))).priced served;
-      short = (shortage_parts q period.instance.b (most_short period.instance period.t) (x.short period.t) (keeps ShortRange (omega arith) 0 (omega arith))).priced held;
+      shed = shortage_parts q period.instance.a (most_shed period.instance period.t) (x.shed period.t) (keeps ShedRange (omega arith) 0 (omega arith));
+      short = shortage_parts q period.instance.b (most_short period.instance period.t) (x.short period.t) (keeps ShortRange (omega arith) 0 (omega arith));
     })

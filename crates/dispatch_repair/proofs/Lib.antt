@@ -9,6 +9,7 @@ pub mod Plain
 pub mod NextSlopes
 pub mod Filling
 pub mod Merit
+pub mod Shortages
 pub mod Periods
 pub mod RowsEdits
 pub mod RowsCommitted

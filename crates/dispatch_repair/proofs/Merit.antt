@@ -12,10 +12,9 @@ use Rattle.uc_model.proofs.Sums.{sum_below-same, sum_below-le, sum_below-split}
 use Rattle.uc_model.proofs.Tests.{int_min_left, int_min_right}
 use Rattle.dispatch_repair.specs.Period.{Instance, Period, Source, FromRenewable, FromThermal, IsSourceOf, low_of, high_of, head_of, heads, minimums, thermal_sum, renewable_sum, demand_of, thermal_limit, is_off_next}
 use Rattle.dispatch_repair.specs.MeritOrder.{Slope, HasNextSlope, HasLastSlope, ComesBefore, IsPreferred, CanMove, IsInMeritOrder, thermal_part}
-use Rattle.dispatch_repair.specs.Stuck.{HaveRanges, IsFree}
-use Rattle.dispatch_repair.specs.inside.Amounts.{Range, range_at, amount_at, amount_of, thermal_amount, AreRangesOf, AreHeadsOf, IsSizedOutput}
-use Rattle.dispatch_repair.specs.inside.Filled.{IsDispatchedFrom}
-use Rattle.dispatch_repair.specs.inside.Filling.{Left, IsOpen, IsFull, CostsUpTo, IsWorth, IsTaken, IsFilledTo, IsFirstLeft}
+use Rattle.dispatch_repair.specs.Stuck.{HaveRanges}
+use Rattle.dispatch_repair.specs.inside.Amounts.{Range, range_at, amount_at, amount_of, thermal_amount, AreRangesOf, IsSizedOutput}
+use Rattle.dispatch_repair.specs.inside.Filling.{Left, IsOpen, IsFull, CostsUpTo, IsWorth, IsTaken, IsFilledTo, IsFirstLeft, IsFillable}
 use Rattle.dispatch_repair.specs.Segments.{Segment, IsNextOn, source_at, source_count, segment_at, no_segment, width_at, AreInMeritOrder}
 use Rattle.dispatch_repair.proofs.CurveSegments.{renewable_at, thermal_at}
 use Rattle.dispatch_repair.proofs.NextSlopes.{next_run}
@@ -45,12 +44,12 @@ place instance n h = ⊎_elim (λ low. at_renewable low)
     (cases_lt n (renewable_count instance))
 
 -- the range of each source is one on which its cost is known
-record IsGood (period : Period) (s : Source) : Type 0 where
-  low : pos 0 ≤ℤ low_of period s
-  order : low_of period s ≤ℤ high_of period s
-  known : high_of period s ≤ℤ width_at period.instance s
+pub record IsGood (period : Period) (s : Source) : Type 0 where
+  pub low : pos 0 ≤ℤ low_of period s
+  pub order : low_of period s ≤ℤ high_of period s
+  pub known : high_of period s ≤ℤ width_at period.instance s
 
-good_renewable : (period : Period) (w : ℕ) → IsLawfulInstance period.instance → period.t < period.instance.periods → w < renewable_count period.instance
+pub good_renewable : (period : Period) (w : ℕ) → IsLawfulInstance period.instance → period.t < period.instance.periods → w < renewable_count period.instance
     → IsGood period (FromRenewable w)
 good_renewable period w lawful ht hw = record {
   low = grind (arith, ints);
@@ -102,20 +101,20 @@ least_above : (end high amount : ℤ) → int_min end high ≤ℤ amount → amo
 least_above end high amount most below less = grind (arith, ints, most, below, less)
 
 -- the limit on the thermal units leaves what they have to give at least, and what renewable units can't
-pub limit-covers : (period : Period) → IsFree period → (z : ℤ) → z ≤ℤ int_max (thermal_sum period (low_of period)) (demand_of period -ℤ minimums period -ℤ renewable_sum period (high_of period))
+pub limit-covers : (period : Period) → IsFillable period → (z : ℤ) → z ≤ℤ int_max (thermal_sum period (low_of period)) (demand_of period -ℤ minimums period -ℤ renewable_sum period (high_of period))
     → z ≤ℤ thermal_sum period (high_of period) → z ≤ℤ thermal_limit period
 limit-covers period free z low high =
     let tops : thermal_sum period (high_of period) ≤ℤ heads period = sum_below-le (thermal_count period.instance) _ _ (λ g hg. high-le-head period g) in
     grind (arith, ints, free.reserve)
 
 -- ---- what is left at first
-pub first_need : (period : Period) (left : Left) → IsFree period → IsFirstLeft period left → pos 0 ≤ℤ left.need
-first_need period left free first = omega (arith, linear, free.balance.least, first.need)
+pub first_need : (period : Period) (left : Left) → IsFillable period → IsFirstLeft period left → pos 0 ≤ℤ left.need
+first_need period left free first = omega (arith, linear, free.least, first.need)
 
-pub first_room : (period : Period) (left : Left) → IsFree period → IsFirstLeft period left → pos 0 ≤ℤ left.room
+pub first_room : (period : Period) (left : Left) → IsFillable period → IsFirstLeft period left → pos 0 ≤ℤ left.room
 first_room period left free first =
     let within : thermal_sum period (low_of period) ≤ℤ thermal_sum period (high_of period) =
-    sum_below-le (thermal_count period.instance) _ _ (λ g hg. free.balance.ranges g hg) in
+    sum_below-le (thermal_count period.instance) _ _ (λ g hg. free.ranges g hg) in
     omega (arith, linear, limit-covers period free (thermal_sum period (low_of period)) (grind (arith, ints)) within, first.room)
 
 -- ---- a period that was filled to the last segment
@@ -125,7 +124,7 @@ pub record IsFilledUp (period : Period) (segments : List Segment) (ends : List R
   pub within : period.t < period.instance.periods
   pub order : AreInMeritOrder period.instance segments
   pub ranges : AreRangesOf period ends
-  pub free : IsFree period
+  pub free : IsFillable period
   pub first : IsFirstLeft period start
   pub filled : IsFilledTo period.instance segments ends start (length segments) amounts rest
 
@@ -141,7 +140,7 @@ module _ (period : Period) (order : List Segment) (ranges : List Range) (start :
   G = thermal_count instance
 
   opened : (n : ℕ) → n < source_count instance → IsOpen instance n (range_at ranges n)
-  opened = open_ranges period ranges all.lawful all.within all.free.balance.ranges all.ranges
+  opened = open_ranges period ranges all.lawful all.within all.free.ranges all.ranges
 
   -- the segment of a source's next watt, and its place
   record HasSegment (n : ℕ) : Type 0 where
@@ -212,9 +211,9 @@ module _ (period : Period) (order : List Segment) (ranges : List Range) (start :
       short : pos 0 <ℤ rest.need → ⊥
       short up = ⊎_elim
           (λ (none : rest.room ≤ℤ pos 0).
-          omega (arith, linear, up, need_is, room_is, renewable_tops up, limit-covers period all.free ((demand_of period -ℤ minimums period) -ℤ renewable_sum period (high_of period)) (grind (arith, ints)) (omega (arith, linear, all.free.balance.most))))
+          omega (arith, linear, up, need_is, room_is, renewable_tops up, limit-covers period all.free ((demand_of period -ℤ minimums period) -ℤ renewable_sum period (high_of period)) (grind (arith, ints)) (omega (arith, linear, all.free.most))))
           (λ some.
-          omega (arith, linear, up, need_is, renewable_tops up, thermal_tops up some, all.free.balance.most))
+          omega (arith, linear, up, need_is, renewable_tops up, thermal_tops up some, all.free.most))
           (le_or_lt rest.room (pos 0))
 
   -- ---- sources
@@ -349,7 +348,7 @@ module _ (period : Period) (order : List Segment) (ranges : List Range) (start :
   }
 
   -- a thermal unit gives no more than its curve is wide
-  width_size : (g : ℕ) → g < G → IsSizedOutput (thermal_amount instance amounts g)
+  pub width_size : (g : ℕ) → g < G → IsSizedOutput (thermal_amount instance amounts g)
   width_size g hg =
       let n = W + g in
       let hn : W + g < W + G = omega arith in
@@ -363,6 +362,3 @@ module _ (period : Period) (order : List Segment) (ranges : List Range) (start :
     where
       size : (z a b : ℤ) → pos 0 ≤ℤ z → z ≤ℤ (a -ℤ b) → IsPower a → IsPower b → IsSizedOutput z
       size z a b low high ha hb = grind (arith, ints, low, high, ha, hb)
-
-  pub dispatched : (numbers : List ℤ) → AreHeadsOf period numbers → IsDispatchedFrom period amounts numbers
-  dispatched numbers heads = record { merit = in_merit_order; heads = heads; sizes = width_size }

@@ -1,11 +1,12 @@
 -- A dispatch obeys: each rule holds of its whole watts, since its commitment keeps the rules on commitments and each period is filled.
 -- Cite by `use Rattle.dispatch_repair.proofs.Obeying.{obeying}`.
 use Rattle.std.proofs.Common.{◌≡◌, ℕ, zero, suc, ◌<◌, ⊎_elim, false, not, refl, sym, ap, subst, ◌∙◌, arith, List, ◌+ℤ◌, ◌-ℤ◌, ◌*ℤ◌, ◌≤ℤ◌, IsTrue, nat_lt, int_le, ◌==◌, ◌&&◌, ◌||◌, ℤ, pos}
+use Rattle.std.specs.Int.{int_max}
 use Rattle.std.specs.Ordering.{int_eq}
 use Rattle.std.proofs.lemmas.Bool.{and_from, or_left, or_right, cases_Bool, cond-true, cond-false}
 use Rattle.uc_model.specs.Sums.{sum_below, bit}
 use Rattle.uc_model.specs.Commitment.{Commitment, starts, cap}
-use Rattle.uc_model.specs.Schedule.{thermal_unit, thermal_count, demand_at, reserve_at, most_shed, most_short}
+use Rattle.uc_model.specs.Schedule.{thermal_unit, thermal_count, demand_at, reserve_at}
 use Rattle.uc_model.specs.Rules as model
 use Rattle.uc_model.specs.Rules.{Obeys}
 use Rattle.uc_model.specs.PrintedSchedule.{cell_at, shed_at, short_at, printed_denominator, printed_schedule}
@@ -13,7 +14,6 @@ use Rattle.uc_model.specs.Limits.{IsLawfulInstance}
 use Rattle.uc_model.proofs.Ring.{linear, le_trans}
 use Rattle.uc_model.proofs.Sums.{sum_below-same, sum_below-add}
 use Rattle.uc_model.proofs.Tests.{le-int_le, eq-int_eq}
-use Rattle.uc_model.proofs.Shortages.{no_shed, no_short}
 use Rattle.dual_model.proofs.Locality.{SameBelow, starts-same, cap-same, category_allowed-same}
 use Rattle.schedule_check.specs.FirstBroken.{HoldsThroughout}
 use Rattle.schedule_check.specs.WholeWatts as whole
@@ -25,7 +25,8 @@ use Rattle.dispatch_repair.specs.Period.{Instance, Pattern, Printed, FromRenewab
 use Rattle.dispatch_repair.specs.Dispatch.{IsDispatchThrough, amounts}
 use Rattle.dispatch_repair.specs.Stuck.{IsRegular}
 use Rattle.dispatch_repair.proofs.RowRules.{turn_rule}
-use Rattle.dispatch_repair.proofs.Filled.{filled_period, cell_within, cell-le-cap, cell-le-ramp, cell_idle, reserve_reached, cap-le-start_cap, cap-le-stop_cap, max_right}
+use Rattle.dispatch_repair.proofs.Filled.{filled_period, cell_within, cell-le-cap, cell-le-ramp, cell_idle, reserve_reached, cap-le-start_cap, cap-le-stop_cap}
+use Rattle.dispatch_repair.proofs.Shortages.{IsPart, filled_shed, filled_short, price_cases}
 
 -- what a unit gave before, by its row and by its cells
 before_same : (instance : Instance) (printed : Printed) (g t : ℕ)
@@ -129,7 +130,7 @@ module _ (instance : Instance) (patterns : List Pattern) (printed : Printed) (la
   demand : HoldsThroughout instance (watts instance printed) model.Demand
   demand g t hg ht =
       let met : whole.supply_at instance printed t +ℤ shed_at printed t ≡ demand_at instance t =
-      omega (arith, linear, thermal-is t ht, (dispatch.filled t ht).merit.demand, no_shed instance.periods printed t dispatch.shape.supply ht) in
+      omega (arith, linear, thermal-is t ht, (dispatch.filled t ht).merit.demand) in
       eq-int_eq _ _ met
 
   reserve : HoldsThroughout instance (watts instance printed) model.Reserve
@@ -138,21 +139,23 @@ module _ (instance : Instance) (patterns : List Pattern) (printed : Printed) (la
       let reached = reserve_reached (filled_period instance patterns printed t) (amounts (λ k. cell_at printed k t) (λ w. output_at printed w t))
       (λ k. (cell_at printed k t).r) filled.merit filled.reserve in
       let enough : reserve_at instance t ≤ℤ (whole.reserve_supply_at instance printed t +ℤ short_at printed t) =
-      omega (arith, linear, reached, no_short instance.periods printed t dispatch.shape.supply ht) in
+      omega (arith, linear, reached) in
       le-int_le _ _ enough
 
-  -- nothing is missing
-  within : (price : ℕ) (most missing : ℤ) → missing ≡ pos 0 → pos 0 ≤ℤ most
-      → IsTrue (int_le (pos 0) missing && int_le missing most && (nat_lt 0 price || int_eq missing (pos 0)))
-  within price most missing none high =
-      and_from _ _ (and_from _ _ (le-int_le (pos 0) missing (omega (arith, linear))) (le-int_le missing most (omega (arith, linear))))
-      (or_right (nat_lt 0 price) _ (eq-int_eq missing (pos 0) none))
+  -- what is missing is a part of what is needed, where it has a price
+  within : (price : ℕ) (need missing : ℤ) → IsPart price need missing
+      → IsTrue (int_le (pos 0) missing && int_le missing (int_max need (pos 0)) && (nat_lt 0 price || int_eq missing (pos 0)))
+  within price need missing part =
+      and_from _ _ (and_from _ _ (le-int_le (pos 0) missing part.low) (le-int_le missing (int_max need (pos 0)) part.high))
+      (⊎_elim (λ some. or_left (nat_lt 0 price) _ some) (λ none. or_right (nat_lt 0 price) _ (eq-int_eq missing (pos 0) (part.none none))) (price_cases price))
 
   shed_range : HoldsThroughout instance (watts instance printed) model.ShedRange
-  shed_range g t hg ht = within instance.a (most_shed instance t) (shed_at printed t) (no_shed instance.periods printed t dispatch.shape.supply ht) (max_right (demand_at instance t) (pos 0))
+  shed_range g t hg ht =
+      within instance.a (demand_at instance t) (shed_at printed t) (filled_shed instance patterns printed t lawful ht (dispatch.filled t ht))
 
   short_range : HoldsThroughout instance (watts instance printed) model.ShortRange
-  short_range g t hg ht = within instance.b (most_short instance t) (short_at printed t) (no_short instance.periods printed t dispatch.shape.supply ht) (max_right (reserve_at instance t) (pos 0))
+  short_range g t hg ht =
+      within instance.b (reserve_at instance t) (short_at printed t) (filled_short instance patterns printed t lawful ht (dispatch.filled t ht))
 
   each : (rule : model.Rule) → HoldsThroughout instance (watts instance printed) rule
   each model.MustRun = regular_in 0 (omega arith)
@@ -174,4 +177,4 @@ module _ (instance : Instance) (patterns : List Pattern) (printed : Printed) (la
   each model.ShortRange = short_range
 
   pub obeying : let q = printed_denominator instance printed in Obeys instance q (printed_schedule instance printed q)
-  obeying = obeys_stands instance printed lawful dispatch.shape.supply.denominator each
+  obeying = obeys_stands instance printed lawful dispatch.shape.whole each

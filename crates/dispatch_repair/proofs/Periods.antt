@@ -10,50 +10,57 @@ use Rattle.uc_model.specs.Limits.{IsLawfulThermal}
 use Rattle.uc_model.proofs.Ring.{one-mul, zero-mul}
 use Rattle.uc_model.specs.StartCategory.{category_cost}
 use Rattle.uc_model.specs.Schedule.{thermal_unit, thermal_count, renewable_count, reserve_at, no_unit}
-use Rattle.uc_model.specs.PrintedSchedule.{cell_at}
+use Rattle.uc_model.specs.PrintedSchedule.{cell_at, shed_at, short_at}
 use Rattle.uc_model.specs.declared.stuck.Why.TheVariants as why
 use Rattle.start_costs.specs.Cheapest.{IsCheapestAbove}
 use Rattle.schedule_check.specs.SizedNumbers.{output_at}
 use Rattle.dispatch_repair.specs.Period.{Instance, Pattern, Printed, Thermal, Period, Source, FromRenewable, FromThermal, commitment_at, output_before, head_of}
 use Rattle.dispatch_repair.specs.MeritOrder.{IsInMeritOrder}
+use Rattle.dispatch_repair.specs.Shortage.{served, shed_of, short_of}
 use Rattle.dispatch_repair.specs.Dispatch.{Cell, HasPeriods, IsCommittedCell, amounts, period_after, IsFilling, IsFilled, IsDispatchThrough}
 use Rattle.dispatch_repair.specs.Stuck.{Stuck, Why, IsRegular, IsFirstBrokenRule, IsStuckInPeriod, IsFirstObstacle, stuck_period, IsStuckBy, IsStuckOf}
 use Rattle.dispatch_repair.specs.Rooms.{Obstacle, Room, IsObstacleOf, IsRoomOf, IsStuckAfter, AreCommitted, AreSameBelow}
 use Rattle.dispatch_repair.specs.inside.Amounts.{amount_at, amount_of, thermal_amount, IsSizedOutput}
-use Rattle.dispatch_repair.specs.inside.Filled.{IsDispatchedFrom}
+use Rattle.dispatch_repair.specs.inside.Filled.{Shortage, IsDispatchedFrom}
 use Rattle.dispatch_repair.specs.inside.Progress.{AreBefore, AreFilledBelow}
-use Rattle.dispatch_repair.specs.inside.Rows.{AreSameBut, IsWritten}
+use Rattle.dispatch_repair.specs.inside.Rows.{AreSameBut, IsLacking, IsWritten}
 use Rattle.dispatch_repair.specs.Segments.{source_count}
 use Rattle.dispatch_repair.proofs.Impossible.{impossible}
 
 -- ---- what was filled stays so
--- the outputs before, the cells and the renewable outputs of period t are the same
+-- the outputs before, and the cells, the renewable outputs and what is missing in period t are the same
 pub record AreSameAt (instance : Instance) (t : ℕ) (old new : Printed) : Type 0 where
   pub before : (g : ℕ) → output_before instance old g t ≡ output_before instance new g t
   pub cells : (g : ℕ) → cell_at old g t ≡ cell_at new g t
   pub outputs : (w : ℕ) → output_at old w t ≡ output_at new w t
+  pub shed : shed_at old t ≡ shed_at new t
+  pub short : short_at old t ≡ short_at new t
 
 pub filled_moved : (instance : Instance) (patterns : List Pattern) (t : ℕ) (old new : Printed) → AreSameAt instance t old new
     → IsFilled instance patterns old t → IsFilled instance patterns new t
 filled_moved instance patterns t old new same filled =
-    subst (λ z. z) (λ i. IsFilling instance patterns t (λ g. same.before g i) (λ g. same.cells g i) (λ w. same.outputs w i)) filled
+    subst (λ z. z) (λ i. IsFilling instance patterns t (λ g. same.before g i) (λ g. same.cells g i) (λ w. same.outputs w i) (same.shed i) (same.short i)) filled
 
 same_below : (instance : Instance) (periods t : ℕ) (old new : Printed) → AreSameBelow periods old new → t < periods → AreSameAt instance t old new
 same_below instance periods t old new same h = record {
   before = λ g. before g t h;
   cells = λ g. sym (same.cells g t h);
   outputs = λ w. sym (same.outputs w t h);
+  shed = sym (same.shed t h);
+  short = sym (same.short t h);
 }
   where
     before : (g k : ℕ) → k < periods → output_before instance old g k ≡ output_before instance new g k
     before g zero k = refl
     before g (suc k) hk = ap (λ (c : Cell). c.p) (sym (same.cells g k (omega arith)))
 
-same_but : (instance : Instance) (t k : ℕ) (old new : Printed) → AreSameBut t old new → k < t → AreSameAt instance k old new
-same_but instance t k old new same h = record {
+same_but : (instance : Instance) (t k : ℕ) (old new : Printed) (shortage : Shortage) → AreSameBut t old new → IsLacking shortage t old new → k < t → AreSameAt instance k old new
+same_but instance t k old new shortage same lacking h = record {
   before = λ g. before g k h;
   cells = λ g. sym (same.cells g k (omega arith));
   outputs = λ w. sym (same.outputs w k (omega arith));
+  shed = sym (lacking.other_shed k (omega arith));
+  short = sym (lacking.other_short k (omega arith));
 }
   where
     before : (g j : ℕ) → j < t → output_before instance old g j ≡ output_before instance new g j
@@ -109,11 +116,11 @@ committed_cell instance patterns g t old new on category is = record {
   none = λ h. category ∙ is.none h;
 }
 
-module _ (instance : Instance) (patterns : List Pattern) (t : ℕ) (old new : Printed) (before after heads : List ℤ)
+module _ (instance : Instance) (patterns : List Pattern) (t : ℕ) (old new : Printed) (before after heads : List ℤ) (shortage : Shortage)
     (shape : HasPeriods instance instance.periods new) (count : length after ≡ source_count instance)
     (was : AreBefore instance old t before) (committed : AreCommitted instance patterns old) (within : t < instance.periods)
-    (dispatched : IsDispatchedFrom (period_after instance patterns t (thermal_amount instance before)) after heads)
-    (written : IsWritten instance after heads (reserve_at instance t) t old new) where
+    (dispatched : IsDispatchedFrom (period_after instance patterns t (thermal_amount instance before)) shortage after heads)
+    (written : IsWritten instance after heads shortage t old new) where
   abbrev gave : Source → ℤ
   gave = amounts (λ g. cell_at new g t) (λ w. output_at new w t)
 
@@ -122,28 +129,30 @@ module _ (instance : Instance) (patterns : List Pattern) (t : ℕ) (old new : Pr
 
   gives : (s : Source) → amount_of instance after s ≡ gave s
   gives (FromRenewable w) = ⊎_elim
-      (λ (h : w < renewable_count instance). cond-true (nat_lt w (renewable_count instance)) _ _ (lt-ltb w (renewable_count instance) h) ∙ sym (written.outputs w h))
+      (λ (h : w < renewable_count instance). cond-true (nat_lt w (renewable_count instance)) _ _ (lt-ltb w (renewable_count instance) h) ∙ sym (written.powers.outputs w h))
       (λ h. cond-false (nat_lt w (renewable_count instance)) _ _ (le-ltb w (renewable_count instance) h) ∙ sym (no_outputs instance instance.periods new w t shape h))
       (cases_lt w (renewable_count instance))
   gives (FromThermal g) = ⊎_elim
-      (λ (h : g < thermal_count instance). sym (written.cells g h).p)
+      (λ (h : g < thermal_count instance). sym (written.powers.cells g h).p)
       (λ h. no_amount instance after g count h ∙ sym (no_cells instance instance.periods new g t shape h))
       (cases_lt g (thermal_count instance))
 
   gave_before : (g : ℕ) → thermal_amount instance before g ≡ output_before instance new g t
-  gave_before g = was.are g ∙ before_same instance t old new g written.others
+  gave_before g = was.are g ∙ before_same instance t old new g written.powers.others
 
   same_period : period_after instance patterns t (thermal_amount instance before) ≡ period
   same_period = λ i. period_after instance patterns t (λ g. gave_before g i)
 
   pub filled_period : IsFilled instance patterns new t
   filled_period = record {
-    cells = λ g h. committed_cell instance patterns g t (cell_at old g t) (cell_at new g t) (written.cells g h).on (written.cells g h).category (committed.cells g t h within);
-    merit = subst (λ z. z) (λ i. IsInMeritOrder (same_period i) (λ s. gives s i)) dispatched.merit;
+    cells = λ g h. committed_cell instance patterns g t (cell_at old g t) (cell_at new g t) (written.powers.cells g h).on (written.powers.cells g h).category (committed.cells g t h within);
+    unserved = written.lacking.shed ∙ dispatched.shortages.shed ∙ ap shed_of same_period;
+    missing = written.lacking.short ∙ dispatched.shortages.short ∙ ap short_of same_period;
+    merit = subst (λ z. z) (λ i. IsInMeritOrder (served (same_period i) (sym written.lacking.shed i) (sym written.lacking.short i)) (λ s. gives s i)) dispatched.merit;
     reserve = λ g h.
         let head : amount_at heads g ≡ head_of period g = (dispatched.heads g h).is ∙ ap (λ p. head_of p g) same_period in
-        (written.cells g h).r
-        ∙ (λ i. int_min (head i -ℤ gives (FromThermal g) i) (int_max (reserve_at instance t -ℤ sum_below g (λ k. (cell_at new k t).r)) (pos 0)));
+        (written.powers.cells g h).r
+        ∙ (λ i. int_min (head i -ℤ gives (FromThermal g) i) (int_max ((reserve_at instance t -ℤ sym written.lacking.short i) -ℤ sum_below g (λ k. (cell_at new k t).r)) (pos 0)));
   }
 
   pub committed_still : AreCommitted instance patterns new
@@ -151,8 +160,8 @@ module _ (instance : Instance) (patterns : List Pattern) (t : ℕ) (old new : Pr
     shape = shape;
     cells = λ g k hg hk. ⊎_elim
         (λ (same : k ≡ t). subst (λ j. IsCommittedCell instance patterns g j (cell_at new g j)) (sym same)
-        (committed_cell instance patterns g t (cell_at old g t) (cell_at new g t) (written.cells g hg).on (written.cells g hg).category (committed.cells g t hg within)))
-        (λ other. subst (IsCommittedCell instance patterns g k) (sym (written.others.cells g k other)) (committed.cells g k hg hk))
+        (committed_cell instance patterns g t (cell_at old g t) (cell_at new g t) (written.powers.cells g hg).on (written.powers.cells g hg).category (committed.cells g t hg within)))
+        (λ other. subst (IsCommittedCell instance patterns g k) (sym (written.powers.others.cells g k other)) (committed.cells g k hg hk))
         (cases_eq k t);
   }
 
@@ -160,19 +169,19 @@ module _ (instance : Instance) (patterns : List Pattern) (t : ℕ) (old new : Pr
   before_next = record { are = λ g. gives (FromThermal g); sizes = dispatched.sizes }
 
 -- the next period, after one was dispatched and written
-pub next_filled : (instance : Instance) (patterns : List Pattern) (t : ℕ) (old new : Printed) (was is : Room) → AreFilledBelow instance patterns t old was
+pub next_filled : (instance : Instance) (patterns : List Pattern) (t : ℕ) (old new : Printed) (was is : Room) (shortage : Shortage) → AreFilledBelow instance patterns t old was
     → t < instance.periods → IsRoomOf instance is → HasPeriods instance instance.periods new
-    → IsDispatchedFrom (period_after instance patterns t (thermal_amount instance was.amounts.items)) is.amounts.items is.heads.items
-    → IsWritten instance is.amounts.items is.heads.items (reserve_at instance t) t old new → AreFilledBelow instance patterns (suc t) new is
-next_filled instance patterns t old new was is below within room shape dispatched written = record {
-  committed = committed_still instance patterns t old new was.amounts.items is.amounts.items is.heads.items shape room.amounts below.before below.committed within dispatched written;
+    → IsDispatchedFrom (period_after instance patterns t (thermal_amount instance was.amounts.items)) shortage is.amounts.items is.heads.items
+    → IsWritten instance is.amounts.items is.heads.items shortage t old new → AreFilledBelow instance patterns (suc t) new is
+next_filled instance patterns t old new was is shortage below within room shape dispatched written = record {
+  committed = committed_still instance patterns t old new was.amounts.items is.amounts.items is.heads.items shortage shape room.amounts below.before below.committed within dispatched written;
   filled = λ k h. ⊎_elim
-      (λ (early : k < t). filled_moved instance patterns k old new (same_but instance t k old new written.others early) (below.filled k early))
+      (λ (early : k < t). filled_moved instance patterns k old new (same_but instance t k old new shortage written.powers.others written.lacking early) (below.filled k early))
       (λ (late : t ≤ k). subst (IsFilled instance patterns new) (omega arith)
-      (filled_period instance patterns t old new was.amounts.items is.amounts.items is.heads.items shape room.amounts below.before below.committed within dispatched written))
+      (filled_period instance patterns t old new was.amounts.items is.amounts.items is.heads.items shortage shape room.amounts below.before below.committed within dispatched written))
       (cases_lt k t);
   room = room;
-  before = before_next instance patterns t old new was.amounts.items is.amounts.items is.heads.items shape room.amounts below.before below.committed within dispatched written;
+  before = before_next instance patterns t old new was.amounts.items is.amounts.items is.heads.items shortage shape room.amounts below.before below.committed within dispatched written;
 }
 
 -- ---- the end

@@ -1,13 +1,15 @@
 -- The numbers of a dispatch are plain: a unit's output and reserve stay within its range, which the limits on an instance bound.
 -- Cite by `use Rattle.dispatch_repair.proofs.Plain.{plain}`.
-use Rattle.std.proofs.Common.{◌≡◌, ℕ, ◌<◌, ◌≤◌, ⊎_elim, Bool, true, false, not, sym, ◌∙◌, arith, List, [], length, get_or, ℤ, pos, ◌+ℤ◌, ◌-ℤ◌, ◌*ℤ◌, ◌≤ℤ◌, IsTrue, All}
+use Rattle.std.proofs.Common.{◌≡◌, ℕ, ◌<◌, ◌≤◌, ⊎_elim, Bool, true, false, not, sym, subst, ◌∙◌, arith, List, [], length, get_or, ℤ, pos, ◌+ℤ◌, ◌-ℤ◌, ◌*ℤ◌, ◌≤ℤ◌, IsTrue, All}
 use Rattle.std.proofs.lemmas.Bool.{cases_Bool, and_right}
+use Rattle.std.specs.Int.{int_max}
+use Rattle.std.proofs.lemmas.Int.{ints}
 use Rattle.std.proofs.lemmas.List.Elements.{All-get_or}
 use Rattle.uc_model.specs.Sums.{bit}
 use Rattle.uc_model.specs.Commitment.{was_on, starts}
-use Rattle.uc_model.specs.Schedule.{thermal_unit, thermal_count, renewable_count, renewable_minimum, renewable_maximum}
-use Rattle.uc_model.specs.PrintedSchedule.{cell_at}
-use Rattle.uc_model.specs.Limits.{IsLimit, IsLawfulInstance}
+use Rattle.uc_model.specs.Schedule.{thermal_unit, thermal_count, renewable_count, renewable_minimum, renewable_maximum, demand_at, reserve_at}
+use Rattle.uc_model.specs.PrintedSchedule.{cell_at, shed_at, short_at}
+use Rattle.uc_model.specs.Limits.{IsLimit, IsPower, IsLawfulInstance}
 use Rattle.uc_model.specs.declared.limits.TheConstants.{MAX_START_ROWS}
 use Rattle.uc_model.proofs.Ring.{linear, mul-one, mul-zero, le_trans}
 use Rattle.schedule_check.specs.SizedNumbers.{output_at}
@@ -17,6 +19,7 @@ use Rattle.dispatch_repair.specs.Period.{Instance, Pattern, Printed, FromRenewab
 use Rattle.dispatch_repair.specs.Dispatch.{IsFilled, IsDispatchThrough}
 use Rattle.schedule_check.specs.PlainNumbers.{IsIdleCell, IsPlainCell, HasPlainNumbers}
 use Rattle.dispatch_repair.proofs.Filled.{cell_within, cell-le-cap, cell_idle, cap-le-range, max_right}
+use Rattle.dispatch_repair.proofs.Shortages.{IsPart, filled_shed, filled_short}
 
 bit-le : (a : ℤ) (b : Bool) → pos 0 ≤ℤ a → (a *ℤ bit b) ≤ℤ a
 bit-le a true h = omega (arith, linear, mul-one a)
@@ -71,6 +74,25 @@ module _ (instance : Instance) (patterns : List Pattern) (printed : Printed) (t 
         power = power_below _ (renewable_maximum instance w t) low (filled.merit.high (FromRenewable w) hw) ((lawful.renewable w hw).maximum t ht);
       }
 
+  -- what is missing
+  needed_power : (need : ℤ) → IsPower need → IsPower (int_max need (pos 0))
+  needed_power need power = grind (arith, ints, power)
+
+  part_limit : (price : ℕ) (need missing : ℤ) → IsPower need → IsPart price need missing → IsLimit missing
+  part_limit price need missing power part = record { low = part.low; power = power_below missing (int_max need (pos 0)) part.low part.high (needed_power need power) }
+
+  shed_plain : t < instance.periods → IsLimit (shed_at printed t)
+  shed_plain ht =
+      part_limit instance.a (demand_at instance t) (shed_at printed t)
+      (All-get_or IsPower instance.demand t (pos 0) (subst (λ n. t < n) (sym lawful.demand_length) ht) lawful.demand)
+      (filled_shed instance patterns printed t lawful ht filled)
+
+  short_plain : t < instance.periods → IsLimit (short_at printed t)
+  short_plain ht =
+      part_limit instance.b (reserve_at instance t) (short_at printed t)
+      (All-get_or IsPower instance.reserves t (pos 0) (subst (λ n. t < n) (sym lawful.reserves_length) ht) lawful.reserves)
+      (filled_short instance patterns printed t lawful ht filled)
+
 -- ---- the whole
 pub plain : (instance : Instance) (patterns : List Pattern) (periods : ℕ) (printed : Printed) → IsLawfulInstance instance
     → periods ≤ instance.periods → IsDispatchThrough instance patterns periods printed → HasPlainNumbers printed
@@ -82,6 +104,8 @@ plain instance patterns periods printed lawful within dispatch =
     (λ w t row place.
     let before = inside printed.renewable w t dispatch.shape.outputs row place in
     output_plain instance patterns printed t lawful (dispatch.filled t before) (omega (arith, before, within)) w (omega (arith, row, dispatch.shape.renewable)))
+    (λ t place. shed_plain instance patterns printed t lawful (dispatch.filled t (subst (λ n. t < n) dispatch.shape.shed place)) (omega (arith, place, dispatch.shape.shed, within)))
+    (λ t place. short_plain instance patterns printed t lawful (dispatch.filled t (subst (λ n. t < n) dispatch.shape.short place)) (omega (arith, place, dispatch.shape.short, within)))
   where
     inside : {X : Type 0} (rows : List (List X)) (i j : ℕ) → All (λ row. length row ≡ periods) rows → i < length rows → j < length (get_or rows i [])
         → j < periods

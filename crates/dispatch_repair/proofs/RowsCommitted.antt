@@ -75,7 +75,9 @@ module _ (instance : Instance) (patterns : List Pattern) (g : ℕ) (rows : List 
         cells = All-set (λ cells. length cells ≡ instance.periods) (rows_of rows) g row.items own.length shape.cells;
         renewable = shape.renewable;
         outputs = shape.outputs;
-        supply = record { shed = shape.supply.shed; short = shape.supply.short; denominator = shape.supply.denominator };
+        shed = shape.shed;
+        short = shape.short;
+        whole = shape.whole;
       };
       cells = is_committed;
     })

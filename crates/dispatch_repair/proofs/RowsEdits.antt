@@ -5,7 +5,7 @@ use Rattle.std.specs.declared.alloc.Global.{Global}
 use Rattle.std.specs.declared.vec.Vec.{Vec}
 use Rattle.std.proofs.lemmas.Bool.{cases_lt}
 use Rattle.std.proofs.Math.ListN.{get_or-eq_default}
-use Rattle.std.proofs.lemmas.List.{map-set, get_or-map, get_or-take, get_or_default, length-map, length-take-le, take-replicate}
+use Rattle.std.proofs.lemmas.List.{map-set, get_or-map, get_or-take, get_or_default, length-map, length-take-le}
 use Rattle.std.proofs.lemmas.List.Edits.{map_over_more}
 use Rattle.std.proofs.lemmas.List.Elements.{All-map}
 use Rattle.dispatch_repair.specs.Dispatch.{Instance, Printed, HasPeriods}
@@ -62,11 +62,9 @@ cut_shape instance n printed shape h = record {
   cells = cut_lengths printed.thermal n instance.periods h shape.cells;
   renewable = length-map printed.renewable _ ∙ shape.renewable;
   outputs = cut_lengths printed.renewable n instance.periods h shape.outputs;
-  supply = record {
-    shed = ap (take n) shape.supply.shed ∙ take-replicate n instance.periods (pos 0) h;
-    short = ap (take n) shape.supply.short ∙ take-replicate n instance.periods (pos 0) h;
-    denominator = shape.supply.denominator;
-  };
+  shed = length-take-le n printed.shed (subst (λ k. n ≤ k) (sym shape.shed) h);
+  short = length-take-le n printed.short (subst (λ k. n ≤ k) (sym shape.short) h);
+  whole = shape.whole;
 }
 
 -- the entries of the first periods stay
@@ -82,6 +80,8 @@ pub cut_same : (n : ℕ) (printed : Printed) → AreSameBelow n printed (cut_at 
 cut_same n printed = record {
   cells = λ g k h. kept_entry printed.thermal n g k _ h;
   outputs = λ w k h. kept_entry printed.renewable n w k _ h;
+  shed = λ k h. get_or-take n printed.shed k (pos 0) h;
+  short = λ k h. get_or-take n printed.short k (pos 0) h;
 }
 
 -- what is in the way, with them

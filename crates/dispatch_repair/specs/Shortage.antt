@@ -1,6 +1,6 @@
 -- What a period's dispatch leaves unserved of demand, and what reserve it lacks, where these have a price. Source: unserved energy
 -- and missing reserve at a price in unit commitment; in which order they are taken is this project's own.
-use Rattle.std.specs.Prelude.{ℕ, ◌==◌, ◌&&◌, nat_lt, ℤ, pos, ◌+ℤ◌, ◌-ℤ◌, if◌then◌else◌}
+use Rattle.std.specs.Prelude.{◌==◌, ◌&&◌, nat_lt, ℤ, pos, ◌+ℤ◌, ◌-ℤ◌, if◌then◌else◌}
 use Rattle.std.specs.Int.{int_max}
 use Rattle.dispatch_repair.specs.Period.{Period, low_of, high_of, heads, thermal_sum, renewable_sum, minimums, total_output, demand_of, need_of}
 

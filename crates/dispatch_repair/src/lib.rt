@@ -15,6 +15,7 @@ pub mod room;
 pub mod rows;
 pub mod schedule;
 mod segment;
+mod shortage;
 mod totals;
 
 pub use extreme_patterns::{fewest_of, most_of};

@@ -1,18 +1,19 @@
 //! Why a period can't be filled.
 
-ghost use Rattle.std.specs.Prelude.{◌≡◌, ◌+◌, ◌<◌, ◌≤◌, ◌+ℤ◌, ◌-ℤ◌, ◌≤ℤ◌, int_lt, ◌*◌, length, unsigned_abs, MatchOption};
+ghost use Rattle.std.specs.Prelude.{◌≡◌, ◌+◌, ◌<◌, ◌≤◌, ◌+ℤ◌, ◌-ℤ◌, ◌≤ℤ◌, ◌==◌, ◌&&◌, int_lt, ◌*◌, length, unsigned_abs, MatchOption};
 ghost use Rattle.std.specs.Int.{int_max};
 ghost use Rattle.uc_model.specs.Limits.{IsPower};
 ghost use Rattle.uc_model.specs.Schedule.{renewable_count, thermal_count};
 ghost use Rattle.dispatch_repair.specs.Period.{Period, demand_of, high_of, low_of, need_of, total_output};
-ghost use Rattle.dispatch_repair.specs.Stuck.{HaveRanges, IsFirstObstacle, IsFree, reserve_room as reserve_room_of};
+ghost use Rattle.dispatch_repair.specs.Shortage.{greatest_room as greatest_room_of, reserve_room as reserve_room_of};
+ghost use Rattle.dispatch_repair.specs.Stuck.{HaveRanges, IsFirstObstacle, IsFree};
 ghost use Rattle.dispatch_repair.specs.inside.Amounts.{AreRangesOf};
 ghost use Rattle.dispatch_repair.specs.Segments.{source_count};
 ghost use Rattle.dispatch_repair.specs.inside.Totals.{AreSizedTotals, AreTotalsOf, IsSizedTotal};
 
 use crate::range::Range;
-use uc_model::Why;
 use uc_model::limits::{MAX_POWER, MAX_UNITS};
+use uc_model::{Instance, Why};
 
 /// The sums over a period's sources, in watts.
 #[derive(Clone, Copy)]
@@ -46,11 +47,11 @@ pub(crate) fn most(totals: &Totals) -> i64
     totals.minimums + totals.thermal_high + totals.renewable_high
 }
 
-// The room for reserve where demand is this.
-fn reserve_room(totals: &Totals, demand: &i64) -> i64
+/// The room for reserve where demand is this.
+pub(crate) fn reserve_room(totals: &Totals, demand: &i64) -> i64
     requires sizes { AreSizedTotals totals.now }
-    requires demand { IsPower demand.now }
-    ensures size { IsSizedTotal result }
+    requires demand { unsigned_abs demand.now ≤ MAX_UNITS * (12 * MAX_POWER) }
+    ensures size { unsigned_abs result ≤ MAX_UNITS * (22 * MAX_POWER) }
     ensures value { (period : Period) → AreTotalsOf period totals.now → demand.now ≡ demand_of period → result ≡ reserve_room_of period }
 {
     let given = greater(&totals.thermal_low, &rest(totals, demand));
@@ -60,21 +61,36 @@ fn reserve_room(totals: &Totals, demand: &i64) -> i64
 // What the thermal units have to give above their minimums where the renewable ones give the most.
 fn rest(totals: &Totals, demand: &i64) -> i64
     requires sizes { AreSizedTotals totals.now }
-    requires demand { IsPower demand.now }
+    requires demand { unsigned_abs demand.now ≤ MAX_UNITS * (12 * MAX_POWER) }
     ensures value { result ≡ demand.now -ℤ totals.now.minimums -ℤ totals.now.renewable_high }
-    ensures size { unsigned_abs result ≤ MAX_UNITS * (7 * MAX_POWER) }
+    ensures size { unsigned_abs result ≤ MAX_UNITS * (18 * MAX_POWER) }
 {
     *demand - totals.minimums - totals.renewable_high
 }
 
 // The greater of two totals.
 fn greater(first: &i64, second: &i64) -> i64
-    requires first { unsigned_abs first.now ≤ MAX_UNITS * (7 * MAX_POWER) }
-    requires second { unsigned_abs second.now ≤ MAX_UNITS * (7 * MAX_POWER) }
+    requires first { unsigned_abs first.now ≤ MAX_UNITS * (18 * MAX_POWER) }
+    requires second { unsigned_abs second.now ≤ MAX_UNITS * (18 * MAX_POWER) }
     ensures value { result ≡ int_max first.now second.now }
-    ensures size { unsigned_abs result ≤ MAX_UNITS * (7 * MAX_POWER) }
+    ensures size { unsigned_abs result ≤ MAX_UNITS * (18 * MAX_POWER) }
 {
     (*first).max(*second)
+}
+
+// The most room for reserve: where a watt of demand has a price, that of the least output.
+fn greatest_room(price: u32, totals: &Totals, demand: &i64) -> i64
+    requires sizes { AreSizedTotals totals.now }
+    requires demand { IsPower demand.now }
+    ensures size { unsigned_abs result ≤ MAX_UNITS * (22 * MAX_POWER) }
+    ensures value { (period : Period) → price ≡ period.instance.a → AreTotalsOf period totals.now → demand.now ≡ demand_of period
+        → result ≡ greatest_room_of period }
+{
+    if price > 0 {
+        totals.heads - totals.thermal_low
+    } else {
+        reserve_room(totals, demand)
+    }
 }
 
 /// The first thermal unit with an empty range.
@@ -104,12 +120,17 @@ fn is_empty(range: &Range) -> bool
 }
 
 /// The first obstacle on the whole system.
-pub(crate) fn imbalance(totals: &Totals, demand: &i64, need: &i64) -> Option<Why>
+pub(crate) fn imbalance(
+    instance: &Instance,
+    totals: &Totals,
+    demand: &i64,
+    need: &i64,
+) -> Option<Why>
     requires sizes { AreSizedTotals totals.now }
     requires demand { IsPower demand.now }
     requires need { IsPower need.now }
-    ensures { (period : Period) → HaveRanges period (thermal_count period.instance) → AreTotalsOf period totals.now
-        → demand.now ≡ demand_of period → need.now ≡ need_of period
+    ensures { (period : Period) → period.instance ≡ instance.now → HaveRanges period (thermal_count period.instance)
+        → AreTotalsOf period totals.now → demand.now ≡ demand_of period → need.now ≡ need_of period
         → MatchOption result (IsFree period) (IsFirstObstacle period) }
 {
     let least = least(totals);
@@ -120,15 +141,24 @@ pub(crate) fn imbalance(totals: &Totals, demand: &i64, need: &i64) -> Option<Why
         });
     }
     let most = most(totals);
-    if most < *demand {
+    let is_under = is_beyond(instance.a, demand, &most);
+    if is_under {
         return Some(Why::Under {
             most,
             demand: *demand,
         });
     }
-    let room = reserve_room(totals, demand);
-    if room < *need {
+    let room = greatest_room(instance.a, totals, demand);
+    let is_short = is_beyond(instance.b, need, &room);
+    if is_short {
         return Some(Why::Reserve { room, need: *need });
     }
     None
+}
+
+// Whether what is wanted is above what there may be, and a watt of it has no price.
+fn is_beyond(price: u32, wanted: &i64, most: &i64) -> bool
+    ensures { result ≡ (price == 0 && int_lt most.now wanted.now) }
+{
+    price == 0 && *most < *wanted
 }

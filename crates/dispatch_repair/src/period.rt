@@ -1,6 +1,6 @@
 //! The dispatch of one period, from the one before.
 
-ghost use Rattle.std.specs.Prelude.{◌≡◌, ℕ, ℤ, ◌*◌, ◌<◌, ◌≤◌, pos, ◌-ℤ◌, unsigned_abs, length, MatchOption, MatchResult};
+ghost use Rattle.std.specs.Prelude.{◌≡◌, ℕ, ℤ, ◌*◌, ◌<◌, ◌≤◌, pos, ◌-ℤ◌, unsigned_abs, length, MatchResult};
 ghost use Rattle.std.specs.Int.{int_max};
 ghost use Rattle.uc_model.specs.Commitment.{initial_p};
 ghost use Rattle.uc_model.specs.Limits.{IsLawfulInstance, IsPower};
@@ -10,10 +10,10 @@ ghost use Rattle.dispatch_repair.specs.Period.{Period, demand_of, need_of};
 ghost use Rattle.dispatch_repair.specs.Stuck.{IsFirstObstacle};
 ghost use Rattle.dispatch_repair.specs.Rooms.{IsRoomOf};
 ghost use Rattle.dispatch_repair.specs.inside.Amounts.{AreBeforePeriod, AreHeadsOf, AreRangesOf, AreSizedHeads, AreSizedRanges, amount_at, next_period, range_at, thermal_amount};
-ghost use Rattle.dispatch_repair.specs.inside.Filled.{IsDispatchedFrom};
+ghost use Rattle.dispatch_repair.specs.inside.Filled.{AreShortages, IsDispatchedFrom, served_by};
 ghost use Rattle.dispatch_repair.specs.inside.Filling.{MAX_UNITS, IsFilledTo, IsFirstLeft, IsLeft, IsOpen, IsStart};
 ghost use Rattle.dispatch_repair.specs.Segments.{MAX_POWER, AreInMeritOrder, source_count};
-ghost use Rattle.dispatch_repair.specs.inside.Totals.{AreSizedTotals, AreTotalsOf, IsSizedSum, IsSizedTotal};
+ghost use Rattle.dispatch_repair.specs.inside.Totals.{AreSizedTotals, AreTotalsOf, IsSizedLeft, IsSizedMissing, IsSizedPart, IsSizedSum, IsSizedTotal};
 
 use crate::fill::{Left, fill};
 use crate::obstacle::{Totals, empty_range, imbalance, least};
@@ -21,6 +21,7 @@ use crate::range::Range;
 use crate::ranges::set_ranges;
 use crate::room::Room;
 use crate::segment::Segment;
+use crate::shortage::{Shortage, shortage_of};
 use crate::totals::totals;
 use schedule_check::limits::initial_output;
 use uc_model::{Instance, Pattern, Why};
@@ -60,37 +61,49 @@ fn initial_of(instance: &Instance, g: usize) -> i64
 }
 
 /// Dispatches period t, from 0: the thermal units' amounts are those of the period before, and become those of this one,
-/// as the renewable units' do; or says why it can't be filled.
+/// as the renewable units' do. Answers what is missing, or why it can't be filled.
 pub(crate) fn dispatch_period(
     room: &mut Room,
     instance: &Instance,
     patterns: &[Pattern],
     t: usize,
-) -> Option<Why>
+) -> Result<Shortage, Why>
     requires room { IsRoomOf instance.now room.old }
     requires before { AreBeforePeriod instance.now patterns.now t room.old.amounts.items }
     ensures room { IsRoomOf instance.now room.new }
     ensures dispatched { let period = next_period instance.now patterns.now t room.old.amounts.items in
-        MatchOption result (IsDispatchedFrom period room.new.amounts.items room.new.heads.items) (IsFirstObstacle period) }
+        MatchResult result (λ shortage. IsDispatchedFrom period shortage room.new.amounts.items room.new.heads.items) (IsFirstObstacle period) }
 {
     set_ranges(room, instance, patterns, t);
-    match first_left(room, instance, patterns, t) {
-        Ok(left) => {
+    match begin_period(room, instance, patterns, t) {
+        Ok(start) => {
             fill_from_lows(
                 instance,
                 &room.order,
                 &room.ranges,
                 &mut room.amounts,
-                &left,
+                &start.left,
             );
-            None
+            Ok(start.shortage)
         }
-        Err(why) => Some(why),
+        Err(why) => Err(why),
     }
 }
 
-// What is left to give where each source gives its least, or else the first obstacle.
-fn first_left(room: &Room, instance: &Instance, patterns: &[Pattern], t: usize) -> Result<Left, Why>
+/// What a period is filled from: what is missing, and what is left to give where each source gives its least.
+#[derive(Clone, Copy)]
+pub(crate) struct Start {
+    pub shortage: Shortage,
+    pub left: Left,
+}
+
+// What a period is filled from, or else the first obstacle.
+fn begin_period(
+    room: &Room,
+    instance: &Instance,
+    patterns: &[Pattern],
+    t: usize,
+) -> Result<Start, Why>
     requires room { IsRoomOf instance.now room.now }
     requires lawful { IsLawfulInstance instance.now }
     requires patterns { length patterns.now ≡ thermal_count instance.now }
@@ -108,10 +121,31 @@ fn first_left(room: &Room, instance: &Instance, patterns: &[Pattern], t: usize) 
     let totals = totals(instance, patterns, t, &room.ranges, &room.heads);
     let demand = &instance.demand.as_slice()[t];
     let need = &instance.reserves.as_slice()[t];
-    match imbalance(&totals, demand, need) {
+    match imbalance(instance, &totals, demand, need) {
         Some(why) => Err(why),
-        None => Ok(left(&totals, demand, need)),
+        None => Ok(start_of(instance, &totals, demand, need)),
     }
+}
+
+// What is missing, and what is left to give of the rest.
+fn start_of(instance: &Instance, totals: &Totals, demand: &i64, need: &i64) -> Start
+    requires sizes { AreSizedTotals totals.now }
+    requires demand { IsPower demand.now }
+    requires need { IsPower need.now }
+    ensures shortages { (period : Period) → period.instance ≡ instance.now → AreTotalsOf period totals.now
+        → demand.now ≡ demand_of period → need.now ≡ need_of period → AreShortages period result.shortage }
+    ensures first { (period : Period) → AreTotalsOf period totals.now → demand.now ≡ demand_of period → need.now ≡ need_of period
+        → IsFirstLeft (served_by period result.shortage) result.left }
+    ensures need_size { IsSizedLeft result.left.need }
+    ensures room_size { IsSizedLeft result.left.room }
+{
+    let shortage = shortage_of(instance, totals, demand, need);
+    let left = left(
+        totals,
+        &without(demand, &shortage.shed),
+        &without(need, &shortage.short),
+    );
+    Start { shortage, left }
 }
 
 // Fills the ranges from their low ends; answers what is left to give.
@@ -136,15 +170,25 @@ fn fill_from_lows(
     rest
 }
 
+// A demand or a need, without what is missing of it.
+fn without(whole: &i64, missing: &i64) -> i64
+    requires whole { IsPower whole.now }
+    requires missing { IsSizedMissing missing.now }
+    ensures value { result ≡ whole.now -ℤ missing.now }
+    ensures size { IsSizedPart result }
+{
+    *whole - *missing
+}
+
 // What is left to give where each source gives its least.
 fn left(totals: &Totals, demand: &i64, need: &i64) -> Left
     requires sizes { AreSizedTotals totals.now }
-    requires demand { IsPower demand.now }
-    requires need { IsPower need.now }
+    requires demand { IsSizedPart demand.now }
+    requires need { IsSizedPart need.now }
     ensures first { (period : Period) → AreTotalsOf period totals.now → demand.now ≡ demand_of period → need.now ≡ need_of period
         → IsFirstLeft period result }
-    ensures need_size { unsigned_abs result.need ≤ MAX_UNITS * (20 * MAX_POWER) }
-    ensures room_size { unsigned_abs result.room ≤ MAX_UNITS * (20 * MAX_POWER) }
+    ensures need_size { IsSizedLeft result.need }
+    ensures room_size { IsSizedLeft result.room }
 {
     Left {
         need: unmet(demand, &least(totals)),
@@ -154,10 +198,10 @@ fn left(totals: &Totals, demand: &i64, need: &i64) -> Left
 
 // What is left of demand.
 fn unmet(demand: &i64, least: &i64) -> i64
-    requires demand { IsPower demand.now }
+    requires demand { IsSizedPart demand.now }
     requires least { IsSizedTotal least.now }
     ensures value { result ≡ demand.now -ℤ least.now }
-    ensures size { unsigned_abs result ≤ MAX_UNITS * (20 * MAX_POWER) }
+    ensures size { IsSizedLeft result }
 {
     *demand - *least
 }
@@ -165,9 +209,9 @@ fn unmet(demand: &i64, least: &i64) -> i64
 // What the thermal units may give beside the reserve that is needed, above their low ends.
 fn room_above(totals: &Totals, need: &i64) -> i64
     requires sizes { AreSizedTotals totals.now }
-    requires need { IsPower need.now }
+    requires need { IsSizedPart need.now }
     ensures value { result ≡ (totals.now.heads -ℤ int_max need.now (pos 0)) -ℤ totals.now.thermal_low }
-    ensures size { unsigned_abs result ≤ MAX_UNITS * (20 * MAX_POWER) }
+    ensures size { IsSizedLeft result }
 {
     above(&limit(totals, need), &totals.thermal_low)
 }
@@ -175,38 +219,38 @@ fn room_above(totals: &Totals, need: &i64) -> i64
 // What the thermal units may give beside the reserve that is needed.
 fn limit(totals: &Totals, need: &i64) -> i64
     requires sizes { AreSizedTotals totals.now }
-    requires need { IsPower need.now }
+    requires need { IsSizedPart need.now }
     ensures value { result ≡ totals.now.heads -ℤ int_max need.now (pos 0) }
-    ensures size { unsigned_abs result ≤ MAX_UNITS * (10 * MAX_POWER) }
+    ensures size { unsigned_abs result ≤ MAX_UNITS * (45 * MAX_POWER) }
 {
     beside(&totals.heads, &positive(need))
 }
 
 // Reserve that is needed, which is at least none.
 fn positive(need: &i64) -> i64
-    requires { IsPower need.now }
+    requires { IsSizedPart need.now }
     ensures value { result ≡ int_max need.now (pos 0) }
-    ensures size { unsigned_abs result ≤ MAX_POWER }
+    ensures size { IsSizedPart result }
 {
     (*need).max(0)
 }
 
-// A sum less a power.
+// A sum less a part.
 fn beside(total: &i64, part: &i64) -> i64
     requires total { IsSizedSum total.now }
-    requires part { unsigned_abs part.now ≤ MAX_POWER }
+    requires part { IsSizedPart part.now }
     ensures value { result ≡ total.now -ℤ part.now }
-    ensures size { unsigned_abs result ≤ MAX_UNITS * (10 * MAX_POWER) }
+    ensures size { unsigned_abs result ≤ MAX_UNITS * (45 * MAX_POWER) }
 {
     *total - *part
 }
 
 // A total less a sum.
 fn above(total: &i64, part: &i64) -> i64
-    requires total { unsigned_abs total.now ≤ MAX_UNITS * (10 * MAX_POWER) }
+    requires total { unsigned_abs total.now ≤ MAX_UNITS * (45 * MAX_POWER) }
     requires part { IsSizedSum part.now }
     ensures value { result ≡ total.now -ℤ part.now }
-    ensures size { unsigned_abs result ≤ MAX_UNITS * (20 * MAX_POWER) }
+    ensures size { IsSizedLeft result }
 {
     *total - *part
 }

@@ -1,21 +1,23 @@
 //! The rows of a schedule while it is dispatched.
 
-ghost use Rattle.std.specs.Prelude.{◌≡◌, ℕ, ◌<◌, ◌≤◌, ◌-ℤ◌, false, All, IfOk, IsTrue, OnErr, length, map, slice_set, take};
+ghost use Rattle.std.specs.Prelude.{◌≡◌, ℕ, ◌*◌, ◌^◌, ◌<◌, ◌≤◌, ◌-ℤ◌, false, All, IfOk, IsTrue, OnErr, length, map, slice_set, take, unsigned_abs};
 ghost use Rattle.uc_model.specs.Commitment.{starts};
 ghost use Rattle.uc_model.specs.PatternBits.{commitment_of};
-ghost use Rattle.uc_model.specs.PrintedSchedule.{cell_at, printed_cost};
-ghost use Rattle.uc_model.specs.Schedule.{thermal_count, thermal_unit};
+ghost use Rattle.uc_model.specs.PrintedSchedule.{cell_at, printed_cell_cost, printed_cost};
+ghost use Rattle.uc_model.specs.Schedule.{reserve_at, thermal_count, thermal_unit};
 ghost use Rattle.uc_model.specs.Limits.{IsLawfulInstance, IsLawfulThermal, IsPower};
 ghost use Rattle.uc_model.specs.StartCategory.{category_cost};
+ghost use Rattle.uc_model.specs.Sums.{sum_below};
 ghost use Rattle.schedule_check.specs.WholeWatts.{HasPrice};
 ghost use Rattle.start_costs.specs.Cheapest.{IsCheapestAbove};
 ghost use Rattle.dispatch_repair.specs.Dispatch.{Instance, Pattern, HasPeriods};
 ghost use Rattle.dispatch_repair.specs.Rooms.{ArePowerless, AreRowsBut, AreRowsOf, AreSameBelow, AreSameRowsBut, IsPowerless, IsRoomOf, printed_of, rows_of};
 ghost use Rattle.dispatch_repair.specs.inside.Amounts.{IsSizedEnd, IsSizedOutput, amount_at, thermal_amount};
-ghost use Rattle.dispatch_repair.specs.inside.Rows.{AreCellsWritten, AreCommittedRows, AreOutputsWritten, IsCommittedRow, IsLeft, IsWritten, cell_of, reserve_of, row_at, with_power, IsNewCell};
+ghost use Rattle.dispatch_repair.specs.inside.Rows.{AreCellsWritten, AreCommittedRows, AreOutputsWritten, IsCommittedRow, IsLeft, IsPowered, IsWritten, cell_of, reserve_of, row_at, with_power, IsNewCell};
 
 use crate::room::Room;
-use schedule_check::row_cost;
+use crate::shortage::Shortage;
+use schedule_check::{row_cost, shortages_cost};
 use start_costs::{least_allowed, was_on};
 use std::alloc::Global;
 use uc_model::limits::{MAX_PERIODS, MAX_UNITS};
@@ -153,9 +155,50 @@ fn no_outputs(alloc: Global, units: usize, periods: usize) -> Result<Vec<Vec<i64
     Ok(rows)
 }
 
-/// Writes the amounts of period t, and gives reserve to the units in the order of the file, each up to its head, until
-/// what is needed is reached.
-pub(crate) fn write_period(instance: &Instance, rows: &mut Rows, room: &Room, need: &i64, t: usize)
+/// Writes the amounts of period t and what is missing in it, and gives reserve to the units in the order of the file, each
+/// up to its head, until what is to be kept is reached.
+pub(crate) fn write_period(
+    instance: &Instance,
+    rows: &mut Rows,
+    room: &Room,
+    shortage: &Shortage,
+    t: usize,
+)
+    requires shape { HasPeriods instance.now instance.now.periods (printed_of rows.old) }
+    requires room { IsRoomOf instance.now room.now }
+    requires period { t < instance.now.periods }
+    requires kept { IsPower (reserve_at instance.now t -ℤ shortage.now.short) }
+    requires units { IsLawfulInstance instance.now }
+    requires amounts { (g : ℕ) → g < thermal_count instance.now → IsSizedOutput (thermal_amount instance.now room.now.amounts.items g) }
+    requires heads { (g : ℕ) → g < thermal_count instance.now → IsSizedEnd (amount_at room.now.heads.items g) }
+    ensures shape { HasPeriods instance.now instance.now.periods (printed_of rows.new) }
+    ensures written { IsWritten instance.now room.now.amounts.items room.now.heads.items shortage.now t (printed_of rows.old) (printed_of rows.new) }
+{
+    let kept = without(&instance.reserves.as_slice()[t], &shortage.short);
+    write_powers(instance, rows, room, &kept, t);
+    set_number(&mut rows.shed, t, &shortage.shed);
+    set_number(&mut rows.short, t, &shortage.short);
+}
+
+// A need without what is missing of it.
+fn without(need: &i64, missing: &i64) -> i64
+    requires { IsPower (need.now -ℤ missing.now) }
+    ensures value { result ≡ need.now -ℤ missing.now }
+    ensures size { IsPower result }
+{
+    *need - *missing
+}
+
+// Writes the number of period t.
+fn set_number(numbers: &mut Vec<i64>, t: usize, number: &i64)
+    requires { t < length numbers.old.items }
+    ensures { numbers.new.items ≡ slice_set numbers.old.items t number.now }
+{
+    numbers[t] = *number;
+}
+
+// Writes the amounts of period t, and reserve up to what is to be kept.
+fn write_powers(instance: &Instance, rows: &mut Rows, room: &Room, need: &i64, t: usize)
     requires shape { HasPeriods instance.now instance.now.periods (printed_of rows.old) }
     requires room { IsRoomOf instance.now room.now }
     requires period { t < instance.now.periods }
@@ -164,7 +207,9 @@ pub(crate) fn write_period(instance: &Instance, rows: &mut Rows, room: &Room, ne
     requires amounts { (g : ℕ) → g < thermal_count instance.now → IsSizedOutput (thermal_amount instance.now room.now.amounts.items g) }
     requires heads { (g : ℕ) → g < thermal_count instance.now → IsSizedEnd (amount_at room.now.heads.items g) }
     ensures shape { HasPeriods instance.now instance.now.periods (printed_of rows.new) }
-    ensures written { IsWritten instance.now room.now.amounts.items room.now.heads.items need.now t (printed_of rows.old) (printed_of rows.new) }
+    ensures powered { IsPowered instance.now room.now.amounts.items room.now.heads.items need.now t (printed_of rows.old) (printed_of rows.new) }
+    ensures shed { rows.new.shed ≡ rows.old.shed }
+    ensures short { rows.new.short ≡ rows.old.short }
 {
     let amounts = room.amounts.as_slice();
     let renewables = instance.renewable.as_slice().len();
@@ -274,6 +319,22 @@ pub fn cost(instance: &Instance, rows: &Rows) -> i128
     requires prices { (g t : ℕ) → g < thermal_count instance.now → t < instance.now.periods
         → HasPrice (thermal_unit instance.now g) (cell_at (printed_of rows.now) g t) }
     ensures { result ≡ printed_cost instance.now (printed_of rows.now) }
+{
+    sum(
+        thermal_cost(instance, rows),
+        shortages_cost(1, instance, &rows.shed, &rows.short),
+    )
+}
+
+// What the thermal units cost.
+fn thermal_cost(instance: &Instance, rows: &Rows) -> i128
+    requires lawful { IsLawfulInstance instance.now }
+    requires shape { HasPeriods instance.now instance.now.periods (printed_of rows.now) }
+    requires prices { (g t : ℕ) → g < thermal_count instance.now → t < instance.now.periods
+        → HasPrice (thermal_unit instance.now g) (cell_at (printed_of rows.now) g t) }
+    ensures value { result ≡ sum_below (thermal_count instance.now) (λ g. sum_below instance.now.periods (λ t.
+        printed_cell_cost (thermal_unit instance.now g) 1 (cell_at (printed_of rows.now) g t))) }
+    ensures size { unsigned_abs result ≤ 4096 * (168 * 2 ^ 64) }
 {
     let units = instance.thermal.as_slice();
     let mut total = 0;

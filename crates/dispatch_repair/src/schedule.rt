@@ -116,10 +116,10 @@ pub fn dispatch_rows(
 {
     begin(room, instance);
     for t in 0..instance.periods as usize {
-        if let Some(why) = dispatch_period(room, instance, patterns, t) {
-            return Some(Obstacle { period: t, why });
+        match dispatch_period(room, instance, patterns, t) {
+            Ok(shortage) => write_period(instance, rows, room, &shortage, t),
+            Err(why) => return Some(Obstacle { period: t, why }),
         }
-        write_period(instance, rows, room, &instance.reserves.as_slice()[t], t);
     }
     None
 }

@@ -1,22 +1,26 @@
 -- Raising amounts segment by segment, in order of merit. Source: economic dispatch by the merit order of incremental costs.
-use Rattle.std.specs.Prelude.{◌≡◌, ◌≢◌, ℕ, ◌+◌, ◌*◌, ◌<◌, ◌≤◌, ◌⊎◌, List, ℤ, pos, ◌+ℤ◌, ◌-ℤ◌, ◌≤ℤ◌, ◌<ℤ◌, unsigned_abs, length}
+use Rattle.std.specs.Prelude.{◌≡◌, ◌≢◌, ℕ, ◌+◌, ◌<◌, ◌≤◌, ◌⊎◌, List, ℤ, pos, ◌+ℤ◌, ◌-ℤ◌, ◌≤ℤ◌, ◌<ℤ◌, length}
 use Rattle.std.specs.Int.{int_min}
 use Rattle.uc_model.specs.Sums.{sum_below}
 use Rattle.uc_model.specs.Schedule.{thermal_count, renewable_count}
 pub use Rattle.uc_model.specs.declared.limits.TheConstants.{MAX_POWER, MAX_UNITS}
-use Rattle.dispatch_repair.specs.Period.{Instance, Period, demand_of, low_of, thermal_limit, thermal_sum, total_output}
+use Rattle.dispatch_repair.specs.Period.{Instance, Period, demand_of, need_of, low_of, high_of, thermal_limit, thermal_sum, total_output}
+use Rattle.dispatch_repair.specs.Shortage.{reserve_room}
 use Rattle.dispatch_repair.specs.MeritOrder.{Slope, HasNextSlope}
-use Rattle.dispatch_repair.specs.Stuck.{IsFree}
+use Rattle.dispatch_repair.specs.Stuck.{HaveRanges}
 use Rattle.dispatch_repair.specs.inside.Amounts.{Range, range_at, amount_at, thermal_amount, IsSizedEnd}
 use Rattle.dispatch_repair.specs.Segments.{Segment, IsAtMost, source_at, source_count, width_at, segment_at}
+use Rattle.dispatch_repair.specs.inside.Filled.{AreShortages, served_by}
+use Rattle.dispatch_repair.specs.inside.Totals.{IsSizedLeft}
 pub use Rattle.dispatch_repair.specs.declared.fill.Left.{Left}
+pub use Rattle.dispatch_repair.specs.declared.period.Start.{Start}
 
 -- what is left isn't negative, and has the size of a sum over units
 pub record IsLeft (left : Left) : Type 0 where
   pub need : pos 0 ≤ℤ left.need
   pub room : pos 0 ≤ℤ left.room
-  pub need_size : unsigned_abs left.need ≤ MAX_UNITS * (20 * MAX_POWER)
-  pub room_size : unsigned_abs left.room ≤ MAX_UNITS * (20 * MAX_POWER)
+  pub need_size : IsSizedLeft left.need
+  pub room_size : IsSizedLeft left.room
 
 -- each range lies where the source's cost is known
 pub record IsOpen (instance : Instance) (n : ℕ) (range : Range) : Type 0 where
@@ -95,8 +99,16 @@ pub record IsFirstLeft (period : Period) (left : Left) : Type 0 where
   pub need : left.need ≡ demand_of period -ℤ total_output period (low_of period)
   pub room : left.room ≡ thermal_limit period -ℤ thermal_sum period (low_of period)
 
--- nothing is in the way, and this is left at first
-pub record IsStart (period : Period) (left : Left) : Type 0 where
-  pub free : IsFree period
-  pub first : IsFirstLeft period left
-  pub sizes : IsLeft left
+-- the period can be filled: demand lies between the least and the most that all give, and the reserve has room beside it
+pub record IsFillable (period : Period) : Type 0 where
+  pub ranges : HaveRanges period (thermal_count period.instance)
+  pub least : total_output period (low_of period) ≤ℤ demand_of period
+  pub most : demand_of period ≤ℤ total_output period (high_of period)
+  pub reserve : need_of period ≤ℤ reserve_room period
+
+-- this is missing, the rest can be filled, and this is left of it at first
+pub record IsStart (period : Period) (start : Start) : Type 0 where
+  pub shortages : AreShortages period start.shortage
+  pub fillable : IsFillable (served_by period start.shortage)
+  pub first : IsFirstLeft (served_by period start.shortage) start.left
+  pub sizes : IsLeft start.left

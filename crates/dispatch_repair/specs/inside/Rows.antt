@@ -2,12 +2,13 @@
 use Rattle.std.specs.Prelude.{◌≡◌, ◌≢◌, ℕ, ◌+◌, ◌*◌, ◌<◌, ◌≤◌, false, List, [], ℤ, pos, ◌+ℤ◌, ◌-ℤ◌, ◌≤ℤ◌, length, slice_index_or, slice_set}
 use Rattle.std.specs.Int.{int_min, int_max}
 use Rattle.uc_model.specs.Sums.{sum_below}
-use Rattle.uc_model.specs.Schedule.{thermal_count, renewable_count}
-use Rattle.uc_model.specs.PrintedSchedule.{cell_at}
+use Rattle.uc_model.specs.Schedule.{thermal_count, renewable_count, reserve_at}
+use Rattle.uc_model.specs.PrintedSchedule.{cell_at, shed_at, short_at}
 pub use Rattle.uc_model.specs.declared.schedule.Cell.{Cell}
 use Rattle.schedule_check.specs.SizedNumbers.{output_at}
 use Rattle.dispatch_repair.specs.Dispatch.{Instance, Pattern, Printed, IsCommittedCell}
 use Rattle.dispatch_repair.specs.inside.Amounts.{MAX_POWER, amount_at, thermal_amount}
+use Rattle.dispatch_repair.specs.inside.Filled.{Shortage}
 
 -- a unit's row; past the last one a row of nothing
 abbrev pub row_at : {X : Type 0} → List (List X) → ℕ → List X
@@ -73,9 +74,21 @@ pub record AreOutputsWritten (amounts : List ℤ) (t n : ℕ) (old new : List (L
   pub rest : (w : ℕ) → n ≤ w → row_at new w ≡ row_at old w
   pub outputs : (w : ℕ) → w < n → row_at new w ≡ slice_set (row_at old w) t (amount_at amounts w)
 
--- period t was written: these amounts, and reserve in the order of the file up to what is needed
-pub record IsWritten (instance : Instance) (amounts heads : List ℤ) (need : ℤ) (t : ℕ) (old new : Printed) : Type 0 where
+-- the powers of period t were written: these amounts, and reserve in the order of the file up to what is to be kept
+pub record IsPowered (instance : Instance) (amounts heads : List ℤ) (need : ℤ) (t : ℕ) (old new : Printed) : Type 0 where
   pub others : AreSameBut t old new
   pub outputs : (w : ℕ) → w < renewable_count instance → output_at new w t ≡ amount_at amounts w
   pub cells : (g : ℕ) → g < thermal_count instance → HasPower (cell_at old g t) (cell_at new g t) (thermal_amount instance amounts g)
       (int_min (amount_at heads g -ℤ thermal_amount instance amounts g) (int_max (need -ℤ sum_below g (λ h. (cell_at new h t).r)) (pos 0)))
+
+-- what is missing in period t was written, and in the others it is the same
+pub record IsLacking (shortage : Shortage) (t : ℕ) (old new : Printed) : Type 0 where
+  pub shed : shed_at new t ≡ shortage.shed
+  pub short : short_at new t ≡ shortage.short
+  pub other_shed : (k : ℕ) → k ≢ t → shed_at new k ≡ shed_at old k
+  pub other_short : (k : ℕ) → k ≢ t → short_at new k ≡ short_at old k
+
+-- period t was written, both
+pub record IsWritten (instance : Instance) (amounts heads : List ℤ) (shortage : Shortage) (t : ℕ) (old new : Printed) : Type 0 where
+  pub powers : IsPowered instance amounts heads (reserve_at instance t -ℤ shortage.short) t old new
+  pub lacking : IsLacking shortage t old new

@@ -1,9 +1,11 @@
 -- A test that fails is the fact that the next obstacle stands on.
-use Rattle.std.proofs.Common.{◌≡◌, ◌≤ℤ◌, ◌<ℤ◌, ℤ, ◌*◌, ◌≤◌, arith, ◌∙◌, unsigned_abs}
+use Rattle.std.proofs.Common.{◌≡◌, ◌≤ℤ◌, ℤ, ◌*◌, ◌≤◌, ap, sym, arith, ◌∙◌, unsigned_abs}
 use Rattle.uc_model.specs.Limits.{IsPower}
 use Rattle.uc_model.proofs.Ring.{linear}
+use Rattle.uc_model.proofs.Sizes.{narrow}
+use Rattle.dispatch_repair.specs.Period.{Instance}
 use Rattle.dispatch_repair.specs.inside.Totals.{MAX_POWER, MAX_UNITS, IsSizedTotal}
-use Rattle.dispatch_repair.proofs.Numbers.{kept, kept_below, kept_at_most}
+use Rattle.dispatch_repair.proofs.Numbers.{beyond, kept, kept_at_most, not_beyond}
 use Rattle.dispatch_repair.proofs.obstacle.imbalance.Goals as goal
 
 power_size : (z : ℤ) → IsPower z → IsSizedTotal z
@@ -16,49 +18,56 @@ least_size z h = omega arith
 below_by : (a b x y : ℤ) → a ≡ x → b ≡ y → a ≤ℤ b → x ≤ℤ y
 below_by a b x y e f h = omega (arith, linear)
 
-less_by : (a b x y : ℤ) → x ≡ a → y ≡ b → a <ℤ b → x <ℤ y
-less_by a b x y e f h = omega (arith, linear)
-
-pub returns-then-most-demand : goal.returns-then-most-demand
-returns-then-most-demand c = λ period ranges totals demand need.
+pub returns-then-is_under : goal.returns-then-is_under
+returns-then-is_under c = λ period same ranges totals demand need.
     let wanted = power_size c.args.demand.now c.requires.demand in
     let most = kept c.most-most.result c.most-most.ensures.size in
-    let same = kept c.args.demand.now wanted in
+    let is = kept c.args.demand.now wanted in
+    let above = beyond c.args.instance.now.a _ c.args.demand.now (sym c.is_beyond-is_under.ensures ∙ c.if-is_under.true) in
     record {
+      firm = ap (λ (i : Instance). i.a) same ∙ above.0;
       most = most ∙ c.most-most.ensures.value period totals;
-      demand = same ∙ demand;
-      below = less_by _ _ _ _ most same (kept_below _ _ c.most-most.ensures.size wanted c.if-most-demand.true);
+      demand = is ∙ demand;
+      below = omega (arith, linear, above.1, most, is);
       ranges = ranges;
       least = below_by _ _ _ _ (c.least-least.ensures.value period totals) demand (kept_at_most _ _ wanted (least_size c.least-least.result c.least-least.ensures.size) c.if-least-demand.false);
     }
 
-pub returns-then-room-need : goal.returns-then-room-need
-returns-then-room-need c = λ period ranges totals demand need.
+pub returns-then-is_short : goal.returns-then-is_short
+returns-then-is_short c = λ period same ranges totals demand need.
     let wanted = power_size c.args.demand.now c.requires.demand in
-    let needed = power_size c.args.need.now c.requires.need in
-    let room = kept c.reserve_room-room.result c.reserve_room-room.ensures.size in
-    let same = kept c.args.need.now needed in
+    let most = kept c.most-most.result c.most-most.ensures.size in
+    let room = narrow c.greatest_room-room.result (MAX_UNITS * (22 * MAX_POWER)) c.greatest_room-room.ensures.size (omega arith) in
+    let is = kept c.args.need.now (power_size c.args.need.now c.requires.need) in
+    let above = beyond c.args.instance.now.b _ c.args.need.now (sym c.is_beyond-is_short.ensures ∙ c.if-is_short.true) in
     record {
-      room = room ∙ c.reserve_room-room.ensures.value period totals demand;
-      need = same ∙ need;
-      below = less_by _ _ _ _ room same (kept_below _ _ c.reserve_room-room.ensures.size needed c.if-room-need.true);
+      firm = ap (λ (i : Instance). i.b) same ∙ above.0;
+      room = room ∙ c.greatest_room-room.ensures.value period (ap (λ (i : Instance). i.a) (sym same)) totals demand;
+      need = is ∙ need;
+      below = omega (arith, linear, above.1, room, is);
       balance = record {
         ranges = ranges;
         least = below_by _ _ _ _ (c.least-least.ensures.value period totals) demand (kept_at_most _ _ wanted (least_size c.least-least.result c.least-least.ensures.size) c.if-least-demand.false);
-        most = below_by _ _ _ _ demand (c.most-most.ensures.value period totals) (kept_at_most _ _ c.most-most.ensures.size wanted c.if-most-demand.false);
+        most = λ none.
+            let within = not_beyond c.args.instance.now.a _ c.args.demand.now (sym c.is_beyond-is_under.ensures ∙ c.if-is_under.false) (ap (λ (i : Instance). i.a) (sym same) ∙ none) in
+            omega (arith, linear, within, most, c.most-most.ensures.value period totals, demand);
       };
     }
 
 pub returns : goal.returns
-returns c = λ period ranges totals demand need.
+returns c = λ period same ranges totals demand need.
     let wanted = power_size c.args.demand.now c.requires.demand in
-    let needed = power_size c.args.need.now c.requires.need in
+    let most = kept c.most-most.result c.most-most.ensures.size in
+    let room = narrow c.greatest_room-room.result (MAX_UNITS * (22 * MAX_POWER)) c.greatest_room-room.ensures.size (omega arith) in
     record {
       balance = record {
         ranges = ranges;
         least = below_by _ _ _ _ (c.least-least.ensures.value period totals) demand (kept_at_most _ _ wanted (least_size c.least-least.result c.least-least.ensures.size) c.if-least-demand.false);
-        most = below_by _ _ _ _ demand (c.most-most.ensures.value period totals) (kept_at_most _ _ c.most-most.ensures.size wanted c.if-most-demand.false);
+        most = λ none.
+            let within = not_beyond c.args.instance.now.a _ c.args.demand.now (sym c.is_beyond-is_under.ensures ∙ c.if-is_under.false) (ap (λ (i : Instance). i.a) (sym same) ∙ none) in
+            omega (arith, linear, within, most, c.most-most.ensures.value period totals, demand);
       };
-      reserve = below_by _ _ _ _ need (c.reserve_room-room.ensures.value period totals demand)
-          (kept_at_most _ _ c.reserve_room-room.ensures.size needed c.if-room-need.false);
+      reserve = λ none.
+          let within = not_beyond c.args.instance.now.b _ c.args.need.now (sym c.is_beyond-is_short.ensures ∙ c.if-is_short.false) (ap (λ (i : Instance). i.b) (sym same) ∙ none) in
+          omega (arith, linear, within, room, c.greatest_room-room.ensures.value period (ap (λ (i : Instance). i.a) (sym same)) totals demand, need);
     }

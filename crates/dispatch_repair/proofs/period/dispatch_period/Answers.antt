@@ -3,10 +3,11 @@ use Rattle.std.proofs.Common.{arith, sym, subst}
 use Rattle.std.proofs.lemmas.List.{with_items_is}
 use Rattle.dispatch_repair.specs.Dispatch.{period_after}
 use Rattle.dispatch_repair.specs.inside.Amounts.{AreRangesOf, thermal_amount}
-use Rattle.dispatch_repair.specs.inside.Filled.{IsDispatchedFrom}
+use Rattle.dispatch_repair.specs.inside.Filled.{IsDispatchedFrom, served_by}
 use Rattle.dispatch_repair.specs.inside.Filling.{IsStart}
 use Rattle.dispatch_repair.specs.Segments.{AreInMeritOrder}
-use Rattle.dispatch_repair.proofs.Merit.{open_ranges, dispatched}
+use Rattle.dispatch_repair.proofs.Merit.{IsFilledUp, open_ranges, in_merit_order, width_size}
+use Rattle.dispatch_repair.proofs.Shortages.{ranges_served, kept_size}
 use Rattle.dispatch_repair.proofs.period.dispatch_period.Goals as goal
 
 pub returns-in-Err-clause-dispatched : goal.returns-in-Err-clause-dispatched
@@ -18,8 +19,8 @@ pub fill_from_lows-requires-clause-sources : goal.fill_from_lows-requires-clause
 fill_from_lows-requires-clause-sources c =
     let before = thermal_amount c.args.instance.now c.args.room.now.amounts.items in
     let period = period_after c.args.instance.now c.args.patterns.now c.args.t before in
-    let start : IsStart period c.in-Ok.left = c.in-Ok.ensures before c.set_ranges.ensures.ranges c.set_ranges.ensures.heads in
-    open_ranges period c.deref-in-Ok.result.now c.requires.before.lawful c.requires.before.period start.free.balance.ranges
+    let start : IsStart period c.in-Ok.start = c.in-Ok.ensures before c.set_ranges.ensures.ranges c.set_ranges.ensures.heads in
+    open_ranges period c.deref-in-Ok.result.now c.requires.before.lawful c.requires.before.period start.fillable.ranges
     (subst (AreRangesOf period) (sym c.deref-in-Ok.ensures.value) c.set_ranges.ensures.ranges)
 
 pub fill_from_lows-requires-clause-left : goal.fill_from_lows-requires-clause-left
@@ -31,16 +32,26 @@ pub returns-in-Ok-clause-dispatched : goal.returns-in-Ok-clause-dispatched
 returns-in-Ok-clause-dispatched c =
     let before = thermal_amount c.args.instance.now c.args.room.now.amounts.items in
     let period = period_after c.args.instance.now c.args.patterns.now c.args.t before in
-    let start : IsStart period c.in-Ok.left = c.in-Ok.ensures before c.set_ranges.ensures.ranges c.set_ranges.ensures.heads in
+    let start : IsStart period c.in-Ok.start = c.in-Ok.ensures before c.set_ranges.ensures.ranges c.set_ranges.ensures.heads in
+    let shortage = c.in-Ok.start.shortage in
     let is = with_items_is c.set_ranges.new.room.amounts c.fill_from_lows.new.amounts (omega (arith, c.fill_from_lows.ensures.length, c.deref_mut.ensures.len)) in
-    subst (λ amounts. IsDispatchedFrom period amounts c.set_ranges.new.room.heads.items) (sym is)
-    (dispatched period c.deref.result.now c.deref-in-Ok.result.now c.in-Ok.left c.fill_from_lows.new.amounts c.fill_from_lows.result
-    (record {
+    let all : IsFilledUp (served_by period shortage) c.deref.result.now c.deref-in-Ok.result.now c.in-Ok.start.left c.fill_from_lows.new.amounts c.fill_from_lows.result = record {
       lawful = c.requires.before.lawful;
       within = c.requires.before.period;
       order = subst (AreInMeritOrder c.args.instance.now) (sym c.deref.ensures.value) c.set_ranges.ensures.room.order;
-      ranges = subst (AreRangesOf period) (sym c.deref-in-Ok.ensures.value) c.set_ranges.ensures.ranges;
-      free = start.free;
+      ranges = ranges_served period shortage.shed shortage.short c.deref-in-Ok.result.now
+          (subst (AreRangesOf period) (sym c.deref-in-Ok.ensures.value) c.set_ranges.ensures.ranges);
+      free = start.fillable;
       first = start.first;
       filled = c.fill_from_lows.ensures.filled;
-    }) c.set_ranges.new.room.heads.items c.set_ranges.ensures.heads)
+    } in
+    let merit = in_merit_order (served_by period shortage) c.deref.result.now c.deref-in-Ok.result.now c.in-Ok.start.left c.fill_from_lows.new.amounts c.fill_from_lows.result all in
+    let sizes = width_size (served_by period shortage) c.deref.result.now c.deref-in-Ok.result.now c.in-Ok.start.left c.fill_from_lows.new.amounts c.fill_from_lows.result all in
+    subst (λ amounts. IsDispatchedFrom period shortage amounts c.set_ranges.new.room.heads.items) (sym is)
+    (record {
+      shortages = start.shortages;
+      merit = merit;
+      heads = c.set_ranges.ensures.heads;
+      sizes = sizes;
+      kept = kept_size c.args.instance.now c.args.patterns.now c.args.t before shortage c.requires.before.lawful c.requires.before.period start.shortages start.fillable;
+    })

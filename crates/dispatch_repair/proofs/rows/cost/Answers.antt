@@ -1,88 +1,23 @@
--- The row's cost is the next term.
-use Rattle.std.proofs.Common.{◌≡◌, ℕ, ◌*◌, ◌^◌, ◌<◌, List, [], length, sym, ap, subst, ◌∙◌, arith, ◌+ℤ◌, slice_index_or}
-use Rattle.std.proofs.lemmas.List.{length-map}
-use Rattle.std.proofs.lemmas.List.Elements.{All-get_or}
-use Rattle.uc_model.specs.Limits.{IsLawfulThermal}
-use Rattle.uc_model.specs.PrintedSchedule.{cell_at, printed_cell_cost}
-use Rattle.uc_model.specs.Schedule.{thermal_count, thermal_unit}
+-- The units' costs and those of what is missing, as 128 bits keep them.
+use Rattle.std.proofs.Common.{◌≡◌, ◌+◌, ◌*◌, ◌^◌, ◌≤◌, ◌∙◌, sym, subst, arith, ◌+ℤ◌, unsigned_abs}
+use Rattle.uc_model.specs.PrintedSchedule.{printed_shortage_cost}
 use Rattle.uc_model.specs.Sums.{sum_below}
-use Rattle.uc_model.proofs.Ring.{add-zero}
-use Rattle.uc_model.proofs.Shortages.{no_shortage_cost}
-use Rattle.std.specs.declared.alloc.Global.{Global}
-use Rattle.std.specs.declared.vec.Vec.{Vec}
-use Rattle.uc_model.specs.declared.instance.Thermal.{Thermal}
-use Rattle.schedule_check.specs.WholeWatts.{HasPrice, cell}
-use Rattle.schedule_check.proofs.AddedSums.{added}
-use Rattle.dispatch_repair.specs.Dispatch.{Cell, Instance, HasPeriods}
-use Rattle.dispatch_repair.specs.Rooms.{Rows, printed_of, rows_of}
-use Rattle.dispatch_repair.specs.inside.Rows.{row_at}
-use Rattle.dispatch_repair.proofs.Places.{unit_read}
-use Rattle.dispatch_repair.proofs.RowsEdits.{row_read}
+use Rattle.uc_model.proofs.Sizes.{abs_add, wide}
+use Rattle.schedule_check.specs.WholeWatts.{lacking_alone}
+use Rattle.dispatch_repair.specs.Rooms.{printed_of}
 use Rattle.dispatch_repair.proofs.rows.cost.Goals as goal
 
--- what was read of a unit is its own
-record IsRead (instance : Instance) (rows : Rows) (g : ℕ) (unit : Thermal) (row : List Cell) : Type 0 where
-  within : g < thermal_count instance
-  is : unit ≡ thermal_unit instance g
-  row_is : row ≡ row_at (rows_of rows.thermal.items) g
-  periods : length row ≡ instance.periods
-
-read : (instance : Instance) (rows : Rows) (g : ℕ) (units : List Thermal) (unit : Thermal) (vec : Vec Cell Global) (row : List Cell)
-    → HasPeriods instance instance.periods (printed_of rows) → units ≡ instance.thermal → g < length units → unit ≡ slice_index_or units g unit
-    → vec ≡ slice_index_or rows.thermal.items g vec → row ≡ vec.items → IsRead instance rows g unit row
-read instance rows g units unit vec row shape same h unit_is vec_is row_items = record {
-  within = within;
-  is = unit_read instance units g unit same within unit_is;
-  row_is = row_is;
-  periods = ap length row_is
-      ∙ All-get_or (λ r. length r ≡ instance.periods) (rows_of rows.thermal.items) g [] (omega (arith, within, shape.thermal)) shape.cells;
-}
-  where
-    within : g < thermal_count instance
-    within = subst (λ xs. g < length xs) same h
-
-    row_is : row ≡ row_at (rows_of rows.thermal.items) g
-    row_is = row_items ∙ row_read rows.thermal.items g vec
-        (subst (λ n. g < n) (sym shape.thermal ∙ length-map rows.thermal.items (λ (v : Vec Cell Global). v.items)) within) vec_is
-
-pub row_cost-requires-clause-unit : goal.row_cost-requires-clause-unit
-row_cost-requires-clause-unit c =
-    let it = read c.args.instance.now c.args.rows.now c.loop-g.g c.as_slice-units.result.now c.index-units-g.result c.index.result.now c.deref.result.now
-    c.requires.shape c.as_slice-units.ensures c.loop-g-test.true c.index-units-g.is c.index.ensures c.deref.ensures.value in
-    subst IsLawfulThermal (sym it.is) (c.requires.lawful.thermal c.loop-g.g it.within)
-
-pub row_cost-requires-clause-few : goal.row_cost-requires-clause-few
-row_cost-requires-clause-few c =
-    let it = read c.args.instance.now c.args.rows.now c.loop-g.g c.as_slice-units.result.now c.index-units-g.result c.index.result.now c.deref.result.now
-    c.requires.shape c.as_slice-units.ensures c.loop-g-test.true c.index-units-g.is c.index.ensures c.deref.ensures.value in
-    omega (arith, it.periods, c.requires.lawful.periods.1)
-
-pub row_cost-requires-clause-prices : goal.row_cost-requires-clause-prices
-row_cost-requires-clause-prices c = λ t h.
-    let it = read c.args.instance.now c.args.rows.now c.loop-g.g c.as_slice-units.result.now c.index-units-g.result c.index.result.now c.deref.result.now
-    c.requires.shape c.as_slice-units.ensures c.loop-g-test.true c.index-units-g.is c.index.ensures c.deref.ensures.value in
-    subst (λ (u : Thermal). HasPrice u (cell c.deref.result.now t)) (sym it.is)
-    (subst (λ (cells : List Cell). HasPrice (thermal_unit c.args.instance.now c.loop-g.g) (cell cells t)) (sym it.row_is)
-    (c.requires.prices c.loop-g.g t it.within (omega (arith, h, it.periods))))
-
-pub loop-g-preserved : goal.loop-g-preserved
-loop-g-preserved c =
-    let instance = c.args.instance.now in
-    let it = read c.args.instance.now c.args.rows.now c.loop-g.g c.as_slice-units.result.now c.index-units-g.result c.index.result.now c.deref.result.now
-    c.requires.shape c.as_slice-units.ensures c.loop-g-test.true c.index-units-g.is c.index.ensures c.deref.ensures.value in
-    let next = added c.loop-g.g (λ g. sum_below instance.periods (λ t. printed_cell_cost (thermal_unit instance g) 1 (cell_at (printed_of c.args.rows.now) g t)))
-    _ c.row_cost.result c.sum-total.result (168 * 2 ^ 64) c.loop-g.invariant.value
-    (c.row_cost.ensures.value ∙ (λ i. sum_below (it.periods i) (λ t. printed_cell_cost (it.is i) 1 (cell (it.row_is i) t))))
-    c.sum-total.ensures c.loop-g.invariant.size c.row_cost.ensures.size (omega (arith, it.within, c.requires.lawful.thermal_units)) in
-    record { value = next.value; size = next.size }
-
--- and nothing that is missing adds to it
 pub returns : goal.returns
 returns c =
     let instance = c.args.instance.now in
     let printed = printed_of c.args.rows.now in
-    let units = λ (g : ℕ). sum_below instance.periods (λ t. printed_cell_cost (thermal_unit instance g) 1 (cell_at printed g t)) in
-    let ended : c.loop-g.g ≡ thermal_count instance = omega (arith, c.loop-g-test.false, c.loop-g.auto.g-end, ap length c.as_slice-units.ensures) in
-    let free = no_shortage_cost instance printed c.requires.shape.supply in
-    c.loop-g.invariant.value ∙ ap (λ n. sum_below n units) ended
-    ∙ sym (ap (λ z. sum_below (thermal_count instance) units +ℤ z) free ∙ add-zero (sum_below (thermal_count instance) units))
+    let units = wide c.thermal_cost.result (4096 * (168 * 2 ^ 64)) c.thermal_cost.ensures.size (omega arith) in
+    let missing = wide c.shortages_cost.result (168 * 2 ^ 96) c.shortages_cost.ensures.size (omega arith) in
+    let missing_is : c.shortages_cost.result ≡ sum_below instance.periods (printed_shortage_cost instance printed) =
+    c.shortages_cost.ensures.value
+    ∙ (λ i. sum_below instance.periods (printed_shortage_cost instance (lacking_alone 1 (c.deref.ensures.value i) (c.deref-2.ensures.value i)))) in
+    let whole : c.sum.result ≡ c.thermal_cost.result +ℤ c.shortages_cost.result = c.sum.ensures ∙ (λ i. units i +ℤ missing i) in
+    let size : unsigned_abs c.sum.result ≤ 4096 * (168 * 2 ^ 64) + 168 * 2 ^ 96 =
+    subst (λ z. unsigned_abs z ≤ 4096 * (168 * 2 ^ 64) + 168 * 2 ^ 96) (sym whole)
+    (abs_add c.thermal_cost.result c.shortages_cost.result _ _ c.thermal_cost.ensures.size c.shortages_cost.ensures.size) in
+    wide c.sum.result _ size (omega arith) ∙ whole ∙ (λ i. c.thermal_cost.ensures.value i +ℤ missing_is i)

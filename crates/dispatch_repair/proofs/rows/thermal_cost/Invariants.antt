@@ -4,7 +4,7 @@ use Rattle.uc_model.specs.Sums.{sum_below}
 use Rattle.uc_model.specs.Schedule.{thermal_unit}
 use Rattle.uc_model.specs.PrintedSchedule.{cell_at, printed_cell_cost}
 use Rattle.dispatch_repair.specs.Rooms.{printed_of}
-use Rattle.dispatch_repair.proofs.rows.cost.Given as goal
+use Rattle.dispatch_repair.proofs.rows.thermal_cost.Given as goal
 
 abbrev pub invariant-loop-g : goal.invariant-loop-g
 invariant-loop-g l = record {
