@@ -1,5 +1,6 @@
 //! The dispatch of commitments.
 
+ghost use Rattle.std.specs.Prelude.{◌≤◌, IfSome};
 ghost use Rattle.uc_model.specs.Limits.{IsLawfulInstance};
 
 use crate::Answer;
@@ -7,7 +8,10 @@ use crate::commitment::patterns;
 use crate::demo::put_line;
 use crate::table::marginal_text;
 use dispatch_repair::{DispatchFault, MostFault, dispatch, most_on};
+use instance::penalize;
+use schedule_check::cost;
 use std::alloc::{AllocError, Global};
+use uc_model::limits::MAX_PENALTY;
 use uc_model::{Instance, NoMemory, Printed, Stuck};
 
 /// What a commitment's dispatch gives, or its marginal prices, or where and why it is stuck and what it gives before.
@@ -20,16 +24,45 @@ pub(crate) fn tell_dispatch(alloc: Global, instance: &Instance, word: &str, rest
     }
     match dispatch(alloc, instance, &patterns) {
         Ok(printed) => {
-            let text = if word == "marginal" {
-                marginal_text(alloc, instance, &printed)
-            } else {
-                schedule_text(String::new(alloc), &printed)
+            let text = match word {
+                "marginal" => marginal_text(alloc, instance, &printed),
+                "priced" => {
+                    let cost = cost(instance, &printed);
+                    shortage_text(alloc, &printed, cost)
+                }
+                _ => schedule_text(String::new(alloc), &printed),
             };
             drop(printed);
             text
         }
         Err(DispatchFault::Stuck(stuck)) => stuck_text(alloc, &stuck),
         Err(DispatchFault::NoMemory) => Err(NoMemory),
+    }
+}
+
+/// The same at prices of demand and of reserve that is missing, which come first; with what is missing, and the cost.
+pub(crate) fn tell_priced(alloc: Global, instance: Instance, rest: &str) -> Answer
+    requires { IsLawfulInstance instance }
+{
+    let mut instance = instance;
+    if let Some((a, rest)) = price(rest) {
+        if let Some((b, patterns)) = price(rest) {
+            if penalize(&mut instance, a, b) {
+                return tell_dispatch(alloc, &instance, "priced", patterns);
+            }
+        }
+    }
+    Ok(String::from_str(alloc, "no such prices\n")?)
+}
+
+// A price, and what comes behind it.
+fn price(rest: &str) -> Option<(u32, &str)>
+    ensures { IfSome result (λ pair. pair.0 ≤ MAX_PENALTY) }
+{
+    let (word, rest) = rest.split_once(' ')?;
+    match word.parse::<u32>() {
+        Ok(price) if price <= MAX_PENALTY => Some((price, rest)),
+        _ => None,
     }
 }
 
@@ -62,6 +95,15 @@ fn stuck_text(alloc: Global, stuck: &Stuck) -> Answer {
 fn schedule_text(text: String, printed: &Printed) -> Answer {
     let mut text = text;
     put_schedule(&mut text, printed)?;
+    Ok(text)
+}
+
+// A schedule with what is missing in each period, and its cost.
+fn shortage_text(alloc: Global, printed: &Printed, cost: i64) -> Answer {
+    let mut text = schedule_text(String::new(alloc), printed)?;
+    put_line(&mut text, "shed", printed.shed.as_slice())?;
+    put_line(&mut text, "short", printed.short.as_slice())?;
+    writeln!(text, "cost {cost}")?;
     Ok(text)
 }
 

@@ -4,7 +4,7 @@ ghost use Rattle.uc_model.specs.Limits.{IsLawfulInstance};
 
 use crate::Answer;
 use crate::demo::tell_demo;
-use crate::dispatch::{tell_dispatch, tell_most_on};
+use crate::dispatch::{tell_dispatch, tell_most_on, tell_priced};
 use crate::node::tell_node;
 use crate::system::{changed, unit_changed};
 use crate::table::{tell_rays, tell_step, tell_zero};
@@ -48,6 +48,7 @@ fn answer(alloc: Global, system: &str, word: &str, rest: &str) -> Answer {
         return tell_demo(alloc, rest);
     }
     match read_instance(alloc, system.as_bytes(), false) {
+        Ok((instance, _)) if word == "priced" => tell_priced(alloc, instance, rest),
         Ok((instance, _)) => answer_of(alloc, &instance, word, rest),
         Err(ReadFault::NoMemory) => Err(NoMemory),
         Err(_) => Ok(String::from_str(alloc, "no instance\n")?),
