@@ -1,13 +1,13 @@
 -- Period by period a commitment has one dispatch, and none where it is stuck.
-use Rattle.std.proofs.Common.{◌≡◌, ⊎_elim, ℕ, zero, suc, ◌<◌, ◌≤◌, arith, refl, sym, ap, subst, ◌∙◌, List, [], length, get_or, All, ℤ, pos, ◌-ℤ◌, ◌≤ℤ◌, IsTrue}
+use Rattle.std.proofs.Common.{◌≡◌, ⊎_elim, ℕ, zero, suc, ◌<◌, ◌≤◌, arith, refl, sym, ap, subst, ◌∙◌, List, [], length, get_or, All, ℤ, pos, ◌-ℤ◌, ◌≤ℤ◌, IsTrue, nat_lt}
 use Rattle.std.specs.Int.{int_max, int_min}
 use Rattle.std.proofs.Math.ListN.{get_or-eq_default}
-use Rattle.std.proofs.lemmas.Bool.{cases_Bool, cases_lt}
+use Rattle.std.proofs.lemmas.Bool.{cases_Bool, cases_lt, cond-true, cond-false}
 use Rattle.std.proofs.lemmas.Int.{ints}
 use Rattle.std.proofs.lemmas.List.Elements.{All-get_or}
 use Rattle.uc_model.specs.Commitment.{starts}
 use Rattle.uc_model.specs.Limits.{IsLawfulInstance}
-use Rattle.uc_model.specs.PrintedSchedule.{cell_at}
+use Rattle.uc_model.specs.PrintedSchedule.{cell_at, shed_at, short_at}
 use Rattle.uc_model.specs.Schedule.{thermal_count, thermal_unit, renewable_count}
 use Rattle.uc_model.specs.StartCategory.{category_cost}
 use Rattle.uc_model.specs.declared.instance.Thermal.{Thermal}
@@ -20,9 +20,11 @@ use Rattle.start_costs.specs.Cheapest.{IsCheapestAbove}
 use Rattle.schedule_check.specs.SizedNumbers.{output_at}
 use Rattle.dispatch_repair.specs.Dispatch.{HasPeriods, IsCommittedCell, IsDispatchThrough, IsFilling, amounts, period_after}
 use Rattle.dispatch_repair.specs.MeritOrder.{IsInMeritOrder, IsReserveInOrder}
-use Rattle.dispatch_repair.specs.Period.{Period, FromRenewable, FromThermal, IsSourceOf, Source, commitment_at, demand_of, head_of, high_of, low_of, minimums, need_of, output_before, renewable_sum, thermal_sum}
+use Rattle.dispatch_repair.specs.Period.{Period, FromRenewable, FromThermal, IsSourceOf, Source, commitment_at, demand_of, head_of, heads, high_of, low_of, minimums, need_of, output_before, renewable_sum, thermal_sum}
 use Rattle.dispatch_repair.specs.Stuck.{IsFirstObstacle, IsRegular, IsStuckBy, stuck_period}
+use Rattle.dispatch_repair.specs.Shortage.{greatest_room, served, shed_of, short_of}
 use Rattle.dispatch_repair.proofs.Filled.{max_left}
+use Rattle.dispatch_repair.proofs.Shortages.{price_cases, shed_nonneg, shed_none, short_none}
 use Rattle.one_dispatch.specs.OneDispatch.{Instance, Pattern, Printed, Stuck, DispatchesAreSame, NeverBoth, StuckPeriodsAreSame}
 use Rattle.one_dispatch.proofs.Merit.{one_filling}
 
@@ -58,23 +60,37 @@ one_reserve period one other r s same a b (suc n) within g h =
     ∙ sym (b n (omega (arith, within)))))
     (below_or_last n g h)
 
--- the cells and outputs of a period that is filled after the same outputs are the same
-record AreSameIn (instance : Instance) (a b : ℕ → Cell) (v w : ℕ → ℤ) : Type 0 where
+-- the cells and outputs of a period that is filled after the same outputs, and what is missing in it, are the same
+record AreSameIn (instance : Instance) (a b : ℕ → Cell) (v w : ℕ → ℤ) (s r e f : ℤ) : Type 0 where
   cells : (g : ℕ) → g < thermal_count instance → a g ≡ b g
   outputs : (k : ℕ) → k < renewable_count instance → v k ≡ w k
+  shed : s ≡ r
+  short : e ≡ f
 
-one_period : (instance : Instance) (patterns : List Pattern) (t : ℕ) (before : ℕ → ℤ) (a b : ℕ → Cell) (v w : ℕ → ℤ) → IsLawfulInstance instance
-    → IsFilling instance patterns t before a v → IsFilling instance patterns t before b w → AreSameIn instance a b v w
-one_period instance patterns t before a b v w lawful one other = record {
+one_period : (instance : Instance) (patterns : List Pattern) (t : ℕ) (before : ℕ → ℤ) (a b : ℕ → Cell) (v w : ℕ → ℤ) (s r e f : ℤ) → IsLawfulInstance instance
+    → IsFilling instance patterns t before a v s e → IsFilling instance patterns t before b w r f → AreSameIn instance a b v w s r e f
+one_period instance patterns t before a b v w s r e f lawful one other = record {
   cells = λ g h. λ i. record { on = on g h i; p = power g h i; r = reserve g h i; category = category g h i };
   outputs = λ k h. filling (FromRenewable k) h;
+  shed = shed;
+  short = short;
 }
   where
-    period : Period
-    period = period_after instance patterns t before
+    whole : Period
+    whole = period_after instance patterns t before
 
-    filling : (s : Source) → IsSourceOf instance s → amounts a v s ≡ amounts b w s
-    filling = one_filling period (amounts a v) (amounts b w) lawful one.merit other.merit
+    shed : s ≡ r
+    shed = one.unserved ∙ sym other.unserved
+
+    short : e ≡ f
+    short = one.missing ∙ sym other.missing
+
+    period : Period
+    period = served whole s e
+
+    filling : (x : Source) → IsSourceOf instance x → amounts a v x ≡ amounts b w x
+    filling = one_filling period (amounts a v) (amounts b w) lawful one.merit
+        (subst (λ z. z) (λ i. IsInMeritOrder (served whole (sym shed i) (sym short i)) (amounts b w)) other.merit)
 
     power : (g : ℕ) → g < thermal_count instance → (a g).p ≡ (b g).p
     power g h = filling (FromThermal g) h
@@ -83,7 +99,8 @@ one_period instance patterns t before a b v w lawful one other = record {
     on g h = (one.cells g h).on ∙ sym (other.cells g h).on
 
     reserve : (g : ℕ) → g < thermal_count instance → (a g).r ≡ (b g).r
-    reserve g h = one_reserve period (amounts a v) (amounts b w) (λ k. (a k).r) (λ k. (b k).r) power one.reserve other.reserve (thermal_count instance) (omega arith) g h
+    reserve g h = one_reserve period (amounts a v) (amounts b w) (λ k. (a k).r) (λ k. (b k).r) power one.reserve
+        (subst (λ z. z) (λ i. IsReserveInOrder (served whole (sym shed i) (sym short i)) (amounts b w) (λ k. (b k).r)) other.reserve) (thermal_count instance) (omega arith) g h
 
     category : (g : ℕ) → g < thermal_count instance → (a g).category ≡ (b g).category
     category g h = one_category instance patterns g t (a g) (b g) (one.cells g h) (other.cells g h)
@@ -102,6 +119,8 @@ same_entry {X} one other n g t d a b within = ⊎_elim within (λ past. no_entry
 pub record AreSameTo (n : ℕ) (one other : Printed) : Type 0 where
   pub cells : (g t : ℕ) → t < n → cell_at one g t ≡ cell_at other g t
   pub outputs : (w t : ℕ) → t < n → output_at one w t ≡ output_at other w t
+  pub shed : (t : ℕ) → t < n → shed_at one t ≡ shed_at other t
+  pub short : (t : ℕ) → t < n → short_at one t ≡ short_at other t
 
 module _ (instance : Instance) (patterns : List Pattern) (one other : Printed) (m k : ℕ) (lawful : IsLawfulInstance instance)
     (first : IsDispatchThrough instance patterns m one) (second : IsDispatchThrough instance patterns k other) where
@@ -110,13 +129,20 @@ module _ (instance : Instance) (patterns : List Pattern) (one other : Printed) (
   before-same (suc t) g same = ap (λ (c : Cell). c.p) (same.cells g t (omega arith))
 
   next : (n : ℕ) → n < m → n < k → AreSameTo n one other → AreSameIn instance (λ g. cell_at one g n) (λ g. cell_at other g n) (λ w. output_at one w n) (λ w. output_at other w n)
+      (shed_at one n) (shed_at other n) (short_at one n) (short_at other n)
   next n hm hk same =
-      one_period instance patterns n (λ g. output_before instance other g n) (λ g. cell_at one g n) (λ g. cell_at other g n) (λ w. output_at one w n) (λ w. output_at other w n) lawful
-      (subst (λ z. z) (λ i. IsFilling instance patterns n (λ g. before-same n g same i) (λ g. cell_at one g n) (λ w. output_at one w n)) (first.filled n hm))
+      one_period instance patterns n (λ g. output_before instance other g n) (λ g. cell_at one g n) (λ g. cell_at other g n) (λ w. output_at one w n) (λ w. output_at other w n)
+      (shed_at one n) (shed_at other n) (short_at one n) (short_at other n) lawful
+      (subst (λ z. z) (λ i. IsFilling instance patterns n (λ g. before-same n g same i) (λ g. cell_at one g n) (λ w. output_at one w n) (shed_at one n) (short_at one n)) (first.filled n hm))
       (second.filled n hk)
 
   pub same_to : (n : ℕ) → n ≤ m → n ≤ k → AreSameTo n one other
-  same_to zero hm hk = record { cells = λ g t h. absurd (omega (arith, h)); outputs = λ w t h. absurd (omega (arith, h)) }
+  same_to zero hm hk = record {
+    cells = λ g t h. absurd (omega (arith, h));
+    outputs = λ w t h. absurd (omega (arith, h));
+    shed = λ t h. absurd (omega (arith, h));
+    short = λ t h. absurd (omega (arith, h));
+  }
   same_to (suc n) hm hk =
       let before = same_to n (omega (arith, hm)) (omega (arith, hk)) in
       let here = next n (omega (arith, hm)) (omega (arith, hk)) before in
@@ -129,30 +155,48 @@ module _ (instance : Instance) (patterns : List Pattern) (one other : Printed) (
             (λ last. subst (λ j. output_at one w j ≡ output_at other w j) (sym last)
             (same_entry one.renewable other.renewable (renewable_count instance) w n _ first.shape.renewable second.shape.renewable (here.outputs w)))
             (below_or_last n t h);
+        shed = λ t h. ⊎_elim (λ early. before.shed t early) (λ last. subst (λ j. shed_at one j ≡ shed_at other j) (sym last) here.shed) (below_or_last n t h);
+        short = λ t h. ⊎_elim (λ early. before.short t early) (λ last. subst (λ j. short_at one j ≡ short_at other j) (sym last) here.short) (below_or_last n t h);
       }
 
 -- ---- an obstacle is in the way of each dispatch
 max_le : (a b c : ℤ) → a ≤ℤ c → b ≤ℤ c → int_max a b ≤ℤ c
 max_le a b c h k = grind (arith, ints, h, k)
 
-no_obstacle : (period : Period) (amount : Source → ℤ) (reason : Why) → IsInMeritOrder period amount → ¬ IsFirstObstacle period reason
-no_obstacle period amount (why.Rule number unit) is found = found
-no_obstacle period amount (why.Box g low high) is found =
+no_obstacle : (period : Period) (amount : Source → ℤ) (shed short : ℤ) (reason : Why) → shed ≡ shed_of period → short ≡ short_of period
+    → IsInMeritOrder (served period shed short) amount → ¬ IsFirstObstacle period reason
+no_obstacle period amount shed short (why.Rule number unit) unserved missing is found = found
+no_obstacle period amount shed short (why.Box g low high) unserved missing is found =
     omega (arith, linear, found.empty, found.low, found.high, is.low (FromThermal g) found.within, is.high (FromThermal g) found.within)
-no_obstacle period amount (why.Over total wanted) is found =
+no_obstacle period amount shed short (why.Over total wanted) unserved missing is found =
     let t = sum_below-le (thermal_count period.instance) (λ g. low_of period (FromThermal g)) (λ g. amount (FromThermal g)) (λ g h. is.low (FromThermal g) h) in
     let r = sum_below-le (renewable_count period.instance) (λ w. low_of period (FromRenewable w)) (λ w. amount (FromRenewable w)) (λ w h. is.low (FromRenewable w) h) in
-    omega (arith, linear, found.above, found.least, found.demand, is.demand, t, r)
-no_obstacle period amount (why.Under total wanted) is found =
+    omega (arith, linear, found.above, found.least, found.demand, is.demand, t, r, unserved, shed_nonneg period)
+no_obstacle period amount shed short (why.Under total wanted) unserved missing is found =
     let t = sum_below-le (thermal_count period.instance) (λ g. amount (FromThermal g)) (λ g. high_of period (FromThermal g)) (λ g h. is.high (FromThermal g) h) in
     let r = sum_below-le (renewable_count period.instance) (λ w. amount (FromRenewable w)) (λ w. high_of period (FromRenewable w)) (λ w h. is.high (FromRenewable w) h) in
-    omega (arith, linear, found.below, found.most, found.demand, is.demand, t, r)
-no_obstacle period amount (why.Reserve spare wanted) is found =
-    let t = sum_below-le (thermal_count period.instance) (λ g. low_of period (FromThermal g)) (λ g. amount (FromThermal g)) (λ g h. is.low (FromThermal g) h) in
-    let r = sum_below-le (renewable_count period.instance) (λ w. amount (FromRenewable w)) (λ w. high_of period (FromRenewable w)) (λ w h. is.high (FromRenewable w) h) in
-    let covered : int_max (thermal_sum period (low_of period)) (demand_of period -ℤ minimums period -ℤ renewable_sum period (high_of period)) ≤ℤ thermal_sum period amount =
-    max_le _ _ _ t (omega (arith, linear, is.demand, r)) in
-    omega (arith, linear, found.below, found.room, found.need, is.limit, covered, max_left (need_of period) (pos 0))
+    omega (arith, linear, found.below, found.most, found.demand, is.demand, t, r, unserved, shed_none period found.firm)
+no_obstacle period amount shed short (why.Reserve spare wanted) unserved missing is found =
+    omega (arith, linear, found.below, found.room, found.need, roomy)
+  where
+    lows : thermal_sum period (low_of period) ≤ℤ thermal_sum period amount
+    lows = sum_below-le (thermal_count period.instance) (λ g. low_of period (FromThermal g)) (λ g. amount (FromThermal g)) (λ g h. is.low (FromThermal g) h)
+
+    highs : renewable_sum period amount ≤ℤ renewable_sum period (high_of period)
+    highs = sum_below-le (renewable_count period.instance) (λ w. amount (FromRenewable w)) (λ w. high_of period (FromRenewable w)) (λ w h. is.high (FromRenewable w) h)
+
+    -- what the thermal units give leaves what is needed of the heads
+    left : (given : ℤ) → given ≤ℤ thermal_sum period amount → need_of period ≤ℤ (heads period -ℤ given)
+    left given covered =
+        omega (arith, linear, is.limit, covered, max_left (need_of period -ℤ short) (pos 0), missing, short_none period found.firm)
+
+    roomy : need_of period ≤ℤ greatest_room period
+    roomy = ⊎_elim
+        (λ some. subst (λ z. need_of period ≤ℤ z) (sym (cond-true _ _ _ some)) (left (thermal_sum period (low_of period)) lows))
+        (λ none. subst (λ z. need_of period ≤ℤ z) (sym (cond-false _ _ _ (ap (nat_lt 0) none)))
+        (left (int_max (thermal_sum period (low_of period)) (demand_of period -ℤ minimums period -ℤ renewable_sum period (high_of period)))
+        (max_le _ _ _ lows (omega (arith, linear, is.demand, highs, unserved, shed_none period none)))))
+        (price_cases period.instance.a)
 
 -- a commitment that is dispatched through a period isn't stuck there
 not_stuck : (instance : Instance) (patterns : List Pattern) (printed : Printed) (stuck : Stuck) (n : ℕ) → IsLawfulInstance instance
@@ -161,7 +205,9 @@ not_stuck : (instance : Instance) (patterns : List Pattern) (printed : Printed) 
 not_stuck instance patterns printed stuck n lawful dispatch within prefix found =
     let same = same_to instance patterns printed stuck.prefix n stuck.period lawful dispatch prefix stuck.period (omega (arith, within)) (omega arith) in
     no_obstacle (period_after instance patterns stuck.period (λ g. output_before instance printed g stuck.period))
-    (amounts (λ g. cell_at printed g stuck.period) (λ w. output_at printed w stuck.period)) stuck.why (dispatch.filled stuck.period within).merit
+    (amounts (λ g. cell_at printed g stuck.period) (λ w. output_at printed w stuck.period))
+    (shed_at printed stuck.period) (short_at printed stuck.period) stuck.why
+    (dispatch.filled stuck.period within).unserved (dispatch.filled stuck.period within).missing (dispatch.filled stuck.period within).merit
     (subst (λ z. z) (λ i. IsFirstObstacle (period_after instance patterns stuck.period (λ g. sym (before-same instance patterns printed stuck.prefix n stuck.period lawful dispatch prefix stuck.period g same) i)) stuck.why) found)
 
 -- where a commitment is stuck it goes through the periods before, and something is in the way; or it breaks a rule
@@ -198,6 +244,8 @@ one_dispatch instance patterns one other lawful first second = record {
       (λ past. past_end one.renewable (renewable_count instance) instance.periods w t _ a.renewable a.outputs past
       ∙ sym (past_end other.renewable (renewable_count instance) instance.periods w t _ b.renewable b.outputs past))
       (cases_lt t instance.periods);
+  shed = λ t. ⊎_elim (λ (within : t < instance.periods). same.shed t within) (λ past. past_last one.shed other.shed t a.shed b.shed past) (cases_lt t instance.periods);
+  short = λ t. ⊎_elim (λ (within : t < instance.periods). same.short t within) (λ past. past_last one.short other.short t a.short b.short past) (cases_lt t instance.periods);
 }
   where
     a : HasPeriods instance instance.periods one
@@ -205,6 +253,10 @@ one_dispatch instance patterns one other lawful first second = record {
 
     b : HasPeriods instance instance.periods other
     b = second.periods.shape
+
+    past_last : (xs ys : List ℤ) (t : ℕ) → length xs ≡ instance.periods → length ys ≡ instance.periods → instance.periods ≤ t → get_or xs t (pos 0) ≡ get_or ys t (pos 0)
+    past_last xs ys t xs_long ys_long past =
+        get_or-eq_default xs (pos 0) {n = t} (subst (λ k. k ≤ t) (sym xs_long) past) ∙ sym (get_or-eq_default ys (pos 0) {n = t} (subst (λ k. k ≤ t) (sym ys_long) past))
 
     same : AreSameTo instance.periods one other
     same = same_to instance patterns one other instance.periods instance.periods lawful first.periods second.periods instance.periods (omega arith) (omega arith)

@@ -4,7 +4,7 @@
 -- Units and periods count from 0 here.
 use Rattle.std.specs.Prelude.{◌≡◌, ℕ, List}
 use Rattle.uc_model.specs.Limits.{IsLawfulInstance}
-use Rattle.uc_model.specs.PrintedSchedule.{cell_at}
+use Rattle.uc_model.specs.PrintedSchedule.{cell_at, shed_at, short_at}
 pub use Rattle.uc_model.specs.declared.instance.Instance.{Instance}
 pub use Rattle.uc_model.specs.declared.pattern.Pattern.{Pattern}
 pub use Rattle.uc_model.specs.declared.schedule.Printed.{Printed}
@@ -12,10 +12,12 @@ pub use Rattle.uc_model.specs.declared.stuck.Stuck.{Stuck}
 use Rattle.schedule_check.specs.SizedNumbers.{output_at}
 use Rattle.dispatch_repair.specs.Stuck.{IsDispatchOf, IsStuckOf}
 
--- the schedules have the same cells, and the same outputs of renewable units
+-- the schedules have the same cells, the same outputs of renewable units, and the same that is missing
 pub record AreSame (one other : Printed) : Type 0 where
   pub cells : (g t : ℕ) → cell_at one g t ≡ cell_at other g t
   pub outputs : (w t : ℕ) → output_at one w t ≡ output_at other w t
+  pub shed : (t : ℕ) → shed_at one t ≡ shed_at other t
+  pub short : (t : ℕ) → short_at one t ≡ short_at other t
 
 -- two dispatches of a commitment are the same
 abbrev pub DispatchesAreSame : Type 0

@@ -3,7 +3,7 @@
 
 ghost use Rattle.one_dispatch.specs.OneDispatch.{DispatchesAreSame, NeverBoth, StuckPeriodsAreSame};
 
-/// A commitment of a lawful instance has one dispatch at most: two that it had would have the same cells and outputs. It is never both
+/// A commitment of a lawful instance has one dispatch at most: two that it had would have the same cells and outputs, and lack the same. It is never both
 /// dispatched and stuck, and stuck in one period at most.
 pub fn commitments_have_one_dispatch()
     ensures same { DispatchesAreSame }
