@@ -1,5 +1,5 @@
 -- The turns of the drop pass.
-use Rattle.std.proofs.Common.{◌≡◌, ◌⊎◌, ◌∙◌, ⊎_elim, ℕ, ◌<◌, zero, suc, false, true, List, get_or, get_or-set_other, get_or-set_same, set, length, length-set, inl, inr, refl, sym, subst, ap, arith, ℤ, IsTrue, int_lt, nat_lt, ◌≤◌, pos, unsigned_abs}
+use Rattle.std.proofs.Common.{◌≡◌, ◌⊎◌, ◌∙◌, ⊎_elim, ℕ, ◌<◌, zero, suc, false, true, List, get_or, get_or-set_other, get_or-set_same, set, length, length-set, inl, inr, refl, sym, subst, ap, arith, ℤ, IsTrue, int_lt, nat_lt, ◌≤◌, unsigned_abs}
 use Rattle.std.proofs.lemmas.Bool.{cases_Bool, cases_eq, ltb-true}
 use Rattle.std.proofs.lemmas.List.{set-get_or, set-set}
 use Rattle.uc_model.proofs.PrintedCosts.{printed_cost-fits, watts-factor}
