@@ -2,7 +2,7 @@
 
 ghost use Rattle.std.specs.Prelude.{◌≡◌, ◌+ℤ◌, All, IfSome, IsTrue, length};
 ghost use Rattle.uc_model.specs.Limits.{IsLawfulInstance, IsLimit};
-ghost use Rattle.uc_model.specs.PrintedSchedule.{HasShapeOf, LacksNothing};
+ghost use Rattle.uc_model.specs.PrintedSchedule.{HasShapeOf};
 ghost use Rattle.schedule_check.specs.PlainNumbers.{IsIdleCell, IsPlainCell};
 ghost use Rattle.schedule_check.specs.Accepted.{IsAccepted};
 
@@ -10,10 +10,11 @@ use schedule_check::check;
 use uc_model::limits::{MAX_POWER, MAX_START_ROWS};
 use uc_model::{Cell, Instance, List, Printed};
 
-/// The cost of a schedule that has the shape of the instance and numbers within their limits, and that the check accepts.
+/// The cost of a schedule in whole watts that has the shape of the instance and numbers within their limits, and that the check
+/// accepts.
 pub(crate) fn accepted(instance: &Instance, printed: &Printed) -> Option<i64>
     requires lawful { IsLawfulInstance instance.now }
-    requires supply { LacksNothing instance.now.periods printed.now }
+    requires whole { printed.now.denominator ≡ 1 }
     ensures { IfSome result (IsAccepted instance.now printed.now) }
 {
     if !has_shape(instance, printed) {
@@ -22,15 +23,18 @@ pub(crate) fn accepted(instance: &Instance, printed: &Printed) -> Option<i64>
     if !are_plain(printed.thermal.as_slice()) || !are_limits(printed.renewable.as_slice()) {
         return None;
     }
+    if !is_missing_within(printed) {
+        return None;
+    }
     match check(instance, printed) {
         Ok(cost) => Some(cost),
         Err(_) => None,
     }
 }
 
-// Whether there is a row for each unit, and a cell or an output for each period.
+// Whether there is a row for each unit, with a cell or an output for each period, and what is missing in each period.
 fn has_shape(instance: &Instance, printed: &Printed) -> bool
-    requires { LacksNothing instance.now.periods printed.now }
+    requires whole { printed.now.denominator ≡ 1 }
     ensures { IsTrue result → HasShapeOf instance.now printed.now }
 {
     let periods = instance.periods as usize;
@@ -38,6 +42,8 @@ fn has_shape(instance: &Instance, printed: &Printed) -> bool
     let renewable = printed.renewable.as_slice();
     thermal.len() == instance.thermal.as_slice().len()
         && renewable.len() == instance.renewable.as_slice().len()
+        && printed.shed.as_slice().len() == periods
+        && printed.short.as_slice().len() == periods
         && have_cells(thermal, periods)
         && have_outputs(renewable, periods)
 }
@@ -80,6 +86,14 @@ fn is_limit_row(outputs: &[i64]) -> bool
     ensures { IsTrue result → All IsLimit outputs.now }
 {
     outputs.iter().all(|output| is_limit(output))
+}
+
+// Whether what is missing of demand and of reserve is within its limits.
+fn is_missing_within(printed: &Printed) -> bool
+    ensures shed { IsTrue result → All IsLimit printed.now.shed }
+    ensures short { IsTrue result → All IsLimit printed.now.short }
+{
+    is_limit_row(printed.shed.as_slice()) && is_limit_row(printed.short.as_slice())
 }
 
 // Whether a cell's output and reserve are at least 0 and within the limit on a power together, its category is one that a unit may

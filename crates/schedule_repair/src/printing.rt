@@ -1,8 +1,7 @@
 //! The schedule of a state, in whole watts.
 
-ghost use Rattle.std.specs.Prelude.{IfOk};
+ghost use Rattle.std.specs.Prelude.{◌≡◌, IfOk};
 ghost use Rattle.uc_model.specs.Limits.{IsLawfulInstance, IsLawfulThermal};
-ghost use Rattle.uc_model.specs.PrintedSchedule.{LacksNothing};
 
 use repair_state::{Plant, State, Unit, Window, at, is_on, limits_at, put, unit_at};
 use start_costs::least_allowed;
@@ -18,18 +17,28 @@ pub(crate) fn printed_of(
     instance: &Instance,
 ) -> Result<Printed, NoMemory>
     requires { IsLawfulInstance instance.now }
-    ensures { IfOk result (LacksNothing instance.now.periods) }
+    ensures { IfOk result (λ printed. printed.denominator ≡ 1) }
 {
     let mut wanted = instance.reserves.as_slice().to_vec(alloc)?;
     let mut left = instance.demand.as_slice().to_vec(alloc)?;
     let thermal = thermal_rows(alloc, plant, state, instance, &mut wanted, &mut left)?;
+    let renewable = renewable_rows(alloc, instance, &mut left)?;
+    keep_missing(&mut left, instance.a);
+    keep_missing(&mut wanted, instance.b);
     Ok(Printed {
         thermal: List::from_vec(thermal),
-        renewable: List::from_vec(renewable_rows(alloc, instance, &mut left)?),
-        shed: List::from_vec(vec![in alloc; 0; instance.periods as usize]?),
-        short: List::from_vec(vec![in alloc; 0; instance.periods as usize]?),
+        renewable: List::from_vec(renewable),
+        shed: List::from_vec(left),
+        short: List::from_vec(wanted),
         denominator: 1,
     })
+}
+
+// Makes what is left of a need what is missing of it, which is nothing where that has no price.
+fn keep_missing(left: &mut [i64], price: u32) {
+    for watts in left.iter_mut() {
+        *watts = if price > 0 { (*watts).max(0) } else { 0 };
+    }
 }
 
 // The cells of all thermal units.

@@ -25,7 +25,9 @@ returns-in-Ok c =
       cost_is = same;
       numbers = plain_rows printed
           (subst (All (All IsPlainCell)) c.as_slice.ensures (c.are_plain.ensures c.if-not-are_plain.false))
-          (subst (All (All IsLimit)) c.as_slice-else-not-are_plain.ensures (c.are_limits.ensures c.if-not-are_limits.false));
-      supply = c.requires.supply;
+          (subst (All (All IsLimit)) c.as_slice-else-not-are_plain.ensures (c.are_limits.ensures c.if-not-are_limits.false))
+          (c.is_missing_within.ensures.shed c.if-not-is_missing_within.false)
+          (c.is_missing_within.ensures.short c.if-not-is_missing_within.false);
+      whole = c.requires.whole;
       size = subst (λ z. unsigned_abs z ≤ COST_MAX) (sym same) size;
     }
