@@ -8,7 +8,7 @@ use Rattle.std.specs.Char.{digit_value}
 use Rattle.std.specs.Str.Parse.{digits_value, AllDigits}
 use Rattle.std.proofs.lemmas.List.Sums.{prefix_len_is, prefix_len-le-length}
 use Rattle.std.proofs.lemmas.Grind.{common_steps}
-use Rattle.cert_text.specs.inside.Forms.{is_digit, run, run_value, ◌>>=◌, Form, text_at, after, ended, both, mapped, passing, fixed, when, times, begins_with, is_whole, whole_at, decimals_at, signed_at, with_sign, negative, millionths, millionths_at, money_at, ordinal_at, or_else, version_at, sizes_of, are_sizes, size_at, claim_at, schedule_at, on_cell, off_cell, on_cell_at, cell_at, row_at, scale_at, ramp_count_at, end_at, ramp_row, rises, is_ramp, ramp_at, named_at, split_at, node_at}
+use Rattle.cert_text.specs.inside.Forms.{is_digit, run, run_value, ◌>>=◌, Form, text_at, after, ended, both, mapped, passing, fixed, when, times, begins_with, is_whole, whole_at, decimals_at, signed_at, with_sign, negative, millionths, millionths_at, money_at, ordinal_at, or_else, version_at, sizes_of, are_sizes, size_at, claim_at, is_penalty, penalty_at, schedule_at, plan_at, on_cell, off_cell, on_cell_at, cell_at, row_at, scale_at, ramp_count_at, end_at, ramp_row, rises, is_ramp, ramp_at, named_at, split_at, node_at}
 use Rattle.std.specs.List.{flat_map, starts_with}
 use Rattle.std.proofs.lemmas.Bool.Decides.{Decides-eqb, Decides-int_eq, Decides-and, Decides-or, Decides-not, Decides-ltb, Decides-like}
 use Rattle.std.proofs.lemmas.List.{drop_at, take_at, take-append-drop, length-append, length-take-le, get_or-take, get_or_append_left}
@@ -19,10 +19,10 @@ use Rattle.cert_text.proofs.Loops.{after_text}
 use Rattle.std.proofs.lemmas.Bool.{ltb-true, leb-true, lt-ltb, le-leb, eqb-true, ne_eqb, cases_eq, and_parts, eq-eqb, false≢true, and_from}
 use Rattle.uc_model.specs.Money.{six_digits, millionths_text, money_text}
 use Rattle.uc_model.proofs.MoneyText.{length-six_digits, six_digits-digits_value, six_digits_injective, money_text_bytes, money_text_nonempty}
-use Rattle.cert_text.specs.TextConditions.{Cell, RampRow, HasDigits, IsMoney, IsOnCell, IsOffCell, IsCellText, IsThermalRow, IsRenewableRow, IsRampText}
+use Rattle.cert_text.specs.TextConditions.{Cell, RampRow, HasDigits, IsMoney, ArePenalties, IsOnCell, IsOffCell, IsCellText, IsThermalRow, IsPowerRow, IsRampText}
 use Rattle.outside.specs.Lines.{line, list_line}
-use Rattle.cert_text.specs.CertificateText.{version_line, size_line, claim_line, cell_text, thermal_line, renewable_line, scale_line, prices_line, end_line, ramp_line, TreeNode, LeafNode, SplitNode, node_line, IsNodeWithin}
-use Rattle.cert_text.specs.Grammar.{Sizes, AreSizes, schedule_line, ramp_count_line, IsRampAfter}
+use Rattle.cert_text.specs.CertificateText.{version_line, size_line, claim_line, has_price, penalty_line, cell_text, thermal_line, scale_line, prices_line, end_line, ramp_line, TreeNode, LeafNode, SplitNode, node_line, IsNodeWithin}
+use Rattle.cert_text.specs.Grammar.{Sizes, AreSizes, schedule_line, PlanLine, Priced, Unpriced, plan_line, IsPenaltyLine, IsPlanLine, ramp_count_line, IsRampAfter}
 use Rattle.std.specs.Ordering.{int_eq}
 use Rattle.std.specs.Bool.{Decides}
 use Rattle.dual_model.specs.Cover.{Bound, Ray, Empty}
@@ -569,6 +569,52 @@ schedule-form =
     back None v = inl (tt, refl, refl)
     back (Some z) v = inr (z, v, refl)
 
+-- ---- prices, or else the schedule
+penalties_decide : (p : ℕ × ℕ) → Decides (is_penalty p) (IsPenaltyLine p.0 p.1)
+penalties_decide p =
+    Decides-like (is_penalty p)
+    (λ h. record { range = record { shed = h.0.0; short = h.0.1 }; some = h.1 })
+    (λ h. ((h.range.shed, h.range.short), h.some))
+    (Decides-and _ _ (Decides-and _ _ (decides_le p.0) (decides_le p.1)) ((λ e. e), (λ h. h)))
+  where
+    decides_le : (a : ℕ) → Decides (nat_le a 1000000) (a ≤ 1000000)
+    decides_le a = (leb-true a 1000000, le-leb a 1000000)
+
+penalty-form : IsForm penalty_at (λ p. IsPenaltyLine p.0 p.1) (λ p. (whole_text p.0 ++ codes " ") ++ (whole_text p.1 ++ codes "\n")) Anything
+unfolding penalty_at
+penalty-form =
+    passing-form (both-form spaced_whole last_whole (λ b rest v f. tt)) is_penalty (λ p. IsPenaltyLine p.0 p.1)
+    (λ p v e. (penalties_decide p).0 e)
+    (λ p w. ((omega (arith, w.range.shed), omega (arith, w.range.short)), (penalties_decide p).1 w))
+
+-- made of a cost, or of none
+abbrev IsUnpriced : PlanLine → Type 0
+IsUnpriced first = (cost : Option ℤ) × IfSome cost IsMoney × (Unpriced cost ≡ first)
+
+abbrev IsPricedBy : PlanLine → Type 0
+IsPricedBy first = (p : ℕ × ℕ) × IsPenaltyLine p.0 p.1 × (Priced p.0 p.1 ≡ first)
+
+pub plan-form : IsForm plan_at IsPlanLine plan_line Anything
+unfolding plan_at line text_at
+plan-form =
+    form-as (choice-form penalty-form (λ p. Priced p.0 p.1) (image-form schedule-form Unpriced plan_line (λ cost v. refl)) (codes "penalty ") (λ p v. simp append_assoc) apart)
+    IsPlanLine plan_line there back (λ first v. refl)
+  where
+    no_penalty : (cost : Option ℤ) (rest : List ℕ) → text_at (codes "penalty ") (schedule_line cost ++ rest) ≡ None
+    no_penalty None rest = refl
+    no_penalty (Some cost) rest = refl
+
+    apart : (first : PlanLine) (rest : List ℕ) → IsUnpriced first → text_at (codes "penalty ") (plan_line first ++ rest) ≡ None
+    apart first rest v = subst (λ (first : PlanLine). text_at (codes "penalty ") (plan_line first ++ rest) ≡ None) v.2 (no_penalty v.0 rest)
+
+    there : (first : PlanLine) → IsPricedBy first ⊎ IsUnpriced first → IsPlanLine first
+    there first (inl v) = subst IsPlanLine v.2 v.1
+    there first (inr v) = subst IsPlanLine v.2 v.1
+
+    back : (first : PlanLine) → IsPlanLine first → IsPricedBy first ⊎ IsUnpriced first
+    back (Priced a b) w = inl ((a, b), w, refl)
+    back (Unpriced cost) w = inr (cost, w, refl)
+
 -- ---- cells
 pub spaced_signed : (digits : ℕ) → 0 < digits → (end : ℕ) → is_digit end ≡ false → IsForm (ended (signed_at digits) (end ∷ [])) (HasDigits digits) (λ z. signed_text z ++ end ∷ []) Anything
 spaced_signed digits some end none = ended-form (signed-form digits some) (end ∷ []) (λ rest. rw none refl)
@@ -636,9 +682,9 @@ row-form h first n = after-form (ended-form (times-form (after-form h (codes " "
 pub thermal-form : (periods : ℕ) → IsForm (row_at (codes "t") periods cell_at) (IsThermalRow periods) thermal_line Anything
 thermal-form periods = form-as (row-form cell-form (codes "t") periods) (IsThermalRow periods) thermal_line (λ row v. record { cells = v.0; written = v.1 }) (λ row w. (w.cells, w.written)) (λ row v. refl)
 
-pub renewable-form : (periods : ℕ) → IsForm (row_at (codes "w") periods (signed_at 15)) (IsRenewableRow periods) renewable_line Anything
-renewable-form periods =
-    form-as (row-form (signed-form 15 (omega arith)) (codes "w") periods) (IsRenewableRow periods) renewable_line (λ row v. record { outputs = v.0; written = v.1 }) (λ row w. (w.outputs, w.written)) (λ row v. refl)
+pub powers-form : (word : List ℕ) (periods : ℕ) → IsForm (row_at word periods (signed_at 15)) (IsPowerRow periods) (list_line word signed_text) Anything
+powers-form word periods =
+    form-as (row-form (signed-form 15 (omega arith)) word periods) (IsPowerRow periods) (list_line word signed_text) (λ row v. record { powers = v.0; written = v.1 }) (λ row w. (w.powers, w.written)) (λ row v. refl)
 
 pub prices-form : (word : List ℕ) (periods : ℕ) → IsForm (row_at word periods (signed_at 18)) (λ prices. (length prices ≡ periods) × All (HasDigits 18) prices) (prices_line word) Anything
 prices-form word periods = row-form (signed-form 18 (omega arith)) word periods

@@ -5,7 +5,8 @@ use Rattle.dual_model.specs.Certificate.{Certificate}
 use Rattle.cert_text.specs.CertificateText.{Cell, RampRow, Listing, listing_of, certificate_lines, certificate_text, claim_line, cell_text, TreeNode, LeafNode, SplitNode, node_line}
 use Rattle.cert_text.specs.TextConditions.{HasText}
 use Rattle.cert_text.specs.inside.Parts.{certificate_part}
-use Rattle.cert_text.proofs.PartLaws.{same_Ok, certificate-part, certificate_whole, certificate_again, owed_is_tree, Stops, Done, prices_as, IsListed, certificate_listed}
+use Rattle.cert_text.proofs.PartSteps.{same_Ok, Stops, Done}
+use Rattle.cert_text.proofs.PartLaws.{certificate-part, certificate_whole, certificate_again, owed_is_tree, prices_as, IsListed, certificate_listed}
 use Rattle.std.specs.List.{AllByRecursion, list_any}
 use Rattle.std.proofs.lemmas.Bool.{ne_eqb, cases_Bool, cases_eq, eq-eqb, false≢true}
 use Rattle.std.proofs.lemmas.List.Elements.{All-head, All-tail, All-weaker, Contains-append_right}
@@ -16,11 +17,11 @@ use Rattle.uc_model.proofs.DecimalText.{whole_text_bytes, signed_text_bytes}
 use Rattle.uc_model.proofs.MoneyText.{money_text_bytes}
 use Rattle.dual_model.specs.Cover.{Bound, Ray, Empty}
 use Rattle.outside.proofs.Joining.{joined-cons}
-use Rattle.cert_text.specs.Grammar.{Symbol, Version, Size, Claim, Schedule, ThermalRow, RenewableRow, Scale, Pi, Mu, Ramps, Ramp, Node, End, Produces, Reaches, schedule_line, Sizes, AreSizes, after_size, schedule_rows, ramp_rows, children, CertKind, HasLineFeed, IsWholeLine, IsFormAt, IsCutAt, IsFaultOf, MayStand, IsKindAt}
+use Rattle.cert_text.specs.Grammar.{Symbol, Version, Size, Claim, Plan, Schedule, ThermalRow, RenewableRow, Shed, Short, Scale, Pi, Mu, Ramps, Ramp, Node, End, Produces, Reaches, schedule_line, PlanLine, Priced, Unpriced, plan_line, behind_plan, Sizes, AreSizes, after_size, shortage_rows, schedule_rows, ramp_rows, children, CertKind, HasLineFeed, IsWholeLine, IsFormAt, IsCutAt, IsFaultOf, MayStand, IsKindAt}
 use Rattle.cert_text.specs.inside.LineCount.{line_feeds, line_number, stop_kind}
 use Rattle.std.proofs.lemmas.Option.{some_pair_parts}
 use Rattle.cert_text.specs.inside.Forms.{Form}
-use Rattle.cert_text.proofs.FormLaws.{IsForm, Anything, version-form, size-form, claim-form, schedule-form, thermal-form, renewable-form, scale-form, ramp_count-form, end-form, ramp-form, node-form}
+use Rattle.cert_text.proofs.FormLaws.{IsForm, Anything, version-form, size-form, claim-form, schedule-form, plan-form, thermal-form, powers-form, scale-form, ramp_count-form, end-form, ramp-form, node-form}
 use Rattle.cert_text.specs.declared.cert.CertFault.TheVariants as faults
 use Rattle.cert_text.specs.declared.cert.CertKind.TheVariants as kinds
 
@@ -140,6 +141,10 @@ schedule_one : (cost : Option ℤ) → IsOne (schedule_line cost)
 schedule_one None = line_one (codes "schedule none") [] refl tt
 schedule_one (Some z) = line_one (codes "schedule") (money_text z ∷ []) refl (money_feeds z, tt)
 
+plan_one : (first : PlanLine) → IsOne (plan_line first)
+plan_one (Priced a b) = line_one (codes "penalty") (whole_text a ∷ whole_text b ∷ []) refl (whole_feeds a, (whole_feeds b, tt))
+plan_one (Unpriced cost) = schedule_one cost
+
 node_one : (node : TreeNode) → IsOne (node_line node)
 node_one (LeafNode (Bound exact n)) = line_one (codes "bound") (whole_text (suc n) ∷ []) refl (whole_feeds (suc n), tt)
 node_one (LeafNode (Ray exact n)) = line_one (codes "ray") (whole_text (suc n) ∷ []) refl (whole_feeds (suc n), tt)
@@ -152,9 +157,12 @@ produced_one Size text next p =
     subst IsOne (sym p.2) (line_one (codes "size") (whole_text p.0.periods ∷ whole_text p.0.thermal ∷ whole_text p.0.renewable ∷ whole_text p.0.tables ∷ []) refl
     (whole_feeds p.0.periods, (whole_feeds p.0.thermal, (whole_feeds p.0.renewable, (whole_feeds p.0.tables, tt)))))
 produced_one Claim text next p = subst IsOne (sym p.2) (claim_one p.0)
+produced_one (Plan size) text next p = subst IsOne (sym p.2) (plan_one p.0)
 produced_one (Schedule size) text next p = subst IsOne (sym p.2) (schedule_one p.0)
 produced_one (ThermalRow size) text next p = subst IsOne (sym p.2) (list_line_one (codes "t") cell_text refl cell_feeds p.0)
 produced_one (RenewableRow size) text next p = subst IsOne (sym p.2) (list_line_one (codes "w") signed_text refl signed_feeds p.0)
+produced_one (Shed size) text next p = subst IsOne (sym p.2) (list_line_one (codes "d") signed_text refl signed_feeds p.0)
+produced_one (Short size) text next p = subst IsOne (sym p.2) (list_line_one (codes "e") signed_text refl signed_feeds p.0)
 produced_one (Scale size) text next p = subst IsOne (sym p.2) (line_one (codes "table") (signed_text (pos p.0) ∷ []) refl (signed_feeds (pos p.0), tt))
 produced_one (Pi size) text next p = subst IsOne (sym p.2) (list_line_one (codes "pi") signed_text refl signed_feeds p.0)
 produced_one (Mu size) text next p = subst IsOne (sym p.2) (list_line_one (codes "mu") signed_text refl signed_feeds p.0)
@@ -266,8 +274,8 @@ unfolding certificate_text
 whole_is_read bytes rest c e none =
     let one = certificate-part.takes bytes (c, rest) e in
     let tree = owed_is_tree c.nodes one.0.tree in
-    let certificate : Certificate = record { periods = c.periods; thermal = c.thermal; renewable = c.renewable; bound = c.bound; schedule = c.schedule; tables = c.tables; tree = tree.0 } in
-    let listed : listing_of certificate ≡ c = (λ i. record { periods = c.periods; thermal = c.thermal; renewable = c.renewable; bound = c.bound; schedule = c.schedule; tables = c.tables; nodes = tree.1 i }) in
+    let certificate : Certificate = record { periods = c.periods; thermal = c.thermal; renewable = c.renewable; a = c.a; b = c.b; bound = c.bound; schedule = c.schedule; tables = c.tables; tree = tree.0 } in
+    let listed : listing_of certificate ≡ c = (λ i. record { periods = c.periods; thermal = c.thermal; renewable = c.renewable; a = c.a; b = c.b; bound = c.bound; schedule = c.schedule; tables = c.tables; nodes = tree.1 i }) in
     record {
       certificate = certificate;
       listed = listed;
@@ -296,9 +304,12 @@ agree {A} {form} {V} {t} h n text other next another x y p q e =
 
 -- the size that a kind speaks of is one
 abbrev pub IsLawfulKind : Symbol → Type 0
+IsLawfulKind (Plan size) = AreSizes size
 IsLawfulKind (Schedule size) = AreSizes size
 IsLawfulKind (ThermalRow size) = AreSizes size
 IsLawfulKind (RenewableRow size) = AreSizes size
+IsLawfulKind (Shed size) = AreSizes size
+IsLawfulKind (Short size) = AreSizes size
 IsLawfulKind (Scale size) = AreSizes size
 IsLawfulKind (Pi size) = AreSizes size
 IsLawfulKind (Mu size) = AreSizes size
@@ -312,9 +323,12 @@ one_line : (kind : Symbol) (text other : List ℕ) (next another : List Symbol) 
 one_line Version text other next another x y h p q e = agree version-form (λ _. Size ∷ []) text other next another x y (tt, tt, p.0, p.1) (tt, tt, q.0, q.1) e
 one_line Size text other next another x y h p q e = agree size-form after_size text other next another x y p q e
 one_line Claim text other next another x y h p q e = agree claim-form Done text other next another x y p q e
-one_line (Schedule size) text other next another x y h p q e = agree schedule-form (schedule_rows size) text other next another x y p q e
+one_line (Plan size) text other next another x y h p q e = agree plan-form (behind_plan size) text other next another x y p q e
+one_line (Schedule size) text other next another x y h p q e = agree schedule-form (schedule_rows size true) text other next another x y p q e
 one_line (ThermalRow size) text other next another x y h p q e = agree (thermal-form size.periods) Done text other next another x y p q e
-one_line (RenewableRow size) text other next another x y h p q e = agree (renewable-form size.periods) Done text other next another x y p q e
+one_line (RenewableRow size) text other next another x y h p q e = agree (powers-form (codes "w") size.periods) Done text other next another x y p q e
+one_line (Shed size) text other next another x y h p q e = agree (powers-form (codes "d") size.periods) Done text other next another x y p q e
+one_line (Short size) text other next another x y h p q e = agree (powers-form (codes "e") size.periods) Done text other next another x y p q e
 one_line (Scale size) text other next another x y h p q e = agree scale-form (λ k. Pi size ∷ Mu size ∷ Ramps size ∷ []) text other next another x y p q e
 one_line (Pi size) text other next another x y h p q e = agree (prices_as (codes "pi") size) Done text other next another x y p q e
 one_line (Mu size) text other next another x y h p q e = agree (prices_as (codes "mu") size) Done text other next another x y p q e
@@ -339,15 +353,26 @@ ramps_lawful : (size : Sizes) (n : ℕ) (before : Option RampRow) → AreSizes s
 ramps_lawful size zero before h = tt
 ramps_lawful size (suc n) before h = (h, tt)
 
+shortages_lawful : (size : Sizes) (priced : Bool) → AreSizes size → AreLawful (shortage_rows size priced)
+shortages_lawful size false h = tt
+shortages_lawful size true h = (h, (h, tt))
+
+rows_lawful : (size : Sizes) (priced : Bool) (cost : Option ℤ) → AreSizes size → AreLawful (schedule_rows size priced cost)
+rows_lawful size priced None h = tt
+rows_lawful size priced (Some cost) h =
+    both_lawful (replicate size.thermal (ThermalRow size)) (replicate size.renewable (RenewableRow size) ++ shortage_rows size priced) (many_lawful size.thermal (ThermalRow size) h)
+    (both_lawful (replicate size.renewable (RenewableRow size)) (shortage_rows size priced) (many_lawful size.renewable (RenewableRow size) h) (shortages_lawful size priced h))
+
 pub next_lawful : (kind : Symbol) (text : List ℕ) (next : List Symbol) → IsLawfulKind kind → Produces kind text next → AreLawful next
 next_lawful Version text next h p = subst AreLawful (sym p.1) (tt, tt)
 next_lawful Size text next h p =
     subst AreLawful (sym p.3) (tt, (p.1, both_lawful (replicate p.0.tables (Scale p.0)) (Node p.0 ∷ End ∷ []) (many_lawful p.0.tables (Scale p.0) p.1) (p.1, (tt, tt))))
-next_lawful (Schedule size) text next h p = subst AreLawful (sym p.3) (rows p.0)
+next_lawful (Plan size) text next h p = subst AreLawful (sym p.3) (behind p.0)
   where
-    rows : (cost : Option ℤ) → AreLawful (schedule_rows size cost)
-    rows None = tt
-    rows (Some cost) = both_lawful (replicate size.thermal (ThermalRow size)) (replicate size.renewable (RenewableRow size)) (many_lawful size.thermal (ThermalRow size) h) (many_lawful size.renewable (RenewableRow size) h)
+    behind : (first : PlanLine) → AreLawful (behind_plan size first)
+    behind (Priced a b) = (h, tt)
+    behind (Unpriced cost) = rows_lawful size false cost h
+next_lawful (Schedule size) text next h p = subst AreLawful (sym p.3) (rows_lawful size true p.0 h)
 next_lawful (Scale size) text next h p = subst AreLawful (sym p.3) (h, (h, (h, tt)))
 next_lawful (Ramps size) text next h p = subst AreLawful (sym p.3) (ramps_lawful size p.0 None h)
 next_lawful (Ramp size more before) text next h p = subst AreLawful (sym p.3) (ramps_lawful size more (Some p.0) h)
@@ -412,8 +437,8 @@ listed_lines : (lines : List (List ℕ)) (c : Listing) (rest : List ℕ) → Rea
     → (certificate : Certificate) × HasText (listing_of certificate) × (lines ≡ certificate_lines 1 (listing_of certificate))
 listed_lines lines c rest run listed e =
     let tree = owed_is_tree c.nodes listed.tree in
-    let certificate : Certificate = record { periods = c.periods; thermal = c.thermal; renewable = c.renewable; bound = c.bound; schedule = c.schedule; tables = c.tables; tree = tree.0 } in
-    let same : listing_of certificate ≡ c = (λ i. record { periods = c.periods; thermal = c.thermal; renewable = c.renewable; bound = c.bound; schedule = c.schedule; tables = c.tables; nodes = tree.1 i }) in
+    let certificate : Certificate = record { periods = c.periods; thermal = c.thermal; renewable = c.renewable; a = c.a; b = c.b; bound = c.bound; schedule = c.schedule; tables = c.tables; tree = tree.0 } in
+    let same : listing_of certificate ≡ c = (λ i. record { periods = c.periods; thermal = c.thermal; renewable = c.renewable; a = c.a; b = c.b; bound = c.bound; schedule = c.schedule; tables = c.tables; nodes = tree.1 i }) in
     (certificate, subst HasText (sym same) listed.text, whole_lines lines (certificate_lines 1 c) rest run (certificate-part.runs c listed) e ∙ ap (certificate_lines 1) (sym same))
 
 pub whole_run_is_certificate : (lines : List (List ℕ)) → Reaches (Version ∷ []) lines []

@@ -1,5 +1,5 @@
 -- The parts in which a certificate is written are its lines.
-use Rattle.std.proofs.Common.{◌≡◌, ℕ, List, [], ◌∷◌, ◌++◌, length, map, refl, ap, ◌∙◌, sym, append_assoc, Option, Some, None, zero, suc, ◌<◌, cond, get_or, arith, ◌^◌, true, false, All, ℤ, pos, negsuc, ◌≤ℤ◌, eq-eqb, ne_eqb, IfSome}
+use Rattle.std.proofs.Common.{◌≡◌, ℕ, List, [], ◌∷◌, ◌++◌, length, map, refl, ap, ◌∙◌, sym, append_assoc, append-nil, Bool, Option, Some, None, zero, suc, ◌<◌, cond, get_or, arith, ◌^◌, true, false, All, ℤ, pos, negsuc, ◌≤ℤ◌, eq-eqb, ne_eqb, IfSome}
 use Rattle.std.specs.List.{flat_map}
 use Rattle.dual_model.specs.Certificate.{WrittenSchedule, Certificate, CertificateHolds, ClaimHolds}
 use Rattle.branch_tree.specs.TreeView.{tree_of, IsWhole}
@@ -7,8 +7,8 @@ use Rattle.branch_tree.specs.UsedTables.{used_tables, place_of, stored_tables}
 use Rattle.branch_tree.specs.Claims.{table_at, certificate_of, leaf_claim, written_tables, written_of}
 use Rattle.outside.specs.Lines.{joined}
 use Rattle.outside.proofs.Joining.{joined-cons, joined-append, joined-map}
-use Rattle.cert_text.specs.CertificateText.{preorder, node_line, SplitNode, TreeNode, LeafNode, IsLeafWithin, IsNodeWithin, RampRow, Table, certificate_lines, certificate_text, schedule_lines, table_lines, thermal_line, renewable_line, ramp_line, cost_line, version_line, size_line, claim_line, end_line, scale_line, prices_line, ramps_line, listing_of}
-use Rattle.cert_text.specs.inside.WrittenParts.{Found, Instance, Spot, schedule_part, table_part, tables_part, certificate_parts, spot_node}
+use Rattle.cert_text.specs.CertificateText.{preorder, node_line, SplitNode, TreeNode, LeafNode, IsLeafWithin, IsNodeWithin, RampRow, Table, Printed, certificate_lines, certificate_text, has_price, penalty_line, shed_line, short_line, shortage_lines, schedule_lines, plan_lines, table_lines, thermal_line, renewable_line, ramp_line, cost_line, version_line, size_line, claim_line, end_line, scale_line, prices_line, ramps_line, listing_of}
+use Rattle.cert_text.specs.inside.WrittenParts.{Found, Instance, Spot, penalty_part, shortages_part, schedule_part, table_part, tables_part, certificate_parts, spot_node}
 use Rattle.std.specs.Option.{option_map_or}
 use Rattle.std.proofs.lemmas.List.Concat.{flat_map-append}
 use Rattle.dual_model.specs.Tree.{map_leaves, Tree, Ends, Splits, root, child, IsCoverBelow, IsCover, EachLeaf}
@@ -30,15 +30,29 @@ use Rattle.dual_model.specs.Prices.{IsLawfulTable, IsPrice, IsRowPriced}
 use Rattle.branch_tree.specs.StoredTree.{tree_bound}
 use Rattle.cert_text.specs.TextConditions.{HasDigits, IsMoney, IsTableText, IsRampText, IsScheduleText, HasText}
 
-schedule-part : (schedule : Option WrittenSchedule) → joined (schedule_lines schedule) ≡ schedule_part schedule
-schedule-part None = refl
-schedule-part (Some written) =
+shortages-part : (priced : Bool) (printed : Printed) → joined (shortage_lines priced printed) ≡ shortages_part priced printed
+shortages-part false printed = refl
+shortages-part true printed = refl
+
+schedule-part : (priced : Bool) (schedule : Option WrittenSchedule) → joined (schedule_lines priced schedule) ≡ schedule_part priced schedule
+schedule-part priced None = refl
+schedule-part priced (Some written) =
     let thermal = map thermal_line written.printed.thermal in
     let renewable = map renewable_line written.printed.renewable in
-    joined-cons (cost_line written.cost) (thermal ++ renewable)
+    let missing = shortage_lines priced written.printed in
+    joined-cons (cost_line written.cost) (thermal ++ (renewable ++ missing))
     ∙ ap (λ rest. cost_line written.cost ++ rest)
-    (joined-append thermal renewable
-    ∙ (λ i. joined-map thermal_line written.printed.thermal i ++ joined-map renewable_line written.printed.renewable i))
+    (joined-append thermal (renewable ++ missing)
+    ∙ (λ i. joined-map thermal_line written.printed.thermal i
+    ++ (joined-append renewable missing ∙ (λ j. joined-map renewable_line written.printed.renewable j ++ shortages-part priced written.printed j)) i))
+
+plan-part : (a b : ℕ) (schedule : Option WrittenSchedule) → joined (plan_lines a b schedule) ≡ penalty_part a b ++ schedule_part (has_price a b) schedule
+plan-part a b schedule = by_prices (has_price a b)
+  where
+    by_prices : (priced : Bool) → joined (cond priced (penalty_line a b ∷ schedule_lines true schedule) (schedule_lines false schedule))
+        ≡ cond priced (penalty_line a b) [] ++ schedule_part priced schedule
+    by_prices true = joined-cons (penalty_line a b) (schedule_lines true schedule) ∙ ap (λ rest. penalty_line a b ++ rest) (schedule-part true schedule)
+    by_prices false = schedule-part false schedule
 
 table-part : (table : Table) → joined (table_lines table) ≡ table_part table
 table-part table =
@@ -63,9 +77,11 @@ parts_are_text instance found =
     let tables = flat_map table_lines c.tables in
     let last = joined-append nodes (end_line ∷ []) ∙ ap (λ text. text ++ end_line) (joined-map node_line (preorder c.tree)) in
     let lower = joined-append tables (nodes ++ end_line ∷ []) ∙ (λ i. tables-part found.tables used i ++ last i) in
-    let body = joined-append (schedule_lines c.schedule) (tables ++ (nodes ++ end_line ∷ [])) ∙ (λ i. schedule-part c.schedule i ++ lower i) in
+    let plan = plan_lines c.a c.b c.schedule in
+    let body = joined-append plan (tables ++ (nodes ++ end_line ∷ [])) ∙ ((λ i. plan-part c.a c.b c.schedule i ++ lower i)
+    ∙ append_assoc (penalty_part c.a c.b) (schedule_part (has_price c.a c.b) c.schedule) (tables_part found.tables used ++ (flat_map node_line (preorder c.tree) ++ end_line))) in
     simp append_assoc (sym (ap (λ text. version_line 1 ++ (size_line c.periods c.thermal c.renewable (length c.tables) ++ text))
-    (joined-cons (claim_line c.bound) (schedule_lines c.schedule ++ (tables ++ (nodes ++ end_line ∷ [])))
+    (joined-cons (claim_line c.bound) (plan ++ (tables ++ (nodes ++ end_line ∷ [])))
     ∙ ap (λ text. claim_line c.bound ++ text) body)))
 
 -- ---- The lines of the nodes in preorder are those of the tree.
@@ -199,7 +215,7 @@ few-tables instance found whole =
 
 pub found_has_text : (instance : Instance) (found : Found) → IsLawfulInstance instance → IsWhole found.tree
     → CertificateHolds instance (certificate_of instance found)
-    → IfSome (written_of found.schedule) (IsScheduleText instance.periods (thermal_count instance) (renewable_count instance))
+    → IfSome (written_of found.schedule) (IsScheduleText (has_price instance.a instance.b) instance.periods (thermal_count instance) (renewable_count instance))
     → IfSome (tree_bound found.tree) IsMoney
     → All (λ table. length table.ramps < 10 ^ 18) (written_tables found)
     → HasText (listing_of (certificate_of instance found))
@@ -210,6 +226,7 @@ found_has_text instance found lawful whole holds schedule bound few = record {
   renewable = lawful.renewable_units;
   table_count = few-tables instance found whole;
   bound = bound;
+  penalties = record { shed = lawful.shed_price; short = lawful.short_price };
   schedule = schedule;
   tables = λ k d within. lawful-table-text instance _ (holds.tables k d within) (few k d within);
   nodes = claimed-within instance (certificate_of instance found) (tree_bound found.tree) holds.tree

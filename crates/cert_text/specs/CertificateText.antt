@@ -1,9 +1,10 @@
 -- How a certificate is written: its lines in their order, one spelling for each certificate. This project's own format.
 -- Units, periods and tables count from 0 here, and from 1 in the text.
-use Rattle.std.specs.Prelude.{ℕ, suc, ◌<◌, true, false, List, [], ◌∷◌, ◌++◌, codes, ℤ, Option, Some, None, length, map, flat_map, if◌then◌else◌}
+use Rattle.std.specs.Prelude.{ℕ, suc, ◌<◌, nat_lt, Bool, true, false, ◌||◌, List, [], ◌∷◌, ◌++◌, codes, ℤ, Option, Some, None, length, map, flat_map, if◌then◌else◌}
 use Rattle.uc_model.specs.Decimal.{whole_text, signed_text}
 use Rattle.uc_model.specs.Money.{money_text}
 pub use Rattle.uc_model.specs.declared.schedule.Cell.{Cell}
+pub use Rattle.uc_model.specs.declared.schedule.Printed.{Printed}
 use Rattle.dual_model.specs.Tree.{Tree, Ends, Splits}
 use Rattle.dual_model.specs.Cover.{Leaf, Bound, Ray, Empty}
 use Rattle.dual_model.specs.Certificate.{Certificate, WrittenSchedule}
@@ -52,6 +53,9 @@ pub record Listing : Type 0 where
   pub periods : ℕ
   pub thermal : ℕ
   pub renewable : ℕ
+  -- the prices of unserved demand and of missing reserve
+  pub a : ℕ
+  pub b : ℕ
   pub bound : Option ℤ
   pub schedule : Option WrittenSchedule
   pub tables : List Table
@@ -62,6 +66,8 @@ listing_of c = record {
   periods = c.periods;
   thermal = c.thermal;
   renewable = c.renewable;
+  a = c.a;
+  b = c.b;
   bound = c.bound;
   schedule = c.schedule;
   tables = c.tables;
@@ -80,6 +86,14 @@ abbrev pub claim_line : Option ℤ → List ℕ
 claim_line (Some bound) = line (codes "claim bound") (money_text bound ∷ [])
 claim_line None = line (codes "claim infeasible") []
 
+-- unserved demand, or missing reserve, has a price
+abbrev pub has_price : ℕ → ℕ → Bool
+has_price a b = nat_lt 0 a || nat_lt 0 b
+
+-- the prices of both, of which one may be 0
+abbrev pub penalty_line : ℕ → ℕ → List ℕ
+penalty_line a b = line (codes "penalty") (whole_text a ∷ whole_text b ∷ [])
+
 -- a cell: `-`, or output above the minimum, reserve and start category
 abbrev pub cell_text : Cell → List ℕ
 cell_text cell =
@@ -92,16 +106,34 @@ thermal_line row = list_line (codes "t") cell_text row
 abbrev pub renewable_line : List ℤ → List ℕ
 renewable_line row = list_line (codes "w") signed_text row
 
+-- what is missing in each period: demand, and reserve
+abbrev pub shed_line : List ℤ → List ℕ
+shed_line row = list_line (codes "d") signed_text row
+
+abbrev pub short_line : List ℤ → List ℕ
+short_line row = list_line (codes "e") signed_text row
+
+abbrev pub shortage_lines : Bool → Printed → List (List ℕ)
+shortage_lines false printed = []
+shortage_lines true printed = shed_line printed.shed ∷ short_line printed.short ∷ []
+
 abbrev pub cost_line : ℤ → List ℕ
 cost_line cost = line (codes "schedule") (money_text cost ∷ [])
 
 abbrev pub no_schedule_line : List ℕ
 no_schedule_line = line (codes "schedule none") []
 
-abbrev pub schedule_lines : Option WrittenSchedule → List (List ℕ)
-schedule_lines None = no_schedule_line ∷ []
-schedule_lines (Some written) =
-    cost_line written.cost ∷ (map thermal_line written.printed.thermal ++ map renewable_line written.printed.renewable)
+-- a schedule tells what is missing exactly where that has a price
+abbrev pub schedule_lines : Bool → Option WrittenSchedule → List (List ℕ)
+schedule_lines priced None = no_schedule_line ∷ []
+schedule_lines priced (Some written) =
+    cost_line written.cost ∷ (map thermal_line written.printed.thermal
+    ++ (map renewable_line written.printed.renewable ++ shortage_lines priced written.printed))
+
+-- where something has a price, the line of the prices comes before the schedule
+abbrev pub plan_lines : ℕ → ℕ → Option WrittenSchedule → List (List ℕ)
+plan_lines a b schedule =
+    if has_price a b then penalty_line a b ∷ schedule_lines true schedule else schedule_lines false schedule
 
 abbrev pub scale_line : ℤ → List ℕ
 scale_line k = line (codes "table") (signed_text k ∷ [])
@@ -128,7 +160,7 @@ end_line = line (codes "end") []
 unfoldable pub certificate_lines : ℕ → Listing → List (List ℕ)
 certificate_lines version c =
     version_line version ∷ size_line c.periods c.thermal c.renewable (length c.tables) ∷ claim_line c.bound
-    ∷ (schedule_lines c.schedule ++ (flat_map table_lines c.tables ++ (map node_line c.nodes ++ end_line ∷ [])))
+    ∷ (plan_lines c.a c.b c.schedule ++ (flat_map table_lines c.tables ++ (map node_line c.nodes ++ end_line ∷ [])))
 
 -- the text is these lines one after another; version 1 is written
 unfoldable pub certificate_text : Certificate → List ℕ

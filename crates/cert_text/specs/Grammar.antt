@@ -2,14 +2,14 @@
 -- count is a number of its digits, however many lines it asks for. This project's own format.
 --
 -- Units, periods and tables count from 0 here, and from 1 in the text.
-use Rattle.std.specs.Prelude.{◌≡◌, ℕ, zero, suc, ◌^◌, ◌<◌, ◌≤◌, List, [], ◌∷◌, ◌++◌, ℤ, Option, Some, None, IfSome, replicate, codes, length, All, pos, ◌≢◌, Contains}
+use Rattle.std.specs.Prelude.{◌≡◌, ℕ, zero, suc, ◌^◌, ◌<◌, ◌≤◌, Bool, true, false, List, [], ◌∷◌, ◌++◌, ℤ, Option, Some, None, IfSome, replicate, codes, length, All, pos, ◌≢◌, Contains}
 pub use Rattle.uc_model.specs.declared.schedule.Cell.{Cell}
 use Rattle.uc_model.specs.Decimal.{whole_text}
 use Rattle.dual_model.specs.Prices.{IsRowBefore, IsRowWithin}
 pub use Rattle.dual_model.specs.declared.table.RampRow.{RampRow}
 use Rattle.outside.specs.Lines.{line, joined}
-use Rattle.cert_text.specs.CertificateText.{TreeNode, LeafNode, SplitNode, node_line, IsNodeWithin, version_line, size_line, claim_line, cost_line, no_schedule_line, thermal_line, renewable_line, scale_line, prices_line, ramp_line, end_line}
-use Rattle.cert_text.specs.TextConditions.{HasDigits, IsMoney, IsThermalRow, IsRenewableRow, IsRampText}
+use Rattle.cert_text.specs.CertificateText.{TreeNode, LeafNode, SplitNode, node_line, IsNodeWithin, version_line, size_line, claim_line, has_price, penalty_line, cost_line, no_schedule_line, thermal_line, renewable_line, shed_line, short_line, scale_line, prices_line, ramp_line, end_line}
+use Rattle.cert_text.specs.TextConditions.{HasDigits, IsMoney, ArePenalties, IsThermalRow, IsPowerRow, IsRampText}
 use Rattle.cert_text.specs.declared.cert.CertFault.{CertFault}
 use Rattle.cert_text.specs.declared.cert.CertFault.TheVariants as faults
 pub use Rattle.cert_text.specs.declared.cert.CertKind.{CertKind}
@@ -34,10 +34,13 @@ pub data Symbol : Type 0 where
   Version : Symbol
   Size : Symbol
   Claim : Symbol
-  -- the schedule, of a system of that size
+  -- what is behind the claim, of a system of that size; the schedule behind prices; and the rows of a schedule
+  Plan : Sizes → Symbol
   Schedule : Sizes → Symbol
   ThermalRow : Sizes → Symbol
   RenewableRow : Sizes → Symbol
+  Shed : Sizes → Symbol
+  Short : Sizes → Symbol
   -- the first line of a table, and those of its prices of demand and of reserve
   Scale : Sizes → Symbol
   Pi : Sizes → Symbol
@@ -53,14 +56,43 @@ abbrev pub ramp_rows : Sizes → ℕ → Option RampRow → List Symbol
 ramp_rows size zero before = []
 ramp_rows size (suc more) before = Ramp size more before ∷ []
 
+-- the rows of what is missing, where that has a price
+abbrev pub shortage_rows : Sizes → Bool → List Symbol
+shortage_rows size false = []
+shortage_rows size true = Shed size ∷ Short size ∷ []
+
 -- what comes behind a schedule's line: its rows where there is one
-abbrev pub schedule_rows : Sizes → Option ℤ → List Symbol
-schedule_rows size None = []
-schedule_rows size (Some cost) = replicate size.thermal (ThermalRow size) ++ replicate size.renewable (RenewableRow size)
+abbrev pub schedule_rows : Sizes → Bool → Option ℤ → List Symbol
+schedule_rows size priced None = []
+schedule_rows size priced (Some cost) =
+    replicate size.thermal (ThermalRow size) ++ (replicate size.renewable (RenewableRow size) ++ shortage_rows size priced)
 
 abbrev pub schedule_line : Option ℤ → List ℕ
 schedule_line None = no_schedule_line
 schedule_line (Some cost) = cost_line cost
+
+-- the line behind the claim: prices, or else the schedule's, where nothing has a price
+pub data PlanLine : Type 0 where
+  Priced : ℕ → ℕ → PlanLine
+  Unpriced : Option ℤ → PlanLine
+
+abbrev pub plan_line : PlanLine → List ℕ
+plan_line (Priced a b) = penalty_line a b
+plan_line (Unpriced cost) = schedule_line cost
+
+-- prices that are told are within their range, and one isn't 0
+pub record IsPenaltyLine (a b : ℕ) : Type 0 where
+  pub range : ArePenalties a b
+  pub some : has_price a b ≡ true
+
+abbrev pub IsPlanLine : PlanLine → Type 0
+IsPlanLine (Priced a b) = IsPenaltyLine a b
+IsPlanLine (Unpriced cost) = IfSome cost IsMoney
+
+-- and what comes behind it
+abbrev pub behind_plan : Sizes → PlanLine → List Symbol
+behind_plan size (Priced a b) = Schedule size ∷ []
+behind_plan size (Unpriced cost) = schedule_rows size false cost
 
 -- a split is followed by two trees
 abbrev pub children : Sizes → TreeNode → List Symbol
@@ -83,7 +115,7 @@ pub record IsRampAfter (size : Sizes) (before : Option RampRow) (row : RampRow) 
 
 -- what comes behind the line of the size
 abbrev pub after_size : Sizes → List Symbol
-after_size size = Claim ∷ Schedule size ∷ (replicate size.tables (Scale size) ++ Node size ∷ End ∷ [])
+after_size size = Claim ∷ Plan size ∷ (replicate size.tables (Scale size) ++ Node size ∷ End ∷ [])
 
 -- a line of that kind, which has to be followed by lines of these kinds before what was to come anyway
 abbrev pub Produces : Symbol → List ℕ → List Symbol → Type 0
@@ -91,10 +123,13 @@ Produces Version text next = (text ≡ version_line 1) × (next ≡ Size ∷ [])
 Produces Size text next =
     (size : Sizes) × AreSizes size × (text ≡ size_line size.periods size.thermal size.renewable size.tables) × (next ≡ after_size size)
 Produces Claim text next = (bound : Option ℤ) × IfSome bound IsMoney × (text ≡ claim_line bound) × (next ≡ [])
+Produces (Plan size) text next = (first : PlanLine) × IsPlanLine first × (text ≡ plan_line first) × (next ≡ behind_plan size first)
 Produces (Schedule size) text next =
-    (cost : Option ℤ) × IfSome cost IsMoney × (text ≡ schedule_line cost) × (next ≡ schedule_rows size cost)
+    (cost : Option ℤ) × IfSome cost IsMoney × (text ≡ schedule_line cost) × (next ≡ schedule_rows size true cost)
 Produces (ThermalRow size) text next = (row : List Cell) × IsThermalRow size.periods row × (text ≡ thermal_line row) × (next ≡ [])
-Produces (RenewableRow size) text next = (row : List ℤ) × IsRenewableRow size.periods row × (text ≡ renewable_line row) × (next ≡ [])
+Produces (RenewableRow size) text next = (row : List ℤ) × IsPowerRow size.periods row × (text ≡ renewable_line row) × (next ≡ [])
+Produces (Shed size) text next = (row : List ℤ) × IsPowerRow size.periods row × (text ≡ shed_line row) × (next ≡ [])
+Produces (Short size) text next = (row : List ℤ) × IsPowerRow size.periods row × (text ≡ short_line row) × (next ≡ [])
 Produces (Scale size) text next =
     (k : ℕ) × (k < 10 ^ 18) × (text ≡ scale_line (pos k))
     × (next ≡ Pi size ∷ Mu size ∷ Ramps size ∷ [])

@@ -1,13 +1,13 @@
 -- What a certificate has to meet to have a text of the grammar: its size, the shapes of its lists, and how many digits its
 -- numbers have. This project's own format.
-use Rattle.std.specs.Prelude.{◌≡◌, ℕ, ◌^◌, ◌<◌, ◌≤◌, true, false, List, ℤ, pos, unsigned_abs, IfSome, All, length}
+use Rattle.std.specs.Prelude.{◌≡◌, ℕ, ◌^◌, ◌<◌, ◌≤◌, Bool, true, false, List, ℤ, pos, unsigned_abs, IfSome, All, length}
 pub use Rattle.uc_model.specs.declared.schedule.Cell.{Cell}
 use Rattle.uc_model.specs.PrintedSchedule.{LacksNothing}
 use Rattle.dual_model.specs.Certificate.{WrittenSchedule}
 use Rattle.dual_model.specs.Prices.{IsWellFormed}
 pub use Rattle.dual_model.specs.declared.table.Table.{Table}
 pub use Rattle.dual_model.specs.declared.table.RampRow.{RampRow}
-use Rattle.cert_text.specs.CertificateText.{IsNodeWithin, Listing}
+use Rattle.cert_text.specs.CertificateText.{Printed, IsNodeWithin, Listing, has_price}
 
 -- a number of at most so many digits, whatever its sign
 abbrev pub HasDigits : ℕ → ℤ → Type 0
@@ -33,23 +33,35 @@ pub record IsCellText (cell : Cell) : Type 0 where
   pub on : cell.on ≡ true → IsOnCell cell
   pub off : cell.on ≡ false → IsOffCell cell
 
--- a row for each unit, of a cell, or an output in watts, for each period
+-- a row of a cell for each period
 pub record IsThermalRow (periods : ℕ) (row : List Cell) : Type 0 where
   pub cells : length row ≡ periods
   pub written : All IsCellText row
 
-pub record IsRenewableRow (periods : ℕ) (row : List ℤ) : Type 0 where
-  pub outputs : length row ≡ periods
+-- and of a power in watts for each
+pub record IsPowerRow (periods : ℕ) (row : List ℤ) : Type 0 where
+  pub powers : length row ≡ periods
   pub written : All (HasDigits 15) row
 
--- the lines tell no shortage and no part of a watt
-pub record IsScheduleText (periods thermal renewable : ℕ) (written : WrittenSchedule) : Type 0 where
+-- a power that is missing in each period, whole watts
+pub record HasShortageRows (periods : ℕ) (printed : Printed) : Type 0 where
+  pub shed : IsPowerRow periods printed.shed
+  pub short : IsPowerRow periods printed.short
+  pub denominator : printed.denominator ≡ 1
+
+-- the lines tell what is missing where that has a price, else no shortage; and no part of a watt
+abbrev pub AreShortagesText : Bool → ℕ → Printed → Type 0
+AreShortagesText false periods printed = LacksNothing periods printed
+AreShortagesText true periods printed = HasShortageRows periods printed
+
+-- a row for each unit, and what is missing
+pub record IsScheduleText (priced : Bool) (periods thermal renewable : ℕ) (written : WrittenSchedule) : Type 0 where
   pub cost : IsMoney written.cost
   pub thermal_rows : length written.printed.thermal ≡ thermal
   pub cells : All (IsThermalRow periods) written.printed.thermal
   pub renewable_rows : length written.printed.renewable ≡ renewable
-  pub outputs : All (IsRenewableRow periods) written.printed.renewable
-  pub whole : LacksNothing periods written.printed
+  pub outputs : All (IsPowerRow periods) written.printed.renewable
+  pub shortages : AreShortagesText priced periods written.printed
 
 pub record IsRampText (row : RampRow) : Type 0 where
   pub up : HasDigits 18 row.up
@@ -66,6 +78,11 @@ pub record IsTableText (periods thermal : ℕ) (table : Table) : Type 0 where
   pub rows : length table.ramps < 10 ^ 18
   pub ramps : All IsRampText table.ramps
 
+-- prices up to a million dollars for a megawatt and an hour
+pub record ArePenalties (a b : ℕ) : Type 0 where
+  pub shed : a ≤ 1000000
+  pub short : b ≤ 1000000
+
 -- the listed certificate has a text of the grammar
 pub record HasText (c : Listing) : Type 0 where
   pub some_period : 1 ≤ c.periods
@@ -74,6 +91,7 @@ pub record HasText (c : Listing) : Type 0 where
   pub renewable : c.renewable ≤ 4096
   pub table_count : length c.tables < 2 ^ 32
   pub bound : IfSome c.bound IsMoney
-  pub schedule : IfSome c.schedule (IsScheduleText c.periods c.thermal c.renewable)
+  pub penalties : ArePenalties c.a c.b
+  pub schedule : IfSome c.schedule (IsScheduleText (has_price c.a c.b) c.periods c.thermal c.renewable)
   pub tables : All (IsTableText c.periods c.thermal) c.tables
   pub nodes : All (IsNodeWithin c.periods c.thermal (length c.tables)) c.nodes

@@ -17,7 +17,8 @@ pub enum CertNode {
     Empty(u32),
 }
 
-/// A certificate: the numbers of periods, thermal and renewable units; the bound that is claimed, in micro-dollars,
+/// A certificate: the numbers of periods, thermal and renewable units; the prices of unserved demand and of missing
+/// reserve, in micro-dollars for a watt and an hour; the bound that is claimed, in micro-dollars,
 /// or none where infeasibility is; a schedule with its cost in micro-dollars; the tables; and the tree, as its nodes
 /// in preorder.
 #[derive(Drop)]
@@ -25,6 +26,8 @@ pub struct Cert {
     pub periods: u32,
     pub thermal: u32,
     pub renewable: u32,
+    pub a: u32,
+    pub b: u32,
     pub bound: Option<i128>,
     pub schedule: Option<(Printed, i128)>,
     pub tables: List<Table>,

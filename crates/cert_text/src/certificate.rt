@@ -6,7 +6,7 @@ ghost use Rattle.branch_tree.specs.Claims.{HasLayout, certificate_of};
 ghost use Rattle.cert_text.specs.CertificateText.{size_line, claim_line, certificate_text};
 ghost use Rattle.cert_text.specs.inside.WrittenParts.{tables_part, heading_part, certificate_parts};
 
-use crate::schedule::put_schedule;
+use crate::schedule::{has_price, put_penalty, put_schedule};
 use crate::table::put_table;
 use crate::tree::put_nodes;
 use branch_tree::Found;
@@ -63,7 +63,8 @@ fn put_certificate<O: Out>(out: &mut O, found: &Found, instance: &Instance)
     ensures { O.emits (certificate_parts instance.now found.now) out.old out.new }
 {
     put_heading(out, found, instance);
-    put_schedule(out, &found.schedule);
+    put_penalty(out, instance.a, instance.b);
+    put_schedule(out, has_price(instance.a, instance.b), &found.schedule);
     put_tables(out, found.tables.as_slice(), found.layout.tables.as_slice());
     put_nodes(out, &found.tree, &found.layout);
     out.put(b"end\n");

@@ -10,7 +10,7 @@ ghost use Rattle.branch_tree.specs.StoredTree.{tree_bound};
 ghost use Rattle.branch_tree.specs.TreeView.{IsWhole};
 ghost use Rattle.branch_tree.specs.Claims.{written_tables, certificate_of, written_of};
 ghost use Rattle.branch_tree.specs.declared.found.Found.{Found};
-ghost use Rattle.cert_text.specs.CertificateText.{listing_of, certificate_lines, certificate_text};
+ghost use Rattle.cert_text.specs.CertificateText.{has_price, listing_of, certificate_lines, certificate_text};
 ghost use Rattle.cert_text.specs.Grammar.{Version, Reaches, CertKind, IsKindAt};
 ghost use Rattle.cert_text.specs.TextConditions.{IsMoney, IsScheduleText, HasText};
 
@@ -28,7 +28,7 @@ pub fn ranges_count_digits()
 pub fn found_certificates_have_text()
     ensures { (instance : Instance) (found : Found) → IsLawfulInstance instance → IsWhole found.tree
         → CertificateHolds instance (certificate_of instance found)
-        → IfSome (written_of found.schedule) (IsScheduleText instance.periods (thermal_count instance) (renewable_count instance))
+        → IfSome (written_of found.schedule) (IsScheduleText (has_price instance.a instance.b) instance.periods (thermal_count instance) (renewable_count instance))
         → IfSome (tree_bound found.tree) IsMoney
         → All (λ table. length table.ramps < 10 ^ 18) (written_tables found)
         → HasText (listing_of (certificate_of instance found)) }

@@ -1,12 +1,14 @@
-//! The lines of a schedule.
+//! The lines of prices and of a schedule.
 
 ghost use Rattle.std.specs.Prelude.{◌≡◌};
 ghost use Rattle.uc_model.specs.Decimal.{signed_text};
 ghost use Rattle.branch_tree.specs.Claims.{written_of};
-ghost use Rattle.cert_text.specs.CertificateText.{cell_text};
-ghost use Rattle.cert_text.specs.inside.WrittenParts.{schedule_part};
+ghost use Rattle.cert_text.specs.CertificateText.{cell_text, has_price, penalty_line};
+ghost use Rattle.cert_text.specs.inside.WrittenParts.{penalty_part, shortages_part, schedule_part};
 
-use outside::{Form, Out, RowLine, put_each, put_money_line, put_signed, put_whole};
+use outside::{
+    Form, Out, RowLine, put_count, put_each, put_list_line, put_money_line, put_signed, put_whole,
+};
 use uc_model::{Cell, Printed};
 
 /// A number of any sign.
@@ -41,9 +43,43 @@ impl Form<Cell> for CellWord {
     }
 }
 
-// A schedule with its cost, or that there is none.
-pub(crate) fn put_schedule<O: Out>(out: &mut O, schedule: &Option<(Printed, i64)>)
-    ensures { O.emits (schedule_part (written_of schedule.now)) out.old out.new }
+/// Whether unserved demand, or missing reserve, has a price.
+pub(crate) fn has_price(a: u32, b: u32) -> bool
+    ensures { result ≡ has_price a b }
+{
+    a > 0 || b > 0
+}
+
+fn put_penalty_line<O: Out>(out: &mut O, a: u32, b: u32)
+    ensures { O.emits (penalty_line a b) out.old out.new }
+{
+    put_count(out, b"penalty ", u64::from(a));
+    put_count(out, b" ", u64::from(b));
+    out.put(b"\n");
+}
+
+/// The prices of unserved demand and of missing reserve, where one of them isn't 0.
+pub(crate) fn put_penalty<O: Out>(out: &mut O, a: u32, b: u32)
+    ensures { O.emits (penalty_part a b) out.old out.new }
+{
+    if has_price(a, b) {
+        put_penalty_line(out, a, b);
+    }
+}
+
+// What is missing in each period, where that has a price.
+fn put_shortages<O: Out>(out: &mut O, priced: bool, printed: &Printed)
+    ensures { O.emits (shortages_part priced printed.now) out.old out.new }
+{
+    if priced {
+        put_list_line(out, b"d", &Signed, printed.shed.as_slice());
+        put_list_line(out, b"e", &Signed, printed.short.as_slice());
+    }
+}
+
+/// A schedule with its cost, or that there is none.
+pub(crate) fn put_schedule<O: Out>(out: &mut O, priced: bool, schedule: &Option<(Printed, i64)>)
+    ensures { O.emits (schedule_part priced (written_of schedule.now)) out.old out.new }
 {
     match schedule {
         Some((printed, cost)) => {
@@ -64,6 +100,7 @@ pub(crate) fn put_schedule<O: Out>(out: &mut O, schedule: &Option<(Printed, i64)
                 },
                 printed.renewable.as_slice(),
             );
+            put_shortages(out, priced, printed);
         }
         None => out.put(b"schedule none\n"),
     }

@@ -6,8 +6,8 @@ use Rattle.std.specs.Str.Parse.{digits_value}
 use Rattle.std.specs.Char.{digit_value}
 use Rattle.std.specs.Ordering.{int_eq}
 use Rattle.dual_model.specs.Cover.{Bound, Ray, Empty}
-use Rattle.cert_text.specs.CertificateText.{TreeNode, LeafNode, SplitNode}
-use Rattle.cert_text.specs.Grammar.{Cell, RampRow, Sizes}
+use Rattle.cert_text.specs.CertificateText.{TreeNode, LeafNode, SplitNode, has_price}
+use Rattle.cert_text.specs.Grammar.{Cell, RampRow, Sizes, PlanLine, Priced, Unpriced}
 
 infixl 10 ◌>>=◌
 abbrev pub ◌>>=◌ : {A B : Type 0} → Option A → (A → Option B) → Option B
@@ -134,10 +134,20 @@ unfoldable pub claim_at : Form (Option ℤ)
 claim_at bytes =
     when (text_at (codes "claim bound ") bytes) (mapped Some (ended money_at (codes "\n"))) (fixed (codes "claim infeasible\n") None bytes)
 
--- ---- the schedule
+-- ---- prices and the schedule
+abbrev pub is_penalty : ℕ × ℕ → Bool
+is_penalty p = (nat_le p.0 1000000 && nat_le p.1 1000000) && has_price p.0 p.1
+
+-- the prices behind their line's first word
+unfoldable pub penalty_at : Form (ℕ × ℕ)
+penalty_at = passing is_penalty (both (ended (whole_at 18) (codes " ")) (ended (whole_at 18) (codes "\n")))
+
 unfoldable pub schedule_at : Form (Option ℤ)
 schedule_at bytes =
     when (text_at (codes "schedule none\n") bytes) (λ rest. Some (None, rest)) (after (codes "schedule ") (mapped Some (ended money_at (codes "\n"))) bytes)
+
+unfoldable pub plan_at : Form PlanLine
+plan_at bytes = when (text_at (codes "penalty ") bytes) (mapped (λ p. Priced p.0 p.1) penalty_at) (mapped Unpriced schedule_at bytes)
 
 abbrev pub on_cell : ℤ × (ℤ × ℕ) → Cell
 on_cell p = record { on = true; p = p.0; r = p.1.0; category = p.1.1 }

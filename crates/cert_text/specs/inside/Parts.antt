@@ -1,15 +1,16 @@
 -- Reading parts of a certificate, of one or more lines each: the value of a part and the bytes behind it, or the bytes from
 -- the first line on that may not stand there.
-use Rattle.std.specs.Prelude.{◌≡◌, ℕ, zero, suc, List, [], ◌∷◌, length, Option, Some, None, Result, Ok, Err, ℤ, pos, codes, replicate}
+use Rattle.std.specs.Prelude.{◌≡◌, ℕ, zero, suc, Bool, true, false, List, [], ◌∷◌, length, Option, Some, None, Result, Ok, Err, ℤ, pos, codes, replicate}
 use Rattle.std.specs.Option.{ok_or}
 use Rattle.dual_model.specs.Certificate.{WrittenSchedule}
-use Rattle.cert_text.specs.CertificateText.{Cell, RampRow, Table, Listing, TreeNode, LeafNode, SplitNode}
-use Rattle.cert_text.specs.Grammar.{Sizes, IsRampAfter}
+use Rattle.cert_text.specs.CertificateText.{Cell, Printed, RampRow, Table, Listing, TreeNode, LeafNode, SplitNode}
+use Rattle.cert_text.specs.Grammar.{Sizes, PlanLine, Priced, Unpriced, IsRampAfter}
 pub use Rattle.cert_text.specs.declared.reader.stop.Stop.{Stop}
 use Rattle.cert_text.specs.declared.reader.stop.Stop.TheVariants as stops
-use Rattle.cert_text.specs.inside.Forms.{Form, signed_at, version_at, size_at, claim_at, schedule_at, cell_at, row_at, scale_at, ramp_count_at, ramp_at, node_at, end_at}
+use Rattle.cert_text.specs.inside.Forms.{Form, signed_at, version_at, size_at, claim_at, schedule_at, plan_at, cell_at, row_at, scale_at, ramp_count_at, ramp_at, node_at, end_at}
 use Rattle.cert_text.specs.declared.reader.sizes.Size.{Size}
-use Rattle.uc_model.specs.declared.schedule.Printed.{Printed}
+use Rattle.cert_text.specs.declared.reader.lines.First.{First}
+use Rattle.cert_text.specs.declared.reader.lines.First.TheVariants as firsts
 
 infixl 10 ◌>>=◌
 abbrev pub ◌>>=◌ : {A B : Type 0} → Result A (List ℕ) → (A → Result B (List ℕ)) → Result B (List ℕ)
@@ -47,29 +48,55 @@ repeated (suc n) part bytes = part bytes >>= λ x. repeated n part x.1 >>= λ xs
 abbrev pub rows_of : {A : Type 0} → List ℕ → ℕ → ℕ → Form A → Part (List (List A))
 rows_of first count periods word = repeated count (line_of (row_at first periods word))
 
-unfoldable pub printed_part : Sizes → Part (List (List Cell) × List (List ℤ))
-printed_part size =
-    then (rows_of (codes "t") size.thermal size.periods cell_at) (λ _. rows_of (codes "w") size.renewable size.periods (signed_at 15))
+-- a power in watts for each period
+abbrev pub powers_part : List ℕ → Sizes → Part (List ℤ)
+powers_part word size = line_of (row_at word size.periods (signed_at 15))
 
--- nothing is missing, in whole watts
-abbrev pub plan_of : ℕ → List (List Cell) → List (List ℤ) → Printed
-plan_of periods thermal renewable = record {
-  thermal = thermal;
-  renewable = renewable;
-  shed = replicate periods (pos 0);
-  short = replicate periods (pos 0);
-  denominator = 1;
-}
+-- what is missing: nothing where it has no price
+abbrev pub nothing : ℕ → List ℤ
+nothing periods = replicate periods (pos 0)
 
-abbrev pub written : ℕ → ℤ → List (List Cell) × List (List ℤ) → Option WrittenSchedule
-written periods cost rows = Some (record { printed = plan_of periods rows.0 rows.1; cost = cost })
+unfoldable pub shortages_part : Sizes → Bool → Part (List ℤ × List ℤ)
+shortages_part size false bytes = Ok ((nothing size.periods, nothing size.periods), bytes)
+shortages_part size true bytes = then (powers_part (codes "d") size) (λ _. powers_part (codes "e") size) bytes
 
-abbrev pub rows_behind : Sizes → Option ℤ → Part (Option WrittenSchedule)
-rows_behind size None bytes = Ok (None, bytes)
-rows_behind size (Some cost) bytes = told (written size.periods cost) (printed_part size) bytes
+-- the watts are whole
+abbrev pub printed_of : List (List Cell) × (List (List ℤ) × (List ℤ × List ℤ)) → Printed
+printed_of p = record { thermal = p.0; renewable = p.1.0; shed = p.1.1.0; short = p.1.1.1; denominator = 1 }
 
+unfoldable pub printed_part : Sizes → Bool → Part Printed
+printed_part size priced =
+    told printed_of (then (rows_of (codes "t") size.thermal size.periods cell_at)
+    (λ _. then (rows_of (codes "w") size.renewable size.periods (signed_at 15)) (λ _. shortages_part size priced)))
+
+abbrev pub written : ℤ → Printed → Option WrittenSchedule
+written cost printed = Some (record { printed = printed; cost = cost })
+
+abbrev pub rows_behind : Sizes → Bool → Option ℤ → Part (Option WrittenSchedule)
+rows_behind size priced None bytes = Ok (None, bytes)
+rows_behind size priced (Some cost) bytes = told (written cost) (printed_part size priced) bytes
+
+-- the schedule behind prices
 unfoldable pub schedule_part : Sizes → Part (Option WrittenSchedule)
-schedule_part size bytes = line_of schedule_at bytes >>= λ x. rows_behind size x.0 x.1
+schedule_part size bytes = line_of schedule_at bytes >>= λ x. rows_behind size true x.0 x.1
+
+-- ---- prices, and the schedule
+abbrev pub Planned : Type 0
+Planned = (ℕ × ℕ) × Option WrittenSchedule
+
+abbrev pub prices_of : PlanLine → ℕ × ℕ
+prices_of (Priced a b) = (a, b)
+prices_of (Unpriced cost) = (0, 0)
+
+abbrev pub behind_first : Sizes → PlanLine → Part (Option WrittenSchedule)
+behind_first size (Priced a b) bytes = schedule_part size bytes
+behind_first size (Unpriced cost) bytes = rows_behind size false cost bytes
+
+abbrev pub plan_from : PlanLine × Option WrittenSchedule → Planned
+plan_from p = (prices_of p.0, p.1)
+
+unfoldable pub plan_part : Sizes → Part Planned
+plan_part size = told plan_from (then (line_of plan_at) (behind_first size))
 
 -- ---- tables
 -- so many ramp rows, behind one or as the first ones
@@ -112,13 +139,15 @@ unfoldable pub tree_part : Sizes → Part (List TreeNode)
 tree_part size bytes = nodes_part size (length bytes) 1 bytes
 
 -- ---- the whole
-abbrev pub listing_from : Sizes × (Option ℤ × (Option WrittenSchedule × (List Table × (List TreeNode × Unit {0})))) → Listing
+abbrev pub listing_from : Sizes × (Option ℤ × (Planned × (List Table × (List TreeNode × Unit {0})))) → Listing
 listing_from p = record {
   periods = p.0.periods;
   thermal = p.0.thermal;
   renewable = p.0.renewable;
+  a = p.1.1.0.0.0;
+  b = p.1.1.0.0.1;
   bound = p.1.0;
-  schedule = p.1.1.0;
+  schedule = p.1.1.0.1;
   tables = p.1.1.1.0;
   nodes = p.1.1.1.1.0;
 }
@@ -128,7 +157,7 @@ heading_part = told (λ p. p.1) (then (line_of version_at) (λ _. line_of size_a
 
 unfoldable pub certificate_part : Part Listing
 certificate_part =
-    told listing_from (then heading_part (λ size. then (line_of claim_at) (λ _. then (schedule_part size)
+    told listing_from (then heading_part (λ size. then (line_of claim_at) (λ _. then (plan_part size)
     (λ _. then (repeated size.tables (table_part size)) (λ _. then (tree_part size) (λ _. line_of end_at))))))
 
 -- ---- Rows of ramp multipliers one behind the other.
@@ -138,5 +167,9 @@ AreRamps size before [] = Unit {0}
 AreRamps size before (row ∷ rows) = IsRampAfter size before row × AreRamps size (Some row) rows
 
 -- ---- What contracts see of the values that are read.
+abbrev pub first_of : First → PlanLine
+first_of (firsts.Priced a b) = Priced a b
+first_of (firsts.Unpriced cost) = Unpriced cost
+
 abbrev pub sizes : Size → Sizes
 sizes size = record { periods = size.periods; thermal = size.thermal; renewable = size.renewable; tables = size.tables }

@@ -1,5 +1,5 @@
 -- The text of a found answer's certificate in the parts in which it is written.
-use Rattle.std.specs.Prelude.{ℕ, List, [], ◌∷◌, Option, Some, None, length, flat_map, codes}
+use Rattle.std.specs.Prelude.{ℕ, Bool, true, false, List, [], ◌∷◌, Option, Some, None, length, flat_map, codes, if◌then◌else◌}
 pub use Rattle.uc_model.specs.declared.instance.Instance.{Instance}
 use Rattle.dual_model.specs.Certificate.{WrittenSchedule, Certificate}
 pub use Rattle.branch_tree.specs.declared.found.Found.{Found}
@@ -11,13 +11,20 @@ pub use Rattle.branch_tree.specs.declared.tree.Spot.{Spot}
 use Rattle.branch_tree.specs.declared.tree.Spot.TheVariants as spot
 use Rattle.branch_tree.specs.declared.tree.Tree.{Tree}
 use Rattle.outside.specs.Lines.{joined}
-use Rattle.cert_text.specs.CertificateText.{TreeNode, LeafNode, SplitNode, preorder, node_line, Table, version_line, size_line, claim_line, cost_line, no_schedule_line, thermal_line, renewable_line, scale_line, prices_line, ramps_line, ramp_line, end_line}
+use Rattle.cert_text.specs.CertificateText.{TreeNode, LeafNode, SplitNode, preorder, node_line, Table, Printed, version_line, size_line, claim_line, has_price, penalty_line, shed_line, short_line, cost_line, no_schedule_line, thermal_line, renewable_line, scale_line, prices_line, ramps_line, ramp_line, end_line}
 
-abbrev pub schedule_part : Option WrittenSchedule → List ℕ
-schedule_part None = no_schedule_line
-schedule_part (Some written) =
+abbrev pub penalty_part : ℕ → ℕ → List ℕ
+penalty_part a b = if has_price a b then penalty_line a b else []
+
+abbrev pub shortages_part : Bool → Printed → List ℕ
+shortages_part false printed = []
+shortages_part true printed = joined (shed_line printed.shed ∷ short_line printed.short ∷ [])
+
+abbrev pub schedule_part : Bool → Option WrittenSchedule → List ℕ
+schedule_part priced None = no_schedule_line
+schedule_part priced (Some written) =
     joined (cost_line written.cost ∷ flat_map thermal_line written.printed.thermal
-    ∷ flat_map renewable_line written.printed.renewable ∷ [])
+    ∷ flat_map renewable_line written.printed.renewable ∷ shortages_part priced written.printed ∷ [])
 
 abbrev pub table_part : Table → List ℕ
 table_part table =
@@ -44,5 +51,5 @@ heading_part c =
 unfoldable pub certificate_parts : Instance → Found → List ℕ
 certificate_parts instance found =
     let c = certificate_of instance found in
-    joined (heading_part c ∷ schedule_part c.schedule ∷ tables_part found.tables (used_tables (tree_of found.tree))
+    joined (heading_part c ∷ penalty_part c.a c.b ∷ schedule_part (has_price c.a c.b) c.schedule ∷ tables_part found.tables (used_tables (tree_of found.tree))
     ∷ tree_part found.tree ∷ end_line ∷ [])

@@ -2,8 +2,8 @@
 
 ghost use Rattle.std.specs.Prelude.{◌≡◌, ◌<◌, IfSome, codes};
 ghost use Rattle.cert_text.specs.CertificateText.{LeafNode, SplitNode};
-ghost use Rattle.cert_text.specs.inside.Forms.{Gives, after, ended, whole_at, money_at, claim_at, schedule_at, on_cell_at, cell_at, ramp_at, rises, is_ramp, named_at, split_at, node_at};
-ghost use Rattle.cert_text.specs.inside.Parts.{sizes};
+ghost use Rattle.cert_text.specs.inside.Forms.{Gives, after, ended, whole_at, money_at, claim_at, penalty_at, schedule_at, plan_at, on_cell_at, cell_at, ramp_at, rises, is_ramp, named_at, split_at, node_at};
+ghost use Rattle.cert_text.specs.inside.Parts.{sizes, first_of};
 ghost use Rattle.cert_text.specs.Reading.{node_of};
 
 use super::numbers::{
@@ -45,6 +45,44 @@ pub(crate) fn take_schedule(bytes: &[u8]) -> Option<(Option<i128>, &[u8])>
     let rest = take_text(bytes, b"schedule ")?;
     let (cost, rest) = take_last_money(rest)?;
     Some((Some(cost), rest))
+}
+
+/// The line behind the claim.
+#[derive(Clone, Copy)]
+pub(crate) enum First {
+    /// The prices of unserved demand and of missing reserve.
+    Priced { a: u32, b: u32 },
+    /// Nothing has a price: the cost of the schedule that follows, or none.
+    Unpriced(Option<i128>),
+}
+
+/// The greatest price of a shortage.
+const MAX_PENALTY: u64 = 1_000_000;
+
+// The prices of unserved demand and of missing reserve, up to the end of the line.
+#[tactic(auto, unfolding(crate::specs::inside::Forms::penalty_at))]
+fn take_penalty(bytes: &[u8]) -> Option<((u32, u32), &[u8])>
+    ensures { Gives (λ r. (r.0, r.1.now)) result (penalty_at bytes.now) }
+{
+    let (a, rest) = take_count_to(bytes, b' ')?;
+    let (b, rest) = take_count_to(rest, b'\n')?;
+    if a > MAX_PENALTY || b > MAX_PENALTY || (a == 0 && b == 0) {
+        return None;
+    }
+    Some(((a as u32, b as u32), rest))
+}
+
+/// The prices of shortages, or else the schedule's line.
+#[tactic(auto, unfolding(crate::specs::inside::Forms::plan_at))]
+pub(crate) fn take_first(bytes: &[u8]) -> Option<(First, &[u8])>
+    ensures { Gives (λ r. (first_of r.0, r.1.now)) result (plan_at bytes.now) }
+{
+    if let Some(rest) = take_text(bytes, b"penalty ") {
+        let ((a, b), rest) = take_penalty(rest)?;
+        return Some((First::Priced { a, b }, rest));
+    }
+    let (cost, rest) = take_schedule(bytes)?;
+    Some((First::Unpriced(cost), rest))
 }
 
 #[tactic(auto, unfolding(crate::specs::inside::Forms::on_cell_at))]

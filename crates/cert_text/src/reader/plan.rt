@@ -1,50 +1,102 @@
-//! Schedules.
+//! Prices and schedules.
 
-ghost use Rattle.std.specs.Prelude.{◌≡◌, Ok, Err, IfOk, pos, replicate};
+ghost use Rattle.std.specs.Prelude.{◌≡◌, Ok, Err, IfOk, true};
 ghost use Rattle.branch_tree.specs.Claims.{written_of};
-ghost use Rattle.uc_model.specs.PrintedSchedule.{LacksNothing};
-ghost use Rattle.cert_text.specs.inside.Parts.{GivesPart, printed_part, schedule_part, sizes};
+ghost use Rattle.cert_text.specs.inside.Parts.{GivesPart, nothing, powers_part, shortages_part, printed_part, rows_behind, schedule_part, first_of, prices_of, behind_first, plan_part, sizes};
 
-use super::lines::take_schedule;
+use super::lines::{First, take_first, take_schedule};
 use super::sizes::Size;
 use super::stop::Stop;
-use super::words::{CellWord, Watts, take_rows};
+use super::words::{CellWord, Watts, take_row, take_rows};
 use std::alloc::Global;
 use uc_model::{List, NoMemory, Printed};
 
-// The rows of all units; nothing is missing, and the watts are whole.
+// No power in each period.
+fn nothing(alloc: Global, periods: u32) -> Result<List<i64>, NoMemory>
+    ensures { IfOk result (λ powers. powers ≡ nothing periods) }
+{
+    Ok(List::from_vec(vec![in alloc; 0; periods as usize]?))
+}
+
+// A power in each period, in the line with this first word.
+fn take_powers<'a>(
+    alloc: Global,
+    first: &[u8],
+    size: &Size,
+    bytes: &'a [u8],
+) -> Result<(List<i64>, &'a [u8]), Stop<'a>>
+    ensures { GivesPart (λ r. (r.0, r.1.now)) result (powers_part first.now (sizes size.now) bytes.now) }
+{
+    let mut powers = Vec::new(alloc);
+    let rest = take_row(first, &Watts, size.periods, bytes, &mut powers)?;
+    Ok((List::from_vec(powers), rest))
+}
+
+// What is missing in each period, which is told where it has a price.
+#[tactic(auto, unfolding(crate::specs::inside::Parts::shortages_part))]
+fn take_shortages<'a>(
+    alloc: Global,
+    size: &Size,
+    priced: bool,
+    bytes: &'a [u8],
+) -> Result<((List<i64>, List<i64>), &'a [u8]), Stop<'a>>
+    ensures { GivesPart (λ r. (r.0, r.1.now)) result (shortages_part (sizes size.now) priced bytes.now) }
+{
+    if priced {
+        let (shed, rest) = take_powers(alloc, b"d", size, bytes)?;
+        let (short, rest) = take_powers(alloc, b"e", size, rest)?;
+        return Ok(((shed, short), rest));
+    }
+    let shed = nothing(alloc, size.periods)?;
+    let short = nothing(alloc, size.periods)?;
+    Ok(((shed, short), bytes))
+}
+
+// The rows of all units, and what is missing; the watts are whole.
 #[tactic(auto, unfolding(crate::specs::inside::Parts::printed_part))]
 fn take_printed<'a>(
     alloc: Global,
     size: &Size,
+    priced: bool,
     bytes: &'a [u8],
 ) -> Result<(Printed, &'a [u8]), Stop<'a>>
-    ensures rows { GivesPart (λ r. ((r.0.thermal, r.0.renewable), r.1.now)) result
-        (printed_part (sizes size.now) bytes.now) }
-    ensures whole { IfOk result (λ r. LacksNothing size.now.periods r.0) }
+    ensures { GivesPart (λ r. (r.0, r.1.now)) result (printed_part (sizes size.now) priced bytes.now) }
 {
     let (thermal, rest) = take_rows(alloc, b"t", &CellWord, size.thermal, size.periods, bytes)?;
     let (renewable, rest) = take_rows(alloc, b"w", &Watts, size.renewable, size.periods, rest)?;
+    let ((shed, short), rest) = take_shortages(alloc, size, priced, rest)?;
     let printed = Printed {
         thermal: List::from_vec(thermal),
         renewable: List::from_vec(renewable),
-        shed: nothing(alloc, size.periods)?,
-        short: nothing(alloc, size.periods)?,
+        shed,
+        short,
         denominator: 1,
     };
     Ok((printed, rest))
 }
 
-// No power in each period.
-fn nothing(alloc: Global, periods: u32) -> Result<List<i64>, NoMemory>
-    ensures { IfOk result (λ powers. powers ≡ replicate periods (pos 0)) }
+// The rows of a schedule of this cost, or none.
+fn take_rows_behind<'a>(
+    alloc: Global,
+    size: &Size,
+    priced: bool,
+    cost: Option<i128>,
+    bytes: &'a [u8],
+) -> Result<(Option<(Printed, i128)>, &'a [u8]), Stop<'a>>
+    ensures { GivesPart (λ r. (written_of r.0, r.1.now)) result (rows_behind (sizes size.now) priced cost bytes.now) }
 {
-    Ok(List::from_vec(vec![in alloc; 0; periods as usize]?))
+    match cost {
+        None => Ok((None, bytes)),
+        Some(cost) => {
+            let (printed, rest) = take_printed(alloc, size, priced, bytes)?;
+            Ok((Some((printed, cost)), rest))
+        }
+    }
 }
 
-/// The schedule with its cost, or none.
+// The schedule behind prices.
 #[tactic(auto, unfolding(crate::specs::inside::Parts::schedule_part))]
-pub(crate) fn take_plan<'a>(
+fn take_priced<'a>(
     alloc: Global,
     size: &Size,
     bytes: &'a [u8],
@@ -52,11 +104,44 @@ pub(crate) fn take_plan<'a>(
     ensures { GivesPart (λ r. (written_of r.0, r.1.now)) result (schedule_part (sizes size.now) bytes.now) }
 {
     let (cost, rest) = take_schedule(bytes).ok_or(Stop::At(bytes))?;
-    match cost {
-        None => Ok((None, rest)),
-        Some(cost) => {
-            let (printed, rest) = take_printed(alloc, size, rest)?;
-            Ok((Some((printed, cost)), rest))
-        }
+    take_rows_behind(alloc, size, true, cost, rest)
+}
+
+// The schedule with its cost, or none, behind the line of the prices or as that line tells.
+fn take_behind<'a>(
+    alloc: Global,
+    size: &Size,
+    first: First,
+    bytes: &'a [u8],
+) -> Result<(Option<(Printed, i128)>, &'a [u8]), Stop<'a>>
+    ensures { GivesPart (λ r. (written_of r.0, r.1.now)) result (behind_first (sizes size.now) (first_of first) bytes.now) }
+{
+    match first {
+        First::Priced { .. } => take_priced(alloc, size, bytes),
+        First::Unpriced(cost) => take_rows_behind(alloc, size, false, cost, bytes),
     }
+}
+
+// The prices that the line behind the claim tells; there are none where it is the schedule's.
+fn prices_of(first: First) -> (u32, u32)
+    ensures { result ≡ prices_of (first_of first) }
+{
+    match first {
+        First::Priced { a, b } => (a, b),
+        First::Unpriced(_) => (0, 0),
+    }
+}
+
+/// The prices of unserved demand and of missing reserve, and the schedule with its cost, or none.
+#[tactic(auto, unfolding(crate::specs::inside::Parts::plan_part))]
+pub(crate) fn take_plan<'a>(
+    alloc: Global,
+    size: &Size,
+    bytes: &'a [u8],
+) -> Result<((u32, u32), Option<(Printed, i128)>, &'a [u8]), Stop<'a>>
+    ensures { GivesPart (λ r. ((r.0, written_of r.1), r.2.now)) result (plan_part (sizes size.now) bytes.now) }
+{
+    let (first, rest) = take_first(bytes).ok_or(Stop::At(bytes))?;
+    let (schedule, rest) = take_behind(alloc, size, first, rest)?;
+    Ok((prices_of(first), schedule, rest))
 }

@@ -33,7 +33,7 @@ pub(crate) fn take_certificate(alloc: Global, bytes: &[u8]) -> Result<(Cert, &[u
 {
     let (size, rest) = take_heading(bytes)?;
     let (bound, rest) = take_claim(rest).ok_or(Stop::At(rest))?;
-    let (schedule, rest) = take_plan(alloc, &size, rest)?;
+    let ((a, b), schedule, rest) = take_plan(alloc, &size, rest)?;
     let (tables, rest) = take_tables(alloc, &size, rest)?;
     let (tree, rest) = take_tree(alloc, &size, rest)?;
     let rest = take_text(rest, b"end\n").ok_or(Stop::At(rest))?;
@@ -41,6 +41,8 @@ pub(crate) fn take_certificate(alloc: Global, bytes: &[u8]) -> Result<(Cert, &[u
         periods: size.periods,
         thermal: size.thermal,
         renewable: size.renewable,
+        a,
+        b,
         bound,
         schedule,
         tables: List::from_vec(tables),
