@@ -1,20 +1,19 @@
 -- The cause of a fault in reading a slot is one of the instance's file, or of the certificate's.
-use Rattle.std.proofs.Common.{Bool}
 use Rattle.outside.specs.declared.slot.Slot.TheVariants as slot
 use Rattle.outside.specs.Slots.{SlotState}
 use Rattle.uc_check.specs.Checking.{Fault, Long, Memory, Read, most_certificate_bytes}
-use Rattle.uc_check.specs.Reading.{most_bytes, HasCause}
+use Rattle.uc_check.specs.Reading.{ReadOptions, most_bytes, HasCause}
 use Rattle.uc_check.specs.inside.Checks.{HasReadCause}
 use Rattle.uc_check.specs.inside.Unread.{IsUnread}
 
-pub instance_cause : (exact : Bool) (old new : SlotState) (fault : Fault) → IsUnread slot.Instance most_bytes old new fault
-    → HasCause exact old new fault
-instance_cause exact old new (Read slot.Instance) unread = unread.1
-instance_cause exact old new (Long slot.Instance) unread = unread.1
-instance_cause exact old new Memory unread = tt
-instance_cause exact old new (Read _) unread = let e = unread.0 in absurd (cc)
-instance_cause exact old new (Long _) unread = let e = unread.0 in absurd (cc)
-instance_cause exact old new _ unread = absurd unread
+pub instance_cause : (options : ReadOptions) (old new : SlotState) (fault : Fault) → IsUnread slot.Instance most_bytes old new fault
+    → HasCause options old new fault
+instance_cause options old new (Read slot.Instance) unread = unread.1
+instance_cause options old new (Long slot.Instance) unread = unread.1
+instance_cause options old new Memory unread = tt
+instance_cause options old new (Read _) unread = let e = unread.0 in absurd (cc)
+instance_cause options old new (Long _) unread = let e = unread.0 in absurd (cc)
+instance_cause options old new _ unread = absurd unread
 
 pub certificate_cause : (old new : SlotState) (fault : Fault) → IsUnread slot.CertIn most_certificate_bytes old new fault
     → HasReadCause old new fault

@@ -11,9 +11,10 @@ use Rattle.outside.specs.Sinks.{SinkState}
 use Rattle.cert_text.specs.Reading.{IsTextOf}
 use Rattle.cert_check.specs.Answers.{AreClaimsOf, IsAccepted, IsRead}
 use Rattle.report.specs.ClaimsReport.{claims_report}
+use Rattle.command_line.specs.Command.{Check}
 use Rattle.uc_check.specs.Outside.{Slot, Outside, outside_of}
 use Rattle.uc_check.specs.Reading.{Fault, Instance, Memory, HasInstance}
-use Rattle.uc_check.specs.Checking.{Code, Write, HasCertificate, HasCertificateCause, IsCertificateFault, IsCheckFailure, IsCheckStopped, IsInstanceFault, IsScheduleTrue, text_of_claims}
+use Rattle.uc_check.specs.Checking.{Code, Write, check_options, HasCertificate, HasCertificateCause, IsCertificateFault, IsCheckFailure, IsCheckStopped, IsInstanceFault, IsScheduleTrue, text_of_claims}
 use Rattle.uc_check.specs.inside.Checks.{Cert, Claims, AreVerifiedClaims, HasCertificateText, IsRefusedCert}
 
 pub ok_both : {T E : Type 0} (result : Result T E) (P Q R : T → Type 0) → IfOk result P → IfOk result Q → ((x : T) → P x → Q x → R x)
@@ -61,12 +62,12 @@ calm_each f g h first second read checked slot.CertIn =
 calm_each f g h first second read checked slot.CertOut =
     ap (λ (s : SlotState). s.faults) (second slot.CertOut (λ e. cc) ∙ first slot.CertOut (λ e. cc))
 
-pub verified : (f g h : Slot → SlotState) (instance : Instance) (rounded : ℕ) (cert : Cert) (claims : Claims)
-    → HasInstance false (f slot.Instance) instance rounded → SameBut slot.Instance f g → SameBut slot.CertIn g h
+pub verified : (asked : Check) (f g h : Slot → SlotState) (instance : Instance) (rounded : ℕ) (cert : Cert) (claims : Claims)
+    → HasInstance (check_options asked) (f slot.Instance) instance rounded → SameBut slot.Instance f g → SameBut slot.CertIn g h
     → (g slot.Instance).faults ≡ (f slot.Instance).faults → (h slot.CertIn).faults ≡ (g slot.CertIn).faults
     → HasCertificateText (g slot.CertIn) cert → IsAccepted instance cert claims → IsClaimTrue instance claims.bound
-    → AreVerifiedClaims f h claims
-verified f g h instance rounded cert claims read first second calm checked text accepted claim =
+    → AreVerifiedClaims asked f h claims
+verified asked f g h instance rounded cert claims read first second calm checked text accepted claim =
     let c = text.text.certificate in
     let listed = text.text.listed in
     let holds = accepted.holds c listed in
@@ -98,12 +99,12 @@ refused_cause f g h instance cert Memory checked text refused = tt
 refused_cause f g h instance cert _ checked text refused = absurd refused
 
 -- a fault of the certificate, whose instance was read before it
-pub certificate_fault : (f g h : Slot → SlotState) (out err_old err_new : SinkState) (instance : Instance) (rounded : ℕ) (fault : Fault)
-    → HasInstance false (f slot.Instance) instance rounded → SameBut slot.Instance f g → SameBut slot.CertIn g h
+pub certificate_fault : (asked : Check) (f g h : Slot → SlotState) (out err_old err_new : SinkState) (instance : Instance) (rounded : ℕ) (fault : Fault)
+    → HasInstance (check_options asked) (f slot.Instance) instance rounded → SameBut slot.Instance f g → SameBut slot.CertIn g h
     → (g slot.Instance).faults ≡ (f slot.Instance).faults
     → HasCertificateCause instance (g slot.CertIn) (h slot.CertIn) fault
-    → IsCertificateFault (outside_of f out err_old) (outside_of h out err_new) fault
-certificate_fault f g h out err_old err_new instance rounded fault read first second calm cause = record {
+    → IsCertificateFault asked (outside_of f out err_old) (outside_of h out err_new) fault
+certificate_fault asked f g h out err_old err_new instance rounded fault read first second calm cause = record {
   instance = instance;
   rounded = rounded;
   read = read;
@@ -112,11 +113,12 @@ certificate_fault f g h out err_old err_new instance rounded fault read first se
 }
 
 -- a run that stopped before anything was written failed
-pub stopped_failure : (before after : Outside) (fault : Fault) → IsCheckStopped before after fault → IsCheckFailure before after fault None
-stopped_failure before after (Write true) stopped = absurd (⊎_elim
-    (λ (early : IsInstanceFault before after (Write true)). early.cause)
-    (λ (late : IsCertificateFault before after (Write true)). late.cause) stopped.cause)
-stopped_failure before after _ stopped = stopped
+pub stopped_failure : (asked : Check) (before after : Outside) (fault : Fault) → IsCheckStopped asked before after fault
+    → IsCheckFailure asked before after fault None
+stopped_failure asked before after (Write true) stopped = absurd (⊎_elim
+    (λ (early : IsInstanceFault asked before after (Write true)). early.cause)
+    (λ (late : IsCertificateFault asked before after (Write true)). late.cause) stopped.cause)
+stopped_failure asked before after _ stopped = stopped
 
 -- what holds of the report of the claims, holds of that of the certificate
 pub of_claims : (P : List ℕ → Type 0) (c : Certificate) (claims : Claims) → AreClaimsOf c claims

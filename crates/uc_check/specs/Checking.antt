@@ -22,9 +22,13 @@ pub use Rattle.report.specs.declared.fault.Fault.{Fault}
 pub use Rattle.report.specs.declared.fault.Fault.TheVariants.{Read, Write, Memory, Long, Line, Code}
 use Rattle.uc_check.specs.Outside.{Slot, Outside}
 use Rattle.command_line.specs.Command.{Check}
-use Rattle.uc_check.specs.Reading.{Instance, most_bytes, HasInstance, HasCause, IsLong, IsOpenedByNoOther, IsOnlyRead}
+use Rattle.uc_check.specs.Reading.{Instance, ReadOptions, most_bytes, HasInstance, HasCause, IsLong, IsOpenedByNoOther, IsOnlyRead}
 use Rattle.uc_check.specs.Writing.{Found, IsTold, FailsToTell}
 use Rattle.uc_check.specs.Ending.{End, Ends}
+
+-- how the instance is read: a rounded number isn't refused
+abbrev pub check_options : Check → ReadOptions
+check_options asked = record { exact = false; shed = asked.shed; spill_reserve = asked.spill_reserve }
 
 -- the most bytes of a certificate's file: 64 TiB
 abbrev pub most_certificate_bytes : ℕ
@@ -54,10 +58,10 @@ pub record IsScheduleTrue (instance : Instance) (written : WrittenSchedule) : Ty
       cost instance q (printed_schedule instance written.printed q) ≤ℤ (pos q *ℤ written.cost)
 
 -- the certificate in the one file holds for the instance in the other, and so what it claims is true
-pub record IsVerified (files : Slot → SlotState) (certificate : Certificate) : Type 0 where
+pub record IsVerified (asked : Check) (files : Slot → SlotState) (certificate : Certificate) : Type 0 where
   pub instance : Instance
   pub rounded : ℕ
-  pub read : HasInstance false (files slot.Instance) instance rounded
+  pub read : HasInstance (check_options asked) (files slot.Instance) instance rounded
   pub is : HasCertificate (files slot.CertIn) certificate
   pub holds : CertificateHolds instance certificate
   pub claim : IsClaimTrue instance certificate.bound
@@ -110,34 +114,34 @@ HasCertificateCause instance old new (Code code) = HasRefusedCertificate instanc
 HasCertificateCause instance old new _ = ⊥
 
 -- a fault of the instance's file ended the run before the certificate's was opened
-pub record IsInstanceFault (before after : Outside) (fault : Fault) : Type 0 where
-  pub cause : HasCause false (before.files slot.Instance) (after.files slot.Instance) fault
+pub record IsInstanceFault (asked : Check) (before after : Outside) (fault : Fault) : Type 0 where
+  pub cause : HasCause (check_options asked) (before.files slot.Instance) (after.files slot.Instance) fault
   pub untouched : after.files slot.CertIn ≡ before.files slot.CertIn
 
 -- the instance was read, and a fault of the certificate ended the run
-pub record IsCertificateFault (before after : Outside) (fault : Fault) : Type 0 where
+pub record IsCertificateFault (asked : Check) (before after : Outside) (fault : Fault) : Type 0 where
   pub instance : Instance
   pub rounded : ℕ
-  pub read : HasInstance false (before.files slot.Instance) instance rounded
+  pub read : HasInstance (check_options asked) (before.files slot.Instance) instance rounded
   pub calm : (after.files slot.Instance).faults ≡ (before.files slot.Instance).faults
   pub cause : HasCertificateCause instance (before.files slot.CertIn) (after.files slot.CertIn) fault
 
 -- a fault ended the run before anything was written
-pub record IsCheckStopped (before after : Outside) (fault : Fault) : Type 0 where
-  pub cause : IsInstanceFault before after fault ⊎ IsCertificateFault before after fault
+pub record IsCheckStopped (asked : Check) (before after : Outside) (fault : Fault) : Type 0 where
+  pub cause : IsInstanceFault asked before after fault ⊎ IsCertificateFault asked before after fault
   pub out : after.out ≡ before.out
 
 -- the certificate holds, and the report could not be written
-pub record IsCheckUntold (before after : Outside) : Type 0 where
+pub record IsCheckUntold (asked : Check) (before after : Outside) : Type 0 where
   pub certificate : Certificate
-  pub verified : IsVerified before.files certificate
+  pub verified : IsVerified asked before.files certificate
   pub report : FailsToTell (text_of_claims certificate) before.out after.out
 
 -- how a run of `check` ended with a fault
-abbrev pub IsCheckFailure : Outside → Outside → Fault → Option Found → Type 0
-IsCheckFailure before after (Write true) None = IsCheckUntold before after
-IsCheckFailure before after fault None = IsCheckStopped before after fault
-IsCheckFailure before after fault (Some found) = ⊥
+abbrev pub IsCheckFailure : Check → Outside → Outside → Fault → Option Found → Type 0
+IsCheckFailure asked before after (Write true) None = IsCheckUntold asked before after
+IsCheckFailure asked before after fault None = IsCheckStopped asked before after fault
+IsCheckFailure asked before after fault (Some found) = ⊥
 
 -- ---- the run
 
@@ -151,19 +155,19 @@ pub record KeepsToInput (asked : Check) (before after : Outside) : Type 0 where
   pub other : after.files slot.CertOut ≡ before.files slot.CertOut
 
 -- the certificate holds, its claims are told, and no fault is
-pub record IsAcceptance (before after : Outside) : Type 0 where
+pub record IsAcceptance (asked : Check) (before after : Outside) : Type 0 where
   pub certificate : Certificate
-  pub verified : IsVerified before.files certificate
+  pub verified : IsVerified asked before.files certificate
   pub told : IsTold (text_of_claims certificate) before.out after.out
   pub calm : (s : Slot) → (after.files s).faults ≡ (before.files s).faults
 
 -- the run accepted the certificate
-pub record IsAccepting (before after : Outside) (end : End) : Type 0 where
+pub record IsAccepting (asked : Check) (before after : Outside) (end : End) : Type 0 where
   pub code : end.code ≡ 0
   pub nothing : end.found ≡ None
-  pub done : IsAcceptance before after
+  pub done : IsAcceptance asked before after
 
 -- a run of `check`
 pub record IsCheckRun (asked : Check) (before after : Outside) (end : End) : Type 0 where
   pub files : KeepsToInput asked before after
-  pub ended : Ends (IsAccepting before after) (IsCheckFailure before after) before.err after.err end
+  pub ended : Ends (IsAccepting asked before after) (IsCheckFailure asked before after) before.err after.err end

@@ -1,9 +1,12 @@
 -- What reading the instance's file gave, and the cause of each fault that comes of it. Sources: RFC 8259 and the
 -- pglib-uc format for the instance; the rest is this project's own.
-use Rattle.std.specs.Prelude.{◌≡◌, ◌≢◌, ℕ, ◌+◌, ◌^◌, ◌<◌, ◌≤◌, ◌⊎◌, ⊤, Bool, List, ◌++◌, IfSome, length}
+use Rattle.std.specs.Prelude.{◌≡◌, ◌≢◌, ℕ, ◌+◌, ◌^◌, ◌<◌, ◌≤◌, ◌⊎◌, ⊤, Bool, List, [], ◌++◌, pos, ◌<ℤ◌, ◌≤ℤ◌, IfSome, length}
 use Rattle.std.specs.Option.{option_map}
-use Rattle.uc_model.specs.Limits.{IsLawfulInstance}
+use Rattle.uc_model.specs.Limits.{IsLawfulInstance, greatest_shortage_cost}
+use Rattle.uc_model.specs.declared.limits.TheConstants.{MAX_SHORTAGE_COST}
 pub use Rattle.uc_model.specs.declared.instance.Instance.{Instance}
+use Rattle.uc_model.specs.declared.field.Field.TheVariants.{NoField}
+use Rattle.uc_model.specs.declared.field_refusal.FieldRefusal.{FieldRefusal}
 use Rattle.outside.specs.declared.slot.Slot.TheVariants as slot
 pub use Rattle.outside.specs.declared.slot.Stage.TheVariants.{Unopened, Finished}
 use Rattle.outside.specs.Counts.{HasRisen}
@@ -13,6 +16,7 @@ use Rattle.instance.specs.Bytes.{StandFor, StandForCounted}
 use Rattle.instance.specs.Bytes as read
 use Rattle.instance.specs.declared.from_bytes.ReadFault.{ReadFault}
 use Rattle.instance.specs.declared.from_bytes.ReadFault.TheVariants as read_fault
+pub use Rattle.uc_check.specs.declared.input.ReadOptions.{ReadOptions}
 pub use Rattle.report.specs.declared.fault.Fault.{Fault}
 pub use Rattle.report.specs.declared.fault.Fault.TheVariants.{Read, Memory, Long, Json, Instance as Refused}
 
@@ -20,13 +24,24 @@ pub use Rattle.report.specs.declared.fault.Fault.TheVariants.{Read, Memory, Long
 abbrev pub most_bytes : ℕ
 most_bytes = 2 ^ 26
 
--- the file's bytes, where they are told, are at most as many as are read and stand for the instance, with this count
--- of rounded numbers
-pub record HasInstance (exact : Bool) (file : SlotState) (instance : Instance) (rounded : ℕ) : Type 0 where
+-- the instance that is given, with the prices of shortages, at which all that could be short costs no more than is allowed
+pub record IsPriced (options : ReadOptions) (given instance : Instance) : Type 0 where
+  pub priced : instance ≡ record given { a = options.shed; b = options.spill_reserve }
+  pub fits : greatest_shortage_cost given options.shed options.spill_reserve ≤ℤ pos MAX_SHORTAGE_COST
+
+-- the bytes stand for the instance, but for these prices, with this count of rounded numbers
+pub record StandForPriced (options : ReadOptions) (bytes : List ℕ) (instance : Instance) (rounded : ℕ) : Type 0 where
+  pub given : Instance
+  pub stand : StandForCounted options.exact bytes given rounded
+  pub priced : IsPriced options given instance
+
+-- the file's bytes, where they are told, are at most as many as are read and stand for the instance with its prices, with this
+-- count of rounded numbers
+pub record HasInstance (options : ReadOptions) (file : SlotState) (instance : Instance) (rounded : ℕ) : Type 0 where
   pub bytes : List ℕ
   pub told : Tells file.left bytes
   pub few : length bytes ≤ most_bytes
-  pub stand : StandForCounted exact bytes instance rounded
+  pub stand : StandForPriced options bytes instance rounded
   pub lawful : IsLawfulInstance instance
 
 -- the bytes stand for no instance, and this fault has its cause
@@ -34,13 +49,33 @@ pub record IsRefused (exact : Bool) (bytes : List ℕ) (fault : ReadFault) : Typ
   pub none : (instance : Instance) → ¬ StandFor exact bytes instance
   pub cause : read.HasCause exact bytes fault
 
+-- the refusal of prices that are too high for the instance: the code I9, which comes after all others and has no place
+abbrev pub too_dear : FieldRefusal
+too_dear = record { code = 9; kind_of_unit = 0; unit = []; field = NoField; entry = 0 }
+
+-- the bytes stand for this instance and for no other, and at these prices all that could be short costs more than is allowed
+pub record IsTooDear (options : ReadOptions) (bytes : List ℕ) (refusal : FieldRefusal) : Type 0 where
+  pub given : Instance
+  pub stand : StandFor options.exact bytes given
+  pub only : (instance : Instance) → StandFor options.exact bytes instance → instance ≡ given
+  pub dear : pos MAX_SHORTAGE_COST <ℤ greatest_shortage_cost given options.shed options.spill_reserve
+  pub is : refusal ≡ too_dear
+
+-- why bytes that were read have no instance with these prices
+abbrev pub IsRefusal : ReadOptions → List ℕ → Fault → Type 0
+IsRefusal options bytes (Json at kind) = IsRefused options.exact bytes (read_fault.Json at kind)
+IsRefusal options bytes (Refused refusal) =
+    IsRefused options.exact bytes (read_fault.Refused refusal) ⊎ IsTooDear options bytes refusal
+IsRefusal options bytes Memory = ⊤
+IsRefusal options bytes _ = ⊥
+
 -- the same of the bytes of the file, where they are told, of which there are no more than are read, and reading them
 -- met no fault
-pub record HasNoInstance (exact : Bool) (old new : SlotState) (fault : ReadFault) : Type 0 where
+pub record HasNoInstance (options : ReadOptions) (old new : SlotState) (fault : Fault) : Type 0 where
   pub bytes : List ℕ
   pub told : Tells old.left bytes
   pub few : length bytes ≤ most_bytes
-  pub refused : IsRefused exact bytes fault
+  pub refused : IsRefusal options bytes fault
   pub calm : new.faults ≡ old.faults
 
 -- the file has more bytes than are read, where they are told, and reading it met no fault
@@ -49,20 +84,13 @@ pub record IsLong (most : ℕ) (old new : SlotState) : Type 0 where
   pub calm : new.faults ≡ old.faults
 
 -- the cause of a fault that comes before anything is written, by the instance's file before and after
-abbrev pub HasCause : Bool → SlotState → SlotState → Fault → Type 0
-HasCause exact old new (Read slot.Instance) = HasRisen old.faults new.faults
-HasCause exact old new Memory = ⊤
-HasCause exact old new (Long slot.Instance) = IsLong most_bytes old new
-HasCause exact old new (Json at kind) = HasNoInstance exact old new (read_fault.Json at kind)
-HasCause exact old new (Refused refusal) = HasNoInstance exact old new (read_fault.Refused refusal)
-HasCause exact old new _ = ⊥
-
--- the same of bytes that were read
-abbrev pub IsRefusal : Bool → List ℕ → Fault → Type 0
-IsRefusal exact bytes (Json at kind) = IsRefused exact bytes (read_fault.Json at kind)
-IsRefusal exact bytes (Refused refusal) = IsRefused exact bytes (read_fault.Refused refusal)
-IsRefusal exact bytes Memory = ⊤
-IsRefusal exact bytes _ = ⊥
+abbrev pub HasCause : ReadOptions → SlotState → SlotState → Fault → Type 0
+HasCause options old new (Read slot.Instance) = HasRisen old.faults new.faults
+HasCause options old new Memory = ⊤
+HasCause options old new (Long slot.Instance) = IsLong most_bytes old new
+HasCause options old new (Json at kind) = HasNoInstance options old new (Json at kind)
+HasCause options old new (Refused refusal) = HasNoInstance options old new (Refused refusal)
+HasCause options old new _ = ⊥
 
 -- the slot wasn't opened, or it was opened by the name, which counts where it tells the one it expects
 abbrev pub IsOpenedByNoOther : List ℕ → SlotState → SlotState → Type 0

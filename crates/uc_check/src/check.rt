@@ -11,12 +11,12 @@ ghost use Rattle.report.specs.ClaimsReport.{claims_report};
 ghost use Rattle.uc_check.specs.Outside.{outside_of};
 ghost use Rattle.uc_check.specs.Writing.{IsTold, FailsToTell};
 ghost use Rattle.uc_check.specs.Checking.{IsAccepting, IsCheckFailure, IsCheckStopped, KeepsToInput, IsCheckRun};
-ghost use Rattle.command_line.specs.Asked.{check_asked};
+ghost use Rattle.command_line.specs.Asked.{check_asked, HasPrices};
 ghost use Rattle.uc_check.specs.inside.Checks.{IsRefusedCert, AreVerifiedClaims};
 
 use crate::certificate::read_certificate;
 use crate::ending::{End, Failure, end_of};
-use crate::input::read_instance;
+use crate::input::{ReadOptions, read_instance};
 use cert_check::{CheckFault, Claims};
 use cert_text::Cert;
 use command_line::Check;
@@ -42,14 +42,20 @@ fn claims_of(alloc: Global, instance: &Instance, cert: &Cert) -> Result<Claims, 
 
 // Reads the instance and the certificate, and checks it.
 fn verify<F: Files>(alloc: Global, asked: &Check, files: &mut F) -> Result<Claims, Fault>
-    requires { AllUnopened (F.state files.old) }
-    ensures verified { IfOk result (AreVerifiedClaims (F.state files.old) (F.state files.new)) }
-    ensures stopped { IfErr result (λ fault. (out err_old err_new : SinkState) → IsCheckStopped
+    requires unopened { AllUnopened (F.state files.old) }
+    requires prices { HasPrices asked.now.shed asked.now.spill_reserve }
+    ensures verified { IfOk result (AreVerifiedClaims (check_asked asked.now) (F.state files.old) (F.state files.new)) }
+    ensures stopped { IfErr result (λ fault. (out err_old err_new : SinkState) → IsCheckStopped (check_asked asked.now)
         (outside_of (F.state files.old) out err_old) (outside_of (F.state files.new) out err_new) fault) }
     ensures files { (out_old out_new err_old err_new : SinkState) → KeepsToInput (check_asked asked.now)
         (outside_of (F.state files.old) out_old err_old) (outside_of (F.state files.new) out_new err_new) }
 {
-    let (instance, _rounded) = read_instance(alloc, files, asked.instance, false)?;
+    let options = ReadOptions {
+        exact: false,
+        shed: asked.shed,
+        spill_reserve: asked.spill_reserve,
+    };
+    let (instance, _rounded) = read_instance(alloc, files, asked.instance, options)?;
     let cert = read_certificate(alloc, files, asked.certificate)?;
     claims_of(alloc, &instance, &cert)
 }
@@ -70,10 +76,11 @@ fn verify_and_tell<F: Files, O: Sink>(
     files: &mut F,
     out: &mut O,
 ) -> Result<End, Failure>
-    requires { AllUnopened (F.state files.old) }
-    ensures done { (err_old err_new : SinkState) → IfOk result (IsAccepting
+    requires unopened { AllUnopened (F.state files.old) }
+    requires prices { HasPrices asked.now.shed asked.now.spill_reserve }
+    ensures done { (err_old err_new : SinkState) → IfOk result (IsAccepting (check_asked asked.now)
         (outside_of (F.state files.old) (O.state out.old) err_old) (outside_of (F.state files.new) (O.state out.new) err_new)) }
-    ensures failed { (err_old err_new : SinkState) → IfErr result (λ f. IsCheckFailure
+    ensures failed { (err_old err_new : SinkState) → IfErr result (λ f. IsCheckFailure (check_asked asked.now)
         (outside_of (F.state files.old) (O.state out.old) err_old) (outside_of (F.state files.new) (O.state out.new) err_new) f.fault f.found) }
     ensures files { (err_old err_new : SinkState) → KeepsToInput (check_asked asked.now)
         (outside_of (F.state files.old) (O.state out.old) err_old) (outside_of (F.state files.new) (O.state out.new) err_new) }
@@ -100,7 +107,8 @@ pub fn check_certificate<F: Files, O: Sink, E: Sink>(
     out: &mut O,
     err: &mut E,
 ) -> End
-    requires { AllUnopened (F.state files.old) }
+    requires unopened { AllUnopened (F.state files.old) }
+    requires prices { HasPrices asked.now.shed asked.now.spill_reserve }
     ensures { IsCheckRun (check_asked asked.now) (outside_of (F.state files.old) (O.state out.old) (E.state err.old))
         (outside_of (F.state files.new) (O.state out.new) (E.state err.new)) result }
 {

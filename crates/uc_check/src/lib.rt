@@ -4,11 +4,11 @@
 mod certificate;
 mod check;
 pub mod ending;
-mod input;
+pub mod input;
 mod output;
 mod slot_bytes;
 
 pub use check::check_certificate;
 pub use ending::{End, Failure, end_of};
-pub use input::read_instance;
+pub use input::{ReadOptions, read_instance};
 pub use output::save;

@@ -11,6 +11,7 @@ pub use Rattle.cert_text.specs.declared.cert.Cert.{Cert}
 use Rattle.cert_check.specs.Answers.{AreClaimsOf}
 use Rattle.cert_check.specs.Refusals.{IsRefusedBy}
 pub use Rattle.cert_check.specs.declared.claims.Claims.{Claims}
+use Rattle.command_line.specs.Command.{Check}
 use Rattle.uc_check.specs.Checking.{Code, Fault, Line, Memory, most_certificate_bytes, HasCertificateCause, IsFaultyAt, IsVerified}
 
 -- the file's bytes, where they are told, are at most as many as are read, and the text of what was read
@@ -38,8 +39,8 @@ IsRefusedCert instance cert Memory = Unit {0}
 IsRefusedCert instance cert _ = ⊥
 
 -- the claims are those of the certificate in the file, which holds; and reading it met no fault
-pub record AreVerifiedClaims (before after : Slot → SlotState) (claims : Claims) : Type 0 where
+pub record AreVerifiedClaims (asked : Check) (before after : Slot → SlotState) (claims : Claims) : Type 0 where
   pub certificate : Certificate
-  pub verified : IsVerified before certificate
+  pub verified : IsVerified asked before certificate
   pub claimed : AreClaimsOf certificate claims
   pub calm : (s : Slot) → (after s).faults ≡ (before s).faults

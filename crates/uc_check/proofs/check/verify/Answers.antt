@@ -1,6 +1,7 @@
 -- A fault of the certificate comes after the instance was read.
 use Rattle.std.proofs.Common.{inr, refl}
 use Rattle.std.proofs.lemmas.Result.{IfErr-weaker}
+use Rattle.command_line.specs.Asked.{check_asked}
 use Rattle.uc_check.proofs.Verdicts.{certificate_fault, handed_up, ok_both, refused_cause, verified}
 use Rattle.uc_check.proofs.check.verify.Goals as goal
 
@@ -9,7 +10,7 @@ returns-in_err-cert-clause-stopped g c =
     let files = g.F.Files.state in
     handed_up c.from_residual-in_err-cert.result c.in_err-cert.field-0.0 _ c.from_residual-in_err-cert.ensures.1 (λ out err_old err_new.
     record {
-      cause = inr (certificate_fault (files c.args.files.now) (files c.read_instance.new.files) (files c.read_certificate.new.files)
+      cause = inr (certificate_fault (check_asked c.args.asked.now) (files c.args.files.now) (files c.read_instance.new.files) (files c.read_certificate.new.files)
           out err_old err_new c.in_ok-instance.instance c.in_ok-instance._rounded c.in_err-cert.field-0.0
           c.in_ok-instance.ensures.read c.in_ok-instance.ensures.others c.in_err-cert.ensures.others c.in_ok-instance.ensures.calm
           (c.in_err-cert.ensures.cause c.in_ok-instance.instance));
@@ -20,7 +21,7 @@ pub returns-clause-verified : goal.returns-clause-verified
 returns-clause-verified g c =
     let files = g.F.Files.state in
     ok_both c.claims_of.result _ _ _ c.claims_of.ensures.accepted c.claims_of.ensures.claim (λ claims.
-    verified (files c.args.files.now) (files c.read_instance.new.files) (files c.read_certificate.new.files)
+    verified (check_asked c.args.asked.now) (files c.args.files.now) (files c.read_instance.new.files) (files c.read_certificate.new.files)
     c.in_ok-instance.instance c.in_ok-instance._rounded c.in_ok-cert.cert claims c.in_ok-instance.ensures.read
     c.in_ok-instance.ensures.others c.in_ok-cert.ensures.others c.in_ok-instance.ensures.calm c.in_ok-cert.ensures.calm
     c.in_ok-cert.ensures.text)
@@ -33,7 +34,7 @@ returns-clause-stopped g c =
     let new = files c.read_certificate.new.files in
     IfErr-weaker c.claims_of.result _ _ (λ fault refused. λ out err_old err_new.
     record {
-      cause = inr (certificate_fault old middle new out err_old err_new c.in_ok-instance.instance c.in_ok-instance._rounded fault
+      cause = inr (certificate_fault (check_asked c.args.asked.now) old middle new out err_old err_new c.in_ok-instance.instance c.in_ok-instance._rounded fault
           c.in_ok-instance.ensures.read c.in_ok-instance.ensures.others c.in_ok-cert.ensures.others c.in_ok-instance.ensures.calm
           (refused_cause old middle new c.in_ok-instance.instance c.in_ok-cert.cert fault c.in_ok-cert.ensures.calm
           c.in_ok-cert.ensures.text refused));

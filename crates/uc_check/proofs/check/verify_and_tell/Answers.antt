@@ -8,7 +8,7 @@ pub returns-in_err-claims-clause-failed : goal.returns-in_err-claims-clause-fail
 returns-in_err-claims-clause-failed g c = λ err_old err_new.
     let fault = c.in_err-claims.field-0.0 in
     handed_up c.from_residual.result (record { fault = fault; found = None }) _ c.from_residual.ensures.1
-    (stopped_failure _ _ fault (c.in_err-claims.ensures.stopped (g.O.Sink.state c.args.out.now) err_old err_new))
+    (stopped_failure _ _ _ fault (c.in_err-claims.ensures.stopped (g.O.Sink.state c.args.out.now) err_old err_new))
 
 pub returns-in_err-claims-clause-files : goal.returns-in_err-claims-clause-files
 returns-in_err-claims-clause-files g c = λ err_old err_new.

@@ -1,21 +1,30 @@
--- Where the bytes stood for an instance, it would be answered, or memory refused.
-use Rattle.std.proofs.Common.{◌≡◌, ◌∙◌, sym, subst}
-use Rattle.instance.specs.Bytes.{HasCause}
-use Rattle.instance.specs.declared.from_bytes.ReadFault.TheVariants.{Json, Refused, NoMemory}
+-- What was given, and prices that are too high for it.
+use Rattle.std.proofs.Common.{sym, subst}
+use Rattle.std.proofs.lemmas.Result.{IfOk-weaker, IfErr-weaker}
+use Rattle.instance.specs.Bytes.{StandForCounted}
+use Rattle.uc_check.proofs.Prices.{none_given, too_dear_at}
+use Rattle.uc_check.proofs.Verdicts.{handed_up}
 use Rattle.uc_check.proofs.input.instance_of.Goals as goal
 
-pub returns-in-Err-Json-clause-refused : goal.returns-in-Err-Json-clause-refused
-returns-in-Err-Json-clause-refused c = record {
-  none = λ instance stand.
-      let e : Json c.in-Err-Json.at c.in-Err-Json.kind ≡ NoMemory = sym c.in-Err-Json.field-0-is ∙ c.in-Err-Json.ensures.only instance stand in
-      cc;
-  cause = subst (HasCause c.args.exact c.args.bytes.now) c.in-Err-Json.field-0-is c.in-Err-Json.ensures.cause;
-}
+pub returns-in_err-given-clause-refused : goal.returns-in_err-given-clause-refused
+returns-in_err-given-clause-refused c =
+    let fault = c.in_err-given.field-0.0 in
+    handed_up c.from_residual.result fault _ c.from_residual.ensures.1
+    (none_given c.args.options c.args.bytes.now fault c.in_err-given.ensures.refused)
 
-pub returns-in-Err-Refused-clause-refused : goal.returns-in-Err-Refused-clause-refused
-returns-in-Err-Refused-clause-refused c = record {
-  none = λ instance stand.
-      let e : Refused c.in-Err-Refused.refusal ≡ NoMemory = sym c.in-Err-Refused.field-0-is ∙ c.in-Err-Refused.ensures.only instance stand in
-      cc;
-  cause = subst (HasCause c.args.exact c.args.bytes.now) c.in-Err-Refused.field-0-is c.in-Err-Refused.ensures.cause;
-}
+pub returns-clause-read : goal.returns-clause-read
+returns-clause-read c =
+    let given = c.in_ok-given.given in
+    IfOk-weaker c.priced.result _ _ (λ r is. record {
+      given = given.0;
+      stand = subst (StandForCounted c.args.options.exact c.args.bytes.now given.0) (sym is.1) c.in_ok-given.ensures.read;
+      priced = is.0;
+    }) c.priced.ensures.priced
+
+pub returns-clause-refused : goal.returns-clause-refused
+returns-clause-refused c =
+    let given = c.in_ok-given.given in
+    let read = c.in_ok-given.ensures.read in
+    IfErr-weaker c.priced.result _ _
+    (λ fault dear. too_dear_at c.args.options c.args.bytes.now given.0 fault (read.0, read.1, read.2) c.in_ok-given.ensures.only dear)
+    c.priced.ensures.refused
