@@ -9,7 +9,7 @@ use Rattle.report.specs.FoundReport.{found_report}
 use Rattle.command_line.specs.Command.{Solve}
 use Rattle.uc_check.specs.Outside.{outside_of}
 use Rattle.uc_check.specs.Reading.{HasCause}
-use Rattle.uc_cli.specs.Run.{Fault, Instance, Slot, Write, IsAnswer, IsDone, IsFailure, IsUnsaved, IsUntold}
+use Rattle.uc_cli.specs.Run.{Fault, Instance, Slot, Write, solve_options, IsAnswer, IsDone, IsFailure, IsUnsaved, IsUntold}
 use Rattle.branch_tree.specs.declared.found.Found.{Found}
 
 -- the certificate's slot is as it was before the instance was read
@@ -18,7 +18,7 @@ certificate_same f g same = same slot.CertOut (λ e. cc)
 
 -- a fault before anything was written
 pub stopped : (asked : Solve) (f g : Slot → SlotState) (out err_old err_new : SinkState) (fault : Fault)
-    → HasCause asked.exact (f slot.Instance) (g slot.Instance) fault → SameBut slot.Instance f g
+    → HasCause (solve_options asked) (f slot.Instance) (g slot.Instance) fault → SameBut slot.Instance f g
     → IsFailure asked (outside_of f out err_old) (outside_of g out err_new) fault None
 stopped asked f g out err_old err_new (Write _) cause same = absurd cause
 stopped asked f g out err_old err_new fault cause same =

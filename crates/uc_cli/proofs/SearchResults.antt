@@ -19,7 +19,7 @@ use Rattle.command_line.specs.Command.{Solve}
 use Rattle.uc_check.specs.Reading.{HasInstance}
 use Rattle.uc_check.specs.Checking.{IsScheduleTrue}
 use Rattle.uc_cli.specs.DemoRun.{Found, IsDemoAnswer}
-use Rattle.uc_cli.specs.Run.{Instance, IsAnswer}
+use Rattle.uc_cli.specs.Run.{Instance, solve_options, IsAnswer}
 use Rattle.uc_cli.proofs.ScheduleTexts.{has_schedule_text}
 use Rattle.uc_check.proofs.Verdicts.{schedule_true}
 
@@ -40,7 +40,7 @@ text_of instance budget gap found lawful result writable =
     (All-weaker HasFewRows (λ (table : Table). length table.ramps < 10 ^ 18) countable (written_tables found) writable.tables)
 
 pub answered : (asked : Solve) (file : SlotState) (instance : Instance) (rounded : ℕ) (found : Found) → IsLawfulInstance instance
-    → HasInstance asked.exact file instance rounded → IsSearchResult instance asked.units asked.gap found → IsWritable instance found
+    → HasInstance (solve_options asked) file instance rounded → IsSearchResult instance asked.units asked.gap found → IsWritable instance found
     → IsAnswer asked file instance rounded found
 answered asked file instance rounded found lawful read result writable = record {
   read = read;

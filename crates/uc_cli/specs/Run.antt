@@ -1,6 +1,6 @@
 -- What a run of the program did, by how it ended: its exit status, what it leaves on the outside, and what it tells
 -- on the error output. This project's own.
-use Rattle.std.specs.Prelude.{◌≡◌, ℕ, Bool, true, false, Option, Some, None}
+use Rattle.std.specs.Prelude.{◌≡◌, ℕ, true, false, Option, Some, None}
 pub use Rattle.uc_model.specs.declared.instance.Instance.{Instance}
 use Rattle.dual_model.specs.Laws.{IsClaimTrue}
 pub use Rattle.outside.specs.declared.slot.Slot.{Slot}
@@ -19,18 +19,22 @@ pub use Rattle.report.specs.declared.fault.Fault.{Fault}
 pub use Rattle.report.specs.declared.fault.Fault.TheVariants.{Words, Write, Memory}
 use Rattle.uc_check.specs.Outside.{Outside}
 use Rattle.command_line.specs.Command.{Solve, Command, Solves, Checks, Demos}
-use Rattle.uc_check.specs.Reading.{most_bytes, HasInstance, HasCause, IsOpenedByNoOther, IsOnlyRead}
+use Rattle.uc_check.specs.Reading.{ReadOptions, most_bytes, HasInstance, HasCause, IsOpenedByNoOther, IsOnlyRead}
 use Rattle.uc_check.specs.Checking.{IsCheckRun, IsScheduleTrue}
 use Rattle.uc_check.specs.Ending.{Ends, IsFaulty}
 use Rattle.uc_cli.specs.DemoRun.{IsDemoRun}
 use Rattle.uc_check.specs.Writing.{text_of_certificate, IsSaved, FailsToSave, IsTold, FailsToTell}
 use Rattle.uc_check.specs.declared.ending.End.{End}
 
+-- how the instance is read: with these prices of shortages, and where it is asked, a rounded number is refused
+abbrev pub solve_options : Solve → ReadOptions
+solve_options asked = record { exact = asked.exact; shed = asked.shed; spill_reserve = asked.spill_reserve }
+
 -- an answer for the instance in the file: what was found, with the budget and at the gap that are asked; that its schedule obeys and
 -- costs at most what is printed; that its bound, or that there is no schedule, is true of every schedule; and that its certificate has
 -- a text of the grammar
 pub record IsAnswer (asked : Solve) (file : SlotState) (instance : Instance) (rounded : ℕ) (found : Found) : Type 0 where
-  pub read : HasInstance asked.exact file instance rounded
+  pub read : HasInstance (solve_options asked) file instance rounded
   pub search : IsSearchResult instance asked.units asked.gap found
   pub schedule : (written : WrittenSchedule) → written_of found.schedule ≡ Some written → IsScheduleTrue instance written
   pub claim : IsClaimTrue instance (tree_bound found.tree)
@@ -62,8 +66,8 @@ pub record IsUntold (asked : Solve) (before after : Outside) (found : Found) : T
   pub report : FailsToTell (found_report has.instance found has.rounded asked.gap) before.out after.out
 
 -- a fault ended the run before anything was written
-pub record IsStopped (exact : Bool) (before after : Outside) (fault : Fault) : Type 0 where
-  pub cause : HasCause exact (before.files slot.Instance) (after.files slot.Instance) fault
+pub record IsStopped (asked : Solve) (before after : Outside) (fault : Fault) : Type 0 where
+  pub cause : HasCause (solve_options asked) (before.files slot.Instance) (after.files slot.Instance) fault
   pub certificate : after.files slot.CertOut ≡ before.files slot.CertOut
   pub out : after.out ≡ before.out
 
@@ -71,7 +75,7 @@ pub record IsStopped (exact : Bool) (before after : Outside) (fault : Fault) : T
 abbrev pub IsFailure : Solve → Outside → Outside → Fault → Option Found → Type 0
 IsFailure asked before after (Write false) (Some found) = IsUnsaved asked before after found
 IsFailure asked before after (Write true) (Some found) = IsUntold asked before after found
-IsFailure asked before after fault None = IsStopped asked.exact before after fault
+IsFailure asked before after fault None = IsStopped asked before after fault
 IsFailure asked before after fault (Some found) = ⊥
 
 -- each slot that isn't unopened was opened by its name in the words; the instance is only read, and no certificate is

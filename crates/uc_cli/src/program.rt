@@ -21,8 +21,8 @@ use uc_check::{End, Failure, check_certificate, end_of};
 /// The status of `solve` and `demo` is 0 where a schedule was printed whose cost is within the gap of the bound, 1 where the cost of the
 /// one printed is above, 2 where a bound was printed and no schedule was found, and 3 where none exists; that of `check` is 0
 /// where the certificate holds for the instance, and 9 where it doesn't, is no certificate's text or has more than 2^46
-/// bytes. It is 4 where the instance's bytes stand for no instance or are more than 2^26, 5 where the command-line parser
-/// doesn't take the words, 6 where reading the instance or the certificate failed, 7 where writing the certificate or
+/// bytes. It is 4 where the instance's bytes stand for no instance or are more than 2^26, or the prices of shortages are too high
+/// for it, 5 where the command-line parser doesn't take the words, 6 where reading the instance or the certificate failed, 7 where writing the certificate or
 /// the report failed, and 8 where memory was refused.
 pub fn uc<R: Threads + Wait + Sync, F: Files, O: Sink, E: Sink, G: Gate + Sync>(
     rt: &R,

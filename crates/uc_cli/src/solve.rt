@@ -9,8 +9,8 @@ ghost use Rattle.uc_check.specs.Reading.{most_bytes, HasCause, IsOpenedByNoOther
 ghost use Rattle.uc_check.specs.Outside.{outside_of};
 ghost use Rattle.uc_check.specs.Writing.{IsTold, FailsToTell};
 ghost use Rattle.report.specs.FoundReport.{found_report};
-ghost use Rattle.uc_cli.specs.Run.{Slot, IsAnswer, IsSolved, IsFailure, KeepsToFiles, IsSolveRun};
-ghost use Rattle.command_line.specs.Asked.{solve_asked};
+ghost use Rattle.uc_cli.specs.Run.{Slot, solve_options, IsAnswer, IsSolved, IsFailure, KeepsToFiles, IsSolveRun};
+ghost use Rattle.command_line.specs.Asked.{solve_asked, HasPrices};
 
 use branch_tree::Found;
 use command_line::Solve;
@@ -19,7 +19,7 @@ use report::{Fault, write_found};
 use search_core::limits::MAX_BUDGET;
 use std::alloc::Global;
 use std::sync::Wait;
-use uc_check::{End, Failure, end_of, read_instance, save};
+use uc_check::{End, Failure, ReadOptions, end_of, read_instance, save};
 use uc_model::Instance;
 use uc_model::tolerance::WHOLE_GAP;
 use workers::{Options, search};
@@ -43,14 +43,20 @@ fn find<R: Wait, F: Files, G: Gate>(
     requires unopened { (F.state files.old Slot.Instance).stage ≡ Unopened }
     requires budget { asked.now.units ≤ MAX_BUDGET }
     requires gap { asked.now.gap ≤ WHOLE_GAP }
+    requires prices { HasPrices asked.now.shed asked.now.spill_reserve }
     ensures answer { IfOk result (λ a. IsAnswer (solve_asked asked.now) (F.state files.old slot.Instance) a.instance a.rounded a.found) }
-    ensures cause { IfErr result (HasCause asked.now.exact (F.state files.old slot.Instance) (F.state files.new slot.Instance)) }
+    ensures cause { IfErr result (HasCause (solve_options (solve_asked asked.now)) (F.state files.old slot.Instance) (F.state files.new slot.Instance)) }
     ensures calm { IfOk result (λ _. (F.state files.new slot.Instance).faults ≡ (F.state files.old slot.Instance).faults) }
     ensures named { IsOpenedByNoOther asked.now.instance.now (F.state files.old slot.Instance) (F.state files.new slot.Instance) }
     ensures read { IsOnlyRead most_bytes (F.state files.old slot.Instance) (F.state files.new slot.Instance) }
     ensures others { SameBut slot.Instance (F.state files.old) (F.state files.new) }
 {
-    let (instance, rounded) = read_instance(alloc, files, asked.instance, asked.exact)?;
+    let reading = ReadOptions {
+        exact: asked.exact,
+        shed: asked.shed,
+        spill_reserve: asked.spill_reserve,
+    };
+    let (instance, rounded) = read_instance(alloc, files, asked.instance, reading)?;
     let options = Options {
         budget: asked.units,
         gap: asked.gap,
@@ -85,6 +91,7 @@ fn find_and_write<R: Wait, F: Files, O: Sink, G: Gate>(
     requires unopened { AllUnopened (F.state files.old) }
     requires budget { asked.now.units ≤ MAX_BUDGET }
     requires gap { asked.now.gap ≤ WHOLE_GAP }
+    requires prices { HasPrices asked.now.shed asked.now.spill_reserve }
     ensures done { (err_old err_new : SinkState) → IfOk result (IsSolved (solve_asked asked.now)
         (outside_of (F.state files.old) (O.state out.old) err_old) (outside_of (F.state files.new) (O.state out.new) err_new)) }
     ensures failed { (err_old err_new : SinkState) → IfErr result (λ f. IsFailure (solve_asked asked.now)
@@ -127,6 +134,7 @@ pub(crate) fn solve<R: Wait, F: Files, O: Sink, E: Sink, G: Gate>(
     requires unopened { AllUnopened (F.state files.old) }
     requires budget { asked.now.units ≤ MAX_BUDGET }
     requires gap { asked.now.gap ≤ WHOLE_GAP }
+    requires prices { HasPrices asked.now.shed asked.now.spill_reserve }
     ensures { IsSolveRun (solve_asked asked.now) (outside_of (F.state files.old) (O.state out.old) (E.state err.old))
         (outside_of (F.state files.new) (O.state out.new) (E.state err.new)) result }
 {
