@@ -5,7 +5,7 @@ use Rattle.uc_model.specs.Limits.{IsLimit}
 use Rattle.uc_model.specs.Schedule.{thermal_count, renewable_count}
 use Rattle.uc_model.specs.PrintedSchedule.{LacksNothing, cell_at, shed_at, short_at, printed_denominator, printed_schedule}
 use Rattle.uc_model.proofs.Ring.{linear, le_from_mul, mul-zero}
-use Rattle.uc_model.proofs.Shortages.{shed_parts, short_parts}
+use Rattle.uc_model.proofs.Shortages.{share_is, shed_parts, short_parts}
 use Rattle.uc_model.specs.declared.instance.Instance.{Instance}
 use Rattle.uc_model.specs.declared.schedule.Cell.{Cell}
 use Rattle.uc_model.specs.declared.schedule.Printed.{Printed}
@@ -82,7 +82,7 @@ no_powers (suc n) (z ∷ powers) count none = λ i.
 -- the watts are whole, so the denominator is that of the schedule
 whole_share : (q d : ℕ) (missing : ℤ) → d ≡ 1 → pos (q / d) *ℤ missing ≡ pos 0 → pos q *ℤ missing ≡ pos 0
 whole_share q d missing whole e =
-    let same : q / d ≡ q = ap (λ n. q / n) whole ∙ omega arith in
+    let same : q / d ≡ q = subst (λ n. q / n ≡ q) (sym whole) (share_is q q 1 (omega arith) (omega arith)) in
     ap (λ n. pos n *ℤ missing) (sym same) ∙ e
 
 lacks_nothing : (instance : Instance) (printed : Printed) (cost : ℤ) → IsAccepted instance printed cost
