@@ -12,7 +12,7 @@ use Rattle.dual_model.specs.Cover.{Leaf, Bound, Ray, Empty, IsExcluded, is_bound
 use Rattle.dual_model.specs.Certificate.{Certificate, CertificateHolds, ClaimHolds}
 use Rattle.cert_text.specs.CertificateText.{TreeNode, LeafNode, SplitNode, preorder, IsNodeWithin}
 use Rattle.cert_check.specs.Visits.{Instance, Node, Table, Visit, visits, IsSoundNode, IsSound}
-use Rattle.cert_check.specs.Refusals.{HasSize, ClaimFits, HasClaim}
+use Rattle.cert_check.specs.Refusals.{HasSize, HasPrices, ClaimFits, HasClaim}
 
 -- ---- facts of each element of two lists
 all-left : {A : Type 0} (P : A → Type 0) (xs ys : List A) → All P (xs ++ ys) → All P xs
@@ -90,6 +90,7 @@ holds-from instance c has within all =
       periods = size.periods;
       thermal = size.thermal;
       renewable = size.renewable;
+      penalty = (has.schedule.tables.prices.shed, has.schedule.tables.prices.short);
       tables = has.schedule.tables.tables;
       tree = cover-from instance c.tables c.bound c.periods c.thermal (length c.tables) root c.tree size.periods size.thermal within all;
       schedule = has.schedule.schedule;
@@ -99,6 +100,9 @@ holds-from instance c has within all =
 -- what a certificate that holds meets
 pub size-of : (instance : Instance) (c : Certificate) → CertificateHolds instance c → HasSize instance c
 size-of instance c holds = record { periods = holds.periods; thermal = holds.thermal; renewable = holds.renewable }
+
+pub prices-of : (instance : Instance) (c : Certificate) → CertificateHolds instance c → HasPrices instance c
+prices-of instance c holds = record { shed = holds.penalty.0; short = holds.penalty.1 }
 
 -- no leaf of an excluded tree is a bound
 no-bound : (instance : Instance) (tables : List Table) (place : Node) (tree : Tree Leaf) → EachLeaf (IsExcluded instance tables) place tree → any_leaf is_bound tree ≡ false

@@ -2,7 +2,7 @@
 use Rattle.std.proofs.Common.{◌≡◌, ℕ, suc, ◌||◌, refl, sym, ap, subst, ◌∙◌, List, [], ◌∷◌, length, All, ℤ, Option, Some, None, map, slice_get, append-nil, true≢false}
 use Rattle.std.specs.List.{list_any}
 use Rattle.std.proofs.lemmas.Option.{none-some, same_Some, get_or_from_slice_get, slice_get_within}
-use Rattle.std.proofs.lemmas.List.Elements.{All-get_or}
+use Rattle.std.proofs.lemmas.List.Elements.{All-get_or, All-take}
 use Rattle.uc_model.specs.declared.refusal.Refusal.TheVariants as codes
 use Rattle.uc_model.specs.Rules.{Obeys}
 use Rattle.uc_model.specs.PrintedSchedule.{printed_denominator, printed_schedule}
@@ -14,18 +14,18 @@ use Rattle.dual_model.specs.Cover.{Bound, has_bound}
 use Rattle.dual_model.specs.Certificate.{Certificate, CertificateHolds, WrittenSchedule, ScheduleHolds}
 use Rattle.branch_tree.specs.Claims.{written_of}
 use Rattle.cert_text.specs.CertificateText.{Listing, listing_of, TreeNode, LeafNode, preorder, IsNodeWithin}
-use Rattle.cert_text.specs.TextConditions.{HasText}
+use Rattle.cert_text.specs.TextConditions.{IsTableText, HasText}
 use Rattle.cert_text.specs.Reading.{listing_read, node_of}
 use Rattle.cert_text.specs.declared.cert.CertNode.TheVariants as nodes
 use Rattle.cert_check.specs.Answers.{Cert, Instance, IsRead, cost_of}
 use Rattle.cert_check.specs.Visits.{visits, IsSound}
-use Rattle.cert_check.specs.Refusals.{Refusal, HasSize, HasTables, HasSchedule, ClaimFits, HasClaim, IsFirstUnsound, IsUnsoundAt, IsRefusedBy, refusal_of}
+use Rattle.cert_check.specs.Refusals.{Refusal, HasSize, HasPrices, HasTables, HasSchedule, ClaimFits, HasClaim, IsFirstUnlawful, IsFirstUnsound, IsUnsoundAt, IsRefusedBy, refusal_of}
 use Rattle.cert_check.specs.inside.Nodes.{AreCheckable, IsCodeOf}
-use Rattle.cert_check.specs.inside.Numbers.{HasLawfulNumbers}
+use Rattle.cert_check.specs.inside.Numbers.{HasLawfulNumbers, IsFirstOff}
 use Rattle.cert_check.specs.inside.Schedules.{IsCostOf, IsScheduleFault}
-use Rattle.cert_check.specs.inside.Steps.{CertNode, FitsInstance, ReadClaimFits, is_bound_leaf}
+use Rattle.cert_check.specs.inside.Steps.{CertNode, FitsInstance, ReadsPrices, ReadClaimFits, is_bound_leaf}
 use Rattle.cert_check.specs.inside.Walks.{walk, all_visits}
-use Rattle.cert_check.proofs.Certificates.{is_bound_node, any-preorder, holds-from, size-of, fits-of, sound-of}
+use Rattle.cert_check.proofs.Certificates.{is_bound_node, any-preorder, holds-from, size-of, prices-of, fits-of, sound-of}
 use Rattle.cert_check.proofs.Pending.{walk-preorder}
 use Rattle.cert_check.proofs.TextFacts.{lawful-table}
 
@@ -36,7 +36,7 @@ Listed c cert = listing_of c ≡ listing_read cert
 pub text-of : (c : Certificate) (cert : Cert) → Listed c cert → IsRead cert → HasText (listing_of c)
 text-of c cert e read = subst HasText (read.listed ∙ sym e) read.conditions
 
--- ---- size, tables
+-- ---- size, prices, tables
 pub size-from : (instance : Instance) (c : Certificate) (cert : Cert) → Listed c cert → FitsInstance instance cert → HasSize instance c
 size-from instance c cert e fits = record {
   periods = ap (λ (l : Listing). l.periods) e ∙ fits.periods;
@@ -51,6 +51,18 @@ fits-from instance c cert e size = record {
   renewable = sym (ap (λ (l : Listing). l.renewable) e) ∙ size.renewable;
 }
 
+pub prices-from : (instance : Instance) (c : Certificate) (cert : Cert) → Listed c cert → ReadsPrices instance cert → HasPrices instance c
+prices-from instance c cert e reads = record {
+  shed = ap (λ (l : Listing). l.a) e ∙ reads.shed;
+  short = ap (λ (l : Listing). l.b) e ∙ reads.short;
+}
+
+pub reads-from : (instance : Instance) (c : Certificate) (cert : Cert) → Listed c cert → HasPrices instance c → ReadsPrices instance cert
+reads-from instance c cert e prices = record {
+  shed = sym (ap (λ (l : Listing). l.a) e) ∙ prices.shed;
+  short = sym (ap (λ (l : Listing). l.b) e) ∙ prices.short;
+}
+
 tables-is : (c : Certificate) (cert : Cert) → Listed c cert → c.tables ≡ cert.tables
 tables-is c cert e = ap (λ (l : Listing). l.tables) e
 
@@ -62,9 +74,12 @@ lawful-from instance c cert e read fits numbers =
     λ k d h. lawful-table instance c.periods c.thermal _ size.periods size.thermal ((text-of c cert e read).tables k d h) (own k d h)
 
 pub tables-from : (instance : Instance) (c : Certificate) (cert : Cert) → Listed c cert → IsRead cert → FitsInstance instance cert
-    → All HasLawfulNumbers cert.tables → HasTables instance c
-tables-from instance c cert e read fits numbers =
-    record { size = size-from instance c cert e fits; tables = lawful-from instance c cert e read fits numbers }
+    → ReadsPrices instance cert → All HasLawfulNumbers cert.tables → HasTables instance c
+tables-from instance c cert e read fits reads numbers = record {
+  size = size-from instance c cert e fits;
+  prices = prices-from instance c cert e reads;
+  tables = lawful-from instance c cert e read fits numbers;
+}
 
 -- ---- the schedule
 pub schedule-is : (c : Certificate) (cert : Cert) → Listed c cert → c.schedule ≡ written_of cert.schedule
@@ -76,9 +91,9 @@ costs-hold instance None cost is written e = absurd (none-some written e)
 costs-hold instance (Some own) cost is written e = subst (λ w. ScheduleHolds instance w) (same_Some own written e) is.0
 
 pub schedule-from : (instance : Instance) (c : Certificate) (cert : Cert) → Listed c cert → IsRead cert → FitsInstance instance cert
-    → All HasLawfulNumbers cert.tables → (cost : Option ℤ) → IsCostOf instance (written_of cert.schedule) cost → HasSchedule instance c
-schedule-from instance c cert e read fits numbers cost is = record {
-  tables = tables-from instance c cert e read fits numbers;
+    → ReadsPrices instance cert → All HasLawfulNumbers cert.tables → (cost : Option ℤ) → IsCostOf instance (written_of cert.schedule) cost → HasSchedule instance c
+schedule-from instance c cert e read fits reads numbers cost is = record {
+  tables = tables-from instance c cert e read fits reads numbers;
   schedule = costs-hold instance c.schedule cost (subst (λ o. IsCostOf instance o cost) (sym (schedule-is c cert e)) is);
 }
 
@@ -157,6 +172,31 @@ pub refused-9 : (instance : Instance) (c : Certificate) (cert : Cert) → Listed
     → (¬ HasSize instance c) × (¬ CertificateHolds instance c)
 refused-9 instance c cert e unfit =
     (λ size. unfit (fits-from instance c cert e size), λ holds. unfit (fits-from instance c cert e (size-of instance c holds)))
+
+pub refused-10 : (instance : Instance) (c : Certificate) (cert : Cert) → Listed c cert → FitsInstance instance cert → ¬ ReadsPrices instance cert
+    → IsRefusedBy instance c codes.C10 × (¬ CertificateHolds instance c)
+refused-10 instance c cert e fits other = (
+  (size-from instance c cert e fits, λ prices. other (reads-from instance c cert e prices)),
+  λ holds. other (reads-from instance c cert e (prices-of instance c holds)),
+)
+
+-- the first table with a number that isn't lawful isn't lawful, and those before it are
+pub refused-1 : (instance : Instance) (c : Certificate) (cert : Cert) (i number : ℕ) → Listed c cert → IsRead cert → FitsInstance instance cert
+    → ReadsPrices instance cert → IsFirstOff cert.tables i → number ≡ suc i → IsRefusedBy instance c (codes.C1 number) × (¬ CertificateHolds instance c)
+refused-1 instance c cert i number e read fits reads own n =
+    let size = size-from instance c cert e fits in
+    let off : IsFirstOff c.tables i = subst (λ tables. IsFirstOff tables i) (sym (tables-is c cert e)) own in
+    let texts = All-take (IsTableText c.periods c.thermal) i c.tables (text-of c cert e read).tables in
+    let unlawful : ¬ IsLawfulTable instance off.table = (λ lawful. off.off (record { signs = lawful.signs; limits = lawful.limits })) in
+    let first : IsFirstUnlawful instance c.tables i = record {
+      table = off.table;
+      is_table = off.is_table;
+      unlawful = unlawful;
+      before = λ k d h. lawful-table instance c.periods c.thermal _ size.periods size.thermal (texts k d h) (off.before k d h);
+    } in (
+      (size, prices-from instance c cert e reads, i, n, first),
+      λ holds. not-all (IsLawfulTable instance) c.tables i off.table off.is_table unlawful holds.tables,
+    )
 
 pub refused-schedule : (instance : Instance) (c : Certificate) (schedule : Option WrittenSchedule) (code : Refusal) → HasTables instance c → c.schedule ≡ schedule
     → IsScheduleFault instance schedule code → IsRefusedBy instance c code × (¬ CertificateHolds instance c)

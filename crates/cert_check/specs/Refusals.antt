@@ -1,5 +1,5 @@
--- Why a certificate does not hold for an instance: the first code in the order C9, C1, C2, C3, C8, and then C4 to C7 node
--- by node in preorder. Source: this project's own format.
+-- Why a certificate does not hold for an instance: the first code in the order C9, C10, C1, C2, C3, C8, and then C4 to C7
+-- node by node in preorder. Source: this project's own format.
 --
 -- Tables and nodes count from 1 in the codes, units and periods from 0.
 use Rattle.std.specs.Prelude.{◌≡◌, ◌≢◌, ℕ, suc, false, List, ℤ, Option, Some, None, IsTrue, All, take, slice_get}
@@ -23,9 +23,15 @@ pub record HasSize (instance : Instance) (c : Certificate) : Type 0 where
   pub thermal : c.thermal ≡ thermal_count instance
   pub renewable : c.renewable ≡ renewable_count instance
 
--- the tables are lawful besides
+-- the prices of shortages are the instance's
+pub record HasPrices (instance : Instance) (c : Certificate) : Type 0 where
+  pub shed : c.a ≡ instance.a
+  pub short : c.b ≡ instance.b
+
+-- the size and the prices are the instance's, and the tables are lawful
 pub record HasTables (instance : Instance) (c : Certificate) : Type 0 where
   pub size : HasSize instance c
+  pub prices : HasPrices instance c
   pub tables : All (IsLawfulTable instance) c.tables
 
 -- a schedule, if there is one, obeys and costs what is written besides
@@ -101,7 +107,8 @@ pub record IsUnsoundAt (instance : Instance) (c : Certificate) (code : Refusal) 
 -- the certificate is refused by the code
 abbrev pub IsRefusedBy : Instance → Certificate → Refusal → Type 0
 IsRefusedBy instance c codes.C9 = ¬ HasSize instance c
-IsRefusedBy instance c (codes.C1 table) = HasSize instance c × (i : ℕ) × (table ≡ suc i) × IsFirstUnlawful instance c.tables i
+IsRefusedBy instance c codes.C10 = HasSize instance c × (¬ HasPrices instance c)
+IsRefusedBy instance c (codes.C1 table) = HasSize instance c × HasPrices instance c × (i : ℕ) × (table ≡ suc i) × IsFirstUnlawful instance c.tables i
 IsRefusedBy instance c (codes.C2 rule unit period) = BreaksRule instance c rule unit period
 IsRefusedBy instance c (codes.C3 written computed) = MissesCost instance c written computed
 IsRefusedBy instance c codes.C8 = HasSchedule instance c × (¬ ClaimFits c c.bound)

@@ -5,7 +5,7 @@ ghost use Rattle.std.specs.List.{list_any};
 ghost use Rattle.uc_model.specs.Limits.{IsLawfulInstance};
 ghost use Rattle.dual_model.specs.Laws.{IsClaimTrue};
 ghost use Rattle.cert_check.specs.Answers.{IsAccepted, IsFaultOf, IsRead, is_none};
-ghost use Rattle.cert_check.specs.inside.Steps.{FitsInstance, ReadClaimFits, is_bound_leaf};
+ghost use Rattle.cert_check.specs.inside.Steps.{FitsInstance, ReadsPrices, ReadClaimFits, is_bound_leaf};
 
 use crate::claims::{CheckFault, Claims};
 use crate::leaves::first_unsound;
@@ -15,8 +15,8 @@ use cert_text::{Cert, CertNode};
 use std::alloc::Global;
 use uc_model::{Instance, Refusal};
 
-/// What the certificate claims, where it holds for the instance; else the first code of the order C9, C1, C2, C3, C8, and
-/// then C4 to C7 node by node in preorder, or `NoMemory` where memory is refused.
+/// What the certificate claims, where it holds for the instance; else the first code of the order C9, C10, C1, C2, C3,
+/// C8, and then C4 to C7 node by node in preorder, or `NoMemory` where memory is refused.
 pub fn check(alloc: Global, instance: &Instance, cert: &Cert) -> Result<Claims, CheckFault>
     requires lawful { IsLawfulInstance instance.now }
     requires text { IsRead cert.now }
@@ -26,6 +26,9 @@ pub fn check(alloc: Global, instance: &Instance, cert: &Cert) -> Result<Claims, 
 {
     if !fits_instance(instance, cert) {
         return Err(CheckFault::Refused(Refusal::C9));
+    }
+    if !reads_prices(instance, cert) {
+        return Err(CheckFault::Refused(Refusal::C10));
     }
     if let Some(i) = first_off(cert.tables.as_slice()) {
         return Err(CheckFault::Refused(Refusal::C1 {
@@ -67,6 +70,13 @@ fn fits_instance(instance: &Instance, cert: &Cert) -> bool
     cert.periods == instance.periods
         && cert.thermal as usize == instance.thermal.as_slice().len()
         && cert.renewable as usize == instance.renewable.as_slice().len()
+}
+
+// Whether the prices of shortages are the instance's.
+fn reads_prices(instance: &Instance, cert: &Cert) -> bool
+    ensures { IsTrue result ↔ ReadsPrices instance.now cert.now }
+{
+    cert.a == instance.a && cert.b == instance.b
 }
 
 // Whether the claim fits the schedule and the leaves.

@@ -25,3 +25,4 @@ IsScheduleFault instance (Some written) (codes.C6 node) = ⊥
 IsScheduleFault instance (Some written) (codes.C7 node) = ⊥
 IsScheduleFault instance (Some written) codes.C8 = ⊥
 IsScheduleFault instance (Some written) codes.C9 = ⊥
+IsScheduleFault instance (Some written) codes.C10 = ⊥

@@ -14,6 +14,11 @@ pub record FitsInstance (instance : Instance) (cert : Cert) : Type 0 where
   pub thermal : cert.thermal ≡ thermal_count instance
   pub renewable : cert.renewable ≡ renewable_count instance
 
+-- and the prices read are
+pub record ReadsPrices (instance : Instance) (cert : Cert) : Type 0 where
+  pub shed : cert.a ≡ instance.a
+  pub short : cert.b ≡ instance.b
+
 -- a node that is a leaf with a bound
 abbrev pub is_bound_leaf : CertNode → Bool
 is_bound_leaf (nodes.Split g t) = false

@@ -1,17 +1,28 @@
 -- Each step says what it says of any certificate that has the listing that was read.
-use Rattle.std.proofs.Common.{All, sym, ap, subst, ◌∙◌, true≢false}
+use Rattle.std.proofs.Common.{◌+◌, arith, All, sym, ap, subst, ◌∙◌, true≢false}
 use Rattle.dual_model.specs.Laws.{IsClaimTrue}
 use Rattle.dual_model.proofs.Covers.{certificates_claim_truly}
 use Rattle.branch_tree.specs.Claims.{written_of}
 use Rattle.cert_check.specs.Answers.{is_none}
 use Rattle.cert_check.specs.inside.Nodes.{IsFirstCode}
-use Rattle.cert_check.specs.inside.Numbers.{HasLawfulNumbers}
-use Rattle.cert_check.proofs.Listed.{checkable, tables-from, schedule-from, claim-fits, refused-schedule, refused-8, refused-9, refused-node, accepted, cost-is, bound-is, schedule-is}
+use Rattle.cert_check.specs.inside.Numbers.{HasLawfulNumbers, IsFirstOff}
+use Rattle.cert_check.proofs.Listed.{checkable, tables-from, schedule-from, claim-fits, refused-schedule, refused-1, refused-8, refused-9, refused-10, refused-node, accepted, cost-is, bound-is, schedule-is}
 use Rattle.cert_check.proofs.certificate.check.Goals as goal
 
 pub returns-then-not-fits_instance-clause-refused : goal.returns-then-not-fits_instance-clause-refused
 returns-then-not-fits_instance-clause-refused c = λ d e.
     refused-9 c.args.instance.now d c.args.cert.now e (λ fits. true≢false (sym (c.fits_instance.ensures.1 fits) ∙ c.if-not-fits_instance.true))
+
+pub returns-then-not-reads_prices-clause-refused : goal.returns-then-not-reads_prices-clause-refused
+returns-then-not-reads_prices-clause-refused c = λ d e.
+    refused-10 c.args.instance.now d c.args.cert.now e (c.fits_instance.ensures.0 c.if-not-fits_instance.false)
+    (λ reads. true≢false (sym (c.reads_prices.ensures.1 reads) ∙ c.if-not-reads_prices.true))
+
+pub returns-in-Some-clause-refused : goal.returns-in-Some-clause-refused
+returns-in-Some-clause-refused c = λ d e.
+    refused-1 c.args.instance.now d c.args.cert.now c.in-Some.i (c.in-Some.i + 1) e c.requires.text (c.fits_instance.ensures.0 c.if-not-fits_instance.false)
+    (c.reads_prices.ensures.0 c.if-not-reads_prices.false)
+    (subst (λ tables. IsFirstOff tables c.in-Some.i) c.as_slice.ensures c.in-Some.ensures) (omega arith)
 
 pub first_unsound-requires-clause-checkable : goal.first_unsound-requires-clause-checkable
 first_unsound-requires-clause-checkable c =
@@ -21,23 +32,26 @@ first_unsound-requires-clause-checkable c =
 pub returns-in-Err-clause-refused : goal.returns-in-Err-clause-refused
 returns-in-Err-clause-refused c = λ d e.
     let fits = c.fits_instance.ensures.0 c.if-not-fits_instance.false in
+    let reads = c.reads_prices.ensures.0 c.if-not-reads_prices.false in
     let numbers = subst (λ tables. All HasLawfulNumbers tables) c.as_slice.ensures c.in_default.ensures in
     refused-schedule c.args.instance.now d (written_of c.args.cert.now.schedule) c.in-Err.code
-    (tables-from c.args.instance.now d c.args.cert.now e c.requires.text fits numbers) (schedule-is d c.args.cert.now e) c.in-Err.ensures.refused
+    (tables-from c.args.instance.now d c.args.cert.now e c.requires.text fits reads numbers) (schedule-is d c.args.cert.now e) c.in-Err.ensures.refused
 
 pub returns-then-not-does_claim_fit-clause-refused : goal.returns-then-not-does_claim_fit-clause-refused
 returns-then-not-does_claim_fit-clause-refused c = λ d e.
     let fits = c.fits_instance.ensures.0 c.if-not-fits_instance.false in
+    let reads = c.reads_prices.ensures.0 c.if-not-reads_prices.false in
     let numbers = subst (λ tables. All HasLawfulNumbers tables) c.as_slice.ensures c.in_default.ensures in
     refused-8 c.args.instance.now d c.args.cert.now e
-    (schedule-from c.args.instance.now d c.args.cert.now e c.requires.text fits numbers c.in-Ok.cost c.in-Ok.ensures.cost)
+    (schedule-from c.args.instance.now d c.args.cert.now e c.requires.text fits reads numbers c.in-Ok.cost c.in-Ok.ensures.cost)
     (λ claim. true≢false (sym (c.does_claim_fit.ensures.1 claim) ∙ c.if-not-does_claim_fit.true))
 
 pub returns-in-Ok-Some-clause-refused : goal.returns-in-Ok-Some-clause-refused
 returns-in-Ok-Some-clause-refused c = λ d e.
     let fits = c.fits_instance.ensures.0 c.if-not-fits_instance.false in
+    let reads = c.reads_prices.ensures.0 c.if-not-reads_prices.false in
     let numbers = subst (λ tables. All HasLawfulNumbers tables) c.as_slice.ensures c.in_default.ensures in
-    let schedule = schedule-from c.args.instance.now d c.args.cert.now e c.requires.text fits numbers c.in-Ok.cost c.in-Ok.ensures.cost in
+    let schedule = schedule-from c.args.instance.now d c.args.cert.now e c.requires.text fits reads numbers c.in-Ok.cost c.in-Ok.ensures.cost in
     let claim = claim-fits d c.args.cert.now e (c.does_claim_fit.ensures.0 c.if-not-does_claim_fit.false) in
     refused-node c.args.instance.now d c.args.cert.now c.in-Ok-Some.code e (record { schedule = schedule; claim = claim })
     (subst (λ found. IsFirstCode c.args.instance.now c.args.cert.now found) c.in-Ok-Some.field-0-is c.in-Ok-Some.ensures)
@@ -45,10 +59,11 @@ returns-in-Ok-Some-clause-refused c = λ d e.
 pub returns-in-Ok-None-clause-holds : goal.returns-in-Ok-None-clause-holds
 returns-in-Ok-None-clause-holds c =
     let fits = c.fits_instance.ensures.0 c.if-not-fits_instance.false in
+    let reads = c.reads_prices.ensures.0 c.if-not-reads_prices.false in
     let numbers = subst (λ tables. All HasLawfulNumbers tables) c.as_slice.ensures c.in_default.ensures in
     record {
       holds = λ d e.
-          let schedule = schedule-from c.args.instance.now d c.args.cert.now e c.requires.text fits numbers c.in-Ok.cost c.in-Ok.ensures.cost in
+          let schedule = schedule-from c.args.instance.now d c.args.cert.now e c.requires.text fits reads numbers c.in-Ok.cost c.in-Ok.ensures.cost in
           let claim = claim-fits d c.args.cert.now e (c.does_claim_fit.ensures.0 c.if-not-does_claim_fit.false) in
           accepted c.args.instance.now d c.args.cert.now e c.requires.text (record { schedule = schedule; claim = claim })
           (subst (λ found. IsFirstCode c.args.instance.now c.args.cert.now found) c.in-Ok-None.field-0-is c.in-Ok-None.ensures);
@@ -62,10 +77,11 @@ returns-in-Ok-None-clause-holds c =
 pub returns-in-Ok-None-clause-claims : goal.returns-in-Ok-None-clause-claims
 returns-in-Ok-None-clause-claims c =
     let fits = c.fits_instance.ensures.0 c.if-not-fits_instance.false in
+    let reads = c.reads_prices.ensures.0 c.if-not-reads_prices.false in
     let numbers = subst (λ tables. All HasLawfulNumbers tables) c.as_slice.ensures c.in_default.ensures in
     let d = c.requires.text.certificate in
     let e = c.requires.text.listed in
-    let schedule = schedule-from c.args.instance.now d c.args.cert.now e c.requires.text fits numbers c.in-Ok.cost c.in-Ok.ensures.cost in
+    let schedule = schedule-from c.args.instance.now d c.args.cert.now e c.requires.text fits reads numbers c.in-Ok.cost c.in-Ok.ensures.cost in
     let claim = claim-fits d c.args.cert.now e (c.does_claim_fit.ensures.0 c.if-not-does_claim_fit.false) in
     subst (λ b. IsClaimTrue c.args.instance.now b) (bound-is d c.args.cert.now e)
     (certificates_claim_truly c.args.instance.now d c.requires.lawful
