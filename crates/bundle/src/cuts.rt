@@ -55,7 +55,8 @@ pub struct Cut {
 /// The cuts, and the products of their slopes over the prices that move freely; how many prices may be below 0, which come first; how many
 /// act on the whole system, which are these and as many after them, and then on each unit whose ramps can bind; by how much slopes are
 /// enlarged: those of the system, by 1, and then those of each such unit; the watts of a unit of slopes; the stride, in parts of `PART`;
-/// and the most cuts that are kept.
+/// the most cuts that are kept; a price that is held; and how high the prices that may be below 0, and the others that act on the whole
+/// system, may rise.
 #[derive(Drop)]
 pub struct Bundle {
     cuts: Vec<Cut>,
@@ -67,6 +68,7 @@ pub struct Bundle {
     stride: i64,
     most: usize,
     held: Option<usize>,
+    caps: (i64, i64),
 }
 
 /// A move of each price, those that aren't 0 by their places, and by how much the bound rises at most with them.
@@ -100,6 +102,7 @@ impl Bundle {
             unit: slope_unit(instance),
             stride: 1,
             held: None,
+            caps: (i64::MAX, i64::MAX),
             most: if units.saturating_mul(periods) <= MANY_CELLS {
                 MOST_CUTS
             } else {
@@ -118,6 +121,27 @@ impl Bundle {
     /// Holds a price where it is: slopes in it count as 0.
     pub fn hold(&mut self, place: usize) {
         self.held = Some(place);
+    }
+
+    /// Keeps the prices that may be below 0 and the others that act on the whole system at these caps or below them.
+    pub fn cap(&mut self, first: i64, second: i64) {
+        self.caps = (first, second);
+    }
+
+    // How high price i may rise. One that is held stays where it is.
+    fn cap_of(&self, i: usize) -> i64 {
+        if i >= self.system || self.held == Some(i) {
+            i64::MAX
+        } else if i < self.free {
+            self.caps.0
+        } else {
+            self.caps.1
+        }
+    }
+
+    // Whether price i may not go on from there: it is at its cap, or at 0 where it may not be below that.
+    fn is_at_end(&self, i: usize, price: i64) -> bool {
+        price == self.cap_of(i) || (i >= self.free && price == 0)
     }
 
     /// Whether few cuts are kept.
@@ -170,7 +194,7 @@ impl Bundle {
         for _ in 0..PASSES {
             self.balance(alloc, center, &moves, size)?;
             let next = self.moves(alloc, center)?;
-            let same = are_same_bounds(center, &moves, &next);
+            let same = self.are_same_bounds(center, &moves, &next);
             moves = next;
             if same {
                 break;
@@ -185,7 +209,8 @@ impl Bundle {
         })
     }
 
-    // The move by the weights, that of a price which would end at or below 0, where it may not, being to 0.
+    // The move by the weights, that of a price which would end at or below 0, where it may not, being to 0, and that of one which would end
+    // at or above its cap to that.
     fn moves(&self, alloc: Global, center: &[i64]) -> Result<Vec<i64>, NoMemory> {
         let sums = self.sums(alloc, center.len())?;
         let mut moves = Vec::new(alloc);
@@ -201,6 +226,8 @@ impl Bundle {
         let by = narrow(times(self.stride, mean) / i128::from(WHOLE));
         if i >= self.free && price.saturating_add(by) <= 0 {
             price.saturating_neg()
+        } else if price.saturating_add(by) >= self.cap_of(i) {
+            self.cap_of(i).saturating_sub(price)
         } else {
             by
         }
@@ -267,13 +294,26 @@ impl Bundle {
         Ok(heights)
     }
 
-    // Which prices don't end at 0.
+    // Which prices end neither at 0, where they may not be below it, nor at their caps.
     fn active(&self, alloc: Global, center: &[i64], moves: &[i64]) -> Result<Vec<bool>, NoMemory> {
         let mut active = Vec::new(alloc);
         for (i, price) in center.iter().enumerate() {
-            active.push(i < self.free || price.saturating_add(at(moves, i)) != 0)?;
+            active.push(!self.is_at_end(i, price.saturating_add(at(moves, i))))?;
         }
         Ok(active)
+    }
+
+    // Whether nearly the same prices end at 0 or at their caps.
+    fn are_same_bounds(&self, center: &[i64], first: &[i64], second: &[i64]) -> bool {
+        let mut changed: usize = 0;
+        for (i, (price, (a, b))) in center.iter().zip(first.iter().zip(second)).enumerate() {
+            let (one, other) = (price.saturating_add(*a), price.saturating_add(*b));
+            let cap = self.cap_of(i);
+            if (one == 0) != (other == 0) || (one == cap) != (other == cap) {
+                changed = changed.saturating_add(1);
+            }
+        }
+        changed.saturating_mul(10_000) <= center.len()
     }
 
     // The ends by these heights.
@@ -603,15 +643,4 @@ fn moved(alloc: Global, moves: &[i64]) -> Result<Vec<(usize, i64)>, NoMemory> {
 // What a product of slopes is worth over such a reach: the stride, in units of slopes.
 fn along(product: i64, reach: i64) -> i128 {
     times(product, reach) / i128::from(PART)
-}
-
-// Whether nearly the same prices end at 0.
-fn are_same_bounds(center: &[i64], first: &[i64], second: &[i64]) -> bool {
-    let mut changed: usize = 0;
-    for (price, (a, b)) in center.iter().zip(first.iter().zip(second)) {
-        if (price.saturating_add(*a) == 0) != (price.saturating_add(*b) == 0) {
-            changed = changed.saturating_add(1);
-        }
-    }
-    changed.saturating_mul(10_000) <= center.len()
 }
