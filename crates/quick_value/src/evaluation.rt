@@ -1,6 +1,7 @@
 //! What an evaluation finds, and how units add to it.
 
 use crate::amounts::{behind, number_at, times};
+use crate::caps::Caps;
 use crate::outputs::Output;
 use crate::unit::Unit;
 use std::alloc::Global;
@@ -51,6 +52,7 @@ pub(crate) fn of_system(
     alloc: Global,
     instance: &Instance,
     renewables: &[Range],
+    caps: Caps,
     prices: &[i64],
 ) -> Result<Evaluation, NoMemory> {
     let mut lacks = Vec::new(alloc);
@@ -58,7 +60,10 @@ pub(crate) fn of_system(
     lacks.extend_from_slice(instance.demand.as_slice())?;
     take_renewables(&mut lacks, renewables, prices);
     lacks.extend_from_slice(instance.reserves.as_slice())?;
-    let value = value_of(&lacks, prices);
+    let mut value = value_of(&lacks, prices);
+    if caps.are_any() {
+        value = value.saturating_add(caps.take_missing(instance, prices, &mut lacks));
+    }
     let mut shares = Vec::new(alloc);
     let cells = instance
         .thermal

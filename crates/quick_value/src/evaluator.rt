@@ -3,6 +3,7 @@
 ghost use Rattle.uc_model.specs.Limits.{IsLawfulInstance};
 
 use crate::amounts::PART;
+use crate::caps::Caps;
 use crate::cells::fill;
 use crate::decisions::{Choice, Decisions};
 use crate::evaluation::{Evaluation, Range, of_system, renewable_ranges};
@@ -13,7 +14,7 @@ use crate::walk::Walk;
 use std::alloc::Global;
 use uc_model::{Instance, NoMemory};
 
-/// The units of an instance, the ranges of its renewable ones, and memory for one unit's prices and walk.
+/// The units of an instance, the ranges of its renewable ones, what its prices rise to at most, and memory for one unit's prices and walk.
 ///
 /// A list of prices has, at the scale `SCALE`, in each period that of demand, in each that of reserve, and for each unit whose ramps can
 /// bind those of its ramp up and then of its ramp down in each period.
@@ -21,6 +22,7 @@ use uc_model::{Instance, NoMemory};
 pub struct Evaluator {
     units: Vec<Unit>,
     renewables: Vec<Range>,
+    pub caps: Caps,
     common: Vec<Price>,
     own: Vec<Price>,
     walk: Walk,
@@ -42,6 +44,7 @@ impl Evaluator {
         Ok(Evaluator {
             units,
             renewables: renewable_ranges(alloc, instance)?,
+            caps: Caps::of(instance),
             common: vec![in alloc; FREE; periods]?,
             own: vec![in alloc; FREE; periods]?,
             walk: Walk::new(alloc, periods)?,
@@ -54,6 +57,7 @@ impl Evaluator {
         requires { IsLawfulInstance instance.now }
     {
         let mut evaluator = Evaluator::new(alloc, instance)?;
+        evaluator.caps = Caps::without_costs(instance);
         for unit in evaluator.units.iter_mut() {
             unit.forget_costs();
         }
@@ -81,7 +85,7 @@ impl Evaluator {
         decisions: &Decisions,
         prices: &[i64],
     ) -> Result<Option<Evaluation>, NoMemory> {
-        let mut found = of_system(alloc, instance, &self.renewables, prices)?;
+        let mut found = of_system(alloc, instance, &self.renewables, self.caps, prices)?;
         fill_common(&mut self.common, prices);
         let mut first = self.common.len().saturating_mul(2);
         let mut sum: i128 = 0;

@@ -5,6 +5,7 @@
 #![tactic(auto)]
 
 mod amounts;
+mod caps;
 mod cells;
 mod decisions;
 mod evaluation;
@@ -16,6 +17,7 @@ mod unit;
 mod walk;
 
 pub use amounts::SCALE;
+pub use caps::Caps;
 pub use decisions::Decisions;
 pub use evaluation::{Evaluation, ON};
 pub use evaluator::Evaluator;
