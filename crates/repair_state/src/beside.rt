@@ -70,7 +70,7 @@ impl Beside<'_> {
         for t in 0..self.periods.len().min(row.len()) {
             let head = row[t].head.min(before.saturating_add(self.unit.rise));
             let addition = self.addition(&row[t], head);
-            is_lacking = is_lacking || self.periods[t].is_lacking_with(&addition);
+            is_lacking = is_lacking || self.periods[t].is_lacking_with(self.market, &addition);
             before = row[t].power;
         }
         is_lacking

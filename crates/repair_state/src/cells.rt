@@ -78,14 +78,14 @@ pub(crate) fn cost_at(market: &Market, period: &Period, unit: &Unit, power: i64,
 // What the unit gives above its minimum in the order of merit, with so high a head.
 fn merit_power(market: &Market, period: &Period, unit: &Unit, head: i64) -> i64 {
     let least = unit.addition(0, head);
-    let needed = period.needed_with(&least);
+    let needed = period.served_with(market, &least);
     let room = period.room_with(&least).max(needed);
     let mut power: i64 = 0;
     for segment in &unit.segments {
         let cheaper = period.watts_before(market, segment.place);
         let wanted = if segment.rate < 0 { room } else { needed };
         let left = wanted.saturating_sub(cheaper).saturating_sub(power);
-        if left <= 0 {
+        if left <= 0 || segment.place >= market.worthwhile {
             break;
         }
         power = power.saturating_add(segment.watts.min(left));

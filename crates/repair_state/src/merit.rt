@@ -3,7 +3,7 @@
 use crate::lists::put;
 use crate::unit::Unit;
 use std::alloc::Global;
-use uc_model::{NoMemory, Point};
+use uc_model::{Instance, NoMemory, Point};
 
 /// Rates are in parts of this of a micro-dollar a watt.
 pub const PART: i64 = 1 << 16;
@@ -30,15 +30,19 @@ pub(crate) struct Segment {
 
 /// The rates of all segments in order of merit, how many of them are below 0, the powers of two up to their number from the greatest on, the
 /// rate of the segment with which half of all watts are reached, and that of what is lacking; and what a period costs beside it in which
-/// something is lacking.
+/// something is lacking. Where demand may stay unserved, `shed` is the rate of that, and so many segments are `worthwhile`, which cost
+/// less; else it is 0, and all are. `missing` is the rate of missing reserve.
 #[derive(Drop)]
 pub struct Market {
     pub(crate) rates: Vec<i64>,
     pub(crate) gainful: usize,
     pub(crate) strides: Vec<usize>,
     pub middle: i64,
-    pub scarcity: i64,
+    pub(crate) scarcity: i64,
     pub(crate) breach: i64,
+    pub(crate) shed: i64,
+    pub(crate) worthwhile: usize,
+    pub missing: i64,
 }
 
 // Where a segment stands among its unit's.
@@ -53,6 +57,13 @@ struct Entry {
 /// What so many watts cost at a rate, in micro-dollars.
 pub(crate) fn cost_of(rate: i64, watts: i64) -> i64 {
     rate.saturating_mul(watts) / PART
+}
+
+/// The same of a shortage, of which there may be more watts at a greater rate.
+pub(crate) fn shortage_cost(rate: i64, watts: i64) -> i64 {
+    (rate / PART)
+        .saturating_mul(watts)
+        .saturating_add(cost_of(rate % PART, watts))
 }
 
 /// A number kept within the greatest rate.
@@ -90,33 +101,65 @@ impl Market {
             middle: 0,
             scarcity: 0,
             breach: 0,
+            shed: 0,
+            worthwhile: 0,
+            missing: 0,
         }
     }
 
     /// Orders the segments of the units by merit, and tells them their places. The only error is `NoMemory`.
-    pub(crate) fn fill(&mut self, alloc: Global, units: &mut [Unit]) -> Result<(), NoMemory> {
+    pub(crate) fn fill(
+        &mut self,
+        alloc: Global,
+        instance: &Instance,
+        units: &mut [Unit],
+    ) -> Result<(), NoMemory> {
         let mut entries = Vec::new(alloc);
         for unit in 0..units.len() {
             push_entries(&mut entries, unit, &units[unit].segments)?;
         }
         entries.sort_by_key(|entry| entry.rate)?;
-        self.gainful = gainful(&entries);
+        self.gainful = below(&entries, 0);
         self.middle = middle(&entries);
         self.scarcity = dearest_rate(&entries, units).saturating_mul(SCARCITY);
         self.breach = dearest_run(units).min(DEAREST_BREACH);
+        self.set_shortages(instance, &entries);
         for place in 0..entries.len() {
             set_place(units, &entries[place], place);
             put(&mut self.rates, entries[place].rate)?;
         }
         push_strides(&mut self.strides, entries.len())
     }
+
+    // Sets what unserved demand and missing reserve cost. What may not be lacking costs more than what may.
+    fn set_shortages(&mut self, instance: &Instance, entries: &[Entry]) {
+        self.shed = i64::from(instance.a).saturating_mul(PART);
+        let missing = i64::from(instance.b).saturating_mul(PART);
+        self.scarcity = self.scarcity.max(self.shed.max(missing).saturating_mul(2));
+        self.worthwhile = if self.shed > 0 {
+            below(entries, self.shed)
+        } else {
+            entries.len()
+        };
+        self.missing = if missing > 0 { missing } else { self.scarcity };
+    }
+
+    /// Whether demand may stay unserved.
+    pub fn may_shed(&self) -> bool {
+        self.shed > 0
+    }
+
+    /// Whether reserve may be missing.
+    pub fn may_miss(&self) -> bool {
+        self.missing < self.scarcity
+    }
 }
 
-// How many rates are below 0, which come first.
-fn gainful(entries: &[Entry]) -> usize {
+// How many rates are below this one, which come first.
+fn below(entries: &[Entry], rate: i64) -> usize {
     let mut count: usize = 0;
     for entry in entries {
-        if entry.rate < 0 {
+        if entry.rate < rate {
             count = count.saturating_add(1);
         }
     }

@@ -1,6 +1,6 @@
 //! A period: what its on units may give, in order of merit, and what demand and reserve cost then.
 
-use crate::merit::{Market, cost_of};
+use crate::merit::{Market, cost_of, shortage_cost};
 use crate::unit::Unit;
 use crate::window::Window;
 use std::alloc::Global;
@@ -216,15 +216,47 @@ impl Period {
         self.bearable.saturating_sub(floor).min(spare)
     }
 
-    /// The watts that are given above the floor with another unit: those that are needed, or as far as there is room all that cost less
-    /// than nothing.
-    pub(crate) fn given_with(&self, market: &Market, other: &Addition) -> i64 {
+    /// The watts above the floor with another unit that are served at best: those that are needed, or where unserved demand costs less
+    /// than missing reserve those of them for which reserve leaves room.
+    pub(crate) fn served_with(&self, market: &Market, other: &Addition) -> i64 {
         let needed = self.needed_with(other);
-        if market.gainful == 0 {
+        if !market.may_shed() || self.reserve_rate <= market.shed {
             return needed;
         }
+        let room = self.lack_of_reserve(other, 0).saturating_neg();
+        needed.min(room).max(0)
+    }
+
+    /// The same of those that cost less than unserved demand, as far as there are any.
+    pub(crate) fn worth_with(&self, market: &Market, other: &Addition) -> i64 {
+        let served = self.served_with(market, other);
+        if !market.may_shed() {
+            served
+        } else if market.worthwhile == market.rates.len() {
+            served.min(self.watts)
+        } else {
+            served.min(self.watts_before(market, market.worthwhile))
+        }
+    }
+
+    /// The watts that are given above the floor with another unit: those that are worth it, or as far as there is room all that cost less
+    /// than nothing.
+    pub(crate) fn given_with(&self, market: &Market, other: &Addition) -> i64 {
+        let worth = self.worth_with(market, other);
+        if market.gainful == 0 {
+            return worth;
+        }
         let gainful = self.watts_before(market, market.gainful);
-        gainful.min(self.room_with(other)).max(needed)
+        gainful.min(self.room_with(other)).max(worth)
+    }
+
+    // What the demand costs that stays unserved with another unit where so many watts are given above the floor.
+    fn shed_cost(&self, market: &Market, other: &Addition, given: i64) -> i64 {
+        if !market.may_shed() {
+            return 0;
+        }
+        let shed = self.needed_with(other).saturating_sub(given).max(0);
+        shortage_cost(market.shed, shed)
     }
 
     /// What the period costs with another unit, whose own cost is left out.
@@ -238,8 +270,9 @@ impl Period {
             || (short > 0 && self.reserve_rate >= market.scarcity);
         self.base
             .saturating_add(self.fill(market, given).cost)
+            .saturating_add(self.shed_cost(market, other, given))
             .saturating_add(cost_of(market.scarcity, surplus))
-            .saturating_add(cost_of(self.reserve_rate, short))
+            .saturating_add(shortage_cost(self.reserve_rate, short))
             .saturating_add(if is_breached { market.breach } else { 0 })
     }
 
@@ -265,10 +298,15 @@ impl Period {
     }
 
     /// Whether output or reserve is lacking with another unit, or output is too much.
-    pub(crate) fn is_lacking_with(&self, other: &Addition) -> bool {
+    pub(crate) fn is_lacking_with(&self, market: &Market, other: &Addition) -> bool {
         self.needed_with(other) > self.watts
             || self.floor.saturating_add(other.floor) > self.bearable
-            || self.short_with(other) > 0
+            || self.short_with(market, other) > 0
+    }
+
+    /// Whether demand stays unserved because no watts are left that cost less.
+    pub fn is_unserved(&self, market: &Market) -> bool {
+        market.may_shed() && self.served_with(market, &NOTHING) > self.worth_with(market, &NOTHING)
     }
 
     /// The watts inside the windows of the on units.
@@ -277,8 +315,9 @@ impl Period {
     }
 
     /// The watts of reserve that are lacking with another unit.
-    pub(crate) fn short_with(&self, other: &Addition) -> i64 {
-        self.lack_of_reserve(other, self.needed_with(other)).max(0)
+    pub(crate) fn short_with(&self, market: &Market, other: &Addition) -> i64 {
+        self.lack_of_reserve(other, self.worth_with(market, other))
+            .max(0)
     }
 
     // The same, where so many watts are given; below 0 where there is room for more.
@@ -291,12 +330,11 @@ impl Period {
     }
 
     /// Whether hardly more reserve is left than is wanted, or less.
-    pub(crate) fn is_short_soon(&self) -> bool {
-        let needed = self.needed_with(&NOTHING);
+    pub(crate) fn is_short_soon(&self, market: &Market) -> bool {
         let spare = self
             .heads
             .saturating_sub(self.power)
-            .saturating_sub(needed)
+            .saturating_sub(self.worth_with(market, &NOTHING))
             .saturating_sub(self.reserve);
         spare < self.reserve / 20
     }

@@ -50,10 +50,10 @@ impl Plant {
         }
     }
 
-    /// Orders the units that were put in. The only error is `NoMemory`.
-    pub fn order(&mut self, alloc: Global) -> Result<(), NoMemory> {
+    /// Orders the units of the instance that were put in. The only error is `NoMemory`.
+    pub fn order(&mut self, alloc: Global, instance: &Instance) -> Result<(), NoMemory> {
         self.is_ramped = can_any_bind(&self.units);
-        self.market.fill(alloc, &mut self.units)
+        self.market.fill(alloc, instance, &mut self.units)
     }
 }
 
@@ -153,7 +153,7 @@ fn fill_periods(market: &Market, periods: &mut [Period], fills: &mut [Fill]) {
     for t in 0..periods.len().min(fills.len()) {
         let period = &mut periods[t];
         fills[t] = period.fill(market, period.given_with(market, &NOTHING));
-        period.is_tight = period.is_tight || period.is_short_soon();
+        period.is_tight = period.is_tight || period.is_short_soon(market);
     }
 }
 
@@ -180,7 +180,7 @@ fn push_periods(
 ) -> Result<(), NoMemory> {
     for t in 0..instance.periods as usize {
         let mut period = Period::new(alloc, market.rates.len())?;
-        period.reserve_rate = market.scarcity;
+        period.reserve_rate = market.missing;
         set_wanted(instance, t, &mut period);
         periods.push(period)?;
     }

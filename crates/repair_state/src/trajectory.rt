@@ -98,17 +98,18 @@ fn cost_to(
 // The least output that leaves the reserve of period t its head, and the rate of missing reserve there.
 fn wanted_output(beside: &Beside, row: &[Window], t: usize) -> (i64, i64) {
     if t < beside.periods.len() && t < row.len() && row[t].on {
-        wanted_in(beside.unit, &beside.periods[t], &row[t])
+        wanted_in(beside, &beside.periods[t], &row[t])
     } else {
         (0, 0)
     }
 }
 
 // The same of a period in which the unit is on.
-fn wanted_in(unit: &Unit, period: &Period, window: &Window) -> (i64, i64) {
-    let addition = unit.addition(window.power, 0);
-    let short = period.short_with(&addition).min(window.head);
-    (short.saturating_sub(unit.rise), period.reserve_rate)
+fn wanted_in(beside: &Beside, period: &Period, window: &Window) -> (i64, i64) {
+    let addition = beside.unit.addition(window.power, 0);
+    let short = period.short_with(beside.market, &addition);
+    let head = short.min(window.head);
+    (head.saturating_sub(beside.unit.rise), period.reserve_rate)
 }
 
 // The outputs between which the cost is told: the ends of the unit's segments, those at which the others give nothing or all they can,
@@ -127,7 +128,7 @@ fn set_points(
         end = end.saturating_add(segment.watts);
         put(points, end.max(low).min(high))?;
     }
-    let needed = period.needed_with(&beside.unit.addition(0, 0));
+    let needed = period.served_with(beside.market, &beside.unit.addition(0, 0));
     put(points, needed.max(low).min(high))?;
     let others = needed.saturating_sub(period.watts());
     put(points, others.max(low).min(high))?;

@@ -7,6 +7,7 @@ use crate::lists::put;
 use crate::merit::{PART, Segment, cost_of, push_segments, rate_within};
 use crate::patterns::Decided;
 use crate::period::{Addition, mixed};
+use crate::window::Window;
 use std::alloc::Global;
 use uc_model::limits::MAX_PERIODS;
 use uc_model::{Instance, NoMemory, Point, StartRow, Thermal};
@@ -124,6 +125,11 @@ impl Unit {
             most: most.min(head).max(0),
             head: head.max(0),
         }
+    }
+
+    /// Whether a unit is on and gives less at the centre of a window than it can beside no start or stop.
+    pub fn could_give_more(&self, window: &Window) -> bool {
+        window.on && window.power < self.width.min(self.full)
     }
 
     /// What an hour at an output above the minimum costs.

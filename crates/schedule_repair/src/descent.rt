@@ -154,7 +154,7 @@ fn descend(room: &mut Repair, instance: &Instance, table: &Table) -> Result<(), 
 {
     let mut least = soft_price(&room.plant.market);
     for _ in 0..SOFT_PASSES {
-        set_soft_prices(&mut room.state.periods, table, least);
+        set_soft_prices(&room.plant.market, &mut room.state.periods, table, least);
         pass(room, instance, Units::All)?;
         least = least.saturating_mul(2);
     }

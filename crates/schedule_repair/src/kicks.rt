@@ -86,7 +86,7 @@ fn kick_once(room: &mut Repair, instance: &Instance, table: &Table) -> Result<()
     room.left = room.left.saturating_sub(2);
     if room.chance.next() < SOFT_KICKS {
         let least = soft_price(&room.plant.market);
-        set_soft_prices(&mut room.state.periods, table, least);
+        set_soft_prices(&room.plant.market, &mut room.state.periods, table, least);
     }
     turn_unit(room, instance, turn.unit, Some(&turn.fix))?;
     pass(room, instance, Units::ListedBut(turn.unit))?;

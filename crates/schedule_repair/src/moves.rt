@@ -21,19 +21,46 @@ pub(crate) fn improve(
 ) -> Result<bool, NoMemory>
     requires lawful { IsLawfulInstance instance.now }
 {
+    if g >= plant.units.len() {
+        return Ok(false);
+    }
+    let unit = &plant.units[g];
+    let attempt = Attempt {
+        fix: fix_of(unit, turned),
+        most: most_cost(&plant.market, state, unit, turned.is_some()),
+    };
+    improve_within(plant, state, instance, g, &attempt)
+}
+
+/// What is decided of a unit, and what the system has to cost less than, without starts, where the unit's ramps can bind.
+#[derive(Clone, Copy)]
+pub(crate) struct Attempt {
+    pub fix: Decided,
+    pub most: i64,
+}
+
+/// Makes unit g's pattern the best beside the others of those that the attempt leaves, and tells whether it has changed. The only error
+/// is `NoMemory`.
+pub(crate) fn improve_within(
+    plant: &Plant,
+    state: &mut State,
+    instance: &Instance,
+    g: usize,
+    attempt: &Attempt,
+) -> Result<bool, NoMemory>
+    requires lawful { IsLawfulInstance instance.now }
+{
     match unit_at(instance, g) {
         Some(thermal) if g < plant.units.len() => {
             let (market, unit) = (&plant.market, &plant.units[g]);
-            let most = most_cost(market, state, unit, turned.is_some());
             fill_cells(market, state, unit, g);
-            let fix = fix_of(unit, turned);
-            let changed = match state.course.best(unit, &fix, &state.cells, false) {
+            let changed = match state.course.best(unit, &attempt.fix, &state.cells, false) {
                 Some((_, pattern)) => {
                     let count = instance.periods;
                     let aim = Aim {
                         pattern,
                         count,
-                        most,
+                        most: attempt.most,
                     };
                     put_on(market, state, unit, thermal, g, &aim)
                 }
@@ -46,9 +73,9 @@ pub(crate) fn improve(
     }
 }
 
-// What the system may cost with new outputs of a unit whose ramps can bind, without its starts: less than it does, or anything where
-// the unit has to turn.
-fn most_cost(market: &Market, state: &mut State, unit: &Unit, has_to_turn: bool) -> i64 {
+/// What the system may cost with new outputs of a unit whose ramps can bind, without its starts: less than it does, or anything where
+/// the unit has to turn.
+pub(crate) fn most_cost(market: &Market, state: &mut State, unit: &Unit, has_to_turn: bool) -> i64 {
     if unit.is_ramped && !has_to_turn {
         total(market, &mut state.periods)
     } else {

@@ -7,6 +7,7 @@ use crate::moves::improve;
 use crate::room::{Repair, Visit};
 use crate::tried::mark_of_try;
 use crate::turns::Turns;
+use crate::widening::widen;
 use dual_model::Table;
 use repair_state::{Market, PART, Period, rate_within};
 use uc_model::{Instance, NoMemory};
@@ -72,9 +73,10 @@ fn visit(room: &mut Repair, instance: &Instance, units: Units, i: usize) -> Resu
         return Ok(false);
     }
     room.left = room.left.saturating_sub(1);
-    let changed = improve(&room.plant, &mut room.state, instance, g, None)?;
+    let improved = improve(&room.plant, &mut room.state, instance, g, None)?;
+    let widened = widen(&room.plant, &mut room.state, instance, g)?;
     room.tried.put(mark_of_try(&room.state.periods, g));
-    Ok(changed)
+    Ok(improved || widened)
 }
 
 fn is_visited(turns: &Turns, units: Units, g: usize) -> bool {
@@ -99,15 +101,18 @@ pub(crate) fn soft_price(market: &Market) -> i64 {
     market.middle.saturating_mul(SOFT_PRICE) / 100
 }
 
-/// Makes missing reserve as cheap as its price in the table, or as this price if it is more.
-pub(crate) fn set_soft_prices(periods: &mut [Period], table: &Table, least: i64) {
-    set_prices(periods, table.mu(), table.k(), least);
-}
-
-// Makes missing reserve as cheap as its prices at this scale.
-fn set_prices(periods: &mut [Period], prices: &[i64], scale: i64, least: i64) {
+/// Makes missing reserve as cheap as its price in the table, or as this price if it is more; but no dearer than it is where it may be
+/// missing.
+pub(crate) fn set_soft_prices(market: &Market, periods: &mut [Period], table: &Table, least: i64) {
+    let most = if market.may_miss() {
+        market.missing
+    } else {
+        i64::MAX
+    };
+    let prices = table.mu();
     for t in 0..periods.len().min(prices.len()) {
-        periods[t].reserve_rate = least.max(rate_of(&prices[t], scale));
+        let rate = least.max(rate_of(&prices[t], table.k()));
+        periods[t].reserve_rate = rate.min(most);
     }
 }
 
@@ -117,9 +122,9 @@ fn rate_of(price: &i64, scale: i64) -> i64 {
     rate_within(&rate)
 }
 
-// Makes missing reserve as dear as missing output.
+// Makes missing reserve as dear as it is.
 fn set_full_prices(periods: &mut [Period], market: &Market) {
     for period in periods.iter_mut() {
-        period.reserve_rate = market.scarcity;
+        period.reserve_rate = market.missing;
     }
 }

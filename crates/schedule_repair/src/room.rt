@@ -62,7 +62,7 @@ impl Repair {
         requires { IsLawfulInstance instance.now }
     {
         push_units(alloc, instance, &mut self.plant.units)
-            .and(self.plant.order(alloc))
+            .and(self.plant.order(alloc, instance))
             .and(self.state.fill(alloc, instance, &self.plant))
             .and(push_visits(&mut self.visits, self.plant.units.len()))
             .and(self.turns.fill(self.plant.units.len()))
