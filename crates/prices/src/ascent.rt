@@ -11,7 +11,7 @@ use crate::price_list::{push_ramp_prices, table_of};
 use bundle::{Bundle, Cut, Move, WHOLE, times, word};
 use dual_model::{Node, Table};
 use opening_tables::SCALE;
-use quick_value::{Decisions, Evaluation, Evaluator};
+use quick_value::{Caps, Decisions, Evaluation, Evaluator};
 use std::alloc::Global;
 use uc_model::{Instance, NoMemory, Thermal};
 
@@ -95,7 +95,7 @@ pub(crate) struct Top {
     pub shares: Vec<i64>,
 }
 
-/// How large values are, at the scale `SCALE`: as how much one counts at least, and what no schedule can cost, above which an ascent ends.
+/// How large values are, at the scale `SCALE`: as how much one counts at least, and what no schedule need cost, above which an ascent ends.
 #[derive(Clone, Copy)]
 pub(crate) struct Sizes {
     pub least: i128,
@@ -104,7 +104,7 @@ pub(crate) struct Sizes {
 
 impl Sizes {
     // The least is a part of what the unit that costs most at full load costs so in all periods; the most is twice what the dearest hour
-    // and the dearest start of each unit cost in all periods.
+    // and the dearest start of each unit cost in all periods, and all that may be missing.
     fn of(instance: &Instance) -> Sizes {
         let mut full: i64 = 1;
         let mut hourly: i128 = 1;
@@ -117,7 +117,10 @@ impl Sizes {
         let whole = i128::from(SCALE).saturating_mul(i128::from(instance.periods));
         Sizes {
             least: whole.saturating_mul(i128::from(full)) / LEAST_SIZE,
-            most: whole.saturating_mul(2).saturating_mul(hourly),
+            most: whole
+                .saturating_mul(hourly)
+                .saturating_add(dearest_shortage(instance))
+                .saturating_mul(2),
         }
     }
 
@@ -219,6 +222,24 @@ fn dearest_hour(unit: &Thermal) -> i64 {
     production.saturating_add(start)
 }
 
+// What it costs, at the scale `SCALE`, that all is missing which may be.
+fn dearest_shortage(instance: &Instance) -> i128 {
+    let demand = missing_cost(instance.demand.as_slice(), instance.a);
+    let reserve = missing_cost(instance.reserves.as_slice(), instance.b);
+    demand
+        .saturating_add(reserve)
+        .saturating_mul(i128::from(SCALE))
+}
+
+// What all needs cost at a price.
+fn missing_cost(needs: &[i64], price: u32) -> i128 {
+    let mut sum: i128 = 0;
+    for need in needs {
+        sum = sum.saturating_add(i128::from((*need).max(0)));
+    }
+    sum.saturating_mul(i128::from(price))
+}
+
 /// Ascends at a node from a table with an effort, to a table at the scale `k`; from the prices in order of merit where the table has
 /// none of demand. Where a unit has no pattern at the node, no share is told. The only error is `NoMemory`.
 pub fn ascend(
@@ -239,7 +260,7 @@ pub fn ascend(
 {
     let mut hill = Hill::of(alloc, instance, node)?;
     let start = Start {
-        prices: first_prices(alloc, instance, table, &hill.ramped)?,
+        prices: first_prices(alloc, instance, table, &hill)?,
         part: first_part(table),
         effort,
         keeps_more: false,
@@ -310,7 +331,7 @@ pub(crate) fn top_from(
         });
     };
     let rise = hill.sizes.of_value(first.value) / start.part.max(1);
-    let bundle = bundle_for(alloc, instance, &hill.ramped, &start)?;
+    let bundle = bundle_for(alloc, instance, hill, &start)?;
     let mut center = begin(alloc, bundle, start.prices, first, rise)?;
     climb(alloc, hill, instance, &mut center, start.effort)?;
     settle(alloc, &mut center)?;
@@ -422,26 +443,43 @@ fn is_unpriced(table: &Table) -> bool {
     table.pi().iter().all(|price| *price == 0)
 }
 
-// The table's prices at the scale `SCALE`, or those in order of merit where it has none of demand.
+// The table's prices at the scale `SCALE`, within the caps, or those in order of merit where it has none of demand.
 fn first_prices(
     alloc: Global,
     instance: &Instance,
     table: &Table,
-    ramped: &[u32],
+    hill: &Hill,
 ) -> Result<Vec<i64>, NoMemory> {
+    let caps = hill.evaluator.caps;
     let mut prices = if is_unpriced(table) {
-        merit_prices(alloc, instance)?
+        merit_prices(alloc, instance, table.mu(), caps)?
     } else {
-        table.pi().to_vec(alloc)?
+        system_prices(alloc, table)?
     };
-    for price in table.mu() {
-        prices.push(*price)?;
-    }
-    push_ramp_prices(&mut prices, table, ramped)?;
+    push_ramp_prices(&mut prices, table, &hill.ramped)?;
     if !is_unpriced(table) {
         rescale(&mut prices, table.k(), SCALE);
     }
+    lower(&mut prices, table.pi().len(), caps);
     Ok(prices)
+}
+
+// The table's prices of demand and then of reserve.
+fn system_prices(alloc: Global, table: &Table) -> Result<Vec<i64>, NoMemory> {
+    let mut prices = table.pi().to_vec(alloc)?;
+    prices.extend_from_slice(table.mu())?;
+    Ok(prices)
+}
+
+// Lowers the prices of demand, of which there are so many, and those of reserve to their caps.
+fn lower(prices: &mut [i64], periods: usize, caps: Caps) {
+    for (i, price) in prices.iter_mut().enumerate() {
+        if i < periods {
+            *price = (*price).min(caps.demand);
+        } else if i < periods.saturating_mul(2) {
+            *price = (*price).min(caps.reserve);
+        }
+    }
 }
 
 // Puts prices of one scale at another one.
@@ -478,10 +516,12 @@ pub(crate) fn no_prices(
 fn bundle_for(
     alloc: Global,
     instance: &Instance,
-    ramped: &[u32],
+    hill: &Hill,
     start: &Start,
 ) -> Result<Bundle, NoMemory> {
-    let mut bundle = Bundle::of(alloc, instance, ramped)?;
+    let mut bundle = Bundle::of(alloc, instance, &hill.ramped)?;
+    let caps = hill.evaluator.caps;
+    bundle.cap(caps.demand, caps.reserve);
     if start.keeps_more {
         bundle.keep_more();
     }

@@ -2,6 +2,7 @@
 
 use bundle::at;
 use opening_tables::{SCALE, kept};
+use quick_value::Caps;
 use std::alloc::Global;
 use uc_model::{Instance, NoMemory, Thermal, scaled};
 
@@ -12,34 +13,59 @@ struct FullLoad {
     output: i64,
 }
 
-/// In each period the rate at full load of the unit with which the greatest outputs, cheapest first, reach demand and reserve
-/// less the most of the renewable units.
-pub(crate) fn merit_prices(alloc: Global, instance: &Instance) -> Result<Vec<i64>, NoMemory> {
+/// The prices of demand and then of reserve in each period: the rate at full load of the unit with which the greatest outputs, cheapest
+/// first, reach demand and reserve less the most of the renewable units, and of reserve these ones. Where all outputs don't reach them and
+/// something may be missing, what the last watt of reserve and of demand is worth then.
+pub(crate) fn merit_prices(
+    alloc: Global,
+    instance: &Instance,
+    of_reserve: &[i64],
+    caps: Caps,
+) -> Result<Vec<i64>, NoMemory> {
     let loads = full_loads(alloc, instance)?;
     let mut prices = Vec::new(alloc);
+    let mut others = Vec::new(alloc);
     let (demand, reserves) = (instance.demand.as_slice(), instance.reserves.as_slice());
     for t in 0..demand.len().min(reserves.len()) {
         let mut needed = demand[t].saturating_add(reserves[t]);
         for unit in instance.renewable.as_slice() {
             needed = needed.saturating_sub(at(unit.maximum.as_slice(), t));
         }
-        prices.push(merit_price(&loads, needed))?;
+        let (rate, lacking) = merit_price(&loads, needed);
+        let own = prices_within(caps, rate, lacking, reserves[t]);
+        prices.push(own.0)?;
+        others.push(own.1.max(at(of_reserve, t)))?;
     }
+    prices.extend_from_slice(&others)?;
     Ok(prices)
 }
 
-// The rate of the unit that reaches what is needed, or of the last one.
-fn merit_price(loads: &[FullLoad], needed: i64) -> i64 {
+// The rate of the unit that reaches what is needed, or of the last one, and what is lacking then.
+fn merit_price(loads: &[FullLoad], needed: i64) -> (i64, i64) {
     let mut left = needed;
     let mut rate = 0;
     for load in loads {
         if left <= 0 {
-            return rate;
+            return (rate, 0);
         }
         rate = load.rate;
         left = left.saturating_sub(load.output);
     }
-    rate
+    (rate, left)
+}
+
+// The prices of demand and of reserve where the last unit has this rate, and so much of both is lacking.
+fn prices_within(caps: Caps, rate: i64, lacking: i64, reserve: i64) -> (i64, i64) {
+    let most = caps.demand;
+    if lacking <= 0 || !caps.are_any() {
+        return (rate.min(most), 0);
+    }
+    let of_reserve = caps.reserve.min(most.saturating_sub(rate)).max(0);
+    if lacking > reserve.max(0) && most < i64::MAX {
+        (most, of_reserve)
+    } else {
+        (rate.saturating_add(of_reserve).min(most), of_reserve)
+    }
 }
 
 // The units at full load, cheapest first.
