@@ -1,12 +1,13 @@
 #!/usr/bin/env python3
 """Repairs of small random instances beside their best schedules, which are found by enumeration.
 
-    python3 bench/random_repairs.py [COUNT [SEED]] [falling]     # at the top of the repository, with `rt` on the path
+    python3 bench/random_repairs.py [COUNT [SEED]] [falling] [priced]     # at the top of the repository, with `rt` on the path
 
 An instance has up to three units and four hours, and whole megawatts. Its best schedule in whole megawatts is the least over all allowed
 patterns of all outputs that keep the rules. Told are of how many instances with such a schedule a repair found one, and how many of those
 cost no more. A repair may also find cheaper ones, between whole megawatts. With `falling` costs may fall as outputs rise, and there is
-always a renewable unit, of up to 8 MW. Nothing is proved here, see `unproved.py`.
+always a renewable unit, of up to 8 MW. With `priced` unserved demand, missing reserve or both have a price, and demand and reserve are more
+by chance, so that they may be above what all units give. Nothing is proved here, see `unproved.py`.
 """
 import itertools
 import json
@@ -19,6 +20,7 @@ from fractions import Fraction
 
 import unproved
 
+PRICES = [1, 8, 25, 60, 1000]
 LIBRARIES = "dual_model instance prices schedule_repair uc_model".split()
 
 PROGRAM = """#![tactic(auto)]
@@ -43,14 +45,20 @@ fn cost(alloc: Global, instance: &Instance) -> Option<i64> {
     Some(cost)
 }
 
+const PRICES: [(u32, u32); COUNT] = [PAIRS];
+
 fn main(rt: HostRuntime) -> io::Result<()> {
-    for number in 0..COUNT_u32 {
+    for number in 0..COUNT_usize {
         let name = format!(in rt.alloc(); "{number}.json")?;
         match read_instance(rt.alloc(), &fs::read(&rt, name.as_str())?, false) {
-            Ok((instance, _)) => match cost(rt.alloc(), &instance) {
-                Some(cost) => println!(rt; "{cost}")?,
-                None => println!(rt; "none")?,
-            },
+            Ok((mut instance, _)) => {
+                instance.a = PRICES[number].0;
+                instance.b = PRICES[number].1;
+                match cost(rt.alloc(), &instance) {
+                    Some(cost) => println!(rt; "{cost}")?,
+                    None => println!(rt; "none")?,
+                }
+            }
             Err(_) => println!(rt; "refused")?,
         }
     }
@@ -172,6 +180,16 @@ def start_cost(unit, on, periods):
     return total
 
 
+def with_prices(chance, instance):
+    """Prices of unserved demand and of missing reserve, of which one may be 0; the instance may want more than all units give then."""
+    for name, most in (("demand", 5), ("reserves", 3)):
+        instance[name] = [it + chance.choice([0, 0, chance.randint(0, most)]) for it in instance[name]]
+    prices = [chance.choice(PRICES), chance.choice(PRICES)]
+    if chance.random() < 0.5:
+        prices[chance.randrange(2)] = 0
+    return tuple(prices)
+
+
 def best_cost(instance, prices=(0, 0)):
     """The cost of the best schedule in whole megawatts, or None, at prices of unserved demand and of missing reserve."""
     periods, units = instance["time_periods"], list(instance["thermal_generators"].values())
@@ -222,19 +240,26 @@ def next_states(units, hulls, commitment, t, hour, prices, states):
     return found
 
 
-def main(count, seed, falling):
+def source(prices):
+    """The program for instances with these prices."""
+    pairs = ", ".join(f"({a}, {b})" for a, b in prices)
+    return PROGRAM.replace("PAIRS", pairs).replace("COUNT", str(len(prices)))
+
+
+def main(count, seed, falling, priced):
     chance = random.Random(seed)
     instances = [random_instance(chance, falling) for _ in range(count)]
+    prices = [with_prices(chance, it) if priced else (0, 0) for it in instances]
     with tempfile.TemporaryDirectory() as made:
         folder = pathlib.Path(made)
-        program = unproved.build(folder, LIBRARIES, PROGRAM.replace("COUNT_u32", f"{count}_u32"), checks=True)
+        program = unproved.build(folder, LIBRARIES, source(prices), checks=True)
         for number, instance in enumerate(instances):
             (folder / f"{number}.json").write_text(json.dumps(instance))
         ran = subprocess.run([program], cwd=folder, capture_output=True, text=True, check=True)
         found = ran.stdout.split()
     possible, missed, equal, worst = 0, [], 0, Fraction(0)
     for number, (instance, cost) in enumerate(zip(instances, found)):
-        best = best_cost(instance)
+        best = best_cost(instance, prices[number])
         if best is None:
             continue
         possible += 1
@@ -249,5 +274,5 @@ def main(count, seed, falling):
 
 
 if __name__ == "__main__":
-    words = [it for it in sys.argv[1:] if it != "falling"]
-    main(*(int(it) for it in (words + ["1000", "1"][len(words):])), "falling" in sys.argv)
+    words = [it for it in sys.argv[1:] if it not in ("falling", "priced")]
+    main(*(int(it) for it in (words + ["1000", "1"][len(words):])), "falling" in sys.argv, "priced" in sys.argv)

@@ -21,23 +21,12 @@ import random_repairs
 import search
 
 UNITS = "200"
-PRICES = [1, 8, 25, 60, 1000]
 
 
 def micro_dollars(report, name):
     """An amount of a report, where it has one."""
     rows = [row.split(" ") for row in report.splitlines()]
     return next((int(row[1].replace(".", "")) for row in rows if row[0] == name), None)
-
-
-def with_prices(chance, instance):
-    """Prices of unserved demand and of missing reserve, of which one may be 0; the instance may want more than all units give then."""
-    for name, most in (("demand", 5), ("reserves", 3)):
-        instance[name] = [it + chance.choice([0, 0, chance.randint(0, most)]) for it in instance[name]]
-    prices = [chance.choice(PRICES), chance.choice(PRICES)]
-    if chance.random() < 0.5:
-        prices[chance.randrange(2)] = 0
-    return tuple(prices)
 
 
 def options(prices):
@@ -62,7 +51,7 @@ def main(program, count, seed, has_prices):
         program = search.built(folder) if program == "unproved" else pathlib.Path(program).resolve()
         for number in range(count):
             instance = random_repairs.random_instance(chance)
-            prices = with_prices(chance, instance) if has_prices else (0, 0)
+            prices = random_repairs.with_prices(chance, instance) if has_prices else (0, 0)
             status, cost, bound, is_accepted = run(program, instance, prices, folder)
             best = random_repairs.best_cost(instance, prices)
             statuses[status] += 1
