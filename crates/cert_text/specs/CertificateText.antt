@@ -1,6 +1,7 @@
--- How a certificate is written: its lines in their order, one spelling for each certificate. This project's own format.
+-- How a certificate is written: its lines in their order, one spelling for each certificate in each version. This project's own
+-- format.
 -- Units, periods and tables count from 0 here, and from 1 in the text.
-use Rattle.std.specs.Prelude.{ℕ, suc, ◌<◌, nat_lt, Bool, true, false, ◌||◌, List, [], ◌∷◌, ◌++◌, codes, ℤ, Option, Some, None, length, map, flat_map, if◌then◌else◌}
+use Rattle.std.specs.Prelude.{ℕ, suc, ◌<◌, nat_lt, Bool, true, false, ◌||◌, List, [], ◌∷◌, ◌++◌, codes, ℤ, Option, Some, None, length, map, if◌then◌else◌}
 use Rattle.uc_model.specs.Decimal.{whole_text, signed_text}
 use Rattle.uc_model.specs.Money.{money_text}
 pub use Rattle.uc_model.specs.declared.schedule.Cell.{Cell}
@@ -11,6 +12,9 @@ use Rattle.dual_model.specs.Certificate.{Certificate, WrittenSchedule}
 pub use Rattle.dual_model.specs.declared.table.Table.{Table}
 pub use Rattle.dual_model.specs.declared.table.RampRow.{RampRow}
 use Rattle.outside.specs.Lines.{line, joined, list_line}
+use Rattle.cert_text.specs.Changes.{Change, OfDemand, OfReserve, OfRamps, table_changes}
+pub use Rattle.cert_text.specs.declared.cert.Version.{Version}
+pub use Rattle.cert_text.specs.declared.cert.Version.TheVariants.{First, Second}
 
 -- ---- the tree, as the list of its nodes in preorder, a line for each
 -- a leaf, or a split on a unit and a period
@@ -74,8 +78,14 @@ listing_of c = record {
   nodes = preorder c.tree;
 }
 
-abbrev pub version_line : ℕ → List ℕ
-version_line version = line (codes "uc-certificate") (whole_text version ∷ [])
+-- the versions of the format: in the first each table is told whole, in the second each but the first one by its difference to the
+-- one before it
+abbrev pub version_number : Version → ℕ
+version_number First = 1
+version_number Second = 2
+
+abbrev pub version_line : Version → List ℕ
+version_line version = line (codes "uc-certificate") (whole_text (version_number version) ∷ [])
 
 -- the numbers of periods, of thermal and renewable units, and of tables
 abbrev pub size_line : ℕ → ℕ → ℕ → ℕ → List ℕ
@@ -153,15 +163,42 @@ table_lines table =
     scale_line table.k ∷ prices_line (codes "pi") table.pi ∷ prices_line (codes "mu") table.mu ∷ ramps_line table.ramps
     ∷ map ramp_line table.ramps
 
+-- the scale of a table that is told by its difference to the one before it, and how many changes follow
+abbrev pub next_line : ℤ → ℕ → List ℕ
+next_line k changes = line (codes "next") (signed_text k ∷ whole_text changes ∷ [])
+
+abbrev pub change_line : Change → List ℕ
+change_line (OfDemand t price) = line (codes "p") (whole_text (suc t) ∷ signed_text price ∷ [])
+change_line (OfReserve t price) = line (codes "m") (whole_text (suc t) ∷ signed_text price ∷ [])
+change_line (OfRamps row) =
+    line (codes "r") (whole_text (suc row.g) ∷ whole_text (suc row.t) ∷ signed_text row.up ∷ signed_text row.down ∷ [])
+
+abbrev pub next_lines : ℤ → List Change → List (List ℕ)
+next_lines k changes = next_line k (length changes) ∷ map change_line changes
+
+-- the table of whose numbers the next one tells the changes, where it is told so: the one before it
+abbrev pub told_from : Version → Option Table → Option Table
+told_from First before = None
+told_from Second before = before
+
+abbrev pub told_lines : Option Table → Table → List (List ℕ)
+told_lines None table = table_lines table
+told_lines (Some before) table = next_lines table.k (table_changes before table)
+
+-- tables behind one, or from the first on
+abbrev pub tables_lines : Version → Option Table → List Table → List (List ℕ)
+tables_lines version before [] = []
+tables_lines version before (table ∷ tables) = told_lines (told_from version before) table ++ tables_lines version (Some table) tables
+
 abbrev pub end_line : List ℕ
 end_line = line (codes "end") []
 
 -- the lines in this version of the format
-unfoldable pub certificate_lines : ℕ → Listing → List (List ℕ)
+unfoldable pub certificate_lines : Version → Listing → List (List ℕ)
 certificate_lines version c =
     version_line version ∷ size_line c.periods c.thermal c.renewable (length c.tables) ∷ claim_line c.bound
-    ∷ (plan_lines c.a c.b c.schedule ++ (flat_map table_lines c.tables ++ (map node_line c.nodes ++ end_line ∷ [])))
+    ∷ (plan_lines c.a c.b c.schedule ++ (tables_lines version None c.tables ++ (map node_line c.nodes ++ end_line ∷ [])))
 
--- the text is these lines one after another; version 1 is written
-unfoldable pub certificate_text : Certificate → List ℕ
-certificate_text c = joined (certificate_lines 1 (listing_of c))
+-- the text is these lines one after another
+unfoldable pub certificate_text : Version → Certificate → List ℕ
+certificate_text version c = joined (certificate_lines version (listing_of c))

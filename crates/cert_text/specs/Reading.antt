@@ -6,7 +6,7 @@ use Rattle.branch_tree.specs.Claims.{written_of}
 use Rattle.cert_text.specs.declared.cert.Cert.{Cert}
 use Rattle.cert_text.specs.declared.cert.CertNode.{CertNode}
 use Rattle.cert_text.specs.declared.cert.CertNode.TheVariants as nodes
-use Rattle.cert_text.specs.CertificateText.{TreeNode, LeafNode, SplitNode, Listing, listing_of, certificate_text}
+use Rattle.cert_text.specs.CertificateText.{Version, TreeNode, LeafNode, SplitNode, Listing, listing_of, certificate_text}
 use Rattle.cert_text.specs.TextConditions.{HasText}
 
 abbrev pub node_of : CertNode → TreeNode
@@ -28,9 +28,10 @@ listing_read cert = record {
   nodes = map node_of cert.tree;
 }
 
--- the bytes are the text of a certificate, which has this listing
+-- the bytes are the text of a certificate in some version, which has this listing
 pub record IsTextOf (bytes : List ℕ) (cert : Cert) : Type 0 where
+  pub version : Version
   pub certificate : Certificate
   pub listed : listing_of certificate ≡ listing_read cert
   pub conditions : HasText (listing_of certificate)
-  pub text : bytes ≡ certificate_text certificate
+  pub text : bytes ≡ certificate_text version certificate

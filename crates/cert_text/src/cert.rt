@@ -34,6 +34,14 @@ pub struct Cert {
     pub tree: List<CertNode>,
 }
 
+/// A version of the format. In the first one each table is told whole, in the second each but the first one by its difference to the
+/// one before it.
+#[derive(Clone, Copy, Debug, PartialEq, Eq)]
+pub enum Version {
+    First,
+    Second,
+}
+
 /// What is wrong with a line.
 #[derive(Clone, Copy, Debug, PartialEq, Eq)]
 pub enum CertKind {

@@ -9,6 +9,6 @@ mod schedule;
 mod table;
 mod tree;
 
-pub use cert::{Cert, CertFault, CertKind, CertNode};
+pub use cert::{Cert, CertFault, CertKind, CertNode, Version};
 pub use certificate::write;
 pub use reader::read;

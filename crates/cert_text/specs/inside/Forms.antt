@@ -6,7 +6,9 @@ use Rattle.std.specs.Str.Parse.{digits_value}
 use Rattle.std.specs.Char.{digit_value}
 use Rattle.std.specs.Ordering.{int_eq}
 use Rattle.dual_model.specs.Cover.{Bound, Ray, Empty}
-use Rattle.cert_text.specs.CertificateText.{TreeNode, LeafNode, SplitNode, has_price}
+use Rattle.dual_model.specs.Prices.{pi_at, mu_at, up_at, down_at}
+use Rattle.cert_text.specs.Changes.{Table, Change, OfDemand, OfReserve, OfRamps, is_before}
+use Rattle.cert_text.specs.CertificateText.{Version, First, Second, TreeNode, LeafNode, SplitNode, has_price}
 use Rattle.cert_text.specs.Grammar.{Cell, RampRow, Sizes, PlanLine, Priced, Unpriced}
 
 infixl 10 ◌>>=◌
@@ -115,19 +117,19 @@ ordinal_at = mapped (λ n. n - 1) (passing (λ n. nat_lt 0 n) (whole_at 18))
 
 -- ---- Reading one line of a certificate.
 -- ---- the heading
-unfoldable pub version_at : Form (Unit {0})
-version_at = fixed (codes "uc-certificate 1\n") tt
+unfoldable pub version_at : Form Version
+version_at bytes = or_else (fixed (codes "uc-certificate 1\n") First bytes) (fixed (codes "uc-certificate 2\n") Second bytes)
 
-abbrev pub sizes_of : ℕ × (ℕ × (ℕ × ℕ)) → Sizes
-sizes_of p = record { periods = p.0; thermal = p.1.0; renewable = p.1.1.0; tables = p.1.1.1 }
+abbrev pub sizes_of : Version → ℕ × (ℕ × (ℕ × ℕ)) → Sizes
+sizes_of version p = record { version = version; periods = p.0; thermal = p.1.0; renewable = p.1.1.0; tables = p.1.1.1 }
 
 abbrev pub are_sizes : Sizes → Bool
 are_sizes size =
     nat_le 1 size.periods && (nat_le size.periods 168 && (nat_le size.thermal 4096 && (nat_le size.renewable 4096 && nat_lt size.tables 4294967296)))
 
-unfoldable pub size_at : Form Sizes
-size_at =
-    passing are_sizes (mapped sizes_of (after (codes "size ")
+unfoldable pub size_at : Version → Form Sizes
+size_at version =
+    passing are_sizes (mapped (sizes_of version) (after (codes "size ")
     (both (ended (whole_at 18) (codes " ")) (both (ended (whole_at 18) (codes " ")) (both (ended (whole_at 18) (codes " ")) (ended (whole_at 18) (codes "\n")))))))
 
 unfoldable pub claim_at : Form (Option ℤ)
@@ -177,13 +179,18 @@ scale_at = after (codes "table ") (ended (whole_at 18) (codes "\n"))
 unfoldable pub ramp_count_at : Form ℕ
 ramp_count_at = after (codes "ramps ") (ended (whole_at 18) (codes "\n"))
 
+-- the numbers of a row behind its first word
+abbrev pub row_numbers_at : Form (ℕ × (ℕ × (ℤ × ℤ)))
+row_numbers_at =
+    both (ended ordinal_at (codes " ")) (both (ended ordinal_at (codes " ")) (both (ended (signed_at 18) (codes " ")) (ended (signed_at 18) (codes "\n"))))
+
 abbrev pub ramp_row : ℕ × (ℕ × (ℤ × ℤ)) → RampRow
 ramp_row p = record { g = p.0; t = p.1.0; up = p.1.1.0; down = p.1.1.1 }
 
 -- a row comes behind another, or is the first
 abbrev pub rises : Option RampRow → RampRow → Bool
 rises None row = true
-rises (Some before) row = nat_lt before.g row.g || ((before.g == row.g) && nat_lt before.t row.t)
+rises (Some before) row = is_before before row
 
 abbrev pub is_ramp : Sizes → Option RampRow → RampRow → Bool
 is_ramp size before row =
@@ -191,8 +198,55 @@ is_ramp size before row =
 
 unfoldable pub ramp_at : Sizes → Option RampRow → Form RampRow
 ramp_at size before =
-    passing (is_ramp size before) (mapped ramp_row (after (codes "ramp ")
-    (both (ended ordinal_at (codes " ")) (both (ended ordinal_at (codes " ")) (both (ended (signed_at 18) (codes " ")) (ended (signed_at 18) (codes "\n")))))))
+    passing (is_ramp size before) (mapped ramp_row (after (codes "ramp ") row_numbers_at))
+
+-- ---- tables told by their difference to another
+-- the scale, and how many changes follow
+unfoldable pub next_at : Form (ℕ × ℕ)
+next_at = after (codes "next ") (both (ended (whole_at 18) (codes " ")) (ended (whole_at 18) (codes "\n")))
+
+abbrev pub price_at : Form (ℕ × ℤ)
+price_at = both (ended ordinal_at (codes " ")) (ended (signed_at 18) (codes "\n"))
+
+unfoldable pub written_change_at : Form Change
+written_change_at bytes =
+    when (text_at (codes "p ") bytes) (mapped (λ p. OfDemand p.0 p.1) price_at)
+    (when (text_at (codes "m ") bytes) (mapped (λ p. OfReserve p.0 p.1) price_at)
+    (mapped (λ p. OfRamps (ramp_row p)) (after (codes "r ") row_numbers_at) bytes))
+
+-- within the sizes
+abbrev pub is_within : Sizes → Change → Bool
+is_within size (OfDemand t price) = nat_lt t size.periods
+is_within size (OfReserve t price) = nat_lt t size.periods
+is_within size (OfRamps row) = nat_lt row.g size.thermal && nat_lt row.t size.periods
+
+-- behind another change, or the first
+abbrev pub comes_before : Change → Change → Bool
+comes_before (OfDemand t price) (OfDemand u other) = nat_lt t u
+comes_before (OfDemand t price) (OfReserve u other) = true
+comes_before (OfDemand t price) (OfRamps row) = true
+comes_before (OfReserve t price) (OfDemand u other) = false
+comes_before (OfReserve t price) (OfReserve u other) = nat_lt t u
+comes_before (OfReserve t price) (OfRamps row) = true
+comes_before (OfRamps row) (OfDemand u other) = false
+comes_before (OfRamps row) (OfReserve u other) = false
+comes_before (OfRamps row) (OfRamps later) = is_before row later
+
+abbrev pub comes_behind : Option Change → Change → Bool
+comes_behind None change = true
+comes_behind (Some last) change = comes_before last change
+
+-- another number than the table's
+abbrev pub is_other : Table → Change → Bool
+is_other table (OfDemand t price) = not (int_eq (pi_at table t) price)
+is_other table (OfReserve t price) = not (int_eq (mu_at table t) price)
+is_other table (OfRamps row) = not (int_eq (up_at table row.g row.t) row.up) || not (int_eq (down_at table row.g row.t) row.down)
+
+abbrev pub is_change : Sizes → Table → Option Change → Change → Bool
+is_change size table last change = is_within size change && (comes_behind last change && is_other table change)
+
+unfoldable pub change_at : Sizes → Table → Option Change → Form Change
+change_at size table last = passing (is_change size table last) written_change_at
 
 -- ---- the tree
 -- the number in a leaf's line, from 0 and below the count

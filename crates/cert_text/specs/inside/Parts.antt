@@ -3,11 +3,12 @@
 use Rattle.std.specs.Prelude.{◌≡◌, ℕ, zero, suc, Bool, true, false, List, [], ◌∷◌, length, Option, Some, None, Result, Ok, Err, ℤ, pos, codes, replicate}
 use Rattle.std.specs.Option.{ok_or}
 use Rattle.dual_model.specs.Certificate.{WrittenSchedule}
-use Rattle.cert_text.specs.CertificateText.{Cell, Printed, RampRow, Table, Listing, TreeNode, LeafNode, SplitNode}
-use Rattle.cert_text.specs.Grammar.{Sizes, PlanLine, Priced, Unpriced, IsRampAfter}
+use Rattle.cert_text.specs.Changes.{Change, changed, all_changed}
+use Rattle.cert_text.specs.CertificateText.{Version, told_from, Cell, Printed, RampRow, Table, Listing, TreeNode, LeafNode, SplitNode}
+use Rattle.cert_text.specs.Grammar.{Sizes, PlanLine, Priced, Unpriced, IsRampAfter, IsChangeAfter, rescaled}
 pub use Rattle.cert_text.specs.declared.reader.stop.Stop.{Stop}
 use Rattle.cert_text.specs.declared.reader.stop.Stop.TheVariants as stops
-use Rattle.cert_text.specs.inside.Forms.{Form, signed_at, version_at, size_at, claim_at, schedule_at, plan_at, cell_at, row_at, scale_at, ramp_count_at, ramp_at, node_at, end_at}
+use Rattle.cert_text.specs.inside.Forms.{Form, signed_at, version_at, size_at, claim_at, schedule_at, plan_at, cell_at, row_at, scale_at, ramp_count_at, ramp_at, next_at, change_at, node_at, end_at}
 use Rattle.cert_text.specs.declared.reader.sizes.Size.{Size}
 use Rattle.cert_text.specs.declared.reader.lines.First.{First}
 use Rattle.cert_text.specs.declared.reader.lines.First.TheVariants as firsts
@@ -121,6 +122,27 @@ numbers_part size = then (line_of scale_at) (λ _. then (prices_part (codes "pi"
 unfoldable pub table_part : Sizes → Part Table
 table_part size = told (table_of size) (numbers_part size)
 
+-- so many changes of the table, behind one or as the first ones
+unfoldable pub changes_part : Sizes → Table → ℕ → Option Change → Part (List Change)
+changes_part size table zero last bytes = Ok ([], bytes)
+changes_part size table (suc more) last bytes =
+    line_of (change_at size table last) bytes >>= λ x. changes_part size (changed table x.0) more (Some x.0) x.1 >>= λ xs. Ok (x.0 ∷ xs.0, xs.1)
+
+-- a table that is told by its difference to this one
+unfoldable pub next_part : Sizes → Table → Part Table
+next_part size before =
+    told (λ p. all_changed (rescaled before p.0.0) p.1) (then (line_of next_at) (λ p. changes_part size (rescaled before p.0) p.1 None))
+
+unfoldable pub told_part : Sizes → Option Table → Part Table
+told_part size None = table_part size
+told_part size (Some before) = next_part size before
+
+-- so many tables, behind one or from the first on
+unfoldable pub tables_part : Sizes → ℕ → Option Table → Part (List Table)
+tables_part size zero before bytes = Ok ([], bytes)
+tables_part size (suc more) before bytes =
+    told_part size (told_from size.version before) bytes >>= λ x. tables_part size more (Some x.0) x.1 >>= λ xs. Ok (x.0 ∷ xs.0, xs.1)
+
 -- ---- the tree
 -- how many trees are owed after a node, where so many others are
 abbrev pub owed_after : ℕ → TreeNode → ℕ
@@ -153,12 +175,13 @@ listing_from p = record {
 }
 
 unfoldable pub heading_part : Part Sizes
-heading_part = told (λ p. p.1) (then (line_of version_at) (λ _. line_of size_at))
+heading_part = told (λ p. p.1) (then (line_of version_at) (λ version. line_of (size_at version)))
 
-unfoldable pub certificate_part : Part Listing
+-- a certificate in the version that its first line tells
+unfoldable pub certificate_part : Part (Version × Listing)
 certificate_part =
-    told listing_from (then heading_part (λ size. then (line_of claim_at) (λ _. then (plan_part size)
-    (λ _. then (repeated size.tables (table_part size)) (λ _. then (tree_part size) (λ _. line_of end_at))))))
+    told (λ p. (p.0.version, listing_from p)) (then heading_part (λ size. then (line_of claim_at) (λ _. then (plan_part size)
+    (λ _. then (tables_part size size.tables None) (λ _. then (tree_part size) (λ _. line_of end_at))))))
 
 -- ---- Rows of ramp multipliers one behind the other.
 -- each row may stand behind the one before it
@@ -166,10 +189,15 @@ abbrev pub AreRamps : Sizes → Option RampRow → List RampRow → Type 0
 AreRamps size before [] = Unit {0}
 AreRamps size before (row ∷ rows) = IsRampAfter size before row × AreRamps size (Some row) rows
 
+-- each change may stand behind the one before it, of the table that those before it leave
+abbrev pub AreChanges : Sizes → Table → Option Change → List Change → Type 0
+AreChanges size table last [] = Unit {0}
+AreChanges size table last (change ∷ changes) = IsChangeAfter size table last change × AreChanges size (changed table change) (Some change) changes
+
 -- ---- What contracts see of the values that are read.
 abbrev pub first_of : First → PlanLine
 first_of (firsts.Priced a b) = Priced a b
 first_of (firsts.Unpriced cost) = Unpriced cost
 
 abbrev pub sizes : Size → Sizes
-sizes size = record { periods = size.periods; thermal = size.thermal; renewable = size.renewable; tables = size.tables }
+sizes size = record { version = size.version; periods = size.periods; thermal = size.thermal; renewable = size.renewable; tables = size.tables }
