@@ -8,7 +8,7 @@ use Rattle.std.specs.Char.{digit_value}
 use Rattle.std.specs.Str.Parse.{digits_value, AllDigits}
 use Rattle.std.proofs.lemmas.List.Sums.{prefix_len_is, prefix_len-le-length}
 use Rattle.std.proofs.lemmas.Grind.{common_steps}
-use Rattle.cert_text.specs.inside.Forms.{is_digit, run, run_value, ◌>>=◌, Form, text_at, after, ended, both, mapped, passing, fixed, when, times, begins_with, is_whole, whole_at, decimals_at, signed_at, with_sign, negative, millionths, millionths_at, money_at, ordinal_at, or_else, version_at, sizes_of, are_sizes, size_at, claim_at, is_penalty, penalty_at, schedule_at, plan_at, on_cell, off_cell, on_cell_at, cell_at, row_at, scale_at, ramp_count_at, end_at, ramp_row, rises, is_ramp, ramp_at, named_at, split_at, node_at}
+use Rattle.cert_text.specs.inside.Forms.{is_digit, run, run_value, ◌>>=◌, Form, text_at, after, ended, both, mapped, passing, fixed, when, times, begins_with, is_whole, whole_at, decimals_at, signed_at, with_sign, negative, millionths, millionths_at, money_at, ordinal_at, or_else, version_at, sizes_of, are_sizes, size_at, claim_at, is_penalty, penalty_at, schedule_at, plan_at, on_cell, off_cell, on_cell_at, cell_at, row_at, scale_at, ramp_count_at, end_at}
 use Rattle.std.specs.List.{flat_map, starts_with}
 use Rattle.std.proofs.lemmas.Bool.Decides.{Decides-eqb, Decides-int_eq, Decides-and, Decides-or, Decides-not, Decides-ltb, Decides-like}
 use Rattle.std.proofs.lemmas.List.{drop_at, take_at, take-append-drop, length-append, length-take-le, get_or-take, get_or_append_left}
@@ -21,12 +21,10 @@ use Rattle.uc_model.specs.Money.{six_digits, millionths_text, money_text}
 use Rattle.uc_model.proofs.MoneyText.{length-six_digits, six_digits-digits_value, six_digits_injective, money_text_bytes, money_text_nonempty}
 use Rattle.cert_text.specs.TextConditions.{Cell, RampRow, HasDigits, IsMoney, ArePenalties, IsOnCell, IsOffCell, IsCellText, IsThermalRow, IsPowerRow, IsRampText}
 use Rattle.outside.specs.Lines.{line, list_line}
-use Rattle.cert_text.specs.CertificateText.{version_line, size_line, claim_line, has_price, penalty_line, cell_text, thermal_line, scale_line, prices_line, end_line, ramp_line, TreeNode, LeafNode, SplitNode, node_line, IsNodeWithin}
-use Rattle.cert_text.specs.Grammar.{Sizes, AreSizes, schedule_line, PlanLine, Priced, Unpriced, plan_line, IsPenaltyLine, IsPlanLine, ramp_count_line, IsRampAfter}
+use Rattle.cert_text.specs.CertificateText.{Version, First, Second, version_line, size_line, claim_line, has_price, penalty_line, cell_text, thermal_line, scale_line, prices_line, end_line}
+use Rattle.cert_text.specs.Grammar.{Sizes, AreSizes, IsSizeIn, schedule_line, PlanLine, Priced, Unpriced, plan_line, IsPenaltyLine, IsPlanLine, ramp_count_line}
 use Rattle.std.specs.Ordering.{int_eq}
 use Rattle.std.specs.Bool.{Decides}
-use Rattle.dual_model.specs.Cover.{Bound, Ray, Empty}
-use Rattle.dual_model.specs.Prices.{IsRowBefore, IsRowWithin}
 
 -- a text of few digits is one of a small number
 small-from-digits : (digits n : ℕ) → length (whole_text n) ≤ digits → n < 10 ^ digits
@@ -460,7 +458,7 @@ ordinal-form =
 pub last_whole : IsForm (ended (whole_at 18) (codes "\n")) (λ n. n < 10 ^ 18) (λ n. whole_text n ++ codes "\n") Anything
 last_whole = ended-form (whole-form 18 (omega arith)) (codes "\n") (λ rest. refl)
 
-spaced_whole : IsForm (ended (whole_at 18) (codes " ")) (λ n. n < 10 ^ 18) (λ n. whole_text n ++ codes " ") Anything
+pub spaced_whole : IsForm (ended (whole_at 18) (codes " ")) (λ n. n < 10 ^ 18) (λ n. whole_text n ++ codes " ") Anything
 spaced_whole = ended-form (whole-form 18 (omega arith)) (codes " ") (λ rest. refl)
 
 pub scale-form : IsForm scale_at (λ k. k < 10 ^ 18) (λ k. scale_line (pos k)) Anything
@@ -475,9 +473,24 @@ last_money : IsForm (ended money_at (codes "\n")) IsMoney (λ z. money_text z ++
 last_money = ended-form money-form (codes "\n") (λ rest. refl)
 
 -- ---- the heading
-pub version-form : IsForm version_at (λ _. Unit {0}) (λ _. version_line 1) Anything
-unfolding version_at line
-version-form = form-as (fixed-form _ tt) (λ _. Unit {0}) (λ _. version_line 1) (λ a v. tt) (λ a v. refl) (λ a v. rw (whole_text_digit 1 (omega arith)) refl)
+pub version-form : IsForm version_at (λ _. Unit {0}) version_line Anything
+unfolding version_at line text_at
+version-form =
+    form-as (choice-form (empty-form tt) (λ _. First) second (codes "uc-certificate 1\n") (λ _ v. first_text) apart) (λ _. Unit {0}) version_line (λ version v. tt) back (λ version v. refl)
+  where
+    first_text : codes "uc-certificate 1\n" ++ [] ≡ version_line First
+    first_text = rw (whole_text_digit 1 (omega arith)) refl
+
+    second : IsForm (fixed (codes "uc-certificate 2\n") Second) (λ version. version ≡ Second) version_line Anything
+    second = form-as (fixed-form (codes "uc-certificate 2\n") Second) (λ version. version ≡ Second) version_line (λ version v. v) (λ version v. v)
+        (λ version v. rw v (rw (whole_text_digit 2 (omega arith)) refl))
+
+    apart : (version : Version) (rest : List ℕ) → version ≡ Second → text_at (codes "uc-certificate 1\n") (version_line version ++ rest) ≡ None
+    apart version rest v = rw v (rw (whole_text_digit 2 (omega arith)) refl)
+
+    back : (version : Version) → Unit {0} → IsChosen (λ (b : Unit {0}). b ≡ tt) (λ _. First) (λ (version : Version). version ≡ Second) version
+    back First v = inl (tt, refl, refl)
+    back Second v = inr refl
 
 pub end-form : IsForm end_at (λ _. Unit {0}) (λ _. end_line) Anything
 unfolding end_at line
@@ -494,18 +507,21 @@ sizes_decide size =
     decides_le : (a b : ℕ) → Decides (nat_le a b) (a ≤ b)
     decides_le a b = (leb-true a b, le-leb a b)
 
-pub size-form : IsForm size_at AreSizes (λ size. size_line size.periods size.thermal size.renewable size.tables) Anything
+pub size-form : (version : Version) → IsForm (size_at version) (IsSizeIn version) (λ size. size_line size.periods size.thermal size.renewable size.tables) Anything
 unfolding size_at line
-size-form =
+size-form version =
     passing-form (mapped-form (after-form (both-form spaced_whole (both-form spaced_whole (both-form spaced_whole last_whole (λ b rest v f. tt)) (λ b rest v f. tt)) (λ b rest v f. tt)) (codes "size "))
-    sizes_of (λ size. (size.periods, (size.thermal, (size.renewable, size.tables))))
-    (λ size. (size.periods < 10 ^ 18) × (size.thermal < 10 ^ 18) × (size.renewable < 10 ^ 18) × (size.tables < 10 ^ 18))
+    (sizes_of version) (λ size. (size.periods, (size.thermal, (size.renewable, size.tables))))
+    (λ size. (size.version ≡ version) × (size.periods < 10 ^ 18) × (size.thermal < 10 ^ 18) × (size.renewable < 10 ^ 18) × (size.tables < 10 ^ 18))
     (λ size. size_line size.periods size.thermal size.renewable size.tables) (record {
-      there = λ p v. ((v.0, v.1.0, v.1.1.0, v.1.1.1), simp append_assoc);
-      back = λ size w. ((w.0, (w.1, (w.2, w.3))), refl);
+      there = λ p v. ((refl, v.0, v.1.0, v.1.1.0, v.1.1.1), simp append_assoc);
+      back = λ size w. ((w.1, (w.2, (w.3, w.4))), λ i. record { version = sym w.0 i; periods = size.periods; thermal = size.thermal; renewable = size.renewable; tables = size.tables });
     }))
-    are_sizes AreSizes (λ size v e. (sizes_decide size).0 e)
-    (λ size w. ((omega (arith, w.periods), omega (arith, w.thermal), omega (arith, w.renewable), omega (arith, w.tables)), (sizes_decide size).1 w))
+    are_sizes (IsSizeIn version) (λ size v e. record { sizes = (sizes_decide size).0 e; version = v.0 })
+    (λ size w. (
+      (w.version, omega (arith, w.sizes.periods), omega (arith, w.sizes.thermal), omega (arith, w.sizes.renewable), omega (arith, w.sizes.tables)),
+      (sizes_decide size).1 w.sizes,
+    ))
 
 -- money that there is
 abbrev IsMoneyOf : Option ℤ → Type 0
@@ -688,109 +704,3 @@ powers-form word periods =
 
 pub prices-form : (word : List ℕ) (periods : ℕ) → IsForm (row_at word periods (signed_at 18)) (λ prices. (length prices ≡ periods) × All (HasDigits 18) prices) (prices_line word) Anything
 prices-form word periods = row-form (signed-form 18 (omega arith)) word periods
-
--- ---- The forms of ramp rows and of nodes read their lines.
-spaced_ordinal : (end : ℕ) → is_digit end ≡ false → IsForm (ended ordinal_at (end ∷ [])) (λ n. suc n < 10 ^ 18) (λ n. whole_text (suc n) ++ end ∷ []) Anything
-spaced_ordinal end none = ended-form ordinal-form (end ∷ []) (λ rest. rw none refl)
-
--- ---- ramp rows
-present_decides : (up down : ℤ) → Decides (not (int_eq up (pos 0)) || not (int_eq down (pos 0))) ((up ≢ pos 0) ⊎ (down ≢ pos 0))
-present_decides up down = Decides-or _ _ (Decides-not _ (Decides-int_eq up (pos 0))) (Decides-not _ (Decides-int_eq down (pos 0)))
-
-rises_decide : (before : Option RampRow) (row : RampRow) → Decides (rises before row) (IfSome before (λ earlier. IsRowBefore earlier row))
-rises_decide None row = ((λ e. tt), (λ h. refl))
-rises_decide (Some earlier) row =
-    Decides-like (rises (Some earlier) row) (λ h. record { before = h }) (λ h. h.before)
-    (Decides-or _ _ (Decides-ltb earlier.g row.g) (Decides-and _ _ (Decides-eqb earlier.g row.g) (Decides-ltb earlier.t row.t)))
-
--- a row as it is written, before it is tested
-record IsRowText (row : RampRow) : Type 0 where
-  g : suc row.g < 10 ^ 18
-  t : suc row.t < 10 ^ 18
-  numbers : IsRampText row
-
-ramp_decides : (size : Sizes) (before : Option RampRow) (row : RampRow)
-    → Decides (is_ramp size before row) (IsRowWithin size.thermal size.periods row × IfSome before (λ earlier. IsRowBefore earlier row))
-ramp_decides size before row =
-    Decides-like (is_ramp size before row)
-    (λ h. (record { unit = h.0; period = h.1.0; present = h.1.1.0 }, h.1.1.1)) (λ h. (h.0.unit, (h.0.period, (h.0.present, h.1))))
-    (Decides-and _ _ (Decides-ltb row.g size.thermal) (Decides-and _ _ (Decides-ltb row.t size.periods)
-    (Decides-and _ _ (present_decides row.up row.down) (rises_decide before row))))
-
-pub ramp-form : (size : Sizes) → AreSizes size → (before : Option RampRow) → IsForm (ramp_at size before) (IsRampAfter size before) ramp_line Anything
-unfolding ramp_at line
-ramp-form size lawful before =
-    passing-form (mapped-form
-    (after-form (both-form (spaced_ordinal 32 refl) (both-form (spaced_ordinal 32 refl) (both-form (spaced_signed 18 (omega arith) 32 refl) (spaced_signed 18 (omega arith) 10 refl)
-    (λ b rest v f. tt)) (λ b rest v f. tt)) (λ b rest v f. tt)) (codes "ramp "))
-    ramp_row (λ row. (row.g, (row.t, (row.up, row.down)))) IsRowText ramp_line (record {
-      there = λ p v. (record { g = v.0; t = v.1.0; numbers = record { up = v.1.1.0; down = v.1.1.1 } }, simp append_assoc);
-      back = λ row w. ((w.g, (w.t, (w.numbers.up, w.numbers.down))), refl);
-    }))
-    (is_ramp size before) (IsRampAfter size before)
-    (λ row h e. let test = (ramp_decides size before row).0 e in record { within = test.0; written = h.numbers; rises = test.1 })
-    (λ row w. (record { g = omega (arith, w.within.unit, lawful.thermal); t = omega (arith, w.within.period, lawful.periods); numbers = w.written }, (ramp_decides size before row).1 (w.within, w.rises)))
-
--- ---- nodes
-named-form : (count : ℕ) → count ≤ 4294967296 → IsForm (named_at count) (λ n. n < count) (λ n. whole_text (suc n) ++ codes "\n") Anything
-unfolding named_at
-named-form count few =
-    passing-form (spaced_ordinal 10 refl) (λ n. nat_lt n count) (λ n. n < count) (λ n v e. ltb-true n count e) (λ n w. (omega arith, lt-ltb n count w))
-
-split-form : (size : Sizes) → AreSizes size → IsForm (split_at size) (λ p. (p.0 < size.thermal) × (p.1 < size.periods)) (λ p. (whole_text (suc p.0) ++ codes " ") ++ (whole_text (suc p.1) ++ codes "\n")) Anything
-unfolding split_at
-split-form size lawful =
-    passing-form (both-form (spaced_ordinal 32 refl) (spaced_ordinal 10 refl) (λ b rest v f. tt)) (λ p. nat_lt p.0 size.thermal && nat_lt p.1 size.periods)
-    (λ p. (p.0 < size.thermal) × (p.1 < size.periods))
-    (λ p v e. let both = and_parts (nat_lt p.0 size.thermal) (nat_lt p.1 size.periods) e in (ltb-true p.0 size.thermal both.0, ltb-true p.1 size.periods both.1))
-    (λ p w. ((omega (arith, lawful.thermal), omega (arith, lawful.periods)), and_from (nat_lt p.0 size.thermal) (nat_lt p.1 size.periods) (lt-ltb p.0 size.thermal w.0) (lt-ltb p.1 size.periods w.1)))
-
--- a node made of a number that is small enough, and one of a unit and a period
-abbrev IsMade : (ℕ → TreeNode) → ℕ → TreeNode → Type 0
-IsMade make count node = (n : ℕ) × (n < count) × (make n ≡ node)
-
-abbrev IsSplit : Sizes → TreeNode → Type 0
-IsSplit size node = (p : ℕ × ℕ) × ((p.0 < size.thermal) × (p.1 < size.periods)) × (SplitNode p.0 p.1 ≡ node)
-
-abbrev IsEmptyOrSplit : Sizes → TreeNode → Type 0
-IsEmptyOrSplit size node = IsMade (λ n. LeafNode (Empty false n)) size.thermal node ⊎ IsSplit size node
-
-abbrev IsNoBound : Sizes → TreeNode → Type 0
-IsNoBound size node = IsMade (λ n. LeafNode (Ray false n)) size.tables node ⊎ IsEmptyOrSplit size node
-
-pub node-form : (size : Sizes) → AreSizes size → IsForm (node_at size) (IsNodeWithin size.periods size.thermal size.tables) node_line Anything
-unfolding node_at line text_at
-node-form size lawful =
-    let table = named-form size.tables (omega (arith, lawful.tables)) in
-    let unit = named-form size.thermal (omega (arith, lawful.thermal)) in
-    let split = image-form (after-form (split-form size lawful) (codes "split ")) (λ p. SplitNode p.0 p.1) node_line (λ p v. simp append_assoc) in
-    let empty = choice-form unit (λ n. LeafNode (Empty false n)) split (codes "empty ") (λ n v. refl) no_empty in
-    let ray = choice-form table (λ n. LeafNode (Ray false n)) empty (codes "ray ") (λ n v. refl) no_ray in
-    form-as (choice-form table (λ n. LeafNode (Bound false n)) ray (codes "bound ") (λ n v. refl) no_bound) (IsNodeWithin size.periods size.thermal size.tables) node_line within made (λ node v. refl)
-  where
-    no_empty : (node : TreeNode) (rest : List ℕ) → IsSplit size node → text_at (codes "empty ") (node_line node ++ rest) ≡ None
-    no_empty node rest v = subst (λ (node : TreeNode). text_at (codes "empty ") (node_line node ++ rest) ≡ None) v.2 refl
-
-    no_ray : (node : TreeNode) (rest : List ℕ) → IsEmptyOrSplit size node → text_at (codes "ray ") (node_line node ++ rest) ≡ None
-    no_ray node rest (inl v) = subst (λ (node : TreeNode). text_at (codes "ray ") (node_line node ++ rest) ≡ None) v.2 refl
-    no_ray node rest (inr v) = subst (λ (node : TreeNode). text_at (codes "ray ") (node_line node ++ rest) ≡ None) v.2 refl
-
-    no_bound : (node : TreeNode) (rest : List ℕ) → IsNoBound size node → text_at (codes "bound ") (node_line node ++ rest) ≡ None
-    no_bound node rest (inl v) = subst (λ (node : TreeNode). text_at (codes "bound ") (node_line node ++ rest) ≡ None) v.2 refl
-    no_bound node rest (inr (inl v)) = subst (λ (node : TreeNode). text_at (codes "bound ") (node_line node ++ rest) ≡ None) v.2 refl
-    no_bound node rest (inr (inr v)) = subst (λ (node : TreeNode). text_at (codes "bound ") (node_line node ++ rest) ≡ None) v.2 refl
-
-    within : (node : TreeNode) → IsMade (λ n. LeafNode (Bound false n)) size.tables node ⊎ IsNoBound size node → IsNodeWithin size.periods size.thermal size.tables node
-    within node (inl v) = subst (IsNodeWithin size.periods size.thermal size.tables) v.2 v.1
-    within node (inr (inl v)) = subst (IsNodeWithin size.periods size.thermal size.tables) v.2 v.1
-    within node (inr (inr (inl v))) = subst (IsNodeWithin size.periods size.thermal size.tables) v.2 v.1
-    within node (inr (inr (inr v))) = subst (IsNodeWithin size.periods size.thermal size.tables) v.2 v.1
-
-    made : (node : TreeNode) → IsNodeWithin size.periods size.thermal size.tables node → IsMade (λ n. LeafNode (Bound false n)) size.tables node ⊎ IsNoBound size node
-    made (LeafNode (Bound false n)) w = inl (n, w, refl)
-    made (LeafNode (Ray false n)) w = inr (inl (n, w, refl))
-    made (LeafNode (Empty false n)) w = inr (inr (inl (n, w, refl)))
-    made (LeafNode (Bound true n)) w = absurd w
-    made (LeafNode (Ray true n)) w = absurd w
-    made (LeafNode (Empty true n)) w = absurd w
-    made (SplitNode g t) w = inr (inr (inr ((g, t), w, refl)))

@@ -2,7 +2,8 @@
 use Rattle.std.proofs.Common.{◌≡◌, ℕ, ◌≤◌, List, [], ◌++◌, length, Ok, Err, sym, ap, ◌∙◌, arith, suc, ◌+◌, Bool, true, false, ◌∷◌, All, Option, Some, None, ℤ, pos, refl, cond, nat_eq, ◌≢◌, zero, ◌-◌, take, subst, append-nil, ⊎_elim, replicate, Result, append_assoc, inl, inr, ◌⊎◌, get_or, drop, length-append, take_at, codes}
 use Rattle.outside.specs.Lines.{joined, spaced, line, words_of, list_line}
 use Rattle.dual_model.specs.Certificate.{Certificate}
-use Rattle.cert_text.specs.CertificateText.{Cell, RampRow, Listing, listing_of, certificate_lines, certificate_text, claim_line, cell_text, TreeNode, LeafNode, SplitNode, node_line}
+use Rattle.cert_text.specs.Changes.{Table, Change, OfDemand, OfReserve, OfRamps, changed}
+use Rattle.cert_text.specs.CertificateText.{Version, version_number, change_line, told_from, Cell, RampRow, Listing, listing_of, certificate_lines, certificate_text, claim_line, cell_text, TreeNode, LeafNode, SplitNode, node_line}
 use Rattle.cert_text.specs.TextConditions.{HasText}
 use Rattle.cert_text.specs.inside.Parts.{certificate_part}
 use Rattle.cert_text.proofs.PartSteps.{same_Ok, Stops, Done}
@@ -17,40 +18,47 @@ use Rattle.uc_model.proofs.DecimalText.{whole_text_bytes, signed_text_bytes}
 use Rattle.uc_model.proofs.MoneyText.{money_text_bytes}
 use Rattle.dual_model.specs.Cover.{Bound, Ray, Empty}
 use Rattle.outside.proofs.Joining.{joined-cons}
-use Rattle.cert_text.specs.Grammar.{Symbol, Version, Size, Claim, Plan, Schedule, ThermalRow, RenewableRow, Shed, Short, Scale, Pi, Mu, Ramps, Ramp, Node, End, Produces, Reaches, schedule_line, PlanLine, Priced, Unpriced, plan_line, behind_plan, Sizes, AreSizes, after_size, shortage_rows, schedule_rows, ramp_rows, children, CertKind, HasLineFeed, IsWholeLine, IsFormAt, IsCutAt, IsFaultOf, MayStand, IsKindAt}
+use Rattle.cert_text.specs.Grammar.{Symbol, Head, Size, Claim, Plan, Schedule, ThermalRow, RenewableRow, Shed, Short, Scale, Pi, Mu, Ramps, Ramp, Next, Update, Node, End, Ahead, first_line, tables_from, changes_from, scaled, with_ramp, rescaled, Produces, Reaches, schedule_line, PlanLine, Priced, Unpriced, plan_line, behind_plan, Sizes, AreSizes, after_size, shortage_rows, schedule_rows, ramp_rows, children, CertKind, HasLineFeed, IsWholeLine, IsFormAt, IsCutAt, IsFaultOf, MayStand, IsKindAt}
 use Rattle.cert_text.specs.inside.LineCount.{line_feeds, line_number, stop_kind}
 use Rattle.std.proofs.lemmas.Option.{some_pair_parts}
 use Rattle.cert_text.specs.inside.Forms.{Form}
-use Rattle.cert_text.proofs.FormLaws.{IsForm, Anything, version-form, size-form, claim-form, schedule-form, plan-form, thermal-form, powers-form, scale-form, ramp_count-form, end-form, ramp-form, node-form}
+use Rattle.cert_text.proofs.FormLaws.{IsForm, Anything, version-form, size-form, claim-form, schedule-form, plan-form, thermal-form, powers-form, scale-form, ramp_count-form, end-form}
+use Rattle.cert_text.proofs.TableForms.{ramp-form, next-form, change-form, node-form}
 use Rattle.cert_text.specs.declared.cert.CertFault.TheVariants as faults
 use Rattle.cert_text.specs.declared.cert.CertKind.TheVariants as kinds
 
-pub rest_shorter : (bytes rest : List ℕ) (c : Listing) → certificate_part bytes ≡ Ok (c, rest) → length rest ≤ length bytes
-rest_shorter bytes rest c e =
-    let parts = (certificate-part.takes bytes (c, rest) e).1 in
-    omega (arith, ap length parts, length-append (joined (certificate_lines 1 c)) rest)
+pub rest_shorter : (bytes rest : List ℕ) (version : Version) (c : Listing) → certificate_part bytes ≡ Ok ((version, c), rest) → length rest ≤ length bytes
+rest_shorter bytes rest version c e =
+    let parts = (certificate-part.takes bytes ((version, c), rest) e).1 in
+    omega (arith, ap length parts, length-append (joined (certificate_lines version c)) rest)
 
 pub stop_shorter : (bytes rest : List ℕ) → certificate_part bytes ≡ Err rest → length rest ≤ length bytes
 stop_shorter bytes rest e =
     let h = certificate-part.stops bytes rest e in
     omega (arith, ap length h.parts, length-append (joined h.lines) rest)
 
--- a certificate's text is read as its listing, and as nothing else
-pub read_as : (bytes rest : List ℕ) (c : Listing) → certificate_part bytes ≡ Ok (c, rest)
-    → (certificate : Certificate) → HasText (listing_of certificate) → bytes ≡ certificate_text certificate → (c ≡ listing_of certificate) × (rest ≡ [])
-read_as bytes rest c e certificate h text =
-    let same = same_Ok (c, rest) (listing_of certificate, []) (sym e ∙ ap certificate_part text ∙ certificate_whole certificate h) in
-    (ap (λ (x : Listing × List ℕ). x.0) same, ap (λ (x : Listing × List ℕ). x.1) same)
+-- a certificate's text is read as its listing and its version, and as nothing else
+pub read_as : (bytes rest : List ℕ) (version : Version) (c : Listing) → certificate_part bytes ≡ Ok ((version, c), rest)
+    → (another : Version) (certificate : Certificate) → HasText (listing_of certificate) → bytes ≡ certificate_text another certificate
+    → (c ≡ listing_of certificate) × (version ≡ another) × (rest ≡ [])
+read_as bytes rest version c e another certificate h text =
+    let same = same_Ok ((version, c), rest) ((another, listing_of certificate), []) (sym e ∙ ap certificate_part text ∙ certificate_whole another certificate h) in (
+      ap (λ (x : (Version × Listing) × List ℕ). x.0.1) same,
+      ap (λ (x : (Version × Listing) × List ℕ). x.0.0) same,
+      ap (λ (x : (Version × Listing) × List ℕ). x.1) same,
+    )
 
-pub no_stop : (bytes rest : List ℕ) → certificate_part bytes ≡ Err rest → (certificate : Certificate) → HasText (listing_of certificate) → bytes ≡ certificate_text certificate → ⊥
-no_stop bytes rest e certificate h text =
-    let whole : certificate_part bytes ≡ Ok (listing_of certificate, []) = ap certificate_part text ∙ certificate_whole certificate h in
+pub no_stop : (bytes rest : List ℕ) → certificate_part bytes ≡ Err rest → (version : Version) (certificate : Certificate) → HasText (listing_of certificate)
+    → bytes ≡ certificate_text version certificate → ⊥
+no_stop bytes rest e version certificate h text =
+    let whole : certificate_part bytes ≡ Ok ((version, listing_of certificate), []) = ap certificate_part text ∙ certificate_whole version certificate h in
     cc
 
--- no text is a front of another one, and texts that are one have one listing
-pub texts_apart : (c d : Certificate) (more : List ℕ) → HasText (listing_of c) → HasText (listing_of d) → certificate_text c ++ more ≡ certificate_text d
-    → (listing_of c ≡ listing_of d) × (more ≡ [])
-texts_apart c d more h k e = read_as (certificate_text c ++ more) more (listing_of c) (certificate_again c more h) d k e
+-- no text is a front of another one, and texts that are one have one listing and one version
+pub texts_apart : (version another : Version) (c d : Certificate) (more : List ℕ) → HasText (listing_of c) → HasText (listing_of d)
+    → certificate_text version c ++ more ≡ certificate_text another d → (listing_of c ≡ listing_of d) × (version ≡ another) × (more ≡ [])
+texts_apart version another c d more h k e =
+    read_as (certificate_text version c ++ more) more version (listing_of c) (certificate_again version c more h) another d k e
 
 -- ---- Each line that may stand has one line feed, at its end; so lines are counted by their line feeds.
 pub line_feeds-append : (xs ys : List ℕ) → line_feeds (xs ++ ys) ≡ line_feeds xs + line_feeds ys
@@ -151,9 +159,23 @@ node_one (LeafNode (Ray exact n)) = line_one (codes "ray") (whole_text (suc n) �
 node_one (LeafNode (Empty exact n)) = line_one (codes "empty") (whole_text (suc n) ∷ []) refl (whole_feeds (suc n), tt)
 node_one (SplitNode g t) = line_one (codes "split") (whole_text (suc g) ∷ whole_text (suc t) ∷ []) refl (whole_feeds (suc g), (whole_feeds (suc t), tt))
 
+row_one : (first : List ℕ) → HasNone first → (row : RampRow)
+    → IsOne (line first (whole_text (suc row.g) ∷ whole_text (suc row.t) ∷ signed_text row.up ∷ signed_text row.down ∷ []))
+row_one first none row =
+    line_one first (whole_text (suc row.g) ∷ whole_text (suc row.t) ∷ signed_text row.up ∷ signed_text row.down ∷ []) none
+    (whole_feeds (suc row.g), (whole_feeds (suc row.t), (signed_feeds row.up, (signed_feeds row.down, tt))))
+
+price_one : (first : List ℕ) → HasNone first → (t : ℕ) (price : ℤ) → IsOne (line first (whole_text (suc t) ∷ signed_text price ∷ []))
+price_one first none t price = line_one first (whole_text (suc t) ∷ signed_text price ∷ []) none (whole_feeds (suc t), (signed_feeds price, tt))
+
+change_one : (change : Change) → IsOne (change_line change)
+change_one (OfDemand t price) = price_one (codes "p") refl t price
+change_one (OfReserve t price) = price_one (codes "m") refl t price
+change_one (OfRamps row) = row_one (codes "r") refl row
+
 produced_one : (kind : Symbol) (text : List ℕ) (next : List Symbol) → Produces kind text next → IsOne text
-produced_one Version text next p = subst IsOne (sym p.0) (line_one (codes "uc-certificate") (whole_text 1 ∷ []) refl (whole_feeds 1, tt))
-produced_one Size text next p =
+produced_one Head text next p = subst IsOne (sym p.1) (line_one (codes "uc-certificate") (whole_text (version_number p.0) ∷ []) refl (whole_feeds (version_number p.0), tt))
+produced_one (Size version) text next p =
     subst IsOne (sym p.2) (line_one (codes "size") (whole_text p.0.periods ∷ whole_text p.0.thermal ∷ whole_text p.0.renewable ∷ whole_text p.0.tables ∷ []) refl
     (whole_feeds p.0.periods, (whole_feeds p.0.thermal, (whole_feeds p.0.renewable, (whole_feeds p.0.tables, tt)))))
 produced_one Claim text next p = subst IsOne (sym p.2) (claim_one p.0)
@@ -163,13 +185,14 @@ produced_one (ThermalRow size) text next p = subst IsOne (sym p.2) (list_line_on
 produced_one (RenewableRow size) text next p = subst IsOne (sym p.2) (list_line_one (codes "w") signed_text refl signed_feeds p.0)
 produced_one (Shed size) text next p = subst IsOne (sym p.2) (list_line_one (codes "d") signed_text refl signed_feeds p.0)
 produced_one (Short size) text next p = subst IsOne (sym p.2) (list_line_one (codes "e") signed_text refl signed_feeds p.0)
-produced_one (Scale size) text next p = subst IsOne (sym p.2) (line_one (codes "table") (signed_text (pos p.0) ∷ []) refl (signed_feeds (pos p.0), tt))
-produced_one (Pi size) text next p = subst IsOne (sym p.2) (list_line_one (codes "pi") signed_text refl signed_feeds p.0)
-produced_one (Mu size) text next p = subst IsOne (sym p.2) (list_line_one (codes "mu") signed_text refl signed_feeds p.0)
-produced_one (Ramps size) text next p = subst IsOne (sym p.2) (line_one (codes "ramps") (whole_text p.0 ∷ []) refl (whole_feeds p.0, tt))
-produced_one (Ramp size more before) text next p =
-    subst IsOne (sym p.2) (line_one (codes "ramp") (whole_text (suc p.0.g) ∷ whole_text (suc p.0.t) ∷ signed_text p.0.up ∷ signed_text p.0.down ∷ []) refl
-    (whole_feeds (suc p.0.g), (whole_feeds (suc p.0.t), (signed_feeds p.0.up, (signed_feeds p.0.down, tt)))))
+produced_one (Scale ahead) text next p = subst IsOne (sym p.2) (line_one (codes "table") (signed_text (pos p.0) ∷ []) refl (signed_feeds (pos p.0), tt))
+produced_one (Pi ahead table) text next p = subst IsOne (sym p.2) (list_line_one (codes "pi") signed_text refl signed_feeds p.0)
+produced_one (Mu ahead table) text next p = subst IsOne (sym p.2) (list_line_one (codes "mu") signed_text refl signed_feeds p.0)
+produced_one (Ramps ahead table) text next p = subst IsOne (sym p.2) (line_one (codes "ramps") (whole_text p.0 ∷ []) refl (whole_feeds p.0, tt))
+produced_one (Ramp ahead table more before) text next p = subst IsOne (sym p.2) (row_one (codes "ramp") refl p.0)
+produced_one (Next ahead before) text next p =
+    subst IsOne (sym p.2) (line_one (codes "next") (signed_text (pos p.0.0) ∷ whole_text p.0.1 ∷ []) refl (signed_feeds (pos p.0.0), (whole_feeds p.0.1, tt)))
+produced_one (Update ahead table more last) text next p = subst IsOne (sym p.2) (change_one p.0)
 produced_one (Node size) text next p = subst IsOne (sym p.2) (node_one p.0)
 produced_one End text next p = subst IsOne (sym p.0) (line_one (codes "end") [] refl tt)
 
@@ -215,11 +238,11 @@ first_line (b ∷ bytes) e = ⊎_elim
     (cases_eq b 10)
 
 -- ---- the number of a line
-line_after : (lines : List (List ℕ)) (bytes rest : List ℕ) (left : List Symbol) → Reaches (Version ∷ []) lines left → bytes ≡ joined lines ++ rest → line_number bytes rest ≡ suc (length lines)
+line_after : (lines : List (List ℕ)) (bytes rest : List ℕ) (left : List Symbol) → Reaches (Head ∷ []) lines left → bytes ≡ joined lines ++ rest → line_number bytes rest ≡ suc (length lines)
 line_after lines bytes rest left run parts =
     let long : length bytes - length rest ≡ length (joined lines) = omega (arith, ap length parts, length-append (joined lines) rest) in
     let front : take (length bytes - length rest) bytes ≡ joined lines = (λ i. take (long i) (parts i)) ∙ take_at (joined lines) rest (length (joined lines)) refl in
-    omega (arith, ap line_feeds front, reached_feeds (Version ∷ []) lines left run)
+    omega (arith, ap line_feeds front, reached_feeds (Head ∷ []) lines left run)
 
 -- ---- faults
 pub stop_is_fault : (bytes rest : List ℕ) → certificate_part bytes ≡ Err rest → IsFaultOf bytes (faults.At (line_number bytes rest) (stop_kind rest))
@@ -248,13 +271,14 @@ stop_is_fault bytes rest e =
     rw none cut)
     (cases_Bool (list_any (λ c. nat_eq c 10) rest))
 
-pub tail_is_fault : (bytes rest : List ℕ) (c : Listing) → certificate_part bytes ≡ Ok (c, rest) → rest ≢ [] → IsFaultOf bytes (faults.At (line_number bytes rest) kinds.Tail)
-tail_is_fault bytes rest c e some =
-    let one = certificate-part.takes bytes (c, rest) e in
-    let run = certificate-part.runs c one.0 in
+pub tail_is_fault : (bytes rest : List ℕ) (version : Version) (c : Listing) → certificate_part bytes ≡ Ok ((version, c), rest) → rest ≢ []
+    → IsFaultOf bytes (faults.At (line_number bytes rest) kinds.Tail)
+tail_is_fault bytes rest version c e some =
+    let one = certificate-part.takes bytes ((version, c), rest) e in
+    let run = certificate-part.runs (version, c) one.0 in
     record {
-      before = certificate_lines 1 c;
-      number = line_after (certificate_lines 1 c) bytes rest [] run one.1;
+      before = certificate_lines version c;
+      number = line_after (certificate_lines version c) bytes rest [] run one.1;
       rest = rest;
       parts = one.1;
       stand = run;
@@ -264,23 +288,25 @@ tail_is_fault bytes rest c e some =
 -- ---- certificates
 -- what was read is a certificate's listing
 pub record IsRead (bytes : List ℕ) (c : Listing) : Type 0 where
+  pub version : Version
   pub certificate : Certificate
   pub listed : listing_of certificate ≡ c
   pub conditions : HasText (listing_of certificate)
-  pub text : bytes ≡ certificate_text certificate
+  pub text : bytes ≡ certificate_text version certificate
 
-pub whole_is_read : (bytes rest : List ℕ) (c : Listing) → certificate_part bytes ≡ Ok (c, rest) → rest ≡ [] → IsRead bytes c
+pub whole_is_read : (bytes rest : List ℕ) (version : Version) (c : Listing) → certificate_part bytes ≡ Ok ((version, c), rest) → rest ≡ [] → IsRead bytes c
 unfolding certificate_text
-whole_is_read bytes rest c e none =
-    let one = certificate-part.takes bytes (c, rest) e in
+whole_is_read bytes rest version c e none =
+    let one = certificate-part.takes bytes ((version, c), rest) e in
     let tree = owed_is_tree c.nodes one.0.tree in
     let certificate : Certificate = record { periods = c.periods; thermal = c.thermal; renewable = c.renewable; a = c.a; b = c.b; bound = c.bound; schedule = c.schedule; tables = c.tables; tree = tree.0 } in
     let listed : listing_of certificate ≡ c = (λ i. record { periods = c.periods; thermal = c.thermal; renewable = c.renewable; a = c.a; b = c.b; bound = c.bound; schedule = c.schedule; tables = c.tables; nodes = tree.1 i }) in
     record {
+      version = version;
       certificate = certificate;
       listed = listed;
       conditions = subst HasText (sym listed) one.0.text;
-      text = one.1 ∙ ap (λ rest. joined (certificate_lines 1 c) ++ rest) none ∙ append-nil (joined (certificate_lines 1 c)) ∙ ap (λ c. joined (certificate_lines 1 c)) (sym listed);
+      text = one.1 ∙ ap (λ rest. joined (certificate_lines version c) ++ rest) none ∙ append-nil (joined (certificate_lines version c)) ∙ ap (λ c. joined (certificate_lines version c)) (sym listed);
     }
 
 -- ---- The grammar goes one way: bytes have at most one line of a kind at their front. So lines that may stand meet the reader's, and
@@ -310,18 +336,21 @@ IsLawfulKind (ThermalRow size) = AreSizes size
 IsLawfulKind (RenewableRow size) = AreSizes size
 IsLawfulKind (Shed size) = AreSizes size
 IsLawfulKind (Short size) = AreSizes size
-IsLawfulKind (Scale size) = AreSizes size
-IsLawfulKind (Pi size) = AreSizes size
-IsLawfulKind (Mu size) = AreSizes size
-IsLawfulKind (Ramps size) = AreSizes size
-IsLawfulKind (Ramp size more before) = AreSizes size
+IsLawfulKind (Scale ahead) = AreSizes ahead.size
+IsLawfulKind (Pi ahead table) = AreSizes ahead.size
+IsLawfulKind (Mu ahead table) = AreSizes ahead.size
+IsLawfulKind (Ramps ahead table) = AreSizes ahead.size
+IsLawfulKind (Ramp ahead table more before) = AreSizes ahead.size
+IsLawfulKind (Next ahead before) = AreSizes ahead.size
+IsLawfulKind (Update ahead table more last) = AreSizes ahead.size
 IsLawfulKind (Node size) = AreSizes size
 IsLawfulKind _ = Unit {0}
 
 one_line : (kind : Symbol) (text other : List ℕ) (next another : List Symbol) (x y : List ℕ) → IsLawfulKind kind → Produces kind text next → Produces kind other another
     → text ++ x ≡ other ++ y → Agree text other next another x y
-one_line Version text other next another x y h p q e = agree version-form (λ _. Size ∷ []) text other next another x y (tt, tt, p.0, p.1) (tt, tt, q.0, q.1) e
-one_line Size text other next another x y h p q e = agree size-form after_size text other next another x y p q e
+one_line Head text other next another x y h p q e =
+    agree version-form (λ version. Size version ∷ []) text other next another x y (p.0, tt, p.1, p.2) (q.0, tt, q.1, q.2) e
+one_line (Size version) text other next another x y h p q e = agree (size-form version) after_size text other next another x y p q e
 one_line Claim text other next another x y h p q e = agree claim-form Done text other next another x y p q e
 one_line (Plan size) text other next another x y h p q e = agree plan-form (behind_plan size) text other next another x y p q e
 one_line (Schedule size) text other next another x y h p q e = agree schedule-form (schedule_rows size true) text other next another x y p q e
@@ -329,11 +358,18 @@ one_line (ThermalRow size) text other next another x y h p q e = agree (thermal-
 one_line (RenewableRow size) text other next another x y h p q e = agree (powers-form (codes "w") size.periods) Done text other next another x y p q e
 one_line (Shed size) text other next another x y h p q e = agree (powers-form (codes "d") size.periods) Done text other next another x y p q e
 one_line (Short size) text other next another x y h p q e = agree (powers-form (codes "e") size.periods) Done text other next another x y p q e
-one_line (Scale size) text other next another x y h p q e = agree scale-form (λ k. Pi size ∷ Mu size ∷ Ramps size ∷ []) text other next another x y p q e
-one_line (Pi size) text other next another x y h p q e = agree (prices_as (codes "pi") size) Done text other next another x y p q e
-one_line (Mu size) text other next another x y h p q e = agree (prices_as (codes "mu") size) Done text other next another x y p q e
-one_line (Ramps size) text other next another x y h p q e = agree ramp_count-form (λ count. ramp_rows size count None) text other next another x y p q e
-one_line (Ramp size more before) text other next another x y h p q e = agree (ramp-form size h before) (λ row. ramp_rows size more (Some row)) text other next another x y p q e
+one_line (Scale ahead) text other next another x y h p q e = agree scale-form (λ k. Pi ahead (scaled ahead.size k) ∷ []) text other next another x y p q e
+one_line (Pi ahead table) text other next another x y h p q e =
+    agree (prices_as (codes "pi") ahead.size) (λ prices. Mu ahead (record table { pi = prices }) ∷ []) text other next another x y p q e
+one_line (Mu ahead table) text other next another x y h p q e =
+    agree (prices_as (codes "mu") ahead.size) (λ prices. Ramps ahead (record table { mu = prices }) ∷ []) text other next another x y p q e
+one_line (Ramps ahead table) text other next another x y h p q e = agree ramp_count-form (λ count. ramp_rows ahead table count None) text other next another x y p q e
+one_line (Ramp ahead table more before) text other next another x y h p q e =
+    agree (ramp-form ahead.size h before) (λ row. ramp_rows ahead (with_ramp table row) more (Some row)) text other next another x y p q e
+one_line (Next ahead before) text other next another x y h p q e =
+    agree next-form (λ told. changes_from ahead (rescaled before told.0) told.1 None) text other next another x y p q e
+one_line (Update ahead table more last) text other next another x y h p q e =
+    agree (change-form ahead.size h table last) (λ change. changes_from ahead (changed table change) more (Some change)) text other next another x y p q e
 one_line (Node size) text other next another x y h p q e = agree (node-form size h) (children size) text other next another x y p q e
 one_line End text other next another x y h p q e = agree end-form Done text other next another x y (tt, tt, p.0, p.1) (tt, tt, q.0, q.1) e
 
@@ -349,9 +385,21 @@ many_lawful : (n : ℕ) (kind : Symbol) → IsLawfulKind kind → AreLawful (rep
 many_lawful zero kind h = tt
 many_lawful (suc n) kind h = (h, many_lawful n kind h)
 
-ramps_lawful : (size : Sizes) (n : ℕ) (before : Option RampRow) → AreSizes size → AreLawful (ramp_rows size n before)
-ramps_lawful size zero before h = tt
-ramps_lawful size (suc n) before h = (h, tt)
+tables_lawful : (size : Sizes) (n : ℕ) (before : Option Table) → AreSizes size → AreLawful (tables_from size n before)
+tables_lawful size zero before h = tt
+tables_lawful size (suc n) before h = (first_lawful (told_from size.version before), tt)
+  where
+    first_lawful : (before : Option Table) → IsLawfulKind (first_line (record { size = size; tables = n }) before)
+    first_lawful None = h
+    first_lawful (Some table) = h
+
+ramps_lawful : (ahead : Ahead) (table : Table) (n : ℕ) (before : Option RampRow) → AreSizes ahead.size → AreLawful (ramp_rows ahead table n before)
+ramps_lawful ahead table zero before h = tables_lawful ahead.size ahead.tables (Some table) h
+ramps_lawful ahead table (suc n) before h = (h, tt)
+
+changes_lawful : (ahead : Ahead) (table : Table) (n : ℕ) (last : Option Change) → AreSizes ahead.size → AreLawful (changes_from ahead table n last)
+changes_lawful ahead table zero last h = tables_lawful ahead.size ahead.tables (Some table) h
+changes_lawful ahead table (suc n) last h = (h, tt)
 
 shortages_lawful : (size : Sizes) (priced : Bool) → AreSizes size → AreLawful (shortage_rows size priced)
 shortages_lawful size false h = tt
@@ -364,18 +412,24 @@ rows_lawful size priced (Some cost) h =
     (both_lawful (replicate size.renewable (RenewableRow size)) (shortage_rows size priced) (many_lawful size.renewable (RenewableRow size) h) (shortages_lawful size priced h))
 
 pub next_lawful : (kind : Symbol) (text : List ℕ) (next : List Symbol) → IsLawfulKind kind → Produces kind text next → AreLawful next
-next_lawful Version text next h p = subst AreLawful (sym p.1) (tt, tt)
-next_lawful Size text next h p =
-    subst AreLawful (sym p.3) (tt, (p.1, both_lawful (replicate p.0.tables (Scale p.0)) (Node p.0 ∷ End ∷ []) (many_lawful p.0.tables (Scale p.0) p.1) (p.1, (tt, tt))))
+next_lawful Head text next h p = subst AreLawful (sym p.2) (tt, tt)
+next_lawful (Size version) text next h p =
+    let size = p.0 in
+    let lawful = p.1.sizes in
+    subst AreLawful (sym p.3) (tt, (lawful, both_lawful (tables_from size size.tables None) (Node size ∷ End ∷ []) (tables_lawful size size.tables None lawful) (lawful, (tt, tt))))
 next_lawful (Plan size) text next h p = subst AreLawful (sym p.3) (behind p.0)
   where
     behind : (first : PlanLine) → AreLawful (behind_plan size first)
     behind (Priced a b) = (h, tt)
     behind (Unpriced cost) = rows_lawful size false cost h
 next_lawful (Schedule size) text next h p = subst AreLawful (sym p.3) (rows_lawful size true p.0 h)
-next_lawful (Scale size) text next h p = subst AreLawful (sym p.3) (h, (h, (h, tt)))
-next_lawful (Ramps size) text next h p = subst AreLawful (sym p.3) (ramps_lawful size p.0 None h)
-next_lawful (Ramp size more before) text next h p = subst AreLawful (sym p.3) (ramps_lawful size more (Some p.0) h)
+next_lawful (Scale ahead) text next h p = subst AreLawful (sym p.3) (h, tt)
+next_lawful (Pi ahead table) text next h p = subst AreLawful (sym p.3) (h, tt)
+next_lawful (Mu ahead table) text next h p = subst AreLawful (sym p.3) (h, tt)
+next_lawful (Ramps ahead table) text next h p = subst AreLawful (sym p.3) (ramps_lawful ahead table p.0 None h)
+next_lawful (Ramp ahead table more before) text next h p = subst AreLawful (sym p.3) (ramps_lawful ahead (with_ramp table p.0) more (Some p.0) h)
+next_lawful (Next ahead before) text next h p = subst AreLawful (sym p.3) (changes_lawful ahead (rescaled before p.0.0) p.0.1 None h)
+next_lawful (Update ahead table more last) text next h p = subst AreLawful (sym p.3) (changes_lawful ahead (changed table p.0) more (Some p.0) h)
 next_lawful (Node size) text next h p = subst AreLawful (sym p.3) (behind p.0)
   where
     behind : (node : TreeNode) → AreLawful (children size node)
@@ -417,40 +471,45 @@ nothing_behind : (more : List (List ℕ)) (left : List Symbol) → Reaches [] mo
 nothing_behind [] left e = (refl, e)
 nothing_behind (text ∷ more) left e = absurd e
 
-barred_run : (bytes rest : List ℕ) (h : Stops (Version ∷ []) bytes rest) (more : List (List ℕ)) → Reaches (h.kind ∷ h.others) more [] → rest ≡ joined more ++ [] → ⊥
+barred_run : (bytes rest : List ℕ) (h : Stops (Head ∷ []) bytes rest) (more : List (List ℕ)) → Reaches (h.kind ∷ h.others) more [] → rest ≡ joined more ++ [] → ⊥
 barred_run bytes rest h [] e same = cc
 barred_run bytes rest h (text ∷ more) e same = h.barred text (joined more ++ []) e.0 e.1 (same ∙ ap (λ bytes. bytes ++ []) (joined-cons text more) ∙ append_assoc text (joined more) [])
 
-no_whole_stops : (lines : List (List ℕ)) (rest : List ℕ) → Reaches (Version ∷ []) lines [] → Stops (Version ∷ []) (joined lines) rest → ⊥
+no_whole_stops : (lines : List (List ℕ)) (rest : List ℕ) → Reaches (Head ∷ []) lines [] → Stops (Head ∷ []) (joined lines) rest → ⊥
 no_whole_stops lines rest run h = ⊎_elim
     (λ (one : GoesOn lines [] [] h.lines (h.kind ∷ h.others) rest). let none = (nothing_behind one.more (h.kind ∷ h.others) one.run).1 in cc)
     (λ (two : GoesOn h.lines (h.kind ∷ h.others) rest lines [] []). barred_run (joined lines) rest h two.more two.run two.rest)
-    (runs_meet (Version ∷ []) lines h.lines [] (h.kind ∷ h.others) [] rest (tt, tt) run h.run (append-nil (joined lines) ∙ h.parts))
+    (runs_meet (Head ∷ []) lines h.lines [] (h.kind ∷ h.others) [] rest (tt, tt) run h.run (append-nil (joined lines) ∙ h.parts))
 
-whole_lines : (lines others : List (List ℕ)) (rest : List ℕ) → Reaches (Version ∷ []) lines [] → Reaches (Version ∷ []) others [] → joined lines ≡ joined others ++ rest → lines ≡ others
+whole_lines : (lines others : List (List ℕ)) (rest : List ℕ) → Reaches (Head ∷ []) lines [] → Reaches (Head ∷ []) others [] → joined lines ≡ joined others ++ rest → lines ≡ others
 whole_lines lines others rest run whole e = ⊎_elim
     (λ (one : GoesOn lines [] [] others [] rest). sym (one.lines_are ∙ ap (λ more. lines ++ more) (nothing_behind one.more [] one.run).0 ∙ append-nil lines))
     (λ (two : GoesOn others [] rest lines [] []). two.lines_are ∙ ap (λ more. others ++ more) (nothing_behind two.more [] two.run).0 ∙ append-nil others)
-    (runs_meet (Version ∷ []) lines others [] [] [] rest (tt, tt) run whole (append-nil (joined lines) ∙ e))
+    (runs_meet (Head ∷ []) lines others [] [] [] rest (tt, tt) run whole (append-nil (joined lines) ∙ e))
 
-listed_lines : (lines : List (List ℕ)) (c : Listing) (rest : List ℕ) → Reaches (Version ∷ []) lines [] → IsListed c → joined lines ≡ joined (certificate_lines 1 c) ++ rest
-    → (certificate : Certificate) × HasText (listing_of certificate) × (lines ≡ certificate_lines 1 (listing_of certificate))
-listed_lines lines c rest run listed e =
+listed_lines : (lines : List (List ℕ)) (version : Version) (c : Listing) (rest : List ℕ) → Reaches (Head ∷ []) lines [] → IsListed c → joined lines ≡ joined (certificate_lines version c) ++ rest
+    → (version : Version) × (certificate : Certificate) × HasText (listing_of certificate) × (lines ≡ certificate_lines version (listing_of certificate))
+listed_lines lines version c rest run listed e =
     let tree = owed_is_tree c.nodes listed.tree in
     let certificate : Certificate = record { periods = c.periods; thermal = c.thermal; renewable = c.renewable; a = c.a; b = c.b; bound = c.bound; schedule = c.schedule; tables = c.tables; tree = tree.0 } in
-    let same : listing_of certificate ≡ c = (λ i. record { periods = c.periods; thermal = c.thermal; renewable = c.renewable; a = c.a; b = c.b; bound = c.bound; schedule = c.schedule; tables = c.tables; nodes = tree.1 i }) in
-    (certificate, subst HasText (sym same) listed.text, whole_lines lines (certificate_lines 1 c) rest run (certificate-part.runs c listed) e ∙ ap (certificate_lines 1) (sym same))
+    let same : listing_of certificate ≡ c = (λ i. record { periods = c.periods; thermal = c.thermal; renewable = c.renewable; a = c.a; b = c.b; bound = c.bound; schedule = c.schedule; tables = c.tables; nodes = tree.1 i }) in (
+      version,
+      certificate,
+      subst HasText (sym same) listed.text,
+      whole_lines lines (certificate_lines version c) rest run (certificate-part.runs (version, c) listed) e ∙ ap (certificate_lines version) (sym same),
+    )
 
-pub whole_run_is_certificate : (lines : List (List ℕ)) → Reaches (Version ∷ []) lines []
-    → (c : Certificate) × HasText (listing_of c) × (lines ≡ certificate_lines 1 (listing_of c))
+pub whole_run_is_certificate : (lines : List (List ℕ)) → Reaches (Head ∷ []) lines []
+    → (version : Version) × (c : Certificate) × HasText (listing_of c) × (lines ≡ certificate_lines version (listing_of c))
 whole_run_is_certificate lines run = by_reading (certificate_part (joined lines)) refl
   where
-    by_reading : (r : Result (Listing × List ℕ) (List ℕ)) → certificate_part (joined lines) ≡ r → (c : Certificate) × HasText (listing_of c) × (lines ≡ certificate_lines 1 (listing_of c))
-    by_reading (Ok x) e = let one = certificate-part.takes (joined lines) x e in listed_lines lines x.0 x.1 run one.0 one.1
+    by_reading : (r : Result ((Version × Listing) × List ℕ) (List ℕ)) → certificate_part (joined lines) ≡ r
+        → (version : Version) × (c : Certificate) × HasText (listing_of c) × (lines ≡ certificate_lines version (listing_of c))
+    by_reading (Ok x) e = let one = certificate-part.takes (joined lines) x e in listed_lines lines x.0.0 x.0.1 x.1 run one.0 one.1
     by_reading (Err rest) e = absurd (no_whole_stops lines rest run (certificate-part.stops (joined lines) rest e))
 
-pub certificate_runs : (c : Certificate) → HasText (listing_of c) → Reaches (Version ∷ []) (certificate_lines 1 (listing_of c)) []
-certificate_runs c h = certificate-part.runs (listing_of c) (certificate_listed c h)
+pub certificate_runs : (version : Version) (c : Certificate) → HasText (listing_of c) → Reaches (Head ∷ []) (certificate_lines version (listing_of c)) []
+certificate_runs version c h = certificate-part.runs (version, listing_of c) (certificate_listed c h)
 
 -- ---- Bytes have at most one fault: the lines before it may stand, so two faults have the same lines before them.
 none_counted : (bytes : List ℕ) → line_feeds bytes ≡ 0 → HasLineFeed bytes → ⊥
@@ -496,7 +555,7 @@ record FaultPoint (bytes : List ℕ) (line : ℕ) (kind : CertKind) : Type 0 whe
   rest : List ℕ
   number : line ≡ suc (length before)
   parts : bytes ≡ joined before ++ rest
-  stand : Reaches (Version ∷ []) before left
+  stand : Reaches (Head ∷ []) before left
   is : IsPoint kind left rest
 
 point_of : (bytes : List ℕ) (line : ℕ) (kind : CertKind) → IsKindAt bytes line kind → FaultPoint bytes line kind
@@ -570,4 +629,4 @@ one_fault bytes line other kind another h k =
     ⊎_elim
     (λ (one : GoesOn p.before p.left p.rest q.before q.left q.rest). as_far bytes line other kind another p q one)
     (λ (two : GoesOn q.before q.left q.rest p.before p.left p.rest). let same = as_far bytes other line another kind q p two in (sym same.0, sym same.1))
-    (runs_meet (Version ∷ []) p.before q.before p.left q.left p.rest q.rest (tt, tt) p.stand q.stand (sym p.parts ∙ q.parts))
+    (runs_meet (Head ∷ []) p.before q.before p.left q.left p.rest q.rest (tt, tt) p.stand q.stand (sym p.parts ∙ q.parts))

@@ -4,14 +4,17 @@ use Rattle.std.specs.List.{flat_map}
 use Rattle.std.proofs.lemmas.List.Elements.{All-nil, All-cons, All-head, All-tail}
 use Rattle.outside.specs.Lines.{joined, line}
 use Rattle.outside.proofs.Joining.{joined-cons}
-use Rattle.cert_text.specs.Grammar.{RampRow, Symbol, Reaches, Sizes, AreSizes, Scale, Pi, Mu, Ramps, Ramp, ArePrices, IsRampAfter, ramp_rows, ramp_count_line, Plan, Node, children, Version, Size, Claim, End, after_size}
-use Rattle.cert_text.specs.inside.Forms.{signed_at, text_at, row_at, ramp_count_at, ramp_at, node_at, split_at, claim_at, end_at}
-use Rattle.cert_text.specs.inside.Parts.{◌>>=◌, Planned, line_of, then, repeated, written, plan_part, ramp_rows_part, ramps_part, prices_part, table_of, numbers_part, table_part, owed_after, nodes_part, tree_part, listing_from, heading_part, certificate_part, AreRamps}
-use Rattle.cert_text.proofs.FormLaws.{IsForm, Anything, prices-form, scale-form, ramp_count-form, ramp-form, form-as, node-form, version-form, size-form, claim-form, end-form}
+use Rattle.cert_text.specs.Changes.{Change, changed, all_changed, table_changes}
+use Rattle.cert_text.specs.Grammar.{RampRow, Symbol, Reaches, Sizes, AreSizes, Ahead, Scale, Pi, Mu, Ramps, Ramp, Next, Update, ArePrices, IsRampAfter, IsChangeAfter, first_line, tables_from, tables_behind, ramp_rows, changes_from, scaled, with_ramp, rescaled, ramp_count_line, Plan, Node, children, Head, Size, Claim, End, after_size}
+use Rattle.cert_text.specs.inside.Forms.{signed_at, text_at, row_at, ramp_count_at, ramp_at, next_at, change_at, node_at, split_at, claim_at, end_at}
+use Rattle.cert_text.specs.inside.Parts.{◌>>=◌, Planned, line_of, then, plan_part, ramp_rows_part, ramps_part, prices_part, table_of, numbers_part, table_part, changes_part, next_part, told_part, tables_part, AreChanges, owed_after, nodes_part, tree_part, listing_from, heading_part, certificate_part, AreRamps}
+use Rattle.cert_text.proofs.FormLaws.{IsForm, Anything, prices-form, scale-form, ramp_count-form, form-as, version-form, size-form, claim-form, end-form}
+use Rattle.cert_text.proofs.TableForms.{ramp-form, next-form, change-form, node-form}
+use Rattle.cert_text.proofs.ChangeLaws.{changes_found, changes_make, changed_is_text, changes_few}
 use Rattle.std.proofs.lemmas.Int.{ints}
 use Rattle.dual_model.specs.Prices.{IsWellFormed, IsRowBefore, IsRowWithin}
 use Rattle.cert_text.specs.TextConditions.{Table, IsRampText, IsTableText, IsMoney, HasText}
-use Rattle.cert_text.specs.CertificateText.{prices_line, ramps_line, ramp_line, table_lines, Listing, listing_of, version_line, size_line, claim_line, end_line, certificate_lines, certificate_text, TreeNode, LeafNode, SplitNode, preorder, node_line, IsNodeWithin}
+use Rattle.cert_text.specs.CertificateText.{Version, First, Second, prices_line, ramps_line, ramp_line, table_lines, next_line, change_line, next_lines, told_from, told_lines, tables_lines, Listing, listing_of, version_line, size_line, claim_line, end_line, certificate_lines, certificate_text, TreeNode, LeafNode, SplitNode, preorder, node_line, IsNodeWithin}
 use Rattle.dual_model.specs.Certificate.{Certificate}
 use Rattle.dual_model.specs.Tree.{Tree, Ends, Splits}
 use Rattle.dual_model.specs.Cover.{Leaf, Bound}
@@ -21,46 +24,53 @@ use Rattle.cert_text.proofs.PlanLaws.{IsPlan, plan-part, lines_of}
 
 -- ---- The part of a table reads its lines.
 -- ---- ramp rows
-pub ramp_rows-part : (size : Sizes) → AreSizes size → (n : ℕ) (before : Option RampRow)
-    → IsPart (ramp_rows_part size n before) (λ rows. (length rows ≡ n) × AreRamps size before rows) (map ramp_line) (ramp_rows size n before) Done
+-- the table with rows behind those that were told of it
+abbrev with_ramps : Table → List RampRow → Table
+with_ramps table rows = record table { ramps = table.ramps ++ rows }
+
+pub ramp_rows-part : (ahead : Ahead) → AreSizes ahead.size → (table : Table) (n : ℕ) (before : Option RampRow)
+    → IsPart (ramp_rows_part ahead.size n before) (λ rows. (length rows ≡ n) × AreRamps ahead.size before rows) (map ramp_line) (ramp_rows ahead table n before)
+    (λ rows. tables_behind ahead (with_ramps table rows))
 unfolding ramp_rows_part
-ramp_rows-part size lawful zero before =
-    part-as (told-part (nothing-part []) (λ rows. rows) (λ rows. (length rows ≡ 0) × AreRamps size before rows) (map ramp_line) Done (record { there = there; back = back })) (λ bytes. refl)
+ramp_rows-part ahead lawful table zero before =
+    part-as (told-part (before-part (nothing-part []) (tables_behind ahead table)) (λ rows. rows) (λ rows. (length rows ≡ 0) × AreRamps ahead.size before rows) (map ramp_line)
+    (λ rows. tables_behind ahead (with_ramps table rows)) (record { there = there; back = back })) (λ bytes. refl)
   where
-    there : (rows : List RampRow) → rows ≡ [] → ((length rows ≡ 0) × AreRamps size before rows) × ([] ≡ map ramp_line rows) × ([] ≡ Done rows)
-    there [] e = ((refl, tt), refl, refl)
+    there : (rows : List RampRow) → rows ≡ [] → ((length rows ≡ 0) × AreRamps ahead.size before rows) × ([] ≡ map ramp_line rows) × (tables_behind ahead table ≡ tables_behind ahead (with_ramps table rows))
+    there [] e = ((refl, tt), refl, ap (λ ramps. tables_behind ahead (record table { ramps = ramps })) (sym (append-nil table.ramps)))
     there (row ∷ rows) e = absurd cc
 
-    back : (rows : List RampRow) → (length rows ≡ 0) × AreRamps size before rows → (a : List RampRow) × (a ≡ []) × (a ≡ rows)
+    back : (rows : List RampRow) → (length rows ≡ 0) × AreRamps ahead.size before rows → (a : List RampRow) × (a ≡ []) × (a ≡ rows)
     back [] w = ([], refl, refl)
     back (row ∷ rows) w = absurd (omega arith)
-ramp_rows-part size lawful (suc n) before =
-    part-as (told-part (then-part (line-part (ramp-form size lawful before) (Ramp size n before) (λ row. ramp_rows size n (Some row)) (λ row v. (row, v, refl, refl)) (λ text others p. (p.0, p.1, p.2)))
-    (λ row v. ramp_rows-part size lawful n (Some row)))
-    grown (λ rows. (length rows ≡ suc n) × AreRamps size before rows) (map ramp_line) Done
-    (record { there = λ p v. ((ap suc v.1.0, (v.0, v.1.1)), refl, refl); back = back }))
-    (told_then grown (line_of (ramp_at size before)) (λ row. ramp_rows_part size n (Some row)))
+ramp_rows-part ahead lawful table (suc n) before =
+    part-as (told-part (then-part (line-part (ramp-form ahead.size lawful before) (Ramp ahead table n before) (λ row. ramp_rows ahead (with_ramp table row) n (Some row)) (λ row v. (row, v, refl, refl)) (λ text others p. (p.0, p.1, p.2)))
+    (λ row v. ramp_rows-part ahead lawful (with_ramp table row) n (Some row)))
+    grown (λ rows. (length rows ≡ suc n) × AreRamps ahead.size before rows) (map ramp_line) (λ rows. tables_behind ahead (with_ramps table rows))
+    (record { there = λ p v. ((ap suc v.1.0, (v.0, v.1.1)), refl, ap (λ ramps. tables_behind ahead (record table { ramps = ramps })) (append_assoc table.ramps (p.0 ∷ []) p.1)); back = back }))
+    (told_then grown (line_of (ramp_at ahead.size before)) (λ row. ramp_rows_part ahead.size n (Some row)))
   where
     grown : RampRow × List RampRow → List RampRow
     grown p = p.0 ∷ p.1
 
-    back : (rows : List RampRow) → (length rows ≡ suc n) × AreRamps size before rows
-        → (p : RampRow × List RampRow) × (IsRampAfter size before p.0 × ((length p.1 ≡ n) × AreRamps size (Some p.0) p.1)) × (grown p ≡ rows)
+    back : (rows : List RampRow) → (length rows ≡ suc n) × AreRamps ahead.size before rows
+        → (p : RampRow × List RampRow) × (IsRampAfter ahead.size before p.0 × ((length p.1 ≡ n) × AreRamps ahead.size (Some p.0) p.1)) × (grown p ≡ rows)
     back [] w = absurd (omega arith)
     back (row ∷ rows) w = ((row, rows), (w.1.0, (omega arith, w.1.1)), refl)
 
-pub ramps-part : (size : Sizes) → AreSizes size
-    → IsPart (ramps_part size) (λ rows. (length rows < 10 ^ 18) × AreRamps size None rows) (λ rows. ramps_line rows ∷ map ramp_line rows) (Ramps size ∷ []) Done
+pub ramps-part : (ahead : Ahead) → AreSizes ahead.size → (table : Table)
+    → IsPart (ramps_part ahead.size) (λ rows. (length rows < 10 ^ 18) × AreRamps ahead.size None rows) (λ rows. ramps_line rows ∷ map ramp_line rows) (Ramps ahead table ∷ [])
+    (λ rows. tables_behind ahead (with_ramps table rows))
 unfolding ramps_part
-ramps-part size lawful =
-    part-as (told-part (then-part (line-part ramp_count-form (Ramps size) (λ count. ramp_rows size count None) (λ count v. (count, v, refl, refl)) (λ text others p. (p.0, p.1, p.2)))
-    (λ count v. ramp_rows-part size lawful count None))
-    (λ p. p.1) (λ rows. (length rows < 10 ^ 18) × AreRamps size None rows) (λ rows. ramps_line rows ∷ map ramp_line rows) Done
+ramps-part ahead lawful table =
+    part-as (told-part (then-part (line-part ramp_count-form (Ramps ahead table) (λ count. ramp_rows ahead table count None) (λ count v. (count, v, refl, refl)) (λ text others p. (p.0, p.1, p.2)))
+    (λ count v. ramp_rows-part ahead lawful table count None))
+    (λ p. p.1) (λ rows. (length rows < 10 ^ 18) × AreRamps ahead.size None rows) (λ rows. ramps_line rows ∷ map ramp_line rows) (λ rows. tables_behind ahead (with_ramps table rows))
     (record {
       there = λ p v. ((omega (arith, v.0, v.1.0), v.1.1), ap (λ count. ramp_count_line count ∷ map ramp_line p.1) (sym v.1.0), refl);
       back = λ rows w. ((length rows, rows), (w.0, (refl, w.1)), refl);
     }))
-    (told_second (line_of ramp_count_at) (λ count. ramp_rows_part size count None))
+    (told_second (line_of ramp_count_at) (λ count. ramp_rows_part ahead.size count None))
 
 -- rows that follow each other are within the size, of few digits, and rise
 ramps_within : (size : Sizes) (before : Option RampRow) (rows : List RampRow) → AreRamps size before rows → All (IsRowWithin size.thermal size.periods) rows
@@ -97,13 +107,14 @@ pub prices_as : (word : List ℕ) (size : Sizes) → IsForm (row_at word size.pe
 prices_as word size =
     form-as (prices-form word size.periods) (ArePrices size) (prices_line word) (λ prices v. record { periods = v.0; written = v.1 }) (λ prices w. (w.periods, w.written)) (λ prices v. refl)
 
-pub table-part : (size : Sizes) → AreSizes size → IsPart (table_part size) (IsTableText size.periods size.thermal) table_lines (Scale size ∷ []) Done
+pub table-part : (ahead : Ahead) → AreSizes ahead.size → IsPart (table_part ahead.size) (IsTableText ahead.size.periods ahead.size.thermal) table_lines (Scale ahead ∷ []) (tables_behind ahead)
 unfolding table_part numbers_part
-table-part size lawful =
-    told-part (then-part (line-part scale-form (Scale size) (λ k. Pi size ∷ Mu size ∷ Ramps size ∷ []) (λ k v. (k, v, refl, refl)) (λ text others p. (p.0, p.1, p.2)))
-    (λ k v. then-part (before-part pi_prices (Mu size ∷ Ramps size ∷ []))
-    (λ pi v. then-part (before-part mu_prices (Ramps size ∷ [])) (λ mu v. ramps-part size lawful))))
-    (table_of size) (IsTableText size.periods size.thermal) table_lines Done
+table-part ahead lawful =
+    told-part (then-part (line-part scale-form (Scale ahead) (λ k. Pi ahead (scaled size k) ∷ []) (λ k v. (k, v, refl, refl)) (λ text others p. (p.0, p.1, p.2)))
+    (λ k v. then-part (line-part (prices_as (codes "pi") size) (Pi ahead (scaled size k)) (λ pi. Mu ahead (record (scaled size k) { pi = pi }) ∷ []) (λ prices v. (prices, v, refl, refl)) (λ text others p. (p.0, p.1, p.2)))
+    (λ pi v. then-part (line-part (prices_as (codes "mu") size) (Mu ahead (record (scaled size k) { pi = pi })) (λ mu. Ramps ahead (record (scaled size k) { pi = pi; mu = mu }) ∷ []) (λ prices v. (prices, v, refl, refl)) (λ text others p. (p.0, p.1, p.2)))
+    (λ mu v. ramps-part ahead lawful (record (scaled size k) { pi = pi; mu = mu })))))
+    (table_of size) (IsTableText size.periods size.thermal) table_lines (tables_behind ahead)
     (record {
       there = λ p v. (
         record {
@@ -127,11 +138,8 @@ table-part size lawful =
       back = back;
     })
   where
-    pi_prices : IsPart (prices_part (codes "pi") size) (ArePrices size) (λ prices. prices_line (codes "pi") prices ∷ []) (Pi size ∷ []) Done
-    pi_prices = line-part (prices_as (codes "pi") size) (Pi size) Done (λ prices v. (prices, v, refl, refl)) (λ text others p. (p.0, p.1, p.2))
-
-    mu_prices : IsPart (prices_part (codes "mu") size) (ArePrices size) (λ prices. prices_line (codes "mu") prices ∷ []) (Mu size ∷ []) Done
-    mu_prices = line-part (prices_as (codes "mu") size) (Mu size) Done (λ prices v. (prices, v, refl, refl)) (λ text others p. (p.0, p.1, p.2))
+    size : Sizes
+    size = ahead.size
 
     natural : (k : ℤ) → pos 0 ≤ℤ k → pos (unsigned_abs k) ≡ k
     natural (pos n) h = refl
@@ -153,7 +161,111 @@ pub numbers_form : (size : Sizes) → AreSizes size → (bytes : List ℕ) (numb
     → numbers_part size bytes ≡ Ok (numbers, rest) → IsWellFormed (table_of size numbers)
 numbers_form size lawful bytes numbers rest e =
     let table : table_part size bytes ≡ Ok (table_of size numbers, rest) = unfold table_part in rw e refl in
-    ((table-part size lawful).takes bytes (table_of size numbers, rest) table).0.form
+    ((table-part (record { size = size; tables = 0 }) lawful).takes bytes (table_of size numbers, rest) table).0.form
+
+-- ---- tables told by their difference to another
+pub changes-part : (ahead : Ahead) → AreSizes ahead.size → (table : Table) (n : ℕ) (last : Option Change)
+    → IsPart (changes_part ahead.size table n last) (λ changes. (length changes ≡ n) × AreChanges ahead.size table last changes) (map change_line) (changes_from ahead table n last)
+    (λ changes. tables_behind ahead (all_changed table changes))
+unfolding changes_part
+changes-part ahead lawful table zero last =
+    part-as (told-part (before-part (nothing-part []) (tables_behind ahead table)) (λ changes. changes) (λ changes. (length changes ≡ 0) × AreChanges ahead.size table last changes) (map change_line)
+    (λ changes. tables_behind ahead (all_changed table changes)) (record { there = there; back = back })) (λ bytes. refl)
+  where
+    there : (changes : List Change) → changes ≡ []
+        → ((length changes ≡ 0) × AreChanges ahead.size table last changes) × ([] ≡ map change_line changes) × (tables_behind ahead table ≡ tables_behind ahead (all_changed table changes))
+    there [] e = ((refl, tt), refl, refl)
+    there (change ∷ changes) e = absurd cc
+
+    back : (changes : List Change) → (length changes ≡ 0) × AreChanges ahead.size table last changes → (a : List Change) × (a ≡ []) × (a ≡ changes)
+    back [] w = ([], refl, refl)
+    back (change ∷ changes) w = absurd (omega arith)
+changes-part ahead lawful table (suc n) last =
+    part-as (told-part (then-part (line-part (change-form ahead.size lawful table last) (Update ahead table n last) (λ change. changes_from ahead (changed table change) n (Some change)) (λ change v. (change, v, refl, refl)) (λ text others p. (p.0, p.1, p.2)))
+    (λ change v. changes-part ahead lawful (changed table change) n (Some change)))
+    grown (λ changes. (length changes ≡ suc n) × AreChanges ahead.size table last changes) (map change_line) (λ changes. tables_behind ahead (all_changed table changes))
+    (record { there = λ p v. ((ap suc v.1.0, (v.0, v.1.1)), refl, refl); back = back }))
+    (told_then grown (line_of (change_at ahead.size table last)) (λ change. changes_part ahead.size (changed table change) n (Some change)))
+  where
+    grown : Change × List Change → List Change
+    grown p = p.0 ∷ p.1
+
+    back : (changes : List Change) → (length changes ≡ suc n) × AreChanges ahead.size table last changes
+        → (p : Change × List Change) × (IsChangeAfter ahead.size table last p.0 × ((length p.1 ≡ n) × AreChanges ahead.size (changed table p.0) (Some p.0) p.1)) × (grown p ≡ changes)
+    back [] w = absurd (omega arith)
+    back (change ∷ changes) w = ((change, changes), (w.1.0, (omega arith, w.1.1)), refl)
+
+pub next-part : (ahead : Ahead) → AreSizes ahead.size → (before : Table) → IsTableText ahead.size.periods ahead.size.thermal before
+    → IsPart (next_part ahead.size before) (IsTableText ahead.size.periods ahead.size.thermal) (told_lines (Some before)) (Next ahead before ∷ []) (tables_behind ahead)
+unfolding next_part
+next-part ahead lawful before text =
+    told-part (then-part (line-part next-form (Next ahead before) (λ p. changes_from ahead (rescaled before p.0) p.1 None) (λ p v. (p, v, refl, refl)) (λ text others p. (p.0, p.1, p.2)))
+    (λ p v. changes-part ahead lawful (rescaled before p.0) p.1 None))
+    (λ p. all_changed (rescaled before p.0.0) p.1) (IsTableText ahead.size.periods ahead.size.thermal) (told_lines (Some before)) (tables_behind ahead)
+    (record {
+      there = λ p v.
+          let is = changed_is_text ahead.size lawful before p.0.0 p.1 text v.0.0 v.1.1 in (
+            is.0,
+            ap (λ n. next_line (pos p.0.0) n ∷ map change_line p.1) (sym v.1.0)
+            ∙ (λ i. next_lines (sym is.1 i) (sym (changes_found ahead.size before p.0.0 p.1 text v.1.1) i)),
+            refl,
+          );
+      back = λ table w.
+          let made = changes_make ahead.size before table text w in (
+            ((unsigned_abs table.k, length (table_changes before table)), table_changes before table),
+            ((w.scale, changes_few ahead.size lawful (rescaled before (unsigned_abs table.k)) None (table_changes before table) made.0), (refl, made.0)),
+            made.1,
+          );
+    })
+
+-- a table is told whole, or by its difference to this one, which has a text too
+pub told_table-part : (ahead : Ahead) → AreSizes ahead.size → (before : Option Table) → IfSome before (IsTableText ahead.size.periods ahead.size.thermal)
+    → IsPart (told_part ahead.size before) (IsTableText ahead.size.periods ahead.size.thermal) (told_lines before) (first_line ahead before ∷ []) (tables_behind ahead)
+unfolding told_part
+told_table-part ahead lawful None text = table-part ahead lawful
+told_table-part ahead lawful (Some before) text = next-part ahead lawful before text
+
+-- the tables, of which each one has a text
+told_has_text : {P : Table → Type 0} (version : Version) (before : Option Table) → IfSome before P → IfSome (told_from version before) P
+told_has_text First before text = tt
+told_has_text Second before text = text
+
+pub tables-part : (size : Sizes) → AreSizes size → (n : ℕ) (before : Option Table) → IfSome before (IsTableText size.periods size.thermal)
+    → IsPart (tables_part size n before) (λ tables. (length tables ≡ n) × All (IsTableText size.periods size.thermal) tables) (tables_lines size.version before) (tables_from size n before) Done
+unfolding tables_part
+tables-part size lawful zero before text =
+    part-as (told-part (nothing-part []) (λ tables. tables) (λ tables. (length tables ≡ 0) × All (IsTableText size.periods size.thermal) tables) (tables_lines size.version before) Done (record { there = there; back = back })) (λ bytes. refl)
+  where
+    there : (tables : List Table) → tables ≡ [] → ((length tables ≡ 0) × All (IsTableText size.periods size.thermal) tables) × ([] ≡ tables_lines size.version before tables) × ([] ≡ Done tables)
+    there [] e = ((refl, All-nil (IsTableText size.periods size.thermal)), refl, refl)
+    there (table ∷ tables) e = absurd cc
+
+    back : (tables : List Table) → (length tables ≡ 0) × All (IsTableText size.periods size.thermal) tables → (a : List Table) × (a ≡ []) × (a ≡ tables)
+    back [] w = ([], refl, refl)
+    back (table ∷ tables) w = absurd (omega arith)
+tables-part size lawful (suc n) before text =
+    part-as (told-part (then-part (told_table-part (record { size = size; tables = n }) lawful (told_from size.version before) (told_has_text size.version before text))
+    (λ table v. tables-part size lawful n (Some table) v))
+    grown (λ tables. (length tables ≡ suc n) × All (IsTableText size.periods size.thermal) tables) (tables_lines size.version before) Done
+    (record { there = λ p v. ((ap suc v.1.0, All-cons (IsTableText size.periods size.thermal) p.0 p.1 v.0 v.1.1), refl, refl); back = back }))
+    (told_then grown (told_part size (told_from size.version before)) (λ table. tables_part size n (Some table)))
+  where
+    grown : Table × List Table → List Table
+    grown p = p.0 ∷ p.1
+
+    back : (tables : List Table) → (length tables ≡ suc n) × All (IsTableText size.periods size.thermal) tables
+        → (p : Table × List Table) × (IsTableText size.periods size.thermal p.0 × ((length p.1 ≡ n) × All (IsTableText size.periods size.thermal) p.1)) × (grown p ≡ tables)
+    back [] w = absurd (omega arith)
+    back (table ∷ tables) w = ((table, tables), (All-head (IsTableText size.periods size.thermal) table tables w.1, (omega arith, All-tail (IsTableText size.periods size.thermal) table tables w.1)), refl)
+
+-- the tables that are read have a text
+pub next_form : (size : Sizes) → AreSizes size → (before : Table) → IsTableText size.periods size.thermal before → (bytes : List ℕ) (table : Table) (rest : List ℕ)
+    → next_part size before bytes ≡ Ok (table, rest) → IsTableText size.periods size.thermal table
+next_form size lawful before text bytes table rest e = ((next-part (record { size = size; tables = 0 }) lawful before text).takes bytes (table, rest) e).0
+
+pub table_form : (size : Sizes) → AreSizes size → (bytes : List ℕ) (table : Table) (rest : List ℕ) → table_part size bytes ≡ Ok (table, rest) → IsTableText size.periods size.thermal table
+table_form size lawful bytes table rest e = ((table-part (record { size = size; tables = 0 }) lawful).takes bytes (table, rest) e).0
+
 
 -- ---- The part of the tree reads the nodes of one tree in preorder.
 -- the nodes are those of so many trees
@@ -301,13 +413,19 @@ tree-part size lawful = record {
 }
 
 -- ---- The whole of a certificate reads its lines.
-heading-part : IsPart heading_part AreSizes (λ size. version_line 1 ∷ size_line size.periods size.thermal size.renewable size.tables ∷ []) (Version ∷ []) after_size
+abbrev heading_lines : Sizes → List (List ℕ)
+heading_lines size = version_line size.version ∷ size_line size.periods size.thermal size.renewable size.tables ∷ []
+
+heading-part : IsPart heading_part AreSizes heading_lines (Head ∷ []) after_size
 unfolding heading_part
 heading-part =
-    told-part (then-part (line-part version-form Version (λ _. Size ∷ []) (λ a v. (refl, refl)) (λ text others p. (tt, tt, p.0)))
-    (λ a v. line-part size-form Size after_size (λ size v. (size, v, refl, refl)) (λ text others p. (p.0, p.1, p.2))))
-    (λ p. p.1) AreSizes (λ size. version_line 1 ∷ size_line size.periods size.thermal size.renewable size.tables ∷ []) after_size
-    (record { there = λ p v. (v.1, refl, refl); back = λ size w. ((tt, size), (tt, w), refl) })
+    told-part (then-part (line-part version-form Head (λ version. Size version ∷ []) (λ version v. (version, refl, refl)) (λ text others p. (p.0, tt, p.1)))
+    (λ version v. line-part (size-form version) (Size version) after_size (λ size v. (size, v, refl, refl)) (λ text others p. (p.0, p.1, p.2))))
+    (λ p. p.1) AreSizes heading_lines after_size
+    (record {
+      there = λ p v. (v.1.sizes, ap (λ version. version_line version ∷ size_line p.1.periods p.1.thermal p.1.renewable p.1.tables ∷ []) (sym v.1.version), refl);
+      back = λ size w. ((size.version, size), (tt, record { sizes = w; version = refl }), refl);
+    })
 
 -- a listing that has a text, with the nodes of one tree
 pub record IsListed (c : Listing) : Type 0 where
@@ -323,23 +441,24 @@ IsBody size p =
     × (((length p.1.1.0 ≡ size.tables) × All (IsTableText size.periods size.thermal) p.1.1.0)
     × ((AreOwed 1 p.1.1.1.0 × All (IsNodeWithin size.periods size.thermal size.tables) p.1.1.1.0) × Unit {0})))
 
-abbrev body_lines : Body → List (List ℕ)
-body_lines p = claim_line p.0 ∷ (lines_of p.1.0 ++ (flat_map table_lines p.1.1.0 ++ (map node_line p.1.1.1.0 ++ end_line ∷ [])))
+abbrev body_lines : Version → Body → List (List ℕ)
+body_lines version p = claim_line p.0 ∷ (lines_of p.1.0 ++ (tables_lines version None p.1.1.0 ++ (map node_line p.1.1.1.0 ++ end_line ∷ [])))
 
 body-part : (size : Sizes) → AreSizes size
-    → IsPart (then (line_of claim_at) (λ _. then (plan_part size) (λ _. then (repeated size.tables (table_part size)) (λ _. then (tree_part size) (λ _. line_of end_at)))))
-    (IsBody size) body_lines (after_size size) Done
+    → IsPart (then (line_of claim_at) (λ _. then (plan_part size) (λ _. then (tables_part size size.tables None) (λ _. then (tree_part size) (λ _. line_of end_at)))))
+    (IsBody size) (body_lines size.version) (after_size size) Done
 body-part size lawful =
-    then-part (before-part (line-part claim-form Claim Done (λ bound v. (bound, v, refl, refl)) (λ text others p. (p.0, p.1, p.2))) (Plan size ∷ (replicate size.tables (Scale size) ++ Node size ∷ End ∷ [])))
-    (λ bound v. then-part (before-part (plan-part size) (replicate size.tables (Scale size) ++ Node size ∷ End ∷ []))
-    (λ plan v. then-part (before-part (repeated-part (table-part size lawful) size.tables) (Node size ∷ End ∷ []))
+    let tables = tables_from size size.tables None in
+    then-part (before-part (line-part claim-form Claim Done (λ bound v. (bound, v, refl, refl)) (λ text others p. (p.0, p.1, p.2))) (Plan size ∷ (tables ++ Node size ∷ End ∷ [])))
+    (λ bound v. then-part (before-part (plan-part size) (tables ++ Node size ∷ End ∷ []))
+    (λ plan v. then-part (before-part (tables-part size lawful size.tables None tt) (Node size ∷ End ∷ []))
     (λ tables v. then-part (before-part (tree-part size lawful) (End ∷ []))
     (λ nodes v. line-part end-form End Done (λ a v. (refl, refl)) (λ text others p. (tt, tt, p.0))))))
 
-pub certificate-part : IsPart certificate_part IsListed (certificate_lines 1) (Version ∷ []) Done
+pub certificate-part : IsPart certificate_part (λ read. IsListed read.1) (λ read. certificate_lines read.0 read.1) (Head ∷ []) Done
 unfolding certificate_part certificate_lines
 certificate-part =
-    told-part (then-part heading-part body-part) listing_from IsListed (certificate_lines 1) Done
+    told-part (then-part heading-part body-part) (λ p. (p.0.version, listing_from p)) (λ read. IsListed read.1) (λ read. certificate_lines read.0 read.1) Done
     (record {
       there = λ p v. (
         record {
@@ -357,29 +476,30 @@ certificate-part =
           };
           tree = v.1.1.1.1.0.0;
         },
-        ap (λ n. version_line 1 ∷ size_line p.0.periods p.0.thermal p.0.renewable n ∷ body_lines p.1) (sym v.1.1.1.0.0),
+        ap (λ n. version_line p.0.version ∷ size_line p.0.periods p.0.thermal p.0.renewable n ∷ body_lines p.0.version p.1) (sym v.1.1.1.0.0),
         refl,
       );
-      back = λ c w. (
-        (record { periods = c.periods; thermal = c.thermal; renewable = c.renewable; tables = length c.tables }, (c.bound, (((c.a, c.b), c.schedule), (c.tables, (c.nodes, tt))))),
-        (
-          record { some_period = w.text.some_period; periods = w.text.periods; thermal = w.text.thermal; renewable = w.text.renewable; tables = w.text.table_count },
-          (w.text.bound, (record { penalties = w.text.penalties; schedule = w.text.schedule }, ((refl, w.text.tables), ((w.tree, w.text.nodes), tt)))),
-        ),
-        refl,
-      );
+      back = λ read w.
+          let c = read.1 in (
+            (record { version = read.0; periods = c.periods; thermal = c.thermal; renewable = c.renewable; tables = length c.tables }, (c.bound, (((c.a, c.b), c.schedule), (c.tables, (c.nodes, tt))))),
+            (
+              record { some_period = w.text.some_period; periods = w.text.periods; thermal = w.text.thermal; renewable = w.text.renewable; tables = w.text.table_count },
+              (w.text.bound, (record { penalties = w.text.penalties; schedule = w.text.schedule }, ((refl, w.text.tables), ((w.tree, w.text.nodes), tt)))),
+            ),
+            refl,
+          );
     })
 
 -- ---- certificates
 pub certificate_listed : (c : Certificate) → HasText (listing_of c) → IsListed (listing_of c)
 certificate_listed c h = record { text = h; tree = subst (AreOwed 1) (append-nil (preorder c.tree)) (tree_before c.tree 0 [] tt) }
 
-pub certificate_again : (c : Certificate) (rest : List ℕ) → HasText (listing_of c) → certificate_part (certificate_text c ++ rest) ≡ Ok (listing_of c, rest)
+pub certificate_again : (version : Version) (c : Certificate) (rest : List ℕ) → HasText (listing_of c) → certificate_part (certificate_text version c ++ rest) ≡ Ok ((version, listing_of c), rest)
 unfolding certificate_text
-certificate_again c rest h = certificate-part.again (listing_of c) rest (certificate_listed c h)
+certificate_again version c rest h = certificate-part.again (version, listing_of c) rest (certificate_listed c h)
 
-pub certificate_whole : (c : Certificate) → HasText (listing_of c) → certificate_part (certificate_text c) ≡ Ok (listing_of c, [])
-certificate_whole c h = ap certificate_part (sym (append-nil (certificate_text c))) ∙ certificate_again c [] h
+pub certificate_whole : (version : Version) (c : Certificate) → HasText (listing_of c) → certificate_part (certificate_text version c) ≡ Ok ((version, listing_of c), [])
+certificate_whole version c h = ap certificate_part (sym (append-nil (certificate_text version c))) ∙ certificate_again version c [] h
 
 -- ---- Reading the nodes of trees that are owed, as a loop does.
 pub node_more : (size : Sizes) (front grown : List TreeNode) (most fewer owed : ℕ) (bytes rest : List ℕ) (node : TreeNode) (total : Result (List TreeNode × List ℕ) (List ℕ))

@@ -10,8 +10,8 @@ ghost use Rattle.branch_tree.specs.StoredTree.{tree_bound};
 ghost use Rattle.branch_tree.specs.TreeView.{IsWhole};
 ghost use Rattle.branch_tree.specs.Claims.{written_tables, certificate_of, written_of};
 ghost use Rattle.branch_tree.specs.declared.found.Found.{Found};
-ghost use Rattle.cert_text.specs.CertificateText.{has_price, listing_of, certificate_lines, certificate_text};
-ghost use Rattle.cert_text.specs.Grammar.{Version, Reaches, CertKind, IsKindAt};
+ghost use Rattle.cert_text.specs.CertificateText.{Version, has_price, listing_of, certificate_lines, certificate_text};
+ghost use Rattle.cert_text.specs.Grammar.{Head, Reaches, CertKind, IsKindAt};
 ghost use Rattle.cert_text.specs.TextConditions.{IsMoney, IsScheduleText, HasText};
 
 /// A number is within its range exactly where its text has no more digits than the range says, those of the
@@ -35,20 +35,20 @@ pub fn found_certificates_have_text()
 {}
 
 /// The text of a certificate tells where it ends, and all that it lists: no certificate's text is a front of
-/// another's, and two with one text have one listing.
+/// another's, in whichever versions, and two with one text have one listing and one version.
 #[tactic(auto, using(crate::proofs::GrammarLaws::texts_apart))]
 pub fn texts_tell_certificates_apart()
-    ensures { (c d : Certificate) (more : List ℕ) → HasText (listing_of c) → HasText (listing_of d)
-        → certificate_text c ++ more ≡ certificate_text d → (listing_of c ≡ listing_of d) × (more ≡ []) }
+    ensures { (version another : Version) (c d : Certificate) (more : List ℕ) → HasText (listing_of c) → HasText (listing_of d)
+        → certificate_text version c ++ more ≡ certificate_text another d → (listing_of c ≡ listing_of d) × (version ≡ another) × (more ≡ []) }
 {}
 
 /// The grammar by lines is that of certificates: lines that may stand one behind the other, so that none is to
-/// come, are the lines of a certificate, and these may stand so.
+/// come, are the lines of a certificate in some version, and these may stand so.
 #[tactic(auto, using(crate::proofs::GrammarLaws::whole_run_is_certificate, crate::proofs::GrammarLaws::certificate_runs))]
 pub fn lines_that_may_stand_make_certificates()
-    ensures whole { (lines : List (List ℕ)) → Reaches (Version ∷ []) lines []
-        → (c : Certificate) × HasText (listing_of c) × (lines ≡ certificate_lines 1 (listing_of c)) }
-    ensures stand { (c : Certificate) → HasText (listing_of c) → Reaches (Version ∷ []) (certificate_lines 1 (listing_of c)) [] }
+    ensures whole { (lines : List (List ℕ)) → Reaches (Head ∷ []) lines []
+        → (version : Version) × (c : Certificate) × HasText (listing_of c) × (lines ≡ certificate_lines version (listing_of c)) }
+    ensures stand { (version : Version) (c : Certificate) → HasText (listing_of c) → Reaches (Head ∷ []) (certificate_lines version (listing_of c)) [] }
 {}
 
 /// Bytes have at most one fault that is told by its line.

@@ -118,7 +118,7 @@ ordinal_at = mapped (λ n. n - 1) (passing (λ n. nat_lt 0 n) (whole_at 18))
 -- ---- Reading one line of a certificate.
 -- ---- the heading
 unfoldable pub version_at : Form Version
-version_at bytes = or_else (fixed (codes "uc-certificate 1\n") First bytes) (fixed (codes "uc-certificate 2\n") Second bytes)
+version_at bytes = when (text_at (codes "uc-certificate 1\n") bytes) (λ rest. Some (First, rest)) (fixed (codes "uc-certificate 2\n") Second bytes)
 
 abbrev pub sizes_of : Version → ℕ × (ℕ × (ℕ × ℕ)) → Sizes
 sizes_of version p = record { version = version; periods = p.0; thermal = p.1.0; renewable = p.1.1.0; tables = p.1.1.1 }

@@ -1,0 +1,237 @@
+-- The forms of ramp rows, of changes of tables and of nodes read their lines, and nothing else.
+use Rattle.std.proofs.Common.{ℕ, ℤ, ◌^◌, ◌<◌, ◌≤◌, arith, ◌≡◌, suc, true, false, List, [], ◌∷◌, ◌∙◌, Bool, ◌++◌, Option, Some, None, refl, subst, append_assoc, inl, inr, ◌⊎◌, pos, not, ◌&&◌, ◌||◌, nat_lt, ◌≢◌, IfSome, codes}
+use Rattle.uc_model.specs.Decimal.{whole_text, signed_text}
+use Rattle.std.proofs.lemmas.Bool.Decides.{Decides-eqb, Decides-int_eq, Decides-and, Decides-or, Decides-not, Decides-ltb, Decides-like}
+use Rattle.std.proofs.lemmas.Bool.{ltb-true, lt-ltb, and_parts, false≢true, and_from}
+use Rattle.std.specs.Ordering.{int_eq}
+use Rattle.std.specs.Bool.{Decides}
+use Rattle.outside.specs.Lines.{line}
+use Rattle.dual_model.specs.Cover.{Bound, Ray, Empty}
+use Rattle.dual_model.specs.Prices.{IsRowBefore, IsRowWithin, pi_at, mu_at, up_at, down_at}
+use Rattle.cert_text.specs.TextConditions.{RampRow, HasDigits, IsRampText}
+use Rattle.cert_text.specs.Changes.{Table, Change, OfDemand, OfReserve, OfRamps, is_before}
+use Rattle.cert_text.specs.CertificateText.{ramp_line, next_line, change_line, TreeNode, LeafNode, SplitNode, node_line, IsNodeWithin}
+use Rattle.cert_text.specs.Grammar.{Sizes, AreSizes, ComesBefore, IsChangeWithin, Changes, IsChangeAfter, IsRampAfter}
+use Rattle.cert_text.specs.inside.Forms.{is_digit, ended, mapped, after, text_at, ordinal_at, row_numbers_at, ramp_row, rises, is_ramp, ramp_at, next_at, price_at, written_change_at, is_within, comes_before, comes_behind, is_other, is_change, change_at, named_at, split_at, node_at}
+use Rattle.cert_text.proofs.FormLaws.{IsForm, Anything, after-form, ended-form, both-form, form-as, image-form, mapped-form, passing-form, choice-form, ordinal-form, last_whole, spaced_whole, spaced_signed}
+
+-- ---- The forms of ramp rows and of nodes read their lines.
+spaced_ordinal : (end : ℕ) → is_digit end ≡ false → IsForm (ended ordinal_at (end ∷ [])) (λ n. suc n < 10 ^ 18) (λ n. whole_text (suc n) ++ end ∷ []) Anything
+spaced_ordinal end none = ended-form ordinal-form (end ∷ []) (λ rest. rw none refl)
+
+-- ---- ramp rows
+present_decides : (up down : ℤ) → Decides (not (int_eq up (pos 0)) || not (int_eq down (pos 0))) ((up ≢ pos 0) ⊎ (down ≢ pos 0))
+present_decides up down = Decides-or _ _ (Decides-not _ (Decides-int_eq up (pos 0))) (Decides-not _ (Decides-int_eq down (pos 0)))
+
+before_decides : (first second : RampRow) → Decides (is_before first second) (IsRowBefore first second)
+before_decides first second =
+    Decides-like (is_before first second) (λ h. record { before = h }) (λ h. h.before)
+    (Decides-or _ _ (Decides-ltb first.g second.g) (Decides-and _ _ (Decides-eqb first.g second.g) (Decides-ltb first.t second.t)))
+
+rises_decide : (before : Option RampRow) (row : RampRow) → Decides (rises before row) (IfSome before (λ earlier. IsRowBefore earlier row))
+rises_decide None row = ((λ e. tt), (λ h. refl))
+rises_decide (Some earlier) row = before_decides earlier row
+
+-- a row as it is written, before it is tested
+record IsRowText (row : RampRow) : Type 0 where
+  g : suc row.g < 10 ^ 18
+  t : suc row.t < 10 ^ 18
+  numbers : IsRampText row
+
+ramp_decides : (size : Sizes) (before : Option RampRow) (row : RampRow)
+    → Decides (is_ramp size before row) (IsRowWithin size.thermal size.periods row × IfSome before (λ earlier. IsRowBefore earlier row))
+ramp_decides size before row =
+    Decides-like (is_ramp size before row)
+    (λ h. (record { unit = h.0; period = h.1.0; present = h.1.1.0 }, h.1.1.1)) (λ h. (h.0.unit, (h.0.period, (h.0.present, h.1))))
+    (Decides-and _ _ (Decides-ltb row.g size.thermal) (Decides-and _ _ (Decides-ltb row.t size.periods)
+    (Decides-and _ _ (present_decides row.up row.down) (rises_decide before row))))
+
+row_numbers-form : IsForm row_numbers_at (λ p. (suc p.0 < 10 ^ 18) × ((suc p.1.0 < 10 ^ 18) × (HasDigits 18 p.1.1.0 × HasDigits 18 p.1.1.1)))
+    (λ p. (whole_text (suc p.0) ++ codes " ") ++ ((whole_text (suc p.1.0) ++ codes " ") ++ ((signed_text p.1.1.0 ++ codes " ") ++ (signed_text p.1.1.1 ++ codes "\n")))) Anything
+row_numbers-form =
+    both-form (spaced_ordinal 32 refl) (both-form (spaced_ordinal 32 refl) (both-form (spaced_signed 18 (omega arith) 32 refl) (spaced_signed 18 (omega arith) 10 refl)
+    (λ b rest v f. tt)) (λ b rest v f. tt)) (λ b rest v f. tt)
+
+pub ramp-form : (size : Sizes) → AreSizes size → (before : Option RampRow) → IsForm (ramp_at size before) (IsRampAfter size before) ramp_line Anything
+unfolding ramp_at line
+ramp-form size lawful before =
+    passing-form (mapped-form (after-form row_numbers-form (codes "ramp "))
+    ramp_row (λ row. (row.g, (row.t, (row.up, row.down)))) IsRowText ramp_line (record {
+      there = λ p v. (record { g = v.0; t = v.1.0; numbers = record { up = v.1.1.0; down = v.1.1.1 } }, simp append_assoc);
+      back = λ row w. ((w.g, (w.t, (w.numbers.up, w.numbers.down))), refl);
+    }))
+    (is_ramp size before) (IsRampAfter size before)
+    (λ row h e. let test = (ramp_decides size before row).0 e in record { within = test.0; written = h.numbers; rises = test.1 })
+    (λ row w. (record { g = omega (arith, w.within.unit, lawful.thermal); t = omega (arith, w.within.period, lawful.periods); numbers = w.written }, (ramp_decides size before row).1 (w.within, w.rises)))
+
+-- ---- tables told by their difference to another
+pub next-form : IsForm next_at (λ p. (p.0 < 10 ^ 18) × (p.1 < 10 ^ 18)) (λ p. next_line (pos p.0) p.1) Anything
+unfolding next_at line
+next-form =
+    form-as (after-form (both-form spaced_whole last_whole (λ b rest v f. tt)) (codes "next ")) (λ p. (p.0 < 10 ^ 18) × (p.1 < 10 ^ 18)) (λ p. next_line (pos p.0) p.1)
+    (λ p v. (v.0, v.1)) (λ p w. (w.0, w.1)) (λ p v. simp append_assoc)
+
+-- a change as it is written, before it is tested
+abbrev IsPriceText : ℕ → ℤ → Type 0
+IsPriceText t price = (suc t < 10 ^ 18) × HasDigits 18 price
+
+abbrev IsChangeText : Change → Type 0
+IsChangeText (OfDemand t price) = IsPriceText t price
+IsChangeText (OfReserve t price) = IsPriceText t price
+IsChangeText (OfRamps row) = IsRowText row
+
+price-form : IsForm price_at (λ p. IsPriceText p.0 p.1) (λ p. (whole_text (suc p.0) ++ codes " ") ++ (signed_text p.1 ++ codes "\n")) Anything
+price-form = both-form (spaced_ordinal 32 refl) (spaced_signed 18 (omega arith) 10 refl) (λ b rest v f. tt)
+
+abbrev IsPriceChange : (ℕ → ℤ → Change) → Change → Type 0
+IsPriceChange make change = (p : ℕ × ℤ) × IsPriceText p.0 p.1 × (make p.0 p.1 ≡ change)
+
+abbrev IsRowChange : Change → Type 0
+IsRowChange change = (row : RampRow) × IsRowText row × (OfRamps row ≡ change)
+
+written_change-form : IsForm written_change_at IsChangeText change_line Anything
+unfolding written_change_at line text_at
+written_change-form =
+    let reserve = choice-form price-form (λ p. OfReserve p.0 p.1) rows (codes "m ") (λ p v. simp append_assoc) no_reserve in
+    form-as (choice-form price-form (λ p. OfDemand p.0 p.1) reserve (codes "p ") (λ p v. simp append_assoc) no_demand) IsChangeText change_line there back (λ change v. refl)
+  where
+    rows : IsForm (mapped (λ p. OfRamps (ramp_row p)) (after (codes "r ") row_numbers_at)) IsRowChange change_line Anything
+    rows =
+        form-as (image-form (after-form row_numbers-form (codes "r ")) (λ p. OfRamps (ramp_row p)) change_line (λ p v. simp append_assoc)) IsRowChange change_line
+        (λ change v. (ramp_row v.0, record { g = v.1.0; t = v.1.1.0; numbers = record { up = v.1.1.1.0; down = v.1.1.1.1 } }, v.2))
+        (λ change w. ((w.0.g, (w.0.t, (w.0.up, w.0.down))), (w.1.g, (w.1.t, (w.1.numbers.up, w.1.numbers.down))), w.2))
+        (λ change v. refl)
+
+    no_reserve : (change : Change) (rest : List ℕ) → IsRowChange change → text_at (codes "m ") (change_line change ++ rest) ≡ None
+    no_reserve change rest v = subst (λ (change : Change). text_at (codes "m ") (change_line change ++ rest) ≡ None) v.2 refl
+
+    no_demand : (change : Change) (rest : List ℕ) → IsPriceChange OfReserve change ⊎ IsRowChange change → text_at (codes "p ") (change_line change ++ rest) ≡ None
+    no_demand change rest (inl v) = subst (λ (change : Change). text_at (codes "p ") (change_line change ++ rest) ≡ None) v.2 refl
+    no_demand change rest (inr v) = subst (λ (change : Change). text_at (codes "p ") (change_line change ++ rest) ≡ None) v.2 refl
+
+    there : (change : Change) → IsPriceChange OfDemand change ⊎ (IsPriceChange OfReserve change ⊎ IsRowChange change) → IsChangeText change
+    there change (inl v) = subst IsChangeText v.2 v.1
+    there change (inr (inl v)) = subst IsChangeText v.2 v.1
+    there change (inr (inr v)) = subst IsChangeText v.2 v.1
+
+    back : (change : Change) → IsChangeText change → IsPriceChange OfDemand change ⊎ (IsPriceChange OfReserve change ⊎ IsRowChange change)
+    back (OfDemand t price) w = inl ((t, price), w, refl)
+    back (OfReserve t price) w = inr (inl ((t, price), w, refl))
+    back (OfRamps row) w = inr (inr (row, w, refl))
+
+-- ---- the tests of a change
+comes_decides : (first second : Change) → Decides (comes_before first second) (ComesBefore first second)
+comes_decides (OfDemand t price) (OfDemand u other) = Decides-ltb t u
+comes_decides (OfDemand t price) (OfReserve u other) = ((λ e. tt), (λ h. refl))
+comes_decides (OfDemand t price) (OfRamps row) = ((λ e. tt), (λ h. refl))
+comes_decides (OfReserve t price) (OfDemand u other) = ((λ e. false≢true e), (λ h. absurd h))
+comes_decides (OfReserve t price) (OfReserve u other) = Decides-ltb t u
+comes_decides (OfReserve t price) (OfRamps row) = ((λ e. tt), (λ h. refl))
+comes_decides (OfRamps row) (OfDemand u other) = ((λ e. false≢true e), (λ h. absurd h))
+comes_decides (OfRamps row) (OfReserve u other) = ((λ e. false≢true e), (λ h. absurd h))
+comes_decides (OfRamps row) (OfRamps later) = before_decides row later
+
+behind_decides : (last : Option Change) (change : Change) → Decides (comes_behind last change) (IfSome last (λ earlier. ComesBefore earlier change))
+behind_decides None change = ((λ e. tt), (λ h. refl))
+behind_decides (Some earlier) change = comes_decides earlier change
+
+other_decides : (table : Table) (change : Change) → Decides (is_other table change) (Changes table change)
+other_decides table (OfDemand t price) = Decides-not _ (Decides-int_eq (pi_at table t) price)
+other_decides table (OfReserve t price) = Decides-not _ (Decides-int_eq (mu_at table t) price)
+other_decides table (OfRamps row) =
+    Decides-or _ _ (Decides-not _ (Decides-int_eq (up_at table row.g row.t) row.up)) (Decides-not _ (Decides-int_eq (down_at table row.g row.t) row.down))
+
+-- a written change is within the sizes where the test says so, and one within them is of few digits
+within_from : (size : Sizes) (change : Change) → IsChangeText change → is_within size change ≡ true → IsChangeWithin size change
+within_from size (OfDemand t price) v e = (ltb-true t size.periods e, v.1)
+within_from size (OfReserve t price) v e = (ltb-true t size.periods e, v.1)
+within_from size (OfRamps row) v e =
+    let both = and_parts (nat_lt row.g size.thermal) (nat_lt row.t size.periods) e in
+    (ltb-true row.g size.thermal both.0, ltb-true row.t size.periods both.1, v.numbers)
+
+within_back : (size : Sizes) → AreSizes size → (change : Change) → IsChangeWithin size change → IsChangeText change × (is_within size change ≡ true)
+within_back size lawful (OfDemand t price) w = ((omega (arith, w.0, lawful.periods), w.1), lt-ltb t size.periods w.0)
+within_back size lawful (OfReserve t price) w = ((omega (arith, w.0, lawful.periods), w.1), lt-ltb t size.periods w.0)
+within_back size lawful (OfRamps row) w = (
+  record { g = omega (arith, w.0, lawful.thermal); t = omega (arith, w.1, lawful.periods); numbers = w.2 },
+  and_from (nat_lt row.g size.thermal) (nat_lt row.t size.periods) (lt-ltb row.g size.thermal w.0) (lt-ltb row.t size.periods w.1),
+)
+
+pub change-form : (size : Sizes) → AreSizes size → (table : Table) (last : Option Change) → IsForm (change_at size table last) (IsChangeAfter size table last) change_line Anything
+unfolding change_at
+change-form size lawful table last =
+    passing-form written_change-form (is_change size table last) (IsChangeAfter size table last)
+    (λ change v e.
+    let parts = and_parts (is_within size change) (comes_behind last change && is_other table change) e in
+    let rest = and_parts (comes_behind last change) (is_other table change) parts.1 in
+    record { within = within_from size change v parts.0; rises = (behind_decides last change).0 rest.0; changes = (other_decides table change).0 rest.1 })
+    (λ change w.
+    let within = within_back size lawful change w.within in (
+      within.0,
+      and_from (is_within size change) (comes_behind last change && is_other table change) within.1
+      (and_from (comes_behind last change) (is_other table change) ((behind_decides last change).1 w.rises) ((other_decides table change).1 w.changes)),
+    ))
+
+-- ---- nodes
+named-form : (count : ℕ) → count ≤ 4294967296 → IsForm (named_at count) (λ n. n < count) (λ n. whole_text (suc n) ++ codes "\n") Anything
+unfolding named_at
+named-form count few =
+    passing-form (spaced_ordinal 10 refl) (λ n. nat_lt n count) (λ n. n < count) (λ n v e. ltb-true n count e) (λ n w. (omega arith, lt-ltb n count w))
+
+split-form : (size : Sizes) → AreSizes size → IsForm (split_at size) (λ p. (p.0 < size.thermal) × (p.1 < size.periods)) (λ p. (whole_text (suc p.0) ++ codes " ") ++ (whole_text (suc p.1) ++ codes "\n")) Anything
+unfolding split_at
+split-form size lawful =
+    passing-form (both-form (spaced_ordinal 32 refl) (spaced_ordinal 10 refl) (λ b rest v f. tt)) (λ p. nat_lt p.0 size.thermal && nat_lt p.1 size.periods)
+    (λ p. (p.0 < size.thermal) × (p.1 < size.periods))
+    (λ p v e. let both = and_parts (nat_lt p.0 size.thermal) (nat_lt p.1 size.periods) e in (ltb-true p.0 size.thermal both.0, ltb-true p.1 size.periods both.1))
+    (λ p w. ((omega (arith, lawful.thermal), omega (arith, lawful.periods)), and_from (nat_lt p.0 size.thermal) (nat_lt p.1 size.periods) (lt-ltb p.0 size.thermal w.0) (lt-ltb p.1 size.periods w.1)))
+
+-- a node made of a number that is small enough, and one of a unit and a period
+abbrev IsMade : (ℕ → TreeNode) → ℕ → TreeNode → Type 0
+IsMade make count node = (n : ℕ) × (n < count) × (make n ≡ node)
+
+abbrev IsSplit : Sizes → TreeNode → Type 0
+IsSplit size node = (p : ℕ × ℕ) × ((p.0 < size.thermal) × (p.1 < size.periods)) × (SplitNode p.0 p.1 ≡ node)
+
+abbrev IsEmptyOrSplit : Sizes → TreeNode → Type 0
+IsEmptyOrSplit size node = IsMade (λ n. LeafNode (Empty false n)) size.thermal node ⊎ IsSplit size node
+
+abbrev IsNoBound : Sizes → TreeNode → Type 0
+IsNoBound size node = IsMade (λ n. LeafNode (Ray false n)) size.tables node ⊎ IsEmptyOrSplit size node
+
+pub node-form : (size : Sizes) → AreSizes size → IsForm (node_at size) (IsNodeWithin size.periods size.thermal size.tables) node_line Anything
+unfolding node_at line text_at
+node-form size lawful =
+    let table = named-form size.tables (omega (arith, lawful.tables)) in
+    let unit = named-form size.thermal (omega (arith, lawful.thermal)) in
+    let split = image-form (after-form (split-form size lawful) (codes "split ")) (λ p. SplitNode p.0 p.1) node_line (λ p v. simp append_assoc) in
+    let empty = choice-form unit (λ n. LeafNode (Empty false n)) split (codes "empty ") (λ n v. refl) no_empty in
+    let ray = choice-form table (λ n. LeafNode (Ray false n)) empty (codes "ray ") (λ n v. refl) no_ray in
+    form-as (choice-form table (λ n. LeafNode (Bound false n)) ray (codes "bound ") (λ n v. refl) no_bound) (IsNodeWithin size.periods size.thermal size.tables) node_line within made (λ node v. refl)
+  where
+    no_empty : (node : TreeNode) (rest : List ℕ) → IsSplit size node → text_at (codes "empty ") (node_line node ++ rest) ≡ None
+    no_empty node rest v = subst (λ (node : TreeNode). text_at (codes "empty ") (node_line node ++ rest) ≡ None) v.2 refl
+
+    no_ray : (node : TreeNode) (rest : List ℕ) → IsEmptyOrSplit size node → text_at (codes "ray ") (node_line node ++ rest) ≡ None
+    no_ray node rest (inl v) = subst (λ (node : TreeNode). text_at (codes "ray ") (node_line node ++ rest) ≡ None) v.2 refl
+    no_ray node rest (inr v) = subst (λ (node : TreeNode). text_at (codes "ray ") (node_line node ++ rest) ≡ None) v.2 refl
+
+    no_bound : (node : TreeNode) (rest : List ℕ) → IsNoBound size node → text_at (codes "bound ") (node_line node ++ rest) ≡ None
+    no_bound node rest (inl v) = subst (λ (node : TreeNode). text_at (codes "bound ") (node_line node ++ rest) ≡ None) v.2 refl
+    no_bound node rest (inr (inl v)) = subst (λ (node : TreeNode). text_at (codes "bound ") (node_line node ++ rest) ≡ None) v.2 refl
+    no_bound node rest (inr (inr v)) = subst (λ (node : TreeNode). text_at (codes "bound ") (node_line node ++ rest) ≡ None) v.2 refl
+
+    within : (node : TreeNode) → IsMade (λ n. LeafNode (Bound false n)) size.tables node ⊎ IsNoBound size node → IsNodeWithin size.periods size.thermal size.tables node
+    within node (inl v) = subst (IsNodeWithin size.periods size.thermal size.tables) v.2 v.1
+    within node (inr (inl v)) = subst (IsNodeWithin size.periods size.thermal size.tables) v.2 v.1
+    within node (inr (inr (inl v))) = subst (IsNodeWithin size.periods size.thermal size.tables) v.2 v.1
+    within node (inr (inr (inr v))) = subst (IsNodeWithin size.periods size.thermal size.tables) v.2 v.1
+
+    made : (node : TreeNode) → IsNodeWithin size.periods size.thermal size.tables node → IsMade (λ n. LeafNode (Bound false n)) size.tables node ⊎ IsNoBound size node
+    made (LeafNode (Bound false n)) w = inl (n, w, refl)
+    made (LeafNode (Ray false n)) w = inr (inl (n, w, refl))
+    made (LeafNode (Empty false n)) w = inr (inr (inl (n, w, refl)))
+    made (LeafNode (Bound true n)) w = absurd w
+    made (LeafNode (Ray true n)) w = absurd w
+    made (LeafNode (Empty true n)) w = absurd w
+    made (SplitNode g t) w = inr (inr (inr ((g, t), w, refl)))
