@@ -4,7 +4,8 @@
 It copies the repository to a temporary folder, adds a program there that reads a file and times `read` on its bytes, builds it with
 `rt run`, and prints for each certificate the seconds (the best of five), the megabytes a second, those of `bytes.split` over the
 same bytes, and the program's greatest memory for a byte. Wanted: 100 MB a second, or the rate of `split` where that is lower; a
-tree of 1,048,576 splits in under a second; at most 100 bytes of memory for a byte.
+tree of 1,048,576 splits in under a second; at most 100 bytes of memory for a byte of version 1; and of a list of tables in version 2 at
+most one and a half times the seconds of version 1.
 
     python3 bench/cert_text.py            # at the top of the repository, with `rt` on the path
 """
@@ -37,17 +38,44 @@ fn main(rt: HostRuntime) -> io::Result<()> {
 SPLITS = 1_048_576
 
 
-def tables(size):
-    """A certificate of at least so many bytes: 100 units, 48 periods, prices of up to eleven digits, and ramp rows."""
+def drawn_tables(size, share):
+    """Tables of at least so many bytes where each is told whole: 100 units, 48 periods, prices of up to eleven digits, and 20 ramp rows.
+    Of the numbers of a table this share is drawn anew for the next one."""
     random.seed(1)
-    texts, length = [], 0
+    places = [(g, t) for g in range(1, 101, 10) for t in (7, 18)]
+    table, drawn, length = ([0] * 48, [0] * 48, dict.fromkeys(places, (1, 0))), [], 0
+
+    def next_of(old, least, most):
+        return random.randint(least, most) if not drawn or random.random() < share else old
+
     while length < size:
-        pi = " ".join(str(random.randint(-(10**10), 10**10)) for _ in range(48))
-        mu = " ".join(str(random.randint(0, 10**9)) for _ in range(48))
-        rows = "".join(f"ramp {g} {t} {random.randint(1, 10**9)} 0\n" for g in range(1, 101, 10) for t in (7, 18))
-        texts.append(f"table 1000000\npi {pi}\nmu {mu}\nramps 20\n{rows}")
-        length += len(texts[-1])
-    head = f"uc-certificate 1\nsize 48 100 0 {len(texts)}\nclaim bound 300.000000\nschedule none\n"
+        pi, mu, rows = table
+        table = (
+            [next_of(it, -(10**10), 10**10) for it in pi],
+            [next_of(it, 0, 10**9) for it in mu],
+            {place: (next_of(rows[place][0], 1, 10**9), 0) for place in places},
+        )
+        drawn.append(table)
+        length += len(whole(table))
+    return drawn
+
+
+def whole(table):
+    pi, mu, rows = table
+    ramps = "".join(f"ramp {g} {t} {up} {down}\n" for (g, t), (up, down) in rows.items())
+    return f"table 1000000\npi {' '.join(map(str, pi))}\nmu {' '.join(map(str, mu))}\nramps {len(rows)}\n{ramps}"
+
+
+def changes(before, table):
+    lines = [f"{word} {t} {new}\n" for word, olds, news in zip("pm", before, table) for t, (old, new) in enumerate(zip(olds, news), 1) if old != new]
+    lines += [f"r {g} {t} {up} {down}\n" for (g, t), (up, down) in table[2].items() if before[2][g, t] != (up, down)]
+    return f"next 1000000 {len(lines)}\n{''.join(lines)}"
+
+
+def certificate(drawn, version):
+    """A certificate of these tables."""
+    texts = [whole(it) for it in drawn[:1]] + [whole(it) if version == 1 else changes(before, it) for before, it in zip(drawn, drawn[1:])]
+    head = f"uc-certificate {version}\nsize 48 100 0 {len(drawn)}\nclaim bound 300.000000\nschedule none\n"
     return (head + "".join(texts) + "bound 1\nend\n").encode()
 
 
@@ -100,7 +128,7 @@ def main():
     with tempfile.TemporaryDirectory() as name:
         folder = pathlib.Path(name)
         path = folder / "input.cert"
-        path.write_bytes(tables(1000))
+        path.write_bytes(certificate(drawn_tables(1000, 1), 1))
         program = build(folder, path)
 
         def seconds():
@@ -108,7 +136,11 @@ def main():
             assert words[1:] == ["ok"], words
             return int(words[0]) / 1e9
 
-        for label, data in (("tables", tables(20_000_000)), ("small tables", small_tables(20_000_000)), ("tree", tree()), ("schedule", off_schedule())):
+        texts = [("small tables", small_tables(20_000_000)), ("tree", tree()), ("schedule", off_schedule())]
+        for share in (1, 0.1):
+            drawn = drawn_tables(20_000_000, share)
+            texts += [(f"tables, {share:.0%} new, version {version}", certificate(drawn, version)) for version in (1, 2)]
+        for label, data in texts:
             path.write_bytes(data)
             reader, python = best(seconds), best(lambda: split_seconds(data))
             one = subprocess.run(["/usr/bin/time", "-f", "%M", program], capture_output=True, text=True)

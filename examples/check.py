@@ -297,6 +297,43 @@ def table_of(lines, units, periods):
     return Record(scale=scale, pi=pi, mu=mu, ramps=ramps)
 
 
+def next_table_of(lines, units, periods, before):
+    """The table that is told by its difference to the one before it: numbers that are others, in the order p, m, r."""
+    _, scale, count = lines.take(f"next {WHOLE} {WHOLE}")
+    table = Record(scale=scale, pi=before.pi[:], mu=before.mu[:], ramps=dict(before.ramps))
+    last = ()
+
+    def place_of(word, *numbers):
+        return ("pmr".index(word), *numbers[:-2 if word == "r" else -1])
+
+    def is_change(word, *numbers):
+        place = place_of(word, *numbers)
+        is_within = 1 <= place[-1] <= periods and (word != "r" or 1 <= place[1] <= units)
+        return is_within and last < place and numbers[len(place) - 1:] != old_of(place)
+
+    def old_of(place):
+        return table.ramps.get(place[1:], (0, 0)) if place[0] == 2 else ((table.pi, table.mu)[place[0]][place[1] - 1],)
+
+    for _ in range(count):
+        word, *numbers = lines.take(f"[pm] {WHOLE} {SIGNED}|r {WHOLE} {WHOLE} {SIGNED} {SIGNED}", is_change)
+        last = place_of(word, *numbers)
+        if word == "r":
+            table.ramps[last[1:]] = tuple(numbers[2:])
+        else:
+            (table.pi, table.mu)[last[0]][last[1] - 1] = numbers[1]
+    table.ramps = {place: row for place, row in table.ramps.items() if any(row)}
+    return table
+
+
+def tables_of(lines, version, units, periods, count):
+    """The tables: in version 2 each but the first by its difference to the one before it."""
+    tables = []
+    for _ in range(count):
+        is_whole = version == 1 or not tables
+        tables.append(table_of(lines, units, periods) if is_whole else next_table_of(lines, units, periods, tables[-1]))
+    return tables
+
+
 def nodes_of(lines, units, periods, tables):
     """The tree's nodes in the order of their lines, each as its words."""
     def may_stand(word, number, period=1):
@@ -311,7 +348,7 @@ def nodes_of(lines, units, periods, tables):
 
 def certificate_of(data):
     lines = Lines(data)
-    lines.take("uc-certificate 1")
+    _, version = lines.take("uc-certificate [12]")
     _, periods, units, renewables, tables = lines.take(
         f"size(?: {WHOLE}){{4}}", lambda _, t, g, w, n: 1 <= t <= 168 and g <= 4096 and w <= 4096 and n < 2**32)
     read = Record(size=(periods, units, renewables), cost=None)
@@ -323,7 +360,7 @@ def certificate_of(data):
         read.cells = [cells_of(lines, periods) for _ in range(units)]
         read.outputs = [watts_of(lines, "w", periods) for _ in range(renewables)]
         read.shortages = [watts_of(lines, word, periods) if any(read.prices) else [0] * periods for word in "de"]
-    read.tables = [table_of(lines, units, periods) for _ in range(tables)]
+    read.tables = tables_of(lines, version, units, periods, tables)
     read.nodes = nodes_of(lines, units, periods, tables)
     lines.end()
     return read

@@ -25,6 +25,7 @@ AS_THEY_STAND = [
     ("two_units", "two_units", "accepted cost 2520.000000 bound 2520.000000"),
     ("two_units", "two_units_found", "accepted cost 2520.000000 bound 2519.999120"),
     ("starts", "starts", "accepted cost 540.000000 bound 540.000000"),
+    ("starts", "starts_by_changes", "accepted cost 540.000000 bound 540.000000"),
     ("idle", "idle", "accepted cost 280.000000 bound 280.000000"),
     ("floor", "floor", "accepted cost 0.000000 bound -0.000004"),
     ("watts", "watts", "accepted cost 0.000001 bound 0.000000"),
@@ -89,7 +90,7 @@ CHANGED_CERTIFICATES = [
     ("too_much", "ray 2", "bound 2", "certificate: C8"),
     ("starts", "bound 3\nray 4", "ray 4\nbound 3", "certificate: C5 node 6"),
     # the lines
-    ("two_units", "uc-certificate 1", "uc-certificate 2", "certificate: line 1: form"),
+    ("two_units", "uc-certificate 1", "uc-certificate 3", "certificate: line 1: form"),
     ("two_units", "size 2 2", "size 2 02", "certificate: line 2: form"),
     ("two_units", "bound 2520.000000", "bound 2520.00000", "certificate: line 3: form"),
     ("two_units", "t - ", "t  - ", "certificate: line 6: form"),
@@ -124,6 +125,32 @@ CHANGED_INSTANCES = [
     ("two_units", '{"mw": 70,', '{"mw": 39,', 'instance: I5 thermal "coal" piecewise_production.mw 3'),
     ("two_units", '{"lag": 3, ', "{", 'instance: I1 thermal "gas" startup.lag 2'),
     ("two_units", '"cost": 90}', '"cost": 5000000.000001}', 'instance: I4 thermal "gas" startup.cost 2'),
+]
+
+# `starts_by_changes.cert`, whose tables behind the first are told by their differences, with a change, beside its instance.
+CHANGED_DIFFERENCES = [
+    ("next 0 3\np 1 0\n", "next 0 2\n", "certificate: C5 node 7"),
+    ("p 1 10\np 3 10\n", "m 1 5\nm 2 5\n", "certificate: C4 node 6"),
+    ("next 1 2\np 1 10\np 3 10", "next 1 5\np 1 10\np 3 10\nr 1 1 0 1\nr 1 2 1 0\nr 1 3 2 2", "certificate: C4 node 6"),
+    ("next 1 2", "next 1000000001 2", "certificate: C1 table 3"),
+    ("p 1 10", "p 1 100000000000001", "certificate: C1 table 3"),
+    # the lines
+    ("uc-certificate 2", "uc-certificate 1", "certificate: line 10: form"),
+    ("table 0", "next 0 0", "certificate: line 6: form"),
+    ("next 0 2", "table 0", "certificate: line 10: form"),
+    ("next 0 2", "next 0 02", "certificate: line 10: form"),
+    ("next 0 2", "next 0 1", "certificate: line 12: form"),
+    ("next 0 2", "next 0 3", "certificate: line 13: form"),
+    ("p 1 0\np 3 1\n", "p 3 1\np 1 0\n", "certificate: line 12: form"),
+    ("p 3 1\n", "p 3 0\n", "certificate: line 12: form"),
+    ("p 3 1\n", "p 4 1\n", "certificate: line 12: form"),
+    ("p 3 1\n", "p 1 1\n", "certificate: line 12: form"),
+    ("p 3 1\n", "m 3 0\n", "certificate: line 12: form"),
+    ("p 3 1\n", "r 1 3 0 0\n", "certificate: line 12: form"),
+    ("p 3 1\n", "r 2 3 1 0\n", "certificate: line 12: form"),
+    ("p 3 1\n", "p 3 +1\n", "certificate: line 12: form"),
+    ("p 1 0\np 3 1\n", "m 1 2\np 3 1\n", "certificate: line 12: form"),
+    ("p 1 0\np 3 1\n", "r 1 1 0 2\nm 3 1\n", "certificate: line 12: form"),
 ]
 
 
@@ -211,6 +238,8 @@ def cases():
         yield "", changed(f"{instance}.json"), changed(f"{certificate}.cert"), verdict
     for name, old, new, verdict in CHANGED_CERTIFICATES:
         yield "", changed(f"{name}.json"), changed(f"{name}.cert", (old, new)), verdict
+    for old, new, verdict in CHANGED_DIFFERENCES:
+        yield "", changed("starts.json"), changed("starts_by_changes.cert", (old, new)), verdict
     for name, old, new, verdict in CHANGED_INSTANCES:
         yield "", changed(f"{name}.json", (old, new)), changed(f"{name}.cert"), verdict
     for options, name, changes, verdict in WITH_PRICES:

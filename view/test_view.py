@@ -123,7 +123,7 @@ BROKEN_REASONS = (
 )
 # an edit of coast.cert, likewise
 BROKEN_CERTIFICATES = (
-    ("uc-certificate 1", "uc-certificate 2", 'line 1: "uc-certificate 2" where "uc-certificate 1" is due'),
+    ("uc-certificate 1", "uc-certificate 3", 'line 1: "uc-certificate 3" where "uc-certificate 1" or "uc-certificate 2" is due'),
     ("size 4 2 1 1", "size 4 3 1 1", 'line 7: "w 20000000 10500000 30000000 0" where t and 4 cells are due'),
     ("bound 4793.333330", "bound 4793.333331", "line 3: the claim isn't that of the report"),
     ("schedule 5046.666668", "schedule 5046.666669", "line 4: the schedule isn't that of the report"),

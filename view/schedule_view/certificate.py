@@ -42,6 +42,19 @@ class Prices:
     reserve: List[int]
 
 
+_RampPlace, _RampRow = Tuple[int, int], Tuple[int, int]
+
+
+@dataclass(frozen=True)
+class _Table:
+    """A table: its scale, the prices of demand and of reserve by period, and the rows of ramps by unit and period."""
+
+    scale: int
+    demand: List[int]
+    reserve: List[int]
+    ramps: Dict[_RampPlace, _RampRow]
+
+
 @dataclass(frozen=True)
 class Leaves:
     """How many leaves of each word a tree has, and, where it has but one, its word and the number of its table or unit."""
@@ -66,19 +79,30 @@ class Certificate:
 def read_certificate(path: str, data: bytes) -> Certificate:
     """The certificate of the bytes of a file. Refused with the file and the line."""
     lines = Lines(path, data)
-    _exactly(lines, "uc-certificate 1")
+    version = _version(lines)
     periods, thermal, renewable, tables = _size(lines)
     bound = _claim(lines)
     penalty = _penalty(lines) if lines.is_at("penalty") else NO_PENALTY
     schedule = _schedule(lines, periods, thermal, renewable, "de" if any(penalty) else "")
-    read = [_table(lines, number + 1, periods, thermal) for number in range(tables)]
+    read: List[_Table] = []
+    for _ in range(tables):
+        is_whole = version == 1 or not read
+        read.append(_table(lines, periods, thermal) if is_whole else _next_table(lines, periods, thermal, read[-1]))
     leaves, first_bound, line = _tree(lines, periods, thermal, tables)
     _exactly(lines, "end")
     lines.finish()
-    prices = read[first_bound - 1] if first_bound else None
+    prices = _prices(first_bound, read[first_bound - 1]) if first_bound else None
     if prices and not prices.scale:
         lines.refuse("a bound at a table of scale 0", line)
     return Certificate(path, (periods, thermal, renewable), bound, penalty, schedule, prices, leaves)
+
+
+def _version(lines: Lines) -> int:
+    """The version of the format: in 2 each table but the first is told by its difference to the one before it."""
+    line = lines.take()
+    if line not in ("uc-certificate 1", "uc-certificate 2"):
+        lines.refuse(f'{shown(line)} where "uc-certificate 1" or "uc-certificate 2" is due')
+    return int(line[-1])
 
 
 def _exactly(lines: Lines, text: str) -> None:
@@ -161,7 +185,7 @@ def _watts(lines: Lines, word: str) -> int:
     return watts
 
 
-def _table(lines: Lines, number: int, periods: int, thermal: int) -> Prices:
+def _table(lines: Lines, periods: int, thermal: int) -> _Table:
     (scale,) = _numbers(lines, "table", 1)
     if scale < 0:
         lines.refuse("a scale below 0")
@@ -169,13 +193,53 @@ def _table(lines: Lines, number: int, periods: int, thermal: int) -> Prices:
     (rows,) = _numbers(lines, "ramps", 1)
     if rows < 0:
         lines.refuse("a number of rows below 0")
+    ramps: Dict[_RampPlace, _RampRow] = {}
     before = (0, 0)
     for _ in range(rows):
         unit, period, up, down = _numbers(lines, "ramp", 4)
         if not (1 <= unit <= thermal and 1 <= period <= periods and (up or down) and before < (unit, period)):
             lines.refuse("a ramp row that may not stand here")
         before = (unit, period)
-    return Prices(number, scale, demand, reserve)
+        ramps[before] = (up, down)
+    return _Table(scale, demand, reserve, ramps)
+
+
+def _next_table(lines: Lines, periods: int, thermal: int, before: _Table) -> _Table:
+    """The table that is told by its difference to the one before it."""
+    scale, count = _numbers(lines, "next", 2)
+    if scale < 0 or count < 0:
+        lines.refuse("a number below 0")
+    table = _Table(scale, before.demand[:], before.reserve[:], dict(before.ramps))
+    last: Tuple[int, ...] = ()
+    for _ in range(count):
+        last = _change(lines, periods, thermal, table, last)
+    return table
+
+
+def _change(lines: Lines, periods: int, thermal: int, table: _Table, last: Tuple[int, ...]) -> Tuple[int, ...]:
+    """Changes a number of the table as the next line says; the place of the change, which comes behind the last one's."""
+    if lines.is_at("r"):
+        unit, period, up, down = _numbers(lines, "r", 4)
+        place: Tuple[int, ...] = (2, unit, period)
+        is_change = 1 <= unit <= thermal and 1 <= period <= periods and table.ramps.get((unit, period), (0, 0)) != (up, down)
+        if is_change and (up or down):
+            table.ramps[unit, period] = (up, down)
+        elif is_change:
+            del table.ramps[unit, period]
+    else:
+        word, prices = ("m", table.reserve) if lines.is_at("m") else ("p", table.demand)
+        period, price = _numbers(lines, word, 2)
+        place = ("pm".index(word), period)
+        is_change = 1 <= period <= periods and prices[period - 1] != price
+        if is_change:
+            prices[period - 1] = price
+    if not (is_change and last < place):
+        lines.refuse("a change that may not stand here")
+    return place
+
+
+def _prices(number: int, table: _Table) -> Prices:
+    return Prices(number, table.scale, table.demand, table.reserve)
 
 
 def _tree(lines: Lines, periods: int, thermal: int, tables: int) -> Tuple[Leaves, Optional[int], int]:
