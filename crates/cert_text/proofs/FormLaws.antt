@@ -517,9 +517,9 @@ size-form version =
       there = λ p v. ((refl, v.0, v.1.0, v.1.1.0, v.1.1.1), simp append_assoc);
       back = λ size w. ((w.1, (w.2, (w.3, w.4))), λ i. record { version = sym w.0 i; periods = size.periods; thermal = size.thermal; renewable = size.renewable; tables = size.tables });
     }))
-    are_sizes (IsSizeIn version) (λ size v e. record { sizes = (sizes_decide size).0 e; version = v.0 })
+    are_sizes (IsSizeIn version) (λ size v e. record { sizes = (sizes_decide size).0 e; told = v.0 })
     (λ size w. (
-      (w.version, omega (arith, w.sizes.periods), omega (arith, w.sizes.thermal), omega (arith, w.sizes.renewable), omega (arith, w.sizes.tables)),
+      (w.told, omega (arith, w.sizes.periods), omega (arith, w.sizes.thermal), omega (arith, w.sizes.renewable), omega (arith, w.sizes.tables)),
       (sizes_decide size).1 w.sizes,
     ))
 

@@ -423,8 +423,8 @@ heading-part =
     (λ version v. line-part (size-form version) (Size version) after_size (λ size v. (size, v, refl, refl)) (λ text others p. (p.0, p.1, p.2))))
     (λ p. p.1) AreSizes heading_lines after_size
     (record {
-      there = λ p v. (v.1.sizes, ap (λ version. version_line version ∷ size_line p.1.periods p.1.thermal p.1.renewable p.1.tables ∷ []) (sym v.1.version), refl);
-      back = λ size w. ((size.version, size), (tt, record { sizes = w; version = refl }), refl);
+      there = λ p v. (v.1.sizes, ap (λ version. version_line version ∷ size_line p.1.periods p.1.thermal p.1.renewable p.1.tables ∷ []) (sym v.1.told), refl);
+      back = λ size w. ((size.version, size), (tt, record { sizes = w; told = refl }), refl);
     })
 
 -- a listing that has a text, with the nodes of one tree

@@ -1,5 +1,5 @@
 -- The forms of ramp rows, of changes of tables and of nodes read their lines, and nothing else.
-use Rattle.std.proofs.Common.{ℕ, ℤ, ◌^◌, ◌<◌, ◌≤◌, arith, ◌≡◌, suc, true, false, List, [], ◌∷◌, ◌∙◌, Bool, ◌++◌, Option, Some, None, refl, subst, append_assoc, inl, inr, ◌⊎◌, pos, not, ◌&&◌, ◌||◌, nat_lt, ◌≢◌, IfSome, codes}
+use Rattle.std.proofs.Common.{ap, ℕ, ℤ, ◌^◌, ◌<◌, ◌≤◌, arith, ◌≡◌, suc, true, false, List, [], ◌∷◌, ◌∙◌, Bool, ◌++◌, Option, Some, None, refl, subst, append_assoc, inl, inr, ◌⊎◌, pos, not, ◌&&◌, ◌||◌, nat_lt, ◌≢◌, IfSome, codes}
 use Rattle.uc_model.specs.Decimal.{whole_text, signed_text}
 use Rattle.std.proofs.lemmas.Bool.Decides.{Decides-eqb, Decides-int_eq, Decides-and, Decides-or, Decides-not, Decides-ltb, Decides-like}
 use Rattle.std.proofs.lemmas.Bool.{ltb-true, lt-ltb, and_parts, false≢true, and_from}
@@ -69,7 +69,7 @@ pub next-form : IsForm next_at (λ p. (p.0 < 10 ^ 18) × (p.1 < 10 ^ 18)) (λ p.
 unfolding next_at line
 next-form =
     form-as (after-form (both-form spaced_whole last_whole (λ b rest v f. tt)) (codes "next ")) (λ p. (p.0 < 10 ^ 18) × (p.1 < 10 ^ 18)) (λ p. next_line (pos p.0) p.1)
-    (λ p v. (v.0, v.1)) (λ p w. (w.0, w.1)) (λ p v. simp append_assoc)
+    (λ p v. (v.0, v.1)) (λ p w. (w.0, w.1)) (λ p v. ap (λ rest. codes "next " ++ rest) (append_assoc (whole_text p.0) (codes " ") (whole_text p.1 ++ codes "\n")))
 
 -- a change as it is written, before it is tested
 abbrev IsPriceText : ℕ → ℤ → Type 0

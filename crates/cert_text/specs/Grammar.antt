@@ -136,7 +136,7 @@ ramp_count_line count = line (codes "ramps") (whole_text count ∷ [])
 -- sizes of that version
 pub record IsSizeIn (version : Version) (size : Sizes) : Type 0 where
   pub sizes : AreSizes size
-  pub version : size.version ≡ version
+  pub told : size.version ≡ version
 
 -- a price for each period
 pub record ArePrices (size : Sizes) (prices : List ℤ) : Type 0 where

@@ -1,3 +1,4 @@
+pub mod Changes
 pub mod CertificateText
 pub mod TextConditions
 pub mod Grammar
