@@ -18,7 +18,7 @@ use Rattle.uc_model.proofs.DecimalText.{whole_text_bytes, signed_text_bytes}
 use Rattle.uc_model.proofs.MoneyText.{money_text_bytes}
 use Rattle.dual_model.specs.Cover.{Bound, Ray, Empty}
 use Rattle.outside.proofs.Joining.{joined-cons}
-use Rattle.cert_text.specs.Grammar.{Symbol, Head, Size, Claim, Plan, Schedule, ThermalRow, RenewableRow, Shed, Short, Scale, Pi, Mu, Ramps, Ramp, Next, Update, Node, End, Ahead, first_line, tables_from, changes_from, scaled, with_ramp, rescaled, Produces, Reaches, schedule_line, PlanLine, Priced, Unpriced, plan_line, behind_plan, Sizes, AreSizes, after_size, shortage_rows, schedule_rows, ramp_rows, children, CertKind, HasLineFeed, IsWholeLine, IsFormAt, IsCutAt, IsFaultOf, MayStand, IsKindAt}
+use Rattle.cert_text.specs.Grammar.{Symbol, Head, Size, Claim, Plan, Schedule, ThermalRow, RenewableRow, Shed, Short, Scale, Pi, Mu, Ramps, Ramp, Next, Update, Node, End, Ahead, table_head, tables_from, changes_from, scaled, with_ramp, rescaled, Produces, Reaches, schedule_line, PlanLine, Priced, Unpriced, plan_line, behind_plan, Sizes, AreSizes, after_size, shortage_rows, schedule_rows, ramp_rows, children, CertKind, HasLineFeed, IsWholeLine, IsFormAt, IsCutAt, IsFaultOf, MayStand, IsKindAt}
 use Rattle.cert_text.specs.inside.LineCount.{line_feeds, line_number, stop_kind}
 use Rattle.std.proofs.lemmas.Option.{some_pair_parts}
 use Rattle.cert_text.specs.inside.Forms.{Form}
@@ -389,7 +389,7 @@ tables_lawful : (size : Sizes) (n : ℕ) (before : Option Table) → AreSizes si
 tables_lawful size zero before h = tt
 tables_lawful size (suc n) before h = (first_lawful (told_from size.version before), tt)
   where
-    first_lawful : (before : Option Table) → IsLawfulKind (first_line (record { size = size; tables = n }) before)
+    first_lawful : (before : Option Table) → IsLawfulKind (table_head (record { size = size; tables = n }) before)
     first_lawful None = h
     first_lawful (Some table) = h
 

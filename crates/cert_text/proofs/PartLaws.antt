@@ -5,7 +5,7 @@ use Rattle.std.proofs.lemmas.List.Elements.{All-nil, All-cons, All-head, All-tai
 use Rattle.outside.specs.Lines.{joined, line}
 use Rattle.outside.proofs.Joining.{joined-cons}
 use Rattle.cert_text.specs.Changes.{Change, changed, all_changed, table_changes}
-use Rattle.cert_text.specs.Grammar.{RampRow, Symbol, Reaches, Sizes, AreSizes, Ahead, Scale, Pi, Mu, Ramps, Ramp, Next, Update, ArePrices, IsRampAfter, IsChangeAfter, first_line, tables_from, tables_behind, ramp_rows, changes_from, scaled, with_ramp, rescaled, ramp_count_line, Plan, Node, children, Head, Size, Claim, End, after_size}
+use Rattle.cert_text.specs.Grammar.{RampRow, Symbol, Reaches, Sizes, AreSizes, Ahead, Scale, Pi, Mu, Ramps, Ramp, Next, Update, ArePrices, IsRampAfter, IsChangeAfter, table_head, tables_from, tables_behind, ramp_rows, changes_from, scaled, with_ramp, rescaled, ramp_count_line, Plan, Node, children, Head, Size, Claim, End, after_size}
 use Rattle.cert_text.specs.inside.Forms.{signed_at, text_at, row_at, ramp_count_at, ramp_at, next_at, change_at, node_at, split_at, claim_at, end_at}
 use Rattle.cert_text.specs.inside.Parts.{◌>>=◌, Planned, line_of, then, plan_part, ramp_rows_part, ramps_part, prices_part, table_of, numbers_part, table_part, changes_part, next_part, told_part, tables_part, AreChanges, owed_after, nodes_part, tree_part, listing_from, heading_part, certificate_part, AreRamps}
 use Rattle.cert_text.proofs.FormLaws.{IsForm, Anything, prices-form, scale-form, ramp_count-form, form-as, version-form, size-form, claim-form, end-form}
@@ -220,15 +220,15 @@ next-part ahead lawful before text =
 
 -- a table is told whole, or by its difference to this one, which has a text too
 pub told_table-part : (ahead : Ahead) → AreSizes ahead.size → (before : Option Table) → IfSome before (IsTableText ahead.size.periods ahead.size.thermal)
-    → IsPart (told_part ahead.size before) (IsTableText ahead.size.periods ahead.size.thermal) (told_lines before) (first_line ahead before ∷ []) (tables_behind ahead)
+    → IsPart (told_part ahead.size before) (IsTableText ahead.size.periods ahead.size.thermal) (told_lines before) (table_head ahead before ∷ []) (tables_behind ahead)
 unfolding told_part
 told_table-part ahead lawful None text = table-part ahead lawful
 told_table-part ahead lawful (Some before) text = next-part ahead lawful before text
 
 -- the tables, of which each one has a text
-told_has_text : {P : Table → Type 0} (version : Version) (before : Option Table) → IfSome before P → IfSome (told_from version before) P
-told_has_text First before text = tt
-told_has_text Second before text = text
+told_has_text : (P : Table → Type 0) (version : Version) (before : Option Table) → IfSome before P → IfSome (told_from version before) P
+told_has_text P First before text = tt
+told_has_text P Second before text = text
 
 pub tables-part : (size : Sizes) → AreSizes size → (n : ℕ) (before : Option Table) → IfSome before (IsTableText size.periods size.thermal)
     → IsPart (tables_part size n before) (λ tables. (length tables ≡ n) × All (IsTableText size.periods size.thermal) tables) (tables_lines size.version before) (tables_from size n before) Done
@@ -244,7 +244,7 @@ tables-part size lawful zero before text =
     back [] w = ([], refl, refl)
     back (table ∷ tables) w = absurd (omega arith)
 tables-part size lawful (suc n) before text =
-    part-as (told-part (then-part (told_table-part (record { size = size; tables = n }) lawful (told_from size.version before) (told_has_text size.version before text))
+    part-as (told-part (then-part (told_table-part (record { size = size; tables = n }) lawful (told_from size.version before) (told_has_text (IsTableText size.periods size.thermal) size.version before text))
     (λ table v. tables-part size lawful n (Some table) v))
     grown (λ tables. (length tables ≡ suc n) × All (IsTableText size.periods size.thermal) tables) (tables_lines size.version before) Done
     (record { there = λ p v. ((ap suc v.1.0, All-cons (IsTableText size.periods size.thermal) p.0 p.1 v.0 v.1.1), refl, refl); back = back }))

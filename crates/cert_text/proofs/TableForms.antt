@@ -66,7 +66,7 @@ ramp-form size lawful before =
 
 -- ---- tables told by their difference to another
 pub next-form : IsForm next_at (λ p. (p.0 < 10 ^ 18) × (p.1 < 10 ^ 18)) (λ p. next_line (pos p.0) p.1) Anything
-unfolding next_at line
+unfolding next_at line signed_text whole_text
 next-form =
     form-as (after-form (both-form spaced_whole last_whole (λ b rest v f. tt)) (codes "next ")) (λ p. (p.0 < 10 ^ 18) × (p.1 < 10 ^ 18)) (λ p. next_line (pos p.0) p.1)
     (λ p v. (v.0, v.1)) (λ p w. (w.0, w.1)) (λ p v. ap (λ rest. codes "next " ++ rest) (append_assoc (whole_text p.0) (codes " ") (whole_text p.1 ++ codes "\n")))

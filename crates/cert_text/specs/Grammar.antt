@@ -64,14 +64,14 @@ pub data Symbol : Type 0 where
   End : Symbol
 
 -- the first line of a table, by the one of which it tells the difference
-abbrev pub first_line : Ahead → Option Table → Symbol
-first_line ahead None = Scale ahead
-first_line ahead (Some before) = Next ahead before
+abbrev pub table_head : Ahead → Option Table → Symbol
+table_head ahead None = Scale ahead
+table_head ahead (Some before) = Next ahead before
 
 -- so many tables are to come, behind one or from the first on
 abbrev pub tables_from : Sizes → ℕ → Option Table → List Symbol
 tables_from size zero before = []
-tables_from size (suc more) before = first_line (record { size = size; tables = more }) (told_from size.version before) ∷ []
+tables_from size (suc more) before = table_head (record { size = size; tables = more }) (told_from size.version before) ∷ []
 
 -- those behind this table
 abbrev pub tables_behind : Ahead → Table → List Symbol
