@@ -1,0 +1,179 @@
+-- Prices and their changes: the changes that are written make the new prices of the old ones, and of changed prices these changes are
+-- written and no others.
+use Rattle.std.proofs.Common.{◌≡◌, ℕ, suc, ◌+◌, ◌<◌, ◌≤◌, ◌≢◌, ⊎_elim, Bool, true, false, cond, List, [], ◌∷◌, ◌++◌, length, map, ℤ, pos, refl, sym, ap, subst, ◌∙◌, arith, slice_set, slice_index_or, append_assoc, length-append, All, if◌then◌else◌}
+use Rattle.std.specs.List.{AllByRecursion as Each}
+use Rattle.std.specs.Ordering.{int_eq}
+use Rattle.std.proofs.lemmas.Bool.{cases_Bool, cases_eq, cond-true, cond-false, false_from_ne_true, false≢true}
+use Rattle.std.proofs.lemmas.Bool.Decides.{Decides-int_eq}
+use Rattle.std.proofs.lemmas.List.{set_at, get_or_at, length-set}
+use Rattle.std.proofs.lemmas.List.Elements.{All-set}
+use Rattle.cert_text.specs.Changes.{Change, price_changes}
+use Rattle.cert_text.specs.TextConditions.{HasDigits}
+
+-- the changes of a list of prices as pairs of a period and the price in it
+abbrev pub prices_told : ℕ → List ℤ → List ℤ → List (ℕ × ℤ)
+prices_told t [] news = []
+prices_told t (old ∷ olds) [] = []
+prices_told t (old ∷ olds) (new ∷ news) = if int_eq old new then prices_told (suc t) olds news else (t, new) ∷ prices_told (suc t) olds news
+
+pub as_pairs : (change : ℕ → ℤ → Change) (t : ℕ) (olds news : List ℤ) → price_changes change t olds news ≡ map (λ (p : ℕ × ℤ). change p.0 p.1) (prices_told t olds news)
+as_pairs change t [] news = refl
+as_pairs change t (old ∷ olds) [] = refl
+as_pairs change t (old ∷ olds) (new ∷ news) = by_test (int_eq old new) (as_pairs change (suc t) olds news)
+  where
+    by_test : (same : Bool) → price_changes change (suc t) olds news ≡ map (λ (p : ℕ × ℤ). change p.0 p.1) (prices_told (suc t) olds news)
+        → cond same (price_changes change (suc t) olds news) (change t new ∷ price_changes change (suc t) olds news)
+        ≡ map (λ (p : ℕ × ℤ). change p.0 p.1) (cond same (prices_told (suc t) olds news) ((t, new) ∷ prices_told (suc t) olds news))
+    by_test true more = more
+    by_test false more = ap (λ changes. change t new ∷ changes) more
+
+told_same : (t : ℕ) (old new : ℤ) (olds news : List ℤ) → old ≡ new → prices_told t (old ∷ olds) (new ∷ news) ≡ prices_told (suc t) olds news
+told_same t old new olds news same = cond-true _ _ _ ((Decides-int_eq old new).1 same)
+
+told_other : (t : ℕ) (old new : ℤ) (olds news : List ℤ) → old ≢ new → prices_told t (old ∷ olds) (new ∷ news) ≡ (t, new) ∷ prices_told (suc t) olds news
+told_other t old new olds news other = cond-false _ _ _ (false_from_ne_true (int_eq old new) (λ e. other ((Decides-int_eq old new).0 e)))
+
+same_prices : (t : ℕ) (prices : List ℤ) → prices_told t prices prices ≡ []
+same_prices t [] = refl
+same_prices t (price ∷ prices) = told_same t price price prices prices refl ∙ same_prices (suc t) prices
+
+-- ---- prices with changes
+abbrev pub with_prices : List ℤ → List (ℕ × ℤ) → List ℤ
+with_prices prices [] = prices
+with_prices prices (p ∷ told) = with_prices (slice_set prices p.0 p.1) told
+
+-- another price than there is, of few digits, in that period or a later one
+pub record IsPriceChange (periods from : ℕ) (prices : List ℤ) (p : ℕ × ℤ) : Type 0 where
+  pub within : p.0 < periods
+  pub written : HasDigits 18 p.1
+  pub rises : from ≤ p.0
+  pub changes : slice_index_or prices p.0 (pos 0) ≢ p.1
+
+abbrev pub ArePriceChanges : ℕ → ℕ → List ℤ → List (ℕ × ℤ) → Type 0
+ArePriceChanges periods from prices [] = Unit {0}
+ArePriceChanges periods from prices (p ∷ told) = IsPriceChange periods from prices p × ArePriceChanges periods (suc p.0) (slice_set prices p.0 p.1) told
+
+pub none_past : (periods : ℕ) (prices : List ℤ) (told : List (ℕ × ℤ)) → ArePriceChanges periods periods prices told → told ≡ []
+none_past periods prices [] h = refl
+none_past periods prices (p ∷ told) h = absurd (omega (arith, h.0.rises, h.0.within))
+
+from_other : (periods from other : ℕ) (prices : List ℤ) (p : ℕ × ℤ) (told : List (ℕ × ℤ)) → other ≤ p.0 → ArePriceChanges periods from prices (p ∷ told)
+    → ArePriceChanges periods other prices (p ∷ told)
+from_other periods from other prices p told rises h = (record { within = h.0.within; written = h.0.written; rises = rises; changes = h.0.changes }, h.1)
+
+from_earlier : (periods from : ℕ) (prices : List ℤ) (told : List (ℕ × ℤ)) → ArePriceChanges periods (suc from) prices told → ArePriceChanges periods from prices told
+from_earlier periods from prices [] h = tt
+from_earlier periods from prices (p ∷ told) h = from_other periods (suc from) from prices p told (omega (arith, h.0.rises)) h
+
+pub length_prices : (prices : List ℤ) (told : List (ℕ × ℤ)) → length (with_prices prices told) ≡ length prices
+length_prices prices [] = refl
+length_prices prices (p ∷ told) = length_prices (slice_set prices p.0 p.1) told ∙ length-set prices p.0 p.1
+
+pub digits_prices : (periods from : ℕ) (prices : List ℤ) (told : List (ℕ × ℤ)) → All (HasDigits 18) prices → ArePriceChanges periods from prices told → All (HasDigits 18) (with_prices prices told)
+digits_prices periods from prices [] digits h = digits
+digits_prices periods from prices (p ∷ told) digits h =
+    digits_prices periods (suc p.0) (slice_set prices p.0 p.1) told (All-set (HasDigits 18) prices p.0 p.1 h.0.written digits) h.1
+
+-- ---- the prices from one period on, behind those before it
+put_here : (front : List ℤ) (old price : ℤ) (olds : List ℤ) (t : ℕ) → length front ≡ t → slice_set (front ++ old ∷ olds) t price ≡ (front ++ price ∷ []) ++ olds
+put_here front old price olds t e = set_at front old olds price t e ∙ sym (append_assoc front (price ∷ []) olds)
+
+there_is : (front : List ℤ) (old : ℤ) (olds : List ℤ) (t : ℕ) → length front ≡ t → slice_index_or (front ++ old ∷ olds) t (pos 0) ≡ old
+there_is front old olds t e = get_or_at front old olds (pos 0) t e
+
+longer : (front : List ℤ) (price : ℤ) (t : ℕ) → length front ≡ t → length (front ++ price ∷ []) ≡ suc t
+longer front price t e = omega (arith, length-append front (price ∷ []))
+
+-- ---- Of changed prices the changes are written.
+record AreFound (front olds : List ℤ) (t : ℕ) (told : List (ℕ × ℤ)) : Type 0 where
+  news : List ℤ
+  make : with_prices (front ++ olds) told ≡ front ++ news
+  found : prices_told t olds news ≡ told
+
+found_here : (front : List ℤ) (old : ℤ) (olds : List ℤ) (t : ℕ) (p : ℕ × ℤ) (told : List (ℕ × ℤ)) → length front ≡ t → p.0 ≡ t → old ≢ p.1
+    → AreFound (front ++ p.1 ∷ []) olds (suc t) told → AreFound front (old ∷ olds) t (p ∷ told)
+found_here front old olds t p told e same other h = record {
+  news = p.1 ∷ h.news;
+  make = ap (λ prices. with_prices prices told) (put_here front old p.1 olds p.0 (e ∙ sym same)) ∙ h.make ∙ append_assoc front (p.1 ∷ []) h.news;
+  found = told_other t old p.1 olds h.news other ∙ (λ i. (sym same i, p.1) ∷ h.found i);
+}
+
+found_later : (front : List ℤ) (old : ℤ) (olds : List ℤ) (t : ℕ) (told : List (ℕ × ℤ)) → AreFound (front ++ old ∷ []) olds (suc t) told → AreFound front (old ∷ olds) t told
+found_later front old olds t told h = record {
+  news = old ∷ h.news;
+  make = ap (λ prices. with_prices prices told) (sym (append_assoc front (old ∷ []) olds)) ∙ h.make ∙ append_assoc front (old ∷ []) h.news;
+  found = told_same t old old olds h.news refl ∙ h.found;
+}
+
+found_from : (periods : ℕ) (front olds : List ℤ) (t : ℕ) (told : List (ℕ × ℤ)) → length front ≡ t → t + length olds ≡ periods → ArePriceChanges periods t (front ++ olds) told
+    → AreFound front olds t told
+found_from periods front [] t [] e n h = record { news = []; make = refl; found = refl }
+found_from periods front [] t (p ∷ told) e n h = absurd (omega (arith, h.0.rises, h.0.within))
+found_from periods front (old ∷ olds) t [] e n h = record { news = old ∷ olds; make = refl; found = same_prices t (old ∷ olds) }
+found_from periods front (old ∷ olds) t (p ∷ told) e n h = ⊎_elim
+    (λ (same : p.0 ≡ t).
+    let there : slice_index_or (front ++ old ∷ olds) p.0 (pos 0) ≡ old = there_is front old olds p.0 (e ∙ sym same) in
+    let first : ArePriceChanges periods (suc p.0) ((front ++ p.1 ∷ []) ++ olds) told =
+    subst (λ (prices : List ℤ). ArePriceChanges periods (suc p.0) prices told) (put_here front old p.1 olds p.0 (e ∙ sym same)) h.1 in
+    let more : ArePriceChanges periods (suc t) ((front ++ p.1 ∷ []) ++ olds) told =
+    subst (λ (from : ℕ). ArePriceChanges periods (suc from) ((front ++ p.1 ∷ []) ++ olds) told) same first in
+    found_here front old olds t p told e same (λ is. h.0.changes (there ∙ is))
+    (found_from periods (front ++ p.1 ∷ []) olds (suc t) told (longer front p.1 t e) (omega arith) more))
+    (λ (other : p.0 ≡ t → ⊥).
+    let more : ArePriceChanges periods (suc t) ((front ++ old ∷ []) ++ olds) (p ∷ told) =
+    subst (λ (prices : List ℤ). ArePriceChanges periods (suc t) prices (p ∷ told)) (sym (append_assoc front (old ∷ []) olds))
+    (from_other periods t (suc t) (front ++ old ∷ olds) p told (omega (arith, h.0.rises)) h) in
+    found_later front old olds t (p ∷ told) (found_from periods (front ++ old ∷ []) olds (suc t) (p ∷ told) (longer front old t e) (omega arith) more))
+    (cases_eq p.0 t)
+
+-- changes that rise by period, each of which says another price than there is, are those that are written of the prices with them
+pub prices_found : (prices : List ℤ) (told : List (ℕ × ℤ)) → ArePriceChanges (length prices) 0 prices told → prices_told 0 prices (with_prices prices told) ≡ told
+prices_found prices told h = let found = found_from (length prices) [] prices 0 told refl (omega arith) h in ap (prices_told 0 prices) found.make ∙ found.found
+
+-- ---- The changes that are written make the new prices.
+pub record AreChangesTo (periods : ℕ) (front olds news : List ℤ) (t : ℕ) (told : List (ℕ × ℤ)) : Type 0 where
+  pub may : ArePriceChanges periods t (front ++ olds) told
+  pub make : with_prices (front ++ olds) told ≡ front ++ news
+
+made_same : (periods : ℕ) (front : List ℤ) (old new : ℤ) (olds news : List ℤ) (t : ℕ) (told : List (ℕ × ℤ)) → old ≡ new → AreChangesTo periods (front ++ old ∷ []) olds news (suc t) told
+    → AreChangesTo periods front (old ∷ olds) (new ∷ news) t told
+made_same periods front old new olds news t told same h =
+    let regroup : (front ++ old ∷ []) ++ olds ≡ front ++ old ∷ olds = append_assoc front (old ∷ []) olds in
+    record {
+      may = from_earlier periods t (front ++ old ∷ olds) told (subst (λ (prices : List ℤ). ArePriceChanges periods (suc t) prices told) regroup h.may);
+      make = ap (λ prices. with_prices prices told) (sym regroup) ∙ h.make ∙ append_assoc front (old ∷ []) news ∙ ap (λ price. front ++ price ∷ news) same;
+    }
+
+made_other : (periods : ℕ) (front : List ℤ) (old new : ℤ) (olds news : List ℤ) (t : ℕ) (told : List (ℕ × ℤ)) → length front ≡ t → t < periods → HasDigits 18 new → old ≢ new
+    → AreChangesTo periods (front ++ new ∷ []) olds news (suc t) told → AreChangesTo periods front (old ∷ olds) (new ∷ news) t ((t, new) ∷ told)
+made_other periods front old new olds news t told e within digits other h =
+    let put : slice_set (front ++ old ∷ olds) t new ≡ (front ++ new ∷ []) ++ olds = put_here front old new olds t e in
+    record {
+      may = (
+        record { within = within; written = digits; rises = omega arith; changes = λ is. other (sym (there_is front old olds t e) ∙ is) },
+        subst (λ (prices : List ℤ). ArePriceChanges periods (suc t) prices told) (sym put) h.may,
+      );
+      make = ap (λ prices. with_prices prices told) put ∙ h.make ∙ append_assoc front (new ∷ []) news;
+    }
+
+made_from : (periods : ℕ) (front olds news : List ℤ) (t : ℕ) → length front ≡ t → t + length olds ≡ periods → length news ≡ length olds → Each (HasDigits 18) news
+    → AreChangesTo periods front olds news t (prices_told t olds news)
+made_from periods front [] [] t e n long digits = record { may = tt; make = refl }
+made_from periods front [] (new ∷ news) t e n long digits = absurd (omega arith)
+made_from periods front (old ∷ olds) [] t e n long digits = absurd (omega arith)
+made_from periods front (old ∷ olds) (new ∷ news) t e n long digits = ⊎_elim
+    (λ (is : int_eq old new ≡ true).
+    let same = (Decides-int_eq old new).0 is in
+    subst (AreChangesTo periods front (old ∷ olds) (new ∷ news) t) (sym (told_same t old new olds news same))
+    (made_same periods front old new olds news t (prices_told (suc t) olds news) same
+    (made_from periods (front ++ old ∷ []) olds news (suc t) (longer front old t e) (omega arith) (omega arith) digits.1)))
+    (λ (is : int_eq old new ≡ false).
+    let other : old ≢ new = λ same. false≢true (sym is ∙ (Decides-int_eq old new).1 same) in
+    subst (AreChangesTo periods front (old ∷ olds) (new ∷ news) t) (sym (told_other t old new olds news other))
+    (made_other periods front old new olds news t (prices_told (suc t) olds news) e (omega arith) digits.0 other
+    (made_from periods (front ++ new ∷ []) olds news (suc t) (longer front new t e) (omega arith) (omega arith) digits.1)))
+    (cases_Bool (int_eq old new))
+
+-- what is written of two lists of prices rises by period, says other prices than there are, and makes the new ones of the old ones
+pub prices_made : (olds news : List ℤ) → length news ≡ length olds → Each (HasDigits 18) news → AreChangesTo (length olds) [] olds news 0 (prices_told 0 olds news)
+prices_made olds news long digits = made_from (length olds) [] olds news 0 refl (omega arith) long digits
