@@ -1,8 +1,7 @@
 -- The least stored bound: below each leaf's, and the greatest such; what the leaves store bounds the cost, and leaves no schedule where none stores a bound.
-use Rattle.std.proofs.Common.{◌≡◌, ℕ, ◌+◌, ◌<◌, ◌≤◌, ◌⊎◌, true, false, List, length, ℤ, refl, ap, sym, ◌∙◌, subst, arith, ⊎_elim, Option, Some, None, slice_get, inl, inr, ◌≤ℤ◌}
-use Rattle.std.proofs.lemmas.Int.{ints, int_min_is}
-use Rattle.std.proofs.lemmas.Bool.{cases_lt}
-use Rattle.std.proofs.lemmas.Option.{slice_get_within}
+use Rattle.std.proofs.Common.{◌≡◌, ℕ, ◌⊎◌, true, false, List, length, get_or, map, ℤ, refl, ap, sym, ◌∙◌, subst, arith, ⊎_elim, Option, Some, None, slice_get, inl, inr, ◌≤ℤ◌}
+use Rattle.std.proofs.lemmas.List.{get_or-map}
+use Rattle.std.proofs.lemmas.Option.{slice_get_within, slice_get-get_or, get_or_from_slice_get}
 use Rattle.uc_model.proofs.Ring.{linear}
 use Rattle.dual_model.specs.Tree.{root, child, Ends, Splits, map_leaves, EachLeaf}
 use Rattle.dual_model.specs.Fixings.{HasEmptyUnit}
@@ -11,54 +10,19 @@ use Rattle.dual_model.specs.Cover.{IsBoundedBy, HasBoundOf, IsExcluded, LeafHold
 use Rattle.dual_model.specs.Laws.{IsClaimTrue}
 use Rattle.dual_model.proofs.Covers.{covers_bound, covers_exclude}
 use Rattle.branch_tree.specs.NumberedTree.{Node, NumberedTree, EndAt, SplitAt, Subtree, unnumbered, spot_of, subtree_below}
-use Rattle.branch_tree.specs.Places.{Place, HasPlaces, ArePlacesOf, AreWellPlaced, tree_from}
+use Rattle.branch_tree.specs.Places.{Inside, Place, HasPlaces, ArePlacesOf, tree_from, place_bound, view_of, IsStored}
+use Rattle.branch_tree.specs.inside.Minima.{IsLeastOf}
 pub use Rattle.branch_tree.specs.StoredTree.{AtMost}
 use Rattle.branch_tree.specs.StoredTree.{leaf_bound, spot_bound, lesser_bound, least_bound, tree_bound}
 use Rattle.branch_tree.specs.declared.tree.Spot.TheVariants as spot
-use Rattle.branch_tree.specs.TreeView.{Instance, tree_of}
+use Rattle.branch_tree.specs.TreeView.{Instance, TreeView, tree_of}
 use Rattle.branch_tree.specs.TreeLaws.{Leaf, Table, own_claim, claims_of, StoredHolds, StoredBoundsHold}
 use Rattle.branch_tree.specs.declared.tree.Leaf.TheVariants as leaf
 use Rattle.branch_tree.proofs.Subtrees.{IsHere, subtree_cases, leaf_case}
-use Rattle.branch_tree.proofs.Changes.{place_part, part_place}
-
-pub at_most_itself : (a : Option ℤ) → AtMost a a
-at_most_itself None = tt
-at_most_itself (Some a) = omega (arith, ints)
-
-pub at_most_through : (a b c : Option ℤ) → AtMost a b → AtMost b c → AtMost a c
-at_most_through a b None x y = tt
-at_most_through a None (Some c) x y = absurd y
-at_most_through None (Some b) (Some c) x y = absurd x
-at_most_through (Some a) (Some b) (Some c) x y = omega (arith, ints)
-
-pub at_most_both : (a b : Option ℤ) → AtMost a b → AtMost b a → a ≡ b
-at_most_both None None x y = refl
-at_most_both None (Some b) x y = absurd x
-at_most_both (Some a) None x y = absurd y
-at_most_both (Some a) (Some b) x y = let e : a ≡ b = omega (arith, ints) in ap Some e
-
-pub lesser_first : (a b : Option ℤ) → AtMost (lesser_bound a b) a
-lesser_first None b = tt
-lesser_first (Some a) None = omega (arith, ints)
-lesser_first (Some a) (Some b) = omega (arith, ints, int_min_is a b)
-
-pub lesser_second : (a b : Option ℤ) → AtMost (lesser_bound a b) b
-lesser_second None b = at_most_itself b
-lesser_second (Some a) None = tt
-lesser_second (Some a) (Some b) = omega (arith, ints, int_min_is a b)
-
-pub lesser_greatest : (c a b : Option ℤ) → AtMost c a → AtMost c b → AtMost c (lesser_bound a b)
-lesser_greatest c None b x y = y
-lesser_greatest c (Some a) None x y = x
-lesser_greatest None (Some a) (Some b) x y = absurd x
-lesser_greatest (Some c) (Some a) (Some b) x y = omega (arith, ints, int_min_is a b)
+use Rattle.branch_tree.proofs.Changes.{place_part, part_place, bound_count}
+pub use Rattle.branch_tree.proofs.Lesser.{at_most_itself, at_most_through, at_most_both, lesser_first, lesser_second, lesser_greatest}
 
 -- ---- over the places
--- it is at most what is stored at each of the first places, and the tree's bound at most it
-pub record IsLeastSoFar (places : List Place) (count : ℕ) (least : Option ℤ) : Type 0 where
-  pub below : (k : ℕ) (place : Place) → k < count → slice_get places k ≡ Some place → AtMost least (spot_bound place.spot)
-  pub above : AtMost (least_bound (unnumbered (tree_from places 0))) least
-
 -- what is at most each place's bound is at most the tree's
 pub least_reaches : (places : List Place) (parent : ℕ) (tree : NumberedTree) (least : Option ℤ) → HasPlaces places parent tree
     → ((k : ℕ) (place : Place) → slice_get places k ≡ Some place → AtMost least (spot_bound place.spot))
@@ -109,32 +73,32 @@ bound_below_place places tree k place are e =
     subst (λ (p : Place). AtMost (least_bound (unnumbered tree)) (spot_bound p.spot)) one
     (stands_bound (least_bound (unnumbered tree)) part.0.tree (bound_reaches root tree k part.0 part.1))
 
--- one place more
-pub least_more : (places : List Place) (count : ℕ) (least bound : Option ℤ) (place : Place) → AreWellPlaced places
-    → slice_get places count ≡ Some place → bound ≡ spot_bound place.spot → IsLeastSoFar places count least
-    → IsLeastSoFar places (count + 1) (lesser_bound least bound)
-least_more places count least bound place are stands is so_far = record {
-  below = λ k p within e. ⊎_elim
-      (λ (l : k < count).
-      at_most_through (lesser_bound least bound) least (spot_bound p.spot) (lesser_first least bound) (so_far.below k p l e))
-      (λ (l : count ≤ k).
-      let last : k ≡ count = omega arith in
-      let same : Some p ≡ Some place = sym e ∙ (ap (slice_get places) last ∙ stands) in
-      let one : p ≡ place = cc in
-      subst (AtMost (lesser_bound least bound)) (is ∙ ap (λ (q : Place). spot_bound q.spot) (sym one)) (lesser_second least bound))
-      (cases_lt k count);
-  above = lesser_greatest (least_bound (unnumbered (tree_from places 0))) least bound so_far.above
-      (subst (AtMost (least_bound (unnumbered (tree_from places 0)))) (sym is)
-      (bound_below_place places (tree_from places 0) count place are stands));
-}
+-- the bound that is stored at a place is the value there
+value_is : (values : List (Option ℤ)) (places : List Place) (k : ℕ) (place : Place) → values ≡ map place_bound places
+    → slice_get places k ≡ Some place → get_or values k None ≡ spot_bound place.spot
+value_is values places k place are stands =
+    ap (λ vs. get_or vs k None) are
+    ∙ (get_or-map place_bound places k place None (slice_get_within places k place stands)
+    ∙ ap place_bound (get_or_from_slice_get places k place place stands))
 
--- at the end it is the tree's
-pub least_is : (places : List Place) (least : Option ℤ) → AreWellPlaced places → IsLeastSoFar places (length places) least
-    → least ≡ least_bound (unnumbered (tree_from places 0))
-least_is places least are so_far = at_most_both least (least_bound (unnumbered (tree_from places 0)))
-    (least_reaches places 0 (tree_from places 0) least are.placed
-    (λ k place e. so_far.below k place (slice_get_within places k place e) e))
-    so_far.above
+-- the least of the values is the tree's bound
+pub least_is_bound : (a : Inside) (value : TreeView) (least : Option ℤ) → view_of a ≡ value → IsStored a → IsLeastOf a.bounds.values least
+    → least ≡ tree_bound value
+least_is_bound a value least seen stored is =
+    let places = a.places.items in
+    let tree = tree_from places 0 in
+    let bound = least_bound (unnumbered tree) in
+    let count : length a.bounds.values ≡ length places = bound_count a stored in
+    at_most_both least bound
+    (least_reaches places 0 tree least stored.places.placed (λ k place e.
+    let within = slice_get_within places k place e in
+    subst (AtMost least) (value_is a.bounds.values places k place stored.bounds e) (is.below k (omega arith))))
+    (is.greatest bound (λ k within.
+    let nothing : Place = record { parent = 0; spot = spot.Leaf (leaf.Empty 0) } in
+    let stands = slice_get-get_or places k nothing (omega arith) in
+    subst (AtMost bound) (sym (value_is a.bounds.values places k (get_or places k nothing) stored.bounds stands))
+    (bound_below_place places tree k (get_or places k nothing) stored.places stands)))
+    ∙ ap tree_bound seen
 
 -- ---- What the leaves store bounds the cost, and leaves no schedule where none stores a bound.
 -- a table that bounds by more bounds by less

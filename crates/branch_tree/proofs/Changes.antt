@@ -1,14 +1,17 @@
 -- The places of a tree, what stands at them, and what a replaced leaf, `close` and `split` make of them, of the cover and of the fields.
-use Rattle.std.proofs.Common.{◌≡◌, ℕ, zero, suc, ◌+◌, ◌-◌, ◌<◌, ◌≤◌, ◌⊎◌, true, false, List, [], ◌∷◌, length, get_or, drop, refl, ap, sym, ◌∙◌, subst, arith, ⊎_elim, Option, Some, None, ◌==◌, slice_get, get_or-drop, ◌≢◌, ◌*◌, cond, ◌++◌, set, length-append, length-set, IsTrue, not}
+use Rattle.std.proofs.Common.{◌≡◌, ℕ, zero, suc, ◌+◌, ◌-◌, ◌<◌, ◌≤◌, ◌⊎◌, true, false, List, [], ◌∷◌, length, get_or, drop, refl, ap, sym, ◌∙◌, subst, arith, ⊎_elim, Option, Some, None, ◌==◌, slice_get, get_or-drop, ◌≢◌, ◌*◌, cond, ◌++◌, set, length-append, length-set, map, append_assoc, ℤ, IsTrue, not}
 use Rattle.std.specs.Option.{option_map}
 use Rattle.std.specs.Vec.{vec_capacity}
 use Rattle.std.proofs.lemmas.Bool.{cases_lt, cases_eq, eq-eqb, ne_eqb}
-use Rattle.std.proofs.lemmas.Option.{slice_get_within, same_Some, slice_get-get_or, slice_get_read}
+use Rattle.std.proofs.lemmas.List.{map-set, map-append, length-map}
+use Rattle.std.proofs.lemmas.Option.{slice_get_within, same_Some, slice_get-get_or, slice_get_read, get_or_from_slice_get}
 use Rattle.dual_model.specs.Tree.{root, child, is_decided, IsCoverBelow, IsCover}
 use Rattle.dual_model.specs.Fixings.{IsCell}
 use Rattle.branch_tree.specs.NumberedTree.{Node, Spot, NumberedTree, EndAt, SplitAt, Subtree, no_tree, number_of, spot_of, node_count, times, subtree_below, subtree_at, spot_at, Leaf, replaced, unnumbered, split_leaf}
-use Rattle.branch_tree.specs.Places.{Inside, Place, HasPlace, HasPlaces, ArePlacesOf, grown_from, trees_of, tree_from, IsStored, view_of}
+use Rattle.branch_tree.specs.Places.{Inside, Place, HasPlace, HasPlaces, ArePlacesOf, grown_from, trees_of, tree_from, place_bound, IsStored, view_of}
 use Rattle.branch_tree.specs.declared.tree.Spot.TheVariants as spot
+use Rattle.branch_tree.specs.StoredTree.{leaf_bound}
+use Rattle.branch_tree.specs.inside.Minima.{MinimaView}
 use Rattle.branch_tree.specs.TreeView.{Instance, TreeView, IsSizeOf, IsOpenAt, IsFreeAt, tree_of, IsWhole}
 use Rattle.branch_tree.specs.declared.tree.Leaf.TheVariants as leaf
 use Rattle.branch_tree.proofs.Subtrees.{same_or_not, none_here, one_if, leaves_at, number_of-replaced, total-replaced, replaced_nowhere, AreApart, IsHere, subtree_cases, leaf_case, part_number, some_part, IsOff, IsOn, apart_off, apart_on, leaf_at, leaf_sides}
@@ -434,10 +437,11 @@ pub record IsAlike (a b : Inside) : Type 0 where
   pub room : vec_capacity b.places ≡ vec_capacity a.places
 
 made : (a b : Inside) (value : TreeView) (nodes : NumberedTree) → view_of a ≡ value → IsStored a → IsAlike a b
-    → ArePlacesOf nodes b.places.items → length b.places.items ≤ value.room
+    → ArePlacesOf nodes b.places.items → b.bounds ≡ record a.bounds { values = map place_bound b.places.items }
+    → length b.places.items ≤ value.room
     → ((instance : Instance) → IsSizeOf value instance → IsCover instance (unnumbered nodes))
     → IsMade b (record value { nodes = nodes })
-made a b value nodes seen stored alike are within cover =
+made a b value nodes seen stored alike are bounds within cover =
     let rooted : tree_from b.places.items 0 ≡ nodes =
     ap (tree_from b.places.items) (sym are.numbered.root) ∙ tree_is b.places.items 0 nodes are.placed in
     let view : view_of b ≡ record value { nodes = nodes } =
@@ -451,7 +455,12 @@ made a b value nodes seen stored alike are within cover =
       countable = was.countable;
     } in
     record {
-      stored = record { places = subst (λ tree. ArePlacesOf tree b.places.items) (sym rooted) are; whole = subst IsWhole (sym view) whole };
+      stored = record {
+        places = subst (λ tree. ArePlacesOf tree b.places.items) (sym rooted) are;
+        bounds = ap (λ (v : MinimaView). v.values) bounds;
+        room = ap (λ (v : MinimaView). v.room) bounds ∙ (stored.room ∙ sym alike.room);
+        whole = subst IsWhole (sym view) whole;
+      };
       view = view;
       whole = subst IsWhole (sym view) whole;
     }
@@ -470,12 +479,25 @@ open_at places tree wanted are at =
     let stands = slice_get-get_or places wanted nothing within in
     record { place = _; stands = stands; leaf = leaf.Live at.table at.value; is_leaf = open_place places tree wanted _ are stands at }
 
+-- the bounds of the places after a split: none at its node, and its children's at the end
+split_bounds : (values : List (Option ℤ)) (places : List Place) (wanted : ℕ) (now child : Place) → values ≡ map place_bound places
+    → place_bound now ≡ None
+    → (set values wanted None ++ place_bound child ∷ []) ++ place_bound child ∷ []
+    ≡ map place_bound (set places wanted now ++ child ∷ child ∷ [])
+split_bounds values places wanted now child are none =
+    append_assoc (set values wanted None) (place_bound child ∷ []) (place_bound child ∷ [])
+    ∙ (ap (λ vs. vs ++ place_bound child ∷ place_bound child ∷ [])
+    (ap (λ vs. set vs wanted None) are
+    ∙ (ap (set (map place_bound places) wanted) (sym none) ∙ sym (map-set place_bound places wanted now)))
+    ∙ sym (map-append place_bound (set places wanted now) (child ∷ child ∷ [])))
+
 pub close_made : (a b : Inside) (value : TreeView) (wanted : ℕ) (new : Leaf) → view_of a ≡ value → IsStored a → IsAlike a b
     → IsOpenAt value.nodes wanted
     → ((was : Place) → slice_get a.places.items wanted ≡ Some was
     → b.places.items ≡ set a.places.items wanted (record was { spot = spot.Leaf new }))
+    → b.bounds ≡ record a.bounds { values = set a.bounds.values wanted (leaf_bound new) }
     → IsMade b (record value { nodes = replaced wanted (λ (leaf : Leaf). EndAt wanted new) value.nodes })
-close_made a b value wanted new seen stored alike at changed =
+close_made a b value wanted new seen stored alike at changed bounds =
     let are : ArePlacesOf value.nodes a.places.items = subst (λ (v : TreeView). ArePlacesOf v.nodes a.places.items) seen stored.places in
     let was : IsWhole value = subst IsWhole seen stored.whole in
     let here = open_at a.places.items value.nodes wanted are at in
@@ -484,17 +506,21 @@ close_made a b value wanted new seen stored alike at changed =
     let places = closed_places a.places.items value.nodes wanted here.place here.leaf new are here.stands here.is_leaf in
     made a b value (replaced wanted (λ (leaf : Leaf). EndAt wanted new) value.nodes) seen stored alike
     (subst (ArePlacesOf (replaced wanted (λ (leaf : Leaf). EndAt wanted new) value.nodes)) (sym items) places)
+    (bounds ∙ ap (λ (vs : List (Option ℤ)). record a.bounds { values = vs }) (ap (λ vs. set vs wanted (leaf_bound new)) stored.bounds
+    ∙ (sym (map-set place_bound a.places.items wanted now) ∙ ap (map place_bound) (sym items))))
     (omega (arith, ap length items, length-set a.places.items wanted now, are.count, was.within))
     (λ instance size. cover_closed instance root value.nodes wanted new (was.cover instance size))
 
-pub split_made : (a b : Inside) (value : TreeView) (wanted g t off on : ℕ) → view_of a ≡ value → IsStored a → IsAlike a b
+pub split_made : (a b : Inside) (value : TreeView) (wanted g t off on : ℕ) (read : Place) (bound : Option ℤ) → view_of a ≡ value → IsStored a → IsAlike a b
     → IsOpenAt value.nodes wanted → IsFreeAt value wanted g t → node_count value.nodes + 2 ≤ value.room
     → off ≡ length a.places.items → on ≡ suc (length a.places.items)
     → ((was : Place) → slice_get a.places.items wanted ≡ Some was
     → b.places.items ≡ set a.places.items wanted (record was { spot = spot.Inner g t off on })
     ++ (record { parent = wanted; spot = was.spot }) ∷ (record { parent = wanted; spot = was.spot }) ∷ [])
+    → read ≡ get_or a.places.items wanted read → bound ≡ place_bound read
+    → b.bounds ≡ record a.bounds { values = (set a.bounds.values wanted None ++ bound ∷ []) ++ bound ∷ [] }
     → IsMade b (record value { nodes = replaced wanted (split_leaf wanted g t off on) value.nodes })
-split_made a b value wanted g t off on seen stored alike at free room is_off is_on changed =
+split_made a b value wanted g t off on read bound seen stored alike at free room is_off is_on changed is_read is_bound bounds =
     let are : ArePlacesOf value.nodes a.places.items = subst (λ (v : TreeView). ArePlacesOf v.nodes a.places.items) seen stored.places in
     let was : IsWhole value = subst IsWhole seen stored.whole in
     let here = open_at a.places.items value.nodes wanted are at in
@@ -510,8 +536,22 @@ split_made a b value wanted g t off on seen stored alike at free room is_off is_
     (split_places a.places.items value.nodes wanted g t here.place here.leaf are here.stands here.is_leaf)) in
     made a b value (replaced wanted (split_leaf wanted g t off on) value.nodes) seen stored alike
     (subst (ArePlacesOf (replaced wanted (split_leaf wanted g t off on) value.nodes)) (sym items) places)
+    (bounds ∙ ap (λ (vs : List (Option ℤ)). record a.bounds { values = vs })
+    (ap (λ (x : Option ℤ). (set a.bounds.values wanted None ++ x ∷ []) ++ x ∷ [])
+    (is_bound ∙ ap place_bound (is_read ∙ get_or_from_slice_get a.places.items wanted here.place read here.stands))
+    ∙ (split_bounds a.bounds.values a.places.items wanted now child stored.bounds refl ∙ ap (map place_bound) (sym items))))
     (omega (arith, ap length items, length-append front (child ∷ child ∷ []), length-set a.places.items wanted now, are.count))
     (λ instance size. free_split value a.places.items wanted g t off on instance are at free size (was.cover instance size))
+
+-- a bound for each place
+pub bound_count : (a : Inside) → IsStored a → length a.bounds.values ≡ length a.places.items
+bound_count a stored = ap length stored.bounds ∙ length-map a.places.items place_bound
+
+-- there is room for the bounds of two more places
+pub room_for_two : (a : Inside) (value : TreeView) → view_of a ≡ value → IsStored a → node_count value.nodes + 2 ≤ value.room
+    → length a.bounds.values + 2 ≤ a.bounds.room
+room_for_two a value seen stored room =
+    omega (arith, bound_count a stored, stored.places.count, ap (λ (v : TreeView). node_count v.nodes) seen, stored.room, ap (λ (v : TreeView). v.room) seen)
 
 -- the places of a stored tree are as many as its nodes, and that of an open leaf is one of them
 pub stored_count : (a : Inside) (value : TreeView) → view_of a ≡ value → IsStored a → length a.places.items ≡ node_count value.nodes

@@ -8,3 +8,4 @@ pub mod UsedTables
 pub mod Closing
 pub mod Claims
 pub mod TrueFound
+pub mod inside

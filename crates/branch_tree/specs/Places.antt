@@ -1,9 +1,10 @@
 -- What the flat list of a tree's nodes means. This project's own form: a place a node, at its number; children come after
 -- their parent.
-use Rattle.std.specs.Prelude.{◌≡◌, ℕ, suc, ◌-◌, ◌<◌, List, [], ◌∷◌, Some, length, slice_get, slice_index_or}
+use Rattle.std.specs.Prelude.{◌≡◌, ℕ, suc, ◌-◌, ◌<◌, List, [], ◌∷◌, ℤ, Option, Some, length, map, slice_get, slice_index_or}
 use Rattle.std.specs.Vec.{vec_capacity}
 use Rattle.branch_tree.specs.NumberedTree.{Spot, NumberedTree, EndAt, SplitAt, IsNumbered, no_tree, number_of, spot_of, node_count}
 use Rattle.branch_tree.specs.TreeView.{TreeView, IsWhole}
+use Rattle.branch_tree.specs.StoredTree.{spot_bound}
 use Rattle.branch_tree.specs.declared.tree.Spot.TheVariants as spot
 pub use Rattle.branch_tree.specs.declared.places.Place.{Place}
 pub use Rattle.branch_tree.specs.declared.tree.Tree.TheInside.{Inside}
@@ -49,12 +50,20 @@ pub record IsPlaced (tree : NumberedTree) : Type 0 where
 abbrev pub AreWellPlaced : List Place → Type 0
 AreWellPlaced places = ArePlacesOf (tree_from places 0) places
 
+-- the bound that is stored at a place, where a leaf stands there that isn't excluded
+abbrev pub place_bound : Place → Option ℤ
+place_bound place = spot_bound place.spot
+
 -- what contracts see of these fields, and what they keep
 abbrev pub view_of : Inside → TreeView
 view_of a = record { units = a.units; periods = a.periods; room = vec_capacity a.places; nodes = tree_from a.places.items 0 }
 
+-- the values of the tournament are the bounds stored at the places: each of its entries is the least over the leaves at a
+-- place and below it, and its first over all
 pub record IsStored (a : Inside) : Type 0 where
   pub places : AreWellPlaced a.places.items
+  pub bounds : a.bounds.values ≡ map place_bound a.places.items
+  pub room : a.bounds.room ≡ vec_capacity a.places
   pub whole : IsWhole (view_of a)
 
 -- a split stands there

@@ -4,6 +4,7 @@
 pub mod found;
 pub mod laws;
 pub mod layout;
+mod minima;
 mod places;
 pub mod tree;
 

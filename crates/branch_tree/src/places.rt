@@ -1,8 +1,8 @@
 //! The flat list of a tree's nodes: a place a node, at its number, the children after their parent.
 
 ghost use Rattle.std.specs.Prelude.{◌≡◌, ℕ, suc, ◌+◌, ◌<◌, ◌≤◌, ◌^◌, ◌==◌, ◌∷◌, ◌++◌, [], Some, IfOk, length, slice_get, slice_set, vec_len, vec_capacity};
-ghost use Rattle.branch_tree.specs.NumberedTree.{unnumbered, node_at};
-ghost use Rattle.branch_tree.specs.StoredTree.{lesser_bound, least_bound, spot_bound};
+ghost use Rattle.branch_tree.specs.NumberedTree.{node_at};
+ghost use Rattle.branch_tree.specs.StoredTree.{spot_bound};
 ghost use Rattle.branch_tree.specs.Places.{Place, AreWellPlaced, IsInner, tree_from};
 ghost use Rattle.branch_tree.specs.declared.tree.Spot.TheVariants as spot;
 
@@ -56,37 +56,14 @@ pub(crate) fn store(places: &mut Vec<Place>, node: u32, leaf: Leaf)
     places[node as usize].spot = Spot::Leaf(leaf);
 }
 
-// The lesser of two bounds, where there is one.
-fn lesser(a: &Option<i128>, b: &Option<i128>) -> Option<i128>
-    ensures { result ≡ lesser_bound a.now b.now }
-{
-    match (a, b) {
-        (None, _) => *b,
-        (_, None) => *a,
-        (Some(a), Some(b)) => Some(*a.min(b)),
-    }
-}
-
-// The bound stored at a node: none where it is a split or excluded.
-fn bound_at(spot: &Spot) -> Option<i128>
+/// The bound stored at a node: none where it is a split or excluded.
+pub(crate) fn bound_at(spot: &Spot) -> Option<i128>
     ensures { result ≡ spot_bound spot.now }
 {
     match spot {
         Spot::Leaf(Leaf::Live { value, .. } | Leaf::Bound { value, .. }) => Some(*value),
         Spot::Leaf(Leaf::Ray { .. } | Leaf::Empty { .. }) | Spot::Inner { .. } => None,
     }
-}
-
-/// The least bound stored at a leaf that isn't excluded.
-pub(crate) fn least(places: &[Place]) -> Option<i128>
-    requires { AreWellPlaced places.now }
-    ensures { result ≡ least_bound (unnumbered (tree_from places.now 0)) }
-{
-    let mut least = None;
-    for place in places {
-        least = lesser(&least, &bound_at(&place.spot));
-    }
-    least
 }
 
 // By which decision the child of this number comes from the split.

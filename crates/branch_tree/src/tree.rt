@@ -1,5 +1,6 @@
 //! The tree of commitments.
 
+use crate::minima::Minima;
 use crate::places::{self, Place};
 use dual_model::Node;
 use std::alloc::Global;
@@ -31,12 +32,14 @@ pub enum Spot {
 /// A tree of splits on thermal units and periods. Its nodes have the numbers from 0, which is the root.
 ///
 /// Contracts see it as the view of `specs/TreeView`: a tree whose nodes have their numbers, with its size and
-/// its room.
+/// its room. The bounds that its nodes store stand in a tournament, so that a change mends them in steps as many
+/// as the number of nodes has binary digits, and the least is read in one.
 #[derive(Drop)]
 pub struct Tree {
     units: u32,
     periods: u32,
     places: Vec<Place>,
+    bounds: Minima,
 }
 
 impl Model for Tree {
@@ -66,16 +69,20 @@ impl Tree {
         ensures tree { IfOk result (λ tree. tree ≡ open_root units periods (max nodes 1)) }
         ensures whole { IfOk result IsWhole }
     {
-        let mut places = Vec::with_capacity(alloc, nodes.max(1) as usize)?;
+        let room = nodes.max(1) as usize;
+        let mut places = Vec::with_capacity(alloc, room)?;
+        let mut bounds = Minima::with_room(alloc, room)?;
         let leaf = Leaf::Live { table: 0, value: 0 };
         places.push_reserved(Place {
             parent: 0,
             spot: Spot::Leaf(leaf),
         });
+        bounds.push(Some(0));
         Ok(Tree {
             units,
             periods,
             places,
+            bounds,
         })
     }
 
@@ -97,6 +104,10 @@ impl Tree {
         ensures tree { self.new ≡ record self.old { nodes = replaced node (split_leaf node g t result.0 result.1) self.old.nodes } }
         ensures whole { IsWhole self.new }
     {
+        let bound = places::bound_at(&self.places[node as usize].spot);
+        self.bounds.set(node as usize, None);
+        self.bounds.push(bound);
+        self.bounds.push(bound);
         places::split(&mut self.places, node, g, t)
     }
 
@@ -106,6 +117,8 @@ impl Tree {
         ensures tree { self.new ≡ record self.old { nodes = replaced node (λ _. EndAt node leaf) self.old.nodes } }
         ensures whole { IsWhole self.new }
     {
+        self.bounds
+            .set(node as usize, places::bound_at(&Spot::Leaf(leaf)));
         places::store(&mut self.places, node, leaf);
     }
 
@@ -113,7 +126,7 @@ impl Tree {
     pub fn bound(&self) -> Option<i128>
         ensures { result ≡ tree_bound self.now }
     {
-        places::least(&self.places)
+        self.bounds.least()
     }
 
     /// The decisions on the path from the root to the node of this number, in this order.
