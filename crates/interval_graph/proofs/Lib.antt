@@ -1,2 +1,4 @@
+pub mod IntervalCosts
+pub mod PlainSums
+pub mod RunningSums
 pub mod TermRows
-pub mod Totals

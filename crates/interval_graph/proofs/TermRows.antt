@@ -10,10 +10,10 @@ place-below true false = omega arith
 place-below false true = omega arith
 place-below true true = omega arith
 
-abbrev zero_row : List (Option ℤ)
+abbrev pub zero_row : List (Option ℤ)
 zero_row = replicate 4 (Some (pos 0))
 
-zero-term : (n t : ℕ) (start stop : Bool) → t < n → term_in (replicate n zero_row) t start stop ≡ Some (pos 0)
+pub zero-term : (n t : ℕ) (start stop : Bool) → t < n → term_in (replicate n zero_row) t start stop ≡ Some (pos 0)
 zero-term n t start stop h =
     (λ i. slice_index_or (get_or-replicate n t zero_row [] h i) (place start stop) None)
     ∙ get_or-replicate 4 (place start stop) (Some (pos 0)) None (place-below start stop)

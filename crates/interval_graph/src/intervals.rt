@@ -1,13 +1,16 @@
 //! On-intervals: the periods from a start to the last one before a stop.
 
-ghost use Rattle.std.specs.Prelude.{◌≡◌, ◌<◌, ◌≤◌, ℕ, pos, Some, false, IfOk, IfSome, MatchOption, length, replicate, unsigned_abs};
+ghost use Rattle.std.specs.Prelude.{◌≡◌, ◌+◌, ◌-◌, ◌*◌, ◌<◌, ◌≤◌, ℕ, pos, Some, false, IfOk, IfSome, MatchOption, length, replicate, unsigned_abs};
+ghost use Rattle.uc_model.specs.Sums.{sum_below};
 ghost use Rattle.interval_graph.specs.Intervals.{interval_cost, interval_term, term_in, AreTermRows, HasNoTerm, IsThere, MAX_INTERVAL};
+ghost use Rattle.interval_graph.specs.RunningSums.{full_value};
 
+use crate::sums::{add_up, full_of};
 use std::alloc::Global;
 use std::marker::Model;
 use uc_model::limits::{MAX_PERIODS, MAX_TERM};
 use uc_model::terms::place;
-use uc_model::{NoMemory, Terms};
+use uc_model::{NoMemory, Terms, difference, sum};
 
 /// A unit's terms by their place in an on-interval, over a number of periods that does not change. Contracts see
 /// the rows of terms: for each period, from 0, the term of a cell that neither starts the interval nor ends it, of
@@ -15,17 +18,20 @@ use uc_model::{NoMemory, Terms};
 #[derive(Drop)]
 pub struct Intervals {
     rows: Vec<[Option<i128>; 4]>,
+    /// For each period, the sum of the terms at the full cap before it.
+    sums: Vec<i128>,
 }
 
 impl Model for Intervals {
     ghost use Rattle.std.specs.Prelude.{List, ℤ, Option};
     ghost use Rattle.interval_graph.specs.Intervals.{AreTermRows};
+    ghost use Rattle.interval_graph.specs.RunningSums.{AreRunningSums};
 
     ghost Value = { List (List (Option ℤ)) };
 
     ghost view = { λ intervals. intervals.rows.items };
 
-    ghost invariant = { λ intervals. AreTermRows intervals.rows.items };
+    ghost invariant = { λ intervals. AreTermRows intervals.rows.items × AreRunningSums intervals.rows.items intervals.sums.items };
 }
 
 impl Intervals {
@@ -35,7 +41,8 @@ impl Intervals {
         ensures { IfOk result (λ intervals. intervals ≡ replicate periods (replicate 4 (Some (pos 0)))) }
     {
         let rows = vec![in alloc; [Some(0); 4]; periods]?;
-        Ok(Intervals { rows })
+        let sums = vec![in alloc; 0; periods]?;
+        Ok(Intervals { rows, sums })
     }
 
     /// The number of periods.
@@ -52,6 +59,7 @@ impl Intervals {
         requires rows { AreTermRows terms.now.terms }
         ensures { self.new ≡ terms.now.terms }
     {
+        add_up(self.sums.as_mut_slice(), terms.terms.as_slice());
         self.rows
             .as_mut_slice()
             .copy_from_slice(terms.terms.as_slice());
@@ -73,14 +81,12 @@ impl Intervals {
         ensures value { Some result ≡ term_in self.now t false false }
         ensures size { unsigned_abs result ≤ MAX_TERM }
     {
-        match self.rows[t][0] {
-            Some(term) => term,
-            None => unreachable!(),
-        }
+        full_of(self.rows.as_slice(), t)
     }
 
     /// The sum of the terms of the interval from period `a` to period `b`, both from 0 and in it; `None` exactly where
-    /// the cap of a cell of it is negative, which only its first and its last one's can be.
+    /// the cap of a cell of it is negative, which only its first and its last one's can be. Reads the terms of these two and
+    /// the running sums that they enclose, however long the interval is.
     pub fn cost(&self, a: usize, b: usize) -> Option<i128>
         requires order { a ≤ b }
         requires within { b < length self.now }
@@ -88,17 +94,40 @@ impl Intervals {
         ensures terms { IfSome result (λ cost. (t : ℕ) → a ≤ t → t ≤ b → IsThere (interval_term self.now a b t)) }
         ensures size { IfSome result (λ cost. unsigned_abs cost ≤ MAX_INTERVAL) }
     {
-        // Invariant, before period t: total = the sum of the first t - a terms of the interval, each of which is
-        // there, and |total| <= (t - a) * MAX_TERM.
-        let periods = self.periods();
+        let periods = self.rows.len();
         prove!(b < periods);
-        let mut total = 0;
-        for t in a..b + 1 {
-            match self.term(t, t == a, t == b) {
-                None => return None,
-                Some(term) => total += term,
-            }
+        if a == b {
+            return self.term(a, true, true);
         }
-        Some(total)
+        let Some(first) = self.term(a, true, false) else {
+            return None;
+        };
+        let Some(last) = self.term(b, false, true) else {
+            return None;
+        };
+        let middle = self.between(a + 1, b);
+        let front = sum(first, middle);
+        Some(sum(front, last))
+    }
+
+    // The sum of the terms at the full cap from period `from` to the one before `to`.
+    fn between(&self, from: usize, to: usize) -> i128
+        requires order { from ≤ to }
+        requires within { to < length self.now }
+        ensures value { result ≡ sum_below (to - from) (λ k. full_value self.now (from + k)) }
+        ensures size { unsigned_abs result ≤ 2 * MAX_INTERVAL }
+    {
+        let later = self.sum_before(to);
+        let earlier = self.sum_before(from);
+        difference(later, earlier)
+    }
+
+    // The sum of the terms at the full cap before period t.
+    fn sum_before(&self, t: usize) -> i128
+        requires { t < length self.now }
+        ensures value { result ≡ sum_below t (full_value self.now) }
+        ensures size { unsigned_abs result ≤ MAX_INTERVAL }
+    {
+        self.sums[t]
     }
 }

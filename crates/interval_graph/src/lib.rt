@@ -2,5 +2,7 @@
 #![tactic(auto)]
 
 pub mod intervals;
+pub mod laws;
+mod sums;
 
 pub use intervals::Intervals;

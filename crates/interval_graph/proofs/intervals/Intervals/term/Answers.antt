@@ -11,4 +11,4 @@ returns-clause-size c =
     let row = get_or_read rows c.args.t c.index.result.now within c.index.ensures [] in
     subst (λ o. IfSome o (λ m. unsigned_abs m ≤ MAX_TERM))
     (sym (λ i. slice_index_or (row i) (c.place.ensures.value i) None))
-    (c.self.invariant.size c.args.t c.args.start c.args.stop within)
+    (c.self.invariant.0.size c.args.t c.args.start c.args.stop within)
