@@ -130,12 +130,12 @@ CHANGED_INSTANCES = [
 # `starts_by_changes.cert`, whose tables behind the first are told by their differences, with a change, beside its instance.
 CHANGED_DIFFERENCES = [
     ("next 0 3\np 1 0\n", "next 0 2\n", "certificate: C5 node 7"),
-    ("p 1 10\np 3 10\n", "m 1 5\nm 2 5\n", "certificate: C4 node 6"),
     ("next 1 2\np 1 10\np 3 10", "next 1 5\np 1 10\np 3 10\nr 1 1 0 1\nr 1 2 1 0\nr 1 3 2 2", "certificate: C4 node 6"),
     ("next 1 2", "next 1000000001 2", "certificate: C1 table 3"),
     ("p 1 10", "p 1 100000000000001", "certificate: C1 table 3"),
     # the lines
     ("uc-certificate 2", "uc-certificate 1", "certificate: line 10: form"),
+    ("p 1 10\np 3 10\n", "m 1 5\nm 2 5\n", "certificate: line 17: form"),
     ("table 0", "next 0 0", "certificate: line 6: form"),
     ("next 0 2", "table 0", "certificate: line 10: form"),
     ("next 0 2", "next 0 02", "certificate: line 10: form"),
