@@ -1,5 +1,5 @@
 -- The parts in which a certificate is written are its lines.
-use Rattle.std.proofs.Common.{◌≡◌, ℕ, List, [], ◌∷◌, ◌++◌, length, map, refl, ap, ◌∙◌, sym, append_assoc, append-nil, Bool, Option, Some, None, zero, suc, ◌<◌, cond, get_or, arith, ◌^◌, true, false, All, ℤ, pos, negsuc, ◌≤ℤ◌, eq-eqb, ne_eqb, IfSome}
+use Rattle.std.proofs.Common.{◌≡◌, ℕ, List, [], ◌∷◌, ◌++◌, length, map, refl, ap, ◌∙◌, sym, append_assoc, Bool, Option, Some, None, zero, suc, ◌<◌, cond, get_or, arith, ◌^◌, true, false, All, ℤ, pos, negsuc, ◌≤ℤ◌, eq-eqb, ne_eqb, IfSome}
 use Rattle.std.specs.List.{flat_map}
 use Rattle.dual_model.specs.Certificate.{WrittenSchedule, Certificate, CertificateHolds, ClaimHolds}
 use Rattle.branch_tree.specs.TreeView.{tree_of, IsWhole}
@@ -7,10 +7,13 @@ use Rattle.branch_tree.specs.UsedTables.{used_tables, place_of, stored_tables}
 use Rattle.branch_tree.specs.Claims.{table_at, certificate_of, leaf_claim, written_tables, written_of}
 use Rattle.outside.specs.Lines.{joined}
 use Rattle.outside.proofs.Joining.{joined-cons, joined-append, joined-map}
-use Rattle.cert_text.specs.CertificateText.{preorder, node_line, SplitNode, TreeNode, LeafNode, IsLeafWithin, IsNodeWithin, RampRow, Table, Printed, certificate_lines, certificate_text, has_price, penalty_line, shed_line, short_line, shortage_lines, schedule_lines, plan_lines, table_lines, thermal_line, renewable_line, ramp_line, cost_line, version_line, size_line, claim_line, end_line, scale_line, prices_line, ramps_line, listing_of}
-use Rattle.cert_text.specs.inside.WrittenParts.{Found, Instance, Spot, penalty_part, shortages_part, schedule_part, table_part, tables_part, certificate_parts, spot_node}
+use Rattle.cert_text.specs.Changes.{OfDemand, OfReserve, OfRamps, price_changes, row_changes, table_changes}
+use Rattle.cert_text.specs.CertificateText.{Second, Listing, preorder, node_line, SplitNode, TreeNode, LeafNode, IsLeafWithin, IsNodeWithin, RampRow, Table, Printed, certificate_lines, certificate_text, has_price, penalty_line, shortage_lines, schedule_lines, plan_lines, table_lines, next_line, next_lines, change_line, told_lines, tables_lines, thermal_line, renewable_line, ramp_line, cost_line, version_line, size_line, claim_line, end_line, scale_line, prices_line, ramps_line, listing_of}
+use Rattle.cert_text.specs.Reading.{listing_read}
+use Rattle.cert_text.specs.inside.WrittenParts.{Found, Instance, Spot, Cert, penalty_part, shortages_part, schedule_part, table_part, next_part, told_part, tables_part, certificate_parts, found_text, read_text, spot_node}
 use Rattle.std.specs.Option.{option_map_or}
 use Rattle.std.proofs.lemmas.List.Concat.{flat_map-append}
+use Rattle.std.proofs.lemmas.List.Folds.{flat_map-map}
 use Rattle.dual_model.specs.Tree.{map_leaves, Tree, Ends, Splits, root, child, IsCoverBelow, IsCover, EachLeaf}
 use Rattle.branch_tree.specs.NumberedTree.{NumberedTree, EndAt, SplitAt, IsNumbered, unnumbered, numbers, spot_at}
 use Rattle.branch_tree.specs.declared.tree.Leaf.{Leaf as FoundLeaf}
@@ -60,29 +63,53 @@ table-part table =
     (joined-cons (ramps_line table.ramps) (map ramp_line table.ramps)
     ∙ ap (λ rest. ramps_line table.ramps ++ rest) (joined-map ramp_line table.ramps))
 
-tables-part : (tables : List Table) (numbers : List ℕ)
-    → joined (flat_map table_lines (map (table_at tables) numbers)) ≡ tables_part tables numbers
-tables-part tables [] = refl
-tables-part tables (number ∷ numbers) =
-    joined-append (table_lines (table_at tables number)) (flat_map table_lines (map (table_at tables) numbers))
-    ∙ (λ i. table-part (table_at tables number) i ++ tables-part tables numbers i)
+-- of a table that is told by its difference to another one: its changes are those of demand, of reserve and of ramps
+next-part : (before table : Table) → joined (next_lines table.k (table_changes before table)) ≡ next_part before table
+next-part before table =
+    let demand = price_changes OfDemand 0 before.pi table.pi in
+    let reserve = price_changes OfReserve 0 before.mu table.mu in
+    let rows = row_changes before.ramps table.ramps in
+    let first = next_line table.k (length (table_changes before table)) in
+    joined-cons first (map change_line (table_changes before table))
+    ∙ ap (λ rest. first ++ rest)
+    (joined-map change_line (table_changes before table)
+    ∙ (flat_map-append change_line demand (reserve ++ map OfRamps rows)
+    ∙ ap (λ rest. flat_map change_line demand ++ rest)
+    (flat_map-append change_line reserve (map OfRamps rows)
+    ∙ ap (λ rest. flat_map change_line reserve ++ rest) (flat_map-map change_line OfRamps rows))))
 
-pub parts_are_text : (instance : Instance) (found : Found)
-    → certificate_parts instance found ≡ certificate_text (certificate_of instance found)
-unfolding certificate_text certificate_lines certificate_parts
-parts_are_text instance found =
-    let c = certificate_of instance found in
-    let used = used_tables (tree_of found.tree) in
-    let nodes = map node_line (preorder c.tree) in
-    let tables = flat_map table_lines c.tables in
-    let last = joined-append nodes (end_line ∷ []) ∙ ap (λ text. text ++ end_line) (joined-map node_line (preorder c.tree)) in
-    let lower = joined-append tables (nodes ++ end_line ∷ []) ∙ (λ i. tables-part found.tables used i ++ last i) in
+told-part : (before : Option Table) (table : Table) → joined (told_lines before table) ≡ told_part before table
+told-part None table = table-part table
+told-part (Some before) table = next-part before table
+
+tables-part : (before : Option Table) (tables : List Table) → joined (tables_lines Second before tables) ≡ tables_part before tables
+tables-part before [] = refl
+tables-part before (table ∷ tables) =
+    joined-append (told_lines before table) (tables_lines Second (Some table) tables)
+    ∙ (λ i. told-part before table i ++ tables-part (Some table) tables i)
+
+parts-are-lines : (c : Listing) → certificate_parts c ≡ joined (certificate_lines Second c)
+unfolding certificate_lines certificate_parts
+parts-are-lines c =
+    let nodes = map node_line c.nodes in
+    let tables = tables_lines Second None c.tables in
+    let last = joined-append nodes (end_line ∷ []) ∙ ap (λ text. text ++ end_line) (joined-map node_line c.nodes) in
+    let lower = joined-append tables (nodes ++ end_line ∷ []) ∙ (λ i. tables-part None c.tables i ++ last i) in
     let plan = plan_lines c.a c.b c.schedule in
     let body = joined-append plan (tables ++ (nodes ++ end_line ∷ [])) ∙ ((λ i. plan-part c.a c.b c.schedule i ++ lower i)
-    ∙ append_assoc (penalty_part c.a c.b) (schedule_part (has_price c.a c.b) c.schedule) (tables_part found.tables used ++ (flat_map node_line (preorder c.tree) ++ end_line))) in
-    simp append_assoc (sym (ap (λ text. version_line 1 ++ (size_line c.periods c.thermal c.renewable (length c.tables) ++ text))
+    ∙ append_assoc (penalty_part c.a c.b) (schedule_part (has_price c.a c.b) c.schedule) (tables_part None c.tables ++ (flat_map node_line c.nodes ++ end_line))) in
+    simp append_assoc (sym (ap (λ text. version_line Second ++ (size_line c.periods c.thermal c.renewable (length c.tables) ++ text))
     (joined-cons (claim_line c.bound) (plan ++ (tables ++ (nodes ++ end_line ∷ [])))
     ∙ ap (λ text. claim_line c.bound ++ text) body)))
+
+pub found_is_text : (instance : Instance) (found : Found) → found_text instance found ≡ certificate_text Second (certificate_of instance found)
+unfolding found_text certificate_text
+found_is_text instance found = parts-are-lines (listing_of (certificate_of instance found))
+
+-- of what was read, for each certificate that has its listing
+pub read_is_text : (cert : Cert) (c : Certificate) → listing_of c ≡ listing_read cert → read_text cert ≡ certificate_text Second c
+unfolding read_text certificate_text
+read_is_text cert c listed = parts-are-lines (listing_read cert) ∙ ap (λ listing. joined (certificate_lines Second listing)) (sym listed)
 
 -- ---- The lines of the nodes in preorder are those of the tree.
 -- the line of what stands there

@@ -1,16 +1,18 @@
-//! A whole certificate.
+//! A whole certificate, in the second version of the format.
 
-ghost use Rattle.std.specs.Prelude.{◌≡◌, ◌<◌, All, OnOk, OnErr, length};
+ghost use Rattle.std.specs.Prelude.{◌≡◌, OnOk, OnErr};
 ghost use Rattle.outside.specs.Sinks.{WriterWrites, WritesFront};
+ghost use Rattle.dual_model.specs.Certificate.{Certificate};
 ghost use Rattle.branch_tree.specs.Claims.{HasLayout, certificate_of};
-ghost use Rattle.cert_text.specs.CertificateText.{size_line, claim_line, certificate_text};
-ghost use Rattle.cert_text.specs.inside.WrittenParts.{tables_part, heading_part, certificate_parts};
+ghost use Rattle.cert_text.specs.CertificateText.{Second, size_line, claim_line, listing_of, certificate_text};
+ghost use Rattle.cert_text.specs.Reading.{listing_read};
+ghost use Rattle.cert_text.specs.inside.WrittenParts.{heading_part, found_text, read_text};
 
-use crate::schedule::{has_price, put_penalty, put_schedule};
-use crate::table::put_table;
-use crate::tree::put_nodes;
+use crate::cert::Cert;
+use crate::schedule::{has_price, put_penalty, put_read_schedule, put_schedule};
+use crate::tables::{put_numbered, put_tables};
+use crate::tree::{put_nodes, put_read_nodes};
 use branch_tree::Found;
-use dual_model::Table;
 use outside::{Failed, Latch, Lent, Out, Writer, put_count, put_money_line, put_whole_line};
 use uc_model::Instance;
 
@@ -37,50 +39,79 @@ fn put_claim<O: Out>(out: &mut O, bound: &Option<i128>)
 
 fn put_heading<O: Out>(out: &mut O, found: &Found, instance: &Instance)
     requires { HasLayout found.now }
-    ensures { O.emits (heading_part (certificate_of instance.now found.now)) out.old out.new }
+    ensures { O.emits (heading_part (listing_of (certificate_of instance.now found.now))) out.old out.new }
 {
     let thermal = instance.thermal.as_slice().len();
     let renewable = instance.renewable.as_slice().len();
     let tables = found.layout.tables.as_slice().len();
-    put_whole_line(out, b"uc-certificate", 1);
+    put_whole_line(out, b"uc-certificate", 2);
     put_size(out, instance.periods, thermal, renewable, tables);
     put_claim(out, &found.tree.bound());
 }
 
-// The tables of these numbers.
-fn put_tables<O: Out>(out: &mut O, tables: &[Table], numbers: &[u32])
-    requires { All (λ i. i < length tables.now) numbers.now }
-    ensures { O.emits (tables_part tables.now numbers.now) out.old out.new }
+fn put_read_heading<O: Out>(out: &mut O, cert: &Cert)
+    ensures { O.emits (heading_part (listing_read cert.now)) out.old out.new }
 {
-    for number in numbers {
-        put_table(out, &tables[*number as usize]);
-    }
+    let thermal = cert.thermal as usize;
+    let renewable = cert.renewable as usize;
+    let tables = cert.tables.as_slice().len();
+    put_whole_line(out, b"uc-certificate", 2);
+    put_size(out, cert.periods, thermal, renewable, tables);
+    put_claim(out, &cert.bound);
 }
 
-#[tactic(auto, unfolding(crate::specs::inside::WrittenParts::certificate_parts, outside::specs::Lines::line))]
-fn put_certificate<O: Out>(out: &mut O, found: &Found, instance: &Instance)
+#[tactic(auto, unfolding(crate::specs::inside::WrittenParts::found_text, crate::specs::inside::WrittenParts::certificate_parts, outside::specs::Lines::line))]
+fn put_found<O: Out>(out: &mut O, found: &Found, instance: &Instance)
     requires { HasLayout found.now }
-    ensures { O.emits (certificate_parts instance.now found.now) out.old out.new }
+    ensures { O.emits (found_text instance.now found.now) out.old out.new }
 {
     put_heading(out, found, instance);
     put_penalty(out, instance.a, instance.b);
     put_schedule(out, has_price(instance.a, instance.b), &found.schedule);
-    put_tables(out, found.tables.as_slice(), found.layout.tables.as_slice());
+    put_numbered(out, found.tables.as_slice(), found.layout.tables.as_slice());
     put_nodes(out, &found.tree, &found.layout);
     out.put(b"end\n");
 }
 
-/// Writes the certificate of what was found for the instance. It takes no memory.
+#[tactic(auto, unfolding(crate::specs::inside::WrittenParts::read_text, crate::specs::inside::WrittenParts::certificate_parts, outside::specs::Lines::line))]
+fn put_read<O: Out>(out: &mut O, cert: &Cert)
+    ensures { O.emits (read_text cert.now) out.old out.new }
+{
+    put_read_heading(out, cert);
+    put_penalty(out, cert.a, cert.b);
+    put_read_schedule(out, has_price(cert.a, cert.b), &cert.schedule);
+    put_tables(out, cert.tables.as_slice());
+    put_read_nodes(out, cert.tree.as_slice());
+    out.put(b"end\n");
+}
+
+/// Writes the certificate of what was found for the instance, in the second version. It takes no memory.
 ///
 /// `Failed` comes only where the writer's count of faults rose, and a front of the text is written then.
-#[tactic(auto, using(crate::proofs::Parts::parts_are_text))]
+#[tactic(auto, using(crate::proofs::Parts::found_is_text))]
 pub fn write<W: Writer>(found: &Found, instance: &Instance, out: &mut W) -> Result<(), Failed>
     requires { HasLayout found.now }
-    ensures ok { OnOk result (WriterWrites (certificate_text (certificate_of instance.now found.now)) (W.state out.old) (W.state out.new)) }
-    ensures failed { OnErr result (WritesFront (certificate_text (certificate_of instance.now found.now)) (W.state out.old) (W.state out.new)) }
+    ensures ok { OnOk result (WriterWrites (certificate_text Second (certificate_of instance.now found.now)) (W.state out.old) (W.state out.new)) }
+    ensures failed { OnErr result (WritesFront (certificate_text Second (certificate_of instance.now found.now)) (W.state out.old) (W.state out.new)) }
     ensures rest { W.same_else out.old out.new }
 {
     let mut latch = Latch::new(Lent::new(out));
-    put_certificate(&mut latch, found, instance);
+    put_found(&mut latch, found, instance);
+    latch.outcome()
+}
+
+/// Writes a certificate that was read, in the second version, whichever the one was in which it was read. It takes no memory.
+///
+/// `Failed` comes only where the writer's count of faults rose, and a front of the text is written then.
+#[tactic(auto, using(crate::proofs::Parts::read_is_text))]
+pub fn write_cert<W: Writer>(cert: &Cert, out: &mut W) -> Result<(), Failed>
+    ensures ok { (c : Certificate) → listing_of c ≡ listing_read cert.now
+        → OnOk result (WriterWrites (certificate_text Second c) (W.state out.old) (W.state out.new)) }
+    ensures failed { (c : Certificate) → listing_of c ≡ listing_read cert.now
+        → OnErr result (WritesFront (certificate_text Second c) (W.state out.old) (W.state out.new)) }
+    ensures rest { W.same_else out.old out.new }
+{
+    let mut latch = Latch::new(Lent::new(out));
+    put_read(&mut latch, cert);
     latch.outcome()
 }

@@ -1,6 +1,6 @@
 //! The lines of prices and of a schedule.
 
-ghost use Rattle.std.specs.Prelude.{◌≡◌};
+ghost use Rattle.std.specs.Prelude.{◌≡◌, Some};
 ghost use Rattle.uc_model.specs.Decimal.{signed_text};
 ghost use Rattle.branch_tree.specs.Claims.{written_of};
 ghost use Rattle.cert_text.specs.CertificateText.{cell_text, has_price, penalty_line};
@@ -77,31 +77,50 @@ fn put_shortages<O: Out>(out: &mut O, priced: bool, printed: &Printed)
     }
 }
 
-/// A schedule with its cost, or that there is none.
+// A schedule with its cost, in micro-dollars.
+fn put_written<O: Out>(out: &mut O, priced: bool, printed: &Printed, cost: &i128)
+    ensures { O.emits (schedule_part priced (Some (record { printed = printed.now; cost = cost.now }))) out.old out.new }
+{
+    put_money_line(out, b"schedule", cost);
+    put_each(
+        out,
+        &RowLine {
+            first: b"t",
+            form: CellWord,
+        },
+        printed.thermal.as_slice(),
+    );
+    put_each(
+        out,
+        &RowLine {
+            first: b"w",
+            form: Signed,
+        },
+        printed.renewable.as_slice(),
+    );
+    put_shortages(out, priced, printed);
+}
+
+/// A schedule that was found, with its cost, or that there is none.
 pub(crate) fn put_schedule<O: Out>(out: &mut O, priced: bool, schedule: &Option<(Printed, i64)>)
     ensures { O.emits (schedule_part priced (written_of schedule.now)) out.old out.new }
 {
     match schedule {
-        Some((printed, cost)) => {
-            put_money_line(out, b"schedule", &i128::from(*cost));
-            put_each(
-                out,
-                &RowLine {
-                    first: b"t",
-                    form: CellWord,
-                },
-                printed.thermal.as_slice(),
-            );
-            put_each(
-                out,
-                &RowLine {
-                    first: b"w",
-                    form: Signed,
-                },
-                printed.renewable.as_slice(),
-            );
-            put_shortages(out, priced, printed);
-        }
+        Some((printed, cost)) => put_written(out, priced, printed, &i128::from(*cost)),
+        None => out.put(b"schedule none\n"),
+    }
+}
+
+/// The same of one that was read.
+pub(crate) fn put_read_schedule<O: Out>(
+    out: &mut O,
+    priced: bool,
+    schedule: &Option<(Printed, i128)>,
+)
+    ensures { O.emits (schedule_part priced (written_of schedule.now)) out.old out.new }
+{
+    match schedule {
+        Some((printed, cost)) => put_written(out, priced, printed, cost),
         None => out.put(b"schedule none\n"),
     }
 }

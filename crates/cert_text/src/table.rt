@@ -1,6 +1,8 @@
-//! The lines of a price table.
+//! The lines of a price table that is told whole.
 
-ghost use Rattle.std.specs.Prelude.{◌≡◌};
+ghost use Rattle.std.specs.Prelude.{◌≡◌, ◌∷◌, [], suc};
+ghost use Rattle.outside.specs.Lines.{line};
+ghost use Rattle.uc_model.specs.Decimal.{whole_text, signed_text};
 ghost use Rattle.cert_text.specs.CertificateText.{scale_line, ramp_line};
 ghost use Rattle.cert_text.specs.inside.WrittenParts.{table_part};
 
@@ -8,7 +10,21 @@ use crate::schedule::Signed;
 use dual_model::{RampRow, Table};
 use outside::{Form, Out, put_count, put_each, put_list_line, put_signed, put_whole_line};
 
-// A row of ramp multipliers; unit and period count from 1 in the text.
+/// A line of a row of ramp multipliers, after its first word; unit and period count from 1 in the text.
+pub(crate) fn put_row<O: Out>(out: &mut O, first: &[u8], row: &RampRow)
+    ensures { O.emits (line first.now (whole_text (suc row.now.g) ∷ whole_text (suc row.now.t) ∷ signed_text row.now.up ∷ signed_text row.now.down ∷ [])) out.old out.new }
+{
+    out.put(first);
+    put_count(out, b" ", u64::from(row.g) + 1);
+    put_count(out, b" ", u64::from(row.t) + 1);
+    out.put(b" ");
+    put_signed(out, &row.up);
+    out.put(b" ");
+    put_signed(out, &row.down);
+    out.put(b"\n");
+}
+
+// A row of ramp multipliers.
 #[derive(Clone, Copy)]
 struct Ramp;
 
@@ -16,13 +32,7 @@ impl Form<RampRow> for Ramp {
     ghost text = { λ _ row. ramp_line row };
 
     fn put_value<O: Out>(&self, row: &RampRow, out: &mut O) {
-        put_count(out, b"ramp ", u64::from(row.g) + 1);
-        put_count(out, b" ", u64::from(row.t) + 1);
-        out.put(b" ");
-        put_signed(out, &row.up);
-        out.put(b" ");
-        put_signed(out, &row.down);
-        out.put(b"\n");
+        put_row(out, b"ramp", row);
     }
 }
 
@@ -34,7 +44,7 @@ fn put_scale<O: Out>(out: &mut O, k: &i64)
     out.put(b"\n");
 }
 
-// A whole table.
+/// A whole table.
 pub(crate) fn put_table<O: Out>(out: &mut O, table: &Table)
     ensures { O.emits (table_part table.now) out.old out.new }
 {

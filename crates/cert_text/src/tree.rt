@@ -1,15 +1,17 @@
 //! The lines of a tree.
 
-ghost use Rattle.std.specs.Prelude.{◌≡◌, ◌∷◌, [], ℕ, suc, ◌<◌};
+ghost use Rattle.std.specs.Prelude.{◌≡◌, ◌∷◌, [], ℕ, suc, ◌<◌, flat_map, map};
 ghost use Rattle.outside.specs.Lines.{line};
 ghost use Rattle.uc_model.specs.Decimal.{whole_text};
 ghost use Rattle.branch_tree.specs.UsedTables.{place_of};
 ghost use Rattle.branch_tree.specs.Claims.{IsLayoutOf, leaf_claim};
-ghost use Rattle.cert_text.specs.CertificateText.{leaf_line, node_line};
+ghost use Rattle.cert_text.specs.CertificateText.{SplitNode, leaf_line, node_line};
+ghost use Rattle.cert_text.specs.Reading.{node_of};
 ghost use Rattle.cert_text.specs.inside.WrittenParts.{spot_node, tree_part};
 
+use crate::cert::CertNode;
 use branch_tree::{Layout, Leaf, Spot, Tree};
-use outside::{Out, put_place};
+use outside::{Form, Out, put_each, put_place};
 
 // The place, from 0, of a table among those that the leaves use.
 #[tactic(auto, using(crate::proofs::Parts::place_found, crate::proofs::Parts::place_past))]
@@ -34,6 +36,17 @@ fn put_place_line<O: Out>(out: &mut O, first: &[u8], index: usize)
     out.put(b"\n");
 }
 
+// A split on a unit in a period, which count from 1 in the text.
+fn put_split<O: Out>(out: &mut O, g: u32, t: u32)
+    ensures { O.emits (node_line (SplitNode g t)) out.old out.new }
+{
+    out.put(b"split ");
+    put_place(out, g as usize);
+    out.put(b" ");
+    put_place(out, t as usize);
+    out.put(b"\n");
+}
+
 // A leaf with the place of its table.
 fn put_leaf<O: Out>(out: &mut O, used: &[u32], leaf: &Leaf)
     ensures { O.emits (leaf_line (leaf_claim used.now leaf.now)) out.old out.new }
@@ -47,18 +60,12 @@ fn put_leaf<O: Out>(out: &mut O, used: &[u32], leaf: &Leaf)
     }
 }
 
-// What stands at a node; units and periods count from 1 in the text.
+// What stands at a node.
 fn put_spot<O: Out>(out: &mut O, used: &[u32], spot: &Spot)
     ensures { O.emits (node_line (spot_node used.now spot.now)) out.old out.new }
 {
     match spot {
-        Spot::Inner { g, t, .. } => {
-            out.put(b"split ");
-            put_place(out, *g as usize);
-            out.put(b" ");
-            put_place(out, *t as usize);
-            out.put(b"\n");
-        }
+        Spot::Inner { g, t, .. } => put_split(out, *g, *t),
         Spot::Leaf(leaf) => put_leaf(out, used, leaf),
     }
 }
@@ -72,4 +79,28 @@ pub(crate) fn put_nodes<O: Out>(out: &mut O, tree: &Tree, layout: &Layout)
     for node in layout.nodes.as_slice() {
         put_spot(out, layout.tables.as_slice(), &tree.node(*node));
     }
+}
+
+// A node that was read.
+#[derive(Clone, Copy)]
+struct NodeLine;
+
+impl Form<CertNode> for NodeLine {
+    ghost text = { λ _ node. node_line (node_of node) };
+
+    fn put_value<O: Out>(&self, node: &CertNode, out: &mut O) {
+        match node {
+            CertNode::Split { g, t } => put_split(out, *g, *t),
+            CertNode::Bound(table) => put_place_line(out, b"bound", *table as usize),
+            CertNode::Ray(table) => put_place_line(out, b"ray", *table as usize),
+            CertNode::Empty(g) => put_place_line(out, b"empty", *g as usize),
+        }
+    }
+}
+
+/// The nodes of a tree that was read, in preorder.
+pub(crate) fn put_read_nodes<O: Out>(out: &mut O, nodes: &[CertNode])
+    ensures { O.emits (flat_map node_line (map node_of nodes.now)) out.old out.new }
+{
+    put_each(out, &NodeLine, nodes);
 }
