@@ -1,5 +1,5 @@
-//! What the program prints: the report of a found answer on its output, and the line of a fault on its
-//! error output. No call takes memory.
+//! What the program prints: the report of a found answer or of what was done with a certificate on its output, and the
+//! line of a fault on its error output. No call takes memory.
 #![tactic(auto, unfolding(outside::specs::Lines::line, outside::specs::Lines::list_line))]
 
 mod claims;
@@ -10,9 +10,11 @@ mod found;
 mod names;
 mod schedule;
 mod stuck;
+mod upgraded;
 
 pub use claims::write_claims;
 pub use demo::{DEMO_GAP, write_demo};
 pub use fault::Fault;
 pub use fault_text::write_fault;
 pub use found::write_found;
+pub use upgraded::write_upgraded;
