@@ -67,7 +67,11 @@ seed_place = record (new_rule (codes "seed")) { parser = Some (Signed (pos 0) (p
 abbrev pub demo_shape : Shape
 demo_shape = record (new_shape (codes "demo")) { rules = seed_place ∷ [] }
 
--- the program has to be given one of the three
+-- `upgrade CERT --cert FILE`
+abbrev pub upgrade_shape : Shape
+upgrade_shape = record (new_shape (codes "upgrade")) { rules = place (codes "certificate") ∷ needed_option (codes "cert") ∷ [] }
+
+-- the program has to be given one of the four
 abbrev pub program : App
 program = record {
   top = record (new_shape (codes "uc")) {
@@ -76,7 +80,7 @@ program = record {
     disable_help_flag = true;
     disable_help_subcommand = true;
   };
-  subs = solve_shape ∷ check_shape ∷ demo_shape ∷ [];
+  subs = solve_shape ∷ check_shape ∷ demo_shape ∷ upgrade_shape ∷ [];
 }
 
 -- no kind of error may come

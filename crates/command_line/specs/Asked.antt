@@ -5,10 +5,11 @@ use Rattle.clap.specs.declared.error.kind.ErrorKind.TheVariants as kind
 use Rattle.report.specs.declared.fault.Fault.{Fault}
 use Rattle.report.specs.declared.fault.Fault.TheVariants.{Words, Memory}
 use Rattle.command_line.specs.Arguments.{is_taken}
-use Rattle.command_line.specs.Command.{Solve, Check, Demo, Command, Solves, Checks, Demos}
+use Rattle.command_line.specs.Command.{Solve, Check, Demo, Upgrade, Command, Solves, Checks, Demos, Upgrades}
 use Rattle.command_line.specs.declared.command.Solve.{Solve as SolveWords}
 use Rattle.command_line.specs.declared.command.Check.{Check as CheckWords}
 use Rattle.command_line.specs.declared.command.Demo.{Demo as DemoWords}
+use Rattle.command_line.specs.declared.command.Upgrade.{Upgrade as UpgradeWords}
 pub use Rattle.command_line.specs.declared.command.Command.{Command as CommandWords}
 use Rattle.command_line.specs.declared.command.Command.TheVariants as forms
 
@@ -34,10 +35,14 @@ check_asked check = record {
 abbrev pub demo_asked : DemoWords → Demo
 demo_asked demo = record { seed = demo.seed }
 
+abbrev pub upgrade_asked : UpgradeWords → Upgrade
+upgrade_asked upgrade = record { certificate = upgrade.certificate.now; to = upgrade.to.now }
+
 abbrev pub command_asked : CommandWords → Command
 command_asked (forms.Solve solve) = Solves (solve_asked solve)
 command_asked (forms.Check check) = Checks (check_asked check)
 command_asked (forms.Demo demo) = Demos (demo_asked demo)
+command_asked (forms.Upgrade upgrade) = Upgrades (upgrade_asked upgrade)
 
 -- both prices are at most a million micro-dollars for a watt and an hour
 abbrev pub HasPrices : ℕ → ℕ → Type 0
@@ -48,6 +53,7 @@ abbrev pub HasNumbers : CommandWords → Type 0
 HasNumbers (forms.Solve solve) = (solve.units ≤ 1000000) × (solve.gap ≤ 1000000) × HasPrices solve.shed solve.spill_reserve
 HasNumbers (forms.Check check) = HasPrices check.shed check.spill_reserve
 HasNumbers (forms.Demo demo) = ⊤
+HasNumbers (forms.Upgrade upgrade) = ⊤
 
 -- the fault of an error of the parser
 abbrev pub refusal_of : ErrorKind → Fault

@@ -30,11 +30,17 @@ pub record Check : Type 0 where
 pub record Demo : Type 0 where
   pub seed : ℕ
 
+-- what `upgrade` is asked: the file of the certificate that is read, and of the one that is written
+pub record Upgrade : Type 0 where
+  pub certificate : List ℕ
+  pub to : List ℕ
+
 -- what the program does
 pub data Command : Type 0 where
   Solves : Solve → Command
   Checks : Check → Command
   Demos : Demo → Command
+  Upgrades : Upgrade → Command
 
 -- the value of an argument that has to be given, and so is
 abbrev pub value_of : Text → List Row → List ℕ
@@ -73,12 +79,16 @@ check_of rows = record {
 abbrev pub demo_of : List Row → Demo
 demo_of rows = record { seed = number_of 4294967295 (codes "seed") rows }
 
+abbrev pub upgrade_of : List Row → Upgrade
+upgrade_of rows = record { certificate = value_of (codes "certificate") rows; to = value_of (codes "cert") rows }
+
 -- the command of a name, with what was found for its arguments
 abbrev pub named : Text × List Row → Option Command
 named given =
     if bytes_eq given.0 (codes "solve") then Some (Solves (solve_of given.1))
     else (if bytes_eq given.0 (codes "check") then Some (Checks (check_of given.1))
-    else (if bytes_eq given.0 (codes "demo") then Some (Demos (demo_of given.1)) else None))
+    else (if bytes_eq given.0 (codes "demo") then Some (Demos (demo_of given.1))
+    else (if bytes_eq given.0 (codes "upgrade") then Some (Upgrades (upgrade_of given.1)) else None)))
 
 -- the command that the words ask for, where they are taken: then there is one
 unfoldable pub command_of : List Text → Option Command

@@ -3,8 +3,8 @@
 ghost use Rattle.std.specs.Prelude.{◌≡◌, ◌≤◌, map, string_bytes, true, IfOk, IfErr, IfSome, Some, option_map, option_and_then};
 ghost use Rattle.clap.specs.Words.{first_of, found_of, rows_of, kind_of, subcommand_rows_of};
 ghost use Rattle.command_line.specs.Arguments.{is_taken};
-ghost use Rattle.command_line.specs.Command.{named, command_of as command_of_words, value_of, is_on, number_of, solve_of as solve_of_rows, check_of as check_of_rows, demo_of as demo_of_rows};
-ghost use Rattle.command_line.specs.Asked.{command_asked, solve_asked, check_asked, demo_asked, refusal_of, HasNumbers, HasPrices, IsRefusal};
+ghost use Rattle.command_line.specs.Command.{named, command_of as command_of_words, value_of, is_on, number_of, solve_of as solve_of_rows, check_of as check_of_rows, demo_of as demo_of_rows, upgrade_of as upgrade_of_rows};
+ghost use Rattle.command_line.specs.Asked.{command_asked, solve_asked, check_asked, demo_asked, upgrade_asked, refusal_of, HasNumbers, HasPrices, IsRefusal};
 
 use crate::arguments::program;
 use clap::error::ErrorKind;
@@ -47,12 +47,20 @@ pub struct Demo {
     pub seed: u32,
 }
 
+/// What `upgrade` is asked: the file of the certificate that is read, and that of the one that is written.
+#[derive(Clone, Copy, Debug)]
+pub struct Upgrade<'a> {
+    pub certificate: &'a str,
+    pub to: &'a str,
+}
+
 /// A command with its arguments.
 #[derive(Clone, Copy, Debug)]
 pub enum Command<'a> {
     Solve(Solve<'a>),
     Check(Check<'a>),
     Demo(Demo),
+    Upgrade(Upgrade<'a>),
 }
 
 // The value of an argument, where it has one.
@@ -129,6 +137,15 @@ fn demo_of(given: &ArgMatches<'_>) -> Demo
     }
 }
 
+fn upgrade_of<'a>(given: &ArgMatches<'a>) -> Upgrade<'a>
+    ensures { upgrade_asked result ≡ upgrade_of_rows (rows_of (found_of given.now)) }
+{
+    Upgrade {
+        certificate: value(given, "certificate"),
+        to: value(given, "cert"),
+    }
+}
+
 // The command that was found, with its arguments.
 fn command_in<'a>(matches: &ArgMatches<'a>) -> Option<Command<'a>>
     ensures command { option_map command_asked result ≡ option_and_then named (subcommand_rows_of matches.now) }
@@ -141,6 +158,8 @@ fn command_in<'a>(matches: &ArgMatches<'a>) -> Option<Command<'a>>
         Some(Command::Check(check_of(given)))
     } else if name == "demo" {
         Some(Command::Demo(demo_of(given)))
+    } else if name == "upgrade" {
+        Some(Command::Upgrade(upgrade_of(given)))
     } else {
         None
     }

@@ -4,3 +4,6 @@ pub mod Prices
 pub mod Unread
 pub mod OnlyRead
 pub mod Verdicts
+pub mod SameTexts
+pub mod CheckedAlike
+pub mod Rewriting

@@ -1,9 +1,9 @@
 -- The cause of a fault in reading a slot is one of the instance's file, or of the certificate's.
 use Rattle.outside.specs.declared.slot.Slot.TheVariants as slot
 use Rattle.outside.specs.Slots.{SlotState}
-use Rattle.uc_check.specs.Checking.{Fault, Long, Memory, Read, most_certificate_bytes}
+use Rattle.uc_model.specs.declared.instance.Instance.{Instance}
+use Rattle.uc_check.specs.Checking.{Code, Fault, Long, Memory, Read, most_certificate_bytes, HasReadCause, HasCertificateCause}
 use Rattle.uc_check.specs.Reading.{ReadOptions, most_bytes, HasCause}
-use Rattle.uc_check.specs.inside.Checks.{HasReadCause}
 use Rattle.uc_check.specs.inside.Unread.{IsUnread}
 
 pub instance_cause : (options : ReadOptions) (old new : SlotState) (fault : Fault) → IsUnread slot.Instance most_bytes old new fault
@@ -17,9 +17,14 @@ instance_cause options old new _ unread = absurd unread
 
 pub certificate_cause : (old new : SlotState) (fault : Fault) → IsUnread slot.CertIn most_certificate_bytes old new fault
     → HasReadCause old new fault
-certificate_cause old new (Read slot.CertIn) unread = λ instance. unread.1
-certificate_cause old new (Long slot.CertIn) unread = λ instance. unread.1
-certificate_cause old new Memory unread = λ instance. tt
+certificate_cause old new (Read slot.CertIn) unread = unread.1
+certificate_cause old new (Long slot.CertIn) unread = unread.1
+certificate_cause old new Memory unread = tt
 certificate_cause old new (Read _) unread = let e = unread.0 in absurd (cc)
 certificate_cause old new (Long _) unread = let e = unread.0 in absurd (cc)
 certificate_cause old new _ unread = absurd unread
+
+-- a certificate that could not be read is at fault for each instance
+pub for_instance : (instance : Instance) (old new : SlotState) (fault : Fault) → HasReadCause old new fault → HasCertificateCause instance old new fault
+for_instance instance old new (Code code) cause = absurd cause
+for_instance instance old new fault cause = cause

@@ -31,12 +31,12 @@ handed_up (Err f) e P is p = subst P (sym is) p
 pub is_read : (bytes : List ℕ) (cert : Cert) → IsTextOf bytes cert → IsRead cert
 is_read bytes cert text = record { certificate = text.certificate; listed = text.listed; conditions = text.conditions }
 
-in_file : (file : SlotState) (cert : Cert) → (text : HasCertificateText file cert) → HasCertificate file text.text.certificate
+pub in_file : (file : SlotState) (cert : Cert) → (text : HasCertificateText file cert) → HasCertificate file text.text.certificate
 in_file file cert text = record {
   bytes = text.bytes;
   told = text.told;
   few = text.few;
-  is = record { conditions = text.text.conditions; text = text.text.text };
+  is = record { version = text.text.version; conditions = text.text.conditions; text = text.text.text };
 }
 
 -- a schedule of a certificate that holds is one, and costs no more than is written

@@ -13,6 +13,7 @@ use Rattle.outside.specs.Slots.{SlotState}
 use Rattle.cert_text.specs.CertificateText.{certificate_text, listing_of}
 use Rattle.cert_text.specs.TextConditions.{HasText}
 use Rattle.cert_text.specs.Grammar.{IsKindAt}
+use Rattle.cert_text.specs.declared.cert.Version.{Version}
 use Rattle.cert_text.specs.declared.cert.CertKind.{CertKind}
 use Rattle.cert_text.specs.declared.cert.CertKind.TheVariants as kinds
 use Rattle.cert_check.specs.Answers.{cost_of, is_none}
@@ -36,10 +37,11 @@ most_certificate_bytes = 2 ^ 46
 
 -- ---- the certificate in the file
 
--- the bytes are the text of the certificate
+-- the bytes are the text of the certificate, in some version of the format
 pub record IsCertificateText (bytes : List ℕ) (certificate : Certificate) : Type 0 where
+  pub version : Version
   pub conditions : HasText (listing_of certificate)
-  pub text : bytes ≡ certificate_text certificate
+  pub text : bytes ≡ certificate_text version certificate
 
 -- the file's bytes, where they are told, are at most as many as are read, and the text of the certificate
 pub record HasCertificate (file : SlotState) (certificate : Certificate) : Type 0 where
@@ -104,14 +106,18 @@ pub record HasRefusedCertificate (instance : Instance) (old new : SlotState) (co
   pub fails : ¬ CertificateHolds instance certificate
   pub calm : new.faults ≡ old.faults
 
--- the cause of a fault that comes of the certificate's file, by the file before and after
+-- the cause of a fault that comes of reading the certificate's file, by the file before and after
+abbrev pub HasReadCause : SlotState → SlotState → Fault → Type 0
+HasReadCause old new (Read slot.CertIn) = HasRisen old.faults new.faults
+HasReadCause old new Memory = ⊤
+HasReadCause old new (Long slot.CertIn) = IsLong most_certificate_bytes old new
+HasReadCause old new (Line line kind) = HasFaultyLine old new line kind
+HasReadCause old new _ = ⊥
+
+-- the cause of a fault that comes of the certificate: it could not be read, or was refused
 abbrev pub HasCertificateCause : Instance → SlotState → SlotState → Fault → Type 0
-HasCertificateCause instance old new (Read slot.CertIn) = HasRisen old.faults new.faults
-HasCertificateCause instance old new Memory = ⊤
-HasCertificateCause instance old new (Long slot.CertIn) = IsLong most_certificate_bytes old new
-HasCertificateCause instance old new (Line line kind) = HasFaultyLine old new line kind
 HasCertificateCause instance old new (Code code) = HasRefusedCertificate instance old new code
-HasCertificateCause instance old new _ = ⊥
+HasCertificateCause instance old new fault = HasReadCause old new fault
 
 -- a fault of the instance's file ended the run before the certificate's was opened
 pub record IsInstanceFault (asked : Check) (before after : Outside) (fault : Fault) : Type 0 where

@@ -3,4 +3,5 @@ pub mod Reading
 pub mod Writing
 pub mod Ending
 pub mod Checking
+pub mod Upgrading
 pub mod inside

@@ -1,12 +1,12 @@
-//! Reading the certificate that is to be checked.
+//! Reading a certificate.
 
 ghost use Rattle.std.specs.Prelude.{◌≡◌, IfOk, IfErr};
 ghost use Rattle.outside.specs.declared.slot.Slot.TheVariants.{CertIn};
 ghost use Rattle.outside.specs.Slots.{SameBut};
 ghost use Rattle.cert_text.specs.Reading.{IsTextOf};
 ghost use Rattle.uc_check.specs.Reading.{Unopened, IsOpenedByNoOther, IsOnlyRead};
-ghost use Rattle.uc_check.specs.Checking.{most_certificate_bytes, kind_number};
-ghost use Rattle.uc_check.specs.inside.Checks.{HasCertificateText, HasReadCause, IsRefusedText};
+ghost use Rattle.uc_check.specs.Checking.{most_certificate_bytes, kind_number, HasReadCause};
+ghost use Rattle.uc_check.specs.inside.Checks.{HasCertificateText, IsRefusedText};
 
 use crate::slot_bytes::slot_bytes;
 use cert_text::{Cert, CertFault, CertKind, read};

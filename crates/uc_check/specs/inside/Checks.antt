@@ -12,7 +12,7 @@ use Rattle.cert_check.specs.Answers.{AreClaimsOf}
 use Rattle.cert_check.specs.Refusals.{IsRefusedBy}
 pub use Rattle.cert_check.specs.declared.claims.Claims.{Claims}
 use Rattle.command_line.specs.Command.{Check}
-use Rattle.uc_check.specs.Checking.{Code, Fault, Line, Memory, most_certificate_bytes, HasCertificateCause, IsFaultyAt, IsVerified}
+use Rattle.uc_check.specs.Checking.{Code, Fault, Line, Memory, most_certificate_bytes, IsFaultyAt, IsVerified}
 
 -- the file's bytes, where they are told, are at most as many as are read, and the text of what was read
 pub record HasCertificateText (file : SlotState) (cert : Cert) : Type 0 where
@@ -26,10 +26,6 @@ abbrev pub IsRefusedText : List ℕ → Fault → Type 0
 IsRefusedText bytes (Line line kind) = IsFaultyAt bytes line kind
 IsRefusedText bytes Memory = Unit {0}
 IsRefusedText bytes _ = ⊥
-
--- a fault of reading the certificate's file has its cause, whatever the instance
-abbrev pub HasReadCause : SlotState → SlotState → Fault → Type 0
-HasReadCause old new fault = (instance : Instance) → HasCertificateCause instance old new fault
 
 -- why a certificate was not accepted
 abbrev pub IsRefusedCert : Instance → Cert → Fault → Type 0

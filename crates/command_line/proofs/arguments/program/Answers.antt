@@ -5,4 +5,5 @@ pub returns : goal.returns
 returns c =
     let first = c.with_command-program.ensures _ _ c.solve_command.ensures.shape c.bare_program.ensures.app in
     let second = c.with_command-program-2.ensures _ _ c.check_command.ensures.shape first in
-    c.with_command.ensures _ _ c.demo_command.ensures.shape second
+    let third = c.with_command-program-3.ensures _ _ c.demo_command.ensures.shape second in
+    c.with_command.ensures _ _ c.upgrade_command.ensures.shape third

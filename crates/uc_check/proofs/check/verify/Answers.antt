@@ -2,6 +2,7 @@
 use Rattle.std.proofs.Common.{inr, refl}
 use Rattle.std.proofs.lemmas.Result.{IfErr-weaker}
 use Rattle.command_line.specs.Asked.{check_asked}
+use Rattle.uc_check.proofs.Unread.{for_instance}
 use Rattle.uc_check.proofs.Verdicts.{certificate_fault, handed_up, ok_both, refused_cause, verified}
 use Rattle.uc_check.proofs.check.verify.Goals as goal
 
@@ -13,7 +14,7 @@ returns-in_err-cert-clause-stopped g c =
       cause = inr (certificate_fault (check_asked c.args.asked.now) (files c.args.files.now) (files c.read_instance.new.files) (files c.read_certificate.new.files)
           out err_old err_new c.in_ok-instance.instance c.in_ok-instance._rounded c.in_err-cert.field-0.0
           c.in_ok-instance.ensures.read c.in_ok-instance.ensures.others c.in_err-cert.ensures.others c.in_ok-instance.ensures.calm
-          (c.in_err-cert.ensures.cause c.in_ok-instance.instance));
+          (for_instance c.in_ok-instance.instance _ _ _ c.in_err-cert.ensures.cause));
       out = refl;
     })
 

@@ -1,0 +1,38 @@
+-- Each end from the steps before it.
+use Rattle.std.specs.Prelude.{None, refl}
+use Rattle.uc_check.specs.Outside.{outside_of}
+use Rattle.uc_check.specs.Upgrading.{IsUpgradeFailure}
+use Rattle.uc_check.proofs.Verdicts.{handed_up}
+use Rattle.uc_check.proofs.upgrade.rewrite_and_tell.Goals as goal
+
+pub returns-in_err-rewrite-clause-failed : goal.returns-in_err-rewrite-clause-failed
+returns-in_err-rewrite-clause-failed g c = λ err_old err_new.
+    let out = g.O.Sink.state c.args.out.now in
+    let before = outside_of (g.F.Files.state c.args.files.now) out err_old in
+    let after = outside_of (g.F.Files.state c.rewrite.new.files) out err_new in
+    handed_up c.from_residual.result (record { fault = c.in_err-rewrite.field-0.0; found = None })
+    (λ failure. IsUpgradeFailure before after failure.fault failure.found) c.from_residual.ensures.1
+    (c.in_err-rewrite.ensures.failed out err_old err_new)
+
+pub returns-in_err-rewrite-clause-files : goal.returns-in_err-rewrite-clause-files
+returns-in_err-rewrite-clause-files g c = λ err_old err_new.
+    c.in_err-rewrite.ensures.files (g.O.Sink.state c.args.out.now) (g.O.Sink.state c.args.out.now) err_old err_new
+
+pub returns-in-Ok-clause-done : goal.returns-in-Ok-clause-done
+returns-in-Ok-clause-done g c = λ err_old err_new. record {
+  code = refl;
+  nothing = refl;
+  done = record { rewritten = c.in_ok-rewrite.ensures.done; told = c.in-Ok.ensures.told };
+}
+
+pub returns-in-Ok-clause-files : goal.returns-in-Ok-clause-files
+returns-in-Ok-clause-files g c = λ err_old err_new.
+    c.in_ok-rewrite.ensures.files (g.O.Sink.state c.args.out.now) (g.O.Sink.state c.tell_upgraded.new.out) err_old err_new
+
+pub returns-in-Err-clause-failed : goal.returns-in-Err-clause-failed
+returns-in-Err-clause-failed g c = λ err_old err_new.
+    record { rewritten = c.in_ok-rewrite.ensures.done; report = c.in-Err.ensures.failed }
+
+pub returns-in-Err-clause-files : goal.returns-in-Err-clause-files
+returns-in-Err-clause-files g c = λ err_old err_new.
+    c.in_ok-rewrite.ensures.files (g.O.Sink.state c.args.out.now) (g.O.Sink.state c.tell_upgraded.new.out) err_old err_new
