@@ -13,10 +13,10 @@ after_text text form bytes rest read e f = rw e f
 pub no_text : {A : Type 0} (text : List ℕ) (form : Form A) (bytes : List ℕ) → text_at text bytes ≡ None → after text form bytes ≡ None
 no_text text form bytes e = rw e refl
 
-one_left : (count i : ℕ) → i < count → count - i ≡ suc (count - (i + 1))
+pub one_left : (count i : ℕ) → i < count → count - i ≡ suc (count - (i + 1))
 one_left count i lt = omega arith
 
-none_left : (count i : ℕ) → count ≤ i → count - i ≡ 0
+pub none_left : (count i : ℕ) → count ≤ i → count - i ≡ 0
 none_left count i le = omega arith
 
 -- ---- forms

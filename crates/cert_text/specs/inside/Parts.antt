@@ -128,6 +128,12 @@ changes_part size table zero last bytes = Ok ([], bytes)
 changes_part size table (suc more) last bytes =
     line_of (change_at size table last) bytes >>= λ x. changes_part size (changed table x.0) more (Some x.0) x.1 >>= λ xs. Ok (x.0 ∷ xs.0, xs.1)
 
+-- the same, as a loop goes: the table with all of them
+unfoldable pub changed_part : Sizes → ℕ → Table → Option Change → Part Table
+changed_part size zero table last bytes = Ok (table, bytes)
+changed_part size (suc more) table last bytes =
+    line_of (change_at size table last) bytes >>= λ x. changed_part size more (changed table x.0) (Some x.0) x.1
+
 -- a table that is told by its difference to this one
 unfoldable pub next_part : Sizes → Table → Part Table
 next_part size before =

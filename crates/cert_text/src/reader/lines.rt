@@ -1,13 +1,15 @@
 //! The other lines of one value.
 
 ghost use Rattle.std.specs.Prelude.{◌≡◌, ◌<◌, IfSome, codes};
+ghost use Rattle.cert_text.specs.Changes.{is_before};
 ghost use Rattle.cert_text.specs.CertificateText.{LeafNode, SplitNode};
-ghost use Rattle.cert_text.specs.inside.Forms.{Gives, after, ended, whole_at, money_at, claim_at, penalty_at, schedule_at, plan_at, on_cell_at, cell_at, ramp_at, rises, is_ramp, named_at, split_at, node_at};
+ghost use Rattle.cert_text.specs.inside.Forms.{Gives, after, ended, whole_at, money_at, claim_at, penalty_at, schedule_at, plan_at, on_cell_at, cell_at, row_numbers_at, ramp_at, rises, is_ramp, named_at, split_at, node_at};
 ghost use Rattle.cert_text.specs.inside.Parts.{sizes, first_of};
 ghost use Rattle.cert_text.specs.Reading.{node_of};
 
 use super::numbers::{
-    take_byte, take_count, take_count_to, take_money, take_ordinal_to, take_signed_to, take_text,
+    below, take_byte, take_count, take_count_to, take_money, take_ordinal_to, take_signed_to,
+    take_text,
 };
 use super::sizes::Size;
 use crate::cert::CertNode;
@@ -130,13 +132,31 @@ pub(crate) fn take_count_line<'a>(bytes: &'a [u8], word: &[u8]) -> Option<(u64, 
     take_count_to(rest, b'\n')
 }
 
+/// A row comes before another: by unit, and then by period.
+pub(crate) fn is_before(first: &RampRow, second: &RampRow) -> bool
+    ensures { result ≡ is_before first.now second.now }
+{
+    first.g < second.g || (first.g == second.g && first.t < second.t)
+}
+
 fn rises(before: &Option<RampRow>, row: &RampRow) -> bool
     ensures { result ≡ rises before.now row.now }
 {
     match before {
         None => true,
-        Some(before) => before.g < row.g || (before.g == row.g && before.t < row.t),
+        Some(before) => is_before(before, row),
     }
+}
+
+/// The unit and the period of a row, counted from 0, and its multipliers, up to the end of the line.
+pub(crate) fn take_row_numbers(bytes: &[u8]) -> Option<((u64, u64), (i64, i64), &[u8])>
+    ensures { Gives (λ r. ((r.0.0, (r.0.1, r.1)), r.2.now)) result (row_numbers_at bytes.now) }
+{
+    let (g, rest) = take_ordinal_to(bytes, b' ')?;
+    let (t, rest) = take_ordinal_to(rest, b' ')?;
+    let (up, rest) = take_signed_to(rest, 18, b' ')?;
+    let (down, rest) = take_signed_to(rest, 18, b'\n')?;
+    Some(((g, t), (up, down), rest))
 }
 
 /// A row of ramp multipliers behind another one, or as the first.
@@ -149,19 +169,10 @@ pub(crate) fn take_ramp<'a>(
     ensures { Gives (λ r. (r.0, r.1.now)) result (ramp_at (sizes size.now) before.now bytes.now) }
 {
     let rest = take_text(bytes, b"ramp ")?;
-    let (g, rest) = take_ordinal_to(rest, b' ')?;
-    let (t, rest) = take_ordinal_to(rest, b' ')?;
-    let (up, rest) = take_signed_to(rest, 18, b' ')?;
-    let (down, rest) = take_signed_to(rest, 18, b'\n')?;
-    if g >= u64::from(size.thermal) || t >= u64::from(size.periods) {
-        return None;
-    }
-    let row = RampRow {
-        g: g as u32,
-        t: t as u32,
-        up,
-        down,
-    };
+    let ((g, t), (up, down), rest) = take_row_numbers(rest)?;
+    let g = below(g, size.thermal)?;
+    let t = below(t, size.periods)?;
+    let row = RampRow { g, t, up, down };
     if (row.up == 0 && row.down == 0) || !rises(before, &row) {
         return None;
     }
@@ -174,10 +185,7 @@ fn take_named(bytes: &[u8], count: u32) -> Option<(u32, &[u8])>
     ensures { Gives (λ r. (r.0, r.1.now)) result (named_at count bytes.now) }
 {
     let (number, rest) = take_ordinal_to(bytes, b'\n')?;
-    if number >= u64::from(count) {
-        return None;
-    }
-    Some((number as u32, rest))
+    Some((below(number, count)?, rest))
 }
 
 // The unit and the period of a split, up to the end of the line.
@@ -187,10 +195,7 @@ fn take_split<'a>(bytes: &'a [u8], size: &Size) -> Option<((u32, u32), &'a [u8])
 {
     let (g, rest) = take_ordinal_to(bytes, b' ')?;
     let (t, rest) = take_ordinal_to(rest, b'\n')?;
-    if g >= u64::from(size.thermal) || t >= u64::from(size.periods) {
-        return None;
-    }
-    Some(((g as u32, t as u32), rest))
+    Some(((below(g, size.thermal)?, below(t, size.periods)?), rest))
 }
 
 /// A node of the tree.

@@ -1,6 +1,6 @@
 //! Numbers and fixed texts at the front of bytes. What is read stands before the bytes that are left.
 
-ghost use Rattle.std.specs.Prelude.{◌≡◌, ◌∷◌, [], ◌≤◌, ◌<◌, ◌^◌, length, IfSome, None};
+ghost use Rattle.std.specs.Prelude.{◌≡◌, ◌∷◌, [], ◌≤◌, ◌<◌, ◌^◌, false, true, nat_lt, length, IfSome, MatchOption, None};
 ghost use Rattle.cert_text.specs.inside.Forms.{Gives, text_at, ended, whole_at, decimals_at, millionths_at, money_at, ordinal_at, signed_at, run, run_value, is_digit};
 
 /// The most digits that a number has.
@@ -172,4 +172,15 @@ pub(crate) fn take_ordinal_to(bytes: &[u8], end: u8) -> Option<(u64, &[u8])>
 {
     let (number, rest) = take_ordinal(bytes)?;
     Some(number).zip(take_byte(rest, end))
+}
+
+/// The number, where it is below a count.
+pub(crate) fn below(number: u64, count: u32) -> Option<u32>
+    ensures { MatchOption result (nat_lt number count ≡ false) (λ n. (nat_lt number count ≡ true) × (n ≡ number)) }
+{
+    if number < u64::from(count) {
+        Some(number as u32)
+    } else {
+        None
+    }
 }

@@ -3,7 +3,7 @@
 ghost use Rattle.std.specs.Prelude.{◌≡◌};
 ghost use Rattle.cert_text.specs.declared.reader.stop.Stop.TheVariants.{NoMemory};
 
-use std::alloc::AllocFailed;
+use std::alloc::{AllocError, AllocFailed};
 
 /// Why a part was not read.
 #[derive(Drop)]
@@ -18,6 +18,14 @@ impl From<uc_model::NoMemory> for Stop<'_> {
     ghost from_gives = { λ _ e. e ≡ NoMemory };
 
     fn from(_: uc_model::NoMemory) -> Self {
+        Stop::NoMemory
+    }
+}
+
+impl From<AllocError> for Stop<'_> {
+    ghost from_gives = { λ _ e. e ≡ NoMemory };
+
+    fn from(_: AllocError) -> Self {
         Stop::NoMemory
     }
 }

@@ -1,24 +1,21 @@
 //! Tables.
 
-ghost use Rattle.std.specs.Prelude.{◌≡◌, None, ◌<◌, IfOk, Ok, Err};
-ghost use Rattle.dual_model.specs.Prices.{IsWellFormed};
+ghost use Rattle.std.specs.Prelude.{◌≡◌, None, IfOk, OnOk, IfSome, Ok, Err, option_copied};
 ghost use Rattle.cert_text.specs.Grammar.{AreSizes};
-ghost use Rattle.cert_text.specs.inside.Parts.{GivesPart, ramp_rows_part, ramps_part, numbers_part, table_of, table_part, repeated, sizes};
+ghost use Rattle.cert_text.specs.CertificateText.{told_from};
+ghost use Rattle.cert_text.specs.inside.Drafts.{last_table, IsDrafted};
+ghost use Rattle.cert_text.specs.inside.Parts.{GivesPart, ramp_rows_part, ramps_part, numbers_part, table_part, next_part, told_part, tables_part, sizes};
 
+use super::changes::take_next_line;
+use super::draft::Draft;
 use super::lines::{take_count_line, take_ramp};
 use super::sizes::Size;
 use super::stop::Stop;
+use super::update::take_changes;
 use super::words::{Price, take_row};
+use crate::cert::Version;
 use dual_model::{RampRow, Table};
 use std::alloc::Global;
-
-// The lists of one table, with room that is kept from table to table.
-#[derive(Drop)]
-pub(crate) struct Lists {
-    pi: Vec<i64>,
-    mu: Vec<i64>,
-    ramps: Vec<RampRow>,
-}
 
 // So many rows of ramp multipliers, in place of what the list had.
 fn take_ramp_rows<'a>(
@@ -57,47 +54,87 @@ fn take_ramps<'a>(
     take_ramp_rows(size, count, rest, rows)
 }
 
-// The numbers of a table: its scale, and its lists in place of what was there.
+// The numbers of a table that is told whole, in place of what was there.
 #[tactic(auto, unfolding(crate::specs::inside::Parts::numbers_part, crate::specs::inside::Forms::scale_at))]
-fn take_numbers<'a>(
-    size: &Size,
-    bytes: &'a [u8],
-    pi: &mut Vec<i64>,
-    mu: &mut Vec<i64>,
-    ramps: &mut Vec<RampRow>,
-) -> Result<(u64, &'a [u8]), Stop<'a>>
-    ensures numbers { GivesPart (λ r. ((r.0, (pi.new.items, (mu.new.items, ramps.new.items))), r.1.now)) result
+fn take_numbers<'a>(size: &Size, bytes: &'a [u8], draft: &mut Draft) -> Result<&'a [u8], Stop<'a>>
+    ensures numbers { GivesPart (λ rest. ((draft.new.k, (draft.new.pi.items, (draft.new.mu.items, draft.new.ramps.items))), rest.now)) result
         (numbers_part (sizes size.now) bytes.now) }
-    ensures bound { IfOk result (λ r. r.0 < 1000000000000000000) }
+    ensures units { OnOk result (draft.new.units ≡ size.now.thermal) }
 {
+    draft.units = size.thermal;
     let (k, rest) = take_count_line(bytes, b"table ").ok_or(Stop::At(bytes))?;
-    let rest = take_row(b"pi", &Price, size.periods, rest, pi)?;
-    let rest = take_row(b"mu", &Price, size.periods, rest, mu)?;
-    let rest = take_ramps(size, rest, ramps)?;
-    Ok((k, rest))
+    draft.k = k;
+    let rest = take_row(b"pi", &Price, size.periods, rest, &mut draft.pi)?;
+    let rest = take_row(b"mu", &Price, size.periods, rest, &mut draft.mu)?;
+    take_ramps(size, rest, &mut draft.ramps)
 }
 
-// A table.
-#[tactic(auto, unfolding(crate::specs::inside::Parts::table_part))]
+// A table that is told whole. The draft has its numbers then.
 fn take_table<'a>(
     alloc: Global,
     size: &Size,
     bytes: &'a [u8],
-    lists: &mut Lists,
+    draft: &mut Draft,
 ) -> Result<(Table, &'a [u8]), Stop<'a>>
     requires { AreSizes (sizes size.now) }
-    ensures { GivesPart (λ r. (r.0, r.1.now)) result (table_part (sizes size.now) bytes.now) }
+    ensures read { GivesPart (λ r. (r.0, r.1.now)) result (table_part (sizes size.now) bytes.now) }
+    ensures drafted { IfOk result (λ r. IsDrafted (sizes size.now) draft.new r.0) }
 {
-    let (k, rest) = take_numbers(size, bytes, &mut lists.pi, &mut lists.mu, &mut lists.ramps)?;
-    let table = Table::new(
-        alloc,
-        size.thermal,
-        k as i64,
-        lists.pi.as_slice(),
-        lists.mu.as_slice(),
-        lists.ramps.as_slice(),
-    )?;
+    let rest = take_numbers(size, bytes, draft)?;
+    let table = draft.table(alloc)?;
     Ok((table, rest))
+}
+
+// A table that is told by its difference to this one, of which the draft has the numbers. The draft has those of the new one then.
+fn take_next<'a>(
+    alloc: Global,
+    size: &Size,
+    before: &Table,
+    bytes: &'a [u8],
+    draft: &mut Draft,
+) -> Result<(Table, &'a [u8]), Stop<'a>>
+    requires sizes { AreSizes (sizes size.now) }
+    requires before { IsDrafted (sizes size.now) draft.old before.now }
+    ensures read { GivesPart (λ r. (r.0, r.1.now)) result (next_part (sizes size.now) before.now bytes.now) }
+    ensures drafted { IfOk result (λ r. IsDrafted (sizes size.now) draft.new r.0) }
+{
+    let Some((next, rest)) = take_next_line(bytes) else {
+        return Err(Stop::At(bytes));
+    };
+    draft.k = next.k;
+    let rest = take_changes(size, next.changes, before.ramps(), rest, draft)?;
+    let table = draft.table(alloc)?;
+    Ok((table, rest))
+}
+
+// The table of which the next one tells its difference: the last one, in the second version.
+fn told_from(version: Version, tables: &[Table]) -> Option<&Table>
+    ensures { option_copied result ≡ told_from version (last_table tables.now) }
+{
+    match version {
+        Version::First => None,
+        Version::Second => tables.last(),
+    }
+}
+
+// The table behind these. The draft has the numbers of the last one, and then those of the new one.
+fn take_told<'a>(
+    alloc: Global,
+    size: &Size,
+    tables: &[Table],
+    bytes: &'a [u8],
+    draft: &mut Draft,
+) -> Result<(Table, &'a [u8]), Stop<'a>>
+    requires sizes { AreSizes (sizes size.now) }
+    requires last { IfSome (last_table tables.now) (IsDrafted (sizes size.now) draft.old) }
+    ensures read { GivesPart (λ r. (r.0, r.1.now)) result
+        (told_part (sizes size.now) (told_from size.now.version (last_table tables.now)) bytes.now) }
+    ensures drafted { IfOk result (λ r. IsDrafted (sizes size.now) draft.new r.0) }
+{
+    match told_from(size.version, tables) {
+        None => take_table(alloc, size, bytes, draft),
+        Some(before) => take_next(alloc, size, before, bytes, draft),
+    }
 }
 
 /// The tables, as many as the size says.
@@ -108,17 +145,13 @@ pub(crate) fn take_tables<'a>(
 ) -> Result<(Vec<Table>, &'a [u8]), Stop<'a>>
     requires { AreSizes (sizes size.now) }
     ensures { GivesPart (λ r. (r.0.items, r.1.now)) result
-        (repeated size.now.tables (table_part (sizes size.now)) bytes.now) }
+        (tables_part (sizes size.now) size.now.tables None bytes.now) }
 {
     let mut tables = Vec::new(alloc);
-    let mut lists = Lists {
-        pi: Vec::new(alloc),
-        mu: Vec::new(alloc),
-        ramps: Vec::new(alloc),
-    };
+    let mut draft = Draft::new(alloc);
     let mut rest = bytes;
     for _ in 0..size.tables {
-        let (table, behind) = take_table(alloc, size, rest, &mut lists)?;
+        let (table, behind) = take_told(alloc, size, tables.as_slice(), rest, &mut draft)?;
         tables.push(table)?;
         rest = behind;
     }

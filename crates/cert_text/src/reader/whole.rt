@@ -9,27 +9,30 @@ use super::lines::take_claim;
 use super::nodes::take_tree;
 use super::numbers::take_text;
 use super::plan::take_plan;
-use super::sizes::{Size, take_size};
+use super::sizes::{Size, take_size, take_version};
 use super::stop::Stop;
 use super::table::take_tables;
-use crate::cert::Cert;
+use crate::cert::{Cert, Version};
 use std::alloc::Global;
 use uc_model::List;
 
-// The first two lines: the version of the format, of which there is one, and the size.
-#[tactic(auto, unfolding(crate::specs::inside::Parts::heading_part, crate::specs::inside::Forms::version_at))]
+// The first two lines: the version of the format, and the size.
+#[tactic(auto, unfolding(crate::specs::inside::Parts::heading_part))]
 fn take_heading(bytes: &[u8]) -> Result<(Size, &[u8]), Stop<'_>>
     ensures value { GivesPart (λ r. (sizes r.0, r.1.now)) result (heading_part bytes.now) }
     ensures lawful { IfOk result (λ r. AreSizes (sizes r.0)) }
 {
-    let rest = take_text(bytes, b"uc-certificate 1\n").ok_or(Stop::At(bytes))?;
-    take_size(rest).ok_or(Stop::At(rest))
+    let (version, rest) = take_version(bytes).ok_or(Stop::At(bytes))?;
+    take_size(version, rest).ok_or(Stop::At(rest))
 }
 
-/// A certificate at the front of bytes.
+/// A certificate at the front of bytes, and the version in which it is told.
 #[tactic(auto, unfolding(crate::specs::inside::Parts::certificate_part, crate::specs::inside::Forms::end_at))]
-pub(crate) fn take_certificate(alloc: Global, bytes: &[u8]) -> Result<(Cert, &[u8]), Stop<'_>>
-    ensures { GivesPart (λ r. (listing_read r.0, r.1.now)) result (certificate_part bytes.now) }
+pub(crate) fn take_certificate(
+    alloc: Global,
+    bytes: &[u8],
+) -> Result<(Version, Cert, &[u8]), Stop<'_>>
+    ensures { GivesPart (λ r. ((r.0, listing_read r.1), r.2.now)) result (certificate_part bytes.now) }
 {
     let (size, rest) = take_heading(bytes)?;
     let (bound, rest) = take_claim(rest).ok_or(Stop::At(rest))?;
@@ -48,5 +51,5 @@ pub(crate) fn take_certificate(alloc: Global, bytes: &[u8]) -> Result<(Cert, &[u
         tables: List::from_vec(tables),
         tree: List::from_vec(tree),
     };
-    Ok((cert, rest))
+    Ok((size.version, cert, rest))
 }

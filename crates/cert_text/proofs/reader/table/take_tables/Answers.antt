@@ -1,19 +1,25 @@
 -- A table more goes behind those that were read; where one stops, so do the tables.
+use Rattle.std.proofs.Common.{ap, ◌∙◌, sym, subst, Option, IfSome}
 use Rattle.std.proofs.lemmas.Result.{err_from_is_err_and}
-use Rattle.cert_text.specs.inside.Parts.{table_part, sizes}
-use Rattle.cert_text.proofs.Loops.{part_more, part_stops_as, parts_done}
+use Rattle.cert_text.specs.Changes.{Table}
+use Rattle.cert_text.specs.inside.Parts.{sizes}
+use Rattle.cert_text.specs.inside.Drafts.{last_table, IsDrafted}
+use Rattle.cert_text.proofs.ChangeSteps.{last_more, table_more, table_stops_as, tables_done}
 use Rattle.cert_text.proofs.reader.table.take_tables.Goals as goal
 
 pub returns-in_err-table : goal.returns-in_err-table
 returns-in_err-table c =
     let p = err_from_is_err_and c.from_residual.result c.from_residual.ensures.1 in
-    rw (p.1, p.2) (part_stops_as (table_part (sizes c.args.size.now)) c.loop.tables.items c.args.size.now.tables c.loop.counter c.loop.rest.now
-    c.in_err-table.field-0.0 _ c.loop-test.true c.in_err-table.ensures c.loop.invariant)
+    rw (p.1, p.2) (table_stops_as (sizes c.args.size.now) c.loop.tables.items c.args.size.now.tables c.loop.counter c.loop.rest.now
+    c.in_err-table.field-0.0 _ c.loop-test.true (rw c.as_slice.ensures.value at c.in_err-table.ensures.read) c.loop.invariant.read)
 
 pub loop-preserved : goal.loop-preserved
 loop-preserved c =
-    part_more (table_part (sizes c.args.size.now)) c.loop.tables.items _ c.args.size.now.tables c.loop.counter c.loop.rest.now _ _ _ c.loop-test.true
-    c.in_ok-table.ensures c.in_ok-push.ensures.items c.loop.invariant
+    let grown = c.in_ok-push.ensures.items in
+    record {
+      read = table_more (sizes c.args.size.now) c.loop.tables.items _ c.args.size.now.tables c.loop.counter c.loop.rest.now _ _ _ c.loop-test.true (rw c.as_slice.ensures.value at c.in_ok-table.ensures.read) grown c.loop.invariant.read;
+      drafted = subst (λ (last : Option Table). IfSome last (IsDrafted (sizes c.args.size.now) c.take_told.new.draft)) (sym (ap last_table grown ∙ last_more c.loop.tables.items c.in_ok-table.table)) c.in_ok-table.ensures.drafted;
+    }
 
 pub returns : goal.returns
-returns c = parts_done (table_part (sizes c.args.size.now)) c.loop.tables.items c.args.size.now.tables c.loop.counter c.loop.rest.now _ c.loop-test.false c.loop.invariant
+returns c = tables_done (sizes c.args.size.now) c.loop.tables.items c.args.size.now.tables c.loop.counter c.loop.rest.now _ c.loop-test.false c.loop.invariant.read

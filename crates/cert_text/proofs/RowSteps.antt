@@ -1,0 +1,121 @@
+-- Ramp rows that are gone along: what is looked up or set among rising rows lies behind those that come before it.
+use Rattle.std.proofs.Common.{◌≡◌, ℕ, suc, ◌<◌, ◌⊎◌, inl, inr, Bool, true, false, cond, ◌&&◌, ◌==◌, List, [], ◌∷◌, ◌++◌, length, get_or, take, drop, ◌-◌, refl, sym, ap, subst, ◌∙◌, append_assoc, append-nil, arith}
+use Rattle.std.specs.Bool.{Decides}
+use Rattle.std.proofs.lemmas.Bool.{and_parts, eqb-true, false_from_ne_true}
+use Rattle.std.proofs.lemmas.Bool.Decides.{Decides-eqb, Decides-and, Decides-or, Decides-ltb}
+use Rattle.std.proofs.lemmas.List.{take_rest}
+use Rattle.dual_model.specs.Prices.{AreRising, IsRowBefore, row_of}
+use Rattle.cert_text.specs.Changes.{RampRow, is_before, is_none, no_row, placed, with_row}
+use Rattle.cert_text.specs.inside.Drafts.{LieBefore, differs, IsPassed, IsRowSet}
+
+-- ---- the order of rows
+abbrev Order : ℕ → ℕ → ℕ → ℕ → Type 0
+Order g h t u = (g < h) ⊎ ((g ≡ h) × (t < u))
+
+order_decides : (first second : RampRow) → Decides (is_before first second) (Order first.g second.g first.t second.t)
+order_decides first second = Decides-or _ _ (Decides-ltb first.g second.g) (Decides-and _ _ (Decides-eqb first.g second.g) (Decides-ltb first.t second.t))
+
+order_through : (g h i t u v : ℕ) → Order g h t u → Order h i u v → Order g i t v
+order_through g h i t u v (inl a) (inl b) = inl (omega arith)
+order_through g h i t u v (inl a) (inr b) = inl (omega (arith, b.0))
+order_through g h i t u v (inr a) (inl b) = inl (omega (arith, a.0))
+order_through g h i t u v (inr a) (inr b) = inr (omega (arith, a.0, b.0), omega (arith, a.1, b.1))
+
+order_other : (g h t u : ℕ) → Order g h t u → (g ≡ h) × (t ≡ u) → ⊥
+order_other g h t u (inl a) same = omega (arith, same.0)
+order_other g h t u (inr a) same = omega (arith, a.1, same.1)
+
+pub before_through : (first second third : RampRow) → is_before first second ≡ true → is_before second third ≡ true → is_before first third ≡ true
+before_through first second third e f =
+    (order_decides first third).1 (order_through first.g second.g third.g first.t second.t third.t ((order_decides first second).0 e) ((order_decides second third).0 f))
+
+pub before_from : (first second : RampRow) → IsRowBefore first second → is_before first second ≡ true
+before_from first second h = (order_decides first second).1 h.before
+
+-- a row that comes before another is of another unit or period
+abbrev are_one : RampRow → RampRow → Bool
+are_one first second = (first.g == second.g) && (first.t == second.t)
+
+one_is : (first second : RampRow) → are_one first second ≡ true → (first.g ≡ second.g) × (first.t ≡ second.t)
+one_is first second e =
+    let parts = and_parts (first.g == second.g) (first.t == second.t) e in (eqb-true first.g second.g parts.0, eqb-true first.t second.t parts.1)
+
+other_before : (first second : RampRow) → is_before first second ≡ true → are_one first second ≡ false
+other_before first second e =
+    false_from_ne_true (are_one first second) (λ same. order_other first.g second.g first.t second.t ((order_decides first second).0 e) (one_is first second same))
+
+other_behind : (first second : RampRow) → is_before second first ≡ true → are_one first second ≡ false
+other_behind first second e =
+    false_from_ne_true (are_one first second) (λ same.
+    let one = one_is first second same in order_other second.g first.g second.t first.t ((order_decides second first).0 e) (sym one.0, sym one.1))
+
+-- ---- lists of rows
+pub rising_behind : (first : RampRow) (rows : List RampRow) → AreRising (first ∷ rows) → AreRising rows
+rising_behind first rows rising i d lt = rising (suc i) d (omega arith)
+
+pub lie_before_more : (rows : List RampRow) (last row : RampRow) → LieBefore rows row → is_before last row ≡ true → LieBefore (rows ++ last ∷ []) row
+lie_before_more [] last row h e = (e, tt)
+lie_before_more (first ∷ rows) last row h e = (h.0, lie_before_more rows last row h.1 e)
+
+lie_before_later : (rows : List RampRow) (row later : RampRow) → LieBefore rows row → is_before row later ≡ true → LieBefore rows later
+lie_before_later [] row later h e = tt
+lie_before_later (first ∷ rows) row later h e = (before_through first row later h.0 e, lie_before_later rows row later h.1 e)
+
+-- ---- what lies behind rows that come before
+row_behind : (done rest : List RampRow) (row : RampRow) → LieBefore done row → row_of (done ++ rest) row.g row.t ≡ row_of rest row.g row.t
+row_behind [] rest row h = refl
+row_behind (first ∷ done) rest row h = rw (other_before first row h.0) (row_behind done rest row h.1)
+
+with_behind : (done rest : List RampRow) (row : RampRow) → LieBefore done row → with_row (done ++ rest) row ≡ done ++ with_row rest row
+with_behind [] rest row h = refl
+with_behind (first ∷ done) rest row h = rw h.0 (ap (λ rows. first ∷ rows) (with_behind done rest row h.1))
+
+-- ---- the row at the front of rising rows none of which comes before it
+-- it comes before all of them, so it isn't there
+absent : (first : RampRow) (rows : List RampRow) (row : RampRow) → AreRising (first ∷ rows) → is_before row first ≡ true → row_of (first ∷ rows) row.g row.t ≡ no_row row
+absent first [] row rising e = rw (other_behind first row e) refl
+absent first (next ∷ rows) row rising e =
+    let rises = before_from first next (rising 0 first (omega arith)) in
+    rw (other_behind first row e) (absent next rows row (rising_behind first (next ∷ rows) rising) (before_through row first next e rises))
+
+pub no_cell : (rows : List RampRow) (row d : RampRow) → AreRising rows → 0 < length rows → is_before row (get_or rows 0 d) ≡ true → no_row row ≡ row_of rows row.g row.t
+no_cell [] row d rising some e = absurd (omega arith)
+no_cell (first ∷ rows) row d rising some e = sym (absent first rows row rising e)
+
+pub rising_rest : (rows : List RampRow) → AreRising rows → AreRising (take (length rows - 1) (drop 1 rows))
+rising_rest rows rising = subst AreRising (sym (take_rest rows 1)) (by_first rows rising)
+  where
+    by_first : (rows : List RampRow) → AreRising rows → AreRising (drop 1 rows)
+    by_first [] rising = λ i d lt. absurd (omega arith)
+    by_first (first ∷ rows) rising = rising_behind first rows rising
+
+-- ---- setting a row
+placed_before : (row : RampRow) (rows : List RampRow) → placed row rows ≡ placed row [] ++ rows
+placed_before row rows = by_test (is_none row)
+  where
+    by_test : (none : Bool) → cond none rows (row ∷ rows) ≡ cond none [] (row ∷ []) ++ rows
+    by_test true = refl
+    by_test false = refl
+
+placed_later : (row later : RampRow) (rows : List RampRow) → LieBefore rows later → is_before row later ≡ true → LieBefore (rows ++ placed row []) later
+placed_later row later rows h e = by_test (is_none row)
+  where
+    by_test : (none : Bool) → LieBefore (rows ++ cond none [] (row ∷ [])) later
+    by_test true = subst (λ (rows : List RampRow). LieBefore rows later) (sym (append-nil rows)) h
+    by_test false = lie_before_more rows row later h e
+
+-- a look-up after rows were passed
+pub found_behind : (done left now rest : List RampRow) (row : RampRow) → IsPassed done left row now rest → row_of (done ++ left) row.g row.t ≡ row_of rest row.g row.t
+found_behind done left now rest row h = ap (λ rows. row_of rows row.g row.t) (sym h.same) ∙ row_behind now rest row h.before
+
+pub row_set : (done left now rest grown behind : List RampRow) (row : RampRow) → IsPassed done left row now rest → differs (row_of rest row.g row.t) row ≡ true
+    → with_row rest row ≡ placed row behind → AreRising behind → grown ≡ now ++ placed row [] → IsRowSet done left row grown behind
+row_set done left now rest grown behind row h other set rising grows =
+    let passed = ap (λ rows. with_row rows row) (sym h.same) ∙ with_behind now rest row h.before in
+    let set_behind = ap (λ rows. now ++ rows) (set ∙ placed_before row behind) ∙ sym (append_assoc now (placed row []) behind) in
+    record {
+      other = ap (λ old. differs old row) (found_behind done left now rest row h) ∙ other;
+      rows = ap (λ rows. rows ++ behind) grows ∙ sym (passed ∙ set_behind);
+      before = λ later e. subst (λ (rows : List RampRow). LieBefore rows later) (sym grows) (placed_later row later now (lie_before_later now row later h.before e) e);
+      rising = rising;
+    }
