@@ -10,7 +10,7 @@ use Rattle.cert_text.specs.Changes.{Table, RampRow, Change, OfDemand, OfReserve,
 use Rattle.cert_text.specs.CertificateText.{Version, First, Second, told_from}
 use Rattle.cert_text.specs.Grammar.{Sizes, rescaled}
 use Rattle.cert_text.specs.inside.Forms.{Form, passing, written_change_at, is_within, comes_behind, is_other, change_at, next_at}
-use Rattle.cert_text.specs.inside.Parts.{Stop, ◌>>=◌, StopsAs, line_of, told, then, changes_part, changed_part, next_part, table_of, numbers_part, table_part, told_part, tables_part}
+use Rattle.cert_text.specs.inside.Parts.{Stop, ◌>>=◌, StopsAs, line_of, told, changes_part, changed_part, next_part, table_of, numbers_part, table_part, told_part, tables_part}
 use Rattle.cert_text.specs.inside.Drafts.{last_table, drafted, so_far, LieBefore, HasPrice, ArePriced, IsUnderway, IsMade, IsDrafted, IsRowSet}
 use Rattle.cert_text.specs.declared.reader.draft.Draft.{Draft}
 use Rattle.cert_text.specs.declared.reader.stop.Stop.TheVariants as stops

@@ -6,8 +6,8 @@ use Rattle.outside.specs.Lines.{joined, line}
 use Rattle.outside.proofs.Joining.{joined-cons}
 use Rattle.cert_text.specs.Changes.{Change, changed, all_changed, table_changes}
 use Rattle.cert_text.specs.Grammar.{RampRow, Symbol, Reaches, Sizes, AreSizes, Ahead, Scale, Pi, Mu, Ramps, Ramp, Next, Update, ArePrices, IsRampAfter, IsChangeAfter, table_head, tables_from, tables_behind, ramp_rows, changes_from, scaled, with_ramp, rescaled, ramp_count_line, Plan, Node, children, Head, Size, Claim, End, after_size}
-use Rattle.cert_text.specs.inside.Forms.{signed_at, text_at, row_at, ramp_count_at, ramp_at, next_at, change_at, node_at, split_at, claim_at, end_at}
-use Rattle.cert_text.specs.inside.Parts.{◌>>=◌, Planned, line_of, then, plan_part, ramp_rows_part, ramps_part, prices_part, table_of, numbers_part, table_part, changes_part, next_part, told_part, tables_part, AreChanges, owed_after, nodes_part, tree_part, listing_from, heading_part, certificate_part, AreRamps}
+use Rattle.cert_text.specs.inside.Forms.{signed_at, text_at, row_at, ramp_count_at, ramp_at, change_at, node_at, split_at, claim_at, end_at}
+use Rattle.cert_text.specs.inside.Parts.{◌>>=◌, Planned, line_of, then, plan_part, ramp_rows_part, ramps_part, table_of, numbers_part, table_part, changes_part, next_part, told_part, tables_part, AreChanges, owed_after, nodes_part, tree_part, listing_from, heading_part, certificate_part, AreRamps}
 use Rattle.cert_text.proofs.FormLaws.{IsForm, Anything, prices-form, scale-form, ramp_count-form, form-as, version-form, size-form, claim-form, end-form}
 use Rattle.cert_text.proofs.TableForms.{ramp-form, next-form, change-form, node-form}
 use Rattle.cert_text.proofs.ChangeLaws.{changes_found, changes_make, changed_is_text, changes_few}
@@ -19,7 +19,7 @@ use Rattle.dual_model.specs.Certificate.{Certificate}
 use Rattle.dual_model.specs.Tree.{Tree, Ends, Splits}
 use Rattle.dual_model.specs.Cover.{Leaf, Bound}
 use Rattle.cert_text.proofs.Loops.{behind_parts, regroup_parts}
-use Rattle.cert_text.proofs.PartSteps.{Stops, IsPart, Done, bind_ok, ok_of, same_Ok, same_Err, StopsAt, AtFirst, AtSecond, bind_err, Stops-before, Stops-behind, line-part, then-part, told-part, part-as, before-part, told_then, told_second, nothing-part, repeated-part}
+use Rattle.cert_text.proofs.PartSteps.{Stops, IsPart, Done, bind_ok, ok_of, same_Ok, same_Err, StopsAt, AtFirst, AtSecond, bind_err, Stops-before, Stops-behind, line-part, then-part, told-part, part-as, before-part, told_then, told_second, nothing-part}
 use Rattle.cert_text.proofs.PlanLaws.{IsPlan, plan-part, lines_of}
 
 -- ---- The part of a table reads its lines.
@@ -207,7 +207,7 @@ next-part ahead lawful before text =
           let is = changed_is_text ahead.size lawful before p.0.0 p.1 text v.0.0 v.1.1 in (
             is.0,
             ap (λ n. next_line (pos p.0.0) n ∷ map change_line p.1) (sym v.1.0)
-            ∙ (λ i. next_lines (sym is.1 i) (sym (changes_found ahead.size before p.0.0 p.1 text v.1.1) i)),
+                ∙ (λ i. next_lines (sym is.1 i) (sym (changes_found ahead.size before p.0.0 p.1 text v.1.1) i)),
             refl,
           );
       back = λ table w.
@@ -265,7 +265,6 @@ next_form size lawful before text bytes table rest e = ((next-part (record { siz
 
 pub table_form : (size : Sizes) → AreSizes size → (bytes : List ℕ) (table : Table) (rest : List ℕ) → table_part size bytes ≡ Ok (table, rest) → IsTableText size.periods size.thermal table
 table_form size lawful bytes table rest e = ((table-part (record { size = size; tables = 0 }) lawful).takes bytes (table, rest) e).0
-
 
 -- ---- The part of the tree reads the nodes of one tree in preorder.
 -- the nodes are those of so many trees

@@ -1,5 +1,5 @@
 -- The part of the prices and the schedule reads their lines and nothing else.
-use Rattle.std.proofs.Common.{◌≡◌, ℕ, zero, suc, List, [], ◌∷◌, ◌++◌, length, replicate, All, Bool, true, false, true≢false, ◌||◌, nat_lt, ◌∙◌, Option, Some, None, refl, sym, ap, subst, arith, map, ℤ, pos, ◌+◌, ◌-◌, IfSome, codes}
+use Rattle.std.proofs.Common.{◌≡◌, ℕ, zero, suc, List, [], ◌∷◌, ◌++◌, length, replicate, All, Bool, true, false, true≢false, ◌||◌, nat_lt, ◌∙◌, Option, Some, None, refl, sym, ap, subst, arith, map, ℤ, pos, IfSome, codes}
 use Rattle.cert_text.specs.Grammar.{Sizes, Plan, Schedule, ThermalRow, RenewableRow, Shed, Short, schedule_line, shortage_rows, schedule_rows, PlanLine, Priced, Unpriced, plan_line, IsPlanLine, behind_plan}
 use Rattle.cert_text.specs.inside.Forms.{schedule_at}
 use Rattle.cert_text.specs.inside.Parts.{Planned, line_of, then, told, written, nothing, powers_part, shortages_part, printed_of, behind_first, plan_from, plan_part, printed_part, rows_behind, schedule_part}

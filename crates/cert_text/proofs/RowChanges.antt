@@ -33,10 +33,10 @@ numbers_rise g t h u i v a b = grind arith
 numbers_part : (g t h u : ℕ) → (g < h) ⊎ ((g ≡ h) × (t < u)) → (h < g) ⊎ ((h ≡ g) × (u < t)) → ⊥
 numbers_part g t h u a b = grind arith
 
-before_trans : (first second third : RampRow) → IsRowBefore first second → IsRowBefore second third → IsRowBefore first third
+pub before_trans : (first second third : RampRow) → IsRowBefore first second → IsRowBefore second third → IsRowBefore first third
 before_trans first second third h k = record { before = numbers_rise first.g first.t second.g second.t third.g third.t h.before k.before }
 
-before_decides : (first second : RampRow) → Decides (is_before first second) (IsRowBefore first second)
+pub before_decides : (first second : RampRow) → Decides (is_before first second) (IsRowBefore first second)
 before_decides first second =
     Decides-like (is_before first second) (λ h. record { before = h }) (λ h. h.before)
     (Decides-or _ _ (Decides-ltb first.g second.g) (Decides-and _ _ (Decides-eqb first.g second.g) (Decides-ltb first.t second.t)))
@@ -52,7 +52,7 @@ same_before first second row g t h = record { before = moved h.before }
     moved (inl earlier) = inl (omega arith)
     moved (inr (same, earlier)) = inr (g ∙ same, omega arith)
 
-is_beside : (first second : RampRow) → first.g ≡ second.g → first.t ≡ second.t → is_before first second ≡ false
+pub is_beside : (first second : RampRow) → first.g ≡ second.g → first.t ≡ second.t → is_before first second ≡ false
 is_beside first second g t = false_from_ne_true (is_before first second) (λ e. none ((before_decides first second).0 e).before)
   where
     none : (first.g < second.g) ⊎ ((first.g ≡ second.g) × (first.t < second.t)) → ⊥

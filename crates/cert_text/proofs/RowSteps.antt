@@ -1,36 +1,19 @@
 -- Ramp rows that are gone along: what is looked up or set among rising rows lies behind those that come before it.
-use Rattle.std.proofs.Common.{◌≡◌, ℕ, suc, ◌<◌, ◌⊎◌, inl, inr, Bool, true, false, cond, ◌&&◌, ◌==◌, List, [], ◌∷◌, ◌++◌, length, get_or, take, drop, ◌-◌, refl, sym, ap, subst, ◌∙◌, append_assoc, append-nil, arith}
-use Rattle.std.specs.Bool.{Decides}
-use Rattle.std.proofs.lemmas.Bool.{and_parts, eqb-true, false_from_ne_true}
-use Rattle.std.proofs.lemmas.Bool.Decides.{Decides-eqb, Decides-and, Decides-or, Decides-ltb}
+use Rattle.std.proofs.Common.{◌≡◌, suc, ◌<◌, Bool, true, false, cond, ◌&&◌, ◌==◌, List, [], ◌∷◌, ◌++◌, length, get_or, take, drop, ◌-◌, refl, sym, ap, subst, ◌∙◌, append_assoc, append-nil, arith}
+use Rattle.std.proofs.lemmas.Bool.{and_parts, eqb-true, false_from_ne_true, false≢true}
 use Rattle.std.proofs.lemmas.List.{take_rest}
 use Rattle.dual_model.specs.Prices.{AreRising, IsRowBefore, row_of}
 use Rattle.cert_text.specs.Changes.{RampRow, is_before, is_none, no_row, placed, with_row}
+use Rattle.cert_text.proofs.RowChanges.{before_trans, before_decides, is_beside}
 use Rattle.cert_text.specs.inside.Drafts.{LieBefore, differs, IsPassed, IsRowSet}
 
 -- ---- the order of rows
-abbrev Order : ℕ → ℕ → ℕ → ℕ → Type 0
-Order g h t u = (g < h) ⊎ ((g ≡ h) × (t < u))
-
-order_decides : (first second : RampRow) → Decides (is_before first second) (Order first.g second.g first.t second.t)
-order_decides first second = Decides-or _ _ (Decides-ltb first.g second.g) (Decides-and _ _ (Decides-eqb first.g second.g) (Decides-ltb first.t second.t))
-
-order_through : (g h i t u v : ℕ) → Order g h t u → Order h i u v → Order g i t v
-order_through g h i t u v (inl a) (inl b) = inl (omega arith)
-order_through g h i t u v (inl a) (inr b) = inl (omega (arith, b.0))
-order_through g h i t u v (inr a) (inl b) = inl (omega (arith, a.0))
-order_through g h i t u v (inr a) (inr b) = inr (omega (arith, a.0, b.0), omega (arith, a.1, b.1))
-
-order_other : (g h t u : ℕ) → Order g h t u → (g ≡ h) × (t ≡ u) → ⊥
-order_other g h t u (inl a) same = omega (arith, same.0)
-order_other g h t u (inr a) same = omega (arith, a.1, same.1)
-
 pub before_through : (first second third : RampRow) → is_before first second ≡ true → is_before second third ≡ true → is_before first third ≡ true
 before_through first second third e f =
-    (order_decides first third).1 (order_through first.g second.g third.g first.t second.t third.t ((order_decides first second).0 e) ((order_decides second third).0 f))
+    (before_decides first third).1 (before_trans first second third ((before_decides first second).0 e) ((before_decides second third).0 f))
 
 pub before_from : (first second : RampRow) → IsRowBefore first second → is_before first second ≡ true
-before_from first second h = (order_decides first second).1 h.before
+before_from first second h = (before_decides first second).1 h
 
 -- a row that comes before another is of another unit or period
 abbrev are_one : RampRow → RampRow → Bool
@@ -42,12 +25,12 @@ one_is first second e =
 
 other_before : (first second : RampRow) → is_before first second ≡ true → are_one first second ≡ false
 other_before first second e =
-    false_from_ne_true (are_one first second) (λ same. order_other first.g second.g first.t second.t ((order_decides first second).0 e) (one_is first second same))
+    false_from_ne_true (are_one first second) (λ same. let one = one_is first second same in false≢true (sym (is_beside first second one.0 one.1) ∙ e))
 
 other_behind : (first second : RampRow) → is_before second first ≡ true → are_one first second ≡ false
 other_behind first second e =
     false_from_ne_true (are_one first second) (λ same.
-    let one = one_is first second same in order_other second.g first.g second.t first.t ((order_decides second first).0 e) (sym one.0, sym one.1))
+    let one = one_is first second same in false≢true (sym (is_beside second first (sym one.0) (sym one.1)) ∙ e))
 
 -- ---- lists of rows
 pub rising_behind : (first : RampRow) (rows : List RampRow) → AreRising (first ∷ rows) → AreRising rows

@@ -1,7 +1,7 @@
 -- The forms of ramp rows, of changes of tables and of nodes read their lines, and nothing else.
-use Rattle.std.proofs.Common.{ap, ℕ, ℤ, ◌^◌, ◌<◌, ◌≤◌, arith, ◌≡◌, suc, true, false, List, [], ◌∷◌, ◌∙◌, Bool, ◌++◌, Option, Some, None, refl, subst, append_assoc, inl, inr, ◌⊎◌, pos, not, ◌&&◌, ◌||◌, nat_lt, ◌≢◌, IfSome, codes}
+use Rattle.std.proofs.Common.{ap, ℕ, ℤ, ◌^◌, ◌<◌, ◌≤◌, arith, ◌≡◌, suc, true, false, List, [], ◌∷◌, ◌++◌, Option, Some, None, refl, subst, append_assoc, inl, inr, ◌⊎◌, pos, not, ◌&&◌, ◌||◌, nat_lt, ◌≢◌, IfSome, codes}
 use Rattle.uc_model.specs.Decimal.{whole_text, signed_text}
-use Rattle.std.proofs.lemmas.Bool.Decides.{Decides-eqb, Decides-int_eq, Decides-and, Decides-or, Decides-not, Decides-ltb, Decides-like}
+use Rattle.std.proofs.lemmas.Bool.Decides.{Decides-int_eq, Decides-and, Decides-or, Decides-not, Decides-ltb, Decides-like}
 use Rattle.std.proofs.lemmas.Bool.{ltb-true, lt-ltb, and_parts, false≢true, and_from}
 use Rattle.std.specs.Ordering.{int_eq}
 use Rattle.std.specs.Bool.{Decides}
@@ -9,10 +9,11 @@ use Rattle.outside.specs.Lines.{line}
 use Rattle.dual_model.specs.Cover.{Bound, Ray, Empty}
 use Rattle.dual_model.specs.Prices.{IsRowBefore, IsRowWithin, pi_at, mu_at, up_at, down_at}
 use Rattle.cert_text.specs.TextConditions.{RampRow, HasDigits, IsRampText}
-use Rattle.cert_text.specs.Changes.{Table, Change, OfDemand, OfReserve, OfRamps, is_before}
+use Rattle.cert_text.specs.Changes.{Table, Change, OfDemand, OfReserve, OfRamps}
 use Rattle.cert_text.specs.CertificateText.{ramp_line, next_line, change_line, TreeNode, LeafNode, SplitNode, node_line, IsNodeWithin}
 use Rattle.cert_text.specs.Grammar.{Sizes, AreSizes, ComesBefore, IsChangeWithin, Changes, IsChangeAfter, IsRampAfter}
 use Rattle.cert_text.specs.inside.Forms.{is_digit, ended, mapped, after, text_at, ordinal_at, row_numbers_at, ramp_row, rises, is_ramp, ramp_at, next_at, price_at, written_change_at, is_within, comes_before, comes_behind, is_other, is_change, change_at, named_at, split_at, node_at}
+use Rattle.cert_text.proofs.RowChanges.{before_decides}
 use Rattle.cert_text.proofs.FormLaws.{IsForm, Anything, after-form, ended-form, both-form, form-as, image-form, mapped-form, passing-form, choice-form, ordinal-form, last_whole, spaced_whole, spaced_signed}
 
 -- ---- The forms of ramp rows and of nodes read their lines.
@@ -22,11 +23,6 @@ spaced_ordinal end none = ended-form ordinal-form (end ∷ []) (λ rest. rw none
 -- ---- ramp rows
 present_decides : (up down : ℤ) → Decides (not (int_eq up (pos 0)) || not (int_eq down (pos 0))) ((up ≢ pos 0) ⊎ (down ≢ pos 0))
 present_decides up down = Decides-or _ _ (Decides-not _ (Decides-int_eq up (pos 0))) (Decides-not _ (Decides-int_eq down (pos 0)))
-
-before_decides : (first second : RampRow) → Decides (is_before first second) (IsRowBefore first second)
-before_decides first second =
-    Decides-like (is_before first second) (λ h. record { before = h }) (λ h. h.before)
-    (Decides-or _ _ (Decides-ltb first.g second.g) (Decides-and _ _ (Decides-eqb first.g second.g) (Decides-ltb first.t second.t)))
 
 rises_decide : (before : Option RampRow) (row : RampRow) → Decides (rises before row) (IfSome before (λ earlier. IsRowBefore earlier row))
 rises_decide None row = ((λ e. tt), (λ h. refl))
@@ -169,7 +165,7 @@ change-form size lawful table last =
     let within = within_back size lawful change w.within in (
       within.0,
       and_from (is_within size change) (comes_behind last change && is_other table change) within.1
-      (and_from (comes_behind last change) (is_other table change) ((behind_decides last change).1 w.rises) ((other_decides table change).1 w.changes)),
+          (and_from (comes_behind last change) (is_other table change) ((behind_decides last change).1 w.rises) ((other_decides table change).1 w.changes)),
     ))
 
 -- ---- nodes
