@@ -1,5 +1,5 @@
 -- One decision more: the commitments that agree are those that agreed and keep it.
-use Rattle.std.proofs.Common.{◌≡◌, ◌≢◌, ℕ, zero, suc, ◌<◌, ◌≤◌, ◌⊎◌, ⊎_elim, Bool, true, false, not, ◌&&◌, ◌||◌, List, drop, length, refl, sym, ap, ◌∙◌, arith, Some, None, slice_index_or, if◌then◌else◌}
+use Rattle.std.proofs.Common.{◌≡◌, ◌≢◌, ℕ, zero, suc, ◌<◌, ◌≤◌, ⊎_elim, Bool, true, false, not, ◌&&◌, ◌||◌, List, drop, length, refl, sym, ap, ◌∙◌, arith, Some, None, slice_index_or, if◌then◌else◌}
 use mathlib.Core.Bool.{beq, and-true, and_assoc, and_comm}
 use Rattle.std.specs.List.{list_all}
 use Rattle.std.proofs.Math.Seq.{drop-cons}

@@ -1,3 +1,5 @@
+pub mod ChildValues
 pub mod FixBits
+pub mod OtherUnits
 pub mod Parts
 pub mod ValuedUnits

@@ -1,6 +1,7 @@
 -- The value of a node from the parts of the units before one, and one unit more.
-use Rattle.std.proofs.Common.{◌≡◌, ℕ, suc, ◌+◌, ◌*◌, ◌<◌, ◌≤◌, ⊎_elim, List, length, add-one, sym, subst, ◌∙◌, arith, ℤ, pos, ◌+ℤ◌, ◌-ℤ◌, slice_index_or, slice_set, unsigned_abs, get_or-set_other, get_or-set_same, length-set}
+use Rattle.std.proofs.Common.{◌≡◌, ℕ, suc, ◌+◌, ◌*◌, ◌<◌, ◌≤◌, ⊎_elim, List, length, add-one, sym, ap, subst, ◌∙◌, arith, ℤ, pos, ◌+ℤ◌, ◌-ℤ◌, slice_index_or, slice_set, unsigned_abs, get_or-set_other, get_or-set_same, length-set, Result, Ok, Err, IfErr, IsErrAnd}
 use Rattle.std.proofs.lemmas.Bool.{cases_lt}
+use Rattle.std.proofs.lemmas.List.Elements.{All-from_get_or}
 use Rattle.uc_model.specs.PatternBits.{commitment_of}
 use Rattle.uc_model.specs.Schedule.{thermal_count}
 use Rattle.uc_model.specs.Sums.{sum_below}
@@ -12,14 +13,15 @@ use Rattle.dual_model.specs.NodeValue.{constant_at, node_total, renewables_value
 use Rattle.dual_model.specs.Fixings.{IsFirstEmpty}
 use Rattle.dual_model.specs.UnitValue.{IsBestPattern}
 use Rattle.dual_model.specs.declared.table.Table.{Table}
-use Rattle.dual_value.specs.NodeAnswer.{Empty, Instance, NoMemory, ValueFault, IsFaultOf, IsPartFault, IsPartOf, IsValued, MAX_PART}
+use Rattle.dual_model.specs.declared.valued.Valued.{Valued}
+use Rattle.dual_value.specs.NodeAnswer.{Empty, Instance, NoMemory, ValueFault, HasSizes, IsFaultOf, IsPartFault, IsPartOf, IsValued, MAX_PART}
 use Rattle.dual_model.specs.declared.node.Node.{Node}
 use Rattle.system_value.specs.Sizes.{MAX_RENEWABLES, MAX_SYSTEM}
 
-abbrev part_in : List ℤ → ℕ → ℤ
+abbrev pub part_in : List ℤ → ℕ → ℤ
 part_in parts g = slice_index_or parts g (pos 0)
 
-abbrev pattern_in : List Pattern → ℕ → Pattern
+abbrev pub pattern_in : List Pattern → ℕ → Pattern
 pattern_in patterns g = slice_index_or patterns g (record { low = 0; high = 0 })
 
 -- the units before g have their parts and patterns, and the total is what does not hang on units with these parts
@@ -27,7 +29,9 @@ pub record IsValuedTo (instance : Instance) (node : Node) (table : Table) (g : �
   pub part_count : length parts ≡ thermal_count instance
   pub pattern_count : length patterns ≡ thermal_count instance
   pub part : (k : ℕ) → k < g → IsPartOf instance node table k (part_in parts k) (pattern_in patterns k)
+  pub part_size : (k : ℕ) → k < g → unsigned_abs (part_in parts k) ≤ MAX_PART
   pub sum : total ≡ (system_value instance table +ℤ renewables_value instance table) +ℤ sum_below g (part_in parts)
+  pub rest : unsigned_abs (system_value instance table +ℤ renewables_value instance table) ≤ MAX_SYSTEM + MAX_RENEWABLES
   pub size : unsigned_abs total ≤ MAX_SYSTEM + MAX_RENEWABLES + g * MAX_PART
 
 pub valued-none : (instance : Instance) (node : Node) (table : Table) (total : ℤ) (parts : List ℤ) (patterns : List Pattern)
@@ -38,7 +42,9 @@ valued-none instance node table total parts patterns p q is size = record {
   part_count = p;
   pattern_count = q;
   part = λ k h. absurd (omega arith);
+  part_size = λ k h. absurd (omega arith);
   sum = is ∙ (let e : system_value instance table +ℤ renewables_value instance table ≡ (system_value instance table +ℤ renewables_value instance table) +ℤ pos 0 = omega (arith, linear) in e);
+  rest = subst (λ x. unsigned_abs x ≤ MAX_SYSTEM + MAX_RENEWABLES) is size;
   size = omega arith;
 }
 
@@ -68,7 +74,15 @@ valued-more instance node table g total part result pattern parts patterns h is 
           (subst (λ x. IsPartOf instance node table g x (pattern_in (slice_set patterns g pattern) g)) (sym part_here)
           (subst (λ x. IsPartOf instance node table g part x) (sym pattern_here) is)))
           (cases_lt k g);
+      part_size = λ k l. ⊎_elim
+          (λ (earlier : k < g).
+          subst (λ x. unsigned_abs x ≤ MAX_PART) (sym (get_or-set_other parts g k part (pos 0) (λ same. omega arith))) (so_far.part_size k earlier))
+          (λ (last : g ≤ k).
+          let same : g ≡ k = omega arith in
+          subst (λ n. unsigned_abs (part_in (slice_set parts g part) n) ≤ MAX_PART) same (subst (λ x. unsigned_abs x ≤ MAX_PART) (sym part_here) small))
+          (cases_lt k g);
       sum = omega (arith, linear);
+      rest = so_far.rest;
       size = subst (λ x. unsigned_abs x ≤ MAX_SYSTEM + MAX_RENEWABLES + suc g * MAX_PART) (sym e)
           (omega (arith, abs_add total part (MAX_SYSTEM + MAX_RENEWABLES + g * MAX_PART) MAX_PART so_far.size small));
     })
@@ -104,7 +118,25 @@ valued-all instance node table total parts patterns few all = record {
     whole : total ≡ node_total instance table value
     whole = let sum = all.sum in let e = same in omega (arith, linear)
 
+pub sized-all : (instance : Instance) (node : Node) (table : Table) (total : ℤ) (parts : List ℤ) (patterns : List Pattern)
+    → IsValuedTo instance node table (thermal_count instance) total parts patterns
+    → HasSizes (record { total = total; parts = parts; patterns = patterns })
+sized-all instance node table total parts patterns all =
+    let count = all.part_count in
+    let whole = ap (λ n. sum_below n (part_in parts)) count in
+    let sum = all.sum in
+    let rest : total -ℤ sum_below (length parts) (part_in parts) ≡ system_value instance table +ℤ renewables_value instance table = omega (arith, linear) in
+    record {
+      parts = All-from_get_or (λ part. unsigned_abs part ≤ MAX_PART) parts (pos 0) (λ k h. all.part_size k (omega arith));
+      rest = subst (λ x. unsigned_abs x ≤ MAX_SYSTEM + MAX_RENEWABLES) (sym rest) all.rest;
+    }
+
 -- ---- a unit without a pattern
+-- an error that is the one that came
+pub err-only : (r : Result Valued ValueFault) (fault : ValueFault) (P : ValueFault → Type 0) → IsErrAnd r (λ e. e ≡ fault) → P fault → IfErr r P
+err-only (Ok valued) fault P is h = tt
+err-only (Err e) fault P is h = subst P (sym is) h
+
 pub first-without : (instance : Instance) (node : Node) (table : Table) (g : ℕ) (total : ℤ) (parts : List ℤ) (patterns : List Pattern) (fault : ValueFault)
     → g < thermal_count instance → IsValuedTo instance node table g total parts patterns → IsPartFault instance node g fault → IsFaultOf instance node fault
 first-without instance node table g total parts patterns (Empty n) h so_far is =

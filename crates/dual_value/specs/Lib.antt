@@ -1,3 +1,4 @@
 pub mod Rooms
 pub mod NodeAnswer
+pub mod Inheritance
 pub mod inside

@@ -3,12 +3,14 @@
 #![tactic(auto)]
 
 mod fixes;
+pub mod inheritance;
 pub mod node_value;
 mod room;
 mod units;
 mod valued;
 
 pub use dual_model::Valued;
+pub use inheritance::{Inherited, child};
 pub use node_value::{value, value_in};
 pub use room::Room;
 pub use valued::ValueFault;

@@ -4,7 +4,7 @@ ghost use Rattle.std.specs.Prelude.{◌≡◌, IfOk, IfErr, length};
 ghost use Rattle.uc_model.specs.Limits.{IsLawfulInstance};
 ghost use Rattle.dual_model.specs.Fixings.{IsNodeOf};
 ghost use Rattle.dual_model.specs.Prices.{HasSizeOf, IsWithinLimits};
-ghost use Rattle.dual_value.specs.NodeAnswer.{IsFaultOf, IsValued};
+ghost use Rattle.dual_value.specs.NodeAnswer.{HasSizes, IsFaultOf, IsValued};
 ghost use Rattle.dual_value.specs.Rooms.{IsRoomOf};
 
 use crate::room::Room;
@@ -34,6 +34,7 @@ pub fn value(
     ensures kept { scratch.new ≡ scratch.old }
 
     ensures value { IfOk result (IsValued instance.now node.now table.now) }
+    ensures sizes { IfOk result HasSizes }
     ensures fault { IfErr result (IsFaultOf instance.now node.now) }
 {
     let mut room = Room::new(alloc, instance)?;
@@ -60,6 +61,7 @@ pub fn value_in(
     ensures kept_room { room.new ≡ room.old }
 
     ensures value { IfOk result (IsValued instance.now node.now table.now) }
+    ensures sizes { IfOk result HasSizes }
     ensures fault { IfErr result (IsFaultOf instance.now node.now) }
 {
     let units = instance.thermal.as_slice();

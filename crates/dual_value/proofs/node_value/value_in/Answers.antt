@@ -1,21 +1,15 @@
 -- One unit more, the first one without a pattern, or the whole.
-use Rattle.std.proofs.Common.{◌≡◌, ◌+◌, ◌*◌, ◌<◌, ◌≤◌, length, refl, sym, ap, subst, ◌∙◌, lit<, arith, ◌+ℤ◌, to_z, of_z, slice_index_or, unsigned_abs, Result, Ok, Err, IfErr, IsErrAnd}
-use Rattle.dual_model.specs.declared.valued.Valued.{Valued}
+use Rattle.std.proofs.Common.{◌≡◌, ◌+◌, ◌*◌, ◌<◌, ◌≤◌, length, refl, sym, ap, subst, ◌∙◌, lit<, arith, ◌+ℤ◌, to_z, of_z, slice_index_or, unsigned_abs}
 use Rattle.std.specs.Int.{w128}
 use Rattle.std.proofs.lemmas.List.{get_or_read}
 use Rattle.uc_model.specs.Limits.{IsLawfulThermal}
 use Rattle.uc_model.specs.Schedule.{no_unit, thermal_count, thermal_unit}
 use Rattle.uc_model.proofs.Sizes.{abs_add, sum-fits, sum-is, sum-size, wide, wide-size}
-use Rattle.dual_value.specs.NodeAnswer.{ValueFault, IsFaultOf, IsPartOf, IsValued, MAX_PART}
+use Rattle.dual_value.specs.NodeAnswer.{HasSizes, IsFaultOf, IsPartOf, IsValued, MAX_PART}
 use Rattle.dual_value.specs.Rooms.{RoomOf}
 use Rattle.system_value.specs.Sizes.{MAX_RENEWABLES, MAX_SYSTEM}
-use Rattle.dual_value.proofs.ValuedUnits.{first-without, valued-all, valued-more, valued-none, IsValuedTo}
+use Rattle.dual_value.proofs.ValuedUnits.{err-only, first-without, sized-all, valued-all, valued-more, valued-none, IsValuedTo}
 use Rattle.dual_value.proofs.node_value.value_in.Goals as goal
-
--- an error that is the one that came
-err-only : (r : Result Valued ValueFault) (fault : ValueFault) (P : ValueFault → Type 0) → IsErrAnd r (λ e. e ≡ fault) → P fault → IfErr r P
-err-only (Ok valued) fault P is h = tt
-err-only (Err e) fault P is h = subst P (sym is) h
 
 pub sum-total-requires : goal.sum-total-requires
 sum-total-requires c =
@@ -92,3 +86,11 @@ returns-clause-value c =
     (subst (λ n. IsValuedTo c.args.instance.now c.args.node.now c.args.table.now n (to_z w128 c.loop-g.total-bits) c.loop-g.parts.items c.loop-g.patterns.items) whole c.loop-g.invariant.valued) in
     subst (λ parts. IsValued c.args.instance.now c.args.node.now c.args.table.now (record { total = to_z w128 c.loop-g.total-bits; parts = parts; patterns = c.from_vec-2.result })) (sym c.from_vec.ensures)
     (subst (λ patterns. IsValued c.args.instance.now c.args.node.now c.args.table.now (record { total = to_z w128 c.loop-g.total-bits; parts = c.loop-g.parts.items; patterns = patterns })) (sym c.from_vec-2.ensures) all)
+
+pub returns-clause-sizes : goal.returns-clause-sizes
+returns-clause-sizes c =
+    let whole : c.loop-g.g ≡ thermal_count c.args.instance.now = omega (arith, c.loop-g-test.false, ap length c.as_slice-units.ensures) in
+    let all = sized-all c.args.instance.now c.args.node.now c.args.table.now (to_z w128 c.loop-g.total-bits) c.loop-g.parts.items c.loop-g.patterns.items
+    (subst (λ n. IsValuedTo c.args.instance.now c.args.node.now c.args.table.now n (to_z w128 c.loop-g.total-bits) c.loop-g.parts.items c.loop-g.patterns.items) whole c.loop-g.invariant.valued) in
+    subst (λ parts. HasSizes (record { total = to_z w128 c.loop-g.total-bits; parts = parts; patterns = c.from_vec-2.result })) (sym c.from_vec.ensures)
+    (subst (λ patterns. HasSizes (record { total = to_z w128 c.loop-g.total-bits; parts = c.loop-g.parts.items; patterns = patterns })) (sym c.from_vec-2.ensures) all)
