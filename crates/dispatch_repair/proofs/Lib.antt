@@ -20,3 +20,10 @@ pub mod RunPatterns
 pub mod Written
 pub mod TotalSums
 pub mod Regular
+pub mod Listed
+pub mod Committing
+pub mod Obstacles
+pub mod Raising
+pub mod Reaches
+pub mod Writing
+pub mod Endings

@@ -54,7 +54,7 @@ same_below instance periods t old new same h = record {
     before g zero k = refl
     before g (suc k) hk = ap (λ (c : Cell). c.p) (sym (same.cells g k (omega arith)))
 
-same_but : (instance : Instance) (t k : ℕ) (old new : Printed) (shortage : Shortage) → AreSameBut t old new → IsLacking shortage t old new → k < t → AreSameAt instance k old new
+pub same_but : (instance : Instance) (t k : ℕ) (old new : Printed) (shortage : Shortage) → AreSameBut t old new → IsLacking shortage t old new → k < t → AreSameAt instance k old new
 same_but instance t k old new shortage same lacking h = record {
   before = λ g. before g k h;
   cells = λ g. sym (same.cells g k (omega arith));
@@ -86,10 +86,10 @@ no_outputs instance periods printed w t shape h =
     let none : slice_index_or printed.renewable w [] ≡ [] = get_or-eq_default printed.renewable [] (subst (λ n. n ≤ w) (sym shape.renewable) h) in
     ap (λ (row : List ℤ). slice_index_or row t (pos 0)) none
 
-no_amount : (instance : Instance) (numbers : List ℤ) (g : ℕ) → length numbers ≡ source_count instance → thermal_count instance ≤ g → thermal_amount instance numbers g ≡ pos 0
+pub no_amount : (instance : Instance) (numbers : List ℤ) (g : ℕ) → length numbers ≡ source_count instance → thermal_count instance ≤ g → thermal_amount instance numbers g ≡ pos 0
 no_amount instance numbers g count h = get_or-eq_default numbers (pos 0) (subst (λ n. n ≤ renewable_count instance + g) (sym count) (omega arith))
 
-no_initial : (instance : Instance) (g : ℕ) → thermal_count instance ≤ g → initial_p (thermal_unit instance g) ≡ pos 0
+pub no_initial : (instance : Instance) (g : ℕ) → thermal_count instance ≤ g → initial_p (thermal_unit instance g) ≡ pos 0
 no_initial instance g h = ap initial_p (get_or-eq_default instance.thermal no_unit h)
 
 -- the amounts before the first period

@@ -126,6 +126,11 @@ pub record IsPart (price : ℕ) (whole part : ℤ) : Type 0 where
 pub price_cases : (price : ℕ) → (nat_lt 0 price ≡ true) ⊎ (price ≡ 0)
 price_cases price = ⊎_elim (λ (some : 0 < price). inl (lt-ltb 0 price some)) (λ (none : price ≤ 0). inr (omega (arith, none))) (cases_lt 0 price)
 
+-- the sums of the least outputs aren't negative
+pub record HasLowSums (period : Period) : Type 0 where
+  pub thermal : pos 0 ≤ℤ thermal_sum period (low_of period)
+  pub all : pos 0 ≤ℤ total_output period (low_of period)
+
 module _ (period : Period) where
   unmet_priced : nat_lt 0 period.instance.a ≡ true → unmet period ≡ int_max (demand_of period -ℤ total_output period (high_of period)) (pos 0)
   unmet_priced some = cond-true _ _ _ some
@@ -207,6 +212,10 @@ module _ (period : Period) where
     minimums_nonneg =
         sum_below_nonneg (thermal_count period.instance) _ (λ g hg.
         mul_nonneg (thermal_unit period.instance g).pmin (bit (period.on g period.t)) (lawful.thermal g hg).minimum.low (bit_nonneg (period.on g period.t)))
+
+    -- Cite by `use Rattle.dispatch_repair.proofs.Shortages.{low_sums}`.
+    pub low_sums : HasLowSums period
+    low_sums = record { thermal = lows_nonneg; all = omega (arith, linear, minimums_nonneg, lows_nonneg, free_nonneg) }
 
     -- what the thermal units have to give of the demand that is left where the renewable ones give the most
     abbrev asked : ℤ
