@@ -1,10 +1,10 @@
 -- Each commitment has cells: a start takes the cheapest category that the history allows.
-use Rattle.std.proofs.Common.{◌≡◌, ℕ, zero, suc, ◌+◌, ◌-◌, ◌<◌, ◌≤◌, ◌⊎◌, inl, inr, Bool, true, false, refl, sym, ap, subst, ◌∙◌, arith, List, [], length, All, ℤ, pos, ◌≤ℤ◌, ◌<ℤ◌, IsTrue, ◌==◌, nat_lt, replicate}
+use Rattle.std.proofs.Common.{◌≡◌, ℕ, zero, suc, ◌+◌, ◌-◌, ◌<◌, ◌≤◌, ◌⊎◌, inl, inr, refl, sym, ap, subst, ◌∙◌, arith, List, [], length, ℤ, pos, ◌≤ℤ◌, ◌<ℤ◌, IsTrue, ◌==◌, nat_lt, replicate}
 use Rattle.std.proofs.lemmas.Bool.{both_ways, cases_Bool, cases_lt, or_cases, or_left, and_parts, eq-eqb, eqb-true, ltb-true}
 use Rattle.std.proofs.lemmas.List.{length-replicate}
 use Rattle.std.proofs.lemmas.List.Elements.{All-from_get_or}
 use Rattle.uc_model.specs.Commitment.{Commitment, starts}
-use Rattle.uc_model.specs.Limits.{IsLawfulInstance, IsLawfulThermal}
+use Rattle.uc_model.specs.Limits.{IsLawfulInstance}
 use Rattle.uc_model.specs.PrintedSchedule.{cell_at}
 use Rattle.uc_model.specs.Schedule.{thermal_unit, thermal_count, renewable_count}
 use Rattle.uc_model.specs.StartCategory.{category_cost, category_count, is_category_allowed}
@@ -90,9 +90,9 @@ module _ (unit : Thermal) (on : Commitment) (t n : ℕ) where
   or_next : HasCheapest unit on t (suc n) → HasCheapest unit on t n
   or_next later = elim (cases_Bool (is_category_allowed unit on (suc n) t)) [
     | inl allowed ↦ elim (le_or_lt (category_cost unit (suc n)) (category_cost unit later.s)) [
-        | inl low ↦ next_one later allowed low
-        | inr high ↦ later_one later (λ h. high)
-      ]
+      | inl low ↦ next_one later allowed low
+      | inr high ↦ later_one later (λ h. high)
+    ]
     | inr barred ↦ later_one later (λ h. absurd (both_ways _ barred h))
   ]
 
@@ -112,12 +112,12 @@ module _ (instance : Instance) (patterns : List Pattern) (lawful : IsLawfulInsta
   pub cell : (g t : ℕ) → HasCell instance patterns g t
   cell g t = elim (cases_lt g (thermal_count instance)) [
     | inl h ↦ elim (cases_Bool (starts (thermal_unit instance g) (commitment_at patterns g) t)) [
-        | inl begins ↦ starting h begins
-        | inr stays ↦ record {
-            cell = with_category g t 0;
-            is = λ k. record { on = refl; start = λ begins. absurd (both_ways _ stays begins); none = λ e. refl };
-          }
-      ]
+      | inl begins ↦ starting h begins
+      | inr stays ↦ record {
+        cell = with_category g t 0;
+        is = λ k. record { on = refl; start = λ begins. absurd (both_ways _ stays begins); none = λ e. refl };
+      }
+    ]
     | inr past ↦ record { cell = with_category g t 0; is = λ h. absurd (omega (arith, h, past)) }
   ]
     where

@@ -1,5 +1,5 @@
 -- Each commitment that keeps the rules on commitments is dispatched, or stuck.
-use Rattle.std.proofs.Common.{◌≡◌, ℕ, zero, suc, ◌+◌, ◌*◌, ◌-◌, ◌<◌, ◌≤◌, ◌⊎◌, inl, inr, refl, sym, ap, subst, ◌∙◌, arith, List, length, ℤ, pos, ◌+ℤ◌, ◌-ℤ◌, ◌*ℤ◌, ◌≤ℤ◌, unsigned_abs}
+use Rattle.std.proofs.Common.{◌≡◌, ℕ, zero, suc, ◌+◌, ◌*◌, ◌-◌, ◌<◌, ◌≤◌, ◌⊎◌, inl, inr, refl, sym, ap, subst, ◌∙◌, arith, List, length, ℤ, pos, ◌-ℤ◌, ◌≤ℤ◌, unsigned_abs}
 use Rattle.std.specs.Int.{int_max}
 use Rattle.std.proofs.lemmas.Int.{ints}
 use Rattle.std.proofs.lemmas.Bool.{cases_lt}
@@ -11,22 +11,22 @@ use Rattle.uc_model.specs.Sums.{sum_below}
 use Rattle.uc_model.proofs.CostBound.{within_of_abs}
 use Rattle.uc_model.proofs.Ring.{linear, pos-mul, pos-le-pos}
 use Rattle.uc_model.proofs.Sums.{sum_below-const, sum_below-le}
-use Rattle.dispatch_repair.specs.Period.{Instance, Pattern, Printed, Period, FromThermal, low_of, head_of, heads, total_output, demand_of, need_of, output_before, thermal_limit, thermal_sum}
-use Rattle.dispatch_repair.specs.Shortage.{shed_of, short_of, served}
+use Rattle.dispatch_repair.specs.Period.{Instance, Pattern, Printed, Period, low_of, head_of, heads, total_output, demand_of, need_of, thermal_limit, thermal_sum}
+use Rattle.dispatch_repair.specs.Shortage.{shed_of, short_of}
 use Rattle.dispatch_repair.specs.Dispatch.{IsFilled, period_after}
 use Rattle.dispatch_repair.specs.Rooms.{AreCommitted, IsObstacleOf}
 use Rattle.dispatch_repair.specs.Segments.{Segment, AreInMeritOrder, source_count}
 use Rattle.dispatch_repair.specs.Stuck.{Stuck, Why, IsDispatchOf, IsFirstObstacle, IsFree, IsRegular, IsStuckOf}
-use Rattle.dispatch_repair.specs.inside.Amounts.{IsSizedEnd, IsSizedOutput, amount_at, thermal_amount}
+use Rattle.dispatch_repair.specs.inside.Amounts.{IsSizedOutput, amount_at, thermal_amount}
 use Rattle.dispatch_repair.specs.inside.Filled.{Shortage, AreShortages, IsDispatchedFrom, served_by}
 use Rattle.dispatch_repair.specs.inside.Filling.{Left, IsFillable, IsFirstLeft, IsLeft}
 use Rattle.dispatch_repair.specs.inside.Progress.{AreBefore}
-use Rattle.dispatch_repair.specs.inside.Totals.{IsSizedLeft, MAX_POWER, MAX_UNITS}
+use Rattle.dispatch_repair.specs.inside.Totals.{MAX_POWER, MAX_UNITS}
 use Rattle.dispatch_repair.proofs.Committing.{idle, idle_committed}
 use Rattle.dispatch_repair.proofs.Filled.{max_right}
 use Rattle.dispatch_repair.proofs.Listed.{list_of, listed, listed_length}
 use Rattle.dispatch_repair.proofs.Merit.{IsFilledUp, first_need, first_room, in_merit_order, open_ranges, width_size}
-use Rattle.dispatch_repair.proofs.Obstacles.{IsJudged, free, barred, judged}
+use Rattle.dispatch_repair.proofs.Obstacles.{free, barred, judged}
 use Rattle.dispatch_repair.proofs.Periods.{before_next, committed_still, filled_moved, filled_period, initial_size, no_amount, no_initial, same_but, stuck_of}
 use Rattle.dispatch_repair.proofs.Raising.{HasFilling, filling}
 use Rattle.dispatch_repair.proofs.Reaches.{heads_are, heads_in, ranges_are, ranges_in}
@@ -199,11 +199,11 @@ module _ (instance : Instance) (patterns : List Pattern) (order : List Segment) 
     come zero h = inl begun
     come (suc t) h = elim (come t (omega arith)) [
       | inl was ↦ elim (judged (period t (thermal_amount instance was.numbers) (omega arith) was.before.sizes)) [
-          | free clear ↦ inl (more t (omega arith) was clear)
-          | barred reason found ↦ inr (stuck (record { period = t; prefix = cut_at t was.printed; why = reason })
-              (stuck_of instance patterns was.printed (record { period = t; why = reason }) (record { period = t; prefix = cut_at t was.printed; why = reason }) regular
-              was.committed.shape (obstacle t (omega arith) was reason found) (cut_stuck was.printed (record { period = t; why = reason }))))
-        ]
+        | free clear ↦ inl (more t (omega arith) was clear)
+        | barred reason found ↦ inr (stuck (record { period = t; prefix = cut_at t was.printed; why = reason })
+            (stuck_of instance patterns was.printed (record { period = t; why = reason }) (record { period = t; prefix = cut_at t was.printed; why = reason }) regular
+            was.committed.shape (obstacle t (omega arith) was reason found) (cut_stuck was.printed (record { period = t; why = reason }))))
+      ]
       | inr over ↦ inr over
     ]
 

@@ -1,12 +1,12 @@
 -- Ranges can be filled in the order of merit.
-use Rattle.std.proofs.Common.{◌≡◌, ◌≢◌, ℕ, zero, suc, ◌+◌, ◌<◌, ◌≤◌, ◌⊎◌, inl, inr, refl, sym, ap, subst, ◌∙◌, arith, List, length, ℤ, pos, ◌+ℤ◌, ◌-ℤ◌, ◌≤ℤ◌, ◌<ℤ◌, unsigned_abs, slice_set, get_or-set_same, get_or-set_other, length-set}
+use Rattle.std.proofs.Common.{◌≡◌, ℕ, zero, suc, ◌+◌, ◌<◌, ◌≤◌, ◌⊎◌, inl, inr, refl, sym, subst, arith, List, length, ℤ, pos, ◌+ℤ◌, ◌-ℤ◌, ◌≤ℤ◌, ◌<ℤ◌, unsigned_abs, slice_set, get_or-set_same, get_or-set_other, length-set}
 use Rattle.std.proofs.lemmas.Int.{ints}
 use Rattle.std.proofs.lemmas.Bool.{cases_lt}
 use Rattle.uc_model.specs.Schedule.{renewable_count}
 use Rattle.uc_model.proofs.Ring.{linear, le_or_lt}
 use Rattle.dispatch_repair.specs.MeritOrder.{Instance}
 use Rattle.dispatch_repair.specs.inside.Amounts.{Range, amount_at, range_at}
-use Rattle.dispatch_repair.specs.inside.Filling.{Left, IsLeft, IsOpen, IsFull, IsRaise, IsFilledTo, end_of}
+use Rattle.dispatch_repair.specs.inside.Filling.{Left, IsLeft, IsOpen, IsRaise, IsFilledTo, end_of}
 use Rattle.dispatch_repair.specs.Segments.{Segment, AreInMeritOrder, no_segment, segment_at, source_count}
 use Rattle.dispatch_repair.proofs.Filling.{filled_none, step}
 use Rattle.dispatch_repair.proofs.Listed.{list_of, listed, listed_length}
@@ -53,29 +53,29 @@ module _ (renewables : ℕ) (ranges : List Range) (segment : Segment) (old : Lis
   part : (most : ℤ) → pos 0 ≤ℤ most → HasPart most
   part most some = elim (le_or_lt end amount) [
     | inl full ↦ record {
-        more = pos 0;
+      more = pos 0;
+      is = record {
+        up = omega (arith, linear);
+        within = λ up. absurd (omega (arith, linear, up));
+        spare = some;
+        done = inl (omega (arith, linear, full));
+      };
+    }
+    | inr less ↦ elim (le_or_lt (end -ℤ amount) most) [
+      | inl all ↦ record {
+        more = end -ℤ amount;
         is = record {
-          up = omega (arith, linear);
-          within = λ up. absurd (omega (arith, linear, up));
-          spare = some;
-          done = inl (omega (arith, linear, full));
+          up = omega (arith, linear, less);
+          within = λ up. omega (arith, linear);
+          spare = all;
+          done = inl (omega (arith, linear));
         };
       }
-    | inr less ↦ elim (le_or_lt (end -ℤ amount) most) [
-        | inl all ↦ record {
-            more = end -ℤ amount;
-            is = record {
-              up = omega (arith, linear, less);
-              within = λ up. omega (arith, linear);
-              spare = all;
-              done = inl (omega (arith, linear));
-            };
-          }
-        | inr short ↦ record {
-            more = most;
-            is = record { up = some; within = λ up. omega (arith, linear, short); spare = omega (arith, linear); done = inr refl };
-          }
-      ]
+      | inr short ↦ record {
+        more = most;
+        is = record { up = some; within = λ up. omega (arith, linear, short); spare = omega (arith, linear); done = inr refl };
+      }
+    ]
   ]
 
   free_raise : s < renewables → HasPart before.need → HasRaise renewables ranges segment old before
@@ -129,9 +129,9 @@ module _ (renewables : ℕ) (ranges : List Range) (segment : Segment) (old : Lis
       done = elim it.is.done [
         | inl full ↦ inl (subst (λ z. end ≤ℤ z) (sym (raised_is it.more)) full)
         | inr all ↦ elim least [
-            | inl need ↦ inr (inl (omega (arith, linear, all, need)))
-            | inr room ↦ inr (inr (thermal, omega (arith, linear, all, room)))
-          ]
+          | inl need ↦ inr (inl (omega (arith, linear, all, need)))
+          | inr room ↦ inr (inr (thermal, omega (arith, linear, all, room)))
+        ]
       ];
     };
   }
@@ -140,9 +140,9 @@ module _ (renewables : ℕ) (ranges : List Range) (segment : Segment) (old : Lis
   raise = elim (cases_lt s renewables) [
     | inl free ↦ free_raise free (part before.need left.need)
     | inr thermal ↦ elim (le_or_lt before.need before.room) [
-        | inl wide ↦ thermal_raise before.need thermal (omega (arith, linear)) wide (inl refl) (part before.need left.need)
-        | inr tight ↦ thermal_raise before.room thermal (omega (arith, linear, tight)) (omega (arith, linear)) (inr refl) (part before.room left.room)
-      ]
+      | inl wide ↦ thermal_raise before.need thermal (omega (arith, linear)) wide (inl refl) (part before.need left.need)
+      | inr tight ↦ thermal_raise before.room thermal (omega (arith, linear, tight)) (omega (arith, linear)) (inr refl) (part before.room left.room)
+    ]
   ]
 
 -- ---- all segments
@@ -168,7 +168,7 @@ module _ (instance : Instance) (order : List Segment) (ranges : List Range) (sta
       let was = filling i (omega arith) in
       let source = (are.segments.each i no_segment (omega arith)).source in
       let more = raise (renewable_count instance) ranges (segment_at order i) was.amounts was.rest
-          (subst (λ n. (segment_at order i).source < n) (sym was.is.count) source) was.is.left in
+      (subst (λ n. (segment_at order i).source < n) (sym was.is.count) source) was.is.left in
       record {
         amounts = more.new;
         rest = more.after;

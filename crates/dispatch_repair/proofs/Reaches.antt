@@ -1,5 +1,5 @@
 -- The ranges and the heads of a period's sources, as lists, with their sizes.
-use Rattle.std.proofs.Common.{◌≡◌, ℕ, suc, ◌+◌, ◌*◌, ◌-◌, ◌<◌, ◌≤◌, Bool, true, false, refl, sym, ap, subst, ◌∙◌, arith, List, length, ℤ, pos, ◌+ℤ◌, ◌-ℤ◌, ◌*ℤ◌, ◌≤ℤ◌, unsigned_abs, nat_lt}
+use Rattle.std.proofs.Common.{◌≡◌, ℕ, suc, ◌+◌, ◌*◌, ◌-◌, ◌<◌, ◌≤◌, Bool, true, false, sym, ap, subst, ◌∙◌, arith, List, ℤ, pos, ◌+ℤ◌, ◌-ℤ◌, ◌*ℤ◌, ◌≤ℤ◌, nat_lt}
 use Rattle.std.specs.Int.{int_min, int_max}
 use Rattle.std.proofs.lemmas.Int.{ints}
 use Rattle.std.proofs.lemmas.Bool.{cond_both}
@@ -8,11 +8,11 @@ use Rattle.uc_model.specs.Limits.{IsLawfulInstance, IsLawfulThermal, IsPower}
 use Rattle.uc_model.specs.Schedule.{thermal_unit, thermal_count, renewable_count, renewable_maximum, renewable_minimum, point, point_p, point_count}
 use Rattle.uc_model.specs.Sums.{bit}
 use Rattle.uc_model.proofs.Ring.{linear, mul-one, mul-zero}
-use Rattle.dispatch_repair.specs.Period.{Thermal, Period, FromRenewable, FromThermal, low_of, high_of, head_of, head, lowest, highest, is_off_next}
+use Rattle.dispatch_repair.specs.Period.{Thermal, Period, low_of, high_of, head_of, head, lowest, highest, is_off_next}
 use Rattle.dispatch_repair.specs.inside.Amounts.{MAX_POWER, Range, AreHeadsOf, AreRangesOf, IsRangeOf, IsSizedEnd, IsSizedOutput, range_at}
 use Rattle.dispatch_repair.specs.Segments.{source_at, source_count}
 use Rattle.dispatch_repair.proofs.CurveSegments.{renewable_at, thermal_at}
-use Rattle.dispatch_repair.proofs.Listed.{list_of, listed, listed_length}
+use Rattle.dispatch_repair.proofs.Listed.{list_of, listed}
 use Rattle.dispatch_repair.proofs.Places.{renewable_range, thermal_range, ranges_from}
 
 -- ---- sizes
