@@ -46,20 +46,30 @@ pub fn cells_of(market: &Market, period: &Period, unit: &Unit) -> Cells {
     let off = period.cost_with(market, &NOTHING);
     let plain = unit.limits(false, false);
     let power = merit_power(market, period, unit, plain.head);
-    let on = on_cost(market, period, unit, &plain, power).saturating_sub(off);
-    let other = |limits: Limits| {
+    let above = |limits: &Limits| on_cost(market, period, unit, limits, power).saturating_sub(off);
+    let on = above(&plain);
+    let other = |limits: &Limits| {
         if limits.head == plain.head && power <= limits.most {
             on
         } else {
-            on_cost(market, period, unit, &limits, power).saturating_sub(off)
+            above(limits)
         }
     };
+    let (starting, stopping) = (unit.limits(true, false), unit.limits(false, true));
+    let (start, stop) = (other(&starting), other(&stopping));
+    let both = unit.limits(true, true);
     Cells {
         off,
         plain: on,
-        start: other(unit.limits(true, false)),
-        stop: other(unit.limits(false, true)),
-        both: other(unit.limits(true, true)),
+        start,
+        stop,
+        both: if both.is(&starting) {
+            start
+        } else if both.is(&stopping) {
+            stop
+        } else {
+            other(&both)
+        },
         power,
     }
 }
@@ -75,20 +85,30 @@ pub(crate) fn cost_at(market: &Market, period: &Period, unit: &Unit, power: i64,
         .saturating_add(period.cost_with(market, &unit.addition(power, head)))
 }
 
-// What the unit gives above its minimum in the order of merit, with so high a head.
+// What the unit gives above its minimum in the order of merit, with so high a head. Segments that come before what all of the unit leaves of
+// the needed watts are taken whole, and none behind the last watt that is taken: only between these two are watts counted.
 fn merit_power(market: &Market, period: &Period, unit: &Unit, head: i64) -> i64 {
     let least = unit.addition(0, head);
     let needed = period.served_with(market, &least);
     let room = period.room_with(&least).max(needed);
+    let whole = period.place_of(needed.saturating_sub(unit.width));
+    let last = period.place_of(if market.gainful > 0 { room } else { needed });
     let mut power: i64 = 0;
     for segment in &unit.segments {
-        let cheaper = period.watts_before(market, segment.place);
-        let wanted = if segment.rate < 0 { room } else { needed };
-        let left = wanted.saturating_sub(cheaper).saturating_sub(power);
-        if left <= 0 || segment.place >= market.worthwhile {
+        if segment.place > last || segment.place >= market.worthwhile {
             break;
         }
-        power = power.saturating_add(segment.watts.min(left));
+        if segment.place < whole {
+            power = power.saturating_add(segment.watts);
+        } else {
+            let cheaper = period.watts_before(segment.place);
+            let wanted = if segment.rate < 0 { room } else { needed };
+            let left = wanted.saturating_sub(cheaper).saturating_sub(power);
+            if left <= 0 {
+                break;
+            }
+            power = power.saturating_add(segment.watts.min(left));
+        }
     }
     power
 }

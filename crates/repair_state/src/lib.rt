@@ -11,6 +11,7 @@ mod lists;
 mod merit;
 mod patterns;
 mod period;
+mod supply;
 mod system;
 mod trajectory;
 mod unit;

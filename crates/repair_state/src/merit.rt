@@ -17,9 +17,6 @@ const SCARCITY: i64 = 50;
 /// The most that a period costs by itself in which something is lacking.
 const DEAREST_BREACH: i64 = 1 << 43;
 
-/// The most doublings of a place.
-const DOUBLINGS: u32 = 20;
-
 /// A segment of a unit's hull: its place in the order of merit, its watts, and the rate of each.
 #[derive(Clone, Copy)]
 pub(crate) struct Segment {
@@ -28,15 +25,13 @@ pub(crate) struct Segment {
     pub rate: i64,
 }
 
-/// The rates of all segments in order of merit, how many of them are below 0, the powers of two up to their number from the greatest on, the
-/// rate of the segment with which half of all watts are reached, and that of what is lacking; and what a period costs beside it in which
-/// something is lacking. Where demand may stay unserved, `shed` is the rate of that, and so many segments are `worthwhile`, which cost
+/// The rates of all segments in order of merit, how many of them are below 0, the rate of the segment with which half of all watts are
+/// reached, and that of what is lacking; and what a period costs beside it in which something is lacking. Where demand may stay unserved, `shed` is the rate of that, and so many segments are `worthwhile`, which cost
 /// less; else it is 0, and all are. `missing` is the rate of missing reserve.
 #[derive(Drop)]
 pub struct Market {
     pub(crate) rates: Vec<i64>,
     pub(crate) gainful: usize,
-    pub(crate) strides: Vec<usize>,
     pub middle: i64,
     pub(crate) scarcity: i64,
     pub(crate) breach: i64,
@@ -97,7 +92,6 @@ impl Market {
         Market {
             rates: Vec::new(alloc),
             gainful: 0,
-            strides: Vec::new(alloc),
             middle: 0,
             scarcity: 0,
             breach: 0,
@@ -128,7 +122,7 @@ impl Market {
             set_place(units, &entries[place], place);
             put(&mut self.rates, entries[place].rate)?;
         }
-        push_strides(&mut self.strides, entries.len())
+        Ok(())
     }
 
     // Sets what unserved demand and missing reserve cost. What may not be lacking costs more than what may.
@@ -225,15 +219,4 @@ fn set_place(units: &mut [Unit], entry: &Entry, place: usize) {
             segments[entry.number].place = place;
         }
     }
-}
-
-// Adds the powers of two up to a number, from the greatest on.
-fn push_strides(strides: &mut Vec<usize>, most: usize) -> Result<(), NoMemory> {
-    for doublings in (0..DOUBLINGS).rev() {
-        let stride: usize = 1 << doublings;
-        if stride <= most {
-            put(strides, stride)?;
-        }
-    }
-    Ok(())
 }

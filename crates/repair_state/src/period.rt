@@ -1,29 +1,23 @@
 //! A period: what its on units may give, in order of merit, and what demand and reserve cost then.
 
 use crate::merit::{Market, cost_of, shortage_cost};
+use crate::supply::{Fill, Supply};
 use crate::unit::Unit;
 use crate::window::Window;
 use std::alloc::Global;
 use uc_model::NoMemory;
 
-// The watts and the cost of the segments that a node of the index tree stands for.
-#[derive(Clone, Copy)]
-struct Node {
-    watts: i64,
-    cost: i64,
-}
-
-const EMPTY: Node = Node { watts: 0, cost: 0 };
-
-/// A period. Its nodes are an index tree over the places in the order of merit, of the watts inside the windows of the on units; `watts`
-/// is their sum. `base` is what the low ends cost, `floor` what they give with the minimums, `power` without them, and `heads` the sum
-/// of the heads. Demand less the most that renewable units give is `needed`, less the least `bearable`. `mark` is the sum of the marks
-/// of the units in their windows, so that equal marks tell of equal contents, and `known` the key at which the cost was reckoned last,
-/// with this cost.
+/// A period. Its supply is that inside the windows of the on units; `watts` is its sum, `gainful` the sum of those that cost less than
+/// nothing, and `worthwhile` of those that cost less than unserved demand. `base` is what the low ends cost, `floor` what they give with the
+/// minimums, `power` without them, and `heads` the sum of the heads. Demand less the most that renewable units give is `needed`, less the
+/// least `bearable`. `mark` is the sum of the marks of the units in their windows, so that equal marks tell of equal contents, and `known`
+/// the key at which the cost was reckoned last, with this cost.
 #[derive(Drop)]
 pub struct Period {
-    nodes: Vec<Node>,
+    supply: Supply,
     watts: i64,
+    gainful: i64,
+    worthwhile: i64,
     base: i64,
     floor: i64,
     power: i64,
@@ -35,14 +29,6 @@ pub struct Period {
     pub(crate) reserve: i64,
     pub reserve_rate: i64,
     pub(crate) is_tight: bool,
-}
-
-/// How far the period is filled in the order of merit: all before the place, and so many watts there.
-#[derive(Clone, Copy)]
-pub(crate) struct Fill {
-    pub place: usize,
-    pub left: i64,
-    pub cost: i64,
 }
 
 /// What one unit adds to a period.
@@ -82,10 +68,11 @@ pub fn mixed(mark: u64, number: u64) -> u64 {
 impl Period {
     /// A period without units, for so many segments. The only error is `NoMemory`.
     pub(crate) fn new(alloc: Global, segments: usize) -> Result<Period, NoMemory> {
-        let nodes = vec![in alloc; EMPTY; segments.saturating_add(1)]?;
         Ok(Period {
-            nodes,
+            supply: Supply::new(alloc, segments)?,
             watts: 0,
+            gainful: 0,
+            worthwhile: 0,
             base: 0,
             floor: 0,
             power: 0,
@@ -102,8 +89,10 @@ impl Period {
 
     /// Takes all units away, and the mark of hardly any reserve.
     pub(crate) fn clear(&mut self) {
-        self.nodes.fill(EMPTY);
+        self.supply.clear();
         self.watts = 0;
+        self.gainful = 0;
+        self.worthwhile = 0;
         self.base = 0;
         self.floor = 0;
         self.power = 0;
@@ -144,62 +133,42 @@ impl Period {
         self.floor = self.floor.saturating_add(floor.saturating_mul(sign));
         self.power = self.power.saturating_add(window.low.saturating_mul(sign));
         self.heads = self.heads.saturating_add(window.head.saturating_mul(sign));
+        let needed = self.needed_with(&NOTHING);
+        self.supply.set_mark(needed);
     }
 
-    // Adds watts and cost at a place.
+    // Adds watts and their cost at a place.
     fn add(&mut self, market: &Market, place: usize, watts: i64, cost: i64) {
         self.watts = self.watts.saturating_add(watts);
-        let mut i = place.saturating_add(1);
-        for _ in 0..=market.strides.len() {
-            let Some(node) = self.nodes.get_mut(i) else {
-                break;
-            };
-            node.watts = node.watts.saturating_add(watts);
-            node.cost = node.cost.saturating_add(cost);
-            let rest = i & i.saturating_sub(1);
-            i = i.saturating_add(i.saturating_sub(rest));
+        if place < market.gainful {
+            self.gainful = self.gainful.saturating_add(watts);
         }
+        if place < market.worthwhile {
+            self.worthwhile = self.worthwhile.saturating_add(watts);
+        }
+        self.supply.add(place, watts, cost);
     }
 
     /// The watts before a place in the order of merit.
-    pub(crate) fn watts_before(&self, market: &Market, place: usize) -> i64 {
-        let mut watts: i64 = 0;
-        let mut i = place;
-        for _ in 0..=market.strides.len() {
-            if i == 0 {
-                break;
-            }
-            if let Some(node) = self.nodes.get(i) {
-                watts = watts.saturating_add(node.watts);
-            }
-            i &= i.saturating_sub(1);
-        }
-        watts
+    pub(crate) fn watts_before(&self, place: usize) -> i64 {
+        self.supply.watts_before(place)
+    }
+
+    /// The place at which so many watts end in the order of merit.
+    pub(crate) fn place_of(&self, watts: i64) -> usize {
+        self.supply.filled(watts).place
     }
 
     /// Fills so many watts in the order of merit. What is lacking has its price.
     pub(crate) fn fill(&self, market: &Market, watts: i64) -> Fill {
-        let mut place: usize = 0;
-        let mut left = watts;
-        let mut cost: i64 = 0;
-        for stride in &market.strides {
-            let next = place.saturating_add(*stride);
-            if let Some(node) = self.nodes.get(next) {
-                // Without a branch, which would be guessed wrong half the time.
-                let is_taken = node.watts <= left;
-                left = left.wrapping_sub(if is_taken { node.watts } else { 0 });
-                cost = cost.wrapping_add(if is_taken { node.cost } else { 0 });
-                place = if is_taken { next } else { place };
-            }
-        }
-        let rate = match market.rates.get(place) {
+        let fill = self.supply.filled(watts);
+        let rate = match market.rates.get(fill.place) {
             Some(rate) => *rate,
             None => market.scarcity,
         };
         Fill {
-            place,
-            left,
-            cost: cost.saturating_add(cost_of(rate, left)),
+            cost: fill.cost.saturating_add(cost_of(rate, fill.left)),
+            ..fill
         }
     }
 
@@ -230,12 +199,10 @@ impl Period {
     /// The same of those that cost less than unserved demand, as far as there are any.
     pub(crate) fn worth_with(&self, market: &Market, other: &Addition) -> i64 {
         let served = self.served_with(market, other);
-        if !market.may_shed() {
-            served
-        } else if market.worthwhile == market.rates.len() {
-            served.min(self.watts)
+        if market.may_shed() {
+            served.min(self.worthwhile)
         } else {
-            served.min(self.watts_before(market, market.worthwhile))
+            served
         }
     }
 
@@ -246,8 +213,7 @@ impl Period {
         if market.gainful == 0 {
             return worth;
         }
-        let gainful = self.watts_before(market, market.gainful);
-        gainful.min(self.room_with(other)).max(worth)
+        self.gainful.min(self.room_with(other)).max(worth)
     }
 
     // What the demand costs that stays unserved with another unit where so many watts are given above the floor.

@@ -59,6 +59,13 @@ pub struct Limits {
     pub head: i64,
 }
 
+impl Limits {
+    /// Whether two are the same.
+    pub(crate) fn is(&self, other: &Limits) -> bool {
+        self.most == other.most && self.head == other.head
+    }
+}
+
 impl Unit {
     /// What repairs know of the unit of this number, without its curve, what hangs on that, and what starts cost.
     pub fn new(alloc: Global, unit: &Thermal, number: usize) -> Unit {
