@@ -53,18 +53,19 @@ pub struct Cut {
 }
 
 /// The cuts, and the products of their slopes over the prices that move freely; how many prices may be below 0, which come first; how many
-/// act on the whole system, which are these and as many after them, and then on each unit whose ramps can bind; by how much slopes are
-/// enlarged: those of the system, by 1, and then those of each such unit; the watts of a unit of slopes; the stride, in parts of `PART`;
+/// act on the whole system, which are these and as many after them, and then on each unit whose ramps can bind; by how much the slopes in
+/// each price are enlarged, those of the system by 1; how often a watt is doubled to a unit of slopes; the stride, in parts of `PART`;
 /// the most cuts that are kept; a price that is held; and how high the prices that may be below 0, and the others that act on the whole
-/// system, may rise.
+/// system, may rise. Cuts that were given up are spare: new ones take their memory.
 #[derive(Drop)]
 pub struct Bundle {
     cuts: Vec<Cut>,
+    spare: Vec<Cut>,
     products: Products,
     free: usize,
     system: usize,
     metrics: Vec<i64>,
-    unit: i64,
+    doublings: u32,
     stride: i64,
     most: usize,
     held: Option<usize>,
@@ -95,11 +96,12 @@ impl Bundle {
         let units = instance.thermal.as_slice().len();
         Ok(Bundle {
             cuts: Vec::new(alloc),
+            spare: Vec::new(alloc),
             products: Products::none(alloc),
             free: periods,
             system: periods.saturating_mul(2),
             metrics: metrics(alloc, instance, ramped)?,
-            unit: slope_unit(instance),
+            doublings: doublings_of(instance),
             stride: 1,
             held: None,
             caps: (i64::MAX, i64::MAX),
@@ -171,10 +173,9 @@ impl Bundle {
 
     /// Makes slopes of the watts that lack of what each price is of.
     pub fn make_slopes(&self, watts: &mut [i64]) {
-        let unit = self.unit.max(1);
         for (i, own) in watts.iter_mut().enumerate() {
             let enlarged = own.saturating_mul(self.metric_at(i));
-            *own = (enlarged / unit).max(-STEEPEST).min(STEEPEST);
+            *own = slope_of(enlarged, self.doublings);
         }
         if let Some(place) = self.held {
             if let Some(own) = watts.get_mut(place) {
@@ -183,9 +184,14 @@ impl Bundle {
         }
     }
 
+    // The watts of a unit of slopes.
+    fn unit(&self) -> i64 {
+        1 << self.doublings.min(DOUBLINGS)
+    }
+
     // By how much the slopes in price i are enlarged.
     fn metric_at(&self, i: usize) -> i64 {
-        at(&self.metrics, i / self.system.max(1)).max(1)
+        at(&self.metrics, i).max(1)
     }
 
     /// The move from the centre, at which the bound is some `size`.
@@ -222,6 +228,10 @@ impl Bundle {
 
     // The move of price i, by the weighted sum of the cuts' slopes in it.
     fn move_of(&self, i: usize, price: i64, sum: i64) -> i64 {
+        // Most prices of ramps stay at 0.
+        if i >= self.free && price == 0 && sum <= 0 {
+            return 0;
+        }
         let mean = (sum / PART).saturating_mul(self.metric_at(i));
         let by = narrow(times(self.stride, mean) / i128::from(WHOLE));
         if i >= self.free && price.saturating_add(by) <= 0 {
@@ -252,7 +262,7 @@ impl Bundle {
         moves: &[i64],
         size: i128,
     ) -> Result<(), NoMemory> {
-        let reach = self.stride.saturating_mul(self.unit);
+        let reach = self.stride.saturating_mul(self.unit());
         let active = self.active(alloc, center, moves)?;
         self.recount(alloc, &active)?;
         let mut heights = self.heights(alloc, moves, &active, reach)?;
@@ -307,13 +317,20 @@ impl Bundle {
     fn are_same_bounds(&self, center: &[i64], first: &[i64], second: &[i64]) -> bool {
         let mut changed: usize = 0;
         for (i, (price, (a, b))) in center.iter().zip(first.iter().zip(second)).enumerate() {
-            let (one, other) = (price.saturating_add(*a), price.saturating_add(*b));
-            let cap = self.cap_of(i);
-            if (one == 0) != (other == 0) || (one == cap) != (other == cap) {
+            // Most prices don't move at all.
+            if *a != *b
+                && self.is_one_at_end(i, price.saturating_add(*a), price.saturating_add(*b))
+            {
                 changed = changed.saturating_add(1);
             }
         }
         changed.saturating_mul(10_000) <= center.len()
+    }
+
+    // Whether one of two values of price i is 0 or its cap and the other one isn't.
+    fn is_one_at_end(&self, i: usize, first: i64, second: i64) -> bool {
+        let cap = self.cap_of(i);
+        (first == 0) != (second == 0) || (first == cap) != (second == cap)
     }
 
     // The ends by these heights.
@@ -403,7 +420,7 @@ impl Bundle {
         }
         change
             .wrapping_add(enlarged / i128::from(metric.max(1)))
-            .saturating_mul(i128::from(self.unit))
+            .saturating_mul(i128::from(self.unit()))
     }
 
     // By how much the bound rises at most with the moves, by the cuts that have weight.
@@ -456,7 +473,7 @@ impl Bundle {
         if self.cuts.len() > self.most {
             let (lightest, least) = self.lightest();
             if least < LIGHT {
-                self.give_up(lightest);
+                self.give_up(lightest)?;
             } else {
                 self.merge(alloc)?;
             }
@@ -479,13 +496,28 @@ impl Bundle {
     }
 
     // Gives up a cut, and its weight to the newest one.
-    fn give_up(&mut self, k: usize) {
+    fn give_up(&mut self, k: usize) -> Result<(), NoMemory> {
         if k < self.cuts.len() {
-            let lost = self.cuts.remove(k).weight;
+            let lost = self.cuts.remove(k);
             self.products.give_up(k);
             if let Some(cut) = self.cuts.last_mut() {
-                cut.weight = cut.weight.saturating_add(lost);
+                cut.weight = cut.weight.saturating_add(lost.weight);
             }
+            self.spare.push(lost)?;
+        }
+        Ok(())
+    }
+
+    /// Memory for a cut: that of one that was given up, with numbers that mean nothing, if there is one.
+    pub fn memory(&mut self, alloc: Global) -> Cut {
+        match self.spare.pop() {
+            Some(cut) => cut,
+            None => Cut {
+                slopes: Vec::new(alloc),
+                error: 0,
+                weight: 0,
+                shares: Vec::new(alloc),
+            },
         }
     }
 
@@ -496,7 +528,9 @@ impl Bundle {
         let mut mean = self.mean_of(alloc, old)?;
         for _ in 0..old {
             if !self.cuts.is_empty() {
-                mean.weight = mean.weight.saturating_add(self.cuts.remove(0).weight);
+                let cut = self.cuts.remove(0);
+                mean.weight = mean.weight.saturating_add(cut.weight);
+                self.spare.push(cut)?;
             }
         }
         self.cuts.insert(0, mean)?;
@@ -520,7 +554,7 @@ impl Bundle {
     }
 
     // The weighted mean of the first cuts, without weight.
-    fn mean_of(&self, alloc: Global, count: usize) -> Result<Cut, NoMemory> {
+    fn mean_of(&mut self, alloc: Global, count: usize) -> Result<Cut, NoMemory> {
         let mut mean = self.nothing(alloc)?;
         for cut in self.cuts.iter().take(count) {
             mean.add(cut);
@@ -530,17 +564,19 @@ impl Bundle {
     }
 
     // A cut of noughts, as long as the others.
-    fn nothing(&self, alloc: Global) -> Result<Cut, NoMemory> {
+    fn nothing(&mut self, alloc: Global) -> Result<Cut, NoMemory> {
         let (prices, cells) = match self.cuts.first() {
             Some(cut) => (cut.slopes.len(), cut.shares.len()),
             None => (0, 0),
         };
-        Ok(Cut {
-            slopes: vec![in alloc; 0_i64; prices]?,
-            error: 0,
-            weight: 0,
-            shares: vec![in alloc; 0_i64; cells]?,
-        })
+        let mut cut = self.memory(alloc);
+        cut.slopes.clear();
+        cut.slopes.resize(prices, 0)?;
+        cut.shares.clear();
+        cut.shares.resize(cells, 0)?;
+        cut.error = 0;
+        cut.weight = 0;
+        Ok(cut)
     }
 }
 
@@ -572,17 +608,19 @@ fn divide(numbers: &mut [i64], by: i64) {
     }
 }
 
-// By how much slopes are enlarged: those of the system, and those of each unit whose ramps can bind.
+// By how much the slopes in each price are enlarged: in those of the system, and in those of each unit whose ramps can bind.
 fn metrics(alloc: Global, instance: &Instance, ramped: &[u32]) -> Result<Vec<i64>, NoMemory> {
     let units = instance.thermal.as_slice();
     let mut all: i64 = 0;
     for unit in units {
         all = all.saturating_add(range_of(unit));
     }
-    let mut metrics = vec![in alloc; 1_i64; 1]?;
+    let count = (instance.periods as usize).saturating_mul(2);
+    let mut metrics = vec![in alloc; 1_i64; count]?;
     for g in ramped {
         if let Some(unit) = units.get(*g as usize) {
-            metrics.push(metric(all, range_of(unit)))?;
+            let end = metrics.len().saturating_add(count);
+            metrics.resize(end, metric(all, range_of(unit)))?;
         }
     }
     Ok(metrics)
@@ -600,8 +638,8 @@ fn range_of(unit: &Thermal) -> i64 {
     unit.pmax.saturating_sub(unit.pmin)
 }
 
-// The least power of two of which a million are no less than any period's demand and all units' greatest output.
-fn slope_unit(instance: &Instance) -> i64 {
+// How often a watt is doubled until a million of it are no less than any period's demand and all units' greatest output.
+fn doublings_of(instance: &Instance) -> u32 {
     let mut most: i64 = 1;
     for unit in instance.thermal.as_slice() {
         most = most.saturating_add(unit.pmax);
@@ -609,13 +647,24 @@ fn slope_unit(instance: &Instance) -> i64 {
     for demand in instance.demand.as_slice() {
         most = most.max(demand.saturating_abs());
     }
-    let mut unit: i64 = 1;
-    for _ in 0..DOUBLINGS {
-        if most / unit.max(1) > STEEPEST {
-            unit = unit.saturating_mul(2);
+    for doublings in 0..DOUBLINGS {
+        if most >> doublings <= STEEPEST {
+            return doublings;
         }
     }
-    unit
+    DOUBLINGS
+}
+
+// The slope of so many watts where a unit of it is a watt doubled so often, toward 0 and kept within the steepest. A shift takes a
+// tenth of the time of a division.
+fn slope_of(watts: i64, doublings: u32) -> i64 {
+    let units = watts.unsigned_abs() >> doublings.min(DOUBLINGS);
+    let slope = units.min(STEEPEST.unsigned_abs()) as i64;
+    if watts < 0 {
+        slope.saturating_neg()
+    } else {
+        slope
+    }
 }
 
 // The moves of the prices that don't count.

@@ -33,8 +33,9 @@ impl Products {
             self.forget(alloc, cuts.len(), active.len())?;
         }
         let changes = changes(alloc, &self.counted, active)?;
+        let mut slopes = vec![in alloc; 0_i64; cuts.len()]?;
         for (i, counts) in &changes {
-            self.turn(alloc, cuts, *i, *counts)?;
+            self.turn(cuts, *i, *counts, &mut slopes);
         }
         Ok(())
     }
@@ -49,26 +50,18 @@ impl Products {
         Ok(())
     }
 
-    // Counts price i, or counts it no longer.
-    fn turn(
-        &mut self,
-        alloc: Global,
-        cuts: &[Cut],
-        i: usize,
-        counts: bool,
-    ) -> Result<(), NoMemory> {
-        let mut slopes = Vec::new(alloc);
-        for cut in cuts {
-            slopes.push(at(&cut.slopes, i))?;
+    // Counts price i, or counts it no longer. The cuts' slopes in it go into a list that is lent.
+    fn turn(&mut self, cuts: &[Cut], i: usize, counts: bool, slopes: &mut [i64]) {
+        for (own, cut) in slopes.iter_mut().zip(cuts) {
+            *own = at(&cut.slopes, i);
         }
-        for (row, slope) in self.rows.iter_mut().zip(&slopes) {
+        for (row, slope) in self.rows.iter_mut().zip(slopes.iter()) {
             let slope = if counts { *slope } else { slope.wrapping_neg() };
-            add_multiple(row, &slopes, slope);
+            add_multiple(row, slopes, slope);
         }
         if let Some(own) = self.counted.get_mut(i) {
             *own = counts;
         }
-        Ok(())
     }
 
     /// Adds the row of the last of the cuts, which is new.
