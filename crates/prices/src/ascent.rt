@@ -13,6 +13,7 @@ use dual_model::{Node, Table};
 use opening_tables::SCALE;
 use quick_value::{Caps, Decisions, Evaluation, Evaluator};
 use std::alloc::Global;
+use std::mem;
 use uc_model::{Instance, NoMemory, Thermal};
 
 /// After how many evaluations without a gain the stride is shortened.
@@ -65,11 +66,12 @@ pub struct Ascent {
     pub cell: Option<(u32, u32)>,
 }
 
-// The best prices so far, their value, the cuts there, and how many evaluations have gained nothing since; and the cuts' mean shares, where
-// strides have been tried since the last evaluation, which leave the weights unsettled.
+// The best prices so far, those that were tried last, the value of the best, the cuts there, and how many evaluations have gained nothing
+// since; and the cuts' mean shares, where strides have been tried since the last evaluation, which leave the weights unsettled.
 #[derive(Drop)]
 struct Center {
     prices: Vec<i64>,
+    tried: Vec<i64>,
     value: i128,
     bundle: Bundle,
     nulls: u32,
@@ -179,15 +181,15 @@ impl Hill {
         )
     }
 
-    // The value at these prices, and none where a unit has no pattern at the node.
+    // The value at these prices, in the memory of another one, and none where a unit has no pattern at the node.
     fn evaluate(
         &mut self,
-        alloc: Global,
         instance: &Instance,
         prices: &[i64],
+        memory: Evaluation,
     ) -> Result<Option<Evaluation>, NoMemory> {
         self.evaluator
-            .evaluate(alloc, instance, &self.decisions, prices)
+            .evaluate(instance, &self.decisions, prices, memory)
     }
 }
 
@@ -323,7 +325,7 @@ pub(crate) fn top_from(
     instance: &Instance,
     start: Start,
 ) -> Result<Top, NoMemory> {
-    let Some(first) = hill.evaluate(alloc, instance, &start.prices)? else {
+    let Some(first) = hill.evaluate(instance, &start.prices, Evaluation::empty(alloc))? else {
         return Ok(Top {
             prices: start.prices,
             value: 0,
@@ -423,14 +425,15 @@ fn climb(
             settle(alloc, center)?;
             center.bundle.try_another_stride(step.predicted);
         } else {
-            let prices = moved(alloc, &center.prices, &step.moves)?;
-            match hill.evaluate(alloc, instance, &prices)? {
+            move_to(&mut center.tried, &center.prices, &step.moves)?;
+            let memory = memory_of(alloc, &mut center.bundle);
+            match hill.evaluate(instance, &center.tried, memory)? {
                 Some(found) if found.value > sizes.most => {
-                    center.prices = prices;
+                    mem::swap(&mut center.prices, &mut center.tried);
                     center.value = found.value;
                     break;
                 }
-                Some(found) => take(alloc, center, prices, found, &step)?,
+                Some(found) => take(alloc, center, found, &step)?,
                 None => break,
             }
         }
@@ -544,6 +547,7 @@ fn begin(
     bundle.begin(alloc, cut, rise)?;
     Ok(Center {
         prices,
+        tried: Vec::new(alloc),
         value,
         bundle,
         nulls: 0,
@@ -563,11 +567,10 @@ fn cut(bundle: &Bundle, found: Evaluation, weight: i64) -> Cut {
     }
 }
 
-// Takes what was found at the moved prices: the centre moves there where the value has risen enough.
+// Takes what was found at the prices that were tried: the centre moves there where the value has risen enough.
 fn take(
     alloc: Global,
     center: &mut Center,
-    prices: Vec<i64>,
     found: Evaluation,
     step: &Move,
 ) -> Result<(), NoMemory> {
@@ -580,7 +583,7 @@ fn take(
     center.shares.clear();
     if gain > step.predicted / 10 {
         center.bundle.recenter(&step.moved, gain);
-        center.prices = prices;
+        mem::swap(&mut center.prices, &mut center.tried);
         center.value = value;
         center.nulls = 0;
         lengthen(&mut center.bundle, gain, step.predicted);
@@ -611,13 +614,23 @@ fn shorten(center: &mut Center, gain: i128, predicted: i128) {
     }
 }
 
-// The prices after the moves.
-fn moved(alloc: Global, prices: &[i64], moves: &[i64]) -> Result<Vec<i64>, NoMemory> {
-    let mut moved = Vec::new(alloc);
+// Makes it the prices after the moves.
+fn move_to(moved: &mut Vec<i64>, prices: &[i64], moves: &[i64]) -> Result<(), NoMemory> {
+    moved.clear();
     for i in 0..prices.len().min(moves.len()) {
         moved.push(prices[i].saturating_add(moves[i]))?;
     }
-    Ok(moved)
+    Ok(())
+}
+
+// Memory for an evaluation: that of a cut that was given up, if there is one.
+fn memory_of(alloc: Global, bundle: &mut Bundle) -> Evaluation {
+    let Cut { slopes, shares, .. } = bundle.memory(alloc);
+    Evaluation {
+        value: 0,
+        lacks: slopes,
+        shares,
+    }
 }
 
 // Takes the mean shares of the cuts by their weights, if there are none since the last evaluation.

@@ -20,22 +20,17 @@ pub(crate) fn push_ramp_prices(
     ramped: &[u32],
 ) -> Result<(), NoMemory> {
     let periods = table.pi().len();
-    let mut first = prices.len();
-    for _ in ramped {
+    for g in ramped {
+        let first = prices.len();
         for _ in 0..periods {
             prices.push(0)?;
             prices.push(0)?;
         }
-    }
-    for unit in ramped {
-        for row in table.ramps() {
-            if row.g == *unit {
-                let up = first.saturating_add(row.t as usize);
-                set(prices, up, &row.up);
-                set(prices, up.saturating_add(periods), &row.down);
-            }
+        for row in table.unit_rows(*g) {
+            let up = first.saturating_add(row.t as usize);
+            set(prices, up, &row.up);
+            set(prices, up.saturating_add(periods), &row.down);
         }
-        first = first.saturating_add(periods.saturating_mul(2));
     }
     Ok(())
 }

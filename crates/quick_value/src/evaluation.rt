@@ -46,38 +46,6 @@ fn add_range(unit: &Renewable, ranges: &mut [Range]) {
     }
 }
 
-/// What demand, reserve and renewable units lack by themselves, and their value. There is room for so many prices. The only error is
-/// `NoMemory`.
-pub(crate) fn of_system(
-    alloc: Global,
-    instance: &Instance,
-    renewables: &[Range],
-    caps: Caps,
-    prices: &[i64],
-) -> Result<Evaluation, NoMemory> {
-    let mut lacks = Vec::new(alloc);
-    lacks.reserve(prices.len())?;
-    lacks.extend_from_slice(instance.demand.as_slice())?;
-    take_renewables(&mut lacks, renewables, prices);
-    lacks.extend_from_slice(instance.reserves.as_slice())?;
-    let mut value = value_of(&lacks, prices);
-    if caps.are_any() {
-        value = value.saturating_add(caps.take_missing(instance, prices, &mut lacks));
-    }
-    let mut shares = Vec::new(alloc);
-    let cells = instance
-        .thermal
-        .as_slice()
-        .len()
-        .saturating_mul(instance.periods as usize);
-    shares.reserve(cells)?;
-    Ok(Evaluation {
-        value,
-        lacks,
-        shares,
-    })
-}
-
 // Takes what renewable units give from what lacks of demand.
 fn take_renewables(lacks: &mut [i64], renewables: &[Range], prices: &[i64]) {
     for t in 0..lacks.len().min(renewables.len()).min(prices.len()) {
@@ -110,6 +78,41 @@ fn take_outputs(lacks: &mut [i64], minimum: i64, outputs: &[Output]) {
 }
 
 impl Evaluation {
+    /// Memory for an evaluation, of which none is taken yet.
+    pub fn empty(alloc: Global) -> Evaluation {
+        Evaluation {
+            value: 0,
+            lacks: Vec::new(alloc),
+            shares: Vec::new(alloc),
+        }
+    }
+
+    /// Makes it what demand, reserve and renewable units lack by themselves, and their value, with room for so many prices. The only error
+    /// is `NoMemory`.
+    pub(crate) fn begin(
+        &mut self,
+        instance: &Instance,
+        renewables: &[Range],
+        caps: Caps,
+        prices: &[i64],
+    ) -> Result<(), NoMemory> {
+        self.lacks.clear();
+        self.lacks.reserve(prices.len())?;
+        self.lacks.extend_from_slice(instance.demand.as_slice())?;
+        take_renewables(&mut self.lacks, renewables, prices);
+        self.lacks.extend_from_slice(instance.reserves.as_slice())?;
+        self.value = value_of(&self.lacks, prices);
+        if caps.are_any() {
+            let missing = caps.take_missing(instance, prices, &mut self.lacks);
+            self.value = self.value.saturating_add(missing);
+        }
+        let units = instance.thermal.as_slice().len();
+        self.shares.clear();
+        self.shares
+            .reserve(units.saturating_mul(instance.periods as usize))?;
+        Ok(())
+    }
+
     /// Adds a unit that gives so much.
     pub(crate) fn add(&mut self, unit: &Unit, outputs: &[Output]) -> Result<(), NoMemory> {
         for output in outputs {

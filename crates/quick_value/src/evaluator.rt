@@ -6,7 +6,7 @@ use crate::amounts::PART;
 use crate::caps::Caps;
 use crate::cells::fill;
 use crate::decisions::{Choice, Decisions};
-use crate::evaluation::{Evaluation, Range, of_system, renewable_ranges};
+use crate::evaluation::{Evaluation, Range, renewable_ranges};
 use crate::outputs::{NOTHING, Output, fill_outputs};
 use crate::prices::{FREE, Price, fill_common, fill_ramped, has_ramp_price};
 use crate::unit::{Unit, unit_at};
@@ -77,15 +77,17 @@ impl Evaluator {
         Ok(ramped)
     }
 
-    /// What the node with these decisions is worth at the prices, and none where a unit has no pattern. The only error is `NoMemory`.
+    /// What the node with these decisions is worth at the prices, in the memory of another evaluation, and none where a unit has no pattern.
+    /// The only error is `NoMemory`.
     pub fn evaluate(
         &mut self,
-        alloc: Global,
         instance: &Instance,
         decisions: &Decisions,
         prices: &[i64],
+        memory: Evaluation,
     ) -> Result<Option<Evaluation>, NoMemory> {
-        let mut found = of_system(alloc, instance, &self.renewables, self.caps, prices)?;
+        let mut found = memory;
+        found.begin(instance, &self.renewables, self.caps, prices)?;
         fill_common(&mut self.common, prices);
         let mut first = self.common.len().saturating_mul(2);
         let mut sum: i128 = 0;
