@@ -1,4 +1,8 @@
 -- The laws.
+use Rattle.std.proofs.Common.{List, ◌⊎◌, inl, inr}
+use Rattle.dispatch_repair.specs.Stuck.{IsDispatchOf, IsStuckOf}
+use Rattle.dispatch_repair.proofs.Endings.{IsEnded, dispatched, stuck, ended}
+use Rattle.one_dispatch.specs.OneDispatch.{Instance, Pattern, Printed, Stuck}
 use Rattle.one_dispatch.proofs.Periods.{never_both, one_dispatch, one_period_stuck}
 use Rattle.one_dispatch.proofs.commitments_have_one_dispatch.Goals as goal
 
@@ -10,3 +14,11 @@ returns-clause-never_both c = never_both
 
 pub returns-clause-one_period : goal.returns-clause-one_period
 returns-clause-one_period c = one_period_stuck
+
+pub returns-clause-ends : goal.returns-clause-ends
+returns-clause-ends c = λ instance patterns order lawful merit regular. ended_so (ended instance patterns order lawful merit regular)
+  where
+    ended_so : {instance : Instance} {patterns : List Pattern} → IsEnded instance patterns
+        → ((printed : Printed) × IsDispatchOf instance patterns printed) ⊎ ((reason : Stuck) × IsStuckOf instance patterns reason)
+    ended_so (dispatched printed is) = inl (printed, is)
+    ended_so (stuck reason is) = inr (reason, is)
