@@ -10,7 +10,8 @@ pub use Rattle.uc_model.specs.declared.pattern.Pattern.{Pattern}
 pub use Rattle.uc_model.specs.declared.schedule.Printed.{Printed}
 pub use Rattle.uc_model.specs.declared.stuck.Stuck.{Stuck}
 use Rattle.schedule_check.specs.SizedNumbers.{output_at}
-use Rattle.dispatch_repair.specs.Segments.{Segment, AreInMeritOrder}
+use Rattle.dispatch_repair.specs.Segments.{AreInMeritOrder}
+use Rattle.dispatch_repair.specs.declared.segment.Segment.{Segment}
 use Rattle.dispatch_repair.specs.Stuck.{IsRegular, IsDispatchOf, IsStuckOf}
 
 -- the schedules have the same cells, the same outputs of renewable units, and the same that is missing
