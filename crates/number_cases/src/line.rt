@@ -5,7 +5,8 @@ ghost use Rattle.uc_model.specs.Limits.{IsLawfulInstance};
 use crate::Answer;
 use crate::demo::tell_demo;
 use crate::dispatch::{tell_dispatch, tell_most_on, tell_priced};
-use crate::node::tell_node;
+use crate::interval::tell_interval;
+use crate::node::{tell_child, tell_node};
 use crate::system::{changed, unit_changed};
 use crate::table::{tell_rays, tell_step, tell_zero};
 use crate::unit::tell_unit;
@@ -66,6 +67,8 @@ fn answer_of(alloc: Global, instance: &Instance, word: &str, rest: &str) -> Answ
         "rays" => tell_rays(alloc, instance),
         "step" => tell_step(alloc, instance, rest),
         "node" => tell_node(alloc, instance, rest),
+        "child" => tell_child(alloc, instance, rest),
+        "interval" => tell_interval(alloc, instance, rest),
         _ => tell_unit(alloc, instance, word, rest),
     }
 }

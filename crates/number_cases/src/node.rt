@@ -1,14 +1,16 @@
 //! Nodes, and their values.
 
-ghost use Rattle.std.specs.Prelude.{◌↔◌, IfOk, IsTrue};
+ghost use Rattle.std.specs.Prelude.{◌≡◌, ◌↔◌, IfOk, IsTrue};
 ghost use Rattle.uc_model.specs.declared.instance.Instance.{Instance};
 ghost use Rattle.uc_model.specs.Limits.{IsLawfulInstance};
-ghost use Rattle.dual_model.specs.Fixings.{IsNodeOf};
+ghost use Rattle.dual_model.specs.Fixings.{IsCell, IsNodeOf};
 ghost use Rattle.dual_model.specs.Prices.{HasSizeOf, IsLawfulTable, IsWithinLimits};
+ghost use Rattle.dual_model.specs.Tree.{child as child_of};
+ghost use Rattle.dual_value.specs.NodeAnswer.{HasSizes, IsValued};
 
 use crate::Answer;
 use dual_model::{Fixing, Node, Table};
-use dual_value::{ValueFault, Valued, value};
+use dual_value::{Inherited, Room, ValueFault, Valued, child, value};
 use std::alloc::{AllocError, Global};
 use uc_model::{Instance, List, NoMemory};
 use unit_path::Scratch;
@@ -72,12 +74,90 @@ fn node_text(alloc: Global, instance: &Instance, node: &Node, price: i32) -> Ans
     evaluation_text(alloc, evaluation, true)
 }
 
+/// The value of a node at a price of demand, as `PRICE DECISION..` says, from its parent's, which lacks the last decision.
+pub(crate) fn tell_child(alloc: Global, instance: &Instance, words: &str) -> Answer
+    requires { IsLawfulInstance instance.now }
+{
+    let (words, last) = words.rsplit_once(' ').unwrap_or((words, ""));
+    let (price, decisions) = words.split_once(' ').unwrap_or((words, ""));
+    let price = price.parse::<i32>().unwrap_or(0);
+    let parent = node(alloc, decisions)?;
+    match decision(last) {
+        Some(fixing) if is_node_of(instance, &parent) && is_cell_of(instance, &fixing) => {
+            child_text(alloc, instance, &parent, &fixing, price)
+        }
+        _ => Ok(String::from_str(alloc, "no such cell\n")?),
+    }
+}
+
+// The value of a node with a decision more than its parent, at a price of demand.
+fn child_text(
+    alloc: Global,
+    instance: &Instance,
+    parent: &Node,
+    fixing: &Fixing,
+    price: i32,
+) -> Answer
+    requires lawful { IsLawfulInstance instance.now }
+    requires parent { IsNodeOf instance.now parent.now }
+    requires cell { IsCell instance.now fixing.now.g fixing.now.t }
+{
+    let table = table(alloc, instance, price)?;
+    let evaluation = match valued(alloc, instance, parent, &table) {
+        Ok(valued) => child_valued(alloc, instance, parent, fixing, &table, &valued),
+        Err(fault) => Err(fault),
+    };
+    evaluation_text(alloc, evaluation, true)
+}
+
+// The value of a node with a decision more than its parent, of which the value at the table is known.
+fn child_valued(
+    alloc: Global,
+    instance: &Instance,
+    parent: &Node,
+    fixing: &Fixing,
+    table: &Table,
+    valued: &Valued,
+) -> Evaluation
+    requires lawful { IsLawfulInstance instance.now }
+    requires parent { IsNodeOf instance.now parent.now }
+    requires cell { IsCell instance.now fixing.now.g fixing.now.t }
+    requires size { HasSizeOf instance.now table.now }
+    requires limits { IsWithinLimits table.now }
+    requires value { IsValued instance.now parent.now table.now valued.now }
+    requires sizes { HasSizes valued.now }
+{
+    let node = with_decision(alloc, parent, fixing)?;
+    let mut scratch = Scratch::new(alloc, instance.periods as usize)?;
+    let mut room = Room::new(alloc, instance)?;
+    let inherited = Inherited {
+        table,
+        parent: valued,
+        g: fixing.g,
+    };
+    child(alloc, &mut scratch, &mut room, instance, &node, &inherited)
+}
+
+// The node with a decision more.
+fn with_decision(alloc: Global, parent: &Node, fixing: &Fixing) -> Result<Node, NoMemory>
+    ensures { IfOk result (λ node. node ≡ child_of parent.now fixing.now.g fixing.now.t fixing.now.on) }
+{
+    let mut fixings = Vec::new(alloc);
+    fixings.extend_from_slice(parent.fixings.as_slice())?;
+    fixings.push(*fixing)?;
+    Ok(Node {
+        fixings: List::from_vec(fixings),
+    })
+}
+
 // The value of a node at a table.
 fn valued(alloc: Global, instance: &Instance, node: &Node, table: &Table) -> Evaluation
     requires lawful { IsLawfulInstance instance.now }
     requires node { IsNodeOf instance.now node.now }
     requires size { HasSizeOf instance.now table.now }
     requires limits { IsWithinLimits table.now }
+    ensures value { IfOk result (IsValued instance.now node.now table.now) }
+    ensures sizes { IfOk result HasSizes }
 {
     let mut scratch = Scratch::new(alloc, instance.periods as usize)?;
     value(alloc, &mut scratch, instance, node, table)
@@ -139,4 +219,11 @@ fn is_node_of(instance: &Instance, node: &Node) -> bool
     let units = instance.thermal.as_slice().len();
     node.fixings.as_slice().iter().all(|fixing| (fixing.g as usize) < units
         && fixing.t < instance.periods)
+}
+
+// Whether a decision is on a cell of the instance.
+fn is_cell_of(instance: &Instance, fixing: &Fixing) -> bool
+    ensures { IsTrue result ↔ IsCell instance.now fixing.now.g fixing.now.t }
+{
+    (fixing.g as usize) < instance.thermal.as_slice().len() && fixing.t < instance.periods
 }

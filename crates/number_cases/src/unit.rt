@@ -28,8 +28,8 @@ pub(crate) fn tell_unit(alloc: Global, instance: &Instance, word: &str, rest: &s
     }
 }
 
-// The first thermal unit, if there is one.
-fn first_unit(instance: &Instance) -> Option<&Thermal>
+/// The first thermal unit, if there is one.
+pub(crate) fn first_unit(instance: &Instance) -> Option<&Thermal>
     requires { IsLawfulInstance instance.now }
     ensures { IfSome result (λ unit. IsLawfulThermal unit.now) }
 {
@@ -100,8 +100,8 @@ fn tell_term(alloc: Global, unit: &Thermal, words: &str) -> Answer
     }
 }
 
-// A period, from 0, that a word tells from 1.
-fn period(word: &str) -> Option<usize> {
+/// A period, from 0, that a word tells from 1.
+pub(crate) fn period(word: &str) -> Option<usize> {
     word.parse::<usize>().ok()?.checked_sub(1)
 }
 

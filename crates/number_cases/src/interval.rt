@@ -1,0 +1,66 @@
+//! What intervals of on hours cost the first unit of a system, where nothing has a price.
+
+ghost use Rattle.std.specs.Prelude.{◌≡◌, ◌<◌, ◌≤◌, ℕ, IfOk, length};
+ghost use Rattle.uc_model.specs.Limits.{IsLawfulInstance, IsLawfulThermal};
+ghost use Rattle.uc_model.specs.Terms.{period_count};
+ghost use Rattle.dual_model.specs.TableValue.{IsLawfulRow, row_at};
+ghost use Rattle.dual_model.specs.UnitTerms.{AreSizedTerms};
+
+use crate::Answer;
+use crate::unit::{first_unit, period};
+use cost_curves::Curve;
+use interval_graph::Intervals;
+use period_term::terms;
+use std::alloc::Global;
+use uc_model::limits::MAX_PERIODS;
+use uc_model::{Instance, NoMemory, Terms, Thermal};
+
+/// What the hours of an interval cost, as `FIRST LAST` says.
+pub(crate) fn tell_interval(alloc: Global, instance: &Instance, words: &str) -> Answer
+    requires { IsLawfulInstance instance.now }
+{
+    let (first, last) = words.split_once(' ').unwrap_or((words, ""));
+    let periods = instance.periods as usize;
+    match (first_unit(instance), period(first), period(last)) {
+        (Some(unit), Some(a), Some(b)) if a <= b && b < periods => {
+            interval_text(alloc, unit, periods, a, b)
+        }
+        _ => Ok(String::from_str(alloc, "no such interval\n")?),
+    }
+}
+
+// What the hours from period a to period b cost.
+fn interval_text(alloc: Global, unit: &Thermal, periods: usize, a: usize, b: usize) -> Answer
+    requires lawful { IsLawfulThermal unit.now }
+    requires periods { periods ≤ MAX_PERIODS }
+    requires order { a ≤ b }
+    requires within { b < periods }
+{
+    let terms = free_terms(alloc, unit, periods)?;
+    let mut intervals = Intervals::new(alloc, periods)?;
+    intervals.fill(&terms);
+    match intervals.cost(a, b) {
+        Some(cost) => Ok(format!(in alloc; "cost {cost}\n")?),
+        None => Ok(String::from_str(alloc, "no cost\n")?),
+    }
+}
+
+// The unit's terms at the scale of a million, where nothing has a price.
+fn free_terms(alloc: Global, unit: &Thermal, periods: usize) -> Result<Terms, NoMemory>
+    requires lawful { IsLawfulThermal unit.now }
+    requires periods { (1 ≤ periods) × (periods ≤ MAX_PERIODS) }
+    ensures sized { IfOk result (AreSizedTerms unit.now) }
+    ensures periods { IfOk result (λ terms. period_count terms ≡ periods) }
+{
+    let curve = Curve::of(alloc, unit.points.as_slice())?;
+    let rows = free_rows(alloc, periods)?;
+    terms(alloc, unit, &curve, 1_000_000, &rows)
+}
+
+// Prices of 0 in each period.
+fn free_rows(alloc: Global, periods: usize) -> Result<Vec<(i128, i128, i128)>, NoMemory>
+    ensures count { IfOk result (λ rows. length rows.items ≡ periods) }
+    ensures rows { IfOk result (λ rows. (t : ℕ) → t < length rows.items → IsLawfulRow (row_at rows.items t)) }
+{
+    Ok(vec![in alloc; (0, 0, 0); periods]?)
+}
