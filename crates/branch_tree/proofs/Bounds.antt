@@ -1,10 +1,10 @@
 -- The least stored bound: below each leaf's, and the greatest such; what the leaves store bounds the cost, and leaves no schedule where none stores a bound.
-use Rattle.std.proofs.Common.{◌≡◌, ℕ, ◌⊎◌, true, false, List, length, get_or, map, ℤ, refl, ap, sym, ◌∙◌, subst, arith, ⊎_elim, Option, Some, None, slice_get, inl, inr, ◌≤ℤ◌}
+use Rattle.std.proofs.Common.{◌≡◌, ℕ, ◌⊎◌, Bool, true, false, List, length, get_or, map, ℤ, refl, ap, sym, ◌∙◌, subst, arith, ⊎_elim, Option, Some, None, slice_get, inl, inr, ◌≤ℤ◌}
 use Rattle.std.proofs.lemmas.List.{get_or-map}
 use Rattle.std.proofs.lemmas.Option.{slice_get_within, slice_get-get_or, get_or_from_slice_get}
 use Rattle.uc_model.proofs.Ring.{linear}
 use Rattle.dual_model.specs.Tree.{root, child, Ends, Splits, map_leaves, EachLeaf}
-use Rattle.dual_model.specs.Fixings.{HasEmptyUnit}
+use Rattle.dual_model.specs.ValueKind.{HasBlockedUnit}
 use Rattle.dual_model.specs.Tree as branch
 use Rattle.dual_model.specs.Cover.{IsBoundedBy, HasBoundOf, IsExcluded, LeafHolds}
 use Rattle.dual_model.specs.Laws.{IsClaimTrue}
@@ -102,25 +102,27 @@ least_is_bound a value least seen stored is =
 
 -- ---- What the leaves store bounds the cost, and leaves no schedule where none stores a bound.
 -- a table that bounds by more bounds by less
-lower_bound : (instance : Instance) (tables : List Table) (node : Node) (table : ℕ) (value b : ℤ) → b ≤ℤ value
-    → IsBoundedBy false instance tables node table value → IsBoundedBy false instance tables node table b
-lower_bound instance tables node table value b below h = record {
+lower_bound : (exact : Bool) (instance : Instance) (tables : List Table) (node : Node) (table : ℕ) (value b : ℤ) → b ≤ℤ value
+    → IsBoundedBy exact instance tables node table value → IsBoundedBy exact instance tables node table b
+lower_bound exact instance tables node table value b below h = record {
   table = h.table;
   is_table = h.is_table;
   scale = h.scale;
   bounds = ⊎_elim
-      (λ (has : HasBoundOf false instance node h.table value).
+      (λ (has : HasBoundOf exact instance node h.table value).
       inl (record { bound = has.bound; is_bound = has.is_bound; enough = (omega (arith, linear, has.enough)) }))
-      (λ (empty : HasEmptyUnit instance node). inr empty)
+      (λ (blocked : HasBlockedUnit exact instance node). inr blocked)
       h.bounds;
 }
 
 leaf_holds : (instance : Instance) (tables : List Table) (node : Node) (b : ℤ) (leaf : Leaf) → AtMost (Some b) (least_bound (Ends leaf))
     → StoredHolds instance tables node leaf → LeafHolds instance tables b node (own_claim leaf)
-leaf_holds instance tables node b (leaf.Live table value) below h = lower_bound instance tables node table value b below h
-leaf_holds instance tables node b (leaf.Bound table value) below h = lower_bound instance tables node table value b below h
+leaf_holds instance tables node b (leaf.Live table value exact) below h = lower_bound exact instance tables node table value b below h
+leaf_holds instance tables node b (leaf.Bound table value exact) below h = lower_bound exact instance tables node table value b below h
 leaf_holds instance tables node b (leaf.Ray table) below h = h
 leaf_holds instance tables node b (leaf.Empty g) below h = h
+leaf_holds instance tables node b (leaf.ExactRay table) below h = h
+leaf_holds instance tables node b (leaf.ExactEmpty g) below h = h
 
 holds_below : (instance : Instance) (tables : List Table) (node : Node) (b : ℤ) (tree : branch.Tree Leaf) → AtMost (Some b) (least_bound tree)
     → EachLeaf (StoredHolds instance tables) node tree → EachLeaf (LeafHolds instance tables b) node (map_leaves own_claim tree)
@@ -134,10 +136,12 @@ holds_below instance tables node b (Splits g t off on) below h =
 
 leaf_excluded : (instance : Instance) (tables : List Table) (node : Node) (leaf : Leaf) → least_bound (Ends leaf) ≡ None
     → StoredHolds instance tables node leaf → IsExcluded instance tables node (own_claim leaf)
-leaf_excluded instance tables node (leaf.Live table value) none h = absurd (cc)
-leaf_excluded instance tables node (leaf.Bound table value) none h = absurd (cc)
+leaf_excluded instance tables node (leaf.Live table value exact) none h = absurd (cc)
+leaf_excluded instance tables node (leaf.Bound table value exact) none h = absurd (cc)
 leaf_excluded instance tables node (leaf.Ray table) none h = h
 leaf_excluded instance tables node (leaf.Empty g) none h = h
+leaf_excluded instance tables node (leaf.ExactRay table) none h = h
+leaf_excluded instance tables node (leaf.ExactEmpty g) none h = h
 
 both_none : (a b : Option ℤ) → lesser_bound a b ≡ None → (a ≡ None) × (b ≡ None)
 both_none None b none = (refl, none)

@@ -271,9 +271,9 @@ get-append_past (z ∷ xs) ys i =
 -- ---- an open leaf
 -- where an open leaf stands, its place holds it
 pub open_place : (places : List Place) (tree : NumberedTree) (wanted : ℕ) (place : Place) → ArePlacesOf tree places
-    → slice_get places wanted ≡ Some place → (at : IsOpenAt tree wanted) → place.spot ≡ spot.Leaf (leaf.Live at.table at.value)
+    → slice_get places wanted ≡ Some place → (at : IsOpenAt tree wanted) → place.spot ≡ spot.Leaf (leaf.Live at.table at.value at.exact)
 open_place places tree wanted place are e at =
-    let part = from_some (λ (p : Subtree). spot_of p.tree) (subtree_at tree wanted) (spot.Leaf (leaf.Live at.table at.value)) at.live in
+    let part = from_some (λ (p : Subtree). spot_of p.tree) (subtree_at tree wanted) (spot.Leaf (leaf.Live at.table at.value at.exact)) at.live in
     let stands = part_place places tree wanted part.0 are part.1 in
     let same : Some place ≡ Some (record { parent = stands.0; spot = spot_of part.0.tree }) = sym e ∙ stands.1 in
     let one : place ≡ record { parent = stands.0; spot = spot_of part.0.tree } = cc in
@@ -282,7 +282,7 @@ open_place places tree wanted place are e at =
 pub open_within : (places : List Place) (tree : NumberedTree) (wanted : ℕ) → ArePlacesOf tree places → IsOpenAt tree wanted
     → wanted < length places
 open_within places tree wanted are at =
-    let part = from_some (λ (p : Subtree). spot_of p.tree) (subtree_at tree wanted) (spot.Leaf (leaf.Live at.table at.value)) at.live in
+    let part = from_some (λ (p : Subtree). spot_of p.tree) (subtree_at tree wanted) (spot.Leaf (leaf.Live at.table at.value at.exact)) at.live in
     let stands = part_place places tree wanted part.0 are part.1 in
     slice_get_within places wanted (record { parent = stands.0; spot = spot_of part.0.tree }) stands.1
 
@@ -414,12 +414,12 @@ pub free_split : (tree : TreeView) (places : List Place) (wanted g t off on : �
     → IsCover instance (tree_of tree)
     → IsCover instance (unnumbered (replaced wanted (split_leaf wanted g t off on) tree.nodes))
 free_split tree places wanted g t off on instance are at free size cover =
-    let part = from_some (λ (p : Subtree). spot_of p.tree) (subtree_at tree.nodes wanted) (spot.Leaf (leaf.Live at.table at.value)) at.live in
+    let part = from_some (λ (p : Subtree). spot_of p.tree) (subtree_at tree.nodes wanted) (spot.Leaf (leaf.Live at.table at.value at.exact)) at.live in
     let node = from_some (λ (p : Subtree). p.node) (subtree_at tree.nodes wanted) free.node free.is_node in
     let parts : Some part.0 ≡ Some node.0 = sym part.1 ∙ node.1 in
     let one : part.0 ≡ node.0 = cc in
     let is_node : part.0.node ≡ free.node = ap (λ (p : Subtree). p.node) one ∙ node.2 in
-    cover_split instance root tree.nodes wanted g t off on part.0 (leaf.Live at.table at.value) (are_apart tree.nodes places are) part.1 part.2
+    cover_split instance root tree.nodes wanted g t off on part.0 (leaf.Live at.table at.value at.exact) (are_apart tree.nodes places are) part.1 part.2
     (record { unit = subst (λ n. g < n) (sym size.thermal) free.unit; period = subst (λ n. t < n) (sym size.periods) free.period })
     (subst (λ n. IsTrue (not (is_decided n g t))) (sym is_node) free.undecided) cover
 
@@ -477,7 +477,7 @@ open_at places tree wanted are at =
     let within = open_within places tree wanted are at in
     let nothing : Place = record { parent = 0; spot = spot.Leaf (leaf.Empty 0) } in
     let stands = slice_get-get_or places wanted nothing within in
-    record { place = _; stands = stands; leaf = leaf.Live at.table at.value; is_leaf = open_place places tree wanted _ are stands at }
+    record { place = _; stands = stands; leaf = leaf.Live at.table at.value at.exact; is_leaf = open_place places tree wanted _ are stands at }
 
 -- the bounds of the places after a split: none at its node, and its children's at the end
 split_bounds : (values : List (Option ℤ)) (places : List Place) (wanted : ℕ) (now child : Place) → values ≡ map place_bound places

@@ -36,7 +36,7 @@ root_placed l = record {
 pub record HasOpen (tree : NumberedTree) (placed : IsPlaced tree) (wanted : ℕ) (at : IsOpenAt tree wanted) : Type 0 where
   pub place : Place
   pub stands : slice_get placed.places wanted ≡ Some place
-  pub is : place.spot ≡ spot.Leaf (leaf.Live at.table at.value)
+  pub is : place.spot ≡ spot.Leaf (leaf.Live at.table at.value at.exact)
 
 pub open_spot : (tree : NumberedTree) (wanted : ℕ) (placed : IsPlaced tree) (at : IsOpenAt tree wanted) → HasOpen tree placed wanted at
 open_spot tree wanted placed at =
@@ -48,7 +48,7 @@ open_spot tree wanted placed at =
 -- its number is below the count of the nodes
 pub open_below : (tree : NumberedTree) (wanted : ℕ) → IsNumbered tree → IsOpenAt tree wanted → wanted < node_count tree
 open_below tree wanted numbered at =
-    let part = from_some (λ (p : Subtree). spot_of p.tree) (subtree_at tree wanted) (spot.Leaf (leaf.Live at.table at.value)) at.live in
+    let part = from_some (λ (p : Subtree). spot_of p.tree) (subtree_at tree wanted) (spot.Leaf (leaf.Live at.table at.value at.exact)) at.live in
     let some = part_counted root tree wanted part.0 part.1 in
     ⊎_elim
     (λ (l : wanted < node_count tree). l)
@@ -75,7 +75,7 @@ closed_are : (tree : NumberedTree) (wanted : ℕ) (new : Leaf) (placed : IsPlace
     (set placed.places wanted (record { parent = (open_spot tree wanted placed at).place.parent; spot = spot.Leaf new }))
 closed_are tree wanted new placed at =
     let here = open_spot tree wanted placed at in
-    closed_places placed.places tree wanted here.place (leaf.Live at.table at.value) new placed.are here.stands here.is
+    closed_places placed.places tree wanted here.place (leaf.Live at.table at.value at.exact) new placed.are here.stands here.is
 
 pub closed_placed : (tree : NumberedTree) (wanted : ℕ) (new : Leaf) → IsPlaced tree → IsOpenAt tree wanted
     → IsPlaced (closed_tree tree wanted new)
@@ -122,7 +122,7 @@ split_are tree wanted g t placed at =
     let here = open_spot tree wanted placed at in
     subst (λ n. ArePlacesOf (replaced wanted (split_leaf wanted g t n (suc n)) tree) (split_list placed.places wanted g t n here.place))
     placed.are.count
-    (split_places placed.places tree wanted g t here.place (leaf.Live at.table at.value) placed.are here.stands here.is)
+    (split_places placed.places tree wanted g t here.place (leaf.Live at.table at.value at.exact) placed.are here.stands here.is)
 
 pub split_placed : (tree : NumberedTree) (wanted g t : ℕ) → IsPlaced tree → IsOpenAt tree wanted → IsPlaced (split_tree tree wanted g t)
 split_placed tree wanted g t placed at = record { places = _; are = split_are tree wanted g t placed at }
@@ -188,8 +188,8 @@ part_there here (SplitAt number g t off on) wanted grow part old apart number_is
 pub closed_node : (tree : NumberedTree) (wanted : ℕ) (new : Leaf) (node : Node) → IsPlaced tree → IsOpenAt tree wanted
     → node_at tree wanted ≡ Some node → node_at (closed_tree tree wanted new) wanted ≡ Some node
 closed_node tree wanted new node placed at is =
-    let part = from_some (λ (p : Subtree). spot_of p.tree) (subtree_at tree wanted) (spot.Leaf (leaf.Live at.table at.value)) at.live in
-    let there = part_there root tree wanted (λ (l : Leaf). EndAt wanted new) part.0 (leaf.Live at.table at.value)
+    let part = from_some (λ (p : Subtree). spot_of p.tree) (subtree_at tree wanted) (spot.Leaf (leaf.Live at.table at.value at.exact)) at.live in
+    let there = part_there root tree wanted (λ (l : Leaf). EndAt wanted new) part.0 (leaf.Live at.table at.value at.exact)
     (are_apart tree placed.places placed.are) (λ l. refl) part.1 part.2 in
     ap (λ (o : Option Subtree). option_map (λ (p : Subtree). p.node) o) there
     ∙ (sym (ap (λ (o : Option Subtree). option_map (λ (p : Subtree). p.node) o) part.1) ∙ is)
@@ -241,7 +241,7 @@ each_leaf_replaced P Q turn here (SplitAt number g t off on) wanted grow part ol
 
 -- ---- where no leaf is open
 abbrev pub IsClosedLeaf : Leaf → Type 0
-IsClosedLeaf (leaf.Live table value) = ⊥
+IsClosedLeaf (leaf.Live table value exact) = ⊥
 IsClosedLeaf _ = Unit {0}
 
 closed_below : (whole tree : NumberedTree) → IsNumbered whole → IsPart whole tree → ((number : ℕ) → ¬ IsOpenAt whole number)
@@ -249,9 +249,13 @@ closed_below : (whole tree : NumberedTree) → IsNumbered whole → IsPart whole
 closed_below whole (EndAt number l) numbered part none here = by_leaf l refl
   where
     by_leaf : (x : Leaf) → l ≡ x → IsClosedLeaf l
-    by_leaf (leaf.Live table value) e =
-        absurd (none number (record { table = table; value = value; live = part_spot whole (EndAt number l) part ∙ ap (λ (y : Leaf). Some (spot.Leaf y)) e }))
-    by_leaf (leaf.Bound table value) e = subst IsClosedLeaf (sym e) tt
+    by_leaf (leaf.Live table value exact) e = absurd (none number (record {
+      table = table;
+      value = value;
+      exact = exact;
+      live = part_spot whole (EndAt number l) part ∙ ap (λ (y : Leaf). Some (spot.Leaf y)) e;
+    }))
+    by_leaf (leaf.Bound table value exact) e = subst IsClosedLeaf (sym e) tt
     by_leaf _ e = subst IsClosedLeaf (sym e) tt
 closed_below whole (SplitAt number g t off on) numbered part none here = (
   closed_below whole off numbered (off_side whole number g t off on numbered part) none (child here g t false),

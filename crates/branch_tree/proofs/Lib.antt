@@ -4,5 +4,6 @@ pub mod Lesser
 pub mod Tournament
 pub mod Bounds
 pub mod Paths
+pub mod FreeCells
 pub mod Preorder
 pub mod Grown

@@ -329,7 +329,7 @@ length-each_once (number ∷ numbers) =
     omega (arith, length-filter_le (unlike number) (each_once numbers), length-each_once numbers)
 
 leaf_count : (l : Leaf) → length (leaf_tables l ++ []) ≤ 1
-leaf_count (leaf.Live table value) = omega arith
+leaf_count (leaf.Live table value exact) = omega arith
 leaf_count _ = omega arith
 
 -- a tree has no more tables than nodes

@@ -1,5 +1,5 @@
 -- What the leaves of a search's tree claim, and the certificate that a found answer stands for. This project's own form.
-use Rattle.std.specs.Prelude.{◌≡◌, ℕ, ◌<◌, false, List, [], ℤ, pos, Option, Some, None, All, length, slice_index_or, map}
+use Rattle.std.specs.Prelude.{◌≡◌, ℕ, ◌<◌, true, false, List, [], ℤ, pos, Option, Some, None, All, length, slice_index_or, map}
 use Rattle.uc_model.specs.Schedule.{thermal_count, renewable_count}
 use Rattle.uc_model.specs.declared.schedule.Printed.{Printed}
 use Rattle.dual_model.specs.Tree.{map_leaves}
@@ -16,12 +16,14 @@ pub use Rattle.branch_tree.specs.declared.tree.Tree.{Tree}
 use Rattle.branch_tree.specs.declared.layout.Layout.{Layout}
 pub use Rattle.branch_tree.specs.declared.found.Found.{Found}
 
--- what a leaf claims, by V, with its table under its place in a list; an open leaf counts as a bound
+-- what a leaf claims, by values of its kind, with its table under its place in a list; an open leaf counts as a bound
 abbrev pub leaf_claim : List ℕ → Leaf → cover.Leaf
-leaf_claim tables (leaf.Live table value) = Bound false (place_of tables table)
-leaf_claim tables (leaf.Bound table value) = Bound false (place_of tables table)
+leaf_claim tables (leaf.Live table value exact) = Bound exact (place_of tables table)
+leaf_claim tables (leaf.Bound table value exact) = Bound exact (place_of tables table)
 leaf_claim tables (leaf.Ray table) = Ray false (place_of tables table)
 leaf_claim tables (leaf.Empty g) = Empty false g
+leaf_claim tables (leaf.ExactRay table) = Ray true (place_of tables table)
+leaf_claim tables (leaf.ExactEmpty g) = Empty true g
 
 -- a schedule and its cost
 abbrev pub written_of : Option (Printed × ℤ) → Option WrittenSchedule

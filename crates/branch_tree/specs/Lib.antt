@@ -6,6 +6,7 @@ pub mod StoredTree
 pub mod TreeLaws
 pub mod UsedTables
 pub mod Closing
+pub mod Kinds
 pub mod Claims
 pub mod TrueFound
 pub mod inside

@@ -14,10 +14,12 @@ IsNodeAt tree number node = node_at tree.nodes number ≡ Some node
 
 -- the bound that a leaf stores, where it isn't excluded
 abbrev pub leaf_bound : Leaf → Option ℤ
-leaf_bound (leaf.Live table value) = Some value
-leaf_bound (leaf.Bound table value) = Some value
+leaf_bound (leaf.Live table value exact) = Some value
+leaf_bound (leaf.Bound table value exact) = Some value
 leaf_bound (leaf.Ray table) = None
 leaf_bound (leaf.Empty g) = None
+leaf_bound (leaf.ExactRay table) = None
+leaf_bound (leaf.ExactEmpty g) = None
 
 -- the same of what stands at a node; a split stores none
 abbrev pub spot_bound : Spot → Option ℤ

@@ -1,30 +1,40 @@
 -- By what a proof tells two trees apart: each stands as the list of its nodes in preorder, which gives the tree back.
-use Rattle.std.proofs.Common.{inl, inr, ap, sym, ◌∙◌, append_assoc, append-nil, ◌≡◌, ℕ, List, [], ◌∷◌, ◌++◌, ◌⊎◌, ℤ, slice_index_or, refl}
-use Rattle.std.specs.Coded.{Coded, code_by, coded_ℕ, coded_ℤ, coded_list, coded×, coded⊎}
+use Rattle.std.proofs.Common.{inl, inr, ap, sym, ◌∙◌, append_assoc, append-nil, ◌≡◌, ℕ, Bool, List, [], ◌∷◌, ◌++◌, ◌⊎◌, ℤ, slice_index_or, refl}
+use Rattle.std.specs.Coded.{Coded, code_by, coded_ℕ, coded_ℤ, coded_bool, coded_list, coded×, coded⊎}
 use Rattle.branch_tree.specs.NumberedTree.{Leaf, NumberedTree, EndAt, SplitAt, no_tree}
 use Rattle.branch_tree.specs.TreeView.{TreeView}
 use Rattle.branch_tree.specs.declared.tree.Leaf.TheVariants as leaf
 
+-- a table, the bound that is stored with it, and its kind
+abbrev pub BoundParts : Type 0
+BoundParts = ℕ × (ℤ × Bool)
+
 abbrev pub LeafParts : Type 0
-LeafParts = ((ℕ × ℤ) ⊎ (ℕ × ℤ)) ⊎ (ℕ ⊎ ℕ)
+LeafParts = (BoundParts ⊎ BoundParts) ⊎ ((ℕ ⊎ ℕ) ⊎ (ℕ ⊎ ℕ))
 
 abbrev pub leaf_parts : Leaf → LeafParts
-leaf_parts (leaf.Live table value) = inl (inl (table, value))
-leaf_parts (leaf.Bound table value) = inl (inr (table, value))
-leaf_parts (leaf.Ray table) = inr (inl table)
-leaf_parts (leaf.Empty g) = inr (inr g)
+leaf_parts (leaf.Live table value exact) = inl (inl (table, (value, exact)))
+leaf_parts (leaf.Bound table value exact) = inl (inr (table, (value, exact)))
+leaf_parts (leaf.Ray table) = inr (inl (inl table))
+leaf_parts (leaf.Empty g) = inr (inl (inr g))
+leaf_parts (leaf.ExactRay table) = inr (inr (inl table))
+leaf_parts (leaf.ExactEmpty g) = inr (inr (inr g))
 
 abbrev pub leaf_of : LeafParts → Leaf
-leaf_of (inl (inl pair)) = leaf.Live pair.0 pair.1
-leaf_of (inl (inr pair)) = leaf.Bound pair.0 pair.1
-leaf_of (inr (inl table)) = leaf.Ray table
-leaf_of (inr (inr g)) = leaf.Empty g
+leaf_of (inl (inl parts)) = leaf.Live parts.0 parts.1.0 parts.1.1
+leaf_of (inl (inr parts)) = leaf.Bound parts.0 parts.1.0 parts.1.1
+leaf_of (inr (inl (inl table))) = leaf.Ray table
+leaf_of (inr (inl (inr g))) = leaf.Empty g
+leaf_of (inr (inr (inl table))) = leaf.ExactRay table
+leaf_of (inr (inr (inr g))) = leaf.ExactEmpty g
 
 pub leaf_of-parts : (leaf : Leaf) → leaf_of (leaf_parts leaf) ≡ leaf
-leaf_of-parts (leaf.Live table value) = refl
-leaf_of-parts (leaf.Bound table value) = refl
+leaf_of-parts (leaf.Live table value exact) = refl
+leaf_of-parts (leaf.Bound table value exact) = refl
 leaf_of-parts (leaf.Ray table) = refl
 leaf_of-parts (leaf.Empty g) = refl
+leaf_of-parts (leaf.ExactRay table) = refl
+leaf_of-parts (leaf.ExactEmpty g) = refl
 
 -- a leaf with its number, or a split's number, unit and period
 abbrev pub NodeParts : Type 0
@@ -61,8 +71,11 @@ tree_from-node_parts tree =
     ap tree_from_parts (sym (append-nil (node_parts tree)))
     ∙ ap (λ trees. slice_index_or trees 0 no_tree) (trees_from-node_parts tree [])
 
+abbrev pub bound_parts_code : Coded BoundParts
+bound_parts_code = coded× coded_ℕ (coded× coded_ℤ coded_bool)
+
 abbrev pub leaf_parts_code : Coded LeafParts
-leaf_parts_code = coded⊎ (coded⊎ (coded× coded_ℕ coded_ℤ) (coded× coded_ℕ coded_ℤ)) (coded⊎ coded_ℕ coded_ℕ)
+leaf_parts_code = coded⊎ (coded⊎ bound_parts_code bound_parts_code) (coded⊎ (coded⊎ coded_ℕ coded_ℕ) (coded⊎ coded_ℕ coded_ℕ))
 
 abbrev pub node_parts_code : Coded NodeParts
 node_parts_code = coded⊎ (coded× coded_ℕ leaf_parts_code) (coded× coded_ℕ (coded× coded_ℕ coded_ℕ))

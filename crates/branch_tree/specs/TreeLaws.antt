@@ -1,6 +1,6 @@
 -- The laws of covers, of what contracts see of a tree. Source: branch and bound on the commitment variables of the reference
 -- model by Knueven, Ostrowski and Watson.
-use Rattle.std.specs.Prelude.{◌≡◌, false, List, ℤ}
+use Rattle.std.specs.Prelude.{◌≡◌, true, false, List, ℤ}
 use Rattle.uc_model.specs.Limits.{IsLawfulInstance}
 use Rattle.uc_model.specs.Schedule.{Schedule}
 use Rattle.dual_model.specs.Tree.{root, agreeing_leaves, map_leaves, EachLeaf}
@@ -15,22 +15,26 @@ pub use Rattle.branch_tree.specs.declared.tree.Leaf.{Leaf}
 use Rattle.branch_tree.specs.declared.tree.Leaf.TheVariants as leaf
 use Rattle.branch_tree.specs.declared.tree.Tree.{Tree}
 
--- what a leaf claims, by V, with its table under its own number; an open leaf counts as a bound
+-- what a leaf claims, by values of its kind, with its table under its own number; an open leaf counts as a bound
 abbrev pub own_claim : Leaf → cover.Leaf
-own_claim (leaf.Live table value) = Bound false table
-own_claim (leaf.Bound table value) = Bound false table
+own_claim (leaf.Live table value exact) = Bound exact table
+own_claim (leaf.Bound table value exact) = Bound exact table
 own_claim (leaf.Ray table) = Ray false table
 own_claim (leaf.Empty g) = Empty false g
+own_claim (leaf.ExactRay table) = Ray true table
+own_claim (leaf.ExactEmpty g) = Empty true g
 
 abbrev pub claims_of : Tree → branch.Tree cover.Leaf
 claims_of tree = map_leaves own_claim (tree_of tree)
 
--- the leaf is excluded, or its table bounds the cost of its schedules by what it stores
+-- the leaf is excluded, or its table bounds the cost of its schedules by what it stores, each by values of its kind
 abbrev pub StoredHolds : Instance → List Table → Node → Leaf → Type 0
-StoredHolds instance tables node (leaf.Live table value) = IsBoundedBy false instance tables node table value
-StoredHolds instance tables node (leaf.Bound table value) = IsBoundedBy false instance tables node table value
+StoredHolds instance tables node (leaf.Live table value exact) = IsBoundedBy exact instance tables node table value
+StoredHolds instance tables node (leaf.Bound table value exact) = IsBoundedBy exact instance tables node table value
 StoredHolds instance tables node (leaf.Ray table) = IsExcluded instance tables node (Ray false table)
 StoredHolds instance tables node (leaf.Empty g) = IsExcluded instance tables node (Empty false g)
+StoredHolds instance tables node (leaf.ExactRay table) = IsExcluded instance tables node (Ray true table)
+StoredHolds instance tables node (leaf.ExactEmpty g) = IsExcluded instance tables node (Empty true g)
 
 -- every schedule agrees with exactly one leaf
 abbrev pub TreesPart : Type 0

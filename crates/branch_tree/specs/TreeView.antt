@@ -1,5 +1,5 @@
 -- What contracts see of a tree, what every tree keeps, and the conditions of a change. This project's own form.
-use Rattle.std.specs.Prelude.{◌≡◌, ℕ, ◌^◌, ◌<◌, ◌≤◌, ℤ, pos, Some, not, IsTrue}
+use Rattle.std.specs.Prelude.{◌≡◌, ℕ, ◌^◌, ◌<◌, ◌≤◌, Bool, false, ℤ, pos, Some, not, IsTrue}
 use Rattle.uc_model.specs.Schedule.{thermal_count}
 pub use Rattle.uc_model.specs.declared.instance.Instance.{Instance}
 use Rattle.dual_model.specs.Tree.{is_decided, IsCover}
@@ -36,7 +36,8 @@ pub record IsWhole (tree : TreeView) : Type 0 where
 pub record IsOpenAt (tree : NumberedTree) (number : ℕ) : Type 0 where
   pub table : ℕ
   pub value : ℤ
-  pub live : spot_at tree number ≡ Some (spot.Leaf (leaf.Live table value))
+  pub exact : Bool
+  pub live : spot_at tree number ≡ Some (spot.Leaf (leaf.Live table value exact))
 
 -- the cell is inside the size of the tree, and the path to the node of this number hasn't decided it
 pub record IsFreeAt (tree : TreeView) (number g t : ℕ) : Type 0 where
@@ -46,6 +47,13 @@ pub record IsFreeAt (tree : TreeView) (number g t : ℕ) : Type 0 where
   pub is_node : node_at tree.nodes number ≡ Some node
   pub undecided : IsTrue (not (is_decided node g t))
 
--- a tree of an open root, of table 0 and value 0
+-- a cell is undecided at the node of this number
+pub record HasFreeCell (tree : TreeView) (number : ℕ) : Type 0 where
+  pub g : ℕ
+  pub t : ℕ
+  pub free : IsFreeAt tree number g t
+
+-- a tree of an open root, of table 0 and value 0, by V
 abbrev pub open_root : ℕ → ℕ → ℕ → TreeView
-open_root units periods room = record { units = units; periods = periods; room = room; nodes = EndAt 0 (leaf.Live 0 (pos 0)) }
+open_root units periods room =
+    record { units = units; periods = periods; room = room; nodes = EndAt 0 (leaf.Live 0 (pos 0) false) }

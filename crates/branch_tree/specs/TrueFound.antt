@@ -1,9 +1,8 @@
 -- When what a search found is true: a tree that holds, a schedule that obeys, and a true log. This project's own statement.
-use Rattle.std.specs.Prelude.{◌≡◌, ◌≢◌, List, Some, All, AllPairs, slice_get}
+use Rattle.std.specs.Prelude.{◌≡◌, ◌≢◌, Bool, List, Some, All, AllPairs, slice_get}
 use Rattle.uc_model.specs.declared.instance.Instance.{Instance}
 use Rattle.dual_model.specs.Prices.{IsLawfulTable}
-use Rattle.dual_model.specs.Fixings.{IsFirstEmpty}
-use Rattle.dual_model.specs.NodeValue.{IsNodeValue}
+use Rattle.dual_model.specs.ValueKind.{IsValueOf, IsFirstBlocked}
 use Rattle.dual_model.specs.Certificate.{CertificateHolds}
 use Rattle.dual_model.specs.declared.node.Node.{Node}
 use Rattle.branch_tree.specs.declared.found.Entry.{Entry}
@@ -12,10 +11,10 @@ use Rattle.branch_tree.specs.declared.found.Outcome.TheVariants.{Value, Empty}
 use Rattle.branch_tree.specs.StoredTree.{IsNodeAt}
 use Rattle.branch_tree.specs.Claims.{Found, Table, Tree, HasLayout, certificate_of}
 
--- the outcome is that of the node at the table
-abbrev pub IsOutcome : Instance → Node → Table → Outcome → Type 0
-IsOutcome instance node table (Value v) = IsNodeValue instance node table v
-IsOutcome instance node table (Empty g) = IsFirstEmpty instance node g
+-- the outcome is that of the node at the table, by values of the kind
+abbrev pub IsOutcome : Bool → Instance → Node → Table → Outcome → Type 0
+IsOutcome exact instance node table (Value v) = IsValueOf exact instance node table v
+IsOutcome exact instance node table (Empty g) = IsFirstBlocked exact instance node g
 
 -- an entry of the log is true: its table is lawful, and its outcome is that of its node there
 pub record IsTrueEntry (instance : Instance) (tree : Tree) (tables : List Table) (entry : Entry) : Type 0 where
@@ -24,14 +23,14 @@ pub record IsTrueEntry (instance : Instance) (tree : Tree) (tables : List Table)
   pub table : Table
   pub is_table : slice_get tables entry.table ≡ Some table
   pub lawful : IsLawfulTable instance table
-  pub outcome : IsOutcome instance node table entry.outcome
+  pub outcome : IsOutcome entry.exact instance node table entry.outcome
 
--- two entries have different claims, and differ in the node or in the table, under whichever numbers it stands
+-- two entries have different claims, and differ in the node, in the kind or in the table, under whichever numbers it stands
 pub record AreApart (tables : List Table) (first second : Entry) : Type 0 where
   pub unit : first.unit ≢ second.unit
-  pub pair : first.node ≡ second.node → slice_get tables first.table ≢ slice_get tables second.table
+  pub pair : first.node ≡ second.node → first.exact ≡ second.exact → slice_get tables first.table ≢ slice_get tables second.table
 
--- each entry of the log is true, and no two share a claim, or a node and a table
+-- each entry of the log is true, and no two share a claim, or a node, a table and a kind
 pub record IsTrueLog (instance : Instance) (tree : Tree) (tables : List Table) (log : List Entry) : Type 0 where
   pub entries : All (IsTrueEntry instance tree tables) log
   pub apart : AllPairs (AreApart tables) log

@@ -13,10 +13,12 @@ leaves (Splits g t off on) = leaves off ++ leaves on
 
 -- the tables that a leaf uses
 abbrev pub leaf_tables : Leaf → List ℕ
-leaf_tables (leaf.Live table value) = table ∷ []
-leaf_tables (leaf.Bound table value) = table ∷ []
+leaf_tables (leaf.Live table value exact) = table ∷ []
+leaf_tables (leaf.Bound table value exact) = table ∷ []
 leaf_tables (leaf.Ray table) = table ∷ []
 leaf_tables (leaf.Empty g) = []
+leaf_tables (leaf.ExactRay table) = table ∷ []
+leaf_tables (leaf.ExactEmpty g) = []
 
 -- the same of what stands at a node; a split uses none
 abbrev pub spot_tables : Spot → List ℕ

@@ -1,1 +1,2 @@
 pub mod Minima
+pub mod Paths

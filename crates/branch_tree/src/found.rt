@@ -12,20 +12,21 @@ use uc_model::{List, Printed, Stuck};
 /// What the evaluation of a node at a table gave.
 #[derive(Clone, Copy, Debug)]
 pub enum Outcome {
-    /// The value V of the node at the table.
+    /// The value of the node at the table: VE where the entry is exact, else V.
     Value(i128),
-    /// The first thermal unit, from 0, that has no pattern at the node.
+    /// The first thermal unit, from 0, that has no schedule of its own at the node where the entry is exact, else no pattern.
     Empty(u32),
 }
 
 /// An entry of the log: claim number `unit`, from 1, was evaluated by the worker on the node at the table
-/// of that number, each from 0.
+/// of that number, each from 0, by VE where it is exact, else by V.
 #[derive(Clone, Copy)]
 pub struct Entry {
     pub unit: u32,
     pub worker: u8,
     pub node: u32,
     pub table: u32,
+    pub exact: bool,
     pub outcome: Outcome,
 }
 

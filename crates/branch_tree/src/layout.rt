@@ -47,10 +47,13 @@ fn table_of(spot: &Spot) -> Option<u32>
     ensures { option_to_list result ≡ spot_tables spot.now }
 {
     match spot {
-        Spot::Leaf(Leaf::Live { table, .. } | Leaf::Bound { table, .. } | Leaf::Ray { table }) => {
-            Some(*table)
-        }
-        Spot::Leaf(Leaf::Empty { .. }) | Spot::Inner { .. } => None,
+        Spot::Leaf(
+            Leaf::Live { table, .. }
+            | Leaf::Bound { table, .. }
+            | Leaf::Ray { table }
+            | Leaf::ExactRay { table },
+        ) => Some(*table),
+        Spot::Leaf(Leaf::Empty { .. } | Leaf::ExactEmpty { .. }) | Spot::Inner { .. } => None,
     }
 }
 

@@ -1,6 +1,7 @@
 //! What a search found: its tree of commitments, the log of its evaluations and its schedule.
 #![tactic(auto)]
 
+mod cells;
 pub mod found;
 pub mod laws;
 pub mod layout;

@@ -1,9 +1,10 @@
-//! The flat list of a tree's nodes: a place a node, at its number, the children after their parent.
+//! The flat list of a tree's nodes: a place a node, at its number, the children after their parent; and the paths, taken upwards.
 
-ghost use Rattle.std.specs.Prelude.{◌≡◌, ℕ, suc, ◌+◌, ◌<◌, ◌≤◌, ◌^◌, ◌==◌, ◌∷◌, ◌++◌, [], Some, IfOk, length, slice_get, slice_set, vec_len, vec_capacity};
+ghost use Rattle.std.specs.Prelude.{◌≡◌, ◌≢◌, ◌↔◌, ℕ, suc, ◌+◌, ◌-◌, ◌<◌, ◌≤◌, ◌^◌, ◌==◌, ◌∷◌, ◌++◌, [], Some, IfOk, IsTrue, length, slice_get, slice_index_or, slice_set, vec_len, vec_capacity};
 ghost use Rattle.branch_tree.specs.NumberedTree.{node_at};
 ghost use Rattle.branch_tree.specs.StoredTree.{spot_bound};
 ghost use Rattle.branch_tree.specs.Places.{Place, AreWellPlaced, IsInner, tree_from};
+ghost use Rattle.branch_tree.specs.inside.Paths.{ComesFrom};
 ghost use Rattle.branch_tree.specs.declared.tree.Spot.TheVariants as spot;
 
 use crate::tree::{Leaf, Spot};
@@ -62,7 +63,10 @@ pub(crate) fn bound_at(spot: &Spot) -> Option<i128>
 {
     match spot {
         Spot::Leaf(Leaf::Live { value, .. } | Leaf::Bound { value, .. }) => Some(*value),
-        Spot::Leaf(Leaf::Ray { .. } | Leaf::Empty { .. }) | Spot::Inner { .. } => None,
+        Spot::Leaf(
+            Leaf::Ray { .. } | Leaf::Empty { .. } | Leaf::ExactRay { .. } | Leaf::ExactEmpty { .. },
+        )
+        | Spot::Inner { .. } => None,
     }
 }
 
@@ -81,6 +85,17 @@ fn decision(split: &Spot, child: u32) -> Fixing
     }
 }
 
+/// The number of the parent of a node other than the root, and by which decision the node comes from it.
+pub(crate) fn above(places: &[Place], node: u32) -> (u32, Fixing)
+    requires placed { AreWellPlaced places.now }
+    requires within { node < length places.now }
+    requires below { node ≢ 0 }
+    ensures { ComesFrom (tree_from places.now 0) result.0 node result.1 }
+{
+    let parent = places[node as usize].parent;
+    (parent, decision(&places[parent as usize].spot, node))
+}
+
 /// The decisions on the path from the root to the node of this number, by way of the parents.
 pub(crate) fn path(alloc: Global, places: &[Place], node: u32) -> Result<Vec<Fixing>, NoMemory>
     requires placed { AreWellPlaced places.now }
@@ -90,10 +105,44 @@ pub(crate) fn path(alloc: Global, places: &[Place], node: u32) -> Result<Vec<Fix
     let mut path = Vec::new(alloc);
     let mut reached = node;
     while reached != 0 {
-        let parent = places[reached as usize].parent;
-        path.push(decision(&places[parent as usize].spot, reached))?;
-        reached = parent;
+        let step = above(places, reached);
+        path.push(step.1)?;
+        reached = step.0;
     }
     path.reverse();
     Ok(path)
+}
+
+// Whether two decisions are the same.
+fn is_same(first: Fixing, second: Fixing) -> bool
+    ensures { IsTrue result ↔ (first ≡ second) }
+{
+    first.g == second.g && first.t == second.t && first.on == second.on
+}
+
+// Whether the last of the first `count` decisions is this one.
+fn ends_with(fixings: &[Fixing], count: usize, last: Fixing) -> bool
+    requires { count ≤ length fixings.now }
+    ensures { IsTrue result ↔ ((0 < count) × (slice_index_or fixings.now (count - 1) last ≡ last)) }
+{
+    count > 0 && is_same(fixings[count - 1], last)
+}
+
+/// Whether these are the decisions on the path from the root to the node of this number.
+pub(crate) fn is_path(places: &[Place], node: u32, fixings: &[Fixing]) -> bool
+    requires placed { AreWellPlaced places.now }
+    requires within { node < length places.now }
+    ensures { IsTrue result ↔ (node_at (tree_from places.now 0) node ≡ Some (record { fixings = fixings.now })) }
+{
+    let mut reached = node;
+    let mut left = fixings.len();
+    while reached != 0 {
+        let step = above(places, reached);
+        if !ends_with(fixings, left, step.1) {
+            return false;
+        }
+        reached = step.0;
+        left -= 1;
+    }
+    left == 0
 }

@@ -1,5 +1,6 @@
 //! The tree of commitments.
 
+use crate::cells;
 use crate::minima::Minima;
 use crate::places::{self, Place};
 use dual_model::Node;
@@ -10,14 +11,34 @@ use uc_model::{List, NoMemory};
 /// A leaf of the tree. Tables are numbers of `Found`'s list, from 0; values are micro-dollars.
 #[derive(Clone, Copy, Debug, PartialEq, Eq)]
 pub enum Leaf {
-    /// An open leaf: the bound of the table is `value`.
-    Live { table: u32, value: i128 },
-    /// A closed leaf: the bound of the table is `value`.
-    Bound { table: u32, value: i128 },
-    /// The table is a ray that excludes every schedule of the leaf.
-    Ray { table: u32 },
+    /// An open leaf: the bound of the table is `value`, by VE where it is exact, else by V.
+    Live {
+        table: u32,
+        value: i128,
+        exact: bool,
+    },
+    /// A closed leaf: the bound of the table is `value`, by VE where it is exact, else by V.
+    Bound {
+        table: u32,
+        value: i128,
+        exact: bool,
+    },
+    /// The table is a ray that excludes every schedule of the leaf by V.
+    Ray {
+        table: u32,
+    },
     /// Thermal unit `g`, from 0, has no allowed pattern at the leaf.
-    Empty { g: u32 },
+    Empty {
+        g: u32,
+    },
+    /// The table is a ray that excludes every schedule of the leaf by VE.
+    ExactRay {
+        table: u32,
+    },
+    /// Thermal unit `g`, from 0, has no schedule of its own at the leaf.
+    ExactEmpty {
+        g: u32,
+    },
 }
 
 /// What stands at a node.
@@ -58,12 +79,12 @@ impl Model for Tree {
 }
 
 impl Tree {
-    ghost use Rattle.std.specs.Prelude.{◌≡◌, ◌+◌, ◌<◌, ◌≤◌, suc, max, pos, Some, IfOk};
+    ghost use Rattle.std.specs.Prelude.{◌≡◌, ◌↔◌, ◌+◌, ◌<◌, ◌≤◌, suc, max, pos, Some, IfOk, IsTrue, MatchOption};
     ghost use Rattle.branch_tree.specs.NumberedTree.{EndAt, node_count, spot_at, node_at, replaced, split_leaf};
-    ghost use Rattle.branch_tree.specs.TreeView.{TreeView, IsWhole, IsOpenAt, IsFreeAt, open_root};
+    ghost use Rattle.branch_tree.specs.TreeView.{TreeView, IsWhole, IsOpenAt, IsFreeAt, HasFreeCell, open_root};
     ghost use Rattle.branch_tree.specs.StoredTree.{tree_bound};
 
-    /// A tree of its root alone, which is open, of table 0 and value 0. It splits on the cells of `units`
+    /// A tree of its root alone, which is open, of table 0 and value 0, by V. It splits on the cells of `units`
     /// thermal units and `periods` periods, and has room for `nodes` nodes, or for the root where this is 0.
     pub fn with_room(alloc: Global, units: u32, periods: u32, nodes: u32) -> Result<Tree, NoMemory>
         ensures tree { IfOk result (λ tree. tree ≡ open_root units periods (max nodes 1)) }
@@ -72,7 +93,11 @@ impl Tree {
         let room = nodes.max(1) as usize;
         let mut places = Vec::with_capacity(alloc, room)?;
         let mut bounds = Minima::with_room(alloc, room)?;
-        let leaf = Leaf::Live { table: 0, value: 0 };
+        let leaf = Leaf::Live {
+            table: 0,
+            value: 0,
+            exact: false,
+        };
         places.push_reserved(Place {
             parent: 0,
             spot: Spot::Leaf(leaf),
@@ -95,7 +120,7 @@ impl Tree {
     }
 
     /// Splits an open leaf on thermal unit `g` and period `t`, each from 0, and answers the numbers of its
-    /// off-child and of its on-child. Both are open, with the table and the value of the leaf.
+    /// off-child and of its on-child. Both are open, and store what the leaf stored.
     pub fn split(&mut self, node: u32, g: u32, t: u32) -> (u32, u32)
         requires live { IsOpenAt self.old.nodes node }
         requires free { IsFreeAt self.old node g t }
@@ -138,6 +163,41 @@ impl Tree {
         Ok(Node {
             fixings: List::from_vec(path),
         })
+    }
+
+    /// Whether the node of this number is this one: these are the decisions on its path, in this order. Takes no memory.
+    pub fn is_at(&self, number: u32, node: &Node) -> bool
+        requires { number < node_count self.now.nodes }
+        ensures { IsTrue result ↔ (node_at self.now.nodes number ≡ Some node.now) }
+    {
+        places::is_path(&self.places, number, node.fixings.as_slice())
+    }
+
+    /// Whether thermal unit `g` and period `t`, each from 0, are a cell of the tree that is undecided at the node of this
+    /// number. Takes no memory.
+    pub fn is_free(&self, number: u32, g: u32, t: u32) -> bool
+        requires { number < node_count self.now.nodes }
+        ensures { IsTrue result ↔ IsFreeAt self.now number g t }
+    {
+        let undecided = cells::is_undecided(&self.places, number, g, t);
+        g < self.units && t < self.periods && undecided
+    }
+
+    /// The first cell that is undecided at the node of this number: its thermal unit and its period, each from 0. None where
+    /// each is decided. Takes no memory.
+    pub fn free_cell(&self, number: u32) -> Option<(u32, u32)>
+        requires { number < node_count self.now.nodes }
+        ensures { MatchOption result (¬ HasFreeCell self.now number) (λ cell. IsFreeAt self.now number cell.0 cell.1) }
+    {
+        cells::first_undecided(&self.places, number, self.units, self.periods)
+    }
+
+    /// Whether some cell is undecided at the node of this number. Takes no memory.
+    pub fn has_free_cell(&self, number: u32) -> bool
+        requires { number < node_count self.now.nodes }
+        ensures { IsTrue result ↔ HasFreeCell self.now number }
+    {
+        self.free_cell(number).is_some()
     }
 
     /// What stands at the node of this number.

@@ -1,9 +1,7 @@
--- The place that was reached names the split above it.
-use Rattle.std.proofs.Common.{◌++◌, ◌∷◌, [], ap, sym, subst, ◌∙◌}
-use Rattle.std.proofs.lemmas.Option.{slice_get-get_or, get_or_from_slice_get, slice_get_within}
-use Rattle.dual_model.specs.declared.node.Fixing.{Fixing}
-use Rattle.branch_tree.specs.Places.{Place, IsInner, tree_from}
-use Rattle.branch_tree.proofs.Paths.{IsWayUp, way_begins, step_up}
+-- Each turn takes the decision by which the node that is reached comes from its parent.
+use Rattle.std.proofs.Common.{sym, subst, arith}
+use Rattle.branch_tree.specs.Places.{tree_from}
+use Rattle.branch_tree.proofs.Paths.{IsWayUp, way_begins, way_on}
 use Rattle.branch_tree.proofs.places.path.Goals as goal
 
 pub loop-reached-init : goal.loop-reached-init
@@ -13,35 +11,10 @@ loop-reached-init c = (
       (way_begins c.args.places.now (tree_from c.args.places.now 0) c.args.node c.requires.placed c.requires.within),
 )
 
-pub bounds-places-parent : goal.bounds-places-parent
-bounds-places-parent c =
-    let step = step_up c.args.places.now (tree_from c.args.places.now 0) c.args.node c.loop-reached.reached c.loop-reached.path.items _
-    c.requires.placed c.loop-reached-test.true (slice_get-get_or c.args.places.now c.loop-reached.reached _ c.loop-reached.invariant.0)
-    c.loop-reached.invariant.1 in
-    slice_get_within c.args.places.now _ _ step.stands
-
-pub decision-requires : goal.decision-requires
-decision-requires c =
-    let step = step_up c.args.places.now (tree_from c.args.places.now 0) c.args.node c.loop-reached.reached c.loop-reached.path.items _
-    c.requires.placed c.loop-reached-test.true (slice_get-get_or c.args.places.now c.loop-reached.reached _ c.loop-reached.invariant.0)
-    c.loop-reached.invariant.1 in
-    subst (λ (p : Place). IsInner p.spot) (sym (get_or_from_slice_get c.args.places.now _ _ _ step.stands)) tt
-
-pub loop-reached-smaller : goal.loop-reached-smaller
-loop-reached-smaller c =
-    let step = step_up c.args.places.now (tree_from c.args.places.now 0) c.args.node c.loop-reached.reached c.loop-reached.path.items _
-    c.requires.placed c.loop-reached-test.true (slice_get-get_or c.args.places.now c.loop-reached.reached _ c.loop-reached.invariant.0)
-    c.loop-reached.invariant.1 in
-    step.nearer
-
 pub loop-reached-preserved : goal.loop-reached-preserved
-loop-reached-preserved c =
-    let step = step_up c.args.places.now (tree_from c.args.places.now 0) c.args.node c.loop-reached.reached c.loop-reached.path.items _
-    c.requires.placed c.loop-reached-test.true (slice_get-get_or c.args.places.now c.loop-reached.reached _ c.loop-reached.invariant.0)
-    c.loop-reached.invariant.1 in
-    let found = c.decision.ensures step.g step.t step.off step.on
-    (ap (λ (p : Place). p.spot) (get_or_from_slice_get c.args.places.now _ _ _ step.stands)) in (
-      slice_get_within c.args.places.now _ _ step.stands,
-      subst (IsWayUp (tree_from c.args.places.now 0) c.args.node _)
-          (sym (c.in_ok-push.ensures.items ∙ ap (λ (f : Fixing). c.loop-reached.path.items ++ f ∷ []) found)) step.up,
-    )
+loop-reached-preserved c = (
+  omega (arith, c.above-step.ensures.less),
+  subst (IsWayUp (tree_from c.args.places.now 0) c.args.node _) (sym c.in_ok-push.ensures.items)
+      (way_on (tree_from c.args.places.now 0) c.args.node c.loop-reached.reached c.above-step.result.0 c.loop-reached.path.items
+      c.above-step.result.1 c.above-step.ensures c.loop-reached.invariant.1),
+)
