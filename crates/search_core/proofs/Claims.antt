@@ -374,9 +374,9 @@ holdable m worker unit node orderly holding =
 -- ---- No event makes more or fewer desks.
 pub desks_stay : (m : Machine) (event : Event) → length (after m event).desks ≡ length m.desks
 desks_stay m (Claim worker node) = refl
-desks_stay m (Commit worker unit table outcome action) = by_holder (holder_of m unit)
+desks_stay m (Commit worker unit table exact outcome action) = by_holder (holder_of m unit)
   where
-    by_holder : (holder : Option Holder) → length (committed_by m worker unit table outcome action holder).desks ≡ length m.desks
+    by_holder : (holder : Option Holder) → length (committed_by m worker unit table exact outcome action holder).desks ≡ length m.desks
     by_holder None = refl
     by_holder (Some holder) =
         length-set m.desks worker (with_tickets (desk_in m.desks worker) (tickets_of m.tree action))

@@ -1,5 +1,5 @@
 -- What a move keeps of the tree: it is a cover again, what is open elsewhere stays open, and each path stays.
-use Rattle.std.proofs.Common.{◌≡◌, ℕ, suc, ◌+◌, length, refl, ◌∙◌, arith, ℤ, false, true, ap, subst, Option, Some, ◌≢◌, ◌<◌, ◌⊎◌, sym, ⊎_elim}
+use Rattle.std.proofs.Common.{◌≡◌, ℕ, Bool, suc, ◌+◌, length, refl, ◌∙◌, arith, ℤ, false, true, ap, subst, Option, Some, ◌≢◌, ◌<◌, ◌⊎◌, sym, ⊎_elim}
 use Rattle.std.specs.Option.{option_map}
 use Rattle.uc_model.specs.declared.instance.Instance.{Instance}
 use Rattle.dual_model.specs.Tree.{root, IsCover, child, EachLeaf}
@@ -15,7 +15,7 @@ use Rattle.branch_tree.proofs.Subtrees.{number_of-replaced, AreApart, IsHere, ap
 use Rattle.search_core.specs.declared.stored.Stored.{Stored}
 use Rattle.branch_tree.specs.declared.tree.Leaf.{Leaf}
 use Rattle.branch_tree.specs.declared.tree.Spot.{Spot}
-use Rattle.search_core.specs.Moves.{Again, Empty, Outcome, Prune, Ray, Split, Move, closed, split, tree_after, tickets_of, unit_of, IsFreeFor, HasFreeCell}
+use Rattle.search_core.specs.Moves.{Again, Empty, Outcome, Prune, Ray, Split, Move, closed, split, live_leaf, bound_leaf, ray_leaf, empty_leaf, tree_after, tickets_of, unit_of, IsFreeFor, HasFreeCell}
 use Rattle.search_core.proofs.Claims.{StaysElsewhere}
 
 -- the tree's nodes have places, and it is a cover of each instance of its size
@@ -43,7 +43,8 @@ closed_grows tree node l sound at = record {
   stays = λ number other differ. record {
     table = other.table;
     value = other.value;
-    live = closed_elsewhere tree.nodes node l number (spot.Leaf (leaf.Live other.table other.value)) sound.placed at differ other.live;
+    exact = other.exact;
+    live = closed_elsewhere tree.nodes node l number (spot.Leaf (leaf.Live other.table other.value other.exact)) sound.placed at differ other.live;
   };
   units = refl;
   periods = refl;
@@ -64,7 +65,8 @@ split_grows tree node g t sound at free = record {
   stays = λ number other differ. record {
     table = other.table;
     value = other.value;
-    live = split_elsewhere tree.nodes node g t number (spot.Leaf (leaf.Live other.table other.value)) sound.placed at differ other.live;
+    exact = other.exact;
+    live = split_elsewhere tree.nodes node g t number (spot.Leaf (leaf.Live other.table other.value other.exact)) sound.placed at differ other.live;
   };
   units = refl;
   periods = refl;
@@ -72,10 +74,14 @@ split_grows tree node g t sound at free = record {
 }
 
 -- ---- an open leaf that stores something else is still open, and the same cells are free
-pub open_again : (tree : TreeView) (node table : ℕ) (value : ℤ) → IsPlaced tree.nodes → IsOpenAt tree.nodes node
-    → IsOpenAt (closed tree node (leaf.Live table value)).nodes node
-open_again tree node table value placed at =
-    record { table = table; value = value; live = closed_there tree.nodes node (leaf.Live table value) placed at }
+pub open_again : (tree : TreeView) (node : ℕ) (stored : Stored) → IsPlaced tree.nodes → IsOpenAt tree.nodes node
+    → IsOpenAt (closed tree node (live_leaf stored)).nodes node
+open_again tree node stored placed at = record {
+  table = stored.table;
+  value = stored.value;
+  exact = stored.exact;
+  live = closed_there tree.nodes node (live_leaf stored) placed at;
+}
 
 pub free_again : (tree : TreeView) (node g t : ℕ) (l : Leaf) → IsPlaced tree.nodes → IsOpenAt tree.nodes node → IsFreeAt tree node g t
     → IsFreeAt (closed tree node l) node g t
@@ -97,19 +103,19 @@ both_grow a b c node first second = record {
   room = second.room ∙ first.room;
 }
 
-pub tree_grows : (tree : TreeView) (node : ℕ) (stored : Stored) (number : ℕ) (outcome : Outcome) (action : Move) → IsSound tree
+pub tree_grows : (tree : TreeView) (node : ℕ) (stored : Stored) (number : ℕ) (exact : Bool) (outcome : Outcome) (action : Move) → IsSound tree
     → IsOpenAt tree.nodes node → IsFreeFor tree node action
-    → Grows tree (tree_after tree node stored number outcome action) node (length (tickets_of tree action))
-tree_grows tree node stored number outcome Again sound at free = closed_grows tree node (leaf.Live stored.table stored.value) sound at
-tree_grows tree node stored number outcome (Split g t) sound at free =
-    let l = leaf.Live stored.table stored.value in
+    → Grows tree (tree_after tree node stored number exact outcome action) node (length (tickets_of tree action))
+tree_grows tree node stored number exact outcome Again sound at free = closed_grows tree node (live_leaf stored) sound at
+tree_grows tree node stored number exact outcome (Split g t) sound at free =
+    let l = live_leaf stored in
     let first = closed_grows tree node l sound at in
     both_grow tree (closed tree node l) (split (closed tree node l) node g t) node first
-    (split_grows (closed tree node l) node g t first.sound (open_again tree node stored.table stored.value sound.placed at)
+    (split_grows (closed tree node l) node g t first.sound (open_again tree node stored sound.placed at)
     (free_again tree node g t l sound.placed at free))
-tree_grows tree node stored number outcome (Prune seen) sound at free = closed_grows tree node (leaf.Bound stored.table stored.value) sound at
-tree_grows tree node stored number outcome Ray sound at free = closed_grows tree node (leaf.Ray number) sound at
-tree_grows tree node stored number outcome Empty sound at free = closed_grows tree node (leaf.Empty (unit_of outcome)) sound at
+tree_grows tree node stored number exact outcome (Prune seen) sound at free = closed_grows tree node (bound_leaf stored) sound at
+tree_grows tree node stored number exact outcome Ray sound at free = closed_grows tree node (ray_leaf exact number) sound at
+tree_grows tree node stored number exact outcome Empty sound at free = closed_grows tree node (empty_leaf exact (unit_of outcome)) sound at
 
 -- ---- What a move makes of a claim on each leaf: it holds of all leaves again where it holds of the new ones.
 -- the part that an open leaf is
@@ -118,9 +124,9 @@ pub record IsLeafPart (tree : TreeView) (number : ℕ) (l : Leaf) : Type 0 where
   pub hangs : subtree_at tree.nodes number ≡ Some part
   pub is : spot_of part.tree ≡ spot.Leaf l
 
-pub leaf_part : (tree : TreeView) (number : ℕ) (at : IsOpenAt tree.nodes number) → IsLeafPart tree number (leaf.Live at.table at.value)
+pub leaf_part : (tree : TreeView) (number : ℕ) (at : IsOpenAt tree.nodes number) → IsLeafPart tree number (leaf.Live at.table at.value at.exact)
 leaf_part tree number at =
-    let part = from_some (λ (p : Subtree). spot_of p.tree) (subtree_at tree.nodes number) (spot.Leaf (leaf.Live at.table at.value)) at.live in
+    let part = from_some (λ (p : Subtree). spot_of p.tree) (subtree_at tree.nodes number) (spot.Leaf (leaf.Live at.table at.value at.exact)) at.live in
     record { part = part.0; hangs = part.1; is = part.2 }
 
 pub part_node : (tree : TreeView) (number : ℕ) (l : Leaf) (part : IsLeafPart tree number l) → node_at tree.nodes number ≡ Some part.part.node
@@ -137,16 +143,25 @@ pub holds_of_leaf : (P : Node → Leaf → Type 0) (tree : TreeView) (number : �
 holds_of_leaf P tree number l part each =
     at_leaf P part.part.node part.part.tree l part.is (leaf_there P root tree.nodes number part.part part.hangs each)
 
+-- what holds of both leaves that a ray excludes holds of that of a kind, and the same of a unit's
+pub of_ray : (P : Leaf → Type 0) (exact : Bool) (number : ℕ) → P (leaf.Ray number) → P (leaf.ExactRay number) → P (ray_leaf exact number)
+of_ray P false number one other = one
+of_ray P true number one other = other
+
+pub of_empty : (P : Leaf → Type 0) (exact : Bool) (g : ℕ) → P (leaf.Empty g) → P (leaf.ExactEmpty g) → P (empty_leaf exact g)
+of_empty P false g one other = one
+of_empty P true g one other = other
+
 -- the claim holds of the leaves that the move makes at the node
-abbrev pub HoldsOfNew : (Node → Leaf → Type 0) → Node → Stored → ℕ → Outcome → Move → Type 0
-HoldsOfNew P node stored number outcome Again = P node (leaf.Live stored.table stored.value)
-HoldsOfNew P node stored number outcome (Split g t) =
-    P node (leaf.Live stored.table stored.value)
-    × P (child node g t false) (leaf.Live stored.table stored.value)
-    × P (child node g t true) (leaf.Live stored.table stored.value)
-HoldsOfNew P node stored number outcome (Prune seen) = P node (leaf.Bound stored.table stored.value)
-HoldsOfNew P node stored number outcome Ray = P node (leaf.Ray number)
-HoldsOfNew P node stored number outcome Empty = P node (leaf.Empty (unit_of outcome))
+abbrev pub HoldsOfNew : (Node → Leaf → Type 0) → Node → Stored → ℕ → Bool → Outcome → Move → Type 0
+HoldsOfNew P node stored number exact outcome Again = P node (live_leaf stored)
+HoldsOfNew P node stored number exact outcome (Split g t) =
+    P node (live_leaf stored)
+    × P (child node g t false) (live_leaf stored)
+    × P (child node g t true) (live_leaf stored)
+HoldsOfNew P node stored number exact outcome (Prune seen) = P node (bound_leaf stored)
+HoldsOfNew P node stored number exact outcome Ray = P node (ray_leaf exact number)
+HoldsOfNew P node stored number exact outcome Empty = P node (empty_leaf exact (unit_of outcome))
 
 closed_holds : (P Q : Node → Leaf → Type 0) → ((n : Node) (l : Leaf) → P n l → Q n l) → (tree : TreeView) (number : ℕ) (old new : Leaf)
     (part : IsLeafPart tree number old) → IsSound tree → EachLeaf P root (tree_of tree) → Q part.part.node new
@@ -156,15 +171,15 @@ closed_holds P Q turn tree number old new part sound each own =
     (are_apart tree.nodes sound.placed.places sound.placed.are) part.hangs part.is each own
 
 pub after_holds : (P Q : Node → Leaf → Type 0) → ((n : Node) (l : Leaf) → P n l → Q n l) → (tree : TreeView) (number : ℕ)
-    (at : IsOpenAt tree.nodes number) (part : IsLeafPart tree number (leaf.Live at.table at.value)) (stored : Stored) (table : ℕ)
+    (at : IsOpenAt tree.nodes number) (part : IsLeafPart tree number (leaf.Live at.table at.value at.exact)) (stored : Stored) (table : ℕ) (exact : Bool)
     (outcome : Outcome) (action : Move) → IsSound tree → EachLeaf P root (tree_of tree)
-    → HoldsOfNew Q part.part.node stored table outcome action
-    → EachLeaf Q root (tree_of (tree_after tree number stored table outcome action))
-after_holds P Q turn tree number at part stored table outcome Again sound each new =
-    closed_holds P Q turn tree number (leaf.Live at.table at.value) (leaf.Live stored.table stored.value) part sound each new
-after_holds P Q turn tree number at part stored table outcome (Split g t) sound each new =
-    let old = leaf.Live at.table at.value in
-    let l = leaf.Live stored.table stored.value in
+    → HoldsOfNew Q part.part.node stored table exact outcome action
+    → EachLeaf Q root (tree_of (tree_after tree number stored table exact outcome action))
+after_holds P Q turn tree number at part stored table exact outcome Again sound each new =
+    closed_holds P Q turn tree number (leaf.Live at.table at.value at.exact) (live_leaf stored) part sound each new
+after_holds P Q turn tree number at part stored table exact outcome (Split g t) sound each new =
+    let old = leaf.Live at.table at.value at.exact in
+    let l = live_leaf stored in
     let middle = closed tree number l in
     let first = closed_holds P Q turn tree number old l part sound each new.0 in
     let apart = are_apart tree.nodes sound.placed.places sound.placed.are in
@@ -174,12 +189,12 @@ after_holds P Q turn tree number at part stored table outcome (Split g t) sound 
     (split_leaf number g t (node_count middle.nodes) (suc (node_count middle.nodes)))
     (record { node = part.part.node; tree = EndAt number l }) l
     (are_apart middle.nodes grown.sound.placed.places grown.sound.placed.are) there refl first (new.1, new.2)
-after_holds P Q turn tree number at part stored table outcome (Prune seen) sound each new =
-    closed_holds P Q turn tree number (leaf.Live at.table at.value) (leaf.Bound stored.table stored.value) part sound each new
-after_holds P Q turn tree number at part stored table outcome Ray sound each new =
-    closed_holds P Q turn tree number (leaf.Live at.table at.value) (leaf.Ray table) part sound each new
-after_holds P Q turn tree number at part stored table outcome Empty sound each new =
-    closed_holds P Q turn tree number (leaf.Live at.table at.value) (leaf.Empty (unit_of outcome)) part sound each new
+after_holds P Q turn tree number at part stored table exact outcome (Prune seen) sound each new =
+    closed_holds P Q turn tree number (leaf.Live at.table at.value at.exact) (bound_leaf stored) part sound each new
+after_holds P Q turn tree number at part stored table exact outcome Ray sound each new =
+    closed_holds P Q turn tree number (leaf.Live at.table at.value at.exact) (ray_leaf exact table) part sound each new
+after_holds P Q turn tree number at part stored table exact outcome Empty sound each new =
+    closed_holds P Q turn tree number (leaf.Live at.table at.value at.exact) (empty_leaf exact (unit_of outcome)) part sound each new
 
 -- ---- What a replaced leaf keeps of the paths of a tree: each node that was there has its number again, and what stands there.
 -- ---- paths
@@ -237,40 +252,40 @@ closed_stays tree wanted l sound at number node e =
     node_stays tree.nodes wanted (λ (x : Leaf). EndAt wanted l) number node (λ x. refl)
     (are_apart (closed tree wanted l).nodes grown.sound.placed.places grown.sound.placed.are) e
 
-pub node_after : (tree : TreeView) (wanted : ℕ) (stored : Stored) (table : ℕ) (outcome : Outcome) (action : Move) → IsSound tree
+pub node_after : (tree : TreeView) (wanted : ℕ) (stored : Stored) (table : ℕ) (exact : Bool) (outcome : Outcome) (action : Move) → IsSound tree
     → IsOpenAt tree.nodes wanted → IsFreeFor tree wanted action → (number : ℕ) (node : Node) → node_at tree.nodes number ≡ Some node
-    → node_at (tree_after tree wanted stored table outcome action).nodes number ≡ Some node
-node_after tree wanted stored table outcome Again sound at free number node e =
-    closed_stays tree wanted (leaf.Live stored.table stored.value) sound at number node e
-node_after tree wanted stored table outcome (Split g t) sound at free number node e =
-    let middle = closed tree wanted (leaf.Live stored.table stored.value) in
-    let grown = tree_grows tree wanted stored table outcome (Split g t) sound at free in
+    → node_at (tree_after tree wanted stored table exact outcome action).nodes number ≡ Some node
+node_after tree wanted stored table exact outcome Again sound at free number node e =
+    closed_stays tree wanted (live_leaf stored) sound at number node e
+node_after tree wanted stored table exact outcome (Split g t) sound at free number node e =
+    let middle = closed tree wanted (live_leaf stored) in
+    let grown = tree_grows tree wanted stored table exact outcome (Split g t) sound at free in
     node_stays middle.nodes wanted (split_leaf wanted g t (node_count middle.nodes) (suc (node_count middle.nodes))) number node (λ x. refl)
     (are_apart (split middle wanted g t).nodes grown.sound.placed.places grown.sound.placed.are)
-    (closed_stays tree wanted (leaf.Live stored.table stored.value) sound at number node e)
-node_after tree wanted stored table outcome (Prune seen) sound at free number node e =
-    closed_stays tree wanted (leaf.Bound stored.table stored.value) sound at number node e
-node_after tree wanted stored table outcome Ray sound at free number node e = closed_stays tree wanted (leaf.Ray table) sound at number node e
-node_after tree wanted stored table outcome Empty sound at free number node e =
-    closed_stays tree wanted (leaf.Empty (unit_of outcome)) sound at number node e
+    (closed_stays tree wanted (live_leaf stored) sound at number node e)
+node_after tree wanted stored table exact outcome (Prune seen) sound at free number node e =
+    closed_stays tree wanted (bound_leaf stored) sound at number node e
+node_after tree wanted stored table exact outcome Ray sound at free number node e = closed_stays tree wanted (ray_leaf exact table) sound at number node e
+node_after tree wanted stored table exact outcome Empty sound at free number node e =
+    closed_stays tree wanted (empty_leaf exact (unit_of outcome)) sound at number node e
 
-spot_after : (tree : TreeView) (wanted : ℕ) (stored : Stored) (table : ℕ) (outcome : Outcome) (action : Move) → IsSound tree
+spot_after : (tree : TreeView) (wanted : ℕ) (stored : Stored) (table : ℕ) (exact : Bool) (outcome : Outcome) (action : Move) → IsSound tree
     → IsOpenAt tree.nodes wanted → (number : ℕ) (s : Spot) → number ≢ wanted → spot_at tree.nodes number ≡ Some s
-    → spot_at (tree_after tree wanted stored table outcome action).nodes number ≡ Some s
-spot_after tree wanted stored table outcome Again sound at number s differ e =
-    closed_elsewhere tree.nodes wanted (leaf.Live stored.table stored.value) number s sound.placed at differ e
-spot_after tree wanted stored table outcome (Split g t) sound at number s differ e =
-    let l = leaf.Live stored.table stored.value in
+    → spot_at (tree_after tree wanted stored table exact outcome action).nodes number ≡ Some s
+spot_after tree wanted stored table exact outcome Again sound at number s differ e =
+    closed_elsewhere tree.nodes wanted (live_leaf stored) number s sound.placed at differ e
+spot_after tree wanted stored table exact outcome (Split g t) sound at number s differ e =
+    let l = live_leaf stored in
     let middle = closed tree wanted l in
     let grown = closed_grows tree wanted l sound at in
-    split_elsewhere middle.nodes wanted g t number s grown.sound.placed (open_again tree wanted stored.table stored.value sound.placed at) differ
+    split_elsewhere middle.nodes wanted g t number s grown.sound.placed (open_again tree wanted stored sound.placed at) differ
     (closed_elsewhere tree.nodes wanted l number s sound.placed at differ e)
-spot_after tree wanted stored table outcome (Prune seen) sound at number s differ e =
-    closed_elsewhere tree.nodes wanted (leaf.Bound stored.table stored.value) number s sound.placed at differ e
-spot_after tree wanted stored table outcome Ray sound at number s differ e =
-    closed_elsewhere tree.nodes wanted (leaf.Ray table) number s sound.placed at differ e
-spot_after tree wanted stored table outcome Empty sound at number s differ e =
-    closed_elsewhere tree.nodes wanted (leaf.Empty (unit_of outcome)) number s sound.placed at differ e
+spot_after tree wanted stored table exact outcome (Prune seen) sound at number s differ e =
+    closed_elsewhere tree.nodes wanted (bound_leaf stored) number s sound.placed at differ e
+spot_after tree wanted stored table exact outcome Ray sound at number s differ e =
+    closed_elsewhere tree.nodes wanted (ray_leaf exact table) number s sound.placed at differ e
+spot_after tree wanted stored table exact outcome Empty sound at number s differ e =
+    closed_elsewhere tree.nodes wanted (empty_leaf exact (unit_of outcome)) number s sound.placed at differ e
 
 -- a number below the count is that of a part
 part_below : (tree : TreeView) (number : ℕ) → IsSound tree → number < node_count tree.nodes
@@ -279,26 +294,26 @@ part_below tree number sound within =
     place_part sound.placed.places tree.nodes number sound.placed.are (omega (arith, sound.placed.are.count))
 
 -- what is open elsewhere, at a node that was there, was open before
-pub open_before : (tree : TreeView) (wanted : ℕ) (stored : Stored) (table : ℕ) (outcome : Outcome) (action : Move) → IsSound tree
+pub open_before : (tree : TreeView) (wanted : ℕ) (stored : Stored) (table : ℕ) (exact : Bool) (outcome : Outcome) (action : Move) → IsSound tree
     → IsOpenAt tree.nodes wanted → (number : ℕ) → number ≢ wanted → number < node_count tree.nodes
-    → IsOpenAt (tree_after tree wanted stored table outcome action).nodes number → IsOpenAt tree.nodes number
-open_before tree wanted stored table outcome action sound at number differ within new =
+    → IsOpenAt (tree_after tree wanted stored table exact outcome action).nodes number → IsOpenAt tree.nodes number
+open_before tree wanted stored table exact outcome action sound at number differ within new =
     let part = part_below tree number sound within in
     let was : spot_at tree.nodes number ≡ Some (spot_of part.0.tree) =
     ap (λ (o : Option Subtree). option_map (λ (p : Subtree). spot_of p.tree) o) part.1 in
-    let stays = spot_after tree wanted stored table outcome action sound at number (spot_of part.0.tree) differ was in
-    record { table = new.table; value = new.value; live = was ∙ (sym stays ∙ new.live) }
+    let stays = spot_after tree wanted stored table exact outcome action sound at number (spot_of part.0.tree) differ was in
+    record { table = new.table; value = new.value; exact = new.exact; live = was ∙ (sym stays ∙ new.live) }
 
 -- a cell that is free at a node that was there was free before
-pub free_before : (tree : TreeView) (wanted : ℕ) (stored : Stored) (table : ℕ) (outcome : Outcome) (action : Move) → IsSound tree
+pub free_before : (tree : TreeView) (wanted : ℕ) (stored : Stored) (table : ℕ) (exact : Bool) (outcome : Outcome) (action : Move) → IsSound tree
     → IsOpenAt tree.nodes wanted → IsFreeFor tree wanted action → (number : ℕ) → number < node_count tree.nodes
-    → HasFreeCell (tree_after tree wanted stored table outcome action) number → HasFreeCell tree number
-free_before tree wanted stored table outcome action sound at free number within new =
+    → HasFreeCell (tree_after tree wanted stored table exact outcome action) number → HasFreeCell tree number
+free_before tree wanted stored table exact outcome action sound at free number within new =
     let part = part_below tree number sound within in
     let was : node_at tree.nodes number ≡ Some part.0.node =
     ap (λ (o : Option Subtree). option_map (λ (p : Subtree). p.node) o) part.1 in
-    let stays = node_after tree wanted stored table outcome action sound at free number part.0.node was in
-    let grows = tree_grows tree wanted stored table outcome action sound at free in
+    let stays = node_after tree wanted stored table exact outcome action sound at free number part.0.node was in
+    let grows = tree_grows tree wanted stored table exact outcome action sound at free in
     record {
       g = new.g;
       t = new.t;
@@ -316,33 +331,36 @@ abbrev pub IsAgain : Move → Type 0
 IsAgain Again = Unit {0}
 IsAgain _ = ⊥
 
-not_open : (tree : NumberedTree) (number : ℕ) (s : Spot) → spot_at tree number ≡ Some s
-    → ((table : ℕ) (value : ℤ) → s ≢ spot.Leaf (leaf.Live table value)) → ¬ IsOpenAt tree number
-not_open tree number s stands differ at =
-    let both : Some s ≡ Some (spot.Leaf (leaf.Live at.table at.value)) = sym stands ∙ at.live in
-    differ at.table at.value (cc)
+abbrev IsNotLive : Leaf → Type 0
+IsNotLive l = (table : ℕ) (value : ℤ) (exact : Bool) → spot.Leaf l ≢ spot.Leaf (leaf.Live table value exact)
 
-pub open_again_only : (tree : TreeView) (wanted : ℕ) (stored : Stored) (table : ℕ) (outcome : Outcome) (action : Move) → IsSound tree
-    → IsOpenAt tree.nodes wanted → IsOpenAt (tree_after tree wanted stored table outcome action).nodes wanted → IsAgain action
-open_again_only tree wanted stored table outcome Again sound at new = tt
-open_again_only tree wanted stored table outcome (Split g t) sound at new =
-    let l = leaf.Live stored.table stored.value in
+not_open : (tree : NumberedTree) (number : ℕ) (s : Spot) → spot_at tree number ≡ Some s
+    → ((table : ℕ) (value : ℤ) (exact : Bool) → s ≢ spot.Leaf (leaf.Live table value exact)) → ¬ IsOpenAt tree number
+not_open tree number s stands differ at =
+    let both : Some s ≡ Some (spot.Leaf (leaf.Live at.table at.value at.exact)) = sym stands ∙ at.live in
+    differ at.table at.value at.exact (cc)
+
+pub open_again_only : (tree : TreeView) (wanted : ℕ) (stored : Stored) (table : ℕ) (exact : Bool) (outcome : Outcome) (action : Move) → IsSound tree
+    → IsOpenAt tree.nodes wanted → IsOpenAt (tree_after tree wanted stored table exact outcome action).nodes wanted → IsAgain action
+open_again_only tree wanted stored table exact outcome Again sound at new = tt
+open_again_only tree wanted stored table exact outcome (Split g t) sound at new =
+    let l = live_leaf stored in
     let middle = closed tree wanted l in
     let grow = split_leaf wanted g t (node_count middle.nodes) (suc (node_count middle.nodes)) in
     let grown = closed_grows tree wanted l sound at in
-    let again = open_again tree wanted stored.table stored.value sound.placed at in
+    let again = open_again tree wanted stored sound.placed at in
     let part = leaf_part middle wanted again in
-    let old = leaf.Live again.table again.value in
+    let old = leaf.Live again.table again.value again.exact in
     let there = part_there root middle.nodes wanted grow part.part old
     (are_apart middle.nodes grown.sound.placed.places grown.sound.placed.are) (λ x. refl) part.hangs part.is in
     not_open (split middle wanted g t).nodes wanted (spot_of (grow old))
-    (ap (λ (o : Option Subtree). option_map (λ (p : Subtree). spot_of p.tree) o) there) (λ a b e. cc) new
-open_again_only tree wanted stored table outcome (Prune seen) sound at new =
-    not_open (closed tree wanted (leaf.Bound stored.table stored.value)).nodes wanted (spot.Leaf (leaf.Bound stored.table stored.value))
-    (closed_there tree.nodes wanted (leaf.Bound stored.table stored.value) sound.placed at) (λ a b e. cc) new
-open_again_only tree wanted stored table outcome Ray sound at new =
-    not_open (closed tree wanted (leaf.Ray table)).nodes wanted (spot.Leaf (leaf.Ray table))
-    (closed_there tree.nodes wanted (leaf.Ray table) sound.placed at) (λ a b e. cc) new
-open_again_only tree wanted stored table outcome Empty sound at new =
-    not_open (closed tree wanted (leaf.Empty (unit_of outcome))).nodes wanted (spot.Leaf (leaf.Empty (unit_of outcome)))
-    (closed_there tree.nodes wanted (leaf.Empty (unit_of outcome)) sound.placed at) (λ a b e. cc) new
+    (ap (λ (o : Option Subtree). option_map (λ (p : Subtree). spot_of p.tree) o) there) (λ a b k e. cc) new
+open_again_only tree wanted stored table exact outcome (Prune seen) sound at new =
+    not_open (closed tree wanted (bound_leaf stored)).nodes wanted (spot.Leaf (bound_leaf stored))
+    (closed_there tree.nodes wanted (bound_leaf stored) sound.placed at) (λ a b k e. cc) new
+open_again_only tree wanted stored table exact outcome Ray sound at new =
+    not_open (closed tree wanted (ray_leaf exact table)).nodes wanted (spot.Leaf (ray_leaf exact table))
+    (closed_there tree.nodes wanted (ray_leaf exact table) sound.placed at) (of_ray IsNotLive exact table (λ a b k e. cc) (λ a b k e. cc)) new
+open_again_only tree wanted stored table exact outcome Empty sound at new =
+    not_open (closed tree wanted (empty_leaf exact (unit_of outcome))).nodes wanted (spot.Leaf (empty_leaf exact (unit_of outcome)))
+    (closed_there tree.nodes wanted (empty_leaf exact (unit_of outcome)) sound.placed at) (of_empty IsNotLive exact (unit_of outcome) (λ a b k e. cc) (λ a b k e. cc)) new

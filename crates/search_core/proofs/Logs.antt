@@ -1,5 +1,5 @@
 -- Every legal and true event keeps what is true of the log, of the tables, and of what each node stores by its own entries.
-use Rattle.std.proofs.Common.{◌≡◌, ◌≢◌, ℕ, suc, ◌-◌, ◌<◌, ◌≤◌, All, List, [], ◌∷◌, ◌++◌, length, set, refl, ap, sym, ◌∙◌, subst, arith, ⊎_elim, ℤ, Option, Some, None, slice_get, AllPairs, length-append}
+use Rattle.std.proofs.Common.{◌≡◌, ◌≢◌, ℕ, Bool, suc, ◌-◌, ◌<◌, ◌≤◌, All, List, [], ◌∷◌, ◌++◌, length, set, refl, ap, sym, ◌∙◌, subst, arith, ⊎_elim, ℤ, Option, Some, None, slice_get, AllPairs, length-append}
 use Rattle.std.proofs.lemmas.Bool.{cases_eq, cases_lt}
 use Rattle.std.proofs.lemmas.List.Elements.{All-nil, All-push}
 use Rattle.std.proofs.lemmas.Option.{slice_get_within, slice_get-get_or}
@@ -11,7 +11,7 @@ use Rattle.branch_tree.specs.declared.tree.Leaf.TheVariants as leaf
 use Rattle.branch_tree.proofs.Changes.{get-append, get-set_same}
 use Rattle.search_core.specs.Machine.{Entry, Table, Holder, Machine, IsHolding, entries_of, stored_at, start_of}
 use Rattle.search_core.specs.Moves.{Again, Outcome, Move, HasFreeCell, MayGoOn, IsMoveLegal, kept, tree_after}
-use Rattle.search_core.specs.Steps.{Claim, Commit, Publish, Event, IsFresh, IsStoredTable, IsLegal, committed, committed_by, after}
+use Rattle.search_core.specs.Steps.{Claim, Commit, Publish, Event, IsFresh, IsStoredTable, IsLegalBy, committed, committed_by, after}
 use Rattle.search_core.specs.Orderly.{Instance, IsOrderly}
 use Rattle.search_core.specs.OwnTables.{Node, Owns, HasFewEntries}
 use Rattle.search_core.specs.Runs.{IsTrueEvent, IsTrueStart}
@@ -47,7 +47,7 @@ started instance units periods workers budget gap table value = record {
   ended = All-nil (λ (entry : Entry). IsEnded [] entry.unit);
   first = refl;
   there = omega arith;
-  own = ((λ nonzero free. tt), (refl, refl));
+  own = ((λ nonzero free. tt), (refl, refl, refl));
   few = λ number free. omega arith;
   fewer = λ number at free. omega arith;
 }
@@ -99,44 +99,44 @@ apart_more : (tables : List Table) (table : Table) (one other : Entry) → one.t
     → AreApart tables one other → AreApart (tables ++ table ∷ []) one other
 apart_more tables table one other first second is = record {
   unit = is.unit;
-  pair = λ same e. is.pair same (sym (table_more tables table one.table first) ∙ (e ∙ table_more tables table other.table second));
+  pair = λ same kind e. is.pair same kind (sym (table_more tables table one.table first) ∙ (e ∙ table_more tables table other.table second));
 }
 
-apart_new : (m : Machine) (worker unit node : ℕ) (table : Table) (result : Outcome) (entry : Entry)
+apart_new : (m : Machine) (worker unit node : ℕ) (table : Table) (exact : Bool) (result : Outcome) (entry : Entry)
     → IsEnded m.claims entry.unit → IsHolding m worker unit node → entry.table < length m.tables
-    → (entry.node ≡ node → slice_get m.tables entry.table ≢ Some table)
-    → AreApart (m.tables ++ table ∷ []) entry (entry_by m worker unit node result)
-apart_new m worker unit node table result entry ended holds within fresh = record {
+    → (entry.node ≡ node → entry.exact ≡ exact → slice_get m.tables entry.table ≢ Some table)
+    → AreApart (m.tables ++ table ∷ []) entry (entry_by m worker unit node exact result)
+apart_new m worker unit node table exact result entry ended holds within fresh = record {
   unit = ended_apart m.claims entry.unit unit (record { worker = worker; node = node }) ended holds;
-  pair = λ same e. fresh same (sym (table_more m.tables table entry.table within) ∙ (e ∙ get_push_last m.tables table));
+  pair = λ same kind e. fresh same kind (sym (table_more m.tables table entry.table within) ∙ (e ∙ get_push_last m.tables table));
 }
 
 -- ---- how many entries a node has after a commit
-may_go_on : (m : Machine) (worker node : ℕ) (table : Table) (result : Outcome) (action : Move) → IsMoveLegal m worker node table result action
-    → IsAgain action → MayGoOn m node
-may_go_on m worker node table result Again legal is = legal.1
-may_go_on m worker node table result _ legal is = absurd is
+may_go_on : (looked : ℤ → Type 0) (m : Machine) (node : ℕ) (table : Table) (exact : Bool) (result : Outcome) (action : Move)
+    → IsMoveLegal looked m node table exact result action → IsAgain action → MayGoOn m node
+may_go_on looked m node table exact result Again legal is = legal.1
+may_go_on looked m node table exact result _ legal is = absurd is
 
-logged_committed : (instance : Instance) (start m : Machine) (worker unit node : ℕ) (table : Table) (result : Outcome) (action : Move)
-    → IsOrderly m → IsHolding m worker unit node → IsFresh m (entries_of m.log node) table
+logged_committed : (looked : ℤ → Type 0) (instance : Instance) (start m : Machine) (worker unit node : ℕ) (table : Table) (exact : Bool)
+    (result : Outcome) (action : Move) → IsOrderly m → IsHolding m worker unit node → IsFresh m (entries_of m.log node) table exact
     → (entries_of m.log node ≡ [] → node ≢ 0 → HasFreeCell m.tree node → IsStoredTable m node table)
-    → IsMoveLegal m worker node table result action → IsTrueEvent instance m (Commit worker unit table result action)
-    → HasTrueLog instance start m → HasTrueLog instance start (committed m worker unit node table result action)
-logged_committed instance start m worker unit node table result action orderly holding fresh at_first legal told is =
+    → IsMoveLegal looked m node table exact result action → IsTrueEvent instance m (Commit worker unit table exact result action)
+    → HasTrueLog instance start m → HasTrueLog instance start (committed m worker unit node table exact result action)
+logged_committed looked instance start m worker unit node table exact result action orderly holding fresh at_first legal told is =
     let held = holdable m worker unit node orderly holding in
     let at : IsOpenAt m.tree.nodes node = held.live in
     let part = leaf_part m.tree node at in
     let here = part.part.node in
-    let here_is = part_node m.tree node (leaf.Live at.table at.value) part in
+    let here_is = part_node m.tree node (leaf.Live at.table at.value at.exact) part in
     let own = told node here holding here_is in
-    let free = free_for m worker node table result action legal in
+    let free = free_for looked m node table exact result action legal in
     let sound = sound_of m orderly in
-    let stored = kept m node table result in
-    let new = tree_after m.tree node stored (length m.tables) result action in
+    let stored = kept m node table exact result in
+    let new = tree_after m.tree node stored (length m.tables) exact result action in
     let more = m.tables ++ table ∷ [] in
-    let entry = entry_by m worker unit node result in
+    let entry = entry_by m worker unit node exact result in
     let later = m.log ++ entry ∷ [] in
-    let stays = node_after m.tree node stored (length m.tables) result action sound at free in
+    let stays = node_after m.tree node stored (length m.tables) exact result action sound at free in
     let within = tables_within instance m.tree m.tables m.log is.entries in
     let longer = length-append m.tables (table ∷ []) in
     let entries : All (IsTrueEntry instance new more) later =
@@ -151,7 +151,7 @@ logged_committed instance start m worker unit node table result action orderly h
       outcome = own.told;
     }) in
     let before : (number : ℕ) → number < node_count m.tree.nodes → HasFreeCell new number → HasFreeCell m.tree number =
-    λ number below. free_before m.tree node stored (length m.tables) result action sound at free number below in
+    λ number below. free_before m.tree node stored (length m.tables) exact result action sound at free number below in
     let grown : length (entries_of later node) ≡ suc (length (entries_of m.log node)) =
     ap length (entries_own m.log entry node refl) ∙ omega (arith, length-append (entries_of m.log node) (entry ∷ [])) in
     let none : (number : ℕ) → node_count m.tree.nodes ≤ number → length (entries_of m.log number) ≡ 0 =
@@ -161,8 +161,8 @@ logged_committed instance start m worker unit node table result action orderly h
       apart = pairs_push (AreApart more) m.log entry
           (λ i j d less below. apart_more m.tables table _ _ (within i d (omega arith)) (within j d below) (is.apart i j d less below))
           (λ k d below.
-          apart_new m worker unit node table result _ (is.ended k d below) holding (within k d below)
-          (all_of_node (λ (e : Entry). slice_get m.tables e.table ≢ Some table) m.log node fresh k d below));
+          apart_new m worker unit node table exact result _ (is.ended k d below) holding (within k d below)
+          (all_of_node (λ (e : Entry). e.exact ≡ exact → slice_get m.tables e.table ≢ Some table) m.log node fresh k d below));
       ended = All-push (λ (e : Entry). IsEnded (set m.claims (unit - 1) None) e.unit) m.log entry
           (λ k d below. ended_still m.claims (unit - 1) _ (is.ended k d below))
           (record {
@@ -173,7 +173,7 @@ logged_committed instance start m worker unit node table result action orderly h
           });
       first = table_more m.tables table 0 (omega (arith, is.there)) ∙ is.first;
       there = omega (arith, is.there, longer);
-      own = own_after m worker unit node table result action (stored_at start.tree 0) orderly at within
+      own = own_after m worker unit node table exact result action (stored_at start.tree 0) orderly at within
           (tables_within instance new more later entries) is.there (omega (arith, is.there, longer)) at_first is.own;
       few = λ number cell. ⊎_elim
           (λ (e : number ≡ node).
@@ -188,31 +188,31 @@ logged_committed instance start m worker unit node table result action orderly h
           (cases_eq number node);
       fewer = λ number there cell. ⊎_elim
           (λ (e : number ≡ node).
-          let again = open_again_only m.tree node stored (length m.tables) result action sound at (subst (IsOpenAt new.nodes) e there) in
+          let again = open_again_only m.tree node stored (length m.tables) exact result action sound at (subst (IsOpenAt new.nodes) e there) in
           let was = before node held.below (subst (HasFreeCell new) e cell) in
           subst (λ n. length (entries_of later n) < 100) (sym e)
           (⊎_elim
           (λ (less : suc (length (entries_of m.log node)) < 100). omega (arith, grown, less))
           (λ (decided : HasFreeCell m.tree node → ⊥). absurd (decided was))
-          (may_go_on m worker node table result action legal again)))
+          (may_go_on looked m node table exact result action legal again)))
           (λ (differ : number ≡ node → ⊥).
           subst (λ es. length es < 100) (sym (entries_same m.log entry number differ))
           (⊎_elim
           (λ (l : number < node_count m.tree.nodes).
-          is.fewer number (open_before m.tree node stored (length m.tables) result action sound at number differ l there) (before number l cell))
+          is.fewer number (open_before m.tree node stored (length m.tables) exact result action sound at number differ l there) (before number l cell))
           (λ (l : node_count m.tree.nodes ≤ number). omega (arith, none number l))
           (cases_lt number (node_count m.tree.nodes))))
           (cases_eq number node);
     }
 
 -- ---- every event
-pub logged_after : (instance : Instance) (start m : Machine) (event : Event) → IsOrderly m → IsLegal m event → IsTrueEvent instance m event
-    → HasTrueLog instance start m → HasTrueLog instance start (after m event)
-logged_after instance start m (Claim worker node) orderly legal told is =
+pub logged_after : (looked : Machine → ℕ → ℤ → Type 0) (instance : Instance) (start m : Machine) (event : Event) → IsOrderly m
+    → IsLegalBy looked m event → IsTrueEvent instance m event → HasTrueLog instance start m → HasTrueLog instance start (after m event)
+logged_after looked instance start m (Claim worker node) orderly legal told is =
     claimed instance start m.tree m.tables m.claims m.log (Some (record { worker = worker; node = node })) is
-logged_after instance start m (Commit worker unit table result action) orderly legal told is =
-    subst (λ h. HasTrueLog instance start (committed_by m worker unit table result action h)) (sym legal.1.holds)
-    (logged_committed instance start m worker unit legal.1.node table result action orderly legal.1.holds legal.1.fresh legal.1.first
-    legal.1.legal told is)
-logged_after instance start m (Publish worker cost) orderly legal told is = is
-logged_after instance start m _ orderly legal told is = is
+logged_after looked instance start m (Commit worker unit table exact result action) orderly legal told is =
+    subst (λ h. HasTrueLog instance start (committed_by m worker unit table exact result action h)) (sym legal.1.holds)
+    (logged_committed (looked m worker) instance start m worker unit legal.1.node table exact result action orderly legal.1.holds legal.1.fresh
+    legal.1.first legal.1.legal told is)
+logged_after looked instance start m (Publish worker cost) orderly legal told is = is
+logged_after looked instance start m _ orderly legal told is = is

@@ -1,5 +1,5 @@
 -- The notes of the nodes, with the numbers and the scales of their tables, after each step.
-use Rattle.std.proofs.Common.{◌≡◌, ◌≢◌, ℕ, ◌<◌, List, [], ◌∷◌, length, map, get_or, sym, ◌∙◌, ap, arith, Some, slice_get, ◌≤◌, Bool, false, All, ◌++◌, replicate, set, subst, ⊎_elim, ℤ, ◌≤ℤ◌, ◌<ℤ◌, zero, suc, ◌+◌, true, cond, refl, Option, None, length-append, length-set, append-nil, ◌==◌, eq-eqb, ne_eqb, take, slice_index_or, slice_set, ◌-◌, ◌*◌, nat_lt}
+use Rattle.std.proofs.Common.{◌≡◌, ◌≢◌, ℕ, ◌<◌, List, [], ◌∷◌, length, map, sym, ◌∙◌, ap, arith, Some, slice_get, ◌≤◌, Bool, false, All, ◌++◌, replicate, set, subst, ⊎_elim, ℤ, ◌≤ℤ◌, ◌<ℤ◌, zero, suc, ◌+◌, true, cond, refl, Option, None, length-append, length-set, append-nil, ◌==◌, eq-eqb, ne_eqb, take, slice_index_or, slice_set, ◌-◌, ◌*◌, nat_lt}
 use Rattle.std.specs.Int.{int_max}
 use Rattle.std.proofs.lemmas.List.{length-map, get_or-map, nil_from_length, set-set, get_or-set_same, get_or_past, map-append, length-replicate, set-get_or, take_at}
 use Rattle.std.proofs.lemmas.Bool.{cases_lt, cases_Bool}
@@ -16,52 +16,38 @@ use Rattle.branch_tree.proofs.Changes.{get-append}
 use Rattle.branch_tree.proofs.Grown.{open_numbered, root_placed}
 use Rattle.branch_tree.proofs.Subtrees.{one_if}
 use Rattle.search_core.specs.Machine.{Entry, Table, entries_of, Holder, Desk, no_desk, desk_in, IsOpen, IsHeldIn, first_desk, start_of}
-use Rattle.search_core.specs.Notes.{entry_tables, Note, no_note, note_in, with_note, with_entry, IsScaleAtMost, AreScalesAtMost, AreScalesNoted, IsNoteOf, AreNotesOf, IsFreeLeaf, Inside, view_of, IsKept}
+use Rattle.search_core.specs.Notes.{Trial, trial_of, trials_of, Note, no_note, note_in, with_note, with_entry, IsUntried, IsScaleAtMost, AreScalesAtMost, AreScalesNoted, IsNoteOf, AreNotesOf, IsFreeLeaf, Inside, view_of, IsKept}
 use Rattle.search_core.specs.Orderly.{AreHoldersApart, MAX_BUDGET, WHOLE_GAP, IsOrderly, IsEachTicketOnce, times_at}
 use Rattle.search_core.specs.Steps.{with_desk, with_tickets}
 use Rattle.search_core.proofs.Claims.{get_push_last, get_set_cases, held_more, held_new, held_before, unheld_ended, still_held, was_held, get_blanks_cases}
 
-pub no_tables : (log : List Entry) (node : ℕ) → entry_tables log node ≡ [] → entries_of log node ≡ []
-no_tables log node none =
-    nil_from_length (entries_of log node) (sym (length-map (entries_of log node) (λ (entry : Entry). entry.table)) ∙ ap length none)
+pub no_trials : (log : List Entry) (node : ℕ) → trials_of log node ≡ [] → entries_of log node ≡ []
+no_trials log node none = nil_from_length (entries_of log node) (sym (length-map (entries_of log node) trial_of) ∙ ap length none)
 
--- none of the tables of these numbers is the one
-abbrev pub IsNoneOf : List Table → List ℕ → Table → Type 0
-IsNoneOf tables numbers table = (k d : ℕ) → k < length numbers → slice_get tables (get_or numbers k d) ≢ Some table
-
-pub none_of_entries : (tables : List Table) (entries : List Entry) (table : Table) → IsNoneOf tables (map (λ (entry : Entry). entry.table) entries) table
-    → (k : ℕ) (d : Entry) → k < length entries → slice_get tables (get_or entries k d).table ≢ Some table
-none_of_entries tables entries table none k d within e =
-    none k 0 (omega (arith, length-map entries (λ (entry : Entry). entry.table)))
-    (ap (slice_get tables) (get_or-map (λ (entry : Entry). entry.table) entries k d 0 within) ∙ e)
-
-pub entries_none_of : (tables : List Table) (entries : List Entry) (table : Table)
-    → ((k : ℕ) (d : Entry) → k < length entries → slice_get tables (get_or entries k d).table ≢ Some table)
-    → IsNoneOf tables (map (λ (entry : Entry). entry.table) entries) table
-entries_none_of tables [] table none k d within e = absurd (omega arith)
-entries_none_of tables (first ∷ rest) table none k d within e =
-    let inside : k < length (first ∷ rest) = omega (arith, length-map (first ∷ rest) (λ (entry : Entry). entry.table)) in
-    none k first inside (ap (slice_get tables) (sym (get_or-map (λ (entry : Entry). entry.table) (first ∷ rest) k first d inside)) ∙ e)
+-- what holds of the trials of entries holds of where each is
+pub each_trial : (P : Trial → Type 0) (entries : List Entry) → All P (map trial_of entries) → All (λ entry. P (trial_of entry)) entries
+each_trial P entries each k d within =
+    subst P (get_or-map trial_of entries k d (trial_of d) within) (each k (trial_of d) (omega (arith, length-map entries trial_of)))
 
 -- ---- The greatest scale of the tables of a node: what each step makes of it, and that a table above it is fresh.
--- an entry's table and then its scale
-pub note_entered : (notes middle last : List Note) (node table : ℕ) (scale : ℤ) → node < length notes
-    → middle ≡ with_note notes node (λ note. record note { tables = note.tables ++ table ∷ [] })
+-- an entry's trial and then its scale
+pub note_entered : (notes middle last : List Note) (node : ℕ) (trial : Trial) (scale : ℤ) → node < length notes
+    → middle ≡ with_note notes node (λ note. record note { trials = note.trials ++ trial ∷ [] })
     → last ≡ with_note middle node (λ note. record note { greatest = int_max note.greatest scale })
-    → last ≡ with_note notes node (λ note. with_entry note table scale)
-note_entered notes middle last node table scale within added scaled =
+    → last ≡ with_note notes node (λ note. with_entry note trial scale)
+note_entered notes middle last node trial scale within added scaled =
     let was = note_in notes node in
-    let more : Note = record was { tables = was.tables ++ table ∷ [] } in
+    let more : Note = record was { trials = was.trials ++ trial ∷ [] } in
     let above : Note → Note = λ note. record note { greatest = int_max note.greatest scale } in
     scaled
     ∙ ap (λ ns. with_note ns node above) added
     ∙ set-set notes node more (above (note_in (set notes node more) node))
     ∙ ap (λ note. set notes node (above note)) (get_or-set_same notes node more no_note within)
 
--- a table above the greatest is none of the note's
-pub above_all : (tables : List Table) (note : Note) (table : Table) → AreScalesAtMost tables note → note.greatest <ℤ table.k
-    → IsNoneOf tables note.tables table
-above_all tables note table each above k d within e =
+-- no trial of the note is at a table above the greatest
+pub above_all : (tables : List Table) (note : Note) (table : Table) (exact : Bool) → AreScalesAtMost tables note → note.greatest <ℤ table.k
+    → All (IsUntried tables table exact) note.trials
+above_all tables note table exact each above k d within kind e =
     let own = each k d within in
     let both : Some own.table ≡ Some table = sym own.is ∙ e in
     let same : own.table ≡ table = cc in
@@ -86,39 +72,40 @@ pub scales_held : (tables : List Table) (notes : List Note) (node : ℕ) (held :
 scales_held tables notes node held each =
     All-set (AreScalesAtMost tables) notes node (record (note_in notes node) { held = held }) (scales_in tables notes node each) each
 
--- the tables of a note, among more tables and below a scale that isn't less
-more_tables : (tables : List Table) (table : Table) (greatest later : ℤ) (numbers : List ℕ) → greatest ≤ℤ later
-    → All (IsScaleAtMost tables greatest) numbers → All (IsScaleAtMost (tables ++ table ∷ []) later) numbers
-more_tables tables table greatest later numbers most each k d within =
+-- the trials of a note, among more tables and below a scale that isn't less
+more_tables : (tables : List Table) (table : Table) (greatest later : ℤ) (trials : List Trial) → greatest ≤ℤ later
+    → All (IsScaleAtMost tables greatest) trials → All (IsScaleAtMost (tables ++ table ∷ []) later) trials
+more_tables tables table greatest later trials most each k d within =
     let own = each k d within in
     record { table = own.table; is = get-append tables (table ∷ []) _ own.table own.is; most = omega (arith, ints, own.most, most) }
 
-scales_entered : (tables : List Table) (notes : List Note) (node : ℕ) (table : Table) → AreScalesNoted tables notes
-    → AreScalesNoted (tables ++ table ∷ []) (with_note notes node (λ note. with_entry note (length tables) table.k))
-scales_entered tables notes node table each =
+scales_entered : (tables : List Table) (notes : List Note) (node : ℕ) (trial : Trial) (table : Table) → trial.table ≡ length tables
+    → AreScalesNoted tables notes → AreScalesNoted (tables ++ table ∷ []) (with_note notes node (λ note. with_entry note trial table.k))
+scales_entered tables notes node trial table last each =
     let later = tables ++ table ∷ [] in
     let was = note_in notes node in
     let greatest = int_max was.greatest table.k in
     let above : was.greatest ≤ℤ greatest = omega (arith, ints, int_max_is was.greatest table.k) in
     let most : table.k ≤ℤ greatest = omega (arith, ints, int_max_is was.greatest table.k) in
-    All-set (AreScalesAtMost later) notes node (with_entry was (length tables) table.k)
-    (All-append (IsScaleAtMost later greatest) was.tables (length tables ∷ [])
-    (more_tables tables table was.greatest greatest was.tables above (scales_in tables notes node each))
-    (All-cons (IsScaleAtMost later greatest) (length tables) [] (record { table = table; is = get_push_last tables table; most = most })
+    let is : slice_get later trial.table ≡ Some table = ap (slice_get later) last ∙ get_push_last tables table in
+    All-set (AreScalesAtMost later) notes node (with_entry was trial table.k)
+    (All-append (IsScaleAtMost later greatest) was.trials (trial ∷ [])
+    (more_tables tables table was.greatest greatest was.trials above (scales_in tables notes node each))
+    (All-cons (IsScaleAtMost later greatest) trial [] (record { table = table; is = is; most = most })
     (All-nil (IsScaleAtMost later greatest))))
     (λ k d within. more_tables tables table _ _ _ (omega (arith, ints)) (each k d within))
 
 -- the notes after a commit, known by equations alone
-pub scales_committed : (tables later : List Table) (notes recorded freed new : List Note) (node number added : ℕ) (table : Table) (scale : ℤ)
-    → AreScalesNoted tables notes → number ≡ length tables → scale ≡ table.k → later ≡ tables ++ table ∷ []
-    → recorded ≡ with_note notes node (λ note. with_entry note number scale)
+pub scales_committed : (tables later : List Table) (notes recorded freed new : List Note) (node : ℕ) (trial : Trial) (added : ℕ) (table : Table)
+    (scale : ℤ) → AreScalesNoted tables notes → trial.table ≡ length tables → scale ≡ table.k → later ≡ tables ++ table ∷ []
+    → recorded ≡ with_note notes node (λ note. with_entry note trial scale)
     → freed ≡ with_note recorded node (λ note. record note { held = false }) → new ≡ freed ++ replicate added no_note
     → AreScalesNoted later new
-scales_committed tables later notes recorded freed new node number added table scale each number_is scale_is later_is recorded_is freed_is new_is =
-    let noted : recorded ≡ with_note notes node (λ note. with_entry note (length tables) table.k) =
-    recorded_is ∙ (λ i. with_note notes node (λ note. with_entry note (number_is i) (scale_is i))) in
+scales_committed tables later notes recorded freed new node trial added table scale each last scale_is later_is recorded_is freed_is new_is =
+    let noted : recorded ≡ with_note notes node (λ note. with_entry note trial table.k) =
+    recorded_is ∙ (λ i. with_note notes node (λ note. with_entry note trial (scale_is i))) in
     let entered : AreScalesNoted later recorded = subst (λ ts. AreScalesNoted ts recorded) (sym later_is)
-    (subst (AreScalesNoted (tables ++ table ∷ [])) (sym noted) (scales_entered tables notes node table each)) in
+    (subst (AreScalesNoted (tables ++ table ∷ [])) (sym noted) (scales_entered tables notes node trial table last each)) in
     let free : AreScalesNoted later freed = subst (AreScalesNoted later) (sym freed_is) (scales_held later recorded node false entered) in
     subst (AreScalesNoted later) (sym new_is)
     (All-append (AreScalesAtMost later) freed (replicate added no_note) free
@@ -127,23 +114,23 @@ scales_committed tables later notes recorded freed new node number added table s
 -- ---- The notes of the nodes after a claim and after a commit.
 -- ---- the entries of a node after one more
 entries_split : (log : List Entry) (entry : Entry) (node : ℕ)
-    → entry_tables (log ++ entry ∷ []) node ≡ entry_tables log node ++ map (λ (e : Entry). e.table) (cond (entry.node == node) (entry ∷ []) [])
+    → trials_of (log ++ entry ∷ []) node ≡ trials_of log node ++ map trial_of (cond (entry.node == node) (entry ∷ []) [])
 entries_split log entry node =
-    ap (map (λ (e : Entry). e.table)) (filter-append (λ (e : Entry). e.node == node) log (entry ∷ []))
-    ∙ map-append (λ (e : Entry). e.table) (entries_of log node) (cond (entry.node == node) (entry ∷ []) [])
+    ap (map trial_of) (filter-append (λ (e : Entry). e.node == node) log (entry ∷ []))
+    ∙ map-append trial_of (entries_of log node) (cond (entry.node == node) (entry ∷ []) [])
 
-pub tables_more : (log : List Entry) (entry : Entry) (node : ℕ) → entry.node ≡ node
-    → entry_tables (log ++ entry ∷ []) node ≡ entry_tables log node ++ entry.table ∷ []
-tables_more log entry node e =
+pub trials_more : (log : List Entry) (entry : Entry) (node : ℕ) → entry.node ≡ node
+    → trials_of (log ++ entry ∷ []) node ≡ trials_of log node ++ trial_of entry ∷ []
+trials_more log entry node e =
     entries_split log entry node
-    ∙ ap (λ b. entry_tables log node ++ map (λ (x : Entry). x.table) (cond b (entry ∷ []) [])) (eq-eqb entry.node node e)
+    ∙ ap (λ b. trials_of log node ++ map trial_of (cond b (entry ∷ []) [])) (eq-eqb entry.node node e)
 
-pub tables_same : (log : List Entry) (entry : Entry) (node : ℕ) → node ≢ entry.node
-    → entry_tables (log ++ entry ∷ []) node ≡ entry_tables log node
-tables_same log entry node differ =
+pub trials_same : (log : List Entry) (entry : Entry) (node : ℕ) → node ≢ entry.node
+    → trials_of (log ++ entry ∷ []) node ≡ trials_of log node
+trials_same log entry node differ =
     entries_split log entry node
-    ∙ ap (λ b. entry_tables log node ++ map (λ (x : Entry). x.table) (cond b (entry ∷ []) [])) (ne_eqb entry.node node (λ e. differ (sym e)))
-    ∙ append-nil (entry_tables log node)
+    ∙ ap (λ b. trials_of log node ++ map trial_of (cond b (entry ∷ []) [])) (ne_eqb entry.node node (λ e. differ (sym e)))
+    ∙ append-nil (trials_of log node)
 
 -- a node that no entry is of has none
 pub no_entries : (log : List Entry) (count node : ℕ) → All (λ entry. entry.node < count) log → count ≤ node → entries_of log node ≡ []
@@ -173,7 +160,7 @@ notes_claimed claims log count notes worker node are within =
           let here : IsNoteOf (claims ++ Some holder ∷ []) log node new = record {
             held = λ h. held_new claims worker node;
             unheld = λ h. absurd (cc);
-            tables = own.tables;
+            trials = own.trials;
           } in
           subst (λ n. IsNoteOf (claims ++ Some holder ∷ []) log n note) (sym l.0)
           (subst (IsNoteOf (claims ++ Some holder ∷ []) log node) l.1 here))
@@ -182,27 +169,27 @@ notes_claimed claims log count notes worker node are within =
           record {
             held = λ h. held_more claims holder k (old.held h);
             unheld = λ h held. old.unheld h (held_before claims holder k r.0 held);
-            tables = old.tables;
+            trials = old.trials;
           })
           (get_set_cases notes node k new note e);
     }
 
 -- ---- a commit
 -- the notes after an entry at a table of this scale, the end of the claim, and so many nodes more
-abbrev pub notes_after : List Note → ℕ → ℕ → ℤ → ℕ → List Note
-notes_after notes node table scale added =
-    with_note (with_note notes node (λ note. with_entry note table scale)) node (λ note. record note { held = false })
+abbrev pub notes_after : List Note → ℕ → Trial → ℤ → ℕ → List Note
+notes_after notes node trial scale added =
+    with_note (with_note notes node (λ note. with_entry note trial scale)) node (λ note. record note { held = false })
     ++ replicate added no_note
 
 pub notes_committed : (nodes : NumberedTree) (claims : List (Option Holder)) (log : List Entry) (notes : List Note) (claim : ℕ) (holder : Holder)
     (entry : Entry) (scale : ℤ) (added : ℕ) → IsPlaced nodes → AreHoldersApart nodes claims → All (λ entry. entry.node < node_count nodes) log
     → AreNotesOf claims log (node_count nodes) notes → slice_get claims claim ≡ Some (Some holder) → entry.node ≡ holder.node
-    → AreNotesOf (set claims claim None) (log ++ entry ∷ []) (node_count nodes + added) (notes_after notes holder.node entry.table scale added)
+    → AreNotesOf (set claims claim None) (log ++ entry ∷ []) (node_count nodes + added) (notes_after notes holder.node (trial_of entry) scale added)
 notes_committed nodes claims log notes claim holder entry scale added placed apart within are held is =
     let node = holder.node in
     let below = open_numbered nodes node placed (apart.live claim holder held) in
     let own = noted claims log (node_count nodes) notes node are below in
-    let first : Note = with_entry (note_in notes node) entry.table scale in
+    let first : Note = with_entry (note_in notes node) (trial_of entry) scale in
     let middle = set notes node first in
     let second : Note = record (note_in middle node) { held = false } in
     let last = set middle node second in
@@ -218,7 +205,7 @@ notes_committed nodes claims log notes claim holder entry scale added placed apa
           let ours : IsNoteOf (set claims claim None) (log ++ entry ∷ []) node second = record {
             held = λ h. absurd (cc);
             unheld = λ h. unheld_ended nodes claims claim holder apart held;
-            tables = ap (λ (n : Note). n.tables) read ∙ (ap (λ t. t ++ entry.table ∷ []) own.tables ∙ sym (tables_more log entry node is));
+            trials = ap (λ (n : Note). n.trials) read ∙ (ap (λ t. t ++ trial_of entry ∷ []) own.trials ∙ sym (trials_more log entry node is));
           } in
           subst (λ n. IsNoteOf (set claims claim None) (log ++ entry ∷ []) n note) (sym here.0)
           (subst (IsNoteOf (set claims claim None) (log ++ entry ∷ []) node) here.1 ours))
@@ -229,7 +216,7 @@ notes_committed nodes claims log notes claim holder entry scale added placed apa
           record {
             held = λ h. still_held claims claim holder k held old.0 (was.held h);
             unheld = λ h now. was.unheld h (was_held claims claim k now);
-            tables = was.tables ∙ sym (tables_same log entry k (λ same. old.0 (same ∙ is)));
+            trials = was.trials ∙ sym (trials_same log entry k (λ same. old.0 (same ∙ is)));
           })
           (get_set_cases notes node k first note other.1))
           (get_set_cases middle node k second note l))
@@ -241,8 +228,8 @@ notes_committed nodes claims log notes claim holder entry scale added placed apa
                 let before = was_held claims claim k now in
                 let open_there = open_numbered nodes k placed (apart.live before.claim (record { worker = before.worker; node = k }) before.holds) in
                 absurd (omega arith);
-            tables = sym (tables_same log entry k (λ same. omega (arith, ap (λ (n : ℕ). n) (same ∙ is)))
-                ∙ ap (map (λ (x : Entry). x.table)) (no_entries log (node_count nodes) k within past));
+            trials = sym (trials_same log entry k (λ same. omega (arith, ap (λ (n : ℕ). n) (same ∙ is)))
+                ∙ ap (map trial_of) (no_entries log (node_count nodes) k within past));
           } in
           subst (IsNoteOf (set claims claim None) (log ++ entry ∷ []) k) r.1 blank)
           (get_blanks_cases last added no_note note k e);
@@ -261,15 +248,15 @@ put_back items middle last none i more less within added kept back =
     ∙ ap (slice_set items i) (ap less (get_or-set_same items i changed none within) ∙ back)
     ∙ set-get_or items i none
 
-pub note_put_back : (notes middle last : List Note) (node table count : ℕ) → node < length notes
-    → middle ≡ with_note notes node (λ note. record note { tables = note.tables ++ table ∷ [] })
-    → last ≡ with_note middle node (λ note. record note { tables = take count note.tables })
-    → count ≡ length (note_in notes node).tables → last ≡ notes
-note_put_back notes middle last node table count within added kept is =
+pub note_put_back : (notes middle last : List Note) (node : ℕ) (trial : Trial) (count : ℕ) → node < length notes
+    → middle ≡ with_note notes node (λ note. record note { trials = note.trials ++ trial ∷ [] })
+    → last ≡ with_note middle node (λ note. record note { trials = take count note.trials })
+    → count ≡ length (note_in notes node).trials → last ≡ notes
+note_put_back notes middle last node trial count within added kept is =
     let was = note_in notes node in
-    put_back notes middle last no_note node (λ note. record note { tables = note.tables ++ table ∷ [] })
-    (λ note. record note { tables = take count note.tables }) within added kept
-    (ap (λ tables. record was { tables = tables }) (take_at was.tables (table ∷ []) count (sym is)))
+    put_back notes middle last no_note node (λ note. record note { trials = note.trials ++ trial ∷ [] })
+    (λ note. record note { trials = take count note.trials }) within added kept
+    (ap (λ trials. record was { trials = trials }) (take_at was.trials (trial ∷ []) count (sym is)))
 
 pub desk_put_back : (desks middle last : List Desk) (worker : ℕ) (tickets : List ℕ) (count : ℕ) → worker < length desks
     → middle ≡ with_desk desks worker (λ desk. with_tickets desk tickets)
@@ -322,7 +309,7 @@ first_tickets workers node =
 pub orderly_start : (units periods workers budget gap : ℕ) (table : Table) (value : ℤ) → budget ≤ MAX_BUDGET → gap ≤ WHOLE_GAP
     → IsOrderly (start_of units periods workers budget gap table value)
 orderly_start units periods workers budget gap table value most whole = record {
-  placed = root_placed (leaf.Live 0 value);
+  placed = root_placed (leaf.Live 0 value false);
   cover = λ instance size. tt;
   holders = record { live = λ claim holder e. absurd (cc); once = λ one other holder second e f same. absurd (cc) };
   entries = All-nil (λ (entry : Entry). entry.node < 1);
@@ -341,7 +328,7 @@ pub start_notes : AreNotesOf [] [] 1 (no_note ∷ [])
 start_notes = record { length = refl; each = each }
   where
     blank : IsNoteOf [] [] 0 no_note
-    blank = record { held = λ e. absurd (cc); unheld = λ e held. none held; tables = refl }
+    blank = record { held = λ e. absurd (cc); unheld = λ e held. none held; trials = refl }
       where
         none : (held : IsHeldIn [] 0) → ⊥
         none held = let e = held.holds in cc

@@ -1,5 +1,5 @@
 -- Every legal event keeps the state orderly, and the fields as they must be.
-use Rattle.std.proofs.Common.{◌≡◌, ℕ, ◌+◌, ◌-◌, ◌<◌, ◌≤◌, All, List, [], ◌∷◌, ◌++◌, length, set, refl, ap, sym, ◌∙◌, subst, arith, Option, Some, None, ℤ, length-append, length-set, replicate, false}
+use Rattle.std.proofs.Common.{◌≡◌, ℕ, Bool, ◌+◌, ◌-◌, ◌<◌, ◌≤◌, All, List, [], ◌∷◌, ◌++◌, length, set, refl, ap, sym, ◌∙◌, subst, arith, Option, Some, None, ℤ, length-append, length-set, replicate, false}
 use Rattle.std.proofs.lemmas.List.Elements.{All-nil, All-cons, All-append}
 use Rattle.std.proofs.lemmas.Option.{slice_get_within}
 use Rattle.branch_tree.specs.NumberedTree.{node_count}
@@ -9,9 +9,9 @@ use Rattle.branch_tree.proofs.Grown.{open_numbered}
 use Rattle.search_core.specs.Machine.{Entry, Table, Holder, Desk, Machine, holder_of, IsWorker, desk_in, IsHolding}
 use Rattle.search_core.specs.declared.stored.Stored.{Stored}
 use Rattle.search_core.specs.Moves.{Again, Outcome, Split, Move, kept, tree_after, tickets_of, IsFreeFor, IsMoveLegal, children_by}
-use Rattle.search_core.specs.Steps.{Claim, Commit, Look, Pop, Publish, Push, Steal, Event, IsLegal, committed, committed_by, after, with_desk, with_tickets, IsCommittable}
+use Rattle.search_core.specs.Steps.{Claim, Commit, Look, Pop, Publish, Push, Steal, Event, IsLegal, IsLegalBy, HasSeen, committed, committed_by, after, with_desk, with_tickets, IsClaimable, IsCommittable}
 use Rattle.search_core.specs.Orderly.{IsOrderly, AreHoldersApart, IsEachTicketOnce, held_count, times_at}
-use Rattle.search_core.specs.Notes.{AreNotesOf, AreScalesNoted, Note, no_note, with_note, with_entry, Inside, view_of, IsKept}
+use Rattle.search_core.specs.Notes.{AreNotesOf, AreScalesNoted, Note, no_note, with_note, with_entry, trial_of, Inside, view_of, IsKept}
 use Rattle.search_core.proofs.Claims.{holder_place, held_push, held_ended, holders_push, holders_ended, times_kept, tickets_queued, tickets_taken, tickets_more, tickets_same, holdable}
 use Rattle.search_core.proofs.Growth.{IsSound, tree_grows}
 use Rattle.search_core.proofs.NoteSteps.{notes_after, notes_committed}
@@ -36,7 +36,7 @@ seen_changed m worker change orderly within same node =
     times_kept m.desks worker change node within (same (desk_in m.desks worker) node) ∙ orderly.tickets node
 
 -- ---- a claim
-claimed : (m : Machine) (worker node : ℕ) → IsOrderly m → IsLegal m (Claim worker node) → IsOrderly (after m (Claim worker node))
+claimed : (m : Machine) (worker node : ℕ) → IsOrderly m → IsClaimable m node → IsOrderly (after m (Claim worker node))
 claimed m worker node orderly legal =
     let holder : Holder = record { worker = worker; node = node } in
     let more = held_push m.claims holder in
@@ -45,11 +45,11 @@ claimed m worker node orderly legal =
     record {
       placed = orderly.placed;
       cover = orderly.cover;
-      holders = holders_push m.tree.nodes m.claims holder orderly.holders legal.1.open_node.live legal.1.open_node.unheld;
+      holders = holders_push m.tree.nodes m.claims holder orderly.holders legal.open_node.live legal.open_node.unheld;
       entries = orderly.entries;
       tickets = orderly.tickets;
       amounts = record {
-        claims = omega (arith, longer, legal.1.left);
+        claims = omega (arith, longer, legal.left);
         tables = omega (arith, longer, more, amounts.tables);
         nodes = omega (arith, longer, more, amounts.nodes);
         room = amounts.room;
@@ -59,10 +59,10 @@ claimed m worker node orderly legal =
     }
 
 -- ---- a commit
-pub free_for : (m : Machine) (worker node : ℕ) (table : Table) (outcome : Outcome) (action : Move)
-    → IsMoveLegal m worker node table outcome action → IsFreeFor m.tree node action
-free_for m worker node table outcome (Split g t) legal = legal.1
-free_for m worker node table outcome _ legal = tt
+pub free_for : (looked : ℤ → Type 0) (m : Machine) (node : ℕ) (table : Table) (exact : Bool) (outcome : Outcome) (action : Move)
+    → IsMoveLegal looked m node table exact outcome action → IsFreeFor m.tree node action
+free_for looked m node table exact outcome (Split g t) legal = legal.1
+free_for looked m node table exact outcome _ legal = tt
 
 -- at most two tickets, and those of the nodes that the move adds
 few_tickets : (tree : TreeView) (action : Move) → length (tickets_of tree action) ≤ 2
@@ -92,14 +92,14 @@ entries_more log entry count later each own more =
     (λ k d within. let one = each k d within in omega arith)
     (All-cons (λ (e : Entry). e.node < later) entry [] (omega arith) (All-nil (λ (e : Entry). e.node < later)))
 
-pub committed_orderly : (m : Machine) (worker unit node : ℕ) (table : Table) (outcome : Outcome) (action : Move) → IsOrderly m
+pub committed_orderly : (m : Machine) (worker unit node : ℕ) (table : Table) (exact : Bool) (outcome : Outcome) (action : Move) → IsOrderly m
     → IsWorker m worker → holder_of m unit ≡ Some (record { worker = worker; node = node })
-    → IsFreeFor m.tree node action → IsOrderly (committed m worker unit node table outcome action)
-committed_orderly m worker unit node table outcome action orderly within holds free =
+    → IsFreeFor m.tree node action → IsOrderly (committed m worker unit node table exact outcome action)
+committed_orderly m worker unit node table exact outcome action orderly within holds free =
     let holder : Holder = record { worker = worker; node = node } in
     let place = holder_place m.claims unit holder holds in
     let at : IsOpenAt m.tree.nodes node = orderly.holders.live place.0 holder place.2 in
-    let grows = tree_grows m.tree node (kept m node table outcome) (length m.tables) outcome action (sound_of m orderly) at free in
+    let grows = tree_grows m.tree node (kept m node table exact outcome) (length m.tables) exact outcome action (sound_of m orderly) at free in
     let unit_is : unit - 1 ≡ place.0 = omega (arith, place.1) in
     let claims : set m.claims (unit - 1) None ≡ set m.claims place.0 None = ap (λ i. set m.claims i None) unit_is in
     let fewer = held_ended m.claims place.0 holder place.2 in
@@ -112,10 +112,10 @@ committed_orderly m worker unit node table outcome action orderly within holds f
     record {
       placed = grows.sound.placed;
       cover = grows.sound.cover;
-      holders = subst (AreHoldersApart (tree_after m.tree node (kept m node table outcome) (length m.tables) outcome action).nodes) (sym claims)
-          (holders_ended m.tree.nodes (tree_after m.tree node (kept m node table outcome) (length m.tables) outcome action).nodes
+      holders = subst (AreHoldersApart (tree_after m.tree node (kept m node table exact outcome) (length m.tables) exact outcome action).nodes) (sym claims)
+          (holders_ended m.tree.nodes (tree_after m.tree node (kept m node table exact outcome) (length m.tables) exact outcome action).nodes
           m.claims place.0 holder orderly.holders place.2 grows.stays);
-      entries = entries_more m.log (record { unit = unit; worker = worker; node = node; table = length m.tables; outcome = outcome })
+      entries = entries_more m.log (record { unit = unit; worker = worker; node = node; table = length m.tables; exact = exact; outcome = outcome })
           (node_count m.tree.nodes) _ orderly.entries (open_numbered m.tree.nodes node orderly.placed at) (omega (arith, grows.count));
       tickets = subst (IsEachTicketOnce (with_desk m.desks worker (λ desk. with_tickets desk (tickets_of m.tree action)))) (sym grows.count)
           (new_tickets m worker action orderly within);
@@ -130,67 +130,63 @@ committed_orderly m worker unit node table outcome action orderly within holds f
     }
 
 -- ---- every event
-pub orderly_after : (m : Machine) (event : Event) → IsOrderly m → IsLegal m event → IsOrderly (after m event)
-orderly_after m (Claim worker node) orderly legal = claimed m worker node orderly legal
-orderly_after m (Commit worker unit table outcome action) orderly legal =
-    subst (λ h. IsOrderly (committed_by m worker unit table outcome action h)) (sym legal.1.holds)
-    (committed_orderly m worker unit legal.1.node table outcome action orderly legal.0 legal.1.holds
-    (free_for m worker legal.1.node table outcome action legal.1.legal))
-orderly_after m (Publish worker cost) orderly legal =
+pub orderly_after : (looked : Machine → ℕ → ℤ → Type 0) (m : Machine) (event : Event) → IsOrderly m → IsLegalBy looked m event
+    → IsOrderly (after m event)
+orderly_after looked m (Claim worker node) orderly legal = claimed m worker node orderly legal.1
+orderly_after looked m (Commit worker unit table exact outcome action) orderly legal =
+    subst (λ h. IsOrderly (committed_by m worker unit table exact outcome action h)) (sym legal.1.holds)
+    (committed_orderly m worker unit legal.1.node table exact outcome action orderly legal.0 legal.1.holds
+    (free_for (looked m worker) m legal.1.node table exact outcome action legal.1.legal))
+orderly_after looked m (Publish worker cost) orderly legal =
     desks_changed m _ _ orderly
     (seen_changed m worker (λ desk. record desk { seen = lesser_bound desk.seen (Some cost) }) orderly legal (λ desk node. refl))
-orderly_after m (Look worker) orderly legal =
+orderly_after looked m (Look worker) orderly legal =
     desks_changed m m.best _ orderly (seen_changed m worker (λ desk. record desk { seen = m.best }) orderly legal (λ desk node. refl))
-orderly_after m (Push worker node) orderly legal =
+orderly_after looked m (Push worker node) orderly legal =
     desks_changed m m.best _ orderly (tickets_queued m.desks (node_count m.tree.nodes) worker node orderly.tickets legal.0 legal.1)
-orderly_after m (Pop worker) orderly legal =
+orderly_after looked m (Pop worker) orderly legal =
     desks_changed m m.best _ orderly (tickets_taken m.desks (node_count m.tree.nodes) worker worker orderly.tickets legal.0 legal.0 legal.1)
-orderly_after m (Steal worker victim) orderly legal =
+orderly_after looked m (Steal worker victim) orderly legal =
     desks_changed m m.best _ orderly (tickets_taken m.desks (node_count m.tree.nodes) worker victim orderly.tickets legal.0 legal.1 legal.2)
 
--- ---- The fields after a step keep what they must, where the notes do.
 -- ---- no step changes the size of the tree
 pub record IsAsLarge (new old : TreeView) : Type 0 where
   pub units : new.units ≡ old.units
   pub periods : new.periods ≡ old.periods
 
-tree_as_large : (tree : TreeView) (node : ℕ) (stored : Stored) (number : ℕ) (outcome : Outcome) (action : Move)
-    → IsAsLarge (tree_after tree node stored number outcome action) tree
-tree_as_large tree node stored number outcome Again = record { units = refl; periods = refl }
-tree_as_large tree node stored number outcome _ = record { units = refl; periods = refl }
+tree_as_large : (tree : TreeView) (node : ℕ) (stored : Stored) (number : ℕ) (exact : Bool) (outcome : Outcome) (action : Move)
+    → IsAsLarge (tree_after tree node stored number exact outcome action) tree
+tree_as_large tree node stored number exact outcome Again = record { units = refl; periods = refl }
+tree_as_large tree node stored number exact outcome _ = record { units = refl; periods = refl }
 
-committed_as_large : (m : Machine) (worker unit : ℕ) (table : Table) (outcome : Outcome) (action : Move) (holder : Option Holder)
-    → IsAsLarge (committed_by m worker unit table outcome action holder).tree m.tree
-committed_as_large m worker unit table outcome action None = record { units = refl; periods = refl }
-committed_as_large m worker unit table outcome action (Some holder) =
-    tree_as_large m.tree holder.node (kept m holder.node table outcome) _ outcome action
+committed_as_large : (m : Machine) (worker unit : ℕ) (table : Table) (exact : Bool) (outcome : Outcome) (action : Move) (holder : Option Holder)
+    → IsAsLarge (committed_by m worker unit table exact outcome action holder).tree m.tree
+committed_as_large m worker unit table exact outcome action None = record { units = refl; periods = refl }
+committed_as_large m worker unit table exact outcome action (Some holder) =
+    tree_as_large m.tree holder.node (kept m holder.node table exact outcome) _ exact outcome action
 
 pub as_large_after : (m : Machine) (event : Event) → IsAsLarge (after m event).tree m.tree
-as_large_after m (Commit worker unit table outcome action) =
-    committed_as_large m worker unit table outcome action (holder_of m unit)
+as_large_after m (Commit worker unit table exact outcome action) =
+    committed_as_large m worker unit table exact outcome action (holder_of m unit)
 as_large_after m _ = record { units = refl; periods = refl }
 
--- ---- the fields
+-- ---- The fields after a step keep what they must, where the notes do.
 pub kept_by : (a b : Inside) (m : Machine) (event : Event) → view_of a ≡ m → IsKept a → IsLegal m event
-    → view_of b ≡ after (view_of a) event → b.units ≡ a.units → b.periods ≡ a.periods
-    → AreNotesOf b.claims.items b.log (node_count b.tree.nodes) b.notes.items → AreScalesNoted b.tables b.notes.items → IsKept b
-kept_by a b m event seen kept legal view units periods notes scales =
-    let large = as_large_after (view_of a) event in
-    record {
-      orderly = subst IsOrderly (sym view)
-          (orderly_after (view_of a) event kept.orderly (subst (λ (x : Machine). IsLegal x event) (sym seen) legal));
-      notes = notes;
-      scales = scales;
-      units = units ∙ (kept.units ∙ (sym large.units ∙ sym (ap (λ (x : Machine). x.tree.units) view)));
-      periods = periods ∙ (kept.periods ∙ (sym large.periods ∙ sym (ap (λ (x : Machine). x.tree.periods) view)));
-    }
+    → view_of b ≡ after (view_of a) event → AreNotesOf b.claims.items b.log (node_count b.tree.nodes) b.notes.items
+    → AreScalesNoted b.tables b.notes.items → IsKept b
+kept_by a b m event seen kept legal view notes scales = record {
+  orderly = subst IsOrderly (sym view)
+      (orderly_after HasSeen (view_of a) event kept.orderly (subst (λ (x : Machine). IsLegal x event) (sym seen) legal));
+  notes = notes;
+  scales = scales;
+}
 
 -- the same, by the state that the fields stood for
 pub kept_to : (a b : Inside) (m : Machine) (event : Event) → view_of a ≡ m → IsKept a → IsLegal m event
-    → view_of b ≡ after m event → b.units ≡ a.units → b.periods ≡ a.periods
-    → AreNotesOf b.claims.items b.log (node_count b.tree.nodes) b.notes.items → AreScalesNoted b.tables b.notes.items → IsKept b
-kept_to a b m event seen kept legal view units periods notes scales =
-    kept_by a b m event seen kept legal (view ∙ sym (ap (λ (x : Machine). after x event) seen)) units periods notes scales
+    → view_of b ≡ after m event → AreNotesOf b.claims.items b.log (node_count b.tree.nodes) b.notes.items
+    → AreScalesNoted b.tables b.notes.items → IsKept b
+kept_to a b m event seen kept legal view notes scales =
+    kept_by a b m event seen kept legal (view ∙ sym (ap (λ (x : Machine). after x event) seen)) notes scales
 
 -- ---- What the fields are after a commit.
 -- a move adds as many nodes, whichever numbers they have
@@ -199,23 +195,23 @@ same_count a b c d Again = refl
 same_count a b c d _ = refl
 
 -- of the node that is held a split is free
-pub free_of_commit : (m : Machine) (worker unit node : ℕ) (table : Table) (outcome : Outcome) (action : Move) → IsHolding m worker unit node
-    → IsCommittable m worker unit table outcome action → IsFreeFor m.tree node action
-free_of_commit m worker unit node table outcome action holding legal =
+pub free_of_commit : (looked : ℤ → Type 0) (m : Machine) (worker unit node : ℕ) (table : Table) (exact : Bool) (outcome : Outcome) (action : Move)
+    → IsHolding m worker unit node → IsCommittable looked m worker unit table exact outcome action → IsFreeFor m.tree node action
+free_of_commit looked m worker unit node table exact outcome action holding legal =
     let both : Some (record { worker = worker; node = legal.node }) ≡ Some (record { worker = worker; node = node }) = sym legal.holds ∙ holding in
     let one : record { worker = worker; node = legal.node } ≡ record { worker = worker; node = node } = cc in
     subst (λ n. IsFreeFor m.tree n action) (ap (λ (h : Holder). h.node) one)
-    (free_for m worker legal.node table outcome action legal.legal)
+    (free_for looked m legal.node table exact outcome action legal.legal)
 
-pub commit_count : (m : Machine) (worker unit node : ℕ) (table : Table) (outcome : Outcome) (action : Move) (stored : Stored)
-    (number a b : ℕ) (new : TreeView) (children : List ℕ) → IsOrderly m → IsHolding m worker unit node
-    → IsCommittable m worker unit table outcome action
-    → new ≡ tree_after m.tree node stored number outcome action → children ≡ children_by (a ∷ b ∷ []) action
+pub commit_count : (looked : ℤ → Type 0) (m : Machine) (worker unit node : ℕ) (table : Table) (exact : Bool) (outcome : Outcome) (action : Move)
+    (stored : Stored) (number a b : ℕ) (new : TreeView) (children : List ℕ) → IsOrderly m → IsHolding m worker unit node
+    → IsCommittable looked m worker unit table exact outcome action
+    → new ≡ tree_after m.tree node stored number exact outcome action → children ≡ children_by (a ∷ b ∷ []) action
     → node_count new.nodes ≡ node_count m.tree.nodes + length children
-commit_count m worker unit node table outcome action stored number a b new children orderly holding legal is added =
+commit_count looked m worker unit node table exact outcome action stored number a b new children orderly holding legal is added =
     let held = holdable m worker unit node orderly holding in
-    let grows = tree_grows m.tree node stored number outcome action (sound_of m orderly) held.live
-    (free_of_commit m worker unit node table outcome action holding legal) in
+    let grows = tree_grows m.tree node stored number exact outcome action (sound_of m orderly) held.live
+    (free_of_commit looked m worker unit node table exact outcome action holding legal) in
     ap (λ (t : TreeView). node_count t.nodes) is
     ∙ (grows.count ∙ ap (λ n. node_count m.tree.nodes + n) (same_count _ _ a b action ∙ ap length (sym added)))
 
@@ -224,7 +220,7 @@ pub commit_notes : (m : Machine) (worker unit node : ℕ) (entry : Entry) (notes
     (scale : ℤ) (claims : List (Option Holder)) (log : List Entry) → IsOrderly m → IsHolding m worker unit node
     → AreNotesOf m.claims m.log (node_count m.tree.nodes) notes → entry.node ≡ node
     → claims ≡ set m.claims (unit - 1) None → log ≡ m.log ++ entry ∷ [] → count ≡ node_count m.tree.nodes + added
-    → recorded ≡ with_note notes node (λ note. with_entry note entry.table scale)
+    → recorded ≡ with_note notes node (λ note. with_entry note (trial_of entry) scale)
     → freed ≡ with_note recorded node (λ note. record note { held = false }) → new ≡ freed ++ replicate added no_note
     → AreNotesOf claims log count new
 commit_notes m worker unit node entry notes recorded freed new added count scale claims log orderly holding are own claims_is log_is count_is recorded_is freed_is new_is =
@@ -233,7 +229,7 @@ commit_notes m worker unit node entry notes recorded freed new added count scale
     let place : unit - 1 ≡ held.claim = omega (arith, held.unit_is) in
     let made = notes_committed m.tree.nodes m.claims m.log notes held.claim holder entry scale added orderly.placed orderly.holders orderly.entries
     are held.holds own in
-    let all : new ≡ notes_after notes node entry.table scale added =
+    let all : new ≡ notes_after notes node (trial_of entry) scale added =
     new_is
     ∙ ap (λ ns. ns ++ replicate added no_note)
     (freed_is

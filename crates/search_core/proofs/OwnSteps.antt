@@ -19,11 +19,11 @@ use Rattle.search_core.specs.Machine.{Entry, Table, entries_of, Holder, holder_i
 use Rattle.search_core.specs.declared.stored.Stored.{Stored}
 use Rattle.branch_tree.specs.declared.tree.Leaf.{Leaf}
 use Rattle.search_core.specs.OwnTables.{Node, HasFreeCellAt, StartsAt, HoldsStored, OwnsBelow, stored_after, stored_by, Owns}
-use Rattle.search_core.specs.Moves.{Outcome, bound_of, kept_after, Again, Empty, Prune, Ray, Split, Move, HasFreeCell, kept, closed, split, tree_after, unit_of}
+use Rattle.search_core.specs.Moves.{Outcome, bound_of, kept_after, Again, Empty, Prune, Ray, Split, Move, HasFreeCell, kept, closed, split, live_leaf, bound_leaf, ray_leaf, empty_leaf, tree_after, unit_of}
 use Rattle.search_core.specs.Orderly.{IsOrderly}
 use Rattle.search_core.specs.Steps.{IsStoredTable}
 use Rattle.search_core.proofs.Claims.{holder_place}
-use Rattle.search_core.proofs.Growth.{IsSound, closed_grows, open_again, IsLeafPart, leaf_part, part_node}
+use Rattle.search_core.proofs.Growth.{IsSound, closed_grows, open_again, IsLeafPart, leaf_part, part_node, of_ray, of_empty}
 use Rattle.search_core.proofs.NoteSteps.{no_entries}
 use Rattle.search_core.proofs.OrderlySteps.{sound_of, entries_more}
 
@@ -134,7 +134,7 @@ more_tables tables more stored [] within = refl
 more_tables tables more stored (entry ∷ log) within =
     let same : table_at (tables ++ more) entry.table ≡ table_at tables entry.table =
     get_or_append_left tables more no_table entry.table (All-head (IsTableWithin (length tables)) entry log within) in
-    ap (λ (table : Table). fold (stored_by (tables ++ more)) (kept_after stored entry.table table.k entry.outcome) log) same
+    ap (λ (table : Table). fold (stored_by (tables ++ more)) (kept_after stored entry.table table.k entry.exact entry.outcome) log) same
     ∙ more_tables tables more (stored_by tables stored entry) log (All-tail (IsTableWithin (length tables)) entry log within)
 
 -- one entry more
@@ -151,22 +151,22 @@ more_start tables more stored (entry ∷ log) there within starts =
     ∙ (starts ∙ sym (get_or_append_left tables more no_table stored.table there))
 
 -- what is stored then is at one of the tables
-pub kept_within : (count : ℕ) (old : Stored) (number : ℕ) (k : ℤ) (result : Outcome) → old.table < count → number < count
-    → (kept_after old number k result).table < count
-kept_within count old number k (outcome.Value v) there within = ⊎_elim
+pub kept_within : (count : ℕ) (old : Stored) (number : ℕ) (k : ℤ) (exact : Bool) (result : Outcome) → old.table < count → number < count
+    → (kept_after old number k exact result).table < count
+kept_within count old number k exact (outcome.Value v) there within = ⊎_elim
     (λ (e : (int_lt (pos 0) k && int_lt old.value (bound_of v k)) ≡ true).
-    subst (λ b. (cond b (record { table = number; value = bound_of v k }) old).table < count) (sym e) within)
+    subst (λ b. (cond b (record { table = number; value = bound_of v k; exact = exact }) old).table < count) (sym e) within)
     (λ (e : (int_lt (pos 0) k && int_lt old.value (bound_of v k)) ≡ false).
-    subst (λ b. (cond b (record { table = number; value = bound_of v k }) old).table < count) (sym e) there)
+    subst (λ b. (cond b (record { table = number; value = bound_of v k; exact = exact }) old).table < count) (sym e) there)
     (cases_Bool (int_lt (pos 0) k && int_lt old.value (bound_of v k)))
-kept_within count old number k (outcome.Empty g) there within = there
+kept_within count old number k exact (outcome.Empty g) there within = there
 
 pub stored_within : (tables : List Table) (count : ℕ) (stored : Stored) (log : List Entry) → stored.table < count → All (IsTableWithin count) log
     → (stored_after tables stored log).table < count
 stored_within tables count stored [] there within = there
 stored_within tables count stored (entry ∷ log) there within =
     stored_within tables count (stored_by tables stored entry) log
-    (kept_within count stored entry.table (table_at tables entry.table).k entry.outcome there (All-head (IsTableWithin count) entry log within))
+    (kept_within count stored entry.table (table_at tables entry.table).k entry.exact entry.outcome there (All-head (IsTableWithin count) entry log within))
     (All-tail (IsTableWithin count) entry log within)
 
 -- ---- The entries of a log with one more: those of each node, the pairs, and the claims that ended.
@@ -250,8 +250,9 @@ ended_apart claims unit held holder is holds e =
 
 -- ---- What each node stores is what its entries leave again, after the commit of one more.
 -- the entry of a commit
-abbrev pub entry_by : Machine → ℕ → ℕ → ℕ → Outcome → Entry
-entry_by m worker unit node result = record { unit = unit; worker = worker; node = node; table = length m.tables; outcome = result }
+abbrev pub entry_by : Machine → ℕ → ℕ → ℕ → Bool → Outcome → Entry
+entry_by m worker unit node exact result =
+    record { unit = unit; worker = worker; node = node; table = length m.tables; exact = exact; outcome = result }
 
 within_of_node : (count : ℕ) (log : List Entry) (number : ℕ) → All (IsTableWithin count) log → All (IsTableWithin count) (entries_of log number)
 within_of_node count log number each = All-filter (λ (e : Entry). e.node == number) (IsTableWithin count) log each
@@ -269,9 +270,9 @@ alike_more tables table log entry within = record {
 }
 
 -- at the number of the commit the first entry is at the table that was stored, and what is stored is what the move Again leaves
-is_record : (stored : Stored) (table : ℕ) (value : ℤ) → table ≡ stored.table → value ≡ stored.value
-    → stored ≡ record { table = table; value = value }
-is_record stored table value first second = λ i. record { table = sym first i; value = sym second i }
+is_record : (stored : Stored) (table : ℕ) (value : ℤ) (exact : Bool) → table ≡ stored.table → value ≡ stored.value → exact ≡ stored.exact
+    → stored ≡ record { table = table; value = value; exact = exact }
+is_record stored table value exact first second third = λ i. record { table = sym first i; value = sym second i; exact = sym third i }
 
 started : (tables : List Table) (table : Table) (stored : Stored) (entry : Entry) (entries : List Entry) → entry.table ≡ length tables
     → stored.table < length tables → All (IsTableWithin (length tables)) entries → StartsAt tables stored entries
@@ -300,18 +301,18 @@ free_of_part tree number l part free = record {
 }
 
 -- ---- another leaf
-own_closed : (m : Machine) (worker unit node : ℕ) (table : Table) (result : Outcome) (first : Stored) (new : Leaf) → IsOrderly m
+own_closed : (m : Machine) (worker unit node : ℕ) (table : Table) (exact : Bool) (result : Outcome) (first : Stored) (new : Leaf) → IsOrderly m
     → IsOpenAt m.tree.nodes node → All (IsTableWithin (length m.tables)) m.log → first.table < length m.tables
     → (entries_of m.log node ≡ [] → node ≢ 0 → HasFreeCell m.tree node → IsStoredTable m node table)
-    → HoldsStored (kept m node table result) new → Owns m.tree m.tables m.log first
-    → Owns (closed m.tree node new) (m.tables ++ table ∷ []) (m.log ++ entry_by m worker unit node result ∷ []) first
-own_closed m worker unit node table result first new orderly at within there at_first holds own =
+    → HoldsStored (kept m node table exact result) new → Owns m.tree m.tables m.log first
+    → Owns (closed m.tree node new) (m.tables ++ table ∷ []) (m.log ++ entry_by m worker unit node exact result ∷ []) first
+own_closed m worker unit node table exact result first new orderly at within there at_first holds own =
     own_replaced m.tree.units m.tree.periods m.tables more m.log later node (λ (l : Leaf). EndAt node new) part.part old
     (alike_more m.tables table m.log entry within) part.is grown root first m.tree.nodes
     (are_apart m.tree.nodes orderly.placed.places orderly.placed.are) part.hangs there own
   where
     entry : Entry
-    entry = entry_by m worker unit node result
+    entry = entry_by m worker unit node exact result
 
     more : List Table
     more = m.tables ++ table ∷ []
@@ -320,9 +321,9 @@ own_closed m worker unit node table result first new orderly at within there at_
     later = m.log ++ entry ∷ []
 
     old : Leaf
-    old = leaf.Live at.table at.value
+    old = leaf.Live at.table at.value at.exact
 
-    part : IsLeafPart m.tree node (leaf.Live at.table at.value)
+    part : IsLeafPart m.tree node (leaf.Live at.table at.value at.exact)
     part = leaf_part m.tree node at
 
     entries : List Entry
@@ -336,18 +337,19 @@ own_closed m worker unit node table result first new orderly at within there at_
 
     -- what was stored at the number is what the entries left
     stored_is : (stored : Stored) → HoldsStored (stored_after m.tables stored entries) old → stored_after m.tables stored entries ≡ stored_at m.tree node
-    stored_is stored h = is_record (stored_after m.tables stored entries) at.table at.value h.0 h.1 ∙ sym (ap spot_stored at.live)
+    stored_is stored h =
+        is_record (stored_after m.tables stored entries) at.table at.value at.exact h.0 h.1 h.2 ∙ sym (ap spot_stored at.live)
 
     grown : (stored : Stored) → stored.table < length m.tables
         → OwnsBelow m.tree.units m.tree.periods m.tables m.log part.part.node stored (EndAt node old)
         → OwnsBelow m.tree.units m.tree.periods more later part.part.node stored (EndAt node new)
     grown stored below was =
         let same = stored_is stored was.1 in
-        let last : stored_after more stored (entries_of later node) ≡ kept m node table result =
+        let last : stored_after more stored (entries_of later node) ≡ kept m node table exact result =
         ap (stored_after more stored) longer
         ∙ (one_more more stored entries entry
         ∙ (ap (λ s. stored_by more s entry) (more_tables m.tables (table ∷ []) stored entries own_within ∙ same)
-        ∙ ap (λ (t : Table). kept_after (stored_at m.tree node) (length m.tables) t.k result)
+        ∙ ap (λ (t : Table). kept_after (stored_at m.tree node) (length m.tables) t.k exact result)
         (get_or_push m.tables table no_table (length m.tables) refl))) in (
           λ nonzero free. subst (StartsAt more stored) (sym longer)
               (started m.tables table stored entry entries refl below own_within (was.0 nonzero free)
@@ -374,7 +376,7 @@ own_split : (tree : TreeView) (tables : List Table) (log : List Entry) (node g t
     → Owns tree tables log first → Owns (split tree node g t) tables log first
 own_split tree tables log node g t first sound at nodes within there own =
     let part = leaf_part tree node at in
-    let old = leaf.Live at.table at.value in
+    let old = leaf.Live at.table at.value at.exact in
     let count = node_count tree.nodes in
     own_replaced tree.units tree.periods tables tables log log node (split_leaf node g t count (suc count)) part.part old
     (alike_itself tables log node within) part.is
@@ -392,33 +394,35 @@ own_split tree tables log node g t first sound at nodes within there own =
         )
 
 -- ---- the move of a commit
-pub own_after : (m : Machine) (worker unit node : ℕ) (table : Table) (result : Outcome) (action : Move) (first : Stored) → IsOrderly m
+pub own_after : (m : Machine) (worker unit node : ℕ) (table : Table) (exact : Bool) (result : Outcome) (action : Move) (first : Stored) → IsOrderly m
     → IsOpenAt m.tree.nodes node → All (IsTableWithin (length m.tables)) m.log
-    → All (IsTableWithin (length (m.tables ++ table ∷ []))) (m.log ++ entry_by m worker unit node result ∷ [])
+    → All (IsTableWithin (length (m.tables ++ table ∷ []))) (m.log ++ entry_by m worker unit node exact result ∷ [])
     → first.table < length m.tables → first.table < length (m.tables ++ table ∷ [])
     → (entries_of m.log node ≡ [] → node ≢ 0 → HasFreeCell m.tree node → IsStoredTable m node table)
     → Owns m.tree m.tables m.log first
-    → Owns (tree_after m.tree node (kept m node table result) (length m.tables) result action) (m.tables ++ table ∷ [])
-    (m.log ++ entry_by m worker unit node result ∷ []) first
-own_after m worker unit node table result Again first orderly at within later there still at_first own =
-    own_closed m worker unit node table result first (leaf.Live (kept m node table result).table (kept m node table result).value)
-    orderly at within there at_first (refl, refl) own
-own_after m worker unit node table result (Split g t) first orderly at within later there still at_first own =
-    let stored = kept m node table result in
-    let l = leaf.Live stored.table stored.value in
+    → Owns (tree_after m.tree node (kept m node table exact result) (length m.tables) exact result action) (m.tables ++ table ∷ [])
+    (m.log ++ entry_by m worker unit node exact result ∷ []) first
+own_after m worker unit node table exact result Again first orderly at within later there still at_first own =
+    own_closed m worker unit node table exact result first (live_leaf (kept m node table exact result))
+    orderly at within there at_first (refl, refl, refl) own
+own_after m worker unit node table exact result (Split g t) first orderly at within later there still at_first own =
+    let stored = kept m node table exact result in
+    let l = live_leaf stored in
     let middle = closed m.tree node l in
     let grown = closed_grows m.tree node l (sound_of m orderly) at in
     let count = closed_count m.tree.nodes node l orderly.placed at in
-    own_split middle (m.tables ++ table ∷ []) (m.log ++ entry_by m worker unit node result ∷ []) node g t first grown.sound
-    (open_again m.tree node stored.table stored.value orderly.placed at)
-    (entries_more m.log (entry_by m worker unit node result) (node_count m.tree.nodes) (node_count middle.nodes) orderly.entries
+    own_split middle (m.tables ++ table ∷ []) (m.log ++ entry_by m worker unit node exact result ∷ []) node g t first grown.sound
+    (open_again m.tree node stored orderly.placed at)
+    (entries_more m.log (entry_by m worker unit node exact result) (node_count m.tree.nodes) (node_count middle.nodes) orderly.entries
     (open_numbered m.tree.nodes node orderly.placed at) (omega (arith, count)))
     later still
-    (own_closed m worker unit node table result first l orderly at within there at_first (refl, refl) own)
-own_after m worker unit node table result (Prune seen) first orderly at within later there still at_first own =
-    own_closed m worker unit node table result first (leaf.Bound (kept m node table result).table (kept m node table result).value)
-    orderly at within there at_first (refl, refl) own
-own_after m worker unit node table result Ray first orderly at within later there still at_first own =
-    own_closed m worker unit node table result first (leaf.Ray (length m.tables)) orderly at within there at_first tt own
-own_after m worker unit node table result Empty first orderly at within later there still at_first own =
-    own_closed m worker unit node table result first (leaf.Empty (unit_of result)) orderly at within there at_first tt own
+    (own_closed m worker unit node table exact result first l orderly at within there at_first (refl, refl, refl) own)
+own_after m worker unit node table exact result (Prune seen) first orderly at within later there still at_first own =
+    own_closed m worker unit node table exact result first (bound_leaf (kept m node table exact result))
+    orderly at within there at_first (refl, refl, refl) own
+own_after m worker unit node table exact result Ray first orderly at within later there still at_first own =
+    own_closed m worker unit node table exact result first (ray_leaf exact (length m.tables)) orderly at within there at_first
+    (of_ray (HoldsStored (kept m node table exact result)) exact (length m.tables) tt tt) own
+own_after m worker unit node table exact result Empty first orderly at within later there still at_first own =
+    own_closed m worker unit node table exact result first (empty_leaf exact (unit_of result)) orderly at within there at_first
+    (of_empty (HoldsStored (kept m node table exact result)) exact (unit_of result) tt tt) own

@@ -1,45 +1,37 @@
--- Every legal and true event keeps what is true of the state, and so runs hold. Before it, what lies within a gap.
-use Rattle.std.proofs.Common.{◌≡◌, ℕ, ◌≤◌, ◌⊎◌, true, false, refl, arith, inl, inr, ⊎_elim, ℤ, pos, ◌-ℤ◌, ◌≤ℤ◌, Option, Some, None, IsTrue, int_le, Bool, cond, List, [], ◌∷◌, ◌++◌, length, sym, subst, ◌<ℤ◌, int_lt, ◌&&◌, ◌<◌, All, get_or, set, ap, ◌∙◌, length-set, IfSome, get_or-set_same, get_or-set_other, replicate}
+-- Every legal and true event keeps what is true of the costs, and so runs hold. Before it, what lies within a gap.
+use Rattle.std.proofs.Common.{◌≡◌, ℕ, ◌≤◌, ◌⊎◌, true, false, refl, arith, inl, inr, ⊎_elim, ℤ, pos, ◌-ℤ◌, ◌≤ℤ◌, Option, Some, None, IsTrue, int_le, Bool, List, [], ◌∷◌, ◌++◌, length, sym, subst, ◌<◌, All, get_or, set, ap, ◌∙◌, length-set, IfSome, get_or-set_same, get_or-set_other, replicate}
 use Rattle.std.specs.Int.{int_min}
 use Rattle.std.proofs.lemmas.Int.{ints, int_min_is}
-use Rattle.std.proofs.lemmas.Bool.{and_parts, cases_Bool, cases_eq}
-use Rattle.std.proofs.lemmas.List.Elements.{All-nil, All-cons, All-append}
+use Rattle.std.proofs.lemmas.Bool.{cases_eq}
+use Rattle.std.proofs.lemmas.List.Elements.{All-cons}
 use Rattle.std.proofs.lemmas.List.{get_or-replicate, length-replicate}
 use Rattle.std.proofs.lemmas.Option.{get_or_from_slice_get, slice_get_within}
 use Rattle.uc_model.specs.Tolerance.{tolerance_of}
 use Rattle.uc_model.specs.Limits.{IsLawfulInstance}
-use Rattle.uc_model.specs.Schedule.{thermal_count}
 use Rattle.uc_model.proofs.Ring.{linear}
-use Rattle.uc_model.proofs.Tests.{int_le-true, le-int_le, int_lt-true}
-use Rattle.uc_model.proofs.Quotients.{IsFloor-greatest, IsFloor-int_div_euclid}
+use Rattle.uc_model.proofs.Tests.{int_le-true, le-int_le}
 use Rattle.dual_model.specs.Tree.{Ends, Splits, child, EachLeaf, root, map_leaves}
 use Rattle.dual_model.specs.Tree as branch
-use Rattle.dual_model.specs.Fixings.{HasEmptyUnit}
-use Rattle.dual_model.specs.NodeValue.{IsNodeValue}
-use Rattle.dual_model.specs.Cover.{HasBoundOf, IsBoundedBy, IsExcludedByRay, AllExcluded}
+use Rattle.dual_model.specs.Cover.{AllExcluded}
 use Rattle.dual_model.specs.Prices.{IsLawfulTable}
 use Rattle.dual_model.specs.Laws.{HasLawfulTable, IsLawfulAt}
-use Rattle.dual_model.proofs.NodeValues.{child_bound, parent_agrees}
 use Rattle.branch_tree.specs.Closing.{is_within_gap}
 use Rattle.branch_tree.specs.StoredTree.{AtMost, lesser_bound, least_bound, tree_bound}
 use Rattle.branch_tree.specs.declared.tree.Leaf.TheVariants as leaf
-use Rattle.branch_tree.specs.TreeLaws.{StoredHolds, own_claim, claims_of}
-use Rattle.branch_tree.specs.declared.found.Outcome.TheVariants as outcome
-use Rattle.branch_tree.specs.TreeView.{IsSizeOf, IsOpenAt, tree_of}
+use Rattle.branch_tree.specs.TreeLaws.{own_claim, claims_of}
+use Rattle.branch_tree.specs.TreeView.{IsOpenAt, tree_of}
 use Rattle.branch_tree.proofs.Grown.{IsClosedLeaf, each_leaf_map, all_closed}
-use Rattle.branch_tree.proofs.Changes.{get-append}
 use Rattle.branch_tree.proofs.Bounds.{at_most_itself, at_most_through, lesser_first, lesser_second, lesser_greatest, stored_bounds_hold, excluded_below}
-use Rattle.search_core.specs.Runs.{Leaf, Node, WHOLE_GAP, IsBestWithin, IsPrunedWithin, Instance, IsTrueOutcome, IsTrueCost, IsTrueEvent, IsTrueStart, IsTrueRun, IsSettled, HoldsAt, HoldsAlong, RunsHold, StartsAreReached, StepsReach, ReachedStatesHold, after_all}
-use Rattle.search_core.specs.Machine.{Table, Desk, Machine, IsWorker, IsHolding, no_desk, desk_in, stored_at, spot_stored, Holder, first_desk, holder_of}
-use Rattle.search_core.specs.declared.stored.Stored.{Stored}
-use Rattle.search_core.specs.Moves.{Outcome, bound_of, kept_after, IsPositive, Again, Empty, Prune, Ray, Split, Move, kept, tickets_of, IsMoveLegal}
-use Rattle.search_core.specs.Steps.{Claim, Commit, Look, Pop, Publish, Push, Steal, Event, IsLegal, committed, committed_by, after, with_desk, with_tickets, with_queued, without_first, first_queued, taken}
+use Rattle.search_core.specs.Runs.{Leaf, Node, WHOLE_GAP, IsBestWithin, IsPrunedWithin, Instance, IsTrueCost, IsTrueEvent, IsTrueStart, IsTrueRun, IsTrueRunBy, IsReachedBy, IsSettled, TreeHoldsAt, HoldsAt, HoldsAlong, RunsHold, StartsAreReached, StepsReach, ReachedStatesHold, TreeRunsHold, after_all}
+use Rattle.search_core.specs.Machine.{Table, Desk, Machine, IsWorker, IsHolding, no_desk, desk_in, Holder, first_desk, holder_of}
+use Rattle.search_core.specs.Moves.{Outcome, Again, Empty, Prune, Ray, Split, Move, kept, tickets_of, unit_of, IsMoveLegal}
+use Rattle.search_core.specs.Steps.{Claim, Commit, Look, Pop, Publish, Push, Steal, Event, IsLegal, IsLegalBy, HasSeen, AnyCost, committed, committed_by, after, with_desk, with_tickets, with_queued, without_first, first_queued, taken}
 use Rattle.search_core.specs.Orderly.{IsOrderly}
-use Rattle.search_core.proofs.Claims.{get_push_last, holdable}
-use Rattle.search_core.proofs.OrderlySteps.{as_large_after, orderly_after, sound_of}
-use Rattle.search_core.proofs.Growth.{HoldsOfNew, leaf_part, part_node, holds_of_leaf, after_holds}
+use Rattle.search_core.proofs.Claims.{holdable}
+use Rattle.search_core.proofs.OrderlySteps.{sound_of}
+use Rattle.search_core.proofs.Growth.{HoldsOfNew, leaf_part, after_holds, of_ray, of_empty}
+use Rattle.search_core.proofs.TreeSteps.{IsTrueTree, start_tree, tree_after_event}
 use Rattle.search_core.proofs.Logs.{HasTrueLog, start_logged, logged_after}
-use Rattle.search_core.proofs.NoteSteps.{orderly_start}
 
 -- the law of tolerances
 abbrev pub NeverDecreases : Type 0
@@ -69,7 +61,7 @@ lesser_within law (Some best) cost value gap whole within =
 -- a pruned leaf stays within the gap
 pub pruned_lesser : NeverDecreases → (best : Option ℤ) (cost : ℤ) (gap : ℕ) → gap ≤ WHOLE_GAP → (l : Leaf) → IsPrunedWithin best gap l
     → IsPrunedWithin (lesser_bound best (Some cost)) gap l
-pruned_lesser law best cost gap whole (leaf.Bound table value) h = lesser_within law best cost value gap whole h
+pruned_lesser law best cost gap whole (leaf.Bound table value exact) h = lesser_within law best cost value gap whole h
 pruned_lesser law best cost gap whole _ h = tt
 
 -- ---- the whole tree
@@ -92,122 +84,17 @@ both_within (Some best) gap (Some a) (Some b) first second = ⊎_elim
 
 pub closed_within : (best : Option ℤ) (gap : ℕ) (here : Node) (tree : branch.Tree Leaf) → EachLeaf (λ n l. IsClosedLeaf l) here tree
     → EachLeaf (λ n l. IsPrunedWithin best gap l) here tree → (least_bound tree ≡ None) ⊎ IsBestWithin best gap (least_bound tree)
-closed_within best gap here (Ends (leaf.Live table value)) closed pruned = absurd closed
-closed_within best gap here (Ends (leaf.Bound table value)) closed pruned = inr pruned
-closed_within best gap here (Ends (leaf.Ray table)) closed pruned = inl refl
-closed_within best gap here (Ends (leaf.Empty g)) closed pruned = inl refl
+closed_within best gap here (Ends (leaf.Live table value exact)) closed pruned = absurd closed
+closed_within best gap here (Ends (leaf.Bound table value exact)) closed pruned = inr pruned
+closed_within best gap here (Ends _) closed pruned = inl refl
 closed_within best gap here (Splits g t off on) closed pruned =
     both_within best gap (least_bound off) (least_bound on)
     (closed_within best gap (child here g t false) off closed.0 pruned.0)
     (closed_within best gap (child here g t true) on closed.1 pruned.1)
 
--- ---- What a true evaluation leaves at its node holds there, and at the node's children.
--- ---- with one table more
-bounded_more : (instance : Instance) (tables : List Table) (new : Table) (node : Node) (number : ℕ) (b : ℤ)
-    → IsBoundedBy false instance tables node number b → IsBoundedBy false instance (tables ++ new ∷ []) node number b
-bounded_more instance tables new node number b h = record {
-  table = h.table;
-  is_table = get-append tables (new ∷ []) number h.table h.is_table;
-  scale = h.scale;
-  bounds = h.bounds;
-}
-
-pub stored_more : (instance : Instance) (tables : List Table) (new : Table) (node : Node) (l : Leaf) → StoredHolds instance tables node l
-    → StoredHolds instance (tables ++ new ∷ []) node l
-stored_more instance tables new node (leaf.Live table value) h = bounded_more instance tables new node table value h
-stored_more instance tables new node (leaf.Bound table value) h = bounded_more instance tables new node table value h
-stored_more instance tables new node (leaf.Ray table) h = record {
-  table = h.table;
-  is_table = get-append tables (new ∷ []) table h.table h.is_table;
-  scale = h.scale;
-  excludes = h.excludes;
-}
-stored_more instance tables new node (leaf.Empty g) h = h
-
--- ---- what the node stores
-own_bound : (instance : Instance) (tables : List Table) (new : Table) (node : Node) (v : ℤ) → pos 0 <ℤ new.k
-    → IsNodeValue instance node new v → IsBoundedBy false instance (tables ++ new ∷ []) node (length tables) (bound_of v new.k)
-own_bound instance tables new node v scale is_value = record {
-  table = new;
-  is_table = get_push_last tables new;
-  scale = scale;
-  bounds = inl (record {
-    bound = bound_of v new.k;
-    is_bound = record { value = v; is_value = is_value; quotient = IsFloor-int_div_euclid v new.k scale };
-    enough = omega (arith, linear);
-  });
-}
-
-pub kept_bounded : (instance : Instance) (tables : List Table) (new : Table) (node : Node) (old : Stored) (result : Outcome)
-    → IsBoundedBy false instance tables node old.table old.value → IsTrueOutcome instance node new result
-    → IsBoundedBy false instance (tables ++ new ∷ []) node (kept_after old (length tables) new.k result).table (kept_after old (length tables) new.k result).value
-kept_bounded instance tables new node old (outcome.Value v) h is = ⊎_elim
-    (λ (e : (int_lt (pos 0) new.k && int_lt old.value (bound_of v new.k)) ≡ true).
-    let greater : Stored = record { table = length tables; value = bound_of v new.k } in
-    subst (λ b. Bounds (cond b greater old)) (sym e)
-    (own_bound instance tables new node v (int_lt-true (pos 0) new.k (and_parts _ _ e).0) is.told))
-    (λ (e : (int_lt (pos 0) new.k && int_lt old.value (bound_of v new.k)) ≡ false).
-    subst (λ b. Bounds (cond b (record { table = length tables; value = bound_of v new.k }) old)) (sym e)
-    (bounded_more instance tables new node old.table old.value h))
-    (cases_Bool (int_lt (pos 0) new.k && int_lt old.value (bound_of v new.k)))
-  where
-    Bounds : Stored → Type 0
-    Bounds stored = IsBoundedBy false instance (tables ++ new ∷ []) node stored.table stored.value
-kept_bounded instance tables new node old (outcome.Empty g) h is = bounded_more instance tables new node old.table old.value h
-
--- ---- children
-child_empty : (instance : Instance) (node : Node) (g t : ℕ) (on : Bool) → HasEmptyUnit instance node → HasEmptyUnit instance (child node g t on)
-child_empty instance node g t on h = record {
-  unit = h.unit;
-  within = h.within;
-  empty = λ pattern is. h.empty pattern (record { allowed = is.allowed; agrees = parent_agrees node g t on h.unit pattern is.agrees });
-}
-
-child_has_bound : (instance : Instance) (node : Node) (g t : ℕ) (on : Bool) (table : Table) (b : ℤ) → IsLawfulInstance instance → pos 0 <ℤ table.k
-    → HasBoundOf false instance node table b → HasBoundOf false instance (child node g t on) table b ⊎ HasEmptyUnit instance (child node g t on)
-child_has_bound instance node g t on table b lawful scale has = ⊎_elim
-    (λ (found : (w : ℤ) × IsNodeValue instance (child node g t on) table w × (has.is_bound.value ≤ℤ w)).
-    let floor = IsFloor-int_div_euclid found.0 table.k scale in
-    let above : has.bound ≤ℤ bound_of found.0 table.k =
-    IsFloor-greatest found.0 table.k (bound_of found.0 table.k) has.bound scale floor (omega (arith, linear, has.is_bound.quotient.below, found.2)) in
-    inl (record {
-      bound = bound_of found.0 table.k;
-      is_bound = record { value = found.0; is_value = found.1; quotient = floor };
-      enough = omega (arith, linear, has.enough);
-    }))
-    (λ (empty : HasEmptyUnit instance (child node g t on)). inr empty)
-    (child_bound instance node g t on table has.is_bound.value lawful has.is_bound.is_value)
-
-pub child_bounded : (instance : Instance) (tables : List Table) (node : Node) (g t : ℕ) (on : Bool) (number : ℕ) (b : ℤ) → IsLawfulInstance instance
-    → IsBoundedBy false instance tables node number b → IsBoundedBy false instance tables (child node g t on) number b
-child_bounded instance tables node g t on number b lawful h = record {
-  table = h.table;
-  is_table = h.is_table;
-  scale = h.scale;
-  bounds = ⊎_elim
-      (λ (has : HasBoundOf false instance node h.table b). child_has_bound instance node g t on h.table b lawful h.scale has)
-      (λ (empty : HasEmptyUnit instance node). inr (child_empty instance node g t on empty))
-      h.bounds;
-}
-
--- ---- the leaves that a move makes
-pub ray_holds : (instance : Instance) (tables : List Table) (new : Table) (node : Node) (result : Outcome) → IsTrueOutcome instance node new result
-    → new.k ≡ pos 0 → IsPositive result → IsExcludedByRay false instance (tables ++ new ∷ []) node (length tables)
-ray_holds instance tables new node (outcome.Value v) is scale positive = record {
-  table = new;
-  is_table = get_push_last tables new;
-  scale = scale;
-  excludes = inl (record { value = v; is_value = is.told; positive = positive });
-}
-ray_holds instance tables new node (outcome.Empty g) is scale positive = absurd positive
-
--- ---- Every legal and true event keeps what is true of the state.
--- the leaves store what holds, the costs are in order, and pruned leaves are within the gap
-pub record IsTrueState (instance : Instance) (m : Machine) : Type 0 where
-  pub orderly : IsOrderly m
-  pub size : IsSizeOf m.tree instance
-  pub lawful : All (IsLawfulTable instance) m.tables
-  pub stored : EachLeaf (StoredHolds instance m.tables) root (tree_of m.tree)
+-- ---- Every legal and true event keeps what is true of the costs.
+-- the costs are in order, and pruned leaves are within the gap
+pub record AreCostsTrue (instance : Instance) (m : Machine) : Type 0 where
   pub least : All (λ desk. AtMost m.best desk.seen) m.desks
   pub priced : IfSome m.best (IsTrueCost instance)
   pub pruned : EachLeaf (λ node l. IsPrunedWithin m.best m.gap l) root (tree_of m.tree)
@@ -246,76 +133,37 @@ taken_least m worker victim each within known =
     (omega (arith, length-set m.desks worker (with_tickets (desk_in m.desks worker) first)))
 
 -- ---- a change of the desks alone
-moved : (instance : Instance) (m : Machine) (event : Event) (desks : List Desk) → IsTrueState instance m → IsOrderly (record m { desks = desks })
-    → All (λ desk. AtMost m.best desk.seen) desks → IsTrueState instance (record m { desks = desks })
-moved instance m event desks is orderly least = record {
-  orderly = orderly;
-  size = is.size;
-  lawful = is.lawful;
-  stored = is.stored;
-  least = least;
-  priced = is.priced;
-  pruned = is.pruned;
-}
+moved : (instance : Instance) (m : Machine) (desks : List Desk) → AreCostsTrue instance m → All (λ desk. AtMost m.best desk.seen) desks
+    → AreCostsTrue instance (record m { desks = desks })
+moved instance m desks is least = record { least = least; priced = is.priced; pruned = is.pruned }
 
 -- ---- a commit
-pruned_new : NeverDecreases → (m : Machine) (worker node : ℕ) (here : Node) (table : Table) (result : Outcome) (action : Move) → IsOrderly m
-    → AtMost m.best (desk_in m.desks worker).seen → IsMoveLegal m worker node table result action
-    → HoldsOfNew (λ n l. IsPrunedWithin m.best m.gap l) here (kept m node table result) (length m.tables) result action
-pruned_new law m worker node here table result (Split g t) orderly least legal = (tt, tt, tt)
-pruned_new law m worker node here table result (Prune seen) orderly least legal =
-    best_within law m.best seen (kept m node table result).value m.gap orderly.amounts.gap (subst (AtMost m.best) legal.1.looked least) legal.1.within
-pruned_new law m worker node here table result _ orderly least legal = tt
+pruned_new : NeverDecreases → (m : Machine) (worker node : ℕ) (here : Node) (table : Table) (exact : Bool) (result : Outcome) (action : Move)
+    → IsOrderly m → AtMost m.best (desk_in m.desks worker).seen → IsMoveLegal (HasSeen m worker) m node table exact result action
+    → HoldsOfNew (λ n l. IsPrunedWithin m.best m.gap l) here (kept m node table exact result) (length m.tables) exact result action
+pruned_new law m worker node here table exact result Again orderly least legal = tt
+pruned_new law m worker node here table exact result (Split g t) orderly least legal = (tt, tt, tt)
+pruned_new law m worker node here table exact result (Prune seen) orderly least legal =
+    best_within law m.best seen (kept m node table exact result).value m.gap orderly.amounts.gap (subst (AtMost m.best) legal.1.looked least) legal.1.within
+pruned_new law m worker node here table exact result Ray orderly least legal =
+    of_ray (IsPrunedWithin m.best m.gap) exact (length m.tables) tt tt
+pruned_new law m worker node here table exact result Empty orderly least legal =
+    of_empty (IsPrunedWithin m.best m.gap) exact (unit_of result) tt tt
 
-stored_new : (instance : Instance) (m : Machine) (worker node : ℕ) (here : Node) (table : Table) (result : Outcome) (action : Move)
-    → IsLawfulInstance instance → IsTrueOutcome instance here table result
-    → IsBoundedBy false instance m.tables here (stored_at m.tree node).table (stored_at m.tree node).value → IsMoveLegal m worker node table result action
-    → HoldsOfNew (StoredHolds instance (m.tables ++ table ∷ [])) here (kept m node table result) (length m.tables) result action
-stored_new instance m worker node here table result Again lawful is old legal =
-    kept_bounded instance m.tables table here (stored_at m.tree node) result old is
-stored_new instance m worker node here table result (Split g t) lawful is old legal =
-    let own = kept_bounded instance m.tables table here (stored_at m.tree node) result old is in
-    let new = kept m node table result in (
-      own,
-      child_bounded instance (m.tables ++ table ∷ []) here g t false new.table new.value lawful own,
-      child_bounded instance (m.tables ++ table ∷ []) here g t true new.table new.value lawful own,
-    )
-stored_new instance m worker node here table result (Prune seen) lawful is old legal =
-    kept_bounded instance m.tables table here (stored_at m.tree node) result old is
-stored_new instance m worker node here table result Ray lawful is old legal =
-    ray_holds instance m.tables table here result is legal.0 legal.1
-stored_new instance m worker node here table (outcome.Value v) Empty lawful is old legal = absurd legal
-stored_new instance m worker node here table (outcome.Empty g) Empty lawful is old legal = (is.told.within, is.told.empty)
-
-committed_true : NeverDecreases → (instance : Instance) (m : Machine) (worker unit node : ℕ) (table : Table) (result : Outcome) (action : Move)
-    → IsLawfulInstance instance → IsTrueState instance m → IsWorker m worker → IsHolding m worker unit node
-    → IsMoveLegal m worker node table result action → IsTrueEvent instance m (Commit worker unit table result action)
-    → IsOrderly (committed m worker unit node table result action) → IsSizeOf (committed m worker unit node table result action).tree instance
-    → IsTrueState instance (committed m worker unit node table result action)
-committed_true law instance m worker unit node table result action lawful is within holding legal told orderly size =
-    let held = holdable m worker unit node is.orderly holding in
-    let at : IsOpenAt m.tree.nodes node = held.live in
+committed_costs : NeverDecreases → (instance : Instance) (m : Machine) (worker unit node : ℕ) (table : Table) (exact : Bool) (result : Outcome)
+    (action : Move) → IsOrderly m → AreCostsTrue instance m → IsWorker m worker → IsHolding m worker unit node
+    → IsMoveLegal (HasSeen m worker) m node table exact result action
+    → AreCostsTrue instance (committed m worker unit node table exact result action)
+committed_costs law instance m worker unit node table exact result action orderly is within holding legal =
+    let at : IsOpenAt m.tree.nodes node = (holdable m worker unit node orderly holding).live in
     let part = leaf_part m.tree node at in
-    let here = part.part.node in
-    let own = told node here holding (part_node m.tree node (leaf.Live at.table at.value) part) in
-    let store = ap spot_stored at.live in
-    let old : IsBoundedBy false instance m.tables here (stored_at m.tree node).table (stored_at m.tree node).value =
-    subst (λ (s : Stored). IsBoundedBy false instance m.tables here s.table s.value) (sym store)
-    (holds_of_leaf (StoredHolds instance m.tables) m.tree node (leaf.Live at.table at.value) part is.stored) in
-    let new = stored_new instance m worker node here table result action lawful own old legal in
     let seen = desk_seen m worker is.least within in
     record {
-      orderly = orderly;
-      size = size;
-      lawful = All-append (IsLawfulTable instance) m.tables (table ∷ []) is.lawful
-          (All-cons (IsLawfulTable instance) table [] own.lawful (All-nil (IsLawfulTable instance)));
-      stored = after_holds (StoredHolds instance m.tables) (StoredHolds instance (m.tables ++ table ∷ [])) (stored_more instance m.tables table)
-          m.tree node at part (kept m node table result) (length m.tables) result action (sound_of m is.orderly) is.stored new;
       least = least_kept m.best m.desks worker (λ desk. with_tickets desk (tickets_of m.tree action)) (λ desk. refl) is.least within;
       priced = is.priced;
       pruned = after_holds (λ n l. IsPrunedWithin m.best m.gap l) (λ n l. IsPrunedWithin m.best m.gap l) (λ n l h. h)
-          m.tree node at part (kept m node table result) (length m.tables) result action (sound_of m is.orderly) is.pruned
-          (pruned_new law m worker node here table result action is.orderly seen legal);
+          m.tree node at part (kept m node table exact result) (length m.tables) exact result action (sound_of m orderly) is.pruned
+          (pruned_new law m worker node part.part.node table exact result action orderly seen legal);
     }
 
 -- ---- a published cost
@@ -330,61 +178,38 @@ priced_lesser instance (Some best) cost h own = ⊎_elim
     either : (a b : ℤ) → (int_min a b ≡ a) ⊎ (int_min a b ≡ b)
     either a b = grind (arith, ints, int_min_is a b)
 
-published : NeverDecreases → (instance : Instance) (m : Machine) (worker : ℕ) (cost : ℤ) → IsTrueState instance m → IsWorker m worker
-    → IsTrueCost instance cost → IsOrderly (after m (Publish worker cost)) → IsTrueState instance (after m (Publish worker cost))
-published law instance m worker cost is within own orderly =
+published : NeverDecreases → (instance : Instance) (m : Machine) (worker : ℕ) (cost : ℤ) → IsOrderly m → AreCostsTrue instance m → IsWorker m worker
+    → IsTrueCost instance cost → AreCostsTrue instance (after m (Publish worker cost))
+published law instance m worker cost orderly is within own =
     let best = lesser_bound m.best (Some cost) in
     let lower : AtMost best m.best = lesser_first m.best (Some cost) in
     let each : All (λ desk. AtMost best desk.seen) m.desks = λ k d l. at_most_through best m.best _ lower (is.least k d l) in
     let seen = each worker no_desk within in
     record {
-      orderly = orderly;
-      size = is.size;
-      lawful = is.lawful;
-      stored = is.stored;
       least = least_with best m.desks worker (λ desk. record desk { seen = lesser_bound desk.seen (Some cost) }) each
           (lesser_greatest best (desk_in m.desks worker).seen (Some cost) seen (lesser_second m.best (Some cost)));
       priced = priced_lesser instance m.best cost is.priced own;
       pruned = each_leaf_map (λ n l. IsPrunedWithin m.best m.gap l) (λ n l. IsPrunedWithin best m.gap l)
-          (λ n l h. pruned_lesser law m.best cost m.gap is.orderly.amounts.gap l h) root (tree_of m.tree) is.pruned;
+          (λ n l h. pruned_lesser law m.best cost m.gap orderly.amounts.gap l h) root (tree_of m.tree) is.pruned;
     }
 
 -- ---- every event
-pub true_after : NeverDecreases → (instance : Instance) (m : Machine) (event : Event) → IsLawfulInstance instance → IsTrueState instance m
-    → IsLegal m event → IsTrueEvent instance m event → IsTrueState instance (after m event)
-true_after law instance m (Claim worker node) lawful is legal told = record {
-  orderly = orderly_after m (Claim worker node) is.orderly legal;
-  size = is.size;
-  lawful = is.lawful;
-  stored = is.stored;
-  least = is.least;
-  priced = is.priced;
-  pruned = is.pruned;
-}
-true_after law instance m (Commit worker unit table result action) lawful is legal told =
-    let orderly = orderly_after m (Commit worker unit table result action) is.orderly legal in
-    let large = as_large_after m (Commit worker unit table result action) in
-    let size : IsSizeOf (after m (Commit worker unit table result action)).tree instance =
-    record { thermal = is.size.thermal ∙ sym large.units; periods = is.size.periods ∙ sym large.periods } in
-    let holds = legal.1.holds in
-    subst (λ h. IsTrueState instance (committed_by m worker unit table result action h)) (sym holds)
-    (committed_true law instance m worker unit legal.1.node table result action lawful is legal.0 holds legal.1.legal told
-    (subst (λ h. IsOrderly (committed_by m worker unit table result action h)) holds orderly)
-    (subst (λ h. IsSizeOf (committed_by m worker unit table result action h).tree instance) holds size))
-true_after law instance m (Publish worker cost) lawful is legal told =
-    published law instance m worker cost is legal told (orderly_after m (Publish worker cost) is.orderly legal)
-true_after law instance m (Look worker) lawful is legal told =
-    moved instance m (Look worker) _ is (orderly_after m (Look worker) is.orderly legal)
-    (least_with m.best m.desks worker (λ desk. record desk { seen = m.best }) is.least (at_most_itself m.best))
-true_after law instance m (Push worker node) lawful is legal told =
-    moved instance m (Push worker node) _ is (orderly_after m (Push worker node) is.orderly legal)
-    (least_kept m.best m.desks worker (λ desk. with_queued desk node) (λ desk. refl) is.least legal.0)
-true_after law instance m (Pop worker) lawful is legal told =
-    moved instance m (Pop worker) _ is (orderly_after m (Pop worker) is.orderly legal)
-    (taken_least m worker worker is.least legal.0 legal.0)
-true_after law instance m (Steal worker victim) lawful is legal told =
-    moved instance m (Steal worker victim) _ is (orderly_after m (Steal worker victim) is.orderly legal)
-    (taken_least m worker victim is.least legal.0 legal.1)
+pub costs_after : NeverDecreases → (instance : Instance) (m : Machine) (event : Event) → IsOrderly m → AreCostsTrue instance m
+    → IsLegal m event → IsTrueEvent instance m event → AreCostsTrue instance (after m event)
+costs_after law instance m (Claim worker node) orderly is legal told =
+    record { least = is.least; priced = is.priced; pruned = is.pruned }
+costs_after law instance m (Commit worker unit table exact result action) orderly is legal told =
+    subst (λ h. AreCostsTrue instance (committed_by m worker unit table exact result action h)) (sym legal.1.holds)
+    (committed_costs law instance m worker unit legal.1.node table exact result action orderly is legal.0 legal.1.holds legal.1.legal)
+costs_after law instance m (Publish worker cost) orderly is legal told = published law instance m worker cost orderly is legal told
+costs_after law instance m (Look worker) orderly is legal told =
+    moved instance m _ is (least_with m.best m.desks worker (λ desk. record desk { seen = m.best }) is.least (at_most_itself m.best))
+costs_after law instance m (Push worker node) orderly is legal told =
+    moved instance m _ is (least_kept m.best m.desks worker (λ desk. with_queued desk node) (λ desk. refl) is.least legal.0)
+costs_after law instance m (Pop worker) orderly is legal told =
+    moved instance m _ is (taken_least m worker worker is.least legal.0 legal.0)
+costs_after law instance m (Steal worker victim) orderly is legal told =
+    moved instance m _ is (taken_least m worker victim is.least legal.0 legal.1)
 
 -- ---- A true start is true, what is true of a state is what holds there, and so runs hold.
 -- ---- the start
@@ -395,21 +220,9 @@ desks_see_nothing workers =
     subst (λ (desk : Desk). AtMost None desk.seen)
     (sym (get_or-replicate workers k no_desk d (omega (arith, length-replicate workers no_desk)))) tt)
 
-start_true : (instance : Instance) (m : Machine) → IsTrueStart instance m → IsTrueState instance m
-start_true instance m start = subst (IsTrueState instance) (sym start.is_start) (record {
-  orderly = orderly_start (thermal_count instance) instance.periods start.workers start.budget start.gap start.table start.value start.small start.whole;
-  size = record { thermal = refl; periods = refl };
-  lawful = All-cons (IsLawfulTable instance) start.table [] start.lawful (All-nil (IsLawfulTable instance));
-  stored = record {
-    table = start.table;
-    is_table = refl;
-    scale = start.scale;
-    bounds = inl (record { bound = start.value; is_bound = start.bound; enough = (omega (arith, linear)) });
-  };
-  least = desks_see_nothing _;
-  priced = tt;
-  pruned = tt;
-})
+start_costs : (instance : Instance) (m : Machine) → IsTrueStart instance m → AreCostsTrue instance m
+start_costs instance m start =
+    subst (AreCostsTrue instance) (sym start.is_start) (record { least = desks_see_nothing _; priced = tt; pruned = tt })
 
 -- ---- what holds
 -- a table of a list of lawful ones is lawful
@@ -420,10 +233,12 @@ listed instance tables each number table is_table =
 
 lawful_claim : (instance : Instance) (tables : List Table) → All (IsLawfulTable instance) tables → (node : Node) (l : Leaf)
     → HasLawfulTable instance tables node (own_claim l)
-lawful_claim instance tables each node (leaf.Live table value) = listed instance tables each table
-lawful_claim instance tables each node (leaf.Bound table value) = listed instance tables each table
+lawful_claim instance tables each node (leaf.Live table value exact) = listed instance tables each table
+lawful_claim instance tables each node (leaf.Bound table value exact) = listed instance tables each table
 lawful_claim instance tables each node (leaf.Ray table) = listed instance tables each table
 lawful_claim instance tables each node (leaf.Empty g) = tt
+lawful_claim instance tables each node (leaf.ExactRay table) = listed instance tables each table
+lawful_claim instance tables each node (leaf.ExactEmpty g) = tt
 
 lawful_claims : (instance : Instance) (tables : List Table) → All (IsLawfulTable instance) tables → (node : Node) (tree : branch.Tree Leaf)
     → EachLeaf (HasLawfulTable instance tables) node (map_leaves own_claim tree)
@@ -431,27 +246,22 @@ lawful_claims instance tables each node (Ends l) = lawful_claim instance tables 
 lawful_claims instance tables each node (Splits g t off on) =
     (lawful_claims instance tables each (child node g t false) off, lawful_claims instance tables each (child node g t true) on)
 
-ended : (instance : Instance) (m : Machine) → IsTrueState instance m → IsSettled m
+ended : (instance : Instance) (m : Machine) → IsTrueTree instance m → AreCostsTrue instance m → IsSettled m
     → IsBestWithin m.best m.gap (tree_bound m.tree) ⊎ AllExcluded instance m.tables (claims_of m.tree)
-ended instance m is settled =
+ended instance m is costs settled =
     let none : (number : ℕ) → ¬ IsOpenAt m.tree.nodes number =
     λ number at. settled.none_open number (record { live = at; unheld = settled.none_held number }) in
     ⊎_elim
     (λ (e : least_bound (tree_of m.tree) ≡ None). inr (excluded_below instance m.tables root (tree_of m.tree) e is.stored))
     (λ (h : IsBestWithin m.best m.gap (least_bound (tree_of m.tree))). inl h)
-    (closed_within m.best m.gap root (tree_of m.tree) (all_closed m.tree.nodes is.orderly.placed.are.numbered none) is.pruned)
+    (closed_within m.best m.gap root (tree_of m.tree) (all_closed m.tree.nodes is.orderly.placed.are.numbered none) costs.pruned)
 
-holds_at : (instance : Instance) (start m : Machine) → IsLawfulInstance instance → IsTrueState instance m → HasTrueLog instance start m
-    → HoldsAt instance start m
-holds_at instance start m lawful is logged = record {
+tree_holds_at : (instance : Instance) (start m : Machine) → IsLawfulInstance instance → IsTrueTree instance m → HasTrueLog instance start m
+    → TreeHoldsAt instance start m
+tree_holds_at instance start m lawful is logged = record {
   cover = is.orderly.cover instance is.size;
-  tickets = is.orderly.tickets;
   stored = is.stored;
   bound = stored_bounds_hold instance m.tables m.tree lawful (lawful_claims instance m.tables is.lawful root (tree_of m.tree)) is.stored;
-  priced = is.priced;
-  least = is.least;
-  pruned = is.pruned;
-  ended = ended instance m is;
   tables = is.lawful;
   log = record { entries = logged.entries; apart = logged.apart };
   first = logged.first;
@@ -459,56 +269,78 @@ holds_at instance start m lawful is logged = record {
   few = logged.few;
 }
 
+holds_at : (instance : Instance) (start m : Machine) → IsLawfulInstance instance → IsTrueTree instance m → AreCostsTrue instance m
+    → HasTrueLog instance start m → HoldsAt instance start m
+holds_at instance start m lawful is costs logged = record {
+  tree = tree_holds_at instance start m lawful is logged;
+  tickets = is.orderly.tickets;
+  priced = costs.priced;
+  least = costs.least;
+  pruned = costs.pruned;
+  ended = ended instance m is costs;
+}
+
 -- ---- the best cost never rises
 never_rises : (m : Machine) (event : Event) → AtMost (after m event).best m.best
 never_rises m (Claim worker node) = at_most_itself m.best
-never_rises m (Commit worker unit table outcome action) = by_holder (holder_of m unit)
+never_rises m (Commit worker unit table exact outcome action) = by_holder (holder_of m unit)
   where
-    by_holder : (holder : Option Holder) → AtMost (committed_by m worker unit table outcome action holder).best m.best
+    by_holder : (holder : Option Holder) → AtMost (committed_by m worker unit table exact outcome action holder).best m.best
     by_holder None = at_most_itself m.best
     by_holder (Some holder) = at_most_itself m.best
 never_rises m (Publish worker cost) = lesser_first m.best (Some cost)
 never_rises m _ = at_most_itself m.best
 
 -- ---- runs
-along : NeverDecreases → (instance : Instance) (start m : Machine) (events : List Event) → IsLawfulInstance instance → IsTrueState instance m
-    → HasTrueLog instance start m → IsTrueRun instance m events → HoldsAlong instance start m events
-along law instance start m [] lawful is logged run = holds_at instance start m lawful is logged
-along law instance start m (event ∷ events) lawful is logged run = (
-  holds_at instance start m lawful is logged,
+along : NeverDecreases → (instance : Instance) (start m : Machine) (events : List Event) → IsLawfulInstance instance → IsTrueTree instance m
+    → AreCostsTrue instance m → HasTrueLog instance start m → IsTrueRun instance m events → HoldsAlong instance start m events
+along law instance start m [] lawful is costs logged run = holds_at instance start m lawful is costs logged
+along law instance start m (event ∷ events) lawful is costs logged run = (
+  holds_at instance start m lawful is costs logged,
   never_rises m event,
-  along law instance start (after m event) events lawful (true_after law instance m event lawful is run.0 run.1)
-      (logged_after instance start m event is.orderly run.0 run.1 logged) run.2,
+  along law instance start (after m event) events lawful (tree_after_event HasSeen instance m event lawful is run.0 run.1)
+      (costs_after law instance m event is.orderly costs run.0 run.1)
+      (logged_after HasSeen instance start m event is.orderly run.0 run.1 logged) run.2,
 )
 
 pub runs_hold : NeverDecreases → RunsHold
 runs_hold law instance m events lawful start run =
-    along law instance m m events lawful (start_true instance m start) (start_logged instance m start) run
+    along law instance m m events lawful (start_tree instance m start) (start_costs instance m start) (start_logged instance m start) run
 
 -- ---- one step after another
-run_more : (instance : Instance) (m : Machine) (events : List Event) (event : Event) → IsTrueRun instance m events
-    → IsLegal (after_all m events) event → IsTrueEvent instance (after_all m events) event → IsTrueRun instance m (events ++ event ∷ [])
-run_more instance m [] event run legal told = (legal, told, tt)
-run_more instance m (first ∷ events) event run legal told =
-    (run.0, run.1, run_more instance (after m first) events event run.2 legal told)
+pub run_more : (looked : Machine → ℕ → ℤ → Type 0) (instance : Instance) (m : Machine) (events : List Event) (event : Event)
+    → IsTrueRunBy looked instance m events → IsLegalBy looked (after_all m events) event → IsTrueEvent instance (after_all m events) event
+    → IsTrueRunBy looked instance m (events ++ event ∷ [])
+run_more looked instance m [] event run legal told = (legal, told, tt)
+run_more looked instance m (first ∷ events) event run legal told =
+    (run.0, run.1, run_more looked instance (after m first) events event run.2 legal told)
 
-after_more : (m : Machine) (events : List Event) (event : Event)
+pub after_more : (m : Machine) (events : List Event) (event : Event)
     → after_all m (events ++ event ∷ []) ≡ after (after_all m events) event
 after_more m [] event = refl
 after_more m (first ∷ events) event = after_more (after m first) events event
 
-pub starts_are_reached : StartsAreReached
-starts_are_reached instance m start = record { events = []; is_start = start; run = tt; is = refl }
+pub start_reached_by : (looked : Machine → ℕ → ℤ → Type 0) (instance : Instance) (m : Machine) → IsTrueStart instance m
+    → IsReachedBy looked instance m m
+start_reached_by looked instance m start = record { events = []; is_start = start; run = tt; is = refl }
 
-pub steps_reach : StepsReach
-steps_reach instance start m event reached legal told = record {
+pub steps_reach_by : (looked : Machine → ℕ → ℤ → Type 0) (instance : Instance) (start m : Machine) (event : Event)
+    → IsReachedBy looked instance start m → IsLegalBy looked m event → IsTrueEvent instance m event
+    → IsReachedBy looked instance start (after m event)
+steps_reach_by looked instance start m event reached legal told = record {
   events = reached.events ++ event ∷ [];
   is_start = reached.is_start;
-  run = run_more instance start reached.events event reached.run
-      (subst (λ (x : Machine). IsLegal x event) (sym reached.is) legal)
+  run = run_more looked instance start reached.events event reached.run
+      (subst (λ (x : Machine). IsLegalBy looked x event) (sym reached.is) legal)
       (subst (λ (x : Machine). IsTrueEvent instance x event) (sym reached.is) told);
   is = after_more start reached.events event ∙ ap (λ (x : Machine). after x event) reached.is;
 }
+
+pub starts_are_reached : StartsAreReached
+starts_are_reached instance m start = start_reached_by HasSeen instance m start
+
+pub steps_reach : StepsReach
+steps_reach instance start m event reached legal told = steps_reach_by HasSeen instance start m event reached legal told
 
 last_holds : (instance : Instance) (start m : Machine) (events : List Event) → HoldsAlong instance start m events
     → HoldsAt instance start (after_all m events)
@@ -520,3 +352,23 @@ reached_states_hold law instance start m lawful reached =
     subst (HoldsAt instance start) reached.is
     (last_holds instance start start reached.events
     (runs_hold law instance start reached.events lawful reached.is_start reached.run))
+
+-- ---- the tree by itself
+tree_along : (looked : Machine → ℕ → ℤ → Type 0) (instance : Instance) (start m : Machine) (events : List Event) → IsLawfulInstance instance
+    → IsTrueTree instance m → HasTrueLog instance start m → IsTrueRunBy looked instance m events
+    → IsTrueTree instance (after_all m events) × HasTrueLog instance start (after_all m events)
+tree_along looked instance start m [] lawful is logged run = (is, logged)
+tree_along looked instance start m (event ∷ events) lawful is logged run =
+    tree_along looked instance start (after m event) events lawful (tree_after_event looked instance m event lawful is run.0 run.1)
+    (logged_after looked instance start m event is.orderly run.0 run.1 logged) run.2
+
+pub tree_reached_holds : (looked : Machine → ℕ → ℤ → Type 0) (instance : Instance) (start m : Machine) → IsLawfulInstance instance
+    → IsReachedBy looked instance start m → TreeHoldsAt instance start m × IsOrderly m
+tree_reached_holds looked instance start m lawful reached =
+    let first = reached.is_start in
+    let both = tree_along looked instance start start reached.events lawful (start_tree instance start first) (start_logged instance start first) reached.run in
+    subst (λ (x : Machine). TreeHoldsAt instance start x × IsOrderly x) reached.is
+    (tree_holds_at instance start (after_all start reached.events) lawful both.0 both.1, both.0.orderly)
+
+pub tree_runs_hold : TreeRunsHold
+tree_runs_hold instance start m lawful reached = tree_reached_holds AnyCost instance start m lawful reached

@@ -1,6 +1,6 @@
 -- The state of the search machine: branch and bound by several workers on one tree, with a log of its evaluations. This
 -- project's own form. Workers, nodes, tables and claims count from 0; a claim's number, its unit, from 1.
-use Rattle.std.specs.Prelude.{◌≡◌, ℕ, ◌+◌, ◌-◌, ◌*◌, ◌<◌, ◌==◌, List, [], ◌∷◌, ℤ, pos, Option, Some, None, filter, length, replicate, slice_get, slice_index_or}
+use Rattle.std.specs.Prelude.{◌≡◌, ℕ, ◌+◌, ◌-◌, ◌*◌, ◌<◌, ◌==◌, false, List, [], ◌∷◌, ℤ, pos, Option, Some, None, filter, length, replicate, slice_get, slice_index_or}
 pub use Rattle.dual_model.specs.declared.table.Table.{Table}
 use Rattle.branch_tree.specs.NumberedTree.{EndAt, spot_at}
 use Rattle.branch_tree.specs.TreeView.{TreeView, IsOpenAt}
@@ -75,16 +75,22 @@ abbrev pub entries_of : List Entry → ℕ → List Entry
 entries_of log node = filter (λ entry. entry.node == node) log
 
 -- ---- what a node stores
+-- a table of which no bound is told
+abbrev pub unbounded : ℕ → Stored
+unbounded table = record { table = table; value = pos 0; exact = false }
+
 abbrev pub leaf_stored : Leaf → Stored
-leaf_stored (leaf.Live table value) = record { table = table; value = value }
-leaf_stored (leaf.Bound table value) = record { table = table; value = value }
-leaf_stored (leaf.Ray table) = record { table = table; value = pos 0 }
-leaf_stored (leaf.Empty g) = record { table = 0; value = pos 0 }
+leaf_stored (leaf.Live table value exact) = record { table = table; value = value; exact = exact }
+leaf_stored (leaf.Bound table value exact) = record { table = table; value = value; exact = exact }
+leaf_stored (leaf.Ray table) = unbounded table
+leaf_stored (leaf.Empty g) = unbounded 0
+leaf_stored (leaf.ExactRay table) = unbounded table
+leaf_stored (leaf.ExactEmpty g) = unbounded 0
 
 abbrev pub spot_stored : Option Spot → Stored
-spot_stored None = record { table = 0; value = pos 0 }
+spot_stored None = unbounded 0
 spot_stored (Some (spot.Leaf leaf)) = leaf_stored leaf
-spot_stored (Some (spot.Inner g t off on)) = record { table = 0; value = pos 0 }
+spot_stored (Some (spot.Inner g t off on)) = unbounded 0
 
 abbrev pub stored_at : TreeView → ℕ → Stored
 stored_at tree node = spot_stored (spot_at tree.nodes node)
@@ -98,12 +104,12 @@ room_for budget = 2 * budget + 1
 abbrev pub first_desk : Desk
 first_desk = record { seen = None; hand = 0 ∷ []; queue = [] }
 
--- an open root of this table and its bound
+-- an open root of this table and its bound, by V
 abbrev pub start_of : ℕ → ℕ → ℕ → ℕ → ℕ → Table → ℤ → Machine
 start_of units periods workers budget gap table value = record {
   budget = budget;
   gap = gap;
-  tree = record { units = units; periods = periods; room = room_for budget; nodes = EndAt 0 (leaf.Live 0 value) };
+  tree = record { units = units; periods = periods; room = room_for budget; nodes = EndAt 0 (leaf.Live 0 value false) };
   tables = table ∷ [];
   claims = [];
   log = [];

@@ -1,8 +1,9 @@
 -- What a commit makes of its node: what the node stores then, and the move by which the claim ends, with its condition and
 -- its effect. This project's own form of branch and bound.
-use Rattle.std.specs.Prelude.{◌≡◌, ℕ, suc, ◌<◌, ◌⊎◌, ◌&&◌, IsTrue, List, [], ◌∷◌, ℤ, pos, int_lt, ◌<ℤ◌, Some, length, if◌then◌else◌}
+use Rattle.std.specs.Prelude.{◌≡◌, ℕ, suc, ◌<◌, ◌⊎◌, ◌&&◌, Bool, true, false, IsTrue, List, [], ◌∷◌, ℤ, pos, int_lt, ◌<ℤ◌, Some, length, if◌then◌else◌}
 use Rattle.std.specs.Int.{int_div_euclid}
 use Rattle.branch_tree.specs.NumberedTree.{EndAt, node_count, replaced, split_leaf}
+pub use Rattle.branch_tree.specs.TreeView.{HasFreeCell}
 use Rattle.branch_tree.specs.TreeView.{TreeView, IsFreeAt}
 use Rattle.branch_tree.specs.Closing.{is_within_gap}
 pub use Rattle.branch_tree.specs.declared.found.Outcome.{Outcome}
@@ -10,24 +11,24 @@ use Rattle.branch_tree.specs.declared.found.Outcome.TheVariants as outcome
 use Rattle.branch_tree.specs.declared.tree.Leaf.TheVariants as leaf
 pub use Rattle.search_core.specs.declared.event.Move.{Move}
 pub use Rattle.search_core.specs.declared.event.Move.TheVariants.{Again, Split, Prune, Ray, Empty}
-use Rattle.search_core.specs.Machine.{Table, Machine, desk_of, entries_of, stored_at}
+use Rattle.search_core.specs.Machine.{Table, Machine, entries_of, stored_at}
 use Rattle.search_core.specs.declared.stored.Stored.{Stored}
 use Rattle.branch_tree.specs.declared.tree.Leaf.{Leaf}
 
 -- ---- what a node stores after an evaluation
--- floor(V/K), in micro-dollars, where K > 0
+-- floor(V/K) or floor(VE/K), in micro-dollars, where K > 0
 abbrev pub bound_of : ℤ → ℤ → ℤ
 bound_of v k = int_div_euclid v k
 
--- the new table, which has this number, where K > 0 and its bound is greater; else the old one
-abbrev pub kept_after : Stored → ℕ → ℤ → Outcome → Stored
-kept_after old number k (outcome.Value v) =
-    if int_lt (pos 0) k && int_lt old.value (bound_of v k) then record { table = number; value = bound_of v k } else old
-kept_after old number k (outcome.Empty g) = old
+-- the new table, which has this number, with the kind of its value, where K > 0 and its bound is greater; else the old one
+abbrev pub kept_after : Stored → ℕ → ℤ → Bool → Outcome → Stored
+kept_after old number k exact (outcome.Value v) =
+    if int_lt (pos 0) k && int_lt old.value (bound_of v k) then record { table = number; value = bound_of v k; exact = exact } else old
+kept_after old number k exact (outcome.Empty g) = old
 
 -- what the move Again leaves at the node after this evaluation
-abbrev pub kept : Machine → ℕ → Table → Outcome → Stored
-kept m node table outcome = kept_after (stored_at m.tree node) (length m.tables) table.k outcome
+abbrev pub kept : Machine → ℕ → Table → Bool → Outcome → Stored
+kept m node table exact outcome = kept_after (stored_at m.tree node) (length m.tables) table.k exact outcome
 
 -- ---- the effect
 -- the leaf of that number is this one
@@ -39,18 +40,34 @@ abbrev pub split : TreeView → ℕ → ℕ → ℕ → TreeView
 split tree node g t =
     record tree { nodes = replaced node (split_leaf node g t (node_count tree.nodes) (suc (node_count tree.nodes))) tree.nodes }
 
+-- the open leaf that stores this, and the one that is closed
+abbrev pub live_leaf : Stored → Leaf
+live_leaf stored = leaf.Live stored.table stored.value stored.exact
+
+abbrev pub bound_leaf : Stored → Leaf
+bound_leaf stored = leaf.Bound stored.table stored.value stored.exact
+
+-- the leaf that a ray of this kind of value excludes, and the one that a blocked unit of this kind does
+abbrev pub ray_leaf : Bool → ℕ → Leaf
+ray_leaf false number = leaf.Ray number
+ray_leaf true number = leaf.ExactRay number
+
+abbrev pub empty_leaf : Bool → ℕ → Leaf
+empty_leaf false g = leaf.Empty g
+empty_leaf true g = leaf.ExactEmpty g
+
 -- the unit that the outcome names
 abbrev pub unit_of : Outcome → ℕ
 unit_of (outcome.Value v) = 0
 unit_of (outcome.Empty g) = g
 
--- the tree after the move, where the evaluation was at the table of that number and would leave this at the node
-abbrev pub tree_after : TreeView → ℕ → Stored → ℕ → Outcome → Move → TreeView
-tree_after tree node stored number outcome Again = closed tree node (leaf.Live stored.table stored.value)
-tree_after tree node stored number outcome (Split g t) = split (closed tree node (leaf.Live stored.table stored.value)) node g t
-tree_after tree node stored number outcome (Prune seen) = closed tree node (leaf.Bound stored.table stored.value)
-tree_after tree node stored number outcome Ray = closed tree node (leaf.Ray number)
-tree_after tree node stored number outcome Empty = closed tree node (leaf.Empty (unit_of outcome))
+-- the tree after the move, where the evaluation, of a value of this kind at the table of that number, would leave this at the node
+abbrev pub tree_after : TreeView → ℕ → Stored → ℕ → Bool → Outcome → Move → TreeView
+tree_after tree node stored number exact outcome Again = closed tree node (live_leaf stored)
+tree_after tree node stored number exact outcome (Split g t) = split (closed tree node (live_leaf stored)) node g t
+tree_after tree node stored number exact outcome (Prune seen) = closed tree node (bound_leaf stored)
+tree_after tree node stored number exact outcome Ray = closed tree node (ray_leaf exact number)
+tree_after tree node stored number exact outcome Empty = closed tree node (empty_leaf exact (unit_of outcome))
 
 -- of two nodes, those that the move adds
 abbrev pub children_by : List ℕ → Move → List ℕ
@@ -74,12 +91,6 @@ abbrev pub IsEmpty : Outcome → Type 0
 IsEmpty (outcome.Value v) = ⊥
 IsEmpty (outcome.Empty g) = Unit {0}
 
--- a cell is undecided at the node
-pub record HasFreeCell (tree : TreeView) (node : ℕ) : Type 0 where
-  pub g : ℕ
-  pub t : ℕ
-  pub free : IsFreeAt tree node g t
-
 -- a split is on a cell that is undecided at the node
 abbrev pub IsFreeFor : TreeView → ℕ → Move → Type 0
 IsFreeFor tree node (Split g t) = IsFreeAt tree node g t
@@ -89,14 +100,16 @@ IsFreeFor tree node _ = Unit {0}
 abbrev pub MayGoOn : Machine → ℕ → Type 0
 MayGoOn m node = (suc (length (entries_of m.log node)) < 100) ⊎ (¬ HasFreeCell m.tree node)
 
--- the worker has seen the cost, and the bound that the node would store is within the gap of it
-pub record MayPrune (m : Machine) (worker : ℕ) (stored : Stored) (seen : ℤ) : Type 0 where
-  pub looked : (desk_of m worker).seen ≡ Some seen
-  pub within : IsTrue (is_within_gap seen (Some stored.value) m.gap)
+-- the cost is one that may be pruned by, and the bound that the node would store is within the gap of it
+pub record MayPrune (IsSeen : ℤ → Type 0) (gap : ℕ) (stored : Stored) (seen : ℤ) : Type 0 where
+  pub looked : IsSeen seen
+  pub within : IsTrue (is_within_gap seen (Some stored.value) gap)
 
-abbrev pub IsMoveLegal : Machine → ℕ → ℕ → Table → Outcome → Move → Type 0
-IsMoveLegal m worker node table outcome Again = IsValue outcome × MayGoOn m node
-IsMoveLegal m worker node table outcome (Split g t) = IsValue outcome × IsFreeAt m.tree node g t
-IsMoveLegal m worker node table outcome (Prune seen) = IsValue outcome × MayPrune m worker (kept m node table outcome) seen
-IsMoveLegal m worker node table outcome Ray = (table.k ≡ pos 0) × IsPositive outcome
-IsMoveLegal m worker node table outcome Empty = IsEmpty outcome
+-- the condition of each move, by the costs that may be pruned by
+abbrev pub IsMoveLegal : (ℤ → Type 0) → Machine → ℕ → Table → Bool → Outcome → Move → Type 0
+IsMoveLegal looked m node table exact outcome Again = IsValue outcome × MayGoOn m node
+IsMoveLegal looked m node table exact outcome (Split g t) = IsValue outcome × IsFreeAt m.tree node g t
+IsMoveLegal looked m node table exact outcome (Prune seen) =
+    IsValue outcome × MayPrune looked m.gap (kept m node table exact outcome) seen
+IsMoveLegal looked m node table exact outcome Ray = (table.k ≡ pos 0) × IsPositive outcome
+IsMoveLegal looked m node table exact outcome Empty = IsEmpty outcome

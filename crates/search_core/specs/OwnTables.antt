@@ -21,7 +21,7 @@ pub record HasFreeCellAt (units periods : ℕ) (node : Node) : Type 0 where
 
 -- what the move Again leaves after an entry of the log
 abbrev pub stored_by : List Table → Stored → Entry → Stored
-stored_by tables stored entry = kept_after stored entry.table (table_at tables entry.table).k entry.outcome
+stored_by tables stored entry = kept_after stored entry.table (table_at tables entry.table).k entry.exact entry.outcome
 
 -- after one entry and the next
 abbrev pub stored_after : List Table → Stored → List Entry → Stored
@@ -34,10 +34,12 @@ StartsAt tables stored (entry ∷ entries) = table_at tables entry.table ≡ tab
 
 -- a leaf that isn't excluded holds what is stored
 abbrev pub HoldsStored : Stored → Leaf → Type 0
-HoldsStored stored (leaf.Live table value) = (table ≡ stored.table) × (value ≡ stored.value)
-HoldsStored stored (leaf.Bound table value) = (table ≡ stored.table) × (value ≡ stored.value)
+HoldsStored stored (leaf.Live table value exact) = (table ≡ stored.table) × (value ≡ stored.value) × (exact ≡ stored.exact)
+HoldsStored stored (leaf.Bound table value exact) = (table ≡ stored.table) × (value ≡ stored.value) × (exact ≡ stored.exact)
 HoldsStored stored (leaf.Ray table) = Unit {0}
 HoldsStored stored (leaf.Empty g) = Unit {0}
+HoldsStored stored (leaf.ExactRay table) = Unit {0}
+HoldsStored stored (leaf.ExactEmpty g) = Unit {0}
 
 -- a node inherits what its parent stores: at each node below `here`, but the root, at which a cell is undecided the first
 -- entry is at the inherited table, and each leaf holds what its entries leave of it

@@ -1,7 +1,7 @@
 -- Runs of the search machine, and what holds after each event of one whose commits and published costs are true. Source:
 -- branch and bound on the commitment variables of the reference model by Knueven, Ostrowski and Watson; the machine is this
 -- project's own.
-use Rattle.std.specs.Prelude.{◌≡◌, ℕ, ◌≤◌, ◌⊎◌, IsTrue, All, IfSome, List, [], ◌∷◌, ℤ, pos, ◌<ℤ◌, Option, Some, None, slice_get, false}
+use Rattle.std.specs.Prelude.{◌≡◌, ℕ, ◌≤◌, ◌⊎◌, Bool, IsTrue, All, IfSome, List, [], ◌∷◌, ℤ, pos, ◌<ℤ◌, Option, Some, None, slice_get, false}
 use Rattle.uc_model.specs.Limits.{IsLawfulInstance}
 use Rattle.uc_model.specs.Schedule.{thermal_count}
 pub use Rattle.uc_model.specs.declared.tolerance.TheConstants.{WHOLE_GAP}
@@ -22,15 +22,15 @@ use Rattle.branch_tree.specs.TreeView.{tree_of}
 pub use Rattle.branch_tree.specs.declared.tree.Leaf.{Leaf}
 use Rattle.branch_tree.specs.declared.tree.Leaf.TheVariants as leaf
 use Rattle.search_core.specs.Machine.{Table, Machine, IsHolding, IsHeld, IsOpen, start_of, stored_at}
-use Rattle.search_core.specs.Orderly.{MAX_BUDGET, IsEachTicketOnce}
+use Rattle.search_core.specs.Orderly.{MAX_BUDGET, IsEachTicketOnce, IsOrderly}
 use Rattle.search_core.specs.OwnTables.{Owns, HasFewEntries}
-use Rattle.search_core.specs.Steps.{Claim, Commit, Look, Outcome, Pop, Publish, Push, Steal, Event, IsLegal, after}
+use Rattle.search_core.specs.Steps.{Claim, Commit, Look, Outcome, Pop, Publish, Push, Steal, Event, IsLegal, IsLegalBy, HasSeen, AnyCost, after}
 
 -- ---- true events
--- the outcome is true of the node and the table: all that the machine asks of a value
-pub record IsTrueOutcome (instance : Instance) (node : Node) (table : Table) (outcome : Outcome) : Type 0 where
+-- the outcome, of this kind, is true of the node and the table: all that the machine asks of a value
+pub record IsTrueOutcome (exact : Bool) (instance : Instance) (node : Node) (table : Table) (outcome : Outcome) : Type 0 where
   pub lawful : IsLawfulTable instance table
-  pub told : IsOutcome instance node table outcome
+  pub told : IsOutcome exact instance node table outcome
 
 -- the cost is that of a printed schedule that obeys
 pub record IsTrueCost (instance : Instance) (cost : ℤ) : Type 0 where
@@ -40,8 +40,8 @@ pub record IsTrueCost (instance : Instance) (cost : ℤ) : Type 0 where
 -- a commit is true where its outcome is that of the node held, and a published cost where it is a schedule's
 abbrev pub IsTrueEvent : Instance → Machine → Event → Type 0
 IsTrueEvent instance m (Claim worker node) = Unit {0}
-IsTrueEvent instance m (Commit worker unit table outcome action) =
-    (number : ℕ) (node : Node) → IsHolding m worker unit number → IsNodeAt m.tree number node → IsTrueOutcome instance node table outcome
+IsTrueEvent instance m (Commit worker unit table exact outcome action) =
+    (number : ℕ) (node : Node) → IsHolding m worker unit number → IsNodeAt m.tree number node → IsTrueOutcome exact instance node table outcome
 IsTrueEvent instance m (Publish worker cost) = IsTrueCost instance cost
 IsTrueEvent instance m (Look worker) = Unit {0}
 IsTrueEvent instance m (Push worker node) = Unit {0}
@@ -49,7 +49,7 @@ IsTrueEvent instance m (Pop worker) = Unit {0}
 IsTrueEvent instance m (Steal worker victim) = Unit {0}
 
 -- ---- runs
--- the start of a search of the instance: the root stores a lawful table of scale above 0, and its bound there
+-- the start of a search of the instance: the root stores a lawful table of scale above 0, and its bound there, by V
 pub record IsTrueStart (instance : Instance) (m : Machine) : Type 0 where
   pub workers : ℕ
   pub budget : ℕ
@@ -63,11 +63,15 @@ pub record IsTrueStart (instance : Instance) (m : Machine) : Type 0 where
   pub scale : pos 0 <ℤ table.k
   pub bound : IsTableBound false instance root table value
 
--- each event is legal where it comes, and true
+-- each event is legal where it comes, by the costs that each worker may prune by, and true
+abbrev pub IsTrueRunBy : (Machine → ℕ → ℤ → Type 0) → Instance → Machine → List Event → Type 0
+IsTrueRunBy looked instance m [] = Unit {0}
+IsTrueRunBy looked instance m (event ∷ events) =
+    IsLegalBy looked m event × IsTrueEvent instance m event × IsTrueRunBy looked instance (after m event) events
+
+-- the same where a worker prunes by the cost that it has seen
 abbrev pub IsTrueRun : Instance → Machine → List Event → Type 0
-IsTrueRun instance m [] = Unit {0}
-IsTrueRun instance m (event ∷ events) =
-    IsLegal m event × IsTrueEvent instance m event × IsTrueRun instance (after m event) events
+IsTrueRun instance m events = IsTrueRunBy HasSeen instance m events
 
 -- the state after all events
 abbrev pub after_all : Machine → List Event → Machine
@@ -82,31 +86,25 @@ IsBestWithin (Some best) gap bound = IsTrue (is_within_gap best bound gap)
 
 -- a leaf that was pruned has a bound within the gap of the best cost
 abbrev pub IsPrunedWithin : Option ℤ → ℕ → Leaf → Type 0
-IsPrunedWithin best gap (leaf.Live table value) = Unit {0}
-IsPrunedWithin best gap (leaf.Bound table value) = IsBestWithin best gap (Some value)
+IsPrunedWithin best gap (leaf.Live table value exact) = Unit {0}
+IsPrunedWithin best gap (leaf.Bound table value exact) = IsBestWithin best gap (Some value)
 IsPrunedWithin best gap (leaf.Ray table) = Unit {0}
 IsPrunedWithin best gap (leaf.Empty g) = Unit {0}
+IsPrunedWithin best gap (leaf.ExactRay table) = Unit {0}
+IsPrunedWithin best gap (leaf.ExactEmpty g) = Unit {0}
 
 -- no node is open or held
 pub record IsSettled (m : Machine) : Type 0 where
   pub none_open : (node : ℕ) → ¬ IsOpen m node
   pub none_held : (node : ℕ) → ¬ IsHeld m node
 
--- of a state that a run from this start reached
-pub record HoldsAt (instance : Instance) (start m : Machine) : Type 0 where
-  -- the leaves are a cover, and each node's ticket is in exactly one hand or queue
+-- of the tree, the tables and the log of a state that a run from this start reached, whatever its workers prune by
+pub record TreeHoldsAt (instance : Instance) (start m : Machine) : Type 0 where
+  -- the leaves are a cover
   pub cover : IsCover instance (tree_of m.tree)
-  pub tickets : IsEachTicketOnce m.desks (node_count m.tree.nodes)
   -- what each leaf stores holds, so no schedule costs less than the tree's bound, and without one there is none
   pub stored : EachLeaf (StoredHolds instance m.tables) root (tree_of m.tree)
   pub bound : IsClaimTrue instance (tree_bound m.tree)
-  -- the best cost is that of a schedule, and no greater than what any worker has seen
-  pub priced : IfSome m.best (IsTrueCost instance)
-  pub least : All (λ desk. AtMost m.best desk.seen) m.desks
-  -- each pruned leaf's bound is within the gap of the best cost, though it was pruned by an older one
-  pub pruned : EachLeaf (λ node leaf. IsPrunedWithin m.best m.gap leaf) root (tree_of m.tree)
-  -- at the end the best cost is within the gap of the bound, or each leaf is excluded
-  pub ended : IsSettled m → IsBestWithin m.best m.gap (tree_bound m.tree) ⊎ AllExcluded instance m.tables (claims_of m.tree)
   -- the tables are lawful, the log is true, the first table is that of the start, and by what the start stores at the root, each node stores what
   -- its entries leave
   pub tables : All (IsLawfulTable instance) m.tables
@@ -115,6 +113,19 @@ pub record HoldsAt (instance : Instance) (start m : Machine) : Type 0 where
   pub own : Owns m.tree m.tables m.log (stored_at start.tree 0)
   -- a node with an undecided cell has at most a hundred entries
   pub few : HasFewEntries m.tree m.log
+
+-- of a state that a run from this start reached
+pub record HoldsAt (instance : Instance) (start m : Machine) : Type 0 where
+  pub tree : TreeHoldsAt instance start m
+  -- each node's ticket is in exactly one hand or queue
+  pub tickets : IsEachTicketOnce m.desks (node_count m.tree.nodes)
+  -- the best cost is that of a schedule, and no greater than what any worker has seen
+  pub priced : IfSome m.best (IsTrueCost instance)
+  pub least : All (λ desk. AtMost m.best desk.seen) m.desks
+  -- each pruned leaf's bound is within the gap of the best cost, though it was pruned by an older one
+  pub pruned : EachLeaf (λ node leaf. IsPrunedWithin m.best m.gap leaf) root (tree_of m.tree)
+  -- at the end the best cost is within the gap of the bound, or each leaf is excluded
+  pub ended : IsSettled m → IsBestWithin m.best m.gap (tree_bound m.tree) ⊎ AllExcluded instance m.tables (claims_of m.tree)
 
 -- before the first event and after each, of events that come after the start; and no event raises the best cost
 abbrev pub HoldsAlong : Instance → Machine → Machine → List Event → Type 0
@@ -129,12 +140,16 @@ RunsHold =
     → IsTrueRun instance m events → HoldsAlong instance m m events
 
 -- ---- one step after another
--- a state that a run of legal and true events reaches from this start, which is true
-pub record IsReached (instance : Instance) (start m : Machine) : Type 0 where
+-- a state that a run of legal and true events reaches from this start, which is true, by the costs that each worker may prune by
+pub record IsReachedBy (looked : Machine → ℕ → ℤ → Type 0) (instance : Instance) (start m : Machine) : Type 0 where
   pub events : List Event
   pub is_start : IsTrueStart instance start
-  pub run : IsTrueRun instance start events
+  pub run : IsTrueRunBy looked instance start events
   pub is : after_all start events ≡ m
+
+-- the same where a worker prunes by the cost that it has seen
+abbrev pub IsReached : Instance → Machine → Machine → Type 0
+IsReached instance start m = IsReachedBy HasSeen instance start m
 
 -- a true start is reached, each legal and true event leads from a reached state to another, and what holds after the events of
 -- runs holds of each reached state
@@ -149,3 +164,11 @@ StepsReach =
 abbrev pub ReachedStatesHold : Type 0
 ReachedStatesHold =
     (instance : Instance) (start m : Machine) → IsLawfulInstance instance → IsReached instance start m → HoldsAt instance start m
+
+-- ---- the tree by itself
+-- whatever costs the workers prune by: of a state that a run reaches by any, all that is said of the tree, the tables and the log holds, and
+-- all that every state keeps
+abbrev pub TreeRunsHold : Type 0
+TreeRunsHold =
+    (instance : Instance) (start m : Machine) → IsLawfulInstance instance → IsReachedBy AnyCost instance start m
+    → TreeHoldsAt instance start m × IsOrderly m

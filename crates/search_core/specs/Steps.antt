@@ -1,6 +1,6 @@
 -- The search machine: its events, where each is legal, and the state after it. This project's own form of branch and bound by
 -- several workers; one event is one atomic step of one worker.
-use Rattle.std.specs.Prelude.{◌≡◌, ◌≢◌, ℕ, ◌-◌, ◌<◌, ◌==◌, not, Bool, IsTrue, All, List, [], ◌∷◌, ◌++◌, Option, Some, None, filter, length, slice_get, slice_set, slice_index_or, drop}
+use Rattle.std.specs.Prelude.{◌≡◌, ◌≢◌, ℕ, ◌-◌, ◌<◌, ◌==◌, not, Bool, IsTrue, All, List, [], ◌∷◌, ◌++◌, ℤ, Option, Some, None, filter, length, slice_get, slice_set, slice_index_or, drop}
 use Rattle.std.specs.List.{list_any}
 use Rattle.branch_tree.specs.StoredTree.{lesser_bound}
 pub use Rattle.branch_tree.specs.declared.found.Outcome.{Outcome}
@@ -15,34 +15,50 @@ pub record IsClaimable (m : Machine) (node : ℕ) : Type 0 where
   pub left : length m.claims < m.budget
   pub open_node : IsOpen m node
 
--- none of the entries is at the table
-abbrev pub IsFresh : Machine → List Entry → Table → Type 0
-IsFresh m entries table = All (λ entry. slice_get m.tables entry.table ≢ Some table) entries
+-- none of the entries is at the table with a value of this kind
+abbrev pub IsFresh : Machine → List Entry → Table → Bool → Type 0
+IsFresh m entries table exact = All (λ entry. entry.exact ≡ exact → slice_get m.tables entry.table ≢ Some table) entries
 
 -- the table is the one that the node stores
 abbrev pub IsStoredTable : Machine → ℕ → Table → Type 0
 IsStoredTable m node table = slice_get m.tables (stored_at m.tree node).table ≡ Some table
 
--- the worker holds the unit, and by it a node; no entry of this node is at the table; at the first one of a node that isn't the
--- root, while a cell is undecided there, the table is the stored one; and the move's condition holds
-pub record IsCommittable (m : Machine) (worker unit : ℕ) (table : Table) (outcome : Outcome) (action : Move) : Type 0 where
+-- the worker holds the unit, and by it a node; no entry of this node is at the table with a value of this kind; at the first one of a
+-- node that isn't the root, while a cell is undecided there, the table is the stored one; and the move's condition holds, by the costs
+-- that may be pruned by
+pub record IsCommittable (IsSeen : ℤ → Type 0) (m : Machine) (worker unit : ℕ) (table : Table) (exact : Bool) (outcome : Outcome) (action : Move)
+    : Type 0 where
   pub node : ℕ
   pub holds : IsHolding m worker unit node
-  pub fresh : IsFresh m (entries_of m.log node) table
+  pub fresh : IsFresh m (entries_of m.log node) table exact
   pub first : entries_of m.log node ≡ [] → node ≢ 0 → HasFreeCell m.tree node → IsStoredTable m node table
-  pub legal : IsMoveLegal m worker node table outcome action
+  pub legal : IsMoveLegal IsSeen m node table exact outcome action
 
 abbrev pub is_in_hand : Desk → ℕ → Bool
 is_in_hand desk node = list_any (λ ticket. ticket == node) desk.hand
 
+-- where an event is legal, by the costs that each worker may prune by
+abbrev pub IsLegalBy : (Machine → ℕ → ℤ → Type 0) → Machine → Event → Type 0
+IsLegalBy looked m (Claim worker node) = IsWorker m worker × IsClaimable m node
+IsLegalBy looked m (Commit worker unit table exact outcome action) =
+    IsWorker m worker × IsCommittable (looked m worker) m worker unit table exact outcome action
+IsLegalBy looked m (Publish worker cost) = IsWorker m worker
+IsLegalBy looked m (Look worker) = IsWorker m worker
+IsLegalBy looked m (Push worker node) = IsWorker m worker × IsTrue (is_in_hand (desk_of m worker) node)
+IsLegalBy looked m (Pop worker) = IsWorker m worker × (0 < length (desk_of m worker).queue)
+IsLegalBy looked m (Steal worker victim) = IsWorker m worker × IsWorker m victim × (0 < length (desk_of m victim).queue)
+
+-- the worker has seen the cost
+abbrev pub HasSeen : Machine → ℕ → ℤ → Type 0
+HasSeen m worker seen = (desk_of m worker).seen ≡ Some seen
+
+-- a worker prunes by the cost that it has seen
 abbrev pub IsLegal : Machine → Event → Type 0
-IsLegal m (Claim worker node) = IsWorker m worker × IsClaimable m node
-IsLegal m (Commit worker unit table outcome action) = IsWorker m worker × IsCommittable m worker unit table outcome action
-IsLegal m (Publish worker cost) = IsWorker m worker
-IsLegal m (Look worker) = IsWorker m worker
-IsLegal m (Push worker node) = IsWorker m worker × IsTrue (is_in_hand (desk_of m worker) node)
-IsLegal m (Pop worker) = IsWorker m worker × (0 < length (desk_of m worker).queue)
-IsLegal m (Steal worker victim) = IsWorker m worker × IsWorker m victim × (0 < length (desk_of m victim).queue)
+IsLegal m event = IsLegalBy HasSeen m event
+
+-- any cost at all: of a Prune nothing is asked but its number test
+abbrev pub AnyCost : Machine → ℕ → ℤ → Type 0
+AnyCost m worker seen = Unit {0}
 
 -- ---- what a worker's desk becomes
 -- the tickets come to its hand
@@ -67,18 +83,18 @@ with_desk desks worker change = slice_set desks worker (change (desk_in desks wo
 
 -- ---- the state after an event
 -- the evaluation is committed
-abbrev pub committed : Machine → ℕ → ℕ → ℕ → Table → Outcome → Move → Machine
-committed m worker unit node table outcome action = record m {
-  tree = tree_after m.tree node (kept m node table outcome) (length m.tables) outcome action;
+abbrev pub committed : Machine → ℕ → ℕ → ℕ → Table → Bool → Outcome → Move → Machine
+committed m worker unit node table exact outcome action = record m {
+  tree = tree_after m.tree node (kept m node table exact outcome) (length m.tables) exact outcome action;
   tables = m.tables ++ table ∷ [];
   claims = slice_set m.claims (unit - 1) None;
-  log = m.log ++ (record { unit = unit; worker = worker; node = node; table = length m.tables; outcome = outcome }) ∷ [];
+  log = m.log ++ (record { unit = unit; worker = worker; node = node; table = length m.tables; exact = exact; outcome = outcome }) ∷ [];
   desks = with_desk m.desks worker (λ desk. with_tickets desk (tickets_of m.tree action));
 }
 
-abbrev pub committed_by : Machine → ℕ → ℕ → Table → Outcome → Move → Option Holder → Machine
-committed_by m worker unit table outcome action None = m
-committed_by m worker unit table outcome action (Some holder) = committed m worker unit holder.node table outcome action
+abbrev pub committed_by : Machine → ℕ → ℕ → Table → Bool → Outcome → Move → Option Holder → Machine
+committed_by m worker unit table exact outcome action None = m
+committed_by m worker unit table exact outcome action (Some holder) = committed m worker unit holder.node table exact outcome action
 
 -- the victim's first ticket comes to the worker's hand
 abbrev pub taken : List Desk → ℕ → ℕ → List Desk
@@ -87,7 +103,7 @@ taken desks worker victim =
 
 abbrev pub after : Machine → Event → Machine
 after m (Claim worker node) = record m { claims = m.claims ++ (Some (record { worker = worker; node = node })) ∷ [] }
-after m (Commit worker unit table outcome action) = committed_by m worker unit table outcome action (holder_of m unit)
+after m (Commit worker unit table exact outcome action) = committed_by m worker unit table exact outcome action (holder_of m unit)
 after m (Publish worker cost) = record m {
   best = lesser_bound m.best (Some cost);
   desks = with_desk m.desks worker (λ desk. record desk { seen = lesser_bound desk.seen (Some cost) });

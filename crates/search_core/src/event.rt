@@ -14,7 +14,7 @@ pub enum Move {
     Prune { seen: i64 },
     /// The table is a ray that excludes the node.
     Ray,
-    /// A unit has no pattern at the node.
+    /// A unit has no pattern at the node, or no schedule of its own.
     Empty,
 }
 
@@ -26,11 +26,12 @@ pub enum Event {
         worker: u8,
         node: u32,
     },
-    /// The worker commits its claim of this number: the evaluation at the table gave the outcome.
+    /// The worker commits its claim of this number: the evaluation at the table gave the outcome, V or, with `exact`, the exact value.
     Commit {
         worker: u8,
         unit: u32,
         table: Table,
+        exact: bool,
         outcome: Outcome,
         action: Move,
     },

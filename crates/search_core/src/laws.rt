@@ -1,6 +1,6 @@
 //! The laws of the machine: the contracts of functions that have nothing to compute.
 
-ghost use Rattle.search_core.specs.Runs.{RunsHold, StartsAreReached, StepsReach, ReachedStatesHold};
+ghost use Rattle.search_core.specs.Runs.{RunsHold, StartsAreReached, StepsReach, ReachedStatesHold, TreeRunsHold};
 
 use uc_model::tolerance::cost_less_tolerance_never_decreases;
 
@@ -8,12 +8,13 @@ use uc_model::tolerance::cost_less_tolerance_never_decreases;
 /// legal events whose commits and published costs are true,
 ///
 /// - the leaves are a cover, and each node's ticket is in exactly one hand or queue;
-/// - what each leaf stores holds, so no schedule costs less than the tree's bound, and without one there is none;
+/// - what each leaf stores holds, by V or the exact value as its kind says, so no schedule costs less than the tree's bound, and without
+///   one there is none;
 /// - the best cost never rises, and is at most what any worker has seen;
 /// - each pruned leaf's bound is within the gap of the best cost, though it was pruned by an older one;
 /// - where no node is open or held, the best cost is within the gap of the bound, or each leaf is excluded;
-/// - the log is true, each outcome that of its node at a lawful table, and no two entries share a claim, or a node and a
-///   table; the first table is that of the start;
+/// - the log is true, each outcome that of its node at a lawful table, and no two entries share a claim, or a node, a table and a
+///   kind; the first table is that of the start;
 /// - each leaf that isn't excluded stores what its own entries leave of what its parent stored;
 /// - a node at which a cell is undecided has at most 100 entries, the first of them, but at the root, at the table that its
 ///   parent stored.
@@ -32,3 +33,9 @@ pub fn reached_states_hold()
 {
     cost_less_tolerance_never_decreases();
 }
+
+/// What of this is said of the tree, the tables and the log, where workers prune by any cost, so that a Prune is legal by its number test
+/// alone; and what every state keeps.
+pub fn tree_runs_hold()
+    ensures { TreeRunsHold }
+{}

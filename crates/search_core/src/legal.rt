@@ -9,8 +9,8 @@ use crate::notes::Note;
 use branch_tree::{Leaf, Outcome, Spot, Tree};
 use dual_model::Table;
 
-// Whether an open leaf stands there.
-fn is_live(spot: &Spot) -> bool
+/// Whether an open leaf stands there.
+pub fn is_live(spot: &Spot) -> bool
     ensures { IsTrue result ↔ IsLive spot.now }
 {
     matches!(spot, Spot::Leaf(Leaf::Live { .. }))
@@ -29,14 +29,14 @@ pub(crate) fn is_open(tree: &Tree, notes: &[Note], node: u32) -> bool
 }
 
 /// Whether the outcome is a value.
-pub(crate) fn is_value(outcome: &Outcome) -> bool
+pub fn is_value(outcome: &Outcome) -> bool
     ensures { IsTrue result ↔ IsValue outcome.now }
 {
     matches!(outcome, Outcome::Value(_))
 }
 
 /// Whether the outcome is that a unit has no pattern.
-pub(crate) fn is_empty(outcome: &Outcome) -> bool
+pub fn is_empty(outcome: &Outcome) -> bool
     ensures { IsTrue result ↔ IsEmpty outcome.now }
 {
     matches!(outcome, Outcome::Empty(_))
@@ -53,7 +53,7 @@ fn is_positive(outcome: &Outcome) -> bool
 }
 
 /// Whether the table is a ray that excludes its node.
-pub(crate) fn is_excluding(table: &Table, outcome: &Outcome) -> bool
+pub fn is_excluding(table: &Table, outcome: &Outcome) -> bool
     ensures { IsTrue result ↔ ((table.now.k ≡ pos 0) × IsPositive outcome.now) }
 {
     table.k() == 0 && is_positive(outcome)

@@ -4,23 +4,22 @@
 //! is after it, and `step` does just that.
 #![tactic(auto)]
 
-mod cells;
 mod costs;
 mod desk;
 mod desks;
 pub mod event;
 mod holder;
 pub mod laws;
-mod legal;
+pub mod legal;
 pub mod limits;
 mod lists;
-mod moves;
+pub mod moves;
 mod notes;
 mod record;
-mod start;
+pub mod start;
 pub mod state;
 pub mod stored;
-mod tables;
+pub mod tables;
 
 pub use branch_tree::{Entry, Outcome};
 pub use event::{Event, Move, StepFault};

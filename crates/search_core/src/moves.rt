@@ -4,15 +4,14 @@ ghost use Rattle.std.specs.Prelude.{◌≡◌, ◌≤◌, ◌+◌, ◌∷◌, []
 ghost use Rattle.branch_tree.specs.NumberedTree.{node_count};
 ghost use Rattle.branch_tree.specs.TreeView.{IsOpenAt, IsFreeAt};
 ghost use Rattle.branch_tree.specs.Places.{IsPlaced};
-ghost use Rattle.branch_tree.specs.declared.tree.Leaf.TheVariants as leaf;
-ghost use Rattle.search_core.specs.Moves.{IsFreeFor, children_by, unit_of, closed, split, tree_after};
+ghost use Rattle.search_core.specs.Moves.{IsFreeFor, children_by, unit_of, closed, split, live_leaf, bound_leaf, ray_leaf, empty_leaf, tree_after};
 
 use crate::event::Move;
 use crate::stored::Stored;
 use branch_tree::{Leaf, Outcome, Tree};
 
 /// The children that a move adds, of which the first would have this number.
-pub(crate) fn children<'a>(action: &Move, both: &'a [u32; 2]) -> &'a [u32]
+pub fn children<'a>(action: &Move, both: &'a [u32; 2]) -> &'a [u32]
     ensures { result.now ≡ children_by both.now action.now }
 {
     match action {
@@ -33,21 +32,45 @@ fn unit_of(outcome: &Outcome) -> u32
 
 // The open leaf that stores this.
 fn live(stored: &Stored) -> Leaf
-    ensures { result ≡ leaf.Live stored.now.table stored.now.value }
+    ensures { result ≡ live_leaf stored.now }
 {
     Leaf::Live {
         table: stored.table,
         value: stored.value,
+        exact: stored.exact,
     }
 }
 
 // The closed leaf that stores this.
 fn pruned(stored: &Stored) -> Leaf
-    ensures { result ≡ leaf.Bound stored.now.table stored.now.value }
+    ensures { result ≡ bound_leaf stored.now }
 {
     Leaf::Bound {
         table: stored.table,
         value: stored.value,
+        exact: stored.exact,
+    }
+}
+
+// The leaf that the ray of this number excludes, by a value of this kind.
+fn by_ray(exact: bool, table: u32) -> Leaf
+    ensures { result ≡ ray_leaf exact table }
+{
+    if exact {
+        Leaf::ExactRay { table }
+    } else {
+        Leaf::Ray { table }
+    }
+}
+
+// The leaf that unit g excludes, which is blocked there for values of this kind.
+fn by_unit(exact: bool, g: u32) -> Leaf
+    ensures { result ≡ empty_leaf exact g }
+{
+    if exact {
+        Leaf::ExactEmpty { g }
+    } else {
+        Leaf::Empty { g }
     }
 }
 
@@ -57,18 +80,19 @@ fn split(tree: &mut Tree, node: u32, stored: &Stored, g: u32, t: u32)
     requires live { IsOpenAt tree.old.nodes node }
     requires free { IsFreeAt tree.old node g t }
     requires room { node_count tree.old.nodes + 2 ≤ tree.old.room }
-    ensures { tree.new ≡ split (closed tree.old node (leaf.Live stored.now.table stored.now.value)) node g t }
+    ensures { tree.new ≡ split (closed tree.old node (live_leaf stored.now)) node g t }
 {
     tree.close(node, live(stored));
     let _ = tree.split(node, g, t);
 }
 
-/// Makes a move on an open node that would store this, after an evaluation at the table of this number.
-pub(crate) fn make(
+/// Makes a move on an open node that would store this, after an evaluation, of a value of this kind, at the table of this number.
+pub fn make(
     tree: &mut Tree,
     node: u32,
     stored: &Stored,
     table: u32,
+    exact: bool,
     outcome: &Outcome,
     action: &Move,
 )
@@ -76,18 +100,13 @@ pub(crate) fn make(
     requires live { IsOpenAt tree.old.nodes node }
     requires free { IsFreeFor tree.old node action.now }
     requires room { node_count tree.old.nodes + 2 ≤ tree.old.room }
-    ensures { tree.new ≡ tree_after tree.old node stored.now table outcome.now action.now }
+    ensures { tree.new ≡ tree_after tree.old node stored.now table exact outcome.now action.now }
 {
     match action {
         Move::Again => tree.close(node, live(stored)),
         Move::Split { g, t } => split(tree, node, stored, *g, *t),
         Move::Prune { .. } => tree.close(node, pruned(stored)),
-        Move::Ray => tree.close(node, Leaf::Ray { table }),
-        Move::Empty => tree.close(
-            node,
-            Leaf::Empty {
-                g: unit_of(outcome),
-            },
-        ),
+        Move::Ray => tree.close(node, by_ray(exact, table)),
+        Move::Empty => tree.close(node, by_unit(exact, unit_of(outcome))),
     }
 }

@@ -1,31 +1,30 @@
 //! What the state keeps of each node, so that no step walks over the log.
 
-ghost use Rattle.std.specs.Prelude.{◌≡◌, ◌≢◌, ◌<◌, ◌≤◌, ◌+◌, ◌∷◌, ◌++◌, ◌<ℤ◌, ◌↔◌, All, IsTrue, Some, pos, slice_get, length, replicate, [], true, false, OnOk, OnErr, take, slice_set, vec_len, vec_capacity};
+ghost use Rattle.std.specs.Prelude.{◌≡◌, ◌<◌, ◌≤◌, ◌+◌, ◌∷◌, ◌++◌, ◌<ℤ◌, ◌↔◌, All, IsTrue, pos, length, replicate, [], true, false, OnOk, OnErr, take, slice_set, vec_len, vec_capacity};
 ghost use Rattle.std.specs.Int.{int_max};
-ghost use Rattle.search_core.specs.Notes.{no_note, with_note, AreScalesAtMost};
+ghost use Rattle.search_core.specs.Notes.{no_note, with_note, AreScalesAtMost, IsUntried};
 
 use crate::lists;
-use crate::tables::is_none_of;
+use crate::tables::{Trial, is_none_of};
 use dual_model::Table;
 use std::alloc::Global;
 use uc_model::{List, NoMemory};
 
-/// Whether a worker holds the node, the numbers of the tables of its entries of the log, in their order, and the greatest scale of these
-/// tables, at least 0.
+/// Whether a worker holds the node, where its entries of the log are, in their order, and the greatest scale of their tables, at least 0.
 #[derive(Drop)]
 pub(crate) struct Note {
     pub held: bool,
-    pub tables: List<u32>,
+    pub trials: List<Trial>,
     pub greatest: i64,
 }
 
 /// The note of a node that isn't held and has no entry.
 pub(crate) fn blank(alloc: Global) -> Note
-    ensures { result ≡ record { held = false; tables = []; greatest = pos 0 } }
+    ensures { result ≡ record { held = false; trials = []; greatest = pos 0 } }
 {
     Note {
         held: false,
-        tables: List::from_vec(Vec::new(alloc)),
+        trials: List::from_vec(Vec::new(alloc)),
         greatest: 0,
     }
 }
@@ -39,19 +38,19 @@ pub(crate) fn set_held(notes: &mut Vec<Note>, node: u32, held: bool)
     notes[node as usize].held = held;
 }
 
-/// Notes an entry of the node, by the number of its table.
+/// Notes an entry of the node.
 pub(crate) fn add_entry(
     alloc: Global,
     notes: &mut Vec<Note>,
     node: u32,
-    table: u32,
+    trial: Trial,
 ) -> Result<(), NoMemory>
     requires { node < vec_len notes.old }
-    ensures added { OnOk result (notes.new.items ≡ with_note notes.old.items node (λ note. record note { tables = note.tables ++ table ∷ [] })) }
+    ensures added { OnOk result (notes.new.items ≡ with_note notes.old.items node (λ note. record note { trials = note.trials ++ trial ∷ [] })) }
     ensures same { OnErr result (notes.new.items ≡ notes.old.items) }
     ensures capacity { vec_capacity notes.new ≡ vec_capacity notes.old }
 {
-    lists::push(alloc, &mut notes[node as usize].tables, table)
+    lists::push(alloc, &mut notes[node as usize].trials, trial)
 }
 
 /// Notes the scale of the table of an entry of the node.
@@ -64,12 +63,12 @@ pub(crate) fn add_scale(notes: &mut Vec<Note>, node: u32, scale: &i64)
     note.greatest = note.greatest.max(*scale);
 }
 
-/// Whether none of the tables that the note names is this one.
-pub(crate) fn is_new(note: &Note, tables: &[Table], table: &Table) -> bool
+/// Whether none of the node's entries is at this table with a value of this kind.
+pub(crate) fn is_new(note: &Note, tables: &[Table], table: &Table, exact: bool) -> bool
     requires { AreScalesAtMost tables.now note.now }
-    ensures { IsTrue result ↔ All (λ number. slice_get tables.now number ≢ Some table.now) note.now.tables }
+    ensures { IsTrue result ↔ All (IsUntried tables.now table.now exact) note.now.trials }
 {
-    is_above(note, table) || is_none_of(tables, note.tables.as_slice(), table)
+    is_above(note, table) || is_none_of(tables, note.trials.as_slice(), table, exact)
 }
 
 // Whether the table's scale is above those of the tables of the node's entries.
@@ -82,10 +81,10 @@ fn is_above(note: &Note, table: &Table) -> bool
 /// Forgets all entries of the node but the first ones.
 pub(crate) fn keep_entries(alloc: Global, notes: &mut Vec<Note>, node: u32, count: usize)
     requires { node < vec_len notes.old }
-    ensures notes { notes.new.items ≡ with_note notes.old.items node (λ note. record note { tables = take count note.tables }) }
+    ensures notes { notes.new.items ≡ with_note notes.old.items node (λ note. record note { trials = take count note.trials }) }
     ensures capacity { vec_capacity notes.new ≡ vec_capacity notes.old }
 {
-    lists::shorten(alloc, &mut notes[node as usize].tables, count);
+    lists::shorten(alloc, &mut notes[node as usize].trials, count);
 }
 
 /// Puts blank notes at the end, one for each of the nodes that were added.

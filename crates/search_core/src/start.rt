@@ -23,8 +23,9 @@ pub(crate) fn single<T: Drop>(alloc: Global, item: T) -> Result<List<T>, NoMemor
     Ok(list)
 }
 
-/// A tree of an open root that stores table 0 and this bound, with room for what a budget may add.
-pub(crate) fn root(
+/// A tree over `units` thermal units and `periods` periods whose root is this leaf, with room for what a budget may add. The only error is
+/// `NoMemory`.
+pub fn root(
     alloc: Global,
     units: u32,
     periods: u32,

@@ -6,7 +6,7 @@ use crate::holder::{Holder, end_claim, holder_of};
 use crate::limits::NODE_ENTRIES;
 use crate::notes::{Note, add_blanks, is_new, set_held};
 use crate::stored::{Stored, kept_after, stored_at};
-use crate::{cells, costs, desks, legal, moves, record, start, tables};
+use crate::{costs, desks, legal, moves, record, start, tables};
 use branch_tree::{Entry, Leaf, Outcome, Tree, is_within_gap};
 use dual_model::Table;
 use std::alloc::Global;
@@ -16,8 +16,6 @@ use uc_model::{List, NoMemory};
 /// The state of a search by several workers. Contracts see it as the record of `specs/Machine`.
 #[derive(Drop)]
 pub struct State {
-    units: u32,
-    periods: u32,
     budget: u32,
     gap: u32,
     tree: Tree,
@@ -54,10 +52,10 @@ impl State {
     ghost use Rattle.search_core.specs.declared.event.StepFault.TheVariants as fault;
     ghost use Rattle.search_core.specs.Machine.{IsWorker, IsHolding, desk_of, entries_of, start_of};
     ghost use Rattle.search_core.specs.Moves.{kept, MayGoOn, MayPrune, IsMoveLegal, HasFreeCell};
-    ghost use Rattle.search_core.specs.Steps.{IsClaimable, IsFresh, IsStoredTable, IsCommittable, IsLegal, is_in_hand, after};
+    ghost use Rattle.search_core.specs.Steps.{HasSeen, IsClaimable, IsFresh, IsStoredTable, IsCommittable, IsLegal, is_in_hand, after};
 
     /// A state with no claim and no entry: the root of a tree over `units` thermal units and `periods` periods is
-    /// open, and stores the table and its bound, `value`, in micro-dollars. Worker 0 has the root's ticket.
+    /// open, and stores the table and its bound by V, `value`, in micro-dollars. Worker 0 has the root's ticket.
     pub fn start(
         alloc: Global,
         units: u32,
@@ -74,8 +72,6 @@ impl State {
         ensures { IfOk result (λ state. state ≡ start_of units periods workers budget gap table value) }
     {
         Ok(State {
-            units,
-            periods,
             budget,
             gap,
             tables: start::single(alloc, table)?,
@@ -86,7 +82,11 @@ impl State {
                 units,
                 periods,
                 budget,
-                &Leaf::Live { table: 0, value },
+                &Leaf::Live {
+                    table: 0,
+                    value,
+                    exact: false,
+                },
             )?,
             log: List::from_vec(Vec::new(alloc)),
             claims: Vec::new(alloc),
@@ -158,7 +158,7 @@ impl State {
         ensures { result ≡ length (entries_of self.now.log node) }
     {
         match self.notes.get(node as usize) {
-            Some(note) => note.tables.as_slice().len(),
+            Some(note) => note.trials.as_slice().len(),
             None => 0,
         }
     }
@@ -177,8 +177,6 @@ impl State {
         ensures log { result.2 ≡ self.log }
     {
         let State {
-            units: _,
-            periods: _,
             budget: _,
             gap: _,
             tree,
@@ -203,37 +201,33 @@ impl State {
         ensures refused { (refused : Event) → result ≡ Err (fault.NotLegal refused) → refused ≡ event }
         ensures unlawful { (refused : Event) → result ≡ Err (fault.NotLegal refused) → ¬ IsLegal self.old event }
     {
-        match self.is_legal(alloc, &event) {
-            Ok(true) => match self.apply(alloc, event) {
-                Ok(()) => Ok(()),
-                Err(_) => Err(StepFault::NoMemory),
-            },
-            Ok(false) => Err(StepFault::NotLegal(event)),
+        if !self.is_legal(&event) {
+            return Err(StepFault::NotLegal(event));
+        }
+        match self.apply(alloc, event) {
+            Ok(()) => Ok(()),
             Err(_) => Err(StepFault::NoMemory),
         }
     }
 
     // Whether the machine has a case for the event.
-    fn is_legal(&self, alloc: Global, event: &Event) -> Result<bool, NoMemory>
-        ensures { IfOk result (λ legal. IsTrue legal ↔ IsLegal self.now event.now) }
+    fn is_legal(&self, event: &Event) -> bool
+        ensures { IsTrue result ↔ IsLegal self.now event.now }
     {
         match event {
-            Event::Claim { worker, node } => Ok(
-                self.is_worker(*worker) && self.is_claimable(*node),
-            ),
+            Event::Claim { worker, node } => self.is_worker(*worker) && self.is_claimable(*node),
             Event::Commit {
                 worker,
                 unit,
                 table,
+                exact,
                 outcome,
                 action,
-            } => Ok(self.is_commit_legal(alloc, *worker, *unit, table, outcome, action)?),
-            Event::Publish { worker, .. } | Event::Look { worker } => Ok(self.is_worker(*worker)),
-            Event::Push { worker, node } => Ok(self.has_in_hand(*worker, *node)),
-            Event::Pop { worker } => Ok(self.has_queued(*worker)),
-            Event::Steal { worker, victim } => Ok(
-                self.is_worker(*worker) && self.has_queued(*victim),
-            ),
+            } => self.is_commit_legal(*worker, *unit, table, *exact, outcome, action),
+            Event::Publish { worker, .. } | Event::Look { worker } => self.is_worker(*worker),
+            Event::Push { worker, node } => self.has_in_hand(*worker, *node),
+            Event::Pop { worker } => self.has_queued(*worker),
+            Event::Steal { worker, victim } => self.is_worker(*worker) && self.has_queued(*victim),
         }
     }
 
@@ -267,38 +261,33 @@ impl State {
             && legal::is_open(&self.tree, self.notes.as_slice(), node)
     }
 
-    /// The first cell, a thermal unit and a period, each from 0, that is undecided at the node of this number. The only error is
-    /// `NoMemory`.
-    pub fn free_cell(&self, alloc: Global, node: u32) -> Result<Option<(u32, u32)>, NoMemory>
+    /// The first cell, a thermal unit and a period, each from 0, that is undecided at the node of this number.
+    pub fn free_cell(&self, node: u32) -> Option<(u32, u32)>
         requires { node < node_count self.now.tree.nodes }
-        ensures { IfOk result (λ cell. MatchOption cell (¬ HasFreeCell self.now.tree node) (λ cell. IsFreeAt self.now.tree node cell.0 cell.1)) }
+        ensures { MatchOption result (¬ HasFreeCell self.now.tree node) (λ cell. IsFreeAt self.now.tree node cell.0 cell.1) }
     {
-        cells::free_cell(alloc, &self.tree, self.units, self.periods, node)
+        self.tree.free_cell(node)
     }
 
-    // Whether a cell is undecided at the node.
-    fn has_free_cell(&self, alloc: Global, node: u32) -> Result<bool, NoMemory>
+    /// Whether thermal unit `g` and period `t`, each from 0, are a cell of the tree that is undecided at the node of this number.
+    pub fn is_free(&self, node: u32, g: u32, t: u32) -> bool
         requires { node < node_count self.now.tree.nodes }
-        ensures { IfOk result (λ free. IsTrue free ↔ HasFreeCell self.now.tree node) }
+        ensures { IsTrue result ↔ IsFreeAt self.now.tree node g t }
     {
-        cells::has_free_cell(alloc, &self.tree, self.units, self.periods, node)
+        self.tree.is_free(node, g, t)
     }
 
-    /// Whether thermal unit `g` and period `t`, each from 0, are a cell of the tree that is undecided at the node of this number. The only
-    /// error is `NoMemory`.
-    pub fn is_free(&self, alloc: Global, node: u32, g: u32, t: u32) -> Result<bool, NoMemory>
+    /// Whether none of the node's entries of the log is at the table with a value of this kind: V or, with `exact`, the exact value.
+    pub fn is_fresh(&self, node: u32, table: &Table, exact: bool) -> bool
         requires { node < node_count self.now.tree.nodes }
-        ensures { IfOk result (λ free. IsTrue free ↔ IsFreeAt self.now.tree node g t) }
+        ensures { IsTrue result ↔ IsFresh self.now (entries_of self.now.log node) table.now exact }
     {
-        cells::is_free(alloc, &self.tree, self.units, self.periods, node, g, t)
-    }
-
-    /// Whether none of the node's entries of the log is at the table.
-    pub fn is_fresh(&self, node: u32, table: &Table) -> bool
-        requires { node < node_count self.now.tree.nodes }
-        ensures { IsTrue result ↔ IsFresh self.now (entries_of self.now.log node) table.now }
-    {
-        is_new(&self.notes[node as usize], self.tables.as_slice(), table)
+        is_new(
+            &self.notes[node as usize],
+            self.tables.as_slice(),
+            table,
+            exact,
+        )
     }
 
     // Whether the node has an entry, is the root or stores the table.
@@ -307,7 +296,7 @@ impl State {
         ensures lawful { IsTrue result → entries_of self.now.log node ≡ [] → node ≢ 0 → IsStoredTable self.now node table.now }
         ensures first { result ≡ false → (entries_of self.now.log node ≡ []) × (node ≢ 0) × (¬ IsStoredTable self.now node table.now) }
     {
-        if !self.notes[node as usize].tables.as_slice().is_empty() {
+        if !self.notes[node as usize].trials.as_slice().is_empty() {
             return true;
         }
         if node == 0 {
@@ -321,42 +310,41 @@ impl State {
     }
 
     // Whether the table may be that of the node's next entry.
-    fn is_table_lawful(&self, alloc: Global, node: u32, table: &Table) -> Result<bool, NoMemory>
+    fn is_table_lawful(&self, node: u32, table: &Table) -> bool
         requires { node < node_count self.now.tree.nodes }
-        ensures { IfOk result (λ lawful. IsTrue lawful
-            ↔ (entries_of self.now.log node ≡ [] → node ≢ 0 → HasFreeCell self.now.tree node → IsStoredTable self.now node table.now)) }
+        ensures { IsTrue result
+            ↔ (entries_of self.now.log node ≡ [] → node ≢ 0 → HasFreeCell self.now.tree node → IsStoredTable self.now node table.now) }
     {
-        if self.is_any_table_lawful(node, table) {
-            return Ok(true);
-        }
-        Ok(!self.has_free_cell(alloc, node)?)
+        self.is_any_table_lawful(node, table) || !self.tree.has_free_cell(node)
     }
 
-    /// Whether a commit may leave the node open: with one entry more it has fewer than a hundred, or no cell is undecided there. The only
-    /// error is `NoMemory`.
-    pub fn may_go_on(&self, alloc: Global, node: u32) -> Result<bool, NoMemory>
+    /// Whether a commit may leave the node open: with one entry more it has fewer than a hundred, or no cell is undecided there.
+    pub fn may_go_on(&self, node: u32) -> bool
         requires { node < node_count self.now.tree.nodes }
-        ensures { IfOk result (λ may. IsTrue may ↔ MayGoOn self.now node) }
+        ensures { IsTrue result ↔ MayGoOn self.now node }
     {
-        if self.notes[node as usize].tables.as_slice().len() + 1 < NODE_ENTRIES {
-            return Ok(true);
-        }
-        Ok(!self.has_free_cell(alloc, node)?)
+        self.entries(node) < NODE_ENTRIES - 1 || !self.tree.has_free_cell(node)
     }
 
-    /// What a commit of this outcome at the table would leave at the node, by the move `Again`.
-    pub fn kept(&self, node: u32, table: &Table, outcome: &Outcome) -> Stored
+    /// What a commit of this outcome at the table, of this kind, would leave at the node, by the move `Again`.
+    pub fn kept(&self, node: u32, table: &Table, exact: bool, outcome: &Outcome) -> Stored
         requires { node < node_count self.now.tree.nodes }
-        ensures { result ≡ kept self.now node table.now outcome.now }
+        ensures { result ≡ kept self.now node table.now exact outcome.now }
     {
         let number = self.tables.as_slice().len() as u32;
-        kept_after(&stored_at(&self.tree, node), number, &table.k(), outcome)
+        kept_after(
+            &stored_at(&self.tree, node),
+            number,
+            &table.k(),
+            exact,
+            outcome,
+        )
     }
 
     /// Whether the worker, from 0, has seen this cost, in micro-dollars, and what the node would store is within the gap of it.
     pub fn may_prune(&self, worker: u8, stored: &Stored, seen: &i64) -> bool
         requires { IsWorker self.now worker }
-        ensures { IsTrue result ↔ MayPrune self.now worker stored.now seen.now }
+        ensures { IsTrue result ↔ MayPrune (HasSeen self.now worker) self.now.gap stored.now seen.now }
     {
         costs::is_cost(&self.desks[worker as usize].seen, seen)
             && is_within_gap(seen, &Some(stored.value), self.gap)
@@ -365,31 +353,26 @@ impl State {
     // Whether the move's condition holds.
     fn is_move_legal(
         &self,
-        alloc: Global,
         worker: u8,
         node: u32,
         table: &Table,
+        exact: bool,
         outcome: &Outcome,
         action: &Move,
-    ) -> Result<bool, NoMemory>
+    ) -> bool
         requires worker { IsWorker self.now worker }
         requires node { node < node_count self.now.tree.nodes }
-        ensures { IfOk result (λ legal. IsTrue legal ↔ IsMoveLegal self.now worker node table.now outcome.now action.now) }
+        ensures { IsTrue result ↔ IsMoveLegal (HasSeen self.now worker) self.now node table.now exact outcome.now action.now }
     {
         match action {
-            Move::Again if legal::is_value(outcome) => Ok(self.may_go_on(alloc, node)?),
-            Move::Split { g, t } if legal::is_value(outcome) => Ok(self.is_free(
-                alloc, node, *g, *t,
-            )?),
+            Move::Again => legal::is_value(outcome) && self.may_go_on(node),
+            Move::Split { g, t } => legal::is_value(outcome) && self.is_free(node, *g, *t),
             Move::Prune { seen } => {
-                Ok(
-                    legal::is_value(outcome)
-                        && self.may_prune(worker, &self.kept(node, table, outcome), seen),
-                )
+                legal::is_value(outcome)
+                    && self.may_prune(worker, &self.kept(node, table, exact, outcome), seen)
             }
-            Move::Ray => Ok(legal::is_excluding(table, outcome)),
-            Move::Empty => Ok(legal::is_empty(outcome)),
-            Move::Again | Move::Split { .. } => Ok(false),
+            Move::Ray => legal::is_excluding(table, outcome),
+            Move::Empty => legal::is_empty(outcome),
         }
     }
 
@@ -406,44 +389,36 @@ impl State {
     }
 
     // Whether the evaluation of the node at the table may be committed.
-    fn is_evaluation_lawful(
-        &self,
-        alloc: Global,
-        node: u32,
-        table: &Table,
-    ) -> Result<bool, NoMemory>
+    fn is_evaluation_lawful(&self, node: u32, table: &Table, exact: bool) -> bool
         requires { node < node_count self.now.tree.nodes }
-        ensures { IfOk result (λ lawful. IsTrue lawful ↔ (IsFresh self.now (entries_of self.now.log node) table.now
-            × (entries_of self.now.log node ≡ [] → node ≢ 0 → HasFreeCell self.now.tree node → IsStoredTable self.now node table.now))) }
+        ensures { IsTrue result ↔ (IsFresh self.now (entries_of self.now.log node) table.now exact
+            × (entries_of self.now.log node ≡ [] → node ≢ 0 → HasFreeCell self.now.tree node → IsStoredTable self.now node table.now)) }
     {
-        if !self.is_fresh(node, table) {
-            return Ok(false);
-        }
-        Ok(self.is_table_lawful(alloc, node, table)?)
+        self.is_fresh(node, table, exact) && self.is_table_lawful(node, table)
     }
 
     // Whether the claim may be committed so.
     fn is_commit_legal(
         &self,
-        alloc: Global,
         worker: u8,
         unit: u32,
         table: &Table,
+        exact: bool,
         outcome: &Outcome,
         action: &Move,
-    ) -> Result<bool, NoMemory>
-        ensures { IfOk result (λ legal. IsTrue legal ↔ IsLegal self.now (event.Commit worker unit table.now outcome.now action.now)) }
+    ) -> bool
+        ensures { IsTrue result ↔ IsLegal self.now (event.Commit worker unit table.now exact outcome.now action.now) }
     {
         if !self.is_worker(worker) {
-            return Ok(false);
+            return false;
         }
         let Some(node) = self.held_by(worker, unit) else {
-            return Ok(false);
+            return false;
         };
-        if !self.is_evaluation_lawful(alloc, node, table)? {
-            return Ok(false);
+        if !self.is_evaluation_lawful(node, table, exact) {
+            return false;
         }
-        Ok(self.is_move_legal(alloc, worker, node, table, outcome, action)?)
+        self.is_move_legal(worker, node, table, exact, outcome, action)
     }
 
     // Makes the change of a legal event.
@@ -458,9 +433,10 @@ impl State {
                 worker,
                 unit,
                 table,
+                exact,
                 outcome,
                 action,
-            } => self.commit(alloc, worker, unit, table, &outcome, &action),
+            } => self.commit(alloc, worker, unit, table, exact, &outcome, &action),
             Event::Publish { worker, cost } => {
                 self.publish(worker, &cost);
                 Ok(())
@@ -493,23 +469,25 @@ impl State {
         worker: u8,
         unit: u32,
         table: Table,
+        exact: bool,
         outcome: &Outcome,
         action: &Move,
     ) -> Result<(), NoMemory>
-        requires { IsLegal self.old (event.Commit worker unit table outcome.now action.now) }
-        ensures taken { OnOk result (self.new ≡ after self.old (event.Commit worker unit table outcome.now action.now)) }
+        requires { IsLegal self.old (event.Commit worker unit table exact outcome.now action.now) }
+        ensures taken { OnOk result (self.new ≡ after self.old (event.Commit worker unit table exact outcome.now action.now)) }
         ensures same { OnErr result (self.new ≡ self.old) }
     {
         let Some(node) = self.held_by(worker, unit) else {
             unreachable!();
         };
-        let stored = self.kept(node, &table, outcome);
+        let stored = self.kept(node, &table, exact, outcome);
         let number = self.tables.as_slice().len() as u32;
         let entry = Entry {
             unit,
             worker,
             node,
             table: number,
+            exact,
             outcome: *outcome,
         };
         let both = [self.notes.len() as u32, self.notes.len() as u32 + 1];
@@ -526,7 +504,15 @@ impl State {
             table,
             &scale,
         )?;
-        moves::make(&mut self.tree, node, &stored, number, outcome, action);
+        moves::make(
+            &mut self.tree,
+            node,
+            &stored,
+            number,
+            exact,
+            outcome,
+            action,
+        );
         end_claim(&mut self.claims, unit);
         set_held(&mut self.notes, node, false);
         add_blanks(alloc, &mut self.notes, children);

@@ -1,8 +1,16 @@
-//! Which tables are equal.
+//! Which tables are equal, and at which a node was evaluated.
 
 ghost use Rattle.std.specs.Prelude.{◌≡◌, ◌≢◌, ◌↔◌, IsTrue, All, Some, slice_get};
+ghost use Rattle.search_core.specs.Notes.{IsUntried};
 
 use dual_model::{RampRow, Table};
+
+/// Where a node was evaluated: at the table of this number, by V or, with `exact`, by the exact value.
+#[derive(Clone, Copy)]
+pub(crate) struct Trial {
+    pub table: u32,
+    pub exact: bool,
+}
 
 // Whether two rows are equal.
 fn is_same_row(a: &RampRow, b: &RampRow) -> bool
@@ -34,7 +42,7 @@ fn are_same_numbers(a: &[i64], b: &[i64]) -> bool
 }
 
 /// Whether two tables are equal.
-pub(crate) fn is_same_table(a: &Table, b: &Table) -> bool
+pub fn is_same_table(a: &Table, b: &Table) -> bool
     ensures { IsTrue result ↔ (a.now ≡ b.now) }
 {
     if a.k() != b.k() {
@@ -52,8 +60,8 @@ pub(crate) fn is_same_table(a: &Table, b: &Table) -> bool
     are_same_rows(a.ramps(), b.ramps())
 }
 
-// Whether the table of this number is there, and is this one.
-pub(crate) fn is_table(tables: &[Table], number: u32, table: &Table) -> bool
+/// Whether the table of this number, from 0, is there, and is this one.
+pub fn is_table(tables: &[Table], number: u32, table: &Table) -> bool
     ensures { IsTrue result ↔ (slice_get tables.now number ≡ Some table.now) }
 {
     match tables.get(number as usize) {
@@ -62,12 +70,19 @@ pub(crate) fn is_table(tables: &[Table], number: u32, table: &Table) -> bool
     }
 }
 
-/// Whether none of the tables of these numbers is this one.
-pub(crate) fn is_none_of(tables: &[Table], numbers: &[u32], table: &Table) -> bool
-    ensures { IsTrue result ↔ All (λ number. slice_get tables.now number ≢ Some table.now) numbers.now }
+// Whether the trial isn't at this table with a value of this kind.
+fn is_untried(tables: &[Table], trial: Trial, table: &Table, exact: bool) -> bool
+    ensures { IsTrue result ↔ IsUntried tables.now table.now exact trial }
 {
-    for number in numbers {
-        if is_table(tables, *number, table) {
+    trial.exact != exact || !is_table(tables, trial.table, table)
+}
+
+/// Whether none of the trials is at this table with a value of this kind.
+pub(crate) fn is_none_of(tables: &[Table], trials: &[Trial], table: &Table, exact: bool) -> bool
+    ensures { IsTrue result ↔ All (IsUntried tables.now table.now exact) trials.now }
+{
+    for trial in trials {
+        if !is_untried(tables, *trial, table, exact) {
             return false;
         }
     }

@@ -11,7 +11,7 @@ pub split-requires-clause-live : goal.split-requires-clause-live
 split-requires-clause-live c =
     let is = c.close.ensures.tree ∙ ap (closed c.args.tree.now c.args.node) c.live.ensures in
     subst (λ (tree : TreeView). IsOpenAt tree.nodes c.args.node) (sym is)
-    (open_again c.args.tree.now c.args.node c.args.stored.now.table c.args.stored.now.value c.requires.placed c.requires.live)
+    (open_again c.args.tree.now c.args.node c.args.stored.now c.requires.placed c.requires.live)
 
 pub split-requires-clause-free : goal.split-requires-clause-free
 split-requires-clause-free c =

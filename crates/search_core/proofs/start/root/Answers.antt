@@ -1,10 +1,10 @@
 -- The root is open.
-use Rattle.std.proofs.Common.{refl, pos, sym, subst}
+use Rattle.std.proofs.Common.{refl, false, pos, sym, subst}
 use Rattle.branch_tree.specs.TreeView.{TreeView, IsOpenAt}
 use Rattle.search_core.proofs.start.root.Goals as goal
 
 pub close-requires : goal.close-requires
 close-requires c = record {
   live = subst (λ (tree : TreeView). IsOpenAt tree.nodes 0) (sym c.in_ok-tree.ensures.tree)
-      (record { table = 0; value = pos 0; live = refl });
+      (record { table = 0; value = pos 0; exact = false; live = refl });
 }

@@ -20,4 +20,4 @@ returns c =
     let one : c.floor_div.result ≡ bound_of c.args.value c.args.scale =
     IsFloor_unique c.args.value c.args.scale c.floor_div.result (bound_of c.args.value c.args.scale) c.requires is
     (IsFloor-int_div_euclid c.args.value c.args.scale c.requires) in
-    ap (λ (z : ℤ). let stored : Stored = record { table = c.args.table; value = z } in stored) (quotient ∙ one)
+    ap (λ (z : ℤ). let stored : Stored = record { table = c.args.table; value = z; exact = c.args.exact } in stored) (quotient ∙ one)

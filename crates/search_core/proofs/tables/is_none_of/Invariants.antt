@@ -1,6 +1,7 @@
--- None of the tables so far is this one.
-use Rattle.std.proofs.Common.{◌≢◌, ℕ, ◌<◌, get_or, Some, slice_get}
+-- No trial so far is at this table with a value of this kind.
+use Rattle.std.proofs.Common.{ℕ, ◌<◌, get_or}
+use Rattle.search_core.specs.Notes.{Trial, IsUntried}
 use Rattle.search_core.proofs.tables.is_none_of.Given as goal
 
-abbrev pub invariant-loop-number : goal.invariant-loop-number
-invariant-loop-number l = (k d : ℕ) → k < l.number-index → slice_get l.tables (get_or l.numbers k d) ≢ Some l.table
+abbrev pub invariant-loop-trial : goal.invariant-loop-trial
+invariant-loop-trial l = (k : ℕ) (d : Trial) → k < l.trial-index → IsUntried l.tables l.table l.exact (get_or l.trials k d)

@@ -1,5 +1,5 @@
 -- One claim more, which its node's note tells.
-use Rattle.std.proofs.Common.{true, refl, sym, subst, arith}
+use Rattle.std.proofs.Common.{true, sym, subst, arith}
 use Rattle.branch_tree.specs.NumberedTree.{node_count}
 use Rattle.branch_tree.proofs.Grown.{open_numbered}
 use Rattle.search_core.specs.Machine.{Machine}
@@ -28,4 +28,4 @@ invariant_of-self-2 c =
     let scales = subst (AreScalesNoted a.tables) (sym c.set_held.ensures.notes)
     (scales_held a.tables a.notes.items c.args.node true kept.scales) in
     kept_by a (record a { claims = c.push.new.self; notes = c.set_held.new.notes }) c.args.self.now (Claim c.args.worker c.args.node)
-    c.self.view_is kept c.requires (λ i. record (view_of a) { claims = c.in_ok-push.ensures.items i }) refl refl notes scales
+    c.self.view_is kept c.requires (λ i. record (view_of a) { claims = c.in_ok-push.ensures.items i }) notes scales

@@ -1,7 +1,7 @@
 -- The claim's node is open, and there is room for its children; each field is what the commit makes of it.
 use Rattle.std.proofs.Common.{◌≡◌, length, refl, sym, subst, arith, rules}
 use Rattle.search_core.specs.Machine.{Machine, IsHolding}
-use Rattle.search_core.specs.Steps.{Commit, IsLegal, after}
+use Rattle.search_core.specs.Steps.{Commit, HasSeen, IsLegal, after}
 use Rattle.search_core.specs.Notes.{view_of}
 use Rattle.search_core.proofs.OrderlySteps.{commit_count, commit_notes, kept_to}
 use Rattle.search_core.proofs.Claims.{holdable}
@@ -37,8 +37,9 @@ invariant_of-self-2 c =
     let outcome = c.args.outcome.now in
     let action = c.args.action.now in
     let holding = subst (λ (x : Machine). IsHolding x worker unit node) (sym c.self.view_is) c.in-Some.ensures.held in
-    let legal = subst (λ (x : Machine). IsLegal x (Commit worker unit c.args.table outcome action)) (sym c.self.view_is) c.requires in
-    let count = commit_count m worker unit node c.args.table outcome action c.kept-stored.result _ _ _ c.make.new.tree
+    let exact = c.args.exact in
+    let legal = subst (λ (x : Machine). IsLegal x (Commit worker unit c.args.table exact outcome action)) (sym c.self.view_is) c.requires in
+    let count = commit_count (HasSeen m worker) m worker unit node c.args.table exact outcome action c.kept-stored.result _ _ _ c.make.new.tree
     c.children-children.result.now c.self.invariant.orderly holding legal.1 c.make.ensures c.children-children.ensures in
     let notes = commit_notes m worker unit node _ a.notes.items c.record.new.notes.items c.set_held.new.notes.items
     c.add_blanks.new.notes.items (length c.children-children.result.now) _ _ c.end_claim.new.claims.items c.record.new.log c.self.invariant.orderly holding
@@ -48,6 +49,6 @@ invariant_of-self-2 c =
     c.set_held.new.notes.items c.add_blanks.new.notes.items node _ (length c.children-children.result.now) c.args.table _ c.self.invariant.scales
     (search rules) (search rules) c.in_ok-record.ensures.tables c.in_ok-record.ensures.notes c.set_held.ensures.notes
     c.add_blanks.ensures in
-    let view : view_of (record a { tree = c.make.new.tree; tables = c.record.new.tables; log = c.record.new.log; claims = c.end_claim.new.claims; notes = c.add_blanks.new.notes; desks = c.record.new.desks }) ≡ after c.args.self.now (Commit worker unit c.args.table outcome action) = search rules in
+    let view : view_of (record a { tree = c.make.new.tree; tables = c.record.new.tables; log = c.record.new.log; claims = c.end_claim.new.claims; notes = c.add_blanks.new.notes; desks = c.record.new.desks }) ≡ after c.args.self.now (Commit worker unit c.args.table exact outcome action) = search rules in
     kept_to a (record a { tree = c.make.new.tree; tables = c.record.new.tables; log = c.record.new.log; claims = c.end_claim.new.claims; notes = c.add_blanks.new.notes; desks = c.record.new.desks })
-    c.args.self.now (Commit worker unit c.args.table outcome action) c.self.view_is c.self.invariant c.requires view refl refl notes scales
+    c.args.self.now (Commit worker unit c.args.table exact outcome action) c.self.view_is c.self.invariant c.requires view notes scales

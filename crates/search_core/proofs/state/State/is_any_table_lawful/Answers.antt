@@ -3,9 +3,9 @@ use Rattle.std.proofs.Common.{◌≡◌, ◌<◌, ap, sym, ◌∙◌, subst, ari
 use Rattle.branch_tree.specs.NumberedTree.{node_count}
 use Rattle.std.proofs.lemmas.List.{get_or_read, nil_from_length}
 use Rattle.search_core.specs.Machine.{Machine, entries_of}
-use Rattle.search_core.specs.Notes.{Note, no_note, entry_tables}
+use Rattle.search_core.specs.Notes.{Note, no_note, trials_of}
 use Rattle.search_core.specs.Steps.{IsStoredTable}
-use Rattle.search_core.proofs.NoteSteps.{kept_note, no_tables}
+use Rattle.search_core.proofs.NoteSteps.{kept_note, no_trials}
 use Rattle.search_core.proofs.state.State.is_any_table_lawful.Goals as goal
 
 pub returns-clause-first : goal.returns-clause-first
@@ -16,9 +16,9 @@ returns-clause-first c = λ no.
     let read = get_or_read a.notes.items node c.index.result.now (omega (arith, a.notes.ok.0, c.self.invariant.notes.length)) c.index.ensures no_note in
     let note = kept_note a node c.self.invariant below in
     let none : length c.as_slice.result.now ≡ 0 = search rules in
-    let tables = c.as_slice.ensures ∙ (ap (λ (n : Note). n.tables) read ∙ note.tables) in
-    let empty : entry_tables a.log node ≡ [] = nil_from_length (entry_tables a.log node) (ap length (sym tables) ∙ none) in (
-      ap (λ (m : Machine). entries_of m.log node) (sym c.self.view_is) ∙ no_tables a.log node empty,
+    let trials = c.as_slice.ensures ∙ (ap (λ (n : Note). n.trials) read ∙ note.trials) in
+    let empty : trials_of a.log node ≡ [] = nil_from_length (trials_of a.log node) (ap length (sym trials) ∙ none) in (
+      ap (λ (m : Machine). entries_of m.log node) (sym c.self.view_is) ∙ no_trials a.log node empty,
       c.if-node-eq0.false,
       (λ stored.
           let own = subst (λ (m : Machine). IsStoredTable m node c.args.table.now) (sym c.self.view_is) stored in

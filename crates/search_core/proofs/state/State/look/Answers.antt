@@ -1,5 +1,4 @@
 -- One desk changed, and none of its tickets.
-use Rattle.std.proofs.Common.{refl}
 use Rattle.search_core.specs.declared.event.Event.TheVariants.{Look}
 use Rattle.search_core.specs.Notes.{view_of}
 use Rattle.search_core.proofs.OrderlySteps.{kept_by}
@@ -9,4 +8,4 @@ pub invariant_of-self : goal.invariant_of-self
 invariant_of-self c =
     let a = c.self.inside in
     kept_by a (record a { desks = c.see.new.desks }) c.args.self.now (Look c.args.worker) c.self.view_is c.self.invariant c.requires
-    (λ i. record (view_of a) { desks = c.see.ensures i }) refl refl c.self.invariant.notes c.self.invariant.scales
+    (λ i. record (view_of a) { desks = c.see.ensures i }) c.self.invariant.notes c.self.invariant.scales

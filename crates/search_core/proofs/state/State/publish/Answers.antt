@@ -1,5 +1,4 @@
 -- What is known of costs changed, and no ticket.
-use Rattle.std.proofs.Common.{refl}
 use Rattle.search_core.specs.declared.event.Event.TheVariants.{Publish}
 use Rattle.search_core.specs.Notes.{view_of}
 use Rattle.search_core.proofs.OrderlySteps.{kept_by}
@@ -10,4 +9,4 @@ invariant_of-self c =
     let a = c.self.inside in
     kept_by a (record a { best = c.least-self-inside.result; desks = c.see_cost.new.desks }) c.args.self.now (Publish c.args.worker c.args.cost.now)
     c.self.view_is c.self.invariant c.requires
-    (λ i. record (view_of a) { best = c.least-self-inside.ensures i; desks = c.see_cost.ensures i }) refl refl c.self.invariant.notes c.self.invariant.scales
+    (λ i. record (view_of a) { best = c.least-self-inside.ensures i; desks = c.see_cost.ensures i }) c.self.invariant.notes c.self.invariant.scales

@@ -30,6 +30,4 @@ invariant_of-result c =
       notes = start_notes_are c.new-2.result.items c.from_vec.result (node_count c.in_ok-root.field-0.nodes) c.in_ok-root_notes.field-0.items
           c.new-2.ensures.items log (ap (λ (t : TreeView). node_count t.nodes) c.in_ok-root.ensures) c.in_ok-root_notes.ensures;
       scales = subst (AreScalesNoted c.in_ok-single.field-0) (sym c.in_ok-root_notes.ensures) (scales_start c.in_ok-single.field-0);
-      units = sym (ap (λ (t : TreeView). t.units) c.in_ok-root.ensures);
-      periods = sym (ap (λ (t : TreeView). t.periods) c.in_ok-root.ensures);
     }
