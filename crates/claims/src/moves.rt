@@ -1,18 +1,18 @@
 //! The move by which a claim of a node ends.
 
-ghost use Rattle.std.specs.Prelude.{◌≡◌, ◌<◌, None, IfOk, IfSome, MatchOption};
+ghost use Rattle.std.specs.Prelude.{◌≡◌, ◌<◌, false, None, IfSome, MatchOption};
 ghost use Rattle.branch_tree.specs.NumberedTree.{node_count};
 ghost use Rattle.branch_tree.specs.TreeView.{IsFreeAt};
 ghost use Rattle.search_core.specs.Machine.{IsWorker};
 ghost use Rattle.search_core.specs.Moves.{IsMoveLegal, IsValue, MayGoOn, MayPrune, kept};
+ghost use Rattle.search_core.specs.Steps.{HasSeen};
 
 use crate::branching::{NEARLY, most_divided};
 use crate::machine::WORKER;
 use branch_tree::Outcome;
 use dual_model::{Node, Table};
 use search_core::{Move, State};
-use std::alloc::Global;
-use uc_model::{Instance, NoMemory};
+use uc_model::Instance;
 
 /// So many claims the root gets before it is split.
 const ROOT_CLAIMS: usize = 3;
@@ -28,10 +28,9 @@ pub struct Hints<'a> {
     pub cell: Option<(u32, u32)>,
 }
 
-/// The move that ends a claim of the node with this outcome at the table: the node is closed where this may be, split where the hints say on
-/// which cell, and else left open. The hints are those of the ascent to the table, or none. The only error is `NoMemory`.
+/// The move that ends a claim of the node with this outcome, by V, at the table: the node is closed where this may be, split where the hints
+/// say on which cell, and else left open. The hints are those of the ascent to the table, or none.
 pub fn action(
-    alloc: Global,
     state: &State,
     instance: &Instance,
     node: u32,
@@ -39,18 +38,18 @@ pub fn action(
     table: &Table,
     hints: Hints,
     outcome: &Outcome,
-) -> Result<Move, NoMemory>
+) -> Move
     requires worker { IsWorker state.now 0 }
     requires within { node < node_count state.now.tree.nodes }
-    ensures { IfOk result (IsMoveLegal state.now 0 node table.now outcome.now) }
+    ensures { IsMoveLegal (HasSeen state.now 0) state.now node table.now false outcome.now result }
 {
     if let Some(action) = closing(state, node, table, outcome) {
-        return Ok(action);
+        return action;
     }
-    if let Some((g, t)) = cell(alloc, state, instance, node, path, hints)? {
-        return Ok(Move::Split { g, t });
+    match cell(state, instance, node, path, hints) {
+        Some((g, t)) => Move::Split { g, t },
+        None => Move::Again,
     }
-    Ok(Move::Again)
 }
 
 // The move that closes the node, where there is one: a unit has no pattern there, the table is a ray that excludes it, or its bound is
@@ -58,7 +57,7 @@ pub fn action(
 fn closing(state: &State, node: u32, table: &Table, outcome: &Outcome) -> Option<Move>
     requires worker { IsWorker state.now 0 }
     requires within { node < node_count state.now.tree.nodes }
-    ensures legal { IfSome result (IsMoveLegal state.now 0 node table.now outcome.now) }
+    ensures legal { IfSome result (IsMoveLegal (HasSeen state.now 0) state.now node table.now false outcome.now) }
     ensures value { result ≡ None → IsValue outcome.now }
 {
     match outcome {
@@ -75,10 +74,10 @@ fn closing(state: &State, node: u32, table: &Table, outcome: &Outcome) -> Option
 fn closing_cost(state: &State, node: u32, table: &Table, outcome: &Outcome) -> Option<i64>
     requires worker { IsWorker state.now 0 }
     requires within { node < node_count state.now.tree.nodes }
-    ensures { IfSome result (MayPrune state.now 0 (kept state.now node table.now outcome.now)) }
+    ensures { IfSome result (MayPrune (HasSeen state.now 0) state.now.gap (kept state.now node table.now false outcome.now)) }
 {
     let seen = state.seen(WORKER)?;
-    let kept = state.kept(node, table, outcome);
+    let kept = state.kept(node, table, false, outcome);
     if state.may_prune(WORKER, &kept, &seen) {
         Some(seen)
     } else {
@@ -88,47 +87,40 @@ fn closing_cost(state: &State, node: u32, table: &Table, outcome: &Outcome) -> O
 
 // The cell to split the node on, or none where it is to be left open.
 fn cell(
-    alloc: Global,
     state: &State,
     instance: &Instance,
     node: u32,
     path: &Node,
     hints: Hints,
-) -> Result<Option<(u32, u32)>, NoMemory>
+) -> Option<(u32, u32)>
     requires within { node < node_count state.now.tree.nodes }
-    ensures { IfOk result (λ cell. MatchOption cell (MayGoOn state.now node) (λ cell. IsFreeAt state.now.tree node cell.0 cell.1)) }
+    ensures { MatchOption result (MayGoOn state.now node) (λ cell. IsFreeAt state.now.tree node cell.0 cell.1) }
 {
     if is_ripe(state, node) {
-        if let Some(cell) = sought(alloc, state, node, hints.cell)? {
-            return Ok(Some(cell));
+        if let Some(cell) = sought(state, node, hints.cell) {
+            return Some(cell);
         }
-        if let Some(cell) = divided(alloc, state, instance, node, path, hints.shares)? {
-            return Ok(Some(cell));
+        if let Some(cell) = divided(state, instance, node, path, hints.shares) {
+            return Some(cell);
         }
     }
-    if state.may_go_on(alloc, node)? {
-        return Ok(None);
+    if state.may_go_on(node) {
+        return None;
     }
-    let cell = state.free_cell(alloc, node)?;
-    Ok(cell)
+    state.free_cell(node)
 }
 
 // The cell that was sought, where it is undecided.
-fn sought(
-    alloc: Global,
-    state: &State,
-    node: u32,
-    cell: Option<(u32, u32)>,
-) -> Result<Option<(u32, u32)>, NoMemory>
+fn sought(state: &State, node: u32, cell: Option<(u32, u32)>) -> Option<(u32, u32)>
     requires within { node < node_count state.now.tree.nodes }
-    ensures { IfOk result (λ cell. IfSome cell (λ cell. IsFreeAt state.now.tree node cell.0 cell.1)) }
+    ensures { IfSome result (λ cell. IsFreeAt state.now.tree node cell.0 cell.1) }
 {
     if let Some((g, t)) = cell {
-        if state.is_free(alloc, node, g, t)? {
-            return Ok(Some((g, t)));
+        if state.is_free(node, g, t) {
+            return Some((g, t));
         }
     }
-    Ok(None)
+    None
 }
 
 // Whether the node had its claims: the root some, and each other node the one at the table that it inherited.
@@ -143,37 +135,32 @@ fn is_ripe(state: &State, node: u32) -> bool {
 
 // The cell that the shares of the ascent divide most. After some claims it may divide hardly any, and then it is the first one.
 fn divided(
-    alloc: Global,
     state: &State,
     instance: &Instance,
     node: u32,
     path: &Node,
     shares: &[i64],
-) -> Result<Option<(u32, u32)>, NoMemory>
+) -> Option<(u32, u32)>
     requires within { node < node_count state.now.tree.nodes }
-    ensures { IfOk result (λ cell. IfSome cell (λ cell. IsFreeAt state.now.tree node cell.0 cell.1)) }
+    ensures { IfSome result (λ cell. IsFreeAt state.now.tree node cell.0 cell.1) }
 {
     let late = state.entries(node) >= LATE;
     let least = if late { 0 } else { NEARLY };
     if let Some((g, t)) = most_divided(instance, path, shares, least) {
-        if state.is_free(alloc, node, g, t)? {
-            return Ok(Some((g, t)));
+        if state.is_free(node, g, t) {
+            return Some((g, t));
         }
     }
-    if !late {
-        return Ok(None);
-    }
-    let cell = first_free(alloc, state, node)?;
-    Ok(cell)
+    if late { first_free(state, node) } else { None }
 }
 
 // The first undecided cell of the node.
-fn first_free(alloc: Global, state: &State, node: u32) -> Result<Option<(u32, u32)>, NoMemory>
+fn first_free(state: &State, node: u32) -> Option<(u32, u32)>
     requires within { node < node_count state.now.tree.nodes }
-    ensures { IfOk result (λ cell. IfSome cell (λ cell. IsFreeAt state.now.tree node cell.0 cell.1)) }
+    ensures { IfSome result (λ cell. IsFreeAt state.now.tree node cell.0 cell.1) }
 {
-    match state.free_cell(alloc, node)? {
-        Some((g, t)) => Ok(Some((g, t))),
-        None => Ok(None),
+    match state.free_cell(node) {
+        Some((g, t)) => Some((g, t)),
+        None => None,
     }
 }

@@ -9,11 +9,12 @@ use std::alloc::Global;
 use std::test::Fail;
 use uc_model::NoMemory;
 
-/// An event; a commit's table is told by its scale alone.
+/// An event; a commit's table is told by its scale alone, and `Exact` is a commit by the exact value.
 #[derive(Clone, Copy)]
 pub(crate) enum Act {
     Claim(u8, u32),
     Commit(u8, u32, u32, Outcome, Move),
+    Exact(u8, u32, u32, Outcome, Move),
     Publish(u8, i64),
     Look(u8),
     Push(u8, u32),
@@ -30,10 +31,12 @@ fn table(alloc: Global, scale: u32) -> Result<Table, NoMemory> {
 fn event(alloc: Global, act: Act) -> Result<Event, NoMemory> {
     Ok(match act {
         Act::Claim(worker, node) => Event::Claim { worker, node },
-        Act::Commit(worker, unit, scale, outcome, action) => Event::Commit {
+        Act::Commit(worker, unit, scale, outcome, action)
+        | Act::Exact(worker, unit, scale, outcome, action) => Event::Commit {
             worker,
             unit,
             table: table(alloc, scale)?,
+            exact: matches!(act, Act::Exact(..)),
             outcome,
             action,
         },

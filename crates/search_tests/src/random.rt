@@ -65,7 +65,7 @@ fn some_move(seed: &mut u64) -> Move {
     }
 }
 
-// A commit of a claim that is held, at the stored table or at another.
+// A commit of a claim that is held, at the stored table or at another, by a value of either kind.
 fn some_commit(seed: &mut u64, recount: &Recount, held: Held) -> Act {
     let stored = match recount.leaves.get(held.node) {
         Some(leaf) => leaf.scale,
@@ -80,7 +80,12 @@ fn some_commit(seed: &mut u64, recount: &Recount, held: Held) -> Act {
         0 => Outcome::Empty(0),
         _ => Outcome::Value(i128::from(draw(seed, 1_000))),
     };
-    Act::Commit(held.worker, held.unit, scale, outcome, some_move(seed))
+    let action = some_move(seed);
+    if draw(seed, 3) == 0 {
+        Act::Exact(held.worker, held.unit, scale, outcome, action)
+    } else {
+        Act::Commit(held.worker, held.unit, scale, outcome, action)
+    }
 }
 
 fn some_act(seed: &mut u64, recount: &Recount) -> Act {
@@ -169,7 +174,8 @@ fn keep(recount: &mut Recount, act: Act) -> Result<(), AllocError> {
                 node: node as usize,
             })?;
         }
-        Act::Commit(_, unit, scale, outcome, action) => keep_commit(
+        Act::Commit(_, unit, scale, outcome, action)
+        | Act::Exact(_, unit, scale, outcome, action) => keep_commit(
             recount, unit, scale, outcome, action,
         )?,
         Act::Publish(_, cost) => recount.best = Some(recount.best.unwrap_or(cost).min(cost)),

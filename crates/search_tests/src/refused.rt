@@ -3,7 +3,7 @@
 ghost use Rattle.std.specs.Prelude.{◌≡◌, length};
 
 use crate::acts::{Act, is_taken, start};
-use branch_tree::Outcome;
+use branch_tree::{Leaf, Outcome, Spot};
 use search_core::{Move, State};
 use std::alloc::Global;
 use std::test::Fail;
@@ -165,6 +165,39 @@ fn the_hundredth_entry_is_no_again(rt: HostRuntime) -> Result<(), Fail> {
     let is_refused = again(rt.alloc(), &mut state)?
         && are_as_told(rt.alloc(), &mut state, &HUNDREDTH)?;
     assert!(rt; is_refused);
+    Ok(())
+}
+
+// The root is evaluated at one table by values of either kind, and an exact ray excludes it.
+const KINDS: [(Act, bool); 7] = [
+    (Act::Claim(0, 0), true),
+    (Act::Commit(0, 1, 1, FIVE, Move::Again), true),
+    (Act::Claim(0, 0), true),
+    (Act::Commit(0, 2, 1, FIVE, Move::Again), false),
+    (Act::Exact(0, 2, 1, Outcome::Value(7), Move::Again), true),
+    (Act::Claim(0, 0), true),
+    (Act::Exact(0, 3, 1, FIVE, Move::Again), false),
+];
+
+// Whether the leaf at the root is this one.
+fn is_root(state: &State, leaf: Leaf) -> bool {
+    state.count() > 0 && state.tree().node(0) == Spot::Leaf(leaf)
+}
+
+// An equal table of the other kind is fresh, and a node keeps the kind of what it stores.
+#[test]
+fn kinds_are_told_apart(rt: HostRuntime) -> Result<(), Fail> {
+    let mut state = start(rt.alloc(), 1, 1, 3)?;
+    assert!(rt; are_as_told(rt.alloc(), &mut state, &KINDS)?);
+    let bound = Leaf::Live {
+        table: 2,
+        value: 7,
+        exact: true,
+    };
+    assert!(rt; is_root(&state, bound));
+    let ray = Act::Exact(0, 3, 0, FIVE, Move::Ray);
+    assert!(rt; is_taken(rt.alloc(), &mut state, ray)?);
+    assert!(rt; is_root(&state, Leaf::ExactRay { table: 3 }));
     Ok(())
 }
 
