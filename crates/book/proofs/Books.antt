@@ -1,0 +1,362 @@
+-- What the fields of a book keep after each call.
+use Rattle.std.proofs.Common.{◌≡◌, ◌≢◌, ℕ, suc, ◌+◌, ◌-◌, ◌*◌, ◌<◌, ◌≤◌, Bool, List, [], ◌∷◌, length, map, refl, ap, sym, ◌∙◌, subst, arith, ⊎_elim, Option, Some, None, length-append, length-set}
+use Rattle.std.proofs.lemmas.List.{length-map, length-replicate, get_or-map}
+use Rattle.std.proofs.lemmas.Option.{slice_get_within}
+use Rattle.uc_model.specs.declared.instance.Instance.{Instance}
+use Rattle.dual_model.specs.declared.node.Node.{Node}
+use Rattle.dual_model.specs.declared.table.Table.{Table}
+use Rattle.std.proofs.lemmas.Bool.{cases_lt}
+use Rattle.dual_model.specs.Tree.{root}
+use Rattle.branch_tree.specs.NumberedTree.{NumberedTree, Subtree, IsNumbered, spot_of, subtree_at, spot_at, node_count, node_at}
+use Rattle.branch_tree.specs.declared.tree.Spot.{Spot}
+use Rattle.branch_tree.proofs.Changes.{from_some}
+use Rattle.branch_tree.proofs.Subtrees.{part_counted}
+use Rattle.branch_tree.specs.StoredTree.{IsNodeAt}
+use Rattle.branch_tree.specs.TreeLaws.{StoredHolds}
+use Rattle.branch_tree.specs.TreeView.{TreeView, IsOpenAt}
+use Rattle.branch_tree.specs.TrueFound.{IsTrueEntry, AreApart, IsTrueLog}
+use Rattle.branch_tree.specs.declared.found.Entry.{Entry}
+use Rattle.branch_tree.specs.declared.found.Outcome.{Outcome}
+use Rattle.branch_tree.specs.declared.tree.Leaf.TheVariants as leaf
+use Rattle.search_core.specs.Machine.{Machine, IsHeldIn, IsOpen, IsHolding, no_desk, spot_stored, stored_at}
+use Rattle.search_core.specs.declared.holder.Holder.{Holder}
+use Rattle.search_core.specs.declared.stored.Stored.{Stored}
+use Rattle.std.specs.Option.{IfSome}
+use Rattle.branch_tree.specs.declared.tree.Spot.TheVariants as spot
+use Rattle.search_core.specs.Notes.{IsLive}
+use Rattle.search_core.specs.Moves.{kept, children_by, tickets_of, IsMoveLegal}
+use Rattle.search_core.specs.declared.event.Move.{Move}
+use Rattle.search_core.specs.declared.event.Move.TheVariants.{Again, Split, Prune, Ray, Empty}
+use Rattle.search_core.specs.declared.event.Event.TheVariants as event
+use Rattle.search_core.specs.Orderly.{IsOrderly}
+use Rattle.search_core.specs.Runs.{IsTrueOutcome, IsTrueEvent, IsTrueStart, TreeHoldsAt, TreeRunsHold}
+use Rattle.search_core.specs.Steps.{AnyCost, IsLegalBy}
+use Rattle.search_core.proofs.Claims.{IsHoldable, holdable, holder_place}
+use Rattle.search_core.proofs.Growth.{tree_grows, leaf_part, holds_of_leaf}
+use Rattle.search_core.proofs.OrderlySteps.{free_for, sound_of}
+use Rattle.book.specs.BookView.{BookView, state_of, opened}
+use Rattle.book.specs.Calls.{claimed, committed, given_back, MayBe}
+use Rattle.book.specs.Claims.{Claim, Status, Held, Committed, GivenBack, holder_by, holders, claim_of, ended}
+use Rattle.book.specs.Opening.{Opening, IsTrueOpening, start_by}
+use Rattle.book.specs.Replay.{with_unit, number_of, replay, replayed}
+use Rattle.book.specs.Running.{IsReplayed, IsHeldOnce, IsRunning}
+use Rattle.book.specs.inside.Kept.{Rooms, IsKept}
+use Rattle.book.proofs.Noted.{once_none, once_push, once_ended, holders_push}
+use Rattle.book.proofs.Steps.{held_still, opened_replayed, claimed_replayed, committed_replayed, abandoned_replayed}
+use Rattle.book.proofs.Units.{held_part, holders_after}
+
+-- ---- the replay is a run, so all that such runs keep holds
+start_is : (opening : Opening) → IsTrueOpening opening → IsTrueStart opening.instance (start_by opening)
+start_is opening begun = record {
+  workers = 256;
+  budget = opening.budget;
+  gap = opening.gap;
+  table = opening.table;
+  value = opening.value;
+  is_start = refl;
+  small = begun.budget;
+  whole = begun.gap;
+  lawful = begun.table;
+  scale = begun.scale;
+  bound = begun.bound;
+}
+
+pub run_holds : TreeRunsHold → (opening : Opening) (book : BookView) → IsTrueOpening opening → (is : IsReplayed opening book)
+    → TreeHoldsAt opening.instance (start_by opening) (replayed book is.desks) × IsOrderly (replayed book is.desks)
+run_holds law opening book begun is =
+    law opening.instance (start_by opening) (replayed book is.desks) begun.instance
+    (record { events = replay book; is_start = start_is opening begun; run = is.run; is = is.gives })
+
+-- what is held is an open leaf, and there is room for its commit
+pub held_holds : TreeRunsHold → (opening : Opening) (book : BookView) (rooms : Rooms) (worker unit node : ℕ) → (kept : IsKept opening book rooms)
+    → IsHolding (state_of book) worker unit node → IsHoldable (replayed book kept.replayed.desks) worker (number_of book.claims unit) node
+held_holds law opening book rooms worker unit node kept holds =
+    holdable (replayed book kept.replayed.desks) worker (number_of book.claims unit) node
+    (run_holds law opening book kept.begun kept.replayed).1
+    (held_still book unit (record { worker = worker; node = node }) holds)
+
+-- what stands at a number is a node
+pub spot_below : (tree : NumberedTree) (wanted : ℕ) (s : Spot) → IsNumbered tree → spot_at tree wanted ≡ Some s → wanted < node_count tree
+spot_below tree wanted s numbered e =
+    let part = from_some (λ (p : Subtree). spot_of p.tree) (subtree_at tree wanted) s e in
+    let some = part_counted root tree wanted part.0 part.1 in
+    ⊎_elim
+    (λ (l : wanted < node_count tree). l)
+    (λ (l : node_count tree ≤ wanted). absurd (omega (arith, numbered.none wanted l)))
+    (cases_lt wanted (node_count tree))
+
+-- ---- the log with its own units
+log_true : (instance : Instance) (tree : TreeView) (tables : List Table) (f : ℕ → ℕ) (log : List Entry)
+    → IsTrueLog instance tree tables (map (with_unit f) log) → IsTrueLog instance tree tables log
+log_true instance tree tables f log is = record {
+  entries = λ k d within.
+      let own = subst (IsTrueEntry instance tree tables) (get_or-map (with_unit f) log k d (with_unit f d) within)
+      (is.entries k (with_unit f d) (omega (arith, within, length-map log (with_unit f)))) in
+      record {
+        node = own.node;
+        is_node = own.is_node;
+        table = own.table;
+        is_table = own.is_table;
+        lawful = own.lawful;
+        outcome = own.outcome;
+      };
+  apart = λ i j d less within.
+      let size = length-map log (with_unit f) in
+      let first = get_or-map (with_unit f) log i d (with_unit f d) (omega (arith, less, within)) in
+      let second = get_or-map (with_unit f) log j d (with_unit f d) within in
+      let own = subst (λ (pair : Entry × Entry). AreApart tables pair.0 pair.1) (λ k. (first k, second k))
+      (is.apart i j (with_unit f d) less (omega (arith, within, size))) in
+      record { unit = λ e. own.unit (ap f e); pair = own.pair };
+}
+
+pub kept_runs : TreeRunsHold → (opening : Opening) (book : BookView) (rooms : Rooms) → IsKept opening book rooms → IsRunning opening book
+kept_runs law opening book rooms kept =
+    let holds = run_holds law opening book kept.begun kept.replayed in
+    record {
+      replays = kept.replayed;
+      log = log_true opening.instance book.tree book.tables (number_of book.claims) book.log holds.0.log;
+      budget = kept.budget;
+      gap = kept.gap;
+      few = kept.few;
+      once = kept.once;
+      tree = holds.0;
+    }
+
+-- ---- the start
+pub kept_start : (opening : Opening) (rooms : Rooms) → IsTrueOpening opening → rooms.count ≡ 1 → rooms.tables ≡ suc (suc opening.budget)
+    → rooms.log ≡ opening.budget → rooms.claims ≡ opening.budget → rooms.log_nodes ≡ 2 * opening.budget + 1
+    → rooms.claims_nodes ≡ 2 * opening.budget + 1 → IsKept opening (opened opening) rooms
+kept_start opening rooms begun count tables log claims log_nodes claims_nodes = record {
+  begun = begun;
+  budget = refl;
+  gap = refl;
+  replayed = opened_replayed opening;
+  few = omega arith;
+  once = once_none;
+  paired = refl;
+  count = count;
+  tables = tables;
+  log = log;
+  claims = claims;
+  log_nodes = omega (arith, log_nodes);
+  claims_nodes = omega (arith, claims_nodes);
+}
+
+-- ---- a claim
+pub kept_claimed : (opening : Opening) (book : BookView) (rooms : Rooms) (worker node : ℕ) → IsKept opening book rooms → worker < 256
+    → length book.claims ≢ book.budget → IsOpen (state_of book) node → IsKept opening (claimed book worker node) rooms
+kept_claimed opening book rooms worker node kept small left open_node =
+    let next : Claim = record { worker = worker; node = node; behind = length book.log; status = Held } in
+    let holder : Holder = record { worker = worker; node = node } in
+    let below : length book.claims < book.budget = omega (arith, left, kept.few) in
+    record {
+      begun = kept.begun;
+      budget = kept.budget;
+      gap = kept.gap;
+      replayed = claimed_replayed opening book worker node kept.replayed small below open_node;
+      few = omega (arith, below, length-append book.claims (next ∷ []));
+      once = subst IsHeldOnce (sym (holders_push book.claims next)) (once_push (holders book.claims) holder kept.once open_node.unheld);
+      paired = kept.paired;
+      count = kept.count;
+      tables = kept.tables;
+      log = kept.log;
+      claims = kept.claims;
+      log_nodes = kept.log_nodes;
+      claims_nodes = kept.claims_nodes;
+    }
+
+-- ---- a claim that ends
+ended_once : (claims : List Claim) (unit : ℕ) (status : Status) → ((holder : Holder) → holder_by status holder ≡ None) → IsHeldOnce (holders claims)
+    → IsHeldOnce (holders (ended claims unit status))
+ended_once claims unit status ends once =
+    subst IsHeldOnce (sym (holders_after claims unit status ends)) (once_ended (holders claims) (unit - 1) once)
+
+ended_count : (claims : List Claim) (unit : ℕ) (status : Status) → length (ended claims unit status) ≡ length claims
+ended_count claims unit status = length-set claims (unit - 1) (record (claim_of claims unit) { status = status })
+
+-- ---- a commit
+move_legal : (book : BookView) (worker node : ℕ) (table : Table) (exact : Bool) (outcome : Outcome) (action : Move)
+    → IsMoveLegal (λ cost. Unit {0}) (state_of book) node table exact outcome action
+    → IsMoveLegal (AnyCost (state_of book) worker) (state_of book) node table exact outcome action
+move_legal book worker node table exact outcome Again legal = legal
+move_legal book worker node table exact outcome (Split g t) legal = legal
+move_legal book worker node table exact outcome (Prune seen) legal = (legal.0, record { looked = tt; within = legal.1.within })
+move_legal book worker node table exact outcome Ray legal = legal
+move_legal book worker node table exact outcome Empty legal = legal
+
+pub commit_legal : (book : BookView) (worker unit node : ℕ) (given : Node) (table : Table) (exact : Bool) (outcome : Outcome) (action : Move)
+    → worker < 256 → IsHolding (state_of book) worker unit node → MayBe book node given table exact outcome action
+    → IsLegalBy AnyCost (state_of book) (event.Commit worker unit table exact outcome action)
+commit_legal book worker unit node given table exact outcome action small holds may = (
+  subst (λ n. worker < n) (sym (length-replicate 256 no_desk)) small,
+  record {
+    node = node;
+    holds = holds;
+    fresh = may.fresh;
+    first = may.first;
+    legal = move_legal book worker node table exact outcome action may.legal;
+  },
+)
+
+commit_true : (instance : Instance) (book : BookView) (worker unit node : ℕ) (given : Node) (table : Table) (exact : Bool) (outcome : Outcome)
+    (action : Move) → IsHolding (state_of book) worker unit node → IsNodeAt book.tree node given
+    → IsTrueOutcome exact instance given table outcome
+    → IsTrueEvent instance (state_of book) (event.Commit worker unit table exact outcome action)
+commit_true instance book worker unit node given table exact outcome action holds is_node told number found holding is_found =
+    let both : Some (record { worker = worker; node = node }) ≡ Some (record { worker = worker; node = number }) = sym holds ∙ holding in
+    let one : record { worker = worker; node = node } ≡ record { worker = worker; node = number } = cc in
+    let here : node_at book.tree.nodes number ≡ Some given =
+    ap (λ n. node_at book.tree.nodes n) (sym (ap (λ (h : Holder). h.node) one)) ∙ is_node in
+    let nodes : Some given ≡ Some found = sym here ∙ is_found in
+    let same : given ≡ found = cc in
+    subst (λ n. IsTrueOutcome exact instance n table outcome) same told
+
+pub committed_run : (opening : Opening) (book : BookView) (worker unit node : ℕ) (given : Node) (table : Table) (exact : Bool) (outcome : Outcome)
+    (action : Move) → IsReplayed opening book → worker < 256 → IsHolding (state_of book) worker unit node
+    → MayBe book node given table exact outcome action → IsTrueOutcome exact opening.instance given table outcome
+    → IsReplayed opening (committed book worker unit node table exact outcome action)
+committed_run opening book worker unit node given table exact outcome action is small holds may told =
+    let part = held_part book.claims worker unit node holds in
+    let own = suc (length part.before) in
+    let pair : (worker, unit) ≡ (part.claim.worker, own) = λ i. (sym part.worker_is i, part.unit_is i) in
+    subst (λ (p : ℕ × ℕ). IsReplayed opening (committed book p.0 p.1 node table exact outcome action)) (sym pair)
+    (committed_replayed opening book part.before part.after part.claim node table exact outcome action part.is part.status part.node_is is
+    (subst (λ (p : ℕ × ℕ). IsLegalBy AnyCost (state_of book) (event.Commit p.0 p.1 table exact outcome action)) pair
+    (commit_legal book worker unit node given table exact outcome action small holds may))
+    (subst (λ (p : ℕ × ℕ). IsHolding (state_of book) p.0 p.1 node) pair holds)
+    (subst (λ (p : ℕ × ℕ). IsTrueEvent opening.instance (state_of book) (event.Commit p.0 p.1 table exact outcome action)) pair
+    (commit_true opening.instance book worker unit node given table exact outcome action holds may.is_node told)))
+
+pub kept_committed : TreeRunsHold → (opening : Opening) (book : BookView) (rooms : Rooms) (worker unit node : ℕ) (given : Node) (table : Table)
+    (exact : Bool) (outcome : Outcome) (action : Move) → IsKept opening book rooms → worker < 256
+    → IsHolding (state_of book) worker unit node → MayBe book node given table exact outcome action
+    → IsTrueOutcome exact opening.instance given table outcome
+    → IsKept opening (committed book worker unit node table exact outcome action)
+    (record rooms { count = rooms.count + length (tickets_of book.tree action) })
+kept_committed law opening book rooms worker unit node given table exact outcome action kept_is small holds may told =
+    let held = held_holds law opening book rooms worker unit node kept_is holds in
+    let orderly = (run_holds law opening book kept_is.begun kept_is.replayed).1 in
+    let stored = kept (state_of book) node table exact outcome in
+    let free = free_for (λ cost. Unit {0}) (state_of book) node table exact outcome action may.legal in
+    let grows = tree_grows book.tree node stored (length book.tables) exact outcome action
+    (sound_of (replayed book kept_is.replayed.desks) orderly) held.live free in
+    let entry : Entry =
+    record { unit = unit; worker = worker; node = node; table = length book.tables; exact = exact; outcome = outcome } in
+    let tables_more = length-append book.tables (table ∷ []) in
+    let log_more = length-append book.log (entry ∷ []) in
+    record {
+      begun = kept_is.begun;
+      budget = kept_is.budget;
+      gap = kept_is.gap;
+      replayed = committed_run opening book worker unit node given table exact outcome action kept_is.replayed small holds may told;
+      few = omega (arith, kept_is.few, ended_count book.claims unit (Committed action));
+      once = ended_once book.claims unit (Committed action) (λ holder. refl) kept_is.once;
+      paired = omega (arith, tables_more, log_more, kept_is.paired);
+      count = omega (arith, grows.count, kept_is.count);
+      tables = kept_is.tables;
+      log = kept_is.log;
+      claims = kept_is.claims;
+      log_nodes = omega (arith, kept_is.log_nodes, grows.room);
+      claims_nodes = omega (arith, kept_is.claims_nodes, grows.room);
+    }
+
+-- ---- a claim given back
+pub kept_given_back : (opening : Opening) (book : BookView) (rooms : Rooms) (worker unit node : ℕ) → IsKept opening book rooms
+    → IsHolding (state_of book) worker unit node → IsKept opening (given_back book unit) rooms
+kept_given_back opening book rooms worker unit node kept_is holds =
+    let part = held_part book.claims worker unit node holds in
+    record {
+      begun = kept_is.begun;
+      budget = kept_is.budget;
+      gap = kept_is.gap;
+      replayed = subst (λ u. IsReplayed opening (given_back book u)) (sym part.unit_is)
+          (abandoned_replayed opening book part.before part.after part.claim part.is part.status kept_is.replayed);
+      few = omega (arith, kept_is.few, ended_count book.claims unit GivenBack);
+      once = ended_once book.claims unit GivenBack (λ holder. refl) kept_is.once;
+      paired = kept_is.paired;
+      count = kept_is.count;
+      tables = kept_is.tables;
+      log = kept_is.log;
+      claims = kept_is.claims;
+      log_nodes = kept_is.log_nodes;
+      claims_nodes = kept_is.claims_nodes;
+    }
+
+-- ---- small facts that answers cite
+pub some_too : {A : Type 0} (o : Option A) (P Q : A → Type 0) → ((x : A) → P x → Q x) → IfSome o P → IfSome o Q
+some_too None P Q turn is = is
+some_too (Some x) P Q turn is = turn x is
+
+pub few_children : (a b : ℕ) (action : Move) → length (children_by (a ∷ b ∷ []) action) ≤ 2
+few_children a b Again = omega arith
+few_children a b _ = omega arith
+
+pub same_children : (a b c d : ℕ) (action : Move) → length (children_by (a ∷ b ∷ []) action) ≡ length (children_by (c ∷ d ∷ []) action)
+same_children a b c d Again = refl
+same_children a b c d _ = refl
+
+-- a worker holds one node by a unit
+pub holding_same : (m : Machine) (worker unit one other : ℕ) → IsHolding m worker unit one → IsHolding m worker unit other → one ≡ other
+holding_same m worker unit one other first second =
+    let both : Some (record { worker = worker; node = one }) ≡ Some (record { worker = worker; node = other }) = sym first ∙ second in
+    let same : record { worker = worker; node = one } ≡ record { worker = worker; node = other } = cc in
+    ap (λ (h : Holder). h.node) same
+
+pub held_is : (m : Machine) (worker unit node : ℕ) → IsHolding m worker unit node → IsHeldIn m.claims node
+held_is m worker unit node holds =
+    let at = holder_place m.claims unit (record { worker = worker; node = node }) holds in
+    record { claim = at.0; worker = worker; holds = at.2 }
+
+-- what stands at an open leaf
+pub live_open : (tree : NumberedTree) (number : ℕ) (s : Spot) → spot_at tree number ≡ Some s → IsLive s → IsOpenAt tree number
+live_open tree number (spot.Leaf (leaf.Live table value exact)) e live = record { table = table; value = value; exact = exact; live = e }
+live_open tree number _ e live = absurd live
+
+pub open_live : (tree : NumberedTree) (number : ℕ) (s : Spot) → spot_at tree number ≡ Some s → IsOpenAt tree number → IsLive s
+open_live tree number s e at =
+    let both : Some (spot.Leaf (leaf.Live at.table at.value at.exact)) ≡ Some s = sym at.live ∙ e in
+    let same : spot.Leaf (leaf.Live at.table at.value at.exact) ≡ s = cc in
+    subst IsLive same tt
+
+-- ---- what a commit needs of the fields
+pub record HasRoom (book : BookView) (rooms : Rooms) (node : ℕ) : Type 0 where
+  pub live : IsOpenAt book.tree.nodes node
+  pub below : node < node_count book.tree.nodes
+  pub nodes : node_count book.tree.nodes + 2 ≤ book.tree.room
+  pub tables : length book.tables < rooms.tables
+  pub log : length book.log < rooms.log
+  pub log_node : node < rooms.log_nodes
+  pub claims_node : node < rooms.claims_nodes
+  pub small : rooms.tables ≤ 1000002
+  pub room : book.tree.room ≤ 2000001
+
+pub has_room : TreeRunsHold → (opening : Opening) (book : BookView) (rooms : Rooms) (worker unit node : ℕ) → IsKept opening book rooms
+    → IsHolding (state_of book) worker unit node → HasRoom book rooms node
+has_room law opening book rooms worker unit node kept_is holds =
+    let held = held_holds law opening book rooms worker unit node kept_is holds in
+    let orderly = (run_holds law opening book kept_is.begun kept_is.replayed).1 in
+    let amounts = orderly.amounts in
+    record {
+      live = held.live;
+      below = held.below;
+      nodes = held.room;
+      tables = omega (arith, held.tables, amounts.claims, kept_is.tables);
+      log = omega (arith, held.tables, amounts.claims, kept_is.log, kept_is.paired);
+      log_node = omega (arith, held.below, held.room, kept_is.log_nodes);
+      claims_node = omega (arith, held.below, held.room, kept_is.claims_nodes);
+      small = omega (arith, kept_is.tables, kept_is.budget, kept_is.begun.budget);
+      room = omega (arith, amounts.room, kept_is.budget, kept_is.begun.budget);
+    }
+
+-- the node that is held stores a table that is there
+pub stored_within : TreeRunsHold → (opening : Opening) (book : BookView) (rooms : Rooms) (worker unit node : ℕ) → IsKept opening book rooms
+    → IsHolding (state_of book) worker unit node → (stored_at book.tree node).table < length book.tables
+stored_within law opening book rooms worker unit node kept_is holds =
+    let held = held_holds law opening book rooms worker unit node kept_is holds in
+    let at = held.live in
+    let part = leaf_part book.tree node at in
+    let all = (run_holds law opening book kept_is.begun kept_is.replayed).0 in
+    let own = holds_of_leaf (StoredHolds opening.instance book.tables) book.tree node (leaf.Live at.table at.value at.exact) part all.stored in
+    let within = slice_get_within book.tables at.table own.table own.is_table in
+    let here : stored_at book.tree node ≡ record { table = at.table; value = at.value; exact = at.exact } = ap spot_stored at.live in
+    subst (λ (s : Stored). s.table < length book.tables) (sym here) within

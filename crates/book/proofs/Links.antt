@@ -1,0 +1,213 @@
+-- The links of the log: with one entry more, and on the walk from entry to entry.
+use Rattle.std.proofs.Common.{◌≡◌, ◌≢◌, ℕ, suc, ◌+◌, ◌<◌, ◌≤◌, Bool, All, List, [], ◌∷◌, ◌++◌, length, set, refl, ap, sym, ◌∙◌, subst, arith, ⊎_elim, Some, slice_get, get_or, replicate, length-append, length-set, ◌==◌, cond, true, false, eq-eqb}
+use Rattle.std.proofs.lemmas.Bool.{cases_eq, cases_lt, ne_eqb}
+use Rattle.std.proofs.lemmas.List.{length-replicate, get_or-replicate}
+use Rattle.std.proofs.lemmas.List.Elements.{All-nil, All-cons}
+use Rattle.std.proofs.lemmas.Option.{slice_get_within, slice_get-get_or, get_or_from_slice_get}
+use Rattle.search_core.specs.Machine.{entries_of}
+use Rattle.search_core.proofs.Claims.{get_push_cases, get_push_last, get_set_cases}
+use Rattle.search_core.proofs.NoteSteps.{no_entries}
+use Rattle.search_core.proofs.OwnSteps.{entries_own, entries_same, all_of_node}
+use Rattle.book.specs.inside.Chains.{Entry, Table, IsNewest, AreLinked, IsElsewhere, IsWalked}
+
+-- ---- no entry
+pub linked_none : (nodes : ℕ) → AreLinked [] [] (replicate nodes 0) (replicate nodes 0)
+linked_none nodes = record {
+  linked = refl;
+  counted = refl;
+  within = λ place entry e. absurd (cc);
+  latest = λ node link e. record {
+    within = omega (arith, zero_link node link e);
+    own = λ place entry is at. absurd (cc);
+    others = λ place entry low high at. absurd (cc);
+  };
+  earlier = λ place link entry e at. absurd (cc);
+  many = λ node count e. zero_link node count e;
+}
+  where
+    zero_link : (node link : ℕ) → slice_get (replicate nodes 0) node ≡ Some link → link ≡ 0
+    zero_link node link e =
+        let within = slice_get_within (replicate nodes 0) node link e in
+        let size : length (replicate {A = ℕ} nodes 0) ≡ nodes = length-replicate {A = ℕ} nodes 0 in
+        sym (get_or_from_slice_get (replicate nodes 0) node link 0 e)
+        ∙ get_or-replicate nodes node 0 0 (omega (arith, within, size))
+
+-- ---- one entry more
+newest_more : (entries : List Entry) (next : Entry) (bound node link : ℕ) → bound ≤ length entries → IsNewest entries bound node link
+    → IsNewest (entries ++ next ∷ []) bound node link
+newest_more entries next bound node link low is = record {
+  within = is.within;
+  own = λ place entry e at. is.own place entry e (before place entry (omega (arith, e, is.within)) at);
+  others = λ place entry above below at. is.others place entry above below (before place entry below at);
+}
+  where
+    before : (place : ℕ) (entry : Entry) → place < bound → slice_get (entries ++ next ∷ []) place ≡ Some entry → slice_get entries place ≡ Some entry
+    before place entry below at = ⊎_elim
+        (λ (l : slice_get entries place ≡ Some entry). l)
+        (λ (r : (place ≡ length entries) × (next ≡ entry)). absurd (omega (arith, r.0, below)))
+        (get_push_cases entries next entry place at)
+
+-- of another node the link stays the newest
+newest_other : (entries : List Entry) (next : Entry) (node link : ℕ) → node ≢ next.node → IsNewest entries (length entries) node link
+    → IsNewest (entries ++ next ∷ []) (suc (length entries)) node link
+newest_other entries next node link differ is =
+    let more = newest_more entries next (length entries) node link (omega arith) is in
+    record {
+      within = omega (arith, is.within);
+      own = more.own;
+      others = λ place entry above below at. ⊎_elim
+          (λ (l : slice_get entries place ≡ Some entry). is.others place entry above (slice_get_within entries place entry l) l)
+          (λ (r : (place ≡ length entries) × (next ≡ entry)).
+          λ (e : entry.node ≡ node). differ (sym e ∙ ap (λ (x : Entry). x.node) (sym r.1)))
+          (get_push_cases entries next entry place at);
+    }
+
+-- of the entry's node it is the entry
+newest_own : (entries : List Entry) (next : Entry) → IsNewest (entries ++ next ∷ []) (suc (length entries)) next.node (suc (length entries))
+newest_own entries next = record {
+  within = omega arith;
+  own = λ place entry e at.
+      let here : place ≡ length entries = omega arith in
+      let both : Some next ≡ Some entry =
+      sym (get_push_last entries next) ∙ ap (slice_get (entries ++ next ∷ [])) (sym here) ∙ at in
+      let same : next ≡ entry = cc in
+      ap (λ (x : Entry). x.node) (sym same);
+  others = λ place entry above below at. absurd (omega arith);
+}
+
+pub linked_push : (entries : List Entry) (previous newest counts : List ℕ) (next : Entry) (link count : ℕ)
+    → AreLinked entries previous newest counts → next.node < length newest → slice_get newest next.node ≡ Some link
+    → slice_get counts next.node ≡ Some count
+    → AreLinked (entries ++ next ∷ []) (previous ++ link ∷ []) (set newest next.node (suc (length entries))) (set counts next.node (count + 1))
+linked_push entries previous newest counts next link count are inside here counted =
+    let size = length-append entries (next ∷ []) in
+    let nodes = length-set newest next.node (suc (length entries)) in
+    let bound : length (entries ++ next ∷ []) ≡ suc (length entries) = omega (arith, size) in
+    record {
+      linked = omega (arith, size, length-append previous (link ∷ []), are.linked);
+      counted = omega (arith, nodes, length-set counts next.node (count + 1), are.counted);
+      within = λ place entry at. ⊎_elim
+          (λ (l : slice_get entries place ≡ Some entry). omega (arith, nodes, are.within place entry l))
+          (λ (r : (place ≡ length entries) × (next ≡ entry)). omega (arith, nodes, inside, ap (λ (x : Entry). x.node) r.1))
+          (get_push_cases entries next entry place at);
+      latest = λ node now at. ⊎_elim
+          (λ (l : (node ≡ next.node) × (suc (length entries) ≡ now)).
+          subst (λ b. IsNewest (entries ++ next ∷ []) b node now) (sym bound)
+          (subst (λ n. IsNewest (entries ++ next ∷ []) (suc (length entries)) n now) (sym l.0)
+          (subst (IsNewest (entries ++ next ∷ []) (suc (length entries)) next.node) l.1 (newest_own entries next))))
+          (λ (r : (node ≢ next.node) × (slice_get newest node ≡ Some now)).
+          subst (λ b. IsNewest (entries ++ next ∷ []) b node now) (sym bound)
+          (newest_other entries next node now r.0 (are.latest node now r.1)))
+          (get_set_cases newest next.node node (suc (length entries)) now at);
+      earlier = λ place now entry at is. ⊎_elim
+          (λ (l : slice_get previous place ≡ Some now).
+          let below = slice_get_within previous place now l in
+          ⊎_elim
+          (λ (old : slice_get entries place ≡ Some entry).
+          newest_more entries next place entry.node now (omega (arith, below, are.linked)) (are.earlier place now entry l old))
+          (λ (new : (place ≡ length entries) × (next ≡ entry)). absurd (omega (arith, below, are.linked, new.0)))
+          (get_push_cases entries next entry place is))
+          (λ (r : (place ≡ length previous) × (link ≡ now)).
+          let last : place ≡ length entries = omega (arith, r.0, are.linked) in
+          ⊎_elim
+          (λ (old : slice_get entries place ≡ Some entry). absurd (omega (arith, last, slice_get_within entries place entry old)))
+          (λ (new : (place ≡ length entries) × (next ≡ entry)).
+          let own = newest_more entries next (length entries) next.node link (omega arith) (are.latest next.node link here) in
+          subst (λ p. IsNewest (entries ++ next ∷ []) p entry.node now) (sym last)
+          (subst (λ (x : Entry). IsNewest (entries ++ next ∷ []) (length entries) x.node now) new.1
+          (subst (IsNewest (entries ++ next ∷ []) (length entries) next.node) r.1 own)))
+          (get_push_cases entries next entry place is))
+          (get_push_cases previous link now place at);
+      many = λ node now at. ⊎_elim
+          (λ (l : (node ≡ next.node) × (count + 1 ≡ now)).
+          let more = ap length (entries_own entries next node (sym l.0)) in
+          let old = are.many next.node count counted in
+          let there = ap (λ n. length (entries_of entries n)) l.0 in
+          omega (arith, l.1, more, old, there, length-append (entries_of entries node) (next ∷ [])))
+          (λ (r : (node ≢ next.node) × (slice_get counts node ≡ Some now)).
+          are.many node now r.1 ∙ ap length (sym (entries_same entries next node r.0)))
+          (get_set_cases counts next.node node (count + 1) now at);
+    }
+
+-- a node has at most as many entries as there are
+pub entries_few : (entries : List Entry) (node : ℕ) → length (entries_of entries node) ≤ length entries
+entries_few [] node = omega arith
+entries_few (entry ∷ entries) node = one_more (entry.node == node) entry (entries_of entries node) (length entries) (entries_few entries node)
+  where
+    one_more : (b : Bool) (entry : Entry) (rest : List Entry) (most : ℕ) → length rest ≤ most → length (cond b (entry ∷ rest) rest) ≤ suc most
+    one_more true entry rest most few = omega arith
+    one_more false entry rest most few = omega arith
+
+-- ---- the walk
+-- what holds of each entry of a node
+pub all_entries : (P : Entry → Type 0) (entries : List Entry) (node : ℕ)
+    → ((place : ℕ) (entry : Entry) → slice_get entries place ≡ Some entry → entry.node ≡ node → P entry) → All P (entries_of entries node)
+all_entries P [] node each = All-nil P
+all_entries P (entry ∷ entries) node each = ⊎_elim
+    (λ (e : entry.node ≡ node).
+    subst (λ b. All P (cond b (entry ∷ entries_of entries node) (entries_of entries node))) (sym (eq-eqb entry.node node e))
+    (All-cons P entry (entries_of entries node) (each 0 entry refl e)
+    (all_entries P entries node (λ place other at own. each (suc place) other at own))))
+    (λ (d : entry.node ≡ node → ⊥).
+    subst (λ b. All P (cond b (entry ∷ entries_of entries node) (entries_of entries node))) (sym (ne_eqb entry.node node d))
+    (all_entries P entries node (λ place other at own. each (suc place) other at own)))
+    (cases_eq entry.node node)
+
+-- and the other way
+pub entry_of : (P : Entry → Type 0) (entries : List Entry) (node place : ℕ) (entry : Entry) → All P (entries_of entries node)
+    → slice_get entries place ≡ Some entry → entry.node ≡ node → P entry
+entry_of P entries node place entry each at own =
+    let within = slice_get_within entries place entry at in
+    let here = get_or_from_slice_get entries place entry entry at in
+    subst P here (all_of_node P entries node each place entry within (ap (λ (x : Entry). x.node) here ∙ own))
+
+pub walk_starts : (entries : List Entry) (tables : List Table) (table : Table) (exact : Bool) (node link : ℕ)
+    → IsNewest entries (length entries) node link → IsWalked entries tables table exact node link
+walk_starts entries tables table exact node link is = record {
+  within = is.within;
+  own = is.own;
+  clear = λ place entry above at own. absurd (is.others place entry above (slice_get_within entries place entry at) at own);
+}
+
+-- a node that no entry is of
+pub walk_none : (entries : List Entry) (tables : List Table) (table : Table) (exact : Bool) (node nodes : ℕ) → nodes ≤ node
+    → ((place : ℕ) (entry : Entry) → slice_get entries place ≡ Some entry → entry.node < nodes) → IsWalked entries tables table exact node 0
+walk_none entries tables table exact node nodes past within = record {
+  within = omega arith;
+  own = λ place entry e at. absurd (cc);
+  clear = λ place entry above at own. absurd (omega (arith, within place entry at, own, past));
+}
+
+-- past an entry that isn't at the table
+pub walk_on : (entries : List Entry) (tables : List Table) (table : Table) (exact : Bool) (node place link : ℕ) (entry : Entry)
+    → IsWalked entries tables table exact node (suc place) → slice_get entries place ≡ Some entry → IsElsewhere tables table exact entry
+    → IsNewest entries place entry.node link → IsWalked entries tables table exact node link
+walk_on entries tables table exact node place link entry is here elsewhere newest =
+    let own = is.own place entry refl here in
+    record {
+      within = omega (arith, newest.within, is.within);
+      own = λ other found e at. newest.own other found e at ∙ own;
+      clear = λ other found above at same. ⊎_elim
+          (λ (l : other < place). absurd (newest.others other found above l at (same ∙ sym own)))
+          (λ (r : place ≤ other). ⊎_elim
+          (λ (e : other ≡ place).
+          let both : Some entry ≡ Some found = sym here ∙ ap (slice_get entries) (sym e) ∙ at in
+          let one : entry ≡ found = cc in
+          subst (IsElsewhere tables table exact) one elsewhere)
+          (λ (d : other ≡ place → ⊥). is.clear other found (omega (arith, r, d)) at same)
+          (cases_eq other place))
+          (cases_lt other place);
+    }
+
+-- at its end
+pub walk_ends : (entries : List Entry) (tables : List Table) (table : Table) (exact : Bool) (node link : ℕ)
+    → IsWalked entries tables table exact node link → link ≡ 0 → All (IsElsewhere tables table exact) (entries_of entries node)
+walk_ends entries tables table exact node link is e =
+    all_entries (IsElsewhere tables table exact) entries node (λ place entry at own. is.clear place entry (omega (arith, e)) at own)
+
+-- a node past the last has no entry
+pub entries_none : (entries : List Entry) (previous newest counts : List ℕ) (node : ℕ) → AreLinked entries previous newest counts
+    → length newest ≤ node → entries_of entries node ≡ []
+entries_none entries previous newest counts node are past =
+    no_entries entries (length newest) node
+    (λ k d within. are.within k (get_or entries k d) (slice_get-get_or entries k d within)) past

@@ -1,0 +1,38 @@
+-- What the log keeps beside its entries, so that no call walks over all of them: of each node its newest entry, and of each entry the
+-- one before it of the same node. This project's own form. A link is one more than a place, or 0 where there is no entry.
+use Rattle.std.specs.Prelude.{◌≡◌, ◌≢◌, ℕ, suc, ◌<◌, ◌≤◌, Bool, List, Some, length, slice_get}
+pub use Rattle.branch_tree.specs.declared.found.Entry.{Entry}
+pub use Rattle.dual_model.specs.declared.table.Table.{Table}
+use Rattle.search_core.specs.Machine.{entries_of}
+
+-- what contracts see of the log: its entries, for how many there is room, and for how many nodes
+pub record LogView : Type 0 where
+  pub entries : List Entry
+  pub room : ℕ
+  pub nodes : ℕ
+
+-- of the entries before a place the link leads to the node's last one
+pub record IsNewest (entries : List Entry) (bound node link : ℕ) : Type 0 where
+  pub within : link ≤ bound
+  pub own : (place : ℕ) (entry : Entry) → link ≡ suc place → slice_get entries place ≡ Some entry → entry.node ≡ node
+  pub others : (place : ℕ) (entry : Entry) → link ≤ place → place < bound → slice_get entries place ≡ Some entry → entry.node ≢ node
+
+pub record AreLinked (entries : List Entry) (previous newest counts : List ℕ) : Type 0 where
+  pub linked : length previous ≡ length entries
+  pub counted : length counts ≡ length newest
+  pub within : (place : ℕ) (entry : Entry) → slice_get entries place ≡ Some entry → entry.node < length newest
+  pub latest : (node link : ℕ) → slice_get newest node ≡ Some link → IsNewest entries (length entries) node link
+  pub earlier : (place link : ℕ) (entry : Entry) → slice_get previous place ≡ Some link → slice_get entries place ≡ Some entry
+      → IsNewest entries place entry.node link
+  pub many : (node count : ℕ) → slice_get counts node ≡ Some count → count ≡ length (entries_of entries node)
+
+-- an entry is not at the table with a value of this kind
+abbrev pub IsElsewhere : List Table → Table → Bool → Entry → Type 0
+IsElsewhere tables table exact entry = entry.exact ≡ exact → slice_get tables entry.table ≢ Some table
+
+-- so far back no entry of the node is at the table, and the link leads to the next one
+pub record IsWalked (entries : List Entry) (tables : List Table) (table : Table) (exact : Bool) (node link : ℕ) : Type 0 where
+  pub within : link ≤ length entries
+  pub own : (place : ℕ) (entry : Entry) → link ≡ suc place → slice_get entries place ≡ Some entry → entry.node ≡ node
+  pub clear : (place : ℕ) (entry : Entry) → link ≤ place → slice_get entries place ≡ Some entry → entry.node ≡ node
+      → IsElsewhere tables table exact entry
