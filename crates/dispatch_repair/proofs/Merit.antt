@@ -13,8 +13,8 @@ use Rattle.uc_model.proofs.Tests.{int_min_left, int_min_right}
 use Rattle.dispatch_repair.specs.Period.{Instance, Period, Source, FromRenewable, FromThermal, IsSourceOf, low_of, high_of, head_of, heads, minimums, thermal_sum, renewable_sum, demand_of, thermal_limit, is_off_next}
 use Rattle.dispatch_repair.specs.MeritOrder.{Slope, HasNextSlope, HasLastSlope, ComesBefore, IsPreferred, CanMove, IsInMeritOrder, thermal_part}
 use Rattle.dispatch_repair.specs.Stuck.{HaveRanges}
-use Rattle.dispatch_repair.specs.inside.Amounts.{Range, range_at, amount_at, amount_of, thermal_amount, AreRangesOf, IsSizedOutput}
-use Rattle.dispatch_repair.specs.inside.Filling.{Left, IsOpen, IsFull, CostsUpTo, IsWorth, IsTaken, IsFilledTo, IsFirstLeft, IsFillable}
+use Rattle.dispatch_repair.specs.Amounts.{Range, range_at, amount_at, amount_of, thermal_amount, AreRangesOf, IsSizedOutput}
+use Rattle.dispatch_repair.specs.Filling.{Left, IsOpen, IsFull, CostsUpTo, IsWorth, IsTaken, IsFilledTo, IsFirstLeft, IsFillable}
 use Rattle.dispatch_repair.specs.Segments.{Segment, IsNextOn, source_at, source_count, segment_at, no_segment, width_at, AreInMeritOrder}
 use Rattle.dispatch_repair.proofs.CurveSegments.{renewable_at, thermal_at}
 use Rattle.dispatch_repair.proofs.NextSlopes.{next_run}
