@@ -86,12 +86,12 @@ open_ranges period ranges lawful ht have are n hn =
     }
 
 -- ---- sums over ranges
-thermal_lows : (period : Period) (ranges : List Range) → AreRangesOf period ranges
+pub thermal_lows : (period : Period) (ranges : List Range) → AreRangesOf period ranges
     → sum_below (thermal_count period.instance) (λ g. (range_at ranges (renewable_count period.instance + g)).low) ≡ thermal_sum period (low_of period)
 thermal_lows period ranges are = sum_below-same (thermal_count period.instance) _ _ (λ g hg.
     (are (renewable_count period.instance + g) (omega arith)).low ∙ ap (low_of period) (thermal_at period.instance g))
 
-renewable_lows : (period : Period) (ranges : List Range) → AreRangesOf period ranges
+pub renewable_lows : (period : Period) (ranges : List Range) → AreRangesOf period ranges
     → sum_below (renewable_count period.instance) (λ w. (range_at ranges w).low) ≡ renewable_sum period (low_of period)
 renewable_lows period ranges are = sum_below-same (renewable_count period.instance) _ _ (λ w hw.
     (are w (omega arith)).low ∙ ap (low_of period) (renewable_at period.instance w hw))

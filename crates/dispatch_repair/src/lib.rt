@@ -4,9 +4,9 @@
 
 pub mod extreme_patterns;
 pub mod fill;
-mod merit_order;
+pub mod merit_order;
 pub mod most_on_commitment;
-mod obstacle;
+pub mod obstacle;
 pub mod period;
 pub mod range;
 pub mod ranges;
@@ -20,7 +20,6 @@ pub mod totals;
 
 pub use extreme_patterns::{fewest_of, most_of};
 pub use fill::Left;
-pub use merit_order::merit_order;
 pub use most_on_commitment::{MostFault, most_on};
 pub use obstacle::{Totals, imbalance};
 pub use period::{Start, set_initial, start_of};

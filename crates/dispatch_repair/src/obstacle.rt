@@ -112,20 +112,15 @@ pub(crate) fn empty_range(ranges: &[Range], renewables: usize) -> Option<Why>
     None
 }
 
-// Whether there is no output inside a range.
-fn is_empty(range: &Range) -> bool
+/// Whether there is no output inside a range.
+pub fn is_empty(range: &Range) -> bool
     ensures { result ≡ int_lt range.now.high range.now.low }
 {
     range.high < range.low
 }
 
 /// The first obstacle on the whole system in a period of this demand and need of reserve, in watts, where no range is empty.
-pub fn imbalance(
-    instance: &Instance,
-    totals: &Totals,
-    demand: &i64,
-    need: &i64,
-) -> Option<Why>
+pub fn imbalance(instance: &Instance, totals: &Totals, demand: &i64, need: &i64) -> Option<Why>
     requires sizes { AreSizedTotals totals.now }
     requires demand { IsPower demand.now }
     requires need { IsPower need.now }

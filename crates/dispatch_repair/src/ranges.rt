@@ -125,8 +125,14 @@ fn set_thermal(
     }
 }
 
-// The head and the range of thermal unit g.
-fn reach_of(amounts: &[i64], instance: &Instance, patterns: &[Pattern], t: usize, g: usize) -> Reach
+/// The head and the range of thermal unit g in period t, both from 0, after these amounts of all sources.
+pub fn reach_of(
+    amounts: &[i64],
+    instance: &Instance,
+    patterns: &[Pattern],
+    t: usize,
+    g: usize,
+) -> Reach
     requires before { AreBeforePeriod instance.now patterns.now t amounts.now }
     requires unit { g < thermal_count instance.now }
     ensures head { IsHeadOf (next_period instance.now patterns.now t amounts.now) g result.head }

@@ -64,8 +64,8 @@ fn sum_of_ranges(ranges: &[Range]) -> Range
     total
 }
 
-// The sums with those of a range more.
-fn with_range(total: &Range, range: &Range) -> Range
+/// The sums of ends of ranges, in watts, with those of a range more.
+pub fn with_range(total: &Range, range: &Range) -> Range
     requires low { IsSizedSum total.now.low }
     requires high { IsSizedSum total.now.high }
     requires range { IsSizedRange range.now }
