@@ -64,7 +64,7 @@ good_thermal period g ranges hg = record {
   known = high-le-width period g;
 }
 
-good_at : (period : Period) (n : ℕ) → IsLawfulInstance period.instance → period.t < period.instance.periods → HaveRanges period (thermal_count period.instance)
+pub good_at : (period : Period) (n : ℕ) → IsLawfulInstance period.instance → period.t < period.instance.periods → HaveRanges period (thermal_count period.instance)
     → n < source_count period.instance → IsGood period (source_at period.instance n)
 good_at period n lawful ht ranges hn = by (place period.instance n hn)
   where

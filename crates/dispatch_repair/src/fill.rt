@@ -87,8 +87,8 @@ fn spare(left: &Left, is_free: bool) -> i64
     }
 }
 
-// By how much an amount rises towards an end, within what may be given.
-fn rise(amount: &i64, end: &i64, spare: &i64) -> i64
+/// By how much an amount rises towards an end, within what may be given, all in watts.
+pub fn rise(amount: &i64, end: &i64, spare: &i64) -> i64
     requires low { pos 0 ≤ℤ amount.now }
     requires amount { unsigned_abs amount.now ≤ 3 * MAX_POWER }
     requires end { end.now ≤ℤ pos (3 * MAX_POWER) }
@@ -106,8 +106,8 @@ fn rise(amount: &i64, end: &i64, spare: &i64) -> i64
     }
 }
 
-// An amount and what it rises by.
-fn raised(amount: &i64, more: &i64) -> i64
+/// An amount and what it rises by, in watts.
+pub fn raised(amount: &i64, more: &i64) -> i64
     requires { unsigned_abs (amount.now +ℤ more.now) ≤ 3 * MAX_POWER }
     ensures { result ≡ amount.now +ℤ more.now }
 {
