@@ -1,8 +1,8 @@
 -- A unit's parts, as they are read.
 -- Cite by `use Rattle.decommitment.proofs.Parts.{entered}`.
-use Rattle.std.proofs.Common.{◌≡◌, ◌≢◌, ℕ, suc, ◌+◌, ◌*◌, ◌<◌, arith, sym, ap, subst, ◌∙◌, List, length, ℤ, pos, ◌≤ℤ◌, slice_set, get_or-set_same, get_or-set_other}
+use Rattle.std.proofs.Common.{◌≡◌, ◌≢◌, ℕ, suc, ◌+◌, ◌*◌, ◌<◌, arith, sym, ap, subst, ◌∙◌, List, length, ℤ, pos, ◌-ℤ◌, ◌≤ℤ◌, slice_set, get_or-set_same, get_or-set_other}
 use Rattle.uc_model.specs.PatternBits.{commitment_of}
-use Rattle.uc_model.specs.Schedule.{renewable_count, thermal_count}
+use Rattle.uc_model.specs.Schedule.{renewable_count, thermal_count, thermal_unit}
 use Rattle.dispatch_repair.specs.Amounts.{MAX_POWER, amount_at}
 use Rattle.dispatch_repair.specs.Period.{Period, Pattern, FromThermal, commitment_at, low_of, high_of}
 use Rattle.dispatch_repair.specs.Segments.{source_count}
@@ -23,7 +23,7 @@ module _ (period : Period) (g : ℕ) (part : Part) (is : part ≡ part_at period
 
   pub least_sized : (order : List Segment) (n level : ℕ) (least : ℤ) → IsLeastAt order n level part.reach.range least → IsSizedAmount least
   least_sized order n level least at =
-      between least part.reach.range.low part.reach.range.high (subst (λ z. pos 0 ≤ℤ z) (sym low_is) (max_left (pos 0) _)) at.low_end at.high_end
+      between least part.reach.range.low part.reach.range.high (subst (λ z. pos 0 ≤ℤ z) (sym low_is) (max_left (pos 0) (period.before g -ℤ (thermal_unit period.instance g).rd))) at.low_end at.high_end
       (at_most part.reach.range.high sizes.high)
 
   pub entered : (order : List Segment) (old : Part) (before after : Fill) (least : ℤ) → g < thermal_count period.instance

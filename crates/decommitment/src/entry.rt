@@ -43,7 +43,13 @@ pub(crate) fn enter(
         (λ why. HaveRanges (hour_period system.now hour.now) g → IsFirstObstacle (hour_period system.now hour.now) why) }
 {
     let n = system.instance.renewable.as_slice().len() + g;
-    let part = unit_part(system.instance, g, &hour.patterns[g], hour.t, &hour.before[n]);
+    let part = unit_part(
+        system.instance,
+        g,
+        &hour.patterns[g],
+        hour.t,
+        &hour.before[n],
+    );
     let range = &part.reach.range;
     if is_empty(range) {
         return Some(Why::Box {

@@ -12,9 +12,9 @@ ghost use Rattle.decommitment.specs.inside.Levels.{IsRisen, IsSunk};
 
 use crate::fill::{Fill, Given, Hour, System};
 use crate::merit::open_at;
+use dispatch_repair::Range;
 use dispatch_repair::fill::{end, raised, rise};
 use dispatch_repair::ranges::{reach_of, renewable_range};
-use dispatch_repair::Range;
 use uc_model::Instance;
 use uc_model::limits::{MAX_POWER, MAX_UNITS};
 

@@ -32,11 +32,7 @@ pub(crate) fn merit_of(alloc: Global, instance: &Instance) -> Result<Merit, NoMe
 }
 
 // Of each source the places of its own segments in the order.
-fn own_places(
-    alloc: Global,
-    order: &[Segment],
-    sources: usize,
-) -> Result<Vec<Vec<usize>>, NoMemory>
+fn own_places(alloc: Global, order: &[Segment], sources: usize) -> Result<Vec<Vec<usize>>, NoMemory>
     requires { (j : ℕ) → j < length order.now → (segment_at order.now j).source < sources }
     ensures { IfOk result (λ own. AreOwnPlaces order.now sources (length order.now) (rows_of own.items)) }
 {
