@@ -1,17 +1,14 @@
 -- A period from nothing, up to the thermal units.
 -- Cite by `use Rattle.decommitment.proofs.Begun.{begun_more}`.
-use Rattle.std.proofs.Common.{◌≡◌, ◌≢◌, ℕ, suc, ◌+◌, ◌*◌, ◌<◌, ◌≤◌, ⊎_elim, refl, sym, ap, subst, ◌∙◌, arith, List, length, ℤ, pos, ◌+ℤ◌, ◌≤ℤ◌, unsigned_abs, slice_set, get_or-set_same, get_or-set_other, to_z, of_z, w64}
-use Rattle.std.specs.Int.{int_max}
+use Rattle.std.proofs.Common.{◌≡◌, ℕ, suc, ◌+◌, ◌*◌, ◌<◌, ◌≤◌, ⊎_elim, sym, ap, subst, ◌∙◌, arith, List, length, ℤ, pos, ◌+ℤ◌, unsigned_abs, slice_set, get_or-set_same, get_or-set_other}
 use Rattle.std.proofs.lemmas.Int.{ints}
 use Rattle.uc_model.specs.Schedule.{renewable_count, thermal_count}
-use Rattle.uc_model.specs.Sums.{sum_below}
 use Rattle.uc_model.proofs.Ring.{linear}
-use Rattle.uc_model.proofs.Sizes.{narrow}
 use Rattle.uc_model.proofs.Sums.{below_or_last, sum_below-zero}
 use Rattle.dispatch_repair.specs.Amounts.{IsSizedEnd, amount_at, thermal_amount}
 use Rattle.dispatch_repair.specs.Period.{Instance, Period, FromRenewable, low_of, high_of, renewable_sum}
 use Rattle.dispatch_repair.specs.Segments.{source_count}
-use Rattle.dispatch_repair.specs.Totals.{MAX_POWER, MAX_UNITS, IsSizedSum, IsSum}
+use Rattle.dispatch_repair.specs.Totals.{MAX_POWER, MAX_UNITS, IsSum}
 use Rattle.dispatch_repair.specs.declared.obstacle.Totals.{Totals}
 use Rattle.dispatch_repair.specs.declared.range.Range.{Range}
 use Rattle.decommitment.specs.inside.Fills.{AreGiven, Fill, IsBegun, IsBegunTo, IsClear, IsSizedAmount, no_given, no_totals}

@@ -1,6 +1,6 @@
 -- A period whose amounts stand at a level and meet demand is filled in order of merit.
 -- Cite by `use Rattle.decommitment.proofs.LevelFills.{level_fill}`.
-use Rattle.std.proofs.Common.{◌≡◌, ℕ, suc, ◌+◌, ◌*◌, ◌<◌, ◌≤◌, ◌⊎◌, inl, inr, ⊎_elim, refl, sym, ap, subst, ◌∙◌, arith, List, length, ℤ, pos, ◌+ℤ◌, ◌-ℤ◌, ◌≤ℤ◌, ◌<ℤ◌, unsigned_abs}
+use Rattle.std.proofs.Common.{◌≡◌, ℕ, suc, ◌+◌, ◌<◌, ◌≤◌, inl, inr, ⊎_elim, refl, sym, subst, ◌∙◌, arith, List, length, ℤ, pos, ◌+ℤ◌, ◌-ℤ◌, ◌≤ℤ◌}
 use Rattle.std.specs.Int.{int_min}
 use Rattle.std.proofs.lemmas.Int.{ints}
 use Rattle.std.proofs.lemmas.Bool.{cases_lt}
@@ -12,23 +12,22 @@ use Rattle.uc_model.proofs.Sums.{sum_below-le, sum_below-split}
 use Rattle.dispatch_repair.specs.Amounts.{AreHeadsOf, AreRangesOf, IsSizedOutput, amount_at, range_at, thermal_amount}
 use Rattle.dispatch_repair.specs.Dispatch.{period_after}
 use Rattle.dispatch_repair.specs.Filled.{IsDispatchedFrom, served_by}
-use Rattle.dispatch_repair.specs.Filling.{AddsUp, CostsUpTo, IsFillable, IsFilledTo, IsFull, IsLeft, IsTaken, IsWorth}
+use Rattle.dispatch_repair.specs.Filling.{AddsUp, CostsUpTo, IsFillable, IsFilledTo, IsFull, IsLeft, IsTaken}
 use Rattle.dispatch_repair.specs.MeritOrder.{Slope, HasNextSlope}
-use Rattle.dispatch_repair.specs.Period.{Instance, Pattern, Period, FromThermal, low_of, high_of}
+use Rattle.dispatch_repair.specs.Period.{Instance, Pattern, Period}
 use Rattle.dispatch_repair.specs.Segments.{AreInMeritOrder, no_segment, segment_at, source_at, source_count}
 use Rattle.dispatch_repair.specs.Shortage.{served}
-use Rattle.dispatch_repair.specs.Totals.{MAX_POWER, MAX_UNITS, IsSizedLeft}
+use Rattle.dispatch_repair.specs.Totals.{IsSizedLeft}
 use Rattle.dispatch_repair.specs.declared.fill.Left.{Left}
 use Rattle.dispatch_repair.specs.declared.range.Range.{Range}
 use Rattle.dispatch_repair.specs.declared.segment.Segment.{Segment}
-use Rattle.dispatch_repair.proofs.CurveSegments.{thermal_at}
 use Rattle.dispatch_repair.proofs.Filling.{costs_trans, run_positive, sorted_costs}
 use Rattle.dispatch_repair.proofs.Merit.{IsFilledUp, in_merit_order, renewable_lows, thermal_lows, width_size}
 use Rattle.dispatch_repair.proofs.NextSlopes.{next_run}
 use Rattle.dispatch_repair.proofs.Reaches.{ranges_are, ranges_in}
 use Rattle.dispatch_repair.proofs.Shortages.{fillable, kept_size, ranges_served}
 use Rattle.decommitment.specs.inside.Fills.{Fill, IsReady, IsStarted}
-use Rattle.decommitment.specs.inside.Levels.{IsAtLevel, IsReached}
+use Rattle.decommitment.specs.inside.Levels.{IsReached}
 
 module _ (instance : Instance) (patterns : List Pattern) (t : ℕ) (before : ℕ → ℤ) (order : List Segment) (fill : Fill) (left : Left)
     (lawful : IsLawfulInstance instance) (within : t < instance.periods)

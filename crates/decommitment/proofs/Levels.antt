@@ -1,6 +1,6 @@
 -- Amounts at a level: a step up or down along the order keeps them there.
 -- Cite by `use Rattle.decommitment.proofs.Levels.{climbed}`.
-use Rattle.std.proofs.Common.{◌≡◌, ◌≢◌, ℕ, suc, ◌-◌, ◌<◌, ◌≤◌, ◌⊎◌, inl, inr, ⊎_elim, true, refl, sym, subst, ◌∙◌, arith, List, length, get_or, ℤ, pos, ◌≤ℤ◌, slice_set, get_or-set_same, get_or-set_other, if◌then◌else◌}
+use Rattle.std.proofs.Common.{◌≡◌, ◌≢◌, ℕ, suc, ◌-◌, ◌<◌, ◌≤◌, ◌⊎◌, inl, inr, ⊎_elim, refl, sym, subst, ◌∙◌, arith, List, length, get_or, ℤ, pos, ◌≤ℤ◌, slice_set, get_or-set_same, get_or-set_other, if◌then◌else◌}
 use Rattle.std.specs.Int.{int_min}
 use Rattle.std.proofs.lemmas.Bool.{cases_lt, cases_eq, cond_both}
 use Rattle.uc_model.proofs.Ring.{linear, le_antisymm, le_or_lt, le_trans}

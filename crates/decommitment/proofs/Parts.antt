@@ -1,15 +1,12 @@
 -- A unit's parts, as they are read.
 -- Cite by `use Rattle.decommitment.proofs.Parts.{entered}`.
-use Rattle.std.proofs.Common.{◌≡◌, ◌≢◌, ℕ, suc, ◌+◌, ◌*◌, ◌<◌, arith, sym, ap, subst, ◌∙◌, List, length, ℤ, pos, ◌-ℤ◌, ◌≤ℤ◌, slice_set, get_or-set_same, get_or-set_other}
-use Rattle.uc_model.specs.PatternBits.{commitment_of}
+use Rattle.std.proofs.Common.{◌≡◌, ℕ, suc, ◌+◌, ◌<◌, arith, sym, ap, subst, ◌∙◌, List, ℤ, pos, ◌-ℤ◌, ◌≤ℤ◌, slice_set, get_or-set_same, get_or-set_other}
 use Rattle.uc_model.specs.Schedule.{renewable_count, thermal_count, thermal_unit}
-use Rattle.dispatch_repair.specs.Amounts.{MAX_POWER, amount_at}
-use Rattle.dispatch_repair.specs.Period.{Period, Pattern, FromThermal, commitment_at, low_of, high_of}
-use Rattle.dispatch_repair.specs.Segments.{source_count}
-use Rattle.dispatch_repair.specs.declared.obstacle.Totals.{Totals}
+use Rattle.dispatch_repair.specs.Amounts.{amount_at}
+use Rattle.dispatch_repair.specs.Period.{Period, FromThermal, low_of, high_of}
 use Rattle.dispatch_repair.specs.declared.segment.Segment.{Segment}
 use Rattle.dispatch_repair.proofs.Filled.{max_left}
-use Rattle.decommitment.specs.inside.Fills.{AreGiven, Fill, HasSizes, IsEntered, IsSizedAmount, Part, exchanged_totals, part_at, unit_part}
+use Rattle.decommitment.specs.inside.Fills.{AreGiven, Fill, HasSizes, IsEntered, IsSizedAmount, Part, exchanged_totals, part_at}
 use Rattle.decommitment.specs.inside.Levels.{IsLeastAt, IsAtLevel}
 use Rattle.decommitment.proofs.Levels.{higher}
 use Rattle.decommitment.proofs.Steps.{at_most, between}

@@ -1,12 +1,12 @@
 -- A period whose units have entered and whose demand is met is filled.
 -- Cite by `use Rattle.decommitment.proofs.Settled.{filled}`.
-use Rattle.std.proofs.Common.{◌≡◌, ℕ, sym, ap, subst, ◌∙◌, ℤ, ◌+ℤ◌, ◌≤ℤ◌}
+use Rattle.std.proofs.Common.{◌≡◌, sym, ap, subst, ◌∙◌, ◌+ℤ◌, ◌≤ℤ◌}
 use Rattle.dispatch_repair.specs.Amounts.{thermal_amount}
 use Rattle.dispatch_repair.specs.Totals.{AreSizedTotals, AreTotalsOf}
 use Rattle.dispatch_repair.specs.Period.{Period}
 use Rattle.dispatch_repair.specs.declared.fill.Left.{Left}
 use Rattle.dispatch_repair.specs.declared.obstacle.Totals.{Totals}
-use Rattle.decommitment.specs.inside.Fills.{Fill, Filling, Hour, System, Target, ComesTo, IsFill, IsHourOf, IsMet, IsReady, IsStarted, IsWalked, hour_period}
+use Rattle.decommitment.specs.inside.Fills.{Fill, Hour, System, Target, IsFill, IsHourOf, IsMet, IsReady, IsStarted, IsWalked, hour_period}
 use Rattle.decommitment.proofs.LevelFills.{level_fill}
 
 pub sized_totals : (period : Period) (totals : Totals) → AreTotalsOf period totals → AreSizedTotals totals

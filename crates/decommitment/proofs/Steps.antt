@@ -5,10 +5,9 @@ use Rattle.std.specs.Int.{int_min}
 use Rattle.std.proofs.lemmas.Int.{ints}
 use Rattle.uc_model.proofs.CostBound.{within_of_abs}
 use Rattle.uc_model.proofs.Ring.{linear, le_trans}
-use Rattle.uc_model.proofs.Tests.{int_min_right}
 use Rattle.dispatch_repair.specs.Amounts.{MAX_POWER, IsRangeOf, IsSizedEnd, amount_at}
-use Rattle.dispatch_repair.specs.Period.{Period, low_of, high_of}
-use Rattle.dispatch_repair.specs.Segments.{segment_at, source_at, source_count}
+use Rattle.dispatch_repair.specs.Period.{Period}
+use Rattle.dispatch_repair.specs.Segments.{segment_at, source_count}
 use Rattle.dispatch_repair.specs.declared.segment.Segment.{Segment}
 use Rattle.decommitment.specs.inside.Fills.{Fill, AreGiven, IsSizedAmount, IsStanding, IsWalked}
 use Rattle.decommitment.specs.inside.Levels.{Range, Step, AreAtLevel, IsAtLevel, IsLeastAt, IsRisen, IsSunk}

@@ -1,5 +1,5 @@
 -- A renewable unit more gives its least.
-use Rattle.std.proofs.Common.{◌+◌, ◌<◌, arith, length, subst}
+use Rattle.std.proofs.Common.{◌<◌, arith, length, subst}
 use Rattle.uc_model.specs.Schedule.{renewable_count}
 use Rattle.decommitment.specs.inside.Fills.{IsBegunTo, hour_period}
 use Rattle.decommitment.proofs.Begun.{begun_more}

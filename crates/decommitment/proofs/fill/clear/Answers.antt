@@ -1,5 +1,5 @@
 -- Amounts of 0 add up to nothing.
-use Rattle.std.proofs.Common.{◌≡◌, ◌<◌, ◌∙◌, arith, length, refl, sym, subst, ap}
+use Rattle.std.proofs.Common.{◌≡◌, ◌∙◌, arith, length, refl, sym, subst, ap}
 use Rattle.std.proofs.lemmas.List.{with_items_is}
 use Rattle.decommitment.specs.inside.Fills.{AreGiven}
 use Rattle.decommitment.proofs.Begun.{cleared}

@@ -1,5 +1,4 @@
 -- Where demand is met within the limit the period is filled.
-use Rattle.std.proofs.Common.{◌≡◌, ◌∙◌, sym}
 use Rattle.decommitment.proofs.Settled.{filled}
 use Rattle.decommitment.proofs.fill.meet.Goals as goal
 

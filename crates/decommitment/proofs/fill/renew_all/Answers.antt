@@ -1,5 +1,5 @@
 -- A unit more enters, in the place of the base's.
-use Rattle.std.proofs.Common.{◌≡◌, ◌+◌, length, arith, ap, subst}
+use Rattle.std.proofs.Common.{◌≡◌, length, arith, ap, subst}
 use Rattle.uc_model.specs.Schedule.{thermal_count}
 use Rattle.decommitment.specs.inside.Fills.{AreEntered, base_parts, hour_period}
 use Rattle.decommitment.proofs.Entries.{ready_again}

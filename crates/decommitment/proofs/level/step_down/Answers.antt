@@ -1,8 +1,7 @@
 -- The source of the segment at the level, or of the last one, falls.
-use Rattle.std.proofs.Common.{◌≡◌, ◌∙◌, ◌-◌, ◌*◌, ◌<◌, arith, sym, ap, subst, length, suc, min, pos, ◌≤ℤ◌, w64, to_z, of_z, if◌then◌else◌}
+use Rattle.std.proofs.Common.{◌≡◌, ◌∙◌, ◌-◌, ◌<◌, arith, sym, ap, subst, length, pos, ◌≤ℤ◌, w64, if◌then◌else◌}
 use Rattle.std.proofs.lemmas.Int.{to_z-of_z}
 use Rattle.uc_model.proofs.Ring.{le_trans}
-use Rattle.dispatch_repair.specs.Amounts.{amount_at}
 use Rattle.dispatch_repair.specs.Segments.{no_segment, segment_at, source_count}
 use Rattle.dispatch_repair.proofs.Merit.{good_at}
 use Rattle.decommitment.specs.inside.Fills.{IsWalked, IsSizedAmount, hour_period}

@@ -1,10 +1,9 @@
 -- The source of the segment at the level rises.
-use Rattle.std.proofs.Common.{◌≡◌, ◌∙◌, ◌<◌, ◌*◌, arith, sym, ap, subst, length, suc, pos, ◌≤ℤ◌, w64, to_z, of_z, if◌then◌else◌}
-use Rattle.std.specs.Int.{int_min}
+use Rattle.std.proofs.Common.{◌≡◌, ◌∙◌, ◌<◌, ◌*◌, sym, ap, subst, length, suc, pos, ◌≤ℤ◌, w64, if◌then◌else◌}
 use Rattle.std.proofs.lemmas.Int.{to_z-of_z}
 use Rattle.uc_model.proofs.Ring.{le_trans}
 use Rattle.uc_model.proofs.Tests.{int_min_right}
-use Rattle.dispatch_repair.specs.Amounts.{MAX_POWER, amount_at}
+use Rattle.dispatch_repair.specs.Amounts.{MAX_POWER}
 use Rattle.dispatch_repair.specs.Segments.{no_segment, segment_at, source_count}
 use Rattle.decommitment.specs.inside.Fills.{IsWalked, IsSizedAmount, hour_period}
 use Rattle.decommitment.specs.inside.Levels.{AreAtLevel, IsRisen}

@@ -1,5 +1,5 @@
 -- A place more, by what its segment says.
-use Rattle.std.proofs.Common.{◌≡◌, ◌+◌, ◌∙◌, ap, arith, refl, subst, nat_lt, if◌then◌else◌}
+use Rattle.std.proofs.Common.{◌∙◌, ap, arith, refl, subst, nat_lt, if◌then◌else◌}
 use Rattle.std.specs.Int.{int_max, int_min}
 use Rattle.dispatch_repair.specs.Segments.{segment_at}
 use Rattle.decommitment.specs.inside.Levels.{IsLeastOf, place_at}
