@@ -1,1 +1,11 @@
 pub mod Drops
+pub mod Levels
+pub mod Givens
+pub mod Places
+pub mod Least
+pub mod Entries
+pub mod LevelFills
+pub mod Steps
+pub mod Settled
+pub mod Parts
+pub mod Begun

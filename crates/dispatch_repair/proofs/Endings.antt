@@ -17,11 +17,11 @@ use Rattle.dispatch_repair.specs.Dispatch.{IsFilled, period_after}
 use Rattle.dispatch_repair.specs.Rooms.{AreCommitted, IsObstacleOf}
 use Rattle.dispatch_repair.specs.Segments.{Segment, AreInMeritOrder, source_count}
 use Rattle.dispatch_repair.specs.Stuck.{Stuck, Why, IsDispatchOf, IsFirstObstacle, IsFree, IsRegular, IsStuckOf}
-use Rattle.dispatch_repair.specs.inside.Amounts.{IsSizedOutput, amount_at, thermal_amount}
-use Rattle.dispatch_repair.specs.inside.Filled.{Shortage, AreShortages, IsDispatchedFrom, served_by}
-use Rattle.dispatch_repair.specs.inside.Filling.{Left, IsFillable, IsFirstLeft, IsLeft}
-use Rattle.dispatch_repair.specs.inside.Progress.{AreBefore}
-use Rattle.dispatch_repair.specs.inside.Totals.{MAX_POWER, MAX_UNITS}
+use Rattle.dispatch_repair.specs.Amounts.{IsSizedOutput, amount_at, thermal_amount}
+use Rattle.dispatch_repair.specs.Filled.{Shortage, AreShortages, IsDispatchedFrom, served_by}
+use Rattle.dispatch_repair.specs.Filling.{Left, IsFillable, IsFirstLeft, IsLeft}
+use Rattle.dispatch_repair.specs.Progress.{AreBefore}
+use Rattle.dispatch_repair.specs.Totals.{MAX_POWER, MAX_UNITS}
 use Rattle.dispatch_repair.proofs.Committing.{idle, idle_committed}
 use Rattle.dispatch_repair.proofs.Filled.{max_right}
 use Rattle.dispatch_repair.proofs.Listed.{list_of, listed, listed_length}

@@ -9,8 +9,8 @@ use Rattle.uc_model.proofs.Ring.{linear, le_or_lt, le_antisymm}
 use Rattle.uc_model.proofs.Sums.{sum_below-same, sum_below-add, sum_below-single}
 use Rattle.cost_curves.proofs.Lines.{flatter_trans}
 use Rattle.dispatch_repair.specs.MeritOrder.{Instance, Slope, HasNextSlope}
-use Rattle.dispatch_repair.specs.inside.Amounts.{Range, range_at, amount_at, thermal_amount}
-use Rattle.dispatch_repair.specs.inside.Filling.{Left, IsLeft, IsOpen, IsFull, IsSpent, IsRaise, CostsUpTo, IsWorth, IsTaken, AddsUp, IsFilledTo}
+use Rattle.dispatch_repair.specs.Amounts.{Range, range_at, amount_at, thermal_amount}
+use Rattle.dispatch_repair.specs.Filling.{Left, IsLeft, IsOpen, IsFull, IsSpent, IsRaise, CostsUpTo, IsWorth, IsTaken, AddsUp, IsFilledTo}
 use Rattle.dispatch_repair.specs.Segments.{Segment, comes_before, IsAtMost, source_at, source_count, segment_at, no_segment, IsSegmentOf, AreInMeritOrder}
 use Rattle.dispatch_repair.proofs.MeritSegments.{up_to-from}
 
@@ -37,7 +37,7 @@ costs_trans a b c n m k ha hb hc first second = record {
         (record { products = h }) (record { products = g })).products
 
 -- a segment before another costs up to it
-sorted_costs : (first second : Segment) → pos 0 <ℤ first.slope.run → pos 0 <ℤ second.slope.run → comes_before second first ≡ false
+pub sorted_costs : (first second : Segment) → pos 0 <ℤ first.slope.run → pos 0 <ℤ second.slope.run → comes_before second first ≡ false
     → CostsUpTo first.slope first.source second.slope second.source
 sorted_costs first second hf hs h =
     let up = up_to-from first second h in

@@ -13,8 +13,8 @@ use Rattle.uc_model.proofs.Tests.{int_min_left, int_min_right}
 use Rattle.dispatch_repair.specs.Period.{Instance, Period, Source, FromRenewable, FromThermal, IsSourceOf, low_of, high_of, head_of, heads, minimums, thermal_sum, renewable_sum, demand_of, thermal_limit, is_off_next}
 use Rattle.dispatch_repair.specs.MeritOrder.{Slope, HasNextSlope, HasLastSlope, ComesBefore, IsPreferred, CanMove, IsInMeritOrder, thermal_part}
 use Rattle.dispatch_repair.specs.Stuck.{HaveRanges}
-use Rattle.dispatch_repair.specs.inside.Amounts.{Range, range_at, amount_at, amount_of, thermal_amount, AreRangesOf, IsSizedOutput}
-use Rattle.dispatch_repair.specs.inside.Filling.{Left, IsOpen, IsFull, CostsUpTo, IsWorth, IsTaken, IsFilledTo, IsFirstLeft, IsFillable}
+use Rattle.dispatch_repair.specs.Amounts.{Range, range_at, amount_at, amount_of, thermal_amount, AreRangesOf, IsSizedOutput}
+use Rattle.dispatch_repair.specs.Filling.{Left, IsOpen, IsFull, CostsUpTo, IsWorth, IsTaken, IsFilledTo, IsFirstLeft, IsFillable}
 use Rattle.dispatch_repair.specs.Segments.{Segment, IsNextOn, source_at, source_count, segment_at, no_segment, width_at, AreInMeritOrder}
 use Rattle.dispatch_repair.proofs.CurveSegments.{renewable_at, thermal_at}
 use Rattle.dispatch_repair.proofs.NextSlopes.{next_run}
@@ -64,7 +64,7 @@ good_thermal period g ranges hg = record {
   known = high-le-width period g;
 }
 
-good_at : (period : Period) (n : ℕ) → IsLawfulInstance period.instance → period.t < period.instance.periods → HaveRanges period (thermal_count period.instance)
+pub good_at : (period : Period) (n : ℕ) → IsLawfulInstance period.instance → period.t < period.instance.periods → HaveRanges period (thermal_count period.instance)
     → n < source_count period.instance → IsGood period (source_at period.instance n)
 good_at period n lawful ht ranges hn = by (place period.instance n hn)
   where
@@ -86,12 +86,12 @@ open_ranges period ranges lawful ht have are n hn =
     }
 
 -- ---- sums over ranges
-thermal_lows : (period : Period) (ranges : List Range) → AreRangesOf period ranges
+pub thermal_lows : (period : Period) (ranges : List Range) → AreRangesOf period ranges
     → sum_below (thermal_count period.instance) (λ g. (range_at ranges (renewable_count period.instance + g)).low) ≡ thermal_sum period (low_of period)
 thermal_lows period ranges are = sum_below-same (thermal_count period.instance) _ _ (λ g hg.
     (are (renewable_count period.instance + g) (omega arith)).low ∙ ap (low_of period) (thermal_at period.instance g))
 
-renewable_lows : (period : Period) (ranges : List Range) → AreRangesOf period ranges
+pub renewable_lows : (period : Period) (ranges : List Range) → AreRangesOf period ranges
     → sum_below (renewable_count period.instance) (λ w. (range_at ranges w).low) ≡ renewable_sum period (low_of period)
 renewable_lows period ranges are = sum_below-same (renewable_count period.instance) _ _ (λ w hw.
     (are w (omega arith)).low ∙ ap (low_of period) (renewable_at period.instance w hw))

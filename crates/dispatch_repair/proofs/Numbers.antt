@@ -7,7 +7,7 @@ use Rattle.std.proofs.lemmas.Bool.{and_parts, eqb-true}
 use Rattle.uc_model.proofs.Ring.{linear}
 use Rattle.uc_model.proofs.Sizes.{narrow}
 use Rattle.uc_model.proofs.Tests.{int_lt-true}
-use Rattle.dispatch_repair.specs.inside.Totals.{IsSizedTotal}
+use Rattle.dispatch_repair.specs.Totals.{IsSizedTotal}
 
 pub at_most : (a b : ℤ) → int_lt a b ≡ false → b ≤ℤ a
 at_most a b h = grind (arith, ints)

@@ -20,9 +20,9 @@ use Rattle.dispatch_repair.specs.Shortage.{served, shed_of, short_of}
 use Rattle.dispatch_repair.specs.Dispatch.{Cell, HasPeriods, IsCommittedCell, amounts, period_after, IsFilling, IsFilled, IsDispatchThrough}
 use Rattle.dispatch_repair.specs.Stuck.{Stuck, Why, IsRegular, IsFirstBrokenRule, IsStuckInPeriod, IsFirstObstacle, stuck_period, IsStuckBy, IsStuckOf}
 use Rattle.dispatch_repair.specs.Rooms.{Obstacle, Room, IsObstacleOf, IsRoomOf, IsStuckAfter, AreCommitted, AreSameBelow}
-use Rattle.dispatch_repair.specs.inside.Amounts.{amount_at, amount_of, thermal_amount, IsSizedOutput}
-use Rattle.dispatch_repair.specs.inside.Filled.{Shortage, IsDispatchedFrom}
-use Rattle.dispatch_repair.specs.inside.Progress.{AreBefore, AreFilledBelow}
+use Rattle.dispatch_repair.specs.Amounts.{amount_at, amount_of, thermal_amount, IsSizedOutput}
+use Rattle.dispatch_repair.specs.Filled.{Shortage, IsDispatchedFrom}
+use Rattle.dispatch_repair.specs.Progress.{AreBefore, AreFilledBelow}
 use Rattle.dispatch_repair.specs.inside.Rows.{AreSameBut, IsLacking, IsWritten}
 use Rattle.dispatch_repair.specs.Segments.{source_count}
 use Rattle.dispatch_repair.proofs.Impossible.{impossible}

@@ -5,8 +5,8 @@ use Rattle.std.proofs.lemmas.Bool.{cases_lt}
 use Rattle.uc_model.specs.Schedule.{renewable_count}
 use Rattle.uc_model.proofs.Ring.{linear, le_or_lt}
 use Rattle.dispatch_repair.specs.MeritOrder.{Instance}
-use Rattle.dispatch_repair.specs.inside.Amounts.{Range, amount_at, range_at}
-use Rattle.dispatch_repair.specs.inside.Filling.{Left, IsLeft, IsOpen, IsRaise, IsFilledTo, end_of}
+use Rattle.dispatch_repair.specs.Amounts.{Range, amount_at, range_at}
+use Rattle.dispatch_repair.specs.Filling.{Left, IsLeft, IsOpen, IsRaise, IsFilledTo, end_of}
 use Rattle.dispatch_repair.specs.Segments.{Segment, AreInMeritOrder, no_segment, segment_at, source_count}
 use Rattle.dispatch_repair.proofs.Filling.{filled_none, step}
 use Rattle.dispatch_repair.proofs.Listed.{list_of, listed, listed_length}

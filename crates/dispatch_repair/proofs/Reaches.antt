@@ -9,7 +9,7 @@ use Rattle.uc_model.specs.Schedule.{thermal_unit, thermal_count, renewable_count
 use Rattle.uc_model.specs.Sums.{bit}
 use Rattle.uc_model.proofs.Ring.{linear, mul-one, mul-zero}
 use Rattle.dispatch_repair.specs.Period.{Thermal, Period, low_of, high_of, head_of, head, lowest, highest, is_off_next}
-use Rattle.dispatch_repair.specs.inside.Amounts.{MAX_POWER, Range, AreHeadsOf, AreRangesOf, IsRangeOf, IsSizedEnd, IsSizedOutput, range_at}
+use Rattle.dispatch_repair.specs.Amounts.{MAX_POWER, Range, AreHeadsOf, AreRangesOf, IsRangeOf, IsSizedEnd, IsSizedOutput, range_at}
 use Rattle.dispatch_repair.specs.Segments.{source_at, source_count}
 use Rattle.dispatch_repair.proofs.CurveSegments.{renewable_at, thermal_at}
 use Rattle.dispatch_repair.proofs.Listed.{list_of, listed}

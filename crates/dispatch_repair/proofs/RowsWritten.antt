@@ -10,7 +10,7 @@ use Rattle.uc_model.specs.declared.limits.TheConstants.{MAX_POWER, MAX_UNITS}
 use Rattle.uc_model.proofs.Ring.{linear}
 use Rattle.uc_model.proofs.CostBound.{within_of_abs, abs_of_within}
 use Rattle.uc_model.proofs.Sums.{sum_below-same}
-use Rattle.dispatch_repair.specs.inside.Amounts.{IsSizedOutput, IsSizedEnd, amount_at}
+use Rattle.dispatch_repair.specs.Amounts.{IsSizedOutput, IsSizedEnd, amount_at}
 use Rattle.dispatch_repair.specs.inside.Rows.{Cell, AreCellsWritten, HasPower, IsLeft, cell_of, reserve_of, row_at, with_power}
 
 -- ---- numbers that fit

@@ -17,10 +17,10 @@ use Rattle.dispatch_repair.specs.Shortage.{reserve_room, served, unmet, lacking,
 use Rattle.dispatch_repair.specs.MeritOrder.{IsInMeritOrder}
 use Rattle.dispatch_repair.specs.Dispatch.{period_after, IsFilled}
 use Rattle.dispatch_repair.specs.Stuck.{HaveRanges, IsFree}
-use Rattle.dispatch_repair.specs.inside.Amounts.{Range, AreRangesOf}
-use Rattle.dispatch_repair.specs.inside.Filled.{Shortage, AreShortages, served_by}
-use Rattle.dispatch_repair.specs.inside.Filling.{IsFillable}
-use Rattle.dispatch_repair.specs.inside.Totals.{Totals, AreTotalsOf}
+use Rattle.dispatch_repair.specs.Amounts.{Range, AreRangesOf}
+use Rattle.dispatch_repair.specs.Filled.{Shortage, AreShortages, served_by}
+use Rattle.dispatch_repair.specs.Filling.{IsFillable}
+use Rattle.dispatch_repair.specs.Totals.{Totals, AreTotalsOf}
 use Rattle.dispatch_repair.proofs.Filled.{filled_period, max_left, max_right}
 use Rattle.dispatch_repair.proofs.Merit.{high-le-head, good_renewable}
 

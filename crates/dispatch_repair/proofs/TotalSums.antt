@@ -7,9 +7,9 @@ use Rattle.uc_model.specs.Sums.{sum_below}
 use Rattle.uc_model.proofs.Sizes.{narrow}
 use Rattle.uc_model.proofs.Sums.{sum_below-same}
 use Rattle.dispatch_repair.specs.Period.{Period, Source, FromRenewable, FromThermal, head_of, heads, renewable_sum, thermal_sum}
-use Rattle.dispatch_repair.specs.inside.Amounts.{Range, AreHeadsOf, AreRangesOf, amount_at, range_at}
+use Rattle.dispatch_repair.specs.Amounts.{Range, AreHeadsOf, AreRangesOf, amount_at, range_at}
 use Rattle.dispatch_repair.specs.Segments.{source_count}
-use Rattle.dispatch_repair.specs.inside.Totals.{IsSizedSum, IsSum}
+use Rattle.dispatch_repair.specs.Totals.{IsSizedSum, IsSum}
 use Rattle.dispatch_repair.proofs.Places.{HasEnds, renewable_ends, thermal_ends}
 
 abbrev no_range : Range

@@ -9,8 +9,8 @@ use Rattle.uc_model.specs.Sums.{sum_below}
 use Rattle.schedule_check.specs.SizedNumbers.{output_at}
 use Rattle.dispatch_repair.specs.Period.{Instance, Printed}
 use Rattle.dispatch_repair.specs.Dispatch.{HasPeriods}
-use Rattle.dispatch_repair.specs.inside.Amounts.{amount_at, thermal_amount}
-use Rattle.dispatch_repair.specs.inside.Filled.{Shortage}
+use Rattle.dispatch_repair.specs.Amounts.{amount_at, thermal_amount}
+use Rattle.dispatch_repair.specs.Filled.{Shortage}
 use Rattle.dispatch_repair.specs.inside.Rows.{Cell, IsWritten, cell_of, reserve_of, row_at, with_power}
 use Rattle.dispatch_repair.proofs.Listed.{list_of, listed, listed_length}
 

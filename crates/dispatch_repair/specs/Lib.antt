@@ -4,6 +4,11 @@ pub mod MeritOrder
 pub mod Dispatch
 pub mod Stuck
 pub mod Segments
+pub mod Amounts
+pub mod Totals
+pub mod Filled
+pub mod Filling
 pub mod Rooms
+pub mod Progress
 pub mod inside
 pub mod MostOn

@@ -2,17 +2,17 @@
 
 ghost use Rattle.std.specs.Prelude.{◌≡◌, ℕ, ◌+◌, ◌*◌, ◌<◌, ◌≤◌, ◌⊎◌, pos, ◌+ℤ◌, ◌-ℤ◌, ◌≤ℤ◌, ◌<ℤ◌, nat_lt, length, unsigned_abs, if◌then◌else◌};
 ghost use Rattle.std.specs.Int.{int_min};
-ghost use Rattle.dispatch_repair.specs.inside.Amounts.{IsSizedEnd, amount_at, range_at};
-ghost use Rattle.dispatch_repair.specs.inside.Filling.{MAX_UNITS, IsFilledTo, IsLeft, IsOpen, IsRaise, end_of as end_within};
+ghost use Rattle.dispatch_repair.specs.Amounts.{IsSizedEnd, amount_at, range_at};
+ghost use Rattle.dispatch_repair.specs.Filling.{MAX_UNITS, IsFilledTo, IsLeft, IsOpen, IsRaise, end_of as end_within};
 ghost use Rattle.dispatch_repair.specs.Segments.{MAX_POWER, AreInMeritOrder, source_count};
 
 use crate::range::Range;
 use crate::segment::Segment;
 use uc_model::Instance;
 
-/// What is left to give: to meet demand, and by the thermal units within their limit.
+/// What is left to give, in watts: to meet demand, and by the thermal units within their limit.
 #[derive(Clone, Copy)]
-pub(crate) struct Left {
+pub struct Left {
     pub need: i64,
     pub room: i64,
 }
@@ -67,8 +67,8 @@ fn raise(
     *left = rest(left, &more, is_free);
 }
 
-// Where a segment ends within its source's range.
-fn end(segment: &Segment, range: &Range) -> i64
+/// Where a segment ends within its source's range, in watts.
+pub fn end(segment: &Segment, range: &Range) -> i64
     ensures { result ≡ int_min segment.now.end range.now.high }
 {
     segment.end.min(range.high)
@@ -87,8 +87,8 @@ fn spare(left: &Left, is_free: bool) -> i64
     }
 }
 
-// By how much an amount rises towards an end, within what may be given.
-fn rise(amount: &i64, end: &i64, spare: &i64) -> i64
+/// By how much an amount rises towards an end, within what may be given, all in watts.
+pub fn rise(amount: &i64, end: &i64, spare: &i64) -> i64
     requires low { pos 0 ≤ℤ amount.now }
     requires amount { unsigned_abs amount.now ≤ 3 * MAX_POWER }
     requires end { end.now ≤ℤ pos (3 * MAX_POWER) }
@@ -106,8 +106,8 @@ fn rise(amount: &i64, end: &i64, spare: &i64) -> i64
     }
 }
 
-// An amount and what it rises by.
-fn raised(amount: &i64, more: &i64) -> i64
+/// An amount and what it rises by, in watts.
+pub fn raised(amount: &i64, more: &i64) -> i64
     requires { unsigned_abs (amount.now +ℤ more.now) ≤ 3 * MAX_POWER }
     ensures { result ≡ amount.now +ℤ more.now }
 {

@@ -3,24 +3,30 @@
 #![tactic(auto)]
 
 pub mod extreme_patterns;
-mod fill;
-mod merit_order;
+pub mod fill;
+pub mod merit_order;
 pub mod most_on_commitment;
-mod obstacle;
-mod period;
-mod range;
-mod ranges;
+pub mod obstacle;
+pub mod period;
+pub mod range;
+pub mod ranges;
 mod regularity;
 pub mod room;
 pub mod rows;
 pub mod schedule;
 mod segment;
 mod shortage;
-mod totals;
+pub mod totals;
 
 pub use extreme_patterns::{fewest_of, most_of};
+pub use fill::Left;
 pub use most_on_commitment::{MostFault, most_on};
+pub use obstacle::{Totals, imbalance};
+pub use period::{Start, set_initial, start_of};
+pub use range::{Range, Reach, unit_reach};
 pub use room::Room;
 pub use rows::{Rows, committed, cost, printed, recommit};
 pub use schedule::{DispatchFault, Obstacle, dispatch, dispatch_rows, stuck_at};
+pub use segment::Segment;
+pub use shortage::Shortage;
 pub use uc_model::Stuck;

@@ -13,7 +13,7 @@ use uc_model::limits::MAX_POWER;
 use uc_model::{Instance, NoMemory, Point};
 
 /// The segments of all sources, in order of merit. The only error is `NoMemory`.
-pub(crate) fn merit_order(alloc: Global, instance: &Instance) -> Result<Vec<Segment>, NoMemory>
+pub fn merit_order(alloc: Global, instance: &Instance) -> Result<Vec<Segment>, NoMemory>
     requires { IsLawfulInstance instance.now }
     ensures { IfOk result (λ order. AreInMeritOrder instance.now order.items) }
 {

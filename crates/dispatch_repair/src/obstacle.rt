@@ -7,9 +7,9 @@ ghost use Rattle.uc_model.specs.Schedule.{renewable_count, thermal_count};
 ghost use Rattle.dispatch_repair.specs.Period.{Period, demand_of, high_of, low_of, need_of, total_output};
 ghost use Rattle.dispatch_repair.specs.Shortage.{greatest_room as greatest_room_of, reserve_room as reserve_room_of};
 ghost use Rattle.dispatch_repair.specs.Stuck.{HaveRanges, IsFirstObstacle, IsFree};
-ghost use Rattle.dispatch_repair.specs.inside.Amounts.{AreRangesOf};
+ghost use Rattle.dispatch_repair.specs.Amounts.{AreRangesOf};
 ghost use Rattle.dispatch_repair.specs.Segments.{source_count};
-ghost use Rattle.dispatch_repair.specs.inside.Totals.{AreSizedTotals, AreTotalsOf, IsSizedTotal};
+ghost use Rattle.dispatch_repair.specs.Totals.{AreSizedTotals, AreTotalsOf, IsSizedTotal};
 
 use crate::range::Range;
 use uc_model::limits::{MAX_POWER, MAX_UNITS};
@@ -17,7 +17,7 @@ use uc_model::{Instance, Why};
 
 /// The sums over a period's sources, in watts.
 #[derive(Clone, Copy)]
-pub(crate) struct Totals {
+pub struct Totals {
     /// The minimums of the units that are on.
     pub minimums: i64,
     /// The thermal units' low ends, high ends and heads.
@@ -112,20 +112,15 @@ pub(crate) fn empty_range(ranges: &[Range], renewables: usize) -> Option<Why>
     None
 }
 
-// Whether there is no output inside a range.
-fn is_empty(range: &Range) -> bool
+/// Whether there is no output inside a range.
+pub fn is_empty(range: &Range) -> bool
     ensures { result ≡ int_lt range.now.high range.now.low }
 {
     range.high < range.low
 }
 
-/// The first obstacle on the whole system.
-pub(crate) fn imbalance(
-    instance: &Instance,
-    totals: &Totals,
-    demand: &i64,
-    need: &i64,
-) -> Option<Why>
+/// The first obstacle on the whole system in a period of this demand and need of reserve, in watts, where no range is empty.
+pub fn imbalance(instance: &Instance, totals: &Totals, demand: &i64, need: &i64) -> Option<Why>
     requires sizes { AreSizedTotals totals.now }
     requires demand { IsPower demand.now }
     requires need { IsPower need.now }

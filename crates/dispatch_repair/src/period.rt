@@ -9,11 +9,11 @@ ghost use Rattle.dispatch_repair.specs.Dispatch.{period_after};
 ghost use Rattle.dispatch_repair.specs.Period.{Period, demand_of, need_of};
 ghost use Rattle.dispatch_repair.specs.Stuck.{IsFirstObstacle};
 ghost use Rattle.dispatch_repair.specs.Rooms.{IsRoomOf};
-ghost use Rattle.dispatch_repair.specs.inside.Amounts.{AreBeforePeriod, AreHeadsOf, AreRangesOf, AreSizedHeads, AreSizedRanges, amount_at, next_period, range_at, thermal_amount};
-ghost use Rattle.dispatch_repair.specs.inside.Filled.{AreShortages, IsDispatchedFrom, served_by};
-ghost use Rattle.dispatch_repair.specs.inside.Filling.{MAX_UNITS, IsFilledTo, IsFirstLeft, IsLeft, IsOpen, IsStart};
+ghost use Rattle.dispatch_repair.specs.Amounts.{AreBeforePeriod, AreHeadsOf, AreRangesOf, AreSizedHeads, AreSizedRanges, amount_at, next_period, range_at, thermal_amount};
+ghost use Rattle.dispatch_repair.specs.Filled.{AreShortages, IsDispatchedFrom, served_by};
+ghost use Rattle.dispatch_repair.specs.Filling.{MAX_UNITS, IsFilledTo, IsFirstLeft, IsLeft, IsOpen, IsStart};
 ghost use Rattle.dispatch_repair.specs.Segments.{MAX_POWER, AreInMeritOrder, source_count};
-ghost use Rattle.dispatch_repair.specs.inside.Totals.{AreSizedTotals, AreTotalsOf, IsSizedLeft, IsSizedMissing, IsSizedPart, IsSizedSum, IsSizedTotal};
+ghost use Rattle.dispatch_repair.specs.Totals.{AreSizedTotals, AreTotalsOf, IsSizedLeft, IsSizedMissing, IsSizedPart, IsSizedSum, IsSizedTotal};
 
 use crate::fill::{Left, fill};
 use crate::obstacle::{Totals, empty_range, imbalance, least};
@@ -37,8 +37,8 @@ pub(crate) fn begin(room: &mut Room, instance: &Instance)
     set_initial(&mut room.amounts, instance);
 }
 
-// Writes what each thermal unit gives initially.
-fn set_initial(amounts: &mut [i64], instance: &Instance)
+/// Writes what each thermal unit gives initially, in watts above its minimum, behind the renewable units' amounts.
+pub fn set_initial(amounts: &mut [i64], instance: &Instance)
     requires lawful { IsLawfulInstance instance.now }
     requires amounts { length amounts.old ≡ source_count instance.now }
     ensures length { length amounts.new ≡ length amounts.old }
@@ -92,7 +92,7 @@ pub(crate) fn dispatch_period(
 
 /// What a period is filled from: what is missing, and what is left to give where each source gives its least.
 #[derive(Clone, Copy)]
-pub(crate) struct Start {
+pub struct Start {
     pub shortage: Shortage,
     pub left: Left,
 }
@@ -127,8 +127,8 @@ fn begin_period(
     }
 }
 
-// What is missing, and what is left to give of the rest.
-fn start_of(instance: &Instance, totals: &Totals, demand: &i64, need: &i64) -> Start
+/// What is missing of this demand and need of reserve, in watts, and what is left to give of the rest.
+pub fn start_of(instance: &Instance, totals: &Totals, demand: &i64, need: &i64) -> Start
     requires sizes { AreSizedTotals totals.now }
     requires demand { IsPower demand.now }
     requires need { IsPower need.now }

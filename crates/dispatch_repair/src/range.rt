@@ -6,7 +6,7 @@ ghost use Rattle.uc_model.specs.Commitment.{cap as cap_of, start_cap as start_ca
 ghost use Rattle.uc_model.specs.Limits.{IsLawfulThermal, IsLimit};
 ghost use Rattle.uc_model.specs.PatternBits.{commitment_of};
 ghost use Rattle.dispatch_repair.specs.Period.{head as head_after, highest, is_off_next as is_off_after, lowest};
-ghost use Rattle.dispatch_repair.specs.inside.Amounts.{IsSizedEnd, IsSizedOutput};
+ghost use Rattle.dispatch_repair.specs.Amounts.{IsSizedEnd, IsSizedOutput};
 
 use schedule_check::limits::{range, reduced, start_reduction, stop_reduction, width};
 use start_costs::{stops, was_on};
@@ -15,20 +15,20 @@ use uc_model::{Pattern, Thermal};
 
 /// The ends of a source's range, in watts, of a thermal unit above its minimum.
 #[derive(Clone, Copy)]
-pub(crate) struct Range {
+pub struct Range {
     pub low: i64,
     pub high: i64,
 }
 
 /// The most that a thermal unit's output and reserve may be, in watts, and where its output may lie.
 #[derive(Clone, Copy)]
-pub(crate) struct Reach {
+pub struct Reach {
     pub head: i64,
     pub range: Range,
 }
 
-/// Its head and its range in period t, from 0, after the output `before`.
-pub(crate) fn unit_reach(
+/// A thermal unit's head and range in period t, from 0, after the output `before`, in watts above its minimum.
+pub fn unit_reach(
     periods: usize,
     unit: &Thermal,
     pattern: &Pattern,

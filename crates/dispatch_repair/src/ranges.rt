@@ -7,7 +7,7 @@ ghost use Rattle.uc_model.specs.Schedule.{renewable_count, renewable_maximum, re
 ghost use Rattle.uc_model.specs.declared.pattern.Pattern.{Pattern as PatternValue};
 ghost use Rattle.dispatch_repair.specs.Dispatch.{period_after};
 ghost use Rattle.dispatch_repair.specs.Rooms.{IsRoomOf};
-ghost use Rattle.dispatch_repair.specs.inside.Amounts.{AreBeforePeriod, AreHeadsOf, AreRangesOf, IsHeadOf, IsRangeOf, IsSizedEnd, next_period, range_at};
+ghost use Rattle.dispatch_repair.specs.Amounts.{AreBeforePeriod, AreHeadsOf, AreRangesOf, IsHeadOf, IsRangeOf, IsSizedEnd, next_period, range_at};
 ghost use Rattle.dispatch_repair.specs.Segments.{source_count};
 
 use crate::range::{Range, Reach, unit_reach};
@@ -68,8 +68,8 @@ fn set_renewable(ranges: &mut [Range], instance: &Instance, t: usize)
     }
 }
 
-// The range of renewable unit w.
-fn renewable_range(instance: &Instance, t: usize, w: usize) -> Range
+/// The range of renewable unit w in period t, both from 0.
+pub fn renewable_range(instance: &Instance, t: usize, w: usize) -> Range
     requires lawful { IsLawfulInstance instance.now }
     requires period { t < instance.now.periods }
     requires unit { w < renewable_count instance.now }
@@ -125,8 +125,14 @@ fn set_thermal(
     }
 }
 
-// The head and the range of thermal unit g.
-fn reach_of(amounts: &[i64], instance: &Instance, patterns: &[Pattern], t: usize, g: usize) -> Reach
+/// The head and the range of thermal unit g in period t, both from 0, after these amounts of all sources.
+pub fn reach_of(
+    amounts: &[i64],
+    instance: &Instance,
+    patterns: &[Pattern],
+    t: usize,
+    g: usize,
+) -> Reach
     requires before { AreBeforePeriod instance.now patterns.now t amounts.now }
     requires unit { g < thermal_count instance.now }
     ensures head { IsHeadOf (next_period instance.now patterns.now t amounts.now) g result.head }

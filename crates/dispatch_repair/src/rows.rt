@@ -12,7 +12,7 @@ ghost use Rattle.schedule_check.specs.WholeWatts.{HasPrice};
 ghost use Rattle.start_costs.specs.Cheapest.{IsCheapestAbove};
 ghost use Rattle.dispatch_repair.specs.Dispatch.{Instance, Pattern, HasPeriods};
 ghost use Rattle.dispatch_repair.specs.Rooms.{ArePowerless, AreRowsBut, AreRowsOf, AreSameBelow, AreSameRowsBut, IsPowerless, IsRoomOf, printed_of, rows_of};
-ghost use Rattle.dispatch_repair.specs.inside.Amounts.{IsSizedEnd, IsSizedOutput, amount_at, thermal_amount};
+ghost use Rattle.dispatch_repair.specs.Amounts.{IsSizedEnd, IsSizedOutput, amount_at, thermal_amount};
 ghost use Rattle.dispatch_repair.specs.inside.Rows.{AreCellsWritten, AreCommittedRows, AreOutputsWritten, IsCommittedRow, IsLeft, IsPowered, IsWritten, cell_of, reserve_of, row_at, with_power, IsNewCell};
 
 use crate::room::Room;

@@ -10,7 +10,7 @@ use uc_model::scaled;
 
 /// A part of a source's output that has one slope.
 #[derive(Clone, Copy)]
-pub(crate) struct Segment {
+pub struct Segment {
     /// The place of the source: renewable units come first, then thermal ones, each kind in the order of the file.
     pub source: usize,
     /// Where the part ends: an output in watts, of a thermal unit above its minimum.

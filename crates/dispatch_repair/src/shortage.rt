@@ -5,8 +5,8 @@ ghost use Rattle.std.specs.Int.{int_max};
 ghost use Rattle.uc_model.specs.Limits.{IsPower};
 ghost use Rattle.dispatch_repair.specs.Period.{Period, demand_of, need_of};
 ghost use Rattle.dispatch_repair.specs.Shortage.{reserve_room as reserve_room_of, unmet as unmet_of};
-ghost use Rattle.dispatch_repair.specs.inside.Totals.{AreSizedTotals, AreTotalsOf, IsSizedMissing, IsSizedTotal, IsSizedUnmet};
-ghost use Rattle.dispatch_repair.specs.inside.Filled.{AreShortages};
+ghost use Rattle.dispatch_repair.specs.Totals.{AreSizedTotals, AreTotalsOf, IsSizedMissing, IsSizedTotal, IsSizedUnmet};
+ghost use Rattle.dispatch_repair.specs.Filled.{AreShortages};
 
 use crate::obstacle::{Totals, most, reserve_room};
 use uc_model::Instance;
@@ -14,7 +14,7 @@ use uc_model::limits::{MAX_POWER, MAX_UNITS};
 
 /// What is missing in a period, in watts: the demand that stays unserved, and the reserve that isn't kept.
 #[derive(Clone, Copy)]
-pub(crate) struct Shortage {
+pub struct Shortage {
     pub shed: i64,
     pub short: i64,
 }

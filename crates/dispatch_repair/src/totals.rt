@@ -6,9 +6,9 @@ ghost use Rattle.uc_model.specs.Sums.{bit, sum_below};
 ghost use Rattle.uc_model.specs.Schedule.{thermal_count, thermal_unit};
 ghost use Rattle.dispatch_repair.specs.Dispatch.{period_after};
 ghost use Rattle.dispatch_repair.specs.Period.{commitment_at};
-ghost use Rattle.dispatch_repair.specs.inside.Amounts.{AreHeadsOf, AreRangesOf, AreSizedHeads, AreSizedRanges, IsSizedEnd, IsSizedRange, amount_at, range_at};
+ghost use Rattle.dispatch_repair.specs.Amounts.{AreHeadsOf, AreRangesOf, AreSizedHeads, AreSizedRanges, IsSizedEnd, IsSizedRange, amount_at, range_at};
 ghost use Rattle.dispatch_repair.specs.Segments.{source_count};
-ghost use Rattle.dispatch_repair.specs.inside.Totals.{AreSizedTotals, AreTotalsOf, IsSizedSum};
+ghost use Rattle.dispatch_repair.specs.Totals.{AreSizedTotals, AreTotalsOf, IsSizedSum};
 
 use crate::obstacle::Totals;
 use crate::range::Range;
@@ -64,8 +64,8 @@ fn sum_of_ranges(ranges: &[Range]) -> Range
     total
 }
 
-// The sums with those of a range more.
-fn with_range(total: &Range, range: &Range) -> Range
+/// The sums of ends of ranges, in watts, with those of a range more.
+pub fn with_range(total: &Range, range: &Range) -> Range
     requires low { IsSizedSum total.now.low }
     requires high { IsSizedSum total.now.high }
     requires range { IsSizedRange range.now }
@@ -129,8 +129,8 @@ fn unit_minimum(instance: &Instance, patterns: &[Pattern], t: usize, g: usize) -
     minimum(unit, patterns[g].is_on(t as u32))
 }
 
-// A unit's minimum where it is on, and else 0.
-fn minimum(unit: &Thermal, on: bool) -> i64
+/// A unit's minimum where it is on, in watts, and else 0.
+pub fn minimum(unit: &Thermal, on: bool) -> i64
     requires { IsLawfulThermal unit.now }
     ensures value { result ≡ unit.now.pmin *ℤ bit on }
     ensures size { IsSizedEnd result }

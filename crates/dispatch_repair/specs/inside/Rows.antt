@@ -7,8 +7,8 @@ use Rattle.uc_model.specs.PrintedSchedule.{cell_at, shed_at, short_at}
 pub use Rattle.uc_model.specs.declared.schedule.Cell.{Cell}
 use Rattle.schedule_check.specs.SizedNumbers.{output_at}
 use Rattle.dispatch_repair.specs.Dispatch.{Instance, Pattern, Printed, IsCommittedCell}
-use Rattle.dispatch_repair.specs.inside.Amounts.{MAX_POWER, amount_at, thermal_amount}
-use Rattle.dispatch_repair.specs.inside.Filled.{Shortage}
+use Rattle.dispatch_repair.specs.Amounts.{MAX_POWER, amount_at, thermal_amount}
+use Rattle.dispatch_repair.specs.Filled.{Shortage}
 
 -- a unit's row; past the last one a row of nothing
 abbrev pub row_at : {X : Type 0} → List (List X) → ℕ → List X

@@ -4,8 +4,8 @@ use Rattle.std.specs.Int.{int_min}
 use Rattle.std.proofs.lemmas.Int.{ints, to_z-of_z}
 use Rattle.std.proofs.lemmas.Bool.{cases_lt, lt-ltb, le-ltb, cond-true, cond-false}
 use Rattle.uc_model.proofs.Ring.{linear, le_or_lt}
-use Rattle.dispatch_repair.specs.inside.Amounts.{amount_at}
-use Rattle.dispatch_repair.specs.inside.Filling.{IsSpent, end_of}
+use Rattle.dispatch_repair.specs.Amounts.{amount_at}
+use Rattle.dispatch_repair.specs.Filling.{IsSpent, end_of}
 use Rattle.dispatch_repair.proofs.fill.raise.Goals as goal
 
 pub returns : goal.returns

@@ -5,7 +5,7 @@ use Rattle.uc_model.proofs.Ring.{linear}
 use Rattle.uc_model.proofs.Sizes.{narrow}
 use Rattle.uc_model.proofs.Tests.{int_lt-true}
 use Rattle.dispatch_repair.specs.Period.{Period, FromThermal}
-use Rattle.dispatch_repair.specs.inside.Amounts.{Range, AreRangesOf, range_at}
+use Rattle.dispatch_repair.specs.Amounts.{Range, AreRangesOf, range_at}
 use Rattle.dispatch_repair.specs.Segments.{source_count}
 use Rattle.dispatch_repair.proofs.Numbers.{at_most}
 use Rattle.dispatch_repair.proofs.Places.{HasEnds, thermal_ends}

@@ -4,7 +4,7 @@ use Rattle.uc_model.specs.Limits.{IsPower}
 use Rattle.uc_model.proofs.Ring.{linear}
 use Rattle.uc_model.proofs.Sizes.{narrow}
 use Rattle.dispatch_repair.specs.Period.{Instance}
-use Rattle.dispatch_repair.specs.inside.Totals.{MAX_POWER, MAX_UNITS, IsSizedTotal}
+use Rattle.dispatch_repair.specs.Totals.{MAX_POWER, MAX_UNITS, IsSizedTotal}
 use Rattle.dispatch_repair.proofs.Numbers.{beyond, kept, kept_at_most, not_beyond}
 use Rattle.dispatch_repair.proofs.obstacle.imbalance.Goals as goal
 

@@ -2,9 +2,9 @@
 use Rattle.std.proofs.Common.{ap, length, pos, refl, sym, subst, ◌∙◌, slice_index_or}
 use Rattle.dispatch_repair.specs.Dispatch.{period_after}
 use Rattle.dispatch_repair.specs.Shortage.{served}
-use Rattle.dispatch_repair.specs.inside.Amounts.{AreRangesOf, AreHeadsOf}
-use Rattle.dispatch_repair.specs.inside.Filled.{served_by}
-use Rattle.dispatch_repair.specs.inside.Filling.{IsFillable}
+use Rattle.dispatch_repair.specs.Amounts.{AreRangesOf, AreHeadsOf}
+use Rattle.dispatch_repair.specs.Filled.{served_by}
+use Rattle.dispatch_repair.specs.Filling.{IsFillable}
 use Rattle.dispatch_repair.proofs.Merit.{first_need, first_room}
 use Rattle.dispatch_repair.proofs.Shortages.{fillable}
 use Rattle.dispatch_repair.proofs.period.begin_period.Goals as goal

@@ -2,9 +2,9 @@
 use Rattle.std.proofs.Common.{arith, sym, subst}
 use Rattle.std.proofs.lemmas.List.{with_items_is}
 use Rattle.dispatch_repair.specs.Dispatch.{period_after}
-use Rattle.dispatch_repair.specs.inside.Amounts.{AreRangesOf, thermal_amount}
-use Rattle.dispatch_repair.specs.inside.Filled.{IsDispatchedFrom, served_by}
-use Rattle.dispatch_repair.specs.inside.Filling.{IsStart}
+use Rattle.dispatch_repair.specs.Amounts.{AreRangesOf, thermal_amount}
+use Rattle.dispatch_repair.specs.Filled.{IsDispatchedFrom, served_by}
+use Rattle.dispatch_repair.specs.Filling.{IsStart}
 use Rattle.dispatch_repair.specs.Segments.{AreInMeritOrder}
 use Rattle.dispatch_repair.proofs.Merit.{IsFilledUp, open_ranges, in_merit_order, width_size}
 use Rattle.dispatch_repair.proofs.Shortages.{ranges_served, kept_size}

@@ -2,7 +2,7 @@
 use Rattle.std.proofs.Common.{◌≡◌, ℕ, ◌<◌}
 use Rattle.uc_model.specs.Commitment.{initial_p}
 use Rattle.uc_model.specs.Schedule.{thermal_unit}
-use Rattle.dispatch_repair.specs.inside.Amounts.{thermal_amount}
+use Rattle.dispatch_repair.specs.Amounts.{thermal_amount}
 use Rattle.dispatch_repair.proofs.period.set_initial.Given as goal
 
 abbrev pub invariant-loop-g : goal.invariant-loop-g

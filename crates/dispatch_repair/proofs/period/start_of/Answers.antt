@@ -2,8 +2,8 @@
 use Rattle.std.proofs.Common.{◌*◌, arith}
 use Rattle.uc_model.proofs.Ring.{linear}
 use Rattle.uc_model.proofs.Sizes.{narrow}
-use Rattle.dispatch_repair.specs.inside.Filled.{served_by}
-use Rattle.dispatch_repair.specs.inside.Totals.{MAX_POWER, MAX_UNITS}
+use Rattle.dispatch_repair.specs.Filled.{served_by}
+use Rattle.dispatch_repair.specs.Totals.{MAX_POWER, MAX_UNITS}
 use Rattle.dispatch_repair.proofs.Shortages.{totals_served}
 use Rattle.dispatch_repair.proofs.period.start_of.Goals as goal
 

@@ -4,7 +4,7 @@ use Rattle.uc_model.specs.Limits.{IsLawfulThermal}
 use Rattle.uc_model.specs.Schedule.{renewable_count}
 use Rattle.dispatch_repair.specs.Period.{commitment_at, lowest, highest}
 use Rattle.dispatch_repair.specs.Dispatch.{period_after}
-use Rattle.dispatch_repair.specs.inside.Amounts.{amount_at, thermal_amount}
+use Rattle.dispatch_repair.specs.Amounts.{amount_at, thermal_amount}
 use Rattle.dispatch_repair.proofs.Places.{thermal_range, unit_read}
 use Rattle.dispatch_repair.proofs.ranges.reach_of.Goals as goal
 

@@ -2,7 +2,7 @@
 use Rattle.std.proofs.Common.{ℤ, List, subst, sym, arith}
 use Rattle.std.proofs.lemmas.List.{with_items_is}
 use Rattle.dispatch_repair.specs.Dispatch.{period_after}
-use Rattle.dispatch_repair.specs.inside.Amounts.{AreRangesOf, thermal_amount}
+use Rattle.dispatch_repair.specs.Amounts.{AreRangesOf, thermal_amount}
 use Rattle.dispatch_repair.proofs.ranges.set_ranges.Goals as goal
 
 pub returns-clause-ranges : goal.returns-clause-ranges

@@ -2,7 +2,7 @@
 use Rattle.std.proofs.Common.{◌≡◌, ◌<◌, arith, pos, length, subst, ap, ◌∙◌}
 use Rattle.uc_model.specs.Schedule.{renewable_count}
 use Rattle.dispatch_repair.specs.Dispatch.{period_after}
-use Rattle.dispatch_repair.specs.inside.Amounts.{IsRangeOf}
+use Rattle.dispatch_repair.specs.Amounts.{IsRangeOf}
 use Rattle.dispatch_repair.proofs.Places.{renewable_range}
 use Rattle.dispatch_repair.proofs.Written.{below_set}
 use Rattle.dispatch_repair.proofs.ranges.set_renewable.Goals as goal

@@ -4,7 +4,7 @@ use Rattle.std.proofs.Math.ListN.{set}
 use Rattle.uc_model.specs.Schedule.{renewable_count, thermal_count}
 use Rattle.uc_model.proofs.Sizes.{narrow}
 use Rattle.dispatch_repair.specs.Dispatch.{period_after}
-use Rattle.dispatch_repair.specs.inside.Amounts.{IsHeadOf, IsRangeOf, amount_at, thermal_amount, range_at}
+use Rattle.dispatch_repair.specs.Amounts.{IsHeadOf, IsRangeOf, amount_at, thermal_amount, range_at}
 use Rattle.dispatch_repair.proofs.Written.{below_set, below_set_after, set_after}
 use Rattle.dispatch_repair.proofs.ranges.set_thermal.Goals as goal
 

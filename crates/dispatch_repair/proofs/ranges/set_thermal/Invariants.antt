@@ -2,7 +2,7 @@
 use Rattle.std.proofs.Common.{◌≡◌, ℕ, ◌+◌, ◌<◌}
 use Rattle.uc_model.specs.Schedule.{renewable_count}
 use Rattle.dispatch_repair.specs.Dispatch.{period_after}
-use Rattle.dispatch_repair.specs.inside.Amounts.{IsHeadOf, IsRangeOf, amount_at, range_at, thermal_amount}
+use Rattle.dispatch_repair.specs.Amounts.{IsHeadOf, IsRangeOf, amount_at, range_at, thermal_amount}
 use Rattle.dispatch_repair.proofs.ranges.set_thermal.Given as goal
 
 abbrev pub invariant-loop-g : goal.invariant-loop-g

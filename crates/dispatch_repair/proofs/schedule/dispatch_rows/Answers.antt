@@ -1,8 +1,8 @@
 -- A period more is filled, or the dispatch is stuck in it.
 use Rattle.std.proofs.Common.{arith, sym, subst}
 use Rattle.dispatch_repair.specs.Rooms.{printed_of}
-use Rattle.dispatch_repair.specs.inside.Amounts.{IsSizedOutput}
-use Rattle.dispatch_repair.specs.inside.Progress.{AreFilledBelow}
+use Rattle.dispatch_repair.specs.Amounts.{IsSizedOutput}
+use Rattle.dispatch_repair.specs.Progress.{AreFilledBelow}
 use Rattle.dispatch_repair.proofs.Periods.{begun, initial_size, next_filled, obstacle_of, through}
 use Rattle.dispatch_repair.proofs.schedule.dispatch_rows.Goals as goal
 

@@ -8,10 +8,10 @@ use Rattle.dispatch_repair.specs.Period.{Instance, Period, demand_of, need_of, l
 use Rattle.dispatch_repair.specs.Shortage.{reserve_room}
 use Rattle.dispatch_repair.specs.MeritOrder.{Slope, HasNextSlope}
 use Rattle.dispatch_repair.specs.Stuck.{HaveRanges}
-use Rattle.dispatch_repair.specs.inside.Amounts.{Range, range_at, amount_at, thermal_amount, IsSizedEnd}
+use Rattle.dispatch_repair.specs.Amounts.{Range, range_at, amount_at, thermal_amount, IsSizedEnd}
 use Rattle.dispatch_repair.specs.Segments.{Segment, IsAtMost, source_at, source_count, width_at, segment_at}
-use Rattle.dispatch_repair.specs.inside.Filled.{AreShortages, served_by}
-use Rattle.dispatch_repair.specs.inside.Totals.{IsSizedLeft}
+use Rattle.dispatch_repair.specs.Filled.{AreShortages, served_by}
+use Rattle.dispatch_repair.specs.Totals.{IsSizedLeft}
 pub use Rattle.dispatch_repair.specs.declared.fill.Left.{Left}
 pub use Rattle.dispatch_repair.specs.declared.period.Start.{Start}
 

@@ -5,7 +5,7 @@ use Rattle.uc_model.specs.Schedule.{thermal_count}
 use Rattle.dispatch_repair.specs.Period.{Period}
 use Rattle.dispatch_repair.specs.Shortage.{served, shed_of, short_of}
 use Rattle.dispatch_repair.specs.MeritOrder.{IsInMeritOrder}
-use Rattle.dispatch_repair.specs.inside.Amounts.{amount_of, thermal_amount, AreHeadsOf, IsSizedOutput}
+use Rattle.dispatch_repair.specs.Amounts.{amount_of, thermal_amount, AreHeadsOf, IsSizedOutput}
 pub use Rattle.dispatch_repair.specs.declared.shortage.Shortage.{Shortage}
 
 -- what is missing in the period

@@ -4,7 +4,7 @@ use Rattle.uc_model.specs.Schedule.{thermal_count}
 use Rattle.dispatch_repair.specs.Period.{Instance, Pattern, Printed, output_before}
 use Rattle.dispatch_repair.specs.Dispatch.{IsFilled}
 use Rattle.dispatch_repair.specs.Rooms.{Room, IsRoomOf, AreCommitted}
-use Rattle.dispatch_repair.specs.inside.Amounts.{IsSizedOutput, thermal_amount}
+use Rattle.dispatch_repair.specs.Amounts.{IsSizedOutput, thermal_amount}
 
 -- the amounts of the thermal units are their outputs in the period before t
 pub record AreBefore (instance : Instance) (printed : Printed) (t : ℕ) (numbers : List ℤ) : Type 0 where

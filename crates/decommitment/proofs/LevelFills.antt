@@ -1,0 +1,174 @@
+-- A period whose amounts stand at a level and meet demand is filled in order of merit.
+-- Cite by `use Rattle.decommitment.proofs.LevelFills.{level_fill}`.
+use Rattle.std.proofs.Common.{◌≡◌, ℕ, suc, ◌+◌, ◌<◌, ◌≤◌, inl, inr, ⊎_elim, refl, sym, subst, ◌∙◌, arith, List, length, ℤ, pos, ◌+ℤ◌, ◌-ℤ◌, ◌≤ℤ◌}
+use Rattle.std.specs.Int.{int_min}
+use Rattle.std.proofs.lemmas.Int.{ints}
+use Rattle.std.proofs.lemmas.Bool.{cases_lt}
+use Rattle.uc_model.specs.Limits.{IsLawfulInstance}
+use Rattle.uc_model.specs.Sums.{sum_below}
+use Rattle.uc_model.specs.Schedule.{thermal_count, renewable_count}
+use Rattle.uc_model.proofs.Ring.{linear}
+use Rattle.uc_model.proofs.Sums.{sum_below-le, sum_below-split}
+use Rattle.dispatch_repair.specs.Amounts.{AreHeadsOf, AreRangesOf, IsSizedOutput, amount_at, range_at, thermal_amount}
+use Rattle.dispatch_repair.specs.Dispatch.{period_after}
+use Rattle.dispatch_repair.specs.Filled.{IsDispatchedFrom, served_by}
+use Rattle.dispatch_repair.specs.Filling.{AddsUp, CostsUpTo, IsFillable, IsFilledTo, IsFull, IsLeft, IsTaken}
+use Rattle.dispatch_repair.specs.MeritOrder.{Slope, HasNextSlope}
+use Rattle.dispatch_repair.specs.Period.{Instance, Pattern, Period}
+use Rattle.dispatch_repair.specs.Segments.{AreInMeritOrder, no_segment, segment_at, source_at, source_count}
+use Rattle.dispatch_repair.specs.Shortage.{served}
+use Rattle.dispatch_repair.specs.Totals.{IsSizedLeft}
+use Rattle.dispatch_repair.specs.declared.fill.Left.{Left}
+use Rattle.dispatch_repair.specs.declared.range.Range.{Range}
+use Rattle.dispatch_repair.specs.declared.segment.Segment.{Segment}
+use Rattle.dispatch_repair.proofs.Filling.{costs_trans, run_positive, sorted_costs}
+use Rattle.dispatch_repair.proofs.Merit.{IsFilledUp, in_merit_order, renewable_lows, thermal_lows, width_size}
+use Rattle.dispatch_repair.proofs.NextSlopes.{next_run}
+use Rattle.dispatch_repair.proofs.Reaches.{ranges_are, ranges_in}
+use Rattle.dispatch_repair.proofs.Shortages.{fillable, kept_size, ranges_served}
+use Rattle.decommitment.specs.inside.Fills.{Fill, IsReady, IsStarted}
+use Rattle.decommitment.specs.inside.Levels.{IsReached}
+
+module _ (instance : Instance) (patterns : List Pattern) (t : ℕ) (before : ℕ → ℤ) (order : List Segment) (fill : Fill) (left : Left)
+    (lawful : IsLawfulInstance instance) (within : t < instance.periods)
+    (sizes : (g : ℕ) → g < thermal_count instance → IsSizedOutput (before g)) (merit : AreInMeritOrder instance order)
+    (ready : IsReady (period_after instance patterns t before) order fill) (started : IsStarted (period_after instance patterns t before) fill.shortage left)
+    (all : fill.given.thermal +ℤ fill.given.renewable ≡ (left.need +ℤ fill.totals.thermal_low) +ℤ fill.totals.renewable_low)
+    (limit : fill.given.thermal ≤ℤ (left.room +ℤ fill.totals.thermal_low)) where
+  abbrev period : Period
+  period = period_after instance patterns t before
+
+  abbrev kept : Period
+  kept = served_by period fill.shortage
+
+  abbrev W : ℕ
+  W = renewable_count instance
+
+  abbrev G : ℕ
+  G = thermal_count instance
+
+  abbrev amounts : List ℤ
+  amounts = fill.amounts.items
+
+  abbrev ranges : List Range
+  ranges = ranges_in period
+
+  abbrev rest : Left
+  rest = record { need = pos 0; room = (left.room +ℤ fill.totals.thermal_low) -ℤ fill.given.thermal }
+
+  are : AreRangesOf period ranges
+  are = ranges_are period lawful within sizes
+
+  -- ---- sums
+  low_at : (n : ℕ) → n < source_count instance → (range_at ranges n).low ≤ℤ amount_at amounts n
+  low_at n h = subst (λ z. z ≤ℤ amount_at amounts n) (sym (are n h).low) (ready.standing.level n h).low_end
+
+  high_at : (n : ℕ) → n < source_count instance → amount_at amounts n ≤ℤ (range_at ranges n).high
+  high_at n h = subst (λ z. amount_at amounts n ≤ℤ z) (sym (are n h).high) (ready.standing.level n h).high_end
+
+  thermal_low : sum_below G (λ g. (range_at ranges (W + g)).low) ≡ fill.totals.thermal_low
+  thermal_low = thermal_lows period ranges are ∙ sym ready.totals.thermal_low.is
+
+  renewable_low : sum_below W (λ w. (range_at ranges w).low) ≡ fill.totals.renewable_low
+  renewable_low = renewable_lows period ranges are ∙ sym ready.totals.renewable_low.is
+
+  sums : AddsUp instance ranges left rest amounts
+  sums = record {
+    need = omega (
+      arith,
+      linear,
+      sum_below-split W G (amount_at amounts),
+      sum_below-split W G (λ n. (range_at ranges n).low),
+      ready.standing.given.thermal.is,
+      ready.standing.given.renewable.is,
+      thermal_low,
+      renewable_low,
+      all,
+    );
+    room = omega (arith, linear, ready.standing.given.thermal.is, thermal_low);
+  }
+
+  up : fill.totals.thermal_low ≤ℤ fill.given.thermal
+  up =
+      let each : sum_below G (λ g. (range_at ranges (W + g)).low) ≤ℤ sum_below G (thermal_amount instance amounts) =
+      sum_below-le G _ _ (λ g h. low_at (W + g) (omega (arith, h))) in
+      omega (arith, linear, each, thermal_low, ready.standing.given.thermal.is)
+
+  part_size : (whole part : ℤ) → IsSizedLeft whole → pos 0 ≤ℤ part → part ≤ℤ whole → IsSizedLeft part
+  part_size whole part size low high = grind (arith, ints, size, low, high)
+
+  sized : IsLeft rest
+  sized = record {
+    need = omega (arith, linear);
+    room = omega (arith, linear, limit);
+    need_size = omega arith;
+    room_size = part_size left.room rest.room started.room_size (omega (arith, linear, limit)) (omega (arith, linear, up));
+  }
+
+  -- ---- watts
+  -- a watt that was taken costs up to each segment from the level on
+  module _ (j : ℕ) (late : fill.level ≤ j) (inside : j < length order) (n : ℕ) (watt : ℤ) (taken : IsTaken instance ranges amounts n watt)
+      (slope : Slope) (next : HasNextSlope instance (source_at instance n) watt slope) where
+    from_reached : IsReached order n (suc fill.level) (amount_at amounts n) → CostsUpTo slope n (segment_at order j).slope (segment_at order j).source
+    from_reached it =
+        let own = merit.segments.each it.j no_segment it.below in
+        let its : CostsUpTo slope n (segment_at order it.j).slope (segment_at order it.j).source = record {
+          slope = own.below watt slope (omega (arith, linear, taken.high, it.end))
+              (subst (λ m. HasNextSlope instance (source_at instance m) watt slope) (sym it.source) next);
+          source = λ back. omega (arith, it.source);
+        } in
+        costs_trans slope (segment_at order it.j).slope (segment_at order j).slope n (segment_at order it.j).source (segment_at order j).source
+        (next_run instance n watt slope next) own.run (run_positive instance order j merit inside) its
+        (sorted_costs (segment_at order it.j) (segment_at order j) own.run (run_positive instance order j merit inside)
+        (merit.sorted it.j j (omega (arith, it.place, late)) inside))
+
+    costs : CostsUpTo slope n (segment_at order j).slope (segment_at order j).source
+    costs = ⊎_elim
+        (λ none. absurd (omega (arith, linear, none, taken.low, taken.high, (are n taken.source).low)))
+        from_reached
+        (ready.standing.level n taken.source).taken
+
+  full_before : (j : ℕ) → j < fill.level → j < length order → IsFull ranges amounts (segment_at order j)
+  full_before j early inside =
+      let s = (segment_at order j).source in
+      let h : s < source_count instance = (merit.segments.each j no_segment inside).source in
+      subst (λ z. int_min (segment_at order j).end z ≤ℤ amount_at amounts s) (sym (are s h).high) ((ready.standing.level s h).full j early inside refl)
+
+  filled : IsFilledTo instance order ranges left (length order) amounts rest
+  filled = record {
+    count = ready.standing.given.count;
+    low = low_at;
+    high = high_at;
+    sums = sums;
+    left = sized;
+    spent = λ j h. inr (inl refl);
+    merit = λ j h. ⊎_elim (λ (early : j < fill.level). inl (full_before j early h))
+        (λ (late : fill.level ≤ j). inr (λ n watt taken. inl (λ slope next. costs j late h n watt taken slope next)))
+        (cases_lt j fill.level);
+    ahead = λ j late h n watt taken slope next. absurd (omega (arith, late, h));
+  }
+
+  -- ---- the period
+  well : IsFillable kept
+  well = subst (λ z. z) (λ i. IsFillable (served period (sym started.shortages.shed i) (sym started.shortages.short i)))
+      (fillable period lawful within started.free.balance.ranges started.free)
+
+  whole : IsFilledUp kept order ranges left amounts rest
+  whole = record {
+    lawful = lawful;
+    within = within;
+    order = merit;
+    ranges = ranges_served period fill.shortage.shed fill.shortage.short ranges are;
+    free = well;
+    first = started.first;
+    filled = filled;
+  }
+
+  pub level_fill : (numbers : List ℤ) → AreHeadsOf period numbers → IsDispatchedFrom period fill.shortage amounts numbers
+  level_fill numbers tops = record {
+    shortages = started.shortages;
+    merit = in_merit_order kept order ranges left amounts rest whole;
+    heads = tops;
+    sizes = width_size kept order ranges left amounts rest whole;
+    kept = kept_size instance patterns t before fill.shortage lawful within started.shortages well;
+  }

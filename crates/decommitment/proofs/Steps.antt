@@ -1,0 +1,98 @@
+-- A step along the order leaves the amounts at a level, with their sums.
+-- Cite by `use Rattle.decommitment.proofs.Steps.{walked_up}`.
+use Rattle.std.proofs.Common.{◌≡◌, ℕ, suc, ◌-◌, ◌*◌, ◌<◌, ⊎_elim, refl, sym, subst, ◌∙◌, arith, List, length, ℤ, pos, ◌⊎◌, ◌+ℤ◌, ◌-ℤ◌, ◌≤ℤ◌, ◌<ℤ◌, IsTrue, slice_set, if◌then◌else◌}
+use Rattle.std.specs.Int.{int_min}
+use Rattle.std.proofs.lemmas.Int.{ints}
+use Rattle.uc_model.proofs.CostBound.{within_of_abs}
+use Rattle.uc_model.proofs.Ring.{linear, le_trans}
+use Rattle.dispatch_repair.specs.Amounts.{MAX_POWER, IsRangeOf, IsSizedEnd, amount_at}
+use Rattle.dispatch_repair.specs.Period.{Period}
+use Rattle.dispatch_repair.specs.Segments.{segment_at, source_count}
+use Rattle.dispatch_repair.specs.declared.segment.Segment.{Segment}
+use Rattle.decommitment.specs.inside.Fills.{Fill, AreGiven, IsSizedAmount, IsStanding, IsWalked}
+use Rattle.decommitment.specs.inside.Levels.{Range, Step, AreAtLevel, IsAtLevel, IsLeastAt, IsRisen, IsSunk}
+use Rattle.decommitment.proofs.Levels.{climbed, descended, risen_or, sunk_or}
+
+-- ---- sizes
+pub between : (z low high : ℤ) → pos 0 ≤ℤ low → low ≤ℤ z → z ≤ℤ high → high ≤ℤ pos (3 * MAX_POWER) → IsSizedAmount z
+between z low high bottom first last top = record { low = le_trans (pos 0) low z bottom first; size = grind (arith, ints, bottom, first, last, top) }
+
+pub at_most : (z : ℤ) → IsSizedEnd z → z ≤ℤ pos (3 * MAX_POWER)
+at_most z size = (within_of_abs z (3 * MAX_POWER) size).high
+
+pub risen_sized : (amount end : ℤ) (step : Step) → IsSizedAmount amount → end ≤ℤ pos (3 * MAX_POWER) → IsRisen amount end step → IsSizedAmount step.amount
+risen_sized amount end step sized top rose = ⊎_elim
+    (λ (same : step.amount ≡ amount). subst IsSizedAmount (sym same) sized)
+    (λ (most : step.amount ≤ℤ end). between step.amount amount end sized.low rose.up most top)
+    (risen_or amount end step rose)
+
+pub sunk_sized : (amount least : ℤ) (step : Step) → IsSizedAmount amount → pos 0 ≤ℤ least → IsSunk amount least step → IsSizedAmount step.amount
+sunk_sized amount least step sized bottom sank = ⊎_elim
+    (λ (same : step.amount ≡ amount). subst IsSizedAmount (sym same) sized)
+    (λ (over : least ≤ℤ step.amount). between step.amount least amount bottom over sank.down (at_most amount sized.size))
+    (sunk_or amount least step sank)
+
+-- ---- amounts
+-- an amount that rises by a part of what is missing, and one that falls by a part of what is given too much
+pub risen_by : (amount end missing more : ℤ) (step : Step) → step.amount ≡ amount +ℤ more → pos 0 ≤ℤ more → (pos 0 <ℤ more → (amount +ℤ more) ≤ℤ end)
+    → (end ≤ℤ (amount +ℤ more)) ⊎ (more ≡ missing) → (IsTrue step.goes_on → more <ℤ missing) → IsRisen amount end step
+risen_by amount end missing more step is up within done part = record {
+  up = omega (arith, linear, is, up);
+  within = λ higher. omega (arith, linear, is, within (omega (arith, linear, is, higher)));
+  done = λ on. ⊎_elim (λ full. omega (arith, linear, is, full)) (λ all. absurd (omega (arith, linear, all, part on))) done;
+}
+
+pub sunk_by : (amount least excess less : ℤ) (step : Step) → step.amount ≡ amount -ℤ less → pos 0 ≤ℤ less → (pos 0 <ℤ less → least ≤ℤ (amount -ℤ less))
+    → ((amount -ℤ less) ≤ℤ least) ⊎ (less ≡ excess) → (IsTrue step.goes_on → less <ℤ excess) → IsSunk amount least step
+sunk_by amount least excess less step is down within done part = record {
+  down = omega (arith, linear, is, down);
+  within = λ lower. omega (arith, linear, is, within (omega (arith, linear, is, lower)));
+  done = λ on. ⊎_elim (λ full. omega (arith, linear, is, full)) (λ all. absurd (omega (arith, linear, all, part on))) done;
+}
+
+-- ---- steps
+module _ (period : Period) (order : List Segment) (old set : Fill) (level : ℕ) (range : Range) (step : Step) where
+  abbrev s : ℕ
+  s = (segment_at order level).source
+
+  module _ (inside : s < source_count period.instance) (given : AreGiven period.instance old.amounts.items old.given)
+      (were : AreAtLevel period order level old.amounts.items) (is : IsRangeOf period s range)
+      (amounts : set.amounts.items ≡ slice_set old.amounts.items s step.amount)
+      (sums : AreGiven period.instance set.amounts.items set.given) (totals : set.totals ≡ old.totals) (shortage : set.shortage ≡ old.shortage) where
+    pub walked_up : level < length order → IsRisen (amount_at old.amounts.items s) (int_min (segment_at order level).end range.high) step
+        → IsWalked period order old (record set { level = if step.goes_on then suc level else level })
+    walked_up within rose = record {
+      standing = record {
+        given = sums;
+        level = subst (AreAtLevel period order (if step.goes_on then suc level else level)) (sym amounts)
+            (climbed period order level old.amounts.items step within given.count inside were
+            (subst (λ z. IsRisen (amount_at old.amounts.items s) (int_min (segment_at order level).end z) step) is.high rose));
+      };
+      totals = totals;
+      shortage = shortage;
+    }
+
+    pub walked_down : (least : ℤ) → IsLeastAt order s level range least → IsSunk (amount_at old.amounts.items s) least step
+        → IsWalked period order old (record set { level = if step.goes_on then level - 1 else level })
+    walked_down least bottom sank = record {
+      standing = record {
+        given = sums;
+        level = subst (AreAtLevel period order (if step.goes_on then level - 1 else level)) (sym amounts)
+            (descended period order level old.amounts.items least step given.count inside were
+            (subst (λ z. z) (λ i. IsAtLevel order s level level (is.low i) (is.high i) least) bottom) sank);
+      };
+      totals = totals;
+      shortage = shortage;
+    }
+
+-- ---- walks
+pub walked_none : (period : Period) (order : List Segment) (fill : Fill) → IsStanding period order fill → IsWalked period order fill fill
+walked_none period order fill standing = record { standing = standing; totals = refl; shortage = refl }
+
+pub walked_more : (period : Period) (order : List Segment) (before middle after : Fill) → IsWalked period order before middle
+    → IsWalked period order middle after → IsWalked period order before after
+walked_more period order before middle after first second = record {
+  standing = second.standing;
+  totals = second.totals ∙ first.totals;
+  shortage = second.shortage ∙ first.shortage;
+}

@@ -1,0 +1,72 @@
+-- The unit's range is empty, or it enters with its least amount at the level.
+use Rattle.std.proofs.Common.{◌≡◌, ◌+◌, ◌*◌, ◌∙◌, length, arith, sym, ap, subst, slice_set, ◌<ℤ◌}
+use Rattle.uc_model.specs.Schedule.{renewable_count}
+use Rattle.uc_model.proofs.Ring.{linear}
+use Rattle.uc_model.proofs.Sizes.{narrow}
+use Rattle.uc_model.proofs.Tests.{int_lt-true}
+use Rattle.dispatch_repair.specs.Amounts.{MAX_POWER, amount_at}
+use Rattle.dispatch_repair.specs.Period.{commitment_at}
+use Rattle.dispatch_repair.proofs.Numbers.{at_most}
+use Rattle.dispatch_repair.specs.Rooms.{rows_of}
+use Rattle.dispatch_repair.specs.Segments.{source_count}
+use Rattle.decommitment.specs.inside.Fills.{hour_period, part_at, unit_part}
+use Rattle.decommitment.specs.inside.Levels.{IsLeastAt}
+use Rattle.decommitment.proofs.Parts.{entered, high_is, least_sized, low_is}
+use Rattle.decommitment.proofs.Places.{places_of}
+use Rattle.decommitment.proofs.entry.enter.Goals as goal
+
+pub returns-then-is_empty-clause-entered : goal.returns-then-is_empty-clause-entered
+returns-then-is_empty-clause-entered c = λ have.
+    let instance = c.args.system.now.instance.now in
+    let period = hour_period c.args.system.now c.args.hour.now in
+    let part = c.unit_part-part.result in
+    let count : length c.as_slice.result.now ≡ renewable_count instance = ap length c.as_slice.ensures in
+    let is : part ≡ part_at period c.args.g =
+    c.unit_part-part.ensures.is
+    ∙ (λ i. unit_part instance c.args.g (commitment_at c.args.hour.now.patterns.now c.args.g) c.args.hour.now.t (amount_at c.args.hour.now.before.now (count i + c.args.g))) in
+    let sizes = c.unit_part-part.ensures.sizes in
+    let low = narrow part.reach.range.low (3 * MAX_POWER) sizes.low (omega arith) ∙ low_is period c.args.g part is sizes in
+    let high = narrow part.reach.range.high (3 * MAX_POWER) sizes.high (omega arith) ∙ high_is period c.args.g part is sizes in
+    let empty : part.reach.range.high <ℤ part.reach.range.low = int_lt-true part.reach.range.high part.reach.range.low (sym c.is_empty.ensures ∙ c.if-is_empty.true) in
+    record {
+      within = c.requires.unit;
+      low = low;
+      high = high;
+      empty = omega (arith, linear, low, high, low_is period c.args.g part is sizes, high_is period c.args.g part is sizes, empty);
+      earlier = have;
+    }
+
+pub open_at-rest-requires-clause-places : goal.open_at-rest-requires-clause-places
+open_at-rest-requires-clause-places c =
+    places_of c.args.system.now.merit.now.order.items (source_count c.args.system.now.instance.now) (length c.as_slice.result.now + c.args.g)
+    (rows_of c.args.system.now.merit.now.own.items) c.requires.hour.merit.own
+
+pub set_amount-requires-clause-amount : goal.set_amount-requires-clause-amount
+set_amount-requires-clause-amount c =
+    let instance = c.args.system.now.instance.now in
+    let period = hour_period c.args.system.now c.args.hour.now in
+    let part = c.unit_part-part.result in
+    let count : length c.as_slice.result.now ≡ renewable_count instance = ap length c.as_slice.ensures in
+    let is : part ≡ part_at period c.args.g =
+    c.unit_part-part.ensures.is
+    ∙ (λ i. unit_part instance c.args.g (commitment_at c.args.hour.now.patterns.now c.args.g) c.args.hour.now.t (amount_at c.args.hour.now.before.now (count i + c.args.g))) in
+    least_sized period c.args.g part is c.unit_part-part.ensures.sizes c.args.system.now.merit.now.order.items (length c.as_slice.result.now + c.args.g) c.args.fill.now.level
+    c.open_at-rest.result.low c.open_at-rest.ensures.least
+
+pub returns-clause-entered : goal.returns-clause-entered
+returns-clause-entered c =
+    let instance = c.args.system.now.instance.now in
+    let order = c.args.system.now.merit.now.order.items in
+    let period = hour_period c.args.system.now c.args.hour.now in
+    let fill = c.args.fill.now in
+    let part = c.unit_part-part.result in
+    let least = c.open_at-rest.result.low in
+    let count : length c.as_slice.result.now ≡ renewable_count instance = ap length c.as_slice.ensures in
+    let is : part ≡ part_at period c.args.g =
+    c.unit_part-part.ensures.is
+    ∙ (λ i. unit_part instance c.args.g (commitment_at c.args.hour.now.patterns.now c.args.g) c.args.hour.now.t (amount_at c.args.hour.now.before.now (count i + c.args.g))) in
+    entered period c.args.g part is c.unit_part-part.ensures.sizes order c.args.old.now fill c.set_amount.new.fill least c.requires.unit c.requires.given
+    (at_most part.reach.range.high part.reach.range.low (sym c.is_empty.ensures ∙ c.if-is_empty.false))
+    (subst (λ m. IsLeastAt order (m + c.args.g) fill.level part.reach.range least) count c.open_at-rest.ensures.least)
+    (c.set_amount.ensures.amounts ∙ ap (λ m. slice_set fill.amounts.items (m + c.args.g) least) count) c.set_amount.ensures.given c.set_amount.ensures.level
+    (c.set_amount.ensures.totals ∙ c.exchanged_totals-fill.ensures)
