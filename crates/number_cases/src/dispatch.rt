@@ -7,6 +7,7 @@ use crate::Answer;
 use crate::commitment::patterns;
 use crate::demo::put_line;
 use crate::table::marginal_text;
+use crate::uplifts::tell_uplift;
 use dispatch_repair::{DispatchFault, MostFault, dispatch, most_on};
 use instance::penalize;
 use schedule_check::cost;
@@ -40,15 +41,19 @@ pub(crate) fn tell_dispatch(alloc: Global, instance: &Instance, word: &str, rest
     }
 }
 
-/// The same at prices of demand and of reserve that is missing, which come first; with what is missing, and the cost.
-pub(crate) fn tell_priced(alloc: Global, instance: Instance, rest: &str) -> Answer
+/// The same at prices of demand and of reserve that is missing, which come first; with what is missing, and the cost. Or the
+/// uplifts at these prices.
+pub(crate) fn tell_priced(alloc: Global, instance: Instance, word: &str, rest: &str) -> Answer
     requires { IsLawfulInstance instance }
 {
     let mut instance = instance;
     if let Some((a, rest)) = price(rest) {
-        if let Some((b, patterns)) = price(rest) {
+        if let Some((b, rest)) = price(rest) {
             if penalize(&mut instance, a, b) {
-                return tell_dispatch(alloc, &instance, "priced", patterns);
+                return match word {
+                    "uplift" => tell_uplift(alloc, &instance, rest),
+                    _ => tell_dispatch(alloc, &instance, word, rest),
+                };
             }
         }
     }

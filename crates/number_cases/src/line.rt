@@ -49,7 +49,9 @@ fn answer(alloc: Global, system: &str, word: &str, rest: &str) -> Answer {
         return tell_demo(alloc, rest);
     }
     match read_instance(alloc, system.as_bytes(), false) {
-        Ok((instance, _)) if word == "priced" => tell_priced(alloc, instance, rest),
+        Ok((instance, _)) if word == "priced" || word == "uplift" => {
+            tell_priced(alloc, instance, word, rest)
+        }
         Ok((instance, _)) => answer_of(alloc, &instance, word, rest),
         Err(ReadFault::NoMemory) => Err(NoMemory),
         Err(_) => Ok(String::from_str(alloc, "no instance\n")?),

@@ -12,6 +12,7 @@ mod node;
 mod system;
 mod table;
 mod unit;
+mod uplifts;
 
 use crate::line::follow;
 use std::{fs, io};

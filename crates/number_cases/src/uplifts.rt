@@ -1,0 +1,156 @@
+//! The uplifts of dispatches.
+
+ghost use Rattle.std.specs.Prelude.{◌≡◌, IfOk, IfSome, All};
+ghost use Rattle.uc_model.specs.Limits.{IsLawfulInstance};
+ghost use Rattle.uc_model.specs.PrintedSchedule.{HasShapeOf, printed_denominator, printed_schedule};
+ghost use Rattle.uc_model.specs.Rules.{Obeys};
+ghost use Rattle.uc_model.specs.Schedule.{thermal_count};
+ghost use Rattle.dual_model.specs.Fixings.{IsCell};
+ghost use Rattle.dual_model.specs.Prices.{AreRising, HasLawfulSigns, HasSizeOf, IsRowPriced, IsRowSigned, IsRowWithin, IsWithinLimits};
+ghost use Rattle.schedule_check.specs.PlainNumbers.{HasPlainNumbers};
+
+use crate::Answer;
+use crate::commitment::patterns;
+use crate::unit::period;
+use dispatch_repair::{DispatchFault, dispatch};
+use dual_model::{RampRow, Table};
+use std::alloc::{AllocError, Global};
+use uc_model::{Instance, NoMemory, Printed};
+use uplift::{Uplifts, of};
+
+/// Prices for all periods, of demand and of reserve, and a ramp row.
+#[derive(Clone, Copy)]
+struct Prices {
+    demand: i32,
+    reserve: u32,
+    ramp: Option<RampRow>,
+}
+
+/// The uplifts of a commitment's dispatch, as `DEMAND RESERVE RAMP BITS..` says.
+pub(crate) fn tell_uplift(alloc: Global, instance: &Instance, words: &str) -> Answer
+    requires { IsLawfulInstance instance.now }
+{
+    let (demand, words) = words.split_once(' ').unwrap_or((words, ""));
+    let (reserve, words) = words.split_once(' ').unwrap_or((words, ""));
+    let (ramp, bits) = words.split_once(' ').unwrap_or((words, ""));
+    let patterns = patterns(alloc, bits)?;
+    if patterns.len() != instance.thermal.as_slice().len() {
+        return Ok(String::from_str(alloc, "a pattern for each unit\n")?);
+    }
+    let prices = Prices {
+        demand: demand.parse::<i32>().unwrap_or(0),
+        reserve: reserve.parse::<u32>().unwrap_or(0),
+        ramp: ramp_row(instance, ramp),
+    };
+    match dispatch(alloc, instance, &patterns) {
+        Ok(printed) => {
+            let text = uplift_text(alloc, instance, &printed, &prices);
+            drop(printed);
+            text
+        }
+        Err(DispatchFault::Stuck(_)) => Ok(String::from_str(alloc, "stuck\n")?),
+        Err(DispatchFault::NoMemory) => Err(NoMemory),
+    }
+}
+
+// The uplifts of a dispatch at the prices, line by line.
+fn uplift_text(alloc: Global, instance: &Instance, printed: &Printed, prices: &Prices) -> Answer
+    requires lawful { IsLawfulInstance instance.now }
+    requires shape { HasShapeOf instance.now printed.now }
+    requires numbers { HasPlainNumbers printed.now }
+    requires whole { printed.now.denominator ≡ 1 }
+    requires obeys { let q = printed_denominator instance.now printed.now in Obeys instance.now q (printed_schedule instance.now printed.now q) }
+    requires cell { IfSome prices.now.ramp (λ row. IsCell instance.now row.g row.t) }
+    requires row { IfSome prices.now.ramp (λ row. IsRowSigned row × IsRowPriced row) }
+{
+    let table = table(alloc, instance, prices)?;
+    let uplifts = of(alloc, instance, printed, &table)?;
+    let mut text = String::new(alloc);
+    let put = put_uplifts(&mut text, &uplifts);
+    drop(uplifts);
+    drop(table);
+    Ok(put.and(Ok(text))?)
+}
+
+// A line for each kind of uplift and slack.
+fn put_uplifts(text: &mut String, uplifts: &Uplifts) -> Result<(), AllocError> {
+    put_line(text, "thermal", uplifts.thermal.as_slice())?;
+    put_line(text, "renewable", uplifts.renewable.as_slice())?;
+    writeln!(text, "shed {}", uplifts.shed)?;
+    writeln!(text, "reserve-slack {}", uplifts.reserve_slack)?;
+    writeln!(text, "ramp-slack {}", uplifts.ramp_slack)?;
+    writeln!(text, "total {}", uplifts.total)
+}
+
+// A line of numbers behind a word.
+fn put_line(text: &mut String, word: &str, numbers: &[i128]) -> Result<(), AllocError> {
+    text.push_str(word)?;
+    for number in numbers {
+        write!(text, " {number}")?;
+    }
+    text.push_str("\n")
+}
+
+// The table of the prices at the scale of a million.
+fn table(alloc: Global, instance: &Instance, prices: &Prices) -> Result<Table, NoMemory>
+    requires lawful { IsLawfulInstance instance.now }
+    requires cell { IfSome prices.now.ramp (λ row. IsCell instance.now row.g row.t) }
+    requires row { IfSome prices.now.ramp (λ row. IsRowSigned row × IsRowPriced row) }
+    ensures size { IfOk result (HasSizeOf instance.now) }
+    ensures signs { IfOk result HasLawfulSigns }
+    ensures limits { IfOk result IsWithinLimits }
+{
+    match &prices.ramp {
+        Some(row) if row.up != 0 || row.down != 0 => {
+            table_with(alloc, instance, prices.demand, prices.reserve, &[*row])
+        }
+        _ => table_with(alloc, instance, prices.demand, prices.reserve, &[]),
+    }
+}
+
+// The table of prices for all periods, and of ramp rows.
+fn table_with(
+    alloc: Global,
+    instance: &Instance,
+    demand: i32,
+    reserve: u32,
+    rows: &[RampRow],
+) -> Result<Table, NoMemory>
+    requires lawful { IsLawfulInstance instance.now }
+    requires within { All (IsRowWithin (thermal_count instance.now) instance.now.periods) rows.now }
+    requires rising { AreRising rows.now }
+    requires signed { All IsRowSigned rows.now }
+    requires priced { All IsRowPriced rows.now }
+    ensures size { IfOk result (HasSizeOf instance.now) }
+    ensures signs { IfOk result HasLawfulSigns }
+    ensures limits { IfOk result IsWithinLimits }
+{
+    let periods = instance.periods as usize;
+    let demand = vec![in alloc; i64::from(demand); periods]?;
+    let reserve = vec![in alloc; i64::from(reserve); periods]?;
+    let units = instance.thermal.as_slice().len() as u32;
+    Table::new(alloc, units, 1_000_000, &demand, &reserve, rows)
+}
+
+// The ramp row that `UNIT:PERIOD:UP:DOWN` says of a cell of the instance.
+fn ramp_row(instance: &Instance, word: &str) -> Option<RampRow>
+    requires { IsLawfulInstance instance.now }
+    ensures cell { IfSome result (λ row. IsCell instance.now row.g row.t) }
+    ensures row { IfSome result (λ row. IsRowSigned row × IsRowPriced row) }
+{
+    let (unit, words) = word.split_once(':')?;
+    let (hour, words) = words.split_once(':')?;
+    let (up, down) = words.split_once(':')?;
+    let g = period(unit)?;
+    let t = period(hour)?;
+    if g < instance.thermal.as_slice().len() && t < instance.periods as usize {
+        Some(RampRow {
+            g: g as u32,
+            t: t as u32,
+            up: i64::from(up.parse::<u32>().ok()?),
+            down: i64::from(down.parse::<u32>().ok()?),
+        })
+    } else {
+        None
+    }
+}
