@@ -34,6 +34,7 @@ COAST_FILES = COAST, STORED / "coast.report", STORED / "coast.cert"
 # the same with more demand than all units give, at prices of 500 and 50 dollars
 SHORT_FILES = STORED / "coast_short.json", STORED / "coast_short.report", STORED / "coast_short.cert"
 SHORT_WORDS = "--shed", "500", "--spill-reserve", "50"
+SHORT_UPLIFT, KAZARLIS_UPLIFT = STORED / "coast_short.uplift", STORED / "kazarlis10.uplift"
 
 ROW1_REPORT = """periods 1 thermal 1 renewable 0 rounded 0
 closed
@@ -186,6 +187,21 @@ BROKEN_PENALTIES = (
     ("d 0 0 40000000", "d 0 0 40000001", "line 9: the unserved demand of period 3 isn't that of the report"),
     ("e 0", "e 1", "line 10: the missing reserve of period 1 isn't that of the report"),
     ("e 0 0", "e 0", 'line 10: "e 0 10000000 0" where e and 4 cells are due'),
+)
+# an edit of coast_short.uplift, likewise
+BROKEN_UPLIFTS = (
+    ("scale 1000000", "scale 0", 'line 1: "scale 0" where the scale of a table of prices is due'),
+    ("price 16666667 20000000", "price 16666667 020000000", "line 2: not the line price and its numbers"),
+    ("price 16666667 20000000", "price 16666667", "line 2: 3 prices for 4 periods"),
+    ("reserve-price 0 0", "reserve-price 0 0 0", "line 3: 5 prices for 4 periods"),
+    ('"base \\"1\\"" 1', '"base \\"1\\""  1', 'line 4: "thermal "base'),
+    ("peak <2>", "peak <3>", 'line 5: unit "peak <3>", where the instance has "peak <2>"'),
+    ('renewable "wind\\\\3" 0\n', "", "0 renewable units, where the instance has 1"),
+    ("shed 0\n", "", "a line shed comes exactly where something may be short"),
+    ("shed 0", "shed -1", "line 7: a number below 0"),
+    ("reserve-slack 0", "reserve-slack", 'line 8: "reserve-slack" where reserve-slack and a number are due'),
+    ("ramp-slack 0", "ramp-slack 1", "line 10: the parts add up to 163333338000001"),
+    ("total 163333338000000\n", "total 163333338000000\n\n", "line 11: bytes after the end"),
 )
 
 Bar = Tuple[int, Decimal, Decimal]
@@ -391,6 +407,32 @@ class Pictures(ViewTest):
         self.assertIn("hour 1: demand 16.666667 $/MWh, reserve 0 $/MWh", text)
         self.assertIn("hour 3: demand 31 $/MWh, reserve 3 $/MWh", text)
 
+    def test_uplifts_are_drawn(self) -> None:
+        drawn = self.drawn(*SHORT_FILES, words=("--uplift", str(SHORT_UPLIFT)))
+        # what the report alone can't tell: the dearer unit is on at hour 2 for 150 dollars more than its output is paid
+        for words in (
+            "Prices and uplifts",
+            "hour 3: demand 500 $/MWh, reserve 50 $/MWh",
+            "at these prices: $163.333338 in all, which is the gap",
+            "peak <2>: $150$150base \"1\"",
+            'base "1": $13.333338$13.3333381 of 3 units do as well as they could.',
+        ):
+            self.assertIn(words, drawn.text)
+        self.assertNotIn("Prices of the bound", drawn.text)
+        self.assertEqual(re.findall(r'<rect width="([0-9.]+)%"', drawn.written), ["100", "8.88889"])
+        self.assertIn("hour 4: demand 40 MW", drawn.text)
+        many = self.drawn(KAZARLIS, STORED / "kazarlis10.report", words=("--uplift", str(KAZARLIS_UPLIFT)))
+        names = re.findall(r'<tr><td>([^<]*)</td>', many.written)
+        self.assertEqual(names, [f"u{n}_1" for n in (7, 5, 2, 10, 6, 8, 9, 3, 4)])
+        self.assertIn("at these prices: $4,753.879975 in all", many.text)
+
+    def test_uplifts_that_are_nothing(self) -> None:
+        lines = 'scale 1000000\nprice 10000000\nreserve-price 0\nthermal "g1" 0\nreserve-slack 0\nramp-slack 0\ntotal 0\n'
+        drawn = self.drawn(ROW1, self.put("r", ROW1_REPORT), words=("--uplift", str(self.put("none", lines))))
+        self.assertIn("$0 in all", drawn.text)
+        self.assertIn("1 of 1 units do as well as they could.", drawn.text)
+        self.assertNotIn("<table", drawn.written)
+
     def test_reports_without_a_schedule(self) -> None:
         stuck = self.drawn(self.row1(5, 0), self.put("stuck", STUCK_REPORT)).text
         self.assertIn("no schedule found", stuck)
@@ -522,6 +564,16 @@ class Refusals(ViewTest):
                 broken = self.edited(SHORT_FILES[2], old, new)
                 told = SHORT_FILES[1] if "without" in place or "costs" in place else broken
                 self.refused(f"{told}: {place}", *SHORT_FILES[:2], broken)
+
+    def test_broken_uplifts(self) -> None:
+        for old, new, said in BROKEN_UPLIFTS:
+            with self.subTest(new):
+                whole = SHORT_UPLIFT.read_text(encoding="utf-8")
+                self.assertEqual(whole.count(old), 1)
+                broken = self.put("broken", whole.replace(old, new))
+                self.refused(f"{broken}: {said}", *SHORT_FILES, words=("--uplift", str(broken)))
+        self.refused(f"{SHORT_UPLIFT}: uplifts, where the report has no", *[self.row1(5, 0), self.put("s", STUCK_REPORT)], words=("--uplift", str(SHORT_UPLIFT)))
+        self.refused(f"{KAZARLIS_UPLIFT}: line 2: 24 prices for 4 periods", *SHORT_FILES, words=("--uplift", str(KAZARLIS_UPLIFT)))
 
     def test_prices_of_other_runs(self) -> None:
         for words in (SHORT_WORDS[:2], ("--shed", "500", "--spill-reserve", "49")):

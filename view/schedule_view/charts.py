@@ -11,7 +11,7 @@ from .instance import Instance
 from .layers import SINGLE_UNITS, Layer
 from .report import Schedule
 from .shortages import Shortage
-from .svg import Frame, element, percent, text
+from .svg import Frame, described, element, percent, text, title
 
 OUTPUT_HEIGHT, DEMAND_HEIGHT, RESERVE_HEIGHT, CURTAILED_HEIGHT, COST_HEIGHT, PRICE_HEIGHT = 340, 220, 110, 90, 150, 150
 # pixels of a plot in a narrow page and in a wide one, in which a name has room, and those that hatchings are made for
@@ -115,6 +115,12 @@ def price_chart(prices: Prices) -> str:
     lines = frame.steps(prices.reserve, "mu") + frame.steps(prices.demand, "pi")
     plot = frame.group(lines + frame.columns(titles), id="prices")
     return frame.chart(plot, "Prices of demand and reserve", "$/MWh")
+
+
+def share_bar(number: int, most: int, look: str, words: str) -> str:
+    """A lying bar whose width is the number's part of the greatest one."""
+    bar = element("rect", title(words), width=f"{100 * number / most:.6g}%", height=SWATCH, class_=look)
+    return element("svg", bar, height=SWATCH, **described(words))
 
 
 def _hour_titles(instance: Instance) -> List[str]:

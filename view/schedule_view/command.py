@@ -11,12 +11,13 @@ from .amounts import MILLION, whole
 from .certificate import Certificate, read_certificate
 from .files import read_file, refuse_shared, write_file
 from .fit import check_certificate, check_gap, check_report
-from .instance import read_instance
+from .instance import Instance, read_instance
 from .page import page
 from .refusal import Refusal
-from .report import read_report
+from .report import Report, read_report
 from .shortages import MOST_PENALTY, Penalty
 from .table import write_table
+from .uplift import Uplift, check_uplift, read_uplift
 
 ABOUT = """Draws the report of `uc solve` as one HTML page. Files that don't fit together are refused with a line that says where, and
 status 1; then nothing is written."""
@@ -40,6 +41,7 @@ def _parser() -> argparse.ArgumentParser:
     parser.add_argument("certificate", metavar="CERT", nargs="?", help="its certificate, whose prices are drawn too")
     parser.add_argument("-o", dest="page", metavar="OUT.html", required=True, help="where the page goes")
     parser.add_argument("--csv", dest="table", metavar="OUT.csv", help="where the schedule goes as a table")
+    parser.add_argument("--uplift", metavar="UPLIFT", help="what `uc uplift` printed for the certificate, whose prices and uplifts are drawn")
     parser.add_argument("--gap", metavar="PPM", type=gap_of, help="the gap that `uc solve` was asked for, which the page then tells")
     for option, what in (("--shed", "unserved demand"), ("--spill-reserve", "missing reserve")):
         told = f"the price of {what} that `uc solve` was given; a certificate tells it too"
@@ -65,7 +67,7 @@ gap_of, price_of = _number(0, MILLION), _number(1, MOST_PENALTY)
 
 def _run(given: argparse.Namespace) -> None:
     """Everything is read, checked and drawn before the first file is written."""
-    inputs = [path for path in (given.instance, given.report, given.certificate) if path is not None]
+    inputs = [path for path in (given.instance, given.report, given.certificate, given.uplift) if path is not None]
     refuse_shared(inputs, [path for path in (given.page, given.table) if path is not None])
     instance = read_instance(given.instance, read_file(given.instance))
     report = read_report(given.report, read_file(given.report))
@@ -78,12 +80,24 @@ def _run(given: argparse.Namespace) -> None:
         check_gap(report, given.gap)
     if certificate:
         check_certificate(instance, report, certificate)
-    drawn = page(instance, report, certificate, pathlib.PurePath(given.instance).name, given.gap, penalty)
+    uplift = _uplift(given, instance, report, penalty)
+    drawn = page(instance, report, certificate, pathlib.PurePath(given.instance).name, given.gap, penalty, uplift)
     table = io.StringIO()
     write_table(instance, report.schedule, certificate.prices if certificate else None, table)
     write_file(given.page, drawn)
     if given.table is not None:
         write_file(given.table, table.getvalue())
+
+
+def _uplift(given: argparse.Namespace, instance: Instance, report: Report, penalty: Penalty) -> Optional[Uplift]:
+    """What `uc uplift` printed, where it is given. Refused where it isn't of this instance, or there is no schedule."""
+    if given.uplift is None:
+        return None
+    uplift = read_uplift(given.uplift, read_file(given.uplift))
+    if report.schedule is None:
+        raise Refusal(given.uplift, "", "uplifts, where the report has no schedule")
+    check_uplift(instance, uplift, penalty)
+    return uplift
 
 
 def _penalty(given: argparse.Namespace, certificate: Optional[Certificate]) -> Penalty:

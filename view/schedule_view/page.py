@@ -6,7 +6,7 @@ from typing import List, Optional, Tuple
 
 from .amounts import MILLION, dollars_text, gap_parts, short_text
 from .certificate import MOST_PRICE, Certificate, Leaves
-from .charts import cost_chart, curtailed_chart, demand_chart, legend, output_chart, price_chart, reserve_chart
+from .charts import cost_chart, curtailed_chart, demand_chart, legend, output_chart, price_chart, reserve_chart, share_bar
 from .costs import hourly_costs
 from .grid import renewable_grid, thermal_grid
 from .instance import Instance
@@ -14,9 +14,10 @@ from .layers import SINGLE_UNITS, layers, never_on, unserved_layer
 from .report import Outcome, Report, Schedule
 from .shortages import NO_PENALTY, Penalty, Shortage, shortages
 from .svg import element, narrow_rules, text
+from .uplift import Part, Uplift
 
 STYLE = pathlib.Path(__file__).with_name("style.css")
-NAMES_SHOWN = 12
+NAMES_SHOWN, PARTS_SHOWN = 12, 30
 FOOT = (
     "Units, hours and categories count from 1. Rest the pointer on a mark to see its numbers. "
     "This page shows what the report and the certificate say; whether they are right is for <code>uc check</code> to tell."
@@ -36,6 +37,7 @@ def page(
     name: str,
     gap: Optional[int] = None,
     penalty: Penalty = NO_PENALTY,
+    uplift: Optional[Uplift] = None,
 ) -> str:
     """The whole page; the name is the instance's, the gap that which was asked for, in parts per million."""
     schedule = report.schedule
@@ -43,7 +45,9 @@ def page(
     parts = [element("h1", text(f"Schedule of {name}" if schedule else name)), *_outcome(report, certificate)]
     parts.append(_head(instance, report, gap, [it for it in short or () if it.price]))
     parts += _charts(instance, schedule, short) if schedule and short else _demand(instance, report)
-    if certificate:
+    if uplift:
+        parts += _uplifts(instance, uplift)
+    elif certificate:
         parts += _prices(certificate, bool(schedule))
     if schedule:
         parts += _grids(instance, schedule)
@@ -233,6 +237,38 @@ def _prices(certificate: Certificate, has_schedule: bool) -> List[str]:
         "makes the bound. The line is that of demand, pi, the dashed one that of reserve, mu."
     )
     return [heading, element("p", words), price_chart(prices)]
+
+
+def _uplifts(instance: Instance, uplift: Uplift) -> List[str]:
+    """The prices beside demand, and the parts of the gap, the largest first."""
+    total = dollars_text(uplift.micros(uplift.total))
+    parts = [
+        element("h2", "Prices and uplifts"),
+        element("p", "What a table of the certificate would pay, below it demand. The lines are demand, the dashed ones reserve."),
+        price_chart(uplift.prices),
+        demand_chart(instance, None),
+        element("p", f"By how much each part would do better by its own choice at these prices: {total} in all, which is the gap "
+                "between the schedule's cost and the bound of these prices."),
+    ]
+    some = sorted((part for part in uplift.parts if part.number), key=lambda part: -part.number)
+    if some:
+        shown = some if len(some) <= PARTS_SHOWN else some[: PARTS_SHOWN - 1]
+        rest = some[len(shown) :]
+        if rest:
+            shown = [*shown, Part(0, f"{len(rest)} others", "m2", sum(part.number for part in rest))]
+        most = max(part.number for part in shown)
+        parts.append(element("table", "".join(_uplift_row(uplift, part, most) for part in shown), class_="shares"))
+    none = len(uplift.thermal + uplift.renewable) - sum(part.number > 0 for part in uplift.thermal + uplift.renewable)
+    if none:
+        parts.append(element("p", f"{none} of {len(uplift.thermal + uplift.renewable)} units do as well as they could."))
+    return parts
+
+
+def _uplift_row(uplift: Uplift, part: Part, most: int) -> str:
+    """The name of a part, its bar beside the largest one, and its dollars."""
+    dollars = dollars_text(uplift.micros(part.number))
+    cells = (text(part.name), share_bar(part.number, most, part.look, f"{part.name}: {dollars}"), dollars)
+    return element("tr", "".join(element("td", cell) for cell in cells))
 
 
 def _grids(instance: Instance, schedule: Schedule) -> List[str]:

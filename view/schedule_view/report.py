@@ -11,14 +11,14 @@ from .lines import Lines
 from .refusal import shown
 
 _CELL = re.compile(r"([0-9.]+)\+([0-9.]+)(?:\*([1-9][0-9]{0,2}))?")
-_NAME = r'"((?:[^"\\\x00-\x1f]|\\["\\]|\\u00[01][0-9a-f])*)"'
+NAME = r'"((?:[^"\\\x00-\x1f]|\\["\\]|\\u00[01][0-9a-f])*)"'
 _MW = r"(-?[0-9]+\.[0-9]{6})"
-_UNIT_LINE = re.compile(f"(thermal|renewable) {_NAME}((?: [^ ]+)*)")
+_UNIT_LINE = re.compile(f"(thermal|renewable) {NAME}((?: [^ ]+)*)")
 _ESCAPE = re.compile(r'\\(?:(["\\])|u00([0-9a-f]{2}))')
 _STUCK = re.compile(r"most-on commitment stuck in period ([0-9]+): (.*)", re.DOTALL)
 _WHY = (
-    re.compile(f"thermal {_NAME} breaks M([1-9][0-9]?)"),
-    re.compile(f"thermal {_NAME} needs at least {_MW} and at most {_MW} above its minimum"),
+    re.compile(f"thermal {NAME} breaks M([1-9][0-9]?)"),
+    re.compile(f"thermal {NAME} needs at least {_MW} and at most {_MW} above its minimum"),
     re.compile(f"least output {_MW} above demand {_MW}"),
     re.compile(f"most output {_MW} below demand {_MW}"),
     re.compile(f"reserve {_MW} below need {_MW}"),
@@ -179,7 +179,7 @@ def _unit_line(lines: Lines, kind: str, periods: int) -> Tuple[str, List[str]]:
     words = parts[3].split(" ")[1:]
     if len(words) != periods:
         lines.refuse(f"{len(words)} cells for {periods} periods")
-    return _unescaped(parts[2]), words
+    return unescaped(parts[2]), words
 
 
 def _thermal_row(lines: Lines, periods: int) -> ThermalRow:
@@ -236,18 +236,18 @@ def _stuck(lines: Lines) -> Stuck:
 def _reason(lines: Lines, text: str, period: int, kind: int, why: Match[str]) -> Stuck:
     """A reason by the place of its pattern in `_WHY`. Refused where its numbers are none."""
     if kind == 0:
-        return Stuck(lines.number, text, period, unit=_unescaped(why[1]))
+        return Stuck(lines.number, text, period, unit=unescaped(why[1]))
     first, second = (amount(word) for word in why.groups()[-2:])
     if first is None or second is None:
         lines.refuse(f"{shown(text)} has a number that is no amount of power")
     if first <= second if kind in (1, 2) else first >= second:
         lines.refuse(f"{shown(text)} compares its numbers the wrong way")
     if kind == 1:
-        return Stuck(lines.number, text, period, unit=_unescaped(why[1]))
+        return Stuck(lines.number, text, period, unit=unescaped(why[1]))
     if kind in (2, 3):
         return Stuck(lines.number, text, period, demand=second)
     return Stuck(lines.number, text, period, need=second)
 
 
-def _unescaped(name: str) -> str:
+def unescaped(name: str) -> str:
     return _ESCAPE.sub(lambda parts: parts[1] or chr(int(parts[2], 16)), name)

@@ -41,6 +41,14 @@ gap_option = record (new_rule (codes "gap")) {
 abbrev pub price_option : Text → Rule
 price_option name = record (new_rule name) { long = Some name; parser = Some (Signed (pos 1) (pos 1000000)) }
 
+-- `--table K`, the number of a table, a whole number from 1 to a million and two, which is 1 where the option isn't given
+abbrev pub table_option : Rule
+table_option = record (new_rule (codes "table")) {
+  long = Some (codes "table");
+  parser = Some (Signed (pos 1) (pos 1000002));
+  defaults = codes "1" ∷ [];
+}
+
 -- `--NAME`
 abbrev pub switch : Text → Rule
 switch name = record (new_rule name) { long = Some name; action = Some SetTrue }
@@ -71,7 +79,14 @@ demo_shape = record (new_shape (codes "demo")) { rules = seed_place ∷ [] }
 abbrev pub upgrade_shape : Shape
 upgrade_shape = record (new_shape (codes "upgrade")) { rules = place (codes "certificate") ∷ needed_option (codes "cert") ∷ [] }
 
--- the program has to be given one of the four
+-- `uplift FILE CERT [--table K] [--shed PRICE] [--spill-reserve PRICE]`
+abbrev pub uplift_shape : Shape
+uplift_shape = record (new_shape (codes "uplift")) {
+  rules = place (codes "instance") ∷ place (codes "certificate") ∷ table_option ∷ price_option (codes "shed")
+      ∷ price_option (codes "spill-reserve") ∷ [];
+}
+
+-- the program has to be given one of the five
 abbrev pub program : App
 program = record {
   top = record (new_shape (codes "uc")) {
@@ -80,7 +95,7 @@ program = record {
     disable_help_flag = true;
     disable_help_subcommand = true;
   };
-  subs = solve_shape ∷ check_shape ∷ demo_shape ∷ upgrade_shape ∷ [];
+  subs = solve_shape ∷ check_shape ∷ demo_shape ∷ upgrade_shape ∷ uplift_shape ∷ [];
 }
 
 -- no kind of error may come

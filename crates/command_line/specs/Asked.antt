@@ -5,11 +5,12 @@ use Rattle.clap.specs.declared.error.kind.ErrorKind.TheVariants as kind
 use Rattle.report.specs.declared.fault.Fault.{Fault}
 use Rattle.report.specs.declared.fault.Fault.TheVariants.{Words, Memory}
 use Rattle.command_line.specs.Arguments.{is_taken}
-use Rattle.command_line.specs.Command.{Solve, Check, Demo, Upgrade, Command, Solves, Checks, Demos, Upgrades}
+use Rattle.command_line.specs.Command.{Solve, Check, Demo, Upgrade, Uplift, Command, Solves, Checks, Demos, Upgrades, Uplifts}
 use Rattle.command_line.specs.declared.command.Solve.{Solve as SolveWords}
 use Rattle.command_line.specs.declared.command.Check.{Check as CheckWords}
 use Rattle.command_line.specs.declared.command.Demo.{Demo as DemoWords}
 use Rattle.command_line.specs.declared.command.Upgrade.{Upgrade as UpgradeWords}
+use Rattle.command_line.specs.declared.command.Uplift.{Uplift as UpliftWords}
 pub use Rattle.command_line.specs.declared.command.Command.{Command as CommandWords}
 use Rattle.command_line.specs.declared.command.Command.TheVariants as forms
 
@@ -38,11 +39,15 @@ demo_asked demo = record { seed = demo.seed }
 abbrev pub upgrade_asked : UpgradeWords → Upgrade
 upgrade_asked upgrade = record { certificate = upgrade.certificate.now; to = upgrade.to.now }
 
+abbrev pub uplift_asked : UpliftWords → Uplift
+uplift_asked uplift = record { check = check_asked uplift.check; table = uplift.table }
+
 abbrev pub command_asked : CommandWords → Command
 command_asked (forms.Solve solve) = Solves (solve_asked solve)
 command_asked (forms.Check check) = Checks (check_asked check)
 command_asked (forms.Demo demo) = Demos (demo_asked demo)
 command_asked (forms.Upgrade upgrade) = Upgrades (upgrade_asked upgrade)
+command_asked (forms.Uplift uplift) = Uplifts (uplift_asked uplift)
 
 -- both prices are at most a million micro-dollars for a watt and an hour
 abbrev pub HasPrices : ℕ → ℕ → Type 0
@@ -54,6 +59,7 @@ HasNumbers (forms.Solve solve) = (solve.units ≤ 1000000) × (solve.gap ≤ 100
 HasNumbers (forms.Check check) = HasPrices check.shed check.spill_reserve
 HasNumbers (forms.Demo demo) = ⊤
 HasNumbers (forms.Upgrade upgrade) = ⊤
+HasNumbers (forms.Uplift uplift) = HasPrices uplift.check.shed uplift.check.spill_reserve
 
 -- the fault of an error of the parser
 abbrev pub refusal_of : ErrorKind → Fault

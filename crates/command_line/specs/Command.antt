@@ -35,12 +35,18 @@ pub record Upgrade : Type 0 where
   pub certificate : List ℕ
   pub to : List ℕ
 
+-- what `uplift` is asked: what `check` is of the certificate, and the number of a table, from 1
+pub record Uplift : Type 0 where
+  pub check : Check
+  pub table : ℕ
+
 -- what the program does
 pub data Command : Type 0 where
   Solves : Solve → Command
   Checks : Check → Command
   Demos : Demo → Command
   Upgrades : Upgrade → Command
+  Uplifts : Uplift → Command
 
 -- the value of an argument that has to be given, and so is
 abbrev pub value_of : Text → List Row → List ℕ
@@ -82,13 +88,17 @@ demo_of rows = record { seed = number_of 4294967295 (codes "seed") rows }
 abbrev pub upgrade_of : List Row → Upgrade
 upgrade_of rows = record { certificate = value_of (codes "certificate") rows; to = value_of (codes "cert") rows }
 
+abbrev pub uplift_of : List Row → Uplift
+uplift_of rows = record { check = check_of rows; table = number_of 1000002 (codes "table") rows }
+
 -- the command of a name, with what was found for its arguments
 abbrev pub named : Text × List Row → Option Command
 named given =
     if bytes_eq given.0 (codes "solve") then Some (Solves (solve_of given.1))
     else (if bytes_eq given.0 (codes "check") then Some (Checks (check_of given.1))
     else (if bytes_eq given.0 (codes "demo") then Some (Demos (demo_of given.1))
-    else (if bytes_eq given.0 (codes "upgrade") then Some (Upgrades (upgrade_of given.1)) else None)))
+    else (if bytes_eq given.0 (codes "upgrade") then Some (Upgrades (upgrade_of given.1))
+    else (if bytes_eq given.0 (codes "uplift") then Some (Uplifts (uplift_of given.1)) else None))))
 
 -- the command that the words ask for, where they are taken: then there is one
 unfoldable pub command_of : List Text → Option Command

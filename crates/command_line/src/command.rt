@@ -3,8 +3,8 @@
 ghost use Rattle.std.specs.Prelude.{◌≡◌, ◌≤◌, map, string_bytes, true, IfOk, IfErr, IfSome, Some, option_map, option_and_then};
 ghost use Rattle.clap.specs.Words.{first_of, found_of, rows_of, kind_of, subcommand_rows_of};
 ghost use Rattle.command_line.specs.Arguments.{is_taken};
-ghost use Rattle.command_line.specs.Command.{named, command_of as command_of_words, value_of, is_on, number_of, solve_of as solve_of_rows, check_of as check_of_rows, demo_of as demo_of_rows, upgrade_of as upgrade_of_rows};
-ghost use Rattle.command_line.specs.Asked.{command_asked, solve_asked, check_asked, demo_asked, upgrade_asked, refusal_of, HasNumbers, HasPrices, IsRefusal};
+ghost use Rattle.command_line.specs.Command.{named, command_of as command_of_words, value_of, is_on, number_of, solve_of as solve_of_rows, check_of as check_of_rows, demo_of as demo_of_rows, upgrade_of as upgrade_of_rows, uplift_of as uplift_of_rows};
+ghost use Rattle.command_line.specs.Asked.{command_asked, solve_asked, check_asked, demo_asked, upgrade_asked, uplift_asked, refusal_of, HasNumbers, HasPrices, IsRefusal};
 
 use crate::arguments::program;
 use clap::error::ErrorKind;
@@ -14,6 +14,9 @@ use std::alloc::Global;
 
 /// The greatest number of an option: evaluations of a budget, parts per million of a cost, and micro-dollars for a watt and an hour.
 const MOST: u32 = 1_000_000;
+
+/// The greatest number of a table, from 1.
+const MOST_TABLE: u32 = 1_000_002;
 
 /// The greatest seed.
 const MOST_SEED: u32 = 4_294_967_295;
@@ -54,6 +57,13 @@ pub struct Upgrade<'a> {
     pub to: &'a str,
 }
 
+/// What `uplift` is asked: the certificate that is checked, as `check` is asked, and which of its tables has the prices, from 1.
+#[derive(Clone, Copy, Debug)]
+pub struct Uplift<'a> {
+    pub check: Check<'a>,
+    pub table: u32,
+}
+
 /// A command with its arguments.
 #[derive(Clone, Copy, Debug)]
 pub enum Command<'a> {
@@ -61,6 +71,7 @@ pub enum Command<'a> {
     Check(Check<'a>),
     Demo(Demo),
     Upgrade(Upgrade<'a>),
+    Uplift(Uplift<'a>),
 }
 
 // The value of an argument, where it has one.
@@ -146,6 +157,16 @@ fn upgrade_of<'a>(given: &ArgMatches<'a>) -> Upgrade<'a>
     }
 }
 
+fn uplift_of<'a>(given: &ArgMatches<'a>) -> Uplift<'a>
+    ensures asked { uplift_asked result ≡ uplift_of_rows (rows_of (found_of given.now)) }
+    ensures prices { HasPrices result.check.shed result.check.spill_reserve }
+{
+    Uplift {
+        check: check_of(given),
+        table: number(given, "table", MOST_TABLE),
+    }
+}
+
 // The command that was found, with its arguments.
 fn command_in<'a>(matches: &ArgMatches<'a>) -> Option<Command<'a>>
     ensures command { option_map command_asked result ≡ option_and_then named (subcommand_rows_of matches.now) }
@@ -160,6 +181,8 @@ fn command_in<'a>(matches: &ArgMatches<'a>) -> Option<Command<'a>>
         Some(Command::Demo(demo_of(given)))
     } else if name == "upgrade" {
         Some(Command::Upgrade(upgrade_of(given)))
+    } else if name == "uplift" {
+        Some(Command::Uplift(uplift_of(given)))
     } else {
         None
     }

@@ -4,7 +4,7 @@
 //! is the held price times the watts that lack: below 0 so many can still be given more there than demand is, or less, and above 0 the prices
 //! are a ray. So the held price at which the node has the least to spare tells which watts matter, and a decision is worth what it takes of them.
 
-ghost use Rattle.std.specs.Prelude.{◌≡◌, pos, IfOk, IfSome, OnOk};
+ghost use Rattle.std.specs.Prelude.{◌≡◌, pos, IfOk, IfSome, None, OnOk};
 ghost use Rattle.uc_model.specs.Limits.{IsLawfulInstance};
 ghost use Rattle.dual_model.specs.Prices.{IsLawfulTable};
 
@@ -15,7 +15,7 @@ use quick_value::{Decisions, Evaluator, ON};
 use std::alloc::Global;
 use uc_model::{Instance, NoMemory};
 
-/// With more cells no such cell is sought, since that takes hundreds of evaluations.
+/// With more cells no such cell is sought, since that takes thousands of evaluations.
 const MOST_CELLS: usize = 150;
 
 /// The size of the price that is held.
@@ -107,11 +107,44 @@ fn seek_cell(
         return Ok(());
     }
     let mut seeker = Seeker::at(alloc, instance, node)?;
-    if let Some(near) = seeker.nearest(alloc)? {
-        sought.ray = ray(alloc, &seeker.hill, instance, &near.top)?;
-        if sought.ray.is_none() {
-            sought.cell = seeker.cell(alloc, &near)?;
-        }
+    seek_nearest(alloc, &mut seeker, instance, sought)
+}
+
+// Looks for them where the node has the least to spare.
+fn seek_nearest(
+    alloc: Global,
+    seeker: &mut Seeker,
+    instance: &Instance,
+    sought: &mut Ascent,
+) -> Result<(), NoMemory>
+    requires lawful { IsLawfulInstance instance.now }
+    requires none { sought.old.ray ≡ None }
+    ensures table { sought.new.table ≡ sought.old.table }
+    ensures ray { OnOk result (IfSome sought.new.ray (IsLawfulTable instance.now)) }
+    ensures ray_scale { OnOk result (IfSome sought.new.ray (λ ray. ray.k ≡ pos 0)) }
+{
+    match seeker.nearest(alloc)? {
+        Some(near) => seek_from(alloc, seeker, instance, &near, sought),
+        None => Ok(()),
+    }
+}
+
+// Looks for a ray at these prices, and else for a cell.
+fn seek_from(
+    alloc: Global,
+    seeker: &mut Seeker,
+    instance: &Instance,
+    near: &Near,
+    sought: &mut Ascent,
+) -> Result<(), NoMemory>
+    requires lawful { IsLawfulInstance instance.now }
+    ensures table { sought.new.table ≡ sought.old.table }
+    ensures ray { OnOk result (IfSome sought.new.ray (IsLawfulTable instance.now)) }
+    ensures ray_scale { OnOk result (IfSome sought.new.ray (λ ray. ray.k ≡ pos 0)) }
+{
+    sought.ray = ray(alloc, &seeker.hill, instance, &near.top)?;
+    if sought.ray.is_none() {
+        sought.cell = seeker.cell(alloc, near)?;
     }
     Ok(())
 }

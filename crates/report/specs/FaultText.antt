@@ -13,9 +13,12 @@ use Rattle.outside.specs.declared.slot.Slot.TheVariants as slot
 use Rattle.outside.specs.Lines.{joined, line}
 use Rattle.report.specs.Names.{unit_words}
 use Rattle.report.specs.declared.fault.Fault.{Fault}
-use Rattle.report.specs.declared.fault.Fault.TheVariants.{Words, Read, Write, Memory, Long, Json, Instance, Line, Code}
+use Rattle.report.specs.declared.fault.Fault.TheVariants.{Words, Read, Write, Memory, Long, Json, Instance, Line, Code, NoUplift}
+use Rattle.report.specs.declared.fault.UpliftRefusal.{UpliftRefusal}
+use Rattle.report.specs.declared.fault.UpliftRefusal.TheVariants.{NoSchedule, Fractions, NoTable, Ray}
 
--- the exit status: 4 a faulty instance, 5 faulty words, 6 a read, 7 a write, 8 memory, 9 a certificate that is refused
+-- the exit status: 4 a faulty instance, 5 faulty words, 6 a read, 7 a write, 8 memory, 9 a certificate that is refused or has no
+-- uplifts
 abbrev pub status_of : Fault → ℕ
 status_of Words = 5
 status_of (Read slot) = 6
@@ -28,6 +31,7 @@ status_of (Json byte kind) = 4
 status_of (Instance refusal) = 4
 status_of (Line number kind) = 9
 status_of (Code refusal) = 9
+status_of (NoUplift refusal) = 9
 
 -- how the program is called, in three lines
 abbrev pub usage_text : List ℕ
@@ -153,6 +157,13 @@ refusal_line C8 = line (codes "certificate: C8") []
 refusal_line C9 = line (codes "certificate: C9") []
 refusal_line C10 = line (codes "certificate: C10") []
 
+-- why a certificate that holds has no uplifts
+abbrev pub no_uplift_line : UpliftRefusal → List ℕ
+no_uplift_line NoSchedule = line (codes "certificate: C11") []
+no_uplift_line Fractions = line (codes "certificate: C12") []
+no_uplift_line NoTable = line (codes "certificate: C13") []
+no_uplift_line Ray = line (codes "certificate: C14") []
+
 -- the whole text, with its line feed
 abbrev pub fault_text : Fault → List ℕ
 fault_text Words = usage_text
@@ -164,3 +175,4 @@ fault_text (Json byte kind) = json_line byte kind
 fault_text (Instance refusal) = instance_line refusal
 fault_text (Line number kind) = certificate_line number kind
 fault_text (Code refusal) = refusal_line refusal
+fault_text (NoUplift refusal) = no_uplift_line refusal

@@ -6,6 +6,19 @@ ghost use Rattle.report.specs.FaultText.{status_of};
 use outside::Slot;
 use uc_model::{FieldRefusal, NoMemory, Refusal};
 
+/// Why a certificate that holds for an instance has no uplifts at the table that is asked, in the order in which these are looked for.
+#[derive(Clone, Copy, Debug)]
+pub enum UpliftRefusal {
+    /// C11: it has no schedule.
+    NoSchedule,
+    /// C12: the schedule's watts aren't whole.
+    Fractions,
+    /// C13: it has no table of the number.
+    NoTable,
+    /// C14: the table is a ray, and has no scale at which its numbers are prices.
+    Ray,
+}
+
 /// Why the program ends without an answer.
 #[derive(Debug, Drop)]
 pub enum Fault {
@@ -28,11 +41,13 @@ pub enum Fault {
     Line { line: u64, kind: u8 },
     /// The certificate does not hold for the instance.
     Code(Refusal),
+    /// The certificate holds for the instance, and has no uplifts at the table that is asked.
+    NoUplift(UpliftRefusal),
 }
 
 impl Fault {
     /// The exit status: 4 for a faulty instance, 5 faulty words, 6 a read, 7 a write, 8 memory, 9 a
-    /// certificate that is refused.
+    /// certificate that is refused, or that has no uplifts.
     pub fn code(&self) -> u8
         ensures { result ≡ status_of self.now }
     {
@@ -42,7 +57,7 @@ impl Fault {
             Fault::Write { .. } => 7,
             Fault::Memory => 8,
             Fault::Long(Slot::Instance) | Fault::Json { .. } | Fault::Instance(_) => 4,
-            Fault::Long(_) | Fault::Line { .. } | Fault::Code(_) => 9,
+            Fault::Long(_) | Fault::Line { .. } | Fault::Code(_) | Fault::NoUplift(_) => 9,
         }
     }
 }
@@ -55,5 +70,16 @@ impl From<NoMemory> for Fault {
 
     fn from(_: NoMemory) -> Self {
         Fault::Memory
+    }
+}
+
+impl From<UpliftRefusal> for Fault {
+    ghost use Rattle.std.specs.Prelude.{◌≡◌};
+    ghost use Rattle.report.specs.declared.fault.Fault.TheVariants.{NoUplift};
+
+    ghost from_gives = { λ refusal fault. fault ≡ NoUplift refusal };
+
+    fn from(refusal: UpliftRefusal) -> Self {
+        Fault::NoUplift(refusal)
     }
 }

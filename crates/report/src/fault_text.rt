@@ -4,9 +4,9 @@ ghost use Rattle.std.specs.Prelude.{◌≡◌, ◌∷◌, [], OnOk, OnErr, codes
 ghost use Rattle.outside.specs.Sinks.{SinkWrites, SinkWritesFront};
 ghost use Rattle.outside.specs.Lines.{joined};
 ghost use Rattle.uc_model.specs.Decimal.{whole_text};
-ghost use Rattle.report.specs.FaultText.{usage_text, slot_text, read_line, write_line, long_line, json_text, field_text, owner_text, entry_text, instance_line, line_fault_text, unit_rule_line, period_rule_line, rule_line, costs_line, refusal_line, fault_text};
+ghost use Rattle.report.specs.FaultText.{usage_text, slot_text, read_line, write_line, long_line, json_text, field_text, owner_text, entry_text, instance_line, line_fault_text, unit_rule_line, period_rule_line, rule_line, costs_line, refusal_line, no_uplift_line, fault_text};
 
-use crate::fault::Fault;
+use crate::fault::{Fault, UpliftRefusal};
 use crate::names::put_unit;
 use outside::{
     Failed, Latch, Out, Sink, SinkWriter, Slot, put_amount, put_money, put_place, put_whole,
@@ -226,6 +226,18 @@ fn put_refusal<O: Out>(out: &mut O, refusal: &Refusal)
     }
 }
 
+// Why a certificate that holds has no uplifts.
+fn no_uplift(refusal: &UpliftRefusal) -> &'static [u8]
+    ensures { result.now ≡ no_uplift_line refusal.now }
+{
+    match refusal {
+        UpliftRefusal::NoSchedule => b"certificate: C11\n",
+        UpliftRefusal::Fractions => b"certificate: C12\n",
+        UpliftRefusal::NoTable => b"certificate: C13\n",
+        UpliftRefusal::Ray => b"certificate: C14\n",
+    }
+}
+
 fn put_fault<O: Out>(out: &mut O, fault: &Fault)
     ensures { O.emits (fault_text fault.now) out.old out.new }
 {
@@ -241,6 +253,7 @@ fn put_fault<O: Out>(out: &mut O, fault: &Fault)
             put_at(out, b"certificate: line ", *line, line_fault(*kind));
         }
         Fault::Code(refusal) => put_refusal(out, refusal),
+        Fault::NoUplift(refusal) => out.put(no_uplift(refusal)),
     }
 }
 

@@ -16,7 +16,7 @@ use crate::line::follow_each;
 use std::{fs, io};
 
 /// The files of cases.
-const FILES: [&str; 5] = ["solve", "check", "upgrade", "words", "formats"];
+const FILES: [&str; 6] = ["solve", "check", "upgrade", "uplift", "words", "formats"];
 
 fn main(rt: HostRuntime) -> io::Result<()> {
     for file in FILES {

@@ -171,8 +171,8 @@ closed_holds P Q turn tree number old new part sound each own =
     (are_apart tree.nodes sound.placed.places sound.placed.are) part.hangs part.is each own
 
 pub after_holds : (P Q : Node → Leaf → Type 0) → ((n : Node) (l : Leaf) → P n l → Q n l) → (tree : TreeView) (number : ℕ)
-    (at : IsOpenAt tree.nodes number) (part : IsLeafPart tree number (leaf.Live at.table at.value at.exact)) (stored : Stored) (table : ℕ) (exact : Bool)
-    (outcome : Outcome) (action : Move) → IsSound tree → EachLeaf P root (tree_of tree)
+    (at : IsOpenAt tree.nodes number) (part : IsLeafPart tree number (leaf.Live at.table at.value at.exact)) (stored : Stored)
+    (table : ℕ) (exact : Bool) (outcome : Outcome) (action : Move) → IsSound tree → EachLeaf P root (tree_of tree)
     → HoldsOfNew Q part.part.node stored table exact outcome action
     → EachLeaf Q root (tree_of (tree_after tree number stored table exact outcome action))
 after_holds P Q turn tree number at part stored table exact outcome Again sound each new =
@@ -265,7 +265,8 @@ node_after tree wanted stored table exact outcome (Split g t) sound at free numb
     (closed_stays tree wanted (live_leaf stored) sound at number node e)
 node_after tree wanted stored table exact outcome (Prune seen) sound at free number node e =
     closed_stays tree wanted (bound_leaf stored) sound at number node e
-node_after tree wanted stored table exact outcome Ray sound at free number node e = closed_stays tree wanted (ray_leaf exact table) sound at number node e
+node_after tree wanted stored table exact outcome Ray sound at free number node e =
+    closed_stays tree wanted (ray_leaf exact table) sound at number node e
 node_after tree wanted stored table exact outcome Empty sound at free number node e =
     closed_stays tree wanted (empty_leaf exact (unit_of outcome)) sound at number node e
 
@@ -340,8 +341,8 @@ not_open tree number s stands differ at =
     let both : Some s ≡ Some (spot.Leaf (leaf.Live at.table at.value at.exact)) = sym stands ∙ at.live in
     differ at.table at.value at.exact (cc)
 
-pub open_again_only : (tree : TreeView) (wanted : ℕ) (stored : Stored) (table : ℕ) (exact : Bool) (outcome : Outcome) (action : Move) → IsSound tree
-    → IsOpenAt tree.nodes wanted → IsOpenAt (tree_after tree wanted stored table exact outcome action).nodes wanted → IsAgain action
+pub open_again_only : (tree : TreeView) (wanted : ℕ) (stored : Stored) (table : ℕ) (exact : Bool) (outcome : Outcome) (action : Move)
+    → IsSound tree → IsOpenAt tree.nodes wanted → IsOpenAt (tree_after tree wanted stored table exact outcome action).nodes wanted → IsAgain action
 open_again_only tree wanted stored table exact outcome Again sound at new = tt
 open_again_only tree wanted stored table exact outcome (Split g t) sound at new =
     let l = live_leaf stored in
@@ -363,4 +364,5 @@ open_again_only tree wanted stored table exact outcome Ray sound at new =
     (closed_there tree.nodes wanted (ray_leaf exact table) sound.placed at) (of_ray IsNotLive exact table (λ a b k e. cc) (λ a b k e. cc)) new
 open_again_only tree wanted stored table exact outcome Empty sound at new =
     not_open (closed tree wanted (empty_leaf exact (unit_of outcome))).nodes wanted (spot.Leaf (empty_leaf exact (unit_of outcome)))
-    (closed_there tree.nodes wanted (empty_leaf exact (unit_of outcome)) sound.placed at) (of_empty IsNotLive exact (unit_of outcome) (λ a b k e. cc) (λ a b k e. cc)) new
+    (closed_there tree.nodes wanted (empty_leaf exact (unit_of outcome)) sound.placed at)
+    (of_empty IsNotLive exact (unit_of outcome) (λ a b k e. cc) (λ a b k e. cc)) new

@@ -72,7 +72,8 @@ kept_plain old number k (outcome.Empty g) plain = plain
 
 -- ---- what a move makes
 replaced_plain : (here : Node) (tree : NumberedTree) (wanted : ℕ) (grow : Leaf → NumberedTree)
-    → ((node : Node) (l : Leaf) → IsPlainLeaf l → IsPlainBelow node (grow l)) → IsPlainBelow here tree → IsPlainBelow here (replaced wanted grow tree)
+    → ((node : Node) (l : Leaf) → IsPlainLeaf l → IsPlainBelow node (grow l)) → IsPlainBelow here tree
+    → IsPlainBelow here (replaced wanted grow tree)
 replaced_plain here (EndAt number l) wanted grow grown plain = by_test (number == wanted)
   where
     by_test : (b : Bool) → IsPlainBelow here (cond b (grow l) (EndAt number l))
@@ -110,7 +111,8 @@ committed_plain m worker unit node table result action is = record {
 
 pub plain_after : (m : Machine) (event : Event) → IsPlainState m → IsPlainEvent event → IsPlainState (after m event)
 plain_after m (Commit worker unit table exact result action) is plain =
-    subst (λ kind. IsPlainState (committed_by m worker unit table kind result action (holder_of m unit))) (sym plain) (by_holder (holder_of m unit))
+    subst (λ kind. IsPlainState (committed_by m worker unit table kind result action (holder_of m unit))) (sym plain)
+    (by_holder (holder_of m unit))
   where
     by_holder : (holder : Option Holder) → IsPlainState (committed_by m worker unit table false result action holder)
     by_holder None = is
@@ -118,5 +120,6 @@ plain_after m (Commit worker unit table exact result action) is plain =
 plain_after m (Claim worker node) is plain = record { tree = is.tree; entries = is.entries }
 plain_after m _ is plain = record { tree = is.tree; entries = is.entries }
 
-pub plain_start : (units periods workers budget gap : ℕ) (table : Table) (value : ℤ) → IsPlainState (start_of units periods workers budget gap table value)
+pub plain_start : (units periods workers budget gap : ℕ) (table : Table) (value : ℤ)
+    → IsPlainState (start_of units periods workers budget gap table value)
 plain_start units periods workers budget gap table value = record { tree = refl; entries = All-nil (λ (entry : Entry). entry.exact ≡ false) }

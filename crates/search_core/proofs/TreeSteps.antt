@@ -186,7 +186,8 @@ stored_new looked instance m node here table exact result (Split g t) lawful is 
 stored_new looked instance m node here table exact result (Prune seen) lawful is old legal =
     kept_bounded exact instance m.tables table here (stored_at m.tree node) result old is
 stored_new looked instance m node here table exact result Ray lawful is old legal =
-    ray_stored exact instance (m.tables ++ table ∷ []) here (length m.tables) (ray_holds exact instance m.tables table here result is legal.0 legal.1)
+    ray_stored exact instance (m.tables ++ table ∷ []) here (length m.tables)
+    (ray_holds exact instance m.tables table here result is legal.0 legal.1)
 stored_new looked instance m node here table exact (outcome.Value v) Empty lawful is old legal = absurd legal
 stored_new looked instance m node here table exact (outcome.Empty g) Empty lawful is old legal =
     empty_stored exact instance (m.tables ++ table ∷ []) here g is.told

@@ -144,7 +144,8 @@ pruned_new : NeverDecreases → (m : Machine) (worker node : ℕ) (here : Node) 
 pruned_new law m worker node here table exact result Again orderly least legal = tt
 pruned_new law m worker node here table exact result (Split g t) orderly least legal = (tt, tt, tt)
 pruned_new law m worker node here table exact result (Prune seen) orderly least legal =
-    best_within law m.best seen (kept m node table exact result).value m.gap orderly.amounts.gap (subst (AtMost m.best) legal.1.looked least) legal.1.within
+    best_within law m.best seen (kept m node table exact result).value m.gap orderly.amounts.gap
+    (subst (AtMost m.best) legal.1.looked least) legal.1.within
 pruned_new law m worker node here table exact result Ray orderly least legal =
     of_ray (IsPrunedWithin m.best m.gap) exact (length m.tables) tt tt
 pruned_new law m worker node here table exact result Empty orderly least legal =
@@ -366,7 +367,8 @@ pub tree_reached_holds : (looked : Machine → ℕ → ℤ → Type 0) (instance
     → IsReachedBy looked instance start m → TreeHoldsAt instance start m × IsOrderly m
 tree_reached_holds looked instance start m lawful reached =
     let first = reached.is_start in
-    let both = tree_along looked instance start start reached.events lawful (start_tree instance start first) (start_logged instance start first) reached.run in
+    let both = tree_along looked instance start start reached.events lawful (start_tree instance start first)
+    (start_logged instance start first) reached.run in
     subst (λ (x : Machine). TreeHoldsAt instance start x × IsOrderly x) reached.is
     (tree_holds_at instance start (after_all start reached.events) lawful both.0 both.1, both.0.orderly)
 

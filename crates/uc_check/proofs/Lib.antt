@@ -7,3 +7,5 @@ pub mod Verdicts
 pub mod SameTexts
 pub mod CheckedAlike
 pub mod Rewriting
+pub mod TextNumbers
+pub mod Uplifts

@@ -1,6 +1,6 @@
 -- How the ends of a run of `check` follow from its steps: reading the instance (from the files f to g), reading the
 -- certificate (from g to h), checking it, and the report.
-use Rattle.std.proofs.Common.{◌≡◌, ℕ, true, false, sym, subst, ap, ◌∙◌, refl, ⊎_elim, Result, Ok, Err, IfOk, IfErr, IsErrAnd, Some, None, List}
+use Rattle.std.proofs.Common.{◌≡◌, ℕ, true, sym, subst, ap, ◌∙◌, refl, ⊎_elim, Result, Ok, Err, IfErr, IsErrAnd, Some, None, List}
 use Rattle.uc_model.specs.Limits.{IsLawfulInstance}
 use Rattle.uc_model.proofs.PrintedCosts.{cost-le-printed}
 use Rattle.dual_model.specs.Certificate.{Certificate, CertificateHolds, WrittenSchedule}
@@ -15,12 +15,7 @@ use Rattle.command_line.specs.Command.{Check}
 use Rattle.uc_check.specs.Outside.{Slot, Outside, outside_of}
 use Rattle.uc_check.specs.Reading.{Fault, Instance, Memory, HasInstance}
 use Rattle.uc_check.specs.Checking.{Code, Write, check_options, HasCertificate, HasCertificateCause, IsCertificateFault, IsCheckFailure, IsCheckStopped, IsInstanceFault, IsScheduleTrue, text_of_claims}
-use Rattle.uc_check.specs.inside.Checks.{Cert, Claims, AreVerifiedClaims, HasCertificateText, IsRefusedCert}
-
-pub ok_both : {T E : Type 0} (result : Result T E) (P Q R : T → Type 0) → IfOk result P → IfOk result Q → ((x : T) → P x → Q x → R x)
-    → IfOk result R
-ok_both (Ok x) P Q R p q both = both x p q
-ok_both (Err e) P Q R p q both = tt
+use Rattle.uc_check.specs.inside.Checks.{Cert, Claims, HasCertificateText, IsChecked, IsRefusedCert}
 
 -- what `?` hands up is what it was handed
 pub handed_up : {T E : Type 0} (result : Result T E) (e : E) (P : E → Type 0) → IsErrAnd result (λ f. f ≡ e) → P e → IfErr result P
@@ -66,7 +61,7 @@ pub verified : (asked : Check) (f g h : Slot → SlotState) (instance : Instance
     → HasInstance (check_options asked) (f slot.Instance) instance rounded → SameBut slot.Instance f g → SameBut slot.CertIn g h
     → (g slot.Instance).faults ≡ (f slot.Instance).faults → (h slot.CertIn).faults ≡ (g slot.CertIn).faults
     → HasCertificateText (g slot.CertIn) cert → IsAccepted instance cert claims → IsClaimTrue instance claims.bound
-    → AreVerifiedClaims asked f h claims
+    → IsChecked asked f h (record { instance = instance; cert = cert; claims = claims })
 verified asked f g h instance rounded cert claims read first second calm checked text accepted claim =
     let c = text.text.certificate in
     let listed = text.text.listed in
@@ -83,6 +78,8 @@ verified asked f g h instance rounded cert claims read first second calm checked
         claim = subst (IsClaimTrue instance) claimed.bound claim;
         schedule = schedule_true instance c read.lawful holds;
       };
+      instance = refl;
+      listed = listed;
       claimed = claimed;
       calm = calm_each f g h first second calm checked;
     }

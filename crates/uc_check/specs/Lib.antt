@@ -4,4 +4,5 @@ pub mod Writing
 pub mod Ending
 pub mod Checking
 pub mod Upgrading
+pub mod Uplifting
 pub mod inside

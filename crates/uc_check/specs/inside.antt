@@ -1,3 +1,4 @@
 pub mod Checks
 pub mod Unread
 pub mod Prices
+pub mod Picks

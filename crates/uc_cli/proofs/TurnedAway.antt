@@ -5,7 +5,7 @@ use Rattle.outside.specs.Slots.{SlotState, AllUnopened}
 use Rattle.outside.specs.Sinks.{SinkState}
 use Rattle.command_line.specs.Arguments.{is_taken}
 use Rattle.uc_check.specs.Checking.{most_certificate_bytes}
-use Rattle.command_line.specs.Command.{Command, Solves, Checks, Demos, Upgrades, command_of}
+use Rattle.command_line.specs.Command.{Command, Solves, Checks, Demos, Upgrades, Uplifts, command_of}
 use Rattle.uc_check.specs.Outside.{outside_of}
 use Rattle.uc_check.specs.Reading.{most_bytes}
 use Rattle.uc_cli.specs.Run.{Fault, Memory, Slot, Words, IsRun, IsTurnedAway, IsUsage}
@@ -51,6 +51,16 @@ stopped (Upgrades asked) files out err_old err_new end unopened is = record {
     other = refl;
   };
   ended = inr (faulty _ _ _ _ _ (record { cause = tt; certificate = refl; out = refl }) is);
+}
+stopped (Uplifts asked) files out err_old err_new end unopened is = record {
+  files = record {
+    instance = inl (unopened slot.Instance);
+    instance_read = untouched most_bytes (files slot.Instance) (unopened slot.Instance);
+    certificate = inl (unopened slot.CertIn);
+    certificate_read = untouched most_certificate_bytes (files slot.CertIn) (unopened slot.CertIn);
+    other = refl;
+  };
+  ended = inr (faulty _ _ _ _ _ (record { cause = inl (record { cause = tt; untouched = refl }); out = refl }) is);
 }
 
 some_of : {X : Type 0} (o : Option X) → is_some o ≡ true → (x : X) × (o ≡ Some x)

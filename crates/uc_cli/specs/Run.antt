@@ -18,10 +18,11 @@ use Rattle.report.specs.FoundReport.{found_report}
 pub use Rattle.report.specs.declared.fault.Fault.{Fault}
 pub use Rattle.report.specs.declared.fault.Fault.TheVariants.{Words, Write, Memory}
 use Rattle.uc_check.specs.Outside.{Outside}
-use Rattle.command_line.specs.Command.{Solve, Command, Solves, Checks, Demos, Upgrades}
+use Rattle.command_line.specs.Command.{Solve, Command, Solves, Checks, Demos, Upgrades, Uplifts}
 use Rattle.uc_check.specs.Reading.{most_bytes, HasInstance, HasCause, IsOpenedByNoOther, IsOnlyRead}
 use Rattle.uc_check.specs.Checking.{IsCheckRun, IsScheduleTrue}
 use Rattle.uc_check.specs.Upgrading.{IsUpgradeRun}
+use Rattle.uc_check.specs.Uplifting.{IsUpliftRun}
 use Rattle.uc_check.specs.Ending.{Ends, IsFaulty}
 use Rattle.uc_cli.specs.DemoRun.{IsDemoRun}
 use Rattle.uc_check.specs.Writing.{text_of_certificate, IsSaved, FailsToSave, IsTold, FailsToTell}
@@ -105,6 +106,7 @@ IsRun (Solves asked) before after end = IsSolveRun asked before after end
 IsRun (Checks asked) before after end = IsCheckRun asked before after end
 IsRun (Demos asked) before after end = IsDemoRun asked before after end
 IsRun (Upgrades asked) before after end = IsUpgradeRun asked before after end
+IsRun (Uplifts asked) before after end = IsUpliftRun asked before after end
 
 -- a run ends at its words because they aren't taken, or because memory was refused
 abbrev pub IsTurnedAway : Fault → Option Found → Type 0

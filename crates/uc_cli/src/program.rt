@@ -14,7 +14,7 @@ use outside::{Files, Gate, Sink};
 use std::alloc::Global;
 use std::sync::Wait;
 use std::thread::Threads;
-use uc_check::{End, Failure, check_certificate, end_of, upgrade_certificate};
+use uc_check::{End, Failure, check_certificate, end_of, upgrade_certificate, uplift_certificate};
 
 /// A run of the program. The words begin with the program's name; each slot of the files is unopened.
 ///
@@ -22,9 +22,10 @@ use uc_check::{End, Failure, check_certificate, end_of, upgrade_certificate};
 /// one printed is above, 2 where a bound was printed and no schedule was found, and 3 where none exists; that of `check` is 0
 /// where the certificate holds for the instance, and 9 where it doesn't, is no certificate's text or has more than 2^46
 /// bytes; that of `upgrade` is 0 where the certificate was written anew, and 9 where it is no certificate's text or has more than
-/// 2^46 bytes. It is 4 where the instance's bytes stand for no instance or are more than 2^26, or the prices of shortages are too high
-/// for it, 5 where the command-line parser doesn't take the words, 6 where reading the instance or the certificate failed, 7 where writing the certificate or
-/// the report failed, and 8 where memory was refused.
+/// 2^46 bytes; that of `uplift` is as that of `check`, and 9 too where the certificate holds and has no uplifts. It is 4 where the
+/// instance's bytes stand for no instance or are more than 2^26, or the prices of shortages are too high for it, 5 where the command-line
+/// parser doesn't take the words, 6 where reading the instance or the certificate failed, 7 where writing the certificate or the report
+/// failed, and 8 where memory was refused.
 pub fn uc<R: Threads + Wait + Sync, F: Files, O: Sink, E: Sink, G: Gate + Sync>(
     rt: &R,
     alloc: Global,
@@ -48,6 +49,7 @@ pub fn uc<R: Threads + Wait + Sync, F: Files, O: Sink, E: Sink, G: Gate + Sync>(
         Ok(Command::Check(asked)) => check_certificate(alloc, &asked, files, out, err),
         Ok(Command::Demo(asked)) => demo(rt, alloc, &asked, out, err, gate),
         Ok(Command::Upgrade(asked)) => upgrade_certificate(alloc, &asked, files, out, err),
+        Ok(Command::Uplift(asked)) => uplift_certificate(alloc, &asked, files, out, err),
         Err(fault) => end_of(err, Err(Failure { fault, found: None })),
     }
 }

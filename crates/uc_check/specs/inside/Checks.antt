@@ -11,6 +11,7 @@ pub use Rattle.cert_text.specs.declared.cert.Cert.{Cert}
 use Rattle.cert_check.specs.Answers.{AreClaimsOf}
 use Rattle.cert_check.specs.Refusals.{IsRefusedBy}
 pub use Rattle.cert_check.specs.declared.claims.Claims.{Claims}
+pub use Rattle.uc_check.specs.declared.verify.Checked.{Checked}
 use Rattle.command_line.specs.Command.{Check}
 use Rattle.uc_check.specs.Checking.{Code, Fault, Line, Memory, most_certificate_bytes, IsFaultyAt, IsVerified}
 
@@ -34,9 +35,11 @@ IsRefusedCert instance cert (Code code) =
 IsRefusedCert instance cert Memory = Unit {0}
 IsRefusedCert instance cert _ = ⊥
 
--- the claims are those of the certificate in the file, which holds; and reading it met no fault
-pub record AreVerifiedClaims (asked : Check) (before after : Slot → SlotState) (claims : Claims) : Type 0 where
+-- what was read is the instance and the certificate in the files, which holds; the claims are its own; and reading met no fault
+pub record IsChecked (asked : Check) (before after : Slot → SlotState) (checked : Checked) : Type 0 where
   pub certificate : Certificate
   pub verified : IsVerified asked before certificate
-  pub claimed : AreClaimsOf certificate claims
+  pub instance : verified.instance ≡ checked.instance
+  pub listed : listing_of certificate ≡ listing_read checked.cert
+  pub claimed : AreClaimsOf certificate checked.claims
   pub calm : (s : Slot) → (after s).faults ≡ (before s).faults

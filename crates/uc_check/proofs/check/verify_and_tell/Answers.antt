@@ -4,43 +4,43 @@ use Rattle.uc_check.specs.Writing.{IsTold, FailsToTell}
 use Rattle.uc_check.proofs.Verdicts.{handed_up, stopped_failure, of_claims}
 use Rattle.uc_check.proofs.check.verify_and_tell.Goals as goal
 
-pub returns-in_err-claims-clause-failed : goal.returns-in_err-claims-clause-failed
-returns-in_err-claims-clause-failed g c = λ err_old err_new.
-    let fault = c.in_err-claims.field-0.0 in
+pub returns-in_err-checked-clause-failed : goal.returns-in_err-checked-clause-failed
+returns-in_err-checked-clause-failed g c = λ err_old err_new.
+    let fault = c.in_err-checked.field-0.0 in
     handed_up c.from_residual.result (record { fault = fault; found = None }) _ c.from_residual.ensures.1
-    (stopped_failure _ _ _ fault (c.in_err-claims.ensures.stopped (g.O.Sink.state c.args.out.now) err_old err_new))
+    (stopped_failure _ _ _ fault (c.in_err-checked.ensures.stopped (g.O.Sink.state c.args.out.now) err_old err_new))
 
-pub returns-in_err-claims-clause-files : goal.returns-in_err-claims-clause-files
-returns-in_err-claims-clause-files g c = λ err_old err_new.
-    c.in_err-claims.ensures.files (g.O.Sink.state c.args.out.now) (g.O.Sink.state c.args.out.now) err_old err_new
+pub returns-in_err-checked-clause-files : goal.returns-in_err-checked-clause-files
+returns-in_err-checked-clause-files g c = λ err_old err_new.
+    c.in_err-checked.ensures.files (g.O.Sink.state c.args.out.now) (g.O.Sink.state c.args.out.now) err_old err_new
 
 pub returns-in-Ok-clause-done : goal.returns-in-Ok-clause-done
 returns-in-Ok-clause-done g c = λ err_old err_new.
-    let verified = c.in_ok-claims.ensures.verified in
+    let verified = c.in_ok-checked.ensures.verified in
     record {
       code = refl;
       nothing = refl;
       done = record {
         certificate = verified.certificate;
         verified = verified.verified;
-        told = of_claims (λ text. IsTold text (g.O.Sink.state c.args.out.now) (g.O.Sink.state c.tell_claims.new.out)) verified.certificate c.in_ok-claims.claims verified.claimed c.in-Ok.ensures.told;
+        told = of_claims (λ text. IsTold text (g.O.Sink.state c.args.out.now) (g.O.Sink.state c.tell_claims.new.out)) verified.certificate c.in_ok-checked.checked.claims verified.claimed c.in-Ok.ensures.told;
         calm = verified.calm;
       };
     }
 
 pub returns-in-Ok-clause-files : goal.returns-in-Ok-clause-files
 returns-in-Ok-clause-files g c = λ err_old err_new.
-    c.in_ok-claims.ensures.files (g.O.Sink.state c.args.out.now) (g.O.Sink.state c.tell_claims.new.out) err_old err_new
+    c.in_ok-checked.ensures.files (g.O.Sink.state c.args.out.now) (g.O.Sink.state c.tell_claims.new.out) err_old err_new
 
-pub returns-in-Err-clause-failed : goal.returns-in-Err-clause-failed
-returns-in-Err-clause-failed g c = λ err_old err_new.
-    let verified = c.in_ok-claims.ensures.verified in
+pub returns-clause-failed : goal.returns-clause-failed
+returns-clause-failed g c = λ err_old err_new.
+    let verified = c.in_ok-checked.ensures.verified in
     record {
       certificate = verified.certificate;
       verified = verified.verified;
-      report = of_claims (λ text. FailsToTell text (g.O.Sink.state c.args.out.now) (g.O.Sink.state c.tell_claims.new.out)) verified.certificate c.in_ok-claims.claims verified.claimed c.in-Err.ensures.failed;
+      report = of_claims (λ text. FailsToTell text (g.O.Sink.state c.args.out.now) (g.O.Sink.state c.tell_claims.new.out)) verified.certificate c.in_ok-checked.checked.claims verified.claimed c.in-Err.ensures.failed;
     }
 
-pub returns-in-Err-clause-files : goal.returns-in-Err-clause-files
-returns-in-Err-clause-files g c = λ err_old err_new.
-    c.in_ok-claims.ensures.files (g.O.Sink.state c.args.out.now) (g.O.Sink.state c.tell_claims.new.out) err_old err_new
+pub returns-clause-files : goal.returns-clause-files
+returns-clause-files g c = λ err_old err_new.
+    c.in_ok-checked.ensures.files (g.O.Sink.state c.args.out.now) (g.O.Sink.state c.tell_claims.new.out) err_old err_new

@@ -1,10 +1,9 @@
 -- A fault of the certificate comes after the instance was read.
 use Rattle.std.proofs.Common.{inr, refl}
-use Rattle.std.proofs.lemmas.Result.{IfErr-weaker}
 use Rattle.command_line.specs.Asked.{check_asked}
 use Rattle.uc_check.proofs.Unread.{for_instance}
-use Rattle.uc_check.proofs.Verdicts.{certificate_fault, handed_up, ok_both, refused_cause, verified}
-use Rattle.uc_check.proofs.check.verify.Goals as goal
+use Rattle.uc_check.proofs.Verdicts.{certificate_fault, handed_up, refused_cause, verified}
+use Rattle.uc_check.proofs.verify.verify.Goals as goal
 
 pub returns-in_err-cert-clause-stopped : goal.returns-in_err-cert-clause-stopped
 returns-in_err-cert-clause-stopped g c =
@@ -18,27 +17,26 @@ returns-in_err-cert-clause-stopped g c =
       out = refl;
     })
 
-pub returns-clause-verified : goal.returns-clause-verified
-returns-clause-verified g c =
-    let files = g.F.Files.state in
-    ok_both c.claims_of.result _ _ _ c.claims_of.ensures.accepted c.claims_of.ensures.claim (λ claims.
-    verified (check_asked c.args.asked.now) (files c.args.files.now) (files c.read_instance.new.files) (files c.read_certificate.new.files)
-    c.in_ok-instance.instance c.in_ok-instance._rounded c.in_ok-cert.cert claims c.in_ok-instance.ensures.read
-    c.in_ok-instance.ensures.others c.in_ok-cert.ensures.others c.in_ok-instance.ensures.calm c.in_ok-cert.ensures.calm
-    c.in_ok-cert.ensures.text)
-
-pub returns-clause-stopped : goal.returns-clause-stopped
-returns-clause-stopped g c =
+pub returns-in_err-claims-clause-stopped : goal.returns-in_err-claims-clause-stopped
+returns-in_err-claims-clause-stopped g c =
     let files = g.F.Files.state in
     let old = files c.args.files.now in
     let middle = files c.read_instance.new.files in
     let new = files c.read_certificate.new.files in
-    IfErr-weaker c.claims_of.result _ _ (λ fault refused. λ out err_old err_new.
+    let fault = c.in_err-claims.field-0.0 in
+    handed_up c.from_residual-in_err-claims.result fault _ c.from_residual-in_err-claims.ensures.1 (λ out err_old err_new.
     record {
       cause = inr (certificate_fault (check_asked c.args.asked.now) old middle new out err_old err_new c.in_ok-instance.instance c.in_ok-instance._rounded fault
           c.in_ok-instance.ensures.read c.in_ok-instance.ensures.others c.in_ok-cert.ensures.others c.in_ok-instance.ensures.calm
           (refused_cause old middle new c.in_ok-instance.instance c.in_ok-cert.cert fault c.in_ok-cert.ensures.calm
-          c.in_ok-cert.ensures.text refused));
+          c.in_ok-cert.ensures.text c.in_err-claims.ensures.refused));
       out = refl;
     })
-    c.claims_of.ensures.refused
+
+pub returns-clause-verified : goal.returns-clause-verified
+returns-clause-verified g c =
+    let files = g.F.Files.state in
+    verified (check_asked c.args.asked.now) (files c.args.files.now) (files c.read_instance.new.files) (files c.read_certificate.new.files)
+    c.in_ok-instance.instance c.in_ok-instance._rounded c.in_ok-cert.cert c.in_ok-claims.claims c.in_ok-instance.ensures.read
+    c.in_ok-instance.ensures.others c.in_ok-cert.ensures.others c.in_ok-instance.ensures.calm c.in_ok-cert.ensures.calm
+    c.in_ok-cert.ensures.text c.in_ok-claims.ensures.accepted c.in_ok-claims.ensures.claim

@@ -1,0 +1,14 @@
+-- Each argument adds its rule.
+use Rattle.std.proofs.Common.{ap}
+use Rattle.std.proofs.lemmas.Result.{IfOk-weaker}
+use Rattle.clap.specs.Words.{App}
+use Rattle.command_line.proofs.arguments.uplift_command.Goals as goal
+
+pub returns-clause-shape : goal.returns-clause-shape
+returns-clause-shape c =
+    let first = c.with_arg-command.ensures.app _ _ c.place.ensures.rule c.new.ensures.app in
+    let second = c.with_arg-command-2.ensures.app _ _ c.place-2.ensures.rule first in
+    let third = c.with_arg-command-3.ensures.app _ _ c.table_option.ensures.rule second in
+    let fourth = c.with_arg-command-4.ensures.app _ _ c.price_option.ensures.rule third in
+    IfOk-weaker c.with_arg.result _ _ (λ command is. ap (λ (a : App). a.top) is)
+    (c.with_arg.ensures.app _ _ c.price_option-2.ensures.rule fourth)

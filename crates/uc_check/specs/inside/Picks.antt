@@ -1,0 +1,34 @@
+-- What is picked for uplifts from a certificate that was read. This project's own.
+use Rattle.std.specs.Prelude.{◌≡◌, ℕ}
+use Rattle.uc_model.specs.Limits.{IsLawfulInstance}
+use Rattle.uc_model.specs.PrintedSchedule.{HasShapeOf, printed_denominator, printed_schedule}
+use Rattle.uc_model.specs.Rules.{Obeys}
+pub use Rattle.uc_model.specs.declared.instance.Instance.{Instance}
+use Rattle.dual_model.specs.Prices.{IsLawfulTable}
+use Rattle.schedule_check.specs.SizedNumbers.{HasSizedNumbers}
+use Rattle.branch_tree.specs.Claims.{written_of}
+pub use Rattle.cert_text.specs.declared.cert.Cert.{Cert}
+use Rattle.report.specs.declared.fault.Fault.{Fault}
+use Rattle.report.specs.declared.fault.Fault.TheVariants.{NoUplift}
+use Rattle.uc_check.specs.Uplifting.{Printed, Table, IsWholeSchedule, IsPriceTable, HasNoUplifts}
+
+-- the schedule and the table of which uplifts are
+pub record ArePicked (cert : Cert) (number : ℕ) (printed : Printed) (table : Table) : Type 0 where
+  pub schedule : IsWholeSchedule (written_of cert.schedule) printed
+  pub prices : IsPriceTable cert.tables number table
+
+-- why there are none
+abbrev pub IsUnpicked : Cert → ℕ → Fault → Type 0
+IsUnpicked cert number (NoUplift refusal) = HasNoUplifts (written_of cert.schedule) cert.tables number refusal
+IsUnpicked cert number _ = ⊥
+
+-- what a schedule and a table have to meet to have uplifts
+pub record MayHaveUplifts (instance : Instance) (printed : Printed) (table : Table) : Type 0 where
+  pub lawful : IsLawfulInstance instance
+  pub shape : HasShapeOf instance printed
+  pub sized : HasSizedNumbers printed
+  pub whole : printed.denominator ≡ 1
+  pub obeys :
+      let q = printed_denominator instance printed in
+      Obeys instance q (printed_schedule instance printed q)
+  pub prices : IsLawfulTable instance table

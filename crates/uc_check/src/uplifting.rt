@@ -1,0 +1,179 @@
+//! A run of `uplift`.
+
+ghost use Rattle.std.specs.Prelude.{◌≡◌, ℕ, List, Option as Maybe, IfOk, IfErr, OnOk, OnErr};
+ghost use Rattle.std.specs.Option.{option_map};
+ghost use Rattle.outside.specs.Slots.{AllUnopened};
+ghost use Rattle.outside.specs.Sinks.{SinkState};
+ghost use Rattle.dual_model.specs.Certificate.{WrittenSchedule};
+ghost use Rattle.branch_tree.specs.Claims.{written_of};
+ghost use Rattle.report.specs.UpliftReport.{uplift_report};
+ghost use Rattle.uplift.specs.Uplift.{AreUplifts};
+ghost use Rattle.command_line.specs.Asked.{uplift_asked, HasPrices};
+ghost use Rattle.uc_check.specs.Outside.{outside_of};
+ghost use Rattle.uc_check.specs.Writing.{IsTold, FailsToTell};
+ghost use Rattle.uc_check.specs.Checking.{KeepsToInput};
+ghost use Rattle.uc_check.specs.Uplifting.{Table as TableNumbers, Printed as PrintedNumbers, table_of as table_of_number, told_numbers, HasNoUplifts, IsPriceTable, IsWholeSchedule, IsUplifting, IsUpliftFailure, IsUpliftRun};
+ghost use Rattle.uc_check.specs.inside.Picks.{ArePicked, IsUnpicked, MayHaveUplifts};
+
+use crate::ending::{End, Failure, end_of};
+use crate::verify::verify;
+use cert_text::Cert;
+use command_line::Uplift;
+use dual_model::Table;
+use outside::{Failed, Files, Sink};
+use report::{Fault, UpliftNumbers, UpliftRefusal, write_uplift};
+use std::alloc::Global;
+use uc_model::{Instance, Printed};
+use uplift::Uplifts;
+
+// The schedule that is written, where its watts are whole.
+fn whole_schedule(schedule: &Option<(Printed, i128)>) -> Result<&Printed, UpliftRefusal>
+    ensures whole { IfOk result (λ printed. IsWholeSchedule (written_of schedule.now) printed.now) }
+    ensures refused { IfErr result (λ refusal. (tables : List TableNumbers) (number : ℕ) → HasNoUplifts (written_of schedule.now) tables number refusal) }
+{
+    match schedule {
+        Some((printed, _)) => {
+            if printed.denominator > 1 {
+                Err(UpliftRefusal::Fractions)
+            } else {
+                Ok(printed)
+            }
+        }
+        None => Err(UpliftRefusal::NoSchedule),
+    }
+}
+
+// The table of this number, from 1, where there is one.
+fn table_of(tables: &[Table], number: u32) -> Option<&Table>
+    ensures { option_map (λ table. table.now) result ≡ table_of_number tables.now number }
+{
+    let place = number as usize;
+    if place == 0 {
+        return None;
+    }
+    if place > tables.len() {
+        return None;
+    }
+    Some(&tables[place - 1])
+}
+
+// The table of this number, where it is no ray.
+fn price_table(tables: &[Table], number: u32) -> Result<&Table, UpliftRefusal>
+    ensures prices { IfOk result (λ table. IsPriceTable tables.now number table.now) }
+    ensures refused { IfErr result (λ refusal. (schedule : Maybe WrittenSchedule) (printed : PrintedNumbers) → IsWholeSchedule schedule printed
+        → HasNoUplifts schedule tables.now number refusal) }
+{
+    match table_of(tables, number) {
+        Some(table) => {
+            if table.k() == 0 {
+                Err(UpliftRefusal::Ray)
+            } else {
+                Ok(table)
+            }
+        }
+        None => Err(UpliftRefusal::NoTable),
+    }
+}
+
+// The schedule and the table of this number of which uplifts are.
+fn picked(cert: &Cert, number: u32) -> Result<(&Printed, &Table), Fault>
+    ensures picked { IfOk result (λ p. ArePicked cert.now number p.0.now p.1.now) }
+    ensures refused { IfErr result (IsUnpicked cert.now number) }
+{
+    let printed = whole_schedule(&cert.schedule)?;
+    let table = price_table(cert.tables.as_slice(), number)?;
+    Ok((printed, table))
+}
+
+// The uplifts of a schedule that obeys at the prices of a table.
+fn uplifts_of(
+    alloc: Global,
+    instance: &Instance,
+    printed: &Printed,
+    table: &Table,
+) -> Result<Uplifts, Fault>
+    requires { MayHaveUplifts instance.now printed.now table.now }
+    ensures are { IfOk result (AreUplifts instance.now printed.now table.now) }
+    ensures memory { IfErr result (λ fault. fault ≡ Fault.Memory) }
+{
+    let uplifts = uplift::of(alloc, instance, printed, table)?;
+    Ok(uplifts)
+}
+
+// The numbers that the report tells.
+fn numbers_of(uplifts: Uplifts) -> UpliftNumbers
+    ensures { result ≡ told_numbers uplifts }
+{
+    UpliftNumbers {
+        thermal: uplifts.thermal,
+        renewable: uplifts.renewable,
+        shed: uplifts.shed,
+        reserve_slack: uplifts.reserve_slack,
+        ramp_slack: uplifts.ramp_slack,
+        total: uplifts.total,
+    }
+}
+
+// Writes the uplifts, and flushes them.
+fn tell_uplifts<O: Sink>(
+    out: &mut O,
+    instance: &Instance,
+    table: &Table,
+    numbers: &UpliftNumbers,
+) -> Result<(), Failed>
+    ensures told { OnOk result (IsTold (uplift_report instance.now table.now numbers.now) (O.state out.old) (O.state out.new)) }
+    ensures failed { OnErr result (FailsToTell (uplift_report instance.now table.now numbers.now) (O.state out.old) (O.state out.new)) }
+{
+    write_uplift(out, instance, table, numbers)?;
+    out.flush()
+}
+
+// Checks the certificate and reports its uplifts; the error output is as it may be.
+fn uplift_and_tell<F: Files, O: Sink>(
+    alloc: Global,
+    asked: &Uplift,
+    files: &mut F,
+    out: &mut O,
+) -> Result<End, Failure>
+    requires unopened { AllUnopened (F.state files.old) }
+    requires prices { HasPrices asked.now.check.shed asked.now.check.spill_reserve }
+    ensures done { (err_old err_new : SinkState) → IfOk result (IsUplifting (uplift_asked asked.now)
+        (outside_of (F.state files.old) (O.state out.old) err_old) (outside_of (F.state files.new) (O.state out.new) err_new)) }
+    ensures failed { (err_old err_new : SinkState) → IfErr result (λ f. IsUpliftFailure (uplift_asked asked.now)
+        (outside_of (F.state files.old) (O.state out.old) err_old) (outside_of (F.state files.new) (O.state out.new) err_new) f.fault f.found) }
+    ensures files { (err_old err_new : SinkState) → KeepsToInput (uplift_asked asked.now).check
+        (outside_of (F.state files.old) (O.state out.old) err_old) (outside_of (F.state files.new) (O.state out.new) err_new) }
+{
+    let checked = verify(alloc, &asked.check, files)?;
+    let (printed, table) = picked(&checked.cert, asked.table)?;
+    let uplifts = uplifts_of(alloc, &checked.instance, printed, table)?;
+    let numbers = numbers_of(uplifts);
+    match tell_uplifts(out, &checked.instance, table, &numbers) {
+        Ok(()) => Ok(End {
+            code: 0,
+            found: None,
+        }),
+        Err(Failed) => Err(Failure {
+            fault: Fault::Write { output: true },
+            found: None,
+        }),
+    }
+}
+
+/// A run of `uplift`: reads instance and certificate, checks the one against the other, and reports the uplifts of its schedule at the
+/// prices of one of its tables, or tells a fault. All memory is taken before the first byte is written.
+pub fn uplift_certificate<F: Files, O: Sink, E: Sink>(
+    alloc: Global,
+    asked: &Uplift,
+    files: &mut F,
+    out: &mut O,
+    err: &mut E,
+) -> End
+    requires unopened { AllUnopened (F.state files.old) }
+    requires prices { HasPrices asked.now.check.shed asked.now.check.spill_reserve }
+    ensures { IsUpliftRun (uplift_asked asked.now) (outside_of (F.state files.old) (O.state out.old) (E.state err.old))
+        (outside_of (F.state files.new) (O.state out.new) (E.state err.new)) result }
+{
+    let outcome = uplift_and_tell(alloc, asked, files, out);
+    end_of(err, outcome)
+}

@@ -1,0 +1,51 @@
+-- The lists hold the uplifts, and what the others leave of the gap is the ramp slack.
+use Rattle.std.proofs.Common.{◌≤◌, List, length, sym, subst, ◌∙◌, rules, ℤ, ◌+ℤ◌, ◌-ℤ◌, to_z, of_z, unsigned_abs, All}
+use Rattle.std.specs.Int.{w128}
+use Rattle.std.proofs.lemmas.Int.{to_z-of_z}
+use Rattle.uc_model.specs.Schedule.{renewable_count, thermal_count}
+use Rattle.uc_model.specs.Sums.{sum_below}
+use Rattle.schedule_check.proofs.Priced.{priced}
+use Rattle.uplift.specs.Sizes.{MAX_UNITS, MAX_UPLIFT}
+use Rattle.uplift.specs.inside.Lists.{AreRenewableUplifts, AreThermalUplifts, renewable_uplift_at, sum_in, uplift_by}
+use Rattle.uplift.proofs.Answered.{uplifts_are}
+use Rattle.uplift.proofs.Lists.{few_and_small}
+use Rattle.uplift.proofs.uplifts.of.Goals as goal
+
+pub thermal_uplifts-requires-clause-prices : goal.thermal_uplifts-requires-clause-prices
+thermal_uplifts-requires-clause-prices c = priced c.args.instance.now c.args.printed.now c.requires.lawful c.requires.whole c.requires.obeys
+
+pub rest-ramp_slack-requires-clause-first : goal.rest-ramp_slack-requires-clause-first
+rest-ramp_slack-requires-clause-first c =
+    let instance = c.args.instance.now in
+    subst (λ (xs : List ℤ). (length xs ≤ MAX_UNITS) × All (λ n. unsigned_abs n ≤ MAX_UPLIFT) xs) (sym c.deref.ensures.value)
+    (few_and_small (thermal_count instance) (uplift_by instance c.args.printed.now c.args.table.now c.as_slice-parts.result.now)
+    c.in_ok-thermal.thermal.items c.requires.lawful.thermal_units c.in_ok-thermal.ensures)
+
+pub rest-ramp_slack-requires-clause-second : goal.rest-ramp_slack-requires-clause-second
+rest-ramp_slack-requires-clause-second c =
+    let instance = c.args.instance.now in
+    subst (λ (xs : List ℤ). (length xs ≤ MAX_UNITS) × All (λ n. unsigned_abs n ≤ MAX_UPLIFT) xs) (sym c.deref-2.ensures.value)
+    (few_and_small (renewable_count instance) (λ w. sum_below instance.periods (renewable_uplift_at instance c.args.printed.now c.args.table.now w))
+    c.in_ok-renewable.renewable.items c.requires.lawful.renewable_units c.in_ok-renewable.ensures)
+
+pub returns : goal.returns
+returns c =
+    let instance = c.args.instance.now in
+    let printed = c.args.printed.now in
+    let table = c.args.table.now in
+    let known = to_z-of_z w128 c.sum.result (search rules) ∙ c.sum.ensures in
+    let first = c.deref.ensures.value ∙ sym c.from_vec.ensures in
+    let second = c.deref-2.ensures.value ∙ sym c.from_vec-2.ensures in
+    uplifts_are instance printed table c.in_ok-valued.valued _
+    (record { lawful = c.requires.lawful; one = c.requires.whole; obeys = c.requires.obeys })
+    c.requires.table c.in_ok-valued.ensures.value
+    (record {
+      thermal = subst (λ (uplifts : List ℤ). AreThermalUplifts instance printed table c.in_ok-valued.valued.parts uplifts) (sym c.from_vec.ensures)
+          (subst (λ (parts : List ℤ). AreThermalUplifts instance printed table parts c.in_ok-thermal.thermal.items) c.as_slice-parts.ensures c.in_ok-thermal.ensures);
+      renewable = subst (λ (uplifts : List ℤ). AreRenewableUplifts instance printed table uplifts) (sym c.from_vec-2.ensures) c.in_ok-renewable.ensures;
+      shed = to_z-of_z w128 c.shed_uplift-shed.result (search rules) ∙ c.shed_uplift-shed.ensures.value;
+      reserve = to_z-of_z w128 c.reserve_slack-reserve_slack.result (search rules) ∙ c.reserve_slack-reserve_slack.ensures.value;
+      total = to_z-of_z w128 c.gap-total.result (search rules) ∙ c.gap-total.ensures.value;
+      rest = to_z-of_z w128 c.rest-ramp_slack.result (search rules) ∙ c.rest-ramp_slack.ensures
+          ∙ (λ i. to_z w128 (of_z w128 c.gap-total.result) -ℤ (known i +ℤ (sum_in (first i) +ℤ sum_in (second i))));
+    })

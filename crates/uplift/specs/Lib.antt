@@ -1,0 +1,3 @@
+pub mod Uplift
+pub mod Sizes
+pub mod inside
