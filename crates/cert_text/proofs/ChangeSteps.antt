@@ -1,9 +1,8 @@
 -- Changes of a table that are read and made one after the other, and tables that are read behind each other.
-use Rattle.std.proofs.Common.{◌≡◌, ℕ, zero, suc, ◌+◌, ◌-◌, ◌<◌, ◌≤◌, Bool, true, false, cond, ◌&&◌, List, [], ◌∷◌, ◌++◌, length, Option, Some, None, Result, Ok, Err, refl, sym, ap, subst, ◌∙◌, arith, pos, ℤ, append-nil}
-use Rattle.std.specs.Option.{option_and_then, MatchOption}
+use Rattle.std.proofs.Common.{◌≡◌, ℕ, zero, suc, ◌+◌, ◌-◌, ◌<◌, ◌≤◌, Bool, true, false, cond, ◌&&◌, List, [], ◌∷◌, ◌++◌, length, Option, Some, None, Result, Ok, Err, refl, sym, ap, subst, ◌∙◌, arith, pos, append-nil}
+use Rattle.std.specs.Option.{option_and_then}
 use Rattle.std.specs.List.{slice_get}
-use Rattle.std.specs.Bool.{then_some}
-use Rattle.std.proofs.lemmas.Bool.{ltb-true, false≢true, and_from}
+use Rattle.std.proofs.lemmas.Bool.{ltb-true}
 use Rattle.std.proofs.lemmas.Option.{cond_some}
 use Rattle.std.proofs.lemmas.List.{length-set, length_push}
 use Rattle.cert_text.specs.Changes.{Table, RampRow, Change, OfDemand, OfReserve, OfRamps, changed, all_changed}
@@ -11,7 +10,7 @@ use Rattle.cert_text.specs.CertificateText.{Version, First, Second, told_from}
 use Rattle.cert_text.specs.Grammar.{Sizes, rescaled}
 use Rattle.cert_text.specs.inside.Forms.{Form, passing, written_change_at, is_within, comes_behind, is_other, change_at, next_at}
 use Rattle.cert_text.specs.inside.Parts.{Stop, ◌>>=◌, StopsAs, line_of, told, changes_part, changed_part, next_part, table_of, numbers_part, table_part, told_part, tables_part}
-use Rattle.cert_text.specs.inside.Drafts.{last_table, drafted, so_far, LieBefore, HasPrice, ArePriced, IsUnderway, IsMade, IsDrafted, IsRowSet}
+use Rattle.cert_text.specs.inside.Drafts.{last_table, drafted, so_far, HasPrice, ArePriced, IsDrafted}
 use Rattle.cert_text.specs.declared.reader.draft.Draft.{Draft}
 use Rattle.cert_text.specs.declared.reader.stop.Stop.TheVariants as stops
 use Rattle.cert_text.proofs.Loops.{one_left, none_left, behind_parts, regroup_parts}
@@ -76,57 +75,7 @@ change_has_price size draft left bytes rest change priced e = by_kind change (pa
     by_kind (OfReserve t price) within = omega (arith, ltb-true t size.periods within, priced.reserve)
     by_kind (OfRamps row) within = tt
 
--- ---- making a change
--- what comes next, by a test
-pub chosen : {X : Type 0} (some : Bool) (x : X) (P : Type 0) (Q : X → Type 0) → (some ≡ false → P) → (some ≡ true → Q x) → MatchOption (then_some some x) P Q
-chosen true x P Q none one = one refl
-chosen false x P Q none one = none refl
-
--- ramps may change behind whatever prices change behind
-ramps_behind_demand : (last : Option Change) (t : ℕ) (price : ℤ) (row : RampRow) → comes_behind last (OfDemand t price) ≡ true → comes_behind last (OfRamps row) ≡ true
-ramps_behind_demand None t price row e = refl
-ramps_behind_demand (Some (OfDemand u other)) t price row e = refl
-ramps_behind_demand (Some (OfReserve u other)) t price row e = refl
-ramps_behind_demand (Some (OfRamps other)) t price row e = absurd (false≢true e)
-
-ramps_behind_reserve : (last : Option Change) (t : ℕ) (price : ℤ) (row : RampRow) → comes_behind last (OfReserve t price) ≡ true → comes_behind last (OfRamps row) ≡ true
-ramps_behind_reserve None t price row e = refl
-ramps_behind_reserve (Some (OfDemand u other)) t price row e = refl
-ramps_behind_reserve (Some (OfReserve u other)) t price row e = refl
-ramps_behind_reserve (Some (OfRamps other)) t price row e = absurd (false≢true e)
-
-pub demand_made : (draft now : Draft) (left : List RampRow) (last : Option Change) (t : ℕ) (price : ℤ) → IsUnderway draft left last → now.ramps.items ≡ draft.ramps.items
-    → so_far now left ≡ changed (so_far draft left) (OfDemand t price) → comes_behind last (OfDemand t price) ≡ true → is_other (so_far draft left) (OfDemand t price) ≡ true
-    → IsMade draft left last (OfDemand t price) now left
-demand_made draft now left last t price underway same made behind other = record {
-  other = and_from (comes_behind last (OfDemand t price)) (is_other (so_far draft left) (OfDemand t price)) behind other;
-  table = made;
-  underway = record {
-    done = λ row e. subst (λ (rows : List RampRow). LieBefore rows row) (sym same) (underway.done row (ramps_behind_demand last t price row behind));
-    rising = underway.rising;
-  };
-}
-
-pub reserve_made : (draft now : Draft) (left : List RampRow) (last : Option Change) (t : ℕ) (price : ℤ) → IsUnderway draft left last → now.ramps.items ≡ draft.ramps.items
-    → so_far now left ≡ changed (so_far draft left) (OfReserve t price) → comes_behind last (OfReserve t price) ≡ true → is_other (so_far draft left) (OfReserve t price) ≡ true
-    → IsMade draft left last (OfReserve t price) now left
-reserve_made draft now left last t price underway same made behind other = record {
-  other = and_from (comes_behind last (OfReserve t price)) (is_other (so_far draft left) (OfReserve t price)) behind other;
-  table = made;
-  underway = record {
-    done = λ row e. subst (λ (rows : List RampRow). LieBefore rows row) (sym same) (underway.done row (ramps_behind_reserve last t price row behind));
-    rising = underway.rising;
-  };
-}
-
-pub ramps_made : (draft now : Draft) (left rest : List RampRow) (last : Option Change) (row : RampRow) → ((rows : List RampRow) → drafted now rows ≡ drafted draft rows)
-    → comes_behind last (OfRamps row) ≡ true → IsRowSet draft.ramps.items left row now.ramps.items rest → IsMade draft left last (OfRamps row) now rest
-ramps_made draft now left rest last row same behind set = record {
-  other = and_from (comes_behind last (OfRamps row)) (is_other (so_far draft left) (OfRamps row)) behind set.other;
-  table = ap (drafted now) set.rows ∙ same _;
-  underway = record { done = λ later e. set.before later e; rising = set.rising };
-}
-
+-- ---- making changes one after the other
 -- there are as many prices as before
 as_many_demand : (table : Table) (change : Change) → length (changed table change).pi ≡ length table.pi
 as_many_demand table (OfDemand t price) = length-set table.pi t price

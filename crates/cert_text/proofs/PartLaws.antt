@@ -12,7 +12,7 @@ use Rattle.cert_text.proofs.FormLaws.{IsForm, Anything, prices-form, scale-form,
 use Rattle.cert_text.proofs.TableForms.{ramp-form, next-form, change-form, node-form}
 use Rattle.cert_text.proofs.ChangeLaws.{changes_found, changes_make, changed_is_text, changes_few}
 use Rattle.std.proofs.lemmas.Int.{ints}
-use Rattle.dual_model.specs.Prices.{IsWellFormed, IsRowBefore, IsRowWithin}
+use Rattle.dual_model.specs.Prices.{IsRowBefore, IsRowWithin}
 use Rattle.cert_text.specs.TextConditions.{Table, IsRampText, IsTableText, IsMoney, HasText}
 use Rattle.cert_text.specs.CertificateText.{Version, First, Second, prices_line, ramps_line, ramp_line, table_lines, next_line, change_line, next_lines, told_from, told_lines, tables_lines, Listing, listing_of, version_line, size_line, claim_line, end_line, certificate_lines, certificate_text, TreeNode, LeafNode, SplitNode, preorder, node_line, IsNodeWithin}
 use Rattle.dual_model.specs.Certificate.{Certificate}
@@ -155,13 +155,6 @@ table-part ahead lawful =
           (w.scale, (record { periods = w.periods_priced; written = w.pi }, (record { periods = w.form.lengths ∙ w.periods_priced; written = w.mu }, (w.rows, ramps_from size None table.ramps rows w.ramps w.form.rising (λ first others e. tt))))),
           λ i. record { units = sym w.units i; k = natural table.k w.form.scale i; pi = table.pi; mu = table.mu; ramps = table.ramps },
         )
-
--- the numbers that are read are those of a well-formed table
-pub numbers_form : (size : Sizes) → AreSizes size → (bytes : List ℕ) (numbers : ℕ × (List ℤ × (List ℤ × List RampRow))) (rest : List ℕ)
-    → numbers_part size bytes ≡ Ok (numbers, rest) → IsWellFormed (table_of size numbers)
-numbers_form size lawful bytes numbers rest e =
-    let table : table_part size bytes ≡ Ok (table_of size numbers, rest) = unfold table_part in rw e refl in
-    ((table-part (record { size = size; tables = 0 }) lawful).takes bytes (table_of size numbers, rest) table).0.form
 
 -- ---- tables told by their difference to another
 pub changes-part : (ahead : Ahead) → AreSizes ahead.size → (table : Table) (n : ℕ) (last : Option Change)

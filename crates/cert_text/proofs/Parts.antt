@@ -2,6 +2,7 @@
 use Rattle.std.proofs.Common.{◌≡◌, ℕ, List, [], ◌∷◌, ◌++◌, length, map, refl, ap, ◌∙◌, sym, append_assoc, Bool, Option, Some, None, zero, suc, ◌<◌, cond, get_or, arith, ◌^◌, true, false, All, ℤ, pos, negsuc, ◌≤ℤ◌, eq-eqb, ne_eqb, IfSome}
 use Rattle.std.specs.List.{flat_map}
 use Rattle.dual_model.specs.Certificate.{WrittenSchedule, Certificate, CertificateHolds, ClaimHolds}
+use Rattle.branch_tree.specs.Kinds.{IsPlainLeaf, IsPlainTree}
 use Rattle.branch_tree.specs.TreeView.{tree_of, IsWhole}
 use Rattle.branch_tree.specs.UsedTables.{used_tables, place_of, stored_tables}
 use Rattle.branch_tree.specs.Claims.{table_at, certificate_of, leaf_claim, written_tables, written_of}
@@ -151,21 +152,25 @@ place_past (first ∷ used) table others =
     ∙ ap suc (place_past used table (λ k l. others (suc k) (omega arith)))
 
 -- ---- When the certificate of a found answer has a text.
--- the leaf claims by V, as each leaf of a search's tree does
+-- the leaf claims by V, as each leaf of a plain tree does
 abbrev IsPlain : Node → Leaf → Type 0
 IsPlain node (Bound exact number) = exact ≡ false
 IsPlain node (Ray exact number) = exact ≡ false
 IsPlain node (Empty exact g) = exact ≡ false
 
-plain-claim : (used : List ℕ) (node : Node) (leaf : FoundLeaf) → IsPlain node (leaf_claim used leaf)
-plain-claim used node (leaf.Live table value) = refl
-plain-claim used node (leaf.Bound table value) = refl
-plain-claim used node (leaf.Ray table) = refl
-plain-claim used node (leaf.Empty g) = refl
+plain-claim : (used : List ℕ) (node : Node) (leaf : FoundLeaf) → IsPlainLeaf leaf → IsPlain node (leaf_claim used leaf)
+plain-claim used node (leaf.Live table value exact) plain = plain
+plain-claim used node (leaf.Bound table value exact) plain = plain
+plain-claim used node (leaf.Ray table) plain = refl
+plain-claim used node (leaf.Empty g) plain = refl
+plain-claim used node (leaf.ExactRay table) plain = absurd plain
+plain-claim used node (leaf.ExactEmpty g) plain = absurd plain
 
-plain-claims : (used : List ℕ) (node : Node) (tree : Tree FoundLeaf) → EachLeaf IsPlain node (map_leaves (leaf_claim used) tree)
-plain-claims used node (Ends leaf) = plain-claim used node leaf
-plain-claims used node (Splits g t off on) = (plain-claims used (child node g t false) off, plain-claims used (child node g t true) on)
+plain-claims : (used : List ℕ) (node : Node) (tree : Tree FoundLeaf) → EachLeaf (λ here leaf. IsPlainLeaf leaf) node tree
+    → EachLeaf IsPlain node (map_leaves (leaf_claim used) tree)
+plain-claims used node (Ends leaf) plain = plain-claim used node leaf plain
+plain-claims used node (Splits g t off on) plain =
+    (plain-claims used (child node g t false) off plain.0, plain-claims used (child node g t true) on plain.1)
 
 -- a leaf that is excluded, or that holds for a bound, names a table that is listed, or a unit that there is
 excluded-within : (instance : Instance) (tables : List Table) (node : Node) (leaf : Leaf) → IsPlain node leaf × IsExcluded instance tables node leaf
@@ -240,13 +245,13 @@ few-tables instance found whole =
     let same = length-map used (table_at found.tables) in
     omega (arith, length-each_once (stored_tables (tree_of found.tree)), length-stored_tables found.tree.nodes, whole.within, whole.countable)
 
-pub found_has_text : (instance : Instance) (found : Found) → IsLawfulInstance instance → IsWhole found.tree
+pub found_has_text : (instance : Instance) (found : Found) → IsLawfulInstance instance → IsWhole found.tree → IsPlainTree found.tree
     → CertificateHolds instance (certificate_of instance found)
     → IfSome (written_of found.schedule) (IsScheduleText (has_price instance.a instance.b) instance.periods (thermal_count instance) (renewable_count instance))
     → IfSome (tree_bound found.tree) IsMoney
     → All (λ table. length table.ramps < 10 ^ 18) (written_tables found)
     → HasText (listing_of (certificate_of instance found))
-found_has_text instance found lawful whole holds schedule bound few = record {
+found_has_text instance found lawful whole plain holds schedule bound few = record {
   some_period = lawful.periods.0;
   periods = lawful.periods.1;
   thermal = lawful.thermal_units;
@@ -257,5 +262,5 @@ found_has_text instance found lawful whole holds schedule bound few = record {
   schedule = schedule;
   tables = λ k d within. lawful-table-text instance _ (holds.tables k d within) (few k d within);
   nodes = claimed-within instance (certificate_of instance found) (tree_bound found.tree) holds.tree
-      (plain-claims (used_tables (tree_of found.tree)) root (tree_of found.tree)) holds.claim;
+      (plain-claims (used_tables (tree_of found.tree)) root (tree_of found.tree) plain) holds.claim;
 }

@@ -85,7 +85,8 @@ fn put_read<O: Out>(out: &mut O, cert: &Cert)
     out.put(b"end\n");
 }
 
-/// Writes the certificate of what was found for the instance, in the second version. It takes no memory.
+/// Writes the certificate of what was found for the instance, in the second version. It takes no memory. A tree with leaves by exact
+/// values has no text of the grammar, whose leaves are by V alone.
 ///
 /// `Failed` comes only where the writer's count of faults rose, and a front of the text is written then.
 #[tactic(auto, using(crate::proofs::Parts::found_is_text))]

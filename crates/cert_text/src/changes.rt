@@ -4,10 +4,11 @@ ghost use Rattle.std.specs.Prelude.{◌≡◌, ◌∷◌, [], ◌+◌, ◌≤◌
 ghost use Rattle.std.specs.Option.{option_map_or};
 ghost use Rattle.outside.specs.Lines.{line};
 ghost use Rattle.uc_model.specs.Decimal.{whole_text, signed_text};
-ghost use Rattle.cert_text.specs.Changes.{Change, is_before, no_row, new_row, price_changes, row_changes, table_changes};
+ghost use Rattle.cert_text.specs.Changes.{Change, new_row, price_changes, row_changes, table_changes};
 ghost use Rattle.cert_text.specs.CertificateText.{next_line, change_line};
 ghost use Rattle.cert_text.specs.inside.WrittenParts.{price_change, price_part, told_count, row_line, next_part, IsPassing};
 
+use crate::rows::{is_before, no_row};
 use crate::table::put_row;
 use dual_model::{RampRow, Table};
 use outside::{Out, put_count, put_place, put_signed};
@@ -81,25 +82,6 @@ fn price_change_count(olds: &[i64], news: &[i64]) -> u64
 }
 
 // ---- rows of ramp multipliers
-
-// By unit, and then by period.
-fn is_before(first: &RampRow, second: &RampRow) -> bool
-    ensures { result ≡ is_before first.now second.now }
-{
-    first.g < second.g || (first.g == second.g && first.t < second.t)
-}
-
-// What is told where the row is gone.
-fn no_row(row: &RampRow) -> RampRow
-    ensures { result ≡ no_row row.now }
-{
-    RampRow {
-        g: row.g,
-        t: row.t,
-        up: 0,
-        down: 0,
-    }
-}
 
 // The row in place of an old one, where it is another.
 fn new_row(old: &RampRow, new: &RampRow) -> Option<RampRow>

@@ -6,6 +6,7 @@ ghost use Rattle.uc_model.specs.Limits.{IsLawfulInstance};
 ghost use Rattle.uc_model.specs.Schedule.{thermal_count, renewable_count};
 ghost use Rattle.uc_model.specs.declared.instance.Instance.{Instance};
 ghost use Rattle.dual_model.specs.Certificate.{Certificate, CertificateHolds};
+ghost use Rattle.branch_tree.specs.Kinds.{IsPlainTree};
 ghost use Rattle.branch_tree.specs.StoredTree.{tree_bound};
 ghost use Rattle.branch_tree.specs.TreeView.{IsWhole};
 ghost use Rattle.branch_tree.specs.Claims.{written_tables, certificate_of, written_of};
@@ -22,11 +23,11 @@ pub fn ranges_count_digits()
     ensures money { (n : ℤ) → (length (whole_text (unsigned_abs n / 1000000)) + 6 ≤ 38) ↔ IsMoney n }
 {}
 
-/// The certificate of an answer, whose tree keeps what every tree keeps, has a text where its schedule has one, its bound is in
-/// the range of money, and the rows of its tables can be counted.
+/// The certificate of an answer, whose tree keeps what every tree keeps and is by values V alone, has a text where its schedule
+/// has one, its bound is in the range of money, and the rows of its tables can be counted.
 #[tactic(auto, using(crate::proofs::Parts::found_has_text))]
 pub fn found_certificates_have_text()
-    ensures { (instance : Instance) (found : Found) → IsLawfulInstance instance → IsWhole found.tree
+    ensures { (instance : Instance) (found : Found) → IsLawfulInstance instance → IsWhole found.tree → IsPlainTree found.tree
         → CertificateHolds instance (certificate_of instance found)
         → IfSome (written_of found.schedule) (IsScheduleText (has_price instance.a instance.b) instance.periods (thermal_count instance) (renewable_count instance))
         → IfSome (tree_bound found.tree) IsMoney

@@ -6,6 +6,7 @@ mod certificate;
 mod changes;
 pub mod laws;
 mod reader;
+mod rows;
 mod schedule;
 mod table;
 mod tables;

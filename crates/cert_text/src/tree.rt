@@ -55,8 +55,10 @@ fn put_leaf<O: Out>(out: &mut O, used: &[u32], leaf: &Leaf)
         Leaf::Live { table, .. } | Leaf::Bound { table, .. } => {
             put_place_line(out, b"bound", place_of(used, *table));
         }
-        Leaf::Ray { table } => put_place_line(out, b"ray", place_of(used, *table)),
-        Leaf::Empty { g } => put_place_line(out, b"empty", *g as usize),
+        Leaf::Ray { table } | Leaf::ExactRay { table } => {
+            put_place_line(out, b"ray", place_of(used, *table));
+        }
+        Leaf::Empty { g } | Leaf::ExactEmpty { g } => put_place_line(out, b"empty", *g as usize),
     }
 }
 

@@ -1,5 +1,5 @@
--- What an evaluation comes to: the outcome of a node at a table, and its size.
-use Rattle.std.specs.Prelude.{◌≤◌, unsigned_abs}
+-- What an evaluation comes to: the outcome of a node at a table, by V, and its size.
+use Rattle.std.specs.Prelude.{◌≤◌, false, unsigned_abs}
 use Rattle.uc_model.specs.declared.instance.Instance.{Instance}
 use Rattle.dual_model.specs.NodeAnswer.{MAX_VALUE}
 use Rattle.dual_model.specs.declared.node.Node.{Node}
@@ -15,5 +15,5 @@ IsSized (outcome.Empty g) = Unit {0}
 
 -- the outcome is true of the node at the table, and of a size
 pub record IsOutcomeAt (instance : Instance) (node : Node) (table : Table) (outcome : Outcome) : Type 0 where
-  pub told : IsOutcome instance node table outcome
+  pub told : IsOutcome false instance node table outcome
   pub sized : IsSized outcome

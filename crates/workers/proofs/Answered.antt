@@ -1,5 +1,6 @@
 -- What is answered after a search over the tree: what its leaves store, the best schedule, and what is told of the most-on commitment.
-use Rattle.std.proofs.Common.{◌≡◌, ⊎_elim, ℕ, ◌<◌, All, length, refl, sym, subst, arith, ℤ, pos, ◌≤ℤ◌, ◌<ℤ◌, Some, Option, None, IfSome, false}
+use Rattle.std.proofs.Common.{◌≡◌, ◌∙◌, ⊎_elim, ℕ, ◌<◌, All, List, [], length, refl, ap, sym, subst, arith, ℤ, pos, ◌≤ℤ◌, ◌<ℤ◌, Some, Option, None, IfSome, true, false}
+use Rattle.std.proofs.lemmas.Bool.{false≢true}
 use Rattle.std.proofs.lemmas.List.Elements.{All-weaker}
 use Rattle.uc_model.specs.Limits.{IsLawfulInstance}
 use Rattle.uc_model.proofs.Quotients.{IsFloor-greatest, IsFloor-int_div_euclid}
@@ -10,6 +11,7 @@ use Rattle.dual_model.specs.Opening.{ZERO_SCALE, zero_table}
 use Rattle.dual_model.specs.Prices.{IsLawfulTable}
 use Rattle.dual_model.specs.Tree.{root}
 use Rattle.branch_tree.specs.Claims.{IsLayoutOf, written_tables}
+use Rattle.branch_tree.specs.Closing.{is_schedule_within}
 use Rattle.branch_tree.specs.StoredTree.{AtMost, tree_bound}
 use Rattle.branch_tree.specs.TreeView.{IsWhole, tree_of}
 use Rattle.branch_tree.specs.TrueFound.{IsTrueFound}
@@ -28,9 +30,10 @@ use Rattle.opening.specs.RootTables.{IsGreaterTable}
 use Rattle.workers.specs.Opening.{IsRootTable}
 use Rattle.workers.specs.SearchResult.{Printed, IsBoundOpened, IsNoDearer}
 use Rattle.decommitment.specs.declared.pass.Standing.TheVariants as standing
-use Rattle.workers.specs.inside.Answers.{Stuck, IsAnswerOf, told_by}
+use Rattle.workers.specs.inside.Answers.{Stuck, IsAnswerOf, IsQuiet, told_by}
 use Rattle.opening.specs.RootTables.{IsPricedOf}
-use Rattle.workers.specs.inside.Searches.{Priced, IsSizedEntry, IsSpentUnlessClosed, start_by}
+use Rattle.workers.specs.inside.Searches.{Entry, Priced, IsGrown, start_by}
+use Rattle.workers.specs.inside.Starts.{IsFirstBest}
 use Rattle.decommitment.specs.Standings.{IsDropped, KeepsMostOn, ending_of}
 use Rattle.workers.specs.inside.Best.{Standing, IsBest, kept_stuck}
 use Rattle.workers.proofs.FewRows.{few_rows}
@@ -101,6 +104,15 @@ reaches_opening instance (standing.Stuck period most_on) opening bound table pri
       marginal = tt;
     }
 
+-- ---- how often was evaluated
+-- where the drop commitment's schedule is within the gap nothing is, since the search begins with it
+pub opening_quiet : (stands : Standing) (best : Option (Printed × ℤ)) (opening : Priced) (gap : ℕ) (log : List Entry) → IsFirstBest stands best
+    → (is_schedule_within best (Some (bound_of opening.value opening.table.k)) gap ≡ true → log ≡ [])
+    → IsQuiet (ending_of stands) opening gap log
+opening_quiet (standing.Dispatched printed cost) best opening gap log same quiet closed =
+    quiet (ap (λ (b : Option (Printed × ℤ)). is_schedule_within b (Some (bound_of opening.value opening.table.k)) gap) same ∙ closed)
+opening_quiet (standing.Stuck period most_on) best opening gap log same quiet closed = absurd (false≢true closed)
+
 -- ---- the answer
 -- what is answered, with this schedule and this layout
 abbrev pub searched_found : Machine → Option (Printed × ℤ) → Option Stuck → Layout → Found
@@ -116,8 +128,8 @@ searched_found m best stuck layout = record {
 module _ (instance : Instance) (stands : Standing) (best : Option (Printed × ℤ)) (opening : Priced) (m : Machine) (layout : Layout) (budget gap : ℕ)
     (lawful : IsLawfulInstance instance) (dropped : IsDropped instance stands) (is_best : IsBest instance (ending_of stands) best)
     (opens : IsRootTable instance (ending_of stands) opening.table opening.value) (priced : IsPricedOf instance opening)
-    (holds : HoldsAt instance (start_by instance opening budget gap) m) (of_tree : IsLayoutOf m.tree layout)
-    (within : All (λ i. i < length m.tables) layout.tables) where
+    (holds : HoldsAt instance (start_by instance opening budget gap) m) (grown : IsGrown instance opening budget gap m best)
+    (of_tree : IsLayoutOf m.tree layout) (within : All (λ i. i < length m.tables) layout.tables) where
   abbrev found : Found
   found = searched_found m best (kept_stuck stands) layout
 
@@ -127,16 +139,16 @@ module _ (instance : Instance) (stands : Standing) (best : Option (Printed × �
   searched_truth : IsTrueFound instance found
   searched_truth = record {
     layout = record { layout = of_tree; within = used_within };
-    certificate = certificate_holds instance found is_best.accepted holds.cover holds.tables used_within holds.stored holds.bound;
-    log = holds.log;
+    certificate = certificate_holds instance found is_best.accepted holds.tree.cover holds.tree.tables used_within holds.tree.stored holds.tree.bound;
+    log = holds.tree.log;
   }
 
   -- the bound that the root begins with
   abbrev first : Stored
-  first = record { table = 0; value = bound_of opening.value opening.table.k }
+  first = record { table = 0; value = bound_of opening.value opening.table.k; exact = false }
 
   above_first : AtMost (Some first.value) (tree_bound m.tree)
-  above_first = least_above m.tree.units m.tree.periods m.tables m.log root first.value first m.tree.nodes (le_refl first.value) holds.own
+  above_first = least_above m.tree.units m.tree.periods m.tables m.log root first.value first m.tree.nodes (le_refl first.value) holds.tree.own
 
   bound_opened : (bound : Option ℤ) → AtMost (Some first.value) bound → IfSome bound (IsBoundOpened instance (ending_of stands))
   bound_opened None above = tt
@@ -145,12 +157,15 @@ module _ (instance : Instance) (stands : Standing) (best : Option (Printed × �
   scale : pos 0 <ℤ opening.table.k
   scale = subst (λ k. pos 0 <ℤ k) (sym priced.scale) million
 
-  searched_own : (spent : IsSpentUnlessClosed m best budget gap) → All IsSizedEntry m.log → HasEachPattern instance → HasNoRay instance
-      → IsWhole m.tree → IsAnswerOf instance budget gap found
-  searched_own spent sized each none whole = record {
+  searched_own : IsQuiet (ending_of stands) opening gap m.log → HasEachPattern instance → HasNoRay instance → IsWhole m.tree
+      → IsAnswerOf instance budget gap found
+  searched_own quiet each none whole = record {
     result = record {
       truth = searched_truth;
-      spent = spent.spent;
+      plain = grown.searching.plain;
+      by_values = grown.searching.by_values;
+      within = grown.spent.within;
+      spent = grown.spent.spent;
       most_on = tells_most_on instance (tree_bound m.tree) stands best dropped.most_on is_best.no_dearer;
       empty = λ g empty. absurd (not_first instance g each empty);
       ray = λ n ray. absurd (none n ray.within ray.positive);
@@ -160,26 +175,33 @@ module _ (instance : Instance) (stands : Standing) (best : Option (Printed × �
         drop = dropped.drop;
         schedule = is_best.no_dearer;
         bound = bound_opened (tree_bound m.tree) above_first;
-        own = λ rays. record { table = opening.table; value = opening.value; opening = opens; is_first = holds.first; own = holds.own };
+        own = λ rays. record {
+          table = opening.table;
+          value = opening.value;
+          opening = opens;
+          is_first = holds.tree.first;
+          own = holds.tree.own;
+          closed = quiet;
+        };
       };
-      few = holds.few;
+      few = holds.tree.few;
     };
     writable = record {
       tree = whole;
       schedule = is_best.accepted;
       bound = least_small m.tree.units m.tree.periods m.tables m.log root first m.tree.nodes
-          (bound_small opening.value opening.table.k scale priced.valued.size) sized holds.own;
+          (bound_small opening.value opening.table.k scale priced.valued.size) grown.searching.sized holds.tree.own;
       tables = All-weaker (IsLawfulTable instance) HasFewRows (λ table. few_rows instance table lawful) (written_tables found)
-          (written_lawful instance found holds.tables used_within);
+          (written_lawful instance found holds.tree.tables used_within);
     };
   }
 
 pub searched_answer : (instance : Instance) (stands : Standing) (best : Option (Printed × ℤ)) (stuck : Option Stuck) (opening : Priced) (m : Machine)
     (layout : Layout) (budget gap : ℕ) → IsLawfulInstance instance → HasEachPattern instance → HasNoRay instance → IsDropped instance stands
     → stuck ≡ kept_stuck stands → IsBest instance (ending_of stands) best → IsRootTable instance (ending_of stands) opening.table opening.value
-    → IsPricedOf instance opening → HoldsAt instance (start_by instance opening budget gap) m → All IsSizedEntry m.log
-    → IsSpentUnlessClosed m best budget gap → IsWhole m.tree → IsLayoutOf m.tree layout → All (λ i. i < length m.tables) layout.tables
+    → IsPricedOf instance opening → HoldsAt instance (start_by instance opening budget gap) m → IsGrown instance opening budget gap m best
+    → IsQuiet (ending_of stands) opening gap m.log → IsWhole m.tree → IsLayoutOf m.tree layout → All (λ i. i < length m.tables) layout.tables
     → IsAnswerOf instance budget gap (searched_found m best stuck layout)
-searched_answer instance stands best stuck opening m layout budget gap lawful each none dropped kept is_best opens priced holds sized spent whole of_tree within =
+searched_answer instance stands best stuck opening m layout budget gap lawful each none dropped kept is_best opens priced holds grown quiet whole of_tree within =
     subst (λ (s : Option Stuck). IsAnswerOf instance budget gap (searched_found m best s layout)) (sym kept)
-    (searched_own instance stands best opening m layout budget gap lawful dropped is_best opens priced holds of_tree within spent sized each none whole)
+    (searched_own instance stands best opening m layout budget gap lawful dropped is_best opens priced holds grown of_tree within quiet each none whole)

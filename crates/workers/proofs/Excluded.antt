@@ -16,7 +16,7 @@ use Rattle.opening_tables.proofs.RayTables.{ray_lawful}
 use Rattle.workers.specs.Writable.{Found, Instance, HasFewRows}
 use Rattle.dual_model.specs.Tree.{HasEachPattern}
 use Rattle.opening.specs.Rays.{IsFirstRay}
-use Rattle.workers.specs.SearchResult.{IsNoDearer}
+use Rattle.workers.specs.SearchResult.{IsByValue, IsNoDearer}
 use Rattle.decommitment.specs.declared.pass.Standing.{Standing}
 use Rattle.workers.specs.inside.Answers.{IsAnswerOf, lone_root}
 use Rattle.decommitment.specs.Standings.{IsDropped, ending_of}
@@ -55,6 +55,9 @@ empty_answer instance g budget gap tree layout is whole of_tree empty =
     let answer : IsAnswerOf instance budget gap (empty_found lone layout) = record {
       result = record {
         truth = empty_truth instance g layout (subst (λ (t : Tree). IsLayoutOf t layout) is of_tree) empty;
+        plain = tt;
+        by_values = All-nil IsByValue;
+        within = omega arith;
         spent = λ some. absurd (some refl);
         most_on = refl;
         empty = λ other first. (ap (λ unit. Ends (leaf.Empty unit)) (one_first (HasNoPattern instance root) g other empty.empty first.empty empty.first first.first), refl);
@@ -108,6 +111,9 @@ ray_answer instance n budget gap stands tree layout lawful each first dropped is
     let answer : IsAnswerOf instance budget gap (ray_found instance n lone layout) = record {
       result = record {
         truth = ray_truth instance n layout lawful (subst (λ (t : Tree). IsLayoutOf t layout) is of_tree) first;
+        plain = tt;
+        by_values = All-nil IsByValue;
+        within = omega arith;
         spent = λ some. absurd (some refl);
         most_on = refl;
         empty = λ g empty. absurd (not_first instance g each empty);

@@ -3,10 +3,12 @@ use Rattle.std.proofs.Common.{◌≡◌, ◌≢◌, ◌∙◌, ◌⊎◌, ⊎_el
 use Rattle.std.specs.Int.{int_min}
 use Rattle.std.specs.Option.{option_map}
 use Rattle.std.proofs.lemmas.Int.{ints, int_min_is}
+use Rattle.std.proofs.lemmas.List.{nil_from_length}
 use Rattle.std.proofs.lemmas.List.Elements.{All-nil, All-cons, All-append}
 use Rattle.std.proofs.lemmas.Option.{get_or_from_slice_get, slice_get_within}
 use Rattle.uc_model.specs.declared.tolerance.TheConstants.{WHOLE_GAP}
 use Rattle.uc_model.specs.Division.{IsFloor}
+use Rattle.uc_model.specs.Schedule.{thermal_count}
 use Rattle.uc_model.proofs.Quotients.{IsFloor-int_div_euclid, IsFloor_unique}
 use Rattle.uc_model.proofs.Ring.{le_refl, linear}
 use Rattle.dual_model.specs.Cover.{AllExcluded, IsBoundedBy, IsExcluded}
@@ -36,12 +38,13 @@ use Rattle.search_core.specs.Steps.{IsLegal, IsStoredTable, after, committed, co
 use Rattle.search_core.specs.Runs.{HoldsAt, IsBestWithin, IsReached}
 use Rattle.search_core.proofs.Claims.{get_push_last}
 use Rattle.search_core.proofs.Growth.{holds_of_leaf, leaf_part}
+use Rattle.search_core.proofs.Plain.{IsPlainState, plain_after, plain_start}
 use Rattle.search_core.proofs.TrueSteps.{starts_are_reached, steps_reach}
 use Rattle.schedule_check.specs.Accepted.{IsAcceptedIfFound}
 use Rattle.decommitment.specs.DropCommitment.{Dispatched, StuckIn}
 use Rattle.opening.specs.RootTables.{IsPricedOf}
 use Rattle.claims.specs.Claims.{HasStoredTable, IsPublished}
-use Rattle.workers.specs.inside.Searches.{Entry, Instance, Priced, Table, IsGrown, IsReady, IsScaledWithin, IsSearching, IsSizedEntry, IsTableFor, IsTurned, IsVisited, cost_of, start_by}
+use Rattle.workers.specs.inside.Searches.{Entry, Instance, Priced, Table, IsGrown, IsReady, IsScaledWithin, IsSearching, IsSizedEntry, IsTableFor, IsTurned, IsVisited, cost_of, is_finished, start_by}
 use Rattle.dual_model.specs.declared.node.Node.{Node}
 use Rattle.uc_model.specs.declared.schedule.Printed.{Printed}
 use Rattle.workers.specs.inside.Best.{IsNoWorse}
@@ -55,6 +58,7 @@ pub start_searching : (instance : Instance) (opening : Priced) (budget gap : ℕ
 start_searching instance opening budget gap priced small whole =
     let scale : pos 0 <ℤ opening.table.k = subst (λ k. pos 0 <ℤ k) (sym priced.scale) million in
     let first : IsScaledWithin 0 opening.table = subst (λ k. k ≤ℤ pos (1000000 + 0)) (sym priced.scale) (le_refl (pos 1000000)) in
+    let plain = plain_start (thermal_count instance) instance.periods 1 budget gap opening.table (bound_of opening.value opening.table.k) in
     record {
       reached = starts_are_reached instance (start_by instance opening budget gap) (record {
         workers = 1;
@@ -76,6 +80,8 @@ start_searching instance opening budget gap priced small whole =
       count = refl;
       sized = All-nil IsSizedEntry;
       scaled = All-cons (IsScaledWithin 0) opening.table [] first (All-nil (IsScaledWithin 0));
+      plain = plain.tree;
+      by_values = plain.entries;
     }
 
 -- what the opening stores is the quotient rounded down
@@ -101,6 +107,8 @@ published_searching instance opening budget gap m new (Some priced) is accepted 
       count = is.count;
       sized = is.sized;
       scaled = is.scaled;
+      plain = is.plain;
+      by_values = is.by_values;
     })
 
 -- what is published is the best, where it is no worse than what was
@@ -118,6 +126,10 @@ published_best m new (Some former) (Some priced) was better taken =
 pub published_claims : (m new : Machine) (best : Option (Printed × ℤ)) → IsPublished best m new → length new.claims ≡ length m.claims
 published_claims m new None same = ap (λ (x : Machine). length x.claims) same
 published_claims m new (Some priced) same = ap (λ (x : Machine). length x.claims) same
+
+pub published_bound : (m new : Machine) (best : Option (Printed × ℤ)) → IsPublished best m new → tree_bound new.tree ≡ tree_bound m.tree
+published_bound m new None same = ap (λ (x : Machine). tree_bound x.tree) same
+published_bound m new (Some priced) same = ap (λ (x : Machine). tree_bound x.tree) same
 
 -- any schedule is no worse than none
 pub better_than_none : (best : Option (Printed × ℤ)) → IsNoWorse None best
@@ -146,7 +158,7 @@ node_of instance here (SplitAt number g t off on) wanted part is cover e =
 
 -- a bound of a table is one of the tables
 bounded_there : (instance : Instance) (m : Machine) (number : ℕ) (here : Node) (at : IsOpenAt m.tree.nodes number)
-    → IsBoundedBy false instance m.tables here at.table at.value → HasStoredTable m number
+    → IsBoundedBy at.exact instance m.tables here at.table at.value → HasStoredTable m number
 bounded_there instance m number here at h = record {
   table = h.table;
   is_table = ap (λ (s : Stored). slice_get m.tables s.table) (ap spot_stored at.live) ∙ h.is_table;
@@ -161,17 +173,17 @@ pub claimed_ready : (instance : Instance) (opening : Priced) (budget gap : ℕ) 
 claimed_ready instance opening budget gap m new node unit is holds whole legal taken unit_is =
     let at = legal.1.open_node.live in
     let part = leaf_part m.tree node at in
-    let bounded : IsBoundedBy false instance m.tables part.part.node at.table at.value =
-    holds_of_leaf (StoredHolds instance m.tables) m.tree node (leaf.Live at.table at.value) part holds.stored in
+    let bounded : IsBoundedBy at.exact instance m.tables part.part.node at.table at.value =
+    holds_of_leaf (StoredHolds instance m.tables) m.tree node (leaf.Live at.table at.value at.exact) part holds.tree.stored in
     subst (λ (x : Machine). IsReady instance x node unit) (sym taken) (record {
       live = at;
       within = open_below m.tree.nodes node whole.numbered at;
       stored = (let s = bounded_there instance m node part.part.node at bounded in record { table = s.table; is_table = s.is_table });
-      tables = holds.tables;
+      tables = holds.tree.tables;
       path = λ path there.
           let found = from_some (λ (p : Subtree). p.node) (subtree_at m.tree.nodes node) path there in
           subst (IsNodeOf instance) found.2
-          (node_of instance root m.tree.nodes node found.0 (All-nil (λ (fixing : Fixing). IsCell instance fixing.g fixing.t)) holds.cover found.1);
+          (node_of instance root m.tree.nodes node found.0 (All-nil (λ (fixing : Fixing). IsCell instance fixing.g fixing.t)) holds.tree.cover found.1);
       scaled = λ i d within. omega (arith, ints, unit_is, is.scaled i d within);
       held = ap (holder_in (m.claims ++ Some (holder node) ∷ [])) unit_is
           ∙ get_or_from_slice_get (m.claims ++ Some (holder node) ∷ []) (length m.claims) (Some (holder node)) None (get_push_last m.claims (Some (holder node)));
@@ -193,8 +205,8 @@ inherited_fits instance m node unit table ready none stored =
     record {
       lawful = listed (IsLawfulTable instance) m.tables number table ready.tables stored;
       scaled = omega (arith, ints, below);
-      fresh = subst (λ (entries : List Entry). All (λ entry. slice_get m.tables entry.table ≢ Some table) entries) (sym none)
-          (All-nil (λ (entry : Entry). slice_get m.tables entry.table ≢ Some table));
+      fresh = subst (λ (entries : List Entry). All (λ entry. entry.exact ≡ false → slice_get m.tables entry.table ≢ Some table) entries) (sym none)
+          (All-nil (λ (entry : Entry). entry.exact ≡ false → slice_get m.tables entry.table ≢ Some table));
       first = λ empty root free. stored;
     }
 
@@ -205,7 +217,7 @@ pub stepped_fits : (instance : Instance) (m : Machine) (node unit : ℕ) (table 
 stepped_fits instance m node unit table ready known lawful scale = record {
   lawful = lawful;
   scaled = subst (λ k. k ≤ℤ pos (1000000 + unit)) (sym scale) (omega (arith, linear));
-  fresh = λ i d within is.
+  fresh = λ i d within kind is.
       let below = listed (λ (t : Table). t.k <ℤ pos (1000000 + unit)) m.tables (get_or (entries_of m.log node) i d).table table ready.scaled is in
       omega (arith, ints, below);
   first = λ empty root free. absurd (known empty root);
@@ -232,24 +244,28 @@ visited_searching instance opening budget gap m new node unit is claim unit_is r
     let table = visited.table in
     let result = visited.outcome in
     let action = visited.action in
-    let entry : Entry = record { unit = unit; worker = 0; node = node; table = length m.tables; outcome = result } in
+    let entry : Entry = record { unit = unit; worker = 0; node = node; table = length m.tables; exact = false; outcome = result } in
     let at = ready.live in
     let part = leaf_part m.tree node at in
     let told = visited.told in
     let sized : IsSizedEntry entry =
     (told part.part.node (ap (λ (o : Option Subtree). option_map (λ (p : Subtree). p.node) o) part.hangs)).sized in
-    let reached = steps_reach instance (start_by instance opening budget gap) held (Commit 0 unit table result action)
+    let reached = steps_reach instance (start_by instance opening budget gap) held (Commit 0 unit table false result action)
     (steps_reach instance (start_by instance opening budget gap) m (Claim 0 node) is.reached claim tt) visited.legal
     (λ number path holding there.
     let same : number ≡ node = same_holder number node (sym holding ∙ ready.held) in
     record { lawful = visited.fits.lawful; told = (told path (subst (λ n. IsNodeAt m.tree n path) same there)).told }) in
-    let all = visited.is ∙ ap (committed_by held 0 unit table result action) ready.held in
+    let all = visited.is ∙ ap (committed_by held 0 unit table false result action) ready.held in
     let count = length-append m.claims (Some (holder node) ∷ []) in
     let place : unit - 1 ≡ length m.claims = omega (arith, unit_is) in
     let claims : length (set held.claims (unit - 1) None) ≡ unit = omega (arith, length-set held.claims (unit - 1) None, count, unit_is) in
-    let final = committed held 0 unit node table result action in
+    let final = committed held 0 unit node table false result action in
+    let first : IsPlainState held = record { tree = is.plain; entries = is.by_values } in
+    let plain : IsPlainState final =
+    subst IsPlainState (ap (committed_by held 0 unit table false result action) ready.held)
+    (plain_after held (Commit 0 unit table false result action) first refl) in
     let searching : IsSearching instance opening budget gap final = record {
-      reached = subst (IsReached instance (start_by instance opening budget gap)) (ap (committed_by held 0 unit table result action) ready.held) reached;
+      reached = subst (IsReached instance (start_by instance opening budget gap)) (ap (committed_by held 0 unit table false result action) ready.held) reached;
       budget_is = is.budget_is;
       gap_is = is.gap_is;
       workers = length-set m.desks 0 _ ∙ is.workers;
@@ -259,6 +275,8 @@ visited_searching instance opening budget gap m new node unit is claim unit_is r
       scaled = subst (λ n. All (IsScaledWithin n) (m.tables ++ table ∷ [])) (sym claims)
           (All-append (IsScaledWithin unit) m.tables (table ∷ []) (λ i d l. omega (arith, ints, unit_is, is.scaled i d l))
           (All-cons (IsScaledWithin unit) table [] visited.fits.scaled (All-nil (IsScaledWithin unit))));
+      plain = plain.tree;
+      by_values = plain.entries;
     } in
     (subst (IsSearching instance opening budget gap) (sym all) searching, ap (λ (x : Machine). length x.claims) all ∙ claims)
 
@@ -279,7 +297,7 @@ turned_searching instance opening budget gap m claimed new best node unit is cla
 pub visited_best : (instance : Instance) (m claimed new : Machine) (node unit : ℕ) → claimed ≡ after m (Claim 0 node)
     → IsReady instance claimed node unit → IsVisited instance claimed new node unit → new.best ≡ m.best
 visited_best instance m claimed new node unit taken ready visited =
-    ap (λ (x : Machine). x.best) (visited.is ∙ ap (committed_by claimed 0 unit visited.table visited.outcome visited.action) ready.held)
+    ap (λ (x : Machine). x.best) (visited.is ∙ ap (committed_by claimed 0 unit visited.table false visited.outcome visited.action) ready.held)
     ∙ ap (λ (x : Machine). x.best) taken
 
 -- ---- the end
@@ -293,8 +311,8 @@ none_held claims node each held =
 
 excluded_unbounded : (instance : Instance) (tables : List Table) (here : Node) (tree : branch.Tree Leaf)
     → EachLeaf (IsExcluded instance tables) here (map_leaves own_claim tree) → least_bound tree ≡ None
-excluded_unbounded instance tables here (Ends (leaf.Live table value)) each = absurd each
-excluded_unbounded instance tables here (Ends (leaf.Bound table value)) each = absurd each
+excluded_unbounded instance tables here (Ends (leaf.Live table value exact)) each = absurd each
+excluded_unbounded instance tables here (Ends (leaf.Bound table value exact)) each = absurd each
 excluded_unbounded instance tables here (Ends _) each = refl
 excluded_unbounded instance tables here (Splits g t off on) each =
     (λ i. lesser_bound (excluded_unbounded instance tables (child here g t false) off each.0 i) (excluded_unbounded instance tables (child here g t true) on each.1 i))
@@ -317,14 +335,34 @@ closed_by_none_open instance opening budget gap m best is holds published none s
 
 -- what is left at the end
 pub grown_closed : (instance : Instance) (opening : Priced) (budget gap : ℕ) (m : Machine) (best : Option (Printed × ℤ))
-    → IsSearching instance opening budget gap m → m.best ≡ cost_of best → IsAcceptedIfFound instance best
+    → IsSearching instance opening budget gap m → m.best ≡ cost_of best → IsAcceptedIfFound instance best → length m.claims ≤ budget
     → (tree_bound m.tree ≢ None → is_schedule_within best (tree_bound m.tree) gap ≡ true) → IsGrown instance opening budget gap m best
-grown_closed instance opening budget gap m best is published accepted closed = record {
+grown_closed instance opening budget gap m best is published accepted few closed = record {
   searching = is;
   published = published;
   accepted = accepted;
-  spent = record { spent = λ some unclosed. let differ : true ≡ false = sym (closed some) ∙ unclosed in absurd (cc) };
+  spent = record {
+    within = omega (arith, is.count, few);
+    spent = λ some unclosed. let differ : true ≡ false = sym (closed some) ∙ unclosed in absurd (cc);
+  };
 }
+
+-- a search that is finished is closed where some leaf has a bound
+pub finished_closes : (best : Option (Printed × ℤ)) (bound : Option ℤ) (gap : ℕ) → is_finished best bound gap ≡ true → bound ≢ None
+    → is_schedule_within best bound gap ≡ true
+finished_closes best None gap finished some = absurd (some refl)
+finished_closes best (Some bound) gap finished some = finished
+
+-- what the opening closes is finished before the first claim
+pub begun_finished : (opening : Priced) (gap : ℕ) (best first : Option (Printed × ℤ)) (bound : Option ℤ) → best ≡ first
+    → bound ≡ Some (bound_of opening.value opening.table.k)
+    → is_schedule_within first (Some (bound_of opening.value opening.table.k)) gap ≡ true → is_finished best bound gap ≡ true
+begun_finished opening gap best first bound same is closed = (λ i. is_finished (same i) (is i) gap) ∙ closed
+
+-- without a claim there is no entry
+pub none_logged : (instance : Instance) (opening : Priced) (budget gap : ℕ) (m : Machine) → IsSearching instance opening budget gap m
+    → length m.claims ≡ 0 → m.log ≡ []
+none_logged instance opening budget gap m is none = nil_from_length m.log (is.count ∙ none)
 
 -- after a turn the best cost is that of the best schedule again
 pub turned_best : (instance : Instance) (m claimed new : Machine) (old best : Option (Printed × ℤ)) (node unit : ℕ)

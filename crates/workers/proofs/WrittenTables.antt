@@ -11,7 +11,7 @@ use Rattle.uc_model.specs.declared.schedule.Printed.{Printed}
 use Rattle.uc_model.proofs.Ring.{le_trans}
 use Rattle.dual_model.specs.Certificate.{CertificateHolds, ClaimHolds, ScheduleHolds, WrittenSchedule}
 use Rattle.dual_model.specs.Cover.{HasBoundOf, IsBoundedBy, IsExcluded, IsExcludedByRay, LeafHolds, has_bound, is_bound}
-use Rattle.dual_model.specs.Fixings.{HasEmptyUnit}
+use Rattle.dual_model.specs.ValueKind.{HasBlockedUnit}
 use Rattle.dual_model.specs.Laws.{IsClaimTrue, IsInfeasible}
 use Rattle.dual_model.specs.Prices.{IsLawfulTable}
 use Rattle.dual_model.specs.Tree.{Ends, Splits, root, child, map_leaves, EachLeaf, IsCover, IsCoverBelow}
@@ -89,13 +89,16 @@ written_at tables used number table among is =
 -- ---- the leaves' tables
 -- the leaf's table is one of these
 abbrev IsNamed : List ℕ → Leaf → Type 0
-IsNamed used (leaf.Live table value) = IsAmong used table
-IsNamed used (leaf.Bound table value) = IsAmong used table
+IsNamed used (leaf.Live table value exact) = IsAmong used table
+IsNamed used (leaf.Bound table value exact) = IsAmong used table
 IsNamed used (leaf.Ray table) = IsAmong used table
 IsNamed used (leaf.Empty g) = Unit {0}
+IsNamed used (leaf.ExactRay table) = IsAmong used table
+IsNamed used (leaf.ExactEmpty g) = Unit {0}
 
 named_leaf : (used : List ℕ) (l : Leaf) → ((number : ℕ) → IsAmong (leaf_tables l ++ []) number → IsAmong used number) → IsNamed used l
 named_leaf used (leaf.Empty g) turn = tt
+named_leaf used (leaf.ExactEmpty g) turn = tt
 named_leaf used _ turn = turn _ (inl refl)
 
 each_named : (used : List ℕ) (here : Node) (tree : branch.Tree Leaf) → ((number : ℕ) → IsAmong (stored_tables tree) number → IsAmong used number)
@@ -112,34 +115,42 @@ each_named used here (Splits g t off on) turn =
     )
 
 -- ---- what a leaf claims
-bounded_there : (instance : Instance) (tables : List Table) (used : List ℕ) (node : Node) (number : ℕ) (value b : ℤ) → IsAmong used number → b ≤ℤ value
-    → IsBoundedBy false instance tables node number value → IsBoundedBy false instance (map (table_at tables) used) node (place_of used number) b
-bounded_there instance tables used node number value b among below h = record {
+bounded_there : (exact : Bool) (instance : Instance) (tables : List Table) (used : List ℕ) (node : Node) (number : ℕ) (value b : ℤ) → IsAmong used number
+    → b ≤ℤ value → IsBoundedBy exact instance tables node number value
+    → IsBoundedBy exact instance (map (table_at tables) used) node (place_of used number) b
+bounded_there exact instance tables used node number value b among below h = record {
   table = h.table;
   is_table = written_at tables used number h.table among h.is_table;
   scale = h.scale;
   bounds = ⊎_elim
-      (λ (has : HasBoundOf false instance node h.table value).
+      (λ (has : HasBoundOf exact instance node h.table value).
       inl (record { bound = has.bound; is_bound = has.is_bound; enough = le_trans b value has.bound below has.enough }))
-      (λ (empty : HasEmptyUnit instance node). inr empty)
+      (λ (blocked : HasBlockedUnit exact instance node). inr blocked)
       h.bounds;
 }
 
-excluded_there : (instance : Instance) (tables : List Table) (used : List ℕ) (node : Node) (number : ℕ) → IsAmong used number
-    → IsExcludedByRay false instance tables node number → IsExcludedByRay false instance (map (table_at tables) used) node (place_of used number)
-excluded_there instance tables used node number among h =
+excluded_there : (exact : Bool) (instance : Instance) (tables : List Table) (used : List ℕ) (node : Node) (number : ℕ) → IsAmong used number
+    → IsExcludedByRay exact instance tables node number → IsExcludedByRay exact instance (map (table_at tables) used) node (place_of used number)
+excluded_there exact instance tables used node number among h =
     record { table = h.table; is_table = written_at tables used number h.table among h.is_table; scale = h.scale; excludes = h.excludes }
 
 leaf_holds : (instance : Instance) (tables : List Table) (used : List ℕ) (node : Node) (b : ℤ) (l : Leaf) → IsNamed used l → AtMost (Some b) (leaf_bound l)
     → StoredHolds instance tables node l → LeafHolds instance (map (table_at tables) used) b node (leaf_claim used l)
-leaf_holds instance tables used node b (leaf.Ray table) named below h = excluded_there instance tables used node table named h
+leaf_holds instance tables used node b (leaf.Live table value exact) named below h =
+    bounded_there exact instance tables used node table value b named below h
+leaf_holds instance tables used node b (leaf.Bound table value exact) named below h =
+    bounded_there exact instance tables used node table value b named below h
+leaf_holds instance tables used node b (leaf.Ray table) named below h = excluded_there false instance tables used node table named h
 leaf_holds instance tables used node b (leaf.Empty g) named below h = h
-leaf_holds instance tables used node b _ named below h = bounded_there instance tables used node _ _ b named below h
+leaf_holds instance tables used node b (leaf.ExactRay table) named below h = excluded_there true instance tables used node table named h
+leaf_holds instance tables used node b (leaf.ExactEmpty g) named below h = h
 
 leaf_excluded : (instance : Instance) (tables : List Table) (used : List ℕ) (node : Node) (l : Leaf) → IsNamed used l → leaf_bound l ≡ None
     → StoredHolds instance tables node l → IsExcluded instance (map (table_at tables) used) node (leaf_claim used l)
-leaf_excluded instance tables used node (leaf.Ray table) named none h = excluded_there instance tables used node table named h
+leaf_excluded instance tables used node (leaf.Ray table) named none h = excluded_there false instance tables used node table named h
 leaf_excluded instance tables used node (leaf.Empty g) named none h = h
+leaf_excluded instance tables used node (leaf.ExactRay table) named none h = excluded_there true instance tables used node table named h
+leaf_excluded instance tables used node (leaf.ExactEmpty g) named none h = h
 leaf_excluded instance tables used node _ named none h = absurd (cc)
 
 -- ---- what the tree claims
@@ -173,8 +184,8 @@ each_excluded instance tables used here (Splits g t off on) named none h =
 
 -- a leaf of the tree with a bound is one
 leaf_bounds : (used : List ℕ) (l : Leaf) (b : ℤ) → leaf_bound l ≡ Some b → is_bound (leaf_claim used l) ≡ true
-leaf_bounds used (leaf.Live table value) b some = refl
-leaf_bounds used (leaf.Bound table value) b some = refl
+leaf_bounds used (leaf.Live table value exact) b some = refl
+leaf_bounds used (leaf.Bound table value exact) b some = refl
 leaf_bounds used _ b some = absurd (cc)
 
 some_bounds : (used : List ℕ) (tree : branch.Tree Leaf) (b : ℤ) → least_bound tree ≡ Some b → has_bound (map_leaves (leaf_claim used) tree) ≡ true
@@ -251,6 +262,7 @@ certificate_holds instance found accepted cover lawful within stored true_claim 
 leaf_within : (instance : Instance) (tables : List Table) (node : Node) (l : Leaf) → StoredHolds instance tables node l
     → All (λ i. i < length tables) (leaf_tables l ++ [])
 leaf_within instance tables node (leaf.Empty g) h = All-nil (λ i. i < length tables)
+leaf_within instance tables node (leaf.ExactEmpty g) h = All-nil (λ i. i < length tables)
 leaf_within instance tables node _ h = All-cons (λ i. i < length tables) _ [] (slice_get_within tables _ h.table h.is_table) (All-nil (λ i. i < length tables))
 
 pub each_within : (instance : Instance) (tables : List Table) (here : Node) (tree : branch.Tree Leaf) → EachLeaf (StoredHolds instance tables) here tree

@@ -1,6 +1,6 @@
 -- What a search answers: a true answer, how much of the budget was spent, and what the opening gives at least. This project's own
 -- statement.
-use Rattle.std.specs.Prelude.{◌≡◌, ◌≢◌, ℕ, false, List, [], ℤ, ◌≤ℤ◌, Option, Some, None, IfSome, length, slice_get}
+use Rattle.std.specs.Prelude.{◌≡◌, ◌≢◌, ℕ, ◌≤◌, Bool, true, false, All, List, [], ℤ, ◌≤ℤ◌, Option, Some, None, IfSome, length, slice_get}
 pub use Rattle.uc_model.specs.declared.instance.Instance.{Instance}
 use Rattle.uc_model.specs.declared.pattern.Pattern.{Pattern}
 pub use Rattle.uc_model.specs.declared.schedule.Printed.{Printed}
@@ -9,10 +9,12 @@ use Rattle.dual_model.specs.Fixings.{IsFirstEmpty}
 use Rattle.dual_model.specs.Opening.{ray_table, zero_table}
 use Rattle.dual_model.specs.Tree.{Ends, root}
 use Rattle.opening_tables.specs.Marginal.{IsMarginalTable}
-use Rattle.branch_tree.specs.Closing.{is_closed}
+use Rattle.branch_tree.specs.Closing.{is_closed, is_within_gap}
+use Rattle.branch_tree.specs.Kinds.{IsPlainTree}
 use Rattle.branch_tree.specs.StoredTree.{tree_bound}
 use Rattle.branch_tree.specs.TreeView.{tree_of}
 use Rattle.branch_tree.specs.TrueFound.{IsTrueFound}
+use Rattle.branch_tree.specs.declared.found.Entry.{Entry}
 use Rattle.branch_tree.specs.declared.found.Found.{Found}
 use Rattle.branch_tree.specs.declared.tree.Leaf.TheVariants as leaf
 use Rattle.search_core.specs.Moves.{bound_of}
@@ -48,15 +50,22 @@ abbrev pub ReachesMarginalOf : Instance → Ending → ℤ → Type 0
 ReachesMarginalOf instance (Dispatched printed cost) bound = ReachesMarginal instance printed bound
 ReachesMarginalOf instance (StuckIn t) bound = Unit {0}
 
+-- whether its schedule is within the gap of a bound; without a schedule it isn't
+abbrev pub is_ending_within : Ending → ℤ → ℕ → Bool
+is_ending_within (Dispatched printed cost) bound gap = is_within_gap cost (Some bound) gap
+is_ending_within (StuckIn t) bound gap = false
+
 -- ---- what nodes store
 -- the root begins with the opening's table, which is the first one, and each node with what its parent stores; a leaf that isn't excluded
--- stores what its own entries leave of that, and the first entry of a node with an undecided cell is at what it begins with
-pub record HoldsOwnTables (instance : Instance) (ending : Ending) (found : Found) : Type 0 where
+-- stores what its own entries leave of that, and the first entry of a node with an undecided cell is at what it begins with. Where the
+-- drop commitment's schedule is within the gap of the bound that the root begins with, nothing is evaluated
+pub record HoldsOwnTables (instance : Instance) (gap : ℕ) (ending : Ending) (found : Found) : Type 0 where
   pub table : Table
   pub value : ℤ
   pub opening : IsRootTable instance ending table value
   pub is_first : slice_get found.tables 0 ≡ Some table
-  pub own : Owns found.tree found.tables found.log (record { table = 0; value = bound_of value table.k })
+  pub own : Owns found.tree found.tables found.log (record { table = 0; value = bound_of value table.k; exact = false })
+  pub closed : is_ending_within ending (bound_of value table.k) gap ≡ true → found.log ≡ []
 
 -- what a bound has to reach
 pub record IsBoundOpened (instance : Instance) (ending : Ending) (bound : ℤ) : Type 0 where
@@ -65,19 +74,27 @@ pub record IsBoundOpened (instance : Instance) (ending : Ending) (bound : ℤ) :
 
 -- the drop commitment, where each unit has an allowed pattern, and what it gives; and what nodes store, where no ray of the opening
 -- excludes the root
-pub record FollowsOpening (instance : Instance) (found : Found) : Type 0 where
+pub record FollowsOpening (instance : Instance) (gap : ℕ) (found : Found) : Type 0 where
   pub patterns : List Pattern
   pub ending : Ending
   pub drop : IsDropCommitment instance patterns ending
   pub schedule : IsNoDearer found.schedule ending
   pub bound : IfSome (tree_bound found.tree) (IsBoundOpened instance ending)
-  pub own : HasNoRay instance → HoldsOwnTables instance ending found
+  pub own : HasNoRay instance → HoldsOwnTables instance gap ending found
 
 -- ---- the answer
+-- the entry's outcome is by V
+abbrev pub IsByValue : Entry → Type 0
+IsByValue entry = entry.exact ≡ false
+
 -- the answer of a search with this budget of evaluations, and this gap in parts per million of a cost
 pub record IsSearchResult (instance : Instance) (budget gap : ℕ) (found : Found) : Type 0 where
   pub truth : IsTrueFound instance found
-  -- where a leaf isn't excluded, and no schedule is within the gap, the whole budget was spent
+  -- each leaf of the tree, and each entry of the log, is by V
+  pub plain : IsPlainTree found.tree
+  pub by_values : All IsByValue found.log
+  -- no more than the budget was spent; and where a leaf isn't excluded, and no schedule is within the gap, the whole
+  pub within : length found.log ≤ budget
   pub spent : tree_bound found.tree ≢ None → is_closed found gap ≡ false → length found.log ≡ budget
   -- where there is neither a schedule nor the answer that there is none, the most-on commitment is stuck
   pub most_on : TellsMostOn instance found.schedule (tree_bound found.tree) found.most_on
@@ -85,6 +102,6 @@ pub record IsSearchResult (instance : Instance) (budget gap : ℕ) (found : Foun
   pub empty : (g : ℕ) → IsFirstEmpty instance root g → (tree_of found.tree ≡ Ends (leaf.Empty g)) × (found.log ≡ [])
   pub ray : (n : ℕ) → IsFirstRay instance n → IsExcludedByFirst instance n found
   -- else the opening's schedule and bounds are reached
-  pub opened : HasEachPattern instance → FollowsOpening instance found
+  pub opened : HasEachPattern instance → FollowsOpening instance gap found
   -- a node at which a cell is undecided has at most a hundred entries of the log
   pub few : HasFewEntries found.tree found.log

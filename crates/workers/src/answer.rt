@@ -14,9 +14,9 @@ ghost use Rattle.decommitment.specs.Standings.{IsDropped, ending_of};
 ghost use Rattle.opening.specs.Rays.{HasNoRay, IsFirstRay};
 ghost use Rattle.opening.specs.RootTables.{IsPricedOf};
 ghost use Rattle.workers.specs.Opening.{IsRootTable};
-ghost use Rattle.workers.specs.inside.Answers.{IsAnswerOf, lone_root, told_by};
+ghost use Rattle.workers.specs.inside.Answers.{IsAnswerOf, IsQuiet, lone_root, told_by};
 ghost use Rattle.workers.specs.inside.Best.{Standing, IsBest, kept_stuck};
-ghost use Rattle.workers.specs.inside.Searches.{Priced, IsSizedEntry, IsSpentUnlessClosed, start_by};
+ghost use Rattle.workers.specs.inside.Searches.{Priced, IsGrown, start_by};
 
 use crate::tree_search::Search;
 use crate::worker::Worker;
@@ -123,19 +123,38 @@ pub(crate) fn bounded(
     ensures { (budget gap : ℕ) (stands : Standing) (opening : Priced) → IsDropped instance.now stands → most_on ≡ kept_stuck stands
         → IsBest instance.now (ending_of stands) search.best → IsRootTable instance.now (ending_of stands) opening.table opening.value
         → IsPricedOf instance.now opening → HoldsAt instance.now (start_by instance.now opening budget gap) search.state
-        → All IsSizedEntry search.state.log → IsSpentUnlessClosed search.state search.best budget gap
-        → IfOk result (IsAnswerOf instance.now budget gap) }
+        → IsGrown instance.now opening budget gap search.state search.best
+        → IsQuiet (ending_of stands) opening gap search.state.log → IfOk result (IsAnswerOf instance.now budget gap) }
 {
-    let tables = search.state.tables().as_slice().len();
-    let layout = Layout::of(alloc, search.state.tree(), tables)?;
-    let most_on = told(search.state.tree(), &search.best, most_on);
-    let (tree, tables, log) = search.state.finish();
-    Ok(Found {
-        schedule: search.best,
-        tree,
-        tables,
-        log,
-        most_on,
-        layout,
-    })
+    let Search {
+        state,
+        best,
+        frontier,
+        next,
+        last,
+    } = search;
+    drop(frontier);
+    drop(next);
+    drop(last);
+    let tables = state.tables().as_slice().len();
+    match Layout::of(alloc, state.tree(), tables) {
+        Ok(layout) => {
+            let most_on = told(state.tree(), &best, most_on);
+            let (tree, tables, log) = state.finish();
+            Ok(Found {
+                schedule: best,
+                tree,
+                tables,
+                log,
+                most_on,
+                layout,
+            })
+        }
+        Err(NoMemory) => {
+            drop(state);
+            drop(best);
+            drop(most_on);
+            Err(NoMemory)
+        }
+    }
 }

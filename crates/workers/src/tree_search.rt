@@ -1,19 +1,19 @@
 //! The search over the tree: claims of nodes, until it is closed, no node is open or the budget is spent.
 
-ghost use Rattle.std.specs.Prelude.{◌≡◌, ◌≢◌, ◌≤◌, ℕ, true, IsTrue, IfOk, None, OnOk};
+ghost use Rattle.std.specs.Prelude.{◌≡◌, ◌≤◌, ℕ, true, [], IfOk, None, Some, OnOk};
 ghost use Rattle.uc_model.specs.Limits.{IsLawfulInstance};
 ghost use Rattle.uc_model.specs.declared.tolerance.TheConstants.{WHOLE_GAP};
 ghost use Rattle.branch_tree.specs.Closing.{is_schedule_within};
 ghost use Rattle.branch_tree.specs.StoredTree.{tree_bound};
 ghost use Rattle.branch_tree.specs.TreeView.{IsWhole};
-ghost use Rattle.search_core.specs.Machine.{Machine};
+ghost use Rattle.search_core.specs.Moves.{bound_of};
 ghost use Rattle.search_core.specs.Runs.{HoldsAt};
 ghost use Rattle.search_core.specs.declared.limits.TheConstants.{MAX_BUDGET};
 ghost use Rattle.schedule_check.specs.Accepted.{IsAcceptedIfFound};
 ghost use Rattle.claims.specs.Claims.{IsPublished};
 ghost use Rattle.opening.specs.RootTables.{IsPricedOf};
 ghost use Rattle.workers.specs.inside.Best.{Instance, IsNoWorse};
-ghost use Rattle.workers.specs.inside.Searches.{Priced, IsGrown, IsReady, IsSearching, IsTurned, start_by};
+ghost use Rattle.workers.specs.inside.Searches.{Priced, IsGrown, IsReady, IsSearching, IsTurned, is_finished, start_by};
 ghost use Rattle.workers.specs.inside.Starts.{IsBegun};
 ghost use Rattle.workers.specs.inside.Trials.{IsNextAt};
 
@@ -141,6 +141,8 @@ pub(crate) fn search_tree<R: Wait, G: Gate>(
     ensures kept { worker.new.evaluator ≡ worker.old.evaluator }
     ensures grown { IfOk result (λ search. IsGrown worker.old.evaluator start.opening options.now.budget options.now.gap search.state search.best) }
     ensures no_worse { IfOk result (λ search. IsNoWorse start.best search.best) }
+    ensures quiet { is_schedule_within start.best (Some (bound_of start.opening.value start.opening.table.k)) options.now.gap ≡ true
+        → IfOk result (λ search. search.state.log ≡ []) }
 {
     let mut search = searching(alloc, worker.evaluator.instance(), start, options)?;
     grow(rt, alloc, worker, options, &mut search, gate).and(Ok(search))
@@ -162,6 +164,8 @@ fn grow<R: Wait, G: Gate>(
     ensures grown { (opening : Priced) → IsBegun worker.old.evaluator opening options.now.budget options.now.gap search.old
         → OnOk result (IsGrown worker.old.evaluator opening options.now.budget options.now.gap search.new.state search.new.best) }
     ensures no_worse { OnOk result (IsNoWorse search.old.best search.new.best) }
+    ensures quiet { is_finished search.old.best (tree_bound search.old.state.tree) options.now.gap ≡ true
+        → OnOk result (search.new.state.log ≡ []) }
 {
     for had in 0..options.budget {
         holds(&search.state);
@@ -182,22 +186,10 @@ fn grow<R: Wait, G: Gate>(
     Ok(())
 }
 
-// Whether the best schedule's cost is within the gap of the tree's bound, or no leaf has one. The whole tree is looked at only where
-// the open nodes let this be.
+// Whether the best schedule's cost is within the gap of the tree's bound, or no leaf has one.
 fn is_finished(search: &Search, gap: u32) -> bool
     requires { gap ≤ WHOLE_GAP }
-    ensures { IsTrue result → tree_bound search.now.state.tree ≢ None → is_schedule_within search.now.best (tree_bound search.now.state.tree) gap ≡ true }
-{
-    match search.frontier.least() {
-        Some(bound) => is_closed(&search.best, bound, gap) && is_settled(search, gap),
-        None => is_settled(search, gap),
-    }
-}
-
-// The same, by the whole tree.
-fn is_settled(search: &Search, gap: u32) -> bool
-    requires { gap ≤ WHOLE_GAP }
-    ensures { IsTrue result → tree_bound search.now.state.tree ≢ None → is_schedule_within search.now.best (tree_bound search.now.state.tree) gap ≡ true }
+    ensures { result ≡ is_finished search.now.best (tree_bound search.now.state.tree) gap }
 {
     match search.state.tree().bound() {
         Some(bound) => is_closed(&search.best, bound, gap),

@@ -128,7 +128,6 @@ fn end(
     let table = trial.table();
     let outcome = worker.evaluator.outcome(alloc, path, table)?;
     let action = action(
-        alloc,
         &search.state,
         worker.evaluator.instance(),
         claim.node,
@@ -136,11 +135,12 @@ fn end(
         table,
         trial.hints(),
         &outcome,
-    )?;
+    );
     let event = Event::Commit {
         worker: WORKER,
         unit: claim.unit,
         table: table.copy(alloc)?,
+        exact: false,
         outcome,
         action,
     };
@@ -219,7 +219,7 @@ fn fresh(state: &State, node: u32, ray: Option<Table>) -> Option<Table>
         → IfSome result (IsFreshRay instance state.now node) }
 {
     match ray {
-        Some(ray) if state.is_fresh(node, &ray) => Some(ray),
+        Some(ray) if state.is_fresh(node, &ray, false) => Some(ray),
         _ => None,
     }
 }

@@ -1,14 +1,14 @@
 //! The lines of a table that is told by its difference to the one before it.
 
 ghost use Rattle.std.specs.Prelude.{◌≡◌, false, true, option_map};
-ghost use Rattle.cert_text.specs.Changes.{is_before};
 ghost use Rattle.cert_text.specs.inside.Forms.{Gives, passing, next_at, price_at, written_change_at, is_within, comes_before, comes_behind};
 ghost use Rattle.cert_text.specs.inside.Drafts.{change_of};
 ghost use Rattle.cert_text.specs.inside.Parts.{sizes};
 
-use super::lines::{is_before, take_row_numbers};
+use super::lines::take_row_numbers;
 use super::numbers::{below, take_count_to, take_ordinal_to, take_signed_to, take_text};
 use super::sizes::Size;
+use crate::rows::is_before;
 use dual_model::RampRow;
 
 /// The first line of such a table.

@@ -1,7 +1,6 @@
 //! The other lines of one value.
 
 ghost use Rattle.std.specs.Prelude.{◌≡◌, ◌<◌, IfSome, codes};
-ghost use Rattle.cert_text.specs.Changes.{is_before};
 ghost use Rattle.cert_text.specs.CertificateText.{LeafNode, SplitNode};
 ghost use Rattle.cert_text.specs.inside.Forms.{Gives, after, ended, whole_at, money_at, claim_at, penalty_at, schedule_at, plan_at, on_cell_at, cell_at, row_numbers_at, ramp_at, rises, is_ramp, named_at, split_at, node_at};
 ghost use Rattle.cert_text.specs.inside.Parts.{sizes, first_of};
@@ -13,6 +12,7 @@ use super::numbers::{
 };
 use super::sizes::Size;
 use crate::cert::CertNode;
+use crate::rows::is_before;
 use dual_model::RampRow;
 use uc_model::Cell;
 
@@ -130,13 +130,6 @@ pub(crate) fn take_count_line<'a>(bytes: &'a [u8], word: &[u8]) -> Option<(u64, 
 {
     let rest = take_text(bytes, word)?;
     take_count_to(rest, b'\n')
-}
-
-/// A row comes before another: by unit, and then by period.
-pub(crate) fn is_before(first: &RampRow, second: &RampRow) -> bool
-    ensures { result ≡ is_before first.now second.now }
-{
-    first.g < second.g || (first.g == second.g && first.t < second.t)
 }
 
 fn rises(before: &Option<RampRow>, row: &RampRow) -> bool

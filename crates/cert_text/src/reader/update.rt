@@ -3,16 +3,16 @@
 ghost use Rattle.std.specs.Prelude.{◌≡◌, ◌<◌, ◌∷◌, [], ◌++◌, ◌&&◌, pos, not, false, true, None, length, slice_index_or, slice_set, option_map, IfOk, OnOk, MatchOption, Ok, Err};
 ghost use Rattle.std.specs.Ordering.{int_eq};
 ghost use Rattle.dual_model.specs.Prices.{AreRising, row_of};
-ghost use Rattle.cert_text.specs.Changes.{is_before, is_none, no_row, placed, with_row};
+ghost use Rattle.cert_text.specs.Changes.{is_before, is_none, placed, with_row};
 ghost use Rattle.cert_text.specs.inside.Forms.{comes_behind, is_other, change_at};
 ghost use Rattle.cert_text.specs.inside.Drafts.{change_of, drafted, so_far, LieBefore, starts_before, differs, IsPassed, IsRowSet, HasPrice, ArePriced, IsUnderway, IsMade};
 ghost use Rattle.cert_text.specs.inside.Parts.{GivesPart, line_of, changed_part, sizes};
 
 use super::changes::{Change, comes_behind, take_change};
 use super::draft::Draft;
-use super::lines::is_before;
 use super::sizes::Size;
 use super::stop::Stop;
+use crate::rows::{is_before, no_row};
 use dual_model::RampRow;
 use uc_model::NoMemory;
 
@@ -60,18 +60,6 @@ fn pass_before<'b>(
         rest = behind;
     }
     Ok(rest)
-}
-
-// A row that is all 0, in place of this one.
-fn no_row(row: &RampRow) -> RampRow
-    ensures { result ≡ no_row row.now }
-{
-    RampRow {
-        g: row.g,
-        t: row.t,
-        up: 0,
-        down: 0,
-    }
 }
 
 // The row of this one's unit and period, all 0 where there is none, and the rows behind it, of rising rows none of which comes

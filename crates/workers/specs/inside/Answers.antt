@@ -1,5 +1,5 @@
 -- What the search makes of what it knows.
-use Rattle.std.specs.Prelude.{ℕ, ℤ, Option, None, Some}
+use Rattle.std.specs.Prelude.{◌≡◌, ℕ, true, List, [], ℤ, Option, None, Some}
 use Rattle.uc_model.specs.Schedule.{thermal_count}
 pub use Rattle.uc_model.specs.declared.instance.Instance.{Instance}
 pub use Rattle.uc_model.specs.declared.stuck.Stuck.{Stuck}
@@ -8,7 +8,10 @@ use Rattle.branch_tree.specs.TreeView.{TreeView}
 use Rattle.branch_tree.specs.declared.tree.Leaf.{Leaf}
 use Rattle.workers.specs.Writable.{Found, IsWritable}
 use Rattle.workers.specs.inside.Best.{told_of}
-use Rattle.workers.specs.SearchResult.{Printed, IsSearchResult}
+use Rattle.search_core.specs.Moves.{bound_of}
+use Rattle.decommitment.specs.DropCommitment.{Ending}
+use Rattle.workers.specs.SearchResult.{Printed, IsSearchResult, is_ending_within}
+use Rattle.workers.specs.inside.Searches.{Entry, Priced}
 
 -- a tree of its root alone, which stores this leaf
 abbrev pub lone_root : Instance → Leaf → TreeView
@@ -23,3 +26,7 @@ pub record IsAnswerOf (instance : Instance) (budget gap : ℕ) (found : Found) :
 abbrev pub told_by : Option ℤ → Option (Printed × ℤ) → Option Stuck → Option Stuck
 told_by None best stuck = None
 told_by (Some bound) best stuck = told_of best stuck
+
+-- nothing was evaluated, where the schedule of the drop commitment is within the gap of the bound that the root begins with
+abbrev pub IsQuiet : Ending → Priced → ℕ → List Entry → Type 0
+IsQuiet ending opening gap log = is_ending_within ending (bound_of opening.value opening.table.k) gap ≡ true → log ≡ []

@@ -1,5 +1,5 @@
 -- The search over the tree between claims, and what a claim of a node is to be.
-use Rattle.std.specs.Prelude.{◌≡◌, ◌≢◌, ℕ, ◌+◌, ◌<◌, false, All, [], ℤ, pos, ◌≤ℤ◌, ◌<ℤ◌, Option, None, Some, length}
+use Rattle.std.specs.Prelude.{◌≡◌, ◌≢◌, ℕ, ◌+◌, ◌<◌, ◌≤◌, Bool, true, false, All, [], ℤ, pos, ◌≤ℤ◌, ◌<ℤ◌, Option, None, Some, length}
 use Rattle.uc_model.specs.Schedule.{thermal_count}
 pub use Rattle.uc_model.specs.declared.instance.Instance.{Instance}
 use Rattle.uc_model.specs.declared.schedule.Printed.{Printed}
@@ -8,6 +8,7 @@ use Rattle.dual_model.specs.Prices.{IsLawfulTable}
 use Rattle.dual_model.specs.declared.node.Node.{Node}
 pub use Rattle.dual_model.specs.declared.table.Table.{Table}
 use Rattle.branch_tree.specs.Closing.{is_schedule_within}
+use Rattle.branch_tree.specs.Kinds.{IsPlainTree}
 use Rattle.branch_tree.specs.NumberedTree.{node_count}
 use Rattle.branch_tree.specs.StoredTree.{IsNodeAt, tree_bound}
 use Rattle.branch_tree.specs.TreeView.{IsOpenAt}
@@ -22,6 +23,7 @@ use Rattle.search_core.specs.Runs.{IsReached}
 use Rattle.schedule_check.specs.Accepted.{IsAcceptedIfFound}
 use Rattle.claims.specs.Claims.{HasStoredTable, IsPublished}
 use Rattle.opening.specs.Outcomes.{IsOutcomeAt, IsSized}
+use Rattle.workers.specs.SearchResult.{IsByValue}
 pub use Rattle.opening.specs.declared.root_tables.Priced.{Priced}
 
 -- the machine's start: one worker, and a root that stores the opening's table with its bound
@@ -46,6 +48,8 @@ pub record IsSearching (instance : Instance) (opening : Priced) (budget gap : �
   pub count : length m.log ≡ length m.claims
   pub sized : All IsSizedEntry m.log
   pub scaled : All (IsScaledWithin (length m.claims)) m.tables
+  pub plain : IsPlainTree m.tree
+  pub by_values : All IsByValue m.log
 
 -- the cost of a schedule that may be missing
 abbrev pub cost_of : Option (Printed × ℤ) → Option ℤ
@@ -63,11 +67,11 @@ pub record IsReady (instance : Instance) (m : Machine) (node unit : ℕ) : Type 
   pub held : IsHolding m 0 unit node
   pub worker : IsWorker m 0
 
--- a table at which the node may be evaluated by the claim of this unit
+-- a table at which the node may be evaluated by the claim of this unit, as each is by V
 pub record IsTableFor (instance : Instance) (m : Machine) (node unit : ℕ) (table : Table) : Type 0 where
   pub lawful : IsLawfulTable instance table
   pub scaled : IsScaledWithin unit table
-  pub fresh : IsFresh m (entries_of m.log node) table
+  pub fresh : IsFresh m (entries_of m.log node) table false
   pub first : entries_of m.log node ≡ [] → node ≢ 0 → HasFreeCell m.tree node → IsStoredTable m node table
 
 -- the claim of this unit ended by a commit
@@ -77,8 +81,8 @@ pub record IsVisited (instance : Instance) (m after_m : Machine) (node unit : �
   pub action : Move
   pub fits : IsTableFor instance m node unit table
   pub told : (path : Node) → IsNodeAt m.tree node path → IsOutcomeAt instance path table outcome
-  pub legal : IsLegal m (Commit 0 unit table outcome action)
-  pub is : after_m ≡ after m (Commit 0 unit table outcome action)
+  pub legal : IsLegal m (Commit 0 unit table false outcome action)
+  pub is : after_m ≡ after m (Commit 0 unit table false outcome action)
 
 -- and then the cost of the best schedule was published
 pub record IsTurned (instance : Instance) (m after_m : Machine) (best : Option (Printed × ℤ)) (node unit : ℕ) : Type 0 where
@@ -86,8 +90,14 @@ pub record IsTurned (instance : Instance) (m after_m : Machine) (best : Option (
   pub visited : IsVisited instance m between node unit
   pub published : IsPublished best between after_m
 
--- the whole budget was spent, unless the best schedule closes the tree, or no leaf has a bound
+-- the best schedule is within the gap of the tree's bound, or no leaf has one
+abbrev pub is_finished : Option (Printed × ℤ) → Option ℤ → ℕ → Bool
+is_finished best None gap = true
+is_finished best (Some bound) gap = is_schedule_within best (Some bound) gap
+
+-- no more than the budget was spent, and the whole, unless the best schedule closes the tree, or no leaf has a bound
 pub record IsSpentUnlessClosed (m : Machine) (best : Option (Printed × ℤ)) (budget gap : ℕ) : Type 0 where
+  pub within : length m.log ≤ budget
   pub spent : tree_bound m.tree ≢ None → is_schedule_within best (tree_bound m.tree) gap ≡ false → length m.log ≡ budget
 
 -- the search at its end

@@ -1,5 +1,5 @@
 -- What a claim is evaluated at.
-use Rattle.std.specs.Prelude.{◌≡◌, ℕ, ◌+◌, pos, IfSome, Option, None, Some}
+use Rattle.std.specs.Prelude.{◌≡◌, ℕ, ◌+◌, false, pos, IfSome, Option, None, Some}
 use Rattle.uc_model.specs.declared.instance.Instance.{Instance}
 use Rattle.dual_model.specs.Prices.{IsLawfulTable}
 use Rattle.dual_model.specs.declared.table.Table.{Table}
@@ -20,7 +20,7 @@ table_of (trial.Ascended ascent) = ascent.table
 pub record IsFreshRay (instance : Instance) (m : Machine) (node : ℕ) (ray : Table) : Type 0 where
   pub lawful : IsLawfulTable instance ray
   pub scale : ray.k ≡ pos 0
-  pub fresh : IsFresh m (entries_of m.log node) ray
+  pub fresh : IsFresh m (entries_of m.log node) ray false
 
 -- an ascent to a lawful table, whose scale is that of the claim of this unit, with a lawful ray if it ran off
 pub record IsAscentFor (instance : Instance) (unit : ℕ) (ascent : Ascent) : Type 0 where

@@ -8,7 +8,8 @@ use Rattle.opening.specs.RootTables.{IsPricedOf}
 use Rattle.workers.specs.Opening.{Instance, IsRootTable}
 use Rattle.workers.specs.inside.Answers.{IsAnswerOf}
 use Rattle.workers.specs.inside.Best.{IsBest}
-use Rattle.workers.specs.inside.Searches.{start_by}
+use Rattle.workers.specs.inside.Searches.{IsGrown, start_by}
+use Rattle.workers.proofs.Answered.{opening_quiet}
 use Rattle.workers.proofs.WrittenTables.{each_within}
 use Rattle.workers.proofs.root_search.claimed.Goals as goal
 
@@ -23,7 +24,7 @@ bounded-requires-clause-stored g c =
     let gap = c.args.options.now.gap in
     let state = c.in_ok-grown.grown.state in
     each_within instance state.tables root (tree_of state.tree)
-    (c.holds.ensures.holds instance opening budget gap c.instance-instance.ensures.lawful c.in_ok-grown.ensures.grown.searching).stored
+    (c.holds.ensures.holds instance opening budget gap c.instance-instance.ensures.lawful c.in_ok-grown.ensures.grown.searching).tree.stored
 
 pub returns : goal.returns
 returns g c =
@@ -46,4 +47,5 @@ returns g c =
     (subst (λ (i : Instance). IsRootTable i (ending_of stands) opening.table opening.value) (sym own) opened.table)
     (subst (λ (i : Instance). IsPricedOf i opening) (sym own) opened.priced)
     (subst (λ (i : Instance). HoldsAt i (start_by i opening budget gap) c.in_ok-grown.grown.state) (sym own) holds)
-    grown.searching.sized grown.spent)
+    (subst (λ (i : Instance). IsGrown i opening budget gap c.in_ok-grown.grown.state c.in_ok-grown.grown.best) (sym own) grown)
+    (opening_quiet stands c.args.opened.start.best opening gap c.in_ok-grown.grown.state.log opened.is_first c.in_ok-grown.ensures.quiet))

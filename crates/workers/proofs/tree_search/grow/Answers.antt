@@ -1,11 +1,12 @@
 -- Each turn is a claim and its commit, and at the end the search is closed, no node is open, or the budget is spent.
-use Rattle.std.proofs.Common.{◌≡◌, ◌∙◌, suc, ◌+◌, length, Ok, ap, arith, refl, subst, sym}
+use Rattle.std.proofs.Common.{◌≡◌, ◌∙◌, suc, ◌+◌, length, Ok, ap, arith, refl, subst, sym, true, false}
+use Rattle.branch_tree.specs.StoredTree.{tree_bound}
 use Rattle.search_core.specs.Machine.{Machine}
 use Rattle.schedule_check.specs.Accepted.{IsAcceptedIfFound}
 use Rattle.workers.specs.inside.Searches.{Instance, Priced, IsGrown, IsReady, IsTurned}
 use Rattle.workers.specs.inside.Starts.{IsBegun}
 use Rattle.workers.specs.inside.Trials.{IsNextAt}
-use Rattle.workers.proofs.Searches.{claimed_ready, closed_by_none_open, grown_closed, turned_best, turned_searching}
+use Rattle.workers.proofs.Searches.{claimed_ready, closed_by_none_open, finished_closes, grown_closed, none_logged, turned_best, turned_searching}
 use Rattle.workers.proofs.tree_search.grow.Goals as goal
 
 pub loop-had-init : goal.loop-had-init
@@ -19,14 +20,24 @@ loop-had-init g c =
       accepted = begun.accepted;
       no_worse = λ ending h. h;
       next = begun.is_next;
+      first = λ none. refl;
+      quiet = λ finished. refl;
     }
 
 pub returns-then-is_finished-clause-grown : goal.returns-then-is_finished-clause-grown
 returns-then-is_finished-clause-grown g c = λ opening begun.
     let before = c.loop-had.invariant in
     grown_closed c.args.worker.now.evaluator opening c.args.options.now.budget c.args.options.now.gap c.loop-had.search.state
-    c.loop-had.search.best (before.searching opening begun) before.published before.accepted
-    (c.is_finished.ensures c.if-is_finished.true)
+    c.loop-had.search.best (before.searching opening begun) before.published before.accepted (omega (arith, before.count, c.loop-had-test.true))
+    (finished_closes c.loop-had.search.best (tree_bound c.loop-had.search.state.tree) c.args.options.now.gap
+    (sym c.is_finished.ensures ∙ c.if-is_finished.true))
+
+pub returns-then-is_finished-clause-quiet : goal.returns-then-is_finished-clause-quiet
+returns-then-is_finished-clause-quiet g c = λ finished.
+    let before = c.loop-had.invariant in
+    let begun = c.requires.begun in
+    none_logged c.args.worker.now.evaluator begun.0 c.args.options.now.budget c.args.options.now.gap c.loop-had.search.state
+    (before.searching begun.0 begun.1) (before.count ∙ before.quiet finished)
 
 pub returns-in_default-clause-grown : goal.returns-in_default-clause-grown
 returns-in_default-clause-grown g c = λ opening begun.
@@ -40,8 +51,17 @@ returns-in_default-clause-grown g c = λ opening begun.
     let none = c.claim_next.ensures.none (c.in_ok-node.was ∙ ap Ok c.in_default.is) in
     let holds = c.holds.ensures.holds instance opening budget gap begun.lawful searching in
     subst (λ (m : Machine). IsGrown instance opening budget gap m best) (sym none.0)
-    (grown_closed instance opening budget gap state best searching before.published before.accepted
+    (grown_closed instance opening budget gap state best searching before.published before.accepted (omega (arith, before.count, c.loop-had-test.true))
     (closed_by_none_open instance opening budget gap state best searching holds before.published none.1))
+
+pub returns-in_default-clause-quiet : goal.returns-in_default-clause-quiet
+returns-in_default-clause-quiet g c = λ finished.
+    let before = c.loop-had.invariant in
+    let begun = c.requires.begun in
+    let none = c.claim_next.ensures.none (c.in_ok-node.was ∙ ap Ok c.in_default.is) in
+    ap (λ (m : Machine). m.log) none.0
+    ∙ none_logged c.args.worker.now.evaluator begun.0 c.args.options.now.budget c.args.options.now.gap c.loop-had.search.state
+    (before.searching begun.0 begun.1) (before.count ∙ before.quiet finished)
 
 pub turn-requires-clause-ready : goal.turn-requires-clause-ready
 turn-requires-clause-ready g c =
@@ -91,6 +111,11 @@ loop-had-preserved g c =
       accepted = accepted;
       no_worse = λ ending h. turn.no_worse ending (before.no_worse ending h);
       next = subst (IsNextAt instance (suc unit)) (sym turn.next) tt;
+      first = λ none. absurd (omega (arith, none));
+      quiet = λ finished.
+          let same : true ≡ false =
+          sym finished ∙ (sym (before.first (before.quiet finished)) ∙ (sym c.is_finished.ensures ∙ c.if-is_finished.false)) in
+          absurd (cc);
     }
 
 pub returns-clause-grown : goal.returns-clause-grown
@@ -101,5 +126,15 @@ returns-clause-grown g c = λ opening begun.
       searching = searching;
       published = before.published;
       accepted = before.accepted;
-      spent = record { spent = λ some unclosed. omega (arith, searching.count, before.count, c.loop-had-test.false, c.loop-had.auto.had-end) };
+      spent = record {
+        within = omega (arith, searching.count, before.count, c.loop-had-test.false, c.loop-had.auto.had-end);
+        spent = λ some unclosed. omega (arith, searching.count, before.count, c.loop-had-test.false, c.loop-had.auto.had-end);
+      };
     }
+
+pub returns-clause-quiet : goal.returns-clause-quiet
+returns-clause-quiet g c = λ finished.
+    let before = c.loop-had.invariant in
+    let begun = c.requires.begun in
+    none_logged c.args.worker.now.evaluator begun.0 c.args.options.now.budget c.args.options.now.gap c.loop-had.search.state
+    (before.searching begun.0 begun.1) (before.count ∙ before.quiet finished)

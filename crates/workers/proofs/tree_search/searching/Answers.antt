@@ -1,7 +1,7 @@
 -- The machine has made no claim, and the schedule's cost is published.
 use Rattle.std.proofs.Common.{None, refl}
 use Rattle.workers.specs.inside.Searches.{start_by}
-use Rattle.workers.proofs.Searches.{better_than_none, published_best, published_claims, published_searching, start_searching}
+use Rattle.workers.proofs.Searches.{better_than_none, published_best, published_bound, published_claims, published_searching, start_searching}
 use Rattle.workers.proofs.tree_search.searching.Goals as goal
 
 pub returns-clause-begun : goal.returns-clause-begun
@@ -19,6 +19,7 @@ returns-clause-begun c =
       lawful = c.requires.lawful;
       searching = published_searching instance opening budget gap start state best begun c.requires.accepted published;
       count = published_claims start state best published;
+      bound = published_bound start state best published;
       published = published_best start state None best refl (better_than_none best) published;
       accepted = c.requires.accepted;
       is_next = c.requires.next;
