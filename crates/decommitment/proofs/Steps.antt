@@ -1,14 +1,19 @@
 -- A step along the order leaves the amounts at a level, with their sums.
 -- Cite by `use Rattle.decommitment.proofs.Steps.{walked_up}`.
-use Rattle.std.proofs.Common.{◌≡◌, ℕ, suc, ◌-◌, ◌*◌, ◌<◌, ⊎_elim, refl, sym, subst, ◌∙◌, arith, List, length, ℤ, pos, ◌⊎◌, ◌+ℤ◌, ◌-ℤ◌, ◌≤ℤ◌, ◌<ℤ◌, IsTrue, slice_set, if◌then◌else◌}
+use Rattle.std.proofs.Common.{◌≡◌, ℕ, suc, ◌-◌, ◌*◌, ◌<◌, ◌≤◌, min, ⊎_elim, refl, sym, subst, ◌∙◌, arith, List, length, ℤ, pos, ◌⊎◌, ◌+ℤ◌, ◌-ℤ◌, ◌≤ℤ◌, ◌<ℤ◌, IsTrue, slice_set, if◌then◌else◌}
 use Rattle.std.specs.Int.{int_min}
 use Rattle.std.proofs.lemmas.Int.{ints}
+use Rattle.uc_model.specs.Limits.{IsLawfulInstance}
+use Rattle.uc_model.specs.Schedule.{thermal_count}
 use Rattle.uc_model.proofs.CostBound.{within_of_abs}
 use Rattle.uc_model.proofs.Ring.{linear, le_trans}
+use Rattle.uc_model.proofs.Tests.{int_min_right}
 use Rattle.dispatch_repair.specs.Amounts.{MAX_POWER, IsRangeOf, IsSizedEnd, amount_at}
-use Rattle.dispatch_repair.specs.Period.{Period}
-use Rattle.dispatch_repair.specs.Segments.{segment_at, source_count}
+use Rattle.dispatch_repair.specs.Period.{Instance, Period}
+use Rattle.dispatch_repair.specs.Segments.{AreInMeritOrder, no_segment, segment_at, source_count}
+use Rattle.dispatch_repair.specs.Stuck.{HaveRanges}
 use Rattle.dispatch_repair.specs.declared.segment.Segment.{Segment}
+use Rattle.dispatch_repair.proofs.Merit.{good_at}
 use Rattle.decommitment.specs.inside.Fills.{Fill, AreGiven, IsSizedAmount, IsStanding, IsWalked}
 use Rattle.decommitment.specs.inside.Levels.{Range, Step, AreAtLevel, IsAtLevel, IsLeastAt, IsRisen, IsSunk}
 use Rattle.decommitment.proofs.Levels.{climbed, descended, risen_or, sunk_or}
@@ -19,6 +24,11 @@ between z low high bottom first last top = record { low = le_trans (pos 0) low z
 
 pub at_most : (z : ℤ) → IsSizedEnd z → z ≤ℤ pos (3 * MAX_POWER)
 at_most z size = (within_of_abs z (3 * MAX_POWER) size).high
+
+-- where a segment ends within a range is no more than that
+pub end_size : (end : ℤ) (range : Range) (z : ℤ) → z ≡ int_min end range.high → IsSizedEnd range.high → z ≤ℤ pos (3 * MAX_POWER)
+end_size end range z is size =
+    subst (λ y. y ≤ℤ pos (3 * MAX_POWER)) (sym is) (le_trans _ range.high _ (int_min_right end range.high) (at_most range.high size))
 
 pub risen_sized : (amount end : ℤ) (step : Step) → IsSizedAmount amount → end ≤ℤ pos (3 * MAX_POWER) → IsRisen amount end step → IsSizedAmount step.amount
 risen_sized amount end step sized top rose = ⊎_elim
@@ -49,6 +59,30 @@ sunk_by amount least excess less step is down within done part = record {
   within = λ lower. omega (arith, linear, is, within (omega (arith, linear, is, lower)));
   done = λ on. ⊎_elim (λ full. omega (arith, linear, is, full)) (λ all. absurd (omega (arith, linear, all, part on))) done;
 }
+
+-- ---- sources
+-- the segment at a level has a source
+pub source_inside : (instance : Instance) (order items : List Segment) (level : ℕ) → order ≡ items → AreInMeritOrder instance items → level < length order
+    → (segment_at order level).source < source_count instance
+source_inside instance order items level same merit within =
+    subst (λ xs. (segment_at xs level).source < source_count instance) (sym same)
+    (merit.segments.each level no_segment (subst (λ xs. level < length xs) same within)).source
+
+-- no source gives less than nothing
+pub bottom : (period : Period) (n : ℕ) (range : Range) (least : ℤ) → IsLawfulInstance period.instance → period.t < period.instance.periods
+    → HaveRanges period (thermal_count period.instance) → n < source_count period.instance → IsRangeOf period n range → range.low ≤ℤ least → pos 0 ≤ℤ least
+bottom period n range least lawful within ranges inside is low =
+    le_trans (pos 0) range.low least (subst (λ z. pos 0 ≤ℤ z) (sym is.low) (good_at period n lawful within ranges inside).low) low
+
+-- the last level before a number of segments
+pub within_last : (level last count : ℕ) → last ≡ min level (count - 1) → 0 < count → last < count
+within_last level last count is some = omega (arith, is, some)
+
+pub below_last : (level last count : ℕ) → last ≡ min level (count - 1) → last ≤ level
+below_last level last count is = omega (arith, is)
+
+pub up_to_last : (level last count j : ℕ) → last ≡ min level (count - 1) → j < count → j < suc level → j < suc last
+up_to_last level last count j is below early = omega (arith, is, below, early)
 
 -- ---- steps
 module _ (period : Period) (order : List Segment) (old set : Fill) (level : ℕ) (range : Range) (step : Step) where
