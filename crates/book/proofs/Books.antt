@@ -1,5 +1,5 @@
 -- What the fields of a book keep after each call.
-use Rattle.std.proofs.Common.{◌≡◌, ◌≢◌, ℕ, suc, ◌+◌, ◌-◌, ◌*◌, ◌<◌, ◌≤◌, Bool, List, [], ◌∷◌, length, map, refl, ap, sym, ◌∙◌, subst, arith, ⊎_elim, Option, Some, None, length-append, length-set}
+use Rattle.std.proofs.Common.{◌≡◌, ◌≢◌, ℕ, suc, ◌+◌, ◌-◌, ◌*◌, ◌<◌, ◌≤◌, Bool, List, [], ◌∷◌, length, map, refl, ap, sym, ◌∙◌, subst, arith, ⊎_elim, Option, Some, None, length-append, length-set, pos, get_or}
 use Rattle.std.proofs.lemmas.List.{length-map, length-replicate, get_or-map}
 use Rattle.std.proofs.lemmas.Option.{slice_get_within}
 use Rattle.uc_model.specs.declared.instance.Instance.{Instance}
@@ -40,7 +40,11 @@ use Rattle.book.specs.Claims.{Claim, Status, Held, Committed, GivenBack, holder_
 use Rattle.book.specs.Opening.{Opening, IsTrueOpening, start_by}
 use Rattle.book.specs.Replay.{with_unit, number_of, replay, replayed}
 use Rattle.book.specs.Running.{IsReplayed, IsHeldOnce, IsRunning}
+use Rattle.book.specs.inside.Chains.{IsScaleNoted, raised}
 use Rattle.book.specs.inside.Kept.{Rooms, IsKept}
+use Rattle.book.proofs.Scales.{scales_raised}
+use Rattle.std.specs.Int.{int_max}
+use Rattle.std.proofs.lemmas.List.Elements.{All-nil}
 use Rattle.book.proofs.Noted.{once_none, once_push, once_ended, holders_push}
 use Rattle.book.proofs.Steps.{held_still, opened_replayed, claimed_replayed, committed_replayed, abandoned_replayed}
 use Rattle.book.proofs.Units.{held_part, holders_after}
@@ -125,8 +129,8 @@ kept_runs law opening book rooms kept =
 -- ---- the start
 pub kept_start : (opening : Opening) (rooms : Rooms) → IsTrueOpening opening → rooms.count ≡ 1 → rooms.tables ≡ suc (suc opening.budget)
     → rooms.log ≡ opening.budget → rooms.claims ≡ opening.budget → rooms.log_nodes ≡ 2 * opening.budget + 1
-    → rooms.claims_nodes ≡ 2 * opening.budget + 1 → IsKept opening (opened opening) rooms
-kept_start opening rooms begun count tables log claims log_nodes claims_nodes = record {
+    → rooms.claims_nodes ≡ 2 * opening.budget + 1 → length rooms.greatest ≡ rooms.log_nodes → IsKept opening (opened opening) rooms
+kept_start opening rooms begun count tables log claims log_nodes claims_nodes greatest = record {
   begun = begun;
   budget = refl;
   gap = refl;
@@ -140,6 +144,8 @@ kept_start opening rooms begun count tables log claims log_nodes claims_nodes = 
   claims = claims;
   log_nodes = omega (arith, log_nodes);
   claims_nodes = omega (arith, claims_nodes);
+  scales = All-nil (IsScaleNoted (opening.table ∷ []) rooms.greatest);
+  greatest = greatest;
 }
 
 -- ---- a claim
@@ -163,6 +169,8 @@ kept_claimed opening book rooms worker node kept small left open_node =
       claims = kept.claims;
       log_nodes = kept.log_nodes;
       claims_nodes = kept.claims_nodes;
+      scales = kept.scales;
+      greatest = kept.greatest;
     }
 
 -- ---- a claim that ends
@@ -232,7 +240,7 @@ pub kept_committed : TreeRunsHold → (opening : Opening) (book : BookView) (roo
     → IsHolding (state_of book) worker unit node → MayBe book node given table exact outcome action
     → IsTrueOutcome exact opening.instance given table outcome
     → IsKept opening (committed book worker unit node table exact outcome action)
-    (record rooms { count = rooms.count + length (tickets_of book.tree action) })
+    (record rooms { count = rooms.count + length (tickets_of book.tree action); greatest = raised rooms.greatest node table.k })
 kept_committed law opening book rooms worker unit node given table exact outcome action kept_is small holds may told =
     let held = held_holds law opening book rooms worker unit node kept_is holds in
     let orderly = (run_holds law opening book kept_is.begun kept_is.replayed).1 in
@@ -258,6 +266,9 @@ kept_committed law opening book rooms worker unit node given table exact outcome
       claims = kept_is.claims;
       log_nodes = omega (arith, kept_is.log_nodes, grows.room);
       claims_nodes = omega (arith, kept_is.claims_nodes, grows.room);
+      scales = scales_raised book.tables table rooms.greatest book.log entry refl
+          (omega (arith, held.below, held.room, kept_is.log_nodes, kept_is.greatest)) kept_is.scales;
+      greatest = length-set rooms.greatest node (int_max (get_or rooms.greatest node (pos 0)) table.k) ∙ kept_is.greatest;
     }
 
 -- ---- a claim given back
@@ -280,6 +291,8 @@ kept_given_back opening book rooms worker unit node kept_is holds =
       claims = kept_is.claims;
       log_nodes = kept_is.log_nodes;
       claims_nodes = kept_is.claims_nodes;
+      scales = kept_is.scales;
+      greatest = kept_is.greatest;
     }
 
 -- ---- small facts that answers cite

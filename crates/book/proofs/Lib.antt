@@ -4,5 +4,6 @@ pub mod LeftOut
 pub mod Units
 pub mod Links
 pub mod Noted
+pub mod Scales
 pub mod Steps
 pub mod Books

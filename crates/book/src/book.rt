@@ -169,8 +169,10 @@ impl<C: Case> Book<C> {
     pub fn fresh(&self, node: u32, table: &Table, exact: bool) -> bool
         ensures { IsTrue result ↔ IsFresh (state_of self.now) (entries_of self.now.log node) table.now exact }
     {
-        self.log
-            .is_fresh(self.tables.as_slice(), node, table, exact)
+        self.log.is_above(node, &table.k())
+            || self
+                .log
+                .is_fresh(self.tables.as_slice(), node, table, exact)
     }
 
     /// The off-child and the on-child of an inner node; none exactly where the tree has no inner node of that number.
@@ -236,15 +238,17 @@ impl<C: Case> Book<C> {
         let place = self.tables.len() as u32;
         moves::make(&mut self.tree, number, &kept, place, exact, outcome, action);
         self.count += moves::children(action, &[0, 0]).len() as u32;
+        let scale = table.k();
         self.tables.push_reserved(table);
-        self.log.push(Entry {
+        let entry = Entry {
             unit,
             worker,
             node: number,
             table: place,
             exact,
             outcome: *outcome,
-        });
+        };
+        self.log.push(entry, &scale);
         self.claims
             .end(worker, unit, number, Status::Committed(*action));
     }

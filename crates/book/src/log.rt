@@ -11,15 +11,17 @@ use std::marker::Model;
 use uc_model::{List, NoMemory};
 
 /// The entries, and of each the one before it of the same node; of each node its newest entry and how many it has. An entry is named by
-/// one more than its place, and 0 names none.
+/// one more than its place, and 0 names none. Of each node also the greatest scale of its entries' tables, at least 0: a table of a greater
+/// one is fresh there, which is the usual case.
 ///
-/// Contracts see the entries, for how many there is room, and for how many nodes.
+/// Contracts see the entries, for how many there is room, for how many nodes, and these scales.
 #[derive(Drop)]
 pub(crate) struct Log {
     entries: Vec<Entry>,
     previous: Vec<u32>,
     newest: Vec<u32>,
     counts: Vec<u32>,
+    greatest: Vec<i64>,
 }
 
 impl Model for Log {
@@ -30,20 +32,20 @@ impl Model for Log {
     ghost use Rattle.std.specs.Prelude.{◌≡◌, ◌<◌, ◌^◌, vec_len, vec_capacity};
     ghost use Rattle.book.specs.inside.Chains.{AreLinked};
 
-    ghost view = { λ a. record { entries = a.entries.items; room = vec_capacity a.entries; nodes = vec_len a.newest } };
+    ghost view = { λ a. record { entries = a.entries.items; room = vec_capacity a.entries; nodes = vec_len a.newest; greatest = a.greatest.items } };
 
     ghost invariant = { λ a. AreLinked a.entries.items a.previous.items a.newest.items a.counts.items
-        × (vec_capacity a.previous ≡ vec_capacity a.entries) × (vec_capacity a.entries < 2 ^ 32) };
+        × (vec_capacity a.previous ≡ vec_capacity a.entries) × (vec_capacity a.entries < 2 ^ 32) × (vec_len a.greatest ≡ vec_len a.newest) };
 }
 
 impl Log {
-    ghost use Rattle.std.specs.Prelude.{◌≡◌, ◌↔◌, ◌<◌, ◌≤◌, ◌++◌, ◌∷◌, [], All, IsTrue, IfOk, length};
+    ghost use Rattle.std.specs.Prelude.{◌≡◌, ◌↔◌, ◌<◌, ◌≤◌, ◌<ℤ◌, ◌++◌, ◌∷◌, [], pos, All, IsTrue, IfOk, length, replicate, slice_index_or};
     ghost use Rattle.search_core.specs.Machine.{entries_of};
-    ghost use Rattle.book.specs.inside.Chains.{IsElsewhere};
+    ghost use Rattle.book.specs.inside.Chains.{IsElsewhere, raised};
 
     /// No entries, with room for so many, over so many nodes.
     pub(crate) fn with_room(alloc: Global, room: u32, nodes: u32) -> Result<Log, NoMemory>
-        ensures { IfOk result (λ log. log ≡ record { entries = []; room = room; nodes = nodes }) }
+        ensures { IfOk result (λ log. log ≡ record { entries = []; room = room; nodes = nodes; greatest = replicate nodes (pos 0) }) }
     {
         let entries = Vec::with_capacity(alloc, room as usize)?;
         let previous = Vec::with_capacity(alloc, room as usize)?;
@@ -51,11 +53,14 @@ impl Log {
         newest.resize(nodes as usize, 0)?;
         let mut counts = Vec::new(alloc);
         counts.resize(nodes as usize, 0)?;
+        let mut greatest = Vec::new(alloc);
+        greatest.resize(nodes as usize, 0)?;
         Ok(Log {
             entries,
             previous,
             newest,
             counts,
+            greatest,
         })
     }
 
@@ -94,17 +99,31 @@ impl Log {
         true
     }
 
-    /// Puts an entry behind the others.
-    pub(crate) fn push(&mut self, entry: Entry)
+    /// Whether the scale is above those of the tables of the node's entries.
+    pub(crate) fn is_above(&self, node: u32, scale: &i64) -> bool
+        ensures { IsTrue result → slice_index_or self.now.greatest node (pos 0) <ℤ scale.now }
+    {
+        match self.greatest.get(node as usize) {
+            Some(greatest) => *scale > *greatest,
+            None => false,
+        }
+    }
+
+    /// Puts an entry behind the others, whose table has this scale.
+    pub(crate) fn push(&mut self, entry: Entry, scale: &i64)
         requires room { length self.old.entries < self.old.room }
         requires node { entry.node < self.old.nodes }
-        ensures { self.new ≡ record self.old { entries = self.old.entries ++ entry ∷ [] } }
+        ensures { self.new ≡ record self.old {
+          entries = self.old.entries ++ entry ∷ [];
+          greatest = raised self.old.greatest entry.node scale.now;
+        } }
     {
         let node = entry.node as usize;
         self.previous.push_reserved(self.newest[node]);
         self.entries.push_reserved(entry);
         self.newest[node] = self.entries.len() as u32;
         self.counts[node] += 1;
+        self.greatest[node] = self.greatest[node].max(*scale);
     }
 
     /// The entries by themselves.
@@ -116,6 +135,7 @@ impl Log {
             previous: _,
             newest: _,
             counts: _,
+            greatest: _,
         } = self;
         List::from_vec(entries)
     }

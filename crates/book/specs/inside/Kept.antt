@@ -1,5 +1,5 @@
 -- What the fields of a book keep. This project's own form.
-use Rattle.std.specs.Prelude.{◌≡◌, ℕ, suc, ◌<◌, ◌≤◌, Bool, true, false, List, length, slice_index_or}
+use Rattle.std.specs.Prelude.{◌≡◌, ℕ, suc, ◌<◌, ◌≤◌, Bool, true, false, List, length, slice_index_or, All, ℤ}
 use Rattle.branch_tree.specs.NumberedTree.{node_count}
 use Rattle.search_core.specs.Machine.{IsHeldIn}
 use Rattle.branch_tree.specs.TreeView.{TreeView}
@@ -7,7 +7,7 @@ use Rattle.book.specs.BookView.{BookView, Table}
 use Rattle.book.specs.Claims.{Claim, holders}
 use Rattle.book.specs.Opening.{Opening, IsTrueOpening}
 use Rattle.book.specs.Running.{IsReplayed, IsHeldOnce}
-use Rattle.book.specs.inside.Chains.{LogView}
+use Rattle.book.specs.inside.Chains.{LogView, IsScaleNoted}
 
 -- what contracts see of the claims: for how many claims there is room, and for how many nodes
 pub record ClaimsView : Type 0 where
@@ -26,7 +26,8 @@ pub record AreNoted (claims : List Claim) (flags : List Bool) : Type 0 where
   pub held : (node : ℕ) → node < length flags → slice_index_or flags node false ≡ true → IsHeldIn (holders claims) node
   pub unheld : (node : ℕ) → node < length flags → slice_index_or flags node false ≡ false → ¬ IsHeldIn (holders claims) node
 
--- the numbers of a book besides what contracts see: how many nodes there are, and for how many tables, entries, claims and nodes there is room
+-- the numbers of a book besides what contracts see: how many nodes there are, for how many tables, entries, claims and nodes there is room,
+-- and the greatest scales
 pub record Rooms : Type 0 where
   pub count : ℕ
   pub tables : ℕ
@@ -34,6 +35,7 @@ pub record Rooms : Type 0 where
   pub log_nodes : ℕ
   pub claims : ℕ
   pub claims_nodes : ℕ
+  pub greatest : List ℤ
 
 abbrev pub rooms_of : ℕ → ℕ → LogView → ClaimsView → Rooms
 rooms_of count tables log claims = record {
@@ -43,6 +45,7 @@ rooms_of count tables log claims = record {
   log_nodes = log.nodes;
   claims = claims.room;
   claims_nodes = claims.nodes;
+  greatest = log.greatest;
 }
 
 pub record IsKept (opening : Opening) (book : BookView) (rooms : Rooms) : Type 0 where
@@ -60,3 +63,5 @@ pub record IsKept (opening : Opening) (book : BookView) (rooms : Rooms) : Type 0
   pub claims : rooms.claims ≡ book.budget
   pub log_nodes : book.tree.room ≤ rooms.log_nodes
   pub claims_nodes : book.tree.room ≤ rooms.claims_nodes
+  pub scales : All (IsScaleNoted book.tables rooms.greatest) book.log
+  pub greatest : length rooms.greatest ≡ rooms.log_nodes

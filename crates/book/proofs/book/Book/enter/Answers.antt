@@ -1,8 +1,12 @@
 -- What is held is an open leaf, and there is room for its commit.
 use Rattle.std.proofs.Common.{◌≡◌, ◌+◌, ◌<◌, ap, sym, ◌∙◌, subst, arith}
+use Rattle.std.proofs.Common.{to_z, of_z}
+use Rattle.std.specs.Int.{w64}
+use Rattle.std.proofs.lemmas.Int.{to_z-of_z}
 use Rattle.std.specs.Vec.{vec_capacity}
 use Rattle.search_core.specs.Machine.{IsHolding}
 use Rattle.book.specs.BookView.{BookView, state_of}
+use Rattle.book.specs.inside.Chains.{raised}
 use Rattle.book.specs.inside.Kept.{view_of, rooms_of}
 use Rattle.std.proofs.Common.{suc, ◌∷◌, ◌++◌, [], length}
 use Rattle.branch_tree.specs.NumberedTree.{node_count}
@@ -113,6 +117,8 @@ invariant_of-self g c =
     c.kept-kept.ensures ∙ ap (λ (b : BookView). kept (state_of b) number table exact outcome) (sym c.self.view_is) in
     let tree : c.make.new.tree ≡ tree_after a.tree number (kept (state_of book) number table exact outcome) (length a.tables.items) exact outcome action =
     c.make.ensures ∙ (λ i. tree_after a.tree number (stored i) (place i) exact outcome action) in
+    let passed = to_z w64 (of_z w64 c.k-scale.result) in
+    let scale : passed ≡ table.k = to_z-of_z w64 c.k-scale.result (record { sfits = c.k-scale.type_inv }) ∙ c.k-scale.ensures in
     let log : c.push.new.self ≡ record a.log {
       entries = a.log.entries ++ (record {
         unit = c.args.unit;
@@ -122,6 +128,7 @@ invariant_of-self g c =
         exact = exact;
         outcome = outcome;
       }) ∷ [];
+      greatest = raised a.log.greatest number table.k;
     } =
     c.push.ensures
     ∙ ap (λ n. record a.log {
@@ -133,7 +140,19 @@ invariant_of-self g c =
         exact = exact;
         outcome = outcome;
       }) ∷ [];
-    }) place in
+      greatest = raised a.log.greatest number passed;
+    }) place
+    ∙ ap (λ z. record a.log {
+      entries = a.log.entries ++ (record {
+        unit = c.args.unit;
+        worker = c.args.worker;
+        node = number;
+        table = length a.tables.items;
+        exact = exact;
+        outcome = outcome;
+      }) ∷ [];
+      greatest = raised a.log.greatest number z;
+    }) scale in
     let claims = c.end.ensures in
     let count : length c.children.result.now ≡ length (tickets_of a.tree action) =
     ap length c.children.ensures ∙ same_children 0 0 (node_count a.tree.nodes) (suc (node_count a.tree.nodes)) action in
@@ -147,13 +166,14 @@ invariant_of-self g c =
       claims = (claims i).claims;
     } in
     let later : rooms_of (a.count + length c.children.result.now) (vec_capacity c.push_reserved.new.self) c.push.new.self c.end.new.self
-    ≡ record rooms { count = a.count + length (tickets_of a.tree action) } = λ i. record {
+    ≡ record rooms { count = a.count + length (tickets_of a.tree action); greatest = raised a.log.greatest number table.k } = λ i. record {
       count = a.count + count i;
       tables = c.push_reserved.ensures.capacity i;
       log = (log i).room;
       log_nodes = (log i).nodes;
       claims = (claims i).room;
       claims_nodes = (claims i).nodes;
+      greatest = (log i).greatest;
     } in
     subst (λ (b : BookView). IsKept g.C.Case.opening b (rooms_of (a.count + length c.children.result.now) (vec_capacity c.push_reserved.new.self)
     c.push.new.self c.end.new.self)) (sym view)

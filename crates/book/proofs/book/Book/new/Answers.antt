@@ -1,8 +1,9 @@
 -- The fields are those of the opening.
-use Rattle.std.proofs.Common.{◌≡◌, ◌+◌, ◌*◌, ◌∷◌, [], length, ap, sym, ◌∙◌, subst, arith, refl, false, to_z, of_z}
+use Rattle.std.proofs.Common.{◌≡◌, ◌+◌, ◌*◌, ◌∷◌, [], length, ap, sym, ◌∙◌, subst, arith, refl, false, to_z, of_z, pos}
 use Rattle.std.specs.Int.{w128}
 use Rattle.std.specs.Vec.{vec_capacity}
 use Rattle.std.proofs.lemmas.Int.{to_z-of_z}
+use Rattle.std.proofs.lemmas.List.{length-replicate}
 use Rattle.uc_model.specs.Schedule.{thermal_count}
 use Rattle.uc_model.specs.declared.instance.Instance.{Instance}
 use Rattle.branch_tree.specs.NumberedTree.{EndAt}
@@ -47,4 +48,7 @@ invariant_of-result g c =
     (ap (λ (v : LogView). v.room) c.in_ok-with_room.ensures ∙ c.requires.budget)
     (ap (λ (v : ClaimsView). v.room) c.in_ok-with_room-2.ensures ∙ c.requires.budget)
     (ap (λ (v : LogView). v.nodes) c.in_ok-with_room.ensures ∙ ap (λ n. 2 * n + 1) c.requires.budget)
-    (ap (λ (v : ClaimsView). v.nodes) c.in_ok-with_room-2.ensures ∙ ap (λ n. 2 * n + 1) c.requires.budget))
+    (ap (λ (v : ClaimsView). v.nodes) c.in_ok-with_room-2.ensures ∙ ap (λ n. 2 * n + 1) c.requires.budget)
+    (ap (λ (v : LogView). length v.greatest) c.in_ok-with_room.ensures
+    ∙ length-replicate (2 * c.args.budget + 1) (pos 0)
+    ∙ sym (ap (λ (v : LogView). v.nodes) c.in_ok-with_room.ensures)))

@@ -50,4 +50,5 @@ invariant_of-self c =
           last made)),
       c.push_reserved.ensures.capacity ∙ c.self.invariant.1 ∙ sym c.push_reserved-2.ensures.capacity,
       omega (arith, c.push_reserved-2.ensures.capacity, c.self.invariant.2),
+      c.self.invariant.3,
     )
