@@ -572,7 +572,8 @@ class Refusals(ViewTest):
                 self.assertEqual(whole.count(old), 1)
                 broken = self.put("broken", whole.replace(old, new))
                 self.refused(f"{broken}: {said}", *SHORT_FILES, words=("--uplift", str(broken)))
-        self.refused(f"{SHORT_UPLIFT}: uplifts, where the report has no", *[self.row1(5, 0), self.put("s", STUCK_REPORT)], words=("--uplift", str(SHORT_UPLIFT)))
+        words = "--uplift", str(SHORT_UPLIFT)
+        self.refused(f"{SHORT_UPLIFT}: uplifts, where the report has no", self.row1(5, 0), self.put("s", STUCK_REPORT), words=words)
         self.refused(f"{KAZARLIS_UPLIFT}: line 2: 24 prices for 4 periods", *SHORT_FILES, words=("--uplift", str(KAZARLIS_UPLIFT)))
 
     def test_prices_of_other_runs(self) -> None:
