@@ -14,6 +14,7 @@ use Rattle.uc_model.specs.declared.limits.TheConstants.{COST_MAX}
 use Rattle.schedule_check.specs.Accepted.{IsAccepted}
 use Rattle.schedule_check.specs.WholeWatts.{HasPrice}
 use Rattle.schedule_check.proofs.Priced.{priced}
+use Rattle.dispatch_repair.specs.Dispatch.{HasPeriods}
 use Rattle.dispatch_repair.specs.MostOn.{AreMostOn}
 use Rattle.std.specs.declared.alloc.Global.{Global}
 use Rattle.std.specs.declared.vec.Vec.{Vec}
@@ -28,10 +29,10 @@ use Rattle.dispatch_repair.proofs.RowsEdits.{cut_at, cut_stuck}
 use Rattle.dispatch_repair.proofs.RowsCommitted.{rows_but}
 use Rattle.decommitment.specs.DropCommitment.{Instance, Pattern, Printed, Ending, Dispatched, StuckIn, IsDropPass, IsEndingOf, IsFewestOnOf, IsStuckIn, IsTaken, is_better}
 use Rattle.decommitment.specs.declared.pass.Standing.TheVariants as standing
-use Rattle.decommitment.specs.declared.pass.Stand.TheVariants as stand
-use Rattle.decommitment.specs.declared.trial.Trial.TheVariants as trial
+use Rattle.decommitment.specs.declared.stand.Stand.TheVariants as stand
+use Rattle.decommitment.specs.declared.stand.Trial.TheVariants as trial
 use Rattle.decommitment.specs.Standings.{IsDropped}
-use Rattle.decommitment.specs.inside.Turns.{Pass, Stand, Trial, Turn, AreAllowed, beats, ending_of_stand, ending_of_trial, IsChosen, IsReplaced, IsTried, KeepsStuck}
+use Rattle.decommitment.specs.inside.Turns.{PlainPass, Stand, Trial, Turn, AreAllowed, beats, ending_of_stand, ending_of_trial, IsChosen, IsReplaced, IsTried, KeepsStuck}
 use Rattle.dispatch_repair.specs.declared.rows.Rows.{Rows}
 
 -- ---- allowed patterns
@@ -77,16 +78,16 @@ accepted instance patterns printed cost lawful is cost_is =
     }
 
 -- and its cells can be priced
-pub dispatch_prices : (instance : Instance) (patterns : List Pattern) (rows : Rows) → IsLawfulInstance instance → IsDispatchOf instance patterns (printed_of rows)
-    → (g t : ℕ) → g < thermal_count instance → t < instance.periods → HasPrice (thermal_unit instance g) (cell_at (printed_of rows) g t)
-dispatch_prices instance patterns rows lawful is = priced instance (printed_of rows) lawful is.periods.shape.whole (obeying instance patterns (printed_of rows) lawful is.regular is.periods)
+pub dispatch_prices : (instance : Instance) (patterns : List Pattern) (printed : Printed) → IsLawfulInstance instance → IsDispatchOf instance patterns printed
+    → (g t : ℕ) → g < thermal_count instance → t < instance.periods → HasPrice (thermal_unit instance g) (cell_at printed g t)
+dispatch_prices instance patterns printed lawful is = priced instance printed lawful is.periods.shape.whole (obeying instance patterns printed lawful is.regular is.periods)
 
 -- where something is in the way the commitment is stuck
-pub stuck_in : (instance : Instance) (patterns : List Pattern) (rows : Rows) (obstacle : Obstacle) → AreAllowed instance patterns → AreRowsOf instance patterns rows
-    → IsObstacleOf instance patterns (printed_of rows) obstacle → IsStuckIn instance patterns obstacle.period
-stuck_in instance patterns rows obstacle allowed are is = record {
-  stuck = record { period = obstacle.period; prefix = cut_at obstacle.period (printed_of rows); why = obstacle.why };
-  stuck_by = stuck_of instance patterns (printed_of rows) obstacle _ (regular instance patterns allowed) are.shape is (cut_stuck (printed_of rows) obstacle);
+pub stuck_in : (instance : Instance) (patterns : List Pattern) (printed : Printed) (obstacle : Obstacle) → AreAllowed instance patterns
+    → HasPeriods instance instance.periods printed → IsObstacleOf instance patterns printed obstacle → IsStuckIn instance patterns obstacle.period
+stuck_in instance patterns printed obstacle allowed shape is = record {
+  stuck = record { period = obstacle.period; prefix = cut_at obstacle.period printed; why = obstacle.why };
+  stuck_by = stuck_of instance patterns printed obstacle _ (regular instance patterns allowed) shape is (cut_stuck printed obstacle);
   period = refl;
 }
 
@@ -117,7 +118,7 @@ ending_is instance (suc n) patterns ending passed = ⊎_elim
     passed.turn.taken
 
 -- a turn more
-passed_turn : (instance : Instance) (g : ℕ) (former patterns : List Pattern) (stood ending tried : Ending) (fewest : Pattern)
+pub passed_turn : (instance : Instance) (g : ℕ) (former patterns : List Pattern) (stood ending tried : Ending) (fewest : Pattern)
     → IsDropPass instance g former stood → IsFewestOnOf instance g fewest → IsEndingOf instance (set former g fewest) tried
     → (IsTrue (is_better tried stood) × IsTaken (set former g fewest) patterns tried ending)
     ⊎ ((is_better tried stood ≡ false) × IsTaken former patterns stood ending)
@@ -140,26 +141,26 @@ passed_spared instance g patterns ending fewest h few same =
     (inr (not_better ending, record { commitment = refl; end = refl }))
 
 -- a trial that is better is so by its ending
-beats_is : (tried kept : Printed) (t : Trial) (s : Stand) → is_better (ending_of_trial tried t) (ending_of_stand kept s) ≡ beats t s
+pub beats_is : (tried kept : Printed) (t : Trial) (s : Stand) → is_better (ending_of_trial tried t) (ending_of_stand kept s) ≡ beats t s
 beats_is tried kept (trial.Dispatched cost) (stand.Dispatched stood) = refl
 beats_is tried kept (trial.Dispatched cost) (stand.Stuck period most_on) = refl
 beats_is tried kept (trial.Stuck t) (stand.Dispatched stood) = refl
 beats_is tried kept (trial.Stuck t) (stand.Stuck period most_on) = refl
 
 -- what is replaced ends as the trial did, and keeps what is known of the most-on commitment
-replaced_end : (printed : Printed) (tried : Trial) (former after : Stand) → IsReplaced tried former after
+pub replaced_end : (printed : Printed) (tried : Trial) (former after : Stand) → IsReplaced tried former after
     → ending_of_stand printed after ≡ ending_of_trial printed tried
 replaced_end printed (trial.Dispatched cost) former after is = ap (ending_of_stand printed) is
 replaced_end printed (trial.Stuck t) (stand.Dispatched cost) after is = absurd is
 replaced_end printed (trial.Stuck t) (stand.Stuck period most_on) after is = ap (ending_of_stand printed) is
 
-replaced_kept : (instance : Instance) (tried : Trial) (former after : Stand) → IsReplaced tried former after → KeepsStuck instance former
+pub replaced_kept : (instance : Instance) (tried : Trial) (former after : Stand) → IsReplaced tried former after → KeepsStuck instance former
     → KeepsStuck instance after
 replaced_kept instance (trial.Dispatched cost) former after is kept = subst (KeepsStuck instance) (sym is) tt
 replaced_kept instance (trial.Stuck t) (stand.Dispatched cost) after is kept = absurd is
 replaced_kept instance (trial.Stuck t) (stand.Stuck period most_on) after is kept = subst (KeepsStuck instance) (sym is) kept
 
-module _ (instance : Instance) (turn : Turn) (pass after : Pass) (it : IsTried instance turn pass) where
+module _ (instance : Instance) (turn : Turn) (pass after : PlainPass) (it : IsTried instance turn pass) where
   abbrev tried : List Pattern
   tried = set it.former turn.g it.fewest
 

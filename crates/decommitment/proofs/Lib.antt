@@ -1,4 +1,11 @@
 pub mod Drops
+pub mod SourceSlopes
+pub mod LesserSums
+pub mod OneFilling
+pub mod OneDispatch
+pub mod Runs
+pub mod RunCosts
+pub mod RunTurns
 pub mod Levels
 pub mod Givens
 pub mod Places

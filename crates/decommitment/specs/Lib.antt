@@ -1,4 +1,5 @@
 pub mod DropCommitment
 pub mod MostOnStuck
+pub mod OneDispatch
 pub mod Standings
 pub mod inside

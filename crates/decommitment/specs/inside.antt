@@ -1,3 +1,4 @@
 pub mod Turns
 pub mod Levels
 pub mod Fills
+pub mod Runs

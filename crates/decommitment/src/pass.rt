@@ -1,20 +1,25 @@
 //! The drop pass: from the most-on commitment to one of fewer on periods, unit by unit, where the dispatch is better for it.
 
-ghost use Rattle.std.specs.Prelude.{◌≡◌, ◌<◌, ◌↔◌, IfOk, IsTrue, length, suc};
+ghost use Rattle.std.specs.Prelude.{◌≡◌, ℕ, ◌<◌, List, ℤ, IfOk, length, suc};
 ghost use Rattle.uc_model.specs.Limits.{IsLawfulInstance};
 ghost use Rattle.uc_model.specs.Schedule.{thermal_count};
 ghost use Rattle.dispatch_repair.specs.MostOn.{AreMostOn};
-ghost use Rattle.dispatch_repair.specs.Rooms.{AreRowsOf, IsRoomOf, printed_of};
-ghost use Rattle.decommitment.specs.DropCommitment.{IsEndingOf, IsFewestOnOf};
+ghost use Rattle.dispatch_repair.specs.declared.segment.Segment.{Segment};
+ghost use Rattle.dispatch_repair.specs.Stuck.{IsDispatchOf, IsStuckOf};
+ghost use Rattle.decommitment.specs.DropCommitment.{Instance, IsStuckIn, Printed};
 ghost use Rattle.dual_model.specs.Tree.{HasEachPattern};
 ghost use Rattle.decommitment.specs.Standings.{IsDropped};
-ghost use Rattle.decommitment.specs.inside.Turns.{IsChosen, IsLater, IsPassed, IsReplaced, IsStuckStand, IsTried, KeepsStuck, beats, ending_of_stand};
+ghost use Rattle.decommitment.specs.inside.Runs.{IsOrigin, IsRun, IsRunPass, IsSetting, IsStandOf, IsTrialOf, IsTriedRun, instance_of, order_of};
+ghost use Rattle.decommitment.specs.inside.Turns.{AreAllowed, IsPassed};
 
-use crate::trial::{Trial, attempt};
-use dispatch_repair::{
-    MostFault, Room, Rows, committed, cost as rows_cost, dispatch_rows, fewest_of, most_on,
-    printed, recommit, stuck_at,
-};
+use crate::fill::System;
+use crate::merit::merit_of;
+use crate::patterns::{fewest, is_same, most_on_patterns};
+use crate::plain::{PlainPass, plain_pass};
+use crate::price::{Changed, price};
+use crate::run::{Origin, Reach, Run, Setting, fill_periods, initial_outputs, no_run};
+use crate::stand::{Stand, Trial, Turn, is_better, replace};
+use dispatch_repair::{DispatchFault, dispatch, printed};
 use schedule_check::cost;
 use std::alloc::Global;
 use std::mem;
@@ -28,20 +33,30 @@ pub enum Standing {
     Stuck { period: usize, most_on: Stuck },
 }
 
-// How the commitment that is kept was dispatched: its cost in micro-dollars, or where it is stuck, as the most-on one also was.
-#[derive(Drop)]
-enum Stand {
-    Dispatched(i128),
-    Stuck { period: usize, most_on: Stuck },
+// Why there is no pass over runs: memory was refused, or a limit binds in a period.
+#[derive(Clone, Copy)]
+enum Halt {
+    NoMemory,
+    Bound,
 }
 
-// The commitment that is kept, with the rows of its dispatch, and rows for the next trial.
+impl From<NoMemory> for Halt {
+    ghost use Rattle.std.specs.Prelude.{◌≡◌};
+    ghost use Rattle.decommitment.specs.declared.pass.Halt.TheVariants as halt;
+
+    ghost from_gives = { λ _ e. e ≡ halt.NoMemory };
+
+    fn from(_: NoMemory) -> Self {
+        Halt::NoMemory
+    }
+}
+
+// The commitment that is kept, with its run, and memory for the next trial's.
 #[derive(Drop)]
 struct Pass {
-    room: Room,
     patterns: Vec<Pattern>,
-    best: Rows,
-    tried: Rows,
+    best: Run,
+    tried: Run,
     stand: Stand,
 }
 
@@ -51,50 +66,69 @@ pub fn drop_pass(alloc: Global, instance: &Instance) -> Result<Standing, NoMemor
     requires patterns { HasEachPattern instance.now }
     ensures { IfOk result (IsDropped instance.now) }
 {
-    let mut pass = begun(alloc, instance)?;
-    turns(alloc, &mut pass, instance)?;
-    ended(alloc, instance, pass)
+    match run_pass(alloc, instance) {
+        Ok(standing) => Ok(standing),
+        Err(Halt::NoMemory) => Err(NoMemory),
+        Err(Halt::Bound) => {
+            let pass = plain_pass(alloc, instance)?;
+            ended_plainly(alloc, instance, pass)
+        }
+    }
+}
+
+// The pass over runs.
+fn run_pass(alloc: Global, instance: &Instance) -> Result<Standing, Halt>
+    requires lawful { IsLawfulInstance instance.now }
+    requires patterns { HasEachPattern instance.now }
+    ensures { IfOk result (IsDropped instance.now) }
+{
+    let merit = merit_of(alloc, instance)?;
+    let start = initial_outputs(alloc, instance)?;
+    let system = System {
+        instance,
+        merit: &merit,
+    };
+    let setting = Setting {
+        system: &system,
+        start: start.as_slice(),
+    };
+    let mut pass = begun(alloc, &setting)?;
+    turns(alloc, &mut pass, &setting)?;
+    Ok(ended(alloc, instance, pass)?)
 }
 
 // The turns of all units.
-fn turns(alloc: Global, pass: &mut Pass, instance: &Instance) -> Result<(), NoMemory>
-    requires lawful { IsLawfulInstance instance.now }
-    requires each { HasEachPattern instance.now }
-    requires begun { IsPassed instance.now 0 pass.old }
-    ensures { IfOk result (λ done. IsPassed instance.now (thermal_count instance.now) pass.new) }
+fn turns(alloc: Global, pass: &mut Pass, setting: &Setting) -> Result<(), Halt>
+    requires setting { IsSetting setting.now }
+    requires each { HasEachPattern (instance_of setting.now) }
+    requires begun { IsRunPass (instance_of setting.now) (order_of setting.now) setting.now.start.now 0 pass.old }
+    ensures { IfOk result (λ done. IsRunPass (instance_of setting.now) (order_of setting.now) setting.now.start.now
+        (thermal_count (instance_of setting.now)) pass.new) }
 {
-    for g in 0..instance.thermal.as_slice().len() {
-        take_turn(alloc, pass, instance, g)?;
+    for g in 0..setting.system.instance.thermal.as_slice().len() {
+        take_turn(alloc, pass, setting, g)?;
     }
     Ok(())
 }
 
-// The patterns with the most on periods, of which each unit has one.
-fn most_on_patterns(alloc: Global, instance: &Instance) -> Result<Vec<Pattern>, NoMemory>
-    requires lawful { IsLawfulInstance instance.now }
-    requires patterns { HasEachPattern instance.now }
-    ensures { IfOk result (λ patterns. AreMostOn instance.now patterns.items) }
+// The most-on commitment, with its run.
+fn begun(alloc: Global, setting: &Setting) -> Result<Pass, Halt>
+    requires setting { IsSetting setting.now }
+    requires each { HasEachPattern (instance_of setting.now) }
+    ensures { IfOk result (IsRunPass (instance_of setting.now) (order_of setting.now) setting.now.start.now 0) }
 {
-    match most_on(alloc, instance) {
-        Ok(patterns) => Ok(patterns),
-        Err(MostFault::Empty(_)) => unreachable!(),
-        Err(MostFault::NoMemory) => Err(NoMemory),
-    }
-}
-
-// The most-on commitment, dispatched.
-fn begun(alloc: Global, instance: &Instance) -> Result<Pass, NoMemory>
-    requires lawful { IsLawfulInstance instance.now }
-    requires patterns { HasEachPattern instance.now }
-    ensures { IfOk result (IsPassed instance.now 0) }
-{
+    let instance = setting.system.instance;
     let patterns = most_on_patterns(alloc, instance)?;
-    let mut room = Room::new(alloc, instance)?;
-    let mut best = committed(alloc, instance, &patterns)?;
-    let tried = committed(alloc, instance, &patterns)?;
-    let stand = first_stand(alloc, &mut room, instance, &patterns, &mut best)?;
+    let mut best = no_run(alloc, instance)?;
+    let tried = no_run(alloc, instance)?;
+    let origin = Origin {
+        run: &tried,
+        g: 0,
+        stood: Pattern::all_off(),
+    };
+    let trial = attempt(alloc, setting, &patterns, &origin, &mut best)?;
+    let stand = first_stand(alloc, instance, &patterns, trial)?;
     Ok(Pass {
-        room,
         patterns,
         best,
         tried,
@@ -102,77 +136,109 @@ fn begun(alloc: Global, instance: &Instance) -> Result<Pass, NoMemory>
     })
 }
 
-// How the most-on commitment, of which the rows are, is dispatched.
+// How the most-on commitment, of which this is the trial, is dispatched.
 fn first_stand(
     alloc: Global,
-    room: &mut Room,
     instance: &Instance,
     patterns: &[Pattern],
-    rows: &mut Rows,
+    trial: Trial,
 ) -> Result<Stand, NoMemory>
     requires lawful { IsLawfulInstance instance.now }
     requires most_on { AreMostOn instance.now patterns.now }
-    requires room { IsRoomOf instance.now room.old }
-    requires rows { AreRowsOf instance.now patterns.now rows.old }
-    ensures room { IsRoomOf instance.now room.new }
-    ensures rows { IfOk result (λ stand. AreRowsOf instance.now patterns.now rows.new) }
-    ensures ending { IfOk result (λ stand. IsEndingOf instance.now patterns.now (ending_of_stand (printed_of rows.new) stand)) }
-    ensures most_on { IfOk result (KeepsStuck instance.now) }
+    requires trial { IsTrialOf instance.now patterns.now trial }
+    ensures { IfOk result (IsStandOf instance.now patterns.now) }
 {
-    match dispatch_rows(room, instance, patterns, rows) {
-        None => Ok(Stand::Dispatched(rows_cost(instance, rows))),
-        Some(obstacle) => {
-            let period = obstacle.period;
-            let dispatched = mem::replace(rows, committed(alloc, instance, patterns)?);
-            Ok(Stand::Stuck {
-                period,
-                most_on: stuck_at(alloc, dispatched, obstacle)?,
-            })
-        }
+    match trial {
+        Trial::Dispatched(cost) => Ok(Stand::Dispatched(cost)),
+        Trial::Stuck(period) => Ok(Stand::Stuck {
+            period,
+            most_on: where_stuck(alloc, instance, patterns, period)?,
+        }),
+    }
+}
+
+// Where and why a commitment is stuck that is so in a period.
+fn where_stuck(
+    alloc: Global,
+    instance: &Instance,
+    patterns: &[Pattern],
+    period: usize,
+) -> Result<Stuck, NoMemory>
+    requires lawful { IsLawfulInstance instance.now }
+    requires patterns { length patterns.now ≡ thermal_count instance.now }
+    requires stuck { IsStuckIn instance.now patterns.now period }
+    ensures { IfOk result (IsStuckOf instance.now patterns.now) }
+{
+    match dispatch(alloc, instance, patterns) {
+        Ok(_) => unreachable!(),
+        Err(DispatchFault::Stuck(stuck)) => Ok(stuck),
+        Err(DispatchFault::NoMemory) => Err(NoMemory),
     }
 }
 
 // The turn of unit g: its pattern with the fewest on periods is tried, and kept where the dispatch is better.
-fn take_turn(alloc: Global, pass: &mut Pass, instance: &Instance, g: usize) -> Result<(), NoMemory>
-    requires lawful { IsLawfulInstance instance.now }
-    requires each { HasEachPattern instance.now }
-    requires unit { g < thermal_count instance.now }
-    requires passed { IsPassed instance.now g pass.old }
-    ensures { IfOk result (λ done. IsPassed instance.now (suc g) pass.new) }
+fn take_turn(alloc: Global, pass: &mut Pass, setting: &Setting, g: usize) -> Result<(), Halt>
+    requires setting { IsSetting setting.now }
+    requires each { HasEachPattern (instance_of setting.now) }
+    requires unit { g < thermal_count (instance_of setting.now) }
+    requires passed { IsRunPass (instance_of setting.now) (order_of setting.now) setting.now.start.now g pass.old }
+    ensures { IfOk result (λ done. IsRunPass (instance_of setting.now) (order_of setting.now) setting.now.start.now
+        (suc g) pass.new) }
 {
-    let fewest = fewest(instance, g);
+    let fewest = fewest(setting.system.instance, g);
     let stood = pass.patterns[g];
     if is_same(&fewest, &stood) {
         return Ok(());
     }
     pass.patterns[g] = fewest;
-    recommit(alloc, &mut pass.tried, instance, &pass.patterns, g)?;
-    let trial = attempt(&mut pass.room, instance, &pass.patterns, &mut pass.tried);
-    end_turn(alloc, pass, instance, Turn { g, stood, trial })
+    let origin = Origin {
+        run: &pass.best,
+        g,
+        stood,
+    };
+    let trial = attempt(alloc, setting, &pass.patterns, &origin, &mut pass.tried)?;
+    choose(pass, Turn { g, stood, trial });
+    Ok(())
 }
 
-// The trial of unit g, which had the pattern that stood.
-#[derive(Clone, Copy)]
-struct Turn {
-    g: usize,
-    stood: Pattern,
-    trial: Trial,
-}
-
-// Ends the turn of a unit that was tried; its row is made anew for the next trial.
-fn end_turn(alloc: Global, pass: &mut Pass, instance: &Instance, turn: Turn) -> Result<(), NoMemory>
-    requires lawful { IsLawfulInstance instance.now }
-    requires tried { IsTried instance.now turn pass.old }
-    ensures { IfOk result (λ done. IsPassed instance.now (suc turn.g) pass.new) }
+// Runs through a commitment that differs from the origin's in its unit alone.
+fn attempt(
+    alloc: Global,
+    setting: &Setting,
+    patterns: &[Pattern],
+    origin: &Origin,
+    run: &mut Run,
+) -> Result<Trial, Halt>
+    requires setting { IsSetting setting.now }
+    requires patterns { length patterns.now ≡ thermal_count (instance_of setting.now) }
+    requires allowed { AreAllowed (instance_of setting.now) patterns.now }
+    requires origin { IsOrigin (instance_of setting.now) (order_of setting.now) patterns.now setting.now.start.now
+        origin.now.run.now origin.now.g origin.now.stood }
+    requires costs { length run.old.costs.items ≡ thermal_count (instance_of setting.now) }
+    ensures run { IfOk result (λ trial. IsRun (instance_of setting.now) (order_of setting.now) patterns.now
+        setting.now.start.now run.new) }
+    ensures trial { IfOk result (IsTrialOf (instance_of setting.now) patterns.now) }
 {
-    choose(pass, turn);
-    recommit(alloc, &mut pass.tried, instance, &pass.patterns, turn.g)
+    match fill_periods(alloc, setting, patterns, origin, run)? {
+        Reach::Through => {
+            let changed = Changed {
+                instance: setting.system.instance,
+                patterns,
+                origin,
+                fills: run.fills.as_slice(),
+            };
+            Ok(Trial::Dispatched(price(alloc, &changed, &mut run.costs)?))
+        }
+        Reach::Stuck(t) => Ok(Trial::Stuck(t)),
+        Reach::Bound => Err(Halt::Bound),
+    }
 }
 
 // Keeps the trial where it is better, and else puts back the pattern that stood.
 fn choose(pass: &mut Pass, turn: Turn)
     requires unit { turn.g < length pass.old.patterns.items }
-    ensures { (instance : Instance) → IsTried instance turn pass.old → IsChosen instance turn.g pass.new }
+    ensures { (instance : Instance) (order : List Segment) (start : List ℤ) → IsTriedRun instance order start turn pass.old
+        → IsRunPass instance order start (suc turn.g) pass.new }
 {
     if is_better(&turn.trial, &pass.stand) {
         mem::swap(&mut pass.best, &mut pass.tried);
@@ -182,16 +248,20 @@ fn choose(pass: &mut Pass, turn: Turn)
     }
 }
 
-// Where the pass ends: the rows of the commitment that is kept are its schedule.
+// Where the pass ends: the commitment that is kept is dispatched.
 fn ended(alloc: Global, instance: &Instance, pass: Pass) -> Result<Standing, NoMemory>
     requires lawful { IsLawfulInstance instance.now }
-    requires passed { IsPassed instance.now (thermal_count instance.now) pass }
+    requires passed { (order : List Segment) × (start : List ℤ) × IsRunPass instance.now order start (thermal_count instance.now) pass }
     ensures { IfOk result (IsDropped instance.now) }
 {
-    let Pass { best, stand, .. } = pass;
+    let Pass {
+        patterns,
+        stand,
+        ..
+    } = pass;
     match stand {
         Stand::Dispatched(_) => {
-            let printed = printed(alloc, best)?;
+            let printed = whole(alloc, instance, &patterns)?;
             let cost = cost(instance, &printed);
             Ok(Standing::Dispatched { printed, cost })
         }
@@ -199,57 +269,33 @@ fn ended(alloc: Global, instance: &Instance, pass: Pass) -> Result<Standing, NoM
     }
 }
 
-// The pattern of unit g with the fewest on periods.
-fn fewest(instance: &Instance, g: usize) -> Pattern
+// The dispatch of a commitment that has one.
+fn whole(alloc: Global, instance: &Instance, patterns: &[Pattern]) -> Result<Printed, NoMemory>
     requires lawful { IsLawfulInstance instance.now }
-    requires each { HasEachPattern instance.now }
-    requires unit { g < thermal_count instance.now }
-    ensures { IsFewestOnOf instance.now g result }
+    requires patterns { length patterns.now ≡ thermal_count instance.now }
+    requires dispatched { (printed : Printed) × IsDispatchOf instance.now patterns.now printed }
+    ensures { IfOk result (IsDispatchOf instance.now patterns.now) }
 {
-    match fewest_of(&instance.thermal.as_slice()[g], instance.periods) {
-        Some(pattern) => pattern,
-        None => unreachable!(),
+    match dispatch(alloc, instance, patterns) {
+        Ok(printed) => Ok(printed),
+        Err(DispatchFault::Stuck(_)) => unreachable!(),
+        Err(DispatchFault::NoMemory) => Err(NoMemory),
     }
 }
 
-// Whether two patterns are on in the same periods.
-fn is_same(first: &Pattern, second: &Pattern) -> bool
-    ensures { IsTrue result ↔ (first.now ≡ second.now) }
+// Where the pass ends in which each commitment was dispatched anew: the rows of the one that is kept are its schedule.
+fn ended_plainly(alloc: Global, instance: &Instance, pass: PlainPass) -> Result<Standing, NoMemory>
+    requires lawful { IsLawfulInstance instance.now }
+    requires passed { IsPassed instance.now (thermal_count instance.now) pass }
+    ensures { IfOk result (IsDropped instance.now) }
 {
-    first.low == second.low && first.high == second.high
-}
-
-// Whether a dispatch is better: not stuck is better than stuck; of two that aren't the cheaper is better, and of two that are the
-// one that is stuck later.
-fn is_better(trial: &Trial, stand: &Stand) -> bool
-    ensures { result ≡ beats trial.now stand.now }
-{
-    match (trial, stand) {
-        (Trial::Dispatched(cost), Stand::Dispatched(stood)) => cost < stood,
-        (Trial::Dispatched(_), Stand::Stuck { .. }) => true,
-        (Trial::Stuck(_), Stand::Dispatched(_)) => false,
-        (Trial::Stuck(later), Stand::Stuck { period, .. }) => period < later,
-    }
-}
-
-// The better dispatch in place of the former.
-fn replace(stand: &mut Stand, trial: Trial)
-    requires better { IsTrue (beats trial stand.old) }
-    ensures { IsReplaced trial stand.old stand.new }
-{
-    match trial {
-        Trial::Dispatched(cost) => *stand = Stand::Dispatched(cost),
-        Trial::Stuck(later) => stuck_later(stand, later),
-    }
-}
-
-// Stuck in a later period.
-fn stuck_later(stand: &mut Stand, later: usize)
-    requires stuck { IsStuckStand stand.old }
-    ensures { IsLater later stand.old stand.new }
-{
+    let PlainPass { best, stand, .. } = pass;
     match stand {
-        Stand::Stuck { period, .. } => *period = later,
-        Stand::Dispatched(_) => unreachable!(),
+        Stand::Dispatched(_) => {
+            let printed = printed(alloc, best)?;
+            let cost = cost(instance, &printed);
+            Ok(Standing::Dispatched { printed, cost })
+        }
+        Stand::Stuck { period, most_on } => Ok(Standing::Stuck { period, most_on }),
     }
 }

@@ -1,11 +1,12 @@
 -- Each commitment that keeps the rules on commitments is dispatched, or stuck.
-use Rattle.std.proofs.Common.{◌≡◌, ℕ, zero, suc, ◌+◌, ◌*◌, ◌-◌, ◌<◌, ◌≤◌, ◌⊎◌, inl, inr, refl, sym, ap, subst, ◌∙◌, arith, List, length, ℤ, pos, ◌-ℤ◌, ◌≤ℤ◌, unsigned_abs}
+use Rattle.std.proofs.Common.{◌≡◌, ◌≢◌, ℕ, zero, suc, ◌+◌, ◌*◌, ◌-◌, ◌<◌, ◌≤◌, ◌⊎◌, inl, inr, refl, sym, ap, subst, ◌∙◌, arith, List, length, ℤ, pos, ◌-ℤ◌, ◌≤ℤ◌, unsigned_abs}
 use Rattle.std.specs.Int.{int_max}
 use Rattle.std.proofs.lemmas.Int.{ints}
 use Rattle.std.proofs.lemmas.Bool.{cases_lt}
 use Rattle.std.proofs.lemmas.List.Elements.{All-get_or}
 use Rattle.uc_model.specs.Commitment.{initial_p}
 use Rattle.uc_model.specs.Limits.{IsLawfulInstance, IsPower}
+use Rattle.uc_model.specs.PrintedSchedule.{cell_at, shed_at, short_at}
 use Rattle.uc_model.specs.Schedule.{thermal_unit, thermal_count, renewable_count, demand_at}
 use Rattle.uc_model.specs.Sums.{sum_below}
 use Rattle.uc_model.proofs.CostBound.{within_of_abs}
@@ -126,16 +127,94 @@ module _ (instance : Instance) (patterns : List Pattern) (order : List Segment) 
         kept = kept_size instance patterns t before shortage lawful within shortages well;
       }
 
-  -- ---- period after period
-  -- the first periods are filled, and these are the amounts of the last of them
-  record IsThrough (t : ℕ) : Type 0 where
-    printed : Printed
-    numbers : List ℤ
-    committed : AreCommitted instance patterns printed
-    filled : (k : ℕ) → k < t → IsFilled instance patterns printed k
-    count : length numbers ≡ source_count instance
-    before : AreBefore instance printed t numbers
+-- ---- period after period
+-- the first periods of a schedule are filled, and these are the amounts of the last of them
+pub record IsThrough (instance : Instance) (patterns : List Pattern) (t : ℕ) (numbers : List ℤ) : Type 0 where
+  pub printed : Printed
+  pub committed : AreCommitted instance patterns printed
+  pub filled : (k : ℕ) → k < t → IsFilled instance patterns printed k
+  pub count : length numbers ≡ source_count instance
+  pub before : AreBefore instance printed t numbers
 
+-- none is filled yet, after what the units give initially
+pub begun : (instance : Instance) (patterns : List Pattern) (numbers : List ℤ) → IsLawfulInstance instance → length numbers ≡ source_count instance
+    → ((g : ℕ) → g < thermal_count instance → thermal_amount instance numbers g ≡ initial_p (thermal_unit instance g)) → IsThrough instance patterns 0 numbers
+begun instance patterns numbers lawful count initial_is = record {
+  printed = idle instance patterns lawful;
+  committed = idle_committed instance patterns lawful;
+  filled = λ k h. absurd (omega (arith, h));
+  count = count;
+  before = record {
+    are = λ g. elim (cases_lt g (thermal_count instance)) [
+      | inl low ↦ initial_is g low
+      | inr high ↦ no_amount instance numbers g count high ∙ sym (no_initial instance g high)
+    ];
+    sizes = λ g h. subst IsSizedOutput (sym (initial_is g h)) (initial_size (thermal_unit instance g) (lawful.thermal g h));
+  };
+}
+
+-- a schedule gives these amounts in period t and lacks this, and in the others is as it was
+pub record IsNext (instance : Instance) (t : ℕ) (numbers : List ℤ) (lack : Shortage) (old new : Printed) : Type 0 where
+  pub outputs : (g : ℕ) → g < thermal_count instance → (cell_at new g t).p ≡ thermal_amount instance numbers g
+  pub shed : shed_at new t ≡ lack.shed
+  pub short : short_at new t ≡ lack.short
+  pub other_cells : (g k : ℕ) → k ≢ t → cell_at new g k ≡ cell_at old g k
+  pub other_shed : (k : ℕ) → k ≢ t → shed_at new k ≡ shed_at old k
+  pub other_short : (k : ℕ) → k ≢ t → short_at new k ≡ short_at old k
+
+-- a period more is filled
+pub record HasMore (instance : Instance) (patterns : List Pattern) (t : ℕ) (numbers : List ℤ) (lack : Shortage) (old : Printed) : Type 0 where
+  pub through : IsThrough instance patterns (suc t) numbers
+  pub is : IsNext instance t numbers lack old through.printed
+
+module _ (instance : Instance) (patterns : List Pattern) (t : ℕ) (numbers : List ℤ) (within : t < instance.periods)
+    (was : IsThrough instance patterns t numbers) where
+  -- Cite by `use Rattle.dispatch_repair.proofs.Endings.{more}`.
+  pub more : (after tops : List ℤ) (lack : Shortage) → length after ≡ source_count instance
+      → IsDispatchedFrom (period_after instance patterns t (thermal_amount instance numbers)) lack after tops
+      → HasMore instance patterns t after lack was.printed
+  more after tops lack count done =
+      let new = written instance after tops lack t was.printed was.committed.shape within in
+      let shape = written_shape instance after tops lack t was.printed was.committed.shape within in
+      let is = written_is instance after tops lack t was.printed was.committed.shape within in
+      record {
+        through = record {
+          printed = new;
+          committed = committed_still instance patterns t was.printed new numbers after tops lack shape count was.before was.committed within done is;
+          filled = λ k h. elim (cases_lt k t) [
+            | inl early ↦ filled_moved instance patterns k was.printed new (same_but instance t k was.printed new lack is.powers.others is.lacking early) (was.filled k early)
+            | inr late ↦ subst (IsFilled instance patterns new) (omega (arith, h, late))
+                (filled_period instance patterns t was.printed new numbers after tops lack shape count was.before was.committed within done is)
+          ];
+          count = count;
+          before = before_next instance patterns t was.printed new numbers after tops lack shape count was.before was.committed within done is;
+        };
+        is = record {
+          outputs = λ g h. (is.powers.cells g h).p;
+          shed = is.lacking.shed;
+          short = is.lacking.short;
+          other_cells = is.powers.others.cells;
+          other_shed = is.lacking.other_shed;
+          other_short = is.lacking.other_short;
+        };
+      }
+
+  -- what is in the way next is so of the commitment
+  pub obstacle : (reason : Why) → IsFirstObstacle (period_after instance patterns t (thermal_amount instance numbers)) reason
+      → IsObstacleOf instance patterns was.printed (record { period = t; why = reason })
+  obstacle reason found = record {
+    within = within;
+    filled = was.filled;
+    first = subst (λ z. z) (λ i. IsFirstObstacle (period_after instance patterns t (λ g. was.before.are g i)) reason) found;
+  }
+
+-- all are filled
+pub dispatch_through : (instance : Instance) (patterns : List Pattern) (numbers : List ℤ) → IsRegular instance patterns
+    → (was : IsThrough instance patterns instance.periods numbers) → IsDispatchOf instance patterns was.printed
+dispatch_through instance patterns numbers regular was = record { regular = regular; periods = record { shape = was.committed.shape; filled = was.filled } }
+
+module _ (instance : Instance) (patterns : List Pattern) (order : List Segment) (lawful : IsLawfulInstance instance)
+    (are : AreInMeritOrder instance order) where
   abbrev initial : List ℤ
   initial = list_of (source_count instance) (λ n. initial_p (thermal_unit instance (n - renewable_count instance)))
 
@@ -144,65 +223,28 @@ module _ (instance : Instance) (patterns : List Pattern) (order : List Segment) 
       listed (source_count instance) (λ n. initial_p (thermal_unit instance (n - renewable_count instance))) (renewable_count instance + g) (pos 0) (omega arith)
       ∙ ap (λ k. initial_p (thermal_unit instance k)) (omega arith)
 
-  begun : IsThrough 0
-  begun = record {
-    printed = idle instance patterns lawful;
-    numbers = initial;
-    committed = idle_committed instance patterns lawful;
-    filled = λ k h. absurd (omega (arith, h));
-    count = listed_length (source_count instance) _;
-    before = record {
-      are = λ g. elim (cases_lt g (thermal_count instance)) [
-        | inl low ↦ initial_is g low
-        | inr high ↦ no_amount instance initial g (listed_length (source_count instance) _) high ∙ sym (no_initial instance g high)
-      ];
-      sizes = λ g h. subst IsSizedOutput (sym (initial_is g h)) (initial_size (thermal_unit instance g) (lawful.thermal g h));
-    };
-  }
+  module _ (t : ℕ) (numbers : List ℤ) (within : t < instance.periods) (was : IsThrough instance patterns t numbers) where
+    abbrev reached : Period
+    reached = period_after instance patterns t (thermal_amount instance numbers)
 
-  module _ (t : ℕ) (within : t < instance.periods) (was : IsThrough t) where
-    abbrev before : ℕ → ℤ
-    before = thermal_amount instance was.numbers
-
-    more : IsFree (period t before within was.before.sizes) → IsThrough (suc t)
-    more clear =
-        let fill = filled t before within was.before.sizes clear in
-        let lack = shortage t before within was.before.sizes clear in
-        let tops = heads_in (period t before within was.before.sizes) in
-        let done = is_dispatched t before within was.before.sizes clear in
-        let new = written instance fill.amounts tops lack t was.printed was.committed.shape within in
-        let shape = written_shape instance fill.amounts tops lack t was.printed was.committed.shape within in
-        let is = written_is instance fill.amounts tops lack t was.printed was.committed.shape within in
-        record {
-          printed = new;
-          numbers = fill.amounts;
-          committed = committed_still instance patterns t was.printed new was.numbers fill.amounts tops lack shape fill.is.count was.before was.committed within done is;
-          filled = λ k h. elim (cases_lt k t) [
-            | inl early ↦ filled_moved instance patterns k was.printed new (same_but instance t k was.printed new lack is.powers.others is.lacking early) (was.filled k early)
-            | inr late ↦ subst (IsFilled instance patterns new) (omega (arith, h, late))
-                (filled_period instance patterns t was.printed new was.numbers fill.amounts tops lack shape fill.is.count was.before was.committed within done is)
-          ];
-          count = fill.is.count;
-          before = before_next instance patterns t was.printed new was.numbers fill.amounts tops lack shape fill.is.count was.before was.committed within done is;
-        }
-
-    obstacle : (reason : Why) → IsFirstObstacle (period t before within was.before.sizes) reason
-        → IsObstacleOf instance patterns was.printed (record { period = t; why = reason })
-    obstacle reason found = record {
-      within = within;
-      filled = was.filled;
-      first = subst (λ z. z) (λ i. IsFirstObstacle (period_after instance patterns t (λ g. was.before.are g i)) reason) found;
-    }
+    further : IsFree reached → (after : List ℤ) × IsThrough instance patterns (suc t) after
+    further clear =
+        let fill = filled instance patterns order lawful are t (thermal_amount instance numbers) within was.before.sizes clear in
+        let lack = shortage instance patterns order lawful are t (thermal_amount instance numbers) within was.before.sizes clear in
+        let done = is_dispatched instance patterns order lawful are t (thermal_amount instance numbers) within was.before.sizes clear in (
+          fill.amounts,
+          (more instance patterns t numbers within was fill.amounts (heads_in reached) lack fill.is.count done).through,
+        )
 
   module _ (regular : IsRegular instance patterns) where
-    come : (t : ℕ) → t ≤ instance.periods → IsThrough t ⊎ IsEnded instance patterns
-    come zero h = inl begun
+    come : (t : ℕ) → t ≤ instance.periods → ((numbers : List ℤ) × IsThrough instance patterns t numbers) ⊎ IsEnded instance patterns
+    come zero h = inl (initial, begun instance patterns initial lawful (listed_length (source_count instance) _) initial_is)
     come (suc t) h = elim (come t (omega arith)) [
-      | inl was ↦ elim (judged (period t (thermal_amount instance was.numbers) (omega arith) was.before.sizes)) [
-        | free clear ↦ inl (more t (omega arith) was clear)
-        | barred reason found ↦ inr (stuck (record { period = t; prefix = cut_at t was.printed; why = reason })
-            (stuck_of instance patterns was.printed (record { period = t; why = reason }) (record { period = t; prefix = cut_at t was.printed; why = reason }) regular
-            was.committed.shape (obstacle t (omega arith) was reason found) (cut_stuck was.printed (record { period = t; why = reason }))))
+      | inl was ↦ elim (judged (reached t was.0 (omega arith) was.1)) [
+        | free clear ↦ inl (further t was.0 (omega arith) was.1 clear)
+        | barred reason found ↦ inr (stuck (record { period = t; prefix = cut_at t was.1.printed; why = reason })
+            (stuck_of instance patterns was.1.printed (record { period = t; why = reason }) (record { period = t; prefix = cut_at t was.1.printed; why = reason }) regular
+            was.1.committed.shape (obstacle instance patterns t was.0 (omega arith) was.1 reason found) (cut_stuck was.1.printed (record { period = t; why = reason }))))
       ]
       | inr over ↦ inr over
     ]
@@ -210,6 +252,6 @@ module _ (instance : Instance) (patterns : List Pattern) (order : List Segment) 
     -- Cite by `use Rattle.dispatch_repair.proofs.Endings.{ended}`.
     pub ended : IsEnded instance patterns
     ended = elim (come instance.periods (omega arith)) [
-      | inl was ↦ dispatched was.printed (record { regular = regular; periods = record { shape = was.committed.shape; filled = was.filled } })
+      | inl was ↦ dispatched was.1.printed (dispatch_through instance patterns was.0 regular was.1)
       | inr over ↦ over
     ]

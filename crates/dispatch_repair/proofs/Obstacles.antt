@@ -1,5 +1,5 @@
 -- A period has a first obstacle, or none.
-use Rattle.std.proofs.Common.{◌≡◌, ℕ, zero, suc, ◌≤◌, ◌⊎◌, inl, inr, true, refl, sym, ap, subst, arith, ℤ, ◌≤ℤ◌, nat_lt}
+use Rattle.std.proofs.Common.{◌≡◌, ℕ, zero, suc, ◌≤◌, ◌⊎◌, inl, inr, true, refl, sym, ap, subst, arith, ◌≤ℤ◌, nat_lt}
 use Rattle.std.proofs.lemmas.Bool.{both_ways}
 use Rattle.uc_model.specs.Schedule.{thermal_count}
 use Rattle.uc_model.specs.declared.stuck.Why.TheVariants as why

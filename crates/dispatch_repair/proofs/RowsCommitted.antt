@@ -12,14 +12,14 @@ use Rattle.uc_model.specs.PrintedSchedule.{cell_at}
 use Rattle.uc_model.specs.Schedule.{thermal_count, thermal_unit}
 use Rattle.uc_model.specs.StartCategory.{category_cost}
 use Rattle.start_costs.specs.Cheapest.{IsCheapestAbove}
-use Rattle.dispatch_repair.specs.Rooms.{Printed, Rows, AreRowsBut, AreRowsOf, printed_of, AreCommitted, rows_of}
+use Rattle.dispatch_repair.specs.Rooms.{Printed, Rows, AreRowsBut, AreRowsOf, IsNewCell, printed_of, AreCommitted, rows_of}
 use Rattle.uc_model.specs.declared.pattern.Pattern.{Pattern}
 use Rattle.uc_model.specs.declared.instance.Instance.{Instance}
 use Rattle.dispatch_repair.specs.Dispatch.{Cell, HasPeriods, IsCommittedCell}
-use Rattle.dispatch_repair.specs.inside.Rows.{AreCommittedRows, IsCommittedRow, IsNewCell, cell_of}
+use Rattle.dispatch_repair.specs.inside.Rows.{AreCommittedRows, IsCommittedRow, cell_of}
 
 -- an entry at each place up to a new last one
-push_each : {X : Type 0} (P : ℕ → X → Type 0) (xs : List X) (x d : X) (n : ℕ) → length xs ≡ n
+pub push_each : {X : Type 0} (P : ℕ → X → Type 0) (xs : List X) (x d : X) (n : ℕ) → length xs ≡ n
     → ((k : ℕ) → k < n → P k (get_or xs k d)) → P n x → (k : ℕ) → k < n + 1 → P k (get_or (xs ++ x ∷ []) k d)
 push_each {X} P xs x d n count before last =
     below_more (λ k. P k (get_or (xs ++ x ∷ []) k d)) n
@@ -94,20 +94,24 @@ module _ (instance : Instance) (patterns : List Pattern) (g : ℕ) (rows : List 
       ap (λ cells. cell_at (with_rows cells) h t) (map-set _ rows g row)
       ∙ ap (λ (cells : List Cell). cell_of cells t) (get_or-set_other (rows_of rows) g h row.items [] apart)
 
+-- a cell of a unit is the commitment's whatever pattern another unit has
+pub other_cell : (instance : Instance) (patterns : List Pattern) (g h t : ℕ) (pattern : Pattern) (cell : Cell) → h ≢ g → IsCommittedCell instance patterns h t cell
+    → IsCommittedCell instance (set patterns g pattern) h t cell
+other_cell instance patterns g h t pattern cell apart is =
+    let same = sym (get_or-set_other patterns g h pattern (record { low = 0; high = 0 }) apart) in
+    let unit = thermal_unit instance h in
+    record {
+      on = is.on ∙ ap (λ p. commitment_of p t) same;
+      start = λ begins. subst (λ p. IsCheapestAbove unit (commitment_of p) t 0 (cell.category, category_cost unit cell.category)) same
+          (is.start (subst (λ p. IsTrue (starts unit (commitment_of p) t)) (sym same) begins));
+      none = λ e. is.none (ap (λ p. starts unit (commitment_of p) t) same ∙ e);
+    }
+
 -- the rows of a commitment are those of one with another pattern of unit g, but for its own
 -- Cite by `use Rattle.dispatch_repair.proofs.RowsCommitted.{rows_but}`.
 pub rows_but : (instance : Instance) (patterns : List Pattern) (g : ℕ) (pattern : Pattern) (rows : Rows) → AreRowsOf instance patterns rows
     → AreRowsBut instance (set patterns g pattern) g rows
 rows_but instance patterns g pattern rows are = record {
   shape = are.shape;
-  others = λ h t hh ht apart.
-      let same = sym (get_or-set_other patterns g h pattern (record { low = 0; high = 0 }) apart) in
-      let is = are.cells h t hh ht in
-      let unit = thermal_unit instance h in
-      record {
-        on = is.on ∙ ap (λ p. commitment_of p t) same;
-        start = λ begins. subst (λ p. IsCheapestAbove unit (commitment_of p) t 0 ((cell_at (printed_of rows) h t).category, category_cost unit (cell_at (printed_of rows) h t).category)) same
-            (is.start (subst (λ p. IsTrue (starts unit (commitment_of p) t)) (sym same) begins));
-        none = λ e. is.none (ap (λ p. starts unit (commitment_of p) t) same ∙ e);
-      };
+  others = λ h t hh ht apart. other_cell instance patterns g h t pattern (cell_at (printed_of rows) h t) apart (are.cells h t hh ht);
 }

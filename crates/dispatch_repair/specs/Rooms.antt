@@ -9,7 +9,7 @@ use Rattle.uc_model.specs.declared.instance.Instance.{Instance}
 use Rattle.uc_model.specs.declared.pattern.Pattern.{Pattern}
 pub use Rattle.uc_model.specs.declared.schedule.Printed.{Printed}
 use Rattle.schedule_check.specs.SizedNumbers.{output_at}
-use Rattle.dispatch_repair.specs.Dispatch.{HasPeriods, IsCommittedCell, IsFilled, period_after}
+use Rattle.dispatch_repair.specs.Dispatch.{Cell, HasPeriods, IsCommittedCell, IsFilled, period_after}
 use Rattle.dispatch_repair.specs.Period.{output_before}
 use Rattle.dispatch_repair.specs.Stuck.{Stuck, Why, IsFirstObstacle}
 use Rattle.dispatch_repair.specs.Segments.{source_count, AreInMeritOrder}
@@ -42,6 +42,12 @@ printed_of rows = record {
 pub record AreCommitted (instance : Instance) (patterns : List Pattern) (printed : Printed) : Type 0 where
   pub shape : HasPeriods instance instance.periods printed
   pub cells : (g t : ℕ) → g < thermal_count instance → t < instance.periods → IsCommittedCell instance patterns g t (cell_at printed g t)
+
+-- a cell is the commitment's, without any power
+pub record IsNewCell (instance : Instance) (patterns : List Pattern) (g t : ℕ) (cell : Cell) : Type 0 where
+  pub committed : IsCommittedCell instance patterns g t cell
+  pub output : cell.p ≡ pos 0
+  pub reserve : cell.r ≡ pos 0
 
 -- the rows have the states and the start categories of the commitment
 abbrev pub AreRowsOf : Instance → List Pattern → Rows → Type 0

@@ -25,7 +25,7 @@ pub use obstacle::{Totals, imbalance};
 pub use period::{Start, set_initial, start_of};
 pub use range::{Range, Reach, unit_reach};
 pub use room::Room;
-pub use rows::{Rows, committed, cost, printed, recommit};
+pub use rows::{Rows, committed, committed_cell, cost, printed, recommit};
 pub use schedule::{DispatchFault, Obstacle, dispatch, dispatch_rows, stuck_at};
 pub use segment::Segment;
 pub use shortage::Shortage;

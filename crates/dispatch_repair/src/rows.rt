@@ -11,9 +11,9 @@ ghost use Rattle.uc_model.specs.Sums.{sum_below};
 ghost use Rattle.schedule_check.specs.WholeWatts.{HasPrice};
 ghost use Rattle.start_costs.specs.Cheapest.{IsCheapestAbove};
 ghost use Rattle.dispatch_repair.specs.Dispatch.{Instance, Pattern, HasPeriods};
-ghost use Rattle.dispatch_repair.specs.Rooms.{ArePowerless, AreRowsBut, AreRowsOf, AreSameBelow, AreSameRowsBut, IsPowerless, IsRoomOf, printed_of, rows_of};
+ghost use Rattle.dispatch_repair.specs.Rooms.{ArePowerless, AreRowsBut, AreRowsOf, AreSameBelow, AreSameRowsBut, IsNewCell, IsPowerless, IsRoomOf, printed_of, rows_of};
 ghost use Rattle.dispatch_repair.specs.Amounts.{IsSizedEnd, IsSizedOutput, amount_at, thermal_amount};
-ghost use Rattle.dispatch_repair.specs.inside.Rows.{AreCellsWritten, AreCommittedRows, AreOutputsWritten, IsCommittedRow, IsLeft, IsPowered, IsWritten, cell_of, reserve_of, row_at, with_power, IsNewCell};
+ghost use Rattle.dispatch_repair.specs.inside.Rows.{AreCellsWritten, AreCommittedRows, AreOutputsWritten, IsCommittedRow, IsLeft, IsPowered, IsWritten, cell_of, reserve_of, row_at, with_power};
 
 use crate::room::Room;
 use crate::shortage::Shortage;
@@ -108,8 +108,9 @@ pub fn recommit(
     Ok(())
 }
 
-// A cell, without any power.
-fn committed_cell(instance: &Instance, patterns: &[Pattern], g: usize, t: usize) -> Cell
+/// The cell of unit g in period t of a commitment, both from 0, without any power: a start takes the cheapest category that the history
+/// allows, the first of several.
+pub fn committed_cell(instance: &Instance, patterns: &[Pattern], g: usize, t: usize) -> Cell
     requires lawful { IsLawfulInstance instance.now }
     requires patterns { length patterns.now ≡ thermal_count instance.now }
     requires unit { g < thermal_count instance.now }

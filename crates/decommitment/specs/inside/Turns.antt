@@ -8,12 +8,12 @@ use Rattle.dispatch_repair.specs.declared.room.Room.{Room}
 use Rattle.dispatch_repair.specs.declared.rows.Rows.{Rows}
 use Rattle.decommitment.specs.DropCommitment.{Instance, Pattern, Printed, Ending, Dispatched, StuckIn, IsDropPass, IsEndingOf, IsFewestOnOf}
 use Rattle.decommitment.specs.MostOnStuck.{IsMostOnStuck}
-pub use Rattle.decommitment.specs.declared.pass.Pass.{Pass}
-pub use Rattle.decommitment.specs.declared.pass.Stand.{Stand}
-use Rattle.decommitment.specs.declared.pass.Stand.TheVariants as stand
-pub use Rattle.decommitment.specs.declared.pass.Turn.{Turn}
-pub use Rattle.decommitment.specs.declared.trial.Trial.{Trial}
-use Rattle.decommitment.specs.declared.trial.Trial.TheVariants as trial
+pub use Rattle.decommitment.specs.declared.plain.PlainPass.{PlainPass}
+pub use Rattle.decommitment.specs.declared.stand.Stand.{Stand}
+use Rattle.decommitment.specs.declared.stand.Stand.TheVariants as stand
+pub use Rattle.decommitment.specs.declared.stand.Turn.{Turn}
+pub use Rattle.decommitment.specs.declared.stand.Trial.{Trial}
+use Rattle.decommitment.specs.declared.stand.Trial.TheVariants as trial
 
 -- each unit's pattern is an allowed one
 abbrev pub AreAllowed : Instance → List Pattern → Type 0
@@ -52,17 +52,17 @@ pub record IsKept (instance : Instance) (n : ℕ) (patterns : List Pattern) (roo
   pub most_on : KeepsStuck instance kept
 
 -- and the rows for the next trial are its rows
-pub record IsPassed (instance : Instance) (n : ℕ) (pass : Pass) : Type 0 where
+pub record IsPassed (instance : Instance) (n : ℕ) (pass : PlainPass) : Type 0 where
   pub kept : IsKept instance n pass.patterns.items pass.room pass.best pass.stand
   pub tried : AreRowsOf instance pass.patterns.items pass.tried
 
 -- or they are but for unit g's, whose turn it was
-pub record IsChosen (instance : Instance) (g : ℕ) (pass : Pass) : Type 0 where
+pub record IsChosen (instance : Instance) (g : ℕ) (pass : PlainPass) : Type 0 where
   pub kept : IsKept instance (suc g) pass.patterns.items pass.room pass.best pass.stand
   pub tried : AreRowsBut instance pass.patterns.items g pass.tried
 
 -- a unit was tried with its pattern of the fewest on periods in the place of the one that stood
-pub record IsTried (instance : Instance) (turn : Turn) (pass : Pass) : Type 0 where
+pub record IsTried (instance : Instance) (turn : Turn) (pass : PlainPass) : Type 0 where
   pub former : List Pattern
   pub fewest : Pattern
   pub is_fewest : IsFewestOnOf instance turn.g fewest

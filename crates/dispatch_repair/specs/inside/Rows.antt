@@ -6,7 +6,8 @@ use Rattle.uc_model.specs.Schedule.{thermal_count, renewable_count, reserve_at}
 use Rattle.uc_model.specs.PrintedSchedule.{cell_at, shed_at, short_at}
 pub use Rattle.uc_model.specs.declared.schedule.Cell.{Cell}
 use Rattle.schedule_check.specs.SizedNumbers.{output_at}
-use Rattle.dispatch_repair.specs.Dispatch.{Instance, Pattern, Printed, IsCommittedCell}
+use Rattle.dispatch_repair.specs.Dispatch.{Instance, Pattern, Printed}
+use Rattle.dispatch_repair.specs.Rooms.{IsNewCell}
 use Rattle.dispatch_repair.specs.Amounts.{MAX_POWER, amount_at, thermal_amount}
 use Rattle.dispatch_repair.specs.Filled.{Shortage}
 
@@ -17,12 +18,6 @@ row_at rows g = slice_index_or rows g []
 -- a row's cell in a period; past the last one an off cell
 abbrev pub cell_of : List Cell → ℕ → Cell
 cell_of row t = slice_index_or row t (record { on = false; p = pos 0; r = pos 0; category = 0 })
-
--- a cell is the commitment's, without any power
-pub record IsNewCell (instance : Instance) (patterns : List Pattern) (g t : ℕ) (cell : Cell) : Type 0 where
-  pub committed : IsCommittedCell instance patterns g t cell
-  pub output : cell.p ≡ pos 0
-  pub reserve : cell.r ≡ pos 0
 
 -- the first periods of unit g's row are the commitment's, without any power
 pub record IsCommittedRow (instance : Instance) (patterns : List Pattern) (g periods : ℕ) (row : List Cell) : Type 0 where

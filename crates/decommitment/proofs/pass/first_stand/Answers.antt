@@ -1,29 +1,14 @@
--- The most-on commitment keeps the rules, and is dispatched or stuck.
-use Rattle.std.proofs.Common.{subst}
-use Rattle.dispatch_repair.specs.Rooms.{IsStuckAfter, printed_of}
-use Rattle.dispatch_repair.proofs.Periods.{stuck_of}
-use Rattle.dispatch_repair.proofs.Regular.{regular}
-use Rattle.decommitment.proofs.Drops.{allowed_most, dispatch_prices, stuck_in}
+-- The most-on commitment stands as its trial ended.
+use Rattle.decommitment.proofs.RunTurns.{stand_dispatched, stand_stuck, trial_stuck}
 use Rattle.decommitment.proofs.pass.first_stand.Goals as goal
 
-pub dispatch_rows-requires-clause-regular : goal.dispatch_rows-requires-clause-regular
-dispatch_rows-requires-clause-regular c = regular c.args.instance.now c.args.patterns.now (allowed_most c.args.instance.now c.args.patterns.now c.requires.most_on)
+pub returns-in-Dispatched : goal.returns-in-Dispatched
+returns-in-Dispatched c = stand_dispatched c.args.instance.now c.args.patterns.now c.args.trial c.in-Dispatched.cost c.requires.lawful c.requires.trial c.in-Dispatched.is
 
-pub cost-requires-clause-prices : goal.cost-requires-clause-prices
-cost-requires-clause-prices c = dispatch_prices c.args.instance.now c.args.patterns.now c.dispatch_rows.new.rows c.requires.lawful c.in-None.ensures.dispatch
+pub where_stuck-requires-clause-stuck : goal.where_stuck-requires-clause-stuck
+where_stuck-requires-clause-stuck c = trial_stuck c.args.instance.now c.args.patterns.now c.args.trial c.in-Stuck.period c.requires.trial c.in-Stuck.is
 
-pub returns-in_ok-stuck_at-in-Some-clause-ending : goal.returns-in_ok-stuck_at-in-Some-clause-ending
-returns-in_ok-stuck_at-in-Some-clause-ending c =
-    stuck_in c.args.instance.now c.args.patterns.now c.dispatch_rows.new.rows c.in-Some.obstacle
-    (allowed_most c.args.instance.now c.args.patterns.now c.requires.most_on) c.in-Some.ensures.rows c.in-Some.ensures.dispatch
-
-pub returns-in_ok-stuck_at-in-Some-clause-most_on : goal.returns-in_ok-stuck_at-in-Some-clause-most_on
-returns-in_ok-stuck_at-in-Some-clause-most_on c = record {
-  patterns = c.args.patterns.now;
-  most_on = c.requires.most_on;
-  stuck_by = stuck_of c.args.instance.now c.args.patterns.now (printed_of c.dispatch_rows.new.rows) c.in-Some.obstacle c.in_ok-stuck_at-in-Some.field-0
-      (regular c.args.instance.now c.args.patterns.now (allowed_most c.args.instance.now c.args.patterns.now c.requires.most_on))
-      c.in-Some.ensures.rows.shape c.in-Some.ensures.dispatch
-      (subst (λ rows. IsStuckAfter (printed_of rows) c.in-Some.obstacle.period c.in-Some.obstacle.why c.in_ok-stuck_at-in-Some.field-0)
-      c.replace-dispatched.ensures.value c.in_ok-stuck_at-in-Some.ensures);
-}
+pub returns-in_ok-where_stuck-in-Stuck : goal.returns-in_ok-where_stuck-in-Stuck
+returns-in_ok-where_stuck-in-Stuck c =
+    stand_stuck c.args.instance.now c.args.patterns.now c.args.trial c.in-Stuck.period c.in_ok-where_stuck-in-Stuck.field-0 c.requires.trial c.in-Stuck.is c.requires.most_on
+    c.in_ok-where_stuck-in-Stuck.ensures

@@ -1,15 +1,14 @@
 -- The commitment with the unit's pattern of the fewest on periods was tried, or stands already.
-use Rattle.std.proofs.Common.{◌≡◌, ◌<◌, ◌∙◌, arith, length, refl, subst, sym, slice_index_or}
-use Rattle.std.proofs.lemmas.List.{get_or_read}
-use Rattle.dispatch_repair.specs.Rooms.{AreRowsBut, AreRowsOf, printed_of}
-use Rattle.dispatch_repair.proofs.RowsCommitted.{rows_but}
-use Rattle.decommitment.specs.DropCommitment.{IsEndingOf}
-use Rattle.decommitment.specs.inside.Turns.{AreAllowed, ending_of_trial}
+use Rattle.std.proofs.Common.{◌≡◌, ◌<◌, ◌∙◌, ap, arith, length, refl, set, subst, sym, slice_index_or}
+use Rattle.std.proofs.lemmas.List.{get_or_read, set-get_or, set-set}
+use Rattle.decommitment.specs.inside.Runs.{IsOrigin, IsRun, IsTrialOf, instance_of, order_of}
+use Rattle.decommitment.specs.inside.Turns.{AreAllowed}
 use Rattle.decommitment.proofs.Drops.{allowed_set, passed_spared}
 use Rattle.decommitment.proofs.pass.take_turn.Goals as goal
 
 pub returns-then-is_same : goal.returns-then-is_same
 returns-then-is_same c =
+    let instance = instance_of c.args.setting.now in
     let kept = c.requires.passed.kept in
     let patterns = c.args.pass.now.patterns.items in
     let fewest = c.fewest-fewest.result in
@@ -20,48 +19,56 @@ returns-then-is_same c =
       kept = record {
         count = kept.count;
         allowed = kept.allowed;
-        room_is = kept.room_is;
-        rows = kept.rows;
-        passed = passed_spared c.args.instance.now c.args.g patterns _ fewest kept.passed c.fewest-fewest.ensures same;
+        run = kept.run;
+        printed = kept.printed;
+        passed = passed_spared instance c.args.g patterns _ fewest kept.passed c.fewest-fewest.ensures same;
         most_on = kept.most_on;
       };
-      tried = c.requires.passed.tried;
+      costs = c.requires.passed.costs;
     }
 
-pub recommit-requires-clause-rows : goal.recommit-requires-clause-rows
-recommit-requires-clause-rows c =
-    subst (λ p. AreRowsBut c.args.instance.now p c.args.g c.args.pass.now.tried) (sym c.deref.ensures.value)
-    (rows_but c.args.instance.now c.args.pass.now.patterns.items c.args.g c.fewest-fewest.result c.args.pass.now.tried c.requires.passed.tried)
-
-pub attempt-trial-requires-clause-allowed : goal.attempt-trial-requires-clause-allowed
-attempt-trial-requires-clause-allowed c =
-    subst (AreAllowed c.args.instance.now) (sym c.deref-2.ensures.value)
-    (allowed_set c.args.instance.now c.args.pass.now.patterns.items c.args.g c.fewest-fewest.result c.requires.passed.kept.count c.requires.passed.kept.allowed
+pub attempt-requires-clause-allowed : goal.attempt-requires-clause-allowed
+attempt-requires-clause-allowed c =
+    let instance = instance_of c.args.setting.now in
+    subst (AreAllowed instance) (sym c.deref.ensures.value)
+    (allowed_set instance c.args.pass.now.patterns.items c.args.g c.fewest-fewest.result c.requires.passed.kept.count c.requires.passed.kept.allowed
     c.fewest-fewest.ensures)
 
-pub end_turn-requires-clause-tried : goal.end_turn-requires-clause-tried
-end_turn-requires-clause-tried c =
-    let instance = c.args.instance.now in
+pub attempt-requires-clause-origin : goal.attempt-requires-clause-origin
+attempt-requires-clause-origin c =
+    let instance = instance_of c.args.setting.now in
+    let order = order_of c.args.setting.now in
+    let start = c.args.setting.now.start.now in
+    let former = c.args.pass.now.patterns.items in
+    let stood = c.index.result.now in
+    let kept = c.requires.passed.kept in
+    let within : c.args.g < length former = omega (arith, c.requires.unit, kept.count) in
+    let back : set (set former c.args.g c.fewest-fewest.result) c.args.g stood ≡ former =
+    set-set former c.args.g c.fewest-fewest.result stood
+    ∙ (ap (set former c.args.g) (get_or_read former c.args.g stood within c.index.ensures stood) ∙ set-get_or former c.args.g stood) in
+    subst (λ p. IsOrigin instance order p start c.args.pass.now.best c.args.g stood) (sym c.deref.ensures.value) (record {
+      unit = λ some. c.requires.unit;
+      run = subst (λ p. IsRun instance order p start c.args.pass.now.best) (sym back) kept.run;
+    })
+
+pub returns : goal.returns
+returns c =
+    let instance = instance_of c.args.setting.now in
+    let order = order_of c.args.setting.now in
+    let start = c.args.setting.now.start.now in
     let former = c.args.pass.now.patterns.items in
     let fewest = c.fewest-fewest.result in
     let kept = c.requires.passed.kept in
     let within : c.args.g < length former = omega (arith, c.requires.unit, kept.count) in
-    record {
+    c.choose.ensures instance order start (record {
       former = former;
       fewest = fewest;
       is_fewest = c.fewest-fewest.ensures;
       unit = c.requires.unit;
       stood = get_or_read former c.args.g c.index.result.now within c.index.ensures c.index.result.now;
       patterns = refl;
-      kept = record {
-        count = kept.count;
-        allowed = kept.allowed;
-        room_is = c.attempt-trial.ensures.room;
-        rows = kept.rows;
-        passed = kept.passed;
-        most_on = kept.most_on;
-      };
+      kept = kept;
       allowed = allowed_set instance former c.args.g fewest kept.count kept.allowed c.fewest-fewest.ensures;
-      tried = subst (λ p. AreRowsOf instance p c.attempt-trial.new.rows) c.deref-2.ensures.value c.attempt-trial.ensures.rows;
-      ending = subst (λ p. IsEndingOf instance p (ending_of_trial (printed_of c.attempt-trial.new.rows) c.attempt-trial.result)) c.deref-2.ensures.value c.attempt-trial.ensures.ending;
-    }
+      tried = subst (λ p. IsRun instance order p start c.attempt.new.run) c.deref.ensures.value c.in_ok-trial.ensures.run;
+      trial = subst (λ p. IsTrialOf instance p c.in_ok-trial.trial) c.deref.ensures.value c.in_ok-trial.ensures.trial;
+    })

@@ -1,0 +1,10 @@
+-- What is missing of reserve in the periods so far.
+use Rattle.std.proofs.Common.{◌≡◌, ◌<◌, ℕ, length, pos, slice_index_or}
+use Rattle.decommitment.specs.inside.Runs.{lack_at}
+use Rattle.decommitment.proofs.price.shorts.Given as goal
+
+abbrev pub invariant-loop-t : goal.invariant-loop-t
+invariant-loop-t l = record {
+  count : length l.short.items ≡ l.t;
+  each : (k : ℕ) → k < l.t → slice_index_or l.short.items k (pos 0) ≡ (lack_at l.fills k).short;
+}

@@ -1,0 +1,177 @@
+//! The run of a commitment: its periods one after another, filled again from another commitment's where there is one.
+
+ghost use Rattle.std.specs.Prelude.{◌≡◌, ◌<◌, ◌≤◌, [], IfOk, length};
+ghost use Rattle.uc_model.specs.Limits.{IsLawfulInstance};
+ghost use Rattle.uc_model.specs.Schedule.{thermal_count};
+ghost use Rattle.dispatch_repair.specs.Segments.{source_count};
+ghost use Rattle.decommitment.specs.inside.Runs.{AreFills, AreInitial, IsFillingOf, IsOrigin, IsReach, IsSetting, instance_of, order_of, outputs_before};
+
+use crate::fill::{Base, Fill, Filling, Hour, System, fill_again, fill_anew, no_fill};
+use dispatch_repair::set_initial;
+use std::alloc::Global;
+use uc_model::{Instance, NoMemory, Pattern};
+
+/// What the runs of an instance share: with what periods are filled, and what the sources give before the first one, in watts by their
+/// places.
+#[derive(Clone, Copy)]
+pub(crate) struct Setting<'a> {
+    pub system: &'a System<'a>,
+    pub start: &'a [i64],
+}
+
+/// The run of a commitment: its periods from the first on, as far as they can be filled; what each thermal unit costs, in
+/// micro-dollars, where all are; and fills that are free.
+#[derive(Drop)]
+pub(crate) struct Run {
+    pub fills: Vec<Fill>,
+    pub costs: Vec<i128>,
+    pub spare: Vec<Fill>,
+}
+
+/// How far a run came: through all periods; or to one, from 0, that can't be filled; or to one in which a limit binds, so that it isn't.
+#[derive(Clone, Copy)]
+pub(crate) enum Reach {
+    Through,
+    Stuck(usize),
+    Bound,
+}
+
+/// The run of a commitment in which unit g, from 0, has the pattern that stood.
+#[derive(Clone, Copy)]
+pub(crate) struct Origin<'a> {
+    pub run: &'a Run,
+    pub g: usize,
+    pub stood: Pattern,
+}
+
+/// A run of no period. The only error is `NoMemory`.
+pub(crate) fn no_run(alloc: Global, instance: &Instance) -> Result<Run, NoMemory>
+    ensures fills { IfOk result (λ run. run.fills.items ≡ []) }
+    ensures costs { IfOk result (λ run. length run.costs.items ≡ thermal_count instance.now) }
+{
+    Ok(Run {
+        fills: Vec::new(alloc),
+        costs: vec![in alloc; 0; instance.thermal.as_slice().len()]?,
+        spare: Vec::new(alloc),
+    })
+}
+
+/// What the sources give before the first period, in watts by their places. The only error is `NoMemory`.
+pub(crate) fn initial_outputs(alloc: Global, instance: &Instance) -> Result<Vec<i64>, NoMemory>
+    requires lawful { IsLawfulInstance instance.now }
+    ensures { IfOk result (λ start. AreInitial instance.now start.items) }
+{
+    let sources = instance.renewable.as_slice().len() + instance.thermal.as_slice().len();
+    let mut start = vec![in alloc; 0; sources]?;
+    set_initial(&mut start, instance);
+    Ok(start)
+}
+
+/// Fills the periods of a commitment from the first on, each again where the origin's run has it. The only error is `NoMemory`.
+pub(crate) fn fill_periods(
+    alloc: Global,
+    setting: &Setting,
+    patterns: &[Pattern],
+    origin: &Origin,
+    run: &mut Run,
+) -> Result<Reach, NoMemory>
+    requires setting { IsSetting setting.now }
+    requires patterns { length patterns.now ≡ thermal_count (instance_of setting.now) }
+    requires origin { IsOrigin (instance_of setting.now) (order_of setting.now) patterns.now setting.now.start.now
+        origin.now.run.now origin.now.g origin.now.stood }
+    ensures costs { run.new.costs ≡ run.old.costs }
+    ensures fills { IfOk result (λ reach. AreFills (instance_of setting.now) (order_of setting.now) patterns.now
+        setting.now.start.now run.new.fills.items) }
+    ensures reach { IfOk result (IsReach (instance_of setting.now) patterns.now setting.now.start.now run.new.fills.items) }
+{
+    release(run)?;
+    for t in 0..setting.system.instance.periods as usize {
+        let mut fill = take_spare(alloc, &mut run.spare, setting.start.len())?;
+        match fill_next(setting, patterns, origin, &run.fills, &mut fill) {
+            Filling::Filled => run.fills.push(fill)?,
+            Filling::Barred(_) => {
+                run.spare.push(fill)?;
+                return Ok(Reach::Stuck(t));
+            }
+            Filling::Bound => return Ok(Reach::Bound),
+        }
+    }
+    Ok(Reach::Through)
+}
+
+// Makes the fills of a run free.
+fn release(run: &mut Run) -> Result<(), NoMemory>
+    ensures costs { run.new.costs ≡ run.old.costs }
+    ensures fills { IfOk result (λ done. run.new.fills.items ≡ []) }
+{
+    for _ in 0..run.fills.len() {
+        if let Some(fill) = run.fills.pop() {
+            run.spare.push(fill)?;
+        }
+    }
+    run.fills.clear();
+    Ok(())
+}
+
+// A fill that is free, or a new one.
+fn take_spare(alloc: Global, spare: &mut Vec<Fill>, sources: usize) -> Result<Fill, NoMemory>
+    ensures { IfOk result (λ fill. length fill.amounts.items ≡ sources) }
+{
+    if let Some(fill) = spare.pop() {
+        if fill.amounts.len() == sources {
+            return Ok(fill);
+        }
+    }
+    no_fill(alloc, sources)
+}
+
+// Fills the period after the last one.
+fn fill_next(
+    setting: &Setting,
+    patterns: &[Pattern],
+    origin: &Origin,
+    fills: &[Fill],
+    fill: &mut Fill,
+) -> Filling
+    requires setting { IsSetting setting.now }
+    requires patterns { length patterns.now ≡ thermal_count (instance_of setting.now) }
+    requires origin { IsOrigin (instance_of setting.now) (order_of setting.now) patterns.now setting.now.start.now
+        origin.now.run.now origin.now.g origin.now.stood }
+    requires fills { AreFills (instance_of setting.now) (order_of setting.now) patterns.now setting.now.start.now fills.now }
+    requires period { length fills.now < (instance_of setting.now).periods }
+    requires amounts { length fill.old.amounts.items ≡ source_count (instance_of setting.now) }
+    ensures { IsFillingOf (instance_of setting.now) (order_of setting.now) patterns.now (length fills.now)
+        (outputs_before setting.now.start.now fills.now (length fills.now)) fill.new result }
+{
+    let t = fills.len();
+    let before = given_before(setting.start, fills, t);
+    let hour = Hour {
+        patterns,
+        t,
+        before,
+    };
+    let stood = origin.run.fills.as_slice();
+    if t < stood.len() {
+        let base = Base {
+            before: given_before(setting.start, stood, t),
+            fill: &stood[t],
+            g: origin.g,
+            stood: origin.stood,
+        };
+        fill_again(setting.system, &hour, &base, fill)
+    } else {
+        fill_anew(setting.system, &hour, fill)
+    }
+}
+
+// What the sources give before period t.
+fn given_before<'a>(start: &'a [i64], fills: &'a [Fill], t: usize) -> &'a [i64]
+    requires { t ≤ length fills.now }
+    ensures { result.now ≡ outputs_before start.now fills.now t }
+{
+    if t == 0 {
+        start
+    } else {
+        fills[t - 1].amounts.as_slice()
+    }
+}

@@ -1,4 +1,0 @@
-mod Slopes
-mod Sums
-mod Merit
-mod Periods
