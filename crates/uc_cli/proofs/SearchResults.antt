@@ -35,7 +35,7 @@ countable table few = omega (arith, few)
 text_of : (instance : Instance) (budget gap : ℕ) (found : Found) → IsLawfulInstance instance → IsSearchResult instance budget gap found
     → IsWritable instance found → HasText (listing_of (certificate_of instance found))
 text_of instance budget gap found lawful result writable =
-    found_has_text instance found lawful writable.tree result.truth.certificate (has_schedule_text instance found.schedule writable.schedule)
+    found_has_text instance found lawful writable.tree result.plain result.truth.certificate (has_schedule_text instance found.schedule writable.schedule)
     (bound_text (tree_bound found.tree) writable.bound)
     (All-weaker HasFewRows (λ (table : Table). length table.ramps < 10 ^ 18) countable (written_tables found) writable.tables)
 
