@@ -11,7 +11,7 @@ use Rattle.dispatch_repair.specs.Segments.{source_count}
 use Rattle.dispatch_repair.specs.Totals.{MAX_POWER, MAX_UNITS, IsSum}
 use Rattle.dispatch_repair.specs.declared.obstacle.Totals.{Totals}
 use Rattle.dispatch_repair.specs.declared.range.Range.{Range}
-use Rattle.decommitment.specs.inside.Fills.{AreGiven, Fill, IsBegun, IsBegunTo, IsSizedAmount, no_given, no_totals}
+use Rattle.decommitment.specs.inside.Fills.{AreGiven, Fill, IsBegun, IsBegunTo, IsClear, IsSizedAmount, no_given, no_totals}
 
 -- amounts of 0 add up to nothing
 pub cleared : (instance : Instance) (amounts : List ℤ) → length amounts ≡ source_count instance
@@ -27,6 +27,18 @@ cleared instance amounts count zero = record {
     is = sym (sum_below-zero (renewable_count instance) (amount_at amounts) (λ w h. zero w (omega (arith, h, count))));
     size = omega arith;
   };
+}
+
+pub begun_none : (period : Period) (sums : Range) (fill : Fill) → IsClear period.instance fill → sums.low ≡ pos 0 → sums.high ≡ pos 0 → IsBegunTo period 0 sums fill
+begun_none period sums fill clear low high = record {
+  given = clear.given;
+  level = clear.level;
+  totals = clear.totals;
+  lows = λ w h. absurd (omega (arith, h));
+  low = low;
+  high = high;
+  low_size = omega (arith, ints, low);
+  high_size = omega (arith, ints, high);
 }
 
 -- the size of a sum with a term more

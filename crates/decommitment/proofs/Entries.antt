@@ -83,7 +83,7 @@ sized_bit : (z : ℤ) (b : Bool) → IsPower z → IsSizedEnd (z *ℤ bit b)
 sized_bit z true power = subst IsSizedEnd (sym (mul-one z)) (omega (arith, power))
 sized_bit z false power = subst IsSizedEnd (sym (mul-zero z)) (omega arith)
 
-part_sizes : (period : Period) → IsLawfulInstance period.instance → period.t < period.instance.periods
+pub part_sizes : (period : Period) → IsLawfulInstance period.instance → period.t < period.instance.periods
     → ((g : ℕ) → g < thermal_count period.instance → IsSizedOutput (period.before g)) → (g : ℕ) → g < thermal_count period.instance → HasSizes (part_at period g)
 part_sizes period lawful within sizes g h =
     let ends = thermal_ends period (ranges_in period) g h (ranges_are period lawful within sizes) in
@@ -106,7 +106,7 @@ module _ (period : Period) (order : List Segment) (old : ℕ → Part) (before a
   sized : (g : ℕ) → g < G → HasSizes (part_at period g)
   sized = part_sizes period lawful within sizes
 
-  ready_from : ((w : ℕ) → w < renewable_count period.instance → IsAtLevel order w before.level (suc before.level) (low_of period (FromRenewable w))
+  pub ready_from : ((w : ℕ) → w < renewable_count period.instance → IsAtLevel order w before.level (suc before.level) (low_of period (FromRenewable w))
       (high_of period (FromRenewable w)) (amount_at before.amounts.items w))
       → before.totals.minimums ≡ sum_below G (λ g. (old g).minimum) → before.totals.thermal_low ≡ sum_below G (λ g. (old g).reach.range.low)
       → before.totals.thermal_high ≡ sum_below G (λ g. (old g).reach.range.high) → before.totals.heads ≡ sum_below G (λ g. (old g).reach.head)

@@ -17,7 +17,7 @@ use Rattle.decommitment.specs.inside.Fills.{Given, AreGiven, IsSizedAmount}
 use Rattle.decommitment.proofs.Levels.{set_each}
 
 -- a sum over units of terms of the size of a range's end
-sum_sized : (n : ℕ) (f : ℕ → ℤ) → n ≤ MAX_UNITS → ((k : ℕ) → k < n → IsSizedEnd (f k)) → IsSizedSum (sum_below n f)
+pub sum_sized : (n : ℕ) (f : ℕ → ℤ) → n ≤ MAX_UNITS → ((k : ℕ) → k < n → IsSizedEnd (f k)) → IsSizedSum (sum_below n f)
 sum_sized n f few each =
     let within = within_const_sum n f (pos (3 * MAX_POWER)) (λ k h. within_of_abs (f k) (3 * MAX_POWER) (each k h)) in
     let size : unsigned_abs (sum_below n f) ≤ n * (3 * MAX_POWER) =

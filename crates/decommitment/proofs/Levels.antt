@@ -48,7 +48,7 @@ module _ (order : List Segment) (n level bound : ℕ) (low high : ℤ) where
 
 -- a source goes up or down at a place of the order, its own or another's
 module _ (order : List Segment) (n level : ℕ) (low high : ℤ) where
-  risen_stays : (amount : ℤ) (step : Step) → level < length order → (segment_at order level).source ≡ n
+  pub risen_stays : (amount : ℤ) (step : Step) → level < length order → (segment_at order level).source ≡ n
       → IsAtLevel order n level (suc level) low high amount → IsRisen amount (int_min (segment_at order level).end high) step
       → IsAtLevel order n level (suc level) low high step.amount
   risen_stays amount step within own was rose = record {
@@ -86,15 +86,15 @@ module _ (order : List Segment) (n level : ℕ) (low high : ℤ) where
     taken = (higher order n level (suc level) low high amount (suc (suc level)) (omega arith) was).taken;
   }
 
-  risen_on : (amount : ℤ) → IsAtLevel order n level (suc level) low high amount → int_min (segment_at order level).end high ≤ℤ amount
+  pub risen_on : (amount : ℤ) → IsAtLevel order n level (suc level) low high amount → int_min (segment_at order level).end high ≤ℤ amount
       → IsAtLevel order n (suc level) (suc (suc level)) low high amount
   risen_on amount was done = up amount was (λ inside its. done)
 
-  other_up : (amount : ℤ) → n ≢ (segment_at order level).source → IsAtLevel order n level (suc level) low high amount
+  pub other_up : (amount : ℤ) → n ≢ (segment_at order level).source → IsAtLevel order n level (suc level) low high amount
       → IsAtLevel order n (suc level) (suc (suc level)) low high amount
   other_up amount other was = up amount was (λ inside its. absurd (other (sym its)))
 
-  sunk_stays : (amount least : ℤ) (step : Step) → IsAtLevel order n level (suc level) low high amount
+  pub sunk_stays : (amount least : ℤ) (step : Step) → IsAtLevel order n level (suc level) low high amount
       → IsAtLevel order n level level low high least → IsSunk amount least step → IsAtLevel order n level (suc level) low high step.amount
   sunk_stays amount least step was bottom sank = record {
     low_end = above low was.low_end bottom.low_end;
@@ -114,7 +114,7 @@ module _ (order : List Segment) (n level : ℕ) (low high : ℤ) where
 
 -- down from the level after a place
 module _ (order : List Segment) (n level : ℕ) (low high : ℤ) where
-  sunk_on : (amount least : ℤ) → IsAtLevel order n (suc level) (suc (suc level)) low high amount
+  pub sunk_on : (amount least : ℤ) → IsAtLevel order n (suc level) (suc (suc level)) low high amount
       → IsAtLevel order n (suc level) (suc level) low high least → amount ≤ℤ least → IsAtLevel order n level (suc level) low high amount
   sunk_on amount least was bottom down = record {
     low_end = was.low_end;
@@ -126,7 +126,7 @@ module _ (order : List Segment) (n level : ℕ) (low high : ℤ) where
         bottom.taken;
   }
 
-  other_down : (amount : ℤ) → n ≢ (segment_at order (suc level)).source → IsAtLevel order n (suc level) (suc (suc level)) low high amount
+  pub other_down : (amount : ℤ) → n ≢ (segment_at order (suc level)).source → IsAtLevel order n (suc level) (suc (suc level)) low high amount
       → IsAtLevel order n level (suc level) low high amount
   other_down amount other was = record {
     low_end = was.low_end;

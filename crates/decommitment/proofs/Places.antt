@@ -1,10 +1,10 @@
 -- The places of each source's own segments, place by place.
 -- Cite by `use Rattle.decommitment.proofs.Places.{pushed}`.
-use Rattle.std.proofs.Common.{◌≡◌, ℕ, suc, ◌<◌, ◌≤◌, ⊎_elim, refl, sym, ap, subst, ◌∙◌, arith, List, [], ◌∷◌, ◌++◌, length, length-set, slice_set, slice_index_or}
+use Rattle.std.proofs.Common.{◌≡◌, ℕ, zero, suc, ◌-◌, ◌<◌, ◌≤◌, ⊎_elim, refl, sym, ap, subst, ◌∙◌, arith, List, [], ◌∷◌, ◌++◌, length, length-set, slice_set, slice_index_or}
 use Rattle.std.specs.declared.alloc.Global.{Global}
 use Rattle.std.specs.declared.vec.Vec.{Vec}
 use Rattle.std.proofs.lemmas.Bool.{cases_lt}
-use Rattle.std.proofs.lemmas.List.{get_or_append_left, get_or_push, length_push, map-set}
+use Rattle.std.proofs.lemmas.List.{get_or_append_left, get_or-append_right, get_or_push, length_push, map-set}
 use Rattle.dispatch_repair.specs.Rooms.{rows_of}
 use Rattle.uc_model.proofs.Sums.{below_or_last}
 use Rattle.dispatch_repair.specs.Segments.{segment_at}
@@ -28,6 +28,17 @@ places_of order sources n rows are = record {
   own = are.own n;
   all = λ j h its. subst (λ m. IsAmong (places_at rows m) j) its (are.all j h);
 }
+
+-- a source more without places
+pub empty_more : (rows : List (List ℕ)) → ((n : ℕ) → places_at rows n ≡ []) → (n : ℕ) → places_at (rows ++ [] ∷ []) n ≡ []
+empty_more rows empty n = ⊎_elim
+    (λ (early : n < length rows). get_or_append_left rows ([] ∷ []) [] n early ∙ empty n)
+    (λ (late : length rows ≤ n). get_or-append_right rows ([] ∷ []) (length rows) n [] refl late ∙ single (n - length rows))
+    (cases_lt n (length rows))
+  where
+    single : (m : ℕ) → places_at ([] ∷ []) m ≡ []
+    single zero = refl
+    single (suc m) = refl
 
 -- none before the first segment
 pub none : (order : List Segment) (sources : ℕ) (rows : List (List ℕ)) → length rows ≡ sources → ((n : ℕ) → places_at rows n ≡ [])

@@ -2,12 +2,22 @@
 -- Cite by `use Rattle.decommitment.proofs.Settled.{filled}`.
 use Rattle.std.proofs.Common.{◌≡◌, sym, ap, subst, ◌∙◌, ◌+ℤ◌, ◌≤ℤ◌}
 use Rattle.dispatch_repair.specs.Amounts.{thermal_amount}
-use Rattle.dispatch_repair.specs.Totals.{AreTotalsOf}
+use Rattle.dispatch_repair.specs.Totals.{AreSizedTotals, AreTotalsOf}
 use Rattle.dispatch_repair.specs.Period.{Period}
 use Rattle.dispatch_repair.specs.declared.fill.Left.{Left}
 use Rattle.dispatch_repair.specs.declared.obstacle.Totals.{Totals}
 use Rattle.decommitment.specs.inside.Fills.{Fill, Hour, System, Target, IsFill, IsHourOf, IsMet, IsReady, IsStarted, IsWalked, hour_period}
 use Rattle.decommitment.proofs.LevelFills.{level_fill}
+
+pub sized_totals : (period : Period) (totals : Totals) → AreTotalsOf period totals → AreSizedTotals totals
+sized_totals period totals are = record {
+  minimums = are.minimums.size;
+  thermal_low = are.thermal_low.size;
+  thermal_high = are.thermal_high.size;
+  heads = are.heads.size;
+  renewable_low = are.renewable_low.size;
+  renewable_high = are.renewable_high.size;
+}
 
 module _ (system : System) (hour : Hour) (of : IsHourOf system hour) (old new : Fill) (left : Left) (target : Target)
     (was : IsReady (hour_period system hour) system.merit.now.order.items old) (started : IsStarted (hour_period system hour) old.shortage left)
