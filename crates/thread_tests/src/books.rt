@@ -20,7 +20,6 @@ use std::alloc::Global;
 use std::marker::Brand;
 use std::process::Abort;
 use std::test::Fail;
-
 use uc_model::{Instance, List, NoMemory, floor_div};
 use unit_path::Scratch;
 
@@ -150,9 +149,7 @@ fn ask<C: Case>(
             if !is_node_of(instance, &node) {
                 return Err("no node")?;
             }
-            let done = commit(
-                alloc, book, instance, *worker, *unit, &node, *more, *action,
-            );
+            let done = commit(alloc, book, instance, *worker, *unit, &node, *more, *action);
             assert_eq!(rt; done.map_err(|_| "no memory")?, *want);
         }
         Call::Abandon(worker, unit, want) => {
@@ -194,18 +191,42 @@ fn ask_all<C: Case>(
     requires table { table ≡ C.opening.table }
     requires value { value ≡ C.opening.value }
 {
-    let mut book = Book::<C>::new(rt.alloc(), instance, budget, 0, table, value).map_err(|_| "no memory")?;
+    let mut book = Book::<C>::new(rt.alloc(), instance, budget, 0, table, value).map_err(
+        |_| "no memory",
+    )?;
     for call in calls {
         ask(rt, &mut book, instance, call)?;
     }
     Ok(())
 }
 
-// The same of the demo of seed 0, whose root stores the table of no prices.
+// The demo of seed 0.
+fn demo(alloc: Global) -> Result<Instance, Fail>
+    ensures { IfOk result IsLawfulInstance }
+{
+    match instance(alloc, 0) {
+        Ok(instance) => Ok(instance),
+        Err(_) => Err("no memory")?,
+    }
+}
+
+// The table that the root stores at first.
+fn first_table(alloc: Global, instance: &Instance) -> Result<Table, Fail>
+    requires { IsLawfulInstance instance.now }
+    ensures lawful { IfOk result (IsLawfulTable instance.now) }
+    ensures scale { IfOk result (λ table. pos 0 <ℤ table.k) }
+{
+    match table(alloc, instance, 0) {
+        Ok(table) => Ok(table),
+        Err(_) => Err("no memory")?,
+    }
+}
+
+// Makes the calls of a new book of the demo.
 fn tell(rt: &(impl Abort + AllocGlobal), budget: u16, calls: &[Call]) -> Result<(), Fail> {
     let alloc = rt.alloc();
-    let instance = instance(alloc, 0).map_err(|_| "no memory")?;
-    let table = table(alloc, &instance, 0).map_err(|_| "no memory")?;
+    let instance = demo(alloc)?;
+    let table = first_table(alloc, &instance)?;
     let value = bound(alloc, &instance, &table)?;
     ask_all::<Brand>(rt, &instance, u32::from(budget), table, value, calls)
 }
