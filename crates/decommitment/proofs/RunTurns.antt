@@ -1,5 +1,5 @@
 -- The turns of the drop pass over runs, and its end.
-use Rattle.std.proofs.Common.{◌≡◌, ◌∙◌, ⊎_elim, ℕ, zero, suc, List, set, length, length-set, inl, inr, refl, sym, subst, ap, arith, ℤ, pos, ◌+ℤ◌, ◌*ℤ◌, IsTrue, false, [], of_z, to_z}
+use Rattle.std.proofs.Common.{IfSome, Option, Some, None, ◌≡◌, ◌∙◌, ⊎_elim, ℕ, zero, suc, List, set, length, length-set, inl, inr, refl, sym, subst, ap, arith, ℤ, pos, ◌+ℤ◌, ◌*ℤ◌, IsTrue, false, [], of_z, to_z}
 use Rattle.std.specs.Int.{w128}
 use Rattle.std.proofs.lemmas.List.{set-get_or, set-set}
 use Rattle.std.specs.declared.alloc.Global.{Global}
@@ -20,7 +20,8 @@ use Rattle.decommitment.specs.Standings.{IsDropped}
 use Rattle.decommitment.specs.declared.pass.Standing.TheVariants as standing
 use Rattle.decommitment.specs.declared.stand.Stand.TheVariants as stand
 use Rattle.decommitment.specs.declared.stand.Trial.TheVariants as trial
-use Rattle.decommitment.specs.inside.Runs.{Pass, Run, Stand, Trial, Turn, IsRun, IsRunPass, IsStandOf, IsTrialOf, IsTriedRun}
+use Rattle.decommitment.specs.inside.Fills.{HasEntered}
+use Rattle.decommitment.specs.inside.Runs.{Fill, Pass, Run, Stand, Trial, Turn, IsRun, IsRunPass, IsStandOf, IsTrialOf, IsTriedRun, IsStoodAt, outputs_before}
 use Rattle.decommitment.specs.inside.Turns.{AreAllowed, IsReplaced, KeepsStuck, beats, ending_of_stand, ending_of_trial}
 use Rattle.decommitment.proofs.Drops.{accepted, beats_is, ending_is, passed_turn, replaced_end, replaced_kept}
 use Rattle.decommitment.proofs.OneDispatch.{one_dispatch}
@@ -28,20 +29,29 @@ use Rattle.decommitment.proofs.OneDispatch.{one_dispatch}
 -- ---- the beginning
 -- a run of no period is any commitment's
 pub no_run_is : (instance : Instance) (order : List Segment) (patterns : List Pattern) (start : List ℤ) (run : Run) → IsLawfulInstance instance
-    → run.fills.items ≡ [] → length run.costs.items ≡ thermal_count instance → IsRun instance order patterns start run
-no_run_is instance order patterns start run lawful none count =
+    → run.fills.items ≡ [] → run.edge ≡ None → length run.costs.items ≡ thermal_count instance → IsRun instance order patterns start run
+no_run_is instance order patterns start run lawful none bare count =
     let nothing : length run.fills.items ≡ 0 = ap length none in
     record {
       fills = record {
         few = omega (arith, nothing);
         each = λ t fill h is. absurd (omega (arith, h, nothing));
       };
+      edge = subst (λ e. IfSome e (HasEntered instance order patterns (length run.fills.items) (outputs_before start run.fills.items (length run.fills.items)))) (sym bare) tt;
       known = record {
         count = count;
         sized = λ t fill h is. absurd (omega (arith, h, nothing));
         costs = λ all. absurd (omega (arith, all, nothing, lawful.periods.0));
       };
     }
+
+-- and it has no fill
+abbrev is_none : Option Fill → Type 0
+is_none None = Unit {0}
+is_none (Some fill) = ⊥
+
+pub nothing_stood : (run : Run) (t : ℕ) (fill : Fill) → run.fills.items ≡ [] → run.edge ≡ None → ¬ IsStoodAt run t fill
+nothing_stood run t fill none bare at = ⊎_elim (λ inside. absurd (omega (arith, inside.0, ap length none))) (λ behind. subst is_none (sym bare ∙ behind.1) tt) at
 
 -- the most-on commitment stands as it was dispatched or is stuck
 pub stand_dispatched : (instance : Instance) (patterns : List Pattern) (tried : Trial) (cost : ℤ) → IsLawfulInstance instance → IsTrialOf instance patterns tried

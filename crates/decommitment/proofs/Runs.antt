@@ -1,5 +1,5 @@
 -- The run of a commitment is the beginning of its dispatch.
-use Rattle.std.proofs.Common.{◌≡◌, ℕ, zero, suc, ◌+◌, ◌<◌, ◌≤◌, inl, inr, refl, sym, ap, subst, ◌∙◌, arith, List, [], ◌∷◌, ◌++◌, length, get_or, ℤ}
+use Rattle.std.proofs.Common.{◌≡◌, ⊎_elim, IfSome, ℕ, zero, suc, ◌+◌, ◌<◌, ◌≤◌, inl, inr, refl, sym, ap, subst, ◌∙◌, arith, List, [], ◌∷◌, ◌++◌, length, get_or, ℤ}
 use Rattle.std.proofs.lemmas.List.{get_or-map, get_or_append_left, get_or_push, length_push}
 use Rattle.uc_model.specs.Limits.{IsLawfulInstance}
 use Rattle.uc_model.specs.PrintedSchedule.{cell_at, shed_at, short_at}
@@ -15,10 +15,10 @@ use Rattle.dispatch_repair.proofs.Periods.{initial_size}
 use Rattle.dispatch_repair.proofs.Reaches.{heads_are, heads_in}
 use Rattle.dispatch_repair.proofs.Regular.{regular}
 use Rattle.decommitment.specs.DropCommitment.{Instance, Pattern}
-use Rattle.decommitment.specs.inside.Fills.{ComesTo, Hour, IsFill, System}
-use Rattle.decommitment.specs.inside.Runs.{Fill, Filling, AreDispatched, AreFills, AreInitial, AreSized, IsBarred, IsFillingOf, IsTrialOf, lack_at, outputs_at, outputs_before}
+use Rattle.decommitment.specs.inside.Fills.{ComesTo, HasEntered, Hour, IsFill, System}
+use Rattle.decommitment.specs.inside.Runs.{Fill, Filling, Run, IsRun, IsStoodAt, AreDispatched, AreFills, AreInitial, AreSized, IsBarred, IsFillingOf, IsTrialOf, lack_at, outputs_at, outputs_before}
 use Rattle.decommitment.specs.inside.Turns.{AreAllowed}
-use Rattle.decommitment.specs.declared.fill.Filling.TheVariants.{Barred, Bound, Filled}
+use Rattle.decommitment.specs.declared.fill.Filling.TheVariants.{Barred, Bound, Filled, Uneven}
 use Rattle.decommitment.specs.declared.stand.Trial.TheVariants as trial
 use Rattle.decommitment.proofs.Drops.{stuck_in}
 
@@ -75,7 +75,24 @@ came system hour fill Filled n before t_is before_is is =
     subst (λ z. z) (λ i. IsFill system.instance.now system.merit.now.order.items hour.patterns.now (t_is i) (before_is i) fill) is
 came system hour fill (Barred why) n before t_is before_is is =
     subst (λ z. z) (λ i. IsFirstObstacle (next_period system.instance.now hour.patterns.now (t_is i) (before_is i)) why) is
+came system hour fill (Uneven why) n before t_is before_is is = (
+  subst (λ z. z) (λ i. IsFirstObstacle (next_period system.instance.now hour.patterns.now (t_is i) (before_is i)) why) is.0,
+  subst (λ z. z) (λ i. HasEntered system.instance.now system.merit.now.order.items hour.patterns.now (t_is i) (before_is i) fill) is.1,
+)
 came system hour fill Bound n before t_is before_is is = tt
+
+-- a run's fill, which all units entered
+pub stood_entered : (instance : Instance) (order : List Segment) (patterns : List Pattern) (start : List ℤ) (run : Run) (t : ℕ) (fill : Fill)
+    → IsRun instance order patterns start run → IsStoodAt run t fill → HasEntered instance order patterns t (outputs_before start run.fills.items t) fill
+stood_entered instance order patterns start run t fill of at = ⊎_elim
+    (λ inside. let filled = of.fills.each t fill inside.0 inside.1 in record { was = filled.was; count = filled.count; ready = filled.ready })
+    (λ behind.
+    subst (λ k. HasEntered instance order patterns k (outputs_before start run.fills.items k) fill) (sym behind.0)
+    (subst (λ e. IfSome e (HasEntered instance order patterns (length run.fills.items) (outputs_before start run.fills.items (length run.fills.items)))) behind.1 of.edge))
+    at
+
+pub stood_within : (run : Run) (t : ℕ) (fill : Fill) → IsStoodAt run t fill → t ≤ length run.fills.items
+stood_within run t fill at = ⊎_elim (λ inside. omega (arith, inside.0)) (λ behind. omega (arith, behind.0)) at
 
 -- ---- the periods of a schedule
 module _ (instance : Instance) (order : List Segment) (patterns : List Pattern) (start : List ℤ) (fills : List Fill) (lawful : IsLawfulInstance instance)

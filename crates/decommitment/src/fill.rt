@@ -35,11 +35,13 @@ pub(crate) struct Given {
     pub renewable: i64,
 }
 
-/// What became of a period: filled in order of merit; barred, for this reason first; or neither was found.
+/// What became of a period: filled in order of merit; barred, for this reason first, by an empty range or, with all units entered, by
+/// what they give in all; or neither was found.
 #[derive(Drop)]
 pub(crate) enum Filling {
     Filled,
     Barred(Why),
+    Uneven(Why),
     Bound,
 }
 
@@ -249,7 +251,7 @@ fn settle(system: &System, hour: &Hour, fill: &mut Fill) -> Filling
     let demand = &system.instance.demand.as_slice()[hour.t];
     let need = &system.instance.reserves.as_slice()[hour.t];
     match imbalance(system.instance, &fill.totals, demand, need) {
-        Some(why) => Filling::Barred(why),
+        Some(why) => Filling::Uneven(why),
         None => {
             let start = start_of(system.instance, &fill.totals, demand, need);
             fill.shortage = start.shortage;

@@ -1,10 +1,11 @@
 //! The run of a commitment: its periods one after another, filled again from another commitment's where there is one.
 
-ghost use Rattle.std.specs.Prelude.{◌≡◌, ◌<◌, ◌≤◌, [], IfOk, length};
+ghost use Rattle.std.specs.Prelude.{◌≡◌, ◌<◌, ◌≤◌, [], IfOk, length, IfSome, None};
 ghost use Rattle.uc_model.specs.Limits.{IsLawfulInstance};
 ghost use Rattle.uc_model.specs.Schedule.{thermal_count};
 ghost use Rattle.dispatch_repair.specs.Segments.{source_count};
-ghost use Rattle.decommitment.specs.inside.Runs.{AreFills, AreInitial, IsFillingOf, IsOrigin, IsReach, IsSetting, instance_of, order_of, outputs_before};
+ghost use Rattle.decommitment.specs.inside.Fills.{HasEntered};
+ghost use Rattle.decommitment.specs.inside.Runs.{AreFills, AreInitial, IsFillingOf, IsOrigin, IsReach, IsSetting, IsStoodAt, instance_of, order_of, outputs_before};
 
 use crate::fill::{Base, Fill, Filling, Hour, System, fill_again, fill_anew, no_fill};
 use dispatch_repair::set_initial;
@@ -20,10 +21,11 @@ pub(crate) struct Setting<'a> {
 }
 
 /// The run of a commitment: its periods from the first on, as far as they can be filled; what each thermal unit costs, in
-/// micro-dollars, where all are; and fills that are free.
+/// micro-dollars, where all are; the fill of the period behind, where all units entered that one; and fills that are free.
 #[derive(Drop)]
 pub(crate) struct Run {
     pub fills: Vec<Fill>,
+    pub edge: Option<Fill>,
     pub costs: Vec<i128>,
     pub spare: Vec<Fill>,
 }
@@ -47,10 +49,12 @@ pub(crate) struct Origin<'a> {
 /// A run of no period. The only error is `NoMemory`.
 pub(crate) fn no_run(alloc: Global, instance: &Instance) -> Result<Run, NoMemory>
     ensures fills { IfOk result (λ run. run.fills.items ≡ []) }
+    ensures edge { IfOk result (λ run. run.edge ≡ None) }
     ensures costs { IfOk result (λ run. length run.costs.items ≡ thermal_count instance.now) }
 {
     Ok(Run {
         fills: Vec::new(alloc),
+        edge: None,
         costs: vec![in alloc; 0; instance.thermal.as_slice().len()]?,
         spare: Vec::new(alloc),
     })
@@ -82,6 +86,8 @@ pub(crate) fn fill_periods(
     ensures costs { run.new.costs ≡ run.old.costs }
     ensures fills { IfOk result (λ reach. AreFills (instance_of setting.now) (order_of setting.now) patterns.now
         setting.now.start.now run.new.fills.items) }
+    ensures edge { IfOk result (λ reach. IfSome run.new.edge (HasEntered (instance_of setting.now) (order_of setting.now) patterns.now
+        (length run.new.fills.items) (outputs_before setting.now.start.now run.new.fills.items (length run.new.fills.items)))) }
     ensures reach { IfOk result (IsReach (instance_of setting.now) patterns.now setting.now.start.now run.new.fills.items) }
 {
     release(run)?;
@@ -91,6 +97,10 @@ pub(crate) fn fill_periods(
             Filling::Filled => run.fills.push(fill)?,
             Filling::Barred(_) => {
                 run.spare.push(fill)?;
+                return Ok(Reach::Stuck(t));
+            }
+            Filling::Uneven(_) => {
+                run.edge = Some(fill);
                 return Ok(Reach::Stuck(t));
             }
             Filling::Bound => return Ok(Reach::Bound),
@@ -103,6 +113,7 @@ pub(crate) fn fill_periods(
 fn release(run: &mut Run) -> Result<(), NoMemory>
     ensures costs { run.new.costs ≡ run.old.costs }
     ensures fills { IfOk result (λ done. run.new.fills.items ≡ []) }
+    ensures edge { IfOk result (λ done. run.new.edge ≡ None) }
 {
     for _ in 0..run.fills.len() {
         if let Some(fill) = run.fills.pop() {
@@ -110,6 +121,7 @@ fn release(run: &mut Run) -> Result<(), NoMemory>
         }
     }
     run.fills.clear();
+    run.edge = None;
     Ok(())
 }
 
@@ -150,18 +162,34 @@ fn fill_next(
         t,
         before,
     };
-    let stood = origin.run.fills.as_slice();
-    if t < stood.len() {
-        let base = Base {
-            before: given_before(setting.start, stood, t),
-            fill: &stood[t],
-            g: origin.g,
-            stood: origin.stood,
-        };
-        fill_again(setting.system, &hour, &base, fill)
-    } else {
-        fill_anew(setting.system, &hour, fill)
+    match stood_at(origin.run, t) {
+        Some(stood) => {
+            let base = Base {
+                before: given_before(setting.start, origin.run.fills.as_slice(), t),
+                fill: stood,
+                g: origin.g,
+                stood: origin.stood,
+            };
+            fill_again(setting.system, &hour, &base, fill)
+        }
+        None => fill_anew(setting.system, &hour, fill),
     }
+}
+
+// A run's fill of period t, which was filled, or which all units entered.
+fn stood_at(run: &Run, t: usize) -> Option<&Fill>
+    ensures { IfSome result (λ fill. IsStoodAt run.now t fill.now) }
+{
+    if t < run.fills.len() {
+        return Some(&run.fills[t]);
+    }
+    if t == run.fills.len() {
+        return match &run.edge {
+            Some(fill) => Some(fill),
+            None => None,
+        };
+    }
+    None
 }
 
 // What the sources give before period t.

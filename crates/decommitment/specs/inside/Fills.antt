@@ -137,10 +137,19 @@ pub record IsFill (instance : Instance) (order : List Segment) (patterns : List 
   pub dispatched : (numbers : List ℤ) → AreHeadsOf (next_period instance patterns t before) numbers
       → IsDispatchedFrom (next_period instance patterns t before) fill.shortage fill.amounts.items numbers
 
+-- all units entered it, whether it was filled or not
+pub record HasEntered (instance : Instance) (order : List Segment) (patterns : List Pattern) (t : ℕ) (before : List ℤ) (fill : Fill) : Type 0 where
+  pub was : AreBeforePeriod instance patterns t before
+  pub count : length fill.amounts.items ≡ source_count instance
+  pub ready : IsReady (next_period instance patterns t before) order fill
+
 -- what became of it
 abbrev pub ComesTo : System → Hour → Fill → Filling → Type 0
 ComesTo system hour fill filling.Filled = IsFill system.instance.now system.merit.now.order.items hour.patterns.now hour.t hour.before.now fill
 ComesTo system hour fill (filling.Barred why) = IsFirstObstacle (hour_period system hour) why
+ComesTo system hour fill (filling.Uneven why) =
+    IsFirstObstacle (hour_period system hour) why
+    × HasEntered system.instance.now system.merit.now.order.items hour.patterns.now hour.t hour.before.now fill
 ComesTo system hour fill filling.Bound = Unit {0}
 
 -- ---- from nothing
@@ -202,10 +211,10 @@ pub record AreEntered (period : Period) (order : List Segment) (old : ℕ → Pa
 abbrev pub base_period : System → Hour → Base → Period
 base_period system hour base = next_period system.instance.now (slice_set hour.patterns.now base.g base.stood) hour.t base.before.now
 
--- that was filled
+-- in which all units entered
 pub record IsBaseOf (system : System) (hour : Hour) (base : Base) : Type 0 where
   pub unit : base.g < thermal_count system.instance.now
-  pub fill : IsFill system.instance.now system.merit.now.order.items (slice_set hour.patterns.now base.g base.stood) hour.t base.before.now base.fill.now
+  pub fill : HasEntered system.instance.now system.merit.now.order.items (slice_set hour.patterns.now base.g base.stood) hour.t base.before.now base.fill.now
 
 -- the parts of its units
 abbrev pub base_parts : System → Hour → Base → ℕ → Part

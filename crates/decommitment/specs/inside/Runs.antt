@@ -1,7 +1,7 @@
 -- Runs of commitments: the first periods, each filled from the one before, and what the thermal units cost. This project's own.
 --
 -- Units and periods count from 0 here.
-use Rattle.std.specs.Prelude.{◌≡◌, ℕ, zero, suc, ◌*◌, ◌^◌, ◌<◌, ◌≤◌, List, [], ℤ, pos, length, map, slice_index_or, slice_set, unsigned_abs}
+use Rattle.std.specs.Prelude.{◌≡◌, ◌⊎◌, ℕ, Some, IfSome, zero, suc, ◌*◌, ◌^◌, ◌<◌, ◌≤◌, List, [], ℤ, pos, length, map, slice_index_or, slice_set, unsigned_abs}
 use Rattle.uc_model.specs.Commitment.{initial_p}
 use Rattle.uc_model.specs.Limits.{IsLawfulInstance}
 use Rattle.uc_model.specs.PrintedSchedule.{cell_at, printed_cell_cost, shed_at, short_at}
@@ -16,7 +16,7 @@ use Rattle.dispatch_repair.specs.declared.segment.Segment.{Segment}
 use Rattle.dispatch_repair.specs.Stuck.{Why, IsDispatchOf, IsFirstObstacle}
 pub use Rattle.dispatch_repair.specs.declared.shortage.Shortage.{Shortage}
 use Rattle.decommitment.specs.DropCommitment.{Instance, Pattern, Printed, IsDropPass, IsEndingOf, IsFewestOnOf}
-use Rattle.decommitment.specs.inside.Fills.{IsFill}
+use Rattle.decommitment.specs.inside.Fills.{HasEntered, IsFill}
 use Rattle.decommitment.specs.inside.Levels.{IsMeritOf}
 use Rattle.decommitment.specs.inside.Turns.{AreAllowed, KeepsStuck, ending_of_stand, ending_of_trial}
 pub use Rattle.decommitment.specs.declared.fill.Fill.{Fill}
@@ -84,6 +84,8 @@ pub record IsBarred (instance : Instance) (patterns : List Pattern) (start : Lis
 abbrev pub IsFillingOf : Instance → List Segment → List Pattern → ℕ → List ℤ → Fill → Filling → Type 0
 IsFillingOf instance order patterns t before fill filling.Filled = IsFill instance order patterns t before fill
 IsFillingOf instance order patterns t before fill (filling.Barred why) = IsFirstObstacle (next_period instance patterns t before) why
+IsFillingOf instance order patterns t before fill (filling.Uneven why) =
+    IsFirstObstacle (next_period instance patterns t before) why × HasEntered instance order patterns t before fill
 IsFillingOf instance order patterns t before fill filling.Bound = Unit {0}
 
 -- how far a run came
@@ -154,11 +156,17 @@ pub record GivesSame (instance : Instance) (g : ℕ) (old new : List Fill) : Typ
 -- the run of a commitment
 pub record IsRun (instance : Instance) (order : List Segment) (patterns : List Pattern) (start : List ℤ) (run : Run) : Type 0 where
   pub fills : AreFills instance order patterns start run.fills.items
+  pub edge : IfSome run.edge (HasEntered instance order patterns (length run.fills.items) (outputs_before start run.fills.items (length run.fills.items)))
   pub known : AreKnown instance patterns run
+
+-- its fill of period t, which was filled, or which all units entered
+abbrev pub IsStoodAt : Run → ℕ → Fill → Type 0
+IsStoodAt run t fill =
+    ((t < length run.fills.items) × (fill ≡ slice_index_or run.fills.items t fill)) ⊎ ((t ≡ length run.fills.items) × (run.edge ≡ Some fill))
 
 -- the run of the commitment in which unit g has the pattern that stood
 pub record IsOrigin (instance : Instance) (order : List Segment) (patterns : List Pattern) (start : List ℤ) (base : Run) (g : ℕ) (stood : Pattern) : Type 0 where
-  pub unit : 0 < length base.fills.items → g < thermal_count instance
+  pub unit : (t : ℕ) (fill : Fill) → IsStoodAt base t fill → g < thermal_count instance
   pub run : IsRun instance order (slice_set patterns g stood) start base
 
 -- the commitment's dispatch ended so

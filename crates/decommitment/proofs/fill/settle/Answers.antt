@@ -4,9 +4,11 @@ use Rattle.decommitment.specs.inside.Fills.{hour_period}
 use Rattle.decommitment.proofs.fill.settle.Goals as goal
 
 pub returns-in-Some-clause-filling : goal.returns-in-Some-clause-filling
-returns-in-Some-clause-filling c =
-    c.in-Some.ensures (hour_period c.args.system.now c.args.hour.now) refl c.requires.ready.ranges c.requires.ready.totals
-    (ap (λ xs. slice_index_or xs c.args.hour.now.t (pos 0)) c.as_slice.ensures) (ap (λ xs. slice_index_or xs c.args.hour.now.t (pos 0)) c.as_slice-2.ensures)
+returns-in-Some-clause-filling c = (
+  c.in-Some.ensures (hour_period c.args.system.now c.args.hour.now) refl c.requires.ready.ranges c.requires.ready.totals
+      (ap (λ xs. slice_index_or xs c.args.hour.now.t (pos 0)) c.as_slice.ensures) (ap (λ xs. slice_index_or xs c.args.hour.now.t (pos 0)) c.as_slice-2.ensures),
+  record { was = c.requires.hour.before; count = c.requires.ready.standing.given.count; ready = c.requires.ready },
+)
 
 pub meet-requires-clause-begun : goal.meet-requires-clause-begun
 meet-requires-clause-begun c =

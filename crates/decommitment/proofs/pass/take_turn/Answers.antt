@@ -47,7 +47,7 @@ attempt-requires-clause-origin c =
     set-set former c.args.g c.fewest-fewest.result stood
     ∙ (ap (set former c.args.g) (get_or_read former c.args.g stood within c.index.ensures stood) ∙ set-get_or former c.args.g stood) in
     subst (λ p. IsOrigin instance order p start c.args.pass.now.best c.args.g stood) (sym c.deref.ensures.value) (record {
-      unit = λ some. c.requires.unit;
+      unit = λ t fill at. c.requires.unit;
       run = subst (λ p. IsRun instance order p start c.args.pass.now.best) (sym back) kept.run;
     })
 

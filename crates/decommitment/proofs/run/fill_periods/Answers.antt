@@ -17,6 +17,7 @@ loop-t-preserved c =
     let new = subst (λ xs. IsFill instance order c.args.patterns.now (length xs) (outputs_before start xs (length xs)) fill) c.deref.ensures.value c.in-Filled.ensures in
     record {
       costs = c.loop-t.invariant.costs;
+      edge = c.loop-t.invariant.edge;
       count = ap length c.in_ok-push-in-Filled.ensures.items ∙ length_push fills fill ∙ ap (λ n. n + 1) c.loop-t.invariant.count;
       fills = subst (AreFills instance order c.args.patterns.now start) (sym c.in_ok-push-in-Filled.ensures.items)
           (pushed start fills fill instance order c.args.patterns.now c.loop-t.invariant.fills within new);
