@@ -2,6 +2,7 @@
 
 ghost use Rattle.std.specs.Prelude.{◌≡◌, ◌↔◌, ◌<ℤ◌, IfOk, IsTrue, pos, false};
 ghost use Rattle.uc_model.specs.Limits.{IsLawfulInstance};
+ghost use Rattle.uc_model.specs.declared.instance.Instance.{Instance};
 ghost use Rattle.dual_model.specs.Cover.{IsTableBound};
 ghost use Rattle.dual_model.specs.Fixings.{IsNodeOf};
 ghost use Rattle.dual_model.specs.Prices.{IsLawfulTable};
@@ -10,7 +11,7 @@ ghost use Rattle.book.specs.Opening.{IsTrueOpening};
 ghost use Rattle.search_core.specs.Runs.{IsTrueOutcome};
 
 use book::{Book, Case, Claimed};
-use branch_tree::Outcome;
+use branch_tree::{Entry, Outcome, Tree};
 use demo_gen::instance;
 use dual_model::{Fixing, Node, Table};
 use dual_value::{ValueFault, value};
@@ -19,7 +20,9 @@ use search_core::Move;
 use std::alloc::Global;
 use std::marker::Brand;
 use std::process::Abort;
+use std::sync::{Mutex, Wait};
 use std::test::Fail;
+use std::thread::{Threads, join, yield_now};
 use uc_model::{Instance, List, NoMemory, floor_div};
 use unit_path::Scratch;
 
@@ -293,4 +296,119 @@ fn children_come_and_go(rt: HostRuntime) -> Result<(), Fail> {
         Call::FirstHeld(None),
     ];
     tell(&rt, 5, &calls)
+}
+
+// The root.
+fn root_node(alloc: Global) -> Node
+    ensures { (instance : Instance) → IsNodeOf instance result }
+{
+    Node {
+        fixings: List::from_vec(Vec::new(alloc)),
+    }
+}
+
+// More turns than a worker needs until the other one has spent the budget.
+const TURNS: u32 = 1_000_000;
+
+// Commits the claim of the root at a table of its own.
+fn evaluate<C: Case>(
+    rt: &impl Wait,
+    alloc: Global,
+    desk: &Mutex<Book<C>>,
+    instance: &Instance,
+    worker: u8,
+    unit: u32,
+) -> Result<(), NoMemory>
+    requires lawful { IsLawfulInstance instance.now }
+    requires same { instance.now ≡ C.opening.instance }
+{
+    let root = root_node(alloc);
+    let table = table(alloc, instance, u16::try_from(unit).unwrap_or(0))?;
+    let outcome = outcome(alloc, instance, &root, &table)?;
+    desk.lock(rt)
+        .commit(worker, unit, &root, table, false, outcome, Move::Again);
+    Ok(())
+}
+
+// Claims the root, where it is open.
+fn take_turn<C: Case>(
+    rt: &impl Wait,
+    alloc: Global,
+    desk: &Mutex<Book<C>>,
+    instance: &Instance,
+    worker: u8,
+) -> Result<(), NoMemory>
+    requires lawful { IsLawfulInstance instance.now }
+    requires same { instance.now ≡ C.opening.instance }
+{
+    let claimed = desk.lock(rt).claim(worker, 0);
+    match claimed {
+        Claimed::Mine { unit, .. } => evaluate(rt, alloc, desk, instance, worker, unit),
+        Claimed::NotOpen | Claimed::Spent => {
+            yield_now();
+            Ok(())
+        }
+    }
+}
+
+// A worker that claims the root in turn with another one.
+fn work<C: Case>(
+    rt: &impl Wait,
+    alloc: Global,
+    desk: &Mutex<Book<C>>,
+    instance: &Instance,
+    worker: u8,
+) -> Result<(), NoMemory>
+    requires lawful { IsLawfulInstance instance.now }
+    requires same { instance.now ≡ C.opening.instance }
+{
+    for _ in 0..TURNS {
+        take_turn(rt, alloc, desk, instance, worker)?;
+    }
+    Ok(())
+}
+
+// Two workers spend the budget of one book.
+fn work_together<C: Case + Send + Sync, R: Threads + Wait + Sync>(
+    rt: &R,
+    alloc: Global,
+    instance: &Instance,
+    table: Table,
+    value: i128,
+) -> Result<(Tree, List<Table>, List<Entry>), NoMemory>
+    requires opening { IsTrueOpening C.opening }
+    requires instance { instance.now ≡ C.opening.instance }
+    requires budget { 20 ≡ C.opening.budget }
+    requires gap { 0 ≡ C.opening.gap }
+    requires table { table ≡ C.opening.table }
+    requires value { value ≡ C.opening.value }
+{
+    let desk = Mutex::new(Book::<C>::new(alloc, instance, 20, 0, table, value)?);
+    let (first, second) = join(
+        rt,
+        || -> Result<(), NoMemory>
+            requires { IsLawfulInstance instance.now × (instance.now ≡ C.opening.instance) }
+        { work(rt, alloc, &desk, instance, 0) },
+        || -> Result<(), NoMemory>
+            requires { IsLawfulInstance instance.now × (instance.now ≡ C.opening.instance) }
+        { work(rt, alloc, &desk, instance, 1) },
+    );
+    first?;
+    second?;
+    Ok(desk.into_inner().finish())
+}
+
+// What two workers leave is the same whatever the order of their steps.
+#[test]
+fn two_workers_share_a_book(rt: HostRuntime) -> Result<(), Fail> {
+    let alloc = rt.alloc();
+    let instance = demo(alloc)?;
+    let table = first_table(alloc, &instance)?;
+    let value = bound(alloc, &instance, &table)?;
+    let left = work_together::<Brand, _>(&rt, alloc, &instance, table, value);
+    let (tree, tables, log) = left.map_err(|_| "no memory")?;
+    assert_eq!(rt; tree.bound(), Some(value));
+    assert_eq!(rt; tables.as_slice().len(), 21);
+    assert_eq!(rt; log.as_slice().len(), 20);
+    Ok(())
 }

@@ -1,5 +1,5 @@
 -- The opening is true: the value is the root's bound at the table.
-use Rattle.std.proofs.Common.{◌≡◌, ◌<ℤ◌, ◌≤◌, FitsSigned, false, pos, arith, rules, sym, subst, ℤ}
+use Rattle.std.proofs.Common.{◌<ℤ◌, ◌≤◌, FitsSigned, false, pos, arith, rules, sym, subst, ℤ}
 use Rattle.std.specs.Int.{w128}
 use Rattle.std.proofs.lemmas.Int.{to_z-of_z}
 use Rattle.uc_model.specs.Limits.{IsLawfulInstance}
