@@ -8,11 +8,12 @@ program=$top/crates/uc/out/uc
 child='' work='' told='' crates=() uses=() began=() took=()
 
 # What the proof of each crate took when it was measured, in seconds of one processor.
-weights='uc_model 61 dual_model 46 outside 85 outside_system 107 decimal_json 136 instance 210 cert_text 200 report 87
-  cost_curves 59 start_costs 34 period_term 67 ramp_duals 36 system_value 22 interval_graph 24 unit_path 89 dispatch_repair 231
-  dual_value 54 quick_value 155 opening_tables 63 bundle 175 prices 193 repair_state 201 schedule_repair 190 branch_tree 70
-  search_core 199 claims 58 decommitment 51 opening 77 workers 278 schedule_check 135 state_walk 36 leaf_values 55 cert_check 83
-  demo_gen 44 command_line 130 uc_check 77 uc_cli 97 uc 169'
+weights='uc_model 60 dual_model 55 outside 78 outside_system 111 decimal_json 143 instance 254 cert_text 323 report 125
+  cost_curves 69 start_costs 28 period_term 69 ramp_duals 32 system_value 69 interval_graph 28 unit_path 88
+  dispatch_repair 235 dual_value 83 quick_value 148 opening_tables 65 uplift 166 bundle 143 prices 212 repair_state 222
+  schedule_repair 217 branch_tree 92 search_core 148 claims 65 decommitment 249 opening 111 workers 332
+  schedule_check 152 state_walk 37 leaf_values 78 cert_check 102 demo_gen 46 command_line 194 uc_check 212 uc_cli 88
+  uc 171'
 
 say() { printf 'uc: %s\n' "$*" >&2; }
 is_current() {

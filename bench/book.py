@@ -5,7 +5,7 @@
 
 The nodes of a tree are claimed in their order, a thousand at a time, and then committed: the first half by a split each, the others by `Again`,
 all at one table, of one period. Told are the seconds of making the book, the nanoseconds of a claim and of a commit, each the mean over all,
-and the greatest resident memory. One million claims take 2 GB. Nothing is proved here, see `unproved.py`.
+and the greatest resident memory. One million claims take 0.5 GB. Nothing is proved here, see `unproved.py`.
 """
 import pathlib
 import sys
