@@ -38,6 +38,8 @@ enum Call {
     FirstOpen(Option<u32>),
     FirstHeld(Option<(u32, u8, u32, u32)>),
     Settled(bool),
+    // How many cells the node of the first held claim decides, and at which table it stands.
+    Holding(usize, u16),
 }
 
 const CELL: Move = Move::Split { g: 0, t: 0 };
@@ -132,6 +134,14 @@ fn commit<C: Case>(
     Ok(book.commit(worker, unit, node, table, false, outcome, action))
 }
 
+// What the first claim that is held holds: its node, and the table that this stores, with its bound.
+fn held<C: Case>(alloc: Global, book: &Book<C>) -> Result<Option<(Node, Table, i128)>, NoMemory> {
+    match book.first_held() {
+        Some((unit, _, _, _)) => Ok(Some(book.holding(alloc, unit)?)),
+        None => Ok(None),
+    }
+}
+
 // Makes a call, and compares its answer.
 fn ask<C: Case>(
     rt: &(impl Abort + AllocGlobal),
@@ -173,6 +183,14 @@ fn ask<C: Case>(
         }
         Call::Settled(want) => {
             assert_eq!(rt; book.settled(), *want);
+        }
+        Call::Holding(cells, more) => {
+            let held = held(alloc, book).map_err(|_| "no memory")?;
+            let Some((node, table, _)) = held else {
+                return Err("nothing is held")?;
+            };
+            assert_eq!(rt; node.fixings.as_slice().len(), *cells);
+            assert_eq!(rt; table.k(), 1_000_000 + i64::from(*more));
         }
     }
     Ok(())
@@ -254,6 +272,7 @@ fn a_node_is_held_by_one(rt: HostRuntime) -> Result<(), Fail> {
     let calls = [
         Call::Claim(0, 0, mine(1, 0)),
         Call::Claim(1, 0, Claimed::NotOpen),
+        Call::Holding(0, 0),
         Call::Commit(1, 1, None, 0, Move::Again, false),
         Call::Commit(0, 1, Some(true), 0, Move::Again, false),
         Call::Commit(0, 2, None, 0, Move::Again, false),
