@@ -1,0 +1,86 @@
+-- Costs that may not be there: totals, and the least over whole numbers in a row.
+-- Cite from a crate above by `use Rattle.unit_runs.proofs.Costs.{least_between-at_most}`.
+use Rattle.std.proofs.Common.{◌≡◌, ℕ, zero, suc, ◌<◌, ◌⊎◌, inl, inr, ⊎_elim, Bool, true, false, refl, sym, subst, ◌∙◌, arith, ℤ, pos, ◌+ℤ◌, ◌-ℤ◌, ◌≤ℤ◌, int_le, unsigned_abs, Option, Some, None}
+use Rattle.std.specs.Int.{int_min}
+use Rattle.std.proofs.lemmas.Int.{ints}
+use Rattle.std.proofs.lemmas.Bool.{cond_both, cond-true, cond-false}
+use Rattle.uc_model.proofs.Ring.{linear, le_trans, pos_of_nonneg}
+use Rattle.uc_model.proofs.Sums.{below_or_last}
+use Rattle.uc_model.proofs.Tests.{int_le-true, le-int_le}
+use Rattle.uc_model.proofs.HullPoints.{abs_is}
+use Rattle.dual_model.specs.CostToGo.{lesser_of}
+use Rattle.dual_model.proofs.Optimum.{AtMost}
+use Rattle.unit_runs.specs.CostThrough.{least_from, least_between}
+
+-- ---- the lesser of two
+lesser_left : (a b : Option ℤ) (v : ℤ) → AtMost a v → AtMost (lesser_of a b) v
+lesser_left None b v h = absurd (let e = h.is in cc)
+lesser_left (Some a) None v h = h
+lesser_left (Some a) (Some b) v h =
+    let same : a ≡ h.cost = (let e = h.is in cc) in
+    let le : int_min a b ≤ℤ a = grind (arith, ints) in
+    let below = h.below in
+    record { cost = int_min a b; is = refl; below = omega (arith, linear) }
+
+lesser_right : (a b : Option ℤ) (v : ℤ) → AtMost b v → AtMost (lesser_of a b) v
+lesser_right None b v h = h
+lesser_right (Some a) None v h = absurd (let e = h.is in cc)
+lesser_right (Some a) (Some b) v h =
+    let same : b ≡ h.cost = (let e = h.is in cc) in
+    let le : int_min a b ≤ℤ b = grind (arith, ints) in
+    let below = h.below in
+    record { cost = int_min a b; is = refl; below = omega (arith, linear) }
+
+lesser_one : (a b : Option ℤ) (v : ℤ) → lesser_of a b ≡ Some v → (a ≡ Some v) ⊎ (b ≡ Some v)
+lesser_one None b v e = inr e
+lesser_one (Some a) None v e = inl e
+lesser_one (Some a) (Some b) v e =
+    cond_both _ b a (λ (x : ℤ). Some x ≡ Some v → (◌≡◌ {A = Option ℤ} (Some a) (Some v)) ⊎ (◌≡◌ {A = Option ℤ} (Some b) (Some v))) (λ c h. inr h) (λ c h. inl h) e
+
+-- ---- the least over n numbers
+least_from-at_most : (low : ℤ) (n : ℕ) (f : ℤ → Option ℤ) (k : ℕ) (v : ℤ) → k < n → AtMost (f (low +ℤ pos k)) v → AtMost (least_from low n f) v
+least_from-at_most low zero f k v l h = absurd (omega arith)
+least_from-at_most low (suc n) f k v l h = ⊎_elim
+    (λ (less : k < n). lesser_left (least_from low n f) (f (low +ℤ pos n)) v (least_from-at_most low n f k v less h))
+    (λ (last : k ≡ n). lesser_right (least_from low n f) (f (low +ℤ pos n)) v (subst (λ i. AtMost (f (low +ℤ pos i)) v) last h))
+    (below_or_last n k l)
+
+-- a place at which f has this cost
+pub record Reached (f : ℤ → Option ℤ) (low high v : ℤ) : Type 0 where
+  pub at : ℤ
+  pub from : low ≤ℤ at
+  pub to : at ≤ℤ high
+  pub is : f at ≡ Some v
+
+least_from-reached : (low high : ℤ) (n : ℕ) (f : ℤ → Option ℤ) (v : ℤ) → (low +ℤ pos n) ≤ℤ (high +ℤ pos 1)
+    → least_from low n f ≡ Some v → Reached f low high v
+least_from-reached low high zero f v l e = cc
+least_from-reached low high (suc n) f v l e = ⊎_elim
+    (λ (earlier : least_from low n f ≡ Some v). least_from-reached low high n f v (omega (arith, linear)) earlier)
+    (λ (here : f (low +ℤ pos n) ≡ Some v).
+    record { at = low +ℤ pos n; from = omega (arith, linear); to = omega (arith, linear); is = here })
+    (lesser_one (least_from low n f) (f (low +ℤ pos n)) v e)
+
+-- ---- the least between two numbers: no cost there is lower, and it is one of them
+pub least_between-at_most : (low high : ℤ) (f : ℤ → Option ℤ) (at v : ℤ) → low ≤ℤ at → at ≤ℤ high → AtMost (f at) v → AtMost (least_between low high f) v
+least_between-at_most low high f at v from to h =
+    subst (λ o. AtMost o v) (sym (cond-true (int_le low high) _ None (le-int_le low high (le_trans low at high from to)))) whole
+  where
+    place : (k : ℕ) × (at -ℤ low ≡ pos k)
+    place = pos_of_nonneg (at -ℤ low) (omega (arith, linear))
+
+    whole : AtMost (least_from low (suc (unsigned_abs (high -ℤ low))) f) v
+    whole =
+        let size = abs_is (high -ℤ low) (omega (arith, linear)) in
+        let is = place.1 in
+        let there : at ≡ low +ℤ pos place.0 = omega (arith, linear) in
+        least_from-at_most low (suc (unsigned_abs (high -ℤ low))) f place.0 v (omega (arith, linear)) (subst (λ z. AtMost (f z) v) there h)
+
+pub least_between-reached : (low high : ℤ) (f : ℤ → Option ℤ) (v : ℤ) → least_between low high f ≡ Some v → Reached f low high v
+least_between-reached low high f v e = by_test (int_le low high) refl
+  where
+    by_test : (b : Bool) → int_le low high ≡ b → Reached f low high v
+    by_test true t =
+        let size = abs_is (high -ℤ low) (let some = int_le-true low high t in omega (arith, linear)) in
+        least_from-reached low high (suc (unsigned_abs (high -ℤ low))) f v (omega (arith, linear)) (sym (cond-true (int_le low high) _ None t) ∙ e)
+    by_test false t = absurd (let none : least_between low high f ≡ None = cond-false (int_le low high) _ None t in cc)

@@ -1,0 +1,5 @@
+pub mod Runs
+pub mod Patterns
+pub mod CostThrough
+pub mod Laws
+pub mod Examples
