@@ -1,6 +1,6 @@
 -- The exact value of a unit is the least value by runs of its patterns: a schedule costs at least the least values of its
 -- runs, and trajectories that attain these make up a schedule.
-use Rattle.std.proofs.Common.{◌≡◌, ℕ, ◌<◌, Bool, true, false, nat_lt, refl, subst, arith, ℤ, pos, ◌+ℤ◌, ◌≤ℤ◌, IsTrue, unwrap_or, Option, Some, None, []}
+use Rattle.std.proofs.Common.{◌≡◌, ℕ, ◌<◌, Bool, true, false, nat_lt, refl, subst, arith, ℤ, pos, ◌≤ℤ◌, IsTrue, []}
 use Rattle.std.proofs.lemmas.Bool.{lt-ltb, ltb-true}
 use Rattle.uc_model.specs.Schedule.{thermal_unit, thermal_count}
 use Rattle.uc_model.specs.Limits.{IsLawfulInstance, IsLawfulThermal}
@@ -8,11 +8,10 @@ use Rattle.uc_model.proofs.Ring.{linear, le_antisymm}
 use Rattle.dual_model.specs.Fixings.{IsPatternAt}
 use Rattle.dual_model.specs.ExactValue.{UnitSchedule, IsUnitSchedule, unit_schedule_value, IsLeastWholeValue}
 use Rattle.dual_model.proofs.WholeWatts.{whole_watts_exist}
-use Rattle.unit_runs.specs.Runs.{Table, Thermal, Trajectory, IsTrajectory, HasTrajectory, trajectory_value, IsLeastRunValue, IsRunValueOf}
-use Rattle.unit_runs.specs.Patterns.{Instance, Node, Commitment, begins, run_hours, EachRun, sum_over_runs, start_costs, IsValueByRuns, HasTrajectories, IsLeastByRuns}
-use Rattle.unit_runs.specs.CostThrough.{run_cost}
+use Rattle.unit_runs.specs.Runs.{Table, Thermal, Trajectory, IsTrajectory, trajectory_value}
+use Rattle.unit_runs.specs.Patterns.{Instance, Node, Commitment, begins, run_hours, EachRun, IsValueByRuns, HasTrajectories, IsLeastByRuns}
 use Rattle.unit_runs.specs.Laws.{ExactValuesAreByRuns, ValuesByRunsAreExact, UnscheduledUnitsHaveNoRuns, UnitsWithoutRunsAreUnscheduled}
-use Rattle.unit_runs.proofs.RunCosts.{run_costs_are_least}
+use Rattle.unit_runs.proofs.LeastValues.{least_value, least_there, value_by_runs, value_there}
 use Rattle.unit_runs.proofs.RunSums.{sum_over_runs-le, sum_over_runs-same}
 use Rattle.unit_runs.proofs.Joined.{cut, cuts-are, value-of_runs, joined, joined-is, joined-value}
 
@@ -49,25 +48,11 @@ module _ (instance : Instance) (node : Node) (table : Table) (g : ℕ) (lawful :
   own : IsLawfulThermal unit
   own = lawful.thermal g known
 
-  -- the least value of each run that has a trajectory
-  abbrev least_value : ℕ → ℕ → ℤ
-  least_value from hours = unwrap_or (run_cost periods table unit from hours) (pos 0)
-
-  answered : (from hours : ℕ) (cost : Option ℤ) → HasTrajectory periods unit from hours → IsRunValueOf periods table unit from hours cost
-      → IsLeastRunValue periods table unit from hours (unwrap_or cost (pos 0))
-  answered from hours None there h = absurd (h there.0 there.1)
-  answered from hours (Some v) there h = h
-
-  least_there : (on : Commitment) → HasTrajectories periods unit on
-      → EachRun periods unit on (λ from hours. IsLeastRunValue periods table unit from hours (least_value from hours))
-  least_there on runs from l b =
-      answered from _ (run_cost periods table unit from (run_hours periods on from)) (runs from l b) (run_costs_are_least periods table unit from _ l)
+  abbrev value_least : ℕ → ℕ → ℤ
+  value_least = least_value periods table unit
 
   abbrev value_of : Commitment → ℤ
-  value_of on = sum_over_runs periods unit on least_value +ℤ start_costs periods table unit on
-
-  value_there : (on : Commitment) → HasTrajectories periods unit on → IsValueByRuns periods table unit on (value_of on)
-  value_there on runs = record { value = least_value; runs = least_there on runs; total = refl }
+  value_of = value_by_runs periods table unit
 
   -- a schedule has a trajectory for each of its runs, and costs at least their least values
   schedule_runs : (x : UnitSchedule) → IsUnitSchedule instance node g 1 x → HasTrajectories periods unit x.on
@@ -75,8 +60,8 @@ module _ (instance : Instance) (node : Node) (table : Table) (g : ℕ) (lawful :
 
   schedule-at_least : (x : UnitSchedule) → IsUnitSchedule instance node g 1 x → value_of x.on ≤ℤ unit_schedule_value instance table g 1 x
   schedule-at_least x is =
-      let least = least_there x.on (schedule_runs x is) in
-      let sum = sum_over_runs-le periods unit x.on least_value (λ from hours. trajectory_value table unit from hours (cut x from))
+      let least = least_there periods table unit x.on (schedule_runs x is) in
+      let sum = sum_over_runs-le periods unit x.on value_least (λ from hours. trajectory_value table unit from hours (cut x from))
       (λ from l b. (least from l b).least (cut x from) (cuts-are periods unit x is.each from l b)) in
       let whole = value-of_runs instance table g x lawful.periods.0 in
       omega (arith, linear, sum, whole)
@@ -117,7 +102,7 @@ module _ (instance : Instance) (node : Node) (table : Table) (g : ℕ) (lawful :
   by_runs_from : (e : ℤ) → IsLeastWholeValue instance node table g e → IsLeastByRuns instance node table g e
   by_runs_from e is =
       let runs = schedule_runs is.x is.is_schedule in
-      let value = value_there is.x.on runs in
+      let value = value_there periods table unit is.x.on runs in
       let low = schedule-at_least is.x is.is_schedule in
       let there = valued is.x.on (value_of is.x.on) is.is_schedule.pattern value in
       let high = is.least there.x there.is in
@@ -143,7 +128,7 @@ module _ (instance : Instance) (node : Node) (table : Table) (g : ℕ) (lawful :
         is_schedule = best.is;
         reached = best.value;
         least = λ other schedule.
-            let below = is.least other.on (value_of other.on) schedule.pattern (value_there other.on (schedule_runs other schedule)) in
+            let below = is.least other.on (value_of other.on) schedule.pattern (value_there periods table unit other.on (schedule_runs other schedule)) in
             let low = schedule-at_least other schedule in
             omega (arith, linear, below, low);
       }

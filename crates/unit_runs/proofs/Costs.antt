@@ -13,7 +13,7 @@ use Rattle.dual_model.proofs.Optimum.{AtMost}
 use Rattle.unit_runs.specs.CostThrough.{least_from, least_between}
 
 -- ---- the lesser of two
-lesser_left : (a b : Option ℤ) (v : ℤ) → AtMost a v → AtMost (lesser_of a b) v
+pub lesser_left : (a b : Option ℤ) (v : ℤ) → AtMost a v → AtMost (lesser_of a b) v
 lesser_left None b v h = absurd (let e = h.is in cc)
 lesser_left (Some a) None v h = h
 lesser_left (Some a) (Some b) v h =
@@ -22,7 +22,7 @@ lesser_left (Some a) (Some b) v h =
     let below = h.below in
     record { cost = int_min a b; is = refl; below = omega (arith, linear) }
 
-lesser_right : (a b : Option ℤ) (v : ℤ) → AtMost b v → AtMost (lesser_of a b) v
+pub lesser_right : (a b : Option ℤ) (v : ℤ) → AtMost b v → AtMost (lesser_of a b) v
 lesser_right None b v h = h
 lesser_right (Some a) None v h = absurd (let e = h.is in cc)
 lesser_right (Some a) (Some b) v h =
@@ -31,7 +31,7 @@ lesser_right (Some a) (Some b) v h =
     let below = h.below in
     record { cost = int_min a b; is = refl; below = omega (arith, linear) }
 
-lesser_one : (a b : Option ℤ) (v : ℤ) → lesser_of a b ≡ Some v → (a ≡ Some v) ⊎ (b ≡ Some v)
+pub lesser_one : (a b : Option ℤ) (v : ℤ) → lesser_of a b ≡ Some v → (a ≡ Some v) ⊎ (b ≡ Some v)
 lesser_one None b v e = inr e
 lesser_one (Some a) None v e = inl e
 lesser_one (Some a) (Some b) v e =

@@ -8,10 +8,10 @@ use Rattle.unit_runs.specs.Runs.{Thermal}
 use Rattle.unit_runs.specs.Patterns.{Commitment, starts, begins, hours_on, run_hours}
 
 -- ---- counting on periods
-more : (on : Commitment) (n t : ℕ) → on t ≡ true → hours_on on (suc n) t ≡ suc (hours_on on n (suc t))
+pub more : (on : Commitment) (n t : ℕ) → on t ≡ true → hours_on on (suc n) t ≡ suc (hours_on on n (suc t))
 more on n t e = cond-true (on t) (suc (hours_on on n (suc t))) 0 e
 
-no_more : (on : Commitment) (n t : ℕ) → on t ≡ false → hours_on on (suc n) t ≡ 0
+pub no_more : (on : Commitment) (n t : ℕ) → on t ≡ false → hours_on on (suc n) t ≡ 0
 no_more on n t e = cond-false (on t) (suc (hours_on on n (suc t))) 0 e
 
 hours_on-le : (on : Commitment) (n t : ℕ) → hours_on on n t ≤ n

@@ -4,4 +4,8 @@ pub mod Hours
 pub mod RunSums
 pub mod Cells
 pub mod Joined
+pub mod LeastValues
 pub mod ByRuns
+pub mod Capped
+pub mod RunWays
+pub mod ByFix

@@ -9,7 +9,7 @@ use Rattle.unit_runs.specs.Runs.{Thermal}
 use Rattle.unit_runs.specs.Patterns.{Commitment, starts, begins, hours_on, run_hours, EachRun, sum_over_runs}
 
 -- c t + .. + c (t + n - 1)
-abbrev sum_from : ℕ → ℕ → (ℕ → ℤ) → ℤ
+abbrev pub sum_from : ℕ → ℕ → (ℕ → ℤ) → ℤ
 sum_from zero t c = pos 0
 sum_from (suc n) t c = c t +ℤ sum_from n (suc t) c
 
@@ -24,11 +24,11 @@ sum_from-is (suc n) t c =
     let before = sum_from-is n (suc t) c in
     omega (arith, linear)
 
-from_zero : (n : ℕ) (c : ℕ → ℤ) → sum_below n c ≡ sum_from n 0 c
+pub from_zero : (n : ℕ) (c : ℕ → ℤ) → sum_below n c ≡ sum_from n 0 c
 from_zero n c =
     sum_below-same n c (λ i. c (0 + i)) (λ i l. let same : i ≡ 0 + i = omega arith in ap c same) ∙ sym (sum_from-is n 0 c)
 
-sum_from-same : (n t : ℕ) (c d : ℕ → ℤ) → ((k : ℕ) → t ≤ k → c k ≡ d k) → sum_from n t c ≡ sum_from n t d
+pub sum_from-same : (n t : ℕ) (c d : ℕ → ℤ) → ((k : ℕ) → t ≤ k → c k ≡ d k) → sum_from n t c ≡ sum_from n t d
 sum_from-same zero t c d e = refl
 sum_from-same (suc n) t c d e = λ i. e t (omega arith) i +ℤ sum_from-same n (suc t) c d (λ k l. e k (omega arith)) i
 
@@ -75,11 +75,12 @@ no_first true false = refl
 no_first false true = refl
 no_first false false = refl
 
-begun : (periods : ℕ) (unit : Thermal) (on : Commitment) (f : ℕ → ℕ → ℤ) → 0 < periods
+-- the run that lasts when the horizon begins, and those of the starts
+pub sums-begun : (periods : ℕ) (unit : Thermal) (on : Commitment) (f : ℕ → ℕ → ℤ) → 0 < periods
     → sum_over_runs periods unit on f
     ≡ cond unit.on0 (f 0 (run_hours periods on 0)) (pos 0)
     +ℤ sum_from periods 0 (λ k. cond (starts unit on k) (f k (run_hours periods on k)) (pos 0))
-begun periods unit on f some = by_count periods refl
+sums-begun periods unit on f some = by_count periods refl
   where
     each : (ℕ → Bool) → ℕ → ℤ
     each test k = cond (test k) (f k (run_hours periods on k)) (pos 0)
@@ -120,6 +121,10 @@ pub sum_over_runs-le : (periods : ℕ) (unit : Thermal) (on : Commitment) (f g :
     → sum_over_runs periods unit on f ≤ℤ sum_over_runs periods unit on g
 sum_over_runs-le periods unit on f g h = sum_below-le periods _ _ (λ t l. le_where (begins unit on t) _ _ (h t l))
 
+pub sum_from-add : (n t : ℕ) (c d : ℕ → ℤ) → sum_from n t (λ k. c k +ℤ d k) ≡ sum_from n t c +ℤ sum_from n t d
+sum_from-add zero t c d = refl
+sum_from-add (suc n) t c d = let rest = sum_from-add n (suc t) c d in omega (arith, linear)
+
 pub sum_of_runs : (periods : ℕ) (unit : Thermal) (on : Commitment) (g : ℕ → ℤ) → 0 < periods
     → sum_below periods (λ t. cond (on t) (g t) (pos 0))
     ≡ sum_over_runs periods unit on (λ from hours. sum_below hours (λ i. g (from + i)))
@@ -130,6 +135,6 @@ sum_of_runs periods unit on g some =
     let count : periods ≡ periods - 0 = omega arith in
     let lasting = ap (λ n. cond unit.on0 (sum_from (hours_on on n 0) 0 g) (pos 0)) count in
     let starts_are = started periods unit on own periods 0 (omega arith) in
-    let whole = begun periods unit on own some in
+    let whole = sums-begun periods unit on own some in
     let plain = sum_over_runs-same periods unit on own (λ from hours. sum_below hours (λ i. g (from + i))) (λ t l b. sum_from-is (run_hours periods on t) t g) in
     omega (arith, linear, all, parts, lasting, starts_are, whole, plain)
