@@ -9,3 +9,4 @@ pub mod ByRuns
 pub mod Capped
 pub mod RunWays
 pub mod ByFix
+pub mod HullSlopes
