@@ -1,9 +1,8 @@
 -- The slopes of L rise from step to step, and are those of any segment of the hull that a step lies on.
 -- Cite from a crate above by `use Rattle.unit_runs.proofs.HullSlopes.{slope-of}`.
-use Rattle.std.proofs.Common.{◌≡◌, ℕ, suc, ◌<◌, ◌≤◌, sym, ap, subst, ◌∙◌, arith, List, length, max, unsigned_abs, ℤ, pos, ◌+ℤ◌, ◌-ℤ◌, ◌*ℤ◌, ◌≤ℤ◌, ◌<ℤ◌, Some}
-use Rattle.std.specs.Int.{int_div_euclid}
+use Rattle.std.proofs.Common.{◌≡◌, ℕ, suc, ◌≤◌, sym, ap, subst, ◌∙◌, arith, List, ℤ, pos, ◌+ℤ◌, ◌-ℤ◌, ◌*ℤ◌, ◌≤ℤ◌, ◌<ℤ◌, Some}
 use Rattle.uc_model.specs.Division.{IsFloor}
-use Rattle.uc_model.specs.Points.{point_of, output_of}
+use Rattle.uc_model.specs.Points.{output_of}
 use Rattle.uc_model.specs.declared.instance.Point.{Point}
 use Rattle.uc_model.specs.Hull.{run, rise, Segment, segment_width}
 use Rattle.uc_model.proofs.Ring.{linear, mul_comm, mul_assoc, mul_left_comm, mul-add, sub-mul, mul-le-mul_left, mul-le-mul_right, le_from_mul, le_antisymm}
