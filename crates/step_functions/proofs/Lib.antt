@@ -1,0 +1,4 @@
+pub mod RunSteps
+pub mod RunEdits
+pub mod RunParts
+pub mod RunSums
