@@ -2,3 +2,12 @@ pub mod RunSteps
 pub mod RunEdits
 pub mod RunParts
 pub mod RunSums
+pub mod Values
+pub mod RisingRuns
+pub mod Heights
+pub mod Bottoms
+pub mod Changes
+pub mod Cuts
+pub mod Extended
+pub mod Ramps
+pub mod Shortfalls

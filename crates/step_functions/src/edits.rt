@@ -2,10 +2,10 @@
 
 ghost use Rattle.std.specs.Prelude.{◌≡◌, ℕ, ◌+◌, ◌*◌, ◌^◌, ◌<◌, ◌≤◌, ◌++◌, ◌∷◌, List, All, length, take, drop, map, pos, unsigned_abs, vec_len, vec_capacity};
 ghost use Rattle.step_functions.specs.Runs.{run_of, slope_at, steps_of};
-ghost use Rattle.step_functions.specs.inside.Edits.{with_slope, SameSteps, AreLevelled, AreAdded, IsSteeper};
-ghost use Rattle.step_functions.specs.inside.Kept.{HaveSteps, HaveSmallSlopes};
+ghost use Rattle.step_functions.specs.inside.Edits.{with_slope, SameSteps, AreLevelled, AreAdded, IsSpread, IsSteeper};
+ghost use Rattle.step_functions.specs.inside.Kept.{AreRising, HaveSteps, HaveSmallSlopes};
 
-use crate::runs::{Run, place_of, steps};
+use crate::runs::{Run, place_of, runs_below, steps};
 
 /// Adds a slope to each of the runs.
 pub(crate) fn steepen(runs: &mut [Run], slope: i128)
@@ -87,8 +87,23 @@ pub(crate) fn remove_first(runs: &mut Vec<Run>, count: usize)
     runs.truncate(runs.len() - count);
 }
 
-/// Puts level steps, so many, in front of the run of this number.
-pub(crate) fn insert_level(runs: &mut Vec<Run>, number: usize, length: u64)
+/// Puts level steps, so many, behind those that fall.
+pub(crate) fn spread(runs: &mut Vec<Run>, length: u64)
+    requires lengths { HaveSteps runs.old.items }
+    requires rising { AreRising runs.old.items }
+    requires fits { steps_of runs.old.items + length < 2 ^ 64 }
+    requires room { vec_len runs.old < vec_capacity runs.old }
+    ensures spread { IsSpread runs.old.items runs.new.items length }
+    ensures lengths { HaveSteps runs.new.items }
+    ensures one { vec_len runs.new ≤ vec_len runs.old + 1 }
+    ensures capacity { vec_capacity runs.new ≡ vec_capacity runs.old }
+{
+    let falling = runs_below(runs, 0);
+    insert_level(runs, falling, length);
+}
+
+// Puts level steps, so many, in front of the run of this number.
+fn insert_level(runs: &mut Vec<Run>, number: usize, length: u64)
     requires within { number ≤ vec_len runs.old }
     requires lengths { HaveSteps runs.old.items }
     requires fits { steps_of runs.old.items + length < 2 ^ 64 }

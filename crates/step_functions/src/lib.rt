@@ -4,7 +4,9 @@
 #![tactic(auto)]
 
 mod edits;
+mod function;
 pub mod limits;
 mod runs;
 
+pub use function::{Bottom, ConvexFunction};
 pub use runs::Run;

@@ -4,6 +4,8 @@ ghost use Rattle.std.specs.Prelude.{◌≡◌, ℕ, ◌+◌, ◌*◌, ◌^◌, �
 ghost use Rattle.uc_model.specs.Sums.{sum_below};
 ghost use Rattle.step_functions.specs.Runs.{run_of, slope_at, steps_of};
 ghost use Rattle.step_functions.specs.Functions.{MAX_VALUE};
+ghost use Rattle.step_functions.specs.inside.Edits.{AreBelow};
+ghost use Rattle.step_functions.specs.inside.Kept.{AreRising, HaveSteps};
 ghost use Rattle.step_functions.specs.inside.Places.{IsPlaceOf};
 
 /// Steps of one slope: so many watts in a row over each of which a function rises by the slope.
@@ -61,6 +63,16 @@ pub(crate) fn runs_below(runs: &[Run], slope: i128) -> usize
         }
     }
     runs.len()
+}
+
+/// How many steps there are before the first whose slope isn't below this.
+pub(crate) fn steps_below(runs: &[Run], slope: i128) -> u64
+    requires lengths { HaveSteps runs.now }
+    requires rising { AreRising runs.now }
+    requires fits { steps_of runs.now < 2 ^ 64 }
+    ensures { AreBelow runs.now slope result }
+{
+    steps(&runs[..runs_below(runs, slope)])
 }
 
 // How far so many steps of a run's slope rise together.

@@ -1,0 +1,60 @@
+-- Cut to the places of both, it has only places of the other one.
+use Rattle.std.proofs.Common.{◌≡◌, sym, ap, subst, ◌∙◌, arith, ℤ, ◌+ℤ◌, IsTrue}
+use Rattle.std.proofs.lemmas.Int.{ints, clamps}
+use Rattle.step_functions.specs.Functions.{IsPlace, IsSmall, last_place, value_at}
+use Rattle.step_functions.proofs.function.ConvexFunction.add.Goals as goal
+
+pub add_within-requires-clause-after : goal.add_within-requires-clause-after
+add_within-requires-clause-after c =
+    let after = c.requires.after in
+    let before = c.requires.before in
+    let some : IsTrue c.cut.result = c.cut.ensures.some.1 (omega (arith, ints), omega (arith, ints), omega (arith, ints)) in
+    let first = c.cut.ensures.first some in
+    omega (arith, ints, clamps)
+
+pub add_within-requires-clause-before : goal.add_within-requires-clause-before
+add_within-requires-clause-before c =
+    let after = c.requires.after in
+    let before = c.requires.before in
+    let some : IsTrue c.cut.result = c.cut.ensures.some.1 (omega (arith, ints), omega (arith, ints), omega (arith, ints)) in
+    let last = c.cut.ensures.last some in
+    omega (arith, ints, clamps)
+
+pub add_within-requires-clause-size : goal.add_within-requires-clause-size
+add_within-requires-clause-size c = λ p at.
+    let low = at.low in
+    let high = at.high in
+    let after = c.requires.after in
+    let before = c.requires.before in
+    let some : IsTrue c.cut.result = c.cut.ensures.some.1 (omega (arith, ints), omega (arith, ints), omega (arith, ints)) in
+    let first = c.cut.ensures.first some in
+    let last = c.cut.ensures.last some in
+    let own : IsPlace c.args.self.now p = record { low = omega (arith, ints, clamps); high = omega (arith, ints, clamps) } in
+    let others : IsPlace c.args.other.now p = record { low = omega (arith, ints, clamps); high = omega (arith, ints, clamps) } in
+    subst (λ x. IsSmall (x +ℤ value_at c.args.other.now p)) (sym (c.cut.ensures.value some p at)) (c.requires.size p own others)
+
+pub returns-clause-first : goal.returns-clause-first
+returns-clause-first c =
+    let after = c.requires.after in
+    let before = c.requires.before in
+    let some : IsTrue c.cut.result = c.cut.ensures.some.1 (omega (arith, ints), omega (arith, ints), omega (arith, ints)) in
+    let first = c.cut.ensures.first some in
+    omega (arith, ints, clamps)
+
+pub returns-clause-last : goal.returns-clause-last
+returns-clause-last c =
+    let after = c.requires.after in
+    let before = c.requires.before in
+    let some : IsTrue c.cut.result = c.cut.ensures.some.1 (omega (arith, ints), omega (arith, ints), omega (arith, ints)) in
+    let last = c.cut.ensures.last some in
+    omega (arith, ints, clamps)
+
+pub returns-clause-value : goal.returns-clause-value
+returns-clause-value c = λ p at.
+    let low = at.low in
+    let high = at.high in
+    let after = c.requires.after in
+    let before = c.requires.before in
+    let some : IsTrue c.cut.result = c.cut.ensures.some.1 (omega (arith, ints), omega (arith, ints), omega (arith, ints)) in
+    let mid : IsPlace c.cut.new.self p = record { low = omega (arith, ints); high = omega (arith, ints) } in
+    c.add_within.ensures.value p at ∙ ap (λ x. x +ℤ value_at c.args.other.now p) (c.cut.ensures.value some p mid)
