@@ -1,11 +1,10 @@
 -- The least value of a function, and where it has it.
-use Rattle.std.proofs.Common.{◌≡◌, ◌↔◌, ℕ, ◌+◌, ◌≤◌, sym, ap, ◌∙◌, arith, ℤ, pos, ◌+ℤ◌, ◌≤ℤ◌}
-use Rattle.std.proofs.lemmas.Int.{ints}
+use Rattle.std.proofs.Common.{◌≡◌, ◌↔◌, ℕ, ◌≤◌, sym, ◌∙◌, arith, ℤ, pos, ◌+ℤ◌, ◌≤ℤ◌}
 use Rattle.uc_model.proofs.Ring.{linear}
 use Rattle.step_functions.specs.Functions.{Steps, IsPlace, value_at}
 use Rattle.step_functions.specs.inside.Edits.{AreBelow}
 use Rattle.step_functions.specs.inside.Kept.{height}
-use Rattle.step_functions.proofs.Heights.{height-least, height-level, level-from, level-to, below-before}
+use Rattle.step_functions.proofs.Heights.{height-least, height-level, level-from, level-to}
 use Rattle.step_functions.proofs.Values.{steps_between, steps-within, place-steps, value_at-place}
 
 pub bottom-least : (f : Steps) (m : ℕ) (v : ℤ) → AreBelow f.runs (pos 0) m → v ≡ height f.value f.runs m

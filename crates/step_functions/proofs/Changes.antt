@@ -1,21 +1,20 @@
 -- What each change of a function makes of it.
-use Rattle.std.proofs.Common.{◌≡◌, ℕ, suc, ◌+◌, ◌-◌, ◌*◌, ◌<◌, ◌≤◌, ◌^◌, min, ⊎_elim, List, ◌++◌, length, take, drop, map, All, refl, sym, ap, subst, ◌∙◌, arith, ℤ, pos, neg_ℤ, ◌+ℤ◌, ◌-ℤ◌, ◌*ℤ◌, ◌≤ℤ◌, unsigned_abs, to_z, of_z}
+use Rattle.std.proofs.Common.{◌≡◌, ℕ, suc, ◌+◌, ◌*◌, ◌<◌, ◌≤◌, ◌^◌, List, ◌++◌, length, take, drop, map, All, refl, sym, ap, subst, ◌∙◌, arith, ℤ, pos, ◌+ℤ◌, ◌*ℤ◌, unsigned_abs, to_z, of_z}
 use mir.Val.{SFits}
 use Rattle.std.specs.Int.{w64, w128}
-use Rattle.std.proofs.lemmas.Bool.{cases_lt}
-use Rattle.std.proofs.lemmas.Int.{ints, clamps, to_z-of_z, fits_signed_from_abs}
-use Rattle.std.proofs.lemmas.List.{take_at, length-map}
+use Rattle.std.proofs.lemmas.Int.{ints, to_z-of_z, fits_signed_from_abs}
+use Rattle.std.proofs.lemmas.List.{take_at}
 use Rattle.std.proofs.lemmas.List.Elements.{All-map, All-from_get_or}
 use Rattle.uc_model.specs.Sums.{sum_below}
-use Rattle.uc_model.proofs.Ring.{linear, mul-add, mul-zero, mul-one, mul-neg, mul_comm}
-use Rattle.uc_model.proofs.Sums.{sum_below-same, sum_below-add, sum_below-const, sum_below-split}
+use Rattle.uc_model.proofs.Ring.{linear, mul-add, mul-zero, mul-one, mul_comm}
+use Rattle.uc_model.proofs.Sums.{sum_below-same, sum_below-add, sum_below-const}
 use Rattle.step_functions.specs.Runs.{Run, run_of, slope_at, steps_of}
-use Rattle.step_functions.specs.Functions.{Steps, IsPlace, IsSmall, value_at, IsWithin, shortfall, MAX_VALUE}
-use Rattle.step_functions.specs.inside.Edits.{with_slope, IsSteeper}
-use Rattle.step_functions.specs.inside.Kept.{height, AreRising, AreSmall, HaveSteps, HaveSmallSlopes, IsKept}
+use Rattle.step_functions.specs.Functions.{Steps, IsPlace, IsSmall, value_at, IsWithin, MAX_VALUE}
+use Rattle.step_functions.specs.inside.Edits.{with_slope}
+use Rattle.step_functions.specs.inside.Kept.{HaveSteps, HaveSmallSlopes, IsKept}
 use Rattle.step_functions.proofs.RunSteps.{steps-within as runs-within}
 use Rattle.step_functions.proofs.RunEdits.{run-slope, slope-with_slope, steps-with_slope}
-use Rattle.step_functions.proofs.Values.{IsMadeOf, made-in_place, kept-made, values-made, is_place-steps, value_at-steps}
+use Rattle.step_functions.proofs.Values.{IsMadeOf, made-in_place, kept-made, is_place-steps, value_at-steps}
 
 -- ---- numbers as their bits
 pub bits-plain : (value slope watts : ℤ) → IsSmall value → SFits w128 slope → SFits w64 watts

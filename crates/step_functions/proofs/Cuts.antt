@@ -1,9 +1,8 @@
 -- A function cut to some of its places, and the sum of two.
-use Rattle.std.proofs.Common.{◌≡◌, ℕ, suc, ◌+◌, ◌-◌, ◌*◌, ◌<◌, ◌≤◌, List, take, drop, refl, sym, ap, subst, ◌∙◌, arith, ℤ, pos, ◌+ℤ◌, ◌≤ℤ◌, unsigned_abs}
+use Rattle.std.proofs.Common.{◌≡◌, ℕ, ◌+◌, ◌<◌, ◌≤◌, List, take, drop, refl, sym, ap, subst, ◌∙◌, arith, ℤ, pos, ◌+ℤ◌}
 use Rattle.std.proofs.lemmas.Int.{ints}
 use Rattle.std.proofs.lemmas.List.{take-append-drop}
 use Rattle.std.proofs.lemmas.List.Elements.{All-take, All-drop}
-use Rattle.uc_model.specs.Sums.{sum_below}
 use Rattle.uc_model.proofs.Ring.{linear, add-zero}
 use Rattle.uc_model.proofs.Sums.{sum_below-same, sum_below-add}
 use Rattle.step_functions.specs.Runs.{Run, slope_at, steps_of}
@@ -13,7 +12,7 @@ use Rattle.step_functions.specs.inside.Kept.{height, AreRising, HaveSteps, IsKep
 use Rattle.step_functions.proofs.RunSteps.{steps-take-drop, slope-append_left}
 use Rattle.step_functions.proofs.RunSums.{slope-behind}
 use Rattle.step_functions.proofs.Heights.{height-split}
-use Rattle.step_functions.proofs.Values.{IsMadeOf, made-in_place, kept-made, values-made, steps_between, steps-within, place-steps, value_at-place, value_at-first}
+use Rattle.step_functions.proofs.Values.{IsMadeOf, made-in_place, kept-made, values-made, steps_between, steps-within, place-steps, value_at-place}
 
 -- nothing besides
 abbrev pub nothing : ℤ → ℤ

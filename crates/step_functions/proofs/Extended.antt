@@ -1,15 +1,14 @@
 -- A function that goes on by a run.
-use Rattle.std.proofs.Common.{◌≡◌, ℕ, suc, ◌+◌, ◌-◌, ◌*◌, ◌<◌, ◌≤◌, ⊎_elim, List, [], ◌∷◌, ◌++◌, refl, sym, ap, subst, ◌∙◌, arith, ℤ, pos, ◌+ℤ◌, ◌*ℤ◌, ◌≤ℤ◌, ◌<ℤ◌, unsigned_abs}
+use Rattle.std.proofs.Common.{◌≡◌, ℕ, ◌+◌, ◌-◌, ◌<◌, ◌≤◌, ⊎_elim, List, [], ◌∷◌, ◌++◌, sym, ap, subst, ◌∙◌, arith, ℤ, pos, ◌+ℤ◌, ◌*ℤ◌, ◌≤ℤ◌, ◌<ℤ◌}
 use Rattle.std.proofs.lemmas.Bool.{cases_lt}
 use Rattle.std.proofs.lemmas.Int.{ints}
 use Rattle.std.proofs.lemmas.List.Sums.{sum_by_push}
 use Rattle.std.proofs.lemmas.List.Elements.{All-push}
-use Rattle.uc_model.specs.Sums.{sum_below}
 use Rattle.uc_model.proofs.Ring.{linear, le_or_lt, mul-le-mul_right, mul-le-mul_turned, mul-zero, zero-mul, mul_comm}
 use Rattle.uc_model.proofs.Sums.{sum_below-same, sum_below-split, sum_below-const}
 use Rattle.step_functions.specs.Runs.{Run, slope_at, steps_of}
 use Rattle.step_functions.specs.Functions.{Steps, IsPlace, IsSmall, IsWithin, last_place, value_at}
-use Rattle.step_functions.specs.inside.Kept.{height, AreRising, AreSmall, HaveSteps, IsKept}
+use Rattle.step_functions.specs.inside.Kept.{height, AreRising, AreSmall, IsKept}
 use Rattle.step_functions.proofs.RunSteps.{slope-append_left, slope-append_right, slope-first}
 use Rattle.step_functions.proofs.Values.{steps_between, steps-within, place-steps, value_at-place, value_at-steps}
 

@@ -1,15 +1,14 @@
 -- The least values within a ramp: level steps stand between those that fall and those that don't.
-use Rattle.std.proofs.Common.{◌≡◌, ℕ, suc, ◌+◌, ◌-◌, ◌*◌, ◌<◌, ◌≤◌, ⊎_elim, List, refl, sym, ap, subst, ◌∙◌, arith, ℤ, pos, ◌+ℤ◌, ◌-ℤ◌, ◌≤ℤ◌, ◌<ℤ◌, unsigned_abs, to_z, of_z}
+use Rattle.std.proofs.Common.{◌≡◌, ℕ, ◌+◌, ◌-◌, ◌<◌, ◌≤◌, ⊎_elim, List, sym, ap, subst, ◌∙◌, arith, ℤ, pos, ◌+ℤ◌, ◌-ℤ◌, ◌≤ℤ◌, unsigned_abs, to_z, of_z}
 use Rattle.std.specs.Int.{w64}
 use Rattle.std.proofs.lemmas.Bool.{cases_lt}
 use Rattle.std.proofs.lemmas.Int.{ints, to_z-of_z, fits_signed_from_abs}
-use Rattle.uc_model.specs.Sums.{sum_below}
 use Rattle.uc_model.proofs.Ring.{linear}
-use Rattle.uc_model.proofs.Sums.{sum_below-same, sum_below-split, sum_below-zero}
+use Rattle.uc_model.proofs.Sums.{sum_below-same, sum_below-zero}
 use Rattle.step_functions.specs.Runs.{Run, slope_at, steps_of}
 use Rattle.step_functions.specs.Functions.{Steps, IsPlace, IsSmall, IsWithin, IsLeastBetween, last_place, value_at}
 use Rattle.step_functions.specs.inside.Edits.{AreBelow, AreLevelled, IsSpread}
-use Rattle.step_functions.specs.inside.Kept.{height, AreRising, AreSmall, HaveSteps, IsKept}
+use Rattle.step_functions.specs.inside.Kept.{height, AreRising, HaveSteps, IsKept}
 use Rattle.step_functions.proofs.Heights.{height-split, height-falls, height-rises, height-least}
 use Rattle.step_functions.proofs.Values.{steps_between, steps-within, place-steps, is_place-steps, value_at-place, value_at-steps}
 

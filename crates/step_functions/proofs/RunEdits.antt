@@ -6,7 +6,7 @@ use Rattle.std.proofs.lemmas.Bool.{cases_lt}
 use Rattle.std.proofs.lemmas.List.{append_assoc, take-append-drop, set_split, take-set, drop-set, take_at, length_push, length-take-le, length-map, length-append, length-drop, drop_more, get_or_at, get_or_read, get_or_default}
 use Rattle.std.proofs.lemmas.List.Edits.{map_over_more}
 use Rattle.std.proofs.lemmas.List.Sums.{sum_by_push}
-use Rattle.std.proofs.lemmas.List.Elements.{All-append, All-cons, All-take, All-drop, All-get_or}
+use Rattle.std.proofs.lemmas.List.Elements.{All-append, All-cons, All-take, All-drop}
 use Rattle.step_functions.specs.Runs.{Run, run_of, slope_at, steps_of}
 use Rattle.step_functions.specs.inside.Edits.{with_slope, SameSteps, AreLevelled, IsSteeper}
 use Rattle.step_functions.specs.inside.Kept.{HaveSteps}

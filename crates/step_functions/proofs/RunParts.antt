@@ -1,5 +1,5 @@
 -- A part of the runs, with a slope added to each.
-use Rattle.std.proofs.Common.{◌≡◌, ℕ, suc, ◌+◌, ◌-◌, ◌<◌, ◌≤◌, ◌^◌, List, [], ◌∷◌, ◌++◌, length, take, drop, map, All, refl, sym, ap, subst, ◌∙◌, arith, ℤ, pos, ◌+ℤ◌, unsigned_abs, to_z, of_z}
+use Rattle.std.proofs.Common.{◌≡◌, ℕ, ◌+◌, ◌-◌, ◌<◌, ◌≤◌, ◌^◌, List, ◌++◌, length, take, drop, map, All, sym, ap, subst, ◌∙◌, arith, ℤ, pos, ◌+ℤ◌, unsigned_abs, to_z, of_z}
 use Rattle.std.specs.Int.{w128}
 use Rattle.std.proofs.lemmas.List.{append_assoc, take-append-drop, take_at, drop-drop, get_or-take, length-take, length-map, length-append, length-drop}
 use Rattle.std.proofs.lemmas.List.Elements.{All-append, All-take, All-drop, All-map, All-from_get_or}
@@ -8,7 +8,7 @@ use Rattle.uc_model.proofs.Sizes.{abs_wide}
 use Rattle.step_functions.specs.Runs.{Run, run_of, slope_at, steps_of}
 use Rattle.step_functions.specs.inside.Edits.{with_slope, SameSteps, IsSteeper}
 use Rattle.step_functions.specs.inside.Kept.{HaveSteps}
-use Rattle.step_functions.proofs.RunSteps.{steps-append, steps-take-add, steps-take-drop, steps-take-more, run-drop}
+use Rattle.step_functions.proofs.RunSteps.{steps-append, steps-take-add, steps-take-more, run-drop}
 use Rattle.step_functions.proofs.RunEdits.{steps-with_slope, steeper-mid, run-slope}
 
 -- the runs from `from` to the one before `end`

@@ -1,15 +1,13 @@
 -- Runs to whose steps those of other runs are added, one of the others after another.
 use Rattle.std.proofs.Common.{◌≡◌, ℕ, suc, ◌+◌, ◌-◌, ◌*◌, ◌<◌, ◌≤◌, ◌^◌, min, ⊎_elim, List, length, take, drop, refl, sym, ap, subst, ◌∙◌, arith, ℤ, pos, ◌+ℤ◌, unsigned_abs}
 use Rattle.std.proofs.lemmas.Bool.{cases_lt}
-use Rattle.std.proofs.lemmas.List.{take-append-drop, length-drop, take_rest}
-use Rattle.std.proofs.lemmas.List.Elements.{All-drop}
+use Rattle.std.proofs.lemmas.List.{take-append-drop}
 use Rattle.step_functions.specs.Runs.{Run, run_of, slope_at, steps_of}
 use Rattle.step_functions.specs.Functions.{MAX_VALUE}
 use Rattle.step_functions.specs.inside.Edits.{IsSteeper, AreAdded}
 use Rattle.step_functions.specs.inside.Kept.{HaveSteps, HaveSmallSlopes}
 pub use Rattle.step_functions.specs.declared.runs.Place.{Place}
-use Rattle.step_functions.specs.inside.Places.{IsPlaceOf}
-use Rattle.step_functions.proofs.RunSteps.{steps-take-more, steps-take-all, steps-take-drop, steps-within, slope-run, slope-append_right, run-drop}
+use Rattle.step_functions.proofs.RunSteps.{steps-take-more, steps-take-all, steps-take-drop, steps-within, slope-run, slope-append_right}
 use Rattle.step_functions.proofs.RunEdits.{run-slope}
 
 -- the others before the one of this number are added, up to the run `from`; `rest` steps are left, to the first of which that

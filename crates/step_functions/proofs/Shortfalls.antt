@@ -1,5 +1,5 @@
 -- A price for each watt that a place lies below another: the first steps are cheaper by it, and the first value dearer.
-use Rattle.std.proofs.Common.{◌≡◌, ℕ, suc, ◌+◌, ◌-◌, ◌*◌, ◌<◌, ◌≤◌, ◌^◌, min, ◌⊎◌, inl, inr, ⊎_elim, List, refl, sym, ap, subst, ◌∙◌, arith, ℤ, pos, neg_ℤ, ◌+ℤ◌, ◌-ℤ◌, ◌*ℤ◌, ◌≤ℤ◌, unsigned_abs}
+use Rattle.std.proofs.Common.{◌≡◌, ℕ, ◌+◌, ◌-◌, ◌*◌, ◌<◌, ◌≤◌, min, ◌⊎◌, inl, inr, ⊎_elim, List, refl, ap, subst, ◌∙◌, arith, ℤ, pos, neg_ℤ, ◌+ℤ◌, ◌*ℤ◌, ◌≤ℤ◌, unsigned_abs}
 use Rattle.std.proofs.lemmas.Bool.{cases_lt}
 use Rattle.std.proofs.lemmas.Int.{ints, clamps}
 use Rattle.uc_model.specs.Sums.{sum_below}
@@ -8,7 +8,7 @@ use Rattle.uc_model.proofs.Sums.{sum_below-same, sum_below-split}
 use Rattle.step_functions.specs.Runs.{Run, slope_at, steps_of}
 use Rattle.step_functions.specs.Functions.{Steps, IsPlace, IsSmall, value_at, shortfall, MAX_VALUE}
 use Rattle.step_functions.specs.inside.Edits.{IsSteeper}
-use Rattle.step_functions.specs.inside.Kept.{height, HaveSteps, IsKept}
+use Rattle.step_functions.specs.inside.Kept.{HaveSteps, IsKept}
 use Rattle.step_functions.proofs.Changes.{sum-steeper}
 use Rattle.step_functions.proofs.Values.{IsMadeOf, made-in_place, kept-made}
 

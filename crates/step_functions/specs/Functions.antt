@@ -1,7 +1,7 @@
 -- Convex piecewise linear functions on a whole interval, with whole breakpoints and whole slopes. Source: the cost-to-go of a
 -- single unit with ramps by A. Frangioni and C. Gentile, "Solving Nonlinear Single-Unit Commitment Problems with Ramping
 -- Constraints" (Operations Research 54, 2006), at a linear cost in each segment: its least values are at whole places.
-use Rattle.std.specs.Prelude.{◌≡◌, ℕ, ◌≤◌, ◌<◌, List, length, ℤ, pos, ◌+ℤ◌, ◌-ℤ◌, ◌≤ℤ◌, ◌<ℤ◌, unsigned_abs}
+use Rattle.std.specs.Prelude.{◌≡◌, ℕ, ◌≤◌, List, length, ℤ, pos, ◌+ℤ◌, ◌-ℤ◌, ◌≤ℤ◌, unsigned_abs}
 use Rattle.std.specs.Int.{int_max}
 use Rattle.uc_model.specs.Sums.{sum_below}
 pub use Rattle.step_functions.specs.declared.runs.Run.{Run}

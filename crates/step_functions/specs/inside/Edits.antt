@@ -1,6 +1,5 @@
 -- What edits of runs leave.
-use Rattle.std.specs.Prelude.{◌≡◌, ℕ, ◌+◌, ◌≤◌, ◌<◌, List, length, ℤ, pos, ◌+ℤ◌, ◌<ℤ◌, ◌≤ℤ◌}
-use Rattle.uc_model.specs.Sums.{sum_below}
+use Rattle.std.specs.Prelude.{◌≡◌, ℕ, ◌+◌, ◌≤◌, ◌<◌, List, ℤ, pos, ◌+ℤ◌, ◌<ℤ◌, ◌≤ℤ◌}
 pub use Rattle.step_functions.specs.declared.runs.Run.{Run}
 use Rattle.step_functions.specs.Runs.{slope_at, steps_of}
 

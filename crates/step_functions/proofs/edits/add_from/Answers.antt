@@ -1,11 +1,11 @@
 -- One other more is added.
-use Rattle.std.proofs.Common.{◌≡◌, ◌+◌, ◌-◌, ◌<◌, ◌^◌, min, take, refl, sym, ap, subst, ◌∙◌, arith, rules, to_z, of_z, unsigned_abs}
+use Rattle.std.proofs.Common.{◌+◌, ◌<◌, ◌^◌, take, refl, sym, ap, subst, ◌∙◌, arith, rules, unsigned_abs}
 use mir.Val.{SFits}
 use Rattle.std.specs.Int.{w128}
 use Rattle.std.proofs.lemmas.Int.{to_z-of_z}
 use Rattle.step_functions.specs.Runs.{run_of, slope_at, steps_of}
 use Rattle.step_functions.specs.inside.Edits.{IsSteeper}
-use Rattle.step_functions.proofs.RunSums.{IsAddedTo, added-none, added-more, added-all, small-slopes, fits-rest}
+use Rattle.step_functions.proofs.RunSums.{IsAddedTo, added-none, added-more, small-slopes, fits-rest}
 use Rattle.step_functions.proofs.edits.add_from.Goals as goal
 
 pub loop-other-init : goal.loop-other-init

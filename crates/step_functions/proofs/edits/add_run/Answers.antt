@@ -1,5 +1,5 @@
 -- Between the run and the one where it ends, each run is steeper.
-use Rattle.std.proofs.Common.{◌≡◌, ◌+◌, ◌-◌, ◌≤◌, ◌<◌, ◌^◌, ◌++◌, List, All, length, take, drop, map, ap, sym, subst, ◌∙◌, arith, rules, to_z, of_z, unsigned_abs}
+use Rattle.std.proofs.Common.{◌≡◌, ◌+◌, ◌-◌, ◌<◌, ◌^◌, ◌++◌, List, All, length, take, drop, map, ap, sym, subst, ◌∙◌, arith, rules, to_z, of_z, unsigned_abs}
 use mir.Val.{SFits}
 use Rattle.std.specs.Int.{w128}
 use Rattle.std.proofs.lemmas.Int.{to_z-of_z}

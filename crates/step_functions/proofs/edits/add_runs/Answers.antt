@@ -1,7 +1,7 @@
 -- The others from the run on in which the first step lies.
-use Rattle.std.proofs.Common.{◌≡◌, ◌+◌, ◌≤◌, ◌<◌, ◌^◌, sym, subst, arith}
+use Rattle.std.proofs.Common.{◌+◌, ◌≤◌, ◌<◌, ◌^◌, sym, subst, arith}
 use Rattle.std.proofs.lemmas.List.{take_rest}
-use Rattle.step_functions.specs.Runs.{Run, steps_of}
+use Rattle.step_functions.specs.Runs.{steps_of}
 use Rattle.step_functions.specs.inside.Edits.{AreAdded}
 use Rattle.step_functions.specs.inside.Kept.{HaveSmallSlopes}
 use Rattle.step_functions.proofs.RunSteps.{steps-take-drop}

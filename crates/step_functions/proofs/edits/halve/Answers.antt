@@ -1,9 +1,6 @@
 -- The run stands in two parts.
-use Rattle.std.proofs.Common.{◌≡◌, ◌+◌, ◌++◌, ◌∷◌, List, take, drop, sym, ap, subst, ◌∙◌, arith}
-use Rattle.step_functions.specs.Runs.{Run, run_of, steps_of}
-use Rattle.step_functions.specs.inside.Edits.{SameSteps}
-use Rattle.step_functions.specs.inside.Kept.{HaveSteps}
-use Rattle.step_functions.proofs.RunEdits.{halved-runs, halved-by, IsHalved, front_of, back_of}
+use Rattle.std.proofs.Common.{sym, subst, arith}
+use Rattle.step_functions.proofs.RunEdits.{halved-runs, halved-by, IsHalved}
 use Rattle.step_functions.proofs.edits.halve.Goals as goal
 
 is_halved : (c : goal.After-insert) → IsHalved c.args.runs.now.items c.insert.new.runs.items c.args.number c.args.length

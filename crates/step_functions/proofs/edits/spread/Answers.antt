@@ -1,5 +1,5 @@
 -- The runs that fall stand in front.
-use Rattle.std.proofs.Common.{◌≡◌, take, sym, subst, pos}
+use Rattle.std.proofs.Common.{take, sym, subst, pos}
 use Rattle.step_functions.specs.Runs.{steps_of}
 use Rattle.step_functions.specs.inside.Edits.{AreBelow}
 use Rattle.step_functions.specs.inside.Kept.{AreRising, HaveSteps}

@@ -1,5 +1,5 @@
 -- The product is the difference of two small values.
-use Rattle.std.proofs.Common.{◌≡◌, sym, subst, arith, ◌+ℤ◌, ◌*ℤ◌, to_z, of_z}
+use Rattle.std.proofs.Common.{◌≡◌, sym, subst, arith, ◌*ℤ◌, to_z, of_z}
 use mir.Val.{SFits}
 use Rattle.std.specs.Int.{w128}
 use Rattle.std.proofs.lemmas.Int.{ints, to_z-of_z, fits_signed_from_abs}

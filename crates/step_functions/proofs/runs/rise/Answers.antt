@@ -1,11 +1,10 @@
 -- What a run adds is the difference of two sums, and so within the limits; and the sum goes on by it.
-use Rattle.std.proofs.Common.{◌≡◌, ◌+◌, ◌*◌, ◌<◌, take, subst, ap, sym, ◌∙◌, lit<, arith, to_z, of_z, ◌+ℤ◌}
-use Rattle.std.specs.Int.{w128}
+use Rattle.std.proofs.Common.{◌+◌, ◌*◌, take, ap, arith}
 use Rattle.std.proofs.lemmas.Int.{ints}
 use Rattle.uc_model.specs.Sums.{sum_below}
 use Rattle.step_functions.specs.Runs.{run_of, slope_at, steps_of}
 use Rattle.step_functions.specs.Functions.{MAX_VALUE}
-use Rattle.step_functions.proofs.RunSteps.{climb-size, rise-run, steps-take-more, steps-take-all, steps-within}
+use Rattle.step_functions.proofs.RunSteps.{climb-size, rise-run, steps-take-more, steps-within}
 use Rattle.step_functions.proofs.runs.rise.Goals as goal
 
 pub climb-requires : goal.climb-requires

@@ -1,8 +1,8 @@
 -- The runs in front hold the steps in front.
-use Rattle.std.proofs.Common.{◌≡◌, ◌<ℤ◌, ◌≤ℤ◌, take, ap, sym, subst, ◌∙◌, arith, to_z, of_z}
+use Rattle.std.proofs.Common.{take, sym, subst, to_z, of_z}
 use Rattle.std.specs.Int.{w128}
 use Rattle.std.proofs.lemmas.Int.{to_z-of_z}
-use Rattle.step_functions.specs.Runs.{run_of, steps_of}
+use Rattle.step_functions.specs.Runs.{steps_of}
 use Rattle.step_functions.specs.inside.Edits.{AreBelow}
 use Rattle.step_functions.proofs.RisingRuns.{runs-below}
 use Rattle.step_functions.proofs.runs.steps_below.Goals as goal

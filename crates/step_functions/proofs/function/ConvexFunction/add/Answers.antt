@@ -1,7 +1,7 @@
 -- Cut to the places of both, it has only places of the other one.
-use Rattle.std.proofs.Common.{◌≡◌, sym, ap, subst, ◌∙◌, arith, ℤ, ◌+ℤ◌, IsTrue}
+use Rattle.std.proofs.Common.{sym, ap, subst, ◌∙◌, arith, ◌+ℤ◌, IsTrue}
 use Rattle.std.proofs.lemmas.Int.{ints, clamps}
-use Rattle.step_functions.specs.Functions.{IsPlace, IsSmall, last_place, value_at}
+use Rattle.step_functions.specs.Functions.{IsPlace, IsSmall, value_at}
 use Rattle.step_functions.proofs.function.ConvexFunction.add.Goals as goal
 
 pub add_within-requires-clause-after : goal.add_within-requires-clause-after

@@ -1,10 +1,10 @@
 -- The first value is dearer by all that is short, and each step that is short cheaper.
-use Rattle.std.proofs.Common.{◌≡◌, ℕ, ◌+◌, ◌<◌, ◌≤◌, ◌^◌, min, refl, sym, ap, subst, ◌∙◌, arith, ℤ, pos, neg_ℤ, ◌+ℤ◌, ◌-ℤ◌, ◌*ℤ◌, ◌≤ℤ◌, unsigned_abs, to_z, of_z, vec_capacity}
+use Rattle.std.proofs.Common.{◌≡◌, ℕ, ◌+◌, ◌≤◌, min, sym, ap, subst, ◌∙◌, arith, ℤ, pos, neg_ℤ, ◌+ℤ◌, ◌-ℤ◌, ◌*ℤ◌, unsigned_abs, to_z, of_z, vec_capacity}
 use Rattle.std.specs.Int.{w64, w128}
 use Rattle.std.proofs.lemmas.Int.{ints, to_z-of_z}
 use Rattle.uc_model.proofs.Ring.{linear, add-zero}
 use Rattle.step_functions.specs.contracts.function.ConvexFunction.{the_view}
-use Rattle.step_functions.specs.Runs.{slope_at, steps_of}
+use Rattle.step_functions.specs.Runs.{steps_of}
 use Rattle.step_functions.specs.Functions.{Steps, IsPlace, IsSmall, last_place, shortfall, value_at}
 use Rattle.step_functions.specs.inside.Edits.{IsSteeper}
 use Rattle.step_functions.proofs.Values.{values-made, small-first, small-own}

@@ -1,6 +1,6 @@
 -- Each step has the slope more.
-use Rattle.std.proofs.Common.{◌≡◌, ℕ, ◌+◌, ◌<◌, ◌^◌, ◌++◌, List, length, take, drop, map, All, sym, ap, subst, ◌∙◌, arith, ℤ, ◌+ℤ◌, ◌*ℤ◌, pos, unsigned_abs, to_z, of_z, vec_capacity}
-use Rattle.std.specs.Int.{w64, w128}
+use Rattle.std.proofs.Common.{◌≡◌, ◌+◌, ◌<◌, ◌^◌, ◌++◌, length, take, drop, map, All, sym, ap, subst, ◌∙◌, arith, ℤ, ◌+ℤ◌, ◌*ℤ◌, pos, unsigned_abs, to_z, of_z}
+use Rattle.std.specs.Int.{w128}
 use Rattle.std.proofs.lemmas.Int.{ints, to_z-of_z}
 use Rattle.std.proofs.lemmas.List.{length-map}
 use Rattle.step_functions.specs.contracts.function.ConvexFunction.{the_view}

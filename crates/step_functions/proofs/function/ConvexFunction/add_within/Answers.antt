@@ -1,5 +1,5 @@
 -- The other's steps are added from the one on with which this one begins.
-use Rattle.std.proofs.Common.{◌≡◌, ℕ, ◌+◌, ◌≤◌, sym, ap, subst, ◌∙◌, arith, ℤ, pos, ◌+ℤ◌, to_z, of_z, vec_capacity}
+use Rattle.std.proofs.Common.{◌≡◌, sym, ap, subst, ◌∙◌, arith, ℤ, pos, ◌+ℤ◌, to_z, of_z, vec_capacity}
 use Rattle.std.specs.Int.{w128}
 use Rattle.std.proofs.lemmas.Int.{ints}
 use Rattle.step_functions.specs.contracts.function.ConvexFunction.{the_view}

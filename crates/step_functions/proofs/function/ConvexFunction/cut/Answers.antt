@@ -1,7 +1,7 @@
 -- Cut on both sides, each value is as it was.
-use Rattle.std.proofs.Common.{◌≡◌, ◌∙◌, arith, ℤ}
+use Rattle.std.proofs.Common.{◌∙◌, arith}
 use Rattle.std.proofs.lemmas.Int.{ints, clamps}
-use Rattle.step_functions.specs.Functions.{IsPlace, last_place}
+use Rattle.step_functions.specs.Functions.{IsPlace}
 use Rattle.step_functions.proofs.function.ConvexFunction.cut.Goals as goal
 
 pub cut_left-requires-clause-place : goal.cut_left-requires-clause-place

@@ -1,5 +1,5 @@
 -- The steps behind are kept, from the value there on.
-use Rattle.std.proofs.Common.{◌≡◌, ℕ, sym, ap, subst, ◌∙◌, arith, ℤ, pos, ◌+ℤ◌, drop, to_z, of_z, vec_capacity}
+use Rattle.std.proofs.Common.{◌≡◌, sym, ap, subst, ◌∙◌, arith, ℤ, pos, ◌+ℤ◌, to_z, of_z, vec_capacity}
 use Rattle.std.specs.Int.{w64, w128}
 use Rattle.std.proofs.lemmas.Int.{ints}
 use Rattle.step_functions.specs.contracts.function.ConvexFunction.{the_view}

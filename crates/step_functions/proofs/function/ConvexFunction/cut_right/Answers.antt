@@ -1,5 +1,5 @@
 -- The steps in front are kept.
-use Rattle.std.proofs.Common.{◌≡◌, ℕ, sym, subst, arith, ℤ, take, vec_capacity}
+use Rattle.std.proofs.Common.{◌≡◌, sym, subst, arith, ℤ, vec_capacity}
 use Rattle.step_functions.specs.contracts.function.ConvexFunction.{the_view}
 use Rattle.step_functions.specs.Functions.{Steps, IsPlace, value_at}
 use Rattle.step_functions.specs.inside.Kept.{IsKept}

@@ -1,5 +1,5 @@
 -- The steps go on by those of the run.
-use Rattle.std.proofs.Common.{◌≡◌, ℕ, ◌+◌, ◌<◌, ◌≤◌, List, [], ◌∷◌, ◌++◌, sym, subst, ◌∙◌, arith, ℤ, pos, ◌+ℤ◌, ◌*ℤ◌, ◌≤ℤ◌, to_z, of_z, vec_capacity}
+use Rattle.std.proofs.Common.{◌≡◌, ℕ, ◌+◌, ◌<◌, ◌≤◌, List, [], ◌∷◌, ◌++◌, sym, subst, ◌∙◌, ℤ, pos, ◌+ℤ◌, ◌*ℤ◌, ◌≤ℤ◌, to_z, of_z, vec_capacity}
 use mir.Val.{SFits}
 use Rattle.std.specs.Int.{w128}
 use Rattle.std.proofs.lemmas.Int.{to_z-of_z}
@@ -7,7 +7,7 @@ use Rattle.step_functions.specs.contracts.function.ConvexFunction.{the_view}
 use Rattle.step_functions.specs.Runs.{Run, slope_at, steps_of}
 use Rattle.step_functions.specs.Functions.{Steps, IsPlace, IsSmall, IsWithin, last_place, value_at}
 use Rattle.step_functions.specs.inside.Kept.{IsKept}
-use Rattle.step_functions.proofs.Extended.{extended, extended-old, extended-new, extended-before, extended-after, extended-kept}
+use Rattle.step_functions.proofs.Extended.{extended-old, extended-new, extended-before, extended-after, extended-kept}
 use Rattle.step_functions.proofs.function.ConvexFunction.extend.Goals as goal
 
 -- the run that is pushed, its slope written as its bits

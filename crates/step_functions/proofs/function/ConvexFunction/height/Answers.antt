@@ -1,10 +1,10 @@
 -- The first value and what the steps rise by.
-use Rattle.std.proofs.Common.{◌≡◌, ◌≤◌, ap, subst, ◌∙◌, arith, ◌+ℤ◌, to_z, of_z}
+use Rattle.std.proofs.Common.{◌≡◌, ◌≤◌, ap, ◌∙◌, arith, ◌+ℤ◌, to_z, of_z}
 use Rattle.std.specs.Int.{w128}
 use Rattle.std.proofs.lemmas.Int.{ints}
 use Rattle.uc_model.specs.Sums.{sum_below}
 use Rattle.step_functions.specs.Runs.{slope_at, steps_of}
-use Rattle.step_functions.specs.Functions.{Steps, IsSmall}
+use Rattle.step_functions.specs.Functions.{Steps}
 use Rattle.step_functions.specs.inside.Kept.{height}
 use Rattle.step_functions.proofs.function.ConvexFunction.height.Goals as goal
 

@@ -1,5 +1,5 @@
 -- The values fall over the steps below 0, and rise from those below 1 on.
-use Rattle.std.proofs.Common.{◌≡◌, ◌≤◌, sym, ap, subst, ◌∙◌, arith, pos, ◌+ℤ◌, to_z, of_z}
+use Rattle.std.proofs.Common.{◌≡◌, ap, subst, ◌∙◌, arith, pos, ◌+ℤ◌, to_z, of_z}
 use Rattle.std.specs.Int.{w64, w128}
 use Rattle.std.proofs.lemmas.Int.{ints}
 use Rattle.step_functions.specs.Runs.{steps_of}

@@ -1,12 +1,9 @@
 -- The level steps behind those that fall.
-use Rattle.std.proofs.Common.{◌≡◌, ℕ, refl, sym, ap, subst, ◌∙◌, arith, ℤ, pos, ◌+ℤ◌, ◌-ℤ◌, unsigned_abs, to_z, of_z, vec_capacity}
+use Rattle.std.proofs.Common.{refl, sym, ap, subst, ◌∙◌, ℤ, ◌+ℤ◌, ◌-ℤ◌, to_z, of_z, vec_capacity}
 use Rattle.std.specs.Int.{w64}
-use Rattle.std.proofs.lemmas.Int.{ints}
 use Rattle.step_functions.specs.contracts.function.ConvexFunction.{the_view}
 use Rattle.step_functions.specs.Functions.{Steps, IsPlace, IsWithin, IsLeastBetween, last_place, value_at}
-use Rattle.step_functions.specs.inside.Edits.{IsSpread}
-use Rattle.step_functions.specs.inside.Kept.{IsKept}
-use Rattle.step_functions.proofs.Ramps.{IsRamped, ramped, ramp-last, ramp-least, ramp-kept, first-is, the_width}
+use Rattle.step_functions.proofs.Ramps.{ramped, ramp-last, ramp-least, ramp-kept, first-is, the_width}
 use Rattle.step_functions.proofs.function.ConvexFunction.ramp.Goals as goal
 
 pub invariant_of-self : goal.invariant_of-self
