@@ -1,6 +1,6 @@
 -- Units enter a period one by one; and when all have, the period is ready to be filled.
 -- Cite by `use Rattle.decommitment.proofs.Entries.{entered_more}`.
-use Rattle.std.proofs.Common.{◌≡◌, ℕ, suc, ◌+◌, ◌-◌, ◌*◌, ◌<◌, ◌≤◌, inl, ⊎_elim, Bool, true, false, refl, sym, ap, subst, ◌∙◌, arith, List, ℤ, pos, ◌+ℤ◌, ◌-ℤ◌, ◌*ℤ◌, ◌≤ℤ◌, unsigned_abs, slice_set, get_or-set_other, Option, Some, None, MatchOption}
+use Rattle.std.proofs.Common.{◌≡◌, ℕ, zero, suc, ◌+◌, ◌-◌, ◌*◌, ◌<◌, ◌≤◌, inl, ⊎_elim, Bool, true, false, refl, sym, ap, subst, ◌∙◌, arith, List, ℤ, pos, ◌+ℤ◌, ◌-ℤ◌, ◌*ℤ◌, ◌≤ℤ◌, unsigned_abs, slice_set, get_or-set_other, Option, Some, None, MatchOption}
 use Rattle.std.proofs.lemmas.Int.{ints}
 use Rattle.std.proofs.lemmas.Bool.{cases_lt}
 use Rattle.uc_model.specs.Limits.{IsLawfulInstance, IsPower}
@@ -259,6 +259,16 @@ module _ (system : System) (hour : Hour) (base : Base) (of : IsHourOf system hou
         heads = farther now.totals.heads was.sizes.heads;
       };
     }
+
+  -- nor does a stretch of such units change anything
+  pub entered_alike_from : (first n : ℕ) (now : Fill) → first + n ≤ thermal_count instance
+      → ((g : ℕ) → first ≤ g → g < first + n → IsAlike hour base g (renewable_count instance + g))
+      → AreEntered period order (base_parts system hour base) first fill now → AreEntered period order (base_parts system hour base) (first + n) fill now
+  entered_alike_from first zero now within alike was = subst (λ k. AreEntered period order (base_parts system hour base) k fill now) (omega arith) was
+  entered_alike_from first (suc n) now within alike was =
+      subst (λ k. AreEntered period order (base_parts system hour base) k fill now) (omega arith)
+      (entered_alike (first + n) now (omega (arith, within)) (alike (first + n) (omega arith) (omega arith))
+      (entered_alike_from first n now (omega (arith, within)) (λ g low high. alike g low (omega (arith, high))) was))
 
   pub ready_again : (now : Fill) → AreEntered period order (base_parts system hour base) (thermal_count instance) fill now → IsReady period order now
   ready_again now all =

@@ -13,6 +13,7 @@ pub mod Least
 pub mod Entries
 pub mod LevelFills
 pub mod Steps
+pub mod Stretches
 pub mod Settled
 pub mod Parts
 pub mod Begun

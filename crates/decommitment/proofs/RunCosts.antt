@@ -14,11 +14,12 @@ use Rattle.uc_model.specs.Sums.{sum_below}
 use Rattle.uc_model.proofs.Sums.{below_or_last, sum_below-same}
 use Rattle.schedule_check.proofs.AddedSums.{added}
 use Rattle.schedule_check.specs.WholeWatts.{HasPrice, cell, lacking_alone, whole, width}
-use Rattle.dispatch_repair.specs.Amounts.{thermal_amount}
+use Rattle.dispatch_repair.specs.Amounts.{amount_at, thermal_amount}
 use Rattle.dispatch_repair.specs.Dispatch.{IsCommittedCell}
 use Rattle.dispatch_repair.proofs.RowsCommitted.{other_cell, push_each}
 use Rattle.decommitment.specs.DropCommitment.{Instance, Pattern, Printed}
 use Rattle.decommitment.specs.inside.Runs.{Fill, AreDispatched, AreSized, AreUnitCosts, GivesSame, IsCellOf, IsRowOf, IsUnitCost, LacksSo, cost_at, lack_at, outputs_at}
+use Rattle.decommitment.specs.inside.Stretches.{IsSameAt}
 use Rattle.decommitment.proofs.Drops.{dispatch_prices}
 use Rattle.decommitment.proofs.OneDispatch.{one_category}
 use Rattle.decommitment.proofs.Runs.{outputs_here}
@@ -98,6 +99,14 @@ pub amount_read : (instance : Instance) (fills : List Fill) (t g place : ℕ) (f
 amount_read instance fills t g place fill value sized h is hg place_is read =
     get_or_read fill.amounts.items place value (omega (arith, place_is, hg, sized t fill h is)) read (pos 0)
     ∙ (λ i. get_or (sym (outputs_here fills t fill h is) i) (place_is i) (pos 0))
+
+-- what a unit gives in a period is the same where its amounts in two rows are
+pub same_here : (instance : Instance) (old new : List Fill) (t g renewables : ℕ) (a b : Fill) → renewables ≡ renewable_count instance
+    → t < length old → a ≡ get_or old t a → t < length new → b ≡ get_or new t b → IsSameAt renewables a.amounts.items b.amounts.items g
+    → thermal_amount instance (outputs_at old t) g ≡ thermal_amount instance (outputs_at new t) g
+same_here instance old new t g renewables a b count inside_old is_a inside_new is_b same =
+    (λ i. amount_at (outputs_here old t a inside_old is_a i) (sym count i + g))
+    ∙ (same ∙ (λ i. amount_at (sym (outputs_here new t b inside_new is_b) i) (count i + g)))
 
 -- one more cell
 pub row_longer : (instance : Instance) (patterns : List Pattern) (fills : List Fill) (g n : ℕ) (row : List Cell) (one : Cell) → IsRowOf instance patterns fills g n row

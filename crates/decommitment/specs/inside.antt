@@ -2,3 +2,4 @@ pub mod Turns
 pub mod Levels
 pub mod Fills
 pub mod Runs
+pub mod Stretches

@@ -1,9 +1,9 @@
 //! A thermal unit enters a period: its parts of the sums are added, and it gives what the level says.
 
-ghost use Rattle.std.specs.Prelude.{◌≡◌, ◌*◌, ◌<◌, ◌≤◌, IsTrue, MatchOption, length, slice_index_or, slice_set, suc, unsigned_abs};
+ghost use Rattle.std.specs.Prelude.{◌≡◌, ℕ, ◌+◌, ◌*◌, ◌<◌, ◌≤◌, IsTrue, MatchOption, length, slice_index_or, slice_set, suc, unsigned_abs};
 ghost use Rattle.uc_model.specs.Limits.{IsLawfulInstance};
 ghost use Rattle.uc_model.specs.PatternBits.{commitment_of};
-ghost use Rattle.uc_model.specs.Schedule.{thermal_count};
+ghost use Rattle.uc_model.specs.Schedule.{renewable_count, thermal_count};
 ghost use Rattle.dispatch_repair.specs.Amounts.{IsSizedOutput, thermal_amount};
 ghost use Rattle.dispatch_repair.specs.Stuck.{HaveRanges, IsFirstObstacle};
 ghost use Rattle.decommitment.specs.inside.Fills.{AreEntered, AreGiven, AreWide, HasSizes, IsAlike, IsBaseOf, IsEntered, IsHourOf, base_parts, base_period, exchanged_totals as totals_with, hour_period, unit_part as part_of};
@@ -11,6 +11,7 @@ ghost use Rattle.decommitment.specs.inside.Fills.{AreEntered, AreGiven, AreWide,
 use crate::fill::{Base, Fill, Hour, System};
 use crate::level::{exchanged, set_amount};
 use crate::merit::open_at;
+use crate::stretch::{Stretch, are_same, has_unit};
 use dispatch_repair::obstacle::is_empty;
 use dispatch_repair::totals::minimum;
 use dispatch_repair::{Reach, Totals, unit_reach};
@@ -64,15 +65,51 @@ pub(crate) fn enter(
     None
 }
 
-/// The same of a unit in the place of how it was in a commitment that differs in one unit alone; nothing where it is alike in both.
-#[inline]
-pub(crate) fn renew_unit(
+/// The same of each unit of a stretch in the place of how it was in a commitment that differs in one unit alone; nothing of those that are
+/// alike in both.
+pub(crate) fn renew_stretch(
     system: &System,
     hour: &Hour,
     base: &Base,
     fill: &mut Fill,
-    g: usize,
+    stretch: Stretch,
 ) -> Option<Why>
+    requires hour { IsHourOf system.now hour.now }
+    requires base { IsBaseOf system.now hour.now base.now }
+    requires order { stretch.from ≤ stretch.to }
+    requires within { stretch.to ≤ thermal_count system.now.instance.now }
+    requires entered { AreEntered (hour_period system.now hour.now) system.now.merit.now.order.items (base_parts system.now hour.now base.now)
+        stretch.from base.now.fill.now fill.old }
+    ensures count { length fill.new.amounts.items ≡ length fill.old.amounts.items }
+    ensures entered { MatchOption result (AreEntered (hour_period system.now hour.now) system.now.merit.now.order.items
+        (base_parts system.now hour.now base.now) stretch.to base.now.fill.now fill.new) (IsFirstObstacle (hour_period system.now hour.now)) }
+{
+    if are_alike(system.instance, hour, base, stretch) {
+        return None;
+    }
+    for g in stretch.from..stretch.to {
+        if let Some(why) = renew_unit(system, hour, base, fill, g) {
+            return Some(why);
+        }
+    }
+    None
+}
+
+// Whether none of a stretch's units is the one that differs, and each gave as much before.
+fn are_alike(instance: &Instance, hour: &Hour, base: &Base, stretch: Stretch) -> bool
+    requires hour { renewable_count instance.now + stretch.to ≤ length hour.now.before.now }
+    requires base { renewable_count instance.now + stretch.to ≤ length base.now.before.now }
+    ensures { IsTrue result → ((g : ℕ) → stretch.from ≤ g → g < stretch.to → IsAlike hour.now base.now g (renewable_count instance.now + g)) }
+{
+    if has_unit(stretch, base.g) {
+        return false;
+    }
+    let renewables = instance.renewable.as_slice().len();
+    are_same(hour.before, base.before, renewables, stretch)
+}
+
+// The same of one unit.
+fn renew_unit(system: &System, hour: &Hour, base: &Base, fill: &mut Fill, g: usize) -> Option<Why>
     requires hour { IsHourOf system.now hour.now }
     requires base { IsBaseOf system.now hour.now base.now }
     requires unit { g < thermal_count system.now.instance.now }
@@ -92,7 +129,6 @@ pub(crate) fn renew_unit(
 }
 
 // Whether unit g, at place n of the sources, isn't the one that differs, and gave as much before.
-#[inline]
 fn is_alike(hour: &Hour, base: &Base, g: usize, n: usize) -> bool
     requires hour { n < length hour.now.before.now }
     requires base { n < length base.now.before.now }

@@ -8,9 +8,10 @@ ghost use Rattle.dispatch_repair.specs.Segments.{source_count};
 ghost use Rattle.dispatch_repair.specs.Totals.{AreSizedTotals, IsSizedLeft, IsSizedSum};
 ghost use Rattle.decommitment.specs.inside.Fills.{ComesTo, IsBaseOf, IsBegun, IsBegunTo, IsClear, IsCopy, IsHourOf, IsMet, IsReady, IsSizedAim, IsStarted, hour_period, no_given, no_part, no_totals};
 
-use crate::entry::{Part, enter, renew_unit};
+use crate::entry::{Part, enter, renew_stretch};
 use crate::level::{missing, set_amount, walk};
 use crate::merit::Merit;
+use crate::stretch::stretch_from;
 use dispatch_repair::ranges::renewable_range;
 use dispatch_repair::totals::with_range;
 use dispatch_repair::{Left, Range, Reach, Shortage, Totals, imbalance, start_of};
@@ -233,10 +234,14 @@ fn renew_all(system: &System, hour: &Hour, base: &Base, fill: &mut Fill) -> Opti
     ensures ready { MatchOption result (IsReady (hour_period system.now hour.now) system.now.merit.now.order.items fill.new)
         (IsFirstObstacle (hour_period system.now hour.now)) }
 {
-    for g in 0..system.instance.thermal.as_slice().len() {
-        if let Some(why) = renew_unit(system, hour, base, fill, g) {
+    let units = system.instance.thermal.as_slice().len();
+    let mut done = 0;
+    while done < units {
+        let stretch = stretch_from(done, units);
+        if let Some(why) = renew_stretch(system, hour, base, fill, stretch) {
             return Some(why);
         }
+        done = stretch.to;
     }
     None
 }

@@ -13,6 +13,7 @@ mod plain;
 mod price;
 mod run;
 mod stand;
+mod stretch;
 
 pub use one_dispatch::commitments_have_one_dispatch;
 pub use pass::{Standing, drop_pass};

@@ -6,10 +6,12 @@ ghost use Rattle.uc_model.specs.Schedule.{thermal_count};
 ghost use Rattle.uc_model.specs.Sums.{sum_below};
 ghost use Rattle.decommitment.specs.DropCommitment.{Printed};
 ghost use Rattle.decommitment.specs.inside.Runs.{AreUnitCosts, GivesSame, IsCellOf, IsChanged, IsRowOf, IsTrialOf, IsUnitCost, LacksSo, cost_at, lack_at};
+ghost use Rattle.decommitment.specs.inside.Stretches.{IsMarked};
 ghost use Rattle.decommitment.specs.declared.stand.Trial.TheVariants as trial;
 
 use crate::fill::Fill;
 use crate::run::Origin;
+use crate::stretch::{has_mark, keep_same};
 use dispatch_repair::committed_cell;
 use schedule_check::{row_cost, shortages_cost};
 use std::alloc::Global;
@@ -48,46 +50,62 @@ fn price_units(alloc: Global, changed: &Changed, costs: &mut [i128]) -> Result<i
     ensures total { IfOk result (λ total. total ≡ sum_below (thermal_count changed.now.instance.now) (cost_at costs.new)) }
     ensures size { IfOk result (λ total. unsigned_abs total ≤ 4096 * (168 * 2 ^ 64)) }
 {
+    let same = same_units(alloc, changed)?;
     let mut total = 0;
     for g in 0..changed.instance.thermal.as_slice().len() {
-        let cost = unit_cost(alloc, changed, g)?;
+        let cost = unit_cost(alloc, changed, g, has_mark(&same, g))?;
         costs[g] = cost;
         total = sum(total, cost);
     }
     Ok(total)
 }
 
+// Whether each unit gives the same in each period of both runs.
+fn same_units(alloc: Global, changed: &Changed) -> Result<Vec<bool>, NoMemory>
+    requires changed { IsChanged changed.now }
+    ensures count { IfOk result (λ same. length same.items ≡ thermal_count changed.now.instance.now) }
+    ensures same { IfOk result (λ same. (g : ℕ) → g < length same.items → IsMarked same.items g
+        → GivesSame changed.now.instance.now g changed.now.origin.now.run.now.fills.items changed.now.fills.now) }
+{
+    let units = changed.instance.thermal.as_slice().len();
+    if changed.origin.run.fills.len() != changed.fills.len() {
+        return Ok(vec![in alloc; false; units]?);
+    }
+    let mut same = vec![in alloc; true; units]?;
+    keep_all(changed, &mut same);
+    Ok(same)
+}
+
+// Takes the marks from the units that don't give the same in each period of both runs, of which there are as many.
+fn keep_all(changed: &Changed, marks: &mut [bool])
+    requires changed { IsChanged changed.now }
+    requires periods { length changed.now.origin.now.run.now.fills.items ≡ length changed.now.fills.now }
+    requires units { length marks.old ≡ thermal_count changed.now.instance.now }
+    ensures count { length marks.new ≡ length marks.old }
+    ensures same { (g : ℕ) → g < length marks.new → IsMarked marks.new g
+        → GivesSame changed.now.instance.now g changed.now.origin.now.run.now.fills.items changed.now.fills.now }
+{
+    let renewables = changed.instance.renewable.as_slice().len();
+    let stood = changed.origin.run.fills.as_slice();
+    for t in 0..changed.fills.len() {
+        let was = stood[t].amounts.as_slice();
+        let is = changed.fills[t].amounts.as_slice();
+        keep_same(was, is, renewables, marks);
+    }
+}
+
 // What unit g costs: what it does in the origin's run, where it has the same pattern there and gives the same.
-fn unit_cost(alloc: Global, changed: &Changed, g: usize) -> Result<i128, NoMemory>
+fn unit_cost(alloc: Global, changed: &Changed, g: usize, is_same: bool) -> Result<i128, NoMemory>
     requires changed { IsChanged changed.now }
     requires unit { g < thermal_count changed.now.instance.now }
+    requires same { IsTrue is_same → GivesSame changed.now.instance.now g changed.now.origin.now.run.now.fills.items changed.now.fills.now }
     ensures { IfOk result (IsUnitCost changed.now.instance.now changed.now.patterns.now changed.now.fills.now g) }
 {
-    if g != changed.origin.g && gives_same(changed, g) {
+    if g != changed.origin.g && is_same {
         Ok(changed.origin.run.costs[g])
     } else {
         price_row(alloc, changed, g)
     }
-}
-
-// Whether unit g gives the same in each period of both runs.
-fn gives_same(changed: &Changed, g: usize) -> bool
-    requires changed { IsChanged changed.now }
-    requires unit { g < thermal_count changed.now.instance.now }
-    ensures { IsTrue result → GivesSame changed.now.instance.now g changed.now.origin.now.run.now.fills.items changed.now.fills.now }
-{
-    let stood = changed.origin.run.fills.as_slice();
-    let fills = changed.fills;
-    if stood.len() != fills.len() {
-        return false;
-    }
-    let place = changed.instance.renewable.as_slice().len() + g;
-    for t in 0..fills.len() {
-        if stood[t].amounts[place] != fills[t].amounts[place] {
-            return false;
-        }
-    }
-    true
 }
 
 // What unit g's cells cost.

@@ -6,12 +6,12 @@ use Rattle.decommitment.specs.inside.Runs.{IsUnitCost, cost_at}
 use Rattle.decommitment.proofs.RunCosts.{carried}
 use Rattle.decommitment.proofs.price.unit_cost.Goals as goal
 
-pub returns-then-gives_same : goal.returns-then-gives_same
-returns-then-gives_same c =
+pub returns-then-is_same : goal.returns-then-is_same
+returns-then-is_same c =
     let changed = c.args.changed.now in
     let instance = changed.instance.now in
     let origin = changed.origin.now in
-    let same = c.gives_same.ensures c.if-gives_same.true in
+    let same = c.requires.same c.if-is_same.true in
     let known = c.requires.changed.known in
     let all = c.requires.changed.dispatched.all in
     let stood = c.index.result.now in
