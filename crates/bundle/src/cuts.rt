@@ -4,6 +4,7 @@
 //! square of its length over twice the stride. It is the stride times a mean of the cuts' slopes, and the weights of this mean are
 //! found by moving weight from the highest of the weighted cuts to the lowest cut.
 
+use crate::field::Field;
 use crate::numbers::{at, narrow, times, within, word};
 use crate::products::{Products, add_multiple};
 use std::alloc::Global;
@@ -72,10 +73,9 @@ pub struct Bundle {
     caps: (i64, i64),
 }
 
-/// A move of each price, those that aren't 0 by their places, and by how much the bound rises at most with them.
+/// The moves of the prices that move, by their places in rising order, and by how much the bound rises at most with them.
 #[derive(Drop)]
 pub struct Move {
-    pub moves: Vec<i64>,
     pub moved: Vec<(usize, i64)>,
     pub predicted: i128,
 }
@@ -153,7 +153,7 @@ impl Bundle {
 
     /// The first cut, with all weight, by which the first step is to raise the bound by so much.
     pub fn begin(&mut self, alloc: Global, cut: Cut, rise: i128) -> Result<(), NoMemory> {
-        let slopes = moved(alloc, &cut.slopes)?;
+        let slopes = by_place(alloc, &cut.slopes)?;
         let length = self.change(&cut.slopes, &slopes).max(1);
         let rise = rise.saturating_mul(i128::from(PART));
         self.stride = within(rise / length, LONGEST).max(1);
@@ -196,42 +196,35 @@ impl Bundle {
 
     /// The move from the centre, at which the bound is some `size`.
     pub fn step(&mut self, alloc: Global, center: &[i64], size: i128) -> Result<Move, NoMemory> {
-        let mut moves = self.moves(alloc, center)?;
+        let field = Field::of(alloc, &self.cuts, center, self.free)?;
+        let mut moves = self.moves(alloc, &field)?;
         for _ in 0..PASSES {
-            self.balance(alloc, center, &moves, size)?;
-            let next = self.moves(alloc, center)?;
-            let same = self.are_same_bounds(center, &moves, &next);
+            self.balance(alloc, &field, &moves, size)?;
+            let next = self.moves(alloc, &field)?;
+            let same = self.are_same_bounds(&field, &moves, &next, center.len());
             moves = next;
             if same {
                 break;
             }
         }
-        let moved = moved(alloc, &moves)?;
+        let moved = moved(alloc, &field.places, &moves)?;
         let predicted = self.predicted(&moved);
-        Ok(Move {
-            moves,
-            moved,
-            predicted,
-        })
+        Ok(Move { moved, predicted })
     }
 
-    // The move by the weights, that of a price which would end at or below 0, where it may not, being to 0, and that of one which would end
-    // at or above its cap to that.
-    fn moves(&self, alloc: Global, center: &[i64]) -> Result<Vec<i64>, NoMemory> {
-        let sums = self.sums(alloc, center.len())?;
-        let mut moves = Vec::new(alloc);
-        for (i, price) in center.iter().enumerate() {
-            moves.push(self.move_of(i, *price, at(&sums, i)))?;
+    // The moves of a field's prices by the weights, that of a price which would end at or below 0, where it may not, being to 0, and that of
+    // one which would end at or above its cap to that.
+    fn moves(&self, alloc: Global, field: &Field) -> Result<Vec<i64>, NoMemory> {
+        let mut moves = self.sums(alloc, field)?;
+        let prices = field.places.iter().zip(&field.prices);
+        for (own, (i, price)) in moves.iter_mut().zip(prices) {
+            *own = self.move_of(*i, *price, *own);
         }
         Ok(moves)
     }
 
     // The move of price i, by the weighted sum of the cuts' slopes in it.
     fn move_of(&self, i: usize, price: i64, sum: i64) -> i64 {
-        // Most prices of ramps stay at 0.
-        if i >= self.free && price == 0 && sum <= 0 {
-            return 0;
-        }
         let mean = (sum / PART).saturating_mul(self.metric_at(i));
         let by = narrow(times(self.stride, mean) / i128::from(WHOLE));
         if i >= self.free && price.saturating_add(by) <= 0 {
@@ -243,12 +236,12 @@ impl Bundle {
         }
     }
 
-    // The weighted sum of the cuts' slopes in each price.
-    fn sums(&self, alloc: Global, count: usize) -> Result<Vec<i64>, NoMemory> {
-        let mut sums = vec![in alloc; 0_i64; count]?;
-        for cut in &self.cuts {
+    // The weighted sum of the cuts' slopes in each price of a field.
+    fn sums(&self, alloc: Global, field: &Field) -> Result<Vec<i64>, NoMemory> {
+        let mut sums = vec![in alloc; 0_i64; field.places.len()]?;
+        for (cut, slopes) in self.cuts.iter().zip(&field.slopes) {
             if cut.weight > 0 {
-                add_multiple(&mut sums, &cut.slopes, cut.weight);
+                add_multiple(&mut sums, slopes, cut.weight);
             }
         }
         Ok(sums)
@@ -258,14 +251,16 @@ impl Bundle {
     fn balance(
         &mut self,
         alloc: Global,
-        center: &[i64],
+        field: &Field,
         moves: &[i64],
         size: i128,
     ) -> Result<(), NoMemory> {
         let reach = self.stride.saturating_mul(self.unit());
-        let active = self.active(alloc, center, moves)?;
-        self.recount(alloc, &active)?;
-        let mut heights = self.heights(alloc, moves, &active, reach)?;
+        let mut active = Vec::new(alloc);
+        let mut stopped = Vec::new(alloc);
+        self.part(field, moves, &mut active, &mut stopped)?;
+        self.products.count(alloc, &self.cuts, active)?;
+        let mut heights = self.heights(alloc, &stopped, reach)?;
         let enough = size / 10_000_000;
         for _ in 0..SHIFTS {
             let ends = self.ends(&heights);
@@ -282,49 +277,51 @@ impl Bundle {
         Ok(())
     }
 
-    // Counts these prices in the products, and no others.
-    fn recount(&mut self, alloc: Global, active: &[bool]) -> Result<(), NoMemory> {
-        self.products.count(alloc, &self.cuts, active)
+    // Parts a field's prices by their moves: the places of those that end neither at 0, where they may not be below it, nor at their caps;
+    // and of the others the moves that aren't 0.
+    fn part(
+        &self,
+        field: &Field,
+        moves: &[i64],
+        active: &mut Vec<usize>,
+        stopped: &mut Vec<(usize, i64)>,
+    ) -> Result<(), NoMemory> {
+        let prices = field.places.iter().zip(&field.prices);
+        for (by, (i, price)) in moves.iter().zip(prices) {
+            if !self.is_at_end(*i, price.saturating_add(*by)) {
+                active.push(*i)?;
+            } else if *by != 0 {
+                stopped.push((*i, *by))?;
+            }
+        }
+        Ok(())
     }
 
-    // The heights of the cuts after the move, by the products over the prices that are active.
+    // The heights of the cuts after the moves, by the products over the prices that are active, and by the moves of the others.
     fn heights(
         &self,
         alloc: Global,
-        moves: &[i64],
-        active: &[bool],
+        stopped: &[(usize, i64)],
         reach: i64,
     ) -> Result<Vec<i128>, NoMemory> {
-        let stopped = stopped(alloc, moves, active)?;
         let mut heights = Vec::new(alloc);
         for (cut, row) in self.cuts.iter().zip(&self.products.rows) {
-            let fixed = self.fixed(cut, &stopped);
+            let fixed = self.fixed(cut, stopped);
             heights.push(fixed.saturating_add(along(self.mean_product(row), reach)))?;
         }
         Ok(heights)
     }
 
-    // Which prices end neither at 0, where they may not be below it, nor at their caps.
-    fn active(&self, alloc: Global, center: &[i64], moves: &[i64]) -> Result<Vec<bool>, NoMemory> {
-        let mut active = Vec::new(alloc);
-        for (i, price) in center.iter().enumerate() {
-            active.push(!self.is_at_end(i, price.saturating_add(at(moves, i))))?;
-        }
-        Ok(active)
-    }
-
-    // Whether nearly the same prices end at 0 or at their caps.
-    fn are_same_bounds(&self, center: &[i64], first: &[i64], second: &[i64]) -> bool {
+    // Whether nearly the same of a field's prices end at 0 or at their caps, in proportion to so many prices in all.
+    fn are_same_bounds(&self, field: &Field, first: &[i64], second: &[i64], all: usize) -> bool {
         let mut changed: usize = 0;
-        for (i, (price, (a, b))) in center.iter().zip(first.iter().zip(second)).enumerate() {
-            // Most prices don't move at all.
-            if *a != *b
-                && self.is_one_at_end(i, price.saturating_add(*a), price.saturating_add(*b))
-            {
+        let prices = field.places.iter().zip(&field.prices);
+        for ((i, price), (a, b)) in prices.zip(first.iter().zip(second)) {
+            if self.is_one_at_end(*i, price.saturating_add(*a), price.saturating_add(*b)) {
                 changed = changed.saturating_add(1);
             }
         }
-        changed.saturating_mul(10_000) <= center.len()
+        changed.saturating_mul(10_000) <= all
     }
 
     // Whether one of two values of price i is 0 or its cap and the other one isn't.
@@ -667,23 +664,23 @@ fn slope_of(watts: i64, doublings: u32) -> i64 {
     }
 }
 
-// The moves of the prices that don't count.
-fn stopped(alloc: Global, moves: &[i64], active: &[bool]) -> Result<Vec<(usize, i64)>, NoMemory> {
-    let mut stopped = Vec::new(alloc);
-    for (i, (by, moves_freely)) in moves.iter().zip(active).enumerate() {
-        if *by != 0 && !*moves_freely {
-            stopped.push((i, *by))?;
+// The numbers that aren't 0, by their places.
+fn by_place(alloc: Global, numbers: &[i64]) -> Result<Vec<(usize, i64)>, NoMemory> {
+    let mut found = Vec::new(alloc);
+    for (i, number) in numbers.iter().enumerate() {
+        if *number != 0 {
+            found.push((i, *number))?;
         }
     }
-    Ok(stopped)
+    Ok(found)
 }
 
-// The moves that aren't 0, by their places.
-fn moved(alloc: Global, moves: &[i64]) -> Result<Vec<(usize, i64)>, NoMemory> {
+// The moves that aren't 0, by the places of their prices.
+fn moved(alloc: Global, places: &[usize], moves: &[i64]) -> Result<Vec<(usize, i64)>, NoMemory> {
     let mut moved = Vec::new(alloc);
-    for (i, by) in moves.iter().enumerate() {
+    for (i, by) in places.iter().zip(moves) {
         if *by != 0 {
-            moved.push((i, *by))?;
+            moved.push((*i, *by))?;
         }
     }
     Ok(moved)

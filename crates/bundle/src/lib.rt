@@ -3,6 +3,7 @@
 #![tactic(auto)]
 
 mod cuts;
+mod field;
 mod numbers;
 mod products;
 

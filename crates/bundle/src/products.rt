@@ -5,12 +5,12 @@ use crate::numbers::at;
 use std::alloc::Global;
 use uc_model::NoMemory;
 
-/// The products, a row for each cut, and which prices count in them. Sums go round at the ends of their type, so that a price can
-/// be taken out of them again.
+/// The products, a row for each cut, and the places of the prices that count in them, in rising order. Sums go round at the ends of their
+/// type, so that a price can be taken out of them again.
 #[derive(Drop)]
 pub(crate) struct Products {
     pub rows: Vec<Vec<i64>>,
-    counted: Vec<bool>,
+    counted: Vec<usize>,
 }
 
 impl Products {
@@ -22,31 +22,32 @@ impl Products {
         }
     }
 
-    /// Counts these prices and no others.
+    /// Counts the prices at these places, in rising order, and no others.
     pub(crate) fn count(
         &mut self,
         alloc: Global,
         cuts: &[Cut],
-        active: &[bool],
+        active: Vec<usize>,
     ) -> Result<(), NoMemory> {
-        if self.rows.len() != cuts.len() || self.counted.len() != active.len() {
-            self.forget(alloc, cuts.len(), active.len())?;
+        if self.rows.len() != cuts.len() {
+            self.forget(alloc, cuts.len())?;
         }
-        let changes = changes(alloc, &self.counted, active)?;
+        let changes = changes(alloc, &self.counted, &active)?;
         let mut slopes = vec![in alloc; 0_i64; cuts.len()]?;
         for (i, counts) in &changes {
             self.turn(cuts, *i, *counts, &mut slopes);
         }
+        self.counted = active;
         Ok(())
     }
 
     // As many rows of noughts, in which no price counts.
-    fn forget(&mut self, alloc: Global, cuts: usize, prices: usize) -> Result<(), NoMemory> {
+    fn forget(&mut self, alloc: Global, cuts: usize) -> Result<(), NoMemory> {
         self.rows.clear();
         for _ in 0..cuts {
             self.rows.push(vec![in alloc; 0_i64; cuts]?)?;
         }
-        self.counted = vec![in alloc; false; prices]?;
+        self.counted.clear();
         Ok(())
     }
 
@@ -59,9 +60,6 @@ impl Products {
             let slope = if counts { *slope } else { slope.wrapping_neg() };
             add_multiple(row, slopes, slope);
         }
-        if let Some(own) = self.counted.get_mut(i) {
-            *own = counts;
-        }
     }
 
     /// Adds the row of the last of the cuts, which is new.
@@ -69,10 +67,9 @@ impl Products {
         let Some(newest) = cuts.last() else {
             return Ok(());
         };
-        let places = places(alloc, &self.counted)?;
         let mut row = Vec::new(alloc);
         for cut in cuts {
-            row.push(product_over(&places, &newest.slopes, &cut.slopes))?;
+            row.push(product_over(&self.counted, &newest.slopes, &cut.slopes))?;
         }
         for (own, product) in self.rows.iter_mut().zip(&row) {
             own.push(*product)?;
@@ -107,30 +104,36 @@ impl Products {
     }
 }
 
-// The prices that are to count and don't, or the other way round, and whether each is to.
+// The prices that are to count and don't, or the other way round, and whether each is to, by places in rising order.
 fn changes(
     alloc: Global,
-    counted: &[bool],
-    active: &[bool],
+    counted: &[usize],
+    active: &[usize],
 ) -> Result<Vec<(usize, bool)>, NoMemory> {
     let mut changes = Vec::new(alloc);
-    for (i, (was, is)) in counted.iter().zip(active).enumerate() {
-        if *was != *is {
-            changes.push((i, *is))?;
+    let (mut k, mut j) = (0_usize, 0_usize);
+    for _ in 0..counted.len().saturating_add(active.len()) {
+        match (counted.get(k), active.get(j)) {
+            (Some(was), Some(is)) if *was == *is => {
+                k = k.saturating_add(1);
+                j = j.saturating_add(1);
+            }
+            (Some(was), Some(is)) if *is < *was => {
+                changes.push((*is, true))?;
+                j = j.saturating_add(1);
+            }
+            (Some(was), _) => {
+                changes.push((*was, false))?;
+                k = k.saturating_add(1);
+            }
+            (None, Some(is)) => {
+                changes.push((*is, true))?;
+                j = j.saturating_add(1);
+            }
+            (None, None) => break,
         }
     }
     Ok(changes)
-}
-
-// The prices that count.
-fn places(alloc: Global, counted: &[bool]) -> Result<Vec<usize>, NoMemory> {
-    let mut places = Vec::new(alloc);
-    for (i, counts) in counted.iter().enumerate() {
-        if *counts {
-            places.push(i)?;
-        }
-    }
-    Ok(places)
 }
 
 // The product of two cuts' slopes over these prices.

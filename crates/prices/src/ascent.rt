@@ -425,7 +425,7 @@ fn climb(
             settle(alloc, center)?;
             center.bundle.try_another_stride(step.predicted);
         } else {
-            move_to(&mut center.tried, &center.prices, &step.moves)?;
+            move_to(&mut center.tried, &center.prices, &step.moved)?;
             let memory = memory_of(alloc, &mut center.bundle);
             match hill.evaluate(instance, &center.tried, memory)? {
                 Some(found) if found.value > sizes.most => {
@@ -614,11 +614,14 @@ fn shorten(center: &mut Center, gain: i128, predicted: i128) {
     }
 }
 
-// Makes it the prices after the moves.
-fn move_to(moved: &mut Vec<i64>, prices: &[i64], moves: &[i64]) -> Result<(), NoMemory> {
-    moved.clear();
-    for i in 0..prices.len().min(moves.len()) {
-        moved.push(prices[i].saturating_add(moves[i]))?;
+// Makes it the prices after the moves of those at some places.
+fn move_to(tried: &mut Vec<i64>, prices: &[i64], moved: &[(usize, i64)]) -> Result<(), NoMemory> {
+    tried.clear();
+    tried.extend_from_slice(prices)?;
+    for (i, by) in moved {
+        if let Some(price) = tried.get_mut(*i) {
+            *price = price.saturating_add(*by);
+        }
     }
     Ok(())
 }

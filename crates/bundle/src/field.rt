@@ -1,0 +1,62 @@
+//! The prices that a step can move.
+
+use crate::cuts::Cut;
+use crate::numbers::at;
+use std::alloc::Global;
+use uc_model::NoMemory;
+
+/// The prices that a step can move: their places, in rising order, where they stand, and each cut's slopes in them. The others stand at 0,
+/// may not be below it, and by no cut the bound rises with them: most prices of ramps do.
+#[derive(Drop)]
+pub(crate) struct Field {
+    pub places: Vec<usize>,
+    pub prices: Vec<i64>,
+    pub slopes: Vec<Vec<i64>>,
+}
+
+impl Field {
+    /// The field of these cuts around a centre, of whose prices so many may be below 0, which come first. The only error is `NoMemory`.
+    pub(crate) fn of(
+        alloc: Global,
+        cuts: &[Cut],
+        center: &[i64],
+        free: usize,
+    ) -> Result<Field, NoMemory> {
+        let mut places = Vec::new(alloc);
+        for (i, highest) in highest(alloc, cuts, center)?.iter().enumerate() {
+            if i < free || *highest > 0 {
+                places.push(i)?;
+            }
+        }
+        let prices = entries(alloc, center, &places)?;
+        let mut slopes = Vec::new(alloc);
+        for cut in cuts {
+            slopes.push(entries(alloc, &cut.slopes, &places)?)?;
+        }
+        Ok(Field {
+            places,
+            prices,
+            slopes,
+        })
+    }
+}
+
+// The greatest of each price and the cuts' slopes in it.
+fn highest(alloc: Global, cuts: &[Cut], center: &[i64]) -> Result<Vec<i64>, NoMemory> {
+    let mut highest = center.to_vec(alloc)?;
+    for cut in cuts {
+        for (own, slope) in highest.iter_mut().zip(&cut.slopes) {
+            *own = (*own).max(*slope);
+        }
+    }
+    Ok(highest)
+}
+
+// The entries of a list at these places.
+fn entries(alloc: Global, numbers: &[i64], places: &[usize]) -> Result<Vec<i64>, NoMemory> {
+    let mut entries = Vec::with_capacity(alloc, places.len())?;
+    for i in places {
+        entries.push(at(numbers, *i))?;
+    }
+    Ok(entries)
+}
