@@ -2,7 +2,7 @@
 //! target's place once it is whole.
 
 use std::fs::{Metadata, OpenFile, OpenOptions};
-use std::io::{ErrorKind, Write};
+use std::io::{BufWriter, ErrorKind, Write};
 use std::os::unix::fs::MetadataExt;
 use std::path::PathBuf;
 use std::{fs, io};
@@ -35,18 +35,18 @@ pub(crate) struct Draft {
 
 /// A file of the system that is open, its draft where it is one, and what it is where it was opened to be read.
 #[derive(Drop)]
-pub(crate) struct Opened<H> {
-    pub file: H,
+pub(crate) struct Opened<F> {
+    pub file: F,
     pub draft: Option<Draft>,
     pub identity: Option<FileIdentity>,
 }
 
-impl<H: Write + OpenFile + Drop> Opened<H> {
+impl<H: Write + OpenFile + Drop> Opened<BufWriter<H>> {
     /// Hands on what was written, and puts a draft in its target's place.
     pub fn finish(&mut self, rt: &impl std::rt::Files) -> io::Result<()> {
         self.file.flush()?;
         if let Some(draft) = &self.draft {
-            self.file.sync_all()?;
+            self.file.get_ref().sync_all()?;
             draft.publish(rt)?;
         }
         Ok(())
@@ -58,7 +58,7 @@ impl Draft {
     fn make<R: std::rt::Files + AllocGlobal>(
         rt: &R,
         target: PathBuf,
-    ) -> io::Result<Opened<R::File>> {
+    ) -> io::Result<Opened<BufWriter<R::File>>> {
         for number in 0..u64::MAX {
             let name = format!(in rt.alloc(); "uc-{number}.draft")?;
             let path = target.as_path().with_file_name(rt.alloc(), name.as_str())?;
@@ -67,18 +67,31 @@ impl Draft {
                 .create_new(true)
                 .open(rt, path.as_path());
             match made {
-                Ok(file) => {
-                    return Ok(Opened {
-                        file,
-                        draft: Some(Draft { path, target }),
-                        identity: None,
-                    });
-                }
+                Ok(file) => return Draft { path, target }.opened(rt, file),
                 Err(error) if error.kind() == ErrorKind::AlreadyExists => {}
                 Err(error) => return Err(error),
             }
         }
         Err(io::Error::from(ErrorKind::AlreadyExists))
+    }
+
+    /// The file, which is removed where there is no memory for what waits to be written.
+    fn opened<R: std::rt::Files + AllocGlobal>(
+        self,
+        rt: &R,
+        file: R::File,
+    ) -> io::Result<Opened<BufWriter<R::File>>> {
+        match BufWriter::new(rt.alloc(), file) {
+            Ok(file) => Ok(Opened {
+                file,
+                draft: Some(self),
+                identity: None,
+            }),
+            Err(error) => {
+                self.discard(rt);
+                Err(error)
+            }
+        }
     }
 
     /// Puts the file in its target's place.
@@ -99,7 +112,7 @@ pub(crate) fn open_target<R: std::rt::Files + AllocGlobal>(
     rt: &R,
     name: &str,
     read: &[Option<FileIdentity>],
-) -> io::Result<Opened<R::File>> {
+) -> io::Result<Opened<BufWriter<R::File>>> {
     match OpenOptions::new().write(true).open(rt, name) {
         Ok(file) => {
             let found = file.metadata()?;
@@ -108,7 +121,7 @@ pub(crate) fn open_target<R: std::rt::Files + AllocGlobal>(
             }
             if !found.is_file() {
                 return Ok(Opened {
-                    file,
+                    file: BufWriter::with_capacity(rt.alloc(), 0, file)?,
                     draft: None,
                     identity: None,
                 });
@@ -127,14 +140,14 @@ fn replacement<R: std::rt::Files + AllocGlobal>(
     rt: &R,
     name: &str,
     found: &Metadata,
-) -> io::Result<Opened<R::File>> {
+) -> io::Result<Opened<BufWriter<R::File>>> {
     let target = end_of_links(rt, name)?;
     let place = FileIdentity::of(&fs::symlink_metadata(rt, target.as_path())?);
     if place != FileIdentity::of(found) || is_stream(rt, place) {
         return Err(io::Error::from(ErrorKind::InvalidInput));
     }
     let opened = Draft::make(rt, target)?;
-    if let Err(error) = opened.file.set_permissions(found.permissions()) {
+    if let Err(error) = opened.file.get_ref().set_permissions(found.permissions()) {
         if let Some(draft) = &opened.draft {
             draft.discard(rt);
         }

@@ -7,7 +7,7 @@ ghost use Rattle.outside_system.specs.System.{untold_slot};
 use crate::draft::{FileIdentity, Opened, open_target};
 use outside::{Device, Devices, Failed, Files, Slot, counted, counted_write};
 use std::fs::OpenFile;
-use std::io::{ErrorKind, Read, Write};
+use std::io::{BufWriter, ErrorKind, Read, Write};
 use std::{fs, io};
 
 /// What a file of the system is opened for.
@@ -21,9 +21,9 @@ pub enum Access {
 
 /// A file of the system at its stage.
 #[derive(Drop)]
-enum Handle<H> {
+enum Handle<F> {
     Unopened,
-    Open(Opened<H>),
+    Open(Opened<F>),
     /// It was given up after a fault.
     Lost,
     Finished,
@@ -34,15 +34,17 @@ enum Handle<H> {
 /// What is written stands at the name once it is finished and not before: a regular file, or one
 /// that isn't there yet, is written as a new file beside it, which takes its place then. After a
 /// fault in writing the new file is removed, and no later call succeeds. A device or a pipe is
-/// written as it stands.
+/// written as it stands. What is written to a new file waits until there is no room for more, or
+/// until it is finished, so that a fault may come later than the piece that met it.
 ///
-/// It tells no content. Each error of the system is counted, an interrupted call too, and so is a
-/// write that takes no byte of a piece that has some.
+/// It tells no content. Each error of the system is counted, and so is a write that takes no byte
+/// of a piece that has some. An interrupted call is made again where what waits is handed on; else
+/// it is an error too.
 #[derive(Drop)]
 pub struct SystemFile<'a, R: std::rt::Files> {
     rt: &'a R,
     pub access: Access,
-    handle: Handle<R::File>,
+    handle: Handle<BufWriter<R::File>>,
     /// The file that was opened to be read.
     identity: Option<FileIdentity>,
     /// The files that may not be written.
@@ -74,13 +76,13 @@ impl<'a, R: std::rt::Files + AllocGlobal> SystemFile<'a, R> {
     }
 
     /// Opens the file of the system.
-    fn opened(&self, name: &str) -> io::Result<Opened<R::File>> {
+    fn opened(&self, name: &str) -> io::Result<Opened<BufWriter<R::File>>> {
         match self.access {
             Access::Read => {
                 let file = fs::open(self.rt, name)?;
                 let identity = FileIdentity::of(&file.metadata()?);
                 Ok(Opened {
-                    file,
+                    file: BufWriter::with_capacity(self.rt.alloc(), 0, file)?,
                     draft: None,
                     identity: Some(identity),
                 })
@@ -125,7 +127,7 @@ impl<'a, R: std::rt::Files + AllocGlobal> Device for SystemFile<'a, R> {
 
     fn read(&mut self, buf: &mut [u8]) -> Result<usize, Failed> {
         let read = match &mut self.handle {
-            Handle::Open(opened) => opened.file.read(buf),
+            Handle::Open(opened) => opened.file.get_mut().read(buf),
             Handle::Lost => Err(lost()),
             _ => unreachable!(),
         };
