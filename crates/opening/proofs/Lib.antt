@@ -1,2 +1,3 @@
-pub mod Patterns
 pub mod OpeningRays
+pub mod Paths
+pub mod Patterns

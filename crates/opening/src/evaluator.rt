@@ -9,26 +9,29 @@ ghost use Rattle.dual_model.specs.NodeAnswer.{IsValued, MAX_VALUE};
 ghost use Rattle.dual_model.specs.NodeValue.{IsNodeValue};
 ghost use Rattle.dual_model.specs.Prices.{IsLawfulTable};
 ghost use Rattle.dual_model.specs.Tree.{HasEachPattern, root};
-ghost use Rattle.dual_value.specs.NodeAnswer.{IsFaultOf};
+ghost use Rattle.dual_value.specs.NodeAnswer.{HasSizes, IsFaultOf};
 ghost use Rattle.opening_tables.specs.Marginal.{IsMarginalTable};
 ghost use Rattle.opening.specs.Outcomes.{IsOutcomeAt};
 
+use crate::kept::{Kept, inherited};
 use branch_tree::Outcome;
 use dual_model::{Node, Table};
-use dual_value::{Room, ValueFault, Valued, value_in};
+use dual_value::{Room, ValueFault, Valued, child, value_in};
 use opening_tables::{marginal_in, unpriced};
 use std::alloc::Global;
 use std::marker::Model;
 use uc_model::{Instance, List, NoMemory, Printed};
 use unit_path::Scratch;
 
-/// An instance with what the evaluations of its nodes share: the curves of its units, and memory for paths. Contracts see the instance,
-/// which is lawful.
+/// An instance with what the evaluations of its nodes share: the curves of its units, and memory for paths; and
+/// the value that was asked for last, from which a child of its node has the parts of all units but one. Contracts see the instance, which is
+/// lawful.
 #[derive(Drop)]
 pub struct Evaluator<'a> {
     instance: &'a Instance,
     room: Room,
     scratch: Scratch,
+    kept: Option<Kept>,
 }
 
 impl<'a> Model for Evaluator<'a> {
@@ -38,7 +41,11 @@ impl<'a> Model for Evaluator<'a> {
 
     ghost view = { λ evaluator. evaluator.instance.now };
 
-    ghost invariant = { λ evaluator. IsLentOf evaluator.instance.now evaluator.room evaluator.scratch };
+    ghost use Rattle.std.specs.Prelude.{IfSome};
+    ghost use Rattle.opening.specs.inside.Kept.{IsKeptOf};
+
+    ghost invariant = { λ evaluator. IsLentOf evaluator.instance.now evaluator.room evaluator.scratch
+        × IfSome evaluator.kept (IsKeptOf evaluator.instance.now) };
 }
 
 impl<'a> Evaluator<'a> {
@@ -51,6 +58,7 @@ impl<'a> Evaluator<'a> {
             instance,
             room: Room::new(alloc, instance)?,
             scratch: Scratch::new(alloc, instance.periods as usize)?,
+            kept: None,
         })
     }
 
@@ -79,16 +87,31 @@ impl<'a> Evaluator<'a> {
         requires table { IsLawfulTable self.old table.now }
         ensures kept { self.new ≡ self.old }
         ensures value { IfOk result (IsValued self.old node.now table.now) }
+        ensures sizes { IfOk result HasSizes }
         ensures fault { IfErr result (IsFaultOf self.old node.now) }
     {
-        value_in(
-            alloc,
-            &mut self.scratch,
-            &mut self.room,
-            self.instance,
-            node,
-            table,
-        )
+        let scratch = &mut self.scratch;
+        let room = &mut self.room;
+        match inherited(&self.kept, node, table) {
+            Some(inherited) => child(alloc, scratch, room, self.instance, node, &inherited),
+            None => value_in(alloc, scratch, room, self.instance, node, table),
+        }
+    }
+
+    // Keeps the value for a child of its node. The only error is `NoMemory`.
+    fn keep(
+        &mut self,
+        alloc: Global,
+        node: &Node,
+        table: &Table,
+        valued: Valued,
+    ) -> Result<(), NoMemory>
+        requires value { IsValued self.old node.now table.now valued }
+        requires sizes { HasSizes valued }
+        ensures { self.new ≡ self.old }
+    {
+        self.kept = Some(Kept::new(alloc, node, table, valued)?);
+        Ok(())
     }
 
     /// The value of a node at the table, or its first thermal unit without an allowed pattern. The only error is `NoMemory`.
@@ -104,7 +127,11 @@ impl<'a> Evaluator<'a> {
         ensures outcome { IfOk result (IsOutcomeAt self.old node.now table.now) }
     {
         match self.valued(alloc, node, table) {
-            Ok(valued) => Ok(Outcome::Value(valued.total)),
+            Ok(valued) => {
+                let total = valued.total;
+                self.keep(alloc, node, table, valued)?;
+                Ok(Outcome::Value(total))
+            }
             Err(ValueFault::Empty(g)) => Ok(Outcome::Empty(g)),
             Err(ValueFault::NoMemory) => Err(NoMemory),
         }

@@ -3,6 +3,7 @@
 #![tactic(auto)]
 
 mod evaluator;
+mod kept;
 mod rays;
 mod root_tables;
 
