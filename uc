@@ -11,7 +11,8 @@ child='' work='' told='' crates=() uses=() began=() took=()
 weights='uc_model 60 dual_model 55 outside 78 outside_system 111 decimal_json 143 instance 254 cert_text 323 report 125
   cost_curves 69 start_costs 28 period_term 69 ramp_duals 32 system_value 69 interval_graph 28 unit_path 88
   dispatch_repair 235 dual_value 83 quick_value 148 opening_tables 65 uplift 166 bundle 143 prices 212 repair_state 222
-  schedule_repair 217 branch_tree 92 search_core 148 claims 65 decommitment 249 opening 111 workers 332
+  schedule_repair 217 branch_tree 92 incumbent 42 steal_pool 102 search_core 148 claims 30 book 216 decommitment 249 opening 111
+  workers 700
   schedule_check 152 state_walk 37 leaf_values 78 cert_check 102 demo_gen 46 command_line 194 uc_check 212 uc_cli 88
   uc 171'
 

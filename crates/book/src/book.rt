@@ -59,8 +59,8 @@ fn first_table(alloc: Global, room: usize, table: Table) -> Result<Vec<Table>, N
 impl<C: Case> Book<C> {
     ghost use Rattle.std.specs.Prelude.{◌≡◌, ◌≢◌, ◌↔◌, ◌<◌, ◌≤◌, ℕ, Bool, [], IsTrue, true, false, None, Some, IfOk, IfSome, MatchOption, length};
     ghost use Rattle.branch_tree.specs.NumberedTree.{node_count};
-    ghost use Rattle.branch_tree.specs.StoredTree.{IsNodeAt};
-    ghost use Rattle.branch_tree.specs.TreeView.{HasFreeCell};
+    ghost use Rattle.branch_tree.specs.StoredTree.{IsNodeAt, tree_bound};
+    ghost use Rattle.branch_tree.specs.TreeView.{HasFreeCell, IsFreeAt};
     ghost use Rattle.search_core.specs.Machine.{IsOpen, IsHeld, IsHolding, entries_of};
     ghost use Rattle.search_core.specs.Moves.{kept, MayGoOn, MayPrune, IsMoveLegal};
     ghost use Rattle.search_core.specs.Runs.{IsTrueOutcome, IsSettled};
@@ -285,6 +285,21 @@ impl<C: Case> Book<C> {
                 None => true,
             },
         }
+    }
+
+    /// The least stored bound over the leaves that aren't excluded, in micro-dollars; none exactly where each of them is.
+    pub fn bound(&self) -> Option<i128>
+        ensures { result ≡ tree_bound self.now.tree }
+    {
+        self.tree.bound()
+    }
+
+    /// The first cell that is undecided at the node: its thermal unit and its period, each from 0; none exactly where each is decided.
+    pub fn free_cell(&self, node: u32) -> Option<(u32, u32)>
+        requires { node < node_count self.now.tree.nodes }
+        ensures { MatchOption result (¬ HasFreeCell self.now.tree node) (λ cell. IsFreeAt self.now.tree node cell.0 cell.1) }
+    {
+        self.tree.free_cell(node)
     }
 
     /// The first node that is open; none exactly where no node is.

@@ -77,8 +77,8 @@ impl Row<'_> {
     }
 }
 
-// Whether the node decides the cell.
-fn is_decided(node: &Node, g: u32, t: u32) -> bool {
+/// Whether the node decides the cell.
+pub(crate) fn is_decided(node: &Node, g: u32, t: u32) -> bool {
     node.fixings
         .as_slice()
         .iter()

@@ -1,11 +1,9 @@
-//! Claims of open nodes by one worker: which node comes next, and by which move its claim ends.
+//! Claims of open nodes: in which order a worker takes the nodes that it has in hand, and on which cell a claim splits its node.
 #![tactic(auto)]
 
 mod branching;
-mod frontier;
-mod machine;
-mod moves;
+mod hand;
+mod splits;
 
-pub use frontier::Frontier;
-pub use machine::{WORKER, claim_next, publish, stored_table, take};
-pub use moves::{Hints, action};
+pub use hand::{Hand, Ticket};
+pub use splits::{Branching, Hints, split_cell};

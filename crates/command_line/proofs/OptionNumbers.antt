@@ -6,7 +6,7 @@ use Rattle.clap.specs.Words.{IsUnsignedIn, ReadsOne, Text}
 use Rattle.clap.specs.ValueTests.{is_unsigned_in}
 use Rattle.clap.specs.declared.builder.value_parser.ValueParser.TheVariants.{Unsigned}
 use Rattle.clap.proofs.ValueTestLemmas.{accepts-Accepts, Accepts-accepts}
-use Rattle.command_line.specs.Command.{whole_up_to}
+use Rattle.command_line.specs.Command.{whole_within}
 
 -- the number that u32 reads of the text, or none
 abbrev pub Reads : Text → Option ℕ → Type 0
@@ -16,44 +16,49 @@ Reads = ReadsOne (λ text r. ParsesUnsigned 32 10 text r × ExplainsUnsignedErro
 abbrev number_of : Text → ℕ
 number_of text = digits_value 10 (without_leading_plus text)
 
-inside : (most : ℕ) (text : Text) → IsUnsignedIn 0 most text → whole_up_to most text ≡ number_of text
-inside most text h =
-    let test : is_unsigned_in 0 most text ≡ true = Accepts-accepts false (Unsigned 0 most) text h in
-    ap (λ b. cond b (number_of text) 0) test
+inside : (least most : ℕ) (text : Text) → IsUnsignedIn least most text → whole_within least most text ≡ number_of text
+inside least most text h =
+    let test : is_unsigned_in least most text ≡ true = Accepts-accepts false (Unsigned least most) text h in
+    ap (λ b. cond b (number_of text) least) test
 
-outside : (most : ℕ) (text : Text) → ¬ IsUnsignedIn 0 most text → whole_up_to most text ≡ 0
-outside most text none = go (is_unsigned_in 0 most text) (λ test. none (accepts-Accepts false (Unsigned 0 most) text test))
+outside : (least most : ℕ) (text : Text) → ¬ IsUnsignedIn least most text → whole_within least most text ≡ least
+outside least most text none =
+    go (is_unsigned_in least most text) (λ test. none (accepts-Accepts false (Unsigned least most) text test))
   where
-    go : (b : Bool) → ¬ (b ≡ true) → cond b (number_of text) 0 ≡ 0
+    go : (b : Bool) → ¬ (b ≡ true) → cond b (number_of text) least ≡ least
     go true none = absurd (none refl)
     go false none = refl
 
 -- the number that is kept of what was read
-abbrev IsKept : ℕ → Option ℕ → ℕ → Type 0
-IsKept most None n = n ≡ 0
-IsKept most (Some read) n = (read ≤ most → n ≡ read) × (most < read → n ≡ 0)
+abbrev IsKept : ℕ → ℕ → Option ℕ → ℕ → Type 0
+IsKept least most None n = n ≡ least
+IsKept least most (Some read) n = (least ≤ read → read ≤ most → n ≡ read) × (¬ ((least ≤ read) × (read ≤ most)) → n ≡ least)
 
-of_text : (most : ℕ) (text : Text) (read : Option ℕ) → most < 2 ^ 32 → Reads text read → IsKept most read (whole_up_to most text)
-of_text most text None fits fails =
-    outside most text (λ h. fails.1.0 (h.0, omega (arith, h.3, fits)))
-of_text most text (Some n) fits reads = (
-  (λ small. inside most text (reads.0.0.0, omega (arith, reads.0.0.1), omega arith, omega (arith, reads.0.1, small)) ∙ sym reads.0.1),
-  (λ large. outside most text (λ h. absurd (omega (arith, reads.0.1, large, h.3)))),
+of_text : (least most : ℕ) (text : Text) (read : Option ℕ) → most < 2 ^ 32 → Reads text read
+    → IsKept least most read (whole_within least most text)
+of_text least most text None fits fails =
+    outside least most text (λ h. fails.1.0 (h.0, omega (arith, h.3, fits)))
+of_text least most text (Some n) fits reads = (
+  (λ low high. inside least most text (reads.0.0.0, omega (arith, reads.0.0.1), omega (arith, reads.0.1, low), omega (arith, reads.0.1, high))
+      ∙ sym reads.0.1),
+  (λ outer. outside least most text (λ h. outer (omega (arith, reads.0.1, h.2), omega (arith, reads.0.1, h.3)))),
 )
 
-pub kept_of : (most : ℕ) (text : Option Text) (read : Option ℕ) → most < 2 ^ 32 → (text ≡ None → read ≡ None)
-    → ((t : Text) → text ≡ Some t → Reads t read) → IsKept most read (option_map_or (whole_up_to most) text 0)
-kept_of most None read fits none reads = rw (none refl) refl
-kept_of most (Some t) read fits none reads = of_text most t read fits (reads t refl)
+pub kept_of : (least most : ℕ) (text : Option Text) (read : Option ℕ) → most < 2 ^ 32 → (text ≡ None → read ≡ None)
+    → ((t : Text) → text ≡ Some t → Reads t read) → IsKept least most read (option_map_or (whole_within least most) text least)
+kept_of least most None read fits none reads = rw (none refl) refl
+kept_of least most (Some t) read fits none reads = of_text least most t read fits (reads t refl)
 
 -- where a number was read
-pub kept_some : (most n : ℕ) (read : Option ℕ) (kept : ℕ) → read ≡ Some n → IsKept most read kept
-    → (n ≤ most → kept ≡ n) × (most < n → kept ≡ 0)
-kept_some most n None kept is h = absurd (cc)
-kept_some most n (Some m) kept is h =
-    let same : m ≡ n = cc in
-    ((λ small. h.0 (omega (arith, same, small)) ∙ same), (λ large. h.1 (omega (arith, same, large))))
+pub kept_some : (least most n : ℕ) (read : Option ℕ) (kept : ℕ) → read ≡ Some n → IsKept least most read kept
+    → (least ≤ n → n ≤ most → kept ≡ n) × (¬ ((least ≤ n) × (n ≤ most)) → kept ≡ least)
+kept_some least most n None kept is h = absurd (cc)
+kept_some least most n (Some m) kept is h =
+    let same : m ≡ n = cc in (
+      (λ low high. h.0 (omega (arith, same, low)) (omega (arith, same, high)) ∙ same),
+      (λ outer. h.1 (λ inner. outer (omega (arith, same, inner.0), omega (arith, same, inner.1)))),
+    )
 
-pub kept_none : (most : ℕ) (read : Option ℕ) (kept : ℕ) → read ≡ None → IsKept most read kept → kept ≡ 0
-kept_none most None kept is h = h
-kept_none most (Some m) kept is h = absurd (cc)
+pub kept_none : (least most : ℕ) (read : Option ℕ) (kept : ℕ) → read ≡ None → IsKept least most read kept → kept ≡ least
+kept_none least most None kept is h = h
+kept_none least most (Some m) kept is h = absurd (cc)

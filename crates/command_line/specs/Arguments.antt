@@ -16,17 +16,20 @@ place id = record (new_rule id) { required = true }
 abbrev pub needed_option : Text → Rule
 needed_option name = record (new_rule name) { long = Some name; required = true }
 
--- `--NAME N`, where N is 1 alone, which it is also where the option isn't given
-abbrev pub one_alone : Text → Rule
-one_alone name =
-    record (new_rule name) { long = Some name; parser = Some (Signed (pos 1) (pos 1)); defaults = codes "1" ∷ [] }
-
 -- `--units N`, a whole number from 1 to a million, which is 1000 where the option isn't given
 abbrev pub units_option : Rule
 units_option = record (new_rule (codes "units")) {
   long = Some (codes "units");
   parser = Some (Signed (pos 1) (pos 1000000));
   defaults = codes "1000" ∷ [];
+}
+
+-- `--workers N`, a whole number from 1 to 64, which is 1 where the option isn't given
+abbrev pub workers_option : Rule
+workers_option = record (new_rule (codes "workers")) {
+  long = Some (codes "workers");
+  parser = Some (Signed (pos 1) (pos 64));
+  defaults = codes "1" ∷ [];
 }
 
 -- `--gap PPM`, a whole number from 0 to a million, which is 1000 where the option isn't given
@@ -56,7 +59,7 @@ switch name = record (new_rule name) { long = Some name; action = Some SetTrue }
 -- `solve FILE --cert FILE [--units N] [--workers N] [--gap PPM] [--exact] [--shed PRICE] [--spill-reserve PRICE]`
 abbrev pub solve_shape : Shape
 solve_shape = record (new_shape (codes "solve")) {
-  rules = place (codes "instance") ∷ needed_option (codes "cert") ∷ units_option ∷ one_alone (codes "workers") ∷ gap_option
+  rules = place (codes "instance") ∷ needed_option (codes "cert") ∷ units_option ∷ workers_option ∷ gap_option
       ∷ switch (codes "exact") ∷ price_option (codes "shed") ∷ price_option (codes "spill-reserve") ∷ [];
 }
 

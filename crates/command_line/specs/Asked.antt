@@ -19,6 +19,7 @@ solve_asked solve = record {
   instance = solve.instance.now;
   certificate = solve.certificate.now;
   units = solve.units;
+  workers = solve.workers;
   gap = solve.gap;
   exact = solve.exact;
   shed = solve.shed;
@@ -53,9 +54,15 @@ command_asked (forms.Uplift uplift) = Uplifts (uplift_asked uplift)
 abbrev pub HasPrices : ℕ → ℕ → Type 0
 HasPrices shed spill_reserve = (shed ≤ 1000000) × (spill_reserve ≤ 1000000)
 
--- the budget that `solve` is asked is at most a million evaluations, the gap at most the whole of a cost, and prices are in range
+-- there are from 1 to 64 workers
+abbrev pub HasWorkers : ℕ → Type 0
+HasWorkers workers = (1 ≤ workers) × (workers ≤ 64)
+
+-- the budget that `solve` is asked is at most a million evaluations, workers are in range, the gap is at most the whole of a cost, and
+-- prices are in range
 abbrev pub HasNumbers : CommandWords → Type 0
-HasNumbers (forms.Solve solve) = (solve.units ≤ 1000000) × (solve.gap ≤ 1000000) × HasPrices solve.shed solve.spill_reserve
+HasNumbers (forms.Solve solve) =
+    (solve.units ≤ 1000000) × HasWorkers solve.workers × (solve.gap ≤ 1000000) × HasPrices solve.shed solve.spill_reserve
 HasNumbers (forms.Check check) = HasPrices check.shed check.spill_reserve
 HasNumbers (forms.Demo demo) = ⊤
 HasNumbers (forms.Upgrade upgrade) = ⊤

@@ -7,13 +7,14 @@ use Rattle.clap.specs.ValueTests.{is_unsigned_in}
 use Rattle.clap.specs.Words.{Row, Text, first_of, one_of, subcommand_of}
 use Rattle.command_line.specs.Arguments.{program, is_taken}
 
--- what `solve` is asked: the instance's file, the certificate's, the budget of evaluations, the gap in parts per million of a cost
--- at which a search is closed, whether a rounded number is refused, and the prices of unserved demand and of missing reserve in
--- micro-dollars for a watt and an hour, 0 where there is none
+-- what `solve` is asked: the instance's file, the certificate's, the budget of evaluations, the number of workers, the gap in parts per
+-- million of a cost at which a search is closed, whether a rounded number is refused, and the prices of unserved demand and of missing
+-- reserve in micro-dollars for a watt and an hour, 0 where there is none
 pub record Solve : Type 0 where
   pub instance : List ℕ
   pub certificate : List ℕ
   pub units : ℕ
+  pub workers : ℕ
   pub gap : ℕ
   pub exact : Bool
   pub shed : ℕ
@@ -56,40 +57,42 @@ value_of id rows = unwrap_or (first_of id rows) []
 abbrev pub is_on : Text → List Row → Bool
 is_on id rows = option_map_or (λ text. bytes_eq text (codes "true")) (first_of id rows) false
 
--- the whole number that a text writes, where it is at most this, as each one is that the parser lets through; else 0
-abbrev pub whole_up_to : ℕ → Text → ℕ
-whole_up_to most text = if is_unsigned_in 0 most text then digits_value 10 (without_leading_plus text) else 0
+-- the whole number that a text writes, where it is from the least to the most, as each one is that the parser lets through; else the least
+abbrev pub whole_within : ℕ → ℕ → Text → ℕ
+whole_within least most text = if is_unsigned_in least most text then digits_value 10 (without_leading_plus text) else least
 
-abbrev pub number_of : ℕ → Text → List Row → ℕ
-number_of most id rows = option_map_or (whole_up_to most) (one_of id rows) 0
+-- the number of an argument, and the least where it has none
+abbrev pub number_of : ℕ → ℕ → Text → List Row → ℕ
+number_of least most id rows = option_map_or (whole_within least most) (one_of id rows) least
 
 abbrev pub solve_of : List Row → Solve
 solve_of rows = record {
   instance = value_of (codes "instance") rows;
   certificate = value_of (codes "cert") rows;
-  units = number_of 1000000 (codes "units") rows;
-  gap = number_of 1000000 (codes "gap") rows;
+  units = number_of 1 1000000 (codes "units") rows;
+  workers = number_of 1 64 (codes "workers") rows;
+  gap = number_of 0 1000000 (codes "gap") rows;
   exact = is_on (codes "exact") rows;
-  shed = number_of 1000000 (codes "shed") rows;
-  spill_reserve = number_of 1000000 (codes "spill-reserve") rows;
+  shed = number_of 0 1000000 (codes "shed") rows;
+  spill_reserve = number_of 0 1000000 (codes "spill-reserve") rows;
 }
 
 abbrev pub check_of : List Row → Check
 check_of rows = record {
   instance = value_of (codes "instance") rows;
   certificate = value_of (codes "certificate") rows;
-  shed = number_of 1000000 (codes "shed") rows;
-  spill_reserve = number_of 1000000 (codes "spill-reserve") rows;
+  shed = number_of 0 1000000 (codes "shed") rows;
+  spill_reserve = number_of 0 1000000 (codes "spill-reserve") rows;
 }
 
 abbrev pub demo_of : List Row → Demo
-demo_of rows = record { seed = number_of 4294967295 (codes "seed") rows }
+demo_of rows = record { seed = number_of 0 4294967295 (codes "seed") rows }
 
 abbrev pub upgrade_of : List Row → Upgrade
 upgrade_of rows = record { certificate = value_of (codes "certificate") rows; to = value_of (codes "cert") rows }
 
 abbrev pub uplift_of : List Row → Uplift
-uplift_of rows = record { check = check_of rows; table = number_of 1000002 (codes "table") rows }
+uplift_of rows = record { check = check_of rows; table = number_of 1 1000002 (codes "table") rows }
 
 -- the command of a name, with what was found for its arguments
 abbrev pub named : Text × List Row → Option Command

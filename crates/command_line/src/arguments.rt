@@ -3,7 +3,7 @@
 ghost use Rattle.std.specs.Prelude.{◌≡◌, IfOk, true, false, []};
 ghost use Rattle.clap.specs.Words.{App, Rule, Shape, app_of, rule_of, shape_of, with_rule, with_subcommand};
 ghost use Rattle.clap.specs.declared.builder.command.Command.TheViews.{out-Command as fields_of};
-ghost use Rattle.command_line.specs.Arguments.{place as place_rule, needed_option as needed_rule, units_option as units_rule, one_alone as one_rule, gap_option as gap_rule, price_option as price_rule, table_option as table_rule, switch as switch_rule, seed_place as seed_rule, solve_shape, check_shape, demo_shape, upgrade_shape, uplift_shape, program as program_app};
+ghost use Rattle.command_line.specs.Arguments.{place as place_rule, needed_option as needed_rule, units_option as units_rule, workers_option as workers_rule, gap_option as gap_rule, price_option as price_rule, table_option as table_rule, switch as switch_rule, seed_place as seed_rule, solve_shape, check_shape, demo_shape, upgrade_shape, uplift_shape, program as program_app};
 
 use clap::{Arg, ArgAction, Command, value_parser};
 use std::alloc::{AllocError, Global};
@@ -24,17 +24,6 @@ fn needed_option<'a>(alloc: Global, name: &'a str) -> Arg<'a>
     Arg::new(alloc, name).long(name).required(true)
 }
 
-// `--NAME N`, where N is 1 alone, which it is also where the option isn't given.
-fn one_alone<'a>(alloc: Global, name: &'a str) -> Arg<'a>
-    ensures rule { rule_of result ≡ one_rule name.entry.now }
-    ensures local { result.global ≡ false }
-{
-    Arg::new(alloc, name)
-        .long(name)
-        .value_parser(value_parser!(u32).range(1..=1))
-        .default_value("1")
-}
-
 // `--units N`, a whole number from 1 to a million, which is 1000 where the option isn't given.
 fn units_option<'a>(alloc: Global) -> Arg<'a>
     ensures rule { rule_of result ≡ units_rule }
@@ -44,6 +33,17 @@ fn units_option<'a>(alloc: Global) -> Arg<'a>
         .long("units")
         .value_parser(value_parser!(u32).range(1..=1_000_000))
         .default_value("1000")
+}
+
+// `--workers N`, a whole number from 1 to 64, which is 1 where the option isn't given.
+fn workers_option<'a>(alloc: Global) -> Arg<'a>
+    ensures rule { rule_of result ≡ workers_rule }
+    ensures local { result.global ≡ false }
+{
+    Arg::new(alloc, "workers")
+        .long("workers")
+        .value_parser(value_parser!(u32).range(1..=64))
+        .default_value("1")
 }
 
 // `--gap PPM`, a whole number from 0 to a million, which is 1000 where the option isn't given.
@@ -126,7 +126,7 @@ fn solve_command<'a>(alloc: Global) -> Built<'a>
     let command = with_arg(Ok(Command::new(alloc, "solve")), place(alloc, "instance"));
     let command = with_arg(command, needed_option(alloc, "cert"));
     let command = with_arg(command, units_option(alloc));
-    let command = with_arg(command, one_alone(alloc, "workers"));
+    let command = with_arg(command, workers_option(alloc));
     let command = with_arg(command, gap_option(alloc));
     let command = with_arg(command, switch(alloc, "exact"));
     let command = with_arg(command, price_option(alloc, "shed"));

@@ -1,10 +1,10 @@
 //! What the words of the command line ask for.
 
-ghost use Rattle.std.specs.Prelude.{◌≡◌, ◌≤◌, map, string_bytes, true, IfOk, IfErr, IfSome, Some, option_map, option_and_then};
+ghost use Rattle.std.specs.Prelude.{◌≡◌, ◌≤◌, codes, map, string_bytes, true, IfOk, IfErr, IfSome, Some, option_map, option_and_then};
 ghost use Rattle.clap.specs.Words.{first_of, found_of, rows_of, kind_of, subcommand_rows_of};
 ghost use Rattle.command_line.specs.Arguments.{is_taken};
 ghost use Rattle.command_line.specs.Command.{named, command_of as command_of_words, value_of, is_on, number_of, solve_of as solve_of_rows, check_of as check_of_rows, demo_of as demo_of_rows, upgrade_of as upgrade_of_rows, uplift_of as uplift_of_rows};
-ghost use Rattle.command_line.specs.Asked.{command_asked, solve_asked, check_asked, demo_asked, upgrade_asked, uplift_asked, refusal_of, HasNumbers, HasPrices, IsRefusal};
+ghost use Rattle.command_line.specs.Asked.{command_asked, solve_asked, check_asked, demo_asked, upgrade_asked, uplift_asked, refusal_of, HasNumbers, HasPrices, HasWorkers, IsRefusal};
 
 use crate::arguments::program;
 use clap::error::ErrorKind;
@@ -15,20 +15,24 @@ use std::alloc::Global;
 /// The greatest number of an option: evaluations of a budget, parts per million of a cost, and micro-dollars for a watt and an hour.
 const MOST: u32 = 1_000_000;
 
+/// The most workers.
+const MOST_WORKERS: u32 = 64;
+
 /// The greatest number of a table, from 1.
 const MOST_TABLE: u32 = 1_000_002;
 
 /// The greatest seed.
 const MOST_SEED: u32 = 4_294_967_295;
 
-/// What `solve` is asked: the file of the instance, that of the certificate, the budget in evaluations, the gap at which a search is
-/// closed, in parts per million of a cost, whether a rounded number is refused, and the prices of unserved demand and of missing
-/// reserve, in micro-dollars for a watt and an hour, 0 where there is none.
+/// What `solve` is asked: the file of the instance, that of the certificate, the budget in evaluations, the number of workers, the gap at
+/// which a search is closed, in parts per million of a cost, whether a rounded number is refused, and the prices of unserved demand and
+/// of missing reserve, in micro-dollars for a watt and an hour, 0 where there is none.
 #[derive(Clone, Copy, Debug)]
 pub struct Solve<'a> {
     pub instance: &'a str,
     pub certificate: &'a str,
     pub units: u32,
+    pub workers: u8,
     pub gap: u32,
     pub exact: bool,
     pub shed: u32,
@@ -101,30 +105,42 @@ fn is_given(given: &ArgMatches<'_>, id: &str) -> bool
     }
 }
 
-// The number of an argument. The parser lets none through that is greater than `most`.
-fn number(given: &ArgMatches<'_>, id: &str, most: u32) -> u32
-    ensures value { result ≡ number_of most id.now (rows_of (found_of given.now)) }
+// The number of an argument, and the least where it has none. The parser lets none through that is less than `least` or greater than `most`.
+fn number(given: &ArgMatches<'_>, id: &str, least: u32, most: u32) -> u32
+    requires { least ≤ most }
+    ensures value { result ≡ number_of least most id.now (rows_of (found_of given.now)) }
+    ensures least { least ≤ result }
     ensures most { result ≤ most }
 {
     match given.get_one::<u32>(id) {
-        Some(number) if number <= most => number,
-        _ => 0,
+        Some(number) if least <= number && number <= most => number,
+        _ => least,
     }
+}
+
+// The number of workers.
+fn workers(given: &ArgMatches<'_>) -> u8
+    ensures value { result ≡ number_of 1 MOST_WORKERS (codes "workers") (rows_of (found_of given.now)) }
+    ensures range { HasWorkers result }
+{
+    number(given, "workers", 1, MOST_WORKERS) as u8
 }
 
 fn solve_of<'a>(given: &ArgMatches<'a>) -> Solve<'a>
     ensures asked { solve_asked result ≡ solve_of_rows (rows_of (found_of given.now)) }
     ensures numbers { (result.units ≤ MOST) × (result.gap ≤ MOST) }
+    ensures workers { HasWorkers result.workers }
     ensures prices { HasPrices result.shed result.spill_reserve }
 {
     Solve {
         instance: value(given, "instance"),
         certificate: value(given, "cert"),
-        units: number(given, "units", MOST),
-        gap: number(given, "gap", MOST),
+        units: number(given, "units", 1, MOST),
+        workers: workers(given),
+        gap: number(given, "gap", 0, MOST),
         exact: is_given(given, "exact"),
-        shed: number(given, "shed", MOST),
-        spill_reserve: number(given, "spill-reserve", MOST),
+        shed: number(given, "shed", 0, MOST),
+        spill_reserve: number(given, "spill-reserve", 0, MOST),
     }
 }
 
@@ -135,8 +151,8 @@ fn check_of<'a>(given: &ArgMatches<'a>) -> Check<'a>
     Check {
         instance: value(given, "instance"),
         certificate: value(given, "certificate"),
-        shed: number(given, "shed", MOST),
-        spill_reserve: number(given, "spill-reserve", MOST),
+        shed: number(given, "shed", 0, MOST),
+        spill_reserve: number(given, "spill-reserve", 0, MOST),
     }
 }
 
@@ -144,7 +160,7 @@ fn demo_of(given: &ArgMatches<'_>) -> Demo
     ensures { demo_asked result ≡ demo_of_rows (rows_of (found_of given.now)) }
 {
     Demo {
-        seed: number(given, "seed", MOST_SEED),
+        seed: number(given, "seed", 0, MOST_SEED),
     }
 }
 
@@ -163,7 +179,7 @@ fn uplift_of<'a>(given: &ArgMatches<'a>) -> Uplift<'a>
 {
     Uplift {
         check: check_of(given),
-        table: number(given, "table", MOST_TABLE),
+        table: number(given, "table", 1, MOST_TABLE),
     }
 }
 

@@ -13,8 +13,8 @@ use std::sync::Wait;
 use std::thread::Threads;
 use uc_cli::uc;
 
-/// How a run ended: its status, whether it hands out what was found, how often the gate was entered, and out of turn, and the
-/// devices.
+/// How a run ended: its status, whether it hands out what was found, how often the gate was entered, and, where the words name no number
+/// of workers, how often out of turn; and the devices.
 #[derive(Drop)]
 pub(crate) struct Ended {
     pub code: u8,
@@ -93,6 +93,11 @@ fn unbegun(alloc: Global, case: &Case) -> Result<Ended, AllocError>
     })
 }
 
+// Whether the words name a number of workers. Several enter the gate in no order.
+fn names_workers(words: &[String]) -> bool {
+    words.iter().any(|word| word.starts_with("--workers"))
+}
+
 // Runs the program on devices.
 fn carried_out<R: Threads + Wait + Sync>(
     rt: &R,
@@ -116,7 +121,9 @@ fn carried_out<R: Threads + Wait + Sync>(
     run.code = end.code;
     run.has_found = end.found.is_some();
     run.entries = gate.entries();
-    run.strays = gate.strays();
+    if !names_workers(words) {
+        run.strays = gate.strays();
+    }
     run
 }
 

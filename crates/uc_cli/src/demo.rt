@@ -15,6 +15,7 @@ use outside::{Failed, Gate, Sink};
 use report::{DEMO_GAP, Fault, write_demo};
 use std::alloc::Global;
 use std::sync::Wait;
+use std::thread::Threads;
 use uc_check::{End, Failure, end_of};
 use workers::{Options, search};
 
@@ -22,13 +23,19 @@ use workers::{Options, search};
 const BUDGET: u32 = 200;
 
 // Searches the instance of the seed.
-fn find<R: Wait, G: Gate>(rt: &R, alloc: Global, seed: u32, gate: &G) -> Result<Found, Fault>
+fn find<R: Threads + Wait + Sync, G: Gate + Sync>(
+    rt: &R,
+    alloc: Global,
+    seed: u32,
+    gate: &G,
+) -> Result<Found, Fault>
     ensures answer { IfOk result (IsDemoAnswer seed) }
     ensures memory { IfErr result (λ fault. fault ≡ Fault.Memory) }
 {
     let instance = demo_gen::instance(alloc, seed)?;
     let options = Options {
         budget: BUDGET,
+        workers: 1,
         gap: DEMO_GAP,
     };
     let found = search(rt, alloc, &instance, &options, gate)?;
@@ -45,7 +52,7 @@ fn tell_found<O: Sink>(out: &mut O, seed: u32, found: &Found) -> Result<(), Fail
 }
 
 // Searches and writes the report.
-fn find_and_tell<R: Wait, O: Sink, G: Gate>(
+fn find_and_tell<R: Threads + Wait + Sync, O: Sink, G: Gate + Sync>(
     rt: &R,
     alloc: Global,
     asked: &Demo,
@@ -68,9 +75,9 @@ fn find_and_tell<R: Wait, O: Sink, G: Gate>(
     }
 }
 
-/// A run of `demo`: searches the instance of the seed and reports what was found, or tells a fault. It touches no file, whatever the
-/// files are.
-pub(crate) fn demo<R: Wait, O: Sink, E: Sink, G: Gate>(
+/// A run of `demo`: searches the instance of the seed by one worker and reports what was found, or tells a fault. It touches no file,
+/// whatever the files are.
+pub(crate) fn demo<R: Threads + Wait + Sync, O: Sink, E: Sink, G: Gate + Sync>(
     rt: &R,
     alloc: Global,
     asked: &Demo,

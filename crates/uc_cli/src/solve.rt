@@ -10,7 +10,7 @@ ghost use Rattle.uc_check.specs.Outside.{outside_of};
 ghost use Rattle.uc_check.specs.Writing.{IsTold, FailsToTell};
 ghost use Rattle.report.specs.FoundReport.{found_report};
 ghost use Rattle.uc_cli.specs.Run.{Slot, solve_options, IsAnswer, IsSolved, IsFailure, KeepsToFiles, IsSolveRun};
-ghost use Rattle.command_line.specs.Asked.{solve_asked, HasPrices};
+ghost use Rattle.command_line.specs.Asked.{solve_asked, HasPrices, HasWorkers};
 
 use branch_tree::Found;
 use command_line::Solve;
@@ -19,6 +19,7 @@ use report::{Fault, write_found};
 use search_core::limits::MAX_BUDGET;
 use std::alloc::Global;
 use std::sync::Wait;
+use std::thread::Threads;
 use uc_check::{End, Failure, ReadOptions, end_of, read_instance, save};
 use uc_model::Instance;
 use uc_model::tolerance::WHOLE_GAP;
@@ -33,7 +34,7 @@ struct Answer {
 }
 
 // Reads the instance and searches.
-fn find<R: Wait, F: Files, G: Gate>(
+fn find<R: Threads + Wait + Sync, F: Files, G: Gate + Sync>(
     rt: &R,
     alloc: Global,
     asked: &Solve,
@@ -42,6 +43,7 @@ fn find<R: Wait, F: Files, G: Gate>(
 ) -> Result<Answer, Fault>
     requires unopened { (F.state files.old Slot.Instance).stage ≡ Unopened }
     requires budget { asked.now.units ≤ MAX_BUDGET }
+    requires workers { HasWorkers asked.now.workers }
     requires gap { asked.now.gap ≤ WHOLE_GAP }
     requires prices { HasPrices asked.now.shed asked.now.spill_reserve }
     ensures answer { IfOk result (λ a. IsAnswer (solve_asked asked.now) (F.state files.old slot.Instance) a.instance a.rounded a.found) }
@@ -59,6 +61,7 @@ fn find<R: Wait, F: Files, G: Gate>(
     let (instance, rounded) = read_instance(alloc, files, asked.instance, reading)?;
     let options = Options {
         budget: asked.units,
+        workers: asked.workers,
         gap: asked.gap,
     };
     let found = search(rt, alloc, &instance, &options, gate)?;
@@ -80,7 +83,7 @@ fn tell<O: Sink>(out: &mut O, answer: &Answer, gap: u32) -> Result<(), Failed>
 }
 
 // Reads, searches, writes the certificate and then the report; the error output is as it may be.
-fn find_and_write<R: Wait, F: Files, O: Sink, G: Gate>(
+fn find_and_write<R: Threads + Wait + Sync, F: Files, O: Sink, G: Gate + Sync>(
     rt: &R,
     alloc: Global,
     asked: &Solve,
@@ -90,6 +93,7 @@ fn find_and_write<R: Wait, F: Files, O: Sink, G: Gate>(
 ) -> Result<End, Failure>
     requires unopened { AllUnopened (F.state files.old) }
     requires budget { asked.now.units ≤ MAX_BUDGET }
+    requires workers { HasWorkers asked.now.workers }
     requires gap { asked.now.gap ≤ WHOLE_GAP }
     requires prices { HasPrices asked.now.shed asked.now.spill_reserve }
     ensures done { (err_old err_new : SinkState) → IfOk result (IsSolved (solve_asked asked.now)
@@ -122,7 +126,7 @@ fn find_and_write<R: Wait, F: Files, O: Sink, G: Gate>(
 }
 
 /// A run of `solve`: reads, searches, writes the certificate and then the report, or tells a fault.
-pub(crate) fn solve<R: Wait, F: Files, O: Sink, E: Sink, G: Gate>(
+pub(crate) fn solve<R: Threads + Wait + Sync, F: Files, O: Sink, E: Sink, G: Gate + Sync>(
     rt: &R,
     alloc: Global,
     asked: &Solve,
@@ -133,6 +137,7 @@ pub(crate) fn solve<R: Wait, F: Files, O: Sink, E: Sink, G: Gate>(
 ) -> End
     requires unopened { AllUnopened (F.state files.old) }
     requires budget { asked.now.units ≤ MAX_BUDGET }
+    requires workers { HasWorkers asked.now.workers }
     requires gap { asked.now.gap ≤ WHOLE_GAP }
     requires prices { HasPrices asked.now.shed asked.now.spill_reserve }
     ensures { IsSolveRun (solve_asked asked.now) (outside_of (F.state files.old) (O.state out.old) (E.state err.old))

@@ -13,14 +13,12 @@ use Rattle.dual_model.specs.Tree.{root}
 use Rattle.branch_tree.specs.Claims.{IsLayoutOf, written_tables}
 use Rattle.branch_tree.specs.Closing.{is_schedule_within}
 use Rattle.branch_tree.specs.StoredTree.{AtMost, tree_bound}
-use Rattle.branch_tree.specs.TreeView.{IsWhole, tree_of}
+use Rattle.branch_tree.specs.TreeView.{tree_of}
 use Rattle.branch_tree.specs.TrueFound.{IsTrueFound}
 use Rattle.branch_tree.specs.UsedTables.{used_tables}
 use Rattle.branch_tree.specs.declared.layout.Layout.{Layout}
 use Rattle.search_core.specs.declared.stored.Stored.{Stored}
-use Rattle.search_core.specs.Machine.{Machine}
 use Rattle.search_core.specs.Moves.{bound_of}
-use Rattle.search_core.specs.Runs.{HoldsAt}
 use Rattle.workers.specs.Writable.{Found, Instance, Table, HasFewRows}
 use Rattle.decommitment.specs.DropCommitment.{Dispatched}
 use Rattle.dual_model.specs.Tree.{HasEachPattern}
@@ -32,14 +30,15 @@ use Rattle.workers.specs.SearchResult.{Printed, IsBoundOpened, IsNoDearer}
 use Rattle.decommitment.specs.declared.pass.Standing.TheVariants as standing
 use Rattle.workers.specs.inside.Answers.{Stuck, IsAnswerOf, IsQuiet, told_by}
 use Rattle.opening.specs.RootTables.{IsPricedOf}
-use Rattle.workers.specs.inside.Searches.{Entry, Priced, IsGrown, start_by}
+use Rattle.workers.specs.declared.grow.Grown.{Grown}
+use Rattle.workers.specs.inside.Searches.{Entry, Priced, IsGrown}
 use Rattle.workers.specs.inside.Starts.{IsFirstBest}
 use Rattle.decommitment.specs.Standings.{IsDropped, KeepsMostOn, ending_of}
 use Rattle.workers.specs.inside.Best.{Standing, IsBest, kept_stuck}
 use Rattle.workers.proofs.FewRows.{few_rows}
 use Rattle.workers.proofs.OwnValues.{bound_small, least_above, least_small}
 use Rattle.opening.proofs.Patterns.{not_first}
-use Rattle.workers.proofs.Searches.{million}
+use Rattle.workers.proofs.Ended.{million}
 use Rattle.workers.proofs.WrittenTables.{certificate_holds, written_lawful}
 
 -- ---- what is told of the most-on commitment
@@ -114,41 +113,42 @@ opening_quiet (standing.Dispatched printed cost) best opening gap log same quiet
 opening_quiet (standing.Stuck period most_on) best opening gap log same quiet closed = absurd (false≢true closed)
 
 -- ---- the answer
--- what is answered, with this schedule and this layout
-abbrev pub searched_found : Machine → Option (Printed × ℤ) → Option Stuck → Layout → Found
-searched_found m best stuck layout = record {
-  schedule = best;
-  tree = m.tree;
-  tables = m.tables;
-  log = m.log;
-  most_on = told_by (tree_bound m.tree) best stuck;
+-- what is answered, with this layout
+abbrev pub searched_found : Grown → Option Stuck → Layout → Found
+searched_found grown stuck layout = record {
+  schedule = grown.best;
+  tree = grown.tree;
+  tables = grown.tables;
+  log = grown.log;
+  most_on = told_by (tree_bound grown.tree) grown.best stuck;
   layout = layout;
 }
 
-module _ (instance : Instance) (stands : Standing) (best : Option (Printed × ℤ)) (opening : Priced) (m : Machine) (layout : Layout) (budget gap : ℕ)
-    (lawful : IsLawfulInstance instance) (dropped : IsDropped instance stands) (is_best : IsBest instance (ending_of stands) best)
+module _ (instance : Instance) (stands : Standing) (opening : Priced) (grown : Grown) (layout : Layout) (budget gap : ℕ)
+    (lawful : IsLawfulInstance instance) (dropped : IsDropped instance stands) (is_best : IsBest instance (ending_of stands) grown.best)
     (opens : IsRootTable instance (ending_of stands) opening.table opening.value) (priced : IsPricedOf instance opening)
-    (holds : HoldsAt instance (start_by instance opening budget gap) m) (grown : IsGrown instance opening budget gap m best)
-    (of_tree : IsLayoutOf m.tree layout) (within : All (λ i. i < length m.tables) layout.tables) where
+    (is : IsGrown instance opening budget gap grown)
+    (of_tree : IsLayoutOf grown.tree layout) (within : All (λ i. i < length grown.tables) layout.tables) where
   abbrev found : Found
-  found = searched_found m best (kept_stuck stands) layout
+  found = searched_found grown (kept_stuck stands) layout
 
-  used_within : All (λ i. i < length m.tables) (used_tables (tree_of m.tree))
-  used_within = subst (λ numbers. All (λ i. i < length m.tables) numbers) of_tree.tables within
+  used_within : All (λ i. i < length grown.tables) (used_tables (tree_of grown.tree))
+  used_within = subst (λ numbers. All (λ i. i < length grown.tables) numbers) of_tree.tables within
 
   searched_truth : IsTrueFound instance found
   searched_truth = record {
     layout = record { layout = of_tree; within = used_within };
-    certificate = certificate_holds instance found is_best.accepted holds.tree.cover holds.tree.tables used_within holds.tree.stored holds.tree.bound;
-    log = holds.tree.log;
+    certificate = certificate_holds instance found is_best.accepted is.tree.cover is.tree.lawful used_within is.tree.stored is.tree.bound;
+    log = is.tree.logged;
   }
 
   -- the bound that the root begins with
   abbrev first : Stored
   first = record { table = 0; value = bound_of opening.value opening.table.k; exact = false }
 
-  above_first : AtMost (Some first.value) (tree_bound m.tree)
-  above_first = least_above m.tree.units m.tree.periods m.tables m.log root first.value first m.tree.nodes (le_refl first.value) holds.tree.own
+  above_first : AtMost (Some first.value) (tree_bound grown.tree)
+  above_first =
+      least_above grown.tree.units grown.tree.periods grown.tables grown.log root first.value first grown.tree.nodes (le_refl first.value) is.tree.own
 
   bound_opened : (bound : Option ℤ) → AtMost (Some first.value) bound → IfSome bound (IsBoundOpened instance (ending_of stands))
   bound_opened None above = tt
@@ -157,16 +157,15 @@ module _ (instance : Instance) (stands : Standing) (best : Option (Printed × �
   scale : pos 0 <ℤ opening.table.k
   scale = subst (λ k. pos 0 <ℤ k) (sym priced.scale) million
 
-  searched_own : IsQuiet (ending_of stands) opening gap m.log → HasEachPattern instance → HasNoRay instance → IsWhole m.tree
-      → IsAnswerOf instance budget gap found
-  searched_own quiet each none whole = record {
+  searched_own : IsQuiet (ending_of stands) opening gap grown.log → HasEachPattern instance → HasNoRay instance → IsAnswerOf instance budget gap found
+  searched_own quiet each none = record {
     result = record {
       truth = searched_truth;
-      plain = grown.searching.plain;
-      by_values = grown.searching.by_values;
-      within = grown.spent.within;
-      spent = grown.spent.spent;
-      most_on = tells_most_on instance (tree_bound m.tree) stands best dropped.most_on is_best.no_dearer;
+      plain = is.plain;
+      by_values = is.by_values;
+      within = is.spent.within;
+      spent = is.spent.spent;
+      most_on = tells_most_on instance (tree_bound grown.tree) stands grown.best dropped.most_on is_best.no_dearer;
       empty = λ g empty. absurd (not_first instance g each empty);
       ray = λ n ray. absurd (none n ray.within ray.positive);
       opened = λ patterns. record {
@@ -174,34 +173,34 @@ module _ (instance : Instance) (stands : Standing) (best : Option (Printed × �
         ending = ending_of stands;
         drop = dropped.drop;
         schedule = is_best.no_dearer;
-        bound = bound_opened (tree_bound m.tree) above_first;
+        bound = bound_opened (tree_bound grown.tree) above_first;
         own = λ rays. record {
           table = opening.table;
           value = opening.value;
           opening = opens;
-          is_first = holds.tree.first;
-          own = holds.tree.own;
+          is_first = is.tree.first;
+          own = is.tree.own;
           closed = quiet;
         };
       };
-      few = holds.tree.few;
+      few = is.tree.few;
     };
     writable = record {
-      tree = whole;
+      tree = is.tree.whole;
       schedule = is_best.accepted;
-      bound = least_small m.tree.units m.tree.periods m.tables m.log root first m.tree.nodes
-          (bound_small opening.value opening.table.k scale priced.valued.size) grown.searching.sized holds.tree.own;
+      bound = least_small grown.tree.units grown.tree.periods grown.tables grown.log root first grown.tree.nodes
+          (bound_small opening.value opening.table.k scale priced.valued.size) is.sized is.tree.own;
       tables = All-weaker (IsLawfulTable instance) HasFewRows (λ table. few_rows instance table lawful) (written_tables found)
-          (written_lawful instance found holds.tree.tables used_within);
+          (written_lawful instance found is.tree.lawful used_within);
     };
   }
 
-pub searched_answer : (instance : Instance) (stands : Standing) (best : Option (Printed × ℤ)) (stuck : Option Stuck) (opening : Priced) (m : Machine)
-    (layout : Layout) (budget gap : ℕ) → IsLawfulInstance instance → HasEachPattern instance → HasNoRay instance → IsDropped instance stands
-    → stuck ≡ kept_stuck stands → IsBest instance (ending_of stands) best → IsRootTable instance (ending_of stands) opening.table opening.value
-    → IsPricedOf instance opening → HoldsAt instance (start_by instance opening budget gap) m → IsGrown instance opening budget gap m best
-    → IsQuiet (ending_of stands) opening gap m.log → IsWhole m.tree → IsLayoutOf m.tree layout → All (λ i. i < length m.tables) layout.tables
-    → IsAnswerOf instance budget gap (searched_found m best stuck layout)
-searched_answer instance stands best stuck opening m layout budget gap lawful each none dropped kept is_best opens priced holds grown quiet whole of_tree within =
-    subst (λ (s : Option Stuck). IsAnswerOf instance budget gap (searched_found m best s layout)) (sym kept)
-    (searched_own instance stands best opening m layout budget gap lawful dropped is_best opens priced holds grown of_tree within quiet each none whole)
+pub searched_answer : (instance : Instance) (stands : Standing) (stuck : Option Stuck) (opening : Priced) (grown : Grown) (layout : Layout)
+    (budget gap : ℕ) → IsLawfulInstance instance → HasEachPattern instance → HasNoRay instance → IsDropped instance stands
+    → stuck ≡ kept_stuck stands → IsBest instance (ending_of stands) grown.best → IsRootTable instance (ending_of stands) opening.table opening.value
+    → IsPricedOf instance opening → IsGrown instance opening budget gap grown → IsQuiet (ending_of stands) opening gap grown.log
+    → IsLayoutOf grown.tree layout → All (λ i. i < length grown.tables) layout.tables
+    → IsAnswerOf instance budget gap (searched_found grown stuck layout)
+searched_answer instance stands stuck opening grown layout budget gap lawful each none dropped kept is_best opens priced is quiet of_tree within =
+    subst (λ (s : Option Stuck). IsAnswerOf instance budget gap (searched_found grown s layout)) (sym kept)
+    (searched_own instance stands opening grown layout budget gap lawful dropped is_best opens priced is of_tree within quiet each none)

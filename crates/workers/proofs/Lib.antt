@@ -1,6 +1,12 @@
-pub mod FewRows
-pub mod Excluded
-pub mod WrittenTables
-pub mod OwnValues
 pub mod Answered
-pub mod Searches
+pub mod Beginning
+pub mod Claimed
+pub mod Ended
+pub mod Excluded
+pub mod FewRows
+pub mod Joined
+pub mod Kept
+pub mod OwnValues
+pub mod Seats
+pub mod Settled
+pub mod WrittenTables

@@ -21,7 +21,7 @@ use Rattle.search_core.specs.Machine.{entries_of}
 use Rattle.search_core.specs.Moves.{bound_of, kept_after}
 use Rattle.search_core.specs.OwnTables.{HoldsStored, OwnsBelow, stored_after, stored_by}
 use Rattle.opening.specs.Outcomes.{IsSized}
-use Rattle.workers.specs.inside.Searches.{Entry, Table, IsSizedEntry}
+use Rattle.workers.specs.inside.Desks.{Entry, Table, IsSizedEntry}
 use Rattle.dual_model.specs.declared.node.Node.{Node}
 use Rattle.branch_tree.specs.declared.found.Outcome.{Outcome}
 

@@ -1,4 +1,5 @@
 pub mod Opening
+pub mod Options
 pub mod SearchResult
 pub mod Writable
 pub mod inside

@@ -3,3 +3,7 @@ pub mod Best
 pub mod Starts
 pub mod Searches
 pub mod Answers
+pub mod Passes
+pub mod Desks
+pub mod Closings
+pub mod DeskCode

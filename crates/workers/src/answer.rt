@@ -8,7 +8,6 @@ ghost use Rattle.dual_model.specs.Tree.{root};
 ghost use Rattle.branch_tree.specs.StoredTree.{tree_bound};
 ghost use Rattle.branch_tree.specs.TreeView.{IsWhole, tree_of};
 ghost use Rattle.branch_tree.specs.UsedTables.{stored_tables};
-ghost use Rattle.search_core.specs.Runs.{HoldsAt};
 ghost use Rattle.schedule_check.specs.Accepted.{IsAcceptedIfFound};
 ghost use Rattle.decommitment.specs.Standings.{IsDropped, ending_of};
 ghost use Rattle.opening.specs.Rays.{HasNoRay, IsFirstRay};
@@ -16,12 +15,11 @@ ghost use Rattle.opening.specs.RootTables.{IsPricedOf};
 ghost use Rattle.workers.specs.Opening.{IsRootTable};
 ghost use Rattle.workers.specs.inside.Answers.{IsAnswerOf, IsQuiet, lone_root, told_by};
 ghost use Rattle.workers.specs.inside.Best.{Standing, IsBest, kept_stuck};
-ghost use Rattle.workers.specs.inside.Searches.{Priced, IsGrown, start_by};
+ghost use Rattle.workers.specs.inside.Searches.{Priced, IsGrown};
 
-use crate::tree_search::Search;
+use crate::grow::Grown;
 use crate::worker::Worker;
 use branch_tree::{Found, Layout, Leaf, Tree};
-use opening::excluding_ray;
 use prices::opening_ray;
 use std::alloc::Global;
 use uc_model::{Instance, List, NoMemory, Printed, Stuck};
@@ -62,15 +60,15 @@ pub(crate) fn excluded(
     worker: &mut Worker,
     best: &Option<(Printed, i64)>,
 ) -> Option<Result<Found, NoMemory>>
-    requires patterns { HasEachPattern worker.old.evaluator }
-    requires accepted { IsAcceptedIfFound worker.old.evaluator best.now }
-    ensures kept { worker.new.evaluator ≡ worker.old.evaluator }
-    ensures rays { result ≡ None → HasNoRay worker.old.evaluator }
-    ensures answer { (budget gap : ℕ) (stands : Standing) → IsDropped worker.old.evaluator stands
-        → IfSome result (λ answer. IfOk answer (IsAnswerOf worker.old.evaluator budget gap)) }
+    requires patterns { HasEachPattern worker.old }
+    requires accepted { IsAcceptedIfFound worker.old best.now }
+    ensures kept { worker.new ≡ worker.old }
+    ensures rays { result ≡ None → HasNoRay worker.old }
+    ensures answer { (budget gap : ℕ) (stands : Standing) → IsDropped worker.old stands
+        → IfSome result (λ answer. IfOk answer (IsAnswerOf worker.old budget gap)) }
 {
-    let instance = worker.evaluator.instance();
-    match excluding_ray(alloc, &mut worker.evaluator, best) {
+    let instance = worker.instance();
+    match worker.excluding_ray(alloc, best) {
         Ok(None) => None,
         Ok(Some(n)) => Some(without_schedule(alloc, instance, n)),
         Err(NoMemory) => Some(Err(NoMemory)),
@@ -112,49 +110,33 @@ fn told(tree: &Tree, best: &Option<(Printed, i64)>, most_on: Option<Stuck>) -> O
 pub(crate) fn bounded(
     alloc: Global,
     instance: &Instance,
-    search: Search,
+    grown: Grown,
     most_on: Option<Stuck>,
 ) -> Result<Found, NoMemory>
     requires lawful { IsLawfulInstance instance.now }
     requires patterns { HasEachPattern instance.now }
     requires rays { HasNoRay instance.now }
-    requires whole { IsWhole search.state.tree }
-    requires stored { All (λ table. table < length search.state.tables) (stored_tables (tree_of search.state.tree)) }
+    requires whole { IsWhole grown.tree }
+    requires stored { All (λ table. table < length grown.tables) (stored_tables (tree_of grown.tree)) }
     ensures { (budget gap : ℕ) (stands : Standing) (opening : Priced) → IsDropped instance.now stands → most_on ≡ kept_stuck stands
-        → IsBest instance.now (ending_of stands) search.best → IsRootTable instance.now (ending_of stands) opening.table opening.value
-        → IsPricedOf instance.now opening → HoldsAt instance.now (start_by instance.now opening budget gap) search.state
-        → IsGrown instance.now opening budget gap search.state search.best
-        → IsQuiet (ending_of stands) opening gap search.state.log → IfOk result (IsAnswerOf instance.now budget gap) }
+        → IsBest instance.now (ending_of stands) grown.best → IsRootTable instance.now (ending_of stands) opening.table opening.value
+        → IsPricedOf instance.now opening → IsGrown instance.now opening budget gap grown
+        → IsQuiet (ending_of stands) opening gap grown.log → IfOk result (IsAnswerOf instance.now budget gap) }
 {
-    let Search {
-        state,
+    let Grown {
+        tree,
+        tables,
+        log,
         best,
-        frontier,
-        next,
-        last,
-    } = search;
-    drop(frontier);
-    drop(next);
-    drop(last);
-    let tables = state.tables().as_slice().len();
-    match Layout::of(alloc, state.tree(), tables) {
-        Ok(layout) => {
-            let most_on = told(state.tree(), &best, most_on);
-            let (tree, tables, log) = state.finish();
-            Ok(Found {
-                schedule: best,
-                tree,
-                tables,
-                log,
-                most_on,
-                layout,
-            })
-        }
-        Err(NoMemory) => {
-            drop(state);
-            drop(best);
-            drop(most_on);
-            Err(NoMemory)
-        }
-    }
+    } = grown;
+    let layout = Layout::of(alloc, &tree, tables.as_slice().len())?;
+    let most_on = told(&tree, &best, most_on);
+    Ok(Found {
+        schedule: best,
+        tree,
+        tables,
+        log,
+        most_on,
+        layout,
+    })
 }

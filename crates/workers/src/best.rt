@@ -1,19 +1,13 @@
-//! The best schedule so far, which repairs improve.
+//! How far repairs go, and how good the best schedule so far is.
 
-ghost use Rattle.std.specs.Prelude.{◌≡◌, ◌≤◌, Some, IfOk};
+ghost use Rattle.std.specs.Prelude.{◌≡◌, ◌≤◌, Some};
 ghost use Rattle.uc_model.specs.Limits.{IsLawfulInstance};
 ghost use Rattle.uc_model.specs.declared.tolerance.TheConstants.{WHOLE_GAP};
 ghost use Rattle.branch_tree.specs.Closing.{is_schedule_within};
-ghost use Rattle.schedule_check.specs.Accepted.{IsAcceptedIfFound};
-ghost use Rattle.workers.specs.inside.Best.{Instance, IsLower, IsNoWorse};
 
-use crate::worker::Worker;
 use branch_tree::is_within_gap;
-use prices::Ascent;
-use schedule_repair::repair;
-use std::alloc::Global;
 use uc_model::tolerance::{WHOLE_GAP, tolerance};
-use uc_model::{Instance, NoMemory, Printed};
+use uc_model::{Instance, Printed};
 
 /// The moves of the first repair for each unit: enough for the passes of each threshold.
 const FIRST_MOVES_EACH: u32 = 60;
@@ -55,20 +49,20 @@ pub(crate) fn enough(bound: i128, gap: u32) -> i64
     cost.min(i128::from(i64::MAX)).max(i128::from(i64::MIN)) as i64
 }
 
-/// The bound at which the best schedule is within the gap of it, and a margin more, since an ascent may be wrong.
-pub(crate) fn goal(best: &Option<(Printed, i64)>, gap: u32) -> i128
+/// The bound at which this cost, in micro-dollars, is within the gap of it, and a margin more, since an ascent may be wrong.
+pub(crate) fn goal(cost: Option<i64>, gap: u32) -> i128
     requires { gap ≤ WHOLE_GAP }
 {
-    match best {
-        Some((_, cost)) => {
-            let least = i128::from(*cost).saturating_sub(i128::from(tolerance(*cost, gap)));
+    match cost {
+        Some(cost) => {
+            let least = i128::from(cost).saturating_sub(i128::from(tolerance(cost, gap)));
             least.saturating_add(i128::from(cost.unsigned_abs() / ERRORS))
         }
         None => i128::MAX,
     }
 }
 
-/// Whether the best schedule closes a root of this bound.
+/// Whether the schedule closes a tree of this bound.
 pub(crate) fn is_closed(best: &Option<(Printed, i64)>, bound: i128, gap: u32) -> bool
     requires { gap ≤ WHOLE_GAP }
     ensures { result ≡ is_schedule_within best.now (Some bound) gap }
@@ -77,50 +71,4 @@ pub(crate) fn is_closed(best: &Option<(Printed, i64)>, bound: i128, gap: u32) ->
         Some((_, cost)) => is_within_gap(cost, &Some(bound), gap),
         None => false,
     }
-}
-
-/// The cheaper of the best schedule so far and of what a repair of an ascent finds in so many moves, which ends at a cost that is `enough`.
-/// The only error is `NoMemory`.
-pub(crate) fn improved(
-    alloc: Global,
-    worker: &mut Worker,
-    ascent: &Ascent,
-    moves: u32,
-    enough: i64,
-    best: Option<(Printed, i64)>,
-) -> Result<Option<(Printed, i64)>, NoMemory>
-    requires best { IsAcceptedIfFound worker.old.evaluator best }
-    ensures kept { worker.new.evaluator ≡ worker.old.evaluator }
-    ensures accepted { IfOk result (IsAcceptedIfFound worker.old.evaluator) }
-    ensures no_worse { IfOk result (IsNoWorse best) }
-{
-    let found = repair(
-        alloc,
-        &mut worker.repairs,
-        worker.evaluator.instance(),
-        &ascent.table,
-        &ascent.shares,
-        moves,
-        enough,
-    )?;
-    Ok(cheaper(best, found))
-}
-
-// The cheaper of two schedules that may be missing, the first where both cost the same.
-fn cheaper(first: Option<(Printed, i64)>, second: Option<(Printed, i64)>) -> Option<(Printed, i64)>
-    ensures accepted { (instance : Instance) → IsAcceptedIfFound instance first → IsAcceptedIfFound instance second → IsAcceptedIfFound instance result }
-    ensures no_worse { IsNoWorse first result }
-{
-    match (first, second) {
-        (Some(first), Some(second)) => Some(lower(first, second)),
-        (None, second) => second,
-        (first, None) => first,
-    }
-}
-
-// The cheaper of two schedules.
-fn lower(first: (Printed, i64), second: (Printed, i64)) -> (Printed, i64)
-    ensures { IsLower first second result }
-{
-    if second.1 < first.1 { second } else { first }
 }

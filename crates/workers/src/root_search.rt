@@ -1,38 +1,44 @@
 //! The search.
 
-ghost use Rattle.std.specs.Prelude.{◌≤◌, IfOk};
+ghost use Rattle.std.specs.Prelude.{IfOk};
 ghost use Rattle.uc_model.specs.Limits.{IsLawfulInstance};
-ghost use Rattle.uc_model.specs.declared.tolerance.TheConstants.{WHOLE_GAP};
 ghost use Rattle.dual_model.specs.Tree.{HasEachPattern};
-ghost use Rattle.search_core.specs.declared.limits.TheConstants.{MAX_BUDGET};
 ghost use Rattle.opening.specs.Rays.{HasNoRay};
 ghost use Rattle.workers.specs.SearchResult.{IsSearchResult};
 ghost use Rattle.workers.specs.Writable.{IsWritable};
+ghost use Rattle.workers.specs.Options.{AreOptions};
 ghost use Rattle.workers.specs.inside.Answers.{IsAnswerOf};
 ghost use Rattle.workers.specs.inside.Starts.{IsOpened};
 
 use crate::answer::{bounded, excluded, without_pattern};
+use crate::beside::beside;
+use crate::grow::search_tree;
 use crate::start::{Opened, started};
-use crate::tree_search::{holds, search_tree};
 use crate::worker::Worker;
 use branch_tree::Found;
 use outside::Gate;
 use std::alloc::Global;
 use std::sync::Wait;
+use std::thread::Threads;
 use uc_model::{Instance, NoMemory};
 
-/// How long a search goes on: at most `budget` evaluations after the opening, and only while the cost is above the bound by more
-/// than `gap` parts per million of its size.
+/// The most workers of a search.
+pub const MAX_WORKERS: u8 = 64;
+
+/// How a search goes on: at most `budget` evaluations after the opening, by so many workers, and only while the cost is above the bound by
+/// more than `gap` parts per million of its size.
 #[derive(Clone, Copy, Debug)]
 pub struct Options {
     pub budget: u32,
+    pub workers: u8,
     pub gap: u32,
 }
 
 /// What the search finds: a leaf for the first unit without an allowed pattern, or for the first ray of the opening that leaves no
 /// schedule, without any claim; or else a bound, and a schedule where the drop commitment has one or a repair finds one. Each claim
-/// enters the gate as its unit, from 1, of worker 0. The only error is `NoMemory`.
-pub fn search<R: Wait, G: Gate>(
+/// enters the gate as its unit, from 1, of its worker, from 0. Where a thread can't be made its worker runs after another one. The only
+/// error is `NoMemory`.
+pub fn search<R: Threads + Wait + Sync, G: Gate + Sync>(
     rt: &R,
     alloc: Global,
     instance: &Instance,
@@ -40,72 +46,79 @@ pub fn search<R: Wait, G: Gate>(
     gate: &G,
 ) -> Result<Found, NoMemory>
     requires lawful { IsLawfulInstance instance.now }
-    requires budget { options.now.budget ≤ MAX_BUDGET }
-    requires gap { options.now.gap ≤ WHOLE_GAP }
+    requires options { AreOptions options.now }
     ensures result { IfOk result (IsSearchResult instance.now options.now.budget options.now.gap) }
     ensures writable { IfOk result (IsWritable instance.now) }
 {
-    let mut worker = Worker::new(alloc, instance)?;
-    answered(rt, alloc, &mut worker, options, gate)
+    let worker = Worker::new(alloc, instance)?;
+    answered(rt, alloc, worker, options, gate)
 }
 
 // The answer of a worker on the instance.
-fn answered<R: Wait, G: Gate>(
+fn answered<R: Threads + Wait + Sync, G: Gate + Sync>(
     rt: &R,
     alloc: Global,
-    worker: &mut Worker,
+    worker: Worker,
     options: &Options,
     gate: &G,
 ) -> Result<Found, NoMemory>
-    requires budget { options.now.budget ≤ MAX_BUDGET }
-    requires gap { options.now.gap ≤ WHOLE_GAP }
-    ensures { IfOk result (IsAnswerOf worker.old.evaluator options.now.budget options.now.gap) }
+    requires options { AreOptions options.now }
+    ensures { IfOk result (IsAnswerOf worker.entry options.now.budget options.now.gap) }
 {
-    match worker.evaluator.first_empty(alloc)? {
-        Some(g) => without_pattern(alloc, worker.evaluator.instance(), g),
+    let mut worker = worker;
+    let empty = worker.first_empty(alloc);
+    let (worker, empty) = beside(worker, empty)?;
+    match empty {
+        Some(g) => {
+            let instance = worker.instance();
+            drop(worker);
+            without_pattern(alloc, instance, g)
+        }
         None => searched(rt, alloc, worker, options, gate),
     }
 }
 
 // The answer where each unit has an allowed pattern.
-fn searched<R: Wait, G: Gate>(
+fn searched<R: Threads + Wait + Sync, G: Gate + Sync>(
     rt: &R,
     alloc: Global,
-    worker: &mut Worker,
+    worker: Worker,
     options: &Options,
     gate: &G,
 ) -> Result<Found, NoMemory>
-    requires patterns { HasEachPattern worker.old.evaluator }
-    requires budget { options.now.budget ≤ MAX_BUDGET }
-    requires gap { options.now.gap ≤ WHOLE_GAP }
-    ensures { IfOk result (IsAnswerOf worker.old.evaluator options.now.budget options.now.gap) }
+    requires patterns { HasEachPattern worker }
+    requires options { AreOptions options.now }
+    ensures { IfOk result (IsAnswerOf worker.entry options.now.budget options.now.gap) }
 {
-    let opened = started(alloc, worker, options.gap)?;
-    match excluded(alloc, worker, &opened.start.best) {
-        Some(answer) => answer,
+    let mut worker = worker;
+    let opened = started(alloc, &mut worker, options.gap);
+    let (mut worker, opened) = beside(worker, opened)?;
+    match excluded(alloc, &mut worker, &opened.start.best) {
+        Some(answer) => {
+            drop((worker, opened));
+            answer
+        }
         None => claimed(rt, alloc, worker, options, opened, gate),
     }
 }
 
 // The answer where no ray of the opening excludes the root either.
-fn claimed<R: Wait, G: Gate>(
+fn claimed<R: Threads + Wait + Sync, G: Gate + Sync>(
     rt: &R,
     alloc: Global,
-    worker: &mut Worker,
+    worker: Worker,
     options: &Options,
     opened: Opened,
     gate: &G,
 ) -> Result<Found, NoMemory>
-    requires patterns { HasEachPattern worker.old.evaluator }
-    requires rays { HasNoRay worker.old.evaluator }
-    requires budget { options.now.budget ≤ MAX_BUDGET }
-    requires gap { options.now.gap ≤ WHOLE_GAP }
-    requires opened { IsOpened worker.old.evaluator opened }
-    ensures { IfOk result (IsAnswerOf worker.old.evaluator options.now.budget options.now.gap) }
+    requires patterns { HasEachPattern worker }
+    requires rays { HasNoRay worker }
+    requires options { AreOptions options.now }
+    requires opened { IsOpened worker opened }
+    ensures { IfOk result (IsAnswerOf worker.entry options.now.budget options.now.gap) }
 {
-    let instance = worker.evaluator.instance();
+    let instance = worker.instance();
     let Opened { start, most_on } = opened;
     let grown = search_tree(rt, alloc, worker, options, start, gate)?;
-    holds(&grown.state);
     bounded(alloc, instance, grown, most_on)
 }

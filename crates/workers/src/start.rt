@@ -11,8 +11,8 @@ ghost use Rattle.workers.specs.Opening.{IsRootTable};
 ghost use Rattle.workers.specs.inside.Starts.{IsOpened};
 ghost use Rattle.workers.specs.inside.Trials.{IsAscentFor};
 
-use crate::best::{enough, improved, moves};
-use crate::worker::Worker;
+use crate::best::{enough, moves};
+use crate::worker::{Effort, Worker};
 use decommitment::{Standing, drop_pass};
 use opening::{Priced, dispatched_root, root_node, unpriced_root};
 use prices::{Ascent, next_ascent, zero};
@@ -37,23 +37,23 @@ pub(crate) struct Opened {
 
 /// What the claims begin with. The only error is `NoMemory`.
 pub(crate) fn started(alloc: Global, worker: &mut Worker, gap: u32) -> Result<Opened, NoMemory>
-    requires patterns { HasEachPattern worker.old.evaluator }
+    requires patterns { HasEachPattern worker.old }
     requires gap { gap ≤ WHOLE_GAP }
-    ensures kept { worker.new.evaluator ≡ worker.old.evaluator }
-    ensures opened { IfOk result (IsOpened worker.old.evaluator) }
+    ensures kept { worker.new ≡ worker.old }
+    ensures opened { IfOk result (IsOpened worker.old) }
 {
-    let standing = drop_pass(alloc, worker.evaluator.instance())?;
+    let standing = drop_pass(alloc, worker.instance())?;
     let opening = root_table(alloc, worker, &standing)?;
     start_with(alloc, worker, gap, opening, standing)
 }
 
 // The root's table by how the drop commitment stands.
 fn root_table(alloc: Global, worker: &mut Worker, standing: &Standing) -> Result<Priced, NoMemory>
-    requires patterns { HasEachPattern worker.old.evaluator }
-    requires dropped { IsDropped worker.old.evaluator standing.now }
-    ensures kept { worker.new.evaluator ≡ worker.old.evaluator }
-    ensures table { IfOk result (λ priced. IsRootTable worker.old.evaluator (ending_of standing.now) priced.table priced.value) }
-    ensures priced { IfOk result (IsPricedOf worker.old.evaluator) }
+    requires patterns { HasEachPattern worker.old }
+    requires dropped { IsDropped worker.old standing.now }
+    ensures kept { worker.new ≡ worker.old }
+    ensures table { IfOk result (λ priced. IsRootTable worker.old (ending_of standing.now) priced.table priced.value) }
+    ensures priced { IfOk result (IsPricedOf worker.old) }
 {
     match standing {
         Standing::Stuck { .. } => unpriced_root(alloc, &mut worker.evaluator),
@@ -73,11 +73,11 @@ fn start_with(
     standing: Standing,
 ) -> Result<Opened, NoMemory>
     requires gap { gap ≤ WHOLE_GAP }
-    requires dropped { IsDropped worker.old.evaluator standing }
-    requires table { IsRootTable worker.old.evaluator (ending_of standing) opening.table opening.value }
-    requires priced { IsPricedOf worker.old.evaluator opening }
-    ensures kept { worker.new.evaluator ≡ worker.old.evaluator }
-    ensures opened { IfOk result (IsOpened worker.old.evaluator) }
+    requires dropped { IsDropped worker.old standing }
+    requires table { IsRootTable worker.old (ending_of standing) opening.table opening.value }
+    requires priced { IsPricedOf worker.old opening }
+    ensures kept { worker.new ≡ worker.old }
+    ensures opened { IfOk result (IsOpened worker.old) }
 {
     match standing {
         Standing::Dispatched { printed, cost } => Ok(Opened {
@@ -109,11 +109,11 @@ fn repaired(
     gap: u32,
 ) -> Result<(Ascent, Option<(Printed, i64)>), NoMemory>
     requires gap { gap ≤ WHOLE_GAP }
-    ensures kept { worker.new.evaluator ≡ worker.old.evaluator }
-    ensures ascent { IfOk result (λ both. IsAscentFor worker.old.evaluator 1 both.0) }
-    ensures accepted { IfOk result (λ both. IsAcceptedIfFound worker.old.evaluator both.1) }
+    ensures kept { worker.new ≡ worker.old }
+    ensures ascent { IfOk result (λ both. IsAscentFor worker.old 1 both.0) }
+    ensures accepted { IfOk result (λ both. IsAcceptedIfFound worker.old both.1) }
 {
-    let ascent = first_ascent(alloc, worker.evaluator.instance())?;
+    let ascent = first_ascent(alloc, worker.instance())?;
     let best = first_repaired(alloc, worker, gap, &ascent)?;
     Ok((ascent, best))
 }
@@ -126,21 +126,17 @@ fn first_repaired(
     ascent: &Ascent,
 ) -> Result<Option<(Printed, i64)>, NoMemory>
     requires gap { gap ≤ WHOLE_GAP }
-    ensures kept { worker.new.evaluator ≡ worker.old.evaluator }
-    ensures accepted { IfOk result (IsAcceptedIfFound worker.old.evaluator) }
+    ensures kept { worker.new ≡ worker.old }
+    ensures accepted { IfOk result (IsAcceptedIfFound worker.old) }
 {
     if ascent.ray.is_some() {
         return Ok(None);
     }
-    let moves = moves(worker.evaluator.instance(), 1);
-    improved(
-        alloc,
-        worker,
-        ascent,
-        moves,
-        enough(ascent.bound, gap),
-        None,
-    )
+    let effort = Effort {
+        moves: moves(worker.instance(), 1),
+        enough: enough(ascent.bound, gap),
+    };
+    worker.repair(alloc, ascent, effort)
 }
 
 /// The ascent of the first claim, from the prices in order of merit, which come out better than the opening's. The only error is

@@ -1,67 +1,67 @@
-//! A claim of a node: at which table it is evaluated, and by which move it ends.
+//! The evaluation of a node that is held: at which table, and what came out.
 
-ghost use Rattle.std.specs.Prelude.{◌≡◌, ◌≢◌, ◌<◌, ◌≤◌, false, [], None, pos, IfOk, IfSome, IsTrue, OnOk};
+ghost use Rattle.std.specs.Prelude.{◌≡◌, ◌≤◌, pos, IfOk, IfSome};
 ghost use Rattle.uc_model.specs.Limits.{IsLawfulInstance};
-ghost use Rattle.dual_model.specs.Fixings.{IsNodeOf};
+ghost use Rattle.uc_model.specs.declared.tolerance.TheConstants.{WHOLE_GAP};
 ghost use Rattle.dual_model.specs.Prices.{IsLawfulTable};
-ghost use Rattle.branch_tree.specs.NumberedTree.{node_count};
-ghost use Rattle.branch_tree.specs.StoredTree.{IsNodeAt};
-ghost use Rattle.search_core.specs.Machine.{entries_of};
-ghost use Rattle.search_core.specs.declared.limits.TheConstants.{MAX_BUDGET};
-ghost use Rattle.workers.specs.inside.Searches.{Instance, IsReady, IsTableFor, IsVisited};
-ghost use Rattle.workers.specs.inside.Trials.{IsAscentFor, IsFreshRay, IsNextAt, table_of};
+ghost use Rattle.workers.specs.inside.Desks.{IsHeldClaim};
+ghost use Rattle.workers.specs.inside.Trials.{IsAscentFor, IsEvaluatedFor, IsNextAt, IsRay, IsTableFor, IsTrialFor};
 
+use crate::beside::beside;
+use crate::best::goal;
+use crate::desk::{Claim, Evaluated};
 use crate::start::first_ascent;
-use crate::tree_search::{Claim, Search};
 use crate::worker::Worker;
-use claims::{Hints, WORKER, action, stored_table, take};
+use claims::{Branching, Hints, split_cell};
 use dual_model::{Node, Table};
-use opening::{is_positive, node_ray};
+use opening::{is_positive, node_ray, root_node};
 use prices::{Ascent, next_ascent, with_cell, with_ray};
 use schedule_repair::is_small;
-use search_core::{Event, State};
 use std::alloc::Global;
 use uc_model::{Instance, NoMemory};
 
 /// In so many claims a cell to split on is sought, each time by thousands of evaluations.
 const SEEKING_CLAIMS: u32 = 100;
 
-/// What a claim is evaluated at: the table that its node inherited, a ray of the opening, the ray of an ascent that ran off, or the table
-/// that an ascent found.
+/// A node is split once its inherited table was evaluated, and an ascent was made from it.
+const NODES: Branching = Branching { ripe: 1, late: 3 };
+
+/// One worker splits the root with its third entry, or on any cell with its fourth.
+const ROOT: Branching = Branching { ripe: 2, late: 3 };
+
+/// Several workers split the root at once.
+const SHARED_ROOT: Branching = Branching { ripe: 0, late: 0 };
+
+/// What a claim is evaluated at: the table that its node inherited, a ray, or the table of an ascent; with the ascent that led to it, if there
+/// was one.
 #[derive(Drop)]
-pub(crate) enum Trial {
-    Inherited(Table),
-    Ray(Table),
-    RanOff { ray: Table, ascent: Ascent },
-    Ascended(Ascent),
+pub(crate) struct Trial {
+    pub table: Table,
+    pub ascent: Option<Ascent>,
+}
+
+/// How a node is searched: the gap that closes the search, in parts per million, and whether several workers do it.
+#[derive(Clone, Copy)]
+pub(crate) struct Aim {
+    pub gap: u32,
+    pub shared: bool,
 }
 
 impl Trial {
-    // The table.
-    fn table(&self) -> &Table
-        ensures { result.now ≡ table_of self.now }
+    // A table that no ascent led to.
+    fn of(table: Table) -> Trial
+        ensures { result.table ≡ table }
     {
-        match self {
-            Trial::Inherited(table) => table,
-            Trial::Ray(table) => table,
-            Trial::RanOff { ray, .. } => ray,
-            Trial::Ascended(ascent) => &ascent.table,
+        Trial {
+            table,
+            ascent: None,
         }
     }
 
-    // The ascent, where there is one.
-    fn into_ascent(self) -> Option<Ascent> {
-        match self {
-            Trial::RanOff { ascent, .. } => Some(ascent),
-            Trial::Ascended(ascent) => Some(ascent),
-            _ => None,
-        }
-    }
-
-    // What an ascent tells of where to split.
+    // What an ascent tells of where to split; nothing at a ray.
     fn hints(&self) -> Hints<'_> {
-        match self {
-            Trial::Ascended(ascent) => Hints {
+        match &self.ascent {
+            Some(ascent) if self.table.k() > 0 => Hints {
                 shares: &ascent.shares,
                 cell: ascent.cell,
             },
@@ -73,81 +73,56 @@ impl Trial {
     }
 }
 
-/// Evaluates the node that is held by the claim, commits what comes out, and puts the nodes that are open then in their order. The only error
-/// is `NoMemory`.
-pub(crate) fn visit(
+/// Evaluates the node that is held by the claim, with the ascent that a repair is to begin with, if there is one; the ascent of the first
+/// claim may have been made already. The only error is `NoMemory`.
+pub(crate) fn evaluated(
     alloc: Global,
     worker: &mut Worker,
-    search: &mut Search,
-    claim: Claim,
-) -> Result<(), NoMemory>
-    requires unit { claim.unit ≤ MAX_BUDGET }
-    requires ready { IsReady worker.old.evaluator search.old.state claim.node claim.unit }
-    requires next { IsNextAt worker.old.evaluator claim.unit search.old.next }
-    ensures kept { worker.new.evaluator ≡ worker.old.evaluator }
-    ensures best { search.new.best ≡ search.old.best }
-    ensures next { OnOk result (search.new.next ≡ None) }
-    ensures visited { OnOk result (IsVisited worker.old.evaluator search.old.state search.new.state claim.node claim.unit) }
+    claim: &Claim,
+    aim: Aim,
+    next: &mut Option<Ascent>,
+) -> Result<(Evaluated, Option<Ascent>), NoMemory>
+    requires claim { IsHeldClaim worker.old claim.now }
+    requires gap { aim.gap ≤ WHOLE_GAP }
+    requires next { IsNextAt worker.old 1 next.old }
+    ensures kept { worker.new ≡ worker.old }
+    ensures evaluated { IfOk result (λ both. IsEvaluatedFor worker.old claim.now both.0) }
 {
-    let path = search.state.tree().fixings(alloc, claim.node)?;
-    let trial = chosen(alloc, worker, search, claim, &path)?;
-    let ended = end(alloc, worker, search, claim, &path, &trial);
-    let is_small = is_small(worker.evaluator.instance());
-    remember(search, claim, trial, is_small);
-    ended
-}
-
-// Keeps the ascent of the trial, where a repair is to begin with one, in the place of former ones.
-fn remember(search: &mut Search, claim: Claim, trial: Trial, is_small: bool)
-    ensures state { search.new.state ≡ search.old.state }
-    ensures best { search.new.best ≡ search.old.best }
-    ensures next { search.new.next ≡ None }
-{
-    search.next = None;
-    search.last = repairable(claim, trial.into_ascent(), is_small);
-}
-
-// Evaluates the node at the trial's table, and commits what comes out with the move that ends the claim.
-fn end(
-    alloc: Global,
-    worker: &mut Worker,
-    search: &mut Search,
-    claim: Claim,
-    path: &Node,
-    trial: &Trial,
-) -> Result<(), NoMemory>
-    requires path { IsNodeOf worker.old.evaluator path.now }
-    requires own { (own : _) → IsNodeAt search.old.state.tree claim.node own → path.now ≡ own }
-    requires ready { IsReady worker.old.evaluator search.old.state claim.node claim.unit }
-    requires table { IsTableFor worker.old.evaluator search.old.state claim.node claim.unit (table_of trial.now) }
-    ensures kept { worker.new.evaluator ≡ worker.old.evaluator }
-    ensures best { search.new.best ≡ search.old.best }
-    ensures next { search.new.next ≡ search.old.next }
-    ensures visited { OnOk result (IsVisited worker.old.evaluator search.old.state search.new.state claim.node claim.unit) }
-{
-    let table = trial.table();
-    let outcome = worker.evaluator.outcome(alloc, path, table)?;
-    let action = action(
-        &search.state,
-        worker.evaluator.instance(),
-        claim.node,
-        path,
-        table,
+    let goal = goal(claim.seen, aim.gap);
+    let trial = chosen(alloc, worker, claim, Search { aim, goal }, next)?;
+    let outcome = worker.evaluator.outcome(alloc, &claim.path, &trial.table);
+    let (trial, outcome) = beside(trial, outcome)?;
+    let instance = worker.instance();
+    let cell = split_cell(
+        instance,
+        &claim.path,
+        claim.had,
+        branching(claim, aim),
         trial.hints(),
-        &outcome,
     );
-    let event = Event::Commit {
-        worker: WORKER,
-        unit: claim.unit,
-        table: table.copy(alloc)?,
-        exact: false,
+    let Trial { table, ascent } = trial;
+    let done = Evaluated {
+        table,
         outcome,
-        action,
+        cell,
     };
-    take(alloc, &mut search.state, event)?;
-    search
-        .frontier
-        .add_after(&search.state, claim.node, &action)
+    Ok((done, repairable(claim, goal, ascent, is_small(instance))))
+}
+
+/// How a node is searched, and at which bound it is pruned.
+#[derive(Clone, Copy)]
+struct Search {
+    aim: Aim,
+    goal: i128,
+}
+
+// After how many entries the node is split.
+fn branching(claim: &Claim, aim: Aim) -> Branching {
+    match (claim.node, aim.shared) {
+        (0, true) => SHARED_ROOT,
+        (0, false) => ROOT,
+        _ => NODES,
+    }
 }
 
 // What to evaluate the node at: the table that it inherited, where it wasn't evaluated yet; a ray that excludes it, where no schedule is
@@ -155,26 +130,21 @@ fn end(
 fn chosen(
     alloc: Global,
     worker: &mut Worker,
-    search: &mut Search,
-    claim: Claim,
-    path: &Node,
+    claim: &Claim,
+    search: Search,
+    next: &mut Option<Ascent>,
 ) -> Result<Trial, NoMemory>
-    requires path { IsNodeOf worker.old.evaluator path.now }
-    requires unit { claim.unit ≤ MAX_BUDGET }
-    requires ready { IsReady worker.old.evaluator search.old.state claim.node claim.unit }
-    requires next { IsNextAt worker.old.evaluator claim.unit search.old.next }
-    ensures kept { worker.new.evaluator ≡ worker.old.evaluator }
-    ensures state { search.new.state ≡ search.old.state }
-    ensures best { search.new.best ≡ search.old.best }
-    ensures table { IfOk result (λ trial. IsTableFor worker.old.evaluator search.old.state claim.node claim.unit (table_of trial)) }
+    requires claim { IsHeldClaim worker.old claim.now }
+    requires next { IsNextAt worker.old 1 next.old }
+    ensures kept { worker.new ≡ worker.old }
+    ensures trial { IfOk result (IsTrialFor worker.old claim.now) }
 {
-    if is_new(&search.state, claim.node) {
-        let table = stored_table(&search.state, claim.node).copy(alloc)?;
-        return Ok(Trial::Inherited(table));
+    if claim.node != 0 && claim.had == 0 {
+        return Ok(Trial::of(claim.table.copy(alloc)?));
     }
-    match opening_ray(alloc, worker, search, claim, path)? {
-        Some(ray) => Ok(Trial::Ray(ray)),
-        None => ascended(alloc, worker, search, claim, path),
+    match opening_ray(alloc, worker, claim)? {
+        Some(ray) => Ok(Trial::of(ray)),
+        None => ascended(alloc, worker, claim, search, next),
     }
 }
 
@@ -182,142 +152,173 @@ fn chosen(
 fn ascended(
     alloc: Global,
     worker: &mut Worker,
-    search: &mut Search,
-    claim: Claim,
-    path: &Node,
+    claim: &Claim,
+    search: Search,
+    next: &mut Option<Ascent>,
 ) -> Result<Trial, NoMemory>
-    requires path { IsNodeOf worker.old.evaluator path.now }
-    requires unit { claim.unit ≤ MAX_BUDGET }
-    requires ready { IsReady worker.old.evaluator search.old.state claim.node claim.unit }
-    requires known { entries_of search.old.state.log claim.node ≡ [] → claim.node ≢ 0 → ⊥ }
-    requires next { IsNextAt worker.old.evaluator claim.unit search.old.next }
-    ensures kept { worker.new.evaluator ≡ worker.old.evaluator }
-    ensures state { search.new.state ≡ search.old.state }
-    ensures best { search.new.best ≡ search.old.best }
-    ensures table { IfOk result (λ trial. IsTableFor worker.old.evaluator search.old.state claim.node claim.unit (table_of trial)) }
+    requires claim { IsHeldClaim worker.old claim.now }
+    requires next { IsNextAt worker.old 1 next.old }
+    ensures kept { worker.new ≡ worker.old }
+    ensures trial { IfOk result (IsTrialFor worker.old claim.now) }
 {
-    let ascent = ascent(alloc, worker, search, claim, path)?;
-    match own_ray(alloc, worker, search, claim, path, &ascent) {
-        Ok(Some(ray)) => Ok(Trial::RanOff { ray, ascent }),
-        Ok(None) => Ok(Trial::Ascended(ascent)),
-        Err(NoMemory) => Err(NoMemory),
-    }
+    let ascent = ascent(alloc, worker.instance(), claim, search, next)?;
+    let table = ascended_table(alloc, worker, claim, &ascent);
+    let (ascent, table) = beside(ascent, table)?;
+    Ok(Trial {
+        table,
+        ascent: Some(ascent),
+    })
 }
 
-// Whether the node isn't the root, and has no entry of the log.
-fn is_new(state: &State, node: u32) -> bool
-    ensures new { IsTrue result → entries_of state.now.log node ≡ [] }
-    ensures known { result ≡ false → entries_of state.now.log node ≡ [] → node ≢ 0 → ⊥ }
-{
-    node != 0 && state.entries(node) == 0
-}
-
-// The ray, where there is one that was not tried at the node.
-fn fresh(state: &State, node: u32, ray: Option<Table>) -> Option<Table>
-    requires { node < node_count state.now.tree.nodes }
-    ensures { (instance : Instance) → IfSome ray (IsLawfulTable instance) → IfSome ray (λ table. table.k ≡ pos 0)
-        → IfSome result (IsFreshRay instance state.now node) }
-{
-    match ray {
-        Some(ray) if state.is_fresh(node, &ray, false) => Some(ray),
-        _ => None,
-    }
-}
-
-// A ray of the opening that excludes the node and was not tried there, where no schedule is known; but none for the root, at which the
-// opening has tried them.
-fn opening_ray(
+// The ray of the ascent, where this excludes the node, or else its table.
+fn ascended_table(
     alloc: Global,
     worker: &mut Worker,
-    search: &Search,
-    claim: Claim,
-    path: &Node,
-) -> Result<Option<Table>, NoMemory>
-    requires path { IsNodeOf worker.old.evaluator path.now }
-    requires within { claim.node < node_count search.now.state.tree.nodes }
-    ensures kept { worker.new.evaluator ≡ worker.old.evaluator }
-    ensures ray { IfOk result (λ ray. IfSome ray (IsFreshRay worker.old.evaluator search.now.state claim.node)) }
+    claim: &Claim,
+    ascent: &Ascent,
+) -> Result<Table, NoMemory>
+    requires claim { IsHeldClaim worker.old claim.now }
+    requires ascent { IsAscentFor worker.old claim.now.unit ascent.now }
+    ensures kept { worker.new ≡ worker.old }
+    ensures table { IfOk result (IsTableFor worker.old claim.now) }
 {
-    if search.best.is_some() || claim.node == 0 {
-        return Ok(None);
+    match own_ray(alloc, worker, claim, ascent)? {
+        Some(ray) => Ok(ray),
+        None => ascent.table.copy(alloc),
     }
-    let ray = node_ray(alloc, &mut worker.evaluator, path)?;
-    Ok(fresh(&search.state, claim.node, ray))
 }
 
-// The ray of an ascent that ran off, where it excludes the node and was not tried there, and no schedule is known.
+// A ray of the opening that excludes the node, where no schedule is known; but none for the root, at which the opening has tried them.
+fn opening_ray(alloc: Global, worker: &mut Worker, claim: &Claim) -> Result<Option<Table>, NoMemory>
+    requires { IsHeldClaim worker.old claim.now }
+    ensures kept { worker.new ≡ worker.old }
+    ensures ray { IfOk result (λ ray. IfSome ray (IsRay worker.old)) }
+{
+    if claim.seen.is_some() || claim.node == 0 {
+        return Ok(None);
+    }
+    node_ray(alloc, &mut worker.evaluator, &claim.path)
+}
+
+// The ray of an ascent that ran off, where it excludes the node and no schedule is known.
 fn own_ray(
     alloc: Global,
     worker: &mut Worker,
-    search: &Search,
-    claim: Claim,
-    path: &Node,
+    claim: &Claim,
     ascent: &Ascent,
 ) -> Result<Option<Table>, NoMemory>
-    requires path { IsNodeOf worker.old.evaluator path.now }
-    requires within { claim.node < node_count search.now.state.tree.nodes }
-    requires ascent { IsAscentFor worker.old.evaluator claim.unit ascent.now }
-    ensures kept { worker.new.evaluator ≡ worker.old.evaluator }
-    ensures ray { IfOk result (λ ray. IfSome ray (IsFreshRay worker.old.evaluator search.now.state claim.node)) }
+    requires claim { IsHeldClaim worker.old claim.now }
+    requires ascent { IsAscentFor worker.old claim.now.unit ascent.now }
+    ensures kept { worker.new ≡ worker.old }
+    ensures ray { IfOk result (λ ray. IfSome ray (IsRay worker.old)) }
 {
     let Some(ray) = &ascent.ray else {
         return Ok(None);
     };
-    if search.best.is_some() || !is_positive(&worker.evaluator.outcome(alloc, path, ray)?) {
+    if claim.seen.is_some() || !is_positive(&worker.evaluator.outcome(alloc, &claim.path, ray)?) {
         return Ok(None);
     }
-    let ray = ray.copy(alloc)?;
-    Ok(fresh(&search.state, claim.node, Some(ray)))
+    Ok(Some(ray.copy(alloc)?))
 }
 
 // The ascent, unless it came so high that the node was pruned: a schedule there is hardly cheaper than the best one. In a small system it is
 // tried all the same.
-fn repairable(claim: Claim, ascent: Option<Ascent>, is_small: bool) -> Option<Ascent> {
+fn repairable(claim: &Claim, goal: i128, ascent: Option<Ascent>, is_small: bool) -> Option<Ascent> {
     match ascent {
-        Some(ascent) if is_small || ascent.bound < enough(claim) => Some(ascent),
+        Some(ascent) if is_small || ascent.bound < enough(claim, goal) => Some(ascent),
         _ => None,
     }
 }
 
 // The bound at which an ascent of the claim ends: that at which its node is pruned; but none at the root, whose table all others begin with.
-fn enough(claim: Claim) -> i128 {
-    if claim.node == 0 {
-        i128::MAX
+fn enough(claim: &Claim, goal: i128) -> i128 {
+    if claim.node == 0 { i128::MAX } else { goal }
+}
+
+// The ascent to a table of this unit's scale: the one that was made already, or one from what the node stores.
+fn ascent(
+    alloc: Global,
+    instance: &Instance,
+    claim: &Claim,
+    search: Search,
+    next: &mut Option<Ascent>,
+) -> Result<Ascent, NoMemory>
+    requires claim { IsHeldClaim instance.now claim.now }
+    requires next { IsNextAt instance.now 1 next.old }
+    ensures ascent { IfOk result (IsAscentFor instance.now claim.now.unit) }
+{
+    if claim.unit == 1 {
+        root_ascent(alloc, instance, search.aim.shared, next)
     } else {
-        claim.goal
+        node_ascent(alloc, instance, claim, enough(claim, search.goal))
     }
 }
 
-// The ascent to a table of this unit's scale: the one that was made already, or one from what the node stores, with a ray or a cell that is
-// looked for where no schedule is known after the first claim.
-fn ascent(
+// The ascent of the first claim; several workers make two more, since they split the root then.
+fn root_ascent(
     alloc: Global,
-    worker: &Worker,
-    search: &mut Search,
-    claim: Claim,
-    path: &Node,
+    instance: &Instance,
+    shared: bool,
+    next: &mut Option<Ascent>,
 ) -> Result<Ascent, NoMemory>
-    requires unit { claim.unit ≤ MAX_BUDGET }
-    requires next { IsNextAt worker.now.evaluator claim.unit search.old.next }
-    requires path { IsNodeOf worker.now.evaluator path.now }
-    requires ready { IsReady worker.now.evaluator search.old.state claim.node claim.unit }
-    ensures state { search.new.state ≡ search.old.state }
-    ensures best { search.new.best ≡ search.old.best }
-    ensures ascent { IfOk result (IsAscentFor worker.now.evaluator claim.unit) }
+    requires lawful { IsLawfulInstance instance.now }
+    requires next { IsNextAt instance.now 1 next.old }
+    ensures { IfOk result (IsAscentFor instance.now 1) }
 {
-    let instance = worker.evaluator.instance();
-    match search.next.take() {
-        Some(ascent) => Ok(ascent),
-        None if claim.unit == 1 => first_ascent(alloc, instance),
-        None => {
-            let table = stored_table(&search.state, claim.node);
-            let ascent = next_ascent(alloc, instance, path, table, claim.unit, enough(claim))?;
-            if search.best.is_some() || ascent.ray.is_some() {
-                Ok(ascent)
-            } else {
-                sought(alloc, instance, path, ascent, claim.unit)
-            }
-        }
+    let ascent = match next.take() {
+        Some(ascent) => ascent,
+        None => first_ascent(alloc, instance)?,
+    };
+    if shared {
+        let stepped = root_steps(alloc, instance, &ascent.table);
+        drop(ascent);
+        stepped
+    } else {
+        Ok(ascent)
+    }
+}
+
+// Two more ascents of the first claim, each from the table of the one before.
+fn root_steps(alloc: Global, instance: &Instance, table: &Table) -> Result<Ascent, NoMemory>
+    requires { IsLawfulInstance instance.now }
+    ensures { IfOk result (IsAscentFor instance.now 1) }
+{
+    let ascent = root_step(alloc, instance, table)?;
+    let stepped = root_step(alloc, instance, &ascent.table);
+    drop(ascent);
+    stepped
+}
+
+// One more ascent of the first claim, from the table of the one before.
+fn root_step(alloc: Global, instance: &Instance, table: &Table) -> Result<Ascent, NoMemory>
+    requires { IsLawfulInstance instance.now }
+    ensures { IfOk result (IsAscentFor instance.now 1) }
+{
+    next_ascent(alloc, instance, &root_node(alloc), table, 1, i128::MAX)
+}
+
+// The ascent from what the node stores, with a ray or a cell that is looked for where no schedule is known.
+fn node_ascent(
+    alloc: Global,
+    instance: &Instance,
+    claim: &Claim,
+    enough: i128,
+) -> Result<Ascent, NoMemory>
+    requires claim { IsHeldClaim instance.now claim.now }
+    ensures ascent { IfOk result (IsAscentFor instance.now claim.now.unit) }
+{
+    let ascent = next_ascent(
+        alloc,
+        instance,
+        &claim.path,
+        &claim.table,
+        claim.unit,
+        enough,
+    )?;
+    if claim.seen.is_some() || ascent.ray.is_some() {
+        Ok(ascent)
+    } else {
+        sought(alloc, instance, &claim.path, ascent, claim.unit)
     }
 }
 

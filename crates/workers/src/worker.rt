@@ -1,29 +1,103 @@
 //! A worker: what it keeps from claim to claim.
 
-ghost use Rattle.std.specs.Prelude.{◌≡◌, IfOk};
+ghost use Rattle.std.specs.Prelude.{◌≡◌, IfOk, MatchOption};
 ghost use Rattle.uc_model.specs.Limits.{IsLawfulInstance};
+ghost use Rattle.dual_model.specs.Fixings.{IsFirstEmpty};
+ghost use Rattle.dual_model.specs.Tree.{HasEachPattern, root};
+ghost use Rattle.schedule_check.specs.Accepted.{IsAcceptedIfFound};
+ghost use Rattle.opening.specs.Rays.{HasNoRay, IsFirstRay};
 
-use opening::Evaluator;
-use schedule_repair::Repair;
+use opening::{Evaluator, excluding_ray};
+use prices::Ascent;
+use schedule_repair::{Repair, repair};
 use std::alloc::Global;
-use uc_model::{Instance, NoMemory};
+use std::marker::Model;
+use uc_model::{Instance, NoMemory, Printed};
 
-/// The evaluator of the instance, and what its repairs share.
+/// The evaluator of the instance, and what its repairs share. Contracts see the instance.
 #[derive(Drop)]
 pub(crate) struct Worker<'a> {
     pub evaluator: Evaluator<'a>,
-    pub repairs: Repair,
+    repairs: Repair,
+}
+
+impl<'a> Model for Worker<'a> {
+    ghost use Rattle.uc_model.specs.declared.instance.Instance.{Instance};
+
+    ghost Value = { Instance };
+
+    ghost view = { λ worker. worker.evaluator };
+}
+
+/// How far a repair goes: so many moves, and to a cost that is low enough, in micro-dollars.
+#[derive(Clone, Copy)]
+pub(crate) struct Effort {
+    pub moves: u32,
+    pub enough: i64,
 }
 
 impl<'a> Worker<'a> {
     /// A worker on the instance. The only error is `NoMemory`.
     pub(crate) fn new(alloc: Global, instance: &'a Instance) -> Result<Worker<'a>, NoMemory>
         requires { IsLawfulInstance instance.now }
-        ensures { IfOk result (λ worker. worker.evaluator ≡ instance.now) }
+        ensures { IfOk result (λ worker. worker ≡ instance.now) }
     {
         Ok(Worker {
             evaluator: Evaluator::new(alloc, instance)?,
             repairs: Repair::new(alloc, instance)?,
         })
+    }
+
+    /// The instance.
+    pub(crate) fn instance(&self) -> &'a Instance
+        ensures is { result.now ≡ self.now }
+        ensures lawful { IsLawfulInstance self.now }
+    {
+        self.evaluator.instance()
+    }
+
+    /// The first thermal unit without an allowed pattern. The only error is `NoMemory`.
+    pub(crate) fn first_empty(&mut self, alloc: Global) -> Result<Option<u32>, NoMemory>
+        ensures kept { self.new ≡ self.old }
+        ensures empty { IfOk result (λ empty. MatchOption empty (HasEachPattern self.old) (IsFirstEmpty self.old root)) }
+    {
+        self.evaluator.first_empty(alloc)
+    }
+
+    /// The first ray of the opening that leaves no schedule. Where there is a schedule, there is none. The only error is `NoMemory`.
+    pub(crate) fn excluding_ray(
+        &mut self,
+        alloc: Global,
+        best: &Option<(Printed, i64)>,
+    ) -> Result<Option<u32>, NoMemory>
+        requires lawful { IsLawfulInstance self.old }
+        requires patterns { HasEachPattern self.old }
+        requires accepted { IsAcceptedIfFound self.old best.now }
+        ensures kept { self.new ≡ self.old }
+        ensures ray { IfOk result (λ ray. MatchOption ray (HasNoRay self.old) (IsFirstRay self.old)) }
+    {
+        excluding_ray(alloc, &mut self.evaluator, best)
+    }
+
+    /// A schedule that is found near the ascent, with its cost in micro-dollars. The only error is `NoMemory`.
+    pub(crate) fn repair(
+        &mut self,
+        alloc: Global,
+        ascent: &Ascent,
+        effort: Effort,
+    ) -> Result<Option<(Printed, i64)>, NoMemory>
+        ensures kept { self.new ≡ self.old }
+        ensures accepted { IfOk result (IsAcceptedIfFound self.old) }
+    {
+        let instance = self.evaluator.instance();
+        repair(
+            alloc,
+            &mut self.repairs,
+            instance,
+            &ascent.table,
+            &ascent.shares,
+            effort.moves,
+            effort.enough,
+        )
     }
 }

@@ -32,3 +32,9 @@ IsLower first second lower = ((lower ≡ first) × (first.1 ≤ℤ second.1)) �
 abbrev pub told_of : Option (Printed × ℤ) → Option Stuck → Option Stuck
 told_of None stuck = stuck
 told_of (Some priced) stuck = None
+
+-- ---- its cost
+-- the cost of a schedule that may be missing
+abbrev pub cost_of : Option (Printed × ℤ) → Option ℤ
+cost_of None = None
+cost_of (Some priced) = Some priced.1

@@ -1,108 +1,76 @@
--- The search over the tree between claims, and what a claim of a node is to be.
-use Rattle.std.specs.Prelude.{◌≡◌, ◌≢◌, ℕ, ◌+◌, ◌<◌, ◌≤◌, Bool, true, false, All, [], ℤ, pos, ◌≤ℤ◌, ◌<ℤ◌, Option, None, Some, length}
-use Rattle.uc_model.specs.Schedule.{thermal_count}
+-- The search over the tree: what it begins with, and what it leaves.
+use Rattle.std.specs.Prelude.{◌≡◌, ◌≢◌, ℕ, ◌≤◌, true, false, Bool, All, List, ℤ, Option, Some, None, length, slice_get}
+use Rattle.atomic_table.specs.Seated.{TableId}
 pub use Rattle.uc_model.specs.declared.instance.Instance.{Instance}
 use Rattle.uc_model.specs.declared.schedule.Printed.{Printed}
-use Rattle.dual_model.specs.Fixings.{IsNodeOf}
+use Rattle.dual_model.specs.Laws.{IsClaimTrue}
 use Rattle.dual_model.specs.Prices.{IsLawfulTable}
-use Rattle.dual_model.specs.declared.node.Node.{Node}
+use Rattle.dual_model.specs.Tree.{root, IsCover, EachLeaf}
 pub use Rattle.dual_model.specs.declared.table.Table.{Table}
 use Rattle.branch_tree.specs.Closing.{is_schedule_within}
 use Rattle.branch_tree.specs.Kinds.{IsPlainTree}
-use Rattle.branch_tree.specs.NumberedTree.{node_count}
-use Rattle.branch_tree.specs.StoredTree.{IsNodeAt, tree_bound}
-use Rattle.branch_tree.specs.TreeView.{IsOpenAt}
+use Rattle.branch_tree.specs.StoredTree.{tree_bound}
+use Rattle.branch_tree.specs.TreeLaws.{StoredHolds}
+use Rattle.branch_tree.specs.TreeView.{TreeView, IsWhole, tree_of}
+use Rattle.branch_tree.specs.TrueFound.{IsTrueLog}
 pub use Rattle.branch_tree.specs.declared.found.Entry.{Entry}
-use Rattle.branch_tree.specs.declared.found.Outcome.{Outcome}
-use Rattle.search_core.specs.declared.event.Event.TheVariants.{Commit}
-use Rattle.search_core.specs.declared.event.Move.{Move}
-use Rattle.search_core.specs.Machine.{Machine, IsHolding, IsWorker, entries_of, start_of}
-use Rattle.search_core.specs.Moves.{HasFreeCell, bound_of}
-use Rattle.search_core.specs.Steps.{IsFresh, IsLegal, IsStoredTable, after}
-use Rattle.search_core.specs.Runs.{IsReached}
-use Rattle.schedule_check.specs.Accepted.{IsAcceptedIfFound}
-use Rattle.claims.specs.Claims.{HasStoredTable, IsPublished}
-use Rattle.opening.specs.Outcomes.{IsOutcomeAt, IsSized}
-use Rattle.workers.specs.SearchResult.{IsByValue}
+use Rattle.incumbent.specs.Passes.{Incumbent, Known}
+use Rattle.search_core.specs.Moves.{bound_of}
+use Rattle.search_core.specs.OwnTables.{Owns, HasFewEntries}
+use Rattle.book.specs.Opening.{Opening}
 pub use Rattle.opening.specs.declared.root_tables.Priced.{Priced}
+use Rattle.schedule_check.specs.Accepted.{IsAcceptedIfFound}
+use Rattle.workers.specs.SearchResult.{IsByValue}
+use Rattle.workers.specs.declared.grow.Grown.{Grown}
+use Rattle.workers.specs.inside.Desks.{IsSizedEntry}
 
--- the machine's start: one worker, and a root that stores the opening's table with its bound
-abbrev pub start_by : Instance → Priced → ℕ → ℕ → Machine
-start_by instance opening budget gap =
-    start_of (thermal_count instance) instance.periods 1 budget gap opening.table (bound_of opening.value opening.table.k)
+-- ---- the start
+-- the worker is on the instance
+abbrev pub IsOn : Instance → Instance → Type 0
+IsOn instance worker = worker ≡ instance
 
-abbrev pub IsSizedEntry : Entry → Type 0
-IsSizedEntry entry = IsSized entry.outcome
+-- of which run the book is: a root that stores the opening's table with its bound
+abbrev pub opening_by : Instance → Priced → ℕ → ℕ → Opening
+opening_by instance opening budget gap =
+    record { instance = instance; budget = budget; gap = gap; table = opening.table; value = bound_of opening.value opening.table.k }
 
--- the scale of a table is at most that of the claim of this unit
-abbrev pub IsScaledWithin : ℕ → Table → Type 0
-IsScaledWithin unit table = table.k ≤ℤ pos (1000000 + unit)
+-- the incumbent is this one, in so many parts, and the pass has all of them and has seen and published nothing
+pub record IsWholeOf (object : TableId) (count : ℕ) (best : Incumbent) (pass : Known) : Type 0 where
+  pub of : best.object ≡ object
+  pub parts : best.parts ≡ count
+  pub pass_of : pass.object ≡ object
+  pub pass_parts : pass.parts ≡ count
+  pub mine : pass.mine ≡ None
 
--- the search between claims: each claim so far was committed
-pub record IsSearching (instance : Instance) (opening : Priced) (budget gap : ℕ) (m : Machine) : Type 0 where
-  pub reached : IsReached instance (start_by instance opening budget gap) m
-  pub budget_is : m.budget ≡ budget
-  pub gap_is : m.gap ≡ gap
-  pub workers : length m.desks ≡ 1
-  pub unheld : All (λ claim. claim ≡ None) m.claims
-  pub count : length m.log ≡ length m.claims
-  pub sized : All IsSizedEntry m.log
-  pub scaled : All (IsScaledWithin (length m.claims)) m.tables
-  pub plain : IsPlainTree m.tree
-  pub by_values : All IsByValue m.log
-
--- the cost of a schedule that may be missing
-abbrev pub cost_of : Option (Printed × ℤ) → Option ℤ
-cost_of None = None
-cost_of (Some priced) = Some priced.1
-
--- the worker holds the open node by the claim of this unit
-pub record IsReady (instance : Instance) (m : Machine) (node unit : ℕ) : Type 0 where
-  pub live : IsOpenAt m.tree.nodes node
-  pub within : node < node_count m.tree.nodes
-  pub stored : HasStoredTable m node
-  pub tables : All (IsLawfulTable instance) m.tables
-  pub path : (path : Node) → IsNodeAt m.tree node path → IsNodeOf instance path
-  pub scaled : All (λ (table : Table). table.k <ℤ pos (1000000 + unit)) m.tables
-  pub held : IsHolding m 0 unit node
-  pub worker : IsWorker m 0
-
--- a table at which the node may be evaluated by the claim of this unit, as each is by V
-pub record IsTableFor (instance : Instance) (m : Machine) (node unit : ℕ) (table : Table) : Type 0 where
-  pub lawful : IsLawfulTable instance table
-  pub scaled : IsScaledWithin unit table
-  pub fresh : IsFresh m (entries_of m.log node) table false
-  pub first : entries_of m.log node ≡ [] → node ≢ 0 → HasFreeCell m.tree node → IsStoredTable m node table
-
--- the claim of this unit ended by a commit
-pub record IsVisited (instance : Instance) (m after_m : Machine) (node unit : ℕ) : Type 0 where
-  pub table : Table
-  pub outcome : Outcome
-  pub action : Move
-  pub fits : IsTableFor instance m node unit table
-  pub told : (path : Node) → IsNodeAt m.tree node path → IsOutcomeAt instance path table outcome
-  pub legal : IsLegal m (Commit 0 unit table false outcome action)
-  pub is : after_m ≡ after m (Commit 0 unit table false outcome action)
-
--- and then the cost of the best schedule was published
-pub record IsTurned (instance : Instance) (m after_m : Machine) (best : Option (Printed × ℤ)) (node unit : ℕ) : Type 0 where
-  pub between : Machine
-  pub visited : IsVisited instance m between node unit
-  pub published : IsPublished best between after_m
-
+-- ---- the end
 -- the best schedule is within the gap of the tree's bound, or no leaf has one
 abbrev pub is_finished : Option (Printed × ℤ) → Option ℤ → ℕ → Bool
 is_finished best None gap = true
 is_finished best (Some bound) gap = is_schedule_within best (Some bound) gap
 
 -- no more than the budget was spent, and the whole, unless the best schedule closes the tree, or no leaf has a bound
-pub record IsSpentUnlessClosed (m : Machine) (best : Option (Printed × ℤ)) (budget gap : ℕ) : Type 0 where
-  pub within : length m.log ≤ budget
-  pub spent : tree_bound m.tree ≢ None → is_schedule_within best (tree_bound m.tree) gap ≡ false → length m.log ≡ budget
+pub record IsSpentUnlessClosed (tree : TreeView) (log : List Entry) (best : Option (Printed × ℤ)) (budget gap : ℕ) : Type 0 where
+  pub within : length log ≤ budget
+  pub spent : tree_bound tree ≢ None → is_schedule_within best (tree_bound tree) gap ≡ false → length log ≡ budget
 
--- the search at its end
-pub record IsGrown (instance : Instance) (opening : Priced) (budget gap : ℕ) (m : Machine) (best : Option (Printed × ℤ)) : Type 0 where
-  pub searching : IsSearching instance opening budget gap m
-  pub published : m.best ≡ cost_of best
-  pub accepted : IsAcceptedIfFound instance best
-  pub spent : IsSpentUnlessClosed m best budget gap
+-- the tree is a cover whose leaves hold what they store, at lawful tables, the log is true, and each node stores what its entries leave, by
+-- what the root begins with
+pub record IsTreeOf (instance : Instance) (opening : Priced) (tree : TreeView) (tables : List Table) (log : List Entry) : Type 0 where
+  pub whole : IsWhole tree
+  pub cover : IsCover instance (tree_of tree)
+  pub stored : EachLeaf (StoredHolds instance tables) root (tree_of tree)
+  pub bound : IsClaimTrue instance (tree_bound tree)
+  pub lawful : All (IsLawfulTable instance) tables
+  pub logged : IsTrueLog instance tree tables log
+  pub first : slice_get tables 0 ≡ Some opening.table
+  pub own : Owns tree tables log (record { table = 0; value = bound_of opening.value opening.table.k; exact = false })
+  pub few : HasFewEntries tree log
+
+-- what a search leaves
+pub record IsGrown (instance : Instance) (opening : Priced) (budget gap : ℕ) (grown : Grown) : Type 0 where
+  pub tree : IsTreeOf instance opening grown.tree grown.tables grown.log
+  pub plain : IsPlainTree grown.tree
+  pub by_values : All IsByValue grown.log
+  pub sized : All IsSizedEntry grown.log
+  pub accepted : IsAcceptedIfFound instance grown.best
+  pub spent : IsSpentUnlessClosed grown.tree grown.log grown.best budget gap

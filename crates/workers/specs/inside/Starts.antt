@@ -1,18 +1,12 @@
 -- What the claims of the root begin with.
-use Rattle.std.specs.Prelude.{◌≡◌, ℕ, ℤ, Option, Some, length}
-use Rattle.uc_model.specs.Limits.{IsLawfulInstance}
-use Rattle.branch_tree.specs.StoredTree.{tree_bound}
+use Rattle.std.specs.Prelude.{◌≡◌, ℤ, Option, Some}
 use Rattle.decommitment.specs.Standings.{IsDropped, ending_of}
 use Rattle.decommitment.specs.declared.pass.Standing.TheVariants as standing
-use Rattle.search_core.specs.Moves.{bound_of}
-use Rattle.schedule_check.specs.Accepted.{IsAcceptedIfFound}
 use Rattle.opening.specs.RootTables.{IsPricedOf}
 use Rattle.workers.specs.Opening.{Instance, IsRootTable}
 use Rattle.workers.specs.declared.start.Opened.{Opened}
-use Rattle.workers.specs.declared.tree_search.Search.{Search}
 use Rattle.workers.specs.SearchResult.{Printed}
 use Rattle.workers.specs.inside.Best.{Standing, IsBest, kept_stuck}
-use Rattle.workers.specs.inside.Searches.{Priced, IsSearching, cost_of}
 use Rattle.workers.specs.inside.Trials.{IsNextAt}
 
 -- the best schedule is that of the drop commitment, where this has one
@@ -30,13 +24,3 @@ pub record IsOpened (instance : Instance) (opened : Opened) : Type 0 where
   pub is_best : IsBest instance (ending_of standing) opened.start.best
   pub is_first : IsFirstBest standing opened.start.best
   pub is_next : IsNextAt instance 1 opened.start.next
-
--- the search before any claim
-pub record IsBegun (instance : Instance) (opening : Priced) (budget gap : ℕ) (search : Search) : Type 0 where
-  pub lawful : IsLawfulInstance instance
-  pub searching : IsSearching instance opening budget gap search.state
-  pub count : length search.state.claims ≡ 0
-  pub bound : tree_bound search.state.tree ≡ Some (bound_of opening.value opening.table.k)
-  pub published : search.state.best ≡ cost_of search.best
-  pub accepted : IsAcceptedIfFound instance search.best
-  pub is_next : IsNextAt instance 1 search.next

@@ -1,26 +1,20 @@
 -- What a claim is evaluated at.
-use Rattle.std.specs.Prelude.{◌≡◌, ℕ, ◌+◌, false, pos, IfSome, Option, None, Some}
+use Rattle.std.specs.Prelude.{◌≡◌, ℕ, ◌+◌, ◌≤◌, false, pos, IfSome, Option, None, Some}
 use Rattle.uc_model.specs.declared.instance.Instance.{Instance}
 use Rattle.dual_model.specs.Prices.{IsLawfulTable}
 use Rattle.dual_model.specs.declared.table.Table.{Table}
 use Rattle.prices.specs.declared.ascent.Ascent.{Ascent}
-use Rattle.search_core.specs.Machine.{Machine, entries_of}
-use Rattle.search_core.specs.Steps.{IsFresh}
+use Rattle.search_core.specs.Runs.{IsTrueOutcome}
+use Rattle.opening.specs.Outcomes.{IsSized}
+use Rattle.workers.specs.declared.desk.Claim.{Claim}
+use Rattle.workers.specs.declared.desk.Evaluated.{Evaluated}
 use Rattle.workers.specs.declared.visit.Trial.{Trial}
-use Rattle.workers.specs.declared.visit.Trial.TheVariants as trial
+use Rattle.workers.specs.inside.Desks.{IsScaledWithin}
 
--- the table
-abbrev pub table_of : Trial → Table
-table_of (trial.Inherited table) = table
-table_of (trial.Ray table) = table
-table_of (trial.RanOff ray ascent) = ray
-table_of (trial.Ascended ascent) = ascent.table
-
--- a lawful ray that was not tried at the node
-pub record IsFreshRay (instance : Instance) (m : Machine) (node : ℕ) (ray : Table) : Type 0 where
+-- a lawful ray
+pub record IsRay (instance : Instance) (ray : Table) : Type 0 where
   pub lawful : IsLawfulTable instance ray
   pub scale : ray.k ≡ pos 0
-  pub fresh : IsFresh m (entries_of m.log node) ray false
 
 -- an ascent to a lawful table, whose scale is that of the claim of this unit, with a lawful ray if it ran off
 pub record IsAscentFor (instance : Instance) (unit : ℕ) (ascent : Ascent) : Type 0 where
@@ -33,3 +27,17 @@ pub record IsAscentFor (instance : Instance) (unit : ℕ) (ascent : Ascent) : Ty
 abbrev pub IsNextAt : Instance → ℕ → Option Ascent → Type 0
 IsNextAt instance unit None = Unit {0}
 IsNextAt instance unit (Some ascent) = IsAscentFor instance unit ascent
+
+-- a lawful table, of a scale at most that of the claim, or the one that its node stores
+pub record IsTableFor (instance : Instance) (claim : Claim) (table : Table) : Type 0 where
+  pub lawful : IsLawfulTable instance table
+  pub scaled : (limit : ℕ) → claim.unit ≤ limit → IsScaledWithin limit claim.table → IsScaledWithin limit table
+
+abbrev pub IsTrialFor : Instance → Claim → Trial → Type 0
+IsTrialFor instance claim trial = IsTableFor instance claim trial.table
+
+-- an evaluation of the claim's node at such a table
+pub record IsEvaluatedFor (instance : Instance) (claim : Claim) (done : Evaluated) : Type 0 where
+  pub table : IsTableFor instance claim done.table
+  pub told : IsTrueOutcome false instance claim.path done.table done.outcome
+  pub sized : IsSized done.outcome

@@ -6,6 +6,14 @@ use Rattle.uc_check.proofs.Verdicts.{handed_up}
 use Rattle.uc_cli.proofs.SearchResults.{answered}
 use Rattle.uc_cli.proofs.solve.find.Goals as goal
 
+pub search-requires-clause-options : goal.search-requires-clause-options
+search-requires-clause-options g c = λ lifetimes within. record {
+  budget = c.requires.budget;
+  some = c.requires.workers.0;
+  workers = c.requires.workers.1;
+  gap = c.requires.gap;
+}
+
 pub returns-in_err-found-clause-cause : goal.returns-in_err-found-clause-cause
 returns-in_err-found-clause-cause g c =
     handed_up c.from_residual-in_err-found.result Memory _ c.from_residual-in_err-found.ensures.1 tt

@@ -2,13 +2,12 @@
 use Rattle.std.proofs.Common.{subst, sym, IfOk}
 use Rattle.dual_model.specs.Tree.{HasEachPattern, root}
 use Rattle.branch_tree.specs.TreeView.{tree_of}
-use Rattle.search_core.specs.Runs.{HoldsAt}
 use Rattle.decommitment.specs.Standings.{IsDropped, ending_of}
 use Rattle.opening.specs.RootTables.{IsPricedOf}
 use Rattle.workers.specs.Opening.{Instance, IsRootTable}
 use Rattle.workers.specs.inside.Answers.{IsAnswerOf}
 use Rattle.workers.specs.inside.Best.{IsBest}
-use Rattle.workers.specs.inside.Searches.{IsGrown, start_by}
+use Rattle.workers.specs.inside.Searches.{IsGrown}
 use Rattle.workers.proofs.Answered.{opening_quiet}
 use Rattle.workers.proofs.WrittenTables.{each_within}
 use Rattle.workers.proofs.root_search.claimed.Goals as goal
@@ -16,36 +15,36 @@ use Rattle.workers.proofs.root_search.claimed.Goals as goal
 pub bounded-requires-clause-patterns : goal.bounded-requires-clause-patterns
 bounded-requires-clause-patterns g c = subst HasEachPattern (sym c.instance-instance.ensures.is) c.requires.patterns
 
+pub bounded-requires-clause-rays : goal.bounded-requires-clause-rays
+bounded-requires-clause-rays g c = rw c.instance-instance.ensures.is c.requires.rays
+
+pub bounded-requires-clause-whole : goal.bounded-requires-clause-whole
+bounded-requires-clause-whole g c = c.in_ok-grown.ensures.grown.tree.whole
+
 pub bounded-requires-clause-stored : goal.bounded-requires-clause-stored
 bounded-requires-clause-stored g c =
-    let instance = c.args.worker.now.evaluator in
-    let opening = c.args.opened.start.opening in
-    let budget = c.args.options.now.budget in
-    let gap = c.args.options.now.gap in
-    let state = c.in_ok-grown.grown.state in
-    each_within instance state.tables root (tree_of state.tree)
-    (c.holds.ensures.holds instance opening budget gap c.instance-instance.ensures.lawful c.in_ok-grown.ensures.grown.searching).tree.stored
+    let grown = c.in_ok-grown.grown in
+    each_within c.args.worker grown.tables root (tree_of grown.tree) c.in_ok-grown.ensures.grown.tree.stored
 
 pub returns : goal.returns
 returns g c =
-    let instance = c.args.worker.now.evaluator in
+    let instance = c.args.worker in
     let own = c.instance-instance.ensures.is in
     let opening = c.args.opened.start.opening in
     let budget = c.args.options.now.budget in
     let gap = c.args.options.now.gap in
     let opened = c.requires.opened in
     let stands = opened.standing in
+    let left = c.in_ok-grown.grown in
     let grown = c.in_ok-grown.ensures.grown in
-    let best : IsBest instance (ending_of stands) c.in_ok-grown.grown.best = record {
+    let best : IsBest instance (ending_of stands) left.best = record {
       accepted = grown.accepted;
       no_dearer = c.in_ok-grown.ensures.no_worse (ending_of stands) opened.is_best.no_dearer;
     } in
-    let holds = c.holds.ensures.holds instance opening budget gap c.instance-instance.ensures.lawful grown.searching in
     subst (λ (i : Instance). IfOk c.bounded.result (IsAnswerOf i budget gap)) own
     (c.bounded.ensures budget gap stands opening (subst (λ (i : Instance). IsDropped i stands) (sym own) opened.dropped) opened.stuck
-    (subst (λ (i : Instance). IsBest i (ending_of stands) c.in_ok-grown.grown.best) (sym own) best)
+    (subst (λ (i : Instance). IsBest i (ending_of stands) left.best) (sym own) best)
     (subst (λ (i : Instance). IsRootTable i (ending_of stands) opening.table opening.value) (sym own) opened.table)
     (subst (λ (i : Instance). IsPricedOf i opening) (sym own) opened.priced)
-    (subst (λ (i : Instance). HoldsAt i (start_by i opening budget gap) c.in_ok-grown.grown.state) (sym own) holds)
-    (subst (λ (i : Instance). IsGrown i opening budget gap c.in_ok-grown.grown.state c.in_ok-grown.grown.best) (sym own) grown)
-    (opening_quiet stands c.args.opened.start.best opening gap c.in_ok-grown.grown.state.log opened.is_first c.in_ok-grown.ensures.quiet))
+    (subst (λ (i : Instance). IsGrown i opening budget gap left) (sym own) grown)
+    (opening_quiet stands c.args.opened.start.best opening gap left.log opened.is_first c.in_ok-grown.ensures.quiet))

@@ -1,23 +1,25 @@
 -- The worker stays the instance's; the opening's ray excludes the root.
-use Rattle.std.proofs.Common.{subst, sym, IfOk}
+use Rattle.std.proofs.Common.{◌∙◌, subst, sym, IfOk}
 use Rattle.dual_model.specs.Tree.{HasEachPattern}
 use Rattle.decommitment.specs.Standings.{IsDropped}
 use Rattle.workers.specs.inside.Answers.{Instance, IsAnswerOf}
+use Rattle.workers.specs.inside.Starts.{IsOpened}
 use Rattle.workers.proofs.root_search.searched.Goals as goal
 
 pub excluded-requires-clause-patterns : goal.excluded-requires-clause-patterns
-excluded-requires-clause-patterns g c = subst HasEachPattern (sym c.in_ok-opened.ensures.kept) c.requires.patterns
+excluded-requires-clause-patterns g c =
+    subst HasEachPattern (sym (c.in_ok-worker.ensures.value ∙ c.started-opened.ensures.kept)) c.requires.patterns
 
 pub claimed-requires-clause-patterns : goal.claimed-requires-clause-patterns
-claimed-requires-clause-patterns g c =
-    subst HasEachPattern (sym c.excluded.ensures.kept) (subst HasEachPattern (sym c.in_ok-opened.ensures.kept) c.requires.patterns)
+claimed-requires-clause-patterns g c = λ lifetimes within.
+    subst HasEachPattern (sym (c.excluded.ensures.kept ∙ c.in_ok-worker.ensures.value ∙ c.started-opened.ensures.kept)) c.requires.patterns
 
 pub returns-in-Some : goal.returns-in-Some
 returns-in-Some g c =
     let budget = c.args.options.now.budget in
     let gap = c.args.options.now.gap in
-    let kept = c.in_ok-opened.ensures.kept in
-    let opened = c.in_ok-opened.ensures.opened in
-    let dropped = subst (λ (instance : Instance). IsDropped instance opened.standing) (sym kept) opened.dropped in
-    subst (λ (instance : Instance). IfOk c.in-Some.answer (IsAnswerOf instance budget gap)) kept
+    let own = c.in_ok-worker.ensures.value ∙ c.started-opened.ensures.kept in
+    let opened = subst (λ made. IfOk made (IsOpened c.args.worker)) c.in_ok-worker.ensures.made c.started-opened.ensures.opened in
+    let dropped = subst (λ (instance : Instance). IsDropped instance opened.standing) (sym own) opened.dropped in
+    subst (λ (instance : Instance). IfOk c.in-Some.answer (IsAnswerOf instance budget gap)) own
     (c.in-Some.ensures.answer budget gap opened.standing dropped)

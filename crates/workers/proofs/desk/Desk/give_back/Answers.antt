@@ -1,0 +1,17 @@
+-- Where memory was refused claims may be given back.
+use Rattle.workers.proofs.Kept.{safe_abandon}
+use Rattle.workers.proofs.desk.Desk.give_back.Goals as goal
+
+pub invariant_of-self : goal.invariant_of-self
+invariant_of-self g c =
+    let desk = c.self.invariant.0 in (
+      record {
+        object = desk.object;
+        mine = desk.mine;
+        parts = desk.parts;
+        kept = safe_abandon g.C.Case.opening c.self.inside.book c.abandon.new.self c.self.inside.pass.seen g.C.Case.opening.budget c.args.me c.args.unit
+            c.abandon.result desk.kept c.abandon.ensures;
+        complete = λ whole. absurd (cc);
+      },
+      c.self.invariant.1,
+    )

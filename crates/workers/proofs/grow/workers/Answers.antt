@@ -1,0 +1,12 @@
+-- Each worker is on the instance of the last one.
+use Rattle.std.proofs.Common.{All, IfOk, subst, sym}
+use Rattle.std.proofs.lemmas.List.Elements.{All-push}
+use Rattle.workers.specs.inside.Searches.{IsOn}
+use Rattle.workers.proofs.grow.workers.Goals as goal
+
+pub returns-clause-of : goal.returns-clause-of
+returns-clause-of c =
+    let here = IsOn c.args.last in
+    let others = subst (λ made. IfOk made (λ workers. All (IsOn c.instance.result.now) workers.items)) c.in_ok-last.ensures.made c.others-others.ensures.of in
+    let each = subst (λ i. All (IsOn i) c.in_ok-last.workers.items) c.instance.ensures.is others in
+    subst (All here) (sym c.in_ok-push.ensures.items) (All-push here c.in_ok-last.workers.items c.in_ok-last.last each c.in_ok-last.ensures.value)

@@ -1,0 +1,18 @@
+//! Of which search the book, the passes and the workers are.
+
+use book::Case;
+use std::marker::Brand;
+
+/// A search: the run of its book, and the incumbent that its passes are of. It has no call and no data; a type that is generic in it says of
+/// which search its values are. Each search picks it once, where it passes `Brand`.
+pub(crate) trait Run: Case {
+    ghost use Rattle.atomic_table.specs.Seated.{TableId};
+
+    ghost incumbent: { TableId };
+}
+
+impl Run for Brand {
+    ghost use Rattle.workers.specs.inside.Passes.{no_incumbent};
+
+    ghost incumbent = { no_incumbent };
+}
