@@ -26,12 +26,22 @@ use std::thread::{Threads, join, yield_now};
 use uc_model::{Instance, List, NoMemory, floor_div};
 use unit_path::Scratch;
 
-/// A call of a book with its answer. Workers and nodes count from 0, claims from 1. A table is that of no prices at the scale of a million and
-/// so much more. A commit is of the root, or of one of the nodes at which the first cell alone is decided.
+/// A commit, by a worker that may hold the claim of this unit: of the root, or of the node at which the first cell alone is decided so, at
+/// the table of no prices at the scale of a million and so much more.
+#[derive(Clone, Copy)]
+struct Commit {
+    worker: u8,
+    unit: u32,
+    first: Option<bool>,
+    more: u16,
+    action: Move,
+}
+
+/// A call of a book with its answer. Workers and nodes count from 0, claims from 1. A table is told as that of a commit.
 #[derive(Clone, Copy)]
 enum Call {
     Claim(u8, u32, Claimed),
-    Commit(u8, u32, Option<bool>, u16, Move, bool),
+    Commit(Commit, bool),
     Abandon(u8, u32, bool),
     Fresh(u32, u16, bool, bool),
     Children(u32, Option<(u32, u32)>),
@@ -46,6 +56,28 @@ const CELL: Move = Move::Split { g: 0, t: 0 };
 
 fn mine(unit: u32, had: u32) -> Claimed {
     Claimed::Mine { unit, had }
+}
+
+// A commit of the root.
+fn of_root(worker: u8, unit: u32, more: u16, action: Move) -> Commit {
+    Commit {
+        worker,
+        unit,
+        first: None,
+        more,
+        action,
+    }
+}
+
+// A commit of a node at which the first cell alone is decided, which leaves it open.
+fn of_child(worker: u8, unit: u32, on: bool, more: u16) -> Commit {
+    Commit {
+        worker,
+        unit,
+        first: Some(on),
+        more,
+        action: Move::Again,
+    }
 }
 
 // The root, or the node at which the first unit is on or off in the first period.
@@ -114,32 +146,112 @@ fn bound(alloc: Global, instance: &Instance, table: &Table) -> Result<i128, Fail
     }
 }
 
-// Evaluates the node at the table, and commits it.
-fn commit<C: Case>(
+// Evaluates a node, and makes the commit of it.
+fn make_commit<C: Case>(
     alloc: Global,
     book: &mut Book<C>,
     instance: &Instance,
-    worker: u8,
-    unit: u32,
     node: &Node,
-    more: u16,
-    action: Move,
+    commit: &Commit,
 ) -> Result<bool, NoMemory>
     requires lawful { IsLawfulInstance instance.now }
     requires same { instance.now ≡ C.opening.instance }
     requires node { IsNodeOf instance.now node.now }
 {
-    let table = table(alloc, instance, more)?;
+    let table = table(alloc, instance, commit.more)?;
     let outcome = outcome(alloc, instance, node, &table)?;
-    Ok(book.commit(worker, unit, node, table, false, outcome, action))
+    Ok(book.commit(
+        commit.worker,
+        commit.unit,
+        node,
+        table,
+        false,
+        outcome,
+        commit.action,
+    ))
 }
 
-// What the first claim that is held holds: its node, and the table that this stores, with its bound.
-fn held<C: Case>(alloc: Global, book: &Book<C>) -> Result<Option<(Node, Table, i128)>, NoMemory> {
-    match book.first_held() {
-        Some((unit, _, _, _)) => Ok(Some(book.holding(alloc, unit)?)),
-        None => Ok(None),
+// Claims a node, and compares the answer.
+fn ask_claim<C: Case>(rt: &impl Abort, book: &mut Book<C>, worker: u8, node: u32, want: Claimed) {
+    assert_eq!(rt; book.claim(worker, node), want);
+}
+
+// Makes a commit, and compares whether it is taken.
+fn ask_commit<C: Case>(
+    rt: &(impl Abort + AllocGlobal),
+    book: &mut Book<C>,
+    instance: &Instance,
+    call: &Commit,
+    want: bool,
+) -> Result<(), Fail>
+    requires lawful { IsLawfulInstance instance.now }
+    requires same { instance.now ≡ C.opening.instance }
+{
+    let alloc = rt.alloc();
+    let node = node(alloc, call.first).map_err(|_| "no memory")?;
+    if !is_node_of(instance, &node) {
+        return Err("no node")?;
     }
+    let is_taken = make_commit(alloc, book, instance, &node, call).map_err(|_| "no memory")?;
+    assert_eq!(rt; is_taken, want);
+    Ok(())
+}
+
+// Gives a claim back, and compares whether it was held.
+fn ask_abandon<C: Case>(rt: &impl Abort, book: &mut Book<C>, worker: u8, unit: u32, want: bool) {
+    assert_eq!(rt; book.abandon(worker, unit), want);
+}
+
+// Compares whether no entry of a node is at a table, by a value that is exact or not.
+fn ask_fresh<C: Case>(
+    rt: &(impl Abort + AllocGlobal),
+    book: &Book<C>,
+    instance: &Instance,
+    asked: (u32, u16, bool),
+    want: bool,
+) -> Result<(), Fail>
+    requires { IsLawfulInstance instance.now }
+{
+    let (node, more, exact) = asked;
+    let table = table(rt.alloc(), instance, more).map_err(|_| "no memory")?;
+    assert_eq!(rt; book.fresh(node, &table, exact), want);
+    Ok(())
+}
+
+// Compares how many cells the node of the first held claim decides, and the scale of the table that it stores.
+fn ask_holding<C: Case>(
+    rt: &(impl Abort + AllocGlobal),
+    book: &Book<C>,
+    cells: usize,
+    more: u16,
+) -> Result<(), Fail> {
+    let Some((unit, _, _, _)) = book.first_held() else {
+        return Err("nothing is held")?;
+    };
+    let (node, table, _) = book.holding(rt.alloc(), unit).map_err(|_| "no memory")?;
+    assert_eq!(rt; node.fixings.as_slice().len(), cells);
+    assert_eq!(rt; table.k(), 1_000_000 + i64::from(more));
+    Ok(())
+}
+
+// Compares the children of a node.
+fn ask_children<C: Case>(rt: &impl Abort, book: &Book<C>, node: u32, want: Option<(u32, u32)>) {
+    assert_eq!(rt; book.children(node), want);
+}
+
+// Compares the first open node.
+fn ask_first_open<C: Case>(rt: &impl Abort, book: &Book<C>, want: Option<u32>) {
+    assert_eq!(rt; book.first_open(), want);
+}
+
+// Compares the first held claim.
+fn ask_first_held<C: Case>(rt: &impl Abort, book: &Book<C>, want: Option<(u32, u8, u32, u32)>) {
+    assert_eq!(rt; book.first_held(), want);
+}
+
+// Compares whether no node is open or held.
+fn ask_settled<C: Case>(rt: &impl Abort, book: &Book<C>, want: bool) {
+    assert_eq!(rt; book.settled(), want);
 }
 
 // Makes a call, and compares its answer.
@@ -152,46 +264,18 @@ fn ask<C: Case>(
     requires lawful { IsLawfulInstance instance.now }
     requires same { instance.now ≡ C.opening.instance }
 {
-    let alloc = rt.alloc();
     match call {
-        Call::Claim(worker, node, want) => {
-            assert_eq!(rt; book.claim(*worker, *node), *want);
-        }
-        Call::Commit(worker, unit, first, more, action, want) => {
-            let node = node(alloc, *first).map_err(|_| "no memory")?;
-            if !is_node_of(instance, &node) {
-                return Err("no node")?;
-            }
-            let done = commit(alloc, book, instance, *worker, *unit, &node, *more, *action);
-            assert_eq!(rt; done.map_err(|_| "no memory")?, *want);
-        }
-        Call::Abandon(worker, unit, want) => {
-            assert_eq!(rt; book.abandon(*worker, *unit), *want);
-        }
+        Call::Claim(worker, node, want) => ask_claim(rt, book, *worker, *node, *want),
+        Call::Commit(commit, want) => ask_commit(rt, book, instance, commit, *want)?,
+        Call::Abandon(worker, unit, want) => ask_abandon(rt, book, *worker, *unit, *want),
         Call::Fresh(node, more, exact, want) => {
-            let table = table(alloc, instance, *more).map_err(|_| "no memory")?;
-            assert_eq!(rt; book.fresh(*node, &table, *exact), *want);
+            ask_fresh(rt, book, instance, (*node, *more, *exact), *want)?;
         }
-        Call::Children(node, want) => {
-            assert_eq!(rt; book.children(*node), *want);
-        }
-        Call::FirstOpen(want) => {
-            assert_eq!(rt; book.first_open(), *want);
-        }
-        Call::FirstHeld(want) => {
-            assert_eq!(rt; book.first_held(), *want);
-        }
-        Call::Settled(want) => {
-            assert_eq!(rt; book.settled(), *want);
-        }
-        Call::Holding(cells, more) => {
-            let held = held(alloc, book).map_err(|_| "no memory")?;
-            let Some((node, table, _)) = held else {
-                return Err("nothing is held")?;
-            };
-            assert_eq!(rt; node.fixings.as_slice().len(), *cells);
-            assert_eq!(rt; table.k(), 1_000_000 + i64::from(*more));
-        }
+        Call::Children(node, want) => ask_children(rt, book, *node, *want),
+        Call::FirstOpen(want) => ask_first_open(rt, book, *want),
+        Call::FirstHeld(want) => ask_first_held(rt, book, *want),
+        Call::Settled(want) => ask_settled(rt, book, *want),
+        Call::Holding(cells, more) => ask_holding(rt, book, *cells, *more)?,
     }
     Ok(())
 }
@@ -273,17 +357,17 @@ fn a_node_is_held_by_one(rt: HostRuntime) -> Result<(), Fail> {
         Call::Claim(0, 0, mine(1, 0)),
         Call::Claim(1, 0, Claimed::NotOpen),
         Call::Holding(0, 0),
-        Call::Commit(1, 1, None, 0, Move::Again, false),
-        Call::Commit(0, 1, Some(true), 0, Move::Again, false),
-        Call::Commit(0, 2, None, 0, Move::Again, false),
+        Call::Commit(of_root(1, 1, 0, Move::Again), false),
+        Call::Commit(of_child(0, 1, true, 0), false),
+        Call::Commit(of_root(0, 2, 0, Move::Again), false),
         Call::Fresh(0, 0, false, true),
-        Call::Commit(0, 1, None, 0, Move::Again, true),
+        Call::Commit(of_root(0, 1, 0, Move::Again), true),
         Call::Fresh(0, 0, false, false),
         Call::Fresh(0, 0, true, true),
         Call::Fresh(0, 1, false, true),
         Call::Claim(1, 0, mine(2, 1)),
-        Call::Commit(1, 2, None, 0, Move::Again, false),
-        Call::Commit(1, 2, None, 7, CELL, true),
+        Call::Commit(of_root(1, 2, 0, Move::Again), false),
+        Call::Commit(of_root(1, 2, 7, CELL), true),
         Call::Claim(0, 0, Claimed::Spent),
     ];
     tell(&rt, 2, &calls)
@@ -296,7 +380,7 @@ fn children_come_and_go(rt: HostRuntime) -> Result<(), Fail> {
         Call::Children(0, None),
         Call::Claim(0, 0, mine(1, 0)),
         Call::Settled(false),
-        Call::Commit(0, 1, None, 3, CELL, true),
+        Call::Commit(of_root(0, 1, 3, CELL), true),
         Call::Children(0, Some((1, 2))),
         Call::Children(3, None),
         Call::Claim(0, 0, Claimed::NotOpen),
@@ -308,10 +392,10 @@ fn children_come_and_go(rt: HostRuntime) -> Result<(), Fail> {
         Call::Claim(4, 2, mine(3, 0)),
         Call::FirstOpen(Some(1)),
         Call::FirstHeld(Some((3, 4, 2, 0))),
-        Call::Commit(4, 2, Some(true), 0, Move::Again, false),
-        Call::Commit(4, 3, Some(false), 0, Move::Again, false),
-        Call::Commit(4, 3, Some(true), 9, Move::Again, false),
-        Call::Commit(4, 3, Some(true), 0, Move::Again, true),
+        Call::Commit(of_child(4, 2, true, 0), false),
+        Call::Commit(of_child(4, 3, false, 0), false),
+        Call::Commit(of_child(4, 3, true, 9), false),
+        Call::Commit(of_child(4, 3, true, 0), true),
         Call::FirstHeld(None),
     ];
     tell(&rt, 5, &calls)

@@ -1,4 +1,4 @@
-//! Tests of the objects that threads share, by one thread and by two.
+//! Tests of the objects that threads share, and of the search by them, by one thread and by two.
 #![tactic(auto)]
 
 #[cfg(test)]
@@ -7,5 +7,7 @@ mod books;
 mod incumbents;
 #[cfg(test)]
 mod pools;
+#[cfg(test)]
+mod searches;
 #[cfg(test)]
 mod together;
