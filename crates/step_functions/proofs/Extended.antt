@@ -1,10 +1,10 @@
 -- A function that goes on by a run.
-use Rattle.std.proofs.Common.{◌≡◌, ℕ, ◌+◌, ◌-◌, ◌<◌, ◌≤◌, ⊎_elim, List, [], ◌∷◌, ◌++◌, sym, ap, subst, ◌∙◌, arith, ℤ, pos, ◌+ℤ◌, ◌*ℤ◌, ◌≤ℤ◌, ◌<ℤ◌}
+use Rattle.std.proofs.Common.{◌≡◌, ℕ, ◌+◌, ◌-◌, ◌<◌, ◌≤◌, ⊎_elim, List, [], ◌∷◌, ◌++◌, sym, ap, subst, ◌∙◌, arith, ℤ, pos, ◌+ℤ◌, ◌-ℤ◌, ◌*ℤ◌, ◌≤ℤ◌, ◌<ℤ◌, unsigned_abs}
 use Rattle.std.proofs.lemmas.Bool.{cases_lt}
 use Rattle.std.proofs.lemmas.Int.{ints}
 use Rattle.std.proofs.lemmas.List.Sums.{sum_by_push}
 use Rattle.std.proofs.lemmas.List.Elements.{All-push}
-use Rattle.uc_model.proofs.Ring.{linear, le_or_lt, mul-le-mul_right, mul-le-mul_turned, mul-zero, zero-mul, mul_comm}
+use Rattle.uc_model.proofs.Ring.{linear, le_antisymm, le_or_lt, pos_of_nonneg, mul-le-mul_right, mul-le-mul_turned, mul-zero, zero-mul, mul_comm}
 use Rattle.uc_model.proofs.Sums.{sum_below-same, sum_below-split, sum_below-const}
 use Rattle.step_functions.specs.Runs.{Run, slope_at, steps_of}
 use Rattle.step_functions.specs.Functions.{Steps, IsPlace, IsSmall, IsWithin, last_place, value_at}
@@ -120,3 +120,33 @@ extended-kept f run room kept some under within reached =
       last = omega (arith, ints);
       values = extended-small f run kept reached;
     }
+
+-- the values of a function that is continued, where those before and those along the new steps are at most so large
+pub continued-size : (f g : Steps) (length : ℕ) (slope : ℤ) (m : ℕ) → g.first ≡ f.first → last_place g ≡ last_place f +ℤ pos length
+    → ((p : ℤ) → IsPlace f p → value_at g p ≡ value_at f p)
+    → ((k : ℕ) → k ≤ length → value_at g (last_place f +ℤ pos k) ≡ value_at f (last_place f) +ℤ pos k *ℤ slope)
+    → ((p : ℤ) → IsPlace f p → unsigned_abs (value_at f p) ≤ m)
+    → ((k : ℕ) → k ≤ length → unsigned_abs (value_at f (last_place f) +ℤ pos k *ℤ slope) ≤ m)
+    → (p : ℤ) → IsPlace g p → unsigned_abs (value_at g p) ≤ m
+continued-size f g length slope m first last before after old new p place = ⊎_elim
+    (λ (low : p ≤ℤ last_place f).
+    let begins = place.low in
+    let own : IsPlace f p = record { low = omega (arith, linear, begins, first); high = low } in
+    subst (λ z. unsigned_abs z ≤ m) (sym (before p own)) (old p own))
+    (λ (high : last_place f <ℤ p).
+    let ends = place.high in
+    let step = pos_of_nonneg (p -ℤ last_place f) (omega (arith, linear, high)) in
+    let size = step.1 in
+    let here : p ≡ last_place f +ℤ pos step.0 = omega (arith, linear, size) in
+    let within : step.0 ≤ length = omega (arith, linear, size, ends, last) in
+    subst (λ z. unsigned_abs z ≤ m) (sym (ap (value_at g) here ∙ after step.0 within)) (new step.0 within))
+    (le_or_lt p (last_place f))
+
+-- of the value at one place
+pub alone-size : (f : Steps) (place value : ℤ) (m : ℕ) → f.first ≡ place → last_place f ≡ place → value_at f place ≡ value → unsigned_abs value ≤ m
+    → (p : ℤ) → IsPlace f p → unsigned_abs (value_at f p) ≤ m
+alone-size f place value m first last is small p at =
+    let low = at.low in
+    let high = at.high in
+    let here : p ≡ place = le_antisymm p place (omega (arith, linear, last, high)) (omega (arith, linear, first, low)) in
+    subst (λ z. unsigned_abs z ≤ m) (sym (ap (value_at f) here ∙ is)) small

@@ -30,6 +30,18 @@ pub(crate) fn insert(runs: &mut Vec<Run>, number: usize, run: Run)
     }
 }
 
+/// Makes the runs the others.
+pub(crate) fn copy_runs(runs: &mut Vec<Run>, others: &[Run])
+    requires room { length others.now ≤ vec_capacity runs.old }
+    ensures runs { runs.new.items ≡ others.now }
+    ensures capacity { vec_capacity runs.new ≡ vec_capacity runs.old }
+{
+    runs.clear();
+    for run in others {
+        runs.push_reserved(*run);
+    }
+}
+
 // Makes two runs of one, the first of them with so many of its steps.
 fn halve(runs: &mut Vec<Run>, number: usize, length: u64)
     requires within { number < vec_len runs.old }

@@ -6,7 +6,7 @@ ghost use Rattle.step_functions.specs.Runs.{slope_at, steps_of};
 ghost use Rattle.step_functions.specs.Functions.{IsLeastBetween, IsPlace, IsSmall, IsWithin, last_place, run_count, shortfall, value_at};
 ghost use Rattle.step_functions.specs.inside.Kept.{height};
 
-use crate::edits::{add_run, add_runs, divide, remove_first, spread, steepen};
+use crate::edits::{add_run, add_runs, copy_runs, divide, remove_first, spread, steepen};
 use crate::runs::{Run, rise, steps, steps_below};
 use std::alloc::Global;
 use std::marker::Model;
@@ -95,6 +95,7 @@ impl ConvexFunction {
     pub fn least(&self) -> Bottom
         ensures first { IsPlace self.now result.first }
         ensures last { IsPlace self.now result.last }
+        ensures reached { value_at self.now result.first ≡ result.value }
         ensures least { (p : ℤ) → IsPlace self.now p → result.value ≤ℤ value_at self.now p }
         ensures flat { (p : ℤ) → IsPlace self.now p → value_at self.now p ≡ result.value ↔ ((result.first ≤ℤ p) × (p ≤ℤ result.last)) }
     {
@@ -118,6 +119,16 @@ impl ConvexFunction {
         self.runs.clear();
         self.first = place;
         self.value = value;
+    }
+
+    /// Makes it the other function. It takes a run for each of the other's.
+    pub fn copy_from(&mut self, other: &ConvexFunction)
+        requires room { run_count other.now ≤ self.old.room }
+        ensures { self.new ≡ record other.now { room = self.old.room } }
+    {
+        self.first = other.first;
+        self.value = other.value;
+        copy_runs(&mut self.runs, &other.runs);
     }
 
     /// Continues it on the right by `length` steps of a slope that is not below any before. It takes a run.

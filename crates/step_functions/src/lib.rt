@@ -7,6 +7,8 @@ mod edits;
 mod function;
 pub mod limits;
 mod runs;
+#[cfg(test)]
+mod tests;
 
 pub use function::{Bottom, ConvexFunction};
 pub use runs::Run;
