@@ -1,0 +1,17 @@
+pub mod Steps
+pub mod BestTo
+pub mod Sizes
+pub mod Since
+pub mod Traced
+pub mod Represented
+pub mod OutputSizes
+pub mod HourSteps
+pub mod HullSteps
+pub mod RunSteps
+pub mod Found
+pub mod StopSteps
+pub mod HourPrices
+pub mod OutputSums
+pub mod LeastLeft
+pub mod HullFunction
+pub mod Tables

@@ -1,0 +1,6 @@
+pub mod Choices
+pub mod Problems
+pub mod Switches
+pub mod OutputCosts
+pub mod Hulls
+pub mod Running

@@ -1,0 +1,15 @@
+//! The exact value of one thermal unit at a price table, with a pattern that attains it.
+#![tactic(auto)]
+
+mod choices;
+mod exact;
+mod hour;
+mod hull;
+mod output_costs;
+mod problem;
+mod runs;
+mod starts;
+mod stops;
+mod trace;
+
+pub use exact::{Exact, least};

@@ -1,0 +1,106 @@
+//! What the runs of one unit cost, hour by hour.
+
+ghost use Rattle.std.specs.Prelude.{◌≡◌, ℕ, ℤ, ◌-◌, ◌*◌, ◌<◌, ◌≤◌, suc, true, Option, IfOk, IfSome, unsigned_abs};
+ghost use Rattle.step_functions.specs.Functions.{run_count};
+ghost use Rattle.unit_runs.specs.CostThrough.{run_cost};
+ghost use Rattle.unit_runs.specs.Runs.{entry_output as output_at_entry};
+ghost use Rattle.unit_exact.specs.inside.OutputCosts.{IsBounded, IsCostsOf, MAX_POWER, least_ending};
+ghost use Rattle.unit_exact.specs.inside.Problems.{IsLawful, MAX_SWITCH};
+ghost use Rattle.unit_exact.specs.inside.Running.{HasHull, HasRoom, IsRunning};
+
+use crate::hour::Hour;
+use crate::output_costs::OutputCosts;
+use crate::problem::Problem;
+use std::alloc::Global;
+use uc_model::{NoMemory, Thermal};
+
+/// The costs of the hours of a run that goes on, and those of one that ends.
+#[derive(Drop)]
+pub(crate) struct Runs {
+    pub(crate) living: OutputCosts,
+    pub(crate) ending: OutputCosts,
+}
+
+impl Runs {
+    /// No runs, with room for functions of `room` runs of one slope. The only error is `NoMemory`.
+    pub(crate) fn with_room(alloc: Global, room: usize) -> Result<Runs, NoMemory>
+        ensures { IfOk result (λ runs. (runs.living.function.room ≡ room) × (runs.ending.function.room ≡ room)) }
+    {
+        let living = OutputCosts::with_room(alloc, room)?;
+        let ending = OutputCosts::with_room(alloc, room)?;
+        Ok(Runs { living, ending })
+    }
+
+    /// Begins a run in period `from`, without an hour yet.
+    pub(crate) fn begin(&mut self, problem: &Problem, from: usize)
+        requires lawful { IsLawful problem.now.periods problem.now.table.now problem.now.unit.now }
+        requires room { HasRoom problem.now.periods problem.now.hull.now self.old }
+        ensures { IsRunning problem.now.periods problem.now.table.now problem.now.unit.now problem.now.hull.now from 0 self.new }
+    {
+        self.living.begin(entry_output(problem.unit, from));
+    }
+
+    /// Adds the hour in period `t` to a run that goes on behind it.
+    pub(crate) fn go_on(&mut self, problem: &Problem, from: usize, t: usize)
+        requires lawful { IsLawful problem.now.periods problem.now.table.now problem.now.unit.now }
+        requires hull { HasHull problem.now.table.now problem.now.unit.now problem.now.hull.now }
+        requires order { from ≤ t }
+        requires period { t < problem.now.periods }
+        requires running { IsRunning problem.now.periods problem.now.table.now problem.now.unit.now problem.now.hull.now from (t - from) self.old }
+        ensures { IsRunning problem.now.periods problem.now.table.now problem.now.unit.now problem.now.hull.now from (suc (t - from)) self.new }
+    {
+        let hour = Hour::at(problem, t, t == from, false);
+        self.living.add_hour(problem.hull, &hour);
+    }
+
+    /// The least cost of the run whose last hour is in period `t`; the run may go on as before.
+    pub(crate) fn cost_to(&mut self, problem: &Problem, from: usize, t: usize) -> Option<i128>
+        requires lawful { IsLawful problem.now.periods problem.now.table.now problem.now.unit.now }
+        requires hull { HasHull problem.now.table.now problem.now.unit.now problem.now.hull.now }
+        requires order { from ≤ t }
+        requires period { t < problem.now.periods }
+        requires running { IsRunning problem.now.periods problem.now.table.now problem.now.unit.now problem.now.hull.now from (t - from) self.old }
+        ensures running { IsRunning problem.now.periods problem.now.table.now problem.now.unit.now problem.now.hull.now from (t - from) self.new }
+        ensures cost { result ≡ run_cost problem.now.periods problem.now.table.now problem.now.unit.now from (suc (t - from)) }
+        ensures size { IfSome result (λ cost. unsigned_abs cost ≤ MAX_SWITCH) }
+    {
+        let hour = Hour::at(problem, t, t == from, true);
+        self.ending.copy_from(&self.living);
+        self.ending.add_hour(problem.hull, &hour);
+        least_at_end(&mut self.ending, problem, t)
+    }
+}
+
+// The least of the costs of a run whose last hour is in period `t`: before a stop in the horizon the output can fall to
+// nothing.
+fn least_at_end(costs: &mut OutputCosts, problem: &Problem, t: usize) -> Option<i128>
+    requires lawful { IsLawful problem.now.periods problem.now.table.now problem.now.unit.now }
+    requires hull { HasHull problem.now.table.now problem.now.unit.now problem.now.hull.now }
+    requires period { t < problem.now.periods }
+    requires room { run_count costs.old.function < costs.old.function.room }
+    ensures least { (cost : ℤ → Option ℤ) → IsCostsOf costs.old.alive costs.old.function cost
+        → result ≡ least_ending problem.now.periods problem.now.unit.now (suc t) cost }
+    ensures size { (size : ℕ) → (costs.old.alive ≡ true → IsBounded costs.old.function size) → IfSome result (λ v. unsigned_abs v ≤ size) }
+    ensures room { costs.new.function.room ≡ costs.old.function.room }
+{
+    let unit = problem.unit;
+    if t + 1 < problem.periods {
+        costs.least_between(-unit.ru, unit.rd)
+    } else {
+        costs.least_between(0, problem.hull.last())
+    }
+}
+
+/// The output before a run that begins in the period: a start comes from none, and before the first period it is given.
+pub(crate) fn entry_output(unit: &Thermal, from: usize) -> i64
+    requires minimum { unsigned_abs unit.now.pmin ≤ MAX_POWER }
+    requires initial { unsigned_abs unit.now.p0 ≤ MAX_POWER }
+    ensures value { result ≡ output_at_entry unit.now from }
+    ensures size { unsigned_abs result ≤ 2 * MAX_POWER }
+{
+    if from == 0 && unit.on0 {
+        unit.p0 - unit.pmin
+    } else {
+        0
+    }
+}
