@@ -6,6 +6,7 @@
 mod commitment;
 mod demo;
 mod dispatch;
+mod exact;
 mod interval;
 mod line;
 mod node;

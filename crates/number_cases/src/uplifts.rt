@@ -108,8 +108,8 @@ fn table(alloc: Global, instance: &Instance, prices: &Prices) -> Result<Table, N
     }
 }
 
-// The table of prices for all periods, and of ramp rows.
-fn table_with(
+/// The table of prices for all periods, and of ramp rows.
+pub(crate) fn table_with(
     alloc: Global,
     instance: &Instance,
     demand: i32,
