@@ -1,0 +1,91 @@
+-- The last cell of each row of a schedule that obeys is within its unit's range; and one more state behind the rows.
+use Rattle.std.proofs.Common.{◌≡◌, ℕ, ◌+◌, ◌-◌, ◌<◌, ◌≤◌, ⊎_elim, Bool, true, false, List, [], ◌∷◌, ◌++◌, length, get_or, sym, ap, subst, ◌∙◌, arith, ℤ, pos, ◌+ℤ◌, ◌-ℤ◌, ◌*ℤ◌, ◌≤ℤ◌, IsTrue, int_le}
+use Rattle.std.specs.Int.{int_max}
+use Rattle.std.specs.Ordering.{int_eq}
+use Rattle.std.proofs.lemmas.Int.{ints}
+use Rattle.std.proofs.lemmas.Bool.{cases_lt, cases_Bool}
+use Rattle.std.proofs.lemmas.List.{get_or_append_left, get_or_push, length_push}
+use Rattle.std.proofs.lemmas.List.Elements.{All-get_or}
+use Rattle.uc_model.specs.Sums.{bit}
+use Rattle.uc_model.specs.Commitment.{start_reduction, starts, start_cap}
+use Rattle.uc_model.specs.Rules as model
+use Rattle.uc_model.specs.Schedule.{thermal_unit, thermal_count}
+use Rattle.uc_model.specs.Limits.{IsLawfulInstance, IsLawfulThermal}
+use Rattle.uc_model.proofs.Ring.{linear, le_trans, mul-one, mul-zero}
+use Rattle.uc_model.proofs.Tests.{int_le-true}
+use Rattle.schedule_check.specs.WholeWatts as watts
+use Rattle.schedule_check.proofs.Produced.{Holds, holds_from}
+use Rattle.roll.specs.FirstPeriods.{first_periods}
+use Rattle.roll.specs.Left.{Instance, Thermal, Cell, Printed, CarriedUnit, IsLeftBy, IsLawfulState}
+use Rattle.roll.specs.Kept.{ObeysFirst}
+use Rattle.roll.specs.inside.Rows.{AreStatesBehind, HasRows, IsWithinRange, row_at, state_at, unit_at}
+use Rattle.roll.proofs.KeptRules.{IsSolved, rule_in_watts}
+use Rattle.roll.proofs.Parts.{first_lawful}
+
+-- ---- the caps
+pub reduction_nonneg : (z : ℤ) → pos 0 ≤ℤ int_max z (pos 0)
+reduction_nonneg z = grind (arith, ints)
+
+-- a cap is at most the range of an on cell
+pub cap_below : (range reduction : ℤ) (on change : Bool) → pos 0 ≤ℤ reduction → (range *ℤ bit on -ℤ reduction *ℤ bit change) ≤ℤ (range *ℤ bit on)
+cap_below range reduction on true low = let one = mul-one reduction in omega (arith, linear)
+cap_below range reduction on false low = let none = mul-zero reduction in omega (arith, linear)
+
+range_below : (range : ℤ) (on : Bool) → pos 0 ≤ℤ range → (range *ℤ bit on) ≤ℤ range
+range_below range true low = let one = mul-one range in omega (arith, linear)
+range_below range false low = let none = mul-zero range in omega (arith, linear)
+
+-- ---- a cell that keeps M8 and M9
+-- where M8 holds of it, an on cell has output and reserve of at least 0, and an off cell neither
+within_range : (unit : Thermal) (row : List Cell) (t : ℕ) → IsLawfulThermal unit → Holds watts.whole unit (watts.cell row t)
+    → IsTrue (watts.start_cap_by watts.whole unit row t) → IsWithinRange unit (watts.cell row t)
+within_range unit row t lawful holds capped =
+    let on = watts.commitment row in
+    let most = int_le-true _ _ capped in
+    let low = reduction_nonneg (unit.pmax -ℤ unit.su) in
+    let below = cap_below (unit.pmax -ℤ unit.pmin) (start_reduction unit) (on t) (starts unit on t) low in
+    let wide : pos 0 ≤ℤ (unit.pmax -ℤ unit.pmin) = let h = lawful.range in omega (arith, linear) in
+    let range = range_below (unit.pmax -ℤ unit.pmin) (on t) wide in
+    record {
+      output = ⊎_elim
+          (λ (now : (watts.cell row t).on ≡ true). holds.low now)
+          (λ (off : (watts.cell row t).on ≡ false). let none = holds.idle off in omega (arith, linear))
+          (cases_Bool (watts.cell row t).on);
+      reserve = holds.reserve;
+      total = le_trans _ _ _ most (le_trans _ _ _ below range);
+    }
+
+-- ---- the rows of a schedule of the first periods
+pub rows_behind : (instance : Instance) (n : ℕ) (kept : Printed) → IsLawfulInstance instance → 1 ≤ n → n ≤ instance.periods
+    → ObeysFirst instance n kept → HasRows instance.thermal kept.thermal n
+rows_behind instance n kept lawful some h obeys = record {
+  count = obeys.shape.thermal;
+  cells = λ g hg. All-get_or (λ row. length row ≡ n) kept.thermal g [] (omega (arith, obeys.shape.thermal)) obeys.shape.cells;
+  last = λ g hg. within_range (thermal_unit instance g) (watts.row_of kept g) (n - 1) (lawful.thermal g hg)
+      (holds_from watts.whole (thermal_unit instance g) (watts.row_of kept g) (n - 1)
+      (rule_in_watts (first_periods n instance) kept solved model.Production g (n - 1) hg (omega arith)))
+      (rule_in_watts (first_periods n instance) kept solved model.StartCap g (n - 1) hg (omega arith));
+}
+  where
+    solved : IsSolved (first_periods n instance) kept
+    solved = record { lawful = first_lawful instance n lawful some h; whole = obeys.whole; obeys = obeys.obeys }
+
+-- ---- one more entry
+-- what holds of each entry so far and of the next one
+pub one_more : {X : Type 0} (P : ℕ → X → Type 0) (xs : List X) (n : ℕ) (x d : X) → length xs ≡ n
+    → ((k : ℕ) → k < n → P k (get_or xs k d)) → P n x → (k : ℕ) → k < n + 1 → P k (get_or (xs ++ x ∷ []) k d)
+one_more P xs n x d e before here k h = ⊎_elim
+    (λ (less : k < n). subst (P k) (sym (get_or_append_left xs (x ∷ []) d k (omega (arith, e)))) (before k less))
+    (λ (last : n ≤ k).
+    let same : n ≡ k = omega arith in
+    subst (λ i. P i (get_or (xs ++ x ∷ []) i d)) same (subst (P n) (sym (get_or_push xs x d n e)) here))
+    (cases_lt k n)
+
+pub states_more : (units : List Thermal) (rows : List (List Cell)) (end n : ℕ) (states : List CarriedUnit) (state : CarriedUnit)
+    → AreStatesBehind units rows end n states → IsLeftBy (unit_at units n) (row_at rows n) end state → IsLawfulState state
+    → AreStatesBehind units rows end (n + 1) (states ++ state ∷ [])
+states_more units rows end n states state before here lawful = record {
+  length_is = length_push states state ∙ ap (λ k. k + 1) before.length_is;
+  each = one_more (λ k s. IsLeftBy (unit_at units k) (row_at rows k) end s) states n state _ before.length_is before.each here;
+  lawful = one_more (λ k s. IsLawfulState s) states n state _ before.length_is before.lawful lawful;
+}

@@ -1,0 +1,88 @@
+-- Periods of two schedules that are alike keep the rules on the whole system alike.
+use Rattle.std.proofs.Common.{◌≡◌, ℕ, ◌<◌, ◌&&◌, ◌||◌, sym, ap, subst, ◌∙◌, ℤ, pos, ◌+ℤ◌, ◌-ℤ◌, ◌*ℤ◌, IsTrue, int_le, nat_lt}
+use Rattle.std.specs.Int.{int_max}
+use Rattle.std.specs.Ordering.{int_eq}
+use Rattle.uc_model.specs.Sums.{sum_below, bit}
+use Rattle.uc_model.specs.Schedule.{thermal_unit, thermal_count, renewable_count, renewable_minimum, renewable_maximum, demand_at, reserve_at}
+use Rattle.uc_model.specs.PrintedSchedule.{cell_at, shed_at, short_at}
+use Rattle.uc_model.proofs.Sums.{sum_below-same}
+use Rattle.schedule_check.specs.SizedNumbers.{output_at}
+use Rattle.schedule_check.specs.WholeWatts as watts
+use Rattle.roll.specs.Left.{Instance, Printed}
+use Rattle.roll.specs.Stitched.{SameDispatch}
+
+-- period t of a schedule of the instance is like period s of a schedule of another one
+pub record AreSystemsAlike (instance other : Instance) (printed shown : Printed) (t s : ℕ) : Type 0 where
+  pub thermal_units : thermal_count instance ≡ thermal_count other
+  pub cells : (g : ℕ) → g < thermal_count instance → SameDispatch (cell_at shown g s) (cell_at printed g t)
+  pub least_outputs : (g : ℕ) → g < thermal_count instance → (thermal_unit instance g).pmin ≡ (thermal_unit other g).pmin
+  pub renewable_units : renewable_count instance ≡ renewable_count other
+  pub outputs : (w : ℕ) → w < renewable_count instance → output_at printed w t ≡ output_at shown w s
+  pub minimum : (w : ℕ) → w < renewable_count instance → renewable_minimum instance w t ≡ renewable_minimum other w s
+  pub maximum : (w : ℕ) → w < renewable_count instance → renewable_maximum instance w t ≡ renewable_maximum other w s
+  pub demand : demand_at instance t ≡ demand_at other s
+  pub reserves : reserve_at instance t ≡ reserve_at other s
+  pub shed : shed_at printed t ≡ shed_at shown s
+  pub short : short_at printed t ≡ short_at shown s
+  pub a : instance.a ≡ other.a
+  pub b : instance.b ≡ other.b
+
+-- M13
+pub same_range : (instance other : Instance) (printed shown : Printed) (w t s : ℕ) → AreSystemsAlike instance other printed shown t s
+    → w < renewable_count instance → watts.renewable_range_at watts.whole instance printed w t ≡ watts.renewable_range_at watts.whole other shown w s
+same_range instance other printed shown w t s alike h =
+    let low = alike.minimum w h in
+    let high = alike.maximum w h in
+    let output = alike.outputs w h in
+    (λ i. int_le (int_max (low i) (pos 0)) (output i) && int_le (output i) (high i))
+
+-- sums over counts that are equal
+sum_same : (n k : ℕ) (f g : ℕ → ℤ) → n ≡ k → ((i : ℕ) → i < n → f i ≡ g i) → sum_below n f ≡ sum_below k g
+sum_same n k f g e same = sum_below-same n f g same ∙ ap (λ j. sum_below j g) e
+
+-- M14
+pub same_demand : (instance other : Instance) (printed shown : Printed) (t s : ℕ) → AreSystemsAlike instance other printed shown t s
+    → watts.demand_holds watts.whole instance printed t ≡ watts.demand_holds watts.whole other shown s
+same_demand instance other printed shown t s alike =
+    let thermal = sum_same (thermal_count instance) (thermal_count other)
+    (λ g. watts.thermal_supply instance printed g t) (λ g. watts.thermal_supply other shown g s) alike.thermal_units unit in
+    let renewable = sum_same (renewable_count instance) (renewable_count other) (λ w. output_at printed w t) (λ w. output_at shown w s)
+    alike.renewable_units alike.outputs in
+    let shed = alike.shed in
+    let demand = alike.demand in
+    (λ i. int_eq ((thermal i +ℤ renewable i) +ℤ shed i) (demand i))
+  where
+    unit : (g : ℕ) → g < thermal_count instance → watts.thermal_supply instance printed g t ≡ watts.thermal_supply other shown g s
+    unit g h =
+        let same = alike.cells g h in
+        let on = same.on in
+        let p = same.output in
+        let least = alike.least_outputs g h in
+        (λ i. p i +ℤ least i *ℤ bit (on i))
+
+-- M15
+pub same_reserve : (instance other : Instance) (printed shown : Printed) (t s : ℕ) → AreSystemsAlike instance other printed shown t s
+    → watts.reserve_holds watts.whole instance printed t ≡ watts.reserve_holds watts.whole other shown s
+same_reserve instance other printed shown t s alike =
+    let supply = sum_same (thermal_count instance) (thermal_count other) (λ g. (cell_at printed g t).r) (λ g. (cell_at shown g s).r)
+    alike.thermal_units (λ g h. (alike.cells g h).reserve) in
+    let short = alike.short in
+    let need = alike.reserves in
+    (λ i. int_le (need i) (supply i +ℤ short i))
+
+-- M16 and M17
+pub same_shed : (instance other : Instance) (printed shown : Printed) (t s : ℕ) → AreSystemsAlike instance other printed shown t s
+    → watts.shed_holds watts.whole instance printed t ≡ watts.shed_holds watts.whole other shown s
+same_shed instance other printed shown t s alike =
+    let price = alike.a in
+    let missing = alike.shed in
+    let need = alike.demand in
+    (λ i. int_le (pos 0) (missing i) && int_le (missing i) (int_max (need i) (pos 0)) && (nat_lt 0 (price i) || int_eq (missing i) (pos 0)))
+
+pub same_short : (instance other : Instance) (printed shown : Printed) (t s : ℕ) → AreSystemsAlike instance other printed shown t s
+    → watts.short_holds watts.whole instance printed t ≡ watts.short_holds watts.whole other shown s
+same_short instance other printed shown t s alike =
+    let price = alike.b in
+    let missing = alike.short in
+    let need = alike.reserves in
+    (λ i. int_le (pos 0) (missing i) && int_le (missing i) (int_max (need i) (pos 0)) && (nat_lt 0 (price i) || int_eq (missing i) (pos 0)))

@@ -1,0 +1,11 @@
+pub mod LastingChanges
+pub mod Parts
+pub mod KeptRules
+pub mod CarriedRows
+pub mod JoinedStates
+pub mod JoinedCells
+pub mod JoinedSystem
+pub mod JoinedRows
+pub mod JoinedWhole
+pub mod LawfulWindows
+pub mod StitchedParts

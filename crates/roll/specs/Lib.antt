@@ -1,0 +1,6 @@
+pub mod FirstPeriods
+pub mod Left
+pub mod NextWindow
+pub mod Kept
+pub mod Stitched
+pub mod inside
