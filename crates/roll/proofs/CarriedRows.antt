@@ -1,7 +1,6 @@
 -- The last cell of each row of a schedule that obeys is within its unit's range; and one more state behind the rows.
-use Rattle.std.proofs.Common.{◌≡◌, ℕ, ◌+◌, ◌-◌, ◌<◌, ◌≤◌, ⊎_elim, Bool, true, false, List, [], ◌∷◌, ◌++◌, length, get_or, sym, ap, subst, ◌∙◌, arith, ℤ, pos, ◌+ℤ◌, ◌-ℤ◌, ◌*ℤ◌, ◌≤ℤ◌, IsTrue, int_le}
+use Rattle.std.proofs.Common.{◌≡◌, ℕ, ◌+◌, ◌-◌, ◌<◌, ◌≤◌, ⊎_elim, Bool, true, false, List, [], ◌∷◌, ◌++◌, length, get_or, sym, ap, subst, ◌∙◌, arith, ℤ, pos, ◌+ℤ◌, ◌-ℤ◌, ◌*ℤ◌, ◌≤ℤ◌, IsTrue}
 use Rattle.std.specs.Int.{int_max}
-use Rattle.std.specs.Ordering.{int_eq}
 use Rattle.std.proofs.lemmas.Int.{ints}
 use Rattle.std.proofs.lemmas.Bool.{cases_lt, cases_Bool}
 use Rattle.std.proofs.lemmas.List.{get_or_append_left, get_or_push, length_push}
@@ -9,7 +8,7 @@ use Rattle.std.proofs.lemmas.List.Elements.{All-get_or}
 use Rattle.uc_model.specs.Sums.{bit}
 use Rattle.uc_model.specs.Commitment.{start_reduction, starts, start_cap}
 use Rattle.uc_model.specs.Rules as model
-use Rattle.uc_model.specs.Schedule.{thermal_unit, thermal_count}
+use Rattle.uc_model.specs.Schedule.{thermal_unit}
 use Rattle.uc_model.specs.Limits.{IsLawfulInstance, IsLawfulThermal}
 use Rattle.uc_model.proofs.Ring.{linear, le_trans, mul-one, mul-zero}
 use Rattle.uc_model.proofs.Tests.{int_le-true}
@@ -18,7 +17,7 @@ use Rattle.schedule_check.proofs.Produced.{Holds, holds_from}
 use Rattle.roll.specs.FirstPeriods.{first_periods}
 use Rattle.roll.specs.Left.{Instance, Thermal, Cell, Printed, CarriedUnit, IsLeftBy, IsLawfulState}
 use Rattle.roll.specs.Kept.{ObeysFirst}
-use Rattle.roll.specs.inside.Rows.{AreStatesBehind, HasRows, IsWithinRange, row_at, state_at, unit_at}
+use Rattle.roll.specs.inside.Rows.{AreStatesBehind, HasRows, IsWithinRange, row_at, unit_at}
 use Rattle.roll.proofs.KeptRules.{IsSolved, rule_in_watts}
 use Rattle.roll.proofs.Parts.{first_lawful}
 
@@ -41,7 +40,7 @@ within_range : (unit : Thermal) (row : List Cell) (t : ℕ) → IsLawfulThermal 
     → IsTrue (watts.start_cap_by watts.whole unit row t) → IsWithinRange unit (watts.cell row t)
 within_range unit row t lawful holds capped =
     let on = watts.commitment row in
-    let most = int_le-true _ _ capped in
+    let most : ((watts.cell row t).p +ℤ (watts.cell row t).r) ≤ℤ start_cap unit on t = int_le-true _ _ capped in
     let low = reduction_nonneg (unit.pmax -ℤ unit.su) in
     let below = cap_below (unit.pmax -ℤ unit.pmin) (start_reduction unit) (on t) (starts unit on t) low in
     let wide : pos 0 ≤ℤ (unit.pmax -ℤ unit.pmin) = let h = lawful.range in omega (arith, linear) in

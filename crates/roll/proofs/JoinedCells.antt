@@ -1,6 +1,6 @@
 -- Cells that are alike keep the rules on single periods alike: a cell of a row, with the state and the output before it, beside a cell of
 -- another row of the unit with another initial state.
-use Rattle.std.proofs.Common.{◌≡◌, ℕ, suc, ◌≤◌, not, ◌&&◌, ◌||◌, List, ap, ℤ, pos, ◌+ℤ◌, ◌-ℤ◌, ◌*ℤ◌, IsTrue, int_le, if◌then◌else◌}
+use Rattle.std.proofs.Common.{◌≡◌, ℕ, suc, not, ◌&&◌, ◌||◌, List, ap, pos, ◌+ℤ◌, ◌-ℤ◌, ◌*ℤ◌, int_le, if◌then◌else◌}
 use Rattle.std.specs.Ordering.{int_eq}
 use Rattle.uc_model.specs.Sums.{bit}
 use Rattle.uc_model.specs.Commitment.{must_run_at, was_on, start_reduction, stop_reduction, stop_cap}

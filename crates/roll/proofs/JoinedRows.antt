@@ -1,24 +1,23 @@
 -- The row of a unit whose first m cells are those of the front, and whose n cells behind them are those of the back, keeps each rule of
 -- the unit where the front keeps it, and the back by the unit as the front leaves it.
-use Rattle.std.proofs.Common.{◌≡◌, ◌≢◌, ℕ, zero, suc, ◌+◌, ◌-◌, ◌<◌, ◌≤◌, ⊎_elim, min, Bool, true, false, not, ◌&&◌, ◌||◌, ◌==◌, List, refl, sym, ap, subst, ◌∙◌, arith, ℤ, pos, ◌+ℤ◌, ◌-ℤ◌, ◌*ℤ◌, ◌≤ℤ◌, IsTrue, int_le, int_lt, nat_lt, if◌then◌else◌}
+use Rattle.std.proofs.Common.{◌≡◌, ℕ, zero, suc, ◌+◌, ◌-◌, ◌<◌, ◌≤◌, ⊎_elim, min, Bool, true, false, not, ◌&&◌, ◌||◌, ◌==◌, List, refl, sym, ap, subst, ◌∙◌, arith, ℤ, pos, ◌+ℤ◌, ◌-ℤ◌, ◌*ℤ◌, ◌≤ℤ◌, IsTrue, int_le, nat_lt, if◌then◌else◌}
 use Rattle.std.proofs.lemmas.Int.{ints}
-use Rattle.std.proofs.lemmas.Bool.{and_parts, and_from, or_cases, or_left, or_right, cases_Bool, cases_lt, true≢false, not-true, not-false, not_from_true, not_from_false, ltb-true, lt-ltb, le-ltb, eq-eqb, cond-true, cond-false, cond_both}
+use Rattle.std.proofs.lemmas.Bool.{or_cases, or_left, or_right, cases_Bool, cases_lt, true≢false, not-true, not_from_true, not_from_false, ltb-true, lt-ltb, le-ltb, eq-eqb, cond-true, cond-false, cond_both}
 use Rattle.uc_model.specs.Sums.{bit}
-use Rattle.uc_model.specs.Commitment.{Commitment, state_before, was_on, starts, stops, initial_p, initial_down_at, initial_stop_holds, initial_up_at, minimum_down_at, minimum_up_at, must_run_at, start_reduction, start_cap, stop_reduction, stop_cap}
+use Rattle.uc_model.specs.Commitment.{Commitment, state_before, was_on, starts, stops, initial_p, initial_down_at, initial_stop_holds, initial_up_at, minimum_down_at, minimum_up_at, must_run_at, start_reduction, stop_reduction, stop_cap}
 use Rattle.uc_model.specs.StartCategory.{is_category_allowed}
 use Rattle.uc_model.specs.Limits.{IsLawfulThermal}
-use Rattle.uc_model.specs.declared.limits.TheConstants.{MAX_TIME}
 use Rattle.uc_model.proofs.Ring.{linear, le_trans, mul-one, one-mul, mul-zero, zero-mul}
 use Rattle.uc_model.proofs.Tests.{int_le-true, le-int_le}
 use Rattle.schedule_check.specs.WholeWatts as watts
-use Rattle.schedule_check.proofs.Produced.{Holds, holds_from}
-use Rattle.roll.specs.Left.{Thermal, Cell, CarriedUnit, HasLasted, IsLeft, IsLeftBy, initial_state, is_too_high_to_stop, time_off_so_far, time_on_left, time_on_so_far, total_output}
+use Rattle.schedule_check.proofs.Produced.{holds_from}
+use Rattle.roll.specs.Left.{Thermal, Cell, CarriedUnit, HasLasted, IsLeft, initial_state, is_too_high_to_stop, time_off_so_far, time_on_left, time_on_so_far}
 use Rattle.roll.specs.NextWindow.{continued}
 use Rattle.roll.specs.Stitched.{HasLeastCategory, SameDispatch}
 use Rattle.roll.proofs.CarriedRows.{cap_below, reduction_nonneg}
 use Rattle.roll.proofs.JoinedCells.{AreAlike, same_must_run, same_production, same_ramp_down, same_ramp_up, same_start_cap, same_stop_cap}
 use Rattle.roll.proofs.JoinedStates.{HoldsInitially, Joins, before_new, before_old, initial_joined, last_of, lasting_joined, rises}
-use Rattle.roll.proofs.LastingChanges.{AreRises, EachLasts, KeepsMinimum, each_lasts, keeps_minimum}
+use Rattle.roll.proofs.LastingChanges.{EachLasts, each_lasts, keeps_minimum}
 
 -- each rule of the unit but M6 holds in each of the periods
 pub record KeepsRules (periods : ℕ) (unit : Thermal) (row : List Cell) : Type 0 where
@@ -138,9 +137,12 @@ joins_on unit left front back row m n len joins = record {
   first = λ e. ap (λ (l : CarriedUnit). l.time_on) (joins.is_left.first e);
   lasted = λ some held.
       let later = joins.is_left.later some in
-      let is = later.time_on ∙ cond-true left.on (time_on_left unit (watts.cell front (m - 1)) m later.lasted) 0 held in
-      (later.lasted, later.has_lasted, subst (λ z. z ≤ later.lasted + (if (later.lasted == m) && unit.on0 then unit.ut0 else 0)) (sym is)
-      (at_most later.lasted));
+      let is = later.time_on ∙ cond-true left.on (time_on_left unit (watts.cell front (m - 1)) m later.lasted) 0 held in (
+        later.lasted,
+        later.has_lasted,
+        subst (λ z. z ≤ later.lasted + (if (later.lasted == m) && unit.on0 then unit.ut0 else 0)) (sym is)
+            (at_most later.lasted),
+      );
 }
   where
     at_most : (k : ℕ) → time_on_left unit (watts.cell front (m - 1)) m k ≤ k + (if (k == m) && unit.on0 then unit.ut0 else 0)
@@ -174,9 +176,11 @@ joins_off unit left front back row m n len joins = record {
   first = λ e. ap (λ (l : CarriedUnit). l.time_off) (joins.is_left.first e);
   lasted = λ some held.
       let later = joins.is_left.later some in
-      let is = later.time_off ∙ cond-false left.on 0 (time_off_so_far unit m later.lasted) (not-true left.on held) in
-      (later.lasted, off_lasted (watts.commitment front) m later.lasted later.has_lasted,
-      subst (λ z. z ≤ later.lasted + (if (later.lasted == m) && not unit.on0 then unit.dt0 else 0)) (sym is) (omega arith));
+      let is = later.time_off ∙ cond-false left.on 0 (time_off_so_far unit m later.lasted) (not-true left.on held) in (
+        later.lasted,
+        off_lasted (watts.commitment front) m later.lasted later.has_lasted,
+        subst (λ z. z ≤ later.lasted + (if (later.lasted == m) && not unit.on0 then unit.dt0 else 0)) (sym is) (omega arith),
+      );
 }
 
 -- ---- M2 and M3
@@ -310,76 +314,76 @@ pub row_keeps : (unit : Thermal) (left : CarriedUnit) (front back row : List Cel
     → KeepsRules (m + n) unit row
 row_keeps unit left front back row m n len joins = record {
   must_run = throughout (λ k. IsTrue (must_run_at unit (watts.commitment row) k)) m n
-    (λ k l. same_must_run unit (initial_state unit) row front k k (old_alike unit left front back row m n len k joins l) ∙ joins.front_keeps.must_run k l)
-    (λ k l. same_must_run unit left row back (m + k) k (new_alike unit left front back row m n len k joins l)
-    ∙ joins.back_keeps.must_run k (omega (arith, joins.part)));
+      (λ k l. same_must_run unit (initial_state unit) row front k k (old_alike unit left front back row m n len k joins l) ∙ joins.front_keeps.must_run k l)
+      (λ k l. same_must_run unit left row back (m + k) k (new_alike unit left front back row m n len k joins l)
+      ∙ joins.back_keeps.must_run k (omega (arith, joins.part)));
   initial_up = initially_by (m + n) (unit.ut - unit.ut0) unit.on0 (watts.commitment row)
-    (initial_joined m n len unit.ut unit.ut0 left.time_on unit.on0 left.on (watts.commitment front) (watts.commitment back) (watts.commitment row)
-    (joins_on unit left front back row m n len joins)
-    (initially_to m (unit.ut - unit.ut0) unit.on0 (watts.commitment front) (λ k l. joins.front_keeps.initial_up k l))
-    (initially_to len (unit.ut - left.time_on) left.on (watts.commitment back) (λ k l. joins.back_keeps.initial_up k l)));
+      (initial_joined m n len unit.ut unit.ut0 left.time_on unit.on0 left.on (watts.commitment front) (watts.commitment back) (watts.commitment row)
+      (joins_on unit left front back row m n len joins)
+      (initially_to m (unit.ut - unit.ut0) unit.on0 (watts.commitment front) (λ k l. joins.front_keeps.initial_up k l))
+      (initially_to len (unit.ut - left.time_on) left.on (watts.commitment back) (λ k l. joins.back_keeps.initial_up k l)));
   initial_down = initially_by (m + n) (unit.dt - unit.dt0) (not unit.on0) (λ k. not (watts.commitment row k))
-    (initial_joined m n len unit.dt unit.dt0 left.time_off (not unit.on0) (not left.on) (λ k. not (watts.commitment front k))
-    (λ k. not (watts.commitment back k)) (λ k. not (watts.commitment row k))
-    (joins_off unit left front back row m n len joins)
-    (initially_to m (unit.dt - unit.dt0) (not unit.on0) (λ k. not (watts.commitment front k)) (λ k l. joins.front_keeps.initial_down k l))
-    (initially_to len (unit.dt - left.time_off) (not left.on) (λ k. not (watts.commitment back k)) (λ k l. joins.back_keeps.initial_down k l)));
+      (initial_joined m n len unit.dt unit.dt0 left.time_off (not unit.on0) (not left.on) (λ k. not (watts.commitment front k))
+      (λ k. not (watts.commitment back k)) (λ k. not (watts.commitment row k))
+      (joins_off unit left front back row m n len joins)
+      (initially_to m (unit.dt - unit.dt0) (not unit.on0) (λ k. not (watts.commitment front k)) (λ k l. joins.front_keeps.initial_down k l))
+      (initially_to len (unit.dt - left.time_off) (not left.on) (λ k. not (watts.commitment back k)) (λ k l. joins.back_keeps.initial_down k l)));
   minimum_up = keeps_minimum (m + n) unit.ut unit.on0 (starts unit (watts.commitment row)) (watts.commitment row) (λ k l. refl)
-    (lasting_joined m n len unit.ut unit.ut0 left.time_on unit.on0 left.on (watts.commitment front) (watts.commitment back) (watts.commitment row)
-    (joins_on unit left front back row m n len joins)
-    (each_lasts m unit.ut unit.on0 (starts unit (watts.commitment front)) (watts.commitment front) joins.lawful.time_up.0 (λ k l. refl)
-    (λ k l. joins.front_keeps.minimum_up k l))
-    (initially_to len (unit.ut - left.time_on) left.on (watts.commitment back) (λ k l. joins.back_keeps.initial_up k l))
-    (each_lasts len unit.ut left.on (starts (continued unit left) (watts.commitment back)) (watts.commitment back) joins.lawful.time_up.0 (λ k l. refl)
-    (λ k l. joins.back_keeps.minimum_up k l)));
+      (lasting_joined m n len unit.ut unit.ut0 left.time_on unit.on0 left.on (watts.commitment front) (watts.commitment back) (watts.commitment row)
+      (joins_on unit left front back row m n len joins)
+      (each_lasts m unit.ut unit.on0 (starts unit (watts.commitment front)) (watts.commitment front) joins.lawful.time_up.0 (λ k l. refl)
+      (λ k l. joins.front_keeps.minimum_up k l))
+      (initially_to len (unit.ut - left.time_on) left.on (watts.commitment back) (λ k l. joins.back_keeps.initial_up k l))
+      (each_lasts len unit.ut left.on (starts (continued unit left) (watts.commitment back)) (watts.commitment back) joins.lawful.time_up.0 (λ k l. refl)
+      (λ k l. joins.back_keeps.minimum_up k l)));
   minimum_down = keeps_minimum (m + n) unit.dt (not unit.on0) (stops unit (watts.commitment row)) (λ k. not (watts.commitment row k))
-    (λ k l. stops_are unit (watts.commitment row) k)
-    (lasts_same (m + n) unit.dt (rises (not unit.on0) (λ k. not (watts.commitment row k))) (stops unit (watts.commitment row))
-    (λ k. not (watts.commitment row k)) (λ k l. stops_are unit (watts.commitment row) k)
-    (lasting_joined m n len unit.dt unit.dt0 left.time_off (not unit.on0) (not left.on) (λ k. not (watts.commitment front k))
-    (λ k. not (watts.commitment back k)) (λ k. not (watts.commitment row k))
-    (joins_off unit left front back row m n len joins)
-    (lasts_same m unit.dt (stops unit (watts.commitment front)) (rises (not unit.on0) (λ k. not (watts.commitment front k)))
-    (λ k. not (watts.commitment front k)) (λ k l. sym (stops_are unit (watts.commitment front) k))
-    (each_lasts m unit.dt (not unit.on0) (stops unit (watts.commitment front)) (λ k. not (watts.commitment front k)) joins.lawful.time_down.0
-    (λ k l. stops_are unit (watts.commitment front) k) (λ k l. joins.front_keeps.minimum_down k l)))
-    (initially_to len (unit.dt - left.time_off) (not left.on) (λ k. not (watts.commitment back k)) (λ k l. joins.back_keeps.initial_down k l))
-    (lasts_same len unit.dt (stops (continued unit left) (watts.commitment back)) (rises (not left.on) (λ k. not (watts.commitment back k)))
-    (λ k. not (watts.commitment back k)) (λ k l. sym (stops_are (continued unit left) (watts.commitment back) k))
-    (each_lasts len unit.dt (not left.on) (stops (continued unit left) (watts.commitment back)) (λ k. not (watts.commitment back k))
-    joins.lawful.time_down.0 (λ k l. stops_are (continued unit left) (watts.commitment back) k) (λ k l. joins.back_keeps.minimum_down k l)))));
+      (λ k l. stops_are unit (watts.commitment row) k)
+      (lasts_same (m + n) unit.dt (rises (not unit.on0) (λ k. not (watts.commitment row k))) (stops unit (watts.commitment row))
+      (λ k. not (watts.commitment row k)) (λ k l. stops_are unit (watts.commitment row) k)
+      (lasting_joined m n len unit.dt unit.dt0 left.time_off (not unit.on0) (not left.on) (λ k. not (watts.commitment front k))
+      (λ k. not (watts.commitment back k)) (λ k. not (watts.commitment row k))
+      (joins_off unit left front back row m n len joins)
+      (lasts_same m unit.dt (stops unit (watts.commitment front)) (rises (not unit.on0) (λ k. not (watts.commitment front k)))
+      (λ k. not (watts.commitment front k)) (λ k l. sym (stops_are unit (watts.commitment front) k))
+      (each_lasts m unit.dt (not unit.on0) (stops unit (watts.commitment front)) (λ k. not (watts.commitment front k)) joins.lawful.time_down.0
+      (λ k l. stops_are unit (watts.commitment front) k) (λ k l. joins.front_keeps.minimum_down k l)))
+      (initially_to len (unit.dt - left.time_off) (not left.on) (λ k. not (watts.commitment back k)) (λ k l. joins.back_keeps.initial_down k l))
+      (lasts_same len unit.dt (stops (continued unit left) (watts.commitment back)) (rises (not left.on) (λ k. not (watts.commitment back k)))
+      (λ k. not (watts.commitment back k)) (λ k l. sym (stops_are (continued unit left) (watts.commitment back) k))
+      (each_lasts len unit.dt (not left.on) (stops (continued unit left) (watts.commitment back)) (λ k. not (watts.commitment back k))
+      joins.lawful.time_down.0 (λ k l. stops_are (continued unit left) (watts.commitment back) k) (λ k l. joins.back_keeps.minimum_down k l)))));
   initial_stop = λ some. initial_stop unit left front back row m n len joins;
   production = throughout (λ k. IsTrue (watts.production_at unit row k)) m n
-    (λ k l. same_production unit (initial_state unit) row front k k (old_alike unit left front back row m n len k joins l) ∙ joins.front_keeps.production k l)
-    (λ k l. same_production unit left row back (m + k) k (new_alike unit left front back row m n len k joins l)
-    ∙ joins.back_keeps.production k (omega (arith, joins.part)));
+      (λ k l. same_production unit (initial_state unit) row front k k (old_alike unit left front back row m n len k joins l) ∙ joins.front_keeps.production k l)
+      (λ k l. same_production unit left row back (m + k) k (new_alike unit left front back row m n len k joins l)
+      ∙ joins.back_keeps.production k (omega (arith, joins.part)));
   start_cap = throughout (λ k. IsTrue (watts.start_cap_by watts.whole unit row k)) m n
-    (λ k l. same_start_cap unit (initial_state unit) row front k k (old_alike unit left front back row m n len k joins l) ∙ joins.front_keeps.start_cap k l)
-    (λ k l. same_start_cap unit left row back (m + k) k (new_alike unit left front back row m n len k joins l)
-    ∙ joins.back_keeps.start_cap k (omega (arith, joins.part)));
+      (λ k l. same_start_cap unit (initial_state unit) row front k k (old_alike unit left front back row m n len k joins l) ∙ joins.front_keeps.start_cap k l)
+      (λ k l. same_start_cap unit left row back (m + k) k (new_alike unit left front back row m n len k joins l)
+      ∙ joins.back_keeps.start_cap k (omega (arith, joins.part)));
   stop_cap = λ t h. stop_cap_by (m + n) t _ (λ before. ⊎_elim
-    (λ (old : suc t < m).
-    same_stop_cap unit (initial_state unit) row front t t (old_alike unit left front back row m n len t joins (omega arith)) (joins.old (suc t) old)
-    ∙ stop_cap_to m t _ (joins.front_keeps.stop_cap t (omega arith)) old)
-    (λ (behind : m ≤ suc t). ⊎_elim
-    (λ (new : m < suc t).
-    let k = t - m in
-    let place : m + k ≡ t = omega arith in
-    let next : m + suc k ≡ suc (m + k) = omega arith in
-    let inside : suc k < n = omega arith in
-    subst (λ i. IsTrue (int_le ((watts.cell row i).p +ℤ (watts.cell row i).r) (stop_cap unit (watts.commitment row) i))) place
-    (same_stop_cap unit left row back (m + k) k (new_alike unit left front back row m n len k joins (omega arith))
-    (subst (λ i. SameDispatch (watts.cell back (suc k)) (watts.cell row i)) next (joins.new (suc k) inside))
-    ∙ stop_cap_to len k _ (joins.back_keeps.stop_cap k (omega (arith, joins.part))) (omega (arith, joins.part))))
-    (λ (last : suc t ≤ m). border unit left front back row m n len t joins (omega arith))
-    (cases_lt m (suc t)))
-    (cases_lt (suc t) m));
+      (λ (old : suc t < m).
+      same_stop_cap unit (initial_state unit) row front t t (old_alike unit left front back row m n len t joins (omega arith)) (joins.old (suc t) old)
+      ∙ stop_cap_to m t _ (joins.front_keeps.stop_cap t (omega arith)) old)
+      (λ (behind : m ≤ suc t). ⊎_elim
+      (λ (new : m < suc t).
+      let k = t - m in
+      let place : m + k ≡ t = omega arith in
+      let next : m + suc k ≡ suc (m + k) = omega arith in
+      let inside : suc k < n = omega arith in
+      subst (λ i. IsTrue (int_le ((watts.cell row i).p +ℤ (watts.cell row i).r) (stop_cap unit (watts.commitment row) i))) place
+      (same_stop_cap unit left row back (m + k) k (new_alike unit left front back row m n len k joins (omega arith))
+      (subst (λ i. SameDispatch (watts.cell back (suc k)) (watts.cell row i)) next (joins.new (suc k) inside))
+      ∙ stop_cap_to len k _ (joins.back_keeps.stop_cap k (omega (arith, joins.part))) (omega (arith, joins.part))))
+      (λ (last : suc t ≤ m). border unit left front back row m n len t joins (omega arith))
+      (cases_lt m (suc t)))
+      (cases_lt (suc t) m));
   ramp_up = throughout (λ k. IsTrue (watts.ramp_up_by watts.whole unit row k)) m n
-    (λ k l. same_ramp_up unit (initial_state unit) row front k k (old_alike unit left front back row m n len k joins l) ∙ joins.front_keeps.ramp_up k l)
-    (λ k l. same_ramp_up unit left row back (m + k) k (new_alike unit left front back row m n len k joins l)
-    ∙ joins.back_keeps.ramp_up k (omega (arith, joins.part)));
+      (λ k l. same_ramp_up unit (initial_state unit) row front k k (old_alike unit left front back row m n len k joins l) ∙ joins.front_keeps.ramp_up k l)
+      (λ k l. same_ramp_up unit left row back (m + k) k (new_alike unit left front back row m n len k joins l)
+      ∙ joins.back_keeps.ramp_up k (omega (arith, joins.part)));
   ramp_down = throughout (λ k. IsTrue (watts.ramp_down_by watts.whole unit row k)) m n
-    (λ k l. same_ramp_down unit (initial_state unit) row front k k (old_alike unit left front back row m n len k joins l) ∙ joins.front_keeps.ramp_down k l)
-    (λ k l. same_ramp_down unit left row back (m + k) k (new_alike unit left front back row m n len k joins l)
-    ∙ joins.back_keeps.ramp_down k (omega (arith, joins.part)));
+      (λ k l. same_ramp_down unit (initial_state unit) row front k k (old_alike unit left front back row m n len k joins l) ∙ joins.front_keeps.ramp_down k l)
+      (λ k l. same_ramp_down unit left row back (m + k) k (new_alike unit left front back row m n len k joins l)
+      ∙ joins.back_keeps.ramp_down k (omega (arith, joins.part)));
 }

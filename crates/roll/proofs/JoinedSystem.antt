@@ -1,5 +1,5 @@
 -- Periods of two schedules that are alike keep the rules on the whole system alike.
-use Rattle.std.proofs.Common.{◌≡◌, ℕ, ◌<◌, ◌&&◌, ◌||◌, sym, ap, subst, ◌∙◌, ℤ, pos, ◌+ℤ◌, ◌-ℤ◌, ◌*ℤ◌, IsTrue, int_le, nat_lt}
+use Rattle.std.proofs.Common.{◌≡◌, ℕ, ◌<◌, ◌&&◌, ◌||◌, ap, ◌∙◌, ℤ, pos, ◌+ℤ◌, ◌*ℤ◌, int_le, nat_lt}
 use Rattle.std.specs.Int.{int_max}
 use Rattle.std.specs.Ordering.{int_eq}
 use Rattle.uc_model.specs.Sums.{sum_below, bit}

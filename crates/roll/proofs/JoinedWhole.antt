@@ -1,25 +1,24 @@
 -- A stitched schedule obeys every rule of the periods that it has: unit by unit, since each row keeps its rules over the border, and
 -- period by period, since what the system asks is that of the window or of what is kept.
-use Rattle.std.proofs.Common.{◌≡◌, ℕ, zero, suc, ◌+◌, ◌-◌, ◌<◌, ◌≤◌, ◌++◌, ⊎_elim, false, not, ◌&&◌, List, length, get_or, take, refl, sym, ap, subst, ◌∙◌, arith, ℤ, pos, IsTrue}
-use Rattle.std.proofs.lemmas.Bool.{and_right, cases_Bool, cases_lt}
+use Rattle.std.proofs.Common.{◌≡◌, ℕ, ◌+◌, ◌<◌, ◌≤◌, ◌++◌, ⊎_elim, List, length, get_or, take, refl, sym, ap, subst, ◌∙◌, arith, ℤ, pos, IsTrue}
+use Rattle.std.proofs.lemmas.Bool.{cases_lt}
 use Rattle.std.proofs.lemmas.List.{get_or_append_left, get_or-append-add, get_or-take}
-use Rattle.uc_model.specs.Commitment.{starts, was_on}
 use Rattle.uc_model.specs.Schedule.{thermal_unit, thermal_count, renewable_count, renewable_minimum, renewable_maximum, demand_at, reserve_at}
 use Rattle.uc_model.specs.Rules as model
 use Rattle.uc_model.specs.PrintedSchedule.{cell_at, shed_at, short_at}
-use Rattle.uc_model.specs.Limits.{IsLawfulInstance, IsLawfulThermal}
+use Rattle.uc_model.specs.Limits.{IsLawfulInstance}
 use Rattle.schedule_check.specs.FirstBroken.{HoldsThroughout}
 use Rattle.schedule_check.specs.SizedNumbers.{output_at}
 use Rattle.schedule_check.specs.WholeWatts as watts
 use Rattle.schedule_check.proofs.FirstPlaces.{obeys_stands}
 use Rattle.roll.specs.FirstPeriods.{first_periods}
-use Rattle.roll.specs.Left.{Instance, Thermal, Cell, CarriedUnit, Printed, state_of}
+use Rattle.roll.specs.Left.{Instance, Thermal, Cell, Printed, state_of}
 use Rattle.roll.specs.NextWindow.{continued}
 use Rattle.roll.specs.Kept.{IsKept, PrintedObeys}
 use Rattle.roll.specs.Stitched.{IsContinuation, IsStitched, SameDispatch}
 use Rattle.roll.proofs.KeptRules.{IsSolved, rule_in_watts}
 use Rattle.roll.proofs.Parts.{IsPart, first_is_part, first_lawful, window_is_part}
-use Rattle.roll.proofs.JoinedRows.{KeepsRules, RowJoins, category_by, row_keeps, throughout}
+use Rattle.roll.proofs.JoinedRows.{KeepsRules, category_by, row_keeps, throughout}
 use Rattle.roll.proofs.JoinedSystem.{AreSystemsAlike, same_demand, same_range, same_reserve, same_shed, same_short}
 
 -- ---- the rules of a unit

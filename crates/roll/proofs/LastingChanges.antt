@@ -1,13 +1,13 @@
 -- Minimum times by single changes: M4 and M5 hold throughout exactly where each change lasts for the minimum time, or to the
 -- last period. So a rule over windows is told change by change, and a cut of the periods weakens it.
-use Rattle.std.proofs.Common.{◌≡◌, ℕ, zero, suc, ◌+◌, ◌-◌, ◌<◌, ◌≤◌, ◌≢◌, ⊎_elim, min, max, Bool, true, false, not, ◌&&◌, refl, sym, ap, subst, ◌∙◌, arith, ℤ, pos, ◌+ℤ◌, ◌≤ℤ◌, IsTrue, nat_lt}
+use Rattle.std.proofs.Common.{◌≡◌, ℕ, zero, suc, ◌+◌, ◌-◌, ◌<◌, ◌≤◌, ⊎_elim, min, max, Bool, true, false, not, ◌&&◌, refl, sym, ap, ◌∙◌, arith, pos, ◌≤ℤ◌, IsTrue, nat_lt}
 use Rattle.std.proofs.lemmas.Bool.{and_parts, and_from, or_left, or_right, cases_Bool, cases_lt, true≢false, not-true, not-false, not_from_true, not_from_false, false_from_ne_true, lt-ltb}
 use Rattle.uc_model.specs.Sums.{sum_below, bit}
 use Rattle.uc_model.specs.Commitment.{Commitment, state_before, keeps_minimum_at}
 use Rattle.uc_model.proofs.Ring.{linear}
 use Rattle.uc_model.proofs.Sums.{sum_below-zero}
 use Rattle.uc_model.proofs.Tests.{le-int_le}
-use Rattle.uc_model.proofs.MinimumTimes.{OneChange, bit-le-one, bit_nonneg, fall, one_change}
+use Rattle.uc_model.proofs.MinimumTimes.{OneChange, fall, one_change}
 
 -- the changes are those from another state to the state, in each of the periods
 abbrev pub AreRises : ℕ → Bool → Commitment → Commitment → Type 0

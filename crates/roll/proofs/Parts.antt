@@ -1,6 +1,6 @@
 -- Parts of an instance: some of its periods, with their demand, reserves and renewable limits. A part of a lawful instance whose
 -- thermal units are lawful is lawful. The first periods of an instance are a part, and so is a window.
-use Rattle.std.proofs.Common.{◌≡◌, ℕ, zero, suc, ◌+◌, ◌-◌, ◌<◌, ◌≤◌, List, [], ◌∷◌, length, get_or, take, drop, map, refl, sym, ap, subst, ◌∙◌, arith, ℤ, pos, ◌+ℤ◌, ◌*ℤ◌, ◌≤ℤ◌}
+use Rattle.std.proofs.Common.{◌≡◌, ℕ, ◌+◌, ◌-◌, ◌<◌, ◌≤◌, List, [], length, get_or, take, drop, map, refl, sym, ap, subst, ◌∙◌, arith, ℤ, pos, ◌≤ℤ◌}
 use Rattle.std.specs.Int.{int_max}
 use Rattle.std.proofs.lemmas.Int.{ints}
 use Rattle.std.proofs.lemmas.List.{ext_get_or, length-take-le, length-drop, length-map, get_or-take, get_or-drop, get_or-map, take_all}
@@ -14,7 +14,7 @@ use Rattle.uc_model.proofs.Ring.{linear, le_trans, add-le-add, scale-le-scale}
 use Rattle.uc_model.proofs.Sums.{sum_below-same, sum_below-split, sum_below_nonneg}
 use Rattle.roll.specs.FirstPeriods.{first_periods, first_limits}
 use Rattle.roll.specs.Left.{Instance, Carried}
-use Rattle.roll.specs.NextWindow.{IsWindow, limits_within}
+use Rattle.roll.specs.NextWindow.{IsWindow}
 
 -- a renewable unit of the part has the limits of its periods
 pub record HasLimitsOf (instance : Instance) (start len : ℕ) (part : Instance) (w : ℕ) : Type 0 where

@@ -1,5 +1,5 @@
 -- Rows that are joined make a stitched schedule, whose numbers are plain where those of its parts are.
-use Rattle.std.proofs.Common.{◌≡◌, ℕ, ◌+◌, ◌-◌, ◌<◌, ◌≤◌, ◌++◌, ⊎_elim, false, not, ◌&&◌, List, [], ◌∷◌, length, get_or, take, refl, sym, ap, subst, ◌∙◌, arith, ℤ, pos, ◌+ℤ◌, ◌≤ℤ◌}
+use Rattle.std.proofs.Common.{◌≡◌, ℕ, ◌+◌, ◌-◌, ◌<◌, ◌≤◌, ◌++◌, ⊎_elim, not, List, [], ◌∷◌, length, get_or, take, sym, ap, subst, ◌∙◌, arith, ℤ, pos, ◌+ℤ◌, ◌≤ℤ◌}
 use Rattle.std.proofs.lemmas.Bool.{and_right, cases_Bool, cases_lt}
 use Rattle.std.proofs.lemmas.List.{get_or_append_left, get_or-append-add, get_or-take, length-append, length-map, length-take-le, length_push}
 use Rattle.std.proofs.lemmas.List.Elements.{All-get_or, All-from_get_or}
@@ -8,7 +8,7 @@ use Rattle.uc_model.specs.Schedule.{thermal_unit, thermal_count, renewable_count
 use Rattle.uc_model.specs.PrintedSchedule.{HasShapeOf, cell_at}
 use Rattle.uc_model.specs.Limits.{IsLawfulInstance, IsLawfulThermal, IsLimit, IsPower}
 use Rattle.uc_model.specs.declared.limits.TheConstants.{MAX_START_ROWS}
-use Rattle.schedule_check.specs.PlainNumbers.{HasPlainNumbers, IsIdleCell, IsPlainCell}
+use Rattle.schedule_check.specs.PlainNumbers.{HasPlainNumbers, IsPlainCell}
 use Rattle.schedule_check.specs.SizedNumbers.{output_at}
 use Rattle.schedule_check.specs.WholeWatts.{cell, commitment, row_of}
 use Rattle.schedule_check.proofs.Plain.{plain}
@@ -17,7 +17,7 @@ use Rattle.roll.specs.FirstPeriods.{first_limits, first_periods}
 use Rattle.roll.specs.Left.{Instance, Thermal, Cell, Printed}
 use Rattle.roll.specs.Kept.{IsKept}
 use Rattle.roll.specs.Stitched.{HasLeastCategory, IsContinuation, IsStitched, SameDispatch}
-use Rattle.roll.specs.inside.Joined.{AreEmpty, AreJoinable, AreJoined, AreStitchedRows, IsStitchedRow}
+use Rattle.roll.specs.inside.Joined.{AreEmpty, AreJoined, AreStitchedRows, IsStitchedRow}
 use Rattle.roll.specs.inside.Rows.{row_at, unit_at}
 use Rattle.roll.proofs.CarriedRows.{one_more}
 use Rattle.roll.proofs.JoinedWhole.{joined_new, joined_old, stitched_obeys}
@@ -32,18 +32,6 @@ new_row : (instance : Instance) (m n : ℕ) (kept shown : Printed) (next : IsCon
 new_row instance m n kept shown next g h =
     All-get_or (λ row. length row ≡ next.window.periods) shown.thermal g [] (omega (arith, next.shape.thermal, next.next.is_window.thermal_units)) next.shape.cells
     ∙ next.next.is_window.periods
-
-pub rows_join : (instance : Instance) (m n : ℕ) (kept shown : Printed) → IsKept instance m kept → IsContinuation instance kept m n shown
-    → AreJoinable (thermal_count instance) n kept.thermal shown.thermal
-rows_join instance m n kept shown is next = record {
-  kept_count = is.shape.thermal;
-  new_count = next.shape.thermal ∙ next.next.is_window.thermal_units;
-  part = λ g h. omega (arith, new_row instance m n kept shown next g h, next.part);
-}
-
-pub row_fits : (instance : Instance) (m n : ℕ) (kept shown : Printed) → IsKept instance m kept → IsContinuation instance kept m n shown → (g : ℕ)
-    → g < thermal_count instance → length (row_at kept.thermal g) + n ≤ instance.periods
-row_fits instance m n kept shown is next g h = omega (arith, kept_row instance m kept is g h, next.part, next.within)
 
 -- the renewable units' rows
 kept_outputs : (instance : Instance) (m : ℕ) (kept : Printed) → IsKept instance m kept → length kept.renewable ≡ renewable_count instance
@@ -62,14 +50,6 @@ new_output : (instance : Instance) (m n : ℕ) (kept shown : Printed) (next : Is
 new_output instance m n kept shown next w h =
     All-get_or (λ row. length row ≡ next.window.periods) shown.renewable w [] (omega (arith, new_outputs instance m n kept shown next)) next.shape.outputs
     ∙ next.next.is_window.periods
-
-pub outputs_join : (instance : Instance) (m n : ℕ) (kept shown : Printed) → IsKept instance m kept → IsContinuation instance kept m n shown
-    → AreJoinable (length kept.renewable) n kept.renewable shown.renewable
-outputs_join instance m n kept shown is next = record {
-  kept_count = refl;
-  new_count = new_outputs instance m n kept shown next ∙ sym (kept_outputs instance m kept is);
-  part = λ w h. omega (arith, new_output instance m n kept shown next w (omega (arith, kept_outputs instance m kept is)), next.part);
-}
 
 -- ---- lists of numbers
 pub joined_length : {X : Type 0} (xs ys : List X) (n : ℕ) → n ≤ length ys → length (xs ++ take n ys) ≡ length xs + n

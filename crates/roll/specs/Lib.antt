@@ -3,4 +3,5 @@ pub mod Left
 pub mod NextWindow
 pub mod Kept
 pub mod Stitched
+pub mod Examples
 pub mod inside

@@ -10,15 +10,20 @@ ghost use Rattle.roll.specs.Left.{HasLasted, HasStates, IsCarried, IsLawfulState
 ghost use Rattle.roll.specs.inside.Rows.{AreInitialStates, AreLawful, AreStatesBehind, HasRows, IsWithinRange};
 
 use crate::state::{Carried, CarriedUnit};
-use std::alloc::Global;
 use schedule_check::limits::stop_reduction;
+use std::alloc::Global;
 use uc_model::limits::MAX_TIME;
 use uc_model::{Cell, Instance, List, NoMemory, Printed, Thermal};
 
 /// The states in which the schedule `kept` of the periods before `a`, which counts from 1, leaves the thermal units. Where `a`
 /// is 1 they are the instance's own, and no schedule is looked at. A unit whose last output and reserve are too high to stop
 /// has been on for less than its minimum up time. The only error is `NoMemory`.
-pub fn carry(alloc: Global, instance: &Instance, kept: &Printed, a: u32) -> Result<Carried, NoMemory>
+pub fn carry(
+    alloc: Global,
+    instance: &Instance,
+    kept: &Printed,
+    a: u32,
+) -> Result<Carried, NoMemory>
     requires lawful { IsLawfulInstance instance.now }
     requires first { 1 ≤ a }
     requires last { a ≤ instance.now.periods }
@@ -152,7 +157,11 @@ fn time_off_behind(unit: &Thermal, last: &Cell, end: usize, lasted: usize) -> u3
     ensures value { result ≡ (if last.now.on then 0 else time_off_so_far unit.now end lasted) }
     ensures size { result ≤ MAX_TIME }
 {
-    if last.on { 0 } else { time_off(unit, end, lasted) }
+    if last.on {
+        0
+    } else {
+        time_off(unit, end, lasted)
+    }
 }
 
 // Whether output and reserve of the last cell are above what M10 leaves to a unit that stops behind it.

@@ -3,6 +3,7 @@
 #![tactic(auto)]
 
 mod carrying;
+pub mod examples;
 pub mod laws;
 mod rows;
 mod state;

@@ -1,5 +1,5 @@
 -- Nothing is kept yet.
-use Rattle.std.proofs.Common.{[], length, sym, ap, subst, refl, ◌∙◌}
+use Rattle.std.proofs.Common.{length, sym, subst, refl, ◌∙◌}
 use Rattle.roll.specs.Left.{Printed}
 use Rattle.roll.specs.inside.Joined.{AreEmpty}
 use Rattle.roll.proofs.StitchedParts.{nothing_kept}

@@ -1,5 +1,5 @@
 -- The rows are those of the schedules, and so is what they make.
-use Rattle.std.proofs.Common.{length, refl, ◌∙◌}
+use Rattle.std.proofs.Common.{length, refl}
 use Rattle.roll.specs.Left.{Printed}
 use Rattle.roll.specs.Stitched.{IsStitched}
 use Rattle.roll.proofs.StitchedParts.{HasParts, numbers_as, outputs_as, stitched_is, stitched_kept, thermal_as}

@@ -1,5 +1,5 @@
 -- The next row.
-use Rattle.std.proofs.Common.{◌≡◌, ◌+◌, [], sym, ap, subst, ◌∙◌, arith}
+use Rattle.std.proofs.Common.{◌≡◌, ◌+◌, [], sym, subst, ◌∙◌, arith}
 use Rattle.std.proofs.lemmas.List.{get_or_read}
 use Rattle.uc_model.specs.Schedule.{no_unit}
 use Rattle.uc_model.specs.Limits.{IsLawfulThermal}

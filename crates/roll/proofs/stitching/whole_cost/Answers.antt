@@ -1,5 +1,5 @@
 -- The instance cut to all of its periods is the instance, so what is kept of them obeys it.
-use Rattle.std.proofs.Common.{◌≡◌, ◌≤◌, ℤ, sym, subst, ◌∙◌, arith, to_z, of_z, unsigned_abs}
+use Rattle.std.proofs.Common.{◌≡◌, ◌≤◌, sym, subst, ◌∙◌, arith, to_z, of_z, unsigned_abs}
 use Rattle.std.specs.Int.{w64}
 use Rattle.uc_model.specs.PrintedSchedule.{HasShapeOf, printed_cost, printed_denominator}
 use Rattle.uc_model.specs.declared.limits.TheConstants.{COST_MAX}

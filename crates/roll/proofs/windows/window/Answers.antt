@@ -1,5 +1,5 @@
 -- The window is one of a lawful instance, from lawful states.
-use Rattle.std.proofs.Common.{rules, ◌-◌, arith}
+use Rattle.std.proofs.Common.{rules, ◌-◌}
 use Rattle.roll.specs.Left.{Instance}
 use Rattle.roll.specs.NextWindow.{IsWindow}
 use Rattle.roll.proofs.LawfulWindows.{window_lawful}
