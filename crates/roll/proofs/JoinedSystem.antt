@@ -70,19 +70,17 @@ same_reserve instance other printed shown t s alike =
     let need = alike.reserves in
     (λ i. int_le (need i) (supply i +ℤ short i))
 
--- M16 and M17
+-- M16 and M17, over equal prices, needs and shortages
+same_shortage : (price other : ℕ) (need own missing lacking : ℤ) → price ≡ other → need ≡ own → missing ≡ lacking
+    → (int_le (pos 0) missing && int_le missing (int_max need (pos 0)) && (nat_lt 0 price || int_eq missing (pos 0)))
+    ≡ (int_le (pos 0) lacking && int_le lacking (int_max own (pos 0)) && (nat_lt 0 other || int_eq lacking (pos 0)))
+same_shortage price other need own missing lacking p n m =
+    (λ i. int_le (pos 0) (m i) && int_le (m i) (int_max (n i) (pos 0)) && (nat_lt 0 (p i) || int_eq (m i) (pos 0)))
+
 pub same_shed : (instance other : Instance) (printed shown : Printed) (t s : ℕ) → AreSystemsAlike instance other printed shown t s
     → watts.shed_holds watts.whole instance printed t ≡ watts.shed_holds watts.whole other shown s
-same_shed instance other printed shown t s alike =
-    let price = alike.a in
-    let missing = alike.shed in
-    let need = alike.demand in
-    (λ i. int_le (pos 0) (missing i) && int_le (missing i) (int_max (need i) (pos 0)) && (nat_lt 0 (price i) || int_eq (missing i) (pos 0)))
+same_shed instance other printed shown t s alike = same_shortage _ _ _ _ _ _ alike.a alike.demand alike.shed
 
 pub same_short : (instance other : Instance) (printed shown : Printed) (t s : ℕ) → AreSystemsAlike instance other printed shown t s
     → watts.short_holds watts.whole instance printed t ≡ watts.short_holds watts.whole other shown s
-same_short instance other printed shown t s alike =
-    let price = alike.b in
-    let missing = alike.short in
-    let need = alike.reserves in
-    (λ i. int_le (pos 0) (missing i) && int_le (missing i) (int_max (need i) (pos 0)) && (nat_lt 0 (price i) || int_eq (missing i) (pos 0)))
+same_short instance other printed shown t s alike = same_shortage _ _ _ _ _ _ alike.b alike.reserves alike.short

@@ -15,7 +15,7 @@ use Rattle.roll.specs.FirstPeriods.{first_periods}
 use Rattle.roll.specs.Left.{Instance, Thermal, Cell, Printed, state_of}
 use Rattle.roll.specs.NextWindow.{continued}
 use Rattle.roll.specs.Kept.{IsKept, PrintedObeys}
-use Rattle.roll.specs.Stitched.{IsContinuation, IsStitched, SameDispatch}
+use Rattle.roll.specs.Stitched.{HasLeastCategory, IsContinuation, IsStitched, SameDispatch}
 use Rattle.roll.proofs.KeptRules.{IsSolved, rule_in_watts}
 use Rattle.roll.proofs.Parts.{IsPart, first_is_part, first_lawful, window_is_part}
 use Rattle.roll.proofs.JoinedRows.{KeepsRules, category_by, row_keeps, throughout}
@@ -192,33 +192,30 @@ system_rule rule instance m n g t kept shown stitched lawful is next joined same
         same (first_periods (m + n) instance) next.window stitched shown (m + k) k like hg
         ∙ rule_in_watts next.window shown solved rule g k (omega (arith, count)) (omega (arith, length_is, len_is, next.part))
 
+-- a rule on thermal units, by the rules that the unit's row keeps
+unit_rule : (instance : Instance) (printed : Printed) (g t : ℕ) → 1 ≤ instance.periods
+    → KeepsRules instance.periods (thermal_unit instance g) (watts.row_of printed g)
+    → ((k : ℕ) → k < instance.periods
+    → HasLeastCategory (thermal_unit instance g) (watts.commitment (watts.row_of printed g)) k (watts.category (watts.row_of printed g) k))
+    → (rule : model.Rule) → model.rule_number rule < 13 → t < model.rule_periods rule instance → IsTrue (watts.holds_at rule instance printed g t)
+unit_rule instance printed g t some keeps least model.MustRun less ht = keeps.must_run t ht
+unit_rule instance printed g t some keeps least model.InitialUp less ht = keeps.initial_up t ht
+unit_rule instance printed g t some keeps least model.InitialDown less ht = keeps.initial_down t ht
+unit_rule instance printed g t some keeps least model.MinimumUp less ht = keeps.minimum_up t ht
+unit_rule instance printed g t some keeps least model.MinimumDown less ht = keeps.minimum_down t ht
+unit_rule instance printed g t some keeps least model.Category less ht =
+    category_by (thermal_unit instance g) (watts.commitment (watts.row_of printed g)) (watts.category (watts.row_of printed g)) t (least t ht)
+unit_rule instance printed g t some keeps least model.InitialStop less ht = keeps.initial_stop some
+unit_rule instance printed g t some keeps least model.Production less ht = keeps.production t ht
+unit_rule instance printed g t some keeps least model.StartCap less ht = keeps.start_cap t ht
+unit_rule instance printed g t some keeps least model.StopCap less ht = keeps.stop_cap t ht
+unit_rule instance printed g t some keeps least model.RampUp less ht = keeps.ramp_up t ht
+unit_rule instance printed g t some keeps least model.RampDown less ht = keeps.ramp_down t ht
+unit_rule instance printed g t some keeps least _ less ht = absurd (omega arith)
+
 pub stitched_keeps : (instance : Instance) (m n : ℕ) (kept shown stitched : Printed) → IsLawfulInstance instance → IsKept instance m kept
     → IsContinuation instance kept m n shown → IsStitched instance m n kept shown stitched → (rule : model.Rule)
     → HoldsThroughout (first_periods (m + n) instance) (λ r. watts.holds_at r (first_periods (m + n) instance) stitched) rule
-stitched_keeps instance m n kept shown stitched lawful is next joined model.MustRun g t hg ht =
-    (unit_keeps instance m n kept shown stitched lawful is next joined g hg).must_run t ht
-stitched_keeps instance m n kept shown stitched lawful is next joined model.InitialUp g t hg ht =
-    (unit_keeps instance m n kept shown stitched lawful is next joined g hg).initial_up t ht
-stitched_keeps instance m n kept shown stitched lawful is next joined model.InitialDown g t hg ht =
-    (unit_keeps instance m n kept shown stitched lawful is next joined g hg).initial_down t ht
-stitched_keeps instance m n kept shown stitched lawful is next joined model.MinimumUp g t hg ht =
-    (unit_keeps instance m n kept shown stitched lawful is next joined g hg).minimum_up t ht
-stitched_keeps instance m n kept shown stitched lawful is next joined model.MinimumDown g t hg ht =
-    (unit_keeps instance m n kept shown stitched lawful is next joined g hg).minimum_down t ht
-stitched_keeps instance m n kept shown stitched lawful is next joined model.Category g t hg ht =
-    category_by (thermal_unit instance g) (watts.commitment (watts.row_of stitched g)) (watts.category (watts.row_of stitched g)) t (joined.categories g t hg ht)
-stitched_keeps instance m n kept shown stitched lawful is next joined model.InitialStop g t hg ht =
-    (unit_keeps instance m n kept shown stitched lawful is next joined g hg).initial_stop (omega (arith, next.some))
-stitched_keeps instance m n kept shown stitched lawful is next joined model.Production g t hg ht =
-    (unit_keeps instance m n kept shown stitched lawful is next joined g hg).production t ht
-stitched_keeps instance m n kept shown stitched lawful is next joined model.StartCap g t hg ht =
-    (unit_keeps instance m n kept shown stitched lawful is next joined g hg).start_cap t ht
-stitched_keeps instance m n kept shown stitched lawful is next joined model.StopCap g t hg ht =
-    (unit_keeps instance m n kept shown stitched lawful is next joined g hg).stop_cap t ht
-stitched_keeps instance m n kept shown stitched lawful is next joined model.RampUp g t hg ht =
-    (unit_keeps instance m n kept shown stitched lawful is next joined g hg).ramp_up t ht
-stitched_keeps instance m n kept shown stitched lawful is next joined model.RampDown g t hg ht =
-    (unit_keeps instance m n kept shown stitched lawful is next joined g hg).ramp_down t ht
 stitched_keeps instance m n kept shown stitched lawful is next joined model.RenewableRange g t hg ht =
     system_rule model.RenewableRange instance m n g t kept shown stitched lawful is next joined
     (λ one two printed other i k like h. same_range one two printed other g i k like h) (λ one. refl) (λ one two e f. f) hg ht
@@ -234,6 +231,9 @@ stitched_keeps instance m n kept shown stitched lawful is next joined model.Shed
 stitched_keeps instance m n kept shown stitched lawful is next joined model.ShortRange g t hg ht =
     system_rule model.ShortRange instance m n g t kept shown stitched lawful is next joined
     (λ one two printed other i k like h. same_short one two printed other i k like) (λ one. refl) (λ one two e f. refl) hg ht
+stitched_keeps instance m n kept shown stitched lawful is next joined rule g t hg ht =
+    unit_rule (first_periods (m + n) instance) stitched g t (omega (arith, next.some))
+    (unit_keeps instance m n kept shown stitched lawful is next joined g hg) (λ k hk. joined.categories g k hg hk) rule (omega arith) ht
 
 pub stitched_obeys : (instance : Instance) (m n : ℕ) (kept shown stitched : Printed) → IsLawfulInstance instance → IsKept instance m kept
     → IsContinuation instance kept m n shown → IsStitched instance m n kept shown stitched → PrintedObeys (first_periods (m + n) instance) stitched

@@ -6,7 +6,7 @@ use Rattle.std.proofs.lemmas.Int.{ints}
 use Rattle.std.proofs.lemmas.List.{ext_get_or, length-take-le, length-drop, length-map, get_or-take, get_or-drop, get_or-map, take_all}
 use Rattle.std.proofs.lemmas.List.Elements.{All-get_or, All-from_get_or}
 use Rattle.uc_model.specs.Sums.{sum_below}
-use Rattle.uc_model.specs.Schedule.{thermal_unit, thermal_count, renewable_unit, renewable_count, renewable_minimum, renewable_maximum, demand_at, reserve_at, most_shed, most_short}
+use Rattle.uc_model.specs.Schedule.{thermal_unit, thermal_count, renewable_unit, renewable_count, renewable_minimum, renewable_maximum, demand_at, reserve_at}
 use Rattle.uc_model.specs.Limits.{IsLawfulInstance, IsLawfulThermal, IsLawfulRenewable, IsPower, greatest_shortage_cost}
 use Rattle.uc_model.specs.declared.limits.TheConstants.{MAX_SHORTAGE_COST}
 use Rattle.uc_model.specs.declared.instance.Renewable.{Renewable}
@@ -118,24 +118,21 @@ part_sum f nonneg start len n h =
 most_nonneg : (z : ℤ) → pos 0 ≤ℤ int_max z (pos 0)
 most_nonneg z = grind (arith, ints)
 
+-- the most that may be missing of the part's needs, and of all needs
+part_most : (need own : ℕ → ℤ) (start len periods n : ℕ) → periods ≡ len → start + len ≤ n → ((t : ℕ) → t < len → own t ≡ need (start + t))
+    → sum_below periods (λ t. int_max (own t) (pos 0)) ≤ℤ sum_below n (λ t. int_max (need t) (pos 0))
+part_most need own start len periods n e h same =
+    let equal = ap (λ k. sum_below k (λ t. int_max (own t) (pos 0))) e
+    ∙ sum_below-same len (λ t. int_max (own t) (pos 0)) (λ t. int_max (need (start + t)) (pos 0)) (λ t l. ap (λ z. int_max z (pos 0)) (same t l)) in
+    let below = part_sum (λ t. int_max (need t) (pos 0)) (λ t. most_nonneg (need t)) start len n h in
+    subst (λ z. z ≤ℤ sum_below n (λ t. int_max (need t) (pos 0))) (sym equal) below
+
 part_shortages : (instance : Instance) (start len : ℕ) (part : Instance) → IsPart instance start len part → (a b : ℕ)
     → greatest_shortage_cost part a b ≤ℤ greatest_shortage_cost instance a b
 part_shortages instance start len part is a b =
-    add-le-add _ _ _ _ (scale-le-scale a _ _ shed) (scale-le-scale b _ _ short)
-  where
-    shed : sum_below part.periods (most_shed part) ≤ℤ sum_below instance.periods (most_shed instance)
-    shed =
-        let same = ap (λ n. sum_below n (most_shed part)) is.periods
-        ∙ sum_below-same len (most_shed part) (λ t. most_shed instance (start + t)) (λ t h. ap (λ z. int_max z (pos 0)) (is.demand t h)) in
-        let below = part_sum (most_shed instance) (λ t. most_nonneg (demand_at instance t)) start len instance.periods is.within in
-        subst (λ z. z ≤ℤ sum_below instance.periods (most_shed instance)) (sym same) below
-
-    short : sum_below part.periods (most_short part) ≤ℤ sum_below instance.periods (most_short instance)
-    short =
-        let same = ap (λ n. sum_below n (most_short part)) is.periods
-        ∙ sum_below-same len (most_short part) (λ t. most_short instance (start + t)) (λ t h. ap (λ z. int_max z (pos 0)) (is.reserves t h)) in
-        let below = part_sum (most_short instance) (λ t. most_nonneg (reserve_at instance t)) start len instance.periods is.within in
-        subst (λ z. z ≤ℤ sum_below instance.periods (most_short instance)) (sym same) below
+    add-le-add _ _ _ _
+    (scale-le-scale a _ _ (part_most (demand_at instance) (demand_at part) start len part.periods instance.periods is.periods is.within is.demand))
+    (scale-le-scale b _ _ (part_most (reserve_at instance) (reserve_at part) start len part.periods instance.periods is.periods is.within is.reserves))
 
 -- ---- lawful parts
 part_renewable : (instance : Instance) (start len : ℕ) (part : Instance) (w : ℕ) → IsPart instance start len part

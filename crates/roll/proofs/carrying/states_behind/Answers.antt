@@ -1,10 +1,10 @@
 -- The next unit with its row.
-use Rattle.std.proofs.Common.{◌≡◌, ◌+◌, ◌-◌, [], sym, subst, ◌∙◌, arith}
+use Rattle.std.proofs.Common.{List, ◌≡◌, ◌+◌, ◌-◌, [], sym, subst, ◌∙◌, arith}
 use Rattle.std.proofs.lemmas.List.{get_or_read}
 use Rattle.uc_model.specs.Schedule.{no_unit}
 use Rattle.uc_model.specs.Limits.{IsLawfulThermal}
 use Rattle.schedule_check.specs.WholeWatts.{cell}
-use Rattle.roll.specs.Left.{IsLeftBy}
+use Rattle.roll.specs.Left.{CarriedUnit, IsLeftBy}
 use Rattle.roll.specs.inside.Rows.{AreStatesBehind, IsWithinRange, row_at, unit_at}
 use Rattle.roll.proofs.CarriedRows.{states_more}
 use Rattle.roll.proofs.carrying.states_behind.Goals as goal
@@ -34,5 +34,5 @@ loop-g-preserved c =
     ∙ get_or_read c.args.rows.now c.loop-g.g c.index-rows-g.result (omega (arith, c.requires.rows.count, c.loop-g-test.true)) c.index-rows-g.is [] in
     let left : IsLeftBy (unit_at c.args.units.now c.loop-g.g) (row_at c.args.rows.now c.loop-g.g) c.args.end c.state_behind.result = subst (λ u. IsLeftBy u (row_at c.args.rows.now c.loop-g.g) c.args.end c.state_behind.result) unit
     (subst (λ r. IsLeftBy c.index-units-g.result r c.args.end c.state_behind.result) row c.state_behind.ensures.left) in
-    subst (AreStatesBehind c.args.units.now c.args.rows.now c.args.end (c.loop-g.g + 1)) (sym c.in_ok-push.ensures.items)
+    subst (AreStatesBehind c.args.units.now c.args.rows.now c.args.end (c.loop-g.g + 1)) (sym {A = List CarriedUnit} c.in_ok-push.ensures.items)
     (states_more c.args.units.now c.args.rows.now c.args.end c.loop-g.g c.loop-g.states.items c.state_behind.result c.loop-g.invariant left c.state_behind.ensures.lawful)

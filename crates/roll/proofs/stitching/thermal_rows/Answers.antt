@@ -1,8 +1,9 @@
 -- The next row.
-use Rattle.std.proofs.Common.{◌≡◌, ◌+◌, [], sym, subst, ◌∙◌, arith}
+use Rattle.std.proofs.Common.{List, ◌≡◌, ◌+◌, [], sym, subst, ◌∙◌, arith}
 use Rattle.std.proofs.lemmas.List.{get_or_read}
 use Rattle.uc_model.specs.Schedule.{no_unit}
 use Rattle.uc_model.specs.Limits.{IsLawfulThermal}
+use Rattle.roll.specs.Left.{Cell}
 use Rattle.roll.specs.inside.Joined.{AreStitchedRows, IsStitchedRow}
 use Rattle.roll.specs.inside.Rows.{row_at, unit_at}
 use Rattle.roll.proofs.StitchedParts.{rows_more}
@@ -28,5 +29,5 @@ loop-g-preserved c =
     subst (λ u. IsStitchedRow u (row_at c.args.kept.now c.loop-g.g) (row_at c.args.new.now c.loop-g.g) keep row) unit
     (subst (λ o. IsStitchedRow c.index-units-g.result o (row_at c.args.new.now c.loop-g.g) keep row) old
     (subst (λ m. IsStitchedRow c.index-units-g.result c.as_slice-old.result.now m keep row) more c.in_ok-stitched_row.ensures)) in
-    subst (AreStitchedRows c.args.units.now c.args.kept.now c.args.new.now keep (c.loop-g.g + 1)) (sym c.in_ok-push.ensures.items)
+    subst (AreStitchedRows c.args.units.now c.args.kept.now c.args.new.now keep (c.loop-g.g + 1)) (sym {A = List (List Cell)} c.in_ok-push.ensures.items)
     (rows_more c.args.units.now c.args.kept.now c.args.new.now keep c.loop-g.g c.loop-g.rows.items row c.loop-g.invariant here)
