@@ -58,6 +58,35 @@ pub(crate) struct Range {
     pub limits: (u32, u32),
 }
 
+/// What a run wrote to each device.
+#[derive(Drop)]
+pub(crate) struct Written {
+    pub certificate: Vec<u8>,
+    pub output: Vec<u8>,
+    pub fault: Vec<u8>,
+}
+
+impl Written {
+    // Nothing.
+    fn new(alloc: Global) -> Self {
+        Written {
+            certificate: Vec::new(alloc),
+            output: Vec::new(alloc),
+            fault: Vec::new(alloc),
+        }
+    }
+
+    /// The bytes written to a device.
+    pub(crate) fn to(&self, place: Place) -> &[u8] {
+        match place {
+            Place::CertOut => self.certificate.as_slice(),
+            Place::Output => self.output.as_slice(),
+            Place::Fault => self.fault.as_slice(),
+            Place::Instance | Place::CertIn => b"",
+        }
+    }
+}
+
 /// What a case says: the bytes of the files that are read, how the devices behave, and what is told of a run. Besides, what the
 /// last run wrote, and what the lines of a table stand for.
 #[derive(Drop)]
@@ -69,8 +98,8 @@ pub(crate) struct Case {
     pub told: Vec<Told>,
     pub ranges: Vec<Range>,
     pub sought: String,
-    pub written: Vec<u8>,
-    pub report: Vec<u8>,
+    pub is_compared: bool,
+    pub last: Written,
     pub row: String,
     pub words: String,
 }
@@ -86,8 +115,8 @@ impl Case {
             told: Vec::new(alloc),
             ranges: Vec::new(alloc),
             sought: String::new(alloc),
-            written: Vec::new(alloc),
-            report: Vec::new(alloc),
+            is_compared: false,
+            last: Written::new(alloc),
             row: String::new(alloc),
             words: String::new(alloc),
         }
@@ -140,7 +169,7 @@ impl Case {
 
     /// Whether the last run put a line on the output.
     pub(crate) fn has_reported(&self, line: &str) -> bool {
-        let report = std::str::from_utf8(self.report.as_slice());
+        let report = std::str::from_utf8(self.last.to(Place::Output));
         for reported in report.unwrap_or_default().lines() {
             if reported == line {
                 return true;

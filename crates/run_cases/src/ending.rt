@@ -42,6 +42,25 @@ fn put_lines(
     Ok(())
 }
 
+// What was written to a device. Where it is compared to what the last run wrote there, it is told whether it is the same, or a front of it.
+fn put_written(
+    case: &Case,
+    text: &mut String,
+    (place, name): (Place, &str),
+    bytes: Option<&[u8]>,
+) -> Result<(), AllocError> {
+    let (written, last) = (bytes.unwrap_or_default(), case.last.to(place));
+    if !case.is_compared || written.is_empty() {
+        put_lines(case, text, (place, name), bytes)
+    } else if written == last {
+        writeln!(text, "{name}: the same")
+    } else if last.starts_with(written) {
+        writeln!(text, "{name}: a front")
+    } else {
+        put_lines(case, text, (place, name), bytes)
+    }
+}
+
 // That a file was opened, and whether it was finished.
 fn put_stage(text: &mut String, file: &FaultyFile, name: &str) -> Result<(), AllocError> {
     match file.memory.stage() {
@@ -97,13 +116,13 @@ pub(crate) fn text_of(alloc: Global, case: &Case, ended: &Ended) -> Result<Strin
     put_state(alloc, case, &mut text, ended)?;
     let certificate = ended.files.cert_out.memory.written();
     put_sought(case, &mut text, certificate)?;
-    put_lines(case, &mut text, (Place::CertOut, "new.cert"), certificate)?;
+    put_written(case, &mut text, (Place::CertOut, "new.cert"), certificate)?;
     let report = ended.out.memory.written();
-    put_lines(case, &mut text, (Place::Output, "output"), report)?;
+    put_written(case, &mut text, (Place::Output, "output"), report)?;
     if ended.out.memory.flushed() != report {
         text.push_str("output not flushed\n")?;
     }
     let fault = ended.err.memory.written();
-    put_lines(case, &mut text, (Place::Fault, "error"), fault)?;
+    put_written(case, &mut text, (Place::Fault, "error"), fault)?;
     Ok(text)
 }

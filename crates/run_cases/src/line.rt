@@ -15,17 +15,19 @@ use std::thread::Threads;
 impl Case {
     // Keeps what a run wrote.
     fn keep(&mut self, alloc: Global, ended: &Ended) -> Result<(), AllocError> {
-        let written = ended.files.cert_out.memory.written().unwrap_or_default();
-        self.written = Vec::from_slice(alloc, written)?;
-        let report = ended.out.memory.flushed().unwrap_or_default();
-        self.report = Vec::from_slice(alloc, report)?;
+        let certificate = ended.files.cert_out.memory.written().unwrap_or_default();
+        self.last.certificate = Vec::from_slice(alloc, certificate)?;
+        let output = ended.out.memory.written().unwrap_or_default();
+        self.last.output = Vec::from_slice(alloc, output)?;
+        let fault = ended.err.memory.written().unwrap_or_default();
+        self.last.fault = Vec::from_slice(alloc, fault)?;
         Ok(())
     }
 
-    // Whether a run wrote the same as the one before.
+    // Whether a run wrote the same as the one before, and flushed it.
     fn is_repeated(&self, ended: Ended) -> bool {
-        ended.files.cert_out.memory.written() == Some(self.written.as_slice())
-            && ended.out.memory.flushed() == Some(self.report.as_slice())
+        ended.files.cert_out.memory.written() == Some(self.last.to(Place::CertOut))
+            && ended.out.memory.flushed() == Some(self.last.to(Place::Output))
     }
 }
 

@@ -27,13 +27,15 @@ pub(crate) struct Ended {
 }
 
 impl Ended {
-    /// Whether no call failed.
-    pub(crate) fn is_sound(&self) -> bool {
-        self.files.instance.schedule.faults == 0
-            && self.files.cert_in.schedule.faults == 0
-            && self.files.cert_out.schedule.faults == 0
-            && self.out.schedule.faults == 0
-            && self.err.schedule.faults == 0
+    /// How many calls on a device failed.
+    pub(crate) fn faults(&self, place: Place) -> u64 {
+        match place {
+            Place::Instance => self.files.instance.schedule.faults,
+            Place::CertIn => self.files.cert_in.schedule.faults,
+            Place::CertOut => self.files.cert_out.schedule.faults,
+            Place::Output => self.out.schedule.faults,
+            Place::Fault => self.err.schedule.faults,
+        }
     }
 }
 

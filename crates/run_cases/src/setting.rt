@@ -95,7 +95,7 @@ impl Case {
                 Ok(true)
             }
             "written" => {
-                self.certificate = Vec::from_slice(alloc, self.written.as_slice())?;
+                self.certificate = Vec::from_slice(alloc, self.last.to(Place::CertOut))?;
                 Ok(true)
             }
             "fails" => add(&mut self.failures, failure_of(rest)),
@@ -103,6 +103,10 @@ impl Case {
             "range" => add(&mut self.ranges, range_of(alloc, rest)?),
             "slow" => {
                 self.pace = Pace::ByteByByte;
+                Ok(true)
+            }
+            "fronts" => {
+                self.is_compared = true;
                 Ok(true)
             }
             "seek" => {

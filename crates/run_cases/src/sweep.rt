@@ -3,16 +3,18 @@
 use crate::case::{Case, Failure, Place};
 use crate::ending::text_of;
 use crate::run::run;
+use outside_memory::Pace;
 use std::alloc::{AllocError, Global};
 use std::io;
 use std::sync::Wait;
 use std::thread::Threads;
 
-/// Runs one after another that ended alike: their first and last number, and how they ended.
+/// Runs one after another that ended alike: their first and last number, of which the last may be left untold, and how they ended.
 #[derive(Drop)]
 pub(crate) struct Alike {
     first: u64,
     last: u64,
+    is_last_told: bool,
     ending: String,
 }
 
@@ -22,6 +24,7 @@ impl Alike {
         Alike {
             first: 0,
             last: 0,
+            is_last_told: true,
             ending: String::new(alloc),
         }
     }
@@ -31,7 +34,11 @@ impl Alike {
         if self.ending.is_empty() {
             return Ok(());
         }
-        println!(rt; "{} to {}", self.first, self.last)?;
+        if self.is_last_told {
+            println!(rt; "{} to {}", self.first, self.last)?;
+        } else {
+            println!(rt; "from {}", self.first)?;
+        }
         rt.print(self.ending.as_str())
     }
 
@@ -58,21 +65,23 @@ fn with_n(alloc: Global, place: Place, ending: String, number: u64) -> Result<St
     }
 }
 
-// How a run ended, and whether no call failed.
+// How a run ended, and whether a call on a device failed.
 fn ending_of<R: Threads + Wait + Sync + AllocGlobal>(
     rt: &R,
     case: &Case,
     words: &str,
+    place: Place,
 ) -> Result<(String, bool), AllocError> {
     let ended = run(rt, rt.alloc(), case, words)?;
     let ending = text_of(rt.alloc(), case, &ended);
-    let is_sound = ended.is_sound();
+    let has_failed = ended.faults(place) > 0;
     drop(ended);
-    Ok((ending?, is_sound))
+    Ok((ending?, has_failed))
 }
 
 impl Alike {
-    /// Runs in which the first call of this kind on this device fails, the second one, and so on to the last.
+    /// Runs in which the first call of this kind on this device fails, the second one, and so on to the last. How many there are is told
+    /// where devices go byte by byte: else it is up to the program.
     pub(crate) fn fail_each<R: Threads + Wait + Sync + Print + AllocGlobal>(
         &mut self,
         rt: &R,
@@ -81,15 +90,19 @@ impl Alike {
         words: &str,
     ) -> io::Result<()> {
         let mut failure = failure;
+        self.is_last_told = case.pace == Pace::ByteByByte;
         for number in 0..1_000_000u64 {
             failure.failing.number = number;
             case.failures.push(failure)?;
-            let (ending, is_sound) = ending_of(rt, case, words)?;
+            let (ending, has_failed) = ending_of(rt, case, words, failure.place)?;
             let _ = case.failures.pop();
-            if is_sound {
+            if !has_failed {
                 break;
             }
             self.put(rt, number, ending)?;
+        }
+        if self.ending.is_empty() {
+            return rt.println("none");
         }
         self.tell(rt)
     }
@@ -106,7 +119,7 @@ impl Alike {
         let whole = Vec::from_slice(rt.alloc(), case.bytes(place))?;
         for length in 0..whole.len() {
             case.set_bytes(place, Vec::from_slice(rt.alloc(), &whole[..length])?);
-            let (ending, _) = ending_of(rt, case, words)?;
+            let (ending, _) = ending_of(rt, case, words, place)?;
             let number = length as u64;
             self.put(rt, number, with_n(rt.alloc(), place, ending, number)?)?;
         }
