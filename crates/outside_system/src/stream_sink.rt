@@ -22,6 +22,13 @@ impl<W: Write + Drop> StreamSink<W> {
         StreamSink { writer, faults: 0 }
     }
 
+    /// The writer, with what waits in it.
+    pub fn into_writer(self) -> W
+        ensures { result ≡ self.writer }
+    {
+        self.writer
+    }
+
     /// The count of faults.
     pub fn faults(&self) -> u64
         ensures { result ≡ (⟦<StreamSink<W> as Sink>⟧.state self.now).faults }

@@ -49,6 +49,8 @@ pub struct SystemFile<'a, R: std::rt::Files> {
     identity: Option<FileIdentity>,
     /// The files that may not be written.
     others: [Option<FileIdentity>; 2],
+    /// Whether it wasn't opened as memory was refused.
+    lacks_memory: bool,
     faults: u64,
 }
 
@@ -64,6 +66,7 @@ impl<'a, R: std::rt::Files + AllocGlobal> SystemFile<'a, R> {
             handle: Handle::Unopened,
             identity: None,
             others: [None; 2],
+            lacks_memory: false,
             faults: 0,
         }
     }
@@ -105,6 +108,14 @@ impl<'a, R: std::rt::Files + AllocGlobal> SystemFile<'a, R> {
     }
 }
 
+/// Whether memory was refused.
+fn is_out_of_memory<T>(outcome: &io::Result<T>) -> bool {
+    match outcome {
+        Ok(_) => false,
+        Err(error) => error.kind() == ErrorKind::OutOfMemory,
+    }
+}
+
 /// The error of a call on a file that was given up.
 fn lost() -> io::Error {
     io::Error::from(ErrorKind::BrokenPipe)
@@ -119,6 +130,7 @@ impl<'a, R: std::rt::Files + AllocGlobal> Device for SystemFile<'a, R> {
 
     fn open(&mut self, name: &str) -> Result<(), Failed> {
         let opened = self.opened(name);
+        self.lacks_memory = is_out_of_memory(&opened);
         let opened = counted(opened, &mut self.faults)?;
         self.identity = opened.identity;
         self.handle = Handle::Open(opened);
@@ -171,6 +183,16 @@ impl<'a, R: std::rt::Files + AllocGlobal> Device for SystemFile<'a, R> {
 #[derive(Drop)]
 pub struct SystemFiles<'a, R: std::rt::Files> {
     pub devices: Devices<SystemFile<'a, R>>,
+}
+
+impl<'a, R: std::rt::Files + AllocGlobal> SystemFiles<'a, R> {
+    /// Whether one of them wasn't opened as memory was refused. That is counted as a fault, as each
+    /// error of the system is.
+    pub fn lack_memory(&self) -> bool {
+        self.devices.instance.lacks_memory
+            || self.devices.cert_in.lacks_memory
+            || self.devices.cert_out.lacks_memory
+    }
 }
 
 impl<'a, R: std::rt::Files + AllocGlobal> Files for SystemFiles<'a, R> {
