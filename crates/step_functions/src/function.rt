@@ -108,6 +108,15 @@ impl ConvexFunction {
         }
     }
 
+    /// A place where the function has its least value when one of this slope is added.
+    pub fn least_place(&self, slope: i128) -> i64
+        requires { IsSmall slope }
+        ensures place { IsPlace self.now result }
+        ensures least { (p : ℤ) → IsPlace self.now p → (value_at self.now result +ℤ slope *ℤ result) ≤ℤ (value_at self.now p +ℤ slope *ℤ p) }
+    {
+        self.first + steps_below(&self.runs, -slope) as i64
+    }
+
     /// Makes it the function that has this value at this place alone.
     pub fn set_point(&mut self, place: i64, value: i128)
         requires place { IsWithin place }

@@ -54,6 +54,9 @@ fn has_values(rt: HostRuntime) -> Result<(), Fail> {
     let least = f.least();
     assert_eq!(&rt; least.value, 0);
     assert_eq!(&rt; (least.first, least.last), (0, 0));
+    // with a slope of 3 the values are -2, -1, 0, 4, 8, 12, and with one of -2 they are 8, 4, 0, -1, -2, -3
+    assert_eq!(&rt; f.least_place(3), -2);
+    assert_eq!(&rt; f.least_place(-2), 3);
     Ok(())
 }
 

@@ -15,3 +15,4 @@ pub mod OutputSums
 pub mod LeastLeft
 pub mod HullFunction
 pub mod Tables
+pub mod HourlySteps

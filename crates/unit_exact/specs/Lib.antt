@@ -1,2 +1,3 @@
+pub mod Hourly
 pub mod Sizes
 pub mod inside

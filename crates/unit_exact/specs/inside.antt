@@ -4,3 +4,4 @@ pub mod Switches
 pub mod OutputCosts
 pub mod Hulls
 pub mod Running
+pub mod Hourly

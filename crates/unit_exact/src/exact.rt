@@ -1,6 +1,6 @@
 //! The exact value of a unit: the least ways from each switch on, from the last period to the first.
 
-ghost use Rattle.std.specs.Prelude.{◌≡◌, ◌<◌, ◌≤◌, ℕ, suc, true, false, None, IfOk, IfSome, Some, length, unsigned_abs};
+ghost use Rattle.std.specs.Prelude.{◌≡◌, ◌<◌, ◌≤◌, ℕ, suc, true, false, None, IfOk, IfSome, IsTrue, Some, length, unsigned_abs};
 ghost use Rattle.cost_curves.specs.LowerHull.{IsLowerHull};
 ghost use Rattle.uc_model.specs.Limits.{IsLawfulInstance};
 ghost use Rattle.uc_model.specs.PatternBits.{commitment_of};
@@ -10,8 +10,11 @@ ghost use Rattle.dual_model.specs.Fixings.{IsFixOf, IsPatternAt};
 ghost use Rattle.dual_model.specs.declared.node.Node.{Node};
 ghost use Rattle.dual_model.specs.Moves.{may_be_on};
 ghost use Rattle.dual_model.specs.Prices.{IsLawfulTable};
+ghost use Rattle.dual_model.specs.TableValue.{AreTermsOf};
+ghost use Rattle.dual_model.specs.UnitTerms.{AreSizedTerms};
 ghost use Rattle.unit_runs.specs.Patterns.{IsValueByRuns};
 ghost use Rattle.unit_runs.specs.RunsToGo.{least_runs, whole_way};
+ghost use Rattle.unit_exact.specs.Hourly.{HasScheduleWithin};
 ghost use Rattle.unit_exact.specs.Sizes.{MAX_EXACT};
 ghost use Rattle.unit_exact.specs.inside.Choices.{value_of};
 ghost use Rattle.unit_exact.specs.inside.Problems.{IsLawful};
@@ -19,6 +22,7 @@ ghost use Rattle.unit_exact.specs.inside.Running.{HasHull, HasRoom};
 ghost use Rattle.unit_exact.specs.inside.Switches.{AreSwitches, IsLeastSwitch, IsTableFrom};
 
 use crate::choices::{Choice, Switches, UNKNOWN};
+use crate::hourly::{Plain, is_hourly};
 use crate::hull;
 use crate::problem::Problem;
 use crate::runs::Runs;
@@ -110,6 +114,41 @@ pub fn least(
         hull: &exact.hull,
     };
     least_way(&mut exact.runs, exact.entries.as_mut_slice(), &problem)
+}
+
+/// Whether unit `g` (from 0) of the instance keeps its ramps where it gives in each hour of the pattern what is best in that
+/// hour by itself at the table, for no more than the hour's term. It then has a schedule of its own whose value is at most the
+/// pattern's, so that its exact value is no greater. Takes no memory.
+pub fn keeps_ramps(
+    exact: &mut Exact,
+    instance: &Instance,
+    curve: &Curve,
+    table: &Table,
+    g: u32,
+    plain: &Plain,
+) -> bool
+    requires lawful { IsLawfulInstance instance.now }
+    requires unit { g < thermal_count instance.now }
+    requires curve { IsLowerHull (thermal_unit instance.now g).points curve.now }
+    requires table { IsLawfulTable instance.now table.now }
+    requires periods { exact.old.periods ≡ instance.now.periods }
+    requires points { length (thermal_unit instance.now g).points ≤ exact.old.points }
+    requires terms { AreTermsOf instance.now table.now g plain.now.terms.now }
+    requires sized { AreSizedTerms (thermal_unit instance.now g) plain.now.terms.now }
+    ensures kept { exact.new ≡ exact.old }
+    ensures within { (node : Node) → IsPatternAt instance.now node g (commitment_of plain.now.pattern.now) → IsTrue result
+        → HasScheduleWithin instance.now node table.now g (commitment_of plain.now.pattern.now) }
+{
+    let unit = &instance.thermal.as_slice()[g as usize];
+    hull::fill(&mut exact.hull, curve, unit.points.as_slice(), table.k());
+    let problem = Problem {
+        periods: instance.periods as usize,
+        table,
+        unit,
+        fix: plain.fix,
+        hull: &exact.hull,
+    };
+    is_hourly(&problem, plain)
 }
 
 // The least way from the initial state on, with its pattern.

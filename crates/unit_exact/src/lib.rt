@@ -4,6 +4,7 @@
 mod choices;
 mod exact;
 mod hour;
+mod hourly;
 mod hull;
 mod output_costs;
 mod problem;
@@ -12,4 +13,5 @@ mod starts;
 mod stops;
 mod trace;
 
-pub use exact::{Exact, least};
+pub use exact::{Exact, keeps_ramps, least};
+pub use hourly::Plain;

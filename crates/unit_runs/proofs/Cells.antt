@@ -30,7 +30,7 @@ cap-from periods unit on t z start stop = ⊎_elim
     (sym (cond-false (nat_lt (suc t) periods) (int_min (start_cap unit on t) (stop_cap unit on t)) _ (le-ltb (suc t) periods last))) start)
     (cases_lt (suc t) periods)
 
-cap-start : (periods : ℕ) (unit : Thermal) (on : Commitment) (t : ℕ) (z : ℤ) → z ≤ℤ cap periods unit on t → z ≤ℤ start_cap unit on t
+pub cap-start : (periods : ℕ) (unit : Thermal) (on : Commitment) (t : ℕ) (z : ℤ) → z ≤ℤ cap periods unit on t → z ≤ℤ start_cap unit on t
 cap-start periods unit on t z h = ⊎_elim
     (λ (within : suc t < periods).
     le_trans z _ _ (subst (λ c. z ≤ℤ c) (cond-true (nat_lt (suc t) periods) _ (start_cap unit on t) (lt-ltb (suc t) periods within)) h)
@@ -40,7 +40,7 @@ cap-start periods unit on t z h = ⊎_elim
     (cond-false (nat_lt (suc t) periods) (int_min (start_cap unit on t) (stop_cap unit on t)) _ (le-ltb (suc t) periods last)) h)
     (cases_lt (suc t) periods)
 
-cap-stop : (periods : ℕ) (unit : Thermal) (on : Commitment) (t : ℕ) (z : ℤ) → z ≤ℤ cap periods unit on t → suc t < periods
+pub cap-stop : (periods : ℕ) (unit : Thermal) (on : Commitment) (t : ℕ) (z : ℤ) → z ≤ℤ cap periods unit on t → suc t < periods
     → z ≤ℤ stop_cap unit on t
 cap-stop periods unit on t z h within =
     le_trans z _ _ (subst (λ c. z ≤ℤ c) (cond-true (nat_lt (suc t) periods) _ (start_cap unit on t) (lt-ltb (suc t) periods within)) h)

@@ -100,7 +100,7 @@ joined-along periods unit on tr from begin = record {
     hour : (i : ℕ) → i < run_hours periods on from → from + i - origin on (from + i) ≡ i
     hour i l = let first = origin-is periods unit on from i begin l in omega arith
 
-greatest_nonneg : (unit : Thermal) → IsLawfulThermal unit → pos 0 ≤ℤ greatest_output unit.points
+pub greatest_nonneg : (unit : Thermal) → IsLawfulThermal unit → pos 0 ≤ℤ greatest_output unit.points
 greatest_nonneg unit lawful =
     let some = lawful.points.0 in
     let rising : Rises unit.points = record { some = some; rising = lawful.rising } in
