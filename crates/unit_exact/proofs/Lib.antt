@@ -16,3 +16,4 @@ pub mod LeastLeft
 pub mod HullFunction
 pub mod Tables
 pub mod HourlySteps
+pub mod ExactSizes

@@ -8,4 +8,4 @@ pub record Size : Type 0 where
 
 -- the size of an exact value of a unit; the limit is this project's
 abbrev pub MAX_EXACT : ℕ
-MAX_EXACT = 10 ^ 34
+MAX_EXACT = 10 ^ 32

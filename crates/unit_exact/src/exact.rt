@@ -17,7 +17,7 @@ ghost use Rattle.unit_runs.specs.RunsToGo.{least_runs, whole_way};
 ghost use Rattle.unit_exact.specs.Hourly.{HasScheduleWithin};
 ghost use Rattle.unit_exact.specs.Sizes.{MAX_EXACT};
 ghost use Rattle.unit_exact.specs.inside.Choices.{value_of};
-ghost use Rattle.unit_exact.specs.inside.Problems.{IsLawful};
+ghost use Rattle.unit_exact.specs.inside.Problems.{IsLawful, MAX_WAY};
 ghost use Rattle.unit_exact.specs.inside.Running.{HasHull, HasRoom};
 ghost use Rattle.unit_exact.specs.inside.Switches.{AreSwitches, IsLeastSwitch, IsTableFrom};
 
@@ -165,7 +165,7 @@ fn least_way(
     ensures least { value_of result ≡ least_runs problem.now.periods problem.now.table.now problem.now.unit.now problem.now.fix.now }
     ensures way { IfSome result (λ best. whole_way problem.now.periods problem.now.table.now problem.now.unit.now problem.now.fix.now (commitment_of best.1) ≡ Some best.0) }
     ensures after { IfSome result (λ best. (t : ℕ) → problem.now.periods ≤ t → commitment_of best.1 t ≡ false) }
-    ensures size { IfSome result (λ best. unsigned_abs best.0 ≤ MAX_EXACT) }
+    ensures size { IfSome result (λ best. unsigned_abs best.0 ≤ MAX_WAY) }
 {
     fill(runs, entries, problem);
     match first_switch(runs, entries, problem) {

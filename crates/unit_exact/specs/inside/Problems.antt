@@ -23,3 +23,7 @@ MAX_HOUR = 10 ^ 29
 
 abbrev pub MAX_SWITCH : ℕ
 MAX_SWITCH = 168 * 10 ^ 29
+
+-- a way through all periods costs at most this, as it is added up
+abbrev pub MAX_WAY : ℕ
+MAX_WAY = 10 ^ 34
