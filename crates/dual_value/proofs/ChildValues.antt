@@ -1,5 +1,5 @@
 -- The value of a node from its parent's: what the other units add stays, and one part gives way to another.
-use Rattle.std.proofs.Common.{◌≡◌, ◌≢◌, ℕ, zero, suc, ◌+◌, ◌*◌, ◌<◌, ◌≤◌, ⊎_elim, Bool, List, Some, length, sym, ap, subst, ◌∙◌, arith, ℤ, pos, ◌+ℤ◌, ◌-ℤ◌, slice_set, unsigned_abs, get_or-set_other, get_or-set_same, length-set}
+use Rattle.std.proofs.Common.{◌≡◌, ◌≢◌, ℕ, zero, suc, ◌+◌, ◌*◌, ◌<◌, ◌≤◌, ⊎_elim, Bool, false, List, Some, length, sym, ap, subst, ◌∙◌, arith, ℤ, pos, ◌+ℤ◌, ◌-ℤ◌, slice_set, unsigned_abs, get_or-set_other, get_or-set_same, length-set}
 use Rattle.std.proofs.lemmas.List.Elements.{All-pop}
 use Rattle.uc_model.specs.PatternBits.{commitment_of}
 use Rattle.uc_model.specs.Schedule.{thermal_count}
@@ -69,7 +69,7 @@ sum-set (suc n) g parts part h inside =
 pub valued-child : (instance : Instance) (node : Node) (table : Table) (g : ℕ) (valued : Valued) (total part : ℤ) (pattern : Pattern)
     → g < thermal_count instance → IsParentOf instance node table g valued → IsPartOf instance node table g part pattern → unsigned_abs part ≤ MAX_PART
     → total ≡ (valued.total -ℤ part_in valued.parts g) +ℤ part
-    → IsValuedTo instance node table (thermal_count instance) total (slice_set valued.parts g part) (slice_set valued.patterns g pattern)
+    → IsValuedTo false instance node table (thermal_count instance) total (slice_set valued.parts g part) (slice_set valued.patterns g pattern)
 valued-child instance node table g valued total part pattern h from is small e =
     let count = from.value.parts in
     let others = from.value.patterns in
@@ -141,7 +141,7 @@ unit-within instance node table g valued cells from =
 
 -- where it has no pattern, it is the first such unit
 pub only-without : (instance : Instance) (node : Node) (table : Table) (g : ℕ) (valued : Valued) (fault : ValueFault)
-    → g < thermal_count instance → IsParentOf instance node table g valued → IsPartFault instance node g fault → IsFaultOf instance node fault
+    → g < thermal_count instance → IsParentOf instance node table g valued → IsPartFault false instance node g fault → IsFaultOf instance node fault
 only-without instance node table g valued (Empty n) h from is =
     subst (λ k. IsFirstEmpty instance node k) (sym is.0)
     (record {

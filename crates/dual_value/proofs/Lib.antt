@@ -3,3 +3,4 @@ pub mod FixBits
 pub mod OtherUnits
 pub mod Parts
 pub mod ValuedUnits
+pub mod ExactParts

@@ -53,8 +53,7 @@ pub fn child(
     let g = inherited.g as usize;
     let table = inherited.table;
     let parent = inherited.parent;
-    let units = instance.thermal.as_slice();
-    let (part, pattern) = unit_part(alloc, scratch, room, &units[g], node, table, g)?;
+    let (part, pattern) = unit_part(alloc, scratch, room, instance, node, table, g)?;
     let total = sum(total_without(parent, g), part);
     let parts = replaced(alloc, parent.parts.as_slice(), g, part)?;
     let patterns = replaced(alloc, parent.patterns.as_slice(), g, pattern)?;

@@ -2,6 +2,7 @@
 //! pattern of each that attains its part.
 #![tactic(auto)]
 
+mod exact_part;
 mod fixes;
 pub mod inheritance;
 pub mod node_value;
@@ -11,6 +12,6 @@ mod valued;
 
 pub use dual_model::Valued;
 pub use inheritance::{Inherited, child};
-pub use node_value::{value, value_in};
+pub use node_value::{exact_value, value, value_in};
 pub use room::Room;
 pub use valued::ValueFault;

@@ -1,11 +1,11 @@
 //! The value of a node at a table.
 
-ghost use Rattle.std.specs.Prelude.{◌≡◌, IfOk, IfErr, length};
+ghost use Rattle.std.specs.Prelude.{◌≡◌, true, IfOk, IfErr, length};
 ghost use Rattle.uc_model.specs.Limits.{IsLawfulInstance};
 ghost use Rattle.dual_model.specs.Fixings.{IsNodeOf};
-ghost use Rattle.dual_model.specs.Prices.{HasSizeOf, IsWithinLimits};
-ghost use Rattle.dual_value.specs.NodeAnswer.{HasSizes, IsFaultOf, IsValued};
-ghost use Rattle.dual_value.specs.Rooms.{IsRoomOf};
+ghost use Rattle.dual_model.specs.Prices.{HasLawfulSigns, HasSizeOf, IsLawfulTable, IsWithinLimits};
+ghost use Rattle.dual_value.specs.NodeAnswer.{HasSizes, IsExactFaultOf, IsExactValued, IsFaultOf, IsFaultOfKind, IsValued, IsValuedOf};
+ghost use Rattle.dual_value.specs.Rooms.{IsExactRoomOf, IsRoomFor, IsRoomOf, keeps_ramps};
 
 use crate::room::Room;
 use crate::units::unit_part;
@@ -64,17 +64,68 @@ pub fn value_in(
     ensures sizes { IfOk result HasSizes }
     ensures fault { IfErr result (IsFaultOf instance.now node.now) }
 {
-    let units = instance.thermal.as_slice();
-    let mut parts = no_parts(alloc, units.len())?;
-    let mut patterns = no_patterns(alloc, units.len())?;
+    valued(alloc, scratch, room, instance, node, table)
+}
+
+/// The exact value VE of a node at a table, which keeps the ramps of each thermal unit in place of pricing them, with what each
+/// unit adds and a pattern of each, in a room that was made for exact values of the instance. `Empty(g)` exactly where thermal
+/// unit `g`, from 0, is the first without a schedule of its own at the node. The only other error is `NoMemory`.
+pub fn exact_value(
+    alloc: Global,
+    scratch: &mut Scratch,
+    room: &mut Room,
+    instance: &Instance,
+    node: &Node,
+    table: &Table,
+) -> Result<Valued, ValueFault>
+    requires lawful { IsLawfulInstance instance.now }
+    requires node { IsNodeOf instance.now node.now }
+    requires table { IsLawfulTable instance.now table.now }
+    requires memory { scratch.old ≡ instance.now.periods }
+    requires room { IsExactRoomOf instance.now room.old }
+    ensures kept { scratch.new ≡ scratch.old }
+    ensures kept_room { room.new ≡ room.old }
+
+    ensures value { IfOk result (IsExactValued instance.now node.now table.now) }
+    ensures sizes { IfOk result HasSizes }
+    ensures fault { IfErr result (IsExactFaultOf instance.now node.now) }
+{
+    valued(alloc, scratch, room, instance, node, table)
+}
+
+// The value of the kind that the room is for.
+fn valued(
+    alloc: Global,
+    scratch: &mut Scratch,
+    room: &mut Room,
+    instance: &Instance,
+    node: &Node,
+    table: &Table,
+) -> Result<Valued, ValueFault>
+    requires lawful { IsLawfulInstance instance.now }
+    requires node { IsNodeOf instance.now node.now }
+    requires size { HasSizeOf instance.now table.now }
+    requires limits { IsWithinLimits table.now }
+    requires signs { keeps_ramps room.old ≡ true → HasLawfulSigns table.now }
+    requires memory { scratch.old ≡ instance.now.periods }
+    requires room { IsRoomFor (keeps_ramps room.old) instance.now room.old }
+    ensures kept { scratch.new ≡ scratch.old }
+    ensures kept_room { room.new ≡ room.old }
+    ensures value { IfOk result (IsValuedOf (keeps_ramps room.old) instance.now node.now table.now) }
+    ensures sizes { IfOk result HasSizes }
+    ensures fault { IfErr result (IsFaultOfKind (keeps_ramps room.old) instance.now node.now) }
+{
+    let units = instance.thermal.as_slice().len();
+    let mut parts = no_parts(alloc, units)?;
+    let mut patterns = no_patterns(alloc, units)?;
     let mut total = sum(
         system_value(instance, table),
         renewables_value(instance, table),
     );
-    // Invariant, before unit g: each unit before it has its part and a pattern of it (IsPartOf), and `total` is what
+    // Invariant, before unit g: each unit before it has its part and a pattern of it (IsPartOfKind), and `total` is what
     // does not hang on units with the sum of their parts, at most MAX_SYSTEM + MAX_RENEWABLES + g * MAX_PART in size.
-    for g in 0..units.len() {
-        let (part, pattern) = unit_part(alloc, scratch, room, &units[g], node, table, g)?;
+    for g in 0..units {
+        let (part, pattern) = unit_part(alloc, scratch, room, instance, node, table, g)?;
         parts[g] = part;
         patterns[g] = pattern;
         total = sum(total, part);

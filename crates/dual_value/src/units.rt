@@ -1,16 +1,17 @@
 //! What one thermal unit adds to a node's value.
 
-ghost use Rattle.std.specs.Prelude.{◌≡◌, ◌<◌, ◌≤◌, IfOk, IfErr, length, unsigned_abs};
-ghost use Rattle.uc_model.specs.Limits.{IsLawfulThermal};
-ghost use Rattle.uc_model.specs.Schedule.{thermal_unit};
-ghost use Rattle.dual_model.specs.Prices.{IsWithinLimits};
+ghost use Rattle.std.specs.Prelude.{◌≡◌, ◌<◌, ◌≤◌, true, IfOk, IfErr, length, unsigned_abs};
+ghost use Rattle.uc_model.specs.Limits.{IsLawfulInstance, IsLawfulThermal};
+ghost use Rattle.uc_model.specs.Schedule.{thermal_count, thermal_unit};
+ghost use Rattle.dual_model.specs.Fixings.{IsNodeOf};
+ghost use Rattle.dual_model.specs.Prices.{HasLawfulSigns, HasSizeOf, IsWithinLimits};
 ghost use Rattle.dual_model.specs.TableValue.{AreTermsOf};
 ghost use Rattle.uc_model.specs.Terms.{period_count};
 ghost use Rattle.dual_model.specs.UnitTerms.{AreSizedTerms};
-ghost use Rattle.dual_value.specs.NodeAnswer.{Instance, IsPartFault, IsPartOf, MAX_PART};
-ghost use Rattle.dual_value.specs.inside.Fixes.{AreBelow};
-ghost use Rattle.dual_value.specs.Rooms.{IsPlaceIn};
+ghost use Rattle.dual_value.specs.NodeAnswer.{Instance, IsPartFault, IsPartOfKind, MAX_PART};
+ghost use Rattle.dual_value.specs.Rooms.{IsPlaceIn, IsRoomFor, keeps_ramps};
 
+use crate::exact_part::{Priced, part_with_ramps};
 use crate::fixes::fix_of;
 use crate::room::Room;
 use crate::valued::ValueFault;
@@ -18,41 +19,56 @@ use dual_model::{Node, Table};
 use period_term::terms;
 use ramp_duals::{constant, fill};
 use std::alloc::Global;
-use uc_model::{NoMemory, Pattern, Terms, Thermal, sum};
+use uc_model::{Instance, NoMemory, Pattern, Terms, Thermal, sum};
+use unit_exact::Plain;
 use unit_path::{Scratch, least};
 
-/// What thermal unit `g`, from 0, adds to the value of the node at the table, and a pattern that attains its value.
-/// `Empty(g)` exactly where it has no pattern there; the only other error is `NoMemory`.
+/// What thermal unit `g`, from 0, adds to the value of the node at the table, of the kind that the room is for, and a pattern of
+/// the unit. `Empty(g)` exactly where it is blocked there; the only other error is `NoMemory`.
 pub(crate) fn unit_part(
     alloc: Global,
     scratch: &mut Scratch,
     room: &mut Room,
-    unit: &Thermal,
+    instance: &Instance,
     node: &Node,
     table: &Table,
     g: usize,
 ) -> Result<(i128, Pattern), ValueFault>
-    requires memory { scratch.old ≡ room.old.periods }
-    requires lawful { IsLawfulThermal unit.now }
+    requires lawful { IsLawfulInstance instance.now }
+    requires unit { g < thermal_count instance.now }
+    requires node { IsNodeOf instance.now node.now }
+    requires size { HasSizeOf instance.now table.now }
     requires limits { IsWithinLimits table.now }
-    requires node { AreBelow room.old.periods node.now }
-    requires place { IsPlaceIn room.old unit.now table.now g }
+    requires signs { keeps_ramps room.old ≡ true → HasLawfulSigns table.now }
+    requires memory { scratch.old ≡ instance.now.periods }
+    requires room { IsRoomFor (keeps_ramps room.old) instance.now room.old }
     ensures kept { scratch.new ≡ scratch.old }
     ensures kept_room { room.new ≡ room.old }
-    ensures part { (instance : Instance) → thermal_unit instance g ≡ unit.now → instance.periods ≡ room.old.periods
-        → IfOk result (λ part. IsPartOf instance node.now table.now g part.0 part.1) }
-    ensures fault { (instance : Instance) → thermal_unit instance g ≡ unit.now → instance.periods ≡ room.old.periods
-        → IfErr result (IsPartFault instance node.now g) }
+    ensures part { IfOk result (λ part. IsPartOfKind (keeps_ramps room.old) instance.now node.now table.now g part.0 part.1) }
+    ensures fault { IfErr result (IsPartFault (keeps_ramps room.old) instance.now node.now g) }
     ensures size { IfOk result (λ part. unsigned_abs part.0 ≤ MAX_PART) }
 {
     let number = g as u32;
+    let unit = &instance.thermal.as_slice()[g];
     let Some(fix) = fix_of(node, number) else {
         return Err(ValueFault::Empty(number));
     };
     let terms = unit_terms(alloc, room, unit, table, g)?;
-    match least(scratch, &terms, unit, &fix) {
-        None => Err(ValueFault::Empty(number)),
-        Some((value, pattern)) => Ok((sum(value, constant(table, unit, number)), pattern)),
+    let Some((value, pattern)) = least(scratch, &terms, unit, &fix) else {
+        return Err(ValueFault::Empty(number));
+    };
+    let priced = Priced {
+        value,
+        constant: constant(table, unit, number),
+        plain: Plain {
+            fix: &fix,
+            terms: &terms,
+            pattern: &pattern,
+        },
+    };
+    match &mut room.exact {
+        None => Ok((priced.part(), pattern)),
+        Some(exact) => part_with_ramps(exact, instance, &room.curves[g], table, number, &priced),
     }
 }
 
