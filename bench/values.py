@@ -9,7 +9,8 @@ program keeps the checks of `rt try`. Then `value_in` is timed at the root, with
 the prices in order of merit, which are those at full load of the unit with which the greatest outputs, cheapest first, reach demand
 and reserve less the most of the renewable units. Told are the mean over the tables in the best round, the most that the room and
 the values hold on the heap beside the instance's numbers at 8 bytes each, and the program's greatest resident memory, reading
-included. The tables reach the programs as certificates. Nothing is proved here, see `unproved.py`.
+included. Then `exact_value` is timed at the same tables, in turn with `value_in`, and its time is told as a multiple. The tables reach
+the programs as certificates. Nothing is proved here, see `unproved.py`.
 """
 import json
 import pathlib
@@ -154,6 +155,9 @@ fn main(rt: HostRuntime) -> io::Result<()> {
 }
 """
 
+# The same program for exact values.
+EXACT_TIMING = TIMING.replace("value_in", "exact_value").replace("Room::new", "Room::for_exact_values")
+
 
 def full_load(unit):
     """What a watt costs at full load, in micro-dollars an hour."""
@@ -221,18 +225,31 @@ def measure(program, library, folder, made):
     return told + f"{resident / 1e6:.2f} MB resident"
 
 
+def multiple(timing, exact, folder, rounds):
+    """How many times as long exact values take, by the best rounds of both programs, which run in turn."""
+    best = {timing: [], exact: []}
+    for _ in range(3):
+        for program, times in best.items():
+            said, _ = unproved.run(program, folder, [rounds])
+            times += [int(line.split()[0]) / 1e6 for line in said.splitlines()[1:]]
+    plain, kept = min(best[timing]), min(best[exact])
+    return f"an exact value takes {kept / TABLES:.4f} ms, {kept / plain:.1f} times as long"
+
+
 def main():
     random.seed(1)
     with tempfile.TemporaryDirectory() as name:
         top = pathlib.Path(name)
         comparing = unproved.build(top / "comparing", LIBRARIES, COMPARING, checks=True)
         timing = unproved.build(top / "timing", LIBRARIES, TIMING, checks=False)
+        exact = unproved.build(top / "exact", LIBRARIES, EXACT_TIMING, checks=False)
         library = heap.counter(top)
         for file in map(pathlib.Path, sys.argv[1:]):
             made = json.loads(file.read_text())
             (top / "instance.json").write_bytes(file.read_bytes())
             print(f"{file.name}: {compare(comparing, top, made)}")
             print(f"{file.name}: {measure(timing, library, top, made)}", flush=True)
+            print(f"{file.name}: {multiple(timing, exact, top, '10')}", flush=True)
 
 
 if __name__ == "__main__":
