@@ -9,8 +9,9 @@ ghost use Rattle.dual_model.specs.Tree.{child as child_of};
 ghost use Rattle.dual_value.specs.NodeAnswer.{HasSizes, IsValued};
 
 use crate::Answer;
+use crate::uplifts::table_with;
 use dual_model::{Fixing, Node, Table};
-use dual_value::{Inherited, Room, ValueFault, Valued, child, value};
+use dual_value::{Inherited, Room, ValueFault, Valued, child, exact_value, value};
 use std::alloc::{AllocError, Global};
 use uc_model::{Instance, List, NoMemory};
 use unit_path::Scratch;
@@ -48,28 +49,38 @@ fn evaluation_text(alloc: Global, evaluation: Evaluation, has_parts: bool) -> An
     }
 }
 
-/// The value of a node at a price of demand, as `PRICE DECISION..` says, with the part of each unit and the first periods
-/// of a pattern of it.
-pub(crate) fn tell_node(alloc: Global, instance: &Instance, words: &str) -> Answer
+/// The value of a node at a price of demand, as `PRICE DECISION..` says, or where `exact` says so its exact value, with the part
+/// of each unit and the first periods of a pattern of it.
+pub(crate) fn tell_node(alloc: Global, instance: &Instance, words: &str, exact: bool) -> Answer
     requires { IsLawfulInstance instance.now }
 {
     let (price, decisions) = words.split_once(' ').unwrap_or((words, ""));
     let price = price.parse::<i32>().unwrap_or(0);
     let node = node(alloc, decisions)?;
     if is_node_of(instance, &node) {
-        node_text(alloc, instance, &node, price)
+        node_text(alloc, instance, &node, price, exact)
     } else {
         Ok(String::from_str(alloc, "no such cell\n")?)
     }
 }
 
-// The value of a node at a price of demand.
-fn node_text(alloc: Global, instance: &Instance, node: &Node, price: i32) -> Answer
+// The value of a node, or its exact value, at a price of demand.
+fn node_text(
+    alloc: Global,
+    instance: &Instance,
+    node: &Node,
+    price: i32,
+    exact: bool,
+) -> Answer
     requires lawful { IsLawfulInstance instance.now }
     requires node { IsNodeOf instance.now node.now }
 {
-    let table = table(alloc, instance, price)?;
-    let evaluation = valued(alloc, instance, node, &table);
+    let table = table_with(alloc, instance, price, 0, &[])?;
+    let evaluation = if exact {
+        exactly_valued(alloc, instance, node, &table)
+    } else {
+        valued(alloc, instance, node, &table)
+    };
     drop(table);
     evaluation_text(alloc, evaluation, true)
 }
@@ -161,6 +172,22 @@ fn valued(alloc: Global, instance: &Instance, node: &Node, table: &Table) -> Eva
 {
     let mut scratch = Scratch::new(alloc, instance.periods as usize)?;
     value(alloc, &mut scratch, instance, node, table)
+}
+
+// The exact value of a node at a table.
+fn exactly_valued(
+    alloc: Global,
+    instance: &Instance,
+    node: &Node,
+    table: &Table,
+) -> Evaluation
+    requires lawful { IsLawfulInstance instance.now }
+    requires node { IsNodeOf instance.now node.now }
+    requires table { IsLawfulTable instance.now table.now }
+{
+    let mut scratch = Scratch::new(alloc, instance.periods as usize)?;
+    let mut room = Room::for_exact_values(alloc, instance)?;
+    exact_value(alloc, &mut scratch, &mut room, instance, node, table)
 }
 
 // The total, and where they are wanted a line for each unit.
