@@ -1,4 +1,4 @@
-ghost use Rattle.std.specs.Prelude.{◌≡◌};
+ghost use Rattle.std.specs.Prelude.{◌≡◌, ◌<◌, true, IsErr};
 ghost use Rattle.outside.specs.declared.slot.Slot.{Slot};
 ghost use Rattle.outside.specs.declared.slot.Stage.TheVariants.{Unopened as UnopenedStage, Open as OpenStage};
 ghost use Rattle.outside.specs.Slots.{AllUnopened};
@@ -52,6 +52,7 @@ pub struct SystemFile<'a, R: std::rt::Files> {
     /// Whether it wasn't opened as memory was refused.
     lacks_memory: bool,
     faults: u64,
+    ghost counted: { lacks_memory ≡ true → 0 < faults },
 }
 
 impl<'a, R: std::rt::Files + AllocGlobal> SystemFile<'a, R> {
@@ -109,7 +110,9 @@ impl<'a, R: std::rt::Files + AllocGlobal> SystemFile<'a, R> {
 }
 
 /// Whether memory was refused.
-fn is_out_of_memory<T>(outcome: &io::Result<T>) -> bool {
+fn is_out_of_memory<T>(outcome: &io::Result<T>) -> bool
+    ensures { result ≡ true → IsErr outcome.now }
+{
     match outcome {
         Ok(_) => false,
         Err(error) => error.kind() == ErrorKind::OutOfMemory,
@@ -130,8 +133,10 @@ impl<'a, R: std::rt::Files + AllocGlobal> Device for SystemFile<'a, R> {
 
     fn open(&mut self, name: &str) -> Result<(), Failed> {
         let opened = self.opened(name);
-        self.lacks_memory = is_out_of_memory(&opened);
-        let opened = counted(opened, &mut self.faults)?;
+        let lacks_memory = is_out_of_memory(&opened);
+        let opened = counted(opened, &mut self.faults);
+        self.lacks_memory = lacks_memory;
+        let opened = opened?;
         self.identity = opened.identity;
         self.handle = Handle::Open(opened);
         Ok(())
