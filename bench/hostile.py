@@ -146,7 +146,7 @@ def deep_tree(chance, text):
 
 def lower_claim(chance, text):
     """A claim that is more cautious, or a little less."""
-    found = re.search(rb"claim bound (-?[0-9]+)", text)
+    found = re.search(rb"claim bound (-?[0-9]{1,4000})", text)
     if not found:
         return text
     bound = int(found.group(1)) + chance.choice([-1, -1, -10, -1000, -10**6, 1, 10])
