@@ -65,13 +65,7 @@ pub(crate) fn tell_node(alloc: Global, instance: &Instance, words: &str, exact: 
 }
 
 // The value of a node, or its exact value, at a price of demand.
-fn node_text(
-    alloc: Global,
-    instance: &Instance,
-    node: &Node,
-    price: i32,
-    exact: bool,
-) -> Answer
+fn node_text(alloc: Global, instance: &Instance, node: &Node, price: i32, exact: bool) -> Answer
     requires lawful { IsLawfulInstance instance.now }
     requires node { IsNodeOf instance.now node.now }
 {
@@ -175,12 +169,7 @@ fn valued(alloc: Global, instance: &Instance, node: &Node, table: &Table) -> Eva
 }
 
 // The exact value of a node at a table.
-fn exactly_valued(
-    alloc: Global,
-    instance: &Instance,
-    node: &Node,
-    table: &Table,
-) -> Evaluation
+fn exactly_valued(alloc: Global, instance: &Instance, node: &Node, table: &Table) -> Evaluation
     requires lawful { IsLawfulInstance instance.now }
     requires node { IsNodeOf instance.now node.now }
     requires table { IsLawfulTable instance.now table.now }
