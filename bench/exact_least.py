@@ -22,7 +22,7 @@ import exact_values
 import unproved
 
 MEGA = 1_000_000
-LIBRARIES = "cert_text cost_curves dual_model instance uc_model unit_exact".split()
+LIBRARIES = "cert_text cost_curves dual_model instance state_walk uc_model unit_exact".split()
 
 PROGRAM = """#![tactic(auto)]
 
@@ -30,6 +30,7 @@ use cert_text::read;
 use cost_curves::Curve;
 use dual_model::{Fix, Table};
 use instance::read_instance;
+use state_walk::{ExactWalk, least_exact};
 use std::alloc::Global;
 use std::env;
 use std::fs;
@@ -48,12 +49,15 @@ fn bits(word: &str) -> Pattern {
     pattern
 }
 
-// The exact value of the first unit and its pattern.
-fn found(alloc: Global, instance: &Instance, table: &Table, fix: &Fix) -> Option<Option<(i128, Pattern)>> {
+// The exact value of the first unit and its pattern, the solver's way, and the value the checker's way.
+fn found(alloc: Global, instance: &Instance, table: &Table, fix: &Fix) -> Option<(Option<(i128, Pattern)>, Option<i128>)> {
     let unit = instance.thermal.as_slice().first()?;
+    let points = unit.points.as_slice().len();
     let curve = Curve::of(alloc, unit.points.as_slice()).ok()?;
-    let mut exact = Exact::new(alloc, instance.periods as usize, unit.points.as_slice().len()).ok()?;
-    Some(least(&mut exact, instance, &curve, table, 0, fix))
+    let mut exact = Exact::new(alloc, instance.periods as usize, points).ok()?;
+    let mut walk = ExactWalk::new(alloc, instance.periods as usize, points).ok()?;
+    let forward = least(&mut exact, instance, &curve, table, 0, fix);
+    Some((forward, least_exact(&mut walk, instance, &curve, table, 0, fix)))
 }
 
 fn main(rt: HostRuntime) -> io::Result<()> {
@@ -69,8 +73,9 @@ fn main(rt: HostRuntime) -> io::Result<()> {
         if let (Ok((instance, _)), Ok(cert)) = (instance, cert) {
             if let Some(table) = cert.tables.as_slice().first() {
                 match found(alloc, &instance, table, &fix) {
-                    Some(Some((value, pattern))) => println!(rt; "{value} {}", pattern.low)?,
-                    Some(None) => println!(rt; "none")?,
+                    Some((Some((value, pattern)), Some(back))) => println!(rt; "{value} {} {back}", pattern.low)?,
+                    Some((None, None)) => println!(rt; "none")?,
+                    Some(_) => println!(rt; "both")?,
                     None => println!(rt; "no memory")?,
                 }
                 continue;
@@ -164,9 +169,11 @@ def wrong_of(answer, best):
     """What is wrong with an answer, of the least values of all patterns."""
     if answer == "none":
         return "none is found" if best else None
-    value, pattern = map(int, answer.split())
-    if not best or value != MEGA * min(best.values()):
-        return f"{value} is found"
+    if answer == "both":
+        return "one way finds a value, the other none"
+    value, pattern, back = map(int, answer.split())
+    if not best or {value, back} != {MEGA * min(best.values())}:
+        return f"{value} is found, and {back} the checker's way"
     mine = [bits for bits, least in best.items() if sum(bit << t for t, bit in enumerate(bits)) == pattern and MEGA * least == value]
     return None if mine else f"pattern {pattern} is found, which costs otherwise"
 

@@ -93,12 +93,14 @@ pub fn value(
     match first {
         b'[' => {
             let less = less_room(room, at)?;
-            let (items, end) = array(alloc, source, at + 1, less)?;
+            let (mut items, end) = array(alloc, source, at + 1, less)?;
+            items.shrink_to_fit();
             Ok((Json::Array(items), end))
         }
         b'{' => {
             let less = less_room(room, at)?;
-            let (pairs, end) = object(alloc, source, at + 1, less)?;
+            let (mut pairs, end) = object(alloc, source, at + 1, less)?;
+            pairs.shrink_to_fit();
             Ok((Json::Object(pairs), end))
         }
         _ => scalar(alloc, source, at, first),

@@ -1,6 +1,6 @@
 -- What a path decides of each unit, decision by decision: the commitments that agree with one decision more are those
 -- that agreed and keep it.
-use Rattle.std.proofs.Common.{◌≡◌, ℕ, zero, suc, ◌+◌, ◌<◌, ◌≤◌, ◌≢◌, ◌⊎◌, ⊎_elim, Bool, true, false, List, [], ◌∷◌, ◌++◌, length, take, get_or, refl, sym, ap, subst, ◌∙◌, add-one, arith, get_or-set_other, get_or-set_same, ◌||◌, ◌&&◌, ◌==◌, not, All, slice_set, length-set, take_all, if◌then◌else◌}
+use Rattle.std.proofs.Common.{◌≡◌, ℕ, zero, suc, ◌+◌, ◌<◌, ◌≤◌, ◌≢◌, ⊎_elim, Bool, true, false, List, [], ◌∷◌, ◌++◌, length, take, get_or, refl, sym, ap, subst, ◌∙◌, add-one, arith, get_or-set_other, get_or-set_same, ◌||◌, ◌&&◌, ◌==◌, not, All, slice_set, length-set, take_all, if◌then◌else◌}
 use mathlib.Core.Bool.{and_assoc}
 use Rattle.std.proofs.Math.Seq.{take-suc}
 use Rattle.std.proofs.lemmas.Bool.{eq-eqb, ne_eqb, not-true, not_from_false, or_left}

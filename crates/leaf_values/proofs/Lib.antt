@@ -2,3 +2,4 @@ pub mod DecidedPaths
 pub mod Reckoned
 pub mod NodeTotals
 pub mod PathsOfNodes
+pub mod ExactSums

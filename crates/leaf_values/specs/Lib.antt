@@ -1,3 +1,4 @@
 pub mod Paths
 pub mod Entries
+pub mod ExactRooms
 pub mod inside

@@ -9,6 +9,7 @@
 
 mod empty;
 mod entries;
+mod exact;
 mod fixes;
 mod loading;
 mod node_value;
@@ -16,6 +17,7 @@ mod units;
 
 pub use empty::is_empty;
 pub use entries::{TableEntries, UnitEntry};
+pub use exact::{ExactRoom, exact_value};
 pub use fixes::{fill_fixes, undecided};
 pub use loading::load;
 pub use node_value::value;

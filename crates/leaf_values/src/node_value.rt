@@ -43,8 +43,13 @@ pub fn value(
     total(entries, instance)
 }
 
-// Reckons each unit's value for its fix.
-fn reckon_each(units: &mut [UnitEntry], walk: &mut Walk, instance: &Instance, fixes: &[Fix])
+/// Reckons each unit's value for its fix.
+pub(crate) fn reckon_each(
+    units: &mut [UnitEntry],
+    walk: &mut Walk,
+    instance: &Instance,
+    fixes: &[Fix],
+)
     requires lawful { IsLawfulInstance instance.now }
     requires units { AreUnitsReckoned instance.now units.old }
     requires fixes { length fixes.now ≡ thermal_count instance.now }
@@ -101,8 +106,8 @@ fn total(entries: &TableEntries, instance: &Instance) -> Option<i128>
     Some(total)
 }
 
-// What a unit adds: its value and its constant.
-fn part(entry: &UnitEntry) -> Option<i128>
+/// What a unit adds: its value and its constant.
+pub(crate) fn part(entry: &UnitEntry) -> Option<i128>
     requires value { IsWithin MAX_COST_TO_GO entry.now.value }
     requires constant { unsigned_abs entry.now.constant ≤ MAX_CONSTANT }
     ensures part { IsPart entry.now result }

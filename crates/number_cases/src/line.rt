@@ -5,7 +5,7 @@ ghost use Rattle.uc_model.specs.Limits.{IsLawfulInstance};
 use crate::Answer;
 use crate::demo::tell_demo;
 use crate::dispatch::{tell_dispatch, tell_most_on, tell_priced};
-use crate::exact::tell_exact;
+use crate::exact::{tell_checked, tell_exact};
 use crate::interval::tell_interval;
 use crate::node::{tell_child, tell_node};
 use crate::system::{changed, unit_changed};
@@ -74,6 +74,7 @@ fn answer_of(alloc: Global, instance: &Instance, word: &str, rest: &str) -> Answ
         "child" => tell_child(alloc, instance, rest),
         "interval" => tell_interval(alloc, instance, rest),
         "exact" => tell_exact(alloc, instance, rest),
+        "checked-exact" => tell_checked(alloc, instance, rest),
         _ => tell_unit(alloc, instance, word, rest),
     }
 }

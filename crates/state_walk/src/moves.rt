@@ -64,8 +64,8 @@ pub(crate) fn move_cost(
     }
 }
 
-// The last stop of a unit that is off since then.
-fn stop_since(since: usize) -> Option<usize>
+/// The last stop of a unit that is off since then.
+pub(crate) fn stop_since(since: usize) -> Option<usize>
     ensures { result ≡ stop_of since }
 {
     if since == 0 { None } else { Some(since - 1) }

@@ -24,8 +24,8 @@ use uc_model::{NoMemory, Terms, Thermal};
 /// is off; `None` where no pattern goes on from there.
 #[derive(Clone, Copy)]
 pub(crate) struct CostToGo {
-    on: Option<i128>,
-    off: Option<i128>,
+    pub(crate) on: Option<i128>,
+    pub(crate) off: Option<i128>,
 }
 
 /// The memory of walks over a number of periods, which contracts see as that number: an entry for each time
@@ -132,8 +132,8 @@ fn step(values: &mut [CostToGo], terms: &Terms, unit: &Thermal, fix: &Fix, t: us
     }
 }
 
-// The total of two costs; `None` is what may not be.
-fn total(a: Option<i128>, b: Option<i128>) -> Option<i128>
+/// The total of two costs; `None` is what may not be.
+pub(crate) fn total(a: Option<i128>, b: Option<i128>) -> Option<i128>
     requires left { IsWithin MAX_COST_TO_GO a }
     requires right { IsWithin MAX_COST_TO_GO b }
     ensures { result ≡ total_of a b }
@@ -144,8 +144,8 @@ fn total(a: Option<i128>, b: Option<i128>) -> Option<i128>
     }
 }
 
-// The lesser of two costs.
-fn lesser(a: Option<i128>, b: Option<i128>) -> Option<i128>
+/// The lesser of two costs.
+pub(crate) fn lesser(a: Option<i128>, b: Option<i128>) -> Option<i128>
     ensures { result ≡ lesser_of a b }
 {
     match (a, b) {

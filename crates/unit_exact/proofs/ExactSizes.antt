@@ -20,7 +20,7 @@ use Rattle.unit_runs.proofs.RunSums.{sum_of_runs, sum_over_runs-le}
 use Rattle.unit_exact.specs.Sizes.{MAX_EXACT}
 use Rattle.unit_exact.specs.inside.OutputCosts.{IsHull, MAX_HULL, MAX_POWER}
 use Rattle.unit_exact.specs.inside.Problems.{IsLawful, Table, Thermal, MAX_HOUR, MAX_PRICE}
-use Rattle.unit_exact.proofs.HullFunction.{hull-function}
+use Rattle.hull_function.proofs.HullFunction.{hull-function}
 
 -- no number is larger in size
 abbrev IsAtMost : ℕ → ℤ → Type 0

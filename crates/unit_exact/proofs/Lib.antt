@@ -6,14 +6,12 @@ pub mod Traced
 pub mod Represented
 pub mod OutputSizes
 pub mod HourSteps
-pub mod HullSteps
 pub mod RunSteps
 pub mod Found
 pub mod StopSteps
 pub mod HourPrices
 pub mod OutputSums
 pub mod LeastLeft
-pub mod HullFunction
 pub mod Tables
 pub mod HourlySteps
 pub mod ExactSizes

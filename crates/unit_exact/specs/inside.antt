@@ -2,6 +2,5 @@ pub mod Choices
 pub mod Problems
 pub mod Switches
 pub mod OutputCosts
-pub mod Hulls
 pub mod Running
 pub mod Hourly

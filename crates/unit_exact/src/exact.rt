@@ -23,7 +23,6 @@ ghost use Rattle.unit_exact.specs.inside.Switches.{AreSwitches, IsLeastSwitch, I
 
 use crate::choices::{Choice, Switches, UNKNOWN};
 use crate::hourly::{Plain, is_hourly};
-use crate::hull;
 use crate::problem::Problem;
 use crate::runs::Runs;
 use crate::starts::next_start;
@@ -105,7 +104,7 @@ pub fn least(
     ensures none { (node : Node) → IsFixOf instance.now.periods node g fix.now → result ≡ None → HasNoUnitSchedule instance.now node g }
 {
     let unit = &instance.thermal.as_slice()[g as usize];
-    hull::fill(&mut exact.hull, curve, unit.points.as_slice(), table.k());
+    hull_function::fill(&mut exact.hull, curve, unit.points.as_slice(), table.k());
     let problem = Problem {
         periods: instance.periods as usize,
         table,

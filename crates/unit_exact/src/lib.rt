@@ -5,7 +5,6 @@ mod choices;
 mod exact;
 mod hour;
 mod hourly;
-mod hull;
 mod output_costs;
 mod problem;
 mod runs;

@@ -9,4 +9,3 @@ pub mod ByRuns
 pub mod Capped
 pub mod RunWays
 pub mod ByFix
-pub mod HullSlopes

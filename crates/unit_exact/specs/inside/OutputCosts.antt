@@ -1,11 +1,11 @@
 -- Costs by output as convex functions, and the prices of an hour. Source: the dynamic program of A. Frangioni and C. Gentile,
 -- "Solving Nonlinear Single-Unit Commitment Problems with Ramping Constraints" (Operations Research 54, 2006).
-use Rattle.std.specs.Prelude.{◌≡◌, ℕ, ◌*◌, ◌^◌, ◌≤◌, Bool, true, ℤ, pos, ◌-ℤ◌, ◌*ℤ◌, neg_ℤ, ◌≤ℤ◌, nat_lt, unsigned_abs, List, Option, Some, if◌then◌else◌}
-use Rattle.uc_model.specs.declared.instance.Point.{Point}
+use Rattle.std.specs.Prelude.{◌≡◌, ℕ, ◌*◌, ◌≤◌, Bool, true, ℤ, pos, ◌-ℤ◌, ◌*ℤ◌, neg_ℤ, ◌≤ℤ◌, nat_lt, unsigned_abs, Option, Some, if◌then◌else◌}
 pub use Rattle.uc_model.specs.declared.limits.TheConstants.{MAX_POWER}
 use Rattle.dual_model.specs.Prices.{pi_at}
-use Rattle.dual_model.specs.ExactValue.{greatest_output, floored_cost}
+use Rattle.dual_model.specs.ExactValue.{greatest_output}
 pub use Rattle.step_functions.specs.Functions.{Steps}
+pub use Rattle.hull_function.specs.Hulls.{IsBounded, IsHull, IsHullFunction, MAX_HULL}
 use Rattle.step_functions.specs.Functions.{IsPlace, last_place, value_at}
 use Rattle.unit_runs.specs.CostThrough.{least_between, reserve_worth}
 use Rattle.unit_exact.specs.inside.Problems.{Table, Thermal, MAX_PRICE}
@@ -27,30 +27,10 @@ abbrev pub least_ending : ℕ → Thermal → ℕ → (ℤ → Option ℤ) → O
 least_ending periods unit t cost =
     if nat_lt t periods then least_between (neg_ℤ unit.ru) unit.rd cost else least_between (pos 0) (greatest_output unit.points) cost
 
--- its values are at most so large
-abbrev pub IsBounded : Steps → ℕ → Type 0
-IsBounded f size = (p : ℤ) → IsPlace f p → unsigned_abs (value_at f p) ≤ size
-
 -- its places are outputs of a unit
 pub record IsNear (f : Steps) : Type 0 where
   pub first : unsigned_abs f.first ≤ 2 * MAX_POWER
   pub last : unsigned_abs (last_place f) ≤ 2 * MAX_POWER
-
--- the function is L on the unit's points, at most so large
-abbrev pub MAX_HULL : ℕ
-MAX_HULL = 2 * 10 ^ 28
-
-pub record IsHull (points : List Point) (k : ℤ) (f : Steps) : Type 0 where
-  pub first : f.first ≡ pos 0
-  pub last : last_place f ≡ greatest_output points
-  pub value : (p : ℕ) → pos p ≤ℤ greatest_output points → value_at f (pos p) ≡ floored_cost points k 1 p
-  pub size : IsBounded f MAX_HULL
-
--- such a function: of outputs from 0 on, and at most so large
-pub record IsHullFunction (f : Steps) : Type 0 where
-  pub first : f.first ≡ pos 0
-  pub last : (pos 0 ≤ℤ last_place f) × (last_place f ≤ℤ pos (2 * MAX_POWER))
-  pub size : IsBounded f MAX_HULL
 
 -- an hour's prices and limits are those of a unit in period t
 pub record IsHourAt (table : Table) (unit : Thermal) (t : ℕ) (hour : Hour) : Type 0 where

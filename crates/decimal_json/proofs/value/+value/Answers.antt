@@ -124,9 +124,10 @@ value-returns-in_err-items-in-91-clause-fault t c =
 
 pub value-returns-in_ok-items-in-91-clause-read : goal.value-returns-in_ok-items-in-91-clause-read
 value-returns-in_ok-items-in-91-clause-read t c =
-    subst (λ v. ReadsValue c.args.source.now c.args.start c.in_ok-items-in-91.end c.args.room v) (sym (view-array c.in_ok-items-in-91.items))
+    subst (λ v. ReadsValue c.args.source.now c.args.start c.in_ok-items-in-91.end c.args.room v) (sym (view-array c.shrink_to_fit.new.self))
+    (subst (λ xs. ReadsValue c.args.source.now c.args.start c.in_ok-items-in-91.end c.args.room (array (items_of (map view xs)))) (sym c.shrink_to_fit.ensures.items)
     (inside_read c.args.source.now c.args.start c.in_ok-at.at c.in_ok-items-in-91.end c.args.room c.in_ok-less-in-91.less c.in_ok-at.first 91 first_item _ open_array
-    c.in_ok-at.ensures.found c.in-91.is c.in_ok-less-in-91.ensures.less c.in_ok-items-in-91.ensures.read)
+    c.in_ok-at.ensures.found c.in-91.is c.in_ok-less-in-91.ensures.less c.in_ok-items-in-91.ensures.read))
 
 pub value-returns-in_err-less-in-123-clause-fault : goal.value-returns-in_err-less-in-123-clause-fault
 value-returns-in_err-less-in-123-clause-fault t c =
@@ -142,9 +143,10 @@ value-returns-in_err-pairs-in-123-clause-fault t c =
 
 pub value-returns-in_ok-pairs-in-123-clause-read : goal.value-returns-in_ok-pairs-in-123-clause-read
 value-returns-in_ok-pairs-in-123-clause-read t c =
-    subst (λ v. ReadsValue c.args.source.now c.args.start c.in_ok-pairs-in-123.end c.args.room v) (sym (view-object c.in_ok-pairs-in-123.pairs))
+    subst (λ v. ReadsValue c.args.source.now c.args.start c.in_ok-pairs-in-123.end c.args.room v) (sym (view-object c.shrink_to_fit-in-123.new.self))
+    (subst (λ xs. ReadsValue c.args.source.now c.args.start c.in_ok-pairs-in-123.end c.args.room (object (members_of (map pair_view xs)))) (sym c.shrink_to_fit-in-123.ensures.items)
     (inside_read c.args.source.now c.args.start c.in_ok-at.at c.in_ok-pairs-in-123.end c.args.room c.in_ok-less-in-123.less c.in_ok-at.first 123 first_key _ open_object
-    c.in_ok-at.ensures.found c.in-123.is c.in_ok-less-in-123.ensures.less c.in_ok-pairs-in-123.ensures.read)
+    c.in_ok-at.ensures.found c.in-123.is c.in_ok-less-in-123.ensures.less c.in_ok-pairs-in-123.ensures.read))
 
 pub object-members-requires : goal.object-members-requires
 object-members-requires t c = (search rules, (search rules, (c.new-pairs.ensures.items, knows_nothing c.new-places.result c.new-places.ensures.empty)))

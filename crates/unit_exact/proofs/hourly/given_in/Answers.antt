@@ -9,7 +9,7 @@ use Rattle.dual_model.specs.PatternValue.{is_followed}
 use Rattle.dual_model.specs.UnitTerms.{cell_cap, MAX_TERM}
 use Rattle.unit_exact.specs.inside.Hourly.{Given}
 use Rattle.unit_exact.proofs.HourlySteps.{best-given}
-use Rattle.unit_exact.proofs.HullFunction.{hull-function}
+use Rattle.hull_function.proofs.HullFunction.{hull-function}
 use Rattle.unit_exact.proofs.hourly.given_in.Goals as goal
 
 pub best_in-requires-clause-hull : goal.best_in-requires-clause-hull

@@ -4,7 +4,7 @@ use Rattle.step_functions.specs.Functions.{Steps, run_count}
 use Rattle.unit_runs.specs.CostThrough.{cost_through, hour_after}
 use Rattle.unit_exact.specs.inside.OutputCosts.{least_ending}
 use Rattle.unit_exact.specs.inside.Problems.{MAX_HOUR, MAX_SWITCH}
-use Rattle.unit_exact.proofs.HullFunction.{hull-function}
+use Rattle.hull_function.proofs.HullFunction.{hull-function}
 use Rattle.unit_exact.proofs.RunSteps.{IsCopyOf, bounded-more, copy-costs, copy-near, copy-pieces, copy-size, hours-size, pieces-more, room-more, run-ends, spare-room, through-last}
 use Rattle.unit_exact.proofs.runs.Runs.cost_to.Goals as goal
 

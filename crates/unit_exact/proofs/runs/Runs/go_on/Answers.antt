@@ -3,7 +3,7 @@ use Rattle.std.proofs.Common.{suc, ◌+◌, ◌-◌, ◌*◌, ◌≤◌, sym, su
 use Rattle.step_functions.specs.Functions.{run_count}
 use Rattle.unit_exact.specs.inside.OutputCosts.{IsCostsOf}
 use Rattle.unit_exact.specs.inside.Problems.{MAX_HOUR, MAX_SWITCH}
-use Rattle.unit_exact.proofs.HullFunction.{hull-function}
+use Rattle.hull_function.proofs.HullFunction.{hull-function}
 use Rattle.unit_exact.proofs.RunSteps.{bounded-more, hours-size, pieces-more, room-more, through-more}
 use Rattle.unit_exact.proofs.runs.Runs.go_on.Goals as goal
 

@@ -1,0 +1,3 @@
+pub mod HullSlopes
+pub mod HullSteps
+pub mod HullFunction

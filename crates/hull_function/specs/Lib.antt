@@ -1,0 +1,2 @@
+pub mod Hulls
+pub mod inside
