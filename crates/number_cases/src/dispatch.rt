@@ -36,7 +36,7 @@ pub(crate) fn tell_dispatch(alloc: Global, instance: &Instance, word: &str, rest
             drop(printed);
             text
         }
-        Err(DispatchFault::Stuck(stuck)) => stuck_text(alloc, &stuck),
+        Err(DispatchFault::Stuck(stuck)) => stuck_text(String::new(alloc), &stuck),
         Err(DispatchFault::NoMemory) => Err(NoMemory),
     }
 }
@@ -89,10 +89,11 @@ pub(crate) fn tell_most_on(alloc: Global, instance: &Instance) -> Answer
     }
 }
 
-// Where and why a dispatch is stuck, and what it gives before.
-fn stuck_text(alloc: Global, stuck: &Stuck) -> Answer {
+/// A text, and behind it where and why a dispatch is stuck, and what it gives before.
+pub(crate) fn stuck_text(text: String, stuck: &Stuck) -> Answer {
+    let mut text = text;
     let period = stuck.period.saturating_add(1);
-    let text = format!(in alloc; "stuck in period {period}: {:?}\n", stuck.why)?;
+    writeln!(text, "stuck in period {period}: {:?}", stuck.why)?;
     schedule_text(text, &stuck.prefix)
 }
 
@@ -112,9 +113,9 @@ fn shortage_text(alloc: Global, printed: &Printed, cost: i64) -> Answer {
     Ok(text)
 }
 
-// The rows of a schedule: output above the minimum, reserve and start category of each thermal unit in each period, and the
-// output of each renewable one.
-fn put_schedule(text: &mut String, printed: &Printed) -> Result<(), AllocError> {
+/// The rows of a schedule: output above the minimum, reserve and start category of each thermal unit in each period, and the
+/// output of each renewable one.
+pub(crate) fn put_schedule(text: &mut String, printed: &Printed) -> Result<(), AllocError> {
     for row in printed.thermal.as_slice() {
         text.push_str("thermal")?;
         for cell in row.as_slice() {

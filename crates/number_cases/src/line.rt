@@ -8,6 +8,7 @@ use crate::dispatch::{tell_dispatch, tell_most_on, tell_priced};
 use crate::exact::{tell_checked, tell_exact};
 use crate::interval::tell_interval;
 use crate::node::{tell_child, tell_node};
+use crate::rolling::tell_roll;
 use crate::system::{changed, unit_changed};
 use crate::table::{tell_rays, tell_step, tell_zero};
 use crate::unit::tell_unit;
@@ -75,6 +76,7 @@ fn answer_of(alloc: Global, instance: &Instance, word: &str, rest: &str) -> Answ
         "interval" => tell_interval(alloc, instance, rest),
         "exact" => tell_exact(alloc, instance, rest),
         "checked-exact" => tell_checked(alloc, instance, rest),
+        "roll" => tell_roll(alloc, instance, rest),
         _ => tell_unit(alloc, instance, word, rest),
     }
 }
