@@ -95,7 +95,7 @@ pub(crate) fn remove_first(runs: &mut Vec<Run>, count: usize)
     ensures runs { runs.new.items ≡ drop count runs.old.items }
     ensures capacity { vec_capacity runs.new ≡ vec_capacity runs.old }
 {
-    runs.rotate_left(count);
+    runs.copy_within(count.., 0);
     runs.truncate(runs.len() - count);
 }
 

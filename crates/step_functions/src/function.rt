@@ -265,6 +265,9 @@ impl ConvexFunction {
         if high < low || high < first || last < low {
             return false;
         }
+        if low <= first && last <= high {
+            return true;
+        }
         self.cut_right(high.min(last));
         self.cut_left(low.max(first));
         true
@@ -331,6 +334,9 @@ impl ConvexFunction {
         ensures room { self.new.room ≡ self.old.room }
     {
         let skipped = self.steps_to(low);
+        if skipped == 0 {
+            return;
+        }
         self.value = self.height(skipped);
         let count = divide(&mut self.runs, 0, skipped);
         remove_first(&mut self.runs, count);

@@ -3,10 +3,10 @@ use Rattle.std.proofs.Common.{◌≡◌, ℕ, suc, ◌-◌, ◌<◌, ◌≤◌, 
 use Rattle.std.proofs.lemmas.Bool.{cases_lt, cond-true, eq-eqb}
 use Rattle.dual_model.specs.CostToGo.{lesser_of}
 use Rattle.unit_runs.specs.RunsToGo.{Fix, may_stay, runs_to_go}
-use Rattle.unit_exact.specs.inside.Choices.{Choice, choice_cost, IsOneOf}
+use Rattle.unit_exact.specs.inside.Choices.{Choice, choice_cost, IsCostBelow, IsOneOf}
 use Rattle.unit_exact.specs.inside.Problems.{Table, Thermal}
 use Rattle.unit_exact.specs.inside.Switches.{IsBestTo, IsLeastSwitch, IsPlan, IsWithinSwitches, switch_total}
-use Rattle.unit_exact.proofs.Steps.{some-of, behind, none_behind, goes_on, ends_here}
+use Rattle.unit_exact.proofs.Steps.{some-of, lesser-below, some-below, behind, none_behind, goes_on, ends_here}
 
 module _ (periods : ℕ) (table : Table) (unit : Thermal) (fix : Fix) where
   abbrev to_go : ℕ → Bool → ℕ → Option ℤ
@@ -23,18 +23,18 @@ module _ (periods : ℕ) (table : Table) (unit : Thermal) (fix : Fix) where
 
   -- the plan to switch in period t
   plan_at : (first : ℕ) (was : Bool) (since t : ℕ) (best : Option Choice) (total : Option ℤ) (v : ℤ) → IsBestTo periods table unit fix first was since t best
-      → t ≤ periods → total ≡ switch_total periods table unit fix t was since → total ≡ Some v
+      → t ≤ periods → IsCostBelow (choice_cost best) (switch_total periods table unit fix t was since) total → total ≡ Some v
       → IsPlan periods table unit fix first was since (record { cost = v; at = t })
   plan_at first was since t best total v known l is e =
-      record { later = known.later; within = l; stays = known.stays; attained = sym is ∙ e }
+      record { later = known.later; within = l; stays = known.stays; attained = some-below (choice_cost best) _ total v is e }
 
   -- a switch in period t more
   module _ (first : ℕ) (was : Bool) (since t : ℕ) (best result : Option Choice) (total : Option ℤ) (l : t ≤ periods)
-      (known : IsBestTo periods table unit fix first was since t best) (is : total ≡ switch_total periods table unit fix t was since)
+      (known : IsBestTo periods table unit fix first was since t best) (is : IsCostBelow (choice_cost best) (switch_total periods table unit fix t was since) total)
       (sized : IfSome total (IsWithinSwitches (periods - t)))
       (cost : choice_cost result ≡ lesser_of (choice_cost best) total) (one : IsOneOf best total t result) where
     cost_by_total : choice_cost result ≡ lesser_of (choice_cost best) (switch_total periods table unit fix t was since)
-    cost_by_total = cost ∙ (λ i. lesser_of (choice_cost best) (is i))
+    cost_by_total = cost ∙ lesser-below (choice_cost best) _ total is
 
     plan_more : IfSome result (IsPlan periods table unit fix first was since)
     plan_more =

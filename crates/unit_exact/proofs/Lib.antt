@@ -7,6 +7,7 @@ pub mod Represented
 pub mod OutputSizes
 pub mod HourSteps
 pub mod RunSteps
+pub mod RunBounds
 pub mod Found
 pub mod StopSteps
 pub mod HourPrices

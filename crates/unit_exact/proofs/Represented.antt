@@ -156,7 +156,7 @@ cut-is f g cost unit cap some is cut = record {
 
 -- ---- an hour's output
 -- what an output costs by the hull's function and an hour's prices
-output-is : (table : Table) (unit : Thermal) (t : ℕ) (hull : Steps) (hour : Hour) (p : ℤ) → IsHull unit.points table.k hull
+pub output-is : (table : Table) (unit : Thermal) (t : ℕ) (hull : Steps) (hour : Hour) (p : ℤ) → IsHull unit.points table.k hull
     → IsHourAt table unit t hour → pos 0 ≤ℤ p → p ≤ℤ greatest_output unit.points
     → value_at hull p +ℤ hour.price *ℤ p +ℤ hour.fixed ≡ output_cost table unit t p
 output-is table unit t hull hour p is at low high =

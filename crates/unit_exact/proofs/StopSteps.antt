@@ -1,5 +1,5 @@
 -- A stop behind the hours of a run, and one before the first period.
-use Rattle.std.proofs.Common.{◌≡◌, ℕ, suc, ◌-◌, ◌<◌, ◌≤◌, ◌⊎◌, ⊎_elim, Bool, true, false, ◌&&◌, ◌==◌, refl, sym, ap, ◌∙◌, arith, [], ℤ, pos, ◌+ℤ◌, ◌-ℤ◌, neg_ℤ, ◌≤ℤ◌, ◌<ℤ◌, IsTrue, nat_lt, unsigned_abs, Option, Some, None, if◌then◌else◌}
+use Rattle.std.proofs.Common.{◌≡◌, ℕ, suc, ◌-◌, ◌<◌, ◌≤◌, ◌⊎◌, inl, inr, ⊎_elim, Bool, true, false, ◌&&◌, ◌==◌, refl, sym, ap, subst, ◌∙◌, arith, [], ℤ, pos, ◌+ℤ◌, ◌-ℤ◌, neg_ℤ, ◌≤ℤ◌, ◌<ℤ◌, IsTrue, nat_lt, unsigned_abs, Option, Some, None, if◌then◌else◌}
 use Rattle.std.specs.Ordering.{int_eq}
 use Rattle.std.proofs.lemmas.Int.{ints}
 use Rattle.std.proofs.lemmas.Bool.{and_parts, cond-true, cond-false, eq-eqb, lt-ltb}
@@ -14,7 +14,7 @@ use Rattle.unit_runs.specs.CostThrough.{least_between, run_cost}
 use Rattle.unit_runs.specs.Runs.{entry_output}
 use Rattle.unit_runs.specs.RunsToGo.{Fix, run_from, run_until, runs_to_go}
 use Rattle.unit_runs.proofs.Costs.{least_between-reached}
-use Rattle.unit_exact.specs.inside.Choices.{choice_cost}
+use Rattle.unit_exact.specs.inside.Choices.{choice_cost, IsCostBelow, IsReached}
 use Rattle.unit_exact.specs.inside.Problems.{Table, Thermal}
 use Rattle.unit_exact.specs.inside.Switches.{AreSwitches, Switches, switch_total}
 use Rattle.unit_exact.proofs.HourSteps.{begun-costs}
@@ -92,6 +92,20 @@ module _ (periods : ℕ) (table : Table) (unit : Thermal) (fix : Fix) where
       ∙ ap (λ o. total_of o (runs_to_go periods table unit fix (periods - suc t) (suc t) false (suc t)))
       (sym (cond-true (may t since) (run_until periods table unit since t) None lets))
       ∙ sym (total-before periods table unit fix t true since l)
+
+  -- one whose run is found below a limit
+  pub stop-below : (t since : ℕ) (limit best cost found result : Option ℤ) (next : Switches) → t < periods → IsTrue (may t since)
+      → cost ≡ run_until periods table unit since t → AreSwitches periods table unit fix t next
+      → ((o : Option ℤ) → IsReached limit o → IsReached best (total_of o (choice_cost next.stop)))
+      → IsCostBelow limit cost found → result ≡ total_of found (choice_cost next.stop)
+      → IsCostBelow best (switch_total periods table unit fix t true since) result
+  stop-below t since limit best cost found result next l lets is entry reach below total =
+      let whole = stop-some t since cost (total_of cost (choice_cost next.stop)) next l lets is refl entry in
+      ⊎_elim
+      (λ (same : found ≡ cost). inl (total ∙ ap (λ o. total_of o (choice_cost next.stop)) same ∙ whole))
+      (λ (over : (found ≡ None) × IsReached limit cost).
+      inr (total ∙ ap (λ o. total_of o (choice_cost next.stop)) over.0, subst (IsReached best) whole (reach cost over.1)))
+      below
 
   -- the run that ends there
   pub run-until : (t since : ℕ) (cost : Option ℤ) → run_from since ≤ t

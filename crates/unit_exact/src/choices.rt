@@ -1,8 +1,9 @@
 //! Where a state ends on the least way, and the better of two such choices.
 
-ghost use Rattle.std.specs.Prelude.{◌≡◌, ◌+◌, ◌^◌, ◌<◌, unsigned_abs, IfSome, Some};
+ghost use Rattle.std.specs.Prelude.{◌≡◌, ◌+◌, ◌^◌, ◌<◌, ◌≤◌, ℤ, unsigned_abs, IfSome, Option, Some};
 ghost use Rattle.dual_model.specs.CostToGo.{lesser_of, total_of};
-ghost use Rattle.unit_exact.specs.inside.Choices.{choice_cost, IsOneOf};
+ghost use Rattle.unit_exact.specs.inside.Choices.{choice_cost, IsOneOf, IsReached};
+ghost use Rattle.unit_exact.specs.inside.Problems.{MAX_WAY};
 
 /// The least of some ways: what it costs, and the period in which the unit is switched next on it; the number of
 /// periods stands for no switch.
@@ -51,5 +52,27 @@ pub(crate) fn with_choice(cost: i128, next: &Option<Choice>) -> Option<i128>
     match next {
         None => None,
         Some(next) => Some(cost + next.cost),
+    }
+}
+
+/// What the choice costs, where there is one.
+pub(crate) fn cost_of(choice: &Option<Choice>) -> Option<i128>
+    ensures { result ≡ choice_cost choice.now }
+{
+    match choice {
+        None => None,
+        Some(choice) => Some(choice.cost),
+    }
+}
+
+/// Below what a cost has to be to be better, with that of the choice behind it, than the best that is known.
+pub(crate) fn limit_before(best: &Option<Choice>, next: &Option<Choice>) -> Option<i128>
+    requires best { IfSome best.now (λ choice. unsigned_abs choice.cost ≤ MAX_WAY) }
+    requires next { IfSome next.now (λ choice. unsigned_abs choice.cost ≤ MAX_WAY) }
+    ensures { (cost : Option ℤ) → IsReached result cost → IsReached (choice_cost best.now) (total_of cost (choice_cost next.now)) }
+{
+    match (best, next) {
+        (Some(best), Some(next)) => Some(best.cost - next.cost),
+        _ => None,
     }
 }

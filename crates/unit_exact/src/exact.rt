@@ -139,7 +139,7 @@ pub fn keeps_ramps(
         → HasScheduleWithin instance.now node table.now g (commitment_of plain.now.pattern.now) }
 {
     let unit = &instance.thermal.as_slice()[g as usize];
-    hull::fill(&mut exact.hull, curve, unit.points.as_slice(), table.k());
+    hull_function::fill(&mut exact.hull, curve, unit.points.as_slice(), table.k());
     let problem = Problem {
         periods: instance.periods as usize,
         table,

@@ -15,6 +15,7 @@ ghost use Rattle.unit_exact.specs.inside.Problems.{IsLawful};
 ghost use Rattle.unit_exact.specs.inside.Running.{HasHull};
 
 use crate::hour::Hour;
+use crate::output_costs::cost;
 use crate::problem::Problem;
 use crate::runs::entry_output;
 use dual_model::Fix;
@@ -145,17 +146,6 @@ fn reserve_beside(hour: &Hour, output: i64) -> i64
     ensures all { pos 0 <ℤ hour.now.worth → output +ℤ result ≡ hour.now.cap }
 {
     if hour.worth > 0 { hour.cap - output } else { 0 }
-}
-
-// What an output costs in the hour, with all the room that is left as reserve, beside the minimum output.
-fn cost(hull: &ConvexFunction, hour: &Hour, output: i64) -> i128
-    requires hull { IsHullFunction hull.now }
-    requires hour { IsSizedHour hour.now }
-    requires output { IsPlace hull.now output }
-    ensures { result ≡ value_at hull.now output +ℤ hour.now.price *ℤ output -ℤ hour.now.worth *ℤ hour.now.cap }
-{
-    let earned = i128::from(hour.worth) * i128::from(hour.cap);
-    hull.at(output) + i128::from(hour.price) * i128::from(output) - earned
 }
 
 // Whether what the unit gives keeps the ramps behind the output before.

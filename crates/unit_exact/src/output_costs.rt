@@ -1,6 +1,6 @@
 //! The least costs of the hours of a run, by the output of the last one.
 
-ghost use Rattle.std.specs.Prelude.{◌≡◌, ℕ, ℤ, pos, ◌+◌, ◌*◌, ◌<◌, ◌≤◌, ◌+ℤ◌, ◌*ℤ◌, ◌≤ℤ◌, neg_ℤ, Option, IfOk, IfSome, None, Some, true, unsigned_abs, if◌then◌else◌};
+ghost use Rattle.std.specs.Prelude.{◌≡◌, ℕ, ℤ, pos, ◌+◌, ◌*◌, ◌<◌, ◌≤◌, ◌+ℤ◌, ◌-ℤ◌, ◌*ℤ◌, ◌≤ℤ◌, neg_ℤ, Option, IfOk, IfSome, None, Some, true, unsigned_abs, if◌then◌else◌};
 ghost use Rattle.std.specs.Int.{int_min};
 ghost use Rattle.std.specs.Ordering.{int_eq};
 ghost use Rattle.step_functions.specs.Functions.{IsPlace, last_place, run_count, value_at};
@@ -30,6 +30,13 @@ impl OutputCosts {
             function,
             alive: false,
         })
+    }
+
+    /// Whether there are any.
+    pub(crate) fn is_alive(&self) -> bool
+        ensures { result ≡ self.now.alive }
+    {
+        self.alive
     }
 
     /// Makes them those of no hours behind this output.
@@ -153,4 +160,16 @@ fn add_output(function: &mut ConvexFunction, hull: &ConvexFunction, hour: &Hour)
     function.add(hull);
     function.add_slope(i128::from(hour.price));
     function.add_constant(hour.fixed);
+}
+
+/// What an output costs in the hour, with all the room that is left as reserve, beside the minimum output.
+pub(crate) fn cost(hull: &ConvexFunction, hour: &Hour, output: i64) -> i128
+    requires hull { IsHullFunction hull.now }
+    requires hour { IsSizedHour hour.now }
+    requires output { IsPlace hull.now output }
+    ensures value { result ≡ value_at hull.now output +ℤ hour.now.price *ℤ output -ℤ hour.now.worth *ℤ hour.now.cap }
+    ensures size { unsigned_abs result ≤ MAX_HOUR }
+{
+    let earned = i128::from(hour.worth) * i128::from(hour.cap);
+    hull.at(output) + i128::from(hour.price) * i128::from(output) - earned
 }

@@ -1,15 +1,16 @@
 //! What the runs of one unit cost, hour by hour.
 
-ghost use Rattle.std.specs.Prelude.{◌≡◌, ℕ, ℤ, ◌-◌, ◌*◌, ◌<◌, ◌≤◌, suc, true, Option, IfOk, IfSome, unsigned_abs};
+ghost use Rattle.std.specs.Prelude.{◌≡◌, ℕ, ℤ, ◌-◌, ◌*◌, ◌<◌, ◌≤◌, ◌≤ℤ◌, suc, true, Option, Some, IfOk, IfSome, unsigned_abs};
 ghost use Rattle.step_functions.specs.Functions.{run_count};
 ghost use Rattle.unit_runs.specs.CostThrough.{run_cost};
 ghost use Rattle.unit_runs.specs.Runs.{entry_output as output_at_entry};
+ghost use Rattle.unit_exact.specs.inside.Choices.{IsCostBelow, IsReached};
 ghost use Rattle.unit_exact.specs.inside.OutputCosts.{IsBounded, IsCostsOf, MAX_POWER, least_ending};
 ghost use Rattle.unit_exact.specs.inside.Problems.{IsLawful, MAX_SWITCH};
 ghost use Rattle.unit_exact.specs.inside.Running.{HasHull, HasRoom, IsRunning};
 
 use crate::hour::Hour;
-use crate::output_costs::OutputCosts;
+use crate::output_costs::{OutputCosts, cost};
 use crate::problem::Problem;
 use std::alloc::Global;
 use uc_model::{NoMemory, Thermal};
@@ -68,6 +69,77 @@ impl Runs {
         self.ending.copy_from(&self.living);
         self.ending.add_hour(problem.hull, &hour);
         least_at_end(&mut self.ending, problem, t)
+    }
+
+    /// That cost, if it may be below the limit; `None` where it is plain that it isn't, or where there is none.
+    pub(crate) fn cost_below(
+        &mut self,
+        problem: &Problem,
+        from: usize,
+        t: usize,
+        limit: &Option<i128>,
+    ) -> Option<i128>
+        requires lawful { IsLawful problem.now.periods problem.now.table.now problem.now.unit.now }
+        requires hull { HasHull problem.now.table.now problem.now.unit.now problem.now.hull.now }
+        requires order { from ≤ t }
+        requires period { t < problem.now.periods }
+        requires running { IsRunning problem.now.periods problem.now.table.now problem.now.unit.now problem.now.hull.now from (t - from) self.old }
+        ensures running { IsRunning problem.now.periods problem.now.table.now problem.now.unit.now problem.now.hull.now from (t - from) self.new }
+        ensures cost { IsCostBelow limit.now (run_cost problem.now.periods problem.now.table.now problem.now.unit.now from (suc (t - from))) result }
+        ensures size { IfSome result (λ cost. unsigned_abs cost ≤ MAX_SWITCH) }
+    {
+        if self.reaches(problem, from, t, limit) {
+            None
+        } else {
+            self.cost_to(problem, from, t)
+        }
+    }
+
+    // Whether it is plain that no run whose last hour is in period `t` costs less than the limit.
+    fn reaches(&self, problem: &Problem, from: usize, t: usize, limit: &Option<i128>) -> bool
+        requires lawful { IsLawful problem.now.periods problem.now.table.now problem.now.unit.now }
+        requires hull { HasHull problem.now.table.now problem.now.unit.now problem.now.hull.now }
+        requires order { from ≤ t }
+        requires period { t < problem.now.periods }
+        requires running { IsRunning problem.now.periods problem.now.table.now problem.now.unit.now problem.now.hull.now from (t - from) self.now }
+        ensures { result ≡ true → IsReached limit.now (run_cost problem.now.periods problem.now.table.now problem.now.unit.now from (suc (t - from))) }
+    {
+        match limit {
+            None => false,
+            Some(limit) => self.costs_at_least(problem, from, t, *limit),
+        }
+    }
+
+    // The same of a limit that is there.
+    fn costs_at_least(&self, problem: &Problem, from: usize, t: usize, limit: i128) -> bool
+        requires lawful { IsLawful problem.now.periods problem.now.table.now problem.now.unit.now }
+        requires hull { HasHull problem.now.table.now problem.now.unit.now problem.now.hull.now }
+        requires order { from ≤ t }
+        requires period { t < problem.now.periods }
+        requires running { IsRunning problem.now.periods problem.now.table.now problem.now.unit.now problem.now.hull.now from (t - from) self.now }
+        ensures { result ≡ true → IsReached (Some limit) (run_cost problem.now.periods problem.now.table.now problem.now.unit.now from (suc (t - from))) }
+    {
+        if !self.living.is_alive() {
+            return true;
+        }
+        limit <= self.bound_to(problem, from, t)
+    }
+
+    // A cost that no run whose last hour is in period `t` is below: the hours before at their least, and that hour at its own
+    // least, with all the room that is left as reserve.
+    fn bound_to(&self, problem: &Problem, from: usize, t: usize) -> i128
+        requires lawful { IsLawful problem.now.periods problem.now.table.now problem.now.unit.now }
+        requires hull { HasHull problem.now.table.now problem.now.unit.now problem.now.hull.now }
+        requires order { from ≤ t }
+        requires period { t < problem.now.periods }
+        requires running { IsRunning problem.now.periods problem.now.table.now problem.now.unit.now problem.now.hull.now from (t - from) self.now }
+        requires alive { self.now.living.alive ≡ true }
+        ensures { (v : ℤ) → run_cost problem.now.periods problem.now.table.now problem.now.unit.now from (suc (t - from)) ≡ Some v → result ≤ℤ v }
+    {
+        let last = Hour::at(problem, t, t == from, true);
+        let output = problem.hull.least_place(i128::from(last.price));
+        let own = cost(problem.hull, &last, output) + last.fixed;
+        self.living.function.least().value + own
     }
 }
 

@@ -2,11 +2,12 @@
 
 ghost use Rattle.std.specs.Prelude.{◌≡◌, ◌-◌, ◌<◌, ◌≤◌, suc, true, IfSome};
 ghost use Rattle.unit_runs.specs.RunsToGo.{run_from};
+ghost use Rattle.unit_exact.specs.inside.Choices.{choice_cost, IsCostBelow};
 ghost use Rattle.unit_exact.specs.inside.Problems.{IsLawful};
 ghost use Rattle.unit_exact.specs.inside.Running.{HasHull, HasRoom, IsRunning};
 ghost use Rattle.unit_exact.specs.inside.Switches.{AreSwitches, IsBestTo, IsLeastSwitch, IsTableFrom, IsWithinSwitches, switch_total};
 
-use crate::choices::{Choice, Switches, better, with_choice};
+use crate::choices::{Choice, Switches, better, cost_of, limit_before, with_choice};
 use crate::problem::Problem;
 use crate::runs::{Runs, entry_output};
 
@@ -82,14 +83,15 @@ fn later_stop(
     let last = problem.periods - 1;
     let mut best = known;
     for t in from..last {
-        let total = stop_total(runs, &entries[t + 1], problem, since, t);
+        let total = stop_total(runs, &entries[t + 1], problem, &best, since, t);
         best = better(best, total, t + 1);
         if !problem.may_stay_on(t + 1) {
             return best;
         }
         runs.go_on(problem, from, t);
     }
-    better(best, runs.cost_to(problem, from, last), problem.periods)
+    let total = runs.cost_below(problem, from, last, &cost_of(&best));
+    better(best, total, problem.periods)
 }
 
 // The period in which the run began of a unit that is on since `since`.
@@ -99,11 +101,13 @@ fn run_begin(since: usize) -> usize
     since.saturating_sub(1)
 }
 
-// What a stop behind the hour in period `t` costs with all that follows, of a unit that is on since `since`.
+// What a stop behind the hour in period `t` costs with all that follows, of a unit that is on since `since`, if that may be
+// better than the best stop that is known.
 fn stop_total(
     runs: &mut Runs,
     next: &Switches,
     problem: &Problem,
+    best: &Option<Choice>,
     since: usize,
     t: usize,
 ) -> Option<i128>
@@ -114,14 +118,21 @@ fn stop_total(
     requires period { suc t < problem.now.periods }
     requires running { IsRunning problem.now.periods problem.now.table.now problem.now.unit.now problem.now.hull.now (run_from since) (t - run_from since) runs.old }
     requires entry { AreSwitches problem.now.periods problem.now.table.now problem.now.unit.now problem.now.fix.now (suc t) next.now }
+    requires best { IfSome best.now (λ choice. IsWithinSwitches (problem.now.periods - since) choice.cost) }
     ensures running { IsRunning problem.now.periods problem.now.table.now problem.now.unit.now problem.now.hull.now (run_from since) (t - run_from since) runs.new }
-    ensures total { result ≡ switch_total problem.now.periods problem.now.table.now problem.now.unit.now problem.now.fix.now (suc t) true since }
+    ensures total { IsCostBelow (choice_cost best.now)
+        (switch_total problem.now.periods problem.now.table.now problem.now.unit.now problem.now.fix.now (suc t) true since) result }
     ensures size { IfSome result (IsWithinSwitches (problem.now.periods - suc t)) }
 {
     if !problem.may_stop(since, t + 1) {
         return None;
     }
-    match runs.cost_to(problem, run_begin(since), t) {
+    match runs.cost_below(
+        problem,
+        run_begin(since),
+        t,
+        &limit_before(best, &next.stop),
+    ) {
         None => None,
         Some(cost) => with_choice(cost, &next.stop),
     }

@@ -65,5 +65,5 @@ returns-then-cost-term c =
       cap = subst (λ z. (to_z w64 (of_z w64 c.min-output.result) +ℤ z) ≤ℤ hour.cap) (sym own) beside.cap;
       none = λ e. own ∙ beside.none e;
       all = λ h. ap (λ z. to_z w64 (of_z w64 c.min-output.result) +ℤ z) own ∙ beside.all h;
-      cost = within c.cost.result c.args.term _ c.cost.ensures read c.ranges.term c.if-cost-term.true;
+      cost = within c.cost.result c.args.term _ c.cost.ensures.value read c.ranges.term c.if-cost-term.true;
     }

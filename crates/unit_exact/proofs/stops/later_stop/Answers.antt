@@ -2,7 +2,7 @@
 use Rattle.std.proofs.Common.{◌≡◌, add-one, suc, ◌+◌, ◌-◌, true, refl, sym, ap, subst, ◌∙◌, arith}
 use Rattle.unit_runs.specs.CostThrough.{run_cost}
 use Rattle.unit_runs.specs.RunsToGo.{may_stay, run_from, run_until}
-use Rattle.unit_exact.specs.inside.Choices.{IsOneOf}
+use Rattle.unit_exact.specs.inside.Choices.{choice_cost, IsCostBelow, IsOneOf}
 use Rattle.unit_exact.specs.inside.Running.{IsRunning}
 use Rattle.unit_exact.specs.inside.Switches.{AreSwitches, IsBestTo, entry_in}
 use Rattle.unit_exact.proofs.BestTo.{best-end, best-last, best-more}
@@ -18,8 +18,8 @@ stop_total-total-requires-clause-entry c =
     subst (λ k. AreSwitches p.periods p.table.now p.unit.now p.fix.now (suc t) (entry_in c.args.entries.now k)) (sym (add-one t))
     (c.requires.later.entry (suc t) (omega (arith, begun)) (omega arith))
 
-pub cost_to-requires-clause-running : goal.cost_to-requires-clause-running
-cost_to-requires-clause-running c =
+pub cost_below-total-requires-clause-running : goal.cost_below-total-requires-clause-running
+cost_below-total-requires-clause-running c =
     let p = c.args.problem.now in
     let t = c.loop-t.t in
     let begun = c.run_begin-from.ensures in
@@ -77,10 +77,15 @@ returns-clause-least c =
     let past = c.requires.past in
     let end : suc t ≡ p.periods = omega (arith, c.loop-t-test.false, begun, past) in
     let last : suc (p.periods - 1) ≡ p.periods = omega (arith, past) in
-    let cost = c.cost_to.ensures.cost ∙ (λ i. run_cost p.periods p.table.now p.unit.now (begun i) (suc (p.periods - 1 - begun i))) in
-    let until = run-until p.periods p.table.now p.unit.now p.fix.now (p.periods - 1) since c.cost_to.result (omega (arith, past)) cost
+    let from = c.run_begin-from.result in
+    let cost = run_cost p.periods p.table.now p.unit.now from (suc (p.periods - 1 - from)) in
+    let until = run-until p.periods p.table.now p.unit.now p.fix.now (p.periods - 1) since cost (omega (arith, past))
+    (λ i. run_cost p.periods p.table.now p.unit.now (begun i) (suc (p.periods - 1 - begun i)))
     ∙ ap (run_until p.periods p.table.now p.unit.now since) last in
-    best-end p.periods p.table.now p.unit.now p.fix.now since true since p.periods c.loop-t.best c.better.result c.cost_to.result (omega arith)
+    let whole = run-last p.periods p.table.now p.unit.now p.fix.now since cost until in
+    let found = c.cost_below-total.result in
+    best-end p.periods p.table.now p.unit.now p.fix.now since true since p.periods c.loop-t.best c.better.result found (omega arith)
     (subst (λ k. IsBestTo p.periods p.table.now p.unit.now p.fix.now since true since k c.loop-t.best) end c.loop-t.invariant.best)
-    (run-last p.periods p.table.now p.unit.now p.fix.now since c.cost_to.result until)
-    (some-size (p.periods - p.periods) c.cost_to.result c.cost_to.ensures.size) c.better.ensures.cost c.better.ensures.choice refl
+    (subst (λ o. IsCostBelow (choice_cost c.loop-t.best) o found) whole
+    (subst (λ l. IsCostBelow l cost found) c.cost_of.ensures c.cost_below-total.ensures.cost))
+    (some-size (p.periods - p.periods) found c.cost_below-total.ensures.size) c.better.ensures.cost c.better.ensures.choice refl

@@ -1,19 +1,19 @@
 -- The run that ends there, and the ways behind it.
-use Rattle.std.proofs.Common.{◌≡◌, add-one, lit<, refl, suc, ◌-◌, ◌≤◌, ◌&&◌, true, sym, ap, subst, ◌∙◌, arith, IsTrue, Some, None, IfSome, unsigned_abs}
+use Rattle.std.proofs.Common.{◌≡◌, add-one, lit<, inl, refl, suc, ◌-◌, ◌≤◌, ◌&&◌, true, sym, ap, subst, ◌∙◌, arith, IsTrue, Some, None, IfSome, unsigned_abs}
 use Rattle.uc_model.proofs.Sizes.{abs_wide, wide}
 use Rattle.dual_model.specs.CostToGo.{total_of}
 use Rattle.dual_model.specs.Moves.{holds_initially, may_be_off, may_stop}
 use Rattle.unit_runs.specs.CostThrough.{run_cost}
-use Rattle.unit_exact.specs.inside.Choices.{choice_cost}
-use Rattle.unit_exact.specs.inside.Problems.{MAX_SWITCH}
+use Rattle.unit_exact.specs.inside.Choices.{choice_cost, IsCostBelow}
+use Rattle.unit_exact.specs.inside.Problems.{MAX_SWITCH, MAX_WAY}
 use Rattle.unit_exact.specs.inside.Running.{IsRunning}
 use Rattle.unit_exact.specs.inside.Switches.{IsWithinSwitches}
 use Rattle.unit_exact.proofs.Sizes.{some-map, total-size}
-use Rattle.unit_exact.proofs.StopSteps.{run-until, stop-none, stop-off, stop-some}
+use Rattle.unit_exact.proofs.StopSteps.{run-until, stop-below, stop-none, stop-off}
 use Rattle.unit_exact.proofs.stops.stop_total.Goals as goal
 
-pub cost_to-requires-clause-running : goal.cost_to-requires-clause-running
-cost_to-requires-clause-running c =
+pub cost_below-requires-clause-running : goal.cost_below-requires-clause-running
+cost_below-requires-clause-running c =
     let p = c.args.problem.now in
     subst (λ k. IsRunning p.periods p.table.now p.unit.now p.hull.now k (c.args.t - k) c.args.runs.now) (sym c.run_begin.ensures) c.requires.running
 
@@ -24,7 +24,7 @@ with_choice-requires c =
     let lets : IsTrue (may_be_off p.unit.now p.fix.now (suc t) && holds_initially p.unit.now (suc t) true && may_stop p.unit.now c.args.since (suc t)) =
     ap (λ k. may_be_off p.unit.now p.fix.now k && holds_initially p.unit.now k true && may_stop p.unit.now c.args.since k) (sym (add-one t))
     ∙ sym c.may_stop.ensures ∙ c.if-not-may_stop.false in
-    let small : unsigned_abs c.in-Some.cost ≤ MAX_SWITCH = subst (λ o. IfSome o (λ v. unsigned_abs v ≤ MAX_SWITCH)) c.in-Some.is c.cost_to.ensures.size in
+    let small : unsigned_abs c.in-Some.cost ≤ MAX_SWITCH = subst (λ o. IfSome o (λ v. unsigned_abs v ≤ MAX_SWITCH)) c.in-Some.is c.cost_below.ensures.size in
     let next = c.requires.entry.stop (stop-off p.periods p.table.now p.unit.now p.fix.now (suc t) c.args.since lets) in
     let cast = abs_wide c.in-Some.cost in
     let few = c.requires.lawful.periods_are.1 in
@@ -34,9 +34,27 @@ pub returns-then-not-may_stop-clause-total : goal.returns-then-not-may_stop-clau
 returns-then-not-may_stop-clause-total c =
     let p = c.args.problem.now in
     let t = c.args.t in
-    stop-none p.periods p.table.now p.unit.now p.fix.now (suc t) c.args.since c.requires.period
+    inl (stop-none p.periods p.table.now p.unit.now p.fix.now (suc t) c.args.since c.requires.period
     (ap (λ k. may_be_off p.unit.now p.fix.now k && holds_initially p.unit.now k true && may_stop p.unit.now c.args.since k) (sym (add-one t))
-    ∙ sym c.may_stop.ensures ∙ c.if-not-may_stop.true)
+    ∙ sym c.may_stop.ensures ∙ c.if-not-may_stop.true))
+
+pub limit_before-requires-clause-best : goal.limit_before-requires-clause-best
+limit_before-requires-clause-best c =
+    let p = c.args.problem.now in
+    let few = c.requires.lawful.periods_are.1 in
+    some-map (λ choice. IsWithinSwitches (p.periods - c.args.since) choice.cost) (λ choice. unsigned_abs choice.cost ≤ MAX_WAY) c.args.best.now
+    (λ choice h. omega (arith, few, h)) c.requires.best
+
+pub limit_before-requires-clause-next : goal.limit_before-requires-clause-next
+limit_before-requires-clause-next c =
+    let p = c.args.problem.now in
+    let few = c.requires.lawful.periods_are.1 in
+    let lets : IsTrue (may_be_off p.unit.now p.fix.now (suc c.args.t) && holds_initially p.unit.now (suc c.args.t) true && may_stop p.unit.now c.args.since (suc c.args.t)) =
+    ap (λ k. may_be_off p.unit.now p.fix.now k && holds_initially p.unit.now k true && may_stop p.unit.now c.args.since k) (sym (add-one c.args.t))
+    ∙ sym c.may_stop.ensures ∙ c.if-not-may_stop.false in
+    let next = c.requires.entry.stop (stop-off p.periods p.table.now p.unit.now p.fix.now (suc c.args.t) c.args.since lets) in
+    some-map (λ choice. IsWithinSwitches (p.periods - suc (suc c.args.t)) choice.cost) (λ choice. unsigned_abs choice.cost ≤ MAX_WAY) c.args.next.now.stop
+    (λ choice h. omega (arith, few, h)) next.size
 
 pub returns-in-None-clause-total : goal.returns-in-None-clause-total
 returns-in-None-clause-total c =
@@ -46,9 +64,12 @@ returns-in-None-clause-total c =
     ap (λ k. may_be_off p.unit.now p.fix.now k && holds_initially p.unit.now k true && may_stop p.unit.now c.args.since k) (sym (add-one t))
     ∙ sym c.may_stop.ensures ∙ c.if-not-may_stop.false in
     let begun = c.run_begin.ensures in
-    let cost = sym c.in-None.is ∙ c.cost_to.ensures.cost ∙ (λ i. run_cost p.periods p.table.now p.unit.now (begun i) (suc (t - begun i))) in
-    stop-some p.periods p.table.now p.unit.now p.fix.now (suc t) c.args.since None None c.args.next.now c.requires.period lets
-    (run-until p.periods p.table.now p.unit.now p.fix.now t c.args.since None c.requires.order cost) refl c.requires.entry
+    let cost = run_cost p.periods p.table.now p.unit.now c.run_begin.result (suc (t - c.run_begin.result)) in
+    stop-below p.periods p.table.now p.unit.now p.fix.now (suc t) c.args.since c.limit_before.result (choice_cost c.args.best.now) cost None None c.args.next.now
+    c.requires.period lets
+    (run-until p.periods p.table.now p.unit.now p.fix.now t c.args.since cost c.requires.order (λ i. run_cost p.periods p.table.now p.unit.now (begun i) (suc (t - begun i))))
+    c.requires.entry c.limit_before.ensures
+    (subst (IsCostBelow c.limit_before.result cost) c.in-None.is c.cost_below.ensures.cost) refl
 
 pub returns-in-Some-clause-total : goal.returns-in-Some-clause-total
 returns-in-Some-clause-total c =
@@ -58,12 +79,15 @@ returns-in-Some-clause-total c =
     ap (λ k. may_be_off p.unit.now p.fix.now k && holds_initially p.unit.now k true && may_stop p.unit.now c.args.since k) (sym (add-one t))
     ∙ sym c.may_stop.ensures ∙ c.if-not-may_stop.false in
     let begun = c.run_begin.ensures in
-    let cost = sym c.in-Some.is ∙ c.cost_to.ensures.cost ∙ (λ i. run_cost p.periods p.table.now p.unit.now (begun i) (suc (t - begun i))) in
-    let small : unsigned_abs c.in-Some.cost ≤ MAX_SWITCH = subst (λ o. IfSome o (λ v. unsigned_abs v ≤ MAX_SWITCH)) c.in-Some.is c.cost_to.ensures.size in
+    let cost = run_cost p.periods p.table.now p.unit.now c.run_begin.result (suc (t - c.run_begin.result)) in
+    let small : unsigned_abs c.in-Some.cost ≤ MAX_SWITCH = subst (λ o. IfSome o (λ v. unsigned_abs v ≤ MAX_SWITCH)) c.in-Some.is c.cost_below.ensures.size in
     let cast = wide c.in-Some.cost MAX_SWITCH small (lit< tt) in
-    stop-some p.periods p.table.now p.unit.now p.fix.now (suc t) c.args.since (Some c.in-Some.cost) c.with_choice.result c.args.next.now c.requires.period lets
-    (run-until p.periods p.table.now p.unit.now p.fix.now t c.args.since (Some c.in-Some.cost) c.requires.order cost)
-    (c.with_choice.ensures ∙ ap (λ z. total_of (Some z) (choice_cost c.args.next.now.stop)) cast) c.requires.entry
+    stop-below p.periods p.table.now p.unit.now p.fix.now (suc t) c.args.since c.limit_before.result (choice_cost c.args.best.now) cost (Some c.in-Some.cost)
+    c.with_choice.result c.args.next.now c.requires.period lets
+    (run-until p.periods p.table.now p.unit.now p.fix.now t c.args.since cost c.requires.order (λ i. run_cost p.periods p.table.now p.unit.now (begun i) (suc (t - begun i))))
+    c.requires.entry c.limit_before.ensures
+    (subst (IsCostBelow c.limit_before.result cost) c.in-Some.is c.cost_below.ensures.cost)
+    (c.with_choice.ensures ∙ ap (λ z. total_of (Some z) (choice_cost c.args.next.now.stop)) cast)
 
 pub returns-in-Some-clause-size : goal.returns-in-Some-clause-size
 returns-in-Some-clause-size c =
@@ -72,7 +96,7 @@ returns-in-Some-clause-size c =
     let lets : IsTrue (may_be_off p.unit.now p.fix.now (suc t) && holds_initially p.unit.now (suc t) true && may_stop p.unit.now c.args.since (suc t)) =
     ap (λ k. may_be_off p.unit.now p.fix.now k && holds_initially p.unit.now k true && may_stop p.unit.now c.args.since k) (sym (add-one t))
     ∙ sym c.may_stop.ensures ∙ c.if-not-may_stop.false in
-    let small : unsigned_abs c.in-Some.cost ≤ MAX_SWITCH = subst (λ o. IfSome o (λ v. unsigned_abs v ≤ MAX_SWITCH)) c.in-Some.is c.cost_to.ensures.size in
+    let small : unsigned_abs c.in-Some.cost ≤ MAX_SWITCH = subst (λ o. IfSome o (λ v. unsigned_abs v ≤ MAX_SWITCH)) c.in-Some.is c.cost_below.ensures.size in
     let cast = wide c.in-Some.cost MAX_SWITCH small (lit< tt) in
     let next = c.requires.entry.stop (stop-off p.periods p.table.now p.unit.now p.fix.now (suc t) c.args.since lets) in
     let is : c.with_choice.result ≡ total_of (Some c.in-Some.cost) (choice_cost c.args.next.now.stop) =
@@ -85,9 +109,9 @@ returns-in-Some-clause-size c =
 pub returns-in-None-clause-running : goal.returns-in-None-clause-running
 returns-in-None-clause-running c =
     let p = c.args.problem.now in
-    subst (λ k. IsRunning p.periods p.table.now p.unit.now p.hull.now k (c.args.t - k) c.cost_to.new.self) c.run_begin.ensures c.cost_to.ensures.running
+    subst (λ k. IsRunning p.periods p.table.now p.unit.now p.hull.now k (c.args.t - k) c.cost_below.new.self) c.run_begin.ensures c.cost_below.ensures.running
 
 pub returns-in-Some-clause-running : goal.returns-in-Some-clause-running
 returns-in-Some-clause-running c =
     let p = c.args.problem.now in
-    subst (λ k. IsRunning p.periods p.table.now p.unit.now p.hull.now k (c.args.t - k) c.cost_to.new.self) c.run_begin.ensures c.cost_to.ensures.running
+    subst (λ k. IsRunning p.periods p.table.now p.unit.now p.hull.now k (c.args.t - k) c.cost_below.new.self) c.run_begin.ensures c.cost_below.ensures.running

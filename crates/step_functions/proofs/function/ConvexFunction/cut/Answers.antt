@@ -4,6 +4,9 @@ use Rattle.std.proofs.lemmas.Int.{ints, clamps}
 use Rattle.step_functions.specs.Functions.{IsPlace}
 use Rattle.step_functions.proofs.function.ConvexFunction.cut.Goals as goal
 
+pub cut_right-requires-clause-place : goal.cut_right-requires-clause-place
+cut_right-requires-clause-place c = record { low = omega (arith, ints, clamps); high = omega (arith, ints, clamps) }
+
 pub cut_left-requires-clause-place : goal.cut_left-requires-clause-place
 cut_left-requires-clause-place c = record { low = omega (arith, ints, clamps); high = omega (arith, ints, clamps) }
 

@@ -6,8 +6,8 @@ use Rattle.std.proofs.lemmas.Int.{ints}
 use Rattle.uc_model.proofs.Sizes.{abs_mul, narrow}
 use Rattle.step_functions.specs.Functions.{Steps, IsPlace, last_place, value_at}
 use Rattle.unit_exact.specs.inside.OutputCosts.{Hour, IsHullFunction, IsSizedHour, MAX_HULL, MAX_POWER}
-use Rattle.unit_exact.specs.inside.Problems.{MAX_PRICE}
-use Rattle.unit_exact.proofs.hourly.cost.Goals as goal
+use Rattle.unit_exact.specs.inside.Problems.{MAX_HOUR, MAX_PRICE}
+use Rattle.unit_exact.proofs.output_costs.cost.Goals as goal
 
 -- what is read is what there is, and all of it is small
 record AreRead (hull : Steps) (hour : Hour) (output value price place worth limit : ℤ) : Type 0 where
@@ -68,5 +68,13 @@ overflow_add-result c = let is = all c in sum_fits _ _ _ _ is.value_is is.paid_i
 pub overflow_sub-result : goal.overflow_sub-result
 overflow_sub-result c = let is = all c in rest_fits _ _ _ _ _ _ is.value_is is.paid_is is.earned_is is.value_small is.paid_small is.earned_small
 
-pub returns : goal.returns
-returns c = let is = all c in rest_is _ _ _ _ _ _ is.value_is is.paid_is is.earned_is is.value_small is.paid_small is.earned_small
+rest_small : (a b d x y z : ℤ) → a ≡ x → b ≡ y → d ≡ z → unsigned_abs x ≤ MAX_HULL → unsigned_abs y ≤ (2 * MAX_PRICE) * (2 * MAX_POWER)
+    → unsigned_abs z ≤ MAX_PRICE * (2 * MAX_POWER)
+    → unsigned_abs (to_z w128 (of_z w128 (to_z w128 (of_z w128 (to_z w128 (of_z w128 a) +ℤ to_z w128 (of_z w128 b))) -ℤ to_z w128 (of_z w128 d)))) ≤ MAX_HOUR
+rest_small a b d x y z e f g h k l = omega (arith, ints)
+
+pub returns-clause-size : goal.returns-clause-size
+returns-clause-size c = let is = all c in rest_small _ _ _ _ _ _ is.value_is is.paid_is is.earned_is is.value_small is.paid_small is.earned_small
+
+pub returns-clause-value : goal.returns-clause-value
+returns-clause-value c = let is = all c in rest_is _ _ _ _ _ _ is.value_is is.paid_is is.earned_is is.value_small is.paid_small is.earned_small
