@@ -6,7 +6,7 @@ use Rattle.std.proofs.lemmas.Bool.{ltb-true}
 use Rattle.std.proofs.lemmas.Option.{cond_some}
 use Rattle.std.proofs.lemmas.List.{length-set, length_push}
 use Rattle.cert_text.specs.Changes.{Table, RampRow, Change, OfDemand, OfReserve, OfRamps, changed, all_changed}
-use Rattle.cert_text.specs.CertificateText.{Version, First, Second, told_from}
+use Rattle.cert_text.specs.CertificateText.{Version, First, Second, Third, told_from}
 use Rattle.cert_text.specs.Grammar.{Sizes, rescaled}
 use Rattle.cert_text.specs.inside.Forms.{Form, passing, written_change_at, is_within, comes_behind, is_other, change_at, next_at}
 use Rattle.cert_text.specs.inside.Parts.{Stop, ◌>>=◌, StopsAs, line_of, told, changes_part, changed_part, next_part, table_of, numbers_part, table_part, told_part, tables_part}
@@ -210,3 +210,4 @@ tables_done size front count i bytes total le before =
 pub told_from_last : (version : Version) (last : Option Table) (before : Table) → Some before ≡ told_from version last → last ≡ Some before
 told_from_last First last before e = absurd cc
 told_from_last Second last before e = sym e
+told_from_last Third last before e = sym e

@@ -21,7 +21,7 @@ use Rattle.uc_model.specs.Money.{six_digits, millionths_text, money_text}
 use Rattle.uc_model.proofs.MoneyText.{length-six_digits, six_digits-digits_value, six_digits_injective, money_text_bytes, money_text_nonempty}
 use Rattle.cert_text.specs.TextConditions.{Cell, HasDigits, IsMoney, IsOnCell, IsOffCell, IsCellText, IsThermalRow, IsPowerRow}
 use Rattle.outside.specs.Lines.{line, list_line}
-use Rattle.cert_text.specs.CertificateText.{Version, First, Second, version_line, size_line, claim_line, cell_text, thermal_line, scale_line, prices_line, end_line}
+use Rattle.cert_text.specs.CertificateText.{Version, First, Second, Third, version_line, size_line, claim_line, cell_text, thermal_line, scale_line, prices_line, end_line}
 use Rattle.cert_text.specs.Grammar.{Sizes, AreSizes, IsSizeIn, schedule_line, PlanLine, Priced, Unpriced, plan_line, IsPenaltyLine, IsPlanLine, ramp_count_line}
 use Rattle.std.specs.Bool.{Decides}
 
@@ -472,24 +472,41 @@ last_money : IsForm (ended money_at (codes "\n")) IsMoney (λ z. money_text z ++
 last_money = ended-form money-form (codes "\n") (λ rest. refl)
 
 -- ---- the heading
+-- the second version, or the third
+abbrev IsLater : Version → Type 0
+IsLater version = IsChosen (λ (b : Unit {0}). b ≡ tt) (λ _. Second) (λ (version : Version). version ≡ Third) version
+
 pub version-form : IsForm version_at (λ _. Unit {0}) version_line Anything
 unfolding version_at line text_at
 version-form =
-    form-as (choice-form (empty-form tt) (λ _. First) second (codes "uc-certificate 1\n") (λ _ v. first_text) apart) (λ _. Unit {0}) version_line (λ version v. tt) back (λ version v. refl)
+    form-as (choice-form (empty-form tt) (λ _. First) later (codes "uc-certificate 1\n") (λ _ v. first_text) apart) (λ _. Unit {0}) version_line (λ version v. tt) back (λ version v. refl)
   where
     first_text : codes "uc-certificate 1\n" ++ [] ≡ version_line First
     first_text = rw (whole_text_digit 1 (omega arith)) refl
 
-    second : IsForm (fixed (codes "uc-certificate 2\n") Second) (λ version. version ≡ Second) version_line Anything
-    second = form-as (fixed-form (codes "uc-certificate 2\n") Second) (λ version. version ≡ Second) version_line (λ version v. v) (λ version v. v)
-        (λ version v. rw v (rw (whole_text_digit 2 (omega arith)) refl))
+    second_text : codes "uc-certificate 2\n" ++ [] ≡ version_line Second
+    second_text = rw (whole_text_digit 2 (omega arith)) refl
 
-    apart : (version : Version) (rest : List ℕ) → version ≡ Second → text_at (codes "uc-certificate 1\n") (version_line version ++ rest) ≡ None
-    apart version rest v = rw v (rw (whole_text_digit 2 (omega arith)) refl)
+    third : IsForm (fixed (codes "uc-certificate 3\n") Third) (λ version. version ≡ Third) version_line Anything
+    third = form-as (fixed-form (codes "uc-certificate 3\n") Third) (λ version. version ≡ Third) version_line (λ version v. v) (λ version v. v)
+        (λ version v. rw v (rw (whole_text_digit 3 (omega arith)) refl))
 
-    back : (version : Version) → Unit {0} → IsChosen (λ (b : Unit {0}). b ≡ tt) (λ _. First) (λ (version : Version). version ≡ Second) version
+    not_second : (version : Version) (rest : List ℕ) → version ≡ Third → text_at (codes "uc-certificate 2\n") (version_line version ++ rest) ≡ None
+    not_second version rest v = rw v (rw (whole_text_digit 3 (omega arith)) refl)
+
+    later : IsForm (λ bytes. when (text_at (codes "uc-certificate 2\n") bytes) (λ rest. Some (Second, rest)) (fixed (codes "uc-certificate 3\n") Third bytes)) IsLater version_line Anything
+    later = choice-form (empty-form tt) (λ _. Second) third (codes "uc-certificate 2\n") (λ _ v. second_text) not_second
+
+    apart : (version : Version) (rest : List ℕ) → IsLater version → text_at (codes "uc-certificate 1\n") (version_line version ++ rest) ≡ None
+    apart First rest (inl v) = absurd (let e = v.2 in cc)
+    apart First rest (inr v) = absurd cc
+    apart Second rest v = rw (whole_text_digit 2 (omega arith)) refl
+    apart Third rest v = rw (whole_text_digit 3 (omega arith)) refl
+
+    back : (version : Version) → Unit {0} → IsChosen (λ (b : Unit {0}). b ≡ tt) (λ _. First) IsLater version
     back First v = inl (tt, refl, refl)
-    back Second v = inr refl
+    back Second v = inr (inl (tt, refl, refl))
+    back Third v = inr (inr refl)
 
 pub end-form : IsForm end_at (λ _. Unit {0}) (λ _. end_line) Anything
 unfolding end_at line

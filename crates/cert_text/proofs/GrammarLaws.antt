@@ -39,7 +39,7 @@ stop_shorter bytes rest e =
 
 -- a certificate's text is read as its listing and its version, and as nothing else
 pub read_as : (bytes rest : List ℕ) (version : Version) (c : Listing) → certificate_part bytes ≡ Ok ((version, c), rest)
-    → (another : Version) (certificate : Certificate) → HasText (listing_of certificate) → bytes ≡ certificate_text another certificate
+    → (another : Version) (certificate : Certificate) → HasText another (listing_of certificate) → bytes ≡ certificate_text another certificate
     → (c ≡ listing_of certificate) × (version ≡ another) × (rest ≡ [])
 read_as bytes rest version c e another certificate h text =
     let same = same_Ok ((version, c), rest) ((another, listing_of certificate), []) (sym e ∙ ap certificate_part text ∙ certificate_whole another certificate h) in (
@@ -48,14 +48,14 @@ read_as bytes rest version c e another certificate h text =
       ap (λ (x : (Version × Listing) × List ℕ). x.1) same,
     )
 
-pub no_stop : (bytes rest : List ℕ) → certificate_part bytes ≡ Err rest → (version : Version) (certificate : Certificate) → HasText (listing_of certificate)
+pub no_stop : (bytes rest : List ℕ) → certificate_part bytes ≡ Err rest → (version : Version) (certificate : Certificate) → HasText version (listing_of certificate)
     → bytes ≡ certificate_text version certificate → ⊥
 no_stop bytes rest e version certificate h text =
     let whole : certificate_part bytes ≡ Ok ((version, listing_of certificate), []) = ap certificate_part text ∙ certificate_whole version certificate h in
     cc
 
 -- no text is a front of another one, and texts that are one have one listing and one version
-pub texts_apart : (version another : Version) (c d : Certificate) (more : List ℕ) → HasText (listing_of c) → HasText (listing_of d)
+pub texts_apart : (version another : Version) (c d : Certificate) (more : List ℕ) → HasText version (listing_of c) → HasText another (listing_of d)
     → certificate_text version c ++ more ≡ certificate_text another d → (listing_of c ≡ listing_of d) × (version ≡ another) × (more ≡ [])
 texts_apart version another c d more h k e =
     read_as (certificate_text version c ++ more) more version (listing_of c) (certificate_again version c more h) another d k e
@@ -154,9 +154,12 @@ plan_one (Priced a b) = line_one (codes "penalty") (whole_text a ∷ whole_text 
 plan_one (Unpriced cost) = schedule_one cost
 
 node_one : (node : TreeNode) → IsOne (node_line node)
-node_one (LeafNode (Bound exact n)) = line_one (codes "bound") (whole_text (suc n) ∷ []) refl (whole_feeds (suc n), tt)
-node_one (LeafNode (Ray exact n)) = line_one (codes "ray") (whole_text (suc n) ∷ []) refl (whole_feeds (suc n), tt)
-node_one (LeafNode (Empty exact n)) = line_one (codes "empty") (whole_text (suc n) ∷ []) refl (whole_feeds (suc n), tt)
+node_one (LeafNode (Bound false n)) = line_one (codes "bound") (whole_text (suc n) ∷ []) refl (whole_feeds (suc n), tt)
+node_one (LeafNode (Ray false n)) = line_one (codes "ray") (whole_text (suc n) ∷ []) refl (whole_feeds (suc n), tt)
+node_one (LeafNode (Empty false n)) = line_one (codes "empty") (whole_text (suc n) ∷ []) refl (whole_feeds (suc n), tt)
+node_one (LeafNode (Bound true n)) = line_one (codes "exact") (whole_text (suc n) ∷ []) refl (whole_feeds (suc n), tt)
+node_one (LeafNode (Ray true n)) = line_one (codes "exact-ray") (whole_text (suc n) ∷ []) refl (whole_feeds (suc n), tt)
+node_one (LeafNode (Empty true n)) = line_one (codes "exact-empty") (whole_text (suc n) ∷ []) refl (whole_feeds (suc n), tt)
 node_one (SplitNode g t) = line_one (codes "split") (whole_text (suc g) ∷ whole_text (suc t) ∷ []) refl (whole_feeds (suc g), (whole_feeds (suc t), tt))
 
 row_one : (first : List ℕ) → HasNone first → (row : RampRow)
@@ -291,7 +294,7 @@ pub record IsRead (bytes : List ℕ) (c : Listing) : Type 0 where
   pub version : Version
   pub certificate : Certificate
   pub listed : listing_of certificate ≡ c
-  pub conditions : HasText (listing_of certificate)
+  pub conditions : HasText version (listing_of certificate)
   pub text : bytes ≡ certificate_text version certificate
 
 pub whole_is_read : (bytes rest : List ℕ) (version : Version) (c : Listing) → certificate_part bytes ≡ Ok ((version, c), rest) → rest ≡ [] → IsRead bytes c
@@ -305,7 +308,7 @@ whole_is_read bytes rest version c e none =
       version = version;
       certificate = certificate;
       listed = listed;
-      conditions = subst HasText (sym listed) one.0.text;
+      conditions = subst (HasText version) (sym listed) one.0.text;
       text = one.1 ∙ ap (λ rest. joined (certificate_lines version c) ++ rest) none ∙ append-nil (joined (certificate_lines version c)) ∙ ap (λ c. joined (certificate_lines version c)) (sym listed);
     }
 
@@ -487,29 +490,29 @@ whole_lines lines others rest run whole e = ⊎_elim
     (λ (two : GoesOn others [] rest lines [] []). two.lines_are ∙ ap (λ more. others ++ more) (nothing_behind two.more [] two.run).0 ∙ append-nil others)
     (runs_meet (Head ∷ []) lines others [] [] [] rest (tt, tt) run whole (append-nil (joined lines) ∙ e))
 
-listed_lines : (lines : List (List ℕ)) (version : Version) (c : Listing) (rest : List ℕ) → Reaches (Head ∷ []) lines [] → IsListed c → joined lines ≡ joined (certificate_lines version c) ++ rest
-    → (version : Version) × (certificate : Certificate) × HasText (listing_of certificate) × (lines ≡ certificate_lines version (listing_of certificate))
+listed_lines : (lines : List (List ℕ)) (version : Version) (c : Listing) (rest : List ℕ) → Reaches (Head ∷ []) lines [] → IsListed version c → joined lines ≡ joined (certificate_lines version c) ++ rest
+    → (version : Version) × (certificate : Certificate) × HasText version (listing_of certificate) × (lines ≡ certificate_lines version (listing_of certificate))
 listed_lines lines version c rest run listed e =
     let tree = owed_is_tree c.nodes listed.tree in
     let certificate : Certificate = record { periods = c.periods; thermal = c.thermal; renewable = c.renewable; a = c.a; b = c.b; bound = c.bound; schedule = c.schedule; tables = c.tables; tree = tree.0 } in
     let same : listing_of certificate ≡ c = (λ i. record { periods = c.periods; thermal = c.thermal; renewable = c.renewable; a = c.a; b = c.b; bound = c.bound; schedule = c.schedule; tables = c.tables; nodes = tree.1 i }) in (
       version,
       certificate,
-      subst HasText (sym same) listed.text,
+      subst (HasText version) (sym same) listed.text,
       whole_lines lines (certificate_lines version c) rest run (certificate-part.runs (version, c) listed) e ∙ ap (certificate_lines version) (sym same),
     )
 
 pub whole_run_is_certificate : (lines : List (List ℕ)) → Reaches (Head ∷ []) lines []
-    → (version : Version) × (c : Certificate) × HasText (listing_of c) × (lines ≡ certificate_lines version (listing_of c))
+    → (version : Version) × (c : Certificate) × HasText version (listing_of c) × (lines ≡ certificate_lines version (listing_of c))
 whole_run_is_certificate lines run = by_reading (certificate_part (joined lines)) refl
   where
     by_reading : (r : Result ((Version × Listing) × List ℕ) (List ℕ)) → certificate_part (joined lines) ≡ r
-        → (version : Version) × (c : Certificate) × HasText (listing_of c) × (lines ≡ certificate_lines version (listing_of c))
+        → (version : Version) × (c : Certificate) × HasText version (listing_of c) × (lines ≡ certificate_lines version (listing_of c))
     by_reading (Ok x) e = let one = certificate-part.takes (joined lines) x e in listed_lines lines x.0.0 x.0.1 x.1 run one.0 one.1
     by_reading (Err rest) e = absurd (no_whole_stops lines rest run (certificate-part.stops (joined lines) rest e))
 
-pub certificate_runs : (version : Version) (c : Certificate) → HasText (listing_of c) → Reaches (Head ∷ []) (certificate_lines version (listing_of c)) []
-certificate_runs version c h = certificate-part.runs (version, listing_of c) (certificate_listed c h)
+pub certificate_runs : (version : Version) (c : Certificate) → HasText version (listing_of c) → Reaches (Head ∷ []) (certificate_lines version (listing_of c)) []
+certificate_runs version c h = certificate-part.runs (version, listing_of c) (certificate_listed version c h)
 
 -- ---- Bytes have at most one fault: the lines before it may stand, so two faults have the same lines before them.
 none_counted : (bytes : List ℕ) → line_feeds bytes ≡ 0 → HasLineFeed bytes → ⊥

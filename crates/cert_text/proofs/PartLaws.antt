@@ -1,5 +1,5 @@
 -- The parts of tables, of the tree and of the whole read their lines and nothing else.
-use Rattle.std.proofs.Common.{◌≡◌, ℕ, zero, suc, List, [], ◌∷◌, ◌++◌, length, replicate, All, Option, Some, None, Result, Ok, Err, refl, sym, ap, subst, ◌∙◌, append_assoc, arith, ◌^◌, ◌<◌, map, get_or, ℤ, pos, negsuc, unsigned_abs, ◌≤ℤ◌, ◌≤◌, append-nil, ◌+◌, ◌-◌, length-append, IfSome, codes}
+use Rattle.std.proofs.Common.{◌≡◌, ℕ, zero, suc, List, [], ◌∷◌, ◌++◌, length, replicate, All, Option, Some, None, Result, Ok, Err, refl, sym, ap, subst, ◌∙◌, append_assoc, arith, ◌^◌, ◌<◌, map, get_or, ℤ, pos, negsuc, unsigned_abs, ◌≤ℤ◌, ◌≤◌, true, false, append-nil, ◌+◌, ◌-◌, length-append, IfSome, codes}
 use Rattle.std.specs.List.{flat_map}
 use Rattle.std.proofs.lemmas.List.Elements.{All-nil, All-cons, All-head, All-tail}
 use Rattle.outside.specs.Lines.{joined, line}
@@ -13,11 +13,11 @@ use Rattle.cert_text.proofs.TableForms.{ramp-form, next-form, change-form, node-
 use Rattle.cert_text.proofs.ChangeLaws.{changes_found, changes_make, changed_is_text, changes_few}
 use Rattle.std.proofs.lemmas.Int.{ints}
 use Rattle.dual_model.specs.Prices.{IsRowBefore, IsRowWithin}
-use Rattle.cert_text.specs.TextConditions.{Table, IsRampText, IsTableText, IsMoney, HasText}
-use Rattle.cert_text.specs.CertificateText.{Version, First, Second, prices_line, ramps_line, ramp_line, table_lines, next_line, change_line, next_lines, told_from, told_lines, tables_lines, Listing, listing_of, version_line, size_line, claim_line, end_line, certificate_lines, certificate_text, TreeNode, LeafNode, SplitNode, preorder, node_line, IsNodeWithin}
+use Rattle.cert_text.specs.TextConditions.{Table, IsRampText, IsTableText, IsMoney, IsNodeText, HasText}
+use Rattle.cert_text.specs.CertificateText.{Version, First, Second, Third, prices_line, ramps_line, ramp_line, table_lines, next_line, change_line, next_lines, told_from, told_lines, tables_lines, Listing, listing_of, version_line, size_line, claim_line, end_line, certificate_lines, certificate_text, TreeNode, LeafNode, SplitNode, preorder, node_line}
 use Rattle.dual_model.specs.Certificate.{Certificate}
 use Rattle.dual_model.specs.Tree.{Tree, Ends, Splits}
-use Rattle.dual_model.specs.Cover.{Leaf, Bound}
+use Rattle.dual_model.specs.Cover.{Leaf, Bound, Ray, Empty}
 use Rattle.cert_text.proofs.Loops.{behind_parts, regroup_parts}
 use Rattle.cert_text.proofs.PartSteps.{Stops, IsPart, Done, bind_ok, ok_of, same_Ok, same_Err, StopsAt, AtFirst, AtSecond, bind_err, Stops-before, Stops-behind, line-part, then-part, told-part, part-as, before-part, told_then, told_second, nothing-part}
 use Rattle.cert_text.proofs.PlanLaws.{IsPlan, plan-part, lines_of}
@@ -222,6 +222,7 @@ told_table-part ahead lawful (Some before) text = next-part ahead lawful before 
 told_has_text : (P : Table → Type 0) (version : Version) (before : Option Table) → IfSome before P → IfSome (told_from version before) P
 told_has_text P First before text = tt
 told_has_text P Second before text = text
+told_has_text P Third before text = text
 
 pub tables-part : (size : Sizes) → AreSizes size → (n : ℕ) (before : Option Table) → IfSome before (IsTableText size.periods size.thermal)
     → IsPart (tables_part size n before) (λ tables. (length tables ≡ n) × All (IsTableText size.periods size.thermal) tables) (tables_lines size.version before) (tables_from size n before) Done
@@ -306,13 +307,18 @@ tree_before (Splits g t off on) n nodes h =
 
 -- ---- reading them
 abbrev WithinSize : Sizes → TreeNode → Type 0
-WithinSize size node = IsNodeWithin size.periods size.thermal size.tables node
+WithinSize size node = IsNodeText size.version size.periods size.thermal size.tables node
 
 -- a node takes more than one byte
 pub line_long : (node : TreeNode) → 2 ≤ length (node_line node)
 unfolding line
-line_long (LeafNode (Bound exact n)) = omega arith
-line_long _ = omega arith
+line_long (LeafNode (Bound false n)) = omega arith
+line_long (LeafNode (Bound true n)) = omega arith
+line_long (LeafNode (Ray false n)) = omega arith
+line_long (LeafNode (Ray true n)) = omega arith
+line_long (LeafNode (Empty false g)) = omega arith
+line_long (LeafNode (Empty true g)) = omega arith
+line_long (SplitNode g t) = omega arith
 
 node-part : (size : Sizes) → AreSizes size → IsPart (line_of (node_at size)) (WithinSize size) (λ node. node_line node ∷ []) (Node size ∷ []) (children size)
 node-part size lawful = line-part (node-form size lawful) (Node size) (children size) (λ node v. (node, v, refl, refl)) (λ text others p. (p.0, p.1, p.2))
@@ -419,9 +425,9 @@ heading-part =
       back = λ size w. ((size.version, size), (tt, record { sizes = w; told = refl }), refl);
     })
 
--- a listing that has a text, with the nodes of one tree
-pub record IsListed (c : Listing) : Type 0 where
-  pub text : HasText c
+-- a listing that has a text in the version, with the nodes of one tree
+pub record IsListed (version : Version) (c : Listing) : Type 0 where
+  pub text : HasText version c
   pub tree : AreOwed 1 c.nodes
 
 abbrev Body : Type 0
@@ -431,7 +437,7 @@ abbrev IsBody : Sizes → Body → Type 0
 IsBody size p =
     IfSome p.0 IsMoney × (IsPlan size p.1.0
     × (((length p.1.1.0 ≡ size.tables) × All (IsTableText size.periods size.thermal) p.1.1.0)
-    × ((AreOwed 1 p.1.1.1.0 × All (IsNodeWithin size.periods size.thermal size.tables) p.1.1.1.0) × Unit {0})))
+    × ((AreOwed 1 p.1.1.1.0 × All (IsNodeText size.version size.periods size.thermal size.tables) p.1.1.1.0) × Unit {0})))
 
 abbrev body_lines : Version → Body → List (List ℕ)
 body_lines version p = claim_line p.0 ∷ (lines_of p.1.0 ++ (tables_lines version None p.1.1.0 ++ (map node_line p.1.1.1.0 ++ end_line ∷ [])))
@@ -447,10 +453,10 @@ body-part size lawful =
     (λ tables v. then-part (before-part (tree-part size lawful) (End ∷ []))
     (λ nodes v. line-part end-form End Done (λ a v. (refl, refl)) (λ text others p. (tt, tt, p.0))))))
 
-pub certificate-part : IsPart certificate_part (λ read. IsListed read.1) (λ read. certificate_lines read.0 read.1) (Head ∷ []) Done
+pub certificate-part : IsPart certificate_part (λ read. IsListed read.0 read.1) (λ read. certificate_lines read.0 read.1) (Head ∷ []) Done
 unfolding certificate_part certificate_lines
 certificate-part =
-    told-part (then-part heading-part body-part) (λ p. (p.0.version, listing_from p)) (λ read. IsListed read.1) (λ read. certificate_lines read.0 read.1) Done
+    told-part (then-part heading-part body-part) (λ p. (p.0.version, listing_from p)) (λ read. IsListed read.0 read.1) (λ read. certificate_lines read.0 read.1) Done
     (record {
       there = λ p v. (
         record {
@@ -464,7 +470,7 @@ certificate-part =
             penalties = v.1.1.0.penalties;
             schedule = v.1.1.0.schedule;
             tables = v.1.1.1.0.1;
-            nodes = subst (λ (n : ℕ). All (IsNodeWithin p.0.periods p.0.thermal n) p.1.1.1.1.0) (sym v.1.1.1.0.0) v.1.1.1.1.0.1;
+            nodes = subst (λ (n : ℕ). All (IsNodeText p.0.version p.0.periods p.0.thermal n) p.1.1.1.1.0) (sym v.1.1.1.0.0) v.1.1.1.1.0.1;
           };
           tree = v.1.1.1.1.0.0;
         },
@@ -483,14 +489,14 @@ certificate-part =
     })
 
 -- ---- certificates
-pub certificate_listed : (c : Certificate) → HasText (listing_of c) → IsListed (listing_of c)
-certificate_listed c h = record { text = h; tree = subst (AreOwed 1) (append-nil (preorder c.tree)) (tree_before c.tree 0 [] tt) }
+pub certificate_listed : (version : Version) (c : Certificate) → HasText version (listing_of c) → IsListed version (listing_of c)
+certificate_listed version c h = record { text = h; tree = subst (AreOwed 1) (append-nil (preorder c.tree)) (tree_before c.tree 0 [] tt) }
 
-pub certificate_again : (version : Version) (c : Certificate) (rest : List ℕ) → HasText (listing_of c) → certificate_part (certificate_text version c ++ rest) ≡ Ok ((version, listing_of c), rest)
+pub certificate_again : (version : Version) (c : Certificate) (rest : List ℕ) → HasText version (listing_of c) → certificate_part (certificate_text version c ++ rest) ≡ Ok ((version, listing_of c), rest)
 unfolding certificate_text
-certificate_again version c rest h = certificate-part.again (version, listing_of c) rest (certificate_listed c h)
+certificate_again version c rest h = certificate-part.again (version, listing_of c) rest (certificate_listed version c h)
 
-pub certificate_whole : (version : Version) (c : Certificate) → HasText (listing_of c) → certificate_part (certificate_text version c) ≡ Ok ((version, listing_of c), [])
+pub certificate_whole : (version : Version) (c : Certificate) → HasText version (listing_of c) → certificate_part (certificate_text version c) ≡ Ok ((version, listing_of c), [])
 certificate_whole version c h = ap certificate_part (sym (append-nil (certificate_text version c))) ∙ certificate_again version c [] h
 
 -- ---- Reading the nodes of trees that are owed, as a loop does.

@@ -1,27 +1,24 @@
 -- The parts in which a certificate is written are its lines.
-use Rattle.std.proofs.Common.{◌≡◌, ℕ, List, [], ◌∷◌, ◌++◌, length, map, refl, ap, ◌∙◌, sym, append_assoc, Bool, Option, Some, None, zero, suc, ◌<◌, cond, get_or, arith, ◌^◌, true, false, All, ℤ, pos, negsuc, ◌≤ℤ◌, eq-eqb, ne_eqb, IfSome}
-use Rattle.std.specs.List.{flat_map}
+use Rattle.std.proofs.Common.{◌≡◌, ℕ, List, [], ◌∷◌, ◌++◌, length, map, refl, ap, ◌∙◌, sym, append_assoc, Bool, Option, Some, None, zero, suc, ◌<◌, cond, get_or, arith, ◌^◌, true, false, All, ℤ, pos, negsuc, ◌≤ℤ◌, eq-eqb, ne_eqb, IfSome, ◌||◌}
+use Rattle.std.specs.List.{flat_map, list_any}
 use Rattle.dual_model.specs.Certificate.{WrittenSchedule, Certificate, CertificateHolds, ClaimHolds}
-use Rattle.branch_tree.specs.Kinds.{IsPlainLeaf, IsPlainTree}
 use Rattle.branch_tree.specs.TreeView.{tree_of, IsWhole}
 use Rattle.branch_tree.specs.UsedTables.{used_tables, place_of, stored_tables}
 use Rattle.branch_tree.specs.Claims.{table_at, certificate_of, leaf_claim, written_tables, written_of}
 use Rattle.outside.specs.Lines.{joined}
 use Rattle.outside.proofs.Joining.{joined-cons, joined-append, joined-map}
 use Rattle.cert_text.specs.Changes.{OfDemand, OfReserve, OfRamps, price_changes, row_changes, table_changes}
-use Rattle.cert_text.specs.CertificateText.{Second, Listing, preorder, node_line, SplitNode, TreeNode, LeafNode, IsLeafWithin, IsNodeWithin, RampRow, Table, Printed, certificate_lines, certificate_text, has_price, penalty_line, shortage_lines, schedule_lines, plan_lines, table_lines, next_line, next_lines, change_line, told_lines, tables_lines, thermal_line, renewable_line, ramp_line, cost_line, version_line, size_line, claim_line, end_line, scale_line, prices_line, ramps_line, listing_of}
-use Rattle.cert_text.specs.Reading.{listing_read}
+use Rattle.cert_text.specs.CertificateText.{Version, Second, Third, written_version, written_text, is_exact_node, told_from, Listing, preorder, node_line, SplitNode, TreeNode, LeafNode, IsLeafWithin, IsNodeWithin, RampRow, Table, Printed, certificate_lines, certificate_text, has_price, penalty_line, shortage_lines, schedule_lines, plan_lines, table_lines, next_line, next_lines, change_line, told_lines, tables_lines, thermal_line, renewable_line, ramp_line, cost_line, version_line, size_line, claim_line, end_line, scale_line, prices_line, ramps_line, listing_of}
+use Rattle.cert_text.specs.Reading.{node_of, listing_read}
+use Rattle.cert_text.specs.declared.cert.CertNode.{CertNode}
 use Rattle.cert_text.specs.inside.WrittenParts.{Found, Instance, Spot, Cert, penalty_part, shortages_part, schedule_part, table_part, next_part, told_part, tables_part, certificate_parts, found_text, read_text, spot_node}
 use Rattle.std.specs.Option.{option_map_or}
 use Rattle.std.proofs.lemmas.List.Concat.{flat_map-append}
-use Rattle.std.proofs.lemmas.List.Folds.{flat_map-map}
+use Rattle.std.proofs.lemmas.List.Folds.{flat_map-map, list_any-append, list_any_at}
 use Rattle.dual_model.specs.Tree.{map_leaves, Tree, Ends, Splits, root, child, IsCoverBelow, IsCover, EachLeaf}
 use Rattle.branch_tree.specs.NumberedTree.{NumberedTree, EndAt, SplitAt, IsNumbered, unnumbered, numbers, spot_at}
-use Rattle.branch_tree.specs.declared.tree.Leaf.{Leaf as FoundLeaf}
-use Rattle.branch_tree.specs.declared.tree.Leaf.TheVariants as leaf
 use Rattle.branch_tree.proofs.Preorder.{IsPart, off_side, on_side, part_spot, length-each_once, length-stored_tables}
 use Rattle.std.proofs.lemmas.Int.{ints}
-use Rattle.std.proofs.lemmas.Bool.{true≢false}
 use Rattle.std.proofs.lemmas.List.Elements.{All-nil, All-cons, All-append, All-weaker}
 use Rattle.std.proofs.lemmas.List.{length-map}
 use Rattle.std.proofs.lemmas.Option.{slice_get_within}
@@ -29,10 +26,9 @@ use Rattle.uc_model.specs.Limits.{IsLawfulInstance}
 use Rattle.uc_model.specs.Schedule.{thermal_count, renewable_count}
 use Rattle.dual_model.specs.Cover.{Leaf, Bound, Ray, Empty, IsExcluded, LeafHolds}
 use Rattle.dual_model.specs.declared.node.Node.{Node}
-use Rattle.dual_model.proofs.Covers.{both_claims}
 use Rattle.dual_model.specs.Prices.{IsLawfulTable, IsPrice, IsRowPriced}
 use Rattle.branch_tree.specs.StoredTree.{tree_bound}
-use Rattle.cert_text.specs.TextConditions.{HasDigits, IsMoney, IsTableText, IsRampText, IsScheduleText, HasText}
+use Rattle.cert_text.specs.TextConditions.{HasDigits, IsMoney, IsTableText, IsRampText, IsScheduleText, HasText, HasWrittenText}
 
 shortages-part : (priced : Bool) (printed : Printed) → joined (shortage_lines priced printed) ≡ shortages_part priced printed
 shortages-part false printed = refl
@@ -83,34 +79,42 @@ told-part : (before : Option Table) (table : Table) → joined (told_lines befor
 told-part None table = table-part table
 told-part (Some before) table = next-part before table
 
-tables-part : (before : Option Table) (tables : List Table) → joined (tables_lines Second before tables) ≡ tables_part before tables
-tables-part before [] = refl
-tables-part before (table ∷ tables) =
-    joined-append (told_lines before table) (tables_lines Second (Some table) tables)
-    ∙ (λ i. told-part before table i ++ tables-part (Some table) tables i)
+-- in both versions in which certificates are written a table is told by its difference to the one before it
+told-from : (exact : Bool) (before : Option Table) → told_from (cond exact Third Second) before ≡ before
+told-from false before = refl
+told-from true before = refl
 
-parts-are-lines : (c : Listing) → certificate_parts c ≡ joined (certificate_lines Second c)
+tables-part : (exact : Bool) (before : Option Table) (tables : List Table) → joined (tables_lines (cond exact Third Second) before tables) ≡ tables_part before tables
+tables-part exact before [] = refl
+tables-part exact before (table ∷ tables) =
+    let told = told_lines (told_from (cond exact Third Second) before) table in
+    joined-append told (tables_lines (cond exact Third Second) (Some table) tables)
+    ∙ (λ i. (ap (λ before. joined (told_lines before table)) (told-from exact before) ∙ told-part before table) i ++ tables-part exact (Some table) tables i)
+
+parts-are-lines : (c : Listing) → certificate_parts c ≡ joined (certificate_lines (written_version c) c)
 unfolding certificate_lines certificate_parts
 parts-are-lines c =
+    let exact = list_any is_exact_node c.nodes in
     let nodes = map node_line c.nodes in
-    let tables = tables_lines Second None c.tables in
+    let tables = tables_lines (written_version c) None c.tables in
     let last = joined-append nodes (end_line ∷ []) ∙ ap (λ text. text ++ end_line) (joined-map node_line c.nodes) in
-    let lower = joined-append tables (nodes ++ end_line ∷ []) ∙ (λ i. tables-part None c.tables i ++ last i) in
+    let lower = joined-append tables (nodes ++ end_line ∷ []) ∙ (λ i. tables-part exact None c.tables i ++ last i) in
     let plan = plan_lines c.a c.b c.schedule in
     let body = joined-append plan (tables ++ (nodes ++ end_line ∷ [])) ∙ ((λ i. plan-part c.a c.b c.schedule i ++ lower i)
     ∙ append_assoc (penalty_part c.a c.b) (schedule_part (has_price c.a c.b) c.schedule) (tables_part None c.tables ++ (flat_map node_line c.nodes ++ end_line))) in
-    simp append_assoc (sym (ap (λ text. version_line Second ++ (size_line c.periods c.thermal c.renewable (length c.tables) ++ text))
+    simp append_assoc (sym (ap (λ text. version_line (written_version c) ++ (size_line c.periods c.thermal c.renewable (length c.tables) ++ text))
     (joined-cons (claim_line c.bound) (plan ++ (tables ++ (nodes ++ end_line ∷ [])))
     ∙ ap (λ text. claim_line c.bound ++ text) body)))
 
-pub found_is_text : (instance : Instance) (found : Found) → found_text instance found ≡ certificate_text Second (certificate_of instance found)
+pub found_is_text : (instance : Instance) (found : Found) → found_text instance found ≡ written_text (certificate_of instance found)
 unfolding found_text certificate_text
 found_is_text instance found = parts-are-lines (listing_of (certificate_of instance found))
 
 -- of what was read, for each certificate that has its listing
-pub read_is_text : (cert : Cert) (c : Certificate) → listing_of c ≡ listing_read cert → read_text cert ≡ certificate_text Second c
+pub read_is_text : (cert : Cert) (c : Certificate) → listing_of c ≡ listing_read cert → read_text cert ≡ written_text c
 unfolding read_text certificate_text
-read_is_text cert c listed = parts-are-lines (listing_read cert) ∙ ap (λ listing. joined (certificate_lines Second listing)) (sym listed)
+read_is_text cert c listed =
+    parts-are-lines (listing_read cert) ∙ ap (λ listing. joined (certificate_lines (written_version listing) listing)) (sym listed)
 
 -- ---- The lines of the nodes in preorder are those of the tree.
 -- the line of what stands there
@@ -135,6 +139,28 @@ lines_listed used whole (SplitAt number g t off on) numbered part =
     ++ flat_map-append (line_at used whole) (numbers off) (numbers on) i)
     ∙ ((λ i. first ++ (left i ++ right i)) ∙ ap (λ rest. first ++ rest) (sym (flat_map-append node_line off_nodes on_nodes)))
 
+-- ---- Whether some leaf claims by exact values.
+abbrev pub exact_at : List ℕ → NumberedTree → ℕ → Bool
+exact_at used whole number = option_map_or (λ stands. is_exact_node (spot_node used stands)) (spot_at whole number) false
+
+pub exact_listed : (used : List ℕ) (whole tree : NumberedTree) → IsNumbered whole → IsPart whole tree
+    → list_any (exact_at used whole) (numbers tree) ≡ list_any is_exact_node (preorder (map_leaves (leaf_claim used) (unnumbered tree)))
+exact_listed used whole (EndAt number leaf) numbered part =
+    ap (λ (o : Option Spot). option_map_or (λ stands. is_exact_node (spot_node used stands)) o false || false) (part_spot whole (EndAt number leaf) part)
+exact_listed used whole (SplitAt number g t off on) numbered part =
+    let left = exact_listed used whole off numbered (off_side whole number g t off on numbered part) in
+    let right = exact_listed used whole on numbered (on_side whole number g t off on numbered part) in
+    let off_nodes = preorder (map_leaves (leaf_claim used) (unnumbered off)) in
+    let on_nodes = preorder (map_leaves (leaf_claim used) (unnumbered on)) in
+    (λ i. option_map_or (λ stands. is_exact_node (spot_node used stands)) (part_spot whole (SplitAt number g t off on) part i) false
+    || list_any-append (exact_at used whole) (numbers off) (numbers on) i)
+    ∙ ((λ i. left i || right i) ∙ sym (list_any-append is_exact_node off_nodes on_nodes))
+
+-- the same of nodes that were read
+pub exact_mapped : (nodes : List CertNode) → list_any (λ node. is_exact_node (node_of node)) nodes ≡ list_any is_exact_node (map node_of nodes)
+exact_mapped [] = refl
+exact_mapped (node ∷ nodes) = ap (λ b. is_exact_node (node_of node) || b) (exact_mapped nodes)
+
 -- the place of a table that was found behind others, and of one that wasn't
 pub place_found : (used : List ℕ) (table place : ℕ) → place < length used → get_or used place 0 ≡ table
     → ((k : ℕ) → k < place → get_or used k 0 ≡ table → ⊥) → place_of used table ≡ place
@@ -152,39 +178,16 @@ place_past (first ∷ used) table others =
     ∙ ap suc (place_past used table (λ k l. others (suc k) (omega arith)))
 
 -- ---- When the certificate of a found answer has a text.
--- the leaf claims by V, as each leaf of a plain tree does
-abbrev IsPlain : Node → Leaf → Type 0
-IsPlain node (Bound exact number) = exact ≡ false
-IsPlain node (Ray exact number) = exact ≡ false
-IsPlain node (Empty exact g) = exact ≡ false
-
-plain-claim : (used : List ℕ) (node : Node) (leaf : FoundLeaf) → IsPlainLeaf leaf → IsPlain node (leaf_claim used leaf)
-plain-claim used node (leaf.Live table value exact) plain = plain
-plain-claim used node (leaf.Bound table value exact) plain = plain
-plain-claim used node (leaf.Ray table) plain = refl
-plain-claim used node (leaf.Empty g) plain = refl
-plain-claim used node (leaf.ExactRay table) plain = absurd plain
-plain-claim used node (leaf.ExactEmpty g) plain = absurd plain
-
-plain-claims : (used : List ℕ) (node : Node) (tree : Tree FoundLeaf) → EachLeaf (λ here leaf. IsPlainLeaf leaf) node tree
-    → EachLeaf IsPlain node (map_leaves (leaf_claim used) tree)
-plain-claims used node (Ends leaf) plain = plain-claim used node leaf plain
-plain-claims used node (Splits g t off on) plain =
-    (plain-claims used (child node g t false) off plain.0, plain-claims used (child node g t true) on plain.1)
-
 -- a leaf that is excluded, or that holds for a bound, names a table that is listed, or a unit that there is
-excluded-within : (instance : Instance) (tables : List Table) (node : Node) (leaf : Leaf) → IsPlain node leaf × IsExcluded instance tables node leaf
+excluded-within : (instance : Instance) (tables : List Table) (node : Node) (leaf : Leaf) → IsExcluded instance tables node leaf
     → IsLeafWithin (thermal_count instance) (length tables) leaf
-excluded-within instance tables node (Bound exact number) h = absurd h.1
-excluded-within instance tables node (Ray false number) h = slice_get_within tables number h.1.table h.1.is_table
-excluded-within instance tables node (Ray true number) h = absurd (true≢false h.0)
-excluded-within instance tables node (Empty false g) h = h.1.0
-excluded-within instance tables node (Empty true g) h = absurd (true≢false h.0)
+excluded-within instance tables node (Bound exact number) h = absurd h
+excluded-within instance tables node (Ray exact number) h = slice_get_within tables number h.table h.is_table
+excluded-within instance tables node (Empty exact g) h = h.0
 
-holds-within : (instance : Instance) (tables : List Table) (b : ℤ) (node : Node) (leaf : Leaf) → IsPlain node leaf × LeafHolds instance tables b node leaf
+holds-within : (instance : Instance) (tables : List Table) (b : ℤ) (node : Node) (leaf : Leaf) → LeafHolds instance tables b node leaf
     → IsLeafWithin (thermal_count instance) (length tables) leaf
-holds-within instance tables b node (Bound false number) h = slice_get_within tables number h.1.table h.1.is_table
-holds-within instance tables b node (Bound true number) h = absurd (true≢false h.0)
+holds-within instance tables b node (Bound exact number) h = slice_get_within tables number h.table h.is_table
 holds-within instance tables b node (Ray exact number) h = excluded-within instance tables node (Ray exact number) h
 holds-within instance tables b node (Empty exact g) h = excluded-within instance tables node (Empty exact g) h
 
@@ -203,15 +206,32 @@ nodes-within instance tables P within node (Splits g t off on) cover each =
     (nodes-within instance tables P within (child node g t false) off cover.2 each.0)
     (nodes-within instance tables P within (child node g t true) on cover.3 each.1))
 
-claimed-within : (instance : Instance) (c : Certificate) (bound : Option ℤ) → IsCover instance c.tree → EachLeaf IsPlain root c.tree
-    → ClaimHolds instance c bound
+claimed-within : (instance : Instance) (c : Certificate) (bound : Option ℤ) → IsCover instance c.tree → ClaimHolds instance c bound
     → All (IsNodeWithin instance.periods (thermal_count instance) (length c.tables)) (preorder c.tree)
-claimed-within instance c (Some b) cover plain claim =
-    nodes-within instance c.tables (λ node leaf. IsPlain node leaf × LeafHolds instance c.tables b node leaf) (holds-within instance c.tables b)
-    root c.tree cover (both_claims IsPlain (LeafHolds instance c.tables b) root c.tree plain claim.1)
-claimed-within instance c None cover plain claim =
-    nodes-within instance c.tables (λ node leaf. IsPlain node leaf × IsExcluded instance c.tables node leaf) (excluded-within instance c.tables)
-    root c.tree cover (both_claims IsPlain (IsExcluded instance c.tables) root c.tree plain claim.1)
+claimed-within instance c (Some b) cover claim =
+    nodes-within instance c.tables (LeafHolds instance c.tables b) (holds-within instance c.tables b) root c.tree cover claim.1
+claimed-within instance c None cover claim =
+    nodes-within instance c.tables (IsExcluded instance c.tables) (excluded-within instance c.tables) root c.tree cover claim.1
+
+-- where a node claims by exact values, the version in which the nodes are written is the third
+exact-written : (nodes : List TreeNode) (k : ℕ) (d : TreeNode) → k < length nodes → is_exact_node (get_or nodes k d) ≡ true
+    → cond (list_any is_exact_node nodes) Third Second ≡ Third
+exact-written nodes k d within exact = ap (λ (b : Bool). cond b Third Second) (list_any_at is_exact_node nodes k d within exact)
+
+-- a certificate that has a text in some version has one in the version in which it is written
+pub written_text_is : (version : Version) (c : Certificate) → HasText version (listing_of c) → HasWrittenText c
+written_text_is version c h = record {
+  some_period = h.some_period;
+  periods = h.periods;
+  thermal = h.thermal;
+  renewable = h.renewable;
+  table_count = h.table_count;
+  bound = h.bound;
+  penalties = h.penalties;
+  schedule = h.schedule;
+  tables = h.tables;
+  nodes = λ k d within. record { within = (h.nodes k d within).within; exact = exact-written (preorder c.tree) k d within };
+}
 
 price-digits : (n : ℤ) → IsPrice n → HasDigits 18 n
 price-digits n h = omega arith
@@ -245,22 +265,24 @@ few-tables instance found whole =
     let same = length-map used (table_at found.tables) in
     omega (arith, length-each_once (stored_tables (tree_of found.tree)), length-stored_tables found.tree.nodes, whole.within, whole.countable)
 
-pub found_has_text : (instance : Instance) (found : Found) → IsLawfulInstance instance → IsWhole found.tree → IsPlainTree found.tree
+pub found_has_text : (instance : Instance) (found : Found) → IsLawfulInstance instance → IsWhole found.tree
     → CertificateHolds instance (certificate_of instance found)
     → IfSome (written_of found.schedule) (IsScheduleText (has_price instance.a instance.b) instance.periods (thermal_count instance) (renewable_count instance))
     → IfSome (tree_bound found.tree) IsMoney
     → All (λ table. length table.ramps < 10 ^ 18) (written_tables found)
-    → HasText (listing_of (certificate_of instance found))
-found_has_text instance found lawful whole plain holds schedule bound few = record {
-  some_period = lawful.periods.0;
-  periods = lawful.periods.1;
-  thermal = lawful.thermal_units;
-  renewable = lawful.renewable_units;
-  table_count = few-tables instance found whole;
-  bound = bound;
-  penalties = record { shed = lawful.shed_price; short = lawful.short_price };
-  schedule = schedule;
-  tables = λ k d within. lawful-table-text instance _ (holds.tables k d within) (few k d within);
-  nodes = claimed-within instance (certificate_of instance found) (tree_bound found.tree) holds.tree
-      (plain-claims (used_tables (tree_of found.tree)) root (tree_of found.tree) plain) holds.claim;
-}
+    → HasWrittenText (certificate_of instance found)
+found_has_text instance found lawful whole holds schedule bound few =
+    let nodes = preorder (certificate_of instance found).tree in
+    let claimed = claimed-within instance (certificate_of instance found) (tree_bound found.tree) holds.tree holds.claim in
+    record {
+      some_period = lawful.periods.0;
+      periods = lawful.periods.1;
+      thermal = lawful.thermal_units;
+      renewable = lawful.renewable_units;
+      table_count = few-tables instance found whole;
+      bound = bound;
+      penalties = record { shed = lawful.shed_price; short = lawful.short_price };
+      schedule = schedule;
+      tables = λ k d within. lawful-table-text instance _ (holds.tables k d within) (few k d within);
+      nodes = λ k d within. record { within = claimed k d within; exact = exact-written nodes k d within };
+    }

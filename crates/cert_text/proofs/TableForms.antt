@@ -1,18 +1,18 @@
 -- The forms of ramp rows, of changes of tables and of nodes read their lines, and nothing else.
-use Rattle.std.proofs.Common.{ap, ℕ, ℤ, ◌^◌, ◌<◌, ◌≤◌, arith, ◌≡◌, suc, true, false, List, [], ◌∷◌, ◌++◌, Option, Some, None, refl, subst, append_assoc, inl, inr, ◌⊎◌, pos, not, ◌&&◌, ◌||◌, nat_lt, ◌≢◌, IfSome, codes}
+use Rattle.std.proofs.Common.{ap, ℕ, ℤ, ◌^◌, ◌<◌, ◌≤◌, arith, ◌≡◌, ◌∙◌, sym, suc, true, false, List, [], ◌∷◌, ◌++◌, Option, Some, None, refl, subst, append_assoc, inl, inr, ◌⊎◌, pos, not, ◌&&◌, ◌||◌, nat_lt, ◌≢◌, IfSome, codes}
 use Rattle.uc_model.specs.Decimal.{whole_text, signed_text}
 use Rattle.std.proofs.lemmas.Bool.Decides.{Decides-int_eq, Decides-and, Decides-or, Decides-not, Decides-ltb, Decides-like}
 use Rattle.std.proofs.lemmas.Bool.{ltb-true, lt-ltb, and_parts, false≢true, and_from}
 use Rattle.std.specs.Ordering.{int_eq}
 use Rattle.std.specs.Bool.{Decides}
 use Rattle.outside.specs.Lines.{line}
-use Rattle.dual_model.specs.Cover.{Bound, Ray, Empty}
+use Rattle.dual_model.specs.Cover.{Leaf, Bound, Ray, Empty}
 use Rattle.dual_model.specs.Prices.{IsRowBefore, IsRowWithin, pi_at, mu_at, up_at, down_at}
-use Rattle.cert_text.specs.TextConditions.{RampRow, HasDigits, IsRampText}
+use Rattle.cert_text.specs.TextConditions.{RampRow, HasDigits, IsRampText, IsNodeText}
 use Rattle.cert_text.specs.Changes.{Table, Change, OfDemand, OfReserve, OfRamps}
-use Rattle.cert_text.specs.CertificateText.{ramp_line, next_line, change_line, TreeNode, LeafNode, SplitNode, node_line, IsNodeWithin}
+use Rattle.cert_text.specs.CertificateText.{Version, First, Second, Third, ramp_line, next_line, change_line, TreeNode, LeafNode, SplitNode, node_line, is_exact_leaf, is_exact_node, IsLeafWithin, IsNodeWithin}
 use Rattle.cert_text.specs.Grammar.{Sizes, AreSizes, ComesBefore, IsChangeWithin, Changes, IsChangeAfter, IsRampAfter}
-use Rattle.cert_text.specs.inside.Forms.{is_digit, ended, mapped, after, text_at, ordinal_at, row_numbers_at, ramp_row, rises, is_ramp, ramp_at, next_at, price_at, written_change_at, is_within, comes_before, comes_behind, is_other, is_change, change_at, named_at, split_at, node_at}
+use Rattle.cert_text.specs.inside.Forms.{is_digit, ended, mapped, after, text_at, ordinal_at, row_numbers_at, ramp_row, rises, is_ramp, ramp_at, next_at, price_at, written_change_at, is_within, comes_before, comes_behind, is_other, is_change, change_at, named_at, split_at, tells_exact, exact_leaf_at, exact_at, node_at}
 use Rattle.cert_text.proofs.RowChanges.{before_decides}
 use Rattle.cert_text.proofs.FormLaws.{IsForm, Anything, after-form, ended-form, both-form, form-as, image-form, mapped-form, passing-form, choice-form, ordinal-form, last_whole, spaced_whole, spaced_signed}
 
@@ -182,20 +182,87 @@ split-form size lawful =
     (λ p v e. let both = and_parts (nat_lt p.0 size.thermal) (nat_lt p.1 size.periods) e in (ltb-true p.0 size.thermal both.0, ltb-true p.1 size.periods both.1))
     (λ p w. ((omega (arith, lawful.thermal), omega (arith, lawful.periods)), and_from (nat_lt p.0 size.thermal) (nat_lt p.1 size.periods) (lt-ltb p.0 size.thermal w.0) (lt-ltb p.1 size.periods w.1)))
 
--- a node made of a number that is small enough, and one of a unit and a period
-abbrev IsMade : (ℕ → TreeNode) → ℕ → TreeNode → Type 0
-IsMade make count node = (n : ℕ) × (n < count) × (make n ≡ node)
+-- ---- leaves by exact values
+-- made of a number that is small enough
+abbrev IsMadeOf : {A : Type 0} → (ℕ → A) → ℕ → A → Type 0
+IsMadeOf make count a = (n : ℕ) × (n < count) × (make n ≡ a)
 
+-- what stands behind their first word
+abbrev exact_tail : Leaf → List ℕ
+exact_tail (Bound exact n) = codes " " ++ (whole_text (suc n) ++ codes "\n")
+exact_tail (Ray exact n) = codes "-ray " ++ (whole_text (suc n) ++ codes "\n")
+exact_tail (Empty exact g) = codes "-empty " ++ (whole_text (suc g) ++ codes "\n")
+
+abbrev IsExactWithin : Sizes → Leaf → Type 0
+IsExactWithin size leaf = (is_exact_leaf leaf ≡ true) × IsLeafWithin size.thermal size.tables leaf
+
+abbrev IsExactRayOrEmpty : Sizes → Leaf → Type 0
+IsExactRayOrEmpty size leaf = IsMadeOf (λ n. Ray true n) size.tables leaf ⊎ IsMadeOf (λ n. Empty true n) size.thermal leaf
+
+exact_leaf-form : (size : Sizes) → AreSizes size → IsForm (exact_leaf_at size) (IsExactWithin size) exact_tail Anything
+unfolding text_at
+exact_leaf-form size lawful =
+    let table = named-form size.tables (omega (arith, lawful.tables)) in
+    let unit = named-form size.thermal (omega (arith, lawful.thermal)) in
+    let empty = image-form (after-form unit (codes "-empty ")) (λ n. Empty true n) exact_tail (λ n v. refl) in
+    let ray = choice-form table (λ n. Ray true n) empty (codes "-ray ") (λ n v. refl) no_ray in
+    form-as (choice-form table (λ n. Bound true n) ray (codes " ") (λ n v. refl) no_bound) (IsExactWithin size) exact_tail within made (λ leaf v. refl)
+  where
+    no_ray : (leaf : Leaf) (rest : List ℕ) → IsMadeOf (λ n. Empty true n) size.thermal leaf → text_at (codes "-ray ") (exact_tail leaf ++ rest) ≡ None
+    no_ray leaf rest v = subst (λ (leaf : Leaf). text_at (codes "-ray ") (exact_tail leaf ++ rest) ≡ None) v.2 refl
+
+    no_bound : (leaf : Leaf) (rest : List ℕ) → IsExactRayOrEmpty size leaf → text_at (codes " ") (exact_tail leaf ++ rest) ≡ None
+    no_bound leaf rest (inl v) = subst (λ (leaf : Leaf). text_at (codes " ") (exact_tail leaf ++ rest) ≡ None) v.2 refl
+    no_bound leaf rest (inr v) = subst (λ (leaf : Leaf). text_at (codes " ") (exact_tail leaf ++ rest) ≡ None) v.2 refl
+
+    within : (leaf : Leaf) → IsMadeOf (λ n. Bound true n) size.tables leaf ⊎ IsExactRayOrEmpty size leaf → IsExactWithin size leaf
+    within leaf (inl v) = subst (IsExactWithin size) v.2 (refl, v.1)
+    within leaf (inr (inl v)) = subst (IsExactWithin size) v.2 (refl, v.1)
+    within leaf (inr (inr v)) = subst (IsExactWithin size) v.2 (refl, v.1)
+
+    made : (leaf : Leaf) → IsExactWithin size leaf → IsMadeOf (λ n. Bound true n) size.tables leaf ⊎ IsExactRayOrEmpty size leaf
+    made (Bound true n) w = inl (n, w.1, refl)
+    made (Ray true n) w = inr (inl (n, w.1, refl))
+    made (Empty true g) w = inr (inr (g, w.1, refl))
+    made (Bound false n) w = absurd (false≢true w.0)
+    made (Ray false n) w = absurd (false≢true w.0)
+    made (Empty false g) w = absurd (false≢true w.0)
+
+-- in the third version
+abbrev IsExactText : Sizes → Leaf → Type 0
+IsExactText size leaf = IsExactWithin size leaf × (size.version ≡ Third)
+
+is_third : (version : Version) → tells_exact version ≡ true → version ≡ Third
+is_third First e = absurd (false≢true e)
+is_third Second e = absurd (false≢true e)
+is_third Third e = refl
+
+exact-form : (size : Sizes) → AreSizes size → IsForm (exact_at size) (IsExactText size) exact_tail Anything
+unfolding exact_at
+exact-form size lawful =
+    passing-form (exact_leaf-form size lawful) (λ leaf. tells_exact size.version) (IsExactText size)
+    (λ leaf v e. (v, is_third size.version e)) (λ leaf w. (w.0, ap tells_exact w.1))
+
+-- ---- all nodes
 abbrev IsSplit : Sizes → TreeNode → Type 0
 IsSplit size node = (p : ℕ × ℕ) × ((p.0 < size.thermal) × (p.1 < size.periods)) × (SplitNode p.0 p.1 ≡ node)
 
 abbrev IsEmptyOrSplit : Sizes → TreeNode → Type 0
-IsEmptyOrSplit size node = IsMade (λ n. LeafNode (Empty false n)) size.thermal node ⊎ IsSplit size node
+IsEmptyOrSplit size node = IsMadeOf (λ n. LeafNode (Empty false n)) size.thermal node ⊎ IsSplit size node
 
 abbrev IsNoBound : Sizes → TreeNode → Type 0
-IsNoBound size node = IsMade (λ n. LeafNode (Ray false n)) size.tables node ⊎ IsEmptyOrSplit size node
+IsNoBound size node = IsMadeOf (λ n. LeafNode (Ray false n)) size.tables node ⊎ IsEmptyOrSplit size node
 
-pub node-form : (size : Sizes) → AreSizes size → IsForm (node_at size) (IsNodeWithin size.periods size.thermal size.tables) node_line Anything
+abbrev IsNotExact : Sizes → TreeNode → Type 0
+IsNotExact size node = IsMadeOf (λ n. LeafNode (Bound false n)) size.tables node ⊎ IsNoBound size node
+
+abbrev IsExactNode : Sizes → TreeNode → Type 0
+IsExactNode size node = (leaf : Leaf) × IsExactText size leaf × (LeafNode leaf ≡ node)
+
+abbrev IsNode : Sizes → TreeNode → Type 0
+IsNode size node = IsNodeText size.version size.periods size.thermal size.tables node
+
+pub node-form : (size : Sizes) → AreSizes size → IsForm (node_at size) (IsNode size) node_line Anything
 unfolding node_at line text_at
 node-form size lawful =
     let table = named-form size.tables (omega (arith, lawful.tables)) in
@@ -203,7 +270,8 @@ node-form size lawful =
     let split = image-form (after-form (split-form size lawful) (codes "split ")) (λ p. SplitNode p.0 p.1) node_line (λ p v. simp append_assoc) in
     let empty = choice-form unit (λ n. LeafNode (Empty false n)) split (codes "empty ") (λ n v. refl) no_empty in
     let ray = choice-form table (λ n. LeafNode (Ray false n)) empty (codes "ray ") (λ n v. refl) no_ray in
-    form-as (choice-form table (λ n. LeafNode (Bound false n)) ray (codes "bound ") (λ n v. refl) no_bound) (IsNodeWithin size.periods size.thermal size.tables) node_line within made (λ node v. refl)
+    let plain = choice-form table (λ n. LeafNode (Bound false n)) ray (codes "bound ") (λ n v. refl) no_bound in
+    form-as (choice-form (exact-form size lawful) (λ leaf. LeafNode leaf) plain (codes "exact") exact_line no_exact) (IsNode size) node_line within made (λ node v. refl)
   where
     no_empty : (node : TreeNode) (rest : List ℕ) → IsSplit size node → text_at (codes "empty ") (node_line node ++ rest) ≡ None
     no_empty node rest v = subst (λ (node : TreeNode). text_at (codes "empty ") (node_line node ++ rest) ≡ None) v.2 refl
@@ -217,17 +285,35 @@ node-form size lawful =
     no_bound node rest (inr (inl v)) = subst (λ (node : TreeNode). text_at (codes "bound ") (node_line node ++ rest) ≡ None) v.2 refl
     no_bound node rest (inr (inr v)) = subst (λ (node : TreeNode). text_at (codes "bound ") (node_line node ++ rest) ≡ None) v.2 refl
 
-    within : (node : TreeNode) → IsMade (λ n. LeafNode (Bound false n)) size.tables node ⊎ IsNoBound size node → IsNodeWithin size.periods size.thermal size.tables node
-    within node (inl v) = subst (IsNodeWithin size.periods size.thermal size.tables) v.2 v.1
-    within node (inr (inl v)) = subst (IsNodeWithin size.periods size.thermal size.tables) v.2 v.1
-    within node (inr (inr (inl v))) = subst (IsNodeWithin size.periods size.thermal size.tables) v.2 v.1
-    within node (inr (inr (inr v))) = subst (IsNodeWithin size.periods size.thermal size.tables) v.2 v.1
+    no_exact : (node : TreeNode) (rest : List ℕ) → IsNotExact size node → text_at (codes "exact") (node_line node ++ rest) ≡ None
+    no_exact node rest (inl v) = subst (λ (node : TreeNode). text_at (codes "exact") (node_line node ++ rest) ≡ None) v.2 refl
+    no_exact node rest (inr (inl v)) = subst (λ (node : TreeNode). text_at (codes "exact") (node_line node ++ rest) ≡ None) v.2 refl
+    no_exact node rest (inr (inr (inl v))) = subst (λ (node : TreeNode). text_at (codes "exact") (node_line node ++ rest) ≡ None) v.2 refl
+    no_exact node rest (inr (inr (inr v))) = subst (λ (node : TreeNode). text_at (codes "exact") (node_line node ++ rest) ≡ None) v.2 refl
 
-    made : (node : TreeNode) → IsNodeWithin size.periods size.thermal size.tables node → IsMade (λ n. LeafNode (Bound false n)) size.tables node ⊎ IsNoBound size node
-    made (LeafNode (Bound false n)) w = inl (n, w, refl)
-    made (LeafNode (Ray false n)) w = inr (inl (n, w, refl))
-    made (LeafNode (Empty false n)) w = inr (inr (inl (n, w, refl)))
-    made (LeafNode (Bound true n)) w = absurd w
-    made (LeafNode (Ray true n)) w = absurd w
-    made (LeafNode (Empty true n)) w = absurd w
-    made (SplitNode g t) w = inr (inr (inr ((g, t), w, refl)))
+    exact_line : (leaf : Leaf) → IsExactText size leaf → codes "exact" ++ exact_tail leaf ≡ node_line (LeafNode leaf)
+    exact_line (Bound true n) v = refl
+    exact_line (Ray true n) v = refl
+    exact_line (Empty true g) v = refl
+    exact_line (Bound false n) v = absurd (false≢true v.0.0)
+    exact_line (Ray false n) v = absurd (false≢true v.0.0)
+    exact_line (Empty false g) v = absurd (false≢true v.0.0)
+
+    plain_text : (node : TreeNode) → is_exact_node node ≡ false → IsNodeWithin size.periods size.thermal size.tables node → IsNode size node
+    plain_text node plain w = record { within = w; exact = λ e. absurd (false≢true (sym plain ∙ e)) }
+
+    within : (node : TreeNode) → IsExactNode size node ⊎ IsNotExact size node → IsNode size node
+    within node (inl v) = subst (IsNode size) v.2 (record { within = v.1.0.1; exact = λ e. v.1.1 })
+    within node (inr (inl v)) = subst (IsNode size) v.2 (plain_text (LeafNode (Bound false v.0)) refl v.1)
+    within node (inr (inr (inl v))) = subst (IsNode size) v.2 (plain_text (LeafNode (Ray false v.0)) refl v.1)
+    within node (inr (inr (inr (inl v)))) = subst (IsNode size) v.2 (plain_text (LeafNode (Empty false v.0)) refl v.1)
+    within node (inr (inr (inr (inr v)))) = subst (IsNode size) v.2 (plain_text (SplitNode v.0.0 v.0.1) refl v.1)
+
+    made : (node : TreeNode) → IsNode size node → IsExactNode size node ⊎ IsNotExact size node
+    made (LeafNode (Bound true n)) w = inl (Bound true n, ((refl, w.within), w.exact refl), refl)
+    made (LeafNode (Ray true n)) w = inl (Ray true n, ((refl, w.within), w.exact refl), refl)
+    made (LeafNode (Empty true g)) w = inl (Empty true g, ((refl, w.within), w.exact refl), refl)
+    made (LeafNode (Bound false n)) w = inr (inl (n, w.within, refl))
+    made (LeafNode (Ray false n)) w = inr (inr (inl (n, w.within, refl)))
+    made (LeafNode (Empty false g)) w = inr (inr (inr (inl (g, w.within, refl))))
+    made (SplitNode g t) w = inr (inr (inr (inr ((g, t), w.within, refl))))

@@ -2,6 +2,7 @@
 -- format.
 -- Units, periods and tables count from 0 here, and from 1 in the text.
 use Rattle.std.specs.Prelude.{ℕ, suc, ◌<◌, nat_lt, Bool, true, false, ◌||◌, List, [], ◌∷◌, ◌++◌, codes, ℤ, Option, Some, None, length, map, if◌then◌else◌}
+use Rattle.std.specs.List.{list_any}
 use Rattle.uc_model.specs.Decimal.{whole_text, signed_text}
 use Rattle.uc_model.specs.Money.{money_text}
 pub use Rattle.uc_model.specs.declared.schedule.Cell.{Cell}
@@ -14,7 +15,7 @@ pub use Rattle.dual_model.specs.declared.table.RampRow.{RampRow}
 use Rattle.outside.specs.Lines.{line, joined, list_line}
 use Rattle.cert_text.specs.Changes.{Change, OfDemand, OfReserve, OfRamps, table_changes}
 pub use Rattle.cert_text.specs.declared.cert.Version.{Version}
-pub use Rattle.cert_text.specs.declared.cert.Version.TheVariants.{First, Second}
+pub use Rattle.cert_text.specs.declared.cert.Version.TheVariants.{First, Second, Third}
 
 -- ---- the tree, as the list of its nodes in preorder, a line for each
 -- a leaf, or a split on a unit and a period
@@ -27,24 +28,24 @@ abbrev pub preorder : Tree Leaf → List TreeNode
 preorder (Ends leaf) = LeafNode leaf ∷ []
 preorder (Splits g t off on) = SplitNode g t ∷ (preorder off ++ preorder on)
 
--- a leaf is told without its kind, since this version of the format has leaves by V alone
+-- a leaf by V, or by the exact value VE, names its table or its unit
 abbrev pub leaf_line : Leaf → List ℕ
-leaf_line (Bound exact number) = line (codes "bound") (whole_text (suc number) ∷ [])
-leaf_line (Ray exact number) = line (codes "ray") (whole_text (suc number) ∷ [])
-leaf_line (Empty exact g) = line (codes "empty") (whole_text (suc g) ∷ [])
+leaf_line (Bound false number) = line (codes "bound") (whole_text (suc number) ∷ [])
+leaf_line (Ray false number) = line (codes "ray") (whole_text (suc number) ∷ [])
+leaf_line (Empty false g) = line (codes "empty") (whole_text (suc g) ∷ [])
+leaf_line (Bound true number) = line (codes "exact") (whole_text (suc number) ∷ [])
+leaf_line (Ray true number) = line (codes "exact-ray") (whole_text (suc number) ∷ [])
+leaf_line (Empty true g) = line (codes "exact-empty") (whole_text (suc g) ∷ [])
 
 abbrev pub node_line : TreeNode → List ℕ
 node_line (LeafNode leaf) = leaf_line leaf
 node_line (SplitNode g t) = line (codes "split") (whole_text (suc g) ∷ whole_text (suc t) ∷ [])
 
--- a leaf names a table, or a thermal unit, that there is, and claims by V
+-- a leaf names a table, or a thermal unit, that there is
 abbrev pub IsLeafWithin : ℕ → ℕ → Leaf → Type 0
-IsLeafWithin thermal tables (Bound false number) = number < tables
-IsLeafWithin thermal tables (Ray false number) = number < tables
-IsLeafWithin thermal tables (Empty false g) = g < thermal
-IsLeafWithin thermal tables (Bound true number) = ⊥
-IsLeafWithin thermal tables (Ray true number) = ⊥
-IsLeafWithin thermal tables (Empty true g) = ⊥
+IsLeafWithin thermal tables (Bound exact number) = number < tables
+IsLeafWithin thermal tables (Ray exact number) = number < tables
+IsLeafWithin thermal tables (Empty exact g) = g < thermal
 
 -- and a split a thermal unit and a period
 abbrev pub IsNodeWithin : ℕ → ℕ → ℕ → TreeNode → Type 0
@@ -78,11 +79,22 @@ listing_of c = record {
   nodes = preorder c.tree;
 }
 
--- the versions of the format: in the first each table is told whole, in the second each but the first one by its difference to the
--- one before it
+-- the versions of the format: in the first each table is told whole, in the others each but the first one by its difference to the
+-- one before it; and leaves by exact values stand in the third alone
 abbrev pub version_number : Version → ℕ
 version_number First = 1
 version_number Second = 2
+version_number Third = 3
+
+-- the leaf claims by exact values
+abbrev pub is_exact_leaf : Leaf → Bool
+is_exact_leaf (Bound exact number) = exact
+is_exact_leaf (Ray exact number) = exact
+is_exact_leaf (Empty exact g) = exact
+
+abbrev pub is_exact_node : TreeNode → Bool
+is_exact_node (LeafNode leaf) = is_exact_leaf leaf
+is_exact_node (SplitNode g t) = false
 
 abbrev pub version_line : Version → List ℕ
 version_line version = line (codes "uc-certificate") (whole_text (version_number version) ∷ [])
@@ -180,6 +192,7 @@ next_lines k changes = next_line k (length changes) ∷ map change_line changes
 abbrev pub told_from : Version → Option Table → Option Table
 told_from First before = None
 told_from Second before = before
+told_from Third before = before
 
 abbrev pub told_lines : Option Table → Table → List (List ℕ)
 told_lines None table = table_lines table
@@ -202,3 +215,11 @@ certificate_lines version c =
 -- the text is these lines one after another
 unfoldable pub certificate_text : Version → Certificate → List ℕ
 certificate_text version c = joined (certificate_lines version (listing_of c))
+
+-- the version in which a certificate is written: the third exactly where a leaf claims by exact values, and else the second
+abbrev pub written_version : Listing → Version
+written_version c = if list_any is_exact_node c.nodes then Third else Second
+
+-- and its text
+abbrev pub written_text : Certificate → List ℕ
+written_text c = certificate_text (written_version (listing_of c)) c

@@ -10,8 +10,8 @@ use Rattle.dual_model.specs.Prices.{IsRowBefore, IsRowWithin, pi_at, mu_at, up_a
 pub use Rattle.dual_model.specs.declared.table.RampRow.{RampRow}
 use Rattle.outside.specs.Lines.{line, joined}
 use Rattle.cert_text.specs.Changes.{Table, Change, OfDemand, OfReserve, OfRamps, changed}
-use Rattle.cert_text.specs.CertificateText.{Version, TreeNode, LeafNode, SplitNode, node_line, IsNodeWithin, version_line, size_line, claim_line, has_price, penalty_line, cost_line, no_schedule_line, thermal_line, renewable_line, shed_line, short_line, scale_line, prices_line, ramp_line, next_line, change_line, told_from, end_line}
-use Rattle.cert_text.specs.TextConditions.{HasDigits, IsMoney, ArePenalties, IsThermalRow, IsPowerRow, IsRampText}
+use Rattle.cert_text.specs.CertificateText.{Version, TreeNode, LeafNode, SplitNode, node_line, version_line, size_line, claim_line, has_price, penalty_line, cost_line, no_schedule_line, thermal_line, renewable_line, shed_line, short_line, scale_line, prices_line, ramp_line, next_line, change_line, told_from, end_line}
+use Rattle.cert_text.specs.TextConditions.{HasDigits, IsMoney, ArePenalties, IsThermalRow, IsPowerRow, IsRampText, IsNodeText}
 use Rattle.cert_text.specs.declared.cert.CertFault.{CertFault}
 use Rattle.cert_text.specs.declared.cert.CertFault.TheVariants as faults
 pub use Rattle.cert_text.specs.declared.cert.CertKind.{CertKind}
@@ -225,7 +225,7 @@ Produces (Update ahead table more last) text next =
     (change : Change) × IsChangeAfter ahead.size table last change × (text ≡ change_line change)
     × (next ≡ changes_from ahead (changed table change) more (Some change))
 Produces (Node size) text next =
-    (node : TreeNode) × IsNodeWithin size.periods size.thermal size.tables node × (text ≡ node_line node) × (next ≡ children size node)
+    (node : TreeNode) × IsNodeText size.version size.periods size.thermal size.tables node × (text ≡ node_line node) × (next ≡ children size node)
 Produces End text next = (text ≡ end_line) × (next ≡ [])
 
 -- where lines of these kinds are to come, these lines may stand, and then lines of those kinds are to come

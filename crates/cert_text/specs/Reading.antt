@@ -1,5 +1,5 @@
 -- What a certificate that was read says: the listing that it stands for. This project's own format.
-use Rattle.std.specs.Prelude.{◌≡◌, ℕ, false, List, map}
+use Rattle.std.specs.Prelude.{◌≡◌, ℕ, true, false, List, map}
 use Rattle.dual_model.specs.Certificate.{Certificate}
 use Rattle.dual_model.specs.Cover.{Bound, Ray, Empty}
 use Rattle.branch_tree.specs.Claims.{written_of}
@@ -14,6 +14,9 @@ node_of (nodes.Split g t) = SplitNode g t
 node_of (nodes.Bound table) = LeafNode (Bound false table)
 node_of (nodes.Ray table) = LeafNode (Ray false table)
 node_of (nodes.Empty g) = LeafNode (Empty false g)
+node_of (nodes.Exact table) = LeafNode (Bound true table)
+node_of (nodes.ExactRay table) = LeafNode (Ray true table)
+node_of (nodes.ExactEmpty g) = LeafNode (Empty true g)
 
 abbrev pub listing_read : Cert → Listing
 listing_read cert = record {
@@ -33,5 +36,5 @@ pub record IsTextOf (bytes : List ℕ) (cert : Cert) : Type 0 where
   pub version : Version
   pub certificate : Certificate
   pub listed : listing_of certificate ≡ listing_read cert
-  pub conditions : HasText (listing_of certificate)
+  pub conditions : HasText version (listing_of certificate)
   pub text : bytes ≡ certificate_text version certificate

@@ -3,11 +3,11 @@
 use Rattle.std.specs.Prelude.{◌≡◌, ℕ, ◌^◌, ◌<◌, ◌≤◌, Bool, true, false, List, ℤ, pos, unsigned_abs, IfSome, All, length}
 pub use Rattle.uc_model.specs.declared.schedule.Cell.{Cell}
 use Rattle.uc_model.specs.PrintedSchedule.{LacksNothing}
-use Rattle.dual_model.specs.Certificate.{WrittenSchedule}
+use Rattle.dual_model.specs.Certificate.{Certificate, WrittenSchedule}
 use Rattle.dual_model.specs.Prices.{IsWellFormed}
 pub use Rattle.dual_model.specs.declared.table.Table.{Table}
 pub use Rattle.dual_model.specs.declared.table.RampRow.{RampRow}
-use Rattle.cert_text.specs.CertificateText.{Printed, IsNodeWithin, Listing, has_price}
+use Rattle.cert_text.specs.CertificateText.{Version, Third, Printed, TreeNode, is_exact_node, IsNodeWithin, Listing, has_price, listing_of, written_version}
 
 -- a number of at most so many digits, whatever its sign
 abbrev pub HasDigits : ℕ → ℤ → Type 0
@@ -83,8 +83,13 @@ pub record ArePenalties (a b : ℕ) : Type 0 where
   pub shed : a ≤ 1000000
   pub short : b ≤ 1000000
 
--- the listed certificate has a text of the grammar
-pub record HasText (c : Listing) : Type 0 where
+-- a node names what there is, and where it claims by exact values the version is the third
+pub record IsNodeText (version : Version) (periods thermal tables : ℕ) (node : TreeNode) : Type 0 where
+  pub within : IsNodeWithin periods thermal tables node
+  pub exact : is_exact_node node ≡ true → version ≡ Third
+
+-- the listed certificate has a text of the grammar in this version
+pub record HasText (version : Version) (c : Listing) : Type 0 where
   pub some_period : 1 ≤ c.periods
   pub periods : c.periods ≤ 168
   pub thermal : c.thermal ≤ 4096
@@ -94,4 +99,8 @@ pub record HasText (c : Listing) : Type 0 where
   pub penalties : ArePenalties c.a c.b
   pub schedule : IfSome c.schedule (IsScheduleText (has_price c.a c.b) c.periods c.thermal c.renewable)
   pub tables : All (IsTableText c.periods c.thermal) c.tables
-  pub nodes : All (IsNodeWithin c.periods c.thermal (length c.tables)) c.nodes
+  pub nodes : All (IsNodeText version c.periods c.thermal (length c.tables)) c.nodes
+
+-- the certificate has one in the version in which it is written
+abbrev pub HasWrittenText : Certificate → Type 0
+HasWrittenText c = HasText (written_version (listing_of c)) (listing_of c)

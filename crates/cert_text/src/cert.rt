@@ -9,12 +9,18 @@ pub enum CertNode {
     /// A split on thermal unit `g` in period `t`: the nodes of the child with the unit off follow, then those of the
     /// child with it on.
     Split { g: u32, t: u32 },
-    /// A leaf with a bound at the table of this number.
+    /// A leaf with a bound by V at the table of this number.
     Bound(u32),
-    /// A leaf that the ray of this number excludes.
+    /// A leaf that the ray of this number excludes by V.
     Ray(u32),
     /// A leaf at which the thermal unit of this number has no pattern.
     Empty(u32),
+    /// A leaf with a bound by VE at the table of this number.
+    Exact(u32),
+    /// A leaf that the ray of this number excludes by VE.
+    ExactRay(u32),
+    /// A leaf at which the thermal unit of this number has no schedule of its own.
+    ExactEmpty(u32),
 }
 
 /// A certificate: the numbers of periods, thermal and renewable units; the prices of unserved demand and of missing
@@ -34,12 +40,13 @@ pub struct Cert {
     pub tree: List<CertNode>,
 }
 
-/// A version of the format. In the first one each table is told whole, in the second each but the first one by its difference to the
-/// one before it.
+/// A version of the format. In the first one each table is told whole, in the others each but the first one by its difference to the
+/// one before it; and leaves by exact values stand in the third alone.
 #[derive(Clone, Copy, Debug, PartialEq, Eq)]
 pub enum Version {
     First,
     Second,
+    Third,
 }
 
 /// What is wrong with a line.

@@ -1,17 +1,17 @@
-//! A whole certificate, in the second version of the format.
+//! A whole certificate, in the version of the format in which it is written.
 
-ghost use Rattle.std.specs.Prelude.{◌≡◌, OnOk, OnErr};
+ghost use Rattle.std.specs.Prelude.{◌≡◌, OnOk, OnErr, if◌then◌else◌};
 ghost use Rattle.outside.specs.Sinks.{WriterWrites, WritesFront};
 ghost use Rattle.dual_model.specs.Certificate.{Certificate};
 ghost use Rattle.branch_tree.specs.Claims.{HasLayout, certificate_of};
-ghost use Rattle.cert_text.specs.CertificateText.{Second, size_line, claim_line, listing_of, certificate_text};
+ghost use Rattle.cert_text.specs.CertificateText.{Second, Third, version_line, size_line, claim_line, listing_of, written_text};
 ghost use Rattle.cert_text.specs.Reading.{listing_read};
 ghost use Rattle.cert_text.specs.inside.WrittenParts.{heading_part, found_text, read_text};
 
 use crate::cert::Cert;
 use crate::schedule::{has_price, put_penalty, put_read_schedule, put_schedule};
 use crate::tables::{put_numbered, put_tables};
-use crate::tree::{put_nodes, put_read_nodes};
+use crate::tree::{has_exact_leaf, has_exact_read, put_nodes, put_read_nodes};
 use branch_tree::Found;
 use outside::{Failed, Latch, Lent, Out, Writer, put_count, put_money_line, put_whole_line};
 use uc_model::Instance;
@@ -37,6 +37,13 @@ fn put_claim<O: Out>(out: &mut O, bound: &Option<i128>)
     }
 }
 
+// The line of the version: the third where a leaf of the tree claims by exact values, else the second.
+fn put_version<O: Out>(out: &mut O, has_exact: bool)
+    ensures { O.emits (version_line (if has_exact then Third else Second)) out.old out.new }
+{
+    put_whole_line(out, b"uc-certificate", if has_exact { 3 } else { 2 });
+}
+
 fn put_heading<O: Out>(out: &mut O, found: &Found, instance: &Instance)
     requires { HasLayout found.now }
     ensures { O.emits (heading_part (listing_of (certificate_of instance.now found.now))) out.old out.new }
@@ -44,18 +51,19 @@ fn put_heading<O: Out>(out: &mut O, found: &Found, instance: &Instance)
     let thermal = instance.thermal.as_slice().len();
     let renewable = instance.renewable.as_slice().len();
     let tables = found.layout.tables.as_slice().len();
-    put_whole_line(out, b"uc-certificate", 2);
+    put_version(out, has_exact_leaf(&found.tree, &found.layout));
     put_size(out, instance.periods, thermal, renewable, tables);
     put_claim(out, &found.tree.bound());
 }
 
+#[tactic(auto, using(crate::proofs::Parts::exact_mapped))]
 fn put_read_heading<O: Out>(out: &mut O, cert: &Cert)
     ensures { O.emits (heading_part (listing_read cert.now)) out.old out.new }
 {
     let thermal = cert.thermal as usize;
     let renewable = cert.renewable as usize;
     let tables = cert.tables.as_slice().len();
-    put_whole_line(out, b"uc-certificate", 2);
+    put_version(out, has_exact_read(cert.tree.as_slice()));
     put_size(out, cert.periods, thermal, renewable, tables);
     put_claim(out, &cert.bound);
 }
@@ -85,15 +93,15 @@ fn put_read<O: Out>(out: &mut O, cert: &Cert)
     out.put(b"end\n");
 }
 
-/// Writes the certificate of what was found for the instance, in the second version. It takes no memory. A tree with leaves by exact
-/// values has no text of the grammar, whose leaves are by V alone.
+/// Writes the certificate of what was found for the instance: in the third version where a leaf of its tree claims by exact values,
+/// else in the second. It takes no memory.
 ///
 /// `Failed` comes only where the writer's count of faults rose, and a front of the text is written then.
 #[tactic(auto, using(crate::proofs::Parts::found_is_text))]
 pub fn write<W: Writer>(found: &Found, instance: &Instance, out: &mut W) -> Result<(), Failed>
     requires { HasLayout found.now }
-    ensures ok { OnOk result (WriterWrites (certificate_text Second (certificate_of instance.now found.now)) (W.state out.old) (W.state out.new)) }
-    ensures failed { OnErr result (WritesFront (certificate_text Second (certificate_of instance.now found.now)) (W.state out.old) (W.state out.new)) }
+    ensures ok { OnOk result (WriterWrites (written_text (certificate_of instance.now found.now)) (W.state out.old) (W.state out.new)) }
+    ensures failed { OnErr result (WritesFront (written_text (certificate_of instance.now found.now)) (W.state out.old) (W.state out.new)) }
     ensures rest { W.same_else out.old out.new }
 {
     let mut latch = Latch::new(Lent::new(out));
@@ -101,15 +109,15 @@ pub fn write<W: Writer>(found: &Found, instance: &Instance, out: &mut W) -> Resu
     latch.outcome()
 }
 
-/// Writes a certificate that was read, in the second version, whichever the one was in which it was read. It takes no memory.
+/// Writes a certificate that was read, in the version in which `write` writes such a one, whichever it was read in. It takes no memory.
 ///
 /// `Failed` comes only where the writer's count of faults rose, and a front of the text is written then.
 #[tactic(auto, using(crate::proofs::Parts::read_is_text))]
 pub fn write_cert<W: Writer>(cert: &Cert, out: &mut W) -> Result<(), Failed>
     ensures ok { (c : Certificate) → listing_of c ≡ listing_read cert.now
-        → OnOk result (WriterWrites (certificate_text Second c) (W.state out.old) (W.state out.new)) }
+        → OnOk result (WriterWrites (written_text c) (W.state out.old) (W.state out.new)) }
     ensures failed { (c : Certificate) → listing_of c ≡ listing_read cert.now
-        → OnErr result (WritesFront (certificate_text Second c) (W.state out.old) (W.state out.new)) }
+        → OnErr result (WritesFront (written_text c) (W.state out.old) (W.state out.new)) }
     ensures rest { W.same_else out.old out.new }
 {
     let mut latch = Latch::new(Lent::new(out));

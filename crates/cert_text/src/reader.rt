@@ -27,7 +27,7 @@ use std::alloc::Global;
 use stop::Stop;
 use whole::take_certificate;
 
-/// Reads a certificate's text in either version of the format, which is all of the bytes.
+/// Reads a certificate's text in any version of the format, which is all of the bytes.
 ///
 /// `At` tells the first line, from 1, that may not stand where it does (`Form`), whose line feed isn't there
 /// (`Cut`), or that follows the last one (`Tail`). `NoMemory` comes only where memory is refused.
@@ -35,7 +35,7 @@ pub fn read(alloc: Global, bytes: &[u8]) -> Result<Cert, CertFault>
     // What is read is what the bytes are the text of, in some version.
     ensures text { IfOk result (IsTextOf bytes.now) }
     // Each certificate's text is read, in whichever version.
-    ensures read { (version : Version) (c : Certificate) → HasText (listing_of c) → bytes.now ≡ certificate_text version c
+    ensures read { (version : Version) (c : Certificate) → HasText version (listing_of c) → bytes.now ≡ certificate_text version c
         → MatchResult result (λ cert. listing_read cert ≡ listing_of c) (λ e. e ≡ CertFault.NoMemory) }
     // Which line is at fault.
     ensures fault { IfErr result (IsFaultOf bytes.now) }

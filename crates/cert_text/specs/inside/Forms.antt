@@ -5,10 +5,10 @@ use Rattle.std.specs.List.{starts_with, prefix_len}
 use Rattle.std.specs.Str.Parse.{digits_value}
 use Rattle.std.specs.Char.{digit_value}
 use Rattle.std.specs.Ordering.{int_eq}
-use Rattle.dual_model.specs.Cover.{Bound, Ray, Empty}
+use Rattle.dual_model.specs.Cover.{Leaf, Bound, Ray, Empty}
 use Rattle.dual_model.specs.Prices.{pi_at, mu_at, up_at, down_at}
 use Rattle.cert_text.specs.Changes.{Table, Change, OfDemand, OfReserve, OfRamps, is_before}
-use Rattle.cert_text.specs.CertificateText.{Version, First, Second, TreeNode, LeafNode, SplitNode, has_price}
+use Rattle.cert_text.specs.CertificateText.{Version, First, Second, Third, TreeNode, LeafNode, SplitNode, has_price}
 use Rattle.cert_text.specs.Grammar.{Cell, RampRow, Sizes, PlanLine, Priced, Unpriced}
 
 infixl 10 ◌>>=◌
@@ -118,7 +118,9 @@ ordinal_at = mapped (λ n. n - 1) (passing (λ n. nat_lt 0 n) (whole_at 18))
 -- ---- Reading one line of a certificate.
 -- ---- the heading
 unfoldable pub version_at : Form Version
-version_at bytes = when (text_at (codes "uc-certificate 1\n") bytes) (λ rest. Some (First, rest)) (fixed (codes "uc-certificate 2\n") Second bytes)
+version_at bytes =
+    when (text_at (codes "uc-certificate 1\n") bytes) (λ rest. Some (First, rest))
+    (when (text_at (codes "uc-certificate 2\n") bytes) (λ rest. Some (Second, rest)) (fixed (codes "uc-certificate 3\n") Third bytes))
 
 abbrev pub sizes_of : Version → ℕ × (ℕ × (ℕ × ℕ)) → Sizes
 sizes_of version p = record { version = version; periods = p.0; thermal = p.1.0; renewable = p.1.1.0; tables = p.1.1.1 }
@@ -257,12 +259,29 @@ unfoldable pub split_at : Sizes → Form (ℕ × ℕ)
 split_at size =
     passing (λ p. nat_lt p.0 size.thermal && nat_lt p.1 size.periods) (both (ended ordinal_at (codes " ")) (ended ordinal_at (codes "\n")))
 
+-- leaves by exact values stand in the third version alone
+abbrev pub tells_exact : Version → Bool
+tells_exact First = false
+tells_exact Second = false
+tells_exact Third = true
+
+-- one of them behind its first word, `exact`
+abbrev pub exact_leaf_at : Sizes → Form Leaf
+exact_leaf_at size bytes =
+    when (text_at (codes " ") bytes) (mapped (λ n. Bound true n) (named_at size.tables))
+    (when (text_at (codes "-ray ") bytes) (mapped (λ n. Ray true n) (named_at size.tables))
+    (mapped (λ n. Empty true n) (after (codes "-empty ") (named_at size.thermal)) bytes))
+
+unfoldable pub exact_at : Sizes → Form Leaf
+exact_at size = passing (λ leaf. tells_exact size.version) (exact_leaf_at size)
+
 unfoldable pub node_at : Sizes → Form TreeNode
 node_at size bytes =
-    when (text_at (codes "bound ") bytes) (mapped (λ n. LeafNode (Bound false n)) (named_at size.tables))
+    when (text_at (codes "exact") bytes) (mapped (λ leaf. LeafNode leaf) (exact_at size))
+    (when (text_at (codes "bound ") bytes) (mapped (λ n. LeafNode (Bound false n)) (named_at size.tables))
     (when (text_at (codes "ray ") bytes) (mapped (λ n. LeafNode (Ray false n)) (named_at size.tables))
     (when (text_at (codes "empty ") bytes) (mapped (λ n. LeafNode (Empty false n)) (named_at size.thermal))
-    (mapped (λ p. SplitNode p.0 p.1) (after (codes "split ") (split_at size)) bytes)))
+    (mapped (λ p. SplitNode p.0 p.1) (after (codes "split ") (split_at size)) bytes))))
 
 unfoldable pub end_at : Form (Unit {0})
 end_at = fixed (codes "end\n") tt

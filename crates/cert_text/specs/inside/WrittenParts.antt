@@ -1,4 +1,4 @@
--- The text of a certificate, in the second version of the format, in the parts in which it is written.
+-- The text of a certificate, in the version in which it is written, in the parts in which it is.
 use Rattle.std.specs.Prelude.{◌≡◌, ℕ, ◌+◌, ◌<◌, Bool, true, false, List, [], ◌∷◌, ◌++◌, ℤ, Option, Some, None, MatchOption, option_to_list, length, flat_map, codes, if◌then◌else◌}
 use Rattle.std.specs.Ordering.{int_eq}
 pub use Rattle.uc_model.specs.declared.instance.Instance.{Instance}
@@ -13,7 +13,7 @@ use Rattle.branch_tree.specs.declared.tree.Spot.TheVariants as spot
 use Rattle.branch_tree.specs.declared.tree.Tree.{Tree}
 use Rattle.outside.specs.Lines.{joined}
 use Rattle.cert_text.specs.Changes.{Change, OfDemand, OfReserve, OfRamps, price_changes, row_changes, table_changes}
-use Rattle.cert_text.specs.CertificateText.{Second, TreeNode, LeafNode, SplitNode, Listing, listing_of, preorder, node_line, Table, RampRow, Printed, version_line, size_line, claim_line, has_price, penalty_line, shed_line, short_line, cost_line, no_schedule_line, thermal_line, renewable_line, scale_line, prices_line, ramps_line, ramp_line, next_line, change_line, end_line}
+use Rattle.cert_text.specs.CertificateText.{TreeNode, LeafNode, SplitNode, Listing, listing_of, preorder, node_line, written_version, Table, RampRow, Printed, version_line, size_line, claim_line, has_price, penalty_line, shed_line, short_line, cost_line, no_schedule_line, thermal_line, renewable_line, scale_line, prices_line, ramps_line, ramp_line, next_line, change_line, end_line}
 use Rattle.cert_text.specs.Reading.{listing_read}
 pub use Rattle.cert_text.specs.declared.cert.Cert.{Cert}
 pub use Rattle.cert_text.specs.declared.changes.Prices.{Prices}
@@ -86,13 +86,16 @@ spot_node used (spot.Inner g t off on) = SplitNode g t
 spot_node used (spot.Leaf leaf) = LeafNode (leaf_claim used leaf)
 
 -- the tree's nodes in preorder, where its tables are those used
+abbrev pub tree_nodes : Tree → List TreeNode
+tree_nodes tree = preorder (map_leaves (leaf_claim (used_tables (tree_of tree))) (tree_of tree))
+
 abbrev pub tree_part : Tree → List ℕ
-tree_part tree = flat_map node_line (preorder (map_leaves (leaf_claim (used_tables (tree_of tree))) (tree_of tree)))
+tree_part tree = flat_map node_line (tree_nodes tree)
 
 -- ---- the whole
 abbrev pub heading_part : Listing → List ℕ
 heading_part c =
-    joined (version_line Second ∷ size_line c.periods c.thermal c.renewable (length c.tables) ∷ claim_line c.bound ∷ [])
+    joined (version_line (written_version c) ∷ size_line c.periods c.thermal c.renewable (length c.tables) ∷ claim_line c.bound ∷ [])
 
 unfoldable pub certificate_parts : Listing → List ℕ
 certificate_parts c =

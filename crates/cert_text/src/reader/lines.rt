@@ -2,7 +2,7 @@
 
 ghost use Rattle.std.specs.Prelude.{◌≡◌, ◌<◌, IfSome, codes};
 ghost use Rattle.cert_text.specs.CertificateText.{LeafNode, SplitNode};
-ghost use Rattle.cert_text.specs.inside.Forms.{Gives, after, ended, whole_at, money_at, claim_at, penalty_at, schedule_at, plan_at, on_cell_at, cell_at, row_numbers_at, ramp_at, rises, is_ramp, named_at, split_at, node_at};
+ghost use Rattle.cert_text.specs.inside.Forms.{Gives, mapped, after, ended, whole_at, money_at, claim_at, penalty_at, schedule_at, plan_at, on_cell_at, cell_at, row_numbers_at, ramp_at, rises, is_ramp, named_at, split_at, exact_at, node_at, tells_exact};
 ghost use Rattle.cert_text.specs.inside.Parts.{sizes, first_of};
 ghost use Rattle.cert_text.specs.Reading.{node_of};
 
@@ -11,7 +11,7 @@ use super::numbers::{
     take_text,
 };
 use super::sizes::Size;
-use crate::cert::CertNode;
+use crate::cert::{CertNode, Version};
 use crate::rows::is_before;
 use dual_model::RampRow;
 use uc_model::Cell;
@@ -191,11 +191,42 @@ fn take_split<'a>(bytes: &'a [u8], size: &Size) -> Option<((u32, u32), &'a [u8])
     Some(((below(g, size.thermal)?, below(t, size.periods)?), rest))
 }
 
+// Whether leaves by exact values stand in that version.
+fn tells_exact(version: Version) -> bool
+    ensures { result ≡ tells_exact version }
+{
+    version == Version::Third
+}
+
+// A leaf by exact values, behind its first word.
+#[tactic(auto, unfolding(crate::specs::inside::Forms::exact_at))]
+fn take_exact<'a>(bytes: &'a [u8], size: &Size) -> Option<(CertNode, &'a [u8])>
+    ensures { Gives (λ r. (node_of r.0, r.1.now)) result (mapped (λ leaf. LeafNode leaf) (exact_at (sizes size.now)) bytes.now) }
+{
+    if !tells_exact(size.version) {
+        return None;
+    }
+    if let Some(rest) = take_text(bytes, b" ") {
+        let (table, rest) = take_named(rest, size.tables)?;
+        return Some((CertNode::Exact(table), rest));
+    }
+    if let Some(rest) = take_text(bytes, b"-ray ") {
+        let (table, rest) = take_named(rest, size.tables)?;
+        return Some((CertNode::ExactRay(table), rest));
+    }
+    let rest = take_text(bytes, b"-empty ")?;
+    let (g, rest) = take_named(rest, size.thermal)?;
+    Some((CertNode::ExactEmpty(g), rest))
+}
+
 /// A node of the tree.
 #[tactic(auto, unfolding(crate::specs::inside::Forms::node_at))]
 pub(crate) fn take_node<'a>(bytes: &'a [u8], size: &Size) -> Option<(CertNode, &'a [u8])>
     ensures { Gives (λ r. (node_of r.0, r.1.now)) result (node_at (sizes size.now) bytes.now) }
 {
+    if let Some(rest) = take_text(bytes, b"exact") {
+        return take_exact(rest, size);
+    }
     if let Some(rest) = take_text(bytes, b"bound ") {
         let (table, rest) = take_named(rest, size.tables)?;
         return Some((CertNode::Bound(table), rest));

@@ -32,7 +32,10 @@ pub(crate) fn take_version(bytes: &[u8]) -> Option<(Version, &[u8])>
     if let Some(rest) = take_text(bytes, b"uc-certificate 1\n") {
         return Some((Version::First, rest));
     }
-    Some(Version::Second).zip(take_text(bytes, b"uc-certificate 2\n"))
+    if let Some(rest) = take_text(bytes, b"uc-certificate 2\n") {
+        return Some((Version::Second, rest));
+    }
+    Some(Version::Third).zip(take_text(bytes, b"uc-certificate 3\n"))
 }
 
 // The size of these numbers, where each is one that a certificate may have.

@@ -107,13 +107,13 @@ fn take_next<'a>(
     Ok((table, rest))
 }
 
-// The table of which the next one tells its difference: the last one, in the second version.
+// The table of which the next one tells its difference: the last one, but in the first version.
 fn told_from(version: Version, tables: &[Table]) -> Option<&Table>
     ensures { option_copied result ≡ told_from version (last_table tables.now) }
 {
     match version {
         Version::First => None,
-        Version::Second => tables.last(),
+        Version::Second | Version::Third => tables.last(),
     }
 }
 
