@@ -46,8 +46,8 @@ impl ExactRoom {
         })
     }
 
-    // The exact value of thermal unit g, from 0, by what is decided of it.
-    fn unit_value(
+    /// The exact value of thermal unit `g`, from 0, by what is decided of it; `None` exactly where it has no schedule of its own.
+    pub(crate) fn unit_value(
         &mut self,
         instance: &Instance,
         table: &Table,

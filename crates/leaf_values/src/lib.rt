@@ -14,6 +14,7 @@ mod fixes;
 mod loading;
 mod node_value;
 mod units;
+mod unscheduled;
 
 pub use empty::is_empty;
 pub use entries::{TableEntries, UnitEntry};
@@ -21,3 +22,4 @@ pub use exact::{ExactRoom, exact_value};
 pub use fixes::{fill_fixes, undecided};
 pub use loading::load;
 pub use node_value::value;
+pub use unscheduled::is_unscheduled;
