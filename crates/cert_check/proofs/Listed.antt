@@ -33,8 +33,8 @@ use Rattle.cert_check.proofs.TextFacts.{lawful-table}
 abbrev Listed : Certificate → Cert → Type 0
 Listed c cert = listing_of c ≡ listing_read cert
 
-pub text-of : (c : Certificate) (cert : Cert) → Listed c cert → IsRead cert → HasText (listing_of c)
-text-of c cert e read = subst HasText (read.listed ∙ sym e) read.conditions
+pub text-of : (c : Certificate) (cert : Cert) → Listed c cert → (read : IsRead cert) → HasText read.version (listing_of c)
+text-of c cert e read = subst (HasText read.version) (read.listed ∙ sym e) read.conditions
 
 -- ---- size, prices, tables
 pub size-from : (instance : Instance) (c : Certificate) (cert : Cert) → Listed c cert → FitsInstance instance cert → HasSize instance c
@@ -136,7 +136,7 @@ visits-is c cert e =
     ∙ walk-preorder root c.tree [] [] ∙ append-nil (visits root c.tree)
 
 pub within-of : (c : Certificate) (cert : Cert) → Listed c cert → IsRead cert → All (IsNodeWithin c.periods c.thermal (length c.tables)) (preorder c.tree)
-within-of c cert e read = (text-of c cert e read).nodes
+within-of c cert e read = λ k d within. ((text-of c cert e read).nodes k d within).within
 
 -- what the walk over the nodes wants
 pub checkable : (instance : Instance) (cert : Cert) → IsRead cert → FitsInstance instance cert → All HasLawfulNumbers cert.tables → AreCheckable instance cert

@@ -6,16 +6,18 @@ use Rattle.cert_text.specs.CertificateText.{listing_of}
 use Rattle.cert_text.specs.TextConditions.{HasText}
 use Rattle.cert_text.specs.Reading.{listing_read}
 pub use Rattle.cert_text.specs.declared.cert.Cert.{Cert}
+use Rattle.cert_text.specs.declared.cert.Version.{Version}
 use Rattle.cert_check.specs.Refusals.{IsRefusedBy}
 use Rattle.cert_check.specs.declared.claims.Claims.{Claims}
 use Rattle.cert_check.specs.declared.claims.CheckFault.{CheckFault}
 use Rattle.cert_check.specs.declared.claims.CheckFault.TheVariants as faults
 
--- the listing is that of a certificate with a text
+-- the listing is that of a certificate with a text in some version
 pub record IsRead (cert : Cert) : Type 0 where
+  pub version : Version
   pub certificate : Certificate
   pub listed : listing_of certificate ≡ listing_read cert
-  pub conditions : HasText (listing_of certificate)
+  pub conditions : HasText version (listing_of certificate)
 
 abbrev pub cost_of : Option WrittenSchedule → Option ℤ
 cost_of None = None

@@ -92,5 +92,5 @@ fn does_claim_fit(cert: &Cert) -> bool
 fn has_bound_leaf(nodes: &[CertNode]) -> bool
     ensures { result ≡ list_any is_bound_leaf nodes.now }
 {
-    nodes.iter().any(|node| matches!(node, CertNode::Bound(_)))
+    nodes.iter().any(|node| matches!(node, CertNode::Bound(_) | CertNode::Exact(_)))
 }

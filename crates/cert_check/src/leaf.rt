@@ -1,20 +1,25 @@
 //! What a leaf of a certificate's tree claims, and whether it is so.
 
-ghost use Rattle.std.specs.Prelude.{◌≡◌, ◌↔◌, ◌<◌, false, List, pos, ◌<ℤ◌, ◌≤ℤ◌, All, IfOk, IsTrue, length, if◌then◌else◌};
+ghost use Rattle.std.specs.Prelude.{◌≡◌, ◌↔◌, ◌<◌, List, pos, ◌<ℤ◌, ◌≤ℤ◌, All, IfOk, IsTrue, length};
 ghost use Rattle.uc_model.specs.Limits.{IsLawfulInstance};
 ghost use Rattle.uc_model.specs.Schedule.{thermal_count};
 ghost use Rattle.dual_model.specs.Cover.{Bound, Ray};
 ghost use Rattle.dual_model.specs.Prices.{IsLawfulTable};
+ghost use Rattle.dual_model.specs.ValueKind.{IsBlocked};
 ghost use Rattle.cert_text.specs.CertificateText.{LeafNode};
+ghost use Rattle.leaf_values.specs.Entries.{AreEntriesOf};
 ghost use Rattle.leaf_values.specs.Paths.{AreFixesOf, node_of as place_of};
 ghost use Rattle.cert_check.specs.Visits.{Node, Table, IsSound, IsSoundNode};
-ghost use Rattle.cert_check.specs.inside.Leaves.{AreOfNumber, HasFloorOf, IsBoundingBy, IsEnough, IsExcluding, IsHeld, IsLeafNode, IsLoaded, IsPositive, IsReady, IsValueAt};
+ghost use Rattle.cert_check.specs.inside.Leaves.{AreOfNumber, HasFloorOf, IsBoundingBy, IsEnough, IsExcluding, IsLeafNode, IsLoaded, IsPositive, IsReady, IsSameBut, IsValueAt, IsValueFor, HasRoom};
 ghost use Rattle.cert_check.specs.inside.Nodes.{AreCheckable};
 ghost use Rattle.cert_check.specs.inside.Walks.{IsPath, visit_of};
 
 use cert_text::{Cert, CertNode};
 use dual_model::{Fix, Fixing, Table};
-use leaf_values::{TableEntries, fill_fixes, is_empty, load, undecided, value};
+use leaf_values::{
+    ExactRoom, TableEntries, exact_value, fill_fixes, is_empty, is_unscheduled, load, undecided,
+    value,
+};
 use state_walk::Walk;
 use std::alloc::Global;
 use uc_model::{Instance, NoMemory, floor_div};
@@ -26,11 +31,12 @@ pub(crate) struct Loaded {
     entries: TableEntries,
 }
 
-/// What the leaves checked so far leave for the next ones: room for walks and for what a path decides, and the table that
-/// was loaded last.
+/// What the leaves checked so far leave for the next ones: room for walks, exact ones too, and for what a path decides, and the
+/// table that was loaded last.
 #[derive(Drop)]
 pub(crate) struct Leaves {
     walk: Walk,
+    exact: ExactRoom,
     fixes: Vec<Fix>,
     loaded: Option<Loaded>,
 }
@@ -42,6 +48,7 @@ impl Leaves {
     {
         Ok(Leaves {
             walk: Walk::new(alloc, instance.periods as usize)?,
+            exact: ExactRoom::new(alloc, instance)?,
             fixes: vec![in alloc; undecided(); instance.thermal.as_slice().len()]?,
             loaded: None,
         })
@@ -67,31 +74,23 @@ impl Leaves {
         decide(&mut self.fixes, instance, path);
         match leaf {
             CertNode::Split { .. } => Ok(false),
-            CertNode::Bound(number) => {
-                self.is_table_sound(alloc, instance, cert, *number, false)
-            }
-            CertNode::Ray(number) => self.is_table_sound(alloc, instance, cert, *number, true),
-            CertNode::Empty(g) => {
-                is_empty(
-                    alloc,
-                    &mut self.walk,
-                    instance,
-                    *g,
-                    &self.fixes[*g as usize],
-                )
-            }
+            CertNode::Bound(number) => self.is_bounded(alloc, instance, cert, *number, false),
+            CertNode::Exact(number) => self.is_bounded(alloc, instance, cert, *number, true),
+            CertNode::Ray(number) => self.is_excluded(alloc, instance, cert, *number, false),
+            CertNode::ExactRay(number) => self.is_excluded(alloc, instance, cert, *number, true),
+            CertNode::Empty(g) => self.is_blocked(alloc, instance, *g, false),
+            CertNode::ExactEmpty(g) => self.is_blocked(alloc, instance, *g, true),
         }
     }
 
-    // Whether the table of that number is a ray that leaves no schedule at the node, or else bounds the cost of those there by
-    // what is claimed.
-    fn is_table_sound(
+    // Whether the table of that number bounds the cost at the node by what is claimed: by VE where it is exact, else by V.
+    fn is_bounded(
         &mut self,
         alloc: Global,
         instance: &Instance,
         cert: &Cert,
         number: u32,
-        is_ray: bool,
+        exact: bool,
     ) -> Result<bool, NoMemory>
         requires lawful { IsLawfulInstance instance.now }
         requires checkable { AreCheckable instance.now cert.now }
@@ -99,20 +98,67 @@ impl Leaves {
         requires number { number < length cert.now.tables }
         ensures ready { IfOk result (λ sound. IsReady instance.now cert.now.tables self.new) }
         ensures sound { IfOk result (λ sound. (place : Node) → AreFixesOf instance.now place self.old.fixes.items
-            → IsTrue sound ↔ IsSoundNode instance.now cert.now.tables cert.now.bound place (LeafNode (if is_ray then Ray false number else Bound false number))) }
+            → IsTrue sound ↔ IsSoundNode instance.now cert.now.tables cert.now.bound place (LeafNode (Bound exact number))) }
     {
         let tables = cert.tables.as_slice();
-        let value = self.value_at(alloc, instance, tables, number)?;
-        Ok(holds(&tables[number as usize], is_ray, &cert.bound, &value))
+        let value = self.value_at(alloc, instance, tables, number, exact)?;
+        Ok(bounds(&tables[number as usize], &cert.bound, &value))
     }
 
-    // The value of the node at the table of that number, which is loaded if another one was.
+    // Whether the table of that number is a ray that leaves no schedule at the node: by VE where it is exact, else by V.
+    fn is_excluded(
+        &mut self,
+        alloc: Global,
+        instance: &Instance,
+        cert: &Cert,
+        number: u32,
+        exact: bool,
+    ) -> Result<bool, NoMemory>
+        requires lawful { IsLawfulInstance instance.now }
+        requires checkable { AreCheckable instance.now cert.now }
+        requires ready { IsReady instance.now cert.now.tables self.old }
+        requires number { number < length cert.now.tables }
+        ensures ready { IfOk result (λ sound. IsReady instance.now cert.now.tables self.new) }
+        ensures sound { IfOk result (λ sound. (place : Node) → AreFixesOf instance.now place self.old.fixes.items
+            → IsTrue sound ↔ IsSoundNode instance.now cert.now.tables cert.now.bound place (LeafNode (Ray exact number))) }
+    {
+        let tables = cert.tables.as_slice();
+        let value = self.value_at(alloc, instance, tables, number, exact)?;
+        Ok(excludes(&tables[number as usize], &value))
+    }
+
+    // Whether thermal unit `g` is blocked at the node: it has no schedule of its own there where that is asked, else no pattern.
+    fn is_blocked(
+        &mut self,
+        alloc: Global,
+        instance: &Instance,
+        g: u32,
+        exact: bool,
+    ) -> Result<bool, NoMemory>
+        requires lawful { IsLawfulInstance instance.now }
+        requires room { HasRoom instance.now self.old }
+        requires unit { g < thermal_count instance.now }
+        ensures kept { IsSameBut self.old self.new }
+        ensures room { HasRoom instance.now self.new }
+        ensures blocked { IfOk result (λ blocked. (place : Node) → AreFixesOf instance.now place self.old.fixes.items
+            → IsTrue blocked ↔ IsBlocked exact instance.now place g) }
+    {
+        let fix = &self.fixes[g as usize];
+        if exact {
+            is_unscheduled(alloc, &mut self.exact, instance, g, fix)
+        } else {
+            is_empty(alloc, &mut self.walk, instance, g, fix)
+        }
+    }
+
+    // The value of the node at the table of that number, which is loaded if another one was: VE where it is exact, else V.
     fn value_at(
         &mut self,
         alloc: Global,
         instance: &Instance,
         tables: &[Table],
         number: u32,
+        exact: bool,
     ) -> Result<Option<i128>, NoMemory>
         requires lawful { IsLawfulInstance instance.now }
         requires tables { All (IsLawfulTable instance.now) tables.now }
@@ -120,16 +166,41 @@ impl Leaves {
         requires number { number < length tables.now }
         ensures ready { IfOk result (λ value. IsReady instance.now tables.now self.new) }
         ensures value { IfOk result (λ value. (place : Node) → AreFixesOf instance.now place self.old.fixes.items
-            → IsValueAt instance.now tables.now place number value) }
+            → IsValueAt exact instance.now tables.now place number value) }
     {
         let kept = self.loaded.take();
         let mut entries = entries_of(alloc, kept, &mut self.walk, instance, tables, number)?;
-        let value = value(&mut entries, &mut self.walk, instance, &self.fixes);
+        let table = &tables[number as usize];
+        let value = self.value_of(&mut entries, instance, table, exact);
         self.loaded = Some(Loaded {
             table: number,
             entries,
         });
         Ok(value)
+    }
+
+    // The value of the node at the table of the entries: VE where it is exact, else V.
+    fn value_of(
+        &mut self,
+        entries: &mut TableEntries,
+        instance: &Instance,
+        table: &Table,
+        exact: bool,
+    ) -> Option<i128>
+        requires lawful { IsLawfulInstance instance.now }
+        requires table { IsLawfulTable instance.now table.now }
+        requires entries { AreEntriesOf instance.now table.now entries.old }
+        requires room { HasRoom instance.now self.old }
+        ensures entries { AreEntriesOf instance.now table.now entries.new }
+        ensures kept { IsSameBut self.old self.new }
+        ensures room { HasRoom instance.now self.new }
+        ensures value { (place : Node) → AreFixesOf instance.now place self.old.fixes.items → IsValueFor exact instance.now place table.now result }
+    {
+        if exact {
+            exact_value(entries, &mut self.exact, instance, table, &self.fixes)
+        } else {
+            value(entries, &mut self.walk, instance, &self.fixes)
+        }
     }
 }
 
@@ -166,17 +237,6 @@ fn entries_of(
         }
     }
     load(alloc, walk, instance, &tables[number as usize])
-}
-
-// Whether the table is a ray that excludes all, or else bounds by what is claimed, where the node has that value.
-fn holds(table: &Table, is_ray: bool, bound: &Option<i128>, value: &Option<i128>) -> bool
-    ensures { IsTrue result ↔ IsHeld is_ray table.now.k value.now bound.now }
-{
-    if is_ray {
-        excludes(table, value)
-    } else {
-        bounds(table, bound, value)
-    }
 }
 
 // Whether the table bounds by what is claimed where the node has that value.

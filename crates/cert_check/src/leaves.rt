@@ -60,9 +60,12 @@ fn is_sound(
 {
     match node {
         CertNode::Split { g, t } => Ok(!is_decided(path, *g, *t)),
-        CertNode::Bound(_) | CertNode::Ray(_) | CertNode::Empty(_) => {
-            leaves.is_sound(alloc, instance, cert, path, node)
-        }
+        CertNode::Bound(_)
+        | CertNode::Ray(_)
+        | CertNode::Empty(_)
+        | CertNode::Exact(_)
+        | CertNode::ExactRay(_)
+        | CertNode::ExactEmpty(_) => leaves.is_sound(alloc, instance, cert, path, node),
     }
 }
 
@@ -71,9 +74,9 @@ fn code(node: &CertNode, number: u64) -> Refusal
     ensures { result ≡ refusal_of (node_of node.now) number }
 {
     match node {
-        CertNode::Bound(_) => Refusal::C4 { node: number },
-        CertNode::Ray(_) => Refusal::C5 { node: number },
-        CertNode::Empty(_) => Refusal::C6 { node: number },
+        CertNode::Bound(_) | CertNode::Exact(_) => Refusal::C4 { node: number },
+        CertNode::Ray(_) | CertNode::ExactRay(_) => Refusal::C5 { node: number },
+        CertNode::Empty(_) | CertNode::ExactEmpty(_) => Refusal::C6 { node: number },
         CertNode::Split { .. } => Refusal::C7 { node: number },
     }
 }

@@ -31,7 +31,12 @@ pub(crate) fn go_on(path: &mut Vec<Fixing>, node: &CertNode) -> Result<bool, NoM
             })?;
             Ok(true)
         }
-        CertNode::Bound(_) | CertNode::Ray(_) | CertNode::Empty(_) => turn(path),
+        CertNode::Bound(_)
+        | CertNode::Ray(_)
+        | CertNode::Empty(_)
+        | CertNode::Exact(_)
+        | CertNode::ExactRay(_)
+        | CertNode::ExactEmpty(_) => turn(path),
     }
 }
 

@@ -1,13 +1,13 @@
 -- What the checks of leaves keep for one another, and the tests of a leaf's numbers. This project's own.
-use Rattle.std.specs.Prelude.{◌≡◌, ℕ, ◌<◌, Bool, true, false, ℤ, pos, ◌≤ℤ◌, ◌<ℤ◌, Option, Some, None, List, slice_get, length, MatchOption}
+use Rattle.std.specs.Prelude.{◌≡◌, ℕ, ◌<◌, Bool, ℤ, pos, ◌≤ℤ◌, ◌<ℤ◌, Option, Some, None, List, slice_get, length, MatchOption}
 use Rattle.uc_model.specs.Division.{IsFloor}
 use Rattle.uc_model.specs.Schedule.{thermal_count}
 use Rattle.uc_model.specs.declared.instance.Instance.{Instance}
-use Rattle.dual_model.specs.Fixings.{HasEmptyUnit}
-use Rattle.dual_model.specs.NodeValue.{IsNodeValue}
+use Rattle.dual_model.specs.ValueKind.{IsValueOf, HasBlockedUnit}
 use Rattle.dual_model.specs.declared.node.Node.{Node}
 pub use Rattle.dual_model.specs.declared.table.Table.{Table}
 use Rattle.leaf_values.specs.Entries.{AreEntriesOf}
+use Rattle.leaf_values.specs.ExactRooms.{IsRoomOf}
 use Rattle.leaf_values.specs.declared.entries.TableEntries.{TableEntries}
 pub use Rattle.cert_text.specs.declared.cert.CertNode.{CertNode}
 use Rattle.cert_text.specs.declared.cert.CertNode.TheVariants as nodes
@@ -20,6 +20,9 @@ IsLeafNode units tables (nodes.Split g t) = ⊥
 IsLeafNode units tables (nodes.Bound table) = table < tables
 IsLeafNode units tables (nodes.Ray table) = table < tables
 IsLeafNode units tables (nodes.Empty g) = g < units
+IsLeafNode units tables (nodes.Exact table) = table < tables
+IsLeafNode units tables (nodes.ExactRay table) = table < tables
+IsLeafNode units tables (nodes.ExactEmpty g) = g < units
 
 -- the entries are those of the table of that number
 abbrev pub AreOfNumber : Instance → List Table → ℕ → TableEntries → Type 0
@@ -29,16 +32,30 @@ abbrev pub IsLoaded : Instance → List Table → Option Loaded → Type 0
 IsLoaded instance tables None = Unit {0}
 IsLoaded instance tables (Some loaded) = AreOfNumber instance tables loaded.table loaded.entries
 
--- room for the walks and the fixes, and the entries of the table that was loaded last
-pub record IsReady (instance : Instance) (tables : List Table) (leaves : Leaves) : Type 0 where
-  pub room : leaves.walk ≡ instance.periods
+-- room for the walks, exact ones too, and for what a path decides of each unit
+pub record HasRoom (instance : Instance) (leaves : Leaves) : Type 0 where
+  pub walk : leaves.walk ≡ instance.periods
+  pub exact : IsRoomOf instance leaves.exact
   pub fixes : length leaves.fixes.items ≡ thermal_count instance
+
+-- that, and the entries of the table that was loaded last
+pub record IsReady (instance : Instance) (tables : List Table) (leaves : Leaves) : Type 0 where
+  pub room : HasRoom instance leaves
   pub loaded : IsLoaded instance tables leaves.loaded
 
--- the value of the node at the table of that number, or none where a unit is empty
-abbrev pub IsValueAt : Instance → List Table → Node → ℕ → Option ℤ → Type 0
-IsValueAt instance tables node number value =
-    (table : Table) → slice_get tables number ≡ Some table → MatchOption value (HasEmptyUnit instance node) (IsNodeValue instance node table)
+-- nothing but the memory of walks is changed
+pub record IsSameBut (old new : Leaves) : Type 0 where
+  pub fixes : new.fixes ≡ old.fixes
+  pub loaded : new.loaded ≡ old.loaded
+
+-- the value of the node, of the kind, at the table, or none where a unit is blocked
+abbrev pub IsValueFor : Bool → Instance → Node → Table → Option ℤ → Type 0
+IsValueFor exact instance node table value = MatchOption value (HasBlockedUnit exact instance node) (IsValueOf exact instance node table)
+
+-- that at the table of that number
+abbrev pub IsValueAt : Bool → Instance → List Table → Node → ℕ → Option ℤ → Type 0
+IsValueAt exact instance tables node number value =
+    (table : Table) → slice_get tables number ≡ Some table → IsValueFor exact instance node table value
 
 -- the quotient of the value and the scale, rounded down, is the bound or more
 pub record HasFloorOf (k value bound : ℤ) : Type 0 where
@@ -67,8 +84,3 @@ IsPositive (Some value) = pos 0 <ℤ value
 pub record IsExcluding (k : ℤ) (value : Option ℤ) : Type 0 where
   pub scale : k ≡ pos 0
   pub positive : IsPositive value
-
--- the one of these that a leaf with a ray, or else with a bound, asks for
-abbrev pub IsHeld : Bool → ℤ → Option ℤ → Option ℤ → Type 0
-IsHeld true k value bound = IsExcluding k value
-IsHeld false k value bound = IsBoundingBy k value bound

@@ -25,6 +25,9 @@ is_bound_leaf (nodes.Split g t) = false
 is_bound_leaf (nodes.Bound table) = true
 is_bound_leaf (nodes.Ray table) = false
 is_bound_leaf (nodes.Empty g) = false
+is_bound_leaf (nodes.Exact table) = true
+is_bound_leaf (nodes.ExactRay table) = false
+is_bound_leaf (nodes.ExactEmpty g) = false
 
 -- the claim that was read fits the schedule and the leaves
 abbrev pub ReadClaimFits : Cert → Option ℤ → Type 0

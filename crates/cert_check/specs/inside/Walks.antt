@@ -63,6 +63,9 @@ MayGoOn instance path (nodes.Split g t) = IsCell instance g t × IsTrue (not (is
 MayGoOn instance path (nodes.Bound table) = Unit {0}
 MayGoOn instance path (nodes.Ray table) = Unit {0}
 MayGoOn instance path (nodes.Empty g) = Unit {0}
+MayGoOn instance path (nodes.Exact table) = Unit {0}
+MayGoOn instance path (nodes.ExactRay table) = Unit {0}
+MayGoOn instance path (nodes.ExactEmpty g) = Unit {0}
 
 -- the walk has made so many visits, all sound, and goes on at the path with the nodes that are left
 pub record HasVisited (instance : Instance) (tables : List Table) (bound : Option ℤ) (all : List Visit) (turns : ℕ) (path : List Fixing) (rest : List TreeNode) : Type 0 where

@@ -1,16 +1,13 @@
 -- What is told of the number of a leaf is told of the leaf.
-use Rattle.std.proofs.Common.{◌≡◌, ◌<◌, Bool, List, ℤ, length, sym, subst, ◌↔◌, IfOk, IsTrue, Option, Result}
-use Rattle.std.proofs.lemmas.List.{get_or_read}
+use Rattle.std.proofs.Common.{◌≡◌, ◌<◌, Bool, List, ℤ, length, sym, subst, ◌↔◌, IfOk, IsTrue, Option, Result, true, false}
 use Rattle.std.proofs.lemmas.Result.{IfOk-weaker}
 use Rattle.uc_model.specs.Schedule.{thermal_count}
-use Rattle.dual_model.specs.Fixings.{IsFixOf}
 use Rattle.uc_model.specs.declared.memory.NoMemory.{NoMemory}
-use Rattle.dual_model.specs.declared.node.Fix.{Fix}
 use Rattle.leaf_values.specs.Paths.{node_of}
 use Rattle.cert_check.specs.Visits.{Instance, Table, IsSound}
 use Rattle.cert_check.specs.inside.Leaves.{CertNode, IsLeafNode}
 use Rattle.cert_check.specs.inside.Walks.{Fixing, visit_of}
-use Rattle.cert_check.proofs.LeafNumbers.{empty-sound}
+use Rattle.cert_check.proofs.LeafNumbers.{blocked-sound}
 use Rattle.cert_check.proofs.leaf.Leaves.is_sound.Goals as goal
 
 -- of a leaf that is the one in hand
@@ -22,24 +19,42 @@ of_leaf instance tables bound path leaf named is result told =
 
 pub returns-in-Bound-clause-sound : goal.returns-in-Bound-clause-sound
 returns-in-Bound-clause-sound c =
-    of_leaf c.args.instance.now c.args.cert.now.tables c.args.cert.now.bound c.args.path.now c.args.leaf.now _ c.in-Bound.is c.is_table_sound.result
-    (IfOk-weaker c.is_table_sound.result _ _ (λ told is. is (node_of c.args.path.now) c.decide.ensures) c.is_table_sound.ensures.sound)
+    of_leaf c.args.instance.now c.args.cert.now.tables c.args.cert.now.bound c.args.path.now c.args.leaf.now _ c.in-Bound.is c.is_bounded.result
+    (IfOk-weaker c.is_bounded.result _ _ (λ told is. is (node_of c.args.path.now) c.decide.ensures) c.is_bounded.ensures.sound)
+
+pub returns-in-Exact-clause-sound : goal.returns-in-Exact-clause-sound
+returns-in-Exact-clause-sound c =
+    of_leaf c.args.instance.now c.args.cert.now.tables c.args.cert.now.bound c.args.path.now c.args.leaf.now _ c.in-Exact.is c.is_bounded-in-Exact.result
+    (IfOk-weaker c.is_bounded-in-Exact.result _ _ (λ told is. is (node_of c.args.path.now) c.decide.ensures) c.is_bounded-in-Exact.ensures.sound)
 
 pub returns-in-Ray-clause-sound : goal.returns-in-Ray-clause-sound
 returns-in-Ray-clause-sound c =
-    of_leaf c.args.instance.now c.args.cert.now.tables c.args.cert.now.bound c.args.path.now c.args.leaf.now _ c.in-Ray.is c.is_table_sound-in-Ray.result
-    (IfOk-weaker c.is_table_sound-in-Ray.result _ _ (λ told is. is (node_of c.args.path.now) c.decide.ensures) c.is_table_sound-in-Ray.ensures.sound)
+    of_leaf c.args.instance.now c.args.cert.now.tables c.args.cert.now.bound c.args.path.now c.args.leaf.now _ c.in-Ray.is c.is_excluded.result
+    (IfOk-weaker c.is_excluded.result _ _ (λ told is. is (node_of c.args.path.now) c.decide.ensures) c.is_excluded.ensures.sound)
+
+pub returns-in-ExactRay-clause-sound : goal.returns-in-ExactRay-clause-sound
+returns-in-ExactRay-clause-sound c =
+    of_leaf c.args.instance.now c.args.cert.now.tables c.args.cert.now.bound c.args.path.now c.args.leaf.now _ c.in-ExactRay.is c.is_excluded-in-ExactRay.result
+    (IfOk-weaker c.is_excluded-in-ExactRay.result _ _ (λ told is. is (node_of c.args.path.now) c.decide.ensures) c.is_excluded-in-ExactRay.ensures.sound)
 
 pub returns-in-Empty-clause-sound : goal.returns-in-Empty-clause-sound
 returns-in-Empty-clause-sound c =
     let place = node_of c.args.path.now in
     let instance = c.args.instance.now in
+    let tables = c.args.cert.now.tables in
     let g = c.in-Empty.g in
-    let within : g < thermal_count instance =
-    subst (λ (leaf : CertNode). IsLeafNode (thermal_count instance) (length c.args.cert.now.tables) leaf) c.in-Empty.is c.requires.leaf in
-    let short : g < length c.decide.new.fixes.items = subst (λ n. g < n) (sym c.decide.ensures.count) within in
-    let fix : IsFixOf instance.periods place g c.index.result.now =
-    subst (λ (f : Fix). IsFixOf instance.periods place g f) (sym (get_or_read c.decide.new.fixes.items g c.index.result.now short c.index.ensures (record { known = record { low = 0; high = 0 }; on = record { low = 0; high = 0 } }))) (c.decide.ensures.fix g within) in
-    of_leaf instance c.args.cert.now.tables c.args.cert.now.bound c.args.path.now c.args.leaf.now _ c.in-Empty.is c.is_empty.result
-    (IfOk-weaker c.is_empty.result _ _ (λ told is. empty-sound instance c.args.cert.now.tables c.args.cert.now.bound place g told within is)
-    (c.is_empty.ensures.empty place fix))
+    let within : g < thermal_count instance = subst (λ (leaf : CertNode). IsLeafNode (thermal_count instance) (length tables) leaf) c.in-Empty.is c.requires.leaf in
+    of_leaf instance tables c.args.cert.now.bound c.args.path.now c.args.leaf.now _ c.in-Empty.is c.is_blocked.result
+    (IfOk-weaker c.is_blocked.result _ _ (λ told is. blocked-sound false instance tables place c.args.cert.now.bound g told within (is place c.decide.ensures))
+    c.is_blocked.ensures.blocked)
+
+pub returns-in-ExactEmpty-clause-sound : goal.returns-in-ExactEmpty-clause-sound
+returns-in-ExactEmpty-clause-sound c =
+    let place = node_of c.args.path.now in
+    let instance = c.args.instance.now in
+    let tables = c.args.cert.now.tables in
+    let g = c.in-ExactEmpty.g in
+    let within : g < thermal_count instance = subst (λ (leaf : CertNode). IsLeafNode (thermal_count instance) (length tables) leaf) c.in-ExactEmpty.is c.requires.leaf in
+    of_leaf instance tables c.args.cert.now.bound c.args.path.now c.args.leaf.now _ c.in-ExactEmpty.is c.is_blocked-in-ExactEmpty.result
+    (IfOk-weaker c.is_blocked-in-ExactEmpty.result _ _ (λ told is. blocked-sound true instance tables place c.args.cert.now.bound g told within (is place c.decide.ensures))
+    c.is_blocked-in-ExactEmpty.ensures.blocked)
