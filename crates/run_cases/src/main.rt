@@ -16,7 +16,9 @@ use crate::line::follow_each;
 use std::{fs, io};
 
 /// The files of cases.
-const FILES: [&str; 6] = ["solve", "check", "upgrade", "uplift", "words", "formats"];
+const FILES: [&str; 7] = [
+    "solve", "check", "exact", "upgrade", "uplift", "words", "formats",
+];
 
 fn main(rt: HostRuntime) -> io::Result<()> {
     for file in FILES {
