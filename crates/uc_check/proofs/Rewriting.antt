@@ -4,8 +4,8 @@ use Rattle.std.proofs.Common.{◌≡◌, ◌∙◌, refl, sym, ap, subst, None}
 use Rattle.outside.specs.declared.slot.Slot.TheVariants as slot
 use Rattle.outside.specs.Slots.{SlotState, SameBut}
 use Rattle.outside.specs.Sinks.{SinkState}
-use Rattle.cert_text.specs.CertificateText.{certificate_text}
-use Rattle.cert_text.specs.declared.cert.Version.TheVariants.{Second}
+use Rattle.cert_text.specs.CertificateText.{listing_of, written_text, written_version}
+use Rattle.cert_text.proofs.Parts.{written_text_is}
 use Rattle.command_line.specs.Command.{Upgrade}
 use Rattle.uc_check.specs.Outside.{Slot, outside_of}
 use Rattle.uc_check.specs.Reading.{IsOpenedByNoOther, IsOnlyRead}
@@ -33,12 +33,12 @@ calm_each f g h first second read written slot.CertOut = written ∙ ap (λ (s :
 
 pub rewritten : (f g h : Slot → SlotState) (cert : Cert) → (text : HasCertificateText (f slot.CertIn) cert)
     → SameBut slot.CertIn f g → SameBut slot.CertOut g h → (g slot.CertIn).faults ≡ (f slot.CertIn).faults
-    → IsSaved (certificate_text Second text.text.certificate) (g slot.CertOut) (h slot.CertOut) → IsRewritten f h
+    → IsSaved (written_text text.text.certificate) (g slot.CertOut) (h slot.CertOut) → IsRewritten f h
 rewritten f g h cert text first second calm saved =
     let c = text.text.certificate in
-    let new = certificate_text Second c in
+    let new = written_text c in
     let is = in_file (f slot.CertIn) cert text in
-    let anew : IsCertificateText new c = record { version = Second; conditions = text.text.conditions; text = refl } in
+    let anew : IsCertificateText new c = record { version = written_version (listing_of c); conditions = written_text_is text.text.version c text.text.conditions; text = refl } in
     record {
       certificate = c;
       is = is;
@@ -52,12 +52,12 @@ rewritten f g h cert text first second calm saved =
     }
 
 pub unsaved : (f g h : Slot → SlotState) (out err_old err_new : SinkState) (cert : Cert) → (text : HasCertificateText (f slot.CertIn) cert)
-    → SameBut slot.CertIn f g → FailsToSave (certificate_text Second text.text.certificate) (g slot.CertOut) (h slot.CertOut)
+    → SameBut slot.CertIn f g → FailsToSave (written_text text.text.certificate) (g slot.CertOut) (h slot.CertOut)
     → IsUpgradeUnsaved (outside_of f out err_old) (outside_of h out err_new)
 unsaved f g h out err_old err_new cert text first fails = record {
   certificate = text.text.certificate;
   is = in_file (f slot.CertIn) cert text;
-  text = subst (λ s. FailsToSave (certificate_text Second text.text.certificate) s (h slot.CertOut)) (output_same f g first) fails;
+  text = subst (λ s. FailsToSave (written_text text.text.certificate) s (h slot.CertOut)) (output_same f g first) fails;
   out = refl;
 }
 

@@ -24,7 +24,7 @@ handed_up (Err f) e P is p = subst P (sym is) p
 
 -- what was read has a text
 pub is_read : (bytes : List ℕ) (cert : Cert) → IsTextOf bytes cert → IsRead cert
-is_read bytes cert text = record { certificate = text.certificate; listed = text.listed; conditions = text.conditions }
+is_read bytes cert text = record { version = text.version; certificate = text.certificate; listed = text.listed; conditions = text.conditions }
 
 pub in_file : (file : SlotState) (cert : Cert) → (text : HasCertificateText file cert) → HasCertificate file text.text.certificate
 in_file file cert text = record {

@@ -40,7 +40,7 @@ most_certificate_bytes = 2 ^ 46
 -- the bytes are the text of the certificate, in some version of the format
 pub record IsCertificateText (bytes : List ℕ) (certificate : Certificate) : Type 0 where
   pub version : Version
-  pub conditions : HasText (listing_of certificate)
+  pub conditions : HasText version (listing_of certificate)
   pub text : bytes ≡ certificate_text version certificate
 
 -- the file's bytes, where they are told, are at most as many as are read, and the text of the certificate

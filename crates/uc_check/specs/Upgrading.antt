@@ -3,8 +3,7 @@ use Rattle.std.specs.Prelude.{◌≡◌, ◌↔◌, ℕ, ◌≤◌, true, false,
 use Rattle.dual_model.specs.Certificate.{Certificate}
 use Rattle.outside.specs.declared.slot.Slot.TheVariants as slot
 use Rattle.outside.specs.Slots.{SlotState}
-use Rattle.cert_text.specs.CertificateText.{certificate_text}
-use Rattle.cert_text.specs.declared.cert.Version.TheVariants.{Second}
+use Rattle.cert_text.specs.CertificateText.{written_text}
 use Rattle.report.specs.UpgradeReport.{upgrade_report}
 use Rattle.report.specs.declared.fault.Fault.{Fault}
 use Rattle.report.specs.declared.fault.Fault.TheVariants.{Write}
@@ -42,15 +41,15 @@ pub record AreCheckedAlike (one other : List ℕ) : Type 0 where
   pub back : IsCheckedAs other one
 
 -- ---- what was done
--- The certificate in the one file is saved in the other, in the second version of its format, and no fault was counted. Both texts tell
+-- The certificate in the one file is saved in the other, in the version in which it is written, and no fault was counted. Both texts tell
 -- the same, and where the new one isn't too long to be checked, they are checked alike.
 pub record IsRewritten (before after : Slot → SlotState) : Type 0 where
   pub certificate : Certificate
   pub is : HasCertificate (before slot.CertIn) certificate
-  pub saved : IsSaved (certificate_text Second certificate) (before slot.CertOut) (after slot.CertOut)
-  pub same : TellTheSame is.bytes (certificate_text Second certificate)
-  pub checked : length (certificate_text Second certificate) ≤ most_certificate_bytes
-      → AreCheckedAlike is.bytes (certificate_text Second certificate)
+  pub saved : IsSaved (written_text certificate) (before slot.CertOut) (after slot.CertOut)
+  pub same : TellTheSame is.bytes (written_text certificate)
+  pub checked : length (written_text certificate) ≤ most_certificate_bytes
+      → AreCheckedAlike is.bytes (written_text certificate)
   pub calm : (s : Slot) → (after s).faults ≡ (before s).faults
 
 -- the certificate is rewritten, and that is told
@@ -63,7 +62,7 @@ pub record IsUpgraded (before after : Outside) : Type 0 where
 pub record IsUpgradeUnsaved (before after : Outside) : Type 0 where
   pub certificate : Certificate
   pub is : HasCertificate (before.files slot.CertIn) certificate
-  pub text : FailsToSave (certificate_text Second certificate) (before.files slot.CertOut) (after.files slot.CertOut)
+  pub text : FailsToSave (written_text certificate) (before.files slot.CertOut) (after.files slot.CertOut)
   pub out : after.out ≡ before.out
 
 -- the certificate is rewritten, and that could not be told

@@ -8,14 +8,13 @@ use Rattle.outside.specs.Slots.{SlotState}
 use Rattle.outside.specs.Sinks.{SinkState}
 use Rattle.branch_tree.specs.Claims.{certificate_of}
 pub use Rattle.branch_tree.specs.declared.found.Found.{Found}
-use Rattle.cert_text.specs.CertificateText.{certificate_text}
-use Rattle.cert_text.specs.declared.cert.Version.TheVariants.{Second}
+use Rattle.cert_text.specs.CertificateText.{written_text}
 use Rattle.report.specs.FaultText.{fault_text}
 use Rattle.report.specs.declared.fault.Fault.{Fault}
 
--- the certificate of what was found, in the second version of its format
+-- the text of the certificate of what was found
 abbrev pub text_of_certificate : Instance → Found → List ℕ
-text_of_certificate instance found = certificate_text Second (certificate_of instance found)
+text_of_certificate instance found = written_text (certificate_of instance found)
 
 -- the certificate's slot is finished, its bytes, where they are told, are these, and no fault was counted
 pub record IsSaved (text : List ℕ) (old new : SlotState) : Type 0 where

@@ -5,9 +5,8 @@ ghost use Rattle.dual_model.specs.Certificate.{Certificate};
 ghost use Rattle.outside.specs.declared.slot.Slot.TheVariants.{CertOut};
 ghost use Rattle.outside.specs.Slots.{AllUnopened, SameBut};
 ghost use Rattle.outside.specs.Sinks.{SinkState};
-ghost use Rattle.cert_text.specs.CertificateText.{certificate_text, listing_of};
+ghost use Rattle.cert_text.specs.CertificateText.{listing_of, written_text};
 ghost use Rattle.cert_text.specs.Reading.{listing_read};
-ghost use Rattle.cert_text.specs.declared.cert.Version.TheVariants.{Second};
 ghost use Rattle.report.specs.UpgradeReport.{upgrade_report};
 ghost use Rattle.command_line.specs.Asked.{upgrade_asked};
 ghost use Rattle.uc_check.specs.Outside.{outside_of};
@@ -23,13 +22,13 @@ use outside::{Failed, Files, Sink, Slot, SlotWriter};
 use report::{Fault, write_upgraded};
 use std::alloc::Global;
 
-// Writes a certificate that was read to its slot, in the second version of the format, and finishes it.
+// Writes a certificate that was read to its slot, in the version in which it is written, and finishes it.
 fn save_read<F: Files>(files: &mut F, name: &str, cert: &Cert) -> Result<(), Failed>
     requires { (F.state files.old Slot.CertOut).stage ≡ Unopened }
     ensures saved { (c : Certificate) → listing_of c ≡ listing_read cert.now
-        → OnOk result (IsSaved (certificate_text Second c) (F.state files.old Slot.CertOut) (F.state files.new Slot.CertOut)) }
+        → OnOk result (IsSaved (written_text c) (F.state files.old Slot.CertOut) (F.state files.new Slot.CertOut)) }
     ensures failed { (c : Certificate) → listing_of c ≡ listing_read cert.now
-        → OnErr result (FailsToSave (certificate_text Second c) (F.state files.old Slot.CertOut) (F.state files.new Slot.CertOut)) }
+        → OnErr result (FailsToSave (written_text c) (F.state files.old Slot.CertOut) (F.state files.new Slot.CertOut)) }
     ensures named { IsOpenedByNoOther name.now (F.state files.old Slot.CertOut) (F.state files.new Slot.CertOut) }
     ensures others { SameBut CertOut (F.state files.old) (F.state files.new) }
 {
@@ -92,8 +91,8 @@ fn rewrite_and_tell<F: Files, O: Sink>(
     }
 }
 
-/// A run of `upgrade`: reads the certificate, in either version, writes it in the second one and tells that it did, or tells a
-/// fault. It opens no instance.
+/// A run of `upgrade`: reads the certificate, in any version, writes it in the one in which it is written and tells that it did,
+/// or tells a fault. It opens no instance.
 pub fn upgrade_certificate<F: Files, O: Sink, E: Sink>(
     alloc: Global,
     asked: &Upgrade,

@@ -8,8 +8,7 @@ use Rattle.dual_model.proofs.Covers.{certificates_claim_truly}
 use Rattle.outside.specs.Slots.{SlotState}
 use Rattle.branch_tree.specs.StoredTree.{tree_bound}
 use Rattle.branch_tree.specs.Claims.{certificate_of, written_tables}
-use Rattle.cert_text.specs.CertificateText.{listing_of}
-use Rattle.cert_text.specs.TextConditions.{HasText, IsMoney}
+use Rattle.cert_text.specs.TextConditions.{HasWrittenText, IsMoney}
 use Rattle.cert_text.proofs.Parts.{found_has_text}
 use Rattle.demo_gen.specs.Demo.{demo_instance}
 use Rattle.dual_value.specs.NodeAnswer.{MAX_VALUE}
@@ -33,9 +32,9 @@ countable : (table : Table) → HasFewRows table → length table.ramps < 10 ^ 1
 countable table few = omega (arith, few)
 
 text_of : (instance : Instance) (budget gap : ℕ) (found : Found) → IsLawfulInstance instance → IsSearchResult instance budget gap found
-    → IsWritable instance found → HasText (listing_of (certificate_of instance found))
+    → IsWritable instance found → HasWrittenText (certificate_of instance found)
 text_of instance budget gap found lawful result writable =
-    found_has_text instance found lawful writable.tree result.plain result.truth.certificate (has_schedule_text instance found.schedule writable.schedule)
+    found_has_text instance found lawful writable.tree result.truth.certificate (has_schedule_text instance found.schedule writable.schedule)
     (bound_text (tree_bound found.tree) writable.bound)
     (All-weaker HasFewRows (λ (table : Table). length table.ramps < 10 ^ 18) countable (written_tables found) writable.tables)
 

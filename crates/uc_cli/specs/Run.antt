@@ -11,8 +11,7 @@ use Rattle.branch_tree.specs.Closing.{status_of}
 use Rattle.dual_model.specs.Certificate.{WrittenSchedule}
 use Rattle.branch_tree.specs.Claims.{certificate_of, written_of}
 use Rattle.workers.specs.SearchResult.{IsSearchResult}
-use Rattle.cert_text.specs.CertificateText.{listing_of}
-use Rattle.cert_text.specs.TextConditions.{HasText}
+use Rattle.cert_text.specs.TextConditions.{HasWrittenText}
 use Rattle.branch_tree.specs.declared.found.Found.{Found}
 use Rattle.report.specs.FoundReport.{found_report}
 pub use Rattle.report.specs.declared.fault.Fault.{Fault}
@@ -41,7 +40,7 @@ pub record IsAnswer (asked : Solve) (file : SlotState) (instance : Instance) (ro
   pub search : IsSearchResult instance asked.units asked.gap found
   pub schedule : (written : WrittenSchedule) → written_of found.schedule ≡ Some written → IsScheduleTrue instance written
   pub claim : IsClaimTrue instance (tree_bound found.tree)
-  pub text : HasText (listing_of (certificate_of instance found))
+  pub text : HasWrittenText (certificate_of instance found)
 
 -- the instance in the file, and the answer for it
 pub record HasAnswer (asked : Solve) (before : Outside) (found : Found) : Type 0 where

@@ -6,14 +6,13 @@ use Rattle.outside.specs.declared.slot.Slot.TheVariants.{CertOut}
 use Rattle.outside.specs.Counts.{HasRisen}
 use Rattle.outside.specs.ToldBytes.{Appends}
 use Rattle.outside.proofs.Appending.{all-appended, appended-since-nothing}
-use Rattle.cert_text.specs.CertificateText.{certificate_text}
-use Rattle.cert_text.specs.declared.cert.Version.TheVariants.{Second}
+use Rattle.cert_text.specs.CertificateText.{written_text}
 use Rattle.uc_check.proofs.upgrade.save_read.Goals as goal
 
 pub returns-clause-failed : goal.returns-clause-failed
 returns-clause-failed g c = λ certificate listed.
     let state = g.F.Files.state in
-    let text = certificate_text Second certificate in
+    let text = written_text certificate in
     let unopened = state c.args.files.now CertOut in
     let end = state c.finish.new.self CertOut in
     let wrote = c.in_ok-write_cert.ensures.ok certificate listed in
