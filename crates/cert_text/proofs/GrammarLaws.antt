@@ -18,7 +18,7 @@ use Rattle.uc_model.proofs.DecimalText.{whole_text_bytes, signed_text_bytes}
 use Rattle.uc_model.proofs.MoneyText.{money_text_bytes}
 use Rattle.dual_model.specs.Cover.{Bound, Ray, Empty}
 use Rattle.outside.proofs.Joining.{joined-cons}
-use Rattle.cert_text.specs.Grammar.{Symbol, Head, Size, Claim, Plan, Schedule, ThermalRow, RenewableRow, Shed, Short, Scale, Pi, Mu, Ramps, Ramp, Next, Update, Node, End, Ahead, table_head, tables_from, changes_from, scaled, with_ramp, rescaled, Produces, Reaches, schedule_line, PlanLine, Priced, Unpriced, plan_line, behind_plan, Sizes, AreSizes, after_size, shortage_rows, schedule_rows, ramp_rows, children, CertKind, HasLineFeed, IsWholeLine, IsFormAt, IsCutAt, IsFaultOf, MayStand, IsKindAt}
+use Rattle.cert_text.specs.Grammar.{Symbol, Head, Size, Claim, Plan, Schedule, ThermalRow, RenewableRow, Shed, Short, Scale, Pi, Mu, Ramps, Ramp, Next, Update, Node, End, Ahead, table_head, tables_from, changes_from, scaled, with_ramp, rescaled, Produces, Reaches, ScheduleHead, schedule_line, PlanLine, Priced, Unpriced, plan_line, behind_plan, Sizes, AreSizes, after_size, shortage_rows, schedule_rows, ramp_rows, children, CertKind, HasLineFeed, IsWholeLine, IsFormAt, IsCutAt, IsFaultOf, MayStand, IsKindAt}
 use Rattle.cert_text.specs.inside.LineCount.{line_feeds, line_number, stop_kind}
 use Rattle.std.proofs.lemmas.Option.{some_pair_parts}
 use Rattle.cert_text.specs.inside.Forms.{Form}
@@ -145,13 +145,19 @@ claim_one : (bound : Option ℤ) → IsOne (claim_line bound)
 claim_one None = line_one (codes "claim infeasible") [] refl tt
 claim_one (Some z) = line_one (codes "claim bound") (money_text z ∷ []) refl (money_feeds z, tt)
 
-schedule_one : (cost : Option ℤ) → IsOne (schedule_line cost)
+schedule_one : (head : Option ScheduleHead) → IsOne (schedule_line head)
 schedule_one None = line_one (codes "schedule none") [] refl tt
-schedule_one (Some z) = line_one (codes "schedule") (money_text z ∷ []) refl (money_feeds z, tt)
+schedule_one (Some head) = by_one (nat_eq head.denominator 1)
+  where
+    by_one : (one : Bool) → IsOne (line (codes "schedule") (money_text head.cost ∷ cond one [] (codes "over" ∷ whole_text head.denominator ∷ [])))
+    by_one true = line_one (codes "schedule") (money_text head.cost ∷ []) refl (money_feeds head.cost, tt)
+    by_one false =
+        line_one (codes "schedule") (money_text head.cost ∷ codes "over" ∷ whole_text head.denominator ∷ []) refl
+        (money_feeds head.cost, (refl, (whole_feeds head.denominator, tt)))
 
 plan_one : (first : PlanLine) → IsOne (plan_line first)
 plan_one (Priced a b) = line_one (codes "penalty") (whole_text a ∷ whole_text b ∷ []) refl (whole_feeds a, (whole_feeds b, tt))
-plan_one (Unpriced cost) = schedule_one cost
+plan_one (Unpriced head) = schedule_one head
 
 node_one : (node : TreeNode) → IsOne (node_line node)
 node_one (LeafNode (Bound false n)) = line_one (codes "bound") (whole_text (suc n) ∷ []) refl (whole_feeds (suc n), tt)
@@ -355,8 +361,8 @@ one_line Head text other next another x y h p q e =
     agree version-form (λ version. Size version ∷ []) text other next another x y (p.0, tt, p.1, p.2) (q.0, tt, q.1, q.2) e
 one_line (Size version) text other next another x y h p q e = agree (size-form version) after_size text other next another x y p q e
 one_line Claim text other next another x y h p q e = agree claim-form Done text other next another x y p q e
-one_line (Plan size) text other next another x y h p q e = agree plan-form (behind_plan size) text other next another x y p q e
-one_line (Schedule size) text other next another x y h p q e = agree schedule-form (schedule_rows size true) text other next another x y p q e
+one_line (Plan size) text other next another x y h p q e = agree (plan-form size.version) (behind_plan size) text other next another x y p q e
+one_line (Schedule size) text other next another x y h p q e = agree (schedule-form size.version) (schedule_rows size true) text other next another x y p q e
 one_line (ThermalRow size) text other next another x y h p q e = agree (thermal-form size.periods) Done text other next another x y p q e
 one_line (RenewableRow size) text other next another x y h p q e = agree (powers-form (codes "w") size.periods) Done text other next another x y p q e
 one_line (Shed size) text other next another x y h p q e = agree (powers-form (codes "d") size.periods) Done text other next another x y p q e
@@ -408,9 +414,9 @@ shortages_lawful : (size : Sizes) (priced : Bool) → AreSizes size → AreLawfu
 shortages_lawful size false h = tt
 shortages_lawful size true h = (h, (h, tt))
 
-rows_lawful : (size : Sizes) (priced : Bool) (cost : Option ℤ) → AreSizes size → AreLawful (schedule_rows size priced cost)
+rows_lawful : (size : Sizes) (priced : Bool) (head : Option ScheduleHead) → AreSizes size → AreLawful (schedule_rows size priced head)
 rows_lawful size priced None h = tt
-rows_lawful size priced (Some cost) h =
+rows_lawful size priced (Some head) h =
     both_lawful (replicate size.thermal (ThermalRow size)) (replicate size.renewable (RenewableRow size) ++ shortage_rows size priced) (many_lawful size.thermal (ThermalRow size) h)
     (both_lawful (replicate size.renewable (RenewableRow size)) (shortage_rows size priced) (many_lawful size.renewable (RenewableRow size) h) (shortages_lawful size priced h))
 
@@ -424,7 +430,7 @@ next_lawful (Plan size) text next h p = subst AreLawful (sym p.3) (behind p.0)
   where
     behind : (first : PlanLine) → AreLawful (behind_plan size first)
     behind (Priced a b) = (h, tt)
-    behind (Unpriced cost) = rows_lawful size false cost h
+    behind (Unpriced head) = rows_lawful size false head h
 next_lawful (Schedule size) text next h p = subst AreLawful (sym p.3) (rows_lawful size true p.0 h)
 next_lawful (Scale ahead) text next h p = subst AreLawful (sym p.3) (h, tt)
 next_lawful (Pi ahead table) text next h p = subst AreLawful (sym p.3) (h, tt)

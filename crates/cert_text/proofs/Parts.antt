@@ -1,6 +1,7 @@
 -- The parts in which a certificate is written are its lines.
-use Rattle.std.proofs.Common.{◌≡◌, ℕ, List, [], ◌∷◌, ◌++◌, length, map, refl, ap, ◌∙◌, sym, append_assoc, Bool, Option, Some, None, zero, suc, ◌<◌, cond, get_or, arith, ◌^◌, true, false, All, ℤ, pos, negsuc, ◌≤ℤ◌, eq-eqb, ne_eqb, IfSome, ◌||◌}
+use Rattle.std.proofs.Common.{◌≡◌, ℕ, List, [], ◌∷◌, ◌++◌, length, map, refl, ap, ◌∙◌, sym, append_assoc, Bool, Option, Some, None, zero, suc, ◌<◌, cond, get_or, arith, ◌^◌, true, false, All, ℤ, pos, negsuc, ◌≤ℤ◌, eq-eqb, ne_eqb, IfSome, ◌||◌, not}
 use Rattle.std.specs.List.{flat_map, list_any}
+use mathlib.Core.Bool.{or-true}
 use Rattle.dual_model.specs.Certificate.{WrittenSchedule, Certificate, CertificateHolds, ClaimHolds}
 use Rattle.branch_tree.specs.TreeView.{tree_of, IsWhole}
 use Rattle.branch_tree.specs.UsedTables.{used_tables, place_of, stored_tables}
@@ -8,7 +9,7 @@ use Rattle.branch_tree.specs.Claims.{table_at, certificate_of, leaf_claim, writt
 use Rattle.outside.specs.Lines.{joined}
 use Rattle.outside.proofs.Joining.{joined-cons, joined-append, joined-map}
 use Rattle.cert_text.specs.Changes.{OfDemand, OfReserve, OfRamps, price_changes, row_changes, table_changes}
-use Rattle.cert_text.specs.CertificateText.{Version, Second, Third, written_version, written_text, is_exact_node, told_from, Listing, preorder, node_line, SplitNode, TreeNode, LeafNode, IsLeafWithin, IsNodeWithin, RampRow, Table, Printed, certificate_lines, certificate_text, has_price, penalty_line, shortage_lines, schedule_lines, plan_lines, table_lines, next_line, next_lines, change_line, told_lines, tables_lines, thermal_line, renewable_line, ramp_line, cost_line, version_line, size_line, claim_line, end_line, scale_line, prices_line, ramps_line, listing_of}
+use Rattle.cert_text.specs.CertificateText.{Version, Second, Third, written_version, written_text, is_exact_node, is_divided, told_from, Listing, preorder, node_line, SplitNode, TreeNode, LeafNode, IsLeafWithin, IsNodeWithin, RampRow, Table, Printed, certificate_lines, certificate_text, has_price, penalty_line, shortage_lines, schedule_lines, plan_lines, table_lines, next_line, next_lines, change_line, told_lines, tables_lines, thermal_line, renewable_line, ramp_line, cost_line, version_line, size_line, claim_line, end_line, scale_line, prices_line, ramps_line, listing_of}
 use Rattle.cert_text.specs.Reading.{node_of, listing_read}
 use Rattle.cert_text.specs.declared.cert.CertNode.{CertNode}
 use Rattle.cert_text.specs.inside.WrittenParts.{Found, Instance, Spot, Cert, penalty_part, shortages_part, schedule_part, table_part, next_part, told_part, tables_part, certificate_parts, found_text, read_text, spot_node}
@@ -40,8 +41,9 @@ schedule-part priced (Some written) =
     let thermal = map thermal_line written.printed.thermal in
     let renewable = map renewable_line written.printed.renewable in
     let missing = shortage_lines priced written.printed in
-    joined-cons (cost_line written.cost) (thermal ++ (renewable ++ missing))
-    ∙ ap (λ rest. cost_line written.cost ++ rest)
+    let first = cost_line written.cost written.printed.denominator in
+    joined-cons first (thermal ++ (renewable ++ missing))
+    ∙ ap (λ rest. first ++ rest)
     (joined-append thermal (renewable ++ missing)
     ∙ (λ i. joined-map thermal_line written.printed.thermal i
     ++ (joined-append renewable missing ∙ (λ j. joined-map renewable_line written.printed.renewable j ++ shortages-part priced written.printed j)) i))
@@ -94,11 +96,11 @@ tables-part exact before (table ∷ tables) =
 parts-are-lines : (c : Listing) → certificate_parts c ≡ joined (certificate_lines (written_version c) c)
 unfolding certificate_lines certificate_parts
 parts-are-lines c =
-    let exact = list_any is_exact_node c.nodes in
+    let third = list_any is_exact_node c.nodes || is_divided c.schedule in
     let nodes = map node_line c.nodes in
     let tables = tables_lines (written_version c) None c.tables in
     let last = joined-append nodes (end_line ∷ []) ∙ ap (λ text. text ++ end_line) (joined-map node_line c.nodes) in
-    let lower = joined-append tables (nodes ++ end_line ∷ []) ∙ (λ i. tables-part exact None c.tables i ++ last i) in
+    let lower = joined-append tables (nodes ++ end_line ∷ []) ∙ (λ i. tables-part third None c.tables i ++ last i) in
     let plan = plan_lines c.a c.b c.schedule in
     let body = joined-append plan (tables ++ (nodes ++ end_line ∷ [])) ∙ ((λ i. plan-part c.a c.b c.schedule i ++ lower i)
     ∙ append_assoc (penalty_part c.a c.b) (schedule_part (has_price c.a c.b) c.schedule) (tables_part None c.tables ++ (flat_map node_line c.nodes ++ end_line))) in
@@ -213,10 +215,31 @@ claimed-within instance c (Some b) cover claim =
 claimed-within instance c None cover claim =
     nodes-within instance c.tables (IsExcluded instance c.tables) (excluded-within instance c.tables) root c.tree cover claim.1
 
--- where a node claims by exact values, the version in which the nodes are written is the third
-exact-written : (nodes : List TreeNode) (k : ℕ) (d : TreeNode) → k < length nodes → is_exact_node (get_or nodes k d) ≡ true
-    → cond (list_any is_exact_node nodes) Third Second ≡ Third
-exact-written nodes k d within exact = ap (λ (b : Bool). cond b Third Second) (list_any_at is_exact_node nodes k d within exact)
+-- where a node claims by exact values, or the schedule has a denominator, the version in which they are written is the third
+exact-written : (nodes : List TreeNode) (divided : Bool) (k : ℕ) (d : TreeNode) → k < length nodes → is_exact_node (get_or nodes k d) ≡ true
+    → cond (list_any is_exact_node nodes || divided) Third Second ≡ Third
+exact-written nodes divided k d within exact = ap (λ (b : Bool). cond (b || divided) Third Second) (list_any_at is_exact_node nodes k d within exact)
+
+divided-written : (exact divided : Bool) → divided ≡ true → cond (exact || divided) Third Second ≡ Third
+divided-written exact divided e = ap (λ (b : Bool). cond (exact || b) Third Second) e ∙ ap (λ (b : Bool). cond b Third Second) (or-true exact)
+
+-- a schedule that has a text in some version has one in each in which its denominator stands
+restated : (version other : Version) (priced : Bool) (periods thermal renewable : ℕ) (schedule : Option WrittenSchedule) → (is_divided schedule ≡ true → other ≡ Third)
+    → IfSome schedule (IsScheduleText version priced periods thermal renewable) → IfSome schedule (IsScheduleText other priced periods thermal renewable)
+restated version other priced periods thermal renewable None third h = tt
+restated version other priced periods thermal renewable (Some written) third h = record {
+  cost = h.cost;
+  thermal_rows = h.thermal_rows;
+  cells = h.cells;
+  renewable_rows = h.renewable_rows;
+  outputs = h.outputs;
+  shortages = h.shortages;
+  denominator = record {
+    least = h.denominator.least;
+    most = h.denominator.most;
+    divided = λ others. third (ap not (ne_eqb written.printed.denominator 1 others));
+  };
+}
 
 -- a certificate that has a text in some version has one in the version in which it is written
 pub written_text_is : (version : Version) (c : Certificate) → HasText version (listing_of c) → HasWrittenText c
@@ -228,9 +251,10 @@ written_text_is version c h = record {
   table_count = h.table_count;
   bound = h.bound;
   penalties = h.penalties;
-  schedule = h.schedule;
+  schedule = restated version (written_version (listing_of c)) (has_price c.a c.b) c.periods c.thermal c.renewable c.schedule
+      (divided-written (list_any is_exact_node (preorder c.tree)) (is_divided c.schedule)) h.schedule;
   tables = h.tables;
-  nodes = λ k d within. record { within = (h.nodes k d within).within; exact = exact-written (preorder c.tree) k d within };
+  nodes = λ k d within. record { within = (h.nodes k d within).within; exact = exact-written (preorder c.tree) (is_divided c.schedule) k d within };
 }
 
 price-digits : (n : ℤ) → IsPrice n → HasDigits 18 n
@@ -265,14 +289,15 @@ few-tables instance found whole =
     let same = length-map used (table_at found.tables) in
     omega (arith, length-each_once (stored_tables (tree_of found.tree)), length-stored_tables found.tree.nodes, whole.within, whole.countable)
 
-pub found_has_text : (instance : Instance) (found : Found) → IsLawfulInstance instance → IsWhole found.tree
+pub found_has_text : (version : Version) (instance : Instance) (found : Found) → IsLawfulInstance instance → IsWhole found.tree
     → CertificateHolds instance (certificate_of instance found)
-    → IfSome (written_of found.schedule) (IsScheduleText (has_price instance.a instance.b) instance.periods (thermal_count instance) (renewable_count instance))
+    → IfSome (written_of found.schedule) (IsScheduleText version (has_price instance.a instance.b) instance.periods (thermal_count instance) (renewable_count instance))
     → IfSome (tree_bound found.tree) IsMoney
     → All (λ table. length table.ramps < 10 ^ 18) (written_tables found)
     → HasWrittenText (certificate_of instance found)
-found_has_text instance found lawful whole holds schedule bound few =
+found_has_text version instance found lawful whole holds schedule bound few =
     let nodes = preorder (certificate_of instance found).tree in
+    let divided = is_divided (written_of found.schedule) in
     let claimed = claimed-within instance (certificate_of instance found) (tree_bound found.tree) holds.tree holds.claim in
     record {
       some_period = lawful.periods.0;
@@ -282,7 +307,8 @@ found_has_text instance found lawful whole holds schedule bound few =
       table_count = few-tables instance found whole;
       bound = bound;
       penalties = record { shed = lawful.shed_price; short = lawful.short_price };
-      schedule = schedule;
+      schedule = restated version (written_version (listing_of (certificate_of instance found))) (has_price instance.a instance.b) instance.periods
+          (thermal_count instance) (renewable_count instance) (written_of found.schedule) (divided-written (list_any is_exact_node nodes) divided) schedule;
       tables = λ k d within. lawful-table-text instance _ (holds.tables k d within) (few k d within);
-      nodes = λ k d within. record { within = claimed k d within; exact = exact-written nodes k d within };
+      nodes = λ k d within. record { within = claimed k d within; exact = exact-written nodes divided k d within };
     }

@@ -1,7 +1,7 @@
 -- How a certificate is written: its lines in their order, one spelling for each certificate in each version. This project's own
 -- format.
 -- Units, periods and tables count from 0 here, and from 1 in the text.
-use Rattle.std.specs.Prelude.{ℕ, suc, ◌<◌, nat_lt, Bool, true, false, ◌||◌, List, [], ◌∷◌, ◌++◌, codes, ℤ, Option, Some, None, length, map, if◌then◌else◌}
+use Rattle.std.specs.Prelude.{ℕ, suc, ◌<◌, nat_lt, ◌==◌, Bool, true, false, not, ◌||◌, List, [], ◌∷◌, ◌++◌, codes, ℤ, Option, Some, None, length, map, if◌then◌else◌}
 use Rattle.std.specs.List.{list_any}
 use Rattle.uc_model.specs.Decimal.{whole_text, signed_text}
 use Rattle.uc_model.specs.Money.{money_text}
@@ -80,7 +80,7 @@ listing_of c = record {
 }
 
 -- the versions of the format: in the first each table is told whole, in the others each but the first one by its difference to the
--- one before it; and leaves by exact values stand in the third alone
+-- one before it; and leaves by exact values, and denominators, stand in the third alone
 abbrev pub version_number : Version → ℕ
 version_number First = 1
 version_number Second = 2
@@ -139,8 +139,12 @@ abbrev pub shortage_lines : Bool → Printed → List (List ℕ)
 shortage_lines false printed = []
 shortage_lines true printed = shed_line printed.shed ∷ short_line printed.short ∷ []
 
-abbrev pub cost_line : ℤ → List ℕ
-cost_line cost = line (codes "schedule") (money_text cost ∷ [])
+-- the denominator of a schedule's powers, where they aren't whole
+abbrev pub over_words : ℕ → List (List ℕ)
+over_words denominator = if denominator == 1 then [] else codes "over" ∷ whole_text denominator ∷ []
+
+abbrev pub cost_line : ℤ → ℕ → List ℕ
+cost_line cost denominator = line (codes "schedule") (money_text cost ∷ over_words denominator)
 
 abbrev pub no_schedule_line : List ℕ
 no_schedule_line = line (codes "schedule none") []
@@ -149,7 +153,7 @@ no_schedule_line = line (codes "schedule none") []
 abbrev pub schedule_lines : Bool → Option WrittenSchedule → List (List ℕ)
 schedule_lines priced None = no_schedule_line ∷ []
 schedule_lines priced (Some written) =
-    cost_line written.cost ∷ (map thermal_line written.printed.thermal
+    cost_line written.cost written.printed.denominator ∷ (map thermal_line written.printed.thermal
     ++ (map renewable_line written.printed.renewable ++ shortage_lines priced written.printed))
 
 -- where something has a price, the line of the prices comes before the schedule
@@ -216,9 +220,15 @@ certificate_lines version c =
 unfoldable pub certificate_text : Version → Certificate → List ℕ
 certificate_text version c = joined (certificate_lines version (listing_of c))
 
--- the version in which a certificate is written: the third exactly where a leaf claims by exact values, and else the second
+-- a schedule has powers that aren't whole
+abbrev pub is_divided : Option WrittenSchedule → Bool
+is_divided None = false
+is_divided (Some written) = not (written.printed.denominator == 1)
+
+-- the version in which a certificate is written: the third exactly where a leaf claims by exact values, or a schedule has powers that
+-- aren't whole, and else the second
 abbrev pub written_version : Listing → Version
-written_version c = if list_any is_exact_node c.nodes then Third else Second
+written_version c = if list_any is_exact_node c.nodes || is_divided c.schedule then Third else Second
 
 -- and its text
 abbrev pub written_text : Certificate → List ℕ

@@ -11,7 +11,7 @@ pub use Rattle.dual_model.specs.declared.table.RampRow.{RampRow}
 use Rattle.outside.specs.Lines.{line, joined}
 use Rattle.cert_text.specs.Changes.{Table, Change, OfDemand, OfReserve, OfRamps, changed}
 use Rattle.cert_text.specs.CertificateText.{Version, TreeNode, LeafNode, SplitNode, node_line, version_line, size_line, claim_line, has_price, penalty_line, cost_line, no_schedule_line, thermal_line, renewable_line, shed_line, short_line, scale_line, prices_line, ramp_line, next_line, change_line, told_from, end_line}
-use Rattle.cert_text.specs.TextConditions.{HasDigits, IsMoney, ArePenalties, IsThermalRow, IsPowerRow, IsRampText, IsNodeText}
+use Rattle.cert_text.specs.TextConditions.{HasDigits, IsMoney, ArePenalties, IsThermalRow, IsPowerRow, IsRampText, IsDenominator, IsNodeText}
 use Rattle.cert_text.specs.declared.cert.CertFault.{CertFault}
 use Rattle.cert_text.specs.declared.cert.CertFault.TheVariants as faults
 pub use Rattle.cert_text.specs.declared.cert.CertKind.{CertKind}
@@ -92,38 +92,48 @@ abbrev pub shortage_rows : Sizes → Bool → List Symbol
 shortage_rows size false = []
 shortage_rows size true = Shed size ∷ Short size ∷ []
 
--- what comes behind a schedule's line: its rows where there is one
-abbrev pub schedule_rows : Sizes → Bool → Option ℤ → List Symbol
+-- what the line of a schedule tells: its cost, and the denominator of its powers
+pub record ScheduleHead : Type 0 where
+  pub cost : ℤ
+  pub denominator : ℕ
+
+-- what comes behind that line: its rows where there is one
+abbrev pub schedule_rows : Sizes → Bool → Option ScheduleHead → List Symbol
 schedule_rows size priced None = []
-schedule_rows size priced (Some cost) =
+schedule_rows size priced (Some head) =
     replicate size.thermal (ThermalRow size) ++ (replicate size.renewable (RenewableRow size) ++ shortage_rows size priced)
 
-abbrev pub schedule_line : Option ℤ → List ℕ
+abbrev pub schedule_line : Option ScheduleHead → List ℕ
 schedule_line None = no_schedule_line
-schedule_line (Some cost) = cost_line cost
+schedule_line (Some head) = cost_line head.cost head.denominator
+
+-- such a line in this version
+pub record IsScheduleHead (version : Version) (head : ScheduleHead) : Type 0 where
+  pub cost : IsMoney head.cost
+  pub denominator : IsDenominator version head.denominator
 
 -- the line behind the claim: prices, or else the schedule's, where nothing has a price
 pub data PlanLine : Type 0 where
   Priced : ℕ → ℕ → PlanLine
-  Unpriced : Option ℤ → PlanLine
+  Unpriced : Option ScheduleHead → PlanLine
 
 abbrev pub plan_line : PlanLine → List ℕ
 plan_line (Priced a b) = penalty_line a b
-plan_line (Unpriced cost) = schedule_line cost
+plan_line (Unpriced head) = schedule_line head
 
 -- prices that are told are within their range, and one isn't 0
 pub record IsPenaltyLine (a b : ℕ) : Type 0 where
   pub range : ArePenalties a b
   pub some : has_price a b ≡ true
 
-abbrev pub IsPlanLine : PlanLine → Type 0
-IsPlanLine (Priced a b) = IsPenaltyLine a b
-IsPlanLine (Unpriced cost) = IfSome cost IsMoney
+abbrev pub IsPlanLine : Version → PlanLine → Type 0
+IsPlanLine version (Priced a b) = IsPenaltyLine a b
+IsPlanLine version (Unpriced head) = IfSome head (IsScheduleHead version)
 
 -- and what comes behind it
 abbrev pub behind_plan : Sizes → PlanLine → List Symbol
 behind_plan size (Priced a b) = Schedule size ∷ []
-behind_plan size (Unpriced cost) = schedule_rows size false cost
+behind_plan size (Unpriced head) = schedule_rows size false head
 
 -- a split is followed by two trees
 abbrev pub children : Sizes → TreeNode → List Symbol
@@ -201,9 +211,9 @@ Produces Head text next = (version : Version) × (text ≡ version_line version)
 Produces (Size version) text next =
     (size : Sizes) × IsSizeIn version size × (text ≡ size_line size.periods size.thermal size.renewable size.tables) × (next ≡ after_size size)
 Produces Claim text next = (bound : Option ℤ) × IfSome bound IsMoney × (text ≡ claim_line bound) × (next ≡ [])
-Produces (Plan size) text next = (first : PlanLine) × IsPlanLine first × (text ≡ plan_line first) × (next ≡ behind_plan size first)
+Produces (Plan size) text next = (first : PlanLine) × IsPlanLine size.version first × (text ≡ plan_line first) × (next ≡ behind_plan size first)
 Produces (Schedule size) text next =
-    (cost : Option ℤ) × IfSome cost IsMoney × (text ≡ schedule_line cost) × (next ≡ schedule_rows size true cost)
+    (head : Option ScheduleHead) × IfSome head (IsScheduleHead size.version) × (text ≡ schedule_line head) × (next ≡ schedule_rows size true head)
 Produces (ThermalRow size) text next = (row : List Cell) × IsThermalRow size.periods row × (text ≡ thermal_line row) × (next ≡ [])
 Produces (RenewableRow size) text next = (row : List ℤ) × IsPowerRow size.periods row × (text ≡ renewable_line row) × (next ≡ [])
 Produces (Shed size) text next = (row : List ℤ) × IsPowerRow size.periods row × (text ≡ shed_line row) × (next ≡ [])

@@ -1,8 +1,7 @@
 -- What a certificate has to meet to have a text of the grammar: its size, the shapes of its lists, and how many digits its
 -- numbers have. This project's own format.
-use Rattle.std.specs.Prelude.{◌≡◌, ℕ, ◌^◌, ◌<◌, ◌≤◌, Bool, true, false, List, ℤ, pos, unsigned_abs, IfSome, All, length}
+use Rattle.std.specs.Prelude.{◌≡◌, ◌≢◌, replicate, ℕ, ◌^◌, ◌<◌, ◌≤◌, Bool, true, false, List, ℤ, pos, unsigned_abs, IfSome, All, length}
 pub use Rattle.uc_model.specs.declared.schedule.Cell.{Cell}
-use Rattle.uc_model.specs.PrintedSchedule.{LacksNothing}
 use Rattle.dual_model.specs.Certificate.{Certificate, WrittenSchedule}
 use Rattle.dual_model.specs.Prices.{IsWellFormed}
 pub use Rattle.dual_model.specs.declared.table.Table.{Table}
@@ -43,25 +42,36 @@ pub record IsPowerRow (periods : ℕ) (row : List ℤ) : Type 0 where
   pub powers : length row ≡ periods
   pub written : All (HasDigits 15) row
 
--- a power that is missing in each period, whole watts
+-- nothing is missing in any of so many periods
+pub record HasNoShortage (periods : ℕ) (printed : Printed) : Type 0 where
+  pub shed : printed.shed ≡ replicate periods (pos 0)
+  pub short : printed.short ≡ replicate periods (pos 0)
+
+-- a power that is missing in each period
 pub record HasShortageRows (periods : ℕ) (printed : Printed) : Type 0 where
   pub shed : IsPowerRow periods printed.shed
   pub short : IsPowerRow periods printed.short
-  pub denominator : printed.denominator ≡ 1
 
--- the lines tell what is missing where that has a price, else no shortage; and no part of a watt
+-- the lines tell what is missing where that has a price, else no shortage
 abbrev pub AreShortagesText : Bool → ℕ → Printed → Type 0
-AreShortagesText false periods printed = LacksNothing periods printed
+AreShortagesText false periods printed = HasNoShortage periods printed
 AreShortagesText true periods printed = HasShortageRows periods printed
 
--- a row for each unit, and what is missing
-pub record IsScheduleText (priced : Bool) (periods thermal renewable : ℕ) (written : WrittenSchedule) : Type 0 where
+-- a denominator of powers from 1 to 99, and in the third version alone another one than 1
+pub record IsDenominator (version : Version) (denominator : ℕ) : Type 0 where
+  pub least : 1 ≤ denominator
+  pub most : denominator ≤ 99
+  pub divided : denominator ≢ 1 → version ≡ Third
+
+-- a row for each unit, and what is missing, in this version
+pub record IsScheduleText (version : Version) (priced : Bool) (periods thermal renewable : ℕ) (written : WrittenSchedule) : Type 0 where
   pub cost : IsMoney written.cost
   pub thermal_rows : length written.printed.thermal ≡ thermal
   pub cells : All (IsThermalRow periods) written.printed.thermal
   pub renewable_rows : length written.printed.renewable ≡ renewable
   pub outputs : All (IsPowerRow periods) written.printed.renewable
   pub shortages : AreShortagesText priced periods written.printed
+  pub denominator : IsDenominator version written.printed.denominator
 
 pub record IsRampText (row : RampRow) : Type 0 where
   pub up : HasDigits 18 row.up
@@ -97,7 +107,7 @@ pub record HasText (version : Version) (c : Listing) : Type 0 where
   pub table_count : length c.tables < 2 ^ 32
   pub bound : IfSome c.bound IsMoney
   pub penalties : ArePenalties c.a c.b
-  pub schedule : IfSome c.schedule (IsScheduleText (has_price c.a c.b) c.periods c.thermal c.renewable)
+  pub schedule : IfSome c.schedule (IsScheduleText version (has_price c.a c.b) c.periods c.thermal c.renewable)
   pub tables : All (IsTableText c.periods c.thermal) c.tables
   pub nodes : All (IsNodeText version c.periods c.thermal (length c.tables)) c.nodes
 

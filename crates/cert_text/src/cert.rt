@@ -41,7 +41,7 @@ pub struct Cert {
 }
 
 /// A version of the format. In the first one each table is told whole, in the others each but the first one by its difference to the
-/// one before it; and leaves by exact values stand in the third alone.
+/// one before it; and leaves by exact values, and denominators of powers, stand in the third alone.
 #[derive(Clone, Copy, Debug, PartialEq, Eq)]
 pub enum Version {
     First,

@@ -9,7 +9,9 @@ ghost use Rattle.cert_text.specs.Reading.{listing_read};
 ghost use Rattle.cert_text.specs.inside.WrittenParts.{heading_part, found_text, read_text};
 
 use crate::cert::Cert;
-use crate::schedule::{has_price, put_penalty, put_read_schedule, put_schedule};
+use crate::schedule::{
+    has_price, is_divided, is_read_divided, put_penalty, put_read_schedule, put_schedule,
+};
 use crate::tables::{put_numbered, put_tables};
 use crate::tree::{has_exact_leaf, has_exact_read, put_nodes, put_read_nodes};
 use branch_tree::Found;
@@ -37,11 +39,11 @@ fn put_claim<O: Out>(out: &mut O, bound: &Option<i128>)
     }
 }
 
-// The line of the version: the third where a leaf of the tree claims by exact values, else the second.
-fn put_version<O: Out>(out: &mut O, has_exact: bool)
-    ensures { O.emits (version_line (if has_exact then Third else Second)) out.old out.new }
+// The line of the version: the third where that is wanted, else the second.
+fn put_version<O: Out>(out: &mut O, is_third: bool)
+    ensures { O.emits (version_line (if is_third then Third else Second)) out.old out.new }
 {
-    put_whole_line(out, b"uc-certificate", if has_exact { 3 } else { 2 });
+    put_whole_line(out, b"uc-certificate", if is_third { 3 } else { 2 });
 }
 
 fn put_heading<O: Out>(out: &mut O, found: &Found, instance: &Instance)
@@ -51,7 +53,8 @@ fn put_heading<O: Out>(out: &mut O, found: &Found, instance: &Instance)
     let thermal = instance.thermal.as_slice().len();
     let renewable = instance.renewable.as_slice().len();
     let tables = found.layout.tables.as_slice().len();
-    put_version(out, has_exact_leaf(&found.tree, &found.layout));
+    let has_exact = has_exact_leaf(&found.tree, &found.layout);
+    put_version(out, has_exact || is_divided(&found.schedule));
     put_size(out, instance.periods, thermal, renewable, tables);
     put_claim(out, &found.tree.bound());
 }
@@ -63,7 +66,8 @@ fn put_read_heading<O: Out>(out: &mut O, cert: &Cert)
     let thermal = cert.thermal as usize;
     let renewable = cert.renewable as usize;
     let tables = cert.tables.as_slice().len();
-    put_version(out, has_exact_read(cert.tree.as_slice()));
+    let has_exact = has_exact_read(cert.tree.as_slice());
+    put_version(out, has_exact || is_read_divided(&cert.schedule));
     put_size(out, cert.periods, thermal, renewable, tables);
     put_claim(out, &cert.bound);
 }
@@ -93,8 +97,8 @@ fn put_read<O: Out>(out: &mut O, cert: &Cert)
     out.put(b"end\n");
 }
 
-/// Writes the certificate of what was found for the instance: in the third version where a leaf of its tree claims by exact values,
-/// else in the second. It takes no memory.
+/// Writes the certificate of what was found for the instance: in the third version where a leaf of its tree claims by exact values, or its
+/// schedule has powers that aren't whole, else in the second. It takes no memory.
 ///
 /// `Failed` comes only where the writer's count of faults rose, and a front of the text is written then.
 #[tactic(auto, using(crate::proofs::Parts::found_is_text))]

@@ -26,9 +26,9 @@ pub fn ranges_count_digits()
 /// schedule has one, its bound is in the range of money, and the rows of its tables can be counted.
 #[tactic(auto, using(crate::proofs::Parts::found_has_text))]
 pub fn found_certificates_have_text()
-    ensures { (instance : Instance) (found : Found) → IsLawfulInstance instance → IsWhole found.tree
+    ensures { (version : Version) (instance : Instance) (found : Found) → IsLawfulInstance instance → IsWhole found.tree
         → CertificateHolds instance (certificate_of instance found)
-        → IfSome (written_of found.schedule) (IsScheduleText (has_price instance.a instance.b) instance.periods (thermal_count instance) (renewable_count instance))
+        → IfSome (written_of found.schedule) (IsScheduleText version (has_price instance.a instance.b) instance.periods (thermal_count instance) (renewable_count instance))
         → IfSome (tree_bound found.tree) IsMoney
         → All (λ table. length table.ramps < 10 ^ 18) (written_tables found)
         → HasWrittenText (certificate_of instance found) }

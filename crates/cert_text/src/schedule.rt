@@ -3,11 +3,11 @@
 ghost use Rattle.std.specs.Prelude.{◌≡◌, Some};
 ghost use Rattle.uc_model.specs.Decimal.{signed_text};
 ghost use Rattle.branch_tree.specs.Claims.{written_of};
-ghost use Rattle.cert_text.specs.CertificateText.{cell_text, has_price, penalty_line};
+ghost use Rattle.cert_text.specs.CertificateText.{cell_text, cost_line, has_price, is_divided, penalty_line};
 ghost use Rattle.cert_text.specs.inside.WrittenParts.{penalty_part, shortages_part, schedule_part};
 
 use outside::{
-    Form, Out, RowLine, put_count, put_each, put_list_line, put_money_line, put_signed, put_whole,
+    Form, Out, RowLine, put_count, put_each, put_list_line, put_money, put_signed, put_whole,
 };
 use uc_model::{Cell, Printed};
 
@@ -77,11 +77,43 @@ fn put_shortages<O: Out>(out: &mut O, priced: bool, printed: &Printed)
     }
 }
 
+// The line of a schedule's cost, in micro-dollars.
+fn put_cost<O: Out>(out: &mut O, cost: &i128, denominator: u8)
+    ensures { O.emits (cost_line cost.now denominator) out.old out.new }
+{
+    out.put(b"schedule ");
+    put_money(out, cost);
+    if denominator != 1 {
+        put_count(out, b" over ", u64::from(denominator));
+    }
+    out.put(b"\n");
+}
+
+/// Whether a schedule that was found has powers that aren't whole.
+pub(crate) fn is_divided(schedule: &Option<(Printed, i64)>) -> bool
+    ensures { result ≡ is_divided (written_of schedule.now) }
+{
+    match schedule {
+        Some((printed, _)) => printed.denominator != 1,
+        None => false,
+    }
+}
+
+/// The same of one that was read.
+pub(crate) fn is_read_divided(schedule: &Option<(Printed, i128)>) -> bool
+    ensures { result ≡ is_divided (written_of schedule.now) }
+{
+    match schedule {
+        Some((printed, _)) => printed.denominator != 1,
+        None => false,
+    }
+}
+
 // A schedule with its cost, in micro-dollars.
 fn put_written<O: Out>(out: &mut O, priced: bool, printed: &Printed, cost: &i128)
     ensures { O.emits (schedule_part priced (Some (record { printed = printed.now; cost = cost.now }))) out.old out.new }
 {
-    put_money_line(out, b"schedule", cost);
+    put_cost(out, cost, printed.denominator);
     put_each(
         out,
         &RowLine {

@@ -9,7 +9,7 @@ use Rattle.dual_model.specs.Cover.{Leaf, Bound, Ray, Empty}
 use Rattle.dual_model.specs.Prices.{pi_at, mu_at, up_at, down_at}
 use Rattle.cert_text.specs.Changes.{Table, Change, OfDemand, OfReserve, OfRamps, is_before}
 use Rattle.cert_text.specs.CertificateText.{Version, First, Second, Third, TreeNode, LeafNode, SplitNode, has_price}
-use Rattle.cert_text.specs.Grammar.{Cell, RampRow, Sizes, PlanLine, Priced, Unpriced}
+use Rattle.cert_text.specs.Grammar.{Cell, RampRow, Sizes, ScheduleHead, PlanLine, Priced, Unpriced}
 
 infixl 10 ◌>>=◌
 abbrev pub ◌>>=◌ : {A B : Type 0} → Option A → (A → Option B) → Option B
@@ -138,6 +138,12 @@ unfoldable pub claim_at : Form (Option ℤ)
 claim_at bytes =
     when (text_at (codes "claim bound ") bytes) (mapped Some (ended money_at (codes "\n"))) (fixed (codes "claim infeasible\n") None bytes)
 
+-- ---- what stands in the third version alone
+abbrev pub tells_exact : Version → Bool
+tells_exact First = false
+tells_exact Second = false
+tells_exact Third = true
+
 -- ---- prices and the schedule
 abbrev pub is_penalty : ℕ × ℕ → Bool
 is_penalty p = (nat_le p.0 1000000 && nat_le p.1 1000000) && has_price p.0 p.1
@@ -146,12 +152,27 @@ is_penalty p = (nat_le p.0 1000000 && nat_le p.1 1000000) && has_price p.0 p.1
 unfoldable pub penalty_at : Form (ℕ × ℕ)
 penalty_at = passing is_penalty (both (ended (whole_at 18) (codes " ")) (ended (whole_at 18) (codes "\n")))
 
-unfoldable pub schedule_at : Form (Option ℤ)
-schedule_at bytes =
-    when (text_at (codes "schedule none\n") bytes) (λ rest. Some (None, rest)) (after (codes "schedule ") (mapped Some (ended money_at (codes "\n"))) bytes)
+-- a denominator that stands in that version
+abbrev pub is_over : Version → ℕ → Bool
+is_over version denominator = tells_exact version && (nat_le 2 denominator && nat_le denominator 99)
 
-unfoldable pub plan_at : Form PlanLine
-plan_at bytes = when (text_at (codes "penalty ") bytes) (mapped (λ p. Priced p.0 p.1) penalty_at) (mapped Unpriced schedule_at bytes)
+-- the denominator of a schedule's powers, up to the end of its line: 1 where none is told
+unfoldable pub denominator_at : Version → Form ℕ
+denominator_at version bytes =
+    when (text_at (codes "\n") bytes) (λ rest. Some (1, rest)) (after (codes " over ") (passing (is_over version) (ended (whole_at 18) (codes "\n"))) bytes)
+
+abbrev pub head_from : ℤ × ℕ → ScheduleHead
+head_from p = record { cost = p.0; denominator = p.1 }
+
+unfoldable pub head_at : Version → Form ScheduleHead
+head_at version = mapped head_from (both money_at (denominator_at version))
+
+unfoldable pub schedule_at : Version → Form (Option ScheduleHead)
+schedule_at version bytes =
+    when (text_at (codes "schedule none\n") bytes) (λ rest. Some (None, rest)) (after (codes "schedule ") (mapped Some (head_at version)) bytes)
+
+unfoldable pub plan_at : Version → Form PlanLine
+plan_at version bytes = when (text_at (codes "penalty ") bytes) (mapped (λ p. Priced p.0 p.1) penalty_at) (mapped Unpriced (schedule_at version) bytes)
 
 abbrev pub on_cell : ℤ × (ℤ × ℕ) → Cell
 on_cell p = record { on = true; p = p.0; r = p.1.0; category = p.1.1 }
@@ -258,12 +279,6 @@ named_at count = passing (λ n. nat_lt n count) (ended ordinal_at (codes "\n"))
 unfoldable pub split_at : Sizes → Form (ℕ × ℕ)
 split_at size =
     passing (λ p. nat_lt p.0 size.thermal && nat_lt p.1 size.periods) (both (ended ordinal_at (codes " ")) (ended ordinal_at (codes "\n")))
-
--- leaves by exact values stand in the third version alone
-abbrev pub tells_exact : Version → Bool
-tells_exact First = false
-tells_exact Second = false
-tells_exact Third = true
 
 -- one of them behind its first word, `exact`
 abbrev pub exact_leaf_at : Sizes → Form Leaf

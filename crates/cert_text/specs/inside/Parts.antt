@@ -1,15 +1,16 @@
 -- Reading parts of a certificate, of one or more lines each: the value of a part and the bytes behind it, or the bytes from
 -- the first line on that may not stand there.
 use Rattle.std.specs.Prelude.{◌≡◌, ℕ, zero, suc, Bool, true, false, List, [], ◌∷◌, length, Option, Some, None, Result, Ok, Err, ℤ, pos, codes, replicate}
-use Rattle.std.specs.Option.{ok_or}
+use Rattle.std.specs.Option.{ok_or, option_map}
 use Rattle.dual_model.specs.Certificate.{WrittenSchedule}
 use Rattle.cert_text.specs.Changes.{Change, changed, all_changed}
 use Rattle.cert_text.specs.CertificateText.{Version, told_from, Cell, Printed, RampRow, Table, Listing, TreeNode, LeafNode, SplitNode}
-use Rattle.cert_text.specs.Grammar.{Sizes, PlanLine, Priced, Unpriced, IsRampAfter, IsChangeAfter, rescaled}
+use Rattle.cert_text.specs.Grammar.{Sizes, ScheduleHead, PlanLine, Priced, Unpriced, IsRampAfter, IsChangeAfter, rescaled}
 pub use Rattle.cert_text.specs.declared.reader.stop.Stop.{Stop}
 use Rattle.cert_text.specs.declared.reader.stop.Stop.TheVariants as stops
 use Rattle.cert_text.specs.inside.Forms.{Form, signed_at, version_at, size_at, claim_at, schedule_at, plan_at, cell_at, row_at, scale_at, ramp_count_at, ramp_at, next_at, change_at, node_at, end_at}
 use Rattle.cert_text.specs.declared.reader.sizes.Size.{Size}
+use Rattle.cert_text.specs.declared.reader.lines.Head.{Head}
 use Rattle.cert_text.specs.declared.reader.lines.First.{First}
 use Rattle.cert_text.specs.declared.reader.lines.First.TheVariants as firsts
 
@@ -61,25 +62,25 @@ unfoldable pub shortages_part : Sizes → Bool → Part (List ℤ × List ℤ)
 shortages_part size false bytes = Ok ((nothing size.periods, nothing size.periods), bytes)
 shortages_part size true bytes = then (powers_part (codes "d") size) (λ _. powers_part (codes "e") size) bytes
 
--- the watts are whole
-abbrev pub printed_of : List (List Cell) × (List (List ℤ) × (List ℤ × List ℤ)) → Printed
-printed_of p = record { thermal = p.0; renewable = p.1.0; shed = p.1.1.0; short = p.1.1.1; denominator = 1 }
+-- with the powers over a denominator
+abbrev pub printed_of : ℕ → List (List Cell) × (List (List ℤ) × (List ℤ × List ℤ)) → Printed
+printed_of denominator p = record { thermal = p.0; renewable = p.1.0; shed = p.1.1.0; short = p.1.1.1; denominator = denominator }
 
-unfoldable pub printed_part : Sizes → Bool → Part Printed
-printed_part size priced =
-    told printed_of (then (rows_of (codes "t") size.thermal size.periods cell_at)
+unfoldable pub printed_part : Sizes → Bool → ℕ → Part Printed
+printed_part size priced denominator =
+    told (printed_of denominator) (then (rows_of (codes "t") size.thermal size.periods cell_at)
     (λ _. then (rows_of (codes "w") size.renewable size.periods (signed_at 15)) (λ _. shortages_part size priced)))
 
 abbrev pub written : ℤ → Printed → Option WrittenSchedule
 written cost printed = Some (record { printed = printed; cost = cost })
 
-abbrev pub rows_behind : Sizes → Bool → Option ℤ → Part (Option WrittenSchedule)
+abbrev pub rows_behind : Sizes → Bool → Option ScheduleHead → Part (Option WrittenSchedule)
 rows_behind size priced None bytes = Ok (None, bytes)
-rows_behind size priced (Some cost) bytes = told (written cost) (printed_part size priced) bytes
+rows_behind size priced (Some head) bytes = told (written head.cost) (printed_part size priced head.denominator) bytes
 
 -- the schedule behind prices
 unfoldable pub schedule_part : Sizes → Part (Option WrittenSchedule)
-schedule_part size bytes = line_of schedule_at bytes >>= λ x. rows_behind size true x.0 x.1
+schedule_part size bytes = line_of (schedule_at size.version) bytes >>= λ x. rows_behind size true x.0 x.1
 
 -- ---- prices, and the schedule
 abbrev pub Planned : Type 0
@@ -87,17 +88,17 @@ Planned = (ℕ × ℕ) × Option WrittenSchedule
 
 abbrev pub prices_of : PlanLine → ℕ × ℕ
 prices_of (Priced a b) = (a, b)
-prices_of (Unpriced cost) = (0, 0)
+prices_of (Unpriced head) = (0, 0)
 
 abbrev pub behind_first : Sizes → PlanLine → Part (Option WrittenSchedule)
 behind_first size (Priced a b) bytes = schedule_part size bytes
-behind_first size (Unpriced cost) bytes = rows_behind size false cost bytes
+behind_first size (Unpriced head) bytes = rows_behind size false head bytes
 
 abbrev pub plan_from : PlanLine × Option WrittenSchedule → Planned
 plan_from p = (prices_of p.0, p.1)
 
 unfoldable pub plan_part : Sizes → Part Planned
-plan_part size = told plan_from (then (line_of plan_at) (behind_first size))
+plan_part size = told plan_from (then (line_of (plan_at size.version)) (behind_first size))
 
 -- ---- tables
 -- so many ramp rows, behind one or as the first ones
@@ -201,9 +202,12 @@ AreChanges size table last [] = Unit {0}
 AreChanges size table last (change ∷ changes) = IsChangeAfter size table last change × AreChanges size (changed table change) (Some change) changes
 
 -- ---- What contracts see of the values that are read.
+abbrev pub head_of : Head → ScheduleHead
+head_of head = record { cost = head.cost; denominator = head.denominator }
+
 abbrev pub first_of : First → PlanLine
 first_of (firsts.Priced a b) = Priced a b
-first_of (firsts.Unpriced cost) = Unpriced cost
+first_of (firsts.Unpriced head) = Unpriced (option_map head_of head)
 
 abbrev pub sizes : Size → Sizes
 sizes size = record { version = size.version; periods = size.periods; thermal = size.thermal; renewable = size.renewable; tables = size.tables }

@@ -30,7 +30,7 @@ shortages_part true printed = joined (shed_line printed.shed ∷ short_line prin
 abbrev pub schedule_part : Bool → Option WrittenSchedule → List ℕ
 schedule_part priced None = no_schedule_line
 schedule_part priced (Some written) =
-    joined (cost_line written.cost ∷ flat_map thermal_line written.printed.thermal
+    joined (cost_line written.cost written.printed.denominator ∷ flat_map thermal_line written.printed.thermal
     ∷ flat_map renewable_line written.printed.renewable ∷ shortages_part priced written.printed ∷ [])
 
 -- ---- tables

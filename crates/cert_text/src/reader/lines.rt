@@ -1,9 +1,10 @@
 //! The other lines of one value.
 
 ghost use Rattle.std.specs.Prelude.{◌≡◌, ◌<◌, IfSome, codes};
+ghost use Rattle.std.specs.Option.{option_map};
 ghost use Rattle.cert_text.specs.CertificateText.{LeafNode, SplitNode};
-ghost use Rattle.cert_text.specs.inside.Forms.{Gives, mapped, after, ended, whole_at, money_at, claim_at, penalty_at, schedule_at, plan_at, on_cell_at, cell_at, row_numbers_at, ramp_at, rises, is_ramp, named_at, split_at, exact_at, node_at, tells_exact};
-ghost use Rattle.cert_text.specs.inside.Parts.{sizes, first_of};
+ghost use Rattle.cert_text.specs.inside.Forms.{Gives, mapped, after, ended, whole_at, money_at, claim_at, penalty_at, denominator_at, head_at, schedule_at, plan_at, on_cell_at, cell_at, row_numbers_at, ramp_at, rises, is_ramp, named_at, split_at, exact_at, node_at, tells_exact};
+ghost use Rattle.cert_text.specs.inside.Parts.{sizes, first_of, head_of};
 ghost use Rattle.cert_text.specs.Reading.{node_of};
 
 use super::numbers::{
@@ -36,17 +37,53 @@ pub(crate) fn take_claim(bytes: &[u8]) -> Option<(Option<i128>, &[u8])>
     Some(None).zip(take_text(bytes, b"claim infeasible\n"))
 }
 
-/// The cost of the schedule that follows, or none.
+/// What the line of a schedule tells: its cost in micro-dollars, and the denominator of its powers.
+#[derive(Clone, Copy)]
+pub(crate) struct Head {
+    pub(crate) cost: i128,
+    pub(crate) denominator: u8,
+}
+
+/// The greatest denominator of powers.
+const MAX_DENOMINATOR: u64 = 99;
+
+// The denominator of a schedule's powers, up to the end of its line.
+#[tactic(auto, unfolding(crate::specs::inside::Forms::denominator_at))]
+fn take_denominator(bytes: &[u8], version: Version) -> Option<(u8, &[u8])>
+    ensures { Gives (λ r. (r.0, r.1.now)) result (denominator_at version bytes.now) }
+{
+    if let Some(rest) = take_text(bytes, b"\n") {
+        return Some((1, rest));
+    }
+    let rest = take_text(bytes, b" over ")?;
+    let (denominator, rest) = take_count_to(rest, b'\n')?;
+    if !tells_exact(version) || denominator < 2 || denominator > MAX_DENOMINATOR {
+        return None;
+    }
+    Some((denominator as u8, rest))
+}
+
+// The cost and the denominator of a schedule.
+#[tactic(auto, unfolding(crate::specs::inside::Forms::head_at))]
+fn take_head(bytes: &[u8], version: Version) -> Option<(Head, &[u8])>
+    ensures { Gives (λ r. (head_of r.0, r.1.now)) result (head_at version bytes.now) }
+{
+    let (cost, rest) = take_money(bytes)?;
+    let (denominator, rest) = take_denominator(rest, version)?;
+    Some((Head { cost, denominator }, rest))
+}
+
+/// The line of the schedule that follows, or that there is none.
 #[tactic(auto, unfolding(crate::specs::inside::Forms::schedule_at))]
-pub(crate) fn take_schedule(bytes: &[u8]) -> Option<(Option<i128>, &[u8])>
-    ensures { Gives (λ r. (r.0, r.1.now)) result (schedule_at bytes.now) }
+pub(crate) fn take_schedule(bytes: &[u8], version: Version) -> Option<(Option<Head>, &[u8])>
+    ensures { Gives (λ r. (option_map head_of r.0, r.1.now)) result (schedule_at version bytes.now) }
 {
     if let Some(rest) = take_text(bytes, b"schedule none\n") {
         return Some((None, rest));
     }
     let rest = take_text(bytes, b"schedule ")?;
-    let (cost, rest) = take_last_money(rest)?;
-    Some((Some(cost), rest))
+    let (head, rest) = take_head(rest, version)?;
+    Some((Some(head), rest))
 }
 
 /// The line behind the claim.
@@ -54,8 +91,8 @@ pub(crate) fn take_schedule(bytes: &[u8]) -> Option<(Option<i128>, &[u8])>
 pub(crate) enum First {
     /// The prices of unserved demand and of missing reserve.
     Priced { a: u32, b: u32 },
-    /// Nothing has a price: the cost of the schedule that follows, or none.
-    Unpriced(Option<i128>),
+    /// Nothing has a price: the line of the schedule that follows, or none.
+    Unpriced(Option<Head>),
 }
 
 /// The greatest price of a shortage.
@@ -76,15 +113,15 @@ fn take_penalty(bytes: &[u8]) -> Option<((u32, u32), &[u8])>
 
 /// The prices of shortages, or else the schedule's line.
 #[tactic(auto, unfolding(crate::specs::inside::Forms::plan_at))]
-pub(crate) fn take_first(bytes: &[u8]) -> Option<(First, &[u8])>
-    ensures { Gives (λ r. (first_of r.0, r.1.now)) result (plan_at bytes.now) }
+pub(crate) fn take_first(bytes: &[u8], version: Version) -> Option<(First, &[u8])>
+    ensures { Gives (λ r. (first_of r.0, r.1.now)) result (plan_at version bytes.now) }
 {
     if let Some(rest) = take_text(bytes, b"penalty ") {
         let ((a, b), rest) = take_penalty(rest)?;
         return Some((First::Priced { a, b }, rest));
     }
-    let (cost, rest) = take_schedule(bytes)?;
-    Some((First::Unpriced(cost), rest))
+    let (head, rest) = take_schedule(bytes, version)?;
+    Some((First::Unpriced(head), rest))
 }
 
 #[tactic(auto, unfolding(crate::specs::inside::Forms::on_cell_at))]
@@ -191,7 +228,7 @@ fn take_split<'a>(bytes: &'a [u8], size: &Size) -> Option<((u32, u32), &'a [u8])
     Some(((below(g, size.thermal)?, below(t, size.periods)?), rest))
 }
 
-// Whether leaves by exact values stand in that version.
+// Whether leaves by exact values, and denominators, stand in that version.
 fn tells_exact(version: Version) -> bool
     ensures { result ≡ tells_exact version }
 {

@@ -1,10 +1,11 @@
 //! Prices and schedules.
 
 ghost use Rattle.std.specs.Prelude.{◌≡◌, Ok, Err, IfOk, true};
+ghost use Rattle.std.specs.Option.{option_map};
 ghost use Rattle.branch_tree.specs.Claims.{written_of};
-ghost use Rattle.cert_text.specs.inside.Parts.{GivesPart, nothing, powers_part, shortages_part, printed_part, rows_behind, schedule_part, first_of, prices_of, behind_first, plan_part, sizes};
+ghost use Rattle.cert_text.specs.inside.Parts.{GivesPart, nothing, powers_part, shortages_part, printed_part, rows_behind, schedule_part, first_of, head_of, prices_of, behind_first, plan_part, sizes};
 
-use super::lines::{First, take_first, take_schedule};
+use super::lines::{First, Head, take_first, take_schedule};
 use super::sizes::Size;
 use super::stop::Stop;
 use super::words::{CellWord, Watts, take_row, take_rows};
@@ -52,15 +53,16 @@ fn take_shortages<'a>(
     Ok(((shed, short), bytes))
 }
 
-// The rows of all units, and what is missing; the watts are whole.
+// The rows of all units, and what is missing, with powers over that denominator.
 #[tactic(auto, unfolding(crate::specs::inside::Parts::printed_part))]
 fn take_printed<'a>(
     alloc: Global,
     size: &Size,
     priced: bool,
+    denominator: u8,
     bytes: &'a [u8],
 ) -> Result<(Printed, &'a [u8]), Stop<'a>>
-    ensures { GivesPart (λ r. (r.0, r.1.now)) result (printed_part (sizes size.now) priced bytes.now) }
+    ensures { GivesPart (λ r. (r.0, r.1.now)) result (printed_part (sizes size.now) priced denominator bytes.now) }
 {
     let (thermal, rest) = take_rows(alloc, b"t", &CellWord, size.thermal, size.periods, bytes)?;
     let (renewable, rest) = take_rows(alloc, b"w", &Watts, size.renewable, size.periods, rest)?;
@@ -70,26 +72,26 @@ fn take_printed<'a>(
         renewable: List::from_vec(renewable),
         shed,
         short,
-        denominator: 1,
+        denominator,
     };
     Ok((printed, rest))
 }
 
-// The rows of a schedule of this cost, or none.
+// The rows of a schedule whose line is this, or none.
 fn take_rows_behind<'a>(
     alloc: Global,
     size: &Size,
     priced: bool,
-    cost: Option<i128>,
+    head: Option<Head>,
     bytes: &'a [u8],
 ) -> Result<(Option<(Printed, i128)>, &'a [u8]), Stop<'a>>
-    ensures { GivesPart (λ r. (written_of r.0, r.1.now)) result (rows_behind (sizes size.now) priced cost bytes.now) }
+    ensures { GivesPart (λ r. (written_of r.0, r.1.now)) result (rows_behind (sizes size.now) priced (option_map head_of head) bytes.now) }
 {
-    match cost {
+    match head {
         None => Ok((None, bytes)),
-        Some(cost) => {
-            let (printed, rest) = take_printed(alloc, size, priced, bytes)?;
-            Ok((Some((printed, cost)), rest))
+        Some(head) => {
+            let (printed, rest) = take_printed(alloc, size, priced, head.denominator, bytes)?;
+            Ok((Some((printed, head.cost)), rest))
         }
     }
 }
@@ -103,8 +105,8 @@ fn take_priced<'a>(
 ) -> Result<(Option<(Printed, i128)>, &'a [u8]), Stop<'a>>
     ensures { GivesPart (λ r. (written_of r.0, r.1.now)) result (schedule_part (sizes size.now) bytes.now) }
 {
-    let (cost, rest) = take_schedule(bytes).ok_or(Stop::At(bytes))?;
-    take_rows_behind(alloc, size, true, cost, rest)
+    let (head, rest) = take_schedule(bytes, size.version).ok_or(Stop::At(bytes))?;
+    take_rows_behind(alloc, size, true, head, rest)
 }
 
 // The schedule with its cost, or none, behind the line of the prices or as that line tells.
@@ -118,7 +120,7 @@ fn take_behind<'a>(
 {
     match first {
         First::Priced { .. } => take_priced(alloc, size, bytes),
-        First::Unpriced(cost) => take_rows_behind(alloc, size, false, cost, bytes),
+        First::Unpriced(head) => take_rows_behind(alloc, size, false, head, bytes),
     }
 }
 
@@ -141,7 +143,7 @@ pub(crate) fn take_plan<'a>(
 ) -> Result<((u32, u32), Option<(Printed, i128)>, &'a [u8]), Stop<'a>>
     ensures { GivesPart (λ r. ((r.0, written_of r.1), r.2.now)) result (plan_part (sizes size.now) bytes.now) }
 {
-    let (first, rest) = take_first(bytes).ok_or(Stop::At(bytes))?;
+    let (first, rest) = take_first(bytes, size.version).ok_or(Stop::At(bytes))?;
     let (schedule, rest) = take_behind(alloc, size, first, rest)?;
     Ok((prices_of(first), schedule, rest))
 }
