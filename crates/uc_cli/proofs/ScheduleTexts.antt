@@ -3,7 +3,7 @@ use Rattle.std.proofs.Common.{◌≡◌, ◌∙◌, ℕ, zero, suc, ◌<◌, ◌
 use Rattle.std.proofs.lemmas.List.{get_or_default}
 use Rattle.uc_model.specs.Limits.{IsLimit}
 use Rattle.uc_model.specs.Schedule.{thermal_count, renewable_count}
-use Rattle.uc_model.specs.PrintedSchedule.{LacksNothing, cell_at, shed_at, short_at, printed_denominator, printed_schedule}
+use Rattle.uc_model.specs.PrintedSchedule.{cell_at, shed_at, short_at, printed_denominator, printed_schedule}
 use Rattle.uc_model.proofs.Ring.{linear, le_from_mul, mul-zero}
 use Rattle.uc_model.proofs.Shortages.{share_is, shed_parts, short_parts}
 use Rattle.uc_model.specs.declared.instance.Instance.{Instance}
@@ -14,7 +14,8 @@ use Rattle.schedule_check.specs.PlainNumbers.{IsPlainCell, HasPlainNumbers}
 use Rattle.schedule_check.proofs.Plain.{sized}
 use Rattle.branch_tree.specs.Claims.{written_of}
 use Rattle.cert_text.specs.CertificateText.{has_price}
-use Rattle.cert_text.specs.TextConditions.{AreShortagesText, HasDigits, IsCellText, IsThermalRow, IsPowerRow, IsScheduleText}
+use Rattle.cert_text.specs.TextConditions.{AreShortagesText, HasNoShortage, HasDigits, IsCellText, IsDenominator, IsThermalRow, IsPowerRow, IsScheduleText}
+use Rattle.cert_text.specs.declared.cert.Version.{Version}
 use Rattle.cert_text.proofs.PlanLaws.{no_prices}
 use Rattle.schedule_check.specs.Accepted.{IsAccepted}
 
@@ -86,7 +87,7 @@ whole_share q d missing whole e =
     ap (λ n. pos n *ℤ missing) (sym same) ∙ e
 
 lacks_nothing : (instance : Instance) (printed : Printed) (cost : ℤ) → IsAccepted instance printed cost
-    → (instance.a ≡ 0) × (instance.b ≡ 0) → LacksNothing instance.periods printed
+    → (instance.a ≡ 0) × (instance.b ≡ 0) → HasNoShortage instance.periods printed
 lacks_nothing instance printed cost accepted free =
     let q = printed_denominator instance printed in
     let x = printed_schedule instance printed q in
@@ -98,7 +99,6 @@ lacks_nothing instance printed cost accepted free =
       short = no_powers instance.periods printed.short accepted.shape.short (λ t below.
           zero_over q (short_at printed t) some (whole_share q printed.denominator (short_at printed t) accepted.whole
           ((short_parts instance q x t accepted.obeys below).priced free.1)));
-      denominator = accepted.whole;
     }
 
 shortages_text : (instance : Instance) (printed : Printed) (cost : ℤ) (priced : Bool) → IsAccepted instance printed cost
@@ -108,13 +108,16 @@ shortages_text instance printed cost false accepted none =
 shortages_text instance printed cost true accepted some = record {
   shed = power_row instance.periods printed.shed accepted.shape.shed accepted.numbers.shed;
   short = power_row instance.periods printed.short accepted.shape.short accepted.numbers.short;
-  denominator = accepted.whole;
 }
 
-schedule_text : (instance : Instance) (printed : Printed) (cost : ℤ) → IsAccepted instance printed cost
-    → IsScheduleText (has_price instance.a instance.b) instance.periods (thermal_count instance) (renewable_count instance)
+-- whole watts have the denominator 1, in whichever version
+whole_denominator : (version : Version) (denominator : ℕ) → denominator ≡ 1 → IsDenominator version denominator
+whole_denominator version denominator whole = record { least = omega (arith, whole); most = omega (arith, whole); divided = λ other. absurd (other whole) }
+
+schedule_text : (version : Version) (instance : Instance) (printed : Printed) (cost : ℤ) → IsAccepted instance printed cost
+    → IsScheduleText version (has_price instance.a instance.b) instance.periods (thermal_count instance) (renewable_count instance)
     (record { printed = printed; cost = cost })
-schedule_text instance printed cost accepted =
+schedule_text version instance printed cost accepted =
     let small = sized printed accepted.numbers in
     record {
       cost = omega (arith, accepted.size);
@@ -125,10 +128,11 @@ schedule_text instance printed cost accepted =
       outputs = λ w d within.
           renewable_row instance.periods printed w _ small (get_or_default printed.renewable w d [] within) (accepted.shape.outputs w d within);
       shortages = shortages_text instance printed cost (has_price instance.a instance.b) accepted refl;
+      denominator = whole_denominator version printed.denominator accepted.whole;
     }
 
-pub has_schedule_text : (instance : Instance) (schedule : Option (Printed × ℤ)) → IfSome schedule (λ pair. IsAccepted instance pair.0 pair.1)
+pub has_schedule_text : (version : Version) (instance : Instance) (schedule : Option (Printed × ℤ)) → IfSome schedule (λ pair. IsAccepted instance pair.0 pair.1)
     → IfSome (written_of schedule)
-    (IsScheduleText (has_price instance.a instance.b) instance.periods (thermal_count instance) (renewable_count instance))
-has_schedule_text instance None accepted = tt
-has_schedule_text instance (Some pair) accepted = schedule_text instance pair.0 pair.1 accepted
+    (IsScheduleText version (has_price instance.a instance.b) instance.periods (thermal_count instance) (renewable_count instance))
+has_schedule_text version instance None accepted = tt
+has_schedule_text version instance (Some pair) accepted = schedule_text version instance pair.0 pair.1 accepted

@@ -9,6 +9,7 @@ use Rattle.outside.specs.Slots.{SlotState}
 use Rattle.branch_tree.specs.StoredTree.{tree_bound}
 use Rattle.branch_tree.specs.Claims.{certificate_of, written_tables}
 use Rattle.cert_text.specs.TextConditions.{HasWrittenText, IsMoney}
+use Rattle.cert_text.specs.declared.cert.Version.TheVariants.{Second}
 use Rattle.cert_text.proofs.Parts.{found_has_text}
 use Rattle.demo_gen.specs.Demo.{demo_instance}
 use Rattle.dual_value.specs.NodeAnswer.{MAX_VALUE}
@@ -34,7 +35,7 @@ countable table few = omega (arith, few)
 text_of : (instance : Instance) (budget gap : ℕ) (found : Found) → IsLawfulInstance instance → IsSearchResult instance budget gap found
     → IsWritable instance found → HasWrittenText (certificate_of instance found)
 text_of instance budget gap found lawful result writable =
-    found_has_text instance found lawful writable.tree result.truth.certificate (has_schedule_text instance found.schedule writable.schedule)
+    found_has_text Second instance found lawful writable.tree result.truth.certificate (has_schedule_text Second instance found.schedule writable.schedule)
     (bound_text (tree_bound found.tree) writable.bound)
     (All-weaker HasFewRows (λ (table : Table). length table.ramps < 10 ^ 18) countable (written_tables found) writable.tables)
 
