@@ -5,7 +5,8 @@
 
 A unit has up to 4 MW above its minimum, two convex segments, and up to three hours; outputs and reserves are whole megawatts over a
 denominator of 1, 2 or 3. Asked is that the least over each denominator is the one over 1, and, of a unit of 10 to 50 MW at 20 MW that can
-fall by 5 MW in an hour, that E at no prices is 150 dollars at the scale of a million, and 10 MW at the ray of too much for a demand of 5.
+fall by 5 MW in an hour, that E at no prices is 150 dollars at the scale of a million, and 10 MW at the ray of too much for a demand of 5; and
+numbers of the cases of `crates/run_cases/data/exact`.
 """
 import itertools
 import random
@@ -67,6 +68,16 @@ def main(count, seed):
     # in megawatts a price of one micro-dollar for a watt is a dollar
     assert least(base, million, [0], [0], 1) * million == 150_000_000_000_000
     assert least(base, 0, [-1], [0], 1) - 5 == 10
+    # at $8 a MWh, besides at $1 a MW of reserve, and where it rises by 12 MW; with points up to 12 MW it has no schedule
+    assert [least(base, 1, [8], [reserve], 1) for reserve in (0, 1)] == [30, -5]
+    assert least(dict(base, ru=12), 1, [8], [1], 1) == 13
+    assert least(dict(base, slopes=[10] * 2), 1, [0], [0], 1) is None
+    # a slope of 10 dollars for 3 MW at the scale 1, and a unit that is at 13 MW or more
+    thin = dict(base, rd=7, slopes=[Fraction(10, 3)] * 3)
+    assert least(thin, 1, [0], [0], 1) == 109
+    # two hours, of a unit up to 20 MW: 15 MW in the first, and off in the second
+    small = dict(base, pmax=20, su=20, sd=20, ru=10, slopes=[10] * 10)
+    assert least(small, 1, [0, 0], [0, 0], 1) == 150
     chance, wrong = random.Random(seed), 0
     for number in range(count):
         unit, hours = drawn(chance), chance.randint(1, 2)
