@@ -71,7 +71,7 @@ entered-named : (stop : Option (Text × List Text)) → is_some (entered (built 
     → is_some (option_and_then named (entered (built program) stop)) ≡ true
 entered-named None e = absurd (true≢false (sym e))
 entered-named (Some p) e =
-    found-named (λ s. answers_to p.0 (label_of s)) p.1 (built program).subs (λ rest. refl, (λ rest. refl, (λ rest. refl, (λ rest. refl, (λ rest. refl, tt))))) e
+    found-named (λ s. answers_to p.0 (label_of s)) p.1 (built program).subs (λ rest. refl, (λ rest. refl, (λ rest. refl, (λ rest. refl, (λ rest. refl, (λ rest. refl, tt)))))) e
 
 pub names_a_command : (words : List Text) → is_taken words ≡ true → is_some (command_of words) ≡ true
 unfolding is_taken command_of

@@ -44,6 +44,10 @@ gap_option = record (new_rule (codes "gap")) {
 abbrev pub price_option : Text → Rule
 price_option name = record (new_rule name) { long = Some name; parser = Some (Signed (pos 1) (pos 1000000)) }
 
+-- `--NAME HOURS`, a number of periods from 1 to 168, which has to be given
+abbrev pub hours_option : Text → Rule
+hours_option name = record (new_rule name) { long = Some name; parser = Some (Signed (pos 1) (pos 168)); required = true }
+
 -- `--table K`, the number of a table, a whole number from 1 to a million and two, which is 1 where the option isn't given
 abbrev pub table_option : Rule
 table_option = record (new_rule (codes "table")) {
@@ -89,7 +93,14 @@ uplift_shape = record (new_shape (codes "uplift")) {
       ∷ price_option (codes "spill-reserve") ∷ [];
 }
 
--- the program has to be given one of the five
+-- `roll FILE --window H --step S [--units N] [--workers N] [--gap PPM] [--exact] [--shed PRICE] [--spill-reserve PRICE]`
+abbrev pub roll_shape : Shape
+roll_shape = record (new_shape (codes "roll")) {
+  rules = place (codes "instance") ∷ hours_option (codes "window") ∷ hours_option (codes "step") ∷ units_option ∷ workers_option ∷ gap_option
+      ∷ switch (codes "exact") ∷ price_option (codes "shed") ∷ price_option (codes "spill-reserve") ∷ [];
+}
+
+-- the program has to be given one of the six
 abbrev pub program : App
 program = record {
   top = record (new_shape (codes "uc")) {
@@ -98,7 +109,7 @@ program = record {
     disable_help_flag = true;
     disable_help_subcommand = true;
   };
-  subs = solve_shape ∷ check_shape ∷ demo_shape ∷ upgrade_shape ∷ uplift_shape ∷ [];
+  subs = solve_shape ∷ check_shape ∷ demo_shape ∷ upgrade_shape ∷ uplift_shape ∷ roll_shape ∷ [];
 }
 
 -- no kind of error may come

@@ -41,6 +41,18 @@ pub record Uplift : Type 0 where
   pub check : Check
   pub table : ℕ
 
+-- what `roll` is asked: the instance's file, how many periods a window has, how many of them are kept, and the rest as `solve` is
+pub record Roll : Type 0 where
+  pub instance : List ℕ
+  pub window : ℕ
+  pub step : ℕ
+  pub units : ℕ
+  pub workers : ℕ
+  pub gap : ℕ
+  pub exact : Bool
+  pub shed : ℕ
+  pub spill_reserve : ℕ
+
 -- what the program does
 pub data Command : Type 0 where
   Solves : Solve → Command
@@ -48,6 +60,7 @@ pub data Command : Type 0 where
   Demos : Demo → Command
   Upgrades : Upgrade → Command
   Uplifts : Uplift → Command
+  Rolls : Roll → Command
 
 -- the value of an argument that has to be given, and so is
 abbrev pub value_of : Text → List Row → List ℕ
@@ -94,6 +107,19 @@ upgrade_of rows = record { certificate = value_of (codes "certificate") rows; to
 abbrev pub uplift_of : List Row → Uplift
 uplift_of rows = record { check = check_of rows; table = number_of 1 1000002 (codes "table") rows }
 
+abbrev pub roll_of : List Row → Roll
+roll_of rows = record {
+  instance = value_of (codes "instance") rows;
+  window = number_of 1 168 (codes "window") rows;
+  step = number_of 1 168 (codes "step") rows;
+  units = number_of 1 1000000 (codes "units") rows;
+  workers = number_of 1 64 (codes "workers") rows;
+  gap = number_of 0 1000000 (codes "gap") rows;
+  exact = is_on (codes "exact") rows;
+  shed = number_of 0 1000000 (codes "shed") rows;
+  spill_reserve = number_of 0 1000000 (codes "spill-reserve") rows;
+}
+
 -- the command of a name, with what was found for its arguments
 abbrev pub named : Text × List Row → Option Command
 named given =
@@ -101,7 +127,8 @@ named given =
     else (if bytes_eq given.0 (codes "check") then Some (Checks (check_of given.1))
     else (if bytes_eq given.0 (codes "demo") then Some (Demos (demo_of given.1))
     else (if bytes_eq given.0 (codes "upgrade") then Some (Upgrades (upgrade_of given.1))
-    else (if bytes_eq given.0 (codes "uplift") then Some (Uplifts (uplift_of given.1)) else None))))
+    else (if bytes_eq given.0 (codes "uplift") then Some (Uplifts (uplift_of given.1))
+    else (if bytes_eq given.0 (codes "roll") then Some (Rolls (roll_of given.1)) else None)))))
 
 -- the command that the words ask for, where they are taken: then there is one
 unfoldable pub command_of : List Text → Option Command

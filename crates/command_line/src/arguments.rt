@@ -3,7 +3,7 @@
 ghost use Rattle.std.specs.Prelude.{◌≡◌, IfOk, true, false, []};
 ghost use Rattle.clap.specs.Words.{App, Rule, Shape, app_of, rule_of, shape_of, with_rule, with_subcommand};
 ghost use Rattle.clap.specs.declared.builder.command.Command.TheViews.{out-Command as fields_of};
-ghost use Rattle.command_line.specs.Arguments.{place as place_rule, needed_option as needed_rule, units_option as units_rule, workers_option as workers_rule, gap_option as gap_rule, price_option as price_rule, table_option as table_rule, switch as switch_rule, seed_place as seed_rule, solve_shape, check_shape, demo_shape, upgrade_shape, uplift_shape, program as program_app};
+ghost use Rattle.command_line.specs.Arguments.{place as place_rule, needed_option as needed_rule, units_option as units_rule, workers_option as workers_rule, gap_option as gap_rule, price_option as price_rule, hours_option as hours_rule, table_option as table_rule, switch as switch_rule, seed_place as seed_rule, solve_shape, check_shape, demo_shape, upgrade_shape, uplift_shape, roll_shape, program as program_app};
 
 use clap::{Arg, ArgAction, Command, value_parser};
 use std::alloc::{AllocError, Global};
@@ -65,6 +65,17 @@ fn price_option<'a>(alloc: Global, name: &'a str) -> Arg<'a>
     Arg::new(alloc, name)
         .long(name)
         .value_parser(value_parser!(u32).range(1..=1_000_000))
+}
+
+// `--NAME HOURS`, a number of periods from 1 to 168, which has to be given.
+fn hours_option<'a>(alloc: Global, name: &'a str) -> Arg<'a>
+    ensures rule { rule_of result ≡ hours_rule name.entry.now }
+    ensures local { result.global ≡ false }
+{
+    Arg::new(alloc, name)
+        .long(name)
+        .value_parser(value_parser!(u32).range(1..=168))
+        .required(true)
 }
 
 // `--table K`, the number of a table from 1, which is the first where the option isn't given.
@@ -172,6 +183,21 @@ fn uplift_command<'a>(alloc: Global) -> Built<'a>
     with_arg(command, price_option(alloc, "spill-reserve"))
 }
 
+fn roll_command<'a>(alloc: Global) -> Built<'a>
+    ensures shape { IfOk result (λ command. shape_of command ≡ roll_shape) }
+    ensures local { IfOk result (λ command. (fields_of command).has_globals ≡ false) }
+{
+    let command = with_arg(Ok(Command::new(alloc, "roll")), place(alloc, "instance"));
+    let command = with_arg(command, hours_option(alloc, "window"));
+    let command = with_arg(command, hours_option(alloc, "step"));
+    let command = with_arg(command, units_option(alloc));
+    let command = with_arg(command, workers_option(alloc));
+    let command = with_arg(command, gap_option(alloc));
+    let command = with_arg(command, switch(alloc, "exact"));
+    let command = with_arg(command, price_option(alloc, "shed"));
+    with_arg(command, price_option(alloc, "spill-reserve"))
+}
+
 // A command has to be given, and help is none.
 fn bare_program<'a>(alloc: Global) -> Command<'a>
     ensures app { app_of result ≡ record { top = record program_app.top { is_leaf = true }; subs = [] } }
@@ -182,7 +208,7 @@ fn bare_program<'a>(alloc: Global) -> Command<'a>
         .disable_help_subcommand(true)
 }
 
-/// The program with its commands, `solve`, `check`, `demo`, `upgrade` and `uplift`.
+/// The program with its commands, `solve`, `check`, `demo`, `upgrade`, `uplift` and `roll`.
 pub(crate) fn program<'a>(alloc: Global) -> Built<'a>
     ensures { IfOk result (λ command. app_of command ≡ program_app) }
 {
@@ -190,5 +216,6 @@ pub(crate) fn program<'a>(alloc: Global) -> Built<'a>
     let program = with_command(program, check_command(alloc));
     let program = with_command(program, demo_command(alloc));
     let program = with_command(program, upgrade_command(alloc));
-    with_command(program, uplift_command(alloc))
+    let program = with_command(program, uplift_command(alloc));
+    with_command(program, roll_command(alloc))
 }

@@ -3,8 +3,8 @@
 ghost use Rattle.std.specs.Prelude.{◌≡◌, ◌≤◌, codes, map, string_bytes, true, IfOk, IfErr, IfSome, Some, option_map, option_and_then};
 ghost use Rattle.clap.specs.Words.{first_of, found_of, rows_of, kind_of, subcommand_rows_of};
 ghost use Rattle.command_line.specs.Arguments.{is_taken};
-ghost use Rattle.command_line.specs.Command.{named, command_of as command_of_words, value_of, is_on, number_of, solve_of as solve_of_rows, check_of as check_of_rows, demo_of as demo_of_rows, upgrade_of as upgrade_of_rows, uplift_of as uplift_of_rows};
-ghost use Rattle.command_line.specs.Asked.{command_asked, solve_asked, check_asked, demo_asked, upgrade_asked, uplift_asked, refusal_of, HasNumbers, HasPrices, HasWorkers, IsRefusal};
+ghost use Rattle.command_line.specs.Command.{named, command_of as command_of_words, value_of, is_on, number_of, solve_of as solve_of_rows, check_of as check_of_rows, demo_of as demo_of_rows, upgrade_of as upgrade_of_rows, uplift_of as uplift_of_rows, roll_of as roll_of_rows};
+ghost use Rattle.command_line.specs.Asked.{command_asked, solve_asked, check_asked, demo_asked, upgrade_asked, uplift_asked, roll_asked, refusal_of, HasHours, HasNumbers, HasPrices, HasWorkers, IsRefusal};
 
 use crate::arguments::program;
 use clap::error::ErrorKind;
@@ -17,6 +17,9 @@ const MOST: u32 = 1_000_000;
 
 /// The most workers.
 const MOST_WORKERS: u32 = 64;
+
+/// The most periods.
+const MOST_HOURS: u32 = 168;
 
 /// The greatest number of a table, from 1.
 const MOST_TABLE: u32 = 1_000_002;
@@ -68,6 +71,20 @@ pub struct Uplift<'a> {
     pub table: u32,
 }
 
+/// What `roll` is asked: the file of the instance, how many periods a window has, how many of them are kept, and the rest as `solve` is.
+#[derive(Clone, Copy, Debug)]
+pub struct Roll<'a> {
+    pub instance: &'a str,
+    pub window: u32,
+    pub step: u32,
+    pub units: u32,
+    pub workers: u8,
+    pub gap: u32,
+    pub exact: bool,
+    pub shed: u32,
+    pub spill_reserve: u32,
+}
+
 /// A command with its arguments.
 #[derive(Clone, Copy, Debug)]
 pub enum Command<'a> {
@@ -76,6 +93,7 @@ pub enum Command<'a> {
     Demo(Demo),
     Upgrade(Upgrade<'a>),
     Uplift(Uplift<'a>),
+    Roll(Roll<'a>),
 }
 
 // The value of an argument, where it has one.
@@ -183,6 +201,26 @@ fn uplift_of<'a>(given: &ArgMatches<'a>) -> Uplift<'a>
     }
 }
 
+fn roll_of<'a>(given: &ArgMatches<'a>) -> Roll<'a>
+    ensures asked { roll_asked result ≡ roll_of_rows (rows_of (found_of given.now)) }
+    ensures hours { HasHours result.window × HasHours result.step }
+    ensures numbers { (result.units ≤ MOST) × (result.gap ≤ MOST) }
+    ensures workers { HasWorkers result.workers }
+    ensures prices { HasPrices result.shed result.spill_reserve }
+{
+    Roll {
+        instance: value(given, "instance"),
+        window: number(given, "window", 1, MOST_HOURS),
+        step: number(given, "step", 1, MOST_HOURS),
+        units: number(given, "units", 1, MOST),
+        workers: workers(given),
+        gap: number(given, "gap", 0, MOST),
+        exact: is_given(given, "exact"),
+        shed: number(given, "shed", 0, MOST),
+        spill_reserve: number(given, "spill-reserve", 0, MOST),
+    }
+}
+
 // The command that was found, with its arguments.
 fn command_in<'a>(matches: &ArgMatches<'a>) -> Option<Command<'a>>
     ensures command { option_map command_asked result ≡ option_and_then named (subcommand_rows_of matches.now) }
@@ -199,6 +237,8 @@ fn command_in<'a>(matches: &ArgMatches<'a>) -> Option<Command<'a>>
         Some(Command::Upgrade(upgrade_of(given)))
     } else if name == "uplift" {
         Some(Command::Uplift(uplift_of(given)))
+    } else if name == "roll" {
+        Some(Command::Roll(roll_of(given)))
     } else {
         None
     }

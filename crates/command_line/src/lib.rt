@@ -4,4 +4,4 @@
 mod arguments;
 pub mod command;
 
-pub use command::{Check, Command, Demo, Solve, Upgrade, Uplift, command_of};
+pub use command::{Check, Command, Demo, Roll, Solve, Upgrade, Uplift, command_of};

@@ -109,11 +109,15 @@ schedule_summary found gap cost =
     joined (state_line (is_within_gap cost (tree_bound found.tree) gap) ∷ cost_line cost ∷ bound_line (tree_bound found.tree)
     ∷ evaluations_line found ∷ [])
 
+-- the rows of a schedule
+abbrev pub schedule_lines : Instance → Printed → List ℕ
+schedule_lines instance printed =
+    joined (thermal_lines instance.thermal printed.thermal ∷ renewable_lines instance.renewable printed.renewable
+    ∷ shortage_lines instance printed ∷ [])
+
 -- and then its rows
 abbrev pub schedule_report : Instance → Found → ℕ → Printed → ℤ → List ℕ
-schedule_report instance found gap printed cost =
-    joined (schedule_summary found gap cost ∷ thermal_lines instance.thermal printed.thermal
-    ∷ renewable_lines instance.renewable printed.renewable ∷ shortage_lines instance printed ∷ [])
+schedule_report instance found gap printed cost = joined (schedule_summary found gap cost ∷ schedule_lines instance printed ∷ [])
 
 -- the first lines without a schedule: with no bound there is none, and else there may be one
 abbrev pub no_schedule_summary : Found → Option ℤ → List ℕ

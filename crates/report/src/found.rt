@@ -5,17 +5,17 @@ ghost use Rattle.outside.specs.Sinks.{SinkWrites, SinkWritesFront};
 ghost use Rattle.branch_tree.specs.StoredTree.{tree_bound};
 ghost use Rattle.report.specs.FoundReport.{size_line, state_line, cost_line, bound_line, evaluations_line, schedule_summary, schedule_report, no_schedule_summary, no_schedule_report, found_report};
 
-use crate::schedule::{RenewableLine, ThermalLine, put_shortages};
+use crate::schedule::put_schedule;
 use crate::stuck::put_stuck;
 use branch_tree::{Found, is_within_gap};
 use outside::{
-    Failed, Latch, Out, Sink, SinkWriter, put_count, put_money_line, put_pairs, put_whole_line,
+    Failed, Latch, Out, Sink, SinkWriter, put_count, put_money_line, put_whole_line,
 };
 use uc_model::tolerance::WHOLE_GAP;
 use uc_model::{Instance, Printed};
 
-// The numbers of periods, units and rounded numbers.
-fn put_size<O: Out>(out: &mut O, instance: &Instance, rounded: u64)
+/// The numbers of periods, units and rounded numbers.
+pub(crate) fn put_size<O: Out>(out: &mut O, instance: &Instance, rounded: u64)
     ensures { O.emits (size_line instance.now rounded) out.old out.new }
 {
     let thermal = instance.thermal.as_slice().len();
@@ -65,7 +65,7 @@ pub(crate) fn put_summary<O: Out>(out: &mut O, found: &Found, gap: u32, cost: &i
     put_evaluations(out, found);
 }
 
-fn put_schedule<O: Out>(
+fn put_found_schedule<O: Out>(
     out: &mut O,
     found: &Found,
     instance: &Instance,
@@ -77,19 +77,7 @@ fn put_schedule<O: Out>(
     ensures { O.emits (schedule_report instance.now found.now gap printed.now cost.now) out.old out.new }
 {
     put_summary(out, found, gap, cost);
-    put_pairs(
-        out,
-        &ThermalLine,
-        instance.thermal.as_slice(),
-        printed.thermal.as_slice(),
-    );
-    put_pairs(
-        out,
-        &RenewableLine,
-        instance.renewable.as_slice(),
-        printed.renewable.as_slice(),
-    );
-    put_shortages(out, instance, printed);
+    put_schedule(out, instance, printed);
 }
 
 // What a report says without a schedule, but for why none was found.
@@ -122,7 +110,9 @@ fn put_report<O: Out>(out: &mut O, found: &Found, instance: &Instance, rounded: 
 {
     put_size(out, instance, rounded);
     match &found.schedule {
-        Some((printed, cost)) => put_schedule(out, found, instance, gap, printed, cost),
+        Some((printed, cost)) => {
+            put_found_schedule(out, found, instance, gap, printed, cost);
+        },
         None => put_no_schedule(out, found, instance),
     }
 }

@@ -2,11 +2,11 @@
 
 ghost use Rattle.std.specs.Prelude.{◌≡◌, ◌+ℤ◌};
 ghost use Rattle.report.specs.Names.{unit_words};
-ghost use Rattle.report.specs.FoundReport.{start_text, cell_text, paired_thermal_line, paired_renewable_line, priced_line, shortage_lines};
+ghost use Rattle.report.specs.FoundReport.{start_text, cell_text, paired_thermal_line, paired_renewable_line, priced_line, shortage_lines, schedule_lines};
 ghost use Rattle.uc_model.specs.Money.{money_text};
 
 use crate::names::put_unit;
-use outside::{Form, Out, PairForm, put_amount, put_list_line, put_money, put_whole};
+use outside::{Form, Out, PairForm, put_amount, put_list_line, put_money, put_pairs, put_whole};
 use uc_model::{Cell, Instance, List, Printed, Renewable, Thermal};
 
 // The category of a start; 0 is no start.
@@ -61,7 +61,7 @@ impl Form<i64> for Power {
 
 // The line of a thermal unit and its row.
 #[derive(Clone, Copy)]
-pub(crate) struct ThermalLine;
+struct ThermalLine;
 
 impl PairForm<Thermal, List<Cell>> for ThermalLine {
     ghost text = { λ _ pair. paired_thermal_line pair };
@@ -74,7 +74,7 @@ impl PairForm<Thermal, List<Cell>> for ThermalLine {
 
 // The line of a renewable unit and its row.
 #[derive(Clone, Copy)]
-pub(crate) struct RenewableLine;
+struct RenewableLine;
 
 impl PairForm<Renewable, List<i64>> for RenewableLine {
     ghost text = { λ _ pair. paired_renewable_line pair };
@@ -95,9 +95,28 @@ fn put_priced<O: Out>(out: &mut O, first: &[u8], price: u32, powers: &[i64])
 }
 
 // The demand that is unserved, and the reserve that is short.
-pub(crate) fn put_shortages<O: Out>(out: &mut O, instance: &Instance, printed: &Printed)
+fn put_shortages<O: Out>(out: &mut O, instance: &Instance, printed: &Printed)
     ensures { O.emits (shortage_lines instance.now printed.now) out.old out.new }
 {
     put_priced(out, b"shed", instance.a, printed.shed.as_slice());
     put_priced(out, b"reserve-short", instance.b, printed.short.as_slice());
+}
+
+/// The rows of a schedule, and what it lacks.
+pub(crate) fn put_schedule<O: Out>(out: &mut O, instance: &Instance, printed: &Printed)
+    ensures { O.emits (schedule_lines instance.now printed.now) out.old out.new }
+{
+    put_pairs(
+        out,
+        &ThermalLine,
+        instance.thermal.as_slice(),
+        printed.thermal.as_slice(),
+    );
+    put_pairs(
+        out,
+        &RenewableLine,
+        instance.renewable.as_slice(),
+        printed.renewable.as_slice(),
+    );
+    put_shortages(out, instance, printed);
 }

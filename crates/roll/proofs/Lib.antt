@@ -9,3 +9,5 @@ pub mod JoinedRows
 pub mod JoinedWhole
 pub mod LawfulWindows
 pub mod StitchedParts
+pub mod KeptWindows
+pub mod SoFar

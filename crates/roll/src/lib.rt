@@ -5,12 +5,16 @@
 mod carrying;
 pub mod examples;
 pub mod laws;
+mod places;
+mod rolled;
 mod rows;
 mod state;
 mod stitching;
 mod windows;
 
 pub use carrying::carry;
+pub use places::{Place, next_place};
+pub use rolled::Rolled;
 pub use state::{Carried, CarriedUnit};
 pub use stitching::{begin, stitch, whole_cost};
 pub use windows::window;

@@ -85,7 +85,7 @@ fn put_sought(case: &Case, text: &mut String, bytes: Option<&[u8]>) -> Result<()
     writeln!(text, "new.cert has no {sought}")
 }
 
-// The status of a run and its files, whether it hands out what was found, and how often the gate was entered.
+// The status of a run and its files, whether it hands out what was found or what came of windows, and how often the gate was entered.
 fn put_state(
     alloc: Global,
     case: &Case,
@@ -99,6 +99,9 @@ fn put_state(
     put_stage(text, &ended.files.cert_out, "new.cert")?;
     if ended.has_found {
         text.push_str("found\n")?;
+    }
+    if ended.has_rolled {
+        text.push_str("rolled\n")?;
     }
     if ended.entries > 0 {
         let entries = format!(in alloc; "gate {}", ended.entries)?;

@@ -13,12 +13,13 @@ use std::sync::Wait;
 use std::thread::Threads;
 use uc_cli::uc;
 
-/// How a run ended: its status, whether it hands out what was found, how often the gate was entered, and, where the words name no number
+/// How a run ended: its status, whether it hands out what was found, or what came of windows, how often the gate was entered, and, where the words name no number
 /// of workers, how often out of turn; and the devices.
 #[derive(Drop)]
 pub(crate) struct Ended {
     pub code: u8,
     pub has_found: bool,
+    pub has_rolled: bool,
     pub entries: u64,
     pub strays: u64,
     pub files: Devices<FaultyFile>,
@@ -87,6 +88,7 @@ fn unbegun(alloc: Global, case: &Case) -> Result<Ended, AllocError>
     Ok(Ended {
         code: 0,
         has_found: false,
+        has_rolled: false,
         entries: 0,
         strays: 0,
         files,
@@ -122,6 +124,7 @@ fn carried_out<R: Threads + Wait + Sync>(
     );
     run.code = end.code;
     run.has_found = end.found.is_some();
+    run.has_rolled = end.rolled.is_some();
     run.entries = gate.entries();
     if !names_workers(words) {
         run.strays = gate.strays();

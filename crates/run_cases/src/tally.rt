@@ -8,6 +8,7 @@ use std::sync::atomic::{AtomicU64, Ordering};
 #[derive(Drop)]
 pub(crate) struct Tally {
     entries: AtomicU64,
+    last: AtomicU64,
     strays: AtomicU64,
 }
 
@@ -16,6 +17,7 @@ impl Tally {
     pub(crate) fn new() -> Self {
         Tally {
             entries: AtomicU64::new(0),
+            last: AtomicU64::new(0),
             strays: AtomicU64::new(0),
         }
     }
@@ -25,7 +27,8 @@ impl Tally {
         self.entries.load(Ordering::SeqCst)
     }
 
-    /// How often by another worker than the first one, or not for the unit behind that of the entry before.
+    /// How often by another worker than the first one, or neither for the first unit of a search nor for the one behind that of the entry
+    /// before.
     pub(crate) fn strays(&self) -> u64 {
         self.strays.load(Ordering::SeqCst)
     }
@@ -33,8 +36,9 @@ impl Tally {
 
 impl Gate for Tally {
     fn enter<R: Wait>(&self, _rt: &R, worker: u8, unit: u32) {
-        let before = self.entries.fetch_add(1, Ordering::SeqCst);
-        if worker != 0 || before.wrapping_add(1) != u64::from(unit) {
+        self.entries.fetch_add(1, Ordering::SeqCst);
+        let before = self.last.swap(u64::from(unit), Ordering::SeqCst);
+        if worker != 0 || (unit != 1 && before.wrapping_add(1) != u64::from(unit)) {
             self.strays.fetch_add(1, Ordering::SeqCst);
         }
     }

@@ -113,6 +113,7 @@ accepting_other : (c : Certificate) (one other : List ℕ) → AreTextsOf c one 
 accepting_other c one other texts asked before after left end accepting = record {
   code = accepting.code;
   nothing = accepting.nothing;
+  unrolled = accepting.unrolled;
   done = record {
     certificate = accepting.done.certificate;
     verified = verified_other c one other texts asked before.files left accepting.done.certificate accepting.done.verified;

@@ -9,6 +9,7 @@ faulty HasFailed failure before after end failed is = record {
   fault = is.fault;
   code = is.code;
   failure = subst (HasFailed is.fault) (sym is.failure.1) (subst (λ fault. HasFailed fault failure.found) (sym is.failure.0) failed);
+  unrolled = is.unrolled;
   told = is.told;
 }
 

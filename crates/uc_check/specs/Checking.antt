@@ -171,6 +171,7 @@ pub record IsAcceptance (asked : Check) (before after : Outside) : Type 0 where
 pub record IsAccepting (asked : Check) (before after : Outside) (end : End) : Type 0 where
   pub code : end.code ≡ 0
   pub nothing : end.found ≡ None
+  pub unrolled : end.rolled ≡ None
   pub done : IsAcceptance asked before after
 
 -- a run of `check`

@@ -1,5 +1,5 @@
 -- How a run ends, by what it came to. This project's own.
-use Rattle.std.specs.Prelude.{◌≡◌, ◌⊎◌, Option, Result, Ok, Err}
+use Rattle.std.specs.Prelude.{◌≡◌, ◌⊎◌, Option, Result, Ok, Err, None}
 use Rattle.outside.specs.Sinks.{SinkState}
 pub use Rattle.branch_tree.specs.declared.found.Found.{Found}
 use Rattle.report.specs.FaultText.{status_of}
@@ -18,6 +18,7 @@ pub record IsFaulty (HasFailed : Fault → Option Found → Type 0) (before afte
   pub fault : Fault
   pub code : end.code ≡ status_of fault
   pub failure : HasFailed fault end.found
+  pub unrolled : end.rolled ≡ None
   pub told : TellsFault fault before after
 
 -- the run came to an end that is such a one, or to such a fault, by the error output before and after

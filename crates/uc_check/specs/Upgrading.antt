@@ -95,6 +95,7 @@ pub record KeepsToCertificates (asked : Upgrade) (before after : Outside) : Type
 pub record IsUpgrading (before after : Outside) (end : End) : Type 0 where
   pub code : end.code ≡ 0
   pub nothing : end.found ≡ None
+  pub unrolled : end.rolled ≡ None
   pub done : IsUpgraded before after
 
 -- a run of `upgrade`

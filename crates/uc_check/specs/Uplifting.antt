@@ -115,6 +115,7 @@ pub record AreUpliftsTold (asked : Uplift) (before after : Outside) : Type 0 whe
 pub record IsUplifting (asked : Uplift) (before after : Outside) (end : End) : Type 0 where
   pub code : end.code ≡ 0
   pub nothing : end.found ≡ None
+  pub unrolled : end.rolled ≡ None
   pub done : AreUpliftsTold asked before after
 
 -- a run of `uplift`, which keeps to the files that `check` reads

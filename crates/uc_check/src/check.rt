@@ -47,6 +47,7 @@ fn verify_and_tell<F: Files, O: Sink>(
         Ok(()) => Ok(End {
             code: 0,
             found: None,
+            rolled: None,
         }),
         Err(Failed) => Err(Failure {
             fault: Fault::Write { output: true },

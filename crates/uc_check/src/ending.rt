@@ -6,12 +6,15 @@ ghost use Rattle.uc_check.specs.Writing.{TellsFault};
 use branch_tree::Found;
 use outside::Sink;
 use report::{Fault, write_fault};
+use roll::Rolled;
 
-/// How a run ended: its exit status, and of `solve` and `demo` what was found where the status is 0 to 3 or 7.
+/// How a run ended: its exit status, of `solve` and `demo` what was found where the status is 0 to 3 or 7, and of `roll` what came of
+/// its windows where it is 0, 7 or 10.
 #[derive(Drop)]
 pub struct End {
     pub code: u8,
     pub found: Option<Found>,
+    pub rolled: Option<Rolled>,
 }
 
 /// A fault that ends a run, and what was found before it.
@@ -31,8 +34,8 @@ impl From<Fault> for Failure {
     }
 }
 
-// Tells a fault on the error output; that this may fail too changes nothing.
-fn tell_fault<E: Sink>(err: &mut E, fault: &Fault)
+/// Tells a fault on the error output; that this may fail too changes nothing.
+pub fn tell_fault<E: Sink>(err: &mut E, fault: &Fault)
     ensures { TellsFault fault.now (E.state err.old) (E.state err.new) }
 {
     let _ = write_fault(err, fault);
@@ -49,6 +52,7 @@ pub fn end_of<E: Sink>(err: &mut E, outcome: Result<End, Failure>) -> End
             End {
                 code: fault.code(),
                 found,
+                rolled: None,
             }
         }
     }

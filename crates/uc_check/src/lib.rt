@@ -13,7 +13,7 @@ mod uplifting;
 mod verify;
 
 pub use check::check_certificate;
-pub use ending::{End, Failure, end_of};
+pub use ending::{End, Failure, end_of, tell_fault};
 pub use input::{ReadOptions, read_instance};
 pub use output::save;
 pub use upgrade::upgrade_certificate;

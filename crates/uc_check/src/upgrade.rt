@@ -83,6 +83,7 @@ fn rewrite_and_tell<F: Files, O: Sink>(
         Ok(()) => Ok(End {
             code: 0,
             found: None,
+            rolled: None,
         }),
         Err(Failed) => Err(Failure {
             fault: Fault::Write { output: true },

@@ -152,6 +152,7 @@ fn uplift_and_tell<F: Files, O: Sink>(
         Ok(()) => Ok(End {
             code: 0,
             found: None,
+            rolled: None,
         }),
         Err(Failed) => Err(Failure {
             fault: Fault::Write { output: true },

@@ -1,15 +1,15 @@
 -- How the ends of a run follow from its steps: reading and searching (from the files f to g), writing the
 -- certificate (from g to h) and the report.
-use Rattle.std.proofs.Common.{◌≡◌, ℕ, subst, ap, ◌∙◌, refl, None}
+use Rattle.std.proofs.Common.{◌≡◌, ℕ, true, false, subst, ap, ◌∙◌, refl, Some, None}
 use Rattle.outside.specs.declared.slot.Slot.TheVariants as slot
 use Rattle.outside.specs.Slots.{SlotState, SameBut}
 use Rattle.outside.specs.Sinks.{SinkState}
-use Rattle.uc_check.specs.Writing.{IsSaved, FailsToSave, IsTold, FailsToTell, text_of_certificate}
-use Rattle.report.specs.FoundReport.{found_report}
+use Rattle.uc_check.specs.Writing.{IsSaved, FailsToSave, text_of_certificate}
 use Rattle.command_line.specs.Command.{Solve}
 use Rattle.uc_check.specs.Outside.{outside_of}
 use Rattle.uc_check.specs.Reading.{HasCause}
 use Rattle.uc_cli.specs.Run.{Fault, Instance, Slot, Write, solve_options, IsAnswer, IsDone, IsFailure, IsUnsaved, IsUntold}
+use Rattle.uc_cli.specs.inside.Written.{AreUnwritten, AreWritten, IsNotSaved, IsNotTold}
 use Rattle.branch_tree.specs.declared.found.Found.{Found}
 
 -- the certificate's slot is as it was before the instance was read
@@ -24,15 +24,15 @@ stopped asked f g out err_old err_new (Write _) cause same = absurd cause
 stopped asked f g out err_old err_new fault cause same =
     record { cause = cause; certificate = certificate_same f g same; out = refl }
 
-pub unsaved : (asked : Solve) (f g h : Slot → SlotState) (out err_old err_new : SinkState) (instance : Instance) (rounded : ℕ) (found : Found)
+unsaved : (asked : Solve) (f g h : Slot → SlotState) (before after err_old err_new : SinkState) (instance : Instance) (rounded : ℕ) (found : Found)
     → IsAnswer asked (f slot.Instance) instance rounded found → SameBut slot.Instance f g
-    → FailsToSave (text_of_certificate instance found) (g slot.CertOut) (h slot.CertOut)
-    → IsUnsaved asked (outside_of f out err_old) (outside_of h out err_new) found
-unsaved asked f g h out err_old err_new instance rounded found answer same fails = record {
+    → IsNotSaved instance found (g slot.CertOut) (h slot.CertOut) before after
+    → IsUnsaved asked (outside_of f before err_old) (outside_of h after err_new) found
+unsaved asked f g h before after err_old err_new instance rounded found answer same is = record {
   has = record { instance = instance; rounded = rounded; answer = answer };
   certificate =
-      subst (λ s. FailsToSave (text_of_certificate instance found) s (h slot.CertOut)) (certificate_same f g same) fails;
-  out = refl;
+      subst (λ s. FailsToSave (text_of_certificate instance found) s (h slot.CertOut)) (certificate_same f g same) is.certificate;
+  out = is.out;
 }
 
 saved_since : (f g h : Slot → SlotState) (instance : Instance) (found : Found) → SameBut slot.Instance f g
@@ -41,16 +41,26 @@ saved_since : (f g h : Slot → SlotState) (instance : Instance) (found : Found)
 saved_since f g h instance found same saved =
     subst (λ s. IsSaved (text_of_certificate instance found) s (h slot.CertOut)) (certificate_same f g same) saved
 
-pub untold : (asked : Solve) (f g h : Slot → SlotState) (before after err_old err_new : SinkState) (instance : Instance) (rounded : ℕ) (found : Found)
+untold : (asked : Solve) (f g h : Slot → SlotState) (before after err_old err_new : SinkState) (instance : Instance) (rounded : ℕ) (found : Found)
     → IsAnswer asked (f slot.Instance) instance rounded found → SameBut slot.Instance f g
-    → IsSaved (text_of_certificate instance found) (g slot.CertOut) (h slot.CertOut)
-    → FailsToTell (found_report instance found rounded asked.gap) before after
+    → IsNotTold asked.gap instance rounded found (g slot.CertOut) (h slot.CertOut) before after
     → IsUntold asked (outside_of f before err_old) (outside_of h after err_new) found
-untold asked f g h before after err_old err_new instance rounded found answer same saved fails = record {
+untold asked f g h before after err_old err_new instance rounded found answer same is = record {
   has = record { instance = instance; rounded = rounded; answer = answer };
-  saved = saved_since f g h instance found same saved;
-  report = fails;
+  saved = saved_since f g h instance found same is.saved;
+  report = is.report;
 }
+
+-- a fault at the certificate or at the report
+pub unwritten : (asked : Solve) (f g h : Slot → SlotState) (before after err_old err_new : SinkState) (instance : Instance) (rounded : ℕ)
+    (found : Found) (fault : Fault) → IsAnswer asked (f slot.Instance) instance rounded found → SameBut slot.Instance f g
+    → AreUnwritten asked.gap instance rounded found (g slot.CertOut) (h slot.CertOut) before after fault
+    → IsFailure asked (outside_of f before err_old) (outside_of h after err_new) fault (Some found)
+unwritten asked f g h before after err_old err_new instance rounded found (Write false) answer same is =
+    unsaved asked f g h before after err_old err_new instance rounded found answer same is
+unwritten asked f g h before after err_old err_new instance rounded found (Write true) answer same is =
+    untold asked f g h before after err_old err_new instance rounded found answer same is
+unwritten asked f g h before after err_old err_new instance rounded found fault answer same is = absurd is
 
 calm_each : (f g h : Slot → SlotState) → SameBut slot.Instance f g → SameBut slot.CertOut g h
     → (g slot.Instance).faults ≡ (f slot.Instance).faults → (h slot.CertOut).faults ≡ (g slot.CertOut).faults
@@ -64,12 +74,11 @@ calm_each f g h first second read written slot.CertOut =
 pub done : (asked : Solve) (f g h : Slot → SlotState) (before after err_old err_new : SinkState) (instance : Instance) (rounded : ℕ) (found : Found)
     → IsAnswer asked (f slot.Instance) instance rounded found → SameBut slot.Instance f g → SameBut slot.CertOut g h
     → (g slot.Instance).faults ≡ (f slot.Instance).faults
-    → IsSaved (text_of_certificate instance found) (g slot.CertOut) (h slot.CertOut)
-    → IsTold (found_report instance found rounded asked.gap) before after
+    → AreWritten asked.gap instance rounded found (g slot.CertOut) (h slot.CertOut) before after
     → IsDone asked (outside_of f before err_old) (outside_of h after err_new) found
-done asked f g h before after err_old err_new instance rounded found answer first second calm saved told = record {
+done asked f g h before after err_old err_new instance rounded found answer first second calm is = record {
   has = record { instance = instance; rounded = rounded; answer = answer };
-  saved = saved_since f g h instance found first saved;
-  told = told;
-  calm = calm_each f g h first second calm saved.calm;
+  saved = saved_since f g h instance found first is.saved;
+  told = is.told;
+  calm = calm_each f g h first second calm is.saved.calm;
 }

@@ -2,3 +2,4 @@ pub mod ScheduleTexts
 pub mod SearchResults
 pub mod Endings
 pub mod TurnedAway
+pub mod Rolls

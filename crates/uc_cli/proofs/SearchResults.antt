@@ -1,5 +1,5 @@
 -- What a search answers claims truly, and its certificate has a text.
-use Rattle.std.proofs.Common.{◌≡◌, ◌^◌, ◌<◌, ◌≤◌, ℕ, arith, length, subst, Option, Some, None, ℤ, unsigned_abs, IfSome}
+use Rattle.std.proofs.Common.{◌≡◌, ◌^◌, ◌+◌, ◌-◌, ◌<◌, ◌≤◌, ℕ, arith, length, subst, Option, Some, None, ℤ, unsigned_abs, IfSome}
 use Rattle.std.proofs.lemmas.List.Elements.{All-weaker}
 use Rattle.uc_model.specs.Limits.{IsLawfulInstance}
 use Rattle.dual_model.specs.declared.table.Table.{Table}
@@ -12,13 +12,19 @@ use Rattle.cert_text.specs.TextConditions.{HasWrittenText, IsMoney}
 use Rattle.cert_text.specs.declared.cert.Version.TheVariants.{Second}
 use Rattle.cert_text.proofs.Parts.{found_has_text}
 use Rattle.demo_gen.specs.Demo.{demo_instance}
+use Rattle.roll.specs.NextWindow.{IsNextWindow}
+use Rattle.roll.specs.declared.rolled.Rolled.{Rolled}
+use Rattle.roll.specs.declared.rolled.Rolled.TheVariants.{Whole, Stopped}
+use Rattle.uc_model.proofs.PrintedCosts.{cost-le-printed}
 use Rattle.dual_value.specs.NodeAnswer.{MAX_VALUE}
 use Rattle.workers.specs.Writable.{HasFewRows, IsWritable}
+use Rattle.workers.specs.Rolling.{IsRolled}
 use Rattle.workers.specs.SearchResult.{IsSearchResult}
 use Rattle.command_line.specs.Command.{Solve}
 use Rattle.uc_check.specs.Reading.{HasInstance}
 use Rattle.uc_check.specs.Checking.{IsScheduleTrue}
 use Rattle.uc_cli.specs.DemoRun.{Found, IsDemoAnswer}
+use Rattle.uc_cli.specs.RollRun.{IsRolledTrue}
 use Rattle.uc_cli.specs.Run.{Instance, solve_options, IsAnswer}
 use Rattle.uc_cli.proofs.ScheduleTexts.{has_schedule_text}
 use Rattle.uc_check.proofs.Verdicts.{schedule_true}
@@ -60,3 +66,17 @@ demo_answered seed instance found is lawful result = record {
   claim = subst (λ i. IsClaimTrue i (tree_bound found.tree)) is
       (certificates_claim_truly instance (certificate_of instance found) lawful result.truth.certificate);
 }
+
+-- ---- rolling windows
+pub rolled_true : (instance : Instance) (budget gap window step : ℕ) (rolled : Rolled) → IsLawfulInstance instance
+    → IsRolled instance budget gap window step rolled → IsRolledTrue instance rolled
+rolled_true instance budget gap window step (Whole schedule cost windows) lawful is = record {
+  obeys = is.accepted.obeys;
+  costs = rw is.accepted.cost_is (cost-le-printed instance schedule lawful is.accepted.obeys);
+}
+rolled_true instance budget gap window step (Stopped number from to kept found) lawful is = (
+  is.ahead,
+  subst (λ len. IsNextWindow instance kept (from - 1) len is.ahead) (omega (arith, is.is_from))
+      (subst (λ start. IsNextWindow instance kept start (to - is.start) is.ahead) (omega (arith, is.is_from)) is.next),
+  certificates_claim_truly is.ahead (certificate_of is.ahead found) is.lawful is.search.truth.certificate,
+)

@@ -1,13 +1,14 @@
 -- Where memory is refused at words that are taken, the run is one of their command that was stopped by that.
-use Rattle.std.proofs.Common.{◌≡◌, ◌∙◌, true, refl, sym, inl, inr, true≢false, List, ℕ, Option, Some, None, Err, is_some}
+use Rattle.std.proofs.Common.{◌≡◌, ◌∙◌, true, refl, sym, subst, inl, inr, true≢false, List, ℕ, Option, Some, None, Err, is_some}
 use Rattle.outside.specs.declared.slot.Slot.TheVariants as slot
 use Rattle.outside.specs.Slots.{SlotState, AllUnopened}
 use Rattle.outside.specs.Sinks.{SinkState}
 use Rattle.command_line.specs.Arguments.{is_taken}
 use Rattle.uc_check.specs.Checking.{most_certificate_bytes}
-use Rattle.command_line.specs.Command.{Command, Solves, Checks, Demos, Upgrades, Uplifts, command_of}
+use Rattle.command_line.specs.Command.{Command, Solves, Checks, Demos, Upgrades, Uplifts, Rolls, command_of}
 use Rattle.uc_check.specs.Outside.{outside_of}
 use Rattle.uc_check.specs.Reading.{most_bytes}
+use Rattle.uc_cli.specs.RollRun.{IsRollFailure}
 use Rattle.uc_cli.specs.Run.{Fault, Memory, Slot, Words, IsRun, IsTurnedAway, IsUsage}
 use Rattle.uc_check.specs.declared.ending.End.{End}
 use Rattle.uc_check.specs.Ending.{IsEndOf}
@@ -61,6 +62,23 @@ stopped (Uplifts asked) files out err_old err_new end unopened is = record {
     other = refl;
   };
   ended = inr (faulty _ _ _ _ _ (record { cause = inl (record { cause = tt; untouched = refl }); out = refl }) is);
+}
+stopped (Rolls asked) files out err_old err_new end unopened is = record {
+  files = record {
+    instance = inl (unopened slot.Instance);
+    read = untouched most_bytes (files slot.Instance) (unopened slot.Instance);
+    certificate = refl;
+    written = refl;
+  };
+  ended = inr (record {
+    fault = is.fault;
+    code = is.code;
+    failure = subst (IsRollFailure asked (outside_of files out err_old) (outside_of files out err_new) is.fault) (sym is.unrolled)
+        (subst (λ fault. IsRollFailure asked (outside_of files out err_old) (outside_of files out err_new) fault None) (sym is.failure.0)
+        (record { cause = tt; out = refl }));
+    nothing = is.failure.1;
+    told = is.told;
+  });
 }
 
 some_of : {X : Type 0} (o : Option X) → is_some o ≡ true → (x : X) × (o ≡ Some x)

@@ -46,6 +46,7 @@ IsDemoFailure asked before after _ _ = ⊥
 pub record IsDemoAnswered (asked : Demo) (before after : SinkState) (end : End) : Type 0 where
   pub found : Found
   pub is_found : end.found ≡ Some found
+  pub unrolled : end.rolled ≡ None
   pub code : end.code ≡ status_of found 1000
   pub done : IsDemoDone asked before after found
 

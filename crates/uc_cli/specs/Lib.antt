@@ -1,2 +1,4 @@
 pub mod DemoRun
+pub mod RollRun
 pub mod Run
+pub mod inside

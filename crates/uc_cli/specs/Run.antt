@@ -17,13 +17,14 @@ use Rattle.report.specs.FoundReport.{found_report}
 pub use Rattle.report.specs.declared.fault.Fault.{Fault}
 pub use Rattle.report.specs.declared.fault.Fault.TheVariants.{Words, Write, Memory}
 use Rattle.uc_check.specs.Outside.{Outside}
-use Rattle.command_line.specs.Command.{Solve, Command, Solves, Checks, Demos, Upgrades, Uplifts}
+use Rattle.command_line.specs.Command.{Solve, Command, Solves, Checks, Demos, Upgrades, Uplifts, Rolls}
 use Rattle.uc_check.specs.Reading.{most_bytes, HasInstance, HasCause, IsOpenedByNoOther, IsOnlyRead}
 use Rattle.uc_check.specs.Checking.{IsCheckRun, IsScheduleTrue}
 use Rattle.uc_check.specs.Upgrading.{IsUpgradeRun}
 use Rattle.uc_check.specs.Uplifting.{IsUpliftRun}
 use Rattle.uc_check.specs.Ending.{Ends, IsFaulty}
 use Rattle.uc_cli.specs.DemoRun.{IsDemoRun}
+use Rattle.uc_cli.specs.RollRun.{IsRollRun}
 use Rattle.uc_check.specs.Writing.{text_of_certificate, IsSaved, FailsToSave, IsTold, FailsToTell}
 use Rattle.uc_check.specs.declared.ending.End.{End}
 use Rattle.uc_check.specs.declared.input.ReadOptions.{ReadOptions}
@@ -91,6 +92,7 @@ pub record KeepsToFiles (asked : Solve) (before after : Outside) : Type 0 where
 pub record IsSolved (asked : Solve) (before after : Outside) (end : End) : Type 0 where
   pub found : Found
   pub is_found : end.found ≡ Some found
+  pub unrolled : end.rolled ≡ None
   pub code : end.code ≡ status_of found asked.gap
   pub done : IsDone asked before after found
 
@@ -106,6 +108,7 @@ IsRun (Checks asked) before after end = IsCheckRun asked before after end
 IsRun (Demos asked) before after end = IsDemoRun asked before after end
 IsRun (Upgrades asked) before after end = IsUpgradeRun asked before after end
 IsRun (Uplifts asked) before after end = IsUpliftRun asked before after end
+IsRun (Rolls asked) before after end = IsRollRun asked before after end
 
 -- a run ends at its words because they aren't taken, or because memory was refused
 abbrev pub IsTurnedAway : Fault → Option Found → Type 0

@@ -67,6 +67,7 @@ fn find_and_tell<R: Threads + Wait + Sync, O: Sink, G: Gate + Sync>(
         Ok(()) => Ok(End {
             code: found.status(DEMO_GAP),
             found: Some(found),
+            rolled: None,
         }),
         Err(Failed) => Err(Failure {
             fault: Fault::Write { output: true },

@@ -3,6 +3,7 @@
 
 mod demo;
 mod program;
+mod rolling;
 mod solve;
 
 pub use outside::{SlurpFault, slurp};

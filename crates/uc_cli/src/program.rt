@@ -8,6 +8,7 @@ ghost use Rattle.uc_check.specs.Outside.{outside_of};
 ghost use Rattle.uc_cli.specs.Run.{IsRun, IsUsage};
 
 use crate::demo::demo;
+use crate::rolling::roll_windows;
 use crate::solve::solve;
 use command_line::{Command, command_of};
 use outside::{Files, Gate, Sink};
@@ -22,8 +23,8 @@ use uc_check::{End, Failure, check_certificate, end_of, upgrade_certificate, upl
 /// one printed is above, 2 where a bound was printed and no schedule was found, and 3 where none exists; that of `check` is 0
 /// where the certificate holds for the instance, and 9 where it doesn't, is no certificate's text or has more than 2^46
 /// bytes; that of `upgrade` is 0 where the certificate was written anew, and 9 where it is no certificate's text or has more than
-/// 2^46 bytes; that of `uplift` is as that of `check`, and 9 too where the certificate holds and has no uplifts. It is 4 where the
-/// instance's bytes stand for no instance or are more than 2^26, or the prices of shortages are too high for it, 5 where the command-line
+/// 2^46 bytes; that of `uplift` is as that of `check`, and 9 too where the certificate holds and has no uplifts; that of `roll` is 0 where
+/// a schedule of all periods was printed, and 10 where the search of a window found none. It is 4 where the instance's bytes stand for no instance or are more than 2^26, or the prices of shortages are too high for it, 5 where the command-line
 /// parser doesn't take the words, 6 where reading the instance or the certificate failed, 7 where writing the certificate or the report
 /// failed, and 8 where memory was refused.
 pub fn uc<R: Threads + Wait + Sync, F: Files, O: Sink, E: Sink, G: Gate + Sync>(
@@ -50,6 +51,7 @@ pub fn uc<R: Threads + Wait + Sync, F: Files, O: Sink, E: Sink, G: Gate + Sync>(
         Ok(Command::Demo(asked)) => demo(rt, alloc, &asked, out, err, gate),
         Ok(Command::Upgrade(asked)) => upgrade_certificate(alloc, &asked, files, out, err),
         Ok(Command::Uplift(asked)) => uplift_certificate(alloc, &asked, files, out, err),
+        Ok(Command::Roll(asked)) => roll_windows(rt, alloc, &asked, files, out, err, gate),
         Err(fault) => end_of(err, Err(Failure { fault, found: None })),
     }
 }

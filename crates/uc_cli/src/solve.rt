@@ -9,6 +9,8 @@ ghost use Rattle.uc_check.specs.Reading.{most_bytes, HasCause, IsOpenedByNoOther
 ghost use Rattle.uc_check.specs.Outside.{outside_of};
 ghost use Rattle.uc_check.specs.Writing.{IsTold, FailsToTell};
 ghost use Rattle.report.specs.FoundReport.{found_report};
+ghost use Rattle.branch_tree.specs.Claims.{HasLayout};
+ghost use Rattle.uc_cli.specs.inside.Written.{AreWritten, AreUnwritten};
 ghost use Rattle.uc_cli.specs.Run.{Slot, solve_options, IsAnswer, IsSolved, IsFailure, KeepsToFiles, IsSolveRun};
 ghost use Rattle.command_line.specs.Asked.{solve_asked, HasPrices, HasWorkers};
 
@@ -82,6 +84,32 @@ fn tell<O: Sink>(out: &mut O, answer: &Answer, gap: u32) -> Result<(), Failed>
     out.flush()
 }
 
+// Writes the certificate and then the report.
+fn write_both<F: Files, O: Sink>(
+    asked: &Solve,
+    files: &mut F,
+    out: &mut O,
+    answer: &Answer,
+) -> Result<(), Fault>
+    requires unopened { (F.state files.old Slot.CertOut).stage ≡ Unopened }
+    requires layout { HasLayout answer.now.found }
+    requires gap { asked.now.gap ≤ WHOLE_GAP }
+    ensures written { IfOk result (λ _. AreWritten asked.now.gap answer.now.instance answer.now.rounded answer.now.found
+        (F.state files.old slot.CertOut) (F.state files.new slot.CertOut) (O.state out.old) (O.state out.new)) }
+    ensures unwritten { IfErr result (AreUnwritten asked.now.gap answer.now.instance answer.now.rounded answer.now.found
+        (F.state files.old slot.CertOut) (F.state files.new slot.CertOut) (O.state out.old) (O.state out.new)) }
+    ensures named { IsOpenedByNoOther asked.now.certificate.now (F.state files.old slot.CertOut) (F.state files.new slot.CertOut) }
+    ensures others { SameBut slot.CertOut (F.state files.old) (F.state files.new) }
+{
+    match save(files, asked.certificate, &answer.found, &answer.instance) {
+        Ok(()) => match tell(out, answer, asked.gap) {
+            Ok(()) => Ok(()),
+            Err(Failed) => Err(Fault::Write { output: true }),
+        },
+        Err(Failed) => Err(Fault::Write { output: false }),
+    }
+}
+
 // Reads, searches, writes the certificate and then the report; the error output is as it may be.
 fn find_and_write<R: Threads + Wait + Sync, F: Files, O: Sink, G: Gate + Sync>(
     rt: &R,
@@ -104,22 +132,14 @@ fn find_and_write<R: Threads + Wait + Sync, F: Files, O: Sink, G: Gate + Sync>(
         (outside_of (F.state files.old) (O.state out.old) err_old) (outside_of (F.state files.new) (O.state out.new) err_new) }
 {
     let answer = find(rt, alloc, asked, files, gate)?;
-    match save(files, asked.certificate, &answer.found, &answer.instance) {
-        Ok(()) => {}
-        Err(Failed) => {
-            return Err(Failure {
-                fault: Fault::Write { output: false },
-                found: Some(answer.found),
-            });
-        }
-    }
-    match tell(out, &answer, asked.gap) {
+    match write_both(asked, files, out, &answer) {
         Ok(()) => Ok(End {
             code: answer.found.status(asked.gap),
             found: Some(answer.found),
+            rolled: None,
         }),
-        Err(Failed) => Err(Failure {
-            fault: Fault::Write { output: true },
+        Err(fault) => Err(Failure {
+            fault,
             found: Some(answer.found),
         }),
     }

@@ -7,3 +7,4 @@ pub mod Passes
 pub mod Desks
 pub mod Closings
 pub mod DeskCode
+pub mod Rolls

@@ -13,6 +13,7 @@ mod crew;
 mod desk;
 mod grow;
 mod own_best;
+mod rolling;
 pub mod root_search;
 mod run;
 mod start;
@@ -21,4 +22,6 @@ mod visit;
 mod worker;
 
 pub use branch_tree::{Entry, Found};
+pub use roll::Rolled;
+pub use rolling::roll;
 pub use root_search::{MAX_WORKERS, Options, search};

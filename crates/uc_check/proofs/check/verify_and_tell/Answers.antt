@@ -20,6 +20,7 @@ returns-in-Ok-clause-done g c = λ err_old err_new.
     record {
       code = refl;
       nothing = refl;
+      unrolled = refl;
       done = record {
         certificate = verified.certificate;
         verified = verified.verified;

@@ -22,6 +22,7 @@ pub returns-in-Ok-clause-done : goal.returns-in-Ok-clause-done
 returns-in-Ok-clause-done g c = λ err_old err_new. record {
   code = refl;
   nothing = refl;
+  unrolled = refl;
   done = record { rewritten = c.in_ok-rewrite.ensures.done; told = c.in-Ok.ensures.told };
 }
 

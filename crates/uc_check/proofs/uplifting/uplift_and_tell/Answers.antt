@@ -55,6 +55,7 @@ returns-in-Ok-clause-done g c = λ err_old err_new.
     record {
       code = refl;
       nothing = refl;
+      unrolled = refl;
       done = record {
         has = has_uplifts asked (files c.args.files.now) (files c.verify.new.files) c.in_ok-checked.checked c.in_ok-printed.printed.now
             c.in_ok-printed.table.now c.in_ok-uplifts.uplifts checked c.in_ok-printed.ensures.picked c.in_ok-uplifts.ensures.are;

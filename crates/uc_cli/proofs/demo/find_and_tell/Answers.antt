@@ -15,6 +15,7 @@ pub returns-in-Ok-clause-done : goal.returns-in-Ok-clause-done
 returns-in-Ok-clause-done g c = record {
   found = c.in_ok-found.found;
   is_found = refl;
+  unrolled = refl;
   code = c.status.ensures;
   done = record { answer = c.in_ok-found.ensures.answer; told = c.in-Ok.ensures.told };
 }

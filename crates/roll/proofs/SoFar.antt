@@ -1,0 +1,240 @@
+-- How a roll goes on: from what is rolled so far, by the place of the next window and what its search finds.
+use Rattle.std.proofs.Common.{◌≡◌, ℕ, suc, ◌+◌, ◌-◌, ◌*◌, ◌<◌, ◌≤◌, ⊎_elim, min, refl, sym, ap, subst, ◌∙◌, arith, ℤ, Some, None}
+use Rattle.std.proofs.lemmas.Bool.{cases_lt}
+use Rattle.uc_model.specs.Limits.{IsLawfulInstance}
+use Rattle.schedule_check.specs.Accepted.{IsAccepted}
+use Rattle.roll.specs.Kept.{IsKept}
+use Rattle.roll.specs.NextWindow.{IsNextWindow}
+use Rattle.roll.specs.Stitched.{IsContinuation, IsStitched}
+use Rattle.roll.specs.Rolling.{Found, Instance, Place, Printed, AreAllRolled, AreBefore, AreRolled, IsNextPlace, IsRolledSoFar, IsRolledWindow, IsStoppedRoll, IsWholeRoll, HasLeastCategories, pace, periods_before}
+use Rattle.roll.proofs.KeptWindows.{AreSame, next_again, shown_again, stitched_same, stitched_shown}
+
+-- ---- the place
+-- the next window is within the periods, and at least one of its own is kept
+pub record IsWithin (periods done : ℕ) (place : Place) : Type 0 where
+  pub some : 1 ≤ place.keep
+  pub part : place.keep ≤ place.len
+  pub within : done + place.len ≤ periods
+
+pub place_within : (periods window step done : ℕ) (place : Place) → done < periods → 1 ≤ window → 1 ≤ step
+    → IsNextPlace periods window step done place → IsWithin periods done place
+place_within periods window step done place left wide long is =
+    let within : done + place.len ≤ periods = omega (arith, is.reach) in
+    ⊎_elim
+    (λ (short : done + place.len < periods).
+        let keep = is.others short in
+        record { some = omega (arith, keep, wide, long); part = omega (arith, keep, is.reach, short); within = within })
+    (λ (all : periods ≤ done + place.len).
+        let keep = is.last (omega (arith, all, within)) in
+        record { some = omega (arith, keep, all, left); part = omega (arith, keep); within = within })
+    (cases_lt (done + place.len) periods)
+
+-- ---- the windows
+one_behind : (window step j : ℕ) → periods_before window step (suc j) ≡ periods_before window step j + pace window step
+one_behind window step j = omega arith
+
+-- a window that is rolled stays so when more is stitched behind
+window_again : (MayFind : Instance → Found → Type 0) (instance : Instance) (m : ℕ) (old new : Printed) (start len keep : ℕ)
+    → AreSame instance m old new → start + keep ≤ m → IsRolledWindow MayFind instance old start len keep
+    → IsRolledWindow MayFind instance new start len keep
+window_again MayFind instance m old new start len keep same within is = record {
+  window = is.window;
+  next = next_again instance m old new start len is.window same (omega (arith, within)) is.next;
+  found = is.found;
+  search = is.search;
+  shown = is.shown;
+  cost = is.cost;
+  is_shown = is.is_shown;
+  kept = shown_again instance m old new is.shown start keep same within is.kept;
+}
+
+-- each of the first n windows ends before the periods behind them
+ends_before : (window step n j : ℕ) → j < n → periods_before window step j + pace window step ≤ periods_before window step n
+ends_before window step n j h = grind arith
+
+rolled_again : (MayFind : Instance → Found → Type 0) (instance : Instance) (window step done n : ℕ) (old new : Printed)
+    → done ≡ periods_before window step n → AreSame instance done old new → AreRolled MayFind instance window step n old
+    → AreRolled MayFind instance window step n new
+rolled_again MayFind instance window step done n old new is same rolled = record {
+  before = rolled.before;
+  each = λ j h.
+      window_again MayFind instance done old new (periods_before window step j) window (pace window step) same
+      (omega (arith, is, ends_before window step n j h)) (rolled.each j h);
+}
+
+-- ---- one more window
+-- its schedule, stitched behind what is kept
+pub record IsFurther (MayFind : Instance → Found → Type 0) (instance : Instance) (done : ℕ) (place : Place) (kept stitched : Printed) : Type 0 where
+  pub ahead : Instance
+  pub next : IsNextWindow instance kept done place.len ahead
+  pub found : Found
+  pub search : MayFind ahead found
+  pub shown : Printed
+  pub cost : ℤ
+  pub is_shown : found.schedule ≡ Some (shown, cost)
+  pub is_stitched : IsStitched instance done place.keep kept shown stitched
+  pub is_kept : IsKept instance (done + place.keep) stitched
+
+own_window : (MayFind : Instance → Found → Type 0) (instance : Instance) (done : ℕ) (place : Place) (kept stitched : Printed)
+    → IsKept instance done kept → IsFurther MayFind instance done place kept stitched
+    → IsRolledWindow MayFind instance stitched done place.len place.keep
+own_window MayFind instance done place kept stitched is more = record {
+  window = more.ahead;
+  next = next_again instance done kept stitched done place.len more.ahead
+      (stitched_same instance done place.keep kept more.shown stitched is more.is_stitched) (omega arith) more.next;
+  found = more.found;
+  search = more.search;
+  shown = more.shown;
+  cost = more.cost;
+  is_shown = more.is_shown;
+  kept = stitched_shown instance done place.keep kept more.shown stitched is more.is_stitched;
+}
+
+-- a window that doesn't reach the last period
+more_rolled : (MayFind : Instance → Found → Type 0) (instance : Instance) (window step done windows : ℕ) (place : Place) (kept stitched : Printed)
+    → done < instance.periods → IsRolledSoFar MayFind instance window step done windows kept → IsNextPlace instance.periods window step done place
+    → IsFurther MayFind instance done place kept stitched → done + place.len < instance.periods
+    → AreRolled MayFind instance window step (suc windows) stitched
+more_rolled MayFind instance window step done windows place kept stitched left is at more short =
+    let here = is.place left in
+    let len : place.len ≡ window = omega (arith, at.reach, short) in
+    let keep = at.others short in
+    let same = stitched_same instance done place.keep kept more.shown stitched is.kept more.is_stitched in
+    let old = rolled_again MayFind instance window step done windows kept stitched here same (is.going left) in
+    let own : IsRolledWindow MayFind instance stitched (periods_before window step windows) window (pace window step) =
+    subst (λ k. IsRolledWindow MayFind instance stitched (periods_before window step windows) window k) keep
+    (subst (λ n. IsRolledWindow MayFind instance stitched (periods_before window step windows) n place.keep) len
+    (subst (λ s. IsRolledWindow MayFind instance stitched s place.len place.keep) here (own_window MayFind instance done place kept stitched is.kept more))) in
+    record {
+      before = λ j h. ⊎_elim
+          (λ (less : j < windows). old.before j less)
+          (λ (most : windows ≤ j).
+              let last : j ≡ windows = omega (arith, h, most) in
+              subst (λ k. periods_before window step k + window < instance.periods) (sym last) (omega (arith, here, len, short)))
+          (cases_lt j windows);
+      each = λ j h. ⊎_elim
+          (λ (less : j < windows). old.each j less)
+          (λ (most : windows ≤ j).
+              let last : j ≡ windows = omega (arith, h, most) in
+              subst (λ k. IsRolledWindow MayFind instance stitched (periods_before window step k) window (pace window step)) (sym last) own)
+          (cases_lt j windows);
+    }
+
+-- a window that reaches the last period
+all_rolled : (MayFind : Instance → Found → Type 0) (instance : Instance) (window step done windows : ℕ) (place : Place) (kept stitched : Printed)
+    → done < instance.periods → IsRolledSoFar MayFind instance window step done windows kept → IsNextPlace instance.periods window step done place
+    → IsFurther MayFind instance done place kept stitched → done + place.len ≡ instance.periods
+    → AreAllRolled MayFind instance window step (suc windows) stitched
+all_rolled MayFind instance window step done windows place kept stitched left is at more all =
+    let here = is.place left in
+    let len : place.len ≡ instance.periods - done = omega (arith, all) in
+    let keep : place.keep ≡ instance.periods - done = at.last all ∙ len in
+    let same = stitched_same instance done place.keep kept more.shown stitched is.kept more.is_stitched in
+    record {
+      before = windows;
+      number = refl;
+      others = rolled_again MayFind instance window step done windows kept stitched here same (is.going left);
+      start = done;
+      is_start = here;
+      some = left;
+      reach = omega (arith, at.reach, all);
+      last = subst (λ k. IsRolledWindow MayFind instance stitched done (instance.periods - done) k) keep
+          (subst (λ n. IsRolledWindow MayFind instance stitched done n place.keep) len
+          (own_window MayFind instance done place kept stitched is.kept more));
+    }
+
+-- the place behind a window that doesn't reach the last period
+place_behind : (window step done windows : ℕ) (place : Place) → done ≡ periods_before window step windows → place.keep ≡ pace window step
+    → done + place.keep ≡ periods_before window step (suc windows)
+place_behind window step done windows place here keep =
+    let next = one_behind window step windows in
+    omega (arith, here, keep, next)
+
+pub further : (MayFind : Instance → Found → Type 0) (instance : Instance) (window step done windows : ℕ) (place : Place) (kept stitched : Printed)
+    → 1 ≤ window → 1 ≤ step → done < instance.periods → IsRolledSoFar MayFind instance window step done windows kept
+    → IsNextPlace instance.periods window step done place → IsFurther MayFind instance done place kept stitched
+    → IsRolledSoFar MayFind instance window step (done + place.keep) (suc windows) stitched
+further MayFind instance window step done windows place kept stitched wide long left is at more =
+    let within = place_within instance.periods window step done place left wide long at in
+    let shorter : done + place.keep < instance.periods → done + place.len < instance.periods = λ less. ⊎_elim
+    (λ (short : done + place.len < instance.periods). short)
+    (λ (all : instance.periods ≤ done + place.len).
+        let keep = at.last (omega (arith, all, within.within)) in
+        omega (arith, keep, less))
+    (cases_lt (done + place.len) instance.periods) in
+    record {
+      kept = more.is_kept;
+      categories = more.is_stitched.categories;
+      few = omega (arith, is.few, within.some);
+      place = λ less. place_behind window step done windows place (is.place left) (at.others (shorter less));
+      going = λ less. more_rolled MayFind instance window step done windows place kept stitched left is at more (shorter less);
+      ended = λ all. all_rolled MayFind instance window step done windows place kept stitched left is at more
+          (omega (arith, all, within.part, within.within));
+    }
+
+-- ---- where it begins and ends
+pub begun : (MayFind : Instance → Found → Type 0) (instance : Instance) (window step : ℕ) (kept : Printed) → IsLawfulInstance instance
+    → IsKept instance 0 kept → IsRolledSoFar MayFind instance window step 0 0 kept
+begun MayFind instance window step kept lawful is = record {
+  kept = is;
+  categories = λ g t h none. absurd (omega (arith, none));
+  few = omega arith;
+  place = λ some. omega arith;
+  going = λ some. record {
+    before = λ j none. absurd (omega (arith, none));
+    each = λ j none. absurd (omega (arith, none));
+  };
+  ended = λ none. absurd (omega (arith, none, lawful.periods.0));
+}
+
+pub whole : (MayFind : Instance → Found → Type 0) (instance : Instance) (window step done windows : ℕ) (kept : Printed) (cost : ℤ)
+    → IsRolledSoFar MayFind instance window step done windows kept → done ≡ instance.periods → IsAccepted instance kept cost
+    → IsWholeRoll MayFind instance window step kept cost windows
+whole MayFind instance window step done windows kept cost is all accepted = record {
+  accepted = accepted;
+  categories = subst (λ n. HasLeastCategories instance n kept) all is.categories;
+  rolled = is.ended all;
+}
+
+pub stopped : (MayFind : Instance → Found → Type 0) (instance : Instance) (window step done windows number to : ℕ) (place : Place) (kept : Printed)
+    (ahead : Instance) (found : Found) → done < instance.periods → IsRolledSoFar MayFind instance window step done windows kept
+    → IsNextPlace instance.periods window step done place → IsNextWindow instance kept done place.len ahead → IsLawfulInstance ahead
+    → MayFind ahead found → found.schedule ≡ None → number ≡ suc windows → to ≡ done + place.len
+    → IsStoppedRoll MayFind instance window step number place.from to kept found
+stopped MayFind instance window step done windows number to place kept ahead found left is at next lawful search none count end = record {
+  before = windows;
+  is_number = count;
+  others = is.going left;
+  start = done;
+  is_start = is.place left;
+  some = left;
+  is_from = at.from;
+  is_to = end ∙ at.reach;
+  is_kept = is.kept;
+  ahead = ahead;
+  next = subst (λ n. IsNextWindow instance kept done n ahead) (omega (arith, end)) next;
+  lawful = lawful;
+  search = search;
+  none = none;
+}
+
+-- the next window's schedule goes on from what is kept
+pub continuation : (instance : Instance) (window step done : ℕ) (place : Place) (kept shown : Printed) (ahead : Instance) (cost : ℤ)
+    → 1 ≤ window → 1 ≤ step → done < instance.periods → IsNextPlace instance.periods window step done place
+    → IsNextWindow instance kept done place.len ahead → IsLawfulInstance ahead → IsAccepted ahead shown cost
+    → IsContinuation instance kept done place.keep shown
+continuation instance window step done place kept shown ahead cost wide long left at next lawful accepted =
+    let within = place_within instance.periods window step done place left wide long at in
+    record {
+      len = place.len;
+      window = ahead;
+      next = next;
+      lawful = lawful;
+      some = within.some;
+      part = within.part;
+      within = within.within;
+      shape = accepted.shape;
+      whole = accepted.whole;
+      numbers = accepted.numbers;
+      obeys = accepted.obeys;
+    }
