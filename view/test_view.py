@@ -113,6 +113,29 @@ BROKEN_REPORTS = (
     ("10.000000+10.000000", "10.000000+9.999999", "period 3: reserves add up to 9.999999, where 10.000000 is needed"),
     ("30.000000 0.000000\n", "30.000000 0.000000\n\n", "line 9: bytes after the end"),
 )
+# what `uc roll` prints in place of the lines of coast.report behind the first one and before the schedule, and of all of them
+SOLVED_LINES = "budget spent\ncost 5046.666668\nbound 4793.333330\nevaluations 1\n"
+ROLLED_LINES = "rolled 2 windows\ncost 5046.666668\n"
+STOPPED_REPORT = """periods 4 thermal 2 renewable 1 rounded 1
+window 2 periods 2 to 4: infeasible
+"""
+# an edit of a report of `uc roll`, likewise
+BROKEN_ROLLS = (
+    ("rolled 2", "rolled 02", 'line 2: "rolled 02 windows" where the number of windows is due'),
+    ("rolled 2", "rolled 0", "line 2: 0 windows, where the instance has 4 periods"),
+    ("rolled 2", "rolled 5", "line 2: 5 windows, where the instance has 4 periods"),
+    ("cost 5046.666668", "cost 5046.666667", "line 3: the schedule costs 5046.666668"),
+    ("cost 5046.666668\n", "cost 5046.666668\nbound 0.000000\n", 'line 4: "bound 0.000000" where a thermal unit is due'),
+    ("80.000000+0.000000", "81.000000+0.000000", "line 4: period 3: output 81.000000 above the unit's greatest, 80.000000"),
+)
+BROKEN_STOPS = (
+    ("infeasible", "spent", 'line 2: "window 2 periods 2 to 4: spent" where a window without a schedule is due'),
+    ("window 2", "window 3", "line 2: no window 3 of an instance of 4 periods has these"),
+    ("window 2", "window 0", "line 2: no window 0 of an instance of 4 periods has these"),
+    ("to 4", "to 5", "line 2: no window 2 of an instance of 4 periods has these"),
+    ("periods 2 to 4", "periods 4 to 3", "line 2: no window 2 of an instance of 4 periods has these"),
+    (": infeasible\n", ": infeasible\nevaluations 1\n", "line 3: bytes after the end"),
+)
 # an edit of the line on the stuck commitment, likewise
 BROKEN_REASONS = (
     ("period 1", "period 2", "line 5: the instance has no period 2"),
@@ -443,6 +466,19 @@ class Pictures(ViewTest):
         self.assertIn("Infeasible: no schedule exists", infeasible)
         self.assertIn("ray 1", infeasible)
 
+    def test_rolled_reports(self) -> None:
+        rolled = self.put("rolled", (STORED / "coast.report").read_text().replace(SOLVED_LINES, ROLLED_LINES))
+        page_text = self.drawn(COAST, rolled).text
+        for words in ("Rolled: the schedule is stitched of windows", "Windows", "$5,046.666668", "Output by unit"):
+            self.assertIn(words, page_text)
+        for words in ("Bound", "Gap", "Evaluations"):
+            self.assertNotIn(words, page_text)
+        stopped = self.drawn(COAST, self.put("stopped", STOPPED_REPORT)).text
+        self.assertIn("Window 2, hours 2 to 4: infeasible", stopped)
+        self.assertIn("Hour 2, with which the window begins, is marked", stopped)
+        spent = STOPPED_REPORT.replace("infeasible", "no schedule found")
+        self.assertIn("no schedule of it was found", self.drawn(COAST, self.put("spent", spent)).text)
+
     def test_systems_of_one_kind(self) -> None:
         value = json.loads(ROW1.read_text())
         wind = {"w1": {"power_output_minimum": [0], "power_output_maximum": [5]}}
@@ -538,6 +574,20 @@ class Refusals(ViewTest):
             with self.subTest(place):
                 broken = self.edited(STORED / "coast.report", old, new)
                 self.refused(f"{broken}: {place}", COAST, broken)
+
+    def test_broken_rolls(self) -> None:
+        rolled = (STORED / "coast.report").read_text().replace(SOLVED_LINES, ROLLED_LINES)
+        for whole, edits in ((rolled, BROKEN_ROLLS), (STOPPED_REPORT, BROKEN_STOPS)):
+            for old, new, place in edits:
+                with self.subTest(place):
+                    self.assertIn(old, whole)
+                    broken = self.put("rolled", whole.replace(old, new, 1))
+                    self.refused(f"{broken}: {place}", COAST, broken)
+
+    def test_rolls_have_no_certificate(self) -> None:
+        rolled = self.put("rolled", (STORED / "coast.report").read_text().replace(SOLVED_LINES, ROLLED_LINES))
+        certificate = STORED / "coast.cert"
+        self.refused(f"{certificate}: a certificate, where a report of `uc roll` has none", COAST, rolled, certificate)
 
     def test_broken_reasons(self) -> None:
         for old, new, place in BROKEN_REASONS:

@@ -19,7 +19,7 @@ from .shortages import MOST_PENALTY, Penalty
 from .table import write_table
 from .uplift import Uplift, check_uplift, read_uplift
 
-ABOUT = """Draws the report of `uc solve` as one HTML page. Files that don't fit together are refused with a line that says where, and
+ABOUT = """Draws the report of `uc solve` or `uc roll` as one HTML page. Files that don't fit together are refused with a line that says where, and
 status 1; then nothing is written."""
 
 
@@ -37,7 +37,7 @@ def main(words: List[str]) -> int:
 def _parser() -> argparse.ArgumentParser:
     parser = argparse.ArgumentParser(prog="uc-view", description=ABOUT)
     parser.add_argument("instance", metavar="INSTANCE", help="the instance, pglib-uc JSON")
-    parser.add_argument("report", metavar="REPORT", help="what `uc solve` printed for it")
+    parser.add_argument("report", metavar="REPORT", help="what `uc solve` or `uc roll` printed for it")
     parser.add_argument("certificate", metavar="CERT", nargs="?", help="its certificate, whose prices are drawn too")
     parser.add_argument("-o", dest="page", metavar="OUT.html", required=True, help="where the page goes")
     parser.add_argument("--csv", dest="table", metavar="OUT.csv", help="where the schedule goes as a table")
@@ -96,6 +96,8 @@ def _uplift(given: argparse.Namespace, instance: Instance, report: Report, penal
     uplift = read_uplift(given.uplift, read_file(given.uplift))
     if report.schedule is None:
         raise Refusal(given.uplift, "", "uplifts, where the report has no schedule")
+    if report.windows is not None:
+        raise Refusal(given.uplift, "", "uplifts, where a report of `uc roll` has no certificate")
     check_uplift(instance, uplift, penalty)
     return uplift
 

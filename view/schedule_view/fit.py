@@ -13,7 +13,7 @@ from .certificate import Certificate, CertificateSchedule
 from .costs import hourly_costs
 from .instance import Instance, Renewable, Thermal
 from .refusal import Refusal, shown
-from .report import Cell, Outcome, RenewableRow, Report, Schedule, ShortageRow, Stuck, ThermalRow
+from .report import Cell, Outcome, RenewableRow, Report, Schedule, ShortageRow, Stopped, Stuck, ThermalRow
 from .shortages import NO_PENALTY, Penalty, shortages
 
 
@@ -22,6 +22,10 @@ def check_report(instance: Instance, report: Report, penalty: Penalty = NO_PENAL
     _check_sizes(instance, report)
     if report.stuck:
         _check_stuck(instance, report, report.stuck)
+    if report.stopped:
+        _check_stopped(instance, report, report.stopped)
+    if report.windows is not None and not 1 <= report.windows <= instance.periods:
+        _refuse(report, 2, f"{report.windows} windows, where the instance has {instance.periods} periods")
     if report.schedule:
         _check_schedule(instance, report, report.schedule, penalty)
 
@@ -38,6 +42,8 @@ def check_gap(report: Report, asked: int) -> None:
 
 def check_certificate(instance: Instance, report: Report, certificate: Certificate) -> None:
     """Refused where the certificate isn't one of this instance and this report, with its line."""
+    if report.outcome in (Outcome.ROLLED, Outcome.STOPPED):
+        _refuse(certificate, None, "a certificate, where a report of `uc roll` has none")
     if certificate.sizes != (instance.periods, len(instance.thermal), len(instance.renewable)):
         _refuse(certificate, 2, "the sizes aren't those of the instance")
     if (certificate.bound is None) != (report.outcome is Outcome.INFEASIBLE) or certificate.bound != report.bound:
@@ -74,6 +80,12 @@ def _check_stuck(instance: Instance, report: Report, stuck: Stuck) -> None:
     for word, written, numbers in (("demand", stuck.demand, instance.demand), ("need", stuck.need, instance.reserves)):
         if written is not None and written != numbers[stuck.period - 1]:
             _refuse(report, stuck.line, f"the {word} of the instance is {amount_text(numbers[stuck.period - 1])}")
+
+
+def _check_stopped(instance: Instance, report: Report, stopped: Stopped) -> None:
+    """Each window begins at least an hour behind the one before it."""
+    if not 1 <= stopped.window <= stopped.first <= stopped.last <= instance.periods:
+        _refuse(report, stopped.line, f"no window {stopped.window} of an instance of {instance.periods} periods has these")
 
 
 def _check_schedule(instance: Instance, report: Report, schedule: Schedule, penalty: Penalty) -> None:

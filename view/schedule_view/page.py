@@ -11,7 +11,7 @@ from .costs import hourly_costs
 from .grid import renewable_grid, thermal_grid
 from .instance import Instance
 from .layers import SINGLE_UNITS, layers, never_on, unserved_layer
-from .report import Outcome, Report, Schedule
+from .report import Outcome, Report, Schedule, Stopped
 from .shortages import NO_PENALTY, Penalty, Shortage, shortages
 from .svg import element, narrow_rules, text
 from .uplift import Part, Uplift
@@ -27,6 +27,8 @@ OUTCOMES = {
     Outcome.SPENT: "Budget spent: a schedule was found, and its gap is larger than was asked for.",
     Outcome.NO_SCHEDULE: "Budget spent, no schedule found. The bound stands.",
     Outcome.INFEASIBLE: "Infeasible: no schedule exists.",
+    Outcome.ROLLED: "Rolled: the schedule is stitched of windows, which were solved one after another. It has no bound.",
+    Outcome.STOPPED: "Stopped: a window has no schedule that goes on from what is kept of those before it.",
 }
 
 
@@ -65,9 +67,17 @@ def _outcome(report: Report, certificate: Optional[Certificate]) -> List[str]:
     found = [element("p", OUTCOMES[report.outcome], class_="outcome")]
     if report.stuck:
         found.append(element("p", "Why none was found: " + element("code", text(report.stuck.text))))
+    if report.stopped:
+        found.append(element("p", text(_window(report.stopped))))
     if report.outcome is Outcome.INFEASIBLE and certificate:
         found.append(element("p", "The certificate's reason: " + text(_reason(certificate.leaves))))
     return found
+
+
+def _window(stopped: Stopped) -> str:
+    """Which window has no schedule, and whether there is none."""
+    why = "infeasible, no schedule of it exists" if stopped.is_infeasible else "no schedule of it was found"
+    return f"Window {stopped.window}, hours {stopped.first} to {stopped.last}: {why}."
 
 
 def _reason(leaves: Leaves) -> str:
@@ -92,8 +102,11 @@ def _head(instance: Instance, report: Report, gap: Optional[int], priced: List[S
     if gap is not None:
         facts.append(("Gap asked for", _percent(gap)))
     facts += [(shortage.name.capitalize(), text(shortage.size_text)) for shortage in priced]
+    if report.windows is not None:
+        facts.append(("Windows", str(report.windows)))
+    if report.evaluations is not None:
+        facts.append(("Evaluations", f"{report.evaluations:,}"))
     facts += [
-        ("Evaluations", f"{report.evaluations:,}"),
         ("Hours", str(instance.periods)),
         ("Thermal units", f"{len(instance.thermal):,}"),
         ("Renewable units", f"{len(instance.renewable):,}"),
@@ -215,6 +228,9 @@ def _costs(instance: Instance, schedule: Schedule, penalty: Penalty) -> List[str
 def _demand(instance: Instance, report: Report) -> List[str]:
     stuck = report.stuck.period if report.stuck else None
     mark = f" Hour {stuck}, where the commitment got stuck, is marked." if stuck else ""
+    if report.stopped:
+        stuck = report.stopped.first
+        mark = f" Hour {stuck}, with which the window begins, is marked."
     return [
         element("h2", "Demand and reserve needed"),
         element("p", "The line is demand, the dashed line the reserve needed." + mark),

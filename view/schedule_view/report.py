@@ -1,4 +1,4 @@
-"""The report of `uc solve`, read strictly by its format (`docs/FORMATS.md`, "The report")."""
+"""The report of `uc solve` or `uc roll`, read strictly by its format (`docs/FORMATS.md`, "The report")."""
 from __future__ import annotations
 
 import enum
@@ -16,6 +16,8 @@ _MW = r"(-?[0-9]+\.[0-9]{6})"
 _UNIT_LINE = re.compile(f"(thermal|renewable) {NAME}((?: [^ ]+)*)")
 _ESCAPE = re.compile(r'\\(?:(["\\])|u00([0-9a-f]{2}))')
 _STUCK = re.compile(r"most-on commitment stuck in period ([0-9]+): (.*)", re.DOTALL)
+_ROLLED = re.compile(r"rolled ([0-9]+) windows")
+_STOPPED = re.compile(r"window ([0-9]+) periods ([0-9]+) to ([0-9]+): (infeasible|no schedule found)")
 _WHY = (
     re.compile(f"thermal {NAME} breaks M([1-9][0-9]?)"),
     re.compile(f"thermal {NAME} needs at least {_MW} and at most {_MW} above its minimum"),
@@ -26,12 +28,14 @@ _WHY = (
 
 
 class Outcome(enum.Enum):
-    """What the second line says; the value is that line."""
+    """What the second line says; the value is that line, of `uc roll` its first word."""
 
     CLOSED = "closed"
     SPENT = "budget spent"
     NO_SCHEDULE = "budget spent, no schedule found"
     INFEASIBLE = "infeasible"
+    ROLLED = "rolled"
+    STOPPED = "window"
 
 
 @dataclass(frozen=True)
@@ -82,6 +86,17 @@ class Stuck:
 
 
 @dataclass(frozen=True)
+class Stopped:
+    """The line on a window without a schedule: its number, its first and last period, each from 1, and whether there is none."""
+
+    line: int
+    window: int
+    first: int
+    last: int
+    is_infeasible: bool
+
+
+@dataclass(frozen=True)
 class Schedule:
     """A schedule with its cost in micro-dollars; a row for each unit in the order of the lines, and of each shortage with a price."""
 
@@ -94,7 +109,7 @@ class Schedule:
 
 @dataclass(frozen=True)
 class Report:
-    """A report; the bound in micro-dollars. Only what its outcome has is there."""
+    """A report; the bound in micro-dollars, and how many windows a roll has. Only what its outcome has is there."""
 
     path: str
     periods: int
@@ -102,31 +117,47 @@ class Report:
     renewable_units: int
     rounded: int
     outcome: Outcome
-    evaluations: int
+    evaluations: Optional[int] = None
     bound: Optional[int] = None
     schedule: Optional[Schedule] = None
     stuck: Optional[Stuck] = None
+    windows: Optional[int] = None
+    stopped: Optional[Stopped] = None
 
 
 def read_report(path: str, data: bytes) -> Report:
     """The report of the bytes of a file. Refused with the file and the line."""
     lines = Lines(path, data)
-    periods, thermal, renewable, rounded = _sizes(lines)
-    outcome = _outcome(lines)
-    head = (path, periods, thermal, renewable, rounded, outcome)
-    if outcome is Outcome.INFEASIBLE:
-        report = Report(*head, _evaluations(lines))
-    elif outcome is Outcome.NO_SCHEDULE:
-        bound, evaluations = _money(lines, "bound"), _evaluations(lines)
-        report = Report(*head, evaluations, bound, stuck=None if lines.is_done() else _stuck(lines))
+    sizes = _sizes(lines)
+    if lines.is_at(Outcome.ROLLED.value):
+        windows, cost = _windows(lines), _money(lines, "cost")
+        report = Report(path, *sizes, Outcome.ROLLED, schedule=_schedule(lines, cost, *sizes[:3]), windows=windows)
+    elif lines.is_at(Outcome.STOPPED.value):
+        report = Report(path, *sizes, Outcome.STOPPED, stopped=_stopped(lines))
     else:
-        cost, bound, evaluations = _money(lines, "cost"), _money(lines, "bound"), _evaluations(lines)
-        thermal_rows = [_thermal_row(lines, periods) for _ in range(thermal)]
-        renewable_rows = [_renewable_row(lines, periods) for _ in range(renewable)]
-        shed, short = _shortage_row(lines, "shed", periods), _shortage_row(lines, "reserve-short", periods)
-        report = Report(*head, evaluations, bound, Schedule(cost, thermal_rows, renewable_rows, shed, short))
+        report = _searched(lines, path, sizes)
     lines.finish()
     return report
+
+
+def _searched(lines: Lines, path: str, sizes: Tuple[int, int, int, int]) -> Report:
+    """The report of `uc solve` behind its first line."""
+    outcome = _outcome(lines)
+    if outcome is Outcome.INFEASIBLE:
+        return Report(path, *sizes, outcome, _evaluations(lines))
+    if outcome is Outcome.NO_SCHEDULE:
+        bound, evaluations = _money(lines, "bound"), _evaluations(lines)
+        return Report(path, *sizes, outcome, evaluations, bound, stuck=None if lines.is_done() else _stuck(lines))
+    cost, bound, evaluations = _money(lines, "cost"), _money(lines, "bound"), _evaluations(lines)
+    return Report(path, *sizes, outcome, evaluations, bound, _schedule(lines, cost, *sizes[:3]))
+
+
+def _schedule(lines: Lines, cost: int, periods: int, thermal: int, renewable: int) -> Schedule:
+    """The rows of a schedule."""
+    thermal_rows = [_thermal_row(lines, periods) for _ in range(thermal)]
+    renewable_rows = [_renewable_row(lines, periods) for _ in range(renewable)]
+    shed, short = _shortage_row(lines, "shed", periods), _shortage_row(lines, "reserve-short", periods)
+    return Schedule(cost, thermal_rows, renewable_rows, shed, short)
 
 
 def _sizes(lines: Lines) -> Tuple[int, int, int, int]:
@@ -140,10 +171,29 @@ def _sizes(lines: Lines) -> Tuple[int, int, int, int]:
 
 def _outcome(lines: Lines) -> Outcome:
     line = lines.take()
-    try:
-        return Outcome(line)
-    except ValueError:
-        lines.refuse(f"{shown(line)} is no outcome")
+    for outcome in (Outcome.CLOSED, Outcome.SPENT, Outcome.NO_SCHEDULE, Outcome.INFEASIBLE):
+        if outcome.value == line:
+            return outcome
+    lines.refuse(f"{shown(line)} is no outcome")
+
+
+def _windows(lines: Lines) -> int:
+    line = lines.take()
+    parts = _ROLLED.fullmatch(line)
+    windows = whole(parts[1]) if parts else None
+    if windows is None:
+        lines.refuse(f"{shown(line)} where the number of windows is due")
+    return windows
+
+
+def _stopped(lines: Lines) -> Stopped:
+    line = lines.take()
+    parts = _STOPPED.fullmatch(line)
+    numbers = [number for number in map(whole, parts.groups()[:3]) if number is not None] if parts else []
+    if not parts or len(numbers) != 3:
+        lines.refuse(f"{shown(line)} where a window without a schedule is due")
+    window, first, last = numbers
+    return Stopped(lines.number, window, first, last, parts[4] == "infeasible")
 
 
 def _word_of(lines: Lines, name: str) -> str:

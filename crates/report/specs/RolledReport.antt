@@ -23,9 +23,13 @@ stopped_line window from to found =
     joined (codes "window " ∷ whole_text window ∷ codes " periods " ∷ whole_text from ∷ codes " to " ∷ whole_text to ∷ codes ": "
     ∷ none_text (tree_bound found.tree) ∷ codes "\n" ∷ [])
 
-abbrev pub outcome_lines : Instance → Rolled → List ℕ
-outcome_lines instance (Whole schedule cost windows) =
+-- a schedule of all periods
+abbrev pub whole_lines : Instance → Printed → ℤ → ℕ → List ℕ
+whole_lines instance schedule cost windows =
     joined (windows_line windows ∷ cost_line cost ∷ schedule_lines instance schedule ∷ [])
+
+abbrev pub outcome_lines : Instance → Rolled → List ℕ
+outcome_lines instance (Whole schedule cost windows) = whole_lines instance schedule cost windows
 outcome_lines instance (Stopped window from to kept found) = stopped_line window from to found
 
 -- the whole report, by how many numbers were rounded

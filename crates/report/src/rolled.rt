@@ -3,14 +3,14 @@
 ghost use Rattle.std.specs.Prelude.{◌≡◌, OnOk, OnErr};
 ghost use Rattle.outside.specs.Sinks.{SinkWrites, SinkWritesFront};
 ghost use Rattle.branch_tree.specs.StoredTree.{tree_bound};
-ghost use Rattle.report.specs.RolledReport.{none_text, outcome_lines, rolled_report, stopped_line, windows_line};
+ghost use Rattle.report.specs.RolledReport.{none_text, outcome_lines, rolled_report, stopped_line, whole_lines, windows_line};
 
 use crate::found::put_size;
 use crate::schedule::put_schedule;
 use branch_tree::Found;
 use outside::{Failed, Latch, Out, Sink, SinkWriter, put_count, put_money_line};
 use roll::Rolled;
-use uc_model::Instance;
+use uc_model::{Instance, Printed};
 
 // How many windows the schedule is stitched of.
 fn put_windows<O: Out>(out: &mut O, windows: u32)
@@ -18,6 +18,21 @@ fn put_windows<O: Out>(out: &mut O, windows: u32)
 {
     put_count(out, b"rolled ", u64::from(windows));
     out.put(b" windows\n");
+}
+
+// A schedule of all periods.
+fn put_whole<O: Out>(
+    out: &mut O,
+    instance: &Instance,
+    schedule: &Printed,
+    cost: &i64,
+    windows: u32,
+)
+    ensures { O.emits (whole_lines instance.now schedule.now cost.now windows) out.old out.new }
+{
+    put_windows(out, windows);
+    put_money_line(out, b"cost", &i128::from(*cost));
+    put_schedule(out, instance, schedule);
 }
 
 // Why a window has no schedule.
@@ -50,11 +65,7 @@ fn put_outcome<O: Out>(out: &mut O, instance: &Instance, rolled: &Rolled)
             schedule,
             cost,
             windows,
-        } => {
-            put_windows(out, *windows);
-            put_money_line(out, b"cost", &i128::from(*cost));
-            put_schedule(out, instance, schedule);
-        }
+        } => put_whole(out, instance, schedule, cost, *windows),
         Rolled::Stopped {
             window,
             from,

@@ -10,3 +10,4 @@ pub mod OwnValues
 pub mod Seats
 pub mod Settled
 pub mod WrittenTables
+pub mod Rolls

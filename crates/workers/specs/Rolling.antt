@@ -1,6 +1,7 @@
 -- What a roll answers, where each window is searched with this budget and at this gap. This project's own statement.
 use Rattle.std.specs.Prelude.{ℕ}
-pub use Rattle.roll.specs.Rolling.{Rolled, IsRolledBy}
+use Rattle.roll.specs.Rolling.{IsRolledBy}
+pub use Rattle.roll.specs.declared.rolled.Rolled.{Rolled}
 use Rattle.workers.specs.SearchResult.{Instance, IsSearchResult}
 
 -- the schedule of all periods is stitched of what the searches of the windows found; or the search of a window found none

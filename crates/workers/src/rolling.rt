@@ -79,7 +79,7 @@ pub fn roll<R: Threads + Wait + Sync, G: Gate + Sync>(
 // Nothing is kept yet. The only error is `NoMemory`.
 fn nothing(alloc: Global, plan: Plan) -> Result<Kept, NoMemory>
     requires { IsPlan plan }
-    ensures { IfOk result (IsKeptSoFar plan) }
+    ensures { IfOk result (IsKeptSoFar plan.entry) }
 {
     Ok(Kept {
         schedule: begin(alloc, plan.instance)?,
@@ -93,7 +93,7 @@ fn whole(plan: Plan, kept: Kept) -> Rolled
     requires plan { IsPlan plan }
     requires kept { IsKeptSoFar plan kept }
     requires all { plan.instance.now.periods ≤ kept.done }
-    ensures { IsRolled plan.instance.now plan.options.now.budget plan.options.now.gap plan.window plan.step result }
+    ensures { IsRolled plan.entry.instance.now plan.entry.options.now.budget plan.entry.options.now.gap plan.entry.window plan.entry.step result }
 {
     Rolled::Whole {
         cost: whole_cost(plan.instance, &kept.schedule),
@@ -113,7 +113,7 @@ fn further<R: Threads + Wait + Sync, G: Gate + Sync>(
     requires plan { IsPlan plan }
     requires kept { IsKeptSoFar plan kept }
     requires left { kept.done < plan.instance.now.periods }
-    ensures { IfOk result (IsStep plan kept.entry.done) }
+    ensures { IfOk result (IsStep plan.entry kept.done) }
 {
     let place = next_place(plan.instance.periods, kept.done, plan.window, plan.step);
     let found = found_ahead(rt, alloc, plan, &kept, place, gate)?;
@@ -136,7 +136,7 @@ fn found_ahead<R: Threads + Wait + Sync, G: Gate + Sync>(
     requires kept { IsKeptSoFar plan kept.now }
     requires left { kept.now.done < plan.instance.now.periods }
     requires place { IsNextPlace plan.instance.now.periods plan.window plan.step kept.now.done place }
-    ensures { IfOk result (IsFoundAhead plan kept.now place) }
+    ensures { IfOk result (IsFoundAhead plan.entry kept.now place) }
 {
     let carried = carry(alloc, plan.instance, &kept.schedule, place.from)?;
     let ahead = window(alloc, plan.instance, &carried, place.from, place.len)?;
@@ -156,7 +156,7 @@ fn more(
     requires left { kept.now.done < plan.instance.now.periods }
     requires place { IsNextPlace plan.instance.now.periods plan.window plan.step kept.now.done place }
     requires shown { IsShownAhead plan kept.now place shown.now }
-    ensures { IfOk result (λ more. IsKeptSoFar plan more × (kept.now.done < more.done)) }
+    ensures { IfOk result (λ more. IsKeptSoFar plan.entry more × (kept.now.done < more.done)) }
 {
     let schedule = stitch(alloc, plan.instance, &kept.schedule, shown, place.keep)?;
     Ok(Kept {
@@ -168,12 +168,13 @@ fn more(
 
 // The end of the roll at a window without a schedule.
 fn stopped(plan: Plan, kept: Kept, place: Place, found: Found) -> Rolled
+    requires plan { IsPlan plan }
     requires kept { IsKeptSoFar plan kept }
     requires left { kept.done < plan.instance.now.periods }
     requires place { IsNextPlace plan.instance.now.periods plan.window plan.step kept.done place }
     requires found { IsFoundAhead plan kept place found }
     requires none { found.schedule ≡ None }
-    ensures { IsRolled plan.instance.now plan.options.now.budget plan.options.now.gap plan.window plan.step result }
+    ensures { IsRolled plan.entry.instance.now plan.entry.options.now.budget plan.entry.options.now.gap plan.entry.window plan.entry.step result }
 {
     Rolled::Stopped {
         window: kept.windows + 1,

@@ -1,10 +1,11 @@
 -- What the steps of a roll are for each other.
 use Rattle.std.specs.Prelude.{◌≡◌, ℕ, ◌<◌, ◌≤◌, ℤ, Some}
 use Rattle.uc_model.specs.Limits.{IsLawfulInstance}
-use Rattle.schedule_check.specs.Accepted.{IsAcceptedIfFound}
+use Rattle.schedule_check.specs.Accepted.{IsAccepted, IsAcceptedIfFound}
 use Rattle.branch_tree.specs.declared.found.Found.{Found}
 use Rattle.roll.specs.NextWindow.{IsNextWindow}
-use Rattle.roll.specs.Rolling.{Place, IsRolledSoFar}
+use Rattle.roll.specs.Rolling.{IsRolledSoFar}
+use Rattle.roll.specs.declared.places.Place.{Place}
 use Rattle.workers.specs.Options.{AreOptions}
 use Rattle.workers.specs.Rolling.{IsRolled}
 use Rattle.workers.specs.SearchResult.{Instance, Printed, IsSearchResult}
@@ -43,6 +44,7 @@ pub record IsShownAhead (plan : Plan) (kept : Kept) (place : Place) (shown : Pri
   pub is_found : IsFoundAhead plan kept place found
   pub cost : ℤ
   pub is_shown : found.schedule ≡ Some (shown, cost)
+  pub accepted : IsAccepted is_found.ahead shown cost
 
 -- more than `done` periods are kept, or the roll has ended
 abbrev pub IsStep : Plan → ℕ → Step → Type 0
