@@ -1,6 +1,6 @@
 -- The report of what a search found, as it is printed. This project's own form. Money and power have six decimals; units and
 -- periods count from 1 here, and from 0 in the types.
-use Rattle.std.specs.Prelude.{ℕ, zero, suc, Bool, List, [], ◌∷◌, ◌++◌, ℤ, pos, ◌+ℤ◌, Option, Some, None, length, flat_map, codes, if◌then◌else◌}
+use Rattle.std.specs.Prelude.{ℕ, zero, suc, Bool, List, [], ◌∷◌, ◌++◌, ℤ, ◌+ℤ◌, Option, Some, None, length, flat_map, codes, if◌then◌else◌}
 use Rattle.std.specs.List.{zip}
 use Rattle.uc_model.specs.Decimal.{whole_text}
 use Rattle.uc_model.specs.Money.{money_text}
