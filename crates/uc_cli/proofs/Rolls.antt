@@ -1,15 +1,13 @@
 -- How the ends of a run of `roll` follow from its steps: reading and rolling (from the files f to g), and the report.
-use Rattle.std.proofs.Common.{◌≡◌, ℕ, true, Option, Some, None, sym, subst, ap, refl}
+use Rattle.std.proofs.Common.{◌≡◌, ℕ, true, Option, None, sym, subst, ap, refl}
 use Rattle.outside.specs.declared.slot.Slot.TheVariants as slot
 use Rattle.outside.specs.Slots.{SlotState, SameBut}
 use Rattle.outside.specs.Sinks.{SinkState}
 use Rattle.command_line.specs.Command.{Roll}
-use Rattle.report.specs.RolledReport.{rolled_report}
 use Rattle.uc_check.specs.Outside.{outside_of}
 use Rattle.uc_check.specs.Reading.{HasCause, IsOpenedByNoOther, IsOnlyRead, most_bytes}
-use Rattle.uc_check.specs.Writing.{IsTold}
 use Rattle.uc_cli.specs.RollRun.{Fault, Instance, Rolled, Slot, Write, roll_options, IsRollAnswer, IsRollDone, IsRollFailure, KeepsToInstance}
-use Rattle.uc_cli.specs.inside.Rolls.{IsUntoldRoll}
+use Rattle.uc_cli.specs.inside.Rolls.{IsToldRoll, IsUntoldRoll}
 
 -- a fault before anything was written
 pub stopped : (asked : Roll) (f g : Slot → SlotState) (out err_old err_new : SinkState) (fault : Fault)
@@ -27,13 +25,13 @@ calm_each f g same read slot.CertOut = ap (λ (s : SlotState). s.faults) (same s
 
 pub done : (asked : Roll) (f g : Slot → SlotState) (before after err_old err_new : SinkState) (instance : Instance) (rounded : ℕ) (rolled left : Rolled)
     → IsRollAnswer asked (f slot.Instance) instance rounded rolled → SameBut slot.Instance f g
-    → (g slot.Instance).faults ≡ (f slot.Instance).faults → left ≡ rolled → IsTold (rolled_report instance rolled rounded) before after
+    → (g slot.Instance).faults ≡ (f slot.Instance).faults → IsToldRoll instance rounded rolled before after left
     → IsRollDone asked (outside_of f before err_old) (outside_of g after err_new) left
-done asked f g before after err_old err_new instance rounded rolled left answer same calm is told =
-    subst (IsRollDone asked (outside_of f before err_old) (outside_of g after err_new)) (sym is)
+done asked f g before after err_old err_new instance rounded rolled left answer same calm is =
+    subst (IsRollDone asked (outside_of f before err_old) (outside_of g after err_new)) (sym is.same)
     (record {
       has = record { instance = instance; rounded = rounded; answer = answer };
-      told = told;
+      told = is.told;
       calm = calm_each f g same calm;
     })
 
@@ -44,7 +42,7 @@ pub untold : (asked : Roll) (f g : Slot → SlotState) (before after err_old err
 untold asked f g before after err_old err_new instance rounded rolled fault left answer is =
     let before_all = outside_of f before err_old in
     let after_all = outside_of g after err_new in
-    subst (λ fault. IsRollFailure asked before_all after_all fault left) (sym is.fault)
+    subst (λ fault. IsRollFailure asked before_all after_all fault left) (sym is.is_fault)
     (subst (IsRollFailure asked before_all after_all (Write true)) (sym is.same)
     (record { has = record { instance = instance; rounded = rounded; answer = answer }; report = is.report }))
 

@@ -1,13 +1,13 @@
 -- What a run of `roll` did, by how it ended. This project's own.
-use Rattle.std.specs.Prelude.{◌≡◌, ◌⊎◌, ⊥, ℕ, true, Option, Some, None}
+use Rattle.std.specs.Prelude.{◌≡◌, ℕ, ◌+◌, ◌-◌, ◌⊎◌, true, Option, Some, None}
 pub use Rattle.uc_model.specs.declared.instance.Instance.{Instance}
 use Rattle.dual_model.specs.Laws.{IsClaimTrue}
 pub use Rattle.outside.specs.declared.slot.Slot.{Slot}
 use Rattle.outside.specs.declared.slot.Slot.TheVariants as slot
 use Rattle.outside.specs.Slots.{SlotState}
-use Rattle.outside.specs.Sinks.{SinkState}
 use Rattle.branch_tree.specs.StoredTree.{tree_bound}
-pub use Rattle.roll.specs.Rolling.{Rolled, status_of}
+use Rattle.roll.specs.Rolling.{status_of}
+pub use Rattle.roll.specs.declared.rolled.Rolled.{Rolled}
 use Rattle.roll.specs.declared.rolled.Rolled.TheVariants.{Whole, Stopped}
 use Rattle.roll.specs.NextWindow.{IsNextWindow}
 use Rattle.workers.specs.Rolling.{IsRolled}
@@ -16,11 +16,12 @@ use Rattle.report.specs.FaultText.{status_of as status_of_fault}
 pub use Rattle.report.specs.declared.fault.Fault.{Fault}
 pub use Rattle.report.specs.declared.fault.Fault.TheVariants.{Write}
 use Rattle.command_line.specs.Command.{Roll}
-pub use Rattle.uc_check.specs.Outside.{Outside}
+use Rattle.uc_check.specs.Outside.{Outside}
 use Rattle.uc_check.specs.Reading.{most_bytes, HasInstance, HasCause, IsOpenedByNoOther, IsOnlyRead}
 use Rattle.uc_check.specs.Checking.{IsScheduleTrue}
-use Rattle.uc_check.specs.Ending.{End, IsAnswered}
+use Rattle.uc_check.specs.Ending.{IsAnswered}
 use Rattle.uc_check.specs.Writing.{IsTold, FailsToTell, TellsFault}
+pub use Rattle.uc_check.specs.declared.ending.End.{End}
 use Rattle.uc_check.specs.declared.input.ReadOptions.{ReadOptions}
 
 -- how the instance is read, as by `solve`
@@ -37,7 +38,7 @@ IsRolledTrue instance (Stopped window from to kept found) =
 -- what came of the windows of the instance in the file, each searched with the budget and at the gap that are asked
 pub record IsRollAnswer (asked : Roll) (file : SlotState) (instance : Instance) (rounded : ℕ) (rolled : Rolled) : Type 0 where
   pub read : HasInstance (roll_options asked) file instance rounded
-  pub rolled : IsRolled instance asked.units asked.gap asked.window asked.step rolled
+  pub is_rolled : IsRolled instance asked.units asked.gap asked.window asked.step rolled
   pub truth : IsRolledTrue instance rolled
 
 -- the instance in the file, and the answer for it

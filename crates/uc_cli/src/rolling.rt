@@ -94,8 +94,8 @@ fn tell<O: Sink>(out: &mut O, answer: &Answer) -> Result<(), Failed>
 
 // What the run comes to, once the report is written.
 fn told<O: Sink>(out: &mut O, answer: Answer) -> Result<Rolled, Failure>
-    ensures told { IfOk result (IsToldRoll answer.entry.instance answer.entry.rounded answer.entry.rolled (O.state out.old) (O.state out.new)) }
-    ensures untold { IfErr result (λ f. IsUntoldRoll answer.entry.instance answer.entry.rounded answer.entry.rolled (O.state out.old) (O.state out.new)
+    ensures told { IfOk result (IsToldRoll answer.instance answer.rounded answer.rolled (O.state out.old) (O.state out.new)) }
+    ensures untold { IfErr result (λ f. IsUntoldRoll answer.instance answer.rounded answer.rolled (O.state out.old) (O.state out.new)
         f.fault f.rolled) }
 {
     match tell(out, &answer) {
@@ -136,7 +136,7 @@ fn find_and_tell<R: Threads + Wait + Sync, F: Files, O: Sink, G: Gate + Sync>(
 
 // The end of a run by a fault, which is told.
 fn faulty<E: Sink>(err: &mut E, failure: Failure) -> End
-    ensures { IsFaultEnd failure.entry.fault failure.entry.rolled (E.state err.old) (E.state err.new) result }
+    ensures { IsFaultEnd failure.fault failure.rolled (E.state err.old) (E.state err.new) result }
 {
     tell_fault(err, &failure.fault);
     End {

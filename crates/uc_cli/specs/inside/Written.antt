@@ -1,5 +1,5 @@
 -- What writing the certificate and then the report comes to.
-use Rattle.std.specs.Prelude.{◌≡◌, ⊥, ℕ, true, false}
+use Rattle.std.specs.Prelude.{◌≡◌, ℕ, true, false}
 use Rattle.outside.specs.Slots.{SlotState}
 use Rattle.outside.specs.Sinks.{SinkState}
 use Rattle.branch_tree.specs.declared.found.Found.{Found}

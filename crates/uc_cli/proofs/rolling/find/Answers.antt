@@ -1,6 +1,4 @@
 -- What comes of the windows of the instance that was read.
-use Rattle.std.proofs.Common.{ℕ}
-use Rattle.outside.specs.declared.slot.Slot.TheVariants as slot
 use Rattle.report.specs.declared.fault.Fault.TheVariants.{Memory}
 use Rattle.command_line.specs.Asked.{roll_asked}
 use Rattle.uc_check.proofs.Verdicts.{handed_up}
@@ -24,7 +22,7 @@ returns-clause-answer g c =
     let asked = roll_asked c.args.asked.now in
     record {
       read = c.in_ok-instance.ensures.read;
-      rolled = c.in_ok-rolled.ensures;
+      is_rolled = c.in_ok-rolled.ensures;
       truth = rolled_true c.in_ok-instance.instance asked.units asked.gap asked.window asked.step c.in_ok-rolled.rolled
           c.in_ok-instance.ensures.read.lawful c.in_ok-rolled.ensures;
     }
