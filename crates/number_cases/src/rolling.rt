@@ -81,7 +81,14 @@ fn rolled(
         let left = instance.periods - done;
         let len = pace.window.min(left);
         let keep = if len == left { len } else { pace.step.min(len) };
-        kept = next_kept(alloc, instance, kept, patterns, Piece { done, len, keep }, text)?;
+        kept = next_kept(
+            alloc,
+            instance,
+            kept,
+            patterns,
+            Piece { done, len, keep },
+            text,
+        )?;
         done += keep;
     }
     Ok(kept)
@@ -182,9 +189,17 @@ fn put_states(text: &mut String, carried: &Carried) -> Result<(), AllocError> {
     text.push_str("left")?;
     for state in carried.units.as_slice() {
         if state.on {
-            write!(text, " on:{}:{}:{}", state.output, state.time_on, state.time_off)?;
+            write!(
+                text,
+                " on:{}:{}:{}",
+                state.output, state.time_on, state.time_off
+            )?;
         } else {
-            write!(text, " off:{}:{}:{}", state.output, state.time_on, state.time_off)?;
+            write!(
+                text,
+                " off:{}:{}:{}",
+                state.output, state.time_on, state.time_off
+            )?;
         }
     }
     text.push_str("\n")

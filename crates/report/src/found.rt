@@ -8,9 +8,7 @@ ghost use Rattle.report.specs.FoundReport.{size_line, state_line, cost_line, bou
 use crate::schedule::put_schedule;
 use crate::stuck::put_stuck;
 use branch_tree::{Found, is_within_gap};
-use outside::{
-    Failed, Latch, Out, Sink, SinkWriter, put_count, put_money_line, put_whole_line,
-};
+use outside::{Failed, Latch, Out, Sink, SinkWriter, put_count, put_money_line, put_whole_line};
 use uc_model::tolerance::WHOLE_GAP;
 use uc_model::{Instance, Printed};
 

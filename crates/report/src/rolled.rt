@@ -21,13 +21,7 @@ fn put_windows<O: Out>(out: &mut O, windows: u32)
 }
 
 // A schedule of all periods.
-fn put_whole<O: Out>(
-    out: &mut O,
-    instance: &Instance,
-    schedule: &Printed,
-    cost: &i64,
-    windows: u32,
-)
+fn put_whole<O: Out>(out: &mut O, instance: &Instance, schedule: &Printed, cost: &i64, windows: u32)
     ensures { O.emits (whole_lines instance.now schedule.now cost.now windows) out.old out.new }
 {
     put_windows(out, windows);

@@ -22,11 +22,11 @@ place_within periods window step done place left wide long is =
     let within : done + place.len ≤ periods = omega (arith, is.reach) in
     ⊎_elim
     (λ (short : done + place.len < periods).
-        let keep = is.others short in
-        record { some = omega (arith, keep, wide, long); part = omega (arith, keep, is.reach, short); within = within })
+    let keep = is.others short in
+    record { some = omega (arith, keep, wide, long); part = omega (arith, keep, is.reach, short); within = within })
     (λ (all : periods ≤ done + place.len).
-        let keep = is.last (omega (arith, all, within)) in
-        record { some = omega (arith, keep, all, left); part = omega (arith, keep); within = within })
+    let keep = is.last (omega (arith, all, within)) in
+    record { some = omega (arith, keep, all, left); part = omega (arith, keep); within = within })
     (cases_lt (done + place.len) periods)
 
 -- ---- the windows
@@ -109,14 +109,14 @@ more_rolled MayFind instance window step done windows place kept stitched left i
       before = λ j h. ⊎_elim
           (λ (less : j < windows). old.before j less)
           (λ (most : windows ≤ j).
-              let last : j ≡ windows = omega (arith, h, most) in
-              subst (λ k. periods_before window step k + window < instance.periods) (sym last) (omega (arith, here, len, short)))
+          let last : j ≡ windows = omega (arith, h, most) in
+          subst (λ k. periods_before window step k + window < instance.periods) (sym last) (omega (arith, here, len, short)))
           (cases_lt j windows);
       each = λ j h. ⊎_elim
           (λ (less : j < windows). old.each j less)
           (λ (most : windows ≤ j).
-              let last : j ≡ windows = omega (arith, h, most) in
-              subst (λ k. IsRolledWindow MayFind instance stitched (periods_before window step k) window (pace window step)) (sym last) own)
+          let last : j ≡ windows = omega (arith, h, most) in
+          subst (λ k. IsRolledWindow MayFind instance stitched (periods_before window step k) window (pace window step)) (sym last) own)
           (cases_lt j windows);
     }
 
@@ -159,8 +159,8 @@ further MayFind instance window step done windows place kept stitched wide long 
     let shorter : done + place.keep < instance.periods → done + place.len < instance.periods = λ less. ⊎_elim
     (λ (short : done + place.len < instance.periods). short)
     (λ (all : instance.periods ≤ done + place.len).
-        let keep = at.last (omega (arith, all, within.within)) in
-        omega (arith, keep, less))
+    let keep = at.last (omega (arith, all, within.within)) in
+    omega (arith, keep, less))
     (cases_lt (done + place.len) instance.periods) in
     record {
       kept = more.is_kept;

@@ -12,6 +12,6 @@ stitch-requires-clause-next c =
 pub returns : goal.returns
 returns c = (
   one_more c.args.plan c.args.kept.now c.args.place c.args.shown.now c.in_ok-schedule.schedule c.requires.plan c.requires.kept c.requires.left
-  c.requires.place c.requires.shown c.in_ok-schedule.ensures.stitched c.in_ok-schedule.ensures.kept,
+      c.requires.place c.requires.shown c.in_ok-schedule.ensures.stitched c.in_ok-schedule.ensures.kept,
   one_kept c.args.plan c.args.kept.now c.args.place c.requires.plan c.requires.left c.requires.place,
 )
