@@ -22,7 +22,8 @@ use Rattle.cert_text.specs.Grammar.{Symbol, Head, Size, Claim, Plan, Schedule, T
 use Rattle.cert_text.specs.inside.LineCount.{line_feeds, line_number, stop_kind}
 use Rattle.std.proofs.lemmas.Option.{some_pair_parts}
 use Rattle.cert_text.specs.inside.Forms.{Form}
-use Rattle.cert_text.proofs.FormLaws.{IsForm, Anything, version-form, size-form, claim-form, schedule-form, plan-form, thermal-form, powers-form, scale-form, ramp_count-form, end-form}
+use Rattle.cert_text.proofs.FormLaws.{IsForm, Anything, version-form, size-form, claim-form, thermal-form, powers-form, scale-form, ramp_count-form, end-form}
+use Rattle.cert_text.proofs.PlanForms.{schedule-form, plan-form}
 use Rattle.cert_text.proofs.TableForms.{ramp-form, next-form, change-form, node-form}
 use Rattle.cert_text.specs.declared.cert.CertFault.TheVariants as faults
 use Rattle.cert_text.specs.declared.cert.CertKind.TheVariants as kinds

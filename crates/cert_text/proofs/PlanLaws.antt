@@ -3,7 +3,8 @@ use Rattle.std.proofs.Common.{◌≡◌, ℕ, zero, suc, List, [], ◌∷◌, �
 use Rattle.cert_text.specs.Grammar.{Sizes, Plan, Schedule, ThermalRow, RenewableRow, Shed, Short, ScheduleHead, IsScheduleHead, schedule_line, shortage_rows, schedule_rows, PlanLine, Priced, Unpriced, plan_line, IsPlanLine, behind_plan}
 use Rattle.cert_text.specs.inside.Forms.{schedule_at}
 use Rattle.cert_text.specs.inside.Parts.{Planned, line_of, then, told, written, nothing, powers_part, shortages_part, printed_of, behind_first, plan_from, plan_part, printed_part, rows_behind, schedule_part}
-use Rattle.cert_text.proofs.FormLaws.{thermal-form, powers-form, schedule-form, plan-form}
+use Rattle.cert_text.proofs.FormLaws.{thermal-form, powers-form}
+use Rattle.cert_text.proofs.PlanForms.{schedule-form, plan-form}
 use Rattle.cert_text.specs.TextConditions.{IsMoney, IsDenominator, ArePenalties, IsThermalRow, IsPowerRow, AreShortagesText, IsScheduleText}
 use Rattle.cert_text.specs.CertificateText.{thermal_line, renewable_line, shed_line, short_line, shortage_lines, schedule_lines, plan_lines, has_price, Printed}
 use Rattle.dual_model.specs.Certificate.{WrittenSchedule}

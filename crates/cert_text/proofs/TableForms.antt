@@ -14,7 +14,8 @@ use Rattle.cert_text.specs.CertificateText.{Third, ramp_line, next_line, change_
 use Rattle.cert_text.specs.Grammar.{Sizes, AreSizes, ComesBefore, IsChangeWithin, Changes, IsChangeAfter, IsRampAfter}
 use Rattle.cert_text.specs.inside.Forms.{is_digit, ended, mapped, after, text_at, ordinal_at, row_numbers_at, ramp_row, rises, is_ramp, ramp_at, next_at, price_at, written_change_at, is_within, comes_before, comes_behind, is_other, is_change, change_at, named_at, split_at, tells_exact, exact_leaf_at, exact_at, node_at}
 use Rattle.cert_text.proofs.RowChanges.{before_decides}
-use Rattle.cert_text.proofs.FormLaws.{IsForm, Anything, is_third, after-form, ended-form, both-form, form-as, image-form, mapped-form, passing-form, choice-form, ordinal-form, last_whole, spaced_whole, spaced_signed}
+use Rattle.cert_text.proofs.PlanForms.{is_third}
+use Rattle.cert_text.proofs.FormLaws.{IsForm, Anything, after-form, ended-form, both-form, form-as, image-form, mapped-form, passing-form, choice-form, ordinal-form, last_whole, spaced_whole, spaced_signed}
 
 -- ---- The forms of ramp rows and of nodes read their lines.
 spaced_ordinal : (end : ℕ) → is_digit end ≡ false → IsForm (ended ordinal_at (end ∷ [])) (λ n. suc n < 10 ^ 18) (λ n. whole_text (suc n) ++ end ∷ []) Anything
