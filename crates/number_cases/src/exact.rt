@@ -30,7 +30,7 @@ pub(crate) fn tell_exact(alloc: Global, instance: &Instance, words: &str) -> Ans
     if instance.thermal.as_slice().is_empty() {
         return Ok(String::from_str(alloc, "no unit\n")?);
     }
-    let asked = asked(alloc, instance, words)?;
+    let asked = read_words(alloc, instance, words)?;
     match found(alloc, instance, &asked.table, &asked.fix)? {
         Some((value, pattern)) => Ok(format!(in alloc; "exact {value} {}\n", pattern.low)?),
         None => Ok(String::from_str(alloc, "no schedule\n")?),
@@ -44,7 +44,7 @@ pub(crate) fn tell_checked(alloc: Global, instance: &Instance, words: &str) -> A
     if instance.thermal.as_slice().is_empty() {
         return Ok(String::from_str(alloc, "no unit\n")?);
     }
-    let asked = asked(alloc, instance, words)?;
+    let asked = read_words(alloc, instance, words)?;
     match checked(alloc, instance, &asked.table, &asked.fix)? {
         Some(value) => Ok(format!(in alloc; "exact {value}\n")?),
         None => Ok(String::from_str(alloc, "no schedule\n")?),
@@ -52,7 +52,7 @@ pub(crate) fn tell_checked(alloc: Global, instance: &Instance, words: &str) -> A
 }
 
 // What the words say.
-fn asked(alloc: Global, instance: &Instance, words: &str) -> Result<Asked, NoMemory>
+fn read_words(alloc: Global, instance: &Instance, words: &str) -> Result<Asked, NoMemory>
     requires { IsLawfulInstance instance.now }
     ensures { IfOk result (λ asked. IsLawfulTable instance.now asked.table) }
 {
