@@ -153,6 +153,7 @@ checked_as c one other is same one_few other_few asked before after end left run
               fault = faulty.fault;
               code = faulty.code;
               failure = failure_other c one other texts asked before after left faulty.fault end.found faulty.failure;
+              unrolled = faulty.unrolled;
               told = faulty.told;
             }))
             run.ended;
