@@ -5,6 +5,7 @@ use Rattle.std.proofs.lemmas.List.{get_or_past}
 use Rattle.std.proofs.lemmas.List.Elements.{All-nil}
 use Rattle.dual_model.specs.Certificate.{WrittenSchedule}
 use Rattle.schedule_check.specs.SizedNumbers.{Cell, HasSizedNumbers, IsSized, IsSizedCell}
+use Rattle.cert_text.specs.declared.cert.Version.{Version}
 use Rattle.cert_text.specs.TextConditions.{HasDigits, IsCellText, IsOffCell, IsOnCell, IsScheduleText}
 
 -- what holds of each element, and past the end, holds everywhere
@@ -40,9 +41,9 @@ sized_cell cell text = by_state cell.on text.on text.off
 abbrev no_cell : Cell
 no_cell = record { on = false; p = pos 0; r = pos 0; category = 0 }
 
-pub sized_text : (priced : Bool) (periods thermal renewable : ℕ) (written : WrittenSchedule)
-    → IsScheduleText priced periods thermal renewable written → HasSizedNumbers written.printed
-sized_text priced periods thermal renewable written text = record {
+pub sized_text : (version : Version) (priced : Bool) (periods thermal renewable : ℕ) (written : WrittenSchedule)
+    → IsScheduleText version priced periods thermal renewable written → HasSizedNumbers written.printed
+sized_text version priced periods thermal renewable written text = record {
   thermal = in_rows IsSizedCell written.printed.thermal no_cell
       (λ g d within. λ t e cell. sized_cell (get_or (get_or written.printed.thermal g d) t e) ((text.cells g d within).written t e cell))
       (record { output = sized_nought; reserve = sized_nought });

@@ -47,14 +47,14 @@ may_have_uplifts asked f h checked number printed table is picked =
     let whole = schedule_of is.certificate checked.cert printed is.listed picked.schedule in
     let prices = prices_of is.certificate checked.cert number table is.listed picked.prices in
     let holds = is.verified.holds.schedule (record { printed = printed; cost = whole.cost }) whole.is in
-    let text = subst (λ schedule. IfSome schedule (IsScheduleText (has_price is.certificate.a is.certificate.b) is.certificate.periods is.certificate.thermal is.certificate.renewable))
+    let text = subst (λ schedule. IfSome schedule (IsScheduleText is.verified.is.is.version (has_price is.certificate.a is.certificate.b) is.certificate.periods is.certificate.thermal is.certificate.renewable))
     whole.is is.verified.is.is.conditions.schedule in
     let least = holds.shape.denominator.0 in
     let most = whole.whole in
     let own : MayHaveUplifts is.verified.instance printed table = record {
       lawful = is.verified.read.lawful;
       shape = holds.shape;
-      sized = sized_text (has_price is.certificate.a is.certificate.b) is.certificate.periods is.certificate.thermal is.certificate.renewable
+      sized = sized_text is.verified.is.is.version (has_price is.certificate.a is.certificate.b) is.certificate.periods is.certificate.thermal is.certificate.renewable
           (record { printed = printed; cost = whole.cost }) text;
       whole = omega (arith, least, most);
       obeys = holds.obeys;
