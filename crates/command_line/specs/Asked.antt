@@ -23,6 +23,7 @@ solve_asked solve = record {
   workers = solve.workers;
   gap = solve.gap;
   exact = solve.exact;
+  exact_units = solve.exact_units;
   shed = solve.shed;
   spill_reserve = solve.spill_reserve;
 }

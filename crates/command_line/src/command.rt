@@ -28,8 +28,8 @@ const MOST_TABLE: u32 = 1_000_002;
 const MOST_SEED: u32 = 4_294_967_295;
 
 /// What `solve` is asked: the file of the instance, that of the certificate, the budget in evaluations, the number of workers, the gap at
-/// which a search is closed, in parts per million of a cost, whether a rounded number is refused, and the prices of unserved demand and
-/// of missing reserve, in micro-dollars for a watt and an hour, 0 where there is none.
+/// which a search is closed, in parts per million of a cost, whether a rounded number is refused, whether bounds keep ramps in each unit, and the
+/// prices of unserved demand and of missing reserve, in micro-dollars for a watt and an hour, 0 where there is none.
 #[derive(Clone, Copy, Debug)]
 pub struct Solve<'a> {
     pub instance: &'a str,
@@ -38,6 +38,7 @@ pub struct Solve<'a> {
     pub workers: u8,
     pub gap: u32,
     pub exact: bool,
+    pub exact_units: bool,
     pub shed: u32,
     pub spill_reserve: u32,
 }
@@ -157,6 +158,7 @@ fn solve_of<'a>(given: &ArgMatches<'a>) -> Solve<'a>
         workers: workers(given),
         gap: number(given, "gap", 0, MOST),
         exact: is_given(given, "exact"),
+        exact_units: is_given(given, "exact-units"),
         shed: number(given, "shed", 0, MOST),
         spill_reserve: number(given, "spill-reserve", 0, MOST),
     }

@@ -1,3 +1,3 @@
+pub mod Blocked
 pub mod OpeningRays
 pub mod Paths
-pub mod Patterns

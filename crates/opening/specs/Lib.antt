@@ -1,3 +1,4 @@
+pub mod Blocked
 pub mod Outcomes
 pub mod Rays
 pub mod RootTables

@@ -1,26 +1,26 @@
--- The rays of the opening: whether one of them shows that no schedule exists. This project's own.
+-- The rays of the opening: whether one of them shows that no schedule exists, by V or, where `exact`, by VE. This project's own.
 --
 -- Rays count from 0 here.
-use Rattle.std.specs.Prelude.{ℕ, ◌<◌, false}
+use Rattle.std.specs.Prelude.{ℕ, ◌<◌, Bool}
 pub use Rattle.uc_model.specs.declared.instance.Instance.{Instance}
 use Rattle.dual_model.specs.Cover.{HasPositiveValue}
 use Rattle.dual_model.specs.Opening.{ray_count, ray_table}
 use Rattle.dual_model.specs.Tree.{root}
 
 -- ray n leaves no schedule
-abbrev pub IsRayPositive : Instance → ℕ → Type 0
-IsRayPositive instance n = HasPositiveValue false instance root (ray_table instance n)
+abbrev pub IsRayPositive : Bool → Instance → ℕ → Type 0
+IsRayPositive exact instance n = HasPositiveValue exact instance root (ray_table instance n)
 
 -- no ray before ray n does
-abbrev pub HasNoRayBelow : Instance → ℕ → Type 0
-HasNoRayBelow instance n = (earlier : ℕ) → earlier < n → ¬ IsRayPositive instance earlier
+abbrev pub HasNoRayBelow : Bool → Instance → ℕ → Type 0
+HasNoRayBelow exact instance n = (earlier : ℕ) → earlier < n → ¬ IsRayPositive exact instance earlier
 
 -- none does
-abbrev pub HasNoRay : Instance → Type 0
-HasNoRay instance = HasNoRayBelow instance (ray_count instance.periods)
+abbrev pub HasNoRay : Bool → Instance → Type 0
+HasNoRay exact instance = HasNoRayBelow exact instance (ray_count instance.periods)
 
 -- ray n is the first that does
-pub record IsFirstRay (instance : Instance) (n : ℕ) : Type 0 where
+pub record IsFirstRay (exact : Bool) (instance : Instance) (n : ℕ) : Type 0 where
   pub within : n < ray_count instance.periods
-  pub positive : IsRayPositive instance n
-  pub first : HasNoRayBelow instance n
+  pub positive : IsRayPositive exact instance n
+  pub first : HasNoRayBelow exact instance n

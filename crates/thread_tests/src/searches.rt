@@ -90,6 +90,7 @@ fn two_workers_meet(rt: HostRuntime) -> Result<(), Fail> {
         budget: 3,
         workers: 2,
         gap: 0,
+        exact: false,
     };
     let meeting = Meeting::new();
     search(&rt, rt.alloc(), &instance, &options, &meeting).map_err(|_| "no memory")?;

@@ -1,5 +1,5 @@
 -- What a search answers claims truly, and its certificate has a text.
-use Rattle.std.proofs.Common.{◌≡◌, ◌^◌, ◌+◌, ◌-◌, ◌<◌, ◌≤◌, ℕ, arith, length, subst, Option, Some, None, ℤ, unsigned_abs, IfSome}
+use Rattle.std.proofs.Common.{◌≡◌, ◌^◌, ◌+◌, ◌-◌, ◌<◌, ◌≤◌, ℕ, Bool, false, arith, length, subst, Option, Some, None, ℤ, unsigned_abs, IfSome}
 use Rattle.std.proofs.lemmas.List.Elements.{All-weaker}
 use Rattle.uc_model.specs.Limits.{IsLawfulInstance}
 use Rattle.dual_model.specs.declared.table.Table.{Table}
@@ -38,28 +38,28 @@ bound_text (Some b) size = omega (arith, size)
 countable : (table : Table) → HasFewRows table → length table.ramps < 10 ^ 18
 countable table few = omega (arith, few)
 
-text_of : (instance : Instance) (budget gap : ℕ) (found : Found) → IsLawfulInstance instance → IsSearchResult instance budget gap found
+text_of : (exact : Bool) (instance : Instance) (budget gap : ℕ) (found : Found) → IsLawfulInstance instance → IsSearchResult exact instance budget gap found
     → IsWritable instance found → HasWrittenText (certificate_of instance found)
-text_of instance budget gap found lawful result writable =
+text_of exact instance budget gap found lawful result writable =
     found_has_text Second instance found lawful writable.tree result.truth.certificate (has_schedule_text Second instance found.schedule writable.schedule)
     (bound_text (tree_bound found.tree) writable.bound)
     (All-weaker HasFewRows (λ (table : Table). length table.ramps < 10 ^ 18) countable (written_tables found) writable.tables)
 
 pub answered : (asked : Solve) (file : SlotState) (instance : Instance) (rounded : ℕ) (found : Found) → IsLawfulInstance instance
-    → HasInstance (solve_options asked) file instance rounded → IsSearchResult instance asked.units asked.gap found → IsWritable instance found
+    → HasInstance (solve_options asked) file instance rounded → IsSearchResult asked.exact_units instance asked.units asked.gap found → IsWritable instance found
     → IsAnswer asked file instance rounded found
 answered asked file instance rounded found lawful read result writable = record {
   read = read;
   search = result;
   schedule = schedule_true instance (certificate_of instance found) lawful result.truth.certificate;
   claim = certificates_claim_truly instance (certificate_of instance found) lawful result.truth.certificate;
-  text = text_of instance asked.units asked.gap found lawful result writable;
+  text = text_of asked.exact_units instance asked.units asked.gap found lawful result writable;
 }
 
 pub demo_answered : (seed : ℕ) (instance : Instance) (found : Found) → instance ≡ demo_instance seed → IsLawfulInstance instance
-    → IsSearchResult instance 200 1000 found → IsDemoAnswer seed found
+    → IsSearchResult false instance 200 1000 found → IsDemoAnswer seed found
 demo_answered seed instance found is lawful result = record {
-  search = subst (λ i. IsSearchResult i 200 1000 found) is result;
+  search = subst (λ i. IsSearchResult false i 200 1000 found) is result;
   schedule = λ written e.
       subst (λ i. IsScheduleTrue i written) is
       (schedule_true instance (certificate_of instance found) lawful result.truth.certificate written e);
@@ -68,13 +68,13 @@ demo_answered seed instance found is lawful result = record {
 }
 
 -- ---- rolling windows
-pub rolled_true : (instance : Instance) (budget gap window step : ℕ) (rolled : Rolled) → IsLawfulInstance instance
-    → IsRolled instance budget gap window step rolled → IsRolledTrue instance rolled
-rolled_true instance budget gap window step (Whole schedule cost windows) lawful is = record {
+pub rolled_true : (exact : Bool) (instance : Instance) (budget gap window step : ℕ) (rolled : Rolled) → IsLawfulInstance instance
+    → IsRolled exact instance budget gap window step rolled → IsRolledTrue instance rolled
+rolled_true exact instance budget gap window step (Whole schedule cost windows) lawful is = record {
   obeys = is.accepted.obeys;
   costs = rw is.accepted.cost_is (cost-le-printed instance schedule lawful is.accepted.obeys);
 }
-rolled_true instance budget gap window step (Stopped number from to kept found) lawful is = (
+rolled_true exact instance budget gap window step (Stopped number from to kept found) lawful is = (
   is.ahead,
   subst (λ len. IsNextWindow instance kept (from - 1) len is.ahead) (omega (arith, is.is_from))
       (subst (λ start. IsNextWindow instance kept start (to - is.start) is.ahead) (omega (arith, is.is_from)) is.next),

@@ -1,5 +1,5 @@
 -- What a run of `demo` did, by how it ended. This project's own.
-use Rattle.std.specs.Prelude.{◌≡◌, ℕ, true, Option, Some, None}
+use Rattle.std.specs.Prelude.{◌≡◌, ℕ, true, false, Option, Some, None}
 use Rattle.dual_model.specs.Certificate.{WrittenSchedule}
 use Rattle.dual_model.specs.Laws.{IsClaimTrue}
 use Rattle.outside.specs.Sinks.{SinkState}
@@ -22,7 +22,7 @@ use Rattle.uc_check.specs.declared.ending.End.{End}
 -- an answer for the instance of the seed: what was found with a budget of 200 evaluations and at a gap of a thousandth of the cost; that
 -- its schedule obeys and costs at most what is printed; and that its bound, or that there is no schedule, is true of every schedule
 pub record IsDemoAnswer (seed : ℕ) (found : Found) : Type 0 where
-  pub search : IsSearchResult (demo_instance seed) 200 1000 found
+  pub search : IsSearchResult false (demo_instance seed) 200 1000 found
   pub schedule : (written : WrittenSchedule) → written_of found.schedule ≡ Some written → IsScheduleTrue (demo_instance seed) written
   pub claim : IsClaimTrue (demo_instance seed) (tree_bound found.tree)
 

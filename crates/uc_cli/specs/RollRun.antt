@@ -1,5 +1,5 @@
 -- What a run of `roll` did, by how it ended. This project's own.
-use Rattle.std.specs.Prelude.{◌≡◌, ℕ, ◌+◌, ◌-◌, ◌⊎◌, true, Option, Some, None}
+use Rattle.std.specs.Prelude.{◌≡◌, ℕ, ◌+◌, ◌-◌, ◌⊎◌, true, false, Option, Some, None}
 pub use Rattle.uc_model.specs.declared.instance.Instance.{Instance}
 use Rattle.dual_model.specs.Laws.{IsClaimTrue}
 pub use Rattle.outside.specs.declared.slot.Slot.{Slot}
@@ -38,7 +38,7 @@ IsRolledTrue instance (Stopped window from to kept found) =
 -- what came of the windows of the instance in the file, each searched with the budget and at the gap that are asked
 pub record IsRollAnswer (asked : Roll) (file : SlotState) (instance : Instance) (rounded : ℕ) (rolled : Rolled) : Type 0 where
   pub read : HasInstance (roll_options asked) file instance rounded
-  pub is_rolled : IsRolled instance asked.units asked.gap asked.window asked.step rolled
+  pub is_rolled : IsRolled false instance asked.units asked.gap asked.window asked.step rolled
   pub truth : IsRolledTrue instance rolled
 
 -- the instance in the file, and the answer for it

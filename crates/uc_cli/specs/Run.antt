@@ -33,12 +33,12 @@ use Rattle.uc_check.specs.declared.input.ReadOptions.{ReadOptions}
 abbrev pub solve_options : Solve → ReadOptions
 solve_options asked = record { exact = asked.exact; shed = asked.shed; spill_reserve = asked.spill_reserve }
 
--- an answer for the instance in the file: what was found, with the budget and at the gap that are asked; that its schedule obeys and
+-- an answer for the instance in the file: what was found, by exact values where these are asked, with the budget and at the gap that are asked; that its schedule obeys and
 -- costs at most what is printed; that its bound, or that there is no schedule, is true of every schedule; and that its certificate has
 -- a text of the grammar
 pub record IsAnswer (asked : Solve) (file : SlotState) (instance : Instance) (rounded : ℕ) (found : Found) : Type 0 where
   pub read : HasInstance (solve_options asked) file instance rounded
-  pub search : IsSearchResult instance asked.units asked.gap found
+  pub search : IsSearchResult asked.exact_units instance asked.units asked.gap found
   pub schedule : (written : WrittenSchedule) → written_of found.schedule ≡ Some written → IsScheduleTrue instance written
   pub claim : IsClaimTrue instance (tree_bound found.tree)
   pub text : HasWrittenText (certificate_of instance found)

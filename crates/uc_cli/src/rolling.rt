@@ -66,6 +66,7 @@ fn find<R: Threads + Wait + Sync, F: Files, G: Gate + Sync>(
         budget: asked.units,
         workers: asked.workers,
         gap: asked.gap,
+        exact: false,
     };
     let rolled = roll(
         rt,

@@ -1,5 +1,5 @@
 -- What is answered after a search over the tree: what its leaves store, the best schedule, and what is told of the most-on commitment.
-use Rattle.std.proofs.Common.{◌≡◌, ◌∙◌, ⊎_elim, ℕ, ◌<◌, All, List, [], length, refl, ap, sym, subst, arith, ℤ, pos, ◌≤ℤ◌, ◌<ℤ◌, Some, Option, None, IfSome, true, false}
+use Rattle.std.proofs.Common.{◌≡◌, ◌∙◌, ⊎_elim, Bool, ℕ, ◌<◌, All, List, [], length, refl, ap, sym, subst, arith, ℤ, pos, ◌≤ℤ◌, ◌<ℤ◌, Some, Option, None, IfSome, true, false}
 use Rattle.std.proofs.lemmas.Bool.{false≢true}
 use Rattle.std.proofs.lemmas.List.Elements.{All-weaker}
 use Rattle.uc_model.specs.Limits.{IsLawfulInstance}
@@ -23,6 +23,7 @@ use Rattle.workers.specs.Writable.{Found, Instance, Table, HasFewRows}
 use Rattle.decommitment.specs.DropCommitment.{Dispatched}
 use Rattle.dual_model.specs.Tree.{HasEachPattern}
 use Rattle.decommitment.specs.MostOnStuck.{TellsMostOn}
+use Rattle.opening.specs.Blocked.{HasNoBlockedUnit}
 use Rattle.opening.specs.Rays.{HasNoRay}
 use Rattle.opening.specs.RootTables.{IsGreaterTable}
 use Rattle.workers.specs.Opening.{IsRootTable}
@@ -37,7 +38,7 @@ use Rattle.decommitment.specs.Standings.{IsDropped, KeepsMostOn, ending_of}
 use Rattle.workers.specs.inside.Best.{Standing, IsBest, kept_stuck}
 use Rattle.workers.proofs.FewRows.{few_rows}
 use Rattle.workers.proofs.OwnValues.{bound_small, least_above, least_small}
-use Rattle.opening.proofs.Patterns.{not_first}
+use Rattle.opening.proofs.Blocked.{not_first}
 use Rattle.workers.proofs.Ended.{million}
 use Rattle.workers.proofs.WrittenTables.{certificate_holds, written_lawful}
 
@@ -124,10 +125,10 @@ searched_found grown stuck layout = record {
   layout = layout;
 }
 
-module _ (instance : Instance) (stands : Standing) (opening : Priced) (grown : Grown) (layout : Layout) (budget gap : ℕ)
+module _ (exact : Bool) (instance : Instance) (stands : Standing) (opening : Priced) (grown : Grown) (layout : Layout) (budget gap : ℕ)
     (lawful : IsLawfulInstance instance) (dropped : IsDropped instance stands) (is_best : IsBest instance (ending_of stands) grown.best)
     (opens : IsRootTable instance (ending_of stands) opening.table opening.value) (priced : IsPricedOf instance opening)
-    (is : IsGrown instance opening budget gap grown)
+    (is : IsGrown exact instance opening budget gap grown)
     (of_tree : IsLayoutOf grown.tree layout) (within : All (λ i. i < length grown.tables) layout.tables) where
   abbrev found : Found
   found = searched_found grown (kept_stuck stands) layout
@@ -157,18 +158,19 @@ module _ (instance : Instance) (stands : Standing) (opening : Priced) (grown : G
   scale : pos 0 <ℤ opening.table.k
   scale = subst (λ k. pos 0 <ℤ k) (sym priced.scale) million
 
-  searched_own : IsQuiet (ending_of stands) opening gap grown.log → HasEachPattern instance → HasNoRay instance → IsAnswerOf instance budget gap found
-  searched_own quiet each none = record {
+  searched_own : IsQuiet (ending_of stands) opening gap grown.log → HasEachPattern instance → HasNoBlockedUnit exact instance → HasNoRay exact instance → IsAnswerOf exact instance budget gap found
+  searched_own quiet each unblocked none = record {
     result = record {
       truth = searched_truth;
       plain = is.plain;
-      by_values = is.by_values;
+      of_kind = is.of_kind;
       within = is.spent.within;
       spent = is.spent.spent;
       most_on = tells_most_on instance (tree_bound grown.tree) stands grown.best dropped.most_on is_best.no_dearer;
-      empty = λ g empty. absurd (not_first instance g each empty);
+      empty = λ g empty. absurd (not_first false instance g each empty);
+      unscheduled = λ asked patterns g first. absurd (not_first true instance g (subst (λ kind. HasNoBlockedUnit kind instance) asked unblocked) first);
       ray = λ n ray. absurd (none n ray.within ray.positive);
-      opened = λ patterns. record {
+      opened = λ patterns units. record {
         patterns = dropped.patterns;
         ending = ending_of stands;
         drop = dropped.drop;
@@ -195,12 +197,12 @@ module _ (instance : Instance) (stands : Standing) (opening : Priced) (grown : G
     };
   }
 
-pub searched_answer : (instance : Instance) (stands : Standing) (stuck : Option Stuck) (opening : Priced) (grown : Grown) (layout : Layout)
-    (budget gap : ℕ) → IsLawfulInstance instance → HasEachPattern instance → HasNoRay instance → IsDropped instance stands
+pub searched_answer : (exact : Bool) (instance : Instance) (stands : Standing) (stuck : Option Stuck) (opening : Priced) (grown : Grown) (layout : Layout)
+    (budget gap : ℕ) → IsLawfulInstance instance → HasEachPattern instance → HasNoBlockedUnit exact instance → HasNoRay exact instance → IsDropped instance stands
     → stuck ≡ kept_stuck stands → IsBest instance (ending_of stands) grown.best → IsRootTable instance (ending_of stands) opening.table opening.value
-    → IsPricedOf instance opening → IsGrown instance opening budget gap grown → IsQuiet (ending_of stands) opening gap grown.log
+    → IsPricedOf instance opening → IsGrown exact instance opening budget gap grown → IsQuiet (ending_of stands) opening gap grown.log
     → IsLayoutOf grown.tree layout → All (λ i. i < length grown.tables) layout.tables
-    → IsAnswerOf instance budget gap (searched_found grown stuck layout)
-searched_answer instance stands stuck opening grown layout budget gap lawful each none dropped kept is_best opens priced is quiet of_tree within =
-    subst (λ (s : Option Stuck). IsAnswerOf instance budget gap (searched_found grown s layout)) (sym kept)
-    (searched_own instance stands opening grown layout budget gap lawful dropped is_best opens priced is of_tree within quiet each none)
+    → IsAnswerOf exact instance budget gap (searched_found grown stuck layout)
+searched_answer exact instance stands stuck opening grown layout budget gap lawful each unblocked none dropped kept is_best opens priced is quiet of_tree within =
+    subst (λ (s : Option Stuck). IsAnswerOf exact instance budget gap (searched_found grown s layout)) (sym kept)
+    (searched_own exact instance stands opening grown layout budget gap lawful dropped is_best opens priced is of_tree within quiet each unblocked none)

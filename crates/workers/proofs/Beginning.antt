@@ -1,5 +1,5 @@
 -- What a search begins with, and how it ends where the opening's schedule closes it.
-use Rattle.std.proofs.Common.{◌≡◌, ◌∙◌, ℕ, ◌+◌, ◌≤◌, true, false, arith, subst, sym, ℤ, pos, ◌≤ℤ◌, ◌<ℤ◌, Option, Some}
+use Rattle.std.proofs.Common.{◌≡◌, ◌∙◌, ℕ, ◌+◌, ◌≤◌, Bool, true, false, arith, subst, sym, ℤ, pos, ◌≤ℤ◌, ◌<ℤ◌, Option, Some}
 use Rattle.uc_model.specs.Limits.{IsLawfulInstance}
 use Rattle.uc_model.specs.declared.schedule.Printed.{Printed}
 use Rattle.uc_model.specs.declared.tolerance.TheConstants.{WHOLE_GAP}
@@ -42,11 +42,11 @@ pub million_within : (budget : ℕ) (priced : Priced) → priced.table.k ≡ ZER
 million_within budget priced scale = subst (λ k. k ≤ℤ pos (1000000 + budget)) (sym scale) (omega (arith, linear))
 
 -- no claim is made where the schedule is within the gap
-pub opened_ended : (opening : Opening) (best : Option (Printed × ℤ)) → IsTrueOpening opening → IsScaledWithin opening.budget opening.table
-    → is_schedule_within best (Some opening.value) opening.gap ≡ true → IsEnded opening (opened opening) best
-opened_ended opening best begun scaled closed = record {
+pub opened_ended : (exact : Bool) (opening : Opening) (best : Option (Printed × ℤ)) → IsTrueOpening opening → IsScaledWithin opening.budget opening.table
+    → is_schedule_within best (Some opening.value) opening.gap ≡ true → IsEnded exact opening (opened opening) best
+opened_ended exact opening best begun scaled closed = record {
   limit = opening.budget;
-  kept = kept_opened opening (cost_of best) begun opening.budget scaled;
+  kept = kept_opened exact opening (cost_of best) begun opening.budget scaled;
   spent = record {
     within = omega arith;
     spent = λ some unclosed. let differ : true ≡ false = sym closed ∙ unclosed in absurd (cc);
@@ -54,10 +54,10 @@ opened_ended opening best begun scaled closed = record {
 }
 
 -- the same by what the opening found
-pub closed_ended : (opening : Opening) (book : BookView) (instance : Instance) (priced : Priced) (budget gap : ℕ) (best : Option (Printed × ℤ))
+pub closed_ended : (exact : Bool) (opening : Opening) (book : BookView) (instance : Instance) (priced : Priced) (budget gap : ℕ) (best : Option (Printed × ℤ))
     → opening ≡ opening_by instance priced budget gap → IsLawfulInstance instance → budget ≤ MAX_BUDGET → gap ≤ WHOLE_GAP → IsPricedOf instance priced
-    → book ≡ opened opening → is_schedule_within best (Some (bound_of priced.value priced.table.k)) gap ≡ true → IsEnded opening book best
-closed_ended opening book instance priced budget gap best of lawful few whole is new closed =
+    → book ≡ opened opening → is_schedule_within best (Some (bound_of priced.value priced.table.k)) gap ≡ true → IsEnded exact opening book best
+closed_ended exact opening book instance priced budget gap best of lawful few whole is new closed =
     let own = opening_by instance priced budget gap in
-    let ended = opened_ended own best (true_opening instance priced budget gap lawful few whole is) (million_within budget priced is.scale) closed in
-    subst (λ b. IsEnded opening b best) (sym new) (subst (λ o. IsEnded o (opened o) best) (sym of) ended)
+    let ended = opened_ended exact own best (true_opening instance priced budget gap lawful few whole is) (million_within budget priced is.scale) closed in
+    subst (λ b. IsEnded exact opening b best) (sym new) (subst (λ o. IsEnded exact o (opened o) best) (sym of) ended)

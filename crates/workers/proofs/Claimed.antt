@@ -1,5 +1,5 @@
 -- What a worker knows of a node that it holds.
-use Rattle.std.proofs.Common.{◌≡◌, ⊎_elim, ◌⊎◌, ℕ, suc, ◌<◌, ◌≤◌, false, true, All, List, [], ◌∷◌, ◌++◌, length, ap, sym, subst, arith, ℤ, Option, Some, refl, length-append, slice_get}
+use Rattle.std.proofs.Common.{◌≡◌, ⊎_elim, ◌⊎◌, ℕ, suc, ◌<◌, ◌≤◌, Bool, false, true, All, List, [], ◌∷◌, ◌++◌, length, ap, sym, subst, arith, ℤ, Option, Some, refl, length-append, slice_get}
 use Rattle.std.proofs.lemmas.List.Elements.{All-nil, All-cons, All-append}
 use Rattle.std.proofs.lemmas.Option.{get_or_from_slice_get, slice_get_within}
 use Rattle.dual_model.specs.Fixings.{IsCell, IsNodeOf}
@@ -66,9 +66,9 @@ pub stored_lawful : (opening : Opening) (book : BookView) (unit : ℕ) (node : N
 stored_lawful opening book unit node table value running is =
     listed (IsLawfulTable opening.instance) book.tables _ table running.tree.tables is.is_table
 
-pub stored_scaled : (opening : Opening) (book : BookView) (seen : Option ℤ) (limit unit : ℕ) (node : Node) (table : Table) (value : ℤ)
-    → IsKeptBy opening book seen limit → IsStoredAt book unit node table value → IsScaledWithin limit table
-stored_scaled opening book seen limit unit node table value kept is =
+pub stored_scaled : (exact : Bool) (opening : Opening) (book : BookView) (seen : Option ℤ) (limit unit : ℕ) (node : Node) (table : Table) (value : ℤ)
+    → IsKeptBy exact opening book seen limit → IsStoredAt book unit node table value → IsScaledWithin limit table
+stored_scaled exact opening book seen limit unit node table value kept is =
     listed (IsScaledWithin limit) book.tables _ table kept.scaled is.is_table
 
 -- a unit that is held is one of the budget's

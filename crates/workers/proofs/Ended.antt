@@ -96,34 +96,34 @@ each_committed book none kept k d within = by_status claim.status refl
         let lost : false ≡ true = sym (ap (λ (s : Status). stays_by s) same) ∙ kept k d within in absurd (cc)
 
 -- ---- the ends
-spent_within : (opening : Opening) (book : BookView) (seen : Option ℤ) (limit : ℕ) → IsRunning opening book → IsKeptBy opening book seen limit
+spent_within : (exact : Bool) (opening : Opening) (book : BookView) (seen : Option ℤ) (limit : ℕ) → IsRunning opening book → IsKeptBy exact opening book seen limit
     → length book.log ≤ opening.budget
-spent_within opening book seen limit running kept =
+spent_within exact opening book seen limit running kept =
     omega (arith, kept.counted, commits_few book.claims, running.few, running.budget)
 
 -- the whole budget was spent
-pub spent_whole : (opening : Opening) (book : BookView) (best : Option (Printed × ℤ)) (limit : ℕ) → IsRunning opening book
-    → IsKeptBy opening book (cost_of best) limit → opening.budget ≤ length book.log → IsEnded opening book best
-spent_whole opening book best limit running kept whole =
-    let few = spent_within opening book (cost_of best) limit running kept in
+pub spent_whole : (exact : Bool) (opening : Opening) (book : BookView) (best : Option (Printed × ℤ)) (limit : ℕ) → IsRunning opening book
+    → IsKeptBy exact opening book (cost_of best) limit → opening.budget ≤ length book.log → IsEnded exact opening book best
+spent_whole exact opening book best limit running kept whole =
+    let few = spent_within exact opening book (cost_of best) limit running kept in
     record { limit = limit; kept = kept; spent = record { within = few; spent = λ some open_gap. omega (arith, whole, few) } }
 
 -- no claim is left, and none is held
-pub spent_claims : (opening : Opening) (book : BookView) (best : Option (Printed × ℤ)) (limit : ℕ) → IsRunning opening book
-    → IsKeptBy opening book (cost_of best) limit → All IsKeptClaim book.claims → ((node : ℕ) → ¬ IsHeld (state_of book) node)
-    → length book.claims ≡ book.budget → IsEnded opening book best
-spent_claims opening book best limit running kept complete none all =
+pub spent_claims : (exact : Bool) (opening : Opening) (book : BookView) (best : Option (Printed × ℤ)) (limit : ℕ) → IsRunning opening book
+    → IsKeptBy exact opening book (cost_of best) limit → All IsKeptClaim book.claims → ((node : ℕ) → ¬ IsHeld (state_of book) node)
+    → length book.claims ≡ book.budget → IsEnded exact opening book best
+spent_claims exact opening book best limit running kept complete none all =
     let count = commits_all book.claims (each_committed book none complete) in
-    spent_whole opening book best limit running kept (omega (arith, count, kept.counted, all, running.budget))
+    spent_whole exact opening book best limit running kept (omega (arith, count, kept.counted, all, running.budget))
 
 -- the schedule closes the tree, or no leaf has a bound
-pub spent_finished : (opening : Opening) (book : BookView) (best : Option (Printed × ℤ)) (limit : ℕ) → IsRunning opening book
-    → IsKeptBy opening book (cost_of best) limit → is_finished best (tree_bound book.tree) opening.gap ≡ true → IsEnded opening book best
-spent_finished opening book best limit running kept finished = record {
+pub spent_finished : (exact : Bool) (opening : Opening) (book : BookView) (best : Option (Printed × ℤ)) (limit : ℕ) → IsRunning opening book
+    → IsKeptBy exact opening book (cost_of best) limit → is_finished best (tree_bound book.tree) opening.gap ≡ true → IsEnded exact opening book best
+spent_finished exact opening book best limit running kept finished = record {
   limit = limit;
   kept = kept;
   spent = record {
-    within = spent_within opening book (cost_of best) limit running kept;
+    within = spent_within exact opening book (cost_of best) limit running kept;
     spent = λ some unclosed. let differ : true ≡ false = sym (by_bound (tree_bound book.tree) finished some) ∙ unclosed in absurd (cc);
   };
 }
@@ -137,10 +137,10 @@ best_closes : (best : Option (Printed × ℤ)) (gap : ℕ) (bound : Option ℤ) 
 best_closes None gap bound h = absurd h
 best_closes (Some priced) gap bound h = h
 
-pub spent_settled : TreeRunsHold → (opening : Opening) (book : BookView) (best : Option (Printed × ℤ)) (limit : ℕ) → IsRunning opening book
-    → IsKeptBy opening book (cost_of best) limit → ((node : ℕ) → ¬ IsOpen (state_of book) node) → ((node : ℕ) → ¬ IsHeld (state_of book) node)
-    → IsEnded opening book best
-spent_settled law opening book best limit running kept none_open none_held =
+pub spent_settled : TreeRunsHold → (exact : Bool) (opening : Opening) (book : BookView) (best : Option (Printed × ℤ)) (limit : ℕ) → IsRunning opening book
+    → IsKeptBy exact opening book (cost_of best) limit → ((node : ℕ) → ¬ IsOpen (state_of book) node) → ((node : ℕ) → ¬ IsHeld (state_of book) node)
+    → IsEnded exact opening book best
+spent_settled law exact opening book best limit running kept none_open none_held =
     let orderly = (run_holds law opening book kept.begun running.replays).1 in
     let none : (number : ℕ) → ¬ IsOpenAt book.tree.nodes number =
     λ number at. none_open number (record { live = at; unheld = none_held number }) in
@@ -148,7 +148,7 @@ spent_settled law opening book best limit running kept none_open none_held =
       limit = limit;
       kept = kept;
       spent = record {
-        within = spent_within opening book (cost_of best) limit running kept;
+        within = spent_within exact opening book (cost_of best) limit running kept;
         spent = λ some unclosed. ⊎_elim
             (λ (e : tree_bound book.tree ≡ None). absurd (some e))
             (λ (h : IsBestWithin (cost_of best) opening.gap (tree_bound book.tree)).
@@ -204,12 +204,12 @@ module _ (f : ℕ → ℕ) (units periods : ℕ) (tables : List Table) (log : Li
       )
 
 -- ---- what is left
-pub ended_grown : (opening : Opening) (book : BookView) (best : Option (Printed × ℤ)) (instance : Instance) (priced : Priced) (budget gap : ℕ)
-    (grown : Grown) → opening ≡ opening_by instance priced budget gap → IsRunning opening book → IsWhole book.tree → IsEnded opening book best
+pub ended_grown : (exact : Bool) (opening : Opening) (book : BookView) (best : Option (Printed × ℤ)) (instance : Instance) (priced : Priced) (budget gap : ℕ)
+    (grown : Grown) → opening ≡ opening_by instance priced budget gap → IsRunning opening book → IsWhole book.tree → IsEnded exact opening book best
     → IsAcceptedIfFound instance best → grown.tree ≡ book.tree → grown.tables ≡ book.tables → grown.log ≡ book.log → grown.best ≡ best
-    → IsGrown instance priced budget gap grown
-ended_grown opening book best instance priced budget gap grown same running whole ended accepted tree tables log best_is =
-    subst (λ (x : Grown). IsGrown instance priced budget gap x) (sym (λ i. record {
+    → IsGrown exact instance priced budget gap grown
+ended_grown exact opening book best instance priced budget gap grown same running whole ended accepted tree tables log best_is =
+    subst (λ (x : Grown). IsGrown exact instance priced budget gap x) (sym (λ i. record {
       tree = tree i;
       tables = tables i;
       log = log i;
@@ -217,12 +217,12 @@ ended_grown opening book best instance priced budget gap grown same running whol
     }))
     (of_opening opening same running ended)
   where
-    of_opening : (o : Opening) → o ≡ opening_by instance priced budget gap → IsRunning o book → IsEnded o book best
-        → IsGrown instance priced budget gap (record { tree = book.tree; tables = book.tables; log = book.log; best = best })
+    of_opening : (o : Opening) → o ≡ opening_by instance priced budget gap → IsRunning o book → IsEnded exact o book best
+        → IsGrown exact instance priced budget gap (record { tree = book.tree; tables = book.tables; log = book.log; best = best })
     of_opening o is run end =
         let by = opening_by instance priced budget gap in
         let run2 : IsRunning by book = subst (λ (x : Opening). IsRunning x book) is run in
-        let end2 : IsEnded by book best = subst (λ (x : Opening). IsEnded x book best) is end in
+        let end2 : IsEnded exact by book best = subst (λ (x : Opening). IsEnded exact x book best) is end in
         let holds = run2.tree in
         let f = number_of book.claims in
         record {
@@ -246,7 +246,7 @@ ended_grown opening book best instance priced budget gap grown same running whol
                 );
           };
           plain = end2.kept.plain;
-          by_values = end2.kept.by_values;
+          of_kind = end2.kept.of_kind;
           sized = end2.kept.sized;
           accepted = accepted;
           spent = end2.spent;

@@ -40,7 +40,7 @@ use Rattle.book.proofs.Books.{run_holds}
 use Rattle.book.proofs.Steps.{held_still}
 use Rattle.book.proofs.Units.{held_part, ended_part}
 use Rattle.opening.specs.Outcomes.{IsSized}
-use Rattle.workers.specs.SearchResult.{IsByValue}
+use Rattle.workers.specs.SearchResult.{IsOfKind}
 use Rattle.workers.specs.inside.Desks.{Entry, Table, IsKeptBy, IsKeptClaim, IsPrunedBy, IsScaledWithin, IsSizedEntry, commits_of}
 
 -- ---- how many claims were committed
@@ -106,39 +106,39 @@ pruned_lower law seen lower gap whole below (leaf.ExactRay table) h = tt
 pruned_lower law seen lower gap whole below (leaf.ExactEmpty g) h = tt
 
 -- what a move makes of the node that is held
-pruned_new : (book : BookView) (node : ℕ) (here : Node) (table : Table) (outcome : Outcome) (action : Move) (seen : Option ℤ) (gap : ℕ)
-    → book.gap ≡ gap → IsPrunedBy seen action → IsMoveLegal (λ cost. Unit {0}) (state_of book) node table false outcome action
-    → HoldsOfNew (λ n l. IsPrunedWithin seen gap l) here (kept (state_of book) node table false outcome) (length book.tables) false outcome action
-pruned_new book node here table outcome Again seen gap same by legal = tt
-pruned_new book node here table outcome (Split g t) seen gap same by legal = (tt, tt, tt)
-pruned_new book node here table outcome (Prune cost) seen gap same by legal =
-    subst (λ g. IsBestWithin seen g (Some (kept (state_of book) node table false outcome).value)) same
-    (subst (λ s. IsBestWithin s book.gap (Some (kept (state_of book) node table false outcome).value)) (sym by) legal.1.within)
-pruned_new book node here table outcome Ray seen gap same by legal = of_ray (IsPrunedWithin seen gap) false (length book.tables) tt tt
-pruned_new book node here table outcome Empty seen gap same by legal = of_empty (IsPrunedWithin seen gap) false (unit_of outcome) tt tt
+pruned_new : (exact : Bool) (book : BookView) (node : ℕ) (here : Node) (table : Table) (outcome : Outcome) (action : Move) (seen : Option ℤ) (gap : ℕ)
+    → book.gap ≡ gap → IsPrunedBy seen action → IsMoveLegal (λ cost. Unit {0}) (state_of book) node table exact outcome action
+    → HoldsOfNew (λ n l. IsPrunedWithin seen gap l) here (kept (state_of book) node table exact outcome) (length book.tables) exact outcome action
+pruned_new exact book node here table outcome Again seen gap same by legal = tt
+pruned_new exact book node here table outcome (Split g t) seen gap same by legal = (tt, tt, tt)
+pruned_new exact book node here table outcome (Prune cost) seen gap same by legal =
+    subst (λ g. IsBestWithin seen g (Some (kept (state_of book) node table exact outcome).value)) same
+    (subst (λ s. IsBestWithin s book.gap (Some (kept (state_of book) node table exact outcome).value)) (sym by) legal.1.within)
+pruned_new exact book node here table outcome Ray seen gap same by legal = of_ray (IsPrunedWithin seen gap) exact (length book.tables) tt tt
+pruned_new exact book node here table outcome Empty seen gap same by legal = of_empty (IsPrunedWithin seen gap) exact (unit_of outcome) tt tt
 
 -- ---- each call
-pub kept_opened : (opening : Opening) (seen : Option ℤ) → IsTrueOpening opening → (limit : ℕ) → IsScaledWithin limit opening.table
-    → IsKeptBy opening (opened opening) seen limit
-kept_opened opening seen begun limit scaled = record {
+pub kept_opened : (exact : Bool) (opening : Opening) (seen : Option ℤ) → IsTrueOpening opening → (limit : ℕ) → IsScaledWithin limit opening.table
+    → IsKeptBy exact opening (opened opening) seen limit
+kept_opened exact opening seen begun limit scaled = record {
   begun = begun;
   sized = All-nil IsSizedEntry;
   scaled = All-cons (IsScaledWithin limit) opening.table [] scaled (All-nil (IsScaledWithin limit));
-  plain = refl;
-  by_values = All-nil IsByValue;
+  plain = λ plain. refl;
+  of_kind = All-nil (IsOfKind exact);
   pruned = tt;
   counted = refl;
 }
 
 -- a lower cost was seen
-pub kept_lower : NeverDecreases → (opening : Opening) (book : BookView) (seen lower : Option ℤ) (limit : ℕ) → incumbent.AtMost lower seen
-    → IsKeptBy opening book seen limit → IsKeptBy opening book lower limit
-kept_lower law opening book seen lower limit below is = record {
+pub kept_lower : NeverDecreases → (exact : Bool) (opening : Opening) (book : BookView) (seen lower : Option ℤ) (limit : ℕ) → incumbent.AtMost lower seen
+    → IsKeptBy exact opening book seen limit → IsKeptBy exact opening book lower limit
+kept_lower law exact opening book seen lower limit below is = record {
   begun = is.begun;
   sized = is.sized;
   scaled = is.scaled;
   plain = is.plain;
-  by_values = is.by_values;
+  of_kind = is.of_kind;
   pruned = each_leaf_map (λ n l. IsPrunedWithin seen opening.gap l) (λ n l. IsPrunedWithin lower opening.gap l)
       (λ n l h. pruned_lower law seen lower opening.gap is.begun.gap below l h) root (tree_of book.tree) is.pruned;
   counted = is.counted;
@@ -148,28 +148,28 @@ kept_lower law opening book seen lower limit below is = record {
 scaled_more : (limit more : ℕ) → limit ≤ more → (table : Table) → IsScaledWithin limit table → IsScaledWithin more table
 scaled_more limit more le table is = omega (arith, linear, is, le)
 
-pub kept_wider : (opening : Opening) (book : BookView) (seen : Option ℤ) (limit more : ℕ) → limit ≤ more → IsKeptBy opening book seen limit
-    → IsKeptBy opening book seen more
-kept_wider opening book seen limit more le is = record {
+pub kept_wider : (exact : Bool) (opening : Opening) (book : BookView) (seen : Option ℤ) (limit more : ℕ) → limit ≤ more → IsKeptBy exact opening book seen limit
+    → IsKeptBy exact opening book seen more
+kept_wider exact opening book seen limit more le is = record {
   begun = is.begun;
   sized = is.sized;
   scaled = All-weaker (IsScaledWithin limit) (IsScaledWithin more) (scaled_more limit more le) book.tables is.scaled;
   plain = is.plain;
-  by_values = is.by_values;
+  of_kind = is.of_kind;
   pruned = is.pruned;
   counted = is.counted;
 }
 
-pub kept_claimed : (opening : Opening) (book : BookView) (seen : Option ℤ) (limit worker node : ℕ) → IsKeptBy opening book seen limit
-    → IsKeptBy opening (claimed book worker node) seen limit
-kept_claimed opening book seen limit worker node is =
+pub kept_claimed : (exact : Bool) (opening : Opening) (book : BookView) (seen : Option ℤ) (limit worker node : ℕ) → IsKeptBy exact opening book seen limit
+    → IsKeptBy exact opening (claimed book worker node) seen limit
+kept_claimed exact opening book seen limit worker node is =
     let next : Claim = record { worker = worker; node = node; behind = length book.log; status = Held } in
     record {
       begun = is.begun;
       sized = is.sized;
       scaled = is.scaled;
       plain = is.plain;
-      by_values = is.by_values;
+      of_kind = is.of_kind;
       pruned = is.pruned;
       counted = omega (arith, push_count book.claims next, is.counted);
     }
@@ -178,47 +178,49 @@ pub stay_claimed : (book : BookView) (worker node : ℕ) → All IsKeptClaim boo
 stay_claimed book worker node each =
     All-push IsKeptClaim book.claims (record { worker = worker; node = node; behind = length book.log; status = Held }) each refl
 
-pub kept_given_back : (opening : Opening) (book : BookView) (seen : Option ℤ) (limit worker unit node : ℕ)
-    → IsHolding (state_of book) worker unit node → IsKeptBy opening book seen limit → IsKeptBy opening (given_back book unit) seen limit
-kept_given_back opening book seen limit worker unit node holds is = record {
+pub kept_given_back : (exact : Bool) (opening : Opening) (book : BookView) (seen : Option ℤ) (limit worker unit node : ℕ)
+    → IsHolding (state_of book) worker unit node → IsKeptBy exact opening book seen limit → IsKeptBy exact opening (given_back book unit) seen limit
+kept_given_back exact opening book seen limit worker unit node holds is = record {
   begun = is.begun;
   sized = is.sized;
   scaled = is.scaled;
   plain = is.plain;
-  by_values = is.by_values;
+  of_kind = is.of_kind;
   pruned = is.pruned;
   counted = omega (arith, (ended_count book.claims worker unit node GivenBack book refl holds).count, is.counted);
 }
 
-pub stay_committed : (book : BookView) (worker unit node : ℕ) (table : Table) (outcome : Outcome) (action : Move)
+pub stay_committed : (exact : Bool) (book : BookView) (worker unit node : ℕ) (table : Table) (outcome : Outcome) (action : Move)
     → IsHolding (state_of book) worker unit node → All IsKeptClaim book.claims
-    → All IsKeptClaim (committed book worker unit node table false outcome action).claims
-stay_committed book worker unit node table outcome action holds each =
+    → All IsKeptClaim (committed book worker unit node table exact outcome action).claims
+stay_committed exact book worker unit node table outcome action holds each =
     (ended_count book.claims worker unit node (Committed action) book refl holds).stay each (λ same. absurd (cc))
 
-pub kept_committed : TreeRunsHold → (opening : Opening) (book : BookView) (seen : Option ℤ) (limit worker unit node : ℕ) (given : Node) (table : Table)
+pub kept_committed : TreeRunsHold → (exact : Bool) (opening : Opening) (book : BookView) (seen : Option ℤ) (limit worker unit node : ℕ) (given : Node) (table : Table)
     (outcome : Outcome) (action : Move) → IsRunning opening book → IsHolding (state_of book) worker unit node
-    → MayBe book node given table false outcome action → IsSized outcome → IsScaledWithin limit table → IsPrunedBy seen action
-    → IsKeptBy opening book seen limit → IsKeptBy opening (committed book worker unit node table false outcome action) seen limit
-kept_committed law opening book seen limit worker unit node given table outcome action running holds may sized scaled by is =
+    → MayBe book node given table exact outcome action → IsSized outcome → IsScaledWithin limit table → IsPrunedBy seen action
+    → IsKeptBy exact opening book seen limit → IsKeptBy exact opening (committed book worker unit node table exact outcome action) seen limit
+kept_committed law exact opening book seen limit worker unit node given table outcome action running holds may sized scaled by is =
     let m = replayed book running.replays.desks in
     let orderly = (run_holds law opening book is.begun running.replays).1 in
     let holding = held_still book unit (record { worker = worker; node = node }) holds in
     let at : IsOpenAt book.tree.nodes node = (holdable m worker (number_of book.claims unit) node orderly holding).live in
     let part = leaf_part book.tree node at in
     let entry : Entry =
-    record { unit = unit; worker = worker; node = node; table = length book.tables; exact = false; outcome = outcome } in
-    let plain = subst (λ h. IsPlainState (committed_by (state_of book) worker unit table false outcome action h)) holds
-    (plain_after (state_of book) (Commit worker unit table false outcome action) (record { tree = is.plain; entries = is.by_values }) refl) in
+    record { unit = unit; worker = worker; node = node; table = length book.tables; exact = exact; outcome = outcome } in
+    let committed_plain = λ (plain : exact ≡ false).
+    subst (λ h. IsPlainState (committed_by (state_of book) worker unit table exact outcome action h)) holds
+    (plain_after (state_of book) (Commit worker unit table exact outcome action)
+    (record { tree = is.plain plain; entries = subst (λ kind. All (IsOfKind kind) book.log) plain is.of_kind }) plain) in
     record {
       begun = is.begun;
       sized = All-push IsSizedEntry book.log entry is.sized sized;
       scaled = All-push (IsScaledWithin limit) book.tables table is.scaled scaled;
-      plain = plain.tree;
-      by_values = plain.entries;
+      plain = λ plain. (committed_plain plain).tree;
+      of_kind = All-push (IsOfKind exact) book.log entry is.of_kind refl;
       pruned = after_holds (λ n l. IsPrunedWithin seen opening.gap l) (λ n l. IsPrunedWithin seen opening.gap l) (λ n l h. h)
-          book.tree node at part (kept (state_of book) node table false outcome) (length book.tables) false outcome action (sound_of m orderly)
-          is.pruned (pruned_new book node part.part.node table outcome action seen opening.gap running.gap by may.legal);
+          book.tree node at part (kept (state_of book) node table exact outcome) (length book.tables) exact outcome action (sound_of m orderly)
+          is.pruned (pruned_new exact book node part.part.node table outcome action seen opening.gap running.gap by may.legal);
       counted = omega (
         arith,
         (ended_count book.claims worker unit node (Committed action) book refl holds).count,
@@ -229,35 +231,35 @@ kept_committed law opening book seen limit worker unit node given table outcome 
 
 -- ---- by what each call answers
 -- what is kept of a book, whether or not a claim was given back
-pub record IsSafe (opening : Opening) (book : BookView) (seen : Option ℤ) (limit : ℕ) (failed : Bool) : Type 0 where
-  pub kept : IsKeptBy opening book seen limit
+pub record IsSafe (exact : Bool) (opening : Opening) (book : BookView) (seen : Option ℤ) (limit : ℕ) (failed : Bool) : Type 0 where
+  pub kept : IsKeptBy exact opening book seen limit
   pub complete : failed ≡ false → All IsKeptClaim book.claims
 
-pub safe_claim : (opening : Opening) (book new : BookView) (seen : Option ℤ) (limit worker node : ℕ) (failed : Bool) (result : Claimed)
-    → IsSafe opening book seen limit failed → IsClaimAnswer book worker node new result → IsSafe opening new seen limit failed
-safe_claim opening book new seen limit worker node failed Spent is answer = subst (λ b. IsSafe opening b seen limit failed) (sym answer.1) is
-safe_claim opening book new seen limit worker node failed NotOpen is answer = subst (λ b. IsSafe opening b seen limit failed) (sym answer.2) is
-safe_claim opening book new seen limit worker node failed (Mine unit had) is answer =
-    subst (λ b. IsSafe opening b seen limit failed) (sym answer.4) (record {
-      kept = kept_claimed opening book seen limit worker node is.kept;
+pub safe_claim : (exact : Bool) (opening : Opening) (book new : BookView) (seen : Option ℤ) (limit worker node : ℕ) (failed : Bool) (result : Claimed)
+    → IsSafe exact opening book seen limit failed → IsClaimAnswer book worker node new result → IsSafe exact opening new seen limit failed
+safe_claim exact opening book new seen limit worker node failed Spent is answer = subst (λ b. IsSafe exact opening b seen limit failed) (sym answer.1) is
+safe_claim exact opening book new seen limit worker node failed NotOpen is answer = subst (λ b. IsSafe exact opening b seen limit failed) (sym answer.2) is
+safe_claim exact opening book new seen limit worker node failed (Mine unit had) is answer =
+    subst (λ b. IsSafe exact opening b seen limit failed) (sym answer.4) (record {
+      kept = kept_claimed exact opening book seen limit worker node is.kept;
       complete = λ whole. stay_claimed book worker node (is.complete whole);
     })
 
-pub safe_commit : TreeRunsHold → (opening : Opening) (book new : BookView) (seen : Option ℤ) (limit worker unit : ℕ) (failed : Bool) (given : Node)
+pub safe_commit : TreeRunsHold → (exact : Bool) (opening : Opening) (book new : BookView) (seen : Option ℤ) (limit worker unit : ℕ) (failed : Bool) (given : Node)
     (table : Table) (outcome : Outcome) (action : Move) (result : Bool) → IsRunning opening book → IsSized outcome → IsScaledWithin limit table
-    → IsPrunedBy seen action → IsSafe opening book seen limit failed
-    → IsCommitAnswer book worker unit given table false outcome action new result → IsSafe opening new seen limit failed
-safe_commit law opening book new seen limit worker unit failed given table outcome action false running sized scaled by is answer =
-    subst (λ b. IsSafe opening b seen limit failed) (sym answer.1) is
-safe_commit law opening book new seen limit worker unit failed given table outcome action true running sized scaled by is answer =
+    → IsPrunedBy seen action → IsSafe exact opening book seen limit failed
+    → IsCommitAnswer book worker unit given table exact outcome action new result → IsSafe exact opening new seen limit failed
+safe_commit law exact opening book new seen limit worker unit failed given table outcome action false running sized scaled by is answer =
+    subst (λ b. IsSafe exact opening b seen limit failed) (sym answer.1) is
+safe_commit law exact opening book new seen limit worker unit failed given table outcome action true running sized scaled by is answer =
     let may = answer.may in
-    subst (λ b. IsSafe opening b seen limit failed) (sym answer.is) (record {
-      kept = kept_committed law opening book seen limit worker unit may.node given table outcome action running may.holds may.may sized scaled by is.kept;
-      complete = λ whole. stay_committed book worker unit may.node table outcome action may.holds (is.complete whole);
+    subst (λ b. IsSafe exact opening b seen limit failed) (sym answer.is) (record {
+      kept = kept_committed law exact opening book seen limit worker unit may.node given table outcome action running may.holds may.may sized scaled by is.kept;
+      complete = λ whole. stay_committed exact book worker unit may.node table outcome action may.holds (is.complete whole);
     })
 
-pub safe_abandon : (opening : Opening) (book new : BookView) (seen : Option ℤ) (limit worker unit : ℕ) (result : Bool)
-    → IsKeptBy opening book seen limit → IsAbandonAnswer book worker unit new result → IsKeptBy opening new seen limit
-safe_abandon opening book new seen limit worker unit false is answer = subst (λ b. IsKeptBy opening b seen limit) (sym answer.1) is
-safe_abandon opening book new seen limit worker unit true is answer =
-    subst (λ b. IsKeptBy opening b seen limit) (sym answer.is) (kept_given_back opening book seen limit worker unit answer.node answer.holds is)
+pub safe_abandon : (exact : Bool) (opening : Opening) (book new : BookView) (seen : Option ℤ) (limit worker unit : ℕ) (result : Bool)
+    → IsKeptBy exact opening book seen limit → IsAbandonAnswer book worker unit new result → IsKeptBy exact opening new seen limit
+safe_abandon exact opening book new seen limit worker unit false is answer = subst (λ b. IsKeptBy exact opening b seen limit) (sym answer.1) is
+safe_abandon exact opening book new seen limit worker unit true is answer =
+    subst (λ b. IsKeptBy exact opening b seen limit) (sym answer.is) (kept_given_back exact opening book seen limit worker unit answer.node answer.holds is)

@@ -1,5 +1,5 @@
 -- A claim that is still held may be committed at the table that the closing pass takes.
-use Rattle.std.proofs.Common.{◌≡◌, ◌≢◌, ◌∙◌, ◌⊎◌, ⊎_elim, ℕ, ◌+◌, ◌<◌, false, All, List, [], length, ap, sym, subst, arith, ℤ, pos, Option, Some, slice_get, get_or, length-append, ◌∷◌}
+use Rattle.std.proofs.Common.{◌≡◌, ◌≢◌, ◌∙◌, ◌⊎◌, ⊎_elim, ℕ, ◌+◌, ◌<◌, Bool, All, List, [], length, ap, sym, subst, arith, ℤ, pos, Option, Some, slice_get, get_or, length-append, ◌∷◌}
 use Rattle.std.proofs.lemmas.Int.{ints}
 use Rattle.std.proofs.lemmas.List.{nil_from_length}
 use Rattle.std.proofs.lemmas.List.Elements.{All-nil}
@@ -33,29 +33,29 @@ one_node book a b unit one other first second =
     ap (λ (h : Holder). h.node) same
 
 -- no entry is at a table of a scale above those of all tables
-new_fresh : (book : BookView) (limit scale node : ℕ) (table : Table) → All (IsScaledWithin limit) book.tables → limit < scale → IsNewScale scale table
-    → IsFresh (state_of book) (entries_of book.log node) table false
-new_fresh book limit scale node table scaled below new i d within kind is =
+new_fresh : (exact : Bool) (book : BookView) (limit scale node : ℕ) (table : Table) → All (IsScaledWithin limit) book.tables → limit < scale → IsNewScale scale table
+    → IsFresh (state_of book) (entries_of book.log node) table exact
+new_fresh exact book limit scale node table scaled below new i d within kind is =
     let old = listed (IsScaledWithin limit) book.tables (get_or (entries_of book.log node) i d).table table scaled is in
     omega (arith, ints, linear, old, new, below)
 
 no_entry : (book : BookView) (had node : ℕ) → had ≡ length (entries_of book.log node) → had ≡ 0 → entries_of book.log node ≡ []
 no_entry book had node count none = nil_from_length (entries_of book.log node) (sym count ∙ none)
 
-module _ (opening : Opening) (book : BookView) (seen : Option ℤ) (limit scale unit worker node had : ℕ) (path : Node) (stored : Table) (value : ℤ)
-    (table : Table) (outcome : Outcome) (action : Move) (left : IsLeft opening book seen limit) (below : limit < scale)
+module _ (exact : Bool) (opening : Opening) (book : BookView) (seen : Option ℤ) (limit scale unit worker node had : ℕ) (path : Node) (stored : Table) (value : ℤ)
+    (table : Table) (outcome : Outcome) (action : Move) (left : IsLeft exact opening book seen limit) (below : limit < scale)
     (held : IsHeldUnit book unit worker node had) (at : IsStoredAt book unit path stored value)
     (is : IsClosingTable opening.instance stored node had scale table) where
   same : at.number ≡ node
   same = one_node book at.worker worker unit at.number node at.holds held.holds
 
-  fresh : IsFresh (state_of book) (entries_of book.log node) table false
+  fresh : IsFresh (state_of book) (entries_of book.log node) table exact
   fresh = ⊎_elim
       (λ (h : (node ≢ 0) × (had ≡ 0) × (table ≡ stored)).
-      subst (λ (entries : List Entry). IsFresh (state_of book) entries table false) (sym (no_entry book had node held.count h.1))
-      (All-nil (λ (entry : Entry). entry.exact ≡ false → slice_get book.tables entry.table ≢ Some table)))
+      subst (λ (entries : List Entry). IsFresh (state_of book) entries table exact) (sym (no_entry book had node held.count h.1))
+      (All-nil (λ (entry : Entry). entry.exact ≡ exact → slice_get book.tables entry.table ≢ Some table)))
       (λ (h : IsLawfulTable opening.instance table × IsNewScale scale table × ((node ≡ 0) ⊎ (had ≢ 0))).
-      new_fresh book limit scale node table left.kept.scaled below h.1)
+      new_fresh exact book limit scale node table left.kept.scaled below h.1)
       is
 
   first : entries_of book.log node ≡ [] → node ≢ 0 → HasFreeCell book.tree node → IsStoredTable (state_of book) node table
@@ -70,8 +70,8 @@ module _ (opening : Opening) (book : BookView) (seen : Option ℤ) (limit scale 
       h.2)
       is
 
-  pub settle_may : IsMoveLegal (λ cost. Unit {0}) (state_of book) node table false outcome action
-      → MayCommit book worker unit path table false outcome action
+  pub settle_may : IsMoveLegal (λ cost. Unit {0}) (state_of book) node table exact outcome action
+      → MayCommit book worker unit path table exact outcome action
   settle_may legal = record {
     node = node;
     holds = held.holds;
@@ -93,13 +93,13 @@ module _ (opening : Opening) (book : BookView) (seen : Option ℤ) (limit scale 
       is
 
   pub settle_left : TreeRunsHold → (new : BookView) → IsRunning opening book → IsSized outcome → IsPrunedBy seen action
-      → IsCommitted book worker unit path table false outcome action new → IsLeft opening new seen scale
+      → IsCommitted book worker unit path table exact outcome action new → IsLeft exact opening new seen scale
   settle_left law new running sized by done =
       let may = done.may in
-      subst (λ (b : BookView). IsLeft opening b seen scale) (sym done.is) (record {
-        kept = kept_committed law opening book seen scale worker unit may.node path table outcome action running may.holds may.may sized scaled by
-            (kept_wider opening book seen limit scale (omega (arith, below)) left.kept);
-        complete = stay_committed book worker unit may.node table outcome action may.holds left.complete;
+      subst (λ (b : BookView). IsLeft exact opening b seen scale) (sym done.is) (record {
+        kept = kept_committed law exact opening book seen scale worker unit may.node path table outcome action running may.holds may.may sized scaled by
+            (kept_wider exact opening book seen limit scale (omega (arith, below)) left.kept);
+        complete = stay_committed exact book worker unit may.node table outcome action may.holds left.complete;
       })
 
 -- the table is lawful
@@ -111,8 +111,8 @@ closing_lawful instance stored table node had scale lawful is = ⊎_elim
     is
 
 -- one entry more
-pub settle_log : (book new : BookView) (worker unit : ℕ) (path : Node) (table : Table) (outcome : Outcome) (action : Move)
-    → IsCommitted book worker unit path table false outcome action new → length new.log ≡ length book.log + 1
-settle_log book new worker unit path table outcome action done =
+pub settle_log : (exact : Bool) (book new : BookView) (worker unit : ℕ) (path : Node) (table : Table) (outcome : Outcome) (action : Move)
+    → IsCommitted book worker unit path table exact outcome action new → length new.log ≡ length book.log + 1
+settle_log exact book new worker unit path table outcome action done =
     ap (λ (b : BookView). length b.log) done.is
-    ∙ length-append book.log ((record { unit = unit; worker = worker; node = done.may.node; table = length book.tables; exact = false; outcome = outcome }) ∷ [])
+    ∙ length-append book.log ((record { unit = unit; worker = worker; node = done.may.node; table = length book.tables; exact = exact; outcome = outcome }) ∷ [])

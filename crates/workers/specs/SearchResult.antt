@@ -5,6 +5,7 @@ pub use Rattle.uc_model.specs.declared.instance.Instance.{Instance}
 use Rattle.uc_model.specs.declared.pattern.Pattern.{Pattern}
 pub use Rattle.uc_model.specs.declared.schedule.Printed.{Printed}
 use Rattle.dual_model.specs.Cover.{ReachesBoundOf}
+use Rattle.dual_model.specs.ExactValue.{IsFirstUnscheduled}
 use Rattle.dual_model.specs.Fixings.{IsFirstEmpty}
 use Rattle.dual_model.specs.Opening.{ray_table, zero_table}
 use Rattle.dual_model.specs.Tree.{Ends, root}
@@ -16,20 +17,20 @@ use Rattle.branch_tree.specs.TreeView.{tree_of}
 use Rattle.branch_tree.specs.TrueFound.{IsTrueFound}
 use Rattle.branch_tree.specs.declared.found.Entry.{Entry}
 use Rattle.branch_tree.specs.declared.found.Found.{Found}
-use Rattle.branch_tree.specs.declared.tree.Leaf.TheVariants as leaf
-use Rattle.search_core.specs.Moves.{bound_of}
+use Rattle.search_core.specs.Moves.{bound_of, empty_leaf, ray_leaf}
 use Rattle.search_core.specs.OwnTables.{Owns, HasFewEntries}
 use Rattle.decommitment.specs.DropCommitment.{Ending, Dispatched, StuckIn, IsDropCommitment}
 use Rattle.dual_model.specs.Tree.{HasEachPattern}
 use Rattle.decommitment.specs.MostOnStuck.{TellsMostOn}
+use Rattle.opening.specs.Blocked.{HasNoBlockedUnit}
 use Rattle.opening.specs.Rays.{HasNoRay, IsFirstRay}
 use Rattle.workers.specs.Opening.{Table, IsRootTable}
 
 -- ---- no schedule by the opening
 -- the root is excluded by ray n of the opening, before any claim
-pub record IsExcludedByFirst (instance : Instance) (n : ℕ) (found : Found) : Type 0 where
+pub record IsExcludedByFirst (exact : Bool) (instance : Instance) (n : ℕ) (found : Found) : Type 0 where
   pub number : ℕ
-  pub tree : tree_of found.tree ≡ Ends (leaf.Ray number)
+  pub tree : tree_of found.tree ≡ Ends (ray_leaf exact number)
   pub table : slice_get found.tables number ≡ Some (ray_table instance n)
   pub log : found.log ≡ []
 
@@ -74,34 +75,40 @@ pub record IsBoundOpened (instance : Instance) (ending : Ending) (bound : ℤ) :
 
 -- the drop commitment, where each unit has an allowed pattern, and what it gives; and what nodes store, where no ray of the opening
 -- excludes the root
-pub record FollowsOpening (instance : Instance) (gap : ℕ) (found : Found) : Type 0 where
+pub record FollowsOpening (exact : Bool) (instance : Instance) (gap : ℕ) (found : Found) : Type 0 where
   pub patterns : List Pattern
   pub ending : Ending
   pub drop : IsDropCommitment instance patterns ending
   pub schedule : IsNoDearer found.schedule ending
   pub bound : IfSome (tree_bound found.tree) (IsBoundOpened instance ending)
-  pub own : HasNoRay instance → HoldsOwnTables instance gap ending found
+  pub own : HasNoRay exact instance → HoldsOwnTables instance gap ending found
 
 -- ---- the answer
--- the entry's outcome is by V
-abbrev pub IsByValue : Entry → Type 0
-IsByValue entry = entry.exact ≡ false
+-- the entry's outcome is by VE where that is asked, and else by V
+abbrev pub IsOfKind : Bool → Entry → Type 0
+IsOfKind exact entry = entry.exact ≡ exact
 
--- the answer of a search with this budget of evaluations, and this gap in parts per million of a cost
-pub record IsSearchResult (instance : Instance) (budget gap : ℕ) (found : Found) : Type 0 where
+-- a blocked unit of the kind excludes the root before any evaluation
+abbrev pub IsExcludedByUnit : Bool → ℕ → Found → Type 0
+IsExcludedByUnit exact g found = (tree_of found.tree ≡ Ends (empty_leaf exact g)) × (found.log ≡ [])
+
+-- the answer of a search by VE, where `exact`, or else by V, with this budget of evaluations, and this gap in parts per million of a cost
+pub record IsSearchResult (exact : Bool) (instance : Instance) (budget gap : ℕ) (found : Found) : Type 0 where
   pub truth : IsTrueFound instance found
-  -- each leaf of the tree, and each entry of the log, is by V
-  pub plain : IsPlainTree found.tree
-  pub by_values : All IsByValue found.log
+  -- each entry of the log is of the kind, and without VE so is each leaf of the tree
+  pub plain : exact ≡ false → IsPlainTree found.tree
+  pub of_kind : All (IsOfKind exact) found.log
   -- no more than the budget was spent; and where a leaf isn't excluded, and no schedule is within the gap, the whole
   pub within : length found.log ≤ budget
   pub spent : tree_bound found.tree ≢ None → is_closed found gap ≡ false → length found.log ≡ budget
   -- where there is neither a schedule nor the answer that there is none, the most-on commitment is stuck
   pub most_on : TellsMostOn instance found.schedule (tree_bound found.tree) found.most_on
-  -- a unit without an allowed pattern excludes the root before any evaluation, and else so does a ray
-  pub empty : (g : ℕ) → IsFirstEmpty instance root g → (tree_of found.tree ≡ Ends (leaf.Empty g)) × (found.log ≡ [])
-  pub ray : (n : ℕ) → IsFirstRay instance n → IsExcludedByFirst instance n found
+  -- a unit without an allowed pattern excludes the root before any evaluation; else by VE so does a unit without a schedule of its own; and
+  -- else so does a ray
+  pub empty : (g : ℕ) → IsFirstEmpty instance root g → IsExcludedByUnit false g found
+  pub unscheduled : exact ≡ true → HasEachPattern instance → (g : ℕ) → IsFirstUnscheduled instance root g → IsExcludedByUnit true g found
+  pub ray : (n : ℕ) → IsFirstRay exact instance n → IsExcludedByFirst exact instance n found
   -- else the opening's schedule and bounds are reached
-  pub opened : HasEachPattern instance → FollowsOpening instance gap found
+  pub opened : HasEachPattern instance → HasNoBlockedUnit exact instance → FollowsOpening exact instance gap found
   -- a node at which a cell is undecided has at most a hundred entries of the log
   pub few : HasFewEntries found.tree found.log

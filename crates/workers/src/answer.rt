@@ -1,15 +1,16 @@
 //! What a search answers.
 
-ghost use Rattle.std.specs.Prelude.{◌≡◌, ℕ, ◌<◌, All, IfOk, IfSome, None, length};
+ghost use Rattle.std.specs.Prelude.{◌≡◌, ℕ, ◌<◌, Bool, true, All, IfOk, IfSome, None, length};
 ghost use Rattle.uc_model.specs.Limits.{IsLawfulInstance};
-ghost use Rattle.dual_model.specs.Fixings.{IsFirstEmpty};
-ghost use Rattle.dual_model.specs.Tree.{HasEachPattern};
-ghost use Rattle.dual_model.specs.Tree.{root};
+ghost use Rattle.dual_model.specs.Tree.{HasEachPattern, root};
+ghost use Rattle.dual_model.specs.ValueKind.{IsFirstBlocked};
 ghost use Rattle.branch_tree.specs.StoredTree.{tree_bound};
 ghost use Rattle.branch_tree.specs.TreeView.{IsWhole, tree_of};
 ghost use Rattle.branch_tree.specs.UsedTables.{stored_tables};
 ghost use Rattle.schedule_check.specs.Accepted.{IsAcceptedIfFound};
 ghost use Rattle.decommitment.specs.Standings.{IsDropped, ending_of};
+ghost use Rattle.search_core.specs.Moves.{empty_leaf, ray_leaf};
+ghost use Rattle.opening.specs.Blocked.{HasNoBlockedUnit};
 ghost use Rattle.opening.specs.Rays.{HasNoRay, IsFirstRay};
 ghost use Rattle.opening.specs.RootTables.{IsPricedOf};
 ghost use Rattle.workers.specs.Opening.{IsRootTable};
@@ -36,13 +37,41 @@ fn lone_root(alloc: Global, instance: &Instance, leaf: Leaf) -> Result<Tree, NoM
     Ok(tree)
 }
 
-/// The root is excluded, since this unit has no allowed pattern.
-pub(crate) fn without_pattern(alloc: Global, instance: &Instance, g: u32) -> Result<Found, NoMemory>
-    requires lawful { IsLawfulInstance instance.now }
-    requires empty { IsFirstEmpty instance.now root g }
-    ensures { (budget gap : ℕ) → IfOk result (IsAnswerOf instance.now budget gap) }
+// The leaf for a unit that is blocked.
+fn by_unit(g: u32, exact: bool) -> Leaf
+    ensures { result ≡ empty_leaf exact g }
 {
-    let tree = lone_root(alloc, instance, Leaf::Empty { g })?;
+    if exact {
+        Leaf::ExactEmpty { g }
+    } else {
+        Leaf::Empty { g }
+    }
+}
+
+// The leaf for a ray.
+fn by_ray(table: u32, exact: bool) -> Leaf
+    ensures { result ≡ ray_leaf exact table }
+{
+    if exact {
+        Leaf::ExactRay { table }
+    } else {
+        Leaf::Ray { table }
+    }
+}
+
+/// The root is excluded, since this unit has no allowed pattern, or where `exact` no schedule of its own.
+pub(crate) fn without_unit(
+    alloc: Global,
+    instance: &Instance,
+    g: u32,
+    exact: bool,
+) -> Result<Found, NoMemory>
+    requires lawful { IsLawfulInstance instance.now }
+    requires blocked { IsFirstBlocked exact instance.now root g }
+    requires patterns { exact ≡ true → HasEachPattern instance.now }
+    ensures { (asked : Bool) (budget gap : ℕ) → (exact ≡ true → asked ≡ true) → IfOk result (IsAnswerOf asked instance.now budget gap) }
+{
+    let tree = lone_root(alloc, instance, by_unit(g, exact))?;
     let layout = Layout::of(alloc, &tree, 0)?;
     Ok(Found {
         schedule: None,
@@ -59,32 +88,40 @@ pub(crate) fn excluded(
     alloc: Global,
     worker: &mut Worker,
     best: &Option<(Printed, i64)>,
+    exact: bool,
 ) -> Option<Result<Found, NoMemory>>
     requires patterns { HasEachPattern worker.old }
+    requires unblocked { HasNoBlockedUnit exact worker.old }
     requires accepted { IsAcceptedIfFound worker.old best.now }
     ensures kept { worker.new ≡ worker.old }
-    ensures rays { result ≡ None → HasNoRay worker.old }
+    ensures rays { result ≡ None → HasNoRay exact worker.old }
     ensures answer { (budget gap : ℕ) (stands : Standing) → IsDropped worker.old stands
-        → IfSome result (λ answer. IfOk answer (IsAnswerOf worker.old budget gap)) }
+        → IfSome result (λ answer. IfOk answer (IsAnswerOf exact worker.old budget gap)) }
 {
     let instance = worker.instance();
-    match worker.excluding_ray(alloc, best) {
+    match worker.excluding_ray(alloc, best, exact) {
         Ok(None) => None,
-        Ok(Some(n)) => Some(without_schedule(alloc, instance, n)),
+        Ok(Some(n)) => Some(without_schedule(alloc, instance, n, exact)),
         Err(NoMemory) => Some(Err(NoMemory)),
     }
 }
 
 // The root is excluded by this ray of the opening.
-fn without_schedule(alloc: Global, instance: &Instance, n: u32) -> Result<Found, NoMemory>
+fn without_schedule(
+    alloc: Global,
+    instance: &Instance,
+    n: u32,
+    exact: bool,
+) -> Result<Found, NoMemory>
     requires lawful { IsLawfulInstance instance.now }
     requires patterns { HasEachPattern instance.now }
-    requires ray { IsFirstRay instance.now n }
-    ensures { (budget gap : ℕ) (stands : Standing) → IsDropped instance.now stands → IfOk result (IsAnswerOf instance.now budget gap) }
+    requires unblocked { HasNoBlockedUnit exact instance.now }
+    requires ray { IsFirstRay exact instance.now n }
+    ensures { (budget gap : ℕ) (stands : Standing) → IsDropped instance.now stands → IfOk result (IsAnswerOf exact instance.now budget gap) }
 {
     let mut tables = Vec::new(alloc);
     tables.push(opening_ray(alloc, instance, n)?)?;
-    let tree = lone_root(alloc, instance, Leaf::Ray { table: 0 })?;
+    let tree = lone_root(alloc, instance, by_ray(0, exact))?;
     let layout = Layout::of(alloc, &tree, 1)?;
     Ok(Found {
         schedule: None,
@@ -115,13 +152,13 @@ pub(crate) fn bounded(
 ) -> Result<Found, NoMemory>
     requires lawful { IsLawfulInstance instance.now }
     requires patterns { HasEachPattern instance.now }
-    requires rays { HasNoRay instance.now }
     requires whole { IsWhole grown.tree }
     requires stored { All (λ table. table < length grown.tables) (stored_tables (tree_of grown.tree)) }
-    ensures { (budget gap : ℕ) (stands : Standing) (opening : Priced) → IsDropped instance.now stands → most_on ≡ kept_stuck stands
+    ensures { (exact : Bool) (budget gap : ℕ) (stands : Standing) (opening : Priced) → HasNoRay exact instance.now
+        → HasNoBlockedUnit exact instance.now → IsDropped instance.now stands → most_on ≡ kept_stuck stands
         → IsBest instance.now (ending_of stands) grown.best → IsRootTable instance.now (ending_of stands) opening.table opening.value
-        → IsPricedOf instance.now opening → IsGrown instance.now opening budget gap grown
-        → IsQuiet (ending_of stands) opening gap grown.log → IfOk result (IsAnswerOf instance.now budget gap) }
+        → IsPricedOf instance.now opening → IsGrown exact instance.now opening budget gap grown
+        → IsQuiet (ending_of stands) opening gap grown.log → IfOk result (IsAnswerOf exact instance.now budget gap) }
 {
     let Grown {
         tree,

@@ -1,6 +1,6 @@
 //! The closing pass: once the workers have ended, the caller commits each claim that is still held, and then claims open nodes itself.
 
-ghost use Rattle.std.specs.Prelude.{◌≡◌, ℕ, ◌+◌, ◌*◌, ◌<◌, ◌≤◌, false, IfOk, IfSome, None, OnOk, Option, ℤ, length};
+ghost use Rattle.std.specs.Prelude.{◌≡◌, ℕ, ◌+◌, ◌*◌, ◌<◌, ◌≤◌, Bool, IfOk, IfSome, None, OnOk, Option, ℤ, length};
 ghost use Rattle.uc_model.specs.Limits.{IsLawfulInstance};
 ghost use Rattle.uc_model.specs.declared.tolerance.TheConstants.{WHOLE_GAP};
 ghost use Rattle.branch_tree.specs.NumberedTree.{node_count};
@@ -47,12 +47,21 @@ struct Held {
     had: u32,
 }
 
-/// The best schedule that the workers found, and how the search ends: at a gap in parts per million, or once the budget is spent.
+/// The best schedule that the workers found; how the search ends, at a gap in parts per million, or once the budget is spent; and whether
+/// claims evaluate VE.
 #[derive(Clone, Copy)]
 pub(crate) struct Closing<'a> {
     pub best: &'a Option<(Printed, i64)>,
     pub gap: u32,
     pub budget: u32,
+    pub exact: bool,
+}
+
+/// How a claim that is held is evaluated: at a table of this scale, by VE or else by V.
+#[derive(Clone, Copy)]
+struct Evaluation {
+    scale: u32,
+    exact: bool,
 }
 
 /// Commits each claim that is still held, and claims open nodes until the schedule closes the tree, no node is open or the budget is spent. The
@@ -68,15 +77,20 @@ pub(crate) fn close<C: Run, R: Wait, G: Gate>(
     requires instance { instance.now ≡ C.opening.instance }
     requires gap { closing.gap ≡ C.opening.gap }
     requires budget { closing.budget ≡ C.opening.budget }
-    requires left { IsLeft C.opening book.old (cost_of closing.best.now) C.opening.budget }
-    ensures { OnOk result (IsEnded C.opening book.new closing.entry.best.now) }
+    requires kind { closing.exact ≡ C.exact }
+    requires left { IsLeft C.exact C.opening book.old (cost_of closing.best.now) C.opening.budget }
+    ensures { OnOk result (IsEnded C.exact C.opening book.new closing.entry.best.now) }
 {
     book.keeps_run();
     for step in 0..closing.budget {
         let Some(held) = next(rt, book, closing, gate) else {
             return Ok(());
         };
-        settle(alloc, instance, book, held, closing.budget + step + 1)?;
+        let evaluation = Evaluation {
+            scale: closing.budget + step + 1,
+            exact: closing.exact,
+        };
+        settle(alloc, instance, book, held, evaluation)?;
     }
     book.keeps_run();
     Ok(())
@@ -90,11 +104,11 @@ fn next<C: Run, R: Wait, G: Gate>(
     gate: &G,
 ) -> Option<Held>
     requires gap { closing.gap ≡ C.opening.gap }
-    requires left { (limit : ℕ) × IsLeft C.opening book.old (cost_of closing.best.now) limit }
+    requires left { (limit : ℕ) × IsLeft C.exact C.opening book.old (cost_of closing.best.now) limit }
     ensures held { IfSome result (λ held. IsHeldUnit book.new held.unit held.worker held.node held.had) }
-    ensures ended { result ≡ None → IsEnded C.opening book.new closing.entry.best.now }
-    ensures left { (limit : ℕ) → IsLeft C.opening book.old (cost_of closing.entry.best.now) limit
-        → IsLeft C.opening book.new (cost_of closing.entry.best.now) limit }
+    ensures ended { result ≡ None → IsEnded C.exact C.opening book.new closing.entry.best.now }
+    ensures left { (limit : ℕ) → IsLeft C.exact C.opening book.old (cost_of closing.entry.best.now) limit
+        → IsLeft C.exact C.opening book.new (cost_of closing.entry.best.now) limit }
     ensures log { book.new.log ≡ book.old.log }
 {
     tree_runs_hold();
@@ -143,21 +157,22 @@ fn settle<C: Run>(
     instance: &Instance,
     book: &mut Book<C>,
     held: Held,
-    scale: u32,
+    evaluation: Evaluation,
 ) -> Result<(), NoMemory>
     requires instance { instance.now ≡ C.opening.instance }
     requires held { IsHeldUnit book.old held.unit held.worker held.node held.had }
-    requires scale { scale ≤ 2 * MAX_BUDGET }
-    requires left { (seen : Option ℤ) × (limit : ℕ) × (limit < scale) × IsLeft C.opening book.old seen limit }
-    ensures left { (seen : Option ℤ) (limit : ℕ) → limit < scale → IsLeft C.opening book.old seen limit
-        → OnOk result (IsLeft C.opening book.new seen scale) }
+    requires scale { evaluation.scale ≤ 2 * MAX_BUDGET }
+    requires kind { evaluation.exact ≡ C.exact }
+    requires left { (seen : Option ℤ) × (limit : ℕ) × (limit < evaluation.scale) × IsLeft C.exact C.opening book.old seen limit }
+    ensures left { (seen : Option ℤ) (limit : ℕ) → limit < evaluation.scale → IsLeft C.exact C.opening book.old seen limit
+        → OnOk result (IsLeft C.exact C.opening book.new seen evaluation.scale) }
     ensures log { OnOk result (length book.new.log ≡ length book.old.log + 1) }
 {
     tree_runs_hold();
     book.keeps_run();
     let (path, stored, _) = book.holding(alloc, held.unit)?;
-    let table = table(alloc, instance, &path, stored, held, scale)?;
-    let outcome = outcome(alloc, instance, &path, &table)?;
+    let table = table(alloc, instance, &path, stored, held, evaluation.scale)?;
+    let outcome = outcome(alloc, instance, &path, &table, evaluation.exact)?;
     let action = action(book, held, &outcome);
     enter(
         book,
@@ -165,6 +180,7 @@ fn settle<C: Run>(
         Settled {
             path,
             table,
+            exact: evaluation.exact,
             outcome,
         },
         action,
@@ -172,44 +188,47 @@ fn settle<C: Run>(
     Ok(())
 }
 
-/// A node with its evaluation.
+/// A node with its evaluation, by VE where `exact`.
 #[derive(Drop)]
 struct Settled {
     path: Node,
     table: Table,
+    exact: bool,
     outcome: Outcome,
 }
 
 // Commits the evaluation of a claim that is held.
 fn enter<C: Run>(book: &mut Book<C>, held: Held, settled: Settled, action: Move)
-    requires told { IsTrueOutcome false C.opening.instance settled.path settled.table settled.outcome }
-    requires may { MayCommit book.old held.worker held.unit settled.path settled.table false settled.outcome action }
-    ensures { IsCommitted book.old held.worker held.unit settled.path settled.table false settled.outcome action book.new }
+    requires told { IsTrueOutcome settled.exact C.opening.instance settled.path settled.table settled.outcome }
+    requires may { MayCommit book.old held.worker held.unit settled.path settled.table settled.exact settled.outcome action }
+    ensures { IsCommitted book.old held.worker held.unit settled.path settled.table settled.exact settled.outcome action book.new }
 {
     let Settled {
         path,
         table,
+        exact,
         outcome,
     } = settled;
-    if !book.commit(held.worker, held.unit, &path, table, false, outcome, action) {
+    if !book.commit(held.worker, held.unit, &path, table, exact, outcome, action) {
         unreachable!();
     }
 }
 
-// What an evaluation comes to. The only error is `NoMemory`.
+// What an evaluation comes to, by VE where `exact`. The only error is `NoMemory`.
 fn outcome(
     alloc: Global,
     instance: &Instance,
     path: &Node,
     table: &Table,
+    exact: bool,
 ) -> Result<Outcome, NoMemory>
     requires lawful { IsLawfulInstance instance.now }
     requires path { IsNodeOf instance.now path.now }
     requires table { IsLawfulTable instance.now table.now }
-    ensures { IfOk result (IsOutcomeAt instance.now path.now table.now) }
+    ensures { IfOk result (IsOutcomeAt exact instance.now path.now table.now) }
 {
     let mut evaluator = Evaluator::new(alloc, instance)?;
-    evaluator.outcome(alloc, path, table)
+    evaluator.outcome(alloc, path, table, exact)
 }
 
 // The table that the node stores, where it wasn't evaluated yet, or that of an ascent from it.
@@ -237,7 +256,7 @@ fn table(
 fn action<C: Run>(book: &Book<C>, held: Held, outcome: &Outcome) -> Move
     requires within { held.node < node_count book.now.tree.nodes }
     requires had { held.had ≡ length (entries_of book.now.log held.node) }
-    ensures legal { (table : Table) → IsMoveLegal (λ cost. Unit {0}) (state_of book.now) held.node table false outcome.now result }
+    ensures legal { (table : Table) (exact : Bool) → IsMoveLegal (λ cost. Unit {0}) (state_of book.now) held.node table exact outcome.now result }
     ensures unpruned { (seen : Option ℤ) → IsPrunedBy seen result }
 {
     match outcome {
@@ -250,7 +269,7 @@ fn action<C: Run>(book: &Book<C>, held: Held, outcome: &Outcome) -> Move
 fn open_move<C: Run>(book: &Book<C>, held: Held) -> Move
     requires within { held.node < node_count book.now.tree.nodes }
     requires had { held.had ≡ length (entries_of book.now.log held.node) }
-    ensures legal { (table : Table) (value : ℤ) → IsMoveLegal (λ cost. Unit {0}) (state_of book.now) held.node table false (Value value) result }
+    ensures legal { (table : Table) (exact : Bool) (value : ℤ) → IsMoveLegal (λ cost. Unit {0}) (state_of book.now) held.node table exact (Value value) result }
     ensures unpruned { (seen : Option ℤ) → IsPrunedBy seen result }
 {
     if (held.had as usize) + 1 < NODE_ENTRIES {

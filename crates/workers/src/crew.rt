@@ -37,6 +37,7 @@ pub(crate) struct Shared<C: Run> {
     pub aim: Aim,
     ghost object: { best.object ≡ C.incumbent },
     ghost whole: { aim.gap ≤ WHOLE_GAP },
+    ghost kind: { aim.exact ≡ C.exact },
 }
 
 impl<C: Run> Shared<C> {
@@ -44,6 +45,7 @@ impl<C: Run> Shared<C> {
     pub(crate) fn new(desk: Desk<C>, best: Best, aim: Aim) -> Shared<C>
         requires object { best.object ≡ C.incumbent }
         requires whole { aim.gap ≤ WHOLE_GAP }
+        requires kind { aim.exact ≡ C.exact }
         ensures { result.best ≡ best }
     {
         Shared {
@@ -372,7 +374,7 @@ fn entered<C: Run, R: Wait>(
     done: Evaluated,
 ) -> Result<Left, NoMemory>
     requires claim { IsClaimOf C.opening claim.now }
-    requires done { IsEvaluatedFor C.opening.instance claim.now done }
+    requires done { IsEvaluatedFor C.exact C.opening.instance claim.now done }
 {
     let mut desk = shared.desk.lock(rt);
     let left = desk.commit(&shared.best, member.me, claim, done);

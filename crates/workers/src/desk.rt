@@ -83,12 +83,13 @@ struct Rota {
     over: bool,
 }
 
-/// The book of the search, a pass by which the workers prune, and how they stand.
+/// The book of the search, a pass by which the workers prune, whether claims evaluate VE, and how the workers stand.
 #[derive(Drop)]
 pub(crate) struct Desk<C: Run> {
     book: Book<C>,
     pass: Pass,
     gap: u32,
+    exact: bool,
     rota: Rota,
     failed: bool,
 }
@@ -106,7 +107,8 @@ impl<C: Run> Model for Desk<C> {
 
     ghost view = { λ desk. record { book = desk.book; seen = desk.pass.seen; failed = desk.failed } };
 
-    ghost invariant = { λ desk. IsDesk C.opening C.incumbent desk.book desk.pass desk.failed × (desk.gap ≡ C.opening.gap) };
+    ghost invariant = { λ desk. IsDesk C.exact C.opening C.incumbent desk.book desk.pass desk.failed × (desk.gap ≡ C.opening.gap)
+        × (desk.exact ≡ C.exact) };
 }
 
 impl<C: Run> Desk<C> {
@@ -118,7 +120,7 @@ impl<C: Run> Desk<C> {
     ghost use Rattle.workers.specs.inside.Desks.{IsKeptBy, IsKeptClaim, IsPrunedBy, IsTakenOf};
 
     /// The desk of a search that begins with this book.
-    pub(crate) fn new(book: Book<C>, pass: Pass, gap: u32) -> Desk<C>
+    pub(crate) fn new(book: Book<C>, pass: Pass, gap: u32, exact: bool) -> Desk<C>
         requires begun { IsTrueOpening C.opening }
         requires scaled { IsScaledWithin C.opening.budget C.opening.table }
         requires book { book ≡ opened C.opening }
@@ -126,12 +128,14 @@ impl<C: Run> Desk<C> {
         requires mine { pass.mine ≡ None }
         requires parts { pass.parts ≡ 1 }
         requires gap { gap ≡ C.opening.gap }
+        requires kind { exact ≡ C.exact }
         ensures { result ≡ record { book = book; seen = pass.seen; failed = false } }
     {
         Desk {
             book,
             pass,
             gap,
+            exact,
             rota: Rota {
                 running: 0,
                 waiting: 0,
@@ -232,7 +236,7 @@ impl<C: Run> Desk<C> {
     /// A claim whose commit is refused stays held.
     pub(crate) fn commit(&mut self, best: &Best, me: u8, claim: &Claim, done: Evaluated) -> Left
         requires object { best.now.object ≡ C.incumbent }
-        requires outcome { IsTrueOutcome false C.opening.instance claim.now.path done.table done.outcome }
+        requires outcome { IsTrueOutcome C.exact C.opening.instance claim.now.path done.table done.outcome }
         requires sized { IsSized done.outcome }
         requires scaled { IsScaledWithin C.opening.budget done.table }
     {
@@ -252,7 +256,7 @@ impl<C: Run> Desk<C> {
 
     // Commits the evaluation by this move, if the book takes it.
     fn enter(&mut self, me: u8, claim: &Claim, done: Evaluated, action: Move) -> bool
-        requires outcome { IsTrueOutcome false C.opening.instance claim.now.path done.table done.outcome }
+        requires outcome { IsTrueOutcome C.exact C.opening.instance claim.now.path done.table done.outcome }
         requires sized { IsSized done.outcome }
         requires scaled { IsScaledWithin C.opening.budget done.table }
         requires pruned { IsPrunedBy self.old.seen action }
@@ -264,7 +268,7 @@ impl<C: Run> Desk<C> {
             claim.unit,
             &claim.path,
             done.table,
-            false,
+            self.exact,
             done.outcome,
             action,
         )
@@ -315,7 +319,7 @@ impl<C: Run> Desk<C> {
         ensures object { IfOk result (λ both. both.1.object ≡ C.incumbent) }
         ensures mine { IfOk result (λ both. both.1.mine ≡ None) }
         ensures parts { IfOk result (λ both. both.1.parts ≡ 1) }
-        ensures kept { IfOk result (λ both. IsKeptBy C.opening both.0 both.1.seen C.opening.budget) }
+        ensures kept { IfOk result (λ both. IsKeptBy C.exact C.opening both.0 both.1.seen C.opening.budget) }
         ensures complete { IfOk result (λ both. All IsKeptClaim both.0.claims) }
     {
         let Desk {

@@ -63,10 +63,11 @@ pub(crate) fn search_tree<R: Threads + Wait + Sync, G: Gate + Sync>(
     gate: &G,
 ) -> Result<Grown, NoMemory>
     requires options { AreOptions options.now }
+    requires lawful { IsLawfulInstance worker }
     requires opening { IsPricedOf worker start.opening }
     requires accepted { IsAcceptedIfFound worker start.best }
     requires next { IsNextAt worker 1 start.next }
-    ensures grown { IfOk result (IsGrown worker.entry start.opening options.now.budget options.now.gap) }
+    ensures grown { IfOk result (IsGrown options.now.exact worker.entry start.opening options.now.budget options.now.gap) }
     ensures no_worse { IfOk result (λ grown. IsNoWorse start.best grown.best) }
     ensures quiet { is_schedule_within start.best (Some (bound_of start.opening.value start.opening.table.k)) options.now.gap ≡ true
         → IfOk result (λ grown. grown.log ≡ []) }
@@ -91,37 +92,32 @@ fn grow<C: Run + Send + Sync, R: Threads + Wait + Sync, G: Gate + Sync>(
     gate: &G,
 ) -> Result<Grown, NoMemory>
     requires options { AreOptions options.now }
+    requires lawful { IsLawfulInstance begun.worker }
     requires opening { C.opening ≡ opening_by begun.worker begun.start.opening options.now.budget options.now.gap }
+    requires kind { C.exact ≡ options.now.exact }
     requires priced { IsPricedOf begun.worker begun.start.opening }
     requires accepted { IsAcceptedIfFound begun.worker begun.start.best }
     requires next { IsNextAt begun.worker 1 begun.start.next }
     requires whole { IsWholeOf C.incumbent (options.now.workers + 2) begun.best begun.pass }
-    ensures grown { IfOk result (IsGrown begun.entry.worker begun.entry.start.opening options.now.budget options.now.gap) }
+    ensures grown { IfOk result (IsGrown options.now.exact begun.entry.worker begun.entry.start.opening options.now.budget options.now.gap) }
     ensures no_worse { IfOk result (λ grown. IsNoWorse begun.entry.start.best grown.best) }
     ensures quiet { is_schedule_within begun.entry.start.best (Some (bound_of begun.entry.start.opening.value begun.entry.start.opening.table.k)) options.now.gap ≡ true
         → IfOk result (λ grown. grown.log ≡ []) }
 {
-    let instance = begun.worker.instance();
     let book = begun.book::<C>(alloc, options);
     let (begun, book) = beside(begun, book)?;
     if begun.is_closed(options.gap) {
         return Ok(left(book, begun.into_schedule()));
     }
-    let (mut book, schedule) = crowded(rt, alloc, options, begun.into_crew::<C>(), book, gate)?;
-    let closing = Closing {
-        best: &schedule,
-        gap: options.gap,
-        budget: options.budget,
-    };
-    close(rt, alloc, instance, &mut book, closing, gate)?;
+    let (book, schedule) = ended(rt, alloc, options, begun.into_crew::<C>(), book, gate)?;
     Ok(left(book, schedule))
 }
 
 // What the book has, and the schedule.
 fn left<C: Run>(book: Book<C>, best: Option<(Printed, i64)>) -> Grown
-    requires { IsEnded C.opening book best }
+    requires { IsEnded C.exact C.opening book best }
     ensures grown { (instance : Instance) (opening : Priced) (budget gap : ℕ) → C.opening ≡ opening_by instance opening budget gap
-        → IsAcceptedIfFound instance best → IsGrown instance opening budget gap result }
+        → IsAcceptedIfFound instance best → IsGrown C.exact instance opening budget gap result }
     ensures best { result.best ≡ best }
     ensures log { result.log ≡ book.log }
 {
@@ -136,6 +132,43 @@ fn left<C: Run>(book: Book<C>, best: Option<(Printed, i64)>) -> Grown
     }
 }
 
+// The book and the best schedule after the workers and the closing pass. The only error is `NoMemory`.
+fn ended<C: Run + Send + Sync, R: Threads + Wait + Sync, G: Gate + Sync>(
+    rt: &R,
+    alloc: Global,
+    options: &Options,
+    crew: Crew<C>,
+    book: Book<C>,
+    gate: &G,
+) -> Result<(Book<C>, Option<(Printed, i64)>), NoMemory>
+    requires options { AreOptions options.now }
+    requires gap { options.now.gap ≡ C.opening.gap }
+    requires budget { options.now.budget ≡ C.opening.budget }
+    requires kind { options.now.exact ≡ C.exact }
+    requires begun { IsTrueOpening C.opening }
+    requires scaled { IsScaledWithin C.opening.budget C.opening.table }
+    requires book { book ≡ opened C.opening }
+    requires of { crew.worker ≡ C.opening.instance }
+    requires object { crew.best.object ≡ C.incumbent }
+    requires whole { crew.best.parts ≡ options.now.workers + 2 }
+    requires parts { crew.own.parts ≡ options.now.workers + 2 }
+    requires next { IsNextAt C.opening.instance 1 crew.next }
+    ensures ended { IfOk result (λ both. IsEnded C.exact C.opening both.0 both.1) }
+    ensures accepted { IfOk result (λ both. IsAcceptedIfFound C.opening.instance both.1) }
+    ensures no_worse { IfOk result (λ both. IsNoWorse crew.entry.own.schedule both.1) }
+{
+    let instance = crew.worker.instance();
+    let (mut book, schedule) = crowded(rt, alloc, options, crew, book, gate)?;
+    let closing = Closing {
+        best: &schedule,
+        gap: options.gap,
+        budget: options.budget,
+        exact: options.exact,
+    };
+    close(rt, alloc, instance, &mut book, closing, gate)?;
+    Ok((book, schedule))
+}
+
 // The book and the best schedule after all workers have ended. The only error is `NoMemory`.
 fn crowded<C: Run + Send + Sync, R: Threads + Wait + Sync, G: Gate + Sync>(
     rt: &R,
@@ -148,6 +181,7 @@ fn crowded<C: Run + Send + Sync, R: Threads + Wait + Sync, G: Gate + Sync>(
     requires options { AreOptions options.now }
     requires gap { options.now.gap ≡ C.opening.gap }
     requires budget { options.now.budget ≡ C.opening.budget }
+    requires kind { options.now.exact ≡ C.exact }
     requires begun { IsTrueOpening C.opening }
     requires scaled { IsScaledWithin C.opening.budget C.opening.table }
     requires book { book ≡ opened C.opening }
@@ -156,7 +190,7 @@ fn crowded<C: Run + Send + Sync, R: Threads + Wait + Sync, G: Gate + Sync>(
     requires whole { crew.best.parts ≡ options.now.workers + 2 }
     requires parts { crew.own.parts ≡ options.now.workers + 2 }
     requires next { IsNextAt C.opening.instance 1 crew.next }
-    ensures left { IfOk result (λ both. IsLeft C.opening both.0 (cost_of both.1) C.opening.budget) }
+    ensures left { IfOk result (λ both. IsLeft C.exact C.opening both.0 (cost_of both.1) C.opening.budget) }
     ensures accepted { IfOk result (λ both. IsAcceptedIfFound C.opening.instance both.1) }
     ensures no_worse { IfOk result (λ both. IsNoWorse crew.entry.own.schedule both.1) }
 {
@@ -169,9 +203,10 @@ fn crowded<C: Run + Send + Sync, R: Threads + Wait + Sync, G: Gate + Sync>(
     let aim = Aim {
         gap: options.gap,
         shared: options.workers > 1,
+        exact: options.exact,
     };
     let pass = own.split(&best, 1);
-    let shared = Shared::new(Desk::new(book, pass, options.gap), best, aim);
+    let shared = Shared::new(Desk::new(book, pass, options.gap, options.exact), best, aim);
     let members = members(alloc, &shared.best, &mut own, worker, options);
     let ((shared, own, mut next), mut members) = beside((shared, own, next), members)?;
     let opened = open(rt, alloc, &shared, &mut members, &mut next, gate);
@@ -211,7 +246,7 @@ fn joined<C: Run>(
     members: Vec<Member<C>>,
 ) -> Result<(Book<C>, Option<(Printed, i64)>), NoMemory>
     requires parts { own.parts + vec_len members + 1 ≡ shared.best.parts }
-    ensures left { IfOk result (λ both. IsLeft C.opening both.0 (cost_of both.1) C.opening.budget) }
+    ensures left { IfOk result (λ both. IsLeft C.exact C.opening both.0 (cost_of both.1) C.opening.budget) }
     ensures accepted { IfOk result (λ both. IsAcceptedIfFound C.opening.instance both.1) }
     ensures no_worse { IfOk result (λ both. IsNoWorse own.schedule both.1) }
 {

@@ -58,7 +58,7 @@ pub fn roll<R: Threads + Wait + Sync, G: Gate + Sync>(
     requires options { AreOptions options.now }
     requires window { (1 ≤ window) × (window ≤ MAX_PERIODS) }
     requires step { (1 ≤ step) × (step ≤ MAX_PERIODS) }
-    ensures { IfOk result (IsRolled instance.now options.now.budget options.now.gap window step) }
+    ensures { IfOk result (IsRolled options.now.exact instance.now options.now.budget options.now.gap window step) }
 {
     let plan = Plan {
         instance,
@@ -93,7 +93,7 @@ fn whole(plan: Plan, kept: Kept) -> Rolled
     requires plan { IsPlan plan }
     requires kept { IsKeptSoFar plan kept }
     requires all { plan.instance.now.periods ≤ kept.done }
-    ensures { IsRolled plan.entry.instance.now plan.entry.options.now.budget plan.entry.options.now.gap plan.entry.window plan.entry.step result }
+    ensures { IsRolled plan.entry.options.now.exact plan.entry.instance.now plan.entry.options.now.budget plan.entry.options.now.gap plan.entry.window plan.entry.step result }
 {
     Rolled::Whole {
         cost: whole_cost(plan.instance, &kept.schedule),
@@ -174,7 +174,7 @@ fn stopped(plan: Plan, kept: Kept, place: Place, found: Found) -> Rolled
     requires place { IsNextPlace plan.instance.now.periods plan.window plan.step kept.done place }
     requires found { IsFoundAhead plan kept place found }
     requires none { found.schedule ≡ None }
-    ensures { IsRolled plan.entry.instance.now plan.entry.options.now.budget plan.entry.options.now.gap plan.entry.window plan.entry.step result }
+    ensures { IsRolled plan.entry.options.now.exact plan.entry.instance.now plan.entry.options.now.budget plan.entry.options.now.gap plan.entry.window plan.entry.step result }
 {
     Rolled::Stopped {
         window: kept.windows + 1,

@@ -3,6 +3,7 @@
 ghost use Rattle.std.specs.Prelude.{IfOk};
 ghost use Rattle.uc_model.specs.Limits.{IsLawfulInstance};
 ghost use Rattle.dual_model.specs.Tree.{HasEachPattern};
+ghost use Rattle.opening.specs.Blocked.{HasNoBlockedUnit};
 ghost use Rattle.opening.specs.Rays.{HasNoRay};
 ghost use Rattle.workers.specs.SearchResult.{IsSearchResult};
 ghost use Rattle.workers.specs.Writable.{IsWritable};
@@ -10,7 +11,7 @@ ghost use Rattle.workers.specs.Options.{AreOptions};
 ghost use Rattle.workers.specs.inside.Answers.{IsAnswerOf};
 ghost use Rattle.workers.specs.inside.Starts.{IsOpened};
 
-use crate::answer::{bounded, excluded, without_pattern};
+use crate::answer::{bounded, excluded, without_unit};
 use crate::beside::beside;
 use crate::grow::search_tree;
 use crate::start::{Opened, started};
@@ -26,18 +27,20 @@ use uc_model::{Instance, NoMemory};
 pub const MAX_WORKERS: u8 = 64;
 
 /// How a search goes on: at most `budget` evaluations after the opening, by so many workers, and only while the cost is above the bound by
-/// more than `gap` parts per million of its size.
+/// more than `gap` parts per million of its size. Where `exact`, the rays of the opening and each claim are by exact values VE, which keep
+/// ramps in each unit; else by values V.
 #[derive(Clone, Copy, Debug)]
 pub struct Options {
     pub budget: u32,
     pub workers: u8,
     pub gap: u32,
+    pub exact: bool,
 }
 
-/// What the search finds: a leaf for the first unit without an allowed pattern, or for the first ray of the opening that leaves no
-/// schedule, without any claim; or else a bound, and a schedule where the drop commitment has one or a repair finds one. Each claim
-/// enters the gate as its unit, from 1, of its worker, from 0. Where a thread can't be made its worker runs after another one. The only
-/// error is `NoMemory`.
+/// What the search finds: a leaf for the first unit without an allowed pattern, by exact values else for the first without a schedule of its
+/// own, or for the first ray of the opening that leaves no schedule, without any claim; or else a bound, and a schedule where the drop
+/// commitment has one or a repair finds one. Each claim enters the gate as its unit, from 1, of its worker, from 0. Where a thread can't be
+/// made its worker runs after another one. The only error is `NoMemory`.
 pub fn search<R: Threads + Wait + Sync, G: Gate + Sync>(
     rt: &R,
     alloc: Global,
@@ -47,7 +50,7 @@ pub fn search<R: Threads + Wait + Sync, G: Gate + Sync>(
 ) -> Result<Found, NoMemory>
     requires lawful { IsLawfulInstance instance.now }
     requires options { AreOptions options.now }
-    ensures result { IfOk result (IsSearchResult instance.now options.now.budget options.now.gap) }
+    ensures result { IfOk result (IsSearchResult options.now.exact instance.now options.now.budget options.now.gap) }
     ensures writable { IfOk result (IsWritable instance.now) }
 {
     let worker = Worker::new(alloc, instance)?;
@@ -63,7 +66,7 @@ fn answered<R: Threads + Wait + Sync, G: Gate + Sync>(
     gate: &G,
 ) -> Result<Found, NoMemory>
     requires options { AreOptions options.now }
-    ensures { IfOk result (IsAnswerOf worker.entry options.now.budget options.now.gap) }
+    ensures { IfOk result (IsAnswerOf options.now.exact worker.entry options.now.budget options.now.gap) }
 {
     let mut worker = worker;
     let empty = worker.first_empty(alloc);
@@ -72,14 +75,14 @@ fn answered<R: Threads + Wait + Sync, G: Gate + Sync>(
         Some(g) => {
             let instance = worker.instance();
             drop(worker);
-            without_pattern(alloc, instance, g)
+            without_unit(alloc, instance, g, false)
         }
-        None => searched(rt, alloc, worker, options, gate),
+        None => patterned(rt, alloc, worker, options, gate),
     }
 }
 
 // The answer where each unit has an allowed pattern.
-fn searched<R: Threads + Wait + Sync, G: Gate + Sync>(
+fn patterned<R: Threads + Wait + Sync, G: Gate + Sync>(
     rt: &R,
     alloc: Global,
     worker: Worker,
@@ -88,12 +91,38 @@ fn searched<R: Threads + Wait + Sync, G: Gate + Sync>(
 ) -> Result<Found, NoMemory>
     requires patterns { HasEachPattern worker }
     requires options { AreOptions options.now }
-    ensures { IfOk result (IsAnswerOf worker.entry options.now.budget options.now.gap) }
+    ensures { IfOk result (IsAnswerOf options.now.exact worker.entry options.now.budget options.now.gap) }
+{
+    let mut worker = worker;
+    let unscheduled = worker.first_unscheduled(alloc, options.exact);
+    let (worker, unscheduled) = beside(worker, unscheduled)?;
+    match unscheduled {
+        Some(g) => {
+            let instance = worker.instance();
+            drop(worker);
+            without_unit(alloc, instance, g, options.exact)
+        }
+        None => searched(rt, alloc, worker, options, gate),
+    }
+}
+
+// The answer where each unit has an allowed pattern, and by exact values a schedule of its own.
+fn searched<R: Threads + Wait + Sync, G: Gate + Sync>(
+    rt: &R,
+    alloc: Global,
+    worker: Worker,
+    options: &Options,
+    gate: &G,
+) -> Result<Found, NoMemory>
+    requires patterns { HasEachPattern worker }
+    requires unblocked { HasNoBlockedUnit options.now.exact worker }
+    requires options { AreOptions options.now }
+    ensures { IfOk result (IsAnswerOf options.now.exact worker.entry options.now.budget options.now.gap) }
 {
     let mut worker = worker;
     let opened = started(alloc, &mut worker, options.gap);
     let (mut worker, opened) = beside(worker, opened)?;
-    match excluded(alloc, &mut worker, &opened.start.best) {
+    match excluded(alloc, &mut worker, &opened.start.best, options.exact) {
         Some(answer) => {
             drop((worker, opened));
             answer
@@ -112,10 +141,11 @@ fn claimed<R: Threads + Wait + Sync, G: Gate + Sync>(
     gate: &G,
 ) -> Result<Found, NoMemory>
     requires patterns { HasEachPattern worker }
-    requires rays { HasNoRay worker }
+    requires unblocked { HasNoBlockedUnit options.now.exact worker }
+    requires rays { HasNoRay options.now.exact worker }
     requires options { AreOptions options.now }
     requires opened { IsOpened worker opened }
-    ensures { IfOk result (IsAnswerOf worker.entry options.now.budget options.now.gap) }
+    ensures { IfOk result (IsAnswerOf options.now.exact worker.entry options.now.budget options.now.gap) }
 {
     let instance = worker.instance();
     let Opened { start, most_on } = opened;

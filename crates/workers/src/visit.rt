@@ -40,11 +40,12 @@ pub(crate) struct Trial {
     pub ascent: Option<Ascent>,
 }
 
-/// How a node is searched: the gap that closes the search, in parts per million, and whether several workers do it.
+/// How a node is searched: the gap that closes the search, in parts per million, whether several workers do it, and whether claims evaluate VE.
 #[derive(Clone, Copy)]
 pub(crate) struct Aim {
     pub gap: u32,
     pub shared: bool,
+    pub exact: bool,
 }
 
 impl Trial {
@@ -86,11 +87,13 @@ pub(crate) fn evaluated(
     requires gap { aim.gap ≤ WHOLE_GAP }
     requires next { IsNextAt worker.old 1 next.old }
     ensures kept { worker.new ≡ worker.old }
-    ensures evaluated { IfOk result (λ both. IsEvaluatedFor worker.old claim.now both.0) }
+    ensures evaluated { IfOk result (λ both. IsEvaluatedFor aim.exact worker.old claim.now both.0) }
 {
     let goal = goal(claim.seen, aim.gap);
     let trial = chosen(alloc, worker, claim, Search { aim, goal }, next)?;
-    let outcome = worker.evaluator.outcome(alloc, &claim.path, &trial.table);
+    let outcome = worker
+        .evaluator
+        .outcome(alloc, &claim.path, &trial.table, aim.exact);
     let (trial, outcome) = beside(trial, outcome)?;
     let instance = worker.instance();
     let cell = split_cell(
@@ -142,7 +145,8 @@ fn chosen(
     if claim.node != 0 && claim.had == 0 {
         return Ok(Trial::of(claim.table.copy(alloc)?));
     }
-    match opening_ray(alloc, worker, claim)? {
+    let exact = search.aim.exact;
+    match opening_ray(alloc, worker, claim, exact)? {
         Some(ray) => Ok(Trial::of(ray)),
         None => ascended(alloc, worker, claim, search, next),
     }
@@ -162,7 +166,7 @@ fn ascended(
     ensures trial { IfOk result (IsTrialFor worker.old claim.now) }
 {
     let ascent = ascent(alloc, worker.instance(), claim, search, next)?;
-    let table = ascended_table(alloc, worker, claim, &ascent);
+    let table = ascended_table(alloc, worker, claim, &ascent, search.aim.exact);
     let (ascent, table) = beside(ascent, table)?;
     Ok(Trial {
         table,
@@ -176,20 +180,26 @@ fn ascended_table(
     worker: &mut Worker,
     claim: &Claim,
     ascent: &Ascent,
+    exact: bool,
 ) -> Result<Table, NoMemory>
     requires claim { IsHeldClaim worker.old claim.now }
     requires ascent { IsAscentFor worker.old claim.now.unit ascent.now }
     ensures kept { worker.new ≡ worker.old }
     ensures table { IfOk result (IsTableFor worker.old claim.now) }
 {
-    match own_ray(alloc, worker, claim, ascent)? {
+    match own_ray(alloc, worker, claim, ascent, exact)? {
         Some(ray) => Ok(ray),
         None => ascent.table.copy(alloc),
     }
 }
 
 // A ray of the opening that excludes the node, where no schedule is known; but none for the root, at which the opening has tried them.
-fn opening_ray(alloc: Global, worker: &mut Worker, claim: &Claim) -> Result<Option<Table>, NoMemory>
+fn opening_ray(
+    alloc: Global,
+    worker: &mut Worker,
+    claim: &Claim,
+    exact: bool,
+) -> Result<Option<Table>, NoMemory>
     requires { IsHeldClaim worker.old claim.now }
     ensures kept { worker.new ≡ worker.old }
     ensures ray { IfOk result (λ ray. IfSome ray (IsRay worker.old)) }
@@ -197,7 +207,7 @@ fn opening_ray(alloc: Global, worker: &mut Worker, claim: &Claim) -> Result<Opti
     if claim.seen.is_some() || claim.node == 0 {
         return Ok(None);
     }
-    node_ray(alloc, &mut worker.evaluator, &claim.path)
+    node_ray(alloc, &mut worker.evaluator, &claim.path, exact)
 }
 
 // The ray of an ascent that ran off, where it excludes the node and no schedule is known.
@@ -206,6 +216,7 @@ fn own_ray(
     worker: &mut Worker,
     claim: &Claim,
     ascent: &Ascent,
+    exact: bool,
 ) -> Result<Option<Table>, NoMemory>
     requires claim { IsHeldClaim worker.old claim.now }
     requires ascent { IsAscentFor worker.old claim.now.unit ascent.now }
@@ -215,7 +226,11 @@ fn own_ray(
     let Some(ray) = &ascent.ray else {
         return Ok(None);
     };
-    if claim.seen.is_some() || !is_positive(&worker.evaluator.outcome(alloc, &claim.path, ray)?) {
+    if claim.seen.is_some() {
+        return Ok(None);
+    }
+    let outcome = worker.evaluator.outcome(alloc, &claim.path, ray, exact)?;
+    if !is_positive(&outcome) {
         return Ok(None);
     }
     Ok(Some(ray.copy(alloc)?))

@@ -4,7 +4,9 @@ ghost use Rattle.std.specs.Prelude.{◌≡◌, IfOk, MatchOption};
 ghost use Rattle.uc_model.specs.Limits.{IsLawfulInstance};
 ghost use Rattle.dual_model.specs.Fixings.{IsFirstEmpty};
 ghost use Rattle.dual_model.specs.Tree.{HasEachPattern, root};
+ghost use Rattle.dual_model.specs.ValueKind.{IsFirstBlocked};
 ghost use Rattle.schedule_check.specs.Accepted.{IsAcceptedIfFound};
+ghost use Rattle.opening.specs.Blocked.{HasNoBlockedUnit};
 ghost use Rattle.opening.specs.Rays.{HasNoRay, IsFirstRay};
 
 use opening::{Evaluator, excluding_ray};
@@ -61,22 +63,38 @@ impl<'a> Worker<'a> {
         ensures kept { self.new ≡ self.old }
         ensures empty { IfOk result (λ empty. MatchOption empty (HasEachPattern self.old) (IsFirstEmpty self.old root)) }
     {
-        self.evaluator.first_empty(alloc)
+        self.evaluator.first_blocked(alloc, false)
     }
 
-    /// The first ray of the opening that leaves no schedule. Where there is a schedule, there is none. The only error is `NoMemory`.
+    /// The first thermal unit without a schedule of its own, if that is asked, where each has an allowed pattern. The only error is `NoMemory`.
+    pub(crate) fn first_unscheduled(
+        &mut self,
+        alloc: Global,
+        exact: bool,
+    ) -> Result<Option<u32>, NoMemory>
+        requires { HasEachPattern self.old }
+        ensures kept { self.new ≡ self.old }
+        ensures unscheduled { IfOk result (λ unit. MatchOption unit (HasNoBlockedUnit exact self.old) (IsFirstBlocked exact self.old root)) }
+    {
+        if !exact {
+            return Ok(None);
+        }
+        self.evaluator.first_blocked(alloc, exact)
+    }
+
+    /// The first ray of the opening that leaves no schedule, by values of the kind. Where there is a schedule, there is none. The only error is `NoMemory`.
     pub(crate) fn excluding_ray(
         &mut self,
         alloc: Global,
         best: &Option<(Printed, i64)>,
+        exact: bool,
     ) -> Result<Option<u32>, NoMemory>
         requires lawful { IsLawfulInstance self.old }
-        requires patterns { HasEachPattern self.old }
         requires accepted { IsAcceptedIfFound self.old best.now }
         ensures kept { self.new ≡ self.old }
-        ensures ray { IfOk result (λ ray. MatchOption ray (HasNoRay self.old) (IsFirstRay self.old)) }
+        ensures ray { IfOk result (λ ray. MatchOption ray (HasNoRay exact self.old) (IsFirstRay exact self.old)) }
     {
-        excluding_ray(alloc, &mut self.evaluator, best)
+        excluding_ray(alloc, &mut self.evaluator, best, exact)
     }
 
     /// A schedule that is found near the ascent, with its cost in micro-dollars. The only error is `NoMemory`.

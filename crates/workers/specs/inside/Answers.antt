@@ -1,5 +1,5 @@
 -- What the search makes of what it knows.
-use Rattle.std.specs.Prelude.{◌≡◌, ℕ, true, List, [], ℤ, Option, None, Some}
+use Rattle.std.specs.Prelude.{◌≡◌, Bool, ℕ, true, List, [], ℤ, Option, None, Some}
 use Rattle.uc_model.specs.Schedule.{thermal_count}
 pub use Rattle.uc_model.specs.declared.instance.Instance.{Instance}
 pub use Rattle.uc_model.specs.declared.stuck.Stuck.{Stuck}
@@ -18,8 +18,8 @@ abbrev pub lone_root : Instance → Leaf → TreeView
 lone_root instance leaf = record { units = thermal_count instance; periods = instance.periods; room = 1; nodes = EndAt 0 leaf }
 
 -- a search result that can be written
-pub record IsAnswerOf (instance : Instance) (budget gap : ℕ) (found : Found) : Type 0 where
-  pub result : IsSearchResult instance budget gap found
+pub record IsAnswerOf (exact : Bool) (instance : Instance) (budget gap : ℕ) (found : Found) : Type 0 where
+  pub result : IsSearchResult exact instance budget gap found
   pub writable : IsWritable instance found
 
 -- what is told of the most-on commitment: nothing where there is a schedule, or no bound

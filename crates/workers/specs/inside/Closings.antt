@@ -1,5 +1,5 @@
 -- The closing pass: what the workers leave, and what it makes of that.
-use Rattle.std.specs.Prelude.{◌≡◌, ◌≢◌, ℕ, ◌⊎◌, ◌+◌, All, ℤ, pos, Option}
+use Rattle.std.specs.Prelude.{◌≡◌, ◌≢◌, Bool, ℕ, ◌⊎◌, ◌+◌, All, ℤ, pos, Option}
 use Rattle.uc_model.specs.declared.schedule.Printed.{Printed}
 use Rattle.dual_model.specs.Prices.{IsLawfulTable}
 use Rattle.book.specs.BookView.{BookView}
@@ -8,14 +8,14 @@ use Rattle.workers.specs.inside.Desks.{Instance, Opening, Table, IsKeptBy, IsKep
 use Rattle.workers.specs.inside.Searches.{IsSpentUnlessClosed}
 
 -- a book by what was seen, of which no claim was given back
-pub record IsLeft (opening : Opening) (book : BookView) (seen : Option ℤ) (limit : ℕ) : Type 0 where
-  pub kept : IsKeptBy opening book seen limit
+pub record IsLeft (exact : Bool) (opening : Opening) (book : BookView) (seen : Option ℤ) (limit : ℕ) : Type 0 where
+  pub kept : IsKeptBy exact opening book seen limit
   pub complete : All IsKeptClaim book.claims
 
 -- the book at the end, by the best schedule
-pub record IsEnded (opening : Opening) (book : BookView) (best : Option (Printed × ℤ)) : Type 0 where
+pub record IsEnded (exact : Bool) (opening : Opening) (book : BookView) (best : Option (Printed × ℤ)) : Type 0 where
   pub limit : ℕ
-  pub kept : IsKeptBy opening book (cost_of best) limit
+  pub kept : IsKeptBy exact opening book (cost_of best) limit
   pub spent : IsSpentUnlessClosed book.tree book.log best opening.budget opening.gap
 
 -- the scale is a million and so much more

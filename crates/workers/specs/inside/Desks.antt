@@ -22,7 +22,7 @@ use Rattle.book.specs.declared.claims.Status.{Status}
 use Rattle.book.specs.declared.claims.Status.TheVariants.{Held, Committed, GivenBack}
 pub use Rattle.book.specs.Opening.{Opening, IsTrueOpening}
 use Rattle.opening.specs.Outcomes.{IsSized}
-use Rattle.workers.specs.SearchResult.{IsByValue}
+use Rattle.workers.specs.SearchResult.{IsOfKind}
 use Rattle.workers.specs.declared.desk.Claim.{Claim as Claimed}
 use Rattle.workers.specs.declared.desk.Taken.{Taken}
 use Rattle.workers.specs.declared.desk.Taken.TheVariants as taken
@@ -54,14 +54,14 @@ IsPrunedBy seen (move.Prune cost) = seen ≡ Some cost
 IsPrunedBy seen _ = Unit {0}
 
 -- ---- a book
--- a true run's book, by V alone: its numbers have a size, its scales a limit, each pruned leaf is within the gap of the cost that was seen,
+-- a true run's book, by values of the kind: its numbers have a size, its scales a limit, each pruned leaf is within the gap of the cost that was seen,
 -- and as many claims were committed as the log has entries
-pub record IsKeptBy (opening : Opening) (book : BookView) (seen : Option ℤ) (limit : ℕ) : Type 0 where
+pub record IsKeptBy (exact : Bool) (opening : Opening) (book : BookView) (seen : Option ℤ) (limit : ℕ) : Type 0 where
   pub begun : IsTrueOpening opening
   pub sized : All IsSizedEntry book.log
   pub scaled : All (IsScaledWithin limit) book.tables
-  pub plain : IsPlainTree book.tree
-  pub by_values : All IsByValue book.log
+  pub plain : exact ≡ false → IsPlainTree book.tree
+  pub of_kind : All (IsOfKind exact) book.log
   pub pruned : EachLeaf (λ node leaf. IsPrunedWithin seen opening.gap leaf) root (tree_of book.tree)
   pub counted : sum_by commits_of book.claims ≡ length book.log
 
@@ -73,11 +73,11 @@ pub record DeskView : Type 0 where
 
 -- its pass is of the incumbent and published nothing, its book is kept by what the pass has seen, and no claim was given back but where
 -- memory was refused
-pub record IsDesk (opening : Opening) (incumbent : TableId) (book : BookView) (pass : Known) (failed : Bool) : Type 0 where
+pub record IsDesk (exact : Bool) (opening : Opening) (incumbent : TableId) (book : BookView) (pass : Known) (failed : Bool) : Type 0 where
   pub object : pass.object ≡ incumbent
   pub mine : pass.mine ≡ None
   pub parts : pass.parts ≡ 1
-  pub kept : IsKeptBy opening book pass.seen opening.budget
+  pub kept : IsKeptBy exact opening book pass.seen opening.budget
   pub complete : failed ≡ false → All IsKeptClaim book.claims
 
 -- ---- a claim of it

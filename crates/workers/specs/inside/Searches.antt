@@ -20,7 +20,7 @@ use Rattle.search_core.specs.OwnTables.{Owns, HasFewEntries}
 use Rattle.book.specs.Opening.{Opening}
 pub use Rattle.opening.specs.declared.root_tables.Priced.{Priced}
 use Rattle.schedule_check.specs.Accepted.{IsAcceptedIfFound}
-use Rattle.workers.specs.SearchResult.{IsByValue}
+use Rattle.workers.specs.SearchResult.{IsOfKind}
 use Rattle.workers.specs.declared.grow.Grown.{Grown}
 use Rattle.workers.specs.inside.Desks.{IsSizedEntry}
 
@@ -67,10 +67,10 @@ pub record IsTreeOf (instance : Instance) (opening : Priced) (tree : TreeView) (
   pub few : HasFewEntries tree log
 
 -- what a search leaves
-pub record IsGrown (instance : Instance) (opening : Priced) (budget gap : ℕ) (grown : Grown) : Type 0 where
+pub record IsGrown (exact : Bool) (instance : Instance) (opening : Priced) (budget gap : ℕ) (grown : Grown) : Type 0 where
   pub tree : IsTreeOf instance opening grown.tree grown.tables grown.log
-  pub plain : IsPlainTree grown.tree
-  pub by_values : All IsByValue grown.log
+  pub plain : exact ≡ false → IsPlainTree grown.tree
+  pub of_kind : All (IsOfKind exact) grown.log
   pub sized : All IsSizedEntry grown.log
   pub accepted : IsAcceptedIfFound instance grown.best
   pub spent : IsSpentUnlessClosed grown.tree grown.log grown.best budget gap

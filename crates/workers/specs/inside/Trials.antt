@@ -1,5 +1,5 @@
 -- What a claim is evaluated at.
-use Rattle.std.specs.Prelude.{◌≡◌, ℕ, ◌+◌, ◌≤◌, false, pos, IfSome, Option, None, Some}
+use Rattle.std.specs.Prelude.{◌≡◌, ℕ, ◌+◌, ◌≤◌, Bool, pos, IfSome, Option, None, Some}
 use Rattle.uc_model.specs.declared.instance.Instance.{Instance}
 use Rattle.dual_model.specs.Prices.{IsLawfulTable}
 use Rattle.dual_model.specs.declared.table.Table.{Table}
@@ -36,8 +36,8 @@ pub record IsTableFor (instance : Instance) (claim : Claim) (table : Table) : Ty
 abbrev pub IsTrialFor : Instance → Claim → Trial → Type 0
 IsTrialFor instance claim trial = IsTableFor instance claim trial.table
 
--- an evaluation of the claim's node at such a table
-pub record IsEvaluatedFor (instance : Instance) (claim : Claim) (done : Evaluated) : Type 0 where
+-- an evaluation of the kind of the claim's node at such a table
+pub record IsEvaluatedFor (exact : Bool) (instance : Instance) (claim : Claim) (done : Evaluated) : Type 0 where
   pub table : IsTableFor instance claim done.table
-  pub told : IsTrueOutcome false instance claim.path done.table done.outcome
+  pub told : IsTrueOutcome exact instance claim.path done.table done.outcome
   pub sized : IsSized done.outcome

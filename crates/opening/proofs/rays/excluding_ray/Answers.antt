@@ -8,4 +8,4 @@ pub returns-in-Some-clause-ray : goal.returns-in-Some-clause-ray
 returns-in-Some-clause-ray c =
     let instance = c.args.evaluator.now in
     let accepted = subst (IsAcceptedIfFound instance) c.in-Some.is c.requires.accepted in
-    no_ray instance _ _ c.requires.lawful accepted.obeys
+    no_ray c.args.exact instance _ _ c.requires.lawful accepted.obeys

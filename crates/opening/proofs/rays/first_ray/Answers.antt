@@ -1,41 +1,49 @@
 -- One ray more.
-use Rattle.std.proofs.Common.{◌≡◌, ◌∙◌, ◌<◌, FitsSigned, pos, rules, subst, ◌≤ℤ◌, ◌<ℤ◌}
-use Rattle.std.specs.Int.{w128}
-use Rattle.std.proofs.lemmas.Int.{to_z-of_z}
+use Rattle.std.proofs.Common.{◌≡◌, ◌∙◌, ◌<◌, ℕ, Bool, subst, sym}
+use Rattle.std.proofs.lemmas.Bool.{false≢true}
 use Rattle.uc_model.specs.declared.instance.Instance.{Instance}
-use Rattle.dual_model.specs.NodeValue.{IsNodeValue}
 use Rattle.dual_model.specs.Opening.{ray_count, ray_table}
 use Rattle.dual_model.specs.Tree.{root}
-use Rattle.opening.proofs.OpeningRays.{none_more, not_positive}
+use Rattle.dual_model.specs.declared.node.Node.{Node}
+use Rattle.dual_model.specs.declared.table.Table.{Table}
+use Rattle.branch_tree.specs.TrueFound.{IsOutcome}
+use Rattle.branch_tree.specs.declared.found.Outcome.{Outcome}
+use Rattle.opening.proofs.OpeningRays.{none_more, not_positive, positive}
 use Rattle.opening.proofs.rays.first_ray.Goals as goal
+
+-- the outcome at the ray's table is that of the root
+of_ray : (exact : Bool) (own instance : Instance) (n : ℕ) (node : Node) (table : Table) (outcome : Outcome) → own ≡ instance → node ≡ root
+    → table ≡ ray_table own n → IsOutcome exact instance node table outcome → IsOutcome exact instance root (ray_table instance n) outcome
+of_ray exact own instance n node table outcome same is_root is_ray told =
+    subst (λ (i : Instance). IsOutcome exact instance root (ray_table i n) outcome) same
+    (subst (λ (t : Table). IsOutcome exact instance root t outcome) is_ray
+    (subst (λ (at : Node). IsOutcome exact instance at table outcome) is_root told))
 
 pub loop-n-preserved : goal.loop-n-preserved
 loop-n-preserved c =
+    let exact = c.args.exact in
     let instance = c.args.evaluator.now in
-    let table = c.in_ok-table.table in
     let n = c.loop-n.n in
-    let v = c.in_ok-value.value in
-    let fits : FitsSigned w128 v = search rules in
-    let below : v ≤ℤ pos 0 = simp to_z-of_z at (c.is_above_zero.ensures.at_most c.if-is_above_zero.false) in
-    let is_ray : table ≡ ray_table instance n = subst (λ (own : Instance). table ≡ ray_table own n) c.instance-instance.ensures.is c.in_ok-table.ensures.table in
-    let there : IsNodeValue instance root table v = subst (λ (own : Instance). IsNodeValue own root table v) c.loop-n.invariant.0 c.in_ok-value.ensures.value in
-    let value : IsNodeValue instance root (ray_table instance n) v = subst (λ t. IsNodeValue instance root t v) is_ray there in (
-      c.in_ok-value.ensures.kept ∙ c.loop-n.invariant.0,
-      none_more instance n c.loop-n.invariant.1 (not_positive instance n v value below),
+    let outcome = c.in_ok-outcome.outcome in
+    let own = subst (λ (own : Instance). IsOutcome exact own c.root_node.result c.in_ok-table.table outcome) c.loop-n.invariant.0 c.in_ok-outcome.ensures.outcome.told in
+    let told = of_ray exact c.instance-instance.result.now instance n c.root_node.result c.in_ok-table.table outcome c.instance-instance.ensures.is
+    c.root_node.ensures c.in_ok-table.ensures.table own in (
+      c.in_ok-outcome.ensures.kept ∙ c.loop-n.invariant.0,
+      none_more exact instance n c.loop-n.invariant.1
+          (not_positive exact instance n outcome told (λ above. absurd (false≢true (sym c.if-is_positive.false ∙ c.is_positive.ensures.1 above)))),
     )
 
-pub returns-then-is_above_zero-clause-ray : goal.returns-then-is_above_zero-clause-ray
-returns-then-is_above_zero-clause-ray c =
+pub returns-then-is_positive-clause-ray : goal.returns-then-is_positive-clause-ray
+returns-then-is_positive-clause-ray c =
+    let exact = c.args.exact in
     let instance = c.args.evaluator.now in
-    let table = c.in_ok-table.table in
     let n = c.loop-n.n in
-    let v = c.in_ok-value.value in
-    let fits : FitsSigned w128 v = search rules in
-    let above : pos 0 <ℤ v = simp to_z-of_z at (c.is_above_zero.ensures.above c.if-is_above_zero.true) in
-    let is_ray : table ≡ ray_table instance n = subst (λ (own : Instance). table ≡ ray_table own n) c.instance-instance.ensures.is c.in_ok-table.ensures.table in
-    let there : IsNodeValue instance root table v = subst (λ (own : Instance). IsNodeValue own root table v) c.loop-n.invariant.0 c.in_ok-value.ensures.value in
+    let outcome = c.in_ok-outcome.outcome in
+    let own = subst (λ (own : Instance). IsOutcome exact own c.root_node.result c.in_ok-table.table outcome) c.loop-n.invariant.0 c.in_ok-outcome.ensures.outcome.told in
+    let told = of_ray exact c.instance-instance.result.now instance n c.root_node.result c.in_ok-table.table outcome c.instance-instance.ensures.is
+    c.root_node.ensures c.in_ok-table.ensures.table own in
     record {
       within = subst (λ (own : Instance). n < ray_count own.periods) c.instance-instance.ensures.is c.loop-n-test.true;
-      positive = record { value = v; is_value = subst (λ t. IsNodeValue instance root t v) is_ray there; positive = above };
+      positive = positive exact instance n outcome told (c.is_positive.ensures.0 c.if-is_positive.true);
       first = c.loop-n.invariant.1;
     }

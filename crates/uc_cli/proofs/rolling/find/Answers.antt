@@ -1,4 +1,5 @@
 -- What comes of the windows of the instance that was read.
+use Rattle.std.proofs.Common.{false}
 use Rattle.report.specs.declared.fault.Fault.TheVariants.{Memory}
 use Rattle.command_line.specs.Asked.{roll_asked}
 use Rattle.uc_check.proofs.Verdicts.{handed_up}
@@ -23,6 +24,6 @@ returns-clause-answer g c =
     record {
       read = c.in_ok-instance.ensures.read;
       is_rolled = c.in_ok-rolled.ensures;
-      truth = rolled_true c.in_ok-instance.instance asked.units asked.gap asked.window asked.step c.in_ok-rolled.rolled
+      truth = rolled_true false c.in_ok-instance.instance asked.units asked.gap asked.window asked.step c.in_ok-rolled.rolled
           c.in_ok-instance.ensures.read.lawful c.in_ok-rolled.ensures;
     }

@@ -7,5 +7,5 @@ use Rattle.workers.proofs.answer.excluded.Goals as goal
 pub returns-in-Ok-Some-clause-answer : goal.returns-in-Ok-Some-clause-answer
 returns-in-Ok-Some-clause-answer c = λ budget gap stands dropped.
     let own = c.instance-instance.ensures.is in
-    subst (λ (instance : Instance). IfOk c.without_schedule.result (IsAnswerOf instance budget gap)) own
+    subst (λ (instance : Instance). IfOk c.without_schedule.result (IsAnswerOf c.args.exact instance budget gap)) own
     (c.without_schedule.ensures budget gap stands (subst (λ (instance : Instance). IsDropped instance stands) (sym own) dropped))

@@ -5,4 +5,4 @@ use Rattle.workers.proofs.closing.close.Given as goal
 
 -- each step committed one claim
 abbrev pub invariant-loop-step : goal.invariant-loop-step
-invariant-loop-step g l = (l.step ≤ length l.book.log) × IsLeft g.C.Case.opening l.book (cost_of l.closing.best.now) (l.closing.budget + l.step)
+invariant-loop-step g l = (l.step ≤ length l.book.log) × IsLeft g.C.Run.exact g.C.Case.opening l.book (cost_of l.closing.best.now) (l.closing.budget + l.step)

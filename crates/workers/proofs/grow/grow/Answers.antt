@@ -7,7 +7,7 @@ use Rattle.book.specs.BookView.{opened}
 use Rattle.book.specs.Opening.{Opening}
 use Rattle.workers.specs.SearchResult.{IsNoDearer}
 use Rattle.workers.specs.declared.begun.Begun.{Begun}
-use Rattle.workers.specs.inside.Searches.{Instance}
+use Rattle.workers.specs.inside.Searches.{Instance, IsGrown}
 use Rattle.workers.proofs.Beginning.{closed_ended}
 use Rattle.workers.proofs.grow.grow.Goals as goal
 
@@ -21,21 +21,25 @@ left-requires g c =
     let begun = c.in_ok-begun.begun in
     let closed = ap (λ it. is_schedule_within it (Some (bound_of begun.start.opening.value begun.start.opening.table.k)) gap) c.into_schedule.ensures
     ∙ sym c.is_closed.ensures ∙ c.if-is_closed.true in
-    closed_ended g.C.Case.opening c.in_ok-begun.book c.args.begun.worker opening c.args.options.now.budget gap best
-    c.requires.opening c.instance-instance.ensures.lawful c.requires.options.budget c.requires.options.gap c.requires.priced book
+    closed_ended g.C.Run.exact g.C.Case.opening c.in_ok-begun.book c.args.begun.worker opening c.args.options.now.budget gap best
+    c.requires.opening c.requires.lawful c.requires.options.budget c.requires.options.gap c.requires.priced book
     (subst (λ (it : Begun). is_schedule_within best (Some (bound_of it.start.opening.value it.start.opening.table.k)) gap ≡ true) same closed)
 
 pub returns-then-is_closed-clause-grown : goal.returns-then-is_closed-clause-grown
 returns-then-is_closed-clause-grown g c =
     let same = c.into_schedule.ensures ∙ ap (λ (it : Begun). it.start.best) c.in_ok-begun.ensures.value in
-    c.left.ensures.grown c.args.begun.worker c.args.begun.start.opening c.args.options.now.budget c.args.options.now.gap c.requires.opening
-    (subst (IsAcceptedIfFound c.args.begun.worker) (sym same) c.requires.accepted)
+    subst (λ exact. IsGrown exact c.args.begun.worker c.args.begun.start.opening c.args.options.now.budget c.args.options.now.gap c.left.result)
+    c.requires.kind
+    (c.left.ensures.grown c.args.begun.worker c.args.begun.start.opening c.args.options.now.budget c.args.options.now.gap c.requires.opening
+    (subst (IsAcceptedIfFound c.args.begun.worker) (sym same) c.requires.accepted))
 
 pub returns-clause-grown : goal.returns-clause-grown
 returns-clause-grown g c =
-    c.left-2.ensures.grown c.args.begun.worker c.args.begun.start.opening c.args.options.now.budget c.args.options.now.gap c.requires.opening
+    subst (λ exact. IsGrown exact c.args.begun.worker c.args.begun.start.opening c.args.options.now.budget c.args.options.now.gap c.left-2.result)
+    c.requires.kind
+    (c.left-2.ensures.grown c.args.begun.worker c.args.begun.start.opening c.args.options.now.budget c.args.options.now.gap c.requires.opening
     (subst (λ (i : Instance). IsAcceptedIfFound i c.in_ok-book.schedule) (ap (λ (o : Opening). o.instance) c.requires.opening)
-    c.in_ok-book.ensures.accepted)
+    c.in_ok-book.ensures.accepted))
 
 pub returns-clause-no_worse : goal.returns-clause-no_worse
 returns-clause-no_worse g c = λ ending h.

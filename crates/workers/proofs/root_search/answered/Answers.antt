@@ -4,8 +4,8 @@ use Rattle.dual_model.specs.Fixings.{IsFirstEmpty}
 use Rattle.dual_model.specs.Tree.{HasEachPattern, root}
 use Rattle.workers.proofs.root_search.answered.Goals as goal
 
-pub searched-requires-clause-patterns : goal.searched-requires-clause-patterns
-searched-requires-clause-patterns g c = λ lifetimes within.
+pub patterned-requires-clause-patterns : goal.patterned-requires-clause-patterns
+patterned-requires-clause-patterns g c = λ lifetimes within.
     let instance = c.args.worker in
     let told = subst (λ made. IfOk made (λ empty. MatchOption empty (HasEachPattern instance) (IsFirstEmpty instance root))) c.in_ok-worker.ensures.made
     c.first_empty-empty.ensures.empty in

@@ -3,6 +3,8 @@ use Rattle.std.proofs.Common.{subst, sym, IfOk}
 use Rattle.dual_model.specs.Tree.{HasEachPattern, root}
 use Rattle.branch_tree.specs.TreeView.{tree_of}
 use Rattle.decommitment.specs.Standings.{IsDropped, ending_of}
+use Rattle.opening.specs.Blocked.{HasNoBlockedUnit}
+use Rattle.opening.specs.Rays.{HasNoRay}
 use Rattle.opening.specs.RootTables.{IsPricedOf}
 use Rattle.workers.specs.Opening.{Instance, IsRootTable}
 use Rattle.workers.specs.inside.Answers.{IsAnswerOf}
@@ -14,9 +16,6 @@ use Rattle.workers.proofs.root_search.claimed.Goals as goal
 
 pub bounded-requires-clause-patterns : goal.bounded-requires-clause-patterns
 bounded-requires-clause-patterns g c = subst HasEachPattern (sym c.instance-instance.ensures.is) c.requires.patterns
-
-pub bounded-requires-clause-rays : goal.bounded-requires-clause-rays
-bounded-requires-clause-rays g c = rw c.instance-instance.ensures.is c.requires.rays
 
 pub bounded-requires-clause-whole : goal.bounded-requires-clause-whole
 bounded-requires-clause-whole g c = c.in_ok-grown.ensures.grown.tree.whole
@@ -33,6 +32,7 @@ returns g c =
     let opening = c.args.opened.start.opening in
     let budget = c.args.options.now.budget in
     let gap = c.args.options.now.gap in
+    let exact = c.args.options.now.exact in
     let opened = c.requires.opened in
     let stands = opened.standing in
     let left = c.in_ok-grown.grown in
@@ -41,10 +41,11 @@ returns g c =
       accepted = grown.accepted;
       no_dearer = c.in_ok-grown.ensures.no_worse (ending_of stands) opened.is_best.no_dearer;
     } in
-    subst (λ (i : Instance). IfOk c.bounded.result (IsAnswerOf i budget gap)) own
-    (c.bounded.ensures budget gap stands opening (subst (λ (i : Instance). IsDropped i stands) (sym own) opened.dropped) opened.stuck
+    subst (λ (i : Instance). IfOk c.bounded.result (IsAnswerOf exact i budget gap)) own
+    (c.bounded.ensures exact budget gap stands opening (subst (HasNoRay exact) (sym own) c.requires.rays)
+    (subst (HasNoBlockedUnit exact) (sym own) c.requires.unblocked) (subst (λ (i : Instance). IsDropped i stands) (sym own) opened.dropped) opened.stuck
     (subst (λ (i : Instance). IsBest i (ending_of stands) left.best) (sym own) best)
     (subst (λ (i : Instance). IsRootTable i (ending_of stands) opening.table opening.value) (sym own) opened.table)
     (subst (λ (i : Instance). IsPricedOf i opening) (sym own) opened.priced)
-    (subst (λ (i : Instance). IsGrown i opening budget gap left) (sym own) grown)
+    (subst (λ (i : Instance). IsGrown exact i opening budget gap left) (sym own) grown)
     (opening_quiet stands c.args.opened.start.best opening gap left.log opened.is_first c.in_ok-grown.ensures.quiet))

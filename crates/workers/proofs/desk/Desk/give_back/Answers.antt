@@ -9,9 +9,10 @@ invariant_of-self g c =
         object = desk.object;
         mine = desk.mine;
         parts = desk.parts;
-        kept = safe_abandon g.C.Case.opening c.self.inside.book c.abandon.new.self c.self.inside.pass.seen g.C.Case.opening.budget c.args.me c.args.unit
+        kept = safe_abandon g.C.Run.exact g.C.Case.opening c.self.inside.book c.abandon.new.self c.self.inside.pass.seen g.C.Case.opening.budget c.args.me c.args.unit
             c.abandon.result desk.kept c.abandon.ensures;
         complete = λ whole. absurd (cc);
       },
       c.self.invariant.1,
+      c.self.invariant.2,
     )

@@ -18,6 +18,6 @@ returns-in-Ok g c =
         table = stored_lawful opening book unit c.in-Ok.path c.in-Ok.table c.in-Ok.bound c.keeps_run.ensures is;
         unit = omega (arith, within, kept.begun.budget);
       };
-      scaled = stored_scaled opening book c.self.inside.pass.seen opening.budget unit c.in-Ok.path c.in-Ok.table c.in-Ok.bound kept is;
+      scaled = stored_scaled g.C.Run.exact opening book c.self.inside.pass.seen opening.budget unit c.in-Ok.path c.in-Ok.table c.in-Ok.bound kept is;
       unit = within;
     }

@@ -1,0 +1,22 @@
+-- The worker stays the instance's.
+use Rattle.std.proofs.Common.{◌∙◌, subst, sym, IfOk}
+use Rattle.dual_model.specs.Tree.{HasEachPattern}
+use Rattle.workers.specs.inside.Answers.{Instance, IsAnswerOf}
+use Rattle.workers.proofs.root_search.patterned.Goals as goal
+
+pub without_unit-requires-clause-patterns : goal.without_unit-requires-clause-patterns
+without_unit-requires-clause-patterns g c = λ exact.
+    subst HasEachPattern (sym (c.instance-instance.ensures.is ∙ c.in_ok-worker.ensures.value ∙ c.first_unscheduled-unscheduled.ensures.kept)) c.requires.patterns
+
+pub searched-requires-clause-patterns : goal.searched-requires-clause-patterns
+searched-requires-clause-patterns g c = λ lifetimes within.
+    subst HasEachPattern (sym (c.in_ok-worker.ensures.value ∙ c.first_unscheduled-unscheduled.ensures.kept)) c.requires.patterns
+
+pub returns-in-Some : goal.returns-in-Some
+returns-in-Some g c =
+    let exact = c.args.options.now.exact in
+    let budget = c.args.options.now.budget in
+    let gap = c.args.options.now.gap in
+    let own = c.instance-instance.ensures.is ∙ c.in_ok-worker.ensures.value ∙ c.first_unscheduled-unscheduled.ensures.kept in
+    subst (λ (instance : Instance). IfOk c.without_unit.result (IsAnswerOf exact instance budget gap)) own
+    (c.without_unit.ensures exact budget gap (λ is. is))
