@@ -6,7 +6,9 @@
 COUNT small random instances are solved, of up to five units and six hours, with what is easily read otherwise: points that begin elsewhere
 than at the minimum or aren't convex, lags that fall, hours off of units that are on; half of them with prices of unserved demand and of
 missing reserve. Both check each certificate, it by other prices, ten changes of it, and it beside ten changes of the instance; a change is
-to a word, a line, a byte or a number, by chance. Told are how often each kind of answer came, and the answers that differ.
+to a word, a line, a byte or a number, by chance. Of each there is one in version 3 too, most of whose leaves are by exact values, and whose
+powers are told over a denominator: with its changes, with the greatest bound that `check.py` takes, and with one more micro-dollar. Told are
+how often each kind of answer came, and the answers that differ.
 """
 import collections
 import contextlib
@@ -75,7 +77,7 @@ def changed_word(chance, word):
         return str(chance.choice([int(word) + 1, int(word) - 1, -int(word), 2 * int(word), 0, 10**9 + 1, 10**14 + 1]))
     parts = list(re.finditer(r"[0-9]+", word))
     if not parts or chance.random() < 0.05:
-        return chance.choice(["-", "0:0:0", "none", "infeasible", "bound", "ray", "empty", "split", "", "01", "x"])
+        return chance.choice(["-", "0:0:0", "none", "infeasible", "bound", "ray", "empty", "split", "exact", "exact-ray", "over", "", "01", "x"])
     part = chance.choice(parts)
     return word[:part.start()] + changed_word(chance, part.group()) + word[part.end():]
 
@@ -98,12 +100,47 @@ def changed_certificate(chance, text):
     elif kind < 0.85:
         return text[:chance.randrange(len(text))]
     elif kind < 0.9:
-        leaf = chance.choice(["empty 1", "bound 1", "ray 1", "split 1 1\nbound 1"])
+        leaf = chance.choice(["empty 1", "bound 1", "ray 1", "split 1 1\nbound 1", "exact 1", "exact-ray 1", "exact-empty 1"])
         lines[-3] = f"split {chance.randint(1, 2)} {chance.randint(1, 3)}\n{lines[-3]}\n{leaf}"
     else:
         at = chance.randrange(len(text))
         return text[:at] + chance.choice(["", " ", "\n", "0", "-", "é", ":"]) + text[at + chance.randint(0, 1):]
     return "\n".join(lines)
+
+
+def exact_certificate(chance, text):
+    """The certificate in version 3: leaves by exact values, by chance, and a schedule over a denominator."""
+    leaves, over, rows = {"bound": "exact", "ray": "exact-ray", "empty": "exact-empty"}, chance.choice([1, 2, 7, 99]), []
+    for row in text.split("\n"):
+        word, _, rest = row.partition(" ")
+        if word in leaves and chance.random() < 0.8:
+            row = f"{leaves[word]} {rest}"
+        elif over > 1 and word in ("t", "w", "d", "e"):
+            cells = (":".join(str(over * int(it)) if n < 2 else it for n, it in enumerate(cell.split(":"))) if cell != "-" else cell
+                     for cell in rest.split(" "))
+            row = f"{word} {' '.join(cells)}"
+        elif over > 1 and word == "schedule" and rest != "none":
+            row += f" over {over}"
+        rows.append("uc-certificate 3" if word == "uc-certificate" else row)
+    return "\n".join(rows)
+
+
+def with_bound(text, bound):
+    return re.sub(r"(?m)^claim bound .*", f"claim bound {check.money(bound)}", text)
+
+
+def greatest_bound(options, instance, certificate, text):
+    """The greatest bound that `check.py` takes in the certificate, up to some limit."""
+    low = check.micro_dollars(re.search(r"(?m)^claim bound (.*)", text).group(1))
+    high = low + 2**40
+    while high - low > 1:
+        middle = (low + high) // 2
+        certificate.write_text(with_bound(text, middle))
+        if answer_of_checker(options, str(instance), str(certificate))[0] == 0:
+            low = middle
+        else:
+            high = middle
+    return low
 
 
 def changed_instance(chance, text):
@@ -166,6 +203,11 @@ def main(program, count, seed):
             texts = [(prices, made, found), (random_prices(chance), made, found)]
             texts += [(prices, made, changed_certificate(chance, found)) for _ in range(CHANGES)]
             texts += [(prices, changed_instance(chance, made), found) for _ in range(CHANGES)]
+            exact = exact_certificate(chance, found)
+            texts += [(prices, made, exact), *((prices, made, changed_certificate(chance, exact)) for _ in range(CHANGES))]
+            if "claim bound" in exact:
+                greatest = greatest_bound(prices, instance, certificate, exact)
+                texts += [(prices, made, with_bound(exact, greatest + more)) for more in (0, 1)]
             for options, changed, written in texts:
                 instance.write_text(changed)
                 certificate.write_text(written)

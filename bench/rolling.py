@@ -76,7 +76,7 @@ def schedule_of(instance, report):
     cells = [[cell(text, unit.pmin) for text in row[1:]] for unit, row in zip(instance.thermal, rows["thermal"])]
     outputs = [list(map(watts, row[1:])) for row in rows["renewable"]]
     short = [[watts(it) for it in rows[word][0]] if rows[word] else [0] * instance.periods for word in ("shed", "reserve-short")]
-    return Record(cost=watts(rows["cost"][0][0]), cells=cells, outputs=outputs, shortages=short)
+    return Record(cost=watts(rows["cost"][0][0]), denominator=1, cells=cells, outputs=outputs, shortages=short)
 
 
 def fault_of(instance, places, status, report):

@@ -9,6 +9,7 @@ place. It needs Python 3.8 or later and nothing else. Numbers are whole: watts, 
 count from 1.
 """
 import argparse
+import bisect
 import json
 import re
 import sys
@@ -273,14 +274,14 @@ def watts_of(lines, word, periods):
     return lines.take(f"{word}(?: {WATT}){{{periods}}}")[1:]
 
 
-def prices_of(lines):
+def prices_of(lines, version):
     """The prices, 0 where there is no such line, and the words of the line behind."""
-    def are_prices(word, *rest):
-        return word != "penalty" or max(rest) <= MILLION and any(rest)
+    def may_stand(word, *rest):
+        return max(rest) <= MILLION and any(rest) if word == "penalty" else len(rest) == 1 or 2 <= rest[2] <= 99
 
-    schedule = f"schedule (?:none|{MONEY})"
-    words = lines.take(f"penalty {WHOLE} {WHOLE}|{schedule}", are_prices)
-    return ((0, 0), words) if words[0] == "schedule" else (tuple(words[1:]), lines.take(schedule))
+    schedule = f"schedule (?:none|{MONEY}{f'(?: over {WHOLE})?' if version == 3 else ''})"
+    words = lines.take(f"penalty {WHOLE} {WHOLE}|{schedule}", may_stand)
+    return ((0, 0), words) if words[0] == "schedule" else (tuple(words[1:]), lines.take(schedule, may_stand))
 
 
 def table_of(lines, units, periods):
@@ -326,7 +327,7 @@ def next_table_of(lines, units, periods, before):
 
 
 def tables_of(lines, version, units, periods, count):
-    """The tables: in version 2 each but the first by its difference to the one before it."""
+    """The tables: in versions 2 and 3 each but the first by its difference to the one before it."""
     tables = []
     for _ in range(count):
         is_whole = version == 1 or not tables
@@ -334,34 +335,45 @@ def tables_of(lines, version, units, periods, count):
     return tables
 
 
-def nodes_of(lines, units, periods, tables):
+# What each leaf says, and whether by the exact value VE.
+LEAVES = {
+    "bound": ("bound", False), "ray": ("ray", False), "empty": ("empty", False),
+    "exact": ("bound", True), "exact-ray": ("ray", True), "exact-empty": ("empty", True),
+}
+
+
+def nodes_of(lines, version, units, periods, tables):
     """The tree's nodes in the order of their lines, each as its words."""
+    leaves = "|".join(word for word, (_, is_exact) in LEAVES.items() if version == 3 or not is_exact)
+
     def may_stand(word, number, period=1):
-        return 1 <= number <= (units if word in ("empty", "split") else tables) and 1 <= period <= periods
+        is_of_unit = word in ("split", "empty", "exact-empty")
+        return 1 <= number <= (units if is_of_unit else tables) and 1 <= period <= periods
 
     nodes, owed = [], 1
     while owed:
-        nodes.append(lines.take(f"(?:bound|ray|empty) {WHOLE}|split {WHOLE} {WHOLE}", may_stand))
+        nodes.append(lines.take(f"(?:{leaves}) {WHOLE}|split {WHOLE} {WHOLE}", may_stand))
         owed += 1 if nodes[-1][0] == "split" else -1
     return nodes
 
 
 def certificate_of(data):
     lines = Lines(data)
-    _, version = lines.take("uc-certificate [12]")
+    _, version = lines.take("uc-certificate [123]")
     _, periods, units, renewables, tables = lines.take(
         f"size(?: {WHOLE}){{4}}", lambda _, t, g, w, n: 1 <= t <= 168 and g <= 4096 and w <= 4096 and n < 2**32)
     read = Record(size=(periods, units, renewables), cost=None)
     claim = lines.take(f"claim bound {MONEY}|claim infeasible")
     read.bound = micro_dollars(claim[2]) if claim[1] == "bound" else None
-    read.prices, (_, written) = prices_of(lines)
+    read.prices, (_, written, *over) = prices_of(lines, version)
+    read.denominator = over[1] if over else 1
     if written != "none":
         read.cost = micro_dollars(written)
         read.cells = [cells_of(lines, periods) for _ in range(units)]
         read.outputs = [watts_of(lines, "w", periods) for _ in range(renewables)]
         read.shortages = [watts_of(lines, word, periods) if any(read.prices) else [0] * periods for word in "de"]
     read.tables = tables_of(lines, version, units, periods, tables)
-    read.nodes = nodes_of(lines, units, periods, tables)
+    read.nodes = nodes_of(lines, version, units, periods, tables)
     lines.end()
     return read
 
@@ -394,6 +406,12 @@ def cost_at(hull, p):
         return hull[0][1]
     (p0, c0), (p1, c1) = segment_at(hull, p)
     return -((c0 * (p - p1) + c1 * (p0 - p)) // (p1 - p0))
+
+
+def over(unit, d):
+    """The unit with its powers as numerators over a denominator."""
+    powers = {it: d * getattr(unit, it) for it in ("pmin", "span", "width", "ramp_up", "ramp_down", "start_cap", "stop_cap", "p0")}
+    return Record(**{**vars(unit), **powers, "hull": [(d * p, amount) for p, amount in unit.hull]})
 
 
 def is_barred(unit, later_lag, t):
@@ -455,22 +473,22 @@ THERMAL_RULES = {
 
 def broken_rules(instance, certificate, courses):
     """The rules that the schedule breaks, with their places: by rules, then by units, then by periods."""
-    periods = range(1, instance.periods + 1)
+    periods, d = range(1, instance.periods + 1), certificate.denominator
     for rule, holds in THERMAL_RULES.items():
         for n, course in enumerate(courses, 1):
             yield from (f"{rule} thermal {n} period {t}" for t in periods if not holds(course, course.unit, t))
     for n, (unit, outputs) in enumerate(zip(instance.renewable, certificate.outputs), 1):
         ranges = zip(periods, unit.least, outputs, unit.most)
-        yield from (f"M13 renewable {n} period {t}" for t, least, output, most in ranges if not least <= output <= most)
+        yield from (f"M13 renewable {n} period {t}" for t, least, output, most in ranges if not d * least <= output <= d * most)
     shed, short = certificate.shortages
     for t in periods:
         output = sum(it.p[t] + it.unit.pmin * it.u[t] for it in courses) + sum(it[t - 1] for it in certificate.outputs)
-        if output + shed[t - 1] != instance.demand[t - 1]:
+        if output + shed[t - 1] != d * instance.demand[t - 1]:
             yield f"M14 period {t}"
-    yield from (f"M15 period {t}" for t in periods if sum(it.r[t] for it in courses) + short[t - 1] < instance.reserves[t - 1])
+    yield from (f"M15 period {t}" for t in periods if sum(it.r[t] for it in courses) + short[t - 1] < d * instance.reserves[t - 1])
     for rule, price, shortage, most in zip(("M16", "M17"), instance.prices, certificate.shortages, instance.most_short):
         limits = most if price else [0] * instance.periods
-        yield from (f"{rule} period {t}" for t, amount, limit in zip(periods, shortage, limits) if not 0 <= amount <= limit)
+        yield from (f"{rule} period {t}" for t, amount, limit in zip(periods, shortage, limits) if not 0 <= amount <= d * limit)
 
 
 def printed_cost(course):
@@ -502,6 +520,7 @@ class PricedUnit:
         up, down = zip(*(table.ramps.get((g, t), (0, 0)) for t in range(1, self.periods + 2)))
         self.a = [-pi + up[t] - up[t + 1] - down[t] + down[t + 1] for t, pi in enumerate(table.pi)]
         self.b = [up[t] - mu for t, mu in enumerate(table.mu)]
+        self.floored = floored_hull(unit.hull, table.scale)
         self.constant = -sum(up) * unit.ramp_up - sum(down) * unit.ramp_down + (down[0] - up[0]) * unit.p0
 
     def cell(self, t, starts, stops):
@@ -517,16 +536,20 @@ class PricedUnit:
         """For how many hours the state has lasted before period t."""
         return inf if since is None else t - since if since else (self.unit.up0 if on else self.unit.down0) + t - 1
 
-    def step(self, t, on, since, now):
-        """What it adds that the unit is on or off in period t, with the cell of the period before; None where that is barred."""
+    def may_be(self, t, on, since, now):
+        """Whether the unit may be on or off in period t."""
         unit = self.unit
         if now != on and self.hours(on, since, t) < (unit.up if on else unit.down) or unit.must_run and not now:
-            return None
-        if t == 1 and unit.p0 > (unit.stop_cap if on > now else unit.span * on):
+            return False
+        return t > 1 or unit.p0 <= (unit.stop_cap if on > now else unit.span * on)
+
+    def step(self, t, on, since, now):
+        """What it adds that the unit is on or off in period t, with the cell of the period before; None where that is barred."""
+        if not self.may_be(t, on, since, now):
             return None
         if on:
             return self.cell(t - 1, since == t - 1, not now) if t > 1 else 0
-        return self.table.scale * least_start_cost(unit, since, t) if now else 0
+        return self.table.scale * least_start_cost(self.unit, since, t) if now else 0
 
     def next_since(self, t, on, since, now):
         if now != on:
@@ -535,7 +558,7 @@ class PricedUnit:
         return None if self.hours(on, since, t + 1) >= longest else since
 
     def least(self, decided):
-        """The least value of the patterns that have these bits in these periods; None where there is none."""
+        """The least value of the patterns that have these bits in these periods, with the constant; None where there is none."""
         states = {(self.unit.on0, 0): 0}
         for t in range(1, self.periods + 1):
             after = {}
@@ -548,31 +571,110 @@ class PricedUnit:
             states = after
         t = self.periods
         ends = [(value, self.cell(t, since == t, False) if on else 0) for (on, since), value in states.items()]
-        return min((value + last for value, last in ends if last is not None), default=None)
+        return min((value + last + self.constant for value, last in ends if last is not None), default=None)
+
+
+# The exact value of a node: BOUND.md, "Exact values"
+
+
+def value_at(corners, x):
+    """The value there of a function that is told by its corners; its slopes are whole."""
+    n = bisect.bisect_left(corners, (x,))
+    (x0, v0), (x1, v1) = corners[max(n - 1, 0)], corners[n]
+    return v1 if x == x1 else v1 + (v1 - v0) // (x1 - x0) * (x - x1)
+
+
+def between(corners, low, high):
+    """The function from one place to another, as far as it goes; nothing where that is nowhere."""
+    low, high = max(low, corners[0][0]), min(high, corners[-1][0])
+    places = {low, high, *(x for x, _ in corners if low < x < high)} if low <= high else ()
+    return [(x, value_at(corners, x)) for x in sorted(places)]
+
+
+def floored_hull(hull, scale):
+    """L: the corners of the scale times the hull, each slope being rounded down to a whole number."""
+    corners = [(0, scale * hull[0][1])]
+    for (p0, c0), (p1, c1) in zip(hull, hull[1:]):
+        corners.append((p1, corners[-1][1] + scale * (c1 - c0) // (p1 - p0) * (p1 - p0)))
+    return corners
+
+
+class ExactUnit(PricedUnit):
+    """A unit at a table, with the least value of the schedules of its own in whole watts, which keep the ramps.
+
+    They are walked along as patterns are. Beside a state stands the least value of what was before its last cell, by the output there: the
+    corners of a convex function with whole slopes. It is convex of one run alone, so runs that begin in several periods stay apart.
+    """
+
+    def with_cell(self, t, starts, stops, before):
+        """The values by the output of period t, from those by the output before it; none where no output is possible."""
+        unit, pi, mu = self.unit, self.table.pi[t - 1], self.table.mu[t - 1]
+        cap = min(unit.span, unit.start_cap if starts else unit.span, unit.stop_cap if stops else unit.span)
+        # Behind an output x the best reserve beside p is the lesser of cap and x + ramp_up, less p.
+        bend = cap - unit.ramp_up
+        parts = between(before, -inf, bend), between(before, bend, inf)
+        priced = [(x, value - mu * min(cap, x + unit.ramp_up)) for part in parts for x, value in part]
+        # Of the outputs from p - ramp_up to p + ramp_down the best one counts, so what falls moves left and what rises moves right.
+        least = min(value for _, value in priced)
+        lows = [x for x, value in priced if value == least]
+        moved = [(x - unit.ramp_down, value) for x, value in priced if x <= lows[0]]
+        moved += [(x + unit.ramp_up, value) for x, value in priced if x >= lows[-1]]
+        moved = between(moved, 0, min(cap, unit.width))
+        outputs = {p for p, _ in moved} | {p for p, _ in self.floored if moved and moved[0][0] < p < moved[-1][0]}
+        return [(p, value_at(moved, p) + value_at(self.floored, p) + (mu - pi) * p - pi * unit.pmin) for p in sorted(outputs)]
+
+    def next_values(self, t, on, since, now, before):
+        """The values where the unit is on or off in period t; none where that can't be."""
+        if not self.may_be(t, on, since, now):
+            return []
+        if not on:
+            return [(0, before[0][1] + (self.table.scale * least_start_cost(self.unit, since, t) if now else 0))]
+        values = self.with_cell(t - 1, since == t - 1, not now, before) if t > 1 else before
+        if not now and values:
+            ends = between(values, -self.unit.ramp_up, self.unit.ramp_down)
+            values = [(0, min(value for _, value in ends))] if ends else []
+        return values
+
+    def exact(self, decided):
+        """The least value of the schedules of the unit's own that have these bits in these periods; None where there is none."""
+        states = {(self.unit.on0, 0): [(self.unit.p0, 0)]}
+        for t in range(1, self.periods + 1):
+            after = {}
+            for (on, since), before in states.items():
+                for now in (decided[t],) if t in decided else (0, 1):
+                    values = self.next_values(t, on, since, now, before)
+                    state = now, since if on and now else self.next_since(t, on, since, now)
+                    if values:
+                        after[state] = min(values, after.get(state, values))
+            states = after
+        last = self.periods
+        ends = (self.with_cell(last, since == last, False, values) if on else values for (on, since), values in states.items())
+        return min((value for values in ends for _, value in values), default=None)
 
 
 class PricedInstance:
-    """An instance at a table, with the values of units that were asked for."""
+    """An instance at a table, with the values of units that were asked for, plain or exact."""
 
     def __init__(self, instance, table):
-        self.units, self.kept = [PricedUnit(unit, g, table) for g, unit in enumerate(instance.thermal, 1)], {}
+        self.units, self.kept = [ExactUnit(unit, g, table) for g, unit in enumerate(instance.thermal, 1)], {}
         self.rest = sum(pi * d + mu * r for pi, mu, d, r in zip(table.pi, table.mu, instance.demand, instance.reserves))
-        self.rest += sum(it.constant for it in self.units)
         for price, multipliers, most in zip(instance.prices, (table.pi, table.mu), instance.most_short):
             if price:
                 self.rest += sum(min(0, table.scale * price - it) * limit for it, limit in zip(multipliers, most))
         for it in instance.renewable:
             self.rest -= sum(pi * (most if pi > 0 else least) for pi, least, most in zip(table.pi, it.least, it.most))
 
-    def unit_value(self, g, decided):
-        key = g, tuple(decided.items())
+    def unit_value(self, g, decided, is_exact):
+        """What the unit adds to V, or to VE; None where it has no pattern, or no schedule of its own."""
+        key = g, tuple(decided.items()), is_exact
         if key not in self.kept:
-            self.kept[key] = self.units[g - 1].least(decided)
+            values = [self.units[g - 1].least(decided), *([self.units[g - 1].exact(decided)] if is_exact else [])]
+            self.kept[key] = None if None in values else max(values)
         return self.kept[key]
 
-    def value(self, decided):
-        """V where this is decided of each unit; None where one has no pattern."""
-        values = [self.unit_value(g, decided.get(g, {})) for g in range(1, len(self.units) + 1)]
+    def value(self, decided, is_exact):
+        """V, or VE, where this is decided of each unit; None where one has no pattern, or no schedule of its own."""
+        values = [self.unit_value(g, decided.get(g, {}), is_exact) for g in range(1, len(self.units) + 1)]
         return None if None in values else self.rest + sum(values)
 
 
@@ -595,12 +697,13 @@ def check_tables(tables):
 
 
 def check_schedule(instance, certificate):
-    courses = [Course(unit, cells) for unit, cells in zip(instance.thermal, certificate.cells)]
+    d = certificate.denominator
+    courses = [Course(over(unit, d), cells) for unit, cells in zip(instance.thermal, certificate.cells)]
     broken = next(broken_rules(instance, certificate, courses), None)
     if broken:
         refuse("C2", broken)
     computed = sum(map(printed_cost, courses))
-    computed += sum(price * sum(amounts) for price, amounts in zip(instance.prices, certificate.shortages))
+    computed += sum(-(-price * it // d) for price, amounts in zip(instance.prices, certificate.shortages) for it in amounts)
     if computed != certificate.cost:
         refuse("C3", f"written {money(certificate.cost)} computed {money(computed)}")
 
@@ -613,16 +716,16 @@ class Leaves:
         nothing = [0] * instance.periods
         self.unpriced = PricedInstance(instance, Record(scale=0, pi=nothing, mu=nothing, ramps={}))
 
-    def is_sound(self, word, number, decided):
-        if word == "empty":
-            return self.unpriced.unit_value(number, decided.get(number, {})) is None
+    def is_sound(self, kind, is_exact, number, decided):
+        if kind == "empty":
+            return self.unpriced.unit_value(number, decided.get(number, {}), is_exact) is None
         table = self.certificate.tables[number - 1]
-        if (table.scale == 0) != (word == "ray"):
+        if (table.scale == 0) != (kind == "ray"):
             return False
         if self.loaded != number:
             self.loaded, self.priced = number, PricedInstance(self.instance, table)
-        value = self.priced.value(decided)
-        return value is None or (value > 0 if word == "ray" else value // table.scale >= self.certificate.bound)
+        value = self.priced.value(decided, is_exact)
+        return value is None or (value > 0 if kind == "ray" else value // table.scale >= self.certificate.bound)
 
 
 def check_tree(instance, certificate):
@@ -636,8 +739,9 @@ def check_tree(instance, certificate):
                 refuse("C7", f"node {n}")
             path.append((number, period[0], 0))
             continue
-        if not leaves.is_sound(word, number, decided):
-            refuse({"empty": "C6", "ray": "C5", "bound": "C4"}[word], f"node {n}")
+        kind, is_exact = LEAVES[word]
+        if not leaves.is_sound(kind, is_exact, number, decided):
+            refuse({"empty": "C6", "ray": "C5", "bound": "C4"}[kind], f"node {n}")
         while path and path[-1][2]:
             path.pop()
         if path:
@@ -654,7 +758,7 @@ def check(instance, certificate):
     check_tables(certificate.tables)
     if certificate.cost is not None:
         check_schedule(instance, certificate)
-    is_infeasible, has_bounds = certificate.bound is None, any(word == "bound" for word, *_ in certificate.nodes)
+    is_infeasible, has_bounds = certificate.bound is None, any(word in ("bound", "exact") for word, *_ in certificate.nodes)
     if is_infeasible == has_bounds or is_infeasible and certificate.cost is not None:
         refuse("C8")
     check_tree(instance, certificate)

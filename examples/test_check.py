@@ -30,6 +30,8 @@ AS_THEY_STAND = [
     ("floor", "floor", "accepted cost 0.000000 bound -0.000004"),
     ("watts", "watts", "accepted cost 0.000001 bound 0.000000"),
     ("too_much", "too_much", INFEASIBLE),
+    ("slow_fall", "slow_fall", "accepted bound 150.000000"),
+    ("halves", "halves", "accepted cost 500.000000 bound 0.000000"),
     ("starts", "idle", "certificate: C9"),
     ("../../crates/uc/data/row1", "../../crates/uc/data/row1", "accepted cost 300.000000 bound 300.000000"),
     ("../kazarlis10", "../../view/tests/kazarlis10", "accepted cost 564014.181769 bound 559260.301794"),
@@ -90,7 +92,9 @@ CHANGED_CERTIFICATES = [
     ("too_much", "ray 2", "bound 2", "certificate: C8"),
     ("starts", "bound 3\nray 4", "ray 4\nbound 3", "certificate: C5 node 6"),
     # the lines
-    ("two_units", "uc-certificate 1", "uc-certificate 3", "certificate: line 1: form"),
+    ("two_units", "uc-certificate 1", "uc-certificate 3", "accepted cost 2520.000000 bound 2520.000000"),
+    ("two_units", "uc-certificate 1", "uc-certificate 4", "certificate: line 1: form"),
+    ("halves", "uc-certificate 3", "uc-certificate 03", "certificate: line 1: form"),
     ("two_units", "size 2 2", "size 2 02", "certificate: line 2: form"),
     ("two_units", "bound 2520.000000", "bound 2520.00000", "certificate: line 3: form"),
     ("two_units", "t - ", "t  - ", "certificate: line 6: form"),
@@ -154,6 +158,103 @@ CHANGED_DIFFERENCES = [
 ]
 
 
+# The schedule of `halves.cert`, with other text in its place.
+DIVIDED = [
+    ("over 2", "over 3", "certificate: C2 M14 period 1"),
+    ("t 9999999:", "t 10000000:", "certificate: C2 M14 period 1"),
+    ("500.000000 over 2", "500.000001 over 2", "certificate: C3 written 500.000001 computed 500.000000"),
+    (" over 2", "", "certificate: C2 M14 period 1"),
+    # costs of thirds of a watt are rounded up, each
+    ("500.000000 over 2\nt 10000001:0:0\nt 9999999", "500.000001 over 3\nt 15000001:0:0\nt 14999999",
+     "accepted cost 500.000001 bound 0.000000"),
+    ("over 2\nt 10000001:0:0\nt 9999999", "over 3\nt 15000001:0:0\nt 14999999", "certificate: C3 written 500.000000 computed 500.000001"),
+    # all limits are as often as great
+    ("over 2\nt 10000001:0:0\nt 9999999", "over 99\nt 990000000:0:0\nt 0", "accepted cost 500.000000 bound 0.000000"),
+    ("t 10000001:0:0\nt 9999999", "t 80000001:0:0\nt -60000001", "certificate: C2 M8 thermal 1 period 1"),
+    ("t 10000001:0", "t 10000001:-1", "certificate: C2 M8 thermal 1 period 1"),
+    ("t 10000001:0", "t 10000001:69999999", "accepted cost 500.000000 bound 0.000000"),
+    ("t 10000001:0", "t 10000001:70000000", "certificate: C2 M9 thermal 1 period 1"),
+    # the lines
+    ("uc-certificate 3", "uc-certificate 2", "certificate: line 4: form"),
+    ("uc-certificate 3", "uc-certificate 1", "certificate: line 4: form"),
+    ("over 2", "over 1", "certificate: line 4: form"),
+    ("over 2", "over 100", "certificate: line 4: form"),
+    ("over 2", "over 02", "certificate: line 4: form"),
+    ("over 2", "over -2", "certificate: line 4: form"),
+    ("over 2", "over", "certificate: line 4: form"),
+    ("500.000000 over", "none over", "certificate: line 4: form"),
+]
+
+# `slow_fall.json` and `slow_fall.cert`, whose leaf is by the exact value, each with changes.
+EXACT = [
+    ([], [("150.000000", "150.000001")], "certificate: C4 node 1"),
+    ([], [("table 1000000", "table 0")], "certificate: C4 node 1"),
+    ([], [("exact 1", "bound 1")], "certificate: C4 node 1"),
+    ([], [("exact 1", "bound 1"), ("150.000000", "0.000000")], "accepted bound 0.000000"),
+    ([('ramp_down_limit": 5,', 'ramp_down_limit": 40,')], [], "certificate: C4 node 1"),
+    ([('ramp_down_limit": 5,', 'ramp_down_limit": 40,')], [("150.000000", "0.000000")], "accepted bound 0.000000"),
+    ([], [("exact 1", "exact-ray 1")], "certificate: C8"),
+    ([], [("exact 1", "exact-empty 1")], "certificate: C8"),
+    ([], [("claim bound 150.000000", "claim infeasible")], "certificate: C8"),
+    # off it has a pattern, but no schedule of its own
+    ([], [("exact 1", "split 1 1\nexact-empty 1\nexact 1")], "accepted bound 150.000000"),
+    ([], [("exact 1", "split 1 1\nexact 1\nexact 1")], "accepted bound 150.000000"),
+    ([], [("exact 1", "split 1 1\nempty 1\nexact 1")], "certificate: C6 node 2"),
+    ([], [("exact 1", "split 1 1\nexact 1\nexact-empty 1")], "certificate: C6 node 3"),
+    ([], [("exact 1", "split 1 1\nexact-ray 1\nexact 1")], "certificate: C5 node 2"),
+    ([], [("exact 1", "split 1 1\nbound 1\nexact 1")], "certificate: C4 node 2"),
+    ([], [("exact 1", "split 1 1\nexact-empty 1\nsplit 1 1\nexact-empty 1\nexact 1")], "certificate: C7 node 3"),
+    # 15 MW at $8 a MWh lose $30; with reserve at $1 a MW beside them 25 MW more earn $5, and 7 MW where 12 MW are the rise
+    ([], [("pi 0", "pi 8000000"), ("150.000000", "270.000000")], "accepted bound 270.000000"),
+    ([], [("pi 0", "pi 8000000"), ("150.000000", "270.000001")], "certificate: C4 node 1"),
+    ([], [("pi 0", "pi 8000000"), ("mu 0", "mu 1000000"), ("150.000000", "235.000000")], "accepted bound 235.000000"),
+    ([], [("pi 0", "pi 8000000"), ("mu 0", "mu 1000000"), ("150.000000", "235.000001")], "certificate: C4 node 1"),
+    ([('ramp_up_limit": 40', 'ramp_up_limit": 12')], [("pi 0", "pi 8000000"), ("mu 0", "mu 1000000"), ("150.000000", "253.000000")],
+     "accepted bound 253.000000"),
+    ([('ramp_up_limit": 40', 'ramp_up_limit": 12')], [("pi 0", "pi 8000000"), ("mu 0", "mu 1000000"), ("150.000000", "253.000001")],
+     "certificate: C4 node 1"),
+    # at the scale 1 a slope of $10 for 3 MW is rounded down; of both values with their ramps the greater counts
+    ([('ramp_down_limit": 5,', 'ramp_down_limit": 7,'), ('"mw": 50, "cost": 500', '"mw": 13, "cost": 110')],
+     [("table 1000000", "table 1"), ("150.000000", "109.000000")], "accepted bound 109.000000"),
+    ([('ramp_down_limit": 5,', 'ramp_down_limit": 7,'), ('"mw": 50, "cost": 500', '"mw": 13, "cost": 110')],
+     [("table 1000000", "table 1"), ("150.000000", "109.000001")], "certificate: C4 node 1"),
+    ([('ramp_down_limit": 5,', 'ramp_down_limit": 7,'), ('"mw": 50, "cost": 500', '"mw": 13, "cost": 110'), ('must_run": 0', 'must_run": 1')],
+     [("table 1000000", "table 1"), ("ramps 0", "ramps 1\nramp 1 1 0 4"), ("150.000000", "110.000000")], "accepted bound 110.000000"),
+    ([('ramp_down_limit": 5,', 'ramp_down_limit": 7,'), ('"mw": 50, "cost": 500', '"mw": 13, "cost": 110'), ('must_run": 0', 'must_run": 1')],
+     [("table 1000000", "table 1"), ("ramps 0", "ramps 1\nramp 1 1 0 4"), ("150.000000", "110.000001")], "certificate: C4 node 1"),
+    # a stop in the second of two hours: for it 15 MW in the first are enough
+    ([('"time_periods": 1', '"time_periods": 2'), ("[30]", "[30, 30]"), ("[0]", "[0, 0]")],
+     [("size 1", "size 2"), ("pi 0", "pi 0 0"), ("mu 0", "mu 0 0")], "accepted bound 150.000000"),
+    ([('"time_periods": 1', '"time_periods": 2'), ("[30]", "[30, 30]"), ("[0]", "[0, 0]")],
+     [("size 1", "size 2"), ("pi 0", "pi 0 0"), ("mu 0", "mu 0 0"), ("150.000000", "150.000001")], "certificate: C4 node 1"),
+    # 15 MW at least are more than 5 MW, and no more than 15 MW
+    ([("[30]", "[5]")],
+     [("claim bound 150.000000", "claim infeasible"), ("table 1000000", "table 0"), ("pi 0", "pi -1"), ("exact 1", "exact-ray 1")],
+     INFEASIBLE),
+    ([("[30]", "[5]")],
+     [("claim bound 150.000000", "claim infeasible"), ("table 1000000", "table 0"), ("pi 0", "pi -1"), ("exact 1", "ray 1")],
+     "certificate: C5 node 1"),
+    ([("[30]", "[15]")],
+     [("claim bound 150.000000", "claim infeasible"), ("table 1000000", "table 0"), ("pi 0", "pi -1"), ("exact 1", "exact-ray 1")],
+     "certificate: C5 node 1"),
+    # it can't fall below 15 MW, and gives 12 MW at most
+    ([('"mw": 50, "cost": 500', '"mw": 12, "cost": 120')], [("claim bound 150.000000", "claim infeasible"), ("exact 1", "exact-empty 1")], INFEASIBLE),
+    ([('"mw": 50, "cost": 500', '"mw": 12, "cost": 120')], [("claim bound 150.000000", "claim infeasible"), ("exact 1", "empty 1")],
+     "certificate: C6 node 1"),
+    ([('"mw": 50, "cost": 500', '"mw": 12, "cost": 120')], [("150.000000", "999999.000000")], "accepted bound 999999.000000"),
+    # the lines
+    ([], [("uc-certificate 3", "uc-certificate 2")], "certificate: line 9: form"),
+    ([], [("uc-certificate 3", "uc-certificate 1")], "certificate: line 9: form"),
+    ([], [("exact 1", "exact 2")], "certificate: line 9: form"),
+    ([], [("exact 1", "exact-ray 2")], "certificate: line 9: form"),
+    ([], [("exact 1", "exact-empty 2")], "certificate: line 9: form"),
+    ([], [("exact 1", "exact 01")], "certificate: line 9: form"),
+    ([], [("exact 1", "exact-bound 1")], "certificate: line 9: form"),
+    ([], [("exact 1", "exact-split 1 1")], "certificate: line 9: form"),
+    ([], [("schedule none", "schedule none over 2")], "certificate: line 4: form"),
+]
+
+
 SHED, BOTH = "--shed 100", "--shed 100 --spill-reserve 20"
 
 # `short.json` beside a certificate of it, checked with options; each change of the certificate is a text and what stands there instead.
@@ -161,6 +262,13 @@ WITH_PRICES = [
     (SHED, "short", [], "accepted cost 1950.000000 bound 1950.000000"),
     ("--shed=100", "short", [], "accepted cost 1950.000000 bound 1950.000000"),
     (BOTH, "short_of_both", [], "accepted cost 1600.000000 bound 1600.000000"),
+    # over a denominator of 2: $99 for half a megawatt-hour and for half a watt more, which is rounded up
+    ("--shed 99", "short_by_halves", [], "accepted cost 1935.000045 bound 1935.000000"),
+    ("--shed 99", "short_by_halves", [("1935.000045", "1935.000044")], "certificate: C3 written 1935.000044 computed 1935.000045"),
+    ("--shed 99", "short_by_halves", [("d 30000001", "d 30000000")], "certificate: C2 M14 period 1"),
+    ("--shed 99", "short_by_halves", [("10000000:0", "9999999:0")], "certificate: C2 M15 period 1"),
+    ("--shed 99", "short_by_halves", [("t 69999999:10000000:0", "t -:"), ("d 30000001", "d 120000001")], "certificate: line 6: form"),
+    ("--shed 99", "short_by_halves", [("e 0", "e 1")], "certificate: C2 M17 period 1"),
     # the prices
     ("", "short", [], "certificate: C10"),
     ("--shed 99", "short", [], "certificate: C10"),
@@ -240,6 +348,10 @@ def cases():
         yield "", changed(f"{name}.json"), changed(f"{name}.cert", (old, new)), verdict
     for old, new, verdict in CHANGED_DIFFERENCES:
         yield "", changed("starts.json"), changed("starts_by_changes.cert", (old, new)), verdict
+    for old, new, verdict in DIVIDED:
+        yield "", changed("halves.json"), changed("halves.cert", (old, new)), verdict
+    for instance, certificate, verdict in EXACT:
+        yield "", changed("slow_fall.json", *instance), changed("slow_fall.cert", *certificate), verdict
     for name, old, new, verdict in CHANGED_INSTANCES:
         yield "", changed(f"{name}.json", (old, new)), changed(f"{name}.cert"), verdict
     for options, name, changes, verdict in WITH_PRICES:
