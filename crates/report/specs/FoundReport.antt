@@ -1,6 +1,6 @@
 -- The report of what a search found, as it is printed. This project's own form. Money and power have six decimals; units and
--- periods count from 1 here, and from 0 in the types.
-use Rattle.std.specs.Prelude.{ℕ, zero, suc, Bool, List, [], ◌∷◌, ◌++◌, ℤ, ◌+ℤ◌, Option, Some, None, length, flat_map, codes, if◌then◌else◌}
+-- periods count from 1 here, and from 0 in the types. Where a schedule has a denominator, its powers are told as numerators.
+use Rattle.std.specs.Prelude.{ℕ, zero, suc, nat_lt, Bool, List, [], ◌∷◌, ◌++◌, ℤ, pos, ◌+ℤ◌, ◌*ℤ◌, Option, Some, None, length, flat_map, codes, if◌then◌else◌}
 use Rattle.std.specs.List.{zip}
 use Rattle.uc_model.specs.Decimal.{whole_text}
 use Rattle.uc_model.specs.Money.{money_text}
@@ -44,28 +44,33 @@ abbrev pub start_text : ℕ → List ℕ
 start_text zero = []
 start_text (suc s) = codes "*" ++ whole_text (suc s)
 
--- a cell: `-`, or total output, reserve and the category of a start
-abbrev pub cell_text : Thermal → Cell → List ℕ
-cell_text unit cell =
-    if cell.on then joined (money_text (cell.p +ℤ unit.pmin) ∷ codes "+" ∷ money_text cell.r ∷ start_text cell.category ∷ [])
+-- the denominator of the powers, where they aren't whole watts
+abbrev pub denominator_line : ℕ → List ℕ
+denominator_line denominator =
+    if nat_lt 1 denominator then line (codes "denominator") (whole_text denominator ∷ []) else []
+
+-- a cell: `-`, or total output, reserve and the category of a start; powers are numerators over the denominator d
+abbrev pub cell_text : ℕ → Thermal → Cell → List ℕ
+cell_text d unit cell =
+    if cell.on then joined (money_text (cell.p +ℤ pos d *ℤ unit.pmin) ∷ codes "+" ∷ money_text cell.r ∷ start_text cell.category ∷ [])
     else codes "-"
 
-abbrev pub thermal_line : Thermal → List Cell → List ℕ
-thermal_line unit row = list_line (unit_words (codes "thermal") unit.name) (cell_text unit) row
+abbrev pub thermal_line : ℕ → Thermal → List Cell → List ℕ
+thermal_line d unit row = list_line (unit_words (codes "thermal") unit.name) (cell_text d unit) row
 
 abbrev pub renewable_line : Renewable → List ℤ → List ℕ
 renewable_line unit row = list_line (unit_words (codes "renewable") unit.name) money_text row
 
 -- the line of a unit and its row
-abbrev pub paired_thermal_line : Thermal × List Cell → List ℕ
-paired_thermal_line pair = thermal_line pair.0 pair.1
+abbrev pub paired_thermal_line : ℕ → Thermal × List Cell → List ℕ
+paired_thermal_line d pair = thermal_line d pair.0 pair.1
 
 abbrev pub paired_renewable_line : Renewable × List ℤ → List ℕ
 paired_renewable_line pair = renewable_line pair.0 pair.1
 
 -- a line for each unit that has a row, in the order of the file
-abbrev pub thermal_lines : List Thermal → List (List Cell) → List ℕ
-thermal_lines units rows = flat_map paired_thermal_line (zip units rows)
+abbrev pub thermal_lines : ℕ → List Thermal → List (List Cell) → List ℕ
+thermal_lines d units rows = flat_map (paired_thermal_line d) (zip units rows)
 
 abbrev pub renewable_lines : List Renewable → List (List ℤ) → List ℕ
 renewable_lines units rows = flat_map paired_renewable_line (zip units rows)
@@ -109,11 +114,11 @@ schedule_summary found gap cost =
     joined (state_line (is_within_gap cost (tree_bound found.tree) gap) ∷ cost_line cost ∷ bound_line (tree_bound found.tree)
     ∷ evaluations_line found ∷ [])
 
--- the rows of a schedule
+-- the rows of a schedule, behind the denominator of their powers
 abbrev pub schedule_lines : Instance → Printed → List ℕ
 schedule_lines instance printed =
-    joined (thermal_lines instance.thermal printed.thermal ∷ renewable_lines instance.renewable printed.renewable
-    ∷ shortage_lines instance printed ∷ [])
+    joined (denominator_line printed.denominator ∷ thermal_lines printed.denominator instance.thermal printed.thermal
+    ∷ renewable_lines instance.renewable printed.renewable ∷ shortage_lines instance printed ∷ [])
 
 -- and then its rows
 abbrev pub schedule_report : Instance → Found → ℕ → Printed → ℤ → List ℕ

@@ -1,12 +1,14 @@
 //! The lines of a schedule.
 
-ghost use Rattle.std.specs.Prelude.{◌≡◌, ◌+ℤ◌};
+ghost use Rattle.std.specs.Prelude.{◌≡◌, pos, ◌+ℤ◌, ◌*ℤ◌};
 ghost use Rattle.report.specs.Names.{unit_words};
-ghost use Rattle.report.specs.FoundReport.{start_text, cell_text, paired_thermal_line, paired_renewable_line, priced_line, shortage_lines, schedule_lines};
+ghost use Rattle.report.specs.FoundReport.{denominator_line, start_text, cell_text, paired_thermal_line, paired_renewable_line, priced_line, shortage_lines, schedule_lines};
 ghost use Rattle.uc_model.specs.Money.{money_text};
 
 use crate::names::put_unit;
-use outside::{Form, Out, PairForm, put_amount, put_list_line, put_money, put_pairs, put_whole};
+use outside::{
+    Form, Out, PairForm, put_amount, put_list_line, put_money, put_pairs, put_whole, put_whole_line,
+};
 use uc_model::{Cell, Instance, List, Printed, Renewable, Thermal};
 
 // The category of a start; 0 is no start.
@@ -19,25 +21,26 @@ fn put_start<O: Out>(out: &mut O, category: u8)
     }
 }
 
-// Output with the minimum.
-fn total_output(unit: &Thermal, cell: &Cell) -> i128
-    ensures { result ≡ cell.now.p +ℤ unit.now.pmin }
+// Output with the minimum, over the denominator.
+fn total_output(unit: &Thermal, cell: &Cell, denominator: u8) -> i128
+    ensures { result ≡ cell.now.p +ℤ pos denominator *ℤ unit.now.pmin }
 {
-    i128::from(cell.p) + i128::from(unit.pmin)
+    i128::from(cell.p) + i128::from(denominator) * i128::from(unit.pmin)
 }
 
-// A cell of a unit: `-`, or total output, reserve and the category of a start.
+// A cell of a unit: `-`, or total output, reserve and the category of a start, over the denominator.
 #[derive(Clone, Copy)]
 struct CellOf<'a> {
     unit: &'a Thermal,
+    denominator: u8,
 }
 
 impl<'a> Form<Cell> for CellOf<'a> {
-    ghost text = { λ form cell. cell_text form.unit.now cell };
+    ghost text = { λ form cell. cell_text form.denominator form.unit.now cell };
 
     fn put_value<O: Out>(&self, cell: &Cell, out: &mut O) {
         if cell.on {
-            put_money(out, &total_output(self.unit, cell));
+            put_money(out, &total_output(self.unit, cell, self.denominator));
             out.put(b"+");
             put_amount(out, &cell.r);
             put_start(out, cell.category);
@@ -59,16 +62,22 @@ impl Form<i64> for Power {
     }
 }
 
-// The line of a thermal unit and its row.
+// The line of a thermal unit and its row, over the denominator.
 #[derive(Clone, Copy)]
-struct ThermalLine;
+struct ThermalLine {
+    denominator: u8,
+}
 
 impl PairForm<Thermal, List<Cell>> for ThermalLine {
-    ghost text = { λ _ pair. paired_thermal_line pair };
+    ghost text = { λ form pair. paired_thermal_line form.denominator pair };
 
     fn put_pair<O: Out>(&self, unit: &Thermal, row: &List<Cell>, out: &mut O) {
         put_unit(out, b"thermal", unit.name.as_str());
-        put_list_line(out, b"", &CellOf { unit }, row.as_slice());
+        let form = CellOf {
+            unit,
+            denominator: self.denominator,
+        };
+        put_list_line(out, b"", &form, row.as_slice());
     }
 }
 
@@ -102,13 +111,25 @@ fn put_shortages<O: Out>(out: &mut O, instance: &Instance, printed: &Printed)
     put_priced(out, b"reserve-short", instance.b, printed.short.as_slice());
 }
 
-/// The rows of a schedule, and what it lacks.
+// The denominator of a schedule's powers, where they aren't whole watts.
+fn put_denominator<O: Out>(out: &mut O, denominator: u8)
+    ensures { O.emits (denominator_line denominator) out.old out.new }
+{
+    if denominator > 1 {
+        put_whole_line(out, b"denominator", u64::from(denominator));
+    }
+}
+
+/// The denominator and the rows of a schedule, and what it lacks.
 pub(crate) fn put_schedule<O: Out>(out: &mut O, instance: &Instance, printed: &Printed)
     ensures { O.emits (schedule_lines instance.now printed.now) out.old out.new }
 {
+    put_denominator(out, printed.denominator);
     put_pairs(
         out,
-        &ThermalLine,
+        &ThermalLine {
+            denominator: printed.denominator,
+        },
         instance.thermal.as_slice(),
         printed.thermal.as_slice(),
     );
