@@ -86,6 +86,7 @@ end
 
 # an edit of coast.report, and what the refusal says after the file's name
 BROKEN_REPORTS = (
+    ("evaluations 1\n", "evaluations 1\ndenominator 2\n", "line 6: powers over a denominator aren't drawn"),
     ("thermal 2", "thermal 3", 'line 8: "renewable "wind'),
     ("thermal 2 renewable 1", "thermal 1 renewable 2", 'line 7: "thermal "peak'),
     ("rounded 1", "rounded 0", "line 1: 0 rounded numbers, where the instance has 1"),
@@ -147,10 +148,11 @@ BROKEN_REASONS = (
 )
 # an edit of coast.cert, likewise
 BROKEN_CERTIFICATES = (
-    ("uc-certificate 1", "uc-certificate 3", 'line 1: "uc-certificate 3" where "uc-certificate 1" or "uc-certificate 2" is due'),
+    ("uc-certificate 1", "uc-certificate 4", 'line 1: "uc-certificate 4" where "uc-certificate" and a version from 1 to 3 are due'),
     ("size 4 2 1 1", "size 4 3 1 1", 'line 7: "w 20000000 10500000 30000000 0" where t and 4 cells are due'),
     ("bound 4793.333330", "bound 4793.333331", "line 3: the claim isn't that of the report"),
     ("schedule 5046.666668", "schedule 5046.666669", "line 4: the schedule isn't that of the report"),
+    ("schedule 5046.666668", "schedule 5046.666668 over 2", "line 4: powers over a denominator aren't drawn"),
     ("50000000:5000000:0", "50000000:5000000:1", "line 5: the cell of period 2 isn't that of the report"),
     ("50000000:5000000:0", "50000000:5000000", 'line 5: "50000000:5000000" is no cell'),
     ("30000000 0\n", "30000000 1\n", "line 7: the output of period 4 isn't that of the report"),
@@ -159,6 +161,7 @@ BROKEN_CERTIFICATES = (
     ("ramps 0", "ramps 1\nramp 1 1 0 0", "line 12: a ramp row that may not stand here"),
     ("ramps 0", "ramps 2\nramp 1 2 1 0\nramp 1 2 1 0", "line 13: a ramp row that may not stand here"),
     ("bound 1\n", "bound 2\n", 'line 12: "bound 2" is no node of the tree'),
+    ("bound 1\n", "exact 1\n", 'line 12: "exact 1" is no node of the tree'),
     ("bound 1\n", "split 1 1\nbound 1\n", 'line 14: "end" is no node of the tree'),
     ("end\n", "end", "line 13: cut short"),
     ("end\n", "end\n.", "line 14: bytes after the end"),
@@ -465,6 +468,21 @@ class Pictures(ViewTest):
         infeasible = self.drawn(*files).text
         self.assertIn("Infeasible: no schedule exists", infeasible)
         self.assertIn("ray 1", infeasible)
+
+    def test_leaves_by_exact_values(self) -> None:
+        written = (STORED / "coast.cert").read_text().replace("uc-certificate 1", "uc-certificate 3")
+        leaves = (
+            ("exact 1", "that of its leaf"),
+            ("split 1 1\nexact-empty 1\nexact 1", "that of its leaf"),
+            ("split 1 1\nexact 1\nbound 1", "the first of its 2 leaves"),
+        )
+        for leaf, words in leaves:
+            exact = self.put("exact.cert", written.replace("bound 1\n", leaf + "\n"))
+            self.assertIn(words, self.drawn(COAST, str(STORED / "coast.report"), exact).text)
+        third = INFEASIBLE_CERTIFICATE.replace("uc-certificate 1", "uc-certificate 3")
+        for leaf in ("exact-ray 1", "exact-empty 1"):
+            files = self.row1(60, 5), self.put("none", INFEASIBLE_REPORT), self.put("none.cert", third.replace("ray 1", leaf))
+            self.assertIn(f"({leaf})", self.drawn(*files).text)
 
     def test_rolled_reports(self) -> None:
         rolled = self.put("rolled", (STORED / "coast.report").read_text().replace(SOLVED_LINES, ROLLED_LINES))

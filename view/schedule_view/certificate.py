@@ -15,6 +15,8 @@ _CELL = re.compile(r"([^:]+):([^:]+):([^:]+)")
 MOST_TABLES, MOST_CATEGORY, WATT_DIGITS = 2**32, 255, 15
 # the greatest size of a price, whatever its scale
 MOST_PRICE = 10**14
+# the words of leaves with a bound
+BOUNDS = ("bound", "exact")
 
 # a cell that is on: output above the minimum and reserve in watts, and the category of a start, else 0
 CertificateCell = Tuple[int, int, int]
@@ -88,7 +90,7 @@ def read_certificate(path: str, data: bytes) -> Certificate:
     for _ in range(tables):
         is_whole = version == 1 or not read
         read.append(_table(lines, periods, thermal) if is_whole else _next_table(lines, periods, thermal, read[-1]))
-    leaves, first_bound, line = _tree(lines, periods, thermal, tables)
+    leaves, first_bound, line = _tree(lines, version, periods, thermal, tables)
     _exactly(lines, "end")
     lines.finish()
     prices = _prices(first_bound, read[first_bound - 1]) if first_bound else None
@@ -98,10 +100,10 @@ def read_certificate(path: str, data: bytes) -> Certificate:
 
 
 def _version(lines: Lines) -> int:
-    """The version of the format: in 2 each table but the first is told by its difference to the one before it."""
+    """The version of the format: from 2 on each table but the first is told by its difference to the one before it."""
     line = lines.take()
-    if line not in ("uc-certificate 1", "uc-certificate 2"):
-        lines.refuse(f'{shown(line)} where "uc-certificate 1" or "uc-certificate 2" is due')
+    if line not in ("uc-certificate 1", "uc-certificate 2", "uc-certificate 3"):
+        lines.refuse(f'{shown(line)} where "uc-certificate" and a version from 1 to 3 are due')
     return int(line[-1])
 
 
@@ -151,6 +153,8 @@ def _schedule(lines: Lines, periods: int, thermal: int, renewable: int, short: s
     if line == "schedule none":
         return None
     cost = amount(line[len("schedule ") :]) if line.startswith("schedule ") else None
+    if cost is None and " over " in line:
+        lines.refuse("powers over a denominator aren't drawn")
     if cost is None:
         lines.refuse(f"{shown(line)} where the schedule is due")
     first = lines.number + 1
@@ -242,9 +246,11 @@ def _prices(number: int, table: _Table) -> Prices:
     return Prices(number, table.scale, table.demand, table.reserve)
 
 
-def _tree(lines: Lines, periods: int, thermal: int, tables: int) -> Tuple[Leaves, Optional[int], int]:
-    """The leaves of the tree, and the table and line of the first leaf with a bound in preorder."""
+def _tree(lines: Lines, version: int, periods: int, thermal: int, tables: int) -> Tuple[Leaves, Optional[int], int]:
+    """The leaves of the tree, by exact values in version 3 alone, and the table and line of the first leaf with a bound in preorder."""
     most = {"bound": tables, "ray": tables, "empty": thermal}
+    if version == 3:
+        most.update({"exact": tables, "exact-ray": tables, "exact-empty": thermal})
     leaves: List[Tuple[str, int, int]] = []
     due = 1
     while due:
@@ -260,7 +266,7 @@ def _tree(lines: Lines, periods: int, thermal: int, tables: int) -> Tuple[Leaves
             lines.refuse(f"{shown(text)} is no node of the tree")
     counts = Counter(word for word, _, _ in leaves)
     only = leaves[0][:2] if len(leaves) == 1 else None
-    bound, line = next(((number, line) for word, number, line in leaves if word == "bound"), (None, 0))
+    bound, line = next(((number, line) for word, number, line in leaves if word in BOUNDS), (None, 0))
     return Leaves(dict(counts), only), bound, line
 
 

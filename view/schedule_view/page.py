@@ -5,7 +5,7 @@ import pathlib
 from typing import List, Optional, Tuple
 
 from .amounts import MILLION, dollars_text, gap_parts, short_text
-from .certificate import MOST_PRICE, Certificate, Leaves
+from .certificate import BOUNDS, MOST_PRICE, Certificate, Leaves
 from .charts import cost_chart, curtailed_chart, demand_chart, legend, output_chart, price_chart, reserve_chart, share_bar
 from .costs import hourly_costs
 from .grid import renewable_grid, thermal_grid
@@ -88,7 +88,9 @@ def _reason(leaves: Leaves) -> str:
     word, number = leaves.only
     if word == "empty":
         return f"thermal unit {number} has no commitment that its own rules allow (empty {number})."
-    return f"the value of all schedules at the ray of table {number} is above 0 (ray {number})."
+    if word == "exact-empty":
+        return f"thermal unit {number} has no commitment that its own rules and ramps allow (exact-empty {number})."
+    return f"the value of all schedules at the ray of table {number} is above 0 ({word} {number})."
 
 
 def _head(instance: Instance, report: Report, gap: Optional[int], priced: List[Shortage]) -> str:
@@ -240,7 +242,7 @@ def _demand(instance: Instance, report: Report) -> List[str]:
 
 def _prices(certificate: Certificate, has_schedule: bool) -> List[str]:
     """The prices of the bound; without a schedule and at their limit they tell nothing, and are told in words alone."""
-    prices, count = certificate.prices, certificate.leaves.counts.get("bound", 0)
+    prices, count = certificate.prices, sum(certificate.leaves.counts.get(word, 0) for word in BOUNDS)
     if not prices:
         return []
     heading = element("h2", "Prices of the bound")

@@ -154,6 +154,9 @@ def _searched(lines: Lines, path: str, sizes: Tuple[int, int, int, int]) -> Repo
 
 def _schedule(lines: Lines, cost: int, periods: int, thermal: int, renewable: int) -> Schedule:
     """The rows of a schedule."""
+    if lines.is_at("denominator"):
+        lines.take()
+        lines.refuse("powers over a denominator aren't drawn")
     thermal_rows = [_thermal_row(lines, periods) for _ in range(thermal)]
     renewable_rows = [_renewable_row(lines, periods) for _ in range(renewable)]
     shed, short = _shortage_row(lines, "shed", periods), _shortage_row(lines, "reserve-short", periods)
