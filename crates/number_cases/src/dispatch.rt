@@ -6,6 +6,7 @@ ghost use Rattle.uc_model.specs.Limits.{IsLawfulInstance};
 use crate::Answer;
 use crate::commitment::patterns;
 use crate::demo::put_line;
+use crate::reporting::tell_report;
 use crate::table::marginal_text;
 use crate::uplifts::tell_uplift;
 use dispatch_repair::{DispatchFault, MostFault, dispatch, most_on};
@@ -42,7 +43,7 @@ pub(crate) fn tell_dispatch(alloc: Global, instance: &Instance, word: &str, rest
 }
 
 /// The same at prices of demand and of reserve that is missing, which come first; with what is missing, and the cost. Or the
-/// uplifts at these prices.
+/// uplifts, or a report, at these prices.
 pub(crate) fn tell_priced(alloc: Global, instance: Instance, word: &str, rest: &str) -> Answer
     requires { IsLawfulInstance instance }
 {
@@ -52,6 +53,7 @@ pub(crate) fn tell_priced(alloc: Global, instance: Instance, word: &str, rest: &
             if penalize(&mut instance, a, b) {
                 return match word {
                     "uplift" => tell_uplift(alloc, &instance, rest),
+                    "report" => tell_report(alloc, &instance, rest),
                     _ => tell_dispatch(alloc, &instance, word, rest),
                 };
             }

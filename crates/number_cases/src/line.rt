@@ -51,7 +51,7 @@ fn answer(alloc: Global, system: &str, word: &str, rest: &str) -> Answer {
         return tell_demo(alloc, rest);
     }
     match read_instance(alloc, system.as_bytes(), false) {
-        Ok((instance, _)) if word == "priced" || word == "uplift" => {
+        Ok((instance, _)) if matches!(word, "priced" | "uplift" | "report") => {
             tell_priced(alloc, instance, word, rest)
         }
         Ok((instance, _)) => answer_of(alloc, &instance, word, rest),

@@ -10,6 +10,7 @@ mod exact;
 mod interval;
 mod line;
 mod node;
+mod reporting;
 mod rolling;
 mod system;
 mod table;

@@ -1,0 +1,56 @@
+//! Reports of dispatches, whose powers are taken as numerators.
+
+ghost use Rattle.uc_model.specs.Limits.{IsLawfulInstance};
+
+use crate::Answer;
+use crate::commitment::patterns;
+use crate::dispatch::stuck_text;
+use branch_tree::{Found, Layout, Tree};
+use dispatch_repair::{DispatchFault, dispatch};
+use outside_memory::MemorySink;
+use report::write_found;
+use std::alloc::Global;
+use std::str;
+use uc_model::{Instance, List, NoMemory, Printed};
+
+/// The report of a commitment's dispatch, as `DENOMINATOR BITS..` says: its powers are taken as numerators over the denominator.
+pub(crate) fn tell_report(alloc: Global, instance: &Instance, words: &str) -> Answer
+    requires { IsLawfulInstance instance.now }
+{
+    let (denominator, bits) = words.split_once(' ').unwrap_or((words, ""));
+    let patterns = patterns(alloc, bits)?;
+    if patterns.len() != instance.thermal.as_slice().len() {
+        return Ok(String::from_str(alloc, "a pattern for each unit\n")?);
+    }
+    match dispatch(alloc, instance, &patterns) {
+        Ok(printed) => {
+            let mut printed = printed;
+            printed.denominator = denominator.parse::<u8>().unwrap_or(1);
+            report_text(alloc, instance, printed)
+        }
+        Err(DispatchFault::Stuck(stuck)) => stuck_text(String::new(alloc), &stuck),
+        Err(DispatchFault::NoMemory) => Err(NoMemory),
+    }
+}
+
+// The report of a search that found the schedule at a cost and a bound of nothing.
+fn report_text(alloc: Global, instance: &Instance, printed: Printed) -> Answer {
+    let found = Found {
+        schedule: Some((printed, 0)),
+        tree: Tree::with_room(alloc, 0, 0, 1)?,
+        tables: List::from_vec(Vec::new(alloc)),
+        log: List::from_vec(Vec::new(alloc)),
+        most_on: None,
+        layout: Layout {
+            nodes: List::from_vec(Vec::new(alloc)),
+            tables: List::from_vec(Vec::new(alloc)),
+        },
+    };
+    let mut sink = MemorySink::new(alloc);
+    let outcome = write_found(&mut sink, &found, instance, 0, 0);
+    drop(found);
+    match (outcome, sink.written()) {
+        (Ok(()), Some(bytes)) => Ok(String::from_str(alloc, str::from_utf8(bytes).unwrap_or(""))?),
+        _ => Err(NoMemory),
+    }
+}
