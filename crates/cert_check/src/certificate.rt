@@ -30,7 +30,8 @@ pub fn check(alloc: Global, instance: &Instance, cert: &Cert) -> Result<Claims, 
     if !reads_prices(instance, cert) {
         return Err(CheckFault::Refused(Refusal::C10));
     }
-    if let Some(i) = first_off(cert.tables.as_slice()) {
+    let off = first_off(alloc, &cert.tables)?;
+    if let Some(i) = off {
         return Err(CheckFault::Refused(Refusal::C1 {
             table: i as u32 + 1,
         }));

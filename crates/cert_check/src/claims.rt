@@ -19,6 +19,11 @@ pub enum CheckFault {
 }
 
 impl From<NoMemory> for CheckFault {
+    ghost use Rattle.std.specs.Prelude.{◌≡◌};
+    ghost use Rattle.cert_check.specs.declared.claims.CheckFault.TheVariants as faults;
+
+    ghost from_gives = { λ _ fault. fault ≡ faults.NoMemory };
+
     fn from(_: NoMemory) -> CheckFault {
         CheckFault::NoMemory
     }

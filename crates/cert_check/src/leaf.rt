@@ -10,7 +10,7 @@ ghost use Rattle.cert_text.specs.CertificateText.{LeafNode};
 ghost use Rattle.leaf_values.specs.Entries.{AreEntriesOf};
 ghost use Rattle.leaf_values.specs.Paths.{AreFixesOf, node_of as place_of};
 ghost use Rattle.cert_check.specs.Visits.{Node, Table, IsSound, IsSoundNode};
-ghost use Rattle.cert_check.specs.inside.Leaves.{AreOfNumber, HasFloorOf, IsBoundingBy, IsEnough, IsExcluding, IsLeafNode, IsLoaded, IsPositive, IsReady, IsSameBut, IsValueAt, IsValueFor, HasRoom};
+ghost use Rattle.cert_check.specs.inside.Leaves.{HasFloorOf, IsBoundingBy, IsEnough, IsExcluding, IsLeafNode, IsLoaded, IsLoadedAt, IsPositive, IsReady, IsSameBut, IsValueAt, IsValueFor, HasRoom};
 ghost use Rattle.cert_check.specs.inside.Nodes.{AreCheckable};
 ghost use Rattle.cert_check.specs.inside.Walks.{IsPath, visit_of};
 
@@ -22,12 +22,14 @@ use leaf_values::{
 };
 use state_walk::Walk;
 use std::alloc::Global;
+use table_list::TableList;
 use uc_model::{Instance, NoMemory, floor_div};
 
-/// The entries of the table of a number, from 0.
+/// The table of a number, from 0, and its entries.
 #[derive(Drop)]
 pub(crate) struct Loaded {
-    table: u32,
+    number: u32,
+    table: Table,
     entries: TableEntries,
 }
 
@@ -100,9 +102,9 @@ impl Leaves {
         ensures sound { IfOk result (λ sound. (place : Node) → AreFixesOf instance.now place self.old.fixes.items
             → IsTrue sound ↔ IsSoundNode instance.now cert.now.tables cert.now.bound place (LeafNode (Bound exact number))) }
     {
-        let tables = cert.tables.as_slice();
-        let value = self.value_at(alloc, instance, tables, number, exact)?;
-        Ok(bounds(&tables[number as usize], &cert.bound, &value))
+        let value = self.value_at(alloc, instance, &cert.tables, number, exact)?;
+        let k = cert.tables.scale(number as usize);
+        Ok(bounds(&k, &cert.bound, &value))
     }
 
     // Whether the table of that number is a ray that leaves no schedule at the node: by VE where it is exact, else by V.
@@ -122,9 +124,9 @@ impl Leaves {
         ensures sound { IfOk result (λ sound. (place : Node) → AreFixesOf instance.now place self.old.fixes.items
             → IsTrue sound ↔ IsSoundNode instance.now cert.now.tables cert.now.bound place (LeafNode (Ray exact number))) }
     {
-        let tables = cert.tables.as_slice();
-        let value = self.value_at(alloc, instance, tables, number, exact)?;
-        Ok(excludes(&tables[number as usize], &value))
+        let value = self.value_at(alloc, instance, &cert.tables, number, exact)?;
+        let k = cert.tables.scale(number as usize);
+        Ok(excludes(&k, &value))
     }
 
     // Whether thermal unit `g` is blocked at the node: it has no schedule of its own there where that is asked, else no pattern.
@@ -156,7 +158,7 @@ impl Leaves {
         &mut self,
         alloc: Global,
         instance: &Instance,
-        tables: &[Table],
+        tables: &TableList,
         number: u32,
         exact: bool,
     ) -> Result<Option<i128>, NoMemory>
@@ -169,13 +171,9 @@ impl Leaves {
             → IsValueAt exact instance.now tables.now place number value) }
     {
         let kept = self.loaded.take();
-        let mut entries = entries_of(alloc, kept, &mut self.walk, instance, tables, number)?;
-        let table = &tables[number as usize];
-        let value = self.value_of(&mut entries, instance, table, exact);
-        self.loaded = Some(Loaded {
-            table: number,
-            entries,
-        });
+        let mut loaded = loaded_of(alloc, kept, &mut self.walk, instance, tables, number)?;
+        let value = self.value_of(&mut loaded.entries, instance, &loaded.table, exact);
+        self.loaded = Some(loaded);
         Ok(value)
     }
 
@@ -214,63 +212,69 @@ fn decide(fixes: &mut Vec<Fix>, instance: &Instance, path: &[Fixing])
     fill_fixes(fixes.as_mut_slice(), path);
 }
 
-// The entries of the table of that number: those that were kept, if they are its, or else new ones.
-fn entries_of(
+// The table of that number and its entries: those that were kept, if they are its, or else new ones.
+fn loaded_of(
     alloc: Global,
     kept: Option<Loaded>,
     walk: &mut Walk,
     instance: &Instance,
-    tables: &[Table],
+    tables: &TableList,
     number: u32,
-) -> Result<TableEntries, NoMemory>
+) -> Result<Loaded, NoMemory>
     requires lawful { IsLawfulInstance instance.now }
     requires tables { All (IsLawfulTable instance.now) tables.now }
     requires kept { IsLoaded instance.now tables.now kept }
     requires number { number < length tables.now }
     requires room { walk.old ≡ instance.now.periods }
     ensures room { walk.new ≡ walk.old }
-    ensures entries { IfOk result (AreOfNumber instance.now tables.now number) }
+    ensures loaded { IfOk result (IsLoadedAt instance.now tables.now number) }
 {
     if let Some(loaded) = kept {
-        if loaded.table == number {
-            return Ok(loaded.entries);
+        if loaded.number == number {
+            return Ok(loaded);
         }
     }
-    load(alloc, walk, instance, &tables[number as usize])
+    let table = tables.table(alloc, number as usize)?;
+    let entries = load(alloc, walk, instance, &table)?;
+    Ok(Loaded {
+        number,
+        table,
+        entries,
+    })
 }
 
-// Whether the table bounds by what is claimed where the node has that value.
-fn bounds(table: &Table, bound: &Option<i128>, value: &Option<i128>) -> bool
-    ensures { IsTrue result ↔ IsBoundingBy table.now.k value.now bound.now }
+// Whether a table of that scale bounds by what is claimed where the node has that value.
+fn bounds(k: &i64, bound: &Option<i128>, value: &Option<i128>) -> bool
+    ensures { IsTrue result ↔ IsBoundingBy k.now value.now bound.now }
 {
     match bound {
-        Some(bound) => table.k() > 0 && is_enough(table, bound, value),
+        Some(bound) => *k > 0 && is_enough(k, bound, value),
         None => false,
     }
 }
 
-fn is_enough(table: &Table, bound: &i128, value: &Option<i128>) -> bool
-    requires { pos 0 <ℤ table.now.k }
-    ensures { IsTrue result ↔ IsEnough table.now.k bound.now value.now }
+fn is_enough(k: &i64, bound: &i128, value: &Option<i128>) -> bool
+    requires { pos 0 <ℤ k.now }
+    ensures { IsTrue result ↔ IsEnough k.now bound.now value.now }
 {
     match value {
-        Some(value) => is_floor_enough(table, *bound, *value),
+        Some(value) => is_floor_enough(k, *bound, *value),
         None => true,
     }
 }
 
-fn is_floor_enough(table: &Table, bound: i128, value: i128) -> bool
-    requires { pos 0 <ℤ table.now.k }
-    ensures { IsTrue result ↔ HasFloorOf table.now.k value bound }
+fn is_floor_enough(k: &i64, bound: i128, value: i128) -> bool
+    requires { pos 0 <ℤ k.now }
+    ensures { IsTrue result ↔ HasFloorOf k.now value bound }
 {
-    floor_div(value, i128::from(table.k())) >= bound
+    floor_div(value, i128::from(*k)) >= bound
 }
 
-// Whether the table is a ray that excludes all where the node has that value.
-fn excludes(table: &Table, value: &Option<i128>) -> bool
-    ensures { IsTrue result ↔ IsExcluding table.now.k value.now }
+// Whether a table of that scale is a ray that excludes all where the node has that value.
+fn excludes(k: &i64, value: &Option<i128>) -> bool
+    ensures { IsTrue result ↔ IsExcluding k.now value.now }
 {
-    table.k() == 0 && is_positive(value)
+    *k == 0 && is_positive(value)
 }
 
 fn is_positive(value: &Option<i128>) -> bool

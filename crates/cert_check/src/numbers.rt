@@ -1,22 +1,26 @@
 //! The signs and sizes of the numbers of price tables.
 
-ghost use Rattle.std.specs.Prelude.{◌≡◌, ◌↔◌, IsTrue, All};
+ghost use Rattle.std.specs.Prelude.{◌≡◌, ◌↔◌, IfOk, IsTrue, All};
 ghost use Rattle.dual_model.specs.Prices.{IsPrice};
 ghost use Rattle.cert_check.specs.inside.Numbers.{HasLawfulNumbers, IsFirstOffOf, IsLawfulRampRow, IsSignedPrice};
 
 use dual_model::limits::{MAX_PRICE, MAX_SCALE};
 use dual_model::{RampRow, Table};
+use std::alloc::Global;
+use table_list::TableList;
+use uc_model::NoMemory;
 
-/// The first table, from 0, with a number past its limit or of the wrong sign.
-pub(crate) fn first_off(tables: &[Table]) -> Option<usize>
-    ensures { IsFirstOffOf tables.now result }
+/// The first table, from 0, with a number past its limit or of the wrong sign. It takes memory for one table at a time.
+pub(crate) fn first_off(alloc: Global, tables: &TableList) -> Result<Option<usize>, NoMemory>
+    ensures { IfOk result (IsFirstOffOf tables.now) }
 {
     for i in 0..tables.len() {
-        if !is_lawful(&tables[i]) {
-            return Some(i);
+        let table = tables.table(alloc, i)?;
+        if !is_lawful(&table) {
+            return Ok(Some(i));
         }
     }
-    None
+    Ok(None)
 }
 
 // Whether the numbers are within the limits, and the multipliers of inequalities at least 0.

@@ -5,45 +5,14 @@ use Rattle.std.specs.List.{AllByRecursion as Each}
 use Rattle.std.proofs.lemmas.List.Elements.{recursion_from_All, All-from_recursion}
 use Rattle.std.proofs.lemmas.Int.{ints}
 use Rattle.dual_model.specs.Prices.{IsRowBefore, IsRowWithin}
-use Rattle.cert_text.specs.Changes.{Table, RampRow, Change, OfDemand, OfReserve, OfRamps, no_row, changed, all_changed, row_changes, table_changes}
+use Rattle.table_list.specs.Changes.{Table, RampRow, Change, OfDemand, OfReserve, OfRamps, no_row, changed, all_changed, row_changes, table_changes}
 use Rattle.cert_text.specs.TextConditions.{HasDigits, IsRampText, IsTableText}
 use Rattle.cert_text.specs.Grammar.{Sizes, AreSizes, rescaled, ComesBefore, IsChangeWithin, IsChangeAfter}
 use Rattle.cert_text.specs.inside.Parts.{AreChanges}
-use Rattle.cert_text.proofs.RowChanges.{Rise, IsPresent, AreOthers, with_rows, each_as, each_behind, each_change, each_with_rows, rise_from, rising_from, rise_with_rows, rows_few, rows_found, rows_made}
-use Rattle.cert_text.proofs.PriceChanges.{ArePriceChanges, prices_told, with_prices, as_pairs, none_past, length_prices, digits_prices, prices_found, prices_made}
-
--- ---- changes of each kind
-abbrev demand_change : ℕ × ℤ → Change
-demand_change p = OfDemand p.0 p.1
-
-abbrev reserve_change : ℕ × ℤ → Change
-reserve_change p = OfReserve p.0 p.1
-
--- those of demand before those of reserve, and these before those of ramps
-abbrev told_changes : List (ℕ × ℤ) → List (ℕ × ℤ) → List RampRow → List Change
-told_changes demand reserve rows = map demand_change demand ++ (map reserve_change reserve ++ map OfRamps rows)
-
--- each kind changes its own part of a table
-abbrev told_table : Table → List (ℕ × ℤ) → List (ℕ × ℤ) → List RampRow → Table
-told_table table demand reserve rows = record {
-  units = table.units;
-  k = table.k;
-  pi = with_prices table.pi demand;
-  mu = with_prices table.mu reserve;
-  ramps = with_rows table.ramps rows;
-}
-
-rows_change : (table : Table) (rows : List RampRow) → all_changed table (map OfRamps rows) ≡ told_table table [] [] rows
-rows_change table [] = refl
-rows_change table (row ∷ rows) = rows_change (changed table (OfRamps row)) rows
-
-reserve_changes : (table : Table) (reserve : List (ℕ × ℤ)) (rows : List RampRow) → all_changed table (map reserve_change reserve ++ map OfRamps rows) ≡ told_table table [] reserve rows
-reserve_changes table [] rows = rows_change table rows
-reserve_changes table (p ∷ reserve) rows = reserve_changes (changed table (reserve_change p)) reserve rows
-
-told_change : (table : Table) (demand reserve : List (ℕ × ℤ)) (rows : List RampRow) → all_changed table (told_changes demand reserve rows) ≡ told_table table demand reserve rows
-told_change table [] reserve rows = reserve_changes table reserve rows
-told_change table (p ∷ demand) reserve rows = told_change (changed table (demand_change p)) demand reserve rows
+use Rattle.table_list.proofs.RowChanges.{Rise, IsPresent, AreOthers, with_rows, each_as, each_behind, each_change, each_with_rows, rise_from, rising_from, rise_with_rows, rows_few, rows_found, rows_made}
+use Rattle.table_list.proofs.PriceChanges.{prices_told, with_prices, as_pairs}
+use Rattle.table_list.proofs.TableChanges.{demand_change, reserve_change, told_changes, told_table, told_change, told_whole}
+use Rattle.cert_text.proofs.PriceChanges.{ArePriceChanges, none_past, length_prices, digits_prices, prices_found, prices_made}
 
 -- ---- Changes that may stand are some of demand, of reserve and of ramps.
 -- the first period whose price may change behind that change, where there is one; and the last row before

@@ -1,16 +1,17 @@
 -- Changes of a table that are read and made one after the other, and tables that are read behind each other.
-use Rattle.std.proofs.Common.{◌≡◌, ℕ, zero, suc, ◌+◌, ◌-◌, ◌<◌, ◌≤◌, Bool, true, false, cond, ◌&&◌, List, [], ◌∷◌, ◌++◌, length, Option, Some, None, Result, Ok, Err, refl, sym, ap, subst, ◌∙◌, arith, pos, append-nil}
+use Rattle.std.proofs.Common.{◌≡◌, ℕ, zero, suc, ◌+◌, ◌-◌, ◌<◌, ◌≤◌, Bool, true, false, cond, ◌&&◌, List, [], ◌∷◌, ◌++◌, length, Option, Some, None, IfSome, Result, Ok, Err, refl, sym, ap, subst, ◌∙◌, arith, pos, append-nil}
 use Rattle.std.specs.Option.{option_and_then}
 use Rattle.std.specs.List.{slice_get}
 use Rattle.std.proofs.lemmas.Bool.{ltb-true}
 use Rattle.std.proofs.lemmas.Option.{cond_some}
 use Rattle.std.proofs.lemmas.List.{length-set, length_push}
-use Rattle.cert_text.specs.Changes.{Table, RampRow, Change, OfDemand, OfReserve, OfRamps, changed, all_changed}
+use Rattle.table_list.specs.Changes.{Table, RampRow, Change, OfDemand, OfReserve, OfRamps, changed, all_changed}
 use Rattle.cert_text.specs.CertificateText.{Version, First, Second, Third, told_from}
 use Rattle.cert_text.specs.Grammar.{Sizes, rescaled}
 use Rattle.cert_text.specs.inside.Forms.{Form, passing, written_change_at, is_within, comes_behind, is_other, change_at, next_at}
 use Rattle.cert_text.specs.inside.Parts.{Stop, ◌>>=◌, StopsAs, line_of, told, changes_part, changed_part, next_part, table_of, numbers_part, table_part, told_part, tables_part}
-use Rattle.cert_text.specs.inside.Drafts.{last_table, drafted, so_far, HasPrice, ArePriced, IsDrafted}
+use Rattle.cert_text.specs.inside.Drafts.{drafted, so_far, HasPrice, ArePriced, IsDrafted}
+use Rattle.table_list.specs.TableChanges.{last_table, AreAlike}
 use Rattle.cert_text.specs.declared.reader.draft.Draft.{Draft}
 use Rattle.cert_text.specs.declared.reader.stop.Stop.TheVariants as stops
 use Rattle.cert_text.proofs.Loops.{one_left, none_left, behind_parts, regroup_parts}
@@ -211,3 +212,10 @@ pub told_from_last : (version : Version) (last : Option Table) (before : Table) 
 told_from_last First last before e = absurd cc
 told_from_last Second last before e = sym e
 told_from_last Third last before e = sym e
+
+-- tables that have a text of one size are of one system
+pub drafts_alike : (size : Sizes) (draft next : Draft) (last : Option Table) (table : Table) → IfSome last (IsDrafted size draft) → IsDrafted size next table
+    → IfSome last (λ before. AreAlike before table)
+drafts_alike size draft next None table before h = tt
+drafts_alike size draft next (Some last) table before h =
+    record { units = before.text.units ∙ sym h.text.units; periods = before.text.periods_priced ∙ sym h.text.periods_priced }

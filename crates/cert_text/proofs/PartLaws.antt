@@ -4,7 +4,7 @@ use Rattle.std.specs.List.{flat_map}
 use Rattle.std.proofs.lemmas.List.Elements.{All-nil, All-cons, All-head, All-tail}
 use Rattle.outside.specs.Lines.{joined, line}
 use Rattle.outside.proofs.Joining.{joined-cons}
-use Rattle.cert_text.specs.Changes.{Change, changed, all_changed, table_changes}
+use Rattle.table_list.specs.Changes.{Change, changed, all_changed, table_changes}
 use Rattle.cert_text.specs.Grammar.{RampRow, Symbol, Reaches, Sizes, AreSizes, Ahead, Scale, Pi, Mu, Ramps, Ramp, Next, Update, ArePrices, IsRampAfter, IsChangeAfter, table_head, tables_from, tables_behind, ramp_rows, changes_from, scaled, with_ramp, rescaled, ramp_count_line, Plan, Node, children, Head, Size, Claim, End, after_size}
 use Rattle.cert_text.specs.inside.Forms.{signed_at, text_at, row_at, ramp_count_at, ramp_at, change_at, node_at, split_at, claim_at, end_at}
 use Rattle.cert_text.specs.inside.Parts.{◌>>=◌, Planned, line_of, then, plan_part, ramp_rows_part, ramps_part, table_of, numbers_part, table_part, changes_part, next_part, told_part, tables_part, AreChanges, owed_after, nodes_part, tree_part, listing_from, heading_part, certificate_part, AreRamps}

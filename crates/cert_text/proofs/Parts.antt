@@ -8,7 +8,7 @@ use Rattle.branch_tree.specs.UsedTables.{used_tables, place_of, stored_tables}
 use Rattle.branch_tree.specs.Claims.{table_at, certificate_of, leaf_claim, written_tables, written_of}
 use Rattle.outside.specs.Lines.{joined}
 use Rattle.outside.proofs.Joining.{joined-cons, joined-append, joined-map}
-use Rattle.cert_text.specs.Changes.{OfDemand, OfReserve, OfRamps, price_changes, row_changes, table_changes}
+use Rattle.table_list.specs.Changes.{OfDemand, OfReserve, OfRamps, price_changes, row_changes, table_changes}
 use Rattle.cert_text.specs.CertificateText.{Version, Second, Third, written_version, written_text, is_exact_node, is_divided, told_from, Listing, preorder, node_line, SplitNode, TreeNode, LeafNode, IsLeafWithin, IsNodeWithin, RampRow, Table, Printed, certificate_lines, certificate_text, has_price, penalty_line, shortage_lines, schedule_lines, plan_lines, table_lines, next_line, next_lines, change_line, told_lines, tables_lines, thermal_line, renewable_line, ramp_line, cost_line, version_line, size_line, claim_line, end_line, scale_line, prices_line, ramps_line, listing_of}
 use Rattle.cert_text.specs.Reading.{node_of, listing_read}
 use Rattle.cert_text.specs.declared.cert.CertNode.{CertNode}

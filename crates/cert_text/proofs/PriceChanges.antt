@@ -7,40 +7,12 @@ use Rattle.std.proofs.lemmas.Bool.{cases_Bool, cases_eq, cond-true, cond-false, 
 use Rattle.std.proofs.lemmas.Bool.Decides.{Decides-int_eq}
 use Rattle.std.proofs.lemmas.List.{set_at, get_or_at, length-set}
 use Rattle.std.proofs.lemmas.List.Elements.{All-set}
-use Rattle.cert_text.specs.Changes.{Change, price_changes}
+use Rattle.table_list.proofs.PriceChanges.{prices_told, told_same, told_other, with_prices, put_here, longer}
 use Rattle.cert_text.specs.TextConditions.{HasDigits}
-
--- the changes of a list of prices as pairs of a period and the price in it
-abbrev pub prices_told : ℕ → List ℤ → List ℤ → List (ℕ × ℤ)
-prices_told t [] news = []
-prices_told t (old ∷ olds) [] = []
-prices_told t (old ∷ olds) (new ∷ news) = if int_eq old new then prices_told (suc t) olds news else (t, new) ∷ prices_told (suc t) olds news
-
-pub as_pairs : (change : ℕ → ℤ → Change) (t : ℕ) (olds news : List ℤ) → price_changes change t olds news ≡ map (λ (p : ℕ × ℤ). change p.0 p.1) (prices_told t olds news)
-as_pairs change t [] news = refl
-as_pairs change t (old ∷ olds) [] = refl
-as_pairs change t (old ∷ olds) (new ∷ news) = by_test (int_eq old new) (as_pairs change (suc t) olds news)
-  where
-    by_test : (same : Bool) → price_changes change (suc t) olds news ≡ map (λ (p : ℕ × ℤ). change p.0 p.1) (prices_told (suc t) olds news)
-        → cond same (price_changes change (suc t) olds news) (change t new ∷ price_changes change (suc t) olds news)
-        ≡ map (λ (p : ℕ × ℤ). change p.0 p.1) (cond same (prices_told (suc t) olds news) ((t, new) ∷ prices_told (suc t) olds news))
-    by_test true more = more
-    by_test false more = ap (λ changes. change t new ∷ changes) more
-
-told_same : (t : ℕ) (old new : ℤ) (olds news : List ℤ) → old ≡ new → prices_told t (old ∷ olds) (new ∷ news) ≡ prices_told (suc t) olds news
-told_same t old new olds news same = cond-true _ _ _ ((Decides-int_eq old new).1 same)
-
-told_other : (t : ℕ) (old new : ℤ) (olds news : List ℤ) → old ≢ new → prices_told t (old ∷ olds) (new ∷ news) ≡ (t, new) ∷ prices_told (suc t) olds news
-told_other t old new olds news other = cond-false _ _ _ (false_from_ne_true (int_eq old new) (λ e. other ((Decides-int_eq old new).0 e)))
 
 same_prices : (t : ℕ) (prices : List ℤ) → prices_told t prices prices ≡ []
 same_prices t [] = refl
 same_prices t (price ∷ prices) = told_same t price price prices prices refl ∙ same_prices (suc t) prices
-
--- ---- prices with changes
-abbrev pub with_prices : List ℤ → List (ℕ × ℤ) → List ℤ
-with_prices prices [] = prices
-with_prices prices (p ∷ told) = with_prices (slice_set prices p.0 p.1) told
 
 -- another price than there is, of few digits, in that period or a later one
 pub record IsPriceChange (periods from : ℕ) (prices : List ℤ) (p : ℕ × ℤ) : Type 0 where
@@ -75,14 +47,8 @@ digits_prices periods from prices (p ∷ told) digits h =
     digits_prices periods (suc p.0) (slice_set prices p.0 p.1) told (All-set (HasDigits 18) prices p.0 p.1 h.0.written digits) h.1
 
 -- ---- the prices from one period on, behind those before it
-put_here : (front : List ℤ) (old price : ℤ) (olds : List ℤ) (t : ℕ) → length front ≡ t → slice_set (front ++ old ∷ olds) t price ≡ (front ++ price ∷ []) ++ olds
-put_here front old price olds t e = set_at front old olds price t e ∙ sym (append_assoc front (price ∷ []) olds)
-
 there_is : (front : List ℤ) (old : ℤ) (olds : List ℤ) (t : ℕ) → length front ≡ t → slice_index_or (front ++ old ∷ olds) t (pos 0) ≡ old
 there_is front old olds t e = get_or_at front old olds (pos 0) t e
-
-longer : (front : List ℤ) (price : ℤ) (t : ℕ) → length front ≡ t → length (front ++ price ∷ []) ≡ suc t
-longer front price t e = omega (arith, length-append front (price ∷ []))
 
 -- ---- Of changed prices the changes are written.
 record AreFound (front olds : List ℤ) (t : ℕ) (told : List (ℕ × ℤ)) : Type 0 where

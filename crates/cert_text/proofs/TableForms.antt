@@ -9,11 +9,11 @@ use Rattle.outside.specs.Lines.{line}
 use Rattle.dual_model.specs.Cover.{Leaf, Bound, Ray, Empty}
 use Rattle.dual_model.specs.Prices.{IsRowBefore, IsRowWithin, pi_at, mu_at, up_at, down_at}
 use Rattle.cert_text.specs.TextConditions.{RampRow, HasDigits, IsRampText, IsNodeText}
-use Rattle.cert_text.specs.Changes.{Table, Change, OfDemand, OfReserve, OfRamps}
+use Rattle.table_list.specs.Changes.{Table, Change, OfDemand, OfReserve, OfRamps}
 use Rattle.cert_text.specs.CertificateText.{Third, ramp_line, next_line, change_line, TreeNode, LeafNode, SplitNode, node_line, is_exact_leaf, is_exact_node, IsLeafWithin, IsNodeWithin}
 use Rattle.cert_text.specs.Grammar.{Sizes, AreSizes, ComesBefore, IsChangeWithin, Changes, IsChangeAfter, IsRampAfter}
 use Rattle.cert_text.specs.inside.Forms.{is_digit, ended, mapped, after, text_at, ordinal_at, row_numbers_at, ramp_row, rises, is_ramp, ramp_at, next_at, price_at, written_change_at, is_within, comes_before, comes_behind, is_other, is_change, change_at, named_at, split_at, tells_exact, exact_leaf_at, exact_at, node_at}
-use Rattle.cert_text.proofs.RowChanges.{before_decides}
+use Rattle.table_list.proofs.RowChanges.{before_decides}
 use Rattle.cert_text.proofs.PlanForms.{is_third}
 use Rattle.cert_text.proofs.FormLaws.{IsForm, Anything, after-form, ended-form, both-form, form-as, image-form, mapped-form, passing-form, choice-form, ordinal-form, last_whole, spaced_whole, spaced_signed}
 

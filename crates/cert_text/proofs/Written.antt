@@ -1,12 +1,17 @@
 -- What is told next of tables, and what is still to be told behind it, are what was to be told before.
-use Rattle.std.proofs.Common.{◌≡◌, ℕ, ℤ, pos, ◌+◌, ◌<◌, ◌≤◌, suc, min, Bool, true, false, cond, List, [], ◌∷◌, ◌++◌, length, map, drop, get_or, Option, Some, None, option_to_list, refl, ap, sym, ◌∙◌, add-one, drop-cons, length-drop, length-append, arith}
+use Rattle.std.proofs.Common.{◌≡◌, ℕ, ℤ, pos, ◌+◌, ◌<◌, ◌≤◌, suc, min, Bool, true, false, cond, List, [], ◌∷◌, ◌++◌, length, map, drop, get_or, Option, Some, None, option_to_list, slice_get, ◌-◌, refl, ap, sym, ◌∙◌, add-one, drop-cons, length-drop, length-append, arith}
 use Rattle.std.specs.List.{flat_map}
 use Rattle.std.specs.Option.{option_map_or}
 use Rattle.std.specs.Ordering.{int_eq}
-use Rattle.std.proofs.lemmas.List.{drop_more, drop_all, length-map}
-use Rattle.cert_text.specs.Changes.{Change, OfDemand, OfReserve, OfRamps, price_changes, row_changes, table_changes}
-use Rattle.cert_text.specs.CertificateText.{Table, RampRow, change_line}
-use Rattle.cert_text.specs.inside.WrittenParts.{price_part, told_count, row_line, told_part, tables_part}
+use Rattle.std.proofs.lemmas.List.Concat.{flat_map-append}
+use Rattle.std.proofs.lemmas.List.Folds.{flat_map-map}
+use Rattle.std.proofs.lemmas.Option.{slice_get-get_or}
+use Rattle.std.proofs.lemmas.List.{drop_more, drop_all, length-map, get_or-map}
+use Rattle.table_list.specs.declared.change.Change.{Change as KeptChange}
+use Rattle.table_list.specs.TableChanges.{change_of, changes_of}
+use Rattle.table_list.specs.Changes.{Change, OfDemand, OfReserve, OfRamps, price_changes, row_changes, table_changes}
+use Rattle.cert_text.specs.CertificateText.{Table, RampRow, change_line, next_line}
+use Rattle.cert_text.specs.inside.WrittenParts.{price_part, told_count, row_line, table_part, next_part, changes_part, told_part, tables_part}
 
 -- ---- prices
 -- those of period t, and those behind them
@@ -32,15 +37,6 @@ pub next_price_count : (change : ℕ → ℤ → Change) (olds news : List ℤ) 
 next_price_count change olds news t in_olds in_news =
     rw (add-one, drop-cons olds t (pos 0), drop-cons news t (pos 0))
     (counted-or-not (int_eq (get_or olds t (pos 0)) (get_or news t (pos 0))) (change t (get_or news t (pos 0))) (price_changes change (suc t) (drop (suc t) olds) (drop (suc t) news)))
-
--- there are none past the shorter list
-none-left : (change : ℕ → ℤ → Change) (t : ℕ) (olds news : List ℤ) → min (length olds) (length news) ≤ 0 → price_changes change t olds news ≡ []
-none-left change t [] news short = refl
-none-left change t (old ∷ olds) [] short = refl
-none-left change t (old ∷ olds) (new ∷ news) short = absurd (omega arith)
-
-pub last_price : (change : ℕ → ℤ → Change) (olds news : List ℤ) (t : ℕ) → min (length olds) (length news) ≤ t → price_changes change t (drop t olds) (drop t news) ≡ []
-last_price change olds news t past = none-left change t (drop t olds) (drop t news) (omega (arith, length-drop t olds, length-drop t news))
 
 -- ---- rows of ramp multipliers
 row-told : (change : Option RampRow) (rest : List RampRow)
@@ -74,3 +70,39 @@ next_table before tables i table within is =
 
 pub last_table : (before : Option Table) (tables : List Table) (i : ℕ) → length tables ≤ i → tables_part before (drop i tables) ≡ []
 last_table before tables i past = ap (tables_part before) (drop_all i tables past)
+
+-- ---- tables of which the list tells the changes
+-- the first one is whole
+pub first_table : (tables : List Table) → option_map_or table_part (slice_get tables 0) [] ++ tables_part (slice_get tables 0) (drop 1 tables) ≡ tables_part None tables
+first_table [] = refl
+first_table (table ∷ tables) = refl
+
+changes_told : (before table : Table) → changes_part table.k (table_changes before table) ≡ next_part before table
+changes_told before table =
+    ap (λ rest. next_line table.k (length (table_changes before table)) ++ rest)
+    (flat_map-append change_line (price_changes OfDemand 0 before.pi table.pi) (price_changes OfReserve 0 before.mu table.mu ++ map OfRamps (row_changes before.ramps table.ramps))
+    ∙ ap (λ rest. flat_map change_line (price_changes OfDemand 0 before.pi table.pi) ++ rest)
+    (flat_map-append change_line (price_changes OfReserve 0 before.mu table.mu) (map OfRamps (row_changes before.ramps table.ramps))
+    ∙ ap (λ rest. flat_map change_line (price_changes OfReserve 0 before.mu table.mu) ++ rest) (flat_map-map change_line OfRamps (row_changes before.ramps table.ramps))))
+
+-- and each behind it is told by its changes
+pub next_told : (tables : List Table) (i : ℕ) (d : Table) (k : ℤ) (changes : List Change) → 0 < i → i < length tables → k ≡ (get_or tables i d).k
+    → changes ≡ table_changes (get_or tables (i - 1) d) (get_or tables i d)
+    → changes_part k changes ++ tables_part (slice_get tables (i + 1 - 1)) (drop (i + 1) tables) ≡ tables_part (slice_get tables (i - 1)) (drop i tables)
+next_told tables i d k changes some within scale told =
+    let before = get_or tables (i - 1) d in
+    let table = get_or tables i d in
+    let here : slice_get tables (i + 1 - 1) ≡ Some table = ap (slice_get tables) (omega arith) ∙ slice_get-get_or tables i d within in
+    let there : slice_get tables (i - 1) ≡ Some before = slice_get-get_or tables (i - 1) d (omega arith) in
+    (λ j. changes_part (scale j) (told j) ++ tables_part (here j) (drop (i + 1) tables))
+    ∙ ap (λ text. text ++ tables_part (Some table) (drop (i + 1) tables)) (changes_told before table)
+    ∙ sym ((λ j. tables_part (there j) (drop_more tables i d within j)))
+
+-- a change of a list that is kept, before those behind it
+pub next_change : (changes : List KeptChange) (i : ℕ) (d : KeptChange) → i < length changes
+    → change_line (change_of (get_or changes i d)) ++ flat_map change_line (drop (i + 1) (changes_of changes)) ≡ flat_map change_line (drop i (changes_of changes))
+next_change changes i d within =
+    let change = change_of (get_or changes i d) in
+    sym (ap (flat_map change_line)
+    (drop_more (changes_of changes) i change (omega (arith, length-map changes change_of))
+    ∙ ap (λ first. first ∷ drop (i + 1) (changes_of changes)) (get_or-map change_of changes i d change within)))

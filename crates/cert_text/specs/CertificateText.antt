@@ -13,7 +13,7 @@ use Rattle.dual_model.specs.Certificate.{Certificate, WrittenSchedule}
 pub use Rattle.dual_model.specs.declared.table.Table.{Table}
 pub use Rattle.dual_model.specs.declared.table.RampRow.{RampRow}
 use Rattle.outside.specs.Lines.{line, joined, list_line}
-use Rattle.cert_text.specs.Changes.{Change, OfDemand, OfReserve, OfRamps, table_changes}
+use Rattle.table_list.specs.Changes.{Change, OfDemand, OfReserve, OfRamps, table_changes}
 pub use Rattle.cert_text.specs.declared.cert.Version.{Version}
 pub use Rattle.cert_text.specs.declared.cert.Version.TheVariants.{First, Second, Third}
 

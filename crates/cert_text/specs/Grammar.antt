@@ -9,7 +9,7 @@ use Rattle.uc_model.specs.Decimal.{whole_text}
 use Rattle.dual_model.specs.Prices.{IsRowBefore, IsRowWithin, pi_at, mu_at, up_at, down_at}
 pub use Rattle.dual_model.specs.declared.table.RampRow.{RampRow}
 use Rattle.outside.specs.Lines.{line, joined}
-use Rattle.cert_text.specs.Changes.{Table, Change, OfDemand, OfReserve, OfRamps, changed}
+use Rattle.table_list.specs.Changes.{Table, Change, OfDemand, OfReserve, OfRamps, changed}
 use Rattle.cert_text.specs.CertificateText.{Version, TreeNode, LeafNode, SplitNode, node_line, version_line, size_line, claim_line, has_price, penalty_line, cost_line, no_schedule_line, thermal_line, renewable_line, shed_line, short_line, scale_line, prices_line, ramp_line, next_line, change_line, told_from, end_line}
 use Rattle.cert_text.specs.TextConditions.{HasDigits, IsMoney, ArePenalties, IsThermalRow, IsPowerRow, IsRampText, IsDenominator, IsNodeText}
 use Rattle.cert_text.specs.declared.cert.CertFault.{CertFault}

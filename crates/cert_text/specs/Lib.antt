@@ -1,4 +1,3 @@
-pub mod Changes
 pub mod CertificateText
 pub mod TextConditions
 pub mod Grammar

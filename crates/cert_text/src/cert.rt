@@ -1,6 +1,6 @@
 //! What a certificate says, as it was read.
 
-use dual_model::Table;
+use table_list::TableList;
 use uc_model::{List, Printed};
 
 /// A node of a certificate's tree. Units, periods and tables count from 0 here, and from 1 in the text.
@@ -36,7 +36,7 @@ pub struct Cert {
     pub b: u32,
     pub bound: Option<i128>,
     pub schedule: Option<(Printed, i128)>,
-    pub tables: List<Table>,
+    pub tables: TableList,
     pub tree: List<CertNode>,
 }
 

@@ -65,7 +65,7 @@ fn put_read_heading<O: Out>(out: &mut O, cert: &Cert)
 {
     let thermal = cert.thermal as usize;
     let renewable = cert.renewable as usize;
-    let tables = cert.tables.as_slice().len();
+    let tables = cert.tables.len();
     let has_exact = has_exact_read(cert.tree.as_slice());
     put_version(out, has_exact || is_read_divided(&cert.schedule));
     put_size(out, cert.periods, thermal, renewable, tables);
@@ -92,7 +92,7 @@ fn put_read<O: Out>(out: &mut O, cert: &Cert)
     put_read_heading(out, cert);
     put_penalty(out, cert.a, cert.b);
     put_read_schedule(out, has_price(cert.a, cert.b), &cert.schedule);
-    put_tables(out, cert.tables.as_slice());
+    put_tables(out, &cert.tables);
     put_read_nodes(out, cert.tree.as_slice());
     out.put(b"end\n");
 }

@@ -4,21 +4,16 @@ ghost use Rattle.std.specs.Prelude.{◌≡◌, ◌∷◌, [], ◌+◌, ◌≤◌
 ghost use Rattle.std.specs.Option.{option_map_or};
 ghost use Rattle.outside.specs.Lines.{line};
 ghost use Rattle.uc_model.specs.Decimal.{whole_text, signed_text};
-ghost use Rattle.cert_text.specs.Changes.{Change, new_row, price_changes, row_changes, table_changes};
+ghost use Rattle.table_list.specs.Changes.{Change as ToldChange, price_changes, row_changes, table_changes};
 ghost use Rattle.cert_text.specs.CertificateText.{next_line, change_line};
-ghost use Rattle.cert_text.specs.inside.WrittenParts.{price_change, price_part, told_count, row_line, next_part, IsPassing};
+ghost use Rattle.table_list.specs.Passing.{price_change};
+ghost use Rattle.cert_text.specs.inside.WrittenParts.{price_part, told_count, row_line, next_part, changes_part};
+ghost use Rattle.table_list.specs.TableChanges.{change_of, changes_of};
 
-use crate::rows::{is_before, no_row};
 use crate::table::put_row;
 use dual_model::{RampRow, Table};
 use outside::{Out, put_count, put_place, put_signed};
-
-/// Which prices of a table.
-#[derive(Clone, Copy)]
-pub(crate) enum Prices {
-    Demand,
-    Reserve,
-}
+use table_list::{Change, Prices, pass};
 
 // ---- prices
 
@@ -71,7 +66,7 @@ fn told_count(old: &i64, new: &i64) -> u64
 
 // How many prices are others than before.
 fn price_change_count(olds: &[i64], news: &[i64]) -> u64
-    ensures count { (change : ℕ → ℤ → Change) → result ≡ length (price_changes change 0 olds.now news.now) }
+    ensures count { (change : ℕ → ℤ → ToldChange) → result ≡ length (price_changes change 0 olds.now news.now) }
     ensures few { result ≤ length news.now }
 {
     let mut count = 0;
@@ -82,76 +77,6 @@ fn price_change_count(olds: &[i64], news: &[i64]) -> u64
 }
 
 // ---- rows of ramp multipliers
-
-// The row in place of an old one, where it is another.
-fn new_row(old: &RampRow, new: &RampRow) -> Option<RampRow>
-    ensures { option_to_list result ≡ new_row old.now new.now }
-{
-    if old.up == new.up && old.down == new.down {
-        None
-    } else {
-        Some(*new)
-    }
-}
-
-// The first row that was left of two tables, by unit and then by period, is passed: the row to be told, where the tables differ
-// there, and the rows that are left now of the old table and of the new one.
-#[derive(Clone, Copy)]
-struct Passed<'a> {
-    change: Option<RampRow>,
-    olds: &'a [RampRow],
-    news: &'a [RampRow],
-}
-
-// Passes the first new row, where no old row is left.
-fn pass_new<'a>(olds: &'a [RampRow], news: &'a [RampRow]) -> Option<Passed<'a>>
-    requires { olds.now ≡ [] }
-    ensures { IsPassing olds.now news.now result }
-{
-    match news {
-        [] => None,
-        [new, later @ ..] => Some(Passed {
-            change: Some(*new),
-            olds,
-            news: later,
-        }),
-    }
-}
-
-// Passes the first row that is left of two tables, where there is one.
-fn pass<'a>(olds: &'a [RampRow], news: &'a [RampRow]) -> Option<Passed<'a>>
-    ensures { IsPassing olds.now news.now result }
-{
-    let [old, later_olds @ ..] = olds else {
-        return pass_new(olds, news);
-    };
-    let [new, later_news @ ..] = news else {
-        return Some(Passed {
-            change: Some(no_row(old)),
-            olds: later_olds,
-            news,
-        });
-    };
-    if is_before(new, old) {
-        Some(Passed {
-            change: Some(*new),
-            olds,
-            news: later_news,
-        })
-    } else if is_before(old, new) {
-        Some(Passed {
-            change: Some(no_row(old)),
-            olds: later_olds,
-            news,
-        })
-    } else {
-        Some(Passed {
-            change: new_row(old, new),
-            olds: later_olds,
-            news: later_news,
-        })
-    }
-}
 
 // The row to be told, where there is one.
 fn put_row_change<O: Out>(out: &mut O, change: &Option<RampRow>)
@@ -231,4 +156,32 @@ pub(crate) fn put_next<O: Out>(out: &mut O, before: &Table, table: &Table)
     put_price_changes(out, Prices::Demand, before.pi(), table.pi());
     put_price_changes(out, Prices::Reserve, before.mu(), table.mu());
     put_row_changes(out, before.ramps(), table.ramps());
+}
+
+// A change.
+fn put_change<O: Out>(out: &mut O, change: &Change)
+    ensures { O.emits (change_line (change_of change.now)) out.old out.new }
+{
+    match change {
+        Change::Demand { t, price } => put_price(out, b"p", *t, price),
+        Change::Reserve { t, price } => put_price(out, b"m", *t, price),
+        Change::Ramps(row) => put_row(out, b"r", row),
+    }
+}
+
+// Changes in their order.
+fn put_changes<O: Out>(out: &mut O, changes: &[Change])
+    ensures { O.emits (flat_map change_line (changes_of changes.now)) out.old out.new }
+{
+    for change in changes {
+        put_change(out, change);
+    }
+}
+
+/// A table of this scale behind another one, told by these changes.
+pub(crate) fn put_told_by<O: Out>(out: &mut O, k: &i64, changes: &[Change])
+    ensures { O.emits (changes_part k.now (changes_of changes.now)) out.old out.new }
+{
+    put_next_line(out, k, changes.len() as u64);
+    put_changes(out, changes);
 }

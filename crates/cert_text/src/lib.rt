@@ -6,7 +6,6 @@ mod certificate;
 mod changes;
 pub mod laws;
 mod reader;
-mod rows;
 mod schedule;
 mod table;
 mod tables;

@@ -1,13 +1,15 @@
 //! The lines of tables one behind the other: the first is told whole, and each later one by its difference to the one before it.
 
-ghost use Rattle.std.specs.Prelude.{◌≡◌, ◌<◌, None, All, length, map, option_copied};
+ghost use Rattle.std.specs.Prelude.{◌≡◌, ◌<◌, [], None, All, length, map, option_copied};
+ghost use Rattle.std.specs.Option.{option_map_or};
 ghost use Rattle.branch_tree.specs.Claims.{table_at};
-ghost use Rattle.cert_text.specs.inside.WrittenParts.{told_part, tables_part};
+ghost use Rattle.cert_text.specs.inside.WrittenParts.{table_part, told_part, tables_part};
 
-use crate::changes::put_next;
+use crate::changes::{put_next, put_told_by};
 use crate::table::put_table;
 use dual_model::Table;
 use outside::Out;
+use table_list::TableList;
 
 // A table behind that one, where there is one.
 fn put_told<O: Out>(out: &mut O, before: Option<&Table>, table: &Table)
@@ -19,14 +21,22 @@ fn put_told<O: Out>(out: &mut O, before: Option<&Table>, table: &Table)
     }
 }
 
+// The first table, where there is one.
+fn put_first<O: Out>(out: &mut O, first: Option<&Table>)
+    ensures { O.emits (option_map_or table_part (option_copied first.entry) []) out.old out.new }
+{
+    if let Some(table) = first {
+        put_table(out, table);
+    }
+}
+
 /// The tables in their order.
-pub(crate) fn put_tables<O: Out>(out: &mut O, tables: &[Table])
+pub(crate) fn put_tables<O: Out>(out: &mut O, tables: &TableList)
     ensures { O.emits (tables_part None tables.now) out.old out.new }
 {
-    let mut before = None;
-    for table in tables {
-        put_told(out, before, table);
-        before = Some(table);
+    put_first(out, tables.first());
+    for number in 1..tables.len() {
+        put_told_by(out, &tables.scale(number), tables.changes(number));
     }
 }
 

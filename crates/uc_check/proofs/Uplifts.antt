@@ -1,7 +1,7 @@
 -- What a certificate that was checked gives for uplifts, and how a run of `uplift` ends by its steps: reading and checking (from the
 -- files f to h), picking schedule and table, the uplifts, and the report.
-use Rattle.std.proofs.Common.{◌≡◌, ◌∙◌, ℕ, zero, suc, true, List, All, refl, sym, ap, subst, inr, ⊎_elim, arith, Some, None}
-use Rattle.std.proofs.lemmas.Option.{none-some, get_or_from_slice_get, slice_get_within}
+use Rattle.std.proofs.Common.{◌≡◌, ◌∙◌, ℕ, zero, suc, ◌<◌, ◌≤◌, ◌-◌, length, get_or, true, List, All, refl, sym, ap, subst, inr, ⊎_elim, arith, Some, None}
+use Rattle.std.proofs.lemmas.Option.{none-some, get_or_from_slice_get, slice_get_within, slice_get_past, slice_get-get_or}
 use Rattle.dual_model.specs.Certificate.{Certificate}
 use Rattle.dual_model.specs.Prices.{IsLawfulTable}
 use Rattle.outside.specs.declared.slot.Slot.TheVariants as slot
@@ -74,19 +74,6 @@ stopped_uplift asked before after (NoUplift refusal) stopped = absurd (⊎_elim
     (λ (late : IsCertificateFault asked.check before after (NoUplift refusal)). late.cause) stopped.cause)
 stopped_uplift asked before after _ stopped = stopped
 
--- what was read has no uplifts, and so the certificate has none
-pub without_uplifts : (asked : Uplift) (f h : Slot → SlotState) (out err_old err_new : SinkState) (checked : Checked) (fault : Fault)
-    → IsChecked asked.check f h checked → IsUnpicked checked.cert asked.table fault
-    → IsUpliftFailure asked (outside_of f out err_old) (outside_of h out err_new) fault None
-without_uplifts asked f h out err_old err_new checked (NoUplift refusal) is unpicked = record {
-  certificate = is.certificate;
-  verified = is.verified;
-  why = subst (λ (l : Listing). HasNoUplifts l.schedule l.tables asked.table refusal) (sym is.listed) unpicked;
-  calm = is.calm;
-  out = refl;
-}
-without_uplifts asked f h out err_old err_new checked _ is unpicked = absurd unpicked
-
 -- memory was refused once the certificate was checked
 pub out_of_memory : (asked : Check) (f h : Slot → SlotState) (out err_old err_new : SinkState) (checked : Checked) → IsChecked asked f h checked
     → IsCheckStopped asked (outside_of f out err_old) (outside_of h out err_new) Memory
@@ -100,6 +87,20 @@ out_of_memory asked f h out err_old err_new checked is = record {
   });
   out = refl;
 }
+
+-- what was read has no uplifts, and so the certificate has none
+pub without_uplifts : (asked : Uplift) (f h : Slot → SlotState) (out err_old err_new : SinkState) (checked : Checked) (fault : Fault)
+    → IsChecked asked.check f h checked → IsUnpicked checked.cert asked.table fault
+    → IsUpliftFailure asked (outside_of f out err_old) (outside_of h out err_new) fault None
+without_uplifts asked f h out err_old err_new checked (NoUplift refusal) is unpicked = record {
+  certificate = is.certificate;
+  verified = is.verified;
+  why = subst (λ (l : Listing). HasNoUplifts l.schedule l.tables asked.table refusal) (sym is.listed) unpicked;
+  calm = is.calm;
+  out = refl;
+}
+without_uplifts asked f h out err_old err_new checked Memory is unpicked = out_of_memory asked.check f h out err_old err_new checked is
+without_uplifts asked f h out err_old err_new checked _ is unpicked = absurd unpicked
 
 -- ---- the uplifts
 abbrev pub has_uplifts : (asked : Uplift) (f h : Slot → SlotState) (checked : Checked) (printed : Printed) (table : Table) (uplifts : Uplifts)
@@ -123,3 +124,14 @@ pub of_uplifts : (P : List ℕ → Type 0) (asked : Check) (f h : Slot → SlotS
 of_uplifts P asked f h checked table uplifts numbers is same p =
     subst (λ instance. P (uplift_report instance table (told_numbers uplifts))) (sym is.instance)
     (subst (λ n. P (uplift_report checked.instance table n)) same p)
+
+-- ---- the table of a number
+pub named : (tables : List Table) (number : ℕ) (table : Table) → 0 < number → number ≤ length tables → ((d : Table) → table ≡ get_or tables (number - 1) d)
+    → Some table ≡ table_of tables number
+named tables zero table some within is = absurd (omega arith)
+named tables (suc i) table some within is =
+    ap Some (is table ∙ ap (λ n. get_or tables n table) (omega arith)) ∙ sym (slice_get-get_or tables i table within)
+
+pub unnamed : (tables : List Table) (number : ℕ) → length tables < number → None ≡ table_of tables number
+unnamed tables zero past = absurd (omega arith)
+unnamed tables (suc i) past = sym (slice_get_past tables i (omega arith))

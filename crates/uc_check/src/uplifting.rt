@@ -1,7 +1,6 @@
 //! A run of `uplift`.
 
 ghost use Rattle.std.specs.Prelude.{◌≡◌, ℕ, List, Option as Maybe, IfOk, IfErr, OnOk, OnErr};
-ghost use Rattle.std.specs.Option.{option_map};
 ghost use Rattle.outside.specs.Slots.{AllUnopened};
 ghost use Rattle.outside.specs.Sinks.{SinkState};
 ghost use Rattle.dual_model.specs.Certificate.{WrittenSchedule};
@@ -23,7 +22,8 @@ use dual_model::Table;
 use outside::{Failed, Files, Sink};
 use report::{Fault, UpliftNumbers, UpliftRefusal, write_uplift};
 use std::alloc::Global;
-use uc_model::{Instance, Printed};
+use table_list::TableList;
+use uc_model::{Instance, NoMemory, Printed};
 use uplift::Uplifts;
 
 // The schedule that is written, where its watts are whole.
@@ -44,44 +44,44 @@ fn whole_schedule(schedule: &Option<(Printed, i128)>) -> Result<&Printed, Uplift
 }
 
 // The table of this number, from 1, where there is one.
-fn table_of(tables: &[Table], number: u32) -> Option<&Table>
-    ensures { option_map (λ table. table.now) result ≡ table_of_number tables.now number }
+fn table_of(alloc: Global, tables: &TableList, number: u32) -> Result<Option<Table>, NoMemory>
+    ensures { IfOk result (λ table. table ≡ table_of_number tables.now number) }
 {
     let place = number as usize;
     if place == 0 {
-        return None;
+        return Ok(None);
     }
     if place > tables.len() {
-        return None;
+        return Ok(None);
     }
-    Some(&tables[place - 1])
+    Ok(Some(tables.table(alloc, place - 1)?))
 }
 
 // The table of this number, where it is no ray.
-fn price_table(tables: &[Table], number: u32) -> Result<&Table, UpliftRefusal>
-    ensures prices { IfOk result (λ table. IsPriceTable tables.now number table.now) }
-    ensures refused { IfErr result (λ refusal. (schedule : Maybe WrittenSchedule) (printed : PrintedNumbers) → IsWholeSchedule schedule printed
-        → HasNoUplifts schedule tables.now number refusal) }
+fn price_table(alloc: Global, cert: &Cert, number: u32) -> Result<Table, Fault>
+    ensures prices { IfOk result (IsPriceTable cert.now.tables number) }
+    ensures refused { IfErr result (λ fault. (printed : PrintedNumbers) → IsWholeSchedule (written_of cert.now.schedule) printed
+        → IsUnpicked cert.now number fault) }
 {
-    match table_of(tables, number) {
+    match table_of(alloc, &cert.tables, number)? {
         Some(table) => {
             if table.k() == 0 {
-                Err(UpliftRefusal::Ray)
+                Err(Fault::NoUplift(UpliftRefusal::Ray))
             } else {
                 Ok(table)
             }
         }
-        None => Err(UpliftRefusal::NoTable),
+        None => Err(Fault::NoUplift(UpliftRefusal::NoTable)),
     }
 }
 
 // The schedule and the table of this number of which uplifts are.
-fn picked(cert: &Cert, number: u32) -> Result<(&Printed, &Table), Fault>
-    ensures picked { IfOk result (λ p. ArePicked cert.now number p.0.now p.1.now) }
+fn picked(alloc: Global, cert: &Cert, number: u32) -> Result<(&Printed, Table), Fault>
+    ensures picked { IfOk result (λ p. ArePicked cert.now number p.0.now p.1) }
     ensures refused { IfErr result (IsUnpicked cert.now number) }
 {
     let printed = whole_schedule(&cert.schedule)?;
-    let table = price_table(cert.tables.as_slice(), number)?;
+    let table = price_table(alloc, cert, number)?;
     Ok((printed, table))
 }
 
@@ -145,10 +145,10 @@ fn uplift_and_tell<F: Files, O: Sink>(
         (outside_of (F.state files.old) (O.state out.old) err_old) (outside_of (F.state files.new) (O.state out.new) err_new) }
 {
     let checked = verify(alloc, &asked.check, files)?;
-    let (printed, table) = picked(&checked.cert, asked.table)?;
-    let uplifts = uplifts_of(alloc, &checked.instance, printed, table)?;
+    let (printed, table) = picked(alloc, &checked.cert, asked.table)?;
+    let uplifts = uplifts_of(alloc, &checked.instance, printed, &table)?;
     let numbers = numbers_of(uplifts);
-    match tell_uplifts(out, &checked.instance, table, &numbers) {
+    match tell_uplifts(out, &checked.instance, &table, &numbers) {
         Ok(()) => Ok(End {
             code: 0,
             found: None,

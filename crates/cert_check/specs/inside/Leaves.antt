@@ -8,7 +8,6 @@ use Rattle.dual_model.specs.declared.node.Node.{Node}
 pub use Rattle.dual_model.specs.declared.table.Table.{Table}
 use Rattle.leaf_values.specs.Entries.{AreEntriesOf}
 use Rattle.leaf_values.specs.ExactRooms.{IsRoomOf}
-use Rattle.leaf_values.specs.declared.entries.TableEntries.{TableEntries}
 pub use Rattle.cert_text.specs.declared.cert.CertNode.{CertNode}
 use Rattle.cert_text.specs.declared.cert.CertNode.TheVariants as nodes
 use Rattle.cert_check.specs.declared.leaf.Leaves.{Leaves}
@@ -24,13 +23,19 @@ IsLeafNode units tables (nodes.Exact table) = table < tables
 IsLeafNode units tables (nodes.ExactRay table) = table < tables
 IsLeafNode units tables (nodes.ExactEmpty g) = g < units
 
--- the entries are those of the table of that number
-abbrev pub AreOfNumber : Instance → List Table → ℕ → TableEntries → Type 0
-AreOfNumber instance tables number entries = (table : Table) → slice_get tables number ≡ Some table → AreEntriesOf instance table entries
+-- the table is that of the number, and the entries are its
+pub record IsLoadedOf (instance : Instance) (tables : List Table) (loaded : Loaded) : Type 0 where
+  pub is : slice_get tables loaded.number ≡ Some loaded.table
+  pub entries : AreEntriesOf instance loaded.table loaded.entries
 
 abbrev pub IsLoaded : Instance → List Table → Option Loaded → Type 0
 IsLoaded instance tables None = Unit {0}
-IsLoaded instance tables (Some loaded) = AreOfNumber instance tables loaded.table loaded.entries
+IsLoaded instance tables (Some loaded) = IsLoadedOf instance tables loaded
+
+-- and this is the number
+pub record IsLoadedAt (instance : Instance) (tables : List Table) (number : ℕ) (loaded : Loaded) : Type 0 where
+  pub of_number : IsLoadedOf instance tables loaded
+  pub number_is : loaded.number ≡ number
 
 -- room for the walks, exact ones too, and for what a path decides of each unit
 pub record HasRoom (instance : Instance) (leaves : Leaves) : Type 0 where

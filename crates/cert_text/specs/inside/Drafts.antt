@@ -2,24 +2,13 @@
 use Rattle.std.specs.Prelude.{◌≡◌, ℕ, ◌-◌, ◌<◌, Bool, true, false, not, ◌&&◌, ◌||◌, List, [], ◌∷◌, ◌++◌, Option, Some, length, slice_get, pos}
 use Rattle.std.specs.Ordering.{int_eq}
 use Rattle.dual_model.specs.Prices.{row_of, AreRising}
-use Rattle.cert_text.specs.Changes.{Table, RampRow, Change, OfDemand, OfReserve, OfRamps, is_before, with_row, changed}
+use Rattle.table_list.specs.Changes.{Table, RampRow, Change, OfDemand, OfReserve, OfRamps, is_before, with_row, changed}
 use Rattle.cert_text.specs.Grammar.{Sizes}
 use Rattle.cert_text.specs.TextConditions.{IsTableText}
 use Rattle.cert_text.specs.inside.Forms.{comes_behind, is_other}
-use Rattle.cert_text.specs.declared.reader.changes.Change.{Change as ReadChange}
-use Rattle.cert_text.specs.declared.reader.changes.Change.TheVariants as read
 use Rattle.cert_text.specs.declared.reader.draft.Draft.{Draft}
 
-abbrev pub change_of : ReadChange → Change
-change_of (read.Demand t price) = OfDemand t price
-change_of (read.Reserve t price) = OfReserve t price
-change_of (read.Ramps row) = OfRamps row
-
 -- ---- tables
--- the last one of those so far
-abbrev pub last_table : List Table → Option Table
-last_table tables = slice_get tables (length tables - 1)
-
 -- the table of a draft's numbers, with these ramp rows
 abbrev pub drafted : Draft → List RampRow → Table
 drafted draft rows = record { units = draft.units; k = pos draft.k; pi = draft.pi.items; mu = draft.mu.items; ramps = rows }

@@ -12,13 +12,10 @@ pub use Rattle.branch_tree.specs.declared.tree.Spot.{Spot}
 use Rattle.branch_tree.specs.declared.tree.Spot.TheVariants as spot
 use Rattle.branch_tree.specs.declared.tree.Tree.{Tree}
 use Rattle.outside.specs.Lines.{joined}
-use Rattle.cert_text.specs.Changes.{Change, OfDemand, OfReserve, OfRamps, price_changes, row_changes, table_changes}
+use Rattle.table_list.specs.Changes.{Change, OfDemand, OfReserve, OfRamps, price_changes, row_changes, table_changes}
 use Rattle.cert_text.specs.CertificateText.{TreeNode, LeafNode, SplitNode, Listing, listing_of, preorder, node_line, written_version, Table, RampRow, Printed, version_line, size_line, claim_line, has_price, penalty_line, shed_line, short_line, cost_line, no_schedule_line, thermal_line, renewable_line, scale_line, prices_line, ramps_line, ramp_line, next_line, change_line, end_line}
 use Rattle.cert_text.specs.Reading.{listing_read}
 pub use Rattle.cert_text.specs.declared.cert.Cert.{Cert}
-pub use Rattle.cert_text.specs.declared.changes.Prices.{Prices}
-use Rattle.cert_text.specs.declared.changes.Prices.TheVariants as prices
-pub use Rattle.cert_text.specs.declared.changes.Passed.{Passed}
 
 abbrev pub penalty_part : ℕ → ℕ → List ℕ
 penalty_part a b = if has_price a b then penalty_line a b else []
@@ -39,11 +36,6 @@ table_part table =
     joined (scale_line table.k ∷ prices_line (codes "pi") table.pi ∷ prices_line (codes "mu") table.mu ∷ ramps_line table.ramps
     ∷ flat_map ramp_line table.ramps ∷ [])
 
--- the change of one of these prices
-abbrev pub price_change : Prices → ℕ → ℤ → Change
-price_change prices.Demand = OfDemand
-price_change prices.Reserve = OfReserve
-
 -- the line of the price in period t, where it is another than before; and how many lines that are
 abbrev pub price_part : (ℕ → ℤ → Change) → ℕ → ℤ → ℤ → List ℕ
 price_part change t old new = if int_eq old new then [] else change_line (change t new)
@@ -54,21 +46,15 @@ told_count old new = if int_eq old new then 0 else 1
 abbrev pub row_line : RampRow → List ℕ
 row_line row = change_line (OfRamps row)
 
--- the first row of two tables is passed: what is told of it, and then the changes of the rows that are left, are all changes; and a row
--- less is left
-pub record IsPassed (olds news : List RampRow) (passed : Passed) : Type 0 where
-  pub changes : row_changes olds news ≡ option_to_list passed.change ++ row_changes passed.olds.now passed.news.now
-  pub fewer : length passed.olds.now + length passed.news.now < length olds + length news
-
--- where there is a row
-abbrev pub IsPassing : List RampRow → List RampRow → Option Passed → Type 0
-IsPassing olds news passed = MatchOption passed (row_changes olds news ≡ []) (IsPassed olds news)
-
 -- a table behind that one
 abbrev pub next_part : Table → Table → List ℕ
 next_part before table =
     joined (next_line table.k (length (table_changes before table)) ∷ flat_map change_line (price_changes OfDemand 0 before.pi table.pi)
     ∷ flat_map change_line (price_changes OfReserve 0 before.mu table.mu) ∷ flat_map row_line (row_changes before.ramps table.ramps) ∷ [])
+
+-- the same by its changes
+abbrev pub changes_part : ℤ → List Change → List ℕ
+changes_part k changes = next_line k (length changes) ++ flat_map change_line changes
 
 abbrev pub told_part : Option Table → Table → List ℕ
 told_part None table = table_part table

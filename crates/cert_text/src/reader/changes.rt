@@ -2,14 +2,14 @@
 
 ghost use Rattle.std.specs.Prelude.{◌≡◌, false, true, option_map};
 ghost use Rattle.cert_text.specs.inside.Forms.{Gives, passing, next_at, price_at, written_change_at, is_within, comes_before, comes_behind};
-ghost use Rattle.cert_text.specs.inside.Drafts.{change_of};
+ghost use Rattle.table_list.specs.TableChanges.{change_of};
 ghost use Rattle.cert_text.specs.inside.Parts.{sizes};
 
 use super::lines::take_row_numbers;
 use super::numbers::{below, take_count_to, take_ordinal_to, take_signed_to, take_text};
 use super::sizes::Size;
-use crate::rows::is_before;
 use dual_model::RampRow;
+use table_list::{Change, is_before};
 
 /// The first line of such a table.
 #[derive(Clone, Copy)]
@@ -18,17 +18,6 @@ pub(crate) struct Next {
     pub(crate) k: u64,
     /// How many changes follow.
     pub(crate) changes: u64,
-}
-
-/// A number that is another one than in the table before. Units and periods count from 0.
-#[derive(Clone, Copy)]
-pub(crate) enum Change {
-    /// The price of demand in period `t`.
-    Demand { t: u32, price: i64 },
-    /// The price of reserve in period `t`.
-    Reserve { t: u32, price: i64 },
-    /// The ramp row of its unit and period; one that is all 0 takes the row away.
-    Ramps(RampRow),
 }
 
 /// The scale, and how many changes follow.
@@ -59,12 +48,12 @@ pub(crate) fn take_change<'a>(bytes: &'a [u8], size: &Size) -> Option<(Change, &
 {
     if let Some(rest) = take_text(bytes, b"p ") {
         let ((t, price), rest) = take_price(rest)?;
-        let t = below(t, size.periods)?;
+        let t = below(t, size.periods)? as usize;
         return Some((Change::Demand { t, price }, rest));
     }
     if let Some(rest) = take_text(bytes, b"m ") {
         let ((t, price), rest) = take_price(rest)?;
-        let t = below(t, size.periods)?;
+        let t = below(t, size.periods)? as usize;
         return Some((Change::Reserve { t, price }, rest));
     }
     let rest = take_text(bytes, b"r ")?;

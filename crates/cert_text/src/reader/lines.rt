@@ -13,8 +13,8 @@ use super::numbers::{
 };
 use super::sizes::Size;
 use crate::cert::{CertNode, Version};
-use crate::rows::is_before;
 use dual_model::RampRow;
+use table_list::is_before;
 use uc_model::Cell;
 
 // Money up to the end of the line.

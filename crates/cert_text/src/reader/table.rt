@@ -3,7 +3,8 @@
 ghost use Rattle.std.specs.Prelude.{◌≡◌, None, IfOk, OnOk, IfSome, Ok, Err, option_copied};
 ghost use Rattle.cert_text.specs.Grammar.{AreSizes};
 ghost use Rattle.cert_text.specs.CertificateText.{told_from};
-ghost use Rattle.cert_text.specs.inside.Drafts.{last_table, IsDrafted};
+ghost use Rattle.cert_text.specs.inside.Drafts.{IsDrafted};
+ghost use Rattle.table_list.specs.TableChanges.{last_table};
 ghost use Rattle.cert_text.specs.inside.Parts.{GivesPart, ramp_rows_part, ramps_part, numbers_part, table_part, next_part, told_part, tables_part, sizes};
 
 use super::changes::take_next_line;
@@ -16,6 +17,7 @@ use super::words::{Price, take_row};
 use crate::cert::Version;
 use dual_model::{RampRow, Table};
 use std::alloc::Global;
+use table_list::TableList;
 
 // So many rows of ramp multipliers, in place of what the list had.
 fn take_ramp_rows<'a>(
@@ -108,7 +110,7 @@ fn take_next<'a>(
 }
 
 // The table of which the next one tells its difference: the last one, but in the first version.
-fn told_from(version: Version, tables: &[Table]) -> Option<&Table>
+fn told_from(version: Version, tables: &TableList) -> Option<&Table>
     ensures { option_copied result ≡ told_from version (last_table tables.now) }
 {
     match version {
@@ -121,7 +123,7 @@ fn told_from(version: Version, tables: &[Table]) -> Option<&Table>
 fn take_told<'a>(
     alloc: Global,
     size: &Size,
-    tables: &[Table],
+    tables: &TableList,
     bytes: &'a [u8],
     draft: &mut Draft,
 ) -> Result<(Table, &'a [u8]), Stop<'a>>
@@ -142,17 +144,17 @@ pub(crate) fn take_tables<'a>(
     alloc: Global,
     size: &Size,
     bytes: &'a [u8],
-) -> Result<(Vec<Table>, &'a [u8]), Stop<'a>>
+) -> Result<(TableList, &'a [u8]), Stop<'a>>
     requires { AreSizes (sizes size.now) }
-    ensures { GivesPart (λ r. (r.0.items, r.1.now)) result
+    ensures { GivesPart (λ r. (r.0, r.1.now)) result
         (tables_part (sizes size.now) size.now.tables None bytes.now) }
 {
-    let mut tables = Vec::new(alloc);
+    let mut tables = TableList::new(alloc);
     let mut draft = Draft::new(alloc);
     let mut rest = bytes;
     for _ in 0..size.tables {
-        let (table, behind) = take_told(alloc, size, tables.as_slice(), rest, &mut draft)?;
-        tables.push(table)?;
+        let (table, behind) = take_told(alloc, size, &tables, rest, &mut draft)?;
+        tables = tables.push(alloc, table)?;
         rest = behind;
     }
     Ok((tables, rest))

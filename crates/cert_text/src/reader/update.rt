@@ -3,27 +3,28 @@
 ghost use Rattle.std.specs.Prelude.{◌≡◌, ◌<◌, ◌∷◌, [], ◌++◌, ◌&&◌, pos, not, false, true, None, length, slice_index_or, slice_set, option_map, IfOk, OnOk, MatchOption, Ok, Err};
 ghost use Rattle.std.specs.Ordering.{int_eq};
 ghost use Rattle.dual_model.specs.Prices.{AreRising, row_of};
-ghost use Rattle.cert_text.specs.Changes.{is_before, is_none, placed, with_row};
+ghost use Rattle.table_list.specs.Changes.{is_before, is_none, placed, with_row};
 ghost use Rattle.cert_text.specs.inside.Forms.{comes_behind, is_other, change_at};
-ghost use Rattle.cert_text.specs.inside.Drafts.{change_of, drafted, so_far, LieBefore, starts_before, differs, IsPassed, IsRowSet, HasPrice, ArePriced, IsUnderway, IsMade};
+ghost use Rattle.cert_text.specs.inside.Drafts.{drafted, so_far, LieBefore, starts_before, differs, IsPassed, IsRowSet, HasPrice, ArePriced, IsUnderway, IsMade};
+ghost use Rattle.table_list.specs.TableChanges.{change_of};
 ghost use Rattle.cert_text.specs.inside.Parts.{GivesPart, line_of, changed_part, sizes};
 
-use super::changes::{Change, comes_behind, take_change};
+use super::changes::{comes_behind, take_change};
 use super::draft::Draft;
 use super::sizes::Size;
 use super::stop::Stop;
-use crate::rows::{is_before, no_row};
 use dual_model::RampRow;
+use table_list::{Change, is_before, no_row};
 use uc_model::NoMemory;
 
 // Sets the price of period t, counted from 0, and answers whether it is another one than before.
-fn set_price(prices: &mut Vec<i64>, t: u32, price: &i64) -> bool
+fn set_price(prices: &mut Vec<i64>, t: usize, price: &i64) -> bool
     requires { t < length prices.old.items }
     ensures other { result ≡ not (int_eq (slice_index_or prices.old.items t (pos 0)) price.now) }
     ensures set { prices.new.items ≡ slice_set prices.old.items t price.now }
 {
-    let other = prices[t as usize] != *price;
-    prices[t as usize] = *price;
+    let other = prices[t] != *price;
+    prices[t] = *price;
     other
 }
 

@@ -48,7 +48,7 @@ pub(crate) fn take_certificate(
         b,
         bound,
         schedule,
-        tables: List::from_vec(tables),
+        tables,
         tree: List::from_vec(tree),
     };
     Ok((size.version, cert, rest))

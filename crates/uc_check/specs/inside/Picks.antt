@@ -9,7 +9,7 @@ use Rattle.schedule_check.specs.SizedNumbers.{HasSizedNumbers}
 use Rattle.branch_tree.specs.Claims.{written_of}
 pub use Rattle.cert_text.specs.declared.cert.Cert.{Cert}
 use Rattle.report.specs.declared.fault.Fault.{Fault}
-use Rattle.report.specs.declared.fault.Fault.TheVariants.{NoUplift}
+use Rattle.report.specs.declared.fault.Fault.TheVariants.{NoUplift, Memory}
 use Rattle.uc_check.specs.Uplifting.{Printed, Table, IsWholeSchedule, IsPriceTable, HasNoUplifts}
 
 -- the schedule and the table of which uplifts are
@@ -17,9 +17,10 @@ pub record ArePicked (cert : Cert) (number : ℕ) (printed : Printed) (table : T
   pub schedule : IsWholeSchedule (written_of cert.schedule) printed
   pub prices : IsPriceTable cert.tables number table
 
--- why there are none
+-- why there are none; that memory was refused says nothing of them
 abbrev pub IsUnpicked : Cert → ℕ → Fault → Type 0
 IsUnpicked cert number (NoUplift refusal) = HasNoUplifts (written_of cert.schedule) cert.tables number refusal
+IsUnpicked cert number Memory = Unit {0}
 IsUnpicked cert number _ = ⊥
 
 -- what a schedule and a table have to meet to have uplifts

@@ -5,7 +5,7 @@ use Rattle.dual_model.proofs.Covers.{certificates_claim_truly}
 use Rattle.branch_tree.specs.Claims.{written_of}
 use Rattle.cert_check.specs.Answers.{is_none}
 use Rattle.cert_check.specs.inside.Nodes.{IsFirstCode}
-use Rattle.cert_check.specs.inside.Numbers.{HasLawfulNumbers, IsFirstOff}
+use Rattle.cert_check.specs.inside.Numbers.{IsFirstOffOf}
 use Rattle.cert_check.proofs.Listed.{checkable, tables-from, schedule-from, claim-fits, refused-schedule, refused-1, refused-8, refused-9, refused-10, refused-node, accepted, cost-is, bound-is, schedule-is}
 use Rattle.cert_check.proofs.certificate.check.Goals as goal
 
@@ -22,18 +22,18 @@ pub returns-in-Some-clause-refused : goal.returns-in-Some-clause-refused
 returns-in-Some-clause-refused c = λ d e.
     refused-1 c.args.instance.now d c.args.cert.now c.in-Some.i (c.in-Some.i + 1) e c.requires.text (c.fits_instance.ensures.0 c.if-not-fits_instance.false)
     (c.reads_prices.ensures.0 c.if-not-reads_prices.false)
-    (subst (λ tables. IsFirstOff tables c.in-Some.i) c.as_slice.ensures c.in-Some.ensures) (omega arith)
+    (subst (IsFirstOffOf c.args.cert.now.tables) c.in-Some.is c.in_ok-off.ensures) (omega arith)
 
 pub first_unsound-requires-clause-checkable : goal.first_unsound-requires-clause-checkable
 first_unsound-requires-clause-checkable c =
     checkable c.args.instance.now c.args.cert.now c.requires.text (c.fits_instance.ensures.0 c.if-not-fits_instance.false)
-    (subst (λ tables. All HasLawfulNumbers tables) c.as_slice.ensures c.in_default.ensures)
+    (subst (IsFirstOffOf c.args.cert.now.tables) c.in_default.is c.in_ok-off.ensures)
 
 pub returns-in-Err-clause-refused : goal.returns-in-Err-clause-refused
 returns-in-Err-clause-refused c = λ d e.
     let fits = c.fits_instance.ensures.0 c.if-not-fits_instance.false in
     let reads = c.reads_prices.ensures.0 c.if-not-reads_prices.false in
-    let numbers = subst (λ tables. All HasLawfulNumbers tables) c.as_slice.ensures c.in_default.ensures in
+    let numbers = (subst (IsFirstOffOf c.args.cert.now.tables) c.in_default.is c.in_ok-off.ensures) in
     refused-schedule c.args.instance.now d (written_of c.args.cert.now.schedule) c.in-Err.code
     (tables-from c.args.instance.now d c.args.cert.now e c.requires.text fits reads numbers) (schedule-is d c.args.cert.now e) c.in-Err.ensures.refused
 
@@ -41,7 +41,7 @@ pub returns-then-not-does_claim_fit-clause-refused : goal.returns-then-not-does_
 returns-then-not-does_claim_fit-clause-refused c = λ d e.
     let fits = c.fits_instance.ensures.0 c.if-not-fits_instance.false in
     let reads = c.reads_prices.ensures.0 c.if-not-reads_prices.false in
-    let numbers = subst (λ tables. All HasLawfulNumbers tables) c.as_slice.ensures c.in_default.ensures in
+    let numbers = (subst (IsFirstOffOf c.args.cert.now.tables) c.in_default.is c.in_ok-off.ensures) in
     refused-8 c.args.instance.now d c.args.cert.now e
     (schedule-from c.args.instance.now d c.args.cert.now e c.requires.text fits reads numbers c.in-Ok.cost c.in-Ok.ensures.cost)
     (λ claim. true≢false (sym (c.does_claim_fit.ensures.1 claim) ∙ c.if-not-does_claim_fit.true))
@@ -50,7 +50,7 @@ pub returns-in-Ok-Some-clause-refused : goal.returns-in-Ok-Some-clause-refused
 returns-in-Ok-Some-clause-refused c = λ d e.
     let fits = c.fits_instance.ensures.0 c.if-not-fits_instance.false in
     let reads = c.reads_prices.ensures.0 c.if-not-reads_prices.false in
-    let numbers = subst (λ tables. All HasLawfulNumbers tables) c.as_slice.ensures c.in_default.ensures in
+    let numbers = (subst (IsFirstOffOf c.args.cert.now.tables) c.in_default.is c.in_ok-off.ensures) in
     let schedule = schedule-from c.args.instance.now d c.args.cert.now e c.requires.text fits reads numbers c.in-Ok.cost c.in-Ok.ensures.cost in
     let claim = claim-fits d c.args.cert.now e (c.does_claim_fit.ensures.0 c.if-not-does_claim_fit.false) in
     refused-node c.args.instance.now d c.args.cert.now c.in-Ok-Some.code e (record { schedule = schedule; claim = claim })
@@ -60,7 +60,7 @@ pub returns-in-Ok-None-clause-holds : goal.returns-in-Ok-None-clause-holds
 returns-in-Ok-None-clause-holds c =
     let fits = c.fits_instance.ensures.0 c.if-not-fits_instance.false in
     let reads = c.reads_prices.ensures.0 c.if-not-reads_prices.false in
-    let numbers = subst (λ tables. All HasLawfulNumbers tables) c.as_slice.ensures c.in_default.ensures in
+    let numbers = (subst (IsFirstOffOf c.args.cert.now.tables) c.in_default.is c.in_ok-off.ensures) in
     record {
       holds = λ d e.
           let schedule = schedule-from c.args.instance.now d c.args.cert.now e c.requires.text fits reads numbers c.in-Ok.cost c.in-Ok.ensures.cost in
@@ -78,7 +78,7 @@ pub returns-in-Ok-None-clause-claims : goal.returns-in-Ok-None-clause-claims
 returns-in-Ok-None-clause-claims c =
     let fits = c.fits_instance.ensures.0 c.if-not-fits_instance.false in
     let reads = c.reads_prices.ensures.0 c.if-not-reads_prices.false in
-    let numbers = subst (λ tables. All HasLawfulNumbers tables) c.as_slice.ensures c.in_default.ensures in
+    let numbers = (subst (IsFirstOffOf c.args.cert.now.tables) c.in_default.is c.in_ok-off.ensures) in
     let d = c.requires.text.certificate in
     let e = c.requires.text.listed in
     let schedule = schedule-from c.args.instance.now d c.args.cert.now e c.requires.text fits reads numbers c.in-Ok.cost c.in-Ok.ensures.cost in

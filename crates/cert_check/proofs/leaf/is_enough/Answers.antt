@@ -7,7 +7,7 @@ use Rattle.cert_check.proofs.leaf.is_enough.Goals as goal
 
 pub returns-in-Some : goal.returns-in-Some
 returns-in-Some c =
-    let k = c.args.table.now.k in
+    let k = c.args.k.now in
     let r = c.is_floor_enough.result in
     let value_fits : FitsSigned w128 c.in-Some.value = search rules in
     let bound_fits : FitsSigned w128 c.args.bound.now = search rules in

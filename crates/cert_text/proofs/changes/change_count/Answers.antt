@@ -1,5 +1,5 @@
 -- The changes are those of demand, of reserve and of ramps.
-use Rattle.cert_text.specs.Changes.{OfDemand, OfReserve}
+use Rattle.table_list.specs.Changes.{OfDemand, OfReserve}
 use Rattle.cert_text.proofs.Written.{change_count_is}
 use Rattle.cert_text.proofs.changes.change_count.Goals as goal
 

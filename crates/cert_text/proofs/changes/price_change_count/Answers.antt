@@ -1,6 +1,7 @@
 -- Each turn counts the line of its period; past the shorter list there is none.
 use Rattle.std.proofs.Common.{length, ap, arith}
-use Rattle.cert_text.proofs.Written.{next_price_count, last_price}
+use Rattle.cert_text.proofs.Written.{next_price_count}
+use Rattle.table_list.proofs.PriceChanges.{last_price}
 use Rattle.cert_text.proofs.changes.price_change_count.Goals as goal
 
 pub loop-t-preserved : goal.loop-t-preserved

@@ -1,6 +1,6 @@
 -- Those counted, and those that are still to be counted, are all.
 use Rattle.std.proofs.Common.{◌≡◌, ℕ, ℤ, ◌+◌, ◌≤◌, length, drop}
-use Rattle.cert_text.specs.Changes.{Change, price_changes}
+use Rattle.table_list.specs.Changes.{Change, price_changes}
 use Rattle.cert_text.proofs.changes.price_change_count.Given as goal
 
 abbrev pub invariant-loop-t : goal.invariant-loop-t

@@ -2,8 +2,9 @@
 use Rattle.std.proofs.Common.{sym, ap, arith}
 use Rattle.std.specs.List.{flat_map}
 use Rattle.cert_text.specs.CertificateText.{change_line}
-use Rattle.cert_text.specs.inside.WrittenParts.{price_change}
-use Rattle.cert_text.proofs.Written.{next_price, last_price}
+use Rattle.table_list.specs.Passing.{price_change}
+use Rattle.cert_text.proofs.Written.{next_price}
+use Rattle.table_list.proofs.PriceChanges.{last_price}
 use Rattle.cert_text.proofs.changes.put_price_changes.Goals as goal
 
 pub loop-t-init : goal.loop-t-init

@@ -1,9 +1,9 @@
 -- What ends with the lines that are still to be put has all lines.
 use Rattle.std.proofs.Common.{drop}
 use Rattle.std.specs.List.{flat_map}
-use Rattle.cert_text.specs.Changes.{price_changes}
+use Rattle.table_list.specs.Changes.{price_changes}
 use Rattle.cert_text.specs.CertificateText.{change_line}
-use Rattle.cert_text.specs.inside.WrittenParts.{price_change}
+use Rattle.table_list.specs.Passing.{price_change}
 use Rattle.cert_text.proofs.changes.put_price_changes.Given as goal
 
 abbrev pub invariant-loop-t : goal.invariant-loop-t

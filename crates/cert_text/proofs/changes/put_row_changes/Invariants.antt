@@ -1,7 +1,7 @@
 -- What ends with the lines that are still to be put has all lines; each turn passes a row.
 use Rattle.std.proofs.Common.{◌+◌, length}
 use Rattle.std.specs.List.{flat_map}
-use Rattle.cert_text.specs.Changes.{row_changes}
+use Rattle.table_list.specs.Changes.{row_changes}
 use Rattle.cert_text.specs.inside.WrittenParts.{row_line}
 use Rattle.cert_text.proofs.changes.put_row_changes.Given as goal
 

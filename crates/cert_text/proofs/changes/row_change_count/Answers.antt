@@ -1,6 +1,6 @@
 -- Each turn counts what is told of the row that it passes.
 use Rattle.std.proofs.Common.{length, ap, arith}
-use Rattle.cert_text.specs.Changes.{row_changes}
+use Rattle.table_list.specs.Changes.{row_changes}
 use Rattle.cert_text.proofs.Written.{next_row_count}
 use Rattle.cert_text.proofs.changes.row_change_count.Goals as goal
 

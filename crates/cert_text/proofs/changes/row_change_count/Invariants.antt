@@ -1,6 +1,6 @@
 -- Those counted, and those that are still to be counted, are all; each turn passes a row.
 use Rattle.std.proofs.Common.{◌≡◌, ◌+◌, ◌≤◌, length}
-use Rattle.cert_text.specs.Changes.{row_changes}
+use Rattle.table_list.specs.Changes.{row_changes}
 use Rattle.cert_text.proofs.changes.row_change_count.Given as goal
 
 abbrev pub invariant-loop-passed : goal.invariant-loop-passed

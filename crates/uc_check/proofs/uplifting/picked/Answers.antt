@@ -1,8 +1,5 @@
 -- What lacks of the schedule comes before what lacks of the table.
-use Rattle.std.proofs.Common.{subst}
-use Rattle.branch_tree.specs.Claims.{written_of}
 use Rattle.report.specs.declared.fault.Fault.TheVariants.{NoUplift}
-use Rattle.uc_check.specs.Uplifting.{HasNoUplifts}
 use Rattle.uc_check.specs.inside.Picks.{IsUnpicked}
 use Rattle.uc_check.proofs.Verdicts.{handed_up}
 use Rattle.uc_check.proofs.uplifting.picked.Goals as goal
@@ -14,7 +11,6 @@ returns-in_err-printed-clause-refused c =
 
 pub returns-in_err-table-clause-refused : goal.returns-in_err-table-clause-refused
 returns-in_err-table-clause-refused c =
-    handed_up c.from_residual-in_err-table.result (NoUplift c.in_err-table.field-0.0) (IsUnpicked c.args.cert.now c.args.number)
+    handed_up c.from_residual-in_err-table.result c.in_err-table.field-0.0 (IsUnpicked c.args.cert.now c.args.number)
     c.from_residual-in_err-table.ensures.1
-    (subst (λ tables. HasNoUplifts (written_of c.args.cert.now.schedule) tables c.args.number c.in_err-table.field-0.0) c.as_slice.ensures
-    (c.in_err-table.ensures.refused (written_of c.args.cert.now.schedule) c.in_ok-printed.printed.now c.in_ok-printed.ensures.whole))
+    (c.in_err-table.ensures.refused c.in_ok-printed.printed.now c.in_ok-printed.ensures.whole)

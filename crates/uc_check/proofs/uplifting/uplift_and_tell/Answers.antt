@@ -32,7 +32,7 @@ pub uplifts_of-requires : goal.uplifts_of-requires
 uplifts_of-requires g c =
     let files = g.F.Files.state in
     may_have_uplifts (uplift_asked c.args.asked.now).check (files c.args.files.now) (files c.verify.new.files) c.in_ok-checked.checked
-    c.args.asked.now.table c.in_ok-printed.printed.now c.in_ok-printed.table.now c.in_ok-checked.ensures.verified c.in_ok-printed.ensures.picked
+    c.args.asked.now.table c.in_ok-printed.printed.now c.in_ok-printed.table c.in_ok-checked.ensures.verified c.in_ok-printed.ensures.picked
 
 pub returns-in_err-uplifts-clause-failed : goal.returns-in_err-uplifts-clause-failed
 returns-in_err-uplifts-clause-failed g c = λ err_old err_new.
@@ -58,9 +58,9 @@ returns-in-Ok-clause-done g c = λ err_old err_new.
       unrolled = refl;
       done = record {
         has = has_uplifts asked (files c.args.files.now) (files c.verify.new.files) c.in_ok-checked.checked c.in_ok-printed.printed.now
-            c.in_ok-printed.table.now c.in_ok-uplifts.uplifts checked c.in_ok-printed.ensures.picked c.in_ok-uplifts.ensures.are;
+            c.in_ok-printed.table c.in_ok-uplifts.uplifts checked c.in_ok-printed.ensures.picked c.in_ok-uplifts.ensures.are;
         told = of_uplifts (λ text. IsTold text (sink c.args.out.now) (sink c.tell_uplifts.new.out)) asked.check (files c.args.files.now)
-            (files c.verify.new.files) c.in_ok-checked.checked c.in_ok-printed.table.now c.in_ok-uplifts.uplifts c.numbers_of-numbers.result
+            (files c.verify.new.files) c.in_ok-checked.checked c.in_ok-printed.table c.in_ok-uplifts.uplifts c.numbers_of-numbers.result
             checked c.numbers_of-numbers.ensures c.in-Ok.ensures.told;
         calm = checked.calm;
       };
@@ -78,9 +78,9 @@ returns-clause-failed g c = λ err_old err_new.
     let checked = c.in_ok-checked.ensures.verified in
     record {
       has = has_uplifts asked (files c.args.files.now) (files c.verify.new.files) c.in_ok-checked.checked c.in_ok-printed.printed.now
-          c.in_ok-printed.table.now c.in_ok-uplifts.uplifts checked c.in_ok-printed.ensures.picked c.in_ok-uplifts.ensures.are;
+          c.in_ok-printed.table c.in_ok-uplifts.uplifts checked c.in_ok-printed.ensures.picked c.in_ok-uplifts.ensures.are;
       report = of_uplifts (λ text. FailsToTell text (sink c.args.out.now) (sink c.tell_uplifts.new.out)) asked.check (files c.args.files.now)
-          (files c.verify.new.files) c.in_ok-checked.checked c.in_ok-printed.table.now c.in_ok-uplifts.uplifts c.numbers_of-numbers.result
+          (files c.verify.new.files) c.in_ok-checked.checked c.in_ok-printed.table c.in_ok-uplifts.uplifts c.numbers_of-numbers.result
           checked c.numbers_of-numbers.ensures c.in-Err.ensures.failed;
     }
 

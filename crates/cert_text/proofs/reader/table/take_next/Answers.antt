@@ -2,7 +2,7 @@
 use Rattle.std.proofs.Common.{sym, ap, subst, ◌∙◌}
 use Rattle.std.proofs.lemmas.Result.{err_from_is_err_and}
 use Rattle.dual_model.specs.Prices.{AreRising}
-use Rattle.cert_text.specs.Changes.{Table}
+use Rattle.table_list.specs.Changes.{Table}
 use Rattle.cert_text.specs.TextConditions.{IsTableText}
 use Rattle.cert_text.specs.inside.Parts.{sizes, StopsAs}
 use Rattle.cert_text.proofs.PartSteps.{ok_of}

@@ -1,7 +1,7 @@
 -- Numbers that were read are those of a table that has a text.
 use Rattle.std.proofs.Common.{sym, ap, subst, ◌∙◌}
 use Rattle.std.proofs.lemmas.Result.{err_from_is_err_and}
-use Rattle.cert_text.specs.Changes.{Table}
+use Rattle.table_list.specs.Changes.{Table}
 use Rattle.cert_text.specs.TextConditions.{IsTableText}
 use Rattle.cert_text.specs.inside.Parts.{sizes}
 use Rattle.cert_text.proofs.PartSteps.{ok_of}

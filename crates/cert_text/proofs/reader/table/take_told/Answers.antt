@@ -1,8 +1,9 @@
 -- The draft has the numbers of the table that the next one is told from.
 use Rattle.std.proofs.Common.{sym, subst, Option, IfSome}
-use Rattle.cert_text.specs.Changes.{Table}
+use Rattle.table_list.specs.Changes.{Table}
 use Rattle.cert_text.specs.inside.Parts.{sizes, told_part}
-use Rattle.cert_text.specs.inside.Drafts.{IsDrafted, last_table}
+use Rattle.cert_text.specs.inside.Drafts.{IsDrafted}
+use Rattle.table_list.specs.TableChanges.{last_table}
 use Rattle.cert_text.proofs.ChangeSteps.{told_from_last}
 use Rattle.cert_text.proofs.reader.table.take_told.Goals as goal
 

@@ -1,7 +1,7 @@
 -- A row more that comes before is passed; where the first one left doesn't, all have been.
 use Rattle.std.proofs.Common.{◌++◌, ◌∷◌, [], List, ap, sym, subst, ◌∙◌, append_assoc}
 use Rattle.dual_model.specs.Prices.{AreRising}
-use Rattle.cert_text.specs.Changes.{RampRow}
+use Rattle.table_list.specs.Changes.{RampRow}
 use Rattle.cert_text.specs.inside.Drafts.{LieBefore}
 use Rattle.cert_text.proofs.RowSteps.{lie_before_more, rising_behind}
 use Rattle.cert_text.proofs.reader.update.pass_before.Goals as goal

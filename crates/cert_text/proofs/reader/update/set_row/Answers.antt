@@ -1,6 +1,6 @@
 -- What is looked up and set lies behind the rows that were passed.
 use Rattle.std.proofs.Common.{◌≡◌, true, false, ap, sym, ◌∙◌, rules}
-use Rattle.cert_text.specs.Changes.{RampRow}
+use Rattle.table_list.specs.Changes.{RampRow}
 use Rattle.cert_text.specs.inside.Drafts.{differs}
 use Rattle.cert_text.proofs.RowSteps.{found_behind, row_set}
 use Rattle.cert_text.proofs.reader.update.set_row.Goals as goal

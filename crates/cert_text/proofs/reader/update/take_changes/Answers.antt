@@ -2,9 +2,10 @@
 use Rattle.std.proofs.Common.{ap, ◌∙◌, sym, List, pos}
 use Rattle.std.specs.Option.{option_map}
 use Rattle.std.proofs.lemmas.Result.{err_from_is_err_and}
-use Rattle.cert_text.specs.Changes.{Table, RampRow}
+use Rattle.table_list.specs.Changes.{Table, RampRow}
 use Rattle.cert_text.specs.inside.Parts.{sizes}
-use Rattle.cert_text.specs.inside.Drafts.{change_of, so_far}
+use Rattle.cert_text.specs.inside.Drafts.{so_far}
+use Rattle.table_list.specs.TableChanges.{change_of}
 use Rattle.cert_text.proofs.PartSteps.{ok_of}
 use Rattle.cert_text.proofs.ChangeSteps.{change_more, change_stops_as, changes_done, still_priced}
 use Rattle.cert_text.proofs.reader.update.take_changes.Goals as goal

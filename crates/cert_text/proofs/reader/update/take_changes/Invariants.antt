@@ -2,7 +2,8 @@
 use Rattle.std.proofs.Common.{◌≡◌, ◌-◌, None}
 use Rattle.std.specs.Option.{option_map}
 use Rattle.cert_text.specs.inside.Parts.{changed_part, sizes}
-use Rattle.cert_text.specs.inside.Drafts.{change_of, drafted, so_far, ArePriced, IsUnderway}
+use Rattle.cert_text.specs.inside.Drafts.{drafted, so_far, ArePriced, IsUnderway}
+use Rattle.table_list.specs.TableChanges.{change_of}
 use Rattle.cert_text.proofs.reader.update.take_changes.Given as goal
 
 abbrev pub invariant-loop : goal.invariant-loop

@@ -1,7 +1,8 @@
 -- A change that is within the size stands where it comes behind the last one and says another number.
 use Rattle.std.specs.Option.{option_map}
 use Rattle.cert_text.specs.inside.Parts.{sizes}
-use Rattle.cert_text.specs.inside.Drafts.{change_of, so_far}
+use Rattle.cert_text.specs.inside.Drafts.{so_far}
+use Rattle.table_list.specs.TableChanges.{change_of}
 use Rattle.cert_text.proofs.ChangeSteps.{change_stands, change_barred, no_change, change_has_price}
 use Rattle.cert_text.proofs.reader.update.take_made_change.Goals as goal
 

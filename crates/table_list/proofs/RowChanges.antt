@@ -7,7 +7,7 @@ use Rattle.std.specs.Ordering.{int_eq}
 use Rattle.std.proofs.lemmas.Bool.{and_cases, cond-true, cond-false, cond_both, cases_order, cases_Bool, false_from_ne_true, false≢true, and_left, and_right, ne_eqb, and_from, eq-eqb}
 use Rattle.std.proofs.lemmas.Bool.Decides.{Decides-eqb, Decides-int_eq, Decides-and, Decides-or, Decides-ltb, Decides-like}
 use Rattle.dual_model.specs.Prices.{AreRising, IsRowBefore, row_of}
-use Rattle.cert_text.specs.Changes.{RampRow, is_before, is_none, placed, with_row, no_row, new_row, rows_from, row_changes}
+use Rattle.table_list.specs.Changes.{RampRow, is_before, is_none, placed, with_row, no_row, new_row, rows_from, row_changes}
 
 -- ---- the order of rows
 -- a row comes before another one, or behind it, or is of the same unit and period
@@ -194,7 +194,7 @@ each_with P rows row each here = in_rows rows each
         cond_both (is_before first row) (first ∷ with_row rows row) _ (Each P) (λ e. (each.0, in_rows rows each.1))
         (λ e. cond_both (is_before row first) (placed row (first ∷ rows)) (placed row rows) (Each P) (λ f. in_place (first ∷ rows) each) (λ f. in_place rows each.1))
 
-rise_with : (rows : List RampRow) (row : RampRow) → Rise rows → Rise (with_row rows row)
+pub rise_with : (rows : List RampRow) (row : RampRow) → Rise rows → Rise (with_row rows row)
 rise_with rows row rise = in_rows rows rise
   where
     in_place : (rows : List RampRow) → Each (IsRowBefore row) rows → Rise rows → Rise (placed row rows)

@@ -1,19 +1,19 @@
 //! Rows of ramp multipliers.
 
 ghost use Rattle.std.specs.Prelude.{◌≡◌};
-ghost use Rattle.cert_text.specs.Changes.{is_before, no_row};
+ghost use Rattle.table_list.specs.Changes.{is_before, no_row};
 
 use dual_model::RampRow;
 
 /// A row comes before another: by unit, and then by period.
-pub(crate) fn is_before(first: &RampRow, second: &RampRow) -> bool
+pub fn is_before(first: &RampRow, second: &RampRow) -> bool
     ensures { result ≡ is_before first.now second.now }
 {
     first.g < second.g || (first.g == second.g && first.t < second.t)
 }
 
 /// A row of this one's unit and period that is all 0, which stands for none.
-pub(crate) fn no_row(row: &RampRow) -> RampRow
+pub fn no_row(row: &RampRow) -> RampRow
     ensures { result ≡ no_row row.now }
 {
     RampRow {

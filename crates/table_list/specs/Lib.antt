@@ -1,0 +1,4 @@
+pub mod Changes
+pub mod TableChanges
+pub mod Passing
+pub mod inside
