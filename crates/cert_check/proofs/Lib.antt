@@ -5,5 +5,4 @@ pub mod TextFacts
 pub mod Listed
 pub mod WalkedPaths
 pub mod LeafNumbers
-pub mod Quotients
 pub mod Turns

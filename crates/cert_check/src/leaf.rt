@@ -1,6 +1,6 @@
 //! What a leaf of a certificate's tree claims, and whether it is so.
 
-ghost use Rattle.std.specs.Prelude.{◌≡◌, ◌↔◌, ◌<◌, List, pos, ◌<ℤ◌, ◌≤ℤ◌, All, IfOk, IsTrue, length};
+ghost use Rattle.std.specs.Prelude.{◌≡◌, ◌↔◌, ◌<◌, List, pos, ◌<ℤ◌, All, IfOk, IsTrue, MatchOption, length};
 ghost use Rattle.uc_model.specs.Limits.{IsLawfulInstance};
 ghost use Rattle.uc_model.specs.Schedule.{thermal_count};
 ghost use Rattle.dual_model.specs.Cover.{Bound, Ray};
@@ -9,21 +9,22 @@ ghost use Rattle.dual_model.specs.ValueKind.{IsBlocked};
 ghost use Rattle.cert_text.specs.CertificateText.{LeafNode};
 ghost use Rattle.leaf_values.specs.Entries.{AreEntriesOf};
 ghost use Rattle.leaf_values.specs.Paths.{AreFixesOf, node_of as place_of};
+ghost use Rattle.leaf_values.specs.Reached.{least_value};
 ghost use Rattle.cert_check.specs.Visits.{Node, Table, IsSound, IsSoundNode};
-ghost use Rattle.cert_check.specs.inside.Leaves.{HasFloorOf, IsBoundingBy, IsEnough, IsExcluding, IsLeafNode, IsLoaded, IsLoadedAt, IsPositive, IsReady, IsSameBut, IsValueAt, IsValueFor, HasRoom};
+ghost use Rattle.cert_check.specs.inside.Leaves.{HasRoom, Holds, IsEnough, IsHoldingAt, IsLeafNode, IsLeastFor, IsLoaded, IsLoadedAt, FitsScale, IsReady, IsSameBut, Reaches};
 ghost use Rattle.cert_check.specs.inside.Nodes.{AreCheckable};
 ghost use Rattle.cert_check.specs.inside.Walks.{IsPath, visit_of};
 
 use cert_text::{Cert, CertNode};
 use dual_model::{Fix, Fixing, Table};
 use leaf_values::{
-    ExactRoom, TableEntries, exact_value, fill_fixes, is_empty, is_unscheduled, load, undecided,
-    value,
+    ExactRoom, Least, TableEntries, exact_reaches, fill_fixes, is_empty, is_unscheduled, load,
+    undecided, value,
 };
 use state_walk::Walk;
 use std::alloc::Global;
 use table_list::TableList;
-use uc_model::{Instance, NoMemory, floor_div};
+use uc_model::{Instance, NoMemory};
 
 /// The table of a number, from 0, and its entries.
 #[derive(Drop)]
@@ -31,6 +32,20 @@ pub(crate) struct Loaded {
     number: u32,
     table: Table,
     entries: TableEntries,
+}
+
+/// What a leaf says of a table: it bounds the cost by so much, or it is a ray that excludes all.
+#[derive(Clone, Copy)]
+pub(crate) enum Claim {
+    Bound(i128),
+    Ray,
+}
+
+/// That, by VE where it is exact, else by V.
+#[derive(Clone, Copy)]
+pub(crate) struct Question {
+    exact: bool,
+    claim: Claim,
 }
 
 /// What the leaves checked so far leave for the next ones: room for walks, exact ones too, and for what a path decides, and the
@@ -102,9 +117,14 @@ impl Leaves {
         ensures sound { IfOk result (λ sound. (place : Node) → AreFixesOf instance.now place self.old.fixes.items
             → IsTrue sound ↔ IsSoundNode instance.now cert.now.tables cert.now.bound place (LeafNode (Bound exact number))) }
     {
-        let value = self.value_at(alloc, instance, &cert.tables, number, exact)?;
-        let k = cert.tables.scale(number as usize);
-        Ok(bounds(&k, &cert.bound, &value))
+        match cert.bound {
+            Some(bound) => {
+                let claim = Claim::Bound(bound);
+                let question = Question { exact, claim };
+                self.holds_at(alloc, instance, &cert.tables, number, &question)
+            }
+            None => Ok(false),
+        }
     }
 
     // Whether the table of that number is a ray that leaves no schedule at the node: by VE where it is exact, else by V.
@@ -124,9 +144,9 @@ impl Leaves {
         ensures sound { IfOk result (λ sound. (place : Node) → AreFixesOf instance.now place self.old.fixes.items
             → IsTrue sound ↔ IsSoundNode instance.now cert.now.tables cert.now.bound place (LeafNode (Ray exact number))) }
     {
-        let value = self.value_at(alloc, instance, &cert.tables, number, exact)?;
-        let k = cert.tables.scale(number as usize);
-        Ok(excludes(&k, &value))
+        let claim = Claim::Ray;
+        let question = Question { exact, claim };
+        self.holds_at(alloc, instance, &cert.tables, number, &question)
     }
 
     // Whether thermal unit `g` is blocked at the node: it has no schedule of its own there where that is asked, else no pattern.
@@ -153,38 +173,38 @@ impl Leaves {
         }
     }
 
-    // The value of the node at the table of that number, which is loaded if another one was: VE where it is exact, else V.
-    fn value_at(
+    // Whether what is asked holds of the node and the table of that number, which is loaded if another one was.
+    fn holds_at(
         &mut self,
         alloc: Global,
         instance: &Instance,
         tables: &TableList,
         number: u32,
-        exact: bool,
-    ) -> Result<Option<i128>, NoMemory>
+        question: &Question,
+    ) -> Result<bool, NoMemory>
         requires lawful { IsLawfulInstance instance.now }
         requires tables { All (IsLawfulTable instance.now) tables.now }
         requires ready { IsReady instance.now tables.now self.old }
         requires number { number < length tables.now }
-        ensures ready { IfOk result (λ value. IsReady instance.now tables.now self.new) }
-        ensures value { IfOk result (λ value. (place : Node) → AreFixesOf instance.now place self.old.fixes.items
-            → IsValueAt exact instance.now tables.now place number value) }
+        ensures ready { IfOk result (λ holds. IsReady instance.now tables.now self.new) }
+        ensures holds { IfOk result (λ holds. (place : Node) → AreFixesOf instance.now place self.old.fixes.items
+            → IsHoldingAt question.now instance.now tables.now place number holds) }
     {
         let kept = self.loaded.take();
         let mut loaded = loaded_of(alloc, kept, &mut self.walk, instance, tables, number)?;
-        let value = self.value_of(&mut loaded.entries, instance, &loaded.table, exact);
+        let holds = self.holds(&mut loaded.entries, instance, &loaded.table, question);
         self.loaded = Some(loaded);
-        Ok(value)
+        Ok(holds)
     }
 
-    // The value of the node at the table of the entries: VE where it is exact, else V.
-    fn value_of(
+    // Whether what is asked holds of the node and the table of the entries.
+    fn holds(
         &mut self,
         entries: &mut TableEntries,
         instance: &Instance,
         table: &Table,
-        exact: bool,
-    ) -> Option<i128>
+        question: &Question,
+    ) -> bool
         requires lawful { IsLawfulInstance instance.now }
         requires table { IsLawfulTable instance.now table.now }
         requires entries { AreEntriesOf instance.now table.now entries.old }
@@ -192,12 +212,46 @@ impl Leaves {
         ensures entries { AreEntriesOf instance.now table.now entries.new }
         ensures kept { IsSameBut self.old self.new }
         ensures room { HasRoom instance.now self.new }
-        ensures value { (place : Node) → AreFixesOf instance.now place self.old.fixes.items → IsValueFor exact instance.now place table.now result }
+        ensures holds { (place : Node) → AreFixesOf instance.now place self.old.fixes.items → IsTrue result ↔ Holds question.now instance.now place table.now }
+    {
+        match least_for(table, &question.claim) {
+            Some(least) => self.reaches(entries, instance, table, question.exact, &least),
+            None => false,
+        }
+    }
+
+    // Whether the value of the node at the table of the entries is the least one or more, or there is none for a blocked unit.
+    fn reaches(
+        &mut self,
+        entries: &mut TableEntries,
+        instance: &Instance,
+        table: &Table,
+        exact: bool,
+        least: &Least,
+    ) -> bool
+        requires lawful { IsLawfulInstance instance.now }
+        requires table { IsLawfulTable instance.now table.now }
+        requires entries { AreEntriesOf instance.now table.now entries.old }
+        requires room { HasRoom instance.now self.old }
+        requires scale { pos 0 <ℤ least.now.scale }
+        ensures entries { AreEntriesOf instance.now table.now entries.new }
+        ensures kept { IsSameBut self.old self.new }
+        ensures room { HasRoom instance.now self.new }
+        ensures reaches { (place : Node) → AreFixesOf instance.now place self.old.fixes.items
+            → IsTrue result ↔ Reaches exact instance.now place table.now (least_value least.now) }
     {
         if exact {
-            exact_value(entries, &mut self.exact, instance, table, &self.fixes)
+            exact_reaches(
+                entries,
+                &mut self.exact,
+                instance,
+                table,
+                &self.fixes,
+                least,
+            )
         } else {
-            value(entries, &mut self.walk, instance, &self.fixes)
+            let value = value(entries, &mut self.walk, instance, &self.fixes);
+            is_enough(&value, least)
         }
     }
 }
@@ -243,45 +297,28 @@ fn loaded_of(
     })
 }
 
-// Whether a table of that scale bounds by what is claimed where the node has that value.
-fn bounds(k: &i64, bound: &Option<i128>, value: &Option<i128>) -> bool
-    ensures { IsTrue result ↔ IsBoundingBy k.now value.now bound.now }
+// The least value for the claim to hold of the table, as a bound at a scale above 0, and as a ray at the scale 0; there it is
+// to be above 0.
+fn least_for(table: &Table, claim: &Claim) -> Option<Least>
+    ensures { MatchOption result (¬ FitsScale table.now.k claim.now) (IsLeastFor table.now.k claim.now) }
 {
-    match bound {
-        Some(bound) => *k > 0 && is_enough(k, bound, value),
-        None => false,
+    match claim {
+        Claim::Bound(bound) if table.k() > 0 => Some(Least {
+            times: *bound,
+            scale: table.k(),
+        }),
+        Claim::Ray if table.k() == 0 => Some(Least { times: 1, scale: 1 }),
+        _ => None,
     }
 }
 
-fn is_enough(k: &i64, bound: &i128, value: &Option<i128>) -> bool
-    requires { pos 0 <ℤ k.now }
-    ensures { IsTrue result ↔ IsEnough k.now bound.now value.now }
+// Whether the value is the least one or more, or there is none.
+fn is_enough(value: &Option<i128>, least: &Least) -> bool
+    requires { pos 0 <ℤ least.now.scale }
+    ensures { IsTrue result ↔ IsEnough (least_value least.now) value.now }
 {
     match value {
-        Some(value) => is_floor_enough(k, *bound, *value),
-        None => true,
-    }
-}
-
-fn is_floor_enough(k: &i64, bound: i128, value: i128) -> bool
-    requires { pos 0 <ℤ k.now }
-    ensures { IsTrue result ↔ HasFloorOf k.now value bound }
-{
-    floor_div(value, i128::from(*k)) >= bound
-}
-
-// Whether a table of that scale is a ray that excludes all where the node has that value.
-fn excludes(k: &i64, value: &Option<i128>) -> bool
-    ensures { IsTrue result ↔ IsExcluding k.now value.now }
-{
-    *k == 0 && is_positive(value)
-}
-
-fn is_positive(value: &Option<i128>) -> bool
-    ensures { IsTrue result ↔ IsPositive value.now }
-{
-    match value {
-        Some(value) => *value > 0,
+        Some(value) => least.is_reached(*value),
         None => true,
     }
 }

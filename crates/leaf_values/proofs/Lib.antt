@@ -3,3 +3,4 @@ pub mod Reckoned
 pub mod NodeTotals
 pub mod PathsOfNodes
 pub mod ExactSums
+pub mod GainSteps

@@ -8,10 +8,11 @@ use Rattle.dual_model.specs.NodeValue.{IsNodeValue, constant_at}
 use Rattle.dual_model.specs.PatternValue.{HasNoPattern, IsLeastValue}
 use Rattle.dual_model.specs.TableValue.{AreTermsOf, IsUnitValueOf}
 use Rattle.dual_model.proofs.TableValues.{unit_value-of}
-use Rattle.leaf_values.specs.Entries.{TableEntries, UnitEntry, AreEntriesOf, AreUnitsReckoned, MAX_REST, IsEntryOf, IsReckoned, entry_at}
+use Rattle.leaf_values.specs.Entries.{TableEntries, UnitEntry, AreEntriesOf, AreExactEntriesOf, AreUnitsReckoned, MAX_REST, IsEntryOf, IsReckoned, entry_at}
 use Rattle.uc_model.specs.declared.instance.Instance.{Instance}
 use Rattle.dual_model.specs.declared.table.Table.{Table}
 use Rattle.leaf_values.specs.Paths.{Fix, Node, AreFixesOf, fix_at}
+use Rattle.leaf_values.specs.inside.ExactTotals.{AreDecided}
 use Rattle.leaf_values.specs.inside.Totals.{AreReckonedFor, HasNoValue, IsReckonedFor, IsTotal, part_of, value_of}
 
 -- ---- the entries are those of the table as before
@@ -30,16 +31,22 @@ still_entry instance table g fix old new entry after = record {
 }
 
 pub entries_kept : (instance : Instance) (table : Table) (fixes : List Fix) (old new : TableEntries) → AreEntriesOf instance table old
-    → AreReckonedFor instance fixes (thermal_count instance) old.units.items new.units.items → new.rest ≡ old.rest
+    → AreReckonedFor instance fixes (thermal_count instance) old.units.items new.units.items → new.exact ≡ old.exact → new.rest ≡ old.rest
     → AreEntriesOf instance table new
-entries_kept instance table fixes old new entries after rest = record {
+entries_kept instance table fixes old new entries after exact rest = record {
   reckoned = record {
     units = reckoned_units instance fixes old.units.items new.units.items entries.reckoned.units after;
     rest = subst (λ z. unsigned_abs z ≤ MAX_REST) (sym rest) entries.reckoned.rest;
   };
   unit = λ g h. still_entry instance table g (fix_at fixes g) (entry_at old g) (entry_at new g) (entries.unit g h) (after.unit g h);
+  exact = subst (λ known. AreExactEntriesOf instance table known.items) (sym exact) entries.exact;
   rest = rest ∙ entries.rest;
 }
+
+-- they are for what a node decides
+pub decided_units : (instance : Instance) (node : Node) (fixes : List Fix) (old new : List UnitEntry)
+    → AreReckonedFor instance fixes (thermal_count instance) old new → AreFixesOf instance node fixes → AreDecided instance node new
+decided_units instance node fixes old new after are = λ g h. subst (IsFixOf instance.periods node g) (sym (after.unit g h).fix) (are.fix g h)
 
 -- ---- a unit's value
 least_of : (P : Type 0) (Q : ℤ → Type 0) (value : Option ℤ) (v : ℤ) → MatchOption value P Q → value ≡ Some v → Q v
@@ -48,7 +55,7 @@ least_of P Q value v h e = subst (λ (o : Option ℤ). MatchOption o P Q) e h
 none_of : (P : Type 0) (Q : ℤ → Type 0) (value : Option ℤ) → MatchOption value P Q → value ≡ None → P
 none_of P Q value h e = subst (λ (o : Option ℤ). MatchOption o P Q) e h
 
-unit_value : (instance : Instance) (node : Node) (table : Table) (g : ℕ) (fix : Fix) (entry : UnitEntry) → AreTermsOf instance table g entry.terms
+pub unit_value : (instance : Instance) (node : Node) (table : Table) (g : ℕ) (fix : Fix) (entry : UnitEntry) → AreTermsOf instance table g entry.terms
     → IsReckoned instance.periods (thermal_unit instance g) entry → entry.fix ≡ fix → IsFixOf instance.periods node g fix
     → IsUnitValueOf instance node table g entry.value
 unit_value instance node table g fix entry terms reckoned same decided =

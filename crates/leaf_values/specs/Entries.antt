@@ -2,20 +2,26 @@
 -- relaxation of the reference model by Knueven, Ostrowski and Watson; that each unit's value is kept, with the decisions
 -- that it was reckoned for, is this project's own.
 pub use Rattle.ramp_duals.specs.Sizes.{MAX_CONSTANT}
-use Rattle.std.specs.Prelude.{◌≡◌, ℕ, ◌+◌, ◌*◌, ◌<◌, ◌≤◌, List, [], pos, ◌+ℤ◌, unsigned_abs, length, slice_index_or, None, MatchOption}
+use Rattle.std.specs.Prelude.{◌≡◌, ℕ, ◌+◌, ◌*◌, ◌<◌, ◌≤◌, List, [], pos, ◌+ℤ◌, unsigned_abs, length, slice_index_or, ℤ, Option, None, MatchOption}
 use Rattle.uc_model.specs.Schedule.{thermal_unit, thermal_count}
 use Rattle.uc_model.specs.declared.instance.Instance.{Instance}
 pub use Rattle.uc_model.specs.declared.instance.Thermal.{Thermal}
 use Rattle.uc_model.specs.declared.limits.TheConstants.{MAX_UNITS}
+use Rattle.dual_model.specs.ExactValue.{HasNoUnitSchedule, IsExactUnitValue}
+use Rattle.dual_model.specs.Fixings.{IsFixOf}
 use Rattle.dual_model.specs.NodeValue.{constant_at, renewables_value, system_value}
 use Rattle.dual_model.specs.PatternValue.{HasNoPattern, IsLeastValue}
 use Rattle.dual_model.specs.TableValue.{AreTermsOf}
 use Rattle.uc_model.specs.Terms.{period_count}
 use Rattle.dual_model.specs.UnitTerms.{AreSizedTerms}
+use Rattle.dual_model.specs.declared.node.Fix.{Fix}
+use Rattle.dual_model.specs.declared.node.Node.{Node}
 use Rattle.dual_model.specs.declared.table.Table.{Table}
 use Rattle.dual_model.specs.CostToGo.{IsWithin, MAX_COST_TO_GO}
 use Rattle.system_value.specs.Sizes.{MAX_RENEWABLES, MAX_SYSTEM}
 pub use Rattle.leaf_values.specs.declared.entries.UnitEntry.{UnitEntry}
+pub use Rattle.leaf_values.specs.declared.entries.ExactEntry.{ExactEntry}
+use Rattle.leaf_values.specs.declared.entries.ExactEntry.TheVariants as known
 pub use Rattle.leaf_values.specs.declared.entries.TableEntries.{TableEntries}
 
 -- what doesn't hang on thermal units is at most this in size, and a node's value this
@@ -25,7 +31,7 @@ MAX_REST = MAX_SYSTEM + MAX_RENEWABLES
 abbrev pub MAX_NODE_VALUE : ℕ
 MAX_NODE_VALUE = MAX_REST + MAX_UNITS * (MAX_COST_TO_GO + MAX_CONSTANT)
 
--- the entry of thermal unit g, from 0
+-- the entry of thermal unit g, from 0, and what is known of its exact value
 abbrev pub no_entry : UnitEntry
 no_entry = record {
   terms = record { k = pos 0; pi = []; terms = [] };
@@ -39,6 +45,12 @@ entry_in units g = slice_index_or units g no_entry
 
 abbrev pub entry_at : TableEntries → ℕ → UnitEntry
 entry_at entries = entry_in entries.units.items
+
+abbrev pub exact_in : List ExactEntry → ℕ → ExactEntry
+exact_in exact g = slice_index_or exact g known.Unsought
+
+abbrev pub exact_at : TableEntries → ℕ → ExactEntry
+exact_at entries = exact_in entries.exact.items
 
 -- an entry of the unit, whatever the prices: its value is the least of the patterns that are as its fix decides
 pub record IsReckoned (horizon : ℕ) (unit : Thermal) (entry : UnitEntry) : Type 0 where
@@ -62,8 +74,25 @@ pub record IsEntryOf (instance : Instance) (table : Table) (g : ℕ) (entry : Un
   pub terms : AreTermsOf instance table g entry.terms
   pub constant : entry.constant ≡ constant_at instance table g
 
--- the entries of the instance's units at the table, and what doesn't hang on them
+-- the exact value of unit g at the table, by what a fix decides of it, whatever the node that decides so; None where it has no
+-- schedule of its own
+pub record IsExactByFix (instance : Instance) (table : Table) (g : ℕ) (fix : Fix) (answer : Option ℤ) : Type 0 where
+  pub value : (node : Node) → IsFixOf instance.periods node g fix
+      → MatchOption answer (HasNoUnitSchedule instance node g) (IsExactUnitValue instance node table g)
+  pub size : IsWithin MAX_COST_TO_GO answer
+
+-- what is known of it is so
+abbrev pub IsExactEntryOf : Instance → Table → ℕ → ExactEntry → Type 0
+IsExactEntryOf instance table g known.Unsought = Unit {0}
+IsExactEntryOf instance table g (known.Sought fix value) = IsExactByFix instance table g fix value
+
+pub record AreExactEntriesOf (instance : Instance) (table : Table) (exact : List ExactEntry) : Type 0 where
+  pub count : length exact ≡ thermal_count instance
+  pub unit : (g : ℕ) → g < thermal_count instance → IsExactEntryOf instance table g (exact_in exact g)
+
+-- the entries of the instance's units at the table, what is known of their exact values, and what doesn't hang on them
 pub record AreEntriesOf (instance : Instance) (table : Table) (entries : TableEntries) : Type 0 where
   pub reckoned : AreReckoned instance entries
   pub unit : (g : ℕ) → g < thermal_count instance → IsEntryOf instance table g (entry_at entries g)
+  pub exact : AreExactEntriesOf instance table entries.exact.items
   pub rest : entries.rest ≡ system_value instance table +ℤ renewables_value instance table

@@ -1,4 +1,5 @@
 pub mod Paths
 pub mod Entries
 pub mod ExactRooms
+pub mod Reached
 pub mod inside

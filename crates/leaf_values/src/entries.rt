@@ -13,9 +13,19 @@ pub struct UnitEntry {
     pub(crate) value: Option<i128>,
 }
 
-/// The entries of an instance's thermal units at a table, and what demand, reserves and renewable units add there.
+/// What is known of the exact value of one thermal unit at a table: nothing, or its value for the decisions `fix`, `None`
+/// where it has no schedule of its own that is as they say.
+#[derive(Clone, Copy)]
+pub enum ExactEntry {
+    Unsought,
+    Sought { fix: Fix, value: Option<i128> },
+}
+
+/// The entries of an instance's thermal units at a table, what is known of their exact values, and what demand, reserves and
+/// renewable units add there.
 #[derive(Drop)]
 pub struct TableEntries {
     pub(crate) units: Vec<UnitEntry>,
+    pub(crate) exact: Vec<ExactEntry>,
     pub(crate) rest: i128,
 }

@@ -10,7 +10,7 @@ ghost use Rattle.uc_model.specs.Terms.{period_count};
 ghost use Rattle.dual_model.specs.UnitTerms.{AreSizedTerms};
 ghost use Rattle.leaf_values.specs.Entries.{AreEntriesOf, IsEntryOf, IsReckoned, MAX_CONSTANT, MAX_REST};
 
-use crate::entries::{TableEntries, UnitEntry};
+use crate::entries::{ExactEntry, TableEntries, UnitEntry};
 use crate::fixes::undecided;
 use crate::units::unit_of;
 use cost_curves::Curve;
@@ -22,7 +22,7 @@ use std::alloc::Global;
 use system_value::{renewables_value, system_value};
 use uc_model::{Instance, NoMemory, Terms, sum};
 
-/// The entries of a table's units, with their values where nothing is decided. The only error is `NoMemory`. Takes a
+/// The entries of a table's units, with their values where nothing is decided, and without exact values. The only error is `NoMemory`. Takes a
 /// time that grows as the number of units and the square of the number of periods.
 pub fn load(
     alloc: Global,
@@ -42,8 +42,10 @@ pub fn load(
     for g in 0..instance.thermal.as_slice().len() {
         units.push(entry(alloc, walk, &mut rows, instance, table, g)?)?;
     }
+    let exact = vec![in alloc; ExactEntry::Unsought; instance.thermal.as_slice().len()]?;
     Ok(TableEntries {
         units,
+        exact,
         rest: rest(instance, table),
     })
 }

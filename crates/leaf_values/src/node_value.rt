@@ -76,8 +76,8 @@ fn reckon(entry: &mut UnitEntry, walk: &mut Walk, unit: &Thermal, fix: &Fix)
     }
 }
 
-// Whether two fixes decide the same.
-fn is_same(left: &Fix, right: &Fix) -> bool
+/// Whether two fixes decide the same.
+pub(crate) fn is_same(left: &Fix, right: &Fix) -> bool
     ensures { IsTrue result ↔ (left.now ≡ right.now) }
 {
     is_same_pattern(&left.known, &right.known) && is_same_pattern(&left.on, &right.on)
@@ -89,8 +89,8 @@ fn is_same_pattern(left: &Pattern, right: &Pattern) -> bool
     left.low == right.low && left.high == right.high
 }
 
-// The sum of what each unit adds and what doesn't hang on them; `None` exactly where some unit has no value.
-fn total(entries: &TableEntries, instance: &Instance) -> Option<i128>
+/// The sum of what each unit adds and what doesn't hang on them; `None` exactly where some unit has no value.
+pub(crate) fn total(entries: &TableEntries, instance: &Instance) -> Option<i128>
     requires lawful { IsLawfulInstance instance.now }
     requires entries { AreReckoned instance.now entries.now }
     ensures total { MatchOption result (HasNoValue entries.now (thermal_count instance.now)) (IsTotal entries.now (thermal_count instance.now)) }

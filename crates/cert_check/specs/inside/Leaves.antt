@@ -1,17 +1,22 @@
 -- What the checks of leaves keep for one another, and the tests of a leaf's numbers. This project's own.
-use Rattle.std.specs.Prelude.{◌≡◌, ℕ, ◌<◌, Bool, ℤ, pos, ◌≤ℤ◌, ◌<ℤ◌, Option, Some, None, List, slice_get, length, MatchOption}
-use Rattle.uc_model.specs.Division.{IsFloor}
+use Rattle.std.specs.Prelude.{◌≡◌, ℕ, ◌<◌, ◌⊎◌, ◌↔◌, Bool, ℤ, pos, ◌*ℤ◌, ◌≤ℤ◌, ◌<ℤ◌, Option, Some, None, List, IsTrue, slice_get, length}
 use Rattle.uc_model.specs.Schedule.{thermal_count}
 use Rattle.uc_model.specs.declared.instance.Instance.{Instance}
-use Rattle.dual_model.specs.ValueKind.{IsValueOf, HasBlockedUnit}
+use Rattle.dual_model.specs.Cover.{HasBoundOf, HasPositiveValue}
+use Rattle.dual_model.specs.ValueKind.{HasBlockedUnit}
 use Rattle.dual_model.specs.declared.node.Node.{Node}
 pub use Rattle.dual_model.specs.declared.table.Table.{Table}
 use Rattle.leaf_values.specs.Entries.{AreEntriesOf}
 use Rattle.leaf_values.specs.ExactRooms.{IsRoomOf}
+use Rattle.leaf_values.specs.Reached.{HasValueFrom, least_value}
+use Rattle.leaf_values.specs.declared.least.Least.{Least}
 pub use Rattle.cert_text.specs.declared.cert.CertNode.{CertNode}
 use Rattle.cert_text.specs.declared.cert.CertNode.TheVariants as nodes
+pub use Rattle.cert_check.specs.declared.leaf.Claim.{Claim}
+use Rattle.cert_check.specs.declared.leaf.Claim.TheVariants as claims
 use Rattle.cert_check.specs.declared.leaf.Leaves.{Leaves}
 pub use Rattle.cert_check.specs.declared.leaf.Loaded.{Loaded}
+pub use Rattle.cert_check.specs.declared.leaf.Question.{Question}
 
 -- a leaf, whose table or unit is there
 abbrev pub IsLeafNode : ℕ → ℕ → CertNode → Type 0
@@ -53,39 +58,41 @@ pub record IsSameBut (old new : Leaves) : Type 0 where
   pub fixes : new.fixes ≡ old.fixes
   pub loaded : new.loaded ≡ old.loaded
 
--- the value of the node, of the kind, at the table, or none where a unit is blocked
-abbrev pub IsValueFor : Bool → Instance → Node → Table → Option ℤ → Type 0
-IsValueFor exact instance node table value = MatchOption value (HasBlockedUnit exact instance node) (IsValueOf exact instance node table)
+-- the value of the node, of the kind, is the least one or more, or some unit is blocked
+abbrev pub Reaches : Bool → Instance → Node → Table → ℤ → Type 0
+Reaches exact instance node table least = HasValueFrom exact instance node table least ⊎ HasBlockedUnit exact instance node
 
--- that at the table of that number
-abbrev pub IsValueAt : Bool → Instance → List Table → Node → ℕ → Option ℤ → Type 0
-IsValueAt exact instance tables node number value =
-    (table : Table) → slice_get tables number ≡ Some table → IsValueFor exact instance node table value
+-- that by a value that may be there
+abbrev pub IsEnough : ℤ → Option ℤ → Type 0
+IsEnough least None = Unit {0}
+IsEnough least (Some value) = least ≤ℤ value
 
--- the quotient of the value and the scale, rounded down, is the bound or more
-pub record HasFloorOf (k value bound : ℤ) : Type 0 where
-  pub floor : ℤ
-  pub is_floor : IsFloor value k floor
-  pub enough : bound ≤ℤ floor
+-- tables of this scale can be what is claimed
+abbrev pub FitsScale : ℤ → Claim → Type 0
+FitsScale k (claims.Bound b) = pos 0 <ℤ k
+FitsScale k claims.Ray = k ≡ pos 0
 
-abbrev pub IsEnough : ℤ → ℤ → Option ℤ → Type 0
-IsEnough k bound None = Unit {0}
-IsEnough k bound (Some value) = HasFloorOf k value bound
+-- they are where the value is this or more
+abbrev pub least_of : ℤ → Claim → ℤ
+least_of k (claims.Bound b) = b *ℤ k
+least_of k claims.Ray = pos 1
 
--- the table bounds by the bound where the node has that value
-pub record IsBounding (k bound : ℤ) (value : Option ℤ) : Type 0 where
-  pub scale : pos 0 <ℤ k
-  pub enough : IsEnough k bound value
+pub record IsLeastFor (k : ℤ) (claim : Claim) (least : Least) : Type 0 where
+  pub fits : FitsScale k claim
+  pub scale : pos 0 <ℤ least.scale
+  pub value : least_value least ≡ least_of k claim
 
-abbrev pub IsBoundingBy : ℤ → Option ℤ → Option ℤ → Type 0
-IsBoundingBy k value None = ⊥
-IsBoundingBy k value (Some bound) = IsBounding k bound value
+-- the table says so of the node by its value of the kind
+abbrev pub Says : Bool → Claim → Instance → Node → Table → Type 0
+Says exact (claims.Bound b) instance node table = HasBoundOf exact instance node table b ⊎ HasBlockedUnit exact instance node
+Says exact claims.Ray instance node table = HasPositiveValue exact instance node table ⊎ HasBlockedUnit exact instance node
 
-abbrev pub IsPositive : Option ℤ → Type 0
-IsPositive None = Unit {0}
-IsPositive (Some value) = pos 0 <ℤ value
+pub record Holds (question : Question) (instance : Instance) (node : Node) (table : Table) : Type 0 where
+  pub fits : FitsScale table.k question.claim
+  pub says : Says question.exact question.claim instance node table
 
--- the table is a ray that excludes all where the node has that value
-pub record IsExcluding (k : ℤ) (value : Option ℤ) : Type 0 where
-  pub scale : k ≡ pos 0
-  pub positive : IsPositive value
+-- the answer says whether it holds at the table of that number
+pub record IsHoldingAt (question : Question) (instance : Instance) (tables : List Table) (node : Node) (number : ℕ) (told : Bool) : Type 0 where
+  pub table : Table
+  pub is_table : slice_get tables number ≡ Some table
+  pub holds : IsTrue told ↔ Holds question instance node table

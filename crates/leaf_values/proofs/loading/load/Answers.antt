@@ -1,8 +1,12 @@
 -- One unit more.
-use Rattle.std.proofs.Common.{◌≡◌, ℕ, ◌+◌, ◌<◌, List, length, arith, sym, subst, ◌∙◌, below_more, rules, ◌++◌, ◌∷◌, [], take, drop, ℤ}
-use Rattle.uc_model.specs.Schedule.{thermal_unit}
-use Rattle.leaf_values.specs.Entries.{UnitEntry, IsEntryOf, IsReckoned, entry_in}
-use Rattle.std.proofs.lemmas.List.{get_or_append_left, get_or_push, length-append, length-take, length-drop}
+use Rattle.std.proofs.Common.{◌≡◌, ℕ, ◌+◌, ◌<◌, ◌≤◌, List, length, lit<, arith, sym, ap, subst, ◌∙◌, below_more, rules, ◌++◌, ◌∷◌, [], take, drop, replicate, ℤ, unsigned_abs}
+use Rattle.uc_model.specs.Schedule.{thermal_count, thermal_unit}
+use Rattle.uc_model.specs.declared.instance.Instance.{Instance}
+use Rattle.uc_model.proofs.Sizes.{wide}
+use Rattle.dual_model.specs.declared.table.Table.{Table}
+use Rattle.leaf_values.specs.Entries.{ExactEntry, Thermal, UnitEntry, AreExactEntriesOf, IsEntryOf, IsExactEntryOf, IsReckoned, MAX_REST, entry_in, exact_in}
+use Rattle.leaf_values.specs.declared.entries.ExactEntry.TheVariants as known
+use Rattle.std.proofs.lemmas.List.{get_or_append_left, get_or_push, get_or-replicate, length-append, length-take, length-drop, length-replicate}
 use Rattle.leaf_values.proofs.loading.load.Goals as goal
 
 -- what holds of each entry and of the next one holds of each when it is there
@@ -31,4 +35,34 @@ loop-g-preserved c =
       room = c.entry.ensures.kept ∙ before.room;
       rows = rows_kept c.loop-g.rows.len c.entry.new.rows c.loop-g.rows.items (omega (arith, c.loop-g.rows.ok.0))
           (omega (arith, c.entry.auto.rows, c.deref_mut.ensures.len)) ∙ before.rows;
+    }
+
+-- where nothing is known, that is so
+none-known : (instance : Instance) (table : Table) (exact : List ExactEntry) (n : ℕ) → n ≡ thermal_count instance → exact ≡ replicate n known.Unsought
+    → AreExactEntriesOf instance table exact
+none-known instance table exact n count is = record {
+  count = ap (λ (xs : List ExactEntry). length xs) is ∙ length-replicate n known.Unsought ∙ count;
+  unit = λ g l. subst (IsExactEntryOf instance table g)
+      (sym (ap (λ (xs : List ExactEntry). exact_in xs g) is ∙ get_or-replicate n g known.Unsought known.Unsought (omega (arith, count, l)))) tt;
+}
+
+pub returns-clause-entries : goal.returns-clause-entries
+returns-clause-entries c =
+    let instance = c.args.instance.now in
+    let table = c.args.table.now in
+    let before = c.loop-g.invariant in
+    let past = c.loop-g-test.false in
+    let end = c.loop-g.auto.g-end in
+    let units = ap (λ (xs : List Thermal). length xs) c.as_slice-g-end.ensures in
+    let all : c.loop-g.g ≡ thermal_count instance = omega (arith, past, end, units) in
+    let own = wide c.rest.result MAX_REST c.rest.ensures.size (lit< tt) in
+    record {
+      reckoned = record {
+        units = record { count = before.count ∙ all; unit = λ k l. before.reckoned k (omega (arith, l, all)) };
+        rest = subst (λ z. unsigned_abs z ≤ MAX_REST) (sym own) c.rest.ensures.size;
+      };
+      unit = λ k l. before.entry k (omega (arith, l, all));
+      exact = none-known instance table c.in_ok-exact.exact.items _ (ap (λ (xs : List Thermal). length xs) c.as_slice.ensures)
+          (c.in_ok-exact.ensures.items_if_clones_equal (λ y is. is));
+      rest = own ∙ c.rest.ensures.value;
     }

@@ -17,5 +17,5 @@ returns-clause-value c = λ table node are decided.
     (subst (λ (units : List UnitEntry). AreReckonedFor instance fixes (thermal_count instance) units c.reckon_each.new.units)
     c.as_mut_slice.ensures.value c.reckon_each.ensures.units) in
     node_answer instance table node _ c.total.result
-    (values_at instance table node fixes old _ (entries_kept instance table fixes old _ are after refl) after decided)
+    (values_at instance table node fixes old _ (entries_kept instance table fixes old _ are after refl refl) after decided)
     c.total.ensures.total

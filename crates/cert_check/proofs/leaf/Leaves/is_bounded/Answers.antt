@@ -1,18 +1,27 @@
--- The test of the numbers says whether the leaf is sound.
-use Rattle.std.proofs.Common.{◌≡◌, ◌∙◌, w64, ◌↔◌, IsTrue, ℤ, subst, get_or, Some, slice_get}
+-- What is told of the table says whether the leaf is sound.
+use Rattle.std.proofs.Common.{◌↔◌, sym, subst, IsTrue, FitsSigned, rules}
+use Rattle.std.specs.Int.{w128}
 use Rattle.std.proofs.lemmas.Int.{to_z-of_z}
-use Rattle.std.proofs.lemmas.Option.{slice_get-get_or}
-use Rattle.table_list.specs.inside.Kept.{no_table}
-use Rattle.cert_check.specs.inside.Leaves.{IsBoundingBy}
+use Rattle.std.proofs.lemmas.Result.{IfOk-weaker}
+use Rattle.dual_model.specs.Cover.{Bound}
+use Rattle.cert_text.specs.CertificateText.{LeafNode}
+use Rattle.cert_check.specs.Visits.{IsSoundNode}
+use Rattle.cert_check.specs.declared.leaf.Claim.TheVariants as claims
+use Rattle.cert_check.specs.inside.Leaves.{IsHoldingAt}
 use Rattle.cert_check.proofs.LeafNumbers.{bound-sound}
 use Rattle.cert_check.proofs.leaf.Leaves.is_bounded.Goals as goal
 
-pub returns-clause-sound : goal.returns-clause-sound
-returns-clause-sound c = λ place are.
+pub returns-in-Some-clause-sound : goal.returns-in-Some-clause-sound
+returns-in-Some-clause-sound c =
     let instance = c.args.instance.now in
     let tables = c.args.cert.now.tables in
+    let exact = c.args.exact in
     let number = c.args.number in
-    let table = get_or tables number no_table in
-    let here : slice_get tables number ≡ Some table = slice_get-get_or tables number no_table c.requires.number in
-    bound-sound c.args.exact instance tables place c.args.cert.now.bound number table c.in_ok-value.value c.bounds.result here (c.in_ok-value.ensures.value place are table here)
-    (subst (λ (k : ℤ). IsTrue c.bounds.result ↔ IsBoundingBy k c.in_ok-value.value c.args.cert.now.bound) (to_z-of_z w64 c.scale-k.result (record { sfits = c.scale-k.type_inv }) ∙ c.scale-k.ensures no_table) c.bounds.ensures)
+    let bound = c.in-Some.bound in
+    let fits : FitsSigned w128 bound = search rules in
+    IfOk-weaker c.holds_at.result _ _
+    (λ told at. λ place are.
+    subst (λ claimed. IsTrue told ↔ IsSoundNode instance tables claimed place (LeafNode (Bound exact number))) (sym c.in-Some.is)
+    (bound-sound exact instance tables place bound number told
+    (subst (λ b. IsHoldingAt (record { exact = exact; claim = claims.Bound b }) instance tables place number told) (to_z-of_z w128 bound fits) (at place are))))
+    c.holds_at.ensures.holds
