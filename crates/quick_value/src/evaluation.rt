@@ -133,16 +133,13 @@ impl Evaluation {
         let second = first.saturating_add(outputs.len());
         let mut before = unit.before;
         for output in outputs {
-            let risen = output
-                .power
-                .saturating_add(output.reserve)
-                .saturating_sub(before);
+            let (risen, _) = output.moves(before);
             self.lacks.push(risen.saturating_sub(unit.rise))?;
             before = output.power;
         }
         before = unit.before;
         for output in outputs {
-            let fallen = before.saturating_sub(output.power);
+            let (_, fallen) = output.moves(before);
             self.lacks.push(fallen.saturating_sub(unit.fall))?;
             before = output.power;
         }

@@ -12,9 +12,13 @@ mod evaluation;
 mod evaluator;
 mod outputs;
 mod prices;
+mod ramped_walk;
+mod run_cost;
 mod starts;
+mod twins;
 mod unit;
 mod walk;
+mod ways;
 
 pub use amounts::SCALE;
 pub use caps::Caps;

@@ -3,7 +3,8 @@
 use crate::cells::Cell;
 use crate::prices::Price;
 use crate::unit::{Cap, Unit};
-use crate::walk::{Stand, Walk};
+use crate::walk::Walk;
+use crate::ways::Stand;
 
 /// Whether a unit is on in a period, and its output above the minimum and its reserve there.
 #[derive(Clone, Copy)]
@@ -11,6 +12,15 @@ pub(crate) struct Output {
     pub on: bool,
     pub power: i64,
     pub reserve: i64,
+}
+
+impl Output {
+    /// How far output and reserve together lie above the output before, and this one below that.
+    pub(crate) fn moves(&self, before: i64) -> (i64, i64) {
+        let most = self.power.saturating_add(self.reserve);
+        let fallen = before.saturating_sub(self.power);
+        (most.saturating_sub(before), fallen)
+    }
 }
 
 pub(crate) const NOTHING: Output = Output {
@@ -21,7 +31,7 @@ pub(crate) const NOTHING: Output = Output {
 
 /// Fills what a unit gives in each period, as it stands at its prices.
 pub(crate) fn fill_outputs(outputs: &mut [Output], unit: &Unit, walk: &Walk, prices: &[Price]) {
-    let (stands, cells) = (walk.stands.as_slice(), walk.cells.as_slice());
+    let (stands, cells) = (walk.ways.stands.as_slice(), walk.cells.as_slice());
     let count = stands.len().min(cells.len()).min(prices.len());
     for t in 0..count.min(outputs.len()) {
         outputs[t] = output_of(unit, stands[t], &cells[t], &prices[t]);
