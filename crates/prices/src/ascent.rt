@@ -46,6 +46,14 @@ const RAY_EFFORT: Effort = Effort {
     enough: i128::MAX,
 };
 
+/// The values that an ascent climbs: those of an instance's nodes, of either kind. The exact ones keep the ramps of each unit in place of
+/// pricing them.
+#[derive(Clone, Copy)]
+pub struct Values<'a> {
+    pub instance: &'a Instance,
+    pub exact: bool,
+}
+
 /// After how many evaluations an ascent ends, and at what it takes the bound for, in micro-dollars.
 #[derive(Clone, Copy)]
 pub struct Effort {
@@ -159,26 +167,21 @@ pub(crate) struct Hill {
 }
 
 impl Hill {
-    // The values of a node of the instance.
-    fn of(alloc: Global, instance: &Instance, node: &Node) -> Result<Hill, NoMemory>
-        requires { IsLawfulInstance instance.now }
+    // The values of a node.
+    fn of(alloc: Global, values: Values, node: &Node) -> Result<Hill, NoMemory>
+        requires { IsLawfulInstance values.instance.now }
     {
-        let evaluator = Evaluator::new(alloc, instance)?;
-        hill_of(alloc, instance, node, evaluator, Sizes::of(instance))
+        let evaluator = Evaluator::new(alloc, values.instance)?;
+        hill_of(alloc, values, node, evaluator, Sizes::of(values.instance))
     }
 
     // The same where nothing costs anything.
-    fn without_costs(alloc: Global, instance: &Instance, node: &Node) -> Result<Hill, NoMemory>
-        requires { IsLawfulInstance instance.now }
+    fn without_costs(alloc: Global, values: Values, node: &Node) -> Result<Hill, NoMemory>
+        requires { IsLawfulInstance values.instance.now }
     {
-        let evaluator = Evaluator::without_costs(alloc, instance)?;
-        hill_of(
-            alloc,
-            instance,
-            node,
-            evaluator,
-            Sizes::without_costs(instance),
-        )
+        let evaluator = Evaluator::without_costs(alloc, values.instance)?;
+        let sizes = Sizes::without_costs(values.instance);
+        hill_of(alloc, values, node, evaluator, sizes)
     }
 
     // The value at these prices, in the memory of another one, and none where a unit has no pattern at the node.
@@ -196,13 +199,16 @@ impl Hill {
 /// The values of a node by an evaluator, and of this size.
 pub(crate) fn hill_of(
     alloc: Global,
-    instance: &Instance,
+    values: Values,
     node: &Node,
-    evaluator: Evaluator,
+    mut evaluator: Evaluator,
     sizes: Sizes,
 ) -> Result<Hill, NoMemory> {
+    if values.exact {
+        evaluator.keep_ramps(alloc, values.instance)?;
+    }
     let ramped = evaluator.ramped(alloc)?;
-    let decisions = Decisions::of(alloc, instance, node)?;
+    let decisions = Decisions::of(alloc, values.instance, node)?;
     Ok(Hill {
         evaluator,
         decisions,
@@ -246,30 +252,30 @@ fn missing_cost(needs: &[i64], price: u32) -> i128 {
 /// none of demand. Where a unit has no pattern at the node, no share is told. The only error is `NoMemory`.
 pub fn ascend(
     alloc: Global,
-    instance: &Instance,
+    values: Values,
     node: &Node,
     table: &Table,
     effort: Effort,
     k: i64,
 ) -> Result<Ascent, NoMemory>
-    requires lawful { IsLawfulInstance instance.now }
-    requires node { IsNodeOf instance.now node.now }
+    requires lawful { IsLawfulInstance values.instance.now }
+    requires node { IsNodeOf values.instance.now node.now }
     requires scale { IsLawfulScale k }
-    ensures lawful { IfOk result (λ ascent. IsLawfulTable instance.now ascent.table) }
+    ensures lawful { IfOk result (λ ascent. IsLawfulTable values.entry.instance.now ascent.table) }
     ensures scale { IfOk result (λ ascent. ascent.table.k ≡ k) }
-    ensures ray { IfOk result (λ ascent. IfSome ascent.ray (IsLawfulTable instance.now)) }
+    ensures ray { IfOk result (λ ascent. IfSome ascent.ray (IsLawfulTable values.entry.instance.now)) }
     ensures ray_scale { IfOk result (λ ascent. IfSome ascent.ray (λ ray. ray.k ≡ pos 0)) }
 {
-    let mut hill = Hill::of(alloc, instance, node)?;
+    let mut hill = Hill::of(alloc, values, node)?;
     let start = Start {
-        prices: first_prices(alloc, instance, table, &hill)?,
+        prices: first_prices(alloc, values.instance, table, &hill)?,
         part: first_part(table),
         effort,
         keeps_more: false,
         held: None,
     };
-    let top = top_from(alloc, &mut hill, instance, start)?;
-    ended(alloc, &hill, instance, top, k)
+    let top = top_from(alloc, &mut hill, values.instance, start)?;
+    ended(alloc, &hill, values.instance, top, k)
 }
 
 /// The ascent with a ray, which is looked for at its node by another ascent in which nothing costs anything, from no prices until the value
@@ -277,41 +283,36 @@ pub fn ascend(
 /// say so. The only error is `NoMemory`.
 pub fn with_ray(
     alloc: Global,
-    instance: &Instance,
+    values: Values,
     node: &Node,
     ascent: Ascent,
 ) -> Result<Ascent, NoMemory>
-    requires lawful { IsLawfulInstance instance.now }
+    requires lawful { IsLawfulInstance values.instance.now }
     ensures table { IfOk result (λ sought. sought.table ≡ ascent.table) }
-    ensures ray { IfOk result (λ sought. IfSome sought.ray (IsLawfulTable instance.now)) }
+    ensures ray { IfOk result (λ sought. IfSome sought.ray (IsLawfulTable values.entry.instance.now)) }
     ensures ray_scale { IfOk result (λ sought. IfSome sought.ray (λ ray. ray.k ≡ pos 0)) }
 {
     let mut sought = ascent;
-    seek_ray(alloc, instance, node, &mut sought).and(Ok(sought))
+    seek_ray(alloc, values, node, &mut sought).and(Ok(sought))
 }
 
 // Looks for a ray by an ascent in which nothing costs anything, and keeps it, or else the shares of that ascent.
-fn seek_ray(
-    alloc: Global,
-    instance: &Instance,
-    node: &Node,
-    sought: &mut Ascent,
-) -> Result<(), NoMemory>
-    requires lawful { IsLawfulInstance instance.now }
+fn seek_ray(alloc: Global, values: Values, node: &Node, sought: &mut Ascent) -> Result<(), NoMemory>
+    requires lawful { IsLawfulInstance values.instance.now }
     ensures table { sought.new.table ≡ sought.old.table }
-    ensures ray { OnOk result (IfSome sought.new.ray (IsLawfulTable instance.now)) }
+    ensures ray { OnOk result (IfSome sought.new.ray (IsLawfulTable values.entry.instance.now)) }
     ensures ray_scale { OnOk result (IfSome sought.new.ray (λ ray. ray.k ≡ pos 0)) }
 {
-    let mut hill = Hill::without_costs(alloc, instance, node)?;
+    let mut hill = Hill::without_costs(alloc, values, node)?;
     let start = Start {
-        prices: no_prices(alloc, instance, &hill.ramped)?,
+        prices: no_prices(alloc, values.instance, &hill.ramped)?,
         part: RISE_BY_MERIT,
         effort: RAY_EFFORT,
         keeps_more: true,
         held: None,
     };
-    let top = top_from(alloc, &mut hill, instance, start)?;
-    sought.ray = ray(alloc, &hill, instance, &top)?;
+    let top = top_from(alloc, &mut hill, values.instance, start)?;
+    sought.ray = ray(alloc, &hill, values.instance, &top)?;
     if sought.ray.is_none() && !top.shares.is_empty() {
         sought.shares = top.shares;
     }

@@ -8,7 +8,7 @@ mod price_list;
 mod steps;
 mod tight;
 
-pub use ascent::{Ascent, Effort, ascend, with_ray};
+pub use ascent::{Ascent, Effort, Values, ascend, with_ray};
 pub use opening_tables::{SCALE, marginal, marginal_in, opening_ray, unpriced, zero};
 pub use steps::{next_ascent, step};
 pub use tight::with_cell;

@@ -7,7 +7,7 @@ ghost use Rattle.dual_model.specs.Prices.{IsLawfulTable};
 ghost use Rattle.dual_model.specs.NodeAnswer.{IsValued};
 ghost use Rattle.prices.specs.Steps.{IsStepFor};
 
-use crate::ascent::{Ascent, Effort, ascend};
+use crate::ascent::{Ascent, Effort, Values, ascend};
 use dual_model::{Node, Table, Valued};
 use opening_tables::SCALE;
 use std::alloc::Global;
@@ -38,26 +38,26 @@ const FEW_RAMPED: usize = 4;
 /// a million and `had`. It ends where it takes the bound for `enough`, in micro-dollars. The only error is `NoMemory`.
 pub fn next_ascent(
     alloc: Global,
-    instance: &Instance,
+    values: Values,
     node: &Node,
     table: &Table,
     had: u32,
     enough: i128,
 ) -> Result<Ascent, NoMemory>
-    requires lawful { IsLawfulInstance instance.now }
-    requires node { IsNodeOf instance.now node.now }
+    requires lawful { IsLawfulInstance values.instance.now }
+    requires node { IsNodeOf values.instance.now node.now }
     requires count { had ≤ 999000000 }
-    ensures lawful { IfOk result (λ ascent. IsLawfulTable instance.now ascent.table) }
+    ensures lawful { IfOk result (λ ascent. IsLawfulTable values.entry.instance.now ascent.table) }
     ensures scale { IfOk result (λ ascent. ascent.table.k ≡ pos (1000000 + had)) }
-    ensures ray { IfOk result (λ ascent. IfSome ascent.ray (IsLawfulTable instance.now)) }
+    ensures ray { IfOk result (λ ascent. IfSome ascent.ray (IsLawfulTable values.entry.instance.now)) }
     ensures ray_scale { IfOk result (λ ascent. IfSome ascent.ray (λ ray. ray.k ≡ pos 0)) }
 {
     let effort = Effort {
-        evaluations: evaluations_of(instance, node.fixings.as_slice().is_empty()),
+        evaluations: evaluations_of(values.instance, node.fixings.as_slice().is_empty()),
         enough,
     };
     let scale = SCALE + i64::from(had);
-    ascend(alloc, instance, node, table, effort, scale)
+    ascend(alloc, values, node, table, effort, scale)
 }
 
 // The most evaluations of an ascent, at the root or at another node.
@@ -106,5 +106,9 @@ pub fn step(
     ensures lawful { IfOk result (IsLawfulTable instance.now) }
     ensures told_apart { IfOk result (IsStepFor had) }
 {
-    Ok(next_ascent(alloc, instance, node, table, had, i128::MAX)?.table)
+    let values = Values {
+        instance,
+        exact: false,
+    };
+    Ok(next_ascent(alloc, values, node, table, had, i128::MAX)?.table)
 }

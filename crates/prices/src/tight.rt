@@ -8,7 +8,9 @@ ghost use Rattle.std.specs.Prelude.{◌≡◌, pos, IfOk, IfSome, None, OnOk};
 ghost use Rattle.uc_model.specs.Limits.{IsLawfulInstance};
 ghost use Rattle.dual_model.specs.Prices.{IsLawfulTable};
 
-use crate::ascent::{Ascent, Effort, Hill, Sizes, Start, Top, hill_of, no_prices, ray, top_from};
+use crate::ascent::{
+    Ascent, Effort, Hill, Sizes, Start, Top, Values, hill_of, no_prices, ray, top_from,
+};
 use bundle::at;
 use dual_model::Node;
 use quick_value::{Decisions, Evaluator, ON};
@@ -76,38 +78,38 @@ struct Seeker<'a> {
 /// only error is `NoMemory`.
 pub fn with_cell(
     alloc: Global,
-    instance: &Instance,
+    values: Values,
     node: &Node,
     ascent: Ascent,
 ) -> Result<Ascent, NoMemory>
-    requires lawful { IsLawfulInstance instance.now }
+    requires lawful { IsLawfulInstance values.instance.now }
     ensures table { IfOk result (λ sought. sought.table ≡ ascent.table) }
-    ensures ray { IfOk result (λ sought. IfSome sought.ray (IsLawfulTable instance.now)) }
+    ensures ray { IfOk result (λ sought. IfSome sought.ray (IsLawfulTable values.entry.instance.now)) }
     ensures ray_scale { IfOk result (λ sought. IfSome sought.ray (λ ray. ray.k ≡ pos 0)) }
 {
     let mut sought = ascent;
-    seek_cell(alloc, instance, node, &mut sought).and(Ok(sought))
+    seek_cell(alloc, values, node, &mut sought).and(Ok(sought))
 }
 
 // Looks for a cell, or for a ray, and keeps it.
 fn seek_cell(
     alloc: Global,
-    instance: &Instance,
+    values: Values,
     node: &Node,
     sought: &mut Ascent,
 ) -> Result<(), NoMemory>
-    requires lawful { IsLawfulInstance instance.now }
+    requires lawful { IsLawfulInstance values.instance.now }
     ensures table { sought.new.table ≡ sought.old.table }
-    ensures ray { OnOk result (IfSome sought.new.ray (IsLawfulTable instance.now)) }
+    ensures ray { OnOk result (IfSome sought.new.ray (IsLawfulTable values.entry.instance.now)) }
     ensures ray_scale { OnOk result (IfSome sought.new.ray (λ ray. ray.k ≡ pos 0)) }
 {
     sought.ray = None;
     sought.cell = None;
-    if has_many_cells(instance) {
+    if has_many_cells(values.instance) {
         return Ok(());
     }
-    let mut seeker = Seeker::at(alloc, instance, node)?;
-    seek_nearest(alloc, &mut seeker, instance, sought)
+    let mut seeker = Seeker::at(alloc, values, node)?;
+    seek_nearest(alloc, &mut seeker, values.instance, sought)
 }
 
 // Looks for them where the node has the least to spare.
@@ -179,17 +181,17 @@ fn start(prices: Vec<i64>, held: usize, evaluations: u32) -> Start {
 }
 
 impl<'a> Seeker<'a> {
-    fn at(alloc: Global, instance: &'a Instance, node: &'a Node) -> Result<Seeker<'a>, NoMemory>
-        requires { IsLawfulInstance instance.now }
+    fn at(alloc: Global, values: Values<'a>, node: &'a Node) -> Result<Seeker<'a>, NoMemory>
+        requires { IsLawfulInstance values.instance.now }
     {
-        let evaluator = Evaluator::without_costs(alloc, instance)?;
+        let evaluator = Evaluator::without_costs(alloc, values.instance)?;
         let sizes = Sizes {
-            least: worth(instance),
+            least: worth(values.instance),
             most: 0,
         };
-        let hill = hill_of(alloc, instance, node, evaluator, sizes)?;
+        let hill = hill_of(alloc, values, node, evaluator, sizes)?;
         Ok(Seeker {
-            instance,
+            instance: values.instance,
             node,
             hill,
         })
