@@ -27,7 +27,7 @@ use branch_tree::Outcome;
 use dual_model::{Node, Table};
 use opening::Evaluator;
 use outside::Gate;
-use prices::next_ascent;
+use prices::{Values, next_ascent};
 use search_core::Move;
 use search_core::laws::tree_runs_hold;
 use search_core::limits::NODE_ENTRIES;
@@ -171,7 +171,11 @@ fn settle<C: Run>(
     tree_runs_hold();
     book.keeps_run();
     let (path, stored, _) = book.holding(alloc, held.unit)?;
-    let table = table(alloc, instance, &path, stored, held, evaluation.scale)?;
+    let values = Values {
+        instance,
+        exact: evaluation.exact,
+    };
+    let table = table(alloc, values, &path, stored, held, evaluation.scale)?;
     let outcome = outcome(alloc, instance, &path, &table, evaluation.exact)?;
     let action = action(book, held, &outcome);
     enter(
@@ -234,22 +238,22 @@ fn outcome(
 // The table that the node stores, where it wasn't evaluated yet, or that of an ascent from it.
 fn table(
     alloc: Global,
-    instance: &Instance,
+    values: Values,
     path: &Node,
     stored: Table,
     held: Held,
     scale: u32,
 ) -> Result<Table, NoMemory>
-    requires lawful { IsLawfulInstance instance.now }
-    requires path { IsNodeOf instance.now path.now }
-    requires stored { IsLawfulTable instance.now stored }
+    requires lawful { IsLawfulInstance values.instance.now }
+    requires path { IsNodeOf values.instance.now path.now }
+    requires stored { IsLawfulTable values.instance.now stored }
     requires scale { scale ≤ 2 * MAX_BUDGET }
-    ensures { IfOk result (IsClosingTable instance.now stored held.node held.had scale) }
+    ensures { IfOk result (IsClosingTable values.entry.instance.now stored held.node held.had scale) }
 {
     if held.node != 0 && held.had == 0 {
         return Ok(stored);
     }
-    Ok(next_ascent(alloc, instance, path, &stored, scale, i128::MAX)?.table)
+    Ok(next_ascent(alloc, values, path, &stored, scale, i128::MAX)?.table)
 }
 
 // The move that ends the claim: the node is left open, or split where it had all the entries that it may have.

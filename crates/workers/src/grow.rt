@@ -34,14 +34,14 @@ use branch_tree::{Entry, Tree};
 use dual_model::Table;
 use incumbent::Best;
 use outside::Gate;
-use prices::Ascent;
+use prices::{Ascent, Values};
 use std::alloc::Global;
 use std::marker::Brand;
 use std::sync::Wait;
 use std::thread::{Threads, for_each_mut};
 use steal_pool::Pool;
 use uc_model::tolerance::cost_less_tolerance_never_decreases;
-use uc_model::{Instance, List, NoMemory, Printed};
+use uc_model::{List, NoMemory, Printed};
 
 /// What the search leaves: the tree with its tables and its log, and the best schedule with its cost in micro-dollars.
 #[derive(Drop)]
@@ -300,21 +300,21 @@ fn workers<'a>(alloc: Global, last: Worker<'a>, count: u8) -> Result<Vec<Worker<
     ensures count { IfOk result (λ workers. vec_len workers ≡ count) }
     ensures of { IfOk result (λ workers. All (IsOn last.entry) workers.items) }
 {
-    let others = others(alloc, last.instance(), count - 1);
+    let others = others(alloc, last.values(), count - 1);
     let (last, mut workers) = beside(last, others)?;
     workers.push(last)?;
     Ok(workers)
 }
 
 // So many workers on the instance. The only error is `NoMemory`.
-fn others<'a>(alloc: Global, instance: &'a Instance, count: u8) -> Result<Vec<Worker<'a>>, NoMemory>
-    requires lawful { IsLawfulInstance instance.now }
+fn others<'a>(alloc: Global, values: Values<'a>, count: u8) -> Result<Vec<Worker<'a>>, NoMemory>
+    requires lawful { IsLawfulInstance values.instance.now }
     ensures count { IfOk result (λ workers. vec_len workers ≡ count) }
-    ensures of { IfOk result (λ workers. All (IsOn instance.now) workers.items) }
+    ensures of { IfOk result (λ workers. All (IsOn values.entry.instance.now) workers.items) }
 {
     let mut workers = Vec::new(alloc);
     for _ in 0..count {
-        workers.push(Worker::new(alloc, instance)?)?;
+        workers.push(Worker::new(alloc, values)?)?;
     }
     Ok(workers)
 }

@@ -18,6 +18,7 @@ use crate::start::{Opened, started};
 use crate::worker::Worker;
 use branch_tree::Found;
 use outside::Gate;
+use prices::Values;
 use std::alloc::Global;
 use std::sync::Wait;
 use std::thread::Threads;
@@ -53,7 +54,11 @@ pub fn search<R: Threads + Wait + Sync, G: Gate + Sync>(
     ensures result { IfOk result (IsSearchResult options.now.exact instance.now options.now.budget options.now.gap) }
     ensures writable { IfOk result (IsWritable instance.now) }
 {
-    let worker = Worker::new(alloc, instance)?;
+    let values = Values {
+        instance,
+        exact: options.exact,
+    };
+    let worker = Worker::new(alloc, values)?;
     answered(rt, alloc, worker, options, gate)
 }
 

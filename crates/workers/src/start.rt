@@ -15,7 +15,7 @@ use crate::best::{enough, moves};
 use crate::worker::{Effort, Worker};
 use decommitment::{Standing, drop_pass};
 use opening::{Priced, dispatched_root, root_node, unpriced_root};
-use prices::{Ascent, next_ascent, zero};
+use prices::{Ascent, Values, next_ascent, zero};
 use std::alloc::Global;
 use uc_model::{Instance, NoMemory, Printed, Stuck};
 
@@ -113,7 +113,7 @@ fn repaired(
     ensures ascent { IfOk result (λ both. IsAscentFor worker.old 1 both.0) }
     ensures accepted { IfOk result (λ both. IsAcceptedIfFound worker.old both.1) }
 {
-    let ascent = first_ascent(alloc, worker.instance())?;
+    let ascent = first_ascent(alloc, worker.values())?;
     let best = first_repaired(alloc, worker, gap, &ascent)?;
     Ok((ascent, best))
 }
@@ -141,10 +141,10 @@ fn first_repaired(
 
 /// The ascent of the first claim, from the prices in order of merit, which come out better than the opening's. The only error is
 /// `NoMemory`.
-pub(crate) fn first_ascent(alloc: Global, instance: &Instance) -> Result<Ascent, NoMemory>
-    requires { IsLawfulInstance instance.now }
-    ensures { IfOk result (IsAscentFor instance.now 1) }
+pub(crate) fn first_ascent(alloc: Global, values: Values) -> Result<Ascent, NoMemory>
+    requires { IsLawfulInstance values.instance.now }
+    ensures { IfOk result (IsAscentFor values.entry.instance.now 1) }
 {
-    let none = zero(alloc, instance)?;
-    next_ascent(alloc, instance, &root_node(alloc), &none, 1, i128::MAX)
+    let none = zero(alloc, values.instance)?;
+    next_ascent(alloc, values, &root_node(alloc), &none, 1, i128::MAX)
 }

@@ -15,7 +15,7 @@ use crate::worker::Worker;
 use claims::{Branching, Hints, split_cell};
 use dual_model::{Node, Table};
 use opening::{is_positive, node_ray, root_node};
-use prices::{Ascent, next_ascent, with_cell, with_ray};
+use prices::{Ascent, Values, next_ascent, with_cell, with_ray};
 use schedule_repair::is_small;
 use std::alloc::Global;
 use uc_model::{Instance, NoMemory};
@@ -165,7 +165,7 @@ fn ascended(
     ensures kept { worker.new ≡ worker.old }
     ensures trial { IfOk result (IsTrialFor worker.old claim.now) }
 {
-    let ascent = ascent(alloc, worker.instance(), claim, search, next)?;
+    let ascent = ascent(alloc, worker.values(), claim, search, next)?;
     let table = ascended_table(alloc, worker, claim, &ascent, search.aim.exact);
     let (ascent, table) = beside(ascent, table)?;
     Ok(Trial {
@@ -253,39 +253,39 @@ fn enough(claim: &Claim, goal: i128) -> i128 {
 // The ascent to a table of this unit's scale: the one that was made already, or one from what the node stores.
 fn ascent(
     alloc: Global,
-    instance: &Instance,
+    values: Values,
     claim: &Claim,
     search: Search,
     next: &mut Option<Ascent>,
 ) -> Result<Ascent, NoMemory>
-    requires claim { IsHeldClaim instance.now claim.now }
-    requires next { IsNextAt instance.now 1 next.old }
-    ensures ascent { IfOk result (IsAscentFor instance.now claim.now.unit) }
+    requires claim { IsHeldClaim values.instance.now claim.now }
+    requires next { IsNextAt values.instance.now 1 next.old }
+    ensures ascent { IfOk result (IsAscentFor values.entry.instance.now claim.now.unit) }
 {
     if claim.unit == 1 {
-        root_ascent(alloc, instance, search.aim.shared, next)
+        root_ascent(alloc, values, search.aim.shared, next)
     } else {
-        node_ascent(alloc, instance, claim, enough(claim, search.goal))
+        node_ascent(alloc, values, claim, enough(claim, search.goal))
     }
 }
 
 // The ascent of the first claim; several workers make two more, since they split the root then.
 fn root_ascent(
     alloc: Global,
-    instance: &Instance,
+    values: Values,
     shared: bool,
     next: &mut Option<Ascent>,
 ) -> Result<Ascent, NoMemory>
-    requires lawful { IsLawfulInstance instance.now }
-    requires next { IsNextAt instance.now 1 next.old }
-    ensures { IfOk result (IsAscentFor instance.now 1) }
+    requires lawful { IsLawfulInstance values.instance.now }
+    requires next { IsNextAt values.instance.now 1 next.old }
+    ensures { IfOk result (IsAscentFor values.entry.instance.now 1) }
 {
     let ascent = match next.take() {
         Some(ascent) => ascent,
-        None => first_ascent(alloc, instance)?,
+        None => first_ascent(alloc, values)?,
     };
     if shared {
-        let stepped = root_steps(alloc, instance, &ascent.table);
+        let stepped = root_steps(alloc, values, &ascent.table);
         drop(ascent);
         stepped
     } else {
@@ -294,66 +294,59 @@ fn root_ascent(
 }
 
 // Two more ascents of the first claim, each from the table of the one before.
-fn root_steps(alloc: Global, instance: &Instance, table: &Table) -> Result<Ascent, NoMemory>
-    requires { IsLawfulInstance instance.now }
-    ensures { IfOk result (IsAscentFor instance.now 1) }
+fn root_steps(alloc: Global, values: Values, table: &Table) -> Result<Ascent, NoMemory>
+    requires { IsLawfulInstance values.instance.now }
+    ensures { IfOk result (IsAscentFor values.entry.instance.now 1) }
 {
-    let ascent = root_step(alloc, instance, table)?;
-    let stepped = root_step(alloc, instance, &ascent.table);
+    let ascent = root_step(alloc, values, table)?;
+    let stepped = root_step(alloc, values, &ascent.table);
     drop(ascent);
     stepped
 }
 
 // One more ascent of the first claim, from the table of the one before.
-fn root_step(alloc: Global, instance: &Instance, table: &Table) -> Result<Ascent, NoMemory>
-    requires { IsLawfulInstance instance.now }
-    ensures { IfOk result (IsAscentFor instance.now 1) }
+fn root_step(alloc: Global, values: Values, table: &Table) -> Result<Ascent, NoMemory>
+    requires { IsLawfulInstance values.instance.now }
+    ensures { IfOk result (IsAscentFor values.entry.instance.now 1) }
 {
-    next_ascent(alloc, instance, &root_node(alloc), table, 1, i128::MAX)
+    next_ascent(alloc, values, &root_node(alloc), table, 1, i128::MAX)
 }
 
 // The ascent from what the node stores, with a ray or a cell that is looked for where no schedule is known.
 fn node_ascent(
     alloc: Global,
-    instance: &Instance,
+    values: Values,
     claim: &Claim,
     enough: i128,
 ) -> Result<Ascent, NoMemory>
-    requires claim { IsHeldClaim instance.now claim.now }
-    ensures ascent { IfOk result (IsAscentFor instance.now claim.now.unit) }
+    requires claim { IsHeldClaim values.instance.now claim.now }
+    ensures ascent { IfOk result (IsAscentFor values.entry.instance.now claim.now.unit) }
 {
-    let ascent = next_ascent(
-        alloc,
-        instance,
-        &claim.path,
-        &claim.table,
-        claim.unit,
-        enough,
-    )?;
+    let ascent = next_ascent(alloc, values, &claim.path, &claim.table, claim.unit, enough)?;
     if claim.seen.is_some() || ascent.ray.is_some() {
         Ok(ascent)
     } else {
-        sought(alloc, instance, &claim.path, ascent, claim.unit)
+        sought(alloc, values, &claim.path, ascent, claim.unit)
     }
 }
 
 // The ascent with a ray, or else, in early claims, with a cell to split its node on.
 fn sought(
     alloc: Global,
-    instance: &Instance,
+    values: Values,
     path: &Node,
     ascent: Ascent,
     unit: u32,
 ) -> Result<Ascent, NoMemory>
-    requires lawful { IsLawfulInstance instance.now }
+    requires lawful { IsLawfulInstance values.instance.now }
     ensures table { IfOk result (λ sought. sought.table ≡ ascent.table) }
-    ensures ray { IfOk result (λ sought. IfSome sought.ray (IsLawfulTable instance.now)) }
+    ensures ray { IfOk result (λ sought. IfSome sought.ray (IsLawfulTable values.entry.instance.now)) }
     ensures ray_scale { IfOk result (λ sought. IfSome sought.ray (λ ray. ray.k ≡ pos 0)) }
 {
-    let ascent = with_ray(alloc, instance, path, ascent)?;
+    let ascent = with_ray(alloc, values, path, ascent)?;
     if ascent.ray.is_some() || unit > SEEKING_CLAIMS {
         Ok(ascent)
     } else {
-        with_cell(alloc, instance, path, ascent)
+        with_cell(alloc, values, path, ascent)
     }
 }

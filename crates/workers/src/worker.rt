@@ -10,17 +10,18 @@ ghost use Rattle.opening.specs.Blocked.{HasNoBlockedUnit};
 ghost use Rattle.opening.specs.Rays.{HasNoRay, IsFirstRay};
 
 use opening::{Evaluator, excluding_ray};
-use prices::Ascent;
+use prices::{Ascent, Values};
 use schedule_repair::{Repair, repair};
 use std::alloc::Global;
 use std::marker::Model;
 use uc_model::{Instance, NoMemory, Printed};
 
-/// The evaluator of the instance, and what its repairs share. Contracts see the instance.
+/// The evaluator of the instance, what its repairs share, and whether its ascents climb exact values. Contracts see the instance.
 #[derive(Drop)]
 pub(crate) struct Worker<'a> {
     pub evaluator: Evaluator<'a>,
     repairs: Repair,
+    exact: bool,
 }
 
 impl<'a> Model for Worker<'a> {
@@ -39,14 +40,15 @@ pub(crate) struct Effort {
 }
 
 impl<'a> Worker<'a> {
-    /// A worker on the instance. The only error is `NoMemory`.
-    pub(crate) fn new(alloc: Global, instance: &'a Instance) -> Result<Worker<'a>, NoMemory>
-        requires { IsLawfulInstance instance.now }
-        ensures { IfOk result (λ worker. worker ≡ instance.now) }
+    /// A worker on the instance, whose ascents climb these values. The only error is `NoMemory`.
+    pub(crate) fn new(alloc: Global, values: Values<'a>) -> Result<Worker<'a>, NoMemory>
+        requires { IsLawfulInstance values.instance.now }
+        ensures { IfOk result (λ worker. worker ≡ values.entry.instance.now) }
     {
         Ok(Worker {
-            evaluator: Evaluator::new(alloc, instance)?,
-            repairs: Repair::new(alloc, instance)?,
+            evaluator: Evaluator::new(alloc, values.instance)?,
+            repairs: Repair::new(alloc, values.instance)?,
+            exact: values.exact,
         })
     }
 
@@ -56,6 +58,17 @@ impl<'a> Worker<'a> {
         ensures lawful { IsLawfulInstance self.now }
     {
         self.evaluator.instance()
+    }
+
+    /// The values that its ascents climb.
+    pub(crate) fn values(&self) -> Values<'a>
+        ensures is { result.instance.now ≡ self.now }
+        ensures lawful { IsLawfulInstance self.now }
+    {
+        Values {
+            instance: self.evaluator.instance(),
+            exact: self.exact,
+        }
     }
 
     /// The first thermal unit without an allowed pattern. The only error is `NoMemory`.

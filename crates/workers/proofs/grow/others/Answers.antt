@@ -6,7 +6,7 @@ use Rattle.workers.proofs.grow.others.Goals as goal
 
 pub loop-preserved : goal.loop-preserved
 loop-preserved c =
-    let here = IsOn c.args.instance.now in (
+    let here = IsOn c.args.values.instance.now in (
       omega (arith, c.loop.invariant.0, c.in_ok-push.ensures.len),
       subst (All here) (sym c.in_ok-push.ensures.items) (All-push here c.loop.workers.items c.in_ok-new.field-0 c.loop.invariant.1 c.in_ok-new.ensures),
     )

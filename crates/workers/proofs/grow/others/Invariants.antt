@@ -4,4 +4,4 @@ use Rattle.workers.proofs.grow.others.Given as goal
 
 -- the workers so far, all on the instance
 abbrev pub invariant-loop : goal.invariant-loop
-invariant-loop l = (vec_len l.workers ≡ l.counter) × All (IsOn l.fn.instance) l.workers.items
+invariant-loop l = (vec_len l.workers ≡ l.counter) × All (IsOn l.fn.values.instance.now) l.workers.items
