@@ -5,7 +5,7 @@
 
 `check` reads instances that are lists of small values, of 4 MB each, and refuses them; `upgrade` reads and writes certificates. Told are the
 bytes of resident memory for a byte of the text, beside what the program takes for the smallest instance, and the seconds of the processor.
-A certificate of version 2 tells a table by its difference to the one before it, and each table is kept whole.
+A certificate of version 2 tells a table by its difference to the one before it, and so are tables kept; `check` rebuilds those it looks at.
 """
 import pathlib
 import sys
