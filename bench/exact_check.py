@@ -4,17 +4,22 @@
     python3 bench/exact_check.py ./uc 500 CASE.json ..     # at the top of the repository
 
 The tree has so many leaves, and is as flat as can be; the splits of each depth are on a unit and a period drawn at random. Each leaf has a table
-of its own, at 0.9 to 1.1 times the prices in order of merit and at drawn prices of reserve, or all have the first one. What is claimed is a
-bound below all of these. Told are the status and the best of five runs, in seconds of the wall clock.
+of its own, at 0.9 to 1.1 times the prices in order of merit and at drawn prices of reserve, or all have the first one. What is claimed is the
+greatest bound that is accepted, which bisection finds first. Told are the status, that bound in dollars and the best of five runs, in seconds of
+the wall clock.
 """
 import json
 import pathlib
 import random
+import subprocess
 import sys
 import tempfile
 
 import check
 import values
+
+MILLION = 10**6
+LARGE = 10**15  # micro-dollars
 
 
 def drawn_prices(made):
@@ -48,13 +53,29 @@ def tree(cells, word, first, leaves, count):
     return [f"split {g} {t}\n", *tree(others, word, first, off, count), *tree(others, word, first + off, leaves - off, count)]
 
 
+def money(number):
+    return f"{'-' if number < 0 else ''}{abs(number) // MILLION}.{abs(number) % MILLION:06}"
+
+
 def certificate(made, word, leaves, count):
+    """The text of the certificate, in which {} stands for the bound that is claimed."""
     units, periods = len(made["thermal_generators"]), made["time_periods"]
     cells = [(g, t) for g in range(1, units + 1) for t in range(1, periods + 1)]
     random.shuffle(cells)
     version = 3 if word == "exact" else 2
-    head = f"uc-certificate {version}\nsize {periods} {units} {len(made['renewable_generators'])} {count}\nclaim bound -1000000000.000000\nschedule none\n"
+    head = f"uc-certificate {version}\nsize {periods} {units} {len(made['renewable_generators'])} {count}\nclaim bound {{}}\nschedule none\n"
     return head + tables(made, count) + "".join(tree(cells, word, 1, leaves, count)) + "end\n"
+
+
+def greatest(words, path, text):
+    """The greatest bound, in micro-dollars, with which the certificate is accepted."""
+    low, high = -LARGE, LARGE
+    while high - low > 1:
+        middle = (low + high) // 2
+        path.write_text(text.format(money(middle)))
+        code = subprocess.run(words, capture_output=True, check=False).returncode
+        low, high = (middle, high) if code == 0 else (low, middle)
+    return low
 
 
 def main():
@@ -67,9 +88,11 @@ def main():
                 told = []
                 for word in ("exact", "bound"):
                     random.seed(1)
-                    path.write_text(certificate(made, word, leaves, count))
-                    code, seconds = check.best([program, "check", file, str(path)])
-                    told.append(f"{word} {code} in {seconds:.3f} s")
+                    words, text = [program, "check", file, str(path)], certificate(made, word, leaves, count)
+                    bound = money(greatest(words, path, text))
+                    path.write_text(text.format(bound))
+                    code, seconds = check.best(words)
+                    told.append(f"{word} {code} at {bound} in {seconds:.3f} s")
                 print(f"{file}: {leaves} leaves at {count} tables, {', '.join(told)}", flush=True)
 
 

@@ -1,11 +1,12 @@
 #!/usr/bin/env python3
 """Runs of small systems that no schedule serves, for what their ramps allow from hour to hour, which no single hour shows.
 
-    python3 bench/infeasible.py PROGRAM [highs]     # PROGRAM is `crates/uc/out/uc`, or `unproved`
+    python3 bench/infeasible.py PROGRAM [--exact-units] [highs]     # PROGRAM is `crates/uc/out/uc`, or `unproved`
 
 Each is one of two systems with changes, and stands beside why it has no schedule. `solve` gets 100 evaluations and should end with status
-3, and `check` has to accept its certificate. Told are the status, the evaluations and the seconds of the processor. With `highs`, by a
-Python that has scipy 1.9 or later, HiGHS looks for a schedule too, see `highs.py`. The two systems as they stand have one, and come first.
+3, and `check` has to accept its certificate. Told are the status, the evaluations and the seconds of the processor. With `--exact-units` the
+search keeps the ramps of each unit in its bounds. With `highs`, by a Python that has scipy 1.9 or later, HiGHS looks for a schedule too, see
+`highs.py`. The two systems as they stand have one, and come first.
 """
 import copy
 import json
@@ -16,6 +17,7 @@ import tempfile
 import search
 
 UNITS = "100"
+EXACT = "--exact-units"
 NONE = 3
 
 
@@ -93,11 +95,11 @@ def changed(base, fields, units):
     return made
 
 
-def run(program, made, folder):
+def run(program, made, folder, options):
     """The status of `solve`, the evaluations, and the seconds of the processor that it took; its certificate has to be accepted."""
     case, certificate = folder / "instance.json", folder / "found.cert"
     case.write_text(json.dumps(made))
-    solved, took = search.timed([program, "solve", case, "--cert", certificate, "--units", UNITS])
+    solved, took = search.timed([program, "solve", case, "--cert", certificate, "--units", UNITS, *options])
     checked, _ = search.timed([program, "check", case, certificate])
     if solved.returncode > 3 or checked.returncode:
         raise SystemExit(solved.stderr + checked.stderr)
@@ -117,14 +119,14 @@ def main(program, others):
         program = search.built(folder) if program == "unproved" else pathlib.Path(program).resolve()
         for name, base, fields, units in rows:
             made = changed(base, fields, units)
-            status, evaluations, took = run(program, made, folder)
+            status, evaluations, took = run(program, made, folder, [it for it in others if it == EXACT])
             ended += status == NONE
-            told = ", HiGHS finds " + ("a schedule" if has_schedule(made) else "none") if others else ""
+            told = ", HiGHS finds " + ("a schedule" if has_schedule(made) else "none") if "highs" in others else ""
             print(f"{name}: status {status}, {evaluations} evaluations in {took:.2f} s{told}", flush=True)
     print(f"{ended} of {len(SYSTEMS)} ended with status {NONE}")
 
 
 if __name__ == "__main__":
-    if len(sys.argv) < 2 or sys.argv[2:] not in ([], ["highs"]):
+    if len(sys.argv) < 2 or not set(sys.argv[2:]) <= {EXACT, "highs"}:
         raise SystemExit(__doc__)
     main(sys.argv[1], sys.argv[2:])
