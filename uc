@@ -8,13 +8,12 @@ program=$top/crates/uc/out/uc
 child='' work='' told='' crates=() uses=() began=() took=()
 
 # What the proof of each crate took when it was measured, in seconds of one processor.
-weights='uc_model 60 dual_model 55 outside 78 outside_system 111 decimal_json 143 instance 254 cert_text 323 report 125
-  cost_curves 69 start_costs 28 period_term 69 ramp_duals 32 system_value 69 interval_graph 28 unit_path 88
-  dispatch_repair 235 dual_value 83 quick_value 148 opening_tables 65 uplift 166 bundle 143 prices 212 repair_state 222
-  schedule_repair 217 branch_tree 92 incumbent 42 steal_pool 102 search_core 148 claims 30 book 216 decommitment 249 opening 111
-  workers 700
-  schedule_check 152 state_walk 37 leaf_values 78 cert_check 102 demo_gen 46 command_line 194 uc_check 212 uc_cli 88
-  uc 171'
+weights='uc_model 75 dual_model 60 outside 78 outside_system 111 decimal_json 160 instance 250 table_list 80 cert_text 350 report 125
+  cost_curves 75 start_costs 35 period_term 80 ramp_duals 40 system_value 69 interval_graph 30 step_functions 145 hull_function 27
+  unit_path 100 unit_runs 22 unit_exact 140 dispatch_repair 260 dual_value 115 quick_value 250 opening_tables 65 uplift 155 bundle 170
+  prices 270 repair_state 220 schedule_repair 217 roll 115 branch_tree 92 incumbent 42 steal_pool 80 search_core 170 claims 35 book 180
+  decommitment 300 opening 80 workers 600 schedule_check 155 state_walk 80 leaf_values 100 cert_check 120 demo_gen 40 command_line 210
+  uc_check 270 uc_cli 88 uc 171'
 
 say() { printf 'uc: %s\n' "$*" >&2; }
 is_current() {
