@@ -11,7 +11,7 @@ use Rattle.cert_text.specs.Grammar.{Sizes, AreSizes, rescaled, ComesBefore, IsCh
 use Rattle.cert_text.specs.inside.Parts.{AreChanges}
 use Rattle.table_list.proofs.RowChanges.{Rise, IsPresent, AreOthers, with_rows, each_as, each_behind, each_change, each_with_rows, rise_from, rising_from, rise_with_rows, rows_few, rows_found, rows_made}
 use Rattle.table_list.proofs.PriceChanges.{prices_told, with_prices, as_pairs}
-use Rattle.table_list.proofs.TableChanges.{demand_change, reserve_change, told_changes, told_table, told_change, told_whole}
+use Rattle.table_list.proofs.TableChanges.{demand_change, reserve_change, told_changes, told_table, told_change}
 use Rattle.cert_text.proofs.PriceChanges.{ArePriceChanges, none_past, length_prices, digits_prices, prices_found, prices_made}
 
 -- ---- Changes that may stand are some of demand, of reserve and of ramps.

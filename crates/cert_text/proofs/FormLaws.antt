@@ -8,7 +8,7 @@ use Rattle.std.specs.Char.{digit_value}
 use Rattle.std.specs.Str.Parse.{digits_value, AllDigits}
 use Rattle.std.proofs.lemmas.List.Sums.{prefix_len_is, prefix_len-le-length}
 use Rattle.std.proofs.lemmas.Grind.{common_steps}
-use Rattle.cert_text.specs.inside.Forms.{is_digit, run, run_value, ◌>>=◌, Form, text_at, after, ended, both, mapped, passing, fixed, when, times, begins_with, is_whole, whole_at, decimals_at, signed_at, with_sign, negative, millionths, millionths_at, money_at, ordinal_at, or_else, version_at, sizes_of, are_sizes, size_at, claim_at, is_penalty, penalty_at, tells_exact, is_over, denominator_at, head_from, head_at, schedule_at, plan_at, on_cell, off_cell, on_cell_at, cell_at, row_at, scale_at, ramp_count_at, end_at}
+use Rattle.cert_text.specs.inside.Forms.{is_digit, run, run_value, ◌>>=◌, Form, text_at, after, ended, both, mapped, passing, fixed, when, times, begins_with, is_whole, whole_at, decimals_at, signed_at, with_sign, negative, millionths, millionths_at, money_at, ordinal_at, or_else, version_at, sizes_of, are_sizes, size_at, claim_at, on_cell, off_cell, on_cell_at, cell_at, row_at, scale_at, ramp_count_at, end_at}
 use Rattle.std.specs.List.{flat_map, starts_with}
 use Rattle.std.proofs.lemmas.Bool.Decides.{Decides-eqb, Decides-and, Decides-ltb, Decides-like}
 use Rattle.std.proofs.lemmas.List.{drop_at, take_at, take-append-drop, length-append, length-take-le, get_or-take, get_or_append_left}
@@ -18,11 +18,11 @@ use Rattle.std.proofs.lemmas.Slice.Eq.{starts_is}
 use Rattle.cert_text.proofs.Loops.{after_text}
 use Rattle.std.proofs.lemmas.Bool.{ltb-true, leb-true, lt-ltb, le-leb, eqb-true, ne_eqb, cases_eq, and_parts, eq-eqb, false≢true}
 use Rattle.uc_model.specs.Money.{six_digits, millionths_text, money_text}
-use Rattle.uc_model.proofs.MoneyText.{length-six_digits, six_digits-digits_value, six_digits_injective, money_text_bytes, money_text_nonempty}
-use Rattle.cert_text.specs.TextConditions.{Cell, HasDigits, IsMoney, IsDenominator, IsOnCell, IsOffCell, IsCellText, IsThermalRow, IsPowerRow}
+use Rattle.uc_model.proofs.MoneyText.{length-six_digits, six_digits-digits_value, six_digits_injective}
+use Rattle.cert_text.specs.TextConditions.{Cell, HasDigits, IsMoney, IsOnCell, IsOffCell, IsCellText, IsThermalRow, IsPowerRow}
 use Rattle.outside.specs.Lines.{line, list_line}
 use Rattle.cert_text.specs.CertificateText.{Version, First, Second, Third, version_line, size_line, claim_line, cell_text, thermal_line, scale_line, prices_line, end_line}
-use Rattle.cert_text.specs.Grammar.{Sizes, AreSizes, IsSizeIn, ScheduleHead, IsScheduleHead, schedule_line, PlanLine, Priced, Unpriced, plan_line, IsPenaltyLine, IsPlanLine, ramp_count_line}
+use Rattle.cert_text.specs.Grammar.{Sizes, AreSizes, IsSizeIn, ramp_count_line}
 use Rattle.std.specs.Bool.{Decides}
 
 -- a text of few digits is one of a small number

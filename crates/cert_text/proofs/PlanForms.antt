@@ -1,5 +1,5 @@
 -- The forms of the lines of prices and of a schedule read what they write, and nothing else.
-use Rattle.std.proofs.Common.{ℕ, ℤ, ◌+◌, ◌<◌, ◌≤◌, length, arith, ◌≡◌, zero, suc, true, false, List, [], ◌∷◌, get_or, sym, ap, ◌∙◌, Bool, ◌++◌, drop, Option, Some, None, refl, subst, append_assoc, cond, inl, inr, ◌⊎◌, nat_eq, nat_le, ◌&&◌, IfSome, codes}
+use Rattle.std.proofs.Common.{ℕ, ℤ, ◌≤◌, arith, ◌≡◌, zero, suc, true, false, List, [], ◌∷◌, get_or, sym, ap, ◌∙◌, Bool, ◌++◌, drop, Option, Some, None, refl, subst, append_assoc, cond, inl, inr, ◌⊎◌, nat_eq, nat_le, IfSome, codes}
 use Rattle.std.specs.Bool.{Decides}
 use Rattle.std.proofs.lemmas.Bool.Decides.{Decides-and, Decides-like}
 use Rattle.std.proofs.lemmas.Bool.{leb-true, le-leb, ne_eqb, false≢true}
@@ -8,10 +8,10 @@ use Rattle.uc_model.specs.Decimal.{whole_text}
 use Rattle.uc_model.specs.Money.{money_text}
 use Rattle.uc_model.proofs.MoneyText.{money_text_bytes, money_text_nonempty}
 use Rattle.outside.specs.Lines.{line}
-use Rattle.cert_text.specs.TextConditions.{IsMoney, IsDenominator}
+use Rattle.cert_text.specs.TextConditions.{IsDenominator}
 use Rattle.cert_text.specs.CertificateText.{Version, First, Second, Third}
 use Rattle.cert_text.specs.Grammar.{ScheduleHead, IsScheduleHead, schedule_line, PlanLine, Priced, Unpriced, plan_line, IsPenaltyLine, IsPlanLine}
-use Rattle.cert_text.specs.inside.Forms.{text_at, after, ended, mapped, passing, when, whole_at, is_penalty, penalty_at, tells_exact, is_over, denominator_at, head_from, head_at, schedule_at, plan_at}
+use Rattle.cert_text.specs.inside.Forms.{text_at, after, ended, mapped, passing, whole_at, is_penalty, penalty_at, tells_exact, is_over, denominator_at, head_from, head_at, schedule_at, plan_at}
 use Rattle.cert_text.proofs.FormLaws.{IsForm, Anything, IsChosen, NoDigit, text_at-takes, after-form, both-form, form-as, image-form, mapped-form, passing-form, choice-form, empty-form, money-form, last_whole, spaced_whole}
 
 none_from : {A : Type 0} (o : Option A) → ((a : A) → o ≡ Some a → ⊥) → o ≡ None

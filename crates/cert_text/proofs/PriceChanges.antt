@@ -1,11 +1,11 @@
 -- Prices and their changes: the changes that are written make the new prices of the old ones, and of changed prices these changes are
 -- written and no others.
-use Rattle.std.proofs.Common.{◌≡◌, ℕ, suc, ◌+◌, ◌<◌, ◌≤◌, ◌≢◌, ⊎_elim, Bool, true, false, cond, List, [], ◌∷◌, ◌++◌, length, map, ℤ, pos, refl, sym, ap, subst, ◌∙◌, arith, slice_set, slice_index_or, append_assoc, length-append, All, if◌then◌else◌}
+use Rattle.std.proofs.Common.{◌≡◌, ℕ, suc, ◌+◌, ◌<◌, ◌≤◌, ◌≢◌, ⊎_elim, true, false, List, [], ◌∷◌, ◌++◌, length, ℤ, pos, refl, sym, ap, subst, ◌∙◌, arith, slice_set, slice_index_or, append_assoc, All}
 use Rattle.std.specs.List.{AllByRecursion as Each}
 use Rattle.std.specs.Ordering.{int_eq}
-use Rattle.std.proofs.lemmas.Bool.{cases_Bool, cases_eq, cond-true, cond-false, false_from_ne_true, false≢true}
+use Rattle.std.proofs.lemmas.Bool.{cases_Bool, cases_eq, false≢true}
 use Rattle.std.proofs.lemmas.Bool.Decides.{Decides-int_eq}
-use Rattle.std.proofs.lemmas.List.{set_at, get_or_at, length-set}
+use Rattle.std.proofs.lemmas.List.{get_or_at, length-set}
 use Rattle.std.proofs.lemmas.List.Elements.{All-set}
 use Rattle.table_list.proofs.PriceChanges.{prices_told, told_same, told_other, with_prices, put_here, longer}
 use Rattle.cert_text.specs.TextConditions.{HasDigits}

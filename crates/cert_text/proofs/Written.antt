@@ -1,5 +1,5 @@
 -- What is told next of tables, and what is still to be told behind it, are what was to be told before.
-use Rattle.std.proofs.Common.{◌≡◌, ℕ, ℤ, pos, ◌+◌, ◌<◌, ◌≤◌, suc, min, Bool, true, false, cond, List, [], ◌∷◌, ◌++◌, length, map, drop, get_or, Option, Some, None, option_to_list, slice_get, ◌-◌, refl, ap, sym, ◌∙◌, add-one, drop-cons, length-drop, length-append, arith}
+use Rattle.std.proofs.Common.{◌≡◌, ℕ, ℤ, pos, ◌+◌, ◌<◌, ◌≤◌, suc, Bool, true, false, cond, List, [], ◌∷◌, ◌++◌, length, map, drop, get_or, Option, Some, None, option_to_list, slice_get, ◌-◌, refl, ap, sym, ◌∙◌, add-one, drop-cons, length-append, arith}
 use Rattle.std.specs.List.{flat_map}
 use Rattle.std.specs.Option.{option_map_or}
 use Rattle.std.specs.Ordering.{int_eq}

@@ -1,5 +1,5 @@
 -- The text of a certificate, in the version in which it is written, in the parts in which it is.
-use Rattle.std.specs.Prelude.{◌≡◌, ℕ, ◌+◌, ◌<◌, Bool, true, false, List, [], ◌∷◌, ◌++◌, ℤ, Option, Some, None, MatchOption, option_to_list, length, flat_map, codes, if◌then◌else◌}
+use Rattle.std.specs.Prelude.{ℕ, Bool, true, false, List, [], ◌∷◌, ◌++◌, ℤ, Option, Some, None, length, flat_map, codes, if◌then◌else◌}
 use Rattle.std.specs.Ordering.{int_eq}
 pub use Rattle.uc_model.specs.declared.instance.Instance.{Instance}
 use Rattle.dual_model.specs.Certificate.{WrittenSchedule}

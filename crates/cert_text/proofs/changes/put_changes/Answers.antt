@@ -1,5 +1,5 @@
 -- Each turn puts the change of its place.
-use Rattle.std.proofs.Common.{◌++◌, length, drop, sym, ap, ◌∙◌, arith}
+use Rattle.std.proofs.Common.{sym, ap, arith}
 use Rattle.std.specs.List.{flat_map}
 use Rattle.std.proofs.lemmas.List.{length-map, drop_all}
 use Rattle.table_list.specs.TableChanges.{change_of, changes_of}

@@ -1,5 +1,5 @@
 -- Each turn puts the changes of a table behind the one before it.
-use Rattle.std.proofs.Common.{◌≡◌, get_or, w64, of_z, to_z, ◌++◌, [], ◌-◌, drop, slice_get, sym, ap, ◌∙◌, arith}
+use Rattle.std.proofs.Common.{◌≡◌, get_or, w64, of_z, to_z, ◌++◌, [], drop, slice_get, sym, ap, ◌∙◌, arith}
 use Rattle.std.specs.Option.{option_map_or}
 use Rattle.std.proofs.lemmas.Int.{to_z-of_z}
 use Rattle.table_list.specs.TableChanges.{changes_of}
