@@ -7,6 +7,7 @@ mod beside;
 mod cells;
 mod convex;
 mod course;
+mod heads;
 mod lists;
 mod merit;
 mod patterns;

@@ -297,11 +297,12 @@ impl Period {
 
     /// Whether hardly more reserve is left than is wanted, or less.
     pub(crate) fn is_short_soon(&self, market: &Market) -> bool {
-        let spare = self
-            .heads
-            .saturating_sub(self.power)
-            .saturating_sub(self.worth_with(market, &NOTHING))
-            .saturating_sub(self.reserve);
-        spare < self.reserve / 20
+        self.spare(market) < self.reserve / 20
+    }
+
+    /// By how much more reserve is left than is wanted; below 0 where it is less.
+    pub(crate) fn spare(&self, market: &Market) -> i64 {
+        let given = self.worth_with(market, &NOTHING);
+        self.lack_of_reserve(&NOTHING, given).saturating_neg()
     }
 }

@@ -2,26 +2,36 @@
 
 use crate::cells::{Cells, Known, SAME, UNKNOWN, WAYS};
 use crate::course::Course;
-use crate::lists::{at, stretch};
+use crate::heads::{raise, set_spares};
+use crate::lists::{at, put, stretch};
 use crate::merit::Market;
 use crate::period::{NOTHING, Period};
 use crate::supply::Fill;
 use crate::trajectory::Trajectory;
 use crate::unit::Unit;
-use crate::window::{IDLE, Window, keep_ramps, narrow, open};
+use crate::window::{IDLE, Window, keep_ramps, narrow_to, open};
 use std::alloc::Global;
 use uc_model::{Instance, NoMemory, Pattern};
 
-/// The units, the order of merit of their segments, and whether a unit's ramps can bind.
+/// A unit, and the place of its first segment in the order of merit.
+#[derive(Clone, Copy)]
+pub(crate) struct Placed {
+    pub place: usize,
+    pub unit: usize,
+}
+
+/// The units, the order of merit of their segments, the units from the one whose first segment is last in it on, and whether a unit's ramps
+/// can bind.
 #[derive(Drop)]
 pub struct Plant {
     pub units: Vec<Unit>,
     pub market: Market,
+    dearest_first: Vec<Placed>,
     pub is_ramped: bool,
 }
 
 /// The periods; each unit's pattern, its windows, and what is known of its cells; and memory for one unit's cells, windows and pattern,
-/// and for how far periods are filled.
+/// for how far periods are filled, and for how much of a unit's head each can do without.
 #[derive(Drop)]
 pub struct State {
     pub periods: Vec<Period>,
@@ -32,6 +42,7 @@ pub struct State {
     pub trial: Trial,
     pub course: Course,
     pub(crate) fills: Vec<Fill>,
+    spares: Vec<i64>,
 }
 
 /// The windows of a unit that is tried, and memory for its trajectory.
@@ -47,6 +58,7 @@ impl Plant {
         Plant {
             units: Vec::new(alloc),
             market: Market::new(alloc),
+            dearest_first: Vec::new(alloc),
             is_ramped: false,
         }
     }
@@ -54,8 +66,20 @@ impl Plant {
     /// Orders the units of the instance that were put in. The only error is `NoMemory`.
     pub fn order(&mut self, alloc: Global, instance: &Instance) -> Result<(), NoMemory> {
         self.is_ramped = can_any_bind(&self.units);
-        self.market.fill(alloc, instance, &mut self.units)
+        self.market
+            .fill(alloc, instance, &mut self.units)
+            .and(push_dearest(&self.units, &mut self.dearest_first))
     }
+}
+
+// Adds the units from the one whose first segment is last in the order of merit on.
+fn push_dearest(units: &[Unit], order: &mut Vec<Placed>) -> Result<(), NoMemory> {
+    for g in 0..units.len() {
+        let place = units[g].first_place();
+        put(order, Placed { place, unit: g })?;
+    }
+    order.sort_by_key(|own| usize::MAX.saturating_sub(own.place))?;
+    Ok(())
 }
 
 // Whether the ramps of one of the units can bind.
@@ -82,6 +106,7 @@ impl State {
             },
             course: Course::new(alloc),
             fills: Vec::new(alloc),
+            spares: Vec::new(alloc),
         }
     }
 
@@ -103,6 +128,7 @@ impl State {
             .and(stretch(&mut self.trial.row, count, IDLE))
             .and(self.course.stretch(count))
             .and(stretch(&mut self.fills, count, UNFILLED))
+            .and(stretch(&mut self.spares, count, 0))
     }
 
     /// Puts all units on their patterns, at the outputs in order of merit, moved until they keep the ramps.
@@ -114,18 +140,62 @@ impl State {
 
     /// Centres the windows on the outputs in order of merit inside them.
     pub fn recenter(&mut self, plant: &Plant, count: u32) {
+        self.center_all(plant, count, Outputs::Kept);
+    }
+
+    /// Lets the dearest units give less where they give it for the reserve of the next period alone, and that can do without. The units
+    /// give first what lets tight periods have all heads.
+    pub fn refine(&mut self, plant: &Plant, count: u32) {
+        self.center_all(plant, count, Outputs::Raised);
+        self.center_all(plant, count, Outputs::Kept);
+        for _ in 0..LOWERINGS {
+            self.center_all(plant, count, Outputs::Lowered);
+        }
+        self.center_all(plant, count, Outputs::Kept);
+    }
+
+    // Centres the windows of all units on these outputs, the dearest first.
+    fn center_all(&mut self, plant: &Plant, count: u32, outputs: Outputs) {
         fill_periods(&plant.market, &mut self.periods, &mut self.fills);
-        let (own, rows) = (self.trial.row.as_mut_slice(), self.rows.as_mut_slice());
-        let patterns = self.patterns.as_slice();
-        for g in 0..plant.units.len().min(patterns.len()).min(rows.len()) {
-            let (unit, row) = (&plant.units[g], rows[g].as_mut_slice());
-            copy_row(row, own);
-            center(unit, own, &self.fills);
-            open(unit, &patterns[g], count, own);
-            fit(unit, &self.periods, own);
-            exchange(&plant.market, &mut self.periods, unit, row, own);
+        for placed in plant.dearest_first.as_slice() {
+            self.center_unit(plant, placed.unit, count, outputs);
         }
     }
+
+    // Centres the windows of unit g on these outputs.
+    fn center_unit(&mut self, plant: &Plant, g: usize, count: u32, outputs: Outputs) {
+        if g >= plant.units.len() || g >= self.patterns.len() || g >= self.rows.len() {
+            return;
+        }
+        let (market, unit) = (&plant.market, &plant.units[g]);
+        let (own, row) = (self.trial.row.as_mut_slice(), self.rows[g].as_mut_slice());
+        copy_row(row, own);
+        center(unit, own, &self.fills);
+        open(unit, &self.patterns[g], count, own);
+        if unit.is_ramped {
+            self.spares.fill(0);
+            match outputs {
+                Outputs::Kept => {}
+                Outputs::Raised => raise(unit, &self.periods, own),
+                Outputs::Lowered => set_spares(market, &self.periods, row, own, &mut self.spares),
+            }
+            keep_ramps(unit, own);
+            narrow_to(unit, &self.periods, &self.spares, own);
+        }
+        exchange(market, &mut self.periods, unit, row, own);
+    }
+}
+
+/// How often outputs are lowered, each time as far as the windows of the time before let them.
+const LOWERINGS: u32 = 4;
+
+// The outputs that windows are centred on: those in order of merit, as they are, raised for the reserve of the next period, or lowered
+// where it can do without.
+#[derive(Clone, Copy)]
+enum Outputs {
+    Kept,
+    Raised,
+    Lowered,
 }
 
 // Adds so many rows of so many entries.
@@ -155,14 +225,6 @@ fn fill_periods(market: &Market, periods: &mut [Period], fills: &mut [Fill]) {
         let period = &mut periods[t];
         fills[t] = period.fill(market, period.given_with(market, &NOTHING));
         period.is_tight = period.is_tight || period.is_short_soon(market);
-    }
-}
-
-// Makes open windows keep the ramps, where these can bind.
-fn fit(unit: &Unit, periods: &[Period], row: &mut [Window]) {
-    if unit.is_ramped {
-        keep_ramps(unit, row);
-        narrow(unit, periods, row);
     }
 }
 

@@ -139,6 +139,14 @@ impl Unit {
         window.on && window.power < self.width.min(self.full)
     }
 
+    /// The place of the first segment in the order of merit, and 0 where there is none.
+    pub(crate) fn first_place(&self) -> usize {
+        match self.segments.first() {
+            Some(segment) => segment.place,
+            None => 0,
+        }
+    }
+
     /// What an hour at an output above the minimum costs.
     pub(crate) fn cost_at(&self, power: i64) -> i64 {
         let mut cost = self.base;

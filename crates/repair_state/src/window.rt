@@ -1,5 +1,6 @@
 //! Windows: what a unit may give in each period, so that whatever it gives inside them keeps its ramps.
 
+use crate::lists::at;
 use crate::patterns::is_on;
 use crate::period::Period;
 use crate::unit::{Limits, Unit};
@@ -78,10 +79,16 @@ pub fn keep_ramps(unit: &Unit, row: &mut [Window]) {
 
 /// Narrows open windows round their centres, which keep the ramps, until whatever is inside keeps them.
 pub fn narrow(unit: &Unit, periods: &[Period], row: &mut [Window]) {
+    narrow_to(unit, periods, &[], row);
+}
+
+/// The same, where so much of the head in each period may go.
+pub(crate) fn narrow_to(unit: &Unit, periods: &[Period], spares: &[i64], row: &mut [Window]) {
     let mut before = initial(unit);
     for t in 0..periods.len().min(row.len()) {
         if periods[t].is_tight && row[t].on {
-            let least = row[t].head.saturating_sub(unit.rise).min(before.power);
+            let head = row[t].head.saturating_sub(at(spares, t));
+            let least = head.saturating_sub(unit.rise).min(before.power);
             before.low = before.low.max(least);
         }
         narrow_both(unit, &mut before, &mut row[t]);

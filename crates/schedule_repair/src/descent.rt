@@ -6,6 +6,7 @@ ghost use Rattle.uc_model.specs.declared.instance.Instance.{Instance};
 ghost use Rattle.schedule_check.specs.Accepted.{IsAcceptedIfFound};
 
 use crate::accepted::accepted;
+use crate::kept::cost_of_state;
 use crate::kicks::kick;
 use crate::passes::{Units, pass, pass_hard, set_soft_prices, soft_price};
 use crate::printing::printed_of;
@@ -80,6 +81,7 @@ fn kicked(
     if room.kept.cost == before {
         return Ok(None);
     }
+    room.kept.restore(&room.plant, &mut room.state);
     offer(alloc, room, instance)
 }
 
@@ -115,12 +117,11 @@ fn descent(
     }
     room.state.load(&room.plant, instance.periods);
     descend(room, instance, table)?;
-    let found = offer(alloc, room, instance)?;
-    room.kept.keep(&room.plant, &mut room.state, instance);
-    Ok(found)
+    offer(alloc, room, instance)
 }
 
-// The schedule of the state with its cost, if it is accepted.
+// The schedule of the state with its cost, if it is accepted. The state is kept if it is the cheapest so far, and refined if none is
+// cheaper.
 fn offer(
     alloc: Global,
     room: &mut Repair,
@@ -130,11 +131,26 @@ fn offer(
     ensures { IfOk result (IsAcceptedIfFound instance.now) }
 {
     room.state.recenter(&room.plant, instance.periods);
+    let cost = cost_of_state(&room.plant, &mut room.state, instance);
+    room.kept.keep_cheaper(&room.state, cost);
+    if room.plant.is_ramped && cost <= room.kept.cost {
+        refine(room, instance);
+    }
     let printed = printed_of(alloc, &room.plant, &room.state, instance)?;
     Ok(match accepted(instance, &printed) {
         Some(cost) => Some((printed, cost)),
         None => None,
     })
+}
+
+// Refines the outputs of the state, which is kept, as far as that makes it cheaper.
+fn refine(room: &mut Repair, instance: &Instance)
+    requires lawful { IsLawfulInstance instance.now }
+{
+    room.state.refine(&room.plant, instance.periods);
+    if !room.kept.keep(&room.plant, &mut room.state, instance) {
+        room.kept.restore(&room.plant, &mut room.state);
+    }
 }
 
 // The cheaper of two schedules that may be missing.

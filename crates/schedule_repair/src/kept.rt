@@ -39,13 +39,31 @@ impl Kept {
         requires lawful { IsLawfulInstance instance.now }
     {
         let cost = cost_of_state(plant, state, instance);
-        if cost >= self.cost {
+        self.keep_cheaper(state, cost)
+    }
+
+    /// Keeps the state, which costs so much, if that is less than what is kept; and tells whether.
+    pub(crate) fn keep_cheaper(&mut self, state: &State, cost: i64) -> bool {
+        let most = self.cost;
+        self.keep_below(state, cost, most)
+    }
+
+    /// Keeps the state, which costs so much, if that is below `most`; and tells whether.
+    pub(crate) fn keep_below(&mut self, state: &State, cost: i64, most: i64) -> bool {
+        if cost >= most {
             return false;
         }
         self.cost = cost;
         copy_patterns(&state.patterns, &mut self.patterns);
         copy_rows(&state.rows, &mut self.rows);
         true
+    }
+
+    /// Keeps what another one keeps.
+    pub(crate) fn copy(&mut self, other: &Kept) {
+        self.cost = other.cost;
+        copy_patterns(&other.patterns, &mut self.patterns);
+        copy_rows(&other.rows, &mut self.rows);
     }
 
     /// Makes the state what is kept.
@@ -69,8 +87,8 @@ fn restore_rows(
     }
 }
 
-// What a state costs, with its starts.
-fn cost_of_state(plant: &Plant, state: &mut State, instance: &Instance) -> i64
+/// What a state costs, with its starts.
+pub(crate) fn cost_of_state(plant: &Plant, state: &mut State, instance: &Instance) -> i64
     requires lawful { IsLawfulInstance instance.now }
 {
     let mut cost = total(&plant.market, &mut state.periods);

@@ -1,8 +1,9 @@
-//! A kick: the best state is left by a turn that costs little, and improved anew.
+//! A kick: a state near the best one is left by a turn that costs little, and improved anew.
 
 ghost use Rattle.uc_model.specs.Limits.{IsLawfulInstance};
 
 use crate::chance::CHANCES;
+use crate::kept::cost_of_state;
 use crate::moves::improve;
 use crate::passes::{Units, pass, pass_hard, set_soft_prices, soft_price};
 use crate::room::Repair;
@@ -23,7 +24,7 @@ const SOFT_KICKS: u64 = CHANCES / 4 * 3;
 /// So many searches of a pattern count as one move where turns are listed, since the rest of a move is shared there.
 const SEARCHES: usize = 4;
 
-/// Kicks the best state as long as moves are left in the room and it costs more than the aim. The only error is `NoMemory`.
+/// Kicks states near the best one, from it on, as long as moves are left in the room and it costs more than the aim. The only error is `NoMemory`.
 pub(crate) fn kick(
     room: &mut Repair,
     instance: &Instance,
@@ -33,6 +34,7 @@ pub(crate) fn kick(
     requires lawful { IsLawfulInstance instance.now }
 {
     room.kept.restore(&room.plant, &mut room.state);
+    room.walk.begin(&room.kept);
     for _ in 0..room.left {
         if room.left == 0 || room.kept.cost <= aim {
             break;
@@ -75,7 +77,7 @@ fn most_above(cost: i64, instance: &Instance) -> i64 {
     }
 }
 
-// Turns a cell, improves the other units that have turns, and then the unit of the cell too; and goes back if that is no cheaper.
+// Turns a cell, improves the other units that have turns, and then the unit of the cell too; and keeps what is the cheapest so far.
 fn kick_once(room: &mut Repair, instance: &Instance, table: &Table) -> Result<(), NoMemory>
     requires lawful { IsLawfulInstance instance.now }
 {
@@ -92,8 +94,12 @@ fn kick_once(room: &mut Repair, instance: &Instance, table: &Table) -> Result<()
     pass(room, instance, Units::ListedBut(turn.unit))?;
     turn_unit(room, instance, turn.unit, None)?;
     pass_hard(room, instance, Units::Listed, PASSES)?;
-    if !room.kept.keep(&room.plant, &mut room.state, instance) {
-        room.kept.restore(&room.plant, &mut room.state);
+    let cost = cost_of_state(&room.plant, &mut room.state, instance);
+    if room.kept.keep_cheaper(&room.state, cost) {
+        room.walk.begin(&room.kept);
+    } else {
+        room.walk
+            .go_on(&room.plant, &mut room.state, &room.kept, cost);
     }
     Ok(())
 }

@@ -14,6 +14,7 @@ mod rounding;
 mod size;
 mod tried;
 mod turns;
+mod walk;
 mod widening;
 
 pub use descent::repair;

@@ -7,6 +7,7 @@ use crate::descent::THRESHOLDS;
 use crate::kept::Kept;
 use crate::tried::Tried;
 use crate::turns::Turns;
+use crate::walk::Walk;
 use cost_curves::Curve;
 use repair_state::{Plant, State, Unit, put, unit_at};
 use start_costs::sigma;
@@ -25,6 +26,7 @@ pub struct Repair {
     pub(crate) turns: Turns,
     pub(crate) tried: Tried,
     pub(crate) kept: Kept,
+    pub(crate) walk: Walk,
     moves: u32,
     pub(crate) left: u32,
     repairs: usize,
@@ -50,6 +52,7 @@ impl Repair {
             turns: Turns::new(alloc),
             tried: Tried::new(alloc),
             kept: Kept::new(alloc),
+            walk: Walk::new(alloc),
             moves: 0,
             left: 0,
             repairs: 0,
@@ -68,6 +71,7 @@ impl Repair {
             .and(self.turns.fill(self.plant.units.len()))
             .and(self.tried.fill())
             .and(self.kept.fill(alloc, &self.state))
+            .and(self.walk.fill(alloc, &self.state))
     }
 
     /// Gives a repair so many moves.
