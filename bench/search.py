@@ -1,7 +1,7 @@
 #!/usr/bin/env python3
 """Measures what whole runs of `uc solve` find on instance files, and what they take.
 
-    python3 bench/search.py PROGRAM UNITS[:SECONDS] [--shed=PRICE] [--spill-reserve=PRICE] CASE.json ..
+    python3 bench/search.py PROGRAM UNITS[:SECONDS] [--exact-units] [--shed=PRICE] [--spill-reserve=PRICE] CASE.json ..
 
 PROGRAM is `crates/uc/out/uc`, or `unproved`, which builds the program of the sources at hand without a proof, see `unproved.py`. Told are
 cost, bound and gap after a budget of so many evaluations, the evaluations, and the seconds of the processor that the run took and the check
@@ -18,6 +18,9 @@ import unproved
 
 TOP = pathlib.Path(__file__).resolve().parent.parent
 LIBRARIES = "outside outside_system report uc_cli".split()
+
+# The option of `solve` that the check and HiGHS know nothing of.
+EXACT = "--exact-units"
 
 
 def built(folder):
@@ -44,9 +47,9 @@ def amount(report, name):
     return next((float(row[1]) for row in rows if row[0] == name), None)
 
 
-def measure(program, units, prices, case, folder):
-    certificate = folder / "found.cert"
-    solved, took = timed([program, "solve", case, "--cert", certificate, "--units", units, *prices])
+def measure(program, units, options, case, folder):
+    certificate, prices = folder / "found.cert", [it for it in options if it != EXACT]
+    solved, took = timed([program, "solve", case, "--cert", certificate, "--units", units, *options])
     if solved.returncode > 3:
         raise SystemExit(solved.stderr)
     checked, check = timed([program, "check", case, certificate, *prices])
@@ -64,7 +67,8 @@ def measure(program, units, prices, case, folder):
     print(", ".join(parts), f"in {took:.2f} s, checked in {check:.2f} s", flush=True)
 
 
-def highs_too(seconds, prices, case):
+def highs_too(seconds, options, case):
+    prices = [it for it in options if it != EXACT]
     try:
         import highs
     except ImportError:
@@ -76,14 +80,14 @@ def highs_too(seconds, prices, case):
 
 def main(program, budget, words):
     units, _, seconds = budget.partition(":")
-    prices, cases = ([it for it in words if it.startswith("--") == is_price] for is_price in (True, False))
+    options, cases = ([it for it in words if it.startswith("--") == is_option] for is_option in (True, False))
     with tempfile.TemporaryDirectory() as made:
         folder = pathlib.Path(made)
         program = built(folder) if program == "unproved" else program
         for case in cases:
-            measure(program, units, prices, case, folder)
+            measure(program, units, options, case, folder)
             if seconds:
-                highs_too(float(seconds), prices, case)
+                highs_too(float(seconds), options, case)
 
 
 if __name__ == "__main__":

@@ -2,6 +2,7 @@
 use Rattle.std.proofs.Common.{◌∙◌, subst, sym, IfOk}
 use Rattle.dual_model.specs.Tree.{HasEachPattern}
 use Rattle.decommitment.specs.Standings.{IsDropped}
+use Rattle.opening.specs.Blocked.{HasNoBlockedUnit}
 use Rattle.workers.specs.inside.Answers.{Instance, IsAnswerOf}
 use Rattle.workers.specs.inside.Starts.{IsOpened}
 use Rattle.workers.proofs.root_search.searched.Goals as goal
@@ -9,6 +10,15 @@ use Rattle.workers.proofs.root_search.searched.Goals as goal
 pub excluded-requires-clause-patterns : goal.excluded-requires-clause-patterns
 excluded-requires-clause-patterns g c =
     subst HasEachPattern (sym (c.in_ok-worker.ensures.value ∙ c.started-opened.ensures.kept)) c.requires.patterns
+
+pub excluded-requires-clause-unblocked : goal.excluded-requires-clause-unblocked
+excluded-requires-clause-unblocked g c =
+    subst (HasNoBlockedUnit c.args.options.now.exact) (sym (c.in_ok-worker.ensures.value ∙ c.started-opened.ensures.kept)) c.requires.unblocked
+
+pub claimed-requires-clause-unblocked : goal.claimed-requires-clause-unblocked
+claimed-requires-clause-unblocked g c = λ lifetimes within.
+    subst (HasNoBlockedUnit c.args.options.now.exact) (sym (c.excluded.ensures.kept ∙ c.in_ok-worker.ensures.value ∙ c.started-opened.ensures.kept))
+    c.requires.unblocked
 
 pub claimed-requires-clause-patterns : goal.claimed-requires-clause-patterns
 claimed-requires-clause-patterns g c = λ lifetimes within.
