@@ -1,7 +1,10 @@
 //! The dispatch of commitments.
 
-ghost use Rattle.std.specs.Prelude.{◌≤◌, IfSome};
+ghost use Rattle.std.specs.Prelude.{◌≡◌, ◌≤◌, IfOk, IfSome};
 ghost use Rattle.uc_model.specs.Limits.{IsLawfulInstance};
+ghost use Rattle.uc_model.specs.PrintedSchedule.{HasShapeOf, printed_denominator, printed_schedule};
+ghost use Rattle.uc_model.specs.Rules.{Obeys};
+ghost use Rattle.schedule_check.specs.PlainNumbers.{HasPlainNumbers};
 
 use crate::Answer;
 use crate::commitment::patterns;
@@ -14,31 +17,88 @@ use instance::penalize;
 use schedule_check::cost;
 use std::alloc::{AllocError, Global};
 use uc_model::limits::MAX_PENALTY;
-use uc_model::{Instance, NoMemory, Printed, Stuck};
+use uc_model::{Instance, NoMemory, Pattern, Printed, Stuck};
+
+/// Why words have no dispatch.
+#[derive(Drop)]
+pub(crate) enum NoDispatch {
+    /// They are not a pattern for each unit.
+    Count,
+    Stuck(Stuck),
+    NoMemory,
+}
+
+/// The dispatch of the commitment that the words tell.
+pub(crate) fn dispatched(
+    alloc: Global,
+    instance: &Instance,
+    words: &str,
+) -> Result<Printed, NoDispatch>
+    requires { IsLawfulInstance instance.now }
+    ensures obeys { IfOk result (λ printed. let q = printed_denominator instance.now printed in Obeys instance.now q (printed_schedule instance.now printed q)) }
+    ensures shape { IfOk result (HasShapeOf instance.now) }
+    ensures numbers { IfOk result HasPlainNumbers }
+    ensures whole { IfOk result (λ printed. printed.denominator ≡ 1) }
+{
+    let Ok(patterns) = patterns(alloc, words) else {
+        return Err(NoDispatch::NoMemory);
+    };
+    let printed = dispatch_of(alloc, instance, &patterns);
+    drop(patterns);
+    printed
+}
+
+// The dispatch of a commitment.
+fn dispatch_of(
+    alloc: Global,
+    instance: &Instance,
+    patterns: &[Pattern],
+) -> Result<Printed, NoDispatch>
+    requires { IsLawfulInstance instance.now }
+    ensures obeys { IfOk result (λ printed. let q = printed_denominator instance.now printed in Obeys instance.now q (printed_schedule instance.now printed q)) }
+    ensures shape { IfOk result (HasShapeOf instance.now) }
+    ensures numbers { IfOk result HasPlainNumbers }
+    ensures whole { IfOk result (λ printed. printed.denominator ≡ 1) }
+{
+    if patterns.len() != instance.thermal.as_slice().len() {
+        return Err(NoDispatch::Count);
+    }
+    match dispatch(alloc, instance, patterns) {
+        Ok(printed) => Ok(printed),
+        Err(DispatchFault::Stuck(stuck)) => Err(NoDispatch::Stuck(stuck)),
+        Err(DispatchFault::NoMemory) => Err(NoDispatch::NoMemory),
+    }
+}
+
+/// What is answered where words have no dispatch.
+pub(crate) fn no_dispatch(alloc: Global, why: NoDispatch) -> Answer {
+    match why {
+        NoDispatch::Count => no_commitment(alloc),
+        NoDispatch::Stuck(stuck) => stuck_text(String::new(alloc), &stuck),
+        NoDispatch::NoMemory => Err(NoMemory),
+    }
+}
+
+/// What is answered where words are not a pattern for each unit.
+pub(crate) fn no_commitment(alloc: Global) -> Answer {
+    Ok(String::from_str(alloc, "a pattern for each unit\n")?)
+}
 
 /// What a commitment's dispatch gives, or its marginal prices, or where and why it is stuck and what it gives before.
 pub(crate) fn tell_dispatch(alloc: Global, instance: &Instance, word: &str, rest: &str) -> Answer
     requires { IsLawfulInstance instance.now }
 {
-    let patterns = patterns(alloc, rest)?;
-    if patterns.len() != instance.thermal.as_slice().len() {
-        return Ok(String::from_str(alloc, "a pattern for each unit\n")?);
-    }
-    match dispatch(alloc, instance, &patterns) {
+    match dispatched(alloc, instance, rest) {
         Ok(printed) => {
             let text = match word {
                 "marginal" => marginal_text(alloc, instance, &printed),
-                "priced" => {
-                    let cost = cost(instance, &printed);
-                    shortage_text(alloc, &printed, cost)
-                }
+                "priced" => shortage_text(alloc, &printed, cost(instance, &printed)),
                 _ => schedule_text(String::new(alloc), &printed),
             };
             drop(printed);
             text
         }
-        Err(DispatchFault::Stuck(stuck)) => stuck_text(String::new(alloc), &stuck),
-        Err(DispatchFault::NoMemory) => Err(NoMemory),
+        Err(why) => no_dispatch(alloc, why),
     }
 }
 
@@ -48,18 +108,30 @@ pub(crate) fn tell_priced(alloc: Global, instance: Instance, word: &str, rest: &
     requires { IsLawfulInstance instance }
 {
     let mut instance = instance;
-    if let Some((a, rest)) = price(rest) {
-        if let Some((b, rest)) = price(rest) {
-            if penalize(&mut instance, a, b) {
-                return match word {
-                    "uplift" => tell_uplift(alloc, &instance, rest),
-                    "report" => tell_report(alloc, &instance, rest),
-                    _ => tell_dispatch(alloc, &instance, word, rest),
-                };
-            }
-        }
-    }
+    let answer = match prices(rest) {
+        Some((a, b, rest)) if penalize(&mut instance, a, b) => match word {
+            "uplift" => tell_uplift(alloc, &instance, rest),
+            "report" => tell_report(alloc, &instance, rest),
+            _ => tell_dispatch(alloc, &instance, word, rest),
+        },
+        _ => no_prices(alloc),
+    };
+    drop(instance);
+    answer
+}
+
+// What is answered where prices are not such.
+fn no_prices(alloc: Global) -> Answer {
     Ok(String::from_str(alloc, "no such prices\n")?)
+}
+
+// Two prices, and what comes behind them.
+fn prices(rest: &str) -> Option<(u32, u32, &str)>
+    ensures { IfSome result (λ read. (read.0 ≤ MAX_PENALTY) × (read.1 ≤ MAX_PENALTY)) }
+{
+    let (a, rest) = price(rest)?;
+    let (b, rest) = price(rest)?;
+    Some((a, b, rest))
 }
 
 // A price, and what comes behind it.

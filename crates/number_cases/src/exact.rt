@@ -31,7 +31,9 @@ pub(crate) fn tell_exact(alloc: Global, instance: &Instance, words: &str) -> Ans
         return Ok(String::from_str(alloc, "no unit\n")?);
     }
     let asked = read_words(alloc, instance, words)?;
-    match found(alloc, instance, &asked.table, &asked.fix)? {
+    let found = found(alloc, instance, &asked.table, &asked.fix);
+    drop(asked);
+    match found? {
         Some((value, pattern)) => Ok(format!(in alloc; "exact {value} {}\n", pattern.low)?),
         None => Ok(String::from_str(alloc, "no schedule\n")?),
     }
@@ -45,7 +47,9 @@ pub(crate) fn tell_checked(alloc: Global, instance: &Instance, words: &str) -> A
         return Ok(String::from_str(alloc, "no unit\n")?);
     }
     let asked = read_words(alloc, instance, words)?;
-    match checked(alloc, instance, &asked.table, &asked.fix)? {
+    let checked = checked(alloc, instance, &asked.table, &asked.fix);
+    drop(asked);
+    match checked? {
         Some(value) => Ok(format!(in alloc; "exact {value}\n")?),
         None => Ok(String::from_str(alloc, "no schedule\n")?),
     }
@@ -82,8 +86,17 @@ fn found(
 {
     let points = instance.thermal.as_slice()[0].points.as_slice();
     let curve = Curve::of(alloc, points)?;
-    let mut exact = Exact::new(alloc, instance.periods as usize, points.len())?;
-    Ok(least(&mut exact, instance, &curve, table, 0, fix))
+    let value = match Exact::new(alloc, instance.periods as usize, points.len()) {
+        Ok(exact) => {
+            let mut exact = exact;
+            let value = least(&mut exact, instance, &curve, table, 0, fix);
+            drop(exact);
+            Ok(value)
+        }
+        Err(NoMemory) => Err(NoMemory),
+    };
+    drop(curve);
+    value
 }
 
 // And by a walk.
@@ -99,6 +112,15 @@ fn checked(
 {
     let points = instance.thermal.as_slice()[0].points.as_slice();
     let curve = Curve::of(alloc, points)?;
-    let mut walk = ExactWalk::new(alloc, instance.periods as usize, points.len())?;
-    Ok(least_exact(&mut walk, instance, &curve, table, 0, fix))
+    let value = match ExactWalk::new(alloc, instance.periods as usize, points.len()) {
+        Ok(walk) => {
+            let mut walk = walk;
+            let value = least_exact(&mut walk, instance, &curve, table, 0, fix);
+            drop(walk);
+            Ok(value)
+        }
+        Err(NoMemory) => Err(NoMemory),
+    };
+    drop(curve);
+    value
 }

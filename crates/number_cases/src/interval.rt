@@ -36,13 +36,38 @@ fn interval_text(alloc: Global, unit: &Thermal, periods: usize, a: usize, b: usi
     requires order { a ≤ b }
     requires within { b < periods }
 {
-    let terms = free_terms(alloc, unit, periods)?;
-    let mut intervals = Intervals::new(alloc, periods)?;
-    intervals.fill(&terms);
-    match intervals.cost(a, b) {
+    match interval_cost(alloc, unit, periods, a, b)? {
         Some(cost) => Ok(format!(in alloc; "cost {cost}\n")?),
         None => Ok(String::from_str(alloc, "no cost\n")?),
     }
+}
+
+// What the hours from period a to period b cost, if the unit may be on in each.
+fn interval_cost(
+    alloc: Global,
+    unit: &Thermal,
+    periods: usize,
+    a: usize,
+    b: usize,
+) -> Result<Option<i128>, NoMemory>
+    requires lawful { IsLawfulThermal unit.now }
+    requires periods { periods ≤ MAX_PERIODS }
+    requires order { a ≤ b }
+    requires within { b < periods }
+{
+    let terms = free_terms(alloc, unit, periods)?;
+    let cost = match Intervals::new(alloc, periods) {
+        Ok(intervals) => {
+            let mut intervals = intervals;
+            intervals.fill(&terms);
+            let cost = intervals.cost(a, b);
+            drop(intervals);
+            Ok(cost)
+        }
+        Err(NoMemory) => Err(NoMemory),
+    };
+    drop(terms);
+    cost
 }
 
 // The unit's terms at the scale of a million, where nothing has a price.
@@ -52,9 +77,14 @@ fn free_terms(alloc: Global, unit: &Thermal, periods: usize) -> Result<Terms, No
     ensures sized { IfOk result (AreSizedTerms unit.now) }
     ensures periods { IfOk result (λ terms. period_count terms ≡ periods) }
 {
-    let curve = Curve::of(alloc, unit.points.as_slice())?;
     let rows = free_rows(alloc, periods)?;
-    terms(alloc, unit, &curve, 1_000_000, &rows)
+    let curve = Curve::of(alloc, unit.points.as_slice());
+    let made = match &curve {
+        Ok(curve) => terms(alloc, unit, curve, 1_000_000, &rows),
+        Err(NoMemory) => Err(NoMemory),
+    };
+    drop((rows, curve));
+    made
 }
 
 // Prices of 0 in each period.

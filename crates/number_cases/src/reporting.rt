@@ -3,10 +3,8 @@
 ghost use Rattle.uc_model.specs.Limits.{IsLawfulInstance};
 
 use crate::Answer;
-use crate::commitment::patterns;
-use crate::dispatch::stuck_text;
+use crate::dispatch::{dispatched, no_dispatch};
 use branch_tree::{Found, Layout, Tree};
-use dispatch_repair::{DispatchFault, dispatch};
 use outside_memory::MemorySink;
 use report::write_found;
 use std::alloc::Global;
@@ -18,18 +16,13 @@ pub(crate) fn tell_report(alloc: Global, instance: &Instance, words: &str) -> An
     requires { IsLawfulInstance instance.now }
 {
     let (denominator, bits) = words.split_once(' ').unwrap_or((words, ""));
-    let patterns = patterns(alloc, bits)?;
-    if patterns.len() != instance.thermal.as_slice().len() {
-        return Ok(String::from_str(alloc, "a pattern for each unit\n")?);
-    }
-    match dispatch(alloc, instance, &patterns) {
+    match dispatched(alloc, instance, bits) {
         Ok(printed) => {
             let mut printed = printed;
             printed.denominator = denominator.parse::<u8>().unwrap_or(1);
             report_text(alloc, instance, printed)
         }
-        Err(DispatchFault::Stuck(stuck)) => stuck_text(String::new(alloc), &stuck),
-        Err(DispatchFault::NoMemory) => Err(NoMemory),
+        Err(why) => no_dispatch(alloc, why),
     }
 }
 

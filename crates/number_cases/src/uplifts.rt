@@ -1,18 +1,17 @@
 //! The uplifts of dispatches.
 
-ghost use Rattle.std.specs.Prelude.{◌≡◌, IfOk, IfSome, All};
+ghost use Rattle.std.specs.Prelude.{◌≡◌, IfOk, IfSome, All, length};
 ghost use Rattle.uc_model.specs.Limits.{IsLawfulInstance};
 ghost use Rattle.uc_model.specs.PrintedSchedule.{HasShapeOf, printed_denominator, printed_schedule};
 ghost use Rattle.uc_model.specs.Rules.{Obeys};
 ghost use Rattle.uc_model.specs.Schedule.{thermal_count};
 ghost use Rattle.dual_model.specs.Fixings.{IsCell};
-ghost use Rattle.dual_model.specs.Prices.{AreRising, HasLawfulSigns, HasSizeOf, IsRowPriced, IsRowSigned, IsRowWithin, IsWithinLimits};
+ghost use Rattle.dual_model.specs.Prices.{AreRising, HasLawfulSigns, HasSizeOf, IsPrice, IsRowPriced, IsRowSigned, IsRowWithin, IsWithinLimits};
 ghost use Rattle.schedule_check.specs.PlainNumbers.{HasPlainNumbers};
 
 use crate::Answer;
-use crate::commitment::patterns;
+use crate::dispatch::{dispatched, no_dispatch};
 use crate::unit::period;
-use dispatch_repair::{DispatchFault, dispatch};
 use dual_model::{RampRow, Table};
 use std::alloc::{AllocError, Global};
 use uc_model::{Instance, NoMemory, Printed};
@@ -33,23 +32,18 @@ pub(crate) fn tell_uplift(alloc: Global, instance: &Instance, words: &str) -> An
     let (demand, words) = words.split_once(' ').unwrap_or((words, ""));
     let (reserve, words) = words.split_once(' ').unwrap_or((words, ""));
     let (ramp, bits) = words.split_once(' ').unwrap_or((words, ""));
-    let patterns = patterns(alloc, bits)?;
-    if patterns.len() != instance.thermal.as_slice().len() {
-        return Ok(String::from_str(alloc, "a pattern for each unit\n")?);
-    }
     let prices = Prices {
         demand: demand.parse::<i32>().unwrap_or(0),
         reserve: reserve.parse::<u32>().unwrap_or(0),
         ramp: ramp_row(instance, ramp),
     };
-    match dispatch(alloc, instance, &patterns) {
+    match dispatched(alloc, instance, bits) {
         Ok(printed) => {
             let text = uplift_text(alloc, instance, &printed, &prices);
             drop(printed);
             text
         }
-        Err(DispatchFault::Stuck(_)) => Ok(String::from_str(alloc, "stuck\n")?),
-        Err(DispatchFault::NoMemory) => Err(NoMemory),
+        Err(why) => no_dispatch(alloc, why),
     }
 }
 
@@ -64,11 +58,12 @@ fn uplift_text(alloc: Global, instance: &Instance, printed: &Printed, prices: &P
     requires row { IfSome prices.now.ramp (λ row. IsRowSigned row × IsRowPriced row) }
 {
     let table = table(alloc, instance, prices)?;
-    let uplifts = of(alloc, instance, printed, &table)?;
+    let uplifts = of(alloc, instance, printed, &table);
+    drop(table);
+    let uplifts = uplifts?;
     let mut text = String::new(alloc);
     let put = put_uplifts(&mut text, &uplifts);
     drop(uplifts);
-    drop(table);
     Ok(put.and(Ok(text))?)
 }
 
@@ -125,11 +120,36 @@ pub(crate) fn table_with(
     ensures signs { IfOk result HasLawfulSigns }
     ensures limits { IfOk result IsWithinLimits }
 {
-    let periods = instance.periods as usize;
-    let demand = vec![in alloc; i64::from(demand); periods]?;
-    let reserve = vec![in alloc; i64::from(reserve); periods]?;
+    let demand = vec![in alloc; i64::from(demand); instance.periods as usize]?;
+    let table = table_at(alloc, instance, &demand, reserve, rows);
+    drop(demand);
+    table
+}
+
+// The table of prices of demand, of one of reserve for all periods, and of ramp rows.
+fn table_at(
+    alloc: Global,
+    instance: &Instance,
+    demand: &[i64],
+    reserve: u32,
+    rows: &[RampRow],
+) -> Result<Table, NoMemory>
+    requires lawful { IsLawfulInstance instance.now }
+    requires demand { length demand.now ≡ instance.now.periods }
+    requires priced { All IsPrice demand.now }
+    requires within { All (IsRowWithin (thermal_count instance.now) instance.now.periods) rows.now }
+    requires rising { AreRising rows.now }
+    requires signed { All IsRowSigned rows.now }
+    requires rows_priced { All IsRowPriced rows.now }
+    ensures size { IfOk result (HasSizeOf instance.now) }
+    ensures signs { IfOk result HasLawfulSigns }
+    ensures limits { IfOk result IsWithinLimits }
+{
+    let reserve = vec![in alloc; i64::from(reserve); instance.periods as usize]?;
     let units = instance.thermal.as_slice().len() as u32;
-    Table::new(alloc, units, 1_000_000, &demand, &reserve, rows)
+    let table = Table::new(alloc, units, 1_000_000, demand, &reserve, rows);
+    drop(reserve);
+    table
 }
 
 // The ramp row that `UNIT:PERIOD:UP:DOWN` says of a cell of the instance.

@@ -125,6 +125,7 @@ fn carried_out<R: Threads + Wait + Sync>(
     run.code = end.code;
     run.has_found = end.found.is_some();
     run.has_rolled = end.rolled.is_some();
+    drop(end);
     run.entries = gate.entries();
     if !names_workers(words) {
         run.strays = gate.strays();

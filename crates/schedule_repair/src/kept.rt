@@ -1,4 +1,4 @@
-//! The best state so far.
+//! States that are kept: the best one so far, and one near it.
 
 ghost use Rattle.uc_model.specs.Limits.{IsLawfulInstance};
 
@@ -7,7 +7,7 @@ use repair_state::{Period, Plant, State, Window, copy_row, exchange, total, unit
 use std::alloc::Global;
 use uc_model::{Instance, NoMemory, Pattern};
 
-/// The patterns and windows of the best state, and what it costs; nothing is kept at the greatest cost.
+/// The patterns and windows of a state, and what it costs; nothing is kept at the greatest cost.
 #[derive(Drop)]
 pub(crate) struct Kept {
     patterns: Vec<Pattern>,

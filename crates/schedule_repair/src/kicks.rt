@@ -15,7 +15,7 @@ use uc_model::{Instance, NoMemory};
 /// The most passes of a kick in which missing reserve has its full price.
 const PASSES: u32 = 2;
 
-/// Turns that cost more than this part of the best state are left alone, unless the system is small: there none is.
+/// Turns that cost more than this part of the best state's cost are left alone; in a small system, those that cost more than all of it.
 const SPAN: i64 = 200;
 
 /// So many of `CHANCES` kicks begin with missing reserve cheap: three of four.
@@ -47,7 +47,7 @@ pub(crate) fn kick(
     Ok(())
 }
 
-// Lists the turns that cost little, for which the search of a pattern in each cell takes moves.
+// Lists the turns of the state at hand that cost little, for which the search of a pattern in each cell takes moves.
 fn list_turns(room: &mut Repair, instance: &Instance) -> Result<(), NoMemory>
     requires lawful { IsLawfulInstance instance.now }
 {
@@ -67,7 +67,7 @@ fn list_turns(room: &mut Repair, instance: &Instance) -> Result<(), NoMemory>
     )
 }
 
-// What a turn of a best state of this cost may cost more.
+// What a turn may cost more, where the best state costs so much.
 fn most_above(cost: i64, instance: &Instance) -> i64 {
     let size = cost.saturating_abs();
     if is_small(instance) {

@@ -17,7 +17,7 @@ pub(crate) struct Turn {
 /// After so many choices the turns are listed anew, if the best state is another one then.
 const CHOICES: u32 = 500;
 
-/// The turns, cheapest first, and which units have one; the cost of the state that they were listed from, which is the greatest number
+/// The turns, cheapest first, and which units have one; what the best state cost when they were listed, which is the greatest number
 /// before; and how often one was chosen since.
 #[derive(Drop)]
 pub(crate) struct Turns {
@@ -43,7 +43,7 @@ impl Turns {
         stretch(&mut self.are_listed, units, false)
     }
 
-    /// Whether the turns are to be listed anew from the best state, which costs so much.
+    /// Whether the turns are to be listed anew, where the best state costs so much.
     pub(crate) fn are_old(&self, cost: i64) -> bool {
         self.listed_at == i64::MAX || (self.choices >= CHOICES && cost < self.listed_at)
     }
@@ -65,7 +65,7 @@ impl Turns {
         }
     }
 
-    /// Lists the turns from a state of this cost that cost less than so much more. The only error is `NoMemory`.
+    /// Lists the turns of a state that cost less than so much more, where the best one costs so much. The only error is `NoMemory`.
     pub(crate) fn list(
         &mut self,
         plant: &Plant,

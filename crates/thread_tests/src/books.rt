@@ -141,7 +141,11 @@ fn bound(alloc: Global, instance: &Instance, table: &Table) -> Result<i128, Fail
     };
     let mut scratch = Scratch::new(alloc, instance.periods as usize).map_err(|_| "no memory")?;
     match value(alloc, &mut scratch, instance, &root, table) {
-        Ok(valued) => Ok(floor_div(valued.total, i128::from(table.k()))),
+        Ok(valued) => {
+            let total = valued.total;
+            drop((valued, scratch));
+            Ok(floor_div(total, i128::from(table.k())))
+        }
         Err(_) => Err("no value")?,
     }
 }
@@ -214,7 +218,9 @@ fn ask_fresh<C: Case>(
 {
     let (node, more, exact) = asked;
     let table = table(rt.alloc(), instance, more).map_err(|_| "no memory")?;
-    assert_eq!(rt; book.fresh(node, &table, exact), want);
+    let is_fresh = book.fresh(node, &table, exact);
+    drop(table);
+    assert_eq!(rt; is_fresh, want);
     Ok(())
 }
 
@@ -229,8 +235,10 @@ fn ask_holding<C: Case>(
         return Err("nothing is held")?;
     };
     let (node, table, _) = book.holding(rt.alloc(), unit).map_err(|_| "no memory")?;
-    assert_eq!(rt; node.fixings.as_slice().len(), cells);
-    assert_eq!(rt; table.k(), 1_000_000 + i64::from(more));
+    let (decided, scale) = (node.fixings.as_slice().len(), table.k());
+    drop((node, table));
+    assert_eq!(rt; decided, cells);
+    assert_eq!(rt; scale, 1_000_000 + i64::from(more));
     Ok(())
 }
 
@@ -299,8 +307,23 @@ fn ask_all<C: Case>(
     let mut book = Book::<C>::new(rt.alloc(), instance, budget, 0, table, value).map_err(
         |_| "no memory",
     )?;
+    let asked = ask_each(rt, &mut book, instance, calls);
+    drop(book);
+    asked
+}
+
+// Makes the calls of a book, one after another.
+fn ask_each<C: Case>(
+    rt: &(impl Abort + AllocGlobal),
+    book: &mut Book<C>,
+    instance: &Instance,
+    calls: &[Call],
+) -> Result<(), Fail>
+    requires lawful { IsLawfulInstance instance.now }
+    requires same { instance.now ≡ C.opening.instance }
+{
     for call in calls {
-        ask(rt, &mut book, instance, call)?;
+        ask(rt, book, instance, call)?;
     }
     Ok(())
 }
@@ -501,17 +524,35 @@ fn work_together<C: Case + Send + Sync, R: Threads + Wait + Sync>(
     Ok(desk.into_inner().finish())
 }
 
+// The root's bound at its first table, and what two workers leave.
+fn shared<R: Threads + Wait + Sync>(
+    rt: &R,
+    alloc: Global,
+    instance: &Instance,
+) -> Result<(i128, (Tree, List<Table>, List<Entry>)), Fail>
+    requires { IsLawfulInstance instance.now }
+{
+    let table = first_table(alloc, instance)?;
+    let value = bound(alloc, instance, &table)?;
+    match work_together::<Brand, R>(rt, alloc, instance, table, value) {
+        Ok(left) => Ok((value, left)),
+        Err(NoMemory) => Err("no memory")?,
+    }
+}
+
 // What two workers leave is the same whatever the order of their steps.
 #[test]
 fn two_workers_share_a_book(rt: HostRuntime) -> Result<(), Fail> {
     let alloc = rt.alloc();
     let instance = demo(alloc)?;
-    let table = first_table(alloc, &instance)?;
-    let value = bound(alloc, &instance, &table)?;
-    let left = work_together::<Brand, _>(&rt, alloc, &instance, table, value);
-    let (tree, tables, log) = left.map_err(|_| "no memory")?;
-    assert_eq!(rt; tree.bound(), Some(value));
-    assert_eq!(rt; tables.as_slice().len(), 21);
-    assert_eq!(rt; log.as_slice().len(), 20);
+    let shared = shared(&rt, alloc, &instance);
+    drop(instance);
+    let (value, left) = shared?;
+    let (tree, tables, log) = left;
+    let (bound, stored, entries) = (tree.bound(), tables.as_slice().len(), log.as_slice().len());
+    drop((tree, tables, log));
+    assert_eq!(rt; bound, Some(value));
+    assert_eq!(rt; stored, 21);
+    assert_eq!(rt; entries, 20);
     Ok(())
 }

@@ -44,15 +44,21 @@ fn verify_and_tell<F: Files, O: Sink>(
 {
     let checked = verify(alloc, asked, files)?;
     match tell_claims(out, &checked.claims) {
-        Ok(()) => Ok(End {
-            code: 0,
-            found: None,
-            rolled: None,
-        }),
-        Err(Failed) => Err(Failure {
-            fault: Fault::Write { output: true },
-            found: None,
-        }),
+        Ok(()) => {
+            drop(checked);
+            Ok(End {
+                code: 0,
+                found: None,
+                rolled: None,
+            })
+        }
+        Err(Failed) => {
+            drop(checked);
+            Err(Failure {
+                fault: Fault::Write { output: true },
+                found: None,
+            })
+        }
     }
 }
 

@@ -49,8 +49,14 @@ fn rewrite<F: Files>(alloc: Global, asked: &Upgrade, files: &mut F) -> Result<()
 {
     let cert = read_certificate(alloc, files, asked.certificate)?;
     match save_read(files, asked.to, &cert) {
-        Ok(()) => Ok(()),
-        Err(Failed) => Err(Fault::Write { output: false }),
+        Ok(()) => {
+            drop(cert);
+            Ok(())
+        }
+        Err(Failed) => {
+            drop(cert);
+            Err(Fault::Write { output: false })
+        }
     }
 }
 

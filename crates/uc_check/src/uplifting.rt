@@ -1,21 +1,23 @@
 //! A run of `uplift`.
 
 ghost use Rattle.std.specs.Prelude.{◌≡◌, ℕ, List, Option as Maybe, IfOk, IfErr, OnOk, OnErr};
-ghost use Rattle.outside.specs.Slots.{AllUnopened};
+ghost use Rattle.outside.specs.Slots.{AllUnopened, SlotState};
 ghost use Rattle.outside.specs.Sinks.{SinkState};
 ghost use Rattle.dual_model.specs.Certificate.{WrittenSchedule};
 ghost use Rattle.branch_tree.specs.Claims.{written_of};
 ghost use Rattle.report.specs.UpliftReport.{uplift_report};
 ghost use Rattle.uplift.specs.Uplift.{AreUplifts};
 ghost use Rattle.command_line.specs.Asked.{uplift_asked, HasPrices};
-ghost use Rattle.uc_check.specs.Outside.{outside_of};
+ghost use Rattle.command_line.specs.Command.{Check};
+ghost use Rattle.uc_check.specs.Outside.{Slot, outside_of};
 ghost use Rattle.uc_check.specs.Writing.{IsTold, FailsToTell};
 ghost use Rattle.uc_check.specs.Checking.{KeepsToInput};
 ghost use Rattle.uc_check.specs.Uplifting.{Table as TableNumbers, Printed as PrintedNumbers, table_of as table_of_number, told_numbers, HasNoUplifts, IsPriceTable, IsWholeSchedule, IsUplifting, IsUpliftFailure, IsUpliftRun};
-ghost use Rattle.uc_check.specs.inside.Picks.{ArePicked, IsUnpicked, MayHaveUplifts};
+ghost use Rattle.uc_check.specs.inside.Checks.{IsChecked};
+ghost use Rattle.uc_check.specs.inside.Picks.{ArePicked, IsUnpicked, IsUplifted, MayHaveUplifts};
 
 use crate::ending::{End, Failure, end_of};
-use crate::verify::verify;
+use crate::verify::{Checked, verify};
 use cert_text::Cert;
 use command_line::Uplift;
 use dual_model::Table;
@@ -100,6 +102,32 @@ fn uplifts_of(
     Ok(uplifts)
 }
 
+/// A table, with the numbers of the uplifts at its prices.
+#[derive(Drop)]
+struct Uplifted {
+    table: Table,
+    numbers: UpliftNumbers,
+}
+
+// The uplifts of the schedule at the prices of the table of this number.
+fn uplifts_at(alloc: Global, checked: &Checked, number: u32) -> Result<Uplifted, Fault>
+    requires { (asked : Check) × (before : Slot → SlotState) × (after : Slot → SlotState) × IsChecked asked before after checked.now }
+    ensures uplifted { IfOk result (IsUplifted checked.now number) }
+    ensures refused { IfErr result (IsUnpicked checked.now.cert number) }
+{
+    let (printed, table) = picked(alloc, &checked.cert, number)?;
+    match uplifts_of(alloc, &checked.instance, printed, &table) {
+        Ok(uplifts) => Ok(Uplifted {
+            table,
+            numbers: numbers_of(uplifts),
+        }),
+        Err(fault) => {
+            drop(table);
+            Err(fault)
+        }
+    }
+}
+
 // The numbers that the report tells.
 fn numbers_of(uplifts: Uplifts) -> UpliftNumbers
     ensures { result ≡ told_numbers uplifts }
@@ -115,16 +143,11 @@ fn numbers_of(uplifts: Uplifts) -> UpliftNumbers
 }
 
 // Writes the uplifts, and flushes them.
-fn tell_uplifts<O: Sink>(
-    out: &mut O,
-    instance: &Instance,
-    table: &Table,
-    numbers: &UpliftNumbers,
-) -> Result<(), Failed>
-    ensures told { OnOk result (IsTold (uplift_report instance.now table.now numbers.now) (O.state out.old) (O.state out.new)) }
-    ensures failed { OnErr result (FailsToTell (uplift_report instance.now table.now numbers.now) (O.state out.old) (O.state out.new)) }
+fn tell_uplifts<O: Sink>(out: &mut O, instance: &Instance, told: &Uplifted) -> Result<(), Failed>
+    ensures told { OnOk result (IsTold (uplift_report instance.now told.now.table told.now.numbers) (O.state out.old) (O.state out.new)) }
+    ensures failed { OnErr result (FailsToTell (uplift_report instance.now told.now.table told.now.numbers) (O.state out.old) (O.state out.new)) }
 {
-    write_uplift(out, instance, table, numbers)?;
+    write_uplift(out, instance, &told.table, &told.numbers)?;
     out.flush()
 }
 
@@ -145,19 +168,28 @@ fn uplift_and_tell<F: Files, O: Sink>(
         (outside_of (F.state files.old) (O.state out.old) err_old) (outside_of (F.state files.new) (O.state out.new) err_new) }
 {
     let checked = verify(alloc, &asked.check, files)?;
-    let (printed, table) = picked(alloc, &checked.cert, asked.table)?;
-    let uplifts = uplifts_of(alloc, &checked.instance, printed, &table)?;
-    let numbers = numbers_of(uplifts);
-    match tell_uplifts(out, &checked.instance, &table, &numbers) {
-        Ok(()) => Ok(End {
-            code: 0,
-            found: None,
-            rolled: None,
-        }),
-        Err(Failed) => Err(Failure {
-            fault: Fault::Write { output: true },
-            found: None,
-        }),
+    match uplifts_at(alloc, &checked, asked.table) {
+        Ok(uplifted) => match tell_uplifts(out, &checked.instance, &uplifted) {
+            Ok(()) => {
+                drop((checked, uplifted));
+                Ok(End {
+                    code: 0,
+                    found: None,
+                    rolled: None,
+                })
+            }
+            Err(Failed) => {
+                drop((checked, uplifted));
+                Err(Failure {
+                    fault: Fault::Write { output: true },
+                    found: None,
+                })
+            }
+        },
+        Err(fault) => {
+            drop(checked);
+            Err(Failure { fault, found: None })
+        }
     }
 }
 

@@ -27,7 +27,7 @@ use branch_tree::Outcome;
 use dual_model::{Node, Table};
 use opening::Evaluator;
 use outside::Gate;
-use prices::{Values, next_ascent};
+use prices::{Ascent, Values, next_ascent};
 use search_core::Move;
 use search_core::laws::tree_runs_hold;
 use search_core::limits::NODE_ENTRIES;
@@ -232,7 +232,9 @@ fn outcome(
     ensures { IfOk result (IsOutcomeAt exact instance.now path.now table.now) }
 {
     let mut evaluator = Evaluator::new(alloc, instance)?;
-    evaluator.outcome(alloc, path, table, exact)
+    let outcome = evaluator.outcome(alloc, path, table, exact);
+    drop(evaluator);
+    outcome
 }
 
 // The table that the node stores, where it wasn't evaluated yet, or that of an ascent from it.
@@ -253,7 +255,17 @@ fn table(
     if held.node != 0 && held.had == 0 {
         return Ok(stored);
     }
-    Ok(next_ascent(alloc, values, path, &stored, scale, i128::MAX)?.table)
+    let ascent = next_ascent(alloc, values, path, &stored, scale, i128::MAX);
+    drop(stored);
+    Ok(table_of(ascent?))
+}
+
+// The table of an ascent.
+fn table_of(ascent: Ascent) -> Table
+    ensures { result ≡ ascent.table }
+{
+    let Ascent { table, .. } = ascent;
+    table
 }
 
 // The move that ends the claim: the node is left open, or split where it had all the entries that it may have.

@@ -323,7 +323,10 @@ fn visited<C: Run, R: Wait, G: Gate>(
 ) -> Result<bool, NoMemory>
     requires { IsClaimOf C.opening claim.now }
 {
-    held(rt, alloc, shared, member, claim, &mut None, gate)?;
+    let mut none = None;
+    let committed = held(rt, alloc, shared, member, claim, &mut none, gate);
+    drop(none);
+    committed?;
     member.repair_late(alloc, shared)?;
     Ok(true)
 }

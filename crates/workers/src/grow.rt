@@ -165,8 +165,9 @@ fn ended<C: Run + Send + Sync, R: Threads + Wait + Sync, G: Gate + Sync>(
         budget: options.budget,
         exact: options.exact,
     };
-    close(rt, alloc, instance, &mut book, closing, gate)?;
-    Ok((book, schedule))
+    let closed = close(rt, alloc, instance, &mut book, closing, gate);
+    let (both, ()) = beside((book, schedule), closed)?;
+    Ok(both)
 }
 
 // The book and the best schedule after all workers have ended. The only error is `NoMemory`.

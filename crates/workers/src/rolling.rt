@@ -1,6 +1,6 @@
 //! Rolling windows: one search after another, each from the state that the periods kept before it leave.
 
-ghost use Rattle.std.specs.Prelude.{◌≡◌, ◌≤◌, ◌<◌, IfOk, None};
+ghost use Rattle.std.specs.Prelude.{◌≡◌, ◌≤◌, ◌<◌, ℕ, IfOk, IfSome, None};
 ghost use Rattle.uc_model.specs.Limits.{IsLawfulInstance};
 ghost use Rattle.uc_model.specs.declared.limits.TheConstants.{MAX_PERIODS};
 ghost use Rattle.roll.specs.Rolling.{IsNextPlace};
@@ -8,6 +8,7 @@ ghost use Rattle.workers.specs.Options.{AreOptions};
 ghost use Rattle.workers.specs.Rolling.{IsRolled};
 ghost use Rattle.workers.specs.inside.Rolls.{IsPlan, IsKeptSoFar, IsFoundAhead, IsShownAhead, IsStep};
 
+use crate::beside::beside;
 use crate::root_search::{Options, search};
 use branch_tree::Found;
 use outside::Gate;
@@ -116,10 +117,43 @@ fn further<R: Threads + Wait + Sync, G: Gate + Sync>(
     ensures { IfOk result (IsStep plan.entry kept.done) }
 {
     let place = next_place(plan.instance.periods, kept.done, plan.window, plan.step);
-    let found = found_ahead(rt, alloc, plan, &kept, place, gate)?;
-    match &found.schedule {
-        Some((shown, _)) => Ok(Step::Further(more(alloc, plan, &kept, place, shown)?)),
+    let found = found_ahead(rt, alloc, plan, &kept, place, gate);
+    let (kept, found) = beside(kept, found)?;
+    match goes_on(alloc, plan, &kept, place, &found) {
+        Some(more) => {
+            drop((kept, found));
+            further_with(more)
+        }
         None => Ok(Step::Ended(stopped(plan, kept, place, found))),
+    }
+}
+
+// The step to more that is kept. The only error is `NoMemory`.
+fn further_with(more: Result<Kept, NoMemory>) -> Result<Step, NoMemory>
+    ensures { (plan : Plan) (done : ℕ) → IfOk more (λ more. IsKeptSoFar plan more × (done < more.done)) → IfOk result (IsStep plan done) }
+{
+    Ok(Step::Further(more?))
+}
+
+// What is kept with the first periods of the window's schedule, where one was found.
+fn goes_on(
+    alloc: Global,
+    plan: Plan,
+    kept: &Kept,
+    place: Place,
+    found: &Found,
+) -> Option<Result<Kept, NoMemory>>
+    requires plan { IsPlan plan }
+    requires kept { IsKeptSoFar plan kept.now }
+    requires left { kept.now.done < plan.instance.now.periods }
+    requires place { IsNextPlace plan.instance.now.periods plan.window plan.step kept.now.done place }
+    requires found { IsFoundAhead plan kept.now place found.now }
+    ensures more { IfSome result (λ more. IfOk more (λ more. IsKeptSoFar plan.entry more × (kept.now.done < more.done))) }
+    ensures none { result ≡ None → found.now.schedule ≡ None }
+{
+    match &found.schedule {
+        Some((shown, _)) => Some(more(alloc, plan, kept, place, shown)),
+        None => None,
     }
 }
 

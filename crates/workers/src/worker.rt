@@ -9,6 +9,7 @@ ghost use Rattle.schedule_check.specs.Accepted.{IsAcceptedIfFound};
 ghost use Rattle.opening.specs.Blocked.{HasNoBlockedUnit};
 ghost use Rattle.opening.specs.Rays.{HasNoRay, IsFirstRay};
 
+use crate::beside::beside;
 use opening::{Evaluator, excluding_ray};
 use prices::{Ascent, Values};
 use schedule_repair::{Repair, repair};
@@ -45,9 +46,11 @@ impl<'a> Worker<'a> {
         requires { IsLawfulInstance values.instance.now }
         ensures { IfOk result (λ worker. worker ≡ values.entry.instance.now) }
     {
+        let evaluator = Evaluator::new(alloc, values.instance)?;
+        let (evaluator, repairs) = beside(evaluator, Repair::new(alloc, values.instance))?;
         Ok(Worker {
-            evaluator: Evaluator::new(alloc, values.instance)?,
-            repairs: Repair::new(alloc, values.instance)?,
+            evaluator,
+            repairs,
             exact: values.exact,
         })
     }

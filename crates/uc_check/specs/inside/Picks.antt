@@ -10,7 +10,10 @@ use Rattle.branch_tree.specs.Claims.{written_of}
 pub use Rattle.cert_text.specs.declared.cert.Cert.{Cert}
 use Rattle.report.specs.declared.fault.Fault.{Fault}
 use Rattle.report.specs.declared.fault.Fault.TheVariants.{NoUplift, Memory}
-use Rattle.uc_check.specs.Uplifting.{Printed, Table, IsWholeSchedule, IsPriceTable, HasNoUplifts}
+use Rattle.uplift.specs.Uplift.{AreUplifts}
+use Rattle.uc_check.specs.Uplifting.{Printed, Table, Uplifts, IsWholeSchedule, IsPriceTable, HasNoUplifts, told_numbers}
+use Rattle.uc_check.specs.declared.uplifting.Uplifted.{Uplifted}
+use Rattle.uc_check.specs.declared.verify.Checked.{Checked}
 
 -- the schedule and the table of which uplifts are
 pub record ArePicked (cert : Cert) (number : ℕ) (printed : Printed) (table : Table) : Type 0 where
@@ -33,3 +36,11 @@ pub record MayHaveUplifts (instance : Instance) (printed : Printed) (table : Tab
       let q = printed_denominator instance printed in
       Obeys instance q (printed_schedule instance printed q)
   pub prices : IsLawfulTable instance table
+
+-- the table of the number, with the numbers of the uplifts at its prices
+pub record IsUplifted (checked : Checked) (number : ℕ) (uplifted : Uplifted) : Type 0 where
+  pub printed : Printed
+  pub picked : ArePicked checked.cert number printed uplifted.table
+  pub uplifts : Uplifts
+  pub are : AreUplifts checked.instance printed uplifted.table uplifts
+  pub numbers : uplifted.numbers ≡ told_numbers uplifts

@@ -33,8 +33,8 @@ pub returns-in-Ok-clause-files : goal.returns-in-Ok-clause-files
 returns-in-Ok-clause-files g c = λ err_old err_new.
     c.in_ok-checked.ensures.files (g.O.Sink.state c.args.out.now) (g.O.Sink.state c.tell_claims.new.out) err_old err_new
 
-pub returns-clause-failed : goal.returns-clause-failed
-returns-clause-failed g c = λ err_old err_new.
+pub returns-in-Err-clause-failed : goal.returns-in-Err-clause-failed
+returns-in-Err-clause-failed g c = λ err_old err_new.
     let verified = c.in_ok-checked.ensures.verified in
     record {
       certificate = verified.certificate;
@@ -42,6 +42,6 @@ returns-clause-failed g c = λ err_old err_new.
       report = of_claims (λ text. FailsToTell text (g.O.Sink.state c.args.out.now) (g.O.Sink.state c.tell_claims.new.out)) verified.certificate c.in_ok-checked.checked.claims verified.claimed c.in-Err.ensures.failed;
     }
 
-pub returns-clause-files : goal.returns-clause-files
-returns-clause-files g c = λ err_old err_new.
+pub returns-in-Err-clause-files : goal.returns-in-Err-clause-files
+returns-in-Err-clause-files g c = λ err_old err_new.
     c.in_ok-checked.ensures.files (g.O.Sink.state c.args.out.now) (g.O.Sink.state c.tell_claims.new.out) err_old err_new

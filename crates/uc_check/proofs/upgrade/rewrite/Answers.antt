@@ -27,15 +27,15 @@ returns-in-Ok-clause-files g c = λ out_old out_new err_old err_new.
     out_old out_new err_old err_new c.in_ok-cert.ensures.named c.in_ok-cert.ensures.only_read c.in_ok-cert.ensures.others
     c.save_read.ensures.named c.save_read.ensures.others
 
-pub returns-clause-failed : goal.returns-clause-failed
-returns-clause-failed g c = λ out err_old err_new.
+pub returns-in-Err-clause-failed : goal.returns-in-Err-clause-failed
+returns-in-Err-clause-failed g c = λ out err_old err_new.
     let files = g.F.Files.state in
     let text = c.in_ok-cert.ensures.text in
     unsaved (files c.args.files.now) (files c.read_certificate.new.files) (files c.save_read.new.files) out err_old err_new
     c.in_ok-cert.cert text c.in_ok-cert.ensures.others (c.in-Err.ensures.failed text.text.certificate text.text.listed)
 
-pub returns-clause-files : goal.returns-clause-files
-returns-clause-files g c = λ out_old out_new err_old err_new.
+pub returns-in-Err-clause-files : goal.returns-in-Err-clause-files
+returns-in-Err-clause-files g c = λ out_old out_new err_old err_new.
     let files = g.F.Files.state in
     keeps (upgrade_asked c.args.asked.now) (files c.args.files.now) (files c.read_certificate.new.files) (files c.save_read.new.files)
     out_old out_new err_old err_new c.in_ok-cert.ensures.named c.in_ok-cert.ensures.only_read c.in_ok-cert.ensures.others

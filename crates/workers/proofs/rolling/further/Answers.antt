@@ -1,15 +1,10 @@
--- The schedule is one that the search found.
-use Rattle.std.proofs.Common.{subst, IfSome}
-use Rattle.schedule_check.specs.Accepted.{IsAccepted}
+-- What is kept is what it was beside the search.
+use Rattle.std.proofs.Common.{subst, IfOk}
+use Rattle.workers.specs.declared.rolling.Kept.{Kept}
+use Rattle.workers.specs.inside.Rolls.{IsStep}
 use Rattle.workers.proofs.rolling.further.Goals as goal
 
-pub more-requires-clause-shown : goal.more-requires-clause-shown
-more-requires-clause-shown g c =
-    let found = c.in_ok-found.ensures in
-    record {
-      found = c.in_ok-found.found;
-      is_found = found;
-      cost = c.in-Some.field-0-1;
-      is_shown = c.in-Some.is;
-      accepted = subst (λ schedule. IfSome schedule (λ pair. IsAccepted found.ahead pair.0 pair.1)) c.in-Some.is found.accepted;
-    }
+pub returns-in-Some : goal.returns-in-Some
+returns-in-Some g c =
+    subst (λ (kept : Kept). IfOk c.further_with.result (IsStep c.args.plan kept.done)) c.in_ok-kept.ensures.value
+    (c.further_with.ensures c.args.plan c.in_ok-kept.kept.done c.in-Some.ensures.more)

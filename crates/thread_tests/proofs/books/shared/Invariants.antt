@@ -1,5 +1,5 @@
 -- The run that the book is of.
-use Rattle.thread_tests.proofs.books.two_workers_share_a_book.Given as goal
+use Rattle.thread_tests.proofs.books.shared.Given as goal
 
 abbrev pub ghosts-work_together : goal.ghosts-work_together
 ghosts-work_together g a = record {

@@ -6,14 +6,14 @@ use Rattle.uc_model.specs.Limits.{IsLawfulInstance}
 use Rattle.dual_model.specs.Cover.{IsTableBound}
 use Rattle.dual_model.specs.Prices.{IsLawfulTable}
 use Rattle.dual_model.specs.Tree.{root}
-use Rattle.thread_tests.proofs.books.two_workers_share_a_book.Goals as goal
+use Rattle.thread_tests.proofs.books.shared.Goals as goal
 
-pub work_together-left-requires-clause-opening : goal.work_together-left-requires-clause-opening
-work_together-left-requires-clause-opening g c _ =
-    let instance = c.in_ok-instance.instance in
+pub work_together-requires-clause-opening : goal.work_together-requires-clause-opening
+work_together-requires-clause-opening g c _ _ =
+    let instance = c.args.instance.now in
     let table = c.in_ok-table.table in
     let value = c.in_ok-value.value in
-    let lawful : IsLawfulInstance instance = c.in_ok-instance.ensures in
+    let lawful : IsLawfulInstance instance = c.requires in
     let lawful_table : IsLawfulTable instance table = c.in_ok-table.ensures.lawful in
     let scale : pos 0 <ℤ table.k = c.in_ok-table.ensures.scale in
     let bound : IsTableBound false instance root table value = c.in_ok-value.ensures in
