@@ -8,12 +8,12 @@ program=$top/crates/uc/out/uc
 child='' work='' told='' crates=() uses=() began=() took=()
 
 # What the proof of each crate took when it was measured, in seconds of one processor.
-weights='uc_model 75 dual_model 60 outside 78 outside_system 111 decimal_json 160 instance 250 table_list 80 cert_text 350 report 125
-  cost_curves 75 start_costs 35 period_term 80 ramp_duals 40 system_value 69 interval_graph 30 step_functions 145 hull_function 27
-  unit_path 100 unit_runs 22 unit_exact 140 dispatch_repair 260 dual_value 115 quick_value 250 opening_tables 65 uplift 155 bundle 170
-  prices 270 repair_state 220 schedule_repair 217 roll 115 branch_tree 92 incumbent 42 steal_pool 80 search_core 170 claims 35 book 180
-  decommitment 300 opening 80 workers 600 schedule_check 155 state_walk 80 leaf_values 100 cert_check 120 demo_gen 40 command_line 210
-  uc_check 270 uc_cli 88 uc 171'
+weights='uc_model 84 dual_model 66 outside 102 outside_system 132 decimal_json 174 instance 234 table_list 102 cert_text 432
+  report 192 cost_curves 84 start_costs 36 period_term 102 ramp_duals 36 system_value 72 interval_graph 36 step_functions 162
+  hull_function 30 unit_path 102 unit_runs 18 unit_exact 174 dispatch_repair 324 dual_value 102 quick_value 348
+  opening_tables 78 uplift 144 bundle 228 prices 258 repair_state 282 schedule_repair 294 roll 114 branch_tree 102
+  incumbent 42 steal_pool 78 search_core 204 claims 48 book 150 decommitment 336 opening 156 workers 702 schedule_check 180
+  state_walk 156 leaf_values 120 cert_check 186 demo_gen 42 command_line 204 uc_check 174 uc_cli 114 uc 186'
 
 say() { printf 'uc: %s\n' "$*" >&2; }
 is_current() {
