@@ -100,7 +100,7 @@ fn a_new_pass_has_seen_the_same(rt: HostRuntime) -> Result<(), Fail> {
     Ok(())
 }
 
-// The costs of greatest size, of both signs, and no cost at all.
+// The costs of greatest size, of both signs.
 #[test]
 fn costs_of_both_signs(rt: HostRuntime) -> Result<(), Fail> {
     let (best, mut pass) = Best::new(rt.alloc(), 1).map_err(|_| "no memory")?;
@@ -108,7 +108,13 @@ fn costs_of_both_signs(rt: HostRuntime) -> Result<(), Fail> {
     assert_eq!(rt; best.publish(&mut pass, most), true);
     assert_eq!(rt; best.publish(&mut pass, -most), true);
     assert_eq!(rt; best.close(pass), Some(-most));
-    let (none, pass) = Best::new(rt.alloc(), 1).map_err(|_| "no memory")?;
-    assert_eq!(rt; none.close(pass), None);
+    Ok(())
+}
+
+// Where no cost was published there is none.
+#[test]
+fn no_cost(rt: HostRuntime) -> Result<(), Fail> {
+    let (best, pass) = Best::new(rt.alloc(), 1).map_err(|_| "no memory")?;
+    assert_eq!(rt; best.close(pass), None);
     Ok(())
 }

@@ -28,9 +28,6 @@ const PAIR: &str = r#"{"time_periods": 1, "demand": [30], "reserves": [0], "ther
 /// More turns than another worker needs to come to the gate.
 const TURNS: u32 = 1_000_000;
 
-/// So many searches.
-const SEARCHES: u32 = 20;
-
 /// A gate that holds the second unit until the third has entered, for so many turns at most.
 #[derive(Drop)]
 struct Meeting {
@@ -83,8 +80,12 @@ fn pair(alloc: Global) -> Result<Instance, Fail>
     }
 }
 
-// Whether two workers meet in the gate of a search.
-fn meet<R: Threads + Wait + Sync>(rt: &R, alloc: Global, instance: &Instance) -> Result<bool, Fail>
+// How often the worker that holds the second unit has met another one in the gate of a search.
+fn meetings<R: Threads + Wait + Sync>(
+    rt: &R,
+    alloc: Global,
+    instance: &Instance,
+) -> Result<u64, Fail>
     requires { IsLawfulInstance instance.now }
 {
     let options = Options {
@@ -98,34 +99,17 @@ fn meet<R: Threads + Wait + Sync>(rt: &R, alloc: Global, instance: &Instance) ->
         Ok(found) => drop(found),
         Err(NoMemory) => return Err("no memory")?,
     }
-    Ok(meeting.met.load(Ordering::SeqCst) == 1)
-}
-
-// Whether they meet in one of so many searches.
-fn meet_once<R: Threads + Wait + Sync>(
-    rt: &R,
-    alloc: Global,
-    instance: &Instance,
-) -> Result<bool, Fail>
-    requires { IsLawfulInstance instance.now }
-{
-    for _ in 0..SEARCHES {
-        if meet(rt, alloc, instance)? {
-            return Ok(true);
-        }
-    }
-    Ok(false)
+    Ok(meeting.met.load(Ordering::SeqCst))
 }
 
 // Two workers work beside one another. Workers that run one after another, or one that does the work of both, fail: whoever holds the
 // second unit stands in the gate, and does nothing else until its turns are over, so that the third is entered in time by another worker
-// alone. After its turns the second unit goes on, so that such a search ends too. Where the second worker begins late, as on a busy machine,
-// the first one has both nodes in its hand, and they don't meet in that search.
+// alone. After its turns the second unit goes on, so that such a search ends too.
 #[test]
 fn two_workers_meet(rt: HostRuntime) -> Result<(), Fail> {
     let instance = pair(rt.alloc())?;
-    let met = meet_once(&rt, rt.alloc(), &instance);
+    let met = meetings(&rt, rt.alloc(), &instance);
     drop(instance);
-    assert_eq!(rt; met?, true);
+    assert_eq!(rt; met?, 1);
     Ok(())
 }

@@ -26,7 +26,7 @@ use Rattle.decommitment.specs.declared.pass.Standing.{Standing}
 use Rattle.decommitment.specs.declared.pass.Standing.TheVariants as standing
 use Rattle.opening.specs.Blocked.{HasNoBlockedUnit}
 use Rattle.opening.specs.Rays.{IsFirstRay}
-use Rattle.opening.proofs.Blocked.{not_blocked, not_first}
+use Rattle.opening.proofs.Blocked.{not_blocked}
 use Rattle.opening.proofs.OpeningRays.{first_is_one as first_ray_is_one, no_ray, one_first}
 use Rattle.opening_tables.proofs.RayTables.{ray_lawful}
 use Rattle.search_core.specs.Moves.{empty_leaf, ray_leaf}

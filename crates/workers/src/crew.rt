@@ -212,6 +212,8 @@ pub(crate) fn open_root<C: Run, R: Wait, G: Gate>(
         done?;
     }
     if shared.aim.shared {
+        // The others begin later than this worker, which is to leave them what they may steal.
+        member.waiting = 1;
         member.tickets.put_all_out()?;
     }
     Ok(())
