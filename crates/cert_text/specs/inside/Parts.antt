@@ -184,11 +184,15 @@ listing_from p = record {
 unfoldable pub heading_part : Part Sizes
 heading_part = told (λ p. p.1) (then (line_of version_at) (λ version. line_of (size_at version)))
 
+-- what shows the bound: the tables, the tree, and the last line
+abbrev pub proof_part : Sizes → Part (List Table × (List TreeNode × Unit {0}))
+proof_part size = then (tables_part size size.tables None) (λ _. then (tree_part size) (λ _. line_of end_at))
+
 -- a certificate in the version that its first line tells
 unfoldable pub certificate_part : Part (Version × Listing)
 certificate_part =
-    told (λ p. (p.0.version, listing_from p)) (then heading_part (λ size. then (line_of claim_at) (λ _. then (plan_part size)
-    (λ _. then (tables_part size size.tables None) (λ _. then (tree_part size) (λ _. line_of end_at))))))
+    told (λ p. (p.0.version, listing_from p))
+    (then heading_part (λ size. then (line_of claim_at) (λ _. then (plan_part size) (λ _. proof_part size))))
 
 -- ---- Rows of ramp multipliers one behind the other.
 -- each row may stand behind the one before it
