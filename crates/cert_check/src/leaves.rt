@@ -27,11 +27,28 @@ pub(crate) fn first_unsound(
     requires checkable { AreCheckable instance.now cert.now }
     ensures { IfOk result (IsFirstCode instance.now cert.now) }
 {
-    let nodes = cert.tree.as_slice();
     let mut leaves = Leaves::new(alloc, instance)?;
+    let first = walked(alloc, &mut leaves, instance, cert);
+    drop(leaves);
+    first
+}
+
+// The same, by a walk over the nodes with room for their checks.
+fn walked(
+    alloc: Global,
+    leaves: &mut Leaves,
+    instance: &Instance,
+    cert: &Cert,
+) -> Result<Option<Refusal>, NoMemory>
+    requires lawful { IsLawfulInstance instance.now }
+    requires checkable { AreCheckable instance.now cert.now }
+    requires ready { IsReady instance.now cert.now.tables leaves.old }
+    ensures { IfOk result (IsFirstCode instance.now cert.now) }
+{
+    let nodes = cert.tree.as_slice();
     let mut path = Vec::new(alloc);
     for i in 0..nodes.len() {
-        if !is_sound(alloc, &mut leaves, instance, cert, &path, &nodes[i])? {
+        if !is_sound(alloc, leaves, instance, cert, &path, &nodes[i])? {
             return Ok(Some(code(&nodes[i], i as u64 + 1)));
         }
         if !go_on(&mut path, &nodes[i])? {

@@ -1,5 +1,5 @@
 -- Each step says what it says of any certificate that has the listing that was read.
-use Rattle.std.proofs.Common.{◌+◌, arith, All, sym, ap, subst, ◌∙◌, true≢false}
+use Rattle.std.proofs.Common.{◌+◌, arith, sym, ap, subst, ◌∙◌, true≢false}
 use Rattle.dual_model.specs.Laws.{IsClaimTrue}
 use Rattle.dual_model.proofs.Covers.{certificates_claim_truly}
 use Rattle.branch_tree.specs.Claims.{written_of}

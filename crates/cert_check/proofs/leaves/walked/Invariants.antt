@@ -3,7 +3,7 @@ use Rattle.std.proofs.Common.{drop, map}
 use Rattle.cert_text.specs.Reading.{node_of}
 use Rattle.cert_check.specs.inside.Leaves.{IsReady}
 use Rattle.cert_check.specs.inside.Walks.{HasVisited, IsPath, all_visits}
-use Rattle.cert_check.proofs.leaves.first_unsound.Given as goal
+use Rattle.cert_check.proofs.leaves.walked.Given as goal
 
 abbrev pub invariant-loop-i : goal.invariant-loop-i
 invariant-loop-i l = record {
