@@ -1,4 +1,5 @@
 pub mod Endings
+pub mod ReportEnds
 pub mod Telling
 pub mod Prices
 pub mod Unread

@@ -75,7 +75,7 @@ stopped_uplift asked before after (NoUplift refusal) stopped = absurd (⊎_elim
 stopped_uplift asked before after _ stopped = stopped
 
 -- memory was refused once the certificate was checked
-pub out_of_memory : (asked : Check) (f h : Slot → SlotState) (out err_old err_new : SinkState) (checked : Checked) → IsChecked asked f h checked
+out_of_memory : (asked : Check) (f h : Slot → SlotState) (out err_old err_new : SinkState) (checked : Checked) → IsChecked asked f h checked
     → IsCheckStopped asked (outside_of f out err_old) (outside_of h out err_new) Memory
 out_of_memory asked f h out err_old err_new checked is = record {
   cause = inr (record {

@@ -9,12 +9,12 @@ ghost use Rattle.uc_check.specs.Writing.{IsTold, FailsToTell};
 ghost use Rattle.uc_check.specs.Checking.{IsAccepting, IsCheckFailure, KeepsToInput, IsCheckRun};
 ghost use Rattle.command_line.specs.Asked.{check_asked, HasPrices};
 
-use crate::ending::{End, Failure, end_of};
+use crate::ending::{End, Failure, end_of, end_of_report};
 use crate::verify::verify;
 use cert_check::Claims;
 use command_line::Check;
 use outside::{Failed, Files, Sink};
-use report::{Fault, write_claims};
+use report::write_claims;
 use std::alloc::Global;
 
 // Writes what an accepted certificate claims, and flushes it.
@@ -43,23 +43,9 @@ fn verify_and_tell<F: Files, O: Sink>(
         (outside_of (F.state files.old) (O.state out.old) err_old) (outside_of (F.state files.new) (O.state out.new) err_new) }
 {
     let checked = verify(alloc, asked, files)?;
-    match tell_claims(out, &checked.claims) {
-        Ok(()) => {
-            drop(checked);
-            Ok(End {
-                code: 0,
-                found: None,
-                rolled: None,
-            })
-        }
-        Err(Failed) => {
-            drop(checked);
-            Err(Failure {
-                fault: Fault::Write { output: true },
-                found: None,
-            })
-        }
-    }
+    let told = tell_claims(out, &checked.claims);
+    drop(checked);
+    end_of_report(told)
 }
 
 /// A run of `check`: reads instance and certificate, checks the one against the other and reports what is claimed, or

@@ -2,9 +2,10 @@
 
 ghost use Rattle.uc_check.specs.Ending.{IsEndOf};
 ghost use Rattle.uc_check.specs.Writing.{TellsFault};
+ghost use Rattle.uc_check.specs.inside.ReportEnds.{IsReportEnd};
 
 use branch_tree::Found;
-use outside::Sink;
+use outside::{Failed, Sink};
 use report::{Fault, write_fault};
 use roll::Rolled;
 
@@ -39,6 +40,23 @@ pub fn tell_fault<E: Sink>(err: &mut E, fault: &Fault)
     ensures { TellsFault fault.now (E.state err.old) (E.state err.new) }
 {
     let _ = write_fault(err, fault);
+}
+
+/// What a run came to that did what was asked: 0 where its report was told, and else that it couldn't be written.
+pub(crate) fn end_of_report(told: Result<(), Failed>) -> Result<End, Failure>
+    ensures { IsReportEnd told result }
+{
+    match told {
+        Ok(()) => Ok(End {
+            code: 0,
+            found: None,
+            rolled: None,
+        }),
+        Err(Failed) => Err(Failure {
+            fault: Fault::Write { output: true },
+            found: None,
+        }),
+    }
 }
 
 /// The end of a run by what it came to: an answer as it is, or a fault, which is told on the error output.

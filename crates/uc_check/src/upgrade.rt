@@ -15,7 +15,7 @@ ghost use Rattle.uc_check.specs.Writing.{IsSaved, FailsToSave, IsTold, FailsToTe
 ghost use Rattle.uc_check.specs.Upgrading.{IsRewritten, IsUpgrading, IsUpgradeFailure, KeepsToCertificates, IsUpgradeRun};
 
 use crate::certificate::read_certificate;
-use crate::ending::{End, Failure, end_of};
+use crate::ending::{End, Failure, end_of, end_of_report};
 use cert_text::{Cert, write_cert};
 use command_line::Upgrade;
 use outside::{Failed, Files, Sink, Slot, SlotWriter};
@@ -85,17 +85,7 @@ fn rewrite_and_tell<F: Files, O: Sink>(
         (outside_of (F.state files.old) (O.state out.old) err_old) (outside_of (F.state files.new) (O.state out.new) err_new) }
 {
     rewrite(alloc, asked, files)?;
-    match tell_upgraded(out) {
-        Ok(()) => Ok(End {
-            code: 0,
-            found: None,
-            rolled: None,
-        }),
-        Err(Failed) => Err(Failure {
-            fault: Fault::Write { output: true },
-            found: None,
-        }),
-    }
+    end_of_report(tell_upgraded(out))
 }
 
 /// A run of `upgrade`: reads the certificate, in any version, writes it in the one in which it is written and tells that it did,

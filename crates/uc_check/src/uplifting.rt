@@ -16,7 +16,7 @@ ghost use Rattle.uc_check.specs.Uplifting.{Table as TableNumbers, Printed as Pri
 ghost use Rattle.uc_check.specs.inside.Checks.{IsChecked};
 ghost use Rattle.uc_check.specs.inside.Picks.{ArePicked, IsUnpicked, IsUplifted, MayHaveUplifts};
 
-use crate::ending::{End, Failure, end_of};
+use crate::ending::{End, Failure, end_of, end_of_report};
 use crate::verify::{Checked, verify};
 use cert_text::Cert;
 use command_line::Uplift;
@@ -169,23 +169,11 @@ fn uplift_and_tell<F: Files, O: Sink>(
 {
     let checked = verify(alloc, &asked.check, files)?;
     match uplifts_at(alloc, &checked, asked.table) {
-        Ok(uplifted) => match tell_uplifts(out, &checked.instance, &uplifted) {
-            Ok(()) => {
-                drop((checked, uplifted));
-                Ok(End {
-                    code: 0,
-                    found: None,
-                    rolled: None,
-                })
-            }
-            Err(Failed) => {
-                drop((checked, uplifted));
-                Err(Failure {
-                    fault: Fault::Write { output: true },
-                    found: None,
-                })
-            }
-        },
+        Ok(uplifted) => {
+            let told = tell_uplifts(out, &checked.instance, &uplifted);
+            drop((checked, uplifted));
+            end_of_report(told)
+        }
         Err(fault) => {
             drop(checked);
             Err(Failure { fault, found: None })

@@ -64,11 +64,21 @@ pub(crate) fn verify<F: Files>(
         spill_reserve: asked.spill_reserve,
     };
     let (instance, _rounded) = read_instance(alloc, files, asked.instance, options)?;
-    let cert = read_certificate(alloc, files, asked.certificate)?;
-    let claims = claims_of(alloc, &instance, &cert)?;
-    Ok(Checked {
-        instance,
-        cert,
-        claims,
-    })
+    match read_certificate(alloc, files, asked.certificate) {
+        Ok(cert) => match claims_of(alloc, &instance, &cert) {
+            Ok(claims) => Ok(Checked {
+                instance,
+                cert,
+                claims,
+            }),
+            Err(fault) => {
+                drop((instance, cert));
+                Err(fault)
+            }
+        },
+        Err(fault) => {
+            drop(instance);
+            Err(fault)
+        }
+    }
 }

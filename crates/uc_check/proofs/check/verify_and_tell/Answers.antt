@@ -1,6 +1,7 @@
 -- Each end from the steps before it.
 use Rattle.std.specs.Prelude.{None, refl}
 use Rattle.uc_check.specs.Writing.{IsTold, FailsToTell}
+use Rattle.uc_check.proofs.ReportEnds.{told_end, untold_end}
 use Rattle.uc_check.proofs.Verdicts.{handed_up, stopped_failure, of_claims}
 use Rattle.uc_check.proofs.check.verify_and_tell.Goals as goal
 
@@ -14,34 +15,30 @@ pub returns-in_err-checked-clause-files : goal.returns-in_err-checked-clause-fil
 returns-in_err-checked-clause-files g c = λ err_old err_new.
     c.in_err-checked.ensures.files (g.O.Sink.state c.args.out.now) (g.O.Sink.state c.args.out.now) err_old err_new
 
-pub returns-in-Ok-clause-done : goal.returns-in-Ok-clause-done
-returns-in-Ok-clause-done g c = λ err_old err_new.
+pub returns-clause-done : goal.returns-clause-done
+returns-clause-done g c = λ err_old err_new.
     let verified = c.in_ok-checked.ensures.verified in
-    record {
+    told_end c.tell_claims-told.result c.end_of_report.result _ _ c.end_of_report.ensures c.tell_claims-told.ensures.told (λ told. record {
       code = refl;
       nothing = refl;
       unrolled = refl;
       done = record {
         certificate = verified.certificate;
         verified = verified.verified;
-        told = of_claims (λ text. IsTold text (g.O.Sink.state c.args.out.now) (g.O.Sink.state c.tell_claims.new.out)) verified.certificate c.in_ok-checked.checked.claims verified.claimed c.in-Ok.ensures.told;
+        told = of_claims (λ text. IsTold text (g.O.Sink.state c.args.out.now) (g.O.Sink.state c.tell_claims-told.new.out)) verified.certificate c.in_ok-checked.checked.claims verified.claimed told;
         calm = verified.calm;
       };
-    }
+    })
 
-pub returns-in-Ok-clause-files : goal.returns-in-Ok-clause-files
-returns-in-Ok-clause-files g c = λ err_old err_new.
-    c.in_ok-checked.ensures.files (g.O.Sink.state c.args.out.now) (g.O.Sink.state c.tell_claims.new.out) err_old err_new
-
-pub returns-in-Err-clause-failed : goal.returns-in-Err-clause-failed
-returns-in-Err-clause-failed g c = λ err_old err_new.
+pub returns-clause-failed : goal.returns-clause-failed
+returns-clause-failed g c = λ err_old err_new.
     let verified = c.in_ok-checked.ensures.verified in
-    record {
+    untold_end c.tell_claims-told.result c.end_of_report.result _ _ c.end_of_report.ensures c.tell_claims-told.ensures.failed (λ failed. record {
       certificate = verified.certificate;
       verified = verified.verified;
-      report = of_claims (λ text. FailsToTell text (g.O.Sink.state c.args.out.now) (g.O.Sink.state c.tell_claims.new.out)) verified.certificate c.in_ok-checked.checked.claims verified.claimed c.in-Err.ensures.failed;
-    }
+      report = of_claims (λ text. FailsToTell text (g.O.Sink.state c.args.out.now) (g.O.Sink.state c.tell_claims-told.new.out)) verified.certificate c.in_ok-checked.checked.claims verified.claimed failed;
+    })
 
-pub returns-in-Err-clause-files : goal.returns-in-Err-clause-files
-returns-in-Err-clause-files g c = λ err_old err_new.
-    c.in_ok-checked.ensures.files (g.O.Sink.state c.args.out.now) (g.O.Sink.state c.tell_claims.new.out) err_old err_new
+pub returns-clause-files : goal.returns-clause-files
+returns-clause-files g c = λ err_old err_new.
+    c.in_ok-checked.ensures.files (g.O.Sink.state c.args.out.now) (g.O.Sink.state c.tell_claims-told.new.out) err_old err_new

@@ -2,6 +2,7 @@
 use Rattle.std.specs.Prelude.{None, refl}
 use Rattle.uc_check.specs.Outside.{outside_of}
 use Rattle.uc_check.specs.Upgrading.{IsUpgradeFailure}
+use Rattle.uc_check.proofs.ReportEnds.{told_end, untold_end}
 use Rattle.uc_check.proofs.Verdicts.{handed_up}
 use Rattle.uc_check.proofs.upgrade.rewrite_and_tell.Goals as goal
 
@@ -18,22 +19,20 @@ pub returns-in_err-rewrite-clause-files : goal.returns-in_err-rewrite-clause-fil
 returns-in_err-rewrite-clause-files g c = λ err_old err_new.
     c.in_err-rewrite.ensures.files (g.O.Sink.state c.args.out.now) (g.O.Sink.state c.args.out.now) err_old err_new
 
-pub returns-in-Ok-clause-done : goal.returns-in-Ok-clause-done
-returns-in-Ok-clause-done g c = λ err_old err_new. record {
-  code = refl;
-  nothing = refl;
-  unrolled = refl;
-  done = record { rewritten = c.in_ok-rewrite.ensures.done; told = c.in-Ok.ensures.told };
-}
+pub returns-clause-done : goal.returns-clause-done
+returns-clause-done g c = λ err_old err_new.
+    told_end c.tell_upgraded.result c.end_of_report.result _ _ c.end_of_report.ensures c.tell_upgraded.ensures.told (λ told. record {
+      code = refl;
+      nothing = refl;
+      unrolled = refl;
+      done = record { rewritten = c.in_ok-rewrite.ensures.done; told = told };
+    })
 
-pub returns-in-Ok-clause-files : goal.returns-in-Ok-clause-files
-returns-in-Ok-clause-files g c = λ err_old err_new.
-    c.in_ok-rewrite.ensures.files (g.O.Sink.state c.args.out.now) (g.O.Sink.state c.tell_upgraded.new.out) err_old err_new
+pub returns-clause-failed : goal.returns-clause-failed
+returns-clause-failed g c = λ err_old err_new.
+    untold_end c.tell_upgraded.result c.end_of_report.result _ _ c.end_of_report.ensures c.tell_upgraded.ensures.failed
+    (λ failed. record { rewritten = c.in_ok-rewrite.ensures.done; report = failed })
 
-pub returns-in-Err-clause-failed : goal.returns-in-Err-clause-failed
-returns-in-Err-clause-failed g c = λ err_old err_new.
-    record { rewritten = c.in_ok-rewrite.ensures.done; report = c.in-Err.ensures.failed }
-
-pub returns-in-Err-clause-files : goal.returns-in-Err-clause-files
-returns-in-Err-clause-files g c = λ err_old err_new.
+pub returns-clause-files : goal.returns-clause-files
+returns-clause-files g c = λ err_old err_new.
     c.in_ok-rewrite.ensures.files (g.O.Sink.state c.args.out.now) (g.O.Sink.state c.tell_upgraded.new.out) err_old err_new

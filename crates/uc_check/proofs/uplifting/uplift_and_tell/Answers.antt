@@ -2,6 +2,7 @@
 use Rattle.std.specs.Prelude.{None, refl}
 use Rattle.command_line.specs.Asked.{uplift_asked}
 use Rattle.uc_check.specs.Writing.{IsTold, FailsToTell}
+use Rattle.uc_check.proofs.ReportEnds.{told_end, untold_end}
 use Rattle.uc_check.proofs.Verdicts.{handed_up}
 use Rattle.uc_check.proofs.Uplifts.{has_uplifts, of_uplifts, stopped_uplift, without_uplifts}
 use Rattle.uc_check.proofs.uplifting.uplift_and_tell.Goals as goal
@@ -21,51 +22,45 @@ uplifts_at-requires g c =
     let files = g.F.Files.state in
     ((uplift_asked c.args.asked.now).check, files c.args.files.now, files c.verify.new.files, c.in_ok-checked.ensures.verified)
 
-pub returns-in-Ok-tell_uplifts-clause-done : goal.returns-in-Ok-tell_uplifts-clause-done
-returns-in-Ok-tell_uplifts-clause-done g c = λ err_old err_new.
+pub returns-in-Ok-clause-done : goal.returns-in-Ok-clause-done
+returns-in-Ok-clause-done g c = λ err_old err_new.
     let files = g.F.Files.state in
     let sink = g.O.Sink.state in
     let asked = uplift_asked c.args.asked.now in
     let checked = c.in_ok-checked.ensures.verified in
     let told = c.in-Ok.uplifted in
     let is = c.in-Ok.ensures.uplifted in
-    record {
+    told_end c.tell_uplifts-told.result c.end_of_report.result _ _ c.end_of_report.ensures c.tell_uplifts-told.ensures.told (λ said. record {
       code = refl;
       nothing = refl;
       unrolled = refl;
       done = record {
         has = has_uplifts asked (files c.args.files.now) (files c.verify.new.files) c.in_ok-checked.checked is.printed told.table is.uplifts checked
             is.picked is.are;
-        told = of_uplifts (λ text. IsTold text (sink c.args.out.now) (sink c.tell_uplifts.new.out)) asked.check (files c.args.files.now)
-            (files c.verify.new.files) c.in_ok-checked.checked told.table is.uplifts told.numbers checked is.numbers
-            c.in-Ok-tell_uplifts.ensures.told;
+        told = of_uplifts (λ text. IsTold text (sink c.args.out.now) (sink c.tell_uplifts-told.new.out)) asked.check (files c.args.files.now)
+            (files c.verify.new.files) c.in_ok-checked.checked told.table is.uplifts told.numbers checked is.numbers said;
         calm = checked.calm;
       };
-    }
+    })
 
-pub returns-in-Ok-tell_uplifts-clause-files : goal.returns-in-Ok-tell_uplifts-clause-files
-returns-in-Ok-tell_uplifts-clause-files g c = λ err_old err_new.
-    c.in_ok-checked.ensures.files (g.O.Sink.state c.args.out.now) (g.O.Sink.state c.tell_uplifts.new.out) err_old err_new
-
-pub returns-in-Err-tell_uplifts-clause-failed : goal.returns-in-Err-tell_uplifts-clause-failed
-returns-in-Err-tell_uplifts-clause-failed g c = λ err_old err_new.
+pub returns-in-Ok-clause-failed : goal.returns-in-Ok-clause-failed
+returns-in-Ok-clause-failed g c = λ err_old err_new.
     let files = g.F.Files.state in
     let sink = g.O.Sink.state in
     let asked = uplift_asked c.args.asked.now in
     let checked = c.in_ok-checked.ensures.verified in
     let told = c.in-Ok.uplifted in
     let is = c.in-Ok.ensures.uplifted in
-    record {
+    untold_end c.tell_uplifts-told.result c.end_of_report.result _ _ c.end_of_report.ensures c.tell_uplifts-told.ensures.failed (λ failed. record {
       has = has_uplifts asked (files c.args.files.now) (files c.verify.new.files) c.in_ok-checked.checked is.printed told.table is.uplifts checked
           is.picked is.are;
-      report = of_uplifts (λ text. FailsToTell text (sink c.args.out.now) (sink c.tell_uplifts.new.out)) asked.check (files c.args.files.now)
-          (files c.verify.new.files) c.in_ok-checked.checked told.table is.uplifts told.numbers checked is.numbers
-          c.in-Err-tell_uplifts.ensures.failed;
-    }
+      report = of_uplifts (λ text. FailsToTell text (sink c.args.out.now) (sink c.tell_uplifts-told.new.out)) asked.check (files c.args.files.now)
+          (files c.verify.new.files) c.in_ok-checked.checked told.table is.uplifts told.numbers checked is.numbers failed;
+    })
 
-pub returns-in-Err-tell_uplifts-clause-files : goal.returns-in-Err-tell_uplifts-clause-files
-returns-in-Err-tell_uplifts-clause-files g c = λ err_old err_new.
-    c.in_ok-checked.ensures.files (g.O.Sink.state c.args.out.now) (g.O.Sink.state c.tell_uplifts.new.out) err_old err_new
+pub returns-in-Ok-clause-files : goal.returns-in-Ok-clause-files
+returns-in-Ok-clause-files g c = λ err_old err_new.
+    c.in_ok-checked.ensures.files (g.O.Sink.state c.args.out.now) (g.O.Sink.state c.tell_uplifts-told.new.out) err_old err_new
 
 pub returns-in-Err-clause-failed : goal.returns-in-Err-clause-failed
 returns-in-Err-clause-failed g c = λ err_old err_new.

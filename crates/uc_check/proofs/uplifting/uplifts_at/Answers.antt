@@ -1,7 +1,5 @@
 -- What was checked may have uplifts.
 use Rattle.uc_check.proofs.Uplifts.{may_have_uplifts}
-use Rattle.uc_check.specs.inside.Picks.{IsUnpicked}
-use Rattle.uc_check.proofs.Verdicts.{handed_up}
 use Rattle.uc_check.proofs.uplifting.uplifts_at.Goals as goal
 
 pub uplifts_of-requires : goal.uplifts_of-requires
