@@ -219,7 +219,10 @@ impl<'a> Evaluator<'a> {
         ensures blocked { IfOk result (λ blocked. MatchOption blocked (HasNoBlockedUnit exact self.old) (IsFirstBlocked exact self.old root)) }
     {
         let table = unpriced(alloc, self.instance(), 0)?;
-        match self.total(alloc, &root_node(alloc), &table, exact) {
+        let root = root_node(alloc);
+        let total = self.total(alloc, &root, &table, exact);
+        drop((root, table));
+        match total {
             Ok(_) => Ok(None),
             Err(ValueFault::Empty(g)) => Ok(Some(g)),
             Err(ValueFault::NoMemory) => Err(NoMemory),

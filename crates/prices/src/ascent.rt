@@ -304,17 +304,37 @@ fn seek_ray(alloc: Global, values: Values, node: &Node, sought: &mut Ascent) -> 
     ensures ray_scale { OnOk result (IfSome sought.new.ray (λ ray. ray.k ≡ pos 0)) }
 {
     let mut hill = Hill::without_costs(alloc, values, node)?;
+    let kept = keep_ray(alloc, &mut hill, values.instance, sought);
+    drop(hill);
+    kept
+}
+
+// The same by the values where nothing costs anything.
+fn keep_ray(
+    alloc: Global,
+    hill: &mut Hill,
+    instance: &Instance,
+    sought: &mut Ascent,
+) -> Result<(), NoMemory>
+    requires lawful { IsLawfulInstance instance.now }
+    ensures table { sought.new.table ≡ sought.old.table }
+    ensures ray { OnOk result (IfSome sought.new.ray (IsLawfulTable instance.now)) }
+    ensures ray_scale { OnOk result (IfSome sought.new.ray (λ ray. ray.k ≡ pos 0)) }
+{
     let start = Start {
-        prices: no_prices(alloc, values.instance, &hill.ramped)?,
+        prices: no_prices(alloc, instance, &hill.ramped)?,
         part: RISE_BY_MERIT,
         effort: RAY_EFFORT,
         keeps_more: true,
         held: None,
     };
-    let top = top_from(alloc, &mut hill, values.instance, start)?;
-    sought.ray = ray(alloc, &hill, values.instance, &top)?;
-    if sought.ray.is_none() && !top.shares.is_empty() {
-        sought.shares = top.shares;
+    let top = top_from(alloc, hill, instance, start)?;
+    let ray = ray(alloc, hill, instance, &top);
+    let Top { prices, shares, .. } = top;
+    drop(prices);
+    sought.ray = ray?;
+    if sought.ray.is_none() && !shares.is_empty() {
+        sought.shares = shares;
     }
     Ok(())
 }
