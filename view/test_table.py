@@ -164,9 +164,10 @@ class Rows(TableTest):
     def test_options_go_to_the_program(self) -> None:
         case = self.put("a.json", CLOSED)
         prices = "--shed", 1000, "--spill-reserve", 100
-        self.assertEqual(self.run_table(case, "--units", 7, "--gap", 0, *prices, "--exact"), (0, ""))
+        switches = "--exact", "--exact-units"
+        self.assertEqual(self.run_table(case, "--units", 7, "--workers", 2, "--gap", 0, *prices, *switches), (0, ""))
         (call,) = self.calls()
-        options = "--units=7 --gap=0 --shed=1000 --spill-reserve=100 --exact"
+        options = "--units=7 --workers=2 --gap=0 --shed=1000 --spill-reserve=100 --exact --exact-units"
         self.assertRegex(call, rf"^solve --cert=[^ ]+ {options} -- {re.escape(str(case))}$")
 
 
@@ -297,7 +298,7 @@ class Refused(TableTest):
         self.assertEqual(len(self.calls()), 1)
 
     def test_words(self) -> None:
-        for words in (["-j", "0"], ["--units", "1000001"], ["--gap", "1.5"], ["-j", "²"], ["--shed", "0"]):
+        for words in (["-j", "0"], ["--units", "1000001"], ["--gap", "1.5"], ["-j", "²"], ["--shed", "0"], ["--workers", "65"]):
             with contextlib.redirect_stderr(io.StringIO()), self.assertRaises(SystemExit) as ended:
                 command.main(self.words("a.json", *words))
             self.assertEqual(ended.exception.code, 2)

@@ -22,7 +22,7 @@ from .table_file import TableFile
 
 TOP = pathlib.Path(__file__).resolve().parent.parent.parent
 BUILT = "crates/uc/out/uc"
-MOST_UNITS, MOST_AT_ONCE, STOPPED = 1_000_000, 4096, 130
+MOST_UNITS, MOST_WORKERS, MOST_AT_ONCE, STOPPED = 1_000_000, 64, 4096, 130
 ABOUT = """Runs `uc solve` on instances and writes a row of a table for each: name, status, cost, bound, gap in parts per million,
 evaluations, seconds of the processor, and memory in megabytes. Rows that the table has are kept, and their instances aren't run
 again."""
@@ -50,7 +50,9 @@ def _parser() -> argparse.ArgumentParser:
     parser.add_argument("--certs", metavar="FOLDER", help="where certificates are kept, NAME.cert of NAME.json")
     parser.add_argument("--units", metavar="N", type=_number(MOST_UNITS), help="goes to `uc solve`")
     parser.add_argument("--gap", metavar="PPM", type=gap_of, help="goes to `uc solve`")
-    parser.add_argument("--exact", action="store_true", help="goes to `uc solve`")
+    parser.add_argument("--workers", metavar="N", type=_number(MOST_WORKERS), help="goes to `uc solve`, whose run takes so many processors")
+    for option in ("--exact", "--exact-units"):
+        parser.add_argument(option, action="store_true", help="goes to `uc solve`")
     for option in ("--shed", "--spill-reserve"):
         parser.add_argument(option, metavar="PRICE", type=price_of, help="goes to `uc solve`")
     parser.add_argument("--program", metavar="UC", help=f"the program that is run; {BUILT}, as ./uc builds it")
@@ -104,9 +106,16 @@ def _tasks(given: argparse.Namespace, names: List[str], folder: pathlib.Path, ke
 
 def _options(given: argparse.Namespace) -> List[str]:
     """The options that go to `uc solve`."""
-    numbers = (("units", given.units), ("gap", given.gap), ("shed", given.shed), ("spill-reserve", given.spill_reserve))
+    numbers = (
+        ("units", given.units),
+        ("workers", given.workers),
+        ("gap", given.gap),
+        ("shed", given.shed),
+        ("spill-reserve", given.spill_reserve),
+    )
+    switches = (("exact", given.exact), ("exact-units", given.exact_units))
     options = [f"--{option}={value}" for option, value in numbers if value is not None]
-    return options + (["--exact"] if given.exact else [])
+    return options + [f"--{option}" for option, is_given in switches if is_given]
 
 
 def _program(path: Optional[str]) -> str:
